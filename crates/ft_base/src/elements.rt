@@ -1,0 +1,46 @@
+//! The stamps of an element, and the perspectives from which elements are seen.
+
+ghost use Rattle.std.specs.Prelude.{◌≡◌, ◌↔◌, IsTrue, IfOk};
+
+use crate::memory::OutOfMemory;
+use crate::stamps::{Stamp, Stamps};
+
+/// The stamps of an element of the text, the rows or the columns. An element that was removed stays
+/// in its list as a tombstone.
+#[derive(Drop)]
+pub struct Element {
+    /// Its insertion.
+    pub ins: Stamp,
+    /// Its removals, sequenced ones by rising number, then at most one that is pending.
+    pub dels: Stamps,
+}
+
+impl Element {
+    /// An equal element.
+    ///
+    /// Answers `OutOfMemory` where there is no room for the removals.
+    pub fn copy(&self) -> Result<Element, OutOfMemory>
+        ensures { IfOk result (λ copy. copy ≡ self.now) }
+    {
+        Ok(Element {
+            ins: self.ins,
+            dels: self.dels.copy()?,
+        })
+    }
+
+    /// Whether both elements have the same stamps. It takes no memory.
+    pub fn same(&self, other: &Element) -> bool
+        ensures { IsTrue result ↔ (self.now ≡ other.now) }
+    {
+        self.ins.same(&other.ins) && self.dels.same(&other.dels)
+    }
+}
+
+/// What the sender of a message had seen: all messages with a number at most `r`, and its own.
+#[derive(Clone, Copy, Debug, PartialEq, Eq)]
+pub struct Perspective {
+    /// The reference sequence number.
+    pub r: u64,
+    /// The number of the connection.
+    pub c: u32,
+}

@@ -1,0 +1,18 @@
+//! What every other crate stands on: texts, stamps and elements, who sees an element, scans of a
+//! list of elements, want of memory, and a counter of steps.
+#![tactic(auto)]
+
+pub mod counting;
+pub mod elements;
+pub mod memory;
+pub mod scans;
+pub mod stamps;
+pub mod texts;
+pub mod visibility;
+
+pub use counting::Steps;
+pub use elements::{Element, Perspective};
+pub use memory::OutOfMemory;
+pub use stamps::{Stamp, Stamps};
+pub use texts::Text;
+pub use visibility::{seen_at, sees};

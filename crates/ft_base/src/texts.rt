@@ -1,0 +1,61 @@
+//! Texts.
+
+ghost use Rattle.std.specs.Prelude.{◌≡◌, ◌↔◌, IsTrue, IfOk, chars, encode_utf8_all};
+
+use crate::memory::OutOfMemory;
+use std::alloc::Global;
+use std::marker::Model;
+
+/// A text, which contracts see as the list of its characters (Unicode scalar values, each by its
+/// number). Names, labels, ids and keys are texts too.
+#[derive(Drop)]
+pub struct Text {
+    text: String,
+}
+
+impl Model for Text {
+    ghost use Rattle.std.specs.Prelude.{List, ℕ, chars, string_bytes};
+
+    ghost Value = { List ℕ };
+
+    ghost view = { λ a. chars (string_bytes a.text) };
+}
+
+impl Text {
+    /// A copy of the characters of `text`.
+    ///
+    /// Answers `OutOfMemory` where there is no room for the copy.
+    pub fn new(alloc: Global, text: &str) -> Result<Text, OutOfMemory>
+        ensures { IfOk result (λ copy. copy ≡ chars text.now) }
+    {
+        Ok(Text {
+            text: String::from_str(alloc, text)?,
+        })
+    }
+
+    /// The characters, as a string slice. It takes no memory.
+    pub fn as_str(&self) -> &str
+        ensures bytes { result.now ≡ encode_utf8_all self.now }
+        ensures characters { chars result.now ≡ self.now }
+    {
+        self.text.as_str()
+    }
+
+    /// An equal text.
+    ///
+    /// Answers `OutOfMemory` where there is no room for it.
+    pub fn copy(&self) -> Result<Text, OutOfMemory>
+        ensures { IfOk result (λ copy. copy ≡ self.now) }
+    {
+        Ok(Text {
+            text: self.text.clone()?,
+        })
+    }
+
+    /// Whether both texts have the same characters. It takes no memory.
+    pub fn same(&self, other: &Text) -> bool
+        ensures { IsTrue result ↔ (self.now ≡ other.now) }
+    {
+        self.text == other.text
+    }
+}
