@@ -1,0 +1,68 @@
+//! The texts of JSON values that are kept.
+
+ghost use Rattle.std.specs.Prelude.{◌≡◌, ◌↔◌, IsTrue, IfOk, string_bytes};
+ghost use Rattle.ft_json.specs.Canonical.{IsCanonicalText};
+
+use ft_base::OutOfMemory;
+use std::alloc::Global;
+use std::marker::Model;
+
+/// The compact text of a JSON value, which contracts see as the list of its bytes.
+///
+/// The value has any number of levels, in each object its keys rise by their bytes, and its numbers
+/// are whole numbers from -9223372036854775808 to 18446744073709551615.
+#[derive(Drop)]
+pub struct ValText {
+    text: String,
+}
+
+impl Model for ValText {
+    ghost use Rattle.std.specs.Prelude.{List, ℕ, string_bytes};
+    ghost use Rattle.ft_json.specs.Canonical.{IsCanonicalText};
+
+    ghost Value = { List ℕ };
+
+    ghost view = { λ a. string_bytes a.text };
+
+    ghost invariant = { λ a. IsCanonicalText (string_bytes a.text) };
+}
+
+impl ValText {
+    /// A copy of `text`, which is the compact text of such a value.
+    ///
+    /// Answers `OutOfMemory` where there is no room for the copy.
+    pub fn new(alloc: Global, text: &str) -> Result<ValText, OutOfMemory>
+        requires { IsCanonicalText text.now }
+        ensures { IfOk result (λ copy. copy ≡ text.now) }
+    {
+        Ok(ValText {
+            text: String::from_str(alloc, text)?,
+        })
+    }
+
+    /// The text. It takes no memory.
+    pub fn as_str(&self) -> &str
+        ensures value { result.now ≡ self.now }
+        ensures canonical { IsCanonicalText self.now }
+    {
+        self.text.as_str()
+    }
+
+    /// An equal text.
+    ///
+    /// Answers `OutOfMemory` where there is no room for it.
+    pub fn copy(&self) -> Result<ValText, OutOfMemory>
+        ensures { IfOk result (λ copy. copy ≡ self.now) }
+    {
+        Ok(ValText {
+            text: self.text.clone()?,
+        })
+    }
+
+    /// Whether both texts are the same. It takes no memory.
+    pub fn same(&self, other: &ValText) -> bool
+        ensures { IsTrue result ↔ (self.now ≡ other.now) }
+    {
+        self.text == other.text
+    }
+}
