@@ -1,0 +1,13 @@
+pub mod Agreed
+pub mod Client
+pub mod Content
+pub mod Acknowledgement
+pub mod Reconnection
+pub mod Process
+pub mod Applied
+pub mod Indexed
+pub mod Compacted
+pub mod Summary
+pub mod Overlap
+pub mod Blame
+pub mod Answers

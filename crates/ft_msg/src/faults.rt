@@ -1,0 +1,96 @@
+//! Why a call is refused, and why a text is no message.
+
+use ft_json::Field;
+
+/// Why a text is no message, draft or event: the first fault in the order in which its fields are
+/// tested.
+#[derive(Clone, Copy, Debug, PartialEq, Eq)]
+pub enum Cause {
+    /// It isn't UTF-8.
+    NotUtf8,
+    /// It isn't JSON.
+    NotJson,
+    /// A value holds a number that isn't whole or is out of range.
+    Fraction,
+    /// A value has more than 100 levels.
+    TooDeep,
+    /// The field isn't there.
+    Missing(Field),
+    /// The field has a value of another kind.
+    WrongKind(Field),
+    /// No operation has this number as its type.
+    UnknownType(u64),
+    /// The second position or bound is before the first.
+    Reversed { pos1: i64, pos2: i64 },
+    /// A splice puts in more than 1,000,000 units.
+    CountLimit,
+    /// A group stands in a group.
+    NestedGroup,
+    /// No event has this word.
+    UnknownWord,
+    /// There was no memory.
+    OutOfMemory,
+}
+
+/// Why an edit is refused. The client is as it was, but where it stopped.
+#[derive(Clone, Copy, Debug, PartialEq, Eq)]
+pub enum EditFault {
+    /// There was no memory; the client has stopped.
+    OutOfMemory,
+    /// The client stopped when it had processed the message with this number.
+    Stopped { seq: u64 },
+    /// The id of a new interval is in its label.
+    IdInUse,
+    /// The id of a changed or deleted interval isn't in its label.
+    NoSuchInterval,
+    /// A position isn't allowed in the view, in which the list concerned has this length.
+    OutOfRange { length: u64 },
+}
+
+/// Why a message is refused. The client is as it was, but where it stopped.
+#[derive(Clone, Copy, Debug, PartialEq, Eq)]
+pub enum ProcessFault {
+    /// There was no memory; the client has stopped.
+    OutOfMemory,
+    /// The client stopped when it had processed the message with this number.
+    Stopped { seq: u64 },
+    /// It isn't the next message.
+    OutOfOrder { expected: u64, got: u64 },
+    /// Its reference number or its minimum contradicts what the client keeps.
+    BadNumbers { field: Field, kept: u64, got: i64 },
+    /// It comes from one of the client's connections, and the client didn't send it so.
+    NotSent,
+}
+
+/// Why a change of the link is refused. The client is as it was, but where it stopped.
+#[derive(Clone, Copy, Debug, PartialEq, Eq)]
+pub enum LinkFault {
+    /// There was no memory; the client has stopped.
+    OutOfMemory,
+    /// The client stopped when it had processed the message with this number.
+    Stopped { seq: u64 },
+    /// The client isn't offline.
+    AlreadyConnected,
+    /// The client is offline, or for a noop isn't online.
+    NotConnected,
+}
+
+/// Why there is no view.
+#[derive(Clone, Copy, Debug, PartialEq, Eq)]
+pub enum ViewFault {
+    /// There was no memory.
+    OutOfMemory,
+    /// The client stopped when it had processed the message with this number.
+    Stopped { seq: u64 },
+}
+
+/// Why there is no summary.
+#[derive(Clone, Copy, Debug, PartialEq, Eq)]
+pub enum SummaryFault {
+    /// There was no memory.
+    OutOfMemory,
+    /// The client stopped when it had processed the message with this number.
+    Stopped { seq: u64 },
+    /// So many edits are pending.
+    Pending { count: u64 },
+}

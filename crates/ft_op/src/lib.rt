@@ -1,0 +1,8 @@
+//! Operations on the text, its intervals and the grid.
+#![tactic(auto)]
+
+pub mod operations;
+
+pub use operations::{
+    BaseOp, BaseOps, CellOp, CellOps, ChannelOp, Ends, GridOp, OpFault, Seg, Target, TextOp,
+};

@@ -1,0 +1,162 @@
+//! Operations. Positions count elements that the sender of an operation sees, from 0.
+
+use ft_base::Text;
+use ft_json::{Field, ValText};
+use ft_props::{Changes, PropSet};
+use std::marker::Model;
+
+/// What an insertion puts in.
+#[derive(Drop)]
+pub enum Seg {
+    /// Characters, each an element.
+    Chars { text: Text },
+    /// A marker, one element that adds nothing to the text.
+    Marker { ref_type: u64 },
+}
+
+/// An operation of the text that may stand in a group.
+#[derive(Drop)]
+pub enum BaseOp {
+    /// The segment goes in after `pos` elements, with these properties.
+    Insert {
+        pos: u64,
+        seg: Seg,
+        props: PropSet,
+    },
+    /// The elements from `pos1` up to before `pos2` are removed.
+    Remove { pos1: u64, pos2: u64 },
+    /// The properties of the elements from `pos1` up to before `pos2` are changed.
+    Annotate {
+        pos1: u64,
+        pos2: u64,
+        changes: Changes,
+    },
+}
+
+/// The operations of a group of the text, in order.
+#[derive(Drop)]
+pub struct BaseOps {
+    items: Vec<BaseOp>,
+}
+
+impl Model for BaseOps {
+    ghost use Rattle.std.specs.Prelude.{List};
+    ghost use Rattle.ft_op.specs.declared.operations.BaseOp.{BaseOp};
+
+    ghost Value = { List BaseOp };
+
+    ghost view = { λ a. a.items.items };
+}
+
+/// The ends of an interval: the positions of its first and its last element, or both -1 where it is
+/// detached.
+#[derive(Clone, Copy, Debug, PartialEq, Eq)]
+pub struct Ends {
+    pub start: i64,
+    pub end: i64,
+}
+
+/// An operation of the text.
+#[derive(Drop)]
+pub enum TextOp {
+    /// One operation.
+    One(BaseOp),
+    /// Several, which take effect one after another.
+    Group(BaseOps),
+    /// A new interval in the label's collection.
+    IntervalAdd {
+        label: Text,
+        id: Text,
+        ends: Ends,
+        props: PropSet,
+    },
+    /// New ends, if they are given, and changed properties of an interval.
+    IntervalChange {
+        label: Text,
+        id: Text,
+        ends: Option<Ends>,
+        props: PropSet,
+    },
+    /// The interval is taken away.
+    IntervalDelete { label: Text, id: Text },
+}
+
+/// The list that a splice is for.
+#[derive(Clone, Copy, Debug, PartialEq, Eq)]
+pub enum Target {
+    Rows,
+    Cols,
+}
+
+/// An operation of the grid that may stand in a group.
+#[derive(Drop)]
+pub enum CellOp {
+    /// `count` new units go in after `pos` units.
+    SpliceIn {
+        target: Target,
+        pos: u64,
+        count: u64,
+    },
+    /// The units from `pos1` up to before `pos2` are removed.
+    SpliceOut {
+        target: Target,
+        pos1: u64,
+        pos2: u64,
+    },
+    /// The cell at this row and this column gets the value; null unsets it.
+    Set { row: u64, col: u64, value: ValText },
+}
+
+/// The operations of a group of the grid, in order.
+#[derive(Drop)]
+pub struct CellOps {
+    items: Vec<CellOp>,
+}
+
+impl Model for CellOps {
+    ghost use Rattle.std.specs.Prelude.{List};
+    ghost use Rattle.ft_op.specs.declared.operations.CellOp.{CellOp};
+
+    ghost Value = { List CellOp };
+
+    ghost view = { λ a. a.items.items };
+}
+
+/// An operation of the grid.
+#[derive(Drop)]
+pub enum GridOp {
+    /// One operation.
+    One(CellOp),
+    /// Several, which take effect one after another.
+    Group(CellOps),
+}
+
+/// An operation of either channel.
+#[derive(Drop)]
+pub enum ChannelOp {
+    Text(TextOp),
+    Grid(GridOp),
+}
+
+/// Why a JSON value is no operation: the first fault in the order in which its fields are tested.
+#[derive(Clone, Copy, Debug, PartialEq, Eq)]
+pub enum OpFault {
+    /// The field isn't there.
+    Missing(Field),
+    /// The field has a value of another kind.
+    WrongKind(Field),
+    /// No operation has this number as its type.
+    UnknownType(u64),
+    /// The second position or bound is before the first.
+    Reversed { pos1: i64, pos2: i64 },
+    /// A splice puts in more than 1,000,000 units.
+    CountLimit,
+    /// A group stands in a group.
+    NestedGroup,
+    /// A value holds a number that isn't whole or is out of range.
+    Fraction,
+    /// A value has more than 100 levels.
+    TooDeep,
+    /// There was no memory.
+    OutOfMemory,
+}

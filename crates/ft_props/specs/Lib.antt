@@ -1,0 +1,5 @@
+pub mod Properties
+pub mod Element
+pub mod Steps
+pub mod Slide
+pub mod Compaction

@@ -1,0 +1,6 @@
+//! Properties of elements and intervals, and their changes.
+#![tactic(auto)]
+
+pub mod properties;
+
+pub use properties::{AdjSet, Adjust, Changes, PropSet, Props};

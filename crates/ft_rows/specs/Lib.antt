@@ -1,0 +1,5 @@
+pub mod Rows
+pub mod RowsOfLogs
+pub mod Session
+pub mod RowsOfSessions
+pub mod RowsOfRefusals

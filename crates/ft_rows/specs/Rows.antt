@@ -1,0 +1,58 @@
+-- Short words for the worked rows.
+use Rattle.std.specs.Prelude.{ℕ, List, [], ◌∷◌, Some, None, ℤ, pos, codes}
+use Rattle.ft_op.specs.declared.operations.Seg.TheVariants.{Chars}
+use Rattle.ft_op.specs.declared.operations.BaseOp.{BaseOp}
+use Rattle.ft_op.specs.declared.operations.BaseOp.TheVariants.{Insert, Remove, Annotate}
+use Rattle.ft_op.specs.declared.operations.TextOp.TheVariants.{One, Group, IntervalAdd, IntervalChange}
+use Rattle.ft_op.specs.declared.operations.CellOp.{CellOp}
+use Rattle.ft_op.specs.declared.operations.GridOp.TheVariants as grid
+use Rattle.ft_op.specs.declared.operations.ChannelOp.{ChannelOp}
+use Rattle.ft_op.specs.declared.operations.ChannelOp.TheVariants.{Text, Grid}
+use Rattle.ft_msg.specs.declared.messages.Entry.{Entry}
+use Rattle.ft_msg.specs.declared.messages.MsgKind.TheVariants as kind
+use Rattle.ft_msg.specs.declared.messages.Body.TheVariants as body
+use Rattle.ft_sumdoc.specs.declared.summary.IntervalRec.{IntervalRec}
+use Rattle.ft_props.specs.declared.properties.Adjust.{Adjust}
+use Rattle.ft_props.specs.Properties.{Characters, PropertySet}
+use Rattle.ft_props.specs.Element.{id}
+use Rattle.ft_msg.specs.Content.{ViewContent}
+
+abbrev pub ins : ℕ → List ℕ → BaseOp
+ins p text = Insert p (Chars text) []
+
+abbrev pub rem : ℕ → ℕ → BaseOp
+rem p q = Remove p q
+
+abbrev pub ann : ℕ → ℕ → PropertySet → BaseOp
+ann p q set = Annotate p q (record { props = set; adjust = [] })
+
+abbrev pub adj : ℕ → ℕ → Characters → Adjust → BaseOp
+adj p q key a = Annotate p q (record { props = []; adjust = (key, a) ∷ [] })
+
+abbrev pub one : BaseOp → ChannelOp
+one op = Text (One op)
+
+abbrev pub group : List BaseOp → ChannelOp
+group ops = Text (Group ops)
+
+abbrev pub add : Characters → Characters → ℕ → ℕ → ChannelOp
+add label id a b = Text (IntervalAdd label id (record { start = pos a; end = pos b }) [])
+
+abbrev pub change : Characters → Characters → ChannelOp
+change label id = Text (IntervalChange label id None [])
+
+abbrev pub cell : CellOp → ChannelOp
+cell op = Grid (grid.One op)
+
+-- a message with number s of connection c with reference number r
+abbrev pub message : ℕ → ℕ → ℕ → ChannelOp → Entry
+message s c r op = record {
+  msg = record { client_id = Some (codes "X"); seq = s; min = 0; client_seq = pos 1; ref_seq = pos r; kind = kind.Op; body = body.Op op };
+  origin = c;
+}
+
+abbrev pub plain : List ℕ → ViewContent
+plain text = record { text = text; markers = []; runs = []; intervals = []; rows = 0; cols = 0; cells = [] }
+
+abbrev pub interval : Characters → Characters → ℤ → ℤ → IntervalRec
+interval label id a b = record { label = label; id = id; ends = record { start = a; end = b }; props = [] }

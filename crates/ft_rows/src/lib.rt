@@ -1,0 +1,4 @@
+//! Worked examples of the model, computed by its definitions.
+#![tactic(auto)]
+
+pub mod rows;

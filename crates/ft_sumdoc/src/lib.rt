@@ -1,0 +1,9 @@
+//! Summary documents: what a client hands to one that starts later.
+#![tactic(auto)]
+
+pub mod summary;
+
+pub use summary::{
+    CellRec, CellRecs, Ends2, IntervalRec, IntervalRecs, Mark, Marks, RunRec, RunRecs, Seg, SegRec,
+    SegRecs, SumCause, SumDoc, SumFault, Texts,
+};
