@@ -1,4 +1,4 @@
--- Short words for the worked rows.
+-- Short words for the worked examples.
 use Rattle.std.specs.Prelude.{ℕ, List, [], ◌∷◌, Some, None, ℤ, pos, codes}
 use Rattle.ft_op.specs.declared.operations.Seg.TheVariants.{Chars}
 use Rattle.ft_op.specs.declared.operations.BaseOp.{BaseOp}
@@ -17,30 +17,39 @@ use Rattle.ft_props.specs.Properties.{Characters, PropertySet}
 use Rattle.ft_props.specs.Element.{id}
 use Rattle.ft_msg.specs.Content.{ViewContent}
 
+-- an insertion of characters
 abbrev pub ins : ℕ → List ℕ → BaseOp
 ins p text = Insert p (Chars text) []
 
+-- a removal
 abbrev pub rem : ℕ → ℕ → BaseOp
 rem p q = Remove p q
 
+-- an annotation that sets properties
 abbrev pub ann : ℕ → ℕ → PropertySet → BaseOp
 ann p q set = Annotate p q (record { props = set; adjust = [] })
 
+-- an annotation that adjusts one key
 abbrev pub adj : ℕ → ℕ → Characters → Adjust → BaseOp
 adj p q key a = Annotate p q (record { props = []; adjust = (key, a) ∷ [] })
 
+-- an operation of the text
 abbrev pub one : BaseOp → ChannelOp
 one op = Text (One op)
 
+-- a group of the text
 abbrev pub group : List BaseOp → ChannelOp
 group ops = Text (Group ops)
 
+-- a new interval between two elements
 abbrev pub add : Characters → Characters → ℕ → ℕ → ChannelOp
 add label id a b = Text (IntervalAdd label id (record { start = pos a; end = pos b }) [])
 
+-- a change of an interval that gives neither ends nor properties
 abbrev pub change : Characters → Characters → ChannelOp
 change label id = Text (IntervalChange label id None [])
 
+-- an operation of the grid
 abbrev pub cell : CellOp → ChannelOp
 cell op = Grid (grid.One op)
 
@@ -51,8 +60,10 @@ message s c r op = record {
   origin = c;
 }
 
+-- a view of characters alone
 abbrev pub plain : List ℕ → ViewContent
 plain text = record { text = text; markers = []; runs = []; intervals = []; rows = 0; cols = 0; cells = [] }
 
+-- a shown interval without properties
 abbrev pub interval : Characters → Characters → ℤ → ℤ → IntervalRec
 interval label id a b = record { label = label; id = id; ends = record { start = a; end = b }; props = [] }

@@ -1,4 +1,5 @@
--- A session of clients over one sequencer, as the worked rows have it.
+-- A driver of clients over one sequencer, for the worked examples alone. It joins at the sequencer even where a client
+-- refuses to connect, and has no guests: it is no definition of a session.
 use Rattle.std.specs.Prelude.{ℕ, ◌+◌, cond, nat_eq, List, [], ◌∷◌, ◌++◌, Some, None, Result, Ok, Err, map, take, drop, length}
 use Rattle.ft_op.specs.declared.operations.ChannelOp.{ChannelOp}
 use Rattle.ft_msg.specs.declared.messages.Draft.{Draft}
@@ -24,6 +25,7 @@ pub data Many : Type 0 where
   some : ℕ → Many
   all : Many
 
+-- what happens to the client of this number
 pub data Event : Type 0 where
   Start : ℕ → Event
   Connect : ℕ → Event
@@ -39,6 +41,7 @@ pub data Event : Type 0 where
   Blame : ℕ → Event
   Save : ℕ → Event
 
+-- what an event writes
 pub data Output : Type 0 where
   Showed : (seq min pending link : ℕ) → ViewContent → ViewContent → Output
   Queued : List Draft → Output
@@ -49,6 +52,7 @@ pub data Output : Type 0 where
   Blamed : List Origin → Output
   Kept : Document → Output
 
+-- the clients, the sequencer, the log of all messages, how many connections there were, and what was written
 pub record World : Type 0 where
   pub clients : List (ℕ × NaiveClient)
   pub sequencer : NaiveSequencer
@@ -56,33 +60,41 @@ pub record World : Type 0 where
   pub conns : ℕ
   pub out : List Output
 
+-- the world before the first event
 abbrev pub new_world : World
 new_world = record { clients = []; sequencer = new_sequencer; log = []; conns = 0; out = [] }
 
+-- the client of this number, a new one where there is none
 abbrev pub client_of : ℕ → List (ℕ × NaiveClient) → NaiveClient
 client_of i [] = client_over empty
 client_of i ((j, x) ∷ xs) = cond (nat_eq i j) x (client_of i xs)
 
+-- the world with this client for its number
 abbrev pub with_client : ℕ → NaiveClient → World → World
 with_client i x w = record w { clients = map (λ p. cond (nat_eq i p.0) (i, x) p) w.clients }
 
+-- the world after this output
 abbrev pub told : Output → World → World
 told o w = record w { out = w.out ++ (o ∷ []) }
 
+-- the world with the client, if it took the step
 abbrev pub or_refused : {E : Type 0} → ℕ → World → Result NaiveClient E → World
 or_refused i w (Ok x) = with_client i x w
 or_refused i w (Err e) = told Refused w
 
+-- the connection of a link, 0 without one
 abbrev pub conn_of : Link → ℕ
 conn_of Offline = 0
 conn_of (Joining conn) = conn
 conn_of (Online conn) = conn
 
+-- 0 for offline, 1 for joining, 2 for online
 abbrev pub link_number : Link → ℕ
 link_number Offline = 0
 link_number (Joining conn) = 1
 link_number (Online conn) = 2
 
+-- the world after drafts of a connection are submitted in order
 abbrev pub ticket_drafts : ℕ → List Draft → World → World
 ticket_drafts conn [] w = w
 ticket_drafts conn (d ∷ ds) w = elim (submit w.sequencer conn d) [
@@ -90,10 +102,12 @@ ticket_drafts conn (d ∷ ds) w = elim (submit w.sequencer conn d) [
   | Err e ↦ told Refused w
 ]
 
+-- how many of those that there are
 abbrev pub many_of : Many → ℕ → ℕ
 many_of (some n) have = n
 many_of all have = have
 
+-- the world after a client processed these entries
 abbrev pub deliver : ℕ → List Entry → World → World
 deliver i [] w = w
 deliver i (entry ∷ entries) w = elim (process (client_of i w.clients) entry) [
@@ -101,6 +115,7 @@ deliver i (entry ∷ entries) w = elim (process (client_of i w.clients) entry) [
   | Err fault ↦ told (ProcessRefused fault) w
 ]
 
+-- the world after an event
 abbrev pub step : World → Event → World
 step w (Start i) = record w { clients = w.clients ++ ((i, client_over empty) ∷ []) }
 step w (From i j) = record w { clients = w.clients ++ ((i, client_over (client_of j w.clients).doc) ∷ []) }
@@ -131,9 +146,11 @@ step w (Show i) =
     told (Showed x.doc.number x.doc.minimum (length x.pending) (link_number x.link) (content x) (applied x w.log (w.conns + 1))) w
 step w (Queue i) = told (Queued (client_of i w.clients).queue) w
 
+-- the world after events in order
 abbrev pub play : World → List Event → World
 play w [] = w
 play w (e ∷ es) = play (step w e) es
 
+-- what events write in a new world
 abbrev pub session : List Event → List Output
 session es = (play new_world es).out

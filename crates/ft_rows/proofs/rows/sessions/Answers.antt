@@ -2,6 +2,6 @@ use Rattle.std.proofs.Common.{refl}
 use Rattle.std.specs.Fmt.{digits}
 use Rattle.ft_rows.proofs.rows.sessions.Goals as goal
 
-pub returns-clause-adjusted : goal.returns-clause-adjusted
+pub returns-clause-adjusted_once : goal.returns-clause-adjusted_once
 unfolding digits
-returns-clause-adjusted c = refl
+returns-clause-adjusted_once c = refl
