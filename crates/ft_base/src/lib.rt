@@ -7,6 +7,8 @@ pub mod elements;
 pub mod memory;
 pub mod scans;
 pub mod stamps;
+#[cfg(test)]
+mod tests;
 pub mod texts;
 pub mod visibility;
 
