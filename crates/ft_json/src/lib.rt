@@ -2,8 +2,13 @@
 //! value. What JSON is, `serde_json` says.
 #![tactic(auto)]
 
+pub mod faults;
 pub mod fields;
+pub mod members;
+pub mod reading;
 pub mod values;
 
+pub use faults::{FieldFault, JsonFault};
 pub use fields::Field;
+pub use reading::read_line;
 pub use values::ValText;
