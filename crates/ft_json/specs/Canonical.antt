@@ -1,11 +1,14 @@
 -- The values that are kept and written, and the one text of each.
-use Rattle.std.specs.Prelude.{◌≡◌, ℕ, ◌^◌, pos, negsuc, Bool, true, false, ◌&&◌, nat_lt, List, ⊤}
+use Rattle.std.specs.Prelude.{◌≡◌, ℕ, ◌^◌, ◌≤◌, pos, negsuc, Bool, true, false, ◌&&◌, nat_lt, if◌then◌else◌, List, Result, Ok, Err, unwrap_or, ⊤}
 use Rattle.std.specs.Str.{IsUtf8}
 use Rattle.std.specs.Ordering.{nat_cmp}
 use Rattle.std.specs.declared.cmp.Ordering.TheVariants.{Less}
 use Rattle.std.specs.Cmp.Lexicographic.{slice_cmp}
-use Rattle.serde_json.specs.Data.{Num, unsigned, negative, float, Data, null, boolean, number, string, array, object, Items, no_items, item, Members, no_members, member}
+use Rattle.serde_json.specs.Data.{Num, unsigned, negative, float, Data, null, boolean, number, string, array, object, Items, no_items, item, Members, no_members, member, depth}
+use Rattle.serde_json.specs.Read.{read}
 use Rattle.serde_json.specs.Written.{compact_text}
+use Rattle.ft_json.specs.declared.faults.JsonFault.{JsonFault}
+use Rattle.ft_json.specs.declared.faults.JsonFault.TheVariants.{TooDeep, Fraction}
 
 -- whether it is a whole number from -9223372036854775808 to 18446744073709551615; a float is none, and -0 is a float
 abbrev pub is_whole : Num → Bool
@@ -58,3 +61,15 @@ abbrev mutual
 -- the bytes are the compact text of such a value, of any number of levels
 abbrev pub IsCanonicalText : List ℕ → Type 0
 IsCanonicalText text = (d : Data) × IsCanonical d × (text ≡ compact_text d)
+
+-- the bytes are the compact text of such a value, of at most so many levels
+abbrev pub IsTextWithin : ℕ → List ℕ → Type 0
+IsTextWithin levels text = (d : Data) × IsCanonical d × (depth d ≤ levels) × (text ≡ compact_text d)
+
+-- the value that such a text of at most 127 levels stands for; null for any other
+abbrev pub value_of : List ℕ → Data
+value_of text = unwrap_or (read text) null
+
+-- the compact text of a value that is kept: it has at most 100 levels, and each number inside is such a whole number
+unfoldable pub canonical : Data → Result (List ℕ) JsonFault
+canonical d = if nat_lt 100 (depth d) then Err TooDeep else (if has_whole_numbers d then Ok (compact_text d) else Err Fraction)

@@ -2,8 +2,20 @@
 //! value. What JSON is, `serde_json` says.
 #![tactic(auto)]
 
+mod checks;
+pub mod faults;
 pub mod fields;
+pub mod members;
+pub mod reading;
 pub mod values;
+pub mod writing;
 
+pub use faults::{FieldFault, JsonFault};
 pub use fields::Field;
+pub use members::{
+    array_field, count, count_field, field, given_field, items, num_field, pairs, signed_field,
+    str_field, text_field, whole_within,
+};
+pub use reading::read_line;
 pub use values::ValText;
+pub use writing::{canonical, compact, quote};

@@ -40,6 +40,14 @@ impl ValText {
         })
     }
 
+    /// The text itself, which is the compact text of such a value.
+    pub(crate) fn from_compact(text: String) -> ValText
+        requires { IsCanonicalText (string_bytes text) }
+        ensures { result ≡ string_bytes text }
+    {
+        ValText { text }
+    }
+
     /// The text. It takes no memory.
     pub fn as_str(&self) -> &str
         ensures value { result.now ≡ self.now }

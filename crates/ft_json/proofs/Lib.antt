@@ -1,0 +1,5 @@
+pub mod Lists
+pub mod Lines
+pub mod Back
+pub mod CompactTexts
+pub mod Quoted
