@@ -1,0 +1,4 @@
+pub mod FirstLf
+pub mod Gathering
+pub mod Parts
+pub mod TakenAndLeft
