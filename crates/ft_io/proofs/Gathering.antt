@@ -73,11 +73,12 @@ pub record Gathers (old : Reader) (first : Option (List ℕ)) (before : ℕ) (pi
   pub is_line : line ≡ handed_out old.limit so_far
   pub gives : Consumes first left got
   pub count : given ≡ old.given + length got
+  pub within : given ≤ input_limit + 1
   pub later : before ≤ now
 
 module _ (old : Reader) (first : Option (List ℕ)) (before : ℕ) where
-  pub gathers_start : Gathers old first before old.pending old.given (Full []) first before
-  gathers_start = record {
+  pub gathers_start : old.given ≤ input_limit + 1 → Gathers old first before old.pending old.given (Full []) first before
+  gathers_start within = record {
     so_far = [];
     got = [];
     place = append-nil old.pending;
@@ -85,15 +86,16 @@ module _ (old : Reader) (first : Option (List ℕ)) (before : ℕ) where
     is_line = handed_out-nil old.limit;
     gives = Consumes-nil first;
     count = omega arith;
+    within = within;
     later = omega arith;
   }
 
   module _ (piece : List ℕ) (given : ℕ) (line : Line) (left : Option (List ℕ)) (now : ℕ) (h : Gathers old first before piece given line left now) where
     -- the line takes the piece, which no LF is in, and the source gives the next one
     pub gathers_more : (next : List ℕ) (given' : ℕ) (line' : Line) (left' : Option (List ℕ)) (now' : ℕ)
-        → IsUnbroken piece → line' ≡ handed_out old.limit (h.so_far ++ piece) → Consumes left left' next → given' ≡ given + length next → now ≤ now'
+        → IsUnbroken piece → line' ≡ handed_out old.limit (h.so_far ++ piece) → Consumes left left' next → given' ≡ given + length next → given' ≤ input_limit + 1 → now ≤ now'
         → Gathers old first before next given' line' left' now'
-    gathers_more next given' line' left' now' unbroken is_line gives count later = record {
+    gathers_more next given' line' left' now' unbroken is_line gives count within later = record {
       so_far = h.so_far ++ piece;
       got = h.got ++ next;
       place = sym (append_assoc old.pending h.got next) ∙ ap (λ bytes. bytes ++ next) h.place;
@@ -101,6 +103,7 @@ module _ (old : Reader) (first : Option (List ℕ)) (before : ℕ) where
       is_line = is_line;
       gives = Consumes-append first left left' h.got next h.gives gives;
       count = omega (arith, h.count, count, length-append h.got next);
+      within = within;
       later = omega (arith, h.later);
     }
 
@@ -114,6 +117,7 @@ module _ (old : Reader) (first : Option (List ℕ)) (before : ℕ) where
         gives = h.gives;
         given = same ∙ h.count;
         limit = limit;
+        within = omega (arith, same, h.within);
         later = h.later;
         after_end = λ ended. absurd (cc);
         answers = answers_line old (old.pending ++ h.got) left new answer record {
@@ -137,6 +141,7 @@ module _ (old : Reader) (first : Option (List ℕ)) (before : ℕ) where
         gives = h.gives;
         given = same ∙ h.count;
         limit = limit;
+        within = omega (arith, same, h.within);
         later = h.later;
         after_end = λ was. absurd (cc);
         answers = last_answers old (old.pending ++ h.got) left new h.so_far answer
@@ -152,6 +157,7 @@ module _ (old : Reader) (first : Option (List ℕ)) (before : ℕ) where
           gives = Consumes-keeps first left left' h.got h.gives keeps;
           given = same ∙ h.count;
           limit = limit;
+          within = omega (arith, same, h.within);
           later = omega (arith, h.later);
           after_end = λ ended. absurd (cc);
           answers = stopped;
@@ -163,6 +169,7 @@ module _ (old : Reader) (first : Option (List ℕ)) (before : ℕ) where
           gives = Consumes-keeps first left left' h.got h.gives keeps;
           given = same ∙ h.count;
           limit = limit;
+          within = omega (arith, same, h.within);
           later = omega (arith, h.later);
           after_end = λ ended. absurd (cc);
           answers = (
@@ -179,6 +186,7 @@ module _ (old : Reader) (first : Option (List ℕ)) (before : ℕ) where
           gives = Consumes-keeps first left left' h.got h.gives keeps;
           given = same ∙ h.count;
           limit = limit;
+          within = omega (arith, same, h.within);
           later = omega (arith, h.later);
           after_end = λ ended. absurd (cc);
           answers = (
@@ -190,21 +198,22 @@ module _ (old : Reader) (first : Option (List ℕ)) (before : ℕ) where
 
         -- the source failed, or had given too many bytes
         pub call_fault : (fault : LineFault) → IsUnbroken piece → new.given ≡ given → new.limit ≡ old.limit → new.fault ≡ Some fault
-            → (fault ≡ Read → Rose now now' × (given ≤ input_limit)) → (fault ≡ InputLimit → input_limit < given) → (fault ≡ OutOfMemory → ⊥) → given ≤ input_limit + 1
+            → (fault ≡ Read → Rose now now' × (given ≤ input_limit)) → (fault ≡ InputLimit → input_limit < given) → (fault ≡ OutOfMemory → ⊥)
             → Call old new first left' before now' (Err fault)
-        call_fault Read unbroken same limit stopped read many memory within = call_read unbroken (read refl).0 (read refl).1 same limit stopped
-        call_fault InputLimit unbroken same limit stopped read many memory within = call_limit unbroken (omega (arith, many refl)) same limit stopped
-        call_fault OutOfMemory unbroken same limit stopped read many memory within = absurd (memory refl)
+        call_fault Read unbroken same limit stopped read many memory = call_read unbroken (read refl).0 (read refl).1 same limit stopped
+        call_fault InputLimit unbroken same limit stopped read many memory = call_limit unbroken (omega (arith, many refl, h.within)) same limit stopped
+        call_fault OutOfMemory unbroken same limit stopped read many memory = absurd (memory refl)
 
 -- after the end nothing is read, and the answer is the end
-pub call_ended : (old : Reader) (left : Option (List ℕ)) (now : ℕ) → old.ended ≡ true → old.pending ≡ [] → old.fault ≡ None → Call old old left left now now (Ok End)
-call_ended old left now ended nothing runs = record {
+pub call_ended : (old : Reader) (left : Option (List ℕ)) (now : ℕ) → old.given ≤ input_limit + 1 → old.ended ≡ true → old.pending ≡ [] → old.fault ≡ None → Call old old left left now now (Ok End)
+call_ended old left now within ended nothing runs = record {
   got = [];
   gives = Consumes-nil left;
   given = omega arith;
   limit = refl;
+  within = within;
   later = omega arith;
-  after_end = λ was. (refl, refl);
+  after_end = λ was. (refl, refl, refl);
   answers = record {
     nothing_waits = append-nil old.pending ∙ nothing;
     ended = ended;

@@ -1,5 +1,5 @@
 -- A reader of lines: what it is seen as, what one call for the next line does, and where a run of such calls stands.
-use Rattle.std.specs.Prelude.{◌≡◌, ◌⊎◌, ℕ, ◌+◌, ◌<◌, ◌≤◌, Bool, true, false, nat_le, if◌then◌else◌, List, [], ◌∷◌, ◌++◌, length, All, Option, Some, None, Result, Ok, Err}
+use Rattle.std.specs.Prelude.{◌≡◌, ◌⊎◌, ℕ, ◌+◌, ◌-◌, ◌<◌, ◌≤◌, Bool, true, false, nat_le, if◌then◌else◌, List, [], ◌∷◌, ◌++◌, length, All, Option, Some, None, Result, Ok, Err}
 use Rattle.std.specs.List.{flat_map}
 use Rattle.std.specs.Io.KnownBytes.{Consumes, IsAtEnd}
 use Rattle.ft_io.specs.Lines.{lf, IsUnbroken, lines, with_lf}
@@ -25,6 +25,10 @@ pub record Reader : Type 0 where
 -- a reader to which nothing was given
 abbrev pub new_reader : ℕ → Reader
 new_reader limit = record { pending = []; given = 0; limit = limit; ended = false; fault = None }
+
+-- more bytes than this are not handed out by any further calls: a measure for a loop over the lines
+abbrev pub to_come : Reader → ℕ
+to_come reader = input_limit + 1 - reader.given + length reader.pending
 
 -- a line as it is handed out: too long exactly where it has more bytes than the limit
 abbrev pub handed_out : ℕ → List ℕ → Line
@@ -83,8 +87,9 @@ pub record Call (old new : Reader) (first left : Option (List ℕ)) (before now 
   pub gives : Consumes first left got
   pub given : new.given ≡ old.given + length got
   pub limit : new.limit ≡ old.limit
+  pub within : new.given ≤ input_limit + 1
   pub later : before ≤ now
-  pub after_end : old.ended ≡ true → (answer ≡ Ok End) × (got ≡ [])
+  pub after_end : old.ended ≡ true → (answer ≡ Ok End) × (got ≡ []) × (left ≡ first)
   pub answers : Answers old (old.pending ++ got) left (Rose before now) new answer
 
 -- the bytes given are the lines handed out, each with its LF, and those that wait

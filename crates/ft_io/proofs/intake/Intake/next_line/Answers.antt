@@ -35,7 +35,7 @@ returns-in_err-fill g c =
     subst (λ r. Call old (as_reader c.fill.new.self c.args.limit (result_err r)) (left c.args.src.now) (left c.fill.new.src) (faults c.args.src.now) (faults c.fill.new.src) r) (sym is)
     (call_fault old (left c.args.src.now) (faults c.args.src.now) now.self.piece now.self.given now.line (left now.src) (faults now.src) h
     (as_reader c.fill.new.self c.args.limit (Some fault)) c.requires (left c.fill.new.src) (faults c.fill.new.src) told.err.1 told.later fault cuts.0 told.err.0 refl refl
-    (λ e. told.read (ap Err e)) (λ e. told.limit (ap Err e)) (λ e. told.memory (ap Err e)) (omega (arith, now.self.within)))
+    (λ e. told.read (ap Err e)) (λ e. told.limit (ap Err e)) (λ e. told.memory (ap Err e)))
 
 pub returns-then-self : goal.returns-then-self
 returns-then-self g c =
@@ -49,7 +49,7 @@ returns-then-self g c =
     let ended = told.ended c.if-self.true in
     let nothing = nil_from_length c.fill.new.self.piece ended.0 in
     let more = gathers_more old (left c.args.src.now) (faults c.args.src.now) now.self.piece now.self.given now.line (left now.src) (faults now.src) h
-    c.fill.new.self.piece c.fill.new.self.given c.in-More.part (left c.fill.new.src) (faults c.fill.new.src) cuts.0 cuts.1 told.bytes told.given.0 told.later in
+    c.fill.new.self.piece c.fill.new.self.given c.in-More.part (left c.fill.new.src) (faults c.fill.new.src) cuts.0 cuts.1 told.bytes told.given.0 c.fill.new.self.within told.later in
     call_last old (left c.args.src.now) (faults c.args.src.now) c.fill.new.self.piece c.fill.new.self.given c.in-More.part (left c.fill.new.src) (faults c.fill.new.src) more
     (as_reader c.fill.new.self c.args.limit None) c.requires c.last.result (c.last.ensures c.args.limit more.so_far more.is_line) nothing ended.1 (omega (arith, told.given, ended.0)) nothing refl refl c.if-self.true refl
 
@@ -64,6 +64,6 @@ loop-whole-preserved g c =
     let told = c.in_ok-fill.ensures in
     record {
       gathers = gathers_more old (left c.args.src.now) (faults c.args.src.now) now.self.piece now.self.given now.line (left now.src) (faults now.src) h
-          c.fill.new.self.piece c.fill.new.self.given c.in-More.part (left c.fill.new.src) (faults c.fill.new.src) cuts.0 cuts.1 told.bytes told.given.0 told.later;
+          c.fill.new.self.piece c.fill.new.self.given c.in-More.part (left c.fill.new.src) (faults c.fill.new.src) cuts.0 cuts.1 told.bytes told.given.0 c.fill.new.self.within told.later;
       goes_on = c.if-self.false;
     }
