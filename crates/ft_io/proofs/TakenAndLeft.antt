@@ -1,0 +1,35 @@
+-- What several calls do to the bytes that a source has left and that a sink has taken, where those are told.
+use Rattle.std.proofs.Common.{◌≡◌, ℕ, List, [], ◌++◌, Option, Some, None, refl, sym, ◌∙◌, ap, append_assoc, append-nil}
+use Rattle.std.specs.Io.KnownBytes.{Appends, Consumes, Keeps, IsAtEnd}
+
+pub Consumes-nil : (left : Option (List ℕ)) → Consumes left left []
+Consumes-nil None = tt
+Consumes-nil (Some bytes) = refl
+
+pub Consumes-append : (first next left : Option (List ℕ)) (xs ys : List ℕ) → Consumes first next xs → Consumes next left ys → Consumes first left (xs ++ ys)
+Consumes-append None next left xs ys a b = tt
+Consumes-append (Some bs) None left xs ys a b = absurd a
+Consumes-append (Some bs) (Some cs) None xs ys a b = absurd b
+Consumes-append (Some bs) (Some cs) (Some ds) xs ys a b = a ∙ ap (λ rest. xs ++ rest) b ∙ sym (append_assoc xs ys ds)
+
+pub Consumes-keeps : (first next left : Option (List ℕ)) (xs : List ℕ) → Consumes first next xs → Keeps next left → Consumes first left xs
+Consumes-keeps None next left xs a b = tt
+Consumes-keeps (Some bs) None left xs a b = absurd a
+Consumes-keeps (Some bs) (Some cs) None xs a b = absurd b
+Consumes-keeps (Some bs) (Some cs) (Some ds) xs a b = a ∙ ap (λ rest. xs ++ rest) (sym b)
+
+pub Appends-nil : (held : Option (List ℕ)) → Appends held held []
+Appends-nil None = tt
+Appends-nil (Some bytes) = sym (append-nil bytes)
+
+pub Appends-append : (first next last : Option (List ℕ)) (xs ys : List ℕ) → Appends first next xs → Appends next last ys → Appends first last (xs ++ ys)
+Appends-append None next last xs ys a b = tt
+Appends-append (Some bs) None last xs ys a b = absurd a
+Appends-append (Some bs) (Some cs) None xs ys a b = absurd b
+Appends-append (Some bs) (Some cs) (Some ds) xs ys a b = b ∙ ap (λ front. front ++ ys) a ∙ append_assoc bs xs ys
+
+pub Appends-keeps : (first next last : Option (List ℕ)) (xs : List ℕ) → Appends first next xs → Keeps next last → Appends first last xs
+Appends-keeps None next last xs a b = tt
+Appends-keeps (Some bs) None last xs a b = absurd a
+Appends-keeps (Some bs) (Some cs) None xs a b = absurd b
+Appends-keeps (Some bs) (Some cs) (Some ds) xs a b = b ∙ a

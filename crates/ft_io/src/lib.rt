@@ -1,0 +1,17 @@
+//! Bytes in and bytes out: sources and sinks that count their faults, over memory and over standard
+//! input and output, and the lines of what a source gives.
+#![tactic(auto)]
+
+pub mod byte_lists;
+mod intake;
+pub mod memory;
+mod pieces;
+pub mod reader;
+pub mod standard;
+pub mod streams;
+
+pub use byte_lists::Bytes;
+pub use memory::{MemSink, MemSource};
+pub use reader::{Line, LineFault, Lines};
+pub use standard::{StdSink, StdSource};
+pub use streams::{Failed, Sink, Source, write_all};
