@@ -11,3 +11,6 @@ pub mod Summary
 pub mod Overlap
 pub mod Blame
 pub mod Answers
+pub mod NameTable
+pub mod WellFormed
+pub mod MessageGrammar

@@ -28,6 +28,8 @@ pub enum Cause {
     NestedGroup,
     /// No event has this word.
     UnknownWord,
+    /// The form is one that isn't read yet.
+    NotBuilt,
     /// There was no memory.
     OutOfMemory,
 }

@@ -3,8 +3,12 @@
 
 pub mod faults;
 pub mod messages;
+pub mod names;
+pub mod reading;
 pub mod views;
 
 pub use faults::{Cause, EditFault, LinkFault, ProcessFault, SummaryFault, ViewFault};
 pub use messages::{Body, Draft, Entry, Message, MsgKind};
+pub use names::Names;
+pub use reading::read_message;
 pub use views::{Link, Numbers, Run, Runs, Spot, Spots, View};

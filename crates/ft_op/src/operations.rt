@@ -1,7 +1,7 @@
 //! Operations. Positions count elements that the sender of an operation sees, from 0.
 
-use ft_base::Text;
-use ft_json::{Field, ValText};
+use ft_base::{OutOfMemory, Text};
+use ft_json::{Field, FieldFault, ValText};
 use ft_props::{Changes, PropSet};
 use std::marker::Model;
 
@@ -157,6 +157,34 @@ pub enum OpFault {
     Fraction,
     /// A value has more than 100 levels.
     TooDeep,
+    /// The form is one that isn't read yet.
+    NotBuilt,
     /// There was no memory.
     OutOfMemory,
+}
+
+impl From<OutOfMemory> for OpFault {
+    ghost use Rattle.std.specs.Prelude.{◌≡◌};
+    ghost use Rattle.ft_op.specs.declared.operations.OpFault.TheVariants.{OutOfMemory as WantOfMemory};
+
+    ghost from_gives = { λ _ fault. fault ≡ WantOfMemory };
+
+    fn from(_error: OutOfMemory) -> OpFault {
+        OpFault::OutOfMemory
+    }
+}
+
+impl From<FieldFault> for OpFault {
+    ghost use Rattle.std.specs.Prelude.{◌≡◌};
+    ghost use Rattle.ft_op.specs.Faults.{op_fault};
+
+    ghost from_gives = { λ fault made. made ≡ op_fault fault };
+
+    fn from(fault: FieldFault) -> OpFault {
+        match fault {
+            FieldFault::Missing(field) => OpFault::Missing(field),
+            FieldFault::WrongKind(field) => OpFault::WrongKind(field),
+            FieldFault::OutOfMemory => OpFault::OutOfMemory,
+        }
+    }
 }

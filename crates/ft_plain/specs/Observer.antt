@@ -1,0 +1,35 @@
+-- A replica that observes messages and makes no edits of its own, and what it answers to the next message.
+use Rattle.std.specs.Prelude.{◌≡◌, ℕ, max, Option, Some, None, Result, Ok, Err}
+use Rattle.ft_op.specs.Document.{Document}
+use Rattle.ft_msg.specs.declared.messages.Entry.{Entry}
+use Rattle.ft_msg.specs.declared.views.Link.TheVariants.{Offline}
+use Rattle.ft_msg.specs.declared.views.Numbers.{Numbers}
+use Rattle.ft_msg.specs.declared.faults.ProcessFault.{ProcessFault}
+use Rattle.ft_msg.specs.declared.faults.ProcessFault.TheVariants.{OutOfMemory, Stopped}
+use Rattle.ft_msg.specs.Client.{client_over}
+use Rattle.ft_msg.specs.Process.{process}
+
+-- an observer: the document of the messages that it processed, and the number at which it stopped, if it did
+pub record Observer : Type 0 where
+  pub doc : Document
+  pub stop : Option ℕ
+
+-- the answer to the next message: Ok where the client over its document takes it, and then the document is that client's; the
+-- client's refusal, and then nothing changed; want of memory, and then it has stopped; or that it had stopped before
+abbrev pub AnswersEntry : Observer → Observer → Entry → Result (Unit {0}) ProcessFault → Type 0
+AnswersEntry old new entry (Ok _) = (old.stop ≡ None) × (new.stop ≡ None) × (process (client_over old.doc) entry ≡ Ok (client_over new.doc))
+AnswersEntry old new entry (Err OutOfMemory) = (old.stop ≡ None) × (new.stop ≡ Some old.doc.number)
+AnswersEntry old new entry (Err (Stopped seq)) = (old.stop ≡ Some seq) × (new ≡ old)
+AnswersEntry old new entry (Err fault) = (old.stop ≡ None) × (new ≡ old) × (process (client_over old.doc) entry ≡ Err fault)
+
+-- the numbers of an observer over a document
+abbrev pub numbers_of : Document → Numbers
+numbers_of doc = record {
+  seq = doc.number;
+  min = doc.minimum;
+  pending = 0;
+  skipped = doc.skipped;
+  other = doc.other;
+  made = max doc.text.made (max doc.rows.made doc.cols.made);
+  link = Offline;
+}
