@@ -86,12 +86,7 @@ fn inserted(table: &mut Table, window: u32, count: u32) -> Result<u64, OutOfMemo
 
 /// Inserts an item at each second new number, and at the next removes an element of an item that
 /// was inserted half a window before.
-fn removed(
-    alloc: Global,
-    table: &mut Table,
-    window: u32,
-    count: u32,
-) -> Result<u64, OutOfMemory>
+fn removed(alloc: Global, table: &mut Table, window: u32, count: u32) -> Result<u64, OutOfMemory>
     requires { table.old.floor ≡ 0 }
 {
     for i in 0..count as u64 {
@@ -109,12 +104,7 @@ fn removed(
 }
 
 /// Acknowledges a pending insertion at each new number.
-fn replaced(
-    alloc: Global,
-    table: &mut Table,
-    window: u32,
-    count: u32,
-) -> Result<u64, OutOfMemory>
+fn replaced(alloc: Global, table: &mut Table, window: u32, count: u32) -> Result<u64, OutOfMemory>
     requires { table.old.floor ≡ 0 }
 {
     let pending = element(alloc, Stamp::Local { stage: 1 });
@@ -131,12 +121,7 @@ fn replaced(
 }
 
 /// Changes the number of elements of an item in the middle of the window, to and fro.
-fn resized(
-    alloc: Global,
-    table: &mut Table,
-    window: u32,
-    count: u32,
-) -> Result<u64, OutOfMemory>
+fn resized(alloc: Global, table: &mut Table, window: u32, count: u32) -> Result<u64, OutOfMemory>
     requires { table.old.floor ≡ 0 }
 {
     let half = window as u64 / 2 + 1;

@@ -9,7 +9,7 @@ use Rattle.std.proofs.lemmas.List.Edits.{length-remove, get_or-remove_below, get
 use Rattle.ft_partial.specs.StepFunctions.{value_from}
 use Rattle.ft_partial.specs.Steps.{IsRising, is_covered, CanSkip, FoldsSteps}
 use Rattle.ft_partial.specs.declared.step_functions.Step.{Step}
-use Rattle.ft_partial.proofs.Cuts.{tail_rising}
+use Rattle.ft_partial.proofs.Places.{tail_rising}
 
 -- the value after all steps, which is v where there is none
 abbrev pub end_value : ℕ → List Step → ℕ

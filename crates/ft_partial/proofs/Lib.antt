@@ -1,6 +1,8 @@
 pub mod Cuts
 pub mod Folds
+pub mod Lifts
 pub mod Merges
+pub mod Places
 pub mod RowLemmas
 pub mod SumsByStamps
 pub mod TableLemmas

@@ -5,29 +5,10 @@ use Rattle.std.proofs.Math.Seq.{get_or-append_seam}
 use Rattle.std.proofs.lemmas.Bool.{cases_lt}
 use Rattle.std.proofs.lemmas.Bool.Decides.{nat_tests}
 use Rattle.ft_partial.specs.StepFunctions.{value_from}
-use Rattle.ft_partial.specs.Steps.{IsRising, IsPlace, value_before, AllBefore, IsNextPlace, IsSum}
+use Rattle.ft_partial.specs.Steps.{IsRising, IsPlace, value_before, AllBefore, IsNextPlace}
 use Rattle.ft_partial.specs.declared.step_functions.Step.{Step}
 use Rattle.ft_partial.proofs.Values.{no_step, value_from-place}
-use Rattle.ft_partial.proofs.Cuts.{from_at, from_at-default, rising_le}
-
--- the step at k is the last one up to k
-pub place_past : (xs : List Step) (i k : ℕ) (d : Step) → IsRising xs → i < length xs → AllBefore xs i k → from_at xs i d ≡ k → IsPlace xs k (i + 1)
-place_past xs i k d rising inside before here = record {
-  inside = omega arith;
-  below = λ e j h. elim (cases_lt j i) [
-    | inl ji ↦ omega (arith, before e j ji)
-    | inr ij ↦ let same : j ≡ i = omega arith in omega (arith, ap (λ n. from_at xs n e) same, from_at-default xs i e d inside)
-  ];
-  above = λ e j h l. omega (arith, rising e i j (omega arith) l, from_at-default xs i e d inside);
-}
-
--- no step is at k
-pub place_here : (xs : List Step) (i k : ℕ) → IsRising xs → i ≤ length xs → AllBefore xs i k → ((d : Step) → i < length xs → k < from_at xs i d) → IsPlace xs k i
-place_here xs i k rising inside before after = record {
-  inside = inside;
-  below = λ d j h. omega (arith, before d j h);
-  above = λ d j h l. omega (arith, rising_le xs rising d i j h l, after d (omega arith));
-}
+use Rattle.ft_partial.proofs.Places.{from_at, rising_le, place_here}
 
 -- the next place where both lists go on
 pub next_of_both : (xs ys : List Step) (i j k : ℕ) (x y : Step) → i < length xs → j < length ys → ((d : Step) → get_or xs i d ≡ x) → ((d : Step) → get_or ys j d ≡ y) → k ≡ min x.from y.from
@@ -71,7 +52,7 @@ merges_none xs ys rx ry = record {
 }
 
 -- the next place is ahead
-pub next_ahead : (xs ys : List Step) (i j k : ℕ) → IsNextPlace xs i ys j k → IsAhead xs i ys j k
+next_ahead : (xs ys : List Step) (i j k : ℕ) → IsNextPlace xs i ys j k → IsAhead xs i ys j k
 next_ahead xs ys i j k next =
     elim next.one as (λ w. IsAhead xs i ys j k) [
       | inl h ↦ inl (h.0, λ d. omega (arith, h.1 d))
@@ -124,10 +105,6 @@ place_on xs i k q rising p h low = record {
   above = λ d j l n. omega (arith, rising_le xs rising d i j l n, low d (omega arith));
 }
 
--- below the next place no step of the list is left
-below_next : (xs ys : List Step) (i j k q : ℕ) → IsNextPlace xs i ys j k → q < k → (d : Step) → i < length xs → q < from_at xs i d
-below_next xs ys i j k q next h d l = omega (arith, next.left d l)
-
 pushed : (b : Bool) (k q v w u : ℕ) → nat_le k q ≡ b → (k ≤ q → v % 2 ^ 64 ≡ u) → (q < k → w % 2 ^ 64 ≡ u) → cond (nat_le k q) v w % 2 ^ 64 ≡ u
 pushed true k q v w u e high low = ap (λ t. cond t v w % 2 ^ 64) e ∙ high (grind (arith, nat_tests))
 pushed false k q v w u e high low = ap (λ t. cond t v w % 2 ^ 64) e ∙ low (grind (arith, nat_tests))
@@ -150,12 +127,6 @@ merges_more xs ys sum i j k a b v rx ry m next pa pb ev =
           (λ h. omega (arith, ev, value_from-place 0 q a no_step xs (place_on xs a k q rx pa h hx), value_from-place 0 q b no_step ys (place_on ys b k q ry pb h hy)))
           (λ h. m.values q (λ d l. omega (arith, next.left d l)) (λ d l. omega (arith, next.right d l)));
     }
-
-pub merges_all : (xs ys sum : List Step) (i j : ℕ) → length xs ≤ i → length ys ≤ j → Merges xs ys sum i j → IsSum xs ys sum
-merges_all xs ys sum i j hx hy m = record {
-  rising = m.rising;
-  values = λ k. m.values k (λ d l. absurd (omega arith)) (λ d l. absurd (omega arith));
-}
 
 -- the count of a list's steps doesn't fall, and rises where the next place is one of them
 count_on : (xs : List Step) (i a k : ℕ) → i ≤ length xs → AllBefore xs i k → IsPlace xs k a → i ≤ a

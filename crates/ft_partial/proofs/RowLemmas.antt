@@ -1,17 +1,17 @@
 -- The rows of the connections.
-use Rattle.std.proofs.Common.{◌≡◌, ℕ, ◌+◌, ◌<◌, ◌≤◌, ◌%◌, ◌^◌, Bool, true, false, ◌&&◌, ◌||◌, not, nat_le, nat_eq, min, List, [], ◌∷◌, take, get_or, length, sym, ◌∙◌, ap, subst, arith}
+use Rattle.std.proofs.Common.{◌≡◌, ℕ, ◌+◌, ◌-◌, ◌<◌, ◌≤◌, ◌%◌, ◌^◌, Bool, true, false, ◌&&◌, ◌||◌, not, nat_le, nat_eq, min, List, [], ◌∷◌, ◌++◌, take, get_or, length, refl, sym, ◌∙◌, ap, subst, arith}
 use Rattle.std.specs.List.{list_any}
 use Rattle.std.proofs.lemmas.Bool.Decides.{nat_tests}
 use Rattle.std.proofs.lemmas.Grind.{common_steps}
+use Rattle.std.proofs.lemmas.List.Folds.{list_any-append}
 use Rattle.ft_base.specs.declared.stamps.Stamp.{Stamp}
 use Rattle.ft_base.specs.declared.stamps.Stamp.TheVariants.{Acked, Local}
-use Rattle.ft_base.specs.Visibility.{has_occurred}
+use Rattle.ft_base.specs.Visibility.{has_occurred, sees}
 use Rattle.ft_base.specs.Scan.{within}
-use Rattle.ft_partial.specs.StepFunctions.{amount, value_at, Raises}
-use Rattle.ft_partial.specs.Rows.{first_removal, is_by, place_of, RaisesRemover, RaisesRemovers, RaisesOwn}
+use Rattle.ft_base.specs.declared.elements.Element.{Element}
+use Rattle.ft_partial.specs.StepFunctions.{amount, value_at, span_value, ExchangesSpan}
+use Rattle.ft_partial.specs.Rows.{number_of, first_removal, is_by, place_of, common_span, row_change, row_span, row_value, ExchangesRow, ExchangesRows, Covers}
 use Rattle.ft_partial.specs.declared.step_functions.Step.{Step}
-use Rattle.ft_partial.specs.declared.step_functions.Span.{Span}
-use Rattle.ft_partial.proofs.Values.{raised_by_none}
 
 pub first_removal-le : (dels : List Stamp) → first_removal dels ≤ 2 ^ 64
 first_removal-le [] = omega arith
@@ -25,101 +25,156 @@ any-occurred r c [] h = grind (arith, nat_tests)
 any-occurred r c (Acked s d ∷ dels) h = grind (arith, nat_tests, any-occurred r c dels h)
 any-occurred r c (Local k ∷ dels) h = grind (arith, nat_tests, any-occurred r c dels h, first_removal-le dels)
 
--- a place of a row is within another row's places only if both are one
+-- a place is within a stretch of another row only if both rows are one
 within-place : (d c from to r : ℕ) → from ≤ 2 ^ 64 → to ≤ 2 ^ 64 → r < 2 ^ 64
     → within (place_of d from) (place_of d to) (place_of c r) ≡ (nat_eq d c && within from to r)
 within-place d c from to r h1 h2 h3 = grind (arith, nat_tests)
 
--- the change of one connection's row
-abbrev pub row_span : ℕ → ℕ → ℕ → ℕ → Span
-row_span d from to by = record { from = place_of d from; to = place_of d to; by = by }
+within-row : (c from to r : ℕ) → within (place_of c from) (place_of c to) (place_of c r) ≡ within from to r
+within-row c from to r = grind (arith, nat_tests)
 
--- equal connections are removers alike
-same_by : (d c : ℕ) (dels : List Stamp) → nat_eq d c ≡ true → list_any (is_by d) dels ≡ list_any (is_by c) dels
-same_by d c dels e = let same : d ≡ c = grind (arith, nat_tests) in ap (λ x. list_any (is_by x) dels) same
+-- a change of one connection's row adds nothing to another's
+apart_case : (b a : Bool) (d c s g n r : ℕ) → s ≤ 2 ^ 64 → g ≤ 2 ^ 64 → r < 2 ^ 64 → nat_eq d c ≡ false → span_value (row_change b a d s g n) (place_of c r) ≡ 0
+apart_case true a d c s g n r h1 h2 h3 other =
+    ap (λ t. amount t ((2 ^ 64 - n) % 2 ^ 64)) (within-place d c s g r h1 h2 h3 ∙ ap (λ t. t && within s g r) other)
+apart_case false true d c s g n r h1 h2 h3 other =
+    ap (λ t. amount t n) (within-place d c 0 (min g s) r (omega arith) (omega arith) h3 ∙ ap (λ t. t && within 0 (min g s) r) other)
+apart_case false false d c s g n r h1 h2 h3 other = grind (arith, nat_tests)
 
-pub remover_raised : (old new : List Step) (before : List Stamp) (s d from to by : ℕ) → from < 2 ^ 64 → to ≤ 2 ^ 64
-    → list_any (is_by d) before ≡ false → Raises old new (row_span d from to by) → RaisesRemover old new before (Acked s d) from to by
-remover_raised old new before s d from to by h1 h2 none raises r c hr hc =
-    let low : from ≤ 2 ^ 64 = omega arith in
-    let inside = within-place d c from to r low h2 hr in
-    grind (arith, raises (place_of c r), inside, same_by d c before)
+row_apart : (e : Element) (n d c r : ℕ) → number_of e.ins ≤ 2 ^ 64 → r < 2 ^ 64 → nat_eq d c ≡ false → span_value (row_span e n d) (place_of c r) ≡ 0
+row_apart e n d c r h1 h2 other =
+    apart_case (list_any (is_by d) e.dels) (is_by d e.ins) d c (number_of e.ins) (first_removal e.dels) n r h1 (first_removal-le e.dels) h2 other
 
-pub remover_known : (old : List Step) (before : List Stamp) (s d from to by : ℕ)
-    → list_any (is_by d) before ≡ true → RaisesRemover old old before (Acked s d) from to by
-remover_known old before s d from to by some r c hr hc =
-    grind (arith, raised_by_none old (place_of c r), same_by d c before)
+-- what those see who made none of the stamps, and a row's change, make up what its connection sees
+parts_case : (b a : Bool) (c s g n r : ℕ) → n < 2 ^ 64
+    → (amount (within s g r) n + span_value (row_change b a c s g n) (place_of c r)) % 2 ^ 64 ≡ amount ((nat_le s r || a) && not (nat_le g r || b)) n % 2 ^ 64
+parts_case true a c s g n r h = let row = within-row c s g r in grind (arith, nat_tests)
+parts_case false true c s g n r h = let row = within-row c 0 (min g s) r in grind (arith, nat_tests)
+parts_case false false c s g n r h = grind (arith, nat_tests)
 
-pub remover_local : (old : List Step) (before : List Stamp) (k from to by : ℕ) → RaisesRemover old old before (Local k) from to by
-remover_local old before k from to by r c hr hc = grind (arith, raised_by_none old (place_of c r))
+pub parts : (e : Element) (n r c : ℕ) → n < 2 ^ 64 → r < 2 ^ 64 → (span_value (common_span e n) r + row_value e n c r) % 2 ^ 64 ≡ amount (sees e r c) n % 2 ^ 64
+parts e n r c h1 h2 =
+    go e.ins (parts_case (list_any (is_by c) e.dels) (is_by c e.ins) c (number_of e.ins) (first_removal e.dels) n r h1)
+  where
+    go : (s : Stamp)
+        → (amount (within (number_of s) (first_removal e.dels) r) n + span_value (row_change (list_any (is_by c) e.dels) (is_by c s) c (number_of s) (first_removal e.dels) n) (place_of c r)) % 2 ^ 64
+        ≡ amount ((nat_le (number_of s) r || is_by c s) && not (nat_le (first_removal e.dels) r || list_any (is_by c) e.dels)) n % 2 ^ 64
+        → (amount (within (number_of s) (first_removal e.dels) r) n + span_value (row_change (list_any (is_by c) e.dels) (is_by c s) c (number_of s) (first_removal e.dels) n) (place_of c r)) % 2 ^ 64
+        ≡ amount (has_occurred r c s && not (list_any (has_occurred r c) e.dels)) n % 2 ^ 64
+    go (Acked s d) p = p ∙ ap (λ b. amount ((nat_le s r || nat_eq d c) && not b) n % 2 ^ 64) (sym (any-occurred r c e.dels h2))
+    go (Local k) p =
+        let late : nat_le (2 ^ 64) r ≡ false = grind (arith, nat_tests) in
+        p ∙ ap (λ b. amount ((b || false) && not (nat_le (first_removal e.dels) r || list_any (is_by c) e.dels)) n % 2 ^ 64) late
 
-pub removers_none : (old : List Step) (from to by : ℕ) → RaisesRemovers old old [] from to by
-removers_none old from to by r c hr hc = raised_by_none old (place_of c r)
+-- connections that made none of the stamps have no change
+none_case : (b a : Bool) (c s g n k : ℕ) → (a || b) ≡ false → span_value (row_change b a c s g n) k ≡ 0
+none_case true true c s g n k h = cc
+none_case true false c s g n k h = cc
+none_case false true c s g n k h = cc
+none_case false false c s g n k h = grind (arith, nat_tests)
+
+covered_case : (t u : Bool) (v : ℕ) → (u ≡ true → t ≡ true) → (u ≡ false → v ≡ 0) → amount t v ≡ v
+covered_case true u v h1 h2 = refl
+covered_case false true v h1 h2 = cc (h1 refl)
+covered_case false false v h1 h2 = sym (h2 refl)
+
+pub covered : (stamps : List Stamp) (e : Element) (n r c : ℕ) → Covers stamps e → amount (list_any (is_by c) stamps) (row_value e n c r) ≡ row_value e n c r
+covered stamps e n r c covers =
+    covered_case (list_any (is_by c) stamps) (is_by c e.ins || list_any (is_by c) e.dels) (row_value e n c r) (covers c)
+    (none_case (list_any (is_by c) e.dels) (is_by c e.ins) c (number_of e.ins) (first_removal e.dels) n (place_of c r))
+
+-- equal connections made stamps alike
+same_by : (d c : ℕ) (stamps : List Stamp) → nat_eq d c ≡ true → list_any (is_by d) stamps ≡ list_any (is_by c) stamps
+same_by d c stamps e = let same : d ≡ c = grind (arith, nat_tests) in ap (λ x. list_any (is_by x) stamps) same
+
+-- one row exchanged
+exchanged_case : (old new : List Step) (before : List Stamp) (s d r c : ℕ) (e f : Element) (n m : ℕ) (t : Bool) → nat_eq d c ≡ t → r < 2 ^ 64
+    → number_of e.ins ≤ 2 ^ 64 → number_of f.ins ≤ 2 ^ 64
+    → list_any (is_by d) before ≡ false → ExchangesSpan old new (row_span e n d) (row_span f m d)
+    → (value_at new (place_of c r) + amount (not (list_any (is_by c) before) && t) (row_value e n c r)) % 2 ^ 64
+    ≡ (value_at old (place_of c r) + amount (not (list_any (is_by c) before) && t) (row_value f m c r)) % 2 ^ 64
+exchanged_case old new before s d r c e f n m true h hr he hf none change =
+    let same : d ≡ c = grind (arith, nat_tests) in
+    let free : list_any (is_by c) before ≡ false = sym (same_by d c before h) ∙ none in
+    let P : ℕ → Type 0 = λ x. ExchangesSpan old new (row_span e n x) (row_span f m x) in
+    let here = subst P same change (place_of c r) in
+    ap (λ b. (value_at new (place_of c r) + amount (not b && true) (row_value e n c r)) % 2 ^ 64) free
+    ∙ here ∙ ap (λ b. (value_at old (place_of c r) + amount (not b && true) (row_value f m c r)) % 2 ^ 64) (sym free)
+exchanged_case old new before s d r c e f n m false h hr he hf none change =
+    let away = change (place_of c r) in
+    let first = row_apart e n d c r he hr h in
+    let second = row_apart f m d c r hf hr h in
+    let never : (not (list_any (is_by c) before) && false) ≡ false = and_false (not (list_any (is_by c) before)) in
+    ap (λ b. (value_at new (place_of c r) + amount b (row_value e n c r)) % 2 ^ 64) never
+    ∙ (omega arith) ∙ ap (λ b. (value_at old (place_of c r) + amount b (row_value f m c r)) % 2 ^ 64) (sym never)
+  where
+    and_false : (b : Bool) → (b && false) ≡ false
+    and_false true = refl
+    and_false false = refl
+
+pub row_exchanged : (old new : List Step) (before : List Stamp) (s d : ℕ) (e f : Element) (n m : ℕ) → number_of e.ins ≤ 2 ^ 64 → number_of f.ins ≤ 2 ^ 64
+    → list_any (is_by d) before ≡ false → ExchangesSpan old new (row_span e n d) (row_span f m d) → ExchangesRow old new before (Acked s d) e n f m
+row_exchanged old new before s d e f n m he hf none change r c hr hc = exchanged_case old new before s d r c e f n m (nat_eq d c) refl hr he hf none change
+
+-- nothing to be done
+unchanged : (t : Bool) (v x y : ℕ) → t ≡ false → (v + amount t x) % 2 ^ 64 ≡ (v + amount t y) % 2 ^ 64
+unchanged t v x y h = ap (λ b. (v + amount b x) % 2 ^ 64) h ∙ ap (λ b. (v + amount b y) % 2 ^ 64) (sym h)
+
+done_before : (b t : Bool) → (t ≡ true → b ≡ true) → (not b && t) ≡ false
+done_before true t h = refl
+done_before false true h = cc (h refl)
+done_before false false h = refl
+
+pub row_done : (old : List Step) (before : List Stamp) (s d : ℕ) (e f : Element) (n m : ℕ) → list_any (is_by d) before ≡ true → ExchangesRow old old before (Acked s d) e n f m
+row_done old before s d e f n m some r c hr hc =
+    unchanged (not (list_any (is_by c) before) && nat_eq d c) (value_at old (place_of c r)) (row_value e n c r) (row_value f m c r)
+    (done_before (list_any (is_by c) before) (nat_eq d c) (λ h. sym (same_by d c before h) ∙ some))
+
+pub row_pending : (old : List Step) (before : List Stamp) (k : ℕ) (e f : Element) (n m : ℕ) → ExchangesRow old old before (Local k) e n f m
+row_pending old before k e f n m r c hr hc =
+    unchanged (not (list_any (is_by c) before) && false) (value_at old (place_of c r)) (row_value e n c r) (row_value f m c r)
+    (done_before (list_any (is_by c) before) false (λ h. cc))
+
+pub rows_none : (old : List Step) (e f : Element) (n m : ℕ) → ExchangesRows old old [] e n f m
+rows_none old e f n m r c hr hc = refl
 
 any-more : (p : Stamp → Bool) (xs : List Stamp) (i : ℕ) (d : Stamp) → i < length xs
     → list_any p (take (i + 1) xs) ≡ (list_any p (take i xs) || p (get_or xs i d))
 any-more p xs i d h = grind (arith, common_steps)
 
-pub removers_more : (old now new : List Step) (dels first : List Stamp) (i : ℕ) (z : Stamp) (from to by : ℕ) → i < length dels → first ≡ take i dels
-    → RaisesRemovers old now (take i dels) from to by → RaisesRemover now new first (get_or dels i z) from to by
-    → RaisesRemovers old new (take (i + 1) dels) from to by
-removers_more old now new dels first i z from to by h e before one r c hr hc =
-    grind (arith, any-more (is_by c) dels i z h, ap (λ xs. list_any (is_by c) xs) e, before r c hr hc, one r c hr hc)
+two_steps : (a b : Bool) (vn vk vo x y : ℕ) → (vk + amount a x) % 2 ^ 64 ≡ (vo + amount a y) % 2 ^ 64 → (vn + amount (not a && b) x) % 2 ^ 64 ≡ (vk + amount (not a && b) y) % 2 ^ 64
+    → (vn + amount (a || b) x) % 2 ^ 64 ≡ (vo + amount (a || b) y) % 2 ^ 64
+two_steps true b vn vk vo x y h1 h2 = omega arith
+two_steps false true vn vk vo x y h1 h2 = omega arith
+two_steps false false vn vk vo x y h1 h2 = omega arith
 
--- what everybody sees, what the removers don't, and what the maker sees early make up what is seen
-parts : (s d g r c by less : ℕ) (b a : Bool) → (nat_eq d c ≡ true → a ≡ b) → by < 2 ^ 64 → (less + by) % 2 ^ 64 ≡ 0
-    → (amount (within s g r) by + (amount (b && within s g r) less + amount (not a && (nat_eq d c && within 0 (min g s) r)) by)) % 2 ^ 64
-    ≡ amount ((nat_le s r || nat_eq d c) && not (nat_le g r || b)) by % 2 ^ 64
-parts s d g r c by less true true e h1 h2 = grind (arith, nat_tests)
-parts s d g r c by less true false e h1 h2 = grind (arith, nat_tests)
-parts s d g r c by less false true e h1 h2 = grind (arith, nat_tests)
-parts s d g r c by less false false e h1 h2 = grind (arith, nat_tests)
+-- a stamp more
+pub rows_more : (old now new : List Step) (stamps first : List Stamp) (i : ℕ) (z : Stamp) (e f : Element) (n m : ℕ) → i < length stamps → first ≡ take i stamps
+    → ExchangesRows old now (take i stamps) e n f m → ExchangesRow now new first (get_or stamps i z) e n f m
+    → ExchangesRows old new (take (i + 1) stamps) e n f m
+rows_more old now new stamps first i z e f n m h es before one r c hr hc =
+    let F : List Stamp → Type 0 = λ xs. ExchangesRow now new xs (get_or stamps i z) e n f m in
+    let more = any-more (is_by c) stamps i z h in
+    let step = two_steps (list_any (is_by c) (take i stamps)) (is_by c (get_or stamps i z)) (value_at new (place_of c r)) (value_at now (place_of c r)) (value_at old (place_of c r))
+    (row_value e n c r) (row_value f m c r) (before r c hr hc) (subst F es one r c hr hc) in
+    ap (λ b. (value_at new (place_of c r) + amount b (row_value e n c r)) % 2 ^ 64) more
+    ∙ step ∙ ap (λ b. (value_at old (place_of c r) + amount b (row_value f m c r)) % 2 ^ 64) (sym more)
 
-combine : (hn ho hm a b c t : ℕ) → hn ≡ (hm + c) % 2 ^ 64 → hm ≡ (ho + b) % 2 ^ 64 → (a + (b + c)) % 2 ^ 64 ≡ t % 2 ^ 64 → (hn + a) % 2 ^ 64 ≡ (ho + t) % 2 ^ 64
-combine hn ho hm a b c t e1 e2 e3 = omega arith
+or_four : (a b c d : Bool) → ((b || a) ≡ true → (((a || (b || false)) || c) || (d || false)) ≡ true) × ((d || c) ≡ true → (((a || (b || false)) || c) || (d || false)) ≡ true)
+or_four true b c d = (λ h. refl, λ h. refl)
+or_four false true c d = (λ h. refl, λ h. refl)
+or_four false false true d = (λ h. refl, λ h. refl)
+or_four false false false true = (λ h. refl, λ h. refl)
+or_four false false false false = (λ h. h, λ h. h)
 
--- the rows' changes add up, where `early` is the change of the maker's row
-own_parts : (old now new : List Step) (s d : ℕ) (dels : List Stamp) (by less : ℕ) → by < 2 ^ 64 → (less + by) % 2 ^ 64 ≡ 0
-    → RaisesRemovers old now dels s (first_removal dels) less
-    → ((r c : ℕ) → r < 2 ^ 64 → c < 2 ^ 32 → value_at new (place_of c r)
-    ≡ (value_at now (place_of c r) + amount (not (list_any (is_by d) dels) && (nat_eq d c && within 0 (min (first_removal dels) s) r)) by) % 2 ^ 64)
-    → RaisesOwn old new (Acked s d) dels by
-own_parts old now new s d dels by less h1 h2 removers early r c hr hc =
-    let g = first_removal dels in
-    let all = parts s d g r c by less (list_any (is_by c) dels) (list_any (is_by d) dels) (same_by d c dels) h1 h2 in
-    combine (value_at new (place_of c r)) (value_at old (place_of c r)) (value_at now (place_of c r)) _ _ _ _
-    (early r c hr hc) (removers r c hr hc)
-    (all ∙ ap (λ b. amount ((nat_le s r || nat_eq d c) && not b) by % 2 ^ 64) (sym (any-occurred r c dels hr)))
-
--- the maker is no remover
-pub own_raised : (old now new : List Step) (s d : ℕ) (dels : List Stamp) (by less g m : ℕ) → s < 2 ^ 64 → by < 2 ^ 64 → (less + by) % 2 ^ 64 ≡ 0
-    → g ≡ first_removal dels → m ≡ min g s → RaisesRemovers old now dels s g less → list_any (is_by d) dels ≡ false
-    → Raises now new (row_span d 0 m by) → RaisesOwn old new (Acked s d) dels by
-own_raised old now new s d dels by less g m h1 h2 h3 eg em removers none raises =
-    let R : ℕ → Type 0 = λ x. RaisesRemovers old now dels s x less in
-    let T : ℕ → Type 0 = λ x. Raises now new (row_span d 0 x by) in
-    let low : m ≡ min (first_removal dels) s = em ∙ ap (λ x. min x s) eg in
-    own_parts old now new s d dels by less h2 h3 (subst R eg removers) (early (subst T low raises))
+-- the stamps of two elements
+pub cover_both : (e f : Element) (stamps : List Stamp) → stamps ≡ ((e.dels ++ (e.ins ∷ [])) ++ f.dels) ++ (f.ins ∷ []) → Covers stamps e × Covers stamps f
+cover_both e f stamps es = (
+  λ c h. is c ∙ (or_four (list_any (is_by c) e.dels) (is_by c e.ins) (list_any (is_by c) f.dels) (is_by c f.ins)).0 h,
+  λ c h. is c ∙ (or_four (list_any (is_by c) e.dels) (is_by c e.ins) (list_any (is_by c) f.dels) (is_by c f.ins)).1 h,
+)
   where
-    early : Raises now new (row_span d 0 (min (first_removal dels) s) by) → (r c : ℕ) → r < 2 ^ 64 → c < 2 ^ 32 → value_at new (place_of c r)
-        ≡ (value_at now (place_of c r) + amount (not (list_any (is_by d) dels) && (nat_eq d c && within 0 (min (first_removal dels) s) r)) by) % 2 ^ 64
-    early raised r c hr hc =
-        let up : min (first_removal dels) s ≤ 2 ^ 64 = omega arith in
-        let inside = within-place d c 0 (min (first_removal dels) s) r (omega arith) up hr in
-        raised (place_of c r)
-        ∙ ap (λ b. (value_at now (place_of c r) + amount b by) % 2 ^ 64) (inside ∙ sym (ap (λ b. not b && (nat_eq d c && within 0 (min (first_removal dels) s) r)) none))
-
--- the maker is a remover
-pub own_kept : (old new : List Step) (s d : ℕ) (dels : List Stamp) (by less g : ℕ) → by < 2 ^ 64 → (less + by) % 2 ^ 64 ≡ 0
-    → g ≡ first_removal dels → RaisesRemovers old new dels s g less → list_any (is_by d) dels ≡ true → RaisesOwn old new (Acked s d) dels by
-own_kept old new s d dels by less g h1 h2 eg removers some =
-    let R : ℕ → Type 0 = λ x. RaisesRemovers old new dels s x less in
-    own_parts old new new s d dels by less h1 h2 (subst R eg removers)
-    (λ r c hr hc. raised_by_none new (place_of c r)
-    ∙ ap (λ b. (value_at new (place_of c r) + amount b by) % 2 ^ 64) (sym (ap (λ b. not b && (nat_eq d c && within 0 (min (first_removal dels) s) r)) some)))
-
--- nobody sees a pending insertion
-pub own_local : (old : List Step) (k : ℕ) (dels : List Stamp) (by : ℕ) → RaisesOwn old old (Local k) dels by
-own_local old k dels by r c hr hc =
-    let never : within (2 ^ 64) (first_removal dels) r ≡ false = grind (arith, nat_tests) in
-    ap (λ b. (value_at old (place_of c r) + amount b by) % 2 ^ 64) never
+    is : (c : ℕ) → list_any (is_by c) stamps ≡ (((list_any (is_by c) e.dels || (is_by c e.ins || false)) || list_any (is_by c) f.dels) || (is_by c f.ins || false))
+    is c = ap (list_any (is_by c)) es ∙ list_any-append (is_by c) ((e.dels ++ (e.ins ∷ [])) ++ f.dels) (f.ins ∷ [])
+        ∙ ap (λ b. b || (is_by c f.ins || false)) (list_any-append (is_by c) (e.dels ++ (e.ins ∷ [])) f.dels
+        ∙ ap (λ b. b || list_any (is_by c) f.dels) (list_any-append (is_by c) e.dels (e.ins ∷ [])))

@@ -6,15 +6,15 @@ use Rattle.ft_base.specs.declared.stamps.Stamp.{Stamp}
 use Rattle.ft_base.specs.declared.stamps.Stamp.TheVariants.{Acked, Local}
 use Rattle.ft_base.specs.declared.elements.Element.{Element}
 use Rattle.ft_base.specs.Visibility.{has_occurred, sees}
-use Rattle.ft_base.specs.Scan.{within}
-use Rattle.ft_partial.specs.StepFunctions.{amount, value_at, span_value, Raises, ExchangesSpan}
-use Rattle.ft_partial.specs.Rows.{place_of, RaisesOwn}
+use Rattle.ft_partial.specs.StepFunctions.{amount, value_at, span_value, ExchangesSpan}
+use Rattle.ft_partial.specs.Rows.{place_of, common_span, row_value, ExchangesRows, Covers}
 use Rattle.ft_partial.specs.Items.{Item, item_of, length_where, seen, is_at_most, folded_stamp, folded_item, folded_items}
 use Rattle.ft_partial.specs.SameStamps.{ExchangesItem, SameByStamps}
-use Rattle.ft_partial.specs.Tables.{Lengths, length_at, common_span, StandsFor, Adds, Exchanges, AddsAll, SameFrom}
+use Rattle.ft_partial.specs.Tables.{Lengths, length_at, StandsFor, Adds, Exchanges, AddsAll, SameFrom}
 use Rattle.ft_partial.specs.declared.step_functions.Step.{Step}
 use Rattle.ft_partial.specs.declared.step_functions.Span.{Span}
 use Rattle.ft_partial.proofs.Values.{value_at-none}
+use Rattle.ft_partial.proofs.RowLemmas.{parts, covered}
 use Rattle.ft_partial.proofs.SumsByStamps.{same_sums}
 
 pub length_at-fits : (t : Lengths) (r c : ℕ) → length_at t r c < 2 ^ 64
@@ -48,57 +48,44 @@ pub stands-none : (t : Lengths) → t.common ≡ [] → t.own ≡ [] → StandsF
 unfolding length_at
 stands-none t common own r c hf hr hc = omega (arith, value_at-none t.common r common, value_at-none t.own (place_of c r) own)
 
-added : (vn wn vo wo a s : ℕ) → vn ≡ (vo + a) % 2 ^ 64 → (wn + a) % 2 ^ 64 ≡ (wo + s) % 2 ^ 64
-    → (vn + wn) % 2 ^ 64 ≡ ((vo + wo) % 2 ^ 64 + s) % 2 ^ 64
-added vn wn vo wo a s e1 e2 = omega arith
+exchanged : (vn wn vo wo a b x y s t : ℕ) → (vn + a) % 2 ^ 64 ≡ (vo + b) % 2 ^ 64 → (wn + x) % 2 ^ 64 ≡ (wo + y) % 2 ^ 64
+    → (a + x) % 2 ^ 64 ≡ s % 2 ^ 64 → (b + y) % 2 ^ 64 ≡ t % 2 ^ 64 → ((vn + wn) % 2 ^ 64 + s) % 2 ^ 64 ≡ ((vo + wo) % 2 ^ 64 + t) % 2 ^ 64
+exchanged vn wn vo wo a b x y s t e1 e2 e3 e4 = omega arith
 
--- both functions changed for one item more
-pub adds_item : (old new : Lengths) (e : Element) (n : ℕ) → Raises old.common new.common (common_span e n) → RaisesOwn old.own new.own e.ins e.dels n → Adds old new e n
+-- both functions changed
+exchanges_item : (old new : Lengths) (stamps : List Stamp) (e f : Element) (n m : ℕ) → n < 2 ^ 64 → m < 2 ^ 64 → Covers stamps e → Covers stamps f
+    → ExchangesSpan old.common new.common (common_span e n) (common_span f m) → ExchangesRows old.own new.own stamps e n f m → Exchanges old new e n f m
 unfolding length_at
-adds_item old new e n common own r c hr hc =
-    added (value_at new.common r) (value_at new.own (place_of c r)) (value_at old.common r) (value_at old.own (place_of c r)) (span_value (common_span e n) r) (amount (sees e r c) n)
-    (common r) (own r c hr hc)
+exchanges_item old new stamps e f n m hn hm ce cf common own r c hr hc =
+    let out = covered stamps e n r c ce in
+    let into = covered stamps f m r c cf in
+    let rows = own r c hr hc in
+    exchanged (value_at new.common r) (value_at new.own (place_of c r)) (value_at old.common r) (value_at old.own (place_of c r))
+    (span_value (common_span e n) r) (span_value (common_span f m) r) (row_value e n c r) (row_value f m c r) (amount (sees e r c) n) (amount (sees f r c) m)
+    (common r) (omega (arith, rows, out, into)) (parts e n r c hn hr) (parts f m r c hm hr)
 
 -- the same in the words of the code
-pub adds_item_at : (old new : Lengths) (common own : List Step) (span : Span) (e : Element) (dels : List Stamp) (n : ℕ)
-    → common ≡ old.common → own ≡ old.own → span ≡ common_span e n → dels ≡ e.dels
-    → Raises common new.common span → RaisesOwn own new.own e.ins dels n → Adds old new e n
-adds_item_at old new common own span e dels n ec eo es ed raises raises_own =
-    let A : List Step → Type 0 = λ xs. Raises xs new.common span in
-    let S : Span → Type 0 = λ s. Raises old.common new.common s in
-    let O : List Step → Type 0 = λ xs. RaisesOwn xs new.own e.ins dels n in
-    let D : List Stamp → Type 0 = λ xs. RaisesOwn old.own new.own e.ins xs n in
-    adds_item old new e n (subst S es (subst A ec raises)) (subst D ed (subst O eo raises_own))
-
-undone : (b : Bool) (less n : ℕ) → (less + n) % 2 ^ 64 ≡ 0 → (amount b less + amount b n) % 2 ^ 64 ≡ 0
-undone true less n h = h
-undone false less n h = refl
-
-exchanged : (vn wn vo wo wm a b al s sl t : ℕ) → (vn + a) % 2 ^ 64 ≡ (vo + b) % 2 ^ 64 → (wm + al) % 2 ^ 64 ≡ (wo + sl) % 2 ^ 64 → (wn + b) % 2 ^ 64 ≡ (wm + t) % 2 ^ 64
-    → (al + a) % 2 ^ 64 ≡ 0 → (sl + s) % 2 ^ 64 ≡ 0 → ((vn + wn) % 2 ^ 64 + s) % 2 ^ 64 ≡ ((vo + wo) % 2 ^ 64 + t) % 2 ^ 64
-exchanged vn wn vo wo wm a b al s sl t e1 e2 e3 e4 e5 = omega arith
-
--- both functions changed for one item in the place of another
-pub exchanges_item : (old new : Lengths) (mid : List Step) (e f : Element) (n less m : ℕ) → (less + n) % 2 ^ 64 ≡ 0
-    → ExchangesSpan old.common new.common (common_span e n) (common_span f m) → RaisesOwn old.own mid e.ins e.dels less → RaisesOwn mid new.own f.ins f.dels m → Exchanges old new e n f m
-unfolding length_at
-exchanges_item old new mid e f n less m h common out into r c hr hc =
-    exchanged (value_at new.common r) (value_at new.own (place_of c r)) (value_at old.common r) (value_at old.own (place_of c r)) (value_at mid (place_of c r))
-    (span_value (common_span e n) r) (span_value (common_span f m) r) (span_value (common_span e less) r) (amount (sees e r c) n) (amount (sees e r c) less) (amount (sees f r c) m)
-    (common r) (out r c hr hc) (into r c hr hc) (undone (within (common_span e n).from (common_span e n).to r) less n h) (undone (sees e r c) less n h)
-
--- the same in the words of the code
-pub exchanges_item_at : (old new : Lengths) (common own mid : List Step) (span new_span : Span) (e f : Element) (dels new_dels : List Stamp) (n less m : ℕ) → (less + n) % 2 ^ 64 ≡ 0
-    → common ≡ old.common → own ≡ old.own → span ≡ common_span e n → new_span ≡ common_span f m → dels ≡ e.dels → new_dels ≡ f.dels
-    → ExchangesSpan common new.common span new_span → RaisesOwn own mid e.ins dels less → RaisesOwn mid new.own f.ins new_dels m → Exchanges old new e n f m
-exchanges_item_at old new common own mid span new_span e f dels new_dels n less m h ec eo es et ed ef exchange out into =
+pub exchanges_item_at : (old new : Lengths) (stamps : List Stamp) (common own : List Step) (span new_span : Span) (e f : Element) (n m : ℕ) → n < 2 ^ 64 → m < 2 ^ 64
+    → Covers stamps e → Covers stamps f → common ≡ old.common → own ≡ old.own → span ≡ common_span e n → new_span ≡ common_span f m
+    → ExchangesSpan common new.common span new_span → ExchangesRows own new.own stamps e n f m → Exchanges old new e n f m
+exchanges_item_at old new stamps common own span new_span e f n m hn hm ce cf ec eo es et exchange rows =
     let A : List Step → Type 0 = λ xs. ExchangesSpan xs new.common span new_span in
     let S : Span → Type 0 = λ s. ExchangesSpan old.common new.common s new_span in
     let T : Span → Type 0 = λ s. ExchangesSpan old.common new.common (common_span e n) s in
-    let O : List Step → Type 0 = λ xs. RaisesOwn xs mid e.ins dels less in
-    let D : List Stamp → Type 0 = λ xs. RaisesOwn old.own mid e.ins xs less in
-    let F : List Stamp → Type 0 = λ xs. RaisesOwn mid new.own f.ins xs m in
-    exchanges_item old new mid e f n less m h (subst T et (subst S es (subst A ec exchange))) (subst D ed (subst O eo out)) (subst F ef into)
+    let O : List Step → Type 0 = λ xs. ExchangesRows xs new.own stamps e n f m in
+    exchanges_item old new stamps e f n m hn hm ce cf (subst T et (subst S es (subst A ec exchange))) (subst O eo rows)
+
+amount-zero : (b : Bool) → amount b 0 ≡ 0
+amount-zero true = refl
+amount-zero false = refl
+
+-- elements put in the place of none of them
+pub adds_item : (old new : Lengths) (e : Element) (n : ℕ) → Exchanges old new e 0 e n → Adds old new e n
+adds_item old new e n exchanges r c hr hc =
+    let sum = exchanges r c hr hc in
+    let fits = length_at-fits new r c in
+    let none = amount-zero (sees e r c) in
+    omega arith
 
 pub adds_all : (old other new : Lengths) → ((k : ℕ) → value_at new.common k ≡ (value_at old.common k + value_at other.common k) % 2 ^ 64)
     → ((k : ℕ) → value_at new.own k ≡ (value_at old.own k + value_at other.own k) % 2 ^ 64) → AddsAll old other new

@@ -1,14 +1,16 @@
 -- How far what a connection sees of an element differs from what those see who made none of its stamps.
 --     first_removal dels      from this sequence number on everybody sees the removal
 --     place_of c k      where the row of connection c has its value for the sequence number k
-use Rattle.std.specs.Prelude.{◌≡◌, ℕ, ◌+◌, ◌*◌, ◌<◌, ◌%◌, ◌^◌, Bool, false, ◌&&◌, not, nat_eq, min, List, [], ◌∷◌}
+--     common_span e n      the change that n elements make for those who made none of their stamps
+--     row_span e n c      the change that they make in the row of connection c
+use Rattle.std.specs.Prelude.{◌≡◌, ℕ, ◌+◌, ◌*◌, ◌-◌, ◌<◌, ◌%◌, ◌^◌, Bool, true, false, ◌&&◌, ◌||◌, not, nat_eq, min, List, [], ◌∷◌}
 use Rattle.std.specs.List.{list_any}
 use Rattle.ft_base.specs.declared.stamps.Stamp.{Stamp}
 use Rattle.ft_base.specs.declared.stamps.Stamp.TheVariants.{Acked, Local}
-use Rattle.ft_base.specs.Visibility.{sees}
-use Rattle.ft_base.specs.Scan.{within}
+use Rattle.ft_base.specs.declared.elements.Element.{Element}
 use Rattle.ft_partial.specs.declared.step_functions.Step.{Step}
-use Rattle.ft_partial.specs.StepFunctions.{value_at, amount}
+use Rattle.ft_partial.specs.declared.step_functions.Span.{Span}
+use Rattle.ft_partial.specs.StepFunctions.{value_at, amount, span_value}
 
 -- the sequence number of a stamp, or 2 ^ 64 where it is pending
 abbrev pub number_of : Stamp → ℕ
@@ -29,18 +31,36 @@ is_by c (Local stage) = false
 abbrev pub place_of : ℕ → ℕ → ℕ
 place_of c k = c * 2 ^ 64 + k
 
--- the row of the remover, if it isn't one of those before, is higher by n from a up to before b
-abbrev pub RaisesRemover : List Step → List Step → List Stamp → Stamp → ℕ → ℕ → ℕ → Type 0
-RaisesRemover old new before stamp a b n = (r c : ℕ) → r < 2 ^ 64 → c < 2 ^ 32
-    → value_at new (place_of c r) ≡ (value_at old (place_of c r) + amount (not (list_any (is_by c) before) && is_by c stamp && within a b r) n) % 2 ^ 64
+-- the change that n elements make for those who made none of their stamps
+abbrev pub common_span : Element → ℕ → Span
+common_span e n = record { from = number_of e.ins; to = first_removal e.dels; by = n }
 
--- the row of each remover is higher by n from a up to before b
-abbrev pub RaisesRemovers : List Step → List Step → List Stamp → ℕ → ℕ → ℕ → Type 0
-RaisesRemovers old new dels a b n = (r c : ℕ) → r < 2 ^ 64 → c < 2 ^ 32
-    → value_at new (place_of c r) ≡ (value_at old (place_of c r) + amount (list_any (is_by c) dels && within a b r) n) % 2 ^ 64
+-- the change in the row of connection c by n elements inserted at s and first removed at g, where c is one of their removers, or else their maker, or neither
+abbrev pub row_change : Bool → Bool → ℕ → ℕ → ℕ → ℕ → Span
+row_change true is_maker c s g n = record { from = place_of c s; to = place_of c g; by = (2 ^ 64 - n) % 2 ^ 64 }
+row_change false true c s g n = record { from = place_of c 0; to = place_of c (min g s); by = n }
+row_change false false c s g n = record { from = 0; to = 0; by = 0 }
 
--- each row is higher by n where its connection sees the element, and lower by n where those see it who made none of its stamps
-abbrev pub RaisesOwn : List Step → List Step → Stamp → List Stamp → ℕ → Type 0
-RaisesOwn old new ins dels n = (r c : ℕ) → r < 2 ^ 64 → c < 2 ^ 32
-    → (value_at new (place_of c r) + amount (within (number_of ins) (first_removal dels) r) n) % 2 ^ 64
-    ≡ (value_at old (place_of c r) + amount (sees record { ins = ins; dels = dels } r c) n) % 2 ^ 64
+-- the change that n elements make in the row of connection c
+abbrev pub row_span : Element → ℕ → ℕ → Span
+row_span e n c = row_change (list_any (is_by c) e.dels) (is_by c e.ins) c (number_of e.ins) (first_removal e.dels) n
+
+-- what n elements add to the row of connection c at the sequence number r
+abbrev pub row_value : Element → ℕ → ℕ → ℕ → ℕ
+row_value e n c r = span_value (row_span e n c) (place_of c r)
+
+-- the row of the stamp's connection, if it made none of the stamps before, has m elements f in the place of n elements e
+abbrev pub ExchangesRow : List Step → List Step → List Stamp → Stamp → Element → ℕ → Element → ℕ → Type 0
+ExchangesRow old new before stamp e n f m = (r c : ℕ) → r < 2 ^ 64 → c < 2 ^ 32
+    → (value_at new (place_of c r) + amount (not (list_any (is_by c) before) && is_by c stamp) (row_value e n c r)) % 2 ^ 64
+    ≡ (value_at old (place_of c r) + amount (not (list_any (is_by c) before) && is_by c stamp) (row_value f m c r)) % 2 ^ 64
+
+-- the rows of all connections that made one of the stamps have m elements f in the place of n elements e
+abbrev pub ExchangesRows : List Step → List Step → List Stamp → Element → ℕ → Element → ℕ → Type 0
+ExchangesRows old new stamps e n f m = (r c : ℕ) → r < 2 ^ 64 → c < 2 ^ 32
+    → (value_at new (place_of c r) + amount (list_any (is_by c) stamps) (row_value e n c r)) % 2 ^ 64
+    ≡ (value_at old (place_of c r) + amount (list_any (is_by c) stamps) (row_value f m c r)) % 2 ^ 64
+
+-- each connection that made a stamp of the element made one of these
+abbrev pub Covers : List Stamp → Element → Type 0
+Covers stamps e = (c : ℕ) → (is_by c e.ins || list_any (is_by c) e.dels) ≡ true → list_any (is_by c) stamps ≡ true

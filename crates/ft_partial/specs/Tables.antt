@@ -5,9 +5,8 @@ use Rattle.std.specs.Prelude.{◌≡◌, ℕ, ◌+◌, ◌<◌, ◌≤◌, ◌%�
 use Rattle.ft_base.specs.declared.elements.Element.{Element}
 use Rattle.ft_base.specs.Visibility.{sees}
 use Rattle.ft_partial.specs.declared.step_functions.Step.{Step}
-use Rattle.ft_partial.specs.declared.step_functions.Span.{Span}
 use Rattle.ft_partial.specs.StepFunctions.{value_at, amount}
-use Rattle.ft_partial.specs.Rows.{number_of, first_removal, place_of}
+use Rattle.ft_partial.specs.Rows.{place_of}
 use Rattle.ft_partial.specs.Items.{Item, seen}
 
 -- a table: its floor, what those see who made none of the stamps, and how far each connection's own stamps change that
@@ -19,10 +18,6 @@ pub record Lengths : Type 0 where
 -- the length for the perspective (r, c)
 unfoldable pub length_at : Lengths → ℕ → ℕ → ℕ
 length_at t r c = (value_at t.common r + value_at t.own (place_of c r)) % 2 ^ 64
-
--- the change that n elements of these stamps make for those who made none of the stamps
-abbrev pub common_span : Element → ℕ → Span
-common_span e n = record { from = number_of e.ins; to = first_removal e.dels; by = n }
 
 -- from the floor up each perspective sees that much of the items, round 2 ^ 64
 abbrev pub StandsFor : Lengths → List Item → Type 0

@@ -8,18 +8,21 @@
 
 ghost use Rattle.std.specs.Prelude.{◌≡◌, ◌+◌, ◌*◌, ◌≤◌, ◌^◌, length};
 ghost use Rattle.std.specs.List.{list_any};
-ghost use Rattle.ft_partial.specs.Rows.{number_of, first_removal, is_by, place_of, RaisesRemover, RaisesRemovers, RaisesOwn};
-ghost use Rattle.ft_partial.specs.StepFunctions.{Raises};
+ghost use Rattle.ft_partial.specs.Rows.{number_of, first_removal, is_by, place_of, common_span, row_span, ExchangesRow, ExchangesRows};
 
 use crate::step_functions::{Span, StepFunction};
-use ft_base::Stamp;
+use ft_base::{Element, Stamp};
 
 /// How many places a row has, and the number of a pending stamp: more than any sequence number.
 const ROW: u128 = 18446744073709551616;
 
+/// How many changes `exchange_rows` may make for each stamp.
+pub const CHANGES: usize = 3;
+
 /// The sequence number of a stamp, or 2^64 where it is pending.
-pub fn number_of(stamp: &Stamp) -> u128
-    ensures { result ≡ number_of stamp.now }
+fn number_of(stamp: &Stamp) -> u128
+    ensures number { result ≡ number_of stamp.now }
+    ensures fits { result ≤ 2 ^ 64 }
 {
     match stamp {
         Stamp::Acked { seq, .. } => *seq as u128,
@@ -29,7 +32,7 @@ pub fn number_of(stamp: &Stamp) -> u128
 
 /// The least sequence number of a removal, or 2^64 where none is sequenced.
 #[tactic(auto, using(crate::proofs::RowLemmas::removal_bounds))]
-pub fn first_removal(dels: &[Stamp]) -> u128
+fn first_removal(dels: &[Stamp]) -> u128
     ensures { result ≡ first_removal dels.now }
 {
     let mut first = ROW;
@@ -39,14 +42,21 @@ pub fn first_removal(dels: &[Stamp]) -> u128
     first
 }
 
-/// Whether one of the removals is by the connection.
-fn is_any_by(dels: &[Stamp], conn: u32) -> bool
-    ensures { result ≡ list_any (is_by conn) dels.now }
+/// Whether the stamp is sequenced, and by this connection.
+fn is_by(stamp: &Stamp, conn: u32) -> bool
+    ensures { result ≡ is_by conn stamp.now }
 {
-    dels.iter().any(|stamp| match stamp {
-        Stamp::Acked { conn: remover, .. } => *remover == conn,
+    match stamp {
+        Stamp::Acked { conn: maker, .. } => *maker == conn,
         Stamp::Local { .. } => false,
-    })
+    }
+}
+
+/// Whether one of the stamps is by the connection.
+fn is_any_by(stamps: &[Stamp], conn: u32) -> bool
+    ensures { result ≡ list_any (is_by conn) stamps.now }
+{
+    stamps.iter().any(|stamp| is_by(stamp, conn))
 }
 
 /// Where the row of a connection has its value for a sequence number.
@@ -57,73 +67,82 @@ pub fn place_of(conn: u32, number: u128) -> u128
     conn as u128 * ROW + number
 }
 
-/// Raises a connection's row from one number up to before another.
-fn raise_row(own: &mut StepFunction, conn: u32, from: u128, to: u128, by: u64)
-    requires from { from ≤ 2 ^ 64 }
-    requires to { to ≤ 2 ^ 64 }
-    requires room { 1 ≤ own.old.room }
-    ensures raises { Raises own.old.steps own.new.steps record { from = place_of conn from; to = place_of conn to; by = by } }
-    ensures room { own.old.room ≤ own.new.room + 1 }
+/// The change that `len` elements make for those who made none of their stamps.
+pub fn common_span(e: &Element, len: u64) -> Span
+    ensures { result ≡ common_span e.now len }
 {
-    own.raise(Span {
-        from: place_of(conn, from),
-        to: place_of(conn, to),
-        by,
-    });
+    Span {
+        from: number_of(&e.ins),
+        to: first_removal(e.dels.as_slice()),
+        by: len,
+    }
 }
 
-/// Raises the remover's row, if it isn't one of those before.
-fn raise_remover(
+/// The change that `len` elements make in a connection's row.
+#[tactic(auto, using(crate::proofs::RowLemmas::removal_bounds))]
+fn row_span(e: &Element, len: u64, conn: u32) -> Span
+    ensures span { result ≡ row_span e.now len conn }
+    ensures fits { number_of e.now.ins ≤ 2 ^ 64 }
+{
+    let dels = e.dels.as_slice();
+    let inserted = number_of(&e.ins);
+    let removed = first_removal(dels);
+    if is_any_by(dels, conn) {
+        return Span {
+            from: place_of(conn, inserted),
+            to: place_of(conn, removed),
+            by: 0u64.wrapping_sub(len),
+        };
+    }
+    if is_by(&e.ins, conn) {
+        return Span {
+            from: place_of(conn, 0),
+            to: place_of(conn, removed.min(inserted)),
+            by: len,
+        };
+    }
+    Span {
+        from: 0,
+        to: 0,
+        by: 0,
+    }
+}
+
+/// Exchanges elements in the row of the stamp's connection, if it made none of the stamps before.
+fn exchange_row(
     own: &mut StepFunction,
     before: &[Stamp],
     stamp: Stamp,
-    from: u64,
-    to: u128,
-    by: u64,
+    e: &Element,
+    len: u64,
+    new: &Element,
+    new_len: u64,
 )
-    requires to { to ≤ 2 ^ 64 }
-    requires room { 1 ≤ own.old.room }
-    ensures raises { RaisesRemover own.old.steps own.new.steps before.now stamp from to by }
-    ensures room { own.old.room ≤ own.new.room + 1 }
+    requires { 3 ≤ own.old.room }
+    ensures exchanges { ExchangesRow own.old.steps own.new.steps before.now stamp e.now len new.now new_len }
+    ensures room { own.old.room ≤ own.new.room + 3 }
 {
-    match stamp {
-        Stamp::Acked { conn, .. } => {
-            if !is_any_by(before, conn) {
-                raise_row(own, conn, from as u128, to, by);
-            }
+    if let Stamp::Acked { seq: _, conn } = stamp {
+        if !is_any_by(before, conn) {
+            own.exchange(row_span(e, len, conn), row_span(new, new_len, conn));
         }
-        Stamp::Local { .. } => {}
     }
 }
 
-/// Raises the row of each remover, once each.
-fn raise_removers(own: &mut StepFunction, dels: &[Stamp], from: u64, to: u128, by: u64)
-    requires to { to ≤ 2 ^ 64 }
-    requires room { length dels.now ≤ own.old.room }
-    ensures raises { RaisesRemovers own.old.steps own.new.steps dels.now from to by }
-    ensures room { own.old.room ≤ own.new.room + length dels.now }
+/// Takes `len` elements of the stamps `e` out of the rows of all connections that made one of the
+/// stamps, and puts `new_len` of the stamps `new` in. It takes no memory.
+pub fn exchange_rows(
+    own: &mut StepFunction,
+    stamps: &[Stamp],
+    e: &Element,
+    len: u64,
+    new: &Element,
+    new_len: u64,
+)
+    requires { 3 * length stamps.now ≤ own.old.room }
+    ensures { ExchangesRows own.old.steps own.new.steps stamps.now e.now len new.now new_len }
 {
-    for i in 0..dels.len() {
-        raise_remover(own, &dels[..i], dels[i], from, to, by);
-    }
-}
-
-#[tactic(auto, using(crate::proofs::RowLemmas::removal_bounds))]
-/// Adds what each connection sees of `by` elements with these stamps beyond what those see who made
-/// none of the stamps. It takes no memory.
-pub fn raise_own(own: &mut StepFunction, ins: Stamp, dels: &[Stamp], by: u64)
-    requires room { length dels.now + 1 ≤ own.old.room }
-    ensures raises { RaisesOwn own.old.steps own.new.steps ins dels.now by }
-    ensures room { own.old.room ≤ own.new.room + (length dels.now + 1) }
-{
-    match ins {
-        Stamp::Acked { seq, conn } => {
-            let first = first_removal(dels);
-            raise_removers(own, dels, seq, first, 0u64.wrapping_sub(by));
-            if !is_any_by(dels, conn) {
-                raise_row(own, conn, 0, first.min(seq as u128), by);
-            }
-        }
-        Stamp::Local { .. } => {}
+    for i in 0..stamps.len() {
+        exchange_row(own, &stamps[..i], stamps[i], e, len, new, new_len);
     }
 }

@@ -93,8 +93,9 @@ impl StepFunction {
     /// Takes one change back and makes another. It looks only at the steps where the two differ. It
     /// takes no memory.
     pub fn exchange(&mut self, old: Span, new: Span)
-        requires { 5 ≤ self.old.room }
-        ensures { ExchangesSpan self.old.steps self.new.steps old new }
+        requires { 3 ≤ self.old.room }
+        ensures exchanges { ExchangesSpan self.old.steps self.new.steps old new }
+        ensures room { self.old.room ≤ self.new.room + 3 }
     {
         self.move_rise(old.from.min(old.to), new.from.min(new.to), old.by);
         self.move_rise(old.to, new.to, 0u64.wrapping_sub(old.by));
@@ -107,20 +108,24 @@ impl StepFunction {
 
     /// Moves the place from which on the values are higher by `by`.
     fn move_rise(&mut self, old: u128, new: u128, by: u64)
-        requires { 2 ≤ self.old.room }
+        requires { 1 ≤ self.old.room }
         ensures moves { MovesRise self.old.steps self.new.steps old new by }
-        ensures room { self.old.room ≤ self.new.room + 2 }
+        ensures room { self.old.room ≤ self.new.room + 1 }
     {
-        self.raise(Span {
-            from: new,
-            to: old,
-            by,
-        });
-        self.raise(Span {
-            from: old,
-            to: new,
-            by: 0u64.wrapping_sub(by),
-        });
+        let change = if new < old {
+            Span {
+                from: new,
+                to: old,
+                by,
+            }
+        } else {
+            Span {
+                from: old,
+                to: new,
+                by: 0u64.wrapping_sub(by),
+            }
+        };
+        self.raise(change);
     }
 
     /// The sum of two functions, by one pass over the steps of both.

@@ -1,12 +1,13 @@
 //! A table of partial lengths.
 
-ghost use Rattle.std.specs.Prelude.{◌≡◌, ◌+◌, ◌≤◌, ◌<◌, ◌^◌, ℕ, List, [], ◌∷◌, ◌++◌, OnOk, OnErr};
+ghost use Rattle.std.specs.Prelude.{◌≡◌, ◌+◌, ◌≤◌, ◌<◌, ◌^◌, ℕ, List, [], ◌∷◌, ◌++◌, IfOk, OnOk, OnErr};
 ghost use Rattle.ft_partial.specs.Items.{Item, item_of, inserted, removed, seen, folded_items};
 ghost use Rattle.ft_partial.specs.SameStamps.{SameByStamps, ExchangesItem};
-ghost use Rattle.ft_partial.specs.Tables.{length_at, common_span, StandsFor, Adds, Exchanges, AddsAll, SameFrom};
+ghost use Rattle.ft_partial.specs.Tables.{length_at, StandsFor, Adds, Exchanges, AddsAll, SameFrom};
+ghost use Rattle.ft_partial.specs.Rows.{Covers};
 
-use crate::rows::{first_removal, number_of, place_of, raise_own};
-use crate::step_functions::{Span, StepFunction};
+use crate::rows::{CHANGES, common_span, exchange_rows, place_of};
+use crate::step_functions::StepFunction;
 use ft_base::{Element, OutOfMemory, Perspective, Stamp, Stamps};
 use std::alloc::Global;
 use std::marker::Model;
@@ -45,15 +46,20 @@ impl Model for Table {
     ghost view = { λ a. record { floor = a.floor; common = a.common.steps; own = a.own.steps } };
 }
 
-/// The change that these elements make for those who made none of their stamps.
-fn common_span(e: &Element, len: u64) -> Span
-    ensures { result ≡ common_span e.now len }
+/// The stamps of two elements.
+///
+/// Answers `OutOfMemory` where there is no room for them.
+fn stamps_of(e: &Element, new: &Element) -> Result<Stamps, OutOfMemory>
+    ensures old { IfOk result (λ stamps. Covers stamps e.now) }
+    ensures new { IfOk result (λ stamps. Covers stamps new.now) }
 {
-    Span {
-        from: number_of(&e.ins),
-        to: first_removal(e.dels.as_slice()),
-        by: len,
+    let mut stamps = e.dels.copy()?;
+    stamps.push(e.ins)?;
+    for stamp in new.dels.as_slice() {
+        stamps.push(*stamp)?;
     }
+    stamps.push(new.ins)?;
+    Ok(stamps)
 }
 
 /// Makes room for changes of both functions.
@@ -129,11 +135,9 @@ impl Table {
         ensures floor { self.new.floor ≡ self.old.floor }
         ensures err { OnErr result (self.new ≡ self.old) }
     {
-        let dels = e.dels.as_slice();
-        reserve(&mut self.common, 1, &mut self.own, dels.len() + 1)?;
-        self.common.raise(common_span(e, len));
-        raise_own(&mut self.own, e.ins, dels, len);
-        Ok(())
+        let mut stamps = e.dels.copy()?;
+        stamps.push(e.ins)?;
+        self.exchange(stamps.as_slice(), e, 0, e, len)
     }
 
     /// Gives the removal stamp of connection `conn` at the sequence number `seq` to `len` elements
@@ -169,14 +173,30 @@ impl Table {
         ensures floor { self.new.floor ≡ self.old.floor }
         ensures err { OnErr result (self.new ≡ self.old) }
     {
-        let dels = e.dels.as_slice();
-        let new_dels = new.dels.as_slice();
-        let changes = (dels.len() + 1) + (new_dels.len() + 1);
-        reserve(&mut self.common, 5, &mut self.own, changes)?;
+        let stamps = stamps_of(e, new)?;
+        self.exchange(stamps.as_slice(), e, len, new, new_len)
+    }
+
+    /// The same, where the connections of all stamps of both made one of `stamps`.
+    fn exchange(
+        &mut self,
+        stamps: &[Stamp],
+        e: &Element,
+        len: u64,
+        new: &Element,
+        new_len: u64,
+    ) -> Result<(), OutOfMemory>
+        requires old { Covers stamps.now e.now }
+        requires new { Covers stamps.now new.now }
+        ensures exchanges { OnOk result (Exchanges self.old self.new e.now len new.now new_len) }
+        ensures floor { self.new.floor ≡ self.old.floor }
+        ensures err { OnErr result (self.new ≡ self.old) }
+    {
+        let changes = stamps.len().checked_mul(CHANGES).ok_or(OutOfMemory)?;
+        reserve(&mut self.common, CHANGES, &mut self.own, changes)?;
         self.common
             .exchange(common_span(e, len), common_span(new, new_len));
-        raise_own(&mut self.own, e.ins, dels, 0u64.wrapping_sub(len));
-        raise_own(&mut self.own, new.ins, new_dels, new_len);
+        exchange_rows(&mut self.own, stamps, e, len, new, new_len);
         Ok(())
     }
 

@@ -224,7 +224,11 @@ fn fold(
     items: &mut Vec<Part>,
     table: &mut Table,
 ) -> Result<(), OutOfMemory> {
-    let floor = table.floor.saturating_add(source.below(9)).min(source.newest).max(table.floor);
+    let floor = table
+        .floor
+        .saturating_add(source.below(9))
+        .min(source.newest)
+        .max(table.floor);
     table.fold_to(floor);
     let mut folded = Vec::new(alloc);
     for part in items.iter() {
@@ -258,7 +262,11 @@ fn at_floor(ins: Stamp, floor: u64) -> Stamp {
 /// Compares what some perspectives see.
 fn compare(rt: &impl Abort, source: &mut Source, items: &[Part], table: &Table) {
     for _ in 0..4 {
-        let ahead = source.newest.saturating_sub(table.floor).saturating_add(2).max(1);
+        let ahead = source
+            .newest
+            .saturating_sub(table.floor)
+            .saturating_add(2)
+            .max(1);
         let r = table.floor.saturating_add(source.below(ahead));
         let at = Perspective {
             r,

@@ -1,7 +1,6 @@
 use Rattle.std.proofs.Common.{arith}
 use Rattle.ft_partial.proofs.Values.{no_step}
-use Rattle.ft_partial.proofs.Cuts.{from_at-default}
-use Rattle.ft_partial.proofs.Merges.{place_past, place_here}
+use Rattle.ft_partial.proofs.Places.{from_at-default, place_past, place_here}
 use Rattle.ft_partial.proofs.step_functions.count_from.Goals as goal
 use Rattle.ft_partial.proofs.step_functions.count_from.Goals.{else-i-steps-via-then-i-steps+else-steps-i, else-i-steps-via-else-i-steps}
 

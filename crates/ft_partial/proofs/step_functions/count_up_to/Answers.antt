@@ -1,5 +1,5 @@
 use Rattle.std.proofs.Common.{arith}
-use Rattle.ft_partial.proofs.Cuts.{below_up, above_down}
+use Rattle.ft_partial.proofs.Places.{below_up, above_down}
 use Rattle.ft_partial.proofs.step_functions.count_up_to.Goals as goal
 
 pub loop-low-preserved-then-steps-middle : goal.loop-low-preserved-then-steps-middle

@@ -1,5 +1,5 @@
 use Rattle.std.proofs.Common.{arith}
-use Rattle.ft_partial.proofs.Cuts.{lifts_none, lifts_more, lifts_all}
+use Rattle.ft_partial.proofs.Lifts.{lifts_none, lifts_more, lifts_all}
 use Rattle.ft_partial.proofs.step_functions.lift.Goals as goal
 
 pub loop-i-init : goal.loop-i-init

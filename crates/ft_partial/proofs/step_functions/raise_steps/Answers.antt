@@ -1,7 +1,7 @@
 use Rattle.std.proofs.Common.{◌≡◌, List, length, arith, subst, sym}
 use Rattle.ft_partial.specs.declared.step_functions.Step.{Step}
 use Rattle.ft_partial.specs.Steps.{LiftsBelow, RaisesSteps}
-use Rattle.ft_partial.proofs.Cuts.{steps_raised, written_back}
+use Rattle.ft_partial.proofs.Lifts.{steps_raised, written_back}
 use Rattle.ft_partial.proofs.step_functions.raise_steps.Goals as goal
 
 pub returns-clause-raises : goal.returns-clause-raises
