@@ -1,19 +1,19 @@
 #!/usr/bin/env bash
-# How many calls of a table of partial lengths are made in a second, with 100, 1,000 and 10,000
-# sequence numbers in the window. Each figure is the time of a run with many calls without that of
-# a run with none. Build the program first: rt run, in crates/ft_bench_partial.
-# `remove` counts a removal with the insertion before it, and `add_all` two calls.
+# How many calls of a table of partial lengths are made in a second of processor time, with 100,
+# 1,000 and 10,000 sequence numbers in the window. Each figure is the time of a run with many calls
+# less that of a run with none. Build the program first: rt run, in crates/ft_bench_partial.
+# `remove` counts a removal together with an insertion, and `add_all` two calls.
 program="$(dirname "$0")/../crates/ft_bench_partial/out/ft_bench_partial"
+TIMEFORMAT='%U'
 
-# the time of a run, in nanoseconds: the least of three
+# the processor time of a run in milliseconds: the least of three
 run_time() {
-    local best= start end
+    local best= took
     for _ in 1 2 3; do
-        start=$(date +%s%N)
-        "$program" "$1" "$2" "$3" >/dev/null
-        end=$(date +%s%N)
-        if [ -z "$best" ] || [ $((end - start)) -lt "$best" ]; then
-            best=$((end - start))
+        took=$( { time "$program" "$1" "$2" "$3" >/dev/null; } 2>&1)
+        took=$((10#${took/./}))
+        if [ -z "$best" ] || [ "$took" -lt "$best" ]; then
+            best=$took
         fi
     done
     echo "$best"
@@ -22,7 +22,7 @@ run_time() {
 # enough calls to take about half a second
 call_count() {
     local count=100
-    while [ "$count" -lt 10000000 ] && [ "$(run_time "$1" "$2" "$count")" -lt 300000000 ]; do
+    while [ "$count" -lt 20000000 ] && [ "$(run_time "$1" "$2" "$count")" -lt 300 ]; do
         count=$((count * 3))
     done
     echo "$count"
@@ -35,7 +35,7 @@ for kind in length insert remove replace resize add_all; do
         count=$(call_count "$kind" "$window")
         with=$(run_time "$kind" "$window" "$count")
         without=$(run_time "$kind" "$window" 0)
-        printf ' %12d' $((count * 1000000000 / (with - without)))
+        printf ' %12d' $((count * 1000 / (with - without)))
     done
     printf '\n'
 done

@@ -7,7 +7,7 @@ use Rattle.std.proofs.lemmas.Bool.Decides.{nat_tests}
 use Rattle.std.proofs.lemmas.List.{drop-set-lt, length-set}
 use Rattle.std.proofs.lemmas.List.Edits.{length-remove, get_or-remove_below, get_or-remove_above, remove-append_right}
 use Rattle.ft_partial.specs.StepFunctions.{value_from}
-use Rattle.ft_partial.specs.Steps.{IsRising, is_covered, CanSkip, FoldsSteps}
+use Rattle.ft_partial.specs.Steps.{IsRising, is_covered, CanSkip, IsFolded, FoldsSteps}
 use Rattle.ft_partial.specs.declared.step_functions.Step.{Step}
 use Rattle.ft_partial.proofs.Places.{tail_rising}
 
@@ -184,14 +184,15 @@ front-le (suc n) (y ∷ ys) = omega (arith, front-le n ys)
 none_left : (zs ys : List Step) (i : ℕ) → length ys ≤ i → zs ++ drop i ys ≡ zs
 none_left zs ys i h = ap (λ ts. zs ++ ts) (drop_all ys i h) ∙ right_nil zs
 
-pub folds_all : (floor : ℕ) (xs ys : List Step) (kept i last : ℕ) → Folds floor xs ys kept i last → length ys ≤ i → FoldsSteps xs (take kept ys) floor
-folds_all floor xs ys kept i last f h =
+pub folds_all : (floor : ℕ) (xs ys : List Step) (kept i last : ℕ) → Folds floor xs ys kept i last → length ys ≤ i → IsFolded (take kept ys) floor → FoldsSteps xs (take kept ys) floor
+folds_all floor xs ys kept i last f h folded =
     let S : List Step → Type 0 = λ ws. IsRising ws in
     let same = none_left (take kept ys) ys i h in
     record {
       rising = subst S same f.rising;
       values = λ k r. ap (λ ws. value_from 0 ws k) (sym same) ∙ f.values k r;
       few = omega (arith, front-le kept ys, f.len);
+      folded = folded;
     }
 
 -- one turn of the loop, in the words of the code

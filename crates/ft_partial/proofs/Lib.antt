@@ -4,6 +4,7 @@ pub mod Lifts
 pub mod Merges
 pub mod Places
 pub mod RowLemmas
+pub mod Shown
 pub mod SumsByStamps
 pub mod TableLemmas
 pub mod Values

@@ -1,5 +1,5 @@
 -- Steps in rising order of their places.
-use Rattle.std.specs.Prelude.{◌≡◌, ◌⊎◌, ℕ, zero, suc, ◌+◌, ◌<◌, ◌≤◌, ◌%◌, ◌/◌, ◌^◌, Bool, true, ◌&&◌, nat_eq, nat_le, cond, List, length, slice_index_or}
+use Rattle.std.specs.Prelude.{◌≡◌, ◌⊎◌, ℕ, zero, suc, ◌+◌, ◌<◌, ◌≤◌, ◌%◌, ◌/◌, ◌^◌, Bool, true, false, ◌&&◌, nat_eq, nat_le, cond, List, length, slice_index_or}
 use Rattle.ft_base.specs.Scan.{within}
 use Rattle.ft_partial.specs.declared.step_functions.Step.{Step}
 use Rattle.ft_partial.specs.declared.step_functions.Span.{Span}
@@ -78,8 +78,17 @@ CanSkip xs i last floor =
     ((d : Step) → (slice_index_or xs i d).value ≡ last)
     ⊎ ((i + 1 < length xs) × ((d : Step) → is_covered floor (slice_index_or xs i d).from (slice_index_or xs (i + 1) d).from ≡ true))
 
--- from the floor up the values stay, and there are no more steps
+-- from the floor up the i-th step shows: the next one, if there is one, doesn't cover it
+abbrev pub IsShown : List Step → ℕ → ℕ → Type 0
+IsShown xs i floor = (d : Step) → i + 1 < length xs → is_covered floor (slice_index_or xs i d).from (slice_index_or xs (i + 1) d).from ≡ false
+
+-- from the floor up each step shows, so of each stretch at most one step stands at or below it
+abbrev pub IsFolded : List Step → ℕ → Type 0
+IsFolded xs floor = (i : ℕ) → IsShown xs i floor
+
+-- from the floor up the values stay, and only steps that show are left
 pub record FoldsSteps (old new : List Step) (floor : ℕ) : Type 0 where
   pub rising : IsRising new
   pub values : (k : ℕ) → floor ≤ k % 2 ^ 64 → value_from 0 new k ≡ value_from 0 old k
   pub few : length new ≤ length old
+  pub folded : IsFolded new floor

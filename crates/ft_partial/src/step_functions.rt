@@ -1,8 +1,8 @@
 //! Step functions: to each place belongs a value, which is a number round 2^64.
 
-ghost use Rattle.std.specs.Prelude.{◌≡◌, ◌+◌, ◌*◌, ◌-◌, ◌≤◌, ◌<◌, ◌^◌, ◌%◌, ℕ, false, nat_le, IfOk, OnOk, MatchOption, [], length, insert, slice_index_or, vec_len, vec_capacity};
+ghost use Rattle.std.specs.Prelude.{◌≡◌, ◌+◌, ◌*◌, ◌-◌, ◌≤◌, ◌<◌, ◌^◌, ◌%◌, ℕ, true, false, nat_le, IfOk, OnOk, MatchOption, [], length, insert, slice_index_or, vec_len, vec_capacity};
 ghost use Rattle.ft_partial.specs.StepFunctions.{amount, value_from, value_at, Raises, MovesRise, ExchangesSpan};
-ghost use Rattle.ft_partial.specs.Steps.{IsRising, IsPlace, IsStepAt, value_before, Cuts, LiftsBelow, RaisesSteps, is_covered, CanSkip, FoldsSteps, AllBefore, IsNextPlace, IsAtEnd, IsSum};
+ghost use Rattle.ft_partial.specs.Steps.{IsRising, IsPlace, IsStepAt, value_before, Cuts, LiftsBelow, RaisesSteps, is_covered, CanSkip, IsShown, IsFolded, FoldsSteps, AllBefore, IsNextPlace, IsAtEnd, IsSum};
 
 use ft_base::OutOfMemory;
 use std::alloc::Global;
@@ -139,11 +139,12 @@ impl StepFunction {
         })
     }
 
-    /// Takes out the steps that change no value from the floor up, counted within each stretch of
-    /// 2^64 places. It takes no memory.
+    /// Takes out steps that change no value from the floor up, counted within each stretch of 2^64
+    /// places, so that of each stretch at most one step is left at or below it. It takes no memory.
     pub fn fold_to(&mut self, floor: u64)
         ensures values { (k : ℕ) → floor ≤ k % 2 ^ 64 → value_at self.new.steps k ≡ value_at self.old.steps k }
         ensures few { length self.new.steps ≤ length self.old.steps }
+        ensures folded { IsFolded self.new.steps floor }
     {
         fold_steps(&mut self.steps, floor);
     }
@@ -311,7 +312,8 @@ fn is_covered(floor: u64, place: u128, next: u128) -> bool
 /// Whether the `i`-th step changes a value from the floor up, where the value before it is `last`.
 fn is_needed(steps: &[Step], i: usize, last: u64, floor: u64) -> bool
     requires { i < length steps.now }
-    ensures { result ≡ false → CanSkip steps.now i last floor }
+    ensures needless { result ≡ false → CanSkip steps.now i last floor }
+    ensures needed { result ≡ true → IsShown steps.now i floor }
 {
     if steps[i].value == last {
         return false;

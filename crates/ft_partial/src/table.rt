@@ -20,12 +20,14 @@ const FEW: usize = 16;
 ///
 /// Contracts see what the table answers. It stands for each list of which every perspective from its
 /// floor up sees that much, round 2^64; so with a list also for each other one in which, for all
-/// stamps, the items with these stamps have the same sum of lengths. Each call's clause holds for
-/// every list that the table stands for.
+/// stamps, the items with these stamps have the same sum of lengths. Each clause holds for every
+/// list that the table stands for.
 ///
-/// The window are the sequence numbers above the floor that occur in the items. A call that changes
-/// the table looks at the steps of the connections concerned, and of the rest only at those at and
-/// after the number where something changes.
+/// The window is made of the sequence numbers above the floor that occur in the items. `length`
+/// takes two binary searches in it. A change takes some more; it touches the steps of the
+/// connections that made its stamps as far as what they see changes, and those of all others between
+/// the numbers at which its old and its new stamps differ, or from the insertion on where the number
+/// of elements differs. The steps behind a new one move up in memory, as one block.
 #[derive(Drop)]
 pub struct Table {
     floor: u64,
@@ -94,10 +96,11 @@ impl Table {
         }
     }
 
-    /// How many elements the perspective sees: two binary searches. Its reference number isn't below
-    /// the floor. It takes no memory.
+    /// How many elements the perspective sees, whose reference number isn't below the floor. It takes
+    /// no memory.
     ///
-    /// Where a list of more than 2^64 - 1 elements is seen, it is that number round 2^64.
+    /// The number is exact where less than 2^64 elements are seen, as in each list that has less, and
+    /// else it is taken round 2^64.
     pub fn length(&self, at: Perspective) -> u64
         requires { self.now.floor ≤ at.r }
         ensures sum { (xs : List Item) → StandsFor self.now xs → seen at.r at.c xs < 2 ^ 64 → result ≡ seen at.r at.c xs }
@@ -125,8 +128,7 @@ impl Table {
         self.add(&e, len)
     }
 
-    /// Adds `len` elements of the stamps `e`. Where their insertion is pending, no perspective sees
-    /// them.
+    /// Adds `len` elements of the stamps `e`, of which pending ones have occurred for nobody.
     ///
     /// Answers `OutOfMemory` where there is no room, and then the table is as it was.
     pub fn add(&mut self, e: &Element, len: u64) -> Result<(), OutOfMemory>
@@ -141,9 +143,8 @@ impl Table {
     }
 
     /// Gives the removal stamp of connection `conn` at the sequence number `seq` to `len` elements
-    /// of the stamps `e`, of which the items have that many. It says so also of lists in which an
-    /// insertion at or below the floor is written otherwise than in `e`, since no perspective sees
-    /// a difference.
+    /// of the stamps `e`, of which the items have that many. An insertion at or below the floor may
+    /// stand in `e` as it was or as (0, 0), as it does in the items.
     ///
     /// Answers `OutOfMemory` where there is no room, and then the table is as it was.
     pub fn remove(&mut self, e: &Element, seq: u64, conn: u32, len: u64) -> Result<(), OutOfMemory>
@@ -177,7 +178,7 @@ impl Table {
         self.exchange(stamps.as_slice(), e, len, new, new_len)
     }
 
-    /// The same, where the connections of all stamps of both made one of `stamps`.
+    /// What `replace` does, where each connection that made a stamp of either made one of `stamps`.
     fn exchange(
         &mut self,
         stamps: &[Stamp],
@@ -221,8 +222,9 @@ impl Table {
     /// Raises the floor to `floor`, which isn't below the old one: the items removed at or below it
     /// are gone, and insertions at or below it are written (0, 0). It takes no memory.
     ///
-    /// The steps are looked through only once they have doubled since the last time, so that all
-    /// folds together cost no more than the calls that added the steps.
+    /// The steps are looked through only once they have doubled since the last time, so all folds
+    /// together take no longer than the calls that added the steps. Then, of each connection and of
+    /// all others, at most one step is left at or below the floor.
     pub fn fold_to(&mut self, floor: u64)
         requires { self.old.floor ≤ floor }
         ensures items { (xs : List Item) → StandsFor self.old xs → StandsFor self.new (folded_items floor xs) }

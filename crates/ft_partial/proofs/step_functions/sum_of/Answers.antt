@@ -18,7 +18,7 @@ loop-place-smaller c =
 pub loop-place-preserved : goal.loop-place-preserved
 loop-place-preserved c =
     let M : List Step → Type 0 = λ xs. Merges c.args.a.now c.args.b.now xs c.count_from-i.result c.count_from-j.result in
-    subst M (sym c.in_ok-push.ensures.items)
+    subst M (sym {A = List Step} c.in_ok-push.ensures.items)
     (merges_more c.args.a.now c.args.b.now c.loop-place.sum.items c.loop-place.i c.loop-place.j c.in-Some.place c.count_from-i.result c.count_from-j.result _
     c.requires.a c.requires.b c.loop-place.invariant c.in-Some.ensures c.count_from-i.ensures c.count_from-j.ensures
     (omega (arith, c.value_before.ensures no_step, c.value_before-in-Some.ensures no_step)))
