@@ -39,7 +39,7 @@ common_span e n = record { from = number_of e.ins; to = first_removal e.dels; by
 abbrev pub row_change : Bool → Bool → ℕ → ℕ → ℕ → ℕ → Span
 row_change true is_maker c s g n = record { from = place_of c s; to = place_of c g; by = (2 ^ 64 - n) % 2 ^ 64 }
 row_change false true c s g n = record { from = place_of c 0; to = place_of c (min g s); by = n }
-row_change false false c s g n = record { from = 0; to = 0; by = 0 }
+row_change false false c s g n = record { from = place_of c 0; to = place_of c 0; by = 0 }
 
 -- the change that n elements make in the row of connection c
 abbrev pub row_span : Element → ℕ → ℕ → Span

@@ -10,14 +10,11 @@ ghost use Rattle.std.specs.Prelude.{◌≡◌, ◌+◌, ◌*◌, ◌≤◌, ◌^
 ghost use Rattle.std.specs.List.{list_any};
 ghost use Rattle.ft_partial.specs.Rows.{number_of, first_removal, is_by, place_of, common_span, row_span, ExchangesRow, ExchangesRows};
 
-use crate::step_functions::{Span, StepFunction};
+use crate::step_functions::{CHANGES, Span, StepFunction};
 use ft_base::{Element, Stamp};
 
 /// How many places a row has, and the number of a pending stamp: more than any sequence number.
 const ROW: u128 = 18446744073709551616;
-
-/// How many changes `exchange_rows` may make for each stamp.
-pub const CHANGES: usize = 3;
 
 /// The sequence number of a stamp, or 2^64 where it is pending.
 fn number_of(stamp: &Stamp) -> u128
@@ -102,8 +99,8 @@ fn row_span(e: &Element, len: u64, conn: u32) -> Span
         };
     }
     Span {
-        from: 0,
-        to: 0,
+        from: place_of(conn, 0),
+        to: place_of(conn, 0),
         by: 0,
     }
 }
@@ -118,9 +115,9 @@ fn exchange_row(
     new: &Element,
     new_len: u64,
 )
-    requires { 3 ≤ own.old.room }
+    requires { CHANGES ≤ own.old.room }
     ensures exchanges { ExchangesRow own.old.steps own.new.steps before.now stamp e.now len new.now new_len }
-    ensures room { own.old.room ≤ own.new.room + 3 }
+    ensures room { own.old.room ≤ own.new.room + CHANGES }
 {
     if let Stamp::Acked { seq: _, conn } = stamp {
         if !is_any_by(before, conn) {
@@ -139,7 +136,7 @@ pub fn exchange_rows(
     new: &Element,
     new_len: u64,
 )
-    requires { 3 * length stamps.now ≤ own.old.room }
+    requires { CHANGES * length stamps.now ≤ own.old.room }
     ensures { ExchangesRows own.old.steps own.new.steps stamps.now e.now len new.now new_len }
 {
     for i in 0..stamps.len() {

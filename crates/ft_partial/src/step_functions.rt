@@ -8,6 +8,9 @@ use ft_base::OutOfMemory;
 use std::alloc::Global;
 use std::marker::Model;
 
+/// How many changes one `exchange` may make.
+pub const CHANGES: usize = 3;
+
 /// From this place up to the next step's the value is this one.
 #[derive(Clone, Copy)]
 pub struct Step {
@@ -90,12 +93,12 @@ impl StepFunction {
         }
     }
 
-    /// Takes one change back and makes another. It looks only at the steps where the two differ. It
-    /// takes no memory.
+    /// Takes one change back and makes another. It looks only at the steps where the two differ, or
+    /// that stand between the two. It takes no memory.
     pub fn exchange(&mut self, old: Span, new: Span)
-        requires { 3 ≤ self.old.room }
+        requires { CHANGES ≤ self.old.room }
         ensures exchanges { ExchangesSpan self.old.steps self.new.steps old new }
-        ensures room { self.old.room ≤ self.new.room + 3 }
+        ensures room { self.old.room ≤ self.new.room + CHANGES }
     {
         self.move_rise(old.from.min(old.to), new.from.min(new.to), old.by);
         self.move_rise(old.to, new.to, 0u64.wrapping_sub(old.by));

@@ -6,8 +6,8 @@ ghost use Rattle.ft_partial.specs.SameStamps.{SameByStamps, ExchangesItem};
 ghost use Rattle.ft_partial.specs.Tables.{length_at, StandsFor, Adds, Exchanges, AddsAll, SameFrom};
 ghost use Rattle.ft_partial.specs.Rows.{Covers};
 
-use crate::rows::{CHANGES, common_span, exchange_rows, place_of};
-use crate::step_functions::StepFunction;
+use crate::rows::{common_span, exchange_rows, place_of};
+use crate::step_functions::{CHANGES, StepFunction};
 use ft_base::{Element, OutOfMemory, Perspective, Stamp, Stamps};
 use std::alloc::Global;
 use std::marker::Model;
