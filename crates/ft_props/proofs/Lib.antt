@@ -4,3 +4,5 @@ pub mod AcknowledgedInsertion
 pub mod PlacedInsertion
 pub mod RebuiltList
 pub mod CompactedList
+pub mod Utf8Order
+pub mod RisingKeys
