@@ -6,3 +6,5 @@ pub mod RebuiltList
 pub mod CompactedList
 pub mod Utf8Order
 pub mod RisingKeys
+pub mod Digits
+pub mod CanonicalNumbers

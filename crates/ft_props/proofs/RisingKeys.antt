@@ -3,11 +3,11 @@ use Rattle.std.proofs.Common.{◌≡◌, ℕ, zero, suc, ◌<◌, ◌≤◌, Lis
 use Rattle.std.specs.Ordering.{ordering_reverse, ordering_index}
 use Rattle.std.specs.declared.cmp.Ordering.{Ordering}
 use Rattle.std.specs.declared.cmp.Ordering.TheVariants.{Less, Equal, Greater}
-use Rattle.std.specs.List.{insert}
+use Rattle.std.specs.List.{insert, remove}
 use Rattle.std.specs.List.Sorted.{IsSearchInRange, IsBinarySearchResult, IsNonDecreasingBy}
 use Rattle.std.proofs.lemmas.Cmp.{nat_list_cmp_total, tied_itself, tied_back}
 use Rattle.std.proofs.lemmas.Map.Lookups.{exact_bytes}
-use Rattle.ft_props.specs.Keys.{Characters, IsBeforeKeys, KeysRise, key_cmp, place_of, put_rising, text_cmp, value_of}
+use Rattle.ft_props.specs.Keys.{Characters, IsBeforeKeys, KeysRise, key_cmp, place_of, put_rising, remove_rising, text_cmp, value_of}
 
 -- the laws of the order of texts
 pub text_cmp-same : (a : Characters) → text_cmp a a ≡ Equal
@@ -52,6 +52,15 @@ index-rises a b key h =
     (λ e. grind (arith, text_cmp-trans a b key h e))
     (λ e. (let here = subst (λ k. text_cmp a k ≡ Less) (same_from_text_cmp b key e) h in grind (arith, here)))
     (λ e. grind (arith, index-le (text_cmp a key)))
+
+remove-less : {A : Type 0} (cmp : A → A → Ordering) (x y : A) (ys : List A) → cmp x y ≡ Less → remove_rising cmp x (y ∷ ys) ≡ y ∷ ys
+remove-less cmp x y ys h = grind arith
+
+remove-same : {A : Type 0} (cmp : A → A → Ordering) (x y : A) (ys : List A) → cmp x y ≡ Equal → remove_rising cmp x (y ∷ ys) ≡ ys
+remove-same cmp x y ys h = grind arith
+
+remove-greater : {A : Type 0} (cmp : A → A → Ordering) (x y : A) (ys : List A) → cmp x y ≡ Greater → remove_rising cmp x (y ∷ ys) ≡ y ∷ remove_rising cmp x ys
+remove-greater cmp x y ys h = grind arith
 
 module _ {V : Type 0} where
   -- a key before another is before all behind that
@@ -118,6 +127,35 @@ module _ {V : Type 0} where
       (λ e. subst P (sym (put-less key_cmp (key, v) x xs e)) ((e, IsBeforeKeys-trans key x.0 xs e r.0), r))
       (λ e. subst P (sym (put-same key_cmp (key, v) x xs e)) (subst (λ k. IsBeforeKeys k xs) (sym (same_from_text_cmp key x.0 e)) r.0, r.1))
       (λ e. subst P (sym (put-greater key_cmp (key, v) x xs e)) (IsBeforeKeys-put x.0 key v xs (text_cmp-turned key x.0 e) r.0, KeysRise-put key v xs r.1))
+
+  -- what is removed stood at its key's place
+  pub remove_rising-found : (key : Characters) (v : V) (i : ℕ) (xs : List (Characters × V)) → place_of key xs ≡ Ok i → remove_rising key_cmp (key, v) xs ≡ remove xs i
+  remove_rising-found key v i [] h = absurd cc
+  remove_rising-found key v zero (x ∷ xs) h = grind (arith, remove_rising-found key v zero xs)
+  remove_rising-found key v (suc i) (x ∷ xs) h = grind (arith, remove_rising-found key v i xs)
+
+  pub remove_rising-missing : (key : Characters) (v : V) (i : ℕ) (xs : List (Characters × V)) → place_of key xs ≡ Err i → remove_rising key_cmp (key, v) xs ≡ xs
+  remove_rising-missing key v i [] h = refl
+  remove_rising-missing key v zero (x ∷ xs) h = grind arith
+  remove_rising-missing key v (suc i) (x ∷ xs) h = grind (arith, remove_rising-missing key v i xs)
+
+  IsBeforeKeys-remove : (a key : Characters) (v : V) (xs : List (Characters × V)) → IsBeforeKeys a xs → IsBeforeKeys a (remove_rising key_cmp (key, v) xs)
+  IsBeforeKeys-remove a key v [] b = tt
+  IsBeforeKeys-remove a key v (x ∷ xs) b =
+      let P : List (Characters × V) → Type 0 = λ ys. IsBeforeKeys a ys in
+      by_order (text_cmp key x.0)
+      (λ e. subst P (sym (remove-less key_cmp (key, v) x xs e)) b)
+      (λ e. subst P (sym (remove-same key_cmp (key, v) x xs e)) b.1)
+      (λ e. subst P (sym (remove-greater key_cmp (key, v) x xs e)) (b.0, IsBeforeKeys-remove a key v xs b.1))
+
+  pub KeysRise-remove : (key : Characters) (v : V) (xs : List (Characters × V)) → KeysRise xs → KeysRise (remove_rising key_cmp (key, v) xs)
+  KeysRise-remove key v [] r = tt
+  KeysRise-remove key v (x ∷ xs) r =
+      let P : List (Characters × V) → Type 0 = λ ys. KeysRise ys in
+      by_order (text_cmp key x.0)
+      (λ e. subst P (sym (remove-less key_cmp (key, v) x xs e)) r)
+      (λ e. subst P (sym (remove-same key_cmp (key, v) x xs e)) r.1)
+      (λ e. subst P (sym (remove-greater key_cmp (key, v) x xs e)) (IsBeforeKeys-remove x.0 key v xs r.0, KeysRise-remove key v xs r.1))
 
   -- the order of a key in place i and another one
   abbrev order_at : Characters → List (Characters × V) → ℕ → (Characters × V) → Ordering

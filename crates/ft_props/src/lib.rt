@@ -1,7 +1,9 @@
 //! Properties of elements and intervals, and their changes.
 #![tactic(auto)]
 
+mod changed;
 pub mod keys;
+mod numbers;
 mod pairs;
 pub mod properties;
 

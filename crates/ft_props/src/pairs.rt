@@ -1,7 +1,7 @@
 //! Lists of pairs of a key and a value by rising keys.
 
 ghost use Rattle.std.specs.Prelude.{◌≡◌, ◌↔◌, ◌≤◌, [], IsTrue, IfOk, OnOk, OnErr, chars, length, slice_get, option_copied, option_map};
-ghost use Rattle.ft_props.specs.Keys.{KeysRise, key_cmp, place_of, put_rising, value_of};
+ghost use Rattle.ft_props.specs.Keys.{KeysRise, key_cmp, place_of, put_rising, remove_rising, value_of};
 
 use crate::keys::compare;
 use ft_base::{OutOfMemory, Text};
@@ -99,6 +99,19 @@ impl<V: Drop> Pairs<V> {
         }
     }
 
+    /// The pairs in order. It takes no memory.
+    pub fn as_slice(&self) -> &[(Text, V)]
+        ensures value { result.now ≡ self.now }
+        ensures rising { KeysRise self.now }
+    {
+        self.items.as_slice()
+    }
+
+    /// Where the list takes its memory.
+    pub fn allocator(&self) -> Global {
+        *self.items.allocator()
+    }
+
     /// Sets the value of the key, and changes no other pair.
     ///
     /// Answers `OutOfMemory` where there is no room for one more pair, and then the list is as it
@@ -113,6 +126,15 @@ impl<V: Drop> Pairs<V> {
                 Ok(())
             }
             Err(i) => Ok(self.items.insert(i, (key, value))?),
+        }
+    }
+
+    /// Takes the key and its value out, if it is there. It takes no memory.
+    pub fn remove(&mut self, key: &str)
+        ensures { (value : V) → self.new ≡ remove_rising key_cmp (chars key.now, value) self.old }
+    {
+        if let Ok(i) = self.search(key) {
+            let _ = self.items.remove(i);
         }
     }
 }

@@ -1,7 +1,7 @@
 //! Properties and what changes them.
 
 ghost use Rattle.std.specs.Prelude.{◌≡◌, ◌↔◌, [], IsTrue, IfOk, OnOk, OnErr, chars, length, slice_get, option_copied, option_map, option_and_then, is_some};
-ghost use Rattle.ft_props.specs.Keys.{KeysRise, key_cmp, put_rising, value_of};
+ghost use Rattle.ft_props.specs.Keys.{KeysRise, key_cmp, put_rising, remove_rising, value_of};
 
 use crate::pairs::{PairValue, Pairs};
 use ft_base::{OutOfMemory, Text};
@@ -74,6 +74,14 @@ impl PropSet {
         ensures { IsTrue result ↔ (self.now ≡ []) }
     {
         self.pairs.is_empty()
+    }
+
+    /// The pairs of a key and its value in rising order. It takes no memory.
+    pub fn as_slice(&self) -> &[(Text, Option<ValText>)]
+        ensures value { result.now ≡ self.now }
+        ensures rising { KeysRise self.now }
+    {
+        self.pairs.as_slice()
     }
 
     /// The key at place `i` in rising order, counted from 0: None exactly where `i` isn't below the
@@ -167,6 +175,14 @@ impl Props {
         self.pairs.is_empty()
     }
 
+    /// The pairs of a key and its value in rising order. It takes no memory.
+    pub fn as_slice(&self) -> &[(Text, ValText)]
+        ensures value { result.now ≡ self.now }
+        ensures rising { KeysRise self.now }
+    {
+        self.pairs.as_slice()
+    }
+
     /// The key at place `i` in rising order, counted from 0: None exactly where `i` isn't below the
     /// length. It takes no memory.
     pub fn key_at(&self, i: usize) -> Option<&Text>
@@ -199,6 +215,18 @@ impl Props {
         ensures err { OnErr result (self.new ≡ self.old) }
     {
         self.pairs.put(key, value)
+    }
+
+    /// Takes the key and its value out, if it is there. It takes no memory.
+    pub fn remove(&mut self, key: &str)
+        ensures { self.new ≡ remove_rising key_cmp (chars key.now, []) self.old }
+    {
+        self.pairs.remove(key);
+    }
+
+    /// Where the properties take their memory.
+    pub(crate) fn allocator(&self) -> Global {
+        self.pairs.allocator()
     }
 
     /// Equal properties.
@@ -293,6 +321,14 @@ impl AdjSet {
         ensures { IsTrue result ↔ (self.now ≡ []) }
     {
         self.pairs.is_empty()
+    }
+
+    /// The pairs of a key and its adjustment in rising order. It takes no memory.
+    pub fn as_slice(&self) -> &[(Text, Adjust)]
+        ensures value { result.now ≡ self.now }
+        ensures rising { KeysRise self.now }
+    {
+        self.pairs.as_slice()
     }
 
     /// The key at place `i` in rising order, counted from 0: None exactly where `i` isn't below the
