@@ -5,6 +5,7 @@
 mod checks;
 pub mod faults;
 pub mod fields;
+pub mod laws;
 pub mod members;
 pub mod reading;
 pub mod values;
