@@ -8,6 +8,8 @@ pub mod fields;
 pub mod laws;
 pub mod members;
 pub mod reading;
+#[cfg(test)]
+mod tests;
 pub mod values;
 pub mod writing;
 
