@@ -1,7 +1,12 @@
 -- How the scans go on where some elements are left out.
-use Rattle.std.proofs.Common.{◌≡◌, ℕ, zero, suc, Bool, true, false, cond, List, [], ◌∷◌, ◌++◌, Option, Some, None, refl, arith, find}
+use Rattle.std.proofs.Common.{◌≡◌, ℕ, zero, suc, Bool, true, false, cond, List, [], ◌∷◌, ◌++◌, Option, Some, None, refl, sym, arith, append-nil, find}
 use Rattle.std.specs.Option.{option_or, option_map}
-use Rattle.ft_base.specs.Scan.{retain_map, len, at, put_past, put, change_range_from, settled_after}
+use Rattle.ft_base.specs.Scan.{retain_map, len, at, no_run, put_past, put, change_range_from, settled_after}
+
+-- an insertion that goes past no run stands at the front
+pub put_past-no_run : {A : Type 0} (new xs : List A) → put_past no_run new xs ≡ new ++ xs
+put_past-no_run new [] = sym (append-nil new)
+put_past-no_run new (x ∷ xs) = refl
 
 -- each seen element is kept, and seen as before
 pub record Keeping {A B : Type 0} (keep seen : A → Bool) (f : A → B) (seen' : B → Bool) : Type 0 where

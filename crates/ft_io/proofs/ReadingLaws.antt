@@ -1,5 +1,5 @@
 -- How a run over the lines of a source goes on and how it ends: one law for each answer of a call.
-use Rattle.std.proofs.Common.{◌≡◌, ◌⊎◌, ℕ, ◌+◌, ◌<◌, ◌≤◌, Bool, true, false, List, [], ◌∷◌, ◌++◌, Option, Some, None, Result, Ok, Err, All, length, refl, sym, ◌∙◌, ap, subst, arith, append_assoc, append-nil, length-append, nat_le, ⊎_elim}
+use Rattle.std.proofs.Common.{◌≡◌, ◌⊎◌, ℕ, ◌+◌, ◌<◌, ◌≤◌, Bool, true, false, List, [], ◌∷◌, ◌++◌, Option, Some, None, Result, Ok, Err, All, length, IfNone, refl, sym, ◌∙◌, ap, subst, arith, append_assoc, append-nil, length-append, nat_le, ⊎_elim}
 use Rattle.std.specs.List.{flat_map}
 use Rattle.std.specs.Io.KnownBytes.{Consumes, IsAtEnd}
 use Rattle.std.proofs.lemmas.Bool.{cases_Bool}
@@ -7,7 +7,7 @@ use Rattle.std.proofs.lemmas.Bool.Decides.{nat_tests}
 use Rattle.std.proofs.lemmas.Grind.{flat_map-append}
 use Rattle.std.proofs.lemmas.List.Elements.{All-nil, All-push}
 use Rattle.ft_io.specs.Lines.{lf, IsUnbroken, lines, ended_lines, with_lf}
-use Rattle.ft_io.specs.Reader.{Reader, input_limit, new_reader, to_come, handed_out, Call, HandsOut, Ends, Stops, HasLf, EndsInput, IsSplit, IsWhole, Reading}
+use Rattle.ft_io.specs.Reader.{Reader, input_limit, new_reader, to_come, handed_out, Call, AnswersLine, HandsOut, Ends, Stops, HasLf, EndsInput, IsSplit, IsWhole, Reading}
 use Rattle.ft_io.specs.declared.reader.Line.{Line}
 use Rattle.ft_io.specs.declared.reader.Line.TheVariants.{Full, TooLong, End}
 use Rattle.ft_io.specs.declared.reader.LineFault.{LineFault}
@@ -15,6 +15,12 @@ use Rattle.ft_io.specs.declared.reader.LineFault.TheVariants.{Read, InputLimit, 
 use Rattle.ft_io.proofs.TakenAndLeft.{Consumes-nil, Consumes-append}
 use Rattle.ft_io.proofs.LineLaws.{lines-last, lines-flat_map, ended_lines-unbroken, ended_lines-flat_map}
 use Rattle.ft_io.proofs.Gathering.{handed_out-not_end}
+
+-- an answer that is not the end hands out a line
+hands_out : (old : Reader) (waiting : List ℕ) (left : Option (List ℕ)) (new : Reader) (answer : Line) → AnswersLine old waiting left new answer → (answer ≡ End → ⊥) → HandsOut waiting left new answer
+hands_out old waiting left new (Full line) h other = h
+hands_out old waiting left new TooLong h other = h
+hands_out old waiting left new End h other = absurd (other refl)
 
 -- a line that was handed out whole
 full_line : (limit : ℕ) (line bytes : List ℕ) → Full line ≡ handed_out limit bytes → (bytes ≡ line) × (length line ≤ limit)
@@ -66,8 +72,8 @@ module _ {first next left : Option (List ℕ)} {old new : Reader} {before now : 
     not_end : ◌≡◌ {A = Result Line LineFault} (Ok answer) (Ok End) → ⊥
     not_end is = handed_out-not_end new.limit hands.line (cc)
 
-    reading_line : Reading first left new (given ++ call.got) (handed ++ hands.line ∷ [])
-    reading_line =
+    line_more : Reading first left new (given ++ call.got) (handed ++ hands.line ∷ [])
+    line_more =
         let split = reading.goes_on (goes_on call not_end) in
         let place = split_given given call.got old.pending handed split in
         let all = All-push IsUnbroken handed hands.line split.unbroken hands.unbroken in
@@ -106,27 +112,33 @@ module _ {first next left : Option (List ℕ)} {old new : Reader} {before now : 
         (λ (last : EndsInput (old.pending ++ call.got) hands.line left new). omega (arith, call.given, call.within, sum, ap length last.place, last.some, ap length last.nothing_waits))
         hands.place
 
-  -- a whole line: it is not too long, and the run goes on
-  pub reading_full : {line : List ℕ} (call : Call old new next left before now (Ok (Full line)))
-      → (length line ≤ old.limit) × Reading first left new (given ++ call.got) (handed ++ line ∷ []) × (to_come new < to_come old)
-  reading_full {line} call =
-      let hands = call.answers in
-      let is = full_line new.limit line hands.line hands.answers in (
-        omega (arith, is.1, call.limit),
-        subst (λ bytes. Reading first left new (given ++ call.got) (handed ++ bytes ∷ [])) is.0 (reading_line call hands),
+  -- a line: how it is handed out, where the run stands then, and that fewer bytes are still to come
+  pub reading_line : {answer : Line} (call : Call old new next left before now (Ok answer)) → (answer ≡ End → ⊥)
+      → (line : List ℕ) × (answer ≡ handed_out old.limit line) × Reading first left new (given ++ call.got) (handed ++ line ∷ []) × (to_come new < to_come old)
+  reading_line {answer} call other =
+      let hands = hands_out old (old.pending ++ call.got) left new answer call.answers other in (
+        hands.line,
+        hands.answers ∙ ap (λ limit. handed_out limit hands.line) call.limit,
+        line_more call hands,
         nearer call hands,
       )
 
-  -- a line that is too long, and the run goes on
+  -- a whole line: it is not too long
+  pub reading_full : {line : List ℕ} (call : Call old new next left before now (Ok (Full line)))
+      → (length line ≤ old.limit) × Reading first left new (given ++ call.got) (handed ++ line ∷ []) × (to_come new < to_come old)
+  reading_full {line} call =
+      let step = reading_line call (λ e. cc) in
+      let is = full_line old.limit line step.0 step.1 in (
+        is.1,
+        subst (λ bytes. Reading first left new (given ++ call.got) (handed ++ bytes ∷ [])) is.0 step.2,
+        step.3,
+      )
+
+  -- a line that is too long
   pub reading_too_long : (call : Call old new next left before now (Ok TooLong))
       → (line : List ℕ) × (old.limit < length line) × Reading first left new (given ++ call.got) (handed ++ line ∷ []) × (to_come new < to_come old)
   reading_too_long call =
-      let hands = call.answers in (
-        hands.line,
-        omega (arith, too_long_line new.limit hands.line hands.answers, call.limit),
-        reading_line call hands,
-        nearer call hands,
-      )
+      let step = reading_line call (λ e. cc) in (step.0, too_long_line old.limit step.0 step.1, step.2, step.3)
 
   -- the end: the lines handed out are those of the whole input
   pub reading_end : (call : Call old new next left before now (Ok End)) → IsWhole (given ++ call.got) handed left

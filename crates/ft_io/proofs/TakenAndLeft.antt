@@ -1,5 +1,5 @@
 -- What several calls do to the bytes that a source has left and that a sink has taken, where those are told.
-use Rattle.std.proofs.Common.{◌≡◌, ℕ, List, [], ◌++◌, Option, Some, None, refl, sym, ◌∙◌, ap, append_assoc, append-nil}
+use Rattle.std.proofs.Common.{◌≡◌, ℕ, List, [], ◌++◌, Option, Some, None, IfSome, refl, sym, ◌∙◌, ap, subst, append_assoc, append-nil}
 use Rattle.std.specs.Io.KnownBytes.{Appends, Consumes, Keeps, IsAtEnd}
 
 pub Consumes-nil : (left : Option (List ℕ)) → Consumes left left []
@@ -17,6 +17,12 @@ Consumes-keeps None next left xs a b = tt
 Consumes-keeps (Some bs) None left xs a b = absurd a
 Consumes-keeps (Some bs) (Some cs) None xs a b = absurd b
 Consumes-keeps (Some bs) (Some cs) (Some ds) xs a b = a ∙ ap (λ rest. xs ++ rest) (sym b)
+
+-- at its end a source has given all that it had
+pub IfSome-consumed : (P : List ℕ → Type 0) (first left : Option (List ℕ)) (given : List ℕ) → Consumes first left given → IsAtEnd left → P given → IfSome first P
+IfSome-consumed P None left given a end p = tt
+IfSome-consumed P (Some bs) None given a end p = absurd a
+IfSome-consumed P (Some bs) (Some cs) given a end p = subst P (sym (a ∙ ap (λ rest. given ++ rest) end ∙ append-nil given)) p
 
 pub Appends-nil : (held : Option (List ℕ)) → Appends held held []
 Appends-nil None = tt

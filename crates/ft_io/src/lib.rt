@@ -9,6 +9,8 @@ mod pieces;
 pub mod reader;
 pub mod standard;
 pub mod streams;
+#[cfg(test)]
+mod tests;
 
 pub use byte_lists::Bytes;
 pub use memory::{MemSink, MemSource};

@@ -1,6 +1,6 @@
 //! The lines of what a source gives.
 
-ghost use Rattle.std.specs.Prelude.{◌≡◌, IfOk, IfSome, IfNone, IsTrue, IsNone, Ok, Err};
+ghost use Rattle.std.specs.Prelude.{◌≡◌, IfOk, IfSome, IsTrue, None, Ok, Err};
 ghost use Rattle.ft_io.specs.Reader.{Call, new_reader};
 
 use crate::byte_lists::Bytes;
@@ -110,12 +110,12 @@ impl Lines {
     /// After any of the three every later call answers the same, and after the end every later call
     /// answers that: the source is not read again.
     pub fn next<S: Source>(&mut self, src: &mut S) -> Result<Line, LineFault>
-        ensures call { IfNone self.old.fault (Call self.old self.new (S.remaining src.old) (S.remaining src.new)
-            (S.faults src.old) (S.faults src.new) result) }
+        ensures call { self.old.fault ≡ None → Call self.old self.new (S.remaining src.old) (S.remaining src.new)
+            (S.faults src.old) (S.faults src.new) result }
         ensures stopped { IfSome self.old.fault (λ fault.
             (result ≡ Err fault) × (self.new ≡ self.old) × (src.new ≡ src.old)) }
-        ensures ended { IfNone self.old.fault (IsTrue self.old.ended →
-            (result ≡ Ok Line.End) × (self.new ≡ self.old) × (src.new ≡ src.old)) }
+        ensures ended { self.old.fault ≡ None → IsTrue self.old.ended →
+            (result ≡ Ok Line.End) × (self.new ≡ self.old) × (src.new ≡ src.old) }
     {
         if let Some(fault) = self.fault {
             return Err(fault);

@@ -1,10 +1,11 @@
 -- The compact text of a canonical value reads back as that value.
-use Rattle.std.proofs.Common.{◌≡◌, ℕ, suc, ◌^◌, ◌<◌, ◌≤◌, max, pos, negsuc, cond, ◌==◌, List, [], ◌∷◌, ◌++◌, get_or, drop, Bool, true, false, ◌||◌, Option, Some, Ok, option_map, option_and_then, Ordering, Less, Equal, Greater, nat_cmp, decimal, refl, sym, ap, ap₂, ◌∙◌, subst, arith, append-nil, ltb-true, ne_eqb}
-use Rattle.std.proofs.lemmas.Bool.{true≢false, false≢true}
+use Rattle.std.proofs.Common.{◌≡◌, ℕ, suc, ◌^◌, ◌<◌, ◌≤◌, max, pos, negsuc, cond, ◌==◌, List, [], ◌∷◌, ◌++◌, get_or, drop, true, false, Some, Ok, option_map, option_and_then, unwrap_or, Less, Greater, nat_cmp, decimal, refl, sym, ap, ap₂, ◌∙◌, subst, arith, append-nil, ltb-true, ne_eqb}
+use Rattle.std.proofs.lemmas.Bool.{false≢true}
 use Rattle.std.proofs.lemmas.Cmp.{nat_list_cmp_total}
 use Rattle.std.proofs.lemmas.Fmt.{first_decimal}
+use Rattle.std.proofs.lemmas.Option.{same_Some}
 use Rattle.std.specs.Cmp.Lexicographic.{slice_cmp}
-use Rattle.std.specs.Ordering.{match_ordering, ordering_reverse}
+use Rattle.std.specs.Ordering.{ordering_reverse}
 use Rattle.std.specs.Prelude.{⊤}
 use Rattle.json.specs.Lex.{tokens}
 use Rattle.json.specs.Word.{head, after_whole, after_fraction, after_exponent, after_number}
@@ -19,7 +20,7 @@ use Rattle.serde_json.specs.Read.{number_of, of_json, of_items, of_members, read
 use Rattle.serde_json.specs.Written.{outline, items_outline, members_outline, number_text, compact_text}
 use Rattle.serde_json.proofs.Numbers.{number_of-decimal, number_of-negative}
 use Rattle.serde_json.proofs.Texts.{print-outline}
-use Rattle.ft_json.specs.Canonical.{is_whole, IsCanonical, ItemsAreCanonical, MembersAreCanonical, IsBefore}
+use Rattle.ft_json.specs.Canonical.{is_whole, IsCanonical, ItemsAreCanonical, MembersAreCanonical, IsBefore, IsTextWithin, value_of}
 use Rattle.ft_json.specs.Reading.{read_line}
 use Rattle.ft_json.proofs.CompactTexts.{IsUtf8-compact_text}
 use Rattle.ft_json.proofs.Lines.{read_line-value}
@@ -165,3 +166,25 @@ read-compact_text d h shallow =
 
 pub read_line-compact_text : (d : Data) → IsCanonical d → depth d ≤ max_depth → read_line (compact_text d) ≡ Ok d
 read_line-compact_text d h shallow = read_line-value (compact_text d) d (IsUtf8-compact_text d h) (read-compact_text d h shallow)
+
+pub one_value : (d e : Data) → IsCanonical d → IsCanonical e → depth d ≤ max_depth → depth e ≤ max_depth → compact_text d ≡ compact_text e → d ≡ e
+one_value d e p q deep steep same =
+    same_Some d e (sym (read-compact_text d p deep) ∙ ap read same ∙ read-compact_text e q steep)
+
+-- the value that a text stands for
+pub record StandsFor (levels : ℕ) (text : List ℕ) : Type 0 where
+  pub reads : read text ≡ Some (value_of text)
+  pub canonical : IsCanonical (value_of text)
+  pub shallow : depth (value_of text) ≤ levels
+  pub spells : compact_text (value_of text) ≡ text
+
+pub StandsFor-IsTextWithin : (levels : ℕ) (text : List ℕ) → levels ≤ max_depth → IsTextWithin levels text → StandsFor levels text
+StandsFor-IsTextWithin levels text small (d, canonical, shallow, spells) =
+    let reads : read text ≡ Some d = ap read spells ∙ read-compact_text d canonical (omega arith) in
+    let same : d ≡ value_of text = sym (ap (λ o. unwrap_or o null) reads) in
+    record {
+      reads = reads ∙ ap Some same;
+      canonical = subst IsCanonical same canonical;
+      shallow = subst (λ x. depth x ≤ levels) same shallow;
+      spells = sym (ap compact_text same) ∙ sym spells;
+    }

@@ -8,7 +8,6 @@ use Rattle.std.specs.String.{string_cmp}
 use Rattle.serde_json.proofs.Views.{Entry}
 use Rattle.serde_json.specs.View.{view, items_view, members_view}
 use Rattle.serde_json.specs.declared.value.Value.{Value, Null, the_lemmas}
-use Rattle.serde_json.specs.declared.value.Value as Value
 use Rattle.serde_json.specs.Data.{null, boolean, string}
 use Rattle.ft_json.specs.Reading.{listed, paired}
 use Rattle.ft_json.specs.Objects.{entry_pairs}

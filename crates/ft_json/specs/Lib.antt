@@ -2,3 +2,4 @@ pub mod Fields
 pub mod Reading
 pub mod Objects
 pub mod Canonical
+pub mod Laws

@@ -5,8 +5,11 @@
 mod checks;
 pub mod faults;
 pub mod fields;
+pub mod laws;
 pub mod members;
 pub mod reading;
+#[cfg(test)]
+mod tests;
 pub mod values;
 pub mod writing;
 

@@ -14,6 +14,7 @@ use std::alloc::Global;
 
 /// The greatest count, which is also the greatest number of a field.
 const MAX_COUNT: u64 = 9007199254740991;
+
 const MAX_NUM: i64 = 9007199254740991;
 
 /// The whole number from `low` to `high` that the value is, written without fraction and exponent;

@@ -1,9 +1,12 @@
 //! The texts of JSON values that are kept.
 
 ghost use Rattle.std.specs.Prelude.{◌≡◌, ◌↔◌, IsTrue, IfOk, string_bytes};
-ghost use Rattle.ft_json.specs.Canonical.{IsCanonicalText};
+ghost use Rattle.serde_json.specs.View.{view};
+ghost use Rattle.serde_json.specs.Written.{compact_text};
+ghost use Rattle.ft_json.specs.Canonical.{IsCanonical, IsCanonicalText, IsTextWithin, value_of};
 
 use ft_base::OutOfMemory;
+use serde_json::Value;
 use std::alloc::Global;
 use std::marker::Model;
 
@@ -54,6 +57,21 @@ impl ValText {
         ensures canonical { IsCanonicalText self.now }
     {
         self.text.as_str()
+    }
+
+    /// The value that the text stands for, which has at most 127 levels.
+    ///
+    /// Answers `OutOfMemory` where there is no room for it.
+    pub fn to_value(&self) -> Result<Value, OutOfMemory>
+        requires { IsTextWithin 127 self.now }
+        ensures value { IfOk result (λ value. view value ≡ value_of self.now) }
+        ensures canonical { IfOk result (λ value. IsCanonical (view value)) }
+        ensures text { IfOk result (λ value. compact_text (view value) ≡ self.now) }
+    {
+        match Value::from_str(*self.text.allocator(), self.text.as_str()) {
+            Ok(value) => Ok(value),
+            Err(_) => Err(OutOfMemory),
+        }
     }
 
     /// An equal text.

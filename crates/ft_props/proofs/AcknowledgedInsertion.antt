@@ -7,6 +7,8 @@ use Rattle.ft_base.specs.declared.stamps.Stamp.{Stamp}
 use Rattle.ft_base.specs.declared.stamps.Stamp.TheVariants.{Acked, Local}
 use Rattle.ft_props.specs.declared.properties.Changes.{Changes}
 use Rattle.ft_base.specs.Scan.{retain_map, no_run, put_past, put}
+use Rattle.ft_base.proofs.Booleans.{all_three, both}
+use Rattle.ft_base.proofs.ScanLaws.{put_past-no_run}
 use Rattle.ft_base.specs.Visibility.{has_occurred, has_occurred_at_stage, is_acked, is_of_stage}
 use Rattle.ft_props.specs.Properties.{PropertyList, change}
 use Rattle.ft_props.specs.Element.{ListElement, ElementContent, Character, MarkerOf, GridUnit, seen_by, is_sequenced, is_pending, without_pending, sequenced_elements, new_elements}
@@ -52,17 +54,6 @@ below_mark k (Some j) = nat_lt j k
 abbrev pub expects : ℕ → ℕ → ℕ → ListElement → Bool
 expects r c k e = (has_occurred r c e.ins || below_stamp k e.ins) && not (list_any (has_occurred r c) e.dels || below_mark k e.removal_stage)
 
-three : (a b c : Bool) → a && b && c ≡ true → (a ≡ true) × (b ≡ true) × (c ≡ true)
-three true true true h = (refl, refl, refl)
-three false b c h = (cc)
-three true false c h = (cc)
-three true true false h = (cc)
-
-pub two : (a b : Bool) → a && b ≡ true → (a ≡ true) × (b ≡ true)
-two true true h = (refl, refl)
-two false b h = (cc)
-two true false h = (cc)
-
 map-choice : {A B : Type 0} (f : A → B) (b : Bool) (xs ys : List A) → cond b (map f xs) (map f ys) ≡ map f (cond b xs ys)
 map-choice f true xs ys = refl
 map-choice f false xs ys = refl
@@ -104,21 +95,17 @@ module _ (k n s c : ℕ) where
 
   acked-element_up_to : (e : ListElement) → is_from k e ≡ true → without_pending (acked_element k n s c e) ≡ acked_element k n s c (element_up_to k e)
   acked-element_up_to e h =
-      let left : remaining_removal k (removal_up_to k e.removal_stage) ≡ None = element_up_to-left e.removal_stage (three (from_stamp k e.ins) (from_mark k e.removal_stage) (list_all (λ p. nat_le k p.0) e.pending) h).1 in
-      let none : filter (λ p. not (nat_eq p.0 k)) (filter (λ p. nat_le p.0 k) e.pending) ≡ [] = element_up_to-pending e.pending (three (from_stamp k e.ins) (from_mark k e.removal_stage) (list_all (λ p. nat_le k p.0) e.pending) h).2 in
+      let left : remaining_removal k (removal_up_to k e.removal_stage) ≡ None = element_up_to-left e.removal_stage (all_three (from_stamp k e.ins) (from_mark k e.removal_stage) (list_all (λ p. nat_le k p.0) e.pending) h).1 in
+      let none : filter (λ p. not (nat_eq p.0 k)) (filter (λ p. nat_le p.0 k) e.pending) ≡ [] = element_up_to-pending e.pending (all_three (from_stamp k e.ins) (from_mark k e.removal_stage) (list_all (λ p. nat_le k p.0) e.pending) h).2 in
       rw (element_up_to-removal e.removal_stage, element_up_to-props e.props e.pending, left, none) refl
 
   -- after the acknowledgement the sequenced list is the list up to the stage, acknowledged
   pub sequenced_elements-acked : (xs : List ListElement) → list_all (is_from k) xs ≡ true → sequenced_elements (map (acked_element k n s c) xs) ≡ map (acked_element k n s c) (list_up_to k xs)
   sequenced_elements-acked [] h = refl
   sequenced_elements-acked (e ∷ xs) h =
-      let here = two (is_from k e) (list_all (is_from k) xs) h in
-      let ins : is_acked (acked_stamp k s c e.ins) ≡ has_occurred_at_stage k e.ins = reached e.ins (three (from_stamp k e.ins) (from_mark k e.removal_stage) (list_all (λ p. nat_le k p.0) e.pending) here.0).0 in
+      let here = both (is_from k e) (list_all (is_from k) xs) h in
+      let ins : is_acked (acked_stamp k s c e.ins) ≡ has_occurred_at_stage k e.ins = reached e.ins (all_three (from_stamp k e.ins) (from_mark k e.removal_stage) (list_all (λ p. nat_le k p.0) e.pending) here.0).0 in
       rw (ins, acked-element_up_to e here.0, sequenced_elements-acked xs here.1) (map-choice (acked_element k n s c) (has_occurred_at_stage k e.ins) (element_up_to k e ∷ list_up_to k xs) (list_up_to k xs))
-
-no_past : {A : Type 0} (new xs : List A) → put_past no_run new xs ≡ new ++ xs
-no_past new [] = sym (append-nil new)
-no_past new (x ∷ xs) = refl
 
 none_past : {A : Type 0} (keep past : A → Bool) (g : A → A) → ((x : A) → keep x ≡ true → past (g x) ≡ false) → (new xs : List A)
     → put_past past new (retain_map keep g xs) ≡ new ++ retain_map keep g xs
@@ -133,14 +120,14 @@ map-fixed keep g f h (x ∷ xs) = grind (arith, map-fixed keep g f h xs, h x)
 pub map-put : {A : Type 0} (keep seen : A → Bool) (g f : A → A) → ((x : A) → keep x ≡ true → f (g x) ≡ g x) → (p : ℕ) (new xs : List A)
     → map f (put seen no_run p new (retain_map keep g xs)) ≡ put seen no_run p (map f new) (retain_map keep g xs)
 map-put keep seen g f h zero new xs =
-    ap (map f) (no_past new (retain_map keep g xs)) ∙ map-append f new (retain_map keep g xs) ∙ ap (λ ys. map f new ++ ys) (map-fixed keep g f h xs) ∙ sym (no_past (map f new) (retain_map keep g xs))
+    ap (map f) (put_past-no_run new (retain_map keep g xs)) ∙ map-append f new (retain_map keep g xs) ∙ ap (λ ys. map f new ++ ys) (map-fixed keep g f h xs) ∙ sym (put_past-no_run (map f new) (retain_map keep g xs))
 map-put keep seen g f h (suc p) new [] = refl
 map-put keep seen g f h (suc p) new (x ∷ xs) = grind (arith, map-put keep seen g f h p new xs, map-put keep seen g f h (suc p) new xs, h x)
 
--- two tests that agree on the elements of a list, where none is gone past
+-- both tests that agree on the elements of a list, where none is gone past
 pub put-agree : {A : Type 0} (keep seen seen' past : A → Bool) (g : A → A) → ((x : A) → keep x ≡ true → seen (g x) ≡ seen' (g x)) → ((x : A) → keep x ≡ true → past (g x) ≡ false)
     → (p : ℕ) (new xs : List A) → put seen no_run p new (retain_map keep g xs) ≡ put seen' past p new (retain_map keep g xs)
-put-agree keep seen seen' past g h q zero new xs = no_past new (retain_map keep g xs) ∙ sym (none_past keep past g q new xs)
+put-agree keep seen seen' past g h q zero new xs = put_past-no_run new (retain_map keep g xs) ∙ sym (none_past keep past g q new xs)
 put-agree keep seen seen' past g h q (suc p) new [] = refl
 put-agree keep seen seen' past g h q (suc p) new (x ∷ xs) = grind (arith, put-agree keep seen seen' past g h q p new xs, put-agree keep seen seen' past g h q (suc p) new xs, h x, q x)
 
@@ -169,7 +156,7 @@ new-acked : (k n s c i : ℕ) (props : PropertyList) (items : List ElementConten
     → map (acked_element k n s c) (new_elements i (Local k) [] None props items) ≡ new_elements (n + i) (Acked s c) [] (Some (Acked s c)) props items
 new-acked k n s c i props [] h = refl
 new-acked k n s c i props (b ∷ bs) h =
-    let t = two (is_text b) (list_all is_text bs) h in
+    let t = both (is_text b) (list_all is_text bs) h in
     let stage : nat_eq k k ≡ true = same_nat k in
     let next : n + (i + 1) ≡ n + i + 1 = omega arith in
     rw (stage, author-text s c b t.0, new-acked k n s c (i + 1) props bs t.1, next) refl

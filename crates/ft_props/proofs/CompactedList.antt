@@ -6,14 +6,10 @@ use Rattle.ft_base.specs.declared.stamps.Stamp.{Stamp}
 use Rattle.ft_base.specs.declared.stamps.Stamp.TheVariants.{Acked, Local}
 use Rattle.ft_base.specs.Scan.{one_more_if, len, put_past, put, retain_map}
 use Rattle.ft_props.specs.Compaction.{trim_element}
+use Rattle.ft_base.proofs.Booleans.{both}
 use Rattle.ft_base.specs.Visibility.{has_occurred, is_acked}
 use Rattle.ft_props.specs.Element.{ListElement, ElementId, id, id_of_stamp, seen_by, is_pending, removal_stamp}
 use Rattle.ft_props.specs.Compaction.{Keeps, none, same, universal, collected, is_collectable, has_collectable_removal, is_insertion_at_or_below, with_universal_insertion, is_before_pending}
-
-both : (a b : Bool) → a && b ≡ true → (a ≡ true) × (b ≡ true)
-both true true h = (refl, refl)
-both true false h = (cc)
-both false b h = (cc)
 
 module _ (floor r c : ℕ) (above : floor ≤ r) where
   -- what is at or below the floor is known

@@ -4,3 +4,7 @@ pub mod AcknowledgedInsertion
 pub mod PlacedInsertion
 pub mod RebuiltList
 pub mod CompactedList
+pub mod Utf8Order
+pub mod RisingKeys
+pub mod Digits
+pub mod CanonicalNumbers

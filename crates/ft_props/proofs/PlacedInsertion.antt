@@ -7,13 +7,14 @@ use Rattle.ft_base.specs.declared.stamps.Stamp.{Stamp}
 use Rattle.ft_base.specs.declared.stamps.Stamp.TheVariants.{Acked, Local}
 use Rattle.ft_base.specs.Scan.{retain_map, one_more_if, len, no_run, put, put_past}
 use Rattle.ft_base.specs.Visibility.{has_occurred, has_occurred_at_stage, is_acked}
+use Rattle.ft_base.proofs.Booleans.{all_four, both}
 use Rattle.ft_base.proofs.ScanLaws.{Keeping, len-retain_map, put-retain_map}
 use Rattle.ft_base.proofs.TwoInsertions.{swap}
 use Rattle.ft_props.specs.declared.properties.Changes.{Changes}
 use Rattle.ft_props.specs.Properties.{PropertyList}
 use Rattle.ft_props.specs.Element.{ElementContent, ListElement, is_pending, new_elements, removal_stamp, seen, seen_by}
 use Rattle.ft_props.proofs.SequencedElements.{any-has_occurred, has_occurred-pending}
-use Rattle.ft_props.proofs.AcknowledgedInsertion.{two, below_stamp, below_mark, element_up_to, removal_up_to, list_up_to, expects}
+use Rattle.ft_props.proofs.AcknowledgedInsertion.{below_stamp, below_mark, element_up_to, removal_up_to, list_up_to, expects}
 
 abbrev is_upto : ℕ → ListElement → Bool
 is_upto k e = has_occurred_at_stage k e.ins
@@ -102,13 +103,6 @@ stamp_known r c k (Local j) = nat_le j k
 abbrev is_current : ℕ → ℕ → ℕ → ListElement → Bool
 is_current r c k e = stamp_known r c k e.ins && list_all (has_occurred r c) e.dels && mark_upto k e.removal_stage && list_all (λ p. nat_le p.0 k) e.pending
 
-four : (a b c d : Bool) → a && b && c && d ≡ true → (a ≡ true) × (b ≡ true) × (c ≡ true) × (d ≡ true)
-four true true true true h = (refl, refl, refl, refl)
-four false b c d h = (cc)
-four true false c d h = (cc)
-four true true false d h = (cc)
-four true true true false h = (cc)
-
 ins-expected : (r c k : ℕ) (t : Stamp) → stamp_known r c k t ≡ true → has_occurred r c t || below_stamp (suc k) t ≡ has_occurred_at_stage k t
 ins-expected r c k (Acked s d) h = rw h refl
 ins-expected r c k (Local j) h = grind (arith, nat_tests)
@@ -125,7 +119,7 @@ mark-expected k (Some j) h = grind (arith, nat_tests)
 -- at the edit itself the message will see just what the client sees
 expected-now : (r c k : ℕ) (e : ListElement) → is_current r c k e ≡ true → expects r c (suc k) e ≡ seen k e
 expected-now r c k e h =
-    let p = four (stamp_known r c k e.ins) (list_all (has_occurred r c) e.dels) (mark_upto k e.removal_stage) (list_all (λ q. nat_le q.0 k) e.pending) h in
+    let p = all_four (stamp_known r c k e.ins) (list_all (has_occurred r c) e.dels) (mark_upto k e.removal_stage) (list_all (λ q. nat_le q.0 k) e.pending) h in
     rw (ins-expected r c k e.ins p.0, dels-expected r c k e.dels p.1, mark-expected k e.removal_stage p.2, list_any-append (has_occurred_at_stage k) e.dels (removal_stamp e.removal_stage)) refl
 
 reached-now : (r c k : ℕ) (t : Stamp) → stamp_known r c k t ≡ true → has_occurred_at_stage k t ≡ true
@@ -142,28 +136,28 @@ filter-now k (x ∷ pending) h = grind (arith, filter-now k pending)
 
 element_up_to-now : (r c k : ℕ) (e : ListElement) → is_current r c k e ≡ true → element_up_to k e ≡ e
 element_up_to-now r c k e h =
-    let p = four (stamp_known r c k e.ins) (list_all (has_occurred r c) e.dels) (mark_upto k e.removal_stage) (list_all (λ q. nat_le q.0 k) e.pending) h in
+    let p = all_four (stamp_known r c k e.ins) (list_all (has_occurred r c) e.dels) (mark_upto k e.removal_stage) (list_all (λ q. nat_le q.0 k) e.pending) h in
     rw (element_up_to-mark-now k e.removal_stage p.2, filter-now k e.pending p.3) refl
 
 -- a list in which all is current is the list up to its last stage
 list_up_to-now : (r c k : ℕ) (xs : List ListElement) → list_all (is_current r c k) xs ≡ true → list_up_to k xs ≡ xs
 list_up_to-now r c k [] h = refl
 list_up_to-now r c k (e ∷ xs) h =
-    let p = two (is_current r c k e) (list_all (is_current r c k) xs) h in
-    let stamp = reached-now r c k e.ins (four (stamp_known r c k e.ins) (list_all (has_occurred r c) e.dels) (mark_upto k e.removal_stage) (list_all (λ q. nat_le q.0 k) e.pending) p.0).0 in
+    let p = both (is_current r c k e) (list_all (is_current r c k) xs) h in
+    let stamp = reached-now r c k e.ins (all_four (stamp_known r c k e.ins) (list_all (has_occurred r c) e.dels) (mark_upto k e.removal_stage) (list_all (λ q. nat_le q.0 k) e.pending) p.0).0 in
     rw (stamp, element_up_to-now r c k e p.0, list_up_to-now r c k xs p.1) refl
 
 put-agree-now : (r c k p : ℕ) (new xs : List ListElement) → list_all (is_current r c k) xs ≡ true → put (seen k) no_run p new xs ≡ put (expects r c (suc k)) no_run p new xs
 put-agree-now r c k zero new xs h = refl
 put-agree-now r c k (suc p) new [] h = refl
 put-agree-now r c k (suc p) new (e ∷ xs) h =
-    let q = two (is_current r c k e) (list_all (is_current r c k) xs) h in
+    let q = both (is_current r c k e) (list_all (is_current r c k) xs) h in
     rw (expected-now r c k e q.0) (ap (λ ys. e ∷ ys) (put-agree-now r c k (cond (seen k e) p (suc p)) new xs q.1))
 
 len-agree-now : (r c k : ℕ) (xs : List ListElement) → list_all (is_current r c k) xs ≡ true → len (expects r c (suc k)) xs ≡ len (seen k) xs
 len-agree-now r c k [] h = refl
 len-agree-now r c k (e ∷ xs) h =
-    let q = two (is_current r c k e) (list_all (is_current r c k) xs) h in
+    let q = both (is_current r c k e) (list_all (is_current r c k) xs) h in
     rw (expected-now r c k e q.0) (ap (one_more_if (seen k e)) (len-agree-now r c k xs q.1))
 
 -- elements that are left out leave no trace where they were put
@@ -198,14 +192,14 @@ more-mark k (Some j) h = grind (arith, nat_tests)
 more-pending : (k : ℕ) (pending : List (ℕ × Changes)) → list_all (λ q. nat_le q.0 k) pending ≡ true → list_all (λ q. nat_le q.0 (suc k)) pending ≡ true
 more-pending k [] h = refl
 more-pending k ((j, ch) ∷ pending) h =
-    let p = two (nat_le j k) (list_all (λ q. nat_le q.0 k) pending) h in
+    let p = both (nat_le j k) (list_all (λ q. nat_le q.0 k) pending) h in
     rw (more-mark k (Some j) p.0, more-pending k pending p.1) refl
 
 more-current : (r c k : ℕ) (xs : List ListElement) → list_all (is_current r c k) xs ≡ true → list_all (is_current r c (suc k)) xs ≡ true
 more-current r c k [] h = refl
 more-current r c k (e ∷ xs) h =
-    let p = two (is_current r c k e) (list_all (is_current r c k) xs) h in
-    let q = four (stamp_known r c k e.ins) (list_all (has_occurred r c) e.dels) (mark_upto k e.removal_stage) (list_all (λ i. nat_le i.0 k) e.pending) p.0 in
+    let p = both (is_current r c k e) (list_all (is_current r c k) xs) h in
+    let q = all_four (stamp_known r c k e.ins) (list_all (has_occurred r c) e.dels) (mark_upto k e.removal_stage) (list_all (λ i. nat_le i.0 k) e.pending) p.0 in
     rw (more-stamp r c k e.ins q.0, q.1, more-mark k e.removal_stage q.2, more-pending k e.pending q.3, more-current r c k xs p.1) refl
 
 own-stage : (k : ℕ) → nat_le (suc k) (suc k) ≡ true

@@ -5,6 +5,7 @@ use Rattle.std.proofs.lemmas.Bool.Decides.{nat_tests}
 use Rattle.ft_base.specs.declared.stamps.Stamp.{Stamp}
 use Rattle.ft_base.specs.declared.stamps.Stamp.TheVariants.{Acked, Local}
 use Rattle.ft_base.specs.Scan.{retain_map, no_run, put_past, put}
+use Rattle.ft_base.proofs.ScanLaws.{put_past-no_run}
 use Rattle.ft_base.specs.Visibility.{has_occurred_at_stage, is_acked, is_of_stage}
 use Rattle.ft_props.specs.Element.{ListElement, seen, is_sequenced, without_pending, removal_stamp}
 use Rattle.ft_props.specs.Steps.{is_inserted_by, stage_position, put_stage, carried_element}
@@ -18,14 +19,10 @@ filter-append : {A : Type 0} (test : A → Bool) (xs ys : List A) → filter tes
 filter-append test [] ys = refl
 filter-append test (x ∷ xs) ys = grind (arith, filter-append test xs ys)
 
-no_past : {A : Type 0} (new xs : List A) → put_past no_run new xs ≡ new ++ xs
-no_past new [] = sym (append-nil new)
-no_past new (x ∷ xs) = refl
-
 -- a test that passes wherever the place looks goes through an insertion
 put-filter : {A : Type 0} (test place : A → Bool) → ((x : A) → test x ≡ false → place x ≡ false) → (p : ℕ) (new xs : List A)
     → filter test (put place no_run p new xs) ≡ put place no_run p (filter test new) (filter test xs)
-put-filter test place h zero new xs = ap (filter test) (no_past new xs) ∙ filter-append test new xs ∙ sym (no_past (filter test new) (filter test xs))
+put-filter test place h zero new xs = ap (filter test) (put_past-no_run new xs) ∙ filter-append test new xs ∙ sym (put_past-no_run (filter test new) (filter test xs))
 put-filter test place h (suc p) new [] = refl
 put-filter test place h (suc p) new (x ∷ xs) = grind (arith, put-filter test place h p new xs, put-filter test place h (suc p) new xs, h x)
 
@@ -48,7 +45,7 @@ any-both is [] zs g h = h
 any-both is (y ∷ ys) zs g h = grind (arith, any-both is ys zs)
 
 any-put : {A : Type 0} (is test : A → Bool) (p : ℕ) (new xs : List A) → list_any is new ≡ false → list_any is xs ≡ false → list_any is (put test no_run p new xs) ≡ false
-any-put is test zero new xs g h = ap (list_any is) (no_past new xs) ∙ any-both is new xs g h
+any-put is test zero new xs g h = ap (list_any is) (put_past-no_run new xs) ∙ any-both is new xs g h
 any-put is test (suc p) new [] g h = g
 any-put is test (suc p) new (x ∷ xs) g h = grind (arith, any-put is test p new xs, any-put is test (suc p) new xs)
 

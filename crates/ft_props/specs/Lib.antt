@@ -1,3 +1,4 @@
+pub mod Keys
 pub mod Properties
 pub mod Element
 pub mod Steps

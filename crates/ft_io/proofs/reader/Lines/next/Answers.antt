@@ -10,8 +10,7 @@ returns-then-self-clause-call g c =
     let old = c.args.self.now in
     let left = g.S.Source.remaining c.args.src.now in
     let now = g.S.Source.faults c.args.src.now in
-    let runs : old.fault ≡ None = sym (ap (λ r. r.fault) c.self.view_is) ∙ c.in_default.is in
     let ended = sym (ap (λ r. r.ended) c.self.view_is) ∙ c.if-self.true in
     let within : old.given ≤ input_limit + 1 = subst (λ given. given ≤ input_limit + 1) (ap (λ r. r.given) c.self.view_is) a.intake.within in
     let nothing = sym (ap (λ r. r.pending) c.self.view_is) ∙ a.intake.none_left c.if-self.true in
-    subst (λ fault. IfNone fault (Call old old left left now now (Ok End))) (sym runs) (call_ended old left now within ended nothing runs)
+    λ runs. call_ended old left now within ended nothing runs

@@ -1,0 +1,9 @@
+pub mod IdLemmas
+pub mod RingLemmas
+pub mod ArenaLemmas
+pub mod HookLemmas
+pub mod KidLemmas
+pub mod LinkLemmas
+pub mod UnlinkLemmas
+pub mod MoveLemmas
+pub mod ChildLemmas

@@ -1,0 +1,65 @@
+-- What `link_after` leaves.
+use Rattle.std.proofs.Common.{◌≡◌, ◌≢◌, ℕ, get_or, Option, Some, None, refl, sym, ap, ◌∙◌, arith}
+use Rattle.std.specs.Option.{option_map}
+use Rattle.slab.specs.Slab.{Slab, get, Updates}
+use Rattle.ft_arena.specs.declared.nodes.Slot.{Slot}
+use Rattle.ft_arena.specs.declared.nodes.Node.TheVariants.{Leaf}
+use Rattle.ft_arena.specs.Ids.{put_after}
+use Rattle.ft_arena.specs.Forest.{Forest, Changes, count_some, leaf_of_entry, kids_of_entry, parent_of_entry, entry}
+use Rattle.ft_arena.specs.Links.{IsSound, entries_of, entry_of, leaves_of, live_of, next_of, prev_of, view_of, SetsNext, SetsPrev, next_of_slot, prev_of_slot, HasPlace}
+use Rattle.ft_arena.proofs.ArenaLemmas.{entries_at}
+use Rattle.ft_arena.proofs.KidLemmas.{kept}
+use Rattle.ft_arena.proofs.HookLemmas.{IsLinked, hooked, linked_from, leaves_from, sound_from, placed}
+
+module _ {L B : Type 0} (s0 s1 s2 s3 : Slab (Slot L B)) (h0 t0 h2 t3 at next : Option ℕ) (id : ℕ) (leaf : L) (sound : IsSound record { slots = s0; head = h0; tail = t0 }) (place : live_of (entries_of s0) at ≡ 1) (follows : next ≡ next_of s0 h0 at) (vacant : get s0 id ≡ None) (ups : Updates s0 s1 id (Some record { node = Leaf leaf; parent = None; prev = at; next = next })) (nx : SetsNext s1 h0 s2 h2 at (Some id)) where
+  fresh : live_of (entries_of s0) (Some id) ≡ 0
+  fresh = ap (λ o. count_some (leaf_of_entry o)) (entries_at s0 id ∙ ap (option_map entry_of) vacant)
+
+  next_is_live : live_of (entries_of s0) next ≡ 1
+  next_is_live = ap (live_of (entries_of s0)) follows ∙ sound.0.ring.next_live at place
+
+  at_apart : Some id ≢ at
+  at_apart = λ e. omega (arith, fresh, place, ap (live_of (entries_of s0)) e)
+
+  next_apart : Some id ≢ next
+  next_apart = λ e. omega (arith, fresh, next_is_live, ap (live_of (entries_of s0)) e)
+
+  nexts1 : (p : Option ℕ) → p ≢ Some id → next_of s1 h0 p ≡ next_of s0 h0 p
+  nexts1 None d = refl
+  nexts1 (Some x) d = ap next_of_slot (ups.others x (λ e. d (ap Some e)))
+
+  prevs1 : (p : Option ℕ) → p ≢ Some id → prev_of s1 t0 p ≡ prev_of s0 t0 p
+  prevs1 None d = refl
+  prevs1 (Some x) d = ap prev_of_slot (ups.others x (λ e. d (ap Some e)))
+
+  there1 : (s : Slab (Slot L B)) → entries_of s ≡ entries_of s1 → (x : ℕ) → x ≢ id → get_or (entries_of s) x None ≡ get_or (entries_of s0) x None
+  there1 s e x d = ap (λ es. get_or es x None) e ∙ entries_at s1 x ∙ ap (option_map entry_of) (ups.others x d) ∙ sym (entries_at s0 x)
+
+  lives1 : (s : Slab (Slot L B)) → entries_of s ≡ entries_of s1 → (p : Option ℕ) → p ≢ Some id → live_of (entries_of s) p ≡ live_of (entries_of s0) p
+  lives1 s e None d = refl
+  lives1 s e (Some x) d = ap (λ o. count_some (leaf_of_entry o)) (there1 s e x (λ q. d (ap Some q)))
+
+  -- the slot after the new one has its place when `set_prev` is called
+  pub next_has_place : HasPlace s2 next
+  next_has_place = placed s0 s2 next (lives1 s2 nx.entries next (λ e. next_apart (sym e))) next_is_live
+
+  module _ (pv : SetsPrev s2 t0 s3 t3 next (Some id)) where
+    entries3 : entries_of s3 ≡ entries_of s1
+    entries3 = pv.entries ∙ nx.entries
+
+    pub linked_changes : Changes (view_of record { slots = s0; head = h0; tail = t0 }) (view_of record { slots = s3; head = h2; tail = t3 }) id (Some record { node = Leaf leaf; parent = None })
+    linked_changes = record { changed = ap (λ es. get_or es id None) entries3 ∙ entries_at s1 id ∙ ap (option_map entry_of) ups.changed; others = there1 s3 entries3 }
+
+    links : IsLinked (live_of (entries_of s3)) (next_of s3 h2) (prev_of s3 t3) (put_after (leaves_of s0 h0) at id)
+    links =
+        hooked (live_of (entries_of s0)) (next_of s0 h0) (prev_of s0 t0) (live_of (entries_of s3)) (next_of s3 h2) (prev_of s3 t3) (leaves_of s0 h0) id (linked_from s0 h0 t0 sound) at place fresh (ap (λ o. count_some (leaf_of_entry o)) linked_changes.changed) (lives1 s3 entries3) (pv.nexts h2 at ∙ nx.changed) (pv.nexts h2 (Some id) ∙ nx.others (Some id) at_apart ∙ ap next_of_slot ups.changed ∙ follows) (λ p a d. pv.nexts h2 p ∙ nx.others p a ∙ nexts1 p d) (ap (prev_of s3 t3) (sym follows) ∙ pv.changed) (pv.others (Some id) next_apart ∙ nx.prevs t0 (Some id) ∙ ap prev_of_slot ups.changed) (λ p a d. pv.others p (λ e. a (e ∙ follows)) ∙ nx.prevs t0 p ∙ prevs1 p d)
+
+    pub linked_leaves : leaves_of s3 h2 ≡ put_after (leaves_of s0 h0) at id
+    linked_leaves = leaves_from s3 h2 t3 _ links
+
+    pub linked_sound : IsSound record { slots = s3; head = h2; tail = t3 }
+    linked_sound =
+        let a : Forest L B = view_of record { slots = s0; head = h0; tail = t0 } in
+        let b : Forest L B = view_of record { slots = s3; head = h2; tail = t3 } in
+        let none : entry a id ≡ None = entries_at s0 id ∙ ap (option_map entry_of) vacant in
+        sound_from s0 s3 h0 t0 h2 t3 _ sound links (kept kids_of_entry a b id _ linked_changes (sym (ap kids_of_entry none))) (kept parent_of_entry a b id _ linked_changes (sym (ap parent_of_entry none)))

@@ -1,0 +1,278 @@
+//! The arena itself: leaves in one list, and blocks with children, each node under a number.
+
+ghost use Rattle.std.specs.Prelude.{◌≡◌, ◌≢◌, ℕ, ◌+◌, ◌^◌, ◌<◌, ◌≤◌, [], ◌∷◌, length, Some, None, OnOk, IsSome, MatchOption, slice_get};
+ghost use Rattle.std.specs.Borrow.{sem};
+ghost use Rattle.ft_arena.specs.Forest.{Forest, IsForest, Changes, IsPlace, entry, leaf_value, block_value, parent_of, kids_of, PutsChild, TakesChild};
+ghost use Rattle.ft_arena.specs.Ids.{put_after, without, first, after};
+
+use crate::links::{next_at, raw, set_next, set_prev, wrap};
+use crate::nodes::{Node, Slot};
+use crate::numbers::{Kids, NodeId};
+use ft_base::{OutOfMemory, Steps};
+use slab::Slab;
+use std::alloc::Global;
+use std::marker::Model;
+use std::sync::ledger::Ledger;
+
+/// Nodes by number: leaves, which stand in one list, and blocks, which have children. A contract sees
+/// the list of leaves from first to last, the node and its parent at each number, and how many nodes
+/// may be made before memory is needed again.
+#[derive(Drop)]
+pub struct Arena<L, B> {
+    slots: Slab<Slot<L, B>>,
+    head: Option<usize>,
+    tail: Option<usize>,
+}
+
+impl<L, B> Model for Arena<L, B> {
+    ghost use Rattle.ft_arena.specs.Forest.{Forest};
+
+    ghost Value = { Forest L B };
+
+    ghost use Rattle.ft_arena.specs.Links.{view_of, IsSound};
+
+    ghost view = { view_of };
+
+    ghost invariant = { IsSound };
+}
+
+impl<L, B> Arena<L, B> {
+    ghost use Rattle.ft_arena.specs.Lends.{lends_leaf, lends_block};
+
+    /// An arena without nodes. It takes no memory.
+    pub fn new(alloc: Global) -> Arena<L, B>
+        ensures leaves { result.leaves ≡ [] }
+        ensures nodes { (id : ℕ) → entry result id ≡ None }
+        ensures sound { IsForest result }
+    {
+        Arena {
+            slots: Slab::new(alloc),
+            head: None,
+            tail: None,
+        }
+    }
+
+    /// Makes room for `n` more nodes.
+    ///
+    /// Answers `OutOfMemory` where there is no room for them, and then every node is as it was.
+    pub fn reserve(&mut self, n: usize) -> Result<(), OutOfMemory>
+        ensures room { OnOk result (n ≤ self.new.spare) }
+        ensures spare { self.old.spare ≤ self.new.spare }
+        ensures kept { self.new ≡ record self.old { spare = self.new.spare } }
+    {
+        self.slots.reserve(n)?;
+        Ok(())
+    }
+
+    /// Puts a new leaf directly after the given one, or first where none is given. It takes no memory.
+    pub fn link_after(&mut self, at: Option<NodeId>, leaf: L) -> NodeId
+        requires room { 1 ≤ self.old.spare }
+        requires place { IsPlace self.old at }
+        ensures leaves { self.new.leaves ≡ put_after self.old.leaves at result }
+        ensures changes { Changes self.old self.new result (Some record { node = Node.Leaf leaf; parent = None }) }
+        ensures fresh { entry self.old result ≡ None }
+        ensures spare { self.old.spare ≡ self.new.spare + 1 }
+        ensures sound { IsForest self.new }
+    {
+        let at = raw(at);
+        let next = next_at(&self.slots, self.head, at);
+        let slot = Slot {
+            node: Node::Leaf { value: leaf },
+            parent: None,
+            prev: at,
+            next,
+        };
+        let id = self.slots.insert_reserved(slot);
+        set_next(&mut self.slots, &mut self.head, at, Some(id));
+        set_prev(&mut self.slots, &mut self.tail, next, Some(id));
+        NodeId(id)
+    }
+
+    /// Takes a leaf that has no parent out, and answers its value. It takes no memory.
+    pub fn unlink(&mut self, id: NodeId) -> L
+        requires live { IsSome (leaf_value self.old id) }
+        requires alone { parent_of self.old id ≡ None }
+        ensures value { leaf_value self.old id ≡ Some result }
+        ensures leaves { self.new.leaves ≡ without self.old.leaves id }
+        ensures changes { Changes self.old self.new id None }
+        ensures spare { self.new.spare ≡ self.old.spare + 1 }
+        ensures sound { IsForest self.new }
+    {
+        let slot = self.slots.remove(id.0);
+        let Slot {
+            node,
+            parent: _,
+            prev: before,
+            next: after,
+        } = slot;
+        set_next(&mut self.slots, &mut self.head, before, after);
+        set_prev(&mut self.slots, &mut self.tail, after, before);
+        node.into_leaf()
+    }
+
+    /// Moves a leaf directly after another, or to the front. Its value and parent stay. It takes no
+    /// memory.
+    pub fn move_after(&mut self, id: NodeId, at: Option<NodeId>)
+        requires live { IsSome (leaf_value self.old id) }
+        requires place { IsPlace self.old at }
+        requires differ { at ≢ Some id }
+        ensures leaves { self.new.leaves ≡ put_after (without self.old.leaves id) at id }
+        ensures nodes { self.new.nodes ≡ self.old.nodes }
+        ensures spare { self.new.spare ≡ self.old.spare }
+        ensures sound { IsForest self.new }
+    {
+        let at = raw(at);
+        let id = id.0;
+        let prev = self.slots[id].prev;
+        let next = self.slots[id].next;
+        set_next(&mut self.slots, &mut self.head, prev, next);
+        set_prev(&mut self.slots, &mut self.tail, next, prev);
+        let after = next_at(&self.slots, self.head, at);
+        set_next(&mut self.slots, &mut self.head, Some(id), after);
+        set_prev(&mut self.slots, &mut self.tail, Some(id), at);
+        set_next(&mut self.slots, &mut self.head, at, Some(id));
+        set_prev(&mut self.slots, &mut self.tail, after, Some(id));
+    }
+
+    /// Takes a block without children and parent out, and answers its value. It takes no memory.
+    pub fn drop_block(&mut self, id: NodeId) -> B
+        requires block { IsSome (block_value self.old id) }
+        requires empty { kids_of self.old id ≡ [] }
+        requires alone { parent_of self.old id ≡ None }
+        ensures value { block_value self.old id ≡ Some result }
+        ensures leaves { self.new.leaves ≡ self.old.leaves }
+        ensures changes { Changes self.old self.new id None }
+        ensures spare { self.new.spare ≡ self.old.spare + 1 }
+        ensures sound { IsForest self.new }
+    {
+        let slot = self.slots.remove(id.0);
+        let Slot {
+            node,
+            parent: _,
+            prev: _,
+            next: _,
+        } = slot;
+        node.into_block()
+    }
+
+    /// The first leaf: None exactly where there is no leaf. It takes no memory.
+    pub fn first(&self) -> Option<NodeId>
+        ensures value { result ≡ first self.now.leaves }
+        ensures sound { IsForest self.now }
+        ensures few { length self.now.leaves < 2 ^ 64 }
+    {
+        let _capacity = self.slots.capacity();
+        wrap(self.head)
+    }
+
+    /// The leaf after this one: None exactly where it is the last. It takes no memory.
+    pub fn next(&self, id: NodeId) -> Option<NodeId>
+        requires { IsSome (leaf_value self.now id) }
+        ensures { result ≡ after self.now.leaves id }
+    {
+        wrap(self.slots[id.0].next)
+    }
+
+    /// The leaf before this one: None exactly where it is the first. It takes no memory.
+    pub fn prev(&self, id: NodeId) -> Option<NodeId>
+        requires { IsSome (leaf_value self.now id) }
+        ensures { MatchOption result (first self.now.leaves ≡ Some id) (λ p. after self.now.leaves p ≡ Some id) }
+    {
+        wrap(self.slots[id.0].prev)
+    }
+
+    /// Makes a block without children and parent. It takes no memory.
+    pub fn add_block(&mut self, value: B) -> NodeId
+        requires { 1 ≤ self.old.spare }
+        ensures leaves { self.new.leaves ≡ self.old.leaves }
+        ensures changes { Changes self.old self.new result (Some record { node = Node.Block [] value; parent = None }) }
+        ensures fresh { entry self.old result ≡ None }
+        ensures spare { self.old.spare ≡ self.new.spare + 1 }
+        ensures sound { IsForest self.new }
+    {
+        let slot = Slot {
+            node: Node::Block {
+                kids: Kids::new(),
+                value,
+            },
+            parent: None,
+            prev: None,
+            next: None,
+        };
+        NodeId(self.slots.insert_reserved(slot))
+    }
+
+    /// Puts a node that has no parent at this place among the block's children. It takes no memory.
+    pub fn put_child(&mut self, block: NodeId, at: usize, child: NodeId)
+        requires block { IsSome (block_value self.old block) }
+        requires child { IsSome (entry self.old child) }
+        requires at { at ≤ length (kids_of self.old block) }
+        requires room { length (kids_of self.old block) < 8 }
+        requires alone { parent_of self.old child ≡ None }
+        requires differ { child ≢ block }
+        ensures leaves { self.new.leaves ≡ self.old.leaves }
+        ensures puts { PutsChild self.old self.new block at child }
+        ensures spare { self.new.spare ≡ self.old.spare }
+        ensures sound { IsForest self.new }
+    {
+        let slot = &mut self.slots[block.0];
+        slot.node.put_kid(at, child.0);
+        let slot = &mut self.slots[child.0];
+        slot.parent = Some(block.0);
+    }
+
+    /// Takes the child at this place out of the block's children, after which it has no parent. It takes
+    /// no memory.
+    pub fn take_child(&mut self, block: NodeId, at: usize) -> NodeId
+        requires { at < length (kids_of self.old block) }
+        ensures child { slice_get (kids_of self.old block) at ≡ Some result }
+        ensures leaves { self.new.leaves ≡ self.old.leaves }
+        ensures takes { TakesChild self.old self.new block at result }
+        ensures spare { self.new.spare ≡ self.old.spare }
+        ensures sound { IsForest self.new }
+    {
+        let slot = &mut self.slots[block.0];
+        let child = slot.node.take_kid(at);
+        let slot = &mut self.slots[child];
+        slot.parent = None;
+        NodeId(child)
+    }
+
+    /// The block whose child the node is: None exactly where it has no parent. It takes no memory.
+    pub fn parent(&self, id: NodeId) -> Option<NodeId>
+        requires { IsSome (entry self.now id) }
+        ensures { result ≡ parent_of self.now id }
+    {
+        wrap(self.slots[id.0].parent)
+    }
+
+    /// The node, with its value and children, for one step. It takes no memory.
+    pub fn read<G: Ledger>(&self, id: NodeId, steps: &mut Steps<G>) -> &Node<L, B>
+        requires { IsSome (entry self.now id) }
+        ensures node { entry self.now id ≡ Some record { node = result.now; parent = parent_of self.now id } }
+        ensures tick { steps.new ≡ steps.old + 1 }
+    {
+        steps.tick();
+        &self.slots[id.0].node
+    }
+
+    /// The value of a leaf, for writing. It takes no memory.
+    pub fn leaf_mut(&mut self, id: NodeId) -> &mut L
+        requires { IsSome (leaf_value self.old id) }
+        ensures* writes_back { sem 𝓛 (lends_leaf L.row B.row self.entry id result) }
+        ensures value { leaf_value self.old id ≡ Some result.now }
+    {
+        let slot = &mut self.slots[id.0];
+        slot.leaf_mut()
+    }
+
+    /// The value of a block, for writing. It takes no memory.
+    pub fn block_mut(&mut self, id: NodeId) -> &mut B
+        requires { IsSome (block_value self.old id) }
+        ensures* writes_back { sem 𝓛 (lends_block L.row B.row self.entry id result) }
+        ensures value { block_value self.old id ≡ Some result.now }
+    {
+        let slot = &mut self.slots[id.0];
+        slot.block_mut()
+    }
+}

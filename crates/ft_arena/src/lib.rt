@@ -1,0 +1,15 @@
+//! An arena of tree nodes by number: leaves in one list, and blocks with at most eight children
+//! each. It knows nothing of what a tree is for, nor of its shape.
+#![tactic(auto)]
+
+pub mod arena;
+mod links;
+pub mod nodes;
+pub mod numbers;
+
+pub use arena::Arena;
+pub use nodes::Node;
+pub use numbers::{Kids, NodeId};
+
+#[cfg(test)]
+mod tests;

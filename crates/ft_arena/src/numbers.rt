@@ -1,0 +1,86 @@
+//! Numbers of nodes, and short lists of them.
+
+ghost use Rattle.std.specs.Prelude.{◌≡◌, ◌<◌, ◌≤◌, [], length, slice_get, Some, insert, remove};
+
+use arrayvec::ArrayVec;
+use std::marker::Model;
+
+/// The number of a node in its arena. A node keeps its number until it is taken out, and only then may
+/// a new node get it. Contracts see the number.
+#[derive(Clone, Copy, Drop, PartialEq, Eq)]
+pub struct NodeId(pub usize);
+
+impl Model for NodeId {
+    ghost use Rattle.std.specs.Prelude.{ℕ};
+
+    ghost Value = { ℕ };
+
+    ghost view = { λ n. n.0 };
+
+    ghost inverse = { λ n. record { 0 = n } };
+}
+
+/// The children of a block: at most eight nodes, which contracts see as a list.
+#[derive(Drop)]
+pub struct Kids {
+    ids: ArrayVec<usize, 8>,
+}
+
+impl Model for Kids {
+    ghost use Rattle.std.specs.Prelude.{ℕ, List, ◌≤◌, length};
+
+    ghost Value = { List ℕ };
+
+    ghost view = { λ k. k.ids.items };
+
+    ghost invariant = { λ k. length k.ids.items ≤ 8 };
+}
+
+impl Kids {
+    // No nodes.
+    pub(crate) fn new() -> Kids
+        ensures { result ≡ [] }
+    {
+        Kids {
+            ids: ArrayVec::new(),
+        }
+    }
+
+    /// How many nodes there are. It takes no memory.
+    pub fn len(&self) -> usize
+        ensures value { result ≡ length self.now }
+        ensures few { result ≤ 8 }
+    {
+        self.ids.len()
+    }
+
+    /// The node at place `i`, counted from 0: None exactly where `i` isn't below the length. It takes
+    /// no memory.
+    pub fn get(&self, i: usize) -> Option<NodeId>
+        ensures { result ≡ slice_get self.now i }
+    {
+        if i < self.ids.len() {
+            Some(NodeId(self.ids[i]))
+        } else {
+            None
+        }
+    }
+
+    // Puts a node at this place.
+    pub(crate) fn put(&mut self, at: usize, id: usize)
+        requires at { at ≤ length self.old }
+        requires room { length self.old < 8 }
+        ensures { self.new ≡ insert self.old at id }
+    {
+        self.ids.insert(at, id);
+    }
+
+    // Takes the node at this place out.
+    pub(crate) fn take(&mut self, at: usize) -> usize
+        requires { at < length self.old }
+        ensures value { slice_get self.old at ≡ Some result }
+        ensures rest { self.new ≡ remove self.old at }
+    {
+        self.ids.remove(at)
+    }
+}

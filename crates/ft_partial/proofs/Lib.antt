@@ -1,0 +1,10 @@
+pub mod Cuts
+pub mod Folds
+pub mod Lifts
+pub mod Merges
+pub mod Places
+pub mod RowLemmas
+pub mod Shown
+pub mod SumsByStamps
+pub mod TableLemmas
+pub mod Values

@@ -1,0 +1,184 @@
+-- What a table says, and what it stands for, through its changes.
+use Rattle.std.proofs.Common.{◌≡◌, ℕ, ◌+◌, ◌<◌, ◌≤◌, ◌%◌, ◌^◌, Bool, true, false, not, cond, nat_le, List, [], ◌∷◌, ◌++◌, refl, sym, ◌∙◌, ap, subst, arith}
+use Rattle.std.specs.List.{list_any}
+use Rattle.std.proofs.lemmas.Bool.Decides.{nat_tests}
+use Rattle.ft_base.specs.declared.stamps.Stamp.{Stamp}
+use Rattle.ft_base.specs.declared.stamps.Stamp.TheVariants.{Acked, Local}
+use Rattle.ft_base.specs.declared.elements.Element.{Element}
+use Rattle.ft_base.specs.Visibility.{has_occurred, sees}
+use Rattle.ft_partial.specs.StepFunctions.{amount, value_at, span_value, ExchangesSpan}
+use Rattle.ft_partial.specs.Rows.{place_of, common_span, row_value, ExchangesRows, Covers}
+use Rattle.ft_partial.specs.Items.{Item, item_of, length_where, seen, is_at_most, folded_stamp, folded_item, folded_items}
+use Rattle.ft_partial.specs.SameStamps.{ExchangesItem, SameByStamps}
+use Rattle.ft_partial.specs.Tables.{Lengths, length_at, StandsFor, Adds, Exchanges, AddsAll, SameFrom}
+use Rattle.ft_partial.specs.declared.step_functions.Step.{Step}
+use Rattle.ft_partial.specs.declared.step_functions.Span.{Span}
+use Rattle.ft_partial.proofs.Values.{value_at-none}
+use Rattle.ft_partial.proofs.RowLemmas.{parts, covered}
+use Rattle.ft_partial.proofs.SumsByStamps.{same_sums}
+
+pub length_at-fits : (t : Lengths) (r c : ℕ) → length_at t r c < 2 ^ 64
+unfolding length_at
+length_at-fits t r c = omega arith
+
+-- the two values make up the length
+pub length_at_is : (t : Lengths) (common own : List Step) (r c place v w : ℕ) → common ≡ t.common → own ≡ t.own → place ≡ place_of c r
+    → v ≡ value_at common r → w ≡ value_at own place → (v + w) % 2 ^ 64 ≡ length_at t r c
+unfolding length_at
+length_at_is t common own r c place v w ec eo ep ev ew =
+    let first = ev ∙ ap (λ xs. value_at xs r) ec in
+    let second = ew ∙ ap (λ xs. value_at xs place) eo ∙ ap (λ k. value_at t.own k) ep in
+    ap (λ n. (n + w) % 2 ^ 64) first ∙ ap (λ n. (value_at t.common r + n) % 2 ^ 64) second
+
+-- no list is seen to be longer than it is
+pub seen-le : (r c : ℕ) (xs : List Item) → seen r c xs ≤ length_where (λ e. true) xs
+seen-le r c [] = omega arith
+seen-le r c (x ∷ xs) = go (sees x.element r c) (seen-le r c xs)
+  where
+    go : (b : Bool) → seen r c xs ≤ length_where (λ e. true) xs → cond b x.len 0 + seen r c xs ≤ x.len + length_where (λ e. true) xs
+    go true h = omega arith
+    go false h = omega arith
+
+-- so where a list has less than 2 ^ 64 elements, each perspective from the floor up has the exact number
+pub length_at-exact : (t : Lengths) (xs : List Item) → StandsFor t xs → length_where (λ e. true) xs < 2 ^ 64
+    → (r c : ℕ) → t.floor ≤ r → r < 2 ^ 64 → c < 2 ^ 32 → length_at t r c ≡ seen r c xs
+length_at-exact t xs stands fits r c hf hr hc = omega (arith, stands r c hf hr hc, seen-le r c xs)
+
+pub stands-none : (t : Lengths) → t.common ≡ [] → t.own ≡ [] → StandsFor t []
+unfolding length_at
+stands-none t common own r c hf hr hc = omega (arith, value_at-none t.common r common, value_at-none t.own (place_of c r) own)
+
+exchanged : (vn wn vo wo a b x y s t : ℕ) → (vn + a) % 2 ^ 64 ≡ (vo + b) % 2 ^ 64 → (wn + x) % 2 ^ 64 ≡ (wo + y) % 2 ^ 64
+    → (a + x) % 2 ^ 64 ≡ s % 2 ^ 64 → (b + y) % 2 ^ 64 ≡ t % 2 ^ 64 → ((vn + wn) % 2 ^ 64 + s) % 2 ^ 64 ≡ ((vo + wo) % 2 ^ 64 + t) % 2 ^ 64
+exchanged vn wn vo wo a b x y s t e1 e2 e3 e4 = omega arith
+
+-- both functions changed
+exchanges_item : (old new : Lengths) (stamps : List Stamp) (e f : Element) (n m : ℕ) → n < 2 ^ 64 → m < 2 ^ 64 → Covers stamps e → Covers stamps f
+    → ExchangesSpan old.common new.common (common_span e n) (common_span f m) → ExchangesRows old.own new.own stamps e n f m → Exchanges old new e n f m
+unfolding length_at
+exchanges_item old new stamps e f n m hn hm ce cf common own r c hr hc =
+    let out = covered stamps e n r c ce in
+    let into = covered stamps f m r c cf in
+    let rows = own r c hr hc in
+    exchanged (value_at new.common r) (value_at new.own (place_of c r)) (value_at old.common r) (value_at old.own (place_of c r))
+    (span_value (common_span e n) r) (span_value (common_span f m) r) (row_value e n c r) (row_value f m c r) (amount (sees e r c) n) (amount (sees f r c) m)
+    (common r) (omega (arith, rows, out, into)) (parts e n r c hn hr) (parts f m r c hm hr)
+
+-- the same in the words of the code
+pub exchanges_item_at : (old new : Lengths) (stamps : List Stamp) (common own : List Step) (span new_span : Span) (e f : Element) (n m : ℕ) → n < 2 ^ 64 → m < 2 ^ 64
+    → Covers stamps e → Covers stamps f → common ≡ old.common → own ≡ old.own → span ≡ common_span e n → new_span ≡ common_span f m
+    → ExchangesSpan common new.common span new_span → ExchangesRows own new.own stamps e n f m → Exchanges old new e n f m
+exchanges_item_at old new stamps common own span new_span e f n m hn hm ce cf ec eo es et exchange rows =
+    let A : List Step → Type 0 = λ xs. ExchangesSpan xs new.common span new_span in
+    let S : Span → Type 0 = λ s. ExchangesSpan old.common new.common s new_span in
+    let T : Span → Type 0 = λ s. ExchangesSpan old.common new.common (common_span e n) s in
+    let O : List Step → Type 0 = λ xs. ExchangesRows xs new.own stamps e n f m in
+    exchanges_item old new stamps e f n m hn hm ce cf (subst T et (subst S es (subst A ec exchange))) (subst O eo rows)
+
+amount-zero : (b : Bool) → amount b 0 ≡ 0
+amount-zero true = refl
+amount-zero false = refl
+
+-- elements put in the place of none of them
+pub adds_item : (old new : Lengths) (e : Element) (n : ℕ) → Exchanges old new e 0 e n → Adds old new e n
+adds_item old new e n exchanges r c hr hc =
+    let sum = exchanges r c hr hc in
+    let fits = length_at-fits new r c in
+    let none = amount-zero (sees e r c) in
+    omega arith
+
+pub adds_all : (old other new : Lengths) → ((k : ℕ) → value_at new.common k ≡ (value_at old.common k + value_at other.common k) % 2 ^ 64)
+    → ((k : ℕ) → value_at new.own k ≡ (value_at old.own k + value_at other.own k) % 2 ^ 64) → AddsAll old other new
+unfolding length_at
+adds_all old other new common own r c hr hc = omega (arith, common r, own (place_of c r))
+
+-- the same in the words of the code
+pub adds_all_at : (old other new : Lengths) (common own more_common more_own : List Step) → common ≡ old.common → own ≡ old.own → more_common ≡ other.common → more_own ≡ other.own
+    → ((k : ℕ) → value_at new.common k ≡ (value_at common k + value_at more_common k) % 2 ^ 64)
+    → ((k : ℕ) → value_at new.own k ≡ (value_at own k + value_at more_own k) % 2 ^ 64) → AddsAll old other new
+adds_all_at old other new common own more_common more_own ec eo em en sums own_sums =
+    adds_all old other new
+    (λ k. omega (arith, sums k, ap (λ xs. value_at xs k) ec, ap (λ xs. value_at xs k) em))
+    (λ k. omega (arith, own_sums k, ap (λ xs. value_at xs k) eo, ap (λ xs. value_at xs k) en))
+
+pub same_from : (old new : Lengths) (floor : ℕ)
+    → ((k : ℕ) → floor ≤ k % 2 ^ 64 → value_at new.common k ≡ value_at old.common k)
+    → ((k : ℕ) → floor ≤ k % 2 ^ 64 → value_at new.own k ≡ value_at old.own k) → SameFrom floor old new
+unfolding length_at
+same_from old new floor common own r c hf hr hc = omega (arith, common r (omega arith), own (place_of c r) (omega arith))
+
+pub same_kept : (old new : Lengths) (floor : ℕ) → new.common ≡ old.common → new.own ≡ old.own → SameFrom floor old new
+same_kept old new floor common own =
+    same_from old new floor (λ k h. ap (λ xs. value_at xs k) common) (λ k h. ap (λ xs. value_at xs k) own)
+
+more : (wn wo l s : ℕ) → wn ≡ (wo + l) % 2 ^ 64 → wo ≡ s % 2 ^ 64 → wn ≡ (l + s) % 2 ^ 64
+more wn wo l s e1 e2 = omega arith
+
+-- an item more
+pub stands-add : (old new : Lengths) (e : Element) (n : ℕ) → Adds old new e n → new.floor ≡ old.floor
+    → (xs : List Item) → StandsFor old xs → StandsFor new (item_of e n ∷ xs)
+stands-add old new e n adds floor xs stands r c hf hr hc =
+    let above : old.floor ≤ r = omega arith in
+    more (length_at new r c) (length_at old r c) (amount (sees e r c) n) (seen r c xs) (adds r c hr hc) (stands r c above hr hc)
+
+shifted : (wn wo a b x y : ℕ) → (wn + a) % 2 ^ 64 ≡ (wo + b) % 2 ^ 64 → wo ≡ x % 2 ^ 64 → a + y ≡ b + x → wn < 2 ^ 64 → wn ≡ y % 2 ^ 64
+shifted wn wo a b x y e1 e2 e3 h = omega arith
+
+-- one item in the place of another
+pub stands-exchange : (old new : Lengths) (e f : Element) (n m : ℕ) → Exchanges old new e n f m → new.floor ≡ old.floor
+    → (xs ys : List Item) → StandsFor old xs → ExchangesItem xs ys e n f m → StandsFor new ys
+stands-exchange old new e f n m exchanges floor xs ys stands same r c hf hr hc =
+    let above : old.floor ≤ r = omega arith in
+    shifted (length_at new r c) (length_at old r c) (amount (sees e r c) n) (amount (sees f r c) m) (seen r c xs) (seen r c ys)
+    (exchanges r c hr hc) (stands r c above hr hc) (same_sums (item_of e n ∷ ys) (item_of f m ∷ xs) same (λ g. sees g r c)) (length_at-fits new r c)
+
+length_where-append : (p : Element → Bool) (xs ys : List Item) → length_where p (xs ++ ys) ≡ length_where p xs + length_where p ys
+length_where-append p [] ys = omega arith
+length_where-append p (x ∷ xs) ys = omega (arith, length_where-append p xs ys)
+
+-- all items of two tables
+pub stands-all : (old other new : Lengths) → AddsAll old other new → other.floor ≤ old.floor → new.floor ≡ old.floor
+    → (xs ys : List Item) → StandsFor old xs → StandsFor other ys → StandsFor new (ys ++ xs)
+stands-all old other new adds h floor xs ys sx sy r c hf hr hc =
+    let above : old.floor ≤ r = omega arith in
+    let others : other.floor ≤ r = omega arith in
+    rw (length_where-append (λ e. sees e r c) ys xs) (omega (arith, adds r c hr hc, sx r c above hr hc, sy r c others hr hc))
+
+-- a higher floor
+pub stands-higher : (old new : Lengths) → SameFrom new.floor old new → old.floor ≤ new.floor → (xs : List Item) → StandsFor old xs → StandsFor new xs
+stands-higher old new same h xs stands r c hf hr hc =
+    let above : old.floor ≤ r = omega arith in
+    same r c hf hr hc ∙ stands r c above hr hc
+
+-- a removal at or below the floor has occurred for each perspective from there up
+removed-occurred : (f r c : ℕ) (dels : List Stamp) → f ≤ r → list_any (is_at_most f) dels ≡ true → list_any (has_occurred r c) dels ≡ true
+removed-occurred f r c [] h g = g
+removed-occurred f r c (Acked s d ∷ dels) h g = grind (arith, nat_tests, removed-occurred f r c dels h)
+removed-occurred f r c (Local k ∷ dels) h g = grind (arith, nat_tests, removed-occurred f r c dels h)
+
+folded_case : (f r c s d : ℕ) (b : Bool) → f ≤ r → nat_le s f ≡ b → has_occurred r c (cond b (Acked 0 0) (Acked s d)) ≡ has_occurred r c (Acked s d)
+folded_case f r c s d true h e = grind (arith, nat_tests)
+folded_case f r c s d false h e = refl
+
+-- an insertion at or below the floor has too, however it is written
+folded-occurred : (f r c : ℕ) (s : Stamp) → f ≤ r → has_occurred r c (folded_stamp f s) ≡ has_occurred r c s
+folded-occurred f r c (Acked s d) h = folded_case f r c s d (nat_le s f) h refl
+folded-occurred f r c (Local k) h = refl
+
+seen_case : (f r c : ℕ) (x : Item) (ys : List Item) (b : Bool) → f ≤ r → list_any (is_at_most f) x.element.dels ≡ b
+    → seen r c (cond (not b) (folded_item f x ∷ ys) ys) ≡ amount (sees x.element r c) x.len + seen r c ys
+seen_case f r c x ys true h e = grind (arith, nat_tests, removed-occurred f r c x.element.dels h e)
+seen_case f r c x ys false h e = grind (arith, nat_tests, folded-occurred f r c x.element.ins h)
+
+seen-folded : (f r c : ℕ) (xs : List Item) → f ≤ r → seen r c (folded_items f xs) ≡ seen r c xs
+seen-folded f r c [] h = refl
+seen-folded f r c (x ∷ xs) h =
+    seen_case f r c x (folded_items f xs) (list_any (is_at_most f) x.element.dels) h refl ∙ ap (λ n. amount (sees x.element r c) x.len + n) (seen-folded f r c xs h)
+
+-- the items as they are written at the floor
+pub stands-folded : (t : Lengths) (xs : List Item) → StandsFor t xs → StandsFor t (folded_items t.floor xs)
+stands-folded t xs stands r c hf hr hc = stands r c hf hr hc ∙ ap (λ n. n % 2 ^ 64) (sym (seen-folded t.floor r c xs hf))
+
+-- lists with the same sums for all stamps
+pub stands-same : (t : Lengths) (xs ys : List Item) → StandsFor t xs → SameByStamps xs ys → StandsFor t ys
+stands-same t xs ys stands same r c hf hr hc = stands r c hf hr hc ∙ ap (λ n. n % 2 ^ 64) (same_sums xs ys same (λ e. sees e r c))

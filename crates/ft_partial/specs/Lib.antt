@@ -1,0 +1,6 @@
+pub mod Items
+pub mod Rows
+pub mod SameStamps
+pub mod StepFunctions
+pub mod Steps
+pub mod Tables

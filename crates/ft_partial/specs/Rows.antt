@@ -1,0 +1,66 @@
+-- How far what a connection sees of an element differs from what those see who made none of its stamps.
+--     first_removal dels      from this sequence number on everybody sees the removal
+--     place_of c k      where the row of connection c has its value for the sequence number k
+--     common_span e n      the change that n elements make for those who made none of their stamps
+--     row_span e n c      the change that they make in the row of connection c
+use Rattle.std.specs.Prelude.{◌≡◌, ℕ, ◌+◌, ◌*◌, ◌-◌, ◌<◌, ◌%◌, ◌^◌, Bool, true, false, ◌&&◌, ◌||◌, not, nat_eq, min, List, [], ◌∷◌}
+use Rattle.std.specs.List.{list_any}
+use Rattle.ft_base.specs.declared.stamps.Stamp.{Stamp}
+use Rattle.ft_base.specs.declared.stamps.Stamp.TheVariants.{Acked, Local}
+use Rattle.ft_base.specs.declared.elements.Element.{Element}
+use Rattle.ft_partial.specs.declared.step_functions.Step.{Step}
+use Rattle.ft_partial.specs.declared.step_functions.Span.{Span}
+use Rattle.ft_partial.specs.StepFunctions.{value_at, amount, span_value}
+
+-- the sequence number of a stamp, or 2 ^ 64 where it is pending
+abbrev pub number_of : Stamp → ℕ
+number_of (Acked seq conn) = seq
+number_of (Local stage) = 2 ^ 64
+
+-- the least sequence number of a removal, or 2 ^ 64 where none is sequenced
+abbrev pub first_removal : List Stamp → ℕ
+first_removal [] = 2 ^ 64
+first_removal (x ∷ dels) = min (number_of x) (first_removal dels)
+
+-- the stamp is sequenced, and by this connection
+abbrev pub is_by : ℕ → Stamp → Bool
+is_by c (Acked seq conn) = nat_eq conn c
+is_by c (Local stage) = false
+
+-- where the row of connection c has its value for the sequence number k
+abbrev pub place_of : ℕ → ℕ → ℕ
+place_of c k = c * 2 ^ 64 + k
+
+-- the change that n elements make for those who made none of their stamps
+abbrev pub common_span : Element → ℕ → Span
+common_span e n = record { from = number_of e.ins; to = first_removal e.dels; by = n }
+
+-- the change in the row of connection c by n elements inserted at s and first removed at g, where c is one of their removers, or else their maker, or neither
+abbrev pub row_change : Bool → Bool → ℕ → ℕ → ℕ → ℕ → Span
+row_change true is_maker c s g n = record { from = place_of c s; to = place_of c g; by = (2 ^ 64 - n) % 2 ^ 64 }
+row_change false true c s g n = record { from = place_of c 0; to = place_of c (min g s); by = n }
+row_change false false c s g n = record { from = place_of c 0; to = place_of c 0; by = 0 }
+
+-- the change that n elements make in the row of connection c
+abbrev pub row_span : Element → ℕ → ℕ → Span
+row_span e n c = row_change (list_any (is_by c) e.dels) (is_by c e.ins) c (number_of e.ins) (first_removal e.dels) n
+
+-- what n elements add to the row of connection c at the sequence number r
+abbrev pub row_value : Element → ℕ → ℕ → ℕ → ℕ
+row_value e n c r = span_value (row_span e n c) (place_of c r)
+
+-- the row of the stamp's connection, if it made none of the stamps before, has m elements f in the place of n elements e
+abbrev pub ExchangesRow : List Step → List Step → List Stamp → Stamp → Element → ℕ → Element → ℕ → Type 0
+ExchangesRow old new before stamp e n f m = (r c : ℕ) → r < 2 ^ 64 → c < 2 ^ 32
+    → (value_at new (place_of c r) + amount (not (list_any (is_by c) before) && is_by c stamp) (row_value e n c r)) % 2 ^ 64
+    ≡ (value_at old (place_of c r) + amount (not (list_any (is_by c) before) && is_by c stamp) (row_value f m c r)) % 2 ^ 64
+
+-- the rows of all connections that made one of the stamps have m elements f in the place of n elements e
+abbrev pub ExchangesRows : List Step → List Step → List Stamp → Element → ℕ → Element → ℕ → Type 0
+ExchangesRows old new stamps e n f m = (r c : ℕ) → r < 2 ^ 64 → c < 2 ^ 32
+    → (value_at new (place_of c r) + amount (list_any (is_by c) stamps) (row_value e n c r)) % 2 ^ 64
+    ≡ (value_at old (place_of c r) + amount (list_any (is_by c) stamps) (row_value f m c r)) % 2 ^ 64
+
+-- each connection that made a stamp of the element made one of these
+abbrev pub Covers : List Stamp → Element → Type 0
+Covers stamps e = (c : ℕ) → (is_by c e.ins || list_any (is_by c) e.dels) ≡ true → list_any (is_by c) stamps ≡ true

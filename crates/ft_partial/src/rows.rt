@@ -1,0 +1,145 @@
+//! How far what each connection sees differs from what those see who made none of the stamps.
+//!
+//! These differences are one step function, laid out by rows: connection `c` has the places from
+//! `c * 2^64` up to before `(c + 1) * 2^64`, one for each sequence number. Let elements have the
+//! insertion (s, d), and let g be the least number of their sequenced removals. Who made none of
+//! their stamps sees them from s up to before g. A remover doesn't: its row takes that back. Their
+//! maker, if it is no remover, sees them already from 0 up to before s, as long as that is below g.
+
+ghost use Rattle.std.specs.Prelude.{◌≡◌, ◌+◌, ◌*◌, ◌≤◌, ◌^◌, length};
+ghost use Rattle.std.specs.List.{list_any};
+ghost use Rattle.ft_partial.specs.Rows.{number_of, first_removal, is_by, place_of, common_span, row_span, ExchangesRow, ExchangesRows};
+
+use crate::step_functions::{CHANGES, Span, StepFunction};
+use ft_base::{Element, Stamp};
+
+/// How many places a row has, and the number of a pending stamp: more than any sequence number.
+const ROW: u128 = 18446744073709551616;
+
+/// The sequence number of a stamp, or 2^64 where it is pending.
+fn number_of(stamp: &Stamp) -> u128
+    ensures number { result ≡ number_of stamp.now }
+    ensures fits { result ≤ 2 ^ 64 }
+{
+    match stamp {
+        Stamp::Acked { seq, .. } => *seq as u128,
+        Stamp::Local { .. } => ROW,
+    }
+}
+
+/// The least sequence number of a removal, or 2^64 where none is sequenced.
+#[tactic(auto, using(crate::proofs::RowLemmas::removal_bounds))]
+fn first_removal(dels: &[Stamp]) -> u128
+    ensures { result ≡ first_removal dels.now }
+{
+    let mut first = ROW;
+    for stamp in dels {
+        first = first.min(number_of(stamp));
+    }
+    first
+}
+
+/// Whether the stamp is sequenced, and by this connection.
+fn is_by(stamp: &Stamp, conn: u32) -> bool
+    ensures { result ≡ is_by conn stamp.now }
+{
+    match stamp {
+        Stamp::Acked { conn: maker, .. } => *maker == conn,
+        Stamp::Local { .. } => false,
+    }
+}
+
+/// Whether one of the stamps is by the connection.
+fn is_any_by(stamps: &[Stamp], conn: u32) -> bool
+    ensures { result ≡ list_any (is_by conn) stamps.now }
+{
+    stamps.iter().any(|stamp| is_by(stamp, conn))
+}
+
+/// Where the row of a connection has its value for a sequence number.
+pub fn place_of(conn: u32, number: u128) -> u128
+    requires { number ≤ 2 ^ 64 }
+    ensures { result ≡ place_of conn number }
+{
+    conn as u128 * ROW + number
+}
+
+/// The change that `len` elements make for those who made none of their stamps.
+pub fn common_span(e: &Element, len: u64) -> Span
+    ensures { result ≡ common_span e.now len }
+{
+    Span {
+        from: number_of(&e.ins),
+        to: first_removal(e.dels.as_slice()),
+        by: len,
+    }
+}
+
+/// The change that `len` elements make in a connection's row.
+#[tactic(auto, using(crate::proofs::RowLemmas::removal_bounds))]
+fn row_span(e: &Element, len: u64, conn: u32) -> Span
+    ensures span { result ≡ row_span e.now len conn }
+    ensures fits { number_of e.now.ins ≤ 2 ^ 64 }
+{
+    let dels = e.dels.as_slice();
+    let inserted = number_of(&e.ins);
+    let removed = first_removal(dels);
+    if is_any_by(dels, conn) {
+        return Span {
+            from: place_of(conn, inserted),
+            to: place_of(conn, removed),
+            by: 0u64.wrapping_sub(len),
+        };
+    }
+    if is_by(&e.ins, conn) {
+        return Span {
+            from: place_of(conn, 0),
+            to: place_of(conn, removed.min(inserted)),
+            by: len,
+        };
+    }
+    Span {
+        from: place_of(conn, 0),
+        to: place_of(conn, 0),
+        by: 0,
+    }
+}
+
+/// Exchanges elements in the row of the stamp's connection, if it made none of the stamps before.
+fn exchange_row(
+    own: &mut StepFunction,
+    before: &[Stamp],
+    stamp: Stamp,
+    e: &Element,
+    len: u64,
+    new: &Element,
+    new_len: u64,
+)
+    requires { CHANGES ≤ own.old.room }
+    ensures exchanges { ExchangesRow own.old.steps own.new.steps before.now stamp e.now len new.now new_len }
+    ensures room { own.old.room ≤ own.new.room + CHANGES }
+{
+    if let Stamp::Acked { seq: _, conn } = stamp {
+        if !is_any_by(before, conn) {
+            own.exchange(row_span(e, len, conn), row_span(new, new_len, conn));
+        }
+    }
+}
+
+/// Takes `len` elements of the stamps `e` out of the rows of all connections that made one of the
+/// stamps, and puts `new_len` of the stamps `new` in. It takes no memory.
+pub fn exchange_rows(
+    own: &mut StepFunction,
+    stamps: &[Stamp],
+    e: &Element,
+    len: u64,
+    new: &Element,
+    new_len: u64,
+)
+    requires { CHANGES * length stamps.now ≤ own.old.room }
+    ensures { ExchangesRows own.old.steps own.new.steps stamps.now e.now len new.now new_len }
+{
+    for i in 0..stamps.len() {
+        exchange_row(own, &stamps[..i], stamps[i], e, len, new, new_len);
+    }
+}

@@ -1,0 +1,254 @@
+//! A table of partial lengths.
+
+ghost use Rattle.std.specs.Prelude.{◌≡◌, ◌+◌, ◌≤◌, ◌<◌, ◌^◌, ℕ, List, [], ◌∷◌, ◌++◌, IfOk, OnOk, OnErr};
+ghost use Rattle.ft_partial.specs.Items.{Item, item_of, inserted, removed, seen, folded_items};
+ghost use Rattle.ft_partial.specs.SameStamps.{SameByStamps, ExchangesItem};
+ghost use Rattle.ft_partial.specs.Tables.{length_at, StandsFor, Adds, Exchanges, AddsAll, SameFrom};
+ghost use Rattle.ft_partial.specs.Rows.{Covers};
+
+use crate::rows::{common_span, exchange_rows, place_of};
+use crate::step_functions::{CHANGES, StepFunction};
+use ft_base::{Element, OutOfMemory, Perspective, Stamp, Stamps};
+use std::alloc::Global;
+use std::marker::Model;
+
+/// Below this number of steps nothing is folded.
+const FEW: usize = 16;
+
+/// How much each perspective sees of a list of items, each the stamps of some elements with their
+/// number.
+///
+/// Contracts see what the table answers. It stands for each list of which every perspective from its
+/// floor up sees that much, round 2^64; so with a list also for each other one in which, for all
+/// stamps, the items with these stamps have the same sum of lengths. Each clause holds for every
+/// list that the table stands for.
+///
+/// The window is made of the sequence numbers above the floor that occur in the items. `length`
+/// takes two binary searches in it. A change takes some more; it touches the steps of the
+/// connections that made its stamps as far as what they see changes, and those of all others between
+/// the numbers at which its old and its new stamps differ, or from the insertion on where the number
+/// of elements differs. The steps behind a new one move up in memory, as one block.
+#[derive(Drop)]
+pub struct Table {
+    floor: u64,
+    // what those see who made none of the stamps, by sequence number
+    common: StepFunction,
+    // how far each connection's own stamps change that, by rows
+    own: StepFunction,
+    // with this many steps the next fold looks through them
+    fold_at: usize,
+    alloc: Global,
+}
+
+impl Model for Table {
+    ghost use Rattle.ft_partial.specs.Tables.{Lengths};
+
+    ghost Value = { Lengths };
+
+    ghost view = { λ a. record { floor = a.floor; common = a.common.steps; own = a.own.steps } };
+}
+
+/// The stamps of two elements.
+///
+/// Answers `OutOfMemory` where there is no room for them.
+fn stamps_of(e: &Element, new: &Element) -> Result<Stamps, OutOfMemory>
+    ensures old { IfOk result (λ stamps. Covers stamps e.now) }
+    ensures new { IfOk result (λ stamps. Covers stamps new.now) }
+{
+    let mut stamps = e.dels.copy()?;
+    stamps.push(e.ins)?;
+    for stamp in new.dels.as_slice() {
+        stamps.push(*stamp)?;
+    }
+    stamps.push(new.ins)?;
+    Ok(stamps)
+}
+
+/// Makes room for changes of both functions.
+fn reserve(
+    common: &mut StepFunction,
+    changes: usize,
+    own: &mut StepFunction,
+    own_changes: usize,
+) -> Result<(), OutOfMemory>
+    ensures common { common.new.steps ≡ common.old.steps }
+    ensures own { own.new.steps ≡ own.old.steps }
+    ensures room { OnOk result (changes ≤ common.new.room) }
+    ensures own_room { OnOk result (own_changes ≤ own.new.room) }
+{
+    common.reserve(changes)?;
+    own.reserve(own_changes)?;
+    Ok(())
+}
+
+impl Table {
+    /// The table of no items, with floor 0. It takes no memory.
+    pub fn new(alloc: Global) -> Table
+        ensures stands { StandsFor result [] }
+        ensures floor { result.floor ≡ 0 }
+    {
+        Table {
+            floor: 0,
+            common: StepFunction::new(alloc),
+            own: StepFunction::new(alloc),
+            fold_at: FEW,
+            alloc,
+        }
+    }
+
+    /// How many elements the perspective sees, whose reference number isn't below the floor. It takes
+    /// no memory.
+    ///
+    /// The number is exact where less than 2^64 elements are seen, as in each list that has less, and
+    /// else it is taken round 2^64.
+    pub fn length(&self, at: Perspective) -> u64
+        requires { self.now.floor ≤ at.r }
+        ensures sum { (xs : List Item) → StandsFor self.now xs → seen at.r at.c xs < 2 ^ 64 → result ≡ seen at.r at.c xs }
+        ensures at { result ≡ length_at self.now at.r at.c }
+    {
+        let common = self.common.at(at.r as u128);
+        let own = self.own.at(place_of(at.c, at.r as u128));
+        common.wrapping_add(own)
+    }
+
+    /// Adds `len` elements that connection `conn` inserted at the sequence number `seq`, and nobody
+    /// removed.
+    ///
+    /// Answers `OutOfMemory` where there is no room, and then the table is as it was.
+    pub fn insert(&mut self, seq: u64, conn: u32, len: u64) -> Result<(), OutOfMemory>
+        ensures ok { OnOk result ((xs : List Item) → StandsFor self.old xs → StandsFor self.new (item_of (inserted seq conn) len ∷ xs)) }
+        ensures adds { OnOk result (Adds self.old self.new (inserted seq conn) len) }
+        ensures floor { self.new.floor ≡ self.old.floor }
+        ensures err { OnErr result (self.new ≡ self.old) }
+    {
+        let e = Element {
+            ins: Stamp::Acked { seq, conn },
+            dels: Stamps::new(self.alloc),
+        };
+        self.add(&e, len)
+    }
+
+    /// Adds `len` elements of the stamps `e`, of which pending ones have occurred for nobody.
+    ///
+    /// Answers `OutOfMemory` where there is no room, and then the table is as it was.
+    pub fn add(&mut self, e: &Element, len: u64) -> Result<(), OutOfMemory>
+        ensures ok { OnOk result ((xs : List Item) → StandsFor self.old xs → StandsFor self.new (item_of e.now len ∷ xs)) }
+        ensures adds { OnOk result (Adds self.old self.new e.now len) }
+        ensures floor { self.new.floor ≡ self.old.floor }
+        ensures err { OnErr result (self.new ≡ self.old) }
+    {
+        let mut stamps = e.dels.copy()?;
+        stamps.push(e.ins)?;
+        self.exchange(stamps.as_slice(), e, 0, e, len)
+    }
+
+    /// Gives the removal stamp of connection `conn` at the sequence number `seq` to `len` elements
+    /// of the stamps `e`, of which the items have that many. An insertion at or below the floor may
+    /// stand in `e` as it was or as (0, 0), as it does in the items.
+    ///
+    /// Answers `OutOfMemory` where there is no room, and then the table is as it was.
+    pub fn remove(&mut self, e: &Element, seq: u64, conn: u32, len: u64) -> Result<(), OutOfMemory>
+        ensures ok { OnOk result ((xs ys : List Item) → StandsFor self.old xs → ExchangesItem xs ys e.now len (removed seq conn e.now) len → StandsFor self.new ys) }
+        ensures exchanges { OnOk result (Exchanges self.old self.new e.now len (removed seq conn e.now) len) }
+        ensures floor { self.new.floor ≡ self.old.floor }
+        ensures err { OnErr result (self.new ≡ self.old) }
+    {
+        let mut new = e.copy()?;
+        new.dels.push(Stamp::Acked { seq, conn })?;
+        self.replace(e, len, &new, len)
+    }
+
+    /// Puts `new_len` elements of the stamps `new` in the place of `len` elements of the stamps `e`,
+    /// of which the items have that many.
+    ///
+    /// Answers `OutOfMemory` where there is no room, and then the table is as it was.
+    pub fn replace(
+        &mut self,
+        e: &Element,
+        len: u64,
+        new: &Element,
+        new_len: u64,
+    ) -> Result<(), OutOfMemory>
+        ensures ok { OnOk result ((xs ys : List Item) → StandsFor self.old xs → ExchangesItem xs ys e.now len new.now new_len → StandsFor self.new ys) }
+        ensures exchanges { OnOk result (Exchanges self.old self.new e.now len new.now new_len) }
+        ensures floor { self.new.floor ≡ self.old.floor }
+        ensures err { OnErr result (self.new ≡ self.old) }
+    {
+        let stamps = stamps_of(e, new)?;
+        self.exchange(stamps.as_slice(), e, len, new, new_len)
+    }
+
+    /// What `replace` does, where each connection that made a stamp of either made one of `stamps`.
+    fn exchange(
+        &mut self,
+        stamps: &[Stamp],
+        e: &Element,
+        len: u64,
+        new: &Element,
+        new_len: u64,
+    ) -> Result<(), OutOfMemory>
+        requires old { Covers stamps.now e.now }
+        requires new { Covers stamps.now new.now }
+        ensures exchanges { OnOk result (Exchanges self.old self.new e.now len new.now new_len) }
+        ensures floor { self.new.floor ≡ self.old.floor }
+        ensures err { OnErr result (self.new ≡ self.old) }
+    {
+        let changes = stamps.len().checked_mul(CHANGES).ok_or(OutOfMemory)?;
+        reserve(&mut self.common, CHANGES, &mut self.own, changes)?;
+        self.common
+            .exchange(common_span(e, len), common_span(new, new_len));
+        exchange_rows(&mut self.own, stamps, e, len, new, new_len);
+        Ok(())
+    }
+
+    /// Adds all items of another table, whose floor isn't above this one's: one pass over the steps
+    /// of both.
+    ///
+    /// Answers `OutOfMemory` where there is no room, and then the table is as it was.
+    pub fn add_all(&mut self, other: &Table) -> Result<(), OutOfMemory>
+        requires { other.now.floor ≤ self.old.floor }
+        ensures ok { OnOk result ((xs ys : List Item) → StandsFor self.old xs → StandsFor other.now ys → StandsFor self.new (ys ++ xs)) }
+        ensures adds { OnOk result (AddsAll self.old other.now self.new) }
+        ensures floor { self.new.floor ≡ self.old.floor }
+        ensures err { OnErr result (self.new ≡ self.old) }
+    {
+        let common = self.common.plus(self.alloc, &other.common)?;
+        let own = self.own.plus(self.alloc, &other.own)?;
+        self.common = common;
+        self.own = own;
+        Ok(())
+    }
+
+    /// Raises the floor to `floor`, which isn't below the old one: the items removed at or below it
+    /// are gone, and insertions at or below it are written (0, 0). It takes no memory.
+    ///
+    /// The steps are looked through only once they have doubled since the last time, so all folds
+    /// together take no longer than the calls that added the steps. Then, of each connection and of
+    /// all others, at most one step is left at or below the floor.
+    pub fn fold_to(&mut self, floor: u64)
+        requires { self.old.floor ≤ floor }
+        ensures items { (xs : List Item) → StandsFor self.old xs → StandsFor self.new (folded_items floor xs) }
+        ensures same { (xs : List Item) → StandsFor self.old xs → StandsFor self.new xs }
+        ensures lengths { SameFrom floor self.old self.new }
+        ensures floor { self.new.floor ≡ floor }
+    {
+        self.floor = floor;
+        if self.common.len().max(self.own.len()) >= self.fold_at {
+            self.common.fold_to(floor);
+            self.own.fold_to(floor);
+            let steps = self.common.len().max(self.own.len());
+            self.fold_at = steps.saturating_mul(2).max(FEW);
+        }
+    }
+}
+
+/// The law of what a table stands for: with a list it stands for each other one in which, for all
+/// stamps, the items with these stamps have the same sum of lengths. It does nothing.
+pub fn same_by_stamps(table: &Table)
+    ensures { (xs ys : List Item) → StandsFor table.now xs → SameByStamps xs ys → StandsFor table.now ys }
+{
+    let _floor = table.floor;
+}
+
+#[cfg(test)]
+mod tests;
