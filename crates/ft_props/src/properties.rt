@@ -1,7 +1,10 @@
 //! Properties and what changes them.
 
+ghost use Rattle.std.specs.Prelude.{◌≡◌, []};
+
 use ft_base::Text;
 use ft_json::ValText;
+use std::alloc::Global;
 use std::marker::Model;
 
 /// What an operation sets: pairs of a key and a value by rising keys, where None stands for null,
@@ -31,6 +34,17 @@ impl Model for Props {
     ghost Value = { List (List ℕ × List ℕ) };
 
     ghost view = { λ a. a.pairs.items };
+}
+
+impl Props {
+    /// No properties. It takes no memory.
+    pub fn new(alloc: Global) -> Props
+        ensures { result ≡ [] }
+    {
+        Props {
+            pairs: Vec::new(alloc),
+        }
+    }
 }
 
 /// An adjustment of the whole number that a key has: `delta` is added, and the sum is raised to
