@@ -22,6 +22,17 @@ impl Model for PropSet {
     ghost view = { λ a. a.pairs.items };
 }
 
+impl PropSet {
+    /// Nothing to set. It takes no memory.
+    pub fn new(alloc: Global) -> PropSet
+        ensures { result ≡ [] }
+    {
+        PropSet {
+            pairs: Vec::new(alloc),
+        }
+    }
+}
+
 /// The properties of an element or an interval: pairs of a key and a value by rising keys.
 #[derive(Drop)]
 pub struct Props {
