@@ -35,17 +35,20 @@ pub struct Table {
     common: StepFunction,
     // how far each connection's own stamps change that, by rows
     own: StepFunction,
-    // with this many steps the next fold looks through them
+    // with this many steps the next fold looks through them; never fewer than `FEW`
     fold_at: usize,
     alloc: Global,
 }
 
 impl Model for Table {
+    ghost use Rattle.std.specs.Prelude.{◌≤◌};
     ghost use Rattle.ft_partial.specs.Tables.{Lengths};
 
     ghost Value = { Lengths };
 
     ghost view = { λ a. record { floor = a.floor; common = a.common.steps; own = a.own.steps } };
+
+    ghost invariant = { λ a. 16 ≤ a.fold_at };
 }
 
 /// The stamps of two elements.
