@@ -1,8 +1,7 @@
 -- A line on its way: what the loop keeps that puts it together, and how each way out of the loop answers the call.
-use Rattle.std.proofs.Common.{◌≡◌, ℕ, ◌+◌, ◌<◌, ◌≤◌, Bool, true, false, List, [], ◌∷◌, ◌++◌, Option, Some, None, Ok, Err, length, refl, sym, ◌∙◌, ap, subst, arith, inl, inr, append_assoc, append-nil, length-append, nat_le, if◌then◌else◌}
+use Rattle.std.proofs.Common.{◌≡◌, ℕ, ◌+◌, ◌<◌, ◌≤◌, true, false, List, [], ◌∷◌, ◌++◌, Option, Some, None, Ok, Err, length, refl, sym, ◌∙◌, ap, subst, arith, inl, inr, append_assoc, append-nil, length-append, nat_le, if◌then◌else◌}
 use Rattle.std.specs.Io.KnownBytes.{Consumes, IsAtEnd, Keeps}
 use Rattle.std.proofs.lemmas.List.Folds.{list_any-append}
-use Rattle.std.proofs.lemmas.List.{nil_from_length}
 use Rattle.ft_io.specs.Lines.{lf, is_lf, IsUnbroken}
 use Rattle.ft_io.specs.Streams.{Rose}
 use Rattle.ft_io.specs.Reader.{Reader, input_limit, handed_out, Call, HandsOut, AnswersLine}
@@ -60,9 +59,6 @@ last_answers old waiting left new (byte ∷ bytes) answer is place unbroken at_e
       };
     }
 
-pub handed_out-nil : (limit : ℕ) → Full [] ≡ handed_out limit []
-handed_out-nil limit = grind arith
-
 -- since the call began the source gave some bytes; of the bytes that waited and these, the line so far comes first and the piece
 -- follows it
 pub record Gathers (old : Reader) (first : Option (List ℕ)) (before : ℕ) (piece : List ℕ) (given : ℕ) (line : Line) (left : Option (List ℕ)) (now : ℕ) : Type 0 where
@@ -77,19 +73,6 @@ pub record Gathers (old : Reader) (first : Option (List ℕ)) (before : ℕ) (pi
   pub later : before ≤ now
 
 module _ (old : Reader) (first : Option (List ℕ)) (before : ℕ) where
-  pub gathers_start : old.given ≤ input_limit + 1 → Gathers old first before old.pending old.given (Full []) first before
-  gathers_start within = record {
-    so_far = [];
-    got = [];
-    place = append-nil old.pending;
-    unbroken = refl;
-    is_line = handed_out-nil old.limit;
-    gives = Consumes-nil first;
-    count = omega arith;
-    within = within;
-    later = omega arith;
-  }
-
   module _ (piece : List ℕ) (given : ℕ) (line : Line) (left : Option (List ℕ)) (now : ℕ) (h : Gathers old first before piece given line left now) where
     -- the line takes the piece, which no LF is in, and the source gives the next one
     pub gathers_more : (next : List ℕ) (given' : ℕ) (line' : Line) (left' : Option (List ℕ)) (now' : ℕ)
@@ -151,18 +134,6 @@ module _ (old : Reader) (first : Option (List ℕ)) (before : ℕ) where
 
       -- the reader stops
       module _ (left' : Option (List ℕ)) (now' : ℕ) (keeps : Keeps left left') (later' : now ≤ now') where
-        pub call_memory : new.given ≡ given → new.limit ≡ old.limit → new.fault ≡ Some OutOfMemory → Call old new first left' before now' (Err OutOfMemory)
-        call_memory same limit stopped = record {
-          got = h.got;
-          gives = Consumes-keeps first left left' h.got h.gives keeps;
-          given = same ∙ h.count;
-          limit = limit;
-          within = omega (arith, same, h.within);
-          later = omega (arith, h.later);
-          after_end = λ ended. absurd (cc);
-          answers = stopped;
-        }
-
         pub call_read : IsUnbroken piece → Rose now now' → given ≤ input_limit → new.given ≡ given → new.limit ≡ old.limit → new.fault ≡ Some Read → Call old new first left' before now' (Err Read)
         call_read unbroken rose within same limit stopped = record {
           got = h.got;

@@ -1,8 +1,8 @@
 -- The lines of bytes whose front is known.
-use Rattle.std.proofs.Common.{◌≡◌, ℕ, ◌<◌, true, false, List, [], ◌∷◌, ◌++◌, All, length, refl, sym, ◌∙◌, ap, arith, append_assoc}
+use Rattle.std.proofs.Common.{◌≡◌, ℕ, ◌<◌, false, List, [], ◌∷◌, ◌++◌, All, length, refl, ◌∙◌, ap, arith, append_assoc}
 use Rattle.std.specs.List.{flat_map}
 use Rattle.std.proofs.lemmas.List.Elements.{All-head, All-tail}
-use Rattle.ft_io.specs.Lines.{lf, is_lf, IsUnbroken, onto_first, onto_first_ended, lines, ended_lines, with_lf}
+use Rattle.ft_io.specs.Lines.{lf, is_lf, IsUnbroken, lines, ended_lines, with_lf}
 
 unbroken-tail : (byte : ℕ) (bytes : List ℕ) → IsUnbroken (byte ∷ bytes) → IsUnbroken bytes
 unbroken-tail byte bytes h = grind arith

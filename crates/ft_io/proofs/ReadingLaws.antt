@@ -1,13 +1,13 @@
 -- How a run over the lines of a source goes on and how it ends: one law for each answer of a call.
-use Rattle.std.proofs.Common.{◌≡◌, ◌⊎◌, ℕ, ◌+◌, ◌<◌, ◌≤◌, Bool, true, false, List, [], ◌∷◌, ◌++◌, Option, Some, None, Result, Ok, Err, All, length, IfNone, refl, sym, ◌∙◌, ap, subst, arith, append_assoc, append-nil, length-append, nat_le, ⊎_elim}
+use Rattle.std.proofs.Common.{◌≡◌, ℕ, ◌+◌, ◌<◌, ◌≤◌, true, false, List, [], ◌∷◌, ◌++◌, Option, Result, Ok, Err, All, length, refl, sym, ◌∙◌, ap, subst, arith, append_assoc, append-nil, length-append, ⊎_elim}
 use Rattle.std.specs.List.{flat_map}
-use Rattle.std.specs.Io.KnownBytes.{Consumes, IsAtEnd}
+use Rattle.std.specs.Io.KnownBytes.{Consumes}
 use Rattle.std.proofs.lemmas.Bool.{cases_Bool}
 use Rattle.std.proofs.lemmas.Bool.Decides.{nat_tests}
 use Rattle.std.proofs.lemmas.Grind.{flat_map-append}
 use Rattle.std.proofs.lemmas.List.Elements.{All-nil, All-push}
 use Rattle.ft_io.specs.Lines.{lf, IsUnbroken, lines, ended_lines, with_lf}
-use Rattle.ft_io.specs.Reader.{Reader, input_limit, new_reader, to_come, handed_out, Call, AnswersLine, HandsOut, Ends, Stops, HasLf, EndsInput, IsSplit, IsWhole, Reading}
+use Rattle.ft_io.specs.Reader.{Reader, input_limit, new_reader, to_come, handed_out, Call, AnswersLine, HandsOut, HasLf, EndsInput, IsSplit, IsWhole, Reading}
 use Rattle.ft_io.specs.declared.reader.Line.{Line}
 use Rattle.ft_io.specs.declared.reader.Line.TheVariants.{Full, TooLong, End}
 use Rattle.ft_io.specs.declared.reader.LineFault.{LineFault}

@@ -1,5 +1,5 @@
 -- What several calls do to the bytes that a source has left and that a sink has taken, where those are told.
-use Rattle.std.proofs.Common.{◌≡◌, ℕ, List, [], ◌++◌, Option, Some, None, IfSome, refl, sym, ◌∙◌, ap, subst, append_assoc, append-nil}
+use Rattle.std.proofs.Common.{ℕ, List, [], ◌++◌, Option, Some, None, IfSome, refl, sym, ◌∙◌, ap, subst, append_assoc, append-nil}
 use Rattle.std.specs.Io.KnownBytes.{Appends, Consumes, Keeps, IsAtEnd}
 
 pub Consumes-nil : (left : Option (List ℕ)) → Consumes left left []
@@ -33,9 +33,3 @@ Appends-append None next last xs ys a b = tt
 Appends-append (Some bs) None last xs ys a b = absurd a
 Appends-append (Some bs) (Some cs) None xs ys a b = absurd b
 Appends-append (Some bs) (Some cs) (Some ds) xs ys a b = b ∙ ap (λ front. front ++ ys) a ∙ append_assoc bs xs ys
-
-pub Appends-keeps : (first next last : Option (List ℕ)) (xs : List ℕ) → Appends first next xs → Keeps next last → Appends first last xs
-Appends-keeps None next last xs a b = tt
-Appends-keeps (Some bs) None last xs a b = absurd a
-Appends-keeps (Some bs) (Some cs) None xs a b = absurd b
-Appends-keeps (Some bs) (Some cs) (Some ds) xs a b = b ∙ a

@@ -1,5 +1,5 @@
 -- A source and a sink over memory: what they are seen as, which of their calls fail, and what each call does.
-use Rattle.std.specs.Prelude.{◌≡◌, ℕ, ◌+◌, ◌-◌, Bool, true, false, ◌&&◌, ◌||◌, not, ◌==◌, min, List, ◌++◌, length, take, drop, Result, MatchResult}
+use Rattle.std.specs.Prelude.{◌≡◌, ℕ, ◌-◌, Bool, true, false, ◌&&◌, ◌||◌, not, ◌==◌, min, List, [], ◌++◌, length, take, drop, Result, MatchResult}
 use Rattle.std.specs.List.{list_any}
 use Rattle.ft_io.specs.Streams.{one_more}
 
@@ -11,6 +11,10 @@ pub record Supply : Type 0 where
   pub calls : ℕ
   pub faults : ℕ
 
+-- a source that has not been called
+abbrev pub new_supply : List ℕ → ℕ → List ℕ → Supply
+new_supply bytes piece fails = record { left = bytes; piece = piece; fails = fails; calls = 0; faults = 0 }
+
 -- a sink over memory: the bytes taken, the length of its pieces, the calls that fail, its room, and how many calls and faults there were
 pub record Store : Type 0 where
   pub taken : List ℕ
@@ -19,6 +23,10 @@ pub record Store : Type 0 where
   pub room : ℕ
   pub calls : ℕ
   pub faults : ℕ
+
+-- a sink that has not been called
+abbrev pub new_store : ℕ → List ℕ → ℕ → Store
+new_store piece fails room = record { taken = []; piece = piece; fails = fails; room = room; calls = 0; faults = 0 }
 
 -- whether the list names the call after so many calls
 abbrev pub is_named : List ℕ → ℕ → Bool

@@ -26,7 +26,7 @@ pub record Reader : Type 0 where
 abbrev pub new_reader : ℕ → Reader
 new_reader limit = record { pending = []; given = 0; limit = limit; ended = false; fault = None }
 
--- more bytes than this are not handed out by any further calls: a measure for a loop over the lines
+-- the most bytes that further calls may hand out, each LF counted: a measure for a loop over the lines
 abbrev pub to_come : Reader → ℕ
 to_come reader = input_limit + 1 - reader.given + length reader.pending
 
@@ -34,12 +34,12 @@ to_come reader = input_limit + 1 - reader.given + length reader.pending
 abbrev pub handed_out : ℕ → List ℕ → Line
 handed_out limit line = if nat_le (length line) limit then Full line else TooLong
 
--- the line and its LF stand before what waits then
+-- of the bytes that wait the line is the first, its LF follows, and what follows that goes on waiting
 pub record HasLf (waiting line : List ℕ) (new : Reader) : Type 0 where
   pub place : waiting ≡ line ++ lf ∷ new.pending
   pub goes_on : new.ended ≡ false
 
--- the line is all that waits, has a byte, and ends the input
+-- the line is all that waits, it has a byte, and the source is at its end
 pub record EndsInput (waiting line : List ℕ) (left : Option (List ℕ)) (new : Reader) : Type 0 where
   pub place : waiting ≡ line
   pub some : 0 < length line
@@ -68,8 +68,8 @@ abbrev pub AnswersLine : Reader → List ℕ → Option (List ℕ) → Reader �
 AnswersLine old waiting left new End = Ends old waiting left new
 AnswersLine old waiting left new line = HandsOut waiting left new line
 
--- The reader stops with a fault. `Read` comes only where the source's count rose, and `InputLimit` where it gave a byte too many,
--- and both where no line of what waits has ended. Want of memory comes at any time.
+-- The reader stops with a fault: `Read` only where the source's count of faults rose, `InputLimit` only where the source gave a byte
+-- too many, and both only where no line ends in what waits. Want of memory comes at any time.
 abbrev pub Stops : Type 0 → List ℕ → Reader → LineFault → Type 0
 Stops rose waiting new Read = (new.fault ≡ Some Read) × IsUnbroken waiting × rose × (new.given ≤ input_limit)
 Stops rose waiting new InputLimit = (new.fault ≡ Some InputLimit) × IsUnbroken waiting × (new.given ≡ input_limit + 1)

@@ -1,6 +1,6 @@
 //! A line is put together from the pieces of an input.
 
-ghost use Rattle.std.specs.Prelude.{◌≡◌, ℕ, ◌+◌, ◌<◌, ◌≤◌, false, true, None, List, [], ◌++◌, length, IfOk, OnErr, IfErr, IsErrOf, Err};
+ghost use Rattle.std.specs.Prelude.{◌≡◌, ℕ, ◌+◌, ◌<◌, ◌≤◌, true, false, None, List, [], ◌++◌, length, IfOk, OnOk, OnErr, IsErrOf};
 ghost use Rattle.std.specs.Result.{result_err};
 ghost use Rattle.std.specs.Io.KnownBytes.{Consumes, IsAtEnd, Keeps};
 ghost use Rattle.ft_io.specs.Streams.{Rose};
@@ -34,7 +34,7 @@ pub struct Intake {
     pub piece: Piece,
     pub given: usize,
     pub ended: bool,
-    ghost within: { given ≤ 16777217 },
+    ghost within: { given ≤ input_limit + 1 },
     ghost none_left: { ended ≡ true → piece ≡ [] },
 }
 
@@ -65,16 +65,18 @@ impl Intake {
         }
     }
 
-    /// Reads the next piece in the place of this one.
+    /// Reads the next piece in the place of this one, and takes none for the end.
     fn fill<S: Source>(&mut self, src: &mut S) -> Result<(), LineFault>
-        ensures bytes { IfOk result (λ _. Consumes (S.remaining src.old) (S.remaining src.new) self.new.piece) }
-        ensures given { IfOk result (λ _. (self.new.given ≡ self.old.given + length self.new.piece)
-            × (self.old.given ≤ input_limit)) }
-        ensures going { IfOk result (λ _. self.new.ended ≡ false → self.old.given < self.new.given × (self.new.given ≤ input_limit + 1)) }
-        ensures ended { IfOk result (λ _. self.new.ended ≡ true → (length self.new.piece ≡ 0)
-            × IsAtEnd (S.remaining src.new)) }
-        ensures err { OnErr result ((self.new.given ≡ self.old.given) × Keeps (S.remaining src.old) (S.remaining src.new)) }
-        ensures read { IsErrOf result LineFault.Read → Rose (S.faults src.old) (S.faults src.new) × (self.old.given ≤ input_limit) }
+        ensures bytes { OnOk result (Consumes (S.remaining src.old) (S.remaining src.new) self.new.piece) }
+        ensures given { OnOk result ((self.old.given ≤ input_limit)
+            × (self.new.given ≡ self.old.given + length self.new.piece)) }
+        ensures goes_on { OnOk result (self.new.ended ≡ false → self.old.given < self.new.given) }
+        ensures ended { OnOk result (self.new.ended ≡ true →
+            (self.new.piece ≡ []) × IsAtEnd (S.remaining src.new)) }
+        ensures err { OnErr result ((self.new.given ≡ self.old.given)
+            × Keeps (S.remaining src.old) (S.remaining src.new)) }
+        ensures read { IsErrOf result LineFault.Read →
+            Rose (S.faults src.old) (S.faults src.new) × (self.old.given ≤ input_limit) }
         ensures limit { IsErrOf result LineFault.InputLimit → input_limit < self.old.given }
         ensures memory { IsErrOf result LineFault.OutOfMemory → ⊥ }
         ensures later { S.faults src.old ≤ S.faults src.new }

@@ -1,9 +1,9 @@
 //! A source and a sink over memory, which fail at the calls that a list names.
 
-ghost use Rattle.std.specs.Prelude.{◌≡◌, [], ◌<◌, ◌≤◌, ℕ, Some, length, IfOk};
+ghost use Rattle.std.specs.Prelude.{◌≡◌, [], ◌<◌, ◌≤◌, Some, length, IfOk};
 ghost use Rattle.std.specs.Io.KnownBytes.{ReadConsumes, WriteAppends};
 ghost use Rattle.ft_io.specs.Streams.{HasCause};
-ghost use Rattle.ft_io.specs.Memory.{Reads, Writes};
+ghost use Rattle.ft_io.specs.Memory.{new_supply, new_store, Reads, Writes};
 
 use crate::streams::{Failed, Sink, Source};
 use ft_base::OutOfMemory;
@@ -28,17 +28,24 @@ impl Model for MemSource {
 
     ghost Value = { Supply };
 
-    ghost view = { λ a. record { left = drop a.at a.bytes.items; piece = a.piece; fails = a.fails.items; calls = a.calls; faults = a.faults } };
+    ghost view = { λ a. record {
+      left = drop a.at a.bytes.items;
+      piece = a.piece;
+      fails = a.fails.items;
+      calls = a.calls;
+      faults = a.faults;
+    } };
 
     ghost invariant = { λ a. (a.at ≤ vec_len a.bytes) × (1 ≤ a.piece) };
 }
 
 impl MemSource {
     /// A source that has these bytes, gives at most `piece` of them at a call, and fails at the calls
-    /// whose numbers, counted from 1, are in `fails`. It takes no memory.
+    /// whose numbers are in `fails`. Calls are numbered from 1, and all past the 2^64 - 1st have its
+    /// number. It takes no memory.
     pub fn new(_alloc: Global, bytes: Vec<u8>, piece: usize, fails: Vec<u64>) -> MemSource
         requires { 1 ≤ piece }
-        ensures { result ≡ record { left = bytes.items; piece = piece; fails = fails.items; calls = 0; faults = 0 } }
+        ensures { result ≡ new_supply bytes.items piece fails.items }
     {
         MemSource {
             bytes,
@@ -93,14 +100,22 @@ impl Model for MemSink {
 
     ghost Value = { Store };
 
-    ghost view = { λ a. record { taken = a.bytes.items; piece = a.piece; fails = a.fails.items; room = a.room; calls = a.calls; faults = a.faults } };
+    ghost view = { λ a. record {
+      taken = a.bytes.items;
+      piece = a.piece;
+      fails = a.fails.items;
+      room = a.room;
+      calls = a.calls;
+      faults = a.faults;
+    } };
 
     ghost invariant = { λ a. (vec_len a.bytes ≤ a.room) × (a.room ≤ vec_capacity a.bytes) × (1 ≤ a.piece) };
 }
 
 impl MemSink {
     /// A sink that has taken nothing, takes at most `piece` bytes at a call and `room` in all, and
-    /// fails at the calls whose numbers, counted from 1, are in `fails`. Its writes take no memory.
+    /// fails at the calls whose numbers are in `fails`. Calls are numbered from 1, and all past the
+    /// 2^64 - 1st have its number. The room is taken here, so writes take no memory.
     ///
     /// Answers `OutOfMemory` where the room isn't found.
     pub fn new(
@@ -110,7 +125,7 @@ impl MemSink {
         room: usize,
     ) -> Result<MemSink, OutOfMemory>
         requires { 1 ≤ piece }
-        ensures { IfOk result (λ sink. sink ≡ record { taken = []; piece = piece; fails = fails.items; room = room; calls = 0; faults = 0 }) }
+        ensures { IfOk result (λ sink. sink ≡ new_store piece fails.items room) }
     {
         Ok(MemSink {
             bytes: Vec::with_capacity(alloc, room)?,

@@ -1,6 +1,6 @@
 //! A piece of an input at a time.
 
-ghost use Rattle.std.specs.Prelude.{◌≡◌, ℕ, ◌+◌, ◌<◌, ◌≤◌, [], true, false, List, ◌++◌, length, take, drop, IfOk, OnErr};
+ghost use Rattle.std.specs.Prelude.{◌≡◌, ◌<◌, ◌≤◌, [], length, take, drop, IfOk, OnOk, OnErr};
 ghost use Rattle.std.specs.Io.KnownBytes.{Consumes, IsAtEnd, Keeps};
 ghost use Rattle.ft_io.specs.Streams.{HasCause};
 
@@ -22,7 +22,7 @@ pub struct Piece {
 }
 
 impl Model for Piece {
-    ghost use Rattle.std.specs.Prelude.{◌≡◌, ◌-◌, ◌<◌, ◌≤◌, List, ℕ, take, drop, vec_len};
+    ghost use Rattle.std.specs.Prelude.{◌-◌, ◌<◌, ◌≤◌, List, ℕ, take, drop, vec_len};
 
     ghost Value = { List ℕ };
 
@@ -63,8 +63,8 @@ impl Piece {
     /// Answers `Failed` only where the source's count of faults rose, and then it is empty.
     pub fn fill<S: Source>(&mut self, src: &mut S, most: usize) -> Result<usize, Failed>
         requires { 0 < most }
-        ensures bytes { IfOk result (λ n. (n ≡ length self.new) × Consumes (S.remaining src.old) (S.remaining src.new) self.new) }
-        ensures most { IfOk result (λ n. n ≤ most) }
+        ensures count { IfOk result (λ n. (n ≡ length self.new) × (n ≤ most)) }
+        ensures bytes { OnOk result (Consumes (S.remaining src.old) (S.remaining src.new) self.new) }
         ensures end { IfOk result (λ n. n ≡ 0 → IsAtEnd (S.remaining src.new)) }
         ensures err { OnErr result ((self.new ≡ []) × Keeps (S.remaining src.old) (S.remaining src.new)) }
         ensures cause { HasCause (S.faults src.old) (S.faults src.new) result }

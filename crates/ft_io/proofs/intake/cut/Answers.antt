@@ -1,4 +1,4 @@
-use Rattle.std.proofs.Common.{◌≡◌, ◌+◌, ◌∷◌, ◌++◌, take, drop, sym, ◌∙◌, ap, subst}
+use Rattle.std.proofs.Common.{◌∷◌, ◌++◌, take, sym, ◌∙◌, ap, subst}
 use Rattle.ft_io.specs.Lines.{lf, IsUnbroken}
 use Rattle.ft_io.specs.Reader.{handed_out}
 use Rattle.ft_io.proofs.FirstLf.{FirstLf, unbroken_none, first_lf}

@@ -1,8 +1,8 @@
-use Rattle.std.proofs.Common.{◌≡◌, ◌∷◌, ◌++◌, [], List, ℕ, Option, IfSome, IfNone, Ok, Err, refl, sym, ◌∙◌, ap, subst, map, rules}
+use Rattle.std.proofs.Common.{◌≡◌, ◌∷◌, ◌++◌, [], sym, ◌∙◌, ap, subst, map, rules}
 use Rattle.std.proofs.lemmas.List.{map-append}
 use Rattle.std.proofs.lemmas.Result.{err_from_is_err_and}
-use Rattle.ft_io.specs.Lines.{lines, ended_lines}
-use Rattle.ft_io.specs.Reader.{handed_out, Reading, Call}
+use Rattle.ft_io.specs.Lines.{lines}
+use Rattle.ft_io.specs.Reader.{handed_out, Reading}
 use Rattle.ft_io.proofs.ReadingLaws.{reading_start, reading_line, reading_gives, reading_end, reading_read}
 use Rattle.ft_io.proofs.TakenAndLeft.{IfSome-consumed}
 use Rattle.ft_io.specs.declared.reader.LineFault.TheVariants.{Read}

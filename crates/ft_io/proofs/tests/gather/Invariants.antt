@@ -9,7 +9,7 @@ invariant-loop-reader g l = record {
   handed : List (List ℕ);
   reading : Reading (g.S.Source.remaining l.initial.src) (g.S.Source.remaining l.src) l.reader given handed;
   limit : l.reader.limit ≡ l.limit;
-  gathered : l.out.items ≡ map (handed_out l.limit) handed
+  gathered : l.out.items ≡ map (handed_out l.limit) handed;
 }
 
 abbrev pub decreases-loop-reader : goal.decreases-loop-reader

@@ -1,11 +1,10 @@
-use Rattle.std.proofs.Common.{◌≡◌, ◌+◌, ◌++◌, None, Some, Ok, Err, refl, sym, ◌∙◌, ap, subst, arith}
+use Rattle.std.proofs.Common.{length, None, Some, Err, refl, sym, ◌∙◌, ap, subst, arith}
 use Rattle.std.specs.Result.{result_err}
 use Rattle.std.proofs.lemmas.Result.{err_from_is_err_and}
-use Rattle.std.proofs.lemmas.List.{nil_from_length}
-use Rattle.ft_io.specs.Reader.{Reader, Call, handed_out}
+use Rattle.ft_io.specs.Reader.{Reader, Call}
 use Rattle.ft_io.specs.LineParts.{Cuts}
 use Rattle.ft_io.specs.Intake.{as_reader}
-use Rattle.ft_io.proofs.Gathering.{Gathers, gathers_more, call_whole, call_last, call_fault}
+use Rattle.ft_io.proofs.Gathering.{gathers_more, call_whole, call_last, call_fault}
 use Rattle.ft_io.proofs.intake.Intake.next_line.Goals as goal
 
 pub returns-in-Last : goal.returns-in-Last
@@ -47,11 +46,11 @@ returns-then-self g c =
     let old = as_reader c.args.self.now c.args.limit None in
     let told = c.in_ok-fill.ensures in
     let ended = told.ended c.if-self.true in
-    let nothing = nil_from_length c.fill.new.self.piece ended.0 in
+    let nothing = ended.0 in
     let more = gathers_more old (left c.args.src.now) (faults c.args.src.now) now.self.piece now.self.given now.line (left now.src) (faults now.src) h
-    c.fill.new.self.piece c.fill.new.self.given c.in-More.part (left c.fill.new.src) (faults c.fill.new.src) cuts.0 cuts.1 told.bytes told.given.0 c.fill.new.self.within told.later in
+    c.fill.new.self.piece c.fill.new.self.given c.in-More.part (left c.fill.new.src) (faults c.fill.new.src) cuts.0 cuts.1 told.bytes told.given.1 c.fill.new.self.within told.later in
     call_last old (left c.args.src.now) (faults c.args.src.now) c.fill.new.self.piece c.fill.new.self.given c.in-More.part (left c.fill.new.src) (faults c.fill.new.src) more
-    (as_reader c.fill.new.self c.args.limit None) c.requires c.last.result (c.last.ensures c.args.limit more.so_far more.is_line) nothing ended.1 (omega (arith, told.given, ended.0)) nothing refl refl c.if-self.true refl
+    (as_reader c.fill.new.self c.args.limit None) c.requires c.last.result (c.last.ensures c.args.limit more.so_far more.is_line) nothing ended.1 (omega (arith, told.given, ap length nothing)) nothing refl refl c.if-self.true refl
 
 pub loop-whole-preserved : goal.loop-whole-preserved
 loop-whole-preserved g c =
@@ -64,6 +63,6 @@ loop-whole-preserved g c =
     let told = c.in_ok-fill.ensures in
     record {
       gathers = gathers_more old (left c.args.src.now) (faults c.args.src.now) now.self.piece now.self.given now.line (left now.src) (faults now.src) h
-          c.fill.new.self.piece c.fill.new.self.given c.in-More.part (left c.fill.new.src) (faults c.fill.new.src) cuts.0 cuts.1 told.bytes told.given.0 c.fill.new.self.within told.later;
+          c.fill.new.self.piece c.fill.new.self.given c.in-More.part (left c.fill.new.src) (faults c.fill.new.src) cuts.0 cuts.1 told.bytes told.given.1 c.fill.new.self.within told.later;
       goes_on = c.if-self.false;
     }

@@ -1,6 +1,5 @@
-use Rattle.std.proofs.Common.{◌≡◌, ◌+◌, ◌≤◌, None, Ok, IfNone, sym, ◌∙◌, ap, subst}
-use Rattle.ft_io.specs.Reader.{Call, input_limit}
-use Rattle.ft_io.specs.declared.reader.Line.TheVariants.{End}
+use Rattle.std.proofs.Common.{◌+◌, ◌≤◌, sym, ◌∙◌, ap, subst}
+use Rattle.ft_io.specs.Reader.{input_limit}
 use Rattle.ft_io.proofs.Gathering.{call_ended}
 use Rattle.ft_io.proofs.reader.Lines.next.Goals as goal
 
