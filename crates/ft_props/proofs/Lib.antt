@@ -8,3 +8,4 @@ pub mod Utf8Order
 pub mod RisingKeys
 pub mod Digits
 pub mod CanonicalNumbers
+pub mod PendingStages

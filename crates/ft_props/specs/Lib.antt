@@ -4,3 +4,4 @@ pub mod Element
 pub mod Steps
 pub mod Slide
 pub mod Compaction
+pub mod Overlay

@@ -9,6 +9,9 @@ use crate::properties::{AdjSet, Adjust, Changes, PropSet, Props};
 use ft_base::{OutOfMemory, Text};
 use ft_json::ValText;
 
+// A function here that changes properties leaves them half changed after want of memory: its caller
+// works on a copy.
+
 /// Sets the value of the key, or takes the key away where there is none.
 fn set_key(props: &mut Props, key: &Text, value: &Option<ValText>) -> Result<(), OutOfMemory>
     ensures { OnOk result (props.new ≡ set_key key.now value.now props.old) }
@@ -49,6 +52,15 @@ fn adjust_all(props: &mut Props, adjustments: &AdjSet) -> Result<(), OutOfMemory
     Ok(())
 }
 
+/// Makes the changes: first each key is set, and then each adjustment is made, of 0 where the key
+/// has no whole number.
+pub fn make_changes(props: &mut Props, changes: &Changes) -> Result<(), OutOfMemory>
+    ensures { OnOk result (props.new ≡ change props.old changes.now) }
+{
+    apply_all(props, &changes.props)?;
+    adjust_all(props, &changes.adjust)
+}
+
 impl Props {
     /// The properties with each key of the set put, where null takes the key away.
     ///
@@ -68,8 +80,8 @@ impl Props {
     pub fn changed(&self, changes: &Changes) -> Result<Props, OutOfMemory>
         ensures { IfOk result (λ props. props ≡ change self.now changes.now) }
     {
-        let mut props = self.applied(&changes.props)?;
-        adjust_all(&mut props, &changes.adjust)?;
+        let mut props = self.copy()?;
+        make_changes(&mut props, changes)?;
         Ok(props)
     }
 }

@@ -4,7 +4,9 @@
 mod changed;
 pub mod keys;
 mod numbers;
+pub mod overlay;
 mod pairs;
 pub mod properties;
 
+pub use overlay::Overlay;
 pub use properties::{AdjSet, Adjust, Changes, PropSet, Props};
