@@ -4,3 +4,5 @@ pub mod Walk
 pub mod Observation
 pub mod Statuses
 pub mod Report
+pub mod Writing
+pub mod Run

@@ -4,7 +4,10 @@
 mod observer;
 mod refusals;
 mod replay;
+mod report;
+mod running;
 mod statuses;
 mod words;
+mod writing;
 
 fn main() {}

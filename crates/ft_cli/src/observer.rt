@@ -1,15 +1,18 @@
 //! The observer of a log.
 
-ghost use Rattle.std.specs.Prelude.{◌≡◌, ℕ, ◌+◌, ◌-◌, ◌<◌, ◌≤◌, ◌^◌, List, IfOk, OnOk, OnErr, length};
+ghost use Rattle.std.specs.Prelude.{◌≡◌, ℕ, ◌+◌, ◌-◌, ◌<◌, ◌≤◌, ◌^◌, List, IfOk, OnOk, OnErr, length, string_bytes};
 ghost use Rattle.ft_msg.specs.Client.{client_over};
 ghost use Rattle.ft_msg.specs.MessageGrammar.{IsBuilt};
 ghost use Rattle.ft_msg.specs.Process.{process};
 ghost use Rattle.ft_msg.specs.WellFormed.{HasNumbersInRange};
+ghost use Rattle.ft_plain.specs.Observer.{numbers_of};
+ghost use Rattle.ft_cli.specs.Report.{bytes_of, view_lines};
 ghost use Rattle.ft_cli.specs.Observation.{entry_of, names_with, nothing_observed, observe, observe_answer, observe_message};
 
 use crate::refusals::Refusal;
+use crate::report::view_text;
 use ft_base::OutOfMemory;
-use ft_msg::{Cause, Entry, Message, Names, ProcessFault, read_message};
+use ft_msg::{Cause, Entry, Message, Names, Numbers, ProcessFault, read_message};
 use ft_plain::Plain;
 use std::alloc::Global;
 use std::marker::Model;
@@ -57,6 +60,25 @@ impl Observer {
             Ok(message) => self.take_message(message),
             Err(Cause::OutOfMemory) => Err(OutOfMemory),
             Err(cause) => Ok(Some(Refusal::of_cause(cause))),
+        }
+    }
+
+    /// The numbers of its replica. It takes no memory.
+    pub fn numbers(&self) -> Numbers
+        ensures { result ≡ numbers_of self.now.doc }
+    {
+        self.replica.numbers()
+    }
+
+    /// The lines of its view, each with its LF.
+    ///
+    /// Answers `OutOfMemory` where there is no room for them.
+    pub fn view_text(&self) -> Result<String, OutOfMemory>
+        ensures { IfOk result (λ text. string_bytes text ≡ bytes_of (view_lines self.now.doc)) }
+    {
+        match self.replica.view() {
+            Ok(view) => view_text(self.alloc, &view),
+            Err(_) => Err(OutOfMemory),
         }
     }
 

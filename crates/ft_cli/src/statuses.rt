@@ -2,6 +2,9 @@
 
 ghost use Rattle.std.specs.Prelude.{◌≡◌};
 
+use ft_base::OutOfMemory;
+use ft_io::{Failed, LineFault};
+
 /// How a run ends.
 #[derive(Clone, Copy, Debug, PartialEq, Eq)]
 pub enum Status {
@@ -53,4 +56,54 @@ pub enum Fault {
     OutOfMemory,
     /// The source gave a byte too many.
     InputLimit,
+}
+
+impl From<Failed> for Fault {
+    ghost use Rattle.ft_cli.specs.declared.statuses.Fault.TheVariants.{Write};
+
+    ghost from_gives = { λ _ fault. fault ≡ Write };
+
+    /// A sink failed.
+    fn from(_fault: Failed) -> Fault {
+        Fault::Write
+    }
+}
+
+impl From<OutOfMemory> for Fault {
+    ghost use Rattle.ft_cli.specs.declared.statuses.Fault.TheVariants.{OutOfMemory};
+
+    ghost from_gives = { λ _ fault. fault ≡ OutOfMemory };
+
+    fn from(_fault: OutOfMemory) -> Fault {
+        Fault::OutOfMemory
+    }
+}
+
+impl From<LineFault> for Fault {
+    ghost use Rattle.ft_cli.specs.Statuses.{fault_of_line};
+
+    ghost from_gives = { λ line fault. fault ≡ fault_of_line line };
+
+    fn from(fault: LineFault) -> Fault {
+        match fault {
+            LineFault::Read => Fault::Read,
+            LineFault::InputLimit => Fault::InputLimit,
+            LineFault::OutOfMemory => Fault::OutOfMemory,
+        }
+    }
+}
+
+impl From<Fault> for Status {
+    ghost use Rattle.ft_cli.specs.Statuses.{fault_status};
+
+    ghost from_gives = { λ fault status. status ≡ fault_status fault };
+
+    fn from(fault: Fault) -> Status {
+        match fault {
+            Fault::Read => Status::ReadFault,
+            Fault::Write => Status::WriteFault,
+            Fault::OutOfMemory => Status::OutOfMemory,
+            Fault::InputLimit => Status::InputLimit,
+        }
+    }
 }
