@@ -1,0 +1,4 @@
+pub mod Observing
+pub mod Written
+pub mod Walking
+pub mod RunLaws

@@ -1,0 +1,43 @@
+-- What a sink has taken of some bytes.
+use Rattle.std.proofs.Common.{◌≡◌, ℕ, ◌≤◌, List, [], ◌++◌, Option, Result, Ok, Err, take, drop, refl, sym, ◌∙◌, ap, subst, append_assoc}
+use Rattle.std.proofs.lemmas.List.{take-append-drop}
+use Rattle.std.specs.Io.KnownBytes.{Appends}
+use Rattle.ft_io.specs.Streams.{Rose}
+use Rattle.ft_io.proofs.TakenAndLeft.{Appends-nil}
+use Rattle.ft_cli.specs.declared.statuses.Fault.{Fault}
+use Rattle.ft_cli.specs.declared.statuses.Fault.TheVariants.{Write, OutOfMemory}
+use Rattle.ft_cli.specs.Writing.{Begins, Writes}
+
+-- the first n bytes
+pub begins_take : (n : ℕ) (bytes : List ℕ) → Begins (take n bytes) bytes
+begins_take n bytes = record { later = drop n bytes; place = sym (take-append-drop n bytes) }
+
+-- no bytes
+pub begins_nil : (bytes : List ℕ) → Begins [] bytes
+begins_nil bytes = record { later = bytes; place = refl }
+
+-- the sink failed and took the first n bytes
+pub writes_failed : {T : Type 0} (held holds : Option (List ℕ)) (before now n : ℕ) (bytes : List ℕ) (result : Result T Fault) → result ≡ Err Write
+    → Appends held holds (take n bytes) → before ≤ now → Rose before now → Writes held holds before now bytes result
+writes_failed {T} held holds before now n bytes result is takes later rose =
+    subst (Writes {T = T} held holds before now bytes) (sym is) (record { written = take n bytes; takes = takes; later = later; says = (rose, begins_take n bytes) })
+
+-- no memory was found before anything was written
+pub writes_nothing : {T : Type 0} (held : Option (List ℕ)) (now : ℕ) (bytes : List ℕ) (result : Result T Fault) → result ≡ Err OutOfMemory → now ≤ now
+    → Writes held held now now bytes result
+writes_nothing {T} held now bytes result is same =
+    subst (Writes {T = T} held held now now bytes) (sym is) (record { written = []; takes = Appends-nil held; later = same; says = begins_nil bytes })
+
+-- behind what was written before
+pub begins_append : (done : List ℕ) {front whole : List ℕ} → Begins front whole → Begins (done ++ front) (done ++ whole)
+begins_append done {front} {whole} b =
+    record { later = b.later; place = ap (λ bytes. done ++ bytes) b.place ∙ sym (append_assoc done front b.later) }
+
+-- before more
+pub begins_more : (more : List ℕ) {front whole : List ℕ} → Begins front whole → Begins front (whole ++ more)
+begins_more more {front} {whole} b =
+    record { later = b.later ++ more; place = ap (λ bytes. bytes ++ more) b.place ∙ append_assoc front b.later more }
+
+pub begins_trans : {front middle whole : List ℕ} → Begins front middle → Begins middle whole → Begins front whole
+begins_trans {front} {middle} {whole} a b =
+    record { later = a.later ++ b.later; place = b.place ∙ ap (λ bytes. bytes ++ b.later) a.place ∙ append_assoc front a.later b.later }

@@ -1,0 +1,16 @@
+use Rattle.std.proofs.Common.{◌≤◌}
+use Rattle.ft_io.specs.Reader.{to_come}
+use Rattle.ft_cli.proofs.RunLaws.{Stands}
+use Rattle.ft_cli.proofs.running.read_lines.Given as goal
+
+-- where the run stands, and that counts of faults don't fall
+abbrev pub invariant-loop-replay : goal.invariant-loop-replay
+invariant-loop-replay g l = record {
+  stands : Stands (g.S.Source.remaining l.initial.src) (g.S.Source.remaining l.src) l.lines (g.K.Sink.contents l.initial.out) (g.K.Sink.contents l.out) l.replay;
+  source_later : g.S.Source.faults l.initial.src ≤ g.S.Source.faults l.src;
+  sink_later : g.K.Sink.faults l.initial.out ≤ g.K.Sink.faults l.out;
+}
+
+-- each line brings the input nearer to its end
+abbrev pub decreases-loop-replay : goal.decreases-loop-replay
+decreases-loop-replay g l = to_come l.lines

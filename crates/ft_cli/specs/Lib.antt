@@ -1,0 +1,8 @@
+pub mod Words
+pub mod Refusals
+pub mod Walk
+pub mod Observation
+pub mod Statuses
+pub mod Report
+pub mod Writing
+pub mod Run

@@ -1,0 +1,69 @@
+-- What a run does: which bytes the source gave, which bytes the sink took, and what its status says of both.
+use Rattle.std.specs.Prelude.{◌≡◌, ◌⊎◌, ℕ, ◌+◌, ◌≤◌, List, [], length, Option, Some, None, Result, Ok, Err}
+use Rattle.std.specs.Io.KnownBytes.{Appends, Consumes, IsAtEnd}
+use Rattle.ft_io.specs.Lines.{lines}
+use Rattle.ft_io.specs.Reader.{input_limit}
+use Rattle.ft_cli.specs.declared.statuses.Status.{Status}
+use Rattle.ft_cli.specs.declared.statuses.Status.TheVariants.{Usage, ReadFault, WriteFault, OutOfMemory, InputLimit}
+use Rattle.ft_cli.specs.declared.statuses.Fault.{Fault}
+use Rattle.ft_cli.specs.declared.words.Form.{Form}
+use Rattle.ft_cli.specs.declared.words.Form.TheVariants.{Log}
+use Rattle.ft_cli.specs.Statuses.{fault_status}
+use Rattle.ft_cli.specs.Words.{form_of}
+use Rattle.ft_cli.specs.Walk.{Progress}
+use Rattle.ft_cli.specs.Observation.{Observation}
+use Rattle.ft_cli.specs.Report.{bytes_of, log_after, log_lines, opened_of, report_of, status_of}
+use Rattle.ft_cli.specs.Writing.{Begins}
+
+-- The bytes that moved in a call: the source, which had first and has left, gave some, and the sink, which held these and holds
+-- those, took some, where they tell their bytes; and what is said of both.
+pub record Moves (first left held holds : Option (List ℕ)) (Said : List ℕ → List ℕ → Type 0) : Type 0 where
+  pub given : List ℕ
+  pub gives : Consumes first left given
+  pub written : List ℕ
+  pub takes : Appends held holds written
+  pub says : Said given written
+
+-- the input was read to its end, and its whole report written
+pub record IsWhole (form : Form) (left : Option (List ℕ)) (status : Status) (given written : List ℕ) : Type 0 where
+  pub at_end : IsAtEnd left
+  pub within : length given ≤ input_limit
+  pub report : written ≡ report_of form given
+  pub ends : status ≡ status_of form given
+
+-- the bytes written are the first of the report of the bytes given, or of what their ended lines write
+abbrev pub IsPart : Form → List ℕ → List ℕ → Type 0
+IsPart form given written = Begins written (report_of form given) ⊎ Begins written (opened_of form given)
+
+-- What a status says of the bytes given and written, where the words are of a form. A fault of the source or the sink comes only
+-- where its count rose.
+abbrev pub Says : Form → Option (List ℕ) → Type 0 → Type 0 → Status → List ℕ → List ℕ → Type 0
+Says form left source_rose sink_rose Usage given written = ⊥
+Says form left source_rose sink_rose ReadFault given written =
+    source_rose × (length given ≤ input_limit) × (written ≡ opened_of form given)
+Says form left source_rose sink_rose WriteFault given written = sink_rose × IsPart form given written
+Says form left source_rose sink_rose OutOfMemory given written = IsPart form given written
+Says form left source_rose sink_rose InputLimit given written = (length given ≡ input_limit + 1) × (written ≡ opened_of form given)
+Says form left source_rose sink_rose status given written = IsWhole form left status given written
+
+-- the same, where the words may be of no form: then nothing is read or written
+abbrev pub SaysForWords : Option Form → Option (List ℕ) → Type 0 → Type 0 → Status → List ℕ → List ℕ → Type 0
+SaysForWords None left source_rose sink_rose status given written = (status ≡ Usage) × (given ≡ []) × (written ≡ [])
+SaysForWords (Some form) left source_rose sink_rose status given written = Says form left source_rose sink_rose status given written
+
+-- the status with which a run ends
+abbrev pub end_status : Result Status Fault → Status
+end_status (Ok status) = status
+end_status (Err fault) = fault_status fault
+
+-- all lines of a log were read, and what they write was written
+pub record AllRead (left : Option (List ℕ)) (at : Progress Observation) (given written : List ℕ) : Type 0 where
+  pub at_end : IsAtEnd left
+  pub within : length given ≤ input_limit
+  pub progress : at ≡ log_after (lines given)
+  pub report : written ≡ bytes_of (log_lines (lines given))
+
+-- what is said of the bytes given and written where the lines of a log are read
+abbrev pub SaysOfLines : Option (List ℕ) → Type 0 → Type 0 → Result (Progress Observation) Fault → List ℕ → List ℕ → Type 0
+SaysOfLines left source_rose sink_rose (Ok at) given written = AllRead left at given written
+SaysOfLines left source_rose sink_rose (Err fault) given written = Says Log left source_rose sink_rose (fault_status fault) given written

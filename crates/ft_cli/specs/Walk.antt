@@ -1,0 +1,79 @@
+-- A form that reads lines: what each line does, how far an input was read, and what its lines write. Lines are counted from 1.
+use Rattle.std.specs.Prelude.{ℕ, ◌+◌, Bool, ◌||◌, ◌==◌, nat_lt, List, [], ◌∷◌, ◌++◌, length, Option, Some, None, if◌then◌else◌}
+use Rattle.std.specs.List.{list_all}
+use Rattle.ft_cli.specs.declared.refusals.Refusal.{Refusal}
+use Rattle.ft_cli.specs.declared.refusals.Refusal.TheVariants.{LineTooLong}
+use Rattle.ft_cli.specs.Refusals.{refused_line}
+
+-- the greatest length of a line, without its LF
+abbrev pub line_limit : ℕ
+line_limit = 1048576
+
+-- whether a byte is a space, a tab or a CR
+abbrev pub is_blank_byte : ℕ → Bool
+is_blank_byte byte = byte == 32 || (byte == 9 || byte == 13)
+
+-- whether a line has no other bytes
+abbrev pub is_blank : List ℕ → Bool
+is_blank line = list_all is_blank_byte line
+
+-- what a line does: what the lines made with it, and why it is refused, if it is
+pub record Step (S : Type 0) : Type 0 where
+  pub made : S
+  pub refusal : Option Refusal
+
+-- the step of a line that is passed over
+abbrev pub passes : {S : Type 0} → S → Step S
+passes made = record { made = made; refusal = None }
+
+-- the step of a line that is refused and changes nothing
+abbrev pub refuses : {S : Type 0} → S → Refusal → Step S
+refuses made refusal = record { made = made; refusal = Some refusal }
+
+-- the step of any line: one that is too long is refused, a blank one is passed over, and the others are read
+abbrev pub step_of : {S : Type 0} → (S → List ℕ → Step S) → S → List ℕ → Step S
+step_of read made line =
+    if nat_lt line_limit (length line) then refuses made LineTooLong
+    else (if is_blank line then passes made else read made line)
+
+-- how far an input was read: how many lines, how many of them were refused, and what they made
+pub record Progress (S : Type 0) : Type 0 where
+  pub lines : ℕ
+  pub refused : ℕ
+  pub made : S
+
+-- before the first line
+abbrev pub begin : {S : Type 0} → S → Progress S
+begin made = record { lines = 0; refused = 0; made = made }
+
+-- how many lines were refused after one with this refusal, if it has one
+abbrev pub refused_after : ℕ → Option Refusal → ℕ
+refused_after n None = n
+refused_after n (Some refusal) = n + 1
+
+-- how far it is after a step
+abbrev pub after_step : {S : Type 0} → Progress S → Step S → Progress S
+after_step at step = record { lines = at.lines + 1; refused = refused_after at.refused step.refusal; made = step.made }
+
+-- how far it is after a line
+abbrev pub after_line : {S : Type 0} → (S → List ℕ → Step S) → Progress S → List ℕ → Progress S
+after_line read at line = after_step at (step_of read at.made line)
+
+-- how far it is after these lines
+abbrev pub after_lines : {S : Type 0} → (S → List ℕ → Step S) → Progress S → List (List ℕ) → Progress S
+after_lines read at [] = at
+after_lines read at (line ∷ later) = after_lines read (after_line read at line) later
+
+-- what is written of the line with this number: its refusal, if it has one
+abbrev pub refusal_lines : ℕ → Option Refusal → List (List ℕ)
+refusal_lines number None = []
+refusal_lines number (Some refusal) = refused_line number refusal ∷ []
+
+-- the lines that a line writes
+abbrev pub written_by_line : {S : Type 0} → (S → List ℕ → Step S) → Progress S → List ℕ → List (List ℕ)
+written_by_line read at line = refusal_lines (at.lines + 1) (step_of read at.made line).refusal
+
+-- the lines that these lines write
+abbrev pub written_by : {S : Type 0} → (S → List ℕ → Step S) → Progress S → List (List ℕ) → List (List ℕ)
+written_by read at [] = []
+written_by read at (line ∷ later) = written_by_line read at line ++ written_by read (after_line read at line) later

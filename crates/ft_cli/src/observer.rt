@@ -1,0 +1,130 @@
+//! The observer of a log.
+
+ghost use Rattle.std.specs.Prelude.{◌≡◌, ℕ, ◌+◌, ◌-◌, ◌<◌, ◌≤◌, ◌^◌, List, IfOk, OnOk, OnErr, length, string_bytes};
+ghost use Rattle.ft_msg.specs.Client.{client_over};
+ghost use Rattle.ft_msg.specs.MessageGrammar.{IsBuilt};
+ghost use Rattle.ft_msg.specs.Process.{process};
+ghost use Rattle.ft_msg.specs.WellFormed.{HasNumbersInRange};
+ghost use Rattle.ft_plain.specs.Observer.{numbers_of};
+ghost use Rattle.ft_cli.specs.Report.{bytes_of, view_lines};
+ghost use Rattle.ft_cli.specs.Observation.{entry_of, names_with, nothing_observed, observe, observe_answer, observe_message};
+
+use crate::refusals::Refusal;
+use crate::report::view_text;
+use ft_base::OutOfMemory;
+use ft_msg::{Cause, Entry, Message, Names, Numbers, ProcessFault, read_message};
+use ft_plain::Plain;
+use std::alloc::Global;
+use std::marker::Model;
+
+/// The observer of a log: a replica that takes its messages and sends none. Contracts see it as the
+/// names of the connections so far and the document of the messages that it took.
+#[derive(Drop)]
+pub struct Observer {
+    alloc: Global,
+    names: Names,
+    replica: Plain,
+}
+
+impl Model for Observer {
+    ghost use Rattle.ft_cli.specs.Observation.{Observation};
+
+    ghost Value = { Observation };
+
+    ghost view = { λ a. record { names = a.names; doc = a.replica.doc } };
+}
+
+impl Observer {
+    /// An observer before the first message.
+    ///
+    /// Answers `OutOfMemory` where there is no room for it.
+    pub fn new(alloc: Global) -> Result<Observer, OutOfMemory>
+        ensures { IfOk result (λ observer. observer ≡ nothing_observed) }
+    {
+        Ok(Observer {
+            alloc,
+            names: Names::new(alloc),
+            replica: Plain::start(alloc)?,
+        })
+    }
+
+    /// Takes the message that the line is, and answers why it is refused, if it is.
+    ///
+    /// Answers `OutOfMemory` where there is no room for it, and then it says nothing of its document.
+    pub fn take(&mut self, line: &[u8]) -> Result<Option<Refusal>, OutOfMemory>
+        requires { length self.old.names < 2 ^ 32 - 1 }
+        ensures step { IfOk result (λ refusal. observe self.old line.now ≡ record { made = self.new; refusal = refusal }) }
+        ensures names { length self.new.names ≤ length self.old.names + 1 }
+    {
+        match read_message(self.alloc, line) {
+            Ok(message) => self.take_message(message),
+            Err(Cause::OutOfMemory) => Err(OutOfMemory),
+            Err(cause) => Ok(Some(Refusal::of_cause(cause))),
+        }
+    }
+
+    /// The numbers of its replica. It takes no memory.
+    pub fn numbers(&self) -> Numbers
+        ensures { result ≡ numbers_of self.now.doc }
+    {
+        self.replica.numbers()
+    }
+
+    /// The lines of its view, each with its LF.
+    ///
+    /// Answers `OutOfMemory` where there is no room for them.
+    pub fn view_text(&self) -> Result<String, OutOfMemory>
+        ensures { IfOk result (λ text. string_bytes text ≡ bytes_of (view_lines self.now.doc)) }
+    {
+        match self.replica.view() {
+            Ok(view) => view_text(self.alloc, &view),
+            Err(_) => Err(OutOfMemory),
+        }
+    }
+
+    // Takes a message, and answers why it is refused, if it is.
+    fn take_message(&mut self, msg: Message) -> Result<Option<Refusal>, OutOfMemory>
+        requires room { length self.old.names < 2 ^ 32 - 1 }
+        requires in_range { HasNumbersInRange msg }
+        requires built { IsBuilt msg.body }
+        ensures step { IfOk result (λ refusal. observe_message self.old msg ≡ record { made = self.new; refusal = refusal }) }
+        ensures names { length self.new.names ≤ length self.old.names + 1 }
+    {
+        let entry = number_sender(&mut self.names, msg)?;
+        give(&mut self.replica, &entry)
+    }
+}
+
+// The message with the number of the connection that sent it, a new one where its name has none yet.
+fn number_sender(names: &mut Names, msg: Message) -> Result<Entry, OutOfMemory>
+    requires { length names.old < 2 ^ 32 - 1 }
+    ensures ok { IfOk result (λ entry. entry ≡ entry_of names.old msg) }
+    ensures names { OnOk result (names.new ≡ names_with names.old msg.client_id) }
+    ensures err { OnErr result (names.new ≡ names.old) }
+{
+    let origin = match &msg.client_id {
+        Some(name) => names.number(name)?,
+        None => 0,
+    };
+    Ok(Entry { msg, origin })
+}
+
+// Gives the replica a message, and answers why it is refused, if it is.
+fn give(replica: &mut Plain, entry: &Entry) -> Result<Option<Refusal>, OutOfMemory>
+    requires in_range { HasNumbersInRange entry.now.msg }
+    requires built { IsBuilt entry.now.msg.body }
+    ensures { IfOk result (λ refusal. (names : List (List ℕ)) → observe_answer (record { names = names; doc = replica.old.doc })
+        (process (client_over replica.old.doc) entry.now) ≡ record { made = record { names = names; doc = replica.new.doc }; refusal = refusal }) }
+{
+    match replica.process(entry) {
+        Ok(()) => Ok(None),
+        Err(ProcessFault::OutOfOrder { expected, got }) => {
+            Ok(Some(Refusal::OutOfOrder { expected, got }))
+        }
+        Err(ProcessFault::BadNumbers { field, kept, got }) => {
+            Ok(Some(Refusal::BadNumbers { field, kept, got }))
+        }
+        Err(ProcessFault::NotSent) => unreachable!(),
+        Err(ProcessFault::OutOfMemory | ProcessFault::Stopped { .. }) => Err(OutOfMemory),
+    }
+}

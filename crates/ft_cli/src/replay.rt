@@ -1,0 +1,149 @@
+//! A log as far as it was read.
+
+ghost use Rattle.std.specs.Prelude.{◌≡◌, ℕ, ◌+◌, ◌-◌, ◌<◌, ◌≤◌, ◌^◌, List, IfOk, OnOk, length, string_bytes};
+ghost use Rattle.ft_io.specs.Reader.{handed_out};
+ghost use Rattle.ft_cli.specs.Walk.{after_line, begin, is_blank, line_limit, step_of, written_by_line};
+ghost use Rattle.ft_cli.specs.Observation.{nothing_observed, observe};
+ghost use Rattle.ft_cli.specs.Report.{bytes_of, log_end, log_status};
+ghost use Rattle.ft_cli.specs.Writing.{Writes};
+
+use crate::observer::Observer;
+use crate::refusals::{Refusal, refused_line};
+use crate::report::closing_text;
+use crate::statuses::{Fault, Status};
+use crate::writing::put;
+use ft_base::OutOfMemory;
+use ft_io::{Line, Sink};
+use std::alloc::Global;
+use std::marker::Model;
+
+/// The greatest length of a line, without its LF.
+pub const LINE_LIMIT: usize = 1_048_576;
+
+/// A log as far as it was read: how many lines, how many of them were refused, and its observer.
+#[derive(Drop)]
+pub struct Replay {
+    lines: u64,
+    refused: u64,
+    observer: Observer,
+}
+
+impl Model for Replay {
+    ghost use Rattle.std.specs.Prelude.{◌≤◌, length};
+    ghost use Rattle.ft_cli.specs.Walk.{Progress};
+    ghost use Rattle.ft_cli.specs.Observation.{Observation};
+
+    ghost Value = { Progress Observation };
+
+    ghost view = { λ a. record { lines = a.lines; refused = a.refused; made = a.observer } };
+
+    ghost invariant = { λ a. (a.refused ≤ a.lines) × (length a.observer.names ≤ a.lines) };
+}
+
+impl Replay {
+    /// A log before its first line.
+    ///
+    /// Answers `OutOfMemory` where there is no room for its observer.
+    pub fn new(alloc: Global) -> Result<Replay, OutOfMemory>
+        ensures { IfOk result (λ replay. replay ≡ begin nothing_observed) }
+    {
+        Ok(Replay {
+            lines: 0,
+            refused: 0,
+            observer: Observer::new(alloc)?,
+        })
+    }
+
+    /// Takes a line as a reader of lines hands it out, and answers why it is refused, if it is.
+    ///
+    /// Answers `OutOfMemory` where there is no room for its message.
+    pub fn take(&mut self, line: Line) -> Result<Option<Refusal>, OutOfMemory>
+        requires { self.old.lines < 2 ^ 32 - 1 }
+        ensures after { (text : List ℕ) → line ≡ handed_out line_limit text
+            → IfOk result (λ refusal. self.new ≡ after_line observe self.old text) }
+        ensures refusal { (text : List ℕ) → line ≡ handed_out line_limit text
+            → IfOk result (λ refusal. refusal ≡ (step_of observe self.old.made text).refusal) }
+    {
+        self.lines += 1;
+        let refusal = step(&mut self.observer, &line)?;
+        if refusal.is_some() {
+            self.refused += 1;
+        }
+        Ok(refusal)
+    }
+
+    /// Takes a line, and writes its refusal, if it is refused.
+    ///
+    /// Answers `Write` only where the sink's count of faults rose, and `OutOfMemory` where there is no
+    /// room for the message or the refusal.
+    pub fn step<K: Sink>(&mut self, alloc: Global, line: Line, out: &mut K) -> Result<(), Fault>
+        requires { self.old.lines < 2 ^ 32 - 1 }
+        ensures after { (text : List ℕ) → line ≡ handed_out line_limit text
+            → OnOk result (self.new ≡ after_line observe self.old text) }
+        ensures writes { (text : List ℕ) → line ≡ handed_out line_limit text
+            → Writes (K.contents out.old) (K.contents out.new) (K.faults out.old) (K.faults out.new) (bytes_of (written_by_line observe self.old text)) result }
+    {
+        if let Some(refusal) = self.take(line)? {
+            let text = refused_line(alloc, self.lines, refusal)?;
+            put(out, text.as_bytes())?;
+        }
+        Ok(())
+    }
+
+    /// Writes what stands behind the lines of a log: the observer's view and the last lines. Answers
+    /// whether no line was refused and no sub-operation skipped.
+    ///
+    /// Answers `Write` only where the sink's count of faults rose, and `OutOfMemory` where there is no
+    /// room for the view.
+    pub fn close<K: Sink>(&self, alloc: Global, out: &mut K) -> Result<Status, Fault>
+        ensures status { IfOk result (λ status. status ≡ log_status self.now) }
+        ensures writes { Writes (K.contents out.old) (K.contents out.new) (K.faults out.old) (K.faults out.new) (bytes_of (log_end self.now)) result }
+    {
+        let text = self.end_text(alloc)?;
+        put(out, text.as_bytes())?;
+        Ok(self.status())
+    }
+
+    // What stands behind the lines of a log.
+    fn end_text(&self, alloc: Global) -> Result<String, OutOfMemory>
+        ensures { IfOk result (λ text. string_bytes text ≡ bytes_of (log_end self.now)) }
+    {
+        let mut text = self.observer.view_text()?;
+        let last = closing_text(alloc, self.refused, &self.observer.numbers())?;
+        text.push_str(last.as_str())?;
+        Ok(text)
+    }
+
+    // The status behind a whole report.
+    fn status(&self) -> Status
+        ensures { result ≡ log_status self.now }
+    {
+        if self.refused == 0 && self.observer.numbers().skipped == 0 {
+            Status::Done
+        } else {
+            Status::SomeRefused
+        }
+    }
+}
+
+// Takes a line, and answers why it is refused, if it is.
+fn step(observer: &mut Observer, line: &Line) -> Result<Option<Refusal>, OutOfMemory>
+    requires { length observer.old.names < 2 ^ 32 - 1 }
+    ensures step { (text : List ℕ) → line.now ≡ handed_out line_limit text
+        → IfOk result (λ refusal. step_of observe observer.old text ≡ record { made = observer.new; refusal = refusal }) }
+    ensures names { length observer.new.names ≤ length observer.old.names + 1 }
+{
+    match line {
+        Line::Full(text) if is_blank(text.as_slice()) => Ok(None),
+        Line::Full(text) => observer.take(text.as_slice()),
+        _ => Ok(Some(Refusal::LineTooLong)),
+    }
+}
+
+// Whether the line has only spaces, tabs and CR.
+fn is_blank(line: &[u8]) -> bool
+    ensures { result ≡ is_blank line.now }
+{
+    line.iter()
+        .all(|byte| *byte == b' ' || *byte == b'\t' || *byte == b'\r')
+}

@@ -1,0 +1,66 @@
+//! A run: what the words ask for.
+
+ghost use Rattle.std.specs.Prelude.{◌≡◌, ◌≤◌, ◌↔◌, None};
+ghost use Rattle.ft_io.specs.Streams.{Rose};
+ghost use Rattle.ft_cli.specs.Words.{form_of, texts_of};
+ghost use Rattle.ft_cli.specs.Run.{Moves, Says, SaysForWords, SaysOfLines, end_status};
+
+use crate::replay::{LINE_LIMIT, Replay};
+use crate::statuses::{Fault, Status};
+use crate::words::{Form, read_words};
+use ft_io::{Line, Lines, Sink, Source};
+use std::alloc::Global;
+
+/// Does what the words ask for: reads the source, and writes the report to the sink.
+pub fn run<S: Source, K: Sink>(
+    alloc: Global,
+    words: &Vec<String>,
+    src: &mut S,
+    out: &mut K,
+) -> Status
+    ensures run { Moves (S.remaining src.old) (S.remaining src.new) (K.contents out.old) (K.contents out.new)
+        (SaysForWords (form_of (texts_of words.now.items)) (S.remaining src.new)
+            (Rose (S.faults src.old) (S.faults src.new)) (Rose (K.faults out.old) (K.faults out.new)) result) }
+    ensures usage { (result ≡ Status.Usage) ↔ (form_of (texts_of words.now.items) ≡ None) }
+    ensures untouched { result ≡ Status.Usage → (src.new ≡ src.old) × (out.new ≡ out.old) }
+{
+    match read_words(words) {
+        Some(Form::Log) => match log(alloc, src, out) {
+            Ok(status) => status,
+            Err(fault) => Status::from(fault),
+        },
+        None => Status::Usage,
+    }
+}
+
+// Reads a log, and writes its report.
+fn log<S: Source, K: Sink>(alloc: Global, src: &mut S, out: &mut K) -> Result<Status, Fault>
+    ensures run { Moves (S.remaining src.old) (S.remaining src.new) (K.contents out.old) (K.contents out.new)
+        (Says Form.Log (S.remaining src.new) (Rose (S.faults src.old) (S.faults src.new))
+            (Rose (K.faults out.old) (K.faults out.new)) (end_status result)) }
+{
+    let replay = read_lines(alloc, src, out)?;
+    replay.close(alloc, out)
+}
+
+// Reads the lines of a log, and writes the refusals of those that are refused.
+fn read_lines<S: Source, K: Sink>(
+    alloc: Global,
+    src: &mut S,
+    out: &mut K,
+) -> Result<Replay, Fault>
+    ensures run { Moves (S.remaining src.old) (S.remaining src.new) (K.contents out.old) (K.contents out.new)
+        (SaysOfLines (S.remaining src.new) (Rose (S.faults src.old) (S.faults src.new))
+            (Rose (K.faults out.old) (K.faults out.new)) result) }
+    ensures source_later { S.faults src.old ≤ S.faults src.new }
+    ensures sink_later { K.faults out.old ≤ K.faults out.new }
+{
+    let mut lines = Lines::new(alloc, LINE_LIMIT)?;
+    let mut replay = Replay::new(alloc)?;
+    loop {
+        match lines.next(src)? {
+            Line::End => return Ok(replay),
+            line => replay.step(alloc, line, out)?,
+        }
+    }
+}

@@ -1,0 +1,17 @@
+//! Writing to a sink.
+
+ghost use Rattle.ft_cli.specs.Writing.{Writes};
+
+use crate::statuses::Fault;
+use ft_io::{Sink, write_all};
+
+/// Writes all the bytes. It takes no memory.
+///
+/// Answers `Write` only where the sink's count of faults rose, and then the sink has taken some of the
+/// first of them.
+pub fn put<K: Sink>(out: &mut K, bytes: &[u8]) -> Result<(), Fault>
+    ensures { Writes (K.contents out.old) (K.contents out.new) (K.faults out.old) (K.faults out.new) bytes.now result }
+{
+    write_all(out, bytes)?;
+    Ok(())
+}
