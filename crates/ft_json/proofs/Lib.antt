@@ -4,3 +4,4 @@ pub mod Back
 pub mod CompactTexts
 pub mod Quoted
 pub mod KeyOrder
+pub mod WholeTexts

@@ -21,4 +21,4 @@ pub use members::{
 };
 pub use reading::read_line;
 pub use values::ValText;
-pub use writing::{canonical, compact, quote};
+pub use writing::{canonical, compact, quote, whole_text};
