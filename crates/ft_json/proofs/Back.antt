@@ -1,18 +1,16 @@
 -- The compact text of a canonical value reads back as that value.
-use Rattle.std.proofs.Common.{◌≡◌, ℕ, suc, ◌^◌, ◌<◌, ◌≤◌, max, pos, negsuc, cond, ◌==◌, List, [], ◌∷◌, ◌++◌, get_or, drop, true, false, Some, Ok, option_map, option_and_then, unwrap_or, Less, Greater, nat_cmp, decimal, refl, sym, ap, ap₂, ◌∙◌, subst, arith, append-nil, ltb-true, ne_eqb}
+use Rattle.std.proofs.Common.{◌≡◌, ℕ, suc, ◌≤◌, max, pos, negsuc, List, [], true, Some, Ok, option_map, option_and_then, unwrap_or, Less, Greater, nat_cmp, refl, sym, ap, ap₂, ◌∙◌, subst, arith, append-nil, ltb-true}
 use Rattle.std.proofs.lemmas.Bool.{false≢true}
 use Rattle.std.proofs.lemmas.Cmp.{nat_list_cmp_total}
-use Rattle.std.proofs.lemmas.Fmt.{first_decimal}
 use Rattle.std.proofs.lemmas.Option.{same_Some}
 use Rattle.std.specs.Cmp.Lexicographic.{slice_cmp}
 use Rattle.std.specs.Ordering.{ordering_reverse}
 use Rattle.std.specs.Prelude.{⊤}
 use Rattle.json.specs.Lex.{tokens}
-use Rattle.json.specs.Word.{head, after_whole, after_fraction, after_exponent, after_number}
 use Rattle.json.specs.Print.{IsNumber}
 use Rattle.json.specs.Json as json
 use Rattle.json.specs.Tree as tree
-use Rattle.json.proofs.Printed.Decimals.{IsNumber-decimal}
+use Rattle.json.proofs.Printed.Decimals.{IsNumber-decimal, IsNumber-signed_decimal}
 use Rattle.json.proofs.Printed.Tokens.{tokens-print}
 use Rattle.json.proofs.Printed.Trees.{value-json_tokens, ArePrintable-json_tokens}
 use Rattle.serde_json.specs.Data.{Num, unsigned, negative, float, Data, null, boolean, number, string, array, object, Items, no_items, item, Members, no_members, member, put, depth, items_depth, members_depth}
@@ -33,21 +31,10 @@ number_of-number_text (negative (pos n)) h = absurd (false≢true h)
 number_of-number_text (negative (negsuc n)) h = number_of-negative n (ltb-true _ _ h)
 number_of-number_text (float x) h = absurd (false≢true h)
 
-no_minus : (t : List ℕ) → 48 < get_or t 0 0 → (head t == 45) ≡ false
-no_minus [] h = absurd (omega arith)
-no_minus (x ∷ xs) h = ne_eqb x 45 (λ e. omega arith)
-
--- the digits of a number don't begin with a minus sign, so one may stand before them
-IsNumber-minus : (n : ℕ) → 0 < n → n < 2 ^ 64 → IsNumber (45 ∷ decimal n)
-unfolding after_number
-IsNumber-minus n some small =
-    let t = decimal n in
-    ap (λ b. option_and_then after_exponent (option_and_then after_fraction (after_whole (cond b (drop 1 t) t)))) (sym (no_minus t (first_decimal n some small))) ∙ IsNumber-decimal n small
-
 IsNumber-number_text : (n : Num) → is_whole n ≡ true → IsNumber (number_text n)
 IsNumber-number_text (unsigned n) h = IsNumber-decimal n (ltb-true _ _ h)
 IsNumber-number_text (negative (pos n)) h = absurd (false≢true h)
-IsNumber-number_text (negative (negsuc n)) h = let small : n < 2 ^ 63 = ltb-true _ _ h in IsNumber-minus (suc n) (omega arith) (omega arith)
+IsNumber-number_text (negative (negsuc n)) h = IsNumber-signed_decimal (negsuc n) (ltb-true _ _ h)
 IsNumber-number_text (float x) h = absurd (false≢true h)
 
 mutual
@@ -156,13 +143,16 @@ mutual
 
 -- ---- the whole text
 
+pub tokens-compact_text : (d : Data) → IsCanonical d → tokens (compact_text d) ≡ tree.json_tokens (outline d)
+tokens-compact_text d h =
+    let j = outline d in
+    ap tokens (sym (print-outline d)) ∙ tokens-print (tree.json_tokens j) (ArePrintable-json_tokens j (HasNumbers-outline d h))
+
 pub read-compact_text : (d : Data) → IsCanonical d → depth d ≤ max_depth → read (compact_text d) ≡ Some d
 read-compact_text d h shallow =
     let j = outline d in
-    let written : tokens (compact_text d) ≡ tree.json_tokens j ++ [] =
-    ap tokens (sym (print-outline d)) ∙ tokens-print (tree.json_tokens j) (ArePrintable-json_tokens j (HasNumbers-outline d h)) ∙ sym (append-nil _) in
     let parsed = value-json_tokens j max_depth [] (omega (arith, depth-outline d)) in
-    ap (option_and_then of_json) (ap (option_and_then (λ p. json.if_last p.0 p.1)) (ap (json.value max_depth) written ∙ parsed)) ∙ of_json-outline d h
+    ap (option_and_then of_json) (ap (option_and_then (λ p. json.if_last p.0 p.1)) (ap (json.value max_depth) (tokens-compact_text d h ∙ sym (append-nil _)) ∙ parsed)) ∙ of_json-outline d h
 
 pub read_line-compact_text : (d : Data) → IsCanonical d → depth d ≤ max_depth → read_line (compact_text d) ≡ Ok d
 read_line-compact_text d h shallow = read_line-value (compact_text d) d (IsUtf8-compact_text d h) (read-compact_text d h shallow)

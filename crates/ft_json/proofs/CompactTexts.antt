@@ -1,7 +1,7 @@
 -- The compact text of a canonical value: it has no float, and it is UTF-8.
-use Rattle.std.proofs.Common.{◌≡◌, ℕ, suc, ◌<◌, ◌^◌, pos, negsuc, List, [], ◌∷◌, Bool, true, false, ◌||◌, decimal, IsUtf8, refl, ap₂, arith, ltb-true}
+use Rattle.std.proofs.Common.{◌≡◌, ℕ, pos, negsuc, List, [], ◌∷◌, Bool, true, false, ◌||◌, IsUtf8, refl, ap₂, ltb-true}
 use Rattle.std.proofs.lemmas.Bool.{false≢true}
-use Rattle.std.proofs.lemmas.Fmt.{IsAscii-decimal}
+use Rattle.std.proofs.lemmas.Fmt.{IsAscii-decimal, IsAscii-signed}
 use Rattle.std.proofs.lemmas.Str.{IsUtf8-append, IsUtf8-nil, IsUtf8-from_ascii}
 use Rattle.json.proofs.Printed.Utf8.{IsUtf8-are_ascii, IsUtf8-quoted, IsUtf8-boolean}
 use Rattle.serde_json.specs.Data.{Num, unsigned, negative, float, Data, null, boolean, number, string, array, object, Items, no_items, item, Members, no_members, member}
@@ -45,15 +45,10 @@ IsUtf8-comma_if : (later : Bool) → IsUtf8 (comma_if later)
 IsUtf8-comma_if true = IsUtf8-are_ascii (44 ∷ []) refl
 IsUtf8-comma_if false = IsUtf8-nil
 
-IsUtf8-decimal : (n : ℕ) → n < 2 ^ 64 → IsUtf8 (decimal n)
-IsUtf8-decimal n small = IsUtf8-from_ascii (decimal n) (IsAscii-decimal n small)
-
 IsUtf8-number_text : (n : Num) → is_whole n ≡ true → IsUtf8 (number_text n)
-IsUtf8-number_text (unsigned n) h = IsUtf8-decimal n (ltb-true _ _ h)
+IsUtf8-number_text (unsigned n) h = IsUtf8-from_ascii _ (IsAscii-decimal n (ltb-true _ _ h))
 IsUtf8-number_text (negative (pos n)) h = absurd (false≢true h)
-IsUtf8-number_text (negative (negsuc n)) h =
-    let small : n < 2 ^ 63 = ltb-true _ _ h in
-    ascii_first 45 (decimal (suc n)) (IsUtf8-are_ascii (45 ∷ []) refl) (IsUtf8-decimal (suc n) (omega arith))
+IsUtf8-number_text (negative (negsuc n)) h = IsUtf8-from_ascii _ (IsAscii-signed (negsuc n) (ltb-true _ _ h))
 IsUtf8-number_text (float x) h = absurd (false≢true h)
 
 mutual

@@ -5,3 +5,4 @@ pub mod CompactTexts
 pub mod Quoted
 pub mod KeyOrder
 pub mod Counts
+pub mod WholeTexts

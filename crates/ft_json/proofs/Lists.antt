@@ -1,6 +1,7 @@
 -- The items and the members of a `Value`, as lists.
-use Rattle.std.proofs.Common.{◌≡◌, ◌⊎◌, inl, inr, Bool, List, [], ◌∷◌, ◌++◌, map, String, Global, string_bytes, refl, sym, ap, ◌∙◌, subst, rules}
-use Rattle.std.proofs.lemmas.Str.{IsUtf8-string_bytes}
+use Rattle.std.proofs.Common.{◌≡◌, ◌⊎◌, inl, inr, Bool, List, [], ◌∷◌, ◌++◌, map, String, Global, string_bytes, nat_cmp, refl, sym, ap, ap₂, ◌∙◌, subst, rules}
+use Rattle.std.proofs.lemmas.Str.{IsUtf8-string_bytes, encodes-chars}
+use Rattle.std.specs.Cmp.Lexicographic.{slice_cmp}
 use Rattle.std.specs.List.Sorted.{IsStrictlySortedBy}
 use Rattle.std.specs.Map.{keys_of}
 use Rattle.std.specs.Prelude.{chars}
@@ -10,7 +11,8 @@ use Rattle.serde_json.specs.View.{view, items_view, members_view}
 use Rattle.serde_json.specs.declared.value.Value.{Value, Null, the_lemmas}
 use Rattle.serde_json.specs.Data.{null, boolean, string}
 use Rattle.ft_json.specs.Reading.{listed, paired}
-use Rattle.ft_json.specs.Objects.{entry_pairs}
+use Rattle.ft_json.specs.Objects.{entry_pairs, NamesRise}
+use Rattle.ft_json.proofs.KeyOrder.{slice_cmp-encodes}
 use Rattle.ft_json.specs.Canonical.{IsBefore, IsCanonical}
 
 pub listed_items_view : (vs : List Value) → listed (items_view vs) ≡ map view vs
@@ -42,3 +44,15 @@ pub scalar_is_canonical : (v : Value) → (v ≡ Null) ⊎ (((b : Bool) × (v �
 scalar_is_canonical v (inl e) = subst IsCanonical (sym (ap view e ∙ view-Null)) tt
 scalar_is_canonical v (inr (inl (b, e))) = subst IsCanonical (sym (ap view e ∙ view-Bool b)) tt
 scalar_is_canonical v (inr (inr (s, e))) = subst IsCanonical (sym (ap view e ∙ view-String s)) (IsUtf8-string_bytes s)
+
+-- the entries of a map rise by the characters of their keys too
+same_order : (k l : String Global) → slice_cmp nat_cmp (chars (string_bytes k)) (chars (string_bytes l)) ≡ string_cmp k l
+same_order k l =
+    sym (slice_cmp-encodes (chars (string_bytes k)) (chars (string_bytes l)))
+    ∙ ap₂ (slice_cmp nat_cmp) (encodes-chars (string_bytes k) (IsUtf8-string_bytes k)) (encodes-chars (string_bytes l) (IsUtf8-string_bytes l))
+
+pub NamesRise-entry_pairs : (es : List Entry) → IsStrictlySortedBy string_cmp (keys_of es) → NamesRise (entry_pairs es)
+unfolding IsStrictlySortedBy
+NamesRise-entry_pairs [] h = tt
+NamesRise-entry_pairs (e ∷ []) h = (tt, tt)
+NamesRise-entry_pairs (e ∷ next ∷ es) h = (same_order e.0 next.0 ∙ h.0.0, NamesRise-entry_pairs (next ∷ es) h.1)

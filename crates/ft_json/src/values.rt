@@ -1,9 +1,11 @@
 //! The texts of JSON values that are kept.
 
-ghost use Rattle.std.specs.Prelude.{◌≡◌, ◌↔◌, IsTrue, IfOk, string_bytes};
+ghost use Rattle.std.specs.Prelude.{◌≡◌, ◌↔◌, IsTrue, IfOk, option_and_then, string_bytes};
+ghost use Rattle.serde_json.specs.Find.{as_i64, as_number};
 ghost use Rattle.serde_json.specs.View.{view};
 ghost use Rattle.serde_json.specs.Written.{compact_text};
 ghost use Rattle.ft_json.specs.Canonical.{IsCanonical, IsCanonicalText, IsTextWithin, value_of};
+ghost use Rattle.ft_json.specs.Reading.{whole_within};
 
 use ft_base::OutOfMemory;
 use serde_json::Value;
@@ -72,6 +74,21 @@ impl ValText {
             Ok(value) => Ok(value),
             Err(_) => Err(OutOfMemory),
         }
+    }
+
+    /// The whole number from `low` to `high` that the text writes, which is read as a field's would
+    /// be. It takes no memory.
+    #[tactic(auto, unfolding(crate::specs::Reading::whole_within))]
+    pub fn whole_within(&self, low: i64, high: i64) -> Option<i64>
+        ensures { result ≡ whole_within (value_of self.now) low high }
+    {
+        self.integer().filter(|z| low <= *z && *z <= high)
+    }
+
+    fn integer(&self) -> Option<i64>
+        ensures { result ≡ option_and_then as_i64 (as_number (value_of self.now)) }
+    {
+        self.text.as_str().parse::<i64>().ok()
     }
 
     /// An equal text.

@@ -1,6 +1,7 @@
 //! From a value to its text.
 
 ghost use Rattle.std.specs.Prelude.{◌≡◌, ◌≢◌, IfOk, IfErr};
+ghost use Rattle.std.specs.Fmt.{signed_decimal};
 ghost use Rattle.json.specs.Print.{quoted};
 ghost use Rattle.serde_json.specs.View.{view};
 ghost use Rattle.serde_json.specs.Written.{compact_text};
@@ -50,6 +51,15 @@ pub fn compact(alloc: Global, value: &Value) -> Result<ValText, OutOfMemory>
     ensures { IfOk result (λ text. text ≡ compact_text (view value.now)) }
 {
     Ok(ValText::from_compact(value.to_string(alloc)?))
+}
+
+/// The text of a whole number.
+///
+/// Answers `OutOfMemory` where there is no room for it.
+pub fn whole_text(alloc: Global, z: i64) -> Result<ValText, OutOfMemory>
+    ensures { IfOk result (λ text. text ≡ signed_decimal z) }
+{
+    compact(alloc, &Value::from(z))
 }
 
 /// The JSON string of the characters: `"`, `\` and the characters below U+0020 are escaped, and all
