@@ -4,3 +4,8 @@ pub mod AcknowledgedInsertion
 pub mod PlacedInsertion
 pub mod RebuiltList
 pub mod CompactedList
+pub mod Utf8Order
+pub mod RisingKeys
+pub mod Digits
+pub mod CanonicalNumbers
+pub mod PendingStages

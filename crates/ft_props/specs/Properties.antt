@@ -3,17 +3,10 @@
 use Rattle.std.specs.Prelude.{ℕ, ◌+◌, ◌*◌, ◌-◌, Bool, cond, ◌&&◌, nat_le, nat_eq, List, [], ◌∷◌, Option, Some, None, ℤ, pos, neg_ℤ, ◌+ℤ◌, int_le, unwrap_or}
 use Rattle.std.specs.Int.{int_min, int_max}
 use Rattle.std.specs.Fmt.{signed_decimal}
-use Rattle.std.specs.Ordering.{nat_cmp}
-use Rattle.std.specs.declared.cmp.Ordering.{Ordering}
-use Rattle.std.specs.declared.cmp.Ordering.TheVariants.{Less, Equal, Greater}
-use Rattle.std.specs.Cmp.Lexicographic.{slice_cmp}
 use Rattle.std.specs.List.{list_all}
 use Rattle.ft_props.specs.declared.properties.Adjust.{Adjust}
 use Rattle.ft_props.specs.declared.properties.Changes.{Changes}
-
--- a text, as its characters
-abbrev pub Characters : Type 0
-Characters = List ℕ
+pub use Rattle.ft_props.specs.Keys.{Characters, text_cmp, key_cmp, put_rising, remove_rising, value_of}
 
 -- a JSON value, as the bytes of its compact text
 abbrev pub ValueBytes : Type 0
@@ -26,29 +19,6 @@ PropertyList = List (Characters × ValueBytes)
 -- a set of properties by rising keys, where none takes the key away
 abbrev pub PropertySet : Type 0
 PropertySet = List (Characters × Option ValueBytes)
-
--- the order of keys, labels and ids: that of their characters, which is also that of their UTF-8 bytes
-abbrev pub text_cmp : Characters → Characters → Ordering
-text_cmp a b = slice_cmp nat_cmp a b
-
--- x in its place among rising keys, in place of the one with its key if there is one
-abbrev pub put_rising : {A : Type 0} → (A → A → Ordering) → A → List A → List A
-put_rising cmp x [] = x ∷ []
-put_rising cmp x (y ∷ ys) = elim (cmp x y) [ Less ↦ x ∷ y ∷ ys | Equal ↦ x ∷ ys | Greater ↦ y ∷ put_rising cmp x ys ]
-
--- the list without the one with x's key
-abbrev pub remove_rising : {A : Type 0} → (A → A → Ordering) → A → List A → List A
-remove_rising cmp x [] = []
-remove_rising cmp x (y ∷ ys) = elim (cmp x y) [ Less ↦ y ∷ ys | Equal ↦ ys | Greater ↦ y ∷ remove_rising cmp x ys ]
-
--- the value of a key, if it has one
-abbrev pub value_of : Characters → PropertyList → Option ValueBytes
-value_of key [] = None
-value_of key ((k, v) ∷ props) = elim (text_cmp key k) [ Less ↦ value_of key props | Equal ↦ Some v | Greater ↦ value_of key props ]
-
--- the order of properties
-abbrev pub key_cmp : (Characters × ValueBytes) → (Characters × ValueBytes) → Ordering
-key_cmp a b = text_cmp a.0 b.0
 
 -- the properties with the value for the key, or without the key for none
 abbrev pub set_key : Characters → Option ValueBytes → PropertyList → PropertyList

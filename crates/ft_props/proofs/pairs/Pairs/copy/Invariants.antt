@@ -1,0 +1,6 @@
+use Rattle.std.proofs.Common.{◌≡◌, take}
+use Rattle.ft_props.proofs.pairs.Pairs.copy.Given as goal
+
+-- what was passed is copied
+abbrev pub invariant-loop-pair : goal.invariant-loop-pair
+invariant-loop-pair g l = l.items.items ≡ take l.pair-index l.pair-items

@@ -1,0 +1,258 @@
+//! The properties of an element as its client holds them.
+
+ghost use Rattle.std.specs.Prelude.{◌≡◌, ◌↔◌, ◌<◌, ◌≤◌, ◌++◌, [], All, IsTrue, IsFalse, IfOk, OnOk, OnErr, chars, nat_eq, option_copied, position};
+ghost use Rattle.std.specs.List.{list_any};
+ghost use Rattle.ft_props.specs.Properties.{shown_props, value_of};
+ghost use Rattle.ft_props.specs.Overlay.{kept_shown};
+
+use crate::changed::make_changes;
+use crate::properties::{Changes, Props};
+use ft_base::OutOfMemory;
+use ft_json::ValText;
+use std::alloc::Global;
+use std::marker::Model;
+
+/// Acknowledged properties, and pending changes on top of them by rising stage.
+///
+/// While something is pending, what is shown is kept ready, so that reading takes no memory.
+#[derive(Drop)]
+pub struct Overlay {
+    acked: Props,
+    pending: Vec<(u64, Changes)>,
+    shown: Option<Props>,
+}
+
+impl Model for Overlay {
+    ghost use Rattle.ft_props.specs.Overlay.{OverlayState, IsKept};
+
+    ghost Value = { OverlayState };
+
+    ghost view = { λ a. record { acked = a.acked; pending = a.pending.items } };
+
+    ghost invariant = { λ a. IsKept a.acked a.pending.items a.shown };
+}
+
+/// Makes the changes of each stage in turn. After want of memory some of them may be made.
+fn make_all_changes(props: &mut Props, pending: &[(u64, Changes)]) -> Result<(), OutOfMemory>
+    ensures { OnOk result (props.new ≡ shown_props props.old pending.now) }
+{
+    for (_, changes) in pending {
+        make_changes(props, changes)?;
+    }
+    Ok(())
+}
+
+/// What is kept ready to be shown, of changes in two parts: None where both are empty.
+fn kept_shown(
+    acked: &Props,
+    front: &[(u64, Changes)],
+    back: &[(u64, Changes)],
+) -> Result<Option<Props>, OutOfMemory>
+    ensures { IfOk result (λ shown. shown ≡ kept_shown acked.now (front.now ++ back.now)) }
+{
+    if front.is_empty() && back.is_empty() {
+        return Ok(None);
+    }
+    let mut shown = acked.copy()?;
+    make_all_changes(&mut shown, front)?;
+    make_all_changes(&mut shown, back)?;
+    Ok(Some(shown))
+}
+
+/// The place of that stage, if it is there.
+fn place_of_stage(pending: &[(u64, Changes)], stage: u64) -> Option<usize>
+    ensures { result ≡ position (λ change. nat_eq change.0 stage) pending.now }
+{
+    pending.iter().position(|change| change.0 == stage)
+}
+
+/// Equal changes of the same stages.
+fn copy_pending(
+    alloc: Global,
+    pending: &[(u64, Changes)],
+) -> Result<Vec<(u64, Changes)>, OutOfMemory>
+    ensures { IfOk result (λ copy. copy.items ≡ pending.now) }
+{
+    let mut copy = Vec::with_capacity(alloc, pending.len())?;
+    for (stage, changes) in pending {
+        copy.push((*stage, changes.copy()?))?;
+    }
+    Ok(copy)
+}
+
+/// Whether both have the same changes of the same stages.
+fn is_same_pending(mine: &[(u64, Changes)], theirs: &[(u64, Changes)]) -> bool
+    ensures { IsTrue result ↔ (mine.now ≡ theirs.now) }
+{
+    if mine.len() != theirs.len() {
+        return false;
+    }
+    for (a, b) in mine.iter().zip(theirs) {
+        if a.0 != b.0 || !a.1.same(&b.1) {
+            return false;
+        }
+    }
+    true
+}
+
+impl Overlay {
+    ghost use Rattle.ft_props.specs.Overlay.{after_ack, after_acked_changes, after_drop, after_pending_changes, shown_of};
+
+    /// No properties, and nothing pending. It takes no memory.
+    pub fn new(alloc: Global) -> Overlay
+        ensures { result ≡ record { acked = []; pending = [] } }
+    {
+        Overlay::of(alloc, Props::new(alloc))
+    }
+
+    /// These acknowledged properties, and nothing pending. It takes no memory.
+    pub fn of(alloc: Global, acked: Props) -> Overlay
+        ensures { result ≡ record { acked = acked; pending = [] } }
+    {
+        Overlay {
+            acked,
+            pending: Vec::new(alloc),
+            shown: None,
+        }
+    }
+
+    /// Makes changes of the acknowledged properties, below the pending changes.
+    ///
+    /// Answers `OutOfMemory` where there is no room for what they make, and then all is as it was.
+    pub fn set_acked(&mut self, set: &Changes) -> Result<(), OutOfMemory>
+        ensures ok { OnOk result (self.new ≡ after_acked_changes set.now self.old) }
+        ensures err { OnErr result (self.new ≡ self.old) }
+    {
+        let acked = self.acked.changed(set)?;
+        self.shown = kept_shown(&acked, &self.pending, &[])?;
+        self.acked = acked;
+        Ok(())
+    }
+
+    /// Adds changes of a new pending stage, which is above all pending ones.
+    ///
+    /// Answers `OutOfMemory` where there is no room for them and what they make, and then all is as
+    /// it was.
+    pub fn push_pending(&mut self, stage: u64, set: &Changes) -> Result<(), OutOfMemory>
+        requires { All (λ change. change.0 < stage) self.old.pending }
+        ensures ok { OnOk result (self.new ≡ after_pending_changes stage set.now self.old) }
+        ensures err { OnErr result (self.new ≡ self.old) }
+    {
+        let shown = self.shown_props().changed(set)?;
+        self.pending.push((stage, set.copy()?))?;
+        self.shown = Some(shown);
+        Ok(())
+    }
+
+    /// Makes the changes of that stage, if there are any, to the acknowledged properties, and takes
+    /// them out. No lower stage is pending here.
+    ///
+    /// Answers `OutOfMemory` where there is no room for what they make, and then all is as it was.
+    pub fn ack(&mut self, stage: u64) -> Result<(), OutOfMemory>
+        requires { All (λ change. stage ≤ change.0) self.old.pending }
+        ensures ok { OnOk result (self.new ≡ after_ack stage self.old) }
+        ensures err { OnErr result (self.new ≡ self.old) }
+    {
+        let Some((first, changes)) = self.pending.first() else {
+            return Ok(());
+        };
+        if *first != stage {
+            return Ok(());
+        }
+        self.acked = self.acked.changed(changes)?;
+        let _ = self.pending.remove(0);
+        if self.pending.is_empty() {
+            self.shown = None;
+        }
+        Ok(())
+    }
+
+    /// Takes the changes of that stage out, if there are any.
+    ///
+    /// Answers `OutOfMemory` where there is no room for what is then shown, and then all is as it
+    /// was.
+    pub fn drop_pending(&mut self, stage: u64) -> Result<(), OutOfMemory>
+        ensures ok { OnOk result (self.new ≡ after_drop stage self.old) }
+        ensures err { OnErr result (self.new ≡ self.old) }
+    {
+        if let Some(i) = place_of_stage(&self.pending, stage) {
+            let shown = kept_shown(&self.acked, &self.pending[..i], &self.pending[i + 1..])?;
+            let _ = self.pending.remove(i);
+            self.shown = shown;
+        }
+        Ok(())
+    }
+
+    /// The acknowledged properties. It takes no memory.
+    pub fn acked(&self) -> &Props
+        ensures { result.now ≡ self.now.acked }
+    {
+        &self.acked
+    }
+
+    /// What is shown: the acknowledged properties with the pending changes made in order of stage.
+    /// It takes no memory.
+    pub fn shown_props(&self) -> &Props
+        ensures { result.now ≡ shown_of self.now }
+    {
+        match &self.shown {
+            Some(shown) => shown,
+            None => &self.acked,
+        }
+    }
+
+    /// The value that is shown for the key: None exactly where it has none. It takes no memory.
+    pub fn get(&self, key: &str) -> Option<&ValText>
+        ensures { option_copied result ≡ value_of (chars key.now) (shown_of self.now) }
+    {
+        self.shown_props().get(key)
+    }
+
+    /// All that is shown.
+    ///
+    /// Answers `OutOfMemory` where there is no room for it.
+    pub fn shown(&self) -> Result<Props, OutOfMemory>
+        ensures { IfOk result (λ props. props ≡ shown_of self.now) }
+    {
+        self.shown_props().copy()
+    }
+
+    /// Whether changes of that stage are pending. It takes no memory.
+    pub fn has(&self, stage: u64) -> bool
+        ensures { result ≡ list_any (λ change. nat_eq change.0 stage) self.now.pending }
+    {
+        self.pending.iter().any(|change| change.0 == stage)
+    }
+
+    /// Whether any changes are pending. It takes no memory.
+    pub fn has_pending(&self) -> bool
+        ensures { IsFalse result ↔ (self.now.pending ≡ []) }
+    {
+        !self.pending.is_empty()
+    }
+
+    /// An equal overlay.
+    ///
+    /// Answers `OutOfMemory` where there is no room for it.
+    pub fn copy(&self) -> Result<Overlay, OutOfMemory>
+        ensures { IfOk result (λ copy. copy ≡ self.now) }
+    {
+        let shown = match &self.shown {
+            Some(shown) => Some(shown.copy()?),
+            None => None,
+        };
+        Ok(Overlay {
+            acked: self.acked.copy()?,
+            pending: copy_pending(*self.pending.allocator(), &self.pending)?,
+            shown,
+        })
+    }
+
+    /// Whether both have the same acknowledged properties and the same pending changes. It takes no
+    /// memory.
+    pub fn same(&self, other: &Overlay) -> bool
+        ensures { IsTrue result ↔ (self.now ≡ other.now) }
+    {
+        self.acked.same(&other.acked) && is_same_pending(&self.pending, &other.pending)
+    }
+}
