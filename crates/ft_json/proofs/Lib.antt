@@ -3,3 +3,4 @@ pub mod Lines
 pub mod Back
 pub mod CompactTexts
 pub mod Quoted
+pub mod Counts

@@ -1,1 +1,3 @@
 pub mod ForeignMessage
+pub mod NameLemmas
+pub mod ReadMessages

@@ -13,4 +13,5 @@ pub mod Blame
 pub mod Answers
 pub mod NameTable
 pub mod WellFormed
+pub mod Causes
 pub mod MessageGrammar

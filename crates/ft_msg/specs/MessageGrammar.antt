@@ -5,51 +5,22 @@ use Rattle.serde_json.specs.Data.{Data, null, boolean, number, string, array, ob
 use Rattle.ft_json.specs.declared.fields.Field.{Field}
 use Rattle.ft_json.specs.declared.fields.Field.TheVariants.{Address, ClientId, ClientSequenceNumber, Contents, Kind, Message as WholeMessage, MinimumSequenceNumber, ReferenceSequenceNumber, SequenceNumber}
 use Rattle.ft_json.specs.declared.faults.FieldFault.{FieldFault}
-use Rattle.ft_json.specs.declared.faults.FieldFault.TheVariants as field_fault
 use Rattle.ft_json.specs.declared.faults.JsonFault.{JsonFault}
-use Rattle.ft_json.specs.declared.faults.JsonFault.TheVariants as json
-use Rattle.ft_json.specs.Reading.{count_field, field, given_field, num_field, read_line, text_field}
+use Rattle.ft_json.specs.Reading.{count_field, field, given_field, num_field, read_line, str_field}
 use Rattle.ft_op.specs.declared.operations.Seg.TheVariants.{Chars}
 use Rattle.ft_op.specs.declared.operations.BaseOp.TheVariants.{Insert, Remove}
 use Rattle.ft_op.specs.declared.operations.TextOp.{TextOp}
 use Rattle.ft_op.specs.declared.operations.TextOp.TheVariants.{One}
 use Rattle.ft_op.specs.declared.operations.ChannelOp.TheVariants.{Text}
 use Rattle.ft_op.specs.declared.operations.OpFault.{OpFault}
-use Rattle.ft_op.specs.declared.operations.OpFault.TheVariants as op
 use Rattle.ft_op.specs.TextGrammar.{is_object, text_op}
 use Rattle.ft_msg.specs.declared.faults.Cause.{Cause}
 use Rattle.ft_msg.specs.declared.faults.Cause.TheVariants as cause
+use Rattle.ft_msg.specs.Causes.{cause_of_field, cause_of_json, cause_of_op}
 use Rattle.ft_msg.specs.declared.messages.Message.{Message}
 use Rattle.ft_msg.specs.declared.messages.MsgKind.TheVariants.{Op as OpKind}
 use Rattle.ft_msg.specs.declared.messages.Body.{Body}
 use Rattle.ft_msg.specs.declared.messages.Body.TheVariants.{Nothing, Op, Elsewhere}
-
--- the fault of a field, as a cause
-abbrev pub cause_of_field : FieldFault → Cause
-cause_of_field (field_fault.Missing f) = cause.Missing f
-cause_of_field (field_fault.WrongKind f) = cause.WrongKind f
-cause_of_field field_fault.OutOfMemory = cause.OutOfMemory
-
--- the fault of an operation, as a cause
-abbrev pub cause_of_op : OpFault → Cause
-cause_of_op (op.Missing f) = cause.Missing f
-cause_of_op (op.WrongKind f) = cause.WrongKind f
-cause_of_op (op.UnknownType n) = cause.UnknownType n
-cause_of_op (op.Reversed a b) = cause.Reversed a b
-cause_of_op op.CountLimit = cause.CountLimit
-cause_of_op op.NestedGroup = cause.NestedGroup
-cause_of_op op.Fraction = cause.Fraction
-cause_of_op op.TooDeep = cause.TooDeep
-cause_of_op op.NotBuilt = cause.NotBuilt
-cause_of_op op.OutOfMemory = cause.OutOfMemory
-
--- the fault of a text, as a cause
-abbrev pub cause_of_json : JsonFault → Cause
-cause_of_json json.NotUtf8 = cause.NotUtf8
-cause_of_json json.NotJson = cause.NotJson
-cause_of_json json.Fraction = cause.Fraction
-cause_of_json json.TooDeep = cause.TooDeep
-cause_of_json json.OutOfMemory = cause.OutOfMemory
 
 -- what is made of a field's value, or the field's fault as a cause
 abbrev pub with_field : {A B : Type 0} → Result A FieldFault → (A → Result B Cause) → Result B Cause
@@ -114,7 +85,7 @@ message_of d =
     with_field (count_field d MinimumSequenceNumber) (λ min.
     with_field (num_field d ClientSequenceNumber) (λ client_seq.
     with_field (num_field d ReferenceSequenceNumber) (λ ref_seq.
-    with_field (text_field d Kind) (λ type.
+    with_field (str_field d Kind) (λ type.
     typed_message d seq min client_seq ref_seq type)))))
     else Err (cause.WrongKind WholeMessage)
 

@@ -1,6 +1,8 @@
 //! Why a call is refused, and why a text is no message.
 
-use ft_json::Field;
+use ft_base::OutOfMemory;
+use ft_json::{Field, FieldFault, JsonFault};
+use ft_op::OpFault;
 
 /// Why a text is no message, draft or event: the first fault in the order in which its fields are
 /// tested.
@@ -32,6 +34,71 @@ pub enum Cause {
     NotBuilt,
     /// There was no memory.
     OutOfMemory,
+}
+
+impl From<OutOfMemory> for Cause {
+    ghost use Rattle.std.specs.Prelude.{◌≡◌};
+    ghost use Rattle.ft_msg.specs.declared.faults.Cause.TheVariants.{OutOfMemory as WantOfMemory};
+
+    ghost from_gives = { λ _ cause. cause ≡ WantOfMemory };
+
+    fn from(_error: OutOfMemory) -> Cause {
+        Cause::OutOfMemory
+    }
+}
+
+impl From<JsonFault> for Cause {
+    ghost use Rattle.std.specs.Prelude.{◌≡◌};
+    ghost use Rattle.ft_msg.specs.Causes.{cause_of_json};
+
+    ghost from_gives = { λ fault cause. cause ≡ cause_of_json fault };
+
+    fn from(fault: JsonFault) -> Cause {
+        match fault {
+            JsonFault::NotUtf8 => Cause::NotUtf8,
+            JsonFault::NotJson => Cause::NotJson,
+            JsonFault::Fraction => Cause::Fraction,
+            JsonFault::TooDeep => Cause::TooDeep,
+            JsonFault::OutOfMemory => Cause::OutOfMemory,
+        }
+    }
+}
+
+impl From<FieldFault> for Cause {
+    ghost use Rattle.std.specs.Prelude.{◌≡◌};
+    ghost use Rattle.ft_msg.specs.Causes.{cause_of_field};
+
+    ghost from_gives = { λ fault cause. cause ≡ cause_of_field fault };
+
+    fn from(fault: FieldFault) -> Cause {
+        match fault {
+            FieldFault::Missing(field) => Cause::Missing(field),
+            FieldFault::WrongKind(field) => Cause::WrongKind(field),
+            FieldFault::OutOfMemory => Cause::OutOfMemory,
+        }
+    }
+}
+
+impl From<OpFault> for Cause {
+    ghost use Rattle.std.specs.Prelude.{◌≡◌};
+    ghost use Rattle.ft_msg.specs.Causes.{cause_of_op};
+
+    ghost from_gives = { λ fault cause. cause ≡ cause_of_op fault };
+
+    fn from(fault: OpFault) -> Cause {
+        match fault {
+            OpFault::Missing(field) => Cause::Missing(field),
+            OpFault::WrongKind(field) => Cause::WrongKind(field),
+            OpFault::UnknownType(n) => Cause::UnknownType(n),
+            OpFault::Reversed { pos1, pos2 } => Cause::Reversed { pos1, pos2 },
+            OpFault::CountLimit => Cause::CountLimit,
+            OpFault::NestedGroup => Cause::NestedGroup,
+            OpFault::Fraction => Cause::Fraction,
+            OpFault::TooDeep => Cause::TooDeep,
+            OpFault::NotBuilt => Cause::NotBuilt,
+            OpFault::OutOfMemory => Cause::OutOfMemory,
+        }
+    }
 }
 
 /// Why an edit is refused. The client is as it was, but where it stopped.

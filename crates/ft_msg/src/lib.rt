@@ -5,6 +5,8 @@ pub mod faults;
 pub mod messages;
 pub mod names;
 pub mod reading;
+#[cfg(test)]
+mod tests;
 pub mod views;
 
 pub use faults::{Cause, EditFault, LinkFault, ProcessFault, SummaryFault, ViewFault};

@@ -1,9 +1,10 @@
 //! The numbers of connections.
 
-ghost use Rattle.std.specs.Prelude.{◌≡◌, ◌-◌, ◌<◌, ◌^◌, IfOk, OnOk, OnErr, [], length};
-ghost use Rattle.ft_msg.specs.NameTable.{number_of, names_after};
+ghost use Rattle.std.specs.Prelude.{◌≡◌, ◌↔◌, ◌-◌, ◌<◌, ◌^◌, IsTrue, IfOk, OnOk, OnErr, [], Contains, length, option_copied};
+ghost use Rattle.ft_msg.specs.NameTable.{AreDistinct, name_at, names_after, number_of};
 
 use ft_base::{OutOfMemory, Text};
+use indexmap::IndexMap;
 use std::alloc::Global;
 use std::marker::Model;
 
@@ -11,15 +12,20 @@ use std::marker::Model;
 /// appearance. Contracts see it as the list of the names.
 #[derive(Drop)]
 pub struct Names {
-    items: Vec<Text>,
+    /// Each name, under its own characters.
+    table: IndexMap<String, Text>,
 }
 
 impl Model for Names {
-    ghost use Rattle.std.specs.Prelude.{List, ℕ};
+    ghost use Rattle.std.specs.Prelude.{List, ℕ, ◌<◌, ◌^◌, length};
+    ghost use Rattle.indexmap.specs.IndexMap.{values};
+    ghost use Rattle.ft_msg.specs.NameTable.{AreDistinct, KeysSpellNames};
 
     ghost Value = { List (List ℕ) };
 
-    ghost view = { λ a. a.items.items };
+    ghost view = { λ a. values a.table };
+
+    ghost invariant = { λ a. KeysSpellNames a.table.entries × (length a.table.entries < 2 ^ 32) × AreDistinct (values a.table) };
 }
 
 impl Names {
@@ -28,19 +34,81 @@ impl Names {
         ensures { result ≡ [] }
     {
         Names {
-            items: Vec::new(alloc),
+            table: IndexMap::new(alloc),
         }
     }
 
     /// The number of the name, a new one where it has none yet.
     ///
     /// Answers `OutOfMemory` where there is no room for a new name, and then nothing changed.
-    pub fn number(&mut self, _name: &Text) -> Result<u32, OutOfMemory>
-        requires { length self.old < 2 ^ 32 - 1 }
-        ensures ok { IfOk result (λ n. n ≡ number_of self.old _name.now) }
-        ensures names { OnOk result (self.new ≡ names_after self.old _name.now) }
+    pub fn number(&mut self, name: &Text) -> Result<u32, OutOfMemory>
+        requires { ¬ Contains self.old name.now → length self.old < 2 ^ 32 - 1 }
+        ensures ok { IfOk result (λ n. n ≡ number_of self.old name.now) }
+        ensures names { OnOk result (self.new ≡ names_after self.old name.now) }
         ensures err { OnErr result (self.new ≡ self.old) }
     {
-        Err(OutOfMemory)
+        if let Some(place) = self.table.get_index_of(name.as_str()) {
+            return Ok(place as u32 + 1);
+        }
+        let number = self.table.len() as u32 + 1;
+        let key = String::from_str(*self.table.allocator(), name.as_str())?;
+        self.table.insert(key, name.copy()?)?;
+        Ok(number)
+    }
+
+    /// The name of a number: None exactly for 0 and above the count. It takes no memory.
+    pub fn name(&self, n: u32) -> Option<&Text>
+        ensures { option_copied result ≡ name_at self.now n }
+    {
+        if n == 0 {
+            return None;
+        }
+        match self.table.get_index(n as usize - 1) {
+            Some((_, name)) => Some(name),
+            None => None,
+        }
+    }
+
+    /// An equal table.
+    ///
+    /// Answers `OutOfMemory` where there is no room for it.
+    pub fn copy(&self) -> Result<Names, OutOfMemory>
+        ensures { IfOk result (λ copy. copy ≡ self.now) }
+    {
+        let mut copy = Names::new(*self.table.allocator());
+        for name in self.table.values() {
+            copy.number(name)?;
+        }
+        Ok(copy)
+    }
+
+    /// Whether both tables have the same names in the same order. It takes no memory.
+    pub fn same(&self, other: &Names) -> bool
+        ensures { IsTrue result ↔ (self.now ≡ other.now) }
+    {
+        if self.len() != other.len() {
+            return false;
+        }
+        for (name, others) in self.table.values().zip(other.table.values()) {
+            if !name.same(others) {
+                return false;
+            }
+        }
+        true
+    }
+
+    /// How many names there are. It takes no memory.
+    pub fn len(&self) -> usize
+        ensures len { result ≡ length self.now }
+        ensures distinct { AreDistinct self.now }
+    {
+        self.table.len()
+    }
+
+    /// Whether there are none. It takes no memory.
+    pub fn is_empty(&self) -> bool
+        ensures { IsTrue result ↔ (self.now ≡ []) }
+    {
+        self.table.is_empty()
     }
 }

@@ -17,7 +17,7 @@ use Rattle.ft_op.specs.Faults.{op_fault}
 
 -- whether the value is an object
 abbrev pub is_object : Data → Bool
-is_object (object members) = true
+is_object (object _) = true
 is_object _ = false
 
 -- what is made of a field's value, or the field's fault
@@ -28,7 +28,7 @@ with_field (Ok value) make = make value
 -- the segment that a value is: a string
 abbrev pub segment_of : Data → Result Segment OpFault
 segment_of (string text) = Ok (Chars (chars text))
-segment_of (object members) = Err NotBuilt
+segment_of (object _) = Err NotBuilt
 segment_of _ = Err (WrongKind Seg)
 
 -- the segment of an insertion
@@ -45,13 +45,22 @@ insertion_of p (Ok seg) = Ok (Insert p seg [])
 abbrev pub insertion : Data → Result BaseOp OpFault
 insertion d = with_field (count_field d Pos1) (λ p. insertion_of p (segment (field d Seg)))
 
+-- the range of two positions
+abbrev pub range_of : ℕ → ℕ → Result (ℕ × ℕ) OpFault
+range_of p q = if nat_lt q p then Err (Reversed (pos p) (pos q)) else Ok (p, q)
+
+-- the range of an operation
+abbrev pub range : Data → Result (ℕ × ℕ) OpFault
+range d = with_field (count_field d Pos1) (λ p. with_field (count_field d Pos2) (λ q. range_of p q))
+
 -- the removal of this range
-abbrev pub removal_of : ℕ → ℕ → Result BaseOp OpFault
-removal_of p q = if nat_lt q p then Err (Reversed (pos p) (pos q)) else Ok (Remove p q)
+abbrev pub removal_of : Result (ℕ × ℕ) OpFault → Result BaseOp OpFault
+removal_of (Err fault) = Err fault
+removal_of (Ok r) = Ok (Remove r.0 r.1)
 
 -- the removal that an object is
 abbrev pub removal : Data → Result BaseOp OpFault
-removal d = with_field (count_field d Pos1) (λ p. with_field (count_field d Pos2) (λ q. removal_of p q))
+removal d = removal_of (range d)
 
 -- the operation of this type that may stand in a group
 abbrev pub base_op : Data → ℕ → Result BaseOp OpFault

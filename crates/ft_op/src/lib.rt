@@ -3,8 +3,10 @@
 
 pub mod operations;
 pub mod reading;
+#[cfg(test)]
+mod tests;
 
 pub use operations::{
     BaseOp, BaseOps, CellOp, CellOps, ChannelOp, Ends, GridOp, OpFault, Seg, Target, TextOp,
 };
-pub use reading::read_text_op;
+pub use reading::{is_object, read_text_op};

@@ -24,7 +24,10 @@ pub enum BaseOp {
         props: PropSet,
     },
     /// The elements from `pos1` up to before `pos2` are removed.
-    Remove { pos1: u64, pos2: u64 },
+    Remove {
+        pos1: u64,
+        pos2: u64,
+    },
     /// The properties of the elements from `pos1` up to before `pos2` are changed.
     Annotate {
         pos1: u64,
@@ -78,7 +81,10 @@ pub enum TextOp {
         props: PropSet,
     },
     /// The interval is taken away.
-    IntervalDelete { label: Text, id: Text },
+    IntervalDelete {
+        label: Text,
+        id: Text,
+    },
 }
 
 /// The list that a splice is for.
@@ -104,7 +110,11 @@ pub enum CellOp {
         pos2: u64,
     },
     /// The cell at this row and this column gets the value; null unsets it.
-    Set { row: u64, col: u64, value: ValText },
+    Set {
+        row: u64,
+        col: u64,
+        value: ValText,
+    },
 }
 
 /// The operations of a group of the grid, in order.

@@ -1,7 +1,10 @@
 //! Properties and what changes them.
 
+ghost use Rattle.std.specs.Prelude.{◌≡◌, []};
+
 use ft_base::Text;
 use ft_json::ValText;
+use std::alloc::Global;
 use std::marker::Model;
 
 /// What an operation sets: pairs of a key and a value by rising keys, where None stands for null,
@@ -17,6 +20,17 @@ impl Model for PropSet {
     ghost Value = { List (List ℕ × Option (List ℕ)) };
 
     ghost view = { λ a. a.pairs.items };
+}
+
+impl PropSet {
+    /// No pairs. It takes no memory.
+    pub fn new(alloc: Global) -> PropSet
+        ensures { result ≡ [] }
+    {
+        PropSet {
+            pairs: Vec::new(alloc),
+        }
+    }
 }
 
 /// The properties of an element or an interval: pairs of a key and a value by rising keys.
