@@ -14,11 +14,19 @@ pub record Observer : Type 0 where
   pub doc : Document
   pub stop : Option ℕ
 
+-- the numbers of the second document are those of the first
+pub record KeepsNumbers (old new : Document) : Type 0 where
+  pub number : new.number ≡ old.number
+  pub minimum : new.minimum ≡ old.minimum
+  pub skipped : new.skipped ≡ old.skipped
+  pub other : new.other ≡ old.other
+
 -- the answer to the next message: Ok where the client over its document takes it, and then the document is that client's; the
--- client's refusal, and then nothing changed; want of memory, and then it has stopped; or that it had stopped before
+-- client's refusal, and then nothing changed; want of memory, and then it has stopped with its numbers as they were; or that
+-- it had stopped before, and then nothing changed
 abbrev pub AnswersEntry : Observer → Observer → Entry → Result (Unit {0}) ProcessFault → Type 0
 AnswersEntry old new entry (Ok _) = (old.stop ≡ None) × (new.stop ≡ None) × (process (client_over old.doc) entry ≡ Ok (client_over new.doc))
-AnswersEntry old new entry (Err OutOfMemory) = (old.stop ≡ None) × (new.stop ≡ Some old.doc.number)
+AnswersEntry old new entry (Err OutOfMemory) = (old.stop ≡ None) × (new.stop ≡ Some old.doc.number) × KeepsNumbers old.doc new.doc
 AnswersEntry old new entry (Err (Stopped seq)) = (old.stop ≡ Some seq) × (new ≡ old)
 AnswersEntry old new entry (Err fault) = (old.stop ≡ None) × (new ≡ old) × (process (client_over old.doc) entry ≡ Err fault)
 

@@ -47,6 +47,17 @@ impl Model for Props {
     ghost view = { λ a. a.pairs.items };
 }
 
+impl Props {
+    /// No properties. It takes no memory.
+    pub fn new(alloc: Global) -> Props
+        ensures { result ≡ [] }
+    {
+        Props {
+            pairs: Vec::new(alloc),
+        }
+    }
+}
+
 /// An adjustment of the whole number that a key has: `delta` is added, and the sum is raised to
 /// `min`, then lowered to `max`, where these are given.
 #[derive(Clone, Copy, Debug, PartialEq, Eq)]

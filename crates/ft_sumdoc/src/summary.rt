@@ -1,8 +1,11 @@
 //! The types of a summary, and of what a view shows of intervals and cells.
 
-use ft_base::Text;
+ghost use Rattle.std.specs.Prelude.{◌≡◌, [], ◌∷◌, ◌++◌, OnOk, OnErr, length, slice_get, option_copied};
+
+use ft_base::{OutOfMemory, Text};
 use ft_json::{Field, ValText};
 use ft_props::Props;
+use std::alloc::Global;
 use std::marker::Model;
 
 /// What a segment of a summary holds.
@@ -45,6 +48,50 @@ impl Model for IntervalRecs {
     ghost view = { λ a. a.items.items };
 }
 
+impl IntervalRecs {
+    /// No intervals. It takes no memory.
+    pub fn new(alloc: Global) -> IntervalRecs
+        ensures { result ≡ [] }
+    {
+        IntervalRecs {
+            items: Vec::new(alloc),
+        }
+    }
+
+    /// Adds one at the end.
+    ///
+    /// Answers `OutOfMemory` where there is no room for it, and then the list is as it was.
+    pub fn push(&mut self, interval: IntervalRec) -> Result<(), OutOfMemory>
+        ensures ok { OnOk result (self.new ≡ self.old ++ interval ∷ []) }
+        ensures err { OnErr result (self.new ≡ self.old) }
+    {
+        self.items.push(interval)?;
+        Ok(())
+    }
+
+    /// How many there are. It takes no memory.
+    pub fn len(&self) -> usize
+        ensures { result ≡ length self.now }
+    {
+        self.items.len()
+    }
+
+    /// The one at place `i`, counted from 0: None exactly where `i` isn't below the length. It takes
+    /// no memory.
+    pub fn at(&self, i: usize) -> Option<&IntervalRec>
+        ensures { option_copied result ≡ slice_get self.now i }
+    {
+        self.items.get(i)
+    }
+
+    /// All in order. It takes no memory.
+    pub fn as_slice(&self) -> &[IntervalRec]
+        ensures { result.now ≡ self.now }
+    {
+        self.items.as_slice()
+    }
+}
+
 /// A shown cell, by the numbers of its row and its column.
 #[derive(Drop)]
 pub struct CellRec {
@@ -66,6 +113,50 @@ impl Model for CellRecs {
     ghost Value = { List CellRec };
 
     ghost view = { λ a. a.items.items };
+}
+
+impl CellRecs {
+    /// No cells. It takes no memory.
+    pub fn new(alloc: Global) -> CellRecs
+        ensures { result ≡ [] }
+    {
+        CellRecs {
+            items: Vec::new(alloc),
+        }
+    }
+
+    /// Adds one at the end.
+    ///
+    /// Answers `OutOfMemory` where there is no room for it, and then the list is as it was.
+    pub fn push(&mut self, cell: CellRec) -> Result<(), OutOfMemory>
+        ensures ok { OnOk result (self.new ≡ self.old ++ cell ∷ []) }
+        ensures err { OnErr result (self.new ≡ self.old) }
+    {
+        self.items.push(cell)?;
+        Ok(())
+    }
+
+    /// How many there are. It takes no memory.
+    pub fn len(&self) -> usize
+        ensures { result ≡ length self.now }
+    {
+        self.items.len()
+    }
+
+    /// The one at place `i`, counted from 0: None exactly where `i` isn't below the length. It takes
+    /// no memory.
+    pub fn at(&self, i: usize) -> Option<&CellRec>
+        ensures { option_copied result ≡ slice_get self.now i }
+    {
+        self.items.get(i)
+    }
+
+    /// All in order. It takes no memory.
+    pub fn as_slice(&self) -> &[CellRec]
+        ensures { result.now ≡ self.now }
+    {
+        self.items.as_slice()
+    }
 }
 
 /// A sequenced stamp in a summary; (0, 0) stands for one at or below the minimum sequence number.

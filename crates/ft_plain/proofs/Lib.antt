@@ -1,0 +1,2 @@
+pub mod PlacedList
+pub mod PushedCharacter

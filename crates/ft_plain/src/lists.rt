@@ -1,0 +1,102 @@
+//! One list of a plain replica: the text, the rows or the columns.
+
+ghost use Rattle.std.specs.Prelude.{◌≡◌, [], IfOk, OnOk, OnErr, map, nat_le};
+ghost use Rattle.ft_base.specs.Scan.{len};
+ghost use Rattle.ft_base.specs.declared.stamps.Stamp.TheVariants.{Acked};
+ghost use Rattle.ft_props.specs.Element.{seen_by};
+ghost use Rattle.ft_props.specs.Steps.{after_insertion, after_removal, empty_list};
+ghost use Rattle.ft_plain.specs.Contents.{content_of};
+
+use crate::elements::{Content, PlainElement};
+use crate::scans::{mark_removed, new_elements, pending_run, place_of, put_at, seen_count};
+use ft_base::{OutOfMemory, Perspective, Stamp};
+use std::alloc::Global;
+use std::marker::Model;
+
+/// A list of elements, removed ones included, and how many were ever sequenced in it.
+#[derive(Drop)]
+pub struct PlainList {
+    items: Vec<PlainElement>,
+    made: u64,
+}
+
+impl Model for PlainList {
+    ghost use Rattle.ft_props.specs.Steps.{Sequence};
+
+    ghost Value = { Sequence };
+
+    ghost view = { λ a. record { items = a.items.items; made = a.made } };
+}
+
+impl PlainList {
+    /// A list without elements. It takes no memory.
+    pub fn new(alloc: Global) -> PlainList
+        ensures { result ≡ empty_list }
+    {
+        PlainList {
+            items: Vec::new(alloc),
+            made: 0,
+        }
+    }
+
+    /// Its allocator. It takes no memory.
+    pub fn alloc(&self) -> Global {
+        *self.items.allocator()
+    }
+
+    /// How many elements were ever sequenced in it. It takes no memory.
+    pub fn made(&self) -> u64
+        ensures { result ≡ self.now.made }
+    {
+        self.made
+    }
+
+    /// The elements in order, removed ones included. It takes no memory.
+    pub fn as_slice(&self) -> &[PlainElement]
+        ensures { result.now ≡ self.now.items }
+    {
+        self.items.as_slice()
+    }
+
+    /// Whether the perspective sees at least `p` elements. It takes no memory.
+    pub fn is_within(&self, p: u64, at: Perspective) -> bool
+        ensures { result ≡ nat_le p (len (seen_by at.r at.c) self.now.items) }
+    {
+        p <= seen_count(self.items.as_slice(), at) as u64
+    }
+
+    /// Puts new elements in under number `seq` by the perspective's connection, directly after the
+    /// `p`-th element that the perspective sees, but past the run of pending elements there.
+    ///
+    /// Answers `OutOfMemory` where there is no room for them or the count of elements passes
+    /// 2^64 - 1, and then the list is as it was.
+    pub fn insert(
+        &mut self,
+        p: u64,
+        seq: u64,
+        at: Perspective,
+        by: Option<Stamp>,
+        contents: &[Content],
+    ) -> Result<(), OutOfMemory>
+        ensures ok { OnOk result (self.new ≡ after_insertion seq at.c at.r p by [] (map content_of contents.now) self.old) }
+        ensures err { OnErr result (self.new ≡ self.old) }
+    {
+        let ins = Stamp::Acked { seq, conn: at.c };
+        let new = new_elements(self.alloc(), self.made, ins, by, contents)?;
+        let place = place_of(self.items.as_slice(), p, at);
+        let i = place + pending_run(&self.items[place..]);
+        put_at(&mut self.items, i, new)?;
+        self.made += contents.len() as u64;
+        Ok(())
+    }
+
+    /// Gives a removal under number `seq` by the perspective's connection to each element that the
+    /// perspective sees from the `p`-th up to before the `q`-th.
+    ///
+    /// Answers `OutOfMemory` where there is no room for one, and then some may have theirs.
+    pub fn remove(&mut self, p: u64, q: u64, seq: u64, at: Perspective) -> Result<(), OutOfMemory>
+        ensures { OnOk result (self.new ≡ after_removal seq at.c at.r p q self.old) }
+    {
+        mark_removed(self.items.as_mut_slice(), p, q, seq, at)
+    }
+}

@@ -1,0 +1,118 @@
+//! Scans of a list of elements: how many are seen, where an insertion goes, and which elements a
+//! removal is for.
+
+ghost use Rattle.std.specs.Prelude.{◌≡◌, ◌≤◌, ◌+◌, ◌<◌, ◌^◌, ◌++◌, [], None, Some, IfOk, OnOk, OnErr, length, map, take, drop};
+ghost use Rattle.std.specs.List.{prefix_len};
+ghost use Rattle.ft_base.specs.Scan.{change_range, len, place, put};
+ghost use Rattle.ft_props.specs.Element.{is_pending, new_elements, seen_by, with_removal};
+ghost use Rattle.ft_plain.specs.Contents.{content_of};
+
+use crate::elements::{Content, PlainElement};
+use ft_base::{OutOfMemory, Perspective, Stamp};
+use ft_props::Props;
+use std::alloc::Global;
+
+/// How many elements the perspective sees. It takes no memory.
+#[tactic(auto, using(ft_base::proofs::PlainList::seen_counts))]
+pub fn seen_count(items: &[PlainElement], at: Perspective) -> usize
+    ensures { result ≡ len (seen_by at.r at.c) items.now }
+{
+    items.iter().filter(|e| e.is_seen_by(at)).count()
+}
+
+/// The number of elements up to the `p`-th that the perspective sees: 0 for `p` = 0, and all where it
+/// sees fewer. It takes no memory.
+pub fn place_of(items: &[PlainElement], p: u64, at: Perspective) -> usize
+    ensures place { result ≡ place (seen_by at.r at.c) p items.now }
+    ensures inside { result ≤ length items.now }
+{
+    let mut left = p;
+    for (i, e) in items.iter().enumerate() {
+        if left == 0 {
+            return i;
+        }
+        if e.is_seen_by(at) {
+            left -= 1;
+        }
+    }
+    items.len()
+}
+
+/// How many pending elements stand at the front. It takes no memory.
+pub fn pending_run(items: &[PlainElement]) -> usize
+    ensures run { result ≡ prefix_len is_pending items.now }
+    ensures inside { result ≤ length items.now }
+{
+    for (i, e) in items.iter().enumerate() {
+        if !e.is_pending() {
+            return i;
+        }
+    }
+    items.len()
+}
+
+/// New elements with these contents, numbered from `first` on, which nobody has removed or changed.
+///
+/// Answers `OutOfMemory` where there is no room for them, or their numbers pass 2^64 - 1.
+pub fn new_elements(
+    alloc: Global,
+    first: u64,
+    ins: Stamp,
+    by: Option<Stamp>,
+    contents: &[Content],
+) -> Result<Vec<PlainElement>, OutOfMemory>
+    ensures elements { IfOk result (λ v. v.items ≡ new_elements first ins [] by [] (map content_of contents.now)) }
+    ensures numbers { OnOk result (first + length contents.now < 2 ^ 64) }
+{
+    let mut elements = Vec::new(alloc);
+    let mut nth = first;
+    for content in contents {
+        let e = PlainElement::new(alloc, nth, *content, ins, by, Props::new(alloc));
+        elements.push(e)?;
+        nth = nth.checked_add(1).ok_or(OutOfMemory)?;
+    }
+    Ok(elements)
+}
+
+/// Puts the new elements in at place `i`.
+///
+/// Answers `OutOfMemory` where there is no room for them, and then the list is as it was.
+pub fn put_at(
+    items: &mut Vec<PlainElement>,
+    i: usize,
+    mut new: Vec<PlainElement>,
+) -> Result<(), OutOfMemory>
+    requires { i ≤ length items.old.items }
+    ensures ok { OnOk result (items.new.items ≡ take i items.old.items ++ (new.items ++ drop i items.old.items)) }
+    ensures err { OnErr result (items.new.items ≡ items.old.items) }
+{
+    let count = new.len();
+    items.append(&mut new)?;
+    items[i..].rotate_right(count);
+    Ok(())
+}
+
+/// Gives a removal under number `seq` to each element that the perspective sees from the `p`-th up to
+/// before the `q`-th.
+///
+/// Answers `OutOfMemory` where there is no room for one, and then some may have theirs.
+pub fn mark_removed(
+    items: &mut [PlainElement],
+    p: u64,
+    q: u64,
+    seq: u64,
+    at: Perspective,
+) -> Result<(), OutOfMemory>
+    ensures { OnOk result (items.new ≡ change_range (seen_by at.r at.c) p q (with_removal seq at.c) items.old) }
+{
+    let mut seen: u64 = 0;
+    for e in items.iter_mut() {
+        if e.is_seen_by(at) {
+            if p <= seen && seen < q {
+                e.remove(seq, at.c)?;
+            }
+            seen += 1;
+        }
+    }
+    Ok(())
+}
