@@ -1,5 +1,5 @@
 -- Where a run over the lines of a log stands, how it goes on, and how each of its ends is what the definition of a run says.
-use Rattle.std.proofs.Common.{◌≡◌, ◌⊎◌, ℕ, ◌+◌, ◌-◌, ◌<◌, ◌≤◌, ◌^◌, List, [], ◌∷◌, ◌++◌, Option, None, Some, Result, Ok, Err, length, refl, sym, ◌∙◌, ap, subst, arith, append-nil, inl, inr, IfNone}
+use Rattle.std.proofs.Common.{◌≡◌, ◌⊎◌, ℕ, ◌+◌, ◌-◌, ◌<◌, ◌≤◌, ◌^◌, List, [], ◌∷◌, ◌++◌, Option, None, Some, Result, Ok, Err, length, refl, sym, ◌∙◌, ap, subst, arith, append-nil, inl, inr, Bool, true, false, if◌then◌else◌, IfNone, IfOk}
 use Rattle.std.specs.List.{flat_map}
 use Rattle.std.specs.Io.KnownBytes.{Appends, Consumes, IsAtEnd}
 use Rattle.std.proofs.lemmas.Grind.{flat_map-append}
@@ -16,13 +16,15 @@ use Rattle.ft_io.proofs.ReadingLaws.{reading_start, reading_gives, reading_full,
 use Rattle.ft_cli.specs.declared.statuses.Fault.{Fault}
 use Rattle.ft_cli.specs.declared.statuses.Fault.TheVariants as fault
 use Rattle.ft_cli.specs.declared.statuses.Status.{Status}
+use Rattle.ft_cli.specs.declared.statuses.Status.TheVariants.{Done, SomeRefused, Usage}
+use Rattle.ft_cli.specs.declared.words.Form.{Form}
 use Rattle.ft_cli.specs.declared.words.Form.TheVariants.{Log}
 use Rattle.ft_cli.specs.Statuses.{fault_of_line, fault_status}
 use Rattle.ft_cli.specs.Walk.{Progress, after_line, begin, line_limit, written_by, written_by_line}
 use Rattle.ft_cli.specs.Observation.{Observation, nothing_observed, observe}
-use Rattle.ft_cli.specs.Report.{bytes_of, log_after, log_end, log_lines, opened_of, report_of}
+use Rattle.ft_cli.specs.Report.{bytes_of, log_after, log_end, log_lines, log_status, opened_of, report_of}
 use Rattle.ft_cli.specs.Writing.{Begins, Writes}
-use Rattle.ft_cli.specs.Run.{Moves, IsPart, Says, SaysOfLines}
+use Rattle.ft_cli.specs.Run.{IsWhole, Moves, Says, SaysForWords, SaysOfLines, end_status}
 use Rattle.ft_cli.proofs.Walking.{after_lines-append, written_by-append}
 use Rattle.ft_cli.proofs.Written.{begins_append, begins_more, begins_nil, begins_trans}
 
@@ -220,3 +222,62 @@ module _ {first next left held holds : Option (List ℕ)} {old new : Reader} {at
       takes = Appends-append held holds taken (bytes_of (log_lines stands.handed)) writes.written stands.takes writes.takes;
       says = inl (begins_step writes.says);
     }
+
+-- a whole report ends with one of two statuses
+says_whole : (b : Bool) (status : Status) (left : Option (List ℕ)) (source_rose sink_rose : Type 0) (given written : List ℕ) → status ≡ (if b then Done else SomeRefused)
+    → IsWhole Log left status given written → Says Log left source_rose sink_rose status given written
+says_whole true status left source_rose sink_rose given written is whole =
+    subst (λ s. Says Log left source_rose sink_rose s given written) (sym is) (subst (λ s. IsWhole Log left s given written) is whole)
+says_whole false status left source_rose sink_rose given written is whole =
+    subst (λ s. Says Log left source_rose sink_rose s given written) (sym is) (subst (λ s. IsWhole Log left s given written) is whole)
+
+module _ (first left held holds taken : Option (List ℕ)) (at : Progress Observation) (source_rose before_rose : Type 0) (sink_start sink_before sink_now : ℕ)
+  (lines_moved : Moves first left held holds (SaysOfLines left source_rose before_rose (Ok at))) (later : sink_start ≤ sink_before) where
+  -- what was written before, and the whole of what stands behind it, are the report
+  written_whole : (written : List ℕ) → written ≡ bytes_of (log_end at) → lines_moved.written ++ written ≡ report_of Log lines_moved.given
+  written_whole written is =
+      let all = lines lines_moved.given in
+      ap (λ bytes. lines_moved.written ++ bytes) (is ∙ ap (λ p. bytes_of (log_end p)) lines_moved.says.progress)
+      ∙ ap (λ bytes. bytes ++ bytes_of (log_end (log_after all))) lines_moved.says.report ∙ sym (flat_map-append with_lf (log_lines all) (log_end (log_after all)))
+
+  -- .. and a part of it is the first of the report
+  begins_close : {front : List ℕ} → Begins front (bytes_of (log_end at)) → Begins (lines_moved.written ++ front) (report_of Log lines_moved.given)
+  begins_close {front} b = subst (Begins (lines_moved.written ++ front)) (written_whole (bytes_of (log_end at)) refl) (begins_append lines_moved.written b)
+
+  -- all lines were read, and what stands behind them was written, or not
+  pub moves_close : (result : Result Status Fault) → IfOk result (λ status. status ≡ log_status at) → Writes {T = Status} holds taken sink_before sink_now (bytes_of (log_end at)) result
+      → Moves first left held taken (Says Log left source_rose (Rose sink_start sink_now) (end_status result))
+  moves_close (Ok status) is writes =
+      let whole = written_whole writes.written writes.says in
+      let ends : status ≡ log_status (log_after (lines lines_moved.given)) = is ∙ ap log_status lines_moved.says.progress in
+      record {
+        given = lines_moved.given;
+        gives = lines_moved.gives;
+        written = lines_moved.written ++ writes.written;
+        takes = Appends-append held holds taken lines_moved.written writes.written lines_moved.takes writes.takes;
+        says = says_whole _ status left source_rose (Rose sink_start sink_now) lines_moved.given (lines_moved.written ++ writes.written) ends
+            (record { at_end = lines_moved.says.at_end; within = lines_moved.says.within; report = whole; ends = ends });
+      }
+  moves_close (Err fault.Read) is writes = absurd writes.says
+  moves_close (Err fault.InputLimit) is writes = absurd writes.says
+  moves_close (Err fault.Write) is writes = record {
+    given = lines_moved.given;
+    gives = lines_moved.gives;
+    written = lines_moved.written ++ writes.written;
+    takes = Appends-append held holds taken lines_moved.written writes.written lines_moved.takes writes.takes;
+    says = (omega (arith, writes.says.0, later), inl (begins_close writes.says.1));
+  }
+  moves_close (Err fault.OutOfMemory) is writes = record {
+    given = lines_moved.given;
+    gives = lines_moved.gives;
+    written = lines_moved.written ++ writes.written;
+    takes = Appends-append held holds taken lines_moved.written writes.written lines_moved.takes writes.takes;
+    says = inl (begins_close writes.says);
+  }
+
+-- the words are of no form, and nothing was read or written
+pub moves_usage : (form : Option Form) (first held : Option (List ℕ)) (source_rose sink_rose : Type 0) → form ≡ None
+    → Moves first first held held (SaysForWords form first source_rose sink_rose Usage)
+moves_usage form first held source_rose sink_rose is =
+    subst (λ f. Moves first first held held (SaysForWords f first source_rose sink_rose Usage)) (sym is)
+    (record { given = []; gives = Consumes-nil first; written = []; takes = Appends-nil held; says = (refl, refl, refl) })

@@ -1,10 +1,10 @@
 -- What a run does: which bytes the source gave, which bytes the sink took, and what its status says of both.
-use Rattle.std.specs.Prelude.{◌≡◌, ◌⊎◌, ℕ, ◌+◌, ◌≤◌, List, [], length, Option, Some, None, Result, Ok, Err}
+use Rattle.std.specs.Prelude.{◌≡◌, ◌≢◌, ◌⊎◌, ℕ, ◌+◌, ◌≤◌, List, [], length, Option, Some, None, Result, Ok, Err}
 use Rattle.std.specs.Io.KnownBytes.{Appends, Consumes, IsAtEnd}
 use Rattle.ft_io.specs.Lines.{lines}
 use Rattle.ft_io.specs.Reader.{input_limit}
 use Rattle.ft_cli.specs.declared.statuses.Status.{Status}
-use Rattle.ft_cli.specs.declared.statuses.Status.TheVariants.{Usage, ReadFault, WriteFault, OutOfMemory, InputLimit}
+use Rattle.ft_cli.specs.declared.statuses.Status.TheVariants.{Done, SomeRefused, Usage, ReadFault, WriteFault, OutOfMemory, InputLimit}
 use Rattle.ft_cli.specs.declared.statuses.Fault.{Fault}
 use Rattle.ft_cli.specs.declared.words.Form.{Form}
 use Rattle.ft_cli.specs.declared.words.Form.TheVariants.{Log}
@@ -50,6 +50,25 @@ Says form left source_rose sink_rose status given written = IsWhole form left st
 abbrev pub SaysForWords : Option Form → Option (List ℕ) → Type 0 → Type 0 → Status → List ℕ → List ℕ → Type 0
 SaysForWords None left source_rose sink_rose status given written = (status ≡ Usage) × (given ≡ []) × (written ≡ [])
 SaysForWords (Some form) left source_rose sink_rose status given written = Says form left source_rose sink_rose status given written
+
+-- a status behind a whole report
+abbrev pub EndsWhole : Status → Type 0
+EndsWhole Done = Unit {0}
+EndsWhole SomeRefused = Unit {0}
+EndsWhole _ = ⊥
+
+-- a status behind a whole report, or want of memory
+abbrev pub EndsWholeOrWanting : Status → Type 0
+EndsWholeOrWanting OutOfMemory = Unit {0}
+EndsWholeOrWanting status = EndsWhole status
+
+-- Nothing outside stops a run over this input: the words are of a form, the input is within its limit, and neither the source nor
+-- the sink fails.
+pub record IsUndisturbed (words : List (List ℕ)) (input : List ℕ) (source_rose sink_rose : Type 0) : Type 0 where
+  pub form : form_of words ≢ None
+  pub within : length input ≤ input_limit
+  pub source : ¬ source_rose
+  pub sink : ¬ sink_rose
 
 -- the status with which a run ends
 abbrev pub end_status : Result Status Fault → Status

@@ -1,13 +1,46 @@
-//! The program: what it reads, what it writes, and how it ends.
+//! Vemiktag's program: what it reads, what it writes, and how it ends.
+//!
+//! `log` reads sequenced messages from standard input, one a line, and writes to standard output what
+//! an observer of them shows at the end, and which lines were refused. The program ends with 0 where
+//! nothing was refused or skipped, 1 where something was, 2 where the words are no form, 3 and 4 where
+//! the input or the output failed, 5 where no memory was found, 6 where the input is too long, and 7
+//! where the system doesn't tell the words.
 #![tactic(auto)]
 
-mod observer;
-mod refusals;
-mod replay;
-mod report;
-mod running;
-mod statuses;
-mod words;
-mod writing;
+pub mod observer;
+pub mod refusals;
+pub mod replay;
+pub mod report;
+pub mod running;
+pub mod statuses;
+pub mod words;
+pub mod writing;
 
-fn main() {}
+use crate::running::run;
+use ft_io::{StdSink, StdSource};
+use std::alloc::AllocError;
+use std::process::ExitCode;
+use std::{env, io};
+
+/// What the program ends with where the system doesn't tell its words.
+const NO_WORDS: u8 = 7;
+
+fn main(rt: HostRuntime) -> ExitCode {
+    match told_words(&rt) {
+        Ok(words) => {
+            let mut src = StdSource::new(rt.stdin());
+            let mut out = StdSink::new(rt.stdout());
+            ExitCode::from(run(rt.alloc(), &words, &mut src, &mut out).code())
+        }
+        Err(_) => ExitCode::from(NO_WORDS),
+    }
+}
+
+// The words of the command line, without the program's name.
+fn told_words(rt: &HostRuntime) -> io::Result<Vec<String>> {
+    let mut words = Vec::new(rt.alloc());
+    for word in env::args(rt)?.skip(1) {
+        words.push(word).map_err(AllocError::from)?;
+    }
+    Ok(words)
+}

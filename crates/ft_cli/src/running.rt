@@ -1,9 +1,11 @@
 //! A run: what the words ask for.
 
-ghost use Rattle.std.specs.Prelude.{◌≡◌, ◌≤◌, ◌↔◌, None};
+ghost use Rattle.std.specs.Prelude.{◌≡◌, ◌≤◌, ◌↔◌, None, IfSome};
+ghost use Rattle.std.specs.Io.KnownBytes.{Appends};
 ghost use Rattle.ft_io.specs.Streams.{Rose};
 ghost use Rattle.ft_cli.specs.Words.{form_of, texts_of};
-ghost use Rattle.ft_cli.specs.Run.{Moves, Says, SaysForWords, SaysOfLines, end_status};
+ghost use Rattle.ft_cli.specs.Report.{report};
+ghost use Rattle.ft_cli.specs.Run.{EndsWhole, EndsWholeOrWanting, IsUndisturbed, Moves, Says, SaysForWords, SaysOfLines, end_status};
 
 use crate::replay::{LINE_LIMIT, Replay};
 use crate::statuses::{Fault, Status};
@@ -11,18 +13,34 @@ use crate::words::{Form, read_words};
 use ft_io::{Line, Lines, Sink, Source};
 use std::alloc::Global;
 
-/// Does what the words ask for: reads the source, and writes the report to the sink.
+/// Does what the words ask for: reads the source to its end, and writes the report to the sink, line by
+/// line as it reads.
+///
+/// Answers `Usage` exactly where the words are of no form, and then nothing is read or written; else
+/// `Done` or `SomeRefused` where the report is whole, `ReadFault` and `WriteFault` only where the count
+/// of faults of the source or the sink rose, `InputLimit` exactly where the source gave a 16,777,217th
+/// byte and no write failed before, and `OutOfMemory` where no memory was found. The first fault ends
+/// the run. Then the bytes written are those of the lines read before it.
 pub fn run<S: Source, K: Sink>(
     alloc: Global,
     words: &Vec<String>,
     src: &mut S,
     out: &mut K,
 ) -> Status
-    ensures run { Moves (S.remaining src.old) (S.remaining src.new) (K.contents out.old) (K.contents out.new)
+    // The whole report of the whole input.
+    ensures report { IfSome (S.remaining src.old) (λ input. EndsWhole result
+        → Appends (K.contents out.old) (K.contents out.new) (report (texts_of words.now.items) input)) }
+
+    // What each status says of the bytes that were read and written.
+    ensures moves { Moves (S.remaining src.old) (S.remaining src.new) (K.contents out.old) (K.contents out.new)
         (SaysForWords (form_of (texts_of words.now.items)) (S.remaining src.new)
             (Rose (S.faults src.old) (S.faults src.new)) (Rose (K.faults out.old) (K.faults out.new)) result) }
     ensures usage { (result ≡ Status.Usage) ↔ (form_of (texts_of words.now.items) ≡ None) }
     ensures untouched { result ≡ Status.Usage → (src.new ≡ src.old) × (out.new ≡ out.old) }
+
+    // Nothing but a fault ends it early.
+    ensures complete { IfSome (S.remaining src.old) (λ input. IsUndisturbed (texts_of words.now.items) input
+        (Rose (S.faults src.old) (S.faults src.new)) (Rose (K.faults out.old) (K.faults out.new)) → EndsWholeOrWanting result) }
 {
     match read_words(words) {
         Some(Form::Log) => match log(alloc, src, out) {
