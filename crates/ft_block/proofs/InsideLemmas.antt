@@ -1,6 +1,7 @@
 -- What the fields of `Blocks` say of the value that callers see.
-use Rattle.std.proofs.Common.{◌≡◌, ◌≢◌, ℕ, ◌+◌, ◌^◌, ◌<◌, ◌≤◌, List, length, Option, Some, None, IsSome, IsSomeAnd, IsTrue, sym, ap, subst, ◌∙◌, arith, eqb}
+use Rattle.std.proofs.Common.{All, ◌≡◌, ◌≢◌, ℕ, ◌+◌, ◌^◌, ◌<◌, ◌≤◌, List, length, Option, Some, None, IsSome, IsSomeAnd, IsTrue, sym, ap, subst, ◌∙◌, arith, eqb, ◌∷◌, [], refl}
 use Rattle.std.proofs.lemmas.Bool.{cond-false, ne_eqb}
+use Rattle.std.proofs.lemmas.List.Elements.{All-nil, All-cons}
 use Rattle.ft_base.specs.declared.elements.Element.{Element}
 use Rattle.ft_arena.specs.Ids.{times, put_after}
 use Rattle.ft_arena.specs.Forest.{Forest, IsForest, IsPlace, leaf_value, count_some}
@@ -8,7 +9,7 @@ use Rattle.ft_arena.proofs.ArenaLemmas.{count_some_le}
 use Rattle.ft_block.specs.declared.summaries.Summary.{Summary}
 use Rattle.ft_block.specs.declared.blocks.Blocks.TheInside.{Inside}
 use Rattle.ft_block.specs.Leaves.{LeafList, IsLeafIn, IsPlaceIn, ids, times_leaf, value_at, length_by, place_from, place_by, left_of, put_leaf, change_leaf, split_leaf}
-use Rattle.ft_block.specs.Inside.{pairs_of, depth_of, view_of, IsRooted, IsSound, IsSoundIfUsable}
+use Rattle.ft_block.specs.Inside.{pair_of, pairs_of, depth_of, view_of, IsRooted, IsSound, IsSoundIfUsable}
 use Rattle.ft_block.specs.Tree.{Measure, length_of, total, seek, before, by_size}
 use Rattle.ft_block.specs.Steps.{InsertsLeaf, SplitsLeaf, ChangesLeaf}
 use Rattle.ft_block.proofs.FitLemmas.{AllLeaves, leaves_live}
@@ -23,6 +24,14 @@ rooted_depth s (Some root) t = depth_bound s root t
 
 place_past_head : {L : Type 0} (f : L → ℕ) (xs : List (ℕ × L)) (p : ℕ) → 1 ≤ p → place_by f xs p ≡ place_from f xs p
 place_past_head f xs p h = let d : p ≢ 0 = omega arith in cond-false (eqb p 0) _ _ (ne_eqb p 0 d)
+
+one_filled : {L : Type 0} (size : L → ℕ) (x : ℕ) (o : Option L) (rest : List (ℕ × L)) → ((v : L) → o ≡ Some v → 1 ≤ size v) → All (λ x. 1 ≤ size x.1) rest → All (λ x. 1 ≤ size x.1) (pair_of x o rest)
+one_filled size x None rest k h = h
+one_filled size x (Some v) rest k h = All-cons (λ y. 1 ≤ size y.1) (x, v) rest (k v refl) h
+
+all_filled : {L : Type 0} (size : L → ℕ) (s : Forest L Summary) (xs : List ℕ) → ((id : ℕ) (v : L) → leaf_value s id ≡ Some v → 1 ≤ size v) → All (λ x. 1 ≤ size x.1) (pairs_of s xs)
+all_filled size s [] h = All-nil (λ x. 1 ≤ size x.1)
+all_filled size s (x ∷ xs) h = one_filled size x (leaf_value s x) (pairs_of s xs) (h x) (all_filled size s xs h)
 
 module _ {L Change : Type 0} (size : L → ℕ) (element : L → Element) (a : Inside L Change) (v : LeafList L) (is : view_of a ≡ v) (inv : IsSoundIfUsable size element a) (usable : IsTrue v.usable) where
   pub in_sound : IsSound size element a.arena a.root
@@ -94,3 +103,6 @@ module _ {L Change : Type 0} (size : L → ℕ) (element : L → Element) (a : I
   pub in_change : (f : L → L) (new : Forest L Summary) (leaf : ℕ) → ChangesLeaf f a.arena new leaf → pairs_of new new.leaves ≡ change_leaf f v.leaves leaf
   in_change f new leaf i =
       ap (pairs_of new) i.leaves ∙ pairs-change f a.arena new a.arena.leaves leaf i.was in_live i.old_value i.new_value i.others ∙ ap (λ (ps : List (ℕ × L)). change_leaf f ps leaf) (sym in_leaves)
+
+  pub in_some : All (λ x. 1 ≤ size x.1) v.leaves
+  in_some = subst (λ (ps : List (ℕ × L)). All (λ x. 1 ≤ size x.1) ps) (sym in_leaves) (all_filled size a.arena a.arena.leaves in_sound.filled)

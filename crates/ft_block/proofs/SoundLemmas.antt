@@ -1,5 +1,6 @@
 -- That blocks stay sound where a leaf is put in, cut or changed.
-use Rattle.std.proofs.Common.{◌≡◌, ◌≢◌, ℕ, ◌+◌, ◌^◌, ◌<◌, List, ◌∷◌, Option, Some, None, IsSome, IfOk, Result, Ok, Err, refl, sym, ap, ◌∙◌, arith}
+use Rattle.std.proofs.Common.{◌≡◌, ◌≢◌, ℕ, ◌+◌, ◌^◌, ◌<◌, List, ◌∷◌, Option, Some, None, IsSome, IfOk, Result, Ok, Err, refl, sym, ap, ◌∙◌, arith, ◌≤◌, ◌⊎◌, inl, inr}
+use Rattle.std.proofs.lemmas.Bool.{cases_eq}
 use Rattle.ft_base.specs.declared.elements.Element.{Element}
 use Rattle.ft_arena.specs.Ids.{times, insert_after, put_after}
 use Rattle.ft_arena.specs.Forest.{Forest, IsForest, IsPlace, entry, leaf_value, leaf_of_entry, count_some, with_leaf}
@@ -9,7 +10,7 @@ use Rattle.ft_block.specs.Steps.{InsertsLeaf, SplitsLeaf, ChangesLeaf}
 use Rattle.ft_block.specs.Inside.{IsRooted, IsSound}
 use Rattle.ft_block.proofs.EditLemmas.{some_of, total_same, after_is_edit}
 use Rattle.ft_block.proofs.FitLemmas.{leaves_live, leaf_length}
-use Rattle.ft_block.proofs.InsertLemmas.{changed_tree, changed_sums_same, changed_total, total_change}
+use Rattle.ft_block.proofs.InsertLemmas.{changed_tree, changed_sums_same, changed_total, changed_value, changed_others, total_change}
 use Rattle.ft_block.proofs.ViewLemmas.{seen_same, local_fits}
 use Rattle.ft_block.specs.Leaves.{last_stage}
 
@@ -73,6 +74,10 @@ module _ {L : Type 0} (size : L → ℕ) (element : L → Element) where
       record {
         rooted = changed_tree s root at v w f.rooted found;
         sums = changed_sums_same s root at v w f.rooted found (by_local size element) f.sums (seen_same size element last_stage v w e n);
+        filled = λ x u q. elim (cases_eq x at) [
+          | inl c ↦ let is : w ≡ u = cc (changed_value s root at v w f.rooted found, ap (leaf_value (with_leaf s at w)) c, q) in omega (arith, ap size is, n, f.filled at v found)
+          | inr d ↦ f.filled x u (sym (changed_others s root at v w f.rooted found x d) ∙ q)
+        ];
         fits = omega (arith, changed_total s root at v w f.rooted found (by_size size), n, f.fits);
       }
 
@@ -81,21 +86,32 @@ module _ {L : Type 0} (size : L → ℕ) (element : L → Element) where
   sound_fits s root f = omega (arith, local_fits size element s (rooted_forest s root f.rooted), f.fits)
 
   -- a tree with one more leaf
-  pub inserts_sound : (old new : Forest L Summary) (root : Option ℕ) (top id : ℕ) (leaf : L) (e : List ℕ → List ℕ) → IsSound size element old root → total (length_of (by_size size) old) old.leaves + size leaf < 2 ^ 64 → ((f : ℕ → ℕ) → total f (e old.leaves) ≡ total f old.leaves + f id) → IsTree new top → SumsBut (by_local size element) new None → InsertsLeaf old new id leaf e → IsSound size element new (Some top)
-  inserts_sound old new root top id leaf e f fits longer tree sums i =
+  pub inserts_sound : (old new : Forest L Summary) (root : Option ℕ) (top id : ℕ) (leaf : L) (e : List ℕ → List ℕ) → IsSound size element old root → 1 ≤ size leaf → total (length_of (by_size size) old) old.leaves + size leaf < 2 ^ 64 → ((f : ℕ → ℕ) → total f (e old.leaves) ≡ total f old.leaves + f id) → IsTree new top → SumsBut (by_local size element) new None → InsertsLeaf old new id leaf e → IsSound size element new (Some top)
+  inserts_sound old new root top id leaf e f some fits longer tree sums i =
       record {
         rooted = tree;
         sums = sums;
+        filled = λ x u q. elim (cases_eq x id) [
+          | inl c ↦ let is : leaf ≡ u = cc (i.value, ap (leaf_value new) c, q) in omega (arith, ap size is, some)
+          | inr d ↦ f.filled x u (sym (i.others x d) ∙ q)
+        ];
         fits = omega (arith, inserts_total (by_size size) old new id leaf e (rooted_forest old root f.rooted) i (longer (length_of (by_size size) new)), fits);
       }
 
   -- a tree in which a leaf was cut in two
-  pub splits_sound : (front rear : L → L) (old new : Forest L Summary) (root : Option ℕ) (top leaf id : ℕ) → IsSound size element old root → ((v : L) → leaf_value old leaf ≡ Some v → size (front v) + size (rear v) ≡ size v) → IsTree new top → SumsBut (by_local size element) new None → SplitsLeaf front rear old new leaf id → IsSound size element new (Some top)
+  pub splits_sound : (front rear : L → L) (old new : Forest L Summary) (root : Option ℕ) (top leaf id : ℕ) → IsSound size element old root → ((v : L) → leaf_value old leaf ≡ Some v → (size (front v) + size (rear v) ≡ size v) × (1 ≤ size (front v)) × (1 ≤ size (rear v))) → IsTree new top → SumsBut (by_local size element) new None → SplitsLeaf front rear old new leaf id → IsSound size element new (Some top)
   splits_sound front rear old new root top leaf id f parts tree sums i =
       record {
         rooted = tree;
         sums = sums;
-        fits = omega (arith, splits_total (by_size size) front rear old new leaf id (rooted_forest old root f.rooted) i (parts i.whole i.was), f.fits);
+        filled = λ x u q. elim (cases_eq x leaf) [
+          | inl c ↦ let is : front i.whole ≡ u = cc (i.now, ap (leaf_value new) c, q) in let p = parts i.whole i.was in omega (arith, ap size is, p.1)
+          | inr d ↦ elim (cases_eq x id) [
+            | inl c ↦ let is : rear i.whole ≡ u = cc (i.value, ap (leaf_value new) c, q) in let p = parts i.whole i.was in omega (arith, ap size is, p.2)
+            | inr n ↦ f.filled x u (sym (i.others x d n) ∙ q)
+          ]
+        ];
+        fits = omega (arith, splits_total (by_size size) front rear old new leaf id (rooted_forest old root f.rooted) i ((parts i.whole i.was).0), f.fits);
       }
 
   -- a tree in which a leaf has another value of the same size
@@ -104,6 +120,10 @@ module _ {L : Type 0} (size : L → ℕ) (element : L → Element) where
       record {
         rooted = tree;
         sums = sums;
+        filled = λ x u q. elim (cases_eq x leaf) [
+          | inl c ↦ let is : g i.was ≡ u = cc (i.new_value, ap (leaf_value new) c, q) in omega (arith, ap size is, same_size i.was, f.filled leaf i.was i.old_value)
+          | inr d ↦ f.filled x u (sym (i.others x d) ∙ q)
+        ];
         fits = omega (arith, changes_total (by_size size) g old new leaf f.rooted.shape.forest i (same_size i.was), f.fits);
       }
 

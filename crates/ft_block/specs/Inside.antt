@@ -1,5 +1,5 @@
 -- How `Blocks` keeps its leaves. No public clause cites this module.
-use Rattle.std.specs.Prelude.{ℕ, ◌-◌, ◌^◌, ◌<◌, List, [], ◌∷◌, Option, Some, None, IsTrue}
+use Rattle.std.specs.Prelude.{ℕ, ◌-◌, ◌^◌, ◌<◌, ◌≤◌, List, [], ◌∷◌, Option, Some, None, IsTrue, ◌≡◌}
 use Rattle.ft_base.specs.declared.elements.Element.{Element}
 use Rattle.ft_arena.specs.Forest.{Forest, leaf_value}
 use Rattle.ft_block.specs.declared.summaries.Summary.{Summary}
@@ -29,10 +29,12 @@ module _ {L : Type 0} where
   IsRooted s None = IsBare s
   IsRooted s (Some root) = IsTree s root
 
-  -- a tree whose blocks keep their lengths in the local view, and whose leaves together have fewer than 2 ^ 64 elements
+  -- a tree whose blocks keep their lengths in the local view, each of whose leaves has an element, and whose leaves
+  -- together have fewer than 2 ^ 64
   pub record IsSound (size : L → ℕ) (element : L → Element) (s : Forest L Summary) (root : Option ℕ) : Type 0 where
     pub rooted : IsRooted s root
     pub sums : SumsBut (by_local size element) s None
+    pub filled : (id : ℕ) (v : L) → leaf_value s id ≡ Some v → 1 ≤ size v
     pub fits : total (length_of (by_size size) s) s.leaves < 2 ^ 64
 
   -- the same where the blocks may still be used

@@ -1,6 +1,6 @@
 //! The tree as its callers see it: leaves in order, each under the number of its node.
 
-ghost use Rattle.std.specs.Prelude.{◌≡◌, ◌≢◌, ℕ, ◌+◌, ◌*◌, ◌^◌, ◌<◌, ◌≤◌, Some, None, IsSome, IsTrue, IfOk, IfErr, OnOk, OnErr, IfSome, MatchOption, IsSomeAnd, true, false, length, [], ◌∷◌};
+ghost use Rattle.std.specs.Prelude.{◌≡◌, ◌≢◌, ℕ, ◌+◌, ◌*◌, ◌^◌, ◌<◌, ◌≤◌, Some, None, IsSome, IsTrue, IfOk, IfErr, OnOk, OnErr, MatchOption, All, IsSomeAnd, true, false, length, [], ◌∷◌};
 ghost use Rattle.ft_arena.specs.Ids.{first, after};
 
 use crate::change::change_in;
@@ -74,6 +74,7 @@ impl<L: Leaf> Blocks<L> {
 
         // What holds of the leaves at any time.
         ensures once { (id : ℕ) → times_leaf self.now.leaves id ≤ 1 }
+        ensures some { All (λ x. 1 ≤ L.size x.1) self.now.leaves }
         ensures few { length_by L.size self.now.leaves < 2 ^ 64 }
     {
         let _ = &self.root;
@@ -180,6 +181,7 @@ impl<L: Leaf> Blocks<L> {
         ensures usable { OnOk result (self.new.usable ≡ true) }
         ensures err { OnErr result (self.new.usable ≡ false) }
     {
+        let _len = leaf.len();
         match insert_in::<L, Brand>(&mut self.arena, self.root, at, leaf, Blank::new(1)) {
             Ok((top, id)) => {
                 self.root = Some(top.0);

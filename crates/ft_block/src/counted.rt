@@ -89,6 +89,7 @@ where
     requires one { 0 < blank.parts }
     requires sound { IsSound L.size L.element arena.old root }
     requires at { IsPlace arena.old at }
+    requires some { 1 ≤ L.size leaf }
     requires fits { total (length_of (by_size L.size) arena.old) arena.old.leaves + L.size leaf < 2 ^ 64 }
     ensures sound { IfOk result (λ r. IsSound L.size L.element arena.new (Some r.0)) }
     ensures inserts { IfOk result (λ r. InsertsLeaf arena.old arena.new r.1 leaf (λ xs. put_after xs at r.1)) }

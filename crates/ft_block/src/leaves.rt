@@ -29,9 +29,10 @@ pub trait Leaf: Sized {
 
     ghost changed: { Self → Self.Change → Self };
 
-    /// How many elements the leaf holds. It takes no memory.
+    /// How many elements the leaf holds, at least one. It takes no memory.
     fn len(&self) -> u64
-        ensures { result ≡ size self.now };
+        ensures value { result ≡ size self.now }
+        ensures some { 1 ≤ result };
 
     /// The stamps of each of its elements. It takes no memory.
     fn element(&self) -> &Element
@@ -72,8 +73,6 @@ pub trait Leaf: Sized {
         requires { CanChange self.old c.now }
         ensures ok { OnOk result (self.new ≡ changed self.old c.now) }
         ensures err { OnErr result (self.new ≡ self.old) };
-
-    ghost positive: { (x : Self) → 1 ≤ size x };
 
     ghost with_element_element: { (x : Self) (e : Element) → element (with_element x e) ≡ e };
 
