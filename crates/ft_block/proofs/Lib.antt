@@ -1,0 +1,17 @@
+pub mod Lists
+pub mod Levels
+pub mod EditLemmas
+pub mod LevelLemmas
+pub mod KindLemmas
+pub mod GrowLemmas
+pub mod RefreshLemmas
+pub mod FitLemmas
+pub mod PutLemmas
+pub mod SplitLemmas
+pub mod InsertLemmas
+pub mod FirstLemmas
+pub mod ViewLemmas
+pub mod SoundLemmas
+pub mod PositionLemmas
+pub mod LeafListLemmas
+pub mod InsideLemmas

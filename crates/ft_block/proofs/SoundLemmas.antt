@@ -1,0 +1,140 @@
+-- That blocks stay sound where a leaf is put in, cut or changed.
+use Rattle.std.proofs.Common.{◌≡◌, ◌≢◌, ℕ, ◌+◌, ◌^◌, ◌<◌, List, ◌∷◌, Option, Some, None, IsSome, IfOk, Result, Ok, Err, refl, sym, ap, ◌∙◌, arith, ◌≤◌, ◌⊎◌, inl, inr}
+use Rattle.std.proofs.lemmas.Bool.{cases_eq}
+use Rattle.ft_base.specs.declared.elements.Element.{Element}
+use Rattle.ft_arena.specs.Ids.{times, insert_after, put_after}
+use Rattle.ft_arena.specs.Forest.{Forest, IsForest, IsPlace, entry, leaf_value, leaf_of_entry, count_some, with_leaf}
+use Rattle.ft_block.specs.declared.summaries.Summary.{Summary}
+use Rattle.ft_block.specs.Tree.{Measure, IsTree, SumsBut, total, length_of, by_local, by_size}
+use Rattle.ft_block.specs.Steps.{InsertsLeaf, SplitsLeaf, ChangesLeaf}
+use Rattle.ft_block.specs.Inside.{IsRooted, IsSound}
+use Rattle.ft_block.proofs.EditLemmas.{some_of, total_same, after_is_edit}
+use Rattle.ft_block.proofs.FitLemmas.{leaves_live, leaf_length}
+use Rattle.ft_block.proofs.InsertLemmas.{changed_tree, changed_sums_same, changed_total, changed_value, changed_others, total_change}
+use Rattle.ft_block.proofs.ViewLemmas.{seen_same, local_fits}
+use Rattle.ft_block.specs.Leaves.{last_stage}
+
+module _ {L : Type 0} where
+  pub rooted_forest : (s : Forest L Summary) (root : Option ℕ) → IsRooted s root → IsForest s
+  rooted_forest s None t = t.forest
+  rooted_forest s (Some root) t = t.shape.forest
+
+  -- a leaf is there only under a root
+  pub rooted_root : (s : Forest L Summary) (root : Option ℕ) (x : ℕ) (v : L) → IsRooted s root → leaf_value s x ≡ Some v → root ≢ None
+  rooted_root s None x v t e = λ q. let n : leaf_value s x ≡ None = ap leaf_of_entry (t.nodes x) in cc (n, e)
+  rooted_root s (Some root) x v t e = λ q. cc
+
+  -- two nodes with the same leaf value have the same length
+  leaf_same : (measure : Measure L) (old new : Forest L Summary) (x : ℕ) → IsSome (leaf_value old x) → leaf_value new x ≡ leaf_value old x → length_of measure new x ≡ length_of measure old x
+  leaf_same measure old new x live e =
+      let v = some_of (leaf_value old x) live in
+      leaf_length measure (entry new x) v.0 (e ∙ v.1) ∙ sym (leaf_length measure (entry old x) v.0 v.1)
+
+  -- who has no leaf value stands not among the leaves
+  no_leaf : (s : Forest L Summary) (x : ℕ) → IsForest s → leaf_value s x ≡ None → times s.leaves x ≡ 0
+  no_leaf s x f e = f.leaf_once x ∙ ap count_some e
+
+  one_leaf : (s : Forest L Summary) (x : ℕ) (v : L) → IsForest s → leaf_value s x ≡ Some v → times s.leaves x ≡ 1
+  one_leaf s x v f e = f.leaf_once x ∙ ap count_some e
+
+  -- all leaves together are as much longer as the new one is long
+  pub inserts_total : (measure : Measure L) (old new : Forest L Summary) (id : ℕ) (leaf : L) (e : List ℕ → List ℕ) → IsForest old → InsertsLeaf old new id leaf e → total (length_of measure new) (e old.leaves) ≡ total (length_of measure new) old.leaves + length_of measure new id → total (length_of measure new) new.leaves ≡ total (length_of measure old) old.leaves + measure.leaf leaf
+  inserts_total measure old new id leaf e f i longer =
+      let none : times old.leaves id ≡ 0 = no_leaf old id f i.fresh in
+      let same_rest : total (length_of measure new) old.leaves ≡ total (length_of measure old) old.leaves = total_same (length_of measure old) (length_of measure new) old.leaves (λ x m. leaf_same measure old new x (leaves_live old f x m) (i.others x (λ q. omega (arith, m, none, ap (times old.leaves) q)))) in
+      omega (arith, ap (total (length_of measure new)) i.leaves, longer, same_rest, leaf_length measure (entry new id) leaf i.value)
+
+  pub put_after_longer : (f : ℕ → ℕ) (s : Forest L Summary) (at : Option ℕ) (id : ℕ) → IsForest s → IsPlace s at → total f (put_after s.leaves at id) ≡ total f s.leaves + f id
+  put_after_longer f s None id g p = omega arith
+  put_after_longer f s (Some at) id g p =
+      let v = some_of (leaf_value s at) p in
+      (after_is_edit at id).totals f s.leaves (one_leaf s at v.0 g v.1)
+
+  -- the two parts of a leaf together are as long as the leaf was
+  pub splits_total : (measure : Measure L) (front rear : L → L) (old new : Forest L Summary) (leaf id : ℕ) → IsForest old → (i : SplitsLeaf front rear old new leaf id) → measure.leaf (front i.whole) + measure.leaf (rear i.whole) ≡ measure.leaf i.whole → total (length_of measure new) new.leaves ≡ total (length_of measure old) old.leaves
+  splits_total measure front rear old new leaf id f i parts =
+      let none : times old.leaves id ≡ 0 = no_leaf old id f i.fresh in
+      let one : times old.leaves leaf ≡ 1 = one_leaf old leaf i.whole f i.was in
+      let put : total (length_of measure new) (insert_after old.leaves leaf id) ≡ total (length_of measure new) old.leaves + length_of measure new id = (after_is_edit leaf id).totals (length_of measure new) old.leaves one in
+      let g : ℕ → ℕ = λ x. length_of measure new x in
+      let change = total_change (length_of measure old) (length_of measure new) old.leaves leaf one (λ x m d. leaf_same measure old new x (leaves_live old f x m) (i.others x d (λ q. omega (arith, m, none, ap (times old.leaves) q)))) in
+      omega (arith, ap (total (length_of measure new)) i.leaves, put, change, leaf_length measure (entry old leaf) i.whole i.was, leaf_length measure (entry new leaf) (front i.whole) i.now, leaf_length measure (entry new id) (rear i.whole) i.value, parts)
+
+  pub changes_total : (measure : Measure L) (f : L → L) (old new : Forest L Summary) (leaf : ℕ) → IsForest old → (i : ChangesLeaf f old new leaf) → measure.leaf (f i.was) ≡ measure.leaf i.was → total (length_of measure new) new.leaves ≡ total (length_of measure old) old.leaves
+  changes_total measure f old new leaf g i same_length =
+      let one : times old.leaves leaf ≡ 1 = one_leaf old leaf i.was g i.old_value in
+      let change = total_change (length_of measure old) (length_of measure new) old.leaves leaf one (λ x m d. leaf_same measure old new x (leaves_live old g x m) (i.others x d)) in
+      omega (arith, ap (total (length_of measure new)) i.leaves, change, leaf_length measure (entry old leaf) i.was i.old_value, leaf_length measure (entry new leaf) (f i.was) i.new_value, same_length)
+
+module _ {L : Type 0} (size : L → ℕ) (element : L → Element) where
+  -- a leaf with another value of the same size and the same stamps
+  pub changed_sound : (s : Forest L Summary) (root : Option ℕ) (at : ℕ) (v w : L) → IsSound size element s root → leaf_value s at ≡ Some v → element w ≡ element v → size w ≡ size v → IsSound size element (with_leaf s at w) root
+  changed_sound s None at v w f found e n = absurd (rooted_root s None at v f.rooted found refl)
+  changed_sound s (Some root) at v w f found e n =
+      record {
+        rooted = changed_tree s root at v w f.rooted found;
+        sums = changed_sums_same s root at v w f.rooted found (by_local size element) f.sums (seen_same size element last_stage v w e n);
+        filled = λ x u q. elim (cases_eq x at) [
+          | inl c ↦ let is : w ≡ u = cc (changed_value s root at v w f.rooted found, ap (leaf_value (with_leaf s at w)) c, q) in omega (arith, ap size is, n, f.filled at v found)
+          | inr d ↦ f.filled x u (sym (changed_others s root at v w f.rooted found x d) ∙ q)
+        ];
+        fits = omega (arith, changed_total s root at v w f.rooted found (by_size size), n, f.fits);
+      }
+
+  -- the local lengths fit, since the sizes do
+  pub sound_fits : (s : Forest L Summary) (root : Option ℕ) → IsSound size element s root → total (length_of (by_local size element) s) s.leaves < 2 ^ 64
+  sound_fits s root f = omega (arith, local_fits size element s (rooted_forest s root f.rooted), f.fits)
+
+  -- a tree with one more leaf
+  pub inserts_sound : (old new : Forest L Summary) (root : Option ℕ) (top id : ℕ) (leaf : L) (e : List ℕ → List ℕ) → IsSound size element old root → 1 ≤ size leaf → total (length_of (by_size size) old) old.leaves + size leaf < 2 ^ 64 → ((f : ℕ → ℕ) → total f (e old.leaves) ≡ total f old.leaves + f id) → IsTree new top → SumsBut (by_local size element) new None → InsertsLeaf old new id leaf e → IsSound size element new (Some top)
+  inserts_sound old new root top id leaf e f some fits longer tree sums i =
+      record {
+        rooted = tree;
+        sums = sums;
+        filled = λ x u q. elim (cases_eq x id) [
+          | inl c ↦ let is : leaf ≡ u = cc (i.value, ap (leaf_value new) c, q) in omega (arith, ap size is, some)
+          | inr d ↦ f.filled x u (sym (i.others x d) ∙ q)
+        ];
+        fits = omega (arith, inserts_total (by_size size) old new id leaf e (rooted_forest old root f.rooted) i (longer (length_of (by_size size) new)), fits);
+      }
+
+  -- a tree in which a leaf was cut in two
+  pub splits_sound : (front rear : L → L) (old new : Forest L Summary) (root : Option ℕ) (top leaf id : ℕ) → IsSound size element old root → ((v : L) → leaf_value old leaf ≡ Some v → (size (front v) + size (rear v) ≡ size v) × (1 ≤ size (front v)) × (1 ≤ size (rear v))) → IsTree new top → SumsBut (by_local size element) new None → SplitsLeaf front rear old new leaf id → IsSound size element new (Some top)
+  splits_sound front rear old new root top leaf id f parts tree sums i =
+      record {
+        rooted = tree;
+        sums = sums;
+        filled = λ x u q. elim (cases_eq x leaf) [
+          | inl c ↦ let is : front i.whole ≡ u = cc (i.now, ap (leaf_value new) c, q) in let p = parts i.whole i.was in omega (arith, ap size is, p.1)
+          | inr d ↦ elim (cases_eq x id) [
+            | inl c ↦ let is : rear i.whole ≡ u = cc (i.value, ap (leaf_value new) c, q) in let p = parts i.whole i.was in omega (arith, ap size is, p.2)
+            | inr n ↦ f.filled x u (sym (i.others x d n) ∙ q)
+          ]
+        ];
+        fits = omega (arith, splits_total (by_size size) front rear old new leaf id (rooted_forest old root f.rooted) i ((parts i.whole i.was).0), f.fits);
+      }
+
+  -- a tree in which a leaf has another value of the same size
+  pub changes_sound : (f : L → L) (old new : Forest L Summary) (root : ℕ) (leaf : ℕ) → IsSound size element old (Some root) → ((v : L) → size (f v) ≡ size v) → IsTree new root → SumsBut (by_local size element) new None → ChangesLeaf f old new leaf → IsSound size element new (Some root)
+  changes_sound g old new root leaf f same_size tree sums i =
+      record {
+        rooted = tree;
+        sums = sums;
+        filled = λ x u q. elim (cases_eq x leaf) [
+          | inl c ↦ let is : g i.was ≡ u = cc (i.new_value, ap (leaf_value new) c, q) in omega (arith, ap size is, same_size i.was, f.filled leaf i.was i.old_value)
+          | inr d ↦ f.filled x u (sym (i.others x d) ∙ q)
+        ];
+        fits = omega (arith, changes_total (by_size size) g old new leaf f.rooted.shape.forest i (same_size i.was), f.fits);
+      }
+
+-- three facts on what a call answers give a fourth
+pub if_ok_three : {T E : Type 0} (r : Result T E) (P Q R S : T → Type 0) → ((x : T) → P x → Q x → R x → S x) → IfOk r P → IfOk r Q → IfOk r R → IfOk r S
+if_ok_three (Ok x) P Q R S f p q r = f x p q r
+if_ok_three (Err e) P Q R S f p q r = tt
+
+-- a leaf that is put first, or after another
+pub front_longer : (f : ℕ → ℕ) (xs : List ℕ) (id : ℕ) → total f (id ∷ xs) ≡ total f xs + f id
+front_longer f xs id = omega arith
+
+pub after_longer : {L : Type 0} (f : ℕ → ℕ) (s : Forest L Summary) (at id : ℕ) → IsForest s → IsSome (leaf_value s at) → total f (insert_after s.leaves at id) ≡ total f s.leaves + f id
+after_longer f s at id g p = put_after_longer f s (Some at) id g p

@@ -1,0 +1,11 @@
+use Rattle.ft_block.proofs.InsideLemmas.{in_sound, in_leaf, in_change}
+use Rattle.ft_block.proofs.blocks.Blocks.set_stamps.Goals as goal
+
+pub set_stamps_in-requires-clause-sound : goal.set_stamps_in-requires-clause-sound
+set_stamps_in-requires-clause-sound g c = in_sound g.L.Leaf.size g.L.Leaf.element c.self.inside c.args.self.now c.self.view_is c.self.invariant c.requires.usable
+
+pub set_stamps_in-requires-clause-live : goal.set_stamps_in-requires-clause-live
+set_stamps_in-requires-clause-live g c = in_leaf g.L.Leaf.size g.L.Leaf.element c.self.inside c.args.self.now c.self.view_is c.self.invariant c.requires.usable c.args.id c.requires.live
+
+pub returns-clause-ok : goal.returns-clause-ok
+returns-clause-ok g c = in_change g.L.Leaf.size g.L.Leaf.element c.self.inside c.args.self.now c.self.view_is c.self.invariant c.requires.usable (λ v. g.L.Leaf.with_element v c.args.e) c.set_stamps_in.new.arena c.args.id c.set_stamps_in.ensures.changes

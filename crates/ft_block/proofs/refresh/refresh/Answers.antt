@@ -1,0 +1,13 @@
+use Rattle.std.proofs.Common.{◌≡◌, ap, sym, ◌∙◌}
+use Rattle.ft_arena.specs.Forest.{kids_of, kids_of_entry, kids_of_node}
+use Rattle.ft_block.specs.Tree.{total, length_of, by_local}
+use Rattle.ft_block.proofs.RefreshLemmas.{refreshed_shape, refreshed_sums}
+use Rattle.ft_block.proofs.refresh.refresh.Goals as goal
+
+pub returns-clause-shape : goal.returns-clause-shape
+returns-clause-shape g c = refreshed_shape c.args.arena.now c.args.block c.block_mut.result.now c.sum_of-sum.result c.block_mut.ensures.value c.requires.forest
+
+pub returns-clause-sums : goal.returns-clause-sums
+returns-clause-sums g c =
+    let kids : kids_of c.args.arena.now c.args.block ≡ c.in-Block.kids = ap kids_of_entry c.read.ensures.node ∙ ap kids_of_node c.in-Block.is in
+    refreshed_sums (by_local g.L.Leaf.size g.L.Leaf.element) c.args.arena.now c.args.block c.block_mut.result.now _ c.block_mut.ensures.value c.requires.apart (c.sum_of-sum.ensures ∙ ap (total (length_of (by_local g.L.Leaf.size g.L.Leaf.element) c.args.arena.now)) (sym kids))

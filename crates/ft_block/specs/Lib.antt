@@ -1,0 +1,4 @@
+pub mod Leaves
+pub mod Tree
+pub mod Steps
+pub mod Inside

@@ -1,0 +1,254 @@
+//! The tree as its callers see it: leaves in order, each under the number of its node.
+
+ghost use Rattle.std.specs.Prelude.{◌≡◌, ◌≢◌, ℕ, ◌+◌, ◌*◌, ◌^◌, ◌<◌, ◌≤◌, Some, None, IsSome, IsTrue, IfOk, IfErr, OnOk, OnErr, MatchOption, All, IsSomeAnd, true, false, length, [], ◌∷◌};
+ghost use Rattle.ft_arena.specs.Ids.{first, after};
+
+use crate::change::change_in;
+use crate::counted::{insert_in, leaf_in, length_in, position_in, set_stamps_in, split_in};
+use crate::find::find_from;
+use crate::leaves::{Leaf, LenView};
+use crate::summaries::Summary;
+use ft_arena::{Arena, NodeId};
+use ft_base::{Element, OutOfMemory, Steps};
+use std::alloc::Global;
+use std::marker::{Brand, Model};
+use std::sync::ledger::{Blank, Ledger};
+
+/// A leaf, and how many of its elements stand up to a place; no leaf for the head of the list.
+#[derive(Drop)]
+pub struct Found {
+    /// The leaf, None exactly for place 0.
+    pub leaf: Option<NodeId>,
+    /// How many of its elements stand up to the place, from 1; 0 for place 0.
+    pub offset: u64,
+}
+
+/// The place is above the length seen.
+#[derive(Clone, Copy, Debug, PartialEq, Eq)]
+pub struct OutOfRange {
+    /// The length seen.
+    pub length: u64,
+}
+
+/// Leaves in order, in a balanced tree: at most eight children a block, at least four but at the root,
+/// all leaves at one depth. A contract sees the leaves from first to last, each with its node and its
+/// value, the number of blocks below the root on the way to a leaf, and whether the blocks may still be
+/// used: after want of memory they may not, for good.
+#[derive(Drop)]
+pub struct Blocks<L: Leaf> {
+    arena: Arena<L, Summary>,
+    root: Option<usize>,
+    usable: bool,
+}
+
+impl<L: Leaf> Model for Blocks<L> {
+    ghost use Rattle.ft_block.specs.Leaves.{LeafList};
+
+    ghost Value = { LeafList L };
+
+    ghost use Rattle.ft_block.specs.Inside.{view_of, IsSoundIfUsable};
+
+    ghost view = { view_of };
+
+    ghost invariant = { IsSoundIfUsable L.size L.element };
+}
+
+impl<L: Leaf> Blocks<L> {
+    ghost use Rattle.ft_block.specs.Leaves.{LeafList, IsLeafIn, IsPlaceIn, times_leaf, ids, value_at, length_by, place_by, left_of, put_leaf, change_leaf, split_leaf, local_length, seen_length};
+
+    /// No leaves. It takes no memory.
+    pub fn new(alloc: Global) -> Blocks<L>
+        ensures { result ≡ record { leaves = []; depth = 0; usable = true } }
+    {
+        Blocks {
+            arena: Arena::new(alloc),
+            root: None,
+            usable: true,
+        }
+    }
+
+    /// The first leaf: None exactly where there is no leaf. It takes no memory.
+    pub fn first(&self) -> Option<NodeId>
+        requires { IsTrue self.now.usable }
+        ensures value { result ≡ first (ids self.now.leaves) }
+
+        // What holds of the leaves at any time.
+        ensures once { (id : ℕ) → times_leaf self.now.leaves id ≤ 1 }
+        ensures some { All (λ x. 1 ≤ L.size x.1) self.now.leaves }
+        ensures few { length_by L.size self.now.leaves < 2 ^ 64 }
+    {
+        let _ = &self.root;
+        self.arena.first()
+    }
+
+    /// The leaf after this one: None exactly where it is the last. It takes no memory.
+    pub fn next(&self, id: NodeId) -> Option<NodeId>
+        requires usable { IsTrue self.now.usable }
+        requires live { IsLeafIn self.now.leaves id }
+        ensures { result ≡ after (ids self.now.leaves) id }
+    {
+        let _ = &self.root;
+        self.arena.next(id)
+    }
+
+    /// The leaf before this one: None exactly where it is the first. It takes no memory.
+    pub fn prev(&self, id: NodeId) -> Option<NodeId>
+        requires usable { IsTrue self.now.usable }
+        requires live { IsLeafIn self.now.leaves id }
+        ensures { MatchOption result (first (ids self.now.leaves) ≡ Some id) (λ p. after (ids self.now.leaves) p ≡ Some id) }
+    {
+        let _ = &self.root;
+        self.arena.prev(id)
+    }
+
+    /// The value of a leaf. It takes no memory.
+    pub fn leaf(&self, id: NodeId) -> &L
+        requires usable { IsTrue self.now.usable }
+        requires live { IsLeafIn self.now.leaves id }
+        ensures { value_at self.now.leaves id ≡ Some result.now }
+    {
+        let _ = &self.root;
+        leaf_in::<L, Brand>(&self.arena, id, Blank::new(1))
+    }
+
+    /// The leaf that holds the `p`-th element of the local view, and how many of its elements stand up to
+    /// that one; the head of the list for `p` = 0. The local view is that with all that is pending. Each
+    /// read of a node is one step. It takes no memory.
+    ///
+    /// Answers `OutOfRange` exactly where `p` is above the length of that view.
+    pub fn find_local<G: Ledger>(&self, p: u64, steps: &mut Steps<G>) -> Result<Found, OutOfRange>
+        requires { IsTrue self.now.usable }
+        ensures found { IfOk result (λ found. place_by (local_length L.size L.element) self.now.leaves p ≡ Some found) }
+        ensures length { IfErr result (λ e. e.length ≡ length_by (local_length L.size L.element) self.now.leaves) }
+        ensures beyond { IfErr result (λ e. e.length < p) }
+
+        // It reads a few nodes on each level, and a tree has at least four times as many leaves as the one
+        // that is a level lower.
+        ensures cost { steps.new ≤ steps.old + 9 * (self.now.depth + 1) }
+        ensures depth { 4 ^ self.now.depth ≤ length self.now.leaves + 1 }
+    {
+        let _ = &self.root;
+        if p == 0 {
+            return Ok(Found {
+                leaf: None,
+                offset: 0,
+            });
+        }
+        match self.root {
+            None => Err(OutOfRange { length: 0 }),
+            Some(root) => match find_from(&self.arena, NodeId(root), p, steps) {
+                Ok((id, offset)) => Ok(Found {
+                    leaf: Some(id),
+                    offset,
+                }),
+                Err(length) => Err(OutOfRange { length }),
+            },
+        }
+    }
+
+    /// How many elements the view sees left of the leaf. It takes no memory.
+    ///
+    /// At stage `u64::MAX` it goes up from the leaf, and in any other view along the leaves.
+    pub fn position_of(&self, leaf: NodeId, view: LenView) -> u64
+        requires usable { IsTrue self.now.usable }
+        requires live { IsLeafIn self.now.leaves leaf }
+        ensures { result ≡ length_by (seen_length L.size L.element view) (left_of self.now.leaves leaf) }
+    {
+        position_in::<L, Brand>(&self.arena, self.root, leaf, view, Blank::new(1))
+    }
+
+    /// How many elements the view sees. It takes no memory.
+    ///
+    /// At stage `u64::MAX` it is kept, and in any other view it goes along the leaves.
+    pub fn length(&self, view: LenView) -> u64
+        requires { IsTrue self.now.usable }
+        ensures { result ≡ length_by (seen_length L.size L.element view) self.now.leaves }
+    {
+        length_in::<L, Brand>(&self.arena, self.root, view, Blank::new(1))
+    }
+
+    /// Puts a new leaf directly after the given one, or first where none is given.
+    ///
+    /// Answers `OutOfMemory` where there is no room for it, and then the blocks may be used no more.
+    pub fn insert_after(&mut self, at: Option<NodeId>, leaf: L) -> Result<NodeId, OutOfMemory>
+    where
+        L: Drop,
+        requires usable { IsTrue self.old.usable }
+        requires place { IsPlaceIn self.old.leaves at }
+        requires fits { length_by L.size self.old.leaves + L.size leaf < 2 ^ 64 }
+        ensures ok { IfOk result (λ id. self.new.leaves ≡ put_leaf self.old.leaves at (id, leaf)) }
+        ensures fresh { IfOk result (λ id. times_leaf self.old.leaves id ≡ 0) }
+        ensures usable { OnOk result (self.new.usable ≡ true) }
+        ensures err { OnErr result (self.new.usable ≡ false) }
+    {
+        let _len = leaf.len();
+        match insert_in::<L, Brand>(&mut self.arena, self.root, at, leaf, Blank::new(1)) {
+            Ok((top, id)) => {
+                self.root = Some(top.0);
+                Ok(id)
+            }
+            Err(e) => {
+                self.usable = false;
+                Err(e)
+            }
+        }
+    }
+
+    /// Cuts a leaf in two: its first `at` elements keep the node, the rest gets a new one directly after
+    /// it, which is answered.
+    ///
+    /// Answers `OutOfMemory` where there is no room for it, and then the blocks may be used no more.
+    pub fn split(&mut self, leaf: NodeId, at: u64) -> Result<NodeId, OutOfMemory>
+        requires usable { IsTrue self.old.usable }
+        requires low { 1 ≤ at }
+        requires high { IsSomeAnd (value_at self.old.leaves leaf) (λ v. at < L.size v) }
+        ensures ok { IfOk result (λ id. self.new.leaves ≡ split_leaf (λ v. L.front v at) (λ v. L.rear v at) self.old.leaves leaf id) }
+        ensures fresh { IfOk result (λ id. times_leaf self.old.leaves id ≡ 0) }
+        ensures usable { OnOk result (self.new.usable ≡ true) }
+        ensures err { OnErr result (self.new.usable ≡ false) }
+    {
+        match split_in::<L, Brand>(&mut self.arena, self.root, leaf, at, Blank::new(1)) {
+            Ok((top, id)) => {
+                self.root = Some(top.0);
+                Ok(id)
+            }
+            Err(e) => {
+                self.usable = false;
+                Err(e)
+            }
+        }
+    }
+
+    /// Replaces the stamps of all elements of a leaf. No other leaf changes.
+    ///
+    /// Answers `OutOfMemory` where there is no room for it, and then the blocks may be used no more.
+    pub fn set_stamps(&mut self, id: NodeId, e: Element) -> Result<(), OutOfMemory>
+        requires usable { IsTrue self.old.usable }
+        requires live { IsLeafIn self.old.leaves id }
+        ensures ok { OnOk result (self.new.leaves ≡ change_leaf (λ v. L.with_element v e) self.old.leaves id) }
+        ensures usable { OnOk result (self.new.usable ≡ true) }
+        ensures err { OnErr result (self.new.usable ≡ false) }
+    {
+        set_stamps_in::<L, Brand>(&mut self.arena, self.root, id, e, Blank::new(1));
+        Ok(())
+    }
+
+    /// Makes this change of all elements of a leaf. No other leaf changes.
+    ///
+    /// Answers `OutOfMemory` where there is no room for it, and then the blocks may be used no more.
+    pub fn change(&mut self, id: NodeId, c: &L::Change) -> Result<(), OutOfMemory>
+        requires usable { IsTrue self.old.usable }
+        requires can { IsSomeAnd (value_at self.old.leaves id) (λ v. L.CanChange v c.now) }
+        ensures ok { OnOk result (self.new.leaves ≡ change_leaf (λ v. L.changed v c.now) self.old.leaves id) }
+        ensures usable { OnOk result (self.new.usable ≡ true) }
+        ensures err { OnErr result (self.new.usable ≡ false) }
+    {
+        match change_in(&mut self.arena, self.root, id, c) {
+            Ok(()) => Ok(()),
+            Err(e) => {
+                self.usable = false;
+                Err(e)
+            }
+        }
+    }
+}

@@ -1,0 +1,337 @@
+//! How a node is put into the tree: beside another of its level, with full blocks split on the way up.
+
+ghost use Rattle.std.specs.Prelude.{◌≡◌, ◌≢◌, ℕ, ◌+◌, ◌-◌, ◌^◌, ◌<◌, ◌≤◌, Some, None, IsSome, IfOk, length, slice_get, insert, [], ◌∷◌};
+ghost use Rattle.ft_arena.specs.Forest.{IsForest, entry, block_value, kids_of, parent_of, leaf_value};
+ghost use Rattle.ft_arena.specs.Ids.{times, insert_after};
+ghost use Rattle.ft_block.specs.Tree.{IsTree, IsGrowing, IsBare, SumsBut, by_local, height_of, length_of, total, kind_of, insert_before};
+ghost use Rattle.ft_block.specs.Steps.{PutsAt, SplitsAt, RootsOver, Halves, PutsInHalf, Resums, ResumsBoth, InsertsLeaf};
+
+use crate::leaves::Leaf;
+use crate::refresh::{refresh, refresh_up};
+use crate::summaries::Summary;
+use ft_arena::{Arena, Node, NodeId};
+use ft_base::{OutOfMemory, Steps};
+use std::sync::ledger::Ledger;
+
+// The place of a child among a block's children, and how many there are.
+fn place_of<L: Leaf, G: Ledger>(
+    arena: &Arena<L, Summary>,
+    block: NodeId,
+    child: NodeId,
+    steps: &mut Steps<G>,
+) -> (usize, usize)
+    requires block { IsSome (block_value arena.now block) }
+    requires child { 1 ≤ times (kids_of arena.now block) child }
+    ensures place { slice_get (kids_of arena.now block) result.0 ≡ Some child }
+    ensures count { result.1 ≡ length (kids_of arena.now block) }
+{
+    let Node::Block { kids, .. } = arena.read(block, steps) else {
+        unreachable!();
+    };
+    let count = kids.len();
+    let mut i = 0;
+    while let Some(kid) = kids.get(i) {
+        if kid == child {
+            return (i, count);
+        }
+        i += 1;
+    }
+    unreachable!()
+}
+
+// Puts a node at this place among the children of a block that has room.
+fn put_at<L: Leaf, G: Ledger>(
+    arena: &mut Arena<L, Summary>,
+    block: NodeId,
+    place: usize,
+    id: NodeId,
+    steps: &mut Steps<G>,
+)
+    requires forest { IsForest arena.old }
+    requires block { IsSome (block_value arena.old block) }
+    requires place { place ≤ length (kids_of arena.old block) }
+    requires room { length (kids_of arena.old block) < 8 }
+    requires id { IsSome (entry arena.old id) }
+    requires alone { parent_of arena.old id ≡ None }
+    requires apart { times (kids_of arena.old block) block ≡ 0 }
+    requires differ { id ≢ block }
+    requires fits { total (length_of (by_local L.size L.element) arena.old) (insert (kids_of arena.old block) place id) < 2 ^ 64 }
+    ensures puts { PutsAt arena.old arena.new block place id }
+    ensures sums { Resums (by_local L.size L.element) arena.old arena.new block }
+{
+    arena.put_child(block, place, id);
+    refresh(arena, block, steps);
+}
+
+// Puts a new root over the old one and another node.
+fn root_over<L: Leaf, G: Ledger>(
+    arena: &mut Arena<L, Summary>,
+    root: NodeId,
+    id: NodeId,
+    height: u64,
+    steps: &mut Steps<G>,
+) -> NodeId
+    requires forest { IsForest arena.old }
+    requires spare { 1 ≤ arena.old.spare }
+    requires height { height ≡ height_of arena.old root + 1 }
+    requires root { IsSome (entry arena.old root) }
+    requires id { IsSome (entry arena.old id) }
+    requires root_alone { parent_of arena.old root ≡ None }
+    requires id_alone { parent_of arena.old id ≡ None }
+    requires differ { id ≢ root }
+    requires fits { length_of (by_local L.size L.element) arena.old root + length_of (by_local L.size L.element) arena.old id < 2 ^ 64 }
+    ensures roots { RootsOver arena.old arena.new root id result }
+    ensures sums { Resums (by_local L.size L.element) arena.old arena.new result }
+{
+    let top = arena.add_block(Summary { height, local: 0 });
+    arena.put_child(top, 0, root);
+    arena.put_child(top, 1, id);
+    refresh(arena, top, steps);
+    top
+}
+
+// Moves the children from the fifth on to a block that has none.
+fn move_half<L: Leaf>(arena: &mut Arena<L, Summary>, block: NodeId, rear: NodeId)
+    requires forest { IsForest arena.old }
+    requires block { IsSome (block_value arena.old block) }
+    requires rear { IsSome (block_value arena.old rear) }
+    requires full { length (kids_of arena.old block) ≡ 8 }
+    requires empty { kids_of arena.old rear ≡ [] }
+    requires alone { parent_of arena.old rear ≡ None }
+    requires differ { block ≢ rear }
+    ensures { Halves arena.old arena.new block rear }
+{
+    for k in 0..4 {
+        let child = arena.take_child(block, 4);
+        arena.put_child(rear, k, child);
+    }
+}
+
+// Puts a node at this place among the children of two blocks with four each.
+fn put_in_half<L: Leaf>(
+    arena: &mut Arena<L, Summary>,
+    block: NodeId,
+    rear: NodeId,
+    place: usize,
+    id: NodeId,
+)
+    requires forest { IsForest arena.old }
+    requires block { IsSome (block_value arena.old block) }
+    requires rear { IsSome (block_value arena.old rear) }
+    requires front { length (kids_of arena.old block) ≡ 4 }
+    requires back { length (kids_of arena.old rear) ≡ 4 }
+    requires differ { block ≢ rear }
+    requires place { place ≤ 8 }
+    requires id { IsSome (entry arena.old id) }
+    requires alone { parent_of arena.old id ≡ None }
+    requires not_block { id ≢ block }
+    requires not_rear { id ≢ rear }
+    ensures { PutsInHalf arena.old arena.new block rear place id }
+{
+    if place <= 4 {
+        arena.put_child(block, place, id);
+    } else {
+        arena.put_child(rear, place - 4, id);
+    }
+}
+
+// How many levels of blocks a block heads.
+fn height_at<L: Leaf, G: Ledger>(
+    arena: &Arena<L, Summary>,
+    block: NodeId,
+    steps: &mut Steps<G>,
+) -> u64
+    requires { IsSome (block_value arena.now block) }
+    ensures { kind_of arena.now block ≡ Some (Some result) }
+{
+    match arena.read(block, steps) {
+        Node::Block { value, .. } => value.height,
+        Node::Leaf { .. } => unreachable!(),
+    }
+}
+
+// Splits a full block, and puts a node at this place among its children. Tells the new block.
+fn split_put<L: Leaf, G: Ledger>(
+    arena: &mut Arena<L, Summary>,
+    block: NodeId,
+    place: usize,
+    id: NodeId,
+    steps: &mut Steps<G>,
+) -> NodeId
+    requires forest { IsForest arena.old }
+    requires spare { 1 ≤ arena.old.spare }
+    requires block { IsSome (block_value arena.old block) }
+    requires place { place ≤ 8 }
+    requires full { length (kids_of arena.old block) ≡ 8 }
+    requires id { IsSome (entry arena.old id) }
+    requires alone { parent_of arena.old id ≡ None }
+    requires apart { times (kids_of arena.old block) block ≡ 0 }
+    requires differ { id ≢ block }
+    requires fits { total (length_of (by_local L.size L.element) arena.old) (insert (kids_of arena.old block) place id) < 2 ^ 64 }
+    ensures splits { SplitsAt arena.old arena.new block place id result }
+    ensures sums { ResumsBoth (by_local L.size L.element) arena.old arena.new block result }
+{
+    let height = height_at(arena, block, steps);
+    let rear = arena.add_block(Summary { height, local: 0 });
+    move_half(arena, block, rear);
+    put_in_half(arena, block, rear, place, id);
+    refresh(arena, block, steps);
+    refresh(arena, rear, steps);
+    rear
+}
+
+// Puts a node into the tree, directly after a node of its level. Tells the root.
+pub(crate) fn grow<L: Leaf, G: Ledger>(
+    arena: &mut Arena<L, Summary>,
+    root: NodeId,
+    at: NodeId,
+    id: NodeId,
+    steps: &mut Steps<G>,
+) -> NodeId
+    requires growing { IsGrowing arena.old root at id (λ xs. insert_after xs at id) }
+    requires sums { SumsBut (by_local L.size L.element) arena.old (parent_of arena.old at) }
+    requires spare { height_of arena.old root - height_of arena.old at + 1 ≤ arena.old.spare }
+    requires fits { total (length_of (by_local L.size L.element) arena.old) arena.old.leaves < 2 ^ 64 }
+    requires tall { height_of arena.old root + 1 < 2 ^ 64 }
+    ensures tree { IsTree arena.new result }
+    ensures sums { SumsBut (by_local L.size L.element) arena.new None }
+    ensures leaves { arena.new.leaves ≡ arena.old.leaves }
+    ensures leaf_values { (x : ℕ) → leaf_value arena.new x ≡ leaf_value arena.old x }
+{
+    let mut at = at;
+    let mut id = id;
+    'up: while let Some(block) = arena.parent(at) {
+        let (place, count) = place_of(arena, block, at, steps);
+        if count < 8 {
+            put_at(arena, block, place + 1, id, steps);
+            refresh_up(arena, root, block, steps);
+            return root;
+        }
+        id = split_put(arena, block, place + 1, id, steps);
+        at = block;
+    }
+    let height = height_at(arena, root, steps);
+    root_over(arena, root, id, height + 1, steps)
+}
+
+// Puts a node into the tree, directly before a leaf. Tells the root.
+fn grow_front<L: Leaf, G: Ledger>(
+    arena: &mut Arena<L, Summary>,
+    root: NodeId,
+    at: NodeId,
+    id: NodeId,
+    steps: &mut Steps<G>,
+) -> NodeId
+    requires growing { IsGrowing arena.old root at id (λ xs. insert_before xs at id) }
+    requires sums { SumsBut (by_local L.size L.element) arena.old (parent_of arena.old at) }
+    requires apart { at ≢ root }
+    requires spare { height_of arena.old root - height_of arena.old at + 1 ≤ arena.old.spare }
+    requires fits { total (length_of (by_local L.size L.element) arena.old) arena.old.leaves < 2 ^ 64 }
+    requires tall { height_of arena.old root + 1 < 2 ^ 64 }
+    ensures tree { IsTree arena.new result }
+    ensures sums { SumsBut (by_local L.size L.element) arena.new None }
+    ensures leaves { arena.new.leaves ≡ arena.old.leaves }
+    ensures leaf_values { (x : ℕ) → leaf_value arena.new x ≡ leaf_value arena.old x }
+{
+    let Some(block) = arena.parent(at) else {
+        unreachable!();
+    };
+    let (place, count) = place_of(arena, block, at, steps);
+    if count < 8 {
+        put_at(arena, block, place, id, steps);
+        refresh_up(arena, root, block, steps);
+        return root;
+    }
+    let rear = split_put(arena, block, place, id, steps);
+    grow(arena, root, block, rear, steps)
+}
+
+// How many nodes the tree may need for one more leaf: the leaf, a block on each level, a new root.
+pub(crate) fn nodes_needed<L: Leaf, G: Ledger>(
+    arena: &Arena<L, Summary>,
+    root: NodeId,
+    steps: &mut Steps<G>,
+) -> usize
+    requires { IsTree arena.now root }
+    ensures { result ≡ height_of arena.now root + 2 }
+{
+    // There are fewer leaves than numbers of nodes, so the tree is far lower than that.
+    let _first = arena.first();
+    height_at(arena, root, steps) as usize + 2
+}
+
+// Puts a new leaf directly after another. Tells the root and the new leaf.
+pub(crate) fn insert_at<L: Leaf, G: Ledger>(
+    arena: &mut Arena<L, Summary>,
+    root: NodeId,
+    at: NodeId,
+    leaf: L,
+    steps: &mut Steps<G>,
+) -> Result<(NodeId, NodeId), OutOfMemory>
+where
+    L: Drop,
+    requires tree { IsTree arena.old root }
+    requires sums { SumsBut (by_local L.size L.element) arena.old None }
+    requires at { IsSome (leaf_value arena.old at) }
+    requires fits { total (length_of (by_local L.size L.element) arena.old) arena.old.leaves + (by_local L.size L.element).leaf leaf < 2 ^ 64 }
+    ensures tree { IfOk result (λ r. IsTree arena.new r.0) }
+    ensures sums { IfOk result (λ r. SumsBut (by_local L.size L.element) arena.new None) }
+    ensures inserts { IfOk result (λ r. InsertsLeaf arena.old arena.new r.1 leaf (λ xs. insert_after xs at r.1)) }
+{
+    let needed = nodes_needed(arena, root, steps);
+    arena.reserve(needed)?;
+    let id = arena.link_after(Some(at), leaf);
+    let top = grow(arena, root, at, id, steps);
+    Ok((top, id))
+}
+
+// Puts a new leaf before all others. Tells the root and the new leaf.
+pub(crate) fn insert_front<L: Leaf, G: Ledger>(
+    arena: &mut Arena<L, Summary>,
+    root: NodeId,
+    leaf: L,
+    steps: &mut Steps<G>,
+) -> Result<(NodeId, NodeId), OutOfMemory>
+where
+    L: Drop,
+    requires tree { IsTree arena.old root }
+    requires sums { SumsBut (by_local L.size L.element) arena.old None }
+    requires fits { total (length_of (by_local L.size L.element) arena.old) arena.old.leaves + (by_local L.size L.element).leaf leaf < 2 ^ 64 }
+    ensures tree { IfOk result (λ r. IsTree arena.new r.0) }
+    ensures sums { IfOk result (λ r. SumsBut (by_local L.size L.element) arena.new None) }
+    ensures inserts { IfOk result (λ r. InsertsLeaf arena.old arena.new r.1 leaf (λ xs. r.1 ∷ xs)) }
+{
+    let needed = nodes_needed(arena, root, steps);
+    arena.reserve(needed)?;
+    let Some(first) = arena.first() else {
+        unreachable!();
+    };
+    let id = arena.link_after(None, leaf);
+    let top = grow_front(arena, root, first, id, steps);
+    Ok((top, id))
+}
+
+// Puts the first leaf of all, under a new root. Tells the root and the leaf.
+pub(crate) fn insert_first<L: Leaf, G: Ledger>(
+    arena: &mut Arena<L, Summary>,
+    leaf: L,
+    steps: &mut Steps<G>,
+) -> Result<(NodeId, NodeId), OutOfMemory>
+where
+    L: Drop,
+    requires bare { IsBare arena.old }
+    requires fits { (by_local L.size L.element).leaf leaf < 2 ^ 64 }
+    ensures tree { IfOk result (λ r. IsTree arena.new r.0) }
+    ensures sums { IfOk result (λ r. SumsBut (by_local L.size L.element) arena.new None) }
+    ensures inserts { IfOk result (λ r. InsertsLeaf arena.old arena.new r.1 leaf (λ xs. r.1 ∷ xs)) }
+{
+    arena.reserve(2)?;
+    let id = arena.link_after(None, leaf);
+    let top = arena.add_block(Summary {
+        height: 1,
+        local: 0,
+    });
+    arena.put_child(top, 0, id);
+    refresh(arena, top, steps);
+    Ok((top, id))
+}

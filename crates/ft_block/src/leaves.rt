@@ -1,0 +1,134 @@
+//! What a leaf of the tree has to offer, and what a view sees of it.
+
+ghost use Rattle.std.specs.Prelude.{◌≡◌, ℕ, ◌+◌, ◌<◌, ◌≤◌, Bool, IsTrue, IfOk, IfErr, OnOk, OnErr};
+ghost use Rattle.ft_base.specs.declared.elements.Element.{Element};
+ghost use Rattle.ft_block.specs.Leaves.{sees_in, seen_length, last_stage};
+
+use ft_base::{Element, OutOfMemory, Perspective, seen_at, sees};
+
+/// A leaf: at least one element, all with the same stamps.
+pub trait Leaf: Sized {
+    /// What an annotation changes a leaf by.
+    type Change;
+
+    ghost size: { Self → ℕ };
+
+    ghost element: { Self → Element };
+
+    ghost with_element: { Self → Element → Self };
+
+    ghost front: { Self → ℕ → Self };
+
+    ghost rear: { Self → ℕ → Self };
+
+    ghost joins: { Self → Self → Bool };
+
+    ghost joined: { Self → Self → Self };
+
+    ghost CanChange: { Self → Self.Change → Type 0 } = { λ _ _. Unit {0} };
+
+    ghost changed: { Self → Self.Change → Self };
+
+    /// How many elements the leaf holds, at least one. It takes no memory.
+    fn len(&self) -> u64
+        ensures value { result ≡ size self.now }
+        ensures some { 1 ≤ result };
+
+    /// The stamps of each of its elements. It takes no memory.
+    fn element(&self) -> &Element
+        ensures { result.now ≡ element self.now };
+
+    /// Replaces the stamps of all its elements. It takes no memory.
+    fn set_element(&mut self, e: Element)
+        ensures { self.new ≡ with_element self.old e };
+
+    /// Keeps the first `at` elements and answers the rest, both with the old stamps.
+    ///
+    /// Answers `OutOfMemory` where there is no room for the rest, and then the leaf is as it was.
+    fn split_off(&mut self, at: u64) -> Result<Self, OutOfMemory>
+        requires low { 1 ≤ at }
+        requires high { at < size self.old }
+        ensures front { OnOk result (self.new ≡ front self.old at) }
+        ensures rear { IfOk result (λ rest. rest ≡ rear self.old at) }
+        ensures err { OnErr result (self.new ≡ self.old) };
+
+    /// Whether the other leaf may be joined to the end of this one. It takes no memory.
+    fn can_join_back(&self, other: &Self) -> bool
+        ensures { result ≡ joins self.now other.now };
+
+    /// Adds the other leaf's elements at the end.
+    ///
+    /// Gives the other leaf back only for want of memory, and then this one is as it was.
+    fn join_back(&mut self, other: Self) -> Result<(), Self>
+        requires can { IsTrue (joins self.old other) }
+        requires equal { element self.old ≡ element other }
+        ensures ok { OnOk result (self.new ≡ joined self.old other) }
+        ensures back { IfErr result (λ back. back ≡ other) }
+        ensures err { OnErr result (self.new ≡ self.old) };
+
+    /// Makes this change of all its elements, which keeps their number and stamps.
+    ///
+    /// Answers `OutOfMemory` where there is no room for it, and then the leaf is as it was.
+    fn change(&mut self, c: &Self::Change) -> Result<(), OutOfMemory>
+        requires { CanChange self.old c.now }
+        ensures ok { OnOk result (self.new ≡ changed self.old c.now) }
+        ensures err { OnErr result (self.new ≡ self.old) };
+
+    ghost with_element_element: { (x : Self) (e : Element) → element (with_element x e) ≡ e };
+
+    ghost with_element_size: { (x : Self) (e : Element) → size (with_element x e) ≡ size x };
+
+    ghost front_size: { (x : Self) (at : ℕ) → 1 ≤ at → at < size x → size (front x at) ≡ at };
+
+    ghost front_element: { (x : Self) (at : ℕ) → 1 ≤ at → at < size x → element (front x at) ≡ element x };
+
+    ghost rear_size: { (x : Self) (at : ℕ) → 1 ≤ at → at < size x → at + size (rear x at) ≡ size x };
+
+    ghost rear_element: { (x : Self) (at : ℕ) → 1 ≤ at → at < size x → element (rear x at) ≡ element x };
+
+    ghost joined_size: { (x y : Self) → IsTrue (joins x y) → element x ≡ element y → size (joined x y) ≡ size x + size y };
+
+    ghost joined_element: { (x y : Self) → IsTrue (joins x y) → element x ≡ element y → element (joined x y) ≡ element x };
+
+    ghost changed_size: { (x : Self) (c : Self.Change) → CanChange x c → size (changed x c) ≡ size x };
+
+    ghost changed_element: { (x : Self) (c : Self.Change) → CanChange x c → element (changed x c) ≡ element x };
+}
+
+/// What sees an element: the sender of a message, by its perspective, or a client at one of its pending
+/// stages. At stage `u64::MAX` a client sees what it sees with all that is pending.
+#[derive(Clone, Copy, Debug, PartialEq, Eq)]
+pub enum LenView {
+    /// A perspective.
+    At(Perspective),
+    /// A pending stage.
+    Stage(u64),
+}
+
+/// Whether the view sees the element. It takes no memory.
+pub(crate) fn sees_in(e: &Element, view: LenView) -> bool
+    ensures { result ≡ sees_in view e.now }
+{
+    match view {
+        LenView::At(at) => sees(e, at),
+        LenView::Stage(stage) => seen_at(e, stage),
+    }
+}
+
+/// How many of the leaf's elements the view sees: all or none. It takes no memory.
+pub(crate) fn seen_length<L: Leaf>(leaf: &L, view: LenView) -> u64
+    ensures { result ≡ seen_length L.size L.element view leaf.now }
+{
+    if sees_in(leaf.element(), view) {
+        leaf.len()
+    } else {
+        0
+    }
+}
+
+/// Whether the view is that at the last stage, which blocks keep. It takes no memory.
+pub(crate) fn is_last(view: LenView) -> bool
+    ensures { IsTrue result → view ≡ last_stage }
+{
+    matches!(view, LenView::Stage(u64::MAX))
+}

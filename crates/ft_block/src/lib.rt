@@ -1,0 +1,16 @@
+//! A balanced tree of leaves over an arena. Each block keeps how many elements of its leaves the local
+//! view sees, so that a place is found by reading a few nodes on each level.
+#![tactic(auto)]
+
+pub mod blocks;
+mod change;
+mod counted;
+mod find;
+mod grow;
+pub mod leaves;
+mod position;
+mod refresh;
+mod summaries;
+
+pub use blocks::{Blocks, Found, OutOfRange};
+pub use leaves::{Leaf, LenView};
