@@ -1,8 +1,8 @@
 -- What a text is, and what is asked of a JSON value and of the fields of an object.
 --     read_line bytes      the value that the bytes are, or why they are none
---     get_field d f      the value of a field
+--     field d f      the value of a field
 --     given_field d f      the same, where it is not null
---     whole_within d low high, as_count d, as_items d, as_pairs d      the value as a number in a range, as a list, as pairs of names and values
+--     whole_within d low high, count d, items d, pairs d      the value as a number in a range, as a list, as pairs of names and values
 --     num_field d f, signed_field d f, count_field d f, str_field d f, text_field d f, array_field d f      a field that has to be there and of that kind, or its fault
 use Rattle.std.specs.Prelude.{ℕ, ◌-◌, ◌^◌, ℤ, pos, negsuc, int_lt, Bool, not, ◌&&◌, nat_lt, if◌then◌else◌, List, [], ◌∷◌, Option, Some, None, option_map, option_and_then, Result, Err, chars}
 use Rattle.std.specs.Option.{ok_or}
@@ -36,34 +36,31 @@ unfoldable pub whole_within : Data → ℤ → ℤ → Option ℤ
 whole_within d low high = option_and_then (λ z. if is_within low high z then Some z else None) (whole_number d)
 
 -- the count that the value is: a whole number from 0 to 9007199254740991
-unfoldable pub as_count : Data → Option ℕ
-as_count d = option_and_then (λ n. if nat_lt n (2 ^ 53) then Some n else None) (option_and_then as_u64 (as_number d))
+unfoldable pub count : Data → Option ℕ
+count d = option_and_then (λ n. if nat_lt n (2 ^ 53) then Some n else None) (option_and_then as_u64 (as_number d))
 
--- the items, as a list
 abbrev pub listed : Items → List Data
 listed no_items = []
 listed (item d ds) = d ∷ listed ds
 
 -- the items of the array that the value is
-unfoldable pub as_items : Data → Option (List Data)
-as_items d = option_map listed (as_array d)
+unfoldable pub items : Data → Option (List Data)
+items d = option_map listed (as_array d)
 
--- the characters of each name, with the value there
 abbrev pub paired : Members → List (List ℕ × Data)
 paired no_members = []
 paired (member k d ms) = (chars k, d) ∷ paired ms
 
 -- the characters of each name of the object that the value is, with the value there, in the object's order
-unfoldable pub as_pairs : Data → Option (List (List ℕ × Data))
-as_pairs d = option_map paired (as_object d)
+unfoldable pub pairs : Data → Option (List (List ℕ × Data))
+pairs d = option_map paired (as_object d)
 
 -- ---- a field of an object
 
 -- the value of the field; none where the value is no object, or has no such field
-unfoldable pub get_field : Data → Field → Option Data
-get_field d f = get (field_name f) d
+unfoldable pub field : Data → Field → Option Data
+field d f = get (field_name f) d
 
--- the value, unless it is null
 abbrev pub unless_null : Data → Option Data
 unless_null null = None
 unless_null (boolean b) = Some (boolean b)
@@ -74,16 +71,15 @@ unless_null (object ms) = Some (object ms)
 
 -- the same, where null counts as absent
 unfoldable pub given_field : Data → Field → Option Data
-given_field d f = option_and_then unless_null (get_field d f)
+given_field d f = option_and_then unless_null (field d f)
 
--- what the field's value reads as, or the fault where it is absent or reads as nothing
 abbrev pub read_or_fault : {A : Type 0} → (Data → Option A) → Field → Option Data → Result A FieldFault
 read_or_fault reads f None = Err (Missing f)
 read_or_fault reads f (Some d) = ok_or (reads d) (WrongKind f)
 
 -- what a field that has to be there reads as, or its fault
 abbrev pub needed_field : {A : Type 0} → (Data → Option A) → Data → Field → Result A FieldFault
-needed_field reads d f = read_or_fault reads f (get_field d f)
+needed_field reads d f = read_or_fault reads f (field d f)
 
 -- a whole number from -1 to 9007199254740991
 unfoldable pub num_field : Data → Field → Result ℤ FieldFault
@@ -95,7 +91,7 @@ signed_field d f = needed_field (λ x. whole_within x (negsuc (2 ^ 53 - 2)) (pos
 
 -- a whole number from 0 to 9007199254740991
 unfoldable pub count_field : Data → Field → Result ℕ FieldFault
-count_field d f = needed_field as_count d f
+count_field d f = needed_field count d f
 
 -- a string, by its bytes
 unfoldable pub str_field : Data → Field → Result (List ℕ) FieldFault
@@ -107,4 +103,4 @@ text_field d f = needed_field (λ x. option_map chars (as_str x)) d f
 
 -- an array, by its items
 unfoldable pub array_field : Data → Field → Result (List Data) FieldFault
-array_field d f = needed_field as_items d f
+array_field d f = needed_field items d f

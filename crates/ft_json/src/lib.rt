@@ -16,8 +16,8 @@ pub mod writing;
 pub use faults::{FieldFault, JsonFault};
 pub use fields::Field;
 pub use members::{
-    array_field, as_count, as_items, as_pairs, count_field, get_field, given_field, num_field,
-    signed_field, str_field, text_field, whole_within,
+    array_field, count, count_field, field, given_field, items, num_field, pairs, signed_field,
+    str_field, text_field, whole_within,
 };
 pub use reading::read_line;
 pub use values::ValText;

@@ -4,7 +4,7 @@ ghost use Rattle.std.specs.Prelude.{◌≡◌, ◌≢◌, IfOk, IfErr, map, opti
 ghost use Rattle.std.specs.Result.{result_map_both};
 ghost use Rattle.serde_json.specs.View.{view};
 ghost use Rattle.ft_json.specs.Objects.{entry_pairs};
-ghost use Rattle.ft_json.specs.Reading.{whole_within, as_count, as_items, as_pairs, get_field, given_field, num_field, signed_field, count_field, str_field, text_field, array_field};
+ghost use Rattle.ft_json.specs.Reading.{whole_within, count, items, pairs, field, given_field, num_field, signed_field, count_field, str_field, text_field, array_field};
 
 use crate::faults::FieldFault;
 use crate::fields::Field;
@@ -27,17 +27,17 @@ pub fn whole_within(value: &Value, low: i64, high: i64) -> Option<i64>
 }
 
 /// The count that the value is: a whole number from 0 to 9007199254740991. It takes no memory.
-#[tactic(auto, unfolding(crate::specs::Reading::as_count))]
-pub fn as_count(value: &Value) -> Option<u64>
-    ensures { result ≡ as_count (view value.now) }
+#[tactic(auto, unfolding(crate::specs::Reading::count))]
+pub fn count(value: &Value) -> Option<u64>
+    ensures { result ≡ count (view value.now) }
 {
     value.as_u64().filter(|n| *n <= MAX_COUNT)
 }
 
 /// The items of the array that the value is. It takes no memory.
-#[tactic(auto, using(crate::proofs::Lists::listed_items_view), unfolding(crate::specs::Reading::as_items))]
-pub fn as_items(value: &Value) -> Option<&[Value]>
-    ensures { option_map (λ found. map view found.now) result ≡ as_items (view value.now) }
+#[tactic(auto, using(crate::proofs::Lists::listed_items_view), unfolding(crate::specs::Reading::items))]
+pub fn items(value: &Value) -> Option<&[Value]>
+    ensures { option_map (λ found. map view found.now) result ≡ items (view value.now) }
 {
     match value.as_array() {
         Some(list) => Some(list.as_slice()),
@@ -46,18 +46,18 @@ pub fn as_items(value: &Value) -> Option<&[Value]>
 }
 
 /// The entries of the object that the value is, by rising key. It takes no memory.
-#[tactic(auto, using(crate::proofs::Lists::paired_members_view), unfolding(crate::specs::Reading::as_pairs))]
-pub fn as_pairs(value: &Value) -> Option<&Map<String, Value>>
-    ensures { option_map (λ found. entry_pairs found.now.entries) result ≡ as_pairs (view value.now) }
+#[tactic(auto, using(crate::proofs::Lists::paired_members_view), unfolding(crate::specs::Reading::pairs))]
+pub fn pairs(value: &Value) -> Option<&Map<String, Value>>
+    ensures { option_map (λ found. entry_pairs found.now.entries) result ≡ pairs (view value.now) }
 {
     value.as_object()
 }
 
 /// The value of a field: None exactly where `value` is no object, or has no such field. It takes no
 /// memory.
-#[tactic(auto, unfolding(crate::specs::Reading::get_field))]
-pub fn get_field(value: &Value, f: Field) -> Option<&Value>
-    ensures { option_map (λ found. view found.now) result ≡ get_field (view value.now) f }
+#[tactic(auto, unfolding(crate::specs::Reading::field))]
+pub fn field(value: &Value, f: Field) -> Option<&Value>
+    ensures { option_map (λ found. view found.now) result ≡ field (view value.now) f }
 {
     value.get(f.name())
 }
@@ -67,7 +67,7 @@ pub fn get_field(value: &Value, f: Field) -> Option<&Value>
 pub fn given_field(value: &Value, f: Field) -> Option<&Value>
     ensures { option_map (λ found. view found.now) result ≡ given_field (view value.now) f }
 {
-    match get_field(value, f) {
+    match field(value, f) {
         Some(found) if !found.is_null() => Some(found),
         _ => None,
     }
@@ -81,7 +81,7 @@ pub fn given_field(value: &Value, f: Field) -> Option<&Value>
 pub fn num_field(value: &Value, f: Field) -> Result<i64, FieldFault>
     ensures { result ≡ num_field (view value.now) f }
 {
-    let found = get_field(value, f).ok_or(FieldFault::Missing(f))?;
+    let found = field(value, f).ok_or(FieldFault::Missing(f))?;
     whole_within(found, -1, MAX_NUM).ok_or(FieldFault::WrongKind(f))
 }
 
@@ -93,7 +93,7 @@ pub fn num_field(value: &Value, f: Field) -> Result<i64, FieldFault>
 pub fn signed_field(value: &Value, f: Field) -> Result<i64, FieldFault>
     ensures { result ≡ signed_field (view value.now) f }
 {
-    let found = get_field(value, f).ok_or(FieldFault::Missing(f))?;
+    let found = field(value, f).ok_or(FieldFault::Missing(f))?;
     whole_within(found, -MAX_NUM, MAX_NUM).ok_or(FieldFault::WrongKind(f))
 }
 
@@ -105,8 +105,8 @@ pub fn signed_field(value: &Value, f: Field) -> Result<i64, FieldFault>
 pub fn count_field(value: &Value, f: Field) -> Result<u64, FieldFault>
     ensures { result ≡ count_field (view value.now) f }
 {
-    let found = get_field(value, f).ok_or(FieldFault::Missing(f))?;
-    as_count(found).ok_or(FieldFault::WrongKind(f))
+    let found = field(value, f).ok_or(FieldFault::Missing(f))?;
+    count(found).ok_or(FieldFault::WrongKind(f))
 }
 
 /// The field as a string, borrowed from the value.
@@ -118,7 +118,7 @@ pub fn str_field(value: &Value, f: Field) -> Result<&str, FieldFault>
     ensures { result_map_both (λ found. found.now) (λ fault. fault) result
         ≡ str_field (view value.now) f }
 {
-    let found = get_field(value, f).ok_or(FieldFault::Missing(f))?;
+    let found = field(value, f).ok_or(FieldFault::Missing(f))?;
     found.as_str().ok_or(FieldFault::WrongKind(f))
 }
 
@@ -145,6 +145,6 @@ pub fn array_field(value: &Value, f: Field) -> Result<&[Value], FieldFault>
     ensures { result_map_both (λ found. map view found.now) (λ fault. fault) result
         ≡ array_field (view value.now) f }
 {
-    let found = get_field(value, f).ok_or(FieldFault::Missing(f))?;
-    as_items(found).ok_or(FieldFault::WrongKind(f))
+    let found = field(value, f).ok_or(FieldFault::Missing(f))?;
+    items(found).ok_or(FieldFault::WrongKind(f))
 }
