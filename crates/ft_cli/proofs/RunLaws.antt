@@ -232,7 +232,7 @@ says_whole false status left source_rose sink_rose given written is whole =
     subst (λ s. Says Log left source_rose sink_rose s given written) (sym is) (subst (λ s. IsWhole Log left s given written) is whole)
 
 module _ (first left held holds taken : Option (List ℕ)) (at : Progress Observation) (source_rose before_rose : Type 0) (sink_start sink_before sink_now : ℕ)
-  (lines_moved : Moves first left held holds (SaysOfLines left source_rose before_rose (Ok at))) (later : sink_start ≤ sink_before) where
+    (lines_moved : Moves first left held holds (SaysOfLines left source_rose before_rose (Ok at))) (later : sink_start ≤ sink_before) where
   -- what was written before, and the whole of what stands behind it, are the report
   written_whole : (written : List ℕ) → written ≡ bytes_of (log_end at) → lines_moved.written ++ written ≡ report_of Log lines_moved.given
   written_whole written is =

@@ -13,6 +13,8 @@ pub mod replay;
 pub mod report;
 pub mod running;
 pub mod statuses;
+#[cfg(test)]
+mod tests;
 pub mod words;
 pub mod writing;
 

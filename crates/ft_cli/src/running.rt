@@ -34,7 +34,7 @@ pub fn run<S: Source, K: Sink>(
     // What each status says of the bytes that were read and written.
     ensures moves { Moves (S.remaining src.old) (S.remaining src.new) (K.contents out.old) (K.contents out.new)
         (SaysForWords (form_of (texts_of words.now.items)) (S.remaining src.new)
-            (Rose (S.faults src.old) (S.faults src.new)) (Rose (K.faults out.old) (K.faults out.new)) result) }
+        (Rose (S.faults src.old) (S.faults src.new)) (Rose (K.faults out.old) (K.faults out.new)) result) }
     ensures usage { (result ≡ Status.Usage) ↔ (form_of (texts_of words.now.items) ≡ None) }
     ensures untouched { result ≡ Status.Usage → (src.new ≡ src.old) × (out.new ≡ out.old) }
 
@@ -55,21 +55,17 @@ pub fn run<S: Source, K: Sink>(
 fn log<S: Source, K: Sink>(alloc: Global, src: &mut S, out: &mut K) -> Result<Status, Fault>
     ensures run { Moves (S.remaining src.old) (S.remaining src.new) (K.contents out.old) (K.contents out.new)
         (Says Form.Log (S.remaining src.new) (Rose (S.faults src.old) (S.faults src.new))
-            (Rose (K.faults out.old) (K.faults out.new)) (end_status result)) }
+        (Rose (K.faults out.old) (K.faults out.new)) (end_status result)) }
 {
     let replay = read_lines(alloc, src, out)?;
     replay.close(alloc, out)
 }
 
 // Reads the lines of a log, and writes the refusals of those that are refused.
-fn read_lines<S: Source, K: Sink>(
-    alloc: Global,
-    src: &mut S,
-    out: &mut K,
-) -> Result<Replay, Fault>
+fn read_lines<S: Source, K: Sink>(alloc: Global, src: &mut S, out: &mut K) -> Result<Replay, Fault>
     ensures run { Moves (S.remaining src.old) (S.remaining src.new) (K.contents out.old) (K.contents out.new)
         (SaysOfLines (S.remaining src.new) (Rose (S.faults src.old) (S.faults src.new))
-            (Rose (K.faults out.old) (K.faults out.new)) result) }
+        (Rose (K.faults out.old) (K.faults out.new)) result) }
     ensures source_later { S.faults src.old ≤ S.faults src.new }
     ensures sink_later { K.faults out.old ≤ K.faults out.new }
 {
