@@ -1,11 +1,10 @@
 -- Where a run over the lines of a log stands, how it goes on, and how each of its ends is what the definition of a run says.
-use Rattle.std.proofs.Common.{◌≡◌, ◌⊎◌, ℕ, ◌+◌, ◌-◌, ◌<◌, ◌≤◌, ◌^◌, List, [], ◌∷◌, ◌++◌, Option, None, Some, Result, Ok, Err, length, refl, sym, ◌∙◌, ap, subst, arith, append-nil, inl, inr, Bool, true, false, if◌then◌else◌, IfNone, IfOk}
-use Rattle.std.specs.List.{flat_map}
-use Rattle.std.specs.Io.KnownBytes.{Appends, Consumes, IsAtEnd}
+use Rattle.std.proofs.Common.{◌≡◌, ℕ, ◌+◌, ◌-◌, ◌<◌, ◌≤◌, ◌^◌, List, [], ◌∷◌, ◌++◌, Option, None, Result, Ok, Err, length, refl, sym, ◌∙◌, ap, subst, arith, append-nil, inl, inr, Bool, true, false, if◌then◌else◌, IfOk}
+use Rattle.std.specs.Io.KnownBytes.{Appends}
 use Rattle.std.proofs.lemmas.Grind.{flat_map-append}
 use Rattle.std.proofs.lemmas.Bool.Decides.{nat_tests}
 use Rattle.ft_io.specs.Lines.{lines, ended_lines, with_lf}
-use Rattle.ft_io.specs.Reader.{Reader, Call, Reading, IsWhole as IsWholeInput, handed_out, input_limit, new_reader, to_come}
+use Rattle.ft_io.specs.Reader.{Reader, Call, Reading, handed_out, input_limit, new_reader, to_come}
 use Rattle.ft_io.specs.Streams.{Rose}
 use Rattle.ft_io.specs.declared.reader.Line.{Line}
 use Rattle.ft_io.specs.declared.reader.Line.TheVariants.{Full, TooLong, End}
@@ -19,7 +18,7 @@ use Rattle.ft_cli.specs.declared.statuses.Status.{Status}
 use Rattle.ft_cli.specs.declared.statuses.Status.TheVariants.{Done, SomeRefused, Usage}
 use Rattle.ft_cli.specs.declared.words.Form.{Form}
 use Rattle.ft_cli.specs.declared.words.Form.TheVariants.{Log}
-use Rattle.ft_cli.specs.Statuses.{fault_of_line, fault_status}
+use Rattle.ft_cli.specs.Statuses.{fault_of_line}
 use Rattle.ft_cli.specs.Walk.{Progress, after_line, begin, line_limit, written_by, written_by_line}
 use Rattle.ft_cli.specs.Observation.{Observation, nothing_observed, observe}
 use Rattle.ft_cli.specs.Report.{bytes_of, log_after, log_end, log_lines, log_status, opened_of, report_of}
@@ -83,10 +82,6 @@ stands_start first held reader at new_is begin_is = subst (λ r. Stands first fi
 pub with_answer : (first left held holds : Option (List ℕ)) (source_rose sink_rose : Type 0) {result answer : Result (Progress Observation) Fault} → result ≡ answer
     → Moves first left held holds (SaysOfLines left source_rose sink_rose answer) → Moves first left held holds (SaysOfLines left source_rose sink_rose result)
 with_answer first left held holds source_rose sink_rose is moves = subst (λ r. Moves first left held holds (SaysOfLines left source_rose sink_rose r)) (sym is) moves
-
--- what a call of a reader that has not stopped does
-pub call_of : {reader_fault : Option LineFault} {P : Type 0} → reader_fault ≡ None → IfNone reader_fault P → P
-call_of {P = P} is p = subst (λ f. IfNone f P) is p
 
 -- nothing was read or written, for want of memory
 pub moves_nothing : (first held : Option (List ℕ)) (source_rose sink_rose : Type 0)

@@ -1,6 +1,5 @@
 -- What lines write, for lines that are put behind others.
 use Rattle.std.proofs.Common.{◌≡◌, List, [], ◌∷◌, ◌++◌, refl, sym, ◌∙◌, ap, append_assoc}
-use Rattle.std.proofs.lemmas.Grind.{flat_map-append}
 use Rattle.std.proofs.Common.{ℕ}
 use Rattle.ft_cli.specs.Walk.{Step, Progress, after_line, after_lines, written_by, written_by_line}
 

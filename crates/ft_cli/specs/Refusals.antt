@@ -1,5 +1,5 @@
 -- Why a line is refused, and the text that is written of it.
-use Rattle.std.specs.Prelude.{ℕ, List, [], ◌∷◌, ◌++◌, Option, Some, None, codes, decimal}
+use Rattle.std.specs.Prelude.{ℕ, List, ◌++◌, Option, Some, None, codes, decimal}
 use Rattle.std.specs.Fmt.{signed_decimal}
 use Rattle.ft_json.specs.Fields.{field_name}
 use Rattle.ft_msg.specs.declared.faults.Cause.{Cause}

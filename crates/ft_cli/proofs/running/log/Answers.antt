@@ -1,4 +1,3 @@
-use Rattle.std.proofs.Common.{sym}
 use Rattle.ft_io.specs.Streams.{Rose}
 use Rattle.ft_cli.proofs.RunLaws.{moves_close}
 use Rattle.ft_cli.proofs.running.log.Goals as goal

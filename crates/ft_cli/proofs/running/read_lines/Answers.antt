@@ -1,7 +1,7 @@
-use Rattle.std.proofs.Common.{◌≡◌, ◌≤◌, ◌+◌, ◌∙◌, Ok, Err, ap, sym, subst, arith}
+use Rattle.std.proofs.Common.{◌∙◌, Err, ap, arith}
 use Rattle.std.proofs.lemmas.Result.{err_from_is_err_and}
 use Rattle.ft_io.specs.Streams.{Rose}
-use Rattle.ft_cli.proofs.RunLaws.{stands_start, with_answer, call_of, moves_nothing, moves_end, moves_fault, next_line, few_lines, stands_next, moves_step}
+use Rattle.ft_cli.proofs.RunLaws.{stands_start, with_answer, moves_nothing, moves_end, moves_fault, next_line, few_lines, stands_next, moves_step}
 use Rattle.ft_cli.proofs.running.read_lines.Goals as goal
 
 pub returns-in_err-lines-clause-run : goal.returns-in_err-lines-clause-run
@@ -24,7 +24,7 @@ pub returns-in_err-line-clause-run : goal.returns-in_err-line-clause-run
 returns-in_err-line-clause-run g c =
     let now = c.loop-replay in
     let h = now.invariant in
-    let call = call_of h.stands.reading.runs c.in_err-line.ensures.call in
+    let call = c.in_err-line.ensures.call h.stands.reading.runs in
     let p = err_from_is_err_and c.from_residual-in_err-line.result c.from_residual-in_err-line.ensures.1 in
     with_answer (g.S.Source.remaining c.args.src.now) (g.S.Source.remaining c.next.new.src) (g.K.Sink.contents c.args.out.now) (g.K.Sink.contents now.out) _ _ (p.1 ∙ ap Err p.2)
     (moves_fault h.stands c.in_err-line.field-0.0 call (g.S.Source.faults c.args.src.now) _ h.source_later)
@@ -32,20 +32,20 @@ returns-in_err-line-clause-run g c =
 pub returns-in-End-clause-run : goal.returns-in-End-clause-run
 returns-in-End-clause-run g c =
     let h = c.loop-replay.invariant in
-    moves_end h.stands (call_of h.stands.reading.runs c.in_ok-line.ensures.call) c.in-End.is
+    moves_end h.stands (c.in_ok-line.ensures.call h.stands.reading.runs) c.in-End.is
     (Rose (g.S.Source.faults c.args.src.now) (g.S.Source.faults c.next.new.src)) (Rose (g.K.Sink.faults c.args.out.now) (g.K.Sink.faults c.loop-replay.out))
 
 pub step-requires : goal.step-requires
 step-requires g c =
     let h = c.loop-replay.invariant in
-    let call = call_of h.stands.reading.runs c.in_ok-line.ensures.call in
+    let call = c.in_ok-line.ensures.call h.stands.reading.runs in
     few_lines h.stands (next_line h.stands c.in_ok-line.line call c.in_default.not-End)
 
 pub returns-in_err-step-in_default : goal.returns-in_err-step-in_default
 returns-in_err-step-in_default g c =
     let now = c.loop-replay in
     let h = now.invariant in
-    let call = call_of h.stands.reading.runs c.in_ok-line.ensures.call in
+    let call = c.in_ok-line.ensures.call h.stands.reading.runs in
     let next = next_line h.stands c.in_ok-line.line call c.in_default.not-End in
     let writes = c.in_err-step-in_default.ensures.writes next.text next.is_text in
     let r = c.from_residual-in_err-step-in_default in
@@ -60,14 +60,14 @@ returns-in_err-step-in_default g c =
 pub loop-replay-smaller : goal.loop-replay-smaller
 loop-replay-smaller g c =
     let h = c.loop-replay.invariant in
-    let call = call_of h.stands.reading.runs c.in_ok-line.ensures.call in
+    let call = c.in_ok-line.ensures.call h.stands.reading.runs in
     (next_line h.stands c.in_ok-line.line call c.in_default.not-End).nearer
 
 pub loop-replay-preserved : goal.loop-replay-preserved
 loop-replay-preserved g c =
     let now = c.loop-replay in
     let h = now.invariant in
-    let call = call_of h.stands.reading.runs c.in_ok-line.ensures.call in
+    let call = c.in_ok-line.ensures.call h.stands.reading.runs in
     let next = next_line h.stands c.in_ok-line.line call c.in_default.not-End in
     let told = c.in_ok-step-in_default.ensures in
     let writes = told.writes next.text next.is_text in

@@ -1,4 +1,4 @@
-use Rattle.std.proofs.Common.{◌+◌, ◌≤◌, length, arith, ap}
+use Rattle.std.proofs.Common.{length, arith, ap}
 use Rattle.std.proofs.lemmas.Result.{IfOk-weaker}
 use Rattle.ft_cli.proofs.Observing.{length-names_with, observe_message-entry}
 use Rattle.ft_cli.proofs.observer.Observer.take_message.Goals as goal
