@@ -15,3 +15,4 @@ pub mod SoundLemmas
 pub mod PositionLemmas
 pub mod LeafListLemmas
 pub mod InsideLemmas
+pub mod CallerLemmas

@@ -14,3 +14,6 @@ mod summaries;
 
 pub use blocks::{Blocks, Found, OutOfRange};
 pub use leaves::{Leaf, LenView};
+
+#[cfg(test)]
+mod tests;
