@@ -1,0 +1,116 @@
+//! Insertions at pseudo-random places, and finds.
+
+ghost use Rattle.std.specs.Prelude.{◌≡◌, ◌<◌, ◌≤◌, IsTrue, IfOk};
+ghost use Rattle.ft_block.specs.Leaves.{IsPlaceIn, length_by};
+
+use crate::units::Unit;
+use ft_arena::NodeId;
+use ft_base::{OutOfMemory, Steps};
+use ft_block::{Blocks, LenView};
+use std::alloc::Global;
+use std::marker::Brand;
+use std::sync::ledger::{Blank, Ledger};
+
+/// What is left at the end: the length of the tree, and how many places were found in it.
+#[derive(Clone, Copy, Debug, PartialEq, Eq)]
+pub struct Answer {
+    /// The length of the tree.
+    pub length: u64,
+    /// How many places were found.
+    pub found: u32,
+}
+
+/// The numbers of Lehmer's generator with the factor 48,271, one after another.
+#[derive(Drop)]
+struct Numbers {
+    last: u64,
+    ghost small: { last < 2147483647 },
+}
+
+impl Numbers {
+    fn new() -> Numbers {
+        Numbers { last: 1 }
+    }
+
+    fn next(&mut self) -> u64 {
+        self.last = self.last * 48271 % 2147483647;
+        self.last
+    }
+}
+
+// The leaf that holds the place, if it is not the head.
+fn leaf_with<G: Ledger>(blocks: &Blocks<Unit>, p: u64, steps: &mut Steps<G>) -> Option<NodeId>
+    requires { IsTrue blocks.now.usable }
+    ensures { IsPlaceIn blocks.now.leaves result }
+{
+    match blocks.find_local(p, steps) {
+        Ok(found) => found.leaf,
+        Err(_) => None,
+    }
+}
+
+// So many leaves, each put in at a pseudo-random place.
+fn filled<G: Ledger>(
+    alloc: Global,
+    leaves: u32,
+    steps: &mut Steps<G>,
+) -> Result<Blocks<Unit>, OutOfMemory>
+    ensures { IfOk result (λ blocks. IsTrue blocks.usable) }
+{
+    let mut blocks = Blocks::new(alloc);
+    let mut numbers = Numbers::new();
+    for n in 0..leaves {
+        let _first = blocks.first();
+        let at = leaf_with(&blocks, numbers.next() % (u64::from(n) + 1), steps);
+        blocks.insert_after(at, Unit::new(alloc))?;
+    }
+    Ok(blocks)
+}
+
+// How many of so many pseudo-random places are found.
+fn found_among<G: Ledger>(
+    blocks: &Blocks<Unit>,
+    leaves: u32,
+    finds: u32,
+    steps: &mut Steps<G>,
+) -> u32
+    requires { IsTrue blocks.now.usable }
+    ensures { result ≤ finds }
+{
+    let mut numbers = Numbers::new();
+    let mut found = 0;
+    for _i in 0..finds {
+        let p = numbers.next() % (u64::from(leaves) + 1);
+        if blocks.find_local(p, steps).is_ok() {
+            found += 1;
+        }
+    }
+    found
+}
+
+// The same on a counter of its own.
+fn run_on<G: Ledger>(
+    alloc: Global,
+    leaves: u32,
+    finds: u32,
+    blank: Blank,
+) -> Result<Answer, OutOfMemory>
+    requires name { blank.name ≡ G.name }
+    requires parts { blank.parts ≡ G.parts }
+    requires some { 0 < blank.parts }
+{
+    let mut steps = Steps::<G>::new(blank);
+    let blocks = filled(alloc, leaves, &mut steps)?;
+    let found = found_among(&blocks, leaves, finds, &mut steps);
+    Ok(Answer {
+        length: blocks.length(LenView::Stage(u64::MAX)),
+        found,
+    })
+}
+
+/// Puts so many leaves into a tree, and finds so many places in it.
+///
+/// Answers `OutOfMemory` where there is no room for the leaves.
+pub fn run(alloc: Global, leaves: u32, finds: u32) -> Result<Answer, OutOfMemory> {
+    run_on::<Brand>(alloc, leaves, finds, Blank::new(1))
+}
