@@ -1,22 +1,26 @@
-//! The leaf of the benchmark: one element with a sequenced insertion.
+//! The leaf of the benchmark: a run of elements with a sequenced insertion.
 
-ghost use Rattle.std.specs.Prelude.{◌≡◌, ◌+◌, ◌<◌, ◌≤◌, false, refl};
+ghost use Rattle.std.specs.Prelude.{◌≡◌, ◌+◌, ◌-◌, ◌<◌, ◌≤◌, nat_lt, refl};
 ghost use Rattle.std.proofs.Common.{arith};
 
 use ft_base::{Element, OutOfMemory, Stamp, Stamps};
 use ft_block::Leaf;
 use std::alloc::Global;
 
-/// One element.
+/// A run of `extra` + 1 elements.
 #[derive(Drop)]
 pub struct Unit {
-    element: Element,
+    pub extra: u32,
+    pub element: Element,
 }
 
 impl Unit {
-    /// An element that everybody sees. It takes no memory.
-    pub fn new(alloc: Global) -> Unit {
+    /// A run of one element that everybody sees. It takes no memory.
+    pub fn new(alloc: Global) -> Unit
+        ensures { result.extra ≡ 0 }
+    {
         Unit {
+            extra: 0,
             element: Element {
                 ins: Stamp::Acked { seq: 0, conn: 0 },
                 dels: Stamps::new(alloc),
@@ -28,24 +32,24 @@ impl Unit {
 impl Leaf for Unit {
     type Change = u8;
 
-    ghost size = { λ x. 1 };
+    ghost size = { λ x. x.extra + 1 };
 
     ghost element = { λ x. x.element };
 
-    ghost with_element = { λ x e. record { element = e } };
+    ghost with_element = { λ x e. record x { element = e } };
 
-    ghost front = { λ x at. x };
+    ghost front = { λ x at. record x { extra = at - 1 } };
 
-    ghost rear = { λ x at. x };
+    ghost rear = { λ x at. record x { extra = x.extra - at } };
 
-    ghost joins = { λ x y. false };
+    ghost joins = { λ x y. nat_lt (x.extra + y.extra + 1) 4294967296 };
 
-    ghost joined = { λ x y. x };
+    ghost joined = { λ x y. record x { extra = x.extra + y.extra + 1 } };
 
     ghost changed = { λ x c. x };
 
     fn len(&self) -> u64 {
-        1
+        u64::from(self.extra) + 1
     }
 
     fn element(&self) -> &Element {
@@ -56,16 +60,22 @@ impl Leaf for Unit {
         self.element = e;
     }
 
-    fn split_off(&mut self, _at: u64) -> Result<Unit, OutOfMemory> {
-        unreachable!()
+    fn split_off(&mut self, at: u64) -> Result<Unit, OutOfMemory> {
+        let rear = Unit {
+            extra: self.extra - at as u32,
+            element: self.element.copy()?,
+        };
+        self.extra = at as u32 - 1;
+        Ok(rear)
     }
 
-    fn can_join_back(&self, _other: &Unit) -> bool {
-        false
+    fn can_join_back(&self, other: &Unit) -> bool {
+        u64::from(self.extra) + u64::from(other.extra) + 1 < 4294967296
     }
 
     fn join_back(&mut self, other: Unit) -> Result<(), Unit> {
-        Err(other)
+        self.extra += other.extra + 1;
+        Ok(())
     }
 
     fn change(&mut self, _c: &u8) -> Result<(), OutOfMemory> {
@@ -84,7 +94,7 @@ impl Leaf for Unit {
 
     ghost rear_element = { λ x at low high. refl };
 
-    ghost joined_size = { λ x y can same. absurd (Prim.cc) };
+    ghost joined_size = { λ x y can same. Prim.omega arith };
 
     ghost joined_element = { λ x y can same. refl };
 
