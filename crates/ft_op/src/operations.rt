@@ -1,8 +1,11 @@
 //! Operations. Positions count elements that the sender of an operation sees, from 0.
 
+ghost use Rattle.std.specs.Prelude.{◌≡◌, ◌↔◌, [], ◌∷◌, ◌++◌, IsTrue, OnOk, OnErr, length, slice_get, option_copied};
+
 use ft_base::{OutOfMemory, Text};
 use ft_json::{Field, FieldFault, ValText};
 use ft_props::{Changes, PropSet};
+use std::alloc::Global;
 use std::marker::Model;
 
 /// What an insertion puts in.
@@ -49,6 +52,57 @@ impl Model for BaseOps {
     ghost Value = { List BaseOp };
 
     ghost view = { λ a. a.items.items };
+}
+
+impl BaseOps {
+    /// No operations. It takes no memory.
+    pub fn new(alloc: Global) -> BaseOps
+        ensures { result ≡ [] }
+    {
+        BaseOps {
+            items: Vec::new(alloc),
+        }
+    }
+
+    /// Adds an operation at the end.
+    ///
+    /// Answers `OutOfMemory` where there is no room for it, and then the list is as it was.
+    pub fn push(&mut self, op: BaseOp) -> Result<(), OutOfMemory>
+        ensures ok { OnOk result (self.new ≡ self.old ++ op ∷ []) }
+        ensures err { OnErr result (self.new ≡ self.old) }
+    {
+        self.items.push(op)?;
+        Ok(())
+    }
+
+    /// How many operations there are. It takes no memory.
+    pub fn len(&self) -> usize
+        ensures { result ≡ length self.now }
+    {
+        self.items.len()
+    }
+
+    /// Whether there are none. It takes no memory.
+    pub fn is_empty(&self) -> bool
+        ensures { IsTrue result ↔ (self.now ≡ []) }
+    {
+        self.items.is_empty()
+    }
+
+    /// The operation at place `i`, counted from 0: None exactly where `i` isn't below the length. It
+    /// takes no memory.
+    pub fn at(&self, i: usize) -> Option<&BaseOp>
+        ensures { option_copied result ≡ slice_get self.now i }
+    {
+        self.items.get(i)
+    }
+
+    /// The operations in order. It takes no memory.
+    pub fn as_slice(&self) -> &[BaseOp]
+        ensures { result.now ≡ self.now }
+    {
+        self.items.as_slice()
+    }
 }
 
 /// The ends of an interval: the positions of its first and its last element, or both -1 where it is
@@ -130,6 +184,57 @@ impl Model for CellOps {
     ghost Value = { List CellOp };
 
     ghost view = { λ a. a.items.items };
+}
+
+impl CellOps {
+    /// No operations. It takes no memory.
+    pub fn new(alloc: Global) -> CellOps
+        ensures { result ≡ [] }
+    {
+        CellOps {
+            items: Vec::new(alloc),
+        }
+    }
+
+    /// Adds an operation at the end.
+    ///
+    /// Answers `OutOfMemory` where there is no room for it, and then the list is as it was.
+    pub fn push(&mut self, op: CellOp) -> Result<(), OutOfMemory>
+        ensures ok { OnOk result (self.new ≡ self.old ++ op ∷ []) }
+        ensures err { OnErr result (self.new ≡ self.old) }
+    {
+        self.items.push(op)?;
+        Ok(())
+    }
+
+    /// How many operations there are. It takes no memory.
+    pub fn len(&self) -> usize
+        ensures { result ≡ length self.now }
+    {
+        self.items.len()
+    }
+
+    /// Whether there are none. It takes no memory.
+    pub fn is_empty(&self) -> bool
+        ensures { IsTrue result ↔ (self.now ≡ []) }
+    {
+        self.items.is_empty()
+    }
+
+    /// The operation at place `i`, counted from 0: None exactly where `i` isn't below the length. It
+    /// takes no memory.
+    pub fn at(&self, i: usize) -> Option<&CellOp>
+        ensures { option_copied result ≡ slice_get self.now i }
+    {
+        self.items.get(i)
+    }
+
+    /// The operations in order. It takes no memory.
+    pub fn as_slice(&self) -> &[CellOp]
+        ensures { result.now ≡ self.now }
+    {
+        self.items.as_slice()
+    }
 }
 
 /// An operation of the grid.
