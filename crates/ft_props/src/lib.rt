@@ -7,6 +7,8 @@ mod numbers;
 pub mod overlay;
 mod pairs;
 pub mod properties;
+#[cfg(test)]
+mod tests;
 
 pub use overlay::Overlay;
 pub use properties::{AdjSet, Adjust, Changes, PropSet, Props};
