@@ -1,10 +1,16 @@
--- What an observer makes of a message, in the steps in which the code comes to it.
-use Rattle.std.proofs.Common.{◌≡◌, ℕ, ◌+◌, ◌≤◌, List, [], ◌∷◌, Option, Some, None, length, arith, sym, ◌∙◌, ap}
+-- What an observer makes of a message, in the steps in which the code comes to it, and the lines of its view.
+use Rattle.std.proofs.Common.{◌≡◌, ℕ, ◌+◌, ◌≤◌, List, [], ◌∷◌, Option, Some, None, length, arith, refl, sym, ◌∙◌, ap}
+use Rattle.ft_op.specs.Document.{Document}
 use Rattle.ft_msg.specs.declared.messages.Entry.{Entry}
 use Rattle.ft_msg.specs.declared.messages.Message.{Message}
+use Rattle.ft_msg.specs.declared.views.View.{View}
 use Rattle.ft_msg.specs.Client.{client_over}
+use Rattle.ft_msg.specs.Content.{ViewContent, shown}
 use Rattle.ft_msg.specs.NameTable.{names_after}
 use Rattle.ft_msg.specs.Process.{process}
+use Rattle.ft_plain.specs.Observer.{numbers_of}
+use Rattle.ft_cli.specs.Report.{bytes_of, view_lines}
+use Rattle.ft_cli.specs.ViewLines.{content_lines, content_of, numbers_line}
 use Rattle.ft_cli.specs.Walk.{Step}
 use Rattle.ft_cli.specs.Observation.{Observation, entry_of, names_with, observe_answer, observe_message}
 
@@ -26,3 +32,17 @@ unfolding observe_message
 observe_message-entry seen inside m entry names same is_entry is_names is =
     let given : Entry → List (List ℕ) → Step Observation = λ e ns. observe_answer (record { names = ns; doc = inside.doc }) (process (client_over inside.doc) e) in
     sym (ap (λ s. observe_message s m) same) ∙ sym (ap (λ ns. given (entry_of inside.names m) ns) is_names) ∙ sym (ap (λ e. given e names) is_entry) ∙ is
+
+-- a view with these parts shows this content
+same_content : (v : View) (w : ViewContent) → v.text ≡ w.text → v.markers ≡ w.markers → v.runs ≡ w.runs → v.intervals ≡ w.intervals → v.rows ≡ w.rows → v.cols ≡ w.cols → v.cells ≡ w.cells
+    → content_of v ≡ w
+same_content v w text markers runs intervals rows cols cells = rw (text, markers, runs, intervals, rows, cols, cells) refl
+
+-- the lines of a view that shows what a document shows
+pub lines-shown : (v : View) (doc : Document) → v.numbers ≡ numbers_of doc → v.text ≡ (shown doc).text → v.markers ≡ (shown doc).markers → v.runs ≡ (shown doc).runs
+    → v.intervals ≡ (shown doc).intervals → v.rows ≡ (shown doc).rows → v.cols ≡ (shown doc).cols → v.cells ≡ (shown doc).cells
+    → bytes_of (numbers_line v.numbers ∷ content_lines (content_of v)) ≡ bytes_of (view_lines doc)
+unfolding view_lines
+lines-shown v doc numbers text markers runs intervals rows cols cells =
+    ap (λ n. bytes_of (numbers_line n ∷ content_lines (content_of v))) numbers
+    ∙ ap (λ w. bytes_of (numbers_line (numbers_of doc) ∷ content_lines w)) (same_content v (shown doc) text markers runs intervals rows cols cells)

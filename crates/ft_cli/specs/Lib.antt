@@ -3,6 +3,7 @@ pub mod Refusals
 pub mod Walk
 pub mod Observation
 pub mod Statuses
+pub mod ViewLines
 pub mod Report
 pub mod Writing
 pub mod Run

@@ -22,7 +22,6 @@ cause_text (cause.Reversed a b) = codes "Reversed " ++ (signed_decimal a ++ (cod
 cause_text cause.CountLimit = codes "CountLimit"
 cause_text cause.NestedGroup = codes "NestedGroup"
 cause_text cause.UnknownWord = codes "UnknownWord"
-cause_text cause.NotBuilt = codes "NotBuilt"
 cause_text cause.OutOfMemory = codes "OutOfMemory"
 
 -- the refusal of a line that has no reading; too great a count is one of its own

@@ -1,29 +1,22 @@
 -- The report: what is written of an input. Every line of it ends with LF.
-use Rattle.std.specs.Prelude.{ℕ, ◌&&◌, ◌==◌, List, [], ◌∷◌, ◌++◌, Option, Some, None, codes, decimal, encode_utf8_all, if◌then◌else◌}
+use Rattle.std.specs.Prelude.{ℕ, ◌&&◌, ◌==◌, List, [], ◌∷◌, ◌++◌, Option, Some, None, codes, decimal, if◌then◌else◌}
 use Rattle.std.specs.List.{flat_map}
-use Rattle.json.specs.Print.{quoted}
 use Rattle.ft_io.specs.Lines.{lines, ended_lines, with_lf}
 use Rattle.ft_op.specs.Document.{Document}
 use Rattle.ft_msg.specs.Content.{shown}
+use Rattle.ft_plain.specs.Observer.{numbers_of}
 use Rattle.ft_cli.specs.declared.statuses.Status.{Status}
 use Rattle.ft_cli.specs.declared.statuses.Status.TheVariants.{Done, SomeRefused}
 use Rattle.ft_cli.specs.declared.words.Form.{Form}
 use Rattle.ft_cli.specs.declared.words.Form.TheVariants.{Log}
 use Rattle.ft_cli.specs.Words.{form_of}
+use Rattle.ft_cli.specs.ViewLines.{content_lines, numbers_line}
 use Rattle.ft_cli.specs.Walk.{Progress, begin, after_lines, written_by}
 use Rattle.ft_cli.specs.Observation.{Observation, nothing_observed, observe}
 
--- the numbers of a view
-abbrev pub numbers_line : Document → List ℕ
-numbers_line doc = codes "seq " ++ (decimal doc.number ++ (codes " min " ++ decimal doc.minimum))
-
--- the text of a view, as a JSON string
-abbrev pub text_line : Document → List ℕ
-text_line doc = codes "text " ++ encode_utf8_all (quoted (shown doc).text)
-
 -- the lines of an observer's view
 unfoldable pub view_lines : Document → List (List ℕ)
-view_lines doc = numbers_line doc ∷ text_line doc ∷ []
+view_lines doc = numbers_line (numbers_of doc) ∷ content_lines (shown doc)
 
 -- the last lines: how many lines were refused, how many sub-operations were skipped, and how many messages were for others
 unfoldable pub closing_lines : ℕ → Document → List (List ℕ)

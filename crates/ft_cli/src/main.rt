@@ -8,6 +8,8 @@
 #![tactic(auto)]
 
 pub mod observer;
+#[cfg(test)]
+mod operation_cases;
 pub mod refusals;
 pub mod replay;
 pub mod report;
@@ -15,6 +17,7 @@ pub mod running;
 pub mod statuses;
 #[cfg(test)]
 mod tests;
+pub mod view_lines;
 pub mod words;
 pub mod writing;
 

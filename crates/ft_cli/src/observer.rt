@@ -2,7 +2,6 @@
 
 ghost use Rattle.std.specs.Prelude.{◌≡◌, ℕ, ◌+◌, ◌-◌, ◌<◌, ◌≤◌, ◌^◌, List, IfOk, OnOk, OnErr, length, string_bytes};
 ghost use Rattle.ft_msg.specs.Client.{client_over};
-ghost use Rattle.ft_msg.specs.MessageGrammar.{IsBuilt};
 ghost use Rattle.ft_msg.specs.Process.{process};
 ghost use Rattle.ft_msg.specs.WellFormed.{HasNumbersInRange};
 ghost use Rattle.ft_plain.specs.Observer.{numbers_of};
@@ -10,7 +9,7 @@ ghost use Rattle.ft_cli.specs.Report.{bytes_of, view_lines};
 ghost use Rattle.ft_cli.specs.Observation.{entry_of, names_with, nothing_observed, observe, observe_answer, observe_message};
 
 use crate::refusals::Refusal;
-use crate::report::view_text;
+use crate::view_lines::view_text;
 use ft_base::OutOfMemory;
 use ft_msg::{Cause, Entry, Message, Names, Numbers, ProcessFault, read_message};
 use ft_plain::Plain;
@@ -86,7 +85,6 @@ impl Observer {
     fn take_message(&mut self, msg: Message) -> Result<Option<Refusal>, OutOfMemory>
         requires room { length self.old.names < 2 ^ 32 - 1 }
         requires in_range { HasNumbersInRange msg }
-        requires built { IsBuilt msg.body }
         ensures step { IfOk result (λ refusal. observe_message self.old msg ≡ record { made = self.new; refusal = refusal }) }
         ensures names { length self.new.names ≤ length self.old.names + 1 }
     {
@@ -111,8 +109,7 @@ fn number_sender(names: &mut Names, msg: Message) -> Result<Entry, OutOfMemory>
 
 // Gives the replica a message, and answers why it is refused, if it is.
 fn give(replica: &mut Plain, entry: &Entry) -> Result<Option<Refusal>, OutOfMemory>
-    requires in_range { HasNumbersInRange entry.now.msg }
-    requires built { IsBuilt entry.now.msg.body }
+    requires { HasNumbersInRange entry.now.msg }
     ensures { IfOk result (λ refusal. (names : List (List ℕ)) → observe_answer (record { names = names; doc = replica.old.doc })
         (process (client_over replica.old.doc) entry.now) ≡ record { made = record { names = names; doc = replica.new.doc }; refusal = refusal }) }
 {

@@ -54,7 +54,6 @@ impl fmt::Display for CauseText {
             Cause::CountLimit => write!(f, "CountLimit"),
             Cause::NestedGroup => write!(f, "NestedGroup"),
             Cause::UnknownWord => write!(f, "UnknownWord"),
-            Cause::NotBuilt => write!(f, "NotBuilt"),
             Cause::OutOfMemory => write!(f, "OutOfMemory"),
         }
     }

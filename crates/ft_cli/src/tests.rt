@@ -2,6 +2,7 @@
 
 ghost use Rattle.std.specs.Prelude.{◌≤◌};
 
+use crate::operation_cases::OPERATION_CASES;
 use crate::running::run;
 use crate::statuses::Status;
 use ft_base::OutOfMemory;
@@ -50,7 +51,7 @@ fn run_over(
     Ok(Outcome { status, sink })
 }
 
-const CASES: [Case; 8] = [
+const CASES: [Case; 7] = [
     Case {
         name: "an empty log has an empty text",
         words: &["log"],
@@ -108,14 +109,6 @@ const CASES: [Case; 8] = [
         output: "",
     },
     Case {
-        name: "the grid isn't built",
-        words: &["log"],
-        input: br#"{"clientId":"X","clientSequenceNumber":1,"contents":{"address":"grid","contents":{"count":1,"pos1":0,"target":"rows","type":0}},"minimumSequenceNumber":0,"referenceSequenceNumber":0,"sequenceNumber":1,"type":"op"}
-"#,
-        status: Status::SomeRefused,
-        output: "line 1 refused 1 Malformed NotBuilt\nseq 0 min 0\ntext \"\"\nrefused 1\nskipped 0\nother 0\n",
-    },
-    Case {
         name: "each refusal names its line and its first fault; blank lines count; the last line needs no LF",
         words: &["log"],
         input: b" \t\r\n\xff\n{\n7\n\
@@ -150,6 +143,22 @@ fn runs_come_to_what_the_table_says(rt: HostRuntime) -> Result<(), Fail> {
                 case.name
             );
         }
+    }
+    Ok(())
+}
+
+#[test]
+fn every_operation_shows_in_the_report(rt: HostRuntime) -> Result<(), Fail> {
+    for case in &OPERATION_CASES {
+        let input = Vec::from_slice(rt.alloc(), case.log.as_bytes())?;
+        let outcome = run_over(rt.alloc(), &["log"], input, 65_536, &[], &[])?;
+        assert_eq!(rt; outcome.status, case.status, "{}", case.name);
+        assert_eq!(rt;
+            outcome.sink.taken(),
+            case.report.as_bytes(),
+            "{}",
+            case.name
+        );
     }
     Ok(())
 }

@@ -1,5 +1,5 @@
 -- What a table of names, each under its own characters, says of the numbers of names.
-use Rattle.std.proofs.Common.{◌≡◌, ℕ, zero, suc, ◌+◌, ◌-◌, ◌≤◌, ◌<◌, Bool, true, false, not, cond, List, [], ◌∷◌, ◌++◌, ◌||◌, length, get_or, Option, Some, None, Result, Ok, Err, OnOk, OnErr, ◌⊎◌, inl, inr, String, Global, string_bytes, position, slice_get, chars, bytes_eq, nat_lt, Contains, refl, sym, ap, ◌∙◌, subst, arith, ltb-true, lt-ltb}
+use Rattle.std.proofs.Common.{◌≡◌, ℕ, zero, suc, ◌+◌, ◌-◌, ◌≤◌, ◌<◌, Bool, true, false, not, cond, List, [], ◌∷◌, ◌++◌, ◌||◌, length, get_or, Option, Some, None, Result, Ok, Err, OnOk, OnErr, ◌⊎◌, inl, inr, String, Global, string_bytes, position, slice_get, chars, bytes_eq, nat_lt, Contains, refl, sym, ap, ◌∙◌, arith, ltb-true}
 use Rattle.std.proofs.lemmas.Bool.{ltb-false}
 use Rattle.std.proofs.lemmas.Option.{slice_get-map}
 use Rattle.std.proofs.lemmas.Slice.Eq.{bytes_eq-Decides}

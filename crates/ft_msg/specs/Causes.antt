@@ -24,7 +24,6 @@ cause_of_op op.CountLimit = cause.CountLimit
 cause_of_op op.NestedGroup = cause.NestedGroup
 cause_of_op op.Fraction = cause.Fraction
 cause_of_op op.TooDeep = cause.TooDeep
-cause_of_op op.NotBuilt = cause.NotBuilt
 cause_of_op op.OutOfMemory = cause.OutOfMemory
 
 -- the fault of a text, as a cause

@@ -15,3 +15,6 @@ pub mod NameTable
 pub mod WellFormed
 pub mod Causes
 pub mod MessageGrammar
+pub mod Representable
+pub mod Written
+pub mod Laws

@@ -1,5 +1,5 @@
 -- The numbers of names: 1, 2, 3 and so on in the order of their first appearance.
-use Rattle.std.specs.Prelude.{◌≡◌, ℕ, suc, zero, Bool, true, false, List, [], ◌∷◌, ◌++◌, Option, Some, None, String, bytes_eq, chars, cond, slice_get, string_bytes, ⊤}
+use Rattle.std.specs.Prelude.{◌≡◌, ℕ, suc, zero, false, List, [], ◌∷◌, Option, None, String, bytes_eq, chars, cond, slice_get, string_bytes, ⊤}
 use Rattle.std.specs.List.{list_any}
 use Rattle.std.specs.declared.alloc.Global.{Global}
 

@@ -30,8 +30,6 @@ pub enum Cause {
     NestedGroup,
     /// No event has this word.
     UnknownWord,
-    /// The form is one that isn't read yet.
-    NotBuilt,
     /// There was no memory.
     OutOfMemory,
 }
@@ -95,7 +93,6 @@ impl From<OpFault> for Cause {
             OpFault::NestedGroup => Cause::NestedGroup,
             OpFault::Fraction => Cause::Fraction,
             OpFault::TooDeep => Cause::TooDeep,
-            OpFault::NotBuilt => Cause::NotBuilt,
             OpFault::OutOfMemory => Cause::OutOfMemory,
         }
     }

@@ -1,28 +1,28 @@
-//! Reading messages.
+//! Reading messages and drafts.
 
-ghost use Rattle.std.specs.Prelude.{◌≡◌, ◌≢◌, Ok, Err, IfOk, IfErr, option_map};
+ghost use Rattle.std.specs.Prelude.{◌≡◌, ◌≢◌, Ok, Err, IfOk, IfErr, chars, option_map};
 ghost use Rattle.serde_json.specs.View.{view};
-ghost use Rattle.ft_msg.specs.MessageGrammar.{addressed, body_of, client_name, contents_of, inner_contents, message, message_of, text_body, IsBuilt};
-ghost use Rattle.ft_op.specs.TextGrammar.{text_op};
-ghost use Rattle.ft_msg.specs.WellFormed.{HasNumbersInRange};
+ghost use Rattle.ft_msg.specs.MessageGrammar.{body_of, draft, draft_body, draft_of, is_op, kind_of, message, message_of, op_body, sender_of};
+ghost use Rattle.ft_msg.specs.WellFormed.{HasNumbersInRange, IsWellFormedBody, IsWellFormedDraft, IsWellFormedMessage};
 
+use crate::contents::read_op_body;
 use crate::faults::Cause;
-use crate::messages::{Body, Message, MsgKind};
-use ft_base::Text;
-use ft_json::{Field, count_field, field, given_field, num_field, read_line, str_field};
-use ft_op::{ChannelOp, is_object, read_text_op};
+use crate::messages::{Body, Draft, Message, MsgKind};
+use ft_base::{OutOfMemory, Text};
+use ft_json::{Field, count_field, given_field, num_field, read_line, str_field};
+use ft_op::is_object;
 use serde_json::Value;
 use std::alloc::Global;
 
 /// The sequenced message that the bytes are.
 ///
-/// Answers the first fault in the order in which its fields are tested, and `OutOfMemory` where there
-/// is no room for it.
+/// What is read is well formed. Answers the first fault in the order in which its fields are tested,
+/// and `OutOfMemory` where there is no room for it.
 #[tactic(auto, unfolding(crate::specs::MessageGrammar::message))]
 pub fn read_message(alloc: Global, bytes: &[u8]) -> Result<Message, Cause>
     ensures ok { IfOk result (λ m. message bytes.now ≡ Ok m) }
     ensures err { IfErr result (λ cause. cause ≢ Cause.OutOfMemory → message bytes.now ≡ Err cause) }
-    ensures built { IfOk result (λ m. IsBuilt m.body) }
+    ensures formed { IfOk result IsWellFormedMessage }
     ensures in_range { IfOk result HasNumbersInRange }
 {
     let value = read_line(alloc, bytes)?;
@@ -34,6 +34,7 @@ pub fn read_message(alloc: Global, bytes: &[u8]) -> Result<Message, Cause>
 fn read_message_value(alloc: Global, value: &Value) -> Result<Message, Cause>
     ensures ok { IfOk result (λ m. message_of (view value.now) ≡ Ok m) }
     ensures err { IfErr result (λ cause. cause ≢ Cause.OutOfMemory → message_of (view value.now) ≡ Err cause) }
+    ensures body { IfOk result (λ m. IsWellFormedBody m.body) }
 {
     if !is_object(value) {
         return Err(Cause::WrongKind(Field::Message));
@@ -42,78 +43,111 @@ fn read_message_value(alloc: Global, value: &Value) -> Result<Message, Cause>
     let min = count_field(value, Field::MinimumSequenceNumber)?;
     let client_seq = num_field(value, Field::ClientSequenceNumber)?;
     let ref_seq = num_field(value, Field::ReferenceSequenceNumber)?;
-    if str_field(value, Field::Kind)? != "op" {
-        return Err(Cause::NotBuilt);
-    }
-    let name = read_client_name(alloc, given_field(value, Field::ClientId))?;
-    let body = read_body(alloc, field(value, Field::Contents))?;
+    let kind = read_kind(alloc, str_field(value, Field::Kind)?)?;
+    let client_id = read_sender(alloc, &kind, given_field(value, Field::ClientId))?;
+    let body = read_body(alloc, &kind, value)?;
     Ok(Message {
-        client_id: Some(name),
+        client_id,
         seq,
         min,
         client_seq,
         ref_seq,
-        kind: MsgKind::Op,
+        kind,
         body,
     })
 }
 
-/// The name of the connection of an operation.
-fn read_client_name(alloc: Global, name: Option<&Value>) -> Result<Text, Cause>
-    ensures ok { IfOk result (λ read. client_name (option_map (λ d. view d.now) name.entry) ≡ Ok read) }
-    ensures err { IfErr result (λ cause. cause ≢ Cause.OutOfMemory → client_name (option_map (λ d. view d.now) name.entry) ≡ Err cause) }
+/// The kind of a message, by its word.
+fn read_kind(alloc: Global, word: &str) -> Result<MsgKind, OutOfMemory>
+    ensures { IfOk result (λ kind. kind ≡ kind_of (chars word.now)) }
 {
-    let name = name.ok_or(Cause::WrongKind(Field::ClientId))?;
-    let name = name.as_str().ok_or(Cause::WrongKind(Field::ClientId))?;
-    Ok(Text::new(alloc, name)?)
-}
-
-/// The body of a message.
-fn read_body(alloc: Global, contents: Option<&Value>) -> Result<Body, Cause>
-    ensures ok { IfOk result (λ body. body_of (option_map (λ d. view d.now) contents.entry) ≡ Ok body) }
-    ensures err { IfErr result (λ cause. cause ≢ Cause.OutOfMemory → body_of (option_map (λ d. view d.now) contents.entry) ≡ Err cause) }
-{
-    read_contents(alloc, contents.ok_or(Cause::Missing(Field::Contents))?)
-}
-
-/// The body that contents are.
-fn read_contents(alloc: Global, contents: &Value) -> Result<Body, Cause>
-    ensures ok { IfOk result (λ body. contents_of (view contents.now) ≡ Ok body) }
-    ensures err { IfErr result (λ cause. cause ≢ Cause.OutOfMemory → contents_of (view contents.now) ≡ Err cause) }
-{
-    if !is_object(contents) {
-        return Err(Cause::WrongKind(Field::Contents));
-    }
-    match field(contents, Field::Address) {
-        Some(address) => read_addressed(alloc, contents, address),
-        None => read_text_body(alloc, contents),
+    match word {
+        "op" => Ok(MsgKind::Op),
+        "join" => Ok(MsgKind::Join),
+        "leave" => Ok(MsgKind::Leave),
+        "noop" => Ok(MsgKind::Noop),
+        _ => Ok(MsgKind::Other(Text::new(alloc, word)?)),
     }
 }
 
-/// The body that contents for this address are.
-fn read_addressed(alloc: Global, contents: &Value, address: &Value) -> Result<Body, Cause>
-    ensures ok { IfOk result (λ body. addressed (view contents.now) (view address.now) ≡ Ok body) }
-    ensures err { IfErr result (λ cause. cause ≢ Cause.OutOfMemory → addressed (view contents.now) (view address.now) ≡ Err cause) }
+/// Whether it is the kind of an operation. It takes no memory.
+fn is_op(kind: &MsgKind) -> bool
+    ensures { result ≡ is_op kind.now }
 {
-    match address.as_str() {
-        Some("text") => read_inner_contents(alloc, field(contents, Field::Contents)),
-        Some(_) => Err(Cause::NotBuilt),
-        None => Err(Cause::WrongKind(Field::Address)),
+    matches!(kind, MsgKind::Op)
+}
+
+/// The name of the connection that sent a message of this kind: none where the field isn't given,
+/// which is a fault for an operation.
+fn read_sender(alloc: Global, kind: &MsgKind, name: Option<&Value>) -> Result<Option<Text>, Cause>
+    ensures ok { IfOk result (λ sender. sender_of kind.now (option_map (λ d. view d.now) name.entry) ≡ Ok sender) }
+    ensures err { IfErr result (λ cause. cause ≢ Cause.OutOfMemory → sender_of kind.now (option_map (λ d. view d.now) name.entry) ≡ Err cause) }
+{
+    match name {
+        Some(name) => {
+            let name = name.as_str().ok_or(Cause::WrongKind(Field::ClientId))?;
+            Ok(Some(Text::new(alloc, name)?))
+        }
+        None if is_op(kind) => Err(Cause::WrongKind(Field::ClientId)),
+        None => Ok(None),
     }
 }
 
-/// The contents for the text's address.
-fn read_inner_contents(alloc: Global, contents: Option<&Value>) -> Result<Body, Cause>
-    ensures ok { IfOk result (λ body. inner_contents (option_map (λ d. view d.now) contents.entry) ≡ Ok body) }
-    ensures err { IfErr result (λ cause. cause ≢ Cause.OutOfMemory → inner_contents (option_map (λ d. view d.now) contents.entry) ≡ Err cause) }
+/// The body of a message of this kind.
+fn read_body(alloc: Global, kind: &MsgKind, value: &Value) -> Result<Body, Cause>
+    ensures ok { IfOk result (λ body. body_of kind.now (view value.now) ≡ Ok body) }
+    ensures err { IfErr result (λ cause. cause ≢ Cause.OutOfMemory → body_of kind.now (view value.now) ≡ Err cause) }
+    ensures formed { IfOk result IsWellFormedBody }
 {
-    read_text_body(alloc, contents.ok_or(Cause::Missing(Field::Contents))?)
+    if !is_op(kind) {
+        return Ok(Body::Nothing);
+    }
+    read_op_body(alloc, value)
 }
 
-/// The operation of the text, as a body.
-fn read_text_body(alloc: Global, contents: &Value) -> Result<Body, Cause>
-    ensures ok { IfOk result (λ body. text_body (text_op (view contents.now)) ≡ Ok body) }
-    ensures err { IfErr result (λ cause. cause ≢ Cause.OutOfMemory → text_body (text_op (view contents.now)) ≡ Err cause) }
+/// The draft that the bytes are.
+///
+/// What is read is well formed. Answers the first fault in the order in which its fields are tested,
+/// and `OutOfMemory` where there is no room for it.
+#[tactic(auto, unfolding(crate::specs::MessageGrammar::draft))]
+pub fn read_draft(alloc: Global, bytes: &[u8]) -> Result<Draft, Cause>
+    ensures ok { IfOk result (λ read. draft bytes.now ≡ Ok read) }
+    ensures err { IfErr result (λ cause. cause ≢ Cause.OutOfMemory → draft bytes.now ≡ Err cause) }
+    ensures formed { IfOk result IsWellFormedDraft }
 {
-    Ok(Body::Op(ChannelOp::Text(read_text_op(alloc, contents)?)))
+    let value = read_line(alloc, bytes)?;
+    read_draft_value(alloc, &value)
+}
+
+/// The draft that the value is.
+#[tactic(auto, unfolding(crate::specs::MessageGrammar::draft_of))]
+fn read_draft_value(alloc: Global, value: &Value) -> Result<Draft, Cause>
+    ensures ok { IfOk result (λ read. draft_of (view value.now) ≡ Ok read) }
+    ensures err { IfErr result (λ cause. cause ≢ Cause.OutOfMemory → draft_of (view value.now) ≡ Err cause) }
+    ensures body { IfOk result (λ read. IsWellFormedBody read.body) }
+{
+    if !is_object(value) {
+        return Err(Cause::WrongKind(Field::Message));
+    }
+    let client_seq = count_field(value, Field::ClientSequenceNumber)?;
+    let ref_seq = count_field(value, Field::ReferenceSequenceNumber)?;
+    let word = str_field(value, Field::Kind)?;
+    Ok(Draft {
+        client_seq,
+        ref_seq,
+        body: read_draft_body(alloc, value, word)?,
+    })
+}
+
+/// The body of a draft of this type.
+fn read_draft_body(alloc: Global, value: &Value, word: &str) -> Result<Body, Cause>
+    ensures ok { IfOk result (λ body. draft_body (view value.now) word.now ≡ Ok body) }
+    ensures err { IfErr result (λ cause. cause ≢ Cause.OutOfMemory → draft_body (view value.now) word.now ≡ Err cause) }
+    ensures formed { IfOk result IsWellFormedBody }
+{
+    match word {
+        "op" => read_op_body(alloc, value),
+        "noop" => Ok(Body::Nothing),
+        _ => Err(Cause::WrongKind(Field::Kind)),
+    }
 }

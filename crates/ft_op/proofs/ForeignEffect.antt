@@ -15,7 +15,7 @@ use Rattle.ft_base.specs.Scan.{at}
 use Rattle.ft_props.proofs.SequencedElements.{after_insertion-sequenced, after_removal-sequenced, at-sequenced, len-sequenced, map-id, sees-sequenced, slide-sequenced}
 use Rattle.ft_props.specs.Properties.{ValueBytes, apply}
 use Rattle.ft_props.specs.Element.{ListElement, id, GridUnit, seen_by, is_sequenced, without_pending, sequenced_elements, with_annotation}
-use Rattle.ft_props.specs.Steps.{Sequence, after_insertion, after_removal, sequenced_list}
+use Rattle.ft_props.specs.Steps.{Sequence, after_removal, sequenced_list}
 use Rattle.ft_op.specs.Operation.{SubOperation, OnText, OnIntervals, OnGrid, segment_contents}
 use Rattle.ft_op.specs.Intervals.{Interval, slide_ends, element_at_end, after_interval_operation}
 use Rattle.ft_op.specs.Document.{Document, with_slid_ends, text_effect, interval_effect, grid_effect, cell_effect, effect, effects, ends_of, given_ends_fit, elements_at_given_ends, rows_or_cols, with_rows_or_cols, sequenced_part}

@@ -1,1 +1,16 @@
 pub mod ForeignEffect
+pub mod WrittenPairs
+pub mod WrittenIntervals
+pub mod ReadNumbers
+pub mod ReadSteps
+pub mod ReadValues
+pub mod ReadLists
+pub mod ReadEntries
+pub mod WrittenFields
+pub mod CanonicalOperations
+pub mod LevelsOfOperations
+pub mod ReadFields
+pub mod ReadProperties
+pub mod ReadText
+pub mod ReadGrid
+pub mod ReadOperations

@@ -3,7 +3,7 @@
 ghost use Rattle.std.specs.Prelude.{◌≡◌, ◌↔◌, [], ◌∷◌, ◌++◌, IsTrue, OnOk, OnErr, length, slice_get, option_copied};
 
 use ft_base::{OutOfMemory, Text};
-use ft_json::{Field, FieldFault, ValText};
+use ft_json::{Field, FieldFault, JsonFault, ValText};
 use ft_props::{Changes, PropSet};
 use std::alloc::Global;
 use std::marker::Model;
@@ -102,6 +102,11 @@ impl BaseOps {
         ensures { result.now ≡ self.now }
     {
         self.items.as_slice()
+    }
+
+    /// Where the list takes its memory.
+    pub(crate) fn allocator(&self) -> Global {
+        *self.items.allocator()
     }
 }
 
@@ -235,6 +240,11 @@ impl CellOps {
     {
         self.items.as_slice()
     }
+
+    /// Where the list takes its memory.
+    pub(crate) fn allocator(&self) -> Global {
+        *self.items.allocator()
+    }
 }
 
 /// An operation of the grid.
@@ -272,8 +282,6 @@ pub enum OpFault {
     Fraction,
     /// A value has more than 100 levels.
     TooDeep,
-    /// The form is one that isn't read yet.
-    NotBuilt,
     /// There was no memory.
     OutOfMemory,
 }
@@ -300,6 +308,22 @@ impl From<FieldFault> for OpFault {
             FieldFault::Missing(field) => OpFault::Missing(field),
             FieldFault::WrongKind(field) => OpFault::WrongKind(field),
             FieldFault::OutOfMemory => OpFault::OutOfMemory,
+        }
+    }
+}
+
+impl From<JsonFault> for OpFault {
+    ghost use Rattle.std.specs.Prelude.{◌≡◌};
+    ghost use Rattle.ft_op.specs.Faults.{value_fault};
+
+    ghost from_gives = { λ fault made. made ≡ value_fault fault };
+
+    fn from(fault: JsonFault) -> OpFault {
+        match fault {
+            JsonFault::TooDeep => OpFault::TooDeep,
+            JsonFault::OutOfMemory => OpFault::OutOfMemory,
+            // A value has no fault of the text that it was read from.
+            JsonFault::Fraction | JsonFault::NotUtf8 | JsonFault::NotJson => OpFault::Fraction,
         }
     }
 }

@@ -1,34 +1,19 @@
-//! Reading operations from JSON values.
+//! What operations of the text and of the grid have in common: ranges, values and properties.
 
-ghost use Rattle.std.specs.Prelude.{◌≡◌, ◌≢◌, ◌<◌, ◌^◌, pos, Ok, Err, IfOk, IfErr, option_map};
+ghost use Rattle.std.specs.Prelude.{◌≡◌, ◌≢◌, ◌<◌, ◌^◌, pos, Ok, Err, Some, IfOk, IfErr};
 ghost use Rattle.serde_json.specs.View.{view};
-ghost use Rattle.ft_op.specs.TextGrammar.{base_op, insertion, is_object, range, removal, segment, text_op};
+ghost use Rattle.ft_json.specs.Canonical.{IsTextWithin};
+ghost use Rattle.ft_json.specs.Objects.{entry_pairs};
+ghost use Rattle.ft_json.specs.Reading.{read_line};
+ghost use Rattle.ft_op.specs.Reading.{given_properties, is_object, kept_value, property_set_of, range, set_value};
+ghost use Rattle.ft_op.specs.WellFormed.{IsPropertySet, IsSetValue};
 
-use crate::operations::{BaseOp, OpFault, Seg, TextOp};
+use crate::operations::OpFault;
 use ft_base::Text;
-use ft_json::{Field, count_field, field};
+use ft_json::{Field, ValText, canonical, count_field, given_field, pairs};
 use ft_props::PropSet;
-use serde_json::Value;
+use serde_json::{Map, Value};
 use std::alloc::Global;
-
-/// The operation of the text that the value is.
-///
-/// Answers the first fault in the order in which its fields are tested, and `OutOfMemory` where there
-/// is no room for its texts.
-#[tactic(auto, unfolding(crate::specs::TextGrammar::text_op))]
-pub fn read_text_op(alloc: Global, value: &Value) -> Result<TextOp, OpFault>
-    ensures ok { IfOk result (λ op. text_op (view value.now) ≡ Ok op) }
-    ensures err { IfErr result (λ fault. fault ≢ OpFault.OutOfMemory → text_op (view value.now) ≡ Err fault) }
-{
-    if !is_object(value) {
-        return Err(OpFault::WrongKind(Field::Contents));
-    }
-    if field(value, Field::Interval).is_some() {
-        return Err(OpFault::NotBuilt);
-    }
-    let kind = count_field(value, Field::Kind)?;
-    Ok(TextOp::One(read_base_op(alloc, value, kind)?))
-}
 
 /// Whether the value is an object. It takes no memory.
 pub fn is_object(value: &Value) -> bool
@@ -37,58 +22,9 @@ pub fn is_object(value: &Value) -> bool
     value.is_object()
 }
 
-/// The operation of this type that may stand in a group.
-fn read_base_op(alloc: Global, value: &Value, kind: u64) -> Result<BaseOp, OpFault>
-    ensures ok { IfOk result (λ op. base_op (view value.now) kind ≡ Ok op) }
-    ensures err { IfErr result (λ fault. fault ≢ OpFault.OutOfMemory → base_op (view value.now) kind ≡ Err fault) }
-{
-    match kind {
-        0 => read_insertion(alloc, value),
-        1 => read_removal(value),
-        2 | 3 => Err(OpFault::NotBuilt),
-        _ => Err(OpFault::UnknownType(kind)),
-    }
-}
-
-/// The insertion that the object is.
-fn read_insertion(alloc: Global, value: &Value) -> Result<BaseOp, OpFault>
-    ensures ok { IfOk result (λ op. insertion (view value.now) ≡ Ok op) }
-    ensures err { IfErr result (λ fault. fault ≢ OpFault.OutOfMemory → insertion (view value.now) ≡ Err fault) }
-{
-    let pos = count_field(value, Field::Pos1)?;
-    let seg = read_segment(alloc, field(value, Field::Seg))?;
-    Ok(BaseOp::Insert {
-        pos,
-        seg,
-        props: PropSet::new(alloc),
-    })
-}
-
-/// The segment of an insertion.
-fn read_segment(alloc: Global, seg: Option<&Value>) -> Result<Seg, OpFault>
-    ensures ok { IfOk result (λ made. segment (option_map (λ d. view d.now) seg.entry) ≡ Ok made) }
-    ensures err { IfErr result (λ fault. fault ≢ OpFault.OutOfMemory → segment (option_map (λ d. view d.now) seg.entry) ≡ Err fault) }
-{
-    let seg = seg.ok_or(OpFault::Missing(Field::Seg))?;
-    if is_object(seg) {
-        return Err(OpFault::NotBuilt);
-    }
-    let text = seg.as_str().ok_or(OpFault::WrongKind(Field::Seg))?;
-    Ok(Seg::Chars {
-        text: Text::new(alloc, text)?,
-    })
-}
-
-/// The removal that the object is. It takes no memory.
-fn read_removal(value: &Value) -> Result<BaseOp, OpFault>
-    ensures { result ≡ removal (view value.now) }
-{
-    let (pos1, pos2) = read_range(value)?;
-    Ok(BaseOp::Remove { pos1, pos2 })
-}
-
 /// The range of an operation. It takes no memory.
-fn read_range(value: &Value) -> Result<(u64, u64), OpFault>
+#[tactic(auto, unfolding(crate::specs::Reading::range))]
+pub(crate) fn read_range(value: &Value) -> Result<(u64, u64), OpFault>
     ensures { result ≡ range (view value.now) }
 {
     let pos1 = count_field(value, Field::Pos1)?;
@@ -109,4 +45,58 @@ fn reversed(first: u64, second: u64) -> OpFault
         pos1: first as i64,
         pos2: second as i64,
     }
+}
+
+/// The text of a value of a property or a cell.
+#[tactic(auto, unfolding(crate::specs::Reading::kept_value))]
+pub(crate) fn read_kept_value(alloc: Global, value: &Value) -> Result<ValText, OpFault>
+    ensures ok { IfOk result (λ text. kept_value (view value.now) ≡ Ok text) }
+    ensures err { IfErr result (λ fault. fault ≢ OpFault.OutOfMemory → kept_value (view value.now) ≡ Err fault) }
+    ensures kept { IfOk result (IsTextWithin 100) }
+    ensures reads_back { IfOk result (λ text. read_line text ≡ Ok (view value.now)) }
+{
+    Ok(canonical(alloc, value)?)
+}
+
+/// The value that a key is set to, none for null.
+#[tactic(auto, unfolding(crate::specs::Reading::set_value))]
+fn read_set_value(alloc: Global, value: &Value) -> Result<Option<ValText>, OpFault>
+    ensures ok { IfOk result (λ read. set_value (view value.now) ≡ Ok read) }
+    ensures err { IfErr result (λ fault. fault ≢ OpFault.OutOfMemory → set_value (view value.now) ≡ Err fault) }
+    ensures formed { IfOk result IsSetValue }
+{
+    if value.is_null() {
+        return Ok(None);
+    }
+    Ok(Some(read_kept_value(alloc, value)?))
+}
+
+/// The properties of the field `props`: none where it is absent or null.
+#[tactic(auto, unfolding(crate::specs::Reading::given_properties))]
+pub(crate) fn read_given_properties(alloc: Global, value: &Value) -> Result<PropSet, OpFault>
+    ensures ok { IfOk result (λ set. given_properties (view value.now) ≡ Ok set) }
+    ensures err { IfErr result (λ fault. fault ≢ OpFault.OutOfMemory → given_properties (view value.now) ≡ Err fault) }
+    ensures formed { IfOk result IsPropertySet }
+{
+    match given_field(value, Field::Props) {
+        Some(props) => read_property_set(
+            alloc,
+            pairs(props).ok_or(OpFault::WrongKind(Field::Props))?,
+        ),
+        None => Ok(PropSet::new(alloc)),
+    }
+}
+
+/// The properties of the entries of an object.
+fn read_property_set(alloc: Global, entries: &Map<String, Value>) -> Result<PropSet, OpFault>
+    ensures ok { IfOk result (λ set. property_set_of (Some (entry_pairs entries.now.entries)) ≡ Ok set) }
+    ensures err { IfErr result (λ fault. fault ≢ OpFault.OutOfMemory → property_set_of (Some (entry_pairs entries.now.entries)) ≡ Err fault) }
+    ensures formed { IfOk result IsPropertySet }
+{
+    let mut set = PropSet::new(alloc);
+    for (key, value) in entries.iter() {
+        let value = read_set_value(alloc, value)?;
+        set.put(Text::new(alloc, key.as_str())?, value)?;
+    }
+    Ok(set)
 }

@@ -1,2 +1,7 @@
+pub mod BackwardRuns
+pub mod PlacedCell
 pub mod PlacedList
 pub mod PushedCharacter
+pub mod RisingPlace
+pub mod ShownCells
+pub mod SlidEnd

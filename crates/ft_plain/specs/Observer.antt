@@ -21,6 +21,12 @@ pub record KeepsNumbers (old new : Document) : Type 0 where
   pub skipped : new.skipped ≡ old.skipped
   pub other : new.other ≡ old.other
 
+-- the last number, the last minimum and the count of messages for others are as in the first document
+pub record KeepsMessageNumbers (old new : Document) : Type 0 where
+  pub number : new.number ≡ old.number
+  pub minimum : new.minimum ≡ old.minimum
+  pub other : new.other ≡ old.other
+
 -- the answer to the next message: Ok where the client over its document takes it, and then the document is that client's; the
 -- client's refusal, and then nothing changed; want of memory, and then it has stopped with its numbers as they were; or that
 -- it had stopped before, and then nothing changed

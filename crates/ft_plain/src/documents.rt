@@ -1,35 +1,37 @@
 //! The document of a plain replica, and what sequenced messages make of it.
 
-ghost use Rattle.std.specs.Prelude.{◌≡◌, [], ◌<◌, ◌^◌, Some, IfOk, OnOk, OnErr, chars, map, pos};
-ghost use Rattle.ft_op.specs.declared.operations.ChannelOp.TheVariants.{Text as OnText};
-ghost use Rattle.ft_op.specs.declared.operations.TextOp.TheVariants.{One};
-ghost use Rattle.ft_op.specs.Operation.{segment_contents, sub_operations};
-ghost use Rattle.ft_op.specs.Document.{effects, empty, text_effect, with_skip};
-ghost use Rattle.ft_msg.specs.declared.messages.Body.TheVariants.{Op};
+ghost use Rattle.std.specs.Prelude.{◌≡◌, ◌<◌, ◌^◌, Some, OnOk, OnErr, pos};
+ghost use Rattle.ft_op.specs.Operation.{sub_operations};
+ghost use Rattle.ft_op.specs.Document.{effects, empty, with_skip};
 ghost use Rattle.ft_msg.specs.Agreed.{body_effect, reference_number, take_entry};
 ghost use Rattle.ft_msg.specs.Client.{client_over};
-ghost use Rattle.ft_msg.specs.MessageGrammar.{IsBuilt};
 ghost use Rattle.ft_msg.specs.Process.{numbers_fault, process_fault};
 ghost use Rattle.ft_msg.specs.WellFormed.{HasNumbersInRange};
-ghost use Rattle.ft_plain.specs.Contents.{content_of};
-ghost use Rattle.ft_plain.specs.Observer.{KeepsNumbers, numbers_of};
+ghost use Rattle.ft_plain.specs.Observer.{KeepsMessageNumbers, KeepsNumbers, numbers_of};
 
-use crate::elements::{Content, PlainElement};
+mod grid_effects;
+mod interval_effects;
+mod text_effects;
+
+use crate::cells::PlainCells;
+use crate::elements::PlainElement;
+use crate::intervals::{PlainInterval, PlainIntervals};
 use crate::lists::PlainList;
-use ft_base::{OutOfMemory, Perspective, Stamp};
+use ft_base::{OutOfMemory, Perspective};
 use ft_json::Field;
 use ft_msg::{Body, Entry, Link, MsgKind, Numbers, ProcessFault};
-use ft_op::{BaseOp, ChannelOp, Seg, TextOp};
+use ft_op::ChannelOp;
 use std::alloc::Global;
 use std::marker::Model;
 
-/// A document, which contracts see as that of the definitions. So far it has no intervals and no
-/// cells.
+/// A document, which contracts see as that of the definitions.
 #[derive(Drop)]
 pub struct PlainDocument {
     text: PlainList,
     rows: PlainList,
     cols: PlainList,
+    intervals: PlainIntervals,
+    cells: PlainCells,
     skipped: u64,
     other: u64,
     number: u64,
@@ -37,12 +39,12 @@ pub struct PlainDocument {
 }
 
 impl Model for PlainDocument {
-    ghost use Rattle.std.specs.Prelude.{[], ◌<◌, ◌^◌};
+    ghost use Rattle.std.specs.Prelude.{◌<◌, ◌^◌};
     ghost use Rattle.ft_op.specs.Document.{Document};
 
     ghost Value = { Document };
 
-    ghost view = { λ a. record { text = a.text; rows = a.rows; cols = a.cols; intervals = []; cells = []; skipped = a.skipped; other = a.other; number = a.number; minimum = a.minimum } };
+    ghost view = { λ a. record { text = a.text; rows = a.rows; cols = a.cols; intervals = a.intervals; cells = a.cells; skipped = a.skipped; other = a.other; number = a.number; minimum = a.minimum } };
 
     ghost invariant = { λ a. (a.number < 2 ^ 53) × (a.minimum < 2 ^ 53) };
 }
@@ -56,6 +58,8 @@ impl PlainDocument {
             text: PlainList::new(alloc),
             rows: PlainList::new(alloc),
             cols: PlainList::new(alloc),
+            intervals: PlainIntervals::new(alloc),
+            cells: PlainCells::new(alloc),
             skipped: 0,
             other: 0,
             number: 0,
@@ -80,6 +84,34 @@ impl PlainDocument {
         ensures { result.now ≡ self.now.text.items }
     {
         self.text.as_slice()
+    }
+
+    /// The units of the rows, removed ones included. It takes no memory.
+    pub fn rows(&self) -> &[PlainElement]
+        ensures { result.now ≡ self.now.rows.items }
+    {
+        self.rows.as_slice()
+    }
+
+    /// The units of the columns, removed ones included. It takes no memory.
+    pub fn cols(&self) -> &[PlainElement]
+        ensures { result.now ≡ self.now.cols.items }
+    {
+        self.cols.as_slice()
+    }
+
+    /// The intervals by rising label and id. It takes no memory.
+    pub fn intervals(&self) -> &[PlainInterval]
+        ensures { result.now ≡ self.now.intervals }
+    {
+        self.intervals.as_slice()
+    }
+
+    /// The cells that have a value. It takes no memory.
+    pub fn cells(&self) -> &PlainCells
+        ensures { result.now ≡ self.now.cells }
+    {
+        &self.cells
     }
 
     /// The numbers of an observer over it. It takes no memory.
@@ -152,19 +184,22 @@ impl PlainDocument {
 
     /// Takes an entry.
     ///
-    /// Answers `OutOfMemory` where there is no room, and then the numbers are as they were, but
-    /// nothing is said of the rest.
+    /// Answers `OutOfMemory` where there is no room, or a count would pass 2^64 - 1, and then the
+    /// numbers are as they were, but nothing is said of the rest.
     pub fn take(&mut self, entry: &Entry) -> Result<(), OutOfMemory>
-        requires in_range { HasNumbersInRange entry.now.msg }
-        requires built { IsBuilt entry.now.msg.body }
+        requires { HasNumbersInRange entry.now.msg }
         ensures ok { OnOk result (self.new ≡ take_entry self.old entry.now) }
         ensures err { OnErr result (KeepsNumbers self.old self.new) }
     {
+        let skipped = self.skipped;
         let at = Perspective {
             r: reference_number(entry.msg.ref_seq),
             c: entry.origin,
         };
-        self.take_body(&entry.msg.body, entry.msg.seq, at)?;
+        if self.take_body(&entry.msg.body, entry.msg.seq, at).is_err() {
+            self.skipped = skipped;
+            return Err(OutOfMemory);
+        }
         self.number = entry.msg.seq;
         self.minimum = entry.msg.min;
         Ok(())
@@ -172,9 +207,8 @@ impl PlainDocument {
 
     /// Takes the body of a message with number `seq`.
     fn take_body(&mut self, body: &Body, seq: u64, at: Perspective) -> Result<(), OutOfMemory>
-        requires { IsBuilt body.now }
         ensures ok { OnOk result (self.new ≡ body_effect self.old seq at.c at.r body.now) }
-        ensures err { OnErr result (KeepsNumbers self.old self.new) }
+        ensures err { OnErr result (KeepsMessageNumbers self.old self.new) }
     {
         match body {
             Body::Nothing => Ok(()),
@@ -188,57 +222,13 @@ impl PlainDocument {
 
     /// Applies an operation under number `seq`.
     fn apply(&mut self, op: &ChannelOp, seq: u64, at: Perspective) -> Result<(), OutOfMemory>
-        requires { IsBuilt (Body.Op op.now) }
         ensures ok { OnOk result (self.new ≡ effects self.old seq at.c at.r (sub_operations op.now)) }
-        ensures err { OnErr result (KeepsNumbers self.old self.new) }
+        ensures kept { KeepsMessageNumbers self.old self.new }
     {
         match op {
-            ChannelOp::Text(TextOp::One(op)) => self.apply_to_text(op, seq, at),
-            _ => unreachable!(),
+            ChannelOp::Text(op) => self.apply_to_text(op, seq, at),
+            ChannelOp::Grid(op) => self.apply_to_grid(op, seq, at),
         }
-    }
-
-    /// Applies a sub-operation of the text under number `seq`.
-    fn apply_to_text(&mut self, op: &BaseOp, seq: u64, at: Perspective) -> Result<(), OutOfMemory>
-        requires { IsBuilt (Body.Op (ChannelOp.Text (TextOp.One op.now))) }
-        ensures ok { OnOk result (self.new ≡ text_effect self.old seq at.c at.r op.now) }
-        ensures err { OnErr result (KeepsNumbers self.old self.new) }
-    {
-        match op {
-            BaseOp::Insert { pos, seg, .. } => self.insert_text(*pos, seg, seq, at),
-            BaseOp::Remove { pos1, pos2 } => self.remove_text(*pos1, *pos2, seq, at),
-            BaseOp::Annotate { .. } => unreachable!(),
-        }
-    }
-
-    /// Inserts the segment, without properties, after `p` elements.
-    fn insert_text(
-        &mut self,
-        p: u64,
-        seg: &Seg,
-        seq: u64,
-        at: Perspective,
-    ) -> Result<(), OutOfMemory>
-        ensures ok { OnOk result (self.new ≡ text_effect self.old seq at.c at.r (BaseOp.Insert p seg.now [])) }
-        ensures err { OnErr result (KeepsNumbers self.old self.new) }
-    {
-        if !self.text.is_within(p, at) {
-            return self.skip();
-        }
-        let by = Stamp::Acked { seq, conn: at.c };
-        let contents = segment_contents(self.text.alloc(), seg)?;
-        self.text.insert(p, seq, at, Some(by), contents.as_slice())
-    }
-
-    /// Removes the elements of the text from `p` up to before `q`.
-    fn remove_text(&mut self, p: u64, q: u64, seq: u64, at: Perspective) -> Result<(), OutOfMemory>
-        ensures ok { OnOk result (self.new ≡ text_effect self.old seq at.c at.r (BaseOp.Remove p q)) }
-        ensures err { OnErr result (KeepsNumbers self.old self.new) }
-    {
-        if !self.text.is_within(q, at) {
-            return self.skip();
-        }
-        self.text.remove(p, q, seq, at)
     }
 
     /// Counts a sub-operation that is out of range.
@@ -258,30 +248,4 @@ fn reference_number(ref_seq: i64) -> u64
     ensures { result ≡ reference_number ref_seq }
 {
     if ref_seq < 0 { 0 } else { ref_seq as u64 }
-}
-
-/// The contents of the elements that the segment puts in.
-///
-/// Answers `OutOfMemory` where there is no room for them.
-fn segment_contents(alloc: Global, seg: &Seg) -> Result<Vec<Content>, OutOfMemory>
-    ensures { IfOk result (λ v. map content_of v.items ≡ segment_contents seg.now) }
-{
-    match seg {
-        Seg::Chars { text } => characters(alloc, text.as_str()),
-        Seg::Marker { ref_type } => {
-            let mut contents = Vec::new(alloc);
-            contents.push(Content::Marker(*ref_type))?;
-            Ok(contents)
-        }
-    }
-}
-
-/// The characters of the text as contents.
-///
-/// Answers `OutOfMemory` where there is no room for them.
-fn characters(alloc: Global, text: &str) -> Result<Vec<Content>, OutOfMemory>
-    ensures { IfOk result (λ v. v.items ≡ map (λ c. Content.Character c) (chars text.now)) }
-{
-    let contents = text.chars().map(Content::Character).collect(alloc)?;
-    Ok(contents)
 }

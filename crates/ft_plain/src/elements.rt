@@ -1,11 +1,13 @@
 //! The elements of a plain replica.
 
-ghost use Rattle.std.specs.Prelude.{◌≡◌, [], None, OnOk, OnErr};
+ghost use Rattle.std.specs.Prelude.{◌≡◌, [], None, IfOk, OnOk, OnErr};
 ghost use Rattle.std.specs.List.{list_any};
-ghost use Rattle.ft_base.specs.Visibility.{has_occurred, has_occurred_at_stage};
-ghost use Rattle.ft_props.specs.Element.{is_pending, removal_stamp, seen, seen_by, with_removal};
+ghost use Rattle.ft_base.specs.Visibility.{has_occurred, has_occurred_at_stage, is_acked};
+ghost use Rattle.ft_props.specs.Element.{has_id, id as name_of_element, is_pending, is_sequenced, is_unremoved, removal_stamp, seen, seen_by, with_annotation, with_removal};
+ghost use Rattle.ft_props.specs.Properties.{shown_props};
 ghost use Rattle.ft_plain.specs.Contents.{content_of};
 
+use crate::names::ElementName;
 use ft_base::visibility::{has_occurred, has_occurred_at_stage};
 use ft_base::{OutOfMemory, Perspective, Stamp, Stamps};
 use ft_props::{Changes, Props};
@@ -83,6 +85,34 @@ impl PlainElement {
         self.content
     }
 
+    /// Its name. It takes no memory.
+    pub fn name(&self) -> ElementName
+        ensures { result ≡ name_of_element self.now }
+    {
+        ElementName::new(&self.ins, self.nth)
+    }
+
+    /// Whether it has this name. It takes no memory.
+    pub fn has_name(&self, name: &ElementName) -> bool
+        ensures { result ≡ has_id name.now self.now }
+    {
+        name.same(&self.name())
+    }
+
+    /// Whether its insertion is sequenced. It takes no memory.
+    pub fn is_sequenced(&self) -> bool
+        ensures { result ≡ is_sequenced self.now }
+    {
+        matches!(self.ins, Stamp::Acked { .. })
+    }
+
+    /// Whether its insertion is sequenced and no removal of it is. It takes no memory.
+    pub fn is_unremoved(&self) -> bool
+        ensures { result ≡ is_unremoved self.now }
+    {
+        self.is_sequenced() && !has_any_sequenced(self.dels.as_slice())
+    }
+
     /// Whether its insertion is pending. It takes no memory.
     pub fn is_pending(&self) -> bool
         ensures { result ≡ is_pending self.now }
@@ -115,6 +145,39 @@ impl PlainElement {
     {
         self.dels.push(Stamp::Acked { seq, conn })
     }
+
+    /// Makes the changes of its acknowledged properties.
+    ///
+    /// Answers `OutOfMemory` where there is no room for what they make, and then nothing changed.
+    pub fn annotate(&mut self, changes: &Changes) -> Result<(), OutOfMemory>
+        ensures ok { OnOk result (self.new ≡ with_annotation changes.now self.old) }
+        ensures err { OnErr result (self.new ≡ self.old) }
+    {
+        self.props = self.props.changed(changes)?;
+        Ok(())
+    }
+
+    /// Its acknowledged properties with its pending changes made in order of stage.
+    ///
+    /// Answers `OutOfMemory` where there is no room for them.
+    pub fn shown_props(&self) -> Result<Props, OutOfMemory>
+        ensures { IfOk result (λ props. props ≡ shown_props self.now.props self.now.pending) }
+    {
+        let mut props = self.props.copy()?;
+        for (_, changes) in &self.pending {
+            props = props.changed(changes)?;
+        }
+        Ok(props)
+    }
+}
+
+/// Whether one of the stamps is sequenced.
+fn has_any_sequenced(stamps: &[Stamp]) -> bool
+    ensures { result ≡ list_any is_acked stamps.now }
+{
+    stamps
+        .iter()
+        .any(|stamp| matches!(stamp, Stamp::Acked { .. }))
 }
 
 /// Whether one of the stamps has occurred for the perspective.

@@ -1,15 +1,19 @@
 //! One list of a plain replica: the text, the rows or the columns.
 
-ghost use Rattle.std.specs.Prelude.{◌≡◌, [], IfOk, OnOk, OnErr, map, nat_le};
-ghost use Rattle.ft_base.specs.Scan.{len};
+ghost use Rattle.std.specs.Prelude.{◌≡◌, [], None, OnOk, OnErr, map, nat_le, option_map, replicate};
+ghost use Rattle.ft_base.specs.Scan.{at as seen_at, change_range, len};
 ghost use Rattle.ft_base.specs.declared.stamps.Stamp.TheVariants.{Acked};
-ghost use Rattle.ft_props.specs.Element.{seen_by};
+ghost use Rattle.ft_props.specs.Element.{GridUnit, id, seen_by, with_annotation};
 ghost use Rattle.ft_props.specs.Steps.{after_insertion, after_removal, empty_list};
 ghost use Rattle.ft_plain.specs.Contents.{content_of};
 
 use crate::elements::{Content, PlainElement};
-use crate::scans::{mark_removed, new_elements, pending_run, place_of, put_at, seen_count};
+use crate::names::ElementName;
+use crate::scans::{
+    annotate, mark_removed, name_at, new_elements, pending_run, place_of, put_at, seen_count, units,
+};
 use ft_base::{OutOfMemory, Perspective, Stamp};
+use ft_props::{Changes, Props};
 use std::alloc::Global;
 use std::marker::Model;
 
@@ -58,15 +62,30 @@ impl PlainList {
         self.items.as_slice()
     }
 
+    /// How many elements the perspective sees. It takes no memory.
+    pub fn seen_count(&self, at: Perspective) -> usize
+        ensures { result ≡ len (seen_by at.r at.c) self.now.items }
+    {
+        seen_count(self.items.as_slice(), at)
+    }
+
     /// Whether the perspective sees at least `p` elements. It takes no memory.
     pub fn is_within(&self, p: u64, at: Perspective) -> bool
         ensures { result ≡ nat_le p (len (seen_by at.r at.c) self.now.items) }
     {
-        p <= seen_count(self.items.as_slice(), at) as u64
+        p <= self.seen_count(at) as u64
     }
 
-    /// Puts new elements in under number `seq` by the perspective's connection, directly after the
-    /// `p`-th element that the perspective sees, but past the run of pending elements there.
+    /// The name of the element that the perspective sees with `i` seen ones before it: None exactly
+    /// where it sees at most `i`. It takes no memory.
+    pub fn name_at(&self, i: u64, at: Perspective) -> Option<ElementName>
+        ensures { result ≡ option_map id (seen_at (seen_by at.r at.c) i self.now.items) }
+    {
+        name_at(self.items.as_slice(), i, at)
+    }
+
+    /// Puts new elements with these properties in under number `seq` by the perspective's connection, directly
+    /// after the `p`-th element that the perspective sees, but past the run of pending elements there.
     ///
     /// Answers `OutOfMemory` where there is no room for them or the count of elements passes
     /// 2^64 - 1, and then the list is as it was.
@@ -76,18 +95,39 @@ impl PlainList {
         seq: u64,
         at: Perspective,
         by: Option<Stamp>,
+        props: &Props,
         contents: &[Content],
     ) -> Result<(), OutOfMemory>
-        ensures ok { OnOk result (self.new ≡ after_insertion seq at.c at.r p by [] (map content_of contents.now) self.old) }
+        ensures ok { OnOk result (self.new ≡ after_insertion seq at.c at.r p by props.now (map content_of contents.now) self.old) }
         ensures err { OnErr result (self.new ≡ self.old) }
     {
         let ins = Stamp::Acked { seq, conn: at.c };
-        let new = new_elements(self.alloc(), self.made, ins, by, contents)?;
+        let new = new_elements(self.alloc(), self.made, ins, by, props, contents)?;
         let place = place_of(self.items.as_slice(), p, at);
         let i = place + pending_run(&self.items[place..]);
         put_at(&mut self.items, i, new)?;
         self.made += contents.len() as u64;
         Ok(())
+    }
+
+    /// Puts so many new units in as `insert` does.
+    ///
+    /// Answers `OutOfMemory` where there is no room for them or the count of elements passes
+    /// 2^64 - 1, and then the list is as it was.
+    pub fn insert_units(
+        &mut self,
+        p: u64,
+        count: u64,
+        seq: u64,
+        at: Perspective,
+    ) -> Result<(), OutOfMemory>
+        ensures ok { OnOk result (self.new ≡ after_insertion seq at.c at.r p None [] (replicate count GridUnit) self.old) }
+        ensures err { OnErr result (self.new ≡ self.old) }
+    {
+        let alloc = self.alloc();
+        let contents = units(alloc, count)?;
+        let props = Props::new(alloc);
+        self.insert(p, seq, at, None, &props, contents.as_slice())
     }
 
     /// Gives a removal under number `seq` by the perspective's connection to each element that the
@@ -98,5 +138,21 @@ impl PlainList {
         ensures { OnOk result (self.new ≡ after_removal seq at.c at.r p q self.old) }
     {
         mark_removed(self.items.as_mut_slice(), p, q, seq, at)
+    }
+
+    /// Makes the changes of the properties of each element that the perspective sees from the `p`-th
+    /// up to before the `q`-th.
+    ///
+    /// Answers `OutOfMemory` where there is no room for what they make, and then some may have theirs.
+    pub fn annotate(
+        &mut self,
+        p: u64,
+        q: u64,
+        changes: &Changes,
+        at: Perspective,
+    ) -> Result<(), OutOfMemory>
+        ensures { OnOk result (self.new ≡ record self.old { items = change_range (seen_by at.r at.c) p q (with_annotation changes.now) self.old.items }) }
+    {
+        annotate(self.items.as_mut_slice(), p, q, changes, at)
     }
 }

@@ -2,16 +2,16 @@
 
 ghost use Rattle.std.specs.Prelude.{◌≡◌, ◌↔◌, ℕ, IfOk, None, OnOk, Some};
 ghost use Rattle.ft_msg.specs.WellFormed.{HasNumbersInRange};
-ghost use Rattle.ft_msg.specs.MessageGrammar.{IsBuilt};
 ghost use Rattle.ft_msg.specs.Content.{shown};
 ghost use Rattle.ft_op.specs.Document.{empty};
 ghost use Rattle.ft_plain.specs.Observer.{AnswersEntry, numbers_of};
 
 use crate::documents::PlainDocument;
-use crate::shown::shown_text;
+use crate::shown::{shown_markers, shown_runs, shown_text};
+use crate::shown_grid::{shown_cells, shown_count};
+use crate::shown_intervals::shown_intervals;
 use ft_base::OutOfMemory;
-use ft_msg::{Entry, Numbers, ProcessFault, Runs, Spots, View, ViewFault};
-use ft_sumdoc::{CellRecs, IntervalRecs};
+use ft_msg::{Entry, Numbers, ProcessFault, View, ViewFault};
 use std::alloc::Global;
 use std::marker::Model;
 
@@ -51,8 +51,7 @@ impl Plain {
     /// the replica keeps; and `OutOfMemory` where there is no room, or a count would pass 2^64 - 1, after
     /// which the replica has stopped.
     pub fn process(&mut self, entry: &Entry) -> Result<(), ProcessFault>
-        requires in_range { HasNumbersInRange entry.now.msg }
-        requires built { IsBuilt entry.now.msg.body }
+        requires { HasNumbersInRange entry.now.msg }
         ensures { AnswersEntry self.old self.new entry.now result }
     {
         if let Some(seq) = self.stop {
@@ -76,13 +75,19 @@ impl Plain {
         self.doc.numbers()
     }
 
-    /// What is shown: its numbers and its text.
+    /// What is shown: its numbers, its text with markers, properties and intervals, and its grid.
     ///
     /// Answers `Stopped` exactly where an earlier call found no memory, and `OutOfMemory` where there is
     /// no room for the view.
     pub fn view(&self) -> Result<View, ViewFault>
         ensures numbers { IfOk result (λ v. v.numbers ≡ numbers_of self.now.doc) }
         ensures text { IfOk result (λ v. v.text ≡ (shown self.now.doc).text) }
+        ensures markers { IfOk result (λ v. v.markers ≡ (shown self.now.doc).markers) }
+        ensures runs { IfOk result (λ v. v.runs ≡ (shown self.now.doc).runs) }
+        ensures intervals { IfOk result (λ v. v.intervals ≡ (shown self.now.doc).intervals) }
+        ensures rows { IfOk result (λ v. v.rows ≡ (shown self.now.doc).rows) }
+        ensures cols { IfOk result (λ v. v.cols ≡ (shown self.now.doc).cols) }
+        ensures cells { IfOk result (λ v. v.cells ≡ (shown self.now.doc).cells) }
         ensures running { OnOk result (self.now.stop ≡ None) }
         ensures stopped { (seq : ℕ) → (result ≡ Err (ViewFault.Stopped seq)) ↔ (self.now.stop ≡ Some seq) }
     {
@@ -101,17 +106,24 @@ impl Plain {
     fn running_view(&self) -> Result<View, OutOfMemory>
         ensures numbers { IfOk result (λ v. v.numbers ≡ numbers_of self.now.doc) }
         ensures text { IfOk result (λ v. v.text ≡ (shown self.now.doc).text) }
+        ensures markers { IfOk result (λ v. v.markers ≡ (shown self.now.doc).markers) }
+        ensures runs { IfOk result (λ v. v.runs ≡ (shown self.now.doc).runs) }
+        ensures intervals { IfOk result (λ v. v.intervals ≡ (shown self.now.doc).intervals) }
+        ensures rows { IfOk result (λ v. v.rows ≡ (shown self.now.doc).rows) }
+        ensures cols { IfOk result (λ v. v.cols ≡ (shown self.now.doc).cols) }
+        ensures cells { IfOk result (λ v. v.cells ≡ (shown self.now.doc).cells) }
     {
         let alloc = self.doc.alloc();
+        let doc = &self.doc;
         Ok(View {
-            numbers: self.doc.numbers(),
-            text: shown_text(alloc, self.doc.text(), 0)?,
-            markers: Spots::new(alloc),
-            runs: Runs::new(alloc),
-            intervals: IntervalRecs::new(alloc),
-            rows: 0,
-            cols: 0,
-            cells: CellRecs::new(alloc),
+            numbers: doc.numbers(),
+            text: shown_text(alloc, doc.text(), 0)?,
+            markers: shown_markers(alloc, doc.text(), 0)?,
+            runs: shown_runs(alloc, doc.text(), 0)?,
+            intervals: shown_intervals(alloc, doc.text(), doc.intervals(), 0)?,
+            rows: shown_count(doc.rows(), 0) as u64,
+            cols: shown_count(doc.cols(), 0) as u64,
+            cells: shown_cells(alloc, doc.cells(), doc.rows(), doc.cols(), 0)?,
         })
     }
 }

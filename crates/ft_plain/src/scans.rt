@@ -1,15 +1,16 @@
 //! Scans of a list of elements: how many are seen, where an insertion goes, and which elements a
 //! removal is for.
 
-ghost use Rattle.std.specs.Prelude.{◌≡◌, ◌≤◌, ◌+◌, ◌<◌, ◌^◌, ◌++◌, [], None, Some, IfOk, OnOk, OnErr, length, map, take, drop};
+ghost use Rattle.std.specs.Prelude.{◌≡◌, ◌≤◌, ◌+◌, ◌<◌, ◌^◌, ◌++◌, [], None, Some, IfOk, OnOk, OnErr, length, map, option_map, replicate, take, drop};
 ghost use Rattle.std.specs.List.{prefix_len};
-ghost use Rattle.ft_base.specs.Scan.{change_range, len, place, put};
-ghost use Rattle.ft_props.specs.Element.{is_pending, new_elements, seen_by, with_removal};
+ghost use Rattle.ft_base.specs.Scan.{at as seen_at, change_range, len, place, put};
+ghost use Rattle.ft_props.specs.Element.{GridUnit, id, is_pending, new_elements, seen_by, with_annotation, with_removal};
 ghost use Rattle.ft_plain.specs.Contents.{content_of};
 
 use crate::elements::{Content, PlainElement};
+use crate::names::ElementName;
 use ft_base::{OutOfMemory, Perspective, Stamp};
-use ft_props::Props;
+use ft_props::{Changes, Props};
 use std::alloc::Global;
 
 /// How many elements the perspective sees. It takes no memory.
@@ -38,6 +39,23 @@ pub fn place_of(items: &[PlainElement], p: u64, at: Perspective) -> usize
     items.len()
 }
 
+/// The name of the element that the perspective sees with `i` seen ones before it: None exactly where
+/// it sees at most `i`. It takes no memory.
+pub fn name_at(items: &[PlainElement], i: u64, at: Perspective) -> Option<ElementName>
+    ensures { result ≡ option_map id (seen_at (seen_by at.r at.c) i items.now) }
+{
+    let mut left = i;
+    for e in items {
+        if e.is_seen_by(at) {
+            if left == 0 {
+                return Some(e.name());
+            }
+            left -= 1;
+        }
+    }
+    None
+}
+
 /// How many pending elements stand at the front. It takes no memory.
 pub fn pending_run(items: &[PlainElement]) -> usize
     ensures run { result ≡ prefix_len is_pending items.now }
@@ -51,7 +69,8 @@ pub fn pending_run(items: &[PlainElement]) -> usize
     items.len()
 }
 
-/// New elements with these contents, numbered from `first` on, which nobody has removed or changed.
+/// New elements with these contents and properties, numbered from `first` on, which nobody has removed
+/// or changed.
 ///
 /// Answers `OutOfMemory` where there is no room for them, or their numbers pass 2^64 - 1.
 pub fn new_elements(
@@ -59,15 +78,16 @@ pub fn new_elements(
     first: u64,
     ins: Stamp,
     by: Option<Stamp>,
+    props: &Props,
     contents: &[Content],
 ) -> Result<Vec<PlainElement>, OutOfMemory>
-    ensures elements { IfOk result (λ v. v.items ≡ new_elements first ins [] by [] (map content_of contents.now)) }
+    ensures elements { IfOk result (λ v. v.items ≡ new_elements first ins [] by props.now (map content_of contents.now)) }
     ensures numbers { OnOk result (first + length contents.now < 2 ^ 64) }
 {
     let mut elements = Vec::new(alloc);
     let mut nth = first;
     for content in contents {
-        let e = PlainElement::new(alloc, nth, *content, ins, by, Props::new(alloc));
+        let e = PlainElement::new(alloc, nth, *content, ins, by, props.copy()?);
         elements.push(e)?;
         nth = nth.checked_add(1).ok_or(OutOfMemory)?;
     }
@@ -115,4 +135,38 @@ pub fn mark_removed(
         }
     }
     Ok(())
+}
+
+/// Makes the changes of the properties of each element that the perspective sees from the `p`-th up to
+/// before the `q`-th.
+///
+/// Answers `OutOfMemory` where there is no room for what they make, and then some may have theirs.
+pub fn annotate(
+    items: &mut [PlainElement],
+    p: u64,
+    q: u64,
+    changes: &Changes,
+    at: Perspective,
+) -> Result<(), OutOfMemory>
+    ensures { OnOk result (items.new ≡ change_range (seen_by at.r at.c) p q (with_annotation changes.now) items.old) }
+{
+    let mut seen: u64 = 0;
+    for e in items.iter_mut() {
+        if e.is_seen_by(at) {
+            if p <= seen && seen < q {
+                e.annotate(changes)?;
+            }
+            seen += 1;
+        }
+    }
+    Ok(())
+}
+
+/// The contents of so many new units.
+///
+/// Answers `OutOfMemory` where there is no room for them.
+pub fn units(alloc: Global, count: u64) -> Result<Vec<Content>, OutOfMemory>
+    ensures { IfOk result (λ v. map content_of v.items ≡ replicate count GridUnit) }
+{
+    Ok(vec![in alloc; Content::Unit; count as usize]?)
 }

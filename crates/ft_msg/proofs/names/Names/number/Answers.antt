@@ -1,4 +1,4 @@
-use Rattle.std.proofs.Common.{◌≡◌, ℕ, ◌+◌, ◌-◌, ◌<◌, ◌^◌, length, sym, ap, ◌∙◌, subst, Contains, chars, string_bytes, arith}
+use Rattle.std.proofs.Common.{◌+◌, ◌-◌, ◌<◌, ◌^◌, length, sym, ap, ◌∙◌, subst, Contains, chars, string_bytes, arith}
 use Rattle.std.specs.Map.{values_of}
 use Rattle.ft_msg.specs.NameTable.{names_after, number_of, AreDistinct, KeysSpellNames}
 use Rattle.ft_msg.proofs.NameLemmas.{number-found, names-found, number-new, absent-new, AreDistinct-names_after, entries-inserted, values-insert_entry, KeysSpellNames-insert_entry, length-insert_entry, length-values}

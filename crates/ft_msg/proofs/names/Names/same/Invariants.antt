@@ -1,5 +1,4 @@
-use Rattle.std.proofs.Common.{◌≡◌, ◌++◌, length}
-use Rattle.indexmap.specs.IndexMap.{values}
+use Rattle.std.proofs.Common.{◌≡◌, length}
 use Rattle.ft_msg.proofs.names.Names.same.Given as goal
 
 -- the names that are left decide

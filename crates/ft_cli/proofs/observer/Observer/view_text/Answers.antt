@@ -1,0 +1,13 @@
+use Rattle.std.proofs.Common.{◌≡◌, IfOk, string_bytes, subst, ◌∙◌, ap}
+use Rattle.std.proofs.lemmas.Result.{IfOk-weaker}
+use Rattle.ft_cli.specs.Report.{bytes_of, view_lines}
+use Rattle.ft_cli.proofs.Observing.{lines-shown}
+use Rattle.ft_cli.proofs.observer.Observer.view_text.Goals as goal
+
+pub returns-in-Ok : goal.returns-in-Ok
+returns-in-Ok c =
+    let v = c.in-Ok.view in
+    let doc = c.self.inside.replica.doc in
+    let s = c.in-Ok.ensures in
+    subst (λ d. IfOk c.view_text.result (λ text. string_bytes text ≡ bytes_of (view_lines d))) (ap (λ o. o.doc) c.self.view_is)
+    (IfOk-weaker c.view_text.result _ _ (λ text h. h ∙ lines-shown v doc s.numbers s.text s.markers s.runs s.intervals s.rows s.cols s.cells) c.view_text.ensures)

@@ -1,0 +1,150 @@
+//! Reading operations of the text from JSON values.
+
+ghost use Rattle.std.specs.Prelude.{◌≡◌, ◌≢◌, Ok, Err, IfOk, IfErr, map, option_map};
+ghost use Rattle.std.specs.List.{AllByRecursion};
+ghost use Rattle.serde_json.specs.View.{view};
+ghost use Rattle.ft_op.specs.Reading.{read_each};
+ghost use Rattle.ft_op.specs.TextGrammar.{annotation, base_op, group, group_item, insertion, insertion_of, removal, text_op, typed_op};
+ghost use Rattle.ft_op.specs.WellFormed.{IsWellFormedBase, IsWellFormedText};
+
+use crate::adjustments::read_given_adjustments;
+use crate::interval_reading::read_interval_op;
+use crate::operations::{BaseOp, BaseOps, OpFault, TextOp};
+use crate::reading::{is_object, read_given_properties, read_range};
+use crate::segments::read_segment;
+use ft_json::{Field, array_field, count_field, field};
+use ft_props::Changes;
+use serde_json::Value;
+use std::alloc::Global;
+
+/// The operation of the text that the value is.
+///
+/// What is read is well formed. Answers the first fault in the order in which its fields are tested,
+/// and `OutOfMemory` where there is no room for it.
+#[tactic(auto, unfolding(crate::specs::TextGrammar::text_op))]
+pub fn read_text_op(alloc: Global, value: &Value) -> Result<TextOp, OpFault>
+    ensures ok { IfOk result (λ op. text_op (view value.now) ≡ Ok op) }
+    ensures err { IfErr result (λ fault. fault ≢ OpFault.OutOfMemory → text_op (view value.now) ≡ Err fault) }
+    ensures formed { IfOk result IsWellFormedText }
+{
+    if !is_object(value) {
+        return Err(OpFault::WrongKind(Field::Contents));
+    }
+    if let Some(interval) = field(value, Field::Interval) {
+        return read_interval_op(alloc, value, interval);
+    }
+    let kind = count_field(value, Field::Kind)?;
+    read_typed_op(alloc, value, kind)
+}
+
+/// The operation of this type.
+fn read_typed_op(alloc: Global, value: &Value, kind: u64) -> Result<TextOp, OpFault>
+    ensures ok { IfOk result (λ op. typed_op (view value.now) kind ≡ Ok op) }
+    ensures err { IfErr result (λ fault. fault ≢ OpFault.OutOfMemory → typed_op (view value.now) kind ≡ Err fault) }
+    ensures formed { IfOk result IsWellFormedText }
+{
+    if kind == 3 {
+        return read_group(alloc, value);
+    }
+    Ok(TextOp::One(read_base_op(alloc, value, kind)?))
+}
+
+/// The group that the object is.
+#[tactic(auto, unfolding(crate::specs::TextGrammar::group))]
+fn read_group(alloc: Global, value: &Value) -> Result<TextOp, OpFault>
+    ensures ok { IfOk result (λ op. group (view value.now) ≡ Ok op) }
+    ensures err { IfErr result (λ fault. fault ≢ OpFault.OutOfMemory → group (view value.now) ≡ Err fault) }
+    ensures formed { IfOk result IsWellFormedText }
+{
+    let items = array_field(value, Field::Ops)?;
+    Ok(TextOp::Group(read_group_items(alloc, items)?))
+}
+
+/// The operations of the items of a group.
+fn read_group_items(alloc: Global, items: &[Value]) -> Result<BaseOps, OpFault>
+    ensures ok { IfOk result (λ ops. read_each group_item (map view items.now) ≡ Ok ops) }
+    ensures err { IfErr result (λ fault. fault ≢ OpFault.OutOfMemory → read_each group_item (map view items.now) ≡ Err fault) }
+    ensures formed { IfOk result (AllByRecursion IsWellFormedBase) }
+{
+    let mut ops = BaseOps::new(alloc);
+    for item in items {
+        let op = read_group_item(alloc, item)?;
+        ops.push(op)?;
+    }
+    Ok(ops)
+}
+
+/// The operation of an item of a group.
+#[tactic(auto, unfolding(crate::specs::TextGrammar::group_item))]
+fn read_group_item(alloc: Global, item: &Value) -> Result<BaseOp, OpFault>
+    ensures ok { IfOk result (λ op. group_item (view item.now) ≡ Ok op) }
+    ensures err { IfErr result (λ fault. fault ≢ OpFault.OutOfMemory → group_item (view item.now) ≡ Err fault) }
+    ensures formed { IfOk result IsWellFormedBase }
+{
+    if !is_object(item) {
+        return Err(OpFault::WrongKind(Field::Ops));
+    }
+    let kind = count_field(item, Field::Kind)?;
+    if kind == 3 {
+        return Err(OpFault::NestedGroup);
+    }
+    read_base_op(alloc, item, kind)
+}
+
+/// The operation of this type that may stand in a group.
+#[tactic(auto, unfolding(crate::specs::TextGrammar::base_op))]
+fn read_base_op(alloc: Global, value: &Value, kind: u64) -> Result<BaseOp, OpFault>
+    ensures ok { IfOk result (λ op. base_op (view value.now) kind ≡ Ok op) }
+    ensures err { IfErr result (λ fault. fault ≢ OpFault.OutOfMemory → base_op (view value.now) kind ≡ Err fault) }
+    ensures formed { IfOk result IsWellFormedBase }
+{
+    match kind {
+        0 => read_insertion(alloc, value),
+        1 => read_removal(value),
+        2 => read_annotation(alloc, value),
+        _ => Err(OpFault::UnknownType(kind)),
+    }
+}
+
+/// The insertion that the object is.
+#[tactic(auto, unfolding(crate::specs::TextGrammar::insertion))]
+fn read_insertion(alloc: Global, value: &Value) -> Result<BaseOp, OpFault>
+    ensures ok { IfOk result (λ op. insertion (view value.now) ≡ Ok op) }
+    ensures err { IfErr result (λ fault. fault ≢ OpFault.OutOfMemory → insertion (view value.now) ≡ Err fault) }
+    ensures formed { IfOk result IsWellFormedBase }
+{
+    let pos = count_field(value, Field::Pos1)?;
+    let seg = field(value, Field::Seg).ok_or(OpFault::Missing(Field::Seg))?;
+    Ok(BaseOp::Insert {
+        pos,
+        seg: read_segment(alloc, seg)?,
+        props: read_given_properties(alloc, seg)?,
+    })
+}
+
+/// The removal that the object is. It takes no memory.
+#[tactic(auto, unfolding(crate::specs::TextGrammar::removal))]
+fn read_removal(value: &Value) -> Result<BaseOp, OpFault>
+    ensures value { result ≡ removal (view value.now) }
+    ensures formed { IfOk result IsWellFormedBase }
+{
+    let (pos1, pos2) = read_range(value)?;
+    Ok(BaseOp::Remove { pos1, pos2 })
+}
+
+/// The annotation that the object is.
+#[tactic(auto, unfolding(crate::specs::TextGrammar::annotation))]
+fn read_annotation(alloc: Global, value: &Value) -> Result<BaseOp, OpFault>
+    ensures ok { IfOk result (λ op. annotation (view value.now) ≡ Ok op) }
+    ensures err { IfErr result (λ fault. fault ≢ OpFault.OutOfMemory → annotation (view value.now) ≡ Err fault) }
+    ensures formed { IfOk result IsWellFormedBase }
+{
+    let (pos1, pos2) = read_range(value)?;
+    let props = read_given_properties(alloc, value)?;
+    let adjust = read_given_adjustments(alloc, &props, value)?;
+    Ok(BaseOp::Annotate {
+        pos1,
+        pos2,
+        changes: Changes { props, adjust },
+    })
+}

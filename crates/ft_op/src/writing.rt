@@ -1,0 +1,410 @@
+//! Writing operations as JSON.
+
+ghost use Rattle.std.specs.Prelude.{◌≡◌, true, List, [], ◌∷◌, Ok, IfOk, OnOk, codes, encode_utf8_all, option_map};
+ghost use Rattle.std.specs.List.{AllByRecursion};
+ghost use Rattle.std.specs.Str.{all_scalars};
+ghost use Rattle.serde_json.specs.Data.{object, put, string};
+ghost use Rattle.serde_json.specs.View.{view, items_view, members_view};
+ghost use Rattle.serde_json.specs.Written.{compact_text};
+ghost use Rattle.ft_json.specs.Canonical.{IsTextWithin};
+ghost use Rattle.ft_json.specs.Reading.{read_line};
+ghost use Rattle.ft_op.specs.Laws.{IsReadAs};
+ghost use Rattle.ft_op.specs.Representable.{IsKeyed, IsRepresentable, IsRepresentableBase, IsRepresentableSegment, IsRepresentableText, IsText};
+ghost use Rattle.ft_op.specs.WellFormed.{AreAdjustments, IsPropertySet, IsSetValue, IsWellFormed, IsWellFormedBase, IsWellFormedCell, IsWellFormedGrid, IsWellFormedText};
+ghost use Rattle.ft_op.specs.Written.{given_adjustments, given_end, given_set, given_start, put_given, with_given, written, written_adjustment, written_base, written_cell, written_grid_op, written_group, written_items, written_interval, written_marker, written_number, written_pairs, written_segment, written_set, written_target, written_text, written_text_op, written_value};
+
+use crate::operations::{
+    BaseOp, BaseOps, CellOp, CellOps, ChannelOp, Ends, GridOp, Seg, Target, TextOp,
+};
+use ft_base::{OutOfMemory, Text};
+use ft_json::{ValText, compact};
+use ft_props::{AdjSet, Adjust, Changes, PropSet};
+use serde_json::{Map, Value, json, put};
+use std::alloc::Global;
+
+/// The characters of the text, as a string slice. It takes no memory.
+pub fn str_of(text: &Text) -> &str
+    ensures bytes { result.now ≡ encode_utf8_all text.now }
+    ensures is_text { IsText text.now }
+{
+    text.as_str()
+}
+
+/// The value that a key is set to: null for none.
+fn written_value(value: &Option<ValText>) -> Result<Value, OutOfMemory>
+    requires { IsSetValue value.now }
+    ensures { IfOk result (λ v. view v ≡ written_value value.now) }
+{
+    match value {
+        Some(value) => value.to_value(),
+        None => Ok(Value::Null),
+    }
+}
+
+/// The object of a property set.
+fn written_set(alloc: Global, set: &PropSet) -> Result<Value, OutOfMemory>
+    requires { IsPropertySet set.now }
+    ensures value { IfOk result (λ v. view v ≡ written_set set.now) }
+    ensures keyed { IfOk result (λ _. IsKeyed set.now) }
+{
+    let mut members = Map::new(alloc);
+    for (key, value) in set.as_slice() {
+        put(&mut members, alloc, str_of(key), written_value(value)?)?;
+    }
+    Ok(Value::Object(members))
+}
+
+/// The object of a property set, none for an empty one.
+fn given_set(alloc: Global, set: &PropSet) -> Result<Option<Value>, OutOfMemory>
+    requires { IsPropertySet set.now }
+    ensures value { IfOk result (λ v. option_map view v ≡ given_set set.now) }
+    ensures keyed { IfOk result (λ _. IsKeyed set.now) }
+{
+    if set.is_empty() {
+        return Ok(None);
+    }
+    Ok(Some(written_set(alloc, set)?))
+}
+
+/// Puts the value under the key, if it is there.
+fn put_given(
+    members: &mut Map<String, Value>,
+    alloc: Global,
+    key: &str,
+    value: Option<Value>,
+) -> Result<(), OutOfMemory>
+    ensures { OnOk result (members_view members.new.entries
+        ≡ put_given key.now (option_map view value) (members_view members.old.entries)) }
+{
+    match value {
+        Some(value) => Ok(put(members, alloc, key, value)?),
+        None => Ok(()),
+    }
+}
+
+/// Puts the string under the key.
+fn put_str(
+    members: &mut Map<String, Value>,
+    alloc: Global,
+    key: &str,
+    text: &str,
+) -> Result<(), OutOfMemory>
+    ensures { OnOk result (members_view members.new.entries
+        ≡ put key.now (string text.now) (members_view members.old.entries)) }
+{
+    Ok(put(members, alloc, key, Value::try_from_str(alloc, text)?)?)
+}
+
+/// The object of an adjustment.
+fn written_adjustment(alloc: Global, adjust: &Adjust) -> Result<Value, OutOfMemory>
+    ensures { IfOk result (λ v. view v ≡ written_adjustment adjust.now) }
+{
+    let mut members = Map::new(alloc);
+    put(&mut members, alloc, "delta", Value::from(adjust.delta))?;
+    put_given(&mut members, alloc, "max", adjust.max.map(Value::from))?;
+    put_given(&mut members, alloc, "min", adjust.min.map(Value::from))?;
+    Ok(Value::Object(members))
+}
+
+/// The object of adjustments.
+fn written_adjustments(alloc: Global, adjust: &AdjSet) -> Result<Value, OutOfMemory>
+    ensures value { IfOk result (λ v. view v ≡ object (written_pairs written_adjustment adjust.now)) }
+    ensures keyed { IfOk result (λ _. IsKeyed adjust.now) }
+{
+    let mut members = Map::new(alloc);
+    for (key, by) in adjust.as_slice() {
+        let by = written_adjustment(alloc, by)?;
+        put(&mut members, alloc, str_of(key), by)?;
+    }
+    Ok(Value::Object(members))
+}
+
+/// The object of adjustments, none where there are none.
+fn given_adjustments(alloc: Global, adjust: &AdjSet) -> Result<Option<Value>, OutOfMemory>
+    ensures value { IfOk result (λ v. option_map view v ≡ given_adjustments adjust.now) }
+    ensures keyed { IfOk result (λ _. IsKeyed adjust.now) }
+{
+    if adjust.is_empty() {
+        return Ok(None);
+    }
+    Ok(Some(written_adjustments(alloc, adjust)?))
+}
+
+/// Characters with their properties.
+fn written_characters(alloc: Global, text: &Text, props: &PropSet) -> Result<Value, OutOfMemory>
+    requires { IsPropertySet props.now }
+    ensures value { IfOk result (λ v. view v ≡ written_segment (Seg.Chars text.now) props.now) }
+    ensures text { IfOk result (λ _. IsText text.now) }
+    ensures keyed { IfOk result (λ _. IsKeyed props.now) }
+{
+    match given_set(alloc, props)? {
+        Some(props) => Ok(json!(in alloc; {"props": props, "text": str_of(text)})?),
+        None => Ok(Value::try_from_str(alloc, str_of(text))?),
+    }
+}
+
+/// A marker with its properties.
+fn written_marker(alloc: Global, ref_type: u64, props: &PropSet) -> Result<Value, OutOfMemory>
+    requires { IsPropertySet props.now }
+    ensures value { IfOk result (λ v. view v ≡ written_segment (Seg.Marker ref_type) props.now) }
+    ensures keyed { IfOk result (λ _. IsKeyed props.now) }
+{
+    let mut members = Map::new(alloc);
+    let marker = json!(in alloc; {"refType": ref_type})?;
+    put(&mut members, alloc, "marker", marker)?;
+    put_given(&mut members, alloc, "props", given_set(alloc, props)?)?;
+    Ok(Value::Object(members))
+}
+
+/// A segment with its properties.
+fn written_segment(alloc: Global, seg: &Seg, props: &PropSet) -> Result<Value, OutOfMemory>
+    requires { IsPropertySet props.now }
+    ensures value { IfOk result (λ v. view v ≡ written_segment seg.now props.now) }
+    ensures segment { IfOk result (λ _. IsRepresentableSegment seg.now) }
+    ensures keyed { IfOk result (λ _. IsKeyed props.now) }
+{
+    match seg {
+        Seg::Chars { text } => written_characters(alloc, text, props),
+        Seg::Marker { ref_type } => written_marker(alloc, *ref_type, props),
+    }
+}
+
+/// An annotation.
+fn written_annotation(
+    alloc: Global,
+    pos1: u64,
+    pos2: u64,
+    changes: &Changes,
+) -> Result<Value, OutOfMemory>
+    requires { IsPropertySet changes.now.props }
+    ensures value { IfOk result (λ v. view v ≡ written_base (BaseOp.Annotate pos1 pos2 changes.now)) }
+    ensures props { IfOk result (λ _. IsKeyed changes.now.props) }
+    ensures adjust { IfOk result (λ _. IsKeyed changes.now.adjust) }
+{
+    let mut members = Map::new(alloc);
+    let adjust = given_adjustments(alloc, &changes.adjust)?;
+    put_given(&mut members, alloc, "adjust", adjust)?;
+    put(&mut members, alloc, "pos1", Value::from(pos1))?;
+    put(&mut members, alloc, "pos2", Value::from(pos2))?;
+    let props = written_set(alloc, &changes.props)?;
+    put(&mut members, alloc, "props", props)?;
+    put(&mut members, alloc, "type", Value::from(2u64))?;
+    Ok(Value::Object(members))
+}
+
+/// An operation that may stand in a group of the text.
+fn written_base(alloc: Global, op: &BaseOp) -> Result<Value, OutOfMemory>
+    requires { IsWellFormedBase op.now }
+    ensures value { IfOk result (λ v. view v ≡ written_base op.now) }
+    ensures representable { IfOk result (λ _. IsRepresentableBase op.now) }
+{
+    match op {
+        BaseOp::Insert { pos, seg, props } => {
+            let seg = written_segment(alloc, seg, props)?;
+            Ok(json!(in alloc; {"pos1": *pos, "seg": seg, "type": 0u64})?)
+        }
+        BaseOp::Remove { pos1, pos2 } => {
+            Ok(json!(in alloc; {"pos1": *pos1, "pos2": *pos2, "type": 1u64})?)
+        }
+        BaseOp::Annotate {
+            pos1,
+            pos2,
+            changes,
+        } => written_annotation(alloc, *pos1, *pos2, changes),
+    }
+}
+
+/// The operations of a group of the text.
+fn written_base_ops(alloc: Global, ops: &[BaseOp]) -> Result<Vec<Value>, OutOfMemory>
+    requires { AllByRecursion IsWellFormedBase ops.now }
+    ensures value { IfOk result (λ vs. items_view vs.items ≡ written_items written_base ops.now) }
+    ensures representable { IfOk result (λ _. AllByRecursion IsRepresentableBase ops.now) }
+{
+    let mut values = Vec::new(alloc);
+    for op in ops {
+        values.push(written_base(alloc, op)?)?;
+    }
+    Ok(values)
+}
+
+/// A group of these operations.
+fn written_group(alloc: Global, ops: Vec<Value>) -> Result<Value, OutOfMemory>
+    ensures { IfOk result (λ v. view v ≡ written_group (items_view ops.items)) }
+{
+    Ok(json!(in alloc; {"ops": Value::Array(ops), "type": 3u64})?)
+}
+
+/// The number of the first end, if ends are given. It takes no memory.
+fn given_start(ends: Option<Ends>) -> Option<Value>
+    ensures { option_map view result ≡ given_start ends }
+{
+    match ends {
+        Some(ends) => Some(Value::from(ends.start)),
+        None => None,
+    }
+}
+
+/// The number of the last end, if ends are given. It takes no memory.
+fn given_end(ends: Option<Ends>) -> Option<Value>
+    ensures { option_map view result ≡ given_end ends }
+{
+    match ends {
+        Some(ends) => Some(Value::from(ends.end)),
+        None => None,
+    }
+}
+
+/// The addition or the change of an interval.
+fn written_interval(
+    alloc: Global,
+    word: &str,
+    label: &Text,
+    id: &Text,
+    ends: Option<Ends>,
+    props: &PropSet,
+) -> Result<Value, OutOfMemory>
+    requires { IsPropertySet props.now }
+    ensures value { IfOk result (λ v. view v
+        ≡ written_interval word.now label.now id.now ends props.now) }
+    ensures label { IfOk result (λ _. IsText label.now) }
+    ensures id { IfOk result (λ _. IsText id.now) }
+    ensures keyed { IfOk result (λ _. IsKeyed props.now) }
+{
+    let mut members = Map::new(alloc);
+    put_given(&mut members, alloc, "end", given_end(ends))?;
+    put_str(&mut members, alloc, "id", str_of(id))?;
+    put_str(&mut members, alloc, "interval", word)?;
+    put_str(&mut members, alloc, "label", str_of(label))?;
+    put_given(&mut members, alloc, "props", given_set(alloc, props)?)?;
+    put_given(&mut members, alloc, "start", given_start(ends))?;
+    Ok(Value::Object(members))
+}
+
+/// The deletion of an interval.
+fn written_deletion(alloc: Global, label: &Text, id: &Text) -> Result<Value, OutOfMemory>
+    ensures value { IfOk result (λ v. view v
+        ≡ written_text_op (TextOp.IntervalDelete label.now id.now)) }
+    ensures label { IfOk result (λ _. IsText label.now) }
+    ensures id { IfOk result (λ _. IsText id.now) }
+{
+    let (label, id) = (str_of(label), str_of(id));
+    Ok(json!(in alloc; {"id": id, "interval": "delete", "label": label})?)
+}
+
+/// An operation of the text.
+fn written_text_op(alloc: Global, op: &TextOp) -> Result<Value, OutOfMemory>
+    requires { IsWellFormedText op.now }
+    ensures value { IfOk result (λ v. view v ≡ written_text_op op.now) }
+    ensures representable { IfOk result (λ _. IsRepresentableText op.now) }
+{
+    match op {
+        TextOp::One(op) => written_base(alloc, op),
+        TextOp::Group(ops) => written_group(alloc, written_base_ops(alloc, ops.as_slice())?),
+        TextOp::IntervalAdd {
+            label,
+            id,
+            ends,
+            props,
+        } => written_interval(alloc, "add", label, id, Some(*ends), props),
+        TextOp::IntervalChange {
+            label,
+            id,
+            ends,
+            props,
+        } => written_interval(alloc, "change", label, id, *ends, props),
+        TextOp::IntervalDelete { label, id } => written_deletion(alloc, label, id),
+    }
+}
+
+/// The name of the list that a splice is for. It takes no memory.
+fn target_name(target: Target) -> &'static str
+    ensures { string result.now ≡ written_target target }
+{
+    match target {
+        Target::Rows => "rows",
+        Target::Cols => "cols",
+    }
+}
+
+/// A write to a cell.
+fn written_cell_write(
+    alloc: Global,
+    row: u64,
+    col: u64,
+    value: &ValText,
+) -> Result<Value, OutOfMemory>
+    requires { IsTextWithin 100 value.now }
+    ensures { IfOk result (λ v. view v ≡ written_cell (CellOp.Set row col value.now)) }
+{
+    let value = value.to_value()?;
+    Ok(json!(in alloc; {"col": col, "row": row, "type": "set", "value": value})?)
+}
+
+/// An operation that may stand in a group of the grid.
+fn written_cell(alloc: Global, op: &CellOp) -> Result<Value, OutOfMemory>
+    requires { IsWellFormedCell op.now }
+    ensures { IfOk result (λ v. view v ≡ written_cell op.now) }
+{
+    match op {
+        CellOp::SpliceIn { target, pos, count } => {
+            let target = target_name(*target);
+            Ok(json!(in alloc; {"count": *count, "pos1": *pos, "target": target, "type": 0u64})?)
+        }
+        CellOp::SpliceOut { target, pos1, pos2 } => {
+            let target = target_name(*target);
+            Ok(json!(in alloc; {"pos1": *pos1, "pos2": *pos2, "target": target, "type": 1u64})?)
+        }
+        CellOp::Set { row, col, value } => written_cell_write(alloc, *row, *col, value),
+    }
+}
+
+/// The operations of a group of the grid.
+fn written_cell_ops(alloc: Global, ops: &[CellOp]) -> Result<Vec<Value>, OutOfMemory>
+    requires { AllByRecursion IsWellFormedCell ops.now }
+    ensures { IfOk result (λ vs. items_view vs.items ≡ written_items written_cell ops.now) }
+{
+    let mut values = Vec::new(alloc);
+    for op in ops {
+        values.push(written_cell(alloc, op)?)?;
+    }
+    Ok(values)
+}
+
+/// An operation of the grid.
+fn written_grid_op(alloc: Global, op: &GridOp) -> Result<Value, OutOfMemory>
+    requires { IsWellFormedGrid op.now }
+    ensures { IfOk result (λ v. view v ≡ written_grid_op op.now) }
+{
+    match op {
+        GridOp::One(op) => written_cell(alloc, op),
+        GridOp::Group(ops) => written_group(alloc, written_cell_ops(alloc, ops.as_slice())?),
+    }
+}
+
+/// The JSON value that an operation is written as: just the fields of its form.
+///
+/// Answers `OutOfMemory` where there is no room for it.
+pub fn op_value(alloc: Global, op: &ChannelOp) -> Result<Value, OutOfMemory>
+    requires { IsWellFormed op.now }
+    ensures value { IfOk result (λ v. view v ≡ written op.now) }
+    ensures representable { IfOk result (λ _. IsRepresentable op.now) }
+{
+    match op {
+        ChannelOp::Text(op) => written_text_op(alloc, op),
+        ChannelOp::Grid(op) => written_grid_op(alloc, op),
+    }
+}
+
+/// The one text of an operation: compact, with the keys of each object in rising order of their
+/// bytes. It reads back as the same operation.
+///
+/// Answers `OutOfMemory` where there is no room for it.
+pub fn write_op(alloc: Global, op: &ChannelOp) -> Result<ValText, OutOfMemory>
+    requires { IsWellFormed op.now }
+    ensures text { IfOk result (λ text. text ≡ compact_text (written op.now)) }
+    ensures reads_back { IfOk result (λ text. read_line text ≡ Ok (written op.now)) }
+    ensures same { IfOk result (λ _. IsReadAs op.now (written op.now)) }
+{
+    let value = op_value(alloc, op)?;
+    compact(alloc, &value)
+}

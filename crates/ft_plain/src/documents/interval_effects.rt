@@ -1,0 +1,78 @@
+//! What operations of intervals make of a document.
+
+ghost use Rattle.std.specs.Prelude.{◌≡◌, ℕ, OnOk};
+ghost use Rattle.ft_op.specs.declared.operations.TextOp.TheVariants.{IntervalAdd, IntervalChange, IntervalDelete};
+ghost use Rattle.ft_op.specs.Document.{interval_effect, with_slid_ends};
+ghost use Rattle.ft_plain.specs.Observer.{KeepsMessageNumbers};
+
+use crate::documents::PlainDocument;
+use crate::ends::{elements_at_ends, elements_at_given_ends, ends_fit, given_ends_fit};
+use crate::intervals::PlainInterval;
+use ft_base::{OutOfMemory, Perspective, Text};
+use ft_op::Ends;
+use ft_props::{PropSet, Props};
+
+impl PlainDocument {
+    /// Adds an interval, unless its id is in use in the label.
+    pub(crate) fn add_interval(
+        &mut self,
+        label: &Text,
+        id: &Text,
+        ends: Ends,
+        props: &PropSet,
+        at: Perspective,
+    ) -> Result<(), OutOfMemory>
+        ensures ok { OnOk result (self.new ≡ interval_effect self.old at.c at.r (IntervalAdd label.now id.now ends props.now)) }
+        ensures kept { KeepsMessageNumbers self.old self.new }
+    {
+        if !ends_fit(&self.text, ends, at) {
+            return self.skip();
+        }
+        if !self.intervals.has(label, id) {
+            let named = elements_at_ends(&self.text, ends, at);
+            let props = Props::new(self.text.alloc()).applied(props)?;
+            let interval = PlainInterval::new(label.copy()?, id.copy()?, &named, props);
+            self.intervals.put(interval)?;
+        }
+        self.slide_ends();
+        Ok(())
+    }
+
+    /// Gives an interval the ends, if some are given, and sets properties of it. Nothing is done where
+    /// the id isn't in the label.
+    pub(crate) fn change_interval(
+        &mut self,
+        label: &Text,
+        id: &Text,
+        ends: Option<Ends>,
+        props: &PropSet,
+        at: Perspective,
+    ) -> Result<(), OutOfMemory>
+        ensures ok { OnOk result (self.new ≡ interval_effect self.old at.c at.r (IntervalChange label.now id.now ends props.now)) }
+        ensures kept { KeepsMessageNumbers self.old self.new }
+    {
+        if !given_ends_fit(&self.text, ends, at) {
+            return self.skip();
+        }
+        let named = elements_at_given_ends(&self.text, ends, at);
+        self.intervals.change(label, id, ends, &named, props)?;
+        self.slide_ends();
+        Ok(())
+    }
+
+    /// Takes an interval away, if it is there. It takes no memory.
+    pub(crate) fn delete_interval(&mut self, label: &Text, id: &Text)
+        ensures effect { (c r : ℕ) → self.new ≡ interval_effect self.old c r (IntervalDelete label.now id.now) }
+        ensures kept { KeepsMessageNumbers self.old self.new }
+    {
+        self.intervals.delete(label, id);
+        self.slide_ends();
+    }
+
+    /// Slides each end of an interval. It takes no memory.
+    pub(crate) fn slide_ends(&mut self)
+        ensures { self.new ≡ with_slid_ends self.old }
+    {
+        self.intervals.slide_ends(self.text.as_slice());
+    }
+}
