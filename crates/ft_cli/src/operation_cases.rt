@@ -10,7 +10,7 @@ pub struct OperationCase {
     pub report: &'static str,
 }
 
-pub const OPERATION_CASES: [OperationCase; 14] = [
+pub static OPERATION_CASES: [OperationCase; 14] = [
     OperationCase {
         name: "a group's sub-operations take effect one after another",
         log: r#"{"clientId":"X","clientSequenceNumber":1,"contents":{"address":"text","contents":{"ops":[{"pos1":0,"seg":"ab","type":0},{"pos1":0,"pos2":1,"props":{"b":true},"type":2},{"pos1":0,"seg":"c","type":0}],"type":3}},"minimumSequenceNumber":0,"referenceSequenceNumber":0,"sequenceNumber":1,"type":"op"}

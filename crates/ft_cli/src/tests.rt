@@ -51,7 +51,7 @@ fn run_over(
     Ok(Outcome { status, sink })
 }
 
-const CASES: [Case; 7] = [
+static CASES: [Case; 7] = [
     Case {
         name: "an empty log has an empty text",
         words: &["log"],

@@ -46,7 +46,7 @@ const HEAD: &str =
     r#"{"sequenceNumber":1,"minimumSequenceNumber":0,"clientSequenceNumber":1,"referenceSequenceNumber":0,"#;
 
 /// Texts that begin anew, each with its first fault.
-const WHOLE: [(&[u8], Cause); 18] = [
+static WHOLE: [(&[u8], Cause); 18] = [
     (b"\xff", Cause::NotUtf8),
     (b"", Cause::NotJson),
     (b"{\"a\":1e999}", Cause::NotJson),
@@ -107,7 +107,7 @@ const WHOLE: [(&[u8], Cause); 18] = [
 ];
 
 /// Texts behind the numbers, each with the message's first fault.
-const TAILS: [(&str, Cause); 24] = [
+static TAILS: [(&str, Cause); 24] = [
     (r#""type":"op"}"#, Cause::WrongKind(Field::ClientId)),
     (
         r#""type":"op","clientId":null,"contents":1}"#,
@@ -244,7 +244,7 @@ fn told_kind(kind: &MsgKind) -> &str {
 }
 
 /// Texts behind the numbers, each with the kind, the name and the body of the message.
-const READ: [(&str, &str, Option<&str>, &str); 10] = [
+static READ: [(&str, &str, Option<&str>, &str); 10] = [
     (
         r#""type":"join","clientId":"a","contents":{"address":1}}"#,
         "a join",

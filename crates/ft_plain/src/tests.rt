@@ -62,18 +62,9 @@ enum Op {
 #[derive(Clone, Copy)]
 struct Row(u32, u32, i64, u32, Op);
 
-/// A message as in `Row`, with the minimum 0, and what is shown after it, empty where that isn't compared.
+/// A message as in `Row`, with the minimum 0, and what is shown after it, empty where that isn't
+/// compared.
 struct Step(u32, u32, i64, Op, &'static str);
-
-/// An insertion of the text after so many elements.
-fn ins(pos: u64, text: &'static str) -> Op {
-    Op::One(Base::Ins(pos, text))
-}
-
-/// A removal of the elements from the first place up to before the second.
-fn rem(pos1: u64, pos2: u64) -> Op {
-    Op::One(Base::Rem(pos1, pos2))
-}
 
 /// The value of a text.
 fn value(alloc: Global, text: &str) -> Result<ValText, OutOfMemory> {
@@ -485,55 +476,87 @@ fn the_views_are_those_of_the_rules(rt: HostRuntime) -> Result<(), Fail> {
     Ok(())
 }
 
+/// What comes before the refused messages.
+static START: [Row; 2] = [
+    Row(1, 1, 0, 0, Op::One(Base::Ins(0, "ab"))),
+    Row(2, 1, 1, 1, Op::One(Base::Rem(0, 9))),
+];
+
+/// A message with these numbers, and the refusal of it.
+struct Refused(u32, i64, u32, ProcessFault);
+
+/// Messages with contradicting numbers: each its number, its reference number and its minimum.
+static REFUSED: [Refused; 6] = [
+    Refused(
+        2,
+        2,
+        1,
+        ProcessFault::OutOfOrder {
+            expected: 3,
+            got: 2,
+        },
+    ),
+    Refused(
+        4,
+        9,
+        1,
+        ProcessFault::OutOfOrder {
+            expected: 3,
+            got: 4,
+        },
+    ),
+    Refused(
+        3,
+        0,
+        1,
+        ProcessFault::BadNumbers {
+            field: Field::ReferenceSequenceNumber,
+            kept: 1,
+            got: 0,
+        },
+    ),
+    Refused(
+        3,
+        3,
+        0,
+        ProcessFault::BadNumbers {
+            field: Field::ReferenceSequenceNumber,
+            kept: 2,
+            got: 3,
+        },
+    ),
+    Refused(
+        3,
+        2,
+        0,
+        ProcessFault::BadNumbers {
+            field: Field::MinimumSequenceNumber,
+            kept: 1,
+            got: 0,
+        },
+    ),
+    Refused(
+        3,
+        2,
+        4,
+        ProcessFault::BadNumbers {
+            field: Field::MinimumSequenceNumber,
+            kept: 3,
+            got: 4,
+        },
+    ),
+];
+
 #[test]
 fn a_message_with_contradicting_numbers_is_refused(rt: HostRuntime) -> Result<(), Fail> {
-    let start = [Row(1, 1, 0, 0, ins(0, "ab")), Row(2, 1, 1, 1, rem(0, 9))];
-    let ins = ins(0, "x");
-    let refused = [
-        (
-            Row(2, 1, 2, 1, ins),
-            ProcessFault::OutOfOrder {
-                expected: 3,
-                got: 2,
-            },
-        ),
-        (
-            Row(4, 1, 9, 1, ins),
-            ProcessFault::OutOfOrder {
-                expected: 3,
-                got: 4,
-            },
-        ),
-        (Row(3, 1, 0, 1, ins), bad_reference(1, 0)),
-        (Row(3, 1, 3, 0, ins), bad_reference(2, 3)),
-        (Row(3, 1, 2, 0, ins), bad_minimum(1, 0)),
-        (Row(3, 1, 2, 4, ins), bad_minimum(3, 4)),
-    ];
-    let mut plain = replica(rt.alloc(), &start)?;
-    for (row, fault) in refused {
-        assert_eq!(rt; plain.process(&entry(rt.alloc(), row)?), Err(fault));
+    let mut plain = replica(rt.alloc(), &START)?;
+    for Refused(seq, ref_seq, min, fault) in &REFUSED {
+        let row = Row(*seq, 1, *ref_seq, *min, Op::One(Base::Ins(0, "x")));
+        assert_eq!(rt; plain.process(&entry(rt.alloc(), row)?), Err(*fault));
     }
     let numbers = plain.numbers();
     assert_eq!(rt; (numbers.seq, numbers.min, numbers.skipped), (2, 1, 1));
     assert_eq!(rt; (numbers.other, numbers.made, numbers.pending), (0, 2, 0));
     assert_eq!(rt; plain.view()?.text.as_str(), "ab");
     Ok(())
-}
-
-/// The refusal of a reference number.
-fn bad_reference(kept: u64, got: i64) -> ProcessFault {
-    ProcessFault::BadNumbers {
-        field: Field::ReferenceSequenceNumber,
-        kept,
-        got,
-    }
-}
-
-/// The refusal of a minimum.
-fn bad_minimum(kept: u64, got: i64) -> ProcessFault {
-    ProcessFault::BadNumbers {
-        field: Field::MinimumSequenceNumber,
-        kept,
-        got,
-    }
 }

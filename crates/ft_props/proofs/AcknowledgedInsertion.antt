@@ -54,46 +54,46 @@ below_mark k (Some j) = nat_lt j k
 abbrev pub expects : ℕ → ℕ → ℕ → ListElement → Bool
 expects r c k e = (has_occurred r c e.ins || below_stamp k e.ins) && not (list_any (has_occurred r c) e.dels || below_mark k e.removal_stage)
 
-map-choice : {A B : Type 0} (f : A → B) (b : Bool) (xs ys : List A) → cond b (map f xs) (map f ys) ≡ map f (cond b xs ys)
+pub map-choice : {A B : Type 0} (f : A → B) (b : Bool) (xs ys : List A) → cond b (map f xs) (map f ys) ≡ map f (cond b xs ys)
 map-choice f true xs ys = refl
 map-choice f false xs ys = refl
 
 -- at or above k: at most k is k itself
-at_most : (j k : ℕ) → nat_le k j ≡ true → nat_eq j k ≡ nat_le j k
+pub at_most : (j k : ℕ) → nat_le k j ≡ true → nat_eq j k ≡ nat_le j k
 at_most j k h = grind (arith, nat_tests)
 
-acked_if : (b : Bool) (s c j : ℕ) → is_acked (cond b (Acked s c) (Local j)) ≡ b
+pub acked_if : (b : Bool) (s c j : ℕ) → is_acked (cond b (Acked s c) (Local j)) ≡ b
 acked_if true s c j = refl
 acked_if false s c j = refl
 
-above_or : (j k : ℕ) → nat_le j k ≡ false → nat_eq j k ≡ false
+pub above_or : (j k : ℕ) → nat_le j k ≡ false → nat_eq j k ≡ false
 above_or j k h = grind (arith, nat_tests)
 
 module _ (k n s c : ℕ) where
-  same_test : (j : ℕ) → nat_le k j ≡ true → is_acked (acked_stamp k s c (Local j)) ≡ nat_le j k
+  pub same_test : (j : ℕ) → nat_le k j ≡ true → is_acked (acked_stamp k s c (Local j)) ≡ nat_le j k
   same_test j h = acked_if (nat_eq j k) s c j ∙ at_most j k h
 
-  reached : (t : Stamp) → from_stamp k t ≡ true → is_acked (acked_stamp k s c t) ≡ has_occurred_at_stage k t
+  pub reached : (t : Stamp) → from_stamp k t ≡ true → is_acked (acked_stamp k s c t) ≡ has_occurred_at_stage k t
   reached (Acked r d) h = refl
   reached (Local j) h = same_test j h
 
-  element_up_to-removal : (m : Option ℕ) → acked_removal k s c (removal_up_to k m) ≡ acked_removal k s c m
+  pub element_up_to-removal : (m : Option ℕ) → acked_removal k s c (removal_up_to k m) ≡ acked_removal k s c m
   element_up_to-removal None = refl
   element_up_to-removal (Some j) = grind (arith, above_or j k)
 
-  element_up_to-left : (m : Option ℕ) → from_mark k m ≡ true → remaining_removal k (removal_up_to k m) ≡ None
+  pub element_up_to-left : (m : Option ℕ) → from_mark k m ≡ true → remaining_removal k (removal_up_to k m) ≡ None
   element_up_to-left None h = refl
   element_up_to-left (Some j) h = grind (arith, at_most j k h)
 
-  element_up_to-props : (props : PropertyList) (pending : List (ℕ × Changes)) → acked_props k props (filter (λ p. nat_le p.0 k) pending) ≡ acked_props k props pending
+  pub element_up_to-props : (props : PropertyList) (pending : List (ℕ × Changes)) → acked_props k props (filter (λ p. nat_le p.0 k) pending) ≡ acked_props k props pending
   element_up_to-props props [] = refl
   element_up_to-props props ((j, ch) ∷ pending) = grind (arith, element_up_to-props props pending, element_up_to-props (change props ch) pending, above_or j k)
 
-  element_up_to-pending : (pending : List (ℕ × Changes)) → list_all (λ p. nat_le k p.0) pending ≡ true → filter (λ p. not (nat_eq p.0 k)) (filter (λ p. nat_le p.0 k) pending) ≡ []
+  pub element_up_to-pending : (pending : List (ℕ × Changes)) → list_all (λ p. nat_le k p.0) pending ≡ true → filter (λ p. not (nat_eq p.0 k)) (filter (λ p. nat_le p.0 k) pending) ≡ []
   element_up_to-pending [] h = refl
   element_up_to-pending ((j, ch) ∷ pending) h = grind (arith, element_up_to-pending pending, at_most j k)
 
-  acked-element_up_to : (e : ListElement) → is_from k e ≡ true → without_pending (acked_element k n s c e) ≡ acked_element k n s c (element_up_to k e)
+  pub acked-element_up_to : (e : ListElement) → is_from k e ≡ true → without_pending (acked_element k n s c e) ≡ acked_element k n s c (element_up_to k e)
   acked-element_up_to e h =
       let left : remaining_removal k (removal_up_to k e.removal_stage) ≡ None = element_up_to-left e.removal_stage (all_three (from_stamp k e.ins) (from_mark k e.removal_stage) (list_all (λ p. nat_le k p.0) e.pending) h).1 in
       let none : filter (λ p. not (nat_eq p.0 k)) (filter (λ p. nat_le p.0 k) e.pending) ≡ [] = element_up_to-pending e.pending (all_three (from_stamp k e.ins) (from_mark k e.removal_stage) (list_all (λ p. nat_le k p.0) e.pending) h).2 in
@@ -107,12 +107,12 @@ module _ (k n s c : ℕ) where
       let ins : is_acked (acked_stamp k s c e.ins) ≡ has_occurred_at_stage k e.ins = reached e.ins (all_three (from_stamp k e.ins) (from_mark k e.removal_stage) (list_all (λ p. nat_le k p.0) e.pending) here.0).0 in
       rw (ins, acked-element_up_to e here.0, sequenced_elements-acked xs here.1) (map-choice (acked_element k n s c) (has_occurred_at_stage k e.ins) (element_up_to k e ∷ list_up_to k xs) (list_up_to k xs))
 
-none_past : {A : Type 0} (keep past : A → Bool) (g : A → A) → ((x : A) → keep x ≡ true → past (g x) ≡ false) → (new xs : List A)
+pub none_past : {A : Type 0} (keep past : A → Bool) (g : A → A) → ((x : A) → keep x ≡ true → past (g x) ≡ false) → (new xs : List A)
     → put_past past new (retain_map keep g xs) ≡ new ++ retain_map keep g xs
 none_past keep past g q new [] = sym (append-nil new)
 none_past keep past g q new (x ∷ xs) = grind (arith, none_past keep past g q new xs, q x)
 
-map-fixed : {A : Type 0} (keep : A → Bool) (g f : A → A) → ((x : A) → keep x ≡ true → f (g x) ≡ g x) → (xs : List A) → map f (retain_map keep g xs) ≡ retain_map keep g xs
+pub map-fixed : {A : Type 0} (keep : A → Bool) (g f : A → A) → ((x : A) → keep x ≡ true → f (g x) ≡ g x) → (xs : List A) → map f (retain_map keep g xs) ≡ retain_map keep g xs
 map-fixed keep g f h [] = refl
 map-fixed keep g f h (x ∷ xs) = grind (arith, map-fixed keep g f h xs, h x)
 
@@ -131,28 +131,28 @@ put-agree keep seen seen' past g h q zero new xs = put_past-no_run new (retain_m
 put-agree keep seen seen' past g h q (suc p) new [] = refl
 put-agree keep seen seen' past g h q (suc p) new (x ∷ xs) = grind (arith, put-agree keep seen seen' past g h q p new xs, put-agree keep seen seen' past g h q (suc p) new xs, h x, q x)
 
-same_nat : (k : ℕ) → nat_eq k k ≡ true
+pub same_nat : (k : ℕ) → nat_eq k k ≡ true
 same_nat k = grind (arith, nat_tests)
 
-author-text : (s c : ℕ) (i : ElementContent) → is_text i ≡ true → author s c i ≡ Some (Acked s c)
+pub author-text : (s c : ℕ) (i : ElementContent) → is_text i ≡ true → author s c i ≡ Some (Acked s c)
 author-text s c (Character x) h = refl
 author-text s c (MarkerOf x) h = refl
 author-text s c GridUnit h = (cc)
 
-not_local : (k : ℕ) (t : Stamp) → is_acked t ≡ true → is_of_stage k t ≡ false
+pub not_local : (k : ℕ) (t : Stamp) → is_acked t ≡ true → is_of_stage k t ≡ false
 not_local k (Acked s c) h = refl
 not_local k (Local j) h = (cc)
 
-not_below : (k : ℕ) (t : Stamp) → is_acked t ≡ true → below_stamp k t ≡ false
+pub not_below : (k : ℕ) (t : Stamp) → is_acked t ≡ true → below_stamp k t ≡ false
 not_below k (Acked s c) h = refl
 not_below k (Local j) h = (cc)
 
-or_false : (b : Bool) → b || false ≡ b
+pub or_false : (b : Bool) → b || false ≡ b
 or_false true = refl
 or_false false = refl
 
 -- the new elements of a message are those of the stage with their stamps, numbers and author
-new-acked : (k n s c i : ℕ) (props : PropertyList) (items : List ElementContent) → list_all is_text items ≡ true
+pub new-acked : (k n s c i : ℕ) (props : PropertyList) (items : List ElementContent) → list_all is_text items ≡ true
     → map (acked_element k n s c) (new_elements i (Local k) [] None props items) ≡ new_elements (n + i) (Acked s c) [] (Some (Acked s c)) props items
 new-acked k n s c i props [] h = refl
 new-acked k n s c i props (b ∷ bs) h =
@@ -162,11 +162,11 @@ new-acked k n s c i props (b ∷ bs) h =
     rw (stage, author-text s c b t.0, new-acked k n s c (i + 1) props bs t.1, next) refl
 
 -- an acknowledgement leaves sequenced elements alone
-acked-fixed : (k n s c : ℕ) (e : ListElement) → is_sequenced e ≡ true → acked_element k n s c (without_pending e) ≡ without_pending e
+pub acked-fixed : (k n s c : ℕ) (e : ListElement) → is_sequenced e ≡ true → acked_element k n s c (without_pending e) ≡ without_pending e
 acked-fixed k n s c e h = rw (not_local k e.ins h, append-nil e.dels) refl
 
 -- a sequenced element is expected where it is seen
-expects-seen : (r c k : ℕ) (e : ListElement) → is_sequenced e ≡ true → expects r c k (without_pending e) ≡ seen_by r c (without_pending e)
+pub expects-seen : (r c k : ℕ) (e : ListElement) → is_sequenced e ≡ true → expects r c k (without_pending e) ≡ seen_by r c (without_pending e)
 expects-seen r c k e h = rw (not_below k e.ins h, or_false (has_occurred r c e.ins), or_false (list_any (has_occurred r c) e.dels), append-nil e.dels) refl
 
 -- the acknowledgement of an insertion at stage k under number s of connection c

@@ -68,7 +68,7 @@ struct Case {
     after: &'static str,
 }
 
-const CASES: [Case; 10] = [
+static CASES: [Case; 10] = [
     Case {
         name: "keys are set in their place and taken away",
         before: &[("b", "1"), ("d", "2")],
