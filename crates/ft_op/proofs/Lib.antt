@@ -14,3 +14,4 @@ pub mod ReadProperties
 pub mod ReadText
 pub mod ReadGrid
 pub mod ReadOperations
+pub mod SameOperations

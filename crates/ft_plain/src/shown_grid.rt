@@ -1,7 +1,6 @@
 //! The cells that are shown.
 
 ghost use Rattle.std.specs.Prelude.{◌≡◌, ◌++◌, [], IfOk, OnOk, length, option_copied};
-ghost use Rattle.ft_props.specs.Element.{id};
 ghost use Rattle.ft_msg.specs.Content.{all_cells, cell_record, row_cells, stage_view};
 
 use crate::cells::PlainCells;

@@ -1,6 +1,6 @@
 //! The intervals that are shown.
 
-ghost use Rattle.std.specs.Prelude.{◌≡◌, ◌+◌, ◌<◌, ◌≤◌, IfOk, length, map};
+ghost use Rattle.std.specs.Prelude.{◌≡◌, IfOk, map};
 ghost use Rattle.ft_base.specs.Scan.{rank};
 ghost use Rattle.ft_props.specs.Element.{has_id, seen};
 ghost use Rattle.ft_props.specs.Slide.{end_number};

@@ -1,6 +1,6 @@
 //! What operations of the text make of a document.
 
-ghost use Rattle.std.specs.Prelude.{◌≡◌, ℕ, IfOk, OnOk, OnErr, chars, map};
+ghost use Rattle.std.specs.Prelude.{◌≡◌, ℕ, IfOk, OnOk, chars, map};
 ghost use Rattle.ft_op.specs.Operation.{OnText, segment_contents, text_sub_operations};
 ghost use Rattle.ft_op.specs.Document.{effects, text_effect};
 ghost use Rattle.ft_plain.specs.Contents.{content_of};
