@@ -1,0 +1,9 @@
+pub mod StageEdits
+pub mod SentStages
+pub mod ClientSteps
+pub mod Agreement
+pub mod Trimming
+pub mod Reconnecting
+pub mod Sequencing
+pub mod ExampleRun
+pub mod Examples
