@@ -41,7 +41,7 @@ renamed-first s c rename t doc = ap (acked_with s c t doc) (names-not_renamed (r
 
 -- ---- the stages of an edit
 
-effects-append : (doc : Document) (s c r : ℕ) (os ps : List SubOperation) → effects doc s c r (os ++ ps) ≡ effects (effects doc s c r os) s c r ps
+pub effects-append : (doc : Document) (s c r : ℕ) (os ps : List SubOperation) → effects doc s c r (os ++ ps) ≡ effects (effects doc s c r os) s c r ps
 effects-append doc s c r [] ps = refl
 effects-append doc s c r (o ∷ os) ps = effects-append (effect doc s c r o) s c r os ps
 

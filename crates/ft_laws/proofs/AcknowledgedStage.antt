@@ -60,10 +60,6 @@ HasAuthor s c by (PutIn p props items) = HaveAuthor s c by items
 HasAuthor s c by (TakenOut ranges) = Unit {0}
 HasAuthor s c by (Annotated ranges changes) = Unit {0}
 
-map-choice : {A B : Type 0} (f : A → B) (b : Bool) (xs ys : List A) → cond b (map f xs) (map f ys) ≡ map f (cond b xs ys)
-map-choice f true xs ys = refl
-map-choice f false xs ys = refl
-
 acked-only : (k : ℕ) (t : Stamp) → is_acked t ≡ true → only_stamp k t ≡ true
 acked-only k (Acked s c) h = refl
 acked-only k (Local j) h = (cc)

@@ -8,7 +8,7 @@ use Rattle.ft_base.specs.Scan.{no_run, put, retain_map}
 use Rattle.ft_base.specs.Visibility.{has_occurred_at_stage, is_acked, is_of_stage}
 use Rattle.ft_base.proofs.Booleans.{all_three, both}
 use Rattle.ft_msg.specs.declared.messages.Entry.{Entry}
-use Rattle.ft_props.specs.Element.{ListElement, ElementId, id, is_sequenced, is_unremoved, removal_stamp, seen, without_pending}
+use Rattle.ft_props.specs.Element.{ListElement, ElementId, id, is_sequenced, is_unremoved, removal_stamp, seen}
 use Rattle.ft_props.specs.Steps.{Sequence, carried_element, is_inserted_by, rebuilt_list, stage_position}
 use Rattle.ft_op.specs.Cells.{cell_value}
 use Rattle.ft_op.specs.Operation.{SubOperation}
@@ -22,21 +22,15 @@ use Rattle.ft_laws.specs.Reconnecting.{IsInPlace, IsOrderly, StagesRiseTo, Stand
 use Rattle.ft_laws.specs.Trimming.{has_ends_on, is_end_on}
 use Rattle.ft_laws.proofs.HeldNames.{filter-held}
 use Rattle.ft_laws.proofs.OwnNames.{all-weaker, has_named, none-passes, own-named}
-use Rattle.ft_laws.proofs.TrimmedContent.{agreed-rows, removed-unseen}
-use Rattle.ft_laws.proofs.StageViews.{filter-none, filter-or, put-nothing, all-rebuilt, carried-seen, next-rebuilt, put_stages-all, rise-absent, stage_list, view-rebuilt}
+use Rattle.ft_laws.proofs.TrimmedContent.{agreed-rows}
+use Rattle.ft_laws.proofs.StageViews.{filter-none, filter-or, put-nothing, all-rebuilt, next-rebuilt, put_stages-all, rise-absent, stage_list, view-rebuilt}
 use Rattle.ft_laws.proofs.SettledEnds.{SameViews, has_ends_at, intervals-same, is_end_at, is_left, left-first, named-weaker, records-same, shown-at}
 use Rattle.ft_laws.proofs.PendingWrites.{value-same}
 use Rattle.ft_laws.proofs.CarriedEdits.{edits-numbers, queue-resubmitted, stages-resubmitted}
+use Rattle.ft_laws.proofs.Booleans.{hidden}
+use Rattle.ft_laws.proofs.SideBySideStages.{carried-seen, carried-same}
 
 -- ---- one list
-
--- an element that is seen goes on as it is
-pub carried-same : (k : ℕ) (e : ListElement) → seen k e ≡ true → carried_element e ≡ e
-carried-same k e h = step (list_any is_acked e.dels) refl
-  where
-    step : (b : Bool) → list_any is_acked e.dels ≡ b → cond b (without_pending e) e ≡ e
-    step true g = absurd (cc (removed-unseen k e g))
-    step false g = refl
 
 -- without pending stages the same is seen
 first-view : (xs : List ListElement) → list_all (λ e. is_sequenced e || not (seen 0 e)) xs ≡ true → filter (seen 0) (retain_map is_sequenced carried_element xs) ≡ filter (seen 0) xs
@@ -152,10 +146,6 @@ module _ (inserts removes : SubOperation → Bool) (stages : List Stage) (m : �
       step false b p q g d = refl
 
 -- ---- the whole client
-
-hidden : (b : Bool) → not b ≡ true → b ≡ false
-hidden true h = (cc)
-hidden false h = refl
 
 pub view-named : (m : ℕ) (xs : List ListElement) → list_all (λ e. has_named (seen m) xs (id e)) (filter (seen m) xs) ≡ true
 view-named m xs = filter-held (λ e. not (seen m e)) (has_named (seen m) xs) (seen m) (λ e h. hidden (seen m e) h) xs (own-named (seen m) xs)

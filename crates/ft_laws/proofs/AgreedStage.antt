@@ -1,5 +1,5 @@
 -- What the sub-operations of a stage, one after another, make of the document of the messages alone.
-use Rattle.std.proofs.Common.{◌≡◌, ℕ, zero, suc, ◌+◌, ◌≤◌, ◌<◌, Bool, true, false, cond, not, ◌&&◌, ◌||◌, nat_le, nat_eq, List, [], ◌∷◌, ◌++◌, Option, Some, None, map, length, replicate, refl, sym, ◌∙◌, ap, subst, arith}
+use Rattle.std.proofs.Common.{◌≡◌, ℕ, zero, suc, ◌+◌, ◌≤◌, ◌<◌, Bool, true, false, cond, not, ◌&&◌, nat_le, nat_eq, List, [], ◌∷◌, ◌++◌, Option, Some, None, map, length, replicate, refl, sym, ◌∙◌, ap, subst, arith}
 use Rattle.std.specs.List.{list_any}
 use Rattle.std.specs.Option.{option_map}
 use Rattle.std.proofs.lemmas.Bool.Decides.{nat_tests}
@@ -25,6 +25,8 @@ use Rattle.ft_msg.specs.Acknowledgement.{write_named_cell}
 use Rattle.ft_laws.specs.StageEdits.{StageEdit, PutIn, TakenOut, Annotated, change_ranges, fits_sequenced, ranges_fit}
 use Rattle.ft_laws.specs.SentStages.{NamesBy, IsOneName, text_edit, rows_edit, cols_edit, intervals_after_sent, SentStage, TextPut, TextTaken, TextAnnotated, IntervalsChanged, UnitsPut, UnitsTaken, CellWritten, told_as, document_after, list_after}
 use Rattle.ft_laws.proofs.SlidEnds.{MoreRemoved, Once, true-false, Stands, is_standing_at, slide-stays, slide-twice, stands-slide}
+use Rattle.ft_laws.proofs.Booleans.{never, or-true}
+use Rattle.ft_laws.proofs.AnyAndAll.{any-behind}
 
 -- whether the edit takes elements out
 abbrev pub removes : StageEdit → Bool
@@ -52,6 +54,8 @@ pub record IsNamed (list : Sequence) : Type 0 where
 pub record IsSound (doc : Document) : Type 0 where
   pub named : IsNamed doc.text
   pub ends : EndsStand doc.text.items doc.intervals
+  pub rows : IsNamed doc.rows
+  pub cols : IsNamed doc.cols
 
 -- ends that stand stay
 pub ends-stay : (xs : List ListElement) (is : List Interval) → Once xs → EndsStand xs is → slide_ends xs is ≡ is
@@ -68,14 +72,6 @@ ends-twice xs ys (i ∷ is) once h = rw (slide-twice i.start xs ys once h, slide
 
 -- ---- removals
 
-or-true : (b : Bool) → b || true ≡ true
-or-true true = refl
-or-true false = refl
-
-and-false : (b : Bool) → b && false ≡ false
-and-false true = refl
-and-false false = refl
-
 unremoved-as : (x : ListElement) → is_unremoved x ≡ (is_acked x.ins && not (list_any is_acked x.dels))
 unremoved-as x = ap (λ b. is_acked x.ins && not b) (any-acked x.dels x.removal_stage)
 
@@ -83,7 +79,7 @@ removed-now : (s c : ℕ) (x : ListElement) → is_unremoved (with_removal s c x
 removed-now s c x =
     unremoved-as (with_removal s c x)
     ∙ ap (λ b. is_acked x.ins && not b) (list_any-append is_acked x.dels (Acked s c ∷ []) ∙ or-true (list_any is_acked x.dels))
-    ∙ and-false (is_acked x.ins)
+    ∙ never (is_acked x.ins)
 
 still-unremoved : (s c : ℕ) (b : Bool) (x : ListElement) → is_unremoved (cond b (with_removal s c x) x) ≡ true → is_unremoved x ≡ true
 still-unremoved s c true x h = absurd (true-false (sym h ∙ removed-now s c x))
@@ -167,13 +163,9 @@ len-put-add test place past zero new xs = len-past-add test past new xs
 len-put-add test place past (suc q) new [] = omega arith
 len-put-add test place past (suc q) new (x ∷ xs) = grind (arith, len-put-add test place past q new xs, len-put-add test place past (suc q) new xs)
 
-any-append-more : {A : Type 0} (test : A → Bool) (new xs : List A) → list_any test xs ≡ true → list_any test (new ++ xs) ≡ true
-any-append-more test [] xs h = h
-any-append-more test (y ∷ ys) xs h = rw (any-append-more test ys xs h) (or-true (test y))
-
 any-past-more : {A : Type 0} (test past : A → Bool) (new xs : List A) → list_any test xs ≡ true → list_any test (put_past past new xs) ≡ true
 any-past-more test past new [] h = (cc)
-any-past-more test past new (x ∷ xs) h = grind (arith, any-past-more test past new xs, any-append-more test new (x ∷ xs))
+any-past-more test past new (x ∷ xs) h = grind (arith, any-past-more test past new xs, any-behind test new (x ∷ xs))
 
 any-put-more : {A : Type 0} (test place past : A → Bool) (q : ℕ) (new xs : List A) → list_any test xs ≡ true → list_any test (put place past q new xs) ≡ true
 any-put-more test place past zero new xs h = any-past-more test past new xs h
@@ -334,4 +326,6 @@ pub sound-after : (s c r : ℕ) (sent : SentStage) (names : NamedElements) (doc 
 sound-after s c r sent names doc sound = record {
   named = named-after s c r (Some (Acked s c)) (text_edit sent) doc.text sound.named;
   ends = ends-stand (list_after s c r (Some (Acked s c)) (text_edit sent) doc.text).items (intervals_after_sent sent names doc.intervals);
+  rows = named-after s c r None (rows_edit sent) doc.rows sound.rows;
+  cols = named-after s c r None (cols_edit sent) doc.cols sound.cols;
 }

@@ -7,21 +7,21 @@ use Rattle.ft_props.specs.Element.{ElementId, same_id}
 use Rattle.ft_op.specs.Cells.{Cell, is_cell, is_null, put_cell, write_cell, cell_value}
 use Rattle.ft_msg.specs.Content.{value_unless_null}
 use Rattle.ft_laws.specs.Trimming.{has_value}
-use Rattle.ft_laws.proofs.CompactedScans.{same_id-same}
+use Rattle.ft_laws.proofs.SlidEnds.{same_id-eq}
 
 -- a cell is looked for by its row and its column
 is_cell-same : (row col : ElementId) (a b : Cell) → is_cell a.row a.col b ≡ true → is_cell row col b ≡ is_cell row col a
 is_cell-same row col a b h =
     let p = both (same_id a.row b.row) (same_id a.col b.col) h in
-    let q : a.row ≡ b.row = same_id-same a.row b.row p.0 in
-    let r : a.col ≡ b.col = same_id-same a.col b.col p.1 in
+    let q : a.row ≡ b.row = same_id-eq a.row b.row p.0 in
+    let r : a.col ≡ b.col = same_id-eq a.col b.col p.1 in
     rw (q, r) refl
 
 is_cell-other : (row col : ElementId) (a b : Cell) → is_cell a.row a.col b ≡ false → is_cell row col a ≡ true → is_cell row col b ≡ false
 is_cell-other row col a b h k =
     let p = both (same_id row a.row) (same_id col a.col) k in
-    let q : row ≡ a.row = same_id-same row a.row p.0 in
-    let r : col ≡ a.col = same_id-same col a.col p.1 in
+    let q : row ≡ a.row = same_id-eq row a.row p.0 in
+    let r : col ≡ a.col = same_id-eq col a.col p.1 in
     rw (q, r) h
 
 same-choice : {A : Type 0} (b : Bool) (x : A) → x ≡ cond b x x
@@ -134,5 +134,5 @@ value-kept row col keep (c ∷ cells) v h =
     step false true e k w q = ap (λ b. option_map (λ (x : Cell). x.value) (cond b (Some c) (find (is_cell row col) (filter keep cells)))) e ∙ q
     step true false e k w q =
         let p = both (same_id row c.row) (same_id col c.col) e in
-        cc (h c w (same_id-same row c.row p.0) (same_id-same col c.col p.1))
+        cc (h c w (same_id-eq row c.row p.0) (same_id-eq col c.col p.1))
     step false false e k w q = q

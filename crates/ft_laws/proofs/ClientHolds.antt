@@ -1,11 +1,17 @@
 -- What is known of a client, and that its steps keep it.
-use Rattle.std.proofs.Common.{◌≡◌, ℕ, suc, ◌+◌, ◌<◌, Bool, true, false, ◌||◌, nat_eq, List, [], ◌∷◌, ◌++◌, Option, Some, None, Result, Ok, Err, append-nil, append_assoc, add-one, length, map, drop, pos, refl, sym, ◌∙◌, ap, subst, arith}
-use Rattle.std.specs.List.{list_any, flat_map}
+use Rattle.std.proofs.Common.{◌≡◌, ◌⊎◌, inl, inr, ℕ, suc, ◌+◌, ◌<◌, Bool, true, false, ◌||◌, nat_eq, List, [], ◌∷◌, ◌++◌, Option, Some, None, Result, Ok, Err, append-nil, append_assoc, add-one, length, map, drop, pos, refl, sym, ◌∙◌, ap, subst, arith}
+use Rattle.std.specs.List.{list_all, list_any, flat_map}
 use Rattle.std.proofs.lemmas.List.{map-append}
 use Rattle.std.proofs.lemmas.List.Folds.{list_any-append}
 use Rattle.std.proofs.lemmas.Bool.Decides.{nat_tests}
 use Rattle.ft_base.proofs.Booleans.{all_four}
 use Rattle.ft_op.specs.declared.operations.ChannelOp.{ChannelOp}
+use Rattle.ft_op.specs.declared.operations.ChannelOp.TheVariants.{Text, Grid}
+use Rattle.ft_op.specs.declared.operations.BaseOp.{BaseOp}
+use Rattle.ft_op.specs.declared.operations.CellOp.{CellOp}
+use Rattle.ft_op.specs.declared.operations.GridOp.TheVariants as grid
+use Rattle.ft_op.specs.declared.operations.TextOp.{TextOp}
+use Rattle.ft_op.specs.declared.operations.TextOp.TheVariants.{One, Group, IntervalAdd, IntervalChange, IntervalDelete}
 use Rattle.ft_msg.specs.declared.messages.Entry.{Entry}
 use Rattle.ft_msg.specs.declared.messages.Body.{Body}
 use Rattle.ft_msg.specs.declared.messages.Body.TheVariants.{Nothing, Op, Elsewhere}
@@ -13,7 +19,7 @@ use Rattle.ft_msg.specs.declared.views.Link.{Link}
 use Rattle.ft_msg.specs.declared.views.Link.TheVariants.{Offline, Joining, Online}
 use Rattle.ft_msg.specs.declared.faults.EditFault.{EditFault}
 use Rattle.ft_props.specs.Element.{ElementId}
-use Rattle.ft_op.specs.Operation.{sub_operations}
+use Rattle.ft_op.specs.Operation.{OnGrid, OnIntervals, OnText, SubOperation, sub_operations}
 use Rattle.ft_op.specs.Same.{same_int}
 use Rattle.ft_op.specs.Document.{Document, effects, sequenced_part}
 use Rattle.ft_op.specs.Stages.{Stage}
@@ -27,8 +33,10 @@ use Rattle.ft_laws.proofs.NamedByPlace.{names-not_renamed}
 use Rattle.ft_laws.proofs.ToldStages.{AllStand, Holds, ToldStage, renamed_told}
 use Rattle.ft_laws.proofs.AcknowledgedEdit.{AllRef, edit-acked}
 use Rattle.ft_laws.proofs.HoldsAfterForeign.{effects-hold, holds-more}
-use Rattle.ft_laws.proofs.OwnSubOperations.{OwnEdit, refs-typed, stages-typed, sub_operations-own, typed_stages}
-use Rattle.ft_laws.proofs.SameOperation.{int-equal, op-equal}
+use Rattle.ft_laws.proofs.OwnSubOperations.{OwnEdit, refs-typed, stages-typed, sub_operations-own, told_as-told_of, typed_stages}
+use Rattle.ft_op.proofs.SameOperations.{same_int-Decides, same_op-Decides}
+use Rattle.ft_laws.proofs.Booleans.{or-true}
+use Rattle.ft_props.proofs.AcknowledgedInsertion.{same_nat}
 
 -- the stages of all edits
 abbrev pub flat : List (List ToldStage) → List ToldStage
@@ -40,9 +48,42 @@ abbrev pub SentTold : ℕ → List ToldStage → Option SentAs → Type 0
 SentTold c gs None = Unit {0}
 SentTold c gs (Some sent) = (sent.conn ≡ c) × (sub_operations sent.op ≡ flat_map (λ g. told_as g.sent) gs)
 
+abbrev pub is_on_text : SubOperation → Bool
+is_on_text (OnText op) = true
+is_on_text (OnIntervals op) = false
+is_on_text (OnGrid op) = false
+
+abbrev pub is_on_grid : SubOperation → Bool
+is_on_grid (OnText op) = false
+is_on_grid (OnIntervals op) = false
+is_on_grid (OnGrid op) = true
+
+abbrev pub is_interval_operation : TextOp → Bool
+is_interval_operation (One op) = false
+is_interval_operation (Group ops) = false
+is_interval_operation (IntervalAdd label id ends props) = true
+is_interval_operation (IntervalChange label id ends props) = true
+is_interval_operation (IntervalDelete label id) = true
+
+abbrev pub is_on_intervals : SubOperation → Bool
+is_on_intervals (OnText op) = false
+is_on_intervals (OnIntervals op) = is_interval_operation op
+is_on_intervals (OnGrid op) = false
+
+-- one interval operation alone
+abbrev pub is_one_interval : List SubOperation → Bool
+is_one_interval [] = false
+is_one_interval (o ∷ []) = is_on_intervals o
+is_one_interval (o ∷ p ∷ os) = false
+
+-- the sub-operations of an edit are all of the text, all of the grid, or one interval operation
+abbrev pub AreOfOneKind : List SubOperation → Type 0
+AreOfOneKind os = (list_all is_on_text os ≡ true) ⊎ ((list_all is_on_grid os ≡ true) ⊎ (is_one_interval os ≡ true))
+
 pub record EditTold (c : ℕ) (gs : List ToldStage) (edit : PendingEdit) : Type 0 where
   pub stages : edit.stages ≡ map (λ g. g.stage) gs
   pub refs : AllRef edit.ref_seq gs
+  pub kind : AreOfOneKind (map (λ g. g.stage.sub_operation) gs)
   pub sent : SentTold c gs edit.sent
 
 abbrev pub EditsTold : ℕ → List (List ToldStage) → List PendingEdit → Type 0
@@ -81,8 +122,11 @@ holds-counted c m n last a b i j ts doc h = record {
   text = h.text;
   rows = h.rows;
   cols = h.cols;
+  text_order = h.text_order;
+  rows_order = h.rows_order;
+  cols_order = h.cols_order;
   stand = stand-counted c a b i j ts doc h.stand;
-  sound = record { named = h.sound.named; ends = h.sound.ends };
+  sound = record { named = h.sound.named; ends = h.sound.ends; rows = h.sound.rows; cols = h.sound.cols };
 }
 
 -- ---- an edit of the client's own
@@ -106,7 +150,7 @@ draft-holds : (bound c : ℕ) (gss : List (List ToldStage)) (sent : Option SentA
 draft-holds bound c gss None ref x h = h
 draft-holds bound c gss (Some sent) ref x h = record { doc = h.doc; edits = h.edits; link = h.link; conn = h.conn }
 
-draft-doc : (sent : Option SentAs) (ref : ℕ) (x : NaiveClient) → (with_draft sent ref x).doc ≡ x.doc
+pub draft-doc : (sent : Option SentAs) (ref : ℕ) (x : NaiveClient) → (with_draft sent ref x).doc ≡ x.doc
 draft-doc None ref x = refl
 draft-doc (Some sent) ref x = refl
 
@@ -116,6 +160,28 @@ pub record Stepped (bound : ℕ) (agreed_doc : Document) (y : NaiveClient) : Typ
   pub gss : List (List ToldStage)
   pub client : ClientHolds bound c gss y
   pub agrees : sequenced_part y.doc ≡ agreed_doc
+
+all-text : (ops : List BaseOp) → list_all is_on_text (map (λ op. OnText op) ops) ≡ true
+all-text [] = refl
+all-text (op ∷ ops) = all-text ops
+
+all-grid : (ops : List CellOp) → list_all is_on_grid (map (λ op. OnGrid op) ops) ≡ true
+all-grid [] = refl
+all-grid (op ∷ ops) = all-grid ops
+
+one-kind : (op : ChannelOp) → AreOfOneKind (sub_operations op)
+one-kind (Text (One op)) = inl refl
+one-kind (Text (Group ops)) = inl (all-text ops)
+one-kind (Text (IntervalAdd label id ends props)) = inr (inr refl)
+one-kind (Text (IntervalChange label id ends props)) = inr (inr refl)
+one-kind (Text (IntervalDelete label id)) = inr (inr refl)
+one-kind (Grid (grid.One op)) = inr (inl refl)
+one-kind (Grid (grid.Group ops)) = inr (inl (all-grid ops))
+
+kinds-typed : (n k : ℕ) (stages : List Stage) → map (λ g. g.stage.sub_operation) (typed_stages n k stages) ≡ flat_map (λ g. told_as g.sent) (typed_stages n k stages)
+kinds-typed n k [] = refl
+kinds-typed n k (t ∷ stages) =
+    ap (λ os. t.sub_operation ∷ os) (kinds-typed n (suc k) stages) ∙ ap (λ os. os ++ flat_map (λ g. told_as g.sent) (typed_stages n (suc k) stages)) (sym (told_as-told_of t.sub_operation))
 
 edited-holds : (bound c : ℕ) (gss : List (List ToldStage)) (x : NaiveClient) (op : ChannelOp) (taken : Document × List Stage) → ClientHolds bound c gss x
     → OwnEdit c x.doc.number x.last_stage (flat gss) x.doc (sub_operations op) taken → Stepped bound (sequenced_part x.doc) (after_edit op taken.0 taken.1 x)
@@ -127,7 +193,7 @@ edited-holds bound c gss x op taken h own =
     let number : taken.0.number ≡ x.doc.number = ap (λ d. d.number) own.agrees in
     let doc : Holds c taken.0.number taken.0.number y.last_stage (flat (gss ++ (gs ∷ []))) taken.0 =
     subst (λ n. Holds c n n y.last_stage (flat (gss ++ (gs ∷ []))) taken.0) (sym number) (subst (λ ts. Holds c x.doc.number x.doc.number y.last_stage ts taken.0) (sym (flat-append gss gs)) own.holds) in
-    let told : EditTold c gs edit = record { stages = sym (stages-typed x.doc.number x.last_stage taken.1); refs = refs-typed x.doc.number x.last_stage taken.1; sent = sent-told c x.next_client_seq x.conns x.link op gs h.link (sym own.told) } in
+    let told : EditTold c gs edit = record { stages = sym (stages-typed x.doc.number x.last_stage taken.1); refs = refs-typed x.doc.number x.last_stage taken.1; kind = subst AreOfOneKind (sym (kinds-typed x.doc.number x.last_stage taken.1 ∙ own.told)) (one-kind op); sent = sent-told c x.next_client_seq x.conns x.link op gs h.link (sym own.told) } in
     record {
       c = c;
       gss = gss ++ (gs ∷ []);
@@ -161,15 +227,8 @@ any-left o conns conn h = left (list_any (nat_eq o) conns) (list_any (nat_eq o) 
     left false b g = refl
     left true b g = (cc)
 
-or-true : (b : Bool) → b || true ≡ true
-or-true true = refl
-or-true false = refl
-
-same-itself : (n : ℕ) → nat_eq n n ≡ true
-same-itself n = grind (arith, nat_tests)
-
 any-last : (conns : List ℕ) (conn : ℕ) → list_any (nat_eq conn) (conns ++ (conn ∷ [])) ≡ true
-any-last conns conn = list_any-append (nat_eq conn) conns (conn ∷ []) ∙ rw (same-itself conn) (or-true (list_any (nat_eq conn) conns))
+any-last conns conn = list_any-append (nat_eq conn) conns (conn ∷ []) ∙ rw (same_nat conn) (or-true (list_any (nat_eq conn) conns))
 
 connect-result : (bound c : ℕ) (gss : List (List ToldStage)) (x y : NaiveClient) (conn : ℕ) → ClientHolds bound c gss x → (link : Link) → x.link ≡ link → connect (record x { link = link }) conn ≡ Ok y → Stepped bound (sequenced_part x.doc) y
 connect-result bound c gss x y conn h Offline e f =
@@ -246,7 +305,7 @@ pub record SentFacts (c : ℕ) (gs : List ToldStage) (ref : ℕ) (entry : Entry)
 
 same-body : (op : ChannelOp) (body : Body) (doc : Document) (s d r : ℕ) → is_body op body ≡ true → effects doc s d r (sub_operations op) ≡ body_effect doc s d r body
 same-body op Nothing doc s d r h = (cc)
-same-body op (Op other) doc s d r h = ap (λ o. effects doc s d r (sub_operations o)) (op-equal op other h)
+same-body op (Op other) doc s d r h = ap (λ o. effects doc s d r (sub_operations o)) ((same_op-Decides op other).0 h)
 same-body op (Elsewhere address) doc s d r h = (cc)
 
 same-number : (m n : ℕ) → nat_eq m n ≡ true → n ≡ m
@@ -258,7 +317,7 @@ sent-facts c gs stages ref entry (Some sent) told h =
     let p = all_four (nat_eq sent.conn entry.origin) (same_int (pos sent.client_seq) entry.msg.client_seq) (same_int (pos ref) entry.msg.ref_seq) (is_body sent.op entry.msg.body) h in
     record {
       origin = same-number sent.conn entry.origin p.0 ∙ told.0;
-      ref_seq = ap reference_number (sym (int-equal (pos ref) entry.msg.ref_seq p.2));
+      ref_seq = ap reference_number (sym ((same_int-Decides (pos ref) entry.msg.ref_seq).0 p.2));
       body = λ doc s d r. ap (effects doc s d r) (sym told.1) ∙ same-body sent.op entry.msg.body doc s d r p.3;
     }
 
@@ -282,12 +341,16 @@ sent-renamed : (c : ℕ) (f : ElementId → ElementId) (gs : List ToldStage) (se
 sent-renamed c f gs None h = tt
 sent-renamed c f gs (Some sent) h = (h.0, h.1 ∙ sym (told-renamed f gs))
 
+kinds-renamed : (f : ElementId → ElementId) (gs : List ToldStage) → map (λ g. g.stage.sub_operation) (map (renamed_told f) gs) ≡ map (λ g. g.stage.sub_operation) gs
+kinds-renamed f [] = refl
+kinds-renamed f (g ∷ gs) = ap (λ os. g.stage.sub_operation ∷ os) (kinds-renamed f gs)
+
 edits-renamed : (c : ℕ) (f : ElementId → ElementId) (gss : List (List ToldStage)) (edits : List PendingEdit) → EditsTold c gss edits → EditsTold c (map (map (renamed_told f)) gss) (map (renamed_edit f) edits)
 edits-renamed c f [] [] h = tt
 edits-renamed c f [] (edit ∷ edits) h = absurd h
 edits-renamed c f (gs ∷ gss) [] h = absurd h
 edits-renamed c f (gs ∷ gss) (edit ∷ edits) h =
-    (record { stages = ap (map (renamed_stage f)) h.0.stages ∙ stages-renamed f gs; refs = refs-renamed f edit.ref_seq gs h.0.refs; sent = sent-renamed c f gs edit.sent h.0.sent }, edits-renamed c f gss edits h.1)
+    (record { stages = ap (map (renamed_stage f)) h.0.stages ∙ stages-renamed f gs; refs = refs-renamed f edit.ref_seq gs h.0.refs; kind = subst AreOfOneKind (sym (kinds-renamed f gs)) h.0.kind; sent = sent-renamed c f gs edit.sent h.0.sent }, edits-renamed c f gss edits h.1)
 
 told-unrenamed : (ts : List ToldStage) → map (renamed_told (λ x. x)) ts ≡ ts
 told-unrenamed [] = refl

@@ -17,22 +17,26 @@ use Rattle.ft_msg.specs.declared.views.Link.TheVariants.{Offline, Joining, Onlin
 use Rattle.ft_msg.specs.declared.faults.ProcessFault.{ProcessFault}
 use Rattle.ft_msg.specs.declared.faults.ProcessFault.TheVariants.{OutOfOrder, NotSent}
 use Rattle.ft_props.specs.Element.{ListElement, ElementId, has_id, is_sequenced, seen, without_pending}
-use Rattle.ft_props.specs.Steps.{Sequence, carried_element, rebuilt_list, sequenced_list}
+use Rattle.ft_props.specs.Steps.{Sequence, sequenced_list}
 use Rattle.ft_props.specs.Slide.{end_number}
 use Rattle.ft_sumdoc.specs.declared.summary.IntervalRec.{IntervalRec}
 use Rattle.ft_op.specs.Intervals.{Interval}
 use Rattle.ft_msg.specs.Content.{ViewContent, all_cells, content, interval_record, markers_from, property_runs_from, shown, text_characters}
 use Rattle.ft_op.specs.Document.{Document, empty, sequenced_part}
 use Rattle.ft_msg.specs.Agreed.{agreed, body_effect, reference_number, take_entries, take_entry, with_numbers}
-use Rattle.ft_msg.specs.Client.{NaiveClient, PendingEdit, client_over, local_edit, connect, drop_link, noop}
+use Rattle.ft_msg.specs.Client.{NaiveClient, PendingEdit, client_over, local_edit, connect, drop_link, noop, stages_of}
 use Rattle.ft_msg.specs.Process.{after_entry, after_foreign_message, come_online, is_oldest, is_op, is_op_kind, is_own, is_own_join, numbers_fault, process, process_fault}
 use Rattle.ft_msg.specs.Acknowledgement.{after_own_message}
 use Rattle.ft_msg.specs.Reconnection.{rebuilt_document}
-use Rattle.ft_laws.specs.ClientSteps.{ClientStep, Edits, Connects, Drops, Idles, Sends, Restarts, Takes, after_step, after_steps, all_join_idle, has_fitting_body, is_empty_body, is_none_pending, is_without_edits, joins_idle, taken_entries, unless_refused}
+use Rattle.ft_laws.specs.ClientSteps.{ClientStep, Edits, Connects, Drops, Idles, Sends, Restarts, Takes, after_step, after_steps, has_fitting_body, is_empty_body, is_none_pending, is_without_edits, taken_entries, unless_refused}
 use Rattle.ft_laws.proofs.WithinStages.{is_among, is_numbered, is_within, mark_within, stamp_within}
-use Rattle.ft_laws.proofs.ToldStages.{Holds, ToldStage}
+use Rattle.ft_laws.proofs.ToldStages.{Holds, ToldStage, stage_numbers}
+use Rattle.ft_laws.proofs.DocumentAgain.{holds-again}
+use Rattle.ft_laws.proofs.EditsAgain.{edits-told_again, edits_again, flat-again}
+use Rattle.ft_laws.proofs.RebuiltDocument.{client-numbers, rebuilt-sequenced}
 use Rattle.ft_laws.proofs.HoldsAfterForeign.{holds-more}
-use Rattle.ft_laws.proofs.ClientHolds.{ClientHolds, LinkIs, Stepped, connect-holds, drop_link-holds, foreign-message, holds-counted, local_edit-holds, noop-holds, own-message, send-holds}
+use Rattle.ft_laws.proofs.ClientHolds.{ClientHolds, LinkIs, Stepped, connect-holds, drop_link-holds, flat, foreign-message, holds-counted, local_edit-holds, noop-holds, own-message, send-holds}
+use Rattle.ft_laws.proofs.NumberTests.{below-other}
 
 -- ---- lists without anything pending
 
@@ -53,13 +57,6 @@ bare-element n e h =
     let p = all_four (stamp_within n [] e.ins) (list_all (is_numbered n) e.dels) (mark_within [] e.removal_stage) (list_all (λ p. is_among [] p.0) e.pending) h in
     (bare-stamp n e.ins p.0, ap (λ m. record e { removal_stage = m; pending = [] }) (sym (bare-mark e.removal_stage p.2)) ∙ ap (λ q. record e { pending = q }) (sym (bare-changes e.pending p.3)))
 
-bare-carried : (e : ListElement) → without_pending e ≡ e → carried_element e ≡ e
-bare-carried e h = either (list_any is_acked e.dels)
-  where
-    either : (b : Bool) → cond b (without_pending e) e ≡ e
-    either true = h
-    either false = refl
-
 all-kept : (keep : ListElement → Bool) (f : ListElement → ListElement) (n : ℕ) → ((e : ListElement) → is_within n [] e ≡ true → (keep e ≡ true) × (f e ≡ e))
     → (xs : List ListElement) → list_all (is_within n []) xs ≡ true → retain_map keep f xs ≡ xs
 all-kept keep f n k [] h = refl
@@ -68,21 +65,10 @@ all-kept keep f n k (e ∷ xs) h =
     let here = k e p.0 in
     rw (here.0, here.1, all-kept keep f n k xs p.1) refl
 
-rebuilt-bare : (n : ℕ) (list : Sequence) → list_all (is_within n []) list.items ≡ true → rebuilt_list [] list ≡ list
-rebuilt-bare n list h =
-    ap (λ xs. record list { items = xs })
-    (all-kept is_sequenced carried_element n (λ e g. let b = bare-element n e g in (b.0, bare-carried e b.1)) list.items h)
-
 pub sequenced-bare : (n : ℕ) (list : Sequence) → list_all (is_within n []) list.items ≡ true → sequenced_list list ≡ list
 sequenced-bare n list h = ap (λ xs. record list { items = xs }) (all-kept is_sequenced without_pending n (bare-element n) list.items h)
 
--- ---- the client's own join, where nothing is pending
-
-rebuilt-document : (c m n last : ℕ) (doc : Document) → Holds c m n last [] doc → rebuilt_document [] doc ≡ doc
-rebuilt-document c m n last doc h =
-    ap (λ text. record doc { text = text; rows = rebuilt_list [] doc.rows; cols = rebuilt_list [] doc.cols }) (rebuilt-bare n doc.text h.text)
-    ∙ ap (λ rows. record doc { rows = rows; cols = rebuilt_list [] doc.cols }) (rebuilt-bare n doc.rows h.rows)
-    ∙ ap (λ cols. record doc { cols = cols }) (rebuilt-bare n doc.cols h.cols)
+-- ---- the client's own join
 
 other-connection : (conns : List ℕ) (conn o : ℕ) → list_any (nat_eq conn) conns ≡ true → list_any (nat_eq o) conns ≡ false → nat_eq o conn ≡ false
 other-connection conns conn o h g = either (nat_eq o conn) refl
@@ -94,23 +80,25 @@ other-connection conns conn o h g = either (nat_eq o conn) refl
     either true e = sym h ∙ ap (λ i. list_any (nat_eq i) conns) (sym (same e)) ∙ g
     either false e = refl
 
-other-holds : (c d m n last : ℕ) (doc : Document) → Holds c m n last [] doc → Holds d m n last [] doc
-other-holds c d m n last doc h = record { told = tt; rising = h.rising; text = h.text; rows = h.rows; cols = h.cols; stand = tt; sound = h.sound }
-
-online-idle : (bound c : ℕ) (x : NaiveClient) (entry : Entry) → ClientHolds bound c [] (record x { pending = [] }) → x.doc.number < entry.msg.seq → list_any (nat_eq entry.origin) x.conns ≡ true
-    → is_empty_body entry.msg.body ≡ true → Stepped bound (take_entry (sequenced_part x.doc) entry) (come_online (record x { pending = [] }) entry)
-online-idle bound c x entry h l used body =
+-- a client that comes online sends its pending edits again
+own-join : (bound c : ℕ) (gss : List (List ToldStage)) (x : NaiveClient) (entry : Entry) → ClientHolds bound c gss x → x.doc.number < entry.msg.seq → list_any (nat_eq entry.origin) x.conns ≡ true
+    → is_empty_body entry.msg.body ≡ true → Stepped bound (take_entry (sequenced_part x.doc) entry) (come_online x entry)
+own-join bound c gss x entry h l used body =
     let s = entry.msg.seq in
     let doc = with_numbers entry x.doc in
-    let numbered : Holds c s s x.last_stage [] doc = holds-counted c s s x.last_stage x.doc.skipped x.doc.other s entry.msg.min [] x.doc (holds-more c x.doc.number s x.doc.number s x.last_stage [] x.doc (omega arith) (omega arith) h.doc) in
-    let same : rebuilt_document [] doc ≡ doc = rebuilt-document c s s x.last_stage doc numbered in
-    let stepped : Stepped bound (take_entry (sequenced_part x.doc) entry) (record x { doc = doc; link = Online entry.origin; next_client_seq = 0 + 1; queue = []; pending = [] }) = record {
+    let ks = map (λ t. t.stage) (stages_of x) in
+    let numbered : Holds c s s x.last_stage (flat gss) doc =
+    holds-counted c s s x.last_stage x.doc.skipped x.doc.other s entry.msg.min (flat gss) x.doc (holds-more c x.doc.number s x.doc.number s x.last_stage (flat gss) x.doc (omega arith) (omega arith) h.doc) in
+    let told : Holds entry.origin s s x.last_stage (flat (edits_again doc s gss x.pending)) (rebuilt_document (stage_numbers (flat gss)) doc) =
+    subst (λ ts. Holds entry.origin s s x.last_stage ts (rebuilt_document (stage_numbers (flat gss)) doc)) (sym (flat-again doc s c gss x.pending h.edits)) (holds-again c s s x.last_stage entry.origin (flat gss) doc numbered) in
+    let holds : Holds entry.origin s s x.last_stage (flat (edits_again doc s gss x.pending)) (rebuilt_document ks doc) =
+    subst (λ js. Holds entry.origin s s x.last_stage (flat (edits_again doc s gss x.pending)) (rebuilt_document js doc)) (sym (client-numbers bound c gss x h)) told in
+    record {
       c = entry.origin;
-      gss = [];
-      client = record { doc = other-holds c entry.origin s s x.last_stage doc numbered; edits = tt; link = refl; conn = λ o k g. other-connection x.conns entry.origin o used g };
-      agrees = ap (with_numbers entry) (sym (empty-body (sequenced_part x.doc) s entry.origin (reference_number entry.msg.ref_seq) entry.msg.body body));
-    } in
-    subst (λ d. Stepped bound (take_entry (sequenced_part x.doc) entry) (record x { doc = d; link = Online entry.origin; next_client_seq = 0 + 1; queue = []; pending = [] })) (sym same) stepped
+      gss = edits_again doc s gss x.pending;
+      client = record { doc = holds; edits = edits-told_again doc s c entry.origin 1 gss x.pending refl h.edits; link = refl; conn = λ o k g. other-connection x.conns entry.origin o used g };
+      agrees = rebuilt-sequenced ks doc ∙ ap (with_numbers entry) (sym (empty-body (sequenced_part x.doc) s entry.origin (reference_number entry.msg.ref_seq) entry.msg.body body));
+    }
   where
     empty-body : (doc : Document) (s d r : ℕ) (body : Body) → is_empty_body body ≡ true → body_effect doc s d r body ≡ doc
     empty-body doc s d r Nothing g = refl
@@ -185,36 +173,29 @@ op-kind false Nothing h g = (cc)
 op-kind false (Op op) h g = (cc)
 op-kind false (Elsewhere address) h g = (cc)
 
-idle-join : (bound c : ℕ) (gss : List (List ToldStage)) (x : NaiveClient) (entry : Entry) (edits : List PendingEdit) → ClientHolds bound c gss (record x { pending = edits }) → x.doc.number < entry.msg.seq
-    → list_any (nat_eq entry.origin) x.conns ≡ true → is_empty_body entry.msg.body ≡ true → is_none_pending edits ≡ true
-    → Stepped bound (take_entry (sequenced_part x.doc) entry) (come_online (record x { pending = edits }) entry)
-idle-join bound c [] x entry [] h l used body none = online-idle bound c x entry h l used body
-idle-join bound c (gs ∷ gss) x entry [] h l used body none = absurd h.edits
-idle-join bound c gss x entry (edit ∷ edits) h l used body none = (cc)
-
 not-both : (a b : Bool) → a && b ≡ false → a ≡ true → b ≡ false
 not-both true b h g = h
 not-both false b h g = (cc)
 
 entry-holds : (bound c : ℕ) (gss : List (List ToldStage)) (x : NaiveClient) (entry : Entry) → ClientHolds bound c gss x → Accepted x entry → entry.origin < bound → has_fitting_body entry ≡ true
-    → (b : Bool) → is_own_join x.link entry.msg.kind entry.origin ≡ b → cond b (is_without_edits x) true ≡ true → (o : Bool) → is_op entry.msg.body && is_own x entry ≡ o
+    → (b : Bool) → is_own_join x.link entry.msg.kind entry.origin ≡ b → (o : Bool) → is_op entry.msg.body && is_own x entry ≡ o
     → Stepped bound (take_entry (sequenced_part x.doc) entry) (cond b (come_online x entry) (cond o (after_own_message x entry) (after_foreign_message x entry)))
-entry-holds bound c gss x entry h a below fits true e idle o f =
+entry-holds bound c gss x entry h a below fits true e o f =
     let own = own-join-origin x.link entry.msg.kind entry.origin c x.conns h.link e in
-    idle-join bound c gss x entry x.pending h a.next own.0 (fitting-empty (is_op_kind entry.msg.kind) (is_empty_body entry.msg.body) fits own.1) idle
-entry-holds bound c gss x entry h a below fits false e idle true f =
+    own-join bound c gss x entry h a.next own.0 (fitting-empty (is_op_kind entry.msg.kind) (is_empty_body entry.msg.body) fits own.1)
+entry-holds bound c gss x entry h a below fits false e true f =
     let p = both (is_op entry.msg.body) (is_own x entry) f in
     let op = op-kind (is_op_kind entry.msg.kind) entry.msg.body fits p.0 in
     own-message bound c gss x entry h a.next (a.oldest (rw (op, p.1) refl))
-entry-holds bound c gss x entry h a below fits false e idle false f =
+entry-holds bound c gss x entry h a below fits false e false f =
     foreign-message bound c gss x entry h a.next (λ op. h.conn entry.origin below (not-both (is_op entry.msg.body) (is_own x entry) f op))
 
-pub process-holds : (bound c : ℕ) (gss : List (List ToldStage)) (x y : NaiveClient) (entry : Entry) → ClientHolds bound c gss x → entry.origin < bound → has_fitting_body entry ≡ true → joins_idle x (Takes entry) ≡ true
+pub process-holds : (bound c : ℕ) (gss : List (List ToldStage)) (x y : NaiveClient) (entry : Entry) → ClientHolds bound c gss x → entry.origin < bound → has_fitting_body entry ≡ true
     → process x entry ≡ Ok y → Stepped bound (take_entry (sequenced_part x.doc) entry) y
-process-holds bound c gss x y entry h below fits idle e =
+process-holds bound c gss x y entry h below fits e =
     let p = processed x y entry (process_fault x entry) refl e in
     subst (λ z. Stepped bound (take_entry (sequenced_part x.doc) entry) z) p.1
-    (entry-holds bound c gss x entry h p.0 below fits (is_own_join x.link entry.msg.kind entry.origin) refl idle (is_op entry.msg.body && is_own x entry) refl)
+    (entry-holds bound c gss x entry h p.0 below fits (is_own_join x.link entry.msg.kind entry.origin) refl (is_op entry.msg.body && is_own x entry) refl)
 
 -- ---- all steps
 
@@ -239,24 +220,21 @@ unfolding bound_of
 are-below [] = tt
 are-below (entry ∷ entries) = (omega arith, below-more (bound_of entries) (suc entry.origin + bound_of entries) entries (omega arith) (are-below entries))
 
-refused-ok : {A E : Type 0} (r : Result A E) (y : A) → unless_refused r ≡ Some y → r ≡ Ok y
+pub refused-ok : {A E : Type 0} (r : Result A E) (y : A) → unless_refused r ≡ Some y → r ≡ Ok y
 refused-ok (Ok x) y h = ap Ok (some-same h)
   where
     some-same : Some x ≡ Some y → x ≡ y
     some-same g = (cc)
 refused-ok (Err fault) y h = (cc)
 
-below-other : (o b : ℕ) → o < b → nat_eq o b ≡ false
-below-other o b l = grind (arith, nat_tests)
-
 agreeing : (bound : ℕ) (A B : Document) (y : NaiveClient) → A ≡ B → Stepped bound A y → Stepped bound B y
 agreeing bound A B y e s = subst (λ d. Stepped bound d y) e s
 
 then-holds : (bound : ℕ) (steps : List ClientStep) (A B : Document) (y : NaiveClient)
-    → ((z : NaiveClient) → Stepped bound A z → all_join_idle (Some z) steps ≡ true → after_steps (Some z) steps ≡ Some y → Stepped bound B y)
-    → (o : Option NaiveClient) → ((z : NaiveClient) → o ≡ Some z → Stepped bound A z) → all_join_idle o steps ≡ true → after_steps o steps ≡ Some y → Stepped bound B y
-then-holds bound steps A B y ih None f idle h = (cc)
-then-holds bound steps A B y ih (Some z) f idle h = ih z (f z refl) idle h
+    → ((z : NaiveClient) → Stepped bound A z → after_steps (Some z) steps ≡ Some y → Stepped bound B y)
+    → (o : Option NaiveClient) → ((z : NaiveClient) → o ≡ Some z → Stepped bound A z) → after_steps o steps ≡ Some y → Stepped bound B y
+then-holds bound steps A B y ih None f h = (cc)
+then-holds bound steps A B y ih (Some z) f h = ih z (f z refl) h
 
 -- a new client over the document of one with nothing pending
 restarted : (bound c : ℕ) (gss : List (List ToldStage)) (x : NaiveClient) (edits : List PendingEdit) → ClientHolds bound c gss (record x { pending = edits }) → is_none_pending edits ≡ true → Stepped bound (sequenced_part x.doc) (client_over x.doc)
@@ -264,7 +242,7 @@ restarted bound c [] x [] h none = record {
   c = bound;
   gss = [];
   client = record {
-    doc = record { told = tt; rising = omega arith; text = h.doc.text; rows = h.doc.rows; cols = h.doc.cols; stand = tt; sound = h.doc.sound };
+    doc = record { told = tt; rising = omega arith; text = h.doc.text; rows = h.doc.rows; cols = h.doc.cols; text_order = h.doc.text_order; rows_order = h.doc.rows_order; cols_order = h.doc.cols_order; stand = tt; sound = h.doc.sound };
     edits = tt;
     link = tt;
     conn = λ o l g. below-other o bound l;
@@ -283,33 +261,32 @@ restarts bound c gss x z edits h false e f = (cc)
 
 -- all steps of a client keep what is known of it
 pub steps-hold : (bound : ℕ) (steps : List ClientStep) (A : Document) (x y : NaiveClient) → Stepped bound A x → AreBelow bound (taken_entries steps) → list_all has_fitting_body (taken_entries steps) ≡ true
-    → all_join_idle (Some x) steps ≡ true → after_steps (Some x) steps ≡ Some y → Stepped bound (take_entries A (taken_entries steps)) y
-steps-hold bound [] A x y s below fits idle h =
+    → after_steps (Some x) steps ≡ Some y → Stepped bound (take_entries A (taken_entries steps)) y
+steps-hold bound [] A x y s below fits h =
     let same : x ≡ y = (cc) in
     subst (λ z. Stepped bound A z) same s
-steps-hold bound (Edits op ∷ steps) A x y s below fits idle h =
-    then-holds bound steps A (take_entries A (taken_entries steps)) y (λ z t i g. steps-hold bound steps A z y t below fits i g) (after_step x (Edits op))
-    (λ z e. agreeing bound (sequenced_part x.doc) A z s.agrees (local_edit-holds bound s.c s.gss x z op s.client (refused-ok (local_edit x op) z e))) idle h
-steps-hold bound (Connects conn ∷ steps) A x y s below fits idle h =
-    then-holds bound steps A (take_entries A (taken_entries steps)) y (λ z t i g. steps-hold bound steps A z y t below fits i g) (after_step x (Connects conn))
-    (λ z e. agreeing bound (sequenced_part x.doc) A z s.agrees (connect-holds bound s.c s.gss x z conn s.client (refused-ok (connect x conn) z e))) idle h
-steps-hold bound (Drops ∷ steps) A x y s below fits idle h =
-    then-holds bound steps A (take_entries A (taken_entries steps)) y (λ z t i g. steps-hold bound steps A z y t below fits i g) (after_step x Drops)
-    (λ z e. agreeing bound (sequenced_part x.doc) A z s.agrees (drop_link-holds bound s.c s.gss x z s.client (refused-ok (drop_link x) z e))) idle h
-steps-hold bound (Idles ∷ steps) A x y s below fits idle h =
-    then-holds bound steps A (take_entries A (taken_entries steps)) y (λ z t i g. steps-hold bound steps A z y t below fits i g) (after_step x Idles)
-    (λ z e. agreeing bound (sequenced_part x.doc) A z s.agrees (noop-holds bound s.c s.gss x z s.client (refused-ok (noop x) z e))) idle h
-steps-hold bound (Sends ∷ steps) A x y s below fits idle h =
-    steps-hold bound steps A (record x { queue = drop 1 x.queue }) y (agreeing bound (sequenced_part x.doc) A (record x { queue = drop 1 x.queue }) s.agrees (send-holds bound s.c s.gss x s.client)) below fits idle h
-steps-hold bound (Restarts ∷ steps) A x y s below fits idle h =
-    then-holds bound steps A (take_entries A (taken_entries steps)) y (λ z t i g. steps-hold bound steps A z y t below fits i g) (after_step x Restarts)
-    (λ z e. agreeing bound (sequenced_part x.doc) A z s.agrees (restarts bound s.c s.gss x z x.pending s.client (is_none_pending x.pending) refl e)) idle h
-steps-hold bound (Takes entry ∷ steps) A x y s below fits idle h =
+steps-hold bound (Edits op ∷ steps) A x y s below fits h =
+    then-holds bound steps A (take_entries A (taken_entries steps)) y (λ z t g. steps-hold bound steps A z y t below fits g) (after_step x (Edits op))
+    (λ z e. agreeing bound (sequenced_part x.doc) A z s.agrees (local_edit-holds bound s.c s.gss x z op s.client (refused-ok (local_edit x op) z e))) h
+steps-hold bound (Connects conn ∷ steps) A x y s below fits h =
+    then-holds bound steps A (take_entries A (taken_entries steps)) y (λ z t g. steps-hold bound steps A z y t below fits g) (after_step x (Connects conn))
+    (λ z e. agreeing bound (sequenced_part x.doc) A z s.agrees (connect-holds bound s.c s.gss x z conn s.client (refused-ok (connect x conn) z e))) h
+steps-hold bound (Drops ∷ steps) A x y s below fits h =
+    then-holds bound steps A (take_entries A (taken_entries steps)) y (λ z t g. steps-hold bound steps A z y t below fits g) (after_step x Drops)
+    (λ z e. agreeing bound (sequenced_part x.doc) A z s.agrees (drop_link-holds bound s.c s.gss x z s.client (refused-ok (drop_link x) z e))) h
+steps-hold bound (Idles ∷ steps) A x y s below fits h =
+    then-holds bound steps A (take_entries A (taken_entries steps)) y (λ z t g. steps-hold bound steps A z y t below fits g) (after_step x Idles)
+    (λ z e. agreeing bound (sequenced_part x.doc) A z s.agrees (noop-holds bound s.c s.gss x z s.client (refused-ok (noop x) z e))) h
+steps-hold bound (Sends ∷ steps) A x y s below fits h =
+    steps-hold bound steps A (record x { queue = drop 1 x.queue }) y (agreeing bound (sequenced_part x.doc) A (record x { queue = drop 1 x.queue }) s.agrees (send-holds bound s.c s.gss x s.client)) below fits h
+steps-hold bound (Restarts ∷ steps) A x y s below fits h =
+    then-holds bound steps A (take_entries A (taken_entries steps)) y (λ z t g. steps-hold bound steps A z y t below fits g) (after_step x Restarts)
+    (λ z e. agreeing bound (sequenced_part x.doc) A z s.agrees (restarts bound s.c s.gss x z x.pending s.client (is_none_pending x.pending) refl e)) h
+steps-hold bound (Takes entry ∷ steps) A x y s below fits h =
     let f = both (has_fitting_body entry) (list_all has_fitting_body (taken_entries steps)) fits in
-    let i = both (joins_idle x (Takes entry)) (all_join_idle (after_step x (Takes entry)) steps) idle in
-    then-holds bound steps (take_entry A entry) (take_entries (take_entry A entry) (taken_entries steps)) y (λ z t j g. steps-hold bound steps (take_entry A entry) z y t below.1 f.1 j g) (after_step x (Takes entry))
+    then-holds bound steps (take_entry A entry) (take_entries (take_entry A entry) (taken_entries steps)) y (λ z t g. steps-hold bound steps (take_entry A entry) z y t below.1 f.1 g) (after_step x (Takes entry))
     (λ z e. agreeing bound (take_entry (sequenced_part x.doc) entry) (take_entry A entry) z (ap (λ d. take_entry d entry) s.agrees)
-    (process-holds bound s.c s.gss x z entry s.client below.0 f.0 i.0 (refused-ok (process x entry) z e))) i.1 h
+    (process-holds bound s.c s.gss x z entry s.client below.0 f.0 (refused-ok (process x entry) z e))) h
 
 -- ---- from the empty document on
 
@@ -321,8 +298,16 @@ start-holds bound = record {
     text = refl;
     rows = refl;
     cols = refl;
+    text_order = refl;
+    rows_order = refl;
+    cols_order = refl;
     stand = tt;
-    sound = record { named = record { once = λ a. omega arith; fresh = λ a f. refl }; ends = tt };
+    sound = record {
+      named = record { once = λ a. omega arith; fresh = λ a f. refl };
+      ends = tt;
+      rows = record { once = λ a. omega arith; fresh = λ a f. refl };
+      cols = record { once = λ a. omega arith; fresh = λ a f. refl };
+    };
   };
   edits = tt;
   link = tt;
@@ -332,15 +317,15 @@ start-holds bound = record {
 stepped-start : (bound : ℕ) → Stepped bound empty (client_over empty)
 stepped-start bound = record { c = bound; gss = []; client = start-holds bound; agrees = refl }
 
-pub all-stepped : (steps : List ClientStep) (y : NaiveClient) → after_steps (Some (client_over empty)) steps ≡ Some y → list_all has_fitting_body (taken_entries steps) ≡ true → all_join_idle (Some (client_over empty)) steps ≡ true
+pub all-stepped : (steps : List ClientStep) (y : NaiveClient) → after_steps (Some (client_over empty)) steps ≡ Some y → list_all has_fitting_body (taken_entries steps) ≡ true
     → Stepped (bound_of (taken_entries steps)) (agreed (taken_entries steps)) y
-all-stepped steps y h fits idle =
-    steps-hold (bound_of (taken_entries steps)) steps empty (client_over empty) y (stepped-start (bound_of (taken_entries steps))) (are-below (taken_entries steps)) fits idle h
+all-stepped steps y h fits =
+    steps-hold (bound_of (taken_entries steps)) steps empty (client_over empty) y (stepped-start (bound_of (taken_entries steps))) (are-below (taken_entries steps)) fits h
 
 -- without what is pending a client's document is the agreed one
-pub clients-agree : (steps : List ClientStep) (y : NaiveClient) → after_steps (Some (client_over empty)) steps ≡ Some y → list_all has_fitting_body (taken_entries steps) ≡ true → all_join_idle (Some (client_over empty)) steps ≡ true
+pub clients-agree : (steps : List ClientStep) (y : NaiveClient) → after_steps (Some (client_over empty)) steps ≡ Some y → list_all has_fitting_body (taken_entries steps) ≡ true
     → sequenced_part y.doc ≡ agreed (taken_entries steps)
-clients-agree steps y h fits idle = (all-stepped steps y h fits idle).agrees
+clients-agree steps y h fits = (all-stepped steps y h fits).agrees
 
 document-bare : (c m n last : ℕ) (doc : Document) → Holds c m n last [] doc → sequenced_part doc ≡ doc
 document-bare c m n last doc h =
@@ -354,10 +339,10 @@ bare-client bound c (gs ∷ gss) x [] h none = absurd h.edits
 bare-client bound c gss x (edit ∷ edits) h none = (cc)
 
 -- a client with nothing pending has the agreed document
-pub idle-clients-agree : (steps : List ClientStep) (y : NaiveClient) → after_steps (Some (client_over empty)) steps ≡ Some y → list_all has_fitting_body (taken_entries steps) ≡ true → all_join_idle (Some (client_over empty)) steps ≡ true
+pub idle-clients-agree : (steps : List ClientStep) (y : NaiveClient) → after_steps (Some (client_over empty)) steps ≡ Some y → list_all has_fitting_body (taken_entries steps) ≡ true
     → is_without_edits y ≡ true → y.doc ≡ agreed (taken_entries steps)
-idle-clients-agree steps y h fits idle none =
-    let s = all-stepped steps y h fits idle in
+idle-clients-agree steps y h fits none =
+    let s = all-stepped steps y h fits in
     sym (bare-client (bound_of (taken_entries steps)) s.c s.gss y y.pending s.client none) ∙ s.agrees
 
 -- ---- what is shown
@@ -421,8 +406,8 @@ shows-idle bound c (gs ∷ gss) x [] h none = absurd h.edits
 shows-idle bound c gss x (edit ∷ edits) h none = (cc)
 
 -- a client with nothing pending shows the agreed document
-pub idle-clients-show : (steps : List ClientStep) (y : NaiveClient) → after_steps (Some (client_over empty)) steps ≡ Some y → list_all has_fitting_body (taken_entries steps) ≡ true → all_join_idle (Some (client_over empty)) steps ≡ true
+pub idle-clients-show : (steps : List ClientStep) (y : NaiveClient) → after_steps (Some (client_over empty)) steps ≡ Some y → list_all has_fitting_body (taken_entries steps) ≡ true
     → is_without_edits y ≡ true → content y ≡ shown (agreed (taken_entries steps))
-idle-clients-show steps y h fits idle none =
-    let s = all-stepped steps y h fits idle in
-    shows-idle (bound_of (taken_entries steps)) s.c s.gss y y.pending s.client none ∙ ap shown (idle-clients-agree steps y h fits idle none)
+idle-clients-show steps y h fits none =
+    let s = all-stepped steps y h fits in
+    shows-idle (bound_of (taken_entries steps)) s.c s.gss y y.pending s.client none ∙ ap shown (idle-clients-agree steps y h fits none)

@@ -1,6 +1,6 @@
 -- Scans of a compacted list give what they give of the whole list, for each test that passes no element that is gone and
 -- that sees an old insertion as the universal one.
-use Rattle.std.proofs.Common.{◌≡◌, ℕ, zero, suc, ◌≤◌, Bool, true, false, cond, not, ◌&&◌, ◌||◌, List, [], ◌∷◌, ◌++◌, Option, Some, None, refl, sym, ◌∙◌, ap, subst, arith, find, filter, map, nat_le, nat_eq}
+use Rattle.std.proofs.Common.{◌≡◌, ℕ, zero, suc, ◌≤◌, Bool, true, false, cond, not, ◌&&◌, ◌||◌, List, [], ◌∷◌, ◌++◌, Option, Some, None, refl, sym, ◌∙◌, ap, subst, arith, find, filter, map, nat_le}
 use Rattle.std.specs.Option.{option_or, option_map}
 use Rattle.std.specs.List.{list_any}
 use Rattle.std.proofs.lemmas.Bool.Decides.{nat_tests}
@@ -10,10 +10,13 @@ use Rattle.ft_base.specs.Scan.{one_more_if, len, at, within, change_range_from, 
 use Rattle.ft_base.specs.Visibility.{has_occurred_at_stage, is_acked}
 use Rattle.ft_base.proofs.Booleans.{both}
 use Rattle.ft_props.specs.declared.properties.Changes.{Changes}
-use Rattle.ft_props.specs.Element.{ListElement, ElementId, SequencedId, PendingId, same_id, id, id_of_stamp, seen, seen_by, is_pending, is_sequenced, is_unremoved, has_id, removal_stamp, with_removal, with_annotation}
+use Rattle.ft_props.specs.Element.{ListElement, ElementId, SequencedId, same_id, id, id_of_stamp, seen, seen_by, is_pending, is_sequenced, is_unremoved, has_id, removal_stamp, with_removal, with_annotation}
 use Rattle.ft_props.specs.Compaction.{Keeps, none, same, universal, collected, is_collectable, has_collectable_removal, is_insertion_at_or_below, with_universal_insertion, is_before_pending, trim_element}
 use Rattle.ft_props.specs.Slide.{settle, slide}
 use Rattle.ft_props.proofs.CompactedList.{collected-unseen, with_universal_insertion-seen}
+use Rattle.ft_laws.proofs.Booleans.{never}
+use Rattle.ft_laws.proofs.SlidEnds.{same_id-eq}
+use Rattle.ft_laws.proofs.AnyAndAll.{any-append}
 
 -- the test passes no element that is gone, and sees an old insertion as the universal one
 pub record Alike (floor : ℕ) (held : ElementId → Bool) (test : ListElement → Bool) : Type 0 where
@@ -119,18 +122,10 @@ module _ {floor : ℕ} {held : ElementId → Bool} where
 pub seen_by-alike : (floor r c : ℕ) (held : ElementId → Bool) → floor ≤ r → Alike floor held (seen_by r c)
 seen_by-alike floor r c held above = record { gone = λ e g u. collected-unseen floor r c above e g; old = λ e f. with_universal_insertion-seen floor r c above e f }
 
-pub any-append : {A : Type 0} (is : A → Bool) (xs ys : List A) → list_any is xs ≡ true → list_any is (xs ++ ys) ≡ true
-any-append is [] ys h = (cc)
-any-append is (x ∷ xs) ys h = grind (arith, any-append is xs ys)
-
 pub removed-by : (floor : ℕ) (occurred : Stamp → Bool) → ((s c : ℕ) → occurred (Acked s c) ≡ true) → (dels : List Stamp) → has_collectable_removal floor dels ≡ true → list_any occurred dels ≡ true
 removed-by floor occurred h [] g = (cc)
 removed-by floor occurred h (Acked s c ∷ dels) g = ap (λ b. b || list_any occurred dels) (h s c)
 removed-by floor occurred h (Local k ∷ dels) g = (cc)
-
-pub never : (b : Bool) → b && false ≡ false
-never true = refl
-never false = refl
 
 -- every test of stamps by which each sequenced stamp has occurred
 present-alike : (floor : ℕ) (held : ElementId → Bool) (occurred : Stamp → Bool) → ((s c : ℕ) → occurred (Acked s c) ≡ true)
@@ -150,22 +145,12 @@ seen-alike floor k held = present-alike floor held (has_occurred_at_stage k) (λ
 pub unremoved-alike : (floor : ℕ) (held : ElementId → Bool) → Alike floor held is_unremoved
 unremoved-alike floor held = present-alike floor held is_acked (λ s c. refl)
 
-pub same_id-same : (x y : ElementId) → same_id x y ≡ true → x ≡ y
-same_id-same (SequencedId m) (SequencedId n) h = ap SequencedId (grind (arith, nat_tests))
-same_id-same (PendingId j m) (PendingId k n) h =
-    let p = both (nat_eq j k) (nat_eq m n) h in
-    let q : j ≡ k = grind (arith, nat_tests) in
-    let r : m ≡ n = grind (arith, nat_tests) in
-    ap (λ i. PendingId i m) q ∙ ap (PendingId k) r
-same_id-same (SequencedId m) (PendingId k n) h = (cc)
-same_id-same (PendingId j m) (SequencedId n) h = (cc)
-
 -- a name that is held is none that isn't
 pub held-apart : (held : ElementId → Bool) (x y : ElementId) → held x ≡ true → held y ≡ false → same_id x y ≡ false
 held-apart held x y h k = step (same_id x y) refl
   where
     step : (b : Bool) → same_id x y ≡ b → b ≡ false
-    step true e = let q : x ≡ y = same_id-same x y e in cc (ap held q)
+    step true e = let q : x ≡ y = same_id-eq x y e in cc (ap held q)
     step false e = refl
 
 pub has_id-alike : (floor : ℕ) (held : ElementId → Bool) (x : ElementId) → held x ≡ true → Alike floor held (has_id x)

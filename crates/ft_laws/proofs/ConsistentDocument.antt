@@ -29,6 +29,7 @@ use Rattle.ft_laws.proofs.CompactedScans.{is_held_end, id-universal, unremoved-a
 use Rattle.ft_laws.proofs.HeldNames.{settled-held}
 use Rattle.ft_laws.proofs.CellValues.{write-values}
 use Rattle.ft_laws.proofs.OwnNames.{all-weaker, has_named, insertion-numbered, own-named, range-numbered, retain_map-numbered}
+use Rattle.ft_laws.proofs.Booleans.{hidden}
 
 -- ---- ends on unremoved elements
 
@@ -36,10 +37,6 @@ use Rattle.ft_laws.proofs.OwnNames.{all-weaker, has_named, insertion-numbered, o
 on_held : (xs : List ListElement) (x : Option ElementId) → is_held_end (has_named is_unremoved xs) x ≡ is_end_on xs x
 on_held xs None = refl
 on_held xs (Some x) = refl
-
-hidden : (b : Bool) → not b ≡ true → b ≡ false
-hidden true h = (cc)
-hidden false h = refl
 
 -- an end that slid is on an unremoved element
 slide-on : (xs : List ListElement) (x : Option ElementId) → is_end_on xs (slide xs x) ≡ true

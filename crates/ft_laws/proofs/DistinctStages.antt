@@ -13,10 +13,7 @@ use Rattle.ft_props.specs.Steps.{carried_element, is_inserted_by, stage_position
 use Rattle.ft_laws.specs.Trimming.{are_distinct}
 use Rattle.ft_laws.proofs.OwnNames.{any-put, same_id-apart}
 use Rattle.ft_laws.proofs.StageViews.{carried-id, later-absent, stage_list}
-
-negated : (b : Bool) → not b ≡ true → b ≡ false
-negated true h = (cc)
-negated false h = refl
+use Rattle.ft_laws.proofs.Booleans.{hidden}
 
 absent-filter : (x : ElementId) (test : ListElement → Bool) (xs : List ListElement) → list_any (has_id x) xs ≡ false → list_any (has_id x) (filter test xs) ≡ false
 absent-filter x test [] h = refl
@@ -26,7 +23,7 @@ distinct-filter : (test : ListElement → Bool) (xs : List ListElement) → are_
 distinct-filter test [] h = refl
 distinct-filter test (e ∷ xs) h =
     let p = both (not (list_any (has_id (id e)) xs)) (are_distinct xs) h in
-    step (test e) (absent-filter (id e) test xs (negated _ p.0)) (distinct-filter test xs p.1)
+    step (test e) (absent-filter (id e) test xs (hidden _ p.0)) (distinct-filter test xs p.1)
   where
     step : (b : Bool) → list_any (has_id (id e)) (filter test xs) ≡ false → are_distinct (filter test xs) ≡ true → are_distinct (cond b (e ∷ filter test xs) (filter test xs)) ≡ true
     step true a d = rw (a, d) refl
@@ -46,7 +43,7 @@ distinct-carried : (xs : List ListElement) → are_distinct xs ≡ true → are_
 distinct-carried [] h = refl
 distinct-carried (e ∷ xs) h =
     let p = both (not (list_any (has_id (id e)) xs)) (are_distinct xs) h in
-    step (is_sequenced e) (absent-carried (id e) xs (negated _ p.0)) (distinct-carried xs p.1)
+    step (is_sequenced e) (absent-carried (id e) xs (hidden _ p.0)) (distinct-carried xs p.1)
   where
     step : (b : Bool) → list_any (has_id (id e)) (retain_map is_sequenced carried_element xs) ≡ false → are_distinct (retain_map is_sequenced carried_element xs) ≡ true
         → are_distinct (cond b (carried_element e ∷ retain_map is_sequenced carried_element xs) (retain_map is_sequenced carried_element xs)) ≡ true
@@ -89,7 +86,7 @@ module _ (k : ℕ) where
   distinct-append (y ∷ new) xs d a e n =
       let p = both (not (list_any (has_id (id y)) new)) (are_distinct new) d in
       let q = both (is_inserted_by k y) (list_all (is_inserted_by k) new) a in
-      rw (none-both (id y) new xs (negated _ p.0) (apart-from y xs q.0 n), distinct-append new xs p.1 q.1 e n) refl
+      rw (none-both (id y) new xs (hidden _ p.0) (apart-from y xs q.0 n), distinct-append new xs p.1 q.1 e n) refl
 
   distinct-put : (see : ListElement → Bool) (p : ℕ) (new xs : List ListElement) → are_distinct new ≡ true → list_all (is_inserted_by k) new ≡ true → are_distinct xs ≡ true → list_any (is_inserted_by k) xs ≡ false → are_distinct (put see no_run p new xs) ≡ true
   distinct-put see zero new xs d a e n = ap are_distinct (put_past-no_run new xs) ∙ distinct-append new xs d a e n
@@ -101,7 +98,7 @@ module _ (k : ℕ) where
       step : (b : Bool) → is_inserted_by k x ≡ b → b || list_any (is_inserted_by k) xs ≡ false → not (list_any (has_id (id x)) xs) ≡ true → (list_any (is_inserted_by k) xs ≡ false → are_distinct (put see no_run (cond (see x) p (suc p)) new xs) ≡ true)
           → are_distinct (x ∷ put see no_run (cond (see x) p (suc p)) new xs) ≡ true
       step true i n q r = absurd cc
-      step false i n q r = rw (any-put (has_id (id x)) see no_run (cond (see x) p (suc p)) new xs (apart-block x new i a) (negated _ q), r n) refl
+      step false i n q r = rw (any-put (has_id (id x)) see no_run (cond (see x) p (suc p)) new xs (apart-block x new i a) (hidden _ q), r n) refl
 
 all-inserted : (k : ℕ) (xs : List ListElement) → list_all (is_inserted_by k) (filter (is_inserted_by k) xs) ≡ true
 all-inserted k [] = refl

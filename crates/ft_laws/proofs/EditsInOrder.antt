@@ -1,5 +1,5 @@
 -- The pending edits of a client, sent again and sequenced one after another.
-use Rattle.std.proofs.Common.{◌≡◌, ℕ, ◌+◌, Bool, true, false, cond, ◌&&◌, ◌||◌, List, [], ◌∷◌, ◌++◌, Option, Some, None, refl, sym, ◌∙◌, ap, subst, arith, flat_map, map, append_assoc, append-nil, pos}
+use Rattle.std.proofs.Common.{◌≡◌, ℕ, ◌+◌, Bool, true, false, cond, ◌&&◌, ◌||◌, List, [], ◌∷◌, ◌++◌, Option, Some, None, refl, sym, ◌∙◌, ap, subst, flat_map, map, append_assoc, append-nil, pos}
 use Rattle.std.specs.Prelude.{filter_map}
 use Rattle.std.specs.List.{cons_option, list_all}
 use Rattle.ft_base.proofs.Booleans.{both}
@@ -13,7 +13,7 @@ use Rattle.ft_op.specs.declared.operations.TextOp.TheVariants.{Group, IntervalAd
 use Rattle.ft_props.specs.Element.{ElementContent, ListElement}
 use Rattle.ft_props.specs.Steps.{is_annotated_by, is_removed_by, lowered_runs, marked_runs}
 use Rattle.ft_op.specs.Operation.{OnGrid, OnIntervals, OnText, SubOperation, segment_contents, sub_operations}
-use Rattle.ft_op.specs.Document.{Document, effect, effects, rows_or_cols}
+use Rattle.ft_op.specs.Document.{Document, effects, rows_or_cols}
 use Rattle.ft_op.specs.Intervals.{Interval, NamedElements, settle_elements, settle_ends}
 use Rattle.ft_op.specs.Pieces.{base_op_of, cell_op_of, grid_pieces, interval_piece, is_named_and_seen, op_of, pieces, text_pieces, unless_empty}
 use Rattle.ft_op.specs.Stages.{Stage, intervals_after_stage, shown_intervals}
@@ -28,6 +28,8 @@ use Rattle.ft_laws.specs.Reconnecting.{writes_known_units}
 use Rattle.ft_laws.specs.Sequencing.{Each, IsReady, IsTyped, is_grid_stage, is_interval_edit, is_interval_operation, is_one_operation, is_text_stage}
 use Rattle.ft_laws.proofs.CarriedEdits.{no-operation}
 use Rattle.ft_laws.proofs.FollowingOrder.{Ahead, Follows, ahead-next, stage-follows}
+use Rattle.ft_laws.proofs.AcknowledgedEdit.{effects-append}
+use Rattle.ft_laws.proofs.AnyAndAll.{all-append}
 
 -- ---- an operation made of pieces has these as its sub-operations
 
@@ -38,10 +40,6 @@ is_text_piece _ = false
 abbrev is_grid_piece : SubOperation → Bool
 is_grid_piece (OnGrid op) = true
 is_grid_piece _ = false
-
-all-append : {A : Type 0} (test : A → Bool) (xs ys : List A) → list_all test xs ≡ true → list_all test ys ≡ true → list_all test (xs ++ ys) ≡ true
-all-append test [] ys h k = k
-all-append test (x ∷ xs) ys h k = grind (arith, all-append test xs ys)
 
 text-group : (ps : List SubOperation) → list_all is_text_piece ps ≡ true → map (λ op. OnText op) (flat_map base_op_of ps) ≡ ps
 text-group [] h = refl
@@ -155,10 +153,6 @@ module _ (doc : Document) where
       by_kind false true e p q r h = grid-back (flat_map (pieces doc) edit.stages) (grid-stages edit.stages q)
       by_kind false false true p q r h = interval-stages edit.stages r
       by_kind false false false p q r h = absurd cc
-
-effects-append : (d : Document) (s c r : ℕ) (xs ys : List SubOperation) → effects d s c r (xs ++ ys) ≡ effects (effects d s c r xs) s c r ys
-effects-append d s c r [] ys = refl
-effects-append d s c r (o ∷ xs) ys = effects-append (effect d s c r o) s c r xs ys
 
 each-front : {A : Type 0} (R : A → Type 0) (xs ys : List A) → Each R (xs ++ ys) → Each R xs
 each-front R [] ys h = tt

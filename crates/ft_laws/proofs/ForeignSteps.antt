@@ -1,5 +1,5 @@
 -- A sub-operation of another client keeps what is known of a pending stage.
-use Rattle.std.proofs.Common.{◌≡◌, ℕ, suc, ◌+◌, ◌≤◌, ◌<◌, Bool, true, false, not, ◌&&◌, ◌||◌, nat_le, nat_eq, List, [], ◌∷◌, Option, Some, None, refl, sym, ◌∙◌, ap, arith}
+use Rattle.std.proofs.Common.{◌≡◌, ℕ, suc, ◌+◌, ◌≤◌, ◌<◌, true, false, not, ◌&&◌, nat_le, nat_eq, List, [], ◌∷◌, Option, Some, None, refl, sym, ◌∙◌, ap, arith}
 use Rattle.std.specs.List.{list_all, list_any}
 use Rattle.std.proofs.lemmas.List.Folds.{list_any-append}
 use Rattle.std.proofs.lemmas.Bool.Decides.{nat_tests}
@@ -12,16 +12,12 @@ use Rattle.ft_base.proofs.TwoInsertions.{swap}
 use Rattle.ft_props.specs.Properties.{PropertyList}
 use Rattle.ft_props.specs.Element.{ElementContent, ListElement, is_pending, new_elements, seen_by, with_annotation, with_pending_annotation, with_pending_removal, with_removal}
 use Rattle.ft_props.proofs.SequencedElements.{any-has_occurred}
-use Rattle.ft_props.proofs.AcknowledgedInsertion.{element_up_to, expects, list_up_to}
+use Rattle.ft_props.proofs.AcknowledgedInsertion.{element_up_to, expects, list_up_to, or_false}
 use Rattle.ft_props.proofs.PlacedInsertion.{is_upto, len-put, new-list_up_to, new-unexpected, put-list_up_to, sees-list_up_to, unknown}
 use Rattle.ft_laws.specs.StageEdits.{StageEdit, PutIn, TakenOut, Annotated, change_ranges, ranges_fit, after_pending, fits_pending, after_sequenced, fits_sequenced, IsStanding}
 use Rattle.ft_laws.proofs.RangesOfLists.{put-ranges, ranges-ranges, fit-put, fit-ranges, len-ranges}
 
 -- ---- what a change of a range doesn't change for the other side
-
-pub or_false : (b : Bool) → b || false ≡ b
-or_false true = refl
-or_false false = refl
 
 -- a removal that an edit hadn't seen
 pub unexpected-removal : (r c k s d : ℕ) → r < s → nat_eq d c ≡ false → (e : ListElement) → expects r c k (with_removal s d e) ≡ expects r c k e

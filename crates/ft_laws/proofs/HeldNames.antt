@@ -10,6 +10,7 @@ use Rattle.ft_props.specs.Properties.{PropertyList}
 use Rattle.ft_props.specs.Element.{ListElement, ElementId, ElementContent, SequencedId, id, new_elements, is_pending, seen_by}
 use Rattle.ft_props.specs.Steps.{Sequence, after_insertion}
 use Rattle.ft_laws.proofs.CompactedScans.{is_held_end}
+use Rattle.ft_props.proofs.RebuiltList.{or_right}
 
 -- the element is gone, or its name is held
 abbrev pub keeps_name : (ListElement → Bool) → (ElementId → Bool) → ListElement → Bool
@@ -54,13 +55,9 @@ module _ {A : Type 0} (is : A → Bool) where
       chosen true a = k x a
       chosen false a = a
 
-or_true : (a b : Bool) → b ≡ true → a || b ≡ true
-or_true true b h = refl
-or_true false b h = h
-
 or_first : (a b c : Bool) → (a ≡ true → c ≡ true) → a || b ≡ true → c || b ≡ true
 or_first true b c f h = ap (λ d. d || b) (f refl)
-or_first false b c f h = or_true c b h
+or_first false b c f h = or_right c b h
 
 module _ (gone : ListElement → Bool) (held : ElementId → Bool) where
   new-held : (n s c : ℕ) (by : Option Stamp) (props : PropertyList) (bs : List ElementContent) → ((m : ℕ) → n ≤ m → held (SequencedId m) ≡ true)
@@ -69,7 +66,7 @@ module _ (gone : ListElement → Bool) (held : ElementId → Bool) where
   new-held n s c by props (b ∷ bs) h =
       let e : ListElement = record { nth = n; content = b; ins = Acked s c; dels = []; removal_stage = None; by = by; props = props; pending = [] } in
       let here : held (SequencedId n) ≡ true = h n (omega arith) in
-      rw (or_true (gone e) (held (SequencedId n)) here, new-held (n + 1) s c by props bs (λ m l. h m (omega arith))) refl
+      rw (or_right (gone e) (held (SequencedId n)) here, new-held (n + 1) s c by props bs (λ m l. h m (omega arith))) refl
 
   pub insertion-names : (s c r p : ℕ) (by : Option Stamp) (props : PropertyList) (bs : List ElementContent) (list : Sequence) → HoldsNames gone held list → HoldsNames gone held (after_insertion s c r p by props bs list)
   insertion-names s c r p by props bs list h = record {

@@ -11,7 +11,7 @@ use Rattle.ft_base.specs.Visibility.{has_occurred, has_occurred_at_stage}
 use Rattle.ft_props.specs.Properties.{PropertyList, change}
 use Rattle.ft_props.specs.Element.{ElementContent, ListElement, new_elements, with_pending_annotation, with_pending_removal}
 use Rattle.ft_props.specs.Steps.{acked_element, acked_props, acked_removal, acked_stamp, remaining_removal}
-use Rattle.ft_props.proofs.AcknowledgedInsertion.{below_mark, below_stamp, element_up_to, expects, list_up_to, removal_up_to}
+use Rattle.ft_props.proofs.AcknowledgedInsertion.{below_mark, below_stamp, element_up_to, expects, list_up_to, removal_up_to, map-choice}
 use Rattle.ft_laws.specs.StageEdits.{StageEdit, PutIn, TakenOut, Annotated, after_pending, fits_pending, IsStanding}
 use Rattle.ft_laws.proofs.RangesOfLists.{fit-map, len-map, put-map, ranges-map}
 
@@ -37,10 +37,6 @@ changes-left : (j k : ℕ) (pending : List (ℕ × Changes))
     → filter (λ p. nat_le p.0 k) (filter (λ p. not (nat_eq p.0 j)) pending) ≡ filter (λ p. not (nat_eq p.0 j)) (filter (λ p. nat_le p.0 k) pending)
 changes-left j k [] = refl
 changes-left j k (p ∷ pending) = grind (arith, changes-left j k pending)
-
-map-choice : {A B : Type 0} (f : A → B) (b : Bool) (xs ys : List A) → cond b (map f xs) (map f ys) ≡ map f (cond b xs ys)
-map-choice f true xs ys = refl
-map-choice f false xs ys = refl
 
 module _ (j n s d : ℕ) where
   element_up_to-acked : (k : ℕ) (e : ListElement) → j ≤ k → element_up_to k (acked_element j n s d e) ≡ acked_element j n s d (element_up_to k e)

@@ -1,7 +1,6 @@
 -- The acknowledgement of the first stage keeps what is known of a document.
 use Rattle.std.proofs.Common.{◌≡◌, ◌⊎◌, inl, inr, ℕ, suc, ◌+◌, ◌≤◌, ◌<◌, Bool, true, false, cond, not, ◌||◌, nat_le, nat_eq, List, [], ◌∷◌, map, refl, sym, ◌∙◌, ap, subst, arith}
 use Rattle.std.specs.List.{list_all}
-use Rattle.std.proofs.lemmas.Bool.Decides.{nat_tests}
 use Rattle.ft_base.specs.declared.stamps.Stamp.{Stamp}
 use Rattle.ft_base.specs.declared.stamps.Stamp.TheVariants.{Acked, Local}
 use Rattle.ft_base.specs.Scan.{len}
@@ -9,7 +8,7 @@ use Rattle.ft_base.specs.Visibility.{is_of_stage}
 use Rattle.ft_op.specs.declared.operations.Target.TheVariants.{Rows, Cols}
 use Rattle.ft_props.specs.Element.{ElementId, SequencedId, PendingId, ListElement, id, id_of_stamp}
 use Rattle.ft_props.specs.Steps.{Sequence, acked_element, acked_id, acked_list, acked_stamp, is_inserted_by}
-use Rattle.ft_props.proofs.AcknowledgedInsertion.{expects, list_up_to, same_nat}
+use Rattle.ft_props.proofs.AcknowledgedInsertion.{expects, is_from, list_up_to, same_nat}
 use Rattle.ft_op.specs.Operation.{SubOperation}
 use Rattle.ft_op.specs.Intervals.{NamedElements}
 use Rattle.ft_op.specs.Document.{Document, effects, sequenced_part}
@@ -20,9 +19,12 @@ use Rattle.ft_laws.specs.SentStages.{SentStage, TextPut, TextTaken, TextAnnotate
 use Rattle.ft_laws.proofs.ToldStages.{AllStand, AreTold, Holds, Rise, ToldStage, renamed_told, stage_numbers}
 use Rattle.ft_laws.proofs.HigherStages.{acknowledgement-keeps, as_expected, list_up_to-acked}
 use Rattle.ft_laws.proofs.AgreedStage.{IsSound, sound-after}
+use Rattle.ft_laws.proofs.OrderedMarks.{is_ordered, ordered-acked}
 use Rattle.ft_laws.proofs.WithinStages.{is_within, within-acked, within-from}
 use Rattle.ft_laws.proofs.NamedByPlace.{SeenAs, names-as, names-not_renamed, seen-map}
 use Rattle.ft_laws.proofs.AcknowledgedDocument.{IsLowest, ack_stage-as, stage-effects, standing-count}
+use Rattle.ft_laws.proofs.AnyAndAll.{all_true}
+use Rattle.ft_laws.proofs.NumberTests.{from_self}
 
 -- ---- names of acknowledged elements
 
@@ -57,10 +59,6 @@ none-inserted k (e ∷ xs) h = grind (arith, none-inserted k xs)
 none-up_to : (k j : ℕ) (xs : List ListElement) → list_all (λ e. not (is_inserted_by k e)) xs ≡ true → list_all (λ e. not (is_inserted_by k e)) (list_up_to j xs) ≡ true
 none-up_to k j [] h = refl
 none-up_to k j (e ∷ xs) h = grind (arith, none-up_to k j xs)
-
-all_true : (xs : List ListElement) → list_all (λ e. true) xs ≡ true
-all_true [] = refl
-all_true (e ∷ xs) = all_true xs
 
 -- how a higher stage sees one list after the acknowledgement, where the stage put into it n elements from, or none at all
 abbrev IsOneList : ℕ → ℕ → Sequence → Type 0
@@ -162,15 +160,12 @@ numbers-renamed : (f : ElementId → ElementId) (ts : List ToldStage) → stage_
 numbers-renamed f [] = refl
 numbers-renamed f (t ∷ ts) = ap (λ ks. suc t.before ∷ ks) (numbers-renamed f ts)
 
-rise-weaker : (i j last : ℕ) (ts : List ToldStage) → i ≤ j → Rise j last ts → Rise i last ts
+pub rise-weaker : (i j last : ℕ) (ts : List ToldStage) → i ≤ j → Rise j last ts → Rise i last ts
 rise-weaker i j last [] l h = omega arith
 rise-weaker i j last (t ∷ ts) l h =
     let here : j ≤ t.before = h.0 in
     let there : i ≤ t.before = omega arith in
     (there, h.1)
-
-as-test : (i j : ℕ) → i ≤ j → nat_le i j ≡ true
-as-test i j l = grind (arith, nat_tests)
 
 rise-least : (i j last : ℕ) (ts : List ToldStage) → i ≤ suc j → Rise j last ts → list_all (nat_le i) (stage_numbers ts) ≡ true
 rise-least i j last [] l h = refl
@@ -178,14 +173,14 @@ rise-least i j last (t ∷ ts) l h =
     let here : j ≤ t.before = h.0 in
     let there : i ≤ suc t.before = omega arith in
     let next : i ≤ suc (suc t.before) = omega arith in
-    rw (as-test i (suc t.before) there, rise-least i (suc t.before) last ts next h.1) refl
+    rw (from_self i (suc t.before) there, rise-least i (suc t.before) last ts next h.1) refl
 
 -- ---- the document
 
 lowest-first : (c m n last : ℕ) (t : ToldStage) (ts : List ToldStage) (doc : Document) → Holds c m n last (t ∷ ts) doc → IsLowest (suc t.before) doc
 lowest-first c m n last t ts doc h =
     let least : list_all (nat_le (suc t.before)) (stage_numbers (t ∷ ts)) ≡ true =
-    rw (as-test (suc t.before) (suc t.before) (omega arith), rise-least (suc t.before) (suc t.before) last ts (omega arith) h.rising.1) refl in
+    rw (from_self (suc t.before) (suc t.before) (omega arith), rise-least (suc t.before) (suc t.before) last ts (omega arith) h.rising.1) refl in
     record {
       text = within-from n (suc t.before) (stage_numbers (t ∷ ts)) doc.text.items least h.text;
       rows = within-from n (suc t.before) (stage_numbers (t ∷ ts)) doc.rows.items least h.rows;
@@ -198,6 +193,9 @@ within-list n s c j k m f ts xs l e h =
     ap (λ ks. list_all (is_within s ks) (map (acked_element j m s c) xs)) (numbers-renamed f ts)
     ∙ ap (λ i. list_all (is_within s (stage_numbers ts)) (map (acked_element i m s c) xs)) e
     ∙ within-acked n s c (suc k) m (stage_numbers ts) xs l h
+
+order-list : (s c j k m : ℕ) (xs : List ListElement) → j ≡ suc k → list_all is_ordered xs ≡ true → list_all (is_from (suc k)) xs ≡ true → list_all is_ordered (map (acked_element j m s c) xs) ≡ true
+order-list s c j k m xs e h g = ap (λ i. list_all is_ordered (map (acked_element i m s c) xs)) e ∙ ordered-acked (suc k) m s c xs h g
 
 -- the acknowledgement of the first stage, whose names are those of now
 pub acknowledged-effects : (c m n last s : ℕ) (t : ToldStage) (ts : List ToldStage) (doc : Document) → Holds c m n last (t ∷ ts) doc
@@ -215,6 +213,7 @@ acknowledged-holds c m n last s t ts doc l h =
     let text : IsOneList t.stage.stage j doc.text = subst (λ i. IsOneList i j doc.text) (sym e) (one-text t.before t.ref c t.stage.sub_operation t.sent doc h.told.1 h.stand.0.text) in
     let rows : IsOneList t.stage.stage j doc.rows = subst (λ i. IsOneList i j doc.rows) (sym e) (one-rows t.before t.ref c t.stage.sub_operation t.sent doc h.told.1 h.stand.0.rows) in
     let cols : IsOneList t.stage.stage j doc.cols = subst (λ i. IsOneList i j doc.cols) (sym e) (one-cols t.before t.ref c t.stage.sub_operation t.sent doc h.told.1 h.stand.0.cols) in
+    let low = lowest-first c m n last t ts doc h in
     let reached : t.stage.stage ≤ suc t.before = subst (λ i. i ≤ suc t.before) (sym e) (omega arith) in
     record {
       told = told-renamed f m ts h.told.3;
@@ -222,6 +221,9 @@ acknowledged-holds c m n last s t ts doc l h =
       text = within-list n s c t.stage.stage t.before doc.text.made f ts doc.text.items l e h.text;
       rows = within-list n s c t.stage.stage t.before doc.rows.made f ts doc.rows.items l e h.rows;
       cols = within-list n s c t.stage.stage t.before doc.cols.made f ts doc.cols.items l e h.cols;
+      text_order = order-list s c t.stage.stage t.before doc.text.made doc.text.items e h.text_order low.text;
+      rows_order = order-list s c t.stage.stage t.before doc.rows.made doc.rows.items e h.rows_order low.rows;
+      cols_order = order-list s c t.stage.stage t.before doc.cols.made doc.cols.items e h.cols_order low.cols;
       stand = all-kept j s c (λ x. x) t.stage doc text rows cols (suc t.before) last ts reached h.rising.1 h.stand.1;
       sound =
           subst (λ d. IsSound d)

@@ -1,5 +1,5 @@
 -- A sub-operation of another client keeps what is known of a document.
-use Rattle.std.proofs.Common.{◌≡◌, ℕ, suc, ◌≤◌, ◌<◌, Bool, true, false, cond, ◌&&◌, nat_le, nat_eq, List, [], ◌∷◌, Option, Some, None, append-nil, replicate, refl, sym, ◌∙◌, ap, subst, arith}
+use Rattle.std.proofs.Common.{◌≡◌, ℕ, suc, ◌≤◌, ◌<◌, Bool, true, false, cond, nat_le, nat_eq, List, [], ◌∷◌, Option, Some, None, append-nil, replicate, refl, sym, ◌∙◌, ap, subst, arith}
 use Rattle.std.specs.List.{list_all}
 use Rattle.ft_base.specs.declared.stamps.Stamp.{Stamp}
 use Rattle.ft_base.specs.declared.stamps.Stamp.TheVariants.{Acked}
@@ -23,9 +23,11 @@ use Rattle.ft_laws.specs.StageEdits.{StageEdit, PutIn, TakenOut, Annotated, IsSt
 use Rattle.ft_laws.specs.SentStages.{SentStage, NamesBy, StageStands, cols_edit, rows_edit, text_edit}
 use Rattle.ft_laws.proofs.ToldStages.{AllStand, AreTold, Holds, ToldStage, stage_numbers}
 use Rattle.ft_laws.proofs.ForeignSteps.{foreign_step-keeps, sequenced-list_up_to, unexpected-removal}
-use Rattle.ft_laws.proofs.AgreedStage.{IsSound, ends-after, ends-stand, named-after}
+use Rattle.ft_laws.proofs.AgreedStage.{IsNamed, IsSound, ends-after, ends-stand, named-after}
+use Rattle.ft_laws.proofs.OrderedMarks.{is_ordered, ordered-sequenced}
 use Rattle.ft_laws.proofs.WithinStages.{is_within, within-more, within-sequenced}
 use Rattle.ft_laws.proofs.NamedByPlace.{SeenAs, names-as, names-not_renamed, seen-put, seen-ranges}
+use Rattle.ft_laws.proofs.NumberTests.{one-test}
 
 -- the second list is the first after a sequenced edit that is in range
 pub record IsForeign (s d e : ℕ) (xs ys : List ListElement) : Type 0 where
@@ -81,6 +83,9 @@ module _ (s d e c : ℕ) (others : nat_eq d c ≡ false) where
     within-keeps : (n : ℕ) (ks : List ℕ) (xs ys : List ListElement) → n ≤ s → IsForeign s d e xs ys → list_all (is_within n ks) xs ≡ true → list_all (is_within s ks) ys ≡ true
     within-keeps n ks xs ys l f h = ap (list_all (is_within s ks)) f.made ∙ within-sequenced n s d e f.n f.by f.edit ks xs l h
 
+    order-keeps : (xs ys : List ListElement) → IsForeign s d e xs ys → list_all is_ordered xs ≡ true → list_all is_ordered ys ≡ true
+    order-keeps xs ys f h = ap (list_all is_ordered) f.made ∙ ordered-sequenced s d e f.n f.by f.edit xs h
+
     pub foreign-holds : (m n last : ℕ) (ts : List ToldStage) → m < s → n ≤ s → IsSound (sequenced_part after) → Holds c m n last ts doc → Holds c m s last ts after
     foreign-holds m n last ts above l sound h = record {
       told = h.told;
@@ -88,6 +93,9 @@ module _ (s d e c : ℕ) (others : nat_eq d c ≡ false) where
       text = within-keeps n (stage_numbers ts) doc.text.items after.text.items l text h.text;
       rows = within-keeps n (stage_numbers ts) doc.rows.items after.rows.items l rows h.rows;
       cols = within-keeps n (stage_numbers ts) doc.cols.items after.cols.items l cols h.cols;
+      text_order = order-keeps doc.text.items after.text.items text h.text_order;
+      rows_order = order-keeps doc.rows.items after.rows.items rows h.rows_order;
+      cols_order = order-keeps doc.cols.items after.cols.items cols h.cols_order;
       stand = stages-keep m ts above h.told h.stand;
       sound = sound;
     }
@@ -105,9 +113,6 @@ AreForeign s d e doc after = IsForeign s d e doc.text.items after.text.items × 
 same-lists : (s d e : ℕ) (doc : Document) → AreForeign s d e doc doc
 same-lists s d e doc = (as-it-was s d e doc.text.items, as-it-was s d e doc.rows.items, as-it-was s d e doc.cols.items)
 
-one-range : (q n : ℕ) → nat_le q n ≡ true → nat_le q n && true ≡ true
-one-range q n h = rw h refl
-
 text-foreign : (s d e : ℕ) (doc : Document) (op : BaseOp) → AreForeign s d e doc (text_effect doc s d e op)
 text-foreign s d e doc (Insert p seg props) =
     by_cond (AreForeign s d e doc) (nat_le p (len (seen_by e d) doc.text.items)) (record doc { text = after_insertion s d e p (Some (Acked s d)) (apply [] props) (segment_contents seg) doc.text }) (with_skip doc)
@@ -115,11 +120,11 @@ text-foreign s d e doc (Insert p seg props) =
     (same-lists s d e doc)
 text-foreign s d e doc (Remove p q) =
     by_cond (AreForeign s d e doc) (nat_le q (len (seen_by e d) doc.text.items)) (with_slid_ends (record doc { text = after_removal s d e p q doc.text })) (with_skip doc)
-    (λ h. (record { n = 0; by = None; edit = TakenOut ((p, q) ∷ []); fits = one-range q (len (seen_by e d) doc.text.items) h; made = refl }, as-it-was s d e doc.rows.items, as-it-was s d e doc.cols.items))
+    (λ h. (record { n = 0; by = None; edit = TakenOut ((p, q) ∷ []); fits = one-test q (len (seen_by e d) doc.text.items) h; made = refl }, as-it-was s d e doc.rows.items, as-it-was s d e doc.cols.items))
     (same-lists s d e doc)
 text-foreign s d e doc (Annotate p q changes) =
     by_cond (AreForeign s d e doc) (nat_le q (len (seen_by e d) doc.text.items)) (record doc { text = record { items = change_range (seen_by e d) p q (with_annotation changes) doc.text.items; made = doc.text.made } }) (with_skip doc)
-    (λ h. (record { n = 0; by = None; edit = Annotated ((p, q) ∷ []) changes; fits = one-range q (len (seen_by e d) doc.text.items) h; made = refl }, as-it-was s d e doc.rows.items, as-it-was s d e doc.cols.items))
+    (λ h. (record { n = 0; by = None; edit = Annotated ((p, q) ∷ []) changes; fits = one-test q (len (seen_by e d) doc.text.items) h; made = refl }, as-it-was s d e doc.rows.items, as-it-was s d e doc.cols.items))
     (same-lists s d e doc)
 
 cell-foreign : (s d e : ℕ) (doc : Document) (row col : Option ListElement) (value : ValueBytes) → AreForeign s d e doc (cell_effect doc row col value)
@@ -138,11 +143,11 @@ grid-foreign s d e doc (SpliceIn Cols p count) =
     (same-lists s d e doc)
 grid-foreign s d e doc (SpliceOut Rows p q) =
     by_cond (AreForeign s d e doc) (nat_le q (len (seen_by e d) doc.rows.items)) (record doc { rows = after_removal s d e p q doc.rows }) (with_skip doc)
-    (λ h. (as-it-was s d e doc.text.items, record { n = 0; by = None; edit = TakenOut ((p, q) ∷ []); fits = one-range q (len (seen_by e d) doc.rows.items) h; made = refl }, as-it-was s d e doc.cols.items))
+    (λ h. (as-it-was s d e doc.text.items, record { n = 0; by = None; edit = TakenOut ((p, q) ∷ []); fits = one-test q (len (seen_by e d) doc.rows.items) h; made = refl }, as-it-was s d e doc.cols.items))
     (same-lists s d e doc)
 grid-foreign s d e doc (SpliceOut Cols p q) =
     by_cond (AreForeign s d e doc) (nat_le q (len (seen_by e d) doc.cols.items)) (record doc { cols = after_removal s d e p q doc.cols }) (with_skip doc)
-    (λ h. (as-it-was s d e doc.text.items, as-it-was s d e doc.rows.items, record { n = 0; by = None; edit = TakenOut ((p, q) ∷ []); fits = one-range q (len (seen_by e d) doc.cols.items) h; made = refl }))
+    (λ h. (as-it-was s d e doc.text.items, as-it-was s d e doc.rows.items, record { n = 0; by = None; edit = TakenOut ((p, q) ∷ []); fits = one-test q (len (seen_by e d) doc.cols.items) h; made = refl }))
     (same-lists s d e doc)
 grid-foreign s d e doc (Set i j value) = cell-foreign s d e doc (at (seen_by e d) i doc.rows.items) (at (seen_by e d) j doc.cols.items) value
 
@@ -157,7 +162,7 @@ effect-foreign s d e doc (OnGrid op) = grid-foreign s d e doc op
 -- ---- what stands in the document of messages alone
 
 skip-sound : (doc : Document) → IsSound doc → IsSound (with_skip doc)
-skip-sound doc h = record { named = h.named; ends = h.ends }
+skip-sound doc h = record { named = h.named; ends = h.ends; rows = h.rows; cols = h.cols }
 
 text-sound : (s d e : ℕ) (doc : Document) (op : BaseOp) → IsSound doc → IsSound (text_effect doc s d e op)
 text-sound s d e doc (Insert p seg props) h =
@@ -165,33 +170,41 @@ text-sound s d e doc (Insert p seg props) h =
     (λ f. record {
       named = named-after s d e (Some (Acked s d)) (PutIn p (apply [] props) (segment_contents seg)) doc.text h.named;
       ends = ends-after s d e (Some (Acked s d)) (PutIn p (apply [] props) (segment_contents seg)) doc.text doc.intervals refl h.ends;
+      rows = h.rows;
+      cols = h.cols;
     }) (skip-sound doc h)
 text-sound s d e doc (Remove p q) h =
     by_cond (λ x. IsSound x) (nat_le q (len (seen_by e d) doc.text.items)) (with_slid_ends (record doc { text = after_removal s d e p q doc.text })) (with_skip doc)
-    (λ f. record { named = named-after s d e None (TakenOut ((p, q) ∷ [])) doc.text h.named; ends = ends-stand (after_removal s d e p q doc.text).items doc.intervals }) (skip-sound doc h)
+    (λ f. record { named = named-after s d e None (TakenOut ((p, q) ∷ [])) doc.text h.named; ends = ends-stand (after_removal s d e p q doc.text).items doc.intervals; rows = h.rows; cols = h.cols }) (skip-sound doc h)
 text-sound s d e doc (Annotate p q changes) h =
     by_cond (λ x. IsSound x) (nat_le q (len (seen_by e d) doc.text.items)) (record doc { text = record { items = change_range (seen_by e d) p q (with_annotation changes) doc.text.items; made = doc.text.made } }) (with_skip doc)
     (λ f. record {
       named = named-after s d e None (Annotated ((p, q) ∷ []) changes) doc.text h.named;
       ends = ends-after s d e None (Annotated ((p, q) ∷ []) changes) doc.text doc.intervals refl h.ends;
+      rows = h.rows;
+      cols = h.cols;
     }) (skip-sound doc h)
 
 cell-sound : (doc : Document) (row col : Option ListElement) (value : ValueBytes) → IsSound doc → IsSound (cell_effect doc row col value)
 cell-sound doc None col value h = skip-sound doc h
 cell-sound doc (Some row) None value h = skip-sound doc h
-cell-sound doc (Some row) (Some col) value h = record { named = h.named; ends = h.ends }
+cell-sound doc (Some row) (Some col) value h = record { named = h.named; ends = h.ends; rows = h.rows; cols = h.cols }
 
-lists-sound : (target : Target) (list : Sequence) (doc : Document) → IsSound doc → IsSound (with_rows_or_cols target doc list)
-lists-sound Rows list doc h = record { named = h.named; ends = h.ends }
-lists-sound Cols list doc h = record { named = h.named; ends = h.ends }
+lists-sound : (target : Target) (list : Sequence) (doc : Document) → IsNamed list → IsSound doc → IsSound (with_rows_or_cols target doc list)
+lists-sound Rows list doc named h = record { named = h.named; ends = h.ends; rows = named; cols = h.cols }
+lists-sound Cols list doc named h = record { named = h.named; ends = h.ends; rows = h.rows; cols = named }
+
+list-sound : (target : Target) (doc : Document) → IsSound doc → IsNamed (rows_or_cols target doc)
+list-sound Rows doc h = h.rows
+list-sound Cols doc h = h.cols
 
 grid-sound : (s d e : ℕ) (doc : Document) (op : CellOp) → IsSound doc → IsSound (grid_effect doc s d e op)
 grid-sound s d e doc (SpliceIn target p count) h =
     by_cond (λ x. IsSound x) (nat_le p (len (seen_by e d) (rows_or_cols target doc).items)) (with_rows_or_cols target doc (after_insertion s d e p None [] (replicate count GridUnit) (rows_or_cols target doc))) (with_skip doc)
-    (λ f. lists-sound target (after_insertion s d e p None [] (replicate count GridUnit) (rows_or_cols target doc)) doc h) (skip-sound doc h)
+    (λ f. lists-sound target (after_insertion s d e p None [] (replicate count GridUnit) (rows_or_cols target doc)) doc (named-after s d e None (PutIn p [] (replicate count GridUnit)) (rows_or_cols target doc) (list-sound target doc h)) h) (skip-sound doc h)
 grid-sound s d e doc (SpliceOut target p q) h =
     by_cond (λ x. IsSound x) (nat_le q (len (seen_by e d) (rows_or_cols target doc).items)) (with_rows_or_cols target doc (after_removal s d e p q (rows_or_cols target doc))) (with_skip doc)
-    (λ f. lists-sound target (after_removal s d e p q (rows_or_cols target doc)) doc h) (skip-sound doc h)
+    (λ f. lists-sound target (after_removal s d e p q (rows_or_cols target doc)) doc (named-after s d e None (TakenOut ((p, q) ∷ [])) (rows_or_cols target doc) (list-sound target doc h)) h) (skip-sound doc h)
 grid-sound s d e doc (Set i j value) h = cell-sound doc (at (seen_by e d) i doc.rows.items) (at (seen_by e d) j doc.cols.items) value h
 
 -- each sub-operation keeps what stands in the document
@@ -200,7 +213,7 @@ effect-sound s d e doc (OnText op) h = text-sound s d e doc op h
 effect-sound s d e doc (OnIntervals op) h =
     by_cond (λ x. IsSound x) (given_ends_fit (len (seen_by e d) doc.text.items) (ends_of op))
     (with_slid_ends (record doc { intervals = after_interval_operation op (elements_at_given_ends (seen_by e d) doc.text.items (ends_of op)) doc.intervals })) (with_skip doc)
-    (λ f. record { named = h.named; ends = ends-stand doc.text.items (after_interval_operation op (elements_at_given_ends (seen_by e d) doc.text.items (ends_of op)) doc.intervals) }) (skip-sound doc h)
+    (λ f. record { named = h.named; ends = ends-stand doc.text.items (after_interval_operation op (elements_at_given_ends (seen_by e d) doc.text.items (ends_of op)) doc.intervals); rows = h.rows; cols = h.cols }) (skip-sound doc h)
 effect-sound s d e doc (OnGrid op) h = grid-sound s d e doc op h
 
 pub effects-sound : (s d e : ℕ) (doc : Document) (os : List SubOperation) → IsSound doc → IsSound (effects doc s d e os)
@@ -238,6 +251,9 @@ holds-more c m m' n n' last ts doc l k h =
       text = more doc.text.items h.text;
       rows = more doc.rows.items h.rows;
       cols = more doc.cols.items h.cols;
+      text_order = h.text_order;
+      rows_order = h.rows_order;
+      cols_order = h.cols_order;
       stand = h.stand;
       sound = h.sound;
     }

@@ -1,7 +1,6 @@
 -- An edit of the client's own keeps what is known of a document, with one more stage for each sub-operation.
 use Rattle.std.proofs.Common.{◌≡◌, ℕ, suc, ◌+◌, ◌≤◌, ◌<◌, Bool, true, false, nat_le, List, [], ◌∷◌, ◌++◌, None, refl, sym, ◌∙◌, ap, subst, arith}
 use Rattle.std.specs.List.{list_all, list_any}
-use Rattle.std.proofs.lemmas.Bool.Decides.{nat_tests}
 use Rattle.ft_base.specs.declared.stamps.Stamp.TheVariants.{Local}
 use Rattle.ft_base.specs.Scan.{change_range}
 use Rattle.ft_props.specs.Properties.{PropertyList}
@@ -16,18 +15,17 @@ use Rattle.ft_laws.specs.SentStages.{SentStage, NamesBy, StageStands, Tells, col
 use Rattle.ft_laws.proofs.ToldStages.{AllStand, AreTold, Holds, Rise, ToldStage, stage_numbers}
 use Rattle.ft_laws.proofs.OwnEdits.{expected, own-below, own-keeps, own-stands, range-left_out}
 use Rattle.ft_laws.proofs.AgreedStage.{IsSound}
+use Rattle.ft_laws.proofs.OrderedMarks.{is_ordered, ordered-own}
 use Rattle.ft_laws.proofs.WithinStages.{is_within, within-current, within-own}
 use Rattle.ft_laws.proofs.NamedByPlace.{names-as, names-not_renamed, seen-agree}
+use Rattle.ft_laws.proofs.AnyAndAll.{all_true}
+use Rattle.ft_laws.proofs.NumberTests.{from_self}
 
 -- ---- without what is pending the list is as it was
 
 none-sequenced : (k i : ℕ) (props : PropertyList) (items : List ElementContent) → list_any is_sequenced (new_elements i (Local k) [] None props items) ≡ false
 none-sequenced k i props [] = refl
 none-sequenced k i props (b ∷ bs) = none-sequenced k (i + 1) props bs
-
-all_true : (xs : List ListElement) → list_all (λ e. true) xs ≡ true
-all_true [] = refl
-all_true (e ∷ xs) = all_true xs
 
 marks-sequenced : (seen : ListElement → Bool) (g : ListElement → ListElement) → ((e : ListElement) → is_sequenced (g e) ≡ is_sequenced e) → ((e : ListElement) → without_pending (g e) ≡ without_pending e)
     → (ranges : List (ℕ × ℕ)) (xs : List ListElement) → sequenced_elements (change_ranges seen g ranges xs) ≡ sequenced_elements xs
@@ -75,10 +73,7 @@ stand-append : (c : ℕ) (doc : Document) (ts : List ToldStage) (g : ToldStage) 
 stand-append c doc [] g h k = k
 stand-append c doc (t ∷ ts) g h k = (h.0, stand-append c doc ts g h.1 k)
 
-as-test : (i j : ℕ) → i ≤ j → nat_le i j ≡ true
-as-test i j l = grind (arith, nat_tests)
-
-rise-last : (j last : ℕ) (ts : List ToldStage) → Rise j last ts → j ≤ last
+pub rise-last : (j last : ℕ) (ts : List ToldStage) → Rise j last ts → j ≤ last
 rise-last j last [] h = h
 rise-last j last (t ∷ ts) h =
     let here : j ≤ t.before = h.0 in
@@ -87,7 +82,7 @@ rise-last j last (t ∷ ts) h =
 
 rise-most : (j last : ℕ) (ts : List ToldStage) → Rise j last ts → list_all (λ i. nat_le i last) (stage_numbers ts) ≡ true
 rise-most j last [] h = refl
-rise-most j last (t ∷ ts) h = rw (as-test (suc t.before) last (rise-last (suc t.before) last ts h.1), rise-most (suc t.before) last ts h.1) refl
+rise-most j last (t ∷ ts) h = rw (from_self (suc t.before) last (rise-last (suc t.before) last ts h.1), rise-most (suc t.before) last ts h.1) refl
 
 module _ (n c k : ℕ) where
   now-below : (edit : StageEdit) (xs ys : List ListElement) → IsOwnStep k edit xs ys → list_all (is_current n c k) xs ≡ true → list_up_to k ys ≡ xs
@@ -152,6 +147,9 @@ within-step n k edit ts g xs ys e o h =
     ∙ ap (list_all (is_within n (stage_numbers ts ++ (suc k ∷ [])))) o.made
     ∙ within-own n k edit (stage_numbers ts) xs h
 
+order-step : (n c k : ℕ) (edit : StageEdit) (xs ys : List ListElement) → IsOwnStep k edit xs ys → list_all is_ordered xs ≡ true → list_all (is_current n c k) xs ≡ true → list_all is_ordered ys ≡ true
+order-step n c k edit xs ys o h g = ap (list_all is_ordered) o.made ∙ ordered-own n c k edit xs o.one h g
+
 -- a stage of the client's own, whose message will have reference number n
 pub own-holds : (c n k : ℕ) (ts : List ToldStage) (stage : Stage) (sent : SentStage) (doc after : Document) → stage.stage ≡ suc k → Tells stage.sub_operation sent → IsOwn k sent stage.names doc after
     → Holds c n n k ts doc → Holds c n n (suc k) (ts ++ (record { stage = stage; before = k; ref = n; sent = sent } ∷ [])) after
@@ -167,6 +165,9 @@ own-holds c n k ts stage sent doc after e tells o h =
       text = within-step n k (text_edit sent) ts g doc.text.items after.text.items refl o.text h.text;
       rows = within-step n k (rows_edit sent) ts g doc.rows.items after.rows.items refl o.rows h.rows;
       cols = within-step n k (cols_edit sent) ts g doc.cols.items after.cols.items refl o.cols h.cols;
+      text_order = order-step n c k (text_edit sent) doc.text.items after.text.items o.text h.text_order text;
+      rows_order = order-step n c k (rows_edit sent) doc.rows.items after.rows.items o.rows h.rows_order rows;
+      cols_order = order-step n c k (cols_edit sent) doc.cols.items after.cols.items o.cols h.cols_order cols;
       stand = stand-append c after ts g (lower-stages n c k sent stage.names doc after o text rows cols 0 ts h.rising h.stand) (new-stage n c k sent stage.names doc after o text rows cols, tt);
       sound = subst (λ d. IsSound d) (sym o.agrees) h.sound;
     }

@@ -1,3 +1,6 @@
+pub mod Booleans
+pub mod AnyAndAll
+pub mod NumberTests
 pub mod RangesOfLists
 pub mod ForeignSteps
 pub mod AcknowledgedStage
@@ -6,6 +9,7 @@ pub mod OwnEdits
 pub mod SlidEnds
 pub mod AgreedStage
 pub mod WithinStages
+pub mod OrderedMarks
 pub mod NamedByPlace
 pub mod AcknowledgedDocument
 pub mod ToldStages
@@ -14,11 +18,8 @@ pub mod AcknowledgedEdit
 pub mod HoldsAfterForeign
 pub mod HoldsAfterOwn
 pub mod OwnSubOperations
-pub mod SameOperation
 pub mod ClientHolds
-pub mod ClientsAgree
 pub mod SideBySideStages
-pub mod ReconnectedClient
 pub mod MarkedRuns
 pub mod RebuiltStages
 pub mod CompactedScans
@@ -47,6 +48,19 @@ pub mod FollowingOrder
 pub mod EditsInOrder
 pub mod SequencedFromNow
 pub mod PendingOnTop
-pub mod OrderedMarks
 pub mod SideBySide
 pub mod ReadyExample
+pub mod DistinctNames
+pub mod SettledNames
+pub mod GoneStages
+pub mod RebuiltDocument
+pub mod StagesAgain
+pub mod DocumentAgain
+pub mod EditsAgain
+pub mod ClientsAgree
+pub mod ReconnectedClient
+pub mod MarksOfStages
+pub mod TypedStages
+pub mod CellsOfUnits
+pub mod CountedEntries
+pub mod EveryClientReady

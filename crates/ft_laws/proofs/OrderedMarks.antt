@@ -16,10 +16,38 @@ use Rattle.ft_props.proofs.PlacedInsertion.{is_current, mark_upto, stamp_known}
 use Rattle.ft_laws.specs.StageEdits.{StageEdit, PutIn, TakenOut, Annotated, after_own, after_sequenced, change_ranges, has_one_range}
 use Rattle.ft_laws.proofs.OwnEdits.{unmarked}
 use Rattle.ft_laws.proofs.WithinStages.{all-map, all-put}
-use Rattle.ft_laws.proofs.RebuiltStages.{is_ordered, is_removed_last, is_unremoved_pending, rises_from}
 
-parts : (e : ListElement) → is_ordered e ≡ true → (rises_from 0 e.pending ≡ true) × (is_removed_last e.removal_stage e.pending ≡ true) × (is_unremoved_pending e.ins e.dels e.removal_stage ≡ true)
-parts e h = all_three (rises_from 0 e.pending) (is_removed_last e.removal_stage e.pending) (is_unremoved_pending e.ins e.dels e.removal_stage) h
+-- ---- how pending marks stand on an element
+
+-- changes by rising stages, all above the one before
+abbrev pub rises_from : ℕ → List (ℕ × Changes) → Bool
+rises_from i [] = true
+rises_from i (p ∷ pending) = nat_lt i p.0 && rises_from p.0 pending
+
+-- a pending insertion has no sequenced removal, and is marked only by later stages
+abbrev pub is_unremoved_pending : Stamp → List Stamp → Option ℕ → Bool
+is_unremoved_pending (Acked s c) dels m = true
+is_unremoved_pending (Local j) [] None = true
+is_unremoved_pending (Local j) [] (Some i) = nat_lt j i
+is_unremoved_pending (Local j) (t ∷ dels) m = false
+
+-- a removal comes after all changes
+abbrev pub is_removed_last : Option ℕ → List (ℕ × Changes) → Bool
+is_removed_last None pending = true
+is_removed_last (Some j) pending = list_all (λ p. nat_lt p.0 j) pending
+
+-- the stage of a pending insertion, and 0 for a sequenced one
+abbrev pub insertion_stage : Stamp → ℕ
+insertion_stage (Acked s c) = 0
+insertion_stage (Local j) = j
+
+-- its changes have rising stages above that of its insertion, its pending removal comes after them, and a pending insertion is removed by later
+-- stages alone
+abbrev pub is_ordered : ListElement → Bool
+is_ordered e = rises_from (insertion_stage e.ins) e.pending && is_removed_last e.removal_stage e.pending && is_unremoved_pending e.ins e.dels e.removal_stage
+
+pub parts : (e : ListElement) → is_ordered e ≡ true → (rises_from (insertion_stage e.ins) e.pending ≡ true) × (is_removed_last e.removal_stage e.pending ≡ true) × (is_unremoved_pending e.ins e.dels e.removal_stage ≡ true)
+parts e h = all_three (rises_from (insertion_stage e.ins) e.pending) (is_removed_last e.removal_stage e.pending) (is_unremoved_pending e.ins e.dels e.removal_stage) h
 
 -- a change of what is seen
 module _ {A : Type 0} (is seen : A → Bool) (g : A → A) (keep : (x : A) → is x ≡ true → seen x ≡ true → is (g x) ≡ true) where
@@ -86,6 +114,10 @@ mark-unremoved k (Acked s c) dels m h g = refl
 mark-unremoved k (Local j) [] m h g = grind (arith, nat_tests)
 mark-unremoved k (Local j) (t ∷ dels) m h g = (cc)
 
+stage-before : (k : ℕ) (t : Stamp) → has_occurred_at_stage k t ≡ true → nat_lt (insertion_stage t) (suc k) ≡ true
+stage-before k (Acked s c) h = grind (arith, nat_tests)
+stage-before k (Local j) h = grind (arith, nat_tests)
+
 abbrev is_ready : ℕ → ℕ → ℕ → ListElement → Bool
 is_ready n c k e = is_ordered e && is_current n c k e
 
@@ -106,9 +138,9 @@ module _ (n c k : ℕ) where
       let r = both (is_ordered e) (is_current n c k e) h in
       let p = parts e r.0 in
       let q = current-parts e r.1 in
-      let first : nat_lt 0 (suc k) ≡ true = grind (arith, nat_tests) in
+      let reached = (both (has_occurred_at_stage k e.ins) (not (list_any (has_occurred_at_stage k) (e.dels ++ removal_stamp e.removal_stage))) g).0 in
       let last : is_removed_last e.removal_stage (e.pending ++ ((suc k, changes) ∷ [])) ≡ true = ap (λ m. is_removed_last m (e.pending ++ ((suc k, changes) ∷ []))) (unmarked n c k e r.1 g) in
-      rw (rises-append 0 k changes e.pending first q.3 p.0, last, p.2) refl
+      rw (rises-append (insertion_stage e.ins) k changes e.pending (stage-before k e.ins reached) q.3 p.0, last, p.2) refl
 
   all-ready : (xs : List ListElement) → list_all is_ordered xs ≡ true → list_all (is_current n c k) xs ≡ true → list_all (is_ready n c k) xs ≡ true
   all-ready [] h g = refl
@@ -130,6 +162,10 @@ module _ (n c k : ℕ) where
 rises-weaker : (i j : ℕ) (pending : List (ℕ × Changes)) → nat_lt i j ≡ true → rises_from j pending ≡ true → rises_from i pending ≡ true
 rises-weaker i j [] l h = refl
 rises-weaker i j (p ∷ pending) l h = grind (arith, nat_tests)
+
+rises-zero : (j : ℕ) (pending : List (ℕ × Changes)) → rises_from j pending ≡ true → rises_from 0 pending ≡ true
+rises-zero j [] h = refl
+rises-zero j (p ∷ pending) h = grind (arith, nat_tests)
 
 rises-filter : (i k : ℕ) (pending : List (ℕ × Changes)) → rises_from i pending ≡ true → rises_from i (filter (λ p. not (nat_eq p.0 k)) pending) ≡ true
 rises-filter i k [] h = refl
@@ -172,12 +208,20 @@ stamp-acked k s d (Local j) [] (Some i) l h = either (nat_eq j k) (later (nat_eq
     either true e = refl
     either false e = rw e h
 
+rises-acked : (k s d : ℕ) (t : Stamp) (pending : List (ℕ × Changes)) → rises_from (insertion_stage t) pending ≡ true → rises_from (insertion_stage (acked_stamp k s d t)) (filter (λ p. not (nat_eq p.0 k)) pending) ≡ true
+rises-acked k s d (Acked r c) pending h = rises-filter 0 k pending h
+rises-acked k s d (Local j) pending h = either (nat_eq j k)
+  where
+    either : (b : Bool) → rises_from (insertion_stage (cond b (Acked s d) (Local j))) (filter (λ p. not (nat_eq p.0 k)) pending) ≡ true
+    either true = rises-zero j (filter (λ p. not (nat_eq p.0 k)) pending) (rises-filter j k pending h)
+    either false = rises-filter j k pending h
+
 acked-ordered : (k m s d : ℕ) (e : ListElement) → is_ordered e && is_from k e ≡ true → is_ordered (acked_element k m s d e) ≡ true
 acked-ordered k m s d e h =
     let r = both (is_ordered e) (is_from k e) h in
     let p = parts e r.0 in
     let f = all_three (from_stamp k e.ins) (from_mark k e.removal_stage) (list_all (λ q. nat_le k q.0) e.pending) r.1 in
-    rw (rises-filter 0 k e.pending p.0, removed-acked k e.removal_stage e.pending p.1, stamp-acked k s d e.ins e.dels e.removal_stage f.0 p.2) refl
+    rw (rises-acked k s d e.ins e.pending p.0, removed-acked k e.removal_stage e.pending p.1, stamp-acked k s d e.ins e.dels e.removal_stage f.0 p.2) refl
 
 ordered-and-from : (k : ℕ) (xs : List ListElement) → list_all is_ordered xs ≡ true → list_all (is_from k) xs ≡ true → list_all (λ e. is_ordered e && is_from k e) xs ≡ true
 ordered-and-from k [] h g = refl

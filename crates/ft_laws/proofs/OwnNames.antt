@@ -8,19 +8,13 @@ use Rattle.ft_base.specs.Scan.{one_more_if, within, put, put_past, change_range_
 use Rattle.ft_base.specs.Visibility.{is_acked}
 use Rattle.ft_base.proofs.Booleans.{both}
 use Rattle.ft_props.specs.Properties.{PropertyList}
-use Rattle.ft_props.specs.Element.{ListElement, ElementId, ElementContent, SequencedId, PendingId, same_id, id, id_of_stamp, has_id, is_sequenced, is_pending, seen_by, new_elements}
+use Rattle.ft_props.specs.Element.{ListElement, ElementId, ElementContent, SequencedId, same_id, id, id_of_stamp, has_id, is_sequenced, is_pending, seen_by, new_elements}
 use Rattle.ft_props.specs.Steps.{Sequence, after_insertion}
 use Rattle.ft_laws.specs.Trimming.{IsNumbered, are_distinct, is_numbered_below}
-use Rattle.ft_laws.proofs.CompactedScans.{same_id-same}
 use Rattle.ft_laws.proofs.HeldNames.{all-put, all-range}
-
-same_nat : (n : ℕ) → nat_eq n n ≡ true
-same_nat n = grind (arith, nat_tests)
-
--- each name is its own
-pub same_id-self : (x : ElementId) → same_id x x ≡ true
-same_id-self (SequencedId n) = same_nat n
-same_id-self (PendingId k n) = rw (same_nat k, same_nat n) refl
+use Rattle.ft_laws.proofs.SlidEnds.{same_id-refl, same_id-eq}
+use Rattle.ft_props.proofs.RebuiltList.{or_right, any-both}
+use Rattle.ft_laws.proofs.NumberTests.{from_self}
 
 -- two names are apart either way round
 pub same_id-apart : (x y : ElementId) → same_id x y ≡ false → same_id y x ≡ false
@@ -28,8 +22,8 @@ same_id-apart x y h = step (same_id y x) refl
   where
     step : (b : Bool) → same_id y x ≡ b → b ≡ false
     step true e =
-        let p : y ≡ x = same_id-same y x e in
-        cc (ap (same_id x) p, same_id-self x)
+        let p : y ≡ x = same_id-eq y x e in
+        cc (ap (same_id x) p, same_id-refl x)
     step false e = refl
 
 module _ {A : Type 0} where
@@ -64,10 +58,6 @@ module _ {A : Type 0} where
       step true e k g = (cc)
       step false e k g = rw (f x e) (g k)
 
-or_more : (a b : Bool) → b ≡ true → a || b ≡ true
-or_more true b h = refl
-or_more false b h = h
-
 -- whether an element of that name passes the test
 abbrev pub has_named : (ListElement → Bool) → List ListElement → ElementId → Bool
 has_named test xs x = list_any (λ e. has_id x e && test e) xs
@@ -82,12 +72,12 @@ own-named test (y ∷ xs) =
     ) refl
   where
     here : (b c : Bool) → not b || ((same_id (id y) (id y) && b) || c) ≡ true
-    here true c = rw (same_id-self (id y)) refl
+    here true c = rw (same_id-refl (id y)) refl
     here false c = refl
 
     later : (a b c : Bool) → a || c ≡ true → a || (b || c) ≡ true
     later true b c h = refl
-    later false b c h = or_more b c h
+    later false b c h = or_right b c h
 
 -- where names are distinct, one that doesn't pass has no name of one that does
 pub other-named : (test : ListElement → Bool) (xs : List ListElement) → are_distinct xs ≡ true → list_all (λ e. test e || not (has_named test xs (id e))) xs ≡ true
@@ -122,7 +112,7 @@ named-passes test held has f x (y ∷ xs) h k =
     step (same_id x (id y)) (test y) refl refl k p.0 (named-passes test held has f x xs p.1)
   where
     step : (a b : Bool) → same_id x (id y) ≡ a → test y ≡ b → (a && b) || has_named test xs x ≡ true → held y ≡ true → (has_named test xs x ≡ true → has x ≡ true) → has x ≡ true
-    step true true e t k g r = let q : x ≡ id y = same_id-same x (id y) e in subst (λ i. has i ≡ true) (sym q) (f y g t)
+    step true true e t k g r = let q : x ≡ id y = same_id-eq x (id y) e in subst (λ i. has i ≡ true) (sym q) (f y g t)
     step true false e t k g r = r k
     step false b e t k g r = r k
 
@@ -165,9 +155,6 @@ more_below n m e l h = let p = both (is_sequenced e) (nat_lt e.nth n) h in rw (p
 below_next : (n m : ℕ) → n < m → nat_lt n m ≡ true
 below_next n m l = grind (arith, nat_tests)
 
-from_self : (n m : ℕ) → n ≤ m → nat_le n m ≡ true
-from_self n m l = grind (arith, nat_tests)
-
 new-below : (n m s c : ℕ) (by : Option Stamp) (props : PropertyList) (bs : List ElementContent) → n + length bs ≤ m → list_all (is_numbered_below m) (new_elements n (Acked s c) [] by props bs) ≡ true
 new-below n m s c by props [] l = refl
 new-below n m s c by props (b ∷ bs) l = rw (below_next n m (omega arith), new-below (n + 1) m s c by props bs (omega arith)) refl
@@ -190,10 +177,6 @@ new-distinct n s c by props (b ∷ bs) =
     let apart : list_any (has_id (id e)) (new_elements (n + 1) (Acked s c) [] by props bs) ≡ false =
     old-apart (n + 1) e (new_elements (n + 1) (Acked s c) [] by props bs) (rw (below_next n (n + 1) (omega arith)) refl) (new-from (n + 1) (n + 1) s c by props bs (omega arith)) in
     rw (apart, new-distinct (n + 1) s c by props bs) refl
-
-any-both : {A : Type 0} (is : A → Bool) (xs ys : List A) → list_any is xs ≡ false → list_any is ys ≡ false → list_any is (xs ++ ys) ≡ false
-any-both is [] ys g h = h
-any-both is (x ∷ xs) ys g h = grind (arith, any-both is xs ys)
 
 any-put_past : {A : Type 0} (is past : A → Bool) (new xs : List A) → list_any is new ≡ false → list_any is xs ≡ false → list_any is (put_past past new xs) ≡ false
 any-put_past is past new [] g h = g

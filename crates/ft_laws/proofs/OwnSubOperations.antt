@@ -1,5 +1,5 @@
 -- The client's own sub-operations, each at the next stage, keep what is known of a document.
-use Rattle.std.proofs.Common.{◌≡◌, ℕ, suc, ◌+◌, ◌-◌, Bool, true, false, cond, ◌&&◌, nat_le, List, [], ◌∷◌, ◌++◌, Option, Some, None, Result, Ok, Err, append-nil, append_assoc, length, map, replicate, refl, sym, ◌∙◌, ap, subst, arith}
+use Rattle.std.proofs.Common.{◌≡◌, ℕ, suc, ◌+◌, ◌-◌, Bool, true, false, cond, not, nat_le, List, [], ◌∷◌, ◌++◌, Option, Some, None, Result, Ok, Err, append-nil, append_assoc, length, map, replicate, refl, sym, ◌∙◌, ap, subst, arith}
 use Rattle.std.specs.List.{flat_map}
 use Rattle.std.specs.Option.{option_map}
 use Rattle.ft_base.specs.declared.stamps.Stamp.TheVariants.{Local}
@@ -10,6 +10,7 @@ use Rattle.ft_op.specs.declared.operations.CellOp.{CellOp}
 use Rattle.ft_op.specs.declared.operations.CellOp.TheVariants.{SpliceIn, SpliceOut, Set}
 use Rattle.ft_op.specs.declared.operations.Target.TheVariants.{Rows, Cols}
 use Rattle.ft_op.specs.declared.operations.TextOp.{TextOp}
+use Rattle.ft_op.specs.declared.operations.TextOp.TheVariants.{IntervalDelete}
 use Rattle.ft_msg.specs.declared.faults.EditFault.{EditFault}
 use Rattle.ft_msg.specs.declared.faults.EditFault.TheVariants.{OutOfRange}
 use Rattle.ft_props.specs.Properties.{PropertyList, ValueBytes, apply}
@@ -22,10 +23,11 @@ use Rattle.ft_op.specs.Document.{Document, elements_at_given_ends, ends_of, give
 use Rattle.ft_op.specs.Stages.{Stage, shown_intervals}
 use Rattle.ft_msg.specs.Client.{EditResult, id_fault, local_grid, local_interval, local_set, local_sub_operation, local_sub_operations, local_text, unless_fault}
 use Rattle.ft_laws.specs.StageEdits.{StageEdit, PutIn, TakenOut, Annotated}
-use Rattle.ft_laws.specs.SentStages.{SentStage, TextPut, TextTaken, TextAnnotated, IntervalsChanged, UnitsPut, UnitsTaken, CellWritten, IsOneName, NamesBy, Tells, cols_edit, rows_edit, text_edit, told_as}
+use Rattle.ft_laws.specs.SentStages.{SentStage, TextPut, TextTaken, TextAnnotated, IntervalsChanged, UnitsPut, UnitsTaken, CellWritten, IsOneName, IsPlaced, NamesBy, Tells, are_given, cols_edit, ends_alike, rows_edit, text_edit, told_as}
 use Rattle.ft_laws.proofs.ToldStages.{Holds, ToldStage}
 use Rattle.ft_laws.proofs.AcknowledgedEdit.{AllRef}
 use Rattle.ft_laws.proofs.HoldsAfterOwn.{IsOwn, IsOwnStep, own-holds, own-sequenced, untouched}
+use Rattle.ft_laws.proofs.NumberTests.{one-test}
 
 -- how a message tells a sub-operation as it was typed
 abbrev pub told_of : SubOperation → SentStage
@@ -46,23 +48,37 @@ told_as-told_of (OnGrid (SpliceIn target p count)) = refl
 told_as-told_of (OnGrid (SpliceOut target p q)) = refl
 told_as-told_of (OnGrid (Set i j value)) = refl
 
+alike-itself : (op : TextOp) → ends_alike (OnIntervals op) op ≡ true
+alike-itself op = either (are_given (ends_of op))
+  where
+    either : (b : Bool) → cond b b (not b) ≡ true
+    either true = refl
+    either false = refl
+
+-- it is told where it was typed
+typed-place : (o : SubOperation) → IsPlaced o (told_of o)
+typed-place (OnText (Insert p seg props)) = record { first = p; second = 0; ranges = []; other = IntervalDelete [] []; alike = refl; made = refl }
+typed-place (OnText (Remove p q)) = record { first = 0; second = 0; ranges = (p, q) ∷ []; other = IntervalDelete [] []; alike = refl; made = refl }
+typed-place (OnText (Annotate p q changes)) = record { first = 0; second = 0; ranges = (p, q) ∷ []; other = IntervalDelete [] []; alike = refl; made = refl }
+typed-place (OnIntervals op) = record { first = 0; second = 0; ranges = []; other = op; alike = alike-itself op; made = refl }
+typed-place (OnGrid (SpliceIn target p count)) = record { first = p; second = 0; ranges = []; other = IntervalDelete [] []; alike = refl; made = refl }
+typed-place (OnGrid (SpliceOut target p q)) = record { first = 0; second = 0; ranges = (p, q) ∷ []; other = IntervalDelete [] []; alike = refl; made = refl }
+typed-place (OnGrid (Set i j value)) = record { first = i; second = j; ranges = []; other = IntervalDelete [] []; alike = refl; made = refl }
+
 pub tells-told_of : (o : SubOperation) → Tells o (told_of o)
-tells-told_of (OnText (Insert p seg props)) = record { intervals = λ names is. refl; cells = λ names cells. refl; made = λ doc. refl }
-tells-told_of (OnText (Remove p q)) = record { intervals = λ names is. refl; cells = λ names cells. refl; made = λ doc. refl }
-tells-told_of (OnText (Annotate p q changes)) = record { intervals = λ names is. refl; cells = λ names cells. refl; made = λ doc. refl }
-tells-told_of (OnIntervals op) = record { intervals = λ names is. refl; cells = λ names cells. refl; made = λ doc. refl }
-tells-told_of (OnGrid (SpliceIn target p count)) = record { intervals = λ names is. refl; cells = λ names cells. refl; made = λ doc. refl }
-tells-told_of (OnGrid (SpliceOut target p q)) = record { intervals = λ names is. refl; cells = λ names cells. refl; made = λ doc. refl }
-tells-told_of (OnGrid (Set i j value)) = record { intervals = λ names is. refl; cells = λ names cells. refl; made = λ doc. refl }
+tells-told_of (OnText (Insert p seg props)) = record { place = typed-place (OnText (Insert p seg props)); intervals = λ names is. refl; cells = λ names cells. refl; made = λ doc. refl }
+tells-told_of (OnText (Remove p q)) = record { place = typed-place (OnText (Remove p q)); intervals = λ names is. refl; cells = λ names cells. refl; made = λ doc. refl }
+tells-told_of (OnText (Annotate p q changes)) = record { place = typed-place (OnText (Annotate p q changes)); intervals = λ names is. refl; cells = λ names cells. refl; made = λ doc. refl }
+tells-told_of (OnIntervals op) = record { place = typed-place (OnIntervals op); intervals = λ names is. refl; cells = λ names cells. refl; made = λ doc. refl }
+tells-told_of (OnGrid (SpliceIn target p count)) = record { place = typed-place (OnGrid (SpliceIn target p count)); intervals = λ names is. refl; cells = λ names cells. refl; made = λ doc. refl }
+tells-told_of (OnGrid (SpliceOut target p q)) = record { place = typed-place (OnGrid (SpliceOut target p q)); intervals = λ names is. refl; cells = λ names cells. refl; made = λ doc. refl }
+tells-told_of (OnGrid (Set i j value)) = record { place = typed-place (OnGrid (Set i j value)); intervals = λ names is. refl; cells = λ names cells. refl; made = λ doc. refl }
 
 -- ---- what an answer that isn't a fault says
 
-ok-choice : {A E : Type 0} (b : Bool) (x z : A) (f : E) → cond b (Ok x) (Err f) ≡ Ok z → (b ≡ true) × (x ≡ z)
+pub ok-choice : {A E : Type 0} (b : Bool) (x z : A) (f : E) → cond b (Ok x) (Err f) ≡ Ok z → (b ≡ true) × (x ≡ z)
 ok-choice true x z f h = (refl, (cc))
 ok-choice false x z f h = (cc)
-
-one-test : (q n : ℕ) → nat_le q n ≡ true → nat_le q n && true ≡ true
-one-test q n h = rw h refl
 
 module _ (k : ℕ) where
   put-step : (p : ℕ) (props : PropertyList) (items : List ElementContent) (list : Sequence) → nat_le p (len (seen (suc k - 1)) list.items) ≡ true

@@ -8,11 +8,12 @@ use Rattle.ft_base.proofs.ScanLaws.{put_past-no_run}
 use Rattle.ft_props.specs.Element.{ElementId, ListElement, has_id, id, is_sequenced, is_unremoved, same_id, seen}
 use Rattle.ft_props.specs.Slide.{end_number, settle, slide}
 use Rattle.ft_laws.specs.Trimming.{are_distinct}
-use Rattle.ft_laws.proofs.CompactedScans.{same_id-same}
-use Rattle.ft_laws.proofs.OwnNames.{same_id-self}
 use Rattle.ft_laws.proofs.ConsistentDocument.{any-put-stays}
 use Rattle.ft_laws.proofs.SettledEnds.{only-named}
 use Rattle.ft_laws.proofs.RunsOfMarks.{Each, change_run, change_runs}
+use Rattle.ft_laws.proofs.Booleans.{hidden}
+use Rattle.ft_laws.proofs.SlidEnds.{same_id-refl, same_id-eq}
+use Rattle.ft_props.proofs.RebuiltList.{or_right}
 
 -- an element of the client and the one that the order makes of it
 abbrev pub Pair : Type 0
@@ -170,16 +171,8 @@ module _ {A B : Type 0} (to : A → B) (is ok : A → Bool) (is' ok' : B → Boo
 abbrev pub has_pair : List Pair → ElementId → ElementId → Bool
 has_pair ps x y = list_any (λ p. has_id x p.0 && has_id y p.1) ps
 
-or_true : (a b : Bool) → b ≡ true → a || b ≡ true
-or_true true b h = refl
-or_true false b h = h
-
 absent-each : {A : Type 0} (to : A → ListElement) (x : ElementId) (ps : List A) → list_any (has_id x) (map to ps) ≡ false → Each (λ p. has_id x (to p) ≡ false) ps
 absent-each to x ps h = each-list_any (has_id x) to ps h
-
-negated : (b : Bool) → not b ≡ true → b ≡ false
-negated true h = (cc)
-negated false h = refl
 
 left-there : (ps : List Pair) (x y : ElementId) → has_pair ps x y ≡ true → list_any (has_id x) (lefts ps) ≡ true
 left-there [] x y h = (cc)
@@ -202,7 +195,7 @@ other-than : (x : ElementId) (e : ListElement) (xs : List ListElement) → list_
 other-than x e xs h k = step (same_id x (id e)) refl
   where
     step : (b : Bool) → same_id x (id e) ≡ b → b ≡ false
-    step true g = let q : x ≡ id e = same_id-same x (id e) g in cc (ap (λ i. list_any (has_id i) xs) q, h, k)
+    step true g = let q : x ≡ id e = same_id-eq x (id e) g in cc (ap (λ i. list_any (has_id i) xs) q, h, k)
     step false g = refl
 
 -- where names are distinct on both sides, the two names of a pair mean the same pair
@@ -211,7 +204,7 @@ agree [] d f x y h = tt
 agree (p ∷ ps) d f x y h =
     let u = both (not (list_any (has_id (id p.0)) (lefts ps))) (are_distinct (lefts ps)) d in
     let v = both (not (list_any (has_id (id p.1)) (rights ps))) (are_distinct (rights ps)) f in
-    step (same_id x (id p.0)) (same_id y (id p.1)) refl refl h (negated _ u.0) (negated _ v.0) (agree ps u.1 v.1 x y)
+    step (same_id x (id p.0)) (same_id y (id p.1)) refl refl h (hidden _ u.0) (hidden _ v.0) (agree ps u.1 v.1 x y)
   where
     rest : has_pair ps x y ≡ true → list_any (has_id (id p.0)) (lefts ps) ≡ false → list_any (has_id (id p.1)) (rights ps) ≡ false → Each (λ q. has_id x q.0 ≡ has_id y q.1) ps → Each (λ q. has_id x q.0 ≡ has_id y q.1) (p ∷ ps)
     rest k l r g = (other-than x p.0 (lefts ps) l (left-there ps x y k) ∙ sym (other-than y p.1 (rights ps) r (right-there ps x y k)), g)
@@ -219,8 +212,8 @@ agree (p ∷ ps) d f x y h =
     step : (a b : Bool) → same_id x (id p.0) ≡ a → same_id y (id p.1) ≡ b → (a && b) || has_pair ps x y ≡ true → list_any (has_id (id p.0)) (lefts ps) ≡ false → list_any (has_id (id p.1)) (rights ps) ≡ false
         → (has_pair ps x y ≡ true → Each (λ q. has_id x q.0 ≡ has_id y q.1) ps) → Each (λ q. has_id x q.0 ≡ has_id y q.1) (p ∷ ps)
     step true true i j k l r g =
-        let s : x ≡ id p.0 = same_id-same x (id p.0) i in
-        let t : y ≡ id p.1 = same_id-same y (id p.1) j in (
+        let s : x ≡ id p.0 = same_id-eq x (id p.0) i in
+        let t : y ≡ id p.1 = same_id-eq y (id p.1) j in (
           i ∙ sym j,
           each-both (λ q. has_id (id p.0) q.0 ≡ false) (λ q. has_id (id p.1) q.1 ≡ false) (λ q. has_id x q.0 ≡ has_id y q.1)
               (λ q m o. ap (λ z. same_id z (id q.0)) s ∙ m ∙ sym (ap (λ z. same_id z (id q.1)) t ∙ o)) ps
@@ -233,8 +226,8 @@ agree (p ∷ ps) d f x y h =
 pub own-pair : (ps : List Pair) → Each (λ p. has_pair ps (id p.0) (id p.1) ≡ true) ps
 own-pair [] = tt
 own-pair (p ∷ ps) = (
-  rw (same_id-self (id p.0), same_id-self (id p.1)) refl,
-  each-with (λ q. has_pair ps (id q.0) (id q.1) ≡ true) (λ q. has_pair (p ∷ ps) (id q.0) (id q.1) ≡ true) (λ q h. or_true (has_id (id q.0) p.0 && has_id (id q.1) p.1) (has_pair ps (id q.0) (id q.1)) h) ps (own-pair ps),
+  rw (same_id-refl (id p.0), same_id-refl (id p.1)) refl,
+  each-with (λ q. has_pair ps (id q.0) (id q.1) ≡ true) (λ q. has_pair (p ∷ ps) (id q.0) (id q.1) ≡ true) (λ q h. or_right (has_id (id q.0) p.0 && has_id (id q.1) p.1) (has_pair ps (id q.0) (id q.1)) h) ps (own-pair ps),
 )
 
 -- ---- ends of intervals
@@ -369,7 +362,7 @@ at-pair k see ps d u x h =
     rank-map (λ p. p.0) is ok (has_id x) (seen k) ps (each-with (λ p. see p.1 ≡ seen k p.0) (λ p. has_id x p.0 ≡ has_id x p.0) (λ p m. refl) ps u) (each-with (λ p. see p.1 ≡ seen k p.0) (λ p. seen k p.0 ≡ seen k p.0) (λ p m. refl) ps u) in
     let r = at-rank is ok ps (all-left (λ e. not (has_id x e) || seen k e) ps (only-named (seen k) (lefts ps) d x h)) (any-named (seen k) x ps h) in
     let found : IsFound ps (Some r.found) = subst (IsFound ps) r.there (found-at ps is ok (rank is ok ps) ps (own-pair ps)) in
-    let name : x ≡ id r.found.0 = same_id-same x (id r.found.0) r.meant in
+    let name : x ≡ id r.found.0 = same_id-eq x (id r.found.0) r.meant in
     let other : at see (rank (has_id x) (seen k) (lefts ps)) (rights ps) ≡ Some r.found.1 =
     ap (λ i. at see i (rights ps)) same_rank ∙ at-map (λ p. p.1) ok see (rank is ok ps) ps u ∙ ap (option_map (λ (p : Pair). p.1)) r.there in
     subst (λ o. IsEndPair ps (Some x) (option_map id o)) (sym other) (subst (λ i. has_pair ps i (id r.found.1) ≡ true) (sym name) found)

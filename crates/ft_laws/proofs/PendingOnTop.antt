@@ -27,7 +27,6 @@ use Rattle.ft_laws.specs.Reconnecting.{inserts_text, removes_text}
 use Rattle.ft_laws.specs.Sequencing.{Each, IsReady, annotates_text, inserts_in, is_cell_below, is_name_below, removes_in}
 use Rattle.ft_laws.specs.Trimming.{IsConsistent, are_distinct}
 use Rattle.ft_laws.proofs.CellValues.{value-write}
-use Rattle.ft_laws.proofs.CompactedScans.{same_id-same}
 use Rattle.ft_laws.proofs.ConsistentDocument.{agreed-consistent}
 use Rattle.ft_laws.proofs.DistinctStages.{stage_list-distinct}
 use Rattle.ft_laws.proofs.EditsInOrder.{edits-reached}
@@ -41,6 +40,7 @@ use Rattle.ft_laws.proofs.SequencedFromNow.{reached-first}
 use Rattle.ft_laws.proofs.SequencedStages.{Beside, Image, each-under, pending_up_to}
 use Rattle.ft_laws.proofs.SettledEnds.{is_left, named-filter, records-same, seen-same}
 use Rattle.ft_laws.proofs.StageViews.{stage_list}
+use Rattle.ft_laws.proofs.SlidEnds.{same_id-eq}
 
 -- ---- tests that agree on a list
 
@@ -93,7 +93,7 @@ each-pair S [] b z G h k f = absurd (cc k)
 each-pair S (p ∷ ps) b z G h k f = step (same_id b (id p.0)) (same_id z (id p.1)) refl refl k (each-pair S ps b z G h.1)
   where
     step : (u v : Bool) → same_id b (id p.0) ≡ u → same_id z (id p.1) ≡ v → (u && v) || has_pair ps b z ≡ true → (has_pair ps b z ≡ true → ((p : Pair) → S p → b ≡ id p.0 → z ≡ id p.1 → G) → G) → G
-    step true true i j k g = f p h.0 (same_id-same b (id p.0) i) (same_id-same z (id p.1) j)
+    step true true i j k g = f p h.0 (same_id-eq b (id p.0) i) (same_id-eq z (id p.1) j)
     step true false i j k g = g k f
     step false v i j k g = g k f
 

@@ -17,8 +17,8 @@ use Rattle.ft_op.specs.Stages.{Stage}
 use Rattle.ft_msg.specs.Content.{cell_after_stage, shown_cell_value, value_unless_null}
 use Rattle.ft_msg.specs.Reconnection.{carried_stage}
 use Rattle.ft_laws.specs.Reconnecting.{StagesRiseTo, is_inserted_before, writes_known_units}
-use Rattle.ft_laws.proofs.CompactedScans.{same_id-same}
 use Rattle.ft_laws.proofs.OwnNames.{has_named}
+use Rattle.ft_laws.proofs.SlidEnds.{same_id-eq}
 
 earlier : (k m : ℕ) (t : Stamp) → k ≤ m → has_occurred_at_stage k t ≡ true → has_occurred_at_stage m t ≡ true
 earlier k m (Acked s c) l h = refl
@@ -59,7 +59,7 @@ module _ (doc : Document) (m : ℕ) (row col : ElementId) (row-seen : has_named 
   named-seen : (k : ℕ) (x : ElementId) (xs : List ListElement) (o : Option ElementId) → k ≤ m → has_named (seen m) xs x ≡ true → is_inserted_before k xs o ≡ true → is_named_by x o ≡ true → is_named_and_seen k xs o ≡ true
   named-seen k x xs None l s b n = (cc)
   named-seen k x xs (Some y) l s b n =
-      let e : x ≡ y = same_id-same x y n in
+      let e : x ≡ y = same_id-eq x y n in
       named-earlier k m y xs l b (subst (λ z. has_named (seen m) xs z ≡ true) e s)
 
   both-seen : (a b : Bool) → a && b ≡ false → a ≡ true → b ≡ true → false ≡ true

@@ -7,11 +7,12 @@ use Rattle.ft_base.specs.declared.stamps.Stamp.TheVariants.{Acked, Local}
 use Rattle.ft_base.proofs.ScanLaws.{put_past-no_run}
 use Rattle.std.proofs.lemmas.List.{map-append}
 use Rattle.ft_base.proofs.Booleans.{all_four, all_three, both}
-use Rattle.ft_base.specs.Scan.{len, no_run, one_more_if, put, rank, retain_map}
+use Rattle.std.specs.Option.{option_map}
+use Rattle.ft_base.specs.Scan.{at, len, no_run, one_more_if, put, rank, retain_map}
 use Rattle.ft_base.specs.Visibility.{has_occurred, has_occurred_at_stage, is_acked, is_of_stage}
 use Rattle.ft_props.specs.declared.properties.Changes.{Changes}
 use Rattle.ft_props.specs.Properties.{PropertyList}
-use Rattle.ft_props.specs.Element.{ElementContent, ListElement, is_sequenced, new_elements, removal_stamp, seen, with_pending_annotation, with_pending_removal, without_pending}
+use Rattle.ft_props.specs.Element.{ElementContent, ListElement, id, is_sequenced, new_elements, removal_stamp, seen, with_pending_annotation, with_pending_removal, without_pending}
 use Rattle.ft_props.specs.Steps.{carried_element, extended_runs, is_annotated_by, is_inserted_by, is_removed_by, lowered_runs, marked_runs, marked_runs_from, stage_position}
 use Rattle.ft_props.proofs.AcknowledgedInsertion.{below_mark, below_stamp, element_up_to, expects, list_up_to, removal_up_to, same_nat}
 use Rattle.ft_props.proofs.PlacedInsertion.{drop-put, is_current, is_upto, mark_upto, stamp_known}
@@ -22,32 +23,10 @@ use Rattle.ft_laws.proofs.MarkedRuns.{Each, MarkedAs, lowered-mark, ranges-from-
 use Rattle.ft_props.proofs.RebuiltList.{any-filter, carried_element-ins, filter-append, pred_suc, stage_list}
 use Rattle.ft_laws.specs.StageEdits.{StageEdit, PutIn, TakenOut, Annotated, IsStanding, change_ranges, ranges_fit}
 use Rattle.ft_op.specs.Same.{same_changes}
-use Rattle.ft_laws.proofs.SameOperation.{changes-equal, changes-same}
+use Rattle.ft_op.proofs.SameOperations.{same_changes-Decides}
+use Rattle.ft_laws.proofs.OrderedMarks.{insertion_stage, is_ordered, is_removed_last, is_unremoved_pending, rises_from}
 use Rattle.ft_laws.proofs.WithinStages.{all-put, all-ranges, is_among, is_numbered, is_within, mark_within, stamp_within}
-
--- ---- how pending marks stand on an element
-
--- changes by rising stages, all above the one before
-abbrev pub rises_from : ℕ → List (ℕ × Changes) → Bool
-rises_from i [] = true
-rises_from i (p ∷ pending) = nat_lt i p.0 && rises_from p.0 pending
-
--- a pending insertion has no sequenced removal, and is marked only by later stages
-abbrev pub is_unremoved_pending : Stamp → List Stamp → Option ℕ → Bool
-is_unremoved_pending (Acked s c) dels m = true
-is_unremoved_pending (Local j) [] None = true
-is_unremoved_pending (Local j) [] (Some i) = nat_lt j i
-is_unremoved_pending (Local j) (t ∷ dels) m = false
-
--- a removal comes after all changes
-abbrev pub is_removed_last : Option ℕ → List (ℕ × Changes) → Bool
-is_removed_last None pending = true
-is_removed_last (Some j) pending = list_all (λ p. nat_lt p.0 j) pending
-
--- its changes have rising stages, its pending removal comes after them, and a pending insertion is removed by later
--- stages alone
-abbrev pub is_ordered : ListElement → Bool
-is_ordered e = rises_from 0 e.pending && is_removed_last e.removal_stage e.pending && is_unremoved_pending e.ins e.dels e.removal_stage
+use Rattle.ft_laws.proofs.Booleans.{hidden, never, or-true}
 
 -- ---- tests that hold of all elements up to a stage
 
@@ -102,7 +81,7 @@ module _ (q : ListElement → Bool) (bare : (e : ListElement) → q e ≡ true �
   rebuilt-passes k (suc j) xs l h =
       all-put q (seen (suc j - 1)) no_run (stage_position (suc j) xs) (filter (is_inserted_by (suc j)) xs) (stage_list xs j) (stage-passes k (suc j) xs l h) (rebuilt-passes k j xs (omega arith) h)
 
-lifted : (q : ListElement → Bool) (k : ℕ) → ((e : ListElement) → q (element_up_to k e) ≡ q e) → (xs : List ListElement) → list_all q (list_up_to k xs) ≡ true → list_all (λ e. cond (is_upto k e) (q e) true) xs ≡ true
+pub lifted : (q : ListElement → Bool) (k : ℕ) → ((e : ListElement) → q (element_up_to k e) ≡ q e) → (xs : List ListElement) → list_all q (list_up_to k xs) ≡ true → list_all (λ e. cond (is_upto k e) (q e) true) xs ≡ true
 lifted q k same [] h = refl
 lifted q k same (e ∷ xs) h = grind (arith, lifted q k same xs, same e)
 
@@ -114,14 +93,14 @@ is_unmarked_by k e = not (is_removed_by k e)
 abbrev pub is_unchanged_by : ℕ → ListElement → Bool
 is_unchanged_by k e = not (is_annotated_by k e)
 
-unmarked-same : (k : ℕ) (e : ListElement) → is_unmarked_by k (element_up_to k e) ≡ is_unmarked_by k e
+pub unmarked-same : (k : ℕ) (e : ListElement) → is_unmarked_by k (element_up_to k e) ≡ is_unmarked_by k e
 unmarked-same k e = ap not (mark e.removal_stage)
   where
     mark : (m : Option ℕ) → list_any (is_of_stage k) (removal_stamp (removal_up_to k m)) ≡ list_any (is_of_stage k) (removal_stamp m)
     mark None = refl
     mark (Some j) = grind (arith, nat_tests)
 
-filtered-same : (k : ℕ) (pending : List (ℕ × Changes)) → list_any (λ p. nat_eq p.0 k) (filter (λ p. nat_le p.0 k) pending) ≡ list_any (λ p. nat_eq p.0 k) pending
+pub filtered-same : (k : ℕ) (pending : List (ℕ × Changes)) → list_any (λ p. nat_eq p.0 k) (filter (λ p. nat_le p.0 k) pending) ≡ list_any (λ p. nat_eq p.0 k) pending
 filtered-same k [] = refl
 filtered-same k (p ∷ pending) = grind (arith, nat_tests, filtered-same k pending)
 
@@ -161,7 +140,7 @@ is_changing (PutIn p props items) = false
 is_changing (TakenOut ranges) = false
 is_changing (Annotated ranges changes) = true
 
-unmarked-standing : (k r c : ℕ) (edit : StageEdit) (xs : List ListElement) → is_taking edit ≡ false → IsStanding k r c edit xs → list_all (is_unmarked_by (suc k)) (list_up_to (suc k) xs) ≡ true
+pub unmarked-standing : (k r c : ℕ) (edit : StageEdit) (xs : List ListElement) → is_taking edit ≡ false → IsStanding k r c edit xs → list_all (is_unmarked_by (suc k)) (list_up_to (suc k) xs) ≡ true
 unmarked-standing k r c (PutIn p props items) xs t h =
     ap (list_all (is_unmarked_by (suc k))) h.made
     ∙ all-put (is_unmarked_by (suc k)) (expects r c (suc (suc k))) no_run p (new_elements 0 (Local (suc k)) [] None props items) (list_up_to k xs) (new-unmarked (suc k) 0 props items) (unmarked-below k xs)
@@ -171,7 +150,7 @@ unmarked-standing k r c (Annotated ranges changes) xs t h =
     ap (list_all (is_unmarked_by (suc k))) h.made
     ∙ all-ranges (is_unmarked_by (suc k)) (expects r c (suc (suc k))) (with_pending_annotation (suc k) changes) (λ e g. g) ranges (list_up_to k xs) (unmarked-below k xs)
 
-unchanged-standing : (k r c : ℕ) (edit : StageEdit) (xs : List ListElement) → is_changing edit ≡ false → IsStanding k r c edit xs → list_all (is_unchanged_by (suc k)) (list_up_to (suc k) xs) ≡ true
+pub unchanged-standing : (k r c : ℕ) (edit : StageEdit) (xs : List ListElement) → is_changing edit ≡ false → IsStanding k r c edit xs → list_all (is_unchanged_by (suc k)) (list_up_to (suc k) xs) ≡ true
 unchanged-standing k r c (PutIn p props items) xs t h =
     ap (list_all (is_unchanged_by (suc k))) h.made
     ∙ all-put (is_unchanged_by (suc k)) (expects r c (suc (suc k))) no_run p (new_elements 0 (Local (suc k)) [] None props items) (list_up_to k xs) (new-unchanged (suc k) 0 props items) (unchanged-below k xs)
@@ -184,7 +163,7 @@ unchanged-standing k r c (Annotated ranges changes) xs t h = (cc)
 abbrev pub has_changes : ℕ → Changes → ListElement → Bool
 has_changes k changes e = list_all (λ p. cond (nat_eq p.0 k) (same_changes p.1 changes) true) e.pending
 
-has-same : (k : ℕ) (changes : Changes) (pending : List (ℕ × Changes))
+pub has-same : (k : ℕ) (changes : Changes) (pending : List (ℕ × Changes))
     → list_all (λ p. cond (nat_eq p.0 k) (same_changes p.1 changes) true) (filter (λ p. nat_le p.0 k) pending) ≡ list_all (λ p. cond (nat_eq p.0 k) (same_changes p.1 changes) true) pending
 has-same k changes [] = refl
 has-same k changes (p ∷ pending) = grind (arith, nat_tests, has-same k changes pending)
@@ -202,9 +181,9 @@ all-append is [] x h g = rw g refl
 all-append is (y ∷ xs) x h g = grind (arith, all-append is xs x)
 
 own-changes : (k : ℕ) (changes : Changes) → cond (nat_eq k k) (same_changes changes changes) true ≡ true
-own-changes k changes = rw (same_nat k) (changes-same changes)
+own-changes k changes = rw (same_nat k) ((same_changes-Decides changes changes).1 refl)
 
-has-standing : (k r c : ℕ) (ranges : List (ℕ × ℕ)) (changes : Changes) (xs : List ListElement) → IsStanding k r c (Annotated ranges changes) xs → list_all (has_changes (suc k) changes) (list_up_to (suc k) xs) ≡ true
+pub has-standing : (k r c : ℕ) (ranges : List (ℕ × ℕ)) (changes : Changes) (xs : List ListElement) → IsStanding k r c (Annotated ranges changes) xs → list_all (has_changes (suc k) changes) (list_up_to (suc k) xs) ≡ true
 has-standing k r c ranges changes xs h =
     ap (list_all (has_changes (suc k) changes)) h.made
     ∙ all-ranges (has_changes (suc k) changes) (expects r c (suc (suc k))) (with_pending_annotation (suc k) changes)
@@ -224,10 +203,6 @@ is_empty_list (p ∷ pending) = false
 abbrev pub is_carried : ListElement → Bool
 is_carried e = not (list_any is_acked e.dels) || (is_none e.removal_stage && is_empty_list e.pending)
 
-or-true : (b : Bool) → b || true ≡ true
-or-true true = refl
-or-true false = refl
-
 carried-carried : (e : ListElement) → is_carried (carried_element e) ≡ true
 carried-carried e = either (list_any is_acked e.dels) refl
   where
@@ -241,7 +216,7 @@ first-carried (e ∷ xs) = grind (arith, first-carried xs, carried-carried e)
 
 pending-carried : (j : ℕ) (e : ListElement) → is_inserted_by j e ≡ true → is_ordered e ≡ true → is_carried e ≡ true
 pending-carried j e h o =
-    let p = all_three (rises_from 0 e.pending) (is_removed_last e.removal_stage e.pending) (is_unremoved_pending e.ins e.dels e.removal_stage) o in
+    let p = all_three (rises_from (insertion_stage e.ins) e.pending) (is_removed_last e.removal_stage e.pending) (is_unremoved_pending e.ins e.dels e.removal_stage) o in
     unremoved e.ins e.dels h p.2
   where
     unremoved : (t : Stamp) (dels : List Stamp) → is_of_stage j t ≡ true → is_unremoved_pending t dels e.removal_stage ≡ true → not (list_any is_acked dels) || (is_none e.removal_stage && is_empty_list e.pending) ≡ true
@@ -303,7 +278,7 @@ kept-bare : (n : ℕ) (ks : List ℕ) (e : ListElement) → is_kept n ks e ≡ t
 kept-bare n ks e h =
     let p = both (is_within n ks e) (is_ordered e) h in
     let w = all_four (stamp_within n ks e.ins) (list_all (is_numbered n) e.dels) (mark_within ks e.removal_stage) (list_all (λ q. is_among ks q.0) e.pending) p.0 in
-    let o = all_three (rises_from 0 e.pending) (is_removed_last e.removal_stage e.pending) (is_unremoved_pending e.ins e.dels e.removal_stage) p.1 in
+    let o = all_three (rises_from (insertion_stage e.ins) e.pending) (is_removed_last e.removal_stage e.pending) (is_unremoved_pending e.ins e.dels e.removal_stage) p.1 in
     rw (w.0, w.1, unmarked-pending e.ins e.dels e.removal_stage o.2) refl
 
 all-passes : (q : ListElement → Bool) (k : ℕ) (xs : List ListElement) → list_all q xs ≡ true → list_all (λ e. cond (is_upto k e) (q e) true) xs ≡ true
@@ -315,10 +290,6 @@ rebuilt-kept n j ks xs h = rebuilt-passes (is_kept n ks) (kept-bare n ks) j j xs
 
 -- ---- one element
 
-not_true : (b : Bool) → not b ≡ true → b ≡ false
-not_true true h = (cc)
-not_true false h = refl
-
 no-dels : (n : ℕ) (dels : List Stamp) → list_all (is_numbered n) dels ≡ true → list_any is_acked dels ≡ false → dels ≡ []
 no-dels n [] h g = refl
 no-dels n (Acked s c ∷ dels) h g = (cc)
@@ -328,10 +299,6 @@ not-bare : (a b : Bool) → not a || b ≡ true → b ≡ false → a ≡ false
 not-bare true true h g = (cc)
 not-bare true false h g = (cc)
 not-bare false b h g = refl
-
-and-false : (b : Bool) → b && false ≡ false
-and-false true = refl
-and-false false = refl
 
 -- what is known of an element of the rebuilt list up to stage k
 pub record Known (n k : ℕ) (ks : List ℕ) (e : ListElement) : Type 0 where
@@ -343,8 +310,8 @@ module _ (n k : ℕ) (ks : List ℕ) (e : ListElement) (known : Known n k ks e) 
   within-parts : (stamp_within n ks e.ins ≡ true) × (list_all (is_numbered n) e.dels ≡ true) × (mark_within ks e.removal_stage ≡ true) × (list_all (λ q. is_among ks q.0) e.pending ≡ true)
   within-parts = all_four (stamp_within n ks e.ins) (list_all (is_numbered n) e.dels) (mark_within ks e.removal_stage) (list_all (λ q. is_among ks q.0) e.pending) (both (is_within n ks e) (is_ordered e) known.kept).0
 
-  ordered-parts : (rises_from 0 e.pending ≡ true) × (is_removed_last e.removal_stage e.pending ≡ true) × (is_unremoved_pending e.ins e.dels e.removal_stage ≡ true)
-  ordered-parts = all_three (rises_from 0 e.pending) (is_removed_last e.removal_stage e.pending) (is_unremoved_pending e.ins e.dels e.removal_stage) (both (is_within n ks e) (is_ordered e) known.kept).1
+  ordered-parts : (rises_from (insertion_stage e.ins) e.pending ≡ true) × (is_removed_last e.removal_stage e.pending ≡ true) × (is_unremoved_pending e.ins e.dels e.removal_stage ≡ true)
+  ordered-parts = all_three (rises_from (insertion_stage e.ins) e.pending) (is_removed_last e.removal_stage e.pending) (is_unremoved_pending e.ins e.dels e.removal_stage) (both (is_within n ks e) (is_ordered e) known.kept).1
 
   unbare-dels : is_none e.removal_stage && is_empty_list e.pending ≡ false → e.dels ≡ []
   unbare-dels h = no-dels n e.dels within-parts.1 (not-bare (list_any is_acked e.dels) (is_none e.removal_stage && is_empty_list e.pending) known.carried h)
@@ -376,7 +343,7 @@ module _ (n k : ℕ) (ks : List ℕ) (e : ListElement) (known : Known n k ks e) 
 
   changed-seen : is_annotated_by (suc k) e ≡ true → seen k e ≡ true
   changed-seen h =
-      let some : is_none e.removal_stage && is_empty_list e.pending ≡ false = ap (λ b. is_none e.removal_stage && b) (annotated-nonempty e.pending h) ∙ and-false (is_none e.removal_stage) in
+      let some : is_none e.removal_stage && is_empty_list e.pending ≡ false = ap (λ b. is_none e.removal_stage && b) (annotated-nonempty e.pending h) ∙ never (is_none e.removal_stage) in
       removal e.removal_stage refl (unbare-dels some)
     where
       removal : (m : Option ℕ) → e.removal_stage ≡ m → e.dels ≡ [] → seen k e ≡ true
@@ -471,7 +438,7 @@ module _ (n k : ℕ) (ks : List ℕ) (e : ListElement) (known : Known n k ks e) 
           → filter (λ p. nat_le p.0 (suc k)) ((j, other) ∷ pending) ≡ filter (λ p. nat_le p.0 k) ((j, other) ∷ pending) ++ ((suc k, changes) ∷ [])
       added-step true e f q r ih =
           let same : j ≡ suc k = grind (arith, nat_tests) in
-          let value : other ≡ changes = changes-equal other changes (both (same_changes other changes) (list_all (λ p. cond (nat_eq p.0 (suc k)) (same_changes p.1 changes) true) pending) q).0 in
+          let value : other ≡ changes = (same_changes-Decides other changes).0 (both (same_changes other changes) (list_all (λ p. cond (nat_eq p.0 (suc k)) (same_changes p.1 changes) true) pending) q).0 in
           let none = above-none j pending (omega arith) r in
           let on : nat_le j (suc k) ≡ true = grind (arith, nat_tests) in
           let off : nat_le j k ≡ false = grind (arith, nat_tests) in
@@ -482,7 +449,7 @@ module _ (n k : ℕ) (ks : List ℕ) (e : ListElement) (known : Known n k ks e) 
 
   annotated-up_to : (changes : Changes) → is_removed_by (suc k) e ≡ false → is_annotated_by (suc k) e ≡ true → has_changes (suc k) changes e ≡ true
       → element_up_to (suc k) e ≡ with_pending_annotation (suc k) changes (element_up_to k e)
-  annotated-up_to changes h g a = rw (mark-next e.removal_stage h, changes-added 0 changes e.pending ordered-parts.0 g a) refl
+  annotated-up_to changes h g a = rw (mark-next e.removal_stage h, changes-added (insertion_stage e.ins) changes e.pending ordered-parts.0 g a) refl
 
   -- ---- before and after the stage
 
@@ -493,7 +460,7 @@ module _ (n k : ℕ) (ks : List ℕ) (e : ListElement) (known : Known n k ks e) 
       own-below = grind (arith, nat_tests)
 
       all-false : (has_occurred n c e.ins || below_stamp (suc (suc k)) e.ins) && not (list_any (has_occurred n c) e.dels || true) ≡ false
-      all-false = ap (λ b. (has_occurred n c e.ins || below_stamp (suc (suc k)) e.ins) && not b) (or-true (list_any (has_occurred n c) e.dels)) ∙ and-false (has_occurred n c e.ins || below_stamp (suc (suc k)) e.ins)
+      all-false = ap (λ b. (has_occurred n c e.ins || below_stamp (suc (suc k)) e.ins) && not b) (or-true (list_any (has_occurred n c) e.dels)) ∙ never (has_occurred n c e.ins || below_stamp (suc (suc k)) e.ins)
 
   pub removal-marked : (c : ℕ) → is_unchanged_by (suc k) e ≡ true
       → MarkedAs (expects n c (suc (suc k))) (with_pending_removal (suc k)) (element_up_to k) (element_up_to (suc k)) (seen k) (is_removed_by (suc k)) false e
@@ -573,6 +540,26 @@ abbrev pub sent_again : ℕ → List ListElement → StageEdit → StageEdit
 sent_again k xs (PutIn p props items) = PutIn (stage_position (suc k) xs) props items
 sent_again k xs (TakenOut ranges) = TakenOut (lowered_runs 0 (marked_runs (suc k) (is_removed_by (suc k)) xs))
 sent_again k xs (Annotated ranges changes) = Annotated (marked_runs (suc k) (is_annotated_by (suc k)) xs) changes
+
+-- ---- the elements of an insertion
+
+all-filtered : (is : ListElement → Bool) (ys : List ListElement) → list_all is ys ≡ true → filter is ys ≡ ys
+all-filtered is [] h = refl
+all-filtered is (y ∷ ys) h = grind (arith, all-filtered is ys)
+
+pub block-filter : (is test : ListElement → Bool) (p : ℕ) (new xs : List ListElement) → list_all is new ≡ true → list_any is xs ≡ false → filter is (put test no_run p new xs) ≡ new
+block-filter is test zero new xs h g =
+    ap (filter is) (put_past-no_run new xs) ∙ filter-append is new xs ∙ ap (λ ys. filter is new ++ ys) (none-filtered is xs g) ∙ append-nil (filter is new) ∙ all-filtered is new h
+block-filter is test (suc p) new [] h g = all-filtered is new h
+block-filter is test (suc p) new (e ∷ xs) h g = grind (arith, block-filter is test p new xs, block-filter is test (suc p) new xs)
+
+stage-reached : (k : ℕ) (t : Stamp) → is_of_stage k t ≡ true → has_occurred_at_stage k t ≡ true
+stage-reached k (Acked s d) h = (cc)
+stage-reached k (Local j) h = grind (arith, nat_tests)
+
+pub block-up_to : (k : ℕ) (xs : List ListElement) → filter (is_inserted_by k) (list_up_to k xs) ≡ map (element_up_to k) (filter (is_inserted_by k) xs)
+block-up_to k [] = refl
+block-up_to k (e ∷ xs) = grind (arith, block-up_to k xs, stage-reached k e.ins)
 
 module _ (n c k last : ℕ) (ks : List ℕ) (xs : List ListElement) (below : k < last) (kept : list_all (is_kept n ks) xs ≡ true) (view : filter (seen k) (stage_list xs k) ≡ filter (seen k) xs) where
   ordered-all : (zs : List ListElement) → list_all (is_kept n ks) zs ≡ true → list_all is_ordered zs ≡ true
@@ -654,30 +641,6 @@ module _ (n c k last : ℕ) (ks : List ℕ) (xs : List ListElement) (below : k <
   rank-bound is [] = omega arith
   rank-bound is (e ∷ zs) = grind (arith, rank-bound is zs)
 
-  block-filter : (is test : ListElement → Bool) (p : ℕ) (new zs : List ListElement) → list_all is new ≡ true → list_any is zs ≡ false → filter is (put test no_run p new zs) ≡ new
-  block-filter is test zero new zs h g = ap (filter is) (put_past-no_run new zs) ∙ filter-append is new zs ∙ ap (λ ys. filter is new ++ ys) (none-filtered is zs g) ∙ append-nil (filter is new) ∙ all-filtered new h
-    where
-      all-filtered : (ys : List ListElement) → list_all is ys ≡ true → filter is ys ≡ ys
-      all-filtered [] f = refl
-      all-filtered (y ∷ ys) f = grind (arith, all-filtered ys)
-  block-filter is test (suc p) new [] h g = all-filtered new h
-    where
-      all-filtered : (ys : List ListElement) → list_all is ys ≡ true → filter is ys ≡ ys
-      all-filtered [] f = refl
-      all-filtered (y ∷ ys) f = grind (arith, all-filtered ys)
-  block-filter is test (suc p) new (e ∷ zs) h g = grind (arith, block-filter is test p new zs, block-filter is test (suc p) new zs)
-
-  stage-reached : (e : ListElement) → is_inserted_by (suc k) e ≡ true → is_upto (suc k) e ≡ true
-  stage-reached e h = stamp e.ins h
-    where
-      stamp : (t : Stamp) → is_of_stage (suc k) t ≡ true → has_occurred_at_stage (suc k) t ≡ true
-      stamp (Acked s d) g = (cc)
-      stamp (Local j) g = grind (arith, nat_tests)
-
-  block-up_to : (zs : List ListElement) → filter (is_inserted_by (suc k)) (list_up_to (suc k) zs) ≡ map (element_up_to (suc k)) (filter (is_inserted_by (suc k)) zs)
-  block-up_to [] = refl
-  block-up_to (e ∷ zs) = grind (arith, block-up_to zs, stage-reached e)
-
   pub insertion-again : (r d p : ℕ) (props : PropertyList) (items : List ElementContent) → IsStanding k r d (PutIn p props items) xs → IsStanding k n c (sent_again k xs (PutIn p props items)) (stage_list xs last)
   insertion-again r d p props items h =
       let test = expects n c (suc (suc k)) in
@@ -688,17 +651,17 @@ module _ (n c k last : ℕ) (ks : List ℕ) (xs : List ListElement) (below : k <
       let unmarked = rebuilt-passes (is_unmarked_by (suc k)) (λ e u. refl) (suc k) k xs (omega arith) (lifted (is_unmarked_by (suc k)) (suc k) (unmarked-same (suc k)) xs (unmarked-standing k r d (PutIn p props items) xs refl h)) in
       let unchanged = rebuilt-passes (is_unchanged_by (suc k)) (λ e g. refl) (suc k) k xs (omega arith) (lifted (is_unchanged_by (suc k)) (suc k) (λ e. ap not (filtered-same (suc k) e.pending)) xs (unchanged-standing k r d (PutIn p props items) xs refl h)) in
       let alone = each-of (λ e. element_up_to (suc k) e ≡ element_up_to k e) (is_upto k) (is_kept n ks) is_carried (is_unmarked_by (suc k)) (is_unchanged_by (suc k))
-      (λ e a b g u v. left-alone n k ks e (record { reached = a; kept = b; carried = g }) (not_true (is_removed_by (suc k) e) u) (not_true (is_annotated_by (suc k) e) v)) zs
+      (λ e a b g u v. left-alone n k ks e (record { reached = a; kept = b; carried = g }) (hidden (is_removed_by (suc k) e) u) (hidden (is_annotated_by (suc k) e) v)) zs
       (rebuilt-reached k xs) (rebuilt-kept n k ks xs kept) (rebuilt-carried k xs (ordered-all xs kept)) unmarked unchanged in
       let same = each-of (λ e. test (element_up_to k e) ≡ seen k e) (is_upto k) (is_kept n ks) is_carried (is_unmarked_by (suc k)) (is_unchanged_by (suc k))
       (λ e a b g u v. expected-seen n k ks e (record { reached = a; kept = b; carried = g }) c) zs (rebuilt-reached k xs) (rebuilt-kept n k ks xs kept) (rebuilt-carried k xs (ordered-all xs kept)) unmarked unchanged in
       let same' = each-of (λ e. test (element_up_to (suc k) e) ≡ seen k e) (is_upto k) (is_kept n ks) is_carried (is_unmarked_by (suc k)) (is_unchanged_by (suc k))
       (λ e a b g u v.
       let here : Known n k ks e = record { reached = a; kept = b; carried = g } in
-      ap test (left-alone n k ks e here (not_true (is_removed_by (suc k) e) u) (not_true (is_annotated_by (suc k) e) v)) ∙ expected-seen n k ks e here c) zs
+      ap test (left-alone n k ks e here (hidden (is_removed_by (suc k) e) u) (hidden (is_annotated_by (suc k) e) v)) ∙ expected-seen n k ks e here c) zs
       (rebuilt-reached k xs) (rebuilt-kept n k ks xs kept) (rebuilt-carried k xs (ordered-all xs kept)) unmarked unchanged in
       let elements : map (element_up_to (suc k)) new ≡ block =
-      sym (block-up_to xs) ∙ ap (filter (is_inserted_by (suc k))) h.made
+      sym (block-up_to (suc k) xs) ∙ ap (filter (is_inserted_by (suc k))) h.made
       ∙ block-filter (is_inserted_by (suc k)) (expects r d (suc (suc k))) p block (list_up_to k xs) (all-new (suc k) 0 props items) (none-counted (is_inserted_by (suc k)) (list_up_to k xs) (none-later k xs)) in
       let bound : place ≤ len (seen k) xs = subst (λ i. rank (is_inserted_by (suc k)) (seen i) xs ≤ len (seen k) xs) (sym (pred_suc k)) (rank-bound (is_inserted_by (suc k)) xs) in
       let length_now : len test (list_up_to k (stage_list xs last)) ≡ len (seen k) xs =
@@ -712,6 +675,53 @@ module _ (n c k last : ℕ) (ks : List ℕ) (xs : List ListElement) (below : k <
             ∙ ap (λ ys. put test no_run place ys (map (element_up_to (suc k)) zs)) elements
             ∙ ap (put test no_run place block) (unmoved zs alone ∙ sym lower);
       }
+
+  -- ---- places and names
+
+  view-same : Each (λ e. expects n c (suc (suc k)) (element_up_to k e) ≡ seen k e) (stage_list xs k)
+  view-same =
+      each-of (λ e. expects n c (suc (suc k)) (element_up_to k e) ≡ seen k e) (is_upto k) (is_kept n ks) is_carried is_carried is_carried
+      (λ e a b g u v. expected-seen n k ks e (record { reached = a; kept = b; carried = g }) c) (stage_list xs k) (rebuilt-reached k xs) (rebuilt-kept n k ks xs kept)
+      (rebuilt-carried k xs (ordered-all xs kept)) (rebuilt-carried k xs (ordered-all xs kept)) (rebuilt-carried k xs (ordered-all xs kept))
+
+  at-each : (test : ListElement → Bool) (i : ℕ) (zs : List ListElement) → Each (λ e. test (element_up_to k e) ≡ seen k e) zs → option_map id (at test i (map (element_up_to k) zs)) ≡ option_map id (at (seen k) i zs)
+  at-each test i [] h = refl
+  at-each test zero (e ∷ zs) h = first-step (test (element_up_to k e)) (seen k e) h.0 (at-each test zero zs h.1)
+    where
+      first-step : (a b : Bool) → a ≡ b → option_map id (at test zero (map (element_up_to k) zs)) ≡ option_map id (at (seen k) zero zs)
+          → option_map id (cond a (Some (element_up_to k e)) (at test zero (map (element_up_to k) zs))) ≡ option_map id (cond b (Some e) (at (seen k) zero zs))
+      first-step true true f g = refl
+      first-step false false f g = g
+      first-step true false f g = (cc)
+      first-step false true f g = (cc)
+  at-each test (suc i) (e ∷ zs) h =
+      ap (λ b. option_map id (at test (cond b i (suc i)) (map (element_up_to k) zs))) h.0 ∙ at-each test (cond (seen k e) i (suc i)) zs h.1
+
+  at-unseen : (i : ℕ) (e : ListElement) (zs : List ListElement) → seen k e ≡ false → at (seen k) i (e ∷ zs) ≡ at (seen k) i zs
+  at-unseen zero e zs h = rw h refl
+  at-unseen (suc i) e zs h = rw h refl
+
+  at-view : (i : ℕ) (zs : List ListElement) → at (seen k) i zs ≡ at (seen k) i (filter (seen k) zs)
+  at-view i [] = refl
+  at-view i (e ∷ zs) = view-step (seen k e) refl i (λ j. at-view j zs)
+    where
+      view-step : (b : Bool) → seen k e ≡ b → (i : ℕ) → ((j : ℕ) → at (seen k) j zs ≡ at (seen k) j (filter (seen k) zs)) → at (seen k) i (e ∷ zs) ≡ at (seen k) i (cond b (e ∷ filter (seen k) zs) (filter (seen k) zs))
+      view-step true h zero ih = rw h refl
+      view-step true h (suc i) ih = ap (λ b. at (seen k) (cond b i (suc i)) zs) h ∙ ih i ∙ sym (ap (λ b. at (seen k) (cond b i (suc i)) (filter (seen k) zs)) h)
+      view-step false h i ih = at-unseen i e zs h ∙ ih i
+
+  -- the message will see as many elements as the stage before
+  pub length-again : len (expects n c (suc (suc k))) (list_up_to k (stage_list xs last)) ≡ len (seen k) xs
+  length-again =
+      let test = expects n c (suc (suc k)) in
+      ap (len test) lower ∙ len-each test (element_up_to k) (stage_list xs k) view-same ∙ len-view (stage_list xs k) ∙ ap (len (seen k)) view ∙ sym (len-view xs)
+
+  -- and the same ones
+  pub place-again : (i : ℕ) → option_map id (at (expects n c (suc (suc k))) i (list_up_to k (stage_list xs last))) ≡ option_map id (at (seen k) i xs)
+  place-again i =
+      let test = expects n c (suc (suc k)) in
+      ap (λ ys. option_map id (at test i ys)) lower ∙ at-each test i (stage_list xs k) view-same
+      ∙ ap (option_map id) (at-view i (stage_list xs k) ∙ ap (at (seen k) i) view ∙ sym (at-view i xs))
 
   -- what is known of a stage stays known of it as it is sent again under a new connection
   pub stands-again : (r d : ℕ) (edit : StageEdit) → IsStanding k r d edit xs → IsStanding k n c (sent_again k xs edit) (stage_list xs last)

@@ -28,7 +28,9 @@ use Rattle.ft_laws.proofs.PairedIntervals.{IntervalPairs}
 use Rattle.ft_laws.proofs.PairedLists.{IsEndPair, Pair, has_pair, lefts, rights}
 use Rattle.ft_laws.proofs.SequencedStages.{Beside, Image, pending_up_to}
 use Rattle.ft_laws.proofs.SettledEnds.{has_ends_at, is_end_at, is_left, left-first, named-weaker}
-use Rattle.ft_laws.proofs.StageViews.{carried-id, carried-ins, carried-seen, rise-absent, stage_list}
+use Rattle.ft_laws.proofs.StageViews.{carried-id, rise-absent, stage_list}
+use Rattle.ft_props.proofs.RebuiltList.{carried_element-ins}
+use Rattle.ft_laws.proofs.SideBySideStages.{carried-seen}
 
 -- each sequenced element as it goes on, and without what is pending on it
 abbrev pub started : List ListElement → List Pair
@@ -100,7 +102,7 @@ module _ (inserts removes annotates : SubOperation → Bool) (n conn m : ℕ) (s
         bare = refl;
         props = λ _. props (list_any is_acked e.dels);
         old = λ _. sym (carried-id e);
-        new = λ u. absurd (cc (u, ap is_acked (carried-ins e), q));
+        new = λ u. absurd (cc (u, ap is_acked (carried_element-ins e), q));
       }
     where
       at_stage : (s : Stamp) → is_acked s ≡ true → has_occurred_at_stage 0 s ≡ true

@@ -14,6 +14,9 @@ use Rattle.ft_props.proofs.PendingStages.{shown_props-append}
 pub use Rattle.ft_laws.specs.Sequencing.{IsBlockOf}
 use Rattle.ft_laws.proofs.RunsOfMarks.{Each, change_marked, change_runs, kept-marked, lowered-marked}
 use Rattle.ft_laws.proofs.PairedLists.{Pair, each-both, each-put, each-with, has_pair, lefts, pair-changed, pair-put, put-map, rights, runs-map}
+use Rattle.ft_laws.proofs.Booleans.{never}
+use Rattle.ft_props.proofs.AcknowledgedInsertion.{same_nat}
+use Rattle.ft_laws.proofs.AnyAndAll.{any-append, any-behind}
 
 -- the changes of stages up to k
 abbrev pub pending_up_to : ℕ → List (ℕ × Changes) → List (ℕ × Changes)
@@ -23,26 +26,11 @@ pub each-under : {A B : Type 0} (R : B → Type 0) (to : A → B) (xs : List A) 
 each-under R to [] h = tt
 each-under R to (x ∷ xs) h = (h.0, each-under R to xs h.1)
 
-never : (b : Bool) → b && false ≡ false
-never true = refl
-never false = refl
-
-any-behind : {A : Type 0} (is : A → Bool) (xs ys : List A) → list_any is ys ≡ true → list_any is (xs ++ ys) ≡ true
-any-behind is [] ys h = h
-any-behind is (x ∷ xs) ys h = grind (arith, any-behind is xs ys)
-
-any-before : {A : Type 0} (is : A → Bool) (xs ys : List A) → list_any is xs ≡ true → list_any is (xs ++ ys) ≡ true
-any-before is [] ys h = (cc)
-any-before is (x ∷ xs) ys h = grind (arith, any-before is xs ys)
-
 -- what a test of stamps by which the new removal has occurred no longer sees
 pub hidden-by : (occurred : Stamp → Bool) (s c : ℕ) (e : ListElement) → occurred (Acked s c) ≡ true
     → occurred e.ins && not (list_any occurred ((e.dels ++ (Acked s c ∷ [])) ++ removal_stamp e.removal_stage)) ≡ false
 hidden-by occurred s c e h =
-    rw (any-before occurred (e.dels ++ (Acked s c ∷ [])) (removal_stamp e.removal_stage) (any-behind occurred e.dels (Acked s c ∷ []) (rw h refl))) (never (occurred e.ins))
-
-same_nat : (k : ℕ) → nat_eq k k ≡ true
-same_nat k = grind (arith, nat_tests)
+    rw (any-append occurred (e.dels ++ (Acked s c ∷ [])) (removal_stamp e.removal_stage) (any-behind occurred e.dels (Acked s c ∷ []) (rw h refl))) (never (occurred e.ins))
 
 own_number : (n s c : ℕ) → nat_le s n || nat_eq c c ≡ true
 own_number n s c = rw (same_nat c) (or_right (nat_le s n))

@@ -25,11 +25,15 @@ use Rattle.ft_msg.specs.Content.{interval_record}
 use Rattle.ft_msg.specs.Reconnection.{carried_stage}
 use Rattle.ft_laws.specs.Reconnecting.{StagesRiseTo, has_insertion_of, has_marks_of, has_removal_of, has_some, inserts_text, is_seen_or_next, is_stage_of, removes_text}
 use Rattle.ft_laws.specs.Trimming.{are_distinct}
-use Rattle.ft_laws.proofs.CompactedScans.{is_held_end, same_id-same}
+use Rattle.ft_laws.proofs.CompactedScans.{is_held_end}
 use Rattle.ft_laws.proofs.HeldNames.{settled-held}
 use Rattle.ft_laws.proofs.OwnNames.{all-weaker, has_named, named-passes, other-named, own-named}
-use Rattle.ft_laws.proofs.StageViews.{carried-id, carried-ins, carried-seen, pred_suc, rise-absent, seen-next}
+use Rattle.ft_laws.proofs.StageViews.{carried-id, rise-absent, seen-next}
 use Rattle.ft_laws.proofs.TrimmedDocument.{has_held_ends, operation-held}
+use Rattle.ft_laws.proofs.Booleans.{hidden}
+use Rattle.ft_props.proofs.RebuiltList.{carried_element-ins, pred_suc, or_right}
+use Rattle.ft_laws.proofs.SideBySideStages.{carried-seen}
+use Rattle.ft_laws.proofs.SlidEnds.{same_id-eq}
 
 -- ---- two lists with the same views up to stage m
 
@@ -95,10 +99,6 @@ is_end_at k xs x = is_held_end (has_named (seen k) xs) x
 abbrev pub has_ends_at : ℕ → List ListElement → Interval → Bool
 has_ends_at k xs i = has_held_ends (has_named (seen k) xs) i
 
-hidden : (b : Bool) → not b ≡ true → b ≡ false
-hidden true h = (cc)
-hidden false h = refl
-
 -- an end that settled is at the stage
 pub settle-at : (k : ℕ) (xs : List ListElement) (x : Option ElementId) → is_end_at k xs (settle xs k x) ≡ true
 settle-at k xs None = refl
@@ -114,7 +114,7 @@ stays ok x last (e ∷ xs) h k =
   where
     step : (a b : Bool) → same_id x (id e) ≡ a → not a || b ≡ true → (a && b) || has_named ok xs x ≡ true → (has_named ok xs x ≡ true → option_map id (settled_after (has_id x) ok (cond (ok e) (Some e) last) xs) ≡ Some x)
         → option_map id (cond a (option_or (cond b (Some e) (find ok xs)) last) (settled_after (has_id x) ok (cond (ok e) (Some e) last) xs)) ≡ Some x
-    step true true a h k g = ap Some (sym (same_id-same x (id e) a))
+    step true true a h k g = ap Some (sym (same_id-eq x (id e) a))
     step true false a h k g = (cc)
     step false b a h k g = g k
 
@@ -122,17 +122,13 @@ pub settle-stays : (k : ℕ) (xs : List ListElement) → are_distinct xs ≡ tru
 settle-stays k xs d None h = refl
 settle-stays k xs d (Some x) h = stays (seen k) x None xs (only-named (seen k) xs d x h) h
 
-or_first : (a b : Bool) → a || b ≡ false → a ≡ false
-or_first false b h = refl
-or_first true b h = (cc)
-
 wider : (a b c : Bool) → (b ≡ true → c ≡ true) → not a || b ≡ true → not a || c ≡ true
 wider false b c f h = refl
 wider true b c f h = f h
 
 module _ {m : ℕ} {xs ys : List ListElement} (v : SameViews m xs ys) (d : are_distinct xs ≡ true) where
   carried-next : (x : ElementId) (k : ℕ) (e : ListElement) → not (has_id x e) || is_seen_or_next k e ≡ true → not (has_id x (carried_element e)) || is_seen_or_next k (carried_element e) ≡ true
-  carried-next x k e h = rw (carried-id e, carried-seen k e, carried-ins e) h
+  carried-next x k e h = rw (carried-id e, carried-seen k e, carried_element-ins e) h
 
   -- an end on elements seen before or inserted by the stage settles alike
   settle-next : (k : ℕ) → k < m → (x : ElementId) → list_all (λ e. not (has_id x e) || is_seen_or_next k e) xs ≡ true → settle ys (suc k) (Some x) ≡ settle xs (suc k) (Some x)
@@ -228,10 +224,6 @@ left_removal removes stages j (Some i) = nat_le i j || is_stage_of removes stage
 abbrev pub is_left : (SubOperation → Bool) → (SubOperation → Bool) → List Stage → ℕ → ListElement → Bool
 is_left inserts removes stages j e = left_insertion inserts stages j e.ins && left_removal removes stages j e.removal_stage && list_all is_acked e.dels
 
-or_second : (a b : Bool) → b ≡ true → a || b ≡ true
-or_second true b h = refl
-or_second false b h = h
-
 module _ (inserts removes : SubOperation → Bool) where
   pub left-first : (stages : List Stage) (e : ListElement) → has_marks_of inserts removes stages e ≡ true → is_left inserts removes stages 0 e ≡ true
   left-first stages e h =
@@ -240,11 +232,11 @@ module _ (inserts removes : SubOperation → Bool) where
     where
       insertion : (t : Stamp) → has_insertion_of inserts stages t ≡ true → left_insertion inserts stages 0 t ≡ true
       insertion (Acked s c) h = refl
-      insertion (Local i) h = or_second (nat_le i 0) _ h
+      insertion (Local i) h = or_right (nat_le i 0) _ h
 
       removal : (o : Option ℕ) → has_removal_of removes stages o ≡ true → left_removal removes stages 0 o ≡ true
       removal None h = refl
-      removal (Some i) h = or_second (nat_le i 0) _ h
+      removal (Some i) h = or_right (nat_le i 0) _ h
 
   pub next-left : (kind : SubOperation → Bool) (i j k : ℕ) (b c : Bool) → j < k → nat_le i j || ((nat_eq k i && b) || c) ≡ true → nat_le i k || c ≡ true
   next-left kind i j k b c l h = step (nat_le i j) (nat_eq k i) (nat_le i k) refl refl refl h
@@ -313,7 +305,7 @@ named-weaker P Q x (e ∷ xs) h n =
     step : (a b c : Bool) → not b || c ≡ true → (a && b) || has_named P xs x ≡ true → (has_named P xs x ≡ true → has_named Q xs x ≡ true) → (a && c) || has_named Q xs x ≡ true
     step true true true h n g = refl
     step true true false h n g = (cc)
-    step true false c h n g = or_second c _ (g n)
+    step true false c h n g = or_right c _ (g n)
     step false b c h n g = g n
 
 still-end : (j k : ℕ) (xs : List ListElement) → StillSeen j k xs → (x : Option ElementId) → is_end_at j xs x ≡ true → is_end_at k xs x ≡ true

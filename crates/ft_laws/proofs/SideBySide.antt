@@ -19,7 +19,8 @@ use Rattle.ft_laws.specs.Sequencing.{IsReady, inserts_in, removes_in}
 use Rattle.ft_laws.proofs.AfterOwnJoin.{all-side}
 use Rattle.ft_laws.proofs.OwnNames.{all-weaker}
 use Rattle.ft_laws.proofs.SettledEnds.{rank-filter}
-use Rattle.ft_laws.proofs.StageViews.{filter-append, filter-none, filter-twice, pred_suc, put-nothing, unseen-before}
+use Rattle.ft_laws.proofs.StageViews.{filter-append, filter-none, filter-twice, put-nothing, unseen-before}
+use Rattle.ft_props.proofs.RebuiltList.{pred_suc, or_left, or_right}
 
 module _ {A : Type 0} (is see : A → Bool) where
   filter-whole : (test : A → Bool) (xs : List A) → list_all test xs ≡ true → filter test xs ≡ xs
@@ -46,14 +47,6 @@ module _ {A : Type 0} (is see : A → Bool) where
   all-always test h [] = refl
   all-always test h (x ∷ xs) = rw (h x, all-always test h xs) refl
 
-or_first : (a b : Bool) → a || b ≡ false → a ≡ false
-or_first false b h = refl
-or_first true b h = (cc)
-
-or_second : (a b : Bool) → b ≡ true → a || b ≡ true
-or_second true b h = refl
-or_second false b h = h
-
 -- it is enough that the elements of the stage stand next to each other among those that are seen before or inserted by it
 pub side_by_side : (k : ℕ) (xs front mid back : List ListElement) → filter (is_seen_or_next k) xs ≡ front ++ (mid ++ back)
     → list_all (seen k) front ≡ true → list_any (is_inserted_by (suc k)) front ≡ false → list_all (is_inserted_by (suc k)) mid ≡ true → list_all (seen k) back ≡ true → list_any (is_inserted_by (suc k)) back ≡ false
@@ -63,7 +56,7 @@ side_by_side k xs front mid back e sf nf am sb nb =
     let I = is_inserted_by (suc k) in
     let T = is_seen_or_next k in
     let seen_ones : filter (seen k) xs ≡ front ++ back =
-    sym (filter-twice (seen k) (is_seen_or_next k) (λ x h. or_first (seen k x) (is_inserted_by (suc k) x) h) xs) ∙ ap (filter (seen k)) e
+    sym (filter-twice (seen k) (is_seen_or_next k) (λ x h. or_left (seen k x) (is_inserted_by (suc k) x) h) xs) ∙ ap (filter (seen k)) e
     ∙ filter-append (seen k) front (mid ++ back) ∙ ap (λ us. us ++ filter (seen k) (mid ++ back)) (filter-whole S S (seen k) front sf)
     ∙ ap (λ us. front ++ us) (filter-append (seen k) mid back ∙ ap (λ us. us ++ filter (seen k) back) (filter-none (seen k) mid (none-seen mid am)) ∙ filter-whole S S (seen k) back sb) in
     let block : filter (is_inserted_by (suc k)) xs ≡ mid =
@@ -73,7 +66,7 @@ side_by_side k xs front mid back e sf nf am sb nb =
     ∙ ap (λ us. mid ++ us) (filter-none (is_inserted_by (suc k)) back nb) ∙ append-nil mid in
     let position : stage_position (suc k) xs ≡ rank (is_inserted_by (suc k)) (seen k) (front ++ (mid ++ back)) =
     ap (λ i. rank (is_inserted_by (suc k)) (seen i) xs) (pred_suc k)
-    ∙ sym (rank-filter (is_inserted_by (suc k)) (seen k) (is_seen_or_next k) (λ x h. or_first (seen k x) (is_inserted_by (suc k) x) h) xs (all-always I I (λ x. not (is_inserted_by (suc k) x) || is_seen_or_next k x) (λ x. implied (is_inserted_by (suc k) x) (seen k x)) xs))
+    ∙ sym (rank-filter (is_inserted_by (suc k)) (seen k) (is_seen_or_next k) (λ x h. or_left (seen k x) (is_inserted_by (suc k) x) h) xs (all-always I I (λ x. not (is_inserted_by (suc k) x) || is_seen_or_next k x) (λ x. implied (is_inserted_by (suc k) x) (seen k x)) xs))
     ∙ ap (rank (is_inserted_by (suc k)) (seen k)) e in
     rw (seen_ones, block, position) (e ∙ sym (placed mid am))
   where
@@ -82,7 +75,7 @@ side_by_side k xs front mid back e sf nf am sb nb =
     second-false false b h = h
 
     implied : (a b : Bool) → not a || (b || a) ≡ true
-    implied true b = or_second b true refl
+    implied true b = or_right b true refl
     implied false b = refl
 
     none-seen : (ys : List ListElement) → list_all (is_inserted_by (suc k)) ys ≡ true → list_any (seen k) ys ≡ false

@@ -25,6 +25,9 @@ use Rattle.ft_props.proofs.PlacedInsertion.{is_upto}
 use Rattle.ft_props.proofs.RebuiltList.{SideBySide, any-filter, filter-append, filter-twice, pred_suc, stage_list, stage_view-rebuilt, wide}
 use Rattle.ft_laws.specs.StageEdits.{StageEdit, PutIn, TakenOut, Annotated, IsStanding, after_pending}
 use Rattle.ft_laws.proofs.AcknowledgedDocument.{none-later}
+use Rattle.ft_laws.proofs.Booleans.{never}
+use Rattle.ft_laws.proofs.HoldsAfterOwn.{rise-last}
+use Rattle.ft_laws.proofs.NumberTests.{below-other}
 
 module _ {A : Type 0} (is : A → Bool) where
   -- a run of marked elements at the front, and no marked one behind it
@@ -222,7 +225,7 @@ stage-side_by_side k xs h =
 
 -- ---- all stages of a list
 
-none-of-stage : (n k : ℕ) (ks : List ℕ) (xs : List ListElement) → is_among ks k ≡ false → list_all (is_within n ks) xs ≡ true → list_any (is_inserted_by k) xs ≡ false
+pub none-of-stage : (n k : ℕ) (ks : List ℕ) (xs : List ListElement) → is_among ks k ≡ false → list_all (is_within n ks) xs ≡ true → list_any (is_inserted_by k) xs ≡ false
 none-of-stage n k ks [] h g = refl
 none-of-stage n k ks (e ∷ xs) h g =
     let p = both (is_within n ks e) (list_all (is_within n ks) xs) g in
@@ -293,21 +296,17 @@ removed-acked k (t ∷ dels) rest h = either (is_acked t) refl h (removed-acked 
     either true e g ih = rw (occurred-acked k t e) refl
     either false e g ih = rw (ih g) (or-true (has_occurred_at_stage k t))
 
-and-false : (b : Bool) → b && false ≡ false
-and-false true = refl
-and-false false = refl
-
 unseen-removed : (k : ℕ) (e : ListElement) → list_any is_acked e.dels ≡ true → seen k e ≡ false
-unseen-removed k e h = rw (removed-acked k e.dels (removal_stamp e.removal_stage) h) (and-false (has_occurred_at_stage k e.ins))
+unseen-removed k e h = rw (removed-acked k e.dels (removal_stamp e.removal_stage) h) (never (has_occurred_at_stage k e.ins))
 
-carried-seen : (k : ℕ) (e : ListElement) → seen k (carried_element e) ≡ seen k e
+pub carried-seen : (k : ℕ) (e : ListElement) → seen k (carried_element e) ≡ seen k e
 carried-seen k e = either (list_any is_acked e.dels) refl
   where
     either : (b : Bool) → list_any is_acked e.dels ≡ b → seen k (cond b (without_pending e) e) ≡ seen k e
     either true h = unseen-removed k (without_pending e) h ∙ sym (unseen-removed k e h)
     either false h = refl
 
-carried-same : (k : ℕ) (e : ListElement) → seen k e ≡ true → carried_element e ≡ e
+pub carried-same : (k : ℕ) (e : ListElement) → seen k e ≡ true → carried_element e ≡ e
 carried-same k e h = either (list_any is_acked e.dels) refl
   where
     either : (b : Bool) → list_any is_acked e.dels ≡ b → cond b (without_pending e) e ≡ e
@@ -319,7 +318,7 @@ first-stamp n ks (Acked s c) h w g = refl
 first-stamp n ks (Local zero) h w g = absurd (true-false (sym w ∙ h))
 first-stamp n ks (Local (suc j)) h w g = absurd (grind (arith, nat_tests))
 
-first-view : (n : ℕ) (ks : List ℕ) (xs : List ListElement) → is_among ks 0 ≡ false → list_all (is_within n ks) xs ≡ true → filter (seen 0) (stage_list xs 0) ≡ filter (seen 0) xs
+pub first-view : (n : ℕ) (ks : List ℕ) (xs : List ListElement) → is_among ks 0 ≡ false → list_all (is_within n ks) xs ≡ true → filter (seen 0) (stage_list xs 0) ≡ filter (seen 0) xs
 first-view n ks [] h w = refl
 first-view n ks (e ∷ xs) h w =
     let p = both (is_within n ks e) (list_all (is_within n ks) xs) w in
@@ -341,7 +340,7 @@ first-view n ks (e ∷ xs) h w =
 
 -- ---- the stages of a list one after another
 
-put-nothing : {A : Type 0} (test : A → Bool) (p : ℕ) (xs : List A) → put test no_run p [] xs ≡ xs
+pub put-nothing : {A : Type 0} (test : A → Bool) (p : ℕ) (xs : List A) → put test no_run p [] xs ≡ xs
 put-nothing test zero [] = refl
 put-nothing test zero (x ∷ xs) = refl
 put-nothing test (suc p) [] = refl
@@ -361,26 +360,16 @@ gap xs j k l h =
     let split : k ≡ (k - j) + j = omega arith in
     ap (stage_list xs) split ∙ no-stages xs (k - j) j (λ i m n. h i m (omega arith))
 
-rise-last : (j last : ℕ) (ts : List ToldStage) → Rise j last ts → j ≤ last
-rise-last j last [] h = h
-rise-last j last (t ∷ ts) h =
-    let here : j ≤ t.before = h.0 in
-    let there = rise-last (suc t.before) last ts h.1 in
-    omega arith
-
-other-number : (i j : ℕ) → i < j → nat_eq i j ≡ false
-other-number i j l = grind (arith, nat_tests)
-
-rise-absent : (i j last : ℕ) (ts : List ToldStage) → i ≤ j → Rise j last ts → is_among (stage_numbers ts) i ≡ false
+pub rise-absent : (i j last : ℕ) (ts : List ToldStage) → i ≤ j → Rise j last ts → is_among (stage_numbers ts) i ≡ false
 rise-absent i j last [] l h = refl
 rise-absent i j last (t ∷ ts) l h =
     let here : j ≤ t.before = h.0 in
     let below : i < suc t.before = omega arith in
     let next : i ≤ suc t.before = omega arith in
-    rw (other-number i (suc t.before) below) (rise-absent i (suc t.before) last ts next h.1)
+    rw (below-other i (suc t.before) below) (rise-absent i (suc t.before) last ts next h.1)
 
 absent-first : (b i : ℕ) (ks : List ℕ) → i < b → is_among ks (suc i) ≡ false → is_among (suc b ∷ ks) (suc i) ≡ false
-absent-first b i ks l h = rw (other-number (suc i) (suc b) (omega arith)) h
+absent-first b i ks l h = rw (below-other (suc i) (suc b) (omega arith)) h
 
 above-number : (i j : ℕ) → j < i → nat_eq i j ≡ false
 above-number i j l = grind (arith, nat_tests)

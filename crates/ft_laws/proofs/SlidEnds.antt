@@ -3,11 +3,13 @@
 use Rattle.std.proofs.Common.{◌≡◌, ℕ, suc, ◌≤◌, Bool, true, false, cond, ◌&&◌, ◌||◌, nat_eq, List, [], ◌∷◌, Option, Some, None, find, refl, sym, ◌∙◌, ap, subst, arith}
 use Rattle.std.specs.List.{list_any}
 use Rattle.std.specs.Option.{option_map, option_or}
-use Rattle.std.proofs.lemmas.Bool.Decides.{nat_tests}
 use Rattle.ft_base.proofs.Booleans.{both}
 use Rattle.ft_base.specs.Scan.{len, one_more_if, settled_after}
 use Rattle.ft_props.specs.Element.{ElementId, SequencedId, PendingId, ListElement, has_id, id, is_sequenced, is_unremoved, same_id}
 use Rattle.ft_props.specs.Slide.{slide}
+use Rattle.ft_laws.proofs.Booleans.{never, or-true}
+use Rattle.ft_props.proofs.AcknowledgedInsertion.{same_nat}
+use Rattle.ft_laws.proofs.NumberTests.{same_number}
 
 -- the element of that name is sequenced
 abbrev pub is_meant : ElementId → ListElement → Bool
@@ -66,36 +68,22 @@ slide-slid xs a = settled-slid a None xs ∙ none-absent a xs
 
 -- ---- names
 
-same-nat : (n : ℕ) → nat_eq n n ≡ true
-same-nat n = grind (arith, nat_tests)
-
-eq-nat : (m n : ℕ) → nat_eq m n ≡ true → m ≡ n
-eq-nat m n h = grind (arith, nat_tests)
-
 pub same_id-refl : (a : ElementId) → same_id a a ≡ true
-same_id-refl (SequencedId n) = same-nat n
-same_id-refl (PendingId k n) = rw (same-nat k, same-nat n) refl
+same_id-refl (SequencedId n) = same_nat n
+same_id-refl (PendingId k n) = rw (same_nat k, same_nat n) refl
 
 pub same_id-eq : (a b : ElementId) → same_id a b ≡ true → a ≡ b
-same_id-eq (SequencedId m) (SequencedId n) h = ap SequencedId (eq-nat m n h)
+same_id-eq (SequencedId m) (SequencedId n) h = ap SequencedId (same_number m n h)
 same_id-eq (SequencedId m) (PendingId k n) h = (cc)
 same_id-eq (PendingId j m) (SequencedId n) h = (cc)
 same_id-eq (PendingId j m) (PendingId k n) h =
     let p = both (nat_eq j k) (nat_eq m n) h in
-    ap (λ i. PendingId i m) (eq-nat j k p.0) ∙ ap (PendingId k) (eq-nat m n p.1)
-
-or-true : (b : Bool) → b || true ≡ true
-or-true true = refl
-or-true false = refl
-
-and-false : (b : Bool) → b && false ≡ false
-and-false true = refl
-and-false false = refl
+    ap (λ i. PendingId i m) (same_number j k p.0) ∙ ap (PendingId k) (same_number m n p.1)
 
 pub true-false : true ≡ false → ⊥
 true-false h = (cc)
 
-once-tail : (x : ListElement) (xs : List ListElement) → Once (x ∷ xs) → Once xs
+pub once-tail : (x : ListElement) (xs : List ListElement) → Once (x ∷ xs) → Once xs
 once-tail x xs h a = shorter (has_id a x) (len (has_id a) xs) (h a)
   where
     shorter : (b : Bool) (n : ℕ) → one_more_if b n ≤ 1 → n ≤ 1
@@ -193,7 +181,7 @@ same-head : (b : ElementId) (x y : ListElement) → id y ≡ id x → is_sequenc
 same-head b x y e f = rw (e, f) refl
 
 not-meant : (b : ElementId) (x : ListElement) → has_id b x ≡ false → is_meant b x ≡ false
-not-meant b x h = rw h (and-false (is_sequenced x))
+not-meant b x h = rw h (never (is_sequenced x))
 
 first-slid-step : (b : ElementId) (x y : ListElement) (xs ys : List ListElement) → Once (x ∷ xs) → MoreRemoved (x ∷ xs) (y ∷ ys) → (first_unremoved xs ≡ Some b → slid b ys ≡ first_unremoved ys)
     → (t : Bool) → is_unremoved x ≡ t → cond t (Some (id x)) (first_unremoved xs) ≡ Some b → slid b (y ∷ ys) ≡ first_unremoved (y ∷ ys)

@@ -4,8 +4,7 @@ use Rattle.std.specs.List.{list_any}
 use Rattle.std.specs.Option.{option_or}
 use Rattle.ft_base.specs.Scan.{settled_after}
 use Rattle.ft_props.specs.Element.{ElementId, same_id}
-use Rattle.ft_laws.proofs.CompactedScans.{same_id-same}
-use Rattle.ft_laws.proofs.OwnNames.{same_id-self}
+use Rattle.ft_laws.proofs.SlidEnds.{same_id-refl, same_id-eq}
 
 -- the last element that is ok, else `last`
 abbrev pub last_ok : {A : Type 0} → (A → Bool) → Option A → List A → Option A
@@ -108,7 +107,7 @@ Apart name (x ∷ xs) = (is_there name (name x) xs ≡ false) × Apart name xs
 
 module _ {A : Type 0} (name : A → ElementId) where
   in_middle : (front : List A) (here : A) (back : List A) → is_there name (name here) (front ++ (here ∷ back)) ≡ true
-  in_middle [] here back = rw (same_id-self (name here)) refl
+  in_middle [] here back = rw (same_id-refl (name here)) refl
   in_middle (x ∷ front) here back = or_true (same_id (name here) (name x)) (is_there name (name here) (front ++ (here ∷ back))) (in_middle front here back)
     where
       or_true : (a b : Bool) → b ≡ true → a || b ≡ true
@@ -122,7 +121,7 @@ module _ {A : Type 0} (name : A → ElementId) where
     where
       step : (b : Bool) → same_id (name here) (name x) ≡ b → is_there name (name here) front ≡ false → b || is_there name (name here) front ≡ false
       step true e g =
-          let q : name here ≡ name x = same_id-same (name here) (name x) e in
+          let q : name here ≡ name x = same_id-eq (name here) (name x) e in
           cc (ap (λ i. is_there name i (front ++ (here ∷ back))) q, in_middle front here back, h.0)
       step false e g = g
 
@@ -141,7 +140,7 @@ module _ {A : Type 0} (name : A → ElementId) where
         let d' = subst (Apart name) (sym (append_assoc front mid (y ∷ back))) d in
         let n' = fewer-any ok fewer f mid n in
         ap (settled_by fewer (name y)) (sym (append_assoc front mid (y ∷ back)))
-        ∙ settled-at (λ e. same_id (name y) (name e)) fewer None (front ++ mid) y back (apart-front (front ++ mid) y back d') (same_id-self (name y))
+        ∙ settled-at (λ e. same_id (name y) (name e)) fewer None (front ++ mid) y back (apart-front (front ++ mid) y back d') (same_id-refl (name y))
         ∙ ap (option_or (find fewer (y ∷ back))) (last-append fewer None front mid ∙ last-none fewer (last_ok fewer None front) mid n')
         ∙ ap (λ o. option_or o (last_ok fewer None front)) (sym (find-past fewer mid (y ∷ back) n'))
 
@@ -152,7 +151,7 @@ module _ {A : Type 0} (name : A → ElementId) where
         let n' = fewer-any ok fewer f mid n in
         let m' = fewer-any ok fewer f rest m in
         ap (settled_by fewer (name y)) (append_assoc front (y ∷ mid) rest)
-        ∙ settled-at (λ e. same_id (name y) (name e)) fewer None front y (mid ++ rest) (apart-front front y (mid ++ rest) d') (same_id-self (name y))
+        ∙ settled-at (λ e. same_id (name y) (name e)) fewer None front y (mid ++ rest) (apart-front front y (mid ++ rest) d') (same_id-refl (name y))
         ∙ chosen (fewer y) (find-past fewer mid rest n' ∙ find-none fewer rest m')
         ∙ sym (ap (option_or (find fewer rest)) (last-append fewer None front (y ∷ mid) ∙ last-none fewer (cond (fewer y) (Some y) (last_ok fewer None front)) mid n')
         ∙ ap (λ o. option_or o (cond (fewer y) (Some y) (last_ok fewer None front))) (find-none fewer rest m'))

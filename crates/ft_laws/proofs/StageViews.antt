@@ -17,7 +17,8 @@ use Rattle.ft_op.specs.Stages.{Stage}
 use Rattle.ft_laws.specs.Reconnecting.{StagesRiseTo, StandSideBySide, is_seen_or_next, is_stage_of}
 use Rattle.ft_laws.proofs.HeldNames.{all-put}
 use Rattle.ft_laws.proofs.OwnNames.{any-put}
-use Rattle.ft_laws.proofs.TrimmedContent.{removed-unseen}
+use Rattle.ft_props.proofs.RebuiltList.{carried_element-ins, any-more, has_occurred_at_stage-next, pred_suc}
+use Rattle.ft_props.proofs.AcknowledgedInsertion.{not_local}
 
 -- ---- filters of insertions
 
@@ -90,24 +91,9 @@ module _ {A : Type 0} where
 
 -- ---- stages of elements
 
-occurs-later : (k : ℕ) (t : Stamp) → has_occurred_at_stage k t ≡ true → has_occurred_at_stage (suc k) t ≡ true
-occurs-later k (Acked s c) h = refl
-occurs-later k (Local j) h = grind (arith, nat_tests)
-
-any-later : (k : ℕ) (ts : List Stamp) → list_any (has_occurred_at_stage k) ts ≡ true → list_any (has_occurred_at_stage (suc k)) ts ≡ true
-any-later k [] h = (cc)
-any-later k (t ∷ ts) h = grind (arith, any-later k ts, occurs-later k t)
-
-occurs-next : (k : ℕ) (t : Stamp) → is_of_stage (suc k) t ≡ false → has_occurred_at_stage (suc k) t ≡ has_occurred_at_stage k t
-occurs-next k (Acked s c) h = refl
-occurs-next k (Local j) h = grind (arith, nat_tests)
-
 -- what is seen at the next stage was seen before, or is inserted by it
 pub seen-next : (k : ℕ) (e : ListElement) → is_seen_or_next k e ≡ false → seen (suc k) e ≡ false
-seen-next k e h = grind (arith, occurs-next k e.ins, any-later k (e.dels ++ removal_stamp e.removal_stage))
-
-pub pred_suc : (k : ℕ) → suc k - 1 ≡ k
-pred_suc k = omega arith
+seen-next k e h = grind (arith, has_occurred_at_stage-next k e.ins, any-more k (e.dels ++ removal_stamp e.removal_stage))
 
 one-stage : (j k : ℕ) (t : Stamp) → k < j → is_of_stage k t ≡ true → is_of_stage j t ≡ false
 one-stage j k (Acked s c) l h = refl
@@ -117,31 +103,12 @@ not-yet : (j k : ℕ) (t : Stamp) → k < j → is_of_stage j t ≡ true → has
 not-yet j k (Acked s c) l h = (cc)
 not-yet j k (Local i) l h = grind (arith, nat_tests)
 
-acked-of-none : (j : ℕ) (t : Stamp) → is_acked t ≡ true → is_of_stage j t ≡ false
-acked-of-none j (Acked s c) h = refl
-acked-of-none j (Local i) h = (cc)
-
-pub carried-ins : (e : ListElement) → (carried_element e).ins ≡ e.ins
-carried-ins e = either (list_any is_acked e.dels)
-  where
-    either : (b : Bool) → (cond b (without_pending e) e).ins ≡ e.ins
-    either true = refl
-    either false = refl
-
 pub carried-id : (e : ListElement) → id (carried_element e) ≡ id e
 carried-id e = either (list_any is_acked e.dels)
   where
     either : (b : Bool) → id (cond b (without_pending e) e) ≡ id e
     either true = refl
     either false = refl
-
--- an element is seen after the reconnection as before
-pub carried-seen : (k : ℕ) (e : ListElement) → seen k (carried_element e) ≡ seen k e
-carried-seen k e = either (list_any is_acked e.dels) refl
-  where
-    either : (b : Bool) → list_any is_acked e.dels ≡ b → seen k (cond b (without_pending e) e) ≡ seen k e
-    either true h = removed-unseen k (without_pending e) h ∙ sym (removed-unseen k e h)
-    either false h = refl
 
 pub unseen-before : (j k : ℕ) (e : ListElement) → k < j → is_inserted_by j e ≡ true → seen k e ≡ false
 unseen-before j k e l h = ap (λ b. b && not (list_any (has_occurred_at_stage k) (e.dels ++ removal_stamp e.removal_stage))) (not-yet j k e.ins l h)
@@ -155,7 +122,7 @@ stage_list xs (suc k) = put_stage xs (stage_list xs k) (suc k)
 module _ (xs : List ListElement) where
   -- nothing of a later stage is in the list yet
   pub later-absent : (k j : ℕ) → k < j → list_any (is_inserted_by j) (stage_list xs k) ≡ false
-  later-absent zero j l = any-retain_map (is_inserted_by j) is_sequenced carried_element (λ e h. ap (is_of_stage j) (carried-ins e) ∙ acked-of-none j e.ins h) xs
+  later-absent zero j l = any-retain_map (is_inserted_by j) is_sequenced carried_element (λ e h. ap (is_of_stage j) (carried_element-ins e) ∙ not_local j e.ins h) xs
   later-absent (suc k) j l =
       any-put (is_inserted_by j) (seen (suc k - 1)) no_run (stage_position (suc k) xs) (filter (is_inserted_by (suc k)) xs) (stage_list xs k)
       (any-filter (is_inserted_by j) (is_inserted_by (suc k)) (λ e h. one-stage j (suc k) e.ins l h) xs) (later-absent k j (omega arith))

@@ -7,6 +7,7 @@ use Rattle.ft_op.specs.Stages.{Stage}
 use Rattle.ft_msg.specs.Acknowledgement.{renamed_stage}
 use Rattle.ft_laws.specs.SentStages.{SentStage, StageStands, Tells}
 use Rattle.ft_laws.proofs.AgreedStage.{IsSound}
+use Rattle.ft_laws.proofs.OrderedMarks.{is_ordered}
 use Rattle.ft_laws.proofs.WithinStages.{is_within}
 
 -- a pending stage, the number before its own, the reference number of its message, and how the message tells it
@@ -40,12 +41,15 @@ AllStand c doc [] = Unit {0}
 AllStand c doc (t ∷ ts) = StageStands t.before t.ref c t.sent t.stage.names doc × AllStand c doc ts
 
 -- what is known of a document with these pending stages, all numbers of which are up to n, and the last stage's up to last:
--- the message of each stage has a reference number up to m and connection c
+-- the message of each stage has a reference number up to m and connection c, and pending marks stand in order
 pub record Holds (c m n last : ℕ) (ts : List ToldStage) (doc : Document) : Type 0 where
   pub told : AreTold m ts
   pub rising : Rise 0 last ts
   pub text : list_all (is_within n (stage_numbers ts)) doc.text.items ≡ true
   pub rows : list_all (is_within n (stage_numbers ts)) doc.rows.items ≡ true
   pub cols : list_all (is_within n (stage_numbers ts)) doc.cols.items ≡ true
+  pub text_order : list_all is_ordered doc.text.items ≡ true
+  pub rows_order : list_all is_ordered doc.rows.items ≡ true
+  pub cols_order : list_all is_ordered doc.cols.items ≡ true
   pub stand : AllStand c doc ts
   pub sound : IsSound (sequenced_part doc)

@@ -21,9 +21,11 @@ use Rattle.ft_msg.specs.Agreed.{body_effect, reference_number, take_entries, tak
 use Rattle.ft_msg.specs.Content.{shown, text_characters, markers_from, property_runs_from, interval_record, row_cells, all_cells, content_characters, content_markers, extended_property_runs, cell_record, shown_cell_value}
 use Rattle.ft_msg.specs.Process.{is_op}
 use Rattle.ft_laws.specs.Trimming.{AreFrom}
-use Rattle.ft_laws.proofs.CompactedScans.{filter-kept, has_id-alike, id-universal, is_held_end, rank-kept, seen-alike, any-append, never}
+use Rattle.ft_laws.proofs.CompactedScans.{filter-kept, has_id-alike, id-universal, is_held_end, rank-kept, seen-alike}
 use Rattle.ft_laws.proofs.HeldNames.{filter-held}
 use Rattle.ft_laws.proofs.TrimmedDocument.{HeldNames, Trimmed, effects-trimmed, has_held_ends, is_removed, same-intervals}
+use Rattle.ft_laws.proofs.Booleans.{never}
+use Rattle.ft_laws.proofs.AnyAndAll.{any-append}
 
 -- ---- what depends on contents, names, properties and pending changes alone
 

@@ -16,6 +16,9 @@ use Rattle.ft_props.proofs.AcknowledgedInsertion.{from_mark, from_stamp, is_from
 use Rattle.ft_props.proofs.PlacedInsertion.{is_current, mark_upto, stamp_known}
 use Rattle.ft_laws.specs.StageEdits.{StageEdit, PutIn, TakenOut, Annotated, after_own, after_sequenced, change_ranges}
 use Rattle.ft_laws.proofs.RangesOfLists.{all-range}
+use Rattle.ft_laws.proofs.Booleans.{or-true}
+use Rattle.ft_laws.proofs.NumberTests.{own-least, same_number}
+use Rattle.ft_laws.proofs.AnyAndAll.{all-append}
 
 -- the stage is among these
 abbrev pub is_among : List ℕ → ℕ → Bool
@@ -47,13 +50,6 @@ all-weaker is is' w [] h = refl
 all-weaker is is' w (x ∷ xs) h = grind (arith, all-weaker is is' w xs, w x)
 
 -- ---- no stage below the least, none above the last
-
-same_number : (j k : ℕ) → nat_eq j k ≡ true → j ≡ k
-same_number j k h = grind (arith, nat_tests)
-
-or-true : (b : Bool) → b || true ≡ true
-or-true true = refl
-or-true false = refl
 
 among-step : (test : ℕ → Bool) (k j : ℕ) (there : Bool) → test k ≡ true → (there ≡ true → test j ≡ true) → (b : Bool) → nat_eq j k ≡ b → b || there ≡ true → test j ≡ true
 among-step test k j there h ih true e g = subst (λ i. test i ≡ true) (sym (same_number j k e)) h
@@ -143,10 +139,6 @@ within-more m n ks js xs l h = all-weaker (is_within m ks) (is_within n (ks ++ j
 
 -- ---- scans
 
-all-append : {A : Type 0} (is : A → Bool) (xs ys : List A) → list_all is xs ≡ true → list_all is ys ≡ true → list_all is (xs ++ ys) ≡ true
-all-append is [] ys h g = g
-all-append is (x ∷ xs) ys h g = grind (arith, all-append is xs ys)
-
 all-past : {A : Type 0} (is past : A → Bool) (new xs : List A) → list_all is new ≡ true → list_all is xs ≡ true → list_all is (put_past past new xs) ≡ true
 all-past is past new [] h g = h
 all-past is past new (x ∷ xs) h g = grind (arith, all-past is past new xs, all-append is new (x ∷ xs))
@@ -166,20 +158,17 @@ all-map is is' f keep (x ∷ xs) h = grind (arith, all-map is is' f keep xs, kee
 
 -- ---- the steps
 
-own-number : (n : ℕ) → nat_le n n ≡ true
-own-number n = grind (arith, nat_tests)
-
 append-none : (ks : List ℕ) → ks ++ [] ≡ ks
 append-none ks = append-nil ks
 
 new-within : (s d i : ℕ) (by : Option Stamp) (props : PropertyList) (items : List ElementContent) (ks : List ℕ) → list_all (is_within s ks) (new_elements i (Acked s d) [] by props items) ≡ true
 new-within s d i by props [] ks = refl
-new-within s d i by props (b ∷ bs) ks = rw (own-number s, new-within s d (i + 1) by props bs ks) refl
+new-within s d i by props (b ∷ bs) ks = rw (own-least s, new-within s d (i + 1) by props bs ks) refl
 
 removal-within : (s d : ℕ) (ks : List ℕ) (e : ListElement) → is_within s ks e ≡ true → is_within s ks (with_removal s d e) ≡ true
 removal-within s d ks e h =
     let p = parts s ks e h in
-    rw (p.0, all-append (is_numbered s) e.dels (Acked s d ∷ []) p.1 (rw (own-number s) refl), p.2, p.3) refl
+    rw (p.0, all-append (is_numbered s) e.dels (Acked s d ∷ []) p.1 (rw (own-least s) refl), p.2, p.3) refl
 
 -- a sequenced edit
 pub within-sequenced : (n s d r m : ℕ) (by : Option Stamp) (edit : StageEdit) (ks : List ℕ) (xs : List ListElement) → n ≤ s → list_all (is_within n ks) xs ≡ true
@@ -225,7 +214,7 @@ acked-stamp-within n s d k ks (Acked i c) l h = more-number n s l i h
 acked-stamp-within n s d k ks (Local j) l h = either (nat_eq j k) refl h
   where
     either : (b : Bool) → nat_eq j k ≡ b → b || is_among ks j ≡ true → stamp_within s ks (cond b (Acked s d) (Local j)) ≡ true
-    either true e g = own-number s
+    either true e g = own-least s
     either false e g = g
 
 acked-removal-within : (s d k : ℕ) (m : Option ℕ) → list_all (is_numbered s) (acked_removal k s d m) ≡ true
@@ -233,7 +222,7 @@ acked-removal-within s d k None = refl
 acked-removal-within s d k (Some j) = either (nat_eq j k)
   where
     either : (b : Bool) → list_all (is_numbered s) (cond b (Acked s d ∷ []) []) ≡ true
-    either true = rw (own-number s) refl
+    either true = rw (own-least s) refl
     either false = refl
 
 remaining-within : (k : ℕ) (ks : List ℕ) (m : Option ℕ) → mark_within (k ∷ ks) m ≡ true → mark_within ks (remaining_removal k m) ≡ true

@@ -7,14 +7,13 @@ use Rattle.ft_msg.specs.Agreed.{agreed, with_numbers}
 use Rattle.ft_msg.specs.Content.{content, shown, stage_view}
 use Rattle.ft_msg.specs.Process.{come_online}
 use Rattle.ft_msg.specs.Client.{NaiveClient, client_over}
-use Rattle.ft_laws.specs.ClientSteps.{ClientStep, after_steps, all_join_idle, has_fitting_body, is_without_edits, taken_entries}
+use Rattle.ft_laws.specs.ClientSteps.{ClientStep, after_steps, has_fitting_body, is_without_edits, taken_entries}
 
 -- steps that a client takes from the empty document on, refusing none, where each message has a body just where it is of type
--- op, and nothing is pending at its own joins
+-- op
 pub record IsRun (steps : List ClientStep) (x : NaiveClient) : Type 0 where
   pub made : after_steps (Some (client_over empty)) steps ≡ Some x
   pub bodies : list_all has_fitting_body (taken_entries steps) ≡ true
-  pub joins : all_join_idle (Some (client_over empty)) steps ≡ true
 
 -- without what is pending a client's document is that of the entries which it took
 abbrev pub ClientsAgree : Type 0

@@ -1,11 +1,11 @@
 -- The steps of one client, from the empty document on.
-use Rattle.std.specs.Prelude.{ℕ, Bool, true, false, cond, not, ◌&&◌, List, [], ◌∷◌, Option, Some, None, Result, Ok, Err, drop}
+use Rattle.std.specs.Prelude.{ℕ, Bool, true, false, cond, not, List, [], ◌∷◌, Option, Some, None, Result, Ok, Err, drop}
 use Rattle.ft_op.specs.declared.operations.ChannelOp.{ChannelOp}
 use Rattle.ft_msg.specs.declared.messages.Entry.{Entry}
 use Rattle.ft_msg.specs.declared.messages.Body.{Body}
 use Rattle.ft_msg.specs.declared.messages.Body.TheVariants.{Nothing, Op, Elsewhere}
 use Rattle.ft_msg.specs.Client.{NaiveClient, PendingEdit, client_over, connect, drop_link, local_edit, noop}
-use Rattle.ft_msg.specs.Process.{is_op_kind, is_own_join, process}
+use Rattle.ft_msg.specs.Process.{is_op_kind, process}
 
 -- an edit of its own; a connection; its loss; a noop; its first draft goes to the sequencer; a new client starts from its
 -- document and goes on in its place; it takes the next entry
@@ -68,19 +68,3 @@ is_empty_body (Elsewhere address) = false
 -- whether a message has a body just where it is of type op
 abbrev pub has_fitting_body : Entry → Bool
 has_fitting_body entry = cond (is_op_kind entry.msg.kind) (not (is_empty_body entry.msg.body)) (is_empty_body entry.msg.body)
-
--- whether nothing is pending where the client takes its own join
-abbrev pub joins_idle : NaiveClient → ClientStep → Bool
-joins_idle x (Takes entry) = cond (is_own_join x.link entry.msg.kind entry.origin) (is_without_edits x) true
-joins_idle x (Edits op) = true
-joins_idle x (Connects conn) = true
-joins_idle x Drops = true
-joins_idle x Idles = true
-joins_idle x Sends = true
-joins_idle x Restarts = true
-
--- the same at each of the steps
-abbrev pub all_join_idle : Option NaiveClient → List ClientStep → Bool
-all_join_idle None steps = true
-all_join_idle (Some x) [] = true
-all_join_idle (Some x) (step ∷ steps) = joins_idle x step && all_join_idle (after_step x step) steps

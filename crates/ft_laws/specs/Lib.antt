@@ -7,3 +7,4 @@ pub mod Reconnecting
 pub mod Sequencing
 pub mod ExampleRun
 pub mod Examples
+pub mod ReadyClients

@@ -1,10 +1,11 @@
 -- A pending stage as its message tells it: the sub-operations that stand for it, and what they do to each part of a document.
-use Rattle.std.specs.Prelude.{◌≡◌, ℕ, ◌+◌, suc, Bool, true, List, [], ◌∷◌, Option, Some, None, length, map, replicate, option_map}
+use Rattle.std.specs.Prelude.{◌≡◌, ℕ, ◌+◌, suc, Bool, true, false, cond, not, List, [], ◌∷◌, Option, Some, None, length, map, replicate, option_map}
 use Rattle.ft_base.specs.declared.stamps.Stamp.{Stamp}
 use Rattle.ft_base.specs.declared.stamps.Stamp.TheVariants.{Acked}
 use Rattle.ft_props.specs.declared.properties.Changes.{Changes}
 use Rattle.ft_op.specs.declared.operations.Seg.{Seg}
 use Rattle.ft_op.specs.declared.operations.BaseOp.TheVariants.{Insert, Remove, Annotate}
+use Rattle.ft_op.specs.declared.operations.Ends.{Ends}
 use Rattle.ft_op.specs.declared.operations.CellOp.TheVariants.{SpliceIn, SpliceOut, Set}
 use Rattle.ft_op.specs.declared.operations.TextOp.{TextOp}
 use Rattle.ft_op.specs.declared.operations.Target.{Target}
@@ -80,8 +81,39 @@ made_before_sent doc (TextAnnotated ranges changes) = doc.text.made
 made_before_sent doc (UnitsPut target p count) = (rows_or_cols target doc).made
 made_before_sent doc _ = 0
 
--- the message tells the sub-operation of a stage: both do the same to intervals and cells, and number new elements alike
+-- whether ends are given
+abbrev pub are_given : Option Ends → Bool
+are_given None = false
+are_given (Some ends) = true
+
+-- the sub-operation at these positions: a place or the first of two, the second, the ranges, and the interval operation
+abbrev pub placed : ℕ → ℕ → List (ℕ × ℕ) → TextOp → SubOperation → SentStage
+placed p q ranges other (OnText (Insert i seg props)) = TextPut p seg props
+placed p q ranges other (OnText (Remove i j)) = TextTaken ranges
+placed p q ranges other (OnText (Annotate i j changes)) = TextAnnotated ranges changes
+placed p q ranges other (OnIntervals op) = IntervalsChanged other
+placed p q ranges other (OnGrid (SpliceIn target i count)) = UnitsPut target p count
+placed p q ranges other (OnGrid (SpliceOut target i j)) = UnitsTaken target ranges
+placed p q ranges other (OnGrid (Set i j value)) = CellWritten p q value
+
+-- whether the two interval operations give ends alike, where the first is one
+abbrev pub ends_alike : SubOperation → TextOp → Bool
+ends_alike (OnIntervals op) other = cond (are_given (ends_of op)) (are_given (ends_of other)) (not (are_given (ends_of other)))
+ends_alike _ other = true
+
+-- it is the sub-operation at some positions
+pub record IsPlaced (sub_operation : SubOperation) (sent : SentStage) : Type 0 where
+  pub first : ℕ
+  pub second : ℕ
+  pub ranges : List (ℕ × ℕ)
+  pub other : TextOp
+  pub alike : ends_alike sub_operation other ≡ true
+  pub made : sent ≡ placed first second ranges other sub_operation
+
+-- the message tells the sub-operation of a stage: it is the same at other positions, both do the same to intervals and
+-- cells, and number new elements alike
 pub record Tells (sub_operation : SubOperation) (sent : SentStage) : Type 0 where
+  pub place : IsPlaced sub_operation sent
   pub intervals : (names : NamedElements) (is : List Interval) → intervals_after_stage sub_operation names is ≡ intervals_after_sent sent names is
   pub cells : (names : NamedElements) (cells : List Cell) → cells_after_stage sub_operation names cells ≡ cells_after_sent sent names cells
   pub made : (doc : Document) → made_before doc sub_operation ≡ made_before_sent doc sent

@@ -5,8 +5,8 @@ ghost use Rattle.ft_laws.specs.Agreement.{ClientsAgree, IdleClientsAgree, IdleCl
 
 /// Without what is pending, a client's document is the agreed document of the entries that it took.
 /// A client with nothing pending has just that document, and shows it. So two clients with nothing
-/// pending that took the same entries show the same. Each of their own joins is taken with nothing
-/// pending.
+/// pending that took the same entries show the same. So it stays where a client comes online with
+/// something pending, and sends that again.
 pub fn clients_agree()
     ensures pending { ClientsAgree }
     ensures idle { IdleClientsAgree }
@@ -21,8 +21,8 @@ pub fn reconnections_agree()
     ensures pending { ReconnectionAgrees }
 {}
 
-/// One run to which the laws apply: of two insertions at the head, the one with the higher number
-/// stands left.
+/// Two runs to which the laws apply: of two insertions at the head, the one with the higher number
+/// stands left; so it is where it is sent again under another connection.
 pub fn example_run()
     ensures { ExampleRun }
 {}

@@ -2,6 +2,7 @@
 //! edits before.
 
 ghost use Rattle.ft_laws.specs.Examples.{ExampleIsReady};
+ghost use Rattle.ft_laws.specs.ReadyClients.{EntriesAreCounted, EveryClientIsReady, EveryJoinChangesNothing, PendingStaysOnTop};
 ghost use Rattle.ft_laws.specs.Sequencing.{PendingIsOnTop, ReadyIsOrderly};
 
 /// A client whose document without what is pending is that of the messages which it processed shows the
@@ -15,4 +16,14 @@ pub fn pending_edits()
 /// A client that put "a" behind another's "b", removed "b", and put "x" behind "a" is such a client.
 pub fn ready_client()
     ensures ready { ExampleIsReady }
+{}
+
+/// Every client is such a client, whatever steps it takes from the empty document on, own joins with
+/// pending edits among them. So it shows the order of the entries which it took with its regenerated
+/// operations sequenced next, and shows the same after its own join.
+pub fn every_client()
+    ensures ready { EveryClientIsReady }
+    ensures counted { EntriesAreCounted }
+    ensures on_top { PendingStaysOnTop }
+    ensures joins { EveryJoinChangesNothing }
 {}

@@ -6,16 +6,16 @@ use Rattle.ft_laws.proofs.ClientsAgree.{clients-agree, idle-clients-agree, idle-
 use Rattle.ft_laws.proofs.agreement.clients_agree.Goals as goal
 
 pub returns-clause-pending : goal.returns-clause-pending
-returns-clause-pending c = λ steps x run. clients-agree steps x run.made run.bodies run.joins
+returns-clause-pending c = λ steps x run. clients-agree steps x run.made run.bodies
 
 pub returns-clause-idle : goal.returns-clause-idle
-returns-clause-idle c = λ steps x run none. idle-clients-agree steps x run.made run.bodies run.joins none
+returns-clause-idle c = λ steps x run none. idle-clients-agree steps x run.made run.bodies none
 
 pub returns-clause-shown : goal.returns-clause-shown
-returns-clause-shown c = λ steps x run none. idle-clients-show steps x run.made run.bodies run.joins none
+returns-clause-shown c = λ steps x run none. idle-clients-show steps x run.made run.bodies none
 
 pub returns-clause-two : goal.returns-clause-two
 returns-clause-two c = λ steps others x y run run' same none none'.
-    idle-clients-show steps x run.made run.bodies run.joins none
+    idle-clients-show steps x run.made run.bodies none
     ∙ ap (λ entries. shown (agreed entries)) same
-    ∙ sym (idle-clients-show others y run'.made run'.bodies run'.joins none')
+    ∙ sym (idle-clients-show others y run'.made run'.bodies none')
