@@ -23,8 +23,8 @@ use Rattle.ft_op.specs.Cells.{Cell}
 use Rattle.ft_op.specs.Document.{Document, effects, sequenced_part}
 use Rattle.ft_op.specs.Stages.{Stage, intervals_after_stage}
 use Rattle.ft_msg.specs.Acknowledgement.{ack_stage, cells_after_stage, renamed_names}
-use Rattle.ft_laws.specs.StageEdits.{StageEdit, PutIn, TakenOut, Annotated, IsStanding, after_pending, after_sequenced}
-use Rattle.ft_laws.specs.SentStages.{SentStage, TextPut, TextTaken, TextAnnotated, IntervalsChanged, UnitsPut, UnitsTaken, CellWritten, NamesBy, StageStands, Tells, cols_edit, document_after, intervals_after_sent, list_after, made_after, rows_edit, text_edit, told_as}
+use Rattle.ft_laws.proofs.StageEdits.{StageEdit, PutIn, TakenOut, Annotated, IsStanding, after_pending, after_sequenced}
+use Rattle.ft_laws.proofs.SentStages.{SentStage, TextPut, TextTaken, TextAnnotated, IntervalsChanged, UnitsPut, UnitsTaken, CellWritten, NamesBy, StageStands, Tells, cols_edit, document_after, intervals_after_sent, list_after, made_after, rows_edit, text_edit, told_as}
 use Rattle.ft_laws.proofs.RangesOfLists.{all-retain_map, len-ranges}
 use Rattle.ft_laws.proofs.AcknowledgedStage.{HasAuthor, HaveAuthor, acknowledged-fits, acknowledged-sequenced, list_up_to-lowest}
 use Rattle.ft_laws.proofs.AgreedStage.{FitsAgreed, IsSound, effects-stage, len-put-add}

@@ -8,7 +8,7 @@ use Rattle.ft_op.specs.Intervals.{NamedElements}
 use Rattle.ft_op.specs.Document.{Document, effect, effects, sequenced_part, with_slid_ends}
 use Rattle.ft_op.specs.Stages.{Stage, intervals_after_stage}
 use Rattle.ft_msg.specs.Acknowledgement.{ack_stage, ack_stages, cells_after_stage, made_before, renamed, renamed_names, renamed_stage}
-use Rattle.ft_laws.specs.SentStages.{told_as}
+use Rattle.ft_laws.proofs.SentStages.{told_as}
 use Rattle.ft_laws.proofs.ToldStages.{Holds, ToldStage, renamed_told}
 use Rattle.ft_laws.proofs.NamedByPlace.{names-not_renamed}
 use Rattle.ft_laws.proofs.HoldsAfterAcknowledgement.{acknowledged-effects, acknowledged-holds}

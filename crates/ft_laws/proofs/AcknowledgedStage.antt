@@ -14,7 +14,7 @@ use Rattle.ft_props.specs.Properties.{PropertyList, change}
 use Rattle.ft_props.specs.Element.{ElementContent, ListElement, is_pending, is_sequenced, new_elements, seen_by, sequenced_elements, with_annotation, with_pending_annotation, with_pending_removal, with_removal, without_pending}
 use Rattle.ft_props.specs.Steps.{acked_element, acked_props, acked_removal, acked_stamp, author, remaining_removal}
 use Rattle.ft_props.proofs.AcknowledgedInsertion.{acked-fixed, below_mark, below_stamp, expects, from_mark, from_stamp, is_from, list_up_to, map-fixed, removal_up_to, same_nat, sequenced_elements-acked}
-use Rattle.ft_laws.specs.StageEdits.{StageEdit, PutIn, TakenOut, Annotated, after_pending, fits_pending, after_sequenced, fits_sequenced, IsStanding}
+use Rattle.ft_laws.proofs.StageEdits.{StageEdit, PutIn, TakenOut, Annotated, after_pending, fits_pending, after_sequenced, fits_sequenced, IsStanding}
 use Rattle.ft_laws.proofs.RangesOfLists.{all-retain_map, fit-map, len-map, put-map, ranges-map}
 
 -- nothing but what is of stage k is pending on it

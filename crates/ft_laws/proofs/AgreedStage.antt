@@ -22,8 +22,8 @@ use Rattle.ft_base.specs.Visibility.{is_acked}
 use Rattle.ft_props.proofs.SequencedElements.{any-acked}
 use Rattle.ft_laws.proofs.RangesOfLists.{len-range, len-ranges}
 use Rattle.ft_msg.specs.Acknowledgement.{write_named_cell}
-use Rattle.ft_laws.specs.StageEdits.{StageEdit, PutIn, TakenOut, Annotated, change_ranges, fits_sequenced, ranges_fit}
-use Rattle.ft_laws.specs.SentStages.{NamesBy, IsOneName, text_edit, rows_edit, cols_edit, intervals_after_sent, SentStage, TextPut, TextTaken, TextAnnotated, IntervalsChanged, UnitsPut, UnitsTaken, CellWritten, told_as, document_after, list_after}
+use Rattle.ft_laws.proofs.StageEdits.{StageEdit, PutIn, TakenOut, Annotated, change_ranges, fits_sequenced, ranges_fit}
+use Rattle.ft_laws.proofs.SentStages.{NamesBy, IsOneName, text_edit, rows_edit, cols_edit, intervals_after_sent, SentStage, TextPut, TextTaken, TextAnnotated, IntervalsChanged, UnitsPut, UnitsTaken, CellWritten, told_as, document_after, list_after}
 use Rattle.ft_laws.proofs.SlidEnds.{MoreRemoved, Once, true-false, Stands, is_standing_at, slide-stays, slide-twice, stands-slide}
 use Rattle.ft_laws.proofs.Booleans.{never, or-true}
 use Rattle.ft_laws.proofs.AnyAndAll.{any-behind}

@@ -28,7 +28,7 @@ use Rattle.ft_msg.specs.Client.{NaiveClient, PendingEdit, SentAs, after_edit, co
 use Rattle.ft_msg.specs.Acknowledgement.{ack_stages, after_own_message, renamed_edit, renamed_stage}
 use Rattle.ft_msg.specs.Process.{after_foreign_message, is_body, is_oldest, is_op, is_sent_as}
 use Rattle.ft_msg.proofs.ForeignMessage.{take_entry-sequenced}
-use Rattle.ft_laws.specs.SentStages.{told_as}
+use Rattle.ft_laws.proofs.SentStages.{told_as}
 use Rattle.ft_laws.proofs.NamedByPlace.{names-not_renamed}
 use Rattle.ft_laws.proofs.ToldStages.{AllStand, Holds, ToldStage, renamed_told}
 use Rattle.ft_laws.proofs.AcknowledgedEdit.{AllRef, edit-acked}

@@ -25,10 +25,12 @@ use Rattle.ft_msg.specs.Content.{ViewContent, all_cells, content, interval_recor
 use Rattle.ft_op.specs.Document.{Document, empty, sequenced_part}
 use Rattle.ft_msg.specs.Agreed.{agreed, body_effect, reference_number, take_entries, take_entry, with_numbers}
 use Rattle.ft_msg.specs.Client.{NaiveClient, PendingEdit, client_over, local_edit, connect, drop_link, noop, stages_of}
+use Rattle.ft_msg.specs.WellFormed.{has_body}
 use Rattle.ft_msg.specs.Process.{after_entry, after_foreign_message, come_online, is_oldest, is_op, is_op_kind, is_own, is_own_join, numbers_fault, process, process_fault}
 use Rattle.ft_msg.specs.Acknowledgement.{after_own_message}
 use Rattle.ft_msg.specs.Reconnection.{rebuilt_document}
-use Rattle.ft_laws.specs.ClientSteps.{ClientStep, Edits, Connects, Drops, Idles, Sends, Restarts, Takes, after_step, after_steps, has_fitting_body, is_empty_body, is_none_pending, is_without_edits, taken_entries, unless_refused}
+use Rattle.ft_laws.proofs.Booleans.{hidden}
+use Rattle.ft_laws.specs.ClientSteps.{ClientStep, Edits, Connects, Drops, Idles, Sends, Restarts, Takes, after_step, after_steps, has_fitting_body, is_none_pending, is_without_edits, taken_entries, unless_refused}
 use Rattle.ft_laws.proofs.WithinStages.{is_among, is_numbered, is_within, mark_within, stamp_within}
 use Rattle.ft_laws.proofs.ToldStages.{Holds, ToldStage, stage_numbers}
 use Rattle.ft_laws.proofs.DocumentAgain.{holds-again}
@@ -82,7 +84,7 @@ other-connection conns conn o h g = either (nat_eq o conn) refl
 
 -- a client that comes online sends its pending edits again
 own-join : (bound c : ℕ) (gss : List (List ToldStage)) (x : NaiveClient) (entry : Entry) → ClientHolds bound c gss x → x.doc.number < entry.msg.seq → list_any (nat_eq entry.origin) x.conns ≡ true
-    → is_empty_body entry.msg.body ≡ true → Stepped bound (take_entry (sequenced_part x.doc) entry) (come_online x entry)
+    → has_body entry.msg.body ≡ false → Stepped bound (take_entry (sequenced_part x.doc) entry) (come_online x entry)
 own-join bound c gss x entry h l used body =
     let s = entry.msg.seq in
     let doc = with_numbers entry x.doc in
@@ -100,7 +102,7 @@ own-join bound c gss x entry h l used body =
       agrees = rebuilt-sequenced ks doc ∙ ap (with_numbers entry) (sym (empty-body (sequenced_part x.doc) s entry.origin (reference_number entry.msg.ref_seq) entry.msg.body body));
     }
   where
-    empty-body : (doc : Document) (s d r : ℕ) (body : Body) → is_empty_body body ≡ true → body_effect doc s d r body ≡ doc
+    empty-body : (doc : Document) (s d r : ℕ) (body : Body) → has_body body ≡ false → body_effect doc s d r body ≡ doc
     empty-body doc s d r Nothing g = refl
     empty-body doc s d r (Op op) g = (cc)
     empty-body doc s d r (Elsewhere address) g = (cc)
@@ -163,11 +165,11 @@ own-join-origin (Joining conn) (kind.Other word) origin c conns h g = (cc)
 own-join-origin Offline k origin c conns h g = (cc)
 own-join-origin (Online conn) k origin c conns h g = (cc)
 
-fitting-empty : (a b : Bool) → cond a (not b) b ≡ true → a ≡ false → b ≡ true
+fitting-empty : (a b : Bool) → cond a b (not b) ≡ true → a ≡ false → b ≡ false
 fitting-empty true b h g = (cc)
-fitting-empty false b h g = h
+fitting-empty false b h g = hidden b h
 
-op-kind : (a : Bool) (body : Body) → cond a (not (is_empty_body body)) (is_empty_body body) ≡ true → is_op body ≡ true → a ≡ true
+op-kind : (a : Bool) (body : Body) → cond a (has_body body) (not (has_body body)) ≡ true → is_op body ≡ true → a ≡ true
 op-kind true body h g = refl
 op-kind false Nothing h g = (cc)
 op-kind false (Op op) h g = (cc)
@@ -182,7 +184,7 @@ entry-holds : (bound c : ℕ) (gss : List (List ToldStage)) (x : NaiveClient) (e
     → Stepped bound (take_entry (sequenced_part x.doc) entry) (cond b (come_online x entry) (cond o (after_own_message x entry) (after_foreign_message x entry)))
 entry-holds bound c gss x entry h a below fits true e o f =
     let own = own-join-origin x.link entry.msg.kind entry.origin c x.conns h.link e in
-    own-join bound c gss x entry h a.next own.0 (fitting-empty (is_op_kind entry.msg.kind) (is_empty_body entry.msg.body) fits own.1)
+    own-join bound c gss x entry h a.next own.0 (fitting-empty (is_op_kind entry.msg.kind) (has_body entry.msg.body) fits own.1)
 entry-holds bound c gss x entry h a below fits false e true f =
     let p = both (is_op entry.msg.body) (is_own x entry) f in
     let op = op-kind (is_op_kind entry.msg.kind) entry.msg.body fits p.0 in

@@ -11,8 +11,8 @@ use Rattle.ft_props.specs.Element.{ElementContent, SequencedId, PendingId, ListE
 use Rattle.ft_props.specs.Steps.{is_inserted_by}
 use Rattle.ft_props.proofs.AcknowledgedInsertion.{expects, list_up_to, same_nat}
 use Rattle.ft_op.specs.Document.{Document}
-use Rattle.ft_laws.specs.StageEdits.{StageEdit, PutIn, TakenOut, Annotated, IsStanding, after_pending}
-use Rattle.ft_laws.specs.SentStages.{SentStage, StageStands}
+use Rattle.ft_laws.proofs.StageEdits.{StageEdit, PutIn, TakenOut, Annotated, IsStanding, after_pending}
+use Rattle.ft_laws.proofs.SentStages.{SentStage, StageStands}
 use Rattle.ft_laws.proofs.AgreedStage.{len-put-add}
 use Rattle.ft_laws.proofs.RangesOfLists.{len-ranges}
 use Rattle.ft_laws.proofs.SideBySideStages.{none-of-stage}

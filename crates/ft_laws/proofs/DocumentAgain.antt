@@ -17,8 +17,8 @@ use Rattle.ft_op.specs.Intervals.{NamedElements}
 use Rattle.ft_op.specs.Document.{Document}
 use Rattle.ft_op.specs.Pieces.{is_named_and_seen, pieces, position_of_named, unless_empty}
 use Rattle.ft_msg.specs.Reconnection.{rebuilt_document}
-use Rattle.ft_laws.specs.StageEdits.{PutIn, TakenOut, Annotated, IsStanding}
-use Rattle.ft_laws.specs.SentStages.{SentStage, IsPlaced, NamesBy, StageStands, Tells, cols_edit, ends_alike, placed, rows_edit, text_edit}
+use Rattle.ft_laws.proofs.StageEdits.{PutIn, TakenOut, Annotated, IsStanding}
+use Rattle.ft_laws.proofs.SentStages.{SentStage, IsPlaced, NamesBy, StageStands, Tells, cols_edit, ends_alike, placed, rows_edit, text_edit}
 use Rattle.ft_laws.proofs.AgreedStage.{IsSound}
 use Rattle.ft_laws.proofs.DistinctNames.{names-once}
 use Rattle.ft_laws.proofs.GoneStages.{fewer-all, is_free_of, is_nothing, nothing-stands, standing-free}

@@ -18,7 +18,7 @@ use Rattle.ft_op.specs.Pieces.{base_op_of, cell_op_of, grid_pieces, interval_pie
 use Rattle.ft_op.specs.Stages.{Stage}
 use Rattle.ft_msg.specs.Client.{PendingEdit}
 use Rattle.ft_msg.specs.Reconnection.{carried_stage, regenerated_edit, resubmitted_edit, resubmitted_edits}
-use Rattle.ft_laws.specs.SentStages.{SentStage, told_as}
+use Rattle.ft_laws.proofs.SentStages.{SentStage, told_as}
 use Rattle.ft_laws.proofs.AcknowledgedEdit.{AllRef}
 use Rattle.ft_laws.proofs.ClientHolds.{AreOfOneKind, EditTold, EditsTold, flat, is_interval_operation, is_on_grid, is_on_intervals, is_on_text, is_one_interval}
 use Rattle.ft_laws.proofs.DocumentAgain.{again, retold_stage, unless_gone}

@@ -20,8 +20,8 @@ use Rattle.ft_msg.specs.Content.{content}
 use Rattle.ft_msg.specs.Process.{come_online}
 use Rattle.ft_laws.specs.ClientSteps.{ClientStep, after_steps, has_fitting_body, taken_entries}
 use Rattle.ft_laws.specs.Reconnecting.{StagesRiseTo, inserts_text, removes_text, writes_known_units}
-use Rattle.ft_laws.specs.SentStages.{SentStage, StageStands, cols_edit, rows_edit, text_edit}
-use Rattle.ft_laws.specs.StageEdits.{IsStanding, StageEdit}
+use Rattle.ft_laws.proofs.SentStages.{SentStage, StageStands, cols_edit, rows_edit, text_edit}
+use Rattle.ft_laws.proofs.StageEdits.{IsStanding, StageEdit}
 use Rattle.ft_laws.specs.Sequencing.{Each, IsReady, IsReadyList, IsTyped, annotates_text, inserts_in, is_grid_stage, is_interval_edit, is_interval_operation, is_known, is_marked_later, is_one_operation, is_text_stage, no_kind, removes_in}
 use Rattle.ft_laws.specs.Trimming.{are_distinct, has_ends_on, is_end_on}
 use Rattle.ft_laws.proofs.AgreedStage.{EndsStand}

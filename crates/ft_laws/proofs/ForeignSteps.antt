@@ -14,7 +14,7 @@ use Rattle.ft_props.specs.Element.{ElementContent, ListElement, is_pending, new_
 use Rattle.ft_props.proofs.SequencedElements.{any-has_occurred}
 use Rattle.ft_props.proofs.AcknowledgedInsertion.{element_up_to, expects, list_up_to, or_false}
 use Rattle.ft_props.proofs.PlacedInsertion.{is_upto, len-put, new-list_up_to, new-unexpected, put-list_up_to, sees-list_up_to, unknown}
-use Rattle.ft_laws.specs.StageEdits.{StageEdit, PutIn, TakenOut, Annotated, change_ranges, ranges_fit, after_pending, fits_pending, after_sequenced, fits_sequenced, IsStanding}
+use Rattle.ft_laws.proofs.StageEdits.{StageEdit, PutIn, TakenOut, Annotated, change_ranges, ranges_fit, after_pending, fits_pending, after_sequenced, fits_sequenced, IsStanding}
 use Rattle.ft_laws.proofs.RangesOfLists.{put-ranges, ranges-ranges, fit-put, fit-ranges, len-ranges}
 
 -- ---- what a change of a range doesn't change for the other side

@@ -12,7 +12,7 @@ use Rattle.ft_props.specs.Element.{ListElement, removal_stamp, seen}
 use Rattle.ft_props.specs.Steps.{extended_runs, is_annotated_by, is_inserted_by, is_removed_by, marked_runs_from}
 use Rattle.ft_props.proofs.AcknowledgedInsertion.{expects, list_up_to, same_nat}
 use Rattle.ft_props.proofs.PlacedInsertion.{is_upto}
-use Rattle.ft_laws.specs.StageEdits.{StageEdit, PutIn, TakenOut, Annotated, IsStanding}
+use Rattle.ft_laws.proofs.StageEdits.{StageEdit, PutIn, TakenOut, Annotated, IsStanding}
 use Rattle.ft_laws.proofs.AcknowledgedDocument.{standing-count}
 use Rattle.ft_laws.proofs.MarkedRuns.{Each}
 use Rattle.ft_laws.proofs.OrderedMarks.{insertion_stage, is_ordered, is_removed_last, is_unremoved_pending, rises_from}

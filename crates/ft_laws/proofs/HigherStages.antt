@@ -12,7 +12,7 @@ use Rattle.ft_props.specs.Properties.{PropertyList, change}
 use Rattle.ft_props.specs.Element.{ElementContent, ListElement, new_elements, with_pending_annotation, with_pending_removal}
 use Rattle.ft_props.specs.Steps.{acked_element, acked_props, acked_removal, acked_stamp, remaining_removal}
 use Rattle.ft_props.proofs.AcknowledgedInsertion.{below_mark, below_stamp, element_up_to, expects, list_up_to, removal_up_to, map-choice}
-use Rattle.ft_laws.specs.StageEdits.{StageEdit, PutIn, TakenOut, Annotated, after_pending, fits_pending, IsStanding}
+use Rattle.ft_laws.proofs.StageEdits.{StageEdit, PutIn, TakenOut, Annotated, after_pending, fits_pending, IsStanding}
 use Rattle.ft_laws.proofs.RangesOfLists.{fit-map, len-map, put-map, ranges-map}
 
 -- ---- the list up to a stage that isn't below the acknowledged one

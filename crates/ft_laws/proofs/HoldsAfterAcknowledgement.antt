@@ -14,8 +14,8 @@ use Rattle.ft_op.specs.Intervals.{NamedElements}
 use Rattle.ft_op.specs.Document.{Document, effects, sequenced_part}
 use Rattle.ft_op.specs.Stages.{Stage}
 use Rattle.ft_msg.specs.Acknowledgement.{ack_stage, made_before, renamed_names}
-use Rattle.ft_laws.specs.StageEdits.{TakenOut, Annotated, IsStanding}
-use Rattle.ft_laws.specs.SentStages.{SentStage, TextPut, TextTaken, TextAnnotated, IntervalsChanged, UnitsPut, UnitsTaken, CellWritten, StageStands, Tells, cols_edit, rows_edit, text_edit, told_as}
+use Rattle.ft_laws.proofs.StageEdits.{TakenOut, Annotated, IsStanding}
+use Rattle.ft_laws.proofs.SentStages.{SentStage, TextPut, TextTaken, TextAnnotated, IntervalsChanged, UnitsPut, UnitsTaken, CellWritten, StageStands, Tells, cols_edit, rows_edit, text_edit, told_as}
 use Rattle.ft_laws.proofs.ToldStages.{AllStand, AreTold, Holds, Rise, ToldStage, renamed_told, stage_numbers}
 use Rattle.ft_laws.proofs.HigherStages.{acknowledgement-keeps, as_expected, list_up_to-acked}
 use Rattle.ft_laws.proofs.AgreedStage.{IsSound, sound-after}

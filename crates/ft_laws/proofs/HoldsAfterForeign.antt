@@ -19,8 +19,8 @@ use Rattle.ft_props.proofs.PlacedInsertion.{new-unexpected}
 use Rattle.ft_op.specs.Operation.{OnGrid, OnIntervals, OnText, SubOperation, segment_contents}
 use Rattle.ft_op.specs.Intervals.{NamedElements, after_interval_operation}
 use Rattle.ft_op.specs.Document.{Document, cell_effect, effect, effects, elements_at_given_ends, ends_of, given_ends_fit, grid_effect, rows_or_cols, sequenced_part, text_effect, with_rows_or_cols, with_skip, with_slid_ends}
-use Rattle.ft_laws.specs.StageEdits.{StageEdit, PutIn, TakenOut, Annotated, IsStanding, after_sequenced, fits_sequenced}
-use Rattle.ft_laws.specs.SentStages.{SentStage, NamesBy, StageStands, cols_edit, rows_edit, text_edit}
+use Rattle.ft_laws.proofs.StageEdits.{StageEdit, PutIn, TakenOut, Annotated, IsStanding, after_sequenced, fits_sequenced}
+use Rattle.ft_laws.proofs.SentStages.{SentStage, NamesBy, StageStands, cols_edit, rows_edit, text_edit}
 use Rattle.ft_laws.proofs.ToldStages.{AllStand, AreTold, Holds, ToldStage, stage_numbers}
 use Rattle.ft_laws.proofs.ForeignSteps.{foreign_step-keeps, sequenced-list_up_to, unexpected-removal}
 use Rattle.ft_laws.proofs.AgreedStage.{IsNamed, IsSound, ends-after, ends-stand, named-after}

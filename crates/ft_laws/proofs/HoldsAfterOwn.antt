@@ -10,8 +10,8 @@ use Rattle.ft_props.proofs.PlacedInsertion.{drop-put, is_current, list_up_to-now
 use Rattle.ft_op.specs.Intervals.{NamedElements}
 use Rattle.ft_op.specs.Document.{Document, sequenced_part}
 use Rattle.ft_op.specs.Stages.{Stage}
-use Rattle.ft_laws.specs.StageEdits.{StageEdit, PutIn, TakenOut, Annotated, IsStanding, after_own, change_ranges, fits_own, has_one_range}
-use Rattle.ft_laws.specs.SentStages.{SentStage, NamesBy, StageStands, Tells, cols_edit, rows_edit, text_edit}
+use Rattle.ft_laws.proofs.StageEdits.{StageEdit, PutIn, TakenOut, Annotated, IsStanding, after_own, change_ranges, fits_own, has_one_range}
+use Rattle.ft_laws.proofs.SentStages.{SentStage, NamesBy, StageStands, Tells, cols_edit, rows_edit, text_edit}
 use Rattle.ft_laws.proofs.ToldStages.{AllStand, AreTold, Holds, Rise, ToldStage, stage_numbers}
 use Rattle.ft_laws.proofs.OwnEdits.{expected, own-below, own-keeps, own-stands, range-left_out}
 use Rattle.ft_laws.proofs.AgreedStage.{IsSound}

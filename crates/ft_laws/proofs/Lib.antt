@@ -1,3 +1,5 @@
+pub mod StageEdits
+pub mod SentStages
 pub mod Booleans
 pub mod AnyAndAll
 pub mod NumberTests

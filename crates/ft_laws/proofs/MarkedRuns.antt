@@ -5,7 +5,7 @@ use Rattle.ft_base.proofs.Booleans.{both}
 use Rattle.ft_base.specs.Scan.{change_range, change_range_from, len, one_more_if, within}
 use Rattle.ft_props.specs.Element.{ListElement}
 use Rattle.ft_props.specs.Steps.{extended_runs, lowered_runs, marked_runs_from}
-use Rattle.ft_laws.specs.StageEdits.{change_ranges, ranges_fit}
+use Rattle.ft_laws.proofs.StageEdits.{change_ranges, ranges_fit}
 
 -- ---- runs
 

@@ -19,8 +19,8 @@ use Rattle.ft_props.proofs.PlacedInsertion.{is_upto}
 use Rattle.ft_op.specs.Operation.{OnGrid, OnIntervals, OnText, SubOperation}
 use Rattle.ft_op.specs.Document.{Document}
 use Rattle.ft_op.specs.Stages.{Stage}
-use Rattle.ft_laws.specs.StageEdits.{StageEdit, PutIn, TakenOut, Annotated, IsStanding}
-use Rattle.ft_laws.specs.SentStages.{SentStage, StageStands, Tells, cols_edit, placed, rows_edit, text_edit}
+use Rattle.ft_laws.proofs.StageEdits.{StageEdit, PutIn, TakenOut, Annotated, IsStanding}
+use Rattle.ft_laws.proofs.SentStages.{SentStage, StageStands, Tells, cols_edit, placed, rows_edit, text_edit}
 use Rattle.ft_laws.specs.Reconnecting.{has_insertion_of, has_marks_of, has_removal_of, has_some, inserts_text, is_stage_of, removes_text}
 use Rattle.ft_laws.specs.Sequencing.{Each, annotates_text, has_none, inserts_in, is_known, is_known_stamp, is_marked_later, is_removed_after, no_kind, removes_in}
 use Rattle.ft_laws.proofs.ToldStages.{AllStand, AreTold, ToldStage, stage_numbers}

@@ -8,8 +8,8 @@ use Rattle.ft_props.specs.Element.{ElementId, ListElement, id}
 use Rattle.ft_op.specs.Intervals.{NamedElements, element_at_end}
 use Rattle.ft_op.specs.Document.{elements_at_given_ends, ends_of, given_ends_fit}
 use Rattle.ft_msg.specs.Acknowledgement.{renamed, renamed_names}
-use Rattle.ft_laws.specs.StageEdits.{change_ranges}
-use Rattle.ft_laws.specs.SentStages.{SentStage, TextPut, TextTaken, TextAnnotated, IntervalsChanged, UnitsPut, UnitsTaken, CellWritten, IsOneName, NamesBy}
+use Rattle.ft_laws.proofs.StageEdits.{change_ranges}
+use Rattle.ft_laws.proofs.SentStages.{SentStage, TextPut, TextTaken, TextAnnotated, IntervalsChanged, UnitsPut, UnitsTaken, CellWritten, IsOneName, NamesBy}
 use Rattle.ft_laws.proofs.RangesOfLists.{len-ranges}
 use Rattle.ft_props.proofs.PlacedInsertion.{len-put}
 

@@ -13,7 +13,7 @@ use Rattle.ft_props.specs.Properties.{PropertyList}
 use Rattle.ft_props.specs.Element.{ElementContent, ListElement, new_elements, removal_stamp, seen, with_pending_annotation, with_pending_removal}
 use Rattle.ft_props.proofs.AcknowledgedInsertion.{below_mark, below_stamp, element_up_to, expects, list_up_to}
 use Rattle.ft_props.proofs.PlacedInsertion.{all-put, after_local_insertion-current, drop-put, expected-now, is_current, is_upto, list_up_to-now, mark_upto, more-current, own-stage, stamp_known}
-use Rattle.ft_laws.specs.StageEdits.{StageEdit, PutIn, TakenOut, Annotated, after_own, fits_own, has_one_range, after_pending, fits_pending, IsStanding}
+use Rattle.ft_laws.proofs.StageEdits.{StageEdit, PutIn, TakenOut, Annotated, after_own, fits_own, has_one_range, after_pending, fits_pending, IsStanding}
 use Rattle.ft_laws.proofs.RangesOfLists.{all-range}
 
 -- ---- scans by two tests that agree on a list

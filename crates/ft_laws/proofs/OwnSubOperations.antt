@@ -22,8 +22,8 @@ use Rattle.ft_op.specs.Intervals.{NamedElements, no_elements}
 use Rattle.ft_op.specs.Document.{Document, elements_at_given_ends, ends_of, given_ends_fit, sequenced_part}
 use Rattle.ft_op.specs.Stages.{Stage, shown_intervals}
 use Rattle.ft_msg.specs.Client.{EditResult, id_fault, local_grid, local_interval, local_set, local_sub_operation, local_sub_operations, local_text, unless_fault}
-use Rattle.ft_laws.specs.StageEdits.{StageEdit, PutIn, TakenOut, Annotated}
-use Rattle.ft_laws.specs.SentStages.{SentStage, TextPut, TextTaken, TextAnnotated, IntervalsChanged, UnitsPut, UnitsTaken, CellWritten, IsOneName, IsPlaced, NamesBy, Tells, are_given, cols_edit, ends_alike, rows_edit, text_edit, told_as}
+use Rattle.ft_laws.proofs.StageEdits.{StageEdit, PutIn, TakenOut, Annotated}
+use Rattle.ft_laws.proofs.SentStages.{SentStage, TextPut, TextTaken, TextAnnotated, IntervalsChanged, UnitsPut, UnitsTaken, CellWritten, IsOneName, IsPlaced, NamesBy, Tells, are_given, cols_edit, ends_alike, rows_edit, text_edit, told_as}
 use Rattle.ft_laws.proofs.ToldStages.{Holds, ToldStage}
 use Rattle.ft_laws.proofs.AcknowledgedEdit.{AllRef}
 use Rattle.ft_laws.proofs.HoldsAfterOwn.{IsOwn, IsOwnStep, own-holds, own-sequenced, untouched}

@@ -4,7 +4,7 @@ use Rattle.std.specs.List.{list_all, list_any}
 use Rattle.std.proofs.lemmas.List.{map-append}
 use Rattle.ft_base.specs.Scan.{len, no_run, put_past, put, retain_map, change_range_from, change_range}
 use Rattle.ft_base.proofs.ScanLaws.{put_past-no_run}
-use Rattle.ft_laws.specs.StageEdits.{change_ranges, ranges_fit}
+use Rattle.ft_laws.proofs.StageEdits.{change_ranges, ranges_fit}
 use Rattle.ft_props.proofs.PlacedInsertion.{len-put}
 use Rattle.ft_base.proofs.Booleans.{both}
 

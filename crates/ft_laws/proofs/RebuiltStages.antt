@@ -21,7 +21,7 @@ use Rattle.ft_laws.proofs.AcknowledgedDocument.{none-later, standing-count}
 use Rattle.ft_laws.proofs.SideBySideStages.{all-new, no-stage, none-counted, none-filtered}
 use Rattle.ft_laws.proofs.MarkedRuns.{Each, MarkedAs, lowered-mark, ranges-from-first, fit-from-first, runs-mark}
 use Rattle.ft_props.proofs.RebuiltList.{any-filter, carried_element-ins, filter-append, pred_suc, stage_list}
-use Rattle.ft_laws.specs.StageEdits.{StageEdit, PutIn, TakenOut, Annotated, IsStanding, change_ranges, ranges_fit}
+use Rattle.ft_laws.proofs.StageEdits.{StageEdit, PutIn, TakenOut, Annotated, IsStanding, change_ranges, ranges_fit}
 use Rattle.ft_op.specs.Same.{same_changes}
 use Rattle.ft_op.proofs.SameOperations.{same_changes-Decides}
 use Rattle.ft_laws.proofs.OrderedMarks.{insertion_stage, is_ordered, is_removed_last, is_unremoved_pending, rises_from}

@@ -18,12 +18,12 @@ use Rattle.ft_laws.proofs.AgreedStage.{any-ranges}
 use Rattle.ft_base.proofs.Booleans.{all_four}
 use Rattle.ft_op.specs.Document.{Document}
 use Rattle.ft_msg.specs.Reconnection.{rebuilt_document}
-use Rattle.ft_laws.specs.SentStages.{SentStage, StageStands, cols_edit, rows_edit, text_edit}
+use Rattle.ft_laws.proofs.SentStages.{SentStage, StageStands, cols_edit, rows_edit, text_edit}
 use Rattle.ft_laws.proofs.ToldStages.{AllStand, Holds, Rise, ToldStage, stage_numbers}
 use Rattle.ft_laws.proofs.WithinStages.{is_among, is_numbered, is_within, mark_within, stamp_within}
 use Rattle.ft_props.proofs.PlacedInsertion.{is_upto}
 use Rattle.ft_props.proofs.RebuiltList.{SideBySide, any-filter, filter-append, filter-twice, pred_suc, stage_list, stage_view-rebuilt, wide}
-use Rattle.ft_laws.specs.StageEdits.{StageEdit, PutIn, TakenOut, Annotated, IsStanding, after_pending}
+use Rattle.ft_laws.proofs.StageEdits.{StageEdit, PutIn, TakenOut, Annotated, IsStanding, after_pending}
 use Rattle.ft_laws.proofs.AcknowledgedDocument.{none-later}
 use Rattle.ft_laws.proofs.Booleans.{never}
 use Rattle.ft_laws.proofs.HoldsAfterOwn.{rise-last}

@@ -19,8 +19,8 @@ use Rattle.ft_op.specs.Intervals.{Interval, NamedElements, after_interval_operat
 use Rattle.ft_op.specs.Document.{Document, elements_at_given_ends, ends_of, given_ends_fit, rows_or_cols}
 use Rattle.ft_op.specs.Pieces.{ends_in, interval_piece, is_named_and_seen, position_of_named}
 use Rattle.ft_op.specs.Stages.{Stage}
-use Rattle.ft_laws.specs.StageEdits.{StageEdit, TakenOut, IsStanding}
-use Rattle.ft_laws.specs.SentStages.{SentStage, TextPut, TextTaken, TextAnnotated, IntervalsChanged, UnitsPut, UnitsTaken, CellWritten, IsOneName, Tells, are_given, ends_alike}
+use Rattle.ft_laws.proofs.StageEdits.{StageEdit, TakenOut, IsStanding}
+use Rattle.ft_laws.proofs.SentStages.{SentStage, TextPut, TextTaken, TextAnnotated, IntervalsChanged, UnitsPut, UnitsTaken, CellWritten, IsOneName, Tells, are_given, ends_alike}
 use Rattle.ft_laws.proofs.GoneStages.{free-unremoved, free-views, no-runs, standing-free}
 use Rattle.ft_laws.proofs.MarkedRuns.{Each}
 use Rattle.ft_laws.proofs.OrderedMarks.{is_ordered}

@@ -5,7 +5,7 @@ use Rattle.ft_props.specs.Element.{ElementId}
 use Rattle.ft_op.specs.Document.{Document, sequenced_part}
 use Rattle.ft_op.specs.Stages.{Stage}
 use Rattle.ft_msg.specs.Acknowledgement.{renamed_stage}
-use Rattle.ft_laws.specs.SentStages.{SentStage, StageStands, Tells}
+use Rattle.ft_laws.proofs.SentStages.{SentStage, StageStands, Tells}
 use Rattle.ft_laws.proofs.AgreedStage.{IsSound}
 use Rattle.ft_laws.proofs.OrderedMarks.{is_ordered}
 use Rattle.ft_laws.proofs.WithinStages.{is_within}

@@ -23,8 +23,8 @@ use Rattle.ft_props.proofs.PlacedInsertion.{is_upto}
 use Rattle.ft_op.specs.Operation.{OnGrid, OnIntervals, OnText, SubOperation, segment_contents}
 use Rattle.ft_op.specs.Intervals.{NamedElements, elements_at_ends}
 use Rattle.ft_op.specs.Document.{Document, elements_at_given_ends, ends_of, given_ends_fit}
-use Rattle.ft_laws.specs.StageEdits.{PutIn, Annotated, IsStanding}
-use Rattle.ft_laws.specs.SentStages.{IsOneName, StageStands, placed}
+use Rattle.ft_laws.proofs.StageEdits.{PutIn, Annotated, IsStanding}
+use Rattle.ft_laws.proofs.SentStages.{IsOneName, StageStands, placed}
 use Rattle.ft_laws.specs.Reconnecting.{is_inserted_before, writes_known_units}
 use Rattle.ft_laws.specs.Sequencing.{Each, IsBlockOf, IsTyped, are_ends_in}
 use Rattle.ft_laws.proofs.ToldStages.{AllStand, AreTold, ToldStage}

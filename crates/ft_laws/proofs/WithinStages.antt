@@ -14,7 +14,7 @@ use Rattle.ft_props.specs.Element.{ElementContent, ListElement, is_pending, new_
 use Rattle.ft_props.specs.Steps.{acked_element, acked_removal, acked_stamp, remaining_removal}
 use Rattle.ft_props.proofs.AcknowledgedInsertion.{from_mark, from_stamp, is_from}
 use Rattle.ft_props.proofs.PlacedInsertion.{is_current, mark_upto, stamp_known}
-use Rattle.ft_laws.specs.StageEdits.{StageEdit, PutIn, TakenOut, Annotated, after_own, after_sequenced, change_ranges}
+use Rattle.ft_laws.proofs.StageEdits.{StageEdit, PutIn, TakenOut, Annotated, after_own, after_sequenced, change_ranges}
 use Rattle.ft_laws.proofs.RangesOfLists.{all-range}
 use Rattle.ft_laws.proofs.Booleans.{or-true}
 use Rattle.ft_laws.proofs.NumberTests.{own-least, same_number}

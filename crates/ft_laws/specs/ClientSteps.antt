@@ -2,9 +2,8 @@
 use Rattle.std.specs.Prelude.{ℕ, Bool, true, false, cond, not, List, [], ◌∷◌, Option, Some, None, Result, Ok, Err, drop}
 use Rattle.ft_op.specs.declared.operations.ChannelOp.{ChannelOp}
 use Rattle.ft_msg.specs.declared.messages.Entry.{Entry}
-use Rattle.ft_msg.specs.declared.messages.Body.{Body}
-use Rattle.ft_msg.specs.declared.messages.Body.TheVariants.{Nothing, Op, Elsewhere}
 use Rattle.ft_msg.specs.Client.{NaiveClient, PendingEdit, client_over, connect, drop_link, local_edit, noop}
+use Rattle.ft_msg.specs.WellFormed.{has_body}
 use Rattle.ft_msg.specs.Process.{is_op_kind, process}
 
 -- an edit of its own; a connection; its loss; a noop; its first draft goes to the sequencer; a new client starts from its
@@ -59,12 +58,6 @@ taken_entries (Idles ∷ steps) = taken_entries steps
 taken_entries (Sends ∷ steps) = taken_entries steps
 taken_entries (Restarts ∷ steps) = taken_entries steps
 
--- whether a message has no body
-abbrev pub is_empty_body : Body → Bool
-is_empty_body Nothing = true
-is_empty_body (Op op) = false
-is_empty_body (Elsewhere address) = false
-
 -- whether a message has a body just where it is of type op
 abbrev pub has_fitting_body : Entry → Bool
-has_fitting_body entry = cond (is_op_kind entry.msg.kind) (not (is_empty_body entry.msg.body)) (is_empty_body entry.msg.body)
+has_fitting_body entry = cond (is_op_kind entry.msg.kind) (has_body entry.msg.body) (not (has_body entry.msg.body))

@@ -1,5 +1,3 @@
-pub mod StageEdits
-pub mod SentStages
 pub mod ClientSteps
 pub mod Agreement
 pub mod Trimming

@@ -20,6 +20,7 @@ use Rattle.ft_op.specs.Operation.{OnGrid, OnIntervals, OnText, SubOperation, seg
 use Rattle.ft_op.specs.Cells.{Cell}
 use Rattle.ft_op.specs.Document.{Document, rows_or_cols, sequenced_part}
 use Rattle.ft_op.specs.Intervals.{NamedElements}
+use Rattle.ft_op.specs.Same.{same_target}
 use Rattle.ft_op.specs.Stages.{Stage}
 use Rattle.ft_msg.specs.Agreed.{agreed}
 use Rattle.ft_msg.specs.Applied.{applied}
@@ -67,12 +68,6 @@ is_marked_later e = elim e.ins [
 -- no sub-operation
 abbrev pub no_kind : SubOperation → Bool
 no_kind o = false
-
--- whether two targets are equal
-abbrev pub same_target : Target → Target → Bool
-same_target Rows Rows = true
-same_target Cols Cols = true
-same_target _ _ = false
 
 -- whether the sub-operation puts units into the rows, or into the columns
 abbrev pub inserts_in : Target → SubOperation → Bool

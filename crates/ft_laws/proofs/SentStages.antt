@@ -21,7 +21,7 @@ use Rattle.ft_op.specs.Cells.{Cell}
 use Rattle.ft_op.specs.Document.{Document, elements_at_given_ends, ends_of, given_ends_fit, rows_or_cols, with_slid_ends}
 use Rattle.ft_op.specs.Stages.{intervals_after_stage}
 use Rattle.ft_msg.specs.Acknowledgement.{cells_after_stage, made_before, write_named_cell}
-use Rattle.ft_laws.specs.StageEdits.{StageEdit, PutIn, TakenOut, Annotated, IsStanding, after_sequenced}
+use Rattle.ft_laws.proofs.StageEdits.{StageEdit, PutIn, TakenOut, Annotated, IsStanding, after_sequenced}
 
 -- an insertion into the text; removals of ranges of the text, one after another; annotations of such ranges; an interval
 -- operation; the same two for rows or columns; a cell write
