@@ -10,8 +10,8 @@ use Rattle.ft_msg.specs.NameTable.{names_after}
 use Rattle.ft_msg.specs.Process.{process}
 use Rattle.ft_plain.specs.Observer.{numbers_of}
 use Rattle.ft_cli.specs.Report.{bytes_of, view_lines}
-use Rattle.ft_cli.specs.ViewLines.{content_lines, content_of, numbers_line}
-use Rattle.ft_cli.specs.Walk.{Step}
+use Rattle.ft_seqr.specs.ViewLines.{content_lines, content_of, numbers_line}
+use Rattle.ft_seqr.specs.Walk.{Step}
 use Rattle.ft_cli.specs.Observation.{Observation, entry_of, names_with, observe_answer, observe_message}
 
 -- a name adds at most one

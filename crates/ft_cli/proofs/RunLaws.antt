@@ -19,7 +19,7 @@ use Rattle.ft_cli.specs.declared.statuses.Status.TheVariants.{Done, SomeRefused,
 use Rattle.ft_cli.specs.declared.words.Form.{Form}
 use Rattle.ft_cli.specs.declared.words.Form.TheVariants.{Log}
 use Rattle.ft_cli.specs.Statuses.{fault_of_line}
-use Rattle.ft_cli.specs.Walk.{Progress, after_line, begin, line_limit, written_by, written_by_line}
+use Rattle.ft_seqr.specs.Walk.{Progress, after_line, begin, line_limit, written_by, written_by_line}
 use Rattle.ft_cli.specs.Observation.{Observation, nothing_observed, observe}
 use Rattle.ft_cli.specs.Report.{bytes_of, log_after, log_end, log_lines, log_status, opened_of, report_of}
 use Rattle.ft_cli.specs.Writing.{Begins, Writes}

@@ -1,7 +1,7 @@
 -- What lines write, for lines that are put behind others.
 use Rattle.std.proofs.Common.{◌≡◌, List, [], ◌∷◌, ◌++◌, refl, sym, ◌∙◌, ap, append_assoc}
 use Rattle.std.proofs.Common.{ℕ}
-use Rattle.ft_cli.specs.Walk.{Step, Progress, after_line, after_lines, written_by, written_by_line}
+use Rattle.ft_seqr.specs.Walk.{Step, Progress, after_line, after_lines, written_by, written_by_line}
 
 pub after_lines-append : {S : Type 0} (read : S → List ℕ → Step S) (at : Progress S) (xs ys : List (List ℕ))
     → after_lines read at (xs ++ ys) ≡ after_lines read (after_lines read at xs) ys

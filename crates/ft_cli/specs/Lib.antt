@@ -1,9 +1,7 @@
 pub mod Words
 pub mod Refusals
-pub mod Walk
 pub mod Observation
 pub mod Statuses
-pub mod ViewLines
 pub mod Report
 pub mod Writing
 pub mod Run

@@ -9,8 +9,9 @@ use Rattle.ft_msg.specs.Client.{NaiveClient, client_over}
 use Rattle.ft_msg.specs.MessageGrammar.{message}
 use Rattle.ft_msg.specs.NameTable.{number_of, names_after}
 use Rattle.ft_msg.specs.Process.{process}
-use Rattle.ft_cli.specs.Refusals.{refusal_of_cause, refusal_of_fault}
-use Rattle.ft_cli.specs.Walk.{Step, passes, refuses}
+use Rattle.ft_seqr.specs.Refusals.{refusal_of_cause}
+use Rattle.ft_cli.specs.Refusals.{refusal_of_fault}
+use Rattle.ft_seqr.specs.Walk.{Step, answers, passes, refuses}
 
 -- what an observer has: the names of the connections so far, and the document of the messages that it took
 pub record Observation : Type 0 where
@@ -38,7 +39,7 @@ entry_of names m = record { msg = m; origin = origin_of names m.client_id }
 -- what the observer makes of a client's answer to a message: the client's document, or the refusal
 abbrev pub observe_answer : Observation → Result NaiveClient ProcessFault → Step Observation
 observe_answer seen (Ok x) = passes (record seen { doc = x.doc })
-observe_answer seen (Err fault) = record { made = seen; refusal = refusal_of_fault fault }
+observe_answer seen (Err fault) = answers seen (refusal_of_fault fault)
 
 -- what the observer makes of a message: what a client over its document does with it
 unfoldable pub observe_message : Observation → Message → Step Observation

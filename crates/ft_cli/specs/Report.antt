@@ -1,27 +1,23 @@
 -- The report: what is written of an input. Every line of it ends with LF.
-use Rattle.std.specs.Prelude.{ℕ, ◌&&◌, ◌==◌, List, [], ◌∷◌, ◌++◌, Option, Some, None, codes, decimal, if◌then◌else◌}
+use Rattle.std.specs.Prelude.{ℕ, ◌&&◌, ◌==◌, List, [], ◌∷◌, ◌++◌, Option, Some, None, if◌then◌else◌}
 use Rattle.std.specs.List.{flat_map}
 use Rattle.ft_io.specs.Lines.{lines, ended_lines, with_lf}
 use Rattle.ft_op.specs.Document.{Document}
 use Rattle.ft_msg.specs.Content.{shown}
 use Rattle.ft_plain.specs.Observer.{numbers_of}
+use Rattle.ft_seqr.specs.SessionReport.{closing_lines}
 use Rattle.ft_cli.specs.declared.statuses.Status.{Status}
 use Rattle.ft_cli.specs.declared.statuses.Status.TheVariants.{Done, SomeRefused}
 use Rattle.ft_cli.specs.declared.words.Form.{Form}
 use Rattle.ft_cli.specs.declared.words.Form.TheVariants.{Log}
 use Rattle.ft_cli.specs.Words.{form_of}
-use Rattle.ft_cli.specs.ViewLines.{content_lines, numbers_line}
-use Rattle.ft_cli.specs.Walk.{Progress, begin, after_lines, written_by}
+use Rattle.ft_seqr.specs.ViewLines.{content_lines, numbers_line}
+use Rattle.ft_seqr.specs.Walk.{Progress, begin, after_lines, written_by}
 use Rattle.ft_cli.specs.Observation.{Observation, nothing_observed, observe}
 
 -- the lines of an observer's view
 unfoldable pub view_lines : Document → List (List ℕ)
 view_lines doc = numbers_line (numbers_of doc) ∷ content_lines (shown doc)
-
--- the last lines: how many lines were refused, how many sub-operations were skipped, and how many messages were for others
-unfoldable pub closing_lines : ℕ → Document → List (List ℕ)
-closing_lines refused doc =
-    (codes "refused " ++ decimal refused) ∷ (codes "skipped " ++ decimal doc.skipped) ∷ (codes "other " ++ decimal doc.other) ∷ []
 
 -- the bytes of lines, each with its LF
 abbrev pub bytes_of : List (List ℕ) → List ℕ

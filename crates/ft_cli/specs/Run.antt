@@ -10,7 +10,7 @@ use Rattle.ft_cli.specs.declared.words.Form.{Form}
 use Rattle.ft_cli.specs.declared.words.Form.TheVariants.{Log}
 use Rattle.ft_cli.specs.Statuses.{fault_status}
 use Rattle.ft_cli.specs.Words.{form_of}
-use Rattle.ft_cli.specs.Walk.{Progress}
+use Rattle.ft_seqr.specs.Walk.{Progress}
 use Rattle.ft_cli.specs.Observation.{Observation}
 use Rattle.ft_cli.specs.Report.{bytes_of, log_after, log_lines, opened_of, report_of, status_of}
 use Rattle.ft_cli.specs.Writing.{Begins}

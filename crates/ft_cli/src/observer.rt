@@ -5,14 +5,15 @@ ghost use Rattle.ft_msg.specs.Client.{client_over};
 ghost use Rattle.ft_msg.specs.Process.{process};
 ghost use Rattle.ft_msg.specs.WellFormed.{HasNumbersInRange};
 ghost use Rattle.ft_plain.specs.Observer.{numbers_of};
+ghost use Rattle.ft_seqr.specs.Walk.{answers};
 ghost use Rattle.ft_cli.specs.Report.{bytes_of, view_lines};
 ghost use Rattle.ft_cli.specs.Observation.{entry_of, names_with, nothing_observed, observe, observe_answer, observe_message};
 
-use crate::refusals::Refusal;
 use crate::view_lines::view_text;
 use ft_base::OutOfMemory;
 use ft_msg::{Cause, Entry, Message, Names, Numbers, ProcessFault, read_message};
 use ft_plain::Plain;
+use ft_seqr::Refusal;
 use std::alloc::Global;
 use std::marker::Model;
 
@@ -52,7 +53,7 @@ impl Observer {
     /// Answers `OutOfMemory` where there is no room for it, and then it says nothing of its document.
     pub fn take(&mut self, line: &[u8]) -> Result<Option<Refusal>, OutOfMemory>
         requires { length self.old.names < 2 ^ 32 - 1 }
-        ensures step { IfOk result (λ refusal. observe self.old line.now ≡ record { made = self.new; refusal = refusal }) }
+        ensures step { IfOk result (λ refusal. observe self.old line.now ≡ answers self.new refusal) }
         ensures names { length self.new.names ≤ length self.old.names + 1 }
     {
         match read_message(self.alloc, line) {
@@ -85,7 +86,7 @@ impl Observer {
     fn take_message(&mut self, msg: Message) -> Result<Option<Refusal>, OutOfMemory>
         requires room { length self.old.names < 2 ^ 32 - 1 }
         requires in_range { HasNumbersInRange msg }
-        ensures step { IfOk result (λ refusal. observe_message self.old msg ≡ record { made = self.new; refusal = refusal }) }
+        ensures step { IfOk result (λ refusal. observe_message self.old msg ≡ answers self.new refusal) }
         ensures names { length self.new.names ≤ length self.old.names + 1 }
     {
         let entry = number_sender(&mut self.names, msg)?;
@@ -111,7 +112,7 @@ fn number_sender(names: &mut Names, msg: Message) -> Result<Entry, OutOfMemory>
 fn give(replica: &mut Plain, entry: &Entry) -> Result<Option<Refusal>, OutOfMemory>
     requires { HasNumbersInRange entry.now.msg }
     ensures { IfOk result (λ refusal. (names : List (List ℕ)) → observe_answer (record { names = names; doc = replica.old.doc })
-        (process (client_over replica.old.doc) entry.now) ≡ record { made = record { names = names; doc = replica.new.doc }; refusal = refusal }) }
+        (process (client_over replica.old.doc) entry.now) ≡ answers (record { names = names; doc = replica.new.doc }) refusal) }
 {
     match replica.process(entry) {
         Ok(()) => Ok(None),

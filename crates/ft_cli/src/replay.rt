@@ -2,18 +2,19 @@
 
 ghost use Rattle.std.specs.Prelude.{◌≡◌, ℕ, ◌+◌, ◌-◌, ◌<◌, ◌≤◌, ◌^◌, List, IfOk, OnOk, length, string_bytes};
 ghost use Rattle.ft_io.specs.Reader.{handed_out};
-ghost use Rattle.ft_cli.specs.Walk.{after_line, begin, is_blank, line_limit, step_of, written_by_line};
+ghost use Rattle.ft_seqr.specs.Walk.{after_line, answers, begin, is_blank, line_limit, refusal_lines, step_of, written_by_line};
 ghost use Rattle.ft_cli.specs.Observation.{nothing_observed, observe};
 ghost use Rattle.ft_cli.specs.Report.{bytes_of, log_end, log_status};
 ghost use Rattle.ft_cli.specs.Writing.{Writes};
 
 use crate::observer::Observer;
-use crate::refusals::{Refusal, refused_line};
+use crate::refusals::refused_line;
 use crate::report::closing_text;
 use crate::statuses::{Fault, Status};
 use crate::writing::put;
 use ft_base::OutOfMemory;
 use ft_io::{Line, Sink};
+use ft_seqr::Refusal;
 use std::alloc::Global;
 use std::marker::Model;
 
@@ -30,7 +31,7 @@ pub struct Replay {
 
 impl Model for Replay {
     ghost use Rattle.std.specs.Prelude.{◌≤◌, length};
-    ghost use Rattle.ft_cli.specs.Walk.{Progress};
+    ghost use Rattle.ft_seqr.specs.Walk.{Progress};
     ghost use Rattle.ft_cli.specs.Observation.{Observation};
 
     ghost Value = { Progress Observation };
@@ -61,8 +62,8 @@ impl Replay {
         requires { self.old.lines < 2 ^ 32 - 1 }
         ensures after { (text : List ℕ) → line ≡ handed_out line_limit text
             → IfOk result (λ refusal. self.new ≡ after_line observe self.old text) }
-        ensures refusal { (text : List ℕ) → line ≡ handed_out line_limit text
-            → IfOk result (λ refusal. refusal ≡ (step_of observe self.old.made text).refusal) }
+        ensures written { (text : List ℕ) → line ≡ handed_out line_limit text
+            → IfOk result (λ refusal. written_by_line observe self.old text ≡ refusal_lines (self.old.lines + 1) refusal) }
     {
         self.lines += 1;
         let refusal = step(&mut self.observer, &line)?;
@@ -130,7 +131,7 @@ impl Replay {
 fn step(observer: &mut Observer, line: &Line) -> Result<Option<Refusal>, OutOfMemory>
     requires { length observer.old.names < 2 ^ 32 - 1 }
     ensures step { (text : List ℕ) → line.now ≡ handed_out line_limit text
-        → IfOk result (λ refusal. step_of observe observer.old text ≡ record { made = observer.new; refusal = refusal }) }
+        → IfOk result (λ refusal. step_of observe observer.old text ≡ answers observer.new refusal) }
     ensures names { length observer.new.names ≤ length observer.old.names + 1 }
 {
     match line {

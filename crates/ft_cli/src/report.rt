@@ -3,7 +3,8 @@
 ghost use Rattle.std.specs.Prelude.{◌≡◌, IfOk, string_bytes};
 ghost use Rattle.ft_op.specs.Document.{Document};
 ghost use Rattle.ft_plain.specs.Observer.{numbers_of};
-ghost use Rattle.ft_cli.specs.Report.{bytes_of, closing_lines};
+ghost use Rattle.ft_seqr.specs.SessionReport.{closing_lines};
+ghost use Rattle.ft_cli.specs.Report.{bytes_of};
 
 use ft_base::OutOfMemory;
 use ft_msg::Numbers;
@@ -13,7 +14,7 @@ use std::alloc::Global;
 /// messages were for others. Each has its LF.
 ///
 /// Answers `OutOfMemory` where there is no room for them.
-#[tactic(auto, unfolding(crate::specs::Report::closing_lines))]
+#[tactic(auto, unfolding(ft_seqr::specs::SessionReport::closing_lines))]
 pub fn closing_text(alloc: Global, refused: u64, numbers: &Numbers) -> Result<String, OutOfMemory>
     ensures { (doc : Document) → numbers.now ≡ numbers_of doc
         → IfOk result (λ text. string_bytes text ≡ bytes_of (closing_lines refused doc)) }

@@ -4,7 +4,7 @@ ghost use Rattle.std.specs.Prelude.{◌≡◌, ◌∷◌, ◌++◌, [], IfOk, On
 ghost use Rattle.std.specs.List.{flat_map};
 ghost use Rattle.ft_io.specs.Lines.{with_lf};
 ghost use Rattle.ft_cli.specs.Report.{bytes_of};
-ghost use Rattle.ft_cli.specs.ViewLines.{cell_line, content_lines, content_of, interval_line, interval_name, later_members, marker_line, member_text, numbers_line, object_text, run_line, table_lines, text_line};
+ghost use Rattle.ft_seqr.specs.ViewLines.{cell_line, content_lines, content_of, interval_line, interval_name, later_members, marker_line, member_text, numbers_line, object_text, run_line, table_lines, text_line};
 
 use ft_base::{OutOfMemory, Text};
 use ft_json::{ValText, quote};
@@ -17,7 +17,7 @@ use std::alloc::Global;
 /// counts of rows and columns where there are any, and the cells. Each has its LF.
 ///
 /// Answers `OutOfMemory` where there is no room for them.
-#[tactic(auto, unfolding(crate::specs::ViewLines::content_lines))]
+#[tactic(auto, unfolding(ft_seqr::specs::ViewLines::content_lines))]
 pub fn view_text(alloc: Global, view: &View) -> Result<String, OutOfMemory>
     ensures { IfOk result (λ text. string_bytes text ≡ bytes_of (numbers_line view.now.numbers ∷ content_lines (content_of view.now))) }
 {
@@ -155,7 +155,7 @@ fn cell_line(alloc: Global, cell: &CellRec) -> Result<String, OutOfMemory>
 }
 
 // The properties as a JSON object.
-#[tactic(auto, unfolding(crate::specs::ViewLines::object_text))]
+#[tactic(auto, unfolding(ft_seqr::specs::ViewLines::object_text))]
 fn object_text(alloc: Global, props: &Props) -> Result<String, OutOfMemory>
     ensures { IfOk result (λ text. string_bytes text ≡ object_text props.now) }
 {

@@ -22,7 +22,7 @@ renamed-twice f g (Some x) = refl
 told-twice : (f g : ElementId → ElementId) (t : ToldStage) → renamed_told f (renamed_told g t) ≡ renamed_told (λ x. f (g x)) t
 told-twice f g t = rw (renamed-twice f g t.stage.names.first, renamed-twice f g t.stage.names.second) refl
 
-all-twice : (f g : ElementId → ElementId) (ts : List ToldStage) → map (renamed_told f) (map (renamed_told g) ts) ≡ map (renamed_told (λ x. f (g x))) ts
+pub all-twice : (f g : ElementId → ElementId) (ts : List ToldStage) → map (renamed_told f) (map (renamed_told g) ts) ≡ map (renamed_told (λ x. f (g x))) ts
 all-twice f g [] = refl
 all-twice f g (t ∷ ts) = rw (renamed-twice f g t.stage.names.first, renamed-twice f g t.stage.names.second, all-twice f g ts) refl
 
@@ -36,7 +36,7 @@ acked_with s c t doc names = with_slid_ends (record doc {
   cells = cells_after_stage t.sub_operation names doc.cells;
 })
 
-renamed-first : (s c : ℕ) (rename : ElementId → ElementId) (t : Stage) (doc : Document) → ack_stage s c (λ x. x) (renamed_stage rename t) doc ≡ ack_stage s c rename t doc
+pub renamed-first : (s c : ℕ) (rename : ElementId → ElementId) (t : Stage) (doc : Document) → ack_stage s c (λ x. x) (renamed_stage rename t) doc ≡ ack_stage s c rename t doc
 renamed-first s c rename t doc = ap (acked_with s c t doc) (names-not_renamed (renamed_names rename t.names))
 
 -- ---- the stages of an edit

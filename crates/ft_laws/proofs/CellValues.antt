@@ -101,6 +101,25 @@ module _ (row col : ElementId) (cell : Cell) where
       step true = value-filter ks ∙ ap (cond (is_cell row col cell) None) h ∙ sym (value-filter cs)
       step false = value-put ks ∙ ap (cond (is_cell row col cell) (Some cell.value)) h ∙ sym (value-put cs)
 
+  -- where a write leaves no value, and there was none, it leaves none
+  pub write-none : (ks cs : List Cell) → (cell_value row col cs ≡ None → cell_value row col ks ≡ None) → cell_value row col (write_cell cell cs) ≡ None → cell_value row col (write_cell cell ks) ≡ None
+  write-none ks cs h e = value-write ks ∙ step (is_cell row col cell) (sym (value-write cs) ∙ e)
+    where
+      step : (b : Bool) → cond b (value_unless_null cell.value) (cell_value row col cs) ≡ None → cond b (value_unless_null cell.value) (cell_value row col ks) ≡ None
+      step true f = f
+      step false f = h f
+
+-- a value that isn't there isn't among some of the cells
+pub none-filtered : (row col : ElementId) (keep : Cell → Bool) (cells : List Cell) → cell_value row col cells ≡ None → cell_value row col (filter keep cells) ≡ None
+none-filtered row col keep [] h = h
+none-filtered row col keep (c ∷ cells) h = step (is_cell row col c) refl (keep c) h (λ g. none-filtered row col keep cells g)
+  where
+    step : (a : Bool) → is_cell row col c ≡ a → (b : Bool) → option_map (λ (d : Cell). d.value) (cond a (Some c) (find (is_cell row col) cells)) ≡ None → (cell_value row col cells ≡ None → cell_value row col (filter keep cells) ≡ None)
+        → cell_value row col (cond b (c ∷ filter keep cells) (filter keep cells)) ≡ None
+    step true e b g ih = (cc)
+    step false e true g ih = ap (λ b. option_map (λ (d : Cell). d.value) (cond b (Some c) (find (is_cell row col) (filter keep cells)))) e ∙ ih g
+    step false e false g ih = ih g
+
 -- no cell holds null after a write either
 pub write-values : (cell : Cell) (cells : List Cell) → list_all has_value cells ≡ true → list_all has_value (write_cell cell cells) ≡ true
 write-values cell cells h = step (is_null cell.value) refl

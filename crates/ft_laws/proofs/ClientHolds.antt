@@ -311,7 +311,7 @@ same-body op (Elsewhere address) doc s d r h = (cc)
 same-number : (m n : ℕ) → nat_eq m n ≡ true → n ≡ m
 same-number m n h = grind (arith, nat_tests)
 
-sent-facts : (c : ℕ) (gs : List ToldStage) (stages : List Stage) (ref : ℕ) (entry : Entry) (sent : Option SentAs) → SentTold c gs sent → is_sent_as entry (record { stages = stages; ref_seq = ref; sent = sent }) ≡ true → SentFacts c gs ref entry
+pub sent-facts : (c : ℕ) (gs : List ToldStage) (stages : List Stage) (ref : ℕ) (entry : Entry) (sent : Option SentAs) → SentTold c gs sent → is_sent_as entry (record { stages = stages; ref_seq = ref; sent = sent }) ≡ true → SentFacts c gs ref entry
 sent-facts c gs stages ref entry None told h = (cc)
 sent-facts c gs stages ref entry (Some sent) told h =
     let p = all_four (nat_eq sent.conn entry.origin) (same_int (pos sent.client_seq) entry.msg.client_seq) (same_int (pos ref) entry.msg.ref_seq) (is_body sent.op entry.msg.body) h in
@@ -352,7 +352,7 @@ edits-renamed c f (gs ∷ gss) [] h = absurd h
 edits-renamed c f (gs ∷ gss) (edit ∷ edits) h =
     (record { stages = ap (map (renamed_stage f)) h.0.stages ∙ stages-renamed f gs; refs = refs-renamed f edit.ref_seq gs h.0.refs; kind = subst AreOfOneKind (sym (kinds-renamed f gs)) h.0.kind; sent = sent-renamed c f gs edit.sent h.0.sent }, edits-renamed c f gss edits h.1)
 
-told-unrenamed : (ts : List ToldStage) → map (renamed_told (λ x. x)) ts ≡ ts
+pub told-unrenamed : (ts : List ToldStage) → map (renamed_told (λ x. x)) ts ≡ ts
 told-unrenamed [] = refl
 told-unrenamed (t ∷ ts) =
     ap (λ names. record t { stage = record t.stage { names = names } } ∷ map (renamed_told (λ x. x)) ts) (names-not_renamed t.stage.names) ∙ ap (λ us. t ∷ us) (told-unrenamed ts)

@@ -21,7 +21,7 @@ use Rattle.ft_props.specs.Steps.{Sequence, sequenced_list}
 use Rattle.ft_props.specs.Slide.{end_number}
 use Rattle.ft_sumdoc.specs.declared.summary.IntervalRec.{IntervalRec}
 use Rattle.ft_op.specs.Intervals.{Interval}
-use Rattle.ft_msg.specs.Content.{ViewContent, all_cells, content, interval_record, markers_from, property_runs_from, shown, text_characters}
+use Rattle.ft_msg.specs.Content.{ViewContent, all_cells, content, interval_record, markers_from, property_runs_from, shown, stage_view, text_characters}
 use Rattle.ft_op.specs.Document.{Document, empty, sequenced_part}
 use Rattle.ft_msg.specs.Agreed.{agreed, body_effect, reference_number, take_entries, take_entry, with_numbers}
 use Rattle.ft_msg.specs.Client.{NaiveClient, PendingEdit, client_over, local_edit, connect, drop_link, noop, stages_of}
@@ -30,7 +30,7 @@ use Rattle.ft_msg.specs.Process.{after_entry, after_foreign_message, come_online
 use Rattle.ft_msg.specs.Acknowledgement.{after_own_message}
 use Rattle.ft_msg.specs.Reconnection.{rebuilt_document}
 use Rattle.ft_laws.proofs.Booleans.{hidden}
-use Rattle.ft_laws.specs.ClientSteps.{ClientStep, Edits, Connects, Drops, Idles, Sends, Restarts, Takes, after_step, after_steps, has_fitting_body, is_none_pending, is_without_edits, taken_entries, unless_refused}
+use Rattle.ft_msg.specs.ClientSteps.{ClientStep, Edits, Connects, Drops, Idles, Sends, Restarts, Takes, after_step, after_steps, has_fitting_body, is_none_pending, is_without_edits, taken_entries, unless_refused}
 use Rattle.ft_laws.proofs.WithinStages.{is_among, is_numbered, is_within, mark_within, stamp_within}
 use Rattle.ft_laws.proofs.ToldStages.{Holds, ToldStage, stage_numbers}
 use Rattle.ft_laws.proofs.DocumentAgain.{holds-again}
@@ -135,7 +135,7 @@ no-numbers-fault : (x : NaiveClient) (entry : Entry) (o : Option ProcessFault) �
 no-numbers-fault x entry None h = h
 no-numbers-fault x entry (Some fault) h = (cc)
 
-accepted : (x : NaiveClient) (entry : Entry) → process_fault x entry ≡ None → Accepted x entry
+pub accepted : (x : NaiveClient) (entry : Entry) → process_fault x entry ≡ None → Accepted x entry
 accepted x entry h =
     let f = fault-first (nat_eq entry.msg.seq (x.doc.number + 1)) (OutOfOrder (x.doc.number + 1) entry.msg.seq) (sent_fault x entry (numbers_fault x entry)) h in
     record {
@@ -169,7 +169,7 @@ fitting-empty : (a b : Bool) → cond a b (not b) ≡ true → a ≡ false → b
 fitting-empty true b h g = (cc)
 fitting-empty false b h g = hidden b h
 
-op-kind : (a : Bool) (body : Body) → cond a (has_body body) (not (has_body body)) ≡ true → is_op body ≡ true → a ≡ true
+pub op-kind : (a : Bool) (body : Body) → cond a (has_body body) (not (has_body body)) ≡ true → is_op body ≡ true → a ≡ true
 op-kind true body h g = refl
 op-kind false Nothing h g = (cc)
 op-kind false (Op op) h g = (cc)
@@ -413,3 +413,16 @@ pub idle-clients-show : (steps : List ClientStep) (y : NaiveClient) → after_st
 idle-clients-show steps y h fits none =
     let s = all-stepped steps y h fits in
     shows-idle (bound_of (taken_entries steps)) s.c s.gss y y.pending s.client none ∙ ap shown (idle-clients-agree steps y h fits none)
+
+views-idle : (bound c k : ℕ) (gss : List (List ToldStage)) (x : NaiveClient) (edits : List PendingEdit) → ClientHolds bound c gss (record x { pending = edits }) → is_none_pending edits ≡ true
+    → stage_view k x.doc.text.items ≡ stage_view 0 x.doc.text.items
+views-idle bound c k [] x [] h none = filter-agree (is_within x.doc.number []) (seen k) (seen 0) (seen-bare x.doc.number k) x.doc.text.items h.doc.text
+views-idle bound c k (gs ∷ gss) x [] h none = absurd h.edits
+views-idle bound c k gss x (edit ∷ edits) h none = (cc)
+
+-- and sees the elements of the text that this document has, at each stage
+pub idle-views : (steps : List ClientStep) (y : NaiveClient) (k : ℕ) → after_steps (Some (client_over empty)) steps ≡ Some y → list_all has_fitting_body (taken_entries steps) ≡ true
+    → is_without_edits y ≡ true → stage_view k y.doc.text.items ≡ stage_view 0 (agreed (taken_entries steps)).text.items
+idle-views steps y k h fits none =
+    let s = all-stepped steps y h fits in
+    views-idle (bound_of (taken_entries steps)) s.c k s.gss y y.pending s.client none ∙ ap (λ (d : Document). stage_view 0 d.text.items) (idle-clients-agree steps y h fits none)

@@ -34,7 +34,7 @@ id-universal floor e f = named e.ins f
 at_least_zero : (n : ℕ) → nat_le 0 n ≡ true
 at_least_zero n = grind (arith, nat_tests)
 
-trim-universal : (floor : ℕ) (e : ListElement) → is_insertion_at_or_below floor e.ins ≡ true → trim_element floor (with_universal_insertion e) ≡ trim_element floor e
+pub trim-universal : (floor : ℕ) (e : ListElement) → is_insertion_at_or_below floor e.ins ≡ true → trim_element floor (with_universal_insertion e) ≡ trim_element floor e
 trim-universal floor e f = rw (at_least_zero floor, f) refl
 
 module _ {floor : ℕ} {held : ElementId → Bool} where
@@ -193,7 +193,7 @@ pub record Marking (floor : ℕ) (f : ListElement → ListElement) : Type 0 wher
   pub gone : (e : ListElement) → is_collectable floor e ≡ true → is_collectable floor (f e) ≡ true
   pub old : (e : ListElement) → f (with_universal_insertion e) ≡ with_universal_insertion (f e)
 
-removal-more : (floor : ℕ) (dels more : List Stamp) → has_collectable_removal floor dels ≡ true → has_collectable_removal floor (dels ++ more) ≡ true
+pub removal-more : (floor : ℕ) (dels more : List Stamp) → has_collectable_removal floor dels ≡ true → has_collectable_removal floor (dels ++ more) ≡ true
 removal-more floor [] more h = (cc)
 removal-more floor (Acked s c ∷ dels) more h = h
 removal-more floor (Local k ∷ dels) more h = (cc)

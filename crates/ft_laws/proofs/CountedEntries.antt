@@ -23,7 +23,7 @@ use Rattle.ft_op.specs.Stages.{Stage, shown_intervals}
 use Rattle.ft_msg.specs.Client.{EditResult, NaiveClient, PendingEdit, after_edit, client_over, connect, drop_link, id_fault, if_in_range, local_edit, local_grid, local_interval, local_set, local_sub_operation, local_sub_operations, local_text, noop, sent_as, stages_of, unless_fault}
 use Rattle.ft_msg.specs.Acknowledgement.{after_own_message}
 use Rattle.ft_msg.specs.Process.{after_entry, after_foreign_message, come_online, is_op, is_own, is_own_join, process, process_fault}
-use Rattle.ft_laws.specs.ClientSteps.{ClientStep, Edits, Connects, Drops, Idles, Sends, Restarts, Takes, after_step, after_steps, is_without_edits, taken_entries}
+use Rattle.ft_msg.specs.ClientSteps.{ClientStep, Edits, Connects, Drops, Idles, Sends, Restarts, Takes, after_step, after_steps, is_without_edits, taken_entries}
 use Rattle.ft_laws.proofs.ClientHolds.{draft-doc}
 use Rattle.ft_laws.proofs.ClientsAgree.{refused-ok}
 use Rattle.ft_laws.proofs.OwnSubOperations.{ok-choice}
@@ -73,7 +73,7 @@ one-number doc stages k (OnText op) taken h = text-number doc k op taken h
 one-number doc stages k (OnIntervals op) taken h = interval-number doc stages k op taken h
 one-number doc stages k (OnGrid op) taken h = grid-number doc k op taken h
 
-abbrev with_first : Stage → Result (Document × List Stage) EditFault → Result (Document × List Stage) EditFault
+abbrev pub with_first : Stage → Result (Document × List Stage) EditFault → Result (Document × List Stage) EditFault
 with_first here (Err fault) = Err fault
 with_first here (Ok rest) = Ok (rest.0, here ∷ rest.1)
 
@@ -83,7 +83,7 @@ rest-number n here (Ok rest) taken f h =
     let same : (rest.0, here ∷ rest.1) ≡ taken = (cc) in
     ap (λ (z : Document × List Stage). z.0.number) (sym same) ∙ f rest refl
 
-abbrev after_first : List Stage → ℕ → SubOperation → List SubOperation → EditResult → Result (Document × List Stage) EditFault
+abbrev pub after_first : List Stage → ℕ → SubOperation → List SubOperation → EditResult → Result (Document × List Stage) EditFault
 after_first stages k o os (Err fault) = Err fault
 after_first stages k o os (Ok taken) =
     with_first (record { stage = k; sub_operation = o; names = taken.1 }) (local_sub_operations taken.0 (stages ++ (record { stage = k; sub_operation = o; names = taken.1 } ∷ [])) (k + 1) os)
@@ -104,7 +104,7 @@ all-number (o ∷ os) doc stages k taken h =
         rest-number doc.number here (local_sub_operations one.0 (stages ++ (here ∷ [])) (k + 1) os) taken
         (λ rest f. ih one.0 (stages ++ (here ∷ [])) rest f ∙ one-number doc stages k o one e) g
 
-abbrev edited : NaiveClient → ChannelOp → Result (Document × List Stage) EditFault → Result NaiveClient EditFault
+abbrev pub edited : NaiveClient → ChannelOp → Result (Document × List Stage) EditFault → Result NaiveClient EditFault
 edited x op (Err fault) = Err fault
 edited x op (Ok taken) = Ok (after_edit op taken.0 taken.1 x)
 

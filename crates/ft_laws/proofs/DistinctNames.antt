@@ -26,7 +26,7 @@ other-sequenced : (m i : ℕ) (t : Stamp) → is_acked t ≡ false → same_id (
 other-sequenced m i (Acked s c) h = (cc)
 other-sequenced m i (Local j) h = refl
 
-count-sequenced : (m : ℕ) (xs : List ListElement) → len (has_id (SequencedId m)) (sequenced_elements xs) ≡ len (has_id (SequencedId m)) xs
+pub count-sequenced : (m : ℕ) (xs : List ListElement) → len (has_id (SequencedId m)) (sequenced_elements xs) ≡ len (has_id (SequencedId m)) xs
 count-sequenced m [] = refl
 count-sequenced m (e ∷ xs) = grind (arith, count-sequenced m xs, other-sequenced m e.nth e.ins)
 

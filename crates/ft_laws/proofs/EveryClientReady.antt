@@ -18,7 +18,7 @@ use Rattle.ft_msg.specs.Applied.{applied}
 use Rattle.ft_msg.specs.Client.{NaiveClient, PendingEdit, client_over, stages_of}
 use Rattle.ft_msg.specs.Content.{content}
 use Rattle.ft_msg.specs.Process.{come_online}
-use Rattle.ft_laws.specs.ClientSteps.{ClientStep, after_steps, has_fitting_body, taken_entries}
+use Rattle.ft_msg.specs.ClientSteps.{ClientStep, after_steps, has_fitting_body, taken_entries}
 use Rattle.ft_laws.specs.Reconnecting.{StagesRiseTo, inserts_text, removes_text, writes_known_units}
 use Rattle.ft_laws.proofs.SentStages.{SentStage, StageStands, cols_edit, rows_edit, text_edit}
 use Rattle.ft_laws.proofs.StageEdits.{IsStanding, StageEdit}

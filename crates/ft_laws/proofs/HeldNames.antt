@@ -55,7 +55,7 @@ module _ {A : Type 0} (is : A → Bool) where
       chosen true a = k x a
       chosen false a = a
 
-or_first : (a b c : Bool) → (a ≡ true → c ≡ true) → a || b ≡ true → c || b ≡ true
+pub or_first : (a b c : Bool) → (a ≡ true → c ≡ true) → a || b ≡ true → c || b ≡ true
 or_first true b c f h = ap (λ d. d || b) (f refl)
 or_first false b c f h = or_right c b h
 
@@ -82,7 +82,7 @@ module _ (gone : ListElement → Bool) (held : ElementId → Bool) where
   }
 
   -- a test that passes no element that is gone finds held names
-  found-held : (test : ListElement → Bool) → ((e : ListElement) → gone e ≡ true → test e ≡ false) → (e : ListElement) → keeps_name gone held e ≡ true → test e ≡ true → held (id e) ≡ true
+  pub found-held : (test : ListElement → Bool) → ((e : ListElement) → gone e ≡ true → test e ≡ false) → (e : ListElement) → keeps_name gone held e ≡ true → test e ≡ true → held (id e) ≡ true
   found-held test h e k t = step (gone e) refl k
     where
       step : (b : Bool) → gone e ≡ b → b || held (id e) ≡ true → held (id e) ≡ true

@@ -104,7 +104,7 @@ pub filtered-same : (k : ℕ) (pending : List (ℕ × Changes)) → list_any (λ
 filtered-same k [] = refl
 filtered-same k (p ∷ pending) = grind (arith, nat_tests, filtered-same k pending)
 
-unmarked-below : (k : ℕ) (xs : List ListElement) → list_all (is_unmarked_by (suc k)) (list_up_to k xs) ≡ true
+pub unmarked-below : (k : ℕ) (xs : List ListElement) → list_all (is_unmarked_by (suc k)) (list_up_to k xs) ≡ true
 unmarked-below k [] = refl
 unmarked-below k (e ∷ xs) = grind (arith, unmarked-below k xs, mark e.removal_stage)
   where
@@ -112,7 +112,7 @@ unmarked-below k (e ∷ xs) = grind (arith, unmarked-below k xs, mark e.removal_
     mark None = refl
     mark (Some j) = grind (arith, nat_tests)
 
-unchanged-below : (k : ℕ) (xs : List ListElement) → list_all (is_unchanged_by (suc k)) (list_up_to k xs) ≡ true
+pub unchanged-below : (k : ℕ) (xs : List ListElement) → list_all (is_unchanged_by (suc k)) (list_up_to k xs) ≡ true
 unchanged-below k [] = refl
 unchanged-below k (e ∷ xs) = grind (arith, unchanged-below k xs, changes e.pending)
   where

@@ -7,7 +7,7 @@ use Rattle.ft_msg.specs.Agreed.{agreed, with_numbers}
 use Rattle.ft_msg.specs.Client.{NaiveClient, client_over, stages_of}
 use Rattle.ft_msg.specs.Process.{come_online}
 use Rattle.ft_msg.specs.Reconnection.{rebuilt_document}
-use Rattle.ft_laws.specs.ClientSteps.{ClientStep, after_steps, has_fitting_body, taken_entries}
+use Rattle.ft_msg.specs.ClientSteps.{ClientStep, after_steps, has_fitting_body, taken_entries}
 use Rattle.ft_laws.proofs.ToldStages.{ToldStage}
 use Rattle.ft_laws.proofs.ClientHolds.{ClientHolds, flat, holds-counted}
 use Rattle.ft_laws.proofs.ClientsAgree.{all-stepped}

@@ -31,51 +31,51 @@ use Rattle.ft_laws.proofs.AnyAndAll.{any-append}
 
 module _ (floor : ℕ) where
   -- an element but for its insertion is as the trimmed one
-  on_trimmed : {B : Type 0} (f : ListElement → B) (e : ListElement) → (is_insertion_at_or_below floor e.ins ≡ true → f (with_universal_insertion e) ≡ f e) → f (trim_element floor e) ≡ f e
+  pub on_trimmed : {B : Type 0} (f : ListElement → B) (e : ListElement) → (is_insertion_at_or_below floor e.ins ≡ true → f (with_universal_insertion e) ≡ f e) → f (trim_element floor e) ≡ f e
   on_trimmed f e h = step (is_insertion_at_or_below floor e.ins) h
     where
       step : (b : Bool) → (b ≡ true → f (with_universal_insertion e) ≡ f e) → f (cond b (with_universal_insertion e) e) ≡ f e
       step true h = h refl
       step false h = refl
 
-  trimmed-characters : (xs : List ListElement) → text_characters (map (trim_element floor) xs) ≡ text_characters xs
+  pub trimmed-characters : (xs : List ListElement) → text_characters (map (trim_element floor) xs) ≡ text_characters xs
   trimmed-characters [] = refl
   trimmed-characters (e ∷ xs) =
       ap (λ c. content_characters c ++ text_characters (map (trim_element floor) xs)) (on_trimmed (λ d. d.content) e (λ h. refl)) ∙ ap (λ cs. content_characters e.content ++ cs) (trimmed-characters xs)
 
-  trimmed-markers : (i : ℕ) (xs : List ListElement) → markers_from i (map (trim_element floor) xs) ≡ markers_from i xs
+  pub trimmed-markers : (i : ℕ) (xs : List ListElement) → markers_from i (map (trim_element floor) xs) ≡ markers_from i xs
   trimmed-markers i [] = refl
   trimmed-markers i (e ∷ xs) =
       ap (λ c. content_markers i c ++ markers_from (i + 1) (map (trim_element floor) xs)) (on_trimmed (λ d. d.content) e (λ h. refl)) ∙ ap (λ cs. content_markers i e.content ++ cs) (trimmed-markers (i + 1) xs)
 
-  trimmed-runs : (i : ℕ) (xs : List ListElement) → property_runs_from i (map (trim_element floor) xs) ≡ property_runs_from i xs
+  pub trimmed-runs : (i : ℕ) (xs : List ListElement) → property_runs_from i (map (trim_element floor) xs) ≡ property_runs_from i xs
   trimmed-runs i [] = refl
   trimmed-runs i (e ∷ xs) =
       ap (λ p. extended_property_runs i p (property_runs_from (i + 1) (map (trim_element floor) xs))) (on_trimmed (λ d. shown_props d.props d.pending) e (λ h. refl))
       ∙ ap (extended_property_runs i (shown_props e.props e.pending)) (trimmed-runs (i + 1) xs)
 
-  trimmed-length : (xs : List ListElement) → length (map (trim_element floor) xs) ≡ length xs
+  pub trimmed-length : (xs : List ListElement) → length (map (trim_element floor) xs) ≡ length xs
   trimmed-length [] = refl
   trimmed-length (e ∷ xs) = ap suc (trimmed-length xs)
 
-  trimmed-row_cells : (cells : List Cell) (i : ℕ) (row : ElementId) (j : ℕ) (cols : List ListElement) → row_cells cells [] i row j (map (trim_element floor) cols) ≡ row_cells cells [] i row j cols
-  trimmed-row_cells cells i row j [] = refl
-  trimmed-row_cells cells i row j (e ∷ cols) =
-      ap (λ x. cell_record i j (cell_value row x cells) ++ row_cells cells [] i row (j + 1) (map (trim_element floor) cols)) (on_trimmed id e (id-universal floor e))
-      ∙ ap (λ cs. cell_record i j (cell_value row (id e) cells) ++ cs) (trimmed-row_cells cells i row (j + 1) cols)
+  trimmed-row_cells : (cells : List Cell) (stages : List Stage) (i : ℕ) (row : ElementId) (j : ℕ) (cols : List ListElement) → row_cells cells stages i row j (map (trim_element floor) cols) ≡ row_cells cells stages i row j cols
+  trimmed-row_cells cells stages i row j [] = refl
+  trimmed-row_cells cells stages i row j (e ∷ cols) =
+      ap (λ x. cell_record i j (shown_cell_value row x (cell_value row x cells) stages) ++ row_cells cells stages i row (j + 1) (map (trim_element floor) cols)) (on_trimmed id e (id-universal floor e))
+      ∙ ap (λ cs. cell_record i j (shown_cell_value row (id e) (cell_value row (id e) cells) stages) ++ cs) (trimmed-row_cells cells stages i row (j + 1) cols)
 
-  trimmed-cols : (cells : List Cell) (cols : List ListElement) (i : ℕ) (rows : List ListElement) → all_cells cells [] (map (trim_element floor) cols) i rows ≡ all_cells cells [] cols i rows
-  trimmed-cols cells cols i [] = refl
-  trimmed-cols cells cols i (e ∷ rows) = rw (trimmed-row_cells cells i (id e) 0 cols, trimmed-cols cells cols (i + 1) rows) refl
+  pub trimmed-cols : (cells : List Cell) (stages : List Stage) (cols : List ListElement) (i : ℕ) (rows : List ListElement) → all_cells cells stages (map (trim_element floor) cols) i rows ≡ all_cells cells stages cols i rows
+  trimmed-cols cells stages cols i [] = refl
+  trimmed-cols cells stages cols i (e ∷ rows) = rw (trimmed-row_cells cells stages i (id e) 0 cols, trimmed-cols cells stages cols (i + 1) rows) refl
 
-  trimmed-rows : (cells : List Cell) (cols : List ListElement) (i : ℕ) (rows : List ListElement) → all_cells cells [] cols i (map (trim_element floor) rows) ≡ all_cells cells [] cols i rows
-  trimmed-rows cells cols i [] = refl
-  trimmed-rows cells cols i (e ∷ rows) =
-      ap (λ x. row_cells cells [] i x 0 cols ++ all_cells cells [] cols (i + 1) (map (trim_element floor) rows)) (on_trimmed id e (id-universal floor e))
-      ∙ ap (λ cs. row_cells cells [] i (id e) 0 cols ++ cs) (trimmed-rows cells cols (i + 1) rows)
+  pub trimmed-rows : (cells : List Cell) (stages : List Stage) (cols : List ListElement) (i : ℕ) (rows : List ListElement) → all_cells cells stages cols i (map (trim_element floor) rows) ≡ all_cells cells stages cols i rows
+  trimmed-rows cells stages cols i [] = refl
+  trimmed-rows cells stages cols i (e ∷ rows) =
+      ap (λ x. row_cells cells stages i x 0 cols ++ all_cells cells stages cols (i + 1) (map (trim_element floor) rows)) (on_trimmed id e (id-universal floor e))
+      ∙ ap (λ cs. row_cells cells stages i (id e) 0 cols ++ cs) (trimmed-rows cells stages cols (i + 1) rows)
 
 -- what doesn't see how old insertions are written is the same of what a compacted list shows
-on_view : {B : Type 0} (floor : ℕ) (held : ElementId → Bool) (f : List ListElement → B) → ((xs : List ListElement) → f (map (trim_element floor) xs) ≡ f xs) → (k : ℕ) (ks xs : List ListElement) → Keeps floor held ks xs
+pub on_view : {B : Type 0} (floor : ℕ) (held : ElementId → Bool) (f : List ListElement → B) → ((xs : List ListElement) → f (map (trim_element floor) xs) ≡ f xs) → (k : ℕ) (ks xs : List ListElement) → Keeps floor held ks xs
     → f (filter (seen k) ks) ≡ f (filter (seen k) xs)
 on_view floor held f h k ks xs kept = sym (h (filter (seen k) ks)) ∙ ap f (filter-kept (seen k) (seen-alike floor k held) kept) ∙ h (filter (seen k) xs)
 
@@ -105,11 +105,11 @@ module _ (ks cs : List Cell) (old new : List Stage) (held : ElementId → Bool) 
 -- ---- ends
 
 module _ {floor : ℕ} {held : ElementId → Bool} {ks xs : List ListElement} (kept : Keeps floor held ks xs) where
-  end_number-kept : (k : ℕ) (x : Option ElementId) → is_held_end held x ≡ true → end_number k ks x ≡ end_number k xs x
+  pub end_number-kept : (k : ℕ) (x : Option ElementId) → is_held_end held x ≡ true → end_number k ks x ≡ end_number k xs x
   end_number-kept k None h = refl
   end_number-kept k (Some x) h = ap pos (rank-kept (has_id x) (seen k) (has_id-alike floor held x h) (seen-alike floor k held) kept)
 
-  records-kept : (k : ℕ) (is : List Interval) → list_all (has_held_ends held) is ≡ true → map (interval_record k ks) is ≡ map (interval_record k xs) is
+  pub records-kept : (k : ℕ) (is : List Interval) → list_all (has_held_ends held) is ≡ true → map (interval_record k ks) is ≡ map (interval_record k xs) is
   records-kept k [] h = refl
   records-kept k (i ∷ is) h =
       let p = both (has_held_ends held i) (list_all (has_held_ends held) is) h in
@@ -130,8 +130,8 @@ removed-unseen k e h = rw (any-append (has_occurred_at_stage k) e.dels (removal_
 pub shown-trimmed : (floor : ℕ) (held : HeldNames) (kept doc : Document) → Trimmed floor held kept doc → shown kept ≡ shown doc
 shown-trimmed floor held kept doc t =
     let cells : all_cells kept.cells [] (filter (seen 0) kept.cols.items) 0 (filter (seen 0) kept.rows.items) ≡ all_cells doc.cells [] (filter (seen 0) doc.cols.items) 0 (filter (seen 0) doc.rows.items) =
-    on_view floor held.cols (λ cols. all_cells kept.cells [] cols 0 (filter (seen 0) kept.rows.items)) (λ cols. trimmed-cols floor kept.cells cols 0 (filter (seen 0) kept.rows.items)) 0 kept.cols.items doc.cols.items t.cols.items
-    ∙ on_view floor held.rows (all_cells kept.cells [] (filter (seen 0) doc.cols.items) 0) (trimmed-rows floor kept.cells (filter (seen 0) doc.cols.items) 0) 0 kept.rows.items doc.rows.items t.rows.items
+    on_view floor held.cols (λ cols. all_cells kept.cells [] cols 0 (filter (seen 0) kept.rows.items)) (λ cols. trimmed-cols floor kept.cells [] cols 0 (filter (seen 0) kept.rows.items)) 0 kept.cols.items doc.cols.items t.cols.items
+    ∙ on_view floor held.rows (all_cells kept.cells [] (filter (seen 0) doc.cols.items) 0) (trimmed-rows floor kept.cells [] (filter (seen 0) doc.cols.items) 0) 0 kept.rows.items doc.rows.items t.rows.items
     ∙ agreed-rows kept.cells doc.cells [] [] held.cols held.rows t.cells
     (filter (seen 0) doc.cols.items) (filter-held is_removed held.cols (seen 0) (removed-unseen 0) doc.cols.items t.col_names.all)
     0 (filter (seen 0) doc.rows.items) (filter-held is_removed held.rows (seen 0) (removed-unseen 0) doc.rows.items t.row_names.all) in
@@ -150,7 +150,7 @@ shown-trimmed floor held kept doc t =
 -- ---- messages
 
 module _ {floor : ℕ} {held : HeldNames} where
-  body_effect-trimmed : (s c r : ℕ) (body : Body) (kept doc : Document) → (is_op body ≡ true → floor ≤ r) → Trimmed floor held kept doc → Trimmed floor held (body_effect kept s c r body) (body_effect doc s c r body)
+  pub body_effect-trimmed : (s c r : ℕ) (body : Body) (kept doc : Document) → (is_op body ≡ true → floor ≤ r) → Trimmed floor held kept doc → Trimmed floor held (body_effect kept s c r body) (body_effect doc s c r body)
   body_effect-trimmed s c r Nothing kept doc h t = t
   body_effect-trimmed s c r (Op op) kept doc h t = effects-trimmed s c r (h refl) kept doc (sub_operations op) t
   body_effect-trimmed s c r (Elsewhere address) kept doc h t = record {
@@ -162,10 +162,11 @@ module _ {floor : ℕ} {held : HeldNames} where
     col_names = t.col_names;
     ends = t.ends;
     cells = t.cells;
+    unwritten = t.unwritten;
     rest = ap (λ (d : Document). record d { other = d.other + 1 }) t.rest;
   }
 
-  with_numbers-trimmed : (entry : Entry) (kept doc : Document) → Trimmed floor held kept doc → Trimmed floor held (with_numbers entry kept) (with_numbers entry doc)
+  pub with_numbers-trimmed : (entry : Entry) (kept doc : Document) → Trimmed floor held kept doc → Trimmed floor held (with_numbers entry kept) (with_numbers entry doc)
   with_numbers-trimmed entry kept doc t = record {
     text = t.text;
     rows = t.rows;
@@ -175,6 +176,7 @@ module _ {floor : ℕ} {held : HeldNames} where
     col_names = t.col_names;
     ends = t.ends;
     cells = t.cells;
+    unwritten = t.unwritten;
     rest = ap (with_numbers entry) t.rest;
   }
 

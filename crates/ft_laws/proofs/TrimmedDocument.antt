@@ -29,7 +29,7 @@ use Rattle.ft_op.specs.Cells.{Cell, cell_value, write_cell}
 use Rattle.ft_op.specs.Document.{Document, with_skip, with_slid_ends, text_effect, interval_effect, grid_effect, cell_effect, effect, effects, ends_of, given_ends_fit, elements_at_given_ends}
 use Rattle.ft_laws.proofs.CompactedScans.{Marking, is_held_end, len-kept, at-kept, range-kept, seen_by-alike, slide-kept, unremoved-alike, with_removal-marking, with_annotation-marking}
 use Rattle.ft_laws.proofs.HeldNames.{HoldsNames, keeps_name, insertion-names, range-names, at-held, settled-held}
-use Rattle.ft_laws.proofs.CellValues.{write-agrees}
+use Rattle.ft_laws.proofs.CellValues.{write-agrees, write-none}
 
 -- the names that stay: of the text, of the rows, of the columns
 pub record HeldNames : Type 0 where
@@ -64,6 +64,7 @@ pub record Trimmed (floor : ℕ) (held : HeldNames) (kept doc : Document) : Type
   pub col_names : HoldsNames is_removed held.cols doc.cols
   pub ends : list_all (has_held_ends held.text) doc.intervals ≡ true
   pub cells : (row col : ElementId) → held.rows row ≡ true → held.cols col ≡ true → cell_value row col kept.cells ≡ cell_value row col doc.cells
+  pub unwritten : (row col : ElementId) → cell_value row col doc.cells ≡ None → cell_value row col kept.cells ≡ None
   pub rest : without_lists kept ≡ without_lists doc
 
 -- ---- one list
@@ -90,7 +91,7 @@ module _ {floor : ℕ} {held : ElementId → Bool} {kept list : Sequence} (s c r
   at-list : (i : ℕ) → option_map id (at (seen_by r c) i kept.items) ≡ option_map id (at (seen_by r c) i list.items)
   at-list i = at-kept (seen_by r c) (seen_by-alike floor r c held above) i k.items
 
-removed-more : (s c : ℕ) (e : ListElement) → is_removed e ≡ true → is_removed (with_removal s c e) ≡ true
+pub removed-more : (s c : ℕ) (e : ListElement) → is_removed e ≡ true → is_removed (with_removal s c e) ≡ true
 removed-more s c e h = more e.dels h
   where
     more : (dels : List Stamp) → list_any is_acked dels ≡ true → list_any is_acked (dels ++ (Acked s c ∷ [])) ≡ true
@@ -164,19 +165,19 @@ module _ (held : ElementId → Bool) where
 -- ---- the parts of the document
 
 module _ {floor : ℕ} {held : HeldNames} {kept doc : Document} (t : Trimmed floor held kept doc) where
-  text-step : (ks xs : Sequence) → KeepsList floor held.text ks xs → HoldsNames (is_collectable floor) held.text xs → Trimmed floor held (record kept { text = ks }) (record doc { text = xs })
-  text-step ks xs k n = record { text = k; rows = t.rows; cols = t.cols; text_names = n; row_names = t.row_names; col_names = t.col_names; ends = t.ends; cells = t.cells; rest = t.rest }
+  pub text-step : (ks xs : Sequence) → KeepsList floor held.text ks xs → HoldsNames (is_collectable floor) held.text xs → Trimmed floor held (record kept { text = ks }) (record doc { text = xs })
+  text-step ks xs k n = record { text = k; rows = t.rows; cols = t.cols; text_names = n; row_names = t.row_names; col_names = t.col_names; ends = t.ends; cells = t.cells; unwritten = t.unwritten; rest = t.rest }
 
-  rows-step : (ks xs : Sequence) → KeepsList floor held.rows ks xs → HoldsNames is_removed held.rows xs → Trimmed floor held (record kept { rows = ks }) (record doc { rows = xs })
-  rows-step ks xs k n = record { text = t.text; rows = k; cols = t.cols; text_names = t.text_names; row_names = n; col_names = t.col_names; ends = t.ends; cells = t.cells; rest = t.rest }
+  pub rows-step : (ks xs : Sequence) → KeepsList floor held.rows ks xs → HoldsNames is_removed held.rows xs → Trimmed floor held (record kept { rows = ks }) (record doc { rows = xs })
+  rows-step ks xs k n = record { text = t.text; rows = k; cols = t.cols; text_names = t.text_names; row_names = n; col_names = t.col_names; ends = t.ends; cells = t.cells; unwritten = t.unwritten; rest = t.rest }
 
-  cols-step : (ks xs : Sequence) → KeepsList floor held.cols ks xs → HoldsNames is_removed held.cols xs → Trimmed floor held (record kept { cols = ks }) (record doc { cols = xs })
-  cols-step ks xs k n = record { text = t.text; rows = t.rows; cols = k; text_names = t.text_names; row_names = t.row_names; col_names = n; ends = t.ends; cells = t.cells; rest = t.rest }
+  pub cols-step : (ks xs : Sequence) → KeepsList floor held.cols ks xs → HoldsNames is_removed held.cols xs → Trimmed floor held (record kept { cols = ks }) (record doc { cols = xs })
+  cols-step ks xs k n = record { text = t.text; rows = t.rows; cols = k; text_names = t.text_names; row_names = t.row_names; col_names = n; ends = t.ends; cells = t.cells; unwritten = t.unwritten; rest = t.rest }
 
-  cells-step : (ks cs : List Cell) → ((row col : ElementId) → held.rows row ≡ true → held.cols col ≡ true → cell_value row col ks ≡ cell_value row col cs) → Trimmed floor held (record kept { cells = ks }) (record doc { cells = cs })
-  cells-step ks cs h = record { text = t.text; rows = t.rows; cols = t.cols; text_names = t.text_names; row_names = t.row_names; col_names = t.col_names; ends = t.ends; cells = h; rest = t.rest }
+  pub cells-step : (ks cs : List Cell) → ((row col : ElementId) → held.rows row ≡ true → held.cols col ≡ true → cell_value row col ks ≡ cell_value row col cs) → ((row col : ElementId) → cell_value row col cs ≡ None → cell_value row col ks ≡ None) → Trimmed floor held (record kept { cells = ks }) (record doc { cells = cs })
+  cells-step ks cs h f = record { text = t.text; rows = t.rows; cols = t.cols; text_names = t.text_names; row_names = t.row_names; col_names = t.col_names; ends = t.ends; cells = h; unwritten = f; rest = t.rest }
 
-  intervals-step : (is js : List Interval) → is ≡ js → list_all (has_held_ends held.text) js ≡ true → Trimmed floor held (record kept { intervals = is }) (record doc { intervals = js })
+  pub intervals-step : (is js : List Interval) → is ≡ js → list_all (has_held_ends held.text) js ≡ true → Trimmed floor held (record kept { intervals = is }) (record doc { intervals = js })
   intervals-step is js e h = record {
     text = t.text;
     rows = t.rows;
@@ -186,20 +187,21 @@ module _ {floor : ℕ} {held : HeldNames} {kept doc : Document} (t : Trimmed flo
     col_names = t.col_names;
     ends = h;
     cells = t.cells;
+    unwritten = t.unwritten;
     rest = ap (λ (d : Document). record d { intervals = is }) t.rest ∙ ap (λ l. record (without_lists doc) { intervals = l }) e;
   }
 
   pub same-intervals : kept.intervals ≡ doc.intervals
   same-intervals = ap (λ (d : Document). d.intervals) t.rest
 
-  slid-step : Trimmed floor held (with_slid_ends kept) (with_slid_ends doc)
+  pub slid-step : Trimmed floor held (with_slid_ends kept) (with_slid_ends doc)
   slid-step =
       intervals-step (slide_ends kept.text.items kept.intervals) (slide_ends doc.text.items doc.intervals)
       (ap (slide_ends kept.text.items) same-intervals ∙ slide_ends-kept held.text t.text.items t.text_names.all doc.intervals t.ends)
       (slide_ends-held held.text t.text.items t.text_names.all doc.intervals)
 
   skip-step : Trimmed floor held (with_skip kept) (with_skip doc)
-  skip-step = record { text = t.text; rows = t.rows; cols = t.cols; text_names = t.text_names; row_names = t.row_names; col_names = t.col_names; ends = t.ends; cells = t.cells; rest = ap with_skip t.rest }
+  skip-step = record { text = t.text; rows = t.rows; cols = t.cols; text_names = t.text_names; row_names = t.row_names; col_names = t.col_names; ends = t.ends; cells = t.cells; unwritten = t.unwritten; rest = ap with_skip t.rest }
 
 -- ---- effects
 
@@ -258,7 +260,7 @@ module _ {floor : ℕ} {held : HeldNames} (s c r : ℕ) (above : floor ≤ r) wh
       let f : id b ≡ id y = cc in
       subst (λ i. Trimmed floor held (record kept { cells = write_cell (record { row = i; col = id b; value = value }) kept.cells }) (cell_effect doc (Some x) (Some y) value)) (sym e)
       (subst (λ i. Trimmed floor held (record kept { cells = write_cell (record { row = id x; col = i; value = value }) kept.cells }) (cell_effect doc (Some x) (Some y) value)) (sym f)
-      (cells-step t _ _ (λ row col h k. write-agrees row col (record { row = id x; col = id y; value = value }) kept.cells doc.cells (t.cells row col h k))))
+      (cells-step t _ _ (λ row col h k. write-agrees row col (record { row = id x; col = id y; value = value }) kept.cells doc.cells (t.cells row col h k)) (λ row col h. write-none row col (record { row = id x; col = id y; value = value }) kept.cells doc.cells (t.unwritten row col) h)))
   cell_effect-trimmed kept doc None b (Some x) y value p q t = absurd cc
   cell_effect-trimmed kept doc (Some a) b None y value p q t = absurd cc
   cell_effect-trimmed kept doc (Some a) None (Some x) (Some y) value p q t = absurd cc

@@ -17,13 +17,13 @@ use Rattle.ft_msg.specs.Summary.{trim}
 use Rattle.ft_laws.specs.Trimming.{AreFrom, IsConsistent, IsNumbered, has_ends_on, is_end_on, is_numbered_below}
 use Rattle.ft_laws.proofs.CompactedScans.{is_held_end, removed-by, unremoved-alike}
 use Rattle.ft_laws.proofs.HeldNames.{HoldsNames, keeps_name}
-use Rattle.ft_laws.proofs.CellValues.{value-kept}
+use Rattle.ft_laws.proofs.CellValues.{none-filtered, value-kept}
 use Rattle.ft_laws.proofs.TrimmedDocument.{Trimmed, has_held_ends, is_removed}
 use Rattle.ft_laws.proofs.TrimmedContent.{shown-trimmed, take_entries-trimmed}
 use Rattle.ft_laws.proofs.OwnNames.{all-weaker, any-less, has_named, named-passes, new-named, other-named, own-named}
 
 -- the names of all but elements that are gone
-abbrev held_but : (ListElement → Bool) → List ListElement → ElementId → Bool
+abbrev pub held_but : (ListElement → Bool) → List ListElement → ElementId → Bool
 held_but gone xs x = not (has_named gone xs x)
 
 names-held : (gone : ListElement → Bool) (list : Sequence) → IsNumbered list → HoldsNames gone (held_but gone list.items) list
@@ -78,10 +78,10 @@ list-trimmed floor gone more list h = record {
     weaker e true true c f h = twice c ∙ h
     weaker e true false c f h = cc (f refl)
 
-collectable-removed : (floor : ℕ) (e : ListElement) → is_collectable floor e ≡ true → is_removed e ≡ true
+pub collectable-removed : (floor : ℕ) (e : ListElement) → is_collectable floor e ≡ true → is_removed e ≡ true
 collectable-removed floor e h = removed-by floor is_acked (λ s c. refl) e.dels (both (is_acked e.ins) (has_collectable_removal floor e.dels) h).1
 
-ends-held : (floor : ℕ) (xs : List ListElement) → list_all (keeps_name (is_collectable floor) (held_but (is_collectable floor) xs)) xs ≡ true → (is : List Interval) → list_all (has_ends_on xs) is ≡ true
+pub ends-held : (floor : ℕ) (xs : List ListElement) → list_all (keeps_name (is_collectable floor) (held_but (is_collectable floor) xs)) xs ≡ true → (is : List Interval) → list_all (has_ends_on xs) is ≡ true
     → list_all (has_held_ends (held_but (is_collectable floor) xs)) is ≡ true
 ends-held floor xs names is h =
     all-weaker (has_ends_on xs) (has_held_ends held) (λ i k. let p = both (is_end_on xs i.start) (is_end_on xs i.end) k in rw (end-held i.start p.0, end-held i.end p.1) refl) is h
@@ -118,6 +118,7 @@ trim-trimmed doc h = record {
   cells = λ row col a b. value-kept row col (λ c. not (is_null c.value) && not (has_sequenced_removal doc.rows.items c.row) && not (has_sequenced_removal doc.cols.items c.col)) doc.cells h.cells
       (λ c v p q. three (not (is_null c.value)) (not (has_sequenced_removal doc.rows.items c.row)) (not (has_sequenced_removal doc.cols.items c.col)) v
       (subst (λ i. not (has_sequenced_removal doc.rows.items i) ≡ true) p a) (subst (λ i. not (has_sequenced_removal doc.cols.items i) ≡ true) q b));
+  unwritten = λ row col e. none-filtered row col (λ c. not (is_null c.value) && not (has_sequenced_removal doc.rows.items c.row) && not (has_sequenced_removal doc.cols.items c.col)) doc.cells e;
   rest = refl;
 }
 

@@ -7,7 +7,7 @@ use Rattle.ft_msg.specs.Agreed.{agreed, with_numbers}
 use Rattle.ft_msg.specs.Content.{content, shown, stage_view}
 use Rattle.ft_msg.specs.Process.{come_online}
 use Rattle.ft_msg.specs.Client.{NaiveClient, client_over}
-use Rattle.ft_laws.specs.ClientSteps.{ClientStep, after_steps, has_fitting_body, is_without_edits, taken_entries}
+use Rattle.ft_msg.specs.ClientSteps.{ClientStep, after_steps, has_fitting_body, is_without_edits, taken_entries}
 
 -- steps that a client takes from the empty document on, refusing none, where each message has a body just where it is of type
 -- op

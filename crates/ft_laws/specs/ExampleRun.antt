@@ -14,7 +14,7 @@ use Rattle.ft_op.specs.Document.{empty}
 use Rattle.ft_msg.specs.Agreed.{agreed}
 use Rattle.ft_msg.specs.Client.{NaiveClient, client_over}
 use Rattle.ft_msg.specs.Content.{content, shown}
-use Rattle.ft_laws.specs.ClientSteps.{ClientStep, Edits, Connects, Drops, Sends, Takes, after_steps, has_fitting_body, is_without_edits, taken_entries}
+use Rattle.ft_msg.specs.ClientSteps.{ClientStep, Edits, Connects, Drops, Sends, Takes, after_steps, has_fitting_body, is_without_edits, taken_entries}
 
 -- the join of connection c under that number, with the minimum m
 abbrev pub example_join : ℕ → ℕ → ℕ → Entry

@@ -1,4 +1,3 @@
-pub mod ClientSteps
 pub mod Agreement
 pub mod Trimming
 pub mod Reconnecting

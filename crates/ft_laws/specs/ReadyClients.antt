@@ -6,7 +6,7 @@ use Rattle.ft_msg.specs.Client.{NaiveClient}
 use Rattle.ft_msg.specs.Content.{content}
 use Rattle.ft_msg.specs.Process.{come_online}
 use Rattle.ft_laws.specs.Agreement.{IsRun}
-use Rattle.ft_laws.specs.ClientSteps.{ClientStep, taken_entries}
+use Rattle.ft_msg.specs.ClientSteps.{ClientStep, taken_entries}
 use Rattle.ft_laws.specs.Sequencing.{IsReady}
 
 -- its pending edits can be sequenced next

@@ -4,3 +4,7 @@ pub mod ReadMessages
 pub mod Words
 pub mod CanonicalMessages
 pub mod ReadBack
+pub mod ReplicaSteps
+pub mod ReachedSteps
+pub mod LinkSteps
+pub mod ReplicaStarts

@@ -1,11 +1,12 @@
 -- A client that keeps less than the whole lists, and is as good: what it left out lies at or below the floor, and
 -- nothing names it. A replica is seen as such a client.
-use Rattle.std.specs.Prelude.{◌≡◌, Bool, true, false, ◌||◌, List, [], ◌∷◌}
+use Rattle.std.specs.Prelude.{◌≡◌, Bool, false, ◌||◌, List, None}
 use Rattle.std.specs.List.{list_any}
+use Rattle.ft_op.specs.declared.operations.CellOp.TheVariants.{Set}
 use Rattle.ft_props.specs.Element.{ListElement, ElementId, has_sequenced_removal, is_named_by}
 use Rattle.ft_props.specs.Compaction.{KeepsList}
 use Rattle.ft_op.specs.Intervals.{Interval}
-use Rattle.ft_op.specs.Cells.{Cell}
+use Rattle.ft_op.specs.Cells.{Cell, cell_value}
 use Rattle.ft_op.specs.Document.{Document}
 use Rattle.ft_op.specs.Stages.{Stage}
 use Rattle.ft_msg.specs.Client.{NaiveClient, floor, stages_of}
@@ -22,11 +23,11 @@ stage_holds_text x t = elim t.sub_operation [ OnIntervals op ↦ is_named_by x t
 
 -- whether the cell write of a stage names the row
 abbrev pub stage_holds_row : ElementId → Stage → Bool
-stage_holds_row x t = elim t.sub_operation [ OnGrid op ↦ is_named_by x t.names.first | _ ↦ false ]
+stage_holds_row x t = elim t.sub_operation [ OnGrid op ↦ elim op [ Set i j value ↦ is_named_by x t.names.first | _ ↦ false ] | _ ↦ false ]
 
 -- whether the cell write of a stage names the column
 abbrev pub stage_holds_col : ElementId → Stage → Bool
-stage_holds_col x t = elim t.sub_operation [ OnGrid op ↦ is_named_by x t.names.second | _ ↦ false ]
+stage_holds_col x t = elim t.sub_operation [ OnGrid op ↦ elim op [ Set i j value ↦ is_named_by x t.names.second | _ ↦ false ] | _ ↦ false ]
 
 -- whether an interval or a pending stage names the element of the text
 abbrev pub holds_text : NaiveClient → ElementId → Bool
@@ -40,11 +41,11 @@ holds_row x i = list_any (stage_holds_row i) (stages_of x)
 abbrev pub holds_col : NaiveClient → ElementId → Bool
 holds_col x i = list_any (stage_holds_col i) (stages_of x)
 
--- kept cells: all but some of a row or a column with a sequenced removal
-pub data KeepsCells (rows cols : List ListElement) : List Cell → List Cell → Type 0 where
-  none : KeepsCells rows cols [] []
-  same : {c : Cell} {ks cs : List Cell} → KeepsCells rows cols ks cs → KeepsCells rows cols (c ∷ ks) (c ∷ cs)
-  collected : {c : Cell} {ks cs : List Cell} → (has_sequenced_removal rows c.row || has_sequenced_removal cols c.col) ≡ true → KeepsCells rows cols ks cs → KeepsCells rows cols ks (c ∷ cs)
+-- the kept cells show what all of them show wherever no removal of the row or of the column is sequenced, and nothing where
+-- these show nothing
+pub record KeepsCells (rows cols : List ListElement) (kept cells : List Cell) : Type 0 where
+  pub values : (row col : ElementId) → has_sequenced_removal rows row ≡ false → has_sequenced_removal cols col ≡ false → cell_value row col kept ≡ cell_value row col cells
+  pub none : (row col : ElementId) → cell_value row col cells ≡ None → cell_value row col kept ≡ None
 
 -- the document keeps that of the client x, but for what compaction takes away
 pub record KeepsDocument (x : NaiveClient) (kept : Document) : Type 0 where

@@ -8,6 +8,9 @@ pub mod Applied
 pub mod Indexed
 pub mod Compacted
 pub mod Summary
+pub mod ValidSummary
+pub mod ClientSteps
+pub mod Reached
 pub mod Overlap
 pub mod Blame
 pub mod Answers

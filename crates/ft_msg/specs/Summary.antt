@@ -1,5 +1,5 @@
 -- The document that a summary gives, and what of a document goes into its summary.
-use Rattle.std.specs.Prelude.{◌≡◌, ℕ, ◌+◌, not, ◌&&◌, List, [], ◌∷◌, ◌++◌, Option, Some, None, map, filter, length, replicate}
+use Rattle.std.specs.Prelude.{◌≡◌, ℕ, ◌+◌, not, ◌&&◌, List, [], ◌∷◌, ◌++◌, Option, Some, None, map, filter, length, replicate, take}
 use Rattle.ft_base.specs.declared.stamps.Stamp.{Stamp}
 use Rattle.ft_base.specs.declared.stamps.Stamp.TheVariants.{Acked}
 use Rattle.ft_sumdoc.specs.declared.summary.Mark.{Mark}
@@ -11,6 +11,7 @@ use Rattle.ft_sumdoc.specs.declared.summary.IntervalRec.{IntervalRec}
 use Rattle.ft_sumdoc.specs.declared.summary.CellRec.{CellRec}
 use Rattle.ft_sumdoc.specs.declared.summary.SumDoc.{SumDoc}
 use Rattle.ft_base.specs.Scan.{at}
+use Rattle.ft_props.specs.Properties.{Characters}
 use Rattle.ft_props.specs.Element.{GridUnit, Character, ListElement, ElementContent, MarkerOf, has_sequenced_removal, id, new_elements, is_unremoved}
 use Rattle.ft_props.specs.Compaction.{trim_list}
 use Rattle.ft_props.specs.Steps.{Sequence}
@@ -86,6 +87,11 @@ trim doc = record doc {
   cells = filter (λ c. not (is_null c.value) && not (has_sequenced_removal doc.rows.items c.row) && not (has_sequenced_removal doc.cols.items c.col)) doc.cells;
 }
 
--- the summary stands for the document: it gives the trimmed one, but for the names of elements
-abbrev pub Summarizes : SumDoc → Document → Type 0
-Summarizes sum doc = indexed (doc_of sum) ≡ indexed (trim doc)
+-- the summary gives the document as a summary keeps it, but for the names of elements
+abbrev pub GivesDocument : SumDoc → Document → Type 0
+GivesDocument sum doc = indexed (doc_of sum) ≡ indexed (trim doc)
+
+-- the summary stands for the document, and has the first names of the holder's table, up to the greatest origin
+pub record Summarizes (sum : SumDoc) (names : List Characters) (origin : ℕ) (doc : Document) : Type 0 where
+  pub gives : GivesDocument sum doc
+  pub conns : sum.conns ≡ take origin names

@@ -8,6 +8,7 @@ pub mod laws;
 pub mod messages;
 pub mod names;
 pub mod reading;
+pub mod replica;
 #[cfg(test)]
 mod tests;
 pub mod views;
@@ -19,5 +20,6 @@ pub use faults::{Cause, EditFault, LinkFault, ProcessFault, SummaryFault, ViewFa
 pub use messages::{Body, Draft, Entry, Message, MsgKind};
 pub use names::Names;
 pub use reading::{read_draft, read_message};
+pub use replica::Replica;
 pub use views::{Link, Numbers, Run, Runs, Spot, Spots, View};
 pub use writing::{write_draft, write_message};

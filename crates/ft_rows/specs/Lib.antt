@@ -3,3 +3,4 @@ pub mod RowsOfLogs
 pub mod Session
 pub mod RowsOfSessions
 pub mod RowsOfRefusals
+pub mod RowsOfReports

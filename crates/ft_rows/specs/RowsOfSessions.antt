@@ -201,7 +201,7 @@ saved = record {
 
 -- the document is that of the summary
 abbrev pub IsSaved : List Output → Type 0
-IsSaved (Kept doc ∷ []) = Summarizes saved doc
+IsSaved (Kept doc ∷ []) = Summarizes saved (codes "A/1" ∷ codes "B/1" ∷ []) 2 doc
 IsSaved _ = ⊥
 
 -- the summary stands for a client's document
@@ -231,7 +231,7 @@ saved_author = record {
 
 -- the document is that of the summary
 abbrev pub IsSavedAuthor : List Output → Type 0
-IsSavedAuthor (Kept doc ∷ []) = Summarizes saved_author doc
+IsSavedAuthor (Kept doc ∷ []) = Summarizes saved_author (codes "A/1" ∷ []) 1 doc
 IsSavedAuthor _ = ⊥
 
 -- a summary keeps the author of an old insertion

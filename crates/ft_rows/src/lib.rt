@@ -1,4 +1,5 @@
 //! Worked examples of the model, computed by its definitions.
 #![tactic(auto)]
 
+pub mod reports;
 pub mod rows;

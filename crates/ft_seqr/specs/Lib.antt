@@ -1,1 +1,11 @@
 pub mod Sequencer
+pub mod Refusals
+pub mod SameMessage
+pub mod EventGrammar
+pub mod WrittenEvent
+pub mod SummaryText
+pub mod AnswerTexts
+pub mod World
+pub mod Walk
+pub mod ViewLines
+pub mod SessionReport

@@ -1,5 +1,5 @@
 use Rattle.std.proofs.Common.{◌∙◌, append_assoc}
-use Rattle.ft_cli.specs.Refusals.{refused_line}
+use Rattle.ft_seqr.specs.Refusals.{refused_line}
 use Rattle.ft_cli.proofs.refusals.refused_line.Goals as goal
 
 pub returns : goal.returns

@@ -1,6 +1,6 @@
 use Rattle.std.proofs.Common.{◌≡◌, ◌++◌, drop, map, string_bytes}
 use Rattle.ft_cli.specs.Report.{bytes_of}
-use Rattle.ft_cli.specs.ViewLines.{cell_line}
+use Rattle.ft_seqr.specs.ViewLines.{cell_line}
 use Rattle.ft_cli.proofs.view_lines.push_cells.Given as goal
 
 abbrev pub invariant-loop-cell : goal.invariant-loop-cell

@@ -1,5 +1,5 @@
 use Rattle.std.proofs.Common.{◌≡◌, ◌++◌, drop, string_bytes}
-use Rattle.ft_cli.specs.ViewLines.{later_members}
+use Rattle.ft_seqr.specs.ViewLines.{later_members}
 use Rattle.ft_cli.proofs.view_lines.push_later_members.Given as goal
 
 abbrev pub invariant-loop-member : goal.invariant-loop-member

@@ -1,9 +1,9 @@
 -- A form that reads lines: what each line does, how far an input was read, and what its lines write. Lines are counted from 1.
 use Rattle.std.specs.Prelude.{ℕ, ◌+◌, Bool, ◌||◌, ◌==◌, nat_lt, List, [], ◌∷◌, ◌++◌, length, Option, Some, None, if◌then◌else◌}
 use Rattle.std.specs.List.{list_all}
-use Rattle.ft_cli.specs.declared.refusals.Refusal.{Refusal}
-use Rattle.ft_cli.specs.declared.refusals.Refusal.TheVariants.{LineTooLong}
-use Rattle.ft_cli.specs.Refusals.{refused_line}
+use Rattle.ft_seqr.specs.declared.refusals.Refusal.{Refusal}
+use Rattle.ft_seqr.specs.declared.refusals.Refusal.TheVariants.{LineTooLong}
+use Rattle.ft_seqr.specs.Refusals.{refused_line}
 
 -- the greatest length of a line, without its LF
 abbrev pub line_limit : ℕ
@@ -17,18 +17,27 @@ is_blank_byte byte = byte == 32 || (byte == 9 || byte == 13)
 abbrev pub is_blank : List ℕ → Bool
 is_blank line = list_all is_blank_byte line
 
--- what a line does: what the lines made with it, and why it is refused, if it is
+-- what a line does: what the lines made with it, the lines that it writes of that, and why it is refused, if it is
 pub record Step (S : Type 0) : Type 0 where
   pub made : S
+  pub told : List (List ℕ)
   pub refusal : Option Refusal
 
--- the step of a line that is passed over
+-- the step of a line that writes these
+abbrev pub tells : {S : Type 0} → S → List (List ℕ) → Step S
+tells made told = record { made = made; told = told; refusal = None }
+
+-- the step of a line that writes nothing but its refusal, if it has one
+abbrev pub answers : {S : Type 0} → S → Option Refusal → Step S
+answers made refusal = record { made = made; told = []; refusal = refusal }
+
+-- the step of a line that is passed over, or writes nothing
 abbrev pub passes : {S : Type 0} → S → Step S
-passes made = record { made = made; refusal = None }
+passes made = tells made []
 
 -- the step of a line that is refused and changes nothing
 abbrev pub refuses : {S : Type 0} → S → Refusal → Step S
-refuses made refusal = record { made = made; refusal = Some refusal }
+refuses made refusal = record { made = made; told = []; refusal = Some refusal }
 
 -- the step of any line: one that is too long is refused, a blank one is passed over, and the others are read
 abbrev pub step_of : {S : Type 0} → (S → List ℕ → Step S) → S → List ℕ → Step S
@@ -69,9 +78,13 @@ abbrev pub refusal_lines : ℕ → Option Refusal → List (List ℕ)
 refusal_lines number None = []
 refusal_lines number (Some refusal) = refused_line number refusal ∷ []
 
+-- the lines that the step of the line with this number writes
+abbrev pub written_by_step : {S : Type 0} → ℕ → Step S → List (List ℕ)
+written_by_step number step = step.told ++ refusal_lines number step.refusal
+
 -- the lines that a line writes
 abbrev pub written_by_line : {S : Type 0} → (S → List ℕ → Step S) → Progress S → List ℕ → List (List ℕ)
-written_by_line read at line = refusal_lines (at.lines + 1) (step_of read at.made line).refusal
+written_by_line read at line = written_by_step (at.lines + 1) (step_of read at.made line)
 
 -- the lines that these lines write
 abbrev pub written_by : {S : Type 0} → (S → List ℕ → Step S) → Progress S → List (List ℕ) → List (List ℕ)

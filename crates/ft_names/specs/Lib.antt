@@ -1,0 +1,3 @@
+pub mod WellNamed
+pub mod Renaming
+pub mod Naming

@@ -1,0 +1,150 @@
+-- Which refusal a fault is, and the number and the text that are written of a refusal.
+use Rattle.std.specs.Prelude.{ℕ, List, ◌++◌, codes, decimal}
+use Rattle.std.specs.Fmt.{signed_decimal}
+use Rattle.ft_json.specs.Fields.{field_name}
+use Rattle.ft_msg.specs.declared.faults.Cause.{Cause}
+use Rattle.ft_msg.specs.declared.faults.Cause.TheVariants as cause
+use Rattle.ft_msg.specs.declared.faults.EditFault.{EditFault}
+use Rattle.ft_msg.specs.declared.faults.EditFault.TheVariants as edit
+use Rattle.ft_msg.specs.declared.faults.LinkFault.{LinkFault}
+use Rattle.ft_msg.specs.declared.faults.LinkFault.TheVariants as link
+use Rattle.ft_msg.specs.declared.faults.ProcessFault.{ProcessFault}
+use Rattle.ft_msg.specs.declared.faults.ProcessFault.TheVariants as processing
+use Rattle.ft_seqr.specs.declared.nacks.Nack.{Nack}
+use Rattle.ft_seqr.specs.declared.nacks.Nack.TheVariants as nack
+use Rattle.ft_sumdoc.specs.declared.summary.SumCause.{SumCause}
+use Rattle.ft_sumdoc.specs.declared.summary.SumCause.TheVariants as sum_cause
+use Rattle.ft_sumdoc.specs.declared.summary.SumFault.{SumFault}
+use Rattle.ft_sumdoc.specs.declared.summary.SumFault.TheVariants as sum
+use Rattle.ft_seqr.specs.declared.refusals.Refusal.{Refusal}
+use Rattle.ft_seqr.specs.declared.refusals.Refusal.TheVariants.{Malformed, UnknownClient, NameInUse, AlreadyConnected, NotConnected, OutOfRange, NothingToTicket, NothingToDeliver, OutOfOrder, Foreign, Pending, ClientLimit, IdInUse, NoSuchInterval, CountLimit, LineTooLong, Nacked, BadNumbers, Summary, OutOfMemory, Stopped}
+
+-- ---- faults
+
+-- the refusal of a text that has no reading; too great a count is one of its own
+abbrev pub refusal_of_cause : Cause → Refusal
+refusal_of_cause cause.CountLimit = CountLimit
+refusal_of_cause fault = Malformed fault
+
+-- the refusal of an edit
+abbrev pub refusal_of_edit : EditFault → Refusal
+refusal_of_edit edit.OutOfMemory = OutOfMemory
+refusal_of_edit (edit.Stopped seq) = Stopped
+refusal_of_edit edit.IdInUse = IdInUse
+refusal_of_edit edit.NoSuchInterval = NoSuchInterval
+refusal_of_edit (edit.OutOfRange length) = OutOfRange length
+
+-- the refusal of a change of the link
+abbrev pub refusal_of_link : LinkFault → Refusal
+refusal_of_link link.OutOfMemory = OutOfMemory
+refusal_of_link (link.Stopped seq) = Stopped
+refusal_of_link link.AlreadyConnected = AlreadyConnected
+refusal_of_link link.NotConnected = NotConnected
+
+-- the refusal of the message with this number; in a session none but want of memory comes, since its messages are those of the log
+abbrev pub refusal_of_process : ℕ → ProcessFault → Refusal
+refusal_of_process number processing.OutOfMemory = OutOfMemory
+refusal_of_process number (processing.Stopped seq) = Stopped
+refusal_of_process number (processing.OutOfOrder expected got) = OutOfOrder expected got
+refusal_of_process number (processing.BadNumbers field kept got) = BadNumbers field kept got
+refusal_of_process number processing.NotSent = Foreign number
+
+-- ---- numbers and texts
+
+-- the text of a cause
+abbrev pub cause_text : Cause → List ℕ
+cause_text cause.NotUtf8 = codes "NotUtf8"
+cause_text cause.NotJson = codes "NotJson"
+cause_text cause.Fraction = codes "Fraction"
+cause_text cause.TooDeep = codes "TooDeep"
+cause_text (cause.Missing field) = codes "Missing " ++ field_name field
+cause_text (cause.WrongKind field) = codes "WrongKind " ++ field_name field
+cause_text (cause.UnknownType n) = codes "UnknownType " ++ decimal n
+cause_text (cause.Reversed a b) = codes "Reversed " ++ (signed_decimal a ++ (codes " " ++ signed_decimal b))
+cause_text cause.CountLimit = codes "CountLimit"
+cause_text cause.NestedGroup = codes "NestedGroup"
+cause_text cause.UnknownWord = codes "UnknownWord"
+cause_text cause.OutOfMemory = codes "OutOfMemory"
+
+-- a name with the number that was to be and the one that came
+abbrev pub two_numbers : List ℕ → ℕ → ℕ → List ℕ
+two_numbers word a b = word ++ (codes " " ++ (decimal a ++ (codes " got " ++ decimal b)))
+
+-- the text of a nack
+abbrev pub nack_text : Nack → List ℕ
+nack_text nack.NotJoined = codes "NotJoined"
+nack_text (nack.ClientSeq expected got) = two_numbers (codes "ClientSeq expected") expected got
+nack_text (nack.RefBelow min got) = two_numbers (codes "RefBelow min") min got
+nack_text (nack.RefBack last got) = two_numbers (codes "RefBack last") last got
+nack_text (nack.RefAhead seq got) = two_numbers (codes "RefAhead seq") seq got
+
+-- the text of the cause of a summary's fault
+abbrev pub summary_cause_text : SumCause → List ℕ
+summary_cause_text sum_cause.NotUtf8 = codes "NotUtf8"
+summary_cause_text sum_cause.NotJson = codes "NotJson"
+summary_cause_text sum_cause.Fraction = codes "Fraction"
+summary_cause_text sum_cause.TooDeep = codes "TooDeep"
+summary_cause_text (sum_cause.Missing field) = codes "Missing " ++ field_name field
+summary_cause_text (sum_cause.WrongKind field) = codes "WrongKind " ++ field_name field
+
+-- the text of a summary's fault
+abbrev pub summary_fault_text : SumFault → List ℕ
+summary_fault_text (sum.Malformed fault) = codes "Malformed " ++ summary_cause_text fault
+summary_fault_text (sum.Version n) = codes "Version " ++ decimal n
+summary_fault_text (sum.BadStamp place) = codes "BadStamp " ++ decimal place
+summary_fault_text (sum.BadCount said found) = codes "BadCount said " ++ (decimal said ++ (codes " found " ++ decimal found))
+summary_fault_text sum.OutOfMemory = codes "OutOfMemory"
+
+-- the number of a refusal; want of memory, now or earlier, ends a run and has none
+abbrev pub refusal_number : Refusal → ℕ
+refusal_number (Malformed fault) = 1
+refusal_number UnknownClient = 2
+refusal_number NameInUse = 3
+refusal_number AlreadyConnected = 4
+refusal_number NotConnected = 5
+refusal_number (OutOfRange length) = 6
+refusal_number (NothingToTicket have) = 7
+refusal_number (NothingToDeliver have) = 8
+refusal_number (OutOfOrder expected got) = 9
+refusal_number (Foreign number) = 10
+refusal_number (Pending count) = 11
+refusal_number ClientLimit = 12
+refusal_number IdInUse = 13
+refusal_number NoSuchInterval = 14
+refusal_number CountLimit = 15
+refusal_number LineTooLong = 16
+refusal_number (Nacked fault) = 17
+refusal_number (BadNumbers field kept got) = 18
+refusal_number (Summary fault) = 19
+refusal_number OutOfMemory = 0
+refusal_number Stopped = 0
+
+-- the text of a refusal
+abbrev pub refusal_text : Refusal → List ℕ
+refusal_text (Malformed fault) = codes "Malformed " ++ cause_text fault
+refusal_text UnknownClient = codes "UnknownClient"
+refusal_text NameInUse = codes "NameInUse"
+refusal_text AlreadyConnected = codes "AlreadyConnected"
+refusal_text NotConnected = codes "NotConnected"
+refusal_text (OutOfRange length) = codes "OutOfRange length " ++ decimal length
+refusal_text (NothingToTicket have) = codes "NothingToTicket have " ++ decimal have
+refusal_text (NothingToDeliver have) = codes "NothingToDeliver have " ++ decimal have
+refusal_text (OutOfOrder expected got) = two_numbers (codes "OutOfOrder expected") expected got
+refusal_text (Foreign number) = codes "Foreign " ++ decimal number
+refusal_text (Pending count) = codes "Pending " ++ decimal count
+refusal_text ClientLimit = codes "ClientLimit 16"
+refusal_text IdInUse = codes "IdInUse"
+refusal_text NoSuchInterval = codes "NoSuchInterval"
+refusal_text CountLimit = codes "CountLimit 1000000"
+refusal_text LineTooLong = codes "LineTooLong"
+refusal_text (Nacked fault) = codes "Nacked " ++ nack_text fault
+refusal_text (BadNumbers field kept got) =
+    codes "BadNumbers " ++ (field_name field ++ (codes " kept " ++ (decimal kept ++ (codes " got " ++ signed_decimal got))))
+refusal_text (Summary fault) = codes "Summary " ++ summary_fault_text fault
+refusal_text OutOfMemory = codes "OutOfMemory"
+refusal_text Stopped = codes "Stopped"
+
+-- what is written of a refused line: its number from 1, the number of the refusal and its text
+unfoldable pub refused_line : ℕ → Refusal → List ℕ
+refused_line number refusal =
+    codes "line " ++ (decimal number ++ (codes " refused " ++ (decimal (refusal_number refusal) ++ (codes " " ++ refusal_text refusal))))

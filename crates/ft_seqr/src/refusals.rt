@@ -1,0 +1,284 @@
+//! Why a line is refused.
+
+ghost use Rattle.std.specs.Prelude.{◌≡◌};
+ghost use Rattle.ft_seqr.specs.Refusals.{refusal_number, refusal_of_cause, refusal_of_process};
+
+use crate::nacks::Nack;
+use ft_json::Field;
+use ft_msg::{Cause, LinkFault, ProcessFault};
+use ft_sumdoc::{SumCause, SumFault};
+use std::fmt;
+
+/// Why a line is refused. What was made before it stays as it was.
+#[derive(Clone, Copy, Debug, PartialEq, Eq)]
+pub enum Refusal {
+    /// The line, or the text in it, has no reading.
+    Malformed(Cause),
+    /// No client has that name, or no guest.
+    UnknownClient,
+    /// A client or a guest has the name.
+    NameInUse,
+    /// The client isn't offline.
+    AlreadyConnected,
+    /// The client is offline, or for a noop isn't online; or the guest has parted.
+    NotConnected,
+    /// A position isn't allowed in the view, in which the list concerned has this length.
+    OutOfRange { length: u64 },
+    /// There are fewer unsent messages.
+    NothingToTicket { have: u64 },
+    /// There are fewer messages beyond the client's number.
+    NothingToDeliver { have: u64 },
+    /// The message isn't the next one.
+    OutOfOrder { expected: u64, got: u64 },
+    /// The log has no such message under this number.
+    Foreign { number: u64 },
+    /// So many edits of the client are pending.
+    Pending { count: u64 },
+    /// There are 16 names already.
+    ClientLimit,
+    /// The id of a new interval is in its label.
+    IdInUse,
+    /// The id of a changed or deleted interval isn't in its label.
+    NoSuchInterval,
+    /// A splice puts in more than 1,000,000 units.
+    CountLimit,
+    /// The line has more than 1,048,576 bytes.
+    LineTooLong,
+    /// The sequencer refused the draft of a guest.
+    Nacked(Nack),
+    /// A number of the message contradicts what is kept.
+    BadNumbers { field: Field, kept: u64, got: i64 },
+    /// The summary was refused.
+    Summary(SumFault),
+    /// There was no memory.
+    OutOfMemory,
+    /// There was no memory at an earlier event.
+    Stopped,
+}
+
+/// A cause as it is written.
+#[derive(Drop)]
+struct CauseText(Cause);
+
+impl fmt::Display for CauseText {
+    ghost use Rattle.std.specs.Prelude.{Some};
+    ghost use Rattle.ft_seqr.specs.Refusals.{cause_text};
+
+    ghost output = { λ c. Some (cause_text c.0) };
+
+    fn fmt<W: fmt::Write>(&self, f: &mut fmt::Formatter<W>) -> fmt::Result {
+        match self.0 {
+            Cause::NotUtf8 => write!(f, "NotUtf8"),
+            Cause::NotJson => write!(f, "NotJson"),
+            Cause::Fraction => write!(f, "Fraction"),
+            Cause::TooDeep => write!(f, "TooDeep"),
+            Cause::Missing(field) => {
+                let name = field.name();
+                write!(f, "Missing {name}")
+            }
+            Cause::WrongKind(field) => {
+                let name = field.name();
+                write!(f, "WrongKind {name}")
+            }
+            Cause::UnknownType(n) => write!(f, "UnknownType {n}"),
+            Cause::Reversed { pos1, pos2 } => write!(f, "Reversed {pos1} {pos2}"),
+            Cause::CountLimit => write!(f, "CountLimit"),
+            Cause::NestedGroup => write!(f, "NestedGroup"),
+            Cause::UnknownWord => write!(f, "UnknownWord"),
+            Cause::OutOfMemory => write!(f, "OutOfMemory"),
+        }
+    }
+}
+
+/// A nack as it is written.
+#[derive(Drop)]
+struct NackText(Nack);
+
+impl fmt::Display for NackText {
+    ghost use Rattle.std.specs.Prelude.{Some};
+    ghost use Rattle.ft_seqr.specs.Refusals.{nack_text};
+
+    ghost output = { λ n. Some (nack_text n.0) };
+
+    fn fmt<W: fmt::Write>(&self, f: &mut fmt::Formatter<W>) -> fmt::Result {
+        match self.0 {
+            Nack::NotJoined => write!(f, "NotJoined"),
+            Nack::ClientSeq { expected, got } => {
+                write!(f, "ClientSeq expected {expected} got {got}")
+            }
+            Nack::RefBelow { min, got } => write!(f, "RefBelow min {min} got {got}"),
+            Nack::RefBack { last, got } => write!(f, "RefBack last {last} got {got}"),
+            Nack::RefAhead { seq, got } => write!(f, "RefAhead seq {seq} got {got}"),
+        }
+    }
+}
+
+/// The cause of a summary's fault as it is written.
+#[derive(Drop)]
+struct SumCauseText(SumCause);
+
+impl fmt::Display for SumCauseText {
+    ghost use Rattle.std.specs.Prelude.{Some};
+    ghost use Rattle.ft_seqr.specs.Refusals.{summary_cause_text};
+
+    ghost output = { λ c. Some (summary_cause_text c.0) };
+
+    fn fmt<W: fmt::Write>(&self, f: &mut fmt::Formatter<W>) -> fmt::Result {
+        match self.0 {
+            SumCause::NotUtf8 => write!(f, "NotUtf8"),
+            SumCause::NotJson => write!(f, "NotJson"),
+            SumCause::Fraction => write!(f, "Fraction"),
+            SumCause::TooDeep => write!(f, "TooDeep"),
+            SumCause::Missing(field) => {
+                let name = field.name();
+                write!(f, "Missing {name}")
+            }
+            SumCause::WrongKind(field) => {
+                let name = field.name();
+                write!(f, "WrongKind {name}")
+            }
+        }
+    }
+}
+
+/// A summary's fault as it is written.
+#[derive(Drop)]
+struct SumFaultText(SumFault);
+
+impl fmt::Display for SumFaultText {
+    ghost use Rattle.std.specs.Prelude.{Some};
+    ghost use Rattle.ft_seqr.specs.Refusals.{summary_fault_text};
+
+    ghost output = { λ s. Some (summary_fault_text s.0) };
+
+    fn fmt<W: fmt::Write>(&self, f: &mut fmt::Formatter<W>) -> fmt::Result {
+        match self.0 {
+            SumFault::Malformed(cause) => {
+                let text = SumCauseText(cause);
+                write!(f, "Malformed {text}")
+            }
+            SumFault::Version(n) => write!(f, "Version {n}"),
+            SumFault::BadStamp(place) => write!(f, "BadStamp {place}"),
+            SumFault::BadCount { said, found } => write!(f, "BadCount said {said} found {found}"),
+            SumFault::OutOfMemory => write!(f, "OutOfMemory"),
+        }
+    }
+}
+
+impl fmt::Display for Refusal {
+    ghost use Rattle.std.specs.Prelude.{Some};
+    ghost use Rattle.ft_seqr.specs.Refusals.{refusal_text};
+
+    ghost output = { λ r. Some (refusal_text r) };
+
+    fn fmt<W: fmt::Write>(&self, f: &mut fmt::Formatter<W>) -> fmt::Result {
+        match *self {
+            Refusal::Malformed(cause) => {
+                let text = CauseText(cause);
+                write!(f, "Malformed {text}")
+            }
+            Refusal::UnknownClient => write!(f, "UnknownClient"),
+            Refusal::NameInUse => write!(f, "NameInUse"),
+            Refusal::AlreadyConnected => write!(f, "AlreadyConnected"),
+            Refusal::NotConnected => write!(f, "NotConnected"),
+            Refusal::OutOfRange { length } => write!(f, "OutOfRange length {length}"),
+            Refusal::NothingToTicket { have } => write!(f, "NothingToTicket have {have}"),
+            Refusal::NothingToDeliver { have } => write!(f, "NothingToDeliver have {have}"),
+            Refusal::OutOfOrder { expected, got } => {
+                write!(f, "OutOfOrder expected {expected} got {got}")
+            }
+            Refusal::Foreign { number } => write!(f, "Foreign {number}"),
+            Refusal::Pending { count } => write!(f, "Pending {count}"),
+            Refusal::ClientLimit => write!(f, "ClientLimit 16"),
+            Refusal::IdInUse => write!(f, "IdInUse"),
+            Refusal::NoSuchInterval => write!(f, "NoSuchInterval"),
+            Refusal::CountLimit => write!(f, "CountLimit 1000000"),
+            Refusal::LineTooLong => write!(f, "LineTooLong"),
+            Refusal::Nacked(nack) => {
+                let text = NackText(nack);
+                write!(f, "Nacked {text}")
+            }
+            Refusal::BadNumbers { field, kept, got } => {
+                let name = field.name();
+                write!(f, "BadNumbers {name} kept {kept} got {got}")
+            }
+            Refusal::Summary(fault) => {
+                let text = SumFaultText(fault);
+                write!(f, "Summary {text}")
+            }
+            Refusal::OutOfMemory => write!(f, "OutOfMemory"),
+            Refusal::Stopped => write!(f, "Stopped"),
+        }
+    }
+}
+
+impl From<LinkFault> for Refusal {
+    ghost use Rattle.std.specs.Prelude.{◌≡◌};
+    ghost use Rattle.ft_seqr.specs.Refusals.{refusal_of_link};
+
+    ghost from_gives = { λ fault refusal. refusal ≡ refusal_of_link fault };
+
+    fn from(fault: LinkFault) -> Refusal {
+        match fault {
+            LinkFault::AlreadyConnected => Refusal::AlreadyConnected,
+            LinkFault::NotConnected => Refusal::NotConnected,
+            LinkFault::OutOfMemory => Refusal::OutOfMemory,
+            LinkFault::Stopped { .. } => Refusal::Stopped,
+        }
+    }
+}
+
+impl Refusal {
+    /// The refusal of a text that has no reading for this cause.
+    pub fn of_cause(cause: Cause) -> Refusal
+        ensures { result ≡ refusal_of_cause cause }
+    {
+        match cause {
+            Cause::CountLimit => Refusal::CountLimit,
+            cause => Refusal::Malformed(cause),
+        }
+    }
+
+    /// The refusal of the message with this number for this fault.
+    pub fn of_process(number: u64, fault: ProcessFault) -> Refusal
+        ensures { result ≡ refusal_of_process number fault }
+    {
+        match fault {
+            ProcessFault::OutOfMemory => Refusal::OutOfMemory,
+            ProcessFault::Stopped { .. } => Refusal::Stopped,
+            ProcessFault::OutOfOrder { expected, got } => Refusal::OutOfOrder { expected, got },
+            ProcessFault::BadNumbers { field, kept, got } => {
+                Refusal::BadNumbers { field, kept, got }
+            }
+            ProcessFault::NotSent => Refusal::Foreign { number },
+        }
+    }
+
+    /// The number under which it is written; want of memory is never written and has 0.
+    pub fn number(self) -> u64
+        ensures { result ≡ refusal_number self }
+    {
+        match self {
+            Refusal::Malformed(_) => 1,
+            Refusal::UnknownClient => 2,
+            Refusal::NameInUse => 3,
+            Refusal::AlreadyConnected => 4,
+            Refusal::NotConnected => 5,
+            Refusal::OutOfRange { .. } => 6,
+            Refusal::NothingToTicket { .. } => 7,
+            Refusal::NothingToDeliver { .. } => 8,
+            Refusal::OutOfOrder { .. } => 9,
+            Refusal::Foreign { .. } => 10,
+            Refusal::Pending { .. } => 11,
+            Refusal::ClientLimit => 12,
+            Refusal::IdInUse => 13,
+            Refusal::NoSuchInterval => 14,
+            Refusal::CountLimit => 15,
+            Refusal::LineTooLong => 16,
+            Refusal::Nacked(_) => 17,
+            Refusal::BadNumbers { .. } => 18,
+            Refusal::Summary(_) => 19,
+            Refusal::OutOfMemory | Refusal::Stopped => 0,
+        }
+    }
+}

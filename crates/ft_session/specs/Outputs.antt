@@ -1,0 +1,33 @@
+-- What an answer says of the output of the naive session.
+use Rattle.std.specs.Prelude.{◌≡◌, length, map, ⊤}
+use Rattle.serde_json.specs.Written.{compact_text}
+use Rattle.ft_msg.specs.declared.views.View.{View as ClientView}
+use Rattle.ft_session.specs.declared.outputs.Out.{Out}
+use Rattle.ft_session.specs.declared.outputs.Out.TheVariants as out
+use Rattle.ft_session.specs.declared.outputs.Counts.{Counts}
+use Rattle.ft_props.specs.Properties.{Characters}
+use Rattle.ft_msg.specs.Content.{content}
+use Rattle.ft_seqr.specs.ViewLines.{content_of}
+use Rattle.ft_seqr.specs.World.{NamedClient, NaiveWorld, Nothing, Output, Texts, View, furthest}
+
+-- the view is the client's: its numbers, but how many elements its replica held, and what it shows
+pub record IsViewOf (c : NamedClient) (name : Characters) (view : ClientView) : Type 0 where
+  pub name_is : name ≡ c.name
+  pub seq : view.numbers.seq ≡ c.client.doc.number
+  pub min : view.numbers.min ≡ c.client.doc.minimum
+  pub pending : view.numbers.pending ≡ length c.client.pending
+  pub skipped : view.numbers.skipped ≡ c.client.doc.skipped
+  pub other : view.numbers.other ≡ c.client.doc.other
+  pub link : view.numbers.link ≡ c.client.link
+  pub shows : content_of view ≡ content c.client
+
+-- the answer is that output
+abbrev pub Tells : Output → Out → Type 0
+Tells Nothing out.Nothing = ⊤
+Tells (View c) (out.View name view) = IsViewOf c name view
+Tells (Texts values) (out.Texts texts) = texts ≡ map compact_text values
+Tells _ _ = ⊥
+
+-- the counts of the client with the greatest number
+abbrev pub counts_of : NaiveWorld → Counts
+counts_of w = record { skipped = (furthest w).skipped; other = (furthest w).other }

@@ -1,0 +1,753 @@
+-- Each event keeps what is known of a world, and has no refusal but those of its row.
+use Rattle.std.proofs.Common.{◌≡◌, ℕ, ◌+◌, ◌≤◌, Bool, true, false, cond, ◌&&◌, ◌||◌, nat_eq, nat_le, nat_lt, List, [], ◌∷◌, ◌++◌, bytes_eq, encode_utf8_all, length, take, drop, Option, Some, None, Result, Ok, Err, map, find, option_map, refl, sym, ◌∙◌, ap, subst, arith}
+use Rattle.std.specs.List.{list_any}
+use Rattle.std.proofs.lemmas.List.{length-append, take-append-drop, drop_at}
+use Rattle.std.proofs.lemmas.Slice.Eq.{bytes_eq-Decides}
+use Rattle.ft_op.specs.declared.operations.ChannelOp.{ChannelOp}
+use Rattle.ft_msg.specs.declared.faults.Cause.{Cause}
+use Rattle.ft_msg.specs.declared.faults.Cause.TheVariants as cause
+use Rattle.ft_msg.specs.declared.faults.EditFault.{EditFault}
+use Rattle.ft_msg.specs.declared.faults.EditFault.TheVariants as edit
+use Rattle.ft_msg.specs.declared.faults.LinkFault.{LinkFault}
+use Rattle.ft_msg.specs.declared.faults.LinkFault.TheVariants as link
+use Rattle.ft_msg.specs.declared.faults.ProcessFault.{ProcessFault}
+use Rattle.ft_msg.specs.declared.messages.Draft.{Draft}
+use Rattle.ft_msg.specs.declared.messages.Entry.{Entry}
+use Rattle.ft_msg.specs.declared.messages.Message.{Message}
+use Rattle.ft_msg.specs.declared.views.Link.{Link}
+use Rattle.ft_msg.specs.declared.views.Link.TheVariants.{Offline, Joining, Online}
+use Rattle.ft_seqr.specs.declared.events.HowMany.{HowMany}
+use Rattle.ft_seqr.specs.declared.events.Event.{Event}
+use Rattle.ft_seqr.specs.declared.events.Event.TheVariants as event
+use Rattle.ft_seqr.specs.declared.nacks.Nack.{Nack}
+use Rattle.ft_seqr.specs.declared.refusals.Refusal.{Refusal}
+use Rattle.ft_seqr.specs.declared.refusals.Refusal.TheVariants.{ClientLimit, NameInUse, NotConnected as Parted, Foreign, Nacked, NothingToDeliver, NothingToTicket, OutOfOrder, OutOfRange, UnknownClient}
+use Rattle.ft_props.specs.Properties.{Characters}
+use Rattle.ft_op.specs.Document.{Document, empty}
+use Rattle.serde_json.specs.Data.{Data}
+use Rattle.ft_msg.specs.Applied.{applied}
+use Rattle.ft_msg.specs.Blame.{blame}
+use Rattle.ft_msg.specs.Content.{content}
+use Rattle.ft_msg.specs.Client.{NaiveClient, PendingEdit, client_over, connect, drop_link, local_edit, noop}
+use Rattle.ft_msg.specs.MessageGrammar.{draft, message}
+use Rattle.ft_msg.specs.Process.{is_op_kind}
+use Rattle.ft_seqr.specs.Refusals.{refusal_number, refusal_of_cause, refusal_of_edit, refusal_of_link, refusal_of_process}
+use Rattle.ft_seqr.specs.SameMessage.{same_message}
+use Rattle.ft_seqr.specs.Sequencer.{JoinedConnection, NaiveSequencer, is_joined, join, submit}
+use Rattle.ft_seqr.specs.SessionReport.{as_applied, as_shown, head_line, output_lines}
+use Rattle.ft_seqr.specs.ViewLines.{content_lines}
+use Rattle.ft_seqr.specs.World.{Nothing, Texts, View, NamedClient, NamedGuest, NaiveWorld, Output, Stepped, ahead_of, blame_client, conn_of, connect_client, connection_name, counted, deliver_client, drop_client, edit_client, enter_guest, happen, in_place, is_client, is_guest, joined, left, loaded, logged, new_world, next_conn, noop_client, now, of_client, of_guest, offer_client, offer_message, offer_next, part_guest, processed, quietly, start_client, started, step, submit_draft, submit_guest, submitted, text_load, ticket_client, unless_pending, with_client, with_name, world_after, world_of}
+use Rattle.ft_laws.specs.Sequencing.{Each}
+use Rattle.ft_laws.proofs.CountedEntries.{entries-counted}
+use Rattle.ft_laws.proofs.EveryClientReady.{pending-stays-on_top}
+use Rattle.ft_laws.proofs.NumberTests.{same_number}
+use Rattle.ft_worlds.specs.Worlds.{refusals_of}
+use Rattle.ft_worlds.proofs.Lists.{each-any, each-found, each-more, each-weaker}
+use Rattle.ft_worlds.proofs.Orders.{IsBase, gone, leave-found, submit-sequenced}
+use Rattle.ft_worlds.proofs.Links.{is_owed}
+use Rattle.ft_worlds.proofs.Served.{IsOwned, IsServed, served-known, served-more, served-takes}
+use Rattle.ft_worlds.proofs.ConnectionNames.{IsFound, IsNamed, IsUnused, named-connected, named-entered, named-placed, named-started}
+use Rattle.ft_worlds.proofs.EditFaults.{edit-fault, is_edit_fault}
+use Rattle.ft_worlds.proofs.ClientEvents.{IsLogged, drop-made, join-logged, leave-logged, linked-joined, owner-new, owner-old, sequence-logged, served-connects, served-drops, served-edits, served-idles, served-new, served-restarts, served-sends, with_owner}
+
+-- ---- what is known of a world
+
+-- a client took the first messages of the log
+pub record Serves (owner : ℕ → Option Characters) (count : ℕ) (q : NaiveSequencer) (log : List Entry) (c : NamedClient) : Type 0 where
+  pub rest : List Entry
+  pub served : IsServed owner count q log c.name rest c.client
+
+-- a guest's connection is no client's
+pub record IsGuest (owner : ℕ → Option Characters) (count : ℕ) (g : NamedGuest) : Type 0 where
+  pub by : owner g.conn ≡ None
+  pub known : g.conn ≤ count
+
+pub record IsReachedWorld (w : NaiveWorld) : Type 0 where
+  pub owner : ℕ → Option Characters
+  pub base : IsBase (length w.names) w.sequencer w.log
+  pub clients : Each (Serves owner (length w.names) w.sequencer w.log) w.clients
+  pub guests : Each (IsGuest owner (length w.names)) w.guests
+  pub named : IsNamed (length w.names) w.clients w.guests w.names
+
+-- a client of a world, with what is known of it
+pub record Meets (w : NaiveWorld) (r : IsReachedWorld w) (c : NamedClient) : Type 0 where
+  pub rest : List Entry
+  pub served : IsServed r.owner (length w.names) w.sequencer w.log c.name rest c.client
+  pub found : IsFound w.clients c
+
+-- the same is known of the world after an event, and what the event writes is the same in both forms
+pub record IsTurned (w : NaiveWorld) (output : Output) : Type 0 where
+  pub reached : IsReachedWorld w
+  pub same : output_lines as_shown w output ≡ output_lines as_applied w output
+
+-- the event is taken, or it has a refusal of its row
+abbrev pub Turns : Event → Stepped → Type 0
+Turns e (Err refusal) = list_any (nat_eq (refusal_number refusal)) (refusals_of e) ≡ true
+Turns e (Ok p) = IsTurned p.0 p.1
+
+-- an event that writes nothing
+quiet-turn : (w : NaiveWorld) → IsReachedWorld w → IsTurned w Nothing
+quiet-turn w r = record { reached = r; same = refl }
+
+-- an event that writes JSON values
+texts-turn : (w : NaiveWorld) (values : List Data) → IsReachedWorld w → IsTurned w (Texts values)
+texts-turn w values r = record { reached = r; same = refl }
+
+-- ---- one client changes, and no message is numbered
+
+-- another client than the one of this name
+abbrev pub Others : Characters → (NamedClient → Type 0) → List NamedClient → Type 0
+Others name P cs = Each (λ c. is_client name c ≡ false → P c) cs
+
+others-all : (name : Characters) (P : NamedClient → Type 0) (cs : List NamedClient) → Each P cs → Others name P cs
+others-all name P cs h = each-weaker P (λ c. is_client name c ≡ false → P c) (λ c p e. p) cs h
+
+placed : (P : NamedClient → Type 0) (d : NamedClient) (cs : List NamedClient) → Others d.name P cs → P d → Each P (map (in_place d) cs)
+placed P d [] h p = tt
+placed P d (c ∷ cs) h p = (by (is_client d.name c) refl, placed P d cs h.1 p)
+  where
+    by : (b : Bool) → is_client d.name c ≡ b → P (cond b d c)
+    by true e = p
+    by false e = h.0 e
+
+-- the world with the client in its place
+-- a client that keeps its name and its connections
+same-named : (count : ℕ) (clients : List NamedClient) (guests : List NamedGuest) (names : List Characters) (c : NamedClient) (x : NaiveClient) → IsFound clients c → IsNamed count clients guests names
+    → IsNamed count (map (in_place (record c { client = x })) clients) guests names
+same-named count clients guests names c x i h =
+    named-placed count clients guests names c (record c { client = x }) i refl (omega arith) (each-found (λ (a : NamedClient). a.connects ≤ count) (is_client i.name) clients c i.found h.counted).0 h
+
+pub own-step : (w : NaiveWorld) (r : IsReachedWorld w) (c : NamedClient) (x : NaiveClient) → IsFound w.clients c → Serves r.owner (length w.names) w.sequencer w.log (record c { client = x })
+    → IsReachedWorld (with_client (record c { client = x }) w)
+own-step w r c x i s =
+    let d : NamedClient = record c { client = x } in
+    record {
+      owner = r.owner;
+      base = r.base;
+      clients = placed (Serves r.owner (length w.names) w.sequencer w.log) d w.clients (others-all d.name (Serves r.owner (length w.names) w.sequencer w.log) w.clients r.clients) s;
+      guests = r.guests;
+      named = same-named (length w.names) w.clients w.guests w.names c x i r.named;
+    }
+
+-- ---- a message is numbered
+
+-- no client of this name has the connection
+abbrev pub IsApart : (ℕ → Option Characters) → ℕ → Characters → Type 0
+IsApart owner conn name = owner conn ≡ Some name → ⊥
+
+not-any : (owner : ℕ → Option Characters) (count : ℕ) (name : Characters) (conn : ℕ) (conns : List ℕ) → IsApart owner conn name → Each (IsOwned owner count name) conns → list_any (nat_eq conn) conns ≡ false
+not-any owner count name conn conns a h = by (list_any (nat_eq conn) conns) refl
+  where
+    by : (b : Bool) → list_any (nat_eq conn) conns ≡ b → b ≡ false
+    by true e = absurd (a (each-any (IsOwned owner count name) conn conns e h).by)
+    by false e = refl
+
+not-same : (owner : ℕ → Option Characters) (count : ℕ) (name : Characters) (conn other : ℕ) → IsApart owner conn name → IsOwned owner count name other → nat_eq other conn ≡ false
+not-same owner count name conn other a o = by (nat_eq other conn) refl
+  where
+    by : (b : Bool) → nat_eq other conn ≡ b → b ≡ false
+    by true e = absurd (a (subst (λ c. owner c ≡ Some name) (same_number other conn e) o.by))
+    by false e = refl
+
+and-none : (b : Bool) → b && false ≡ false
+and-none true = refl
+and-none false = refl
+
+-- a client that has not the connection stays served
+serves-logged : (owner other : ℕ → Option Characters) (count more : ℕ) (q : NaiveSequencer) (log : List Entry) (conn : ℕ) (p : NaiveSequencer × Entry) (c : NamedClient) → count ≤ more → ((k : ℕ) → k ≤ count → other k ≡ owner k)
+    → IsApart other conn c.name → IsLogged more q log conn p → Serves owner count q log c → Serves other more p.0 (log ++ (p.1 ∷ [])) c
+serves-logged owner other count more q log conn p c l k a g s =
+    let v = served-known owner other count more q log c.name s.rest c.client l k s.served in
+    let none : is_owed c.client.conns p.1 ≡ false =
+    ap (λ o. is_op_kind p.1.msg.kind && list_any (nat_eq o) c.client.conns) g.origin
+    ∙ (ap (λ b. is_op_kind p.1.msg.kind && b) (not-any other more c.name conn c.client.conns a v.conns) ∙ and-none (is_op_kind p.1.msg.kind)) in
+    record {
+      rest = s.rest ++ (p.1 ∷ []);
+      served = served-more other more q p.0 log c.name s.rest c.client p.1 g.follows g.number g.minimum none (λ o h. g.kept o (not-same other more c.name conn o a h)) v;
+    }
+
+-- so do all but those of one name
+others-logged : (owner other : ℕ → Option Characters) (count more : ℕ) (q : NaiveSequencer) (log : List Entry) (conn : ℕ) (p : NaiveSequencer × Entry) (name : Characters) (cs : List NamedClient) → count ≤ more
+    → ((k : ℕ) → k ≤ count → other k ≡ owner k) → ((c : NamedClient) → is_client name c ≡ false → IsApart other conn c.name) → IsLogged more q log conn p → Others name (Serves owner count q log) cs
+    → Others name (Serves other more p.0 (log ++ (p.1 ∷ []))) cs
+others-logged owner other count more q log conn p name cs l k a g h =
+    each-weaker (λ c. is_client name c ≡ false → Serves owner count q log c) (λ c. is_client name c ≡ false → Serves other more p.0 (log ++ (p.1 ∷ [])) c)
+    (λ c s e. serves-logged owner other count more q log conn p c l k (a c e) g (s e)) cs h
+
+-- so do all where the connection is no client's
+all-logged : (owner other : ℕ → Option Characters) (count more : ℕ) (q : NaiveSequencer) (log : List Entry) (conn : ℕ) (p : NaiveSequencer × Entry) (cs : List NamedClient) → count ≤ more
+    → ((k : ℕ) → k ≤ count → other k ≡ owner k) → other conn ≡ None → IsLogged more q log conn p → Each (Serves owner count q log) cs → Each (Serves other more p.0 (log ++ (p.1 ∷ []))) cs
+all-logged owner other count more q log conn p cs l k n g h =
+    each-weaker (Serves owner count q log) (Serves other more p.0 (log ++ (p.1 ∷ [])))
+    (λ c s. serves-logged owner other count more q log conn p c l k (λ e. let wrong : None ≡ Some c.name = sym n ∙ e in (cc)) g s) cs h
+
+-- one name's connections are not another's
+apart-name : (owner : ℕ → Option Characters) (conn : ℕ) (name other : Characters) → owner conn ≡ Some name → bytes_eq name other ≡ false → IsApart owner conn other
+apart-name owner conn name other o e h =
+    let both : Some name ≡ Some other = sym o ∙ h in
+    let same : name ≡ other = (cc) in
+    let t : bytes_eq name other ≡ true = (bytes_eq-Decides name other).1 same in
+    let wrong : true ≡ false = sym t ∙ e in
+    (cc)
+
+guests-known : (owner other : ℕ → Option Characters) (count more : ℕ) (gs : List NamedGuest) → count ≤ more → ((k : ℕ) → k ≤ count → other k ≡ owner k) → Each (IsGuest owner count) gs → Each (IsGuest other more) gs
+guests-known owner other count more gs l k h =
+    each-weaker (IsGuest owner count) (IsGuest other more) (λ g i. record { by = k g.conn i.known ∙ i.by; known = let b = i.known in omega (arith, b, l) }) gs h
+
+-- ---- look-ups
+
+-- what is found has been served
+pub found-serves : (w : NaiveWorld) (r : IsReachedWorld w) (name : Characters) (c : NamedClient) → find (is_client name) w.clients ≡ Some c → Meets w r c
+found-serves w r name c f =
+    let s = (each-found (Serves r.owner (length w.names) w.sequencer w.log) (is_client name) w.clients c f r.clients).0 in
+    record { rest = s.rest; served = s.served; found = record { name = name; found = f } }
+
+abbrev chosen : (NamedClient → Stepped) → Option NamedClient → Stepped
+chosen f None = Err UnknownClient
+chosen f (Some c) = f c
+
+-- an event of a client
+of-client : (w : NaiveWorld) (name : Characters) (e : Event) (f : NamedClient → Stepped) → list_any (nat_eq 2) (refusals_of e) ≡ true → ((c : NamedClient) → find (is_client name) w.clients ≡ Some c → Turns e (f c)) → Turns e (of_client w name f)
+of-client w name e f t g = by (find (is_client name) w.clients) refl
+  where
+    by : (o : Option NamedClient) → find (is_client name) w.clients ≡ o → Turns e (chosen f o)
+    by None h = t
+    by (Some c) h = g c h
+
+abbrev chosen_guest : (NamedGuest → Stepped) → Option NamedGuest → Stepped
+chosen_guest f None = Err UnknownClient
+chosen_guest f (Some g) = f g
+
+-- an event of a guest
+of-guest : (w : NaiveWorld) (name : Characters) (e : Event) (f : NamedGuest → Stepped) → list_any (nat_eq 2) (refusals_of e) ≡ true → ((g : NamedGuest) → find (is_guest name) w.guests ≡ Some g → Turns e (f g)) → Turns e (of_guest w name f)
+of-guest w name e f t k = by (find (is_guest name) w.guests) refl
+  where
+    by : (o : Option NamedGuest) → find (is_guest name) w.guests ≡ o → Turns e (chosen_guest f o)
+    by None h = t
+    by (Some g) h = k g h
+
+-- ---- starts
+
+abbrev named : Stepped → Option Refusal → Stepped
+named taken (Some refusal) = Err refusal
+named taken None = taken
+
+-- a name's fault is one of two
+with-name : (w : NaiveWorld) (name : Characters) (e : Event) (taken : Stepped) → list_any (nat_eq 3) (refusals_of e) ≡ true → list_any (nat_eq 12) (refusals_of e) ≡ true → (IsUnused w.clients w.guests name → Turns e taken) → Turns e (with_name w name taken)
+with-name w name e taken t u h = by (list_any (is_client name) w.clients || list_any (is_guest name) w.guests) (nat_le 16 (length w.clients + length w.guests)) refl
+  where
+    by : (a b : Bool) → list_any (is_client name) w.clients || list_any (is_guest name) w.guests ≡ a → Turns e (named taken (cond a (Some NameInUse) (cond b (Some ClientLimit) None)))
+    by true b k = t
+    by false true k = u
+    by false false k = h k
+
+started-reached : (w : NaiveWorld) (r : IsReachedWorld w) (name : Characters) (doc : Document) → IsUnused w.clients w.guests name → Serves r.owner (length w.names) w.sequencer w.log (record { name = name; connects = 0; client = client_over doc }) → IsReachedWorld (started w name doc)
+started-reached w r name doc u s =
+    let d : NamedClient = record { name = name; connects = 0; client = client_over doc } in
+    record {
+      owner = r.owner;
+      base = r.base;
+      clients = each-more (Serves r.owner (length w.names) w.sequencer w.log) w.clients d r.clients s;
+      guests = r.guests;
+      named = named-started (length w.names) w.clients w.guests w.names d refl u r.named;
+    }
+
+-- an event that nothing pending lets pass
+unless-pending : (x : NaiveClient) (e : Event) (taken : Stepped) → list_any (nat_eq 11) (refusals_of e) ≡ true → (x.pending ≡ [] → Turns e taken) → Turns e (unless_pending x taken)
+unless-pending x e taken t h = by x.pending refl
+  where
+    by : (edits : List PendingEdit) → x.pending ≡ edits → Turns e (unless_pending (record x { pending = edits }) taken)
+    by [] p = h p
+    by (edit ∷ edits) p = t
+
+start-turns : (w : NaiveWorld) (r : IsReachedWorld w) (name : Characters) (from : Option Characters) → IsUnused w.clients w.guests name → Turns (event.Start name from) (start_client w name from)
+start-turns w r name None u = quiet-turn _ (started-reached w r name empty u (record { rest = w.log; served = served-new r.owner (length w.names) w.sequencer w.log name r.base }))
+start-turns w r name (Some from) u =
+    of-client w from (event.Start name (Some from)) (λ c. unless_pending c.client (quietly (started w name c.client.doc))) refl
+    (λ c f. unless-pending c.client (event.Start name (Some from)) (quietly (started w name c.client.doc)) refl
+    (λ none. let s = found-serves w r from c f in
+    quiet-turn _ (started-reached w r name c.client.doc u (record { rest = s.rest; served = served-restarts r.owner (length w.names) w.sequencer w.log c.name name s.rest c.client none s.served }))))
+
+-- ---- connects
+
+new-count : (names : List Characters) (name : Characters) → length (names ++ (name ∷ [])) ≡ length names + 1
+new-count names name = length-append names (name ∷ [])
+
+connected-reached : (w : NaiveWorld) (r : IsReachedWorld w) (c : NamedClient) (x : NaiveClient) → Meets w r c → connect c.client (next_conn w) ≡ Ok x
+    → IsReachedWorld (with_client (record c { client = x; connects = c.connects + 1 }) (joined (connection_name c.name (c.connects + 1)) w))
+connected-reached w r c x s h =
+    let n = length w.names in
+    let label = connection_name c.name (c.connects + 1) in
+    let other = with_owner r.owner (n + 1) (Some c.name) in
+    let old = owner-old r.owner n (Some c.name) in
+    let p = join w.sequencer (n + 1) label in
+    let g = join-logged n w.sequencer w.log label r.base in
+    let d : NamedClient = record c { client = x; connects = c.connects + 1 } in
+    let e = sym (new-count w.names label) in
+    let apart : (a : NamedClient) → is_client c.name a ≡ false → IsApart other (n + 1) a.name = λ a b. apart-name other (n + 1) c.name a.name (owner-new r.owner (n + 1) (Some c.name)) b in
+    let cs : Others c.name (Serves other (n + 1) p.0 (w.log ++ (p.1 ∷ []))) w.clients =
+    others-logged r.owner other n (n + 1) w.sequencer w.log (n + 1) p c.name w.clients (omega arith) old apart g (others-all c.name (Serves r.owner n w.sequencer w.log) w.clients r.clients) in
+    let own : Serves other (n + 1) p.0 (w.log ++ (p.1 ∷ [])) d = record { rest = s.rest ++ (p.1 ∷ []); served = served-connects r.owner n w.sequencer w.log c.name label s.rest c.client x r.base h s.served } in
+    record {
+      owner = other;
+      base = subst (λ m. IsBase m p.0 (w.log ++ (p.1 ∷ []))) e g.base;
+      clients = subst (λ m. Each (Serves other m p.0 (w.log ++ (p.1 ∷ []))) (map (in_place d) w.clients)) e (placed (Serves other (n + 1) p.0 (w.log ++ (p.1 ∷ []))) d w.clients cs own);
+      guests = subst (λ m. Each (IsGuest other m) w.guests) e (guests-known r.owner other n (n + 1) w.guests (omega arith) old r.guests);
+      named = subst (λ m. IsNamed m (map (in_place d) w.clients) w.guests (w.names ++ (label ∷ []))) e (named-connected n w.clients w.guests w.names c d s.found refl refl r.named);
+    }
+
+abbrev connected : NaiveWorld → NamedClient → Result NaiveClient LinkFault → Stepped
+connected w c (Err fault) = Err (refusal_of_link fault)
+connected w c (Ok x) = quietly (with_client (record c { client = x; connects = c.connects + 1 }) (joined (connection_name c.name (c.connects + 1)) w))
+
+connect-fault : (x : NaiveClient) (conn : ℕ) (k : Link) (fault : LinkFault) → connect (record x { link = k }) conn ≡ Err fault → fault ≡ link.AlreadyConnected
+connect-fault x conn Offline fault h = (cc)
+connect-fault x conn (Joining other) fault h = (cc)
+connect-fault x conn (Online other) fault h = (cc)
+
+connect-turns : (w : NaiveWorld) (r : IsReachedWorld w) (name : Characters) → Turns (event.Connect name) (of_client w name (connect_client w))
+connect-turns w r name = of-client w name (event.Connect name) (connect_client w) refl one
+  where
+    by : (c : NamedClient) → Meets w r c → (a : Result NaiveClient LinkFault) → connect c.client (next_conn w) ≡ a → Turns (event.Connect name) (connected w c a)
+    by c s (Err fault) h = subst (λ f. list_any (nat_eq (refusal_number (refusal_of_link f))) (2 ∷ 4 ∷ []) ≡ true) (sym (connect-fault c.client (next_conn w) c.client.link fault h)) refl
+    by c s (Ok x) h = quiet-turn _ (connected-reached w r c x s h)
+
+    one : (c : NamedClient) → find (is_client name) w.clients ≡ Some c → Turns (event.Connect name) (connect_client w c)
+    one c f = by c (found-serves w r name c f) (connect c.client (next_conn w)) refl
+
+-- ---- drops
+
+abbrev dropped_link : NaiveWorld → NamedClient → Result NaiveClient LinkFault → Stepped
+dropped_link v c (Err fault) = Err (refusal_of_link fault)
+dropped_link v c (Ok x) = quietly (with_client (record c { client = x }) v)
+
+abbrev dropped_left : NamedClient → Option NaiveWorld → Stepped
+dropped_left c None = Err Parted
+dropped_left c (Some v) = dropped_link v c (drop_link c.client)
+
+abbrev dropped : NaiveWorld → NamedClient → Option ℕ → Stepped
+dropped w c None = Err Parted
+dropped w c (Some conn) = dropped_left c (left conn w)
+
+left-found : (w : NaiveWorld) (conn : ℕ) (j : JoinedConnection) → find (is_joined conn) w.sequencer.joined ≡ Some j → left conn w ≡ Some (logged (gone w.sequencer conn j) w)
+left-found w conn j f = ap (λ (o : Option (NaiveSequencer × Entry)). elim o [ None ↦ None | Some p ↦ Some (logged p w) ]) (leave-found w.sequencer conn j f)
+
+-- the world after a message of a client's connection, with the client in its place
+logged-reached : (w : NaiveWorld) (r : IsReachedWorld w) (c : NamedClient) (x : NaiveClient) (conn : ℕ) (p : NaiveSequencer × Entry) → IsFound w.clients c → r.owner conn ≡ Some c.name → IsLogged (length w.names) w.sequencer w.log conn p
+    → Serves r.owner (length w.names) p.0 (w.log ++ (p.1 ∷ [])) (record c { client = x }) → IsReachedWorld (with_client (record c { client = x }) (logged p w))
+logged-reached w r c x conn p i o g own =
+    let n = length w.names in
+    let d : NamedClient = record c { client = x } in
+    let apart : (a : NamedClient) → is_client c.name a ≡ false → IsApart r.owner conn a.name = λ a b. apart-name r.owner conn c.name a.name o b in
+    let cs : Others c.name (Serves r.owner n p.0 (w.log ++ (p.1 ∷ []))) w.clients =
+    others-logged r.owner r.owner n n w.sequencer w.log conn p c.name w.clients (omega arith) (λ k l. refl) apart g (others-all c.name (Serves r.owner n w.sequencer w.log) w.clients r.clients) in
+    record {
+      owner = r.owner;
+      base = g.base;
+      clients = placed (Serves r.owner n p.0 (w.log ++ (p.1 ∷ []))) d w.clients cs own;
+      guests = r.guests;
+      named = same-named n w.clients w.guests w.names c x i r.named;
+    }
+
+drop-turns : (w : NaiveWorld) (r : IsReachedWorld w) (name : Characters) → Turns (event.Drop name) (of_client w name (drop_client w))
+drop-turns w r name = of-client w name (event.Drop name) (drop_client w) refl one
+  where
+    by : (c : NamedClient) → Meets w r c → (o : Option ℕ) → conn_of c.client.link ≡ o → Turns (event.Drop name) (dropped w c o)
+    by c s None h = refl
+    by c s (Some conn) h =
+        let x = c.client in
+        let q = w.sequencer in
+        let n = length w.names in
+        let l = (linked-joined x.conns x.doc.number x.next_client_seq x.queue x.pending s.rest q conn x.link h s.served.link).0 in
+        let o = each-any (IsOwned r.owner n c.name) conn x.conns l.has.own s.served.conns in
+        let p = gone q conn l.j in
+        let d : NamedClient = record c { client = record x { link = Offline; queue = [] } } in
+        let g : IsLogged n q w.log conn p = leave-logged n q w.log conn l.j r.base o.known in
+        let here : IsReachedWorld (with_client d (logged p w)) = logged-reached w r c (record x { link = Offline; queue = [] }) conn p s.found o.by g (record { rest = s.rest ++ (p.1 ∷ []); served = served-drops r.owner n q w.log c.name s.rest x conn l.j r.base o.known h s.served }) in
+        subst (λ v. Turns (event.Drop name) (dropped_left c v)) (sym (left-found w conn l.j l.has.joined))
+        (subst (λ a. Turns (event.Drop name) (dropped_link (logged p w) c a)) (sym (drop-made x conn x.link h)) (quiet-turn _ here))
+
+    one : (c : NamedClient) → find (is_client name) w.clients ≡ Some c → Turns (event.Drop name) (drop_client w c)
+    one c f = by c (found-serves w r name c f) (conn_of c.client.link) refl
+
+-- ---- edits and noops
+
+abbrev edited : NaiveWorld → NamedClient → Result NaiveClient EditFault → Stepped
+edited w c (Err fault) = Err (refusal_of_edit fault)
+edited w c (Ok x) = quietly (with_client (record c { client = x }) w)
+
+edit-number : (fault : EditFault) → is_edit_fault fault ≡ true → list_any (nat_eq (refusal_number (refusal_of_edit fault))) (2 ∷ 13 ∷ 14 ∷ 6 ∷ []) ≡ true
+edit-number edit.IdInUse h = refl
+edit-number edit.NoSuchInterval h = refl
+edit-number (edit.OutOfRange n) h = refl
+edit-number edit.OutOfMemory h = (cc)
+edit-number (edit.Stopped seq) h = (cc)
+
+edit-turns : (w : NaiveWorld) (r : IsReachedWorld w) (name : Characters) (op : ChannelOp) → Turns (event.Edit name op) (of_client w name (λ c. edit_client w c op))
+edit-turns w r name op = of-client w name (event.Edit name op) (λ c. edit_client w c op) refl one
+  where
+    by : (c : NamedClient) → Meets w r c → (a : Result NaiveClient EditFault) → local_edit c.client op ≡ a → Turns (event.Edit name op) (edited w c a)
+    by c s (Err fault) h = edit-number fault (edit-fault c.client op fault h)
+    by c s (Ok x) h = quiet-turn _ (own-step w r c x s.found (record { rest = s.rest; served = served-edits r.owner (length w.names) w.sequencer w.log c.name s.rest c.client x op h s.served }))
+
+    one : (c : NamedClient) → find (is_client name) w.clients ≡ Some c → Turns (event.Edit name op) (edit_client w c op)
+    one c f = by c (found-serves w r name c f) (local_edit c.client op) refl
+
+abbrev idled : NaiveWorld → NamedClient → Result NaiveClient LinkFault → Stepped
+idled w c (Err fault) = Err (refusal_of_link fault)
+idled w c (Ok x) = quietly (with_client (record c { client = x }) w)
+
+noop-fault : (x : NaiveClient) (k : Link) (fault : LinkFault) → noop (record x { link = k }) ≡ Err fault → fault ≡ link.NotConnected
+noop-fault x Offline fault h = (cc)
+noop-fault x (Joining other) fault h = (cc)
+noop-fault x (Online other) fault h = (cc)
+
+noop-turns : (w : NaiveWorld) (r : IsReachedWorld w) (name : Characters) → Turns (event.Noop name) (of_client w name (noop_client w))
+noop-turns w r name = of-client w name (event.Noop name) (noop_client w) refl one
+  where
+    by : (c : NamedClient) → Meets w r c → (a : Result NaiveClient LinkFault) → noop c.client ≡ a → Turns (event.Noop name) (idled w c a)
+    by c s (Err fault) h = subst (λ f. list_any (nat_eq (refusal_number (refusal_of_link f))) (2 ∷ 5 ∷ []) ≡ true) (sym (noop-fault c.client c.client.link fault h)) refl
+    by c s (Ok x) h = quiet-turn _ (own-step w r c x s.found (record { rest = s.rest; served = served-idles r.owner (length w.names) w.sequencer w.log c.name s.rest c.client x h s.served }))
+
+    one : (c : NamedClient) → find (is_client name) w.clients ≡ Some c → Turns (event.Noop name) (noop_client w c)
+    one c f = by c (found-serves w r name c f) (noop c.client) refl
+
+-- ---- tickets
+
+-- what is known while a client's drafts are submitted: of the other clients, and of this one
+pub record IsBetween (owner : ℕ → Option Characters) (c : NamedClient) (w : NaiveWorld) : Type 0 where
+  pub base : IsBase (length w.names) w.sequencer w.log
+  pub others : Others c.name (Serves owner (length w.names) w.sequencer w.log) w.clients
+  pub guests : Each (IsGuest owner (length w.names)) w.guests
+  pub named : IsNamed (length w.names) w.clients w.guests w.names
+  pub found : IsFound w.clients c
+
+-- drafts of the client are accepted one after another
+pub record IsSubmitted (owner : ℕ → Option Characters) (c : NamedClient) (w : NaiveWorld) (conn : ℕ) (ds later : List Draft) (x : NaiveClient) : Type 0 where
+  pub v : NaiveWorld
+  pub submits : submitted w conn ds ≡ Ok v
+  pub between : IsBetween owner c v
+  pub rest : List Entry
+  pub served : IsServed owner (length v.names) v.sequencer v.log c.name rest (record x { queue = later })
+
+abbrev submitted_on : NaiveWorld → ℕ → List Draft → Result (NaiveSequencer × Entry) Nack → Result NaiveWorld Refusal
+submitted_on w conn ds (Err nack) = Err (Nacked nack)
+submitted_on w conn ds (Ok p) = submitted (logged p w) conn ds
+
+submits-all : (owner : ℕ → Option Characters) (c : NamedClient) (ds later : List Draft) (w : NaiveWorld) (conn : ℕ) (x : NaiveClient) (rest : List Entry) → IsBetween owner c w → conn_of x.link ≡ Some conn → x.queue ≡ ds ++ later
+    → IsServed owner (length w.names) w.sequencer w.log c.name rest x → IsSubmitted owner c w conn ds later x
+submits-all owner c [] later w conn x rest b k u s =
+    record { v = w; submits = refl; between = b; rest = rest; served = subst (λ ys. IsServed owner (length w.names) w.sequencer w.log c.name rest (record x { queue = ys })) u s }
+submits-all owner c (d ∷ ds) later w conn x rest b k u s =
+    let n = length w.names in
+    let t = served-sends owner n w.sequencer w.log c.name rest x conn d (ds ++ later) b.base k u s in
+    let apart : (a : NamedClient) → is_client c.name a ≡ false → IsApart owner conn a.name = λ a e. apart-name owner conn c.name a.name t.owned e in
+    let next : IsBetween owner c (logged t.p w) = record {
+      base = t.logged.base;
+      others = others-logged owner owner n n w.sequencer w.log conn t.p c.name w.clients (omega arith) (λ i l. refl) apart t.logged b.others;
+      guests = b.guests;
+      named = b.named;
+      found = b.found;
+    } in
+    let m = submits-all owner c ds later (logged t.p w) conn (record x { queue = ds ++ later }) (rest ++ (t.p.1 ∷ [])) next k refl t.served in
+    record { v = m.v; submits = ap (submitted_on w conn ds) t.submits ∙ m.submits; between = m.between; rest = m.rest; served = m.served }
+
+abbrev ticketed_so : NamedClient → ℕ → Result NaiveWorld Refusal → Stepped
+ticketed_so c n (Err refusal) = Err refusal
+ticketed_so c n (Ok v) = quietly (with_client (record c { client = record c.client { queue = drop n c.client.queue } }) v)
+
+abbrev ticketed : NaiveWorld → NamedClient → ℕ → Option ℕ → Stepped
+ticketed w c conn None = Err (NothingToTicket (length c.client.queue))
+ticketed w c conn (Some n) = ticketed_so c n (submitted w conn (take n c.client.queue))
+
+abbrev ticketing : NaiveWorld → NamedClient → HowMany → Option ℕ → Stepped
+ticketing w c many None = Err Parted
+ticketing w c many (Some conn) = ticketed w c conn (counted many (length c.client.queue))
+
+ticket-turns : (w : NaiveWorld) (r : IsReachedWorld w) (name : Characters) (many : HowMany) → Turns (event.Ticket name many) (of_client w name (λ c. ticket_client w c many))
+ticket-turns w r name many = of-client w name (event.Ticket name many) (λ c. ticket_client w c many) refl one
+  where
+    some : (c : NamedClient) → Meets w r c → (conn : ℕ) → conn_of c.client.link ≡ Some conn → (o : Option ℕ) → Turns (event.Ticket name many) (ticketed w c conn o)
+    some c s conn h None = refl
+    some c s conn h (Some n) =
+        let x = c.client in
+        let b : IsBetween r.owner c w = record { base = r.base; others = others-all c.name (Serves r.owner (length w.names) w.sequencer w.log) w.clients r.clients; guests = r.guests; named = r.named; found = s.found } in
+        let m = submits-all r.owner c (take n x.queue) (drop n x.queue) w conn x s.rest b h (sym (take-append-drop n x.queue)) s.served in
+        let d : NamedClient = record c { client = record x { queue = drop n x.queue } } in
+        let here : IsReachedWorld (with_client d m.v) = record {
+          owner = r.owner;
+          base = m.between.base;
+          clients = placed (Serves r.owner (length m.v.names) m.v.sequencer m.v.log) d m.v.clients m.between.others (record { rest = m.rest; served = m.served });
+          guests = m.between.guests;
+          named = same-named (length m.v.names) m.v.clients m.v.guests m.v.names c (record x { queue = drop n x.queue }) m.between.found m.between.named;
+        } in
+        subst (λ a. Turns (event.Ticket name many) (ticketed_so c n a)) (sym m.submits) (quiet-turn _ here)
+
+    by : (c : NamedClient) → Meets w r c → (o : Option ℕ) → conn_of c.client.link ≡ o → Turns (event.Ticket name many) (ticketing w c many o)
+    by c s None h = refl
+    by c s (Some conn) h = some c s conn h (counted many (length c.client.queue))
+
+    one : (c : NamedClient) → find (is_client name) w.clients ≡ Some c → Turns (event.Ticket name many) (ticket_client w c many)
+    one c f = by c (found-serves w r name c f) (conn_of c.client.link) refl
+
+-- ---- deliveries and offers
+
+-- the messages ahead of a client are the rest of the log
+pub ahead-is : (owner : ℕ → Option Characters) (w : NaiveWorld) (c : NamedClient) (rest : List Entry) → IsServed owner (length w.names) w.sequencer w.log c.name rest c.client → ahead_of w c.client ≡ rest
+ahead-is owner w c rest s = ap (drop c.client.doc.number) (sym s.entries) ∙ drop_at _ rest c.client.doc.number (sym (entries-counted s.steps c.client s.run.made))
+
+-- the client processes entries one after another
+pub record IsProcessed (owner : ℕ → Option Characters) (count : ℕ) (q : NaiveSequencer) (log : List Entry) (name : Characters) (x : NaiveClient) (es later : List Entry) : Type 0 where
+  pub y : NaiveClient
+  pub takes : processed x es ≡ Ok y
+  pub served : IsServed owner count q log name later y
+
+abbrev processed_on : Entry → List Entry → Result NaiveClient ProcessFault → Result NaiveClient Refusal
+processed_on e es (Err fault) = Err (refusal_of_process e.msg.seq fault)
+processed_on e es (Ok y) = processed y es
+
+pub processes-all : (owner : ℕ → Option Characters) (count : ℕ) (q : NaiveSequencer) (log : List Entry) (name : Characters) (es later : List Entry) (x : NaiveClient) → IsServed owner count q log name (es ++ later) x
+    → IsProcessed owner count q log name x es later
+processes-all owner count q log name [] later x s = record { y = x; takes = refl; served = s }
+processes-all owner count q log name (e ∷ es) later x s =
+    let t = served-takes owner count q log name (es ++ later) x e s in
+    let m = processes-all owner count q log name es later t.y t.served in
+    record { y = m.y; takes = ap (processed_on e es) t.processed ∙ m.takes; served = m.served }
+
+now-turns : (w : NaiveWorld) (r : IsReachedWorld w) (e : Event) (c : NamedClient) (es later : List Entry) → IsFound w.clients c → IsServed r.owner (length w.names) w.sequencer w.log c.name (es ++ later) c.client → Turns e (now w c (processed c.client es))
+now-turns w r e c es later i s =
+    let m = processes-all r.owner (length w.names) w.sequencer w.log c.name es later c.client s in
+    subst (λ a. Turns e (now w c a)) (sym m.takes) (quiet-turn _ (own-step w r c m.y i (record { rest = later; served = m.served })))
+
+abbrev delivered : NaiveWorld → NamedClient → Option ℕ → Stepped
+delivered w c None = Err (NothingToDeliver (length (ahead_of w c.client)))
+delivered w c (Some n) = now w c (processed c.client (take n (ahead_of w c.client)))
+
+abbrev delivering : NaiveWorld → NamedClient → HowMany → Option ℕ → Stepped
+delivering w c many None = Err Parted
+delivering w c many (Some conn) = delivered w c (counted many (length (ahead_of w c.client)))
+
+deliver-turns : (w : NaiveWorld) (r : IsReachedWorld w) (name : Characters) (many : HowMany) → Turns (event.Deliver name many) (of_client w name (λ c. deliver_client w c many))
+deliver-turns w r name many = of-client w name (event.Deliver name many) (λ c. deliver_client w c many) refl one
+  where
+    some : (c : NamedClient) → Meets w r c → (o : Option ℕ) → Turns (event.Deliver name many) (delivered w c o)
+    some c s None = refl
+    some c s (Some n) =
+        let a : take n (ahead_of w c.client) ≡ take n s.rest = ap (take n) (ahead-is r.owner w c s.rest s.served) in
+        subst (λ es. Turns (event.Deliver name many) (now w c (processed c.client es))) (sym a)
+        (now-turns w r (event.Deliver name many) c (take n s.rest) (drop n s.rest) s.found
+        (subst (λ es. IsServed r.owner (length w.names) w.sequencer w.log c.name es c.client) (sym (take-append-drop n s.rest)) s.served))
+
+    by : (c : NamedClient) → Meets w r c → (o : Option ℕ) → Turns (event.Deliver name many) (delivering w c many o)
+    by c s None = refl
+    by c s (Some conn) = some c s (counted many (length (ahead_of w c.client)))
+
+    one : (c : NamedClient) → find (is_client name) w.clients ≡ Some c → Turns (event.Deliver name many) (deliver_client w c many)
+    one c f = by c (found-serves w r name c f) (conn_of c.client.link)
+
+-- a text without a reading has one of two refusals
+cause-number : (e : Event) (fault : Cause) → list_any (nat_eq 1) (refusals_of e) ≡ true → list_any (nat_eq 15) (refusals_of e) ≡ true → list_any (nat_eq (refusal_number (refusal_of_cause fault))) (refusals_of e) ≡ true
+cause-number e cause.CountLimit a b = b
+cause-number e cause.NotUtf8 a b = a
+cause-number e cause.NotJson a b = a
+cause-number e cause.Fraction a b = a
+cause-number e cause.TooDeep a b = a
+cause-number e (cause.Missing field) a b = a
+cause-number e (cause.WrongKind field) a b = a
+cause-number e (cause.UnknownType n) a b = a
+cause-number e (cause.Reversed p q) a b = a
+cause-number e cause.NestedGroup a b = a
+cause-number e cause.UnknownWord a b = a
+cause-number e cause.OutOfMemory a b = a
+
+abbrev offered : NaiveWorld → NamedClient → Result Message Cause → Stepped
+offered w c (Err fault) = Err (refusal_of_cause fault)
+offered w c (Ok m) = offer_message w c m
+
+abbrev offering : NaiveWorld → NamedClient → Characters → Option ℕ → Stepped
+offering w c text None = Err Parted
+offering w c text (Some conn) = offered w c (message (encode_utf8_all text))
+
+offer-turns : (w : NaiveWorld) (r : IsReachedWorld w) (name text : Characters) → Turns (event.Offer name text) (of_client w name (λ c. offer_client w c text))
+offer-turns w r name text = of-client w name (event.Offer name text) (λ c. offer_client w c text) refl one
+  where
+    same : (c : NamedClient) (m : Message) (entry : Entry) (es : List Entry) → IsFound w.clients c → IsServed r.owner (length w.names) w.sequencer w.log c.name (entry ∷ es) c.client → (b : Bool)
+        → Turns (event.Offer name text) (cond b (now w c (processed c.client (entry ∷ []))) (Err (Foreign m.seq)))
+    same c m entry es i s true = now-turns w r (event.Offer name text) c (entry ∷ []) es i s
+    same c m entry es i s false = refl
+
+    next : (c : NamedClient) (m : Message) (es : List Entry) → IsFound w.clients c → IsServed r.owner (length w.names) w.sequencer w.log c.name es c.client → Turns (event.Offer name text) (offer_next w c m es)
+    next c m [] i s = refl
+    next c m (entry ∷ es) i s = same c m entry es i s (same_message m entry.msg)
+
+    ordered : (c : NamedClient) (m : Message) (s : Meets w r c) (b : Bool)
+        → Turns (event.Offer name text) (cond b (offer_next w c m (ahead_of w c.client)) (Err (OutOfOrder (c.client.doc.number + 1) m.seq)))
+    ordered c m s true = subst (λ es. Turns (event.Offer name text) (offer_next w c m es)) (sym (ahead-is r.owner w c s.rest s.served)) (next c m s.rest s.found s.served)
+    ordered c m s false = refl
+
+    read : (c : NamedClient) → Meets w r c → (a : Result Message Cause) → Turns (event.Offer name text) (offered w c a)
+    read c s (Err fault) = cause-number (event.Offer name text) fault refl refl
+    read c s (Ok m) = ordered c m s (nat_eq m.seq (c.client.doc.number + 1))
+
+    by : (c : NamedClient) → Meets w r c → (o : Option ℕ) → Turns (event.Offer name text) (offering w c text o)
+    by c s None = refl
+    by c s (Some conn) = read c s (message (encode_utf8_all text))
+
+    one : (c : NamedClient) → find (is_client name) w.clients ≡ Some c → Turns (event.Offer name text) (offer_client w c text)
+    one c f = by c (found-serves w r name c f) (conn_of c.client.link)
+
+-- ---- guests
+
+entered-reached : (w : NaiveWorld) (r : IsReachedWorld w) (name : Characters) → IsUnused w.clients w.guests name → IsReachedWorld (enter_guest w name)
+entered-reached w r name u =
+    let n = length w.names in
+    let label = connection_name name 1 in
+    let other = with_owner r.owner (n + 1) None in
+    let old = owner-old r.owner n None in
+    let p = join w.sequencer (n + 1) label in
+    let g = join-logged n w.sequencer w.log label r.base in
+    let e = sym (new-count w.names label) in
+    let guest : NamedGuest = record { name = name; conn = n + 1 } in
+    let fresh = owner-new r.owner (n + 1) None in
+    record {
+      owner = other;
+      base = subst (λ m. IsBase m p.0 (w.log ++ (p.1 ∷ []))) e g.base;
+      clients = subst (λ m. Each (Serves other m p.0 (w.log ++ (p.1 ∷ []))) w.clients) e (all-logged r.owner other n (n + 1) w.sequencer w.log (n + 1) p w.clients (omega arith) old fresh g r.clients);
+      guests = subst (λ m. Each (IsGuest other m) (w.guests ++ (guest ∷ []))) e
+          (each-more (IsGuest other (n + 1)) w.guests guest (guests-known r.owner other n (n + 1) w.guests (omega arith) old r.guests) (record { by = fresh; known = omega arith }));
+      named = subst (λ m. IsNamed m w.clients (w.guests ++ (guest ∷ [])) (w.names ++ (label ∷ []))) e (named-entered n w.clients w.guests w.names guest u r.named);
+    }
+
+-- the world after a message of a guest's connection
+guest-reached : (w : NaiveWorld) (r : IsReachedWorld w) (conn : ℕ) (p : NaiveSequencer × Entry) → r.owner conn ≡ None → IsLogged (length w.names) w.sequencer w.log conn p → IsReachedWorld (logged p w)
+guest-reached w r conn p o g = record {
+  owner = r.owner;
+  base = g.base;
+  clients = all-logged r.owner r.owner (length w.names) (length w.names) w.sequencer w.log conn p w.clients (omega arith) (λ k l. refl) o g r.clients;
+  guests = r.guests;
+  named = r.named;
+}
+
+abbrev quiet : Result NaiveWorld Refusal → Stepped
+quiet (Err refusal) = Err refusal
+quiet (Ok v) = quietly v
+
+abbrev drafted : NaiveWorld → NamedGuest → Result Draft Cause → Stepped
+drafted w g (Err fault) = Err (refusal_of_cause fault)
+drafted w g (Ok d) = submit_draft w g d
+
+submit-turns : (w : NaiveWorld) (r : IsReachedWorld w) (name text : Characters) → Turns (event.Submit name text) (of_guest w name (λ g. submit_guest w g text))
+submit-turns w r name text = of-guest w name (event.Submit name text) (λ g. submit_guest w g text) refl one
+  where
+    sent : (g : NamedGuest) (d : Draft) → IsGuest r.owner (length w.names) g → (a : Result (NaiveSequencer × Entry) Nack) → submit w.sequencer g.conn d ≡ a → Turns (event.Submit name text) (quiet (submitted_on w g.conn [] a))
+    sent g d i (Err nack) h = refl
+    sent g d i (Ok p) h =
+        let t = submit-sequenced w.sequencer g.conn d p h in
+        let l : IsLogged (length w.names) w.sequencer w.log g.conn p =
+        subst (IsLogged (length w.names) w.sequencer w.log g.conn) (sym t.same) (sequence-logged (length w.names) w.sequencer w.log g.conn t.j d r.base t.found t.accepted) in
+        quiet-turn _ (guest-reached w r g.conn p i.by l)
+
+    read : (g : NamedGuest) → IsGuest r.owner (length w.names) g → (a : Result Draft Cause) → Turns (event.Submit name text) (drafted w g a)
+    read g i (Err fault) = cause-number (event.Submit name text) fault refl refl
+    read g i (Ok d) = sent g d i (submit w.sequencer g.conn d) refl
+
+    one : (g : NamedGuest) → find (is_guest name) w.guests ≡ Some g → Turns (event.Submit name text) (submit_guest w g text)
+    one g f = read g (each-found (IsGuest r.owner (length w.names)) (is_guest name) w.guests g f r.guests).0 (draft (encode_utf8_all text))
+
+abbrev parted : Option NaiveWorld → Stepped
+parted None = Err Parted
+parted (Some v) = quietly v
+
+left-none : (w : NaiveWorld) (conn : ℕ) → find (is_joined conn) w.sequencer.joined ≡ None → left conn w ≡ None
+left-none w conn f = ap (λ (o : Option (NaiveSequencer × Entry)). elim o [ None ↦ None | Some p ↦ Some (logged p w) ]) (ap (λ (o : Option JoinedConnection). option_map (gone w.sequencer conn) o) f)
+
+part-turns : (w : NaiveWorld) (r : IsReachedWorld w) (name : Characters) → Turns (event.Part name) (of_guest w name (part_guest w))
+part-turns w r name = of-guest w name (event.Part name) (part_guest w) refl one
+  where
+    by : (g : NamedGuest) → IsGuest r.owner (length w.names) g → (o : Option JoinedConnection) → find (is_joined g.conn) w.sequencer.joined ≡ o → Turns (event.Part name) (parted (left g.conn w))
+    by g i None f = subst (λ v. Turns (event.Part name) (parted v)) (sym (left-none w g.conn f)) refl
+    by g i (Some j) f =
+        subst (λ v. Turns (event.Part name) (parted v)) (sym (left-found w g.conn j f))
+        (quiet-turn _ (guest-reached w r g.conn (gone w.sequencer g.conn j) i.by (leave-logged (length w.names) w.sequencer w.log g.conn j r.base i.known)))
+
+    one : (g : NamedGuest) → find (is_guest name) w.guests ≡ Some g → Turns (event.Part name) (part_guest w g)
+    one g f = by g (each-found (IsGuest r.owner (length w.names)) (is_guest name) w.guests g f r.guests).0 (find (is_joined g.conn) w.sequencer.joined) refl
+
+-- ---- all events
+
+blame-turns : (w : NaiveWorld) (r : IsReachedWorld w) (name : Characters) (a b : ℕ) (x : NaiveClient) → Turns (event.Blame name a b) (blame_client w x a b)
+blame-turns w r name a b x = by _ (nat_lt (length (blame x)) b)
+  where
+    by : (values : List Data) (t : Bool) → Turns (event.Blame name a b) (cond t (Err (OutOfRange (length (blame x)))) (Ok (w, Texts values)))
+    by values true = refl
+    by values false = texts-turn w values r
+
+-- what a client shows is what the order will show of it
+show-turns : (w : NaiveWorld) (r : IsReachedWorld w) (name : Characters) → Turns (event.Show name) (of_client w name (λ c. Ok (w, View c)))
+show-turns w r name = of-client w name (event.Show name) (λ c. Ok (w, View c)) refl one
+  where
+    one : (c : NamedClient) → find (is_client name) w.clients ≡ Some c → Turns (event.Show name) (Ok (w, View c))
+    one c f =
+        let s = found-serves w r name c f in
+        let top : content c.client ≡ applied c.client w.log (next_conn w) =
+        pending-stays-on_top s.served.steps c.client s.rest (next_conn w) s.served.run.made s.served.run.bodies ∙ ap (λ log. applied c.client log (next_conn w)) s.served.entries in
+        record { reached = r; same = ap (λ v. head_line c ∷ content_lines v) top }
+
+happens : (w : NaiveWorld) (r : IsReachedWorld w) (e : Event) → Turns e (happen w e)
+happens w r (event.Start name None) = with-name w name (event.Start name None) (start_client w name None) refl refl (λ u. start-turns w r name None u)
+happens w r (event.Start name (Some from)) = with-name w name (event.Start name (Some from)) (start_client w name (Some from)) refl refl (λ u. start-turns w r name (Some from) u)
+happens w r (event.Connect name) = connect-turns w r name
+happens w r (event.Drop name) = drop-turns w r name
+happens w r (event.Edit name op) = edit-turns w r name op
+happens w r (event.Ticket name many) = ticket-turns w r name many
+happens w r (event.Deliver name many) = deliver-turns w r name many
+happens w r (event.Noop name) = noop-turns w r name
+happens w r (event.Show name) = show-turns w r name
+happens w r (event.Queue name) = of-client w name (event.Queue name) _ refl (λ c f. texts-turn w _ r)
+happens w r (event.Compact name) = of-client w name (event.Compact name) _ refl (λ c f. quiet-turn w r)
+happens w r (event.Summary name) = of-client w name (event.Summary name) _ refl (λ c f. unless-pending c.client (event.Summary name) _ refl (λ none. texts-turn w _ r))
+happens w r (event.Offer name text) = offer-turns w r name text
+happens w r event.History = texts-turn w _ r
+happens w r (event.Guest name) = with-name w name (event.Guest name) (quietly (enter_guest w name)) refl refl (λ u. quiet-turn _ (entered-reached w r name u))
+happens w r (event.Submit name text) = submit-turns w r name text
+happens w r (event.Part name) = part-turns w r name
+happens w r (event.Overlap name label a b) = of-client w name (event.Overlap name label a b) _ refl (λ c f. texts-turn w _ r)
+happens w r (event.Blame name a b) = of-client w name (event.Blame name a b) _ refl (λ c f. blame-turns w r name a b c.client)
+happens w r (event.Authors name) = of-client w name (event.Authors name) _ refl (λ c f. texts-turn w _ r)
+
+-- the load changes nothing that is known
+loaded-lines : (w : NaiveWorld) (n : ℕ) (o : Output) → output_lines as_shown w o ≡ output_lines as_applied w o → output_lines as_shown (record w { load = n }) o ≡ output_lines as_applied (record w { load = n }) o
+loaded-lines w n Nothing h = h
+loaded-lines w n (View c) h = h
+loaded-lines w n (Texts values) h = h
+
+loaded-reached : (w : NaiveWorld) (n : ℕ) → IsReachedWorld w → IsReachedWorld (record w { load = n })
+loaded-reached w n r = record { owner = r.owner; base = r.base; clients = r.clients; guests = r.guests; named = r.named }
+
+loaded-turns : (e : Event) (n : ℕ) (s : Stepped) → Turns e s → Turns e (loaded n s)
+loaded-turns e n (Err refusal) h = h
+loaded-turns e n (Ok p) h = record { reached = loaded-reached p.0 (p.0.load + n) h.reached; same = loaded-lines p.0 (p.0.load + n) p.1 h.same }
+
+pub steps-turn : (w : NaiveWorld) (r : IsReachedWorld w) (e : Event) → Turns e (step w e)
+steps-turn w r e = loaded-turns e (1 + text_load e) (happen w e) (happens w r e)
+
+abbrev gone_on : NaiveWorld → Stepped → NaiveWorld
+gone_on w (Err refusal) = w
+gone_on w (Ok p) = p.0
+
+after-reached : (w : NaiveWorld) (r : IsReachedWorld w) (e : Event) (s : Stepped) → Turns e s → IsReachedWorld (gone_on w s)
+after-reached w r e (Err refusal) h = r
+after-reached w r e (Ok p) h = h.reached
+
+pub reaches : (es : List Event) (w : NaiveWorld) → IsReachedWorld w → IsReachedWorld (world_of w es)
+reaches [] w r = r
+reaches (e ∷ es) w r = reaches es (world_after w e) (after-reached w r e (step w e) (steps-turn w r e))
+
+pub first-reached : IsReachedWorld new_world
+first-reached = record {
+  owner = λ conn. None;
+  base = record { order = (refl, refl); within = omega arith; joined = tt; origins = tt };
+  clients = tt;
+  guests = tt;
+  named = record { taken = tt; counted = tt };
+}

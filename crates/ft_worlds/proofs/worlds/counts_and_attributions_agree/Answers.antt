@@ -1,0 +1,8 @@
+use Rattle.ft_worlds.proofs.WorldLaws.{attributions-agree, counts-are-agreed}
+use Rattle.ft_worlds.proofs.worlds.counts_and_attributions_agree.Goals as goal
+
+pub returns-clause-counts : goal.returns-clause-counts
+returns-clause-counts c = counts-are-agreed
+
+pub returns-clause-attributions : goal.returns-clause-attributions
+returns-clause-attributions c = attributions-agree

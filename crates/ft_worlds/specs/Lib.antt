@@ -1,0 +1,5 @@
+pub mod LogOrder
+pub mod Worlds
+pub mod Reports
+pub mod Offers
+pub mod NewNames

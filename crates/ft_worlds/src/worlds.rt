@@ -1,0 +1,57 @@
+//! What holds of every world that events make of the empty one.
+
+ghost use Rattle.ft_worlds.specs.Worlds.{AttributionsAgree, ClientsAreOfLog, CountsAreAgreed, ClientsShowTheSame, EventsHaveTheirRefusals, LogIsInOrder, ViewsAreApplied};
+ghost use Rattle.ft_worlds.specs.NewNames.{ConnectionsHaveNewNames, GuestsHaveNewNames};
+ghost use Rattle.ft_worlds.specs.Offers.{OffersAreOfTheLog};
+ghost use Rattle.ft_worlds.specs.Reports.{OpenedReportsAreOne, ReportsAreOne};
+
+/// The log's messages follow one another: their numbers are 1, 2, 3 and so on, minimums never fall,
+/// and each operation refers to a number from the minimum before it up to below its own.
+pub fn logs_are_in_order()
+    ensures { LogIsInOrder }
+{}
+
+/// Each client made steps of its own from the empty document on, refusing none, and took the first
+/// messages of the log. One that started from another goes on with the steps of that one.
+pub fn clients_are_of_the_log()
+    ensures { ClientsAreOfLog }
+{}
+
+/// An event has the refusals of its row alone: no message of the log is refused by a client, nor a
+/// client's own draft by the sequencer.
+pub fn events_have_their_refusals()
+    ensures { EventsHaveTheirRefusals }
+{}
+
+/// An offered message that a client takes is the next one of the log: what the client makes of the
+/// offer is what it makes of the log's message.
+pub fn offers_are_of_the_log()
+    ensures { OffersAreOfTheLog }
+{}
+
+/// Each client shows the messages that it processed with its pending operations sequenced next. Two
+/// clients with the same number and nothing pending show the same.
+pub fn views_are_applied()
+    ensures applied { ViewsAreApplied }
+    ensures same { ClientsShowTheSame }
+{}
+
+/// The report of a session is the same whether each view is what its client shows, or what the order
+/// shows of the messages that the client processed with its pending operations sequenced next.
+pub fn reports_are_one()
+    ensures whole { ReportsAreOne }
+    ensures opened { OpenedReportsAreOne }
+{}
+
+/// The counts of a client are those of the messages that it processed, and so is, with nothing
+/// pending, who inserted its text.
+pub fn counts_and_attributions_agree()
+    ensures counts { CountsAreAgreed }
+    ensures attributions { AttributionsAgree }
+{}
+
+/// The name of each new connection is a new one, so a table of names gives it the next number.
+pub fn connections_have_new_names()
+    ensures clients { ConnectionsHaveNewNames }
+    ensures guests { GuestsHaveNewNames }
+{}
