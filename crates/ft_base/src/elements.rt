@@ -2,6 +2,7 @@
 
 ghost use Rattle.std.specs.Prelude.{◌≡◌, ◌↔◌, IsTrue, IfOk};
 
+use crate::lists::Plain;
 use crate::memory::OutOfMemory;
 use crate::stamps::{Stamp, Stamps};
 
@@ -28,11 +29,21 @@ impl Element {
         })
     }
 
-    /// Whether both elements have the same stamps. It takes no memory.
+    /// Whether both elements have the same stamps.
     pub fn same(&self, other: &Element) -> bool
         ensures { IsTrue result ↔ (self.now ≡ other.now) }
     {
         self.ins.same(&other.ins) && self.dels.same(&other.dels)
+    }
+}
+
+impl Plain for Element {
+    fn copy(&self) -> Result<Element, OutOfMemory> {
+        self.copy()
+    }
+
+    fn same(&self, other: &Element) -> bool {
+        self.same(other)
     }
 }
 

@@ -1,19 +1,21 @@
-//! What every other crate stands on: texts, stamps and elements, who sees an element, scans of a
-//! list of elements, want of memory, and a counter of steps.
+//! What every other crate stands on: lists, texts, stamps and elements, who sees an element, scans
+//! of a list of elements, want of memory, and a counter of steps.
+//!
+//! A call that can't answer `OutOfMemory` takes no memory.
 #![tactic(auto)]
 
 pub mod counting;
 pub mod elements;
+pub mod lists;
 pub mod memory;
 pub mod scans;
 pub mod stamps;
-#[cfg(test)]
-mod tests;
 pub mod texts;
 pub mod visibility;
 
 pub use counting::Steps;
 pub use elements::{Element, Perspective};
+pub use lists::{List, Plain};
 pub use memory::OutOfMemory;
 pub use stamps::{Stamp, Stamps};
 pub use texts::Text;

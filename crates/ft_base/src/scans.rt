@@ -8,7 +8,7 @@ use crate::elements::{Element, Perspective};
 use crate::memory::OutOfMemory;
 use crate::visibility::sees;
 
-/// How many of the elements the perspective sees. It takes no memory.
+/// How many of the elements the perspective sees.
 #[tactic(auto, using(crate::proofs::PlainList::seen_counts))]
 pub fn seen_count(items: &[Element], at: Perspective) -> usize
     ensures { result ≡ len (λ e. sees e at.r at.c) items.now }
@@ -17,7 +17,7 @@ pub fn seen_count(items: &[Element], at: Perspective) -> usize
 }
 
 /// The number of elements up to the `p`-th that the perspective sees: 0 for `p` = 0, and all where
-/// it sees fewer than `p`. It takes no memory.
+/// it sees fewer than `p`.
 pub fn place_of(items: &[Element], p: usize, at: Perspective) -> usize
     ensures place { result ≡ place (λ e. sees e at.r at.c) p items.now }
     ensures inside { result ≤ length items.now }

@@ -1,7 +1,9 @@
 //! Texts.
 
-ghost use Rattle.std.specs.Prelude.{◌≡◌, ◌↔◌, IsTrue, IfOk, chars, encode_utf8_all};
+ghost use Rattle.std.specs.Prelude.{◌≡◌, ◌↔◌, IsTrue, IfOk, chars, encode_utf8_all, string_bytes};
+ghost use Rattle.ft_base.specs.Texts.{IsText};
 
+use crate::lists::Plain;
 use crate::memory::OutOfMemory;
 use std::alloc::Global;
 use std::marker::Model;
@@ -33,10 +35,18 @@ impl Text {
         })
     }
 
-    /// The characters, as a string slice. It takes no memory.
+    /// The characters of `text`.
+    pub fn from_string(text: String) -> Text
+        ensures { result ≡ chars (string_bytes text) }
+    {
+        Text { text }
+    }
+
+    /// The characters, as a string slice.
     pub fn as_str(&self) -> &str
         ensures bytes { result.now ≡ encode_utf8_all self.now }
         ensures characters { chars result.now ≡ self.now }
+        ensures is_text { IsText self.now }
     {
         self.text.as_str()
     }
@@ -52,10 +62,20 @@ impl Text {
         })
     }
 
-    /// Whether both texts have the same characters. It takes no memory.
+    /// Whether both texts have the same characters.
     pub fn same(&self, other: &Text) -> bool
         ensures { IsTrue result ↔ (self.now ≡ other.now) }
     {
         self.text == other.text
+    }
+}
+
+impl Plain for Text {
+    fn copy(&self) -> Result<Text, OutOfMemory> {
+        self.copy()
+    }
+
+    fn same(&self, other: &Text) -> bool {
+        self.same(other)
     }
 }

@@ -1,4 +1,4 @@
-//! Who sees an element. None of these calls takes memory.
+//! Who sees an element.
 
 ghost use Rattle.std.specs.Prelude.{◌≡◌};
 ghost use Rattle.std.specs.List.{list_any};

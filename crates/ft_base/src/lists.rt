@@ -1,0 +1,129 @@
+//! Lists of values that can be copied and compared.
+
+ghost use Rattle.std.specs.Prelude.{◌≡◌, ◌↔◌, [], ◌∷◌, ◌++◌, IsTrue, IfOk, OnOk, OnErr, length, slice_get, option_copied};
+
+use crate::memory::OutOfMemory;
+use std::alloc::Global;
+use std::marker::Model;
+
+/// A value that can be copied and compared.
+pub trait Plain: Sized + Drop {
+    /// An equal value.
+    ///
+    /// Answers `OutOfMemory` where there is no room for it.
+    fn copy(&self) -> Result<Self, OutOfMemory>
+        ensures { IfOk result (λ copy. copy ≡ self.now) };
+
+    /// Whether both values are equal.
+    fn same(&self, other: &Self) -> bool
+        ensures { IsTrue result ↔ (self.now ≡ other.now) };
+}
+
+/// A list, which contracts see as the list of what its items are seen as.
+#[derive(Drop)]
+pub struct List<T> {
+    items: Vec<T>,
+}
+
+impl<T> Model for List<T> {
+    ghost use Rattle.std.specs.Prelude.{List};
+
+    ghost Value = { List T };
+
+    ghost view = { λ a. a.items.items };
+}
+
+impl<T: Drop> List<T> {
+    /// No items.
+    pub fn new(alloc: Global) -> List<T>
+        ensures { result ≡ [] }
+    {
+        List {
+            items: Vec::new(alloc),
+        }
+    }
+
+    /// Adds an item at the end.
+    ///
+    /// Answers `OutOfMemory` where there is no room for it, and then the list is as it was.
+    pub fn push(&mut self, item: T) -> Result<(), OutOfMemory>
+        ensures ok { OnOk result (self.new ≡ self.old ++ item ∷ []) }
+        ensures err { OnErr result (self.new ≡ self.old) }
+    {
+        self.items.push(item)?;
+        Ok(())
+    }
+
+    /// How many items there are.
+    pub fn len(&self) -> usize
+        ensures { result ≡ length self.now }
+    {
+        self.items.len()
+    }
+
+    /// Whether there are none.
+    pub fn is_empty(&self) -> bool
+        ensures { IsTrue result ↔ (self.now ≡ []) }
+    {
+        self.items.is_empty()
+    }
+
+    /// The item at place `i`, counted from 0: None exactly where `i` isn't below the length.
+    pub fn at(&self, i: usize) -> Option<&T>
+        ensures { option_copied result ≡ slice_get self.now i }
+    {
+        self.items.get(i)
+    }
+
+    /// The items in order.
+    pub fn as_slice(&self) -> &[T]
+        ensures { result.now ≡ self.now }
+    {
+        self.items.as_slice()
+    }
+
+    /// Where the list takes its memory.
+    pub fn allocator(&self) -> Global {
+        *self.items.allocator()
+    }
+}
+
+impl<T: Plain> List<T> {
+    /// An equal list.
+    ///
+    /// Answers `OutOfMemory` where there is no room for it.
+    pub fn copy(&self) -> Result<List<T>, OutOfMemory>
+        ensures { IfOk result (λ copy. copy ≡ self.now) }
+    {
+        let mut items = Vec::with_capacity(*self.items.allocator(), self.items.len())?;
+        for item in &self.items {
+            items.push(item.copy()?)?;
+        }
+        Ok(List { items })
+    }
+
+    /// Whether both lists have equal items in the same order.
+    pub fn same(&self, other: &List<T>) -> bool
+        ensures { IsTrue result ↔ (self.now ≡ other.now) }
+    {
+        if self.items.len() != other.items.len() {
+            return false;
+        }
+        for (mine, theirs) in self.items.iter().zip(&other.items) {
+            if !mine.same(theirs) {
+                return false;
+            }
+        }
+        true
+    }
+}
+
+impl<T: Plain> Plain for List<T> {
+    fn copy(&self) -> Result<List<T>, OutOfMemory> {
+        self.copy()
+    }
+
+    fn same(&self, other: &List<T>) -> bool {
+        self.same(other)
+    }
+}
