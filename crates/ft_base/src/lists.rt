@@ -19,6 +19,23 @@ pub trait Plain: Sized + Drop {
         ensures { IsTrue result ↔ (self.now ≡ other.now) };
 }
 
+impl<T: Plain> Plain for Option<T> {
+    fn copy(&self) -> Result<Option<T>, OutOfMemory> {
+        match self {
+            Some(value) => Ok(Some(value.copy()?)),
+            None => Ok(None),
+        }
+    }
+
+    fn same(&self, other: &Option<T>) -> bool {
+        match (self, other) {
+            (Some(mine), Some(theirs)) => mine.same(theirs),
+            (None, None) => true,
+            _ => false,
+        }
+    }
+}
+
 /// A list, which contracts see as the list of what its items are seen as.
 #[derive(Drop)]
 pub struct List<T> {

@@ -7,6 +7,7 @@ use Rattle.std.specs.Cmp.Lexicographic.{slice_cmp}
 use Rattle.serde_json.specs.Data.{Num, unsigned, negative, float, Data, null, boolean, number, string, array, object, Items, no_items, item, Members, no_members, member, depth}
 use Rattle.serde_json.specs.Read.{read}
 use Rattle.serde_json.specs.Written.{compact_text}
+use Rattle.ft_json.specs.Bounds.{kept_levels}
 use Rattle.ft_json.specs.declared.faults.JsonFault.{JsonFault}
 use Rattle.ft_json.specs.declared.faults.JsonFault.TheVariants.{TooDeep, Fraction}
 
@@ -72,4 +73,4 @@ value_of text = unwrap_or (read text) null
 
 -- the compact text of a value that is kept: it has at most 100 levels, and each number inside is such a whole number
 unfoldable pub canonical : Data → Result (List ℕ) JsonFault
-canonical d = if nat_lt 100 (depth d) then Err TooDeep else (if has_whole_numbers d then Ok (compact_text d) else Err Fraction)
+canonical d = if nat_lt kept_levels (depth d) then Err TooDeep else (if has_whole_numbers d then Ok (compact_text d) else Err Fraction)

@@ -4,16 +4,17 @@ use Rattle.std.specs.Ordering.{nat_cmp}
 use Rattle.std.specs.Cmp.Lexicographic.{slice_cmp}
 use Rattle.serde_json.specs.Data.{Data, depth}
 use Rattle.serde_json.specs.Written.{compact_text}
+use Rattle.ft_json.specs.Bounds.{read_levels}
 use Rattle.ft_json.specs.Reading.{read_line}
 use Rattle.ft_json.specs.Canonical.{IsCanonical}
 
 -- the compact text of a canonical value of at most 127 levels reads back as that value
 abbrev pub TextsReadBack : Type 0
-TextsReadBack = (d : Data) → IsCanonical d → depth d ≤ 127 → read_line (compact_text d) ≡ Ok d
+TextsReadBack = (d : Data) → IsCanonical d → depth d ≤ read_levels → read_line (compact_text d) ≡ Ok d
 
 -- no two such values have one text
 abbrev pub TextsTellApart : Type 0
-TextsTellApart = (d e : Data) → IsCanonical d → IsCanonical e → depth d ≤ 127 → depth e ≤ 127 → compact_text d ≡ compact_text e → d ≡ e
+TextsTellApart = (d e : Data) → IsCanonical d → IsCanonical e → depth d ≤ read_levels → depth e ≤ read_levels → compact_text d ≡ compact_text e → d ≡ e
 
 -- texts are in one order by their characters and by their UTF-8 bytes
 abbrev pub OrdersAgree : Type 0

@@ -1,3 +1,5 @@
+pub mod Bounds
+pub mod FaultTexts
 pub mod Fields
 pub mod Reading
 pub mod Objects

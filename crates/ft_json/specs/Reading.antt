@@ -4,7 +4,7 @@
 --     given_field d f      the same, where it is not null
 --     whole_within d low high, count d, items d, pairs d      the value as a number in a range, as a list, as pairs of names and values
 --     num_field d f, signed_field d f, count_field d f, str_field d f, text_field d f, array_field d f      a field that has to be there and of that kind, or its fault
-use Rattle.std.specs.Prelude.{ℕ, ◌-◌, ◌^◌, ℤ, pos, negsuc, int_lt, Bool, not, ◌&&◌, nat_lt, if◌then◌else◌, List, [], ◌∷◌, Option, Some, None, option_map, option_and_then, Result, Err, chars}
+use Rattle.std.specs.Prelude.{ℕ, ◌-◌, ℤ, pos, negsuc, int_lt, Bool, not, ◌&&◌, nat_lt, if◌then◌else◌, List, [], ◌∷◌, Option, Some, None, option_map, option_and_then, Result, Err, chars}
 use Rattle.std.specs.Option.{ok_or}
 use Rattle.std.specs.Str.{is_utf8}
 use Rattle.serde_json.specs.Data.{Data, null, boolean, number, string, array, object, Items, no_items, item, Members, no_members, member}
@@ -15,6 +15,7 @@ use Rattle.ft_json.specs.declared.faults.JsonFault.{JsonFault}
 use Rattle.ft_json.specs.declared.faults.JsonFault.TheVariants.{NotUtf8, NotJson}
 use Rattle.ft_json.specs.declared.faults.FieldFault.{FieldFault}
 use Rattle.ft_json.specs.declared.faults.FieldFault.TheVariants.{Missing, WrongKind}
+use Rattle.ft_json.specs.Bounds.{number_limit}
 use Rattle.ft_json.specs.Fields.{field_name}
 
 -- the one JSON value of at most 127 levels that the bytes are; of a key that stands twice the last counts
@@ -37,7 +38,7 @@ whole_within d low high = option_and_then (λ z. if is_within low high z then So
 
 -- the count that the value is: a whole number from 0 to 9007199254740991
 unfoldable pub count : Data → Option ℕ
-count d = option_and_then (λ n. if nat_lt n (2 ^ 53) then Some n else None) (option_and_then as_u64 (as_number d))
+count d = option_and_then (λ n. if nat_lt n number_limit then Some n else None) (option_and_then as_u64 (as_number d))
 
 abbrev pub listed : Items → List Data
 listed no_items = []
@@ -83,11 +84,11 @@ needed_field reads d f = read_or_fault reads f (field d f)
 
 -- a whole number from -1 to 9007199254740991
 unfoldable pub num_field : Data → Field → Result ℤ FieldFault
-num_field d f = needed_field (λ x. whole_within x (negsuc 0) (pos (2 ^ 53 - 1))) d f
+num_field d f = needed_field (λ x. whole_within x (negsuc 0) (pos (number_limit - 1))) d f
 
 -- a whole number from -9007199254740991 to 9007199254740991
 unfoldable pub signed_field : Data → Field → Result ℤ FieldFault
-signed_field d f = needed_field (λ x. whole_within x (negsuc (2 ^ 53 - 2)) (pos (2 ^ 53 - 1))) d f
+signed_field d f = needed_field (λ x. whole_within x (negsuc (number_limit - 2)) (pos (number_limit - 1))) d f
 
 -- a whole number from 0 to 9007199254740991
 unfoldable pub count_field : Data → Field → Result ℕ FieldFault

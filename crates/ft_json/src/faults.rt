@@ -4,6 +4,8 @@ ghost use Rattle.std.specs.Prelude.{◌≡◌};
 
 use crate::fields::Field;
 use ft_base::OutOfMemory;
+use std::error::Error;
+use std::fmt;
 
 /// Why bytes are no JSON value, or a value isn't one that is kept.
 #[derive(Clone, Copy, Debug, PartialEq, Eq)]
@@ -30,6 +32,42 @@ pub enum FieldFault {
     /// No memory was found.
     OutOfMemory,
 }
+
+impl fmt::Display for JsonFault {
+    ghost use Rattle.std.specs.Prelude.{Some};
+    ghost use Rattle.ft_json.specs.FaultTexts.{json_fault_text};
+
+    ghost output = { λ fault. Some (json_fault_text fault) };
+
+    fn fmt<W: fmt::Write>(&self, f: &mut fmt::Formatter<W>) -> fmt::Result {
+        match *self {
+            JsonFault::NotUtf8 => write!(f, "NotUtf8"),
+            JsonFault::NotJson => write!(f, "NotJson"),
+            JsonFault::Fraction => write!(f, "Fraction"),
+            JsonFault::TooDeep => write!(f, "TooDeep"),
+            JsonFault::OutOfMemory => write!(f, "OutOfMemory"),
+        }
+    }
+}
+
+impl Error for JsonFault {}
+
+impl fmt::Display for FieldFault {
+    ghost use Rattle.std.specs.Prelude.{Some};
+    ghost use Rattle.ft_json.specs.FaultTexts.{field_fault_text};
+
+    ghost output = { λ fault. Some (field_fault_text fault) };
+
+    fn fmt<W: fmt::Write>(&self, f: &mut fmt::Formatter<W>) -> fmt::Result {
+        match *self {
+            FieldFault::Missing(field) => write!(f, "Missing {field}"),
+            FieldFault::WrongKind(field) => write!(f, "WrongKind {field}"),
+            FieldFault::OutOfMemory => write!(f, "OutOfMemory"),
+        }
+    }
+}
+
+impl Error for FieldFault {}
 
 impl From<OutOfMemory> for JsonFault {
     ghost use Rattle.std.specs.Prelude.{◌≡◌};

@@ -3,6 +3,8 @@
 ghost use Rattle.std.specs.Prelude.{◌≡◌, ◌↔◌, IsTrue};
 ghost use Rattle.ft_json.specs.Fields.{field_name};
 
+use std::fmt;
+
 /// A field of an object that is read or written, or a name for the whole of one.
 #[derive(Clone, Copy, Debug, PartialEq, Eq)]
 pub enum Field {
@@ -125,7 +127,7 @@ pub enum Field {
 }
 
 impl Field {
-    /// The name as it stands in the JSON. It takes no memory.
+    /// The name as it stands in the JSON.
     #[tactic(auto, unfolding(crate::specs::Fields::field_name))]
     pub fn name(self) -> &'static str
         ensures { result.now ≡ field_name self }
@@ -190,5 +192,17 @@ impl Field {
             Field::Value => "value",
             Field::Version => "version",
         }
+    }
+}
+
+impl fmt::Display for Field {
+    ghost use Rattle.std.specs.Prelude.{Some};
+    ghost use Rattle.ft_json.specs.Fields.{field_name};
+
+    ghost output = { λ field. Some (field_name field) };
+
+    fn fmt<W: fmt::Write>(&self, f: &mut fmt::Formatter<W>) -> fmt::Result {
+        let name = self.name();
+        write!(f, "{name}")
     }
 }

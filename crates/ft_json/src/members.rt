@@ -8,17 +8,13 @@ ghost use Rattle.ft_json.specs.Reading.{whole_within, count, items, pairs, field
 
 use crate::faults::FieldFault;
 use crate::fields::Field;
+use crate::limits::{GREATEST_COUNT, GREATEST_NUMBER};
 use ft_base::Text;
 use serde_json::{Map, Value};
 use std::alloc::Global;
 
-/// The greatest count, which is also the greatest number of a field.
-const MAX_COUNT: u64 = 9007199254740991;
-
-const MAX_NUM: i64 = 9007199254740991;
-
 /// The whole number from `low` to `high` that the value is, written without fraction and exponent;
-/// `-0` is none. It takes no memory.
+/// `-0` is none.
 #[tactic(auto, unfolding(crate::specs::Reading::whole_within))]
 pub fn whole_within(value: &Value, low: i64, high: i64) -> Option<i64>
     ensures { result ≡ whole_within (view value.now) low high }
@@ -26,15 +22,15 @@ pub fn whole_within(value: &Value, low: i64, high: i64) -> Option<i64>
     value.as_i64().filter(|z| low <= *z && *z <= high)
 }
 
-/// The count that the value is: a whole number from 0 to 9007199254740991. It takes no memory.
+/// The count that the value is: a whole number from 0 to 9007199254740991.
 #[tactic(auto, unfolding(crate::specs::Reading::count))]
 pub fn count(value: &Value) -> Option<u64>
     ensures { result ≡ count (view value.now) }
 {
-    value.as_u64().filter(|n| *n <= MAX_COUNT)
+    value.as_u64().filter(|n| *n <= GREATEST_COUNT)
 }
 
-/// The items of the array that the value is. It takes no memory.
+/// The items of the array that the value is.
 #[tactic(auto, using(crate::proofs::Lists::listed_items_view), unfolding(crate::specs::Reading::items))]
 pub fn items(value: &Value) -> Option<&[Value]>
     ensures { option_map (λ found. map view found.now) result ≡ items (view value.now) }
@@ -45,7 +41,7 @@ pub fn items(value: &Value) -> Option<&[Value]>
     }
 }
 
-/// The entries of the object that the value is, by rising key. It takes no memory.
+/// The entries of the object that the value is, by rising key.
 #[tactic(auto, using(crate::proofs::Lists::paired_members_view), unfolding(crate::specs::Reading::pairs))]
 pub fn pairs(value: &Value) -> Option<&Map<String, Value>>
     ensures { option_map (λ found. entry_pairs found.now.entries) result ≡ pairs (view value.now) }
@@ -53,8 +49,7 @@ pub fn pairs(value: &Value) -> Option<&Map<String, Value>>
     value.as_object()
 }
 
-/// The value of a field: None exactly where `value` is no object, or has no such field. It takes no
-/// memory.
+/// The value of a field: None exactly where `value` is no object, or has no such field.
 #[tactic(auto, unfolding(crate::specs::Reading::field))]
 pub fn field(value: &Value, f: Field) -> Option<&Value>
     ensures { option_map (λ found. view found.now) result ≡ field (view value.now) f }
@@ -62,7 +57,7 @@ pub fn field(value: &Value, f: Field) -> Option<&Value>
     value.get(f.name())
 }
 
-/// The same, where null counts as absent. It takes no memory.
+/// The same, where null counts as absent.
 #[tactic(auto, unfolding(crate::specs::Reading::given_field))]
 pub fn given_field(value: &Value, f: Field) -> Option<&Value>
     ensures { option_map (λ found. view found.now) result ≡ given_field (view value.now) f }
@@ -76,31 +71,31 @@ pub fn given_field(value: &Value, f: Field) -> Option<&Value>
 /// The field as a whole number from -1 to 9007199254740991.
 ///
 /// Answers `Missing` exactly where `value` is no object or has no such field, and `WrongKind`
-/// exactly where the field is there and is no such number. It takes no memory.
+/// exactly where the field is there and is no such number.
 #[tactic(auto, unfolding(crate::specs::Reading::num_field))]
 pub fn num_field(value: &Value, f: Field) -> Result<i64, FieldFault>
     ensures { result ≡ num_field (view value.now) f }
 {
     let found = field(value, f).ok_or(FieldFault::Missing(f))?;
-    whole_within(found, -1, MAX_NUM).ok_or(FieldFault::WrongKind(f))
+    whole_within(found, -1, GREATEST_NUMBER).ok_or(FieldFault::WrongKind(f))
 }
 
 /// The field as a whole number from -9007199254740991 to 9007199254740991.
 ///
 /// Answers `Missing` exactly where `value` is no object or has no such field, and `WrongKind`
-/// exactly where the field is there and is no such number. It takes no memory.
+/// exactly where the field is there and is no such number.
 #[tactic(auto, unfolding(crate::specs::Reading::signed_field))]
 pub fn signed_field(value: &Value, f: Field) -> Result<i64, FieldFault>
     ensures { result ≡ signed_field (view value.now) f }
 {
     let found = field(value, f).ok_or(FieldFault::Missing(f))?;
-    whole_within(found, -MAX_NUM, MAX_NUM).ok_or(FieldFault::WrongKind(f))
+    whole_within(found, -GREATEST_NUMBER, GREATEST_NUMBER).ok_or(FieldFault::WrongKind(f))
 }
 
 /// The field as a count: a whole number from 0 to 9007199254740991.
 ///
 /// Answers `Missing` exactly where `value` is no object or has no such field, and `WrongKind`
-/// exactly where the field is there and is no count. It takes no memory.
+/// exactly where the field is there and is no count.
 #[tactic(auto, unfolding(crate::specs::Reading::count_field))]
 pub fn count_field(value: &Value, f: Field) -> Result<u64, FieldFault>
     ensures { result ≡ count_field (view value.now) f }
@@ -112,7 +107,7 @@ pub fn count_field(value: &Value, f: Field) -> Result<u64, FieldFault>
 /// The field as a string, borrowed from the value.
 ///
 /// Answers `Missing` exactly where `value` is no object or has no such field, and `WrongKind`
-/// exactly where the field is there and is no string. It takes no memory.
+/// exactly where the field is there and is no string.
 #[tactic(auto, unfolding(crate::specs::Reading::str_field))]
 pub fn str_field(value: &Value, f: Field) -> Result<&str, FieldFault>
     ensures { result_map_both (λ found. found.now) (λ fault. fault) result
@@ -139,7 +134,7 @@ pub fn text_field(alloc: Global, value: &Value, f: Field) -> Result<Text, FieldF
 /// The field as an array, by its items, which are borrowed from the value.
 ///
 /// Answers `Missing` exactly where `value` is no object or has no such field, and `WrongKind`
-/// exactly where the field is there and is no array. It takes no memory.
+/// exactly where the field is there and is no array.
 #[tactic(auto, unfolding(crate::specs::Reading::array_field))]
 pub fn array_field(value: &Value, f: Field) -> Result<&[Value], FieldFault>
     ensures { result_map_both (λ found. map view found.now) (λ fault. fault) result

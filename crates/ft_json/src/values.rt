@@ -4,10 +4,11 @@ ghost use Rattle.std.specs.Prelude.{◌≡◌, ◌↔◌, IsTrue, IfOk, option_a
 ghost use Rattle.serde_json.specs.Find.{as_i64, as_number};
 ghost use Rattle.serde_json.specs.View.{view};
 ghost use Rattle.serde_json.specs.Written.{compact_text};
+ghost use Rattle.ft_json.specs.Bounds.{read_levels};
 ghost use Rattle.ft_json.specs.Canonical.{IsCanonical, IsCanonicalText, IsTextWithin, value_of};
 ghost use Rattle.ft_json.specs.Reading.{whole_within};
 
-use ft_base::OutOfMemory;
+use ft_base::{OutOfMemory, Plain};
 use serde_json::Value;
 use std::alloc::Global;
 use std::marker::Model;
@@ -53,7 +54,7 @@ impl ValText {
         ValText { text }
     }
 
-    /// The text. It takes no memory.
+    /// The text.
     pub fn as_str(&self) -> &str
         ensures value { result.now ≡ self.now }
         ensures canonical { IsCanonicalText self.now }
@@ -65,19 +66,20 @@ impl ValText {
     ///
     /// Answers `OutOfMemory` where there is no room for it.
     pub fn to_value(&self) -> Result<Value, OutOfMemory>
-        requires { IsTextWithin 127 self.now }
+        requires { IsTextWithin read_levels self.now }
         ensures value { IfOk result (λ value. view value ≡ value_of self.now) }
         ensures canonical { IfOk result (λ value. IsCanonical (view value)) }
         ensures text { IfOk result (λ value. compact_text (view value) ≡ self.now) }
     {
         match Value::from_str(*self.text.allocator(), self.text.as_str()) {
             Ok(value) => Ok(value),
-            Err(_) => Err(OutOfMemory),
+            Err(error) if error.is_memory() => Err(OutOfMemory),
+            Err(_) => unreachable!(),
         }
     }
 
     /// The whole number from `low` to `high` that the text writes, which is read as a field's would
-    /// be. It takes no memory.
+    /// be.
     #[tactic(auto, unfolding(crate::specs::Reading::whole_within))]
     pub fn whole_within(&self, low: i64, high: i64) -> Option<i64>
         ensures { result ≡ whole_within (value_of self.now) low high }
@@ -102,10 +104,20 @@ impl ValText {
         })
     }
 
-    /// Whether both texts are the same. It takes no memory.
+    /// Whether both texts are the same.
     pub fn same(&self, other: &ValText) -> bool
         ensures { IsTrue result ↔ (self.now ≡ other.now) }
     {
         self.text == other.text
+    }
+}
+
+impl Plain for ValText {
+    fn copy(&self) -> Result<ValText, OutOfMemory> {
+        self.copy()
+    }
+
+    fn same(&self, other: &ValText) -> bool {
+        self.same(other)
     }
 }

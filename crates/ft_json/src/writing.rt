@@ -5,18 +5,17 @@ ghost use Rattle.std.specs.Fmt.{signed_decimal};
 ghost use Rattle.json.specs.Print.{quoted};
 ghost use Rattle.serde_json.specs.View.{view};
 ghost use Rattle.serde_json.specs.Written.{compact_text};
+ghost use Rattle.ft_json.specs.Bounds.{kept_levels};
 ghost use Rattle.ft_json.specs.Canonical.{canonical, IsCanonical, IsTextWithin};
 ghost use Rattle.ft_json.specs.Reading.{read_line};
 
 use crate::checks::{has_at_most, has_whole_numbers};
 use crate::faults::JsonFault;
+use crate::limits::MOST_LEVELS;
 use crate::values::ValText;
 use ft_base::{OutOfMemory, Text};
 use serde_json::Value;
 use std::alloc::Global;
-
-/// The most levels of a value that is kept.
-const MAX_LEVELS: usize = 100;
 
 /// The compact text of a value that is kept, with the keys of each object in rising order of their
 /// bytes. It reads back as the same value.
@@ -30,10 +29,10 @@ pub fn canonical(alloc: Global, value: &Value) -> Result<ValText, JsonFault>
     ensures ok { IfOk result (λ text. canonical (view value.now) ≡ Ok text) }
     ensures err { IfErr result (λ fault. fault ≢ JsonFault.OutOfMemory
         → canonical (view value.now) ≡ Err fault) }
-    ensures kept { IfOk result (IsTextWithin 100) }
+    ensures kept { IfOk result (IsTextWithin kept_levels) }
     ensures reads_back { IfOk result (λ text. read_line text ≡ Ok (view value.now)) }
 {
-    if !has_at_most(MAX_LEVELS, value) {
+    if !has_at_most(MOST_LEVELS, value) {
         return Err(JsonFault::TooDeep);
     }
     if !has_whole_numbers(value) {

@@ -1,4 +1,5 @@
-use Rattle.std.proofs.Common.{◌≡◌, arith, sym, ap, ◌∙◌, subst, unwrap_or}
+use Rattle.std.proofs.Common.{◌≡◌, arith, sym, ap, ◌∙◌, subst, unwrap_or, true≢false, Some, None}
+use Rattle.std.proofs.lemmas.Option.{none-some}
 use Rattle.serde_json.specs.Data.{null}
 use Rattle.serde_json.specs.Read.{read}
 use Rattle.serde_json.specs.View.{view}
@@ -18,3 +19,11 @@ returns-in-Ok-clause-text c =
     let text = c.args.self.now in
     let read_as : value_of text ≡ view c.in-Ok.value = ap (λ o. unwrap_or o null) (ap read (sym (c.as_str.ensures.value ∙ c.self.view_is)) ∙ c.in-Ok.ensures.ok) in
     ap compact_text (sym read_as) ∙ (StandsFor-IsTextWithin 127 text (omega arith) c.requires).spells
+
+pub unreachable-requires : goal.unreachable-requires
+unreachable-requires c =
+    let text = c.args.self.now in
+    let reads : read text ≡ Some (value_of text) = (StandsFor-IsTextWithin 127 text (omega arith) c.requires).reads in
+    let refused : read text ≡ None =
+    ap read (sym (c.as_str.ensures.value ∙ c.self.view_is)) ∙ c.in-Err.ensures.err (λ memory. true≢false (sym (c.is_memory.ensures.1 memory) ∙ c.if-is_memory.false)) in
+    none-some (value_of text) (sym refused ∙ reads)
