@@ -46,17 +46,17 @@ module _ (floor r c : ℕ) (above : floor ≤ r) where
   len-keeps (collected {e = e} g h n k) = rw (collected-unseen e g) (len-keeps k)
 
 -- the next element is no pending one in a compacted list either
-follows-keeps : {floor : ℕ} {held : ElementId → Bool} {ks xs : List ListElement} → Keeps floor held ks xs → is_before_pending xs ≡ false → is_before_pending ks ≡ false
+pub follows-keeps : {floor : ℕ} {held : ElementId → Bool} {ks xs : List ListElement} → Keeps floor held ks xs → is_before_pending xs ≡ false → is_before_pending ks ≡ false
 follows-keeps none h = refl
 follows-keeps (same k) h = h
 follows-keeps (universal f k) h = refl
 follows-keeps (collected g u n k) h = follows-keeps k n
 
-keeps-self : (floor : ℕ) (held : ElementId → Bool) (xs : List ListElement) → Keeps floor held xs xs
+pub keeps-self : (floor : ℕ) (held : ElementId → Bool) (xs : List ListElement) → Keeps floor held xs xs
 keeps-self floor held [] = none
 keeps-self floor held (x ∷ xs) = same (keeps-self floor held xs)
 
-keeps-append : {floor : ℕ} {held : ElementId → Bool} {ks xs : List ListElement} (new : List ListElement) → Keeps floor held ks xs → Keeps floor held (new ++ ks) (new ++ xs)
+pub keeps-append : {floor : ℕ} {held : ElementId → Bool} {ks xs : List ListElement} (new : List ListElement) → Keeps floor held ks xs → Keeps floor held (new ++ ks) (new ++ xs)
 keeps-append [] k = k
 keeps-append (e ∷ new) k = same (keeps-append new k)
 

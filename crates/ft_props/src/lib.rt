@@ -1,14 +1,15 @@
 //! Properties of elements and intervals, and their changes.
+//!
+//! A call that can't answer `OutOfMemory` takes no memory.
 #![tactic(auto)]
 
 mod changed;
 pub mod keys;
 mod numbers;
 pub mod overlay;
-mod pairs;
+pub mod pairs;
 pub mod properties;
-#[cfg(test)]
-mod tests;
 
 pub use overlay::Overlay;
+pub use pairs::Pairs;
 pub use properties::{AdjSet, Adjust, Changes, PropSet, Props};

@@ -8,11 +8,8 @@ ghost use Rattle.ft_props.specs.Properties.{adj, digits_value, is_digit, max_saf
 
 use crate::properties::Adjust;
 use ft_base::OutOfMemory;
-use ft_json::ValText;
+use ft_json::{GREATEST_NUMBER, ValText};
 use std::alloc::Global;
-
-/// The greatest whole number that an adjusted value may have, 2^53 - 1. The least is its negative.
-const MAX_SAFE: i64 = 9_007_199_254_740_991;
 
 /// The first whole number that is too great for an adjusted value.
 const TOO_GREAT: u64 = 9_007_199_254_740_992;
@@ -70,7 +67,7 @@ fn adjusted_number(number: i64, adjust: &Adjust) -> i64
 {
     let sum = i128::from(number) + i128::from(adjust.delta);
     let bounded = lowered(raised(sum, adjust.min), adjust.max);
-    bounded.clamp(-i128::from(MAX_SAFE), i128::from(MAX_SAFE)) as i64
+    bounded.clamp(-i128::from(GREATEST_NUMBER), i128::from(GREATEST_NUMBER)) as i64
 }
 
 /// The value with the adjustment made, where a value that is no whole number counts as 0.

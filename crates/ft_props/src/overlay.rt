@@ -7,7 +7,7 @@ ghost use Rattle.ft_props.specs.Overlay.{kept_shown};
 
 use crate::changed::make_changes;
 use crate::properties::{Changes, Props};
-use ft_base::OutOfMemory;
+use ft_base::{OutOfMemory, Plain};
 use ft_json::ValText;
 use std::alloc::Global;
 use std::marker::Model;
@@ -98,14 +98,14 @@ fn is_same_pending(mine: &[(u64, Changes)], theirs: &[(u64, Changes)]) -> bool
 impl Overlay {
     ghost use Rattle.ft_props.specs.Overlay.{after_ack, after_acked_changes, after_drop, after_pending_changes, shown_of};
 
-    /// No properties, and nothing pending. It takes no memory.
+    /// No properties, and nothing pending.
     pub fn new(alloc: Global) -> Overlay
         ensures { result ≡ record { acked = []; pending = [] } }
     {
         Overlay::of(alloc, Props::new(alloc))
     }
 
-    /// These acknowledged properties, and nothing pending. It takes no memory.
+    /// These acknowledged properties, and nothing pending.
     pub fn of(alloc: Global, acked: Props) -> Overlay
         ensures { result ≡ record { acked = acked; pending = [] } }
     {
@@ -183,7 +183,7 @@ impl Overlay {
         Ok(())
     }
 
-    /// The acknowledged properties. It takes no memory.
+    /// The acknowledged properties.
     pub fn acked(&self) -> &Props
         ensures { result.now ≡ self.now.acked }
     {
@@ -191,7 +191,6 @@ impl Overlay {
     }
 
     /// What is shown: the acknowledged properties with the pending changes made in order of stage.
-    /// It takes no memory.
     pub fn shown_props(&self) -> &Props
         ensures { result.now ≡ shown_of self.now }
     {
@@ -201,7 +200,7 @@ impl Overlay {
         }
     }
 
-    /// The value that is shown for the key: None exactly where it has none. It takes no memory.
+    /// The value that is shown for the key: None exactly where it has none.
     pub fn get(&self, key: &str) -> Option<&ValText>
         ensures { option_copied result ≡ value_of (chars key.now) (shown_of self.now) }
     {
@@ -217,14 +216,14 @@ impl Overlay {
         self.shown_props().copy()
     }
 
-    /// Whether changes of that stage are pending. It takes no memory.
+    /// Whether changes of that stage are pending.
     pub fn has(&self, stage: u64) -> bool
         ensures { result ≡ list_any (λ change. nat_eq change.0 stage) self.now.pending }
     {
         self.pending.iter().any(|change| change.0 == stage)
     }
 
-    /// Whether any changes are pending. It takes no memory.
+    /// Whether any changes are pending.
     pub fn has_pending(&self) -> bool
         ensures { IsFalse result ↔ (self.now.pending ≡ []) }
     {
@@ -248,11 +247,20 @@ impl Overlay {
         })
     }
 
-    /// Whether both have the same acknowledged properties and the same pending changes. It takes no
-    /// memory.
+    /// Whether both have the same acknowledged properties and the same pending changes.
     pub fn same(&self, other: &Overlay) -> bool
         ensures { IsTrue result ↔ (self.now ≡ other.now) }
     {
         self.acked.same(&other.acked) && is_same_pending(&self.pending, &other.pending)
+    }
+}
+
+impl Plain for Overlay {
+    fn copy(&self) -> Result<Overlay, OutOfMemory> {
+        self.copy()
+    }
+
+    fn same(&self, other: &Overlay) -> bool {
+        self.same(other)
     }
 }

@@ -1,25 +1,12 @@
 //! Lists of pairs of a key and a value by rising keys.
 
-ghost use Rattle.std.specs.Prelude.{◌≡◌, ◌↔◌, ◌≤◌, [], IsTrue, IfOk, OnOk, OnErr, chars, length, slice_get, option_copied, option_map};
+ghost use Rattle.std.specs.Prelude.{◌≡◌, ◌↔◌, ◌≤◌, [], IsTrue, IfOk, OnOk, OnErr, chars, length, slice_get, option_copied, option_map, is_some};
 ghost use Rattle.ft_props.specs.Keys.{KeysRise, key_cmp, place_of, put_rising, remove_rising, value_of};
 
 use crate::keys::compare;
-use ft_base::{OutOfMemory, Text};
+use ft_base::{OutOfMemory, Plain, Text};
 use std::alloc::Global;
 use std::marker::Model;
-
-/// What may stand under a key: a value that can be copied and compared.
-pub trait PairValue: Sized + Drop {
-    /// An equal value.
-    ///
-    /// Answers `OutOfMemory` where there is no room for it.
-    fn copy(&self) -> Result<Self, OutOfMemory>
-        ensures { IfOk result (λ copy. copy ≡ self.now) };
-
-    /// Whether both values are equal. It takes no memory.
-    fn same(&self, other: &Self) -> bool
-        ensures { IsTrue result ↔ (self.now ≡ other.now) };
-}
 
 /// Pairs of a key and a value, by rising keys, so that no key stands twice.
 #[derive(Drop)]
@@ -39,7 +26,7 @@ impl<V> Model for Pairs<V> {
 }
 
 impl<V: Drop> Pairs<V> {
-    /// No pairs. It takes no memory.
+    /// No pairs.
     pub fn new(alloc: Global) -> Pairs<V>
         ensures { result ≡ [] }
     {
@@ -48,7 +35,7 @@ impl<V: Drop> Pairs<V> {
         }
     }
 
-    /// How many pairs there are. It takes no memory.
+    /// How many pairs there are.
     pub fn len(&self) -> usize
         ensures value { result ≡ length self.now }
         ensures rising { KeysRise self.now }
@@ -56,7 +43,7 @@ impl<V: Drop> Pairs<V> {
         self.items.len()
     }
 
-    /// Whether there are none. It takes no memory.
+    /// Whether there are none.
     pub fn is_empty(&self) -> bool
         ensures { IsTrue result ↔ (self.now ≡ []) }
     {
@@ -64,7 +51,7 @@ impl<V: Drop> Pairs<V> {
     }
 
     /// The key of the pair at place `i` in rising order, counted from 0: None exactly where `i`
-    /// isn't below the length. It takes no memory.
+    /// isn't below the length.
     pub fn key_at(&self, i: usize) -> Option<&Text>
         ensures { option_copied result ≡ option_map (λ pair. pair.0) (slice_get self.now i) }
     {
@@ -72,8 +59,7 @@ impl<V: Drop> Pairs<V> {
         Some(&pair.0)
     }
 
-    /// The value of the pair at place `i`: None exactly where `i` isn't below the length. It takes
-    /// no memory.
+    /// The value of the pair at place `i`: None exactly where `i` isn't below the length.
     pub fn value_at(&self, i: usize) -> Option<&V>
         ensures { option_copied result ≡ option_map (λ pair. pair.1) (slice_get self.now i) }
     {
@@ -89,7 +75,7 @@ impl<V: Drop> Pairs<V> {
             .binary_search_by(|pair| compare(pair.0.as_str(), key))
     }
 
-    /// The value of the key, if it has one. It takes no memory.
+    /// The value of the key: None exactly where it has none.
     pub fn get(&self, key: &str) -> Option<&V>
         ensures { option_copied result ≡ value_of (chars key.now) self.now }
     {
@@ -99,7 +85,14 @@ impl<V: Drop> Pairs<V> {
         }
     }
 
-    /// The pairs in order. It takes no memory.
+    /// Whether the key has a value.
+    pub fn contains_key(&self, key: &str) -> bool
+        ensures { result ≡ is_some (value_of (chars key.now) self.now) }
+    {
+        self.get(key).is_some()
+    }
+
+    /// The pairs in order.
     pub fn as_slice(&self) -> &[(Text, V)]
         ensures value { result.now ≡ self.now }
         ensures rising { KeysRise self.now }
@@ -129,7 +122,7 @@ impl<V: Drop> Pairs<V> {
         }
     }
 
-    /// Takes the key and its value out, if it is there. It takes no memory.
+    /// Takes the key and its value out, if it is there.
     pub fn remove(&mut self, key: &str)
         ensures { (value : V) → self.new ≡ remove_rising key_cmp (chars key.now, value) self.old }
     {
@@ -139,7 +132,7 @@ impl<V: Drop> Pairs<V> {
     }
 }
 
-impl<V: PairValue> Pairs<V> {
+impl<V: Plain> Pairs<V> {
     /// An equal list.
     ///
     /// Answers `OutOfMemory` where there is no room for it.
@@ -153,7 +146,7 @@ impl<V: PairValue> Pairs<V> {
         Ok(Pairs { items })
     }
 
-    /// Whether both lists have the same keys with the same values. It takes no memory.
+    /// Whether both lists have the same keys with the same values.
     pub fn same(&self, other: &Pairs<V>) -> bool
         ensures { IsTrue result ↔ (self.now ≡ other.now) }
     {
@@ -166,5 +159,15 @@ impl<V: PairValue> Pairs<V> {
             }
         }
         true
+    }
+}
+
+impl<V: Plain> Plain for Pairs<V> {
+    fn copy(&self) -> Result<Pairs<V>, OutOfMemory> {
+        self.copy()
+    }
+
+    fn same(&self, other: &Pairs<V>) -> bool {
+        self.same(other)
     }
 }
