@@ -136,7 +136,7 @@ canonical_text text h = (text, (h, refl))
 pub canonical_word : (word : List ℕ) → are_ascii word ≡ true → IsCanonical (string word)
 canonical_word word h = IsUtf8-are_ascii word h
 
-canonical_value_of : (v : ValueBytes) → IsTextWithin 100 v → IsCanonical (value_of v)
+pub canonical_value_of : (v : ValueBytes) → IsTextWithin 100 v → IsCanonical (value_of v)
 canonical_value_of v h = (StandsFor-IsTextWithin 100 v (omega arith) h).canonical
 
 -- ---- pairs and items
@@ -145,7 +145,7 @@ before_pairs : {V : Type 0} (written_as : V → Data) (key : Characters) (pairs 
 before_pairs written_as key [] h = tt
 before_pairs written_as key (p ∷ pairs) h = slice_cmp-encodes key p.0 ∙ h.0
 
-canonical_pairs : {V : Type 0} (written_as : V → Data) (pairs : List (Characters × V)) → KeysRise pairs → KeysAreTexts pairs → AllByRecursion (λ p. IsCanonical (written_as p.1)) pairs
+pub canonical_pairs : {V : Type 0} (written_as : V → Data) (pairs : List (Characters × V)) → KeysRise pairs → KeysAreTexts pairs → AllByRecursion (λ p. IsCanonical (written_as p.1)) pairs
     → MembersAreCanonical (written_pairs written_as pairs)
 canonical_pairs written_as [] rise texts values = tt
 canonical_pairs written_as (p ∷ pairs) rise texts values =
@@ -156,7 +156,7 @@ canonical_items written_as [] h = tt
 canonical_items written_as (x ∷ xs) h = (h.0, canonical_items written_as xs h.1)
 
 -- what holds of each element holds of it in another form
-each : {A : Type 0} (P Q : A → Type 0) → ((x : A) → P x → Q x) → (xs : List A) → AllByRecursion P xs → AllByRecursion Q xs
+pub each : {A : Type 0} (P Q : A → Type 0) → ((x : A) → P x → Q x) → (xs : List A) → AllByRecursion P xs → AllByRecursion Q xs
 each P Q f [] h = tt
 each P Q f (x ∷ xs) h = (f x h.0, each P Q f xs h.1)
 

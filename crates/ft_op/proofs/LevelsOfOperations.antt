@@ -27,14 +27,14 @@ use Rattle.ft_op.specs.Written.{given_adjustments, given_end, given_set, given_s
 use Rattle.ft_op.proofs.WrittenFields.{fields_within, HasAtMost}
 use Rattle.ft_op.proofs.CanonicalOperations.{adjustment_fields, characters_fields, marker_fields, insertion_fields, removal_fields, annotation_fields, interval_fields, group_fields}
 
-value_levels : (v : ValueBytes) → IsTextWithin 100 v → depth (value_of v) ≤ 100
+pub value_levels : (v : ValueBytes) → IsTextWithin 100 v → depth (value_of v) ≤ 100
 value_levels v h = (StandsFor-IsTextWithin 100 v (omega arith) h).shallow
 
-pairs_levels : {V : Type 0} (written_as : V → Data) (levels : ℕ) (pairs : List (Characters × V)) → AllByRecursion (λ p. depth (written_as p.1) ≤ levels) pairs → members_depth (written_pairs written_as pairs) ≤ levels
+pub pairs_levels : {V : Type 0} (written_as : V → Data) (levels : ℕ) (pairs : List (Characters × V)) → AllByRecursion (λ p. depth (written_as p.1) ≤ levels) pairs → members_depth (written_pairs written_as pairs) ≤ levels
 pairs_levels written_as levels [] h = omega arith
 pairs_levels written_as levels (p ∷ pairs) h = let first = h.0 in omega (arith, pairs_levels written_as levels pairs h.1)
 
-items_levels : {A : Type 0} (P : A → Type 0) (written_as : A → Data) (levels : ℕ) → ((x : A) → P x → depth (written_as x) ≤ levels) → (xs : List A) → AllByRecursion P xs → items_depth (written_items written_as xs) ≤ levels
+pub items_levels : {A : Type 0} (P : A → Type 0) (written_as : A → Data) (levels : ℕ) → ((x : A) → P x → depth (written_as x) ≤ levels) → (xs : List A) → AllByRecursion P xs → items_depth (written_items written_as xs) ≤ levels
 items_levels P written_as levels f [] h = omega arith
 items_levels P written_as levels f (x ∷ xs) h = omega (arith, f x h.0, items_levels P written_as levels f xs h.1)
 

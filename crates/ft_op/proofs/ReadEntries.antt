@@ -11,7 +11,6 @@ use Rattle.ft_json.specs.Objects.{entry_pairs, NamesRise}
 use Rattle.ft_json.proofs.Lists.{NamesRise-entry_pairs}
 use Rattle.ft_props.specs.Keys.{Characters, IsBeforeKeys, KeysRise, key_cmp, put_rising, text_cmp}
 use Rattle.ft_props.proofs.RisingKeys.{text_cmp-back, IsBeforeKeys-trans}
-use Rattle.ft_op.specs.declared.operations.OpFault.{OpFault}
 use Rattle.ft_op.specs.Reading.{read_each, read_named}
 use Rattle.ft_op.proofs.ReadLists.{all_and_last, joined, nothing_joined, next_read}
 
@@ -55,20 +54,20 @@ put_rising-at_end key v w (x ∷ xs) ys h =
 
 -- what was put of the entries, then what is read of those that are left, is what is read of all; the keys that are left come
 -- behind those that were put; and what was put is so. The value v is any.
-pub record IsReadSoFar {V : Type 0} (reads : Characters → Data → Result V OpFault) (IsSo : Characters × V → Type 0) (v : V) (put : List (Characters × V)) (left all : List Entry) : Type 0 where
+pub record IsReadSoFar {V F : Type 0} (reads : Characters → Data → Result V F) (IsSo : Characters × V → Type 0) (v : V) (put : List (Characters × V)) (left all : List Entry) : Type 0 where
   pub told : joined put (read_each (read_named reads) (entry_pairs left)) ≡ read_each (read_named reads) (entry_pairs all)
   pub rising : KeysRise (put ++ keys_with v left)
   pub so : AllByRecursion IsSo put
 
-pub nothing_read : {V : Type 0} (reads : Characters → Data → Result V OpFault) (IsSo : Characters × V → Type 0) (v : V) (all : List Entry) → IsStrictlySortedBy string_cmp (keys_of all)
+pub nothing_read : {V F : Type 0} (reads : Characters → Data → Result V F) (IsSo : Characters × V → Type 0) (v : V) (all : List Entry) → IsStrictlySortedBy string_cmp (keys_of all)
     → IsReadSoFar reads IsSo v [] all all
 nothing_read reads IsSo v all h =
     record { told = nothing_joined (read_each (read_named reads) (entry_pairs all)); rising = rising_names v all (NamesRise-entry_pairs all h); so = tt }
 
-named : {V : Type 0} (reads : Characters → Data → Result V OpFault) (e : Entry) (w : V) → reads (key_of e) (view e.1) ≡ Ok w → read_named reads (key_of e, view e.1) ≡ Ok (key_of e, w)
+named : {V F : Type 0} (reads : Characters → Data → Result V F) (e : Entry) (w : V) → reads (key_of e) (view e.1) ≡ Ok w → read_named reads (key_of e, view e.1) ≡ Ok (key_of e, w)
 named reads e w h = rw h refl
 
-pub entry_read : {V : Type 0} (reads : Characters → Data → Result V OpFault) (IsSo : Characters × V → Type 0) (v w : V) (put new : List (Characters × V)) (e : Entry) (left all : List Entry)
+pub entry_read : {V F : Type 0} (reads : Characters → Data → Result V F) (IsSo : Characters × V → Type 0) (v w : V) (put new : List (Characters × V)) (e : Entry) (left all : List Entry)
     → IsReadSoFar reads IsSo v put (e ∷ left) all → reads (key_of e) (view e.1) ≡ Ok w → IsSo (key_of e, w) → new ≡ put_rising key_cmp (key_of e, w) put → IsReadSoFar reads IsSo v new left all
 entry_read reads IsSo v w put new e left all h got so is =
     let at_end : new ≡ put ++ (key_of e, w) ∷ [] = is ∙ put_rising-at_end (key_of e) v w put (keys_with v left) h.rising in

@@ -61,7 +61,7 @@ pub field_is : (fs : List (List ℕ × Option Data)) (f : Field) (o : Option Dat
 unfolding field
 field_is fs f o h = found_member (field_name f) fs ∙ h
 
-needed_is : {A : Type 0} (reads : Data → Option A) (fs : List (List ℕ × Option Data)) (f : Field) (d : Data) (x : A) → found (field_name f) fs ≡ Some d → reads d ≡ Some x
+pub needed_is : {A : Type 0} (reads : Data → Option A) (fs : List (List ℕ × Option Data)) (f : Field) (d : Data) (x : A) → found (field_name f) fs ≡ Some d → reads d ≡ Some x
     → needed_field reads (object (fields fs)) f ≡ Ok x
 needed_is reads fs f d x h e = rw (field_is fs f (Some d) h, e)
 
@@ -75,7 +75,7 @@ str_is fs f bytes h = needed_is as_str fs f (string bytes) bytes h refl
 
 -- ---- counts
 
-count_written : (n : ℕ) → IsTrue (is_count n) → count (written_count n) ≡ Some n
+pub count_written : (n : ℕ) → IsTrue (is_count n) → count (written_count n) ≡ Some n
 unfolding count
 count_written n h = rw h
 
@@ -98,7 +98,7 @@ range_is fs p q h g e =
 
 -- ---- whole numbers
 
-whole_written : (z low high : ℤ) → IsTrue (is_within low high z) → whole_within (written_number z) low high ≡ Some z
+pub whole_written : (z low high : ℤ) → IsTrue (is_within low high z) → whole_within (written_number z) low high ≡ Some z
 unfolding whole_within
 whole_written (pos n) low high h = rw h
 whole_written (negsuc n) low high h = rw h
@@ -122,7 +122,7 @@ listed_written : {A : Type 0} (written_as : A → Data) (xs : List A) → listed
 listed_written written_as [] = refl
 listed_written written_as (x ∷ xs) = ap (λ ds. written_as x ∷ ds) (listed_written written_as xs)
 
-items_written : {A : Type 0} (written_as : A → Data) (xs : List A) → items (array (written_items written_as xs)) ≡ Some (map written_as xs)
+pub items_written : {A : Type 0} (written_as : A → Data) (xs : List A) → items (array (written_items written_as xs)) ≡ Some (map written_as xs)
 unfolding items
 items_written written_as xs = ap Some (listed_written written_as xs)
 

@@ -165,7 +165,7 @@ ordered (pos p) (pos q) h k w = positions p q k (fails _ (split_and (not (int_lt
 ordered (pos p) (negsuc q) h k w = (cc)
 ordered (negsuc p) b h k w = (cc)
 
-allowed : (a b : ℤ) → is_within (negsuc 0) (pos (2 ^ 53 - 1)) b ≡ true → grammar.are_ends a b ≡ true → are_ends a b ≡ true
+allowed : (a b : ℤ) → is_within (negsuc 0) (pos (2 ^ 53 - 1)) b ≡ true → grammar.are_read_ends a b ≡ true → are_ends a b ≡ true
 allowed a b w e =
     elim (split_or (int_eq a (negsuc 0) && int_eq b (negsuc 0)) _ e) [
       | inl detached ↦
@@ -181,7 +181,7 @@ unfolding interval_ends
 interval_ends-formed d ends e =
     let a = fault_step op_fault (num_field d Start) _ ends e in
     let b = fault_step op_fault (num_field d End) _ ends a.2 in
-    let tested = test_held (grammar.are_ends a.0 b.0) _ _ ends b.2 in
+    let tested = test_held (grammar.are_read_ends a.0 b.0) _ _ ends b.2 in
     subst IsWellFormedEnds (same_value (record { start = a.0; end = b.0 }) ends _ refl tested.1)
     (allowed a.0 b.0 (num_field-in_range d End b.0 b.1) tested.0)
 

@@ -17,7 +17,7 @@ use Rattle.ft_props.specs.Properties.{PropertySet, ValueBytes}
 use Rattle.ft_props.specs.declared.properties.Adjust.{Adjust}
 use Rattle.ft_op.specs.declared.operations.OpFault.{OpFault}
 use Rattle.ft_op.specs.Cells.{is_null}
-use Rattle.ft_op.specs.Reading.{given_properties, given_set as read_given_set, kept_value, property_set_of, read_each, read_named, set_value}
+use Rattle.ft_op.specs.Reading.{given_properties, read_given_set, kept_value, property_set_of, read_each, read_named, set_value}
 use Rattle.ft_op.specs.TextGrammar.{adjustment, adjustment_beside, adjustment_of, adjustments_of, bound, given_adjustments as read_given_adjustments, given_adjustments_of}
 use Rattle.ft_op.specs.Representable.{KeysAreTexts}
 use Rattle.ft_op.specs.WellFormed.{are_bounds, is_safe_bound, AreAdjustments, IsAdjustment, IsPropertySet, IsSetValue}
@@ -58,7 +58,7 @@ kept_again v h =
     let stands = StandsFor-IsTextWithin 100 v (omega arith) h in
     kept (data_of v) v stands.canonical stands.shallow stands.spells
 
-not_null : (d : Data) (v : ValueBytes) → compact_text d ≡ v → is_null v ≡ false → is_some (as_null d) ≡ false
+pub not_null : (d : Data) (v : ValueBytes) → compact_text d ≡ v → is_null v ≡ false → is_some (as_null d) ≡ false
 not_null null v spells h = absurd (false≢true (sym h ∙ ap is_null (sym spells)))
 not_null (boolean b) v spells h = refl
 not_null (number n) v spells h = refl
@@ -76,7 +76,7 @@ set_value_back (Some v) h =
 -- ---- pairs
 
 -- the pairs with each value written
-abbrev named : {V : Type 0} → (V → Data) → Characters × V → Characters × Data
+abbrev pub named : {V : Type 0} → (V → Data) → Characters × V → Characters × Data
 named written_as p = (p.0, written_as p.1)
 
 paired_written : {V : Type 0} (written_as : V → Data) (ps : List (Characters × V)) → KeysAreTexts ps → paired (written_pairs written_as ps) ≡ map (named written_as) ps
@@ -84,7 +84,7 @@ paired_written written_as [] h = refl
 paired_written written_as (p ∷ ps) h =
     ap₂ (λ (k : Characters) (rest : List (Characters × Data)). (k, written_as p.1) ∷ rest) (chars-encodes p.0 h.0) (paired_written written_as ps h.1)
 
-pairs_written : {V : Type 0} (written_as : V → Data) (ps : List (Characters × V)) → KeysAreTexts ps → pairs (object (written_pairs written_as ps)) ≡ Some (map (named written_as) ps)
+pub pairs_written : {V : Type 0} (written_as : V → Data) (ps : List (Characters × V)) → KeysAreTexts ps → pairs (object (written_pairs written_as ps)) ≡ Some (map (named written_as) ps)
 unfolding pairs
 pairs_written written_as ps h = ap Some (paired_written written_as ps h)
 

@@ -20,7 +20,7 @@ use Rattle.ft_op.specs.declared.operations.Ends.{Ends}
 use Rattle.ft_op.specs.declared.operations.TextOp.{TextOp}
 use Rattle.ft_op.specs.declared.operations.TextOp.TheVariants.{One, Group, IntervalAdd, IntervalChange, IntervalDelete}
 use Rattle.ft_op.specs.Reading.{given_properties, read_each}
-use Rattle.ft_op.specs.TextGrammar.{annotation, are_ends as are_read_ends, base_op, group, group_item, group_item_of, insertion, interval_add, interval_change, interval_delete, interval_ends, interval_op, new_ends, removal, segment, text_op, typed_op}
+use Rattle.ft_op.specs.TextGrammar.{annotation, are_read_ends, base_op, group, group_item, group_item_of, insertion, interval_add, interval_change, interval_delete, interval_ends, interval_op, new_ends, removal, segment, text_op, typed_op}
 use Rattle.ft_op.specs.Representable.{IsRepresentableBase, IsRepresentableSegment, IsRepresentableText, IsText, KeysAreTexts}
 use Rattle.ft_op.specs.WellFormed.{are_ends, is_count, is_range, is_segment, IsPropertySet, IsWellFormedBase, IsWellFormedEnds, IsWellFormedNewEnds, IsWellFormedText}
 use Rattle.ft_op.specs.Written.{given_end, given_start, written_base, written_count, written_items, written_number, written_segment, written_set, written_text, written_text_op}

@@ -12,6 +12,7 @@ use Rattle.ft_op.specs.declared.operations.GridOp.{GridOp}
 use Rattle.ft_op.specs.declared.operations.GridOp.TheVariants.{One, Group}
 use Rattle.ft_op.specs.declared.operations.OpFault.{OpFault}
 use Rattle.ft_op.specs.declared.operations.OpFault.TheVariants.{Missing, WrongKind, UnknownType, CountLimit, NestedGroup}
+use Rattle.ft_op.specs.Types.{group_type, most_units, splice_in_type, splice_out_type}
 use Rattle.ft_op.specs.Reading.{◌>>=◌, is_object, kept_value, needed, range, read_each}
 
 -- ---- splices
@@ -31,7 +32,7 @@ unfoldable pub splice_in : Target → Data → Result CellOp OpFault
 splice_in list d = do
   p ← needed (count_field d Pos1)
   n ← needed (count_field d Count)
-  if nat_lt 1000000 n then Err CountLimit else Ok (SpliceIn list p n)
+  if nat_lt most_units n then Err CountLimit else Ok (SpliceIn list p n)
 
 -- the removal of units that an object is, from this list
 unfoldable pub splice_out : Target → Data → Result CellOp OpFault
@@ -42,7 +43,7 @@ splice_out list d = do
 -- the splice of this type
 abbrev pub typed_splice : Target → Data → ℕ → Result CellOp OpFault
 typed_splice list d n =
-    if nat_eq n 0 then splice_in list d else (if nat_eq n 1 then splice_out list d else Err (UnknownType n))
+    if nat_eq n splice_in_type then splice_in list d else (if nat_eq n splice_out_type then splice_out list d else Err (UnknownType n))
 
 -- the splice that an object is whose field `target` is this
 unfoldable pub splice : Data → Data → Result CellOp OpFault
@@ -70,12 +71,12 @@ cell_write d = do
 -- ---- operations
 
 -- whether an object is a group: it has no field `target`, and its type is 3
-abbrev pub is_three : Option ℕ → Bool
-is_three None = false
-is_three (Some n) = nat_eq n 3
+abbrev pub is_group_type : Option ℕ → Bool
+is_group_type None = false
+is_group_type (Some n) = nat_eq n group_type
 
 unfoldable pub is_group : Data → Bool
-is_group d = not (is_some (field d TargetField)) && is_three (option_and_then count (field d Kind))
+is_group d = not (is_some (field d TargetField)) && is_group_type (option_and_then count (field d Kind))
 
 -- the fault of a type that is neither "set" nor a group's
 abbrev pub type_fault : Option ℕ → OpFault

@@ -33,7 +33,7 @@ with_fault fault_of (Err fault) = Err (fault_of fault)
 abbrev pub needed : {A : Type 0} → Result A FieldFault → Result A OpFault
 needed r = with_fault op_fault r
 
-abbrev pub read_each : {A B : Type 0} → (A → Result B OpFault) → List A → Result (List B) OpFault
+abbrev pub read_each : {A B F : Type 0} → (A → Result B F) → List A → Result (List B) F
 read_each reads [] = Ok []
 read_each reads (x ∷ xs) = do
   y ← reads x
@@ -41,7 +41,7 @@ read_each reads (x ∷ xs) = do
   Ok (y ∷ ys)
 
 -- a name with what is read of it and the value there
-abbrev pub read_named : {B : Type 0} → (Characters → Data → Result B OpFault) → Characters × Data → Result (Characters × B) OpFault
+abbrev pub read_named : {B F : Type 0} → (Characters → Data → Result B F) → Characters × Data → Result (Characters × B) F
 read_named reads p = do
   value ← reads p.0 p.1
   Ok (p.0, value)
@@ -81,9 +81,9 @@ abbrev pub property_set_of : Option (List (Characters × Data)) → Result Prope
 property_set_of None = Err (WrongKind Props)
 property_set_of (Some ps) = read_each (read_named (λ _ d. set_value d)) ps
 
-abbrev pub given_set : Option Data → Result PropertySet OpFault
-given_set None = Ok []
-given_set (Some d) = property_set_of (pairs d)
+abbrev pub read_given_set : Option Data → Result PropertySet OpFault
+read_given_set None = Ok []
+read_given_set (Some d) = property_set_of (pairs d)
 
 unfoldable pub given_properties : Data → Result PropertySet OpFault
-given_properties d = given_set (given_field d Props)
+given_properties d = read_given_set (given_field d Props)

@@ -1,7 +1,7 @@
 -- What the types of the code promise of each of their values: the characters of texts are Unicode scalar values, and keys rise.
-use Rattle.std.specs.Prelude.{◌≡◌, true, List, [], ◌∷◌, ⊤}
-use Rattle.std.specs.Str.{all_scalars}
+use Rattle.std.specs.Prelude.{List, [], ◌∷◌, ⊤}
 use Rattle.std.specs.List.{AllByRecursion}
+pub use Rattle.ft_base.specs.Texts.{IsText}
 use Rattle.ft_props.specs.Keys.{Characters, KeysRise}
 use Rattle.ft_op.specs.declared.operations.Seg.{Seg}
 use Rattle.ft_op.specs.declared.operations.Seg.TheVariants.{Chars, Marker}
@@ -11,10 +11,6 @@ use Rattle.ft_op.specs.declared.operations.TextOp.{TextOp}
 use Rattle.ft_op.specs.declared.operations.TextOp.TheVariants.{One, Group, IntervalAdd, IntervalChange, IntervalDelete}
 use Rattle.ft_op.specs.declared.operations.ChannelOp.{ChannelOp}
 use Rattle.ft_op.specs.declared.operations.ChannelOp.TheVariants.{Text, Grid}
-
--- each character is a Unicode scalar value
-abbrev pub IsText : Characters → Type 0
-IsText text = all_scalars text ≡ true
 
 -- each key is a text
 abbrev pub KeysAreTexts : {V : Type 0} → List (Characters × V) → Type 0

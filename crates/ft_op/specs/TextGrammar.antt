@@ -17,6 +17,7 @@ use Rattle.ft_op.specs.declared.operations.TextOp.TheVariants.{One, Group, Inter
 use Rattle.ft_op.specs.declared.operations.OpFault.{OpFault}
 use Rattle.ft_op.specs.declared.operations.OpFault.TheVariants.{Missing, WrongKind, UnknownType, Reversed, NestedGroup}
 pub use Rattle.ft_op.specs.Reading.{is_object, range}
+use Rattle.ft_op.specs.Types.{insertion_type, removal_type, annotation_type, group_type}
 use Rattle.ft_op.specs.Reading.{◌>>=◌, needed, read_each, read_named, given_properties}
 
 -- ---- insertions
@@ -126,13 +127,13 @@ annotation d = do
 -- the operation of this type that may stand in a group
 unfoldable pub base_op : Data → ℕ → Result BaseOp OpFault
 base_op d n =
-    if nat_eq n 0 then insertion d
-    else (if nat_eq n 1 then removal d
-    else (if nat_eq n 2 then annotation d else Err (UnknownType n)))
+    if nat_eq n insertion_type then insertion d
+    else (if nat_eq n removal_type then removal d
+    else (if nat_eq n annotation_type then annotation d else Err (UnknownType n)))
 
 -- the item of a group that has this type
 abbrev pub group_item_of : Data → ℕ → Result BaseOp OpFault
-group_item_of d n = if nat_eq n 3 then Err NestedGroup else base_op d n
+group_item_of d n = if nat_eq n group_type then Err NestedGroup else base_op d n
 
 -- the item of a group that a value is
 unfoldable pub group_item : Data → Result BaseOp OpFault
@@ -153,7 +154,7 @@ group d = do
 -- the operation of this type
 abbrev pub typed_op : Data → ℕ → Result TextOp OpFault
 typed_op d n =
-    if nat_eq n 3 then group d
+    if nat_eq n group_type then group d
     else (do
       op ← base_op d n
       Ok (One op))
@@ -161,19 +162,19 @@ typed_op d n =
 -- ---- intervals
 
 -- whether two ends are allowed: both -1, or in order from 0 on
-abbrev pub are_ends : ℤ → ℤ → Bool
-are_ends a b = (int_eq a (negsuc 0) && int_eq b (negsuc 0)) || (not (int_lt a (pos 0)) && not (int_lt b a))
+abbrev pub are_read_ends : ℤ → ℤ → Bool
+are_read_ends a b = (int_eq a (negsuc 0) && int_eq b (negsuc 0)) || (not (int_lt a (pos 0)) && not (int_lt b a))
 
 -- the ends of two numbers from -1 on
-abbrev pub ends_of : ℤ → ℤ → Result Ends OpFault
-ends_of a b = if are_ends a b then Ok (record { start = a; end = b }) else Err (Reversed a b)
+abbrev pub ends_if_allowed : ℤ → ℤ → Result Ends OpFault
+ends_if_allowed a b = if are_read_ends a b then Ok (record { start = a; end = b }) else Err (Reversed a b)
 
 -- the ends that an object has
 unfoldable pub interval_ends : Data → Result Ends OpFault
 interval_ends d = do
   a ← needed (num_field d Start)
   b ← needed (num_field d End)
-  ends_of a b
+  ends_if_allowed a b
 
 -- the new ends that an object has: both, or none
 unfoldable pub new_ends : Data → Result (Option Ends) OpFault

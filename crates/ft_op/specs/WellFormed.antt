@@ -1,7 +1,8 @@
 -- What is asked of an operation before it may be written or applied: its numbers are in range, no positions, ends or bounds
 -- are reversed, no count is above its limit, each value has at most 100 levels, and a null in a property set is none.
-use Rattle.std.specs.Prelude.{ℕ, ◌-◌, ◌^◌, ℤ, pos, negsuc, int_lt, Bool, true, false, not, ◌&&◌, nat_eq, nat_lt, nat_le, is_some, IsTrue, IsFalse, List, Option, Some, None, ⊤}
+use Rattle.std.specs.Prelude.{ℕ, ◌-◌, ℤ, pos, negsuc, int_lt, Bool, true, false, not, ◌&&◌, nat_eq, nat_lt, nat_le, is_some, IsTrue, IsFalse, List, Option, Some, None, ⊤}
 use Rattle.std.specs.List.{AllByRecursion}
+use Rattle.ft_json.specs.Bounds.{kept_levels, number_limit}
 use Rattle.ft_json.specs.Canonical.{IsTextWithin}
 use Rattle.ft_json.specs.Reading.{is_within}
 use Rattle.ft_props.specs.Properties.{Characters, PropertySet, ValueBytes, value_of}
@@ -20,12 +21,13 @@ use Rattle.ft_op.specs.declared.operations.GridOp.TheVariants as grid
 use Rattle.ft_op.specs.declared.operations.ChannelOp.{ChannelOp}
 use Rattle.ft_op.specs.declared.operations.ChannelOp.TheVariants.{Text, Grid}
 use Rattle.ft_op.specs.Cells.{is_null}
+use Rattle.ft_op.specs.Types.{most_units}
 
 -- ---- numbers
 
 -- whether the number is a position or a count
 abbrev pub is_count : ℕ → Bool
-is_count n = nat_lt n (2 ^ 53)
+is_count n = nat_lt n number_limit
 
 -- whether the positions are in order
 abbrev pub is_range : ℕ → ℕ → Bool
@@ -33,7 +35,7 @@ is_range p q = nat_le p q && is_count q
 
 -- whether it is a whole number from -9007199254740991 to 9007199254740991
 abbrev pub is_safe : ℤ → Bool
-is_safe z = is_within (negsuc (2 ^ 53 - 2)) (pos (2 ^ 53 - 1)) z
+is_safe z = is_within (negsuc (number_limit - 2)) (pos (number_limit - 1)) z
 
 -- whether it is such a number, if it is given
 abbrev pub is_safe_bound : Option ℤ → Bool
@@ -57,7 +59,7 @@ are_ends _ _ = false
 -- the value has at most 100 levels; a null is no value but none
 abbrev pub IsSetValue : Option ValueBytes → Type 0
 IsSetValue None = ⊤
-IsSetValue (Some v) = IsTextWithin 100 v × IsFalse (is_null v)
+IsSetValue (Some v) = IsTextWithin kept_levels v × IsFalse (is_null v)
 
 -- each value is such a value
 abbrev pub IsPropertySet : PropertySet → Type 0
@@ -106,9 +108,9 @@ IsWellFormedText (IntervalDelete label id) = ⊤
 
 -- a member of a group of the grid
 abbrev pub IsWellFormedCell : CellOp → Type 0
-IsWellFormedCell (SpliceIn list p n) = IsTrue (is_count p) × IsTrue (nat_le n 1000000)
+IsWellFormedCell (SpliceIn list p n) = IsTrue (is_count p) × IsTrue (nat_le n most_units)
 IsWellFormedCell (SpliceOut list p q) = IsTrue (is_range p q)
-IsWellFormedCell (Set i j value) = IsTrue (is_count i) × IsTrue (is_count j) × IsTextWithin 100 value
+IsWellFormedCell (Set i j value) = IsTrue (is_count i) × IsTrue (is_count j) × IsTextWithin kept_levels value
 
 -- an operation of the grid
 abbrev pub IsWellFormedGrid : GridOp → Type 0

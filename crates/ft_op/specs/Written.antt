@@ -6,6 +6,7 @@ use Rattle.serde_json.specs.View.{items_of}
 use Rattle.ft_json.specs.Canonical.{value_of}
 use Rattle.ft_props.specs.Properties.{Characters, PropertySet, ValueBytes}
 use Rattle.ft_props.specs.declared.properties.Adjust.{Adjust}
+use Rattle.ft_op.specs.Types.{insertion_type, removal_type, annotation_type, group_type, splice_in_type, splice_out_type}
 use Rattle.ft_op.specs.declared.operations.Seg.{Seg}
 use Rattle.ft_op.specs.declared.operations.Seg.TheVariants.{Chars, Marker}
 use Rattle.ft_op.specs.declared.operations.BaseOp.{BaseOp}
@@ -99,19 +100,19 @@ written_base (Insert p seg props) =
     object
     (member (codes "pos1") (written_count p)
     (member (codes "seg") (written_segment seg props)
-    (member (codes "type") (written_count 0) no_members)))
+    (member (codes "type") (written_count insertion_type) no_members)))
 written_base (Remove p q) =
     object
     (member (codes "pos1") (written_count p)
     (member (codes "pos2") (written_count q)
-    (member (codes "type") (written_count 1) no_members)))
+    (member (codes "type") (written_count removal_type) no_members)))
 written_base (Annotate p q changes) =
     object
     (with_given (codes "adjust") (given_adjustments changes.adjust)
     (member (codes "pos1") (written_count p)
     (member (codes "pos2") (written_count q)
     (member (codes "props") (written_set changes.props)
-    (member (codes "type") (written_count 2) no_members)))))
+    (member (codes "type") (written_count annotation_type) no_members)))))
 
 -- the start of an interval, if ends are given
 abbrev pub given_start : Option Ends → Option Data
@@ -134,7 +135,7 @@ written_interval word label id ends props =
 
 -- a group of these
 abbrev pub written_group : Items → Data
-written_group ops = object (member (codes "ops") (array ops) (member (codes "type") (written_count 3) no_members))
+written_group ops = object (member (codes "ops") (array ops) (member (codes "type") (written_count group_type) no_members))
 
 abbrev pub written_text_op : TextOp → Data
 written_text_op (One op) = written_base op
@@ -155,13 +156,13 @@ written_cell (SpliceIn list p n) =
     (member (codes "count") (written_count n)
     (member (codes "pos1") (written_count p)
     (member (codes "target") (written_target list)
-    (member (codes "type") (written_count 0) no_members))))
+    (member (codes "type") (written_count splice_in_type) no_members))))
 written_cell (SpliceOut list p q) =
     object
     (member (codes "pos1") (written_count p)
     (member (codes "pos2") (written_count q)
     (member (codes "target") (written_target list)
-    (member (codes "type") (written_count 1) no_members))))
+    (member (codes "type") (written_count splice_out_type) no_members))))
 written_cell (Set i j v) =
     object
     (member (codes "col") (written_count j)

@@ -54,7 +54,7 @@ fn read_adjustments(
     Ok(adjustments)
 }
 
-/// The adjustment that the value is, of a key that the set doesn't have. It takes no memory.
+/// The adjustment that the value is, of a key that the set doesn't have.
 #[tactic(auto, unfolding(crate::specs::TextGrammar::adjustment_beside))]
 fn read_adjustment_beside(set: &PropSet, key: &str, value: &Value) -> Result<Adjust, OpFault>
     ensures value { result ≡ adjustment_beside set.now (chars key.now) (view value.now) }
@@ -66,7 +66,7 @@ fn read_adjustment_beside(set: &PropSet, key: &str, value: &Value) -> Result<Adj
     read_adjustment(value)
 }
 
-/// The adjustment that the value is. It takes no memory.
+/// The adjustment that the value is.
 #[tactic(auto, unfolding(crate::specs::TextGrammar::adjustment))]
 fn read_adjustment(value: &Value) -> Result<Adjust, OpFault>
     ensures { result ≡ adjustment (view value.now) }
@@ -80,7 +80,7 @@ fn read_adjustment(value: &Value) -> Result<Adjust, OpFault>
     adjustment_within(delta, min, max)
 }
 
-/// A bound of an adjustment: none where it is absent or null. It takes no memory.
+/// A bound of an adjustment: none where it is absent or null.
 #[tactic(auto, unfolding(crate::specs::TextGrammar::bound))]
 fn read_bound(value: &Value, name: Field) -> Result<Option<i64>, OpFault>
     ensures { result ≡ bound (view value.now) name }
@@ -91,7 +91,7 @@ fn read_bound(value: &Value, name: Field) -> Result<Option<i64>, OpFault>
     Ok(Some(signed_field(value, name)?))
 }
 
-/// The adjustment of these numbers. It takes no memory.
+/// The adjustment of these numbers.
 fn adjustment_within(delta: i64, min: Option<i64>, max: Option<i64>) -> Result<Adjust, OpFault>
     ensures { result ≡ adjustment_of delta min max }
 {

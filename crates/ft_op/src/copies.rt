@@ -2,10 +2,8 @@
 
 ghost use Rattle.std.specs.Prelude.{◌≡◌, ◌↔◌, Ok, IsTrue, IfOk};
 
-use crate::operations::{
-    BaseOp, BaseOps, CellOp, CellOps, ChannelOp, Ends, GridOp, Seg, Target, TextOp,
-};
-use ft_base::{OutOfMemory, Text};
+use crate::operations::{BaseOp, BaseOps, CellOp, ChannelOp, Ends, GridOp, Seg, Target, TextOp};
+use ft_base::{OutOfMemory, Plain, Text};
 use ft_json::ValText;
 use ft_props::{Changes, PropSet};
 
@@ -24,7 +22,7 @@ impl Seg {
         }
     }
 
-    /// Whether both segments are the same. It takes no memory.
+    /// Whether both segments are the same.
     pub fn same(&self, other: &Seg) -> bool
         ensures { IsTrue result ↔ (self.now ≡ other.now) }
     {
@@ -66,7 +64,7 @@ impl BaseOp {
         }
     }
 
-    /// Whether both operations are the same. It takes no memory.
+    /// Whether both operations are the same.
     pub fn same(&self, other: &BaseOp) -> bool
         ensures { IsTrue result ↔ (self.now ≡ other.now) }
     {
@@ -123,45 +121,15 @@ fn is_annotation(op: &BaseOp, pos1: u64, pos2: u64, changes: &Changes) -> bool
     }
 }
 
-impl BaseOps {
-    /// An equal list.
-    ///
-    /// Answers `OutOfMemory` where there is no room for it.
-    pub fn copy(&self) -> Result<BaseOps, OutOfMemory>
-        ensures { IfOk result (λ copy. copy ≡ self.now) }
-    {
-        let mut copy = BaseOps::new(self.allocator());
-        for op in self.as_slice() {
-            copy.push(op.copy()?)?;
-        }
-        Ok(copy)
-    }
-
-    /// Whether both lists have the same operations in the same order. It takes no memory.
-    pub fn same(&self, other: &BaseOps) -> bool
-        ensures { IsTrue result ↔ (self.now ≡ other.now) }
-    {
-        if self.len() != other.len() {
-            return false;
-        }
-        for (mine, theirs) in self.as_slice().iter().zip(other.as_slice()) {
-            if !mine.same(theirs) {
-                return false;
-            }
-        }
-        true
-    }
-}
-
 impl Ends {
-    /// Equal ends. It takes no memory, and always succeeds.
+    /// Equal ends. It always succeeds.
     pub fn copy(&self) -> Result<Ends, OutOfMemory>
         ensures { result ≡ Ok self.now }
     {
         Ok(*self)
     }
 
-    /// Whether both are the same ends. It takes no memory.
+    /// Whether both are the same ends.
     pub fn same(&self, other: &Ends) -> bool
         ensures { IsTrue result ↔ (self.now ≡ other.now) }
     {
@@ -208,7 +176,7 @@ impl TextOp {
         }
     }
 
-    /// Whether both operations are the same. It takes no memory.
+    /// Whether both operations are the same.
     pub fn same(&self, other: &TextOp) -> bool
         ensures { IsTrue result ↔ (self.now ≡ other.now) }
     {
@@ -317,14 +285,14 @@ fn is_interval_delete(op: &TextOp, label: &Text, id: &Text) -> bool
 }
 
 impl Target {
-    /// An equal target. It takes no memory, and always succeeds.
+    /// An equal target. It always succeeds.
     pub fn copy(&self) -> Result<Target, OutOfMemory>
         ensures { result ≡ Ok self.now }
     {
         Ok(*self)
     }
 
-    /// Whether both are rows, or both are columns. It takes no memory.
+    /// Whether both are rows, or both are columns.
     pub fn same(&self, other: &Target) -> bool
         ensures { IsTrue result ↔ (self.now ≡ other.now) }
     {
@@ -358,7 +326,7 @@ impl CellOp {
         }
     }
 
-    /// Whether both operations are the same. It takes no memory.
+    /// Whether both operations are the same.
     pub fn same(&self, other: &CellOp) -> bool
         ensures { IsTrue result ↔ (self.now ≡ other.now) }
     {
@@ -412,36 +380,6 @@ fn is_set(op: &CellOp, row: u64, col: u64, value: &ValText) -> bool
     }
 }
 
-impl CellOps {
-    /// An equal list.
-    ///
-    /// Answers `OutOfMemory` where there is no room for it.
-    pub fn copy(&self) -> Result<CellOps, OutOfMemory>
-        ensures { IfOk result (λ copy. copy ≡ self.now) }
-    {
-        let mut copy = CellOps::new(self.allocator());
-        for op in self.as_slice() {
-            copy.push(op.copy()?)?;
-        }
-        Ok(copy)
-    }
-
-    /// Whether both lists have the same operations in the same order. It takes no memory.
-    pub fn same(&self, other: &CellOps) -> bool
-        ensures { IsTrue result ↔ (self.now ≡ other.now) }
-    {
-        if self.len() != other.len() {
-            return false;
-        }
-        for (mine, theirs) in self.as_slice().iter().zip(other.as_slice()) {
-            if !mine.same(theirs) {
-                return false;
-            }
-        }
-        true
-    }
-}
-
 impl GridOp {
     /// An equal operation.
     ///
@@ -455,7 +393,7 @@ impl GridOp {
         }
     }
 
-    /// Whether both operations are the same. It takes no memory.
+    /// Whether both operations are the same.
     pub fn same(&self, other: &GridOp) -> bool
         ensures { IsTrue result ↔ (self.now ≡ other.now) }
     {
@@ -480,7 +418,7 @@ impl ChannelOp {
         }
     }
 
-    /// Whether both operations are the same. It takes no memory.
+    /// Whether both operations are the same.
     pub fn same(&self, other: &ChannelOp) -> bool
         ensures { IsTrue result ↔ (self.now ≡ other.now) }
     {
@@ -490,5 +428,85 @@ impl ChannelOp {
             (ChannelOp::Text(_), ChannelOp::Grid(_)) | (ChannelOp::Grid(_), ChannelOp::Text(_)) =>
                 false,
         }
+    }
+}
+
+impl Plain for Seg {
+    fn copy(&self) -> Result<Seg, OutOfMemory> {
+        self.copy()
+    }
+
+    fn same(&self, other: &Seg) -> bool {
+        self.same(other)
+    }
+}
+
+impl Plain for BaseOp {
+    fn copy(&self) -> Result<BaseOp, OutOfMemory> {
+        self.copy()
+    }
+
+    fn same(&self, other: &BaseOp) -> bool {
+        self.same(other)
+    }
+}
+
+impl Plain for Ends {
+    fn copy(&self) -> Result<Ends, OutOfMemory> {
+        self.copy()
+    }
+
+    fn same(&self, other: &Ends) -> bool {
+        self.same(other)
+    }
+}
+
+impl Plain for TextOp {
+    fn copy(&self) -> Result<TextOp, OutOfMemory> {
+        self.copy()
+    }
+
+    fn same(&self, other: &TextOp) -> bool {
+        self.same(other)
+    }
+}
+
+impl Plain for Target {
+    fn copy(&self) -> Result<Target, OutOfMemory> {
+        self.copy()
+    }
+
+    fn same(&self, other: &Target) -> bool {
+        self.same(other)
+    }
+}
+
+impl Plain for CellOp {
+    fn copy(&self) -> Result<CellOp, OutOfMemory> {
+        self.copy()
+    }
+
+    fn same(&self, other: &CellOp) -> bool {
+        self.same(other)
+    }
+}
+
+impl Plain for GridOp {
+    fn copy(&self) -> Result<GridOp, OutOfMemory> {
+        self.copy()
+    }
+
+    fn same(&self, other: &GridOp) -> bool {
+        self.same(other)
+    }
+}
+
+impl Plain for ChannelOp {
+    fn copy(&self) -> Result<ChannelOp, OutOfMemory> {
+        self.copy()
+    }
+
+    fn same(&self, other: &ChannelOp) -> bool {
+        self.same(other)
     }
 }

@@ -7,14 +7,12 @@ ghost use Rattle.ft_op.specs.Reading.{read_each};
 ghost use Rattle.ft_op.specs.GridGrammar.{cell_op, cell_write, grid_op, group, group_item, is_group, splice, splice_in, splice_out, target_of, typed_splice, untargeted};
 ghost use Rattle.ft_op.specs.WellFormed.{IsWellFormedCell, IsWellFormedGrid};
 
+use crate::limits::{GROUP, MOST_UNITS, SPLICE_IN, SPLICE_OUT};
 use crate::operations::{CellOp, CellOps, GridOp, OpFault, Target};
 use crate::reading::{is_object, read_kept_value, read_range};
 use ft_json::{Field, array_field, count, count_field, field};
 use serde_json::Value;
 use std::alloc::Global;
-
-/// The most units that a splice puts in.
-const MAX_UNITS: u64 = 1_000_000;
 
 /// The operation of the grid that the value is.
 ///
@@ -35,7 +33,7 @@ pub fn read_grid_op(alloc: Global, value: &Value) -> Result<GridOp, OpFault>
     Ok(GridOp::One(read_cell_op(alloc, value)?))
 }
 
-/// Whether the object is a group: it has no field `target`, and its type is 3. It takes no memory.
+/// Whether the object is a group: it has no field `target`, and its type is 3.
 #[tactic(auto, unfolding(crate::specs::GridGrammar::is_group))]
 fn is_group(value: &Value) -> bool
     ensures { result ≡ is_group (view value.now) }
@@ -43,7 +41,7 @@ fn is_group(value: &Value) -> bool
     field(value, Field::Target).is_none()
         && field(value, Field::Kind)
             .and_then(count)
-            .is_some_and(|n| n == 3)
+            .is_some_and(|n| n == GROUP)
 }
 
 /// The group that the object is.
@@ -133,7 +131,7 @@ fn read_cell_write(alloc: Global, value: &Value) -> Result<CellOp, OpFault>
     })
 }
 
-/// The splice that the object is, whose field `target` is given. It takes no memory.
+/// The splice that the object is, whose field `target` is given.
 #[tactic(auto, unfolding(crate::specs::GridGrammar::splice))]
 fn read_splice(value: &Value, target: &Value) -> Result<CellOp, OpFault>
     ensures value { result ≡ splice (view value.now) (view target.now) }
@@ -144,7 +142,7 @@ fn read_splice(value: &Value, target: &Value) -> Result<CellOp, OpFault>
     read_typed_splice(list, value, kind)
 }
 
-/// The list that the field `target` names. It takes no memory.
+/// The list that the field `target` names.
 fn read_target(target: &Value) -> Result<Target, OpFault>
     ensures { result ≡ target_of (view target.now) }
 {
@@ -155,25 +153,25 @@ fn read_target(target: &Value) -> Result<Target, OpFault>
     }
 }
 
-/// The splice of this type. It takes no memory.
+/// The splice of this type.
 fn read_typed_splice(list: Target, value: &Value, kind: u64) -> Result<CellOp, OpFault>
     ensures { result ≡ typed_splice list (view value.now) kind }
 {
     match kind {
-        0 => read_splice_in(list, value),
-        1 => read_splice_out(list, value),
+        SPLICE_IN => read_splice_in(list, value),
+        SPLICE_OUT => read_splice_out(list, value),
         _ => Err(OpFault::UnknownType(kind)),
     }
 }
 
-/// The splice of new units that the object is. It takes no memory.
+/// The splice of new units that the object is.
 #[tactic(auto, unfolding(crate::specs::GridGrammar::splice_in))]
 fn read_splice_in(list: Target, value: &Value) -> Result<CellOp, OpFault>
     ensures { result ≡ splice_in list (view value.now) }
 {
     let pos = count_field(value, Field::Pos1)?;
     let units = count_field(value, Field::Count)?;
-    if units > MAX_UNITS {
+    if units > MOST_UNITS {
         return Err(OpFault::CountLimit);
     }
     Ok(CellOp::SpliceIn {
@@ -183,7 +181,7 @@ fn read_splice_in(list: Target, value: &Value) -> Result<CellOp, OpFault>
     })
 }
 
-/// The removal of units that the object is. It takes no memory.
+/// The removal of units that the object is.
 #[tactic(auto, unfolding(crate::specs::GridGrammar::splice_out))]
 fn read_splice_out(list: Target, value: &Value) -> Result<CellOp, OpFault>
     ensures { result ≡ splice_out list (view value.now) }

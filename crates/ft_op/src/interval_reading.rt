@@ -2,7 +2,7 @@
 
 ghost use Rattle.std.specs.Prelude.{◌≡◌, ◌≢◌, Ok, Err, IfOk, IfErr};
 ghost use Rattle.serde_json.specs.View.{view};
-ghost use Rattle.ft_op.specs.TextGrammar.{are_ends, interval_add, interval_change, interval_delete, interval_ends, interval_op, new_ends};
+ghost use Rattle.ft_op.specs.TextGrammar.{are_read_ends, interval_add, interval_change, interval_delete, interval_ends, interval_op, new_ends};
 ghost use Rattle.ft_op.specs.WellFormed.{IsWellFormedText};
 
 use crate::operations::{Ends, OpFault, TextOp};
@@ -73,14 +73,14 @@ fn read_interval_delete(alloc: Global, value: &Value) -> Result<TextOp, OpFault>
     })
 }
 
-/// The ends that the object has. It takes no memory.
+/// The ends that the object has.
 #[tactic(auto, unfolding(crate::specs::TextGrammar::interval_ends))]
 fn read_ends(value: &Value) -> Result<Ends, OpFault>
     ensures { result ≡ interval_ends (view value.now) }
 {
     let start = num_field(value, Field::Start)?;
     let end = num_field(value, Field::End)?;
-    if !are_ends(start, end) {
+    if !are_read_ends(start, end) {
         return Err(OpFault::Reversed {
             pos1: start,
             pos2: end,
@@ -89,14 +89,14 @@ fn read_ends(value: &Value) -> Result<Ends, OpFault>
     Ok(Ends { start, end })
 }
 
-/// Whether these may be the ends of an interval: both -1, or in order from 0 on. It takes no memory.
-fn are_ends(start: i64, end: i64) -> bool
-    ensures { result ≡ are_ends start end }
+/// Whether these may be the ends of an interval: both -1, or in order from 0 on.
+fn are_read_ends(start: i64, end: i64) -> bool
+    ensures { result ≡ are_read_ends start end }
 {
     (start == -1 && end == -1) || (start >= 0 && start <= end)
 }
 
-/// The new ends that the object has: both, or none. It takes no memory.
+/// The new ends that the object has: both, or none.
 #[tactic(auto, unfolding(crate::specs::TextGrammar::new_ends))]
 fn read_new_ends(value: &Value) -> Result<Option<Ends>, OpFault>
     ensures { result ≡ new_ends (view value.now) }

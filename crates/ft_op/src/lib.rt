@@ -1,4 +1,6 @@
 //! Operations on the text, its intervals and the grid.
+//!
+//! A call that can't answer `OutOfMemory` takes no memory.
 #![tactic(auto)]
 
 mod adjustments;
@@ -6,17 +8,15 @@ mod copies;
 pub mod grid_reading;
 mod interval_reading;
 pub mod laws;
+pub mod limits;
 pub mod operations;
 pub mod reading;
 mod segments;
-#[cfg(test)]
-mod tests;
 pub mod text_reading;
 pub mod writing;
-#[cfg(test)]
-mod writing_tests;
 
 pub use grid_reading::read_grid_op;
+pub use limits::MOST_UNITS;
 pub use operations::{
     BaseOp, BaseOps, CellOp, CellOps, ChannelOp, Ends, GridOp, OpFault, Seg, Target, TextOp,
 };

@@ -1,12 +1,10 @@
 //! Operations. Positions count elements that the sender of an operation sees, from 0.
 
-ghost use Rattle.std.specs.Prelude.{◌≡◌, ◌↔◌, [], ◌∷◌, ◌++◌, IsTrue, OnOk, OnErr, length, slice_get, option_copied};
-
-use ft_base::{OutOfMemory, Text};
+use ft_base::{List, OutOfMemory, Text};
 use ft_json::{Field, FieldFault, JsonFault, ValText};
 use ft_props::{Changes, PropSet};
-use std::alloc::Global;
-use std::marker::Model;
+use std::error::Error;
+use std::fmt;
 
 /// What an insertion puts in.
 #[derive(Drop)]
@@ -40,75 +38,7 @@ pub enum BaseOp {
 }
 
 /// The operations of a group of the text, in order.
-#[derive(Drop)]
-pub struct BaseOps {
-    items: Vec<BaseOp>,
-}
-
-impl Model for BaseOps {
-    ghost use Rattle.std.specs.Prelude.{List};
-    ghost use Rattle.ft_op.specs.declared.operations.BaseOp.{BaseOp};
-
-    ghost Value = { List BaseOp };
-
-    ghost view = { λ a. a.items.items };
-}
-
-impl BaseOps {
-    /// No operations. It takes no memory.
-    pub fn new(alloc: Global) -> BaseOps
-        ensures { result ≡ [] }
-    {
-        BaseOps {
-            items: Vec::new(alloc),
-        }
-    }
-
-    /// Adds an operation at the end.
-    ///
-    /// Answers `OutOfMemory` where there is no room for it, and then the list is as it was.
-    pub fn push(&mut self, op: BaseOp) -> Result<(), OutOfMemory>
-        ensures ok { OnOk result (self.new ≡ self.old ++ op ∷ []) }
-        ensures err { OnErr result (self.new ≡ self.old) }
-    {
-        self.items.push(op)?;
-        Ok(())
-    }
-
-    /// How many operations there are. It takes no memory.
-    pub fn len(&self) -> usize
-        ensures { result ≡ length self.now }
-    {
-        self.items.len()
-    }
-
-    /// Whether there are none. It takes no memory.
-    pub fn is_empty(&self) -> bool
-        ensures { IsTrue result ↔ (self.now ≡ []) }
-    {
-        self.items.is_empty()
-    }
-
-    /// The operation at place `i`, counted from 0: None exactly where `i` isn't below the length. It
-    /// takes no memory.
-    pub fn at(&self, i: usize) -> Option<&BaseOp>
-        ensures { option_copied result ≡ slice_get self.now i }
-    {
-        self.items.get(i)
-    }
-
-    /// The operations in order. It takes no memory.
-    pub fn as_slice(&self) -> &[BaseOp]
-        ensures { result.now ≡ self.now }
-    {
-        self.items.as_slice()
-    }
-
-    /// Where the list takes its memory.
-    pub(crate) fn allocator(&self) -> Global {
-        *self.items.allocator()
-    }
-}
+pub type BaseOps = List<BaseOp>;
 
 /// The ends of an interval: the positions of its first and its last element, or both -1 where it is
 /// detached.
@@ -177,75 +107,7 @@ pub enum CellOp {
 }
 
 /// The operations of a group of the grid, in order.
-#[derive(Drop)]
-pub struct CellOps {
-    items: Vec<CellOp>,
-}
-
-impl Model for CellOps {
-    ghost use Rattle.std.specs.Prelude.{List};
-    ghost use Rattle.ft_op.specs.declared.operations.CellOp.{CellOp};
-
-    ghost Value = { List CellOp };
-
-    ghost view = { λ a. a.items.items };
-}
-
-impl CellOps {
-    /// No operations. It takes no memory.
-    pub fn new(alloc: Global) -> CellOps
-        ensures { result ≡ [] }
-    {
-        CellOps {
-            items: Vec::new(alloc),
-        }
-    }
-
-    /// Adds an operation at the end.
-    ///
-    /// Answers `OutOfMemory` where there is no room for it, and then the list is as it was.
-    pub fn push(&mut self, op: CellOp) -> Result<(), OutOfMemory>
-        ensures ok { OnOk result (self.new ≡ self.old ++ op ∷ []) }
-        ensures err { OnErr result (self.new ≡ self.old) }
-    {
-        self.items.push(op)?;
-        Ok(())
-    }
-
-    /// How many operations there are. It takes no memory.
-    pub fn len(&self) -> usize
-        ensures { result ≡ length self.now }
-    {
-        self.items.len()
-    }
-
-    /// Whether there are none. It takes no memory.
-    pub fn is_empty(&self) -> bool
-        ensures { IsTrue result ↔ (self.now ≡ []) }
-    {
-        self.items.is_empty()
-    }
-
-    /// The operation at place `i`, counted from 0: None exactly where `i` isn't below the length. It
-    /// takes no memory.
-    pub fn at(&self, i: usize) -> Option<&CellOp>
-        ensures { option_copied result ≡ slice_get self.now i }
-    {
-        self.items.get(i)
-    }
-
-    /// The operations in order. It takes no memory.
-    pub fn as_slice(&self) -> &[CellOp]
-        ensures { result.now ≡ self.now }
-    {
-        self.items.as_slice()
-    }
-
-    /// Where the list takes its memory.
-    pub(crate) fn allocator(&self) -> Global {
-        *self.items.allocator()
-    }
-}
+pub type CellOps = List<CellOp>;
 
 /// An operation of the grid.
 #[derive(Drop)]
@@ -285,6 +147,29 @@ pub enum OpFault {
     /// There was no memory.
     OutOfMemory,
 }
+
+impl fmt::Display for OpFault {
+    ghost use Rattle.std.specs.Prelude.{Some};
+    ghost use Rattle.ft_op.specs.Faults.{op_fault_text};
+
+    ghost output = { λ fault. Some (op_fault_text fault) };
+
+    fn fmt<W: fmt::Write>(&self, f: &mut fmt::Formatter<W>) -> fmt::Result {
+        match *self {
+            OpFault::Missing(field) => write!(f, "Missing {field}"),
+            OpFault::WrongKind(field) => write!(f, "WrongKind {field}"),
+            OpFault::UnknownType(n) => write!(f, "UnknownType {n}"),
+            OpFault::Reversed { pos1, pos2 } => write!(f, "Reversed {pos1} {pos2}"),
+            OpFault::CountLimit => write!(f, "CountLimit"),
+            OpFault::NestedGroup => write!(f, "NestedGroup"),
+            OpFault::Fraction => write!(f, "Fraction"),
+            OpFault::TooDeep => write!(f, "TooDeep"),
+            OpFault::OutOfMemory => write!(f, "OutOfMemory"),
+        }
+    }
+}
+
+impl Error for OpFault {}
 
 impl From<OutOfMemory> for OpFault {
     ghost use Rattle.std.specs.Prelude.{◌≡◌};

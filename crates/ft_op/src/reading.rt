@@ -2,6 +2,7 @@
 
 ghost use Rattle.std.specs.Prelude.{◌≡◌, ◌≢◌, ◌<◌, ◌^◌, pos, Ok, Err, Some, IfOk, IfErr};
 ghost use Rattle.serde_json.specs.View.{view};
+ghost use Rattle.ft_json.specs.Bounds.{kept_levels};
 ghost use Rattle.ft_json.specs.Canonical.{IsTextWithin};
 ghost use Rattle.ft_json.specs.Objects.{entry_pairs};
 ghost use Rattle.ft_json.specs.Reading.{read_line};
@@ -15,14 +16,14 @@ use ft_props::PropSet;
 use serde_json::{Map, Value};
 use std::alloc::Global;
 
-/// Whether the value is an object. It takes no memory.
+/// Whether the value is an object.
 pub fn is_object(value: &Value) -> bool
     ensures { result ≡ is_object (view value.now) }
 {
     value.is_object()
 }
 
-/// The range of an operation. It takes no memory.
+/// The range of an operation.
 #[tactic(auto, unfolding(crate::specs::Reading::range))]
 pub(crate) fn read_range(value: &Value) -> Result<(u64, u64), OpFault>
     ensures { result ≡ range (view value.now) }
@@ -35,7 +36,7 @@ pub(crate) fn read_range(value: &Value) -> Result<(u64, u64), OpFault>
     Ok((pos1, pos2))
 }
 
-/// The fault of two counts of which the second is less. It takes no memory.
+/// The fault of two counts of which the second is less.
 fn reversed(first: u64, second: u64) -> OpFault
     requires first { first < 2 ^ 53 }
     requires second { second < 2 ^ 53 }
@@ -52,7 +53,7 @@ fn reversed(first: u64, second: u64) -> OpFault
 pub(crate) fn read_kept_value(alloc: Global, value: &Value) -> Result<ValText, OpFault>
     ensures ok { IfOk result (λ text. kept_value (view value.now) ≡ Ok text) }
     ensures err { IfErr result (λ fault. fault ≢ OpFault.OutOfMemory → kept_value (view value.now) ≡ Err fault) }
-    ensures kept { IfOk result (IsTextWithin 100) }
+    ensures kept { IfOk result (IsTextWithin kept_levels) }
     ensures reads_back { IfOk result (λ text. read_line text ≡ Ok (view value.now)) }
 {
     Ok(canonical(alloc, value)?)

@@ -38,7 +38,7 @@ fn read_characters(alloc: Global, text: &Value) -> Result<Seg, OpFault>
     })
 }
 
-/// The marker that the field `marker` is. It takes no memory.
+/// The marker that the field `marker` is.
 fn read_marker(marker: Option<&Value>) -> Result<Seg, OpFault>
     ensures { result ≡ marker_of (option_map (λ d. view d.now) marker.entry) }
 {

@@ -9,6 +9,7 @@ ghost use Rattle.ft_op.specs.WellFormed.{IsWellFormedBase, IsWellFormedText};
 
 use crate::adjustments::read_given_adjustments;
 use crate::interval_reading::read_interval_op;
+use crate::limits::{ANNOTATION, GROUP, INSERTION, REMOVAL};
 use crate::operations::{BaseOp, BaseOps, OpFault, TextOp};
 use crate::reading::{is_object, read_given_properties, read_range};
 use crate::segments::read_segment;
@@ -43,7 +44,7 @@ fn read_typed_op(alloc: Global, value: &Value, kind: u64) -> Result<TextOp, OpFa
     ensures err { IfErr result (λ fault. fault ≢ OpFault.OutOfMemory → typed_op (view value.now) kind ≡ Err fault) }
     ensures formed { IfOk result IsWellFormedText }
 {
-    if kind == 3 {
+    if kind == GROUP {
         return read_group(alloc, value);
     }
     Ok(TextOp::One(read_base_op(alloc, value, kind)?))
@@ -85,7 +86,7 @@ fn read_group_item(alloc: Global, item: &Value) -> Result<BaseOp, OpFault>
         return Err(OpFault::WrongKind(Field::Ops));
     }
     let kind = count_field(item, Field::Kind)?;
-    if kind == 3 {
+    if kind == GROUP {
         return Err(OpFault::NestedGroup);
     }
     read_base_op(alloc, item, kind)
@@ -99,9 +100,9 @@ fn read_base_op(alloc: Global, value: &Value, kind: u64) -> Result<BaseOp, OpFau
     ensures formed { IfOk result IsWellFormedBase }
 {
     match kind {
-        0 => read_insertion(alloc, value),
-        1 => read_removal(value),
-        2 => read_annotation(alloc, value),
+        INSERTION => read_insertion(alloc, value),
+        REMOVAL => read_removal(value),
+        ANNOTATION => read_annotation(alloc, value),
         _ => Err(OpFault::UnknownType(kind)),
     }
 }
@@ -122,7 +123,7 @@ fn read_insertion(alloc: Global, value: &Value) -> Result<BaseOp, OpFault>
     })
 }
 
-/// The removal that the object is. It takes no memory.
+/// The removal that the object is.
 #[tactic(auto, unfolding(crate::specs::TextGrammar::removal))]
 fn read_removal(value: &Value) -> Result<BaseOp, OpFault>
     ensures value { result ≡ removal (view value.now) }

@@ -6,6 +6,7 @@ ghost use Rattle.std.specs.Str.{all_scalars};
 ghost use Rattle.serde_json.specs.Data.{object, put, string};
 ghost use Rattle.serde_json.specs.View.{view, items_view, members_view};
 ghost use Rattle.serde_json.specs.Written.{compact_text};
+ghost use Rattle.ft_json.specs.Bounds.{kept_levels};
 ghost use Rattle.ft_json.specs.Canonical.{IsTextWithin};
 ghost use Rattle.ft_json.specs.Reading.{read_line};
 ghost use Rattle.ft_op.specs.Laws.{IsReadAs};
@@ -13,22 +14,13 @@ ghost use Rattle.ft_op.specs.Representable.{IsKeyed, IsRepresentable, IsRepresen
 ghost use Rattle.ft_op.specs.WellFormed.{AreAdjustments, IsPropertySet, IsSetValue, IsWellFormed, IsWellFormedBase, IsWellFormedCell, IsWellFormedGrid, IsWellFormedText};
 ghost use Rattle.ft_op.specs.Written.{given_adjustments, given_end, given_set, given_start, put_given, with_given, written, written_adjustment, written_base, written_cell, written_grid_op, written_group, written_items, written_interval, written_marker, written_number, written_pairs, written_segment, written_set, written_target, written_text, written_text_op, written_value};
 
-use crate::operations::{
-    BaseOp, BaseOps, CellOp, CellOps, ChannelOp, Ends, GridOp, Seg, Target, TextOp,
-};
+use crate::limits::{ANNOTATION, GROUP, INSERTION, REMOVAL, SPLICE_IN, SPLICE_OUT};
+use crate::operations::{BaseOp, CellOp, ChannelOp, Ends, GridOp, Seg, Target, TextOp};
 use ft_base::{OutOfMemory, Text};
 use ft_json::{ValText, compact};
 use ft_props::{AdjSet, Adjust, Changes, PropSet};
 use serde_json::{Map, Value, json, put};
 use std::alloc::Global;
-
-/// The characters of the text, as a string slice. It takes no memory.
-pub fn str_of(text: &Text) -> &str
-    ensures bytes { result.now ≡ encode_utf8_all text.now }
-    ensures is_text { IsText text.now }
-{
-    text.as_str()
-}
 
 /// The value that a key is set to: null for none.
 fn written_value(value: &Option<ValText>) -> Result<Value, OutOfMemory>
@@ -49,7 +41,7 @@ fn written_set(alloc: Global, set: &PropSet) -> Result<Value, OutOfMemory>
 {
     let mut members = Map::new(alloc);
     for (key, value) in set.as_slice() {
-        put(&mut members, alloc, str_of(key), written_value(value)?)?;
+        put(&mut members, alloc, key.as_str(), written_value(value)?)?;
     }
     Ok(Value::Object(members))
 }
@@ -114,7 +106,7 @@ fn written_adjustments(alloc: Global, adjust: &AdjSet) -> Result<Value, OutOfMem
     let mut members = Map::new(alloc);
     for (key, by) in adjust.as_slice() {
         let by = written_adjustment(alloc, by)?;
-        put(&mut members, alloc, str_of(key), by)?;
+        put(&mut members, alloc, key.as_str(), by)?;
     }
     Ok(Value::Object(members))
 }
@@ -138,8 +130,8 @@ fn written_characters(alloc: Global, text: &Text, props: &PropSet) -> Result<Val
     ensures keyed { IfOk result (λ _. IsKeyed props.now) }
 {
     match given_set(alloc, props)? {
-        Some(props) => Ok(json!(in alloc; {"props": props, "text": str_of(text)})?),
-        None => Ok(Value::try_from_str(alloc, str_of(text))?),
+        Some(props) => Ok(json!(in alloc; {"props": props, "text": text.as_str()})?),
+        None => Ok(Value::try_from_str(alloc, text.as_str())?),
     }
 }
 
@@ -188,7 +180,7 @@ fn written_annotation(
     put(&mut members, alloc, "pos2", Value::from(pos2))?;
     let props = written_set(alloc, &changes.props)?;
     put(&mut members, alloc, "props", props)?;
-    put(&mut members, alloc, "type", Value::from(2u64))?;
+    put(&mut members, alloc, "type", Value::from(ANNOTATION))?;
     Ok(Value::Object(members))
 }
 
@@ -201,10 +193,10 @@ fn written_base(alloc: Global, op: &BaseOp) -> Result<Value, OutOfMemory>
     match op {
         BaseOp::Insert { pos, seg, props } => {
             let seg = written_segment(alloc, seg, props)?;
-            Ok(json!(in alloc; {"pos1": *pos, "seg": seg, "type": 0u64})?)
+            Ok(json!(in alloc; {"pos1": *pos, "seg": seg, "type": INSERTION})?)
         }
         BaseOp::Remove { pos1, pos2 } => {
-            Ok(json!(in alloc; {"pos1": *pos1, "pos2": *pos2, "type": 1u64})?)
+            Ok(json!(in alloc; {"pos1": *pos1, "pos2": *pos2, "type": REMOVAL})?)
         }
         BaseOp::Annotate {
             pos1,
@@ -231,10 +223,10 @@ fn written_base_ops(alloc: Global, ops: &[BaseOp]) -> Result<Vec<Value>, OutOfMe
 fn written_group(alloc: Global, ops: Vec<Value>) -> Result<Value, OutOfMemory>
     ensures { IfOk result (λ v. view v ≡ written_group (items_view ops.items)) }
 {
-    Ok(json!(in alloc; {"ops": Value::Array(ops), "type": 3u64})?)
+    Ok(json!(in alloc; {"ops": Value::Array(ops), "type": GROUP})?)
 }
 
-/// The number of the first end, if ends are given. It takes no memory.
+/// The number of the first end, if ends are given.
 fn given_start(ends: Option<Ends>) -> Option<Value>
     ensures { option_map view result ≡ given_start ends }
 {
@@ -244,7 +236,7 @@ fn given_start(ends: Option<Ends>) -> Option<Value>
     }
 }
 
-/// The number of the last end, if ends are given. It takes no memory.
+/// The number of the last end, if ends are given.
 fn given_end(ends: Option<Ends>) -> Option<Value>
     ensures { option_map view result ≡ given_end ends }
 {
@@ -272,9 +264,9 @@ fn written_interval(
 {
     let mut members = Map::new(alloc);
     put_given(&mut members, alloc, "end", given_end(ends))?;
-    put_str(&mut members, alloc, "id", str_of(id))?;
+    put_str(&mut members, alloc, "id", id.as_str())?;
     put_str(&mut members, alloc, "interval", word)?;
-    put_str(&mut members, alloc, "label", str_of(label))?;
+    put_str(&mut members, alloc, "label", label.as_str())?;
     put_given(&mut members, alloc, "props", given_set(alloc, props)?)?;
     put_given(&mut members, alloc, "start", given_start(ends))?;
     Ok(Value::Object(members))
@@ -287,7 +279,7 @@ fn written_deletion(alloc: Global, label: &Text, id: &Text) -> Result<Value, Out
     ensures label { IfOk result (λ _. IsText label.now) }
     ensures id { IfOk result (λ _. IsText id.now) }
 {
-    let (label, id) = (str_of(label), str_of(id));
+    let (label, id) = (label.as_str(), id.as_str());
     Ok(json!(in alloc; {"id": id, "interval": "delete", "label": label})?)
 }
 
@@ -316,7 +308,7 @@ fn written_text_op(alloc: Global, op: &TextOp) -> Result<Value, OutOfMemory>
     }
 }
 
-/// The name of the list that a splice is for. It takes no memory.
+/// The name of the list that a splice is for.
 fn target_name(target: Target) -> &'static str
     ensures { string result.now ≡ written_target target }
 {
@@ -333,7 +325,7 @@ fn written_cell_write(
     col: u64,
     value: &ValText,
 ) -> Result<Value, OutOfMemory>
-    requires { IsTextWithin 100 value.now }
+    requires { IsTextWithin kept_levels value.now }
     ensures { IfOk result (λ v. view v ≡ written_cell (CellOp.Set row col value.now)) }
 {
     let value = value.to_value()?;
@@ -348,11 +340,15 @@ fn written_cell(alloc: Global, op: &CellOp) -> Result<Value, OutOfMemory>
     match op {
         CellOp::SpliceIn { target, pos, count } => {
             let target = target_name(*target);
-            Ok(json!(in alloc; {"count": *count, "pos1": *pos, "target": target, "type": 0u64})?)
+            Ok(
+                json!(in alloc; {"count": *count, "pos1": *pos, "target": target, "type": SPLICE_IN})?,
+            )
         }
         CellOp::SpliceOut { target, pos1, pos2 } => {
             let target = target_name(*target);
-            Ok(json!(in alloc; {"pos1": *pos1, "pos2": *pos2, "target": target, "type": 1u64})?)
+            Ok(
+                json!(in alloc; {"pos1": *pos1, "pos2": *pos2, "target": target, "type": SPLICE_OUT})?,
+            )
         }
         CellOp::Set { row, col, value } => written_cell_write(alloc, *row, *col, value),
     }

@@ -18,12 +18,12 @@ returns-clause-value c =
     let put1 : members_view c.put_given.new.members.entries ≡ put_given (codes "end") end no_members =
     c.in_ok-put_given.ensures ∙ rw (c.given_end.ensures, none) in
     let put2 : members_view c.put_str.new.members.entries ≡ put (codes "id") id (put_given (codes "end") end no_members) =
-    c.in_ok-put_str.ensures ∙ rw (c.str_of.ensures.bytes, put1) in
+    c.in_ok-put_str.ensures ∙ rw (c.as_str.ensures.bytes, put1) in
     let put3 : members_view c.put_str-2.new.members.entries ≡ put (codes "interval") word (put (codes "id") id (put_given (codes "end") end no_members)) =
     c.in_ok-put_str-2.ensures ∙ ap (put (codes "interval") word) put2 in
     let put4 : members_view c.put_str-3.new.members.entries
     ≡ put (codes "label") label (put (codes "interval") word (put (codes "id") id (put_given (codes "end") end no_members))) =
-    c.in_ok-put_str-3.ensures ∙ rw (c.str_of-2.ensures.bytes, put3) in
+    c.in_ok-put_str-3.ensures ∙ rw (c.as_str-2.ensures.bytes, put3) in
     let put5 : members_view c.put_given-2.new.members.entries
     ≡ put_given (codes "props") props (put (codes "label") label (put (codes "interval") word (put (codes "id") id (put_given (codes "end") end no_members)))) =
     c.in_ok-put_given-2.ensures ∙ rw (c.in_ok-given_set.ensures.value, put4) in

@@ -1,6 +1,0 @@
-use Rattle.std.proofs.Common.{◌≡◌, take, length}
-use Rattle.ft_op.proofs.operations.CellOps.same.Given as goal
-
--- what was passed is the same
-abbrev pub invariant-loop-mine : goal.invariant-loop-mine
-invariant-loop-mine l = take (length l.yielded) l.self ≡ take (length l.yielded) l.other
