@@ -2,7 +2,7 @@
 
 ghost use Rattle.std.specs.Prelude.{◌≡◌, ◌↔◌, IsTrue, IfOk};
 
-use crate::lists::Plain;
+use crate::lists::Datum;
 use crate::memory::OutOfMemory;
 use crate::stamps::{Stamp, Stamps};
 
@@ -37,7 +37,7 @@ impl Element {
     }
 }
 
-impl Plain for Element {
+impl Datum for Element {
     fn copy(&self) -> Result<Element, OutOfMemory> {
         self.copy()
     }

@@ -15,7 +15,7 @@ pub mod visibility;
 
 pub use counting::Steps;
 pub use elements::{Element, Perspective};
-pub use lists::{List, Plain};
+pub use lists::{Datum, List};
 pub use memory::OutOfMemory;
 pub use stamps::{Stamp, Stamps};
 pub use texts::Text;

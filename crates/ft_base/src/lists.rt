@@ -7,7 +7,7 @@ use std::alloc::Global;
 use std::marker::Model;
 
 /// A value that can be copied and compared.
-pub trait Plain: Sized + Drop {
+pub trait Datum: Sized + Drop {
     /// An equal value.
     ///
     /// Answers `OutOfMemory` where there is no room for it.
@@ -19,7 +19,7 @@ pub trait Plain: Sized + Drop {
         ensures { IsTrue result ↔ (self.now ≡ other.now) };
 }
 
-impl<T: Plain> Plain for Option<T> {
+impl<T: Datum> Datum for Option<T> {
     fn copy(&self) -> Result<Option<T>, OutOfMemory> {
         match self {
             Some(value) => Ok(Some(value.copy()?)),
@@ -105,7 +105,7 @@ impl<T: Drop> List<T> {
     }
 }
 
-impl<T: Plain> List<T> {
+impl<T: Datum> List<T> {
     /// An equal list.
     ///
     /// Answers `OutOfMemory` where there is no room for it.
@@ -135,7 +135,7 @@ impl<T: Plain> List<T> {
     }
 }
 
-impl<T: Plain> Plain for List<T> {
+impl<T: Datum> Datum for List<T> {
     fn copy(&self) -> Result<List<T>, OutOfMemory> {
         self.copy()
     }

@@ -2,7 +2,7 @@
 
 ghost use Rattle.std.specs.Prelude.{◌≡◌, ◌↔◌, IsTrue};
 
-use crate::lists::{List, Plain};
+use crate::lists::{Datum, List};
 use crate::memory::OutOfMemory;
 
 /// When an insertion or a removal was made, and by whom.
@@ -31,7 +31,7 @@ impl Stamp {
     }
 }
 
-impl Plain for Stamp {
+impl Datum for Stamp {
     fn copy(&self) -> Result<Stamp, OutOfMemory> {
         self.copy()
     }

@@ -3,7 +3,7 @@
 ghost use Rattle.std.specs.Prelude.{◌≡◌, ◌↔◌, IsTrue, IfOk, chars, encode_utf8_all, string_bytes};
 ghost use Rattle.ft_base.specs.Texts.{IsText};
 
-use crate::lists::Plain;
+use crate::lists::Datum;
 use crate::memory::OutOfMemory;
 use std::alloc::Global;
 use std::marker::Model;
@@ -70,7 +70,7 @@ impl Text {
     }
 }
 
-impl Plain for Text {
+impl Datum for Text {
     fn copy(&self) -> Result<Text, OutOfMemory> {
         self.copy()
     }

@@ -1,3 +1,4 @@
+pub mod Readers
 pub mod Bounds
 pub mod FaultTexts
 pub mod Fields

@@ -8,7 +8,7 @@ ghost use Rattle.ft_json.specs.Bounds.{read_levels};
 ghost use Rattle.ft_json.specs.Canonical.{IsCanonical, IsCanonicalText, IsTextWithin, value_of};
 ghost use Rattle.ft_json.specs.Reading.{whole_within};
 
-use ft_base::{OutOfMemory, Plain};
+use ft_base::{Datum, OutOfMemory};
 use serde_json::Value;
 use std::alloc::Global;
 use std::marker::Model;
@@ -112,7 +112,7 @@ impl ValText {
     }
 }
 
-impl Plain for ValText {
+impl Datum for ValText {
     fn copy(&self) -> Result<ValText, OutOfMemory> {
         self.copy()
     }

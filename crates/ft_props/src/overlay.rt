@@ -7,7 +7,7 @@ ghost use Rattle.ft_props.specs.Overlay.{kept_shown};
 
 use crate::changed::make_changes;
 use crate::properties::{Changes, Props};
-use ft_base::{OutOfMemory, Plain};
+use ft_base::{Datum, OutOfMemory};
 use ft_json::ValText;
 use std::alloc::Global;
 use std::marker::Model;
@@ -255,7 +255,7 @@ impl Overlay {
     }
 }
 
-impl Plain for Overlay {
+impl Datum for Overlay {
     fn copy(&self) -> Result<Overlay, OutOfMemory> {
         self.copy()
     }

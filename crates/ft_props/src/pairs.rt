@@ -4,7 +4,7 @@ ghost use Rattle.std.specs.Prelude.{◌≡◌, ◌↔◌, ◌≤◌, [], IsTrue,
 ghost use Rattle.ft_props.specs.Keys.{KeysRise, key_cmp, place_of, put_rising, remove_rising, value_of};
 
 use crate::keys::compare;
-use ft_base::{OutOfMemory, Plain, Text};
+use ft_base::{Datum, OutOfMemory, Text};
 use std::alloc::Global;
 use std::marker::Model;
 
@@ -132,7 +132,7 @@ impl<V: Drop> Pairs<V> {
     }
 }
 
-impl<V: Plain> Pairs<V> {
+impl<V: Datum> Pairs<V> {
     /// An equal list.
     ///
     /// Answers `OutOfMemory` where there is no room for it.
@@ -162,7 +162,7 @@ impl<V: Plain> Pairs<V> {
     }
 }
 
-impl<V: Plain> Plain for Pairs<V> {
+impl<V: Datum> Datum for Pairs<V> {
     fn copy(&self) -> Result<Pairs<V>, OutOfMemory> {
         self.copy()
     }

@@ -3,7 +3,7 @@
 ghost use Rattle.std.specs.Prelude.{◌≡◌, ◌↔◌, IsTrue, IfOk};
 
 use crate::pairs::Pairs;
-use ft_base::{OutOfMemory, Plain};
+use ft_base::{Datum, OutOfMemory};
 use ft_json::ValText;
 
 /// What an operation sets: pairs of a key and a value by rising keys, where None stands for null,
@@ -41,7 +41,7 @@ impl Adjust {
     }
 }
 
-impl Plain for Adjust {
+impl Datum for Adjust {
     fn copy(&self) -> Result<Adjust, OutOfMemory> {
         self.copy()
     }
