@@ -10,7 +10,7 @@ use Rattle.ft_json.proofs.Back.{read_line-compact_text}
 use Rattle.ft_op.specs.Cells.{is_null}
 use Rattle.ft_op.proofs.ReadSteps.{same_value}
 
-refuted : (b : Bool) → (b ≡ true → ⊥) → b ≡ false
+pub refuted : (b : Bool) → (b ≡ true → ⊥) → b ≡ false
 refuted true f = absurd (f refl)
 refuted false f = refl
 

@@ -3,7 +3,7 @@
 ghost use Rattle.std.specs.Prelude.{◌≡◌, ◌↔◌, Ok, IsTrue, IfOk};
 
 use crate::operations::{BaseOp, BaseOps, CellOp, ChannelOp, Ends, GridOp, Seg, Target, TextOp};
-use ft_base::{OutOfMemory, Plain, Text};
+use ft_base::{Datum, OutOfMemory, Text};
 use ft_json::ValText;
 use ft_props::{Changes, PropSet};
 
@@ -431,7 +431,7 @@ impl ChannelOp {
     }
 }
 
-impl Plain for Seg {
+impl Datum for Seg {
     fn copy(&self) -> Result<Seg, OutOfMemory> {
         self.copy()
     }
@@ -441,7 +441,7 @@ impl Plain for Seg {
     }
 }
 
-impl Plain for BaseOp {
+impl Datum for BaseOp {
     fn copy(&self) -> Result<BaseOp, OutOfMemory> {
         self.copy()
     }
@@ -451,7 +451,7 @@ impl Plain for BaseOp {
     }
 }
 
-impl Plain for Ends {
+impl Datum for Ends {
     fn copy(&self) -> Result<Ends, OutOfMemory> {
         self.copy()
     }
@@ -461,7 +461,7 @@ impl Plain for Ends {
     }
 }
 
-impl Plain for TextOp {
+impl Datum for TextOp {
     fn copy(&self) -> Result<TextOp, OutOfMemory> {
         self.copy()
     }
@@ -471,7 +471,7 @@ impl Plain for TextOp {
     }
 }
 
-impl Plain for Target {
+impl Datum for Target {
     fn copy(&self) -> Result<Target, OutOfMemory> {
         self.copy()
     }
@@ -481,7 +481,7 @@ impl Plain for Target {
     }
 }
 
-impl Plain for CellOp {
+impl Datum for CellOp {
     fn copy(&self) -> Result<CellOp, OutOfMemory> {
         self.copy()
     }
@@ -491,7 +491,7 @@ impl Plain for CellOp {
     }
 }
 
-impl Plain for GridOp {
+impl Datum for GridOp {
     fn copy(&self) -> Result<GridOp, OutOfMemory> {
         self.copy()
     }
@@ -501,7 +501,7 @@ impl Plain for GridOp {
     }
 }
 
-impl Plain for ChannelOp {
+impl Datum for ChannelOp {
     fn copy(&self) -> Result<ChannelOp, OutOfMemory> {
         self.copy()
     }

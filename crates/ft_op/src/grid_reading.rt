@@ -3,6 +3,7 @@
 ghost use Rattle.std.specs.Prelude.{◌≡◌, ◌≢◌, Ok, Err, IfOk, IfErr, map, option_map};
 ghost use Rattle.std.specs.List.{AllByRecursion};
 ghost use Rattle.serde_json.specs.View.{view};
+ghost use Rattle.ft_json.specs.Readers.{Reads};
 ghost use Rattle.ft_op.specs.Reading.{read_each};
 ghost use Rattle.ft_op.specs.GridGrammar.{cell_op, cell_write, grid_op, group, group_item, is_group, splice, splice_in, splice_out, target_of, typed_splice, untargeted};
 ghost use Rattle.ft_op.specs.WellFormed.{IsWellFormedCell, IsWellFormedGrid};
@@ -20,9 +21,7 @@ use std::alloc::Global;
 /// and `OutOfMemory` where there is no room for it.
 #[tactic(auto, unfolding(crate::specs::GridGrammar::grid_op))]
 pub fn read_grid_op(alloc: Global, value: &Value) -> Result<GridOp, OpFault>
-    ensures ok { IfOk result (λ op. grid_op (view value.now) ≡ Ok op) }
-    ensures err { IfErr result (λ fault. fault ≢ OpFault.OutOfMemory → grid_op (view value.now) ≡ Err fault) }
-    ensures formed { IfOk result IsWellFormedGrid }
+    ensures { Reads OpFault.OutOfMemory (grid_op (view value.now)) IsWellFormedGrid result }
 {
     if !is_object(value) {
         return Err(OpFault::WrongKind(Field::Contents));

@@ -3,6 +3,7 @@
 ghost use Rattle.std.specs.Prelude.{◌≡◌, ◌≢◌, Ok, Err, IfOk, IfErr, map, option_map};
 ghost use Rattle.std.specs.List.{AllByRecursion};
 ghost use Rattle.serde_json.specs.View.{view};
+ghost use Rattle.ft_json.specs.Readers.{Reads};
 ghost use Rattle.ft_op.specs.Reading.{read_each};
 ghost use Rattle.ft_op.specs.TextGrammar.{annotation, base_op, group, group_item, insertion, insertion_of, removal, text_op, typed_op};
 ghost use Rattle.ft_op.specs.WellFormed.{IsWellFormedBase, IsWellFormedText};
@@ -24,9 +25,7 @@ use std::alloc::Global;
 /// and `OutOfMemory` where there is no room for it.
 #[tactic(auto, unfolding(crate::specs::TextGrammar::text_op))]
 pub fn read_text_op(alloc: Global, value: &Value) -> Result<TextOp, OpFault>
-    ensures ok { IfOk result (λ op. text_op (view value.now) ≡ Ok op) }
-    ensures err { IfErr result (λ fault. fault ≢ OpFault.OutOfMemory → text_op (view value.now) ≡ Err fault) }
-    ensures formed { IfOk result IsWellFormedText }
+    ensures { Reads OpFault.OutOfMemory (text_op (view value.now)) IsWellFormedText result }
 {
     if !is_object(value) {
         return Err(OpFault::WrongKind(Field::Contents));
