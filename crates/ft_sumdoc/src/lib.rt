@@ -1,6 +1,9 @@
 //! Summary documents: what a client hands to one that starts later.
+//!
+//! A call that can't answer `OutOfMemory` takes no memory.
 #![tactic(auto)]
 
+mod copies;
 pub mod summary;
 
 pub use summary::{

@@ -1,12 +1,10 @@
 //! The types of a summary, and of what a view shows of intervals and cells.
 
-ghost use Rattle.std.specs.Prelude.{◌≡◌, [], ◌∷◌, ◌++◌, OnOk, OnErr, length, slice_get, option_copied};
-
-use ft_base::{OutOfMemory, Text};
+use ft_base::{List, Text};
 use ft_json::{Field, ValText};
 use ft_props::Props;
-use std::alloc::Global;
-use std::marker::Model;
+use std::error::Error;
+use std::fmt;
 
 /// What a segment of a summary holds.
 #[derive(Drop)]
@@ -34,63 +32,7 @@ pub struct IntervalRec {
 }
 
 /// Intervals, by rising label and id.
-#[derive(Drop)]
-pub struct IntervalRecs {
-    items: Vec<IntervalRec>,
-}
-
-impl Model for IntervalRecs {
-    ghost use Rattle.std.specs.Prelude.{List};
-    ghost use Rattle.ft_sumdoc.specs.declared.summary.IntervalRec.{IntervalRec};
-
-    ghost Value = { List IntervalRec };
-
-    ghost view = { λ a. a.items.items };
-}
-
-impl IntervalRecs {
-    /// No intervals. It takes no memory.
-    pub fn new(alloc: Global) -> IntervalRecs
-        ensures { result ≡ [] }
-    {
-        IntervalRecs {
-            items: Vec::new(alloc),
-        }
-    }
-
-    /// Adds one at the end.
-    ///
-    /// Answers `OutOfMemory` where there is no room for it, and then the list is as it was.
-    pub fn push(&mut self, interval: IntervalRec) -> Result<(), OutOfMemory>
-        ensures ok { OnOk result (self.new ≡ self.old ++ interval ∷ []) }
-        ensures err { OnErr result (self.new ≡ self.old) }
-    {
-        self.items.push(interval)?;
-        Ok(())
-    }
-
-    /// How many there are. It takes no memory.
-    pub fn len(&self) -> usize
-        ensures { result ≡ length self.now }
-    {
-        self.items.len()
-    }
-
-    /// The one at place `i`, counted from 0: None exactly where `i` isn't below the length. It takes
-    /// no memory.
-    pub fn at(&self, i: usize) -> Option<&IntervalRec>
-        ensures { option_copied result ≡ slice_get self.now i }
-    {
-        self.items.get(i)
-    }
-
-    /// All in order. It takes no memory.
-    pub fn as_slice(&self) -> &[IntervalRec]
-        ensures { result.now ≡ self.now }
-    {
-        self.items.as_slice()
-    }
-}
+pub type IntervalRecs = List<IntervalRec>;
 
 /// A shown cell, by the numbers of its row and its column.
 #[derive(Drop)]
@@ -101,63 +43,7 @@ pub struct CellRec {
 }
 
 /// Cells, by rising row and column.
-#[derive(Drop)]
-pub struct CellRecs {
-    items: Vec<CellRec>,
-}
-
-impl Model for CellRecs {
-    ghost use Rattle.std.specs.Prelude.{List};
-    ghost use Rattle.ft_sumdoc.specs.declared.summary.CellRec.{CellRec};
-
-    ghost Value = { List CellRec };
-
-    ghost view = { λ a. a.items.items };
-}
-
-impl CellRecs {
-    /// No cells. It takes no memory.
-    pub fn new(alloc: Global) -> CellRecs
-        ensures { result ≡ [] }
-    {
-        CellRecs {
-            items: Vec::new(alloc),
-        }
-    }
-
-    /// Adds one at the end.
-    ///
-    /// Answers `OutOfMemory` where there is no room for it, and then the list is as it was.
-    pub fn push(&mut self, cell: CellRec) -> Result<(), OutOfMemory>
-        ensures ok { OnOk result (self.new ≡ self.old ++ cell ∷ []) }
-        ensures err { OnErr result (self.new ≡ self.old) }
-    {
-        self.items.push(cell)?;
-        Ok(())
-    }
-
-    /// How many there are. It takes no memory.
-    pub fn len(&self) -> usize
-        ensures { result ≡ length self.now }
-    {
-        self.items.len()
-    }
-
-    /// The one at place `i`, counted from 0: None exactly where `i` isn't below the length. It takes
-    /// no memory.
-    pub fn at(&self, i: usize) -> Option<&CellRec>
-        ensures { option_copied result ≡ slice_get self.now i }
-    {
-        self.items.get(i)
-    }
-
-    /// All in order. It takes no memory.
-    pub fn as_slice(&self) -> &[CellRec]
-        ensures { result.now ≡ self.now }
-    {
-        self.items.as_slice()
-    }
-}
+pub type CellRecs = List<CellRec>;
 
 /// A sequenced stamp in a summary; (0, 0) stands for one at or below the minimum sequence number.
 #[derive(Clone, Copy, Debug, PartialEq, Eq)]
@@ -167,19 +53,7 @@ pub struct Mark {
 }
 
 /// The removals of a segment or a run, by rising number.
-#[derive(Drop)]
-pub struct Marks {
-    items: Vec<Mark>,
-}
-
-impl Model for Marks {
-    ghost use Rattle.std.specs.Prelude.{List};
-    ghost use Rattle.ft_sumdoc.specs.declared.summary.Mark.{Mark};
-
-    ghost Value = { List Mark };
-
-    ghost view = { λ a. a.items.items };
-}
+pub type Marks = List<Mark>;
 
 /// A segment of the text of a summary: elements with equal stamps, author and properties.
 #[derive(Drop)]
@@ -195,19 +69,7 @@ pub struct SegRec {
 }
 
 /// The segments of a summary, in order.
-#[derive(Drop)]
-pub struct SegRecs {
-    items: Vec<SegRec>,
-}
-
-impl Model for SegRecs {
-    ghost use Rattle.std.specs.Prelude.{List};
-    ghost use Rattle.ft_sumdoc.specs.declared.summary.SegRec.{SegRec};
-
-    ghost Value = { List SegRec };
-
-    ghost view = { λ a. a.items.items };
-}
+pub type SegRecs = List<SegRec>;
 
 /// A run of units of the rows or the columns of a summary, with equal stamps.
 #[derive(Drop)]
@@ -221,33 +83,10 @@ pub struct RunRec {
 }
 
 /// The runs of units of a summary, in order.
-#[derive(Drop)]
-pub struct RunRecs {
-    items: Vec<RunRec>,
-}
-
-impl Model for RunRecs {
-    ghost use Rattle.std.specs.Prelude.{List};
-    ghost use Rattle.ft_sumdoc.specs.declared.summary.RunRec.{RunRec};
-
-    ghost Value = { List RunRec };
-
-    ghost view = { λ a. a.items.items };
-}
+pub type RunRecs = List<RunRec>;
 
 /// Texts, in order.
-#[derive(Drop)]
-pub struct Texts {
-    items: Vec<Text>,
-}
-
-impl Model for Texts {
-    ghost use Rattle.std.specs.Prelude.{List, ℕ};
-
-    ghost Value = { List (List ℕ) };
-
-    ghost view = { λ a. a.items.items };
-}
+pub type Texts = List<Text>;
 
 /// A summary document.
 #[derive(Drop)]
@@ -301,3 +140,42 @@ pub enum SumFault {
     /// There was no memory.
     OutOfMemory,
 }
+
+impl fmt::Display for SumCause {
+    ghost use Rattle.std.specs.Prelude.{Some};
+    ghost use Rattle.ft_sumdoc.specs.FaultTexts.{summary_cause_text};
+
+    ghost output = { λ cause. Some (summary_cause_text cause) };
+
+    fn fmt<W: fmt::Write>(&self, f: &mut fmt::Formatter<W>) -> fmt::Result {
+        match *self {
+            SumCause::NotUtf8 => write!(f, "NotUtf8"),
+            SumCause::NotJson => write!(f, "NotJson"),
+            SumCause::Fraction => write!(f, "Fraction"),
+            SumCause::TooDeep => write!(f, "TooDeep"),
+            SumCause::Missing(field) => write!(f, "Missing {field}"),
+            SumCause::WrongKind(field) => write!(f, "WrongKind {field}"),
+        }
+    }
+}
+
+impl Error for SumCause {}
+
+impl fmt::Display for SumFault {
+    ghost use Rattle.std.specs.Prelude.{Some};
+    ghost use Rattle.ft_sumdoc.specs.FaultTexts.{summary_fault_text};
+
+    ghost output = { λ fault. Some (summary_fault_text fault) };
+
+    fn fmt<W: fmt::Write>(&self, f: &mut fmt::Formatter<W>) -> fmt::Result {
+        match *self {
+            SumFault::Malformed(cause) => write!(f, "Malformed {cause}"),
+            SumFault::Version(n) => write!(f, "Version {n}"),
+            SumFault::BadStamp(place) => write!(f, "BadStamp {place}"),
+            SumFault::BadCount { said, found } => write!(f, "BadCount said {said} found {found}"),
+            SumFault::OutOfMemory => write!(f, "OutOfMemory"),
+        }
+    }
+}
+
+impl Error for SumFault {}

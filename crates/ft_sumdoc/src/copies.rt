@@ -1,0 +1,282 @@
+//! Copies of what summaries and views hold, and whether two are equal.
+
+ghost use Rattle.std.specs.Prelude.{◌≡◌, ◌↔◌, Ok, IsTrue, IfOk};
+
+use crate::summary::{CellRec, Ends2, IntervalRec, Mark, RunRec, Seg, SegRec, SumDoc};
+use ft_base::{Datum, OutOfMemory};
+
+impl Seg {
+    /// An equal segment.
+    ///
+    /// Answers `OutOfMemory` where there is no room for it.
+    pub fn copy(&self) -> Result<Seg, OutOfMemory>
+        ensures { IfOk result (λ copy. copy ≡ self.now) }
+    {
+        match self {
+            Seg::Chars { text } => Ok(Seg::Chars { text: text.copy()? }),
+            Seg::Marker { ref_type } => Ok(Seg::Marker {
+                ref_type: *ref_type,
+            }),
+        }
+    }
+
+    /// Whether both are equal.
+    pub fn same(&self, other: &Seg) -> bool
+        ensures { IsTrue result ↔ (self.now ≡ other.now) }
+    {
+        match (self, other) {
+            (Seg::Chars { text: mine }, Seg::Chars { text: theirs }) => mine.same(theirs),
+            (Seg::Marker { ref_type: mine }, Seg::Marker { ref_type: theirs }) => mine == theirs,
+            (Seg::Chars { .. }, Seg::Marker { .. }) | (Seg::Marker { .. }, Seg::Chars { .. }) =>
+                false,
+        }
+    }
+}
+
+impl Datum for Seg {
+    fn copy(&self) -> Result<Seg, OutOfMemory> {
+        self.copy()
+    }
+
+    fn same(&self, other: &Seg) -> bool {
+        self.same(other)
+    }
+}
+
+impl Ends2 {
+    /// Equal ends. It always succeeds.
+    pub fn copy(&self) -> Result<Ends2, OutOfMemory>
+        ensures { result ≡ Ok self.now }
+    {
+        Ok(*self)
+    }
+
+    /// Whether both are equal.
+    pub fn same(&self, other: &Ends2) -> bool
+        ensures { IsTrue result ↔ (self.now ≡ other.now) }
+    {
+        self == other
+    }
+}
+
+impl Datum for Ends2 {
+    fn copy(&self) -> Result<Ends2, OutOfMemory> {
+        self.copy()
+    }
+
+    fn same(&self, other: &Ends2) -> bool {
+        self.same(other)
+    }
+}
+
+impl IntervalRec {
+    /// An equal interval.
+    ///
+    /// Answers `OutOfMemory` where there is no room for it.
+    pub fn copy(&self) -> Result<IntervalRec, OutOfMemory>
+        ensures { IfOk result (λ copy. copy ≡ self.now) }
+    {
+        Ok(IntervalRec {
+            label: self.label.copy()?,
+            id: self.id.copy()?,
+            ends: self.ends,
+            props: self.props.copy()?,
+        })
+    }
+
+    /// Whether both are equal.
+    pub fn same(&self, other: &IntervalRec) -> bool
+        ensures { IsTrue result ↔ (self.now ≡ other.now) }
+    {
+        self.label.same(&other.label)
+            && self.id.same(&other.id)
+            && self.ends.same(&other.ends)
+            && self.props.same(&other.props)
+    }
+}
+
+impl Datum for IntervalRec {
+    fn copy(&self) -> Result<IntervalRec, OutOfMemory> {
+        self.copy()
+    }
+
+    fn same(&self, other: &IntervalRec) -> bool {
+        self.same(other)
+    }
+}
+
+impl CellRec {
+    /// An equal cell.
+    ///
+    /// Answers `OutOfMemory` where there is no room for it.
+    pub fn copy(&self) -> Result<CellRec, OutOfMemory>
+        ensures { IfOk result (λ copy. copy ≡ self.now) }
+    {
+        Ok(CellRec {
+            row: self.row,
+            col: self.col,
+            value: self.value.copy()?,
+        })
+    }
+
+    /// Whether both are equal.
+    pub fn same(&self, other: &CellRec) -> bool
+        ensures { IsTrue result ↔ (self.now ≡ other.now) }
+    {
+        self.row == other.row && self.col == other.col && self.value.same(&other.value)
+    }
+}
+
+impl Datum for CellRec {
+    fn copy(&self) -> Result<CellRec, OutOfMemory> {
+        self.copy()
+    }
+
+    fn same(&self, other: &CellRec) -> bool {
+        self.same(other)
+    }
+}
+
+impl Mark {
+    /// An equal stamp. It always succeeds.
+    pub fn copy(&self) -> Result<Mark, OutOfMemory>
+        ensures { result ≡ Ok self.now }
+    {
+        Ok(*self)
+    }
+
+    /// Whether both are equal.
+    pub fn same(&self, other: &Mark) -> bool
+        ensures { IsTrue result ↔ (self.now ≡ other.now) }
+    {
+        self == other
+    }
+}
+
+impl Datum for Mark {
+    fn copy(&self) -> Result<Mark, OutOfMemory> {
+        self.copy()
+    }
+
+    fn same(&self, other: &Mark) -> bool {
+        self.same(other)
+    }
+}
+
+impl SegRec {
+    /// An equal segment.
+    ///
+    /// Answers `OutOfMemory` where there is no room for it.
+    pub fn copy(&self) -> Result<SegRec, OutOfMemory>
+        ensures { IfOk result (λ copy. copy ≡ self.now) }
+    {
+        Ok(SegRec {
+            body: self.body.copy()?,
+            props: self.props.copy()?,
+            by: self.by,
+            ins: self.ins,
+            dels: self.dels.copy()?,
+        })
+    }
+
+    /// Whether both are equal.
+    pub fn same(&self, other: &SegRec) -> bool
+        ensures { IsTrue result ↔ (self.now ≡ other.now) }
+    {
+        self.body.same(&other.body)
+            && self.props.same(&other.props)
+            && self.by.same(&other.by)
+            && self.ins.same(&other.ins)
+            && self.dels.same(&other.dels)
+    }
+}
+
+impl Datum for SegRec {
+    fn copy(&self) -> Result<SegRec, OutOfMemory> {
+        self.copy()
+    }
+
+    fn same(&self, other: &SegRec) -> bool {
+        self.same(other)
+    }
+}
+
+impl RunRec {
+    /// An equal run.
+    ///
+    /// Answers `OutOfMemory` where there is no room for it.
+    pub fn copy(&self) -> Result<RunRec, OutOfMemory>
+        ensures { IfOk result (λ copy. copy ≡ self.now) }
+    {
+        Ok(RunRec {
+            count: self.count,
+            ins: self.ins,
+            dels: self.dels.copy()?,
+        })
+    }
+
+    /// Whether both are equal.
+    pub fn same(&self, other: &RunRec) -> bool
+        ensures { IsTrue result ↔ (self.now ≡ other.now) }
+    {
+        self.count == other.count && self.ins.same(&other.ins) && self.dels.same(&other.dels)
+    }
+}
+
+impl Datum for RunRec {
+    fn copy(&self) -> Result<RunRec, OutOfMemory> {
+        self.copy()
+    }
+
+    fn same(&self, other: &RunRec) -> bool {
+        self.same(other)
+    }
+}
+
+impl SumDoc {
+    /// An equal document.
+    ///
+    /// Answers `OutOfMemory` where there is no room for it.
+    pub fn copy(&self) -> Result<SumDoc, OutOfMemory>
+        ensures { IfOk result (λ copy. copy ≡ self.now) }
+    {
+        Ok(SumDoc {
+            seq: self.seq,
+            min: self.min,
+            skipped: self.skipped,
+            other: self.other,
+            conns: self.conns.copy()?,
+            text: self.text.copy()?,
+            rows: self.rows.copy()?,
+            cols: self.cols.copy()?,
+            intervals: self.intervals.copy()?,
+            cells: self.cells.copy()?,
+        })
+    }
+
+    /// Whether both are equal.
+    pub fn same(&self, other: &SumDoc) -> bool
+        ensures { IsTrue result ↔ (self.now ≡ other.now) }
+    {
+        self.seq == other.seq
+            && self.min == other.min
+            && self.skipped == other.skipped
+            && self.other == other.other
+            && self.conns.same(&other.conns)
+            && self.text.same(&other.text)
+            && self.rows.same(&other.rows)
+            && self.cols.same(&other.cols)
+            && self.intervals.same(&other.intervals)
+            && self.cells.same(&other.cells)
+    }
+}
+
+impl Datum for SumDoc {
+    fn copy(&self) -> Result<SumDoc, OutOfMemory> {
+        self.copy()
+    }
+
+    fn same(&self, other: &SumDoc) -> bool {
+        self.same(other)
+    }
+}
