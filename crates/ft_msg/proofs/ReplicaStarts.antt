@@ -1,8 +1,7 @@
 -- A replica stands for the client that it holds, and clients with which it starts are reached.
-use Rattle.std.proofs.Common.{ℕ, List, [], ◌∷◌, None, Bool, refl}
+use Rattle.std.proofs.Common.{ℕ, [], None, refl}
 use Rattle.ft_sumdoc.specs.declared.summary.SumDoc.{SumDoc}
-use Rattle.ft_props.specs.Element.{ElementId, ListElement}
-use Rattle.ft_props.specs.Compaction.{Keeps, none, same}
+use Rattle.ft_props.proofs.CompactedList.{keeps-self}
 use Rattle.ft_op.specs.Document.{Document, empty}
 use Rattle.ft_msg.specs.Answers.{StartsOver, held_in}
 use Rattle.ft_msg.specs.Client.{NaiveClient, client_over, floor}
@@ -12,17 +11,13 @@ use Rattle.ft_msg.specs.Reached.{IsReached, IsStart, from_nothing, from_summary}
 use Rattle.ft_msg.specs.Summary.{doc_of}
 use Rattle.ft_msg.specs.ValidSummary.{IsValidSummary}
 
-items-kept : (low : ℕ) (held : ElementId → Bool) (xs : List ListElement) → Keeps low held xs xs
-items-kept low held [] = none
-items-kept low held (e ∷ xs) = same (items-kept low held xs)
-
 -- each client keeps itself
 pub keeps-itself : (x : NaiveClient) → IsCompacted x x
 keeps-itself x = record {
   doc = record {
-    text = record { items = items-kept (floor x) _ x.doc.text.items; made = refl };
-    rows = record { items = items-kept (floor x) _ x.doc.rows.items; made = refl };
-    cols = record { items = items-kept (floor x) _ x.doc.cols.items; made = refl };
+    text = record { items = keeps-self (floor x) _ x.doc.text.items; made = refl };
+    rows = record { items = keeps-self (floor x) _ x.doc.rows.items; made = refl };
+    cols = record { items = keeps-self (floor x) _ x.doc.cols.items; made = refl };
     cells = record { values = λ row col a b. refl; none = λ row col e. e };
     rest = refl;
   };

@@ -8,13 +8,10 @@ use lib.Utf8.{encode}
 use Rattle.serde_json.specs.Data.{Data}
 use Rattle.ft_json.specs.declared.fields.Field.TheVariants.{Contents}
 use Rattle.ft_json.specs.Reading.{field}
+use Rattle.ft_op.proofs.ReadValues.{refuted}
 use Rattle.ft_msg.specs.declared.messages.MsgKind.TheVariants.{Op, Join, Leave, Noop, Other}
 use Rattle.ft_msg.specs.declared.messages.Body.TheVariants.{Elsewhere}
 use Rattle.ft_msg.specs.MessageGrammar.{body_for, grid_body, kind_of, needed_body, text_body}
-
-refuted : (b : Bool) → (b ≡ true → ⊥) → b ≡ false
-refuted true f = absurd (f refl)
-refuted false f = refl
 
 -- a text with other bytes than the word has other characters
 pub other_word : (bs word : List ℕ) → IsUtf8 bs → encodes word ≡ word → (bs ≡ word → ⊥) → bytes_eq (chars bs) word ≡ false

@@ -181,15 +181,17 @@ pub record IsFullyCompacted (c : IndexedClient) : Type 0 where
 
 -- ---- what a replica shows
 
--- the view shows this
-pub record Shows (v : View) (c : ViewContent) : Type 0 where
-  pub text : v.text ≡ c.text
-  pub markers : v.markers ≡ c.markers
-  pub runs : v.runs ≡ c.runs
-  pub intervals : v.intervals ≡ c.intervals
-  pub rows : v.rows ≡ c.rows
-  pub cols : v.cols ≡ c.cols
-  pub cells : v.cells ≡ c.cells
+-- what the view shows, beside its numbers
+abbrev pub view_content : View → ViewContent
+view_content v = record {
+  text = v.text;
+  markers = v.markers;
+  runs = v.runs;
+  intervals = v.intervals;
+  rows = v.rows;
+  cols = v.cols;
+  cells = v.cells;
+}
 
 -- what a replica shows, which is the same for each client that it stands for: P of that client; that it stopped, exactly where
 -- it did; or want of memory

@@ -1,3 +1,4 @@
+pub mod FaultTexts
 pub mod Agreed
 pub mod Client
 pub mod Content

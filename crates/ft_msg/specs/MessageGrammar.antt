@@ -72,12 +72,12 @@ kind_of word =
     else (if bytes_eq word (codes "noop") then kinds.Noop else kinds.Other word)))
 
 -- whether it is that of an operation
-abbrev pub is_op : MsgKind → Bool
-is_op kinds.Op = true
-is_op kinds.Join = false
-is_op kinds.Leave = false
-is_op kinds.Noop = false
-is_op (kinds.Other word) = false
+abbrev pub is_op_kind : MsgKind → Bool
+is_op_kind kinds.Op = true
+is_op_kind kinds.Join = false
+is_op_kind kinds.Leave = false
+is_op_kind kinds.Noop = false
+is_op_kind (kinds.Other word) = false
 
 -- the name of the connection that sent a message, which is a string
 abbrev pub named_sender : Option (List ℕ) → Result (Option (List ℕ)) Cause
@@ -86,12 +86,12 @@ named_sender (Some text) = Ok (Some (chars text))
 
 -- the name of the connection that sent a message of this kind: absent or null is none, which an operation may not have
 abbrev pub sender_of : MsgKind → Option Data → Result (Option (List ℕ)) Cause
-sender_of kind None = if is_op kind then Err (cause.WrongKind ClientId) else Ok None
+sender_of kind None = if is_op_kind kind then Err (cause.WrongKind ClientId) else Ok None
 sender_of kind (Some d) = named_sender (as_str d)
 
 -- the body of a message of this kind: nothing where it isn't an operation
 abbrev pub body_of : MsgKind → Data → Result Body Cause
-body_of kind d = if is_op kind then op_body d else Ok Nothing
+body_of kind d = if is_op_kind kind then op_body d else Ok Nothing
 
 -- the message that a value is
 unfoldable pub message_of : Data → Result Message Cause

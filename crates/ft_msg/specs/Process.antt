@@ -7,7 +7,6 @@ use Rattle.ft_msg.specs.declared.views.Link.{Link}
 use Rattle.ft_msg.specs.declared.views.Link.TheVariants.{Joining}
 use Rattle.ft_msg.specs.declared.messages.MsgKind.{MsgKind}
 use Rattle.ft_msg.specs.declared.messages.MsgKind.TheVariants.{Join}
-use Rattle.ft_msg.specs.declared.messages.MsgKind.TheVariants as kind
 use Rattle.ft_op.specs.declared.operations.ChannelOp.{ChannelOp}
 use Rattle.ft_msg.specs.declared.messages.Body.{Body}
 use Rattle.ft_msg.specs.declared.messages.Body.TheVariants.{Op}
@@ -15,6 +14,7 @@ use Rattle.ft_json.specs.declared.fields.Field.TheVariants.{ReferenceSequenceNum
 use Rattle.ft_msg.specs.declared.faults.ProcessFault.{ProcessFault}
 use Rattle.ft_msg.specs.declared.faults.ProcessFault.TheVariants.{OutOfOrder, BadNumbers, NotSent}
 use Rattle.ft_op.specs.Same.{same_int, same_op}
+pub use Rattle.ft_msg.specs.MessageGrammar.{is_op_kind}
 use Rattle.ft_msg.specs.Agreed.{take_entry, with_numbers}
 use Rattle.ft_msg.specs.Client.{NaiveClient, PendingEdit}
 use Rattle.ft_msg.specs.Acknowledgement.{after_own_message}
@@ -47,11 +47,6 @@ abbrev pub after_entry : NaiveClient → Entry → NaiveClient
 after_entry x entry =
     cond (is_own_join x.link entry.msg.kind entry.origin) (come_online x entry)
     (cond (is_op entry.msg.body && is_own x entry) (after_own_message x entry) (after_foreign_message x entry))
-
--- whether the message is of type op
-abbrev pub is_op_kind : MsgKind → Bool
-is_op_kind kind.Op = true
-is_op_kind _ = false
 
 -- whether the body is that operation
 abbrev pub is_body : ChannelOp → Body → Bool

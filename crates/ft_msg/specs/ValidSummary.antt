@@ -66,8 +66,8 @@ abbrev pub are_runs : SumDoc → List RunRec → Bool
 are_runs sum runs = list_all (is_run sum) runs && nat_le (sum_by (λ r. r.count) runs) (2 ^ 52)
 
 -- whether the ends are both -1 or in order below the length
-abbrev pub are_ends : ℕ → Ends2 → Bool
-are_ends n ends =
+abbrev pub are_shown_ends : ℕ → Ends2 → Bool
+are_shown_ends n ends =
     (int_le ends.start (negsuc 0) && int_le (negsuc 0) ends.start && int_le ends.end (negsuc 0) && int_le (negsuc 0) ends.end)
     || (int_le (pos 0) ends.start && int_le ends.start ends.end && int_lt ends.end (pos n))
 
@@ -78,7 +78,7 @@ is_interval_before i j = is_lt (text_cmp i.label j.label) || (bytes_eq i.label j
 -- whether intervals rise by label and id, with ends in a text of n elements
 abbrev pub are_intervals : ℕ → List IntervalRec → Bool
 are_intervals n [] = true
-are_intervals n (i ∷ is) = are_ends n i.ends && list_all (is_interval_before i) is && are_intervals n is
+are_intervals n (i ∷ is) = are_shown_ends n i.ends && list_all (is_interval_before i) is && are_intervals n is
 
 -- whether the first cell stands before the second, by row and then by column
 abbrev pub is_cell_before : CellRec → CellRec → Bool

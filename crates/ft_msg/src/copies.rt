@@ -1,9 +1,10 @@
 //! Copies of messages and drafts, and whether two are the same.
 
-ghost use Rattle.std.specs.Prelude.{◌≡◌, ◌↔◌, IsTrue, IfOk};
+ghost use Rattle.std.specs.Prelude.{◌≡◌, ◌↔◌, Ok, IsTrue, IfOk};
 
 use crate::messages::{Body, Draft, Entry, Message, MsgKind};
-use ft_base::{OutOfMemory, Text};
+use crate::views::{Link, Numbers, Run, Spot, View};
+use ft_base::{Datum, OutOfMemory, Text};
 
 impl MsgKind {
     /// An equal kind.
@@ -21,7 +22,7 @@ impl MsgKind {
         }
     }
 
-    /// Whether both kinds are the same. It takes no memory.
+    /// Whether both kinds are the same.
     pub fn same(&self, other: &MsgKind) -> bool
         ensures { IsTrue result ↔ (self.now ≡ other.now) }
     {
@@ -59,7 +60,7 @@ impl Body {
         }
     }
 
-    /// Whether both bodies are the same. It takes no memory.
+    /// Whether both bodies are the same.
     pub fn same(&self, other: &Body) -> bool
         ensures { IsTrue result ↔ (self.now ≡ other.now) }
     {
@@ -74,27 +75,6 @@ impl Body {
     }
 }
 
-/// An equal name, if there is one.
-fn copy_name(name: &Option<Text>) -> Result<Option<Text>, OutOfMemory>
-    ensures { IfOk result (λ copy. copy ≡ name.now) }
-{
-    match name {
-        Some(name) => Ok(Some(name.copy()?)),
-        None => Ok(None),
-    }
-}
-
-/// Whether both have the same name, or none. It takes no memory.
-fn is_same_name(mine: &Option<Text>, theirs: &Option<Text>) -> bool
-    ensures { IsTrue result ↔ (mine.now ≡ theirs.now) }
-{
-    match (mine, theirs) {
-        (Some(mine), Some(theirs)) => mine.same(theirs),
-        (None, None) => true,
-        (Some(_), None) | (None, Some(_)) => false,
-    }
-}
-
 impl Message {
     /// An equal message.
     ///
@@ -103,7 +83,7 @@ impl Message {
         ensures { IfOk result (λ copy. copy ≡ self.now) }
     {
         Ok(Message {
-            client_id: copy_name(&self.client_id)?,
+            client_id: self.client_id.copy()?,
             seq: self.seq,
             min: self.min,
             client_seq: self.client_seq,
@@ -113,11 +93,11 @@ impl Message {
         })
     }
 
-    /// Whether both messages are the same. It takes no memory.
+    /// Whether both messages are the same.
     pub fn same(&self, other: &Message) -> bool
         ensures { IsTrue result ↔ (self.now ≡ other.now) }
     {
-        is_same_name(&self.client_id, &other.client_id)
+        self.client_id.same(&other.client_id)
             && self.seq == other.seq
             && self.min == other.min
             && self.client_seq == other.client_seq
@@ -140,7 +120,7 @@ impl Entry {
         })
     }
 
-    /// Whether both entries are the same. It takes no memory.
+    /// Whether both entries are the same.
     pub fn same(&self, other: &Entry) -> bool
         ensures { IsTrue result ↔ (self.now ≡ other.now) }
     {
@@ -162,12 +142,216 @@ impl Draft {
         })
     }
 
-    /// Whether both drafts are the same. It takes no memory.
+    /// Whether both drafts are the same.
     pub fn same(&self, other: &Draft) -> bool
         ensures { IsTrue result ↔ (self.now ≡ other.now) }
     {
         self.client_seq == other.client_seq
             && self.ref_seq == other.ref_seq
             && self.body.same(&other.body)
+    }
+}
+
+impl Link {
+    /// An equal link. It always succeeds.
+    pub fn copy(&self) -> Result<Link, OutOfMemory>
+        ensures { result ≡ Ok self.now }
+    {
+        Ok(*self)
+    }
+
+    /// Whether both are equal.
+    pub fn same(&self, other: &Link) -> bool
+        ensures { IsTrue result ↔ (self.now ≡ other.now) }
+    {
+        self == other
+    }
+}
+
+impl Numbers {
+    /// Equal numbers. It always succeeds.
+    pub fn copy(&self) -> Result<Numbers, OutOfMemory>
+        ensures { result ≡ Ok self.now }
+    {
+        Ok(*self)
+    }
+
+    /// Whether both are equal.
+    pub fn same(&self, other: &Numbers) -> bool
+        ensures { IsTrue result ↔ (self.now ≡ other.now) }
+    {
+        self == other
+    }
+}
+
+impl Run {
+    /// An equal run.
+    ///
+    /// Answers `OutOfMemory` where there is no room for it.
+    pub fn copy(&self) -> Result<Run, OutOfMemory>
+        ensures { IfOk result (λ copy. copy ≡ self.now) }
+    {
+        Ok(Run {
+            start: self.start,
+            end: self.end,
+            props: self.props.copy()?,
+        })
+    }
+
+    /// Whether both are equal.
+    pub fn same(&self, other: &Run) -> bool
+        ensures { IsTrue result ↔ (self.now ≡ other.now) }
+    {
+        self.start == other.start && self.end == other.end && self.props.same(&other.props)
+    }
+}
+
+impl Spot {
+    /// An equal marker. It always succeeds.
+    pub fn copy(&self) -> Result<Spot, OutOfMemory>
+        ensures { result ≡ Ok self.now }
+    {
+        Ok(*self)
+    }
+
+    /// Whether both are equal.
+    pub fn same(&self, other: &Spot) -> bool
+        ensures { IsTrue result ↔ (self.now ≡ other.now) }
+    {
+        self == other
+    }
+}
+
+impl View {
+    /// An equal view.
+    ///
+    /// Answers `OutOfMemory` where there is no room for it.
+    pub fn copy(&self) -> Result<View, OutOfMemory>
+        ensures { IfOk result (λ copy. copy ≡ self.now) }
+    {
+        Ok(View {
+            numbers: self.numbers,
+            text: self.text.copy()?,
+            markers: self.markers.copy()?,
+            runs: self.runs.copy()?,
+            intervals: self.intervals.copy()?,
+            rows: self.rows,
+            cols: self.cols,
+            cells: self.cells.copy()?,
+        })
+    }
+
+    /// Whether both are equal.
+    pub fn same(&self, other: &View) -> bool
+        ensures { IsTrue result ↔ (self.now ≡ other.now) }
+    {
+        self.numbers.same(&other.numbers)
+            && self.text.same(&other.text)
+            && self.markers.same(&other.markers)
+            && self.runs.same(&other.runs)
+            && self.intervals.same(&other.intervals)
+            && self.rows == other.rows
+            && self.cols == other.cols
+            && self.cells.same(&other.cells)
+    }
+}
+
+impl Datum for MsgKind {
+    fn copy(&self) -> Result<MsgKind, OutOfMemory> {
+        self.copy()
+    }
+
+    fn same(&self, other: &MsgKind) -> bool {
+        self.same(other)
+    }
+}
+
+impl Datum for Body {
+    fn copy(&self) -> Result<Body, OutOfMemory> {
+        self.copy()
+    }
+
+    fn same(&self, other: &Body) -> bool {
+        self.same(other)
+    }
+}
+
+impl Datum for Message {
+    fn copy(&self) -> Result<Message, OutOfMemory> {
+        self.copy()
+    }
+
+    fn same(&self, other: &Message) -> bool {
+        self.same(other)
+    }
+}
+
+impl Datum for Entry {
+    fn copy(&self) -> Result<Entry, OutOfMemory> {
+        self.copy()
+    }
+
+    fn same(&self, other: &Entry) -> bool {
+        self.same(other)
+    }
+}
+
+impl Datum for Draft {
+    fn copy(&self) -> Result<Draft, OutOfMemory> {
+        self.copy()
+    }
+
+    fn same(&self, other: &Draft) -> bool {
+        self.same(other)
+    }
+}
+
+impl Datum for Link {
+    fn copy(&self) -> Result<Link, OutOfMemory> {
+        self.copy()
+    }
+
+    fn same(&self, other: &Link) -> bool {
+        self.same(other)
+    }
+}
+
+impl Datum for Numbers {
+    fn copy(&self) -> Result<Numbers, OutOfMemory> {
+        self.copy()
+    }
+
+    fn same(&self, other: &Numbers) -> bool {
+        self.same(other)
+    }
+}
+
+impl Datum for Run {
+    fn copy(&self) -> Result<Run, OutOfMemory> {
+        self.copy()
+    }
+
+    fn same(&self, other: &Run) -> bool {
+        self.same(other)
+    }
+}
+
+impl Datum for Spot {
+    fn copy(&self) -> Result<Spot, OutOfMemory> {
+        self.copy()
+    }
+
+    fn same(&self, other: &Spot) -> bool {
+        self.same(other)
+    }
+}
+
+impl Datum for View {
+    fn copy(&self) -> Result<View, OutOfMemory> {
+        self.copy()
+    }
+
+    fn same(&self, other: &View) -> bool {
+        self.same(other)
     }
 }

@@ -3,6 +3,8 @@
 use ft_base::OutOfMemory;
 use ft_json::{Field, FieldFault, JsonFault};
 use ft_op::OpFault;
+use std::error::Error;
+use std::fmt;
 
 /// Why a text is no message, draft or event: the first fault in the order in which its fields are
 /// tested.
@@ -160,3 +162,124 @@ pub enum SummaryFault {
     /// So many edits are pending.
     Pending { count: u64 },
 }
+
+impl fmt::Display for Cause {
+    ghost use Rattle.std.specs.Prelude.{Some};
+    ghost use Rattle.ft_msg.specs.FaultTexts.{cause_text};
+
+    ghost output = { λ fault. Some (cause_text fault) };
+
+    fn fmt<W: fmt::Write>(&self, f: &mut fmt::Formatter<W>) -> fmt::Result {
+        match *self {
+            Cause::NotUtf8 => write!(f, "NotUtf8"),
+            Cause::NotJson => write!(f, "NotJson"),
+            Cause::Fraction => write!(f, "Fraction"),
+            Cause::TooDeep => write!(f, "TooDeep"),
+            Cause::Missing(field) => write!(f, "Missing {field}"),
+            Cause::WrongKind(field) => write!(f, "WrongKind {field}"),
+            Cause::UnknownType(n) => write!(f, "UnknownType {n}"),
+            Cause::Reversed { pos1, pos2 } => write!(f, "Reversed {pos1} {pos2}"),
+            Cause::CountLimit => write!(f, "CountLimit"),
+            Cause::NestedGroup => write!(f, "NestedGroup"),
+            Cause::UnknownWord => write!(f, "UnknownWord"),
+            Cause::OutOfMemory => write!(f, "OutOfMemory"),
+        }
+    }
+}
+
+impl Error for Cause {}
+
+impl fmt::Display for EditFault {
+    ghost use Rattle.std.specs.Prelude.{Some};
+    ghost use Rattle.ft_msg.specs.FaultTexts.{edit_fault_text};
+
+    ghost output = { λ fault. Some (edit_fault_text fault) };
+
+    fn fmt<W: fmt::Write>(&self, f: &mut fmt::Formatter<W>) -> fmt::Result {
+        match *self {
+            EditFault::OutOfMemory => write!(f, "OutOfMemory"),
+            EditFault::Stopped { seq } => write!(f, "Stopped {seq}"),
+            EditFault::IdInUse => write!(f, "IdInUse"),
+            EditFault::NoSuchInterval => write!(f, "NoSuchInterval"),
+            EditFault::OutOfRange { length } => write!(f, "OutOfRange length {length}"),
+        }
+    }
+}
+
+impl Error for EditFault {}
+
+impl fmt::Display for ProcessFault {
+    ghost use Rattle.std.specs.Prelude.{Some};
+    ghost use Rattle.ft_msg.specs.FaultTexts.{process_fault_text};
+
+    ghost output = { λ fault. Some (process_fault_text fault) };
+
+    fn fmt<W: fmt::Write>(&self, f: &mut fmt::Formatter<W>) -> fmt::Result {
+        match *self {
+            ProcessFault::OutOfMemory => write!(f, "OutOfMemory"),
+            ProcessFault::Stopped { seq } => write!(f, "Stopped {seq}"),
+            ProcessFault::OutOfOrder { expected, got } => write!(
+                f,
+                "OutOfOrder expected {expected} got {got}"
+            ),
+            ProcessFault::BadNumbers { field, kept, got } => write!(
+                f,
+                "BadNumbers {field} kept {kept} got {got}"
+            ),
+            ProcessFault::NotSent => write!(f, "NotSent"),
+        }
+    }
+}
+
+impl Error for ProcessFault {}
+
+impl fmt::Display for LinkFault {
+    ghost use Rattle.std.specs.Prelude.{Some};
+    ghost use Rattle.ft_msg.specs.FaultTexts.{link_fault_text};
+
+    ghost output = { λ fault. Some (link_fault_text fault) };
+
+    fn fmt<W: fmt::Write>(&self, f: &mut fmt::Formatter<W>) -> fmt::Result {
+        match *self {
+            LinkFault::OutOfMemory => write!(f, "OutOfMemory"),
+            LinkFault::Stopped { seq } => write!(f, "Stopped {seq}"),
+            LinkFault::AlreadyConnected => write!(f, "AlreadyConnected"),
+            LinkFault::NotConnected => write!(f, "NotConnected"),
+        }
+    }
+}
+
+impl Error for LinkFault {}
+
+impl fmt::Display for ViewFault {
+    ghost use Rattle.std.specs.Prelude.{Some};
+    ghost use Rattle.ft_msg.specs.FaultTexts.{view_fault_text};
+
+    ghost output = { λ fault. Some (view_fault_text fault) };
+
+    fn fmt<W: fmt::Write>(&self, f: &mut fmt::Formatter<W>) -> fmt::Result {
+        match *self {
+            ViewFault::OutOfMemory => write!(f, "OutOfMemory"),
+            ViewFault::Stopped { seq } => write!(f, "Stopped {seq}"),
+        }
+    }
+}
+
+impl Error for ViewFault {}
+
+impl fmt::Display for SummaryFault {
+    ghost use Rattle.std.specs.Prelude.{Some};
+    ghost use Rattle.ft_msg.specs.FaultTexts.{no_summary_text};
+
+    ghost output = { λ fault. Some (no_summary_text fault) };
+
+    fn fmt<W: fmt::Write>(&self, f: &mut fmt::Formatter<W>) -> fmt::Result {
+        match *self {
+            SummaryFault::OutOfMemory => write!(f, "OutOfMemory"),
+            SummaryFault::Stopped { seq } => write!(f, "Stopped {seq}"),
+            SummaryFault::Pending { count } => write!(f, "Pending {count}"),
+        }
+    }
+}
+
+impl Error for SummaryFault {}

@@ -1,4 +1,6 @@
 //! Messages, drafts, views, and what a client is.
+//!
+//! A call that can't answer `OutOfMemory` takes no memory.
 #![tactic(auto)]
 
 mod contents;
@@ -9,12 +11,8 @@ pub mod messages;
 pub mod names;
 pub mod reading;
 pub mod replica;
-#[cfg(test)]
-mod tests;
 pub mod views;
 pub mod writing;
-#[cfg(test)]
-mod writing_tests;
 
 pub use faults::{Cause, EditFault, LinkFault, ProcessFault, SummaryFault, ViewFault};
 pub use messages::{Body, Draft, Entry, Message, MsgKind};

@@ -29,7 +29,7 @@ impl Model for Names {
 }
 
 impl Names {
-    /// No names. It takes no memory.
+    /// No names.
     pub fn new(alloc: Global) -> Names
         ensures { result ≡ [] }
     {
@@ -56,7 +56,7 @@ impl Names {
         Ok(number)
     }
 
-    /// The name of a number: None exactly for 0 and above the count. It takes no memory.
+    /// The name of a number: None exactly for 0 and above the count.
     pub fn name(&self, n: u32) -> Option<&Text>
         ensures { option_copied result ≡ name_at self.now n }
     {
@@ -82,7 +82,7 @@ impl Names {
         Ok(copy)
     }
 
-    /// Whether both tables have the same names in the same order. It takes no memory.
+    /// Whether both tables have the same names in the same order.
     pub fn same(&self, other: &Names) -> bool
         ensures { IsTrue result ↔ (self.now ≡ other.now) }
     {
@@ -97,7 +97,7 @@ impl Names {
         true
     }
 
-    /// How many names there are. It takes no memory.
+    /// How many names there are.
     pub fn len(&self) -> usize
         ensures len { result ≡ length self.now }
         ensures distinct { AreDistinct self.now }
@@ -105,7 +105,7 @@ impl Names {
         self.table.len()
     }
 
-    /// Whether there are none. It takes no memory.
+    /// Whether there are none.
     pub fn is_empty(&self) -> bool
         ensures { IsTrue result ↔ (self.now ≡ []) }
     {

@@ -2,7 +2,8 @@
 
 ghost use Rattle.std.specs.Prelude.{◌≡◌, ◌≢◌, Ok, Err, IfOk, IfErr, chars, option_map};
 ghost use Rattle.serde_json.specs.View.{view};
-ghost use Rattle.ft_msg.specs.MessageGrammar.{body_of, draft, draft_body, draft_of, is_op, kind_of, message, message_of, op_body, sender_of};
+ghost use Rattle.ft_json.specs.Readers.{Reads};
+ghost use Rattle.ft_msg.specs.MessageGrammar.{body_of, draft, draft_body, draft_of, is_op_kind, kind_of, message, message_of, op_body, sender_of};
 ghost use Rattle.ft_msg.specs.WellFormed.{HasNumbersInRange, IsWellFormedBody, IsWellFormedDraft, IsWellFormedMessage};
 
 use crate::contents::read_op_body;
@@ -20,9 +21,7 @@ use std::alloc::Global;
 /// and `OutOfMemory` where there is no room for it.
 #[tactic(auto, unfolding(crate::specs::MessageGrammar::message))]
 pub fn read_message(alloc: Global, bytes: &[u8]) -> Result<Message, Cause>
-    ensures ok { IfOk result (λ m. message bytes.now ≡ Ok m) }
-    ensures err { IfErr result (λ cause. cause ≢ Cause.OutOfMemory → message bytes.now ≡ Err cause) }
-    ensures formed { IfOk result IsWellFormedMessage }
+    ensures reads { Reads Cause.OutOfMemory (message bytes.now) IsWellFormedMessage result }
     ensures in_range { IfOk result HasNumbersInRange }
 {
     let value = read_line(alloc, bytes)?;
@@ -70,9 +69,9 @@ fn read_kind(alloc: Global, word: &str) -> Result<MsgKind, OutOfMemory>
     }
 }
 
-/// Whether it is the kind of an operation. It takes no memory.
-fn is_op(kind: &MsgKind) -> bool
-    ensures { result ≡ is_op kind.now }
+/// Whether it is the kind of an operation.
+fn is_op_kind(kind: &MsgKind) -> bool
+    ensures { result ≡ is_op_kind kind.now }
 {
     matches!(kind, MsgKind::Op)
 }
@@ -88,7 +87,7 @@ fn read_sender(alloc: Global, kind: &MsgKind, name: Option<&Value>) -> Result<Op
             let name = name.as_str().ok_or(Cause::WrongKind(Field::ClientId))?;
             Ok(Some(Text::new(alloc, name)?))
         }
-        None if is_op(kind) => Err(Cause::WrongKind(Field::ClientId)),
+        None if is_op_kind(kind) => Err(Cause::WrongKind(Field::ClientId)),
         None => Ok(None),
     }
 }
@@ -99,7 +98,7 @@ fn read_body(alloc: Global, kind: &MsgKind, value: &Value) -> Result<Body, Cause
     ensures err { IfErr result (λ cause. cause ≢ Cause.OutOfMemory → body_of kind.now (view value.now) ≡ Err cause) }
     ensures formed { IfOk result IsWellFormedBody }
 {
-    if !is_op(kind) {
+    if !is_op_kind(kind) {
         return Ok(Body::Nothing);
     }
     read_op_body(alloc, value)
@@ -111,9 +110,7 @@ fn read_body(alloc: Global, kind: &MsgKind, value: &Value) -> Result<Body, Cause
 /// and `OutOfMemory` where there is no room for it.
 #[tactic(auto, unfolding(crate::specs::MessageGrammar::draft))]
 pub fn read_draft(alloc: Global, bytes: &[u8]) -> Result<Draft, Cause>
-    ensures ok { IfOk result (λ read. draft bytes.now ≡ Ok read) }
-    ensures err { IfErr result (λ cause. cause ≢ Cause.OutOfMemory → draft bytes.now ≡ Err cause) }
-    ensures formed { IfOk result IsWellFormedDraft }
+    ensures { Reads Cause.OutOfMemory (draft bytes.now) IsWellFormedDraft result }
 {
     let value = read_line(alloc, bytes)?;
     read_draft_value(alloc, &value)

@@ -21,7 +21,7 @@ pub trait Replica: Sized {
     ghost use Rattle.std.specs.Prelude.{◌≡◌, ℕ, ◌≤◌, Bool, IfOk, OnOk, Ok, IsTrue, length, drop, slice_get, option_copied};
     ghost use Rattle.ft_op.specs.Document.{Document, empty};
     ghost use Rattle.ft_op.specs.WellFormed.{IsWellFormed};
-    ghost use Rattle.ft_msg.specs.Answers.{Answers, AnswersRead, AnswersSummary, IsFullyCompacted, ReplicaState, RunsFor, Shows, StandsForSome, StartsOver, edit_fault_kind, link_fault_kind, numbers_of, process_fault_kind, view_fault_kind, with_queue};
+    ghost use Rattle.ft_msg.specs.Answers.{Answers, AnswersRead, AnswersSummary, IsFullyCompacted, ReplicaState, RunsFor, StandsForSome, StartsOver, edit_fault_kind, link_fault_kind, numbers_of, process_fault_kind, view_content, view_fault_kind, with_queue};
     ghost use Rattle.ft_msg.specs.Client.{NaiveClient, client_over, connect, drop_link, local_edit, noop};
     ghost use Rattle.ft_msg.specs.Content.{content};
     ghost use Rattle.ft_msg.specs.Overlap.{overlap};
@@ -82,7 +82,7 @@ pub trait Replica: Sized {
     fn connect(&mut self, conn: u32) -> Result<(), LinkFault>
         ensures { Answers link_fault_kind 0 (λ x. connect x conn) (state self.old) (state self.new) result };
 
-    /// Goes offline; the messages that it didn't send are gone. It takes no memory.
+    /// Goes offline; the messages that it didn't send are gone.
     ///
     /// Answers `NotConnected` exactly where the client is offline.
     fn drop_link(&mut self) -> Result<(), LinkFault>
@@ -96,24 +96,22 @@ pub trait Replica: Sized {
     fn noop(&mut self) -> Result<(), LinkFault>
         ensures { Answers link_fault_kind 0 noop (state self.old) (state self.new) result };
 
-    /// How many messages aren't sent yet. It takes no memory.
+    /// How many messages aren't sent yet.
     fn queued(&self) -> usize
         ensures { result ≡ length (state self.now).client.queue };
 
     /// The message at place `i` of those, counted from 0: None exactly where `i` isn't below their count.
-    /// It takes no memory.
     fn queue_at(&self, i: usize) -> Option<&Draft>
         ensures { option_copied result ≡ slice_get (state self.now).client.queue i };
 
-    /// The numbers. It takes no memory.
+    /// The numbers.
     ///
     /// A replica that hasn't stopped stands for some client that steps made.
     fn numbers(&self) -> Numbers
         ensures numbers { result ≡ numbers_of (state self.now) }
         ensures stands { StandsForSome (state self.now) };
 
-    /// Takes the oldest message that isn't sent yet: None exactly where there is none. It takes no
-    /// memory.
+    /// Takes the oldest message that isn't sent yet: None exactly where there is none.
     fn take_outgoing(&mut self) -> Option<Draft>
         ensures oldest { result ≡ slice_get (state self.old).client.queue 0 }
         ensures rest { state self.new ≡ with_queue (drop 1 (state self.old).client.queue) (state self.old) };
@@ -124,7 +122,7 @@ pub trait Replica: Sized {
     /// for the view.
     fn view(&self) -> Result<View, ViewFault>
         ensures numbers { IfOk result (λ v. v.numbers ≡ numbers_of (state self.now)) }
-        ensures content { AnswersRead (λ v x. Shows v (content x)) (state self.now) result };
+        ensures content { AnswersRead (λ v x. view_content v ≡ content x) (state self.now) result };
 
     /// The summary of the client's document, with the names of the connections in it.
     ///

@@ -1,12 +1,8 @@
 //! What a client shows.
 
-ghost use Rattle.std.specs.Prelude.{◌≡◌, [], ◌∷◌, ◌++◌, OnOk, OnErr, length, slice_get, option_copied};
-
-use ft_base::{OutOfMemory, Text};
+use ft_base::{List, Text};
 use ft_props::Props;
 use ft_sumdoc::{CellRecs, IntervalRecs};
-use std::alloc::Global;
-use std::marker::Model;
 
 /// How a client stands to the sequencer.
 #[derive(Clone, Copy, Debug, PartialEq, Eq)]
@@ -49,63 +45,7 @@ pub struct Run {
 }
 
 /// The runs of a view, by rising start.
-#[derive(Drop)]
-pub struct Runs {
-    items: Vec<Run>,
-}
-
-impl Model for Runs {
-    ghost use Rattle.std.specs.Prelude.{List};
-    ghost use Rattle.ft_msg.specs.declared.views.Run.{Run};
-
-    ghost Value = { List Run };
-
-    ghost view = { λ a. a.items.items };
-}
-
-impl Runs {
-    /// No runs. It takes no memory.
-    pub fn new(alloc: Global) -> Runs
-        ensures { result ≡ [] }
-    {
-        Runs {
-            items: Vec::new(alloc),
-        }
-    }
-
-    /// Adds one at the end.
-    ///
-    /// Answers `OutOfMemory` where there is no room for it, and then the list is as it was.
-    pub fn push(&mut self, run: Run) -> Result<(), OutOfMemory>
-        ensures ok { OnOk result (self.new ≡ self.old ++ run ∷ []) }
-        ensures err { OnErr result (self.new ≡ self.old) }
-    {
-        self.items.push(run)?;
-        Ok(())
-    }
-
-    /// How many there are. It takes no memory.
-    pub fn len(&self) -> usize
-        ensures { result ≡ length self.now }
-    {
-        self.items.len()
-    }
-
-    /// The one at place `i`, counted from 0: None exactly where `i` isn't below the length. It takes
-    /// no memory.
-    pub fn at(&self, i: usize) -> Option<&Run>
-        ensures { option_copied result ≡ slice_get self.now i }
-    {
-        self.items.get(i)
-    }
-
-    /// All in order. It takes no memory.
-    pub fn as_slice(&self) -> &[Run]
-        ensures { result.now ≡ self.now }
-    {
-        self.items.as_slice()
-    }
-}
+pub type Runs = List<Run>;
 
 /// A shown marker.
 #[derive(Clone, Copy, Debug, PartialEq, Eq)]
@@ -116,63 +56,7 @@ pub struct Spot {
 }
 
 /// The markers of a view, by rising place.
-#[derive(Drop)]
-pub struct Spots {
-    items: Vec<Spot>,
-}
-
-impl Model for Spots {
-    ghost use Rattle.std.specs.Prelude.{List};
-    ghost use Rattle.ft_msg.specs.declared.views.Spot.{Spot};
-
-    ghost Value = { List Spot };
-
-    ghost view = { λ a. a.items.items };
-}
-
-impl Spots {
-    /// No markers. It takes no memory.
-    pub fn new(alloc: Global) -> Spots
-        ensures { result ≡ [] }
-    {
-        Spots {
-            items: Vec::new(alloc),
-        }
-    }
-
-    /// Adds one at the end.
-    ///
-    /// Answers `OutOfMemory` where there is no room for it, and then the list is as it was.
-    pub fn push(&mut self, spot: Spot) -> Result<(), OutOfMemory>
-        ensures ok { OnOk result (self.new ≡ self.old ++ spot ∷ []) }
-        ensures err { OnErr result (self.new ≡ self.old) }
-    {
-        self.items.push(spot)?;
-        Ok(())
-    }
-
-    /// How many there are. It takes no memory.
-    pub fn len(&self) -> usize
-        ensures { result ≡ length self.now }
-    {
-        self.items.len()
-    }
-
-    /// The one at place `i`, counted from 0: None exactly where `i` isn't below the length. It takes
-    /// no memory.
-    pub fn at(&self, i: usize) -> Option<&Spot>
-        ensures { option_copied result ≡ slice_get self.now i }
-    {
-        self.items.get(i)
-    }
-
-    /// All in order. It takes no memory.
-    pub fn as_slice(&self) -> &[Spot]
-        ensures { result.now ≡ self.now }
-    {
-        self.items.as_slice()
-    }
-}
+pub type Spots = List<Spot>;
 
 /// What a client shows.
 #[derive(Drop)]

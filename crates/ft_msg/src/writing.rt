@@ -14,7 +14,7 @@ use crate::messages::{Body, Draft, Message, MsgKind};
 use ft_base::{OutOfMemory, Text};
 use ft_json::{ValText, compact};
 use ft_op::ChannelOp;
-use ft_op::writing::{op_value, str_of};
+use ft_op::writing::op_value;
 use serde_json::{Map, Value, json, put};
 use std::alloc::Global;
 
@@ -24,12 +24,12 @@ fn written_sender(alloc: Global, name: &Option<Text>) -> Result<Value, OutOfMemo
     ensures representable { IfOk result (λ _. IsRepresentableSender name.now) }
 {
     match name {
-        Some(name) => Ok(Value::try_from_str(alloc, str_of(name))?),
+        Some(name) => Ok(Value::try_from_str(alloc, name.as_str())?),
         None => Ok(Value::Null),
     }
 }
 
-/// The word of the kind. It takes no memory.
+/// The word of the kind.
 fn kind_word(kind: &MsgKind) -> &str
     ensures word { string result.now ≡ written_kind kind.now }
     ensures representable { IsRepresentableKind kind.now }
@@ -39,11 +39,11 @@ fn kind_word(kind: &MsgKind) -> &str
         MsgKind::Join => "join",
         MsgKind::Leave => "leave",
         MsgKind::Noop => "noop",
-        MsgKind::Other(word) => str_of(word),
+        MsgKind::Other(word) => word.as_str(),
     }
 }
 
-/// The address of an operation. It takes no memory.
+/// The address of an operation.
 fn address_of(op: &ChannelOp) -> &'static str
     ensures { string result.now ≡ written_address op.now }
 {
@@ -69,7 +69,7 @@ fn written_body(alloc: Global, body: &Body) -> Result<Value, OutOfMemory>
     match body {
         Body::Nothing => Ok(Value::Null),
         Body::Op(op) => written_contents(alloc, address_of(op), op_value(alloc, op)?),
-        Body::Elsewhere(address) => written_contents(alloc, str_of(address), Value::Null),
+        Body::Elsewhere(address) => written_contents(alloc, address.as_str(), Value::Null),
     }
 }
 
@@ -112,7 +112,7 @@ fn message_value(alloc: Global, m: &Message) -> Result<Value, OutOfMemory>
     Ok(Value::Object(members))
 }
 
-/// The word of the type of a draft with this body. It takes no memory.
+/// The word of the type of a draft with this body.
 fn draft_word(body: &Body) -> &'static str
     ensures { string result.now ≡ written_draft_kind body.now }
 {
