@@ -4,6 +4,7 @@
 #![tactic(auto)]
 
 mod copies;
+pub mod laws;
 pub mod summary;
 
 pub use summary::{

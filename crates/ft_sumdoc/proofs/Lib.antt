@@ -1,0 +1,10 @@
+pub mod ReadForms
+pub mod ReadStamps
+pub mod ReadSegments
+pub mod ReadChunks
+pub mod ReadRuns
+pub mod ReadShown
+pub mod WrittenSummaries
+pub mod ReadBack
+pub mod ReadValid
+pub mod ValidSummaries
