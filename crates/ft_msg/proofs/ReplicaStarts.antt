@@ -9,7 +9,7 @@ use Rattle.ft_msg.specs.Compacted.{IsCompacted, StandsFor}
 use Rattle.ft_msg.specs.Indexed.{indexed_client}
 use Rattle.ft_msg.specs.Reached.{IsReached, IsStart, from_nothing, from_summary}
 use Rattle.ft_msg.specs.Summary.{doc_of}
-use Rattle.ft_msg.specs.ValidSummary.{IsValidSummary}
+use Rattle.ft_sumdoc.specs.Valid.{IsValidSummary}
 
 -- each client keeps itself
 pub keeps-itself : (x : NaiveClient) → IsCompacted x x

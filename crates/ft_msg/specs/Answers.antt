@@ -28,8 +28,8 @@ use Rattle.ft_msg.specs.Compacted.{StandsFor}
 use Rattle.ft_msg.specs.Client.{NaiveClient, client_over}
 use Rattle.ft_msg.specs.Content.{ViewContent}
 use Rattle.ft_msg.specs.Reached.{IsReached}
-use Rattle.ft_msg.specs.Summary.{Summarizes}
-use Rattle.ft_msg.specs.ValidSummary.{IsValidSummary}
+use Rattle.ft_msg.specs.SummaryOf.{Summarizes}
+use Rattle.ft_sumdoc.specs.Valid.{IsValidSummary}
 
 -- how many elements were ever in each list
 pub record HeldCounts : Type 0 where

@@ -9,7 +9,7 @@ pub mod Applied
 pub mod Indexed
 pub mod Compacted
 pub mod Summary
-pub mod ValidSummary
+pub mod SummaryOf
 pub mod ClientSteps
 pub mod Reached
 pub mod Overlap

@@ -7,7 +7,7 @@ use Rattle.ft_op.specs.Document.{Document, empty}
 use Rattle.ft_msg.specs.Client.{NaiveClient, client_over}
 use Rattle.ft_msg.specs.ClientSteps.{ClientStep, after_steps, has_fitting_body, taken_entries}
 use Rattle.ft_msg.specs.Summary.{doc_of}
-use Rattle.ft_msg.specs.ValidSummary.{IsValidSummary}
+use Rattle.ft_sumdoc.specs.Valid.{IsValidSummary}
 
 -- a document from which a client starts: the empty one, or that of a summary
 pub data IsStart : Document → Type 0 where

@@ -1,5 +1,5 @@
 -- The document that a summary gives, and what of a document goes into its summary.
-use Rattle.std.specs.Prelude.{◌≡◌, ℕ, ◌+◌, not, ◌&&◌, List, [], ◌∷◌, ◌++◌, Option, Some, None, map, filter, length, replicate, take}
+use Rattle.std.specs.Prelude.{◌≡◌, ℕ, ◌+◌, not, ◌&&◌, List, [], ◌∷◌, ◌++◌, Option, Some, None, map, filter, length, replicate}
 use Rattle.ft_base.specs.declared.stamps.Stamp.{Stamp}
 use Rattle.ft_base.specs.declared.stamps.Stamp.TheVariants.{Acked}
 use Rattle.ft_sumdoc.specs.declared.summary.Mark.{Mark}
@@ -90,8 +90,3 @@ trim doc = record doc {
 -- the summary gives the document as a summary keeps it, but for the names of elements
 abbrev pub GivesDocument : SumDoc → Document → Type 0
 GivesDocument sum doc = indexed (doc_of sum) ≡ indexed (trim doc)
-
--- the summary stands for the document, and has the first names of the holder's table, up to the greatest origin
-pub record Summarizes (sum : SumDoc) (names : List Characters) (origin : ℕ) (doc : Document) : Type 0 where
-  pub gives : GivesDocument sum doc
-  pub conns : sum.conns ≡ take origin names

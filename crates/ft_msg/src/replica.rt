@@ -28,7 +28,7 @@ pub trait Replica: Sized {
     ghost use Rattle.ft_msg.specs.Process.{process};
     ghost use Rattle.ft_msg.specs.Reached.{IsReached};
     ghost use Rattle.ft_msg.specs.Summary.{GivesDocument, doc_of};
-    ghost use Rattle.ft_msg.specs.ValidSummary.{IsValidSummary};
+    ghost use Rattle.ft_sumdoc.specs.Valid.{IsValidSummary};
     ghost use Rattle.ft_msg.specs.WellFormed.{IsWellFormedMessage};
 
     /// What contracts see.

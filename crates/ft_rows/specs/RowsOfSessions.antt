@@ -17,7 +17,8 @@ use Rattle.ft_sumdoc.specs.declared.summary.SumDoc.{SumDoc}
 use Rattle.ft_props.specs.Element.{id}
 use Rattle.ft_msg.specs.Agreed.{take_entry}
 use Rattle.ft_msg.specs.Content.{ViewContent, shown}
-use Rattle.ft_msg.specs.Summary.{Summarizes, doc_of}
+use Rattle.ft_msg.specs.Summary.{doc_of}
+use Rattle.ft_msg.specs.SummaryOf.{Summarizes}
 use Rattle.ft_rows.specs.Session.{Blame, Blamed, Connect, Deliver, Drop, Edit, EditRefused, Event, From, Kept, Met, Noop, Output, Overlap, Queue, Queued, Save, Show, Showed, Start, Ticket, all, session, some}
 use Rattle.ft_rows.specs.Rows.{add, adj, ann, cell, change, group, ins, interval, message, one, plain, rem}
 

@@ -10,7 +10,7 @@ use Rattle.ft_sumdoc.specs.declared.summary.IntervalRec.{IntervalRec}
 use Rattle.ft_props.specs.Properties.{Characters}
 use Rattle.ft_op.specs.Written.{written_count, written_number, written_text}
 use Rattle.ft_msg.specs.NameTable.{name_at}
-use Rattle.ft_seqr.specs.SummaryText.{written_props}
+use Rattle.ft_sumdoc.specs.Written.{written_props}
 
 -- an interval without its label
 abbrev pub written_overlap : IntervalRec → Data

@@ -3,7 +3,6 @@ pub mod Refusals
 pub mod SameMessage
 pub mod EventGrammar
 pub mod WrittenEvent
-pub mod SummaryText
 pub mod AnswerTexts
 pub mod World
 pub mod Walk

@@ -32,7 +32,8 @@ use Rattle.ft_seqr.specs.Sequencer.{NaiveSequencer, join, leave, new_sequencer, 
 use Rattle.ft_seqr.specs.Refusals.{refusal_of_cause, refusal_of_edit, refusal_of_link, refusal_of_process}
 use Rattle.ft_seqr.specs.SameMessage.{same_message}
 use Rattle.ft_seqr.specs.AnswerTexts.{origin_runs, written_authors, written_overlap, written_run}
-use Rattle.ft_seqr.specs.SummaryText.{summary_of, written_summary}
+use Rattle.ft_sumdoc.specs.Written.{written_summary}
+use Rattle.ft_msg.specs.SummaryOf.{summary_of}
 
 -- ---- worlds
 

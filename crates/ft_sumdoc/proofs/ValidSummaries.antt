@@ -31,7 +31,7 @@ use Rattle.ft_sumdoc.specs.Runs.{kept_run, runs_form, unremoved_units}
 use Rattle.ft_sumdoc.specs.Segments.{text_form, text_length, unremoved_text}
 use Rattle.ft_sumdoc.specs.Stamps.{Bounds, places_behind}
 use Rattle.ft_sumdoc.specs.Summary.{Lists, counted, element_count, given_length, lists, run_stamps, segment_stamps, summary, summary_of}
-use Rattle.ft_sumdoc.specs.Valid.{AreRuns, HasOnlyValues, HasValues, IsCell, IsInterval, IsSegment, IsValid, IsValue, is_cell_before, is_interval_before}
+use Rattle.ft_sumdoc.specs.Valid.{AreRuns, HasOnlyValues, HasValues, IsCell, IsInterval, IsSegment, IsValidSummary, IsValue, is_cell_before, is_interval_before}
 use Rattle.ft_sumdoc.specs.Values.{kept_cell, kept_each, kept_interval, kept_props, kept_segment}
 use Rattle.ft_sumdoc.proofs.ReadChunks.{flat}
 use Rattle.ft_sumdoc.proofs.ReadForms.{ok_before}
@@ -270,7 +270,7 @@ element_count-valid ls d n e =
 
 -- ---- summaries
 
-summary_of-valid : (d : Data) (sum : SumDoc) → summary_of d ≡ Ok sum → HasOnlyValues sum → IsValid sum
+summary_of-valid : (d : Data) (sum : SumDoc) → summary_of d ≡ Ok sum → HasOnlyValues sum → IsValidSummary sum
 unfolding summary_of
 summary_of-valid d sum e values =
     let h = read_step (head d) _ sum e in
@@ -305,7 +305,7 @@ summary_of-valid d sum e values =
     let cs_form = cells_form-valid few_rows few_cols cs_there.0 cs_given.0 cs_there.1 in
     let is_valid = kept_intervals-valid n is_given.0 is_kept.0 (kept_before kept_interval is_given.0 is_kept.0 is_kept.1) is_form.0 has.intervals in
     let cs_valid = kept_cells-valid few_rows few_cols cs_given.0 cs_kept.0 (kept_before kept_cell cs_given.0 cs_kept.0 cs_kept.1) cs_form.0 has.cells in
-    subst IsValid same (record {
+    subst IsValidSummary same (record {
       seq = first.seq;
       min = first.min;
       skipped = first.skipped;
@@ -321,7 +321,7 @@ summary_of-valid d sum e values =
       places = cells_in_order cs_given.0 cs_kept.0 cs_valid.1 cs_form.1;
     })
 
-pub read_summary-valid : (bytes : List ℕ) (sum : SumDoc) → summary bytes ≡ Ok sum → HasOnlyValues sum → IsValid sum
+pub read_summary-valid : (bytes : List ℕ) (sum : SumDoc) → summary bytes ≡ Ok sum → HasOnlyValues sum → IsValidSummary sum
 unfolding summary
 read_summary-valid bytes sum e values =
     let d = fault_step fault_of_json (read_line bytes) _ sum e in

@@ -27,8 +27,8 @@ use Rattle.ft_sumdoc.specs.Representable.{IsRepresentable, IsRepresentableBody, 
 use Rattle.ft_sumdoc.specs.Runs.{unit_count, unremoved_units}
 use Rattle.ft_sumdoc.specs.Segments.{body_length, text_length, unremoved_text}
 use Rattle.ft_sumdoc.specs.Stamps.{Bounds, unless_universal}
-use Rattle.ft_sumdoc.specs.Valid.{AreRuns, HasValues, IsCell, IsInterval, IsSegment, IsValid, are_stamps, bounds, is_body}
-use Rattle.ft_sumdoc.specs.WellFormed.{IsWellFormed}
+use Rattle.ft_sumdoc.specs.Valid.{AreRuns, HasValues, IsCell, IsInterval, IsSegment, IsValidSummary, are_stamps, bounds, is_body}
+use Rattle.ft_sumdoc.specs.WellFormed.{IsWellCut}
 use Rattle.ft_sumdoc.specs.Written.{author_beside, given_characters, given_mark, given_marks, given_props, given_ref_type, written_cell, written_chunk, written_interval, written_mark, written_props, written_run, written_segment, written_summary}
 use Rattle.ft_sumdoc.proofs.ReadChunks.{IsChunk, are_chunks}
 use Rattle.ft_sumdoc.proofs.ReadRuns.{IsSoundRun, run_fields, sound_runs, unless_removed-most, unremoved-most}
@@ -198,8 +198,8 @@ text_level text h = omega arith
 -- a summary that is valid, of texts, and cut as what is written
 pub record IsSoundSummary (sum : SumDoc) : Type 0 where
   pub texts : IsRepresentable sum
-  pub valid : IsValid sum
-  pub formed : IsWellFormed sum
+  pub valid : IsValidSummary sum
+  pub formed : IsWellCut sum
 
 pub counts_of : (sum : SumDoc) → IsSoundSummary sum → AreCounts (bounds sum)
 counts_of sum h = record { seq = h.valid.seq; conns = h.formed.conns; min = leb-true sum.min sum.seq h.valid.min }

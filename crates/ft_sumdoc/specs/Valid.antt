@@ -90,7 +90,7 @@ pub record HasOnlyValues (sum : SumDoc) : Type 0 where
   pub intervals : AllByRecursion (λ i. HasValues i.props) sum.intervals
   pub cells : AllByRecursion (λ c. IsValue c.value) sum.cells
 
-pub record IsValid (sum : SumDoc) : Type 0 where
+pub record IsValidSummary (sum : SumDoc) : Type 0 where
   pub seq : IsTrue (is_count sum.seq)
   pub min : IsTrue (nat_le sum.min sum.seq)
   pub skipped : IsTrue (is_count sum.skipped)

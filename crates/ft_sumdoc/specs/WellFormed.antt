@@ -57,7 +57,7 @@ differ a b = not (same_stamps a.ins a.dels b.ins b.dels)
 
 -- ---- summaries
 
-pub record IsWellFormed (sum : SumDoc) : Type 0 where
+pub record IsWellCut (sum : SumDoc) : Type 0 where
   pub conns : IsTrue (is_count (length sum.conns))
   pub text : IsTrue (are_cut_from 0 sum.text)
   pub rows : IsTrue (rises differ sum.rows)
