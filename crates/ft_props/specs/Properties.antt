@@ -4,6 +4,7 @@ use Rattle.std.specs.Prelude.{ℕ, ◌+◌, ◌*◌, ◌-◌, Bool, cond, ◌&&�
 use Rattle.std.specs.Int.{int_min, int_max}
 use Rattle.std.specs.Fmt.{signed_decimal}
 use Rattle.std.specs.List.{list_all}
+use Rattle.ft_json.specs.Bounds.{number_limit}
 use Rattle.ft_props.specs.declared.properties.Adjust.{Adjust}
 use Rattle.ft_props.specs.declared.properties.Changes.{Changes}
 pub use Rattle.ft_props.specs.Keys.{Characters, text_cmp, key_cmp, put_rising, remove_rising, value_of}
@@ -32,7 +33,7 @@ apply props ((key, value) ∷ set) = apply (set_key key value props) set
 
 -- the greatest whole number that an adjusted value may have, 2^53 - 1
 abbrev pub max_safe_integer : ℕ
-max_safe_integer = 9007199254740991
+max_safe_integer = number_limit - 1
 
 -- z, raised to low if it is below, then lowered to high if it is above
 abbrev pub clamped : ℤ → ℤ → ℤ → ℤ

@@ -1,6 +1,6 @@
 //! Lists of pairs of a key and a value by rising keys.
 
-ghost use Rattle.std.specs.Prelude.{◌≡◌, ◌↔◌, ◌≤◌, [], IsTrue, IfOk, OnOk, OnErr, chars, length, slice_get, option_copied, option_map, is_some};
+ghost use Rattle.std.specs.Prelude.{◌≡◌, ◌↔◌, ◌≤◌, [], IsOk, IsTrue, IfOk, OnOk, OnErr, chars, length, slice_get, option_copied, option_map, is_some};
 ghost use Rattle.ft_props.specs.Keys.{KeysRise, key_cmp, place_of, put_rising, remove_rising, value_of};
 
 use crate::keys::compare;
@@ -112,6 +112,7 @@ impl<V: Drop> Pairs<V> {
     pub fn put(&mut self, key: Text, value: V) -> Result<(), OutOfMemory>
         ensures ok { OnOk result (self.new ≡ put_rising key_cmp (key, value) self.old) }
         ensures err { OnErr result (self.new ≡ self.old) }
+        ensures room { IsTrue (is_some (value_of key self.old)) → IsOk result }
     {
         match self.search(key.as_str()) {
             Ok(i) => {
