@@ -4,10 +4,11 @@
 --     each_of f xs      what each item gives, where all are of the form
 --     optional f o      what a field gives that may be absent
 --     rises p xs      whether each item comes before the next
-use Rattle.std.specs.Prelude.{negsuc, pos, ◌-◌, ◌^◌, ℤ, Bool, true, ◌&&◌, not, is_some, List, [], ◌∷◌, Option, Some, None, option_and_then, option_map, chars, if◌then◌else◌}
+use Rattle.std.specs.Prelude.{negsuc, pos, ◌-◌, ℤ, Bool, true, ◌&&◌, not, is_some, List, [], ◌∷◌, Option, Some, None, option_and_then, option_map, chars, if◌then◌else◌}
 use Rattle.std.specs.List.{list_all}
 use Rattle.serde_json.specs.Data.{Data}
 use Rattle.serde_json.specs.Find.{as_null, as_str}
+use Rattle.ft_json.specs.Bounds.{number_limit}
 use Rattle.ft_json.specs.Reading.{pairs, whole_within}
 use Rattle.ft_props.specs.Properties.{Characters}
 
@@ -45,7 +46,7 @@ characters d = option_map chars (as_str d)
 
 -- a whole number from -1 to 9007199254740991
 abbrev pub place_number : Data → Option ℤ
-place_number d = whole_within d (negsuc 0) (pos (2 ^ 53 - 1))
+place_number d = whole_within d (negsuc 0) (pos (number_limit - 1))
 
 -- properties with names and values that are not yet read
 abbrev pub GivenProps : Type 0

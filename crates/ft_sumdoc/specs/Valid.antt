@@ -2,6 +2,7 @@
 -- range, names, intervals and cells are in order, and its values are none that are refused.
 use Rattle.std.specs.Prelude.{ℕ, ◌^◌, Bool, true, false, ◌&&◌, ◌||◌, nat_le, nat_lt, IsTrue, IsFalse, List, [], ◌∷◌, length, if◌then◌else◌}
 use Rattle.std.specs.List.{AllByRecursion, list_all}
+use Rattle.ft_json.specs.Bounds.{kept_levels}
 use Rattle.ft_json.specs.Canonical.{IsTextWithin}
 use Rattle.ft_props.specs.Properties.{PropertyList, ValueBytes}
 use Rattle.ft_op.specs.Cells.{is_null}
@@ -40,7 +41,7 @@ is_author b ins by = if is_universal ins then is_universal by || is_old b by els
 
 -- a value that isn't null, of at most 100 levels
 abbrev pub IsValue : ValueBytes → Type 0
-IsValue v = IsTextWithin 100 v × IsFalse (is_null v)
+IsValue v = IsTextWithin kept_levels v × IsFalse (is_null v)
 
 -- each value is one
 abbrev pub HasValues : PropertyList → Type 0
