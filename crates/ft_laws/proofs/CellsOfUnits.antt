@@ -129,7 +129,7 @@ body-units doc s c r Nothing k h = h
 body-units doc s c r (Op op) k h = effects-units doc s c r (sub_operations op) k h
 body-units doc s c r (Elsewhere address) k h = h
 
-entries-units : (doc : Document) (entries : List Entry) → IsConsistent doc → AreCellsOfUnits doc → AreCellsOfUnits (take_entries doc entries)
+pub entries-units : (doc : Document) (entries : List Entry) → IsConsistent doc → AreCellsOfUnits doc → AreCellsOfUnits (take_entries doc entries)
 entries-units doc [] k h = h
 entries-units doc (entry ∷ entries) k h =
     entries-units (take_entry doc entry) entries (take_entry-consistent doc entry k)

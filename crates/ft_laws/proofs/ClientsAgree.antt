@@ -5,8 +5,8 @@ use Rattle.std.proofs.lemmas.Bool.Decides.{nat_tests}
 use Rattle.ft_base.proofs.Booleans.{all_four, both}
 use Rattle.ft_base.specs.declared.stamps.Stamp.{Stamp}
 use Rattle.ft_base.specs.declared.stamps.Stamp.TheVariants.{Acked, Local}
-use Rattle.ft_base.specs.Scan.{rank, retain_map}
-use Rattle.ft_base.specs.Visibility.{has_occurred_at_stage, is_acked}
+use Rattle.ft_base.specs.Scan.{rank}
+use Rattle.ft_base.specs.Visibility.{has_occurred_at_stage}
 use Rattle.ft_msg.specs.declared.messages.Entry.{Entry}
 use Rattle.ft_msg.specs.declared.messages.Body.{Body}
 use Rattle.ft_msg.specs.declared.messages.Body.TheVariants.{Nothing, Op, Elsewhere}
@@ -16,8 +16,7 @@ use Rattle.ft_msg.specs.declared.views.Link.{Link}
 use Rattle.ft_msg.specs.declared.views.Link.TheVariants.{Offline, Joining, Online}
 use Rattle.ft_msg.specs.declared.faults.ProcessFault.{ProcessFault}
 use Rattle.ft_msg.specs.declared.faults.ProcessFault.TheVariants.{OutOfOrder, NotSent}
-use Rattle.ft_props.specs.Element.{ListElement, ElementId, has_id, is_sequenced, seen, without_pending}
-use Rattle.ft_props.specs.Steps.{Sequence, sequenced_list}
+use Rattle.ft_props.specs.Element.{ListElement, ElementId, has_id, seen}
 use Rattle.ft_props.specs.Slide.{end_number}
 use Rattle.ft_sumdoc.specs.declared.summary.IntervalRec.{IntervalRec}
 use Rattle.ft_op.specs.Intervals.{Interval}
@@ -29,7 +28,10 @@ use Rattle.ft_msg.specs.WellFormed.{has_body}
 use Rattle.ft_msg.specs.Process.{after_entry, after_foreign_message, come_online, is_oldest, is_op, is_op_kind, is_own, is_own_join, numbers_fault, process, process_fault}
 use Rattle.ft_msg.specs.Acknowledgement.{after_own_message}
 use Rattle.ft_msg.specs.Reconnection.{rebuilt_document}
+use Rattle.ft_laws.specs.Starts.{IsRunFrom, IsSoundStart}
 use Rattle.ft_laws.proofs.Booleans.{hidden}
+use Rattle.ft_laws.proofs.BareLists.{bare-mark, document-bare}
+use Rattle.ft_laws.proofs.SoundStarts.{empty-sound, start-holds}
 use Rattle.ft_msg.specs.ClientSteps.{ClientStep, Edits, Connects, Drops, Idles, Sends, Restarts, Takes, after_step, after_steps, has_fitting_body, is_none_pending, is_without_edits, taken_entries, unless_refused}
 use Rattle.ft_laws.proofs.WithinStages.{is_among, is_numbered, is_within, mark_within, stamp_within}
 use Rattle.ft_laws.proofs.ToldStages.{Holds, ToldStage, stage_numbers}
@@ -39,36 +41,6 @@ use Rattle.ft_laws.proofs.RebuiltDocument.{client-numbers, rebuilt-sequenced}
 use Rattle.ft_laws.proofs.HoldsAfterForeign.{holds-more}
 use Rattle.ft_laws.proofs.ClientHolds.{ClientHolds, LinkIs, Stepped, connect-holds, drop_link-holds, flat, foreign-message, holds-counted, local_edit-holds, noop-holds, own-message, send-holds}
 use Rattle.ft_laws.proofs.NumberTests.{below-other}
-
--- ---- lists without anything pending
-
-bare-stamp : (n : ℕ) (t : Stamp) → stamp_within n [] t ≡ true → is_acked t ≡ true
-bare-stamp n (Acked s c) h = refl
-bare-stamp n (Local j) h = (cc)
-
-bare-mark : (m : Option ℕ) → mark_within [] m ≡ true → m ≡ None
-bare-mark None h = refl
-bare-mark (Some j) h = (cc)
-
-bare-changes : {A : Type 0} (pending : List (ℕ × A)) → list_all (λ p. is_among [] p.0) pending ≡ true → pending ≡ []
-bare-changes [] h = refl
-bare-changes (p ∷ pending) h = (cc)
-
-bare-element : (n : ℕ) (e : ListElement) → is_within n [] e ≡ true → (is_sequenced e ≡ true) × (without_pending e ≡ e)
-bare-element n e h =
-    let p = all_four (stamp_within n [] e.ins) (list_all (is_numbered n) e.dels) (mark_within [] e.removal_stage) (list_all (λ p. is_among [] p.0) e.pending) h in
-    (bare-stamp n e.ins p.0, ap (λ m. record e { removal_stage = m; pending = [] }) (sym (bare-mark e.removal_stage p.2)) ∙ ap (λ q. record e { pending = q }) (sym (bare-changes e.pending p.3)))
-
-all-kept : (keep : ListElement → Bool) (f : ListElement → ListElement) (n : ℕ) → ((e : ListElement) → is_within n [] e ≡ true → (keep e ≡ true) × (f e ≡ e))
-    → (xs : List ListElement) → list_all (is_within n []) xs ≡ true → retain_map keep f xs ≡ xs
-all-kept keep f n k [] h = refl
-all-kept keep f n k (e ∷ xs) h =
-    let p = both (is_within n [] e) (list_all (is_within n []) xs) h in
-    let here = k e p.0 in
-    rw (here.0, here.1, all-kept keep f n k xs p.1) refl
-
-pub sequenced-bare : (n : ℕ) (list : Sequence) → list_all (is_within n []) list.items ≡ true → sequenced_list list ≡ list
-sequenced-bare n list h = ap (λ xs. record list { items = xs }) (all-kept is_sequenced without_pending n (bare-element n) list.items h)
 
 -- ---- the client's own join
 
@@ -290,62 +262,51 @@ steps-hold bound (Takes entry ∷ steps) A x y s below fits h =
     (λ z e. agreeing bound (take_entry (sequenced_part x.doc) entry) (take_entry A entry) z (ap (λ d. take_entry d entry) s.agrees)
     (process-holds bound s.c s.gss x z entry s.client below.0 f.0 (refused-ok (process x entry) z e))) h
 
--- ---- from the empty document on
+-- ---- from a sound start on
 
-start-holds : (bound : ℕ) → ClientHolds bound bound [] (client_over empty)
-start-holds bound = record {
-  doc = record {
-    told = tt;
-    rising = omega arith;
-    text = refl;
-    rows = refl;
-    cols = refl;
-    text_order = refl;
-    rows_order = refl;
-    cols_order = refl;
-    stand = tt;
-    sound = record {
-      named = record { once = λ a. omega arith; fresh = λ a f. refl };
-      ends = tt;
-      rows = record { once = λ a. omega arith; fresh = λ a f. refl };
-      cols = record { once = λ a. omega arith; fresh = λ a f. refl };
-    };
-  };
-  edits = tt;
-  link = tt;
-  conn = λ o l h. below-other o bound l;
-}
+pub stepped-start : (bound : ℕ) (start : Document) → IsSoundStart start → Stepped bound start (client_over start)
+stepped-start bound start sound =
+    let h = start-holds bound start sound in
+    record { c = bound; gss = []; client = h; agrees = document-bare bound start.number start.number 0 start h.doc }
 
-stepped-start : (bound : ℕ) → Stepped bound empty (client_over empty)
-stepped-start bound = record { c = bound; gss = []; client = start-holds bound; agrees = refl }
+pub all-stepped-from : (start : Document) (steps : List ClientStep) (y : NaiveClient) → IsRunFrom start steps y → Stepped (bound_of (taken_entries steps)) (take_entries start (taken_entries steps)) y
+all-stepped-from start steps y run =
+    let bound = bound_of (taken_entries steps) in
+    steps-hold bound steps start (client_over start) y (stepped-start bound start run.sound) (are-below (taken_entries steps)) run.bodies run.made
 
-pub all-stepped : (steps : List ClientStep) (y : NaiveClient) → after_steps (Some (client_over empty)) steps ≡ Some y → list_all has_fitting_body (taken_entries steps) ≡ true
-    → Stepped (bound_of (taken_entries steps)) (agreed (taken_entries steps)) y
-all-stepped steps y h fits =
-    steps-hold (bound_of (taken_entries steps)) steps empty (client_over empty) y (stepped-start (bound_of (taken_entries steps))) (are-below (taken_entries steps)) fits h
-
--- without what is pending a client's document is the agreed one
-pub clients-agree : (steps : List ClientStep) (y : NaiveClient) → after_steps (Some (client_over empty)) steps ≡ Some y → list_all has_fitting_body (taken_entries steps) ≡ true
-    → sequenced_part y.doc ≡ agreed (taken_entries steps)
-clients-agree steps y h fits = (all-stepped steps y h fits).agrees
-
-document-bare : (c m n last : ℕ) (doc : Document) → Holds c m n last [] doc → sequenced_part doc ≡ doc
-document-bare c m n last doc h =
-    ap (λ text. record doc { text = text; rows = sequenced_list doc.rows; cols = sequenced_list doc.cols }) (sequenced-bare n doc.text h.text)
-    ∙ ap (λ rows. record doc { rows = rows; cols = sequenced_list doc.cols }) (sequenced-bare n doc.rows h.rows)
-    ∙ ap (λ cols. record doc { cols = cols }) (sequenced-bare n doc.cols h.cols)
+-- without what is pending a client's document is the start with the entries that it took
+pub clients-agree-from : (start : Document) (steps : List ClientStep) (y : NaiveClient) → IsRunFrom start steps y → sequenced_part y.doc ≡ take_entries start (taken_entries steps)
+clients-agree-from start steps y run = (all-stepped-from start steps y run).agrees
 
 bare-client : (bound c : ℕ) (gss : List (List ToldStage)) (x : NaiveClient) (edits : List PendingEdit) → ClientHolds bound c gss (record x { pending = edits }) → is_none_pending edits ≡ true → sequenced_part x.doc ≡ x.doc
 bare-client bound c [] x [] h none = document-bare c x.doc.number x.doc.number x.last_stage x.doc h.doc
 bare-client bound c (gs ∷ gss) x [] h none = absurd h.edits
 bare-client bound c gss x (edit ∷ edits) h none = (cc)
 
+-- a client with nothing pending has just that document
+pub idle-clients-agree-from : (start : Document) (steps : List ClientStep) (y : NaiveClient) → IsRunFrom start steps y → is_without_edits y ≡ true → y.doc ≡ take_entries start (taken_entries steps)
+idle-clients-agree-from start steps y run none =
+    let s = all-stepped-from start steps y run in
+    sym (bare-client (bound_of (taken_entries steps)) s.c s.gss y y.pending s.client none) ∙ s.agrees
+
+-- ---- from the empty document on
+
+pub run-from-empty : (steps : List ClientStep) (y : NaiveClient) → after_steps (Some (client_over empty)) steps ≡ Some y → list_all has_fitting_body (taken_entries steps) ≡ true → IsRunFrom empty steps y
+run-from-empty steps y h fits = record { sound = empty-sound; made = h; bodies = fits }
+
+pub all-stepped : (steps : List ClientStep) (y : NaiveClient) → after_steps (Some (client_over empty)) steps ≡ Some y → list_all has_fitting_body (taken_entries steps) ≡ true
+    → Stepped (bound_of (taken_entries steps)) (agreed (taken_entries steps)) y
+all-stepped steps y h fits = all-stepped-from empty steps y (run-from-empty steps y h fits)
+
+-- without what is pending a client's document is the agreed one
+pub clients-agree : (steps : List ClientStep) (y : NaiveClient) → after_steps (Some (client_over empty)) steps ≡ Some y → list_all has_fitting_body (taken_entries steps) ≡ true
+    → sequenced_part y.doc ≡ agreed (taken_entries steps)
+clients-agree steps y h fits = clients-agree-from empty steps y (run-from-empty steps y h fits)
+
 -- a client with nothing pending has the agreed document
 pub idle-clients-agree : (steps : List ClientStep) (y : NaiveClient) → after_steps (Some (client_over empty)) steps ≡ Some y → list_all has_fitting_body (taken_entries steps) ≡ true
     → is_without_edits y ≡ true → y.doc ≡ agreed (taken_entries steps)
-idle-clients-agree steps y h fits none =
-    let s = all-stepped steps y h fits in
-    sym (bare-client (bound_of (taken_entries steps)) s.c s.gss y y.pending s.client none) ∙ s.agrees
+idle-clients-agree steps y h fits none = idle-clients-agree-from empty steps y (run-from-empty steps y h fits) none
 
 -- ---- what is shown
 
@@ -407,12 +368,16 @@ shows-idle bound c [] x [] h none = shows-bare c x.doc.number x.doc.number x.las
 shows-idle bound c (gs ∷ gss) x [] h none = absurd h.edits
 shows-idle bound c gss x (edit ∷ edits) h none = (cc)
 
--- a client with nothing pending shows the agreed document
+-- a client with nothing pending shows the start with the entries that it took
+pub idle-clients-show-from : (start : Document) (steps : List ClientStep) (y : NaiveClient) → IsRunFrom start steps y → is_without_edits y ≡ true → content y ≡ shown (take_entries start (taken_entries steps))
+idle-clients-show-from start steps y run none =
+    let s = all-stepped-from start steps y run in
+    shows-idle (bound_of (taken_entries steps)) s.c s.gss y y.pending s.client none ∙ ap shown (idle-clients-agree-from start steps y run none)
+
+-- from the empty document on it shows the agreed document
 pub idle-clients-show : (steps : List ClientStep) (y : NaiveClient) → after_steps (Some (client_over empty)) steps ≡ Some y → list_all has_fitting_body (taken_entries steps) ≡ true
     → is_without_edits y ≡ true → content y ≡ shown (agreed (taken_entries steps))
-idle-clients-show steps y h fits none =
-    let s = all-stepped steps y h fits in
-    shows-idle (bound_of (taken_entries steps)) s.c s.gss y y.pending s.client none ∙ ap shown (idle-clients-agree steps y h fits none)
+idle-clients-show steps y h fits none = idle-clients-show-from empty steps y (run-from-empty steps y h fits) none
 
 views-idle : (bound c k : ℕ) (gss : List (List ToldStage)) (x : NaiveClient) (edits : List PendingEdit) → ClientHolds bound c gss (record x { pending = edits }) → is_none_pending edits ≡ true
     → stage_view k x.doc.text.items ≡ stage_view 0 x.doc.text.items

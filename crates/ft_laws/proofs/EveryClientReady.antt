@@ -13,7 +13,7 @@ use Rattle.ft_props.proofs.SequencedElements.{any-acked}
 use Rattle.ft_op.specs.Operation.{OnGrid, OnIntervals, OnText, SubOperation}
 use Rattle.ft_op.specs.Intervals.{Interval}
 use Rattle.ft_op.specs.Document.{Document, empty, sequenced_part}
-use Rattle.ft_msg.specs.Agreed.{agreed}
+use Rattle.ft_msg.specs.Agreed.{agreed, take_entries}
 use Rattle.ft_msg.specs.Applied.{applied}
 use Rattle.ft_msg.specs.Client.{NaiveClient, PendingEdit, client_over, stages_of}
 use Rattle.ft_msg.specs.Content.{content}
@@ -26,11 +26,13 @@ use Rattle.ft_laws.specs.Sequencing.{Each, IsReady, IsReadyList, IsTyped, annota
 use Rattle.ft_laws.specs.Trimming.{are_distinct, has_ends_on, is_end_on}
 use Rattle.ft_laws.proofs.AgreedStage.{EndsStand}
 use Rattle.ft_laws.proofs.AfterOwnJoin.{join-changes_nothing}
-use Rattle.ft_laws.proofs.ClientsAgree.{all-stepped}
+use Rattle.ft_laws.specs.Starts.{IsRunFrom, shown_with_pending}
+use Rattle.ft_laws.proofs.ClientsAgree.{all-stepped-from, clients-agree-from, run-from-empty}
+use Rattle.ft_laws.proofs.ConsistentDocument.{take_entries-consistent}
 use Rattle.ft_laws.proofs.CountedEntries.{entries-counted, first-taken}
-use Rattle.ft_laws.proofs.PendingOnTop.{pending-on_top}
+use Rattle.ft_laws.proofs.PendingOnTop.{pending-on_top-over}
 use Rattle.ft_laws.proofs.SideBySide.{ready-orderly}
-use Rattle.ft_laws.proofs.CellsOfUnits.{AreCellsOfUnits, agreed-units}
+use Rattle.ft_laws.proofs.CellsOfUnits.{AreCellsOfUnits, entries-units}
 use Rattle.ft_laws.proofs.ClientHolds.{AreOfOneKind, ClientHolds, EditsTold, flat, is_on_grid, is_on_text, is_one_interval}
 use Rattle.ft_laws.proofs.DistinctNames.{names-once}
 use Rattle.ft_laws.proofs.MarksOfStages.{AreKindsOf, bare_stages, changes-of_kind, cols-kinds, marks-of_kind, ordered-later, ordered-rising, rows-kinds, text-kinds, within-known}
@@ -180,8 +182,8 @@ edits-of-one c (gs ∷ gss) (edit ∷ edits) h =
 
 -- ---- the client
 
-pub client-ready : (bound c : ℕ) (gss : List (List ToldStage)) (x : NaiveClient) (entries : List Entry) → ClientHolds bound c gss x → sequenced_part x.doc ≡ agreed entries → IsReady x
-client-ready bound c gss x entries h agrees =
+pub client-ready : (bound c : ℕ) (gss : List (List ToldStage)) (x : NaiveClient) (agreed_doc : Document) → ClientHolds bound c gss x → sequenced_part x.doc ≡ agreed_doc → AreCellsOfUnits agreed_doc → IsReady x
+client-ready bound c gss x agreed_doc h agrees units =
     let ts = flat gss in
     let doc = x.doc in
     let n = doc.number in
@@ -201,16 +203,32 @@ client-ready bound c gss x entries h agrees =
       ends = ends-on doc.text.items doc.intervals d.sound.ends;
       typed = subst (λ ss. Each (λ t. IsTyped t.stage doc t.names t.sub_operation) ss) (sym same) (typed-stages c n doc ts d.text_order d.told d.stand);
       writes = ap (list_all (writes_known_units doc.rows.items doc.cols.items)) same ∙ stages-known_units c n doc ts d.text_order d.told d.stand;
-      cells = subst AreCellsOfUnits (sym agrees) (agreed-units entries);
+      cells = subst AreCellsOfUnits (sym agrees) units;
       edits = edits-of-one c gss x.pending h.edits;
     }
 
 -- ---- every client
 
+pub client-ready-from : (start : Document) (steps : List ClientStep) (x : NaiveClient) → IsRunFrom start steps x → IsReady x
+client-ready-from start steps x run =
+    let entries = taken_entries steps in
+    let s = all-stepped-from start steps x run in
+    client-ready _ s.c s.gss x (take_entries start entries) s.client s.agrees (entries-units start entries run.sound.consistent run.sound.cells)
+
+-- shows what the start and the entries that it took show once its pending operations are sequenced next
+pub pending-stays-on_top-from : (start : Document) (steps : List ClientStep) (x : NaiveClient) (conn : ℕ) → IsRunFrom start steps x → content x ≡ shown_with_pending (take_entries start (taken_entries steps)) x conn
+pending-stays-on_top-from start steps x conn run =
+    let entries = taken_entries steps in
+    pending-on_top-over x conn (client-ready-from start steps x run) (take_entries start entries) (take_entries-consistent start entries run.sound.consistent) (clients-agree-from start steps x run)
+
+-- and shows the same after its own join
+pub join-changes_nothing-from : (start : Document) (steps : List ClientStep) (x : NaiveClient) (entry : Entry) → IsRunFrom start steps x → content (come_online x entry) ≡ content x
+join-changes_nothing-from start steps x entry run = join-changes_nothing x entry (ready-orderly x (client-ready-from start steps x run))
+
+-- ---- from the empty document on
+
 pub every-client-ready : (steps : List ClientStep) (x : NaiveClient) → after_steps (Some (client_over empty)) steps ≡ Some x → list_all has_fitting_body (taken_entries steps) ≡ true → IsReady x
-every-client-ready steps x h fits =
-    let s = all-stepped steps x h fits in
-    client-ready _ s.c s.gss x (taken_entries steps) s.client s.agrees
+every-client-ready steps x h fits = client-ready-from empty steps x (run-from-empty steps x h fits)
 
 -- shows what the order will show once its pending operations are sequenced next
 pub pending-stays-on_top : (steps : List ClientStep) (x : NaiveClient) (later : List Entry) (conn : ℕ) → after_steps (Some (client_over empty)) steps ≡ Some x → list_all has_fitting_body (taken_entries steps) ≡ true
@@ -219,9 +237,9 @@ pending-stays-on_top steps x later conn h fits =
     let entries = taken_entries steps in
     let log = entries ++ later in
     let first : take x.doc.number log ≡ entries = ap (λ i. take i log) (entries-counted steps x h) ∙ first-taken entries later in
-    pending-on_top x conn (every-client-ready steps x h fits) log ((all-stepped steps x h fits).agrees ∙ ap agreed (sym first))
+    pending-stays-on_top-from empty steps x conn (run-from-empty steps x h fits) ∙ ap (λ es. shown_with_pending (agreed es) x conn) (sym first)
 
 -- and shows the same after its own join
 pub every-join-changes_nothing : (steps : List ClientStep) (x : NaiveClient) (entry : Entry) → after_steps (Some (client_over empty)) steps ≡ Some x → list_all has_fitting_body (taken_entries steps) ≡ true
     → content (come_online x entry) ≡ content x
-every-join-changes_nothing steps x entry h fits = join-changes_nothing x entry (ready-orderly x (every-client-ready steps x h fits))
+every-join-changes_nothing steps x entry h fits = join-changes_nothing-from empty steps x entry (run-from-empty steps x h fits)

@@ -59,6 +59,9 @@ pub mod RebuiltDocument
 pub mod StagesAgain
 pub mod DocumentAgain
 pub mod EditsAgain
+pub mod BareLists
+pub mod SoundStarts
+pub mod SummaryStarts
 pub mod ClientsAgree
 pub mod ReconnectedClient
 pub mod MarksOfStages

@@ -18,13 +18,13 @@ use Rattle.ft_op.specs.Cells.{Cell, cell_value, is_cell, write_cell}
 use Rattle.ft_op.specs.Document.{Document, sequenced_part}
 use Rattle.ft_op.specs.Intervals.{Interval}
 use Rattle.ft_op.specs.Stages.{Stage, shown_intervals}
-use Rattle.ft_msg.specs.Agreed.{agreed, take_entries}
-use Rattle.ft_msg.specs.Applied.{applied, numbered}
+use Rattle.ft_msg.specs.Agreed.{agreed}
+use Rattle.ft_msg.specs.Applied.{applied}
 use Rattle.ft_msg.specs.Client.{NaiveClient, stages_of}
 use Rattle.ft_msg.specs.Content.{all_cells, cell_after_stage, cell_record, content, content_characters, content_markers, extended_property_runs, interval_record, markers_from, property_runs_from, row_cells, shown, shown_cell_value, text_characters, value_unless_null}
-use Rattle.ft_msg.specs.Reconnection.{regenerated}
 use Rattle.ft_laws.specs.Reconnecting.{inserts_text, removes_text}
 use Rattle.ft_laws.specs.Sequencing.{Each, IsReady, annotates_text, inserts_in, is_cell_below, is_name_below, removes_in}
+use Rattle.ft_laws.specs.Starts.{shown_with_pending}
 use Rattle.ft_laws.specs.Trimming.{IsConsistent, are_distinct}
 use Rattle.ft_laws.proofs.CellValues.{value-write}
 use Rattle.ft_laws.proofs.ConsistentDocument.{agreed-consistent}
@@ -338,9 +338,13 @@ module _ (x : NaiveClient) (conn : ℕ) (ready : IsReady x) where
         let intervals : map (interval_record 0 d.text.items) d.intervals ≡ map (interval_record x.last_stage x.doc.text.items) (shown_intervals x.doc.text.items x.doc.intervals (stages_of x)) = intervals-same ∙ ap (map (interval_record x.last_stage x.doc.text.items)) e in
         rw (text, markers, runs, intervals, cells-same, rows, cols) refl
 
-  -- the content of a client is what the order shows with its pending operations next
-  pub pending-on_top : (log : List Entry) → sequenced_part x.doc ≡ agreed (take x.doc.number log) → content x ≡ applied x log conn
-  pending-on_top log e =
-      let sound : IsConsistent (sequenced_part x.doc) = subst IsConsistent (sym e) (agreed-consistent (take x.doc.number log)) in
+  -- the content of a client is what its document without what is pending shows with its pending operations next
+  pub pending-on_top-over : (doc : Document) → IsConsistent doc → sequenced_part x.doc ≡ doc → content x ≡ shown_with_pending doc x conn
+  pending-on_top-over doc k e =
+      let sound : IsConsistent (sequenced_part x.doc) = subst IsConsistent (sym e) k in
       let r = edits-reached x conn ready x.pending (x.doc.number + 1) x.doc.minimum x.doc.intervals [] (sequenced_part x.doc) ready.typed ready.writes ready.edits (reached-first x conn ready sound) in
-      sym (shown-follows r.level _ _ r.ahead r.follows refl) ∙ ap (λ d. shown (take_entries d (numbered (x.doc.number + 1) x.doc.number x.doc.minimum conn (regenerated x)))) e
+      sym (shown-follows r.level _ _ r.ahead r.follows refl) ∙ ap (λ d. shown_with_pending d x conn) e
+
+  -- so is what the order shows
+  pub pending-on_top : (log : List Entry) → sequenced_part x.doc ≡ agreed (take x.doc.number log) → content x ≡ applied x log conn
+  pending-on_top log e = pending-on_top-over (agreed (take x.doc.number log)) (agreed-consistent (take x.doc.number log)) e

@@ -2,15 +2,16 @@
 use Rattle.std.proofs.Common.{◌≡◌, ℕ, ◌≤◌, true, List, Some, map, sym, ◌∙◌, ap, subst}
 use Rattle.std.specs.List.{list_all}
 use Rattle.ft_msg.specs.declared.messages.Entry.{Entry}
-use Rattle.ft_op.specs.Document.{empty, sequenced_part}
-use Rattle.ft_msg.specs.Agreed.{agreed, with_numbers}
+use Rattle.ft_op.specs.Document.{Document, empty, sequenced_part}
+use Rattle.ft_msg.specs.Agreed.{agreed, take_entries, with_numbers}
 use Rattle.ft_msg.specs.Client.{NaiveClient, client_over, stages_of}
 use Rattle.ft_msg.specs.Process.{come_online}
 use Rattle.ft_msg.specs.Reconnection.{rebuilt_document}
 use Rattle.ft_msg.specs.ClientSteps.{ClientStep, after_steps, has_fitting_body, taken_entries}
 use Rattle.ft_laws.proofs.ToldStages.{ToldStage}
 use Rattle.ft_laws.proofs.ClientHolds.{ClientHolds, flat, holds-counted}
-use Rattle.ft_laws.proofs.ClientsAgree.{all-stepped}
+use Rattle.ft_laws.specs.Starts.{IsRunFrom}
+use Rattle.ft_laws.proofs.ClientsAgree.{all-stepped-from, clients-agree-from, run-from-empty}
 use Rattle.ft_laws.proofs.RebuiltDocument.{client-numbers, rebuilt-sequenced}
 use Rattle.ft_laws.proofs.SideBySideStages.{SameViews, document-views}
 
@@ -23,15 +24,22 @@ online-views bound c k gss x entry h l =
     record { text = same.text; rows = same.rows; cols = same.cols }
 
 -- where a client comes online, what each of its stages sees stays
-pub reconnection-keeps-views : (steps : List ClientStep) (x : NaiveClient) (entry : Entry) (k : ℕ) → after_steps (Some (client_over empty)) steps ≡ Some x → list_all has_fitting_body (taken_entries steps) ≡ true
-    → k ≤ x.last_stage → SameViews k x.doc (come_online x entry).doc
-reconnection-keeps-views steps x entry k h fits l =
-    let s = all-stepped steps x h fits in
+pub reconnection-keeps-views-from : (start : Document) (steps : List ClientStep) (x : NaiveClient) (entry : Entry) (k : ℕ) → IsRunFrom start steps x → k ≤ x.last_stage → SameViews k x.doc (come_online x entry).doc
+reconnection-keeps-views-from start steps x entry k run l =
+    let s = all-stepped-from start steps x run in
     online-views _ s.c k s.gss x entry s.client l
 
 -- and it agrees with the numbers of the entry
+pub reconnection-agrees-from : (start : Document) (steps : List ClientStep) (x : NaiveClient) (entry : Entry) → IsRunFrom start steps x
+    → sequenced_part (come_online x entry).doc ≡ with_numbers entry (take_entries start (taken_entries steps))
+reconnection-agrees-from start steps x entry run =
+    rebuilt-sequenced (map (λ t. t.stage) (stages_of x)) (with_numbers entry x.doc) ∙ ap (with_numbers entry) (clients-agree-from start steps x run)
+
+-- from the empty document on
+pub reconnection-keeps-views : (steps : List ClientStep) (x : NaiveClient) (entry : Entry) (k : ℕ) → after_steps (Some (client_over empty)) steps ≡ Some x → list_all has_fitting_body (taken_entries steps) ≡ true
+    → k ≤ x.last_stage → SameViews k x.doc (come_online x entry).doc
+reconnection-keeps-views steps x entry k h fits l = reconnection-keeps-views-from empty steps x entry k (run-from-empty steps x h fits) l
+
 pub reconnection-agrees : (steps : List ClientStep) (x : NaiveClient) (entry : Entry) → after_steps (Some (client_over empty)) steps ≡ Some x → list_all has_fitting_body (taken_entries steps) ≡ true
     → sequenced_part (come_online x entry).doc ≡ with_numbers entry (agreed (taken_entries steps))
-reconnection-agrees steps x entry h fits =
-    let s = all-stepped steps x h fits in
-    rebuilt-sequenced (map (λ t. t.stage) (stages_of x)) (with_numbers entry x.doc) ∙ ap (with_numbers entry) s.agrees
+reconnection-agrees steps x entry h fits = reconnection-agrees-from empty steps x entry (run-from-empty steps x h fits)

@@ -5,3 +5,4 @@ pub mod Sequencing
 pub mod ExampleRun
 pub mod Examples
 pub mod ReadyClients
+pub mod Starts

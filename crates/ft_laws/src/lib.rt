@@ -4,4 +4,5 @@
 pub mod agreement;
 pub mod reconnecting;
 pub mod sequencing;
+pub mod starts;
 pub mod trimming;

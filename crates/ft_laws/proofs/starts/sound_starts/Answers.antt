@@ -1,0 +1,13 @@
+use Rattle.ft_laws.proofs.ClientsAgree.{run-from-empty}
+use Rattle.ft_laws.proofs.SoundStarts.{empty-sound}
+use Rattle.ft_laws.proofs.SummaryStarts.{summary-sound}
+use Rattle.ft_laws.proofs.starts.sound_starts.Goals as goal
+
+pub returns-clause-empty : goal.returns-clause-empty
+returns-clause-empty c = empty-sound
+
+pub returns-clause-summary : goal.returns-clause-summary
+returns-clause-summary c = summary-sound
+
+pub returns-clause-runs : goal.returns-clause-runs
+returns-clause-runs c = λ steps x run. run-from-empty steps x run.made run.bodies
