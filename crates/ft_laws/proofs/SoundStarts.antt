@@ -154,6 +154,7 @@ start-holds bound start h =
 pub empty-sound : IsSoundStart empty
 empty-sound = record {
   consistent = record { text = record { below = refl; distinct = refl }; rows = record { below = refl; distinct = refl }; cols = record { below = refl; distinct = refl }; ends = refl; cells = refl };
+  numbers = omega arith;
   text = refl;
   rows = refl;
   cols = refl;

@@ -16,14 +16,18 @@ use Rattle.ft_sumdoc.specs.declared.summary.SumDoc.{SumDoc}
 use Rattle.ft_props.specs.Properties.{PropertyList}
 use Rattle.ft_props.specs.Element.{ElementContent, ElementId, GridUnit, ListElement, has_id, id, is_sequenced, is_unremoved, new_elements}
 use Rattle.ft_op.specs.Cells.{Cell, is_null}
+use Rattle.ft_op.specs.Document.{Document}
 use Rattle.ft_op.specs.Intervals.{element_at_end}
+use Rattle.ft_msg.specs.Client.{NaiveClient}
+use Rattle.ft_msg.specs.Reached.{IsReached, IsStart, from_nothing, from_summary}
 use Rattle.ft_msg.specs.Summary.{cell_at, cells_of, doc_of, interval_of, list_of, run_items, segment_bodies, segment_items, stamp_of}
 use Rattle.ft_msg.specs.ValidSummary.{IsValidSummary, are_cells, are_removals, are_stamps, is_author, is_cell_before, is_mark_within, is_run, is_segment, is_universal, has_elements}
 use Rattle.ft_laws.specs.Sequencing.{is_cell_below, is_name_below}
-use Rattle.ft_laws.specs.Starts.{IsSoundStart, is_sequenced_up_to, is_settled}
+use Rattle.ft_laws.specs.Starts.{IsRunFrom, IsSoundStart, is_sequenced_up_to, is_settled}
 use Rattle.ft_laws.specs.Trimming.{IsNumbered, are_distinct, has_ends_on, has_value, is_end_on, is_numbered_below}
 use Rattle.ft_laws.proofs.AnyAndAll.{all-append}
 use Rattle.ft_laws.proofs.OwnNames.{all-weaker}
+use Rattle.ft_laws.proofs.SoundStarts.{empty-sound}
 use Rattle.ft_laws.proofs.SlidEnds.{same_id-refl}
 
 -- ---- elements that are numbered one after another
@@ -248,8 +252,20 @@ summary-sound sum h =
         ends = ends-on text sum.intervals;
         cells = all-weaker (is_good m n) has_value (first-part m n) (cells_of rows cols sum.cells) good;
       };
+      numbers = at_most sum.min sum.seq h.min;
       text = settled-segments sum 0 sum.text h.text;
       rows = settled-runs sum 0 sum.rows (both (list_all (is_run sum) sum.rows) _ h.rows).0;
       cols = settled-runs sum 0 sum.cols (both (list_all (is_run sum) sum.cols) _ h.cols).0;
       cells = all-weaker (is_good m n) (is_cell_below m n) (second-part m n) (cells_of rows cols sum.cells) good;
     }
+  where
+    at_most : (m n : ℕ) → nat_le m n ≡ true → m ≤ n
+    at_most m n g = grind (arith, nat_tests)
+
+-- each document that a client of which promises speak began with
+pub start-sound : {doc : Document} → IsStart doc → IsSoundStart doc
+start-sound from_nothing = empty-sound
+start-sound (from_summary {sum} h) = summary-sound sum h
+
+pub reached-run : (x : NaiveClient) (r : IsReached x) → IsRunFrom r.start r.steps x
+reached-run x r = record { sound = start-sound r.starts; made = r.made; bodies = r.bodies }

@@ -14,6 +14,7 @@ use Rattle.ft_msg.specs.Client.{NaiveClient, client_over}
 use Rattle.ft_msg.specs.ClientSteps.{ClientStep, after_steps, has_fitting_body, is_without_edits, taken_entries}
 use Rattle.ft_msg.specs.Content.{ViewContent, content, shown}
 use Rattle.ft_msg.specs.Process.{come_online}
+use Rattle.ft_msg.specs.Reached.{IsReached}
 use Rattle.ft_msg.specs.Reconnection.{regenerated}
 use Rattle.ft_msg.specs.Summary.{doc_of}
 use Rattle.ft_msg.specs.ValidSummary.{IsValidSummary}
@@ -43,9 +44,10 @@ abbrev pub is_settled : ℕ → ListElement → Bool
 is_settled n e = is_sequenced_up_to n e.ins && list_all (is_sequenced_up_to n) e.dels && is_nothing e.removal_stage && has_no_items e.pending
 
 -- a document that a client may begin with: it is as messages make it, nothing in it is pending, its stamps have numbers up to
--- its own, and its cells are of rows and columns that were made
+-- its own, its cells are of rows and columns that were made, and its minimum is at most its number
 pub record IsSoundStart (doc : Document) : Type 0 where
   pub consistent : IsConsistent doc
+  pub numbers : doc.minimum ≤ doc.number
   pub text : list_all (is_settled doc.number) doc.text.items ≡ true
   pub rows : list_all (is_settled doc.number) doc.rows.items ≡ true
   pub cols : list_all (is_settled doc.number) doc.cols.items ≡ true
@@ -70,6 +72,15 @@ pub record IsRunFrom (start : Document) (steps : List ClientStep) (x : NaiveClie
 -- steps from the empty document on are such
 abbrev pub RunsAreRunsFromEmpty : Type 0
 RunsAreRunsFromEmpty = (steps : List ClientStep) (x : NaiveClient) → IsRun steps x → IsRunFrom empty steps x
+
+-- and so are those of each client of which promises speak
+abbrev pub ReachedAreRunsFromStart : Type 0
+ReachedAreRunsFromStart = (x : NaiveClient) (r : IsReached x) → IsRunFrom r.start r.steps x
+
+-- steps from some such document on
+pub record IsSoundRun (steps : List ClientStep) (x : NaiveClient) : Type 0 where
+  pub start : Document
+  pub run : IsRunFrom start steps x
 
 -- without what is pending its document is the start with the entries that it took
 abbrev pub ClientsAgreeFromStart : Type 0

@@ -1,12 +1,13 @@
 //! The laws of agreement for clients that began with the document of a summary.
 
-ghost use Rattle.ft_laws.specs.Starts.{ClientIsReadyFromStart, ClientsAgreeFromStart, EmptyIsSoundStart, EntriesAreCountedFromStart, IdleClientsAgreeFromStart, IdleClientsShowFromStart, JoinChangesNothingFromStart, PendingStaysOnTopFromStart, ReconnectionAgreesFromStart, ReconnectionKeepsViewsFromStart, RunsAreRunsFromEmpty, SummaryIsSoundStart};
+ghost use Rattle.ft_laws.specs.Starts.{ReachedAreRunsFromStart, ClientIsReadyFromStart, ClientsAgreeFromStart, EmptyIsSoundStart, EntriesAreCountedFromStart, IdleClientsAgreeFromStart, IdleClientsShowFromStart, JoinChangesNothingFromStart, PendingStaysOnTopFromStart, ReconnectionAgreesFromStart, ReconnectionKeepsViewsFromStart, RunsAreRunsFromEmpty, SummaryIsSoundStart};
 
 /// A client may begin with the empty document, or with that of any valid summary.
 pub fn sound_starts()
     ensures empty { EmptyIsSoundStart }
     ensures summary { SummaryIsSoundStart }
     ensures runs { RunsAreRunsFromEmpty }
+    ensures reached { ReachedAreRunsFromStart }
 {}
 
 /// Without what is pending, the document of a client is the one that it began with and then the entries

@@ -1,6 +1,6 @@
 use Rattle.ft_laws.proofs.ClientsAgree.{run-from-empty}
 use Rattle.ft_laws.proofs.SoundStarts.{empty-sound}
-use Rattle.ft_laws.proofs.SummaryStarts.{summary-sound}
+use Rattle.ft_laws.proofs.SummaryStarts.{reached-run, summary-sound}
 use Rattle.ft_laws.proofs.starts.sound_starts.Goals as goal
 
 pub returns-clause-empty : goal.returns-clause-empty
@@ -11,3 +11,6 @@ returns-clause-summary c = summary-sound
 
 pub returns-clause-runs : goal.returns-clause-runs
 returns-clause-runs c = λ steps x run. run-from-empty steps x run.made run.bodies
+
+pub returns-clause-reached : goal.returns-clause-reached
+returns-clause-reached c = reached-run
