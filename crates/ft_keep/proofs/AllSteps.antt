@@ -4,11 +4,12 @@ use Rattle.std.specs.List.{list_all}
 use Rattle.std.proofs.lemmas.List.Folds.{list_all-append}
 use Rattle.ft_base.proofs.Booleans.{both}
 use Rattle.ft_msg.specs.declared.faults.ViewFault.TheVariants.{OutOfMemory, Stopped}
-use Rattle.ft_op.specs.Document.{Document, empty}
+use Rattle.ft_op.specs.Document.{Document}
 use Rattle.ft_msg.specs.Answers.{AnswersClient, FaultKind, MeansRefusal, Refusal, ReplicaState, RiseAlike, StoppedBefore, WantOfMemory, held_in}
 use Rattle.ft_msg.specs.Client.{NaiveClient, client_over}
-use Rattle.ft_laws.specs.Agreement.{IsRun}
-use Rattle.ft_msg.specs.ClientSteps.{ClientStep, Edits, Connects, Drops, Idles, Sends, Restarts, Takes, after_step, after_steps, has_fitting_body, is_without_edits, taken_entries, unless_refused}
+use Rattle.ft_laws.specs.Starts.{IsSoundRun, IsSoundStart}
+use Rattle.ft_laws.proofs.SummaryStarts.{reached-run}
+use Rattle.ft_msg.specs.ClientSteps.{ClientStep, Edits, Connects, Drops, Idles, Sends, Restarts, Takes, after_step, has_fitting_body, is_without_edits, taken_entries, unless_refused}
 use Rattle.ft_msg.specs.Compacted.{IsCompacted, StandsFor}
 use Rattle.ft_msg.specs.Reached.{IsReached}
 use Rattle.ft_msg.proofs.ReplicaStarts.{keeps-itself}
@@ -31,7 +32,7 @@ restarts-step x kept k = subst (λ b. StepsAlike (cond b (Some (client_over kept
     step true e = each_takes (client_over kept.doc) (client_over x.doc) (restarts-alike x kept k e)
     step false e = none_takes
 
-pub step-alike : (steps : List ClientStep) (x kept : NaiveClient) (step : ClientStep) → IsRun steps x → IsCompacted kept x → list_all has_fitting_body (taken_entries (step ∷ [])) ≡ true → StepsAlike (after_step kept step) (after_step x step)
+pub step-alike : (steps : List ClientStep) (x kept : NaiveClient) (step : ClientStep) → IsSoundRun steps x → IsCompacted kept x → list_all has_fitting_body (taken_entries (step ∷ [])) ≡ true → StepsAlike (after_step kept step) (after_step x step)
 step-alike steps x kept (Edits op) run k fits = answers-steps _ (edits-answer steps x kept op run k)
 step-alike steps x kept (Connects conn) run k fits = answers-steps _ (connects-alike x kept conn k)
 step-alike steps x kept Drops run k fits = answers-steps _ (drops-alike x kept k)
@@ -44,7 +45,7 @@ step-alike steps x kept (Takes entry) run k fits = answers-steps _ (entries-answ
 
 -- the client that takes the steps without being compacted
 abbrev Kept : List ClientStep → NaiveClient → Type 0
-Kept steps kept = (x : NaiveClient) × (IsRun steps x × IsCompacted kept x)
+Kept steps kept = (x : NaiveClient) × (IsSoundRun steps x × IsCompacted kept x)
 
 taken-alike : {o p : Option NaiveClient} (y : NaiveClient) → StepsAlike o p → o ≡ Some y → (z : NaiveClient) × ((p ≡ Some z) × IsCompacted y z)
 taken-alike y none_takes e = (cc)
@@ -52,18 +53,18 @@ taken-alike y (each_takes kept x k) e =
     let same : kept ≡ y = (cc) in
     (x, (refl, subst (λ w. IsCompacted w x) same k))
 
-steps-kept : (before : List ClientStep) {start kept : NaiveClient} (x : NaiveClient) {steps : List ClientStep} → IsRun before x → IsCompacted start x → CompactingSteps start steps kept → list_all has_fitting_body (taken_entries steps) ≡ true → Kept (before ++ steps) kept
-steps-kept before {start} x run k ends fits = (x, (subst (λ ss. IsRun ss x) (sym (append-nil before)) run, k))
+steps-kept : (before : List ClientStep) {start kept : NaiveClient} (x : NaiveClient) {steps : List ClientStep} → IsSoundRun before x → IsCompacted start x → CompactingSteps start steps kept → list_all has_fitting_body (taken_entries steps) ≡ true → Kept (before ++ steps) kept
+steps-kept before {start} x run k ends fits = (x, (subst (λ ss. IsSoundRun ss x) (sym (append-nil before)) run, k))
 steps-kept before x run k (compacts c rest) fits = steps-kept before x run (compacts-further x _ _ k c) rest fits
 steps-kept before {start} {kept} x run k (steps_on {y = y} {step = step} {steps = steps} e rest) fits =
     let f = both (list_all has_fitting_body (taken_entries (step ∷ []))) (list_all has_fitting_body (taken_entries steps))
     (sym (list_all-append has_fitting_body (taken_entries (step ∷ [])) (taken_entries steps)) ∙ ap (list_all has_fitting_body) (sym (taken-append (step ∷ []) steps)) ∙ fits) in
     let t = taken-alike y (step-alike before x start step run k f.0) e in
-    subst (λ ss. Kept ss kept) (append_assoc before (step ∷ []) steps) (steps-kept (before ++ (step ∷ [])) t.0 (run-next before step x t.0 run t.1.0 f.0) t.1.1 rest f.1)
+    subst (λ ss. Kept ss kept) (append_assoc before (step ∷ []) steps) (steps-kept (before ++ (step ∷ [])) t.0 (record { start = run.start; run = run-next before step x t.0 run t.1.0 f.0 }) t.1.1 rest f.1)
 
 -- a client that is compacted in between keeps the one that isn't
-pub compacting-keeps : (steps : List ClientStep) (kept : NaiveClient) → CompactingSteps (client_over empty) steps kept → list_all has_fitting_body (taken_entries steps) ≡ true → (x : NaiveClient) × (IsRun steps x × IsCompacted kept x)
-compacting-keeps steps kept c fits = steps-kept [] (client_over empty) (record { made = refl; bodies = refl }) (keeps-itself (client_over empty)) c fits
+pub compacting-keeps : (start : Document) (steps : List ClientStep) (kept : NaiveClient) → IsSoundStart start → CompactingSteps (client_over start) steps kept → list_all has_fitting_body (taken_entries steps) ≡ true → (x : NaiveClient) × (IsSoundRun steps x × IsCompacted kept x)
+compacting-keeps start steps kept sound c fits = steps-kept [] (client_over start) (record { start = start; run = record { sound = sound; made = refl; bodies = refl } }) (keeps-itself (client_over start)) c fits
 
 -- ---- replicas
 
@@ -100,6 +101,6 @@ replica-compacts start old new (Ok u) (held, does) x r e s =
 replica-compacts start old new (Err OutOfMemory) does x r e s = tt
 replica-compacts start old new (Err (Stopped seq)) does x r e s = tt
 
--- steps from the empty document on make a run
-pub reached-run : (x : NaiveClient) (r : IsReached x) → r.start ≡ empty → IsRun r.steps x
-reached-run x r e = record { made = subst (λ d. after_steps (Some (client_over d)) r.steps ≡ Some x) e r.made; bodies = r.bodies }
+-- the steps of each client of which promises speak
+pub reached-sound : (x : NaiveClient) (r : IsReached x) → IsSoundRun r.steps x
+reached-sound x r = record { start = r.start; run = reached-run x r }

@@ -15,20 +15,20 @@ use Rattle.ft_op.specs.Cells.{Cell, cell_value, is_cell, is_null}
 use Rattle.ft_op.specs.Document.{Document}
 use Rattle.ft_msg.specs.Client.{NaiveClient, client_over, floor}
 use Rattle.ft_msg.specs.Summary.{trim}
-use Rattle.ft_laws.specs.Agreement.{IsRun}
+use Rattle.ft_laws.specs.Starts.{IsSoundRun}
 use Rattle.ft_msg.specs.ClientSteps.{ClientStep, Restarts, is_without_edits, taken_entries}
 use Rattle.ft_laws.specs.Trimming.{has_value}
 use Rattle.ft_laws.proofs.CellValues.{none-filtered, value-kept}
-use Rattle.ft_laws.proofs.ClientsAgree.{idle-clients-agree}
+use Rattle.ft_laws.proofs.ClientsAgree.{idle-clients-agree-from}
 use Rattle.ft_laws.proofs.CompactedScans.{id-universal}
-use Rattle.ft_laws.proofs.ConsistentDocument.{agreed-consistent}
+use Rattle.ft_laws.proofs.ConsistentDocument.{take_entries-consistent}
 use Rattle.ft_laws.proofs.SlidEnds.{same_id-eq}
 use Rattle.ft_laws.proofs.TrimmedDocument.{is_removed}
 use Rattle.ft_msg.specs.Compacted.{IsCompacted, KeepsDocument}
 use Rattle.ft_keep.specs.Free.{AreFree, HasFreeTombstones}
 use Rattle.ft_keep.specs.Keeping.{compacted, has_no_tombstone}
 use Rattle.ft_keep.proofs.KeptLists.{Leaves, ends, stays, folded, goes, free-keeps}
-use Rattle.ft_keep.proofs.Runs.{run-facts, run-next}
+use Rattle.ft_keep.proofs.Runs.{facts-from, run-next}
 
 -- ---- what keeps a compacted client
 
@@ -191,12 +191,12 @@ floor-kept x kept k = ap floor (kept-shape x kept k)
 three : (a b c : Bool) → a ≡ true → b ≡ false → c ≡ false → a && not b && not c ≡ true
 three a b c p q r = rw (p, q, r) refl
 
-pub starts-from-summary : (steps : List ClientStep) (x : NaiveClient) → IsRun steps x → is_without_edits x ≡ true → IsCompacted (client_over (trim x.doc)) (client_over x.doc)
+pub starts-from-summary : (steps : List ClientStep) (x : NaiveClient) → IsSoundRun steps x → is_without_edits x ≡ true → IsCompacted (client_over (trim x.doc)) (client_over x.doc)
 starts-from-summary steps x run h =
     let z = client_over x.doc in
     let next = run-next steps Restarts x z run (ap (λ b. cond b (Some (client_over x.doc)) None) h) refl in
-    let free = (run-facts (steps ++ (Restarts ∷ [])) z next).free in
-    let values : list_all has_value x.doc.cells ≡ true = subst (λ (d : Document). list_all has_value d.cells ≡ true) (sym (idle-clients-agree steps x run.made run.bodies h)) (agreed-consistent (taken_entries steps)).cells in
+    let free = (facts-from run.start (steps ++ (Restarts ∷ [])) z next).free in
+    let values : list_all has_value x.doc.cells ≡ true = subst (λ (d : Document). list_all has_value d.cells ≡ true) (sym (idle-clients-agree-from run.start steps x run.run h)) (take_entries-consistent run.start (taken_entries steps) run.run.sound.consistent).cells in
     record {
       doc = record {
         text = list-trimmed x.doc.minimum _ x.doc.text free.text;

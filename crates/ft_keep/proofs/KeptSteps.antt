@@ -25,10 +25,10 @@ use Rattle.ft_msg.specs.Client.{NaiveClient, PendingEdit, SentAs, after_edit, cl
 use Rattle.ft_msg.specs.Compacted.{IsCompacted, KeepsCells, KeepsDocument}
 use Rattle.ft_msg.specs.Process.{after_entry, after_foreign_message, come_online, is_oldest, is_sent_as, is_op, is_op_kind, is_own, is_own_join, process, process_fault}
 use Rattle.ft_msg.specs.Reconnection.{draft_of, rebuilt_document, resubmitted_edits}
-use Rattle.ft_laws.specs.Agreement.{IsRun}
+use Rattle.ft_laws.specs.Starts.{IsRunFrom, IsSoundRun}
 use Rattle.ft_msg.specs.ClientSteps.{ClientStep, Edits, Takes, after_step, has_fitting_body, is_none_pending, is_without_edits, unless_refused}
 use Rattle.ft_laws.proofs.ClientHolds.{EditsTold, draft-doc, flat, sent-facts, told-unrenamed}
-use Rattle.ft_laws.proofs.ClientsAgree.{accepted, all-stepped, op-kind}
+use Rattle.ft_laws.proofs.ClientsAgree.{accepted, all-stepped-from, op-kind}
 use Rattle.ft_laws.proofs.CountedEntries.{edited}
 use Rattle.ft_laws.proofs.HoldsAfterForeign.{holds-more}
 use Rattle.ft_laws.proofs.ToldStages.{Holds, ToldStage, renamed_told}
@@ -44,7 +44,7 @@ use Rattle.ft_keep.proofs.KeptLists.{Leaves, free-keeps, leaves-higher}
 use Rattle.ft_keep.proofs.LocalEdits.{EditAlike, HoldsPending, edit_refused, edit_taken, sub_operations-alike}
 use Rattle.ft_keep.proofs.Rejoined.{list-rebuilt, resubmitted-kept}
 use Rattle.ft_keep.proofs.RemovedUnits.{StayRemoved}
-use Rattle.ft_keep.proofs.Runs.{NumbersFit, entry-numbers, process_from, run-facts, run-next, run-numbers, run-removed, run-sequenced}
+use Rattle.ft_keep.proofs.Runs.{NumbersFit, facts-from, entry-numbers, process_from, run-facts, run-next, run-numbers, run-removed, run-sequenced}
 
 -- ---- what a step leaves
 
@@ -161,7 +161,7 @@ same-edit x op start kept doc stages e =
 self : (n : ℕ) → n ≤ n
 self n = omega arith
 
-module _ (steps : List ClientStep) (x : NaiveClient) (run : IsRun steps x) (op : ChannelOp) (start : Document) (k : KeepsDocument x start) where
+module _ (steps : List ClientStep) (x : NaiveClient) (run : IsSoundRun steps x) (op : ChannelOp) (start : Document) (k : KeepsDocument x start) where
   edit-taken : {r s : Result (Document × List Stage) EditFault} → local_sub_operations x.doc (stages_of x) (x.last_stage + 1) (sub_operations op) ≡ s → EditAlike (floor x) (staying x) r s
       → AnswersAlike EditFault (edited (record x { doc = start }) op r) (edited x op s)
   edit-taken e (edit_refused fault) = refused fault
@@ -179,14 +179,14 @@ module _ (steps : List ClientStep) (x : NaiveClient) (run : IsRun steps x) (op :
       (subst (λ n. floor x ≤ least_ref n (edits_with x op stages x.doc.number)) (sym minimum)
       (least-append (floor x) x.pending (record { stages = stages; ref_seq = x.doc.number; sent = sent }) x.doc.minimum (self (floor x)) (omega arith))) in
       taken _ _ (client-keeps z (after_edit op kept stages (record x { doc = start })) kept (same-edit x op start kept doc stages (ap (λ (d : Document). d.number) k.rest))
-      (beside-keeps (floor x) x z kept low (run-facts (steps ++ (Edits op ∷ [])) z next).free (run-removed steps (Edits op) x z run next) (subst (λ d. Trimmed (floor x) (staying x) kept d) (sym here) t)))
+      (beside-keeps (floor x) x z kept low (facts-from run.start (steps ++ (Edits op ∷ [])) z next).free (run-removed steps (Edits op) x z run next) (subst (λ d. Trimmed (floor x) (staying x) kept d) (sym here) t)))
 
   edit-answers : AnswersAlike EditFault (local_edit (record x { doc = start }) op) (local_edit x op)
   edit-answers =
       let f = run-facts steps x run in
       edit-taken refl (sub_operations-alike (floor x) (staying x) (pending-held x f) (sub_operations op) start x.doc (stages_of x) (x.last_stage + 1) (kept-beside x start f k) f.names.text)
 
-pub edits-answer : (steps : List ClientStep) (x kept : NaiveClient) (op : ChannelOp) → IsRun steps x → IsCompacted kept x → AnswersAlike EditFault (local_edit kept op) (local_edit x op)
+pub edits-answer : (steps : List ClientStep) (x kept : NaiveClient) (op : ChannelOp) → IsSoundRun steps x → IsCompacted kept x → AnswersAlike EditFault (local_edit kept op) (local_edit x op)
 edits-answer steps x kept op run k = subst (λ y. AnswersAlike EditFault (local_edit y op) (local_edit x op)) (sym k.rest) (edit-answers steps x run op kept.doc k.doc)
 
 -- ---- an entry
@@ -194,7 +194,7 @@ edits-answer steps x kept op run k = subst (λ y. AnswersAlike EditFault (local_
 fault-same : (x : NaiveClient) (start : Document) (entry : Entry) → KeepsDocument x start → process_fault (record x { doc = start }) entry ≡ process_fault x entry
 fault-same x start entry k = ap (λ d. process_fault (record x { doc = d }) entry) k.rest
 
-module _ (steps : List ClientStep) (x : NaiveClient) (run : IsRun steps x) (entry : Entry) (fits : has_fitting_body entry ≡ true) (passed : process_fault x entry ≡ None) (start : Document) (k : KeepsDocument x start) where
+module _ (steps : List ClientStep) (x : NaiveClient) (run : IsSoundRun steps x) (entry : Entry) (fits : has_fitting_body entry ≡ true) (passed : process_fault x entry ≡ None) (start : Document) (k : KeepsDocument x start) where
   facts : ClientFacts x
   facts = run-facts steps x run
 
@@ -208,13 +208,13 @@ module _ (steps : List ClientStep) (x : NaiveClient) (run : IsRun steps x) (entr
   low-minimum = least-first x.pending x.doc.minimum
 
   -- what holds of the client after the entry
-  after-run : (z : NaiveClient) → after_entry x entry ≡ z → IsRun (steps ++ (Takes entry ∷ [])) z
+  after-run : (z : NaiveClient) → after_entry x entry ≡ z → IsRunFrom run.start (steps ++ (Takes entry ∷ [])) z
   after-run z e = run-next steps (Takes entry) x z run (ap (λ o. unless_refused (process_from x entry o)) passed ∙ ap Some e) (rw fits refl)
 
   after-keeps : (z : NaiveClient) (kept : Document) → after_entry x entry ≡ z → floor x ≤ floor z → Trimmed (floor x) (staying x) kept z.doc → KeepsDocument z kept
   after-keeps z kept e l t =
       let next = after-run z e in
-      beside-keeps (floor x) x z kept l (run-facts (steps ++ (Takes entry ∷ [])) z next).free (run-removed steps (Takes entry) x z run next) t
+      beside-keeps (floor x) x z kept l (facts-from run.start (steps ++ (Takes entry ∷ [])) z next).free (run-removed steps (Takes entry) x z run next) t
 
   foreign : after_entry x entry ≡ after_foreign_message x entry → IsCompacted (after_foreign_message (record x { doc = start }) entry) (after_foreign_message x entry)
   foreign e =
@@ -236,7 +236,7 @@ module _ (steps : List ClientStep) (x : NaiveClient) (run : IsRun steps x) (entr
       let edits : resubmitted_edits (with_numbers entry start) entry.origin 1 x.pending ≡ resubmitted_edits (with_numbers entry x.doc) entry.origin 1 x.pending =
       resubmitted-kept (with_numbers entry start) (with_numbers entry x.doc) begun entry.origin 1 x.pending refl facts.names.text in
       let next = after-run z e in
-      let free = run-facts (steps ++ (Takes entry ∷ [])) z next in
+      let free = facts-from run.start (steps ++ (Takes entry ∷ [])) z next in
       let l = low-minimum in
       let m = numbers.rises in
       let b = numbers.below in
@@ -306,7 +306,7 @@ module _ (steps : List ClientStep) (x : NaiveClient) (run : IsRun steps x) (entr
   own-told c (gs ∷ gss) (edit ∷ edits) h told p oldest e = own-first c gs gss edit edits h told p oldest e
 
   own : is_oldest entry x.pending ≡ true → after_entry x entry ≡ after_own_message x entry → IsCompacted (after_own_message (record x { doc = start }) entry) (after_own_message x entry)
-  own oldest e = let s = all-stepped steps x run.made run.bodies in own-told s.c s.gss x.pending s.client.doc s.client.edits refl oldest e
+  own oldest e = let s = all-stepped-from run.start steps x run.run in own-told s.c s.gss x.pending s.client.doc s.client.edits refl oldest e
 
   -- ---- each of the three
 
@@ -328,7 +328,7 @@ module _ (steps : List ClientStep) (x : NaiveClient) (run : IsRun steps x) (entr
   pub after-kept : IsCompacted (after_entry (record x { doc = start }) entry) (after_entry x entry)
   after-kept = entry-kept (is_own_join x.link entry.msg.kind entry.origin) refl (is_op entry.msg.body && is_own x entry) refl
 
-pub entries-answer : (steps : List ClientStep) (x kept : NaiveClient) (entry : Entry) → IsRun steps x → IsCompacted kept x → has_fitting_body entry ≡ true → AnswersAlike ProcessFault (process kept entry) (process x entry)
+pub entries-answer : (steps : List ClientStep) (x kept : NaiveClient) (entry : Entry) → IsSoundRun steps x → IsCompacted kept x → has_fitting_body entry ≡ true → AnswersAlike ProcessFault (process kept entry) (process x entry)
 entries-answer steps x kept entry run k fits =
     subst (λ y. AnswersAlike ProcessFault (process y entry) (process x entry)) (sym k.rest)
     (subst (λ o. AnswersAlike ProcessFault (process_from (record x { doc = kept.doc }) entry o) (process x entry)) (sym (fault-same x kept.doc entry k.doc)) (step (process_fault x entry) refl))

@@ -6,14 +6,14 @@ use Rattle.ft_base.proofs.Booleans.{both}
 use Rattle.ft_msg.specs.declared.faults.ProcessFault.{ProcessFault}
 use Rattle.ft_msg.specs.declared.faults.ProcessFault.TheVariants.{OutOfOrder, NotSent}
 use Rattle.ft_msg.specs.declared.messages.Entry.{Entry}
-use Rattle.ft_op.specs.Document.{Document, empty, sequenced_part}
-use Rattle.ft_msg.specs.Agreed.{agreed, reference_number, take_entries, take_entry}
+use Rattle.ft_op.specs.Document.{Document, sequenced_part}
+use Rattle.ft_msg.specs.Agreed.{reference_number, take_entries, take_entry}
 use Rattle.ft_msg.specs.Client.{NaiveClient, client_over}
 use Rattle.ft_msg.specs.Process.{after_entry, is_oldest, is_op_kind, is_own, numbers_fault, process, process_fault}
-use Rattle.ft_laws.specs.Agreement.{IsRun}
+use Rattle.ft_laws.specs.Starts.{IsRunFrom, IsSoundRun}
 use Rattle.ft_msg.specs.ClientSteps.{ClientStep, Edits, Connects, Drops, Idles, Sends, Restarts, Takes, after_step, after_steps, has_fitting_body, taken_entries}
-use Rattle.ft_laws.proofs.ClientsAgree.{all-stepped, clients-agree, refused-ok}
-use Rattle.ft_laws.proofs.EveryClientReady.{every-client-ready}
+use Rattle.ft_laws.proofs.ClientsAgree.{all-stepped-from, clients-agree-from, refused-ok}
+use Rattle.ft_laws.proofs.EveryClientReady.{client-ready-from}
 use Rattle.ft_msg.proofs.ReachedSteps.{after-one, bodies-one}
 use Rattle.ft_keep.proofs.ClientFacts.{ClientFacts, client-facts}
 use Rattle.ft_keep.proofs.RemovedUnits.{StayRemoved, removed-stay}
@@ -34,25 +34,28 @@ entries-append : (doc : Document) (es fs : List Entry) → take_entries doc (es 
 entries-append doc [] fs = refl
 entries-append doc (e ∷ es) fs = entries-append (take_entry doc e) es fs
 
-pub run-next : (steps : List ClientStep) (step : ClientStep) (x z : NaiveClient) → IsRun steps x → after_step x step ≡ Some z → list_all has_fitting_body (taken_entries (step ∷ [])) ≡ true → IsRun (steps ++ (step ∷ [])) z
-run-next steps step x z h e fits = record { made = after-one steps (Some (client_over empty)) step x z h.made e; bodies = bodies-one steps step h.bodies fits }
+pub run-next : (steps : List ClientStep) (step : ClientStep) (x z : NaiveClient) (h : IsSoundRun steps x) → after_step x step ≡ Some z → list_all has_fitting_body (taken_entries (step ∷ [])) ≡ true → IsRunFrom h.start (steps ++ (step ∷ [])) z
+run-next steps step x z h e fits = record { sound = h.run.sound; made = after-one steps (Some (client_over h.start)) step x z h.run.made e; bodies = bodies-one steps step h.run.bodies fits }
 
 -- ---- what holds of the client
 
-pub run-facts : (steps : List ClientStep) (x : NaiveClient) → IsRun steps x → ClientFacts x
-run-facts steps x h = let s = all-stepped steps x h.made h.bodies in client-facts _ s.c s.gss x s.client (every-client-ready steps x h.made h.bodies)
+pub facts-from : (start : Document) (steps : List ClientStep) (x : NaiveClient) → IsRunFrom start steps x → ClientFacts x
+facts-from start steps x run = let s = all-stepped-from start steps x run in client-facts _ s.c s.gss x s.client (client-ready-from start steps x run)
+
+pub run-facts : (steps : List ClientStep) (x : NaiveClient) → IsSoundRun steps x → ClientFacts x
+run-facts steps x h = facts-from h.start steps x h.run
 
 -- without what is pending its document goes on by the entries that it takes
-pub run-sequenced : (steps : List ClientStep) (step : ClientStep) (x z : NaiveClient) → IsRun steps x → IsRun (steps ++ (step ∷ [])) z → sequenced_part z.doc ≡ take_entries (sequenced_part x.doc) (taken_entries (step ∷ []))
+pub run-sequenced : (steps : List ClientStep) (step : ClientStep) (x z : NaiveClient) (h : IsSoundRun steps x) → IsRunFrom h.start (steps ++ (step ∷ [])) z → sequenced_part z.doc ≡ take_entries (sequenced_part x.doc) (taken_entries (step ∷ []))
 run-sequenced steps step x z h g =
-    clients-agree (steps ++ (step ∷ [])) z g.made g.bodies ∙ ap agreed (taken-append steps (step ∷ [])) ∙ entries-append empty (taken_entries steps) (taken_entries (step ∷ []))
-    ∙ ap (λ d. take_entries d (taken_entries (step ∷ []))) (sym (clients-agree steps x h.made h.bodies))
+    clients-agree-from h.start (steps ++ (step ∷ [])) z g ∙ ap (take_entries h.start) (taken-append steps (step ∷ [])) ∙ entries-append h.start (taken_entries steps) (taken_entries (step ∷ []))
+    ∙ ap (λ d. take_entries d (taken_entries (step ∷ []))) (sym (clients-agree-from h.start steps x h.run))
 
 -- what was removed stays removed
-pub run-removed : (steps : List ClientStep) (step : ClientStep) (x z : NaiveClient) → IsRun steps x → IsRun (steps ++ (step ∷ [])) z → StayRemoved x.doc z.doc
+pub run-removed : (steps : List ClientStep) (step : ClientStep) (x z : NaiveClient) (h : IsSoundRun steps x) → IsRunFrom h.start (steps ++ (step ∷ [])) z → StayRemoved x.doc z.doc
 run-removed steps step x z h g =
     let f = run-facts steps x h in
-    let k = run-facts (steps ++ (step ∷ [])) z g in
+    let k = facts-from h.start (steps ++ (step ∷ [])) z g in
     removed-stay x.doc z.doc (taken_entries (step ∷ [])) f.ready.rows.later f.ready.cols.later k.ready.rows.later k.ready.cols.later (run-sequenced steps step x z h g)
 
 -- ---- the numbers of entries
@@ -144,6 +147,6 @@ agreed-numbers (entry ∷ entries) doc l h =
     test m n g = grind (arith, nat_tests)
 
 -- in every client the minimum is at most the number
-pub run-numbers : (steps : List ClientStep) (x : NaiveClient) → IsRun steps x → x.doc.minimum ≤ x.doc.number
+pub run-numbers : (steps : List ClientStep) (x : NaiveClient) → IsSoundRun steps x → x.doc.minimum ≤ x.doc.number
 run-numbers steps x h =
-    subst (λ (d : Document). d.minimum ≤ d.number) (sym (clients-agree steps x h.made h.bodies)) (agreed-numbers (taken_entries steps) empty (omega arith) (taken-numbers steps (client_over empty) x h.made))
+    subst (λ (d : Document). d.minimum ≤ d.number) (sym (clients-agree-from h.start steps x h.run)) (agreed-numbers (taken_entries steps) h.start h.run.sound.numbers (taken-numbers steps (client_over h.start) x h.run.made))

@@ -24,10 +24,10 @@ use Rattle.ft_laws.proofs.SlidEnds.{same_id-eq}
 use Rattle.ft_laws.proofs.TrimmedContent.{agreed-rows, on_trimmed}
 use Rattle.ft_laws.proofs.TrimmedDocument.{is_removed}
 use Rattle.ft_props.proofs.CompactedList.{keeps-higher}
-use Rattle.ft_laws.specs.Agreement.{IsRun}
+use Rattle.ft_laws.specs.Starts.{IsSoundRun}
 use Rattle.ft_msg.specs.ClientSteps.{ClientStep, taken_entries}
-use Rattle.ft_laws.proofs.ClientsAgree.{clients-agree}
-use Rattle.ft_laws.proofs.ConsistentDocument.{agreed-consistent}
+use Rattle.ft_laws.proofs.ClientsAgree.{clients-agree-from}
+use Rattle.ft_laws.proofs.ConsistentDocument.{take_entries-consistent}
 use Rattle.ft_msg.specs.Compacted.{KeepsDocument}
 use Rattle.ft_keep.proofs.ClientFacts.{ClientFacts}
 use Rattle.ft_keep.proofs.Compacting.{unremoved-kept, with_lists}
@@ -198,5 +198,5 @@ summary-same x kept f values k = ap (λ d. indexed (trim d)) k.rest ∙ shaped k
         rw (same, items-trimmed texts, items-trimmed lines, items-trimmed columns) refl
 
 -- the cells of every client have values
-pub run-values : (steps : List ClientStep) (x : NaiveClient) → IsRun steps x → list_all has_value x.doc.cells ≡ true
-run-values steps x run = subst (λ (d : Document). list_all has_value d.cells ≡ true) (sym (clients-agree steps x run.made run.bodies)) (agreed-consistent (taken_entries steps)).cells
+pub run-values : (steps : List ClientStep) (x : NaiveClient) → IsSoundRun steps x → list_all has_value x.doc.cells ≡ true
+run-values steps x run = subst (λ (d : Document). list_all has_value d.cells ≡ true) (sym (clients-agree-from run.start steps x run.run)) (take_entries-consistent run.start (taken_entries steps) run.run.sound.consistent).cells

@@ -8,7 +8,7 @@ use Rattle.ft_op.specs.Intervals.{Interval}
 use Rattle.ft_op.specs.Document.{Document}
 use Rattle.ft_msg.specs.Client.{NaiveClient}
 use Rattle.ft_msg.specs.Compacted.{IsCompacted}
-use Rattle.ft_laws.specs.Agreement.{IsRun}
+use Rattle.ft_laws.specs.Starts.{IsSoundRun}
 use Rattle.ft_msg.specs.ClientSteps.{ClientStep}
 use Rattle.ft_laws.specs.Trimming.{are_distinct, has_ends_on, is_end_on}
 use Rattle.ft_laws.proofs.Booleans.{hidden, never}
@@ -45,7 +45,7 @@ module _ {low : ℕ} {held : ElementId → Bool} where
   ends-kept {ks} {xs} is k h =
       all-weaker (has_ends_on xs) (has_ends_on ks) (λ i g. (let p = both (is_end_on xs i.start) (is_end_on xs i.end) g in rw (end-kept i.start k p.0, end-kept i.end k p.1) refl)) is h
 
-pub soundly-kept : (steps : List ClientStep) (x kept : NaiveClient) → IsRun steps x → IsCompacted kept x → IsSoundlyKept kept
+pub soundly-kept : (steps : List ClientStep) (x kept : NaiveClient) → IsSoundRun steps x → IsCompacted kept x → IsSoundlyKept kept
 soundly-kept steps x kept run k =
     let f = run-facts steps x run in
     record {

@@ -14,7 +14,7 @@ use Rattle.ft_msg.specs.declared.views.View.{View}
 use Rattle.ft_props.specs.Properties.{Characters}
 use Rattle.ft_props.specs.Element.{has_sequenced_removal}
 use Rattle.ft_props.specs.Compaction.{is_collectable, trim_list}
-use Rattle.ft_op.specs.Document.{Document, empty}
+use Rattle.ft_op.specs.Document.{Document}
 use Rattle.ft_msg.specs.Answers.{AnswersClient, FaultKind, MeansRefusal, ReplicaState, RiseAlike, Shows, edit_fault_kind, held_in, link_fault_kind, process_fault_kind, view_fault_kind}
 use Rattle.ft_msg.specs.Blame.{blame}
 use Rattle.ft_msg.specs.Client.{NaiveClient, client_over, connect, drop_link, floor, local_edit, noop}
@@ -26,7 +26,7 @@ use Rattle.ft_msg.specs.Process.{process}
 use Rattle.ft_msg.specs.Reached.{IsReached}
 use Rattle.ft_msg.specs.Summary.{GivesDocument, trim}
 use Rattle.ft_msg.specs.WellFormed.{IsWellFormedMessage}
-use Rattle.ft_laws.specs.Agreement.{IsRun}
+use Rattle.ft_laws.specs.Starts.{IsSoundRun, IsSoundStart}
 use Rattle.ft_msg.specs.ClientSteps.{ClientStep, after_step, has_fitting_body, is_without_edits, taken_entries}
 use Rattle.ft_laws.specs.Trimming.{are_distinct, has_ends_on}
 use Rattle.ft_keep.specs.Free.{HasFreeTombstones}
@@ -40,12 +40,12 @@ pub data AnswersAlike (E : Type 0) : Result NaiveClient E → Result NaiveClient
 
 -- a compacted client answers alike to an edit of its own
 abbrev pub EditsAnswerAlike : Type 0
-EditsAnswerAlike = (steps : List ClientStep) (x kept : NaiveClient) (op : ChannelOp) → IsRun steps x → IsCompacted kept x → AnswersAlike EditFault (local_edit kept op) (local_edit x op)
+EditsAnswerAlike = (steps : List ClientStep) (x kept : NaiveClient) (op : ChannelOp) → IsSoundRun steps x → IsCompacted kept x → AnswersAlike EditFault (local_edit kept op) (local_edit x op)
 
 -- and to each entry: a message of another client, its own message, its own join
 abbrev pub EntriesAnswerAlike : Type 0
 EntriesAnswerAlike =
-    (steps : List ClientStep) (x kept : NaiveClient) (entry : Entry) → IsRun steps x → IsCompacted kept x → has_fitting_body entry ≡ true → AnswersAlike ProcessFault (process kept entry) (process x entry)
+    (steps : List ClientStep) (x kept : NaiveClient) (entry : Entry) → IsSoundRun steps x → IsCompacted kept x → has_fitting_body entry ≡ true → AnswersAlike ProcessFault (process kept entry) (process x entry)
 
 -- and to each change of its link
 abbrev pub ConnectsAlike : Type 0
@@ -85,7 +85,7 @@ pub record ShowAlike (kept x : NaiveClient) : Type 0 where
 
 -- a compacted client shows the same
 abbrev pub CompactedShowsTheSame : Type 0
-CompactedShowsTheSame = (steps : List ClientStep) (x kept : NaiveClient) → IsRun steps x → IsCompacted kept x → ShowAlike kept x
+CompactedShowsTheSame = (steps : List ClientStep) (x kept : NaiveClient) → IsSoundRun steps x → IsCompacted kept x → ShowAlike kept x
 
 -- ---- compaction
 
@@ -100,7 +100,7 @@ CompactsFurther = (x kept fewer : NaiveClient) → IsCompacted kept x → IsComp
 -- in every client an element that was removed at or below the floor carries nothing pending, nothing names it, and it stands
 -- before no pending element; so it is in each client that keeps it
 abbrev pub TombstonesAreFree : Type 0
-TombstonesAreFree = (steps : List ClientStep) (x kept : NaiveClient) → IsRun steps x → IsCompacted kept x → HasFreeTombstones kept
+TombstonesAreFree = (steps : List ClientStep) (x kept : NaiveClient) → IsSoundRun steps x → IsCompacted kept x → HasFreeTombstones kept
 
 -- the client with all left out that may be: elements removed at or below the floor, and cells of removed rows and columns
 abbrev pub compacted : NaiveClient → NaiveClient
@@ -119,17 +119,17 @@ has_no_tombstone floor doc = not (list_any (is_collectable floor) doc.text.items
 
 -- it keeps the client, and nothing more may be left out
 abbrev pub FullyCompacted : Type 0
-FullyCompacted = (steps : List ClientStep) (x kept : NaiveClient) → IsRun steps x → IsCompacted kept x → IsCompacted (compacted kept) x × (has_no_tombstone (floor x) (compacted kept).doc ≡ true)
+FullyCompacted = (steps : List ClientStep) (x kept : NaiveClient) → IsSoundRun steps x → IsCompacted kept x → IsCompacted (compacted kept) x × (has_no_tombstone (floor x) (compacted kept).doc ≡ true)
 
 -- ---- summaries
 
 -- a client that starts from a summary of a client with nothing pending keeps one that starts from its document
 abbrev pub StartsFromSummary : Type 0
-StartsFromSummary = (steps : List ClientStep) (x : NaiveClient) → IsRun steps x → is_without_edits x ≡ true → IsCompacted (client_over (trim x.doc)) (client_over x.doc)
+StartsFromSummary = (steps : List ClientStep) (x : NaiveClient) → IsSoundRun steps x → is_without_edits x ≡ true → IsCompacted (client_over (trim x.doc)) (client_over x.doc)
 
 -- the summary of a compacted client is that of the whole one
 abbrev pub SummariesAlike : Type 0
-SummariesAlike = (steps : List ClientStep) (x kept : NaiveClient) → IsRun steps x → IsCompacted kept x → indexed (trim kept.doc) ≡ indexed (trim x.doc)
+SummariesAlike = (steps : List ClientStep) (x kept : NaiveClient) → IsSoundRun steps x → IsCompacted kept x → indexed (trim kept.doc) ≡ indexed (trim x.doc)
 
 -- ---- all steps
 
@@ -139,9 +139,9 @@ pub data CompactingSteps : NaiveClient → List ClientStep → NaiveClient → T
   steps_on : {x y z : NaiveClient} {step : ClientStep} {steps : List ClientStep} → after_step x step ≡ Some y → CompactingSteps y steps z → CompactingSteps x (step ∷ steps) z
   compacts : {x y z : NaiveClient} {steps : List ClientStep} → IsCompacted y x → CompactingSteps y steps z → CompactingSteps x steps z
 
--- one that takes these steps from the empty document on keeps the client that takes them without being compacted
+-- one that takes these steps from a sound start on keeps the client that takes them without being compacted
 abbrev pub CompactingKeeps : Type 0
-CompactingKeeps = (steps : List ClientStep) (kept : NaiveClient) → CompactingSteps (client_over empty) steps kept → list_all has_fitting_body (taken_entries steps) ≡ true → (x : NaiveClient) × (IsRun steps x × IsCompacted kept x)
+CompactingKeeps = (start : Document) (steps : List ClientStep) (kept : NaiveClient) → IsSoundStart start → CompactingSteps (client_over start) steps kept → list_all has_fitting_body (taken_entries steps) ≡ true → (x : NaiveClient) × (IsSoundRun steps x × IsCompacted kept x)
 
 -- and takes each further step that this takes, no other
 pub data StepsAlike : Option NaiveClient → Option NaiveClient → Type 0 where
@@ -150,7 +150,7 @@ pub data StepsAlike : Option NaiveClient → Option NaiveClient → Type 0 where
 
 abbrev pub CompactedStepsAlike : Type 0
 CompactedStepsAlike =
-    (steps : List ClientStep) (x kept : NaiveClient) (step : ClientStep) → IsRun steps x → IsCompacted kept x → list_all has_fitting_body (taken_entries (step ∷ [])) ≡ true → StepsAlike (after_step kept step) (after_step x step)
+    (steps : List ClientStep) (x kept : NaiveClient) (step : ClientStep) → IsSoundRun steps x → IsCompacted kept x → list_all has_fitting_body (taken_entries (step ∷ [])) ≡ true → StepsAlike (after_step kept step) (after_step x step)
 
 -- ---- replicas
 
@@ -172,7 +172,7 @@ pub record IsSoundlyKept (kept : NaiveClient) : Type 0 where
   pub tombstones : HasFreeTombstones kept
 
 abbrev pub KeptIsSound : Type 0
-KeptIsSound = (kept : NaiveClient) → IsKept empty kept → IsSoundlyKept kept
+KeptIsSound = (start : Document) (kept : NaiveClient) → IsKept start kept → IsSoundlyKept kept
 
 -- what a replica does on a client that it shows: it takes the step, shows the client after it, and its counts rise alike; or it
 -- refuses with the client's fault; of want of memory and of a stop nothing is asked
@@ -190,13 +190,13 @@ AnswersEach start kind old new step result = (x : NaiveClient) (r : IsReached x)
 
 abbrev pub ReplicaEdits : Type 0
 ReplicaEdits =
-    (old new : ReplicaState) (op : ChannelOp) (result : Result (Unit {0}) EditFault)
-    → DoesStepOnEach empty edit_fault_kind old new (λ y. local_edit y op) result → AnswersEach empty edit_fault_kind old new (λ y. local_edit y op) result
+    (start : Document) (old new : ReplicaState) (op : ChannelOp) (result : Result (Unit {0}) EditFault)
+    → DoesStepOnEach start edit_fault_kind old new (λ y. local_edit y op) result → AnswersEach start edit_fault_kind old new (λ y. local_edit y op) result
 
 abbrev pub ReplicaProcesses : Type 0
 ReplicaProcesses =
-    (old new : ReplicaState) (entry : Entry) (result : Result (Unit {0}) ProcessFault) → IsWellFormedMessage entry.msg
-    → DoesStepOnEach empty process_fault_kind old new (λ y. process y entry) result → AnswersEach empty process_fault_kind old new (λ y. process y entry) result
+    (start : Document) (old new : ReplicaState) (entry : Entry) (result : Result (Unit {0}) ProcessFault) → IsWellFormedMessage entry.msg
+    → DoesStepOnEach start process_fault_kind old new (λ y. process y entry) result → AnswersEach start process_fault_kind old new (λ y. process y entry) result
 
 abbrev pub ReplicaConnects : Type 0
 ReplicaConnects =
@@ -223,15 +223,15 @@ ReplicaCompacts = (start : Document) (old new : ReplicaState) (result : Result (
 -- document of a summary
 abbrev pub ReplicaShows : Type 0
 ReplicaShows =
-    (r : ReplicaState) (view : View) → ((kept : NaiveClient) → IsKept empty kept → indexed_client kept ≡ r.client → Shows view (content kept))
-    → (x : NaiveClient) (reached : IsReached x) → reached.start ≡ empty → StandsFor r.client x → Shows view (content x)
+    (start : Document) (r : ReplicaState) (view : View) → ((kept : NaiveClient) → IsKept start kept → indexed_client kept ≡ r.client → Shows view (content kept))
+    → (x : NaiveClient) (reached : IsReached x) → reached.start ≡ start → StandsFor r.client x → Shows view (content x)
 
 abbrev pub ReplicaOverlaps : Type 0
 ReplicaOverlaps =
-    (r : ReplicaState) (label : Characters) (a b : ℕ) (found : List IntervalRec) → ((kept : NaiveClient) → IsKept empty kept → indexed_client kept ≡ r.client → found ≡ overlap kept label a b)
-    → (x : NaiveClient) (reached : IsReached x) → reached.start ≡ empty → StandsFor r.client x → found ≡ overlap x label a b
+    (start : Document) (r : ReplicaState) (label : Characters) (a b : ℕ) (found : List IntervalRec) → ((kept : NaiveClient) → IsKept start kept → indexed_client kept ≡ r.client → found ≡ overlap kept label a b)
+    → (x : NaiveClient) (reached : IsReached x) → reached.start ≡ start → StandsFor r.client x → found ≡ overlap x label a b
 
 abbrev pub ReplicaSums : Type 0
 ReplicaSums =
-    (r : ReplicaState) (sum : SumDoc) → ((kept : NaiveClient) → IsKept empty kept → indexed_client kept ≡ r.client → GivesDocument sum kept.doc)
-    → (x : NaiveClient) (reached : IsReached x) → reached.start ≡ empty → StandsFor r.client x → GivesDocument sum x.doc
+    (start : Document) (r : ReplicaState) (sum : SumDoc) → ((kept : NaiveClient) → IsKept start kept → indexed_client kept ≡ r.client → GivesDocument sum kept.doc)
+    → (x : NaiveClient) (reached : IsReached x) → reached.start ≡ start → StandsFor r.client x → GivesDocument sum x.doc

@@ -27,8 +27,7 @@ pub fn all_steps()
 {}
 
 /// So a replica that does each step on every client that it shows answers it for every client for which
-/// it stands, as is promised of a replica, and stands for the same clients after it compacts them. For
-/// edits and entries this is of clients that began with the empty document.
+/// it stands, as is promised of a replica, and stands for the same clients after it compacts them.
 pub fn replicas()
     ensures edits { ReplicaEdits }
     ensures entries { ReplicaProcesses }

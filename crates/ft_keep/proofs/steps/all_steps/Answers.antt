@@ -6,4 +6,4 @@ pub returns-clause-alike : goal.returns-clause-alike
 returns-clause-alike c = λ steps x kept step run k fits. step-alike steps x kept step run k fits
 
 pub returns-clause-keeps : goal.returns-clause-keeps
-returns-clause-keeps c = λ steps kept s fits. compacting-keeps steps kept s fits
+returns-clause-keeps c = λ start steps kept sound s fits. compacting-keeps start steps kept sound s fits

@@ -1,7 +1,7 @@
 -- A client that keeps another shows the same.
 use Rattle.std.proofs.Common.{◌∙◌, subst}
 use Rattle.ft_msg.specs.Answers.{Shows}
-use Rattle.ft_keep.proofs.AllSteps.{reached-run}
+use Rattle.ft_keep.proofs.AllSteps.{reached-sound}
 use Rattle.ft_keep.proofs.Runs.{run-facts}
 use Rattle.ft_keep.proofs.SameContent.{show-alike}
 use Rattle.ft_keep.proofs.SameSummary.{run-values, summary-same}
@@ -9,9 +9,9 @@ use Rattle.ft_keep.proofs.steps.shown.Goals as goal
 
 pub returns : goal.returns
 returns c = record {
-  content = λ r view each x reached e s. subst (Shows view) (show-alike s.kept x (run-facts reached.steps x (reached-run x reached e)) s.keeps).content (each s.kept (record { whole = x; reached = reached; starts = e; keeps = s.keeps }) s.shows);
-  overlap = λ r label a b found each x reached e s. each s.kept (record { whole = x; reached = reached; starts = e; keeps = s.keeps }) s.shows ∙ (show-alike s.kept x (run-facts reached.steps x (reached-run x reached e)) s.keeps).overlap label a b;
-  summary = λ r sum each x reached e s.
-      let run = reached-run x reached e in
+  content = λ start r view each x reached e s. subst (Shows view) (show-alike s.kept x (run-facts reached.steps x (reached-sound x reached)) s.keeps).content (each s.kept (record { whole = x; reached = reached; starts = e; keeps = s.keeps }) s.shows);
+  overlap = λ start r label a b found each x reached e s. each s.kept (record { whole = x; reached = reached; starts = e; keeps = s.keeps }) s.shows ∙ (show-alike s.kept x (run-facts reached.steps x (reached-sound x reached)) s.keeps).overlap label a b;
+  summary = λ start r sum each x reached e s.
+      let run = reached-sound x reached in
       each s.kept (record { whole = x; reached = reached; starts = e; keeps = s.keeps }) s.shows ∙ summary-same x s.kept.doc (run-facts reached.steps x run) (run-values reached.steps x run) s.keeps.doc;
 }
