@@ -14,6 +14,7 @@ pub mod RejoinAlike
 pub mod ClientsAlike
 pub mod Indexing
 pub mod ViewsAlike
+pub mod NamedStarts
 pub mod NamedSteps
 pub mod KeptNames
 pub mod CountedSteps

@@ -219,10 +219,10 @@ compaction-mirrored p q fewer d k shows =
     (m.0, (m.1.0, ap indexed_client (kept-shape p fewer k) ∙ m.1.1))
 
 pub one-compacts : OneCompactionServesAll
-one-compacts start old new (Ok u) p from named shows (held, does) x r e s =
-    let d = kept-differs p x s.kept named (reached-named start x r e from) s.keeps (shows ∙ sym s.shows) in
+one-compacts start old new (Ok u) p named shows (held, does) x r e s =
+    let d = kept-differs p x s.kept named (reached-named x r) s.keeps (shows ∙ sym s.shows) in
     let m = compaction-mirrored p s.kept does.0 d does.1 does.2 in
     let same : RiseAlike old.held old.held (held_in x.doc) (held_in x.doc) = record { text = refl; rows = refl; cols = refl } in
     (x, refl, record { client = record { kept = m.0; shows = sym m.1.1 ∙ does.3; keeps = compacts-further x s.kept m.0 s.keeps m.1.0 }; held = subst (λ h. RiseAlike old.held h (held_in x.doc) (held_in x.doc)) (sym held) same })
-one-compacts start old new (Err OutOfMemory) p from named shows does x r e s = tt
-one-compacts start old new (Err (Stopped seq)) p from named shows does x r e s = tt
+one-compacts start old new (Err OutOfMemory) p named shows does x r e s = tt
+one-compacts start old new (Err (Stopped seq)) p named shows does x r e s = tt

@@ -6,13 +6,15 @@ use Rattle.ft_msg.specs.declared.faults.LinkFault.{LinkFault}
 use Rattle.ft_msg.specs.declared.faults.ProcessFault.{ProcessFault}
 use Rattle.ft_msg.specs.declared.messages.Entry.{Entry}
 use Rattle.ft_base.specs.Scan.{len}
-use Rattle.ft_props.specs.Steps.{Sequence, empty_list, is_inserted_by}
-use Rattle.ft_op.specs.Document.{Document, empty}
+use Rattle.ft_props.specs.Steps.{Sequence, is_inserted_by}
+use Rattle.ft_op.specs.Document.{Document}
 use Rattle.ft_msg.specs.Client.{NaiveClient, PendingEdit, client_over, connect, drop_link, local_edit, noop}
 use Rattle.ft_msg.specs.Process.{process}
 use Rattle.ft_msg.specs.Reached.{IsReached}
 use Rattle.ft_msg.specs.Indexed.{IndexedClient, IndexedDocument, indexed_client}
-use Rattle.ft_laws.specs.Agreement.{IsRun}
+use Rattle.ft_laws.specs.Starts.{IsRunFrom}
+use Rattle.ft_laws.proofs.SummaryStarts.{reached-run}
+use Rattle.ft_names.proofs.NamedStarts.{start-named}
 use Rattle.ft_msg.specs.ClientSteps.{ClientStep, Edits, Connects, Drops, Idles, Sends, Restarts, Takes, after_step, after_steps, is_none_pending, is_without_edits, unless_refused}
 use Rattle.ft_names.specs.WellNamed.{HasItsStages, IsWellNamed, IsWellNumbered}
 use Rattle.ft_names.specs.Renaming.{AnswersUpToNames, DifferInNames, ShowTheSame, refused, taken}
@@ -105,21 +107,6 @@ step-named x y Restarts h e = step (is_without_edits x) refl e
     step false f g = (cc)
 step-named x y (Takes entry) h e = named-after _ y (entries-alike x x (alike-itself x h) entry) (ok-step y e)
 
-pub empty-named : IsWellNamed (client_over empty)
-empty-named = record {
-  text = none;
-  rows = none;
-  cols = none;
-  intervals = tt;
-  cells = record { rows = λ row col u. refl; cols = λ row col u. refl };
-  stages = tt;
-  own = record { text = λ k g. refl; rows = λ k g. refl; cols = λ k g. refl };
-  rise = omega arith;
-}
-  where
-    none : IsWellNumbered 0 empty_list
-    none = record { once = λ a. omega arith; below = λ n l. refl; counted = λ k n l. refl; stages = λ k l. refl; removals = refl }
-
 steps-named : (steps : List ClientStep) (o : Option NaiveClient) (x : NaiveClient) → ((z : NaiveClient) → o ≡ Some z → IsWellNamed z) → after_steps o steps ≡ Some x → IsWellNamed x
 steps-named steps None x f e = (cc)
 steps-named [] (Some z) x f e =
@@ -127,22 +114,17 @@ steps-named [] (Some z) x f e =
     subst IsWellNamed same (f z refl)
 steps-named (step ∷ steps) (Some z) x f e = steps-named steps (after_step z step) x (λ y g. step-named z y step (f z refl) g) e
 
-pub run-named : (steps : List ClientStep) (x : NaiveClient) → IsRun steps x → IsWellNamed x
-run-named steps x run = steps-named steps (Some (client_over empty)) x (λ z e. start z e) run.made
-  where
-    start : (z : NaiveClient) → Some (client_over empty) ≡ Some z → IsWellNamed z
-    start z e =
-        let same : client_over empty ≡ z = (cc) in
-        subst IsWellNamed same empty-named
-
--- each client that steps made from a well named document on is
-pub reached-named : (start : Document) (x : NaiveClient) (r : IsReached x) → r.start ≡ start → IsWellNamed (client_over start) → IsWellNamed x
-reached-named start x r e named = steps-named r.steps (Some (client_over start)) x (λ z f. from z f) (subst (λ d. after_steps (Some (client_over d)) r.steps ≡ Some x) e r.made)
+pub run-named : (start : Document) (steps : List ClientStep) (x : NaiveClient) → IsRunFrom start steps x → IsWellNamed x
+run-named start steps x run = steps-named steps (Some (client_over start)) x (λ z e. from z e) run.made
   where
     from : (z : NaiveClient) → Some (client_over start) ≡ Some z → IsWellNamed z
-    from z f =
+    from z e =
         let same : client_over start ≡ z = (cc) in
-        subst IsWellNamed same named
+        subst IsWellNamed same (start-named start run.sound)
+
+-- each client of which promises speak is
+pub reached-named : (x : NaiveClient) (r : IsReached x) → IsWellNamed x
+reached-named x r = run-named r.start r.steps x (reached-run x r)
 
 -- ---- both answers
 

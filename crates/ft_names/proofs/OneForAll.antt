@@ -1,13 +1,12 @@
 -- What a replica does on one well named client that it shows, it answers for each client for which it stands.
 use Rattle.std.proofs.Common.{◌≡◌, Result, Ok, Err, refl, sym, ◌∙◌, ap, subst}
-use Rattle.ft_op.specs.Document.{empty}
 use Rattle.ft_msg.specs.Answers.{AnswersClient, FaultKind, MeansRefusal, Refusal, ReplicaState, StoppedBefore, WantOfMemory}
 use Rattle.ft_msg.specs.Client.{NaiveClient}
 use Rattle.ft_msg.specs.Compacted.{IsCompacted, StandsFor}
 use Rattle.ft_msg.specs.Indexed.{indexed_client}
 use Rattle.ft_msg.specs.Reached.{IsReached}
 use Rattle.ft_keep.specs.Keeping.{AnswersAlike, DoesStep, refused as refuse, taken as take_both}
-use Rattle.ft_keep.proofs.AllSteps.{reached-run}
+use Rattle.ft_keep.proofs.AllSteps.{reached-sound}
 use Rattle.ft_keep.proofs.CountsKept.{rises-kept}
 use Rattle.ft_keep.proofs.Runs.{run-facts}
 use Rattle.ft_keep.proofs.SameContent.{show-alike}
@@ -15,7 +14,7 @@ use Rattle.ft_names.specs.WellNamed.{IsWellNamed}
 use Rattle.ft_names.specs.Renaming.{AnswersUpToNames, DifferInNames, ShowsOf, refused, taken}
 use Rattle.ft_names.proofs.CountedSteps.{Counts, rises-alike}
 use Rattle.ft_names.proofs.KeptNames.{kept-differs}
-use Rattle.ft_names.proofs.NamedSteps.{empty-named, reached-named, views-of}
+use Rattle.ft_names.proofs.NamedSteps.{reached-named, views-of}
 
 module _ (E : Type 0) where
   -- after a step that all three take: the whole client, the kept one, which took it too, and what both show
@@ -68,9 +67,9 @@ module _ (E : Type 0) where
       refusal-through (kind fault) (step p ≡ Err fault) (step x ≡ Err fault) (λ e. err-through fault (names s.kept d) (alike s.kept s.keeps) e) does
 
 -- what it shows of that client, each client for which it stands shows
-pub one-shows : (state : ReplicaState) (p : NaiveClient) → IsWellNamed p → indexed_client p ≡ state.client → (x : NaiveClient) (r : IsReached x) → r.start ≡ empty → StandsFor state.client x → ShowsOf p x
-one-shows state p named shows x r e s =
-    let d = kept-differs p x s.kept named (reached-named empty x r e empty-named) s.keeps (shows ∙ sym s.shows) in
+pub one-shows : (state : ReplicaState) (p : NaiveClient) → IsWellNamed p → indexed_client p ≡ state.client → (x : NaiveClient) (r : IsReached x) → StandsFor state.client x → ShowsOf p x
+one-shows state p named shows x r s =
+    let d = kept-differs p x s.kept named (reached-named x r) s.keeps (shows ∙ sym s.shows) in
     let v = views-of p s.kept d in
-    let k = show-alike s.kept x (run-facts r.steps x (reached-run x r e)) s.keeps in
+    let k = show-alike s.kept x (run-facts r.steps x (reached-sound x r)) s.keeps in
     record { content = v.content ∙ k.content; overlap = λ label a b. v.overlap label a b ∙ k.overlap label a b; blame = v.blame ∙ k.blame }

@@ -2,6 +2,7 @@
 -- every step alike, are indexed alike afterwards, and show the same.
 use Rattle.std.specs.Prelude.{◌≡◌, ◌≤◌, ℕ, true, List, Some, Result, Ok, Err, drop}
 use Rattle.ft_op.specs.declared.operations.ChannelOp.{ChannelOp}
+use Rattle.ft_sumdoc.specs.declared.summary.SumDoc.{SumDoc}
 use Rattle.ft_msg.specs.declared.messages.Entry.{Entry}
 use Rattle.ft_msg.specs.declared.faults.EditFault.{EditFault}
 use Rattle.ft_msg.specs.declared.faults.LinkFault.{LinkFault}
@@ -11,7 +12,7 @@ use Rattle.ft_base.specs.Scan.{len}
 use Rattle.ft_props.specs.Properties.{Characters}
 use Rattle.ft_props.specs.Element.{ElementId, has_id}
 use Rattle.ft_op.specs.Cells.{cell_value}
-use Rattle.ft_op.specs.Document.{Document, empty}
+use Rattle.ft_op.specs.Document.{Document}
 use Rattle.ft_msg.specs.Answers.{ReplicaState, edit_fault_kind, link_fault_kind, process_fault_kind, view_fault_kind}
 use Rattle.ft_msg.specs.Blame.{blame}
 use Rattle.ft_msg.specs.Client.{NaiveClient, client_over, connect, drop_link, local_edit, noop}
@@ -22,8 +23,10 @@ use Rattle.ft_msg.specs.Overlap.{overlap}
 use Rattle.ft_msg.specs.Process.{process}
 use Rattle.ft_msg.specs.Reached.{IsReached}
 use Rattle.ft_msg.specs.Reconnection.{regenerated}
+use Rattle.ft_msg.specs.Summary.{doc_of}
+use Rattle.ft_msg.specs.ValidSummary.{IsValidSummary}
 use Rattle.ft_msg.specs.WellFormed.{IsWellFormedMessage}
-use Rattle.ft_laws.specs.Agreement.{IsRun}
+use Rattle.ft_laws.specs.Starts.{IsRunFrom}
 use Rattle.ft_msg.specs.ClientSteps.{ClientStep, after_step, is_without_edits}
 use Rattle.ft_keep.specs.Keeping.{AnswersEach, DoesStep}
 use Rattle.ft_names.specs.WellNamed.{IsWellNamed}
@@ -79,9 +82,13 @@ ViewsIgnoreNames = (p q : NaiveClient) → DifferInNames p q → ShowTheSame p q
 abbrev pub StepsKeepNames : Type 0
 StepsKeepNames = (x y : NaiveClient) (step : ClientStep) → IsWellNamed x → after_step x step ≡ Some y → IsWellNamed y
 
--- each client that its steps made is well named
+-- each client that its steps made from a sound start on is well named
 abbrev pub ClientsAreWellNamed : Type 0
-ClientsAreWellNamed = (steps : List ClientStep) (x : NaiveClient) → IsRun steps x → IsWellNamed x
+ClientsAreWellNamed = (start : Document) (steps : List ClientStep) (x : NaiveClient) → IsRunFrom start steps x → IsWellNamed x
+
+-- so is the client over the document of a valid summary
+abbrev pub SummariesAreWellNamed : Type 0
+SummariesAreWellNamed = (sum : SumDoc) → IsValidSummary sum → IsWellNamed (client_over (doc_of sum))
 
 -- each client that keeps a well named one is
 abbrev pub KeptAreWellNamed : Type 0
@@ -90,31 +97,30 @@ KeptAreWellNamed = (x kept : NaiveClient) → IsWellNamed x → IsCompacted kept
 -- ---- replicas
 
 -- what a replica does on one well named client that it shows, it answers for each client for which it stands, as is promised of
--- a replica: edits and entries for the clients that began with the empty document, changes of the link and compaction for those
--- that began with any well named one
+-- a replica
 abbrev pub OneEditAnswersAll : Type 0
 OneEditAnswersAll =
-    (old new : ReplicaState) (op : ChannelOp) (result : Result (Unit {0}) EditFault) (p : NaiveClient) → IsWellNamed p → indexed_client p ≡ old.client → DoesStep edit_fault_kind old new p (local_edit p op) result
-    → AnswersEach empty edit_fault_kind old new (λ y. local_edit y op) result
+    (start : Document) (old new : ReplicaState) (op : ChannelOp) (result : Result (Unit {0}) EditFault) (p : NaiveClient) → IsWellNamed p → indexed_client p ≡ old.client → DoesStep edit_fault_kind old new p (local_edit p op) result
+    → AnswersEach start edit_fault_kind old new (λ y. local_edit y op) result
 
 abbrev pub OneEntryAnswersAll : Type 0
 OneEntryAnswersAll =
-    (old new : ReplicaState) (entry : Entry) (result : Result (Unit {0}) ProcessFault) (p : NaiveClient) → IsWellFormedMessage entry.msg → IsWellNamed p → indexed_client p ≡ old.client → DoesStep process_fault_kind old new p (process p entry) result
-    → AnswersEach empty process_fault_kind old new (λ y. process y entry) result
+    (start : Document) (old new : ReplicaState) (entry : Entry) (result : Result (Unit {0}) ProcessFault) (p : NaiveClient) → IsWellFormedMessage entry.msg → IsWellNamed p → indexed_client p ≡ old.client → DoesStep process_fault_kind old new p (process p entry) result
+    → AnswersEach start process_fault_kind old new (λ y. process y entry) result
 
 abbrev pub OneConnectAnswersAll : Type 0
 OneConnectAnswersAll =
-    (start : Document) (old new : ReplicaState) (conn : ℕ) (result : Result (Unit {0}) LinkFault) (p : NaiveClient) → IsWellNamed (client_over start) → IsWellNamed p → indexed_client p ≡ old.client → DoesStep link_fault_kind old new p (connect p conn) result
+    (start : Document) (old new : ReplicaState) (conn : ℕ) (result : Result (Unit {0}) LinkFault) (p : NaiveClient) → IsWellNamed p → indexed_client p ≡ old.client → DoesStep link_fault_kind old new p (connect p conn) result
     → AnswersEach start link_fault_kind old new (λ y. connect y conn) result
 
 abbrev pub OneDropAnswersAll : Type 0
 OneDropAnswersAll =
-    (start : Document) (old new : ReplicaState) (result : Result (Unit {0}) LinkFault) (p : NaiveClient) → IsWellNamed (client_over start) → IsWellNamed p → indexed_client p ≡ old.client → DoesStep link_fault_kind old new p (drop_link p) result
+    (start : Document) (old new : ReplicaState) (result : Result (Unit {0}) LinkFault) (p : NaiveClient) → IsWellNamed p → indexed_client p ≡ old.client → DoesStep link_fault_kind old new p (drop_link p) result
     → AnswersEach start link_fault_kind old new drop_link result
 
 abbrev pub OneIdleAnswersAll : Type 0
 OneIdleAnswersAll =
-    (start : Document) (old new : ReplicaState) (result : Result (Unit {0}) LinkFault) (p : NaiveClient) → IsWellNamed (client_over start) → IsWellNamed p → indexed_client p ≡ old.client → DoesStep link_fault_kind old new p (noop p) result
+    (start : Document) (old new : ReplicaState) (result : Result (Unit {0}) LinkFault) (p : NaiveClient) → IsWellNamed p → indexed_client p ≡ old.client → DoesStep link_fault_kind old new p (noop p) result
     → AnswersEach start link_fault_kind old new noop result
 
 -- what one well named client that it shows, shows is what each client for which it stands shows
@@ -124,7 +130,7 @@ pub record ShowsOf (p x : NaiveClient) : Type 0 where
   pub blame : blame p ≡ blame x
 
 abbrev pub OneViewAnswersAll : Type 0
-OneViewAnswersAll = (state : ReplicaState) (p : NaiveClient) → IsWellNamed p → indexed_client p ≡ state.client → (x : NaiveClient) (reached : IsReached x) → reached.start ≡ empty → StandsFor state.client x → ShowsOf p x
+OneViewAnswersAll = (state : ReplicaState) (p : NaiveClient) → IsWellNamed p → indexed_client p ≡ state.client → (x : NaiveClient) → IsReached x → StandsFor state.client x → ShowsOf p x
 
 -- the cells of the units that are kept are shown as before
 abbrev pub ShowsItsCells : NaiveClient → NaiveClient → Type 0
@@ -142,5 +148,5 @@ CompactsOne old new p (Err fault) = Unit {0}
 -- and so stands for the same clients
 abbrev pub OneCompactionServesAll : Type 0
 OneCompactionServesAll =
-    (start : Document) (old new : ReplicaState) (result : Result (Unit {0}) ViewFault) (p : NaiveClient) → IsWellNamed (client_over start) → IsWellNamed p → indexed_client p ≡ old.client → CompactsOne old new p result
+    (start : Document) (old new : ReplicaState) (result : Result (Unit {0}) ViewFault) (p : NaiveClient) → IsWellNamed p → indexed_client p ≡ old.client → CompactsOne old new p result
     → AnswersEach start view_fault_kind old new (λ x. Ok x) result
