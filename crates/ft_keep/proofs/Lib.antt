@@ -16,3 +16,4 @@ pub mod CountsKept
 pub mod AllSteps
 pub mod SameSummary
 pub mod SoundlyKept
+pub mod TrimmedStarts

@@ -1,6 +1,6 @@
 -- A compacted client is as good as the whole one: it refuses what that refuses, takes what that takes and stays compacted, and
 -- shows the same.
-use Rattle.std.specs.Prelude.{◌≡◌, ◌≤◌, ℕ, Bool, true, not, ◌&&◌, List, [], ◌∷◌, Option, Some, None, Result, Ok, Err, drop, filter}
+use Rattle.std.specs.Prelude.{◌≡◌, ◌≤◌, ℕ, Bool, true, not, ◌&&◌, List, [], ◌∷◌, ◌++◌, Option, Some, None, Result, Ok, Err, drop, filter}
 use Rattle.std.specs.List.{list_all, list_any}
 use Rattle.ft_op.specs.declared.operations.ChannelOp.{ChannelOp}
 use Rattle.ft_sumdoc.specs.declared.summary.IntervalRec.{IntervalRec}
@@ -19,15 +19,16 @@ use Rattle.ft_msg.specs.Answers.{AnswersClient, FaultKind, MeansRefusal, Replica
 use Rattle.ft_msg.specs.Blame.{blame}
 use Rattle.ft_msg.specs.Client.{NaiveClient, client_over, connect, drop_link, floor, local_edit, noop}
 use Rattle.ft_msg.specs.Compacted.{IsCompacted, StandsFor}
-use Rattle.ft_msg.specs.Content.{content}
+use Rattle.ft_msg.specs.Agreed.{take_entries}
+use Rattle.ft_msg.specs.Content.{content, shown}
 use Rattle.ft_msg.specs.Indexed.{indexed, indexed_client}
 use Rattle.ft_msg.specs.Overlap.{overlap}
 use Rattle.ft_msg.specs.Process.{process}
 use Rattle.ft_msg.specs.Reached.{IsReached}
 use Rattle.ft_msg.specs.Summary.{GivesDocument, trim}
 use Rattle.ft_msg.specs.WellFormed.{IsWellFormedMessage}
-use Rattle.ft_laws.specs.Starts.{IsSoundRun, IsSoundStart}
-use Rattle.ft_msg.specs.ClientSteps.{ClientStep, after_step, has_fitting_body, is_without_edits, taken_entries}
+use Rattle.ft_laws.specs.Starts.{IsRunFrom, IsSoundRun, IsSoundStart}
+use Rattle.ft_msg.specs.ClientSteps.{ClientStep, after_step, after_steps, has_fitting_body, is_without_edits, taken_entries}
 use Rattle.ft_laws.specs.Trimming.{are_distinct, has_ends_on}
 use Rattle.ft_keep.specs.Free.{HasFreeTombstones}
 
@@ -235,3 +236,19 @@ abbrev pub ReplicaSums : Type 0
 ReplicaSums =
     (start : Document) (r : ReplicaState) (sum : SumDoc) → ((kept : NaiveClient) → IsKept start kept → indexed_client kept ≡ r.client → GivesDocument sum kept.doc)
     → (x : NaiveClient) (reached : IsReached x) → reached.start ≡ start → StandsFor r.client x → GivesDocument sum x.doc
+
+-- ---- clients that start from a summary of another
+
+-- what a client's first entries make, trimmed, shows the same after the further ones that it took as what they all make
+abbrev pub TrimmedRunsShowTheSame : Type 0
+TrimmedRunsShowTheSame =
+    (start : Document) (steps : List ClientStep) (x : NaiveClient) (first further : List Entry) → IsRunFrom start steps x → taken_entries steps ≡ first ++ further
+    → shown (take_entries (trim (take_entries start first)) further) ≡ shown (take_entries start (taken_entries steps))
+
+-- a client that starts from the trimmed document of one with nothing pending takes the steps that one takes which starts from the
+-- whole document, and shows the same
+abbrev pub TrimmedStartShowsTheSame : Type 0
+TrimmedStartShowsTheSame =
+    (steps : List ClientStep) (x : NaiveClient) → IsSoundRun steps x → is_without_edits x ≡ true
+    → (further : List ClientStep) (z : NaiveClient) → after_steps (Some (client_over x.doc)) further ≡ Some z → list_all has_fitting_body (taken_entries further) ≡ true
+    → (w : NaiveClient) × (after_steps (Some (client_over (trim x.doc))) further ≡ Some w) × (content w ≡ content z)

@@ -1,7 +1,7 @@
 //! What may be left out of a client.
 
 ghost use Rattle.ft_keep.specs.ExampleCompaction.{ExampleForgets};
-ghost use Rattle.ft_keep.specs.Keeping.{CompactsFurther, FullyCompacted, KeepsItself, StartsFromSummary, SummariesAlike, TombstonesAreFree};
+ghost use Rattle.ft_keep.specs.Keeping.{CompactsFurther, FullyCompacted, KeepsItself, StartsFromSummary, SummariesAlike, TombstonesAreFree, TrimmedRunsShowTheSame, TrimmedStartShowsTheSame};
 
 /// What keeps a compacted client keeps the whole one.
 pub fn compaction()
@@ -21,6 +21,14 @@ pub fn tombstones()
 pub fn summaries()
     ensures keeps { StartsFromSummary }
     ensures alike { SummariesAlike }
+{}
+
+/// Trimmed at any moment, the document of a client's entries shows the same after those that it took
+/// later. A client that starts from the trimmed document of another with nothing pending takes the
+/// steps that one takes which starts from the whole document, and shows the same.
+pub fn trimmed_starts()
+    ensures runs { TrimmedRunsShowTheSame }
+    ensures starts { TrimmedStartShowsTheSame }
 {}
 
 /// A run in which the compacted client has forgotten the one element of the text.

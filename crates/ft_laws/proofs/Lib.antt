@@ -69,3 +69,4 @@ pub mod TypedStages
 pub mod CellsOfUnits
 pub mod CountedEntries
 pub mod EveryClientReady
+pub mod Corollaries

@@ -6,3 +6,4 @@ pub mod ExampleRun
 pub mod Examples
 pub mod ReadyClients
 pub mod Starts
+pub mod Corollaries

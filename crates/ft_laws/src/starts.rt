@@ -1,5 +1,6 @@
 //! The laws of agreement for clients that began with the document of a summary.
 
+ghost use Rattle.ft_laws.specs.Corollaries.{OwnJoinComesBack, SameNumberShowsTheSame};
 ghost use Rattle.ft_laws.specs.Starts.{ReachedAreRunsFromStart, ClientIsReadyFromStart, ClientsAgreeFromStart, EmptyIsSoundStart, EntriesAreCountedFromStart, IdleClientsAgreeFromStart, IdleClientsShowFromStart, JoinChangesNothingFromStart, PendingStaysOnTopFromStart, ReconnectionAgreesFromStart, ReconnectionKeepsViewsFromStart, RunsAreRunsFromEmpty, SummaryIsSoundStart};
 
 /// A client may begin with the empty document, or with that of any valid summary.
@@ -23,4 +24,12 @@ pub fn clients_from_a_start()
     ensures joins { JoinChangesNothingFromStart }
     ensures views { ReconnectionKeepsViewsFromStart }
     ensures agrees { ReconnectionAgreesFromStart }
+{}
+
+/// A client that processes its own join shows what it showed, and its queue holds just its pending edits
+/// as they are sent again. Two clients with nothing pending that took the first entries of one log and
+/// have the same number show the same.
+pub fn seen_from_outside()
+    ensures comes_back { OwnJoinComesBack }
+    ensures same_number { SameNumberShowsTheSame }
 {}
