@@ -34,7 +34,7 @@ passed-of : (x z : NaiveClient) (entry : Entry) (o : Option ProcessFault) → pr
 passed-of x z entry None e h = e
 passed-of x z entry (Some fault) e h = (cc)
 
-then-from : (steps : List ClientStep) (y : NaiveClient) (o : Option NaiveClient) (P : Type 0) → ((z : NaiveClient) → o ≡ Some z → after_steps (Some z) steps ≡ Some y → P) → after_steps o steps ≡ Some y → P
+pub then-from : (steps : List ClientStep) (y : NaiveClient) (o : Option NaiveClient) (P : Type 0) → ((z : NaiveClient) → o ≡ Some z → after_steps (Some z) steps ≡ Some y → P) → after_steps o steps ≡ Some y → P
 then-from steps y None P f h = (cc)
 then-from steps y (Some z) P f h = f z refl h
 
@@ -94,7 +94,7 @@ abbrev ShowsSoFrom : NaiveClient → List ClientStep → NaiveClient → Type 0
 ShowsSoFrom w further z = (v : NaiveClient) × (after_steps (Some w) further ≡ Some v) × (content v ≡ content z)
 
 -- both take the next step
-both-take : {o p : Option NaiveClient} (z : NaiveClient) → StepsAlike o p → p ≡ Some z → (w : NaiveClient) × ((o ≡ Some w) × IsCompacted w z)
+pub both-take : {o p : Option NaiveClient} (z : NaiveClient) → StepsAlike o p → p ≡ Some z → (w : NaiveClient) × ((o ≡ Some w) × IsCompacted w z)
 both-take z none_takes e = (cc)
 both-take z (each_takes kept x k) e =
     let same : x ≡ z = (cc) in

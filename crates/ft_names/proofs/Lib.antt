@@ -23,3 +23,4 @@ pub mod MirroredCompaction
 pub mod NamedLists
 pub mod NamedClients
 pub mod NamedCells
+pub mod SummaryStart

@@ -23,11 +23,12 @@ use Rattle.ft_msg.specs.Overlap.{overlap}
 use Rattle.ft_msg.specs.Process.{process}
 use Rattle.ft_msg.specs.Reached.{IsReached}
 use Rattle.ft_msg.specs.Reconnection.{regenerated}
-use Rattle.ft_msg.specs.Summary.{doc_of}
+use Rattle.ft_msg.specs.Summary.{GivesDocument, doc_of}
 use Rattle.ft_msg.specs.ValidSummary.{IsValidSummary}
 use Rattle.ft_msg.specs.WellFormed.{IsWellFormedMessage}
-use Rattle.ft_laws.specs.Starts.{IsRunFrom}
-use Rattle.ft_msg.specs.ClientSteps.{ClientStep, after_step, is_without_edits}
+use Rattle.ft_laws.specs.Starts.{IsRunFrom, IsSoundRun}
+use Rattle.std.specs.List.{list_all}
+use Rattle.ft_msg.specs.ClientSteps.{ClientStep, after_step, after_steps, has_fitting_body, is_without_edits, taken_entries}
 use Rattle.ft_keep.specs.Keeping.{AnswersEach, DoesStep}
 use Rattle.ft_names.specs.WellNamed.{IsWellNamed}
 
@@ -150,3 +151,13 @@ abbrev pub OneCompactionServesAll : Type 0
 OneCompactionServesAll =
     (start : Document) (old new : ReplicaState) (result : Result (Unit {0}) ViewFault) (p : NaiveClient) → IsWellNamed p → indexed_client p ≡ old.client → CompactsOne old new p result
     → AnswersEach start view_fault_kind old new (λ x. Ok x) result
+
+-- ---- starts from summaries
+
+-- a client that starts from a summary of one with nothing pending takes the steps that one takes which starts from its document, and
+-- shows the same
+abbrev pub SummaryStartShowsTheSame : Type 0
+SummaryStartShowsTheSame =
+    (steps : List ClientStep) (x : NaiveClient) → IsSoundRun steps x → is_without_edits x ≡ true → (sum : SumDoc) → IsValidSummary sum → GivesDocument sum x.doc
+    → (further : List ClientStep) (z : NaiveClient) → after_steps (Some (client_over x.doc)) further ≡ Some z → list_all has_fitting_body (taken_entries further) ≡ true
+    → (w : NaiveClient) × (after_steps (Some (client_over (doc_of sum))) further ≡ Some w) × (content w ≡ content z)

@@ -1,7 +1,7 @@
 //! Two well named clients that are indexed alike answer every step alike, and stay so.
 
 ghost use Rattle.ft_names.specs.Naming.{ClientsCanBeNamed, ListsCanBeNamed};
-ghost use Rattle.ft_names.specs.Renaming.{ClientsAreWellNamed, CompactionsIgnoreNames, ConnectsIgnoreNames, DropsIgnoreNames, EditsIgnoreNames, EntriesIgnoreNames, IdlesIgnoreNames, KeptAreWellNamed, OneCompactionServesAll, OneConnectAnswersAll, OneDropAnswersAll, OneEditAnswersAll, OneEntryAnswersAll, OneIdleAnswersAll, OneViewAnswersAll, RestartsIgnoreNames, SendsIgnoreNames, StepsKeepNames, SummariesAreWellNamed, ViewsIgnoreNames};
+ghost use Rattle.ft_names.specs.Renaming.{ClientsAreWellNamed, CompactionsIgnoreNames, ConnectsIgnoreNames, DropsIgnoreNames, EditsIgnoreNames, EntriesIgnoreNames, IdlesIgnoreNames, KeptAreWellNamed, OneCompactionServesAll, OneConnectAnswersAll, OneDropAnswersAll, OneEditAnswersAll, OneEntryAnswersAll, OneIdleAnswersAll, OneViewAnswersAll, RestartsIgnoreNames, SendsIgnoreNames, StepsKeepNames, SummariesAreWellNamed, SummaryStartShowsTheSame, ViewsIgnoreNames};
 
 /// Two well named clients that are indexed alike refuse an edit of their own, an entry or a change of
 /// their link with one fault, or both take it, and are indexed alike and well named again.
@@ -46,4 +46,10 @@ pub fn replicas()
 pub fn names()
     ensures lists { ListsCanBeNamed }
     ensures clients { ClientsCanBeNamed }
+{}
+
+/// A client that starts from a summary of another, which numbers its elements anew, goes on as one that
+/// starts from the other's document.
+pub fn summary_starts()
+    ensures { SummaryStartShowsTheSame }
 {}
