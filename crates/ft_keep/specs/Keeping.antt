@@ -15,7 +15,7 @@ use Rattle.ft_props.specs.Properties.{Characters}
 use Rattle.ft_props.specs.Element.{has_sequenced_removal}
 use Rattle.ft_props.specs.Compaction.{is_collectable, trim_list}
 use Rattle.ft_op.specs.Document.{Document}
-use Rattle.ft_msg.specs.Answers.{AnswersClient, FaultKind, MeansRefusal, ReplicaState, RiseAlike, Shows, edit_fault_kind, held_in, link_fault_kind, process_fault_kind, view_fault_kind}
+use Rattle.ft_msg.specs.Answers.{AnswersClient, FaultKind, MeansRefusal, ReplicaState, RiseAlike, edit_fault_kind, held_in, link_fault_kind, process_fault_kind, view_content, view_fault_kind}
 use Rattle.ft_msg.specs.Blame.{blame}
 use Rattle.ft_msg.specs.Client.{NaiveClient, client_over, connect, drop_link, floor, local_edit, noop}
 use Rattle.ft_msg.specs.Compacted.{IsCompacted, StandsFor}
@@ -224,8 +224,8 @@ ReplicaCompacts = (start : Document) (old new : ReplicaState) (result : Result (
 -- document of a summary
 abbrev pub ReplicaShows : Type 0
 ReplicaShows =
-    (start : Document) (r : ReplicaState) (view : View) → ((kept : NaiveClient) → IsKept start kept → indexed_client kept ≡ r.client → Shows view (content kept))
-    → (x : NaiveClient) (reached : IsReached x) → reached.start ≡ start → StandsFor r.client x → Shows view (content x)
+    (start : Document) (r : ReplicaState) (view : View) → ((kept : NaiveClient) → IsKept start kept → indexed_client kept ≡ r.client → view_content view ≡ content kept)
+    → (x : NaiveClient) (reached : IsReached x) → reached.start ≡ start → StandsFor r.client x → view_content view ≡ content x
 
 abbrev pub ReplicaOverlaps : Type 0
 ReplicaOverlaps =

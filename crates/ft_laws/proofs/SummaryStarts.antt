@@ -1,6 +1,6 @@
 -- The document of a valid summary is one that a client may begin with.
 use Rattle.std.proofs.Common.{◌≡◌, ℕ, zero, suc, ◌+◌, ◌≤◌, ◌<◌, Bool, true, false, cond, not, ◌&&◌, ◌||◌, nat_eq, nat_le, nat_lt, List, [], ◌∷◌, ◌++◌, Option, Some, None, length, map, option_map, replicate, pos, negsuc, ℤ, refl, sym, ◌∙◌, ap, subst, arith}
-use Rattle.std.specs.List.{list_all, list_any}
+use Rattle.std.specs.List.{AllByRecursion, list_all, list_any}
 use Rattle.std.proofs.lemmas.Bool.{or_right}
 use Rattle.std.proofs.lemmas.Bool.Decides.{nat_tests}
 use Rattle.ft_base.proofs.Booleans.{all_three, both}
@@ -13,7 +13,7 @@ use Rattle.ft_sumdoc.specs.declared.summary.RunRec.{RunRec}
 use Rattle.ft_sumdoc.specs.declared.summary.IntervalRec.{IntervalRec}
 use Rattle.ft_sumdoc.specs.declared.summary.CellRec.{CellRec}
 use Rattle.ft_sumdoc.specs.declared.summary.SumDoc.{SumDoc}
-use Rattle.ft_props.specs.Properties.{PropertyList}
+use Rattle.ft_props.specs.Properties.{PropertyList, ValueBytes}
 use Rattle.ft_props.specs.Element.{ElementContent, ElementId, GridUnit, ListElement, has_id, id, is_sequenced, is_unremoved, new_elements}
 use Rattle.ft_op.specs.Cells.{Cell, is_null}
 use Rattle.ft_op.specs.Document.{Document}
@@ -21,7 +21,8 @@ use Rattle.ft_op.specs.Intervals.{element_at_end}
 use Rattle.ft_msg.specs.Client.{NaiveClient}
 use Rattle.ft_msg.specs.Reached.{IsReached, IsStart, from_nothing, from_summary}
 use Rattle.ft_msg.specs.Summary.{cell_at, cells_of, doc_of, interval_of, list_of, run_items, segment_bodies, segment_items, stamp_of}
-use Rattle.ft_msg.specs.ValidSummary.{IsValidSummary, are_cells, are_removals, are_stamps, is_author, is_cell_before, is_mark_within, is_run, is_segment, is_universal, has_elements}
+use Rattle.ft_sumdoc.specs.Stamps.{Bounds, are_removals, is_recent, is_universal, removals_rise}
+use Rattle.ft_sumdoc.specs.Valid.{AreRuns, IsCell, IsSegment, IsValidSummary, IsValue, are_stamps, bounds, is_run}
 use Rattle.ft_laws.specs.Sequencing.{is_cell_below, is_name_below}
 use Rattle.ft_laws.specs.Starts.{IsRunFrom, IsSoundStart, is_sequenced_up_to, is_settled}
 use Rattle.ft_laws.specs.Trimming.{IsNumbered, are_distinct, has_ends_on, has_value, is_end_on, is_numbered_below}
@@ -114,48 +115,46 @@ settled-new n m ins dels by props (b ∷ bs) h g = rw (h, g) (settled-new n (m +
 universal-known : (m : Mark) (n : ℕ) → is_universal m ≡ true → nat_le m.seq n ≡ true
 universal-known m n h = grind (arith, nat_tests)
 
-within-known : (low n k : ℕ) (m : Mark) → is_mark_within low n k m ≡ true → nat_le m.seq n ≡ true
-within-known low n k m h = grind (arith, nat_tests)
+recent-known : (b : Bounds) (m : Mark) → is_recent b m ≡ true → nat_le m.seq b.seq ≡ true
+recent-known b m h = grind (arith, nat_tests)
 
-ins-known : (sum : SumDoc) (m : Mark) → is_universal m || is_mark_within sum.min sum.seq (length sum.conns) m ≡ true → nat_le m.seq sum.seq ≡ true
-ins-known sum m h = either (is_universal m) refl h
+ins-known : (b : Bounds) (m : Mark) → is_universal m || is_recent b m ≡ true → nat_le m.seq b.seq ≡ true
+ins-known b m h = either (is_universal m) refl h
   where
-    either : (u : Bool) → is_universal m ≡ u → u || is_mark_within sum.min sum.seq (length sum.conns) m ≡ true → nat_le m.seq sum.seq ≡ true
-    either true e g = universal-known m sum.seq e
-    either false e g = within-known sum.min sum.seq (length sum.conns) m g
+    either : (u : Bool) → is_universal m ≡ u → u || is_recent b m ≡ true → nat_le m.seq b.seq ≡ true
+    either true e g = universal-known m b.seq e
+    either false e g = recent-known b m g
 
-dels-known : (sum : SumDoc) (ms : List Mark) → list_all (is_mark_within sum.min sum.seq (length sum.conns)) ms ≡ true → list_all (is_sequenced_up_to sum.seq) (map stamp_of ms) ≡ true
-dels-known sum [] h = refl
-dels-known sum (m ∷ ms) h =
-    let p = both (is_mark_within sum.min sum.seq (length sum.conns) m) (list_all (is_mark_within sum.min sum.seq (length sum.conns)) ms) h in
-    rw (within-known sum.min sum.seq (length sum.conns) m p.0) (dels-known sum ms p.1)
+dels-known : (b : Bounds) (ms : List Mark) → list_all (is_recent b) ms ≡ true → list_all (is_sequenced_up_to b.seq) (map stamp_of ms) ≡ true
+dels-known b [] h = refl
+dels-known b (m ∷ ms) h =
+    let p = both (is_recent b m) (list_all (is_recent b) ms) h in
+    rw (recent-known b m p.0) (dels-known b ms p.1)
 
-stamps-known : (sum : SumDoc) (ins : Mark) (dels : List Mark) → are_stamps sum ins dels ≡ true → (is_sequenced_up_to sum.seq (stamp_of ins) ≡ true) × (list_all (is_sequenced_up_to sum.seq) (map stamp_of dels) ≡ true)
-stamps-known sum ins dels h =
-    let p = all_three (is_universal ins || is_mark_within sum.min sum.seq (length sum.conns) ins) (list_all (is_mark_within sum.min sum.seq (length sum.conns)) dels) (are_removals ins.seq dels) h in
-    (ins-known sum ins p.0, dels-known sum dels p.1)
+stamps-known : (b : Bounds) (ins : Mark) (dels : List Mark) → are_stamps b ins dels ≡ true → (is_sequenced_up_to b.seq (stamp_of ins) ≡ true) × (list_all (is_sequenced_up_to b.seq) (map stamp_of dels) ≡ true)
+stamps-known b ins dels h =
+    let p = both (is_universal ins || is_recent b ins) (are_removals b ins.seq dels) h in
+    (ins-known b ins p.0, dels-known b dels (both (list_all (is_recent b) dels) (removals_rise ins.seq dels) p.1).0)
 
-settled-segments : (sum : SumDoc) (n : ℕ) (segs : List SegRec) → list_all (is_segment sum) segs ≡ true → list_all (is_settled sum.seq) (segment_items n segs) ≡ true
-settled-segments sum n [] h = refl
-settled-segments sum n (s ∷ segs) h =
-    let p = both (is_segment sum s) (list_all (is_segment sum) segs) h in
-    let q = all_three (has_elements s.body) (are_stamps sum s.ins s.dels) (is_author sum s.ins s.by) p.0 in
-    let k = stamps-known sum s.ins s.dels q.1 in
+settled-segments : (b : Bounds) (n : ℕ) (segs : List SegRec) → AllByRecursion (IsSegment b) segs → list_all (is_settled b.seq) (segment_items n segs) ≡ true
+settled-segments b n [] h = refl
+settled-segments b n (s ∷ segs) h =
+    let k = stamps-known b s.ins s.dels h.0.stamps in
     let bs = segment_bodies s.body in
     let new = new_elements n (stamp_of s.ins) (map stamp_of s.dels) (Some (stamp_of s.by)) s.props bs in
-    all-append (is_settled sum.seq) new (segment_items (n + length bs) segs)
-    (settled-new sum.seq n (stamp_of s.ins) (map stamp_of s.dels) (Some (stamp_of s.by)) s.props bs k.0 k.1) (settled-segments sum (n + length bs) segs p.1)
+    all-append (is_settled b.seq) new (segment_items (n + length bs) segs)
+    (settled-new b.seq n (stamp_of s.ins) (map stamp_of s.dels) (Some (stamp_of s.by)) s.props bs k.0 k.1) (settled-segments b (n + length bs) segs h.1)
 
-settled-runs : (sum : SumDoc) (n : ℕ) (runs : List RunRec) → list_all (is_run sum) runs ≡ true → list_all (is_settled sum.seq) (run_items n runs) ≡ true
-settled-runs sum n [] h = refl
-settled-runs sum n (r ∷ runs) h =
-    let p = both (is_run sum r) (list_all (is_run sum) runs) h in
-    let q = both (nat_lt 0 r.count) (are_stamps sum r.ins r.dels) p.0 in
-    let k = stamps-known sum r.ins r.dels q.1 in
+settled-runs : (b : Bounds) (n : ℕ) (runs : List RunRec) → list_all (is_run b) runs ≡ true → list_all (is_settled b.seq) (run_items n runs) ≡ true
+settled-runs b n [] h = refl
+settled-runs b n (r ∷ runs) h =
+    let p = both (is_run b r) (list_all (is_run b) runs) h in
+    let q = both (nat_le 1 r.count) (are_stamps b r.ins r.dels) p.0 in
+    let k = stamps-known b r.ins r.dels q.1 in
     let bs = replicate r.count GridUnit in
     let new = new_elements n (stamp_of r.ins) (map stamp_of r.dels) None [] bs in
-    all-append (is_settled sum.seq) new (run_items (n + r.count) runs)
-    (settled-new sum.seq n (stamp_of r.ins) (map stamp_of r.dels) None [] bs k.0 k.1) (settled-runs sum (n + r.count) runs p.1)
+    all-append (is_settled b.seq) new (run_items (n + r.count) runs)
+    (settled-new b.seq n (stamp_of r.ins) (map stamp_of r.dels) None [] bs k.0 k.1) (settled-runs b (n + r.count) runs p.1)
 
 -- ---- ends and cells
 
@@ -215,16 +214,16 @@ good-cell m n None col c v h g = refl
 good-cell m n (Some row) None c v h g = refl
 good-cell m n (Some row) (Some col) c v h g = rw (v, name-below m row h, name-below n col g) refl
 
-pub good-cells : (rows cols : List ListElement) (a b : ℕ) (cs : List CellRec) → list_all (is_numbered_below (length rows)) rows ≡ true → list_all (is_numbered_below (length cols)) cols ≡ true → are_cells a b cs ≡ true
+not-null : (v : ValueBytes) → IsValue v → not (is_null v) ≡ true
+not-null v h = ap not h.1
+
+pub good-cells : (rows cols : List ListElement) (a b : ℕ) (cs : List CellRec) → list_all (is_numbered_below (length rows)) rows ≡ true → list_all (is_numbered_below (length cols)) cols ≡ true → AllByRecursion (IsCell a b) cs
     → list_all (is_good (length rows) (length cols)) (cells_of rows cols cs) ≡ true
 good-cells rows cols a b [] h g k = refl
 good-cells rows cols a b (c ∷ cs) h g k =
-    let p = both (nat_lt c.row a && nat_lt c.col b && not (is_null c.value) && list_all (is_cell_before c) cs) (are_cells a b cs) k in
-    let q = both (nat_lt c.row a && nat_lt c.col b && not (is_null c.value)) (list_all (is_cell_before c) cs) p.0 in
-    let v = both (nat_lt c.row a && nat_lt c.col b) (not (is_null c.value)) q.0 in
     all-append (is_good (length rows) (length cols)) (cell_at (at is_unremoved c.row rows) (at is_unremoved c.col cols) c) (cells_of rows cols cs)
-    (good-cell (length rows) (length cols) (at is_unremoved c.row rows) (at is_unremoved c.col cols) c v.1 (at-passes (is_numbered_below (length rows)) is_unremoved c.row rows h) (at-passes (is_numbered_below (length cols)) is_unremoved c.col cols g))
-    (good-cells rows cols a b cs h g p.1)
+    (good-cell (length rows) (length cols) (at is_unremoved c.row rows) (at is_unremoved c.col cols) c (not-null c.value k.0.1) (at-passes (is_numbered_below (length rows)) is_unremoved c.row rows h) (at-passes (is_numbered_below (length cols)) is_unremoved c.col cols g))
+    (good-cells rows cols a b cs h g k.1)
 
 first-part : (m n : ℕ) (c : Cell) → is_good m n c ≡ true → has_value c ≡ true
 first-part m n c h = (both (has_value c) (is_cell_below m n c) h).0
@@ -241,7 +240,7 @@ summary-sound sum h =
     let cols = run_items 0 sum.cols in
     let numbered_rows = counted-numbered rows (count-runs 0 sum.rows) in
     let numbered_cols = counted-numbered cols (count-runs 0 sum.cols) in
-    let good = good-cells rows cols (len is_unremoved rows) (len is_unremoved cols) sum.cells numbered_rows.below numbered_cols.below h.cells in
+    let good = good-cells rows cols _ _ sum.cells numbered_rows.below numbered_cols.below h.cells in
     let m = length rows in
     let n = length cols in
     record {
@@ -253,9 +252,9 @@ summary-sound sum h =
         cells = all-weaker (is_good m n) has_value (first-part m n) (cells_of rows cols sum.cells) good;
       };
       numbers = at_most sum.min sum.seq h.min;
-      text = settled-segments sum 0 sum.text h.text;
-      rows = settled-runs sum 0 sum.rows (both (list_all (is_run sum) sum.rows) _ h.rows).0;
-      cols = settled-runs sum 0 sum.cols (both (list_all (is_run sum) sum.cols) _ h.cols).0;
+      text = settled-segments (bounds sum) 0 sum.text h.text;
+      rows = settled-runs (bounds sum) 0 sum.rows h.rows.each;
+      cols = settled-runs (bounds sum) 0 sum.cols h.cols.each;
       cells = all-weaker (is_good m n) (is_cell_below m n) (second-part m n) (cells_of rows cols sum.cells) good;
     }
   where

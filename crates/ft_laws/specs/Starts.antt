@@ -17,7 +17,7 @@ use Rattle.ft_msg.specs.Process.{come_online}
 use Rattle.ft_msg.specs.Reached.{IsReached}
 use Rattle.ft_msg.specs.Reconnection.{regenerated}
 use Rattle.ft_msg.specs.Summary.{doc_of}
-use Rattle.ft_msg.specs.ValidSummary.{IsValidSummary}
+use Rattle.ft_sumdoc.specs.Valid.{IsValidSummary}
 use Rattle.ft_laws.specs.Agreement.{HaveSameViews, IsRun}
 use Rattle.ft_laws.specs.Sequencing.{IsReady, is_cell_below}
 use Rattle.ft_laws.specs.Trimming.{IsConsistent}

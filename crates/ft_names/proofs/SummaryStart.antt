@@ -10,7 +10,7 @@ use Rattle.ft_msg.specs.Compacted.{IsCompacted}
 use Rattle.ft_msg.specs.Content.{content}
 use Rattle.ft_msg.specs.Indexed.{IndexedClient, IndexedDocument, IndexedEdit, indexed_edit}
 use Rattle.ft_msg.specs.Summary.{GivesDocument, doc_of, trim}
-use Rattle.ft_msg.specs.ValidSummary.{IsValidSummary}
+use Rattle.ft_sumdoc.specs.Valid.{IsValidSummary}
 use Rattle.ft_laws.specs.Starts.{IsSoundRun}
 use Rattle.ft_laws.proofs.SummaryStarts.{summary-sound}
 use Rattle.ft_keep.proofs.AllSteps.{step-alike}

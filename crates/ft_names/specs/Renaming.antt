@@ -24,7 +24,7 @@ use Rattle.ft_msg.specs.Process.{process}
 use Rattle.ft_msg.specs.Reached.{IsReached}
 use Rattle.ft_msg.specs.Reconnection.{regenerated}
 use Rattle.ft_msg.specs.Summary.{GivesDocument, doc_of}
-use Rattle.ft_msg.specs.ValidSummary.{IsValidSummary}
+use Rattle.ft_sumdoc.specs.Valid.{IsValidSummary}
 use Rattle.ft_msg.specs.WellFormed.{IsWellFormedMessage}
 use Rattle.ft_laws.specs.Starts.{IsRunFrom, IsSoundRun}
 use Rattle.std.specs.List.{list_all}

@@ -1,6 +1,5 @@
 -- A client that keeps another shows the same.
-use Rattle.std.proofs.Common.{◌∙◌, subst}
-use Rattle.ft_msg.specs.Answers.{Shows}
+use Rattle.std.proofs.Common.{◌∙◌}
 use Rattle.ft_keep.proofs.AllSteps.{reached-sound}
 use Rattle.ft_keep.proofs.Runs.{run-facts}
 use Rattle.ft_keep.proofs.SameContent.{show-alike}
@@ -9,7 +8,7 @@ use Rattle.ft_keep.proofs.steps.shown.Goals as goal
 
 pub returns : goal.returns
 returns c = record {
-  content = λ start r view each x reached e s. subst (Shows view) (show-alike s.kept x (run-facts reached.steps x (reached-sound x reached)) s.keeps).content (each s.kept (record { whole = x; reached = reached; starts = e; keeps = s.keeps }) s.shows);
+  content = λ start r view each x reached e s. each s.kept (record { whole = x; reached = reached; starts = e; keeps = s.keeps }) s.shows ∙ (show-alike s.kept x (run-facts reached.steps x (reached-sound x reached)) s.keeps).content;
   overlap = λ start r label a b found each x reached e s. each s.kept (record { whole = x; reached = reached; starts = e; keeps = s.keeps }) s.shows ∙ (show-alike s.kept x (run-facts reached.steps x (reached-sound x reached)) s.keeps).overlap label a b;
   summary = λ start r sum each x reached e s.
       let run = reached-sound x reached in
