@@ -1,7 +1,8 @@
 -- What is asked of a message or a draft before it may be written or processed: its numbers are in range, it has a body exactly
 -- where its type is `op`, an operation has a sender, and words and addresses that are kept are none that have a kind of their
 -- own.
-use Rattle.std.specs.Prelude.{◌<◌, ◌-◌, ◌^◌, ℤ, pos, negsuc, Bool, true, false, codes, bytes_eq, is_some, IsTrue, IsFalse, Option, ⊤}
+use Rattle.std.specs.Prelude.{◌<◌, ◌-◌, ℤ, pos, negsuc, Bool, true, false, codes, bytes_eq, is_some, IsTrue, IsFalse, Option, ⊤}
+use Rattle.ft_json.specs.Bounds.{number_limit}
 use Rattle.ft_json.specs.Reading.{is_within}
 use Rattle.ft_props.specs.Properties.{Characters}
 use Rattle.ft_op.specs.WellFormed.{is_count, IsWellFormed}
@@ -14,12 +15,12 @@ use Rattle.ft_msg.specs.declared.messages.MsgKind.TheVariants as kind
 
 -- its sequence number and its minimum are below 2^53
 pub record HasNumbersInRange (m : Message) : Type 0 where
-  pub seq : m.seq < 2 ^ 53
-  pub min : m.min < 2 ^ 53
+  pub seq : m.seq < number_limit
+  pub min : m.min < number_limit
 
 -- whether it is a whole number from -1 to 9007199254740991
 abbrev pub is_number : ℤ → Bool
-is_number z = is_within (negsuc 0) (pos (2 ^ 53 - 1)) z
+is_number z = is_within (negsuc 0) (pos (number_limit - 1)) z
 
 -- an operation is well formed, and another address is neither the text's nor the grid's
 abbrev pub IsWellFormedBody : Body → Type 0

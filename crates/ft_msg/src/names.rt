@@ -1,6 +1,6 @@
 //! The numbers of connections.
 
-ghost use Rattle.std.specs.Prelude.{◌≡◌, ◌↔◌, ◌-◌, ◌<◌, ◌^◌, IsTrue, IfOk, OnOk, OnErr, [], Contains, length, option_copied};
+ghost use Rattle.std.specs.Prelude.{◌≡◌, ◌↔◌, ◌-◌, ◌<◌, ◌^◌, IsOk, IsTrue, IfOk, OnOk, OnErr, [], Contains, length, option_copied};
 ghost use Rattle.ft_msg.specs.NameTable.{AreDistinct, name_at, names_after, number_of};
 
 use ft_base::{OutOfMemory, Text};
@@ -46,6 +46,7 @@ impl Names {
         ensures ok { IfOk result (λ n. n ≡ number_of self.old name.now) }
         ensures names { OnOk result (self.new ≡ names_after self.old name.now) }
         ensures err { OnErr result (self.new ≡ self.old) }
+        ensures room { Contains self.old name.now → IsOk result }
     {
         if let Some(place) = self.table.get_index_of(name.as_str()) {
             return Ok(place as u32 + 1);

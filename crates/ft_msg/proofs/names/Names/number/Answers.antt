@@ -54,3 +54,19 @@ returns-clause-names c =
     ∙ values-insert_entry es key c.self.invariant.0
     ∙ ap (names_after (values_of es)) (ap chars c.in_ok-key.ensures.ok ∙ c.as_str-2.ensures.characters)
     ∙ ap (λ names. names_after names c.args.name.now) c.self.view_is
+
+-- a name that has a number takes no room
+pub returns-in_err-key-clause-room : goal.returns-in_err-key-clause-room
+returns-in_err-key-clause-room c =
+    let new = absent-new c.self.inside.table.entries c.as_str.result.now c.args.name.now c.as_str.utf8 c.as_str.ensures.characters c.self.invariant.0 c.in_default.ensures.index in
+    λ h. absurd (new (subst (λ names. Contains names c.args.name.now) (sym c.self.view_is) h))
+
+pub returns-in_err-copy-clause-room : goal.returns-in_err-copy-clause-room
+returns-in_err-copy-clause-room c =
+    let new = absent-new c.self.inside.table.entries c.as_str.result.now c.args.name.now c.as_str.utf8 c.as_str.ensures.characters c.self.invariant.0 c.in_default.ensures.index in
+    λ h. absurd (new (subst (λ names. Contains names c.args.name.now) (sym c.self.view_is) h))
+
+pub returns-in_err-insert-clause-room : goal.returns-in_err-insert-clause-room
+returns-in_err-insert-clause-room c =
+    let new = absent-new c.self.inside.table.entries c.as_str.result.now c.args.name.now c.as_str.utf8 c.as_str.ensures.characters c.self.invariant.0 c.in_default.ensures.index in
+    λ h. absurd (new (subst (λ names. Contains names c.args.name.now) (sym c.self.view_is) h))
