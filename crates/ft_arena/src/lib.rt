@@ -10,6 +10,3 @@ pub mod numbers;
 pub use arena::Arena;
 pub use nodes::Node;
 pub use numbers::{Kids, NodeId};
-
-#[cfg(test)]
-mod tests;

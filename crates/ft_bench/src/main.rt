@@ -1,8 +1,9 @@
 //! Puts leaves into a tree of blocks and finds places in it, for a script that times it.
 //!
 //! The words are the number of leaves and the number of finds. Each leaf holds one element and is put
-//! in at a pseudo-random place, which is found first. Written are the two numbers, the length of the
-//! tree and how many places were found.
+//! in at a pseudo-random place, which is found first, by a sender who lags behind within a window of
+//! 100 sequence numbers; finds are by such perspectives too. Written are the two numbers, the length of
+//! the tree and how many places were found.
 #![tactic(auto)]
 
 mod trees;

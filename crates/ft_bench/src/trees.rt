@@ -1,11 +1,11 @@
-//! Insertions at pseudo-random places, and finds.
+//! Insertions at pseudo-random places by senders from all over a window, and finds.
 
-ghost use Rattle.std.specs.Prelude.{◌≡◌, ◌<◌, ◌≤◌, IsTrue, IfOk};
+ghost use Rattle.std.specs.Prelude.{◌≡◌, ◌+◌, ◌-◌, ◌<◌, ◌≤◌, IsTrue, IfOk};
 ghost use Rattle.ft_block.specs.Leaves.{IsPlaceIn, length_by};
 
 use crate::units::Unit;
 use ft_arena::NodeId;
-use ft_base::{OutOfMemory, Steps};
+use ft_base::{OutOfMemory, Perspective, Steps};
 use ft_block::{Blocks, LenView};
 use std::alloc::Global;
 use std::marker::Brand;
@@ -38,12 +38,34 @@ impl Numbers {
     }
 }
 
+/// How many sequence numbers are above the floor.
+const WINDOW: u64 = 100;
+
+/// How many connections take turns.
+const CONNECTIONS: u64 = 8;
+
+// The perspective of the n-th message's sender, who had seen all before it but some of the window.
+fn sender(n: u64) -> Perspective
+    ensures { n ≤ result.r + WINDOW }
+{
+    Perspective {
+        r: n.saturating_sub(n % WINDOW),
+        c: (n % CONNECTIONS) as u32 + 1,
+    }
+}
+
 // The leaf that holds the place, if it is not the head.
-fn leaf_with<G: Ledger>(blocks: &Blocks<Unit>, p: u64, steps: &mut Steps<G>) -> Option<NodeId>
-    requires { IsTrue blocks.now.usable }
+fn leaf_with<G: Ledger>(
+    blocks: &Blocks<Unit>,
+    p: u64,
+    at: Perspective,
+    steps: &mut Steps<G>,
+) -> Option<NodeId>
+    requires usable { IsTrue blocks.now.usable }
+    requires floor { blocks.now.floor ≤ at.r }
     ensures { IsPlaceIn blocks.now.leaves result }
 {
-    match blocks.find_local(p, steps) {
+    match blocks.find(p, at, steps) {
         Ok(found) => found.leaf,
         Err(_) => None,
     }
@@ -55,14 +77,19 @@ fn filled<G: Ledger>(
     leaves: u32,
     steps: &mut Steps<G>,
 ) -> Result<Blocks<Unit>, OutOfMemory>
-    ensures { IfOk result (λ blocks. IsTrue blocks.usable) }
+    ensures usable { IfOk result (λ blocks. IsTrue blocks.usable) }
+    ensures floor { IfOk result (λ blocks. blocks.floor ≤ leaves - WINDOW) }
 {
     let mut blocks = Blocks::new(alloc);
     let mut numbers = Numbers::new();
     for n in 0..leaves {
         let _first = blocks.first();
-        let at = leaf_with(&blocks, numbers.next() % (u64::from(n) + 1), steps);
-        blocks.insert_after(at, Unit::new(alloc))?;
+        let n = u64::from(n);
+        let at = sender(n);
+        let p = numbers.next() % (n + 1);
+        let after = leaf_with(&blocks, p, at, steps);
+        blocks.insert_after(after, Unit::new(alloc, n + 1, at.c))?;
+        blocks.raise_floor((n + 1).saturating_sub(WINDOW));
     }
     Ok(blocks)
 }
@@ -74,14 +101,16 @@ fn found_among<G: Ledger>(
     finds: u32,
     steps: &mut Steps<G>,
 ) -> u32
-    requires { IsTrue blocks.now.usable }
+    requires usable { IsTrue blocks.now.usable }
+    requires floor { blocks.now.floor ≤ leaves - WINDOW }
     ensures { result ≤ finds }
 {
     let mut numbers = Numbers::new();
     let mut found = 0;
     for _i in 0..finds {
-        let p = numbers.next() % (u64::from(leaves) + 1);
-        if blocks.find_local(p, steps).is_ok() {
+        let r = u64::from(leaves).saturating_sub(numbers.next() % WINDOW);
+        let p = numbers.next() % (r + 1);
+        if blocks.find(p, Perspective { r, c: 1 }, steps).is_ok() {
             found += 1;
         }
     }

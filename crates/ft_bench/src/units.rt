@@ -15,14 +15,14 @@ pub struct Unit {
 }
 
 impl Unit {
-    /// A run of one element that everybody sees. It takes no memory.
-    pub fn new(alloc: Global) -> Unit
+    /// A run of one element with this insertion. It takes no memory.
+    pub fn new(alloc: Global, seq: u64, conn: u32) -> Unit
         ensures { result.extra ≡ 0 }
     {
         Unit {
             extra: 0,
             element: Element {
-                ins: Stamp::Acked { seq: 0, conn: 0 },
+                ins: Stamp::Acked { seq, conn },
                 dels: Stamps::new(alloc),
             },
         }

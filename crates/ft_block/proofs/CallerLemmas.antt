@@ -1,12 +1,13 @@
 -- What callers can conclude from the clauses of `Blocks`.
-use Rattle.std.proofs.Common.{◌≡◌, ◌≢◌, ◌⊎◌, ℕ, zero, suc, ◌+◌, ◌-◌, ◌<◌, ◌≤◌, List, [], ◌∷◌, length, Option, Some, None, refl, sym, ap, subst, ◌∙◌, inl, inr, arith, cond, leb, eqb}
+use Rattle.std.proofs.Common.{◌≡◌, ◌≢◌, ℕ, ◌+◌, ◌-◌, ◌≤◌, List, [], ◌∷◌, length, Option, Some, None, IsSomeAnd, refl, sym, ap, subst, ◌∙◌, inl, inr, arith, leb, eqb}
 use Rattle.std.proofs.lemmas.Bool.{cases_eq, cases_lt, cond-true, cond-false, eq-eqb, ne_eqb, le-leb, lt-leb}
 use Rattle.std.specs.Option.{IfSome}
 use Rattle.ft_arena.specs.Ids.{same, times, first, after}
 use Rattle.ft_arena.proofs.IdLemmas.{same_refl, same_other}
 use Rattle.ft_block.proofs.PositionLemmas.{first_in, after_in}
+use Rattle.ft_block.proofs.LeafListLemmas.{value_after_is}
 use Rattle.ft_block.specs.declared.blocks.Found.{Found}
-use Rattle.ft_block.specs.Leaves.{IsLeafIn, IsPlaceIn, ids, times_leaf, length_by, place_from, place_by, put_leaf_after, put_leaf}
+use Rattle.ft_block.specs.Leaves.{IsLeafIn, IsPlaceIn, ids, times_leaf, value_at, value_after, length_by, place_from, place_by, put_leaf_after, put_leaf}
 
 module _ {L : Type 0} where
   -- a leaf stands among the leaves as often as its node among the nodes
@@ -94,3 +95,9 @@ module _ {L : Type 0} where
 
   pub after_is_in : (xs : List (ℕ × L)) (id next : ℕ) → after (ids xs) id ≡ Some next → IsLeafIn xs next
   after_is_in xs id next e = omega (arith, after_in (ids xs) id next e, times-ids xs next)
+
+  -- what holds of a leaf's value and of the next one's, as `join_next` asks it
+  pub joins_next : (xs : List (ℕ × L)) (id next : ℕ) (v w : L) → ((z : ℕ) → times_leaf xs z ≤ 1) → after (ids xs) id ≡ Some next → value_at xs id ≡ Some v → value_at xs next ≡ Some w → (P : L → L → Type 0) → P v w → IsSomeAnd (value_at xs id) (λ a. IsSomeAnd (value_after xs id) (λ b. P a b))
+  joins_next xs id next v w once e a b P h =
+      let there : value_after xs id ≡ Some w = sym (value_after_is xs id next once e) ∙ b in
+      subst (λ (o : Option L). IsSomeAnd o (λ a. IsSomeAnd (value_after xs id) (λ b. P a b))) (sym a) (subst (λ (o : Option L). IsSomeAnd o (λ b. P v b)) (sym there) h)

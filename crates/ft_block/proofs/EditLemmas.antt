@@ -62,6 +62,16 @@ pub total_same : (f g : ℕ → ℕ) (xs : List ℕ) → ((x : ℕ) → 1 ≤ ti
 total_same f g [] h = refl
 total_same f g (x ∷ xs) h = omega (arith, h x (omega (arith, same_refl x)), total_same f g xs (λ y m. h y (omega arith)))
 
+-- where only one number of the list has another value
+pub total_change : (f g : ℕ → ℕ) (xs : List ℕ) (at : ℕ) → times xs at ≡ 1 → ((x : ℕ) → 1 ≤ times xs x → x ≢ at → g x ≡ f x) → total g xs + f at ≡ total f xs + g at
+total_change f g [] at h o = absurd (omega arith)
+total_change f g (y ∷ ys) at h o = elim (cases_eq y at) [
+  | inl e ↦
+      let rest : total g ys ≡ total f ys = total_same f g ys (λ x m. o x (omega arith) (λ q. omega (arith, h, m, ap (times ys) q, ap (λ z. same z at) e, same_refl at))) in
+      omega (arith, rest, ap f e, ap g e)
+  | inr d ↦ omega (arith, total_change f g ys at (omega (arith, same_other y at d)) (λ x m n. o x (omega arith) n), o y (omega (arith, same_refl y)) d)
+]
+
 pub some_of : {X : Type 0} (o : Option X) → IsSome o → (x : X) × (o ≡ Some x)
 some_of None h = cc
 some_of (Some x) h = (x, refl)

@@ -14,7 +14,7 @@ use Rattle.ft_block.proofs.Levels.{points_some, points_at}
 use Rattle.ft_block.proofs.EditLemmas.{is_some_from, none_by}
 use Rattle.ft_block.proofs.KindLemmas.{kind_is_height, kind_is_block, kind_height, kind_live, kind_block, block_live, kind_from_values}
 
-module _ {L : Type 0} (a0 a1 a2 a3 s : Forest L Summary) (id top : ℕ) (leaf : L) (bare : (x : ℕ) → entry a0 x ≡ None) (no_leaves : a0.leaves ≡ []) (l1 : a1.leaves ≡ id ∷ a0.leaves) (c1 : Changes a0 a1 id (Some record { node = Leaf leaf; parent = None })) (l2 : a2.leaves ≡ a1.leaves) (f2 : entry a1 top ≡ None) (c2 : Changes a1 a2 top (Some record { node = Block [] record { height = 1; local = 0 }; parent = None })) (l3 : a3.leaves ≡ a2.leaves) (p3 : PutsChild a2 a3 top 0 id) (r : SameShape a3 s) where
+module _ {L : Type 0} (a0 a1 a2 a3 s : Forest L Summary) (id top : ℕ) (leaf : L) (z : Summary) (is_high : z.height ≡ 1) (bare : (x : ℕ) → entry a0 x ≡ None) (no_leaves : a0.leaves ≡ []) (l1 : a1.leaves ≡ id ∷ a0.leaves) (c1 : Changes a0 a1 id (Some record { node = Leaf leaf; parent = None })) (l2 : a2.leaves ≡ a1.leaves) (f2 : entry a1 top ≡ None) (c2 : Changes a1 a2 top (Some record { node = Block [] z; parent = None })) (l3 : a3.leaves ≡ a2.leaves) (p3 : PutsChild a2 a3 top 0 id) (r : SameShape a3 s) where
   o_apart : id ≢ top
   o_apart = λ e. cc (c1.changed, f2, ap (entry a1) e)
 
@@ -22,7 +22,7 @@ module _ {L : Type 0} (a0 a1 a2 a3 s : Forest L Summary) (id top : ℕ) (leaf : 
   o_kind x = r.kinds x ∙ kind_from_values (entry a2 x) (entry a3 x) (p3.leaf_values x) (p3.block_values x)
 
   o_kind_top : kind_of s top ≡ Some (Some 1)
-  o_kind_top = o_kind top ∙ ap kind_of_entry c2.changed
+  o_kind_top = o_kind top ∙ ap kind_of_entry c2.changed ∙ ap (λ (h : ℕ). Some (Some h)) is_high
 
   o_entry2 : entry a2 id ≡ Some record { node = Leaf leaf; parent = None }
   o_entry2 = c2.others id o_apart ∙ c1.changed
@@ -87,7 +87,7 @@ module _ {L : Type 0} (a0 a1 a2 a3 s : Forest L Summary) (id top : ℕ) (leaf : 
     | inr e ↦ e
   ]
 
-  o_shape : IsShape s top None
+  o_shape : IsShape s top None None
   o_shape =
       record {
         forest = r.forest;
@@ -97,7 +97,7 @@ module _ {L : Type 0} (a0 a1 a2 a3 s : Forest L Summary) (id top : ℕ) (leaf : 
         low = λ x live. elim (o_live x live) [ inl e ↦ omega (arith, ap (height_of s) e, o_height_id) | inr e ↦ omega (arith, ap (height_of s) e) ];
         heights = λ x b e. let q = o_parent x b e in omega (arith, ap (height_of s) q.0, ap (height_of s) q.1, o_height_id, o_height_top);
         high = λ b h. omega (arith, ap (height_of s) (o_block b h), o_height_top);
-        half_full = λ b h d. absurd (d (o_block b h));
+        half_full = λ b h d _. absurd (d (o_block b h));
         root_filled = omega (arith, ap length o_kids_top);
       }
 

@@ -30,7 +30,7 @@ total_part g f (y ∷ ys) b m = elim (cases_eq y b) [
   | inr d ↦ omega (arith, total-append g (f y) (flat_map f ys), total_part g f ys b (omega (arith, same_other y b d)))
 ]
 
-module _ {L : Type 0} (s : Forest L Summary) (root : ℕ) (extra : Option ℕ) (t : IsShape s root extra) where
+module _ {L : Type 0} (s : Forest L Summary) (root : ℕ) (extra : Option ℕ) {short : Option ℕ} (t : IsShape s root extra short) where
   up_from : (x : ℕ) → IsSome (entry s x) → x ≢ root → extra ≢ Some x → (b : ℕ) × (parent_of s x ≡ Some b) × (height_of s b ≡ height_of s x + 1) × IsSome (block_value s b)
   up_from x live d e =
       let b = some_of (parent_of s x) (t.one_top x live d e) in
@@ -55,10 +55,10 @@ module _ {L : Type 0} (s : Forest L Summary) (root : ℕ) (extra : Option ℕ) (
       let e : n + 1 ≡ suc n = omega arith in
       subst (λ (zs : List ℕ). 1 ≤ times zs x) (below-below s 1 n (root ∷ []) ∙ ap (λ (k : ℕ). below s k (root ∷ [])) e) m
 
-module _ {L : Type 0} (measure : Measure L) (s : Forest L Summary) (root : ℕ) (extra : Option ℕ) (t : IsShape s root extra) where
-  -- the children of a block are together no longer than all leaves, where the sums are right below it
-  pub kids_fit : (b : ℕ) → IsSome (block_value s b) → ((y : ℕ) → height_of s b ≤ height_of s y → extra ≢ Some y) → ((k : ℕ) → IsSome (block_value s k) → height_of s k < height_of s b → length_of measure s k ≡ total (length_of measure s) (kids_of s k)) → s.leaves ≡ below s (height_of s root) (root ∷ []) → total (length_of measure s) (kids_of s b) ≤ total (length_of measure s) s.leaves
-  kids_fit b block apart sums leaves =
+module _ {L : Type 0} (measure : Measure L) (s : Forest L Summary) (root : ℕ) (extra : Option ℕ) {short : Option ℕ} (t : IsShape s root extra short) where
+  -- the children of a block are together no longer than all leaves of the tree, where the sums are right below it
+  pub kids_fit : (b : ℕ) → IsSome (block_value s b) → ((y : ℕ) → height_of s b ≤ height_of s y → extra ≢ Some y) → ((k : ℕ) → IsSome (block_value s k) → height_of s k < height_of s b → length_of measure s k ≡ total (length_of measure s) (kids_of s k)) → total (length_of measure s) (kids_of s b) ≤ total (length_of measure s) (below s (height_of s root) (root ∷ []))
+  kids_fit b block apart sums =
       let f : ℕ → ℕ = length_of measure s in
       let live : IsSome (entry s b) = block_live (entry s b) block in
       let l : height_of s b ≤ height_of s root = t.low b live in
@@ -72,7 +72,7 @@ module _ {L : Type 0} (measure : Measure L) (s : Forest L Summary) (root : ℕ) 
       let part : total f (kids_of s b) ≤ total f (flat_map (kids_of s) (below s (height_of s root - height_of s b) (root ∷ []))) = total_part f (kids_of s) (below s (height_of s root - height_of s b) (root ∷ [])) b there in
       let sum : total f (below s (height_of s b - 1) (flat_map (kids_of s) (below s (height_of s root - height_of s b) (root ∷ [])))) ≡ total f (flat_map (kids_of s) (below s (height_of s root - height_of s b) (root ∷ []))) = total_below_up_to measure s root extra t (height_of s b - 1) (flat_map (kids_of s) (below s (height_of s root - height_of s b) (root ∷ []))) (λ k i m. sums k i (omega (arith, m, one))) high in
       let e : (height_of s root - height_of s b) + (1 + (height_of s b - 1)) ≡ height_of s root = omega (arith, l, one) in
-      let whole : below s (height_of s b - 1) (flat_map (kids_of s) (below s (height_of s root - height_of s b) (root ∷ []))) ≡ s.leaves = below-below s (height_of s b - 1) 1 (below s (height_of s root - height_of s b) (root ∷ [])) ∙ below-below s (1 + (height_of s b - 1)) (height_of s root - height_of s b) (root ∷ []) ∙ ap (λ (k : ℕ). below s k (root ∷ [])) e ∙ sym leaves in
+      let whole : below s (height_of s b - 1) (flat_map (kids_of s) (below s (height_of s root - height_of s b) (root ∷ []))) ≡ below s (height_of s root) (root ∷ []) = below-below s (height_of s b - 1) 1 (below s (height_of s root - height_of s b) (root ∷ [])) ∙ below-below s (1 + (height_of s b - 1)) (height_of s root - height_of s b) (root ∷ []) ∙ ap (λ (k : ℕ). below s k (root ∷ [])) e in
       omega (arith, part, sum, ap (total f) whole)
 
 module _ {L : Type 0} where

@@ -6,12 +6,13 @@ use Rattle.ft_arena.specs.Ids.{times, points, insert_after}
 use Rattle.ft_arena.specs.Forest.{Forest, entry, kids_of, parent_of, block_value, kids_of_entry, parent_of_entry}
 use Rattle.ft_arena.proofs.IdLemmas.{same_refl, same_other, times-append}
 use Rattle.ft_block.specs.declared.summaries.Summary.{Summary}
-use Rattle.ft_block.specs.Tree.{total, height_of, height_of_entry, Measure, length_of, below, IsShape, SumsBut, IsGrowing, IsTree, IsEdit}
+use Rattle.ft_block.specs.Tree.{total, height_of, height_of_entry, Measure, length_of, below, IsShape, SumsBut, Owes, OwesAt, OwesAbove, AreFromFloor, IsGrowing, IsTree, IsEdit, kind_of}
 use Rattle.ft_block.specs.Steps.{Resums, ResumsBoth, PutsAt, SplitsAt, RootsOver}
 use Rattle.ft_block.proofs.Levels.{AllHigh, points_some, points_at, live_from_parent, block_from_height, steps_down, root_high}
-use Rattle.ft_block.proofs.EditLemmas.{flat_map_same, flat_map-insert_after, insert_after_head, points_same, total_same, some_of, is_some_from, none_by, dead_apart, edit_member, edit-flat_map}
+use Rattle.ft_block.proofs.EditLemmas.{flat_map_same, flat_map-insert_after, insert_after_head, points_same, total_same, total_change, after_is_edit, some_of, is_some_from, none_by, dead_apart, edit_member, edit-flat_map}
 use Rattle.ft_block.proofs.LevelLemmas.{below-below, below_same, below_high}
-use Rattle.ft_block.proofs.KindLemmas.{kind_height, kind_live, kind_block, block_live, kind_is_height, kind_is_block}
+use Rattle.ft_block.proofs.KindLemmas.{kind_height, kind_live, kind_block, block_live, kind_is_height, kind_is_block, kind_from_values, length_from_values}
+use Rattle.ft_block.proofs.Lists.{total-append}
 
 module _ {L : Type 0} (s s' : Forest L Summary) (root at new p : ℕ) (step : ℕ) (ed : List ℕ → List ℕ) (E : IsEdit step ed at new) (g : IsGrowing s root at new ed) (up : parent_of s at ≡ Some p) (place : ℕ) (at_place : insert (kids_of s p) place new ≡ ed (kids_of s p)) where
   p_high : height_of s p ≡ height_of s at + 1
@@ -35,6 +36,10 @@ module _ {L : Type 0} (s s' : Forest L Summary) (root at new p : ℕ) (step : �
   at_once : (x : ℕ) → x ≢ p → times (kids_of s x) at ≡ 0
   at_once x d = g.shape.forest.child_once x at ∙ ap (λ o. points o x) up ∙ same_other p x (λ e. d (sym e))
 
+  -- a child of the block is lower
+  points_of_height : (x : ℕ) → 1 ≤ times (kids_of s p) x → height_of s p ≡ height_of s x + 1
+  points_of_height x m = steps_down s root (Some new) g.shape p x m
+
   -- each block's children, with the node after that one
   kids_after : (x : ℕ) → x ≢ p → ed (kids_of s x) ≡ kids_of s x
   kids_after x d = E.apart (kids_of s x) (at_once x d)
@@ -46,14 +51,17 @@ module _ {L : Type 0} (s s' : Forest L Summary) (root at new p : ℕ) (step : �
   ]
 
   module _ (r : PutsAt s s' p place new) where
+    put_kinds : (x : ℕ) → kind_of s' x ≡ kind_of s x
+    put_kinds x = kind_from_values (entry s x) (entry s' x) (r.leaf_values x) (r.block_values x)
+
     same_height : (x : ℕ) → height_of s' x ≡ height_of s x
-    same_height x = kind_height (entry s x) (entry s' x) (r.kinds x)
+    same_height x = kind_height (entry s x) (entry s' x) (put_kinds x)
 
     was_live : (x : ℕ) → IsSome (entry s' x) → IsSome (entry s x)
-    was_live x h = kind_live (entry s' x) (entry s x) (sym (r.kinds x)) h
+    was_live x h = kind_live (entry s' x) (entry s x) (sym (put_kinds x)) h
 
     was_block : (x : ℕ) → IsSome (block_value s' x) → IsSome (block_value s x)
-    was_block x h = kind_block (entry s' x) (entry s x) (sym (r.kinds x)) h
+    was_block x h = kind_block (entry s' x) (entry s x) (sym (put_kinds x)) h
 
     kids_times : (b x : ℕ) → x ≢ new → times (kids_of s' b) x ≡ times (kids_of s b) x
     kids_times b x d = elim (cases_eq b p) [
@@ -73,11 +81,11 @@ module _ {L : Type 0} (s s' : Forest L Summary) (root at new p : ℕ) (step : �
       | inr n ↦ omega (arith, ap length (r.other_kids b n))
     ]
 
-    pub put_shape : IsShape s' root None
+    pub put_shape : IsShape s' root None None
     put_shape =
         record {
           forest = r.forest;
-          root_is_block = kind_block (entry s root) (entry s' root) (r.kinds root) g.shape.root_is_block;
+          root_is_block = kind_block (entry s root) (entry s' root) (put_kinds root) g.shape.root_is_block;
           root_is_top = parents root (λ e. g.new_apart (sym e)) ∙ g.shape.root_is_top;
           one_top = λ x live d _. elim (cases_eq x new) [
             | inl e ↦ subst (λ (o : Option ℕ). IsSome o) (sym (ap (parent_of s') e ∙ parent_new)) refl
@@ -91,7 +99,7 @@ module _ {L : Type 0} (s s' : Forest L Summary) (root at new p : ℕ) (step : �
             | inr n ↦ omega (arith, same_height x, same_height b, g.shape.heights x b (sym (parents x n) ∙ e))
           ];
           high = λ b h. omega (arith, same_height b, g.shape.high b (was_block b h));
-          half_full = λ b h d. omega (arith, longer b, g.shape.half_full b (was_block b h) d);
+          half_full = λ b h d n. omega (arith, longer b, g.shape.half_full b (was_block b h) d n);
           root_filled = omega (arith, longer root, g.shape.root_filled);
         }
 
@@ -110,14 +118,31 @@ module _ {L : Type 0} (s s' : Forest L Summary) (root at new p : ℕ) (step : �
     pub put_tree : IsTree s' root
     put_tree = record { shape = put_shape; leaves = put_leaves }
 
-    module _ (measure : Measure L) (sums : SumsBut measure s (parent_of s at)) (u : Resums measure s s' p) where
-      pub put_sums : SumsBut measure s' (parent_of s' p)
-      put_sums b h stale = elim (cases_eq b p) [
-        | inl e ↦ subst (λ (z : ℕ). length_of measure s' z ≡ total (length_of measure s') (kids_of s' z)) (sym e) u.sum
-        | inr n ↦
-            let inside : (x : ℕ) → 1 ≤ times (kids_of s' b) x → x ≢ p = λ x m e. stale (ap (parent_of s') (sym e) ∙ points_some (parent_of s' x) b (omega (arith, r.forest.child_once b x))) in
-            u.others b n ∙ sums b (was_block b h) (λ e. n (cc (e, up))) ∙ ap (total (length_of measure s)) (sym (r.other_kids b n)) ∙ sym (total_same (length_of measure s) (length_of measure s') (kids_of s' b) (λ x m. u.others x (inside x m)))
-      ]
+    pub put_block : (b : ℕ) → Some p ≡ Some b → IsSome (block_value s' b)
+    put_block b e = let q : p ≡ b = cc e in subst (λ (z : ℕ). IsSome (block_value s' z)) q (kind_block (entry s p) (entry s' p) (put_kinds p) p_live)
+
+    -- the tables keep their floors
+    pub put_floors : (floor : ℕ) → AreFromFloor floor s → AreFromFloor floor s'
+    put_floors floor all x v e = all x v (sym (r.block_values x) ∙ e)
+
+    module _ (measure : Measure L) where
+      put_length : (x : ℕ) → length_of measure s' x ≡ length_of measure s x
+      put_length x = length_from_values measure (entry s x) (entry s' x) (r.leaf_values x) (r.block_values x)
+
+      put_total : (xs : List ℕ) → total (length_of measure s') xs ≡ total (length_of measure s) xs
+      put_total xs = total_same (length_of measure s) (length_of measure s') xs (λ x m. put_length x)
+
+      -- only the block that has the node now may have a wrong sum
+      pub put_sums : SumsBut measure s (parent_of s at) → SumsBut measure s' (Some p)
+      put_sums sums b h stale =
+          let n : b ≢ p = (λ e. stale (ap Some (sym e))) in
+          put_length b ∙ sums b (was_block b h) (λ e. n (cc (e, up))) ∙ sym (put_total (kids_of s b)) ∙ ap (total (length_of measure s')) (sym (r.other_kids b n))
+
+      -- and it owes as much as before
+      pub put_owes : (more less : ℕ) → OwesAbove measure s at ed more less → OwesAt measure s' (Some p) more less
+      put_owes more less owes b e =
+          let q : p ≡ b = cc e in
+          subst (λ (z : ℕ). Owes measure s' z (kids_of s' z) more less) q (omega (arith, put_length p, owes p up, ap (total (length_of measure s')) (r.kids ∙ at_place), put_total (ed (kids_of s p))))
 
   module _ (q : ℕ) (r : SplitsAt s s' p place new q) where
     sp_not_q : (x : ℕ) → IsSome (entry s x) → x ≢ q
@@ -178,7 +203,7 @@ module _ {L : Type 0} (s s' : Forest L Summary) (root at new p : ℕ) (step : �
     sp_live_old : (x b : ℕ) → parent_of s x ≡ Some b → x ≢ q
     sp_live_old x b e = sp_not_q x (live_from_parent (entry s x) b e)
 
-    pub split_shape : IsShape s' root (Some q)
+    pub split_shape : IsShape s' root (Some q) None
     split_shape =
         record {
           forest = r.forest;
@@ -226,11 +251,11 @@ module _ {L : Type 0} (s s' : Forest L Summary) (root at new p : ℕ) (step : �
             | inl e ↦ omega (arith, ap (height_of s') e, sp_q_height, p_high)
             | inr n ↦ omega (arith, sp_height b n, g.shape.high b (sp_was_block b n h))
           ];
-          half_full = λ b h d. elim (cases_eq b p) [
+          half_full = λ b h d _. elim (cases_eq b p) [
             | inl e ↦ subst (λ (z : ℕ). 4 ≤ length (kids_of s' z)) (sym e) r.front_many
             | inr n ↦ elim (cases_eq b q) [
               | inl e ↦ subst (λ (z : ℕ). 4 ≤ length (kids_of s' z)) (sym e) r.rear_many
-              | inr k ↦ omega (arith, ap length (r.other_kids b n k), g.shape.half_full b (sp_was_block b k h) d)
+              | inr k ↦ omega (arith, ap length (r.other_kids b n k), g.shape.half_full b (sp_was_block b k h) d (λ e. cc))
             ]
           ];
           root_filled = elim (cases_eq root p) [
@@ -276,9 +301,34 @@ module _ {L : Type 0} (s s' : Forest L Summary) (root at new p : ℕ) (step : �
         ]
       ]
 
+      -- the block above owes as much as that one did
+      pub split_owes : (more less : ℕ) → OwesAbove measure s at ed more less → OwesAbove measure s' p (λ xs. insert_after xs p q) more less
+      split_owes more less owes pp up' =
+          let f : ℕ → ℕ = length_of measure s in
+          let f' : ℕ → ℕ = length_of measure s' in
+          let high : height_of s' pp ≡ height_of s' p + 1 = split_shape.heights p pp up' in
+          let far : pp ≢ p = (λ e. omega (arith, high, ap (height_of s') e)) in
+          let not_q : pp ≢ q = (λ e. omega (arith, high, ap (height_of s') e, sp_q_height, sp_height p sp_p_not_q)) in
+          let kids : kids_of s' pp ≡ kids_of s pp = r.other_kids pp far not_q in
+          let one : times (kids_of s pp) p ≡ 1 = ap (λ ks. times ks p) (sym kids) ∙ r.forest.child_once pp p ∙ points_at (parent_of s' p) pp up' in
+          let is_block : IsSome (block_value s pp) = sp_was_block pp not_q (block_from_height (entry s' pp) (omega (arith, high))) in
+          let was : f pp ≡ total f (kids_of s pp) = sums pp is_block (λ e. far (cc (e, up))) in
+          let q_not_in : (x : ℕ) → 1 ≤ times (kids_of s pp) x → x ≢ q = λ x m e. absurd (omega (arith, m, ap (times (kids_of s pp)) e, g.shape.forest.child_once pp q, ap (λ o. points o pp) sp_q_alone)) in
+          let change = total_change f f' (kids_of s pp) p one (λ x m d. u.others x d (q_not_in x m)) in
+          let put = (after_is_edit p q).totals f' (kids_of s pp) one in
+          let member : (x : ℕ) → 1 ≤ times (ed (kids_of s p)) x → f' x ≡ f x = λ x m. u.others x (λ e. elim (edit_member step ed at new E (kids_of s p) x m) [
+            | inl l ↦ omega (arith, l, g.shape.forest.child_once p x, points_of_height x l, ap (height_of s) e)
+            | inr c ↦ omega (arith, ap (height_of s) c, g.level, p_high, ap (height_of s) e)
+          ]) (λ e. elim (edit_member step ed at new E (kids_of s p) x m) [
+            | inl l ↦ absurd (omega (arith, l, ap (times (kids_of s p)) e, g.shape.forest.child_once p q, ap (λ o. points o p) sp_q_alone))
+            | inr c ↦ absurd (sp_new_not_q (sym c ∙ e))
+          ]) in
+          let both : f' p + f' q ≡ total f (ed (kids_of s p)) = omega (arith, u.front_sum, u.rear_sum, total-append f' (kids_of s' p) (kids_of s' q), ap (total f') (r.kids ∙ at_place), total_same f f' (ed (kids_of s p)) member) in
+          omega (arith, u.others pp far not_q, was, change, put, both, owes p up, ap (λ ks. total f' (insert_after ks p q)) kids)
+
 module _ {L : Type 0} where
   -- a node without a parent that is not the one beside the tree is its root
-  pub top_is_root : (s : Forest L Summary) (root at new : ℕ) → IsShape s root (Some new) → IsSome (entry s at) → at ≢ new → parent_of s at ≡ None → at ≡ root
+  pub top_is_root : (s : Forest L Summary) (root at new : ℕ) → IsShape s root (Some new) None → IsSome (entry s at) → at ≢ new → parent_of s at ≡ None → at ≡ root
   top_is_root s root at new shape live apart top = elim (cases_eq at root) [
     | inl e ↦ e
     | inr d ↦ let b = some_of (parent_of s at) (shape.one_top at live d (λ e. apart (cc e))) in cc (b.1, top)
@@ -327,7 +377,7 @@ module _ {L : Type 0} (s s' : Forest L Summary) (root new t : ℕ) (g : IsGrowin
   rt_top_top : parent_of s' t ≡ None
   rt_top_top = rt_parents t (λ e. rt_root_not (sym e)) (λ e. rt_new_not (sym e)) ∙ ap parent_of_entry r.fresh
 
-  pub root_shape : IsShape s' t None
+  pub root_shape : IsShape s' t None None
   root_shape =
       record {
         forest = r.forest;
@@ -359,10 +409,10 @@ module _ {L : Type 0} (s s' : Forest L Summary) (root new t : ℕ) (g : IsGrowin
           | inl e ↦ omega (arith, ap (height_of s') e, rt_top_height)
           | inr n ↦ omega (arith, rt_height b n, g.shape.high b (rt_was_block b n h))
         ];
-        half_full = λ b h d.
+        half_full = λ b h d _.
             let four : 4 ≤ length (kids_of s b) = elim (cases_eq b root) [
               | inl e ↦ subst (λ (z : ℕ). 4 ≤ length (kids_of s z)) (sym e) (g.at_filled (g.shape.high root g.shape.root_is_block))
-              | inr n ↦ g.shape.half_full b (rt_was_block b d h) n
+              | inr n ↦ g.shape.half_full b (rt_was_block b d h) n (λ e. cc)
             ] in
             omega (arith, ap length (r.other_kids b d), four);
         root_filled = omega (arith, ap length r.kids);

@@ -6,16 +6,15 @@ use Rattle.ft_arena.specs.declared.nodes.Node.{Node}
 use Rattle.ft_arena.specs.declared.nodes.Node.TheVariants.{Leaf, Block}
 use Rattle.ft_arena.specs.Ids.{same, times, insert_after}
 use Rattle.ft_arena.specs.Forest.{Forest, Entry, IsForest, entry, kids_of, parent_of, block_value, leaf_value, leaf_of_entry, block_of_entry, kids_of_entry, kids_of_node, block_of_node, leaf_of_node, parent_of_entry}
-use Rattle.ft_arena.proofs.IdLemmas.{same_refl, same_other}
 use Rattle.ft_block.specs.declared.summaries.Summary.{Summary}
-use Rattle.ft_block.specs.Tree.{total, height_of, height_of_entry, height_of_node, Measure, length_of, length_of_entry, below, IsShape, SumsBut, IsGrowing, IsTree, IsEdit}
+use Rattle.ft_block.specs.Tree.{total, height_of, height_of_entry, height_of_node, Measure, length_of, length_of_entry, below, IsShape, SumsBut, OwesAt, OwesAbove, AreFromFloor, IsGrowing, IsTree, IsEdit}
 use Rattle.std.proofs.lemmas.List.{get_or_past, get_or-set_same, get_or-set_other}
 use Rattle.ft_arena.specs.Forest.{Changes, with_leaf, count_some}
 use Rattle.ft_arena.proofs.ArenaLemmas.{IsForest-other}
 use Rattle.ft_arena.proofs.KidLemmas.{kept}
 use Rattle.ft_block.specs.Steps.{InsertsLeaf, SplitsLeaf, ChangesLeaf}
-use Rattle.ft_block.proofs.Levels.{points_some, live_from_parent}
-use Rattle.ft_block.proofs.EditLemmas.{flat_map_same, total_same, some_of, is_some_from, dead_apart, after_is_edit}
+use Rattle.ft_block.proofs.Levels.{points_some, points_at, live_from_parent, block_from_height}
+use Rattle.ft_block.proofs.EditLemmas.{flat_map_same, total_same, total_change, some_of, is_some_from, dead_apart, after_is_edit}
 use Rattle.ft_block.proofs.KindLemmas.{block_live}
 use Rattle.ft_block.proofs.FitLemmas.{leaf_length}
 
@@ -27,7 +26,7 @@ leaf_height {L} (Some e) h = of_node e.node h
     of_node (Leaf v) h = refl
     of_node (Block ks v) h = cc
 
-leaf_kids : {L : Type 0} (o : Option (Entry L Summary)) (v : L) → leaf_of_entry o ≡ Some v → kids_of_entry o ≡ []
+pub leaf_kids : {L : Type 0} (o : Option (Entry L Summary)) (v : L) → leaf_of_entry o ≡ Some v → kids_of_entry o ≡ []
 leaf_kids {L} None v h = refl
 leaf_kids {L} (Some e) v h = of_node e.node h
   where
@@ -35,7 +34,7 @@ leaf_kids {L} (Some e) v h = of_node e.node h
     of_node (Leaf w) h = refl
     of_node (Block ks w) h = cc
 
-leaf_block : {L : Type 0} (o : Option (Entry L Summary)) (v : L) → leaf_of_entry o ≡ Some v → block_of_entry o ≡ None
+pub leaf_block : {L : Type 0} (o : Option (Entry L Summary)) (v : L) → leaf_of_entry o ≡ Some v → block_of_entry o ≡ None
 leaf_block {L} None v h = refl
 leaf_block {L} (Some e) v h = of_node e.node h
   where
@@ -59,8 +58,8 @@ module _ {L : Type 0} (s0 s1 : Forest L Summary) (room : s1 ≡ record s0 { spar
   below_room n zero xs = refl
   below_room n (suc j) xs = below_room n j (flat_map (kids_of s0) xs)
 
-  shape_room : (n root : ℕ) → IsShape s0 root None → IsShape (record s0 { spare = n }) root None
-  shape_room n root t =
+  shape_room : (n root : ℕ) (extra short : Option ℕ) → IsShape s0 root extra short → IsShape (record s0 { spare = n }) root extra short
+  shape_room n root extra short t =
       record {
         forest = record { leaf_once = t.forest.leaf_once; child_once = t.forest.child_once; few = t.forest.few };
         root_is_block = t.root_is_block;
@@ -74,10 +73,13 @@ module _ {L : Type 0} (s0 s1 : Forest L Summary) (room : s1 ≡ record s0 { spar
       }
 
   pub room_tree : (root : ℕ) → IsTree s0 root → IsTree s1 root
-  room_tree root t = subst (λ (z : Forest L Summary). IsTree z root) (sym room) record { shape = shape_room s1.spare root t.shape; leaves = t.leaves ∙ sym (below_room s1.spare (height_of s0 root) (root ∷ [])) }
+  room_tree root t = subst (λ (z : Forest L Summary). IsTree z root) (sym room) record { shape = shape_room s1.spare root None None t.shape; leaves = t.leaves ∙ sym (below_room s1.spare (height_of s0 root) (root ∷ [])) }
 
   pub room_sums : (measure : Measure L) → SumsBut measure s0 None → SumsBut measure s1 None
   room_sums measure sums = subst (λ (z : Forest L Summary). SumsBut measure z None) (sym room) (λ b h e. sums b h e)
+
+  pub room_floors : (floor : ℕ) → AreFromFloor floor s0 → AreFromFloor floor s1
+  room_floors floor all = subst (λ (z : Forest L Summary). AreFromFloor floor z) (sym room) (λ x v e. all x v e)
 
   pub room_values : (x : ℕ) → leaf_value s1 x ≡ leaf_value s0 x
   room_values x = ap (λ (s : Forest L Summary). leaf_value s x) room
@@ -135,7 +137,7 @@ module _ {L : Type 0} (s s' : Forest L Summary) (root at id step : ℕ) (ed : Li
           ];
           heights = λ x b e. omega (arith, in_heights x, in_heights b, t.shape.heights x b (sym (in_parents x) ∙ e));
           high = λ b h. omega (arith, in_heights b, t.shape.high b (in_was_block b h));
-          half_full = λ b h d. omega (arith, ap length (in_kids b), t.shape.half_full b (in_was_block b h) d);
+          half_full = λ b h d n. omega (arith, ap length (in_kids b), t.shape.half_full b (in_was_block b h) d n);
           root_filled = omega (arith, ap length (in_kids root), t.shape.root_filled);
         };
         new_live = is_some_from (entry s' id) _ c.changed;
@@ -173,6 +175,21 @@ module _ {L : Type 0} (s s' : Forest L Summary) (root at id step : ℕ) (ed : Li
         let inside : (x : ℕ) → 1 ≤ times (kids_of s b) x → x ≢ id = λ x m. dead_apart (entry s) x id (live_from_parent (entry s x) b (points_some (parent_of s x) b (omega (arith, m, t.shape.forest.child_once b x)))) fresh in
         ap (length_of_entry measure) (c.others b (dead_apart (entry s) b id (block_live (entry s b) block) fresh)) ∙ was_sums b block (λ e. stale (in_parents at ∙ e)) ∙ sym (total_same (length_of measure s) (length_of measure s') (kids_of s b) (λ x m. ap (length_of_entry measure) (c.others x (inside x m)))) ∙ ap (total (length_of measure s')) (sym (in_kids b))
 
+    -- its parent owes the new leaf besides what it owed before
+    pub leaf_owes : (more less : ℕ) → OwesAt measure s (parent_of s at) more less → OwesAbove measure s' at ed (more + measure.leaf leaf) less
+    leaf_owes more less owes p up =
+        let old : parent_of s at ≡ Some p = sym (in_parents at) ∙ up in
+        let inside : (x : ℕ) → 1 ≤ times (kids_of s p) x → x ≢ id = λ x m. dead_apart (entry s) x id (live_from_parent (entry s x) p (points_some (parent_of s x) p (omega (arith, m, t.shape.forest.child_once p x)))) fresh in
+        let kids : total (length_of measure s') (kids_of s p) ≡ total (length_of measure s) (kids_of s p) = total_same (length_of measure s) (length_of measure s') (kids_of s p) (λ x m. ap (length_of_entry measure) (c.others x (inside x m))) in
+        let block : length_of measure s' p ≡ length_of measure s p = ap (length_of_entry measure) (c.others p (dead_apart (entry s) p id (block_live (entry s p) (block_from_height (entry s p) (omega (arith, t.shape.heights at p old)))) fresh)) in
+        let one : times (kids_of s p) at ≡ 1 = t.shape.forest.child_once p at ∙ points_at (parent_of s at) p old in
+        let here : length_of measure s' id ≡ measure.leaf leaf = ap (length_of_entry measure) c.changed in
+        omega (arith, block, owes p old, kids, E.totals (length_of measure s') (kids_of s p) one, here, ap (λ ks. total (length_of measure s') (ed ks)) (in_kids p))
+
+  -- the tables keep their floors
+  pub leaf_floors : (floor : ℕ) → AreFromFloor floor s → AreFromFloor floor s'
+  leaf_floors floor all x v e = all x v (sym (in_blocks x) ∙ e)
+
   module _ (measure : Measure L) where
     -- all leaves together are as much longer as the new one is long
     pub leaf_fits : total (length_of measure s') s'.leaves ≡ total (length_of measure s) s.leaves + measure.leaf leaf
@@ -186,16 +203,6 @@ module _ {L : Type 0} (s s' : Forest L Summary) (root at id step : ℕ) (ed : Li
         counts : (o : Option L) → IsSome o → count_some o ≡ 1
         counts None h = cc
         counts (Some v) h = refl
-
--- where only one number of the list has another value
-pub total_change : (f g : ℕ → ℕ) (xs : List ℕ) (at : ℕ) → times xs at ≡ 1 → ((x : ℕ) → 1 ≤ times xs x → x ≢ at → g x ≡ f x) → total g xs + f at ≡ total f xs + g at
-total_change f g [] at h o = absurd (omega arith)
-total_change f g (y ∷ ys) at h o = elim (cases_eq y at) [
-  | inl e ↦
-      let rest : total g ys ≡ total f ys = total_same f g ys (λ x m. o x (omega arith) (λ q. omega (arith, h, m, ap (times ys) q, ap (λ z. same z at) e, same_refl at))) in
-      omega (arith, rest, ap f e, ap g e)
-  | inr d ↦ omega (arith, total_change f g ys at (omega (arith, same_other y at d)) (λ x m n. o x (omega arith) n), o y (omega (arith, same_refl y)) d)
-]
 
 -- a leaf that has another value
 module _ {L : Type 0} (s : Forest L Summary) (root at : ℕ) (v w : L) (t : IsTree s root) (found : leaf_value s at ≡ Some v) where
@@ -262,7 +269,7 @@ module _ {L : Type 0} (s : Forest L Summary) (root at : ℕ) (v w : L) (t : IsTr
   pub changed_heights : (x : ℕ) → height_of ch_s x ≡ height_of s x
   changed_heights = ch_heights
 
-  pub changed_shape : IsShape ch_s root None
+  pub changed_shape : IsShape ch_s root None None
   changed_shape =
       record {
         forest = changed_forest;
@@ -272,12 +279,16 @@ module _ {L : Type 0} (s : Forest L Summary) (root at : ℕ) (v w : L) (t : IsTr
         low = λ x live. omega (arith, ch_heights x, ch_heights root, t.shape.low x (ch_live x live));
         heights = λ x b e. omega (arith, ch_heights x, ch_heights b, t.shape.heights x b (sym (ch_parents x) ∙ e));
         high = λ b h. omega (arith, ch_heights b, t.shape.high b (ch_block b h));
-        half_full = λ b h d. omega (arith, ap length (ch_kids b), t.shape.half_full b (ch_block b h) d);
+        half_full = λ b h d n. omega (arith, ap length (ch_kids b), t.shape.half_full b (ch_block b h) d n);
         root_filled = omega (arith, ap length (ch_kids root), t.shape.root_filled);
       }
 
   pub changed_leaves : ch_s.leaves ≡ below ch_s (height_of ch_s root) (root ∷ [])
   changed_leaves = t.leaves ∙ sym (ch_below (height_of s root) (root ∷ [])) ∙ ap (λ (n : ℕ). below ch_s n (root ∷ [])) (sym (ch_heights root))
+
+  -- the tables keep their floors
+  pub changed_floors : (floor : ℕ) → AreFromFloor floor s → AreFromFloor floor ch_s
+  changed_floors floor all x u e = all x u (sym (ch_blocks x) ∙ e)
 
   -- a tree stays a tree
   pub changed_tree : IsTree ch_s root
@@ -300,6 +311,17 @@ module _ {L : Type 0} (s : Forest L Summary) (root at : ℕ) (v w : L) (t : IsTr
         let inside : (x : ℕ) → 1 ≤ times (kids_of s b) x → x ≢ at = λ x m e. stale (ch_parents at ∙ ap (parent_of s) (sym e) ∙ points_some (parent_of s x) b (omega (arith, m, t.shape.forest.child_once b x))) in
         let apart : b ≢ at = (λ e. let q = some_of (block_value ch_s b) h in let n : block_value ch_s at ≡ None = ap block_of_entry ch_changes.changed in cc (n, ap (λ z. block_value ch_s z) e, q.1)) in
         ap (length_of_entry measure) (ch_changes.others b apart) ∙ was_sums b (ch_block b h) (λ e. cc) ∙ sym (total_same (length_of measure s) (length_of measure ch_s) (kids_of s b) (λ x m. ap (length_of_entry measure) (ch_changes.others x (inside x m)))) ∙ ap (total (length_of measure ch_s)) (sym (ch_kids b))
+
+    -- the parent owes the new length, and has the old one too much
+    pub changed_owes : OwesAt measure ch_s (parent_of ch_s at) (measure.leaf w) (measure.leaf v)
+    changed_owes p up =
+        let old : parent_of s at ≡ Some p = sym (ch_parents at) ∙ up in
+        let is_block : IsSome (block_value s p) = block_from_height (entry s p) (omega (arith, t.shape.heights at p old)) in
+        let apart : p ≢ at = (λ e. let q = some_of (block_value s p) is_block in cc (leaf_block (entry s at) v found, ap (block_value s) e, q.1)) in
+        let one : times (kids_of s p) at ≡ 1 = t.shape.forest.child_once p at ∙ points_at (parent_of s at) p old in
+        let change = total_change (length_of measure s) (length_of measure ch_s) (kids_of s p) at one (λ x m d. ap (length_of_entry measure) (ch_changes.others x d)) in
+        let now : length_of measure ch_s at ≡ measure.leaf w = ap (length_of_entry measure) ch_changes.changed in
+        omega (arith, ap (length_of_entry measure) (ch_changes.others p apart), was_sums p is_block (λ e. cc), change, now, leaf_length measure (entry s at) v found, ap (total (length_of measure ch_s)) (ch_kids p))
 
     -- no sum is wrong where the length of the leaf stays
     pub changed_sums_same : measure.leaf w ≡ measure.leaf v → SumsBut measure ch_s None
@@ -340,6 +362,25 @@ module _ {L : Type 0} (s s' : Forest L Summary) (root at id : ℕ) (v w rest : L
     pub cut_sums : SumsBut measure s' (parent_of s' at)
     cut_sums = leaf_sums (with_leaf s at w) s' root at id 1 (λ xs. insert_after xs at id) (after_is_edit at id) rest cut_tree cut_leaf fresh c leaves forest measure (changed_sums s root at v w t found measure was_sums)
 
+    pub cut_owes : measure.leaf w + measure.leaf rest ≡ measure.leaf v → OwesAbove measure s' at (λ xs. insert_after xs at id) (measure.leaf v) (measure.leaf v)
+    cut_owes parts = subst (λ (n : ℕ). OwesAbove measure s' at (λ xs. insert_after xs at id) n (measure.leaf v)) parts (leaf_owes (with_leaf s at w) s' root at id 1 (λ xs. insert_after xs at id) (after_is_edit at id) rest cut_tree cut_leaf fresh c leaves forest measure (changed_sums s root at v w t found measure was_sums) (measure.leaf w) (measure.leaf v) (changed_owes s root at v w t found measure was_sums))
+
+  pub cut_floors : (floor : ℕ) → AreFromFloor floor s → AreFromFloor floor s'
+  cut_floors floor all = leaf_floors (with_leaf s at w) s' root at id 1 (λ xs. insert_after xs at id) (after_is_edit at id) rest cut_tree cut_leaf fresh c leaves forest floor (changed_floors s root at v w t found floor all)
+
   module _ (measure : Measure L) where
     pub cut_total : measure.leaf w + measure.leaf rest ≡ measure.leaf v → total (length_of measure s') s'.leaves ≡ total (length_of measure s) s.leaves
     cut_total parts = omega (arith, leaf_fits (with_leaf s at w) s' root at id 1 (λ xs. insert_after xs at id) (after_is_edit at id) rest cut_tree cut_leaf fresh c leaves forest measure, changed_total s root at v w t found measure, parts)
+
+module _ {L : Type 0} (measure : Measure L) (s : Forest L Summary) where
+  -- where all sums are right nothing is owed
+  pub nothing_owed : SumsBut measure s None → (root : ℕ) → IsTree s root → (at : ℕ) → OwesAt measure s (parent_of s at) 0 0
+  nothing_owed sums root t at p up = omega (arith, sums p (block_from_height (entry s p) (omega (arith, t.shape.heights at p up))) (λ e. cc))
+
+  -- and where nothing is owed all sums are right
+  pub all_settled : (stale : Option ℕ) (n : ℕ) → SumsBut measure s stale → OwesAt measure s stale n n → SumsBut measure s None
+  all_settled None n sums owes b h _ = sums b h (λ e. cc)
+  all_settled (Some q) n sums owes b h _ = elim (cases_eq q b) [
+    | inl e ↦ omega (arith, owes b (ap Some e))
+    | inr d ↦ sums b h (λ e. d (cc))
+  ]

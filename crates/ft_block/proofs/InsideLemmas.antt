@@ -3,20 +3,23 @@ use Rattle.std.proofs.Common.{All, ◌≡◌, ◌≢◌, ℕ, ◌+◌, ◌^◌, 
 use Rattle.std.proofs.lemmas.Bool.{cond-false, ne_eqb}
 use Rattle.std.proofs.lemmas.List.Elements.{All-nil, All-cons}
 use Rattle.ft_base.specs.declared.elements.Element.{Element}
-use Rattle.ft_arena.specs.Ids.{times, put_after}
+use Rattle.ft_arena.specs.Ids.{times, put_after, without}
 use Rattle.ft_arena.specs.Forest.{Forest, IsForest, IsPlace, leaf_value, count_some}
 use Rattle.ft_arena.proofs.ArenaLemmas.{count_some_le}
 use Rattle.ft_block.specs.declared.summaries.Summary.{Summary}
 use Rattle.ft_block.specs.declared.blocks.Blocks.TheInside.{Inside}
-use Rattle.ft_block.specs.Leaves.{LeafList, IsLeafIn, IsPlaceIn, ids, times_leaf, value_at, length_by, place_from, place_by, left_of, put_leaf, change_leaf, split_leaf}
+use Rattle.ft_block.specs.declared.leaves.LenView.{LenView}
+use Rattle.ft_block.specs.Leaves.{LeafList, IsFromFloor, IsLeafIn, IsPlaceIn, ids, times_leaf, value_at, length_by, place_from, place_by, left_of, put_leaf, change_leaf, split_leaf, without_leaf, move_leaf}
 use Rattle.ft_block.specs.Inside.{pair_of, pairs_of, depth_of, view_of, IsRooted, IsSound, IsSoundIfUsable}
-use Rattle.ft_block.specs.Tree.{Measure, length_of, total, seek, before, by_size}
-use Rattle.ft_block.specs.Steps.{InsertsLeaf, SplitsLeaf, ChangesLeaf}
+use Rattle.ft_block.specs.Tree.{Measure, IsTree, IsKept, length_of, total, seek, before, by_size}
+use Rattle.ft_block.specs.Steps.{InsertsLeaf, SplitsLeaf, ChangesLeaf, TakesLeaf, MovesLeaf}
 use Rattle.ft_block.proofs.FitLemmas.{AllLeaves, leaves_live}
 use Rattle.ft_block.proofs.Levels.{depth_bound}
 use Rattle.ft_block.proofs.PositionLemmas.{times-before_le}
 use Rattle.ft_block.proofs.SoundLemmas.{rooted_forest}
-use Rattle.ft_block.proofs.LeafListLemmas.{to_found, to_found_some, length-pairs, ids-pairs, length_by-pairs, place_from-pairs, times-pairs, value_at-pairs, value_at_in, left_of-pairs, pairs-put, pairs-change, pairs-split}
+use Rattle.ft_block.proofs.LeafListLemmas.{to_found, to_found_some, length-pairs, ids-pairs, length_by-pairs, place_from-pairs, times-pairs, value_at-pairs, value_at_in, left_of-pairs, pairs-put, pairs-change, pairs-split, pairs-without}
+use Rattle.ft_block.proofs.EditLemmas.{some_of}
+use Rattle.ft_block.proofs.WithoutLemmas.{times-without_le}
 
 rooted_depth : {L : Type 0} (s : Forest L Summary) (root : Option ℕ) → IsRooted s root → 4 ^ depth_of s root ≤ length s.leaves + 1
 rooted_depth s None t = omega arith
@@ -34,8 +37,21 @@ all_filled size s [] h = All-nil (λ x. 1 ≤ size x.1)
 all_filled size s (x ∷ xs) h = one_filled size x (leaf_value s x) (pairs_of s xs) (h x) (all_filled size s xs h)
 
 module _ {L Change : Type 0} (size : L → ℕ) (element : L → Element) (a : Inside L Change) (v : LeafList L) (is : view_of a ≡ v) (inv : IsSoundIfUsable size element a) (usable : IsTrue v.usable) where
-  pub in_sound : IsSound size element a.arena a.root
+  pub in_sound : IsSound size element a.floor a.arena a.root
   in_sound = inv (subst (λ (w : LeafList L). IsTrue w.usable) (sym is) usable)
+
+  pub in_floor : v.floor ≡ a.floor
+  in_floor = ap (λ (w : LeafList L). w.floor) (sym is)
+
+  -- the floor that callers see is the one that is kept
+  pub in_kept : (view : LenView) → IsKept v.floor view → IsKept a.floor view
+  in_kept view k = subst (λ (n : ℕ). IsKept n view) in_floor k
+
+  pub in_from : (view : LenView) → IsFromFloor v.floor view → IsFromFloor a.floor view
+  in_from view k = subst (λ (n : ℕ). IsFromFloor n view) in_floor k
+
+  pub in_tree : (root : ℕ) → a.root ≡ Some root → IsTree a.arena root
+  in_tree root e = subst (λ (o : Option ℕ). IsRooted a.arena o) e in_sound.rooted
 
   pub in_forest : IsForest a.arena
   in_forest = rooted_forest a.arena a.root in_sound.rooted
@@ -106,3 +122,13 @@ module _ {L Change : Type 0} (size : L → ℕ) (element : L → Element) (a : I
 
   pub in_some : All (λ x. 1 ≤ size x.1) v.leaves
   in_some = subst (λ (ps : List (ℕ × L)). All (λ x. 1 ≤ size x.1) ps) (sym in_leaves) (all_filled size a.arena a.arena.leaves in_sound.filled)
+
+  pub in_take : (new : Forest L Summary) (leaf : ℕ) (value : L) → TakesLeaf a.arena new leaf value → pairs_of new new.leaves ≡ without_leaf v.leaves leaf
+  in_take new leaf value i = ap (pairs_of new) i.leaves ∙ pairs-without a.arena new a.arena.leaves leaf in_live (λ x m d. i.others x d) ∙ ap (λ (ps : List (ℕ × L)). without_leaf ps leaf) (sym in_leaves)
+
+  pub in_move : (new : Forest L Summary) (leaf : ℕ) (at : Option ℕ) → IsLeafIn v.leaves leaf → MovesLeaf a.arena new leaf at → pairs_of new new.leaves ≡ move_leaf v.leaves leaf at (value_at v.leaves leaf)
+  in_move new leaf at there i =
+      let w = some_of (leaf_value a.arena leaf) (in_leaf leaf there) in
+      let now : value_at v.leaves leaf ≡ Some w.0 = in_value leaf there ∙ w.1 in
+      let all : AllLeaves new (without a.arena.leaves leaf) = λ x m. subst (λ (o : Option L). IsSome o) (sym (i.values x)) (in_live x (omega (arith, m, times-without_le a.arena.leaves leaf x))) in
+      ap (pairs_of new) i.leaves ∙ pairs-put new new (without a.arena.leaves leaf) at leaf w.0 all (λ x m. refl) (i.values leaf ∙ w.1) ∙ ap (λ (ps : List (ℕ × L)). put_leaf ps at (leaf, w.0)) (pairs-without a.arena new a.arena.leaves leaf in_live (λ x m d. i.values x) ∙ ap (λ (ps : List (ℕ × L)). without_leaf ps leaf) (sym in_leaves)) ∙ sym (ap (move_leaf v.leaves leaf at) now)

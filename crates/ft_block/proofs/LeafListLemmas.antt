@@ -1,13 +1,13 @@
 -- What callers see of the leaves of a tree: from nodes to nodes with their values.
 use Rattle.std.proofs.Common.{◌≡◌, ◌≢◌, ℕ, ◌+◌, ◌-◌, ◌≤◌, List, [], ◌∷◌, length, Option, Some, None, IsSomeAnd, Bool, true, false, refl, sym, ap, subst, ◌∙◌, inl, inr, arith, cond, leb, eqb}
 use Rattle.std.proofs.lemmas.Bool.{cases_eq, cond-true, cond-false, eq-eqb, ne_eqb}
-use Rattle.ft_arena.specs.Ids.{same, times, insert_after, put_after}
+use Rattle.ft_arena.specs.Ids.{same, times, insert_after, put_after, without, first, after}
 use Rattle.ft_arena.specs.Forest.{Forest, entry, leaf_value}
 use Rattle.ft_arena.proofs.IdLemmas.{same_refl, same_other}
-use Rattle.ft_arena.proofs.RingLemmas.{insert_after_later}
+use Rattle.ft_arena.proofs.RingLemmas.{insert_after_later, without_here, without_later}
 use Rattle.ft_block.specs.declared.summaries.Summary.{Summary}
 use Rattle.ft_block.specs.declared.blocks.Found.{Found}
-use Rattle.ft_block.specs.Leaves.{ids, times_leaf, value_at, length_by, place_from, left_of, put_leaf_after, put_leaf, change_leaf, split_leaf}
+use Rattle.ft_block.specs.Leaves.{ids, times_leaf, value_at, length_by, place_from, left_of, put_leaf_after, put_leaf, change_leaf, split_leaf, without_leaf, first_value, value_after, join_first, join_leaf}
 use Rattle.ft_block.specs.Inside.{pair_of, pairs_of}
 use Rattle.ft_block.specs.Tree.{Measure, length_of, total, seek, before}
 use Rattle.ft_block.proofs.EditLemmas.{some_of, insert_after_head}
@@ -26,6 +26,9 @@ to_found_some x q = refl
 to_found_none : to_found None ≡ None
 unfolding to_found
 to_found_none = refl
+
+after_later : (y : ℕ) (xs : List ℕ) (x : ℕ) → y ≢ x → after (y ∷ xs) x ≡ after xs x
+after_later y xs x d = cond-false (eqb y x) _ _ (ne_eqb y x d)
 
 abbrev found_at : ℕ → ℕ → Option Found
 found_at x p = Some record { leaf = Some x; offset = p }
@@ -185,3 +188,149 @@ module _ {L : Type 0} where
         | inr d ↦
             ap (pairs_of s') (insert_after_later y ys at new d) ∙ pairs_cons s' y (insert_after ys at new) v.0 (h y (omega (arith, same_refl y)) d ∙ v.1) ∙ ap (λ (zs : List (ℕ × L)). (y, v.0) ∷ zs) rest ∙ sym (ap (λ zs. split_leaf front rear zs at new) (pairs_cons s y ys v.0 v.1) ∙ split_later front rear y v.0 (pairs_of s ys) at new d)
       ]
+
+  without_leaf_here : (x : ℕ) (v : L) (ps : List (ℕ × L)) → without_leaf ((x, v) ∷ ps) x ≡ without_leaf ps x
+  without_leaf_here x v ps = cond-true (eqb x x) _ _ (eq-eqb x x refl)
+
+  without_leaf_later : (y : ℕ) (v : L) (ps : List (ℕ × L)) (x : ℕ) → y ≢ x → without_leaf ((y, v) ∷ ps) x ≡ (y, v) ∷ without_leaf ps x
+  without_leaf_later y v ps x d = cond-false (eqb y x) _ _ (ne_eqb y x d)
+
+  -- a leaf that is taken out of the list is taken out of the leaves
+  pub pairs-without : (s s' : Forest L Summary) (xs : List ℕ) (x : ℕ) → AllLeaves s xs → ((z : ℕ) → 1 ≤ times xs z → z ≢ x → leaf_value s' z ≡ leaf_value s z) → pairs_of s' (without xs x) ≡ without_leaf (pairs_of s xs) x
+  pairs-without s s' [] x a h = refl
+  pairs-without s s' (y ∷ ys) x a h =
+      let v = head_value s y ys a in
+      let rest = pairs-without s s' ys x (λ z m. a z (omega arith)) (λ z m d. h z (omega arith) d) in
+      let old : pairs_of s (y ∷ ys) ≡ (y, v.0) ∷ pairs_of s ys = pairs_cons s y ys v.0 v.1 in
+      elim (cases_eq y x) [
+        | inl e ↦ ap (pairs_of s') (subst (λ (z : ℕ). without (y ∷ ys) z ≡ without ys z) e (without_here ys y)) ∙ rest ∙ sym (ap (λ zs. without_leaf zs x) old ∙ subst (λ (z : ℕ). without_leaf ((y, v.0) ∷ pairs_of s ys) z ≡ without_leaf (pairs_of s ys) z) e (without_leaf_here y v.0 (pairs_of s ys)))
+        | inr d ↦ ap (pairs_of s') (without_later y ys x d) ∙ pairs_cons s' y (without ys x) v.0 (h y (omega (arith, same_refl y)) d ∙ v.1) ∙ ap (λ (zs : List (ℕ × L)). (y, v.0) ∷ zs) rest ∙ sym (ap (λ zs. without_leaf zs x) old ∙ without_leaf_later y v.0 (pairs_of s ys) x d)
+      ]
+
+  without_leaf_none : (ps : List (ℕ × L)) (x : ℕ) → times_leaf ps x ≡ 0 → without_leaf ps x ≡ ps
+  without_leaf_none [] x h = refl
+  without_leaf_none (p ∷ ps) x h =
+      let d : p.0 ≢ x = (λ e. omega (arith, h, ap (λ z. same z x) e, same_refl x)) in
+      without_leaf_later p.0 p.1 ps x d ∙ ap (λ (zs : List (ℕ × L)). p ∷ zs) (without_leaf_none ps x (omega arith))
+
+  change_none : (f : L → L) (ps : List (ℕ × L)) (x : ℕ) → times_leaf ps x ≡ 0 → change_leaf f ps x ≡ ps
+  change_none f [] x h = refl
+  change_none f (p ∷ ps) x h =
+      let d : p.0 ≢ x = (λ e. omega (arith, h, ap (λ z. same z x) e, same_refl x)) in
+      change_later f p.0 p.1 ps x d ∙ ap (λ (zs : List (ℕ × L)). p ∷ zs) (change_none f ps x (omega arith))
+
+  first_is_in : (ps : List (ℕ × L)) (n : ℕ) → first (ids ps) ≡ Some n → 1 ≤ times_leaf ps n
+  first_is_in [] n e = cc e
+  first_is_in (p ∷ ps) n e = let q : p.0 ≡ n = cc e in omega (arith, ap (λ z. same z n) q, same_refl n)
+
+  -- what is after another stands there
+  pub after_is_in : (ps : List (ℕ × L)) (x n : ℕ) → after (ids ps) x ≡ Some n → 1 ≤ times_leaf ps n
+  after_is_in [] x n e = cc e
+  after_is_in (p ∷ ps) x n e = elim (cases_eq p.0 x) [
+    | inl q ↦ omega (arith, first_is_in ps n (sym (cond-true (eqb p.0 x) (first (ids ps)) (after (ids ps) x) (eq-eqb p.0 x q)) ∙ e))
+    | inr d ↦ omega (arith, after_is_in ps x n (sym (after_later p.0 (ids ps) x d) ∙ e))
+  ]
+
+  value_after_here : (x : ℕ) (v : L) (ps : List (ℕ × L)) → value_after ((x, v) ∷ ps) x ≡ first_value ps
+  value_after_here x v ps = cond-true (eqb x x) _ _ (eq-eqb x x refl)
+
+  value_after_later : (y : ℕ) (v : L) (ps : List (ℕ × L)) (x : ℕ) → y ≢ x → value_after ((y, v) ∷ ps) x ≡ value_after ps x
+  value_after_later y v ps x d = cond-false (eqb y x) _ _ (ne_eqb y x d)
+
+  -- the value after a leaf is that of the node after it
+  pub value_after_is : (ps : List (ℕ × L)) (x n : ℕ) → ((z : ℕ) → times_leaf ps z ≤ 1) → after (ids ps) x ≡ Some n → value_at ps n ≡ value_after ps x
+  value_after_is [] x n o e = cc e
+  value_after_is (p ∷ []) x n o e = elim (cases_eq p.0 x) [
+    | inl q ↦ let a : None ≡ Some n = sym (cond-true (eqb p.0 x) (first []) (after [] x) (eq-eqb p.0 x q)) ∙ e in cc a
+    | inr d ↦ let a : None ≡ Some n = sym (after_later p.0 [] x d) ∙ e in cc a
+  ]
+  value_after_is (p ∷ r ∷ ps) x n o e = elim (cases_eq p.0 x) [
+    | inl q ↦
+        let h : Some r.0 ≡ Some n = sym (cond-true (eqb p.0 x) (first (ids (r ∷ ps))) (after (ids (r ∷ ps)) x) (eq-eqb p.0 x q)) ∙ e in
+        let b : r.0 ≡ n = cc h in
+        let d : p.0 ≢ n = (λ c. omega (arith, o n, ap (λ w. same w n) c, ap (λ w. same w n) b, same_refl n)) in
+        value_later p.0 p.1 (r ∷ ps) n d ∙ subst (λ (z : ℕ). value_at (r ∷ ps) z ≡ Some r.1) b (value_here r.0 r.1 ps) ∙ sym (cond-true (eqb p.0 x) (first_value (r ∷ ps)) (value_after (r ∷ ps) x) (eq-eqb p.0 x q))
+    | inr k ↦
+        let later : after (ids (r ∷ ps)) x ≡ Some n = sym (after_later p.0 (ids (r ∷ ps)) x k) ∙ e in
+        let d : p.0 ≢ n = (λ c. omega (arith, o n, ap (λ w. same w n) c, same_refl n, after_is_in (r ∷ ps) x n later)) in
+        value_later p.0 p.1 (r ∷ ps) n d ∙ value_after_is (r ∷ ps) x n (λ z. omega (arith, o z)) later ∙ sym (value_after_later p.0 p.1 (r ∷ ps) x k)
+  ]
+
+  -- a leaf joined with the next one, which is taken out
+  pub join_from : (f : L → L → L) (ps : List (ℕ × L)) (x n : ℕ) (w : L) → ((z : ℕ) → times_leaf ps z ≤ 1) → after (ids ps) x ≡ Some n → value_after ps x ≡ Some w → change_leaf (λ v. f v w) (without_leaf ps n) x ≡ join_leaf f ps x
+  join_from f [] x n w o e h = cc e
+  join_from f (p ∷ []) x n w o e h = elim (cases_eq p.0 x) [
+    | inl q ↦ let a : None ≡ Some n = sym (cond-true (eqb p.0 x) (first []) (after [] x) (eq-eqb p.0 x q)) ∙ e in cc a
+    | inr d ↦ let a : None ≡ Some n = sym (after_later p.0 [] x d) ∙ e in cc a
+  ]
+  join_from f (p ∷ r ∷ ps) x n w o e h = elim (cases_eq p.0 x) [
+    | inl q ↦
+        let t = eq-eqb p.0 x q in
+        let h1 : Some r.0 ≡ Some n = sym (cond-true (eqb p.0 x) (first (ids (r ∷ ps))) (after (ids (r ∷ ps)) x) t) ∙ e in
+        let b : r.0 ≡ n = cc h1 in
+        let h2 : Some r.1 ≡ Some w = sym (cond-true (eqb p.0 x) (first_value (r ∷ ps)) (value_after (r ∷ ps) x) t) ∙ h in
+        let c : r.1 ≡ w = cc h2 in
+        let d : p.0 ≢ n = (λ z. omega (arith, o n, ap (λ w. same w n) z, ap (λ w. same w n) b, same_refl n)) in
+        let out : without_leaf (p ∷ r ∷ ps) n ≡ p ∷ ps = without_leaf_later p.0 p.1 (r ∷ ps) n d ∙ ap (λ (zs : List (ℕ × L)). p ∷ zs) (subst (λ (z : ℕ). without_leaf (r ∷ ps) z ≡ without_leaf ps z) b (without_leaf_here r.0 r.1 ps) ∙ without_leaf_none ps n (omega (arith, o n, ap (λ w. same w n) b, same_refl n))) in
+        let change : change_leaf (λ v. f v w) (p ∷ ps) x ≡ (p.0, f p.1 w) ∷ ps = cond-true (eqb p.0 x) _ _ t ∙ ap (λ (zs : List (ℕ × L)). (p.0, f p.1 w) ∷ zs) (change_none (λ v. f v w) ps x (omega (arith, o x, ap (λ w. same w x) q, same_refl x))) in
+        let join : join_leaf f (p ∷ r ∷ ps) x ≡ (p.0, f p.1 r.1) ∷ ps = cond-true (eqb p.0 x) (join_first f p (r ∷ ps)) (p ∷ join_leaf f (r ∷ ps) x) t in
+        ap (λ zs. change_leaf (λ v. f v w) zs x) out ∙ change ∙ ap (λ (z : L). (p.0, f p.1 z) ∷ ps) (sym c) ∙ sym join
+    | inr k ↦
+        let later : after (ids (r ∷ ps)) x ≡ Some n = sym (after_later p.0 (ids (r ∷ ps)) x k) ∙ e in
+        let d : p.0 ≢ n = (λ c. omega (arith, o n, ap (λ w. same w n) c, same_refl n, after_is_in (r ∷ ps) x n later)) in
+        let hl : value_after (r ∷ ps) x ≡ Some w = sym (value_after_later p.0 p.1 (r ∷ ps) x k) ∙ h in
+        ap (λ zs. change_leaf (λ v. f v w) zs x) (without_leaf_later p.0 p.1 (r ∷ ps) n d) ∙ change_later (λ v. f v w) p.0 p.1 (without_leaf (r ∷ ps) n) x k ∙ ap (λ (zs : List (ℕ × L)). p ∷ zs) (join_from f (r ∷ ps) x n w (λ z. omega (arith, o z)) later hl) ∙ sym (cond-false (eqb p.0 x) (join_first f p (r ∷ ps)) (p ∷ join_leaf f (r ∷ ps) x) (ne_eqb p.0 x k))
+  ]
+
+  first_none : (ps : List (ℕ × L)) → first (ids ps) ≡ None → first_value ps ≡ None
+  first_none [] e = refl
+  first_none (p ∷ ps) e = cc e
+
+  -- no value is after a leaf that no leaf is after
+  pub value_after_none : (ps : List (ℕ × L)) (x : ℕ) → after (ids ps) x ≡ None → value_after ps x ≡ None
+  value_after_none [] x e = refl
+  value_after_none (p ∷ ps) x e = elim (cases_eq p.0 x) [
+    | inl q ↦ cond-true (eqb p.0 x) (first_value ps) (value_after ps x) (eq-eqb p.0 x q) ∙ first_none ps (sym (cond-true (eqb p.0 x) (first (ids ps)) (after (ids ps) x) (eq-eqb p.0 x q)) ∙ e)
+    | inr d ↦ value_after_later p.0 p.1 ps x d ∙ value_after_none ps x (sym (after_later p.0 (ids ps) x d) ∙ e)
+  ]
+
+  -- who is after a leaf is another
+  pub after_other : (ps : List (ℕ × L)) (x n : ℕ) → ((z : ℕ) → times_leaf ps z ≤ 1) → after (ids ps) x ≡ Some n → x ≢ n
+  after_other [] x n o e = cc e
+  after_other (p ∷ ps) x n o e = elim (cases_eq p.0 x) [
+    | inl q ↦
+        let m = first_is_in ps n (sym (cond-true (eqb p.0 x) (first (ids ps)) (after (ids ps) x) (eq-eqb p.0 x q)) ∙ e) in
+        λ c. omega (arith, o n, m, ap (λ w. same w n) (q ∙ c), same_refl n)
+    | inr d ↦ after_other ps x n (λ z. omega (arith, o z)) (sym (after_later p.0 (ids ps) x d) ∙ e)
+  ]
+
+  pub value_without : (ps : List (ℕ × L)) (x n : ℕ) → x ≢ n → value_at (without_leaf ps n) x ≡ value_at ps x
+  value_without [] x n d = refl
+  value_without (p ∷ ps) x n d = elim (cases_eq p.0 n) [
+    | inl q ↦
+        let k : p.0 ≢ x = (λ c. d (sym c ∙ q)) in
+        ap (λ zs. value_at zs x) (cond-true (eqb p.0 n) (without_leaf ps n) (p ∷ without_leaf ps n) (eq-eqb p.0 n q)) ∙ value_without ps x n d ∙ sym (value_later p.0 p.1 ps x k)
+    | inr k ↦ ap (λ zs. value_at zs x) (without_leaf_later p.0 p.1 ps n k) ∙ elim (cases_eq p.0 x) [
+      | inl c ↦ cond-true (eqb p.0 x) (Some p.1) (value_at (without_leaf ps n) x) (eq-eqb p.0 x c) ∙ sym (cond-true (eqb p.0 x) (Some p.1) (value_at ps x) (eq-eqb p.0 x c))
+      | inr c ↦ value_later p.0 p.1 (without_leaf ps n) x c ∙ value_without ps x n d ∙ sym (value_later p.0 p.1 ps x c)
+    ]
+  ]
+
+  pub length_without : (f : L → ℕ) (ps : List (ℕ × L)) (n : ℕ) (w : L) → ((z : ℕ) → times_leaf ps z ≤ 1) → value_at ps n ≡ Some w → length_by f (without_leaf ps n) + f w ≡ length_by f ps
+  length_without f [] n w o e = cc e
+  length_without f (p ∷ ps) n w o e = elim (cases_eq p.0 n) [
+    | inl q ↦
+        let t = eq-eqb p.0 n q in
+        let h : Some p.1 ≡ Some w = sym (cond-true (eqb p.0 n) (Some p.1) (value_at ps n) t) ∙ e in
+        let c : p.1 ≡ w = cc h in
+        let out : without_leaf (p ∷ ps) n ≡ ps = cond-true (eqb p.0 n) (without_leaf ps n) (p ∷ without_leaf ps n) t ∙ without_leaf_none ps n (omega (arith, o n, ap (λ z. same z n) q, same_refl n)) in
+        omega (arith, ap (length_by f) out, ap f c)
+    | inr d ↦
+        let rest = length_without f ps n w (λ z. omega (arith, o z)) (sym (value_later p.0 p.1 ps n d) ∙ e) in
+        omega (arith, ap (length_by f) (without_leaf_later p.0 p.1 ps n d), rest)
+  ]
+
+  -- nothing holds of no value
+  pub nothing_of : (o : Option L) → IsSomeAnd o (λ v. ⊥) → ⊥
+  nothing_of None h = h
+  nothing_of (Some v) h = h

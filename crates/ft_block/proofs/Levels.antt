@@ -75,7 +75,7 @@ module _ {L : Type 0} (s : Forest L Summary) (root : ℕ) where
   pub root_high : AllHigh s (height_of s root) (root ∷ [])
   root_high x m = root_only x m
 
-module _ {L : Type 0} (s : Forest L Summary) (root : ℕ) (extra : Option ℕ) (t : IsShape s root extra) where
+module _ {L : Type 0} (s : Forest L Summary) (root : ℕ) (extra : Option ℕ) {short : Option ℕ} (t : IsShape s root extra short) where
   pub kid_parent : (b k : ℕ) → 1 ≤ times (kids_of s b) k → parent_of s k ≡ Some b
   kid_parent b k h = points_some (parent_of s k) b (omega (arith, t.forest.child_once b k))
 
@@ -98,7 +98,7 @@ module _ {L : Type 0} (s : Forest L Summary) (root : ℕ) (extra : Option ℕ) (
 abbrev pub SumsUpTo : {L : Type 0} → Measure L → Forest L Summary → ℕ → Type 0
 SumsUpTo measure s j = (b : ℕ) → IsSome (block_value s b) → height_of s b ≤ j → length_of measure s b ≡ total (length_of measure s) (kids_of s b)
 
-module _ {L : Type 0} (measure : Measure L) (s : Forest L Summary) (root : ℕ) (extra : Option ℕ) (t : IsShape s root extra) where
+module _ {L : Type 0} (measure : Measure L) (s : Forest L Summary) (root : ℕ) (extra : Option ℕ) {short : Option ℕ} (t : IsShape s root extra short) where
   pub total_kids_up_to : (j : ℕ) (xs : List ℕ) → SumsUpTo measure s (suc j) → AllHigh s (suc j) xs → total (length_of measure s) (flat_map (kids_of s) xs) ≡ total (length_of measure s) xs
   total_kids_up_to j [] sums h = refl
   total_kids_up_to j (x ∷ xs) sums h =
@@ -168,7 +168,7 @@ module _ {L : Type 0} (s : Forest L Summary) (root : ℕ) (t : IsTree s root) wh
   kids_many j [] h n = omega arith
   kids_many j (x ∷ xs) h n =
       let m : 1 ≤ times (x ∷ xs) x = omega (arith, same_refl x) in
-      omega (arith, length-append (kids_of s x) (flat_map (kids_of s) xs), t.shape.half_full x (block_from_high s root None t.shape j x (h x m)) (n x m), kids_many j xs (λ y i. h y (omega arith)) (λ y i. n y (omega arith)))
+      omega (arith, length-append (kids_of s x) (flat_map (kids_of s) xs), t.shape.half_full x (block_from_high s root None t.shape j x (h x m)) (n x m) (λ e. cc), kids_many j xs (λ y i. h y (omega arith)) (λ y i. n y (omega arith)))
 
   not_root : (xs : List ℕ) (k : ℕ) → 1 ≤ times (flat_map (kids_of s) xs) k → k ≢ root
   not_root xs k m e =

@@ -11,6 +11,15 @@ pub mod SplitLemmas
 pub mod InsertLemmas
 pub mod FirstLemmas
 pub mod ViewLemmas
+pub mod KeptLemmas
+pub mod ExchangeLemmas
+pub mod WithoutLemmas
+pub mod TakenLemmas
+pub mod PairLemmas
+pub mod ShareLemmas
+pub mod FillLemmas
+pub mod UnlinkLemmas
+pub mod MovedLemmas
 pub mod SoundLemmas
 pub mod PositionLemmas
 pub mod LeafListLemmas

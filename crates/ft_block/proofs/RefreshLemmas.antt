@@ -7,24 +7,24 @@ use Rattle.ft_arena.specs.declared.nodes.Node.TheVariants.{Leaf, Block}
 use Rattle.ft_arena.specs.Ids.{times}
 use Rattle.ft_arena.specs.Forest.{Forest, Entry, IsForest, entry, kids_of, parent_of, block_value, leaf_of_entry, block_of_entry, kids_of_entry, kids_of_node, block_of_node, leaf_of_node, parent_of_entry}
 use Rattle.ft_block.specs.declared.summaries.Summary.{Summary}
-use Rattle.ft_block.specs.Tree.{total, height_of, Measure, length_of, length_of_entry, below, kind_of_entry, kind_of_node, IsShape, SumsBut, IsTree}
+use Rattle.ft_block.specs.Tree.{total, height_of, OwesAt, AreFromFloor, Measure, length_of, length_of_entry, below, kind_of_entry, kind_of_node, IsShape, SumsBut, IsTree, IsPartTree}
 use Rattle.ft_block.specs.Steps.{SameShape, Resums}
 use Rattle.std.proofs.lemmas.List.{get_or_past, get_or-set_same, get_or-set_other}
 use Rattle.ft_arena.specs.Forest.{Changes, with_block, with_block_entry, count_some}
 use Rattle.ft_arena.proofs.ArenaLemmas.{IsForest-other}
 use Rattle.ft_arena.proofs.KidLemmas.{kept}
-use Rattle.ft_block.proofs.EditLemmas.{total_same, points_same, flat_map_same}
+use Rattle.ft_block.proofs.EditLemmas.{total_same, total_change, points_same, flat_map_same}
 use Rattle.ft_block.proofs.KindLemmas.{kind_height, kind_live, kind_block}
-use Rattle.ft_block.proofs.Levels.{points_some}
+use Rattle.ft_block.proofs.Levels.{points_some, points_at}
 
 module _ {L : Type 0} where
   by_node_leaf : (n : Node L Summary) (v w : Summary) → block_of_node n ≡ Some v → leaf_of_node (Block (kids_of_node n) w) ≡ leaf_of_node n
   by_node_leaf (Leaf x) v w e = cc
   by_node_leaf (Block ks x) v w e = refl
 
-  by_node_kind : (n : Node L Summary) (v : Summary) (sum : ℕ) → block_of_node n ≡ Some v → kind_of_node {L = L} (Block (kids_of_node n) record { height = v.height; local = sum }) ≡ kind_of_node n
-  by_node_kind (Leaf x) v sum e = cc
-  by_node_kind (Block ks x) v sum e = let q : x ≡ v = cc in ap (λ z. Some z.height) (sym q)
+  by_node_kind : (n : Node L Summary) (v w : Summary) → w.height ≡ v.height → block_of_node n ≡ Some v → kind_of_node {L = L} (Block (kids_of_node n) w) ≡ kind_of_node n
+  by_node_kind (Leaf x) v w h e = cc
+  by_node_kind (Block ks x) v w h e = let q : x ≡ v = cc in ap Some (h ∙ ap (λ z. z.height) (sym q))
 
   written_leaf : (o : Option (Entry L Summary)) (v w : Summary) → block_of_entry o ≡ Some v → leaf_of_entry (with_block_entry o w) ≡ leaf_of_entry o
   written_leaf None v w e = refl
@@ -38,13 +38,25 @@ module _ {L : Type 0} where
   written_parent None w = refl
   written_parent (Some x) w = refl
 
-  written_kind : (o : Option (Entry L Summary)) (v : Summary) (sum : ℕ) → block_of_entry o ≡ Some v → kind_of_entry (with_block_entry o record { height = v.height; local = sum }) ≡ kind_of_entry o
-  written_kind None v sum e = refl
-  written_kind (Some x) v sum e = ap Some (by_node_kind x.node v sum e)
+  written_kind : (o : Option (Entry L Summary)) (v w : Summary) → w.height ≡ v.height → block_of_entry o ≡ Some v → kind_of_entry (with_block_entry o w) ≡ kind_of_entry o
+  written_kind None v w h e = refl
+  written_kind (Some x) v w h e = ap Some (by_node_kind x.node v w h e)
 
   written_length : (measure : Measure L) (o : Option (Entry L Summary)) (v w : Summary) → block_of_entry o ≡ Some v → length_of_entry measure (with_block_entry o w) ≡ measure.block w
   written_length measure None v w e = cc
   written_length measure (Some x) v w e = refl
+
+  -- who has a child is a block
+  pub block_from_kid : (s : Forest L Summary) (b x : ℕ) → 1 ≤ times (kids_of s b) x → IsSome (block_value s b)
+  block_from_kid s b x m = of_entry (entry s b) m
+    where
+      of_node : (n : Node L Summary) → 1 ≤ times (kids_of_node n) x → IsSome (block_of_node n)
+      of_node (Leaf v) m = absurd (omega arith)
+      of_node (Block ks v) m = refl
+
+      of_entry : (o : Option (Entry L Summary)) → 1 ≤ times (kids_of_entry o) x → IsSome (block_of_entry o)
+      of_entry None m = absurd (omega arith)
+      of_entry (Some e) m = of_node e.node m
 
   block_within : (s : Forest L Summary) (b : ℕ) (v : Summary) → block_value s b ≡ Some v → b < length s.nodes
   block_within s b v e = elim (cases_lt b (length s.nodes)) [
@@ -59,10 +71,9 @@ module _ {L : Type 0} where
         others = λ x d. get_or-set_other s.nodes b x (with_block_entry (entry s b) w) None d;
       }
 
-  -- a block of the same height keeps everything but its length
-  pub refreshed_shape : (s : Forest L Summary) (b : ℕ) (v : Summary) (sum : ℕ) → block_value s b ≡ Some v → IsForest s → SameShape s (with_block s b record { height = v.height; local = sum })
-  refreshed_shape s b v sum e f =
-      let w : Summary = record { height = v.height; local = sum } in
+  -- a block of the same height keeps everything but its value
+  pub refreshed_shape : (s : Forest L Summary) (b : ℕ) (v w : Summary) → block_value s b ≡ Some v → w.height ≡ v.height → IsForest s → SameShape s (with_block s b w)
+  refreshed_shape s b v w e h f =
       let new : Forest L Summary = with_block s b w in
       let c : Changes s new b (with_block_entry (entry s b) w) = written_changes s b v w e in
       let leaves = kept leaf_of_entry s new b (with_block_entry (entry s b) w) c (written_leaf (entry s b) v w e) in
@@ -73,7 +84,7 @@ module _ {L : Type 0} where
         forest = IsForest-other s new (λ x. f.leaf_once x ∙ sym (ap count_some (leaves x))) kids parents f;
         spare = refl;
         leaf_values = leaves;
-        kinds = kept kind_of_entry s new b (with_block_entry (entry s b) w) c (written_kind (entry s b) v sum e);
+        kinds = kept kind_of_entry s new b (with_block_entry (entry s b) w) c (written_kind (entry s b) v w h e);
         kids = kids;
       }
 
@@ -89,9 +100,26 @@ module _ {L : Type 0} where
         sum = ap (length_of_entry measure) c.changed ∙ written_length measure (entry s b) v w e ∙ total_is ∙ sym (total_same (length_of measure s) (length_of measure new) (kids_of s b) (λ x m. others x (λ q. omega (arith, apart, ap (times (kids_of s b)) q)))) ∙ ap (total (length_of measure new)) (sym (kids b));
       }
 
+module _ {L : Type 0} (floor : ℕ) (s : Forest L Summary) (b : ℕ) (v w : Summary) (found : block_value s b ≡ Some v) (from : w.table.floor ≡ floor) (all : AreFromFloor floor s) where
+  pub written_floors : AreFromFloor floor (with_block s b w)
+  written_floors x u e = elim (cases_eq x b) [
+    | inl q ↦
+        let c = written_changes s b v w found in
+        let now : Some u ≡ Some w = sym e ∙ ap (block_value (with_block s b w)) q ∙ ap block_of_entry c.changed ∙ written_value (entry s b) found in
+        let is : u ≡ w = cc now in
+        omega (arith, ap (λ (z : Summary). z.table.floor) is, from)
+    | inr d ↦
+        let c = written_changes s b v w found in
+        all x u (sym (ap block_of_entry (c.others x d)) ∙ e)
+  ]
+    where
+      written_value : (o : Option (Entry L Summary)) → block_of_entry o ≡ Some v → block_of_entry (with_block_entry o w) ≡ Some w
+      written_value None h = cc
+      written_value (Some x) h = refl
+
 -- the shape stays, and so do the leaves by levels
-pub SameShape-shape : {L : Type 0} (s s' : Forest L Summary) (root : ℕ) → IsShape s root None → SameShape s s' → IsShape s' root None
-SameShape-shape s s' root g r =
+pub SameShape-shape : {L : Type 0} (s s' : Forest L Summary) (root : ℕ) (extra short : Option ℕ) → IsShape s root extra short → SameShape s s' → IsShape s' root extra short
+SameShape-shape s s' root extra short g r =
     let h : (x : ℕ) → height_of s' x ≡ height_of s x = λ x. kind_height (entry s x) (entry s' x) (r.kinds x) in
     let live : (x : ℕ) → IsSome (entry s' x) → IsSome (entry s x) = λ x. kind_live (entry s' x) (entry s x) (sym (r.kinds x)) in
     let block : (x : ℕ) → IsSome (block_value s' x) → IsSome (block_value s x) = λ x. kind_block (entry s' x) (entry s x) (sym (r.kinds x)) in
@@ -104,7 +132,7 @@ SameShape-shape s s' root g r =
       low = λ x l. omega (arith, h x, h root, g.low x (live x l));
       heights = λ x k e. omega (arith, h x, h k, g.heights x k (sym (parents x) ∙ e));
       high = λ k l. omega (arith, h k, g.high k (block k l));
-      half_full = λ k l d. omega (arith, ap length (r.kids k), g.half_full k (block k l) d);
+      half_full = λ k l d n. omega (arith, ap length (r.kids k), g.half_full k (block k l) d n);
       root_filled = omega (arith, ap length (r.kids root), g.root_filled);
     }
 
@@ -112,19 +140,56 @@ pub SameShape-below : {L : Type 0} (s s' : Forest L Summary) (n : ℕ) (xs : Lis
 SameShape-below s s' zero xs r = refl
 SameShape-below s s' (suc n) xs r = ap (below s' n) (flat_map_same (kids_of s) (kids_of s') xs (λ x m. r.kids x)) ∙ SameShape-below s s' n (flat_map (kids_of s) xs) r
 
--- only the block above may have a wrong sum then
-pub SameShape-sums : {L : Type 0} (measure : Measure L) (s s' : Forest L Summary) (b : ℕ) (at : ℕ) → parent_of s at ≡ Some b → SameShape s s' → Resums measure s s' b → SumsBut measure s (parent_of s at) → SumsBut measure s' (parent_of s' b)
-SameShape-sums measure s s' b at up r u sums k h stale = elim (cases_eq k b) [
+pub SameShape-parents : {L : Type 0} (s s' : Forest L Summary) → IsForest s → SameShape s s' → (x : ℕ) → parent_of s' x ≡ parent_of s x
+SameShape-parents s s' f r x = points_same (parent_of s' x) (parent_of s x) (λ k. sym (r.forest.child_once k x) ∙ ap (λ ks. times ks x) (r.kids k) ∙ f.child_once k x)
+
+-- once a block is right, only the block above it may have a wrong sum
+pub SameShape-sums : {L : Type 0} (measure : Measure L) (s s' : Forest L Summary) (b : ℕ) → SameShape s s' → Resums measure s s' b → SumsBut measure s (Some b) → SumsBut measure s' (parent_of s' b)
+SameShape-sums measure s s' b r u sums k h stale = elim (cases_eq k b) [
   | inl e ↦ subst (λ (z : ℕ). length_of measure s' z ≡ total (length_of measure s') (kids_of s' z)) (sym e) u.sum
   | inr n ↦
       let inside : (x : ℕ) → 1 ≤ times (kids_of s' k) x → x ≢ b = λ x m e. stale (ap (parent_of s') (sym e) ∙ points_some (parent_of s' x) k (omega (arith, r.forest.child_once k x))) in
-      u.others k n ∙ sums k (kind_block (entry s' k) (entry s k) (sym (r.kinds k)) h) (λ e. n (cc (e, up))) ∙ ap (total (length_of measure s)) (sym (r.kids k)) ∙ sym (total_same (length_of measure s) (length_of measure s') (kids_of s' k) (λ x m. u.others x (inside x m)))
+      u.others k n ∙ sums k (kind_block (entry s' k) (entry s k) (sym (r.kinds k)) h) (λ e. n (cc)) ∙ ap (total (length_of measure s)) (sym (r.kids k)) ∙ sym (total_same (length_of measure s) (length_of measure s') (kids_of s' k) (λ x m. u.others x (inside x m)))
 ]
+
+-- and that one owes as much
+pub SameShape-owes : {L : Type 0} (measure : Measure L) (s s' : Forest L Summary) (b more less : ℕ) → SameShape s s' → Resums measure s s' b → SumsBut measure s (Some b) → times (kids_of s b) b ≡ 0 → OwesAt measure s (Some b) more less → OwesAt measure s' (parent_of s' b) more less
+SameShape-owes measure s s' b more less r u sums apart owes p up =
+    let one : times (kids_of s' p) b ≡ 1 = r.forest.child_once p b ∙ points_at (parent_of s' b) p up in
+    let apart_p : p ≢ b = (λ e. omega (arith, one, ap (λ z. times (kids_of s' z) b) e, ap (λ ks. times ks b) (r.kids b), apart)) in
+    let c = total_change (length_of measure s) (length_of measure s') (kids_of s' p) b one (λ x m d. u.others x d) in
+    let block : IsSome (block_value s p) = kind_block (entry s' p) (entry s p) (sym (r.kinds p)) (block_from_kid s' p b (omega (arith, one))) in
+    omega (arith, u.others p apart_p, sums p block (λ e. apart_p (cc)), ap (total (length_of measure s)) (r.kids p), c, owes b refl, u.sum, total_same (length_of measure s) (length_of measure s') (kids_of s' b) (λ x m. u.others x (λ e. omega (arith, m, ap (times (kids_of s' b)) e, ap (λ ks. times ks b) (r.kids b), apart))), ap (total (length_of measure s)) (r.kids b))
 
 -- a tree stays a tree
 pub SameShape-tree : {L : Type 0} (s s' : Forest L Summary) (root : ℕ) → IsTree s root → SameShape s s' → IsTree s' root
 SameShape-tree s s' root t r =
     record {
-      shape = SameShape-shape s s' root t.shape r;
+      shape = SameShape-shape s s' root None None t.shape r;
       leaves = r.leaves ∙ t.leaves ∙ sym (SameShape-below s s' (height_of s root) (root ∷ []) r) ∙ ap (λ (n : ℕ). below s' n (root ∷ [])) (sym (kind_height (entry s root) (entry s' root) (r.kinds root)));
+    }
+
+-- so does a tree of some of the leaves
+pub SameShape-part : {L : Type 0} (s s' : Forest L Summary) (root : ℕ) (extra short : Option ℕ) → IsPartTree s root extra short → SameShape s s' → IsPartTree s' root extra short
+SameShape-part s s' root extra short t r =
+    let h : (x : ℕ) → height_of s' x ≡ height_of s x = λ x. kind_height (entry s x) (entry s' x) (r.kinds x) in
+    let e : below s' (height_of s' root) (root ∷ []) ≡ below s (height_of s root) (root ∷ []) = ap (λ (n : ℕ). below s' n (root ∷ [])) (h root) ∙ SameShape-below s s' (height_of s root) (root ∷ []) r in
+    record {
+      shape = SameShape-shape s s' root extra short t.shape r;
+      low = λ x q. h x ∙ t.low x q;
+      part = λ f. omega (arith, ap (total f) e, t.part f, ap (total f) r.leaves);
+    }
+
+pub SameShape-refl : {L : Type 0} (s : Forest L Summary) → IsForest s → SameShape s s
+SameShape-refl s f = record { leaves = refl; forest = f; spare = refl; leaf_values = λ x. refl; kinds = λ x. refl; kids = λ x. refl }
+
+pub SameShape-then : {L : Type 0} (s t u : Forest L Summary) → SameShape s t → SameShape t u → SameShape s u
+SameShape-then s t u a b =
+    record {
+      leaves = b.leaves ∙ a.leaves;
+      forest = b.forest;
+      spare = b.spare ∙ a.spare;
+      leaf_values = λ x. b.leaf_values x ∙ a.leaf_values x;
+      kinds = λ x. b.kinds x ∙ a.kinds x;
+      kids = λ x. b.kids x ∙ a.kids x;
     }

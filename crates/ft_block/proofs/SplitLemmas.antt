@@ -82,7 +82,7 @@ module _ {L : Type 0} where
 block_kind : {L : Type 0} (o : Option (Entry L Summary)) (ks : List ℕ) (v : Summary) (p : Option ℕ) → o ≡ Some record { node = Block ks v; parent = p } → kind_of_entry o ≡ Some (Some v.height)
 block_kind {L} o ks v p e = ap kind_of_entry e
 
-module _ {L : Type 0} (measure : Measure L) (a0 a1 a2 a3 : Forest L Summary) (block place id rear height : ℕ) (forest : IsForest a0) (is_block : IsSome (block_value a0 block)) (full : length (kids_of a0 block) ≡ 8) (id_live : IsSome (entry a0 id)) (apart : times (kids_of a0 block) block ≡ 0) (differ : id ≢ block) (fits : total (length_of measure a0) (insert (kids_of a0 block) place id) < 2 ^ 64) (fresh : entry a0 rear ≡ None) (leaves1 : a1.leaves ≡ a0.leaves) (spare1 : a0.spare ≡ a1.spare + 1) (c1 : Changes a0 a1 rear (Some record { node = Block [] record { height = height; local = 0 }; parent = None })) (r2 : Halves a1 a2 block rear) (r3 : PutsInHalf a2 a3 block rear place id) where
+module _ {L : Type 0} (measure : Measure L) (a0 a1 a2 a3 : Forest L Summary) (block place id rear height : ℕ) (z : Summary) (is_high : z.height ≡ height) (forest : IsForest a0) (is_block : IsSome (block_value a0 block)) (full : length (kids_of a0 block) ≡ 8) (id_live : IsSome (entry a0 id)) (apart : times (kids_of a0 block) block ≡ 0) (differ : id ≢ block) (fits : total (length_of measure a0) (insert (kids_of a0 block) place id) < 2 ^ 64) (fresh : entry a0 rear ≡ None) (leaves1 : a1.leaves ≡ a0.leaves) (spare1 : a0.spare ≡ a1.spare + 1) (c1 : Changes a0 a1 rear (Some record { node = Block [] z; parent = None })) (r2 : Halves a1 a2 block rear) (r3 : PutsInHalf a2 a3 block rear place id) where
   block_not_rear : block ≢ rear
   block_not_rear = dead_apart (entry a0) block rear (block_live (entry a0 block) is_block) fresh
 
@@ -151,7 +151,7 @@ module _ {L : Type 0} (measure : Measure L) (a0 a1 a2 a3 : Forest L Summary) (bl
             spare = omega (arith, spare1, r2.spare, r3.spare, r4.spare, r5.spare);
             leaf_values = λ x. r5.leaf_values x ∙ r4.leaf_values x ∙ r3.leaf_values x ∙ r2.leaf_values x ∙ leaf1 x;
             fresh = fresh;
-            kind = r5.kinds rear ∙ r4.kinds rear ∙ kind3 rear ∙ ap kind_of_entry c1.changed ∙ sym height_is;
+            kind = r5.kinds rear ∙ r4.kinds rear ∙ kind3 rear ∙ ap kind_of_entry c1.changed ∙ ap (λ (h : ℕ). Some (Some h)) is_high ∙ sym height_is;
             kinds = λ x d. r5.kinds x ∙ r4.kinds x ∙ kind3 x ∙ ap kind_of_entry (c1.others x d);
             kids = ap (λ zs. zs ++ kids_of a5 rear) (kids5 block) ∙ ap (λ zs. kids_of a3 block ++ zs) (kids5 rear) ∙ joined;
             front_many = omega (arith, ap length (kids5 block), r3.front_many);

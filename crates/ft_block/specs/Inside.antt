@@ -5,7 +5,7 @@ use Rattle.ft_arena.specs.Forest.{Forest, leaf_value}
 use Rattle.ft_block.specs.declared.summaries.Summary.{Summary}
 use Rattle.ft_block.specs.declared.blocks.Blocks.TheInside.{Inside}
 use Rattle.ft_block.specs.Leaves.{LeafList}
-use Rattle.ft_block.specs.Tree.{IsTree, IsBare, SumsBut, by_local, by_size, height_of, length_of, total}
+use Rattle.ft_block.specs.Tree.{IsTree, IsBare, SumsKeptBut, AreFromFloor, by_size, height_of, length_of, total}
 
 module _ {L : Type 0} where
   abbrev pub pair_of : ℕ → Option L → List (ℕ × L) → List (ℕ × L)
@@ -22,21 +22,22 @@ module _ {L : Type 0} where
   depth_of s (Some root) = height_of s root - 1
 
   abbrev pub view_of : {Change : Type 0} → Inside L Change → LeafList L
-  view_of a = record { leaves = pairs_of a.arena a.arena.leaves; depth = depth_of a.arena a.root; usable = a.usable }
+  view_of a = record { leaves = pairs_of a.arena a.arena.leaves; depth = depth_of a.arena a.root; floor = a.floor; usable = a.usable }
 
   -- a tree with this root, or nothing where there is no root
   abbrev pub IsRooted : Forest L Summary → Option ℕ → Type 0
   IsRooted s None = IsBare s
   IsRooted s (Some root) = IsTree s root
 
-  -- a tree whose blocks keep their lengths in the local view, each of whose leaves has an element, and whose leaves
-  -- together have fewer than 2 ^ 64
-  pub record IsSound (size : L → ℕ) (element : L → Element) (s : Forest L Summary) (root : Option ℕ) : Type 0 where
+  -- a tree whose blocks keep their lengths in the local view and for each perspective from the floor up, each of whose
+  -- leaves has an element, and whose leaves together have fewer than 2 ^ 64
+  pub record IsSound (size : L → ℕ) (element : L → Element) (floor : ℕ) (s : Forest L Summary) (root : Option ℕ) : Type 0 where
     pub rooted : IsRooted s root
-    pub sums : SumsBut (by_local size element) s None
+    pub sums : SumsKeptBut size element floor s None
+    pub floors : AreFromFloor floor s
     pub filled : (id : ℕ) (v : L) → leaf_value s id ≡ Some v → 1 ≤ size v
     pub fits : total (length_of (by_size size) s) s.leaves < 2 ^ 64
 
   -- the same where the blocks may still be used
   abbrev pub IsSoundIfUsable : {Change : Type 0} → (L → ℕ) → (L → Element) → Inside L Change → Type 0
-  IsSoundIfUsable size element a = IsTrue a.usable → IsSound size element a.arena a.root
+  IsSoundIfUsable size element a = IsTrue a.usable → IsSound size element a.floor a.arena a.root

@@ -6,17 +6,23 @@ use Rattle.ft_block.specs.declared.leaves.LenView.{LenView}
 use Rattle.ft_block.specs.declared.leaves.LenView.TheVariants.{At, Stage}
 use Rattle.ft_block.specs.declared.blocks.Found.{Found}
 
--- the leaves from first to last, each with its node, how many blocks stand below the root on the way to a leaf, and
--- whether the blocks may still be used
+-- the leaves from first to last, each with its node, how many blocks stand below the root on the way to a leaf, the
+-- floor, and whether the blocks may still be used
 pub record LeafList (L : Type 0) : Type 0 where
   pub leaves : List (ℕ × L)
   pub depth : ℕ
+  pub floor : ℕ
   pub usable : Bool
 
 -- whether the view sees the element
 abbrev pub sees_in : LenView → Element → Bool
 sees_in (At at) e = sees e at.r at.c
 sees_in (Stage k) e = seen_at e k
+
+-- the view is of a stage, or of a perspective whose reference number isn't below the floor
+abbrev pub IsFromFloor : ℕ → LenView → Type 0
+IsFromFloor floor (At at) = floor ≤ at.r
+IsFromFloor floor (Stage k) = Unit {0}
 
 -- the view at the last pending stage, which no stage is above
 abbrev pub last_stage : LenView
@@ -97,3 +103,33 @@ module _ {L : Type 0} where
   split_leaf front rear (x ∷ xs) id new =
       if x.0 == id then (x.0, front x.1) ∷ (new, rear x.1) ∷ split_leaf front rear xs id new
       else x ∷ split_leaf front rear xs id new
+
+  -- the leaves without that of this node
+  abbrev pub without_leaf : List (ℕ × L) → ℕ → List (ℕ × L)
+  without_leaf [] id = []
+  without_leaf (x ∷ xs) id = if x.0 == id then without_leaf xs id else x ∷ without_leaf xs id
+
+  -- the leaves with the one of this value moved directly after the given one, or first
+  abbrev pub move_leaf : List (ℕ × L) → ℕ → Option ℕ → Option L → List (ℕ × L)
+  move_leaf xs id at None = xs
+  move_leaf xs id at (Some v) = put_leaf (without_leaf xs id) at (id, v)
+
+  -- the value of the first leaf
+  abbrev pub first_value : List (ℕ × L) → Option L
+  first_value [] = None
+  first_value (x ∷ xs) = Some x.1
+
+  -- the value of the leaf after that of this node
+  abbrev pub value_after : List (ℕ × L) → ℕ → Option L
+  value_after [] id = None
+  value_after (x ∷ xs) id = if x.0 == id then first_value xs else value_after xs id
+
+  -- the leaf joined with the first of these, which is gone then
+  abbrev pub join_first : (L → L → L) → ℕ × L → List (ℕ × L) → List (ℕ × L)
+  join_first join x [] = x ∷ []
+  join_first join x (y ∷ ys) = (x.0, join x.1 y.1) ∷ ys
+
+  -- the leaves, of which that of this node is joined with the next one, which is gone then
+  abbrev pub join_leaf : (L → L → L) → List (ℕ × L) → ℕ → List (ℕ × L)
+  join_leaf join [] id = []
+  join_leaf join (x ∷ xs) id = if x.0 == id then join_first join x xs else x ∷ join_leaf join xs id

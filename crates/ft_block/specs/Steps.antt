@@ -1,8 +1,9 @@
 -- What the functions that change a tree leave, each step as one record: first of the shape, then of the lengths by a
 -- measure. No public clause cites this module.
-use Rattle.std.specs.Prelude.{◌≡◌, ◌≢◌, ℕ, ◌+◌, ◌≤◌, List, [], ◌∷◌, ◌++◌, length, take, drop, insert, Some, None}
+use Rattle.std.specs.Prelude.{◌≡◌, ◌≢◌, ℕ, ◌+◌, ◌≤◌, List, Option, IsSome, [], ◌∷◌, ◌++◌, length, take, drop, insert, Some, None}
+use Rattle.std.specs.List.{flat_map}
 use Rattle.ft_arena.specs.Forest.{Forest, IsForest, entry, kids_of, parent_of, block_value, leaf_value}
-use Rattle.ft_arena.specs.Ids.{insert_after}
+use Rattle.ft_arena.specs.Ids.{times, insert_after, put_after, without}
 use Rattle.ft_block.specs.declared.summaries.Summary.{Summary}
 use Rattle.ft_block.specs.Tree.{Measure, height_of, length_of, kind_of, total}
 
@@ -32,7 +33,7 @@ module _ {L : Type 0} where
     pub leaves : new.leaves ≡ old.leaves
     pub forest : IsForest new
     pub leaf_values : (x : ℕ) → leaf_value new x ≡ leaf_value old x
-    pub kinds : (x : ℕ) → kind_of new x ≡ kind_of old x
+    pub block_values : (x : ℕ) → block_value new x ≡ block_value old x
     pub kids : kids_of new block ≡ insert (kids_of old block) place id
     pub other_kids : (x : ℕ) → x ≢ block → kids_of new x ≡ kids_of old x
 
@@ -85,6 +86,60 @@ module _ {L : Type 0} where
     pub rear_many : 4 ≤ length (kids_of new rear)
     pub other_kids : (x : ℕ) → x ≢ block → x ≢ rear → kids_of new x ≡ kids_of old x
 
+  -- the children of two neighbours are shared out anew, so that the front one has this many
+  pub record Regroups (old new : Forest L Summary) (front rear want : ℕ) : Type 0 where
+    pub leaves : new.leaves ≡ old.leaves
+    pub forest : IsForest new
+    pub leaf_values : (x : ℕ) → leaf_value new x ≡ leaf_value old x
+    pub block_values : (x : ℕ) → block_value new x ≡ block_value old x
+    pub joined : kids_of new front ++ kids_of new rear ≡ kids_of old front ++ kids_of old rear
+    pub count : length (kids_of new front) ≡ want
+    pub other_kids : (x : ℕ) → x ≢ front → x ≢ rear → kids_of new x ≡ kids_of old x
+
+  -- two neighbours below a block share their children anew; the rear one may be gone
+  pub record Shares (old new : Forest L Summary) (up front rear : ℕ) : Type 0 where
+    pub leaves : new.leaves ≡ old.leaves
+    pub forest : IsForest new
+    pub leaf_values : (x : ℕ) → leaf_value new x ≡ leaf_value old x
+    pub kinds : (x : ℕ) → IsSome (entry new x) → kind_of new x ≡ kind_of old x
+    pub live : (x : ℕ) → x ≢ rear → IsSome (entry old x) → IsSome (entry new x)
+    pub joined : kids_of new front ++ kids_of new rear ≡ kids_of old front ++ kids_of old rear
+    pub other_kids : (x : ℕ) → x ≢ up → x ≢ front → x ≢ rear → kids_of new x ≡ kids_of old x
+    pub up_kids : (x : ℕ) → IsSome (entry new x) → times (kids_of new up) x ≡ times (kids_of old up) x
+    pub up_levels : flat_map (kids_of new) (kids_of new up) ≡ flat_map (kids_of old) (kids_of old up)
+    pub up_filled : 1 ≤ length (kids_of new up)
+    pub front_many : 4 ≤ length (kids_of new front)
+    pub rear_many : IsSome (entry new rear) → 4 ≤ length (kids_of new rear)
+
+  -- the two stand side by side among the block's children
+  pub record IsPair (s : Forest L Summary) (up front rear : ℕ) : Type 0 where
+    pub front_up : parent_of s front ≡ Some up
+    pub rear_up : parent_of s rear ≡ Some up
+    pub differ : front ≢ rear
+    pub order : insert_after (without (kids_of s up) rear) front rear ≡ kids_of s up
+    pub heights : (x block : ℕ) → parent_of s x ≡ Some block → height_of s block ≡ height_of s x + 1
+    pub front_block : IsSome (block_value s front)
+    pub rear_block : IsSome (block_value s rear)
+
+  -- their lengths are those of their children, and the block above is as long as before
+  pub record ResumsPair (measure : Measure L) (old new : Forest L Summary) (up front rear : ℕ) : Type 0 where
+    pub others : (x : ℕ) → IsSome (entry new x) → x ≢ front → x ≢ rear → length_of measure new x ≡ length_of measure old x
+    pub front_sum : length_of measure new front ≡ total (length_of measure new) (kids_of new front)
+    pub rear_sum : IsSome (entry new rear) → length_of measure new rear ≡ total (length_of measure new) (kids_of new rear)
+    pub up_sum : total (length_of measure new) (kids_of new up) ≡ total (length_of measure old) (kids_of old up)
+
+  -- the root is gone, and its one child is the root
+  pub record DropsRoot (old new : Forest L Summary) (root top : ℕ) : Type 0 where
+    pub leaves : new.leaves ≡ old.leaves
+    pub forest : IsForest new
+    pub kids : kids_of old root ≡ top ∷ []
+    pub gone : entry new root ≡ None
+    pub top_parent : parent_of new top ≡ None
+    pub parents : (x : ℕ) → x ≢ root → x ≢ top → parent_of new x ≡ parent_of old x
+    pub other_kids : (x : ℕ) → x ≢ root → kids_of new x ≡ kids_of old x
+    pub leaf_values : (x : ℕ) → leaf_value new x ≡ leaf_value old x
+    pub block_values : (x : ℕ) → x ≢ root → block_value new x ≡ block_value old x
+
   -- the leaves have a new one, as the edit says, and every other leaf keeps its node and value
   pub record InsertsLeaf (old new : Forest L Summary) (id : ℕ) (leaf : L) (e : List ℕ → List ℕ) : Type 0 where
     pub leaves : new.leaves ≡ e old.leaves
@@ -109,3 +164,15 @@ module _ {L : Type 0} where
     pub old_value : leaf_value old leaf ≡ Some was
     pub new_value : leaf_value new leaf ≡ Some (f was)
     pub others : (x : ℕ) → x ≢ leaf → leaf_value new x ≡ leaf_value old x
+
+  -- the leaves are those of before without that one, which had this value
+  pub record TakesLeaf (old new : Forest L Summary) (leaf : ℕ) (value : L) : Type 0 where
+    pub leaves : new.leaves ≡ without old.leaves leaf
+    pub was : leaf_value old leaf ≡ Some value
+    pub gone : leaf_value new leaf ≡ None
+    pub others : (x : ℕ) → x ≢ leaf → leaf_value new x ≡ leaf_value old x
+
+  -- the leaf stands directly after that one, or first
+  pub record MovesLeaf (old new : Forest L Summary) (leaf : ℕ) (at : Option ℕ) : Type 0 where
+    pub leaves : new.leaves ≡ put_after (without old.leaves leaf) at leaf
+    pub values : (x : ℕ) → leaf_value new x ≡ leaf_value old x

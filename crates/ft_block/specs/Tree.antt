@@ -1,15 +1,18 @@
 -- A balanced tree over an arena. The height of a block stands in its value, so that what makes a tree is said node by
 -- node, and the leaves are read level by level from the root. No public clause cites this module.
-use Rattle.std.specs.Prelude.{◌≡◌, ◌≢◌, ℕ, zero, suc, ◌+◌, ◌-◌, ◌≤◌, List, [], ◌∷◌, ◌++◌, length, insert, slice_get, Option, Some, None, IsSome, if◌then◌else◌, nat_le, ◌==◌}
+use Rattle.std.specs.Prelude.{◌≡◌, ◌≢◌, ℕ, zero, suc, ◌+◌, ◌-◌, ◌%◌, ◌^◌, ◌<◌, ◌≤◌, List, [], ◌∷◌, ◌++◌, length, insert, slice_get, Option, Some, None, IsSome, if◌then◌else◌, nat_le, ◌==◌}
 use Rattle.std.specs.List.{flat_map}
 use Rattle.ft_base.specs.declared.elements.Element.{Element}
 use Rattle.ft_arena.specs.declared.nodes.Node.{Node}
 use Rattle.ft_arena.specs.declared.nodes.Node.TheVariants.{Leaf, Block}
-use Rattle.ft_arena.specs.Forest.{Forest, Entry, IsForest, entry, kids_of, parent_of, block_value}
-use Rattle.ft_arena.specs.Ids.{times}
+use Rattle.ft_arena.specs.Forest.{Forest, Entry, IsForest, entry, kids_of, parent_of, block_value, leaf_value}
+use Rattle.ft_arena.specs.Ids.{times, without}
 use Rattle.ft_block.specs.declared.summaries.Summary.{Summary}
 use Rattle.ft_block.specs.declared.leaves.LenView.{LenView}
-use Rattle.ft_block.specs.Leaves.{seen_length, local_length}
+use Rattle.ft_block.specs.declared.leaves.LenView.TheVariants.{At, Stage}
+use Rattle.ft_partial.specs.StepFunctions.{amount}
+use Rattle.ft_partial.specs.Tables.{length_at}
+use Rattle.ft_block.specs.Leaves.{sees_in, seen_length, last_stage}
 
 -- the sum of f over the list
 abbrev pub total : (ℕ → ℕ) → List ℕ → ℕ
@@ -53,14 +56,33 @@ pub record Measure (L : Type 0) : Type 0 where
   pub leaf : L → ℕ
   pub block : Summary → ℕ
 
-module _ {L : Type 0} where
-  -- by the length in the local view, which each block keeps
-  abbrev pub by_local : (L → ℕ) → (L → Element) → Measure L
-  by_local size element = record { leaf = local_length size element; block = λ v. v.local }
+-- what a block keeps of a view: its table's answer to a perspective, and one length for stages
+abbrev pub kept_length : LenView → Summary → ℕ
+kept_length (At at) v = length_at v.table at.r at.c
+kept_length (Stage k) v = v.local
 
-  -- by what a view sees of a leaf
+-- the blocks keep the lengths of this view: it is that at the last stage, or of a perspective from the floor up
+abbrev pub IsKept : ℕ → LenView → Type 0
+IsKept floor (At at) = (floor ≤ at.r) × (at.r < 2 ^ 64) × (at.c < 2 ^ 32)
+IsKept floor (Stage k) = Stage k ≡ last_stage
+
+-- nothing is seen in any view
+abbrev pub KeepsNothing : ℕ → Summary → Type 0
+KeepsNothing floor v = (view : LenView) → IsKept floor view → kept_length view v ≡ 0
+
+-- each view sees m elements f more and n elements e less
+abbrev pub KeepsExchange : ℕ → Summary → Summary → Element → ℕ → Element → ℕ → Type 0
+KeepsExchange floor old new e n f m = (view : LenView) → IsKept floor view
+    → (kept_length view new + amount (sees_in view e) n) % 2 ^ 64 ≡ (kept_length view old + amount (sees_in view f) m) % 2 ^ 64
+
+-- each view sees what it sees of both
+abbrev pub KeepsSum : ℕ → Summary → Summary → Summary → Type 0
+KeepsSum floor old other new = (view : LenView) → IsKept floor view → kept_length view new ≡ (kept_length view old + kept_length view other) % 2 ^ 64
+
+module _ {L : Type 0} where
+  -- by what a view sees of a leaf, and what a block keeps of that view
   abbrev pub by_view : (L → ℕ) → (L → Element) → LenView → Measure L
-  by_view size element view = record { leaf = seen_length size element view; block = λ v. 0 }
+  by_view size element view = record { leaf = seen_length size element view; block = kept_length view }
 
   -- by the size of a leaf
   abbrev pub by_size : (L → ℕ) → Measure L
@@ -73,6 +95,20 @@ module _ {L : Type 0} where
   abbrev pub length_of_node : Measure L → Node L Summary → ℕ
   length_of_node measure (Leaf value) = measure.leaf value
   length_of_node measure (Block kids value) = measure.block value
+
+  -- the node's table, if it is a block, has a floor up to this one
+  abbrev pub IsNodeFrom : ℕ → Node L Summary → Type 0
+  IsNodeFrom floor (Leaf value) = Unit {0}
+  IsNodeFrom floor (Block kids value) = value.table.floor ≤ floor
+
+  -- each block's table has a floor up to this one
+  abbrev pub AreFromFloor : ℕ → Forest L Summary → Type 0
+  AreFromFloor floor s = (id : ℕ) (v : Summary) → block_value s id ≡ Some v → v.table.floor ≤ floor
+
+  -- each view sees what it sees of the node more
+  abbrev pub KeepsNode : (L → ℕ) → (L → Element) → ℕ → Summary → Node L Summary → Summary → Type 0
+  KeepsNode size element floor old node new = (view : LenView) → IsKept floor view
+      → kept_length view new ≡ (kept_length view old + length_of_node (by_view size element view) node) % 2 ^ 64
 
   -- nothing for a leaf, the height for a block
   abbrev pub kind_of_node : Node L Summary → Option ℕ
@@ -108,8 +144,9 @@ module _ {L : Type 0} where
   below s zero xs = xs
   below s (suc j) xs = below s j (flat_map (kids_of s) xs)
 
-  -- the shape of a balanced tree, beside which one node may stand that is not in it yet
-  pub record IsShape (s : Forest L Summary) (root : ℕ) (extra : Option ℕ) : Type 0 where
+  -- the shape of a balanced tree, beside which one node may stand that is not in it, and in which one block may have too
+  -- few children
+  pub record IsShape (s : Forest L Summary) (root : ℕ) (extra short : Option ℕ) : Type 0 where
     pub forest : IsForest s
     pub root_is_block : IsSome (block_value s root)
     pub root_is_top : parent_of s root ≡ None
@@ -117,12 +154,12 @@ module _ {L : Type 0} where
     pub low : (id : ℕ) → IsSome (entry s id) → height_of s id ≤ height_of s root
     pub heights : (id block : ℕ) → parent_of s id ≡ Some block → height_of s block ≡ height_of s id + 1
     pub high : (block : ℕ) → IsSome (block_value s block) → 1 ≤ height_of s block
-    pub half_full : (block : ℕ) → IsSome (block_value s block) → block ≢ root → 4 ≤ length (kids_of s block)
+    pub half_full : (block : ℕ) → IsSome (block_value s block) → block ≢ root → short ≢ Some block → 4 ≤ length (kids_of s block)
     pub root_filled : 1 ≤ length (kids_of s root)
 
   -- a balanced tree whose lowest level is the list of leaves
   pub record IsTree (s : Forest L Summary) (root : ℕ) : Type 0 where
-    pub shape : IsShape s root None
+    pub shape : IsShape s root None None
     pub leaves : s.leaves ≡ below s (height_of s root) (root ∷ [])
 
   -- each block, but one, is as long as its children together
@@ -130,9 +167,39 @@ module _ {L : Type 0} where
   SumsBut measure s stale =
       (block : ℕ) → IsSome (block_value s block) → stale ≢ Some block → length_of measure s block ≡ total (length_of measure s) (kids_of s block)
 
+  -- the same in each view that the blocks keep
+  abbrev pub SumsKeptBut : (L → ℕ) → (L → Element) → ℕ → Forest L Summary → Option ℕ → Type 0
+  SumsKeptBut size element floor s stale = (view : LenView) → IsKept floor view → SumsBut (by_view size element view) s stale
+
+  -- what the block keeps is too little by `more` and too much by `less` for these children
+  abbrev pub Owes : Measure L → Forest L Summary → ℕ → List ℕ → ℕ → ℕ → Type 0
+  Owes measure s block kids more less = length_of measure s block + more ≡ total (length_of measure s) kids + less
+
+  -- the same for the children of this block, if one is given
+  abbrev pub OwesAt : Measure L → Forest L Summary → Option ℕ → ℕ → ℕ → Type 0
+  OwesAt measure s stale more less = (block : ℕ) → stale ≡ Some block → Owes measure s block (kids_of s block) more less
+
+  -- the same for the children of the node's parent, once they are edited
+  abbrev pub OwesAbove : Measure L → Forest L Summary → ℕ → (List ℕ → List ℕ) → ℕ → ℕ → Type 0
+  OwesAbove measure s at e more less = (block : ℕ) → parent_of s at ≡ Some block → Owes measure s block (e (kids_of s block)) more less
+
+  -- a balanced tree of some of the leaves, but for a lower node beside it and a block that has too few children
+  pub record IsPartTree (s : Forest L Summary) (root : ℕ) (extra short : Option ℕ) : Type 0 where
+    pub shape : IsShape s root extra short
+    pub low : (id : ℕ) → extra ≡ Some id → height_of s id ≡ 0
+    pub part : (f : ℕ → ℕ) → total f (below s (height_of s root) (root ∷ [])) ≤ total f s.leaves
+
+  -- a balanced tree of all leaves but this one, which has no parent, where one block may have too few children
+  pub record IsApart (s : Forest L Summary) (root id : ℕ) (short : Option ℕ) : Type 0 where
+    pub shape : IsShape s root (Some id) short
+    pub live : IsSome (leaf_value s id)
+    pub top : parent_of s id ≡ None
+    pub leaves : without s.leaves id ≡ below s (height_of s root) (root ∷ [])
+    pub filled : (block : ℕ) → short ≡ Some block → 1 ≤ length (kids_of s block)
+
   -- a node that is not in the tree yet, to be put beside this one on its level, as the edit says
   pub record IsGrowing (s : Forest L Summary) (root at new : ℕ) (e : List ℕ → List ℕ) : Type 0 where
-    pub shape : IsShape s root (Some new)
+    pub shape : IsShape s root (Some new) None
     pub new_live : IsSome (entry s new)
     pub new_top : parent_of s new ≡ None
     pub new_apart : new ≢ root

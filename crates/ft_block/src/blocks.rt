@@ -4,12 +4,14 @@ ghost use Rattle.std.specs.Prelude.{◌≡◌, ◌≢◌, ℕ, ◌+◌, ◌*◌,
 ghost use Rattle.ft_arena.specs.Ids.{first, after};
 
 use crate::change::change_in;
-use crate::counted::{insert_in, leaf_in, length_in, position_in, set_stamps_in, split_in};
+use crate::counted::{
+    insert_in, join_in, leaf_in, length_in, move_in, position_in, set_stamps_in, split_in, take_in,
+};
 use crate::find::find_from;
 use crate::leaves::{Leaf, LenView};
 use crate::summaries::Summary;
 use ft_arena::{Arena, NodeId};
-use ft_base::{Element, OutOfMemory, Steps};
+use ft_base::{Element, OutOfMemory, Perspective, Steps};
 use std::alloc::Global;
 use std::marker::{Brand, Model};
 use std::sync::ledger::{Blank, Ledger};
@@ -32,13 +34,16 @@ pub struct OutOfRange {
 
 /// Leaves in order, in a balanced tree: at most eight children a block, at least four but at the root,
 /// all leaves at one depth. A contract sees the leaves from first to last, each with its node and its
-/// value, the number of blocks below the root on the way to a leaf, and whether the blocks may still be
-/// used: after want of memory they may not, for good.
+/// value, the number of blocks below the root on the way to a leaf, the floor, and whether the blocks
+/// may still be used: after want of memory they may not, for good. What perspectives see is answered
+/// for those from the floor up; it is 0 at first.
 #[derive(Drop)]
 pub struct Blocks<L: Leaf> {
     arena: Arena<L, Summary>,
     root: Option<usize>,
+    floor: u64,
     usable: bool,
+    alloc: Global,
 }
 
 impl<L: Leaf> Model for Blocks<L> {
@@ -54,16 +59,20 @@ impl<L: Leaf> Model for Blocks<L> {
 }
 
 impl<L: Leaf> Blocks<L> {
-    ghost use Rattle.ft_block.specs.Leaves.{LeafList, IsLeafIn, IsPlaceIn, times_leaf, ids, value_at, length_by, place_by, left_of, put_leaf, change_leaf, split_leaf, local_length, seen_length};
+    ghost use Rattle.ft_block.specs.Leaves.{LeafList, IsLeafIn, IsPlaceIn, times_leaf, ids, value_at, length_by, place_by, left_of, put_leaf, change_leaf, split_leaf, without_leaf, move_leaf, value_after, join_leaf, local_length, seen_length, IsFromFloor};
+    ghost use Rattle.ft_block.specs.Tree.{IsKept};
+    ghost use Rattle.ft_block.specs.declared.leaves.LenView.TheVariants.{At};
 
     /// No leaves. It takes no memory.
     pub fn new(alloc: Global) -> Blocks<L>
-        ensures { result ≡ record { leaves = []; depth = 0; usable = true } }
+        ensures { result ≡ record { leaves = []; depth = 0; floor = 0; usable = true } }
     {
         Blocks {
             arena: Arena::new(alloc),
             root: None,
+            floor: 0,
             usable: true,
+            alloc,
         }
     }
 
@@ -127,6 +136,46 @@ impl<L: Leaf> Blocks<L> {
         ensures cost { steps.new ≤ steps.old + 9 * (self.now.depth + 1) }
         ensures depth { 4 ^ self.now.depth ≤ length self.now.leaves + 1 }
     {
+        self.find_in(p, LenView::Stage(u64::MAX), steps)
+    }
+
+    /// The leaf that holds the `p`-th element that the perspective sees, and how many of its elements
+    /// stand up to that one; the head of the list for `p` = 0. The reference number isn't below the
+    /// floor. Each read of a node is one step. It takes no memory.
+    ///
+    /// Answers `OutOfRange` exactly where `p` is above the length that the perspective sees.
+    pub fn find<G: Ledger>(
+        &self,
+        p: u64,
+        at: Perspective,
+        steps: &mut Steps<G>,
+    ) -> Result<Found, OutOfRange>
+        requires usable { IsTrue self.now.usable }
+        requires floor { self.now.floor ≤ at.r }
+        ensures found { IfOk result (λ found. place_by (seen_length L.size L.element (At at)) self.now.leaves p ≡ Some found) }
+        ensures length { IfErr result (λ e. e.length ≡ length_by (seen_length L.size L.element (At at)) self.now.leaves) }
+        ensures beyond { IfErr result (λ e. e.length < p) }
+        ensures cost { steps.new ≤ steps.old + 9 * (self.now.depth + 1) }
+        ensures depth { 4 ^ self.now.depth ≤ length self.now.leaves + 1 }
+    {
+        self.find_in(p, LenView::At(at), steps)
+    }
+
+    // The same in any view that the blocks keep.
+    fn find_in<G: Ledger>(
+        &self,
+        p: u64,
+        view: LenView,
+        steps: &mut Steps<G>,
+    ) -> Result<Found, OutOfRange>
+        requires usable { IsTrue self.now.usable }
+        requires kept { IsKept self.now.floor view }
+        ensures found { IfOk result (λ found. place_by (seen_length L.size L.element view) self.now.leaves p ≡ Some found) }
+        ensures length { IfErr result (λ e. e.length ≡ length_by (seen_length L.size L.element view) self.now.leaves) }
+        ensures beyond { IfErr result (λ e. e.length < p) }
+        ensures cost { steps.new ≤ steps.old + 9 * (self.now.depth + 1) }
+        ensures depth { 4 ^ self.now.depth ≤ length self.now.leaves + 1 }
+    {
         let _ = &self.root;
         if p == 0 {
             return Ok(Found {
@@ -136,35 +185,48 @@ impl<L: Leaf> Blocks<L> {
         }
         match self.root {
             None => Err(OutOfRange { length: 0 }),
-            Some(root) => match find_from(&self.arena, NodeId(root), p, steps) {
-                Ok((id, offset)) => Ok(Found {
-                    leaf: Some(id),
-                    offset,
-                }),
-                Err(length) => Err(OutOfRange { length }),
-            },
+            Some(root) => {
+                match find_from(&self.arena, NodeId(root), self.floor, view, p, steps) {
+                    Ok((id, offset)) => Ok(Found {
+                        leaf: Some(id),
+                        offset,
+                    }),
+                    Err(length) => Err(OutOfRange { length }),
+                }
+            }
         }
     }
 
     /// How many elements the view sees left of the leaf. It takes no memory.
     ///
-    /// At stage `u64::MAX` it goes up from the leaf, and in any other view along the leaves.
+    /// At stage `u64::MAX`, and for a perspective, whose reference number isn't below the floor, it goes
+    /// up from the leaf, and at any other stage along the leaves.
     pub fn position_of(&self, leaf: NodeId, view: LenView) -> u64
         requires usable { IsTrue self.now.usable }
+        requires floor { IsFromFloor self.now.floor view }
         requires live { IsLeafIn self.now.leaves leaf }
         ensures { result ≡ length_by (seen_length L.size L.element view) (left_of self.now.leaves leaf) }
     {
-        position_in::<L, Brand>(&self.arena, self.root, leaf, view, Blank::new(1))
+        position_in::<L, Brand>(
+            &self.arena,
+            self.root,
+            self.floor,
+            leaf,
+            view,
+            Blank::new(1),
+        )
     }
 
     /// How many elements the view sees. It takes no memory.
     ///
-    /// At stage `u64::MAX` it is kept, and in any other view it goes along the leaves.
+    /// At stage `u64::MAX`, and for a perspective, whose reference number isn't below the floor, it is
+    /// kept, and at any other stage it goes along the leaves.
     pub fn length(&self, view: LenView) -> u64
-        requires { IsTrue self.now.usable }
+        requires usable { IsTrue self.now.usable }
+        requires floor { IsFromFloor self.now.floor view }
         ensures { result ≡ length_by (seen_length L.size L.element view) self.now.leaves }
     {
-        length_in::<L, Brand>(&self.arena, self.root, view, Blank::new(1))
+        length_in::<L, Brand>(&self.arena, self.root, self.floor, view, Blank::new(1))
     }
 
     /// Puts a new leaf directly after the given one, or first where none is given.
@@ -179,10 +241,19 @@ impl<L: Leaf> Blocks<L> {
         ensures ok { IfOk result (λ id. self.new.leaves ≡ put_leaf self.old.leaves at (id, leaf)) }
         ensures fresh { IfOk result (λ id. times_leaf self.old.leaves id ≡ 0) }
         ensures usable { OnOk result (self.new.usable ≡ true) }
+        ensures floor { self.new.floor ≡ self.old.floor }
         ensures err { OnErr result (self.new.usable ≡ false) }
     {
         let _len = leaf.len();
-        match insert_in::<L, Brand>(&mut self.arena, self.root, at, leaf, Blank::new(1)) {
+        match insert_in::<L, Brand>(
+            &mut self.arena,
+            self.alloc,
+            self.floor,
+            self.root,
+            at,
+            leaf,
+            Blank::new(1),
+        ) {
             Ok((top, id)) => {
                 self.root = Some(top.0);
                 Ok(id)
@@ -205,9 +276,18 @@ impl<L: Leaf> Blocks<L> {
         ensures ok { IfOk result (λ id. self.new.leaves ≡ split_leaf (λ v. L.front v at) (λ v. L.rear v at) self.old.leaves leaf id) }
         ensures fresh { IfOk result (λ id. times_leaf self.old.leaves id ≡ 0) }
         ensures usable { OnOk result (self.new.usable ≡ true) }
+        ensures floor { self.new.floor ≡ self.old.floor }
         ensures err { OnErr result (self.new.usable ≡ false) }
     {
-        match split_in::<L, Brand>(&mut self.arena, self.root, leaf, at, Blank::new(1)) {
+        match split_in::<L, Brand>(
+            &mut self.arena,
+            self.alloc,
+            self.floor,
+            self.root,
+            leaf,
+            at,
+            Blank::new(1),
+        ) {
             Ok((top, id)) => {
                 self.root = Some(top.0);
                 Ok(id)
@@ -227,10 +307,23 @@ impl<L: Leaf> Blocks<L> {
         requires live { IsLeafIn self.old.leaves id }
         ensures ok { OnOk result (self.new.leaves ≡ change_leaf (λ v. L.with_element v e) self.old.leaves id) }
         ensures usable { OnOk result (self.new.usable ≡ true) }
+        ensures floor { self.new.floor ≡ self.old.floor }
         ensures err { OnErr result (self.new.usable ≡ false) }
     {
-        set_stamps_in::<L, Brand>(&mut self.arena, self.root, id, e, Blank::new(1));
-        Ok(())
+        match set_stamps_in::<L, Brand>(
+            &mut self.arena,
+            self.root,
+            self.floor,
+            id,
+            e,
+            Blank::new(1),
+        ) {
+            Ok(()) => Ok(()),
+            Err(e) => {
+                self.usable = false;
+                Err(e)
+            }
+        }
     }
 
     /// Makes this change of all elements of a leaf. No other leaf changes.
@@ -241,14 +334,125 @@ impl<L: Leaf> Blocks<L> {
         requires can { IsSomeAnd (value_at self.old.leaves id) (λ v. L.CanChange v c.now) }
         ensures ok { OnOk result (self.new.leaves ≡ change_leaf (λ v. L.changed v c.now) self.old.leaves id) }
         ensures usable { OnOk result (self.new.usable ≡ true) }
+        ensures floor { self.new.floor ≡ self.old.floor }
         ensures err { OnErr result (self.new.usable ≡ false) }
     {
-        match change_in(&mut self.arena, self.root, id, c) {
+        match change_in(&mut self.arena, self.root, self.floor, id, c) {
             Ok(()) => Ok(()),
             Err(e) => {
                 self.usable = false;
                 Err(e)
             }
         }
+    }
+
+    /// Takes a leaf out, and answers its value. No other leaf changes.
+    ///
+    /// Answers `OutOfMemory` where there is no room for what blocks keep, and then the blocks may be used
+    /// no more.
+    pub fn take(&mut self, id: NodeId) -> Result<L, OutOfMemory>
+        requires usable { IsTrue self.old.usable }
+        requires live { IsLeafIn self.old.leaves id }
+        ensures value { IfOk result (λ v. value_at self.old.leaves id ≡ Some v) }
+        ensures ok { OnOk result (self.new.leaves ≡ without_leaf self.old.leaves id) }
+        ensures usable { OnOk result (self.new.usable ≡ true) }
+        ensures floor { self.new.floor ≡ self.old.floor }
+        ensures err { OnErr result (self.new.usable ≡ false) }
+    {
+        match take_in::<L, Brand>(
+            &mut self.arena,
+            self.alloc,
+            self.floor,
+            self.root,
+            id,
+            Blank::new(1),
+        ) {
+            Ok((root, value)) => {
+                self.root = root;
+                Ok(value)
+            }
+            Err(e) => {
+                self.usable = false;
+                Err(e)
+            }
+        }
+    }
+
+    /// Joins the next leaf's elements, which have the same stamps, to this leaf, and takes the next leaf
+    /// out. No other leaf changes.
+    ///
+    /// Answers `OutOfMemory` where there is no room for them, and then the blocks may be used no more.
+    pub fn join_next(&mut self, id: NodeId) -> Result<(), OutOfMemory>
+    where
+        L: Drop,
+        requires usable { IsTrue self.old.usable }
+        requires can { IsSomeAnd (value_at self.old.leaves id) (λ v. IsSomeAnd (value_after self.old.leaves id) (λ w. IsTrue (L.joins v w) × (L.element v ≡ L.element w))) }
+        ensures ok { OnOk result (self.new.leaves ≡ join_leaf (λ v w. L.joined v w) self.old.leaves id) }
+        ensures usable { OnOk result (self.new.usable ≡ true) }
+        ensures floor { self.new.floor ≡ self.old.floor }
+        ensures err { OnErr result (self.new.usable ≡ false) }
+    {
+        let _first = self.first();
+        let Some(next) = self.next(id) else {
+            unreachable!();
+        };
+        let value = self.take(next)?;
+        match join_in::<L, Brand>(
+            &mut self.arena,
+            self.root,
+            self.floor,
+            id,
+            value,
+            Blank::new(1),
+        ) {
+            Ok(()) => Ok(()),
+            Err(e) => {
+                self.usable = false;
+                Err(e)
+            }
+        }
+    }
+
+    /// Moves a leaf directly after the given one, or first where none is given. It keeps its node, and
+    /// all other leaves keep theirs and their order.
+    ///
+    /// Answers `OutOfMemory` where there is no room for what blocks keep, and then the blocks may be used
+    /// no more.
+    pub fn move_after(&mut self, id: NodeId, at: Option<NodeId>) -> Result<(), OutOfMemory>
+        requires usable { IsTrue self.old.usable }
+        requires live { IsLeafIn self.old.leaves id }
+        requires place { IsPlaceIn self.old.leaves at }
+        requires differ { at ≢ Some id }
+        ensures ok { OnOk result (self.new.leaves ≡ move_leaf self.old.leaves id at (value_at self.old.leaves id)) }
+        ensures usable { OnOk result (self.new.usable ≡ true) }
+        ensures floor { self.new.floor ≡ self.old.floor }
+        ensures err { OnErr result (self.new.usable ≡ false) }
+    {
+        match move_in::<L, Brand>(
+            &mut self.arena,
+            self.alloc,
+            self.floor,
+            self.root,
+            id,
+            at,
+            Blank::new(1),
+        ) {
+            Ok(root) => {
+                self.root = root;
+                Ok(())
+            }
+            Err(e) => {
+                self.usable = false;
+                Err(e)
+            }
+        }
+    }
+
+    /// Raises the floor, which isn't below the old one. It takes no memory.
+    pub fn raise_floor(&mut self, floor: u64)
+        requires { self.old.floor ≤ floor }
+        ensures { self.new ≡ record self.old { floor = floor } }
+    {
+        self.floor = floor;
     }
 }

@@ -1,19 +1,22 @@
 //! The calls that are given no counter of steps: each makes one of its own.
 
-ghost use Rattle.std.specs.Prelude.{◌≡◌, ◌+◌, ◌^◌, ◌<◌, ◌≤◌, Some, None, IsSome, IsSomeAnd, IfOk};
+ghost use Rattle.std.specs.Prelude.{◌≡◌, ◌≢◌, ◌+◌, ◌^◌, ◌<◌, ◌≤◌, Some, None, IsSome, IsSomeAnd, IsTrue, IfOk, OnOk};
 ghost use Rattle.ft_arena.specs.Forest.{IsPlace, leaf_value};
 ghost use Rattle.ft_arena.specs.Ids.{put_after};
 ghost use Rattle.ft_block.specs.Tree.{by_size, by_view, length_of, total, before};
-ghost use Rattle.ft_block.specs.Steps.{InsertsLeaf, SplitsLeaf, ChangesLeaf};
+ghost use Rattle.ft_block.specs.Steps.{InsertsLeaf, SplitsLeaf, ChangesLeaf, TakesLeaf, MovesLeaf};
+ghost use Rattle.ft_block.specs.Leaves.{IsFromFloor};
 ghost use Rattle.ft_block.specs.Inside.{IsSound};
 
-use crate::change::{set_stamps_at, split_at};
+use crate::change::{join_at, set_stamps_at, split_at};
 use crate::grow::{insert_at, insert_first, insert_front};
-use crate::leaves::{Leaf, LenView, is_last};
-use crate::position::{leaf_at, local_before, local_in_all, seen_up_to};
+use crate::leaves::{Leaf, LenView, is_kept};
+use crate::position::{kept_before, kept_in_all, leaf_at, seen_up_to};
+use crate::shrink::{move_at, stands_there, take_at};
 use crate::summaries::Summary;
 use ft_arena::{Arena, NodeId};
 use ft_base::{Element, OutOfMemory, Steps};
+use std::alloc::Global;
 use std::sync::ledger::{Blank, Ledger};
 
 // The value of a leaf.
@@ -36,6 +39,7 @@ pub(crate) fn leaf_in<'a, L: Leaf, G: Ledger>(
 pub(crate) fn position_in<L: Leaf, G: Ledger>(
     arena: &Arena<L, Summary>,
     root: Option<usize>,
+    floor: u64,
     leaf: NodeId,
     view: LenView,
     blank: Blank,
@@ -43,13 +47,16 @@ pub(crate) fn position_in<L: Leaf, G: Ledger>(
     requires name { blank.name ≡ G.name }
     requires parts { blank.parts ≡ G.parts }
     requires one { 0 < blank.parts }
-    requires sound { IsSound L.size L.element arena.now root }
+    requires sound { IsSound L.size L.element floor arena.now root }
+    requires floor { IsFromFloor floor view }
     requires live { IsSome (leaf_value arena.now leaf) }
     ensures { result ≡ total (length_of (by_view L.size L.element view) arena.now) (before arena.now.leaves leaf) }
 {
     let mut steps = Steps::<G>::new(blank);
     match root {
-        Some(root) if is_last(view) => local_before(arena, NodeId(root), leaf, &mut steps),
+        Some(root) if is_kept(view, floor) => {
+            kept_before(arena, NodeId(root), leaf, floor, view, &mut steps)
+        }
         _ => seen_up_to(arena, Some(leaf.0), view, &mut steps),
     }
 }
@@ -58,18 +65,22 @@ pub(crate) fn position_in<L: Leaf, G: Ledger>(
 pub(crate) fn length_in<L: Leaf, G: Ledger>(
     arena: &Arena<L, Summary>,
     root: Option<usize>,
+    floor: u64,
     view: LenView,
     blank: Blank,
 ) -> u64
     requires name { blank.name ≡ G.name }
     requires parts { blank.parts ≡ G.parts }
     requires one { 0 < blank.parts }
-    requires sound { IsSound L.size L.element arena.now root }
+    requires sound { IsSound L.size L.element floor arena.now root }
+    requires floor { IsFromFloor floor view }
     ensures { result ≡ total (length_of (by_view L.size L.element view) arena.now) arena.now.leaves }
 {
     let mut steps = Steps::<G>::new(blank);
     match root {
-        Some(root) if is_last(view) => local_in_all(arena, NodeId(root), &mut steps),
+        Some(root) if is_kept(view, floor) => {
+            kept_in_all(arena, NodeId(root), floor, view, &mut steps)
+        }
         _ => seen_up_to(arena, None, view, &mut steps),
     }
 }
@@ -77,6 +88,8 @@ pub(crate) fn length_in<L: Leaf, G: Ledger>(
 // Puts a new leaf directly after another, or first. Tells the root and the new leaf.
 pub(crate) fn insert_in<L: Leaf, G: Ledger>(
     arena: &mut Arena<L, Summary>,
+    alloc: Global,
+    floor: u64,
     root: Option<usize>,
     at: Option<NodeId>,
     leaf: L,
@@ -87,19 +100,19 @@ where
     requires name { blank.name ≡ G.name }
     requires parts { blank.parts ≡ G.parts }
     requires one { 0 < blank.parts }
-    requires sound { IsSound L.size L.element arena.old root }
+    requires sound { IsSound L.size L.element floor arena.old root }
     requires at { IsPlace arena.old at }
     requires some { 1 ≤ L.size leaf }
     requires fits { total (length_of (by_size L.size) arena.old) arena.old.leaves + L.size leaf < 2 ^ 64 }
-    ensures sound { IfOk result (λ r. IsSound L.size L.element arena.new (Some r.0)) }
+    ensures sound { IfOk result (λ r. IsSound L.size L.element floor arena.new (Some r.0)) }
     ensures inserts { IfOk result (λ r. InsertsLeaf arena.old arena.new r.1 leaf (λ xs. put_after xs at r.1)) }
 {
     let mut steps = Steps::<G>::new(blank);
     match root {
-        None => insert_first(arena, leaf, &mut steps),
+        None => insert_first(arena, alloc, floor, leaf, &mut steps),
         Some(root) => match at {
-            None => insert_front(arena, NodeId(root), leaf, &mut steps),
-            Some(at) => insert_at(arena, NodeId(root), at, leaf, &mut steps),
+            None => insert_front(arena, alloc, floor, NodeId(root), leaf, &mut steps),
+            Some(at) => insert_at(arena, alloc, floor, NodeId(root), at, leaf, &mut steps),
         },
     }
 }
@@ -107,6 +120,8 @@ where
 // Cuts a leaf in two. Tells the root and the new leaf.
 pub(crate) fn split_in<L: Leaf, G: Ledger>(
     arena: &mut Arena<L, Summary>,
+    alloc: Global,
+    floor: u64,
     root: Option<usize>,
     leaf: NodeId,
     at: u64,
@@ -115,16 +130,16 @@ pub(crate) fn split_in<L: Leaf, G: Ledger>(
     requires name { blank.name ≡ G.name }
     requires parts { blank.parts ≡ G.parts }
     requires one { 0 < blank.parts }
-    requires sound { IsSound L.size L.element arena.old root }
+    requires sound { IsSound L.size L.element floor arena.old root }
     requires low { 1 ≤ at }
     requires high { IsSomeAnd (leaf_value arena.old leaf) (λ v. at < L.size v) }
-    ensures sound { IfOk result (λ r. IsSound L.size L.element arena.new (Some r.0)) }
+    ensures sound { IfOk result (λ r. IsSound L.size L.element floor arena.new (Some r.0)) }
     ensures splits { IfOk result (λ r. SplitsLeaf (λ v. L.front v at) (λ v. L.rear v at) arena.old arena.new leaf r.1) }
 {
     let mut steps = Steps::<G>::new(blank);
     match root {
         None => unreachable!(),
-        Some(root) => split_at(arena, NodeId(root), leaf, at, &mut steps),
+        Some(root) => split_at(arena, alloc, floor, NodeId(root), leaf, at, &mut steps),
     }
 }
 
@@ -132,21 +147,106 @@ pub(crate) fn split_in<L: Leaf, G: Ledger>(
 pub(crate) fn set_stamps_in<L: Leaf, G: Ledger>(
     arena: &mut Arena<L, Summary>,
     root: Option<usize>,
+    floor: u64,
     id: NodeId,
     e: Element,
     blank: Blank,
-)
+) -> Result<(), OutOfMemory>
     requires name { blank.name ≡ G.name }
     requires parts { blank.parts ≡ G.parts }
     requires one { 0 < blank.parts }
-    requires sound { IsSound L.size L.element arena.old root }
+    requires sound { IsSound L.size L.element floor arena.old root }
     requires live { IsSome (leaf_value arena.old id) }
-    ensures sound { IsSound L.size L.element arena.new root }
-    ensures changes { ChangesLeaf (λ v. L.with_element v e) arena.old arena.new id }
+    ensures sound { OnOk result (IsSound L.size L.element floor arena.new root) }
+    ensures changes { OnOk result (ChangesLeaf (λ v. L.with_element v e) arena.old arena.new id) }
 {
     let mut steps = Steps::<G>::new(blank);
     match root {
         None => unreachable!(),
-        Some(root) => set_stamps_at(arena, NodeId(root), id, e, &mut steps),
+        Some(root) => set_stamps_at(arena, floor, NodeId(root), id, e, &mut steps),
+    }
+}
+
+// Takes a leaf out. Tells the root, if there is a leaf left, and the leaf's value.
+pub(crate) fn take_in<L: Leaf, G: Ledger>(
+    arena: &mut Arena<L, Summary>,
+    alloc: Global,
+    floor: u64,
+    root: Option<usize>,
+    id: NodeId,
+    blank: Blank,
+) -> Result<(Option<usize>, L), OutOfMemory>
+    requires name { blank.name ≡ G.name }
+    requires parts { blank.parts ≡ G.parts }
+    requires one { 0 < blank.parts }
+    requires sound { IsSound L.size L.element floor arena.old root }
+    requires live { IsSome (leaf_value arena.old id) }
+    ensures sound { IfOk result (λ r. IsSound L.size L.element floor arena.new r.0) }
+    ensures takes { IfOk result (λ r. TakesLeaf arena.old arena.new id r.1) }
+{
+    let mut steps = Steps::<G>::new(blank);
+    match root {
+        None => unreachable!(),
+        Some(root) => take_at(arena, alloc, floor, NodeId(root), id, &mut steps),
+    }
+}
+
+// Adds another leaf's elements at the end of a leaf.
+pub(crate) fn join_in<L: Leaf, G: Ledger>(
+    arena: &mut Arena<L, Summary>,
+    root: Option<usize>,
+    floor: u64,
+    id: NodeId,
+    other: L,
+    blank: Blank,
+) -> Result<(), OutOfMemory>
+where
+    L: Drop,
+    requires name { blank.name ≡ G.name }
+    requires parts { blank.parts ≡ G.parts }
+    requires one { 0 < blank.parts }
+    requires sound { IsSound L.size L.element floor arena.old root }
+    requires can { IsSomeAnd (leaf_value arena.old id) (λ v. IsTrue (L.joins v other) × (L.element v ≡ L.element other)) }
+    requires fits { total (length_of (by_size L.size) arena.old) arena.old.leaves + L.size other < 2 ^ 64 }
+    ensures sound { OnOk result (IsSound L.size L.element floor arena.new root) }
+    ensures changes { OnOk result (ChangesLeaf (λ v. L.joined v other) arena.old arena.new id) }
+{
+    let mut steps = Steps::<G>::new(blank);
+    match root {
+        None => unreachable!(),
+        Some(root) => join_at(arena, floor, NodeId(root), id, other, &mut steps),
+    }
+}
+
+// Moves a leaf directly after another, or to the head. Tells the root.
+pub(crate) fn move_in<L: Leaf, G: Ledger>(
+    arena: &mut Arena<L, Summary>,
+    alloc: Global,
+    floor: u64,
+    root: Option<usize>,
+    id: NodeId,
+    at: Option<NodeId>,
+    blank: Blank,
+) -> Result<Option<usize>, OutOfMemory>
+    requires name { blank.name ≡ G.name }
+    requires parts { blank.parts ≡ G.parts }
+    requires one { 0 < blank.parts }
+    requires sound { IsSound L.size L.element floor arena.old root }
+    requires live { IsSome (leaf_value arena.old id) }
+    requires at { IsPlace arena.old at }
+    requires differ { at ≢ Some id }
+    ensures sound { IfOk result (λ r. IsSound L.size L.element floor arena.new r) }
+    ensures moves { OnOk result (MovesLeaf arena.old arena.new id at) }
+{
+    let mut steps = Steps::<G>::new(blank);
+    match root {
+        None => unreachable!(),
+        Some(top) => {
+            if stands_there(arena, id, &at) {
+                return Ok(root);
+            }
+            let top = move_at(arena, alloc, floor, NodeId(top), id, at, &mut steps)?;
+            Ok(Some(top.0))
+        }
     }
 }

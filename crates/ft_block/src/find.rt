@@ -1,9 +1,9 @@
-//! How a place in the local view is found: down from the root, past the children that it lies behind.
+//! How a place in a view is found: down from the root, past the children that it lies behind.
 
 ghost use Rattle.std.specs.Prelude.{◌≡◌, ℕ, ◌+◌, ◌*◌, ◌<◌, ◌≤◌, Some, None, IsSome, IfOk, IfErr};
 ghost use Rattle.ft_arena.specs.Forest.{entry};
 ghost use Rattle.ft_arena.specs.Ids.{times};
-ghost use Rattle.ft_block.specs.Tree.{IsTree, SumsBut, by_local, height_of, length_of, length_of_node, seek, total};
+ghost use Rattle.ft_block.specs.Tree.{IsTree, SumsBut, AreFromFloor, IsNodeFrom, IsKept, by_view, height_of, length_of, length_of_node, seek, total};
 
 use crate::leaves::{Leaf, LenView, seen_length};
 use crate::summaries::Summary;
@@ -11,13 +11,15 @@ use ft_arena::{Arena, Kids, Node, NodeId};
 use ft_base::Steps;
 use std::sync::ledger::Ledger;
 
-// The length of a node in the local view.
-pub(crate) fn local_of<L: Leaf>(node: &Node<L, Summary>) -> u64
-    ensures { result ≡ length_of_node (by_local L.size L.element) node.now }
+// The length of a node in a view.
+pub(crate) fn length_at<L: Leaf>(node: &Node<L, Summary>, _floor: u64, view: LenView) -> u64
+    requires kept { IsKept _floor view }
+    requires node { IsNodeFrom _floor node.now }
+    ensures { result ≡ length_of_node (by_view L.size L.element view) node.now }
 {
     match node {
-        Node::Leaf { value } => seen_length(value, LenView::Stage(u64::MAX)),
-        Node::Block { value, .. } => value.local,
+        Node::Leaf { value } => seen_length(value, view),
+        Node::Block { value, .. } => value.kept(view),
     }
 }
 
@@ -25,20 +27,24 @@ pub(crate) fn local_of<L: Leaf>(node: &Node<L, Summary>) -> u64
 fn child_at<L: Leaf, G: Ledger>(
     arena: &Arena<L, Summary>,
     kids: &Kids,
+    floor: u64,
+    view: LenView,
     p: u64,
     steps: &mut Steps<G>,
 ) -> (NodeId, u64)
+    requires kept { IsKept floor view }
+    requires floors { AreFromFloor floor arena.now }
     requires live { (id : ℕ) → 1 ≤ times kids.now id → IsSome (entry arena.now id) }
     requires low { 1 ≤ p }
-    requires within { p ≤ total (length_of (by_local L.size L.element) arena.now) kids.now }
-    ensures found { seek (length_of (by_local L.size L.element) arena.now) kids.now p ≡ Some (result.0, result.1) }
+    requires within { p ≤ total (length_of (by_view L.size L.element view) arena.now) kids.now }
+    ensures found { seek (length_of (by_view L.size L.element view) arena.now) kids.now p ≡ Some (result.0, result.1) }
     ensures cost { steps.new ≤ steps.old + 8 }
 {
     let _few = kids.len();
     let mut rest = p;
     let mut i = 0;
     while let Some(kid) = kids.get(i) {
-        let n = local_of(arena.read(kid, steps));
+        let n = length_at(arena.read(kid, steps), floor, view);
         if rest <= n {
             return (kid, rest);
         }
@@ -52,14 +58,18 @@ fn child_at<L: Leaf, G: Ledger>(
 pub(crate) fn find_from<L: Leaf, G: Ledger>(
     arena: &Arena<L, Summary>,
     root: NodeId,
+    floor: u64,
+    view: LenView,
     p: u64,
     steps: &mut Steps<G>,
 ) -> Result<(NodeId, u64), u64>
     requires tree { IsTree arena.now root }
-    requires sums { SumsBut (by_local L.size L.element) arena.now None }
+    requires kept { IsKept floor view }
+    requires floors { AreFromFloor floor arena.now }
+    requires sums { SumsBut (by_view L.size L.element view) arena.now None }
     requires low { 1 ≤ p }
-    ensures found { IfOk result (λ f. seek (length_of (by_local L.size L.element) arena.now) arena.now.leaves p ≡ Some (f.0, f.1)) }
-    ensures past { IfErr result (λ n. n ≡ total (length_of (by_local L.size L.element) arena.now) arena.now.leaves) }
+    ensures found { IfOk result (λ f. seek (length_of (by_view L.size L.element view) arena.now) arena.now.leaves p ≡ Some (f.0, f.1)) }
+    ensures past { IfErr result (λ n. n ≡ total (length_of (by_view L.size L.element view) arena.now) arena.now.leaves) }
     ensures beyond { IfErr result (λ n. n < p) }
     ensures cost { steps.new ≤ steps.old + 9 * height_of arena.now root }
 {
@@ -69,10 +79,11 @@ pub(crate) fn find_from<L: Leaf, G: Ledger>(
         let Node::Block { kids, value } = arena.read(at, steps) else {
             unreachable!();
         };
-        if value.local < rest {
-            return Err(value.local);
+        let length = value.kept(view);
+        if length < rest {
+            return Err(length);
         }
-        let (child, further) = child_at(arena, kids, rest, steps);
+        let (child, further) = child_at(arena, kids, floor, view, rest, steps);
         if value.height == 1 {
             return Ok((child, further));
         }

@@ -1,20 +1,22 @@
 //! How a node is put into the tree: beside another of its level, with full blocks split on the way up.
 
-ghost use Rattle.std.specs.Prelude.{◌≡◌, ◌≢◌, ℕ, ◌+◌, ◌-◌, ◌^◌, ◌<◌, ◌≤◌, Some, None, IsSome, IfOk, length, slice_get, insert, [], ◌∷◌};
+ghost use Rattle.std.specs.Prelude.{◌≡◌, ◌≢◌, ℕ, ◌+◌, ◌-◌, ◌^◌, ◌<◌, ◌≤◌, Option, Some, None, IsSome, IfOk, OnOk, length, slice_get, insert, [], ◌∷◌};
 ghost use Rattle.ft_arena.specs.Forest.{IsForest, entry, block_value, kids_of, parent_of, leaf_value};
 ghost use Rattle.ft_arena.specs.Ids.{times, insert_after};
-ghost use Rattle.ft_block.specs.Tree.{IsTree, IsGrowing, IsBare, SumsBut, by_local, height_of, length_of, total, kind_of, insert_before};
-ghost use Rattle.ft_block.specs.Steps.{PutsAt, SplitsAt, RootsOver, Halves, PutsInHalf, Resums, ResumsBoth, InsertsLeaf};
+ghost use Rattle.ft_block.specs.declared.leaves.LenView.{LenView};
+ghost use Rattle.ft_block.specs.Tree.{IsTree, IsGrowing, IsBare, SumsKeptBut, OwesAbove, OwesAt, AreFromFloor, IsKept, by_view, by_size, height_of, length_of, total, kind_of, insert_before};
+ghost use Rattle.ft_block.specs.Steps.{SplitsAt, RootsOver, Halves, PutsInHalf, Resums, ResumsBoth, InsertsLeaf};
 
 use crate::leaves::Leaf;
-use crate::refresh::{refresh, refresh_up};
+use crate::refresh::{exchange_up, rebuild};
 use crate::summaries::Summary;
 use ft_arena::{Arena, Node, NodeId};
 use ft_base::{OutOfMemory, Steps};
+use std::alloc::Global;
 use std::sync::ledger::Ledger;
 
 // The place of a child among a block's children, and how many there are.
-fn place_of<L: Leaf, G: Ledger>(
+pub(crate) fn place_of<L: Leaf, G: Ledger>(
     arena: &Arena<L, Summary>,
     block: NodeId,
     child: NodeId,
@@ -39,38 +41,16 @@ fn place_of<L: Leaf, G: Ledger>(
     unreachable!()
 }
 
-// Puts a node at this place among the children of a block that has room.
-fn put_at<L: Leaf, G: Ledger>(
-    arena: &mut Arena<L, Summary>,
-    block: NodeId,
-    place: usize,
-    id: NodeId,
-    steps: &mut Steps<G>,
-)
-    requires forest { IsForest arena.old }
-    requires block { IsSome (block_value arena.old block) }
-    requires place { place ≤ length (kids_of arena.old block) }
-    requires room { length (kids_of arena.old block) < 8 }
-    requires id { IsSome (entry arena.old id) }
-    requires alone { parent_of arena.old id ≡ None }
-    requires apart { times (kids_of arena.old block) block ≡ 0 }
-    requires differ { id ≢ block }
-    requires fits { total (length_of (by_local L.size L.element) arena.old) (insert (kids_of arena.old block) place id) < 2 ^ 64 }
-    ensures puts { PutsAt arena.old arena.new block place id }
-    ensures sums { Resums (by_local L.size L.element) arena.old arena.new block }
-{
-    arena.put_child(block, place, id);
-    refresh(arena, block, steps);
-}
-
 // Puts a new root over the old one and another node.
 fn root_over<L: Leaf, G: Ledger>(
     arena: &mut Arena<L, Summary>,
+    alloc: Global,
+    floor: u64,
     root: NodeId,
     id: NodeId,
     height: u64,
     steps: &mut Steps<G>,
-) -> NodeId
+) -> Result<NodeId, OutOfMemory>
     requires forest { IsForest arena.old }
     requires spare { 1 ≤ arena.old.spare }
     requires height { height ≡ height_of arena.old root + 1 }
@@ -79,15 +59,17 @@ fn root_over<L: Leaf, G: Ledger>(
     requires root_alone { parent_of arena.old root ≡ None }
     requires id_alone { parent_of arena.old id ≡ None }
     requires differ { id ≢ root }
-    requires fits { length_of (by_local L.size L.element) arena.old root + length_of (by_local L.size L.element) arena.old id < 2 ^ 64 }
-    ensures roots { RootsOver arena.old arena.new root id result }
-    ensures sums { Resums (by_local L.size L.element) arena.old arena.new result }
+    requires floors { AreFromFloor floor arena.old }
+    requires fits { (view : LenView) → IsKept floor view → length_of (by_view L.size L.element view) arena.old root + length_of (by_view L.size L.element view) arena.old id < 2 ^ 64 }
+    ensures roots { IfOk result (λ top. RootsOver arena.old arena.new root id top) }
+    ensures floors { OnOk result (AreFromFloor floor arena.new) }
+    ensures sums { IfOk result (λ top. (view : LenView) → IsKept floor view → Resums (by_view L.size L.element view) arena.old arena.new top) }
 {
-    let top = arena.add_block(Summary { height, local: 0 });
+    let top = arena.add_block(Summary::new(alloc, height, floor));
     arena.put_child(top, 0, root);
     arena.put_child(top, 1, id);
-    refresh(arena, top, steps);
-    top
+    rebuild(arena, alloc, floor, top, steps)?;
+    Ok(top)
 }
 
 // Moves the children from the fifth on to a block that has none.
@@ -136,7 +118,7 @@ fn put_in_half<L: Leaf>(
 }
 
 // How many levels of blocks a block heads.
-fn height_at<L: Leaf, G: Ledger>(
+pub(crate) fn height_at<L: Leaf, G: Ledger>(
     arena: &Arena<L, Summary>,
     block: NodeId,
     steps: &mut Steps<G>,
@@ -153,11 +135,13 @@ fn height_at<L: Leaf, G: Ledger>(
 // Splits a full block, and puts a node at this place among its children. Tells the new block.
 fn split_put<L: Leaf, G: Ledger>(
     arena: &mut Arena<L, Summary>,
+    alloc: Global,
+    floor: u64,
     block: NodeId,
     place: usize,
     id: NodeId,
     steps: &mut Steps<G>,
-) -> NodeId
+) -> Result<NodeId, OutOfMemory>
     requires forest { IsForest arena.old }
     requires spare { 1 ≤ arena.old.spare }
     requires block { IsSome (block_value arena.old block) }
@@ -167,83 +151,97 @@ fn split_put<L: Leaf, G: Ledger>(
     requires alone { parent_of arena.old id ≡ None }
     requires apart { times (kids_of arena.old block) block ≡ 0 }
     requires differ { id ≢ block }
-    requires fits { total (length_of (by_local L.size L.element) arena.old) (insert (kids_of arena.old block) place id) < 2 ^ 64 }
-    ensures splits { SplitsAt arena.old arena.new block place id result }
-    ensures sums { ResumsBoth (by_local L.size L.element) arena.old arena.new block result }
+    requires floors { AreFromFloor floor arena.old }
+    requires fits { (view : LenView) → IsKept floor view → total (length_of (by_view L.size L.element view) arena.old) (insert (kids_of arena.old block) place id) < 2 ^ 64 }
+    ensures splits { IfOk result (λ rear. SplitsAt arena.old arena.new block place id rear) }
+    ensures floors { OnOk result (AreFromFloor floor arena.new) }
+    ensures sums { IfOk result (λ rear. (view : LenView) → IsKept floor view → ResumsBoth (by_view L.size L.element view) arena.old arena.new block rear) }
 {
     let height = height_at(arena, block, steps);
-    let rear = arena.add_block(Summary { height, local: 0 });
+    let rear = arena.add_block(Summary::new(alloc, height, floor));
     move_half(arena, block, rear);
     put_in_half(arena, block, rear, place, id);
-    refresh(arena, block, steps);
-    refresh(arena, rear, steps);
-    rear
+    rebuild(arena, alloc, floor, block, steps)?;
+    rebuild(arena, alloc, floor, rear, steps)?;
+    Ok(rear)
 }
 
-// Puts a node into the tree, directly after a node of its level. Tells the root.
+// Puts a node into the tree, directly after a node of its level. Tells the root, and a block among
+// whose children it stands now, but whose kept lengths are those of before, if there is one.
 pub(crate) fn grow<L: Leaf, G: Ledger>(
     arena: &mut Arena<L, Summary>,
+    alloc: Global,
+    floor: u64,
     root: NodeId,
     at: NodeId,
     id: NodeId,
     steps: &mut Steps<G>,
-) -> NodeId
+) -> Result<(NodeId, Option<NodeId>), OutOfMemory>
     requires growing { IsGrowing arena.old root at id (λ xs. insert_after xs at id) }
-    requires sums { SumsBut (by_local L.size L.element) arena.old (parent_of arena.old at) }
+    requires sums { SumsKeptBut L.size L.element floor arena.old (parent_of arena.old at) }
+    requires floors { AreFromFloor floor arena.old }
     requires spare { height_of arena.old root - height_of arena.old at + 1 ≤ arena.old.spare }
-    requires fits { total (length_of (by_local L.size L.element) arena.old) arena.old.leaves < 2 ^ 64 }
+    requires fits { total (length_of (by_size L.size) arena.old) arena.old.leaves < 2 ^ 64 }
     requires tall { height_of arena.old root + 1 < 2 ^ 64 }
-    ensures tree { IsTree arena.new result }
-    ensures sums { SumsBut (by_local L.size L.element) arena.new None }
-    ensures leaves { arena.new.leaves ≡ arena.old.leaves }
-    ensures leaf_values { (x : ℕ) → leaf_value arena.new x ≡ leaf_value arena.old x }
+    ensures tree { IfOk result (λ r. IsTree arena.new r.0) }
+    ensures stale { IfOk result (λ r. (b : ℕ) → r.1 ≡ Some b → IsSome (block_value arena.new b)) }
+    ensures sums { IfOk result (λ r. SumsKeptBut L.size L.element floor arena.new r.1) }
+    ensures owes { IfOk result (λ r. (view : LenView) (more less : ℕ) → IsKept floor view → OwesAbove (by_view L.size L.element view) arena.old at (λ xs. insert_after xs at id) more less → OwesAt (by_view L.size L.element view) arena.new r.1 more less) }
+    ensures floors { OnOk result (AreFromFloor floor arena.new) }
+    ensures leaves { OnOk result (arena.new.leaves ≡ arena.old.leaves) }
+    ensures leaf_values { OnOk result ((x : ℕ) → leaf_value arena.new x ≡ leaf_value arena.old x) }
 {
     let mut at = at;
     let mut id = id;
     'up: while let Some(block) = arena.parent(at) {
         let (place, count) = place_of(arena, block, at, steps);
         if count < 8 {
-            put_at(arena, block, place + 1, id, steps);
-            refresh_up(arena, root, block, steps);
-            return root;
+            arena.put_child(block, place + 1, id);
+            return Ok((root, Some(block)));
         }
-        id = split_put(arena, block, place + 1, id, steps);
+        id = split_put(arena, alloc, floor, block, place + 1, id, steps)?;
         at = block;
     }
     let height = height_at(arena, root, steps);
-    root_over(arena, root, id, height + 1, steps)
+    let top = root_over(arena, alloc, floor, root, id, height + 1, steps)?;
+    Ok((top, None))
 }
 
-// Puts a node into the tree, directly before a leaf. Tells the root.
-fn grow_front<L: Leaf, G: Ledger>(
+// Puts a node into the tree, directly before a leaf. Tells the same.
+pub(crate) fn grow_front<L: Leaf, G: Ledger>(
     arena: &mut Arena<L, Summary>,
+    alloc: Global,
+    floor: u64,
     root: NodeId,
     at: NodeId,
     id: NodeId,
     steps: &mut Steps<G>,
-) -> NodeId
+) -> Result<(NodeId, Option<NodeId>), OutOfMemory>
     requires growing { IsGrowing arena.old root at id (λ xs. insert_before xs at id) }
-    requires sums { SumsBut (by_local L.size L.element) arena.old (parent_of arena.old at) }
+    requires sums { SumsKeptBut L.size L.element floor arena.old (parent_of arena.old at) }
+    requires floors { AreFromFloor floor arena.old }
     requires apart { at ≢ root }
     requires spare { height_of arena.old root - height_of arena.old at + 1 ≤ arena.old.spare }
-    requires fits { total (length_of (by_local L.size L.element) arena.old) arena.old.leaves < 2 ^ 64 }
+    requires fits { total (length_of (by_size L.size) arena.old) arena.old.leaves < 2 ^ 64 }
     requires tall { height_of arena.old root + 1 < 2 ^ 64 }
-    ensures tree { IsTree arena.new result }
-    ensures sums { SumsBut (by_local L.size L.element) arena.new None }
-    ensures leaves { arena.new.leaves ≡ arena.old.leaves }
-    ensures leaf_values { (x : ℕ) → leaf_value arena.new x ≡ leaf_value arena.old x }
+    ensures tree { IfOk result (λ r. IsTree arena.new r.0) }
+    ensures stale { IfOk result (λ r. (b : ℕ) → r.1 ≡ Some b → IsSome (block_value arena.new b)) }
+    ensures sums { IfOk result (λ r. SumsKeptBut L.size L.element floor arena.new r.1) }
+    ensures owes { IfOk result (λ r. (view : LenView) (more less : ℕ) → IsKept floor view → OwesAbove (by_view L.size L.element view) arena.old at (λ xs. insert_before xs at id) more less → OwesAt (by_view L.size L.element view) arena.new r.1 more less) }
+    ensures floors { OnOk result (AreFromFloor floor arena.new) }
+    ensures leaves { OnOk result (arena.new.leaves ≡ arena.old.leaves) }
+    ensures leaf_values { OnOk result ((x : ℕ) → leaf_value arena.new x ≡ leaf_value arena.old x) }
 {
     let Some(block) = arena.parent(at) else {
         unreachable!();
     };
     let (place, count) = place_of(arena, block, at, steps);
     if count < 8 {
-        put_at(arena, block, place, id, steps);
-        refresh_up(arena, root, block, steps);
-        return root;
+        arena.put_child(block, place, id);
+        return Ok((root, Some(block)));
     }
-    let rear = split_put(arena, block, place, id, steps);
-    grow(arena, root, block, rear, steps)
+    let rear = split_put(arena, alloc, floor, block, place, id, steps)?;
+    grow(arena, alloc, floor, root, block, rear, steps)
 }
 
 // How many nodes the tree may need for one more leaf: the leaf, a block on each level, a new root.
@@ -263,6 +261,8 @@ pub(crate) fn nodes_needed<L: Leaf, G: Ledger>(
 // Puts a new leaf directly after another. Tells the root and the new leaf.
 pub(crate) fn insert_at<L: Leaf, G: Ledger>(
     arena: &mut Arena<L, Summary>,
+    alloc: Global,
+    floor: u64,
     root: NodeId,
     at: NodeId,
     leaf: L,
@@ -271,23 +271,30 @@ pub(crate) fn insert_at<L: Leaf, G: Ledger>(
 where
     L: Drop,
     requires tree { IsTree arena.old root }
-    requires sums { SumsBut (by_local L.size L.element) arena.old None }
+    requires sums { SumsKeptBut L.size L.element floor arena.old None }
+    requires floors { AreFromFloor floor arena.old }
     requires at { IsSome (leaf_value arena.old at) }
-    requires fits { total (length_of (by_local L.size L.element) arena.old) arena.old.leaves + (by_local L.size L.element).leaf leaf < 2 ^ 64 }
+    requires fits { total (length_of (by_size L.size) arena.old) arena.old.leaves + L.size leaf < 2 ^ 64 }
     ensures tree { IfOk result (λ r. IsTree arena.new r.0) }
-    ensures sums { IfOk result (λ r. SumsBut (by_local L.size L.element) arena.new None) }
+    ensures sums { OnOk result (SumsKeptBut L.size L.element floor arena.new None) }
+    ensures floors { OnOk result (AreFromFloor floor arena.new) }
     ensures inserts { IfOk result (λ r. InsertsLeaf arena.old arena.new r.1 leaf (λ xs. insert_after xs at r.1)) }
 {
+    let len = leaf.len();
+    let e = leaf.element().copy()?;
     let needed = nodes_needed(arena, root, steps);
     arena.reserve(needed)?;
     let id = arena.link_after(Some(at), leaf);
-    let top = grow(arena, root, at, id, steps);
+    let (top, stale) = grow(arena, alloc, floor, root, at, id, steps)?;
+    exchange_up(arena, top, None, None, stale, floor, &e, 0, &e, len)?;
     Ok((top, id))
 }
 
 // Puts a new leaf before all others. Tells the root and the new leaf.
 pub(crate) fn insert_front<L: Leaf, G: Ledger>(
     arena: &mut Arena<L, Summary>,
+    alloc: Global,
+    floor: u64,
     root: NodeId,
     leaf: L,
     steps: &mut Steps<G>,
@@ -295,43 +302,48 @@ pub(crate) fn insert_front<L: Leaf, G: Ledger>(
 where
     L: Drop,
     requires tree { IsTree arena.old root }
-    requires sums { SumsBut (by_local L.size L.element) arena.old None }
-    requires fits { total (length_of (by_local L.size L.element) arena.old) arena.old.leaves + (by_local L.size L.element).leaf leaf < 2 ^ 64 }
+    requires sums { SumsKeptBut L.size L.element floor arena.old None }
+    requires floors { AreFromFloor floor arena.old }
+    requires fits { total (length_of (by_size L.size) arena.old) arena.old.leaves + L.size leaf < 2 ^ 64 }
     ensures tree { IfOk result (λ r. IsTree arena.new r.0) }
-    ensures sums { IfOk result (λ r. SumsBut (by_local L.size L.element) arena.new None) }
+    ensures sums { OnOk result (SumsKeptBut L.size L.element floor arena.new None) }
+    ensures floors { OnOk result (AreFromFloor floor arena.new) }
     ensures inserts { IfOk result (λ r. InsertsLeaf arena.old arena.new r.1 leaf (λ xs. r.1 ∷ xs)) }
 {
+    let len = leaf.len();
+    let e = leaf.element().copy()?;
     let needed = nodes_needed(arena, root, steps);
     arena.reserve(needed)?;
     let Some(first) = arena.first() else {
         unreachable!();
     };
     let id = arena.link_after(None, leaf);
-    let top = grow_front(arena, root, first, id, steps);
+    let (top, stale) = grow_front(arena, alloc, floor, root, first, id, steps)?;
+    exchange_up(arena, top, None, None, stale, floor, &e, 0, &e, len)?;
     Ok((top, id))
 }
 
 // Puts the first leaf of all, under a new root. Tells the root and the leaf.
 pub(crate) fn insert_first<L: Leaf, G: Ledger>(
     arena: &mut Arena<L, Summary>,
+    alloc: Global,
+    floor: u64,
     leaf: L,
     steps: &mut Steps<G>,
 ) -> Result<(NodeId, NodeId), OutOfMemory>
 where
     L: Drop,
     requires bare { IsBare arena.old }
-    requires fits { (by_local L.size L.element).leaf leaf < 2 ^ 64 }
+    requires fits { L.size leaf < 2 ^ 64 }
     ensures tree { IfOk result (λ r. IsTree arena.new r.0) }
-    ensures sums { IfOk result (λ r. SumsBut (by_local L.size L.element) arena.new None) }
+    ensures sums { OnOk result (SumsKeptBut L.size L.element floor arena.new None) }
+    ensures floors { OnOk result (AreFromFloor floor arena.new) }
     ensures inserts { IfOk result (λ r. InsertsLeaf arena.old arena.new r.1 leaf (λ xs. r.1 ∷ xs)) }
 {
     arena.reserve(2)?;
     let id = arena.link_after(None, leaf);
-    let top = arena.add_block(Summary {
-        height: 1,
-        local: 0,
-    });
+    let top = arena.add_block(Summary::new(alloc, 1, floor));
     arena.put_child(top, 0, id);
-    refresh(arena, top, steps);
+    rebuild(arena, alloc, floor, top, steps)?;
     Ok((top, id))
 }

@@ -2,7 +2,9 @@
 
 ghost use Rattle.std.specs.Prelude.{◌≡◌, ℕ, ◌+◌, ◌<◌, ◌≤◌, Bool, IsTrue, IfOk, IfErr, OnOk, OnErr};
 ghost use Rattle.ft_base.specs.declared.elements.Element.{Element};
-ghost use Rattle.ft_block.specs.Leaves.{sees_in, seen_length, last_stage};
+ghost use Rattle.ft_partial.specs.StepFunctions.{amount};
+ghost use Rattle.ft_block.specs.Leaves.{sees_in, seen_length, IsFromFloor};
+ghost use Rattle.ft_block.specs.Tree.{IsKept};
 
 use ft_base::{Element, OutOfMemory, Perspective, seen_at, sees};
 
@@ -115,20 +117,25 @@ pub(crate) fn sees_in(e: &Element, view: LenView) -> bool
     }
 }
 
+/// How many of `len` elements of these stamps the view sees: all or none. It takes no memory.
+pub(crate) fn seen_in(e: &Element, len: u64, view: LenView) -> u64
+    ensures { result ≡ amount (sees_in view e.now) len }
+{
+    if sees_in(e, view) { len } else { 0 }
+}
+
 /// How many of the leaf's elements the view sees: all or none. It takes no memory.
 pub(crate) fn seen_length<L: Leaf>(leaf: &L, view: LenView) -> u64
     ensures { result ≡ seen_length L.size L.element view leaf.now }
 {
-    if sees_in(leaf.element(), view) {
-        leaf.len()
-    } else {
-        0
-    }
+    seen_in(leaf.element(), leaf.len(), view)
 }
 
-/// Whether the view is that at the last stage, which blocks keep. It takes no memory.
-pub(crate) fn is_last(view: LenView) -> bool
-    ensures { IsTrue result → view ≡ last_stage }
+/// Whether blocks keep the lengths of the view, whose reference number, if it has one, isn't below the
+/// floor. It takes no memory.
+pub(crate) fn is_kept(view: LenView, floor: u64) -> bool
+    requires { IsFromFloor floor view }
+    ensures { IsTrue result → IsKept floor view }
 {
-    matches!(view, LenView::Stage(u64::MAX))
+    matches!(view, LenView::At(_) | LenView::Stage(u64::MAX))
 }

@@ -1,5 +1,6 @@
 //! A balanced tree of leaves over an arena. Each block keeps how many elements of its leaves the local
-//! view sees, so that a place is found by reading a few nodes on each level.
+//! view sees, and in a table how many each perspective sees, so that a place is found by reading a few
+//! nodes on each level.
 #![tactic(auto)]
 
 pub mod blocks;
@@ -10,10 +11,8 @@ mod grow;
 pub mod leaves;
 mod position;
 mod refresh;
+mod shrink;
 mod summaries;
 
 pub use blocks::{Blocks, Found, OutOfRange};
 pub use leaves::{Leaf, LenView};
-
-#[cfg(test)]
-mod tests;

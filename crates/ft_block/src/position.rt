@@ -3,27 +3,31 @@
 ghost use Rattle.std.specs.Prelude.{◌≡◌, ℕ, ◌+◌, ◌^◌, ◌<◌, ◌≤◌, Some, None, IsSome};
 ghost use Rattle.ft_arena.specs.Forest.{IsForest, entry, block_value, kids_of, leaf_value};
 ghost use Rattle.ft_arena.specs.Ids.{times};
-ghost use Rattle.ft_block.specs.Tree.{IsTree, SumsBut, by_local, by_size, by_view, length_of, total, before, up_to};
+ghost use Rattle.ft_block.specs.Tree.{IsTree, SumsBut, AreFromFloor, IsKept, by_size, by_view, length_of, total, before, up_to};
 
-use crate::find::local_of;
+use crate::find::length_at;
 use crate::leaves::{Leaf, LenView, seen_length};
 use crate::summaries::Summary;
 use ft_arena::{Arena, Node, NodeId};
 use ft_base::Steps;
 use std::sync::ledger::Ledger;
 
-// The lengths, in the local view, of the children before this one.
+// The lengths, in a kept view, of the children before this one.
 fn length_before<L: Leaf, G: Ledger>(
     arena: &Arena<L, Summary>,
     block: NodeId,
     child: NodeId,
+    floor: u64,
+    view: LenView,
     steps: &mut Steps<G>,
 ) -> u64
     requires forest { IsForest arena.now }
     requires block { IsSome (block_value arena.now block) }
+    requires kept { IsKept floor view }
+    requires floors { AreFromFloor floor arena.now }
     requires child { 1 ≤ times (kids_of arena.now block) child }
-    requires fits { total (length_of (by_local L.size L.element) arena.now) (kids_of arena.now block) < 2 ^ 64 }
-    ensures { result ≡ total (length_of (by_local L.size L.element) arena.now) (before (kids_of arena.now block) child) }
+    requires fits { total (length_of (by_view L.size L.element view) arena.now) (kids_of arena.now block) < 2 ^ 64 }
+    ensures { result ≡ total (length_of (by_view L.size L.element view) arena.now) (before (kids_of arena.now block) child) }
 {
     let Node::Block { kids, .. } = arena.read(block, steps) else {
         unreachable!();
@@ -35,46 +39,54 @@ fn length_before<L: Leaf, G: Ledger>(
         if kid == child {
             return sum;
         }
-        sum += local_of(arena.read(kid, steps));
+        sum += length_at(arena.read(kid, steps), floor, view);
         i += 1;
     }
     unreachable!()
 }
 
-// The lengths, in the local view, of the leaves before this one: up from the leaf, past the children
+// The lengths, in a kept view, of the leaves before this one: up from the leaf, past the children
 // that it stands behind.
-pub(crate) fn local_before<L: Leaf, G: Ledger>(
+pub(crate) fn kept_before<L: Leaf, G: Ledger>(
     arena: &Arena<L, Summary>,
     _root: NodeId,
     leaf: NodeId,
+    floor: u64,
+    view: LenView,
     steps: &mut Steps<G>,
 ) -> u64
     requires tree { IsTree arena.now _root }
-    requires sums { SumsBut (by_local L.size L.element) arena.now None }
+    requires kept { IsKept floor view }
+    requires floors { AreFromFloor floor arena.now }
+    requires sums { SumsBut (by_view L.size L.element view) arena.now None }
     requires leaf { IsSome (leaf_value arena.now leaf) }
-    requires fits { total (length_of (by_local L.size L.element) arena.now) arena.now.leaves < 2 ^ 64 }
-    ensures { result ≡ total (length_of (by_local L.size L.element) arena.now) (before arena.now.leaves leaf) }
+    requires fits { total (length_of (by_view L.size L.element view) arena.now) arena.now.leaves < 2 ^ 64 }
+    ensures { result ≡ total (length_of (by_view L.size L.element view) arena.now) (before arena.now.leaves leaf) }
 {
     let mut sum = 0;
     let mut at = leaf;
     'up: while let Some(block) = arena.parent(at) {
-        sum += length_before(arena, block, at, steps);
+        sum += length_before(arena, block, at, floor, view, steps);
         at = block;
     }
     sum
 }
 
-// The length of all leaves in the local view.
-pub(crate) fn local_in_all<L: Leaf, G: Ledger>(
+// The length of all leaves in a kept view.
+pub(crate) fn kept_in_all<L: Leaf, G: Ledger>(
     arena: &Arena<L, Summary>,
     root: NodeId,
+    floor: u64,
+    view: LenView,
     steps: &mut Steps<G>,
 ) -> u64
     requires tree { IsTree arena.now root }
-    requires sums { SumsBut (by_local L.size L.element) arena.now None }
-    ensures { result ≡ total (length_of (by_local L.size L.element) arena.now) arena.now.leaves }
+    requires kept { IsKept floor view }
+    requires floors { AreFromFloor floor arena.now }
+    requires sums { SumsBut (by_view L.size L.element view) arena.now None }
+    ensures { result ≡ total (length_of (by_view L.size L.element view) arena.now) arena.now.leaves }
 {
-    local_of(arena.read(root, steps))
+    length_at(arena.read(root, steps), floor, view)
 }
 
 // The value of a leaf.

@@ -1,73 +1,102 @@
-//! How the lengths that blocks keep are written afresh.
+//! How what blocks keep is made again from their children, or changed on the way up from a leaf.
 
-ghost use Rattle.std.specs.Prelude.{◌≡◌, ℕ, ◌+◌, ◌^◌, ◌<◌, ◌≤◌, [], ◌∷◌, None, IsSome};
+ghost use Rattle.std.specs.Prelude.{◌≡◌, ℕ, ◌+◌, ◌^◌, ◌<◌, ◌≤◌, [], ◌∷◌, None, Some, IsSome, IfOk, OnOk};
 ghost use Rattle.ft_arena.specs.Forest.{IsForest, entry, block_value, kids_of, parent_of, leaf_value};
 ghost use Rattle.ft_arena.specs.Ids.{times};
-ghost use Rattle.ft_block.specs.Tree.{IsTree, SumsBut, by_local, length_of, total};
+ghost use Rattle.ft_partial.specs.StepFunctions.{amount};
+ghost use Rattle.ft_block.specs.declared.leaves.LenView.{LenView};
+ghost use Rattle.ft_block.specs.Leaves.{sees_in};
+ghost use Rattle.ft_block.specs.Tree.{IsPartTree, SumsKeptBut, OwesAt, AreFromFloor, IsKept, by_view, by_size, kept_length, length_of, total};
 ghost use Rattle.ft_block.specs.Steps.{SameShape, Resums};
 
-use crate::find::local_of;
 use crate::leaves::Leaf;
-use crate::summaries::Summary;
+use crate::summaries::{Summary, add_node};
 use ft_arena::{Arena, Kids, Node, NodeId};
-use ft_base::Steps;
+use ft_base::{Element, OutOfMemory, Steps};
+use std::alloc::Global;
 use std::sync::ledger::Ledger;
 
-// The lengths of these children together.
-fn sum_of<L: Leaf, G: Ledger>(arena: &Arena<L, Summary>, kids: &Kids, steps: &mut Steps<G>) -> u64
+// What a block of this height with these children keeps.
+fn sum_of<L: Leaf, G: Ledger>(
+    arena: &Arena<L, Summary>,
+    kids: &Kids,
+    alloc: Global,
+    height: u64,
+    floor: u64,
+    steps: &mut Steps<G>,
+) -> Result<Summary, OutOfMemory>
     requires live { (id : ℕ) → 1 ≤ times kids.now id → IsSome (entry arena.now id) }
-    requires fits { total (length_of (by_local L.size L.element) arena.now) kids.now < 2 ^ 64 }
-    ensures { result ≡ total (length_of (by_local L.size L.element) arena.now) kids.now }
+    requires floors { AreFromFloor floor arena.now }
+    requires fits { (view : LenView) → IsKept floor view → total (length_of (by_view L.size L.element view) arena.now) kids.now < 2 ^ 64 }
+    ensures height { IfOk result (λ sum. sum.height ≡ height) }
+    ensures floor { IfOk result (λ sum. sum.table.floor ≡ floor) }
+    ensures sum { IfOk result (λ sum. (view : LenView) → IsKept floor view → kept_length view sum ≡ total (length_of (by_view L.size L.element view) arena.now) kids.now) }
 {
     let _few = kids.len();
-    let mut sum = 0;
+    let mut sum = Summary::new(alloc, height, floor);
     let mut i = 0;
     while let Some(kid) = kids.get(i) {
-        sum += local_of(arena.read(kid, steps));
+        add_node(&mut sum, floor, arena.read(kid, steps))?;
         i += 1;
     }
-    sum
+    Ok(sum)
 }
 
-// Writes the length that a block keeps afresh.
-pub(crate) fn refresh<L: Leaf, G: Ledger>(
+// Makes what a block keeps again from its children.
+pub(crate) fn rebuild<L: Leaf, G: Ledger>(
     arena: &mut Arena<L, Summary>,
+    alloc: Global,
+    floor: u64,
     block: NodeId,
     steps: &mut Steps<G>,
-)
+) -> Result<(), OutOfMemory>
     requires block { IsSome (block_value arena.old block) }
     requires forest { IsForest arena.old }
     requires apart { times (kids_of arena.old block) block ≡ 0 }
-    requires fits { total (length_of (by_local L.size L.element) arena.old) (kids_of arena.old block) < 2 ^ 64 }
-    ensures shape { SameShape arena.old arena.new }
-    ensures sums { Resums (by_local L.size L.element) arena.old arena.new block }
+    requires floors { AreFromFloor floor arena.old }
+    requires fits { (view : LenView) → IsKept floor view → total (length_of (by_view L.size L.element view) arena.old) (kids_of arena.old block) < 2 ^ 64 }
+    ensures shape { OnOk result (SameShape arena.old arena.new) }
+    ensures floors { OnOk result (AreFromFloor floor arena.new) }
+    ensures sums { OnOk result ((view : LenView) → IsKept floor view → Resums (by_view L.size L.element view) arena.old arena.new block) }
 {
-    let Node::Block { kids, .. } = arena.read(block, steps) else {
+    let Node::Block { kids, value } = arena.read(block, steps) else {
         unreachable!();
     };
-    let sum = sum_of(arena, kids, steps);
-    arena.block_mut(block).local = sum;
+    let sum = sum_of(arena, kids, alloc, value.height, floor, steps)?;
+    *arena.block_mut(block) = sum;
+    Ok(())
 }
 
-// Writes the length that each block above a node keeps afresh.
-pub(crate) fn refresh_up<L: Leaf, G: Ledger>(
+// From a block up, each keeps `len` elements of the stamps `e` too many, and `new_len` of the stamps
+// `new` too few: exchanges them.
+pub(crate) fn exchange_up<L: Leaf>(
     arena: &mut Arena<L, Summary>,
-    root: NodeId,
-    at: NodeId,
-    steps: &mut Steps<G>,
-)
-    requires tree { IsTree arena.old root }
-    requires sums { SumsBut (by_local L.size L.element) arena.old (parent_of arena.old at) }
-    requires live { IsSome (entry arena.old at) }
-    requires fits { total (length_of (by_local L.size L.element) arena.old) arena.old.leaves < 2 ^ 64 }
-    ensures tree { IsTree arena.new root }
-    ensures sums { SumsBut (by_local L.size L.element) arena.new None }
-    ensures leaves { arena.new.leaves ≡ arena.old.leaves }
-    ensures leaf_values { (x : ℕ) → leaf_value arena.new x ≡ leaf_value arena.old x }
+    _root: NodeId,
+    _apart: Option<NodeId>,
+    _short: Option<NodeId>,
+    stale: Option<NodeId>,
+    floor: u64,
+    e: &Element,
+    len: u64,
+    new: &Element,
+    new_len: u64,
+) -> Result<(), OutOfMemory>
+    requires tree { IsPartTree arena.old _root _apart _short }
+    requires fits { total (length_of (by_size L.size) arena.old) arena.old.leaves < 2 ^ 64 }
+    requires block { (b : ℕ) → stale ≡ Some b → IsSome (block_value arena.old b) }
+    requires floors { AreFromFloor floor arena.old }
+    requires sums { SumsKeptBut L.size L.element floor arena.old stale }
+    requires owes { (view : LenView) → IsKept floor view → OwesAt (by_view L.size L.element view) arena.old stale (amount (sees_in view new.now) new_len) (amount (sees_in view e.now) len) }
+    ensures shape { OnOk result (SameShape arena.old arena.new) }
+    ensures floors { OnOk result (AreFromFloor floor arena.new) }
+    ensures sums { OnOk result (SumsKeptBut L.size L.element floor arena.new None) }
 {
-    let mut at = at;
-    'up: while let Some(block) = arena.parent(at) {
-        refresh(arena, block, steps);
-        at = block;
+    let mut stale = stale;
+    'up: while let Some(block) = stale {
+        arena
+            .block_mut(block)
+            .exchange(floor, e, len, new, new_len)?;
+        stale = arena.parent(block);
     }
+    Ok(())
 }

@@ -1,9 +1,106 @@
 //! What a block keeps of the leaves below it.
 
-/// What a block keeps: how many levels of blocks it heads, and how many elements of its leaves the
-/// local view sees.
-#[derive(Clone, Copy)]
+ghost use Rattle.std.specs.Prelude.{◌≡◌, ◌≤◌, ◌<◌, ◌^◌, OnOk};
+ghost use Rattle.ft_block.specs.Leaves.{IsFromFloor};
+ghost use Rattle.ft_block.specs.Tree.{kept_length, length_of_node, by_view, KeepsNothing, KeepsExchange, KeepsSum, KeepsNode, IsNodeFrom};
+
+use crate::leaves::{Leaf, LenView, seen_in};
+use ft_arena::Node;
+use ft_base::{Element, OutOfMemory};
+use ft_partial::Table;
+use std::alloc::Global;
+
+/// What a block keeps: how many levels of blocks it heads, how many elements of its leaves the local
+/// view sees, and a table of how many each perspective sees.
+#[derive(Drop)]
 pub(crate) struct Summary {
     pub(crate) height: u64,
     pub(crate) local: u64,
+    pub(crate) table: Table,
+}
+
+impl Summary {
+    // Of a block of this height that has no leaves.
+    pub(crate) fn new(alloc: Global, height: u64, floor: u64) -> Summary
+        ensures height { result.height ≡ height }
+        ensures floor { result.table.floor ≡ floor }
+        ensures nothing { KeepsNothing floor result }
+    {
+        let mut table = Table::new(alloc);
+        table.fold_to(floor);
+        Summary {
+            height,
+            local: 0,
+            table,
+        }
+    }
+
+    // What is kept of a view.
+    pub(crate) fn kept(&self, view: LenView) -> u64
+        requires { IsFromFloor self.now.table.floor view }
+        ensures { result ≡ kept_length view self.now }
+    {
+        match view {
+            LenView::At(at) => self.table.length(at),
+            LenView::Stage(_) => self.local,
+        }
+    }
+
+    // Takes `len` elements of the stamps `e` out, and puts `new_len` of the stamps `new` in.
+    pub(crate) fn exchange(
+        &mut self,
+        floor: u64,
+        e: &Element,
+        len: u64,
+        new: &Element,
+        new_len: u64,
+    ) -> Result<(), OutOfMemory>
+        requires { self.old.table.floor ≤ floor }
+        ensures height { self.new.height ≡ self.old.height }
+        ensures floor { self.new.table.floor ≡ floor }
+        ensures low { self.new.local < 2 ^ 64 }
+        ensures exchanges { OnOk result (KeepsExchange floor self.old self.new e.now len new.now new_len) }
+    {
+        let last = LenView::Stage(u64::MAX);
+        let gone = seen_in(e, len, last);
+        let come = seen_in(new, new_len, last);
+        self.local = self.local.wrapping_sub(gone).wrapping_add(come);
+        self.table.fold_to(floor);
+        self.table.replace(e, len, new, new_len)
+    }
+
+    // Puts in what another block keeps.
+    pub(crate) fn add_all(&mut self, floor: u64, other: &Summary) -> Result<(), OutOfMemory>
+        requires floor { self.old.table.floor ≡ floor }
+        requires other { other.now.table.floor ≤ floor }
+        ensures height { self.new.height ≡ self.old.height }
+        ensures floor { self.new.table.floor ≡ floor }
+        ensures low { self.new.local < 2 ^ 64 }
+        ensures sum { OnOk result (KeepsSum floor self.old other.now self.new) }
+    {
+        self.local = self.local.wrapping_add(other.local);
+        self.table.add_all(&other.table)
+    }
+}
+
+// Puts in the leaf, or what the block keeps.
+pub(crate) fn add_node<L: Leaf>(
+    sum: &mut Summary,
+    floor: u64,
+    node: &Node<L, Summary>,
+) -> Result<(), OutOfMemory>
+    requires floor { sum.old.table.floor ≡ floor }
+    requires node { IsNodeFrom floor node.now }
+    ensures height { sum.new.height ≡ sum.old.height }
+    ensures floor { sum.new.table.floor ≡ floor }
+    ensures low { sum.new.local < 2 ^ 64 }
+    ensures sum { OnOk result (KeepsNode L.size L.element floor sum.old node.now sum.new) }
+{
+    match node {
+        Node::Leaf { value } => {
+            let e = value.element();
+            sum.exchange(floor, e, 0, e, value.len())
+        }
+        Node::Block { value, .. } => sum.add_all(floor, value),
+    }
 }

@@ -252,6 +252,3 @@ pub fn same_by_stamps(table: &Table)
 {
     let _floor = table.floor;
 }
-
-#[cfg(test)]
-mod tests;

@@ -1,5 +1,5 @@
 use Rattle.std.proofs.Common.{◌≡◌, ◌≤◌, ◌+◌, ◌-◌, length, drop}
-use Rattle.ft_block.specs.Tree.{seek, total, length_of, by_local}
+use Rattle.ft_block.specs.Tree.{seek, total, length_of, by_view}
 use Rattle.ft_block.proofs.find.child_at.Given as goal
 
 abbrev pub invariant-loop-kid : goal.invariant-loop-kid
@@ -7,8 +7,8 @@ invariant-loop-kid g l =
     record {
       low : 1 ≤ l.rest;
       few : length l.kids ≤ 8;
-      within : l.rest ≤ total (length_of (by_local g.L.Leaf.size g.L.Leaf.element) l.arena) (drop l.i l.kids);
-      same : seek (length_of (by_local g.L.Leaf.size g.L.Leaf.element) l.arena) l.kids l.p ≡ seek (length_of (by_local g.L.Leaf.size g.L.Leaf.element) l.arena) (drop l.i l.kids) l.rest;
+      within : l.rest ≤ total (length_of (by_view g.L.Leaf.size g.L.Leaf.element l.view) l.arena) (drop l.i l.kids);
+      same : seek (length_of (by_view g.L.Leaf.size g.L.Leaf.element l.view) l.arena) l.kids l.p ≡ seek (length_of (by_view g.L.Leaf.size g.L.Leaf.element l.view) l.arena) (drop l.i l.kids) l.rest;
       cost : l.steps ≤ l.initial.steps + l.i;
     }
 

@@ -3,9 +3,10 @@ use Rattle.std.proofs.lemmas.Bool.{eqb-false, eqb-true}
 use Rattle.ft_arena.specs.Ids.{times}
 use Rattle.ft_arena.specs.Forest.{kids_of, kids_of_entry, kids_of_node}
 use Rattle.ft_arena.proofs.IdLemmas.{same_other}
-use Rattle.ft_block.specs.Tree.{total, length_of, length_of_entry, by_local, before}
+use Rattle.ft_block.specs.Tree.{total, length_of, length_of_entry, by_view, before}
 use Rattle.ft_block.proofs.Lists.{times_at, drop_at, drop_none}
 use Rattle.ft_block.proofs.PositionLemmas.{before_here, before_later, total-before_le, forest_kid_live}
+use Rattle.ft_block.proofs.KeptLemmas.{node_from}
 use Rattle.ft_block.proofs.position.length_before.Goals as goal
 
 pub returns-then-eq : goal.returns-then-eq
@@ -13,7 +14,7 @@ returns-then-eq g c =
     let kids : kids_of c.args.arena.now c.args.block ≡ c.in-Block.kids = ap kids_of_entry c.read.ensures.node ∙ ap kids_of_node c.in-Block.is in
     let there : slice_get (kids_of c.args.arena.now c.args.block) c.loop-kid.i ≡ Some c.in-Some.kid = ap (λ zs. slice_get zs c.loop-kid.i) kids ∙ sym c.get.ensures ∙ c.in-Some.is in
     let e : drop c.loop-kid.i (kids_of c.args.arena.now c.args.block) ≡ c.in-Some.kid ∷ drop (c.loop-kid.i + 1) (kids_of c.args.arena.now c.args.block) = drop_at (kids_of c.args.arena.now c.args.block) c.loop-kid.i c.in-Some.kid there in
-    let f : ℕ → ℕ = length_of (by_local g.L.Leaf.size g.L.Leaf.element) c.args.arena.now in
+    let f : ℕ → ℕ = length_of (by_view g.L.Leaf.size g.L.Leaf.element c.args.view) c.args.arena.now in
     let q : c.in-Some.kid ≡ c.args.child = eqb-true c.in-Some.kid c.args.child (sym c.eq.ensures ∙ c.if-eq.true) in
     let none : before (drop c.loop-kid.i (kids_of c.args.arena.now c.args.block)) c.args.child ≡ [] = ap (λ zs. before zs c.args.child) e ∙ subst (λ (z : ℕ). before (c.in-Some.kid ∷ drop (c.loop-kid.i + 1) (kids_of c.args.arena.now c.args.block)) z ≡ []) q (before_here c.in-Some.kid (drop (c.loop-kid.i + 1) (kids_of c.args.arena.now c.args.block))) in
     omega (arith, ap (total f) none, c.loop-kid.invariant.so_far)
@@ -29,10 +30,10 @@ overflow_add-sum g c =
     let kids : kids_of c.args.arena.now c.args.block ≡ c.in-Block.kids = ap kids_of_entry c.read.ensures.node ∙ ap kids_of_node c.in-Block.is in
     let there : slice_get (kids_of c.args.arena.now c.args.block) c.loop-kid.i ≡ Some c.in-Some.kid = ap (λ zs. slice_get zs c.loop-kid.i) kids ∙ sym c.get.ensures ∙ c.in-Some.is in
     let e : drop c.loop-kid.i (kids_of c.args.arena.now c.args.block) ≡ c.in-Some.kid ∷ drop (c.loop-kid.i + 1) (kids_of c.args.arena.now c.args.block) = drop_at (kids_of c.args.arena.now c.args.block) c.loop-kid.i c.in-Some.kid there in
-    let f : ℕ → ℕ = length_of (by_local g.L.Leaf.size g.L.Leaf.element) c.args.arena.now in
+    let f : ℕ → ℕ = length_of (by_view g.L.Leaf.size g.L.Leaf.element c.args.view) c.args.arena.now in
     let d : c.in-Some.kid ≢ c.args.child = eqb-false c.in-Some.kid c.args.child (sym c.eq.ensures ∙ c.if-eq.false) in
     let step : total f (before (drop c.loop-kid.i (kids_of c.args.arena.now c.args.block)) c.args.child) ≡ f c.in-Some.kid + total f (before (drop (c.loop-kid.i + 1) (kids_of c.args.arena.now c.args.block)) c.args.child) = ap (λ zs. total f (before zs c.args.child)) e ∙ ap (total f) (before_later c.in-Some.kid (drop (c.loop-kid.i + 1) (kids_of c.args.arena.now c.args.block)) c.args.child d) in
-    let n : f c.in-Some.kid ≡ c.local_of-sum.result = ap (length_of_entry (by_local g.L.Leaf.size g.L.Leaf.element)) c.read-in-Some.ensures.node ∙ sym c.local_of-sum.ensures in
+    let n : f c.in-Some.kid ≡ c.length_at-sum.result = ap (length_of_entry (by_view g.L.Leaf.size g.L.Leaf.element c.args.view)) c.read-in-Some.ensures.node ∙ sym c.length_at-sum.ensures in
     omega (arith, step, n, c.loop-kid.invariant.so_far, total-before_le f (kids_of c.args.arena.now c.args.block) c.args.child, c.requires.fits)
 
 pub loop-kid-preserved : goal.loop-kid-preserved
@@ -40,10 +41,10 @@ loop-kid-preserved g c =
     let kids : kids_of c.args.arena.now c.args.block ≡ c.in-Block.kids = ap kids_of_entry c.read.ensures.node ∙ ap kids_of_node c.in-Block.is in
     let there : slice_get (kids_of c.args.arena.now c.args.block) c.loop-kid.i ≡ Some c.in-Some.kid = ap (λ zs. slice_get zs c.loop-kid.i) kids ∙ sym c.get.ensures ∙ c.in-Some.is in
     let e : drop c.loop-kid.i (kids_of c.args.arena.now c.args.block) ≡ c.in-Some.kid ∷ drop (c.loop-kid.i + 1) (kids_of c.args.arena.now c.args.block) = drop_at (kids_of c.args.arena.now c.args.block) c.loop-kid.i c.in-Some.kid there in
-    let f : ℕ → ℕ = length_of (by_local g.L.Leaf.size g.L.Leaf.element) c.args.arena.now in
+    let f : ℕ → ℕ = length_of (by_view g.L.Leaf.size g.L.Leaf.element c.args.view) c.args.arena.now in
     let d : c.in-Some.kid ≢ c.args.child = eqb-false c.in-Some.kid c.args.child (sym c.eq.ensures ∙ c.if-eq.false) in
     let step : total f (before (drop c.loop-kid.i (kids_of c.args.arena.now c.args.block)) c.args.child) ≡ f c.in-Some.kid + total f (before (drop (c.loop-kid.i + 1) (kids_of c.args.arena.now c.args.block)) c.args.child) = ap (λ zs. total f (before zs c.args.child)) e ∙ ap (total f) (before_later c.in-Some.kid (drop (c.loop-kid.i + 1) (kids_of c.args.arena.now c.args.block)) c.args.child d) in
-    let n : f c.in-Some.kid ≡ c.local_of-sum.result = ap (length_of_entry (by_local g.L.Leaf.size g.L.Leaf.element)) c.read-in-Some.ensures.node ∙ sym c.local_of-sum.ensures in
+    let n : f c.in-Some.kid ≡ c.length_at-sum.result = ap (length_of_entry (by_view g.L.Leaf.size g.L.Leaf.element c.args.view)) c.read-in-Some.ensures.node ∙ sym c.length_at-sum.ensures in
     record {
       few = c.loop-kid.invariant.few;
       here = omega (arith, same_other c.in-Some.kid c.args.child d, ap (λ zs. times zs c.args.child) e, c.loop-kid.invariant.here);
@@ -55,3 +56,6 @@ unreachable-requires-2 g c =
     let kids : kids_of c.args.arena.now c.args.block ≡ c.in-Block.kids = ap kids_of_entry c.read.ensures.node ∙ ap kids_of_node c.in-Block.is in
     let e : drop c.loop-kid.i (kids_of c.args.arena.now c.args.block) ≡ [] = ap (drop c.loop-kid.i) kids ∙ drop_none c.in-Block.kids c.loop-kid.i (sym c.get.ensures ∙ c.in_default-get.is) in
     omega (arith, ap (λ zs. times zs c.args.child) e, c.loop-kid.invariant.here)
+
+pub length_at-sum-requires-clause-node : goal.length_at-sum-requires-clause-node
+length_at-sum-requires-clause-node g c = node_from c.args.floor c.args.arena.now c.in-Some.kid c.read-in-Some.result.now _ c.requires.floors c.read-in-Some.ensures.node

@@ -4,7 +4,7 @@ use Rattle.ft_arena.specs.Forest.{entry, leaf_value}
 use Rattle.ft_arena.proofs.ArenaLemmas.{count_some_le}
 use Rattle.ft_block.specs.Tree.{total, length_of, by_view, up_to}
 use Rattle.ft_block.proofs.FitLemmas.{leaf_length}
-use Rattle.ft_block.proofs.ViewLemmas.{view_fits}
+use Rattle.ft_block.proofs.ViewLemmas.{all_fit}
 use Rattle.ft_block.proofs.PositionLemmas.{from, from_none, from_first, from_step, first_in, after_in, up_to_here, up_to_later, up_to_nil, total-up_to_le, is_some_number, is_other_number}
 use Rattle.ft_block.proofs.position.seen_up_to.Goals as goal
 
@@ -32,7 +32,7 @@ overflow_add-sum g c =
     let on : c.args.end ≢ Some c.in-Some.id = (λ q. is_other_number c.args.end c.id.inside.0 (sym c.eq.ensures ∙ c.if-eq.false) (q ∙ ap Some (sym c.id.view_is))) in
     let step : total f (up_to (from c.args.arena.now.leaves c.leaves.at) c.args.end) ≡ f c.in-Some.id + total f (up_to (from c.args.arena.now.leaves (after c.args.arena.now.leaves c.in-Some.id)) c.args.end) = ap (λ zs. total f (up_to zs c.args.end)) e ∙ ap (total f) (up_to_later c.in-Some.id (from c.args.arena.now.leaves (after c.args.arena.now.leaves c.in-Some.id)) c.args.end on) in
     let n : f c.in-Some.id ≡ c.seen_length-sum.result = leaf_length (by_view g.L.Leaf.size g.L.Leaf.element c.args.view) (entry c.args.arena.now c.in-Some.id) c.leaf_at.result.now c.leaf_at.ensures ∙ sym c.seen_length-sum.ensures in
-    omega (arith, step, n, c.leaves.invariant.so_far, total-up_to_le f c.args.arena.now.leaves c.args.end, view_fits g.L.Leaf.size g.L.Leaf.element c.args.view c.args.arena.now c.args.arena.now.leaves, c.requires.fits)
+    omega (arith, step, n, c.leaves.invariant.so_far, total-up_to_le f c.args.arena.now.leaves c.args.end, all_fit g.L.Leaf.size g.L.Leaf.element c.args.view c.args.arena.now c.requires.forest, c.requires.fits)
 
 pub leaves-smaller : goal.leaves-smaller
 leaves-smaller g c =

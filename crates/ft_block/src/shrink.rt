@@ -1,0 +1,379 @@
+//! How a leaf is taken out of the tree: blocks that have too few children get some of a neighbour, or
+//! are joined with it.
+
+ghost use Rattle.std.specs.Prelude.{◌≡◌, ◌≢◌, IsTrue, false, ℕ, ◌+◌, ◌^◌, ◌<◌, ◌≤◌, ◌++◌, Some, None, IsSome, IfOk, OnOk, length, slice_get, [], ◌∷◌};
+ghost use Rattle.ft_arena.specs.Forest.{IsForest, IsPlace, block_value, kids_of, leaf_value, parent_of};
+ghost use Rattle.ft_arena.specs.Ids.{times, put_after, without};
+ghost use Rattle.ft_block.specs.declared.leaves.LenView.{LenView};
+ghost use Rattle.ft_block.specs.Tree.{IsTree, IsApart, SumsBut, SumsKeptBut, AreFromFloor, IsKept, IsBare, by_view, by_size, height_of, length_of, total};
+ghost use Rattle.ft_block.specs.Inside.{IsRooted};
+ghost use Rattle.ft_block.specs.Steps.{Regroups, Shares, ResumsPair, DropsRoot, IsPair, TakesLeaf, MovesLeaf};
+
+use crate::grow::{grow, grow_front, nodes_needed, place_of};
+use crate::leaves::Leaf;
+use crate::position::leaf_at;
+use crate::refresh::{exchange_up, rebuild};
+use crate::summaries::Summary;
+use ft_arena::{Arena, Node, NodeId};
+use ft_base::{OutOfMemory, Steps};
+use std::alloc::Global;
+use std::sync::ledger::Ledger;
+
+// The child at this place among a block's children.
+fn child_at<L: Leaf, G: Ledger>(
+    arena: &Arena<L, Summary>,
+    block: NodeId,
+    place: usize,
+    steps: &mut Steps<G>,
+) -> NodeId
+    requires block { IsSome (block_value arena.now block) }
+    requires place { place < length (kids_of arena.now block) }
+    ensures { slice_get (kids_of arena.now block) place ≡ Some result }
+{
+    let Node::Block { kids, .. } = arena.read(block, steps) else {
+        unreachable!();
+    };
+    match kids.get(place) {
+        Some(kid) => kid,
+        None => unreachable!(),
+    }
+}
+
+// How many children a block has.
+fn count_of<L: Leaf, G: Ledger>(
+    arena: &Arena<L, Summary>,
+    block: NodeId,
+    steps: &mut Steps<G>,
+) -> usize
+    requires { IsSome (block_value arena.now block) }
+    ensures value { result ≡ length (kids_of arena.now block) }
+    ensures few { result ≤ 8 }
+{
+    let Node::Block { kids, .. } = arena.read(block, steps) else {
+        unreachable!();
+    };
+    kids.len()
+}
+
+// Moves children between two neighbours until the front one has `want` of them.
+fn regroup<L: Leaf, G: Ledger>(
+    arena: &mut Arena<L, Summary>,
+    front: NodeId,
+    rear: NodeId,
+    want: usize,
+    steps: &mut Steps<G>,
+)
+    requires forest { IsForest arena.old }
+    requires front { IsSome (block_value arena.old front) }
+    requires rear { IsSome (block_value arena.old rear) }
+    requires front_apart { times (kids_of arena.old rear) front ≡ 0 }
+    requires rear_apart { times (kids_of arena.old front) rear ≡ 0 }
+    requires front_own { times (kids_of arena.old front) front ≡ 0 }
+    requires rear_own { times (kids_of arena.old rear) rear ≡ 0 }
+    requires differ { front ≢ rear }
+    requires want { want ≤ 8 }
+    requires enough { want ≤ length (kids_of arena.old front) + length (kids_of arena.old rear) }
+    requires room { length (kids_of arena.old front) + length (kids_of arena.old rear) ≤ want + 8 }
+    ensures { Regroups arena.old arena.new front rear want }
+{
+    let mut count = count_of(arena, front, steps);
+    'fill: while count < want {
+        let child = arena.take_child(rear, 0);
+        arena.put_child(front, count, child);
+        count += 1;
+    }
+    'spill: while count > want {
+        count -= 1;
+        let child = arena.take_child(front, count);
+        arena.put_child(rear, 0, child);
+    }
+}
+
+// Takes the root away, whose one child becomes the root.
+fn drop_root<L: Leaf>(arena: &mut Arena<L, Summary>, root: NodeId) -> NodeId
+    requires block { IsSome (block_value arena.old root) }
+    requires top { parent_of arena.old root ≡ None }
+    requires forest { IsForest arena.old }
+    requires one { length (kids_of arena.old root) ≡ 1 }
+    ensures { DropsRoot arena.old arena.new root result }
+{
+    let top = arena.take_child(root, 0);
+    let _ = arena.drop_block(root);
+    top
+}
+
+// Has two neighbours below a block, which have too many children for one, share them.
+fn balance<L: Leaf, G: Ledger>(
+    arena: &mut Arena<L, Summary>,
+    alloc: Global,
+    floor: u64,
+    up: NodeId,
+    front: NodeId,
+    rear: NodeId,
+    steps: &mut Steps<G>,
+) -> Result<(), OutOfMemory>
+    requires forest { IsForest arena.old }
+    requires pair { IsPair arena.old up front rear }
+    requires many { 9 ≤ length (kids_of arena.old front) + length (kids_of arena.old rear) }
+    requires floors { AreFromFloor floor arena.old }
+    requires sums { (view : LenView) → IsKept floor view → SumsBut (by_view L.size L.element view) arena.old None }
+    requires fits { (view : LenView) → IsKept floor view → length_of (by_view L.size L.element view) arena.old front + length_of (by_view L.size L.element view) arena.old rear < 2 ^ 64 }
+    ensures shares { OnOk result (Shares arena.old arena.new up front rear) }
+    ensures up_kids { OnOk result (kids_of arena.new up ≡ kids_of arena.old up) }
+    ensures sums { OnOk result ((view : LenView) → IsKept floor view → ResumsPair (by_view L.size L.element view) arena.old arena.new up front rear) }
+    ensures floors { OnOk result (AreFromFloor floor arena.new) }
+{
+    let many = count_of(arena, front, steps) + count_of(arena, rear, steps);
+    regroup(arena, front, rear, many / 2, steps);
+    rebuild(arena, alloc, floor, front, steps)?;
+    rebuild(arena, alloc, floor, rear, steps)
+}
+
+// Joins two neighbours below a block, which have few enough children for one.
+fn merge<L: Leaf, G: Ledger>(
+    arena: &mut Arena<L, Summary>,
+    alloc: Global,
+    floor: u64,
+    up: NodeId,
+    place: usize,
+    front: NodeId,
+    rear: NodeId,
+    steps: &mut Steps<G>,
+) -> Result<(), OutOfMemory>
+    requires forest { IsForest arena.old }
+    requires pair { IsPair arena.old up front rear }
+    requires place { slice_get (kids_of arena.old up) place ≡ Some front }
+    requires next { slice_get (kids_of arena.old up) (place + 1) ≡ Some rear }
+    requires few { length (kids_of arena.old front) + length (kids_of arena.old rear) ≤ 8 }
+    requires many { 4 ≤ length (kids_of arena.old front) + length (kids_of arena.old rear) }
+    requires floors { AreFromFloor floor arena.old }
+    requires sums { (view : LenView) → IsKept floor view → SumsBut (by_view L.size L.element view) arena.old None }
+    requires fits { (view : LenView) → IsKept floor view → length_of (by_view L.size L.element view) arena.old front + length_of (by_view L.size L.element view) arena.old rear < 2 ^ 64 }
+    ensures shares { OnOk result (Shares arena.old arena.new up front rear) }
+    ensures sums { OnOk result ((view : LenView) → IsKept floor view → ResumsPair (by_view L.size L.element view) arena.old arena.new up front rear) }
+    ensures floors { OnOk result (AreFromFloor floor arena.new) }
+{
+    let many = count_of(arena, front, steps) + count_of(arena, rear, steps);
+    regroup(arena, front, rear, many, steps);
+    arena.take_child(up, place + 1);
+    let _ = arena.drop_block(rear);
+    rebuild(arena, alloc, floor, front, steps)
+}
+
+// From a block up: while one has too few children, it gets some of a neighbour, or is joined with it.
+// Tells the root.
+fn fill_up<L: Leaf, G: Ledger>(
+    arena: &mut Arena<L, Summary>,
+    alloc: Global,
+    floor: u64,
+    root: NodeId,
+    block: NodeId,
+    _id: NodeId,
+    steps: &mut Steps<G>,
+) -> Result<NodeId, OutOfMemory>
+    requires apart { IsApart arena.old root _id (Some block) }
+    requires block { IsSome (block_value arena.old block) }
+    requires sums { SumsKeptBut L.size L.element floor arena.old None }
+    requires floors { AreFromFloor floor arena.old }
+    requires fits { total (length_of (by_size L.size) arena.old) arena.old.leaves < 2 ^ 64 }
+    ensures apart { IfOk result (λ top. IsApart arena.new top _id None) }
+    ensures low { IfOk result (λ top. height_of arena.new top ≤ height_of arena.old root) }
+    ensures sums { OnOk result (SumsKeptBut L.size L.element floor arena.new None) }
+    ensures floors { OnOk result (AreFromFloor floor arena.new) }
+    ensures leaves { OnOk result (arena.new.leaves ≡ arena.old.leaves) }
+    ensures leaf_values { OnOk result ((x : ℕ) → leaf_value arena.new x ≡ leaf_value arena.old x) }
+{
+    let mut block = block;
+    'up: while let Some(up) = arena.parent(block) {
+        if count_of(arena, block, steps) >= 4 {
+            return Ok(root);
+        }
+        let (place, count) = place_of(arena, up, block, steps);
+        if count == 1 {
+            return Ok(drop_root(arena, up));
+        }
+        let at = place.saturating_sub(1);
+        let front = child_at(arena, up, at, steps);
+        let rear = child_at(arena, up, at + 1, steps);
+        let many = count_of(arena, front, steps) + count_of(arena, rear, steps);
+        if many > 8 {
+            balance(arena, alloc, floor, up, front, rear, steps)?;
+            return Ok(root);
+        }
+        merge(arena, alloc, floor, up, at, front, rear, steps)?;
+        block = up;
+    }
+    Ok(root)
+}
+
+// Takes a leaf, which isn't the only one, out of the tree, but not out of the list. Tells the root.
+pub(crate) fn detach<L: Leaf, G: Ledger>(
+    arena: &mut Arena<L, Summary>,
+    alloc: Global,
+    floor: u64,
+    root: NodeId,
+    id: NodeId,
+    steps: &mut Steps<G>,
+) -> Result<NodeId, OutOfMemory>
+    requires tree { IsTree arena.old root }
+    requires sums { SumsKeptBut L.size L.element floor arena.old None }
+    requires floors { AreFromFloor floor arena.old }
+    requires live { IsSome (leaf_value arena.old id) }
+    requires more { 2 ≤ length arena.old.leaves }
+    requires fits { total (length_of (by_size L.size) arena.old) arena.old.leaves < 2 ^ 64 }
+    ensures apart { IfOk result (λ top. IsApart arena.new top id None) }
+    ensures low { IfOk result (λ top. height_of arena.new top ≤ height_of arena.old root) }
+    ensures sums { OnOk result (SumsKeptBut L.size L.element floor arena.new None) }
+    ensures floors { OnOk result (AreFromFloor floor arena.new) }
+    ensures leaves { OnOk result (arena.new.leaves ≡ arena.old.leaves) }
+    ensures leaf_values { OnOk result ((x : ℕ) → leaf_value arena.new x ≡ leaf_value arena.old x) }
+{
+    let leaf = leaf_at(arena, id, steps);
+    let len = leaf.len();
+    let e = leaf.element().copy()?;
+    let Some(block) = arena.parent(id) else {
+        unreachable!();
+    };
+    let (place, _) = place_of(arena, block, id, steps);
+    arena.take_child(block, place);
+    exchange_up(
+        arena,
+        root,
+        Some(id),
+        Some(block),
+        Some(block),
+        floor,
+        &e,
+        len,
+        &e,
+        0,
+    )?;
+    fill_up(arena, alloc, floor, root, block, id, steps)
+}
+
+// Whether the leaf is the only one.
+fn is_only<L: Leaf>(arena: &Arena<L, Summary>, id: NodeId) -> bool
+    requires forest { IsForest arena.now }
+    requires live { IsSome (leaf_value arena.now id) }
+    ensures only { IsTrue result → arena.now.leaves ≡ id ∷ [] }
+    ensures more { result ≡ false → 2 ≤ length arena.now.leaves }
+{
+    match arena.prev(id) {
+        Some(_) => false,
+        None => match arena.next(id) {
+            Some(_) => false,
+            None => true,
+        },
+    }
+}
+
+// Takes the only leaf out, and the root. Tells the leaf's value.
+fn take_last<L: Leaf>(arena: &mut Arena<L, Summary>, root: NodeId, id: NodeId) -> L
+    requires tree { IsTree arena.old root }
+    requires only { arena.old.leaves ≡ id ∷ [] }
+    ensures bare { IsBare arena.new }
+    ensures takes { TakesLeaf arena.old arena.new id result }
+{
+    arena.take_child(root, 0);
+    let _ = arena.drop_block(root);
+    arena.unlink(id)
+}
+
+// Takes a leaf out. Tells the root, if there is a leaf left, and the leaf's value.
+pub(crate) fn take_at<L: Leaf, G: Ledger>(
+    arena: &mut Arena<L, Summary>,
+    alloc: Global,
+    floor: u64,
+    root: NodeId,
+    id: NodeId,
+    steps: &mut Steps<G>,
+) -> Result<(Option<usize>, L), OutOfMemory>
+    requires tree { IsTree arena.old root }
+    requires sums { SumsKeptBut L.size L.element floor arena.old None }
+    requires floors { AreFromFloor floor arena.old }
+    requires live { IsSome (leaf_value arena.old id) }
+    requires fits { total (length_of (by_size L.size) arena.old) arena.old.leaves < 2 ^ 64 }
+    ensures rooted { IfOk result (λ r. IsRooted arena.new r.0) }
+    ensures sums { OnOk result (SumsKeptBut L.size L.element floor arena.new None) }
+    ensures floors { OnOk result (AreFromFloor floor arena.new) }
+    ensures takes { IfOk result (λ r. TakesLeaf arena.old arena.new id r.1) }
+{
+    if is_only(arena, id) {
+        return Ok((None, take_last(arena, root, id)));
+    }
+    let top = detach(arena, alloc, floor, root, id, steps)?;
+    Ok((Some(top.0), arena.unlink(id)))
+}
+
+// Whether the leaf stands directly after that one, or first where none is given.
+pub(crate) fn stands_there<L: Leaf>(
+    arena: &Arena<L, Summary>,
+    id: NodeId,
+    at: &Option<NodeId>,
+) -> bool
+    requires forest { IsForest arena.now }
+    requires live { IsSome (leaf_value arena.now id) }
+    requires at { IsPlace arena.now at.now }
+    requires differ { at.now ≢ Some id }
+    ensures there { IsTrue result → put_after (without arena.now.leaves id) at.now id ≡ arena.now.leaves }
+    ensures more { result ≡ false → 2 ≤ length arena.now.leaves }
+{
+    match at {
+        None => match arena.prev(id) {
+            None => true,
+            Some(_) => false,
+        },
+        Some(at) => match arena.prev(id) {
+            None => false,
+            Some(before) => before == *at,
+        },
+    }
+}
+
+// Moves a leaf, which isn't the only one, directly after another, or to the head. Tells the root.
+pub(crate) fn move_at<L: Leaf, G: Ledger>(
+    arena: &mut Arena<L, Summary>,
+    alloc: Global,
+    floor: u64,
+    root: NodeId,
+    id: NodeId,
+    at: Option<NodeId>,
+    steps: &mut Steps<G>,
+) -> Result<NodeId, OutOfMemory>
+    requires tree { IsTree arena.old root }
+    requires sums { SumsKeptBut L.size L.element floor arena.old None }
+    requires floors { AreFromFloor floor arena.old }
+    requires live { IsSome (leaf_value arena.old id) }
+    requires at { IsPlace arena.old at }
+    requires differ { at ≢ Some id }
+    requires more { 2 ≤ length arena.old.leaves }
+    requires fits { total (length_of (by_size L.size) arena.old) arena.old.leaves < 2 ^ 64 }
+    ensures tree { IfOk result (λ top. IsTree arena.new top) }
+    ensures sums { OnOk result (SumsKeptBut L.size L.element floor arena.new None) }
+    ensures floors { OnOk result (AreFromFloor floor arena.new) }
+    ensures moves { OnOk result (MovesLeaf arena.old arena.new id at) }
+{
+    let leaf = leaf_at(arena, id, steps);
+    let len = leaf.len();
+    let e = leaf.element().copy()?;
+    let needed = nodes_needed(arena, root, steps);
+    let root = detach(arena, alloc, floor, root, id, steps)?;
+    arena.reserve(needed)?;
+    match at {
+        Some(at) => {
+            arena.move_after(id, Some(at));
+            let (top, stale) = grow(arena, alloc, floor, root, at, id, steps)?;
+            exchange_up(arena, top, None, None, stale, floor, &e, 0, &e, len)?;
+            Ok(top)
+        }
+        None => {
+            arena.move_after(id, None);
+            let Some(first) = arena.next(id) else {
+                unreachable!();
+            };
+            let (top, stale) = grow_front(arena, alloc, floor, root, first, id, steps)?;
+            exchange_up(arena, top, None, None, stale, floor, &e, 0, &e, len)?;
+            Ok(top)
+        }
+    }
+}
