@@ -11,7 +11,7 @@ use Rattle.ft_partial.specs.StepFunctions.{amount}
 use Rattle.ft_block.specs.declared.summaries.Summary.{Summary}
 use Rattle.ft_block.specs.declared.leaves.LenView.{LenView}
 use Rattle.ft_block.specs.Leaves.{sees_in, seen_length}
-use Rattle.ft_block.specs.Tree.{total, Measure, length_of, length_of_entry, length_of_node, height_of, by_view, by_size, kept_length, IsShape, IsTree, IsPartTree, SumsBut, OwesAt, OwesAbove}
+use Rattle.ft_block.specs.Tree.{total, Measure, length_of, length_of_entry, length_of_node, height_of, by_view, by_size, kept_length, HasRange, IsShape, IsTree, IsPartTree, SumsBut, OwesAt, OwesAbove}
 use Rattle.ft_block.specs.Steps.{SameShape, Resums}
 use Rattle.ft_block.proofs.Levels.{block_from_height}
 use Rattle.ft_block.proofs.EditLemmas.{is_some_from}
@@ -67,7 +67,7 @@ module _ {L : Type 0} (size : L → ℕ) (element : L → Element) (floor : ℕ)
         let high = t.shape.high b ex_block in
         omega (arith, kids_fit (by_view size element view) s root extra t.shape b ex_block (λ y l e. omega (arith, high, l, t.low y e)) (λ k q l. sums k q (λ e. let c : b ≡ k = cc e in omega (arith, l, ap (height_of s) c))), t.part (length_of (by_view size element view) s), all_fit size element view s t.shape.forest, fits)
 
-    module _ (more less : ℕ) (low : w.local < 2 ^ 64) (ex : (kept_length view w + less) % 2 ^ 64 ≡ (kept_length view v + more) % 2 ^ 64) (owes : OwesAt (by_view size element view) s (Some b) more less) where
+    module _ (more less : ℕ) (low : HasRange w) (ex : (kept_length view w + less) % 2 ^ 64 ≡ (kept_length view v + more) % 2 ^ 64) (owes : OwesAt (by_view size element view) s (Some b) more less) where
       pub ex_resums : Resums (by_view size element view) s (with_block s b w) b
       ex_resums =
           let was : length_of (by_view size element view) s b ≡ kept_length view v = block_length (by_view size element view) (entry s b) v found in

@@ -9,36 +9,38 @@ use Rattle.ft_partial.specs.StepFunctions.{amount}
 use Rattle.ft_partial.specs.Tables.{Lengths, length_at, SameFrom, Exchanges}
 use Rattle.ft_block.specs.declared.summaries.Summary.{Summary}
 use Rattle.ft_block.specs.declared.leaves.LenView.{LenView}
-use Rattle.ft_block.specs.declared.leaves.LenView.TheVariants.{At, Stage}
+use Rattle.ft_block.specs.declared.leaves.LenView.TheVariants.{At, Stage, All}
 use Rattle.ft_block.specs.Leaves.{sees_in, last_stage, seen_length}
-use Rattle.ft_block.specs.Tree.{AreFromFloor, IsNodeFrom, kept_length, KeepsExchange, KeepsNode}
+use Rattle.ft_block.specs.Tree.{AreFromFloor, IsNodeFrom, kept_length, HasRange, KeepsExchange, KeepsNode}
 
 exchanged_local : (local gone come : ℕ) → gone < 2 ^ 64 → ((((local + (18446744073709551616 - gone)) % 18446744073709551616) + come) % 18446744073709551616 + gone) % 2 ^ 64 ≡ (local + come) % 2 ^ 64
 exchanged_local local gone come h = omega arith
 
 -- the local length and the table after elements were exchanged
-pub exchange_keeps : (floor : ℕ) (old : Summary) (mid new : Lengths) (gone come n m : ℕ) (e f : Element) → gone < 2 ^ 64 → gone ≡ amount (sees_in last_stage e) n → come ≡ amount (sees_in last_stage f) m → SameFrom floor old.table mid → Exchanges mid new e n f m → KeepsExchange floor old (record { height = old.height; local = ((old.local + (18446744073709551616 - gone)) % 18446744073709551616 + come) % 18446744073709551616; table = new }) e n f m
-exchange_keeps floor old mid new gone come n m e f l g k same ex (At at) (low, high, conn) =
+pub exchange_keeps : (floor : ℕ) (old : Summary) (mid new : Lengths) (gone come n m : ℕ) (e f : Element) → n < 2 ^ 64 → gone < 2 ^ 64 → gone ≡ amount (sees_in last_stage e) n → come ≡ amount (sees_in last_stage f) m → SameFrom floor old.table mid → Exchanges mid new e n f m → KeepsExchange floor old (record { height = old.height; whole = ((old.whole + (18446744073709551616 - n)) % 18446744073709551616 + m) % 18446744073709551616; local = ((old.local + (18446744073709551616 - gone)) % 18446744073709551616 + come) % 18446744073709551616; table = new }) e n f m
+exchange_keeps floor old mid new gone come n m e f few l g k same ex (At at) (low, high, conn) =
     ex at.r at.c high conn ∙ ap (λ (x : ℕ). (x + amount (sees_in (At at) f) m) % 2 ^ 64) (same at.r at.c low high conn)
-exchange_keeps floor old mid new gone come n m e f l g k same ex (Stage s) is =
+exchange_keeps floor old mid new gone come n m e f few l g k same ex (Stage s) is =
     let by_gone : amount (sees_in (Stage s) e) n ≡ gone = ap (λ v. amount (sees_in v e) n) is ∙ sym g in
     let by_come : amount (sees_in (Stage s) f) m ≡ come = ap (λ v. amount (sees_in v f) m) is ∙ sym k in
     ap (λ (x : ℕ). ((((old.local + (18446744073709551616 - gone)) % 18446744073709551616) + come) % 18446744073709551616 + x) % 2 ^ 64) by_gone ∙ exchanged_local old.local gone come l ∙ ap (λ (x : ℕ). (old.local + x) % 2 ^ 64) (sym by_come)
+exchange_keeps floor old mid new gone come n m e f few l g k same ex All h = exchanged_local old.whole n m few
 
 small : (x : ℕ) → x < 2 ^ 64 → x % 2 ^ 64 ≡ x
 small x h = omega arith
 
-pub kept_low : (v : Summary) → v.local < 2 ^ 64 → (view : LenView) → kept_length view v < 2 ^ 64
+pub kept_low : (v : Summary) → HasRange v → (view : LenView) → kept_length view v < 2 ^ 64
 unfolding length_at
 kept_low v h (At at) = omega arith
-kept_low v h (Stage k) = h
+kept_low v h (Stage k) = h.0
+kept_low v h All = h.1
 
 amount_none : (b : Bool) → amount b 0 ≡ 0
 amount_none true = refl
 amount_none false = refl
 
 -- elements that come where none were
-pub exchange_adds : {L : Type 0} (size : L → ℕ) (element : L → Element) (floor : ℕ) (old new : Summary) (leaf : L) (e : Element) (n : ℕ) → e ≡ element leaf → n ≡ size leaf → new.local < 2 ^ 64 → KeepsExchange floor old new e 0 e n → KeepsNode size element floor old (Leaf leaf) new
+pub exchange_adds : {L : Type 0} (size : L → ℕ) (element : L → Element) (floor : ℕ) (old new : Summary) (leaf : L) (e : Element) (n : ℕ) → e ≡ element leaf → n ≡ size leaf → HasRange new → KeepsExchange floor old new e 0 e n → KeepsNode size element floor old (Leaf leaf) new
 exchange_adds size element floor old new leaf e n is many low ex view kept =
     let here : amount (sees_in view e) n ≡ seen_length size element view leaf = ap (λ z. amount (sees_in view z) n) is ∙ ap (λ (k : ℕ). cond (sees_in view (element leaf)) k 0) many in
     let z : kept_length view new + amount (sees_in view e) 0 ≡ kept_length view new = omega (arith, amount_none (sees_in view e)) in

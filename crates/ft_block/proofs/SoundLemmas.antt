@@ -6,7 +6,7 @@ use Rattle.ft_arena.specs.Ids.{times, insert_after, put_after, without}
 use Rattle.ft_arena.specs.Forest.{Forest, IsForest, IsPlace, entry, leaf_value, leaf_of_entry, count_some, with_leaf}
 use Rattle.ft_block.specs.declared.summaries.Summary.{Summary}
 use Rattle.ft_block.specs.declared.leaves.LenView.{LenView}
-use Rattle.ft_block.specs.declared.leaves.LenView.TheVariants.{At, Stage}
+use Rattle.ft_block.specs.declared.leaves.LenView.TheVariants.{At, Stage, All}
 use Rattle.ft_block.specs.Tree.{Measure, IsTree, SumsKeptBut, AreFromFloor, IsKept, total, length_of, by_view, by_size}
 use Rattle.ft_block.specs.Steps.{InsertsLeaf, SplitsLeaf, ChangesLeaf, TakesLeaf, MovesLeaf}
 use Rattle.ft_block.specs.Inside.{IsRooted, IsSound}
@@ -192,3 +192,4 @@ module _ {L : Type 0} (size : L → ℕ) (element : L → Element) (floor : ℕ)
       kept_lower : (view : LenView) → IsKept higher view → IsKept floor view
       kept_lower (At at) k = (omega (arith, k.0, h), k.1, k.2)
       kept_lower (Stage k) e = e
+      kept_lower All e = e

@@ -1,9 +1,9 @@
 -- What a contract sees of `Blocks`: the leaves in order, and what is read of such a list.
-use Rattle.std.specs.Prelude.{ℕ, ◌+◌, ◌-◌, ◌≤◌, ◌==◌, Bool, List, [], ◌∷◌, Option, Some, None, nat_le, if◌then◌else◌}
+use Rattle.std.specs.Prelude.{ℕ, ◌+◌, ◌-◌, ◌≤◌, ◌==◌, Bool, true, List, [], ◌∷◌, Option, Some, None, nat_le, if◌then◌else◌}
 use Rattle.ft_base.specs.declared.elements.Element.{Element}
 use Rattle.ft_base.specs.Visibility.{sees, seen_at}
 use Rattle.ft_block.specs.declared.leaves.LenView.{LenView}
-use Rattle.ft_block.specs.declared.leaves.LenView.TheVariants.{At, Stage}
+use Rattle.ft_block.specs.declared.leaves.LenView.TheVariants.{At, Stage, All}
 use Rattle.ft_block.specs.declared.blocks.Found.{Found}
 
 -- the leaves from first to last, each with its node, how many blocks stand below the root on the way to a leaf, the
@@ -14,15 +14,17 @@ pub record LeafList (L : Type 0) : Type 0 where
   pub floor : ℕ
   pub usable : Bool
 
--- whether the view sees the element
+-- whether the view sees the element; one view sees all, the removed ones too
 abbrev pub sees_in : LenView → Element → Bool
 sees_in (At at) e = sees e at.r at.c
 sees_in (Stage k) e = seen_at e k
+sees_in All e = true
 
--- the view is of a stage, or of a perspective whose reference number isn't below the floor
+-- the view is no perspective with a reference number below the floor
 abbrev pub IsFromFloor : ℕ → LenView → Type 0
 IsFromFloor floor (At at) = floor ≤ at.r
 IsFromFloor floor (Stage k) = Unit {0}
+IsFromFloor floor All = Unit {0}
 
 -- the view at the last pending stage, which no stage is above
 abbrev pub last_stage : LenView

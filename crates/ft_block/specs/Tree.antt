@@ -9,7 +9,7 @@ use Rattle.ft_arena.specs.Forest.{Forest, Entry, IsForest, entry, kids_of, paren
 use Rattle.ft_arena.specs.Ids.{times, without}
 use Rattle.ft_block.specs.declared.summaries.Summary.{Summary}
 use Rattle.ft_block.specs.declared.leaves.LenView.{LenView}
-use Rattle.ft_block.specs.declared.leaves.LenView.TheVariants.{At, Stage}
+use Rattle.ft_block.specs.declared.leaves.LenView.TheVariants.{At, Stage, All}
 use Rattle.ft_partial.specs.StepFunctions.{amount}
 use Rattle.ft_partial.specs.Tables.{length_at}
 use Rattle.ft_block.specs.Leaves.{sees_in, seen_length, last_stage}
@@ -56,15 +56,21 @@ pub record Measure (L : Type 0) : Type 0 where
   pub leaf : L → ℕ
   pub block : Summary → ℕ
 
--- what a block keeps of a view: its table's answer to a perspective, and one length for stages
+-- what a block keeps of a view: its table's answer to a perspective, one length for stages, and its size
 abbrev pub kept_length : LenView → Summary → ℕ
 kept_length (At at) v = length_at v.table at.r at.c
 kept_length (Stage k) v = v.local
+kept_length All v = v.whole
 
--- the blocks keep the lengths of this view: it is that at the last stage, or of a perspective from the floor up
+-- the blocks keep the lengths of this view: it sees all, or is that at the last stage, or of a perspective from the floor up
 abbrev pub IsKept : ℕ → LenView → Type 0
 IsKept floor (At at) = (floor ≤ at.r) × (at.r < 2 ^ 64) × (at.c < 2 ^ 32)
 IsKept floor (Stage k) = Stage k ≡ last_stage
+IsKept floor All = Unit {0}
+
+-- the two lengths that are kept as numbers are below 2 ^ 64
+abbrev pub HasRange : Summary → Type 0
+HasRange v = (v.local < 2 ^ 64) × (v.whole < 2 ^ 64)
 
 -- nothing is seen in any view
 abbrev pub KeepsNothing : ℕ → Summary → Type 0

@@ -63,7 +63,7 @@ impl<L: Leaf> Blocks<L> {
     ghost use Rattle.ft_block.specs.Tree.{IsKept};
     ghost use Rattle.ft_block.specs.declared.leaves.LenView.TheVariants.{At};
 
-    /// No leaves. It takes no memory.
+    /// No leaves.
     pub fn new(alloc: Global) -> Blocks<L>
         ensures { result ≡ record { leaves = []; depth = 0; floor = 0; usable = true } }
     {
@@ -76,7 +76,7 @@ impl<L: Leaf> Blocks<L> {
         }
     }
 
-    /// The first leaf: None exactly where there is no leaf. It takes no memory.
+    /// The first leaf: None exactly where there is no leaf.
     pub fn first(&self) -> Option<NodeId>
         requires { IsTrue self.now.usable }
         ensures value { result ≡ first (ids self.now.leaves) }
@@ -90,7 +90,7 @@ impl<L: Leaf> Blocks<L> {
         self.arena.first()
     }
 
-    /// The leaf after this one: None exactly where it is the last. It takes no memory.
+    /// The leaf after this one: None exactly where it is the last.
     pub fn next(&self, id: NodeId) -> Option<NodeId>
         requires usable { IsTrue self.now.usable }
         requires live { IsLeafIn self.now.leaves id }
@@ -100,7 +100,7 @@ impl<L: Leaf> Blocks<L> {
         self.arena.next(id)
     }
 
-    /// The leaf before this one: None exactly where it is the first. It takes no memory.
+    /// The leaf before this one: None exactly where it is the first.
     pub fn prev(&self, id: NodeId) -> Option<NodeId>
         requires usable { IsTrue self.now.usable }
         requires live { IsLeafIn self.now.leaves id }
@@ -110,7 +110,7 @@ impl<L: Leaf> Blocks<L> {
         self.arena.prev(id)
     }
 
-    /// The value of a leaf. It takes no memory.
+    /// The value of a leaf.
     pub fn leaf(&self, id: NodeId) -> &L
         requires usable { IsTrue self.now.usable }
         requires live { IsLeafIn self.now.leaves id }
@@ -120,9 +120,9 @@ impl<L: Leaf> Blocks<L> {
         leaf_in::<L, Brand>(&self.arena, id, Blank::new(1))
     }
 
-    /// The leaf that holds the `p`-th element of the local view, and how many of its elements stand up to
-    /// that one; the head of the list for `p` = 0. The local view is that with all that is pending. Each
-    /// read of a node is one step. It takes no memory.
+    /// The leaf that holds the `p`-th element of the local view, and how many of its elements stand
+    /// up to that one; the head of the list for `p` = 0. The local view is that with all that is
+    /// pending. Each read of a node is one step.
     ///
     /// Answers `OutOfRange` exactly where `p` is above the length of that view.
     pub fn find_local<G: Ledger>(&self, p: u64, steps: &mut Steps<G>) -> Result<Found, OutOfRange>
@@ -139,9 +139,9 @@ impl<L: Leaf> Blocks<L> {
         self.find_in(p, LenView::Stage(u64::MAX), steps)
     }
 
-    /// The leaf that holds the `p`-th element that the perspective sees, and how many of its elements
-    /// stand up to that one; the head of the list for `p` = 0. The reference number isn't below the
-    /// floor. Each read of a node is one step. It takes no memory.
+    /// The leaf that holds the `p`-th element that the perspective sees, and how many of its
+    /// elements stand up to that one; the head of the list for `p` = 0. The reference number isn't
+    /// below the floor. Each read of a node is one step.
     ///
     /// Answers `OutOfRange` exactly where `p` is above the length that the perspective sees.
     pub fn find<G: Ledger>(
@@ -197,10 +197,10 @@ impl<L: Leaf> Blocks<L> {
         }
     }
 
-    /// How many elements the view sees left of the leaf. It takes no memory.
+    /// How many elements the view sees left of the leaf.
     ///
-    /// At stage `u64::MAX`, and for a perspective, whose reference number isn't below the floor, it goes
-    /// up from the leaf, and at any other stage along the leaves.
+    /// The reference number of a perspective isn't below the floor. At a stage other than `u64::MAX` it
+    /// goes along the leaves, and in every other view up from the leaf.
     pub fn position_of(&self, leaf: NodeId, view: LenView) -> u64
         requires usable { IsTrue self.now.usable }
         requires floor { IsFromFloor self.now.floor view }
@@ -217,10 +217,10 @@ impl<L: Leaf> Blocks<L> {
         )
     }
 
-    /// How many elements the view sees. It takes no memory.
+    /// How many elements the view sees.
     ///
-    /// At stage `u64::MAX`, and for a perspective, whose reference number isn't below the floor, it is
-    /// kept, and at any other stage it goes along the leaves.
+    /// The reference number of a perspective isn't below the floor. At a stage other than `u64::MAX` it
+    /// goes along the leaves, and in every other view it is kept.
     pub fn length(&self, view: LenView) -> u64
         requires usable { IsTrue self.now.usable }
         requires floor { IsFromFloor self.now.floor view }
@@ -448,7 +448,7 @@ impl<L: Leaf> Blocks<L> {
         }
     }
 
-    /// Raises the floor, which isn't below the old one. It takes no memory.
+    /// Raises the floor, which isn't below the old one.
     pub fn raise_floor(&mut self, floor: u64)
         requires { self.old.floor ≤ floor }
         ensures { self.new ≡ record self.old { floor = floor } }

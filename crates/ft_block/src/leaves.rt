@@ -31,16 +31,16 @@ pub trait Leaf: Sized {
 
     ghost changed: { Self → Self.Change → Self };
 
-    /// How many elements the leaf holds, at least one. It takes no memory.
+    /// How many elements the leaf holds, at least one.
     fn len(&self) -> u64
         ensures value { result ≡ size self.now }
         ensures some { 1 ≤ result };
 
-    /// The stamps of each of its elements. It takes no memory.
+    /// The stamps of each of its elements.
     fn element(&self) -> &Element
         ensures { result.now ≡ element self.now };
 
-    /// Replaces the stamps of all its elements. It takes no memory.
+    /// Replaces the stamps of all its elements.
     fn set_element(&mut self, e: Element)
         ensures { self.new ≡ with_element self.old e };
 
@@ -54,7 +54,7 @@ pub trait Leaf: Sized {
         ensures rear { IfOk result (λ rest. rest ≡ rear self.old at) }
         ensures err { OnErr result (self.new ≡ self.old) };
 
-    /// Whether the other leaf may be joined to the end of this one. It takes no memory.
+    /// Whether the other leaf may be joined to the end of this one.
     fn can_join_back(&self, other: &Self) -> bool
         ensures { result ≡ joins self.now other.now };
 
@@ -97,45 +97,51 @@ pub trait Leaf: Sized {
     ghost changed_element: { (x : Self) (c : Self.Change) → CanChange x c → element (changed x c) ≡ element x };
 }
 
-/// What sees an element: the sender of a message, by its perspective, or a client at one of its pending
-/// stages. At stage `u64::MAX` a client sees what it sees with all that is pending.
+/// What sees an element: the sender of a message, by its perspective, a client at one of its pending
+/// stages, or who sees all. At stage `u64::MAX` a client sees what it sees with all that is pending.
 #[derive(Clone, Copy, Debug, PartialEq, Eq)]
 pub enum LenView {
     /// A perspective.
     At(Perspective),
     /// A pending stage.
     Stage(u64),
+    /// All elements, the removed ones too.
+    All,
 }
 
-/// Whether the view sees the element. It takes no memory.
+/// Whether the view sees the element.
 pub(crate) fn sees_in(e: &Element, view: LenView) -> bool
     ensures { result ≡ sees_in view e.now }
 {
     match view {
         LenView::At(at) => sees(e, at),
         LenView::Stage(stage) => seen_at(e, stage),
+        LenView::All => true,
     }
 }
 
-/// How many of `len` elements of these stamps the view sees: all or none. It takes no memory.
+/// How many of `len` elements of these stamps the view sees: all or none.
 pub(crate) fn seen_in(e: &Element, len: u64, view: LenView) -> u64
     ensures { result ≡ amount (sees_in view e.now) len }
 {
     if sees_in(e, view) { len } else { 0 }
 }
 
-/// How many of the leaf's elements the view sees: all or none. It takes no memory.
+/// How many of the leaf's elements the view sees: all or none.
 pub(crate) fn seen_length<L: Leaf>(leaf: &L, view: LenView) -> u64
     ensures { result ≡ seen_length L.size L.element view leaf.now }
 {
     seen_in(leaf.element(), leaf.len(), view)
 }
 
-/// Whether blocks keep the lengths of the view, whose reference number, if it has one, isn't below the
-/// floor. It takes no memory.
+/// Whether blocks keep the lengths of the view, whose reference number, if it has one, isn't below
+/// the floor.
 pub(crate) fn is_kept(view: LenView, floor: u64) -> bool
     requires { IsFromFloor floor view }
     ensures { IsTrue result → IsKept floor view }
 {
-    matches!(view, LenView::At(_) | LenView::Stage(u64::MAX))
+    matches!(
+        view,
+        LenView::At(_) | LenView::Stage(u64::MAX) | LenView::All
+    )
 }

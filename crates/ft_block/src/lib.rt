@@ -1,6 +1,8 @@
-//! A balanced tree of leaves over an arena. Each block keeps how many elements of its leaves the local
-//! view sees, and in a table how many each perspective sees, so that a place is found by reading a few
-//! nodes on each level.
+//! A balanced tree of leaves over an arena. Each block keeps how many elements its leaves have, how many
+//! of them the local view sees, and in a table how many each perspective sees, so that a place is found
+//! by reading a few nodes on each level.
+//!
+//! A call that can't answer `OutOfMemory` takes no memory.
 #![tactic(auto)]
 
 pub mod blocks;

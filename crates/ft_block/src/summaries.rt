@@ -2,7 +2,7 @@
 
 ghost use Rattle.std.specs.Prelude.{◌≡◌, ◌≤◌, ◌<◌, ◌^◌, OnOk};
 ghost use Rattle.ft_block.specs.Leaves.{IsFromFloor};
-ghost use Rattle.ft_block.specs.Tree.{kept_length, length_of_node, by_view, KeepsNothing, KeepsExchange, KeepsSum, KeepsNode, IsNodeFrom};
+ghost use Rattle.ft_block.specs.Tree.{kept_length, length_of_node, by_view, KeepsNothing, KeepsExchange, KeepsSum, KeepsNode, IsNodeFrom, HasRange};
 
 use crate::leaves::{Leaf, LenView, seen_in};
 use ft_arena::Node;
@@ -10,11 +10,12 @@ use ft_base::{Element, OutOfMemory};
 use ft_partial::Table;
 use std::alloc::Global;
 
-/// What a block keeps: how many levels of blocks it heads, how many elements of its leaves the local
-/// view sees, and a table of how many each perspective sees.
+/// What a block keeps: how many levels of blocks it heads, how many elements its leaves have, how many
+/// of them the local view sees, and a table of how many each perspective sees.
 #[derive(Drop)]
 pub(crate) struct Summary {
     pub(crate) height: u64,
+    pub(crate) whole: u64,
     pub(crate) local: u64,
     pub(crate) table: Table,
 }
@@ -30,6 +31,7 @@ impl Summary {
         table.fold_to(floor);
         Summary {
             height,
+            whole: 0,
             local: 0,
             table,
         }
@@ -43,6 +45,7 @@ impl Summary {
         match view {
             LenView::At(at) => self.table.length(at),
             LenView::Stage(_) => self.local,
+            LenView::All => self.whole,
         }
     }
 
@@ -58,12 +61,13 @@ impl Summary {
         requires { self.old.table.floor ≤ floor }
         ensures height { self.new.height ≡ self.old.height }
         ensures floor { self.new.table.floor ≡ floor }
-        ensures low { self.new.local < 2 ^ 64 }
+        ensures low { HasRange self.new }
         ensures exchanges { OnOk result (KeepsExchange floor self.old self.new e.now len new.now new_len) }
     {
         let last = LenView::Stage(u64::MAX);
         let gone = seen_in(e, len, last);
         let come = seen_in(new, new_len, last);
+        self.whole = self.whole.wrapping_sub(len).wrapping_add(new_len);
         self.local = self.local.wrapping_sub(gone).wrapping_add(come);
         self.table.fold_to(floor);
         self.table.replace(e, len, new, new_len)
@@ -75,9 +79,10 @@ impl Summary {
         requires other { other.now.table.floor ≤ floor }
         ensures height { self.new.height ≡ self.old.height }
         ensures floor { self.new.table.floor ≡ floor }
-        ensures low { self.new.local < 2 ^ 64 }
+        ensures low { HasRange self.new }
         ensures sum { OnOk result (KeepsSum floor self.old other.now self.new) }
     {
+        self.whole = self.whole.wrapping_add(other.whole);
         self.local = self.local.wrapping_add(other.local);
         self.table.add_all(&other.table)
     }
@@ -93,7 +98,7 @@ pub(crate) fn add_node<L: Leaf>(
     requires node { IsNodeFrom floor node.now }
     ensures height { sum.new.height ≡ sum.old.height }
     ensures floor { sum.new.table.floor ≡ floor }
-    ensures low { sum.new.local < 2 ^ 64 }
+    ensures low { HasRange sum.new }
     ensures sum { OnOk result (KeepsNode L.size L.element floor sum.old node.now sum.new) }
 {
     match node {

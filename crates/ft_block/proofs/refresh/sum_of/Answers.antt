@@ -6,7 +6,7 @@ use Rattle.ft_block.proofs.KeptLemmas.{node_from, one_more}
 use Rattle.ft_block.proofs.refresh.sum_of.Goals as goal
 
 pub loop-kid-init : goal.loop-kid-init
-loop-kid-init g c = record { few = omega (arith, c.len-few.ensures.value, c.len-few.ensures.few); height = c.new-sum.ensures.height; floor = c.new-sum.ensures.floor; low = omega arith; so_far = λ view k. omega (arith, c.new-sum.ensures.nothing view k) }
+loop-kid-init g c = record { few = omega (arith, c.len-few.ensures.value, c.len-few.ensures.few); height = c.new-sum.ensures.height; floor = c.new-sum.ensures.floor; low = (omega arith, omega arith); so_far = λ view k. omega (arith, c.new-sum.ensures.nothing view k) }
 
 pub read-requires : goal.read-requires
 read-requires g c = c.requires.live c.in-Some.kid (times_at c.args.kids.now c.loop-kid.i c.in-Some.kid (sym c.get.ensures ∙ c.in-Some.is))
