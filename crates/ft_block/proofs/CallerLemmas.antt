@@ -69,7 +69,8 @@ module _ {L : Type 0} where
   ]
 
   -- the leaves together are as much longer as the new one is long
-  pub length_by-put_leaf : (f : L → ℕ) (xs : List (ℕ × L)) (at : Option ℕ) (new : ℕ × L) → IsPlaceIn xs at → ((id : ℕ) → times_leaf xs id ≤ 1) → length_by f (put_leaf xs at new) ≡ length_by f xs + f new.1
+  pub length_by-put_leaf : (f : L → ℕ) (xs : List (ℕ × L)) (at : Option ℕ) (new : ℕ × L) → IsPlaceIn xs at → ((id : ℕ) → times_leaf xs id ≤ 1)
+      → length_by f (put_leaf xs at new) ≡ length_by f xs + f new.1
   length_by-put_leaf f xs None new h once = omega arith
   length_by-put_leaf f xs (Some at) new h once = length_by-put_leaf_after f xs at new (omega (arith, h, once at))
 
@@ -97,7 +98,8 @@ module _ {L : Type 0} where
   after_is_in xs id next e = omega (arith, after_in (ids xs) id next e, times-ids xs next)
 
   -- what holds of a leaf's value and of the next one's, as `join_next` asks it
-  pub joins_next : (xs : List (ℕ × L)) (id next : ℕ) (v w : L) → ((z : ℕ) → times_leaf xs z ≤ 1) → after (ids xs) id ≡ Some next → value_at xs id ≡ Some v → value_at xs next ≡ Some w → (P : L → L → Type 0) → P v w → IsSomeAnd (value_at xs id) (λ a. IsSomeAnd (value_after xs id) (λ b. P a b))
+  pub joins_next : (xs : List (ℕ × L)) (id next : ℕ) (v w : L) → ((z : ℕ) → times_leaf xs z ≤ 1) → after (ids xs) id ≡ Some next → value_at xs id ≡ Some v
+      → value_at xs next ≡ Some w → (P : L → L → Type 0) → P v w → IsSomeAnd (value_at xs id) (λ a. IsSomeAnd (value_after xs id) (λ b. P a b))
   joins_next xs id next v w once e a b P h =
       let there : value_after xs id ≡ Some w = sym (value_after_is xs id next once e) ∙ b in
       subst (λ (o : Option L). IsSomeAnd o (λ a. IsSomeAnd (value_after xs id) (λ b. P a b))) (sym a) (subst (λ (o : Option L). IsSomeAnd o (λ b. P v b)) (sym there) h)

@@ -1,5 +1,6 @@
 -- Lemmas on lists of nodes in which a node is put beside another.
-use Rattle.std.proofs.Common.{◌≡◌, ◌≢◌, ◌⊎◌, ℕ, zero, suc, ◌+◌, ◌≤◌, List, [], ◌∷◌, ◌++◌, length, insert, slice_get, Option, Some, None, IsSome, refl, sym, ap, subst, ◌∙◌, inl, inr, arith, append_assoc, eqb}
+use Rattle.std.proofs.Common.{◌≡◌, ◌≢◌, ◌⊎◌, ℕ, zero, suc, ◌+◌, ◌≤◌, List, [], ◌∷◌, ◌++◌, length, insert, slice_get, Option, Some, None, IsSome, refl, sym, ap, subst}
+use Rattle.std.proofs.Common.{◌∙◌, inl, inr, arith, append_assoc, eqb}
 use Rattle.std.proofs.lemmas.Bool.{cases_eq, cond-true, cond-false, eq-eqb, ne_eqb}
 use Rattle.std.proofs.lemmas.Grind.{common_steps}
 use Rattle.std.specs.List.{flat_map}
@@ -21,18 +22,23 @@ insert_after_head ys at new = grind (arith, common_steps)
 pub insert_after-append : (xs ys : List ℕ) (at new : ℕ) → insert_after (xs ++ ys) at new ≡ insert_after xs at new ++ insert_after ys at new
 insert_after-append [] ys at new = refl
 insert_after-append (x ∷ xs) ys at new = elim (cases_eq x at) [
-  | inl e ↦ subst (λ (z : ℕ). insert_after (z ∷ (xs ++ ys)) at new ≡ insert_after (z ∷ xs) at new ++ insert_after ys at new) (sym e) (insert_after_head (xs ++ ys) at new ∙ ap (λ zs. at ∷ new ∷ zs) (insert_after-append xs ys at new) ∙ ap (λ zs. zs ++ insert_after ys at new) (sym (insert_after_head xs at new)))
-  | inr d ↦ insert_after_later x (xs ++ ys) at new d ∙ ap (λ zs. x ∷ zs) (insert_after-append xs ys at new) ∙ ap (λ zs. zs ++ insert_after ys at new) (sym (insert_after_later x xs at new d))
+  | inl e ↦ subst (λ (z : ℕ). insert_after (z ∷ (xs ++ ys)) at new ≡ insert_after (z ∷ xs) at new ++ insert_after ys at new) (sym e) (insert_after_head (xs ++ ys) at new
+      ∙ ap (λ zs. at ∷ new ∷ zs) (insert_after-append xs ys at new) ∙ ap (λ zs. zs ++ insert_after ys at new) (sym (insert_after_head xs at new)))
+  | inr d ↦ insert_after_later x (xs ++ ys) at new d ∙ ap (λ zs. x ∷ zs) (insert_after-append xs ys at new)
+      ∙ ap (λ zs. zs ++ insert_after ys at new) (sym (insert_after_later x xs at new d))
 ]
 
 -- the children after a split, in order
-pub flat_map-insert_after : (f g : ℕ → List ℕ) (xs : List ℕ) (p q : ℕ) → g p ≡ f p ++ f q → ((x : ℕ) → 1 ≤ times xs x → x ≢ p → g x ≡ f x) → flat_map f (insert_after xs p q) ≡ flat_map g xs
+pub flat_map-insert_after : (f g : ℕ → List ℕ) (xs : List ℕ) (p q : ℕ) → g p ≡ f p ++ f q → ((x : ℕ) → 1 ≤ times xs x → x ≢ p → g x ≡ f x)
+    → flat_map f (insert_after xs p q) ≡ flat_map g xs
 flat_map-insert_after f g [] p q e h = refl
 flat_map-insert_after f g (x ∷ xs) p q e h =
     let rest = flat_map-insert_after f g xs p q e (λ y m d. h y (omega arith) d) in
     elim (cases_eq x p) [
-      | inl c ↦ subst (λ (z : ℕ). flat_map f (insert_after (z ∷ xs) p q) ≡ flat_map g (z ∷ xs)) (sym c) (ap (flat_map f) (insert_after_head xs p q) ∙ sym (append_assoc (f p) (f q) (flat_map f (insert_after xs p q))) ∙ ap (λ zs. zs ++ flat_map f (insert_after xs p q)) (sym e) ∙ ap (λ zs. g p ++ zs) rest)
-      | inr d ↦ ap (flat_map f) (insert_after_later x xs p q d) ∙ ap (λ zs. zs ++ flat_map f (insert_after xs p q)) (sym (h x (omega (arith, same_refl x)) d)) ∙ ap (λ zs. g x ++ zs) rest
+      | inl c ↦ subst (λ (z : ℕ). flat_map f (insert_after (z ∷ xs) p q) ≡ flat_map g (z ∷ xs)) (sym c) (ap (flat_map f) (insert_after_head xs p q)
+          ∙ sym (append_assoc (f p) (f q) (flat_map f (insert_after xs p q))) ∙ ap (λ zs. zs ++ flat_map f (insert_after xs p q)) (sym e) ∙ ap (λ zs. g p ++ zs) rest)
+      | inr d ↦ ap (flat_map f) (insert_after_later x xs p q d) ∙ ap (λ zs. zs ++ flat_map f (insert_after xs p q)) (sym (h x (omega (arith, same_refl x)) d))
+          ∙ ap (λ zs. g x ++ zs) rest
     ]
 
 pub points_same : (o u : Option ℕ) → ((b : ℕ) → points o b ≡ points u b) → o ≡ u
@@ -45,7 +51,8 @@ times-insert_after_of [] at new x d = refl
 times-insert_after_of (y ∷ ys) at new x d =
     let rest = times-insert_after_of ys at new x d in
     elim (cases_eq y at) [
-      | inl e ↦ subst (λ (z : ℕ). times (insert_after (z ∷ ys) at new) x ≡ times (z ∷ ys) x) (sym e) (ap (λ zs. times zs x) (insert_after_head ys at new) ∙ omega (arith, rest, same_other new x (λ q. d (sym q))))
+      | inl e ↦ subst (λ (z : ℕ). times (insert_after (z ∷ ys) at new) x ≡ times (z ∷ ys) x) (sym e) (ap (λ zs. times zs x) (insert_after_head ys at new)
+          ∙ omega (arith, rest, same_other new x (λ q. d (sym q))))
       | inr n ↦ ap (λ zs. times zs x) (insert_after_later y ys at new n) ∙ omega (arith, rest)
     ]
 
@@ -101,7 +108,8 @@ total-insert_after f [] at id h = absurd (omega arith)
 total-insert_after f (y ∷ ys) at id h = elim (cases_eq y at) [
   | inl e ↦
       let none : times ys at ≡ 0 = omega (arith, ap (λ z. same z at) e, same_refl at) in
-      subst (λ (z : ℕ). total f (insert_after (z ∷ ys) at id) ≡ total f (z ∷ ys) + f id) (sym e) (omega (arith, ap (total f) (insert_after_head ys at id), ap (total f) (insert_after_none ys at id none)))
+      subst (λ (z : ℕ). total f (insert_after (z ∷ ys) at id) ≡ total f (z ∷ ys) + f id) (sym e)
+      (omega (arith, ap (total f) (insert_after_head ys at id), ap (total f) (insert_after_none ys at id none)))
   | inr d ↦ omega (arith, ap (total f) (insert_after_later y ys at id d), total-insert_after f ys at id (omega (arith, same_other y at d)))
 ]
 
@@ -148,7 +156,9 @@ insert_before_first x xs new h = insert_before_head xs x new ∙ ap (λ zs. new 
 joins : (xs ys : List ℕ) (at new : ℕ) → insert_before (xs ++ ys) at new ≡ insert_before xs at new ++ insert_before ys at new
 joins [] ys at new = refl
 joins (x ∷ xs) ys at new = elim (cases_eq x at) [
-  | inl e ↦ subst (λ (z : ℕ). insert_before (z ∷ (xs ++ ys)) at new ≡ insert_before (z ∷ xs) at new ++ insert_before ys at new) (sym e) (insert_before_head (xs ++ ys) at new ∙ ap (λ zs. new ∷ at ∷ zs) (joins xs ys at new) ∙ ap (λ zs. zs ++ insert_before ys at new) (sym (insert_before_head xs at new)))
+  | inl e ↦ subst (λ (z : ℕ). insert_before (z ∷ (xs ++ ys)) at new ≡ insert_before (z ∷ xs) at new ++ insert_before ys at new) (sym e)
+      (insert_before_head (xs ++ ys) at new ∙ ap (λ zs. new ∷ at ∷ zs) (joins xs ys at new)
+      ∙ ap (λ zs. zs ++ insert_before ys at new) (sym (insert_before_head xs at new)))
   | inr d ↦ insert_before_later x (xs ++ ys) at new d ∙ ap (λ zs. x ∷ zs) (joins xs ys at new) ∙ ap (λ zs. zs ++ insert_before ys at new) (sym (insert_before_later x xs at new d))
 ]
 
@@ -157,7 +167,8 @@ others [] at new x d = refl
 others (y ∷ ys) at new x d =
     let rest = others ys at new x d in
     elim (cases_eq y at) [
-      | inl e ↦ subst (λ (z : ℕ). times (insert_before (z ∷ ys) at new) x ≡ times (z ∷ ys) x) (sym e) (ap (λ zs. times zs x) (insert_before_head ys at new) ∙ omega (arith, rest, same_other new x (λ q. d (sym q))))
+      | inl e ↦ subst (λ (z : ℕ). times (insert_before (z ∷ ys) at new) x ≡ times (z ∷ ys) x) (sym e) (ap (λ zs. times zs x) (insert_before_head ys at new)
+          ∙ omega (arith, rest, same_other new x (λ q. d (sym q))))
       | inr n ↦ ap (λ zs. times zs x) (insert_before_later y ys at new n) ∙ omega (arith, rest)
     ]
 
@@ -166,7 +177,8 @@ counts [] at new h = absurd (omega arith)
 counts (y ∷ ys) at new h = elim (cases_eq y at) [
   | inl e ↦
       let none : times ys at ≡ 0 = omega (arith, ap (λ z. same z at) e, same_refl at) in
-      subst (λ (z : ℕ). times (insert_before (z ∷ ys) at new) new ≡ times (z ∷ ys) new + 1) (sym e) (omega (arith, ap (λ zs. times zs new) (insert_before_head ys at new), ap (λ zs. times zs new) (insert_before_none ys at new none), same_refl new))
+      subst (λ (z : ℕ). times (insert_before (z ∷ ys) at new) new ≡ times (z ∷ ys) new + 1) (sym e)
+      (omega (arith, ap (λ zs. times zs new) (insert_before_head ys at new), ap (λ zs. times zs new) (insert_before_none ys at new none), same_refl new))
   | inr d ↦ omega (arith, ap (λ zs. times zs new) (insert_before_later y ys at new d), counts ys at new (omega (arith, same_other y at d)))
 ]
 
@@ -184,7 +196,8 @@ totals f [] at id h = absurd (omega arith)
 totals f (y ∷ ys) at id h = elim (cases_eq y at) [
   | inl e ↦
       let none : times ys at ≡ 0 = omega (arith, ap (λ z. same z at) e, same_refl at) in
-      subst (λ (z : ℕ). total f (insert_before (z ∷ ys) at id) ≡ total f (z ∷ ys) + f id) (sym e) (omega (arith, ap (total f) (insert_before_head ys at id), ap (total f) (insert_before_none ys at id none)))
+      subst (λ (z : ℕ). total f (insert_before (z ∷ ys) at id) ≡ total f (z ∷ ys) + f id) (sym e)
+      (omega (arith, ap (total f) (insert_before_head ys at id), ap (total f) (insert_before_none ys at id none)))
   | inr d ↦ omega (arith, ap (total f) (insert_before_later y ys at id d), totals f ys at id (omega (arith, same_other y at d)))
 ]
 

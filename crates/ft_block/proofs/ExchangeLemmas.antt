@@ -11,7 +11,8 @@ use Rattle.ft_partial.specs.StepFunctions.{amount}
 use Rattle.ft_block.specs.declared.summaries.Summary.{Summary}
 use Rattle.ft_block.specs.declared.leaves.LenView.{LenView}
 use Rattle.ft_block.specs.Leaves.{sees_in, seen_length}
-use Rattle.ft_block.specs.Tree.{total, Measure, length_of, length_of_entry, length_of_node, height_of, by_view, by_size, kept_length, HasRange, IsShape, IsTree, IsPartTree, SumsBut, OwesAt, OwesAbove}
+use Rattle.ft_block.specs.Tree.{total, Measure, length_of, length_of_entry, length_of_node, height_of, by_view, by_size, kept_length, HasRange, IsShape, IsTree}
+use Rattle.ft_block.specs.Tree.{IsPartTree, SumsBut, OwesAt, OwesAbove}
 use Rattle.ft_block.specs.Steps.{SameShape, Resums}
 use Rattle.ft_block.proofs.Levels.{block_from_height}
 use Rattle.ft_block.proofs.EditLemmas.{is_some_from}
@@ -54,7 +55,8 @@ module _ {L : Type 0} where
         | inr d ↦ same_other p b d
       ]
 
-module _ {L : Type 0} (size : L → ℕ) (element : L → Element) (floor : ℕ) (s : Forest L Summary) (root : ℕ) (extra short : Option ℕ) (t : IsPartTree s root extra short) (fits : total (length_of (by_size size) s) s.leaves < 2 ^ 64) (b : ℕ) (v w : Summary) (found : block_value s b ≡ Some v) (height : w.height ≡ v.height) where
+module _ {L : Type 0} (size : L → ℕ) (element : L → Element) (floor : ℕ) (s : Forest L Summary) (root : ℕ) (extra short : Option ℕ) (t : IsPartTree s root extra short)
+    (fits : total (length_of (by_size size) s) s.leaves < 2 ^ 64) (b : ℕ) (v w : Summary) (found : block_value s b ≡ Some v) (height : w.height ≡ v.height) where
   ex_block : IsSome (block_value s b)
   ex_block = is_some_from (block_value s b) v found
 
@@ -65,13 +67,24 @@ module _ {L : Type 0} (size : L → ℕ) (element : L → Element) (floor : ℕ)
     ex_fits : total (length_of (by_view size element view) s) (kids_of s b) < 2 ^ 64
     ex_fits =
         let high = t.shape.high b ex_block in
-        omega (arith, kids_fit (by_view size element view) s root extra t.shape b ex_block (λ y l e. omega (arith, high, l, t.low y e)) (λ k q l. sums k q (λ e. let c : b ≡ k = cc e in omega (arith, l, ap (height_of s) c))), t.part (length_of (by_view size element view) s), all_fit size element view s t.shape.forest, fits)
+        omega (
+          arith,
+          kids_fit (by_view size element view) s root extra t.shape b ex_block (λ y l e. omega (arith, high, l, t.low y e))
+              (λ k q l. sums k q (λ e. let c : b ≡ k = cc e in omega (arith, l, ap (height_of s) c))),
+          t.part (length_of (by_view size element view) s),
+          all_fit size
+              element view s t.shape.forest,
+          fits,
+        )
 
-    module _ (more less : ℕ) (low : HasRange w) (ex : (kept_length view w + less) % 2 ^ 64 ≡ (kept_length view v + more) % 2 ^ 64) (owes : OwesAt (by_view size element view) s (Some b) more less) where
+    module _ (more less : ℕ) (low : HasRange w) (ex : (kept_length view w + less) % 2 ^ 64 ≡ (kept_length view v + more) % 2 ^ 64)
+        (owes : OwesAt (by_view size element view) s (Some b) more less) where
       pub ex_resums : Resums (by_view size element view) s (with_block s b w) b
       ex_resums =
           let was : length_of (by_view size element view) s b ≡ kept_length view v = block_length (by_view size element view) (entry s b) v found in
-          refreshed_sums (by_view size element view) s b v w found (no_own_child s root extra short t.shape b) (settled (kept_length view w) (kept_length view v) more less (total (length_of (by_view size element view) s) (kids_of s b)) ex (ap (λ (x : ℕ). x + more) (sym was) ∙ owes b refl) (kept_low w low view) ex_fits)
+          refreshed_sums (by_view size element view) s b v w found (no_own_child s root extra short t.shape b)
+          (settled (kept_length view w) (kept_length view v) more less (total (length_of (by_view size element view) s) (kids_of s b)) ex
+          (ap (λ (x : ℕ). x + more) (sym was) ∙ owes b refl) (kept_low w low view) ex_fits)
 
       pub ex_sums : SumsBut (by_view size element view) (with_block s b w) (parent_of (with_block s b w) b)
       ex_sums = SameShape-sums (by_view size element view) s (with_block s b w) b ex_shape ex_resums sums
@@ -80,7 +93,8 @@ module _ {L : Type 0} (size : L → ℕ) (element : L → Element) (floor : ℕ)
       ex_owes = SameShape-owes (by_view size element view) s (with_block s b w) b more less ex_shape ex_resums sums (no_own_child s root extra short t.shape b) owes
 
 -- the next block up is a block, and fewer are left
-module _ {L : Type 0} (s : Forest L Summary) (root : ℕ) (extra short : Option ℕ) (t : IsPartTree s root extra short) (b : ℕ) (v w : Summary) (found : block_value s b ≡ Some v) (height : w.height ≡ v.height) where
+module _ {L : Type 0} (s : Forest L Summary) (root : ℕ) (extra short : Option ℕ) (t : IsPartTree s root extra short) (b : ℕ) (v w : Summary)
+    (found : block_value s b ≡ Some v) (height : w.height ≡ v.height) where
   nx_shape : SameShape s (with_block s b w)
   nx_shape = refreshed_shape s b v w found height t.shape.forest
 
@@ -114,21 +128,29 @@ module _ {L : Type 0} (size : L → ℕ) (element : L → Element) (view : LenVi
   leaf_amount leaf e n is many = ap (λ z. amount (sees_in view z) n) is ∙ ap (λ (k : ℕ). amount (sees_in view (element leaf)) k) many
 
   -- a leaf is put in where there was none
-  pub comes : (s : Forest L Summary) (at : ℕ) (ed : List ℕ → List ℕ) (leaf : L) (e : Element) (n : ℕ) → e ≡ element leaf → n ≡ size leaf → OwesAbove (by_view size element view) s at ed (0 + seen_length size element view leaf) 0 → OwesAbove (by_view size element view) s at ed (amount (sees_in view e) n) (amount (sees_in view e) 0)
+  pub comes : (s : Forest L Summary) (at : ℕ) (ed : List ℕ → List ℕ) (leaf : L) (e : Element) (n : ℕ) → e ≡ element leaf → n ≡ size leaf
+      → OwesAbove (by_view size element view) s at ed (0 + seen_length size element view leaf) 0
+      → OwesAbove (by_view size element view) s at ed (amount (sees_in view e) n) (amount (sees_in view e) 0)
   comes s at ed leaf e n is many owes =
       let a : 0 + seen_length size element view leaf ≡ amount (sees_in view e) n = omega (arith, leaf_amount leaf e n is many) in
       let b : 0 ≡ amount (sees_in view e) 0 = sym (none_gone (sees_in view e)) in
       subst (λ (k : ℕ). OwesAbove (by_view size element view) s at ed (amount (sees_in view e) n) k) b (subst (λ (k : ℕ). OwesAbove (by_view size element view) s at ed k 0) a owes)
 
   -- a leaf is taken out
-  pub goes : (s : Forest L Summary) (stale : Option ℕ) (leaf : L) (e : Element) (n : ℕ) → e ≡ element leaf → n ≡ size leaf → OwesAt (by_view size element view) s stale 0 (seen_length size element view leaf) → OwesAt (by_view size element view) s stale (amount (sees_in view e) 0) (amount (sees_in view e) n)
+  pub goes : (s : Forest L Summary) (stale : Option ℕ) (leaf : L) (e : Element) (n : ℕ) → e ≡ element leaf → n ≡ size leaf
+      → OwesAt (by_view size element view) s stale 0 (seen_length size element view leaf)
+      → OwesAt (by_view size element view) s stale (amount (sees_in view e) 0) (amount (sees_in view e) n)
   goes s stale leaf e n is many owes =
-      subst (λ (k : ℕ). OwesAt (by_view size element view) s stale (amount (sees_in view e) 0) k) (sym (leaf_amount leaf e n is many)) (subst (λ (k : ℕ). OwesAt (by_view size element view) s stale k (seen_length size element view leaf)) (sym (none_gone (sees_in view e))) owes)
+      subst (λ (k : ℕ). OwesAt (by_view size element view) s stale (amount (sees_in view e) 0) k) (sym (leaf_amount leaf e n is many))
+      (subst (λ (k : ℕ). OwesAt (by_view size element view) s stale k (seen_length size element view leaf)) (sym (none_gone (sees_in view e))) owes)
 
   -- a leaf changes
-  pub turns : (s : Forest L Summary) (stale : Option ℕ) (v w : L) (e f : Element) (n m : ℕ) → e ≡ element v → n ≡ size v → f ≡ element w → m ≡ size w → OwesAt (by_view size element view) s stale (seen_length size element view w) (seen_length size element view v) → OwesAt (by_view size element view) s stale (amount (sees_in view f) m) (amount (sees_in view e) n)
+  pub turns : (s : Forest L Summary) (stale : Option ℕ) (v w : L) (e f : Element) (n m : ℕ) → e ≡ element v → n ≡ size v → f ≡ element w → m ≡ size w
+      → OwesAt (by_view size element view) s stale (seen_length size element view w) (seen_length size element view v)
+      → OwesAt (by_view size element view) s stale (amount (sees_in view f) m) (amount (sees_in view e) n)
   turns s stale v w e f n m ev nv fw mw owes =
-      subst (λ (k : ℕ). OwesAt (by_view size element view) s stale (amount (sees_in view f) m) k) (sym (leaf_amount v e n ev nv)) (subst (λ (k : ℕ). OwesAt (by_view size element view) s stale k (seen_length size element view v)) (sym (leaf_amount w f m fw mw)) owes)
+      subst (λ (k : ℕ). OwesAt (by_view size element view) s stale (amount (sees_in view f) m) k) (sym (leaf_amount v e n ev nv))
+      (subst (λ (k : ℕ). OwesAt (by_view size element view) s stale k (seen_length size element view v)) (sym (leaf_amount w f m fw mw)) owes)
 
 -- who is a parent in a tree is a block
 pub parent_block : {L : Type 0} (s : Forest L Summary) (root : ℕ) → IsTree s root → (at b : ℕ) → parent_of s at ≡ Some b → IsSome (block_value s b)

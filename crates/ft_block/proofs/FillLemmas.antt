@@ -1,5 +1,6 @@
 -- What is left where a tree from which a leaf is taken has no block with too few children any more.
-use Rattle.std.proofs.Common.{◌≡◌, ◌≢◌, ◌⊎◌, ℕ, suc, ◌+◌, ◌-◌, ◌^◌, ◌≤◌, ◌<◌, List, [], ◌∷◌, ◌++◌, length, take, drop, slice_get, Option, Some, None, IsSome, refl, sym, ap, subst, ◌∙◌, inl, inr, arith}
+use Rattle.std.proofs.Common.{◌≡◌, ◌≢◌, ◌⊎◌, ℕ, suc, ◌+◌, ◌-◌, ◌^◌, ◌≤◌, ◌<◌, List, [], ◌∷◌, ◌++◌, length, take, drop, slice_get, Option, Some, None, IsSome, refl, sym}
+use Rattle.std.proofs.Common.{ap, subst, ◌∙◌, inl, inr, arith}
 use Rattle.std.proofs.lemmas.Bool.{cases_eq, cases_lt}
 use Rattle.std.proofs.lemmas.List.{take-append-drop}
 use Rattle.ft_base.specs.declared.elements.Element.{Element}
@@ -107,7 +108,8 @@ module _ {L : Type 0} (s : Forest L Summary) (root id block : ℕ) (a : IsApart 
     ]
 
     -- the short one is one of the two
-    pub fl_short : (place i front rear : ℕ) → slice_get (kids_of s up) place ≡ Some block → i ≡ place - 1 → slice_get (kids_of s up) i ≡ Some front → slice_get (kids_of s up) (i + 1) ≡ Some rear → (block ≡ front) ⊎ (block ≡ rear)
+    pub fl_short : (place i front rear : ℕ) → slice_get (kids_of s up) place ≡ Some block → i ≡ place - 1 → slice_get (kids_of s up) i ≡ Some front
+        → slice_get (kids_of s up) (i + 1) ≡ Some rear → (block ≡ front) ⊎ (block ≡ rear)
     fl_short place i front rear e is ef er = elim (cases_lt 0 place) [
       | inl l ↦
           let n : i + 1 ≡ place = omega (arith, is, l) in
@@ -159,17 +161,32 @@ module _ {L : Type 0} (s : Forest L Summary) (root id block : ℕ) (a : IsApart 
               | inr d ↦ omega (arith, a.shape.half_full front (kid_block front f) (not_root front f) (λ q. d (cc q)))
             ]
 
-        module _ (size : L → ℕ) (element : L → Element) (view : LenView) (sums : SumsBut (by_view size element view) s None) (fits : total (length_of (by_size size) s) s.leaves < 2 ^ 64) where
+        module _ (size : L → ℕ) (element : L → Element) (view : LenView) (sums : SumsBut (by_view size element view) s None)
+            (fits : total (length_of (by_size size) s) s.leaves < 2 ^ 64) where
           -- the two fit, as all children of the block do
           pub fl_fits : length_of (by_view size element view) s front + length_of (by_view size element view) s rear < 2 ^ 64
           fl_fits =
               let f : ℕ → ℕ = length_of (by_view size element view) s in
               let p = apart_part s root id (Some block) a in
-              let whole : total f (kids_of s up) ≡ total f (without (kids_of s up) rear) + f rear = ap (total f) (sym fl_pair.order) ∙ (after_is_edit front rear).totals f (without (kids_of s up) rear) (rest_once (kids_of s up) front rear fl_pair.differ (kid_once front (kid_up i front at_front))) in
-              omega (arith, whole, one_of f (without (kids_of s up) rear) front (rest_once (kids_of s up) front rear fl_pair.differ (kid_once front (kid_up i front at_front))), kids_fit (by_view size element view) s root (Some id) a.shape up fl_up_block (λ y l e. omega (arith, l, p.low y e, fl_two)) (λ k h l. sums k h (λ e. cc)), p.part f, all_fit size element view s a.shape.forest, fits)
+              let whole : total f (kids_of s up) ≡ total f (without (kids_of s up) rear) + f rear =
+              ap (total f) (sym fl_pair.order) ∙ (after_is_edit front rear).totals f (without (kids_of s up) rear)
+              (rest_once (kids_of s up) front rear fl_pair.differ (kid_once front (kid_up i front at_front))) in
+              omega (
+                arith,
+                whole,
+                one_of f (without (kids_of s up) rear) front
+                    (rest_once (kids_of s up) front rear fl_pair.differ (kid_once front (kid_up i front at_front))),
+                kids_fit (by_view size element view) s root (Some id)
+                    a.shape up fl_up_block (λ y l e. omega (arith, l, p.low y e, fl_two)) (λ k h l. sums k h (λ e. cc)),
+                p.part f,
+                all_fit size element view s
+                    a.shape.forest,
+                fits,
+              )
 
 -- the root is gone, whose one child is the root now
-module _ {L : Type 0} (s s' : Forest L Summary) (root id top : ℕ) (a : IsApart s root id (Some top)) (filled : 1 ≤ length (kids_of s top)) (is_block : IsSome (block_value s top)) (r : DropsRoot s s' root top) where
+module _ {L : Type 0} (s s' : Forest L Summary) (root id top : ℕ) (a : IsApart s root id (Some top)) (filled : 1 ≤ length (kids_of s top))
+    (is_block : IsSome (block_value s top)) (r : DropsRoot s s' root top) where
   dr_top_up : parent_of s top ≡ Some root
   dr_top_up = points_some (parent_of s top) root (omega (arith, a.shape.forest.child_once root top, ap (λ ks. times ks top) r.kids, same_refl top))
 
@@ -232,7 +249,12 @@ module _ {L : Type 0} (s s' : Forest L Summary) (root id top : ℕ) (a : IsApart
               let b_not_root : b ≢ root = (λ q. x_not_top (dr_only x (old ∙ ap Some q))) in
               omega (arith, dr_height x x_not_root, dr_height b b_not_root, a.shape.heights x b old);
           high = λ b h. omega (arith, dr_height b (dr_alive b (block_live (entry s' b) h)), a.shape.high b (dr_was_block b h));
-          half_full = λ b h d _. omega (arith, ap length (r.other_kids b (dr_alive b (block_live (entry s' b) h))), a.shape.half_full b (dr_was_block b h) (dr_alive b (block_live (entry s' b) h)) (λ e. d (sym (cc e))));
+          half_full = λ b h d _. omega (
+            arith,
+            ap length (r.other_kids b (dr_alive b (block_live (entry s' b) h))),
+            a.shape.half_full b (dr_was_block b h)
+                (dr_alive b (block_live (entry s' b) h)) (λ e. d (sym (cc e))),
+          );
           root_filled = omega (arith, ap length (r.other_kids top dr_differ), filled);
         };
         live = subst (λ (o : Option L). IsSome o) (sym (r.leaf_values id)) a.live;
@@ -244,8 +266,11 @@ module _ {L : Type 0} (s s' : Forest L Summary) (root id top : ℕ) (a : IsApart
       dr_leaves : without s'.leaves id ≡ below s' (height_of s' top) (top ∷ [])
       dr_leaves =
           let h : height_of s root ≡ suc (height_of s top) = omega (arith, dr_high) in
-          let down : below s (height_of s root) (root ∷ []) ≡ below s (height_of s top) (top ∷ []) = ap (λ (n : ℕ). below s n (root ∷ [])) h ∙ ap (below s (height_of s top)) (ap (λ zs. zs ++ []) r.kids) in
-          let same_below : below s' (height_of s top) (top ∷ []) ≡ below s (height_of s top) (top ∷ []) = below_same s s' (height_of s top) (height_of s top) (top ∷ []) (steps_down s root (Some id) a.shape) (root_high s top) (omega arith) (λ x low _. r.other_kids x (λ e. omega (arith, low, ap (height_of s) e, dr_high))) in
+          let down : below s (height_of s root) (root ∷ []) ≡ below s (height_of s top) (top ∷ []) =
+          ap (λ (n : ℕ). below s n (root ∷ [])) h ∙ ap (below s (height_of s top)) (ap (λ zs. zs ++ []) r.kids) in
+          let same_below : below s' (height_of s top) (top ∷ []) ≡ below s (height_of s top) (top ∷ []) =
+          below_same s s' (height_of s top) (height_of s top) (top ∷ []) (steps_down s root (Some id) a.shape) (root_high s top) (omega arith)
+          (λ x low _. r.other_kids x (λ e. omega (arith, low, ap (height_of s) e, dr_high))) in
           ap (λ zs. without zs id) r.leaves ∙ a.leaves ∙ down ∙ sym same_below ∙ ap (λ (n : ℕ). below s' n (top ∷ [])) (sym (dr_height top dr_differ))
 
   pub dropped_low : height_of s' top ≤ height_of s root
@@ -255,9 +280,14 @@ module _ {L : Type 0} (s s' : Forest L Summary) (root id top : ℕ) (a : IsApart
     pub dropped_sums : SumsBut measure s None → SumsBut measure s' None
     dropped_sums sums b h _ =
         let d = dr_alive b (block_live (entry s' b) h) in
-        let same_length : (x : ℕ) → x ≢ root → length_of measure s' x ≡ length_of measure s x = λ x n. length_from_values measure (entry s x) (entry s' x) (r.leaf_values x) (r.block_values x n) in
-        let inside : (x : ℕ) → 1 ≤ times (kids_of s b) x → x ≢ root = λ x m e. cc (ap (parent_of s) e, a.shape.root_is_top, points_some (parent_of s x) b (omega (arith, m, a.shape.forest.child_once b x))) in
-        same_length b d ∙ sums b (dr_was_block b h) (λ e. cc) ∙ sym (total_same (length_of measure s) (length_of measure s') (kids_of s b) (λ x m. same_length x (inside x m))) ∙ ap (total (length_of measure s')) (sym (r.other_kids b d))
+        let same_length : (x : ℕ) → x ≢ root → length_of measure s' x ≡ length_of measure s x =
+        λ x n. length_from_values measure (entry s x) (entry s' x) (r.leaf_values x) (r.block_values x n) in
+        let inside : (x : ℕ) → 1 ≤ times (kids_of s b) x → x ≢ root =
+        λ x m e. cc (ap (parent_of s) e, a.shape.root_is_top, points_some (parent_of s x) b (omega (arith, m, a.shape.forest.child_once b x))) in
+        same_length b d ∙ sums b (dr_was_block b h) (λ e. cc)
+        ∙ sym (total_same (length_of measure s) (length_of measure s') (kids_of s b) (λ x m. same_length x (inside x m)))
+        ∙ ap (total (length_of measure s')) (sym (r.other_kids b d))
 
-  pub dropped_floors : (floor : ℕ) → ((x : ℕ) (v : Summary) → block_value s x ≡ Some v → v.table.floor ≤ floor) → (x : ℕ) (v : Summary) → block_value s' x ≡ Some v → v.table.floor ≤ floor
+  pub dropped_floors : (floor : ℕ) → ((x : ℕ) (v : Summary) → block_value s x ≡ Some v → v.table.floor ≤ floor) → (x : ℕ) (v : Summary) → block_value s' x ≡ Some v
+      → v.table.floor ≤ floor
   dropped_floors floor all x v e = all x v (sym (r.block_values x (dr_alive x (block_live (entry s' x) (is_some_from (block_value s' x) v e)))) ∙ e)

@@ -14,7 +14,10 @@ use Rattle.ft_block.proofs.Levels.{points_some, points_at}
 use Rattle.ft_block.proofs.EditLemmas.{is_some_from, none_by}
 use Rattle.ft_block.proofs.KindLemmas.{kind_is_height, kind_is_block, kind_height, kind_live, kind_block, block_live, kind_from_values}
 
-module _ {L : Type 0} (a0 a1 a2 a3 s : Forest L Summary) (id top : ℕ) (leaf : L) (z : Summary) (is_high : z.height ≡ 1) (bare : (x : ℕ) → entry a0 x ≡ None) (no_leaves : a0.leaves ≡ []) (l1 : a1.leaves ≡ id ∷ a0.leaves) (c1 : Changes a0 a1 id (Some record { node = Leaf leaf; parent = None })) (l2 : a2.leaves ≡ a1.leaves) (f2 : entry a1 top ≡ None) (c2 : Changes a1 a2 top (Some record { node = Block [] z; parent = None })) (l3 : a3.leaves ≡ a2.leaves) (p3 : PutsChild a2 a3 top 0 id) (r : SameShape a3 s) where
+module _ {L : Type 0} (a0 a1 a2 a3 s : Forest L Summary) (id top : ℕ) (leaf : L) (z : Summary) (is_high : z.height ≡ 1) (bare : (x : ℕ)
+    → entry a0 x ≡ None) (no_leaves : a0.leaves ≡ []) (l1 : a1.leaves ≡ id ∷ a0.leaves) (c1 : Changes a0 a1 id (Some record { node = Leaf leaf; parent = None }))
+    (l2 : a2.leaves ≡ a1.leaves) (f2 : entry a1 top ≡ None) (c2 : Changes a1 a2 top (Some record { node = Block [] z; parent = None })) (l3 : a3.leaves ≡ a2.leaves)
+    (p3 : PutsChild a2 a3 top 0 id) (r : SameShape a3 s) where
   o_apart : id ≢ top
   o_apart = λ e. cc (c1.changed, f2, ap (entry a1) e)
 
@@ -115,7 +118,9 @@ module _ {L : Type 0} (a0 a1 a2 a3 s : Forest L Summary) (id top : ℕ) (leaf : 
         leaves = o_leaves ∙ ap (λ zs. id ∷ zs) (sym no_leaves);
         fresh = ap leaf_of_entry (bare id);
         value = r.leaf_values id ∙ p3.leaf_values id ∙ ap leaf_of_entry o_entry2;
-        others = λ x d. r.leaf_values x ∙ p3.leaf_values x ∙ elim (cases_eq x top) [ inl e ↦ ap (λ z. leaf_of_entry (entry a2 z)) e ∙ ap leaf_of_entry c2.changed | inr n ↦ ap leaf_of_entry (o_none2 x d n) ] ∙ sym (ap leaf_of_entry (bare x));
+        others = λ x d. r.leaf_values x ∙ p3.leaf_values x
+            ∙ elim (cases_eq x top) [ inl e ↦ ap (λ z. leaf_of_entry (entry a2 z)) e ∙ ap leaf_of_entry c2.changed | inr n ↦ ap leaf_of_entry (o_none2 x d n) ]
+            ∙ sym (ap leaf_of_entry (bare x));
       }
 
   module _ (measure : Measure L) (u : Resums measure a3 s top) where

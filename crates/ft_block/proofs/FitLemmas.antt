@@ -42,7 +42,8 @@ module _ {L : Type 0} (s : Forest L Summary) (root : ℕ) (extra : Option ℕ) {
       )
 
   -- each node, but one that has no place yet, stands on its level
-  pub on_level : (n x : ℕ) → IsSome (entry s x) → ((y : ℕ) → height_of s x ≤ height_of s y → extra ≢ Some y) → height_of s x + n ≡ height_of s root → 1 ≤ times (below s n (root ∷ [])) x
+  pub on_level : (n x : ℕ) → IsSome (entry s x) → ((y : ℕ) → height_of s x ≤ height_of s y → extra ≢ Some y) → height_of s x + n ≡ height_of s root
+      → 1 ≤ times (below s n (root ∷ [])) x
   on_level zero x live apart h = elim (cases_eq x root) [
     | inl e ↦ subst (λ (y : ℕ). 1 ≤ times (root ∷ []) y) (sym e) (omega (arith, same_refl root))
     | inr d ↦ let u = up_from x live d (apart x (omega arith)) in absurd (omega (arith, h, u.2, t.low u.0 (block_live (entry s u.0) u.3)))
@@ -51,13 +52,16 @@ module _ {L : Type 0} (s : Forest L Summary) (root : ℕ) (extra : Option ℕ) {
       let d : x ≢ root = (λ e. omega (arith, h, ap (height_of s) e)) in
       let u = up_from x live d (apart x (omega arith)) in
       let r : 1 ≤ times (below s n (root ∷ [])) u.0 = on_level n u.0 (block_live (entry s u.0) u.3) (λ y k. apart y (omega (arith, k, u.2))) (omega (arith, h, u.2)) in
-      let m : 1 ≤ times (flat_map (kids_of s) (below s n (root ∷ []))) x = member_flat_map (kids_of s) (below s n (root ∷ [])) u.0 x r (omega (arith, t.forest.child_once u.0 x, points_at (parent_of s x) u.0 u.1)) in
+      let m : 1 ≤ times (flat_map (kids_of s) (below s n (root ∷ []))) x =
+      member_flat_map (kids_of s) (below s n (root ∷ [])) u.0 x r (omega (arith, t.forest.child_once u.0 x, points_at (parent_of s x) u.0 u.1)) in
       let e : n + 1 ≡ suc n = omega arith in
       subst (λ (zs : List ℕ). 1 ≤ times zs x) (below-below s 1 n (root ∷ []) ∙ ap (λ (k : ℕ). below s k (root ∷ [])) e) m
 
 module _ {L : Type 0} (measure : Measure L) (s : Forest L Summary) (root : ℕ) (extra : Option ℕ) {short : Option ℕ} (t : IsShape s root extra short) where
   -- the children of a block are together no longer than all leaves of the tree, where the sums are right below it
-  pub kids_fit : (b : ℕ) → IsSome (block_value s b) → ((y : ℕ) → height_of s b ≤ height_of s y → extra ≢ Some y) → ((k : ℕ) → IsSome (block_value s k) → height_of s k < height_of s b → length_of measure s k ≡ total (length_of measure s) (kids_of s k)) → total (length_of measure s) (kids_of s b) ≤ total (length_of measure s) (below s (height_of s root) (root ∷ []))
+  pub kids_fit : (b : ℕ) → IsSome (block_value s b) → ((y : ℕ) → height_of s b ≤ height_of s y → extra ≢ Some y)
+      → ((k : ℕ) → IsSome (block_value s k) → height_of s k < height_of s b → length_of measure s k ≡ total (length_of measure s) (kids_of s k))
+      → total (length_of measure s) (kids_of s b) ≤ total (length_of measure s) (below s (height_of s root) (root ∷ []))
   kids_fit b block apart sums =
       let f : ℕ → ℕ = length_of measure s in
       let live : IsSome (entry s b) = block_live (entry s b) block in
@@ -66,13 +70,28 @@ module _ {L : Type 0} (measure : Measure L) (s : Forest L Summary) (root : ℕ) 
       let n : ℕ = height_of s root - height_of s b in
       let j : ℕ = height_of s b - 1 in
       let level : List ℕ = below s (height_of s root - height_of s b) (root ∷ []) in
-      let there : 1 ≤ times (below s (height_of s root - height_of s b) (root ∷ [])) b = on_level s root extra t (height_of s root - height_of s b) b live apart (omega (arith, l)) in
-      let level_high : AllHigh s (height_of s b) (below s (height_of s root - height_of s b) (root ∷ [])) = λ x m. omega (arith, l, below_high s (height_of s root - height_of s b) (height_of s root) (root ∷ []) (steps_down s root extra t) (root_high s root) x m) in
-      let high : AllHigh s (height_of s b - 1) (flat_map (kids_of s) (below s (height_of s root - height_of s b) (root ∷ []))) = λ k m. let r = flat_map_member (kids_of s) (below s (height_of s root - height_of s b) (root ∷ [])) k m in omega (arith, level_high r.0 r.1, (steps_down s root extra t) r.0 k r.2) in
-      let part : total f (kids_of s b) ≤ total f (flat_map (kids_of s) (below s (height_of s root - height_of s b) (root ∷ []))) = total_part f (kids_of s) (below s (height_of s root - height_of s b) (root ∷ [])) b there in
-      let sum : total f (below s (height_of s b - 1) (flat_map (kids_of s) (below s (height_of s root - height_of s b) (root ∷ [])))) ≡ total f (flat_map (kids_of s) (below s (height_of s root - height_of s b) (root ∷ []))) = total_below_up_to measure s root extra t (height_of s b - 1) (flat_map (kids_of s) (below s (height_of s root - height_of s b) (root ∷ []))) (λ k i m. sums k i (omega (arith, m, one))) high in
+      let there : 1 ≤ times (below s (height_of s root - height_of s b) (root ∷ [])) b =
+      on_level s root extra t (height_of s root - height_of s b) b live apart (omega (arith, l)) in
+      let level_high : AllHigh s (height_of s b) (below s (height_of s root - height_of s b) (root ∷ [])) =
+      λ x m. omega (
+        arith,
+        l,
+        below_high s (height_of s root - height_of s b) (height_of s root) (root ∷ []) (steps_down s root extra t) (root_high s root) x
+            m,
+      ) in
+      let high : AllHigh s (height_of s b - 1) (flat_map (kids_of s) (below s (height_of s root - height_of s b) (root ∷ []))) = λ k m. let r =
+      flat_map_member (kids_of s) (below s (height_of s root - height_of s b) (root ∷ [])) k m in
+      omega (arith, level_high r.0 r.1, (steps_down s root extra t) r.0 k r.2) in
+      let part : total f (kids_of s b) ≤ total f (flat_map (kids_of s) (below s (height_of s root - height_of s b) (root ∷ []))) =
+      total_part f (kids_of s) (below s (height_of s root - height_of s b) (root ∷ [])) b there in
+      let sum : total f (below s (height_of s b - 1) (flat_map (kids_of s) (below s (height_of s root - height_of s b) (root ∷ [])))) ≡ total f
+      (flat_map (kids_of s) (below s (height_of s root - height_of s b) (root ∷ []))) =
+      total_below_up_to measure s root extra t (height_of s b - 1) (flat_map (kids_of s) (below s (height_of s root - height_of s b) (root ∷ [])))
+      (λ k i m. sums k i (omega (arith, m, one))) high in
       let e : (height_of s root - height_of s b) + (1 + (height_of s b - 1)) ≡ height_of s root = omega (arith, l, one) in
-      let whole : below s (height_of s b - 1) (flat_map (kids_of s) (below s (height_of s root - height_of s b) (root ∷ []))) ≡ below s (height_of s root) (root ∷ []) = below-below s (height_of s b - 1) 1 (below s (height_of s root - height_of s b) (root ∷ [])) ∙ below-below s (1 + (height_of s b - 1)) (height_of s root - height_of s b) (root ∷ []) ∙ ap (λ (k : ℕ). below s k (root ∷ [])) e in
+      let whole : below s (height_of s b - 1) (flat_map (kids_of s) (below s (height_of s root - height_of s b) (root ∷ []))) ≡ below s (height_of s root) (root ∷ []) =
+      below-below s (height_of s b - 1) 1 (below s (height_of s root - height_of s b) (root ∷ []))
+      ∙ below-below s (1 + (height_of s b - 1)) (height_of s root - height_of s b) (root ∷ []) ∙ ap (λ (k : ℕ). below s k (root ∷ [])) e in
       omega (arith, part, sum, ap (total f) whole)
 
 module _ {L : Type 0} where
@@ -96,9 +115,12 @@ module _ {L : Type 0} where
       one (Some v) h = refl
 
   -- the leaves are as long as their values say
-  pub leaf_total : (measure : Measure L) (s s' : Forest L Summary) → IsForest s → s'.leaves ≡ s.leaves → ((x : ℕ) → leaf_value s' x ≡ leaf_value s x) → total (length_of measure s') s'.leaves ≡ total (length_of measure s) s.leaves
+  pub leaf_total : (measure : Measure L) (s s' : Forest L Summary) → IsForest s → s'.leaves ≡ s.leaves → ((x : ℕ) → leaf_value s' x ≡ leaf_value s x)
+      → total (length_of measure s') s'.leaves ≡ total (length_of measure s) s.leaves
   leaf_total measure s s' f l v =
-      ap (total (length_of measure s')) l ∙ total_same (length_of measure s) (length_of measure s') s.leaves (λ x m. let w = some_leaf (leaf_value s x) (omega (arith, m, f.leaf_once x)) in leaf_length measure (entry s' x) w.0 (v x ∙ w.1) ∙ sym (leaf_length measure (entry s x) w.0 w.1))
+      ap (total (length_of measure s')) l ∙ total_same (length_of measure s) (length_of measure s') s.leaves (λ x m. let w =
+      some_leaf (leaf_value s x) (omega (arith, m, f.leaf_once x)) in
+      leaf_length measure (entry s' x) w.0 (v x ∙ w.1) ∙ sym (leaf_length measure (entry s x) w.0 w.1))
     where
       some_leaf : (o : Option L) → 1 ≤ count_some o → (w : L) × (o ≡ Some w)
       some_leaf None h = absurd (omega arith)
@@ -140,22 +162,38 @@ module _ {L : Type 0} (s : Forest L Summary) (root at new step : ℕ) (ed : List
       gr_fits =
           let f : ℕ → ℕ = length_of measure s in
           let gap : height_of s root - height_of s at ≡ (height_of s root - height_of s p) + 1 = omega (arith, gr_high, gr_low) in
-          let level : below s (height_of s root - height_of s at) (root ∷ []) ≡ flat_map (kids_of s) (below s (height_of s root - height_of s p) (root ∷ [])) = ap (λ (n : ℕ). below s n (root ∷ [])) gap ∙ sym (below-below s 1 (height_of s root - height_of s p) (root ∷ [])) in
-          let there : 1 ≤ times (below s (height_of s root - height_of s p) (root ∷ [])) p = on_level s root (Some new) g.shape (height_of s root - height_of s p) p (block_live (entry s p) gr_block) (λ y h e. let q : new ≡ y = cc e in omega (arith, h, ap (height_of s) q, g.level, gr_high)) (omega (arith, gr_low)) in
-          let part : total f (ed (kids_of s p)) ≤ total f (flat_map (λ x. ed (kids_of s x)) (below s (height_of s root - height_of s p) (root ∷ []))) = total_part f (λ x. ed (kids_of s x)) (below s (height_of s root - height_of s p) (root ∷ [])) p there in
-          let e : flat_map (λ x. ed (kids_of s x)) (below s (height_of s root - height_of s p) (root ∷ [])) ≡ ed (below s (height_of s root - height_of s at) (root ∷ [])) = sym (edit-flat_map step ed at new E (kids_of s) (below s (height_of s root - height_of s p) (root ∷ []))) ∙ ap ed (sym level) in
-          let high : AllHigh s (height_of s at) (ed (below s (height_of s root - height_of s at) (root ∷ []))) = λ x m. elim (edit_member step ed at new E (below s (height_of s root - height_of s at) (root ∷ [])) x m) [
-            | inl l ↦ omega (arith, below_high s (height_of s root - height_of s at) (height_of s root) (root ∷ []) (steps_down s root (Some new) g.shape) (root_high s root) x l, gr_high, gr_low)
+          let level : below s (height_of s root - height_of s at) (root ∷ []) ≡ flat_map (kids_of s) (below s (height_of s root - height_of s p) (root ∷ [])) =
+          ap (λ (n : ℕ). below s n (root ∷ [])) gap ∙ sym (below-below s 1 (height_of s root - height_of s p) (root ∷ [])) in
+          let there : 1 ≤ times (below s (height_of s root - height_of s p) (root ∷ [])) p =
+          on_level s root (Some new) g.shape (height_of s root - height_of s p) p (block_live (entry s p) gr_block) (λ y h e. let q : new ≡ y = cc e in
+          omega (arith, h, ap (height_of s) q, g.level, gr_high)) (omega (arith, gr_low)) in
+          let part : total f (ed (kids_of s p)) ≤ total f (flat_map (λ x. ed (kids_of s x)) (below s (height_of s root - height_of s p) (root ∷ []))) =
+          total_part f (λ x. ed (kids_of s x)) (below s (height_of s root - height_of s p) (root ∷ [])) p there in
+          let e : flat_map (λ x. ed (kids_of s x)) (below s (height_of s root - height_of s p) (root ∷ [])) ≡ ed
+          (below s (height_of s root - height_of s at) (root ∷ [])) =
+          sym (edit-flat_map step ed at new E (kids_of s) (below s (height_of s root - height_of s p) (root ∷ []))) ∙ ap ed (sym level) in
+          let high : AllHigh s (height_of s at) (ed (below s (height_of s root - height_of s at) (root ∷ []))) =
+          λ x m. elim (edit_member step ed at new E (below s (height_of s root - height_of s at) (root ∷ [])) x m) [
+            | inl l ↦ omega (
+              arith,
+              below_high s (height_of s root - height_of s at) (height_of s root) (root ∷ []) (steps_down s root (Some new) g.shape)
+                  (root_high s root) x l,
+              gr_high,
+              gr_low,
+            )
             | inr q ↦ ap (height_of s) q ∙ g.level
           ] in
-          let sum = total_below_up_to measure s root (Some new) g.shape (height_of s at) (ed (below s (height_of s root - height_of s at) (root ∷ []))) (λ b i l. sums b i (λ q. let c : p ≡ b = cc (q, up) in omega (arith, l, ap (height_of s) c, gr_high))) high in
+          let sum = total_below_up_to measure s root (Some new) g.shape (height_of s at) (ed (below s (height_of s root - height_of s at) (root ∷ [])))
+          (λ b i l. sums b i (λ q. let c : p ≡ b = cc (q, up) in omega (arith, l, ap (height_of s) c, gr_high))) high in
           omega (arith, part, ap (total f) e, sum, ap (total f) g.leaves)
 
 -- under the root the two stand side by side
-pub gr_root_fits : {L : Type 0} (measure : Measure L) (s : Forest L Summary) (root new : ℕ) → IsGrowing s root root new (λ xs. insert_after xs root new) → SumsBut measure s (parent_of s root) → length_of measure s root + length_of measure s new ≤ total (length_of measure s) s.leaves
+pub gr_root_fits : {L : Type 0} (measure : Measure L) (s : Forest L Summary) (root new : ℕ) → IsGrowing s root root new (λ xs. insert_after xs root new)
+    → SumsBut measure s (parent_of s root) → length_of measure s root + length_of measure s new ≤ total (length_of measure s) s.leaves
 gr_root_fits measure s root new g sums =
     let gap : height_of s root - height_of s root ≡ 0 = omega arith in
-    let there : insert_after (below s (height_of s root - height_of s root) (root ∷ [])) root new ≡ root ∷ new ∷ [] = ap (λ (n : ℕ). insert_after (below s n (root ∷ [])) root new) gap ∙ insert_after_head [] root new in
+    let there : insert_after (below s (height_of s root - height_of s root) (root ∷ [])) root new ≡ root ∷ new ∷ [] =
+    ap (λ (n : ℕ). insert_after (below s n (root ∷ [])) root new) gap ∙ insert_after_head [] root new in
     let high : AllHigh s (height_of s root) (root ∷ new ∷ []) = λ x m. elim (cases_eq root x) [
       | inl e ↦ ap (height_of s) (sym e)
       | inr d ↦ elim (cases_eq new x) [ inl e ↦ ap (height_of s) (sym e) ∙ g.level | inr k ↦ absurd (omega (arith, same_other root x d, same_other new x k)) ]

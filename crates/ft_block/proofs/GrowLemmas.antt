@@ -6,15 +6,18 @@ use Rattle.ft_arena.specs.Ids.{times, points, insert_after}
 use Rattle.ft_arena.specs.Forest.{Forest, entry, kids_of, parent_of, block_value, kids_of_entry, parent_of_entry}
 use Rattle.ft_arena.proofs.IdLemmas.{same_refl, same_other, times-append}
 use Rattle.ft_block.specs.declared.summaries.Summary.{Summary}
-use Rattle.ft_block.specs.Tree.{total, height_of, height_of_entry, Measure, length_of, below, IsShape, SumsBut, Owes, OwesAt, OwesAbove, AreFromFloor, IsGrowing, IsTree, IsEdit, kind_of}
+use Rattle.ft_block.specs.Tree.{total, height_of, height_of_entry, Measure, length_of, below, IsShape, SumsBut, Owes, OwesAt, OwesAbove, AreFromFloor, IsGrowing, IsTree}
+use Rattle.ft_block.specs.Tree.{IsEdit, kind_of}
 use Rattle.ft_block.specs.Steps.{Resums, ResumsBoth, PutsAt, SplitsAt, RootsOver}
 use Rattle.ft_block.proofs.Levels.{AllHigh, points_some, points_at, live_from_parent, block_from_height, steps_down, root_high}
-use Rattle.ft_block.proofs.EditLemmas.{flat_map_same, flat_map-insert_after, insert_after_head, points_same, total_same, total_change, after_is_edit, some_of, is_some_from, none_by, dead_apart, edit_member, edit-flat_map}
+use Rattle.ft_block.proofs.EditLemmas.{flat_map_same, flat_map-insert_after, insert_after_head, points_same, total_same, total_change, after_is_edit, some_of}
+use Rattle.ft_block.proofs.EditLemmas.{is_some_from, none_by, dead_apart, edit_member, edit-flat_map}
 use Rattle.ft_block.proofs.LevelLemmas.{below-below, below_same, below_high}
 use Rattle.ft_block.proofs.KindLemmas.{kind_height, kind_live, kind_block, block_live, kind_is_height, kind_is_block, kind_from_values, length_from_values}
 use Rattle.ft_block.proofs.Lists.{total-append}
 
-module _ {L : Type 0} (s s' : Forest L Summary) (root at new p : ℕ) (step : ℕ) (ed : List ℕ → List ℕ) (E : IsEdit step ed at new) (g : IsGrowing s root at new ed) (up : parent_of s at ≡ Some p) (place : ℕ) (at_place : insert (kids_of s p) place new ≡ ed (kids_of s p)) where
+module _ {L : Type 0} (s s' : Forest L Summary) (root at new p : ℕ) (step : ℕ) (ed : List ℕ → List ℕ) (E : IsEdit step ed at new) (g : IsGrowing s root at new ed)
+    (up : parent_of s at ≡ Some p) (place : ℕ) (at_place : insert (kids_of s p) place new ≡ ed (kids_of s p)) where
   p_high : height_of s p ≡ height_of s at + 1
   p_high = g.shape.heights at p up
 
@@ -46,7 +49,12 @@ module _ {L : Type 0} (s s' : Forest L Summary) (root at new p : ℕ) (step : �
 
   level_high : AllHigh s (height_of s at) (ed (below s (height_of s root - height_of s at) (root ∷ [])))
   level_high x m = elim (edit_member step ed at new E (below s (height_of s root - height_of s at) (root ∷ [])) x m) [
-    | inl l ↦ omega (arith, below_high s (height_of s root - height_of s at) (height_of s root) (root ∷ []) (steps_down s root (Some new) g.shape) (root_high s root) x l, p_high, p_low)
+    | inl l ↦ omega (
+      arith,
+      below_high s (height_of s root - height_of s at) (height_of s root) (root ∷ []) (steps_down s root (Some new) g.shape) (root_high s root) x l,
+      p_high,
+      p_low,
+    )
     | inr e ↦ ap (height_of s) e ∙ g.level
   ]
 
@@ -73,7 +81,15 @@ module _ {L : Type 0} (s s' : Forest L Summary) (root at new p : ℕ) (step : �
     parents x d = points_same (parent_of s' x) (parent_of s x) (λ b. sym (r.forest.child_once b x) ∙ kids_times b x d ∙ g.shape.forest.child_once b x)
 
     parent_new : parent_of s' new ≡ Some p
-    parent_new = points_some (parent_of s' new) p (omega (arith, r.forest.child_once p new, ap (λ ks. times ks new) (r.kids ∙ at_place), E.counts (kids_of s p) (g.shape.forest.child_once p at ∙ points_at (parent_of s at) p up), same_refl new))
+    parent_new = points_some (parent_of s' new) p
+        (omega (
+          arith,
+          r.forest.child_once p new,
+          ap (λ ks. times ks new) (r.kids ∙ at_place),
+          E.counts (kids_of s p) (g.shape.forest.child_once p at
+              ∙ points_at (parent_of s at) p up),
+          same_refl new,
+        ))
 
     longer : (b : ℕ) → length (kids_of s b) ≤ length (kids_of s' b)
     longer b = elim (cases_eq b p) [
@@ -105,14 +121,21 @@ module _ {L : Type 0} (s s' : Forest L Summary) (root at new p : ℕ) (step : �
 
     pub put_leaves : s'.leaves ≡ below s' (height_of s' root) (root ∷ [])
     put_leaves =
-        let up_same : below s' (height_of s root - height_of s p) (root ∷ []) ≡ upper = below_same s s' (height_of s root - height_of s p) (height_of s root) (root ∷ []) (steps_down s root (Some new) g.shape) (root_high s root) (omega arith) (λ x low h. r.other_kids x (λ e. omega (arith, h, ap (height_of s) e, p_low))) in
+        let up_same : below s' (height_of s root - height_of s p) (root ∷ []) ≡ upper =
+        below_same s s' (height_of s root - height_of s p) (height_of s root) (root ∷ []) (steps_down s root (Some new) g.shape) (root_high s root) (omega arith)
+        (λ x low h. r.other_kids x (λ e. omega (arith, h, ap (height_of s) e, p_low))) in
         let here : flat_map (kids_of s') upper ≡ ed (flat_map (kids_of s) upper) = flat_map_same (λ x. ed (kids_of s x)) (kids_of s') upper (λ x m. elim (cases_eq x p) [
           | inl e ↦ ap (kids_of s') e ∙ (r.kids ∙ at_place) ∙ ap (λ z. ed (kids_of s z)) (sym e)
           | inr n ↦ r.other_kids x n ∙ sym (kids_after x n)
         ]) ∙ sym (edit-flat_map step ed at new E (kids_of s) upper) in
-        let down_same = below_same s s' (height_of s at) (height_of s at) (ed (below s (height_of s root - height_of s at) (root ∷ []))) (steps_down s root (Some new) g.shape) level_high (omega arith) (λ x low h. r.other_kids x (λ e. omega (arith, low, ap (height_of s) e, p_high))) in
-        let whole : below s' (height_of s root) (root ∷ []) ≡ below s' (height_of s at) (below s' 1 (below s' (height_of s root - height_of s p) (root ∷ []))) = (let e : height_of s root ≡ (height_of s root - height_of s p) + (1 + height_of s at) = omega (arith, p_high, p_low) in ap (λ (n : ℕ). below s' n (root ∷ [])) e ∙ sym (below-below s' (1 + height_of s at) (height_of s root - height_of s p) (root ∷ [])) ∙ sym (below-below s' (height_of s at) 1 (below s' (height_of s root - height_of s p) (root ∷ [])))) in
-        r.leaves ∙ g.leaves ∙ sym down_same ∙ ap (λ zs. below s' (height_of s at) (ed zs)) level_at ∙ ap (below s' (height_of s at)) (sym here) ∙ ap (λ zs. below s' (height_of s at) (flat_map (kids_of s') zs)) (sym up_same) ∙ sym whole ∙ ap (λ (n : ℕ). below s' n (root ∷ [])) (sym (same_height root))
+        let down_same = below_same s s' (height_of s at) (height_of s at) (ed (below s (height_of s root - height_of s at) (root ∷ [])))
+        (steps_down s root (Some new) g.shape) level_high (omega arith) (λ x low h. r.other_kids x (λ e. omega (arith, low, ap (height_of s) e, p_high))) in
+        let whole : below s' (height_of s root) (root ∷ []) ≡ below s' (height_of s at) (below s' 1 (below s' (height_of s root - height_of s p) (root ∷ []))) =
+        (let e : height_of s root ≡ (height_of s root - height_of s p) + (1 + height_of s at) = omega (arith, p_high, p_low) in
+        ap (λ (n : ℕ). below s' n (root ∷ [])) e ∙ sym (below-below s' (1 + height_of s at) (height_of s root - height_of s p) (root ∷ []))
+        ∙ sym (below-below s' (height_of s at) 1 (below s' (height_of s root - height_of s p) (root ∷ [])))) in
+        r.leaves ∙ g.leaves ∙ sym down_same ∙ ap (λ zs. below s' (height_of s at) (ed zs)) level_at ∙ ap (below s' (height_of s at)) (sym here)
+        ∙ ap (λ zs. below s' (height_of s at) (flat_map (kids_of s') zs)) (sym up_same) ∙ sym whole ∙ ap (λ (n : ℕ). below s' n (root ∷ [])) (sym (same_height root))
 
     -- after a put the node is in the tree
     pub put_tree : IsTree s' root
@@ -142,7 +165,8 @@ module _ {L : Type 0} (s s' : Forest L Summary) (root at new p : ℕ) (step : �
       pub put_owes : (more less : ℕ) → OwesAbove measure s at ed more less → OwesAt measure s' (Some p) more less
       put_owes more less owes b e =
           let q : p ≡ b = cc e in
-          subst (λ (z : ℕ). Owes measure s' z (kids_of s' z) more less) q (omega (arith, put_length p, owes p up, ap (total (length_of measure s')) (r.kids ∙ at_place), put_total (ed (kids_of s p))))
+          subst (λ (z : ℕ). Owes measure s' z (kids_of s' z) more less) q
+          (omega (arith, put_length p, owes p up, ap (total (length_of measure s')) (r.kids ∙ at_place), put_total (ed (kids_of s p))))
 
   module _ (q : ℕ) (r : SplitsAt s s' p place new q) where
     sp_not_q : (x : ℕ) → IsSome (entry s x) → x ≢ q
@@ -190,9 +214,17 @@ module _ {L : Type 0} (s s' : Forest L Summary) (root at new p : ℕ) (step : �
         let m : 1 ≤ times (kids_of s' b) x = omega (arith, r.forest.child_once b x, points_at (parent_of s' x) b e) in
         let old : times (ed (kids_of s p)) x ≡ times (kids_of s p) x = E.others (kids_of s p) x d in
         elim (cases_eq b p) [
-          | inl c ↦ inl (points_some (parent_of s x) p (omega (arith, g.shape.forest.child_once p x, old, sp_both x, m, ap (λ z. times (kids_of s' z) x) c)), ap (height_of s') c ∙ sp_height p sp_p_not_q)
+          | inl c ↦ inl (
+            points_some (parent_of s x) p (omega (arith, g.shape.forest.child_once p x, old, sp_both x, m, ap (λ z. times (kids_of s' z) x) c)),
+            ap
+                (height_of s') c ∙ sp_height p sp_p_not_q,
+          )
           | inr n ↦ elim (cases_eq b q) [
-            | inl c ↦ inl (points_some (parent_of s x) p (omega (arith, g.shape.forest.child_once p x, old, sp_both x, m, ap (λ z. times (kids_of s' z) x) c)), ap (height_of s') c ∙ sp_q_height)
+            | inl c ↦ inl (
+              points_some (parent_of s x) p (omega (arith, g.shape.forest.child_once p x, old, sp_both x, m, ap (λ z. times (kids_of s' z) x) c)),
+              ap
+                  (height_of s') c ∙ sp_q_height,
+            )
             | inr k ↦ inr (points_some (parent_of s x) b (omega (arith, g.shape.forest.child_once b x, m, ap (λ ks. times ks x) (r.other_kids b n k))), n, k)
           ]
         ]
@@ -208,11 +240,13 @@ module _ {L : Type 0} (s s' : Forest L Summary) (root at new p : ℕ) (step : �
         record {
           forest = r.forest;
           root_is_block = kind_block (entry s root) (entry s' root) (r.kinds root sp_root_not_q) g.shape.root_is_block;
-          root_is_top = none_by (parent_of s' root) (λ b e. elim (sp_old_parent b root (λ c. g.new_apart (sym c)) e) [ inl l ↦ cc (l.0, g.shape.root_is_top) | inr k ↦ cc (k.0, g.shape.root_is_top) ]);
+          root_is_top = none_by (parent_of s' root)
+              (λ b e. elim (sp_old_parent b root (λ c. g.new_apart (sym c)) e) [ inl l ↦ cc (l.0, g.shape.root_is_top) | inr k ↦ cc (k.0, g.shape.root_is_top) ]);
           one_top = λ x live d apart.
               let not_q : x ≢ q = (λ e. apart (ap Some (sym e))) in
               elim (cases_eq x new) [
-                | inl e ↦ sp_has_parent x (subst (λ (z : ℕ). 1 ≤ times (ed (kids_of s p)) z) (sym e) (omega (arith, E.counts (kids_of s p) (g.shape.forest.child_once p at ∙ points_at (parent_of s at) p up), same_refl new)))
+                | inl e ↦ sp_has_parent x (subst (λ (z : ℕ). 1 ≤ times (ed (kids_of s p)) z) (sym e)
+                    (omega (arith, E.counts (kids_of s p) (g.shape.forest.child_once p at ∙ points_at (parent_of s at) p up), same_refl new)))
                 | inr n ↦
                     let b = some_of (parent_of s x) (g.shape.one_top x (sp_was_live x not_q live) d (λ e. n (cc))) in
                     elim (cases_eq b.0 p) [
@@ -221,7 +255,14 @@ module _ {L : Type 0} (s s' : Forest L Summary) (root at new p : ℕ) (step : �
                         | inl c ↦
                             let none : times (kids_of s q) x ≡ 0 = ap (λ o. times (kids_of_entry o) x) r.fresh in
                             absurd (omega (arith, none, g.shape.forest.child_once q x, points_at (parent_of s x) q (b.1 ∙ ap Some c)))
-                        | inr l ↦ is_some_from (parent_of s' x) b.0 (points_some (parent_of s' x) b.0 (omega (arith, r.forest.child_once b.0 x, ap (λ ks. times ks x) (r.other_kids b.0 k l), g.shape.forest.child_once b.0 x, points_at (parent_of s x) b.0 b.1)))
+                        | inr l ↦ is_some_from (parent_of s' x) b.0
+                            (points_some (parent_of s' x) b.0 (omega (
+                              arith,
+                              r.forest.child_once b.0 x,
+                              ap (λ ks. times ks x) (r.other_kids b.0 k l),
+                              g.shape.forest.child_once b.0 x,
+                              points_at (parent_of s x) b.0 b.1,
+                            )))
                       ]
                     ]
               ];
@@ -238,7 +279,14 @@ module _ {L : Type 0} (s s' : Forest L Summary) (root at new p : ℕ) (step : �
                     | inl k ↦ ap (height_of s') k ∙ sp_q_height
                     | inr l ↦
                         let gone : points (parent_of s new) b ≡ 0 = ap (λ o. points o b) g.new_top in
-                        absurd (omega (arith, r.forest.child_once b new, points_at (parent_of s' new) b e', ap (λ ks. times ks new) (r.other_kids b n l), g.shape.forest.child_once b new, gone))
+                        absurd (omega (
+                          arith,
+                          r.forest.child_once b new,
+                          points_at (parent_of s' new) b e',
+                          ap (λ ks. times ks new) (r.other_kids b n l),
+                          g.shape.forest.child_once b new,
+                          gone,
+                        ))
                   ]
                 ] in
                 omega (arith, h, ap (height_of s') c, sp_height new sp_new_not_q, g.level, p_high)
@@ -266,13 +314,29 @@ module _ {L : Type 0} (s s' : Forest L Summary) (root at new p : ℕ) (step : �
 
     split_leaves : s'.leaves ≡ below s' (height_of s' p) (insert_after (below s' (height_of s' root - height_of s' p) (root ∷ [])) p q)
     split_leaves =
-        let up_same : below s' (height_of s root - height_of s p) (root ∷ []) ≡ upper = below_same s s' (height_of s root - height_of s p) (height_of s root) (root ∷ []) (steps_down s root (Some new) g.shape) (root_high s root) (omega arith) (λ x low h. r.other_kids x (λ e. omega (arith, h, ap (height_of s) e, p_low)) (λ e. omega (arith, h, ap (height_of s) e, sp_q_low, p_low))) in
-        let upper_high : AllHigh s (height_of s p) upper = λ x m. omega (arith, below_high s (height_of s root - height_of s p) (height_of s root) (root ∷ []) (steps_down s root (Some new) g.shape) (root_high s root) x m, p_low) in
-        let here : flat_map (kids_of s') (insert_after upper p q) ≡ ed (flat_map (kids_of s) upper) = flat_map-insert_after (kids_of s') (λ x. ed (kids_of s x)) upper p q (sym (r.kids ∙ at_place)) (λ x m n. kids_after x n ∙ sym (r.other_kids x n (λ e. omega (arith, upper_high x m, ap (height_of s) e, sp_q_low, p_high)))) ∙ sym (edit-flat_map step ed at new E (kids_of s) upper) in
-        let down_same = below_same s s' (height_of s at) (height_of s at) (ed (below s (height_of s root - height_of s at) (root ∷ []))) (steps_down s root (Some new) g.shape) level_high (omega arith) (λ x low h. r.other_kids x (λ e. omega (arith, low, ap (height_of s) e, p_high)) (λ e. omega (arith, h, ap (height_of s) e, sp_q_low))) in
+        let up_same : below s' (height_of s root - height_of s p) (root ∷ []) ≡ upper =
+        below_same s s' (height_of s root - height_of s p) (height_of s root) (root ∷ []) (steps_down s root (Some new) g.shape) (root_high s root) (omega arith)
+        (λ x low h. r.other_kids x (λ e. omega (arith, h, ap (height_of s) e, p_low)) (λ e. omega (arith, h, ap (height_of s) e, sp_q_low, p_low))) in
+        let upper_high : AllHigh s (height_of s p) upper =
+        λ x m. omega (
+          arith,
+          below_high s (height_of s root - height_of s p) (height_of s root) (root ∷ []) (steps_down s root (Some new) g.shape)
+              (root_high s root) x m,
+          p_low,
+        ) in
+        let here : flat_map (kids_of s') (insert_after upper p q) ≡ ed (flat_map (kids_of s) upper) =
+        flat_map-insert_after (kids_of s') (λ x. ed (kids_of s x)) upper p q (sym (r.kids ∙ at_place)) (λ x m n. kids_after x n
+        ∙ sym (r.other_kids x n (λ e. omega (arith, upper_high x m, ap (height_of s) e, sp_q_low, p_high))))
+        ∙ sym (edit-flat_map step ed at new E (kids_of s) upper) in
+        let down_same = below_same s s' (height_of s at) (height_of s at) (ed (below s (height_of s root - height_of s at) (root ∷ [])))
+        (steps_down s root (Some new) g.shape) level_high (omega arith)
+        (λ x low h. r.other_kids x (λ e. omega (arith, low, ap (height_of s) e, p_high)) (λ e. omega (arith, h, ap (height_of s) e, sp_q_low))) in
         let hp : height_of s' p ≡ 1 + height_of s at = omega (arith, sp_height p sp_p_not_q, p_high) in
         let gap : height_of s' root - height_of s' p ≡ height_of s root - height_of s p = omega (arith, sp_height p sp_p_not_q, sp_height root sp_root_not_q) in
-        r.leaves ∙ g.leaves ∙ sym down_same ∙ ap (λ zs. below s' (height_of s at) (ed zs)) level_at ∙ ap (below s' (height_of s at)) (sym here) ∙ below-below s' (height_of s at) 1 (insert_after upper p q) ∙ ap (λ (n : ℕ). below s' n (insert_after upper p q)) (sym hp) ∙ ap (λ zs. below s' (height_of s' p) (insert_after zs p q)) (sym up_same) ∙ ap (λ (n : ℕ). below s' (height_of s' p) (insert_after (below s' n (root ∷ [])) p q)) (sym gap)
+        r.leaves ∙ g.leaves ∙ sym down_same ∙ ap (λ zs. below s' (height_of s at) (ed zs)) level_at ∙ ap (below s' (height_of s at)) (sym here)
+        ∙ below-below s' (height_of s at) 1 (insert_after upper p q) ∙ ap (λ (n : ℕ). below s' n (insert_after upper p q)) (sym hp)
+        ∙ ap (λ zs. below s' (height_of s' p) (insert_after zs p q)) (sym up_same)
+        ∙ ap (λ (n : ℕ). below s' (height_of s' p) (insert_after (below s' n (root ∷ [])) p q)) (sym gap)
 
     -- after a split the new block is the node to be put into the tree, one level further up
     pub split_grows : IsGrowing s' root p q (λ xs. insert_after xs p q)
@@ -297,7 +361,9 @@ module _ {L : Type 0} (s s' : Forest L Summary) (root at new p : ℕ) (step : �
           | inl e ↦ subst (λ (z : ℕ). length_of measure s' z ≡ total (length_of measure s') (kids_of s' z)) (sym e) u.rear_sum
           | inr k ↦
               let parent : (x : ℕ) → 1 ≤ times (kids_of s' b) x → parent_of s' x ≡ Some b = λ x m. points_some (parent_of s' x) b (omega (arith, r.forest.child_once b x)) in
-              u.others b n k ∙ sums b (sp_was_block b k h) (λ e. n (cc (e, up))) ∙ ap (total (length_of measure s)) (sym (r.other_kids b n k)) ∙ sym (total_same (length_of measure s) (length_of measure s') (kids_of s' b) (λ x m. u.others x (λ e. stale (ap (parent_of s') (sym e) ∙ parent x m)) (λ e. cc (ap (parent_of s') (sym e) ∙ parent x m, sp_q_top))))
+              u.others b n k ∙ sums b (sp_was_block b k h) (λ e. n (cc (e, up))) ∙ ap (total (length_of measure s)) (sym (r.other_kids b n k))
+              ∙ sym (total_same (length_of measure s) (length_of measure s') (kids_of s' b)
+              (λ x m. u.others x (λ e. stale (ap (parent_of s') (sym e) ∙ parent x m)) (λ e. cc (ap (parent_of s') (sym e) ∙ parent x m, sp_q_top))))
         ]
       ]
 
@@ -313,7 +379,8 @@ module _ {L : Type 0} (s s' : Forest L Summary) (root at new p : ℕ) (step : �
           let one : times (kids_of s pp) p ≡ 1 = ap (λ ks. times ks p) (sym kids) ∙ r.forest.child_once pp p ∙ points_at (parent_of s' p) pp up' in
           let is_block : IsSome (block_value s pp) = sp_was_block pp not_q (block_from_height (entry s' pp) (omega (arith, high))) in
           let was : f pp ≡ total f (kids_of s pp) = sums pp is_block (λ e. far (cc (e, up))) in
-          let q_not_in : (x : ℕ) → 1 ≤ times (kids_of s pp) x → x ≢ q = λ x m e. absurd (omega (arith, m, ap (times (kids_of s pp)) e, g.shape.forest.child_once pp q, ap (λ o. points o pp) sp_q_alone)) in
+          let q_not_in : (x : ℕ) → 1 ≤ times (kids_of s pp) x → x ≢ q =
+          λ x m e. absurd (omega (arith, m, ap (times (kids_of s pp)) e, g.shape.forest.child_once pp q, ap (λ o. points o pp) sp_q_alone)) in
           let change = total_change f f' (kids_of s pp) p one (λ x m d. u.others x d (q_not_in x m)) in
           let put = (after_is_edit p q).totals f' (kids_of s pp) one in
           let member : (x : ℕ) → 1 ≤ times (ed (kids_of s p)) x → f' x ≡ f x = λ x m. u.others x (λ e. elim (edit_member step ed at new E (kids_of s p) x m) [
@@ -323,7 +390,16 @@ module _ {L : Type 0} (s s' : Forest L Summary) (root at new p : ℕ) (step : �
             | inl l ↦ absurd (omega (arith, l, ap (times (kids_of s p)) e, g.shape.forest.child_once p q, ap (λ o. points o p) sp_q_alone))
             | inr c ↦ absurd (sp_new_not_q (sym c ∙ e))
           ]) in
-          let both : f' p + f' q ≡ total f (ed (kids_of s p)) = omega (arith, u.front_sum, u.rear_sum, total-append f' (kids_of s' p) (kids_of s' q), ap (total f') (r.kids ∙ at_place), total_same f f' (ed (kids_of s p)) member) in
+          let both : f' p + f' q ≡ total f (ed (kids_of s p)) =
+          omega (
+            arith,
+            u.front_sum,
+            u.rear_sum,
+            total-append f' (kids_of s' p) (kids_of s' q),
+            ap (total f') (r.kids
+                ∙ at_place),
+            total_same f f' (ed (kids_of s p)) member,
+          ) in
           omega (arith, u.others pp far not_q, was, change, put, both, owes p up, ap (λ ks. total f' (insert_after ks p q)) kids)
 
 module _ {L : Type 0} where
@@ -362,7 +438,8 @@ module _ {L : Type 0} (s s' : Forest L Summary) (root new t : ℕ) (g : IsGrowin
   rt_parents : (x : ℕ) → x ≢ root → x ≢ new → parent_of s' x ≡ parent_of s x
   rt_parents x d n = points_same (parent_of s' x) (parent_of s x) (λ b. sym (r.forest.child_once b x) ∙ elim (cases_eq b t) [
     | inl e ↦
-        let now : times (kids_of s' b) x ≡ 0 = ap (λ z. times (kids_of s' z) x) e ∙ ap (λ ks. times ks x) r.kids ∙ omega (arith, same_other root x (λ q. d (sym q)), same_other new x (λ q. n (sym q))) in
+        let now : times (kids_of s' b) x ≡ 0 = ap (λ z. times (kids_of s' z) x) e ∙ ap (λ ks. times ks x) r.kids
+        ∙ omega (arith, same_other root x (λ q. d (sym q)), same_other new x (λ q. n (sym q))) in
         let was : times (kids_of s b) x ≡ 0 = ap (λ z. times (kids_of s z) x) e ∙ ap (λ o. times (kids_of_entry o) x) r.fresh in
         now ∙ sym was
     | inr k ↦ ap (λ ks. times ks x) (r.other_kids b k)
@@ -395,13 +472,22 @@ module _ {L : Type 0} (s s' : Forest L Summary) (root new t : ℕ) (g : IsGrowin
           | inr n ↦ omega (arith, rt_height x n, rt_top_height, g.shape.low x (rt_was_live x n live))
         ];
         heights = λ x b e. elim (cases_eq x root) [
-          | inl c ↦ let b_is : t ≡ b = cc (ap (parent_of s') c, e, rt_parent_root) in omega (arith, ap (height_of s') c, rt_height root rt_root_not, ap (height_of s') b_is, rt_top_height)
+          | inl c ↦ let b_is : t ≡ b = cc (ap (parent_of s') c, e, rt_parent_root) in
+              omega (arith, ap (height_of s') c, rt_height root rt_root_not, ap (height_of s') b_is, rt_top_height)
           | inr n ↦ elim (cases_eq x new) [
-            | inl c ↦ let b_is : t ≡ b = cc (ap (parent_of s') c, e, rt_parent_new) in omega (arith, ap (height_of s') c, rt_height new rt_new_not, g.level, ap (height_of s') b_is, rt_top_height)
+            | inl c ↦ let b_is : t ≡ b = cc (ap (parent_of s') c, e, rt_parent_new) in
+                omega (arith, ap (height_of s') c, rt_height new rt_new_not, g.level, ap (height_of s') b_is, rt_top_height)
             | inr k ↦
                 let old : parent_of s x ≡ Some b = sym (rt_parents x n k) ∙ e in
                 let xl : x ≢ t = rt_not x (live_from_parent (entry s x) b old) in
-                let bl : b ≢ t = (λ q. omega (arith, g.shape.forest.child_once b x, points_at (parent_of s x) b old, ap (λ z. times (kids_of s z) x) q, ap (λ o. times (kids_of_entry o) x) r.fresh)) in
+                let bl : b ≢ t = (λ q. omega (
+                  arith,
+                  g.shape.forest.child_once b x,
+                  points_at (parent_of s x) b old,
+                  ap (λ z. times (kids_of s z) x) q,
+                  ap
+                      (λ o. times (kids_of_entry o) x) r.fresh,
+                )) in
                 omega (arith, rt_height x xl, rt_height b bl, g.shape.heights x b old)
           ]
         ];
@@ -422,12 +508,16 @@ module _ {L : Type 0} (s s' : Forest L Summary) (root new t : ℕ) (g : IsGrowin
   root_leaves =
       let pair : List ℕ = root ∷ new ∷ [] in
       let gap : height_of s root - height_of s root ≡ 0 = omega arith in
-      let there : insert_after (below s (height_of s root - height_of s root) (root ∷ [])) root new ≡ pair = ap (λ (n : ℕ). insert_after (below s n (root ∷ [])) root new) gap ∙ insert_after_head [] root new in
+      let there : insert_after (below s (height_of s root - height_of s root) (root ∷ [])) root new ≡ pair =
+      ap (λ (n : ℕ). insert_after (below s n (root ∷ [])) root new) gap ∙ insert_after_head [] root new in
       let high : AllHigh s (height_of s root) pair = λ x m. elim (cases_eq root x) [
         | inl e ↦ ap (height_of s) (sym e)
         | inr d ↦ elim (cases_eq new x) [ inl e ↦ ap (height_of s) (sym e) ∙ g.level | inr k ↦ absurd (omega (arith, same_other root x d, same_other new x k)) ]
       ] in
-      let same_below : below s' (height_of s root) pair ≡ below s (height_of s root) pair = below_same s s' (height_of s root) (height_of s root) pair (λ b x m. g.shape.heights x b (points_some (parent_of s x) b (omega (arith, g.shape.forest.child_once b x)))) high (omega arith) (λ x low h. r.other_kids x (λ e. omega (arith, h, ap (height_of s) e, rt_t_low))) in
+      let same_below : below s' (height_of s root) pair ≡ below s (height_of s root) pair =
+      below_same s s' (height_of s root) (height_of s root) pair
+      (λ b x m. g.shape.heights x b (points_some (parent_of s x) b (omega (arith, g.shape.forest.child_once b x)))) high (omega arith)
+      (λ x low h. r.other_kids x (λ e. omega (arith, h, ap (height_of s) e, rt_t_low))) in
       let kids : flat_map (kids_of s') (t ∷ []) ≡ pair = ap (λ zs. zs ++ []) r.kids in
       let h : height_of s' t ≡ suc (height_of s root) = omega (arith, rt_top_height) in
       r.leaves ∙ g.leaves ∙ ap (below s (height_of s root)) there ∙ sym same_below ∙ ap (below s' (height_of s root)) (sym kids) ∙ ap (λ (n : ℕ). below s' n (t ∷ [])) (sym h)
@@ -440,6 +530,8 @@ module _ {L : Type 0} (s s' : Forest L Summary) (root new t : ℕ) (g : IsGrowin
     root_sums b h stale = elim (cases_eq b t) [
       | inl e ↦ subst (λ (z : ℕ). length_of measure s' z ≡ total (length_of measure s') (kids_of s' z)) (sym e) u.sum
       | inr n ↦
-          let inside : (x : ℕ) → 1 ≤ times (kids_of s' b) x → x ≢ t = λ x m e. cc (ap (parent_of s') (sym e) ∙ points_some (parent_of s' x) b (omega (arith, r.forest.child_once b x)), rt_top_top) in
-          u.others b n ∙ sums b (rt_was_block b n h) (λ e. cc (e, g.shape.root_is_top)) ∙ ap (total (length_of measure s)) (sym (r.other_kids b n)) ∙ sym (total_same (length_of measure s) (length_of measure s') (kids_of s' b) (λ x m. u.others x (inside x m)))
+          let inside : (x : ℕ) → 1 ≤ times (kids_of s' b) x → x ≢ t =
+          λ x m e. cc (ap (parent_of s') (sym e) ∙ points_some (parent_of s' x) b (omega (arith, r.forest.child_once b x)), rt_top_top) in
+          u.others b n ∙ sums b (rt_was_block b n h) (λ e. cc (e, g.shape.root_is_top)) ∙ ap (total (length_of measure s)) (sym (r.other_kids b n))
+          ∙ sym (total_same (length_of measure s) (length_of measure s') (kids_of s' b) (λ x m. u.others x (inside x m)))
     ]

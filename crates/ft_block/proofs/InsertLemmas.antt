@@ -5,9 +5,11 @@ use Rattle.std.specs.List.{flat_map}
 use Rattle.ft_arena.specs.declared.nodes.Node.{Node}
 use Rattle.ft_arena.specs.declared.nodes.Node.TheVariants.{Leaf, Block}
 use Rattle.ft_arena.specs.Ids.{same, times, insert_after}
-use Rattle.ft_arena.specs.Forest.{Forest, Entry, IsForest, entry, kids_of, parent_of, block_value, leaf_value, leaf_of_entry, block_of_entry, kids_of_entry, kids_of_node, block_of_node, leaf_of_node, parent_of_entry}
+use Rattle.ft_arena.specs.Forest.{Forest, Entry, IsForest, entry, kids_of, parent_of, block_value, leaf_value, leaf_of_entry, block_of_entry, kids_of_entry, kids_of_node}
+use Rattle.ft_arena.specs.Forest.{block_of_node, leaf_of_node, parent_of_entry}
 use Rattle.ft_block.specs.declared.summaries.Summary.{Summary}
-use Rattle.ft_block.specs.Tree.{total, height_of, height_of_entry, height_of_node, Measure, length_of, length_of_entry, below, IsShape, SumsBut, OwesAt, OwesAbove, AreFromFloor, IsGrowing, IsTree, IsEdit}
+use Rattle.ft_block.specs.Tree.{total, height_of, height_of_entry, height_of_node, Measure, length_of, length_of_entry, below, IsShape, SumsBut, OwesAt, OwesAbove}
+use Rattle.ft_block.specs.Tree.{AreFromFloor, IsGrowing, IsTree, IsEdit}
 use Rattle.std.proofs.lemmas.List.{get_or_past, get_or-set_same, get_or-set_other}
 use Rattle.ft_arena.specs.Forest.{Changes, with_leaf, count_some}
 use Rattle.ft_arena.proofs.ArenaLemmas.{IsForest-other}
@@ -73,7 +75,11 @@ module _ {L : Type 0} (s0 s1 : Forest L Summary) (room : s1 ≡ record s0 { spar
       }
 
   pub room_tree : (root : ℕ) → IsTree s0 root → IsTree s1 root
-  room_tree root t = subst (λ (z : Forest L Summary). IsTree z root) (sym room) record { shape = shape_room s1.spare root None None t.shape; leaves = t.leaves ∙ sym (below_room s1.spare (height_of s0 root) (root ∷ [])) }
+  room_tree root t = subst (λ (z : Forest L Summary). IsTree z root) (sym room) record {
+    shape = shape_room s1.spare root None None t.shape;
+    leaves =
+        t.leaves ∙ sym (below_room s1.spare (height_of s0 root) (root ∷ []));
+  }
 
   pub room_sums : (measure : Measure L) → SumsBut measure s0 None → SumsBut measure s1 None
   room_sums measure sums = subst (λ (z : Forest L Summary). SumsBut measure z None) (sym room) (λ b h e. sums b h e)
@@ -87,7 +93,9 @@ module _ {L : Type 0} (s0 s1 : Forest L Summary) (room : s1 ≡ record s0 { spar
   pub room_changes : (s2 : Forest L Summary) (id : ℕ) (e : Option (Entry L Summary)) → Changes s1 s2 id e → Changes s0 s2 id e
   room_changes s2 id e c = record { changed = c.changed; others = λ x d. c.others x d ∙ room_entry x }
 
-module _ {L : Type 0} (s s' : Forest L Summary) (root at id step : ℕ) (ed : List ℕ → List ℕ) (E : IsEdit step ed at id) (leaf : L) (t : IsTree s root) (at_leaf : IsSome (leaf_value s at)) (fresh : entry s id ≡ None) (c : Changes s s' id (Some record { node = Leaf leaf; parent = None })) (leaves : s'.leaves ≡ ed s.leaves) (forest : IsForest s') where
+module _ {L : Type 0} (s s' : Forest L Summary) (root at id step : ℕ) (ed : List ℕ → List ℕ) (E : IsEdit step ed at id) (leaf : L) (t : IsTree s root)
+    (at_leaf : IsSome (leaf_value s at)) (fresh : entry s id ≡ None) (c : Changes s s' id (Some record { node = Leaf leaf; parent = None }))
+    (leaves : s'.leaves ≡ ed s.leaves) (forest : IsForest s') where
   in_kids : (x : ℕ) → kids_of s' x ≡ kids_of s x
   in_kids = kept kids_of_entry s s' id _ c (sym (ap kids_of_entry fresh))
 
@@ -150,7 +158,8 @@ module _ {L : Type 0} (s s' : Forest L Summary) (root at id step : ℕ) (ed : Li
         leaves = (
             let e : height_of s' at ≡ 0 = in_heights at ∙ in_at_low in
             let h : height_of s root ≡ height_of s' root - height_of s' at = omega (arith, e, in_heights root) in
-            leaves ∙ ap ed (t.leaves ∙ sym (in_below (height_of s root) (root ∷ []))) ∙ ap (λ (n : ℕ). ed (below s' n (root ∷ []))) h ∙ ap (λ (n : ℕ). below s' n (ed (below s' (height_of s' root - height_of s' at) (root ∷ [])))) (sym e)
+            leaves ∙ ap ed (t.leaves ∙ sym (in_below (height_of s root) (root ∷ []))) ∙ ap (λ (n : ℕ). ed (below s' n (root ∷ []))) h
+            ∙ ap (λ (n : ℕ). below s' n (ed (below s' (height_of s' root - height_of s' at) (root ∷ [])))) (sym e)
             );
       }
 
@@ -172,16 +181,25 @@ module _ {L : Type 0} (s s' : Forest L Summary) (root at id step : ℕ) (ed : Li
     pub leaf_sums : SumsBut measure s' (parent_of s' at)
     leaf_sums b h stale =
         let block = in_was_block b h in
-        let inside : (x : ℕ) → 1 ≤ times (kids_of s b) x → x ≢ id = λ x m. dead_apart (entry s) x id (live_from_parent (entry s x) b (points_some (parent_of s x) b (omega (arith, m, t.shape.forest.child_once b x)))) fresh in
-        ap (length_of_entry measure) (c.others b (dead_apart (entry s) b id (block_live (entry s b) block) fresh)) ∙ was_sums b block (λ e. stale (in_parents at ∙ e)) ∙ sym (total_same (length_of measure s) (length_of measure s') (kids_of s b) (λ x m. ap (length_of_entry measure) (c.others x (inside x m)))) ∙ ap (total (length_of measure s')) (sym (in_kids b))
+        let inside : (x : ℕ) → 1 ≤ times (kids_of s b) x → x ≢ id =
+        λ x m. dead_apart (entry s) x id (live_from_parent (entry s x) b (points_some (parent_of s x) b (omega (arith, m, t.shape.forest.child_once b x))))
+        fresh in
+        ap (length_of_entry measure) (c.others b (dead_apart (entry s) b id (block_live (entry s b) block) fresh)) ∙ was_sums b block (λ e. stale (in_parents at ∙ e))
+        ∙ sym (total_same (length_of measure s) (length_of measure s') (kids_of s b) (λ x m. ap (length_of_entry measure) (c.others x (inside x m))))
+        ∙ ap (total (length_of measure s')) (sym (in_kids b))
 
     -- its parent owes the new leaf besides what it owed before
     pub leaf_owes : (more less : ℕ) → OwesAt measure s (parent_of s at) more less → OwesAbove measure s' at ed (more + measure.leaf leaf) less
     leaf_owes more less owes p up =
         let old : parent_of s at ≡ Some p = sym (in_parents at) ∙ up in
-        let inside : (x : ℕ) → 1 ≤ times (kids_of s p) x → x ≢ id = λ x m. dead_apart (entry s) x id (live_from_parent (entry s x) p (points_some (parent_of s x) p (omega (arith, m, t.shape.forest.child_once p x)))) fresh in
-        let kids : total (length_of measure s') (kids_of s p) ≡ total (length_of measure s) (kids_of s p) = total_same (length_of measure s) (length_of measure s') (kids_of s p) (λ x m. ap (length_of_entry measure) (c.others x (inside x m))) in
-        let block : length_of measure s' p ≡ length_of measure s p = ap (length_of_entry measure) (c.others p (dead_apart (entry s) p id (block_live (entry s p) (block_from_height (entry s p) (omega (arith, t.shape.heights at p old)))) fresh)) in
+        let inside : (x : ℕ) → 1 ≤ times (kids_of s p) x → x ≢ id =
+        λ x m. dead_apart (entry s) x id (live_from_parent (entry s x) p (points_some (parent_of s x) p (omega (arith, m, t.shape.forest.child_once p x))))
+        fresh in
+        let kids : total (length_of measure s') (kids_of s p) ≡ total (length_of measure s) (kids_of s p) =
+        total_same (length_of measure s) (length_of measure s') (kids_of s p) (λ x m. ap (length_of_entry measure) (c.others x (inside x m))) in
+        let block : length_of measure s' p ≡ length_of measure s p =
+        ap (length_of_entry measure) (c.others p (dead_apart (entry s) p id
+        (block_live (entry s p) (block_from_height (entry s p) (omega (arith, t.shape.heights at p old)))) fresh)) in
         let one : times (kids_of s p) at ≡ 1 = t.shape.forest.child_once p at ∙ points_at (parent_of s at) p old in
         let here : length_of measure s' id ≡ measure.leaf leaf = ap (length_of_entry measure) c.changed in
         omega (arith, block, owes p old, kids, E.totals (length_of measure s') (kids_of s p) one, here, ap (λ ks. total (length_of measure s') (ed ks)) (in_kids p))
@@ -196,7 +214,9 @@ module _ {L : Type 0} (s s' : Forest L Summary) (root at id step : ℕ) (ed : Li
     leaf_fits =
         let here : length_of measure s' id ≡ measure.leaf leaf = ap (length_of_entry measure) c.changed in
         let none : times s.leaves id ≡ 0 = t.shape.forest.leaf_once id ∙ ap (λ o. count_some (leaf_of_entry o)) fresh in
-        let same_rest : total (length_of measure s') s.leaves ≡ total (length_of measure s) s.leaves = total_same (length_of measure s) (length_of measure s') s.leaves (λ x m. ap (length_of_entry measure) (c.others x (λ e. omega (arith, m, none, ap (times s.leaves) e)))) in
+        let same_rest : total (length_of measure s') s.leaves ≡ total (length_of measure s) s.leaves =
+        total_same (length_of measure s) (length_of measure s') s.leaves
+        (λ x m. ap (length_of_entry measure) (c.others x (λ e. omega (arith, m, none, ap (times s.leaves) e)))) in
         let one : times s.leaves at ≡ 1 = t.shape.forest.leaf_once at ∙ counts (leaf_value s at) at_leaf in
         omega (arith, ap (total (length_of measure s')) leaves, E.totals (length_of measure s') s.leaves one, here, same_rest)
       where
@@ -249,7 +269,8 @@ module _ {L : Type 0} (s : Forest L Summary) (root at : ℕ) (v w : L) (t : IsTr
 
   pub changed_forest : IsForest ch_s
   changed_forest =
-      let count : (x : ℕ) → count_some (leaf_of_entry (entry ch_s x)) ≡ count_some (leaf_of_entry (entry s x)) = kept (λ (o : Option (Entry L Summary)). count_some (leaf_of_entry o)) s ch_s at _ ch_changes (sym (ap count_some found)) in
+      let count : (x : ℕ) → count_some (leaf_of_entry (entry ch_s x)) ≡ count_some (leaf_of_entry (entry s x)) =
+      kept (λ (o : Option (Entry L Summary)). count_some (leaf_of_entry o)) s ch_s at _ ch_changes (sym (ap count_some found)) in
       IsForest-other s ch_s (λ x. t.shape.forest.leaf_once x ∙ sym (count x)) ch_kids ch_parents t.shape.forest
 
   pub changed_value : leaf_value ch_s at ≡ Some w
@@ -308,9 +329,13 @@ module _ {L : Type 0} (s : Forest L Summary) (root at : ℕ) (v w : L) (t : IsTr
   module _ (measure : Measure L) (was_sums : SumsBut measure s None) where
     pub changed_sums : SumsBut measure ch_s (parent_of ch_s at)
     changed_sums b h stale =
-        let inside : (x : ℕ) → 1 ≤ times (kids_of s b) x → x ≢ at = λ x m e. stale (ch_parents at ∙ ap (parent_of s) (sym e) ∙ points_some (parent_of s x) b (omega (arith, m, t.shape.forest.child_once b x))) in
-        let apart : b ≢ at = (λ e. let q = some_of (block_value ch_s b) h in let n : block_value ch_s at ≡ None = ap block_of_entry ch_changes.changed in cc (n, ap (λ z. block_value ch_s z) e, q.1)) in
-        ap (length_of_entry measure) (ch_changes.others b apart) ∙ was_sums b (ch_block b h) (λ e. cc) ∙ sym (total_same (length_of measure s) (length_of measure ch_s) (kids_of s b) (λ x m. ap (length_of_entry measure) (ch_changes.others x (inside x m)))) ∙ ap (total (length_of measure ch_s)) (sym (ch_kids b))
+        let inside : (x : ℕ) → 1 ≤ times (kids_of s b) x → x ≢ at =
+        λ x m e. stale (ch_parents at ∙ ap (parent_of s) (sym e) ∙ points_some (parent_of s x) b (omega (arith, m, t.shape.forest.child_once b x))) in
+        let apart : b ≢ at = (λ e. let q = some_of (block_value ch_s b) h in let n : block_value ch_s at ≡ None = ap block_of_entry ch_changes.changed in
+        cc (n, ap (λ z. block_value ch_s z) e, q.1)) in
+        ap (length_of_entry measure) (ch_changes.others b apart) ∙ was_sums b (ch_block b h) (λ e. cc)
+        ∙ sym (total_same (length_of measure s) (length_of measure ch_s) (kids_of s b) (λ x m. ap (length_of_entry measure) (ch_changes.others x (inside x m))))
+        ∙ ap (total (length_of measure ch_s)) (sym (ch_kids b))
 
     -- the parent owes the new length, and has the old one too much
     pub changed_owes : OwesAt measure ch_s (parent_of ch_s at) (measure.leaf w) (measure.leaf v)
@@ -321,16 +346,29 @@ module _ {L : Type 0} (s : Forest L Summary) (root at : ℕ) (v w : L) (t : IsTr
         let one : times (kids_of s p) at ≡ 1 = t.shape.forest.child_once p at ∙ points_at (parent_of s at) p old in
         let change = total_change (length_of measure s) (length_of measure ch_s) (kids_of s p) at one (λ x m d. ap (length_of_entry measure) (ch_changes.others x d)) in
         let now : length_of measure ch_s at ≡ measure.leaf w = ap (length_of_entry measure) ch_changes.changed in
-        omega (arith, ap (length_of_entry measure) (ch_changes.others p apart), was_sums p is_block (λ e. cc), change, now, leaf_length measure (entry s at) v found, ap (total (length_of measure ch_s)) (ch_kids p))
+        omega (
+          arith,
+          ap (length_of_entry measure) (ch_changes.others p apart),
+          was_sums p is_block (λ e. cc),
+          change,
+          now,
+          leaf_length measure (entry s at) v found,
+          ap
+              (total (length_of measure ch_s)) (ch_kids p),
+        )
 
     -- no sum is wrong where the length of the leaf stays
     pub changed_sums_same : measure.leaf w ≡ measure.leaf v → SumsBut measure ch_s None
     changed_sums_same same b h stale =
-        let all : (x : ℕ) → length_of measure ch_s x ≡ length_of measure s x = kept (length_of_entry measure) s ch_s at _ ch_changes (same ∙ sym (leaf_length measure (entry s at) v found)) in
-        all b ∙ was_sums b (ch_block b h) (λ e. cc) ∙ sym (total_same (length_of measure s) (length_of measure ch_s) (kids_of s b) (λ x m. all x)) ∙ ap (total (length_of measure ch_s)) (sym (ch_kids b))
+        let all : (x : ℕ) → length_of measure ch_s x ≡ length_of measure s x =
+        kept (length_of_entry measure) s ch_s at _ ch_changes (same ∙ sym (leaf_length measure (entry s at) v found)) in
+        all b ∙ was_sums b (ch_block b h) (λ e. cc) ∙ sym (total_same (length_of measure s) (length_of measure ch_s) (kids_of s b) (λ x m. all x))
+        ∙ ap (total (length_of measure ch_s)) (sym (ch_kids b))
 
 -- a leaf cut in two, whose rest is in the arena and not in the tree yet
-module _ {L : Type 0} (s s' : Forest L Summary) (root at id : ℕ) (v w rest : L) (t : IsTree s root) (found : leaf_value s at ≡ Some v) (fresh : entry (with_leaf s at w) id ≡ None) (c : Changes (with_leaf s at w) s' id (Some record { node = Leaf rest; parent = None })) (leaves : s'.leaves ≡ insert_after s.leaves at id) (forest : IsForest s') where
+module _ {L : Type 0} (s s' : Forest L Summary) (root at id : ℕ) (v w rest : L) (t : IsTree s root) (found : leaf_value s at ≡ Some v)
+    (fresh : entry (with_leaf s at w) id ≡ None) (c : Changes (with_leaf s at w) s' id (Some record { node = Leaf rest; parent = None }))
+    (leaves : s'.leaves ≡ insert_after s.leaves at id) (forest : IsForest s') where
   cut_leaf : IsSome (leaf_value (with_leaf s at w) at)
   cut_leaf = is_some_from _ w (changed_value s root at v w t found)
 
@@ -341,12 +379,14 @@ module _ {L : Type 0} (s s' : Forest L Summary) (root at id : ℕ) (v w rest : L
   cut_grows = leaf_grows (with_leaf s at w) s' root at id 1 (λ xs. insert_after xs at id) (after_is_edit at id) rest cut_tree cut_leaf fresh c leaves forest
 
   pub cut_heights : (x : ℕ) → height_of s' x ≡ height_of s x
-  cut_heights x = leaf_heights (with_leaf s at w) s' root at id 1 (λ xs. insert_after xs at id) (after_is_edit at id) rest cut_tree cut_leaf fresh c leaves forest x ∙ changed_heights s root at v w t found x
+  cut_heights x = leaf_heights (with_leaf s at w) s' root at id 1 (λ xs. insert_after xs at id) (after_is_edit at id) rest cut_tree cut_leaf fresh c leaves forest x
+      ∙ changed_heights s root at v w t found x
 
   cut_apart : at ≢ id
   cut_apart = dead_apart (entry (with_leaf s at w)) at id (leaf_live (entry (with_leaf s at w) at) cut_leaf) fresh
 
-  pub cut_splits : (front rear : L → L) → w ≡ front v → rest ≡ rear v → (new : Forest L Summary) → new.leaves ≡ s'.leaves → ((x : ℕ) → leaf_value new x ≡ leaf_value s' x) → SplitsLeaf front rear s new at id
+  pub cut_splits : (front rear : L → L) → w ≡ front v → rest ≡ rear v → (new : Forest L Summary) → new.leaves ≡ s'.leaves → ((x : ℕ) → leaf_value new x ≡ leaf_value s' x)
+      → SplitsLeaf front rear s new at id
   cut_splits front rear is_front is_rear new l vs =
       record {
         leaves = l ∙ leaves;
@@ -360,17 +400,27 @@ module _ {L : Type 0} (s s' : Forest L Summary) (root at id : ℕ) (v w rest : L
 
   module _ (measure : Measure L) (was_sums : SumsBut measure s None) where
     pub cut_sums : SumsBut measure s' (parent_of s' at)
-    cut_sums = leaf_sums (with_leaf s at w) s' root at id 1 (λ xs. insert_after xs at id) (after_is_edit at id) rest cut_tree cut_leaf fresh c leaves forest measure (changed_sums s root at v w t found measure was_sums)
+    cut_sums = leaf_sums (with_leaf s at w) s' root at id 1 (λ xs. insert_after xs at id) (after_is_edit at id) rest cut_tree cut_leaf fresh c leaves forest measure
+        (changed_sums s root at v w t found measure was_sums)
 
     pub cut_owes : measure.leaf w + measure.leaf rest ≡ measure.leaf v → OwesAbove measure s' at (λ xs. insert_after xs at id) (measure.leaf v) (measure.leaf v)
-    cut_owes parts = subst (λ (n : ℕ). OwesAbove measure s' at (λ xs. insert_after xs at id) n (measure.leaf v)) parts (leaf_owes (with_leaf s at w) s' root at id 1 (λ xs. insert_after xs at id) (after_is_edit at id) rest cut_tree cut_leaf fresh c leaves forest measure (changed_sums s root at v w t found measure was_sums) (measure.leaf w) (measure.leaf v) (changed_owes s root at v w t found measure was_sums))
+    cut_owes parts = subst (λ (n : ℕ). OwesAbove measure s' at (λ xs. insert_after xs at id) n (measure.leaf v)) parts
+        (leaf_owes (with_leaf s at w) s' root at id 1 (λ xs. insert_after xs at id) (after_is_edit at id) rest cut_tree cut_leaf fresh c leaves forest measure
+        (changed_sums s root at v w t found measure was_sums) (measure.leaf w) (measure.leaf v) (changed_owes s root at v w t found measure was_sums))
 
   pub cut_floors : (floor : ℕ) → AreFromFloor floor s → AreFromFloor floor s'
-  cut_floors floor all = leaf_floors (with_leaf s at w) s' root at id 1 (λ xs. insert_after xs at id) (after_is_edit at id) rest cut_tree cut_leaf fresh c leaves forest floor (changed_floors s root at v w t found floor all)
+  cut_floors floor all = leaf_floors (with_leaf s at w) s' root at id 1 (λ xs. insert_after xs at id) (after_is_edit at id) rest cut_tree cut_leaf fresh c leaves forest
+      floor (changed_floors s root at v w t found floor all)
 
   module _ (measure : Measure L) where
     pub cut_total : measure.leaf w + measure.leaf rest ≡ measure.leaf v → total (length_of measure s') s'.leaves ≡ total (length_of measure s) s.leaves
-    cut_total parts = omega (arith, leaf_fits (with_leaf s at w) s' root at id 1 (λ xs. insert_after xs at id) (after_is_edit at id) rest cut_tree cut_leaf fresh c leaves forest measure, changed_total s root at v w t found measure, parts)
+    cut_total parts = omega (
+      arith,
+      leaf_fits (with_leaf s at w) s' root at id 1 (λ xs. insert_after xs at id) (after_is_edit at id) rest cut_tree cut_leaf fresh c leaves
+          forest measure,
+      changed_total s root at v w t found measure,
+      parts,
+    )
 
 module _ {L : Type 0} (measure : Measure L) (s : Forest L Summary) where
   -- where all sums are right nothing is owed

@@ -9,7 +9,8 @@ use Rattle.ft_arena.proofs.ArenaLemmas.{count_some_le}
 use Rattle.ft_block.specs.declared.summaries.Summary.{Summary}
 use Rattle.ft_block.specs.declared.blocks.Blocks.TheInside.{Inside}
 use Rattle.ft_block.specs.declared.leaves.LenView.{LenView}
-use Rattle.ft_block.specs.Leaves.{LeafList, IsFromFloor, IsLeafIn, IsPlaceIn, ids, times_leaf, value_at, length_by, place_from, place_by, left_of, put_leaf, change_leaf, split_leaf, without_leaf, move_leaf}
+use Rattle.ft_block.specs.Leaves.{LeafList, IsFromFloor, IsLeafIn, IsPlaceIn, ids, times_leaf, value_at, length_by, place_from, place_by, left_of, put_leaf, change_leaf}
+use Rattle.ft_block.specs.Leaves.{split_leaf, without_leaf, move_leaf}
 use Rattle.ft_block.specs.Inside.{pair_of, pairs_of, depth_of, view_of, IsRooted, IsSound, IsSoundIfUsable}
 use Rattle.ft_block.specs.Tree.{Measure, IsTree, IsKept, length_of, total, seek, before, by_size}
 use Rattle.ft_block.specs.Steps.{InsertsLeaf, SplitsLeaf, ChangesLeaf, TakesLeaf, MovesLeaf}
@@ -17,7 +18,8 @@ use Rattle.ft_block.proofs.FitLemmas.{AllLeaves, leaves_live}
 use Rattle.ft_block.proofs.Levels.{depth_bound}
 use Rattle.ft_block.proofs.PositionLemmas.{times-before_le}
 use Rattle.ft_block.proofs.SoundLemmas.{rooted_forest}
-use Rattle.ft_block.proofs.LeafListLemmas.{to_found, to_found_some, length-pairs, ids-pairs, length_by-pairs, place_from-pairs, times-pairs, value_at-pairs, value_at_in, left_of-pairs, pairs-put, pairs-change, pairs-split, pairs-without}
+use Rattle.ft_block.proofs.LeafListLemmas.{to_found, to_found_some, length-pairs, ids-pairs, length_by-pairs, place_from-pairs, times-pairs, value_at-pairs, value_at_in}
+use Rattle.ft_block.proofs.LeafListLemmas.{left_of-pairs, pairs-put, pairs-change, pairs-split, pairs-without}
 use Rattle.ft_block.proofs.EditLemmas.{some_of}
 use Rattle.ft_block.proofs.WithoutLemmas.{times-without_le}
 
@@ -28,7 +30,8 @@ rooted_depth s (Some root) t = depth_bound s root t
 place_past_head : {L : Type 0} (f : L → ℕ) (xs : List (ℕ × L)) (p : ℕ) → 1 ≤ p → place_by f xs p ≡ place_from f xs p
 place_past_head f xs p h = let d : p ≢ 0 = omega arith in cond-false (eqb p 0) _ _ (ne_eqb p 0 d)
 
-one_filled : {L : Type 0} (size : L → ℕ) (x : ℕ) (o : Option L) (rest : List (ℕ × L)) → ((v : L) → o ≡ Some v → 1 ≤ size v) → All (λ x. 1 ≤ size x.1) rest → All (λ x. 1 ≤ size x.1) (pair_of x o rest)
+one_filled : {L : Type 0} (size : L → ℕ) (x : ℕ) (o : Option L) (rest : List (ℕ × L)) → ((v : L) → o ≡ Some v → 1 ≤ size v) → All (λ x. 1 ≤ size x.1) rest
+    → All (λ x. 1 ≤ size x.1) (pair_of x o rest)
 one_filled size x None rest k h = h
 one_filled size x (Some v) rest k h = All-cons (λ y. 1 ≤ size y.1) (x, v) rest (k v refl) h
 
@@ -36,7 +39,8 @@ all_filled : {L : Type 0} (size : L → ℕ) (s : Forest L Summary) (xs : List �
 all_filled size s [] h = All-nil (λ x. 1 ≤ size x.1)
 all_filled size s (x ∷ xs) h = one_filled size x (leaf_value s x) (pairs_of s xs) (h x) (all_filled size s xs h)
 
-module _ {L Change : Type 0} (size : L → ℕ) (element : L → Element) (a : Inside L Change) (v : LeafList L) (is : view_of a ≡ v) (inv : IsSoundIfUsable size element a) (usable : IsTrue v.usable) where
+module _ {L Change : Type 0} (size : L → ℕ) (element : L → Element) (a : Inside L Change) (v : LeafList L) (is : view_of a ≡ v) (inv : IsSoundIfUsable size element a)
+    (usable : IsTrue v.usable) where
   pub in_sound : IsSound size element a.floor a.arena a.root
   in_sound = inv (subst (λ (w : LeafList L). IsTrue w.usable) (sym is) usable)
 
@@ -94,11 +98,14 @@ module _ {L Change : Type 0} (size : L → ℕ) (element : L → Element) (a : I
 
   pub in_position : (measure : Measure L) (id : ℕ) → length_by measure.leaf (left_of v.leaves id) ≡ total (length_of measure a.arena) (before a.arena.leaves id)
   in_position measure id =
-      ap (λ ps. length_by measure.leaf (left_of ps id)) in_leaves ∙ ap (length_by measure.leaf) (left_of-pairs a.arena a.arena.leaves id in_live) ∙ length_by-pairs measure a.arena (before a.arena.leaves id) (λ x m. in_live x (omega (arith, m, times-before_le a.arena.leaves id x)))
+      ap (λ ps. length_by measure.leaf (left_of ps id)) in_leaves ∙ ap (length_by measure.leaf) (left_of-pairs a.arena a.arena.leaves id in_live)
+      ∙ length_by-pairs measure a.arena (before a.arena.leaves id) (λ x m. in_live x (omega (arith, m, times-before_le a.arena.leaves id x)))
 
-  pub in_found : (measure : Measure L) (p x q : ℕ) → 1 ≤ p → seek (length_of measure a.arena) a.arena.leaves p ≡ Some (x, q) → place_by measure.leaf v.leaves p ≡ Some record { leaf = Some x; offset = q }
+  pub in_found : (measure : Measure L) (p x q : ℕ) → 1 ≤ p → seek (length_of measure a.arena) a.arena.leaves p ≡ Some (x, q)
+      → place_by measure.leaf v.leaves p ≡ Some record { leaf = Some x; offset = q }
   in_found measure p x q h e =
-      place_past_head measure.leaf v.leaves p h ∙ ap (λ ps. place_from measure.leaf ps p) in_leaves ∙ place_from-pairs measure a.arena a.arena.leaves p in_live ∙ ap to_found e ∙ to_found_some x q
+      place_past_head measure.leaf v.leaves p h ∙ ap (λ ps. place_from measure.leaf ps p) in_leaves ∙ place_from-pairs measure a.arena a.arena.leaves p in_live
+      ∙ ap to_found e ∙ to_found_some x q
 
   pub in_depth : 4 ^ v.depth ≤ length v.leaves + 1
   in_depth = omega (arith, rooted_depth a.arena a.root in_sound.rooted, ap (λ (w : LeafList L). 4 ^ w.depth) is, ap length in_leaves, length-pairs a.arena a.arena.leaves in_live)
@@ -106,29 +113,40 @@ module _ {L Change : Type 0} (size : L → ℕ) (element : L → Element) (a : I
   pub in_few : length_by size v.leaves < 2 ^ 64
   in_few = omega (arith, in_length (by_size size), in_sound.fits)
 
-  pub in_put : (new : Forest L Summary) (at : Option ℕ) (id : ℕ) (leaf : L) → InsertsLeaf a.arena new id leaf (λ xs. put_after xs at id) → pairs_of new new.leaves ≡ put_leaf v.leaves at (id, leaf)
+  pub in_put : (new : Forest L Summary) (at : Option ℕ) (id : ℕ) (leaf : L) → InsertsLeaf a.arena new id leaf (λ xs. put_after xs at id)
+      → pairs_of new new.leaves ≡ put_leaf v.leaves at (id, leaf)
   in_put new at id leaf i =
       let none : times a.arena.leaves id ≡ 0 = in_forest.leaf_once id ∙ ap count_some i.fresh in
-      ap (pairs_of new) i.leaves ∙ pairs-put a.arena new a.arena.leaves at id leaf in_live (λ x m. i.others x (λ e. omega (arith, m, none, ap (times a.arena.leaves) e))) i.value ∙ ap (λ (ps : List (ℕ × L)). put_leaf ps at (id, leaf)) (sym in_leaves)
+      ap (pairs_of new) i.leaves ∙ pairs-put a.arena new a.arena.leaves at id leaf in_live (λ x m. i.others x (λ e. omega (arith, m, none, ap (times a.arena.leaves) e)))
+      i.value ∙ ap (λ (ps : List (ℕ × L)). put_leaf ps at (id, leaf)) (sym in_leaves)
 
-  pub in_split : (front rear : L → L) (new : Forest L Summary) (leaf id : ℕ) → SplitsLeaf front rear a.arena new leaf id → pairs_of new new.leaves ≡ split_leaf front rear v.leaves leaf id
+  pub in_split : (front rear : L → L) (new : Forest L Summary) (leaf id : ℕ) → SplitsLeaf front rear a.arena new leaf id
+      → pairs_of new new.leaves ≡ split_leaf front rear v.leaves leaf id
   in_split front rear new leaf id i =
       let none : times a.arena.leaves id ≡ 0 = in_forest.leaf_once id ∙ ap count_some i.fresh in
-      ap (pairs_of new) i.leaves ∙ pairs-split front rear a.arena new a.arena.leaves leaf id i.whole in_live i.was i.now i.value (λ x m d. i.others x d (λ e. omega (arith, m, none, ap (times a.arena.leaves) e))) ∙ ap (λ (ps : List (ℕ × L)). split_leaf front rear ps leaf id) (sym in_leaves)
+      ap (pairs_of new) i.leaves ∙ pairs-split front rear a.arena new a.arena.leaves leaf id i.whole in_live i.was i.now i.value
+      (λ x m d. i.others x d (λ e. omega (arith, m, none, ap (times a.arena.leaves) e)))
+      ∙ ap (λ (ps : List (ℕ × L)). split_leaf front rear ps leaf id) (sym in_leaves)
 
   pub in_change : (f : L → L) (new : Forest L Summary) (leaf : ℕ) → ChangesLeaf f a.arena new leaf → pairs_of new new.leaves ≡ change_leaf f v.leaves leaf
   in_change f new leaf i =
-      ap (pairs_of new) i.leaves ∙ pairs-change f a.arena new a.arena.leaves leaf i.was in_live i.old_value i.new_value i.others ∙ ap (λ (ps : List (ℕ × L)). change_leaf f ps leaf) (sym in_leaves)
+      ap (pairs_of new) i.leaves ∙ pairs-change f a.arena new a.arena.leaves leaf i.was in_live i.old_value i.new_value i.others
+      ∙ ap (λ (ps : List (ℕ × L)). change_leaf f ps leaf) (sym in_leaves)
 
   pub in_some : All (λ x. 1 ≤ size x.1) v.leaves
   in_some = subst (λ (ps : List (ℕ × L)). All (λ x. 1 ≤ size x.1) ps) (sym in_leaves) (all_filled size a.arena a.arena.leaves in_sound.filled)
 
   pub in_take : (new : Forest L Summary) (leaf : ℕ) (value : L) → TakesLeaf a.arena new leaf value → pairs_of new new.leaves ≡ without_leaf v.leaves leaf
-  in_take new leaf value i = ap (pairs_of new) i.leaves ∙ pairs-without a.arena new a.arena.leaves leaf in_live (λ x m d. i.others x d) ∙ ap (λ (ps : List (ℕ × L)). without_leaf ps leaf) (sym in_leaves)
+  in_take new leaf value i = ap (pairs_of new) i.leaves ∙ pairs-without a.arena new a.arena.leaves leaf in_live (λ x m d. i.others x d)
+      ∙ ap (λ (ps : List (ℕ × L)). without_leaf ps leaf) (sym in_leaves)
 
-  pub in_move : (new : Forest L Summary) (leaf : ℕ) (at : Option ℕ) → IsLeafIn v.leaves leaf → MovesLeaf a.arena new leaf at → pairs_of new new.leaves ≡ move_leaf v.leaves leaf at (value_at v.leaves leaf)
+  pub in_move : (new : Forest L Summary) (leaf : ℕ) (at : Option ℕ) → IsLeafIn v.leaves leaf → MovesLeaf a.arena new leaf at
+      → pairs_of new new.leaves ≡ move_leaf v.leaves leaf at (value_at v.leaves leaf)
   in_move new leaf at there i =
       let w = some_of (leaf_value a.arena leaf) (in_leaf leaf there) in
       let now : value_at v.leaves leaf ≡ Some w.0 = in_value leaf there ∙ w.1 in
-      let all : AllLeaves new (without a.arena.leaves leaf) = λ x m. subst (λ (o : Option L). IsSome o) (sym (i.values x)) (in_live x (omega (arith, m, times-without_le a.arena.leaves leaf x))) in
-      ap (pairs_of new) i.leaves ∙ pairs-put new new (without a.arena.leaves leaf) at leaf w.0 all (λ x m. refl) (i.values leaf ∙ w.1) ∙ ap (λ (ps : List (ℕ × L)). put_leaf ps at (leaf, w.0)) (pairs-without a.arena new a.arena.leaves leaf in_live (λ x m d. i.values x) ∙ ap (λ (ps : List (ℕ × L)). without_leaf ps leaf) (sym in_leaves)) ∙ sym (ap (move_leaf v.leaves leaf at) now)
+      let all : AllLeaves new (without a.arena.leaves leaf) =
+      λ x m. subst (λ (o : Option L). IsSome o) (sym (i.values x)) (in_live x (omega (arith, m, times-without_le a.arena.leaves leaf x))) in
+      ap (pairs_of new) i.leaves ∙ pairs-put new new (without a.arena.leaves leaf) at leaf w.0 all (λ x m. refl) (i.values leaf ∙ w.1)
+      ∙ ap (λ (ps : List (ℕ × L)). put_leaf ps at (leaf, w.0)) (pairs-without a.arena new a.arena.leaves leaf in_live (λ x m d. i.values x)
+      ∙ ap (λ (ps : List (ℕ × L)). without_leaf ps leaf) (sym in_leaves)) ∙ sym (ap (move_leaf v.leaves leaf at) now)

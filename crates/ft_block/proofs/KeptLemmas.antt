@@ -13,18 +13,28 @@ use Rattle.ft_block.specs.declared.leaves.LenView.TheVariants.{At, Stage, All}
 use Rattle.ft_block.specs.Leaves.{sees_in, last_stage, seen_length}
 use Rattle.ft_block.specs.Tree.{AreFromFloor, IsNodeFrom, kept_length, HasRange, KeepsExchange, KeepsNode}
 
-exchanged_local : (local gone come : ℕ) → gone < 2 ^ 64 → ((((local + (18446744073709551616 - gone)) % 18446744073709551616) + come) % 18446744073709551616 + gone) % 2 ^ 64 ≡ (local + come) % 2 ^ 64
+exchanged_local : (local gone come : ℕ) → gone < 2 ^ 64
+    → ((((local + (18446744073709551616 - gone)) % 18446744073709551616) + come) % 18446744073709551616 + gone) % 2 ^ 64 ≡ (local + come) % 2 ^ 64
 exchanged_local local gone come h = omega arith
 
 -- the local length and the table after elements were exchanged
-pub exchange_keeps : (floor : ℕ) (old : Summary) (mid new : Lengths) (gone come n m : ℕ) (e f : Element) → n < 2 ^ 64 → gone < 2 ^ 64 → gone ≡ amount (sees_in last_stage e) n → come ≡ amount (sees_in last_stage f) m → SameFrom floor old.table mid → Exchanges mid new e n f m → KeepsExchange floor old (record { height = old.height; whole = ((old.whole + (18446744073709551616 - n)) % 18446744073709551616 + m) % 18446744073709551616; local = ((old.local + (18446744073709551616 - gone)) % 18446744073709551616 + come) % 18446744073709551616; table = new }) e n f m
-exchange_keeps floor old mid new gone come n m e f few l g k same ex (At at) (low, high, conn) =
-    ex at.r at.c high conn ∙ ap (λ (x : ℕ). (x + amount (sees_in (At at) f) m) % 2 ^ 64) (same at.r at.c low high conn)
-exchange_keeps floor old mid new gone come n m e f few l g k same ex (Stage s) is =
+pub exchange_keeps : (floor : ℕ) (old : Summary) (mid new : Lengths) (gone come n m : ℕ) (e f : Element) → n < 2 ^ 64 → gone < 2 ^ 64
+    → gone ≡ amount (sees_in last_stage e) n → come ≡ amount (sees_in last_stage f) m → SameFrom floor old.table mid → mid.floor ≡ floor → Exchanges mid new e n f m
+    → KeepsExchange floor old (record {
+      height = old.height;
+      whole = ((old.whole + (18446744073709551616 - n)) % 18446744073709551616 + m) % 18446744073709551616;
+      local =
+          ((old.local + (18446744073709551616 - gone)) % 18446744073709551616 + come) % 18446744073709551616;
+      table = new;
+    }) e n f m
+exchange_keeps floor old mid new gone come n m e f few l g k same from ex (At at) (low, high, conn) =
+    ex at.r at.c (omega (arith, from, low)) high conn ∙ ap (λ (x : ℕ). (x + amount (sees_in (At at) f) m) % 2 ^ 64) (same at.r at.c low high conn)
+exchange_keeps floor old mid new gone come n m e f few l g k same from ex (Stage s) is =
     let by_gone : amount (sees_in (Stage s) e) n ≡ gone = ap (λ v. amount (sees_in v e) n) is ∙ sym g in
     let by_come : amount (sees_in (Stage s) f) m ≡ come = ap (λ v. amount (sees_in v f) m) is ∙ sym k in
-    ap (λ (x : ℕ). ((((old.local + (18446744073709551616 - gone)) % 18446744073709551616) + come) % 18446744073709551616 + x) % 2 ^ 64) by_gone ∙ exchanged_local old.local gone come l ∙ ap (λ (x : ℕ). (old.local + x) % 2 ^ 64) (sym by_come)
-exchange_keeps floor old mid new gone come n m e f few l g k same ex All h = exchanged_local old.whole n m few
+    ap (λ (x : ℕ). ((((old.local + (18446744073709551616 - gone)) % 18446744073709551616) + come) % 18446744073709551616 + x) % 2 ^ 64) by_gone
+    ∙ exchanged_local old.local gone come l ∙ ap (λ (x : ℕ). (old.local + x) % 2 ^ 64) (sym by_come)
+exchange_keeps floor old mid new gone come n m e f few l g k same from ex All h = exchanged_local old.whole n m few
 
 small : (x : ℕ) → x < 2 ^ 64 → x % 2 ^ 64 ≡ x
 small x h = omega arith
@@ -40,9 +50,11 @@ amount_none true = refl
 amount_none false = refl
 
 -- elements that come where none were
-pub exchange_adds : {L : Type 0} (size : L → ℕ) (element : L → Element) (floor : ℕ) (old new : Summary) (leaf : L) (e : Element) (n : ℕ) → e ≡ element leaf → n ≡ size leaf → HasRange new → KeepsExchange floor old new e 0 e n → KeepsNode size element floor old (Leaf leaf) new
+pub exchange_adds : {L : Type 0} (size : L → ℕ) (element : L → Element) (floor : ℕ) (old new : Summary) (leaf : L) (e : Element) (n : ℕ) → e ≡ element leaf
+    → n ≡ size leaf → HasRange new → KeepsExchange floor old new e 0 e n → KeepsNode size element floor old (Leaf leaf) new
 exchange_adds size element floor old new leaf e n is many low ex view kept =
-    let here : amount (sees_in view e) n ≡ seen_length size element view leaf = ap (λ z. amount (sees_in view z) n) is ∙ ap (λ (k : ℕ). cond (sees_in view (element leaf)) k 0) many in
+    let here : amount (sees_in view e) n ≡ seen_length size element view leaf =
+    ap (λ z. amount (sees_in view z) n) is ∙ ap (λ (k : ℕ). cond (sees_in view (element leaf)) k 0) many in
     let z : kept_length view new + amount (sees_in view e) 0 ≡ kept_length view new = omega (arith, amount_none (sees_in view e)) in
     sym (small (kept_length view new) (kept_low new low view)) ∙ sym (ap (λ (x : ℕ). x % 2 ^ 64) z) ∙ ex view kept ∙ ap (λ (x : ℕ). (kept_length view old + x) % 2 ^ 64) here
 
@@ -51,7 +63,11 @@ pub one_more : (kept kept' n rest whole : ℕ) → kept' ≡ (kept + n) % 2 ^ 64
 one_more kept kept' n rest whole e so_far fits = omega arith
 
 -- a node that is read has a table with a floor up to this one
-pub node_from : {L : Type 0} (floor : ℕ) (s : Forest L Summary) (id : ℕ) (n : Node L Summary) (p : Option ℕ) → AreFromFloor floor s → entry s id ≡ Some record { node = n; parent = p } → IsNodeFrom floor n
+pub node_from : {L : Type 0} (floor : ℕ) (s : Forest L Summary) (id : ℕ) (n : Node L Summary) (p : Option ℕ) → AreFromFloor floor s → entry s id ≡ Some record {
+  node =
+      n;
+  parent = p;
+} → IsNodeFrom floor n
 node_from floor s id (Leaf v) p all e = tt
 node_from floor s id (Block ks v) p all e = all id v (ap block_of_entry e)
 
@@ -65,7 +81,8 @@ settled kept' kept more less t e owes low fits =
 pub same_floors : {L : Type 0} (floor : ℕ) (s s' : Forest L Summary) → ((x : ℕ) → block_value s' x ≡ block_value s x) → AreFromFloor floor s → AreFromFloor floor s'
 same_floors floor s s' same all x v e = all x v (sym (same x) ∙ e)
 
-pub added_floors : {L : Type 0} (floor : ℕ) (s s' : Forest L Summary) (id : ℕ) (z : Summary) (p : Option ℕ) → Changes s s' id (Some record { node = Block [] z; parent = p }) → z.table.floor ≡ floor → AreFromFloor floor s → AreFromFloor floor s'
+pub added_floors : {L : Type 0} (floor : ℕ) (s s' : Forest L Summary) (id : ℕ) (z : Summary) (p : Option ℕ)
+    → Changes s s' id (Some record { node = Block [] z; parent = p }) → z.table.floor ≡ floor → AreFromFloor floor s → AreFromFloor floor s'
 added_floors floor s s' id z p c is all x v e = elim (cases_eq x id) [
   | inl q ↦
       let now : Some v ≡ Some z = sym e ∙ ap (block_value s') q ∙ ap block_of_entry c.changed in
@@ -75,7 +92,8 @@ added_floors floor s s' id z p c is all x v e = elim (cases_eq x id) [
 ]
 
 -- a new leaf brings no table
-pub linked_floors : {L : Type 0} (floor : ℕ) (s s' : Forest L Summary) (id : ℕ) (leaf : L) (p : Option ℕ) → Changes s s' id (Some record { node = Leaf leaf; parent = p }) → AreFromFloor floor s → AreFromFloor floor s'
+pub linked_floors : {L : Type 0} (floor : ℕ) (s s' : Forest L Summary) (id : ℕ) (leaf : L) (p : Option ℕ) → Changes s s' id (Some record { node = Leaf leaf; parent = p })
+    → AreFromFloor floor s → AreFromFloor floor s'
 linked_floors floor s s' id leaf p c all x v e = elim (cases_eq x id) [
   | inl q ↦ let now : Some v ≡ None = sym e ∙ ap (block_value s') q ∙ ap block_of_entry c.changed in cc now
   | inr d ↦ all x v (sym (ap block_of_entry (c.others x d)) ∙ e)

@@ -100,5 +100,7 @@ module _ {L : Type 0} where
   pub kind_from_values : (o u : Option (Entry L Summary)) → leaf_of_entry u ≡ leaf_of_entry o → block_of_entry u ≡ block_of_entry o → kind_of_entry u ≡ kind_of_entry o
   kind_from_values o u l b = kind_is_by u ∙ ap (λ z. kind_by z (block_of_entry u)) l ∙ ap (kind_by (leaf_of_entry o)) b ∙ sym (kind_is_by o)
 
-  pub length_from_values : (measure : Measure L) (o u : Option (Entry L Summary)) → leaf_of_entry u ≡ leaf_of_entry o → block_of_entry u ≡ block_of_entry o → length_of_entry measure u ≡ length_of_entry measure o
-  length_from_values measure o u l b = length_is_by measure u ∙ ap (λ z. length_by measure z (block_of_entry u)) l ∙ ap (length_by measure (leaf_of_entry o)) b ∙ sym (length_is_by measure o)
+  pub length_from_values : (measure : Measure L) (o u : Option (Entry L Summary)) → leaf_of_entry u ≡ leaf_of_entry o → block_of_entry u ≡ block_of_entry o
+      → length_of_entry measure u ≡ length_of_entry measure o
+  length_from_values measure o u l b = length_is_by measure u ∙ ap (λ z. length_by measure z (block_of_entry u)) l ∙ ap (length_by measure (leaf_of_entry o)) b
+      ∙ sym (length_is_by measure o)

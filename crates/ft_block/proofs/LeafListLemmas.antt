@@ -1,5 +1,6 @@
 -- What callers see of the leaves of a tree: from nodes to nodes with their values.
-use Rattle.std.proofs.Common.{◌≡◌, ◌≢◌, ℕ, ◌+◌, ◌-◌, ◌≤◌, List, [], ◌∷◌, length, Option, Some, None, IsSomeAnd, Bool, true, false, refl, sym, ap, subst, ◌∙◌, inl, inr, arith, cond, leb, eqb}
+use Rattle.std.proofs.Common.{◌≡◌, ◌≢◌, ℕ, ◌+◌, ◌-◌, ◌≤◌, List, [], ◌∷◌, length, Option, Some, None, IsSomeAnd, Bool, true, false, refl, sym, ap, subst, ◌∙◌, inl, inr}
+use Rattle.std.proofs.Common.{arith, cond, leb, eqb}
 use Rattle.std.proofs.lemmas.Bool.{cases_eq, cond-true, cond-false, eq-eqb, ne_eqb}
 use Rattle.ft_arena.specs.Ids.{same, times, insert_after, put_after, without, first, after}
 use Rattle.ft_arena.specs.Forest.{Forest, entry, leaf_value}
@@ -7,7 +8,8 @@ use Rattle.ft_arena.proofs.IdLemmas.{same_refl, same_other}
 use Rattle.ft_arena.proofs.RingLemmas.{insert_after_later, without_here, without_later}
 use Rattle.ft_block.specs.declared.summaries.Summary.{Summary}
 use Rattle.ft_block.specs.declared.blocks.Found.{Found}
-use Rattle.ft_block.specs.Leaves.{ids, times_leaf, value_at, length_by, place_from, left_of, put_leaf_after, put_leaf, change_leaf, split_leaf, without_leaf, first_value, value_after, join_first, join_leaf}
+use Rattle.ft_block.specs.Leaves.{ids, times_leaf, value_at, length_by, place_from, left_of, put_leaf_after, put_leaf, change_leaf, split_leaf, without_leaf, first_value}
+use Rattle.ft_block.specs.Leaves.{value_after, join_first, join_leaf}
 use Rattle.ft_block.specs.Inside.{pair_of, pairs_of}
 use Rattle.ft_block.specs.Tree.{Measure, length_of, total, seek, before}
 use Rattle.ft_block.proofs.EditLemmas.{some_of, insert_after_head}
@@ -62,12 +64,17 @@ module _ {L : Type 0} where
       let v = head_value s x xs a in
       omega (arith, ap (length_by measure.leaf) (pairs_cons s x xs v.0 v.1), leaf_length measure (entry s x) v.0 v.1, length_by-pairs measure s xs (λ y m. a y (omega arith)))
 
-  pub place_from-pairs : (measure : Measure L) (s : Forest L Summary) (xs : List ℕ) (p : ℕ) → AllLeaves s xs → place_from measure.leaf (pairs_of s xs) p ≡ to_found (seek (length_of measure s) xs p)
+  pub place_from-pairs : (measure : Measure L) (s : Forest L Summary) (xs : List ℕ) (p : ℕ) → AllLeaves s xs
+      → place_from measure.leaf (pairs_of s xs) p ≡ to_found (seek (length_of measure s) xs p)
   place_from-pairs measure s [] p a = sym to_found_none
   place_from-pairs measure s (x ∷ xs) p a =
       let v = head_value s x xs a in
       let l : length_of measure s x ≡ measure.leaf v.0 = leaf_length measure (entry s x) v.0 v.1 in
-      ap (λ zs. place_from measure.leaf zs p) (pairs_cons s x xs v.0 v.1) ∙ ap (λ (n : ℕ). cond (leb p n) (found_at x p) (place_from measure.leaf (pairs_of s xs) (p - n))) (sym l) ∙ ap (λ (o : Option Found). cond (leb p (length_of measure s x)) (found_at x p) o) (place_from-pairs measure s xs (p - length_of measure s x) (λ y m. a y (omega arith))) ∙ push x p (leb p (length_of measure s x)) (seek (length_of measure s) xs (p - length_of measure s x))
+      ap (λ zs. place_from measure.leaf zs p) (pairs_cons s x xs v.0 v.1)
+      ∙ ap (λ (n : ℕ). cond (leb p n) (found_at x p) (place_from measure.leaf (pairs_of s xs) (p - n))) (sym l)
+      ∙ ap (λ (o : Option Found). cond (leb p (length_of measure s x)) (found_at x p) o)
+      (place_from-pairs measure s xs (p - length_of measure s x) (λ y m. a y (omega arith)))
+      ∙ push x p (leb p (length_of measure s x)) (seek (length_of measure s) xs (p - length_of measure s x))
 
   pub times-pairs : (s : Forest L Summary) (xs : List ℕ) (x : ℕ) → AllLeaves s xs → times_leaf (pairs_of s xs) x ≡ times xs x
   times-pairs s [] x a = refl
@@ -109,8 +116,10 @@ module _ {L : Type 0} where
   left_of-pairs s (y ∷ ys) x a =
       let v = head_value s y ys a in
       ap (λ zs. left_of zs x) (pairs_cons s y ys v.0 v.1) ∙ elim (cases_eq y x) [
-        | inl e ↦ subst (λ (z : ℕ). left_of ((y, v.0) ∷ pairs_of s ys) z ≡ pairs_of s (before (y ∷ ys) z)) e (left_here y v.0 (pairs_of s ys) ∙ sym (ap (pairs_of s) (before_here y ys)))
-        | inr d ↦ left_later y v.0 (pairs_of s ys) x d ∙ ap (λ (zs : List (ℕ × L)). (y, v.0) ∷ zs) (left_of-pairs s ys x (λ z m. a z (omega arith))) ∙ sym (pairs_cons s y (before ys x) v.0 v.1) ∙ sym (ap (pairs_of s) (before_later y ys x d))
+        | inl e ↦ subst (λ (z : ℕ). left_of ((y, v.0) ∷ pairs_of s ys) z ≡ pairs_of s (before (y ∷ ys) z)) e (left_here y v.0 (pairs_of s ys)
+            ∙ sym (ap (pairs_of s) (before_here y ys)))
+        | inr d ↦ left_later y v.0 (pairs_of s ys) x d ∙ ap (λ (zs : List (ℕ × L)). (y, v.0) ∷ zs) (left_of-pairs s ys x (λ z m. a z (omega arith)))
+            ∙ sym (pairs_cons s y (before ys x) v.0 v.1) ∙ sym (ap (pairs_of s) (before_later y ys x d))
       ]
 
   put_leaf_here : (v : L) (ps : List (ℕ × L)) (at : ℕ) (new : ℕ × L) → put_leaf_after ((at, v) ∷ ps) at new ≡ (at, v) ∷ new ∷ put_leaf_after ps at new
@@ -120,7 +129,8 @@ module _ {L : Type 0} where
   put_leaf_later y v ps at new d = cond-false (eqb y at) _ _ (ne_eqb y at d)
 
   -- a leaf put among the nodes is put among the leaves
-  pub pairs-insert : (s s' : Forest L Summary) (xs : List ℕ) (at id : ℕ) (leaf : L) → AllLeaves s xs → ((x : ℕ) → 1 ≤ times xs x → leaf_value s' x ≡ leaf_value s x) → leaf_value s' id ≡ Some leaf → pairs_of s' (insert_after xs at id) ≡ put_leaf_after (pairs_of s xs) at (id, leaf)
+  pub pairs-insert : (s s' : Forest L Summary) (xs : List ℕ) (at id : ℕ) (leaf : L) → AllLeaves s xs → ((x : ℕ) → 1 ≤ times xs x → leaf_value s' x ≡ leaf_value s x)
+      → leaf_value s' id ≡ Some leaf → pairs_of s' (insert_after xs at id) ≡ put_leaf_after (pairs_of s xs) at (id, leaf)
   pairs-insert s s' [] at id leaf a h e = refl
   pairs-insert s s' (y ∷ ys) at id leaf a h e =
       let v = head_value s y ys a in
@@ -129,18 +139,27 @@ module _ {L : Type 0} where
       let old : pairs_of s (y ∷ ys) ≡ (y, v.0) ∷ pairs_of s ys = pairs_cons s y ys v.0 v.1 in
       elim (cases_eq y at) [
         | inl c ↦
-            let here : insert_after (y ∷ ys) at id ≡ y ∷ id ∷ insert_after ys at id = subst (λ (z : ℕ). insert_after (z ∷ ys) at id ≡ z ∷ id ∷ insert_after ys at id) (sym c) (insert_after_head ys at id) in
-            let put : put_leaf_after ((y, v.0) ∷ pairs_of s ys) at (id, leaf) ≡ (y, v.0) ∷ (id, leaf) ∷ put_leaf_after (pairs_of s ys) at (id, leaf) = subst (λ (z : ℕ). put_leaf_after ((z, v.0) ∷ pairs_of s ys) at (id, leaf) ≡ (z, v.0) ∷ (id, leaf) ∷ put_leaf_after (pairs_of s ys) at (id, leaf)) (sym c) (put_leaf_here v.0 (pairs_of s ys) at (id, leaf)) in
-            ap (pairs_of s') here ∙ pairs_cons s' y (id ∷ insert_after ys at id) v.0 v' ∙ ap (λ (zs : List (ℕ × L)). (y, v.0) ∷ zs) (pairs_cons s' id (insert_after ys at id) leaf e) ∙ ap (λ (zs : List (ℕ × L)). (y, v.0) ∷ (id, leaf) ∷ zs) rest ∙ sym (ap (λ (zs : List (ℕ × L)). put_leaf_after zs at (id, leaf)) old ∙ put)
-        | inr d ↦ ap (pairs_of s') (insert_after_later y ys at id d) ∙ pairs_cons s' y (insert_after ys at id) v.0 v' ∙ ap (λ (zs : List (ℕ × L)). (y, v.0) ∷ zs) rest ∙ sym (ap (λ (zs : List (ℕ × L)). put_leaf_after zs at (id, leaf)) old ∙ put_leaf_later y v.0 (pairs_of s ys) at (id, leaf) d)
+            let here : insert_after (y ∷ ys) at id ≡ y ∷ id ∷ insert_after ys at id =
+            subst (λ (z : ℕ). insert_after (z ∷ ys) at id ≡ z ∷ id ∷ insert_after ys at id) (sym c) (insert_after_head ys at id) in
+            let put : put_leaf_after ((y, v.0) ∷ pairs_of s ys) at (id, leaf) ≡ (y, v.0) ∷ (id, leaf) ∷ put_leaf_after (pairs_of s ys) at (id, leaf) =
+            subst (λ (z : ℕ). put_leaf_after ((z, v.0) ∷ pairs_of s ys) at (id, leaf) ≡ (z, v.0) ∷ (id, leaf) ∷ put_leaf_after (pairs_of s ys) at (id, leaf))
+            (sym c) (put_leaf_here v.0 (pairs_of s ys) at (id, leaf)) in
+            ap (pairs_of s') here ∙ pairs_cons s' y (id ∷ insert_after ys at id) v.0 v'
+            ∙ ap (λ (zs : List (ℕ × L)). (y, v.0) ∷ zs) (pairs_cons s' id (insert_after ys at id) leaf e)
+            ∙ ap (λ (zs : List (ℕ × L)). (y, v.0) ∷ (id, leaf) ∷ zs) rest ∙ sym (ap (λ (zs : List (ℕ × L)). put_leaf_after zs at (id, leaf)) old ∙ put)
+        | inr d ↦ ap (pairs_of s') (insert_after_later y ys at id d) ∙ pairs_cons s' y (insert_after ys at id) v.0 v' ∙ ap (λ (zs : List (ℕ × L)). (y, v.0) ∷ zs) rest
+            ∙ sym (ap (λ (zs : List (ℕ × L)). put_leaf_after zs at (id, leaf)) old ∙ put_leaf_later y v.0 (pairs_of s ys) at (id, leaf) d)
       ]
 
   pairs_same : (s s' : Forest L Summary) (xs : List ℕ) → ((x : ℕ) → 1 ≤ times xs x → leaf_value s' x ≡ leaf_value s x) → pairs_of s' xs ≡ pairs_of s xs
   pairs_same s s' [] h = refl
-  pairs_same s s' (y ∷ ys) h = ap (λ o. pair_of y o (pairs_of s' ys)) (h y (omega (arith, same_refl y))) ∙ ap (pair_of y (leaf_value s y)) (pairs_same s s' ys (λ x m. h x (omega arith)))
+  pairs_same s s' (y ∷ ys) h = ap (λ o. pair_of y o (pairs_of s' ys)) (h y (omega (arith, same_refl y)))
+      ∙ ap (pair_of y (leaf_value s y)) (pairs_same s s' ys (λ x m. h x (omega arith)))
 
   -- the same at any place
-  pub pairs-put : (s s' : Forest L Summary) (xs : List ℕ) (at : Option ℕ) (id : ℕ) (leaf : L) → AllLeaves s xs → ((x : ℕ) → 1 ≤ times xs x → leaf_value s' x ≡ leaf_value s x) → leaf_value s' id ≡ Some leaf → pairs_of s' (put_after xs at id) ≡ put_leaf (pairs_of s xs) at (id, leaf)
+  pub pairs-put : (s s' : Forest L Summary) (xs : List ℕ) (at : Option ℕ) (id : ℕ) (leaf : L) → AllLeaves s xs
+      → ((x : ℕ) → 1 ≤ times xs x → leaf_value s' x ≡ leaf_value s x) → leaf_value s' id ≡ Some leaf
+      → pairs_of s' (put_after xs at id) ≡ put_leaf (pairs_of s xs) at (id, leaf)
   pairs-put s s' xs None id leaf a h e = pairs_cons s' id xs leaf e ∙ ap (λ (zs : List (ℕ × L)). (id, leaf) ∷ zs) (pairs_same s s' xs h)
   pairs-put s s' xs (Some at) id leaf a h e = pairs-insert s s' xs at id leaf a h e
 
@@ -151,7 +170,8 @@ module _ {L : Type 0} where
   change_later f y v ps at d = cond-false (eqb y at) _ _ (ne_eqb y at d)
 
   -- a changed leaf is changed among the leaves
-  pub pairs-change : (f : L → L) (s s' : Forest L Summary) (xs : List ℕ) (at : ℕ) (was : L) → AllLeaves s xs → leaf_value s at ≡ Some was → leaf_value s' at ≡ Some (f was) → ((x : ℕ) → x ≢ at → leaf_value s' x ≡ leaf_value s x) → pairs_of s' xs ≡ change_leaf f (pairs_of s xs) at
+  pub pairs-change : (f : L → L) (s s' : Forest L Summary) (xs : List ℕ) (at : ℕ) (was : L) → AllLeaves s xs → leaf_value s at ≡ Some was
+      → leaf_value s' at ≡ Some (f was) → ((x : ℕ) → x ≢ at → leaf_value s' x ≡ leaf_value s x) → pairs_of s' xs ≡ change_leaf f (pairs_of s xs) at
   pairs-change f s s' [] at was a o n h = refl
   pairs-change f s s' (y ∷ ys) at was a o n h =
       let v = head_value s y ys a in
@@ -160,33 +180,47 @@ module _ {L : Type 0} where
         | inl c ↦
             let now : leaf_value s' y ≡ Some (f was) = ap (leaf_value s') c ∙ n in
             let old : pairs_of s (y ∷ ys) ≡ (y, was) ∷ pairs_of s ys = pairs_cons s y ys was (ap (leaf_value s) c ∙ o) in
-            let change : change_leaf f ((y, was) ∷ pairs_of s ys) at ≡ (y, f was) ∷ change_leaf f (pairs_of s ys) at = subst (λ (z : ℕ). change_leaf f ((z, was) ∷ pairs_of s ys) at ≡ (z, f was) ∷ change_leaf f (pairs_of s ys) at) (sym c) (change_here f was (pairs_of s ys) at) in
+            let change : change_leaf f ((y, was) ∷ pairs_of s ys) at ≡ (y, f was) ∷ change_leaf f (pairs_of s ys) at =
+            subst (λ (z : ℕ). change_leaf f ((z, was) ∷ pairs_of s ys) at ≡ (z, f was) ∷ change_leaf f (pairs_of s ys) at) (sym c)
+            (change_here f was (pairs_of s ys) at) in
             pairs_cons s' y ys (f was) now ∙ ap (λ (zs : List (ℕ × L)). (y, f was) ∷ zs) rest ∙ sym (ap (λ zs. change_leaf f zs at) old ∙ change)
         | inr d ↦
-            pairs_cons s' y ys v.0 (h y d ∙ v.1) ∙ ap (λ (zs : List (ℕ × L)). (y, v.0) ∷ zs) rest ∙ sym (ap (λ zs. change_leaf f zs at) (pairs_cons s y ys v.0 v.1) ∙ change_later f y v.0 (pairs_of s ys) at d)
+            pairs_cons s' y ys v.0 (h y d ∙ v.1) ∙ ap (λ (zs : List (ℕ × L)). (y, v.0) ∷ zs) rest
+            ∙ sym (ap (λ zs. change_leaf f zs at) (pairs_cons s y ys v.0 v.1) ∙ change_later f y v.0 (pairs_of s ys) at d)
       ]
 
-  split_here : (front rear : L → L) (v : L) (ps : List (ℕ × L)) (at new : ℕ) → split_leaf front rear ((at, v) ∷ ps) at new ≡ (at, front v) ∷ (new, rear v) ∷ split_leaf front rear ps at new
+  split_here : (front rear : L → L) (v : L) (ps : List (ℕ × L)) (at new : ℕ)
+      → split_leaf front rear ((at, v) ∷ ps) at new ≡ (at, front v) ∷ (new, rear v) ∷ split_leaf front rear ps at new
   split_here front rear v ps at new = cond-true (eqb at at) _ _ (eq-eqb at at refl)
 
-  split_later : (front rear : L → L) (y : ℕ) (v : L) (ps : List (ℕ × L)) (at new : ℕ) → y ≢ at → split_leaf front rear ((y, v) ∷ ps) at new ≡ (y, v) ∷ split_leaf front rear ps at new
+  split_later : (front rear : L → L) (y : ℕ) (v : L) (ps : List (ℕ × L)) (at new : ℕ) → y ≢ at
+      → split_leaf front rear ((y, v) ∷ ps) at new ≡ (y, v) ∷ split_leaf front rear ps at new
   split_later front rear y v ps at new d = cond-false (eqb y at) _ _ (ne_eqb y at d)
 
   -- a leaf that is cut in two is cut among the leaves
-  pub pairs-split : (front rear : L → L) (s s' : Forest L Summary) (xs : List ℕ) (at new : ℕ) (was : L) → AllLeaves s xs → leaf_value s at ≡ Some was → leaf_value s' at ≡ Some (front was) → leaf_value s' new ≡ Some (rear was) → ((x : ℕ) → 1 ≤ times xs x → x ≢ at → leaf_value s' x ≡ leaf_value s x) → pairs_of s' (insert_after xs at new) ≡ split_leaf front rear (pairs_of s xs) at new
+  pub pairs-split : (front rear : L → L) (s s' : Forest L Summary) (xs : List ℕ) (at new : ℕ) (was : L) → AllLeaves s xs → leaf_value s at ≡ Some was
+      → leaf_value s' at ≡ Some (front was) → leaf_value s' new ≡ Some (rear was) → ((x : ℕ) → 1 ≤ times xs x → x ≢ at → leaf_value s' x ≡ leaf_value s x)
+      → pairs_of s' (insert_after xs at new) ≡ split_leaf front rear (pairs_of s xs) at new
   pairs-split front rear s s' [] at new was a o n r h = refl
   pairs-split front rear s s' (y ∷ ys) at new was a o n r h =
       let v = head_value s y ys a in
       let rest = pairs-split front rear s s' ys at new was (λ x m. a x (omega arith)) o n r (λ x m d. h x (omega arith) d) in
       elim (cases_eq y at) [
         | inl c ↦
-            let here : insert_after (y ∷ ys) at new ≡ y ∷ new ∷ insert_after ys at new = subst (λ (z : ℕ). insert_after (z ∷ ys) at new ≡ z ∷ new ∷ insert_after ys at new) (sym c) (insert_after_head ys at new) in
+            let here : insert_after (y ∷ ys) at new ≡ y ∷ new ∷ insert_after ys at new =
+            subst (λ (z : ℕ). insert_after (z ∷ ys) at new ≡ z ∷ new ∷ insert_after ys at new) (sym c) (insert_after_head ys at new) in
             let now : leaf_value s' y ≡ Some (front was) = ap (leaf_value s') c ∙ n in
             let old : pairs_of s (y ∷ ys) ≡ (y, was) ∷ pairs_of s ys = pairs_cons s y ys was (ap (leaf_value s) c ∙ o) in
-            let split : split_leaf front rear ((y, was) ∷ pairs_of s ys) at new ≡ (y, front was) ∷ (new, rear was) ∷ split_leaf front rear (pairs_of s ys) at new = subst (λ (z : ℕ). split_leaf front rear ((z, was) ∷ pairs_of s ys) at new ≡ (z, front was) ∷ (new, rear was) ∷ split_leaf front rear (pairs_of s ys) at new) (sym c) (split_here front rear was (pairs_of s ys) at new) in
-            ap (pairs_of s') here ∙ pairs_cons s' y (new ∷ insert_after ys at new) (front was) now ∙ ap (λ (zs : List (ℕ × L)). (y, front was) ∷ zs) (pairs_cons s' new (insert_after ys at new) (rear was) r) ∙ ap (λ (zs : List (ℕ × L)). (y, front was) ∷ (new, rear was) ∷ zs) rest ∙ sym (ap (λ zs. split_leaf front rear zs at new) old ∙ split)
+            let split : split_leaf front rear ((y, was) ∷ pairs_of s ys) at new ≡ (y, front was) ∷ (new, rear was) ∷ split_leaf front rear (pairs_of s ys) at new =
+            subst (λ (z : ℕ). split_leaf front rear ((z, was) ∷ pairs_of s ys) at new ≡ (z, front was) ∷ (new, rear was) ∷ split_leaf front rear (pairs_of s ys)
+            at new) (sym c) (split_here front rear was (pairs_of s ys) at new) in
+            ap (pairs_of s') here ∙ pairs_cons s' y (new ∷ insert_after ys at new) (front was) now
+            ∙ ap (λ (zs : List (ℕ × L)). (y, front was) ∷ zs) (pairs_cons s' new (insert_after ys at new) (rear was) r)
+            ∙ ap (λ (zs : List (ℕ × L)). (y, front was) ∷ (new, rear was) ∷ zs) rest ∙ sym (ap (λ zs. split_leaf front rear zs at new) old ∙ split)
         | inr d ↦
-            ap (pairs_of s') (insert_after_later y ys at new d) ∙ pairs_cons s' y (insert_after ys at new) v.0 (h y (omega (arith, same_refl y)) d ∙ v.1) ∙ ap (λ (zs : List (ℕ × L)). (y, v.0) ∷ zs) rest ∙ sym (ap (λ zs. split_leaf front rear zs at new) (pairs_cons s y ys v.0 v.1) ∙ split_later front rear y v.0 (pairs_of s ys) at new d)
+            ap (pairs_of s') (insert_after_later y ys at new d) ∙ pairs_cons s' y (insert_after ys at new) v.0 (h y (omega (arith, same_refl y)) d ∙ v.1)
+            ∙ ap (λ (zs : List (ℕ × L)). (y, v.0) ∷ zs) rest
+            ∙ sym (ap (λ zs. split_leaf front rear zs at new) (pairs_cons s y ys v.0 v.1) ∙ split_later front rear y v.0 (pairs_of s ys) at new d)
       ]
 
   without_leaf_here : (x : ℕ) (v : L) (ps : List (ℕ × L)) → without_leaf ((x, v) ∷ ps) x ≡ without_leaf ps x
@@ -196,15 +230,19 @@ module _ {L : Type 0} where
   without_leaf_later y v ps x d = cond-false (eqb y x) _ _ (ne_eqb y x d)
 
   -- a leaf that is taken out of the list is taken out of the leaves
-  pub pairs-without : (s s' : Forest L Summary) (xs : List ℕ) (x : ℕ) → AllLeaves s xs → ((z : ℕ) → 1 ≤ times xs z → z ≢ x → leaf_value s' z ≡ leaf_value s z) → pairs_of s' (without xs x) ≡ without_leaf (pairs_of s xs) x
+  pub pairs-without : (s s' : Forest L Summary) (xs : List ℕ) (x : ℕ) → AllLeaves s xs → ((z : ℕ) → 1 ≤ times xs z → z ≢ x → leaf_value s' z ≡ leaf_value s z)
+      → pairs_of s' (without xs x) ≡ without_leaf (pairs_of s xs) x
   pairs-without s s' [] x a h = refl
   pairs-without s s' (y ∷ ys) x a h =
       let v = head_value s y ys a in
       let rest = pairs-without s s' ys x (λ z m. a z (omega arith)) (λ z m d. h z (omega arith) d) in
       let old : pairs_of s (y ∷ ys) ≡ (y, v.0) ∷ pairs_of s ys = pairs_cons s y ys v.0 v.1 in
       elim (cases_eq y x) [
-        | inl e ↦ ap (pairs_of s') (subst (λ (z : ℕ). without (y ∷ ys) z ≡ without ys z) e (without_here ys y)) ∙ rest ∙ sym (ap (λ zs. without_leaf zs x) old ∙ subst (λ (z : ℕ). without_leaf ((y, v.0) ∷ pairs_of s ys) z ≡ without_leaf (pairs_of s ys) z) e (without_leaf_here y v.0 (pairs_of s ys)))
-        | inr d ↦ ap (pairs_of s') (without_later y ys x d) ∙ pairs_cons s' y (without ys x) v.0 (h y (omega (arith, same_refl y)) d ∙ v.1) ∙ ap (λ (zs : List (ℕ × L)). (y, v.0) ∷ zs) rest ∙ sym (ap (λ zs. without_leaf zs x) old ∙ without_leaf_later y v.0 (pairs_of s ys) x d)
+        | inl e ↦ ap (pairs_of s') (subst (λ (z : ℕ). without (y ∷ ys) z ≡ without ys z) e (without_here ys y)) ∙ rest
+            ∙ sym (ap (λ zs. without_leaf zs x) old ∙ subst (λ (z : ℕ). without_leaf ((y, v.0) ∷ pairs_of s ys) z ≡ without_leaf (pairs_of s ys) z) e
+            (without_leaf_here y v.0 (pairs_of s ys)))
+        | inr d ↦ ap (pairs_of s') (without_later y ys x d) ∙ pairs_cons s' y (without ys x) v.0 (h y (omega (arith, same_refl y)) d ∙ v.1)
+            ∙ ap (λ (zs : List (ℕ × L)). (y, v.0) ∷ zs) rest ∙ sym (ap (λ zs. without_leaf zs x) old ∙ without_leaf_later y v.0 (pairs_of s ys) x d)
       ]
 
   without_leaf_none : (ps : List (ℕ × L)) (x : ℕ) → times_leaf ps x ≡ 0 → without_leaf ps x ≡ ps
@@ -249,7 +287,8 @@ module _ {L : Type 0} where
         let h : Some r.0 ≡ Some n = sym (cond-true (eqb p.0 x) (first (ids (r ∷ ps))) (after (ids (r ∷ ps)) x) (eq-eqb p.0 x q)) ∙ e in
         let b : r.0 ≡ n = cc h in
         let d : p.0 ≢ n = (λ c. omega (arith, o n, ap (λ w. same w n) c, ap (λ w. same w n) b, same_refl n)) in
-        value_later p.0 p.1 (r ∷ ps) n d ∙ subst (λ (z : ℕ). value_at (r ∷ ps) z ≡ Some r.1) b (value_here r.0 r.1 ps) ∙ sym (cond-true (eqb p.0 x) (first_value (r ∷ ps)) (value_after (r ∷ ps) x) (eq-eqb p.0 x q))
+        value_later p.0 p.1 (r ∷ ps) n d ∙ subst (λ (z : ℕ). value_at (r ∷ ps) z ≡ Some r.1) b (value_here r.0 r.1 ps)
+        ∙ sym (cond-true (eqb p.0 x) (first_value (r ∷ ps)) (value_after (r ∷ ps) x) (eq-eqb p.0 x q))
     | inr k ↦
         let later : after (ids (r ∷ ps)) x ≡ Some n = sym (after_later p.0 (ids (r ∷ ps)) x k) ∙ e in
         let d : p.0 ≢ n = (λ c. omega (arith, o n, ap (λ w. same w n) c, same_refl n, after_is_in (r ∷ ps) x n later)) in
@@ -257,7 +296,8 @@ module _ {L : Type 0} where
   ]
 
   -- a leaf joined with the next one, which is taken out
-  pub join_from : (f : L → L → L) (ps : List (ℕ × L)) (x n : ℕ) (w : L) → ((z : ℕ) → times_leaf ps z ≤ 1) → after (ids ps) x ≡ Some n → value_after ps x ≡ Some w → change_leaf (λ v. f v w) (without_leaf ps n) x ≡ join_leaf f ps x
+  pub join_from : (f : L → L → L) (ps : List (ℕ × L)) (x n : ℕ) (w : L) → ((z : ℕ) → times_leaf ps z ≤ 1) → after (ids ps) x ≡ Some n → value_after ps x ≡ Some w
+      → change_leaf (λ v. f v w) (without_leaf ps n) x ≡ join_leaf f ps x
   join_from f [] x n w o e h = cc e
   join_from f (p ∷ []) x n w o e h = elim (cases_eq p.0 x) [
     | inl q ↦ let a : None ≡ Some n = sym (cond-true (eqb p.0 x) (first []) (after [] x) (eq-eqb p.0 x q)) ∙ e in cc a
@@ -271,15 +311,22 @@ module _ {L : Type 0} where
         let h2 : Some r.1 ≡ Some w = sym (cond-true (eqb p.0 x) (first_value (r ∷ ps)) (value_after (r ∷ ps) x) t) ∙ h in
         let c : r.1 ≡ w = cc h2 in
         let d : p.0 ≢ n = (λ z. omega (arith, o n, ap (λ w. same w n) z, ap (λ w. same w n) b, same_refl n)) in
-        let out : without_leaf (p ∷ r ∷ ps) n ≡ p ∷ ps = without_leaf_later p.0 p.1 (r ∷ ps) n d ∙ ap (λ (zs : List (ℕ × L)). p ∷ zs) (subst (λ (z : ℕ). without_leaf (r ∷ ps) z ≡ without_leaf ps z) b (without_leaf_here r.0 r.1 ps) ∙ without_leaf_none ps n (omega (arith, o n, ap (λ w. same w n) b, same_refl n))) in
-        let change : change_leaf (λ v. f v w) (p ∷ ps) x ≡ (p.0, f p.1 w) ∷ ps = cond-true (eqb p.0 x) _ _ t ∙ ap (λ (zs : List (ℕ × L)). (p.0, f p.1 w) ∷ zs) (change_none (λ v. f v w) ps x (omega (arith, o x, ap (λ w. same w x) q, same_refl x))) in
+        let out : without_leaf (p ∷ r ∷ ps) n ≡ p ∷ ps =
+        without_leaf_later p.0 p.1 (r ∷ ps) n d ∙ ap (λ (zs : List (ℕ × L)). p ∷ zs)
+        (subst (λ (z : ℕ). without_leaf (r ∷ ps) z ≡ without_leaf ps z) b (without_leaf_here r.0 r.1 ps)
+        ∙ without_leaf_none ps n (omega (arith, o n, ap (λ w. same w n) b, same_refl n))) in
+        let change : change_leaf (λ v. f v w) (p ∷ ps) x ≡ (p.0, f p.1 w) ∷ ps =
+        cond-true (eqb p.0 x) _ _ t ∙ ap (λ (zs : List (ℕ × L)). (p.0, f p.1 w) ∷ zs)
+        (change_none (λ v. f v w) ps x (omega (arith, o x, ap (λ w. same w x) q, same_refl x))) in
         let join : join_leaf f (p ∷ r ∷ ps) x ≡ (p.0, f p.1 r.1) ∷ ps = cond-true (eqb p.0 x) (join_first f p (r ∷ ps)) (p ∷ join_leaf f (r ∷ ps) x) t in
         ap (λ zs. change_leaf (λ v. f v w) zs x) out ∙ change ∙ ap (λ (z : L). (p.0, f p.1 z) ∷ ps) (sym c) ∙ sym join
     | inr k ↦
         let later : after (ids (r ∷ ps)) x ≡ Some n = sym (after_later p.0 (ids (r ∷ ps)) x k) ∙ e in
         let d : p.0 ≢ n = (λ c. omega (arith, o n, ap (λ w. same w n) c, same_refl n, after_is_in (r ∷ ps) x n later)) in
         let hl : value_after (r ∷ ps) x ≡ Some w = sym (value_after_later p.0 p.1 (r ∷ ps) x k) ∙ h in
-        ap (λ zs. change_leaf (λ v. f v w) zs x) (without_leaf_later p.0 p.1 (r ∷ ps) n d) ∙ change_later (λ v. f v w) p.0 p.1 (without_leaf (r ∷ ps) n) x k ∙ ap (λ (zs : List (ℕ × L)). p ∷ zs) (join_from f (r ∷ ps) x n w (λ z. omega (arith, o z)) later hl) ∙ sym (cond-false (eqb p.0 x) (join_first f p (r ∷ ps)) (p ∷ join_leaf f (r ∷ ps) x) (ne_eqb p.0 x k))
+        ap (λ zs. change_leaf (λ v. f v w) zs x) (without_leaf_later p.0 p.1 (r ∷ ps) n d) ∙ change_later (λ v. f v w) p.0 p.1 (without_leaf (r ∷ ps) n) x k
+        ∙ ap (λ (zs : List (ℕ × L)). p ∷ zs) (join_from f (r ∷ ps) x n w (λ z. omega (arith, o z)) later hl)
+        ∙ sym (cond-false (eqb p.0 x) (join_first f p (r ∷ ps)) (p ∷ join_leaf f (r ∷ ps) x) (ne_eqb p.0 x k))
   ]
 
   first_none : (ps : List (ℕ × L)) → first (ids ps) ≡ None → first_value ps ≡ None
@@ -290,7 +337,8 @@ module _ {L : Type 0} where
   pub value_after_none : (ps : List (ℕ × L)) (x : ℕ) → after (ids ps) x ≡ None → value_after ps x ≡ None
   value_after_none [] x e = refl
   value_after_none (p ∷ ps) x e = elim (cases_eq p.0 x) [
-    | inl q ↦ cond-true (eqb p.0 x) (first_value ps) (value_after ps x) (eq-eqb p.0 x q) ∙ first_none ps (sym (cond-true (eqb p.0 x) (first (ids ps)) (after (ids ps) x) (eq-eqb p.0 x q)) ∙ e)
+    | inl q ↦ cond-true (eqb p.0 x) (first_value ps) (value_after ps x) (eq-eqb p.0 x q)
+        ∙ first_none ps (sym (cond-true (eqb p.0 x) (first (ids ps)) (after (ids ps) x) (eq-eqb p.0 x q)) ∙ e)
     | inr d ↦ value_after_later p.0 p.1 ps x d ∙ value_after_none ps x (sym (after_later p.0 (ids ps) x d) ∙ e)
   ]
 
@@ -316,14 +364,16 @@ module _ {L : Type 0} where
     ]
   ]
 
-  pub length_without : (f : L → ℕ) (ps : List (ℕ × L)) (n : ℕ) (w : L) → ((z : ℕ) → times_leaf ps z ≤ 1) → value_at ps n ≡ Some w → length_by f (without_leaf ps n) + f w ≡ length_by f ps
+  pub length_without : (f : L → ℕ) (ps : List (ℕ × L)) (n : ℕ) (w : L) → ((z : ℕ) → times_leaf ps z ≤ 1) → value_at ps n ≡ Some w
+      → length_by f (without_leaf ps n) + f w ≡ length_by f ps
   length_without f [] n w o e = cc e
   length_without f (p ∷ ps) n w o e = elim (cases_eq p.0 n) [
     | inl q ↦
         let t = eq-eqb p.0 n q in
         let h : Some p.1 ≡ Some w = sym (cond-true (eqb p.0 n) (Some p.1) (value_at ps n) t) ∙ e in
         let c : p.1 ≡ w = cc h in
-        let out : without_leaf (p ∷ ps) n ≡ ps = cond-true (eqb p.0 n) (without_leaf ps n) (p ∷ without_leaf ps n) t ∙ without_leaf_none ps n (omega (arith, o n, ap (λ z. same z n) q, same_refl n)) in
+        let out : without_leaf (p ∷ ps) n ≡ ps = cond-true (eqb p.0 n) (without_leaf ps n) (p ∷ without_leaf ps n) t
+        ∙ without_leaf_none ps n (omega (arith, o n, ap (λ z. same z n) q, same_refl n)) in
         omega (arith, ap (length_by f) out, ap f c)
     | inr d ↦
         let rest = length_without f ps n w (λ z. omega (arith, o z)) (sym (value_later p.0 p.1 ps n d) ∙ e) in

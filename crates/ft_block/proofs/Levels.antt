@@ -1,5 +1,6 @@
 -- Lemmas on the levels of a tree.
-use Rattle.std.proofs.Common.{◌≡◌, ◌≢◌, ℕ, zero, suc, ◌+◌, ◌-◌, ◌*◌, ◌^◌, ◌<◌, ◌≤◌, List, [], ◌∷◌, ◌++◌, length, Option, Some, None, IsSome, refl, sym, ap, subst, ◌∙◌, inl, inr, arith}
+use Rattle.std.proofs.Common.{◌≡◌, ◌≢◌, ℕ, zero, suc, ◌+◌, ◌-◌, ◌*◌, ◌^◌, ◌<◌, ◌≤◌, List, [], ◌∷◌, ◌++◌, length, Option, Some, None, IsSome, refl, sym, ap, subst, ◌∙◌}
+use Rattle.std.proofs.Common.{inl, inr, arith}
 use Rattle.std.proofs.lemmas.Bool.{cases_eq, cases_lt}
 use Rattle.std.proofs.lemmas.List.{length-append, append-nil}
 use Rattle.std.proofs.lemmas.Grind.{pow_more}
@@ -99,11 +100,17 @@ abbrev pub SumsUpTo : {L : Type 0} → Measure L → Forest L Summary → ℕ �
 SumsUpTo measure s j = (b : ℕ) → IsSome (block_value s b) → height_of s b ≤ j → length_of measure s b ≡ total (length_of measure s) (kids_of s b)
 
 module _ {L : Type 0} (measure : Measure L) (s : Forest L Summary) (root : ℕ) (extra : Option ℕ) {short : Option ℕ} (t : IsShape s root extra short) where
-  pub total_kids_up_to : (j : ℕ) (xs : List ℕ) → SumsUpTo measure s (suc j) → AllHigh s (suc j) xs → total (length_of measure s) (flat_map (kids_of s) xs) ≡ total (length_of measure s) xs
+  pub total_kids_up_to : (j : ℕ) (xs : List ℕ) → SumsUpTo measure s (suc j) → AllHigh s (suc j) xs
+      → total (length_of measure s) (flat_map (kids_of s) xs) ≡ total (length_of measure s) xs
   total_kids_up_to j [] sums h = refl
   total_kids_up_to j (x ∷ xs) sums h =
       let hx : height_of s x ≡ suc j = h x (omega (arith, same_refl x)) in
-      omega (arith, total-append (length_of measure s) (kids_of s x) (flat_map (kids_of s) xs), sums x (block_from_high s root extra t j x hx) (omega (arith, hx)), total_kids_up_to j xs sums (λ y m. h y (omega arith)))
+      omega (
+        arith,
+        total-append (length_of measure s) (kids_of s x) (flat_map (kids_of s) xs),
+        sums x (block_from_high s root extra t j x hx) (omega (arith, hx)),
+        total_kids_up_to j xs sums (λ y m. h y (omega arith)),
+      )
 
   -- the kept lengths of a level are those of its leaves together
   pub total_below_up_to : (j : ℕ) (xs : List ℕ) → SumsUpTo measure s j → AllHigh s j xs → total (length_of measure s) (below s j xs) ≡ total (length_of measure s) xs
@@ -126,7 +133,8 @@ module _ {L : Type 0} (measure : Measure L) (s : Forest L Summary) (root : ℕ) 
   total-below j xs h = total_below_up_to measure s root None t.shape j xs (λ b i _. all_sums b i) h
 
   -- what lies in the stretch of one node of a level lies among the leaves below it
-  pub seek-below : (j : ℕ) (xs : List ℕ) (p x q : ℕ) → AllHigh s j xs → 1 ≤ p → seek (length_of measure s) xs p ≡ Some (x, q) → seek (length_of measure s) (below s j xs) p ≡ seek (length_of measure s) (below s j (x ∷ [])) q
+  pub seek-below : (j : ℕ) (xs : List ℕ) (p x q : ℕ) → AllHigh s j xs → 1 ≤ p → seek (length_of measure s) xs p ≡ Some (x, q)
+      → seek (length_of measure s) (below s j xs) p ≡ seek (length_of measure s) (below s j (x ∷ [])) q
   seek-below j [] p x q h l e = cc
   seek-below j (y ∷ ys) p x q h l e =
       let f : ℕ → ℕ = length_of measure s in
@@ -135,12 +143,14 @@ module _ {L : Type 0} (measure : Measure L) (s : Forest L Summary) (root : ℕ) 
       let sum : total f (below s j (y ∷ [])) ≡ f y + 0 = total-below j (y ∷ []) one in
       elim (cases_lt (f y) p) [
         | inl g ↦
-            let r : seek f (below s j ys) (p - f y) ≡ seek f (below s j (x ∷ [])) q = seek-below j ys (p - f y) x q (λ z m. h z (omega arith)) (omega arith) (sym (seek_later f y ys p g) ∙ e) in
+            let r : seek f (below s j ys) (p - f y) ≡ seek f (below s j (x ∷ [])) q =
+            seek-below j ys (p - f y) x q (λ z m. h z (omega arith)) (omega arith) (sym (seek_later f y ys p g) ∙ e) in
             let m : p - total f (below s j (y ∷ [])) ≡ p - f y = omega (arith, sum) in
             ap (λ (zs : List ℕ). seek f zs p) apart ∙ seek-append_right f (below s j (y ∷ [])) (below s j ys) p (omega (arith, sum)) ∙ ap (seek f (below s j ys)) m ∙ r
         | inr g ↦
             let parts = some_pair_parts y x p q (sym (seek_here f y ys p g) ∙ e) in
-            ap (λ (zs : List ℕ). seek f zs p) apart ∙ seek-append_left f (below s j (y ∷ [])) (below s j ys) p l (omega (arith, sum)) ∙ ap (λ (z : ℕ). seek f (below s j (z ∷ [])) p) parts.0 ∙ ap (seek f (below s j (x ∷ []))) parts.1
+            ap (λ (zs : List ℕ). seek f zs p) apart ∙ seek-append_left f (below s j (y ∷ [])) (below s j ys) p l (omega (arith, sum))
+            ∙ ap (λ (z : ℕ). seek f (below s j (z ∷ [])) p) parts.0 ∙ ap (seek f (below s j (x ∷ []))) parts.1
       ]
 
   pub descends : (at child rest further : ℕ) → 1 ≤ rest → seek (length_of measure s) (kids_of s at) rest ≡ Some (child, further) → IsDescent measure s at child rest further
@@ -150,12 +160,14 @@ module _ {L : Type 0} (measure : Measure L) (s : Forest L Summary) (root : ℕ) 
       let high : height_of s at ≡ height_of s child + 1 = steps_down s root None t.shape at child m.member in
       let e : height_of s at ≡ suc (height_of s child) = omega (arith, high) in
       let kids : kids_of s at ++ [] ≡ kids_of s at = append-nil (kids_of s at) in
-      let all : AllHigh s (height_of s child) (kids_of s at ++ []) = λ k i. omega (arith, high, steps_down s root None t.shape at k (subst (λ (zs : List ℕ). 1 ≤ times zs k) kids i)) in
+      let all : AllHigh s (height_of s child) (kids_of s at ++ []) =
+      λ k i. omega (arith, high, steps_down s root None t.shape at k (subst (λ (zs : List ℕ). 1 ≤ times zs k) kids i)) in
       record {
         high = high;
         low = m.low;
         within = m.within;
-        same = ap (λ (h : ℕ). seek f (below s h (at ∷ [])) rest) e ∙ seek-below (height_of s child) (kids_of s at ++ []) rest child further all l (ap (λ (zs : List ℕ). seek f zs rest) kids ∙ found);
+        same = ap (λ (h : ℕ). seek f (below s h (at ∷ [])) rest) e
+            ∙ seek-below (height_of s child) (kids_of s at ++ []) rest child further all l (ap (λ (zs : List ℕ). seek f zs rest) kids ∙ found);
       }
 
   -- all leaves together are as long as the root says
@@ -168,7 +180,12 @@ module _ {L : Type 0} (s : Forest L Summary) (root : ℕ) (t : IsTree s root) wh
   kids_many j [] h n = omega arith
   kids_many j (x ∷ xs) h n =
       let m : 1 ≤ times (x ∷ xs) x = omega (arith, same_refl x) in
-      omega (arith, length-append (kids_of s x) (flat_map (kids_of s) xs), t.shape.half_full x (block_from_high s root None t.shape j x (h x m)) (n x m) (λ e. cc), kids_many j xs (λ y i. h y (omega arith)) (λ y i. n y (omega arith)))
+      omega (
+        arith,
+        length-append (kids_of s x) (flat_map (kids_of s) xs),
+        t.shape.half_full x (block_from_high s root None t.shape j x (h x m)) (n x m) (λ e. cc),
+        kids_many j xs (λ y i. h y (omega arith)) (λ y i. n y (omega arith)),
+      )
 
   not_root : (xs : List ℕ) (k : ℕ) → 1 ≤ times (flat_map (kids_of s) xs) k → k ≢ root
   not_root xs k m e =
@@ -183,7 +200,9 @@ module _ {L : Type 0} (s : Forest L Summary) (root : ℕ) (t : IsTree s root) wh
       let a : 4 * length xs ≤ length (flat_map (kids_of s) xs) = kids_many j xs h n in
       let b = below_many j (flat_map (kids_of s) xs) (kids_high s root None t.shape j xs h) (not_root xs) in
       let n : j + 1 ≡ suc j = omega arith in
-      subst (λ (m : ℕ). 4 ^ m * length xs ≤ length (below s (suc j) xs)) n (subst (λ (w : ℕ). w * length xs ≤ length (below s (suc j) xs)) (sym (pow_more 4 j)) (le_chain (4 ^ j) (length xs) (length (flat_map (kids_of s) xs)) (length (below s (suc j) xs)) a b))
+      subst (λ (m : ℕ). 4 ^ m * length xs ≤ length (below s (suc j) xs)) n
+      (subst (λ (w : ℕ). w * length xs ≤ length (below s (suc j) xs)) (sym (pow_more 4 j))
+      (le_chain (4 ^ j) (length xs) (length (flat_map (kids_of s) xs)) (length (below s (suc j) xs)) a b))
 
   -- a tree with d levels of blocks below its root has at least 4 ^ d leaves, or one less
   pub depth_bound : 4 ^ (height_of s root - 1) ≤ length s.leaves + 1

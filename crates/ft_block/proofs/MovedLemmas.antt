@@ -59,11 +59,13 @@ stays_after (y ∷ z ∷ zs) p x e o = elim (cases_eq y p) [
       let nox : times zs x ≡ 0 = omega (arith, o x, ap (λ w. same w x) b, same_refl x) in
       let nop : times zs p ≡ 0 = omega (arith, o p, ap (λ w. same w p) q, same_refl p) in
       let out : without (y ∷ z ∷ zs) x ≡ y ∷ zs = without_later y (z ∷ zs) x d ∙ ap (λ ws. y ∷ ws) (ap (λ w. without (w ∷ zs) x) b ∙ without_here zs x ∙ without_apart zs x nox) in
-      ap (λ ws. insert_after ws p x) out ∙ ap (λ w. insert_after (w ∷ zs) p x) q ∙ insert_after_head zs p x ∙ ap (λ ws. p ∷ x ∷ ws) (insert_after_none zs p x nop) ∙ ap (λ w. w ∷ x ∷ zs) (sym q) ∙ ap (λ w. y ∷ w ∷ zs) (sym b)
+      ap (λ ws. insert_after ws p x) out ∙ ap (λ w. insert_after (w ∷ zs) p x) q ∙ insert_after_head zs p x ∙ ap (λ ws. p ∷ x ∷ ws) (insert_after_none zs p x nop)
+      ∙ ap (λ w. w ∷ x ∷ zs) (sym q) ∙ ap (λ w. y ∷ w ∷ zs) (sym b)
   | inr n ↦
       let later : after (z ∷ zs) p ≡ Some x = sym (cond-false (eqb y p) _ _ (ne_eqb y p n)) ∙ e in
       let d : y ≢ x = (λ c. omega (arith, o x, ap (λ w. same w x) c, same_refl x, after_in (z ∷ zs) p x later)) in
-      ap (λ ws. insert_after ws p x) (without_later y (z ∷ zs) x d) ∙ insert_after_later y (without (z ∷ zs) x) p x n ∙ ap (λ ws. y ∷ ws) (stays_after (z ∷ zs) p x later (λ w. omega (arith, o w)))
+      ap (λ ws. insert_after ws p x) (without_later y (z ∷ zs) x d) ∙ insert_after_later y (without (z ∷ zs) x) p x n
+      ∙ ap (λ ws. y ∷ ws) (stays_after (z ∷ zs) p x later (λ w. omega (arith, o w)))
 ]
 
 pub stays_first : (xs : List ℕ) (x : ℕ) → Some x ≡ first xs → ((z : ℕ) → times xs z ≤ 1) → x ∷ without xs x ≡ xs
@@ -85,7 +87,8 @@ pub leaf_in : {L : Type 0} (s : Forest L Summary) → IsForest s → (x : ℕ) �
 leaf_in s f x h = omega (arith, f.leaf_once x, counted (leaf_value s x) h)
 
 -- a list in which one is moved is as long by any measure
-pub list_total : {L : Type 0} (s : Forest L Summary) → IsForest s → (f : ℕ → ℕ) (id : ℕ) (at : Option ℕ) → IsSome (leaf_value s id) → IsPlace s at → at ≢ Some id → total f (put_after (without s.leaves id) at id) ≡ total f s.leaves
+pub list_total : {L : Type 0} (s : Forest L Summary) → IsForest s → (f : ℕ → ℕ) (id : ℕ) (at : Option ℕ) → IsSome (leaf_value s id) → IsPlace s at → at ≢ Some id
+    → total f (put_after (without s.leaves id) at id) ≡ total f s.leaves
 list_total s g f id None live p d = omega (arith, total-without f s.leaves id (g.leaf_once id ∙ counted (leaf_value s id) live))
 list_total s g f id (Some at) live p d =
     let n : at ≢ id = (λ e. d (ap Some e)) in
@@ -116,7 +119,8 @@ module _ {L : Type 0} (s : Forest L Summary) (ls : List ℕ) (n : ℕ) where
       }
 
 -- s' has the nodes of s
-module _ {L : Type 0} (s s' : Forest L Summary) (root id at step : ℕ) (ed : List ℕ → List ℕ) (E : IsEdit step ed at id) (a : IsApart s root id None) (nodes : s'.nodes ≡ s.nodes) (forest : IsForest s') (leaves : s'.leaves ≡ ed (without s.leaves id)) (at_leaf : IsSome (leaf_value s at)) (differ : at ≢ id) where
+module _ {L : Type 0} (s s' : Forest L Summary) (root id at step : ℕ) (ed : List ℕ → List ℕ) (E : IsEdit step ed at id) (a : IsApart s root id None)
+    (nodes : s'.nodes ≡ s.nodes) (forest : IsForest s') (leaves : s'.leaves ≡ ed (without s.leaves id)) (at_leaf : IsSome (leaf_value s at)) (differ : at ≢ id) where
   mv_is : s' ≡ record { leaves = s'.leaves; nodes = s.nodes; spare = s'.spare }
   mv_is = ap (λ ns. same_with ns) nodes
     where
@@ -133,7 +137,8 @@ module _ {L : Type 0} (s s' : Forest L Summary) (root id at step : ℕ) (ed : Li
   mv_below j xs = ap (λ (z : Forest L Summary). below z j xs) mv_is ∙ rl_below s s'.leaves s'.spare j xs
 
   mv_shape : IsShape s' root (Some id) None
-  mv_shape = subst (λ (z : Forest L Summary). IsShape z root (Some id) None) (sym mv_is) (rl_shape s s'.leaves s'.spare root (Some id) None (subst (λ (z : Forest L Summary). IsForest z) mv_is forest) a.shape)
+  mv_shape = subst (λ (z : Forest L Summary). IsShape z root (Some id) None) (sym mv_is)
+      (rl_shape s s'.leaves s'.spare root (Some id) None (subst (λ (z : Forest L Summary). IsForest z) mv_is forest) a.shape)
 
   mv_at_low : height_of s at ≡ 0
   mv_at_low = leaf_height (entry s at) at_leaf
@@ -155,7 +160,8 @@ module _ {L : Type 0} (s s' : Forest L Summary) (root id at step : ℕ) (ed : Li
         leaves = (
             let e : height_of s' at ≡ 0 = mv_high at ∙ mv_at_low in
             let h : height_of s root ≡ height_of s' root - height_of s' at = omega (arith, e, mv_high root) in
-            leaves ∙ ap ed (a.leaves ∙ sym (mv_below (height_of s root) (root ∷ []))) ∙ ap (λ (n : ℕ). ed (below s' n (root ∷ []))) h ∙ ap (λ (n : ℕ). below s' n (ed (below s' (height_of s' root - height_of s' at) (root ∷ [])))) (sym e)
+            leaves ∙ ap ed (a.leaves ∙ sym (mv_below (height_of s root) (root ∷ []))) ∙ ap (λ (n : ℕ). ed (below s' n (root ∷ []))) h
+            ∙ ap (λ (n : ℕ). below s' n (ed (below s' (height_of s' root - height_of s' at) (root ∷ [])))) (sym e)
             );
       }
 
@@ -170,13 +176,20 @@ module _ {L : Type 0} (s s' : Forest L Summary) (root id at step : ℕ) (ed : Li
 
   -- the list is as long by any measure
   pub moved_total : (f : ℕ → ℕ) → times (without s.leaves id) at ≡ 1 → total f s'.leaves ≡ total f s.leaves
-  moved_total f one = omega (arith, ap (total f) leaves, E.totals f (without s.leaves id) one, total-without f s.leaves id (a.shape.forest.leaf_once id ∙ counted (leaf_value s id) a.live))
+  moved_total f one = omega (
+    arith,
+    ap (total f) leaves,
+    E.totals f (without s.leaves id) one,
+    total-without f s.leaves id (a.shape.forest.leaf_once id
+        ∙ counted (leaf_value s id) a.live),
+  )
 
   mv_one : times (without s.leaves id) at ≡ 1
   mv_one = times-without_other s.leaves id at differ ∙ a.shape.forest.leaf_once at ∙ counted (leaf_value s at) at_leaf
 
   pub moved_fits : (measure : Measure L) → total (length_of measure s') s'.leaves ≡ total (length_of measure s) s.leaves
-  moved_fits measure = moved_total (length_of measure s') mv_one ∙ total_same (length_of measure s) (length_of measure s') s.leaves (λ x m. ap (length_of_entry measure) (mv_entry x))
+  moved_fits measure = moved_total (length_of measure s') mv_one
+      ∙ total_same (length_of measure s) (length_of measure s') s.leaves (λ x m. ap (length_of_entry measure) (mv_entry x))
 
   module _ (measure : Measure L) (sums : SumsBut measure s None) where
     mv_sums : SumsBut measure s' None

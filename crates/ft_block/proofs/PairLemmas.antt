@@ -1,11 +1,13 @@
 -- What two neighbours leave that share their children, or of which one is joined to the other.
-use Rattle.std.proofs.Common.{◌≡◌, ◌≢◌, ℕ, zero, suc, ◌+◌, ◌≤◌, List, [], ◌∷◌, ◌++◌, length, insert, remove, slice_get, Option, Some, None, IsSome, refl, sym, ap, subst, ◌∙◌, inl, inr, arith, append-nil, append_assoc}
+use Rattle.std.proofs.Common.{◌≡◌, ◌≢◌, ℕ, zero, suc, ◌+◌, ◌≤◌, List, [], ◌∷◌, ◌++◌, length, insert, remove, slice_get, Option, Some, None, IsSome, refl, sym, ap, subst}
+use Rattle.std.proofs.Common.{◌∙◌, inl, inr, arith, append-nil, append_assoc}
 use Rattle.std.proofs.lemmas.Bool.{cases_eq}
 use Rattle.std.proofs.lemmas.List.{length-append}
 use Rattle.std.specs.List.{flat_map}
 use Rattle.std.proofs.Common.{Result, Ok, Err, OnOk}
 use Rattle.ft_arena.specs.Ids.{times, points, without}
-use Rattle.ft_arena.specs.Forest.{Forest, Entry, IsForest, Changes, TakesChild, entry, kids_of, parent_of, block_value, leaf_value, kids_of_entry, leaf_of_entry, block_of_entry, leaf_of_node, block_of_node}
+use Rattle.ft_arena.specs.Forest.{Forest, Entry, IsForest, Changes, TakesChild, entry, kids_of, parent_of, block_value, leaf_value, kids_of_entry, leaf_of_entry}
+use Rattle.ft_arena.specs.Forest.{block_of_entry, leaf_of_node, block_of_node}
 use Rattle.ft_arena.specs.declared.nodes.Node.{Node}
 use Rattle.ft_arena.specs.declared.nodes.Node.TheVariants.{Leaf, Block}
 use Rattle.ft_arena.proofs.IdLemmas.{same_other, times-append, times-without_same, times-without_other}
@@ -80,20 +82,27 @@ module _ {L : Type 0} (s : Forest L Summary) (up front rear : ℕ) (forest : IsF
   pr_rest x m e = omega (arith, m, ap (times (without (kids_of s up) rear)) e, times-without_same (kids_of s up) rear)
 
   -- the lengths of the two and of the others
-  module _ (measure : Measure L) (s' : Forest L Summary) (sums : SumsBut measure s None) (others : (x : ℕ) → IsSome (entry s x) → x ≢ front → x ≢ rear → length_of measure s' x ≡ length_of measure s x) where
+  module _ (measure : Measure L) (s' : Forest L Summary) (sums : SumsBut measure s None) (others : (x : ℕ) → IsSome (entry s x) → x ≢ front → x ≢ rear
+      → length_of measure s' x ≡ length_of measure s x) where
     pr_live : (b x : ℕ) → 1 ≤ times (kids_of s b) x → IsSome (entry s x)
     pr_live b x m = live_from_parent (entry s x) b (points_some (parent_of s x) b (omega (arith, m, forest.child_once b x)))
 
     -- the children of both are as long as before
     pr_both : total (length_of measure s') (kids_of s front ++ kids_of s rear) ≡ length_of measure s front + length_of measure s rear
     pr_both =
-        let f = total_same (length_of measure s) (length_of measure s') (kids_of s front) (λ x m. others x (pr_live front x m) (λ e. omega (arith, m, ap (times (kids_of s front)) e, pr_front_front)) (λ e. omega (arith, m, ap (times (kids_of s front)) e, pr_front_rear))) in
-        let r = total_same (length_of measure s) (length_of measure s') (kids_of s rear) (λ x m. others x (pr_live rear x m) (λ e. omega (arith, m, ap (times (kids_of s rear)) e, pr_rear_front)) (λ e. omega (arith, m, ap (times (kids_of s rear)) e, pr_rear_rear))) in
+        let f = total_same (length_of measure s) (length_of measure s') (kids_of s front)
+        (λ x m. others x (pr_live front x m) (λ e. omega (arith, m, ap (times (kids_of s front)) e, pr_front_front))
+        (λ e. omega (arith, m, ap (times (kids_of s front)) e, pr_front_rear))) in
+        let r = total_same (length_of measure s) (length_of measure s') (kids_of s rear)
+        (λ x m. others x (pr_live rear x m) (λ e. omega (arith, m, ap (times (kids_of s rear)) e, pr_rear_front))
+        (λ e. omega (arith, m, ap (times (kids_of s rear)) e, pr_rear_rear))) in
         omega (arith, total-append (length_of measure s') (kids_of s front) (kids_of s rear), f, r, sums front P.front_block (λ e. cc), sums rear P.rear_block (λ e. cc))
 
     -- those left of the block's children, in which the front one has a new length
-    pr_left : total (length_of measure s') (without (kids_of s up) rear) + length_of measure s front ≡ total (length_of measure s) (without (kids_of s up) rear) + length_of measure s' front
-    pr_left = total_change (length_of measure s) (length_of measure s') (without (kids_of s up) rear) front pr_rest_front (λ x m d. others x (pr_live up x (omega (arith, m, times-without_le (kids_of s up) rear x))) d (pr_rest x m))
+    pr_left : total (length_of measure s') (without (kids_of s up) rear) + length_of measure s front ≡ total (length_of measure s) (without (kids_of s up) rear) +
+        length_of measure s' front
+    pr_left = total_change (length_of measure s) (length_of measure s') (without (kids_of s up) rear) front pr_rest_front
+        (λ x m d. others x (pr_live up x (omega (arith, m, times-without_le (kids_of s up) rear x))) d (pr_rest x m))
 
     pr_whole : (f : ℕ → ℕ) → total f (kids_of s up) ≡ total f (without (kids_of s up) rear) + f rear
     pr_whole f = ap (total f) (sym P.order) ∙ (after_is_edit front rear).totals f (without (kids_of s up) rear) pr_rest_front
@@ -119,7 +128,8 @@ module _ {L : Type 0} (s : Forest L Summary) (up front rear : ℕ) (forest : IsF
     rg_up = r.other_kids up pr_up_front pr_up_rear
 
     -- the child that is taken out at the rear one's place is the rear one
-    pub mg_takes : (place : ℕ) → slice_get (kids_of s up) (place + 1) ≡ Some rear → (s2 : Forest L Summary) (k : ℕ) → slice_get (kids_of s1 up) (place + 1) ≡ Some k → TakesChild s1 s2 up (place + 1) k → TakesChild s1 s2 up (place + 1) rear
+    pub mg_takes : (place : ℕ) → slice_get (kids_of s up) (place + 1) ≡ Some rear → (s2 : Forest L Summary) (k : ℕ) → slice_get (kids_of s1 up) (place + 1) ≡ Some k
+        → TakesChild s1 s2 up (place + 1) k → TakesChild s1 s2 up (place + 1) rear
     mg_takes place e s2 k h t =
         let q : Some k ≡ Some rear = sym h ∙ ap (λ ks. slice_get ks (place + 1)) rg_up ∙ e in
         let is : k ≡ rear = cc q in
@@ -131,20 +141,39 @@ module _ {L : Type 0} (s : Forest L Summary) (up front rear : ℕ) (forest : IsF
     pub mg_drop_block : (s2 : Forest L Summary) (place : ℕ) → TakesChild s1 s2 up (place + 1) rear → IsSome (block_value s2 rear)
     mg_drop_block s2 place t = subst (λ (o : Option Summary). IsSome o) (sym (t.block_values rear ∙ r.block_values rear)) P.rear_block
 
-    pub mg_drop_empty : (s2 : Forest L Summary) (place : ℕ) → TakesChild s1 s2 up (place + 1) rear → want ≡ length (kids_of s front) + length (kids_of s rear) → kids_of s2 rear ≡ []
+    pub mg_drop_empty : (s2 : Forest L Summary) (place : ℕ) → TakesChild s1 s2 up (place + 1) rear → want ≡ length (kids_of s front) + length (kids_of s rear)
+        → kids_of s2 rear ≡ []
     mg_drop_empty s2 place t all =
-        t.other_kids rear (λ e. pr_up_rear (sym e)) ∙ no_kids (kids_of s1 rear) (omega (arith, ap length r.joined, length-append (kids_of s1 front) (kids_of s1 rear), length-append (kids_of s front) (kids_of s rear), r.count, all))
+        t.other_kids rear (λ e. pr_up_rear (sym e))
+        ∙ no_kids (kids_of s1 rear) (omega (
+          arith,
+          ap length r.joined,
+          length-append (kids_of s1 front) (kids_of s1 rear),
+          length-append (kids_of s front)
+              (kids_of s rear),
+          r.count,
+          all,
+        ))
 
     module _ (measure : Measure L) (sums : SumsBut measure s None) where
       rg_length : (x : ℕ) → length_of measure s1 x ≡ length_of measure s x
       rg_length x = length_from_values measure (entry s x) (entry s1 x) (r.leaf_values x) (r.block_values x)
 
       pub rg_total : total (length_of measure s1) (kids_of s1 front) + total (length_of measure s1) (kids_of s1 rear) ≡ length_of measure s front + length_of measure s rear
-      rg_total = omega (arith, total-append (length_of measure s1) (kids_of s1 front) (kids_of s1 rear), ap (total (length_of measure s1)) r.joined, pr_both measure s1 sums (λ x _ _ _. rg_length x))
+      rg_total = omega (
+        arith,
+        total-append (length_of measure s1) (kids_of s1 front) (kids_of s1 rear),
+        ap (total (length_of measure s1)) r.joined,
+        pr_both measure s1
+            sums (λ x _ _ _. rg_length x),
+      )
 
       -- also once the front one is made again
-      pub rg_rear_total : (s2 : Forest L Summary) → SameShape s1 s2 → Resums measure s1 s2 front → total (length_of measure s2) (kids_of s2 rear) ≡ total (length_of measure s1) (kids_of s1 rear)
-      rg_rear_total s2 q u = ap (total (length_of measure s2)) (q.kids rear) ∙ total_same (length_of measure s1) (length_of measure s2) (kids_of s1 rear) (λ x m. u.others x (λ e. omega (arith, m, ap (times (kids_of s1 rear)) e, rg_rear_front)))
+      pub rg_rear_total : (s2 : Forest L Summary) → SameShape s1 s2 → Resums measure s1 s2 front
+          → total (length_of measure s2) (kids_of s2 rear) ≡ total (length_of measure s1) (kids_of s1 rear)
+      rg_rear_total s2 q u = ap (total (length_of measure s2)) (q.kids rear)
+          ∙ total_same (length_of measure s1) (length_of measure s2) (kids_of s1 rear)
+          (λ x m. u.others x (λ e. omega (arith, m, ap (times (kids_of s1 rear)) e, rg_rear_front)))
 
   -- the children shared anew
   module _ (s1 s2 s3 : Forest L Summary) (want : ℕ) (r : Regroups s s1 front rear want) (q1 : SameShape s1 s2) (q2 : SameShape s2 s3) where
@@ -162,7 +191,8 @@ module _ {L : Type 0} (s : Forest L Summary) (up front rear : ℕ) (forest : IsF
 
     bl_levels : flat_map (kids_of s3) (kids_of s3 up) ≡ flat_map (kids_of s) (kids_of s up)
     bl_levels =
-        ap (flat_map (kids_of s3)) (bl_up ∙ sym P.order) ∙ shared (kids_of s) (kids_of s3) (without (kids_of s up) rear) front rear bl_joined (λ x m d. bl_kids x ∙ r.other_kids x d (pr_rest x m)) ∙ ap (flat_map (kids_of s)) P.order
+        ap (flat_map (kids_of s3)) (bl_up ∙ sym P.order) ∙ shared (kids_of s) (kids_of s3) (without (kids_of s up) rear) front rear bl_joined (λ x m d. bl_kids x
+        ∙ r.other_kids x d (pr_rest x m)) ∙ ap (flat_map (kids_of s)) P.order
 
     pub balanced_up : kids_of s3 up ≡ kids_of s up
     balanced_up = bl_up
@@ -181,7 +211,16 @@ module _ {L : Type 0} (s : Forest L Summary) (up front rear : ℕ) (forest : IsF
           up_levels = bl_levels;
           up_filled = omega (arith, ap length bl_up, filled_by (kids_of s up) front pr_front_once);
           front_many = omega (arith, ap length (bl_kids front), r.count, low);
-          rear_many = λ _. omega (arith, ap length (bl_kids front), ap length bl_joined, length-append (kids_of s3 front) (kids_of s3 rear), length-append (kids_of s front) (kids_of s rear), r.count, high);
+          rear_many = λ _. omega (
+            arith,
+            ap length (bl_kids front),
+            ap length bl_joined,
+            length-append (kids_of s3 front) (kids_of s3 rear),
+            length-append
+                (kids_of s front) (kids_of s rear),
+            r.count,
+            high,
+          );
         }
 
     module _ (measure : Measure L) (sums : SumsBut measure s None) (u1 : Resums measure s1 s2 front) (u2 : Resums measure s2 s3 rear) where
@@ -193,7 +232,15 @@ module _ {L : Type 0} (s : Forest L Summary) (up front rear : ℕ) (forest : IsF
 
       bl_front_sum : length_of measure s3 front ≡ total (length_of measure s3) (kids_of s3 front)
       bl_front_sum =
-          u2.others front P.differ ∙ u1.sum ∙ sym (total_same (length_of measure s2) (length_of measure s3) (kids_of s2 front) (λ x m. u2.others x (λ e. omega (arith, m, ap (times (kids_of s2 front)) e, ap (λ ks. times ks rear) (q1.kids front), bl_none rear pr_front_rear pr_rear_rear)))) ∙ ap (total (length_of measure s3)) (sym (q2.kids front))
+          u2.others front P.differ ∙ u1.sum ∙ sym (total_same (length_of measure s2) (length_of measure s3) (kids_of s2 front)
+          (λ x m. u2.others x (λ e. omega (
+            arith,
+            m,
+            ap (times (kids_of s2 front)) e,
+            ap (λ ks. times ks rear) (q1.kids front),
+            bl_none rear pr_front_rear
+                pr_rear_rear,
+          )))) ∙ ap (total (length_of measure s3)) (sym (q2.kids front))
 
       pub balanced_sums : ResumsPair measure s s3 up front rear
       balanced_sums =
@@ -202,11 +249,26 @@ module _ {L : Type 0} (s : Forest L Summary) (up front rear : ℕ) (forest : IsF
             others = λ x _ f g. bl_others x f g;
             front_sum = bl_front_sum;
             rear_sum = λ _. u2.sum;
-            up_sum = omega (arith, ap (total (length_of measure s3)) bl_up, pr_whole measure s3 sums o (length_of measure s3), pr_whole measure s3 sums o (length_of measure s), pr_left measure s3 sums o, pr_both measure s3 sums o, bl_front_sum, u2.sum, total-append (length_of measure s3) (kids_of s3 front) (kids_of s3 rear), ap (total (length_of measure s3)) bl_joined);
+            up_sum = omega (
+              arith,
+              ap (total (length_of measure s3)) bl_up,
+              pr_whole measure s3 sums o (length_of measure s3),
+              pr_whole measure s3 sums o
+                  (length_of measure s),
+              pr_left measure s3 sums o,
+              pr_both measure s3 sums o,
+              bl_front_sum,
+              u2.sum,
+              total-append (length_of measure s3) (kids_of s3 front)
+                  (kids_of s3 rear),
+              ap (total (length_of measure s3)) bl_joined,
+            );
           }
 
   -- the rear one joined to the front one, and gone
-  module _ (s1 s2 s3 s4 : Forest L Summary) (want place : ℕ) (place_is : slice_get (kids_of s up) (place + 1) ≡ Some rear) (all : want ≡ length (kids_of s front) + length (kids_of s rear)) (r : Regroups s s1 front rear want) (l2 : s2.leaves ≡ s1.leaves) (t : TakesChild s1 s2 up (place + 1) rear) (l3 : s3.leaves ≡ s2.leaves) (c : Changes s2 s3 rear None) (q : SameShape s3 s4) where
+  module _ (s1 s2 s3 s4 : Forest L Summary) (want place : ℕ) (place_is : slice_get (kids_of s up) (place + 1) ≡ Some rear)
+      (all : want ≡ length (kids_of s front) + length (kids_of s rear)) (r : Regroups s s1 front rear want) (l2 : s2.leaves ≡ s1.leaves)
+      (t : TakesChild s1 s2 up (place + 1) rear) (l3 : s3.leaves ≡ s2.leaves) (c : Changes s2 s3 rear None) (q : SameShape s3 s4) where
     mg_values_leaf : (x : ℕ) → leaf_value s2 x ≡ leaf_value s x
     mg_values_leaf x = t.leaf_values x ∙ r.leaf_values x
 
@@ -214,7 +276,8 @@ module _ {L : Type 0} (s : Forest L Summary) (up front rear : ℕ) (forest : IsF
     mg_values_block x = t.block_values x ∙ r.block_values x
 
     mg_rear_kids1 : kids_of s1 rear ≡ []
-    mg_rear_kids1 = no_kids (kids_of s1 rear) (omega (arith, ap length r.joined, length-append (kids_of s1 front) (kids_of s1 rear), length-append (kids_of s front) (kids_of s rear), r.count, all))
+    mg_rear_kids1 = no_kids (kids_of s1 rear)
+        (omega (arith, ap length r.joined, length-append (kids_of s1 front) (kids_of s1 rear), length-append (kids_of s front) (kids_of s rear), r.count, all))
 
     pub mg_rear_empty : kids_of s2 rear ≡ []
     mg_rear_empty = t.other_kids rear (λ e. pr_up_rear (sym e)) ∙ mg_rear_kids1
@@ -233,7 +296,8 @@ module _ {L : Type 0} (s : Forest L Summary) (up front rear : ℕ) (forest : IsF
 
     mg_front : kids_of s4 front ≡ kids_of s front ++ kids_of s rear
     mg_front =
-        q.kids front ∙ ap kids_of_entry (c.others front P.differ) ∙ t.other_kids front (λ e. pr_up_front (sym e)) ∙ sym (append-nil (kids_of s1 front)) ∙ ap (λ zs. kids_of s1 front ++ zs) (sym mg_rear_kids1) ∙ r.joined
+        q.kids front ∙ ap kids_of_entry (c.others front P.differ) ∙ t.other_kids front (λ e. pr_up_front (sym e)) ∙ sym (append-nil (kids_of s1 front))
+        ∙ ap (λ zs. kids_of s1 front ++ zs) (sym mg_rear_kids1) ∙ r.joined
 
     mg_rear : kids_of s4 rear ≡ []
     mg_rear = q.kids rear ∙ ap kids_of_entry mg_rear_dead
@@ -242,7 +306,8 @@ module _ {L : Type 0} (s : Forest L Summary) (up front rear : ℕ) (forest : IsF
     mg_other x u f g = q.kids x ∙ ap kids_of_entry (c.others x g) ∙ t.other_kids x u ∙ r.other_kids x f g
 
     mg_up : kids_of s4 up ≡ without (kids_of s up) rear
-    mg_up = q.kids up ∙ ap kids_of_entry (c.others up pr_up_rear) ∙ t.kids ∙ ap (λ ks. remove ks (place + 1)) (r.other_kids up pr_up_front pr_up_rear) ∙ remove_is_without (kids_of s up) (place + 1) rear place_is pr_rear_once
+    mg_up = q.kids up ∙ ap kids_of_entry (c.others up pr_up_rear) ∙ t.kids ∙ ap (λ ks. remove ks (place + 1)) (r.other_kids up pr_up_front pr_up_rear)
+        ∙ remove_is_without (kids_of s up) (place + 1) rear place_is pr_rear_once
 
     pub merged : 4 ≤ want → Shares s s4 up front rear
     merged low =
@@ -255,7 +320,9 @@ module _ {L : Type 0} (s : Forest L Summary) (up front rear : ℕ) (forest : IsF
           joined = ap (λ zs. kids_of s4 front ++ zs) mg_rear ∙ append-nil (kids_of s4 front) ∙ mg_front;
           other_kids = mg_other;
           up_kids = λ x h. ap (λ ks. times ks x) mg_up ∙ times-without_other (kids_of s up) rear x (mg_dead x h);
-          up_levels = ap (flat_map (kids_of s4)) mg_up ∙ sym (flat_map-insert_after (kids_of s) (kids_of s4) (without (kids_of s up) rear) front rear mg_front (λ x m d. mg_other x (mg_not_up x m) d (pr_rest x m))) ∙ ap (flat_map (kids_of s)) P.order;
+          up_levels = ap (flat_map (kids_of s4)) mg_up
+              ∙ sym (flat_map-insert_after (kids_of s) (kids_of s4) (without (kids_of s up) rear) front rear mg_front
+              (λ x m d. mg_other x (mg_not_up x m) d (pr_rest x m))) ∙ ap (flat_map (kids_of s)) P.order;
           up_filled = omega (arith, ap length mg_up, filled_by (without (kids_of s up) rear) front pr_rest_front);
           front_many = omega (arith, ap length mg_front, length-append (kids_of s front) (kids_of s rear), all, low);
           rear_many = λ h. absurd (mg_dead rear h refl);
@@ -263,7 +330,8 @@ module _ {L : Type 0} (s : Forest L Summary) (up front rear : ℕ) (forest : IsF
       where
         mg_leaf3 : (x : ℕ) → leaf_value s3 x ≡ leaf_value s2 x
         mg_leaf3 x = elim (cases_eq x rear) [
-          | inl e ↦ ap (leaf_value s3) e ∙ ap leaf_of_entry mg_rear_dead ∙ sym (block_no_leaf s2 rear (subst (λ (o : Option Summary). IsSome o) (sym (mg_values_block rear)) P.rear_block)) ∙ ap (leaf_value s2) (sym e)
+          | inl e ↦ ap (leaf_value s3) e ∙ ap leaf_of_entry mg_rear_dead
+              ∙ sym (block_no_leaf s2 rear (subst (λ (o : Option Summary). IsSome o) (sym (mg_values_block rear)) P.rear_block)) ∙ ap (leaf_value s2) (sym e)
           | inr d ↦ ap leaf_of_entry (c.others x d)
         ]
 
@@ -283,11 +351,22 @@ module _ {L : Type 0} (s : Forest L Summary) (up front rear : ℕ) (forest : IsF
             others = λ x _ f g. mg_others x f g;
             front_sum = u.sum;
             rear_sum = λ h. absurd (mg_dead rear h refl);
-            up_sum = omega (arith, ap (total (length_of measure s4)) mg_up, pr_whole measure s4 sums o (length_of measure s), pr_left measure s4 sums o, pr_both measure s4 sums o, u.sum, ap (total (length_of measure s4)) mg_front);
+            up_sum = omega (
+              arith,
+              ap (total (length_of measure s4)) mg_up,
+              pr_whole measure s4 sums o (length_of measure s),
+              pr_left measure s4 sums o,
+              pr_both measure
+                  s4 sums o,
+              u.sum,
+              ap (total (length_of measure s4)) mg_front,
+            );
           }
 
 -- before the front one is made again
-module _ {L : Type 0} (s : Forest L Summary) (up front rear : ℕ) (forest : IsForest s) (P : IsPair s up front rear) (s1 s2 s3 : Forest L Summary) (want place : ℕ) (all : want ≡ length (kids_of s front) + length (kids_of s rear)) (r : Regroups s s1 front rear want) (t : TakesChild s1 s2 up (place + 1) rear) (c : Changes s2 s3 rear None) where
+module _ {L : Type 0} (s : Forest L Summary) (up front rear : ℕ) (forest : IsForest s) (P : IsPair s up front rear) (s1 s2 s3 : Forest L Summary) (want place : ℕ)
+    (all : want ≡ length (kids_of s front) + length (kids_of s rear)) (r : Regroups s s1 front rear want) (t : TakesChild s1 s2 up (place + 1) rear)
+    (c : Changes s2 s3 rear None) where
   pub md_block : IsSome (block_value s3 front)
   md_block = subst (λ (o : Option Summary). IsSome o) (sym (ap block_of_entry (c.others front P.differ) ∙ t.block_values front ∙ r.block_values front)) P.front_block
 
@@ -305,8 +384,16 @@ module _ {L : Type 0} (s : Forest L Summary) (up front rear : ℕ) (forest : IsF
 
   pub md_total : (measure : Measure L) → SumsBut measure s None → total (length_of measure s3) (kids_of s3 front) ≤ length_of measure s front + length_of measure s rear
   md_total measure sums =
-      let same_length : (x : ℕ) → x ≢ rear → length_of measure s3 x ≡ length_of measure s1 x = λ x d. ap (length_of_entry measure) (c.others x d) ∙ length_from_values measure (entry s1 x) (entry s2 x) (t.leaf_values x) (t.block_values x) in
-      omega (arith, ap (total (length_of measure s3)) md_front, total_same (length_of measure s1) (length_of measure s3) (kids_of s1 front) (λ x m. same_length x (λ e. omega (arith, m, ap (times (kids_of s1 front)) e, rg_front_rear s up front rear forest P s1 want r))), rg_total s up front rear forest P s1 want r measure sums)
+      let same_length : (x : ℕ) → x ≢ rear → length_of measure s3 x ≡ length_of measure s1 x =
+      λ x d. ap (length_of_entry measure) (c.others x d) ∙ length_from_values measure (entry s1 x) (entry s2 x) (t.leaf_values x) (t.block_values x) in
+      omega (
+        arith,
+        ap (total (length_of measure s3)) md_front,
+        total_same (length_of measure s1) (length_of measure s3) (kids_of s1 front)
+            (λ x m. same_length x (λ e. omega (arith, m, ap (times (kids_of s1 front)) e, rg_front_rear s up front rear forest P s1 want r))),
+        rg_total s up front rear
+            forest P s1 want r measure sums,
+      )
 
 -- one child moves from the head of the rear one to the end of the front one, or back
 head_of : (ys : List ℕ) (k : ℕ) → slice_get ys 0 ≡ Some k → ys ≡ k ∷ remove ys 0
@@ -314,7 +401,8 @@ head_of [] k e = cc
 head_of (y ∷ ys) k e = let q : y ≡ k = cc e in ap (λ z. z ∷ ys) q
 
 pub head_moved : (xs ys : List ℕ) (n k : ℕ) → n ≡ length xs → slice_get ys 0 ≡ Some k → insert xs n k ++ remove ys 0 ≡ xs ++ ys
-head_moved xs ys n k e h = ap (λ (m : ℕ). insert xs m k ++ remove ys 0) e ∙ ap (λ zs. zs ++ remove ys 0) (insert_end xs k) ∙ append_assoc xs (k ∷ []) (remove ys 0) ∙ ap (λ zs. xs ++ zs) (sym (head_of ys k h))
+head_moved xs ys n k e h = ap (λ (m : ℕ). insert xs m k ++ remove ys 0) e ∙ ap (λ zs. zs ++ remove ys 0) (insert_end xs k) ∙ append_assoc xs (k ∷ []) (remove ys 0)
+    ∙ ap (λ zs. xs ++ zs) (sym (head_of ys k h))
 
 pub last_moved : (xs ys : List ℕ) (i k : ℕ) → i + 1 ≡ length xs → slice_get xs i ≡ Some k → remove xs i ++ (k ∷ ys) ≡ xs ++ ys
 last_moved [] ys i k e h = cc

@@ -1,5 +1,6 @@
 -- What stands before a number of a list, along the list and level by level.
-use Rattle.std.proofs.Common.{◌≡◌, ◌≢◌, ℕ, suc, ◌+◌, ◌-◌, ◌≤◌, List, [], ◌∷◌, ◌++◌, Option, Some, None, IsSome, refl, sym, ap, subst, ◌∙◌, inl, inr, arith, true, false, cond, eqb, append_assoc}
+use Rattle.std.proofs.Common.{◌≡◌, ◌≢◌, ℕ, suc, ◌+◌, ◌-◌, ◌≤◌, List, [], ◌∷◌, ◌++◌, Option, Some, None, IsSome, refl, sym, ap, subst, ◌∙◌, inl, inr, arith, true, false}
+use Rattle.std.proofs.Common.{cond, eqb, append_assoc}
 use Rattle.std.proofs.lemmas.Bool.{cases_eq, cond-true, cond-false, eq-eqb, ne_eqb, eqb-true, eqb-false}
 use Rattle.std.specs.Option.{option_eq}
 use Rattle.std.specs.List.{flat_map}
@@ -49,14 +50,17 @@ before-append_out (z ∷ zs) ys x m =
     before_later z (zs ++ ys) x d ∙ ap (λ ws. z ∷ ws) (before-append_out zs ys x (omega arith))
 
 -- before a child on its level stand the children of the blocks before its block, then those before it in its block
-before-flat_map : (k : ℕ → List ℕ) (xs : List ℕ) (p x : ℕ) → 1 ≤ times xs p → 1 ≤ times (k p) x → ((y : ℕ) → y ≢ p → times (k y) x ≡ 0) → before (flat_map k xs) x ≡ flat_map k (before xs p) ++ before (k p) x
+before-flat_map : (k : ℕ → List ℕ) (xs : List ℕ) (p x : ℕ) → 1 ≤ times xs p → 1 ≤ times (k p) x → ((y : ℕ) → y ≢ p → times (k y) x ≡ 0)
+    → before (flat_map k xs) x ≡ flat_map k (before xs p) ++ before (k p) x
 before-flat_map k [] p x m n o = absurd (omega arith)
 before-flat_map k (y ∷ ys) p x m n o = elim (cases_eq y p) [
   | inl e ↦
       let n' : 1 ≤ times (k y) x = subst (λ (z : ℕ). 1 ≤ times (k z) x) (sym e) n in
-      subst (λ (w : ℕ). before (flat_map k (y ∷ ys)) x ≡ flat_map k (before (y ∷ ys) w) ++ before (k w) x) e (before-append_in (k y) (flat_map k ys) x n' ∙ sym (ap (λ ws. flat_map k ws ++ before (k y) x) (before_here y ys)))
+      subst (λ (w : ℕ). before (flat_map k (y ∷ ys)) x ≡ flat_map k (before (y ∷ ys) w) ++ before (k w) x) e (before-append_in (k y) (flat_map k ys) x n'
+      ∙ sym (ap (λ ws. flat_map k ws ++ before (k y) x) (before_here y ys)))
   | inr d ↦
-      before-append_out (k y) (flat_map k ys) x (o y d) ∙ ap (λ ws. k y ++ ws) (before-flat_map k ys p x (omega (arith, same_other y p d)) n o) ∙ sym (append_assoc (k y) (flat_map k (before ys p)) (before (k p) x)) ∙ sym (ap (λ ws. flat_map k ws ++ before (k p) x) (before_later y ys p d))
+      before-append_out (k y) (flat_map k ys) x (o y d) ∙ ap (λ ws. k y ++ ws) (before-flat_map k ys p x (omega (arith, same_other y p d)) n o)
+      ∙ sym (append_assoc (k y) (flat_map k (before ys p)) (before (k p) x)) ∙ sym (ap (λ ws. flat_map k ws ++ before (k p) x) (before_later y ys p d))
 ]
 
 -- a block's child is live
@@ -80,23 +84,47 @@ module _ {L : Type 0} (measure : Measure L) (s : Forest L Summary) (root : ℕ) 
   po_elsewhere y d = t.shape.forest.child_once y at ∙ ap (λ o. points o y) up ∙ same_other p y (λ e. d (sym e))
 
   -- one level up, what stands before the node is what stands before its block, and the children before it
-  pub before_up : total (length_of measure s) (before (below s (height_of s root - height_of s at) (root ∷ [])) at) ≡ total (length_of measure s) (before (below s (height_of s root - height_of s p) (root ∷ [])) p) + total (length_of measure s) (before (kids_of s p) at)
+  pub before_up : total (length_of measure s) (before (below s (height_of s root - height_of s at) (root ∷ [])) at) ≡ total (length_of measure s)
+      (before (below s (height_of s root - height_of s p) (root ∷ [])) p) + total (length_of measure s) (before (kids_of s p) at)
   before_up =
       let f : ℕ → ℕ = length_of measure s in
       let e : height_of s root - height_of s at ≡ height_of s root - height_of s p + 1 = omega (arith, po_high, po_low) in
-      let level : below s (height_of s root - height_of s at) (root ∷ []) ≡ flat_map (kids_of s) (below s (height_of s root - height_of s p) (root ∷ [])) = ap (λ (n : ℕ). below s n (root ∷ [])) e ∙ sym (below-below s 1 (height_of s root - height_of s p) (root ∷ [])) in
-      let there : 1 ≤ times (below s (height_of s root - height_of s p) (root ∷ [])) p = on_level s root None t.shape (height_of s root - height_of s p) p (block_live (entry s p) po_block) (λ y k e. cc e) (omega (arith, po_low)) in
-      let high : AllHigh s (suc (height_of s at)) (before (below s (height_of s root - height_of s p) (root ∷ [])) p) = λ x m. omega (arith, below_high s (height_of s root - height_of s p) (height_of s root) (root ∷ []) (steps_down s root None t.shape) (root_high s root) x (omega (arith, m, times-before_le (below s (height_of s root - height_of s p) (root ∷ [])) p x)), po_high, po_low) in
-      let parts : before (flat_map (kids_of s) (below s (height_of s root - height_of s p) (root ∷ []))) at ≡ flat_map (kids_of s) (before (below s (height_of s root - height_of s p) (root ∷ [])) p) ++ before (kids_of s p) at = before-flat_map (kids_of s) (below s (height_of s root - height_of s p) (root ∷ [])) p at there po_child po_elsewhere in
-      let kids : total f (flat_map (kids_of s) (before (below s (height_of s root - height_of s p) (root ∷ [])) p)) ≡ total f (before (below s (height_of s root - height_of s p) (root ∷ [])) p) = total_kids_up_to measure s root None t.shape (height_of s at) (before (below s (height_of s root - height_of s p) (root ∷ [])) p) (λ b h _. sums b h (λ q. cc)) high in
-      omega (arith, ap (λ zs. total f (before zs at)) level, ap (total f) parts, total-append f (flat_map (kids_of s) (before (below s (height_of s root - height_of s p) (root ∷ [])) p)) (before (kids_of s p) at), kids)
+      let level : below s (height_of s root - height_of s at) (root ∷ []) ≡ flat_map (kids_of s) (below s (height_of s root - height_of s p) (root ∷ [])) =
+      ap (λ (n : ℕ). below s n (root ∷ [])) e ∙ sym (below-below s 1 (height_of s root - height_of s p) (root ∷ [])) in
+      let there : 1 ≤ times (below s (height_of s root - height_of s p) (root ∷ [])) p =
+      on_level s root None t.shape (height_of s root - height_of s p) p (block_live (entry s p) po_block) (λ y k e. cc e) (omega (arith, po_low)) in
+      let high : AllHigh s (suc (height_of s at)) (before (below s (height_of s root - height_of s p) (root ∷ [])) p) =
+      λ x m. omega (
+        arith,
+        below_high s (height_of s root - height_of s p) (height_of s root) (root ∷ []) (steps_down s root None t.shape) (root_high s root) x
+            (omega (arith, m, times-before_le (below s (height_of s root - height_of s p) (root ∷ [])) p x)),
+        po_high,
+        po_low,
+      ) in
+      let parts : before (flat_map (kids_of s) (below s (height_of s root - height_of s p) (root ∷ []))) at ≡ flat_map (kids_of s)
+      (before (below s (height_of s root - height_of s p) (root ∷ [])) p) ++ before (kids_of s p) at =
+      before-flat_map (kids_of s) (below s (height_of s root - height_of s p) (root ∷ [])) p at there po_child po_elsewhere in
+      let kids : total f (flat_map (kids_of s) (before (below s (height_of s root - height_of s p) (root ∷ [])) p)) ≡ total f
+      (before (below s (height_of s root - height_of s p) (root ∷ [])) p) =
+      total_kids_up_to measure s root None t.shape (height_of s at) (before (below s (height_of s root - height_of s p) (root ∷ [])) p)
+      (λ b h _. sums b h (λ q. cc)) high in
+      omega (
+        arith,
+        ap (λ zs. total f (before zs at)) level,
+        ap (total f) parts,
+        total-append f
+            (flat_map (kids_of s) (before (below s (height_of s root - height_of s p) (root ∷ [])) p)) (before (kids_of s p) at),
+        kids,
+      )
 
 -- before the root stands nothing on its level
-pub before_top : {L : Type 0} (measure : Measure L) (s : Forest L Summary) (root : ℕ) → IsTree s root → (at : ℕ) → IsSome (entry s at) → parent_of s at ≡ None → total (length_of measure s) (before (below s (height_of s root - height_of s at) (root ∷ [])) at) ≡ 0
+pub before_top : {L : Type 0} (measure : Measure L) (s : Forest L Summary) (root : ℕ) → IsTree s root → (at : ℕ) → IsSome (entry s at) → parent_of s at ≡ None
+    → total (length_of measure s) (before (below s (height_of s root - height_of s at) (root ∷ [])) at) ≡ 0
 before_top measure s root t at live top = elim (cases_eq at root) [
   | inl e ↦
       let gap : height_of s root - height_of s root ≡ 0 = omega arith in
-      let here : total (length_of measure s) (before (below s (height_of s root - height_of s root) (root ∷ [])) root) ≡ 0 = ap (λ (n : ℕ). total (length_of measure s) (before (below s n (root ∷ [])) root)) gap ∙ ap (total (length_of measure s)) (before_here root []) in
+      let here : total (length_of measure s) (before (below s (height_of s root - height_of s root) (root ∷ [])) root) ≡ 0 =
+      ap (λ (n : ℕ). total (length_of measure s) (before (below s n (root ∷ [])) root)) gap ∙ ap (total (length_of measure s)) (before_here root []) in
       subst (λ (z : ℕ). total (length_of measure s) (before (below s (height_of s root - height_of s z) (root ∷ [])) z) ≡ 0) (sym e) here
   | inr d ↦ absurd (let b = some_of (parent_of s at) (t.shape.one_top at live d (λ e. cc e)) in cc (b.1, top))
 ]
@@ -163,7 +191,8 @@ from_step (y ∷ ys) x once m = elim (cases_eq y x) [
   | inr d ↦
       let a : after (y ∷ ys) x ≡ after ys x = after_later y ys x d in
       let apart : (z : ℕ) → after ys x ≡ Some z → y ≢ z = λ z f q. omega (arith, once y, same_refl y, ap (times ys) q, after_in ys x z f) in
-      suffix_later y ys x d ∙ from_step ys x (λ z. omega (arith, once z)) (omega (arith, same_other y x d)) ∙ ap (λ zs. x ∷ zs) (sym (ap (from (y ∷ ys)) a ∙ from_later y ys (after ys x) apart))
+      suffix_later y ys x d ∙ from_step ys x (λ z. omega (arith, once z)) (omega (arith, same_other y x d))
+      ∙ ap (λ zs. x ∷ zs) (sym (ap (from (y ∷ ys)) a ∙ from_later y ys (after ys x) apart))
 ]
 
 pub up_to_here : (x : ℕ) (xs : List ℕ) (end : Option ℕ) → end ≡ Some x → up_to (x ∷ xs) end ≡ []

@@ -27,6 +27,8 @@ module _ {L : Type 0} where
       }
 
   -- no length of a node changes when a child is put into a block
-  pub put_total : (measure : Measure L) (old mid : Forest L Summary) (block i id : ℕ) → PutsChild old mid block i id → total (length_of measure mid) (kids_of mid block) ≡ total (length_of measure old) (insert (kids_of old block) i id)
+  pub put_total : (measure : Measure L) (old mid : Forest L Summary) (block i id : ℕ) → PutsChild old mid block i id
+      → total (length_of measure mid) (kids_of mid block) ≡ total (length_of measure old) (insert (kids_of old block) i id)
   put_total measure old mid block i id p =
-      total_same (length_of measure old) (length_of measure mid) (kids_of mid block) (λ x m. length_from_values measure (entry old x) (entry mid x) (p.leaf_values x) (p.block_values x)) ∙ ap (total (length_of measure old)) p.kids
+      total_same (length_of measure old) (length_of measure mid) (kids_of mid block)
+      (λ x m. length_from_values measure (entry old x) (entry mid x) (p.leaf_values x) (p.block_values x)) ∙ ap (total (length_of measure old)) p.kids

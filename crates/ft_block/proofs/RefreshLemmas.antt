@@ -5,9 +5,11 @@ use Rattle.std.specs.List.{flat_map}
 use Rattle.ft_arena.specs.declared.nodes.Node.{Node}
 use Rattle.ft_arena.specs.declared.nodes.Node.TheVariants.{Leaf, Block}
 use Rattle.ft_arena.specs.Ids.{times}
-use Rattle.ft_arena.specs.Forest.{Forest, Entry, IsForest, entry, kids_of, parent_of, block_value, leaf_of_entry, block_of_entry, kids_of_entry, kids_of_node, block_of_node, leaf_of_node, parent_of_entry}
+use Rattle.ft_arena.specs.Forest.{Forest, Entry, IsForest, entry, kids_of, parent_of, block_value, leaf_of_entry, block_of_entry, kids_of_entry, kids_of_node}
+use Rattle.ft_arena.specs.Forest.{block_of_node, leaf_of_node, parent_of_entry}
 use Rattle.ft_block.specs.declared.summaries.Summary.{Summary}
-use Rattle.ft_block.specs.Tree.{total, height_of, OwesAt, AreFromFloor, Measure, length_of, length_of_entry, below, kind_of_entry, kind_of_node, IsShape, SumsBut, IsTree, IsPartTree}
+use Rattle.ft_block.specs.Tree.{total, height_of, OwesAt, AreFromFloor, Measure, length_of, length_of_entry, below, kind_of_entry, kind_of_node, IsShape, SumsBut, IsTree}
+use Rattle.ft_block.specs.Tree.{IsPartTree}
 use Rattle.ft_block.specs.Steps.{SameShape, Resums}
 use Rattle.std.proofs.lemmas.List.{get_or_past, get_or-set_same, get_or-set_other}
 use Rattle.ft_arena.specs.Forest.{Changes, with_block, with_block_entry, count_some}
@@ -42,7 +44,8 @@ module _ {L : Type 0} where
   written_kind None v w h e = refl
   written_kind (Some x) v w h e = ap Some (by_node_kind x.node v w h e)
 
-  written_length : (measure : Measure L) (o : Option (Entry L Summary)) (v w : Summary) → block_of_entry o ≡ Some v → length_of_entry measure (with_block_entry o w) ≡ measure.block w
+  written_length : (measure : Measure L) (o : Option (Entry L Summary)) (v w : Summary) → block_of_entry o ≡ Some v
+      → length_of_entry measure (with_block_entry o w) ≡ measure.block w
   written_length measure None v w e = cc
   written_length measure (Some x) v w e = refl
 
@@ -89,7 +92,8 @@ module _ {L : Type 0} where
       }
 
   -- its length is that of its children, where the new value is measured so
-  pub refreshed_sums : (measure : Measure L) (s : Forest L Summary) (b : ℕ) (v w : Summary) → block_value s b ≡ Some v → times (kids_of s b) b ≡ 0 → measure.block w ≡ total (length_of measure s) (kids_of s b) → Resums measure s (with_block s b w) b
+  pub refreshed_sums : (measure : Measure L) (s : Forest L Summary) (b : ℕ) (v w : Summary) → block_value s b ≡ Some v → times (kids_of s b) b ≡ 0
+      → measure.block w ≡ total (length_of measure s) (kids_of s b) → Resums measure s (with_block s b w) b
   refreshed_sums measure s b v w e apart total_is =
       let new : Forest L Summary = with_block s b w in
       let c : Changes s new b (with_block_entry (entry s b) w) = written_changes s b v w e in
@@ -97,10 +101,13 @@ module _ {L : Type 0} where
       let others : (x : ℕ) → x ≢ b → length_of measure new x ≡ length_of measure s x = λ x d. ap (length_of_entry measure) (c.others x d) in
       record {
         others = others;
-        sum = ap (length_of_entry measure) c.changed ∙ written_length measure (entry s b) v w e ∙ total_is ∙ sym (total_same (length_of measure s) (length_of measure new) (kids_of s b) (λ x m. others x (λ q. omega (arith, apart, ap (times (kids_of s b)) q)))) ∙ ap (total (length_of measure new)) (sym (kids b));
+        sum = ap (length_of_entry measure) c.changed ∙ written_length measure (entry s b) v w e ∙ total_is
+            ∙ sym (total_same (length_of measure s) (length_of measure new) (kids_of s b) (λ x m. others x (λ q. omega (arith, apart, ap (times (kids_of s b)) q))))
+            ∙ ap (total (length_of measure new)) (sym (kids b));
       }
 
-module _ {L : Type 0} (floor : ℕ) (s : Forest L Summary) (b : ℕ) (v w : Summary) (found : block_value s b ≡ Some v) (from : w.table.floor ≡ floor) (all : AreFromFloor floor s) where
+module _ {L : Type 0} (floor : ℕ) (s : Forest L Summary) (b : ℕ) (v w : Summary) (found : block_value s b ≡ Some v) (from : w.table.floor ≡ floor)
+    (all : AreFromFloor floor s) where
   pub written_floors : AreFromFloor floor (with_block s b w)
   written_floors x u e = elim (cases_eq x b) [
     | inl q ↦
@@ -123,7 +130,8 @@ SameShape-shape s s' root extra short g r =
     let h : (x : ℕ) → height_of s' x ≡ height_of s x = λ x. kind_height (entry s x) (entry s' x) (r.kinds x) in
     let live : (x : ℕ) → IsSome (entry s' x) → IsSome (entry s x) = λ x. kind_live (entry s' x) (entry s x) (sym (r.kinds x)) in
     let block : (x : ℕ) → IsSome (block_value s' x) → IsSome (block_value s x) = λ x. kind_block (entry s' x) (entry s x) (sym (r.kinds x)) in
-    let parents : (x : ℕ) → parent_of s' x ≡ parent_of s x = λ x. points_same (parent_of s' x) (parent_of s x) (λ k. sym (r.forest.child_once k x) ∙ ap (λ ks. times ks x) (r.kids k) ∙ g.forest.child_once k x) in
+    let parents : (x : ℕ) → parent_of s' x ≡ parent_of s x =
+    λ x. points_same (parent_of s' x) (parent_of s x) (λ k. sym (r.forest.child_once k x) ∙ ap (λ ks. times ks x) (r.kids k) ∙ g.forest.child_once k x) in
     record {
       forest = r.forest;
       root_is_block = kind_block (entry s root) (entry s' root) (r.kinds root) g.root_is_block;
@@ -144,36 +152,54 @@ pub SameShape-parents : {L : Type 0} (s s' : Forest L Summary) → IsForest s �
 SameShape-parents s s' f r x = points_same (parent_of s' x) (parent_of s x) (λ k. sym (r.forest.child_once k x) ∙ ap (λ ks. times ks x) (r.kids k) ∙ f.child_once k x)
 
 -- once a block is right, only the block above it may have a wrong sum
-pub SameShape-sums : {L : Type 0} (measure : Measure L) (s s' : Forest L Summary) (b : ℕ) → SameShape s s' → Resums measure s s' b → SumsBut measure s (Some b) → SumsBut measure s' (parent_of s' b)
+pub SameShape-sums : {L : Type 0} (measure : Measure L) (s s' : Forest L Summary) (b : ℕ) → SameShape s s' → Resums measure s s' b → SumsBut measure s (Some b)
+    → SumsBut measure s' (parent_of s' b)
 SameShape-sums measure s s' b r u sums k h stale = elim (cases_eq k b) [
   | inl e ↦ subst (λ (z : ℕ). length_of measure s' z ≡ total (length_of measure s') (kids_of s' z)) (sym e) u.sum
   | inr n ↦
-      let inside : (x : ℕ) → 1 ≤ times (kids_of s' k) x → x ≢ b = λ x m e. stale (ap (parent_of s') (sym e) ∙ points_some (parent_of s' x) k (omega (arith, r.forest.child_once k x))) in
-      u.others k n ∙ sums k (kind_block (entry s' k) (entry s k) (sym (r.kinds k)) h) (λ e. n (cc)) ∙ ap (total (length_of measure s)) (sym (r.kids k)) ∙ sym (total_same (length_of measure s) (length_of measure s') (kids_of s' k) (λ x m. u.others x (inside x m)))
+      let inside : (x : ℕ) → 1 ≤ times (kids_of s' k) x → x ≢ b =
+      λ x m e. stale (ap (parent_of s') (sym e) ∙ points_some (parent_of s' x) k (omega (arith, r.forest.child_once k x))) in
+      u.others k n ∙ sums k (kind_block (entry s' k) (entry s k) (sym (r.kinds k)) h) (λ e. n (cc)) ∙ ap (total (length_of measure s)) (sym (r.kids k))
+      ∙ sym (total_same (length_of measure s) (length_of measure s') (kids_of s' k) (λ x m. u.others x (inside x m)))
 ]
 
 -- and that one owes as much
-pub SameShape-owes : {L : Type 0} (measure : Measure L) (s s' : Forest L Summary) (b more less : ℕ) → SameShape s s' → Resums measure s s' b → SumsBut measure s (Some b) → times (kids_of s b) b ≡ 0 → OwesAt measure s (Some b) more less → OwesAt measure s' (parent_of s' b) more less
+pub SameShape-owes : {L : Type 0} (measure : Measure L) (s s' : Forest L Summary) (b more less : ℕ) → SameShape s s' → Resums measure s s' b → SumsBut measure s (Some b)
+    → times (kids_of s b) b ≡ 0 → OwesAt measure s (Some b) more less → OwesAt measure s' (parent_of s' b) more less
 SameShape-owes measure s s' b more less r u sums apart owes p up =
     let one : times (kids_of s' p) b ≡ 1 = r.forest.child_once p b ∙ points_at (parent_of s' b) p up in
     let apart_p : p ≢ b = (λ e. omega (arith, one, ap (λ z. times (kids_of s' z) b) e, ap (λ ks. times ks b) (r.kids b), apart)) in
     let c = total_change (length_of measure s) (length_of measure s') (kids_of s' p) b one (λ x m d. u.others x d) in
     let block : IsSome (block_value s p) = kind_block (entry s' p) (entry s p) (sym (r.kinds p)) (block_from_kid s' p b (omega (arith, one))) in
-    omega (arith, u.others p apart_p, sums p block (λ e. apart_p (cc)), ap (total (length_of measure s)) (r.kids p), c, owes b refl, u.sum, total_same (length_of measure s) (length_of measure s') (kids_of s' b) (λ x m. u.others x (λ e. omega (arith, m, ap (times (kids_of s' b)) e, ap (λ ks. times ks b) (r.kids b), apart))), ap (total (length_of measure s)) (r.kids b))
+    omega (
+      arith,
+      u.others p apart_p,
+      sums p block (λ e. apart_p (cc)),
+      ap (total (length_of measure s)) (r.kids p),
+      c,
+      owes b refl,
+      u.sum,
+      total_same
+          (length_of measure s) (length_of measure s') (kids_of s' b)
+          (λ x m. u.others x (λ e. omega (arith, m, ap (times (kids_of s' b)) e, ap (λ ks. times ks b) (r.kids b), apart))),
+      ap (total (length_of measure s)) (r.kids b),
+    )
 
 -- a tree stays a tree
 pub SameShape-tree : {L : Type 0} (s s' : Forest L Summary) (root : ℕ) → IsTree s root → SameShape s s' → IsTree s' root
 SameShape-tree s s' root t r =
     record {
       shape = SameShape-shape s s' root None None t.shape r;
-      leaves = r.leaves ∙ t.leaves ∙ sym (SameShape-below s s' (height_of s root) (root ∷ []) r) ∙ ap (λ (n : ℕ). below s' n (root ∷ [])) (sym (kind_height (entry s root) (entry s' root) (r.kinds root)));
+      leaves = r.leaves ∙ t.leaves ∙ sym (SameShape-below s s' (height_of s root) (root ∷ []) r)
+          ∙ ap (λ (n : ℕ). below s' n (root ∷ [])) (sym (kind_height (entry s root) (entry s' root) (r.kinds root)));
     }
 
 -- so does a tree of some of the leaves
 pub SameShape-part : {L : Type 0} (s s' : Forest L Summary) (root : ℕ) (extra short : Option ℕ) → IsPartTree s root extra short → SameShape s s' → IsPartTree s' root extra short
 SameShape-part s s' root extra short t r =
     let h : (x : ℕ) → height_of s' x ≡ height_of s x = λ x. kind_height (entry s x) (entry s' x) (r.kinds x) in
-    let e : below s' (height_of s' root) (root ∷ []) ≡ below s (height_of s root) (root ∷ []) = ap (λ (n : ℕ). below s' n (root ∷ [])) (h root) ∙ SameShape-below s s' (height_of s root) (root ∷ []) r in
+    let e : below s' (height_of s' root) (root ∷ []) ≡ below s (height_of s root) (root ∷ []) =
+    ap (λ (n : ℕ). below s' n (root ∷ [])) (h root) ∙ SameShape-below s s' (height_of s root) (root ∷ []) r in
     record {
       shape = SameShape-shape s s' root extra short t.shape r;
       low = λ x q. h x ∙ t.low x q;

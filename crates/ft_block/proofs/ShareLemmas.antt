@@ -15,7 +15,9 @@ use Rattle.ft_block.proofs.KindLemmas.{kind_height, kind_live, kind_block, block
 use Rattle.ft_block.proofs.RefreshLemmas.{block_from_kid}
 use Rattle.ft_block.proofs.WithoutLemmas.{two_levels}
 
-module _ {L : Type 0} (s s' : Forest L Summary) (root id up front rear block : ℕ) (a : IsApart s root id (Some block)) (front_up : parent_of s front ≡ Some up) (rear_up : parent_of s rear ≡ Some up) (differ : front ≢ rear) (short_is : (block ≡ front) ⊎ (block ≡ rear)) (high : 2 ≤ height_of s up) (r : Shares s s' up front rear) where
+module _ {L : Type 0} (s s' : Forest L Summary) (root id up front rear block : ℕ) (a : IsApart s root id (Some block)) (front_up : parent_of s front ≡ Some up)
+    (rear_up : parent_of s rear ≡ Some up) (differ : front ≢ rear) (short_is : (block ≡ front) ⊎ (block ≡ rear)) (high : 2 ≤ height_of s up)
+    (r : Shares s s' up front rear) where
   sh_front_high : height_of s up ≡ height_of s front + 1
   sh_front_high = a.shape.heights front up front_up
 
@@ -63,7 +65,8 @@ module _ {L : Type 0} (s s' : Forest L Summary) (root id up front rear block : �
   sh_old_parent b x e =
       let m : times (kids_of s' b) x ≡ 1 = r.forest.child_once b x ∙ points_at (parent_of s' x) b e in
       let xl : IsSome (entry s' x) = live_from_parent (entry s' x) b e in
-      let by_pair : height_of s b ≡ height_of s front → 1 ≤ times (kids_of s' front) x + times (kids_of s' rear) x → (o : ℕ) × (parent_of s x ≡ Some o) × (height_of s o ≡ height_of s b) = λ hb h. elim (cases_lt 0 (times (kids_of s front) x)) [
+      let by_pair : height_of s b ≡ height_of s front → 1 ≤ times (kids_of s' front) x + times (kids_of s' rear) x
+      → (o : ℕ) × (parent_of s x ≡ Some o) × (height_of s o ≡ height_of s b) = λ hb h. elim (cases_lt 0 (times (kids_of s front) x)) [
         | inl l ↦ (front, points_some (parent_of s x) front (omega (arith, l, a.shape.forest.child_once front x)), sym hb)
         | inr z ↦ (rear, points_some (parent_of s x) rear (omega (arith, z, h, sh_both x, a.shape.forest.child_once rear x)), omega (arith, hb, sh_front_high, sh_rear_high))
       ] in
@@ -72,7 +75,12 @@ module _ {L : Type 0} (s s' : Forest L Summary) (root id up front rear block : �
         | inr n ↦ elim (cases_eq b rear) [
           | inl c ↦ by_pair (omega (arith, ap (height_of s) c, sh_front_high, sh_rear_high)) (omega (arith, m, ap (λ z. times (kids_of s' z) x) c))
           | inr k ↦ elim (cases_eq b up) [
-            | inl c ↦ (up, points_some (parent_of s x) up (omega (arith, m, ap (λ z. times (kids_of s' z) x) c, r.up_kids x xl, a.shape.forest.child_once up x)), ap (height_of s) (sym c))
+            | inl c ↦ (
+              up,
+              points_some (parent_of s x) up (omega (arith, m, ap (λ z. times (kids_of s' z) x) c, r.up_kids x xl, a.shape.forest.child_once up x)),
+              ap
+                  (height_of s) (sym c),
+            )
             | inr u ↦ (b, points_some (parent_of s x) b (omega (arith, m, ap (λ ks. times ks x) (r.other_kids b u n k), a.shape.forest.child_once b x)), refl)
           ]
         ]
@@ -81,7 +89,8 @@ module _ {L : Type 0} (s s' : Forest L Summary) (root id up front rear block : �
   sh_has_parent : (x b : ℕ) → IsSome (entry s' x) → parent_of s x ≡ Some b → IsSome (parent_of s' x)
   sh_has_parent x b xl e =
       let m : times (kids_of s b) x ≡ 1 = a.shape.forest.child_once b x ∙ points_at (parent_of s x) b e in
-      let from : (z : ℕ) → 1 ≤ times (kids_of s' z) x → IsSome (parent_of s' x) = λ z h. is_some_from (parent_of s' x) z (points_some (parent_of s' x) z (omega (arith, h, r.forest.child_once z x))) in
+      let from : (z : ℕ) → 1 ≤ times (kids_of s' z) x → IsSome (parent_of s' x) =
+      λ z h. is_some_from (parent_of s' x) z (points_some (parent_of s' x) z (omega (arith, h, r.forest.child_once z x))) in
       let by_pair : 1 ≤ times (kids_of s front) x + times (kids_of s rear) x → IsSome (parent_of s' x) = λ h. elim (cases_lt 0 (times (kids_of s' front) x)) [
         | inl l ↦ from front (omega (arith, l))
         | inr z ↦ from rear (omega (arith, z, h, sh_both x))
@@ -144,17 +153,24 @@ module _ {L : Type 0} (s s' : Forest L Summary) (root id up front rear block : �
   sh_upper = below s (height_of s root - height_of s up) (root ∷ [])
 
   sh_upper_high : AllHigh s (height_of s up) sh_upper
-  sh_upper_high x m = omega (arith, below_high s (height_of s root - height_of s up) (height_of s root) (root ∷ []) (steps_down s root (Some id) a.shape) (root_high s root) x m, sh_low)
+  sh_upper_high x m = omega (
+    arith,
+    below_high s (height_of s root - height_of s up) (height_of s root) (root ∷ []) (steps_down s root (Some id) a.shape)
+        (root_high s root) x m,
+    sh_low,
+  )
 
   sh_pair : (x : ℕ) → 1 ≤ times sh_upper x → flat_map (kids_of s') (kids_of s' x) ≡ flat_map (kids_of s) (kids_of s x)
   sh_pair x m = elim (cases_eq x up) [
     | inl c ↦ subst (λ (z : ℕ). flat_map (kids_of s') (kids_of s' z) ≡ flat_map (kids_of s) (kids_of s z)) (sym c) r.up_levels
     | inr u ↦
         let hx : height_of s x ≡ height_of s up = sh_upper_high x m in
-        let same_kids : kids_of s' x ≡ kids_of s x = r.other_kids x u (λ e. omega (arith, hx, ap (height_of s) e, sh_front_high)) (λ e. omega (arith, hx, ap (height_of s) e, sh_rear_high)) in
+        let same_kids : kids_of s' x ≡ kids_of s x =
+        r.other_kids x u (λ e. omega (arith, hx, ap (height_of s) e, sh_front_high)) (λ e. omega (arith, hx, ap (height_of s) e, sh_rear_high)) in
         let inside : (y : ℕ) → 1 ≤ times (kids_of s x) y → kids_of s' y ≡ kids_of s y = λ y n.
         let py : parent_of s y ≡ Some x = points_some (parent_of s y) x (omega (arith, n, a.shape.forest.child_once x y)) in
-        r.other_kids y (λ e. omega (arith, ap (height_of s) e, hx, a.shape.heights y x py)) (λ e. u (cc (py, ap (parent_of s) e, front_up))) (λ e. u (cc (py, ap (parent_of s) e, rear_up))) in
+        r.other_kids y (λ e. omega (arith, ap (height_of s) e, hx, a.shape.heights y x py)) (λ e. u (cc (py, ap (parent_of s) e, front_up)))
+        (λ e. u (cc (py, ap (parent_of s) e, rear_up))) in
         ap (flat_map (kids_of s')) same_kids ∙ flat_map_same (kids_of s) (kids_of s') (kids_of s x) inside
   ]
 
@@ -164,12 +180,22 @@ module _ {L : Type 0} (s s' : Forest L Summary) (root id up front rear block : �
       let rest : ℕ = height_of s up - 2 in
       let parts : height_of s root ≡ (height_of s root - height_of s up) + (2 + (height_of s up - 2)) = omega (arith, high, sh_low) in
       let down = steps_down s root (Some id) a.shape in
-      let up_same : below s' (height_of s root - height_of s up) (root ∷ []) ≡ sh_upper = below_same s s' (height_of s root - height_of s up) (height_of s root) (root ∷ []) down (root_high s root) (omega arith) (λ x low h. r.other_kids x (λ e. omega (arith, h, ap (height_of s) e, sh_low)) (λ e. omega (arith, h, ap (height_of s) e, sh_front_high, sh_low)) (λ e. omega (arith, h, ap (height_of s) e, sh_rear_high, sh_low))) in
+      let up_same : below s' (height_of s root - height_of s up) (root ∷ []) ≡ sh_upper =
+      below_same s s' (height_of s root - height_of s up) (height_of s root) (root ∷ []) down (root_high s root) (omega arith)
+      (λ x low h. r.other_kids x (λ e. omega (arith, h, ap (height_of s) e, sh_low)) (λ e. omega (arith, h, ap (height_of s) e, sh_front_high, sh_low))
+      (λ e. omega (arith, h, ap (height_of s) e, sh_rear_high, sh_low))) in
       let mid : below s' 2 sh_upper ≡ below s 2 sh_upper = two_levels (kids_of s) (kids_of s') sh_upper sh_pair in
       let mid_high : AllHigh s (height_of s up - 2) (below s 2 sh_upper) = below_high s 2 (height_of s up) sh_upper down sh_upper_high in
-      let low_same : below s' (height_of s up - 2) (below s 2 sh_upper) ≡ below s (height_of s up - 2) (below s 2 sh_upper) = below_same s s' (height_of s up - 2) (height_of s up - 2) (below s 2 sh_upper) down mid_high (omega arith) (λ x low h. r.other_kids x (λ e. omega (arith, low, ap (height_of s) e, high)) (λ e. omega (arith, low, ap (height_of s) e, sh_front_high, high)) (λ e. omega (arith, low, ap (height_of s) e, sh_rear_high, high))) in
-      let whole : (z : Forest L Summary) → below z (height_of s root) (root ∷ []) ≡ below z (height_of s up - 2) (below z 2 (below z (height_of s root - height_of s up) (root ∷ []))) = λ z. ap (λ (n : ℕ). below z n (root ∷ [])) parts ∙ sym (below-below z (2 + (height_of s up - 2)) (height_of s root - height_of s up) (root ∷ [])) ∙ sym (below-below z (height_of s up - 2) 2 (below z (height_of s root - height_of s up) (root ∷ []))) in
-      ap (λ (n : ℕ). below s' n (root ∷ [])) (sh_high root sh_root_live) ∙ whole s' ∙ ap (λ zs. below s' (height_of s up - 2) (below s' 2 zs)) up_same ∙ ap (below s' (height_of s up - 2)) mid ∙ low_same ∙ sym (whole s)
+      let low_same : below s' (height_of s up - 2) (below s 2 sh_upper) ≡ below s (height_of s up - 2) (below s 2 sh_upper) =
+      below_same s s' (height_of s up - 2) (height_of s up - 2) (below s 2 sh_upper) down mid_high (omega arith)
+      (λ x low h. r.other_kids x (λ e. omega (arith, low, ap (height_of s) e, high)) (λ e. omega (arith, low, ap (height_of s) e, sh_front_high, high))
+      (λ e. omega (arith, low, ap (height_of s) e, sh_rear_high, high))) in
+      let whole : (z : Forest L Summary) → below z (height_of s root) (root ∷ []) ≡ below z (height_of s up - 2)
+      (below z 2 (below z (height_of s root - height_of s up) (root ∷ []))) =
+      λ z. ap (λ (n : ℕ). below z n (root ∷ [])) parts ∙ sym (below-below z (2 + (height_of s up - 2)) (height_of s root - height_of s up) (root ∷ []))
+      ∙ sym (below-below z (height_of s up - 2) 2 (below z (height_of s root - height_of s up) (root ∷ []))) in
+      ap (λ (n : ℕ). below s' n (root ∷ [])) (sh_high root sh_root_live) ∙ whole s' ∙ ap (λ zs. below s' (height_of s up - 2) (below s' 2 zs)) up_same
+      ∙ ap (below s' (height_of s up - 2)) mid ∙ low_same ∙ sym (whole s)
 
   pub share_apart : IsApart s' root id (Some up)
   share_apart =
@@ -181,12 +207,16 @@ module _ {L : Type 0} (s s' : Forest L Summary) (root id up front rear block : �
         filled = λ b e. let q : up ≡ b = cc e in subst (λ (z : ℕ). 1 ≤ length (kids_of s' z)) q r.up_filled;
       }
 
-  module _ (measure : Measure L) (sums : SumsBut measure s None) (others : (x : ℕ) → IsSome (entry s' x) → x ≢ front → x ≢ rear → length_of measure s' x ≡ length_of measure s x) (front_sum : length_of measure s' front ≡ total (length_of measure s') (kids_of s' front)) (rear_sum : IsSome (entry s' rear) → length_of measure s' rear ≡ total (length_of measure s') (kids_of s' rear)) (up_sum : total (length_of measure s') (kids_of s' up) ≡ total (length_of measure s) (kids_of s up)) where
+  module _ (measure : Measure L) (sums : SumsBut measure s None) (others : (x : ℕ) → IsSome (entry s' x) → x ≢ front → x ≢ rear
+      → length_of measure s' x ≡ length_of measure s x) (front_sum : length_of measure s' front ≡ total (length_of measure s') (kids_of s' front))
+      (rear_sum : IsSome (entry s' rear) → length_of measure s' rear ≡ total (length_of measure s') (kids_of s' rear))
+      (up_sum : total (length_of measure s') (kids_of s' up) ≡ total (length_of measure s) (kids_of s up)) where
     pub share_sums : SumsBut measure s' None
     share_sums b h stale = elim (cases_eq b front) [
       | inl c ↦ subst (λ (z : ℕ). length_of measure s' z ≡ total (length_of measure s') (kids_of s' z)) (sym c) front_sum
       | inr k ↦ elim (cases_eq b rear) [
-        | inl c ↦ subst (λ (z : ℕ). length_of measure s' z ≡ total (length_of measure s') (kids_of s' z)) (sym c) (rear_sum (subst (λ (z : ℕ). IsSome (entry s' z)) c (block_live (entry s' b) h)))
+        | inl c ↦ subst (λ (z : ℕ). length_of measure s' z ≡ total (length_of measure s') (kids_of s' z)) (sym c)
+            (rear_sum (subst (λ (z : ℕ). IsSome (entry s' z)) c (block_live (entry s' b) h)))
         | inr l ↦
             let here : length_of measure s' b ≡ total (length_of measure s) (kids_of s b) = others b (block_live (entry s' b) h) k l ∙ sums b (sh_was_block b h) (λ e. cc) in
             elim (cases_eq b up) [

@@ -28,7 +28,8 @@ module _ {L : Type 0} where
   rooted_root s (Some root) x v t e = λ q. cc
 
   -- two nodes with the same leaf value have the same length
-  leaf_same : (measure : Measure L) (old new : Forest L Summary) (x : ℕ) → IsSome (leaf_value old x) → leaf_value new x ≡ leaf_value old x → length_of measure new x ≡ length_of measure old x
+  leaf_same : (measure : Measure L) (old new : Forest L Summary) (x : ℕ) → IsSome (leaf_value old x) → leaf_value new x ≡ leaf_value old x
+      → length_of measure new x ≡ length_of measure old x
   leaf_same measure old new x live e =
       let v = some_of (leaf_value old x) live in
       leaf_length measure (entry new x) v.0 (e ∙ v.1) ∙ sym (leaf_length measure (entry old x) v.0 v.1)
@@ -41,10 +42,14 @@ module _ {L : Type 0} where
   one_leaf s x v f e = f.leaf_once x ∙ ap count_some e
 
   -- all leaves together are as much longer as the new one is long
-  pub inserts_total : (measure : Measure L) (old new : Forest L Summary) (id : ℕ) (leaf : L) (e : List ℕ → List ℕ) → IsForest old → InsertsLeaf old new id leaf e → total (length_of measure new) (e old.leaves) ≡ total (length_of measure new) old.leaves + length_of measure new id → total (length_of measure new) new.leaves ≡ total (length_of measure old) old.leaves + measure.leaf leaf
+  pub inserts_total : (measure : Measure L) (old new : Forest L Summary) (id : ℕ) (leaf : L) (e : List ℕ → List ℕ) → IsForest old → InsertsLeaf old new id leaf e
+      → total (length_of measure new) (e old.leaves) ≡ total (length_of measure new) old.leaves + length_of measure new id
+      → total (length_of measure new) new.leaves ≡ total (length_of measure old) old.leaves + measure.leaf leaf
   inserts_total measure old new id leaf e f i longer =
       let none : times old.leaves id ≡ 0 = no_leaf old id f i.fresh in
-      let same_rest : total (length_of measure new) old.leaves ≡ total (length_of measure old) old.leaves = total_same (length_of measure old) (length_of measure new) old.leaves (λ x m. leaf_same measure old new x (leaves_live old f x m) (i.others x (λ q. omega (arith, m, none, ap (times old.leaves) q)))) in
+      let same_rest : total (length_of measure new) old.leaves ≡ total (length_of measure old) old.leaves =
+      total_same (length_of measure old) (length_of measure new) old.leaves
+      (λ x m. leaf_same measure old new x (leaves_live old f x m) (i.others x (λ q. omega (arith, m, none, ap (times old.leaves) q)))) in
       omega (arith, ap (total (length_of measure new)) i.leaves, longer, same_rest, leaf_length measure (entry new id) leaf i.value)
 
   pub put_after_longer : (f : ℕ → ℕ) (s : Forest L Summary) (at : Option ℕ) (id : ℕ) → IsForest s → IsPlace s at → total f (put_after s.leaves at id) ≡ total f s.leaves + f id
@@ -54,24 +59,47 @@ module _ {L : Type 0} where
       (after_is_edit at id).totals f s.leaves (one_leaf s at v.0 g v.1)
 
   -- the two parts of a leaf together are as long as the leaf was
-  pub splits_total : (measure : Measure L) (front rear : L → L) (old new : Forest L Summary) (leaf id : ℕ) → IsForest old → (i : SplitsLeaf front rear old new leaf id) → measure.leaf (front i.whole) + measure.leaf (rear i.whole) ≡ measure.leaf i.whole → total (length_of measure new) new.leaves ≡ total (length_of measure old) old.leaves
+  pub splits_total : (measure : Measure L) (front rear : L → L) (old new : Forest L Summary) (leaf id : ℕ) → IsForest old → (i : SplitsLeaf front rear old new leaf id)
+      → measure.leaf (front i.whole) + measure.leaf (rear i.whole) ≡ measure.leaf i.whole
+      → total (length_of measure new) new.leaves ≡ total (length_of measure old) old.leaves
   splits_total measure front rear old new leaf id f i parts =
       let none : times old.leaves id ≡ 0 = no_leaf old id f i.fresh in
       let one : times old.leaves leaf ≡ 1 = one_leaf old leaf i.whole f i.was in
-      let put : total (length_of measure new) (insert_after old.leaves leaf id) ≡ total (length_of measure new) old.leaves + length_of measure new id = (after_is_edit leaf id).totals (length_of measure new) old.leaves one in
+      let put : total (length_of measure new) (insert_after old.leaves leaf id) ≡ total (length_of measure new) old.leaves + length_of measure new id =
+      (after_is_edit leaf id).totals (length_of measure new) old.leaves one in
       let g : ℕ → ℕ = λ x. length_of measure new x in
-      let change = total_change (length_of measure old) (length_of measure new) old.leaves leaf one (λ x m d. leaf_same measure old new x (leaves_live old f x m) (i.others x d (λ q. omega (arith, m, none, ap (times old.leaves) q)))) in
-      omega (arith, ap (total (length_of measure new)) i.leaves, put, change, leaf_length measure (entry old leaf) i.whole i.was, leaf_length measure (entry new leaf) (front i.whole) i.now, leaf_length measure (entry new id) (rear i.whole) i.value, parts)
+      let change = total_change (length_of measure old) (length_of measure new) old.leaves leaf one
+      (λ x m d. leaf_same measure old new x (leaves_live old f x m) (i.others x d (λ q. omega (arith, m, none, ap (times old.leaves) q)))) in
+      omega (
+        arith,
+        ap (total (length_of measure new)) i.leaves,
+        put,
+        change,
+        leaf_length measure (entry old leaf) i.whole i.was,
+        leaf_length measure (entry new leaf)
+            (front i.whole) i.now,
+        leaf_length measure (entry new id) (rear i.whole) i.value,
+        parts,
+      )
 
-  pub changes_total : (measure : Measure L) (f : L → L) (old new : Forest L Summary) (leaf : ℕ) → IsForest old → (i : ChangesLeaf f old new leaf) → total (length_of measure new) new.leaves + measure.leaf i.was ≡ total (length_of measure old) old.leaves + measure.leaf (f i.was)
+  pub changes_total : (measure : Measure L) (f : L → L) (old new : Forest L Summary) (leaf : ℕ) → IsForest old → (i : ChangesLeaf f old new leaf)
+      → total (length_of measure new) new.leaves + measure.leaf i.was ≡ total (length_of measure old) old.leaves + measure.leaf (f i.was)
   changes_total measure f old new leaf g i =
       let one : times old.leaves leaf ≡ 1 = one_leaf old leaf i.was g i.old_value in
       let change = total_change (length_of measure old) (length_of measure new) old.leaves leaf one (λ x m d. leaf_same measure old new x (leaves_live old g x m) (i.others x d)) in
-      omega (arith, ap (total (length_of measure new)) i.leaves, change, leaf_length measure (entry old leaf) i.was i.old_value, leaf_length measure (entry new leaf) (f i.was) i.new_value)
+      omega (
+        arith,
+        ap (total (length_of measure new)) i.leaves,
+        change,
+        leaf_length measure (entry old leaf) i.was i.old_value,
+        leaf_length measure (entry new leaf)
+            (f i.was) i.new_value,
+      )
 
 module _ {L : Type 0} (size : L → ℕ) (element : L → Element) (floor : ℕ) where
   -- a leaf with another value of the same size and the same stamps
-  pub changed_sound : (s : Forest L Summary) (root : Option ℕ) (at : ℕ) (v w : L) → IsSound size element floor s root → leaf_value s at ≡ Some v → element w ≡ element v → size w ≡ size v → IsSound size element floor (with_leaf s at w) root
+  pub changed_sound : (s : Forest L Summary) (root : Option ℕ) (at : ℕ) (v w : L) → IsSound size element floor s root → leaf_value s at ≡ Some v → element w ≡ element v
+      → size w ≡ size v → IsSound size element floor (with_leaf s at w) root
   changed_sound s None at v w f found e n = absurd (rooted_root s None at v f.rooted found refl)
   changed_sound s (Some root) at v w f found e n =
       record {
@@ -86,7 +114,9 @@ module _ {L : Type 0} (size : L → ℕ) (element : L → Element) (floor : ℕ)
       }
 
   -- a tree with one more leaf
-  pub inserts_sound : (old new : Forest L Summary) (root : Option ℕ) (top id : ℕ) (leaf : L) (e : List ℕ → List ℕ) → IsSound size element floor old root → 1 ≤ size leaf → total (length_of (by_size size) old) old.leaves + size leaf < 2 ^ 64 → ((f : ℕ → ℕ) → total f (e old.leaves) ≡ total f old.leaves + f id) → IsTree new top → SumsKeptBut size element floor new None → AreFromFloor floor new → InsertsLeaf old new id leaf e → IsSound size element floor new (Some top)
+  pub inserts_sound : (old new : Forest L Summary) (root : Option ℕ) (top id : ℕ) (leaf : L) (e : List ℕ → List ℕ) → IsSound size element floor old root → 1 ≤ size leaf
+      → total (length_of (by_size size) old) old.leaves + size leaf < 2 ^ 64 → ((f : ℕ → ℕ) → total f (e old.leaves) ≡ total f old.leaves + f id) → IsTree new top
+      → SumsKeptBut size element floor new None → AreFromFloor floor new → InsertsLeaf old new id leaf e → IsSound size element floor new (Some top)
   inserts_sound old new root top id leaf e f some fits longer tree sums floors i =
       record {
         rooted = tree;
@@ -100,7 +130,9 @@ module _ {L : Type 0} (size : L → ℕ) (element : L → Element) (floor : ℕ)
       }
 
   -- a tree in which a leaf was cut in two
-  pub splits_sound : (front rear : L → L) (old new : Forest L Summary) (root : Option ℕ) (top leaf id : ℕ) → IsSound size element floor old root → ((v : L) → leaf_value old leaf ≡ Some v → (size (front v) + size (rear v) ≡ size v) × (1 ≤ size (front v)) × (1 ≤ size (rear v))) → IsTree new top → SumsKeptBut size element floor new None → AreFromFloor floor new → SplitsLeaf front rear old new leaf id → IsSound size element floor new (Some top)
+  pub splits_sound : (front rear : L → L) (old new : Forest L Summary) (root : Option ℕ) (top leaf id : ℕ) → IsSound size element floor old root
+      → ((v : L) → leaf_value old leaf ≡ Some v → (size (front v) + size (rear v) ≡ size v) × (1 ≤ size (front v)) × (1 ≤ size (rear v))) → IsTree new top
+      → SumsKeptBut size element floor new None → AreFromFloor floor new → SplitsLeaf front rear old new leaf id → IsSound size element floor new (Some top)
   splits_sound front rear old new root top leaf id f parts tree sums floors i =
       record {
         rooted = tree;
@@ -117,7 +149,9 @@ module _ {L : Type 0} (size : L → ℕ) (element : L → Element) (floor : ℕ)
       }
 
   -- a tree in which a leaf has another value
-  pub changes_sound : (f : L → L) (old new : Forest L Summary) (root : ℕ) (leaf : ℕ) → IsSound size element floor old (Some root) → ((v : L) → leaf_value old leaf ≡ Some v → (1 ≤ size (f v)) × (total (length_of (by_size size) old) old.leaves + size (f v) < 2 ^ 64 + size v)) → IsTree new root → SumsKeptBut size element floor new None → AreFromFloor floor new → ChangesLeaf f old new leaf → IsSound size element floor new (Some root)
+  pub changes_sound : (f : L → L) (old new : Forest L Summary) (root : ℕ) (leaf : ℕ) → IsSound size element floor old (Some root)
+      → ((v : L) → leaf_value old leaf ≡ Some v → (1 ≤ size (f v)) × (total (length_of (by_size size) old) old.leaves + size (f v) < 2 ^ 64 + size v)) → IsTree new root
+      → SumsKeptBut size element floor new None → AreFromFloor floor new → ChangesLeaf f old new leaf → IsSound size element floor new (Some root)
   changes_sound g old new root leaf f sized tree sums floors i =
       record {
         rooted = tree;
@@ -143,16 +177,19 @@ on_ok_four (Err e) P Q R I S f p q r i = tt
 pub front_longer : (f : ℕ → ℕ) (xs : List ℕ) (id : ℕ) → total f (id ∷ xs) ≡ total f xs + f id
 front_longer f xs id = omega arith
 
-pub after_longer : {L : Type 0} (f : ℕ → ℕ) (s : Forest L Summary) (at id : ℕ) → IsForest s → IsSome (leaf_value s at) → total f (insert_after s.leaves at id) ≡ total f s.leaves + f id
+pub after_longer : {L : Type 0} (f : ℕ → ℕ) (s : Forest L Summary) (at id : ℕ) → IsForest s → IsSome (leaf_value s at)
+    → total f (insert_after s.leaves at id) ≡ total f s.leaves + f id
 after_longer f s at id g p = put_after_longer f s (Some at) id g p
 
 module _ {L : Type 0} (size : L → ℕ) (element : L → Element) (floor : ℕ) where
   -- a tree without one of its leaves
-  pub takes_sound : (old new : Forest L Summary) (root top : Option ℕ) (leaf : ℕ) (value : L) → IsSound size element floor old root → leaf_value new leaf ≡ None → IsRooted new top → SumsKeptBut size element floor new None → AreFromFloor floor new → TakesLeaf old new leaf value → IsSound size element floor new top
+  pub takes_sound : (old new : Forest L Summary) (root top : Option ℕ) (leaf : ℕ) (value : L) → IsSound size element floor old root → leaf_value new leaf ≡ None
+      → IsRooted new top → SumsKeptBut size element floor new None → AreFromFloor floor new → TakesLeaf old new leaf value → IsSound size element floor new top
   takes_sound old new root top leaf value f gone rooted sums floors i =
       let g = rooted_forest old root f.rooted in
       let h = rooted_forest new top rooted in
-      let less : total (length_of (by_size size) new) (without old.leaves leaf) ≡ total (length_of (by_size size) old) (without old.leaves leaf) = total_same (length_of (by_size size) old) (length_of (by_size size) new) (without old.leaves leaf) (λ x m.
+      let less : total (length_of (by_size size) new) (without old.leaves leaf) ≡ total (length_of (by_size size) old) (without old.leaves leaf) =
+      total_same (length_of (by_size size) old) (length_of (by_size size) new) (without old.leaves leaf) (λ x m.
       let d : x ≢ leaf = (λ e. omega (arith, m, ap (times (without old.leaves leaf)) e, times-without_same old.leaves leaf)) in
       leaf_same (by_size size) old new x (leaves_live old g x (omega (arith, m, times-without_other old.leaves leaf x d))) (i.others x d)) in
       record {
@@ -167,7 +204,9 @@ module _ {L : Type 0} (size : L → ℕ) (element : L → Element) (floor : ℕ)
       }
 
   -- a tree in which a leaf stands elsewhere
-  pub moves_sound : (old new : Forest L Summary) (root : Option ℕ) (top leaf : ℕ) (at : Option ℕ) → IsSound size element floor old root → IsSome (leaf_value old leaf) → ((f : ℕ → ℕ) → total f new.leaves ≡ total f old.leaves) → IsTree new top → SumsKeptBut size element floor new None → AreFromFloor floor new → MovesLeaf old new leaf at → IsSound size element floor new (Some top)
+  pub moves_sound : (old new : Forest L Summary) (root : Option ℕ) (top leaf : ℕ) (at : Option ℕ) → IsSound size element floor old root → IsSome (leaf_value old leaf)
+      → ((f : ℕ → ℕ) → total f new.leaves ≡ total f old.leaves) → IsTree new top → SumsKeptBut size element floor new None → AreFromFloor floor new
+      → MovesLeaf old new leaf at → IsSound size element floor new (Some top)
   moves_sound old new root top leaf at f live longer tree sums floors i =
       let g = rooted_forest old root f.rooted in
       record {
@@ -175,7 +214,13 @@ module _ {L : Type 0} (size : L → ℕ) (element : L → Element) (floor : ℕ)
         sums = sums;
         floors = floors;
         filled = λ x u q. f.filled x u (sym (i.values x) ∙ q);
-        fits = omega (arith, longer (length_of (by_size size) new), total_same (length_of (by_size size) old) (length_of (by_size size) new) old.leaves (λ x m. leaf_same (by_size size) old new x (leaves_live old g x m) (i.values x)), f.fits);
+        fits = omega (
+          arith,
+          longer (length_of (by_size size) new),
+          total_same (length_of (by_size size) old) (length_of (by_size size) new) old.leaves
+              (λ x m. leaf_same (by_size size) old new x (leaves_live old g x m) (i.values x)),
+          f.fits,
+        );
       }
 
   -- a higher floor asks for fewer views

@@ -1,10 +1,12 @@
 -- What is left where the leaf that was taken from a tree leaves the list too, or the only leaf leaves with the root.
-use Rattle.std.proofs.Common.{◌≡◌, ◌≢◌, ℕ, zero, suc, ◌-◌, ◌^◌, ◌≤◌, List, [], ◌∷◌, length, remove, slice_get, Option, Some, None, IsSome, refl, sym, ap, subst, ◌∙◌, inl, inr, arith, append-nil, eqb}
+use Rattle.std.proofs.Common.{◌≡◌, ◌≢◌, ℕ, zero, suc, ◌-◌, ◌^◌, ◌≤◌, List, [], ◌∷◌, length, remove, slice_get, Option, Some, None, IsSome, refl, sym, ap, subst, ◌∙◌, inl}
+use Rattle.std.proofs.Common.{inr, arith, append-nil, eqb}
 use Rattle.std.proofs.lemmas.Bool.{cases_eq, cases_lt, cond-true, cond-false, eq-eqb, ne_eqb}
 use Rattle.std.proofs.Math.Nat.{pow-le-pow_right}
 use Rattle.std.specs.List.{flat_map}
 use Rattle.ft_arena.specs.Ids.{times, without, first, after}
-use Rattle.ft_arena.specs.Forest.{Forest, Entry, IsForest, Changes, TakesChild, entry, kids_of, parent_of, block_value, leaf_value, leaf_of_entry, block_of_entry, kids_of_entry, parent_of_entry}
+use Rattle.ft_arena.specs.Forest.{Forest, Entry, IsForest, Changes, TakesChild, entry, kids_of, parent_of, block_value, leaf_value, leaf_of_entry, block_of_entry}
+use Rattle.ft_arena.specs.Forest.{kids_of_entry, parent_of_entry}
 use Rattle.ft_arena.proofs.IdLemmas.{same_refl, same_other}
 use Rattle.ft_arena.proofs.KidLemmas.{kept}
 use Rattle.ft_arena.proofs.RingLemmas.{without_here}
@@ -76,7 +78,14 @@ module _ {L : Type 0} (s0 : Forest L Summary) (root id : ℕ) (t : IsTree s0 roo
       let bh = t.shape.heights x b.0 b.1 in
       let bl = block_live (entry s0 b.0) (block_from_height (entry s0 b.0) (omega (arith, bh))) in
       elim (cases_eq b.0 root) [
-        | inl q ↦ omega (arith, t.shape.forest.child_once root x, points_at (parent_of s0 x) root (b.1 ∙ ap Some q), ap (λ ks. times ks x) ls_kids, same_other id x (λ c. n (sym c)))
+        | inl q ↦ omega (
+          arith,
+          t.shape.forest.child_once root x,
+          points_at (parent_of s0 x) root (b.1 ∙ ap Some q),
+          ap (λ ks. times ks x) ls_kids,
+          same_other id x
+              (λ c. n (sym c)),
+        )
         | inr k ↦
             let c = some_of (parent_of s0 b.0) (t.shape.one_top b.0 bl k (λ q. cc q)) in
             let ch = t.shape.heights b.0 c.0 c.1 in
@@ -103,7 +112,8 @@ module _ {L : Type 0} (s0 : Forest L Summary) (root id : ℕ) (t : IsTree s0 roo
       pub ls_alone0 : (s2 : Forest L Summary) → Changes s1 s2 root None → parent_of s2 id ≡ None
       ls_alone0 s2 c2 = ap parent_of_entry (c2.others id (λ e. ls_differ (sym e))) ∙ ap (parent_of s1) (sym ls_is0) ∙ r0.parent
 
-  module _ (s1 s2 s3 : Forest L Summary) (k : ℕ) (value : L) (found : slice_get (kids_of s0 root) 0 ≡ Some k) (l1 : s1.leaves ≡ s0.leaves) (r0 : TakesChild s0 s1 root 0 k) (l2 : s2.leaves ≡ s1.leaves) where
+  module _ (s1 s2 s3 : Forest L Summary) (k : ℕ) (value : L) (found : slice_get (kids_of s0 root) 0 ≡ Some k) (l1 : s1.leaves ≡ s0.leaves)
+      (r0 : TakesChild s0 s1 root 0 k) (l2 : s2.leaves ≡ s1.leaves) where
     module _ (c2 : Changes s1 s2 root None) where
       module _ (f3 : IsForest s3) (is : leaf_value s2 id ≡ Some value) (l3 : s3.leaves ≡ without s2.leaves id) (c3 : Changes s2 s3 id None) where
         pub last_bare : IsBare s3
@@ -115,7 +125,8 @@ module _ {L : Type 0} (s0 : Forest L Summary) (root id : ℕ) (t : IsTree s0 roo
                 | inl e ↦ ap (entry s3) e ∙ c3.changed
                 | inr d ↦ c3.others x d ∙ elim (cases_eq x root) [
                   | inl e ↦ ap (entry s2) e ∙ c2.changed
-                  | inr n ↦ c2.others x n ∙ dead_kind (entry s1 x) (kind_from_values (entry s0 x) (entry s1 x) (r0.leaf_values x) (r0.block_values x) ∙ ap kind_of_entry (ls_dead x n d))
+                  | inr n ↦ c2.others x n ∙ dead_kind (entry s1 x) (kind_from_values (entry s0 x) (entry s1 x) (r0.leaf_values x) (r0.block_values x)
+                      ∙ ap kind_of_entry (ls_dead x n d))
                 ]
               ];
             }
@@ -133,7 +144,8 @@ module _ {L : Type 0} (s0 : Forest L Summary) (root id : ℕ) (t : IsTree s0 roo
             }
 
 -- the leaf that was taken leaves the list
-module _ {L : Type 0} (s s' : Forest L Summary) (root id : ℕ) (value : L) (a : IsApart s root id None) (forest : IsForest s') (is : leaf_value s id ≡ Some value) (l : s'.leaves ≡ without s.leaves id) (c : Changes s s' id None) where
+module _ {L : Type 0} (s s' : Forest L Summary) (root id : ℕ) (value : L) (a : IsApart s root id None) (forest : IsForest s') (is : leaf_value s id ≡ Some value)
+    (l : s'.leaves ≡ without s.leaves id) (c : Changes s s' id None) where
   un_kids : (x : ℕ) → kids_of s' x ≡ kids_of s x
   un_kids = kept kids_of_entry s s' id None c (sym (leaf_kids (entry s id) value is))
 
@@ -179,8 +191,11 @@ module _ {L : Type 0} (s s' : Forest L Summary) (root id : ℕ) (value : L) (a :
   pub unlinked_sums : (measure : Measure L) → SumsBut measure s None → SumsBut measure s' None
   unlinked_sums measure sums b h _ =
       let same_length : (x : ℕ) → x ≢ id → length_of measure s' x ≡ length_of measure s x = λ x d. ap (length_of_entry measure) (c.others x d) in
-      let inside : (x : ℕ) → 1 ≤ times (kids_of s b) x → x ≢ id = λ x m e. cc (ap (parent_of s) e, a.top, points_some (parent_of s x) b (omega (arith, m, a.shape.forest.child_once b x))) in
-      same_length b (un_alive b (block_live (entry s' b) h)) ∙ sums b (un_block b h) (λ e. cc) ∙ sym (total_same (length_of measure s) (length_of measure s') (kids_of s b) (λ x m. same_length x (inside x m))) ∙ ap (total (length_of measure s')) (sym (un_kids b))
+      let inside : (x : ℕ) → 1 ≤ times (kids_of s b) x → x ≢ id =
+      λ x m e. cc (ap (parent_of s) e, a.top, points_some (parent_of s x) b (omega (arith, m, a.shape.forest.child_once b x))) in
+      same_length b (un_alive b (block_live (entry s' b) h)) ∙ sums b (un_block b h) (λ e. cc)
+      ∙ sym (total_same (length_of measure s) (length_of measure s') (kids_of s b) (λ x m. same_length x (inside x m)))
+      ∙ ap (total (length_of measure s')) (sym (un_kids b))
 
   pub unlinked_floors : (floor : ℕ) → AreFromFloor floor s → AreFromFloor floor s'
   unlinked_floors floor all x v e = all x v (sym (un_blocks x) ∙ e)

@@ -20,7 +20,8 @@ cond_le false x = omega arith
 
 module _ {L : Type 0} (size : L → ℕ) (element : L → Element) (view : LenView) where
   -- two parts with the stamps of the whole
-  pub seen_parts : (x y z : L) → element y ≡ element x → element z ≡ element x → size y + size z ≡ size x → seen_length size element view y + seen_length size element view z ≡ seen_length size element view x
+  pub seen_parts : (x y z : L) → element y ≡ element x → element z ≡ element x → size y + size z ≡ size x
+      → seen_length size element view y + seen_length size element view z ≡ seen_length size element view x
   seen_parts x y z ey ez parts =
       let by : seen_length size element view y ≡ cond (sees_in view (element x)) (size y) 0 = ap (λ (e : Element). cond (sees_in view e) (size y) 0) ey in
       let bz : seen_length size element view z ≡ cond (sees_in view (element x)) (size z) 0 = ap (λ (e : Element). cond (sees_in view e) (size z) 0) ez in
@@ -37,7 +38,14 @@ module _ {L : Type 0} (size : L → ℕ) (element : L → Element) (view : LenVi
   view_fits s [] all = omega arith
   view_fits s (x ∷ xs) all =
       let v = some_of (leaf_value s x) (all x (omega (arith, same_refl x))) in
-      omega (arith, leaf_length (by_view size element view) (entry s x) v.0 v.1, leaf_length (by_size size) (entry s x) v.0 v.1, seen_le v.0, view_fits s xs (λ y m. all y (omega arith)))
+      omega (
+        arith,
+        leaf_length (by_view size element view) (entry s x) v.0 v.1,
+        leaf_length (by_size size) (entry s x) v.0 v.1,
+        seen_le v.0,
+        view_fits s xs
+            (λ y m. all y (omega arith)),
+      )
 
   pub all_fit : (s : Forest L Summary) → IsForest s → total (length_of (by_view size element view) s) s.leaves ≤ total (length_of (by_size size) s) s.leaves
   all_fit s f = view_fits s s.leaves (leaves_live s f)

@@ -19,7 +19,8 @@ without_apart (y ∷ ys) x h =
 pub without-append : (xs ys : List ℕ) (x : ℕ) → without (xs ++ ys) x ≡ without xs x ++ without ys x
 without-append [] ys x = refl
 without-append (z ∷ zs) ys x = elim (cases_eq z x) [
-  | inl e ↦ subst (λ (w : ℕ). without (z ∷ (zs ++ ys)) w ≡ without (z ∷ zs) w ++ without ys w) e (without_here (zs ++ ys) z ∙ without-append zs ys z ∙ ap (λ ws. ws ++ without ys z) (sym (without_here zs z)))
+  | inl e ↦ subst (λ (w : ℕ). without (z ∷ (zs ++ ys)) w ≡ without (z ∷ zs) w ++ without ys w) e (without_here (zs ++ ys) z ∙ without-append zs ys z
+      ∙ ap (λ ws. ws ++ without ys z) (sym (without_here zs z)))
   | inr d ↦ without_later z (zs ++ ys) x d ∙ ap (λ ws. z ∷ ws) (without-append zs ys x) ∙ ap (λ ws. ws ++ without ys x) (sym (without_later z zs x d))
 ]
 
@@ -31,7 +32,8 @@ without-flat_map f (y ∷ ys) x = without-append (f y) (flat_map f ys) x ∙ ap 
 pub flat_map-without : (f : ℕ → List ℕ) (xs : List ℕ) (x : ℕ) → f x ≡ [] → flat_map f (without xs x) ≡ flat_map f xs
 flat_map-without f [] x e = refl
 flat_map-without f (y ∷ ys) x e = elim (cases_eq y x) [
-  | inl q ↦ subst (λ (w : ℕ). flat_map f (without (y ∷ ys) w) ≡ flat_map f (y ∷ ys)) q (ap (flat_map f) (without_here ys y) ∙ flat_map-without f ys y (ap f q ∙ e) ∙ sym (ap (λ zs. zs ++ flat_map f ys) (ap f q ∙ e)))
+  | inl q ↦ subst (λ (w : ℕ). flat_map f (without (y ∷ ys) w) ≡ flat_map f (y ∷ ys)) q (ap (flat_map f) (without_here ys y) ∙ flat_map-without f ys y (ap f q ∙ e)
+      ∙ sym (ap (λ zs. zs ++ flat_map f ys) (ap f q ∙ e)))
   | inr d ↦ ap (flat_map f) (without_later y ys x d) ∙ ap (λ zs. f y ++ zs) (flat_map-without f ys x e)
 ]
 
@@ -81,27 +83,35 @@ neighbours (y ∷ z ∷ zs) zero f r ef er hf hr =
     let none : times zs r ≡ 0 = omega (arith, hr, same_other y r d, ap (λ w. same w r) b, same_refl r) in
     let nof : times zs f ≡ 0 = omega (arith, hf, ap (λ w. same w f) a, same_refl f) in
     let out : without (y ∷ z ∷ zs) r ≡ y ∷ zs = without_later y (z ∷ zs) r d ∙ ap (λ ws. y ∷ ws) (ap (λ w. without (w ∷ zs) r) b ∙ without_here zs r ∙ without_apart zs r none) in
-    let back : insert_after (y ∷ zs) f r ≡ y ∷ z ∷ zs = ap (λ w. insert_after (w ∷ zs) f r) a ∙ insert_after_head zs f r ∙ ap (λ ws. f ∷ r ∷ ws) (insert_after_none zs f r nof) ∙ ap (λ w. w ∷ r ∷ zs) (sym a) ∙ ap (λ w. y ∷ w ∷ zs) (sym b) in
+    let back : insert_after (y ∷ zs) f r ≡ y ∷ z ∷ zs =
+    ap (λ w. insert_after (w ∷ zs) f r) a ∙ insert_after_head zs f r ∙ ap (λ ws. f ∷ r ∷ ws) (insert_after_none zs f r nof) ∙ ap (λ w. w ∷ r ∷ zs) (sym a)
+    ∙ ap (λ w. y ∷ w ∷ zs) (sym b) in
     ap (λ ws. insert_after ws f r) out ∙ back
 neighbours (y ∷ ys) (suc i) f r ef er hf hr =
     let n : suc i + 1 ≡ suc (i + 1) = omega arith in
     let er' : slice_get ys (i + 1) ≡ Some r = ap (slice_get (y ∷ ys)) (sym n) ∙ er in
     let df : y ≢ f = (λ q. omega (arith, hf, times_at ys i f ef, ap (λ w. same w f) q, same_refl f)) in
     let dr : y ≢ r = (λ q. omega (arith, hr, times_at ys (i + 1) r er', ap (λ w. same w r) q, same_refl r)) in
-    ap (λ ws. insert_after ws f r) (without_later y ys r dr) ∙ insert_after_later y (without ys r) f r df ∙ ap (λ ws. y ∷ ws) (neighbours ys i f r ef er' (omega (arith, hf, same_other y f df)) (omega (arith, hr, same_other y r dr)))
+    ap (λ ws. insert_after ws f r) (without_later y ys r dr) ∙ insert_after_later y (without ys r) f r df
+    ∙ ap (λ ws. y ∷ ws) (neighbours ys i f r ef er' (omega (arith, hf, same_other y f df)) (omega (arith, hr, same_other y r dr)))
 
 -- two neighbours with the same children together have the same level below them
-pub shared : (f g : ℕ → List ℕ) (xs : List ℕ) (p q : ℕ) → g p ++ g q ≡ f p ++ f q → ((x : ℕ) → 1 ≤ times xs x → x ≢ p → g x ≡ f x) → flat_map g (insert_after xs p q) ≡ flat_map f (insert_after xs p q)
+pub shared : (f g : ℕ → List ℕ) (xs : List ℕ) (p q : ℕ) → g p ++ g q ≡ f p ++ f q → ((x : ℕ) → 1 ≤ times xs x → x ≢ p → g x ≡ f x)
+    → flat_map g (insert_after xs p q) ≡ flat_map f (insert_after xs p q)
 shared f g [] p q e h = refl
 shared f g (x ∷ xs) p q e h =
     let rest = shared f g xs p q e (λ y m d. h y (omega arith) d) in
     elim (cases_eq x p) [
-      | inl c ↦ subst (λ (z : ℕ). flat_map g (insert_after (z ∷ xs) p q) ≡ flat_map f (insert_after (z ∷ xs) p q)) (sym c) (ap (flat_map g) (insert_after_head xs p q) ∙ sym (append_assoc (g p) (g q) (flat_map g (insert_after xs p q))) ∙ ap (λ zs. zs ++ flat_map g (insert_after xs p q)) e ∙ ap (λ zs. (f p ++ f q) ++ zs) rest ∙ append_assoc (f p) (f q) (flat_map f (insert_after xs p q)) ∙ sym (ap (flat_map f) (insert_after_head xs p q)))
-      | inr d ↦ ap (flat_map g) (insert_after_later x xs p q d) ∙ ap (λ zs. zs ++ flat_map g (insert_after xs p q)) (h x (omega (arith, same_refl x)) d) ∙ ap (λ zs. f x ++ zs) rest ∙ sym (ap (flat_map f) (insert_after_later x xs p q d))
+      | inl c ↦ subst (λ (z : ℕ). flat_map g (insert_after (z ∷ xs) p q) ≡ flat_map f (insert_after (z ∷ xs) p q)) (sym c) (ap (flat_map g) (insert_after_head xs p q)
+          ∙ sym (append_assoc (g p) (g q) (flat_map g (insert_after xs p q))) ∙ ap (λ zs. zs ++ flat_map g (insert_after xs p q)) e ∙ ap (λ zs. (f p ++ f q) ++ zs) rest
+          ∙ append_assoc (f p) (f q) (flat_map f (insert_after xs p q)) ∙ sym (ap (flat_map f) (insert_after_head xs p q)))
+      | inr d ↦ ap (flat_map g) (insert_after_later x xs p q d) ∙ ap (λ zs. zs ++ flat_map g (insert_after xs p q)) (h x (omega (arith, same_refl x)) d)
+          ∙ ap (λ zs. f x ++ zs) rest ∙ sym (ap (flat_map f) (insert_after_later x xs p q d))
     ]
 
 -- the same two levels further down
 pub two_levels : (f g : ℕ → List ℕ) (xs : List ℕ) → ((x : ℕ) → 1 ≤ times xs x → flat_map g (g x) ≡ flat_map f (f x)) → flat_map g (flat_map g xs) ≡ flat_map f (flat_map f xs)
 two_levels f g [] h = refl
 two_levels f g (x ∷ xs) h =
-    flat_map-append g (g x) (flat_map g xs) ∙ ap (λ zs. zs ++ flat_map g (flat_map g xs)) (h x (omega (arith, same_refl x))) ∙ ap (λ zs. flat_map f (f x) ++ zs) (two_levels f g xs (λ y m. h y (omega arith))) ∙ sym (flat_map-append f (f x) (flat_map f xs))
+    flat_map-append g (g x) (flat_map g xs) ∙ ap (λ zs. zs ++ flat_map g (flat_map g xs)) (h x (omega (arith, same_refl x)))
+    ∙ ap (λ zs. flat_map f (f x) ++ zs) (two_levels f g xs (λ y m. h y (omega arith))) ∙ sym (flat_map-append f (f x) (flat_map f xs))

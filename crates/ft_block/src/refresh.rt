@@ -13,6 +13,7 @@ use crate::leaves::Leaf;
 use crate::summaries::{Summary, add_node};
 use ft_arena::{Arena, Kids, Node, NodeId};
 use ft_base::{Element, OutOfMemory, Steps};
+use ft_partial::stamps_of;
 use std::alloc::Global;
 use std::sync::ledger::Ledger;
 
@@ -91,11 +92,13 @@ pub(crate) fn exchange_up<L: Leaf>(
     ensures floors { OnOk result (AreFromFloor floor arena.new) }
     ensures sums { OnOk result (SumsKeptBut L.size L.element floor arena.new None) }
 {
+    let stamps = stamps_of(e, new, floor)?;
+    let given = stamps.as_slice();
     let mut stale = stale;
     'up: while let Some(block) = stale {
         arena
             .block_mut(block)
-            .exchange(floor, e, len, new, new_len)?;
+            .exchange(floor, given, e, len, new, new_len)?;
         stale = arena.parent(block);
     }
     Ok(())

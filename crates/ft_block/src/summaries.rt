@@ -1,13 +1,14 @@
 //! What a block keeps of the leaves below it.
 
 ghost use Rattle.std.specs.Prelude.{◌≡◌, ◌≤◌, ◌<◌, ◌^◌, OnOk};
+ghost use Rattle.ft_partial.specs.Rows.{Covers};
 ghost use Rattle.ft_block.specs.Leaves.{IsFromFloor};
 ghost use Rattle.ft_block.specs.Tree.{kept_length, length_of_node, by_view, KeepsNothing, KeepsExchange, KeepsSum, KeepsNode, IsNodeFrom, HasRange};
 
 use crate::leaves::{Leaf, LenView, seen_in};
 use ft_arena::Node;
-use ft_base::{Element, OutOfMemory};
-use ft_partial::Table;
+use ft_base::{Element, OutOfMemory, Stamp};
+use ft_partial::{Table, stamps_of};
 use std::alloc::Global;
 
 /// What a block keeps: how many levels of blocks it heads, how many elements its leaves have, how many
@@ -49,16 +50,20 @@ impl Summary {
         }
     }
 
-    // Takes `len` elements of the stamps `e` out, and puts `new_len` of the stamps `new` in.
+    // Takes `len` elements of the stamps `e` out, and puts `new_len` of the stamps `new` in. The given
+    // stamps are those of both, as `stamps_of` answers them.
     pub(crate) fn exchange(
         &mut self,
         floor: u64,
+        stamps: &[Stamp],
         e: &Element,
         len: u64,
         new: &Element,
         new_len: u64,
     ) -> Result<(), OutOfMemory>
-        requires { self.old.table.floor ≤ floor }
+        requires floor { self.old.table.floor ≤ floor }
+        requires old { Covers floor stamps.now e.now }
+        requires new { Covers floor stamps.now new.now }
         ensures height { self.new.height ≡ self.old.height }
         ensures floor { self.new.table.floor ≡ floor }
         ensures low { HasRange self.new }
@@ -70,7 +75,7 @@ impl Summary {
         self.whole = self.whole.wrapping_sub(len).wrapping_add(new_len);
         self.local = self.local.wrapping_sub(gone).wrapping_add(come);
         self.table.fold_to(floor);
-        self.table.replace(e, len, new, new_len)
+        self.table.exchange(stamps, e, len, new, new_len)
     }
 
     // Puts in what another block keeps.
@@ -98,13 +103,14 @@ pub(crate) fn add_node<L: Leaf>(
     requires node { IsNodeFrom floor node.now }
     ensures height { sum.new.height ≡ sum.old.height }
     ensures floor { sum.new.table.floor ≡ floor }
-    ensures low { HasRange sum.new }
+    ensures low { OnOk result (HasRange sum.new) }
     ensures sum { OnOk result (KeepsNode L.size L.element floor sum.old node.now sum.new) }
 {
     match node {
         Node::Leaf { value } => {
             let e = value.element();
-            sum.exchange(floor, e, 0, e, value.len())
+            let stamps = stamps_of(e, e, floor)?;
+            sum.exchange(floor, stamps.as_slice(), e, 0, e, value.len())
         }
         Node::Block { value, .. } => sum.add_all(floor, value),
     }

@@ -53,27 +53,32 @@ exchanged : (vn wn vo wo a b x y s t : ℕ) → (vn + a) % 2 ^ 64 ≡ (vo + b) %
 exchanged vn wn vo wo a b x y s t e1 e2 e3 e4 = omega arith
 
 -- both functions changed
-exchanges_item : (old new : Lengths) (stamps : List Stamp) (e f : Element) (n m : ℕ) → n < 2 ^ 64 → m < 2 ^ 64 → Covers stamps e → Covers stamps f
-    → ExchangesSpan old.common new.common (common_span e n) (common_span f m) → ExchangesRows old.own new.own stamps e n f m → Exchanges old new e n f m
+exchanges_item : (old new : Lengths) (stamps : List Stamp) (e f : Element) (n m : ℕ) → n < 2 ^ 64 → m < 2 ^ 64 → Covers old.floor stamps e → Covers old.floor stamps f
+    → ExchangesSpan old.common new.common (common_span old.floor e n) (common_span old.floor f m) → ExchangesRows old.floor old.own new.own stamps e n f m
+    → Exchanges old new e n f m
 unfolding length_at
-exchanges_item old new stamps e f n m hn hm ce cf common own r c hr hc =
-    let out = covered stamps e n r c ce in
-    let into = covered stamps f m r c cf in
+exchanges_item old new stamps e f n m hn hm ce cf common own r c hf hr hc =
+    let out = covered old.floor stamps e n r c ce in
+    let into = covered old.floor stamps f m r c cf in
     let rows = own r c hr hc in
     exchanged (value_at new.common r) (value_at new.own (place_of c r)) (value_at old.common r) (value_at old.own (place_of c r))
-    (span_value (common_span e n) r) (span_value (common_span f m) r) (row_value e n c r) (row_value f m c r) (amount (sees e r c) n) (amount (sees f r c) m)
-    (common r) (omega (arith, rows, out, into)) (parts e n r c hn hr) (parts f m r c hm hr)
+    (span_value (common_span old.floor e n) r) (span_value (common_span old.floor f m) r) (row_value old.floor e n c r) (row_value old.floor f m c r)
+    (amount (sees e r c) n) (amount (sees f r c) m)
+    (common r) (omega (arith, rows, out, into)) (parts old.floor e n r c hf hn hr) (parts old.floor f m r c hf hm hr)
 
 -- the same in the words of the code
-pub exchanges_item_at : (old new : Lengths) (stamps : List Stamp) (common own : List Step) (span new_span : Span) (e f : Element) (n m : ℕ) → n < 2 ^ 64 → m < 2 ^ 64
-    → Covers stamps e → Covers stamps f → common ≡ old.common → own ≡ old.own → span ≡ common_span e n → new_span ≡ common_span f m
-    → ExchangesSpan common new.common span new_span → ExchangesRows own new.own stamps e n f m → Exchanges old new e n f m
-exchanges_item_at old new stamps common own span new_span e f n m hn hm ce cf ec eo es et exchange rows =
+pub exchanges_item_at : (old new : Lengths) (floor : ℕ) (stamps : List Stamp) (common own : List Step) (span new_span : Span) (e f : Element) (n m : ℕ)
+    → n < 2 ^ 64 → m < 2 ^ 64 → Covers old.floor stamps e → Covers old.floor stamps f
+    → floor ≡ old.floor → common ≡ old.common → own ≡ old.own → span ≡ common_span floor e n → new_span ≡ common_span floor f m
+    → ExchangesSpan common new.common span new_span → ExchangesRows floor own new.own stamps e n f m → Exchanges old new e n f m
+exchanges_item_at old new floor stamps common own span new_span e f n m hn hm ce cf ef ec eo es et exchange rows =
     let A : List Step → Type 0 = λ xs. ExchangesSpan xs new.common span new_span in
     let S : Span → Type 0 = λ s. ExchangesSpan old.common new.common s new_span in
-    let T : Span → Type 0 = λ s. ExchangesSpan old.common new.common (common_span e n) s in
-    let O : List Step → Type 0 = λ xs. ExchangesRows xs new.own stamps e n f m in
-    exchanges_item old new stamps e f n m hn hm ce cf (subst T et (subst S es (subst A ec exchange))) (subst O eo rows)
+    let T : Span → Type 0 = λ s. ExchangesSpan old.common new.common (common_span floor e n) s in
+    let O : List Step → Type 0 = λ xs. ExchangesRows floor xs new.own stamps e n f m in
+    let F : ℕ → Type 0 = λ k. ExchangesSpan old.common new.common (common_span k e n) (common_span k f m) in
+    let R : ℕ → Type 0 = λ k. ExchangesRows k old.own new.own stamps e n f m in
+    exchanges_item old new stamps e f n m hn hm ce cf (subst F ef (subst T et (subst S es (subst A ec exchange)))) (subst R ef (subst O eo rows))
 
 amount-zero : (b : Bool) → amount b 0 ≡ 0
 amount-zero true = refl
@@ -81,8 +86,8 @@ amount-zero false = refl
 
 -- elements put in the place of none of them
 pub adds_item : (old new : Lengths) (e : Element) (n : ℕ) → Exchanges old new e 0 e n → Adds old new e n
-adds_item old new e n exchanges r c hr hc =
-    let sum = exchanges r c hr hc in
+adds_item old new e n exchanges r c hf hr hc =
+    let sum = exchanges r c hf hr hc in
     let fits = length_at-fits new r c in
     let none = amount-zero (sees e r c) in
     omega arith
@@ -119,7 +124,7 @@ pub stands-add : (old new : Lengths) (e : Element) (n : ℕ) → Adds old new e 
     → (xs : List Item) → StandsFor old xs → StandsFor new (item_of e n ∷ xs)
 stands-add old new e n adds floor xs stands r c hf hr hc =
     let above : old.floor ≤ r = omega arith in
-    more (length_at new r c) (length_at old r c) (amount (sees e r c) n) (seen r c xs) (adds r c hr hc) (stands r c above hr hc)
+    more (length_at new r c) (length_at old r c) (amount (sees e r c) n) (seen r c xs) (adds r c above hr hc) (stands r c above hr hc)
 
 shifted : (wn wo a b x y : ℕ) → (wn + a) % 2 ^ 64 ≡ (wo + b) % 2 ^ 64 → wo ≡ x % 2 ^ 64 → a + y ≡ b + x → wn < 2 ^ 64 → wn ≡ y % 2 ^ 64
 shifted wn wo a b x y e1 e2 e3 h = omega arith
@@ -130,7 +135,7 @@ pub stands-exchange : (old new : Lengths) (e f : Element) (n m : ℕ) → Exchan
 stands-exchange old new e f n m exchanges floor xs ys stands same r c hf hr hc =
     let above : old.floor ≤ r = omega arith in
     shifted (length_at new r c) (length_at old r c) (amount (sees e r c) n) (amount (sees f r c) m) (seen r c xs) (seen r c ys)
-    (exchanges r c hr hc) (stands r c above hr hc) (same_sums (item_of e n ∷ ys) (item_of f m ∷ xs) same (λ g. sees g r c)) (length_at-fits new r c)
+    (exchanges r c above hr hc) (stands r c above hr hc) (same_sums (item_of e n ∷ ys) (item_of f m ∷ xs) same (λ g. sees g r c)) (length_at-fits new r c)
 
 length_where-append : (p : Element → Bool) (xs ys : List Item) → length_where p (xs ++ ys) ≡ length_where p xs + length_where p ys
 length_where-append p [] ys = omega arith

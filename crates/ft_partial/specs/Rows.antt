@@ -1,9 +1,9 @@
 -- How far what a connection sees of an element differs from what those see who made none of its stamps.
 --     first_removal dels      from this sequence number on everybody sees the removal
 --     place_of c k      where the row of connection c has its value for the sequence number k
---     common_span e n      the change that n elements make for those who made none of their stamps
---     row_span e n c      the change that they make in the row of connection c
-use Rattle.std.specs.Prelude.{◌≡◌, ℕ, ◌+◌, ◌*◌, ◌-◌, ◌<◌, ◌%◌, ◌^◌, Bool, true, false, ◌&&◌, ◌||◌, not, nat_eq, min, List, [], ◌∷◌}
+--     common_span floor e n      the change that n elements make, from the floor up, for those who made none of their stamps
+--     row_span floor e n c      the change that they make in the row of connection c
+use Rattle.std.specs.Prelude.{◌≡◌, ℕ, ◌+◌, ◌*◌, ◌-◌, ◌<◌, ◌%◌, ◌^◌, Bool, true, false, ◌&&◌, ◌||◌, not, cond, nat_le, nat_eq, min, List, [], ◌∷◌}
 use Rattle.std.specs.List.{list_any}
 use Rattle.ft_base.specs.declared.stamps.Stamp.{Stamp}
 use Rattle.ft_base.specs.declared.stamps.Stamp.TheVariants.{Acked, Local}
@@ -31,9 +31,13 @@ is_by c (Local stage) = false
 abbrev pub place_of : ℕ → ℕ → ℕ
 place_of c k = c * 2 ^ 64 + k
 
--- the change that n elements make for those who made none of their stamps
-abbrev pub common_span : Element → ℕ → Span
-common_span e n = record { from = number_of e.ins; to = first_removal e.dels; by = n }
+-- a sequence number as it counts from the floor up: 0 where it is at or below it, for then all have seen it
+abbrev pub at_floor : ℕ → ℕ → ℕ
+at_floor floor k = cond (nat_le k floor) 0 k
+
+-- the change that n elements make, from the floor up, for those who made none of their stamps
+abbrev pub common_span : ℕ → Element → ℕ → Span
+common_span floor e n = record { from = at_floor floor (number_of e.ins); to = at_floor floor (first_removal e.dels); by = n }
 
 -- the change in the row of connection c by n elements inserted at s and first removed at g, where c is one of their removers, or else their maker, or neither
 abbrev pub row_change : Bool → Bool → ℕ → ℕ → ℕ → ℕ → Span
@@ -42,25 +46,30 @@ row_change false true c s g n = record { from = place_of c 0; to = place_of c (m
 row_change false false c s g n = record { from = place_of c 0; to = place_of c 0; by = 0 }
 
 -- the change that n elements make in the row of connection c
-abbrev pub row_span : Element → ℕ → ℕ → Span
-row_span e n c = row_change (list_any (is_by c) e.dels) (is_by c e.ins) c (number_of e.ins) (first_removal e.dels) n
+abbrev pub row_span : ℕ → Element → ℕ → ℕ → Span
+row_span floor e n c = row_change (list_any (is_by c) e.dels) (is_by c e.ins) c (at_floor floor (number_of e.ins)) (at_floor floor (first_removal e.dels)) n
 
 -- what n elements add to the row of connection c at the sequence number r
-abbrev pub row_value : Element → ℕ → ℕ → ℕ → ℕ
-row_value e n c r = span_value (row_span e n c) (place_of c r)
+abbrev pub row_value : ℕ → Element → ℕ → ℕ → ℕ → ℕ
+row_value floor e n c r = span_value (row_span floor e n c) (place_of c r)
 
 -- the row of the stamp's connection, if it made none of the stamps before, has m elements f in the place of n elements e
-abbrev pub ExchangesRow : List Step → List Step → List Stamp → Stamp → Element → ℕ → Element → ℕ → Type 0
-ExchangesRow old new before stamp e n f m = (r c : ℕ) → r < 2 ^ 64 → c < 2 ^ 32
-    → (value_at new (place_of c r) + amount (not (list_any (is_by c) before) && is_by c stamp) (row_value e n c r)) % 2 ^ 64
-    ≡ (value_at old (place_of c r) + amount (not (list_any (is_by c) before) && is_by c stamp) (row_value f m c r)) % 2 ^ 64
+abbrev pub ExchangesRow : ℕ → List Step → List Step → List Stamp → Stamp → Element → ℕ → Element → ℕ → Type 0
+ExchangesRow floor old new before stamp e n f m = (r c : ℕ) → r < 2 ^ 64 → c < 2 ^ 32
+    → (value_at new (place_of c r) + amount (not (list_any (is_by c) before) && is_by c stamp) (row_value floor e n c r)) % 2 ^ 64
+    ≡ (value_at old (place_of c r) + amount (not (list_any (is_by c) before) && is_by c stamp) (row_value floor f m c r)) % 2 ^ 64
 
 -- the rows of all connections that made one of the stamps have m elements f in the place of n elements e
-abbrev pub ExchangesRows : List Step → List Step → List Stamp → Element → ℕ → Element → ℕ → Type 0
-ExchangesRows old new stamps e n f m = (r c : ℕ) → r < 2 ^ 64 → c < 2 ^ 32
-    → (value_at new (place_of c r) + amount (list_any (is_by c) stamps) (row_value e n c r)) % 2 ^ 64
-    ≡ (value_at old (place_of c r) + amount (list_any (is_by c) stamps) (row_value f m c r)) % 2 ^ 64
+abbrev pub ExchangesRows : ℕ → List Step → List Step → List Stamp → Element → ℕ → Element → ℕ → Type 0
+ExchangesRows floor old new stamps e n f m = (r c : ℕ) → r < 2 ^ 64 → c < 2 ^ 32
+    → (value_at new (place_of c r) + amount (list_any (is_by c) stamps) (row_value floor e n c r)) % 2 ^ 64
+    ≡ (value_at old (place_of c r) + amount (list_any (is_by c) stamps) (row_value floor f m c r)) % 2 ^ 64
 
--- each connection that made a stamp of the element made one of these
-abbrev pub Covers : List Stamp → Element → Type 0
-Covers stamps e = (c : ℕ) → (is_by c e.ins || list_any (is_by c) e.dels) ≡ true → list_any (is_by c) stamps ≡ true
+-- the stamp, if it is sequenced above the floor
+abbrev pub late : ℕ → Stamp → List Stamp
+late floor (Acked seq conn) = cond (nat_le seq floor) [] (Acked seq conn ∷ [])
+late floor (Local stage) = []
+
+-- each connection that inserted the element above the floor, or removed it, made one of these stamps
+abbrev pub Covers : ℕ → List Stamp → Element → Type 0
+Covers floor stamps e = (c : ℕ) → (list_any (is_by c) (late floor e.ins) || list_any (is_by c) e.dels) ≡ true → list_any (is_by c) stamps ≡ true

@@ -23,13 +23,13 @@ length_at t r c = (value_at t.common r + value_at t.own (place_of c r)) % 2 ^ 64
 abbrev pub StandsFor : Lengths → List Item → Type 0
 StandsFor t xs = (r c : ℕ) → t.floor ≤ r → r < 2 ^ 64 → c < 2 ^ 32 → length_at t r c ≡ seen r c xs % 2 ^ 64
 
--- each length is higher by n where the element is seen
+-- from the floor up each length is higher by n where the element is seen
 abbrev pub Adds : Lengths → Lengths → Element → ℕ → Type 0
-Adds old new e n = (r c : ℕ) → r < 2 ^ 64 → c < 2 ^ 32 → length_at new r c ≡ (length_at old r c + amount (sees e r c) n) % 2 ^ 64
+Adds old new e n = (r c : ℕ) → old.floor ≤ r → r < 2 ^ 64 → c < 2 ^ 32 → length_at new r c ≡ (length_at old r c + amount (sees e r c) n) % 2 ^ 64
 
--- each length is higher by m where f is seen, and lower by n where e is
+-- from the floor up each length is higher by m where f is seen, and lower by n where e is
 abbrev pub Exchanges : Lengths → Lengths → Element → ℕ → Element → ℕ → Type 0
-Exchanges old new e n f m = (r c : ℕ) → r < 2 ^ 64 → c < 2 ^ 32
+Exchanges old new e n f m = (r c : ℕ) → old.floor ≤ r → r < 2 ^ 64 → c < 2 ^ 32
     → (length_at new r c + amount (sees e r c) n) % 2 ^ 64 ≡ (length_at old r c + amount (sees f r c) m) % 2 ^ 64
 
 -- each length is that of both tables together

@@ -8,7 +8,7 @@
 
 ghost use Rattle.std.specs.Prelude.{◌≡◌, ◌+◌, ◌*◌, ◌≤◌, ◌^◌, length};
 ghost use Rattle.std.specs.List.{list_any};
-ghost use Rattle.ft_partial.specs.Rows.{number_of, first_removal, is_by, place_of, common_span, row_span, ExchangesRow, ExchangesRows};
+ghost use Rattle.ft_partial.specs.Rows.{number_of, first_removal, is_by, place_of, at_floor, common_span, row_span, ExchangesRow, ExchangesRows};
 
 use crate::step_functions::{CHANGES, Span, StepFunction};
 use ft_base::{Element, Stamp};
@@ -64,26 +64,34 @@ pub fn place_of(conn: u32, number: u128) -> u128
     conn as u128 * ROW + number
 }
 
-/// The change that `len` elements make for those who made none of their stamps.
-pub fn common_span(e: &Element, len: u64) -> Span
-    ensures { result ≡ common_span e.now len }
+/// A sequence number as it counts from the floor up: 0 where it is at or below it.
+fn at_floor(number: u128, floor: u64) -> u128
+    ensures number { result ≡ at_floor floor number }
+    ensures low { result ≤ number }
+{
+    if number <= floor as u128 { 0 } else { number }
+}
+
+/// The change that `len` elements make, from the floor up, for those who made none of their stamps.
+pub fn common_span(e: &Element, len: u64, floor: u64) -> Span
+    ensures { result ≡ common_span floor e.now len }
 {
     Span {
-        from: number_of(&e.ins),
-        to: first_removal(e.dels.as_slice()),
+        from: at_floor(number_of(&e.ins), floor),
+        to: at_floor(first_removal(e.dels.as_slice()), floor),
         by: len,
     }
 }
 
-/// The change that `len` elements make in a connection's row.
+/// The change that `len` elements make, from the floor up, in a connection's row.
 #[tactic(auto, using(crate::proofs::RowLemmas::removal_bounds))]
-fn row_span(e: &Element, len: u64, conn: u32) -> Span
-    ensures span { result ≡ row_span e.now len conn }
+fn row_span(e: &Element, len: u64, conn: u32, floor: u64) -> Span
+    ensures span { result ≡ row_span floor e.now len conn }
     ensures fits { number_of e.now.ins ≤ 2 ^ 64 }
 {
     let dels = e.dels.as_slice();
-    let inserted = number_of(&e.ins);
-    let removed = first_removal(dels);
+    let inserted = at_floor(number_of(&e.ins), floor);
+    let removed = at_floor(first_removal(dels), floor);
     if is_any_by(dels, conn) {
         return Span {
             from: place_of(conn, inserted),
@@ -108,6 +116,7 @@ fn row_span(e: &Element, len: u64, conn: u32) -> Span
 /// Exchanges elements in the row of the stamp's connection, if it made none of the stamps before.
 fn exchange_row(
     own: &mut StepFunction,
+    floor: u64,
     before: &[Stamp],
     stamp: Stamp,
     e: &Element,
@@ -116,20 +125,24 @@ fn exchange_row(
     new_len: u64,
 )
     requires { CHANGES ≤ own.old.room }
-    ensures exchanges { ExchangesRow own.old.steps own.new.steps before.now stamp e.now len new.now new_len }
+    ensures exchanges { ExchangesRow floor own.old.steps own.new.steps before.now stamp e.now len new.now new_len }
     ensures room { own.old.room ≤ own.new.room + CHANGES }
 {
     if let Stamp::Acked { seq: _, conn } = stamp {
         if !is_any_by(before, conn) {
-            own.exchange(row_span(e, len, conn), row_span(new, new_len, conn));
+            own.exchange(
+                row_span(e, len, conn, floor),
+                row_span(new, new_len, conn, floor),
+            );
         }
     }
 }
 
 /// Takes `len` elements of the stamps `e` out of the rows of all connections that made one of the
-/// stamps, and puts `new_len` of the stamps `new` in. It takes no memory.
+/// stamps, and puts `new_len` of the stamps `new` in.
 pub fn exchange_rows(
     own: &mut StepFunction,
+    floor: u64,
     stamps: &[Stamp],
     e: &Element,
     len: u64,
@@ -137,9 +150,9 @@ pub fn exchange_rows(
     new_len: u64,
 )
     requires { CHANGES * length stamps.now ≤ own.old.room }
-    ensures { ExchangesRows own.old.steps own.new.steps stamps.now e.now len new.now new_len }
+    ensures { ExchangesRows floor own.old.steps own.new.steps stamps.now e.now len new.now new_len }
 {
     for i in 0..stamps.len() {
-        exchange_row(own, &stamps[..i], stamps[i], e, len, new, new_len);
+        exchange_row(own, floor, &stamps[..i], stamps[i], e, len, new, new_len);
     }
 }

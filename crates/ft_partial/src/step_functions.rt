@@ -47,7 +47,7 @@ impl Model for StepFunction {
 }
 
 impl StepFunction {
-    /// The function that is 0 everywhere. It takes no memory.
+    /// The function that is 0 everywhere.
     pub fn new(alloc: Global) -> StepFunction
         ensures { result.steps ≡ [] }
     {
@@ -68,21 +68,21 @@ impl StepFunction {
         Ok(())
     }
 
-    /// How many steps there are. It takes no memory.
+    /// How many steps there are.
     pub fn len(&self) -> usize
         ensures { result ≡ length self.now.steps }
     {
         self.steps.len()
     }
 
-    /// The value at a place, by binary search. It takes no memory.
+    /// The value at a place, by binary search.
     pub fn at(&self, place: u128) -> u64
         ensures { result ≡ value_at self.now.steps place }
     {
         value_of(self.steps.as_slice(), place)
     }
 
-    /// Makes one change: it looks at the steps within the span alone. It takes no memory.
+    /// Makes one change: it looks at the steps within the span alone.
     pub fn raise(&mut self, span: Span)
         requires { 1 ≤ self.old.room }
         ensures raises { Raises self.old.steps self.new.steps span }
@@ -94,7 +94,7 @@ impl StepFunction {
     }
 
     /// Takes one change back and makes another. It looks only at the steps where the two differ, or
-    /// that stand between the two. It takes no memory.
+    /// that stand between the two.
     pub fn exchange(&mut self, old: Span, new: Span)
         requires { CHANGES ≤ self.old.room }
         ensures exchanges { ExchangesSpan self.old.steps self.new.steps old new }
@@ -143,7 +143,7 @@ impl StepFunction {
     }
 
     /// Takes out steps that change no value from the floor up, counted within each stretch of 2^64
-    /// places, so that of each stretch at most one step is left at or below it. It takes no memory.
+    /// places, so that of each stretch at most one step is left at or below it.
     pub fn fold_to(&mut self, floor: u64)
         ensures values { (k : ℕ) → floor ≤ k % 2 ^ 64 → value_at self.new.steps k ≡ value_at self.old.steps k }
         ensures few { length self.new.steps ≤ length self.old.steps }

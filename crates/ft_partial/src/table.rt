@@ -4,7 +4,7 @@ ghost use Rattle.std.specs.Prelude.{◌≡◌, ◌+◌, ◌≤◌, ◌<◌, ◌^
 ghost use Rattle.ft_partial.specs.Items.{Item, item_of, inserted, removed, seen, folded_items};
 ghost use Rattle.ft_partial.specs.SameStamps.{SameByStamps, ExchangesItem};
 ghost use Rattle.ft_partial.specs.Tables.{length_at, StandsFor, Adds, Exchanges, AddsAll, SameFrom};
-ghost use Rattle.ft_partial.specs.Rows.{Covers};
+ghost use Rattle.ft_partial.specs.Rows.{Covers, late};
 
 use crate::rows::{common_span, exchange_rows, place_of};
 use crate::step_functions::{CHANGES, StepFunction};
@@ -51,19 +51,29 @@ impl Model for Table {
     ghost invariant = { λ a. 16 ≤ a.fold_at };
 }
 
-/// The stamps of two elements.
+/// Adds the stamp at the end, if it is sequenced above the floor.
+fn push_late(stamps: &mut Stamps, stamp: Stamp, floor: u64) -> Result<(), OutOfMemory>
+    ensures { OnOk result (stamps.new ≡ stamps.old ++ late floor stamp) }
+{
+    match stamp {
+        Stamp::Acked { seq, .. } if seq > floor => stamps.push(stamp),
+        _ => Ok(()),
+    }
+}
+
+/// The stamps of two elements, for `Table::exchange`: of the insertions those above the floor.
 ///
 /// Answers `OutOfMemory` where there is no room for them.
-fn stamps_of(e: &Element, new: &Element) -> Result<Stamps, OutOfMemory>
-    ensures old { IfOk result (λ stamps. Covers stamps e.now) }
-    ensures new { IfOk result (λ stamps. Covers stamps new.now) }
+pub fn stamps_of(e: &Element, new: &Element, floor: u64) -> Result<Stamps, OutOfMemory>
+    ensures old { IfOk result (λ stamps. Covers floor stamps e.now) }
+    ensures new { IfOk result (λ stamps. Covers floor stamps new.now) }
 {
     let mut stamps = e.dels.copy()?;
-    stamps.push(e.ins)?;
+    push_late(&mut stamps, e.ins, floor)?;
     for stamp in new.dels.as_slice() {
         stamps.push(*stamp)?;
     }
-    stamps.push(new.ins)?;
+    push_late(&mut stamps, new.ins, floor)?;
     Ok(stamps)
 }
 
@@ -85,7 +95,7 @@ fn reserve(
 }
 
 impl Table {
-    /// The table of no items, with floor 0. It takes no memory.
+    /// The table of no items, with floor 0.
     pub fn new(alloc: Global) -> Table
         ensures stands { StandsFor result [] }
         ensures floor { result.floor ≡ 0 }
@@ -99,8 +109,7 @@ impl Table {
         }
     }
 
-    /// How many elements the perspective sees, whose reference number isn't below the floor. It takes
-    /// no memory.
+    /// How many elements the perspective sees, whose reference number isn't below the floor.
     ///
     /// The number is exact where less than 2^64 elements are seen, as in each list that has less, and
     /// else it is taken round 2^64.
@@ -141,7 +150,7 @@ impl Table {
         ensures err { OnErr result (self.new ≡ self.old) }
     {
         let mut stamps = e.dels.copy()?;
-        stamps.push(e.ins)?;
+        push_late(&mut stamps, e.ins, self.floor)?;
         self.exchange(stamps.as_slice(), e, 0, e, len)
     }
 
@@ -177,12 +186,15 @@ impl Table {
         ensures floor { self.new.floor ≡ self.old.floor }
         ensures err { OnErr result (self.new ≡ self.old) }
     {
-        let stamps = stamps_of(e, new)?;
+        let stamps = stamps_of(e, new, self.floor)?;
         self.exchange(stamps.as_slice(), e, len, new, new_len)
     }
 
-    /// What `replace` does, where each connection that made a stamp of either made one of `stamps`.
-    fn exchange(
+    /// What `replace` does, for a caller that makes the same change in many tables with one floor: among
+    /// `stamps` is one by each connection that removed either element, or inserted it above the floor.
+    ///
+    /// Answers `OutOfMemory` where there is no room, and then the table is as it was.
+    pub fn exchange(
         &mut self,
         stamps: &[Stamp],
         e: &Element,
@@ -190,17 +202,17 @@ impl Table {
         new: &Element,
         new_len: u64,
     ) -> Result<(), OutOfMemory>
-        requires old { Covers stamps.now e.now }
-        requires new { Covers stamps.now new.now }
+        requires old { Covers self.old.floor stamps.now e.now }
+        requires new { Covers self.old.floor stamps.now new.now }
         ensures exchanges { OnOk result (Exchanges self.old self.new e.now len new.now new_len) }
         ensures floor { self.new.floor ≡ self.old.floor }
         ensures err { OnErr result (self.new ≡ self.old) }
     {
+        let floor = self.floor;
         let changes = stamps.len().checked_mul(CHANGES).ok_or(OutOfMemory)?;
         reserve(&mut self.common, CHANGES, &mut self.own, changes)?;
-        self.common
-            .exchange(common_span(e, len), common_span(new, new_len));
-        exchange_rows(&mut self.own, stamps, e, len, new, new_len);
+        self.common.exchange(common_span(e, len, floor), common_span(new, new_len, floor));
+        exchange_rows(&mut self.own, floor, stamps, e, len, new, new_len);
         Ok(())
     }
 
@@ -223,7 +235,7 @@ impl Table {
     }
 
     /// Raises the floor to `floor`, which isn't below the old one: the items removed at or below it
-    /// are gone, and insertions at or below it are written (0, 0). It takes no memory.
+    /// are gone, and insertions at or below it are written (0, 0).
     ///
     /// The steps are looked through only once they have doubled since the last time, so all folds
     /// together take no longer than the calls that added the steps. Then, of each connection and of

@@ -4,54 +4,98 @@ use Rattle.ft_arena.specs.Forest.{Forest}
 use Rattle.ft_block.specs.declared.summaries.Summary.{Summary}
 use Rattle.ft_block.specs.Leaves.{seen_length}
 use Rattle.ft_block.specs.Tree.{by_view, by_size, height_of}
-use Rattle.ft_block.proofs.InsertLemmas.{room_tree, room_sums, room_floors, room_values, room_leaves, cut_grows, cut_heights, cut_sums, cut_owes, cut_floors, cut_total, cut_splits, all_settled}
+use Rattle.ft_block.proofs.InsertLemmas.{room_tree, room_sums, room_floors, room_values, room_leaves, cut_grows, cut_heights, cut_sums, cut_owes, cut_floors, cut_total}
+use Rattle.ft_block.proofs.InsertLemmas.{cut_splits, all_settled}
 use Rattle.ft_block.proofs.FitLemmas.{leaf_total}
 use Rattle.ft_block.proofs.ViewLemmas.{seen_parts}
 use Rattle.ft_block.proofs.change.split_at.Goals as goal
 
 pub grow-requires-clause-growing : goal.grow-requires-clause-growing
-grow-requires-clause-growing g c = cut_grows c.reserve.new.self c.link_after-id.new.self c.args.root c.args.leaf c.link_after-id.result c.leaf_mut.result.now c.split_off.new.self c.in_ok-rest.rest (room_tree c.args.arena.now c.reserve.new.self c.reserve.ensures.kept c.args.root c.requires.tree) c.leaf_mut.ensures.value c.link_after-id.ensures.fresh c.link_after-id.ensures.changes c.link_after-id.ensures.leaves c.link_after-id.ensures.sound
+grow-requires-clause-growing g c = cut_grows c.reserve.new.self c.link_after-id.new.self c.args.root c.args.leaf c.link_after-id.result c.leaf_mut.result.now
+    c.split_off.new.self c.in_ok-rest.rest (room_tree c.args.arena.now c.reserve.new.self c.reserve.ensures.kept c.args.root c.requires.tree) c.leaf_mut.ensures.value
+    c.link_after-id.ensures.fresh c.link_after-id.ensures.changes c.link_after-id.ensures.leaves c.link_after-id.ensures.sound
 
 pub grow-requires-clause-sums : goal.grow-requires-clause-sums
-grow-requires-clause-sums g c = λ view k. cut_sums c.reserve.new.self c.link_after-id.new.self c.args.root c.args.leaf c.link_after-id.result c.leaf_mut.result.now c.split_off.new.self c.in_ok-rest.rest (room_tree c.args.arena.now c.reserve.new.self c.reserve.ensures.kept c.args.root c.requires.tree) c.leaf_mut.ensures.value c.link_after-id.ensures.fresh c.link_after-id.ensures.changes c.link_after-id.ensures.leaves c.link_after-id.ensures.sound (by_view g.L.Leaf.size g.L.Leaf.element view) (room_sums c.args.arena.now c.reserve.new.self c.reserve.ensures.kept (by_view g.L.Leaf.size g.L.Leaf.element view) (c.requires.sums view k))
+grow-requires-clause-sums g c = λ view k. cut_sums c.reserve.new.self c.link_after-id.new.self c.args.root c.args.leaf c.link_after-id.result c.leaf_mut.result.now
+    c.split_off.new.self c.in_ok-rest.rest (room_tree c.args.arena.now c.reserve.new.self c.reserve.ensures.kept c.args.root c.requires.tree) c.leaf_mut.ensures.value
+    c.link_after-id.ensures.fresh c.link_after-id.ensures.changes c.link_after-id.ensures.leaves c.link_after-id.ensures.sound
+    (by_view g.L.Leaf.size g.L.Leaf.element view) (room_sums c.args.arena.now c.reserve.new.self c.reserve.ensures.kept (by_view g.L.Leaf.size g.L.Leaf.element view)
+    (c.requires.sums view k))
 
 pub grow-requires-clause-floors : goal.grow-requires-clause-floors
-grow-requires-clause-floors g c = cut_floors c.reserve.new.self c.link_after-id.new.self c.args.root c.args.leaf c.link_after-id.result c.leaf_mut.result.now c.split_off.new.self c.in_ok-rest.rest (room_tree c.args.arena.now c.reserve.new.self c.reserve.ensures.kept c.args.root c.requires.tree) c.leaf_mut.ensures.value c.link_after-id.ensures.fresh c.link_after-id.ensures.changes c.link_after-id.ensures.leaves c.link_after-id.ensures.sound c.args.floor (room_floors c.args.arena.now c.reserve.new.self c.reserve.ensures.kept c.args.floor c.requires.floors)
+grow-requires-clause-floors g c = cut_floors c.reserve.new.self c.link_after-id.new.self c.args.root c.args.leaf c.link_after-id.result c.leaf_mut.result.now
+    c.split_off.new.self c.in_ok-rest.rest (room_tree c.args.arena.now c.reserve.new.self c.reserve.ensures.kept c.args.root c.requires.tree) c.leaf_mut.ensures.value
+    c.link_after-id.ensures.fresh c.link_after-id.ensures.changes c.link_after-id.ensures.leaves c.link_after-id.ensures.sound c.args.floor
+    (room_floors c.args.arena.now c.reserve.new.self c.reserve.ensures.kept c.args.floor c.requires.floors)
 
 pub grow-requires-clause-fits : goal.grow-requires-clause-fits
 grow-requires-clause-fits g c =
-    let high : c.args.at < g.L.Leaf.size c.leaf_mut.result.now = subst (λ (o : Option g.row.L.Denot). IsSomeAnd o (λ v. c.args.at < g.L.Leaf.size v)) (sym (room_values c.args.arena.now c.reserve.new.self c.reserve.ensures.kept c.args.leaf) ∙ c.leaf_mut.ensures.value) c.requires.leaf in
+    let high : c.args.at < g.L.Leaf.size c.leaf_mut.result.now =
+    subst (λ (o : Option g.row.L.Denot). IsSomeAnd o (λ v. c.args.at < g.L.Leaf.size v))
+    (sym (room_values c.args.arena.now c.reserve.new.self c.reserve.ensures.kept c.args.leaf) ∙ c.leaf_mut.ensures.value) c.requires.leaf in
     let low = c.requires.low in
     let met = g.met.L.Leaf in
-    let whole : g.L.Leaf.size (g.L.Leaf.front c.leaf_mut.result.now c.args.at) + g.L.Leaf.size (g.L.Leaf.rear c.leaf_mut.result.now c.args.at) ≡ g.L.Leaf.size c.leaf_mut.result.now = omega (arith, met.front_size c.leaf_mut.result.now c.args.at low high, met.rear_size c.leaf_mut.result.now c.args.at low high) in
-    let real = ap (λ (x : g.row.L.Denot). g.L.Leaf.size x + g.L.Leaf.size c.in_ok-rest.rest) c.in_ok-rest.ensures.front ∙ ap (λ (x : g.row.L.Denot). g.L.Leaf.size (g.L.Leaf.front c.leaf_mut.result.now c.args.at) + g.L.Leaf.size x) c.in_ok-rest.ensures.rear ∙ whole in
-    let same = leaf_total (by_size g.L.Leaf.size) c.args.arena.now c.reserve.new.self c.requires.tree.shape.forest (room_leaves c.args.arena.now c.reserve.new.self c.reserve.ensures.kept) (room_values c.args.arena.now c.reserve.new.self c.reserve.ensures.kept) in
-    omega (arith, cut_total c.reserve.new.self c.link_after-id.new.self c.args.root c.args.leaf c.link_after-id.result c.leaf_mut.result.now c.split_off.new.self c.in_ok-rest.rest (room_tree c.args.arena.now c.reserve.new.self c.reserve.ensures.kept c.args.root c.requires.tree) c.leaf_mut.ensures.value c.link_after-id.ensures.fresh c.link_after-id.ensures.changes c.link_after-id.ensures.leaves c.link_after-id.ensures.sound (by_size g.L.Leaf.size) real, same, c.requires.fits)
+    let whole : g.L.Leaf.size (g.L.Leaf.front c.leaf_mut.result.now c.args.at) + g.L.Leaf.size (g.L.Leaf.rear c.leaf_mut.result.now c.args.at) ≡ g.L.Leaf.size
+    c.leaf_mut.result.now = omega (arith, met.front_size c.leaf_mut.result.now c.args.at low high, met.rear_size c.leaf_mut.result.now c.args.at low high) in
+    let real = ap (λ (x : g.row.L.Denot). g.L.Leaf.size x + g.L.Leaf.size c.in_ok-rest.rest) c.in_ok-rest.ensures.front
+    ∙ ap (λ (x : g.row.L.Denot). g.L.Leaf.size (g.L.Leaf.front c.leaf_mut.result.now c.args.at) + g.L.Leaf.size x) c.in_ok-rest.ensures.rear ∙ whole in
+    let same = leaf_total (by_size g.L.Leaf.size) c.args.arena.now c.reserve.new.self c.requires.tree.shape.forest
+    (room_leaves c.args.arena.now c.reserve.new.self c.reserve.ensures.kept) (room_values c.args.arena.now c.reserve.new.self c.reserve.ensures.kept) in
+    omega (
+      arith,
+      cut_total c.reserve.new.self c.link_after-id.new.self c.args.root c.args.leaf c.link_after-id.result c.leaf_mut.result.now c.split_off.new.self
+          c.in_ok-rest.rest (room_tree c.args.arena.now c.reserve.new.self c.reserve.ensures.kept c.args.root c.requires.tree) c.leaf_mut.ensures.value
+          c.link_after-id.ensures.fresh c.link_after-id.ensures.changes c.link_after-id.ensures.leaves c.link_after-id.ensures.sound (by_size g.L.Leaf.size) real,
+      same,
+      c.requires.fits,
+    )
 
 pub grow-requires-clause-spare : goal.grow-requires-clause-spare
 grow-requires-clause-spare g c =
-    let h = cut_heights c.reserve.new.self c.link_after-id.new.self c.args.root c.args.leaf c.link_after-id.result c.leaf_mut.result.now c.split_off.new.self c.in_ok-rest.rest (room_tree c.args.arena.now c.reserve.new.self c.reserve.ensures.kept c.args.root c.requires.tree) c.leaf_mut.ensures.value c.link_after-id.ensures.fresh c.link_after-id.ensures.changes c.link_after-id.ensures.leaves c.link_after-id.ensures.sound c.args.root in
+    let h = cut_heights c.reserve.new.self c.link_after-id.new.self c.args.root c.args.leaf c.link_after-id.result c.leaf_mut.result.now c.split_off.new.self
+    c.in_ok-rest.rest (room_tree c.args.arena.now c.reserve.new.self c.reserve.ensures.kept c.args.root c.requires.tree) c.leaf_mut.ensures.value
+    c.link_after-id.ensures.fresh c.link_after-id.ensures.changes c.link_after-id.ensures.leaves c.link_after-id.ensures.sound c.args.root in
     let e = ap (λ (s : Forest g.row.L.Denot Summary). height_of s c.args.root) c.reserve.ensures.kept in
     omega (arith, h, e, c.link_after-id.ensures.spare, c.in_ok-reserve.ensures.room, c.nodes_needed-needed.ensures)
 
 pub grow-requires-clause-tall : goal.grow-requires-clause-tall
 grow-requires-clause-tall g c =
-    let h = cut_heights c.reserve.new.self c.link_after-id.new.self c.args.root c.args.leaf c.link_after-id.result c.leaf_mut.result.now c.split_off.new.self c.in_ok-rest.rest (room_tree c.args.arena.now c.reserve.new.self c.reserve.ensures.kept c.args.root c.requires.tree) c.leaf_mut.ensures.value c.link_after-id.ensures.fresh c.link_after-id.ensures.changes c.link_after-id.ensures.leaves c.link_after-id.ensures.sound c.args.root in
+    let h = cut_heights c.reserve.new.self c.link_after-id.new.self c.args.root c.args.leaf c.link_after-id.result c.leaf_mut.result.now c.split_off.new.self
+    c.in_ok-rest.rest (room_tree c.args.arena.now c.reserve.new.self c.reserve.ensures.kept c.args.root c.requires.tree) c.leaf_mut.ensures.value
+    c.link_after-id.ensures.fresh c.link_after-id.ensures.changes c.link_after-id.ensures.leaves c.link_after-id.ensures.sound c.args.root in
     let e = ap (λ (s : Forest g.row.L.Denot Summary). height_of s c.args.root) c.reserve.ensures.kept in
     omega (arith, h, e, c.nodes_needed-needed.ensures)
 
 pub returns-clause-sums : goal.returns-clause-sums
 returns-clause-sums g c = λ view k.
-    let high : c.args.at < g.L.Leaf.size c.leaf_mut.result.now = subst (λ (o : Option g.row.L.Denot). IsSomeAnd o (λ v. c.args.at < g.L.Leaf.size v)) (sym (room_values c.args.arena.now c.reserve.new.self c.reserve.ensures.kept c.args.leaf) ∙ c.leaf_mut.ensures.value) c.requires.leaf in
+    let high : c.args.at < g.L.Leaf.size c.leaf_mut.result.now =
+    subst (λ (o : Option g.row.L.Denot). IsSomeAnd o (λ v. c.args.at < g.L.Leaf.size v))
+    (sym (room_values c.args.arena.now c.reserve.new.self c.reserve.ensures.kept c.args.leaf) ∙ c.leaf_mut.ensures.value) c.requires.leaf in
     let low = c.requires.low in
     let met = g.met.L.Leaf in
-    let whole : g.L.Leaf.size (g.L.Leaf.front c.leaf_mut.result.now c.args.at) + g.L.Leaf.size (g.L.Leaf.rear c.leaf_mut.result.now c.args.at) ≡ g.L.Leaf.size c.leaf_mut.result.now = omega (arith, met.front_size c.leaf_mut.result.now c.args.at low high, met.rear_size c.leaf_mut.result.now c.args.at low high) in
-    let real = ap (λ (x : g.row.L.Denot). (seen_length g.L.Leaf.size g.L.Leaf.element view) x + (seen_length g.L.Leaf.size g.L.Leaf.element view) c.in_ok-rest.rest) c.in_ok-rest.ensures.front ∙ ap (λ (x : g.row.L.Denot). (seen_length g.L.Leaf.size g.L.Leaf.element view) (g.L.Leaf.front c.leaf_mut.result.now c.args.at) + (seen_length g.L.Leaf.size g.L.Leaf.element view) x) c.in_ok-rest.ensures.rear ∙ seen_parts g.L.Leaf.size g.L.Leaf.element view c.leaf_mut.result.now (g.L.Leaf.front c.leaf_mut.result.now c.args.at) (g.L.Leaf.rear c.leaf_mut.result.now c.args.at) (met.front_element c.leaf_mut.result.now c.args.at low high) (met.rear_element c.leaf_mut.result.now c.args.at low high) whole in
-    all_settled (by_view g.L.Leaf.size g.L.Leaf.element view) c.grow.new.arena _ (seen_length g.L.Leaf.size g.L.Leaf.element view c.leaf_mut.result.now) (c.in_ok-top.ensures.sums view k) (c.in_ok-top.ensures.owes view (seen_length g.L.Leaf.size g.L.Leaf.element view c.leaf_mut.result.now) (seen_length g.L.Leaf.size g.L.Leaf.element view c.leaf_mut.result.now) k (cut_owes c.reserve.new.self c.link_after-id.new.self c.args.root c.args.leaf c.link_after-id.result c.leaf_mut.result.now c.split_off.new.self c.in_ok-rest.rest (room_tree c.args.arena.now c.reserve.new.self c.reserve.ensures.kept c.args.root c.requires.tree) c.leaf_mut.ensures.value c.link_after-id.ensures.fresh c.link_after-id.ensures.changes c.link_after-id.ensures.leaves c.link_after-id.ensures.sound (by_view g.L.Leaf.size g.L.Leaf.element view) (room_sums c.args.arena.now c.reserve.new.self c.reserve.ensures.kept (by_view g.L.Leaf.size g.L.Leaf.element view) (c.requires.sums view k)) real))
+    let whole : g.L.Leaf.size (g.L.Leaf.front c.leaf_mut.result.now c.args.at) + g.L.Leaf.size (g.L.Leaf.rear c.leaf_mut.result.now c.args.at) ≡ g.L.Leaf.size
+    c.leaf_mut.result.now = omega (arith, met.front_size c.leaf_mut.result.now c.args.at low high, met.rear_size c.leaf_mut.result.now c.args.at low high) in
+    let real = ap (λ (x : g.row.L.Denot). (seen_length g.L.Leaf.size g.L.Leaf.element view) x + (seen_length g.L.Leaf.size g.L.Leaf.element view) c.in_ok-rest.rest)
+    c.in_ok-rest.ensures.front ∙ ap (λ (x : g.row.L.Denot). (seen_length g.L.Leaf.size g.L.Leaf.element view) (g.L.Leaf.front c.leaf_mut.result.now c.args.at) +
+    (seen_length g.L.Leaf.size g.L.Leaf.element view) x) c.in_ok-rest.ensures.rear
+    ∙ seen_parts g.L.Leaf.size g.L.Leaf.element view c.leaf_mut.result.now (g.L.Leaf.front c.leaf_mut.result.now c.args.at)
+    (g.L.Leaf.rear c.leaf_mut.result.now c.args.at) (met.front_element c.leaf_mut.result.now c.args.at low high)
+    (met.rear_element c.leaf_mut.result.now c.args.at low high) whole in
+    all_settled (by_view g.L.Leaf.size g.L.Leaf.element view) c.grow.new.arena _ (seen_length g.L.Leaf.size g.L.Leaf.element view c.leaf_mut.result.now)
+    (c.in_ok-top.ensures.sums view k) (c.in_ok-top.ensures.owes view (seen_length g.L.Leaf.size g.L.Leaf.element view c.leaf_mut.result.now)
+    (seen_length g.L.Leaf.size g.L.Leaf.element view c.leaf_mut.result.now) k
+    (cut_owes c.reserve.new.self c.link_after-id.new.self c.args.root c.args.leaf c.link_after-id.result c.leaf_mut.result.now c.split_off.new.self c.in_ok-rest.rest
+    (room_tree c.args.arena.now c.reserve.new.self c.reserve.ensures.kept c.args.root c.requires.tree) c.leaf_mut.ensures.value c.link_after-id.ensures.fresh
+    c.link_after-id.ensures.changes c.link_after-id.ensures.leaves c.link_after-id.ensures.sound (by_view g.L.Leaf.size g.L.Leaf.element view)
+    (room_sums c.args.arena.now c.reserve.new.self c.reserve.ensures.kept (by_view g.L.Leaf.size g.L.Leaf.element view) (c.requires.sums view k)) real))
 
 pub returns-clause-splits : goal.returns-clause-splits
 returns-clause-splits g c =
-    let i = cut_splits c.reserve.new.self c.link_after-id.new.self c.args.root c.args.leaf c.link_after-id.result c.leaf_mut.result.now c.split_off.new.self c.in_ok-rest.rest (room_tree c.args.arena.now c.reserve.new.self c.reserve.ensures.kept c.args.root c.requires.tree) c.leaf_mut.ensures.value c.link_after-id.ensures.fresh c.link_after-id.ensures.changes c.link_after-id.ensures.leaves c.link_after-id.ensures.sound (λ v. g.L.Leaf.front v c.args.at) (λ v. g.L.Leaf.rear v c.args.at) c.in_ok-rest.ensures.front c.in_ok-rest.ensures.rear c.grow.new.arena c.in_ok-top.ensures.leaves c.in_ok-top.ensures.leaf_values in
+    let i = cut_splits c.reserve.new.self c.link_after-id.new.self c.args.root c.args.leaf c.link_after-id.result c.leaf_mut.result.now c.split_off.new.self
+    c.in_ok-rest.rest (room_tree c.args.arena.now c.reserve.new.self c.reserve.ensures.kept c.args.root c.requires.tree) c.leaf_mut.ensures.value
+    c.link_after-id.ensures.fresh c.link_after-id.ensures.changes c.link_after-id.ensures.leaves c.link_after-id.ensures.sound (λ v. g.L.Leaf.front v c.args.at)
+    (λ v. g.L.Leaf.rear v c.args.at) c.in_ok-rest.ensures.front c.in_ok-rest.ensures.rear c.grow.new.arena c.in_ok-top.ensures.leaves
+    c.in_ok-top.ensures.leaf_values in
     let e = room_values c.args.arena.now c.reserve.new.self c.reserve.ensures.kept in
     record {
       leaves = i.leaves ∙ ap (λ (zs : List ℕ). insert_after zs c.args.leaf c.link_after-id.result) (room_leaves c.args.arena.now c.reserve.new.self c.reserve.ensures.kept);

@@ -8,4 +8,12 @@ use Rattle.ft_block.proofs.counted.join_in.Goals as goal
 pub returns-clause-sound : goal.returns-clause-sound
 returns-clause-sound g c =
     let was = subst (λ r. IsSound g.L.Leaf.size g.L.Leaf.element c.args.floor c.args.arena.now r) c.in-Some.is c.requires.sound in
-    subst (λ r. OnOk c.join_at.result (IsSound g.L.Leaf.size g.L.Leaf.element c.args.floor c.join_at.new.arena r)) (sym c.in-Some.is) (on_ok_four c.join_at.result (IsTree c.join_at.new.arena c.in-Some.root) (SumsKeptBut g.L.Leaf.size g.L.Leaf.element c.args.floor c.join_at.new.arena None) (AreFromFloor c.args.floor c.join_at.new.arena) (ChangesLeaf (λ v. g.L.Leaf.joined v c.args.other) c.args.arena.now c.join_at.new.arena c.args.id) (IsSound g.L.Leaf.size g.L.Leaf.element c.args.floor c.join_at.new.arena (Some c.in-Some.root)) (λ t sums floors i. changes_sound g.L.Leaf.size g.L.Leaf.element c.args.floor (λ v. g.L.Leaf.joined v c.args.other) c.args.arena.now c.join_at.new.arena c.in-Some.root c.args.id was (λ v q. (let can = subst (λ (o : Option g.row.L.Denot). IsSomeAnd o (λ w. IsTrue (g.L.Leaf.joins w c.args.other) × (g.L.Leaf.element w ≡ g.L.Leaf.element c.args.other))) q c.requires.can in let e = g.met.L.Leaf.joined_size v c.args.other can.0 can.1 in (omega (arith, e, was.filled c.args.id v q), omega (arith, e, c.requires.fits)))) t sums floors i) c.join_at.ensures.tree c.join_at.ensures.sums c.join_at.ensures.floors c.join_at.ensures.changes)
+    subst (λ r. OnOk c.join_at.result (IsSound g.L.Leaf.size g.L.Leaf.element c.args.floor c.join_at.new.arena r)) (sym c.in-Some.is)
+    (on_ok_four c.join_at.result (IsTree c.join_at.new.arena c.in-Some.root) (SumsKeptBut g.L.Leaf.size g.L.Leaf.element c.args.floor c.join_at.new.arena None)
+    (AreFromFloor c.args.floor c.join_at.new.arena) (ChangesLeaf (λ v. g.L.Leaf.joined v c.args.other) c.args.arena.now c.join_at.new.arena c.args.id)
+    (IsSound g.L.Leaf.size g.L.Leaf.element c.args.floor c.join_at.new.arena (Some c.in-Some.root))
+    (λ t sums floors i. changes_sound g.L.Leaf.size g.L.Leaf.element c.args.floor (λ v. g.L.Leaf.joined v c.args.other) c.args.arena.now c.join_at.new.arena
+    c.in-Some.root c.args.id was (λ v q. (let can =
+    subst (λ (o : Option g.row.L.Denot). IsSomeAnd o (λ w. IsTrue (g.L.Leaf.joins w c.args.other) × (g.L.Leaf.element w ≡ g.L.Leaf.element c.args.other))) q
+    c.requires.can in let e = g.met.L.Leaf.joined_size v c.args.other can.0 can.1 in (omega (arith, e, was.filled c.args.id v q), omega (arith, e, c.requires.fits))))
+    t sums floors i) c.join_at.ensures.tree c.join_at.ensures.sums c.join_at.ensures.floors c.join_at.ensures.changes)

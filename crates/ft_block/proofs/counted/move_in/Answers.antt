@@ -13,5 +13,11 @@ returns-then-stands_there-clause-moves g c = record { leaves = sym (c.stands_the
 
 pub returns-clause-sound : goal.returns-clause-sound
 returns-clause-sound g c =
-    let longer : (f : ℕ → ℕ) → total f c.move_at.new.arena.leaves ≡ total f c.args.arena.now.leaves = λ f. ap (total f) c.in_ok-top-in-Some.ensures.moves.leaves ∙ list_total c.args.arena.now (rooted_forest c.args.arena.now c.args.root c.requires.sound.rooted) f c.args.id c.args.at c.requires.live c.requires.at c.requires.differ in
-    subst (λ (z : ℕ). IsSound g.L.Leaf.size g.L.Leaf.element c.args.floor c.move_at.new.arena (Some z)) (sym c.top.view_is) (moves_sound g.L.Leaf.size g.L.Leaf.element c.args.floor c.args.arena.now c.move_at.new.arena c.args.root c.in_ok-top-in-Some.top c.args.id c.args.at c.requires.sound c.requires.live longer c.in_ok-top-in-Some.ensures.tree c.in_ok-top-in-Some.ensures.sums c.in_ok-top-in-Some.ensures.floors c.in_ok-top-in-Some.ensures.moves)
+    let longer : (f : ℕ → ℕ) → total f c.move_at.new.arena.leaves ≡ total f c.args.arena.now.leaves =
+    λ f. ap (total f) c.in_ok-top-in-Some.ensures.moves.leaves
+    ∙ list_total c.args.arena.now (rooted_forest c.args.arena.now c.args.root c.requires.sound.rooted) f c.args.id c.args.at c.requires.live c.requires.at
+    c.requires.differ in
+    subst (λ (z : ℕ). IsSound g.L.Leaf.size g.L.Leaf.element c.args.floor c.move_at.new.arena (Some z)) (sym c.top.view_is)
+    (moves_sound g.L.Leaf.size g.L.Leaf.element c.args.floor c.args.arena.now c.move_at.new.arena c.args.root c.in_ok-top-in-Some.top c.args.id c.args.at
+    c.requires.sound c.requires.live longer c.in_ok-top-in-Some.ensures.tree c.in_ok-top-in-Some.ensures.sums c.in_ok-top-in-Some.ensures.floors
+    c.in_ok-top-in-Some.ensures.moves)

@@ -4,4 +4,8 @@ use Rattle.ft_block.proofs.SoundLemmas.{rooted_forest}
 use Rattle.ft_block.proofs.counted.position_in.Goals as goal
 
 pub kept_before-requires-clause-fits : goal.kept_before-requires-clause-fits
-kept_before-requires-clause-fits g c = omega (arith, all_fit g.L.Leaf.size g.L.Leaf.element c.args.view c.args.arena.now (rooted_forest c.args.arena.now c.args.root c.requires.sound.rooted), c.requires.sound.fits)
+kept_before-requires-clause-fits g c = omega (
+  arith,
+  all_fit g.L.Leaf.size g.L.Leaf.element c.args.view c.args.arena.now (rooted_forest c.args.arena.now c.args.root c.requires.sound.rooted),
+  c.requires.sound.fits,
+)

@@ -19,13 +19,19 @@ levels-init g c =
 pub levels-smaller : goal.levels-smaller
 levels-smaller g c =
     let kids : kids_of c.args.arena.now c.levels.at ≡ c.in-Block.kids = ap kids_of_entry c.read.ensures.node ∙ ap kids_of_node c.in-Block.is in
-    let d = descends (by_view g.L.Leaf.size g.L.Leaf.element c.args.view) c.args.arena.now c.args.root c.requires.tree c.requires.sums c.levels.at c.child_at-child.result.0 c.levels.rest c.child_at-child.result.1 c.levels.invariant.low (ap (λ (zs : List ℕ). seek (length_of (by_view g.L.Leaf.size g.L.Leaf.element c.args.view) c.args.arena.now) zs c.levels.rest) kids ∙ c.child_at-child.ensures.found) in
+    let d = descends (by_view g.L.Leaf.size g.L.Leaf.element c.args.view) c.args.arena.now c.args.root c.requires.tree c.requires.sums c.levels.at
+    c.child_at-child.result.0 c.levels.rest c.child_at-child.result.1 c.levels.invariant.low
+    (ap (λ (zs : List ℕ). seek (length_of (by_view g.L.Leaf.size g.L.Leaf.element c.args.view) c.args.arena.now) zs c.levels.rest) kids
+    ∙ c.child_at-child.ensures.found) in
     omega (arith, d.high)
 
 pub levels-preserved : goal.levels-preserved
 levels-preserved g c =
     let kids : kids_of c.args.arena.now c.levels.at ≡ c.in-Block.kids = ap kids_of_entry c.read.ensures.node ∙ ap kids_of_node c.in-Block.is in
-    let d = descends (by_view g.L.Leaf.size g.L.Leaf.element c.args.view) c.args.arena.now c.args.root c.requires.tree c.requires.sums c.levels.at c.child_at-child.result.0 c.levels.rest c.child_at-child.result.1 c.levels.invariant.low (ap (λ (zs : List ℕ). seek (length_of (by_view g.L.Leaf.size g.L.Leaf.element c.args.view) c.args.arena.now) zs c.levels.rest) kids ∙ c.child_at-child.ensures.found) in
+    let d = descends (by_view g.L.Leaf.size g.L.Leaf.element c.args.view) c.args.arena.now c.args.root c.requires.tree c.requires.sums c.levels.at
+    c.child_at-child.result.0 c.levels.rest c.child_at-child.result.1 c.levels.invariant.low
+    (ap (λ (zs : List ℕ). seek (length_of (by_view g.L.Leaf.size g.L.Leaf.element c.args.view) c.args.arena.now) zs c.levels.rest) kids
+    ∙ c.child_at-child.ensures.found) in
     let h : height_of c.args.arena.now c.levels.at ≡ c.in-Block.value.height = ap height_of_entry c.read.ensures.node ∙ ap height_of_node c.in-Block.is in
     let more : 1 ≤ height_of c.args.arena.now c.levels.at = c.requires.tree.shape.high c.levels.at c.levels.invariant.block in
     record {

@@ -9,8 +9,11 @@ invariant-levels g l =
       block : IsSome (block_value l.arena l.at);
       high : height_of l.arena l.at ≤ height_of l.arena l.fn.root;
       low : 1 ≤ l.rest;
-      same : seek (length_of (by_view g.L.Leaf.size g.L.Leaf.element l.view) l.arena) l.arena.leaves l.p ≡ seek (length_of (by_view g.L.Leaf.size g.L.Leaf.element l.view) l.arena) (below l.arena (height_of l.arena l.at) (l.at ∷ [])) l.rest;
-      past : length_of (by_view g.L.Leaf.size g.L.Leaf.element l.view) l.arena l.at < l.rest → (length_of (by_view g.L.Leaf.size g.L.Leaf.element l.view) l.arena l.at ≡ total (length_of (by_view g.L.Leaf.size g.L.Leaf.element l.view) l.arena) l.arena.leaves) × (total (length_of (by_view g.L.Leaf.size g.L.Leaf.element l.view) l.arena) l.arena.leaves < l.p);
+      same : seek (length_of (by_view g.L.Leaf.size g.L.Leaf.element l.view) l.arena) l.arena.leaves l.p ≡ seek
+          (length_of (by_view g.L.Leaf.size g.L.Leaf.element l.view) l.arena) (below l.arena (height_of l.arena l.at) (l.at ∷ [])) l.rest;
+      past : length_of (by_view g.L.Leaf.size g.L.Leaf.element l.view) l.arena l.at < l.rest
+          → (length_of (by_view g.L.Leaf.size g.L.Leaf.element l.view) l.arena l.at ≡ total (length_of (by_view g.L.Leaf.size g.L.Leaf.element l.view) l.arena)
+          l.arena.leaves) × (total (length_of (by_view g.L.Leaf.size g.L.Leaf.element l.view) l.arena) l.arena.leaves < l.p);
       cost : l.steps ≤ l.initial.steps + 9 * (height_of l.arena l.fn.root - height_of l.arena l.at);
     }
 

@@ -27,37 +27,58 @@ up-init g c =
 pub returns-then-count-lt8-clause-tree : goal.returns-then-count-lt8-clause-tree
 returns-then-count-lt8-clause-tree g c =
     let up : parent_of c.up.arena c.up.at ≡ Some c.in-Some.block = sym c.parent.ensures ∙ c.in-Some.is in
-    let at_place : insert (kids_of c.up.arena c.in-Some.block) (c.place_of-place.result.0 + 1) c.up.id ≡ insert_after (kids_of c.up.arena c.in-Some.block) c.up.at c.up.id = gr_place c.up.arena c.args.root c.up.at c.up.id 1 (λ xs. insert_after xs c.up.at c.up.id) (after_is_edit c.up.at c.up.id) c.up.invariant.growing c.in-Some.block up c.place_of-place.result.0 c.place_of-place.ensures.place in
-    let puts = PutsAt-from c.up.arena c.put_child.new.self c.in-Some.block (c.place_of-place.result.0 + 1) c.up.id c.put_child.ensures.leaves c.put_child.ensures.puts c.put_child.ensures.sound in
-    put_tree c.up.arena c.put_child.new.self c.args.root c.up.at c.up.id c.in-Some.block 1 (λ xs. insert_after xs c.up.at c.up.id) (after_is_edit c.up.at c.up.id) c.up.invariant.growing up (c.place_of-place.result.0 + 1) at_place puts
+    let at_place : insert (kids_of c.up.arena c.in-Some.block) (c.place_of-place.result.0 + 1) c.up.id ≡ insert_after (kids_of c.up.arena c.in-Some.block) c.up.at
+    c.up.id = gr_place c.up.arena c.args.root c.up.at c.up.id 1 (λ xs. insert_after xs c.up.at c.up.id) (after_is_edit c.up.at c.up.id) c.up.invariant.growing
+    c.in-Some.block up c.place_of-place.result.0 c.place_of-place.ensures.place in
+    let puts = PutsAt-from c.up.arena c.put_child.new.self c.in-Some.block (c.place_of-place.result.0 + 1) c.up.id c.put_child.ensures.leaves c.put_child.ensures.puts
+    c.put_child.ensures.sound in
+    put_tree c.up.arena c.put_child.new.self c.args.root c.up.at c.up.id c.in-Some.block 1 (λ xs. insert_after xs c.up.at c.up.id) (after_is_edit c.up.at c.up.id)
+    c.up.invariant.growing up (c.place_of-place.result.0 + 1) at_place puts
 
 pub returns-then-count-lt8-clause-stale : goal.returns-then-count-lt8-clause-stale
 returns-then-count-lt8-clause-stale g c = λ b e.
     let up : parent_of c.up.arena c.up.at ≡ Some c.in-Some.block = sym c.parent.ensures ∙ c.in-Some.is in
-    let at_place : insert (kids_of c.up.arena c.in-Some.block) (c.place_of-place.result.0 + 1) c.up.id ≡ insert_after (kids_of c.up.arena c.in-Some.block) c.up.at c.up.id = gr_place c.up.arena c.args.root c.up.at c.up.id 1 (λ xs. insert_after xs c.up.at c.up.id) (after_is_edit c.up.at c.up.id) c.up.invariant.growing c.in-Some.block up c.place_of-place.result.0 c.place_of-place.ensures.place in
-    let puts = PutsAt-from c.up.arena c.put_child.new.self c.in-Some.block (c.place_of-place.result.0 + 1) c.up.id c.put_child.ensures.leaves c.put_child.ensures.puts c.put_child.ensures.sound in
-    put_block c.up.arena c.put_child.new.self c.args.root c.up.at c.up.id c.in-Some.block 1 (λ xs. insert_after xs c.up.at c.up.id) (after_is_edit c.up.at c.up.id) c.up.invariant.growing up (c.place_of-place.result.0 + 1) at_place puts b e
+    let at_place : insert (kids_of c.up.arena c.in-Some.block) (c.place_of-place.result.0 + 1) c.up.id ≡ insert_after (kids_of c.up.arena c.in-Some.block) c.up.at
+    c.up.id = gr_place c.up.arena c.args.root c.up.at c.up.id 1 (λ xs. insert_after xs c.up.at c.up.id) (after_is_edit c.up.at c.up.id) c.up.invariant.growing
+    c.in-Some.block up c.place_of-place.result.0 c.place_of-place.ensures.place in
+    let puts = PutsAt-from c.up.arena c.put_child.new.self c.in-Some.block (c.place_of-place.result.0 + 1) c.up.id c.put_child.ensures.leaves c.put_child.ensures.puts
+    c.put_child.ensures.sound in
+    put_block c.up.arena c.put_child.new.self c.args.root c.up.at c.up.id c.in-Some.block 1 (λ xs. insert_after xs c.up.at c.up.id) (after_is_edit c.up.at c.up.id)
+    c.up.invariant.growing up (c.place_of-place.result.0 + 1) at_place puts b e
 
 pub returns-then-count-lt8-clause-sums : goal.returns-then-count-lt8-clause-sums
 returns-then-count-lt8-clause-sums g c = λ view k.
     let up : parent_of c.up.arena c.up.at ≡ Some c.in-Some.block = sym c.parent.ensures ∙ c.in-Some.is in
-    let at_place : insert (kids_of c.up.arena c.in-Some.block) (c.place_of-place.result.0 + 1) c.up.id ≡ insert_after (kids_of c.up.arena c.in-Some.block) c.up.at c.up.id = gr_place c.up.arena c.args.root c.up.at c.up.id 1 (λ xs. insert_after xs c.up.at c.up.id) (after_is_edit c.up.at c.up.id) c.up.invariant.growing c.in-Some.block up c.place_of-place.result.0 c.place_of-place.ensures.place in
-    let puts = PutsAt-from c.up.arena c.put_child.new.self c.in-Some.block (c.place_of-place.result.0 + 1) c.up.id c.put_child.ensures.leaves c.put_child.ensures.puts c.put_child.ensures.sound in
-    put_sums c.up.arena c.put_child.new.self c.args.root c.up.at c.up.id c.in-Some.block 1 (λ xs. insert_after xs c.up.at c.up.id) (after_is_edit c.up.at c.up.id) c.up.invariant.growing up (c.place_of-place.result.0 + 1) at_place puts (by_view g.L.Leaf.size g.L.Leaf.element view) (c.up.invariant.sums view k)
+    let at_place : insert (kids_of c.up.arena c.in-Some.block) (c.place_of-place.result.0 + 1) c.up.id ≡ insert_after (kids_of c.up.arena c.in-Some.block) c.up.at
+    c.up.id = gr_place c.up.arena c.args.root c.up.at c.up.id 1 (λ xs. insert_after xs c.up.at c.up.id) (after_is_edit c.up.at c.up.id) c.up.invariant.growing
+    c.in-Some.block up c.place_of-place.result.0 c.place_of-place.ensures.place in
+    let puts = PutsAt-from c.up.arena c.put_child.new.self c.in-Some.block (c.place_of-place.result.0 + 1) c.up.id c.put_child.ensures.leaves c.put_child.ensures.puts
+    c.put_child.ensures.sound in
+    put_sums c.up.arena c.put_child.new.self c.args.root c.up.at c.up.id c.in-Some.block 1 (λ xs. insert_after xs c.up.at c.up.id) (after_is_edit c.up.at c.up.id)
+    c.up.invariant.growing up (c.place_of-place.result.0 + 1) at_place puts (by_view g.L.Leaf.size g.L.Leaf.element view) (c.up.invariant.sums view k)
 
 pub returns-then-count-lt8-clause-owes : goal.returns-then-count-lt8-clause-owes
 returns-then-count-lt8-clause-owes g c = λ view more less k h.
     let up : parent_of c.up.arena c.up.at ≡ Some c.in-Some.block = sym c.parent.ensures ∙ c.in-Some.is in
-    let at_place : insert (kids_of c.up.arena c.in-Some.block) (c.place_of-place.result.0 + 1) c.up.id ≡ insert_after (kids_of c.up.arena c.in-Some.block) c.up.at c.up.id = gr_place c.up.arena c.args.root c.up.at c.up.id 1 (λ xs. insert_after xs c.up.at c.up.id) (after_is_edit c.up.at c.up.id) c.up.invariant.growing c.in-Some.block up c.place_of-place.result.0 c.place_of-place.ensures.place in
-    let puts = PutsAt-from c.up.arena c.put_child.new.self c.in-Some.block (c.place_of-place.result.0 + 1) c.up.id c.put_child.ensures.leaves c.put_child.ensures.puts c.put_child.ensures.sound in
-    put_owes c.up.arena c.put_child.new.self c.args.root c.up.at c.up.id c.in-Some.block 1 (λ xs. insert_after xs c.up.at c.up.id) (after_is_edit c.up.at c.up.id) c.up.invariant.growing up (c.place_of-place.result.0 + 1) at_place puts (by_view g.L.Leaf.size g.L.Leaf.element view) more less (c.up.invariant.owes view more less k h)
+    let at_place : insert (kids_of c.up.arena c.in-Some.block) (c.place_of-place.result.0 + 1) c.up.id ≡ insert_after (kids_of c.up.arena c.in-Some.block) c.up.at
+    c.up.id = gr_place c.up.arena c.args.root c.up.at c.up.id 1 (λ xs. insert_after xs c.up.at c.up.id) (after_is_edit c.up.at c.up.id) c.up.invariant.growing
+    c.in-Some.block up c.place_of-place.result.0 c.place_of-place.ensures.place in
+    let puts = PutsAt-from c.up.arena c.put_child.new.self c.in-Some.block (c.place_of-place.result.0 + 1) c.up.id c.put_child.ensures.leaves c.put_child.ensures.puts
+    c.put_child.ensures.sound in
+    put_owes c.up.arena c.put_child.new.self c.args.root c.up.at c.up.id c.in-Some.block 1 (λ xs. insert_after xs c.up.at c.up.id) (after_is_edit c.up.at c.up.id)
+    c.up.invariant.growing up (c.place_of-place.result.0 + 1) at_place puts (by_view g.L.Leaf.size g.L.Leaf.element view) more less
+    (c.up.invariant.owes view more less k h)
 
 pub returns-then-count-lt8-clause-floors : goal.returns-then-count-lt8-clause-floors
 returns-then-count-lt8-clause-floors g c =
     let up : parent_of c.up.arena c.up.at ≡ Some c.in-Some.block = sym c.parent.ensures ∙ c.in-Some.is in
-    let at_place : insert (kids_of c.up.arena c.in-Some.block) (c.place_of-place.result.0 + 1) c.up.id ≡ insert_after (kids_of c.up.arena c.in-Some.block) c.up.at c.up.id = gr_place c.up.arena c.args.root c.up.at c.up.id 1 (λ xs. insert_after xs c.up.at c.up.id) (after_is_edit c.up.at c.up.id) c.up.invariant.growing c.in-Some.block up c.place_of-place.result.0 c.place_of-place.ensures.place in
-    let puts = PutsAt-from c.up.arena c.put_child.new.self c.in-Some.block (c.place_of-place.result.0 + 1) c.up.id c.put_child.ensures.leaves c.put_child.ensures.puts c.put_child.ensures.sound in
-    put_floors c.up.arena c.put_child.new.self c.args.root c.up.at c.up.id c.in-Some.block 1 (λ xs. insert_after xs c.up.at c.up.id) (after_is_edit c.up.at c.up.id) c.up.invariant.growing up (c.place_of-place.result.0 + 1) at_place puts c.args.floor c.up.invariant.floors
+    let at_place : insert (kids_of c.up.arena c.in-Some.block) (c.place_of-place.result.0 + 1) c.up.id ≡ insert_after (kids_of c.up.arena c.in-Some.block) c.up.at
+    c.up.id = gr_place c.up.arena c.args.root c.up.at c.up.id 1 (λ xs. insert_after xs c.up.at c.up.id) (after_is_edit c.up.at c.up.id) c.up.invariant.growing
+    c.in-Some.block up c.place_of-place.result.0 c.place_of-place.ensures.place in
+    let puts = PutsAt-from c.up.arena c.put_child.new.self c.in-Some.block (c.place_of-place.result.0 + 1) c.up.id c.put_child.ensures.leaves c.put_child.ensures.puts
+    c.put_child.ensures.sound in
+    put_floors c.up.arena c.put_child.new.self c.args.root c.up.at c.up.id c.in-Some.block 1 (λ xs. insert_after xs c.up.at c.up.id) (after_is_edit c.up.at c.up.id)
+    c.up.invariant.growing up (c.place_of-place.result.0 + 1) at_place puts c.args.floor c.up.invariant.floors
 
 pub returns-then-count-lt8-clause-leaf_values : goal.returns-then-count-lt8-clause-leaf_values
 returns-then-count-lt8-clause-leaf_values g c = λ x. c.put_child.ensures.puts.leaf_values x ∙ c.up.invariant.leaf_values x
@@ -65,27 +86,50 @@ returns-then-count-lt8-clause-leaf_values g c = λ x. c.put_child.ensures.puts.l
 pub split_put-requires-clause-fits : goal.split_put-requires-clause-fits
 split_put-requires-clause-fits g c = λ view k.
     let up : parent_of c.up.arena c.up.at ≡ Some c.in-Some.block = sym c.parent.ensures ∙ c.in-Some.is in
-    let at_place : insert (kids_of c.up.arena c.in-Some.block) (c.place_of-place.result.0 + 1) c.up.id ≡ insert_after (kids_of c.up.arena c.in-Some.block) c.up.at c.up.id = gr_place c.up.arena c.args.root c.up.at c.up.id 1 (λ xs. insert_after xs c.up.at c.up.id) (after_is_edit c.up.at c.up.id) c.up.invariant.growing c.in-Some.block up c.place_of-place.result.0 c.place_of-place.ensures.place in
-    omega (arith, gr_fits c.up.arena c.args.root c.up.at c.up.id 1 (λ xs. insert_after xs c.up.at c.up.id) (after_is_edit c.up.at c.up.id) c.up.invariant.growing c.in-Some.block up (by_view g.L.Leaf.size g.L.Leaf.element view) (c.up.invariant.sums view k), ap (total (length_of (by_view g.L.Leaf.size g.L.Leaf.element view) c.up.arena)) at_place, all_fit g.L.Leaf.size g.L.Leaf.element view c.up.arena c.up.invariant.growing.shape.forest, c.up.invariant.fits)
+    let at_place : insert (kids_of c.up.arena c.in-Some.block) (c.place_of-place.result.0 + 1) c.up.id ≡ insert_after (kids_of c.up.arena c.in-Some.block) c.up.at
+    c.up.id = gr_place c.up.arena c.args.root c.up.at c.up.id 1 (λ xs. insert_after xs c.up.at c.up.id) (after_is_edit c.up.at c.up.id) c.up.invariant.growing
+    c.in-Some.block up c.place_of-place.result.0 c.place_of-place.ensures.place in
+    omega (
+      arith,
+      gr_fits c.up.arena c.args.root c.up.at c.up.id 1 (λ xs. insert_after xs c.up.at c.up.id) (after_is_edit c.up.at c.up.id) c.up.invariant.growing
+          c.in-Some.block up (by_view g.L.Leaf.size g.L.Leaf.element view) (c.up.invariant.sums view k),
+      ap
+          (total (length_of (by_view g.L.Leaf.size g.L.Leaf.element view) c.up.arena)) at_place,
+      all_fit g.L.Leaf.size g.L.Leaf.element view c.up.arena
+          c.up.invariant.growing.shape.forest,
+      c.up.invariant.fits,
+    )
 
 pub up-preserved : goal.up-preserved
 up-preserved g c =
     let up : parent_of c.up.arena c.up.at ≡ Some c.in-Some.block = sym c.parent.ensures ∙ c.in-Some.is in
-    let at_place : insert (kids_of c.up.arena c.in-Some.block) (c.place_of-place.result.0 + 1) c.up.id ≡ insert_after (kids_of c.up.arena c.in-Some.block) c.up.at c.up.id = gr_place c.up.arena c.args.root c.up.at c.up.id 1 (λ xs. insert_after xs c.up.at c.up.id) (after_is_edit c.up.at c.up.id) c.up.invariant.growing c.in-Some.block up c.place_of-place.result.0 c.place_of-place.ensures.place in
+    let at_place : insert (kids_of c.up.arena c.in-Some.block) (c.place_of-place.result.0 + 1) c.up.id ≡ insert_after (kids_of c.up.arena c.in-Some.block) c.up.at
+    c.up.id = gr_place c.up.arena c.args.root c.up.at c.up.id 1 (λ xs. insert_after xs c.up.at c.up.id) (after_is_edit c.up.at c.up.id) c.up.invariant.growing
+    c.in-Some.block up c.place_of-place.result.0 c.place_of-place.ensures.place in
     let s = c.up.arena in
     let s' = c.split_put.new.arena in
     let i = c.up.invariant in
     let r = c.in_ok-id.ensures.splits in
-    let high : height_of s c.in-Some.block ≡ height_of s c.up.at + 1 = gr_high c.up.arena c.args.root c.up.at c.up.id 1 (λ xs. insert_after xs c.up.at c.up.id) (after_is_edit c.up.at c.up.id) c.up.invariant.growing c.in-Some.block up in
+    let high : height_of s c.in-Some.block ≡ height_of s c.up.at + 1 =
+    gr_high c.up.arena c.args.root c.up.at c.up.id 1 (λ xs. insert_after xs c.up.at c.up.id) (after_is_edit c.up.at c.up.id) c.up.invariant.growing
+    c.in-Some.block up in
     let low = gr_low c.up.arena c.args.root c.up.at c.up.id 1 (λ xs. insert_after xs c.up.at c.up.id) (after_is_edit c.up.at c.up.id) c.up.invariant.growing c.in-Some.block up in
     let root_apart = dead_apart (entry s) c.args.root c.in_ok-id.id (block_live (entry s c.args.root) i.growing.shape.root_is_block) r.fresh in
-    let block_apart = dead_apart (entry s) c.in-Some.block c.in_ok-id.id (block_live (entry s c.in-Some.block) (gr_block c.up.arena c.args.root c.up.at c.up.id 1 (λ xs. insert_after xs c.up.at c.up.id) (after_is_edit c.up.at c.up.id) c.up.invariant.growing c.in-Some.block up)) r.fresh in
+    let block_apart = dead_apart (entry s) c.in-Some.block c.in_ok-id.id
+    (block_live (entry s c.in-Some.block) (gr_block c.up.arena c.args.root c.up.at c.up.id 1 (λ xs. insert_after xs c.up.at c.up.id)
+    (after_is_edit c.up.at c.up.id) c.up.invariant.growing c.in-Some.block up)) r.fresh in
     let root_high : height_of s' c.args.root ≡ height_of s c.args.root = kind_height (entry s c.args.root) (entry s' c.args.root) (r.kinds c.args.root root_apart) in
-    let block_high : height_of s' c.in-Some.block ≡ height_of s c.in-Some.block = kind_height (entry s c.in-Some.block) (entry s' c.in-Some.block) (r.kinds c.in-Some.block block_apart) in
+    let block_high : height_of s' c.in-Some.block ≡ height_of s c.in-Some.block =
+    kind_height (entry s c.in-Some.block) (entry s' c.in-Some.block) (r.kinds c.in-Some.block block_apart) in
     record {
-      growing = split_grows c.up.arena c.split_put.new.arena c.args.root c.up.at c.up.id c.in-Some.block 1 (λ xs. insert_after xs c.up.at c.up.id) (after_is_edit c.up.at c.up.id) c.up.invariant.growing up (c.place_of-place.result.0 + 1) at_place c.in_ok-id.id r;
-      sums = λ view k. split_sums c.up.arena c.split_put.new.arena c.args.root c.up.at c.up.id c.in-Some.block 1 (λ xs. insert_after xs c.up.at c.up.id) (after_is_edit c.up.at c.up.id) c.up.invariant.growing up (c.place_of-place.result.0 + 1) at_place c.in_ok-id.id r (by_view g.L.Leaf.size g.L.Leaf.element view) (i.sums view k) (c.in_ok-id.ensures.sums view k);
-      owes = λ view more less k h. split_owes c.up.arena c.split_put.new.arena c.args.root c.up.at c.up.id c.in-Some.block 1 (λ xs. insert_after xs c.up.at c.up.id) (after_is_edit c.up.at c.up.id) c.up.invariant.growing up (c.place_of-place.result.0 + 1) at_place c.in_ok-id.id r (by_view g.L.Leaf.size g.L.Leaf.element view) (i.sums view k) (c.in_ok-id.ensures.sums view k) more less (i.owes view more less k h);
+      growing = split_grows c.up.arena c.split_put.new.arena c.args.root c.up.at c.up.id c.in-Some.block 1 (λ xs. insert_after xs c.up.at c.up.id)
+          (after_is_edit c.up.at c.up.id) c.up.invariant.growing up (c.place_of-place.result.0 + 1) at_place c.in_ok-id.id r;
+      sums = λ view k. split_sums c.up.arena c.split_put.new.arena c.args.root c.up.at c.up.id c.in-Some.block 1 (λ xs. insert_after xs c.up.at c.up.id)
+          (after_is_edit c.up.at c.up.id) c.up.invariant.growing up (c.place_of-place.result.0 + 1) at_place c.in_ok-id.id r (by_view g.L.Leaf.size g.L.Leaf.element view)
+          (i.sums view k) (c.in_ok-id.ensures.sums view k);
+      owes = λ view more less k h. split_owes c.up.arena c.split_put.new.arena c.args.root c.up.at c.up.id c.in-Some.block 1 (λ xs. insert_after xs c.up.at c.up.id)
+          (after_is_edit c.up.at c.up.id) c.up.invariant.growing up (c.place_of-place.result.0 + 1) at_place c.in_ok-id.id r (by_view g.L.Leaf.size g.L.Leaf.element view)
+          (i.sums view k) (c.in_ok-id.ensures.sums view k) more less (i.owes view more less k h);
       floors = c.in_ok-id.ensures.floors;
       spare = omega (arith, r.spare, i.spare, root_high, block_high, high, low);
       fits = omega (arith, i.fits, leaf_total (by_size g.L.Leaf.size) s s' i.growing.shape.forest r.leaves r.leaf_values);
@@ -96,23 +140,38 @@ up-preserved g c =
 
 pub root_over-requires-clause-fits : goal.root_over-requires-clause-fits
 root_over-requires-clause-fits g c = λ view k.
-    let e : c.up.at ≡ c.args.root = top_is_root c.up.arena c.args.root c.up.at c.up.id c.up.invariant.growing.shape c.up.invariant.growing.at_live c.up.invariant.growing.at_apart (sym c.parent.ensures ∙ c.in_default.is) in
-    let grows : IsGrowing c.up.arena c.args.root c.args.root c.up.id (λ xs. insert_after xs c.args.root c.up.id) = subst (λ (z : ℕ). IsGrowing c.up.arena c.args.root z c.up.id (λ xs. insert_after xs z c.up.id)) e c.up.invariant.growing in
-    let sums : SumsBut (by_view g.L.Leaf.size g.L.Leaf.element view) c.up.arena (parent_of c.up.arena c.args.root) = subst (λ (z : ℕ). SumsBut (by_view g.L.Leaf.size g.L.Leaf.element view) c.up.arena (parent_of c.up.arena z)) e (c.up.invariant.sums view k) in
-    omega (arith, gr_root_fits (by_view g.L.Leaf.size g.L.Leaf.element view) c.up.arena c.args.root c.up.id grows sums, all_fit g.L.Leaf.size g.L.Leaf.element view c.up.arena c.up.invariant.growing.shape.forest, c.up.invariant.fits)
+    let e : c.up.at ≡ c.args.root = top_is_root c.up.arena c.args.root c.up.at c.up.id c.up.invariant.growing.shape c.up.invariant.growing.at_live
+    c.up.invariant.growing.at_apart (sym c.parent.ensures ∙ c.in_default.is) in
+    let grows : IsGrowing c.up.arena c.args.root c.args.root c.up.id (λ xs. insert_after xs c.args.root c.up.id) =
+    subst (λ (z : ℕ). IsGrowing c.up.arena c.args.root z c.up.id (λ xs. insert_after xs z c.up.id)) e c.up.invariant.growing in
+    let sums : SumsBut (by_view g.L.Leaf.size g.L.Leaf.element view) c.up.arena (parent_of c.up.arena c.args.root) =
+    subst (λ (z : ℕ). SumsBut (by_view g.L.Leaf.size g.L.Leaf.element view) c.up.arena (parent_of c.up.arena z)) e (c.up.invariant.sums view k) in
+    omega (
+      arith,
+      gr_root_fits (by_view g.L.Leaf.size g.L.Leaf.element view) c.up.arena c.args.root c.up.id grows sums,
+      all_fit g.L.Leaf.size g.L.Leaf.element view
+          c.up.arena c.up.invariant.growing.shape.forest,
+      c.up.invariant.fits,
+    )
 
 pub returns-clause-tree : goal.returns-clause-tree
 returns-clause-tree g c =
-    let e : c.up.at ≡ c.args.root = top_is_root c.up.arena c.args.root c.up.at c.up.id c.up.invariant.growing.shape c.up.invariant.growing.at_live c.up.invariant.growing.at_apart (sym c.parent.ensures ∙ c.in_default.is) in
-    let grows : IsGrowing c.up.arena c.args.root c.args.root c.up.id (λ xs. insert_after xs c.args.root c.up.id) = subst (λ (z : ℕ). IsGrowing c.up.arena c.args.root z c.up.id (λ xs. insert_after xs z c.up.id)) e c.up.invariant.growing in
+    let e : c.up.at ≡ c.args.root = top_is_root c.up.arena c.args.root c.up.at c.up.id c.up.invariant.growing.shape c.up.invariant.growing.at_live
+    c.up.invariant.growing.at_apart (sym c.parent.ensures ∙ c.in_default.is) in
+    let grows : IsGrowing c.up.arena c.args.root c.args.root c.up.id (λ xs. insert_after xs c.args.root c.up.id) =
+    subst (λ (z : ℕ). IsGrowing c.up.arena c.args.root z c.up.id (λ xs. insert_after xs z c.up.id)) e c.up.invariant.growing in
     root_tree c.up.arena c.root_over.new.arena c.args.root c.up.id c.in_ok-top.top grows c.in_ok-top.ensures.roots
 
 pub returns-clause-sums : goal.returns-clause-sums
 returns-clause-sums g c = λ view k.
-    let e : c.up.at ≡ c.args.root = top_is_root c.up.arena c.args.root c.up.at c.up.id c.up.invariant.growing.shape c.up.invariant.growing.at_live c.up.invariant.growing.at_apart (sym c.parent.ensures ∙ c.in_default.is) in
-    let grows : IsGrowing c.up.arena c.args.root c.args.root c.up.id (λ xs. insert_after xs c.args.root c.up.id) = subst (λ (z : ℕ). IsGrowing c.up.arena c.args.root z c.up.id (λ xs. insert_after xs z c.up.id)) e c.up.invariant.growing in
-    let sums : SumsBut (by_view g.L.Leaf.size g.L.Leaf.element view) c.up.arena (parent_of c.up.arena c.args.root) = subst (λ (z : ℕ). SumsBut (by_view g.L.Leaf.size g.L.Leaf.element view) c.up.arena (parent_of c.up.arena z)) e (c.up.invariant.sums view k) in
-    root_sums c.up.arena c.root_over.new.arena c.args.root c.up.id c.in_ok-top.top grows c.in_ok-top.ensures.roots (by_view g.L.Leaf.size g.L.Leaf.element view) sums (c.in_ok-top.ensures.sums view k)
+    let e : c.up.at ≡ c.args.root = top_is_root c.up.arena c.args.root c.up.at c.up.id c.up.invariant.growing.shape c.up.invariant.growing.at_live
+    c.up.invariant.growing.at_apart (sym c.parent.ensures ∙ c.in_default.is) in
+    let grows : IsGrowing c.up.arena c.args.root c.args.root c.up.id (λ xs. insert_after xs c.args.root c.up.id) =
+    subst (λ (z : ℕ). IsGrowing c.up.arena c.args.root z c.up.id (λ xs. insert_after xs z c.up.id)) e c.up.invariant.growing in
+    let sums : SumsBut (by_view g.L.Leaf.size g.L.Leaf.element view) c.up.arena (parent_of c.up.arena c.args.root) =
+    subst (λ (z : ℕ). SumsBut (by_view g.L.Leaf.size g.L.Leaf.element view) c.up.arena (parent_of c.up.arena z)) e (c.up.invariant.sums view k) in
+    root_sums c.up.arena c.root_over.new.arena c.args.root c.up.id c.in_ok-top.top grows c.in_ok-top.ensures.roots (by_view g.L.Leaf.size g.L.Leaf.element view) sums
+    (c.in_ok-top.ensures.sums view k)
 
 pub returns-clause-leaf_values : goal.returns-clause-leaf_values
 returns-clause-leaf_values g c = λ x. c.in_ok-top.ensures.roots.leaf_values x ∙ c.up.invariant.leaf_values x

@@ -10,7 +10,9 @@ invariant-up g l =
     record {
       growing : IsGrowing l.arena l.fn.root l.at l.id (λ xs. insert_after xs l.at l.id);
       sums : SumsKeptBut g.L.Leaf.size g.L.Leaf.element l.floor l.arena (parent_of l.arena l.at);
-      owes : (view : LenView) (more less : ℕ) → IsKept l.floor view → OwesAbove (by_view g.L.Leaf.size g.L.Leaf.element view) l.initial.arena l.fn.at (λ xs. insert_after xs l.fn.at l.fn.id) more less → OwesAbove (by_view g.L.Leaf.size g.L.Leaf.element view) l.arena l.at (λ xs. insert_after xs l.at l.id) more less;
+      owes : (view : LenView) (more less : ℕ) → IsKept l.floor view
+          → OwesAbove (by_view g.L.Leaf.size g.L.Leaf.element view) l.initial.arena l.fn.at (λ xs. insert_after xs l.fn.at l.fn.id) more less
+          → OwesAbove (by_view g.L.Leaf.size g.L.Leaf.element view) l.arena l.at (λ xs. insert_after xs l.at l.id) more less;
       floors : AreFromFloor l.floor l.arena;
       spare : height_of l.arena l.fn.root - height_of l.arena l.at + 1 ≤ l.arena.spare;
       fits : total (length_of (by_size g.L.Leaf.size) l.arena) l.arena.leaves < 2 ^ 64;

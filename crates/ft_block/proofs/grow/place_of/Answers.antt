@@ -14,7 +14,8 @@ loop-kid-init g c =
 pub loop-kid-preserved : goal.loop-kid-preserved
 loop-kid-preserved g c =
     let kids : kids_of c.args.arena.now c.args.block ≡ c.in-Block.kids = ap kids_of_entry c.read.ensures.node ∙ ap kids_of_node c.in-Block.is in
-    let there : slice_get (kids_of c.args.arena.now c.args.block) c.loop-kid.i ≡ Some c.in-Some.kid = ap (λ zs. slice_get zs c.loop-kid.i) kids ∙ sym c.get.ensures ∙ c.in-Some.is in
+    let there : slice_get (kids_of c.args.arena.now c.args.block) c.loop-kid.i ≡ Some c.in-Some.kid =
+    ap (λ zs. slice_get zs c.loop-kid.i) kids ∙ sym c.get.ensures ∙ c.in-Some.is in
     let e = drop_at (kids_of c.args.arena.now c.args.block) c.loop-kid.i c.in-Some.kid there in
     let other = same_other c.in-Some.kid c.args.child (eqb-false c.in-Some.kid c.args.child (sym c.eq.ensures ∙ c.if-eq.false)) in
     record { few = c.loop-kid.invariant.few; here = omega (arith, other, ap (λ zs. times zs c.args.child) e, c.loop-kid.invariant.here) }
@@ -22,5 +23,6 @@ loop-kid-preserved g c =
 pub unreachable-requires-2 : goal.unreachable-requires-2
 unreachable-requires-2 g c =
     let kids : kids_of c.args.arena.now c.args.block ≡ c.in-Block.kids = ap kids_of_entry c.read.ensures.node ∙ ap kids_of_node c.in-Block.is in
-    let e : drop c.loop-kid.i (kids_of c.args.arena.now c.args.block) ≡ [] = ap (drop c.loop-kid.i) kids ∙ drop_none c.in-Block.kids c.loop-kid.i (sym c.get.ensures ∙ c.in_default-get.is) in
+    let e : drop c.loop-kid.i (kids_of c.args.arena.now c.args.block) ≡ [] =
+    ap (drop c.loop-kid.i) kids ∙ drop_none c.in-Block.kids c.loop-kid.i (sym c.get.ensures ∙ c.in_default-get.is) in
     omega (arith, ap (λ zs. times zs c.args.child) e, c.loop-kid.invariant.here)

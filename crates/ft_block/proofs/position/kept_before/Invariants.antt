@@ -7,7 +7,9 @@ abbrev pub invariant-up : goal.invariant-up
 invariant-up g l =
     record {
       live : IsSome (entry l.arena l.at);
-      so_far : l.sum + total (length_of (by_view g.L.Leaf.size g.L.Leaf.element l.view) l.arena) (before (below l.arena (height_of l.arena l.fn._root - height_of l.arena l.at) (l.fn._root ∷ [])) l.at) ≡ total (length_of (by_view g.L.Leaf.size g.L.Leaf.element l.view) l.arena) (before l.arena.leaves l.fn.leaf);
+      so_far : l.sum + total (length_of (by_view g.L.Leaf.size g.L.Leaf.element l.view) l.arena)
+          (before (below l.arena (height_of l.arena l.fn._root - height_of l.arena l.at) (l.fn._root ∷ [])) l.at) ≡ total
+          (length_of (by_view g.L.Leaf.size g.L.Leaf.element l.view) l.arena) (before l.arena.leaves l.fn.leaf);
     }
 
 abbrev pub decreases-up : goal.decreases-up

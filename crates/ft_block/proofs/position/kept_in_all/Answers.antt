@@ -5,4 +5,5 @@ use Rattle.ft_block.proofs.position.kept_in_all.Goals as goal
 
 pub returns : goal.returns
 returns g c =
-    c.length_at.ensures ∙ sym (ap (length_of_entry (by_view g.L.Leaf.size g.L.Leaf.element c.args.view)) c.read.ensures.node) ∙ sym (total_leaves (by_view g.L.Leaf.size g.L.Leaf.element c.args.view) c.args.arena.now c.args.root c.requires.tree c.requires.sums)
+    c.length_at.ensures ∙ sym (ap (length_of_entry (by_view g.L.Leaf.size g.L.Leaf.element c.args.view)) c.read.ensures.node)
+    ∙ sym (total_leaves (by_view g.L.Leaf.size g.L.Leaf.element c.args.view) c.args.arena.now c.args.root c.requires.tree c.requires.sums)

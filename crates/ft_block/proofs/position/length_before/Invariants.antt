@@ -9,7 +9,8 @@ invariant-loop-kid g l =
     record {
       few : length (kids_of l.arena l.fn.block) ≤ 8;
       here : 1 ≤ times (drop l.i (kids_of l.arena l.fn.block)) l.fn.child;
-      so_far : l.sum + total (length_of (by_view g.L.Leaf.size g.L.Leaf.element l.view) l.arena) (before (drop l.i (kids_of l.arena l.fn.block)) l.fn.child) ≡ total (length_of (by_view g.L.Leaf.size g.L.Leaf.element l.view) l.arena) (before (kids_of l.arena l.fn.block) l.fn.child);
+      so_far : l.sum + total (length_of (by_view g.L.Leaf.size g.L.Leaf.element l.view) l.arena) (before (drop l.i (kids_of l.arena l.fn.block)) l.fn.child) ≡ total
+          (length_of (by_view g.L.Leaf.size g.L.Leaf.element l.view) l.arena) (before (kids_of l.arena l.fn.block) l.fn.child);
     }
 
 abbrev pub decreases-loop-kid : goal.decreases-loop-kid

@@ -1,6 +1,7 @@
 use Rattle.std.proofs.Common.{◌≡◌, ◌<◌, ◌^◌, ℕ, Some, IsSome}
 use Rattle.ft_arena.specs.Forest.{block_value}
 use Rattle.ft_partial.specs.StepFunctions.{amount}
+use Rattle.ft_partial.specs.Rows.{Covers}
 use Rattle.ft_block.specs.declared.leaves.LenView.{LenView}
 use Rattle.ft_block.specs.Leaves.{sees_in}
 use Rattle.ft_block.specs.Tree.{IsPartTree, SumsKeptBut, OwesAt, AreFromFloor, IsKept, length_of, by_view, by_size, total}
@@ -13,11 +14,14 @@ invariant-up g l =
     record {
       tree : IsPartTree l.arena l.fn._root l.fn._apart l.fn._short;
       same : SameShape l.initial.arena l.arena;
+      old_stamps : Covers l.floor l.given l.e;
+      new_stamps : Covers l.floor l.given l.new;
       fits : total (length_of (by_size g.L.Leaf.size) l.arena) l.arena.leaves < 2 ^ 64;
       block : (b : ℕ) → l.stale ≡ Some b → IsSome (block_value l.arena b);
       floors : AreFromFloor l.floor l.arena;
       sums : SumsKeptBut g.L.Leaf.size g.L.Leaf.element l.floor l.arena l.stale;
-      owes : (view : LenView) → IsKept l.floor view → OwesAt (by_view g.L.Leaf.size g.L.Leaf.element view) l.arena l.stale (amount (sees_in view l.new) l.new_len) (amount (sees_in view l.e) l.len);
+      owes : (view : LenView) → IsKept l.floor view
+          → OwesAt (by_view g.L.Leaf.size g.L.Leaf.element view) l.arena l.stale (amount (sees_in view l.new) l.new_len) (amount (sees_in view l.e) l.len);
     }
 
 abbrev pub decreases-up : goal.decreases-up

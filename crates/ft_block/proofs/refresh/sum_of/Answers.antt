@@ -6,7 +6,14 @@ use Rattle.ft_block.proofs.KeptLemmas.{node_from, one_more}
 use Rattle.ft_block.proofs.refresh.sum_of.Goals as goal
 
 pub loop-kid-init : goal.loop-kid-init
-loop-kid-init g c = record { few = omega (arith, c.len-few.ensures.value, c.len-few.ensures.few); height = c.new-sum.ensures.height; floor = c.new-sum.ensures.floor; low = (omega arith, omega arith); so_far = λ view k. omega (arith, c.new-sum.ensures.nothing view k) }
+loop-kid-init g c = record {
+  few = omega (arith, c.len-few.ensures.value, c.len-few.ensures.few);
+  height = c.new-sum.ensures.height;
+  floor =
+      c.new-sum.ensures.floor;
+  low = (omega arith, omega arith);
+  so_far = λ view k. omega (arith, c.new-sum.ensures.nothing view k);
+}
 
 pub read-requires : goal.read-requires
 read-requires g c = c.requires.live c.in-Some.kid (times_at c.args.kids.now c.loop-kid.i c.in-Some.kid (sym c.get.ensures ∙ c.in-Some.is))
@@ -26,12 +33,15 @@ loop-kid-preserved g c =
       few = c.loop-kid.invariant.few;
       height = c.add_node.ensures.height ∙ c.loop-kid.invariant.height;
       floor = c.add_node.ensures.floor;
-      low = c.add_node.ensures.low;
+      low = c.in_ok-add_node.ensures.low;
       so_far = λ view k.
           let f : ℕ → ℕ = length_of (by_view g.L.Leaf.size g.L.Leaf.element view) c.args.arena.now in
           let n = ap (length_of_entry (by_view g.L.Leaf.size g.L.Leaf.element view)) c.read.ensures.node in
-          let t : total f (drop c.loop-kid.i c.args.kids.now) ≡ f c.in-Some.kid + total f (drop (c.loop-kid.i + 1) c.args.kids.now) = ap (total f) (drop_at c.args.kids.now c.loop-kid.i c.in-Some.kid (sym c.get.ensures ∙ c.in-Some.is)) in
-          one_more (kept_length view c.loop-kid.sum) (kept_length view c.add_node.new.sum) (f c.in-Some.kid) (total f (drop (c.loop-kid.i + 1) c.args.kids.now)) (total f c.args.kids.now) (c.in_ok-add_node.ensures.sum view k ∙ ap (λ (x : ℕ). (kept_length view c.loop-kid.sum + x) % 2 ^ 64) (sym n)) (ap (λ (x : ℕ). kept_length view c.loop-kid.sum + x) (sym t) ∙ c.loop-kid.invariant.so_far view k) (c.requires.fits view k);
+          let t : total f (drop c.loop-kid.i c.args.kids.now) ≡ f c.in-Some.kid + total f (drop (c.loop-kid.i + 1) c.args.kids.now) =
+          ap (total f) (drop_at c.args.kids.now c.loop-kid.i c.in-Some.kid (sym c.get.ensures ∙ c.in-Some.is)) in
+          one_more (kept_length view c.loop-kid.sum) (kept_length view c.add_node.new.sum) (f c.in-Some.kid) (total f (drop (c.loop-kid.i + 1) c.args.kids.now))
+          (total f c.args.kids.now) (c.in_ok-add_node.ensures.sum view k ∙ ap (λ (x : ℕ). (kept_length view c.loop-kid.sum + x) % 2 ^ 64) (sym n))
+          (ap (λ (x : ℕ). kept_length view c.loop-kid.sum + x) (sym t) ∙ c.loop-kid.invariant.so_far view k) (c.requires.fits view k);
     }
 
 pub returns-clause-sum : goal.returns-clause-sum

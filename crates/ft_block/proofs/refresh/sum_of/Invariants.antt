@@ -10,7 +10,9 @@ invariant-loop-kid g l =
       height : l.sum.height ≡ l.height;
       floor : l.sum.table.floor ≡ l.floor;
       low : HasRange l.sum;
-      so_far : (view : LenView) → IsKept l.floor view → kept_length view l.sum + total (length_of (by_view g.L.Leaf.size g.L.Leaf.element view) l.arena) (drop l.i l.kids) ≡ total (length_of (by_view g.L.Leaf.size g.L.Leaf.element view) l.arena) l.kids;
+      so_far : (view : LenView) → IsKept l.floor view
+          → kept_length view l.sum + total (length_of (by_view g.L.Leaf.size g.L.Leaf.element view) l.arena) (drop l.i l.kids) ≡ total
+          (length_of (by_view g.L.Leaf.size g.L.Leaf.element view) l.arena) l.kids;
     }
 
 abbrev pub decreases-loop-kid : goal.decreases-loop-kid

@@ -5,7 +5,8 @@ use Rattle.ft_arena.specs.Ids.{times}
 use Rattle.ft_arena.specs.Forest.{entry}
 use Rattle.ft_block.proofs.KindLemmas.{kind_block}
 use Rattle.ft_block.proofs.KeptLemmas.{same_floors}
-use Rattle.ft_block.proofs.PairLemmas.{on_ok_both, pr_front_front, pr_front_rear, pr_rear_front, pr_rear_rear, rg_front_front, rg_rear_rear, rg_block, rg_total, rg_rear_total, balanced, balanced_up, balanced_sums}
+use Rattle.ft_block.proofs.PairLemmas.{on_ok_both, pr_front_front, pr_front_rear, pr_rear_front, pr_rear_rear, rg_front_front, rg_rear_rear, rg_block, rg_total}
+use Rattle.ft_block.proofs.PairLemmas.{rg_rear_total, balanced, balanced_up, balanced_sums}
 use Rattle.ft_block.proofs.shrink.balance.Goals as goal
 
 pub regroup-requires-clause-front_apart : goal.regroup-requires-clause-front_apart
@@ -21,7 +22,8 @@ pub regroup-requires-clause-rear_own : goal.regroup-requires-clause-rear_own
 regroup-requires-clause-rear_own g c = pr_rear_rear c.args.arena.now c.args.up c.args.front c.args.rear c.requires.forest c.requires.pair
 
 pub rebuild-requires-clause-block : goal.rebuild-requires-clause-block
-rebuild-requires-clause-block g c = rg_block c.args.arena.now c.args.up c.args.front c.args.rear c.requires.forest c.requires.pair c.regroup.new.arena _ c.regroup.ensures c.args.front c.requires.pair.front_block
+rebuild-requires-clause-block g c = rg_block c.args.arena.now c.args.up c.args.front c.args.rear c.requires.forest c.requires.pair c.regroup.new.arena _ c.regroup.ensures
+    c.args.front c.requires.pair.front_block
 
 pub rebuild-requires-clause-apart : goal.rebuild-requires-clause-apart
 rebuild-requires-clause-apart g c = rg_front_front c.args.arena.now c.args.up c.args.front c.args.rear c.requires.forest c.requires.pair c.regroup.new.arena _ c.regroup.ensures
@@ -30,22 +32,44 @@ pub rebuild-requires-clause-floors : goal.rebuild-requires-clause-floors
 rebuild-requires-clause-floors g c = same_floors c.args.floor c.args.arena.now c.regroup.new.arena c.regroup.ensures.block_values c.requires.floors
 
 pub rebuild-requires-clause-fits : goal.rebuild-requires-clause-fits
-rebuild-requires-clause-fits g c = λ view k. omega (arith, rg_total c.args.arena.now c.args.up c.args.front c.args.rear c.requires.forest c.requires.pair c.regroup.new.arena _ c.regroup.ensures (by_view g.L.Leaf.size g.L.Leaf.element view) (c.requires.sums view k), c.requires.fits view k)
+rebuild-requires-clause-fits g c = λ view k. omega (
+  arith,
+  rg_total c.args.arena.now c.args.up c.args.front c.args.rear c.requires.forest c.requires.pair
+      c.regroup.new.arena _ c.regroup.ensures (by_view g.L.Leaf.size g.L.Leaf.element view) (c.requires.sums view k),
+  c.requires.fits view k,
+)
 
 pub rebuild-requires-2-clause-apart : goal.rebuild-requires-2-clause-apart
-rebuild-requires-2-clause-apart g c = ap (λ ks. times ks c.args.rear) (c.in_ok-rebuild.ensures.shape.kids c.args.rear) ∙ rg_rear_rear c.args.arena.now c.args.up c.args.front c.args.rear c.requires.forest c.requires.pair c.regroup.new.arena _ c.regroup.ensures
+rebuild-requires-2-clause-apart g c = ap (λ ks. times ks c.args.rear) (c.in_ok-rebuild.ensures.shape.kids c.args.rear)
+    ∙ rg_rear_rear c.args.arena.now c.args.up c.args.front c.args.rear c.requires.forest c.requires.pair c.regroup.new.arena _ c.regroup.ensures
 
 pub rebuild-requires-2-clause-block : goal.rebuild-requires-2-clause-block
-rebuild-requires-2-clause-block g c = kind_block (entry c.regroup.new.arena c.args.rear) (entry c.rebuild.new.arena c.args.rear) (c.in_ok-rebuild.ensures.shape.kinds c.args.rear) (rg_block c.args.arena.now c.args.up c.args.front c.args.rear c.requires.forest c.requires.pair c.regroup.new.arena _ c.regroup.ensures c.args.rear c.requires.pair.rear_block)
+rebuild-requires-2-clause-block g c = kind_block (entry c.regroup.new.arena c.args.rear) (entry c.rebuild.new.arena c.args.rear)
+    (c.in_ok-rebuild.ensures.shape.kinds c.args.rear) (rg_block c.args.arena.now c.args.up c.args.front c.args.rear c.requires.forest c.requires.pair c.regroup.new.arena
+    _ c.regroup.ensures c.args.rear c.requires.pair.rear_block)
 
 pub rebuild-requires-2-clause-fits : goal.rebuild-requires-2-clause-fits
-rebuild-requires-2-clause-fits g c = λ view k. omega (arith, rg_total c.args.arena.now c.args.up c.args.front c.args.rear c.requires.forest c.requires.pair c.regroup.new.arena _ c.regroup.ensures (by_view g.L.Leaf.size g.L.Leaf.element view) (c.requires.sums view k), rg_rear_total c.args.arena.now c.args.up c.args.front c.args.rear c.requires.forest c.requires.pair c.regroup.new.arena _ c.regroup.ensures (by_view g.L.Leaf.size g.L.Leaf.element view) (c.requires.sums view k) c.rebuild.new.arena c.in_ok-rebuild.ensures.shape (c.in_ok-rebuild.ensures.sums view k), c.requires.fits view k)
+rebuild-requires-2-clause-fits g c = λ view k. omega (
+  arith,
+  rg_total c.args.arena.now c.args.up c.args.front c.args.rear c.requires.forest c.requires.pair
+      c.regroup.new.arena _ c.regroup.ensures (by_view g.L.Leaf.size g.L.Leaf.element view) (c.requires.sums view k),
+  rg_rear_total c.args.arena.now c.args.up c.args.front
+      c.args.rear c.requires.forest c.requires.pair c.regroup.new.arena _ c.regroup.ensures (by_view g.L.Leaf.size g.L.Leaf.element view) (c.requires.sums view k)
+      c.rebuild.new.arena c.in_ok-rebuild.ensures.shape (c.in_ok-rebuild.ensures.sums view k),
+  c.requires.fits view k,
+)
 
 pub returns-clause-shares : goal.returns-clause-shares
-returns-clause-shares g c = on_ok_weaker c.rebuild-2.result (λ q. balanced c.args.arena.now c.args.up c.args.front c.args.rear c.requires.forest c.requires.pair c.regroup.new.arena c.rebuild.new.arena c.rebuild-2.new.arena _ c.regroup.ensures c.in_ok-rebuild.ensures.shape q (omega (arith, c.count_of.ensures.value, c.count_of-2.ensures.value, c.requires.many)) (omega (arith, c.count_of.ensures.value, c.count_of-2.ensures.value, c.requires.many))) c.rebuild-2.ensures.shape
+returns-clause-shares g c = on_ok_weaker c.rebuild-2.result (λ q. balanced c.args.arena.now c.args.up c.args.front c.args.rear c.requires.forest c.requires.pair
+    c.regroup.new.arena c.rebuild.new.arena c.rebuild-2.new.arena _ c.regroup.ensures c.in_ok-rebuild.ensures.shape q
+    (omega (arith, c.count_of.ensures.value, c.count_of-2.ensures.value, c.requires.many))
+    (omega (arith, c.count_of.ensures.value, c.count_of-2.ensures.value, c.requires.many))) c.rebuild-2.ensures.shape
 
 pub returns-clause-up_kids : goal.returns-clause-up_kids
-returns-clause-up_kids g c = on_ok_weaker c.rebuild-2.result (λ q. balanced_up c.args.arena.now c.args.up c.args.front c.args.rear c.requires.forest c.requires.pair c.regroup.new.arena c.rebuild.new.arena c.rebuild-2.new.arena _ c.regroup.ensures c.in_ok-rebuild.ensures.shape q) c.rebuild-2.ensures.shape
+returns-clause-up_kids g c = on_ok_weaker c.rebuild-2.result (λ q. balanced_up c.args.arena.now c.args.up c.args.front c.args.rear c.requires.forest c.requires.pair
+    c.regroup.new.arena c.rebuild.new.arena c.rebuild-2.new.arena _ c.regroup.ensures c.in_ok-rebuild.ensures.shape q) c.rebuild-2.ensures.shape
 
 pub returns-clause-sums : goal.returns-clause-sums
-returns-clause-sums g c = on_ok_both c.rebuild-2.result (λ q u view k. balanced_sums c.args.arena.now c.args.up c.args.front c.args.rear c.requires.forest c.requires.pair c.regroup.new.arena c.rebuild.new.arena c.rebuild-2.new.arena _ c.regroup.ensures c.in_ok-rebuild.ensures.shape q (by_view g.L.Leaf.size g.L.Leaf.element view) (c.requires.sums view k) (c.in_ok-rebuild.ensures.sums view k) (u view k)) c.rebuild-2.ensures.shape c.rebuild-2.ensures.sums
+returns-clause-sums g c = on_ok_both c.rebuild-2.result (λ q u view k. balanced_sums c.args.arena.now c.args.up c.args.front c.args.rear c.requires.forest c.requires.pair
+    c.regroup.new.arena c.rebuild.new.arena c.rebuild-2.new.arena _ c.regroup.ensures c.in_ok-rebuild.ensures.shape q (by_view g.L.Leaf.size g.L.Leaf.element view)
+    (c.requires.sums view k) (c.in_ok-rebuild.ensures.sums view k) (u view k)) c.rebuild-2.ensures.shape c.rebuild-2.ensures.sums

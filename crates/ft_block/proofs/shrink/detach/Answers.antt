@@ -5,7 +5,8 @@ use Rattle.ft_arena.specs.Forest.{entry, kids_of, parent_of, block_value}
 use Rattle.ft_block.specs.Tree.{by_view, by_size}
 use Rattle.ft_block.proofs.FitLemmas.{leaf_total}
 use Rattle.ft_block.proofs.KindLemmas.{kind_block, kind_height}
-use Rattle.ft_block.proofs.TakenLemmas.{took_id, apart_part, SameShape-apart, taken_apart, taken_floors, taken_sums, taken_owes, tk_p_block, tk_high, tk_child, tk_up_block, has_parent}
+use Rattle.ft_block.proofs.TakenLemmas.{took_id, apart_part, SameShape-apart, taken_apart, taken_floors, taken_sums, taken_owes, tk_p_block, tk_high, tk_child}
+use Rattle.ft_block.proofs.TakenLemmas.{tk_up_block, has_parent}
 use Rattle.ft_block.proofs.ExchangeLemmas.{goes}
 use Rattle.ft_block.proofs.shrink.detach.Goals as goal
 
@@ -28,60 +29,102 @@ take_child-requires g c = slice_get_within (kids_of c.args.arena.now c.in-Some.b
 pub exchange_up-requires-clause-tree : goal.exchange_up-requires-clause-tree
 exchange_up-requires-clause-tree g c =
     let up : parent_of c.args.arena.now c.args.id ≡ Some c.in-Some.block = sym c.parent.ensures ∙ c.in-Some.is in
-    let takes = took_id c.args.arena.now c.take_child.new.self c.in-Some.block c.place_of-place.result.0 c.args.id c.take_child.result c.place_of-place.ensures.place c.take_child.ensures.child c.take_child.ensures.takes in
-    apart_part c.take_child.new.self c.args.root c.args.id (Some c.in-Some.block) (taken_apart c.args.arena.now c.take_child.new.self c.args.root c.args.id c.in-Some.block c.place_of-place.result.0 c.requires.tree c.requires.live up c.take_child.ensures.leaves c.take_child.ensures.sound c.place_of-place.ensures.place takes c.requires.more)
+    let takes = took_id c.args.arena.now c.take_child.new.self c.in-Some.block c.place_of-place.result.0 c.args.id c.take_child.result c.place_of-place.ensures.place
+    c.take_child.ensures.child c.take_child.ensures.takes in
+    apart_part c.take_child.new.self c.args.root c.args.id (Some c.in-Some.block)
+    (taken_apart c.args.arena.now c.take_child.new.self c.args.root c.args.id c.in-Some.block c.place_of-place.result.0 c.requires.tree c.requires.live up
+    c.take_child.ensures.leaves c.take_child.ensures.sound c.place_of-place.ensures.place takes c.requires.more)
 
 pub exchange_up-requires-clause-fits : goal.exchange_up-requires-clause-fits
-exchange_up-requires-clause-fits g c = omega (arith, leaf_total (by_size g.L.Leaf.size) c.args.arena.now c.take_child.new.self c.requires.tree.shape.forest c.take_child.ensures.leaves c.take_child.ensures.takes.leaf_values, c.requires.fits)
+exchange_up-requires-clause-fits g c = omega (
+  arith,
+  leaf_total (by_size g.L.Leaf.size) c.args.arena.now c.take_child.new.self c.requires.tree.shape.forest
+      c.take_child.ensures.leaves c.take_child.ensures.takes.leaf_values,
+  c.requires.fits,
+)
 
 pub exchange_up-requires-clause-block : goal.exchange_up-requires-clause-block
 exchange_up-requires-clause-block g c = λ b e.
     let up : parent_of c.args.arena.now c.args.id ≡ Some c.in-Some.block = sym c.parent.ensures ∙ c.in-Some.is in
-    let takes = took_id c.args.arena.now c.take_child.new.self c.in-Some.block c.place_of-place.result.0 c.args.id c.take_child.result c.place_of-place.ensures.place c.take_child.ensures.child c.take_child.ensures.takes in
+    let takes = took_id c.args.arena.now c.take_child.new.self c.in-Some.block c.place_of-place.result.0 c.args.id c.take_child.result c.place_of-place.ensures.place
+    c.take_child.ensures.child c.take_child.ensures.takes in
     let q : c.in-Some.block ≡ b = cc e in
-    subst (λ (z : ℕ). IsSome (block_value c.take_child.new.self z)) q (tk_p_block c.args.arena.now c.take_child.new.self c.args.root c.args.id c.in-Some.block c.place_of-place.result.0 c.requires.tree c.requires.live up c.take_child.ensures.leaves c.take_child.ensures.sound c.place_of-place.ensures.place takes c.requires.more)
+    subst (λ (z : ℕ). IsSome (block_value c.take_child.new.self z)) q
+    (tk_p_block c.args.arena.now c.take_child.new.self c.args.root c.args.id c.in-Some.block c.place_of-place.result.0 c.requires.tree c.requires.live up
+    c.take_child.ensures.leaves c.take_child.ensures.sound c.place_of-place.ensures.place takes c.requires.more)
 
 pub exchange_up-requires-clause-floors : goal.exchange_up-requires-clause-floors
 exchange_up-requires-clause-floors g c =
     let up : parent_of c.args.arena.now c.args.id ≡ Some c.in-Some.block = sym c.parent.ensures ∙ c.in-Some.is in
-    let takes = took_id c.args.arena.now c.take_child.new.self c.in-Some.block c.place_of-place.result.0 c.args.id c.take_child.result c.place_of-place.ensures.place c.take_child.ensures.child c.take_child.ensures.takes in
-    taken_floors c.args.arena.now c.take_child.new.self c.args.root c.args.id c.in-Some.block c.place_of-place.result.0 c.requires.tree c.requires.live up c.take_child.ensures.leaves c.take_child.ensures.sound c.place_of-place.ensures.place takes c.requires.more c.args.floor c.requires.floors
+    let takes = took_id c.args.arena.now c.take_child.new.self c.in-Some.block c.place_of-place.result.0 c.args.id c.take_child.result c.place_of-place.ensures.place
+    c.take_child.ensures.child c.take_child.ensures.takes in
+    taken_floors c.args.arena.now c.take_child.new.self c.args.root c.args.id c.in-Some.block c.place_of-place.result.0 c.requires.tree c.requires.live up
+    c.take_child.ensures.leaves c.take_child.ensures.sound c.place_of-place.ensures.place takes c.requires.more c.args.floor c.requires.floors
 
 pub exchange_up-requires-clause-sums : goal.exchange_up-requires-clause-sums
 exchange_up-requires-clause-sums g c = λ view k.
     let up : parent_of c.args.arena.now c.args.id ≡ Some c.in-Some.block = sym c.parent.ensures ∙ c.in-Some.is in
-    let takes = took_id c.args.arena.now c.take_child.new.self c.in-Some.block c.place_of-place.result.0 c.args.id c.take_child.result c.place_of-place.ensures.place c.take_child.ensures.child c.take_child.ensures.takes in
-    taken_sums c.args.arena.now c.take_child.new.self c.args.root c.args.id c.in-Some.block c.place_of-place.result.0 c.requires.tree c.requires.live up c.take_child.ensures.leaves c.take_child.ensures.sound c.place_of-place.ensures.place takes c.requires.more (by_view g.L.Leaf.size g.L.Leaf.element view) (c.requires.sums view k)
+    let takes = took_id c.args.arena.now c.take_child.new.self c.in-Some.block c.place_of-place.result.0 c.args.id c.take_child.result c.place_of-place.ensures.place
+    c.take_child.ensures.child c.take_child.ensures.takes in
+    taken_sums c.args.arena.now c.take_child.new.self c.args.root c.args.id c.in-Some.block c.place_of-place.result.0 c.requires.tree c.requires.live up
+    c.take_child.ensures.leaves c.take_child.ensures.sound c.place_of-place.ensures.place takes c.requires.more (by_view g.L.Leaf.size g.L.Leaf.element view)
+    (c.requires.sums view k)
 
 pub exchange_up-requires-clause-owes : goal.exchange_up-requires-clause-owes
 exchange_up-requires-clause-owes g c = λ view k.
     let up : parent_of c.args.arena.now c.args.id ≡ Some c.in-Some.block = sym c.parent.ensures ∙ c.in-Some.is in
-    let takes = took_id c.args.arena.now c.take_child.new.self c.in-Some.block c.place_of-place.result.0 c.args.id c.take_child.result c.place_of-place.ensures.place c.take_child.ensures.child c.take_child.ensures.takes in
-    goes g.L.Leaf.size g.L.Leaf.element view c.take_child.new.self (Some c.in-Some.block) c.leaf_at-leaf.result.now c.in_ok-e.e c.len-len.result (c.in_ok-e.ensures ∙ c.element.ensures) c.len-len.ensures.value (taken_owes c.args.arena.now c.take_child.new.self c.args.root c.args.id c.in-Some.block c.place_of-place.result.0 c.requires.tree c.requires.live up c.take_child.ensures.leaves c.take_child.ensures.sound c.place_of-place.ensures.place takes c.requires.more (by_view g.L.Leaf.size g.L.Leaf.element view) (c.requires.sums view k) c.leaf_at-leaf.result.now c.leaf_at-leaf.ensures)
+    let takes = took_id c.args.arena.now c.take_child.new.self c.in-Some.block c.place_of-place.result.0 c.args.id c.take_child.result c.place_of-place.ensures.place
+    c.take_child.ensures.child c.take_child.ensures.takes in
+    goes g.L.Leaf.size g.L.Leaf.element view c.take_child.new.self (Some c.in-Some.block) c.leaf_at-leaf.result.now c.in_ok-e.e c.len-len.result (c.in_ok-e.ensures
+    ∙ c.element.ensures) c.len-len.ensures.value (taken_owes c.args.arena.now c.take_child.new.self c.args.root c.args.id c.in-Some.block c.place_of-place.result.0
+    c.requires.tree c.requires.live up c.take_child.ensures.leaves c.take_child.ensures.sound c.place_of-place.ensures.place takes c.requires.more
+    (by_view g.L.Leaf.size g.L.Leaf.element view) (c.requires.sums view k) c.leaf_at-leaf.result.now c.leaf_at-leaf.ensures)
 
 pub fill_up-requires-clause-apart : goal.fill_up-requires-clause-apart
 fill_up-requires-clause-apart g c =
     let up : parent_of c.args.arena.now c.args.id ≡ Some c.in-Some.block = sym c.parent.ensures ∙ c.in-Some.is in
-    let takes = took_id c.args.arena.now c.take_child.new.self c.in-Some.block c.place_of-place.result.0 c.args.id c.take_child.result c.place_of-place.ensures.place c.take_child.ensures.child c.take_child.ensures.takes in
-    SameShape-apart c.take_child.new.self c.exchange_up.new.arena c.args.root c.args.id (Some c.in-Some.block) (taken_apart c.args.arena.now c.take_child.new.self c.args.root c.args.id c.in-Some.block c.place_of-place.result.0 c.requires.tree c.requires.live up c.take_child.ensures.leaves c.take_child.ensures.sound c.place_of-place.ensures.place takes c.requires.more) c.in_ok-exchange_up.ensures.shape
+    let takes = took_id c.args.arena.now c.take_child.new.self c.in-Some.block c.place_of-place.result.0 c.args.id c.take_child.result c.place_of-place.ensures.place
+    c.take_child.ensures.child c.take_child.ensures.takes in
+    SameShape-apart c.take_child.new.self c.exchange_up.new.arena c.args.root c.args.id (Some c.in-Some.block)
+    (taken_apart c.args.arena.now c.take_child.new.self c.args.root c.args.id c.in-Some.block c.place_of-place.result.0 c.requires.tree c.requires.live up
+    c.take_child.ensures.leaves c.take_child.ensures.sound c.place_of-place.ensures.place takes c.requires.more) c.in_ok-exchange_up.ensures.shape
 
 pub fill_up-requires-clause-block : goal.fill_up-requires-clause-block
 fill_up-requires-clause-block g c =
     let up : parent_of c.args.arena.now c.args.id ≡ Some c.in-Some.block = sym c.parent.ensures ∙ c.in-Some.is in
-    let takes = took_id c.args.arena.now c.take_child.new.self c.in-Some.block c.place_of-place.result.0 c.args.id c.take_child.result c.place_of-place.ensures.place c.take_child.ensures.child c.take_child.ensures.takes in
-    kind_block (entry c.take_child.new.self c.in-Some.block) (entry c.exchange_up.new.arena c.in-Some.block) (c.in_ok-exchange_up.ensures.shape.kinds c.in-Some.block) (tk_p_block c.args.arena.now c.take_child.new.self c.args.root c.args.id c.in-Some.block c.place_of-place.result.0 c.requires.tree c.requires.live up c.take_child.ensures.leaves c.take_child.ensures.sound c.place_of-place.ensures.place takes c.requires.more)
+    let takes = took_id c.args.arena.now c.take_child.new.self c.in-Some.block c.place_of-place.result.0 c.args.id c.take_child.result c.place_of-place.ensures.place
+    c.take_child.ensures.child c.take_child.ensures.takes in
+    kind_block (entry c.take_child.new.self c.in-Some.block) (entry c.exchange_up.new.arena c.in-Some.block) (c.in_ok-exchange_up.ensures.shape.kinds c.in-Some.block)
+    (tk_p_block c.args.arena.now c.take_child.new.self c.args.root c.args.id c.in-Some.block c.place_of-place.result.0 c.requires.tree c.requires.live up
+    c.take_child.ensures.leaves c.take_child.ensures.sound c.place_of-place.ensures.place takes c.requires.more)
 
 pub fill_up-requires-clause-fits : goal.fill_up-requires-clause-fits
-fill_up-requires-clause-fits g c = omega (arith, leaf_total (by_size g.L.Leaf.size) c.args.arena.now c.exchange_up.new.arena c.requires.tree.shape.forest (c.in_ok-exchange_up.ensures.shape.leaves ∙ c.take_child.ensures.leaves) (λ x. c.in_ok-exchange_up.ensures.shape.leaf_values x ∙ c.take_child.ensures.takes.leaf_values x), c.requires.fits)
+fill_up-requires-clause-fits g c = omega (
+  arith,
+  leaf_total (by_size g.L.Leaf.size) c.args.arena.now c.exchange_up.new.arena c.requires.tree.shape.forest
+      (c.in_ok-exchange_up.ensures.shape.leaves ∙ c.take_child.ensures.leaves) (λ x. c.in_ok-exchange_up.ensures.shape.leaf_values x
+      ∙ c.take_child.ensures.takes.leaf_values x),
+  c.requires.fits,
+)
 
 pub returns-clause-low : goal.returns-clause-low
 returns-clause-low g c = IfOk-weaker c.fill_up.result _ _ (λ top h.
     let up : parent_of c.args.arena.now c.args.id ≡ Some c.in-Some.block = sym c.parent.ensures ∙ c.in-Some.is in
-    let takes = took_id c.args.arena.now c.take_child.new.self c.in-Some.block c.place_of-place.result.0 c.args.id c.take_child.result c.place_of-place.ensures.place c.take_child.ensures.child c.take_child.ensures.takes in
-    omega (arith, h, kind_height (entry c.take_child.new.self c.args.root) (entry c.exchange_up.new.arena c.args.root) (c.in_ok-exchange_up.ensures.shape.kinds c.args.root), tk_high c.args.arena.now c.take_child.new.self c.args.root c.args.id c.in-Some.block c.place_of-place.result.0 c.requires.tree c.requires.live up c.take_child.ensures.leaves c.take_child.ensures.sound c.place_of-place.ensures.place takes c.requires.more c.args.root)) c.fill_up.ensures.low
+    let takes = took_id c.args.arena.now c.take_child.new.self c.in-Some.block c.place_of-place.result.0 c.args.id c.take_child.result c.place_of-place.ensures.place
+    c.take_child.ensures.child c.take_child.ensures.takes in
+    omega (
+      arith,
+      h,
+      kind_height (entry c.take_child.new.self c.args.root) (entry c.exchange_up.new.arena c.args.root)
+          (c.in_ok-exchange_up.ensures.shape.kinds c.args.root),
+      tk_high c.args.arena.now c.take_child.new.self c.args.root c.args.id c.in-Some.block
+          c.place_of-place.result.0 c.requires.tree c.requires.live up c.take_child.ensures.leaves c.take_child.ensures.sound c.place_of-place.ensures.place takes
+          c.requires.more c.args.root,
+    )) c.fill_up.ensures.low
 
 pub returns-clause-leaves : goal.returns-clause-leaves
 returns-clause-leaves g c = on_ok_weaker c.fill_up.result (λ e. e ∙ c.in_ok-exchange_up.ensures.shape.leaves ∙ c.take_child.ensures.leaves) c.fill_up.ensures.leaves
 
 pub returns-clause-leaf_values : goal.returns-clause-leaf_values
-returns-clause-leaf_values g c = on_ok_weaker c.fill_up.result (λ e x. e x ∙ c.in_ok-exchange_up.ensures.shape.leaf_values x ∙ c.take_child.ensures.takes.leaf_values x) c.fill_up.ensures.leaf_values
+returns-clause-leaf_values g c = on_ok_weaker c.fill_up.result (λ e x. e x ∙ c.in_ok-exchange_up.ensures.shape.leaf_values x ∙ c.take_child.ensures.takes.leaf_values x)
+    c.fill_up.ensures.leaf_values

@@ -6,11 +6,13 @@ use Rattle.ft_block.specs.Steps.{DropsRoot}
 use Rattle.ft_block.proofs.KindLemmas.{block_live}
 use Rattle.ft_block.proofs.FitLemmas.{leaf_total}
 use Rattle.ft_block.proofs.ShareLemmas.{share_apart, share_sums, share_block, share_high, share_up_high}
-use Rattle.ft_block.proofs.FillLemmas.{apart_full, apart_root, apart_with, fl_up_block, fl_up_full, fl_child, fl_root, fl_only, fl_short, fl_two, fl_pair, fl_many, fl_fits, dropped_apart, dropped_low, dropped_sums, dropped_floors}
+use Rattle.ft_block.proofs.FillLemmas.{apart_full, apart_root, apart_with, fl_up_block, fl_up_full, fl_child, fl_root, fl_only, fl_short, fl_two, fl_pair, fl_many}
+use Rattle.ft_block.proofs.FillLemmas.{fl_fits, dropped_apart, dropped_low, dropped_sums, dropped_floors}
 use Rattle.ft_block.proofs.shrink.fill_up.Goals as goal
 
 pub returns-then-count_of-ge4-clause-apart : goal.returns-then-count_of-ge4-clause-apart
-returns-then-count_of-ge4-clause-apart g c = apart_full c.up.arena c.args.root c.args._id c.up.block c.up.invariant.apart (omega (arith, c.count_of.ensures.value, c.if-count_of-ge4.true))
+returns-then-count_of-ge4-clause-apart g c =
+    apart_full c.up.arena c.args.root c.args._id c.up.block c.up.invariant.apart (omega (arith, c.count_of.ensures.value, c.if-count_of-ge4.true))
 
 pub place_of-place-requires-clause-block : goal.place_of-place-requires-clause-block
 place_of-place-requires-clause-block g c =
@@ -39,9 +41,12 @@ returns-then-count-eq1-clause-apart g c =
     let up : parent_of c.up.arena c.up.block ≡ Some c.in-Some.up = sym c.parent.ensures ∙ c.in-Some.is in
     let few : length (kids_of c.up.arena c.in-Some.up) ≤ 3 = omega (arith, c.place_of-place.ensures.count, c.if-count-eq1.true) in
     let is_root : c.in-Some.up ≡ c.args.root = fl_root c.up.arena c.args.root c.args._id c.up.block c.up.invariant.apart c.in-Some.up up few in
-    let drops : DropsRoot c.up.arena c.drop_root.new.arena c.args.root c.drop_root.result = subst (λ (z : ℕ). DropsRoot c.up.arena c.drop_root.new.arena z c.drop_root.result) is_root c.drop_root.ensures in
-    let is_top : c.up.block ≡ c.drop_root.result = fl_only c.up.arena c.args.root c.args._id c.up.block c.up.invariant.apart c.in-Some.up up c.drop_root.result (ap (kids_of c.up.arena) is_root ∙ drops.kids) in
-    let apart : IsApart c.up.arena c.args.root c.args._id (Some c.drop_root.result) = subst (λ (z : ℕ). IsApart c.up.arena c.args.root c.args._id (Some z)) is_top c.up.invariant.apart in
+    let drops : DropsRoot c.up.arena c.drop_root.new.arena c.args.root c.drop_root.result =
+    subst (λ (z : ℕ). DropsRoot c.up.arena c.drop_root.new.arena z c.drop_root.result) is_root c.drop_root.ensures in
+    let is_top : c.up.block ≡ c.drop_root.result =
+    fl_only c.up.arena c.args.root c.args._id c.up.block c.up.invariant.apart c.in-Some.up up c.drop_root.result (ap (kids_of c.up.arena) is_root ∙ drops.kids) in
+    let apart : IsApart c.up.arena c.args.root c.args._id (Some c.drop_root.result) =
+    subst (λ (z : ℕ). IsApart c.up.arena c.args.root c.args._id (Some z)) is_top c.up.invariant.apart in
     let filled : 1 ≤ length (kids_of c.up.arena c.drop_root.result) = apart.filled c.drop_root.result refl in
     let block : IsSome (block_value c.up.arena c.drop_root.result) = subst (λ (z : ℕ). IsSome (block_value c.up.arena z)) is_top c.up.invariant.block in
     dropped_apart c.up.arena c.drop_root.new.arena c.args.root c.args._id c.drop_root.result apart filled block drops
@@ -51,21 +56,28 @@ returns-then-count-eq1-clause-sums g c = λ view k.
     let up : parent_of c.up.arena c.up.block ≡ Some c.in-Some.up = sym c.parent.ensures ∙ c.in-Some.is in
     let few : length (kids_of c.up.arena c.in-Some.up) ≤ 3 = omega (arith, c.place_of-place.ensures.count, c.if-count-eq1.true) in
     let is_root : c.in-Some.up ≡ c.args.root = fl_root c.up.arena c.args.root c.args._id c.up.block c.up.invariant.apart c.in-Some.up up few in
-    let drops : DropsRoot c.up.arena c.drop_root.new.arena c.args.root c.drop_root.result = subst (λ (z : ℕ). DropsRoot c.up.arena c.drop_root.new.arena z c.drop_root.result) is_root c.drop_root.ensures in
-    let is_top : c.up.block ≡ c.drop_root.result = fl_only c.up.arena c.args.root c.args._id c.up.block c.up.invariant.apart c.in-Some.up up c.drop_root.result (ap (kids_of c.up.arena) is_root ∙ drops.kids) in
-    let apart : IsApart c.up.arena c.args.root c.args._id (Some c.drop_root.result) = subst (λ (z : ℕ). IsApart c.up.arena c.args.root c.args._id (Some z)) is_top c.up.invariant.apart in
+    let drops : DropsRoot c.up.arena c.drop_root.new.arena c.args.root c.drop_root.result =
+    subst (λ (z : ℕ). DropsRoot c.up.arena c.drop_root.new.arena z c.drop_root.result) is_root c.drop_root.ensures in
+    let is_top : c.up.block ≡ c.drop_root.result =
+    fl_only c.up.arena c.args.root c.args._id c.up.block c.up.invariant.apart c.in-Some.up up c.drop_root.result (ap (kids_of c.up.arena) is_root ∙ drops.kids) in
+    let apart : IsApart c.up.arena c.args.root c.args._id (Some c.drop_root.result) =
+    subst (λ (z : ℕ). IsApart c.up.arena c.args.root c.args._id (Some z)) is_top c.up.invariant.apart in
     let filled : 1 ≤ length (kids_of c.up.arena c.drop_root.result) = apart.filled c.drop_root.result refl in
     let block : IsSome (block_value c.up.arena c.drop_root.result) = subst (λ (z : ℕ). IsSome (block_value c.up.arena z)) is_top c.up.invariant.block in
-    dropped_sums c.up.arena c.drop_root.new.arena c.args.root c.args._id c.drop_root.result apart filled block drops (by_view g.L.Leaf.size g.L.Leaf.element view) (c.up.invariant.sums view k)
+    dropped_sums c.up.arena c.drop_root.new.arena c.args.root c.args._id c.drop_root.result apart filled block drops (by_view g.L.Leaf.size g.L.Leaf.element view)
+    (c.up.invariant.sums view k)
 
 pub returns-then-count-eq1-clause-floors : goal.returns-then-count-eq1-clause-floors
 returns-then-count-eq1-clause-floors g c =
     let up : parent_of c.up.arena c.up.block ≡ Some c.in-Some.up = sym c.parent.ensures ∙ c.in-Some.is in
     let few : length (kids_of c.up.arena c.in-Some.up) ≤ 3 = omega (arith, c.place_of-place.ensures.count, c.if-count-eq1.true) in
     let is_root : c.in-Some.up ≡ c.args.root = fl_root c.up.arena c.args.root c.args._id c.up.block c.up.invariant.apart c.in-Some.up up few in
-    let drops : DropsRoot c.up.arena c.drop_root.new.arena c.args.root c.drop_root.result = subst (λ (z : ℕ). DropsRoot c.up.arena c.drop_root.new.arena z c.drop_root.result) is_root c.drop_root.ensures in
-    let is_top : c.up.block ≡ c.drop_root.result = fl_only c.up.arena c.args.root c.args._id c.up.block c.up.invariant.apart c.in-Some.up up c.drop_root.result (ap (kids_of c.up.arena) is_root ∙ drops.kids) in
-    let apart : IsApart c.up.arena c.args.root c.args._id (Some c.drop_root.result) = subst (λ (z : ℕ). IsApart c.up.arena c.args.root c.args._id (Some z)) is_top c.up.invariant.apart in
+    let drops : DropsRoot c.up.arena c.drop_root.new.arena c.args.root c.drop_root.result =
+    subst (λ (z : ℕ). DropsRoot c.up.arena c.drop_root.new.arena z c.drop_root.result) is_root c.drop_root.ensures in
+    let is_top : c.up.block ≡ c.drop_root.result =
+    fl_only c.up.arena c.args.root c.args._id c.up.block c.up.invariant.apart c.in-Some.up up c.drop_root.result (ap (kids_of c.up.arena) is_root ∙ drops.kids) in
+    let apart : IsApart c.up.arena c.args.root c.args._id (Some c.drop_root.result) =
+    subst (λ (z : ℕ). IsApart c.up.arena c.args.root c.args._id (Some z)) is_top c.up.invariant.apart in
     let filled : 1 ≤ length (kids_of c.up.arena c.drop_root.result) = apart.filled c.drop_root.result refl in
     let block : IsSome (block_value c.up.arena c.drop_root.result) = subst (λ (z : ℕ). IsSome (block_value c.up.arena z)) is_top c.up.invariant.block in
     dropped_floors c.up.arena c.drop_root.new.arena c.args.root c.args._id c.drop_root.result apart filled block drops c.args.floor c.up.invariant.floors
@@ -90,17 +102,25 @@ child_at-rear-requires-clause-block g c =
     fl_up_block c.up.arena c.args.root c.args._id c.up.block c.up.invariant.apart c.in-Some.up up
 
 pub child_at-rear-requires-clause-place : goal.child_at-rear-requires-clause-place
-child_at-rear-requires-clause-place g c = omega (arith, slice_get_within (kids_of c.up.arena c.in-Some.up) c.place_of-place.result.0 c.up.block c.place_of-place.ensures.place, c.place_of-place.ensures.count, c.if-count-eq1.false)
+child_at-rear-requires-clause-place g c =
+    omega (
+      arith,
+      slice_get_within (kids_of c.up.arena c.in-Some.up) c.place_of-place.result.0 c.up.block c.place_of-place.ensures.place,
+      c.place_of-place.ensures.count,
+      c.if-count-eq1.false,
+    )
 
 pub count_of-requires-in-Some : goal.count_of-requires-in-Some
 count_of-requires-in-Some g c =
     let up : parent_of c.up.arena c.up.block ≡ Some c.in-Some.up = sym c.parent.ensures ∙ c.in-Some.is in
-    (fl_pair c.up.arena c.args.root c.args._id c.up.block c.up.invariant.apart c.in-Some.up up c.up.invariant.block _ c.child_at-front.result c.child_at-rear.result c.child_at-front.ensures c.child_at-rear.ensures).front_block
+    (fl_pair c.up.arena c.args.root c.args._id c.up.block c.up.invariant.apart c.in-Some.up up c.up.invariant.block _ c.child_at-front.result c.child_at-rear.result
+    c.child_at-front.ensures c.child_at-rear.ensures).front_block
 
 pub count_of-requires-in-Some-2 : goal.count_of-requires-in-Some-2
 count_of-requires-in-Some-2 g c =
     let up : parent_of c.up.arena c.up.block ≡ Some c.in-Some.up = sym c.parent.ensures ∙ c.in-Some.is in
-    (fl_pair c.up.arena c.args.root c.args._id c.up.block c.up.invariant.apart c.in-Some.up up c.up.invariant.block _ c.child_at-front.result c.child_at-rear.result c.child_at-front.ensures c.child_at-rear.ensures).rear_block
+    (fl_pair c.up.arena c.args.root c.args._id c.up.block c.up.invariant.apart c.in-Some.up up c.up.invariant.block _ c.child_at-front.result c.child_at-rear.result
+    c.child_at-front.ensures c.child_at-rear.ensures).rear_block
 
 pub balance-requires-clause-forest : goal.balance-requires-clause-forest
 balance-requires-clause-forest g c = c.up.invariant.apart.shape.forest
@@ -108,7 +128,8 @@ balance-requires-clause-forest g c = c.up.invariant.apart.shape.forest
 pub balance-requires-clause-pair : goal.balance-requires-clause-pair
 balance-requires-clause-pair g c =
     let up : parent_of c.up.arena c.up.block ≡ Some c.in-Some.up = sym c.parent.ensures ∙ c.in-Some.is in
-    fl_pair c.up.arena c.args.root c.args._id c.up.block c.up.invariant.apart c.in-Some.up up c.up.invariant.block _ c.child_at-front.result c.child_at-rear.result c.child_at-front.ensures c.child_at-rear.ensures
+    fl_pair c.up.arena c.args.root c.args._id c.up.block c.up.invariant.apart c.in-Some.up up c.up.invariant.block _ c.child_at-front.result c.child_at-rear.result
+    c.child_at-front.ensures c.child_at-rear.ensures
 
 pub balance-requires-clause-many : goal.balance-requires-clause-many
 balance-requires-clause-many g c = omega (arith, c.count_of-in-Some.ensures.value, c.count_of-in-Some-2.ensures.value, c.if-many-gt8.true)
@@ -116,19 +137,38 @@ balance-requires-clause-many g c = omega (arith, c.count_of-in-Some.ensures.valu
 pub balance-requires-clause-fits : goal.balance-requires-clause-fits
 balance-requires-clause-fits g c = λ view k.
     let up : parent_of c.up.arena c.up.block ≡ Some c.in-Some.up = sym c.parent.ensures ∙ c.in-Some.is in
-    fl_fits c.up.arena c.args.root c.args._id c.up.block c.up.invariant.apart c.in-Some.up up c.up.invariant.block _ c.child_at-front.result c.child_at-rear.result c.child_at-front.ensures c.child_at-rear.ensures g.L.Leaf.size g.L.Leaf.element view (c.up.invariant.sums view k) c.up.invariant.fits
+    fl_fits c.up.arena c.args.root c.args._id c.up.block c.up.invariant.apart c.in-Some.up up c.up.invariant.block _ c.child_at-front.result c.child_at-rear.result
+    c.child_at-front.ensures c.child_at-rear.ensures g.L.Leaf.size g.L.Leaf.element view (c.up.invariant.sums view k) c.up.invariant.fits
 
 pub returns-then-many-gt8-clause-apart : goal.returns-then-many-gt8-clause-apart
 returns-then-many-gt8-clause-apart g c =
     let up : parent_of c.up.arena c.up.block ≡ Some c.in-Some.up = sym c.parent.ensures ∙ c.in-Some.is in
-    let pair = fl_pair c.up.arena c.args.root c.args._id c.up.block c.up.invariant.apart c.in-Some.up up c.up.invariant.block _ c.child_at-front.result c.child_at-rear.result c.child_at-front.ensures c.child_at-rear.ensures in
-    apart_with c.balance.new.arena c.args.root c.args._id c.in-Some.up (share_apart c.up.arena c.balance.new.arena c.args.root c.args._id c.in-Some.up c.child_at-front.result c.child_at-rear.result c.up.block c.up.invariant.apart pair.front_up pair.rear_up pair.differ (fl_short c.up.arena c.args.root c.args._id c.up.block c.up.invariant.apart c.in-Some.up up c.place_of-place.result.0 _ c.child_at-front.result c.child_at-rear.result c.place_of-place.ensures.place (omega arith) c.child_at-front.ensures c.child_at-rear.ensures) (fl_two c.up.arena c.args.root c.args._id c.up.block c.up.invariant.apart c.in-Some.up up c.up.invariant.block) c.in_ok-balance.ensures.shares) (λ b e d. omega (arith, fl_up_full c.up.arena c.args.root c.args._id c.up.block c.up.invariant.apart c.in-Some.up up (λ q. d (e ∙ q)), ap length (c.in_ok-balance.ensures.up_kids), ap (λ z. length (kids_of c.balance.new.arena z)) e))
+    let pair = fl_pair c.up.arena c.args.root c.args._id c.up.block c.up.invariant.apart c.in-Some.up up c.up.invariant.block _ c.child_at-front.result
+    c.child_at-rear.result c.child_at-front.ensures c.child_at-rear.ensures in
+    apart_with c.balance.new.arena c.args.root c.args._id c.in-Some.up
+    (share_apart c.up.arena c.balance.new.arena c.args.root c.args._id c.in-Some.up c.child_at-front.result c.child_at-rear.result c.up.block c.up.invariant.apart
+    pair.front_up pair.rear_up pair.differ (fl_short c.up.arena c.args.root c.args._id c.up.block c.up.invariant.apart c.in-Some.up up c.place_of-place.result.0 _
+    c.child_at-front.result c.child_at-rear.result c.place_of-place.ensures.place (omega arith) c.child_at-front.ensures c.child_at-rear.ensures)
+    (fl_two c.up.arena c.args.root c.args._id c.up.block c.up.invariant.apart c.in-Some.up up c.up.invariant.block) c.in_ok-balance.ensures.shares)
+    (λ b e d. omega (
+      arith,
+      fl_up_full c.up.arena c.args.root c.args._id c.up.block c.up.invariant.apart c.in-Some.up up (λ q. d (e ∙ q)),
+      ap length
+          (c.in_ok-balance.ensures.up_kids),
+      ap (λ z. length (kids_of c.balance.new.arena z)) e,
+    ))
 
 pub returns-then-many-gt8-clause-sums : goal.returns-then-many-gt8-clause-sums
 returns-then-many-gt8-clause-sums g c = λ view k.
     let up : parent_of c.up.arena c.up.block ≡ Some c.in-Some.up = sym c.parent.ensures ∙ c.in-Some.is in
-    let pair = fl_pair c.up.arena c.args.root c.args._id c.up.block c.up.invariant.apart c.in-Some.up up c.up.invariant.block _ c.child_at-front.result c.child_at-rear.result c.child_at-front.ensures c.child_at-rear.ensures in
-    share_sums c.up.arena c.balance.new.arena c.args.root c.args._id c.in-Some.up c.child_at-front.result c.child_at-rear.result c.up.block c.up.invariant.apart pair.front_up pair.rear_up pair.differ (fl_short c.up.arena c.args.root c.args._id c.up.block c.up.invariant.apart c.in-Some.up up c.place_of-place.result.0 _ c.child_at-front.result c.child_at-rear.result c.place_of-place.ensures.place (omega arith) c.child_at-front.ensures c.child_at-rear.ensures) (fl_two c.up.arena c.args.root c.args._id c.up.block c.up.invariant.apart c.in-Some.up up c.up.invariant.block) c.in_ok-balance.ensures.shares (by_view g.L.Leaf.size g.L.Leaf.element view) (c.up.invariant.sums view k) (c.in_ok-balance.ensures.sums view k).others (c.in_ok-balance.ensures.sums view k).front_sum (c.in_ok-balance.ensures.sums view k).rear_sum (c.in_ok-balance.ensures.sums view k).up_sum
+    let pair = fl_pair c.up.arena c.args.root c.args._id c.up.block c.up.invariant.apart c.in-Some.up up c.up.invariant.block _ c.child_at-front.result
+    c.child_at-rear.result c.child_at-front.ensures c.child_at-rear.ensures in
+    share_sums c.up.arena c.balance.new.arena c.args.root c.args._id c.in-Some.up c.child_at-front.result c.child_at-rear.result c.up.block c.up.invariant.apart
+    pair.front_up pair.rear_up pair.differ (fl_short c.up.arena c.args.root c.args._id c.up.block c.up.invariant.apart c.in-Some.up up c.place_of-place.result.0 _
+    c.child_at-front.result c.child_at-rear.result c.place_of-place.ensures.place (omega arith) c.child_at-front.ensures c.child_at-rear.ensures)
+    (fl_two c.up.arena c.args.root c.args._id c.up.block c.up.invariant.apart c.in-Some.up up c.up.invariant.block) c.in_ok-balance.ensures.shares
+    (by_view g.L.Leaf.size g.L.Leaf.element view) (c.up.invariant.sums view k) (c.in_ok-balance.ensures.sums view k).others
+    (c.in_ok-balance.ensures.sums view k).front_sum (c.in_ok-balance.ensures.sums view k).rear_sum (c.in_ok-balance.ensures.sums view k).up_sum
 
 pub returns-then-many-gt8-clause-leaves : goal.returns-then-many-gt8-clause-leaves
 returns-then-many-gt8-clause-leaves g c = c.in_ok-balance.ensures.shares.leaves ∙ c.up.invariant.leaves
@@ -142,7 +182,8 @@ merge-requires-clause-forest g c = c.up.invariant.apart.shape.forest
 pub merge-requires-clause-pair : goal.merge-requires-clause-pair
 merge-requires-clause-pair g c =
     let up : parent_of c.up.arena c.up.block ≡ Some c.in-Some.up = sym c.parent.ensures ∙ c.in-Some.is in
-    fl_pair c.up.arena c.args.root c.args._id c.up.block c.up.invariant.apart c.in-Some.up up c.up.invariant.block _ c.child_at-front.result c.child_at-rear.result c.child_at-front.ensures c.child_at-rear.ensures
+    fl_pair c.up.arena c.args.root c.args._id c.up.block c.up.invariant.apart c.in-Some.up up c.up.invariant.block _ c.child_at-front.result c.child_at-rear.result
+    c.child_at-front.ensures c.child_at-rear.ensures
 
 pub merge-requires-clause-few : goal.merge-requires-clause-few
 merge-requires-clause-few g c = omega (arith, c.count_of-in-Some.ensures.value, c.count_of-in-Some-2.ensures.value, c.if-many-gt8.false)
@@ -150,34 +191,58 @@ merge-requires-clause-few g c = omega (arith, c.count_of-in-Some.ensures.value, 
 pub merge-requires-clause-many : goal.merge-requires-clause-many
 merge-requires-clause-many g c =
     let up : parent_of c.up.arena c.up.block ≡ Some c.in-Some.up = sym c.parent.ensures ∙ c.in-Some.is in
-    fl_many c.up.arena c.args.root c.args._id c.up.block c.up.invariant.apart c.in-Some.up up c.up.invariant.block _ c.child_at-front.result c.child_at-rear.result c.child_at-front.ensures c.child_at-rear.ensures
+    fl_many c.up.arena c.args.root c.args._id c.up.block c.up.invariant.apart c.in-Some.up up c.up.invariant.block _ c.child_at-front.result c.child_at-rear.result
+    c.child_at-front.ensures c.child_at-rear.ensures
 
 pub merge-requires-clause-fits : goal.merge-requires-clause-fits
 merge-requires-clause-fits g c = λ view k.
     let up : parent_of c.up.arena c.up.block ≡ Some c.in-Some.up = sym c.parent.ensures ∙ c.in-Some.is in
-    fl_fits c.up.arena c.args.root c.args._id c.up.block c.up.invariant.apart c.in-Some.up up c.up.invariant.block _ c.child_at-front.result c.child_at-rear.result c.child_at-front.ensures c.child_at-rear.ensures g.L.Leaf.size g.L.Leaf.element view (c.up.invariant.sums view k) c.up.invariant.fits
+    fl_fits c.up.arena c.args.root c.args._id c.up.block c.up.invariant.apart c.in-Some.up up c.up.invariant.block _ c.child_at-front.result c.child_at-rear.result
+    c.child_at-front.ensures c.child_at-rear.ensures g.L.Leaf.size g.L.Leaf.element view (c.up.invariant.sums view k) c.up.invariant.fits
 
 pub up-smaller : goal.up-smaller
 up-smaller g c =
     let up : parent_of c.up.arena c.up.block ≡ Some c.in-Some.up = sym c.parent.ensures ∙ c.in-Some.is in
-    let pair = fl_pair c.up.arena c.args.root c.args._id c.up.block c.up.invariant.apart c.in-Some.up up c.up.invariant.block _ c.child_at-front.result c.child_at-rear.result c.child_at-front.ensures c.child_at-rear.ensures in
-    let h = share_up_high c.up.arena c.merge.new.arena c.args.root c.args._id c.in-Some.up c.child_at-front.result c.child_at-rear.result c.up.block c.up.invariant.apart pair.front_up pair.rear_up pair.differ (fl_short c.up.arena c.args.root c.args._id c.up.block c.up.invariant.apart c.in-Some.up up c.place_of-place.result.0 _ c.child_at-front.result c.child_at-rear.result c.place_of-place.ensures.place (omega arith) c.child_at-front.ensures c.child_at-rear.ensures) (fl_two c.up.arena c.args.root c.args._id c.up.block c.up.invariant.apart c.in-Some.up up c.up.invariant.block) c.in_ok-merge.ensures.shares in
+    let pair = fl_pair c.up.arena c.args.root c.args._id c.up.block c.up.invariant.apart c.in-Some.up up c.up.invariant.block _ c.child_at-front.result
+    c.child_at-rear.result c.child_at-front.ensures c.child_at-rear.ensures in
+    let h = share_up_high c.up.arena c.merge.new.arena c.args.root c.args._id c.in-Some.up c.child_at-front.result c.child_at-rear.result c.up.block c.up.invariant.apart
+    pair.front_up pair.rear_up pair.differ (fl_short c.up.arena c.args.root c.args._id c.up.block c.up.invariant.apart c.in-Some.up up c.place_of-place.result.0 _
+    c.child_at-front.result c.child_at-rear.result c.place_of-place.ensures.place (omega arith) c.child_at-front.ensures c.child_at-rear.ensures)
+    (fl_two c.up.arena c.args.root c.args._id c.up.block c.up.invariant.apart c.in-Some.up up c.up.invariant.block) c.in_ok-merge.ensures.shares in
     let one : height_of c.up.arena c.in-Some.up ≡ height_of c.up.arena c.up.block + 1 = c.up.invariant.apart.shape.heights c.up.block c.in-Some.up up in
-    let low = c.up.invariant.apart.shape.low c.in-Some.up (block_live (entry c.up.arena c.in-Some.up) (fl_up_block c.up.arena c.args.root c.args._id c.up.block c.up.invariant.apart c.in-Some.up up)) in
+    let low = c.up.invariant.apart.shape.low c.in-Some.up
+    (block_live (entry c.up.arena c.in-Some.up) (fl_up_block c.up.arena c.args.root c.args._id c.up.block c.up.invariant.apart c.in-Some.up up)) in
     omega (arith, h, one, low, c.up.invariant.high)
 
 pub up-preserved : goal.up-preserved
 up-preserved g c =
     let up : parent_of c.up.arena c.up.block ≡ Some c.in-Some.up = sym c.parent.ensures ∙ c.in-Some.is in
-    let pair = fl_pair c.up.arena c.args.root c.args._id c.up.block c.up.invariant.apart c.in-Some.up up c.up.invariant.block _ c.child_at-front.result c.child_at-rear.result c.child_at-front.ensures c.child_at-rear.ensures in
+    let pair = fl_pair c.up.arena c.args.root c.args._id c.up.block c.up.invariant.apart c.in-Some.up up c.up.invariant.block _ c.child_at-front.result
+    c.child_at-rear.result c.child_at-front.ensures c.child_at-rear.ensures in
     let r = c.in_ok-merge.ensures.shares in
     record {
-      apart = share_apart c.up.arena c.merge.new.arena c.args.root c.args._id c.in-Some.up c.child_at-front.result c.child_at-rear.result c.up.block c.up.invariant.apart pair.front_up pair.rear_up pair.differ (fl_short c.up.arena c.args.root c.args._id c.up.block c.up.invariant.apart c.in-Some.up up c.place_of-place.result.0 _ c.child_at-front.result c.child_at-rear.result c.place_of-place.ensures.place (omega arith) c.child_at-front.ensures c.child_at-rear.ensures) (fl_two c.up.arena c.args.root c.args._id c.up.block c.up.invariant.apart c.in-Some.up up c.up.invariant.block) c.in_ok-merge.ensures.shares;
-      block = share_block c.up.arena c.merge.new.arena c.args.root c.args._id c.in-Some.up c.child_at-front.result c.child_at-rear.result c.up.block c.up.invariant.apart pair.front_up pair.rear_up pair.differ (fl_short c.up.arena c.args.root c.args._id c.up.block c.up.invariant.apart c.in-Some.up up c.place_of-place.result.0 _ c.child_at-front.result c.child_at-rear.result c.place_of-place.ensures.place (omega arith) c.child_at-front.ensures c.child_at-rear.ensures) (fl_two c.up.arena c.args.root c.args._id c.up.block c.up.invariant.apart c.in-Some.up up c.up.invariant.block) c.in_ok-merge.ensures.shares;
-      sums = λ view k. share_sums c.up.arena c.merge.new.arena c.args.root c.args._id c.in-Some.up c.child_at-front.result c.child_at-rear.result c.up.block c.up.invariant.apart pair.front_up pair.rear_up pair.differ (fl_short c.up.arena c.args.root c.args._id c.up.block c.up.invariant.apart c.in-Some.up up c.place_of-place.result.0 _ c.child_at-front.result c.child_at-rear.result c.place_of-place.ensures.place (omega arith) c.child_at-front.ensures c.child_at-rear.ensures) (fl_two c.up.arena c.args.root c.args._id c.up.block c.up.invariant.apart c.in-Some.up up c.up.invariant.block) c.in_ok-merge.ensures.shares (by_view g.L.Leaf.size g.L.Leaf.element view) (c.up.invariant.sums view k) (c.in_ok-merge.ensures.sums view k).others (c.in_ok-merge.ensures.sums view k).front_sum (c.in_ok-merge.ensures.sums view k).rear_sum (c.in_ok-merge.ensures.sums view k).up_sum;
+      apart = share_apart c.up.arena c.merge.new.arena c.args.root c.args._id c.in-Some.up c.child_at-front.result c.child_at-rear.result c.up.block c.up.invariant.apart
+          pair.front_up pair.rear_up pair.differ (fl_short c.up.arena c.args.root c.args._id c.up.block c.up.invariant.apart c.in-Some.up up c.place_of-place.result.0 _
+          c.child_at-front.result c.child_at-rear.result c.place_of-place.ensures.place (omega arith) c.child_at-front.ensures c.child_at-rear.ensures)
+          (fl_two c.up.arena c.args.root c.args._id c.up.block c.up.invariant.apart c.in-Some.up up c.up.invariant.block) c.in_ok-merge.ensures.shares;
+      block = share_block c.up.arena c.merge.new.arena c.args.root c.args._id c.in-Some.up c.child_at-front.result c.child_at-rear.result c.up.block c.up.invariant.apart
+          pair.front_up pair.rear_up pair.differ (fl_short c.up.arena c.args.root c.args._id c.up.block c.up.invariant.apart c.in-Some.up up c.place_of-place.result.0 _
+          c.child_at-front.result c.child_at-rear.result c.place_of-place.ensures.place (omega arith) c.child_at-front.ensures c.child_at-rear.ensures)
+          (fl_two c.up.arena c.args.root c.args._id c.up.block c.up.invariant.apart c.in-Some.up up c.up.invariant.block) c.in_ok-merge.ensures.shares;
+      sums = λ view k. share_sums c.up.arena c.merge.new.arena c.args.root c.args._id c.in-Some.up c.child_at-front.result c.child_at-rear.result c.up.block
+          c.up.invariant.apart pair.front_up pair.rear_up pair.differ
+          (fl_short c.up.arena c.args.root c.args._id c.up.block c.up.invariant.apart c.in-Some.up up c.place_of-place.result.0 _ c.child_at-front.result
+          c.child_at-rear.result c.place_of-place.ensures.place (omega arith) c.child_at-front.ensures c.child_at-rear.ensures)
+          (fl_two c.up.arena c.args.root c.args._id c.up.block c.up.invariant.apart c.in-Some.up up c.up.invariant.block) c.in_ok-merge.ensures.shares
+          (by_view g.L.Leaf.size g.L.Leaf.element view) (c.up.invariant.sums view k) (c.in_ok-merge.ensures.sums view k).others
+          (c.in_ok-merge.ensures.sums view k).front_sum (c.in_ok-merge.ensures.sums view k).rear_sum (c.in_ok-merge.ensures.sums view k).up_sum;
       floors = c.in_ok-merge.ensures.floors;
       fits = omega (arith, leaf_total (by_size g.L.Leaf.size) c.up.arena c.merge.new.arena c.up.invariant.apart.shape.forest r.leaves r.leaf_values, c.up.invariant.fits);
-      high = share_high c.up.arena c.merge.new.arena c.args.root c.args._id c.in-Some.up c.child_at-front.result c.child_at-rear.result c.up.block c.up.invariant.apart pair.front_up pair.rear_up pair.differ (fl_short c.up.arena c.args.root c.args._id c.up.block c.up.invariant.apart c.in-Some.up up c.place_of-place.result.0 _ c.child_at-front.result c.child_at-rear.result c.place_of-place.ensures.place (omega arith) c.child_at-front.ensures c.child_at-rear.ensures) (fl_two c.up.arena c.args.root c.args._id c.up.block c.up.invariant.apart c.in-Some.up up c.up.invariant.block) c.in_ok-merge.ensures.shares ∙ c.up.invariant.high;
+      high = share_high c.up.arena c.merge.new.arena c.args.root c.args._id c.in-Some.up c.child_at-front.result c.child_at-rear.result c.up.block c.up.invariant.apart
+          pair.front_up pair.rear_up pair.differ (fl_short c.up.arena c.args.root c.args._id c.up.block c.up.invariant.apart c.in-Some.up up c.place_of-place.result.0 _
+          c.child_at-front.result c.child_at-rear.result c.place_of-place.ensures.place (omega arith) c.child_at-front.ensures c.child_at-rear.ensures)
+          (fl_two c.up.arena c.args.root c.args._id c.up.block c.up.invariant.apart c.in-Some.up up c.up.invariant.block) c.in_ok-merge.ensures.shares
+          ∙ c.up.invariant.high;
       leaves = r.leaves ∙ c.up.invariant.leaves;
       leaf_values = λ x. r.leaf_values x ∙ c.up.invariant.leaf_values x;
     }
@@ -193,9 +258,12 @@ returns-then-count-eq1-clause-low g c =
     let up : parent_of c.up.arena c.up.block ≡ Some c.in-Some.up = sym c.parent.ensures ∙ c.in-Some.is in
     let few : length (kids_of c.up.arena c.in-Some.up) ≤ 3 = omega (arith, c.place_of-place.ensures.count, c.if-count-eq1.true) in
     let is_root : c.in-Some.up ≡ c.args.root = fl_root c.up.arena c.args.root c.args._id c.up.block c.up.invariant.apart c.in-Some.up up few in
-    let drops : DropsRoot c.up.arena c.drop_root.new.arena c.args.root c.drop_root.result = subst (λ (z : ℕ). DropsRoot c.up.arena c.drop_root.new.arena z c.drop_root.result) is_root c.drop_root.ensures in
-    let is_top : c.up.block ≡ c.drop_root.result = fl_only c.up.arena c.args.root c.args._id c.up.block c.up.invariant.apart c.in-Some.up up c.drop_root.result (ap (kids_of c.up.arena) is_root ∙ drops.kids) in
-    let apart : IsApart c.up.arena c.args.root c.args._id (Some c.drop_root.result) = subst (λ (z : ℕ). IsApart c.up.arena c.args.root c.args._id (Some z)) is_top c.up.invariant.apart in
+    let drops : DropsRoot c.up.arena c.drop_root.new.arena c.args.root c.drop_root.result =
+    subst (λ (z : ℕ). DropsRoot c.up.arena c.drop_root.new.arena z c.drop_root.result) is_root c.drop_root.ensures in
+    let is_top : c.up.block ≡ c.drop_root.result =
+    fl_only c.up.arena c.args.root c.args._id c.up.block c.up.invariant.apart c.in-Some.up up c.drop_root.result (ap (kids_of c.up.arena) is_root ∙ drops.kids) in
+    let apart : IsApart c.up.arena c.args.root c.args._id (Some c.drop_root.result) =
+    subst (λ (z : ℕ). IsApart c.up.arena c.args.root c.args._id (Some z)) is_top c.up.invariant.apart in
     let filled : 1 ≤ length (kids_of c.up.arena c.drop_root.result) = apart.filled c.drop_root.result refl in
     let block : IsSome (block_value c.up.arena c.drop_root.result) = subst (λ (z : ℕ). IsSome (block_value c.up.arena z)) is_top c.up.invariant.block in
     omega (arith, dropped_low c.up.arena c.drop_root.new.arena c.args.root c.args._id c.drop_root.result apart filled block drops, c.up.invariant.high)
@@ -203,8 +271,17 @@ returns-then-count-eq1-clause-low g c =
 pub returns-then-many-gt8-clause-low : goal.returns-then-many-gt8-clause-low
 returns-then-many-gt8-clause-low g c =
     let up : parent_of c.up.arena c.up.block ≡ Some c.in-Some.up = sym c.parent.ensures ∙ c.in-Some.is in
-    let pair = fl_pair c.up.arena c.args.root c.args._id c.up.block c.up.invariant.apart c.in-Some.up up c.up.invariant.block _ c.child_at-front.result c.child_at-rear.result c.child_at-front.ensures c.child_at-rear.ensures in
-    omega (arith, share_high c.up.arena c.balance.new.arena c.args.root c.args._id c.in-Some.up c.child_at-front.result c.child_at-rear.result c.up.block c.up.invariant.apart pair.front_up pair.rear_up pair.differ (fl_short c.up.arena c.args.root c.args._id c.up.block c.up.invariant.apart c.in-Some.up up c.place_of-place.result.0 _ c.child_at-front.result c.child_at-rear.result c.place_of-place.ensures.place (omega arith) c.child_at-front.ensures c.child_at-rear.ensures) (fl_two c.up.arena c.args.root c.args._id c.up.block c.up.invariant.apart c.in-Some.up up c.up.invariant.block) c.in_ok-balance.ensures.shares, c.up.invariant.high)
+    let pair = fl_pair c.up.arena c.args.root c.args._id c.up.block c.up.invariant.apart c.in-Some.up up c.up.invariant.block _ c.child_at-front.result
+    c.child_at-rear.result c.child_at-front.ensures c.child_at-rear.ensures in
+    omega (
+      arith,
+      share_high c.up.arena c.balance.new.arena c.args.root c.args._id c.in-Some.up c.child_at-front.result c.child_at-rear.result c.up.block
+          c.up.invariant.apart pair.front_up pair.rear_up pair.differ
+          (fl_short c.up.arena c.args.root c.args._id c.up.block c.up.invariant.apart c.in-Some.up up c.place_of-place.result.0 _ c.child_at-front.result
+          c.child_at-rear.result c.place_of-place.ensures.place (omega arith) c.child_at-front.ensures c.child_at-rear.ensures)
+          (fl_two c.up.arena c.args.root c.args._id c.up.block c.up.invariant.apart c.in-Some.up up c.up.invariant.block) c.in_ok-balance.ensures.shares,
+      c.up.invariant.high,
+    )
 
 pub returns-clause-low : goal.returns-clause-low
 returns-clause-low g c = omega (arith, c.up.invariant.high)

@@ -3,7 +3,8 @@ use Rattle.std.proofs.lemmas.Result.{on_ok_weaker}
 use Rattle.std.proofs.lemmas.Option.{slice_get_within}
 use Rattle.ft_block.specs.Tree.{by_view}
 use Rattle.ft_arena.specs.Forest.{kids_of}
-use Rattle.ft_block.proofs.PairLemmas.{on_ok_both, pr_front_front, pr_front_rear, pr_rear_front, pr_rear_rear, rg_up, mg_takes, mg_drop_block, mg_drop_empty, md_block, md_apart, md_floors, md_total, merged, merged_sums}
+use Rattle.ft_block.proofs.PairLemmas.{on_ok_both, pr_front_front, pr_front_rear, pr_rear_front, pr_rear_rear, rg_up, mg_takes, mg_drop_block, mg_drop_empty, md_block}
+use Rattle.ft_block.proofs.PairLemmas.{md_apart, md_floors, md_total, merged, merged_sums}
 use Rattle.ft_block.proofs.shrink.merge.Goals as goal
 
 pub regroup-requires-clause-front_apart : goal.regroup-requires-clause-front_apart
@@ -19,49 +20,92 @@ pub regroup-requires-clause-rear_own : goal.regroup-requires-clause-rear_own
 regroup-requires-clause-rear_own g c = pr_rear_rear c.args.arena.now c.args.up c.args.front c.args.rear c.requires.forest c.requires.pair
 
 pub take_child-requires : goal.take_child-requires
-take_child-requires g c = omega (arith, ap length (rg_up c.args.arena.now c.args.up c.args.front c.args.rear c.requires.forest c.requires.pair c.regroup.new.arena _ c.regroup.ensures), slice_get_within (kids_of c.args.arena.now c.args.up) (c.args.place + 1) c.args.rear c.requires.next)
+take_child-requires g c = omega (
+  arith,
+  ap length (rg_up c.args.arena.now c.args.up c.args.front c.args.rear c.requires.forest c.requires.pair c.regroup.new.arena _
+      c.regroup.ensures),
+  slice_get_within (kids_of c.args.arena.now c.args.up) (c.args.place + 1) c.args.rear c.requires.next,
+)
 
 pub drop_block-requires-clause-block : goal.drop_block-requires-clause-block
 drop_block-requires-clause-block g c =
-    let takes = mg_takes c.args.arena.now c.args.up c.args.front c.args.rear c.requires.forest c.requires.pair c.regroup.new.arena (c.count_of.result + c.count_of-2.result) c.regroup.ensures c.args.place c.requires.next c.take_child.new.self c.take_child.result c.take_child.ensures.child c.take_child.ensures.takes in
-    mg_drop_block c.args.arena.now c.args.up c.args.front c.args.rear c.requires.forest c.requires.pair c.regroup.new.arena (c.count_of.result + c.count_of-2.result) c.regroup.ensures c.take_child.new.self c.args.place takes
+    let takes = mg_takes c.args.arena.now c.args.up c.args.front c.args.rear c.requires.forest c.requires.pair c.regroup.new.arena
+    (c.count_of.result + c.count_of-2.result) c.regroup.ensures c.args.place c.requires.next c.take_child.new.self c.take_child.result c.take_child.ensures.child
+    c.take_child.ensures.takes in
+    mg_drop_block c.args.arena.now c.args.up c.args.front c.args.rear c.requires.forest c.requires.pair c.regroup.new.arena (c.count_of.result + c.count_of-2.result)
+    c.regroup.ensures c.take_child.new.self c.args.place takes
 
 pub drop_block-requires-clause-empty : goal.drop_block-requires-clause-empty
 drop_block-requires-clause-empty g c =
-    let takes = mg_takes c.args.arena.now c.args.up c.args.front c.args.rear c.requires.forest c.requires.pair c.regroup.new.arena (c.count_of.result + c.count_of-2.result) c.regroup.ensures c.args.place c.requires.next c.take_child.new.self c.take_child.result c.take_child.ensures.child c.take_child.ensures.takes in
-    mg_drop_empty c.args.arena.now c.args.up c.args.front c.args.rear c.requires.forest c.requires.pair c.regroup.new.arena (c.count_of.result + c.count_of-2.result) c.regroup.ensures c.take_child.new.self c.args.place takes (omega (arith, c.count_of.ensures.value, c.count_of-2.ensures.value))
+    let takes = mg_takes c.args.arena.now c.args.up c.args.front c.args.rear c.requires.forest c.requires.pair c.regroup.new.arena
+    (c.count_of.result + c.count_of-2.result) c.regroup.ensures c.args.place c.requires.next c.take_child.new.self c.take_child.result c.take_child.ensures.child
+    c.take_child.ensures.takes in
+    mg_drop_empty c.args.arena.now c.args.up c.args.front c.args.rear c.requires.forest c.requires.pair c.regroup.new.arena (c.count_of.result + c.count_of-2.result)
+    c.regroup.ensures c.take_child.new.self c.args.place takes (omega (arith, c.count_of.ensures.value, c.count_of-2.ensures.value))
 
 pub drop_block-requires-clause-alone : goal.drop_block-requires-clause-alone
 drop_block-requires-clause-alone g c =
-    let takes = mg_takes c.args.arena.now c.args.up c.args.front c.args.rear c.requires.forest c.requires.pair c.regroup.new.arena (c.count_of.result + c.count_of-2.result) c.regroup.ensures c.args.place c.requires.next c.take_child.new.self c.take_child.result c.take_child.ensures.child c.take_child.ensures.takes in
+    let takes = mg_takes c.args.arena.now c.args.up c.args.front c.args.rear c.requires.forest c.requires.pair c.regroup.new.arena
+    (c.count_of.result + c.count_of-2.result) c.regroup.ensures c.args.place c.requires.next c.take_child.new.self c.take_child.result c.take_child.ensures.child
+    c.take_child.ensures.takes in
     takes.parent
 
 pub rebuild-requires-clause-block : goal.rebuild-requires-clause-block
 rebuild-requires-clause-block g c =
-    let takes = mg_takes c.args.arena.now c.args.up c.args.front c.args.rear c.requires.forest c.requires.pair c.regroup.new.arena (c.count_of.result + c.count_of-2.result) c.regroup.ensures c.args.place c.requires.next c.take_child.new.self c.take_child.result c.take_child.ensures.child c.take_child.ensures.takes in
-    md_block c.args.arena.now c.args.up c.args.front c.args.rear c.requires.forest c.requires.pair c.regroup.new.arena c.take_child.new.self c.drop_block.new.self (c.count_of.result + c.count_of-2.result) c.args.place (omega (arith, c.count_of.ensures.value, c.count_of-2.ensures.value)) c.regroup.ensures takes c.drop_block.ensures.changes
+    let takes = mg_takes c.args.arena.now c.args.up c.args.front c.args.rear c.requires.forest c.requires.pair c.regroup.new.arena
+    (c.count_of.result + c.count_of-2.result) c.regroup.ensures c.args.place c.requires.next c.take_child.new.self c.take_child.result c.take_child.ensures.child
+    c.take_child.ensures.takes in
+    md_block c.args.arena.now c.args.up c.args.front c.args.rear c.requires.forest c.requires.pair c.regroup.new.arena c.take_child.new.self c.drop_block.new.self
+    (c.count_of.result + c.count_of-2.result) c.args.place (omega (arith, c.count_of.ensures.value, c.count_of-2.ensures.value)) c.regroup.ensures takes
+    c.drop_block.ensures.changes
 
 pub rebuild-requires-clause-apart : goal.rebuild-requires-clause-apart
 rebuild-requires-clause-apart g c =
-    let takes = mg_takes c.args.arena.now c.args.up c.args.front c.args.rear c.requires.forest c.requires.pair c.regroup.new.arena (c.count_of.result + c.count_of-2.result) c.regroup.ensures c.args.place c.requires.next c.take_child.new.self c.take_child.result c.take_child.ensures.child c.take_child.ensures.takes in
-    md_apart c.args.arena.now c.args.up c.args.front c.args.rear c.requires.forest c.requires.pair c.regroup.new.arena c.take_child.new.self c.drop_block.new.self (c.count_of.result + c.count_of-2.result) c.args.place (omega (arith, c.count_of.ensures.value, c.count_of-2.ensures.value)) c.regroup.ensures takes c.drop_block.ensures.changes
+    let takes = mg_takes c.args.arena.now c.args.up c.args.front c.args.rear c.requires.forest c.requires.pair c.regroup.new.arena
+    (c.count_of.result + c.count_of-2.result) c.regroup.ensures c.args.place c.requires.next c.take_child.new.self c.take_child.result c.take_child.ensures.child
+    c.take_child.ensures.takes in
+    md_apart c.args.arena.now c.args.up c.args.front c.args.rear c.requires.forest c.requires.pair c.regroup.new.arena c.take_child.new.self c.drop_block.new.self
+    (c.count_of.result + c.count_of-2.result) c.args.place (omega (arith, c.count_of.ensures.value, c.count_of-2.ensures.value)) c.regroup.ensures takes
+    c.drop_block.ensures.changes
 
 pub rebuild-requires-clause-floors : goal.rebuild-requires-clause-floors
 rebuild-requires-clause-floors g c =
-    let takes = mg_takes c.args.arena.now c.args.up c.args.front c.args.rear c.requires.forest c.requires.pair c.regroup.new.arena (c.count_of.result + c.count_of-2.result) c.regroup.ensures c.args.place c.requires.next c.take_child.new.self c.take_child.result c.take_child.ensures.child c.take_child.ensures.takes in
-    md_floors c.args.arena.now c.args.up c.args.front c.args.rear c.requires.forest c.requires.pair c.regroup.new.arena c.take_child.new.self c.drop_block.new.self (c.count_of.result + c.count_of-2.result) c.args.place (omega (arith, c.count_of.ensures.value, c.count_of-2.ensures.value)) c.regroup.ensures takes c.drop_block.ensures.changes c.args.floor c.requires.floors
+    let takes = mg_takes c.args.arena.now c.args.up c.args.front c.args.rear c.requires.forest c.requires.pair c.regroup.new.arena
+    (c.count_of.result + c.count_of-2.result) c.regroup.ensures c.args.place c.requires.next c.take_child.new.self c.take_child.result c.take_child.ensures.child
+    c.take_child.ensures.takes in
+    md_floors c.args.arena.now c.args.up c.args.front c.args.rear c.requires.forest c.requires.pair c.regroup.new.arena c.take_child.new.self c.drop_block.new.self
+    (c.count_of.result + c.count_of-2.result) c.args.place (omega (arith, c.count_of.ensures.value, c.count_of-2.ensures.value)) c.regroup.ensures takes
+    c.drop_block.ensures.changes c.args.floor c.requires.floors
 
 pub rebuild-requires-clause-fits : goal.rebuild-requires-clause-fits
 rebuild-requires-clause-fits g c = λ view k.
-    let takes = mg_takes c.args.arena.now c.args.up c.args.front c.args.rear c.requires.forest c.requires.pair c.regroup.new.arena (c.count_of.result + c.count_of-2.result) c.regroup.ensures c.args.place c.requires.next c.take_child.new.self c.take_child.result c.take_child.ensures.child c.take_child.ensures.takes in
-    omega (arith, md_total c.args.arena.now c.args.up c.args.front c.args.rear c.requires.forest c.requires.pair c.regroup.new.arena c.take_child.new.self c.drop_block.new.self (c.count_of.result + c.count_of-2.result) c.args.place (omega (arith, c.count_of.ensures.value, c.count_of-2.ensures.value)) c.regroup.ensures takes c.drop_block.ensures.changes (by_view g.L.Leaf.size g.L.Leaf.element view) (c.requires.sums view k), c.requires.fits view k)
+    let takes = mg_takes c.args.arena.now c.args.up c.args.front c.args.rear c.requires.forest c.requires.pair c.regroup.new.arena
+    (c.count_of.result + c.count_of-2.result) c.regroup.ensures c.args.place c.requires.next c.take_child.new.self c.take_child.result c.take_child.ensures.child
+    c.take_child.ensures.takes in
+    omega (
+      arith,
+      md_total c.args.arena.now c.args.up c.args.front c.args.rear c.requires.forest c.requires.pair c.regroup.new.arena c.take_child.new.self
+          c.drop_block.new.self (c.count_of.result + c.count_of-2.result) c.args.place (omega (arith, c.count_of.ensures.value, c.count_of-2.ensures.value))
+          c.regroup.ensures takes c.drop_block.ensures.changes (by_view g.L.Leaf.size g.L.Leaf.element view) (c.requires.sums view k),
+      c.requires.fits view k,
+    )
 
 pub returns-clause-shares : goal.returns-clause-shares
 returns-clause-shares g c =
-    let takes = mg_takes c.args.arena.now c.args.up c.args.front c.args.rear c.requires.forest c.requires.pair c.regroup.new.arena (c.count_of.result + c.count_of-2.result) c.regroup.ensures c.args.place c.requires.next c.take_child.new.self c.take_child.result c.take_child.ensures.child c.take_child.ensures.takes in
-    on_ok_weaker c.rebuild.result (λ q. merged c.args.arena.now c.args.up c.args.front c.args.rear c.requires.forest c.requires.pair c.regroup.new.arena c.take_child.new.self c.drop_block.new.self c.rebuild.new.arena (c.count_of.result + c.count_of-2.result) c.args.place c.requires.next (omega (arith, c.count_of.ensures.value, c.count_of-2.ensures.value)) c.regroup.ensures c.take_child.ensures.leaves takes c.drop_block.ensures.leaves c.drop_block.ensures.changes q (omega (arith, c.count_of.ensures.value, c.count_of-2.ensures.value, c.requires.many))) c.rebuild.ensures.shape
+    let takes = mg_takes c.args.arena.now c.args.up c.args.front c.args.rear c.requires.forest c.requires.pair c.regroup.new.arena
+    (c.count_of.result + c.count_of-2.result) c.regroup.ensures c.args.place c.requires.next c.take_child.new.self c.take_child.result c.take_child.ensures.child
+    c.take_child.ensures.takes in
+    on_ok_weaker c.rebuild.result (λ q. merged c.args.arena.now c.args.up c.args.front c.args.rear c.requires.forest c.requires.pair c.regroup.new.arena
+    c.take_child.new.self c.drop_block.new.self c.rebuild.new.arena (c.count_of.result + c.count_of-2.result) c.args.place c.requires.next
+    (omega (arith, c.count_of.ensures.value, c.count_of-2.ensures.value)) c.regroup.ensures c.take_child.ensures.leaves takes c.drop_block.ensures.leaves
+    c.drop_block.ensures.changes q (omega (arith, c.count_of.ensures.value, c.count_of-2.ensures.value, c.requires.many))) c.rebuild.ensures.shape
 
 pub returns-clause-sums : goal.returns-clause-sums
 returns-clause-sums g c =
-    let takes = mg_takes c.args.arena.now c.args.up c.args.front c.args.rear c.requires.forest c.requires.pair c.regroup.new.arena (c.count_of.result + c.count_of-2.result) c.regroup.ensures c.args.place c.requires.next c.take_child.new.self c.take_child.result c.take_child.ensures.child c.take_child.ensures.takes in
-    on_ok_both c.rebuild.result (λ q u view k. merged_sums c.args.arena.now c.args.up c.args.front c.args.rear c.requires.forest c.requires.pair c.regroup.new.arena c.take_child.new.self c.drop_block.new.self c.rebuild.new.arena (c.count_of.result + c.count_of-2.result) c.args.place c.requires.next (omega (arith, c.count_of.ensures.value, c.count_of-2.ensures.value)) c.regroup.ensures c.take_child.ensures.leaves takes c.drop_block.ensures.leaves c.drop_block.ensures.changes q (by_view g.L.Leaf.size g.L.Leaf.element view) (c.requires.sums view k) (u view k)) c.rebuild.ensures.shape c.rebuild.ensures.sums
+    let takes = mg_takes c.args.arena.now c.args.up c.args.front c.args.rear c.requires.forest c.requires.pair c.regroup.new.arena
+    (c.count_of.result + c.count_of-2.result) c.regroup.ensures c.args.place c.requires.next c.take_child.new.self c.take_child.result c.take_child.ensures.child
+    c.take_child.ensures.takes in
+    on_ok_both c.rebuild.result (λ q u view k. merged_sums c.args.arena.now c.args.up c.args.front c.args.rear c.requires.forest c.requires.pair c.regroup.new.arena
+    c.take_child.new.self c.drop_block.new.self c.rebuild.new.arena (c.count_of.result + c.count_of-2.result) c.args.place c.requires.next
+    (omega (arith, c.count_of.ensures.value, c.count_of-2.ensures.value)) c.regroup.ensures c.take_child.ensures.leaves takes c.drop_block.ensures.leaves
+    c.drop_block.ensures.changes q (by_view g.L.Leaf.size g.L.Leaf.element view) (c.requires.sums view k) (u view k)) c.rebuild.ensures.shape c.rebuild.ensures.sums

@@ -17,13 +17,19 @@ pub returns-then-is_only-clause-floors : goal.returns-then-is_only-clause-floors
 returns-then-is_only-clause-floors g c = bare_floors c.args.floor c.take_last.new.arena c.take_last.ensures.bare.nodes
 
 pub returns-clause-rooted : goal.returns-clause-rooted
-returns-clause-rooted g c = subst (λ (z : ℕ). IsTree c.unlink.new.self z) (sym c.top.view_is) (unlinked_tree c.detach.new.arena c.unlink.new.self c.in_ok-top.top c.args.id c.unlink.result c.in_ok-top.ensures.apart c.unlink.ensures.sound c.unlink.ensures.value c.unlink.ensures.leaves c.unlink.ensures.changes)
+returns-clause-rooted g c = subst (λ (z : ℕ). IsTree c.unlink.new.self z) (sym c.top.view_is)
+    (unlinked_tree c.detach.new.arena c.unlink.new.self c.in_ok-top.top c.args.id c.unlink.result c.in_ok-top.ensures.apart c.unlink.ensures.sound c.unlink.ensures.value
+    c.unlink.ensures.leaves c.unlink.ensures.changes)
 
 pub returns-clause-sums : goal.returns-clause-sums
-returns-clause-sums g c = λ view k. unlinked_sums c.detach.new.arena c.unlink.new.self c.in_ok-top.top c.args.id c.unlink.result c.in_ok-top.ensures.apart c.unlink.ensures.sound c.unlink.ensures.value c.unlink.ensures.leaves c.unlink.ensures.changes (by_view g.L.Leaf.size g.L.Leaf.element view) (c.in_ok-top.ensures.sums view k)
+returns-clause-sums g c = λ view k. unlinked_sums c.detach.new.arena c.unlink.new.self c.in_ok-top.top c.args.id c.unlink.result c.in_ok-top.ensures.apart
+    c.unlink.ensures.sound c.unlink.ensures.value c.unlink.ensures.leaves c.unlink.ensures.changes (by_view g.L.Leaf.size g.L.Leaf.element view)
+    (c.in_ok-top.ensures.sums view k)
 
 pub returns-clause-floors : goal.returns-clause-floors
-returns-clause-floors g c = unlinked_floors c.detach.new.arena c.unlink.new.self c.in_ok-top.top c.args.id c.unlink.result c.in_ok-top.ensures.apart c.unlink.ensures.sound c.unlink.ensures.value c.unlink.ensures.leaves c.unlink.ensures.changes c.args.floor c.in_ok-top.ensures.floors
+returns-clause-floors g c = unlinked_floors c.detach.new.arena c.unlink.new.self c.in_ok-top.top c.args.id c.unlink.result c.in_ok-top.ensures.apart
+    c.unlink.ensures.sound c.unlink.ensures.value c.unlink.ensures.leaves c.unlink.ensures.changes c.args.floor c.in_ok-top.ensures.floors
 
 pub returns-clause-takes : goal.returns-clause-takes
-returns-clause-takes g c = unlinked_takes c.detach.new.arena c.unlink.new.self c.in_ok-top.top c.args.id c.unlink.result c.in_ok-top.ensures.apart c.unlink.ensures.sound c.unlink.ensures.value c.unlink.ensures.leaves c.unlink.ensures.changes c.args.arena.now c.in_ok-top.ensures.leaves c.in_ok-top.ensures.leaf_values
+returns-clause-takes g c = unlinked_takes c.detach.new.arena c.unlink.new.self c.in_ok-top.top c.args.id c.unlink.result c.in_ok-top.ensures.apart c.unlink.ensures.sound
+    c.unlink.ensures.value c.unlink.ensures.leaves c.unlink.ensures.changes c.args.arena.now c.in_ok-top.ensures.leaves c.in_ok-top.ensures.leaf_values

@@ -4,6 +4,6 @@ use Rattle.ft_partial.proofs.rows.exchange_rows.Given as goal
 
 abbrev pub invariant-loop-i : goal.invariant-loop-i
 invariant-loop-i l = record {
-  rows : ExchangesRows l.initial.own.steps l.own.steps (take l.i l.stamps) l.e l.len l.new l.new_len;
+  rows : ExchangesRows l.floor l.initial.own.steps l.own.steps (take l.i l.stamps) l.e l.len l.new l.new_len;
   room : 3 * (length l.stamps - l.i) ≤ l.own.room;
 }

@@ -7,13 +7,21 @@ pub insert_in-requires-clause-sound : goal.insert_in-requires-clause-sound
 insert_in-requires-clause-sound g c = in_sound g.L.Leaf.size g.L.Leaf.element c.self.inside c.args.self.now c.self.view_is c.self.invariant c.requires.usable
 
 pub insert_in-requires-clause-at : goal.insert_in-requires-clause-at
-insert_in-requires-clause-at g c = in_place g.L.Leaf.size g.L.Leaf.element c.self.inside c.args.self.now c.self.view_is c.self.invariant c.requires.usable c.args.at c.requires.place
+insert_in-requires-clause-at g c = in_place g.L.Leaf.size g.L.Leaf.element c.self.inside c.args.self.now c.self.view_is c.self.invariant c.requires.usable c.args.at
+    c.requires.place
 
 pub insert_in-requires-clause-fits : goal.insert_in-requires-clause-fits
-insert_in-requires-clause-fits g c = omega (arith, in_length g.L.Leaf.size g.L.Leaf.element c.self.inside c.args.self.now c.self.view_is c.self.invariant c.requires.usable (by_size g.L.Leaf.size), c.requires.fits)
+insert_in-requires-clause-fits g c = omega (
+  arith,
+  in_length g.L.Leaf.size g.L.Leaf.element c.self.inside c.args.self.now c.self.view_is c.self.invariant
+      c.requires.usable (by_size g.L.Leaf.size),
+  c.requires.fits,
+)
 
 pub returns-in-Ok-clause-ok : goal.returns-in-Ok-clause-ok
-returns-in-Ok-clause-ok g c = in_put g.L.Leaf.size g.L.Leaf.element c.self.inside c.args.self.now c.self.view_is c.self.invariant c.requires.usable c.insert_in.new.arena c.args.at _ c.args.leaf c.in-Ok.ensures.inserts
+returns-in-Ok-clause-ok g c = in_put g.L.Leaf.size g.L.Leaf.element c.self.inside c.args.self.now c.self.view_is c.self.invariant c.requires.usable c.insert_in.new.arena
+    c.args.at _ c.args.leaf c.in-Ok.ensures.inserts
 
 pub returns-in-Ok-clause-fresh : goal.returns-in-Ok-clause-fresh
-returns-in-Ok-clause-fresh g c = in_fresh g.L.Leaf.size g.L.Leaf.element c.self.inside c.args.self.now c.self.view_is c.self.invariant c.requires.usable _ c.in-Ok.ensures.inserts.fresh
+returns-in-Ok-clause-fresh g c = in_fresh g.L.Leaf.size g.L.Leaf.element c.self.inside c.args.self.now c.self.view_is c.self.invariant c.requires.usable _
+    c.in-Ok.ensures.inserts.fresh

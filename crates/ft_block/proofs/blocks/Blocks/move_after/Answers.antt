@@ -11,4 +11,5 @@ pub move_in-requires-clause-at : goal.move_in-requires-clause-at
 move_in-requires-clause-at g c = in_place g.L.Leaf.size g.L.Leaf.element c.self.inside c.args.self.now c.self.view_is c.self.invariant c.requires.usable c.args.at c.requires.place
 
 pub returns-in-Ok-clause-ok : goal.returns-in-Ok-clause-ok
-returns-in-Ok-clause-ok g c = in_move g.L.Leaf.size g.L.Leaf.element c.self.inside c.args.self.now c.self.view_is c.self.invariant c.requires.usable c.move_in.new.arena c.args.id c.args.at c.requires.live c.in-Ok.ensures.moves
+returns-in-Ok-clause-ok g c = in_move g.L.Leaf.size g.L.Leaf.element c.self.inside c.args.self.now c.self.view_is c.self.invariant c.requires.usable c.move_in.new.arena
+    c.args.id c.args.at c.requires.live c.in-Ok.ensures.moves

@@ -5,7 +5,9 @@ pub set_stamps_in-requires-clause-sound : goal.set_stamps_in-requires-clause-sou
 set_stamps_in-requires-clause-sound g c = in_sound g.L.Leaf.size g.L.Leaf.element c.self.inside c.args.self.now c.self.view_is c.self.invariant c.requires.usable
 
 pub set_stamps_in-requires-clause-live : goal.set_stamps_in-requires-clause-live
-set_stamps_in-requires-clause-live g c = in_leaf g.L.Leaf.size g.L.Leaf.element c.self.inside c.args.self.now c.self.view_is c.self.invariant c.requires.usable c.args.id c.requires.live
+set_stamps_in-requires-clause-live g c = in_leaf g.L.Leaf.size g.L.Leaf.element c.self.inside c.args.self.now c.self.view_is c.self.invariant c.requires.usable c.args.id
+    c.requires.live
 
 pub returns-in-Ok-clause-ok : goal.returns-in-Ok-clause-ok
-returns-in-Ok-clause-ok g c = in_change g.L.Leaf.size g.L.Leaf.element c.self.inside c.args.self.now c.self.view_is c.self.invariant c.requires.usable (λ v. g.L.Leaf.with_element v c.args.e) c.set_stamps_in.new.arena c.args.id c.in-Ok.ensures.changes
+returns-in-Ok-clause-ok g c = in_change g.L.Leaf.size g.L.Leaf.element c.self.inside c.args.self.now c.self.view_is c.self.invariant c.requires.usable
+    (λ v. g.L.Leaf.with_element v c.args.e) c.set_stamps_in.new.arena c.args.id c.in-Ok.ensures.changes

@@ -9,7 +9,9 @@ pub take_in-requires-clause-live : goal.take_in-requires-clause-live
 take_in-requires-clause-live g c = in_leaf g.L.Leaf.size g.L.Leaf.element c.self.inside c.args.self.now c.self.view_is c.self.invariant c.requires.usable c.args.id c.requires.live
 
 pub returns-in-Ok-clause-value : goal.returns-in-Ok-clause-value
-returns-in-Ok-clause-value g c = in_value g.L.Leaf.size g.L.Leaf.element c.self.inside c.args.self.now c.self.view_is c.self.invariant c.requires.usable c.args.id c.requires.live ∙ c.in-Ok.ensures.takes.was
+returns-in-Ok-clause-value g c = in_value g.L.Leaf.size g.L.Leaf.element c.self.inside c.args.self.now c.self.view_is c.self.invariant c.requires.usable c.args.id
+    c.requires.live ∙ c.in-Ok.ensures.takes.was
 
 pub returns-in-Ok-clause-ok : goal.returns-in-Ok-clause-ok
-returns-in-Ok-clause-ok g c = in_take g.L.Leaf.size g.L.Leaf.element c.self.inside c.args.self.now c.self.view_is c.self.invariant c.requires.usable c.take_in.new.arena c.args.id _ c.in-Ok.ensures.takes
+returns-in-Ok-clause-ok g c = in_take g.L.Leaf.size g.L.Leaf.element c.self.inside c.args.self.now c.self.view_is c.self.invariant c.requires.usable c.take_in.new.arena
+    c.args.id _ c.in-Ok.ensures.takes
