@@ -1,5 +1,5 @@
 -- Lemmas on what the slots of an arena show.
-use Rattle.std.proofs.Common.{IsSome, ◌≡◌, ℕ, zero, suc, ◌<◌, ◌≤◌, List, [], length, get_or, set, Option, Some, None, refl, sym, ap, subst, ◌∙◌, inl, inr, arith, cond}
+use Rattle.std.proofs.Common.{IsSome, ◌-◌, ◌≡◌, ℕ, zero, suc, ◌<◌, ◌≤◌, List, [], length, get_or, set, Option, Some, None, refl, sym, ap, subst, ◌∙◌, inl, inr, arith, cond}
 use Rattle.std.proofs.lemmas.Bool.{cases_eq, cases_lt}
 use Rattle.std.proofs.lemmas.List.{get_or_past, length-map, get_or-map}
 use Rattle.std.specs.Option.{option_map, MatchOption}
@@ -11,8 +11,8 @@ use Rattle.slab.proofs.SlabLemmas.{ContainsKey-within, Updates-with_value}
 use Rattle.ft_arena.specs.declared.nodes.Slot.{Slot}
 use Rattle.ft_arena.specs.declared.arena.Arena.TheInside.{Inside}
 use Rattle.ft_arena.specs.Ids.{times, points, first, after}
-use Rattle.ft_arena.specs.Forest.{Forest, Entry, IsForest, count_some, leaf_of_entry, kids_of_entry, parent_of_entry, entry}
-use Rattle.ft_arena.specs.Links.{walk, IsWalk, entries_of, entry_of, leaves_of, live_of, next_of, prev_of, view_of, IsSound, SetsNext, SetsPrev, next_of_slot, prev_of_slot}
+use Rattle.ft_arena.specs.Forest.{Forest, Entry, IsForest, Changes, PutsChild, TakesChild, count_some, leaf_of_entry, kids_of_entry, parent_of_entry, entry}
+use Rattle.ft_arena.specs.Links.{walk, IsWalk, entries_of, entry_of, leaves_of, live_of, next_of, prev_of, view_of, IsChain, SetsNext, SetsPrev, next_of_slot, prev_of_slot}
 use Rattle.ft_arena.proofs.IdLemmas.{length_from_once}
 use Rattle.ft_arena.proofs.RingLemmas.{walk_is, IsWalk-first, IsWalk-after}
 
@@ -31,6 +31,24 @@ forest_eq {L} {B} a b l n p =
     let h : ℕ → Forest L B = λ x. record { leaves = b.leaves; nodes = b.nodes; spare = x } in
     ap f l ∙ ap g n ∙ ap h p
 
+-- no law on the leaves and the nodes looks at how many are spare
+abbrev pub with_spare : {L B : Type 0} → Forest L B → ℕ → Forest L B
+with_spare s n = record { leaves = s.leaves; nodes = s.nodes; spare = n }
+
+pub IsForest-spare : {L B : Type 0} (a : Forest L B) (n : ℕ) → IsForest a → IsForest (with_spare a n)
+IsForest-spare a n f = record { leaf_once = f.leaf_once; child_once = f.child_once; few = f.few }
+
+pub Changes-spare : {L B : Type 0} (a b : Forest L B) (m n id : ℕ) (now : Option (Entry L B)) → Changes a b id now → Changes (with_spare a m) (with_spare b n) id now
+Changes-spare a b m n id now h = record { changed = h.changed; others = h.others }
+
+pub PutsChild-spare : {L B : Type 0} (a b : Forest L B) (m n block at child : ℕ) → PutsChild a b block at child → PutsChild (with_spare a m) (with_spare b n) block at child
+PutsChild-spare a b m n block at child h =
+    record { kids = h.kids; other_kids = h.other_kids; parent = h.parent; other_parents = h.other_parents; leaf_values = h.leaf_values; block_values = h.block_values }
+
+pub TakesChild-spare : {L B : Type 0} (a b : Forest L B) (m n block at child : ℕ) → TakesChild a b block at child → TakesChild (with_spare a m) (with_spare b n) block at child
+TakesChild-spare a b m n block at child h =
+    record { kids = h.kids; other_kids = h.other_kids; parent = h.parent; other_parents = h.other_parents; leaf_values = h.leaf_values; block_values = h.block_values }
+
 -- a fact of the value, read at the fields
 pub at_view : {L B : Type 0} (P : Forest L B → ℕ → Type 0) (a : Inside L B) (v : Forest L B) (id k : ℕ) → view_of a ≡ v → id ≡ k → P v k → P (view_of a) id
 at_view {L} {B} P a v id k e q h = subst (λ (s : Forest L B). P s id) (sym e) (subst (λ (i : ℕ). P v i) (sym q) h)
@@ -48,7 +66,9 @@ IsForest-same {L} {B} a b l n f =
     }
 
 -- the children and parents are those of before
-pub IsForest-other : {L B : Type 0} (a b : Forest L B) → ((id : ℕ) → times b.leaves id ≡ count_some (leaf_of_entry (entry b id))) → ((id : ℕ) → kids_of_entry (entry b id) ≡ kids_of_entry (entry a id)) → ((id : ℕ) → parent_of_entry (entry b id) ≡ parent_of_entry (entry a id)) → IsForest a → IsForest b
+pub IsForest-other : {L B : Type 0} (a b : Forest L B) → ((id : ℕ) → times b.leaves id ≡ count_some (leaf_of_entry (entry b id)))
+    → ((id : ℕ) → kids_of_entry (entry b id) ≡ kids_of_entry (entry a id)) → ((id : ℕ) → parent_of_entry (entry b id) ≡ parent_of_entry (entry a id)) → IsForest a
+    → IsForest b
 IsForest-other a b once kids parents f =
     record {
       leaf_once = once;
@@ -73,15 +93,20 @@ module _ {L B : Type 0} where
       filled (Some slot) h = refl
 
   -- a list that the links lead along, with each leaf once, is the list of leaves
-  pub leaves_is : (s : Slab (Slot L B)) (head : Option ℕ) (xs : List ℕ) → IsWalk (next_of s head) head xs → ((id : ℕ) → times xs id ≡ count_some (leaf_of_entry (get_or (entries_of s) id None))) → leaves_of s head ≡ xs
+  pub leaves_is : (s : Slab (Slot L B)) (head : Option ℕ) (xs : List ℕ) → IsWalk (next_of s head) head xs
+      → ((id : ℕ) → times xs id ≡ count_some (leaf_of_entry (get_or (entries_of s) id None))) → leaves_of s head ≡ xs
   leaves_is s head xs w once =
-      walk_is (next_of s head) (length s.slots) head xs w (length_from_once xs (length s.slots) (λ x. omega (arith, once x, count_some_le (leaf_of_entry (get_or (entries_of s) x None)))) (λ x far. once x ∙ ap (λ o. count_some (leaf_of_entry o)) (get_or_past (entries_of s) x None (omega (arith, length-map s.slots (option_map entry_of))))))
+      walk_is (next_of s head) (length s.slots) head xs w
+      (length_from_once xs (length s.slots) (λ x. omega (arith, once x, count_some_le (leaf_of_entry (get_or (entries_of s) x None)))) (λ x far. once x
+      ∙ ap (λ o. count_some (leaf_of_entry o)) (get_or_past (entries_of s) x None (omega (arith, length-map s.slots (option_map entry_of))))))
 
   -- there are at most as many leaves as slots
-  pub leaves_fit : (s : Slab (Slot L B)) (h t : Option ℕ) → IsSound record { slots = s; head = h; tail = t } → length (leaves_of s h) ≤ length s.slots
-  leaves_fit s h t f = length_from_once (leaves_of s h) (length s.slots) (λ x. omega (arith, f.1.leaf_once x, count_some_le (leaf_of_entry (get_or (entries_of s) x None)))) (λ x far. f.1.leaf_once x ∙ ap (λ o. count_some (leaf_of_entry o)) (get_or_past (entries_of s) x None (omega (arith, length-map s.slots (option_map entry_of)))))
+  pub leaves_fit : (s : Slab (Slot L B)) (h t : Option ℕ) → IsChain record { slots = s; head = h; tail = t } → length (leaves_of s h) ≤ length s.slots
+  leaves_fit s h t f = length_from_once (leaves_of s h) (length s.slots)
+      (λ x. omega (arith, f.1.leaf_once x, count_some_le (leaf_of_entry (get_or (entries_of s) x None)))) (λ x far. f.1.leaf_once x
+      ∙ ap (λ o. count_some (leaf_of_entry o)) (get_or_past (entries_of s) x None (omega (arith, length-map s.slots (option_map entry_of)))))
 
-  pub empty_sound : (s : Slab (Slot L B)) → s.slots ≡ [] → IsSound record { slots = s; head = None; tail = None }
+  pub empty_sound : (s : Slab (Slot L B)) → s.slots ≡ [] → IsChain record { slots = s; head = None; tail = None }
   empty_sound s e =
       let gone : (id : ℕ) → get_or (entries_of s) id None ≡ None = (λ id. rw e refl) in
       let none : leaves_of s None ≡ [] = walk_none (next_of s None) (length s.slots) in
@@ -107,9 +132,17 @@ module _ {L B : Type 0} where
       only s gone (Some id) h = absurd (omega (arith, ap (λ o. count_some (leaf_of_entry o)) (gone id)))
 
   -- the same slots under another capacity
-  pub sound_same : (s s' : Slab (Slot L B)) (head tail : Option ℕ) → s'.slots ≡ s.slots → IsSound record { slots = s; head = head; tail = tail } → IsSound record { slots = s'; head = head; tail = tail }
-  sound_same s s' head tail e h =
-      (record { walks = rw e h.0.walks; ring = rw e h.0.ring }, record { leaf_once = λ id. rw e (h.1.leaf_once id); child_once = λ b id. rw e (h.1.child_once b id); few = λ b. rw e (h.1.few b) })
+  pub sound_same : (s s' : Slab (Slot L B)) (head tail : Option ℕ) → s'.slots ≡ s.slots → IsChain record { slots = s; head = head; tail = tail }
+      → IsChain record { slots = s'; head = head; tail = tail }
+  sound_same s s' head tail e h = (
+    record { walks = rw e h.0.walks; ring = rw e h.0.ring },
+    record {
+      leaf_once = λ id. rw e (h.1.leaf_once id);
+      child_once = λ b id. rw e (h.1.child_once b id);
+      few =
+          λ b. rw e (h.1.few b);
+    },
+  )
 
   -- a write of one slot that keeps its node and parent
   pub entries_kept : (s : Slab (Slot L B)) (id : ℕ) (old new : Slot L B) → get s id ≡ Some old → entry_of new ≡ entry_of old → entries_of (with_value s id new) ≡ entries_of s
@@ -125,7 +158,17 @@ module _ {L B : Type 0} where
       let one : ℕ = 1 in let f : cond (is_some (get s id)) 1 0 ≡ one = rw found refl in
       omega (arith, e, f)
 
-  pub sets_next : (s : Slab (Slot L B)) (head to : Option ℕ) (id : ℕ) (slot : Slot L B) → get s id ≡ Some slot → SetsNext s head (with_value s id record { node = slot.node; parent = slot.parent; prev = slot.prev; next = to }) head (Some id) to
+  -- as many nodes are spare as before
+  pub room_written : (s : Slab (Slot L B)) (id n : ℕ) (old new : Slot L B) → get s id ≡ Some old → n ≤ s.capacity - slab_len s
+      → n ≤ (with_value s id new).capacity - slab_len (with_value s id new)
+  room_written s id n old new found h = omega (arith, h, len_kept s id old new found)
+
+  pub room_rewritten : (s : Slab (Slot L B)) (a b n : ℕ) (old new old' new' : Slot L B) → get s a ≡ Some old → get (with_value s a new) b ≡ Some old'
+      → n ≤ s.capacity - slab_len s → n ≤ (with_value (with_value s a new) b new').capacity - slab_len (with_value (with_value s a new) b new')
+  room_rewritten s a b n old new old' new' found found' h = room_written (with_value s a new) b n old' new' found' (room_written s a n old new found h)
+
+  pub sets_next : (s : Slab (Slot L B)) (head to : Option ℕ) (id : ℕ) (slot : Slot L B) → get s id ≡ Some slot
+      → SetsNext s head (with_value s id record { node = slot.node; parent = slot.parent; prev = slot.prev; next = to }) head (Some id) to
   sets_next s head to id slot found =
       let new : Slot L B = record { node = slot.node; parent = slot.parent; prev = slot.prev; next = to } in
       let u : Updates s (with_value s id new) id (Some new) = Updates-with_value s id new (rw found refl) in
@@ -144,7 +187,8 @@ module _ {L B : Type 0} where
         capacity = refl;
       }
 
-  pub sets_prev : (s : Slab (Slot L B)) (tail to : Option ℕ) (id : ℕ) (slot : Slot L B) → get s id ≡ Some slot → SetsPrev s tail (with_value s id record { node = slot.node; parent = slot.parent; prev = to; next = slot.next }) tail (Some id) to
+  pub sets_prev : (s : Slab (Slot L B)) (tail to : Option ℕ) (id : ℕ) (slot : Slot L B) → get s id ≡ Some slot
+      → SetsPrev s tail (with_value s id record { node = slot.node; parent = slot.parent; prev = to; next = slot.next }) tail (Some id) to
   sets_prev s tail to id slot found =
       let new : Slot L B = record { node = slot.node; parent = slot.parent; prev = to; next = slot.next } in
       let u : Updates s (with_value s id new) id (Some new) = Updates-with_value s id new (rw found refl) in
@@ -164,7 +208,8 @@ module _ {L B : Type 0} where
       }
 
   -- what the link back says in terms of the list
-  pub before_is : (s : Slab (Slot L B)) (h t : Option ℕ) (id : ℕ) → IsSound record { slots = s; head = h; tail = t } → live_of (entries_of s) (Some id) ≡ 1 → MatchOption (prev_of s t (Some id)) (first (leaves_of s h) ≡ Some id) (λ p. after (leaves_of s h) p ≡ Some id)
+  pub before_is : (s : Slab (Slot L B)) (h t : Option ℕ) (id : ℕ) → IsChain record { slots = s; head = h; tail = t } → live_of (entries_of s) (Some id) ≡ 1
+      → MatchOption (prev_of s t (Some id)) (first (leaves_of s h) ≡ Some id) (λ p. after (leaves_of s h) p ≡ Some id)
   before_is s h t id f live = by_place (prev_of s t (Some id)) (f.0.ring.forth (Some id) live) (f.0.ring.prev_live (Some id) live)
     where
       by_place : (q : Option ℕ) → next_of s h q ≡ Some id → live_of (entries_of s) q ≡ 1 → MatchOption q (first (leaves_of s h) ≡ Some id) (λ p. after (leaves_of s h) p ≡ Some id)

@@ -10,10 +10,12 @@ use Rattle.ft_arena.specs.declared.nodes.Slot.{Slot}
 use Rattle.ft_arena.specs.declared.nodes.Node.{Node}
 use Rattle.ft_arena.specs.declared.nodes.Node.TheVariants.{Leaf, Block}
 use Rattle.ft_arena.specs.Ids.{points}
-use Rattle.ft_arena.specs.Forest.{Forest, Entry, IsForest, Changes, count_some, leaf_of_entry, kids_of_entry, parent_of_entry, block_of_entry, entry, kids_of, parent_of, leaf_value, block_value, leaf_of_node, block_of_node, kids_of_node, with_kids, with_leaf, with_block, with_block_entry, PutsChild, TakesChild}
-use Rattle.ft_arena.specs.Links.{entries_of, entry_of, leaves_of, view_of, IsSound}
+use Rattle.ft_arena.specs.Forest.{Forest, Entry, IsForest, Changes, count_some, leaf_of_entry, kids_of_entry, parent_of_entry, block_of_entry, entry, kids_of, parent_of}
+use Rattle.ft_arena.specs.Forest.{leaf_value, block_value, leaf_of_node, block_of_node, kids_of_node, with_kids, with_leaf, with_block, with_block_entry, PutsChild}
+use Rattle.ft_arena.specs.Forest.{TakesChild}
+use Rattle.ft_arena.specs.Links.{entries_of, entry_of, leaves_of, nodes_of, IsChain}
 use Rattle.ft_arena.proofs.IdLemmas.{times-remove, same_refl}
-use Rattle.ft_arena.proofs.ArenaLemmas.{entries_at, forest_eq, len_kept}
+use Rattle.ft_arena.proofs.ArenaLemmas.{entries_at, forest_eq}
 use Rattle.ft_arena.proofs.KidLemmas.{Linked, Linked-from, links_at, Changes-at, kept, IsForest-puts, IsForest-takes, sound_at}
 
 module _ {L B : Type 0} where
@@ -44,7 +46,9 @@ module _ {L B : Type 0} where
   abbrev pub with_parent : Slot L B → Option ℕ → Slot L B
   with_parent s p = record { node = s.node; parent = p; prev = s.prev; next = s.next }
 
-module _ {L B : Type 0} (s0 : Slab (Slot L B)) (h t : Option ℕ) (block child : ℕ) (slot1 slot2 : Slot L B) (node : Node L B) (ks : List ℕ) (par : Option ℕ) (links : Linked s0 h t) (found1 : get s0 block ≡ Some slot1) (is_block : IsSome (block_of_node slot1.node)) (rest : node ≡ with_kids slot1.node ks) (found2 : get (with_value s0 block (with_node slot1 node)) child ≡ Some slot2) where
+module _ {L B : Type 0} (s0 : Slab (Slot L B)) (h t : Option ℕ) (block child : ℕ) (slot1 slot2 : Slot L B) (node : Node L B) (ks : List ℕ) (par : Option ℕ)
+    (links : Linked s0 h t) (found1 : get s0 block ≡ Some slot1) (is_block : IsSome (block_of_node slot1.node)) (rest : node ≡ with_kids slot1.node ks)
+    (found2 : get (with_value s0 block (with_node slot1 node)) child ≡ Some slot2) where
   abbrev s1 : Slab (Slot L B)
   s1 = with_value s0 block (with_node slot1 node)
 
@@ -52,13 +56,13 @@ module _ {L B : Type 0} (s0 : Slab (Slot L B)) (h t : Option ℕ) (block child :
   s2 = with_value s1 child (with_parent slot2 par)
 
   abbrev a0 : Forest L B
-  a0 = view_of record { slots = s0; head = h; tail = t }
+  a0 = nodes_of record { slots = s0; head = h; tail = t }
 
   abbrev a1 : Forest L B
-  a1 = view_of record { slots = s1; head = h; tail = t }
+  a1 = nodes_of record { slots = s1; head = h; tail = t }
 
   abbrev a2 : Forest L B
-  a2 = view_of record { slots = s2; head = h; tail = t }
+  a2 = nodes_of record { slots = s2; head = h; tail = t }
 
   u1 : Updates s0 s1 block (Some (with_node slot1 node))
   u1 = Updates-with_value s0 block (with_node slot1 node) (rw found1 refl)
@@ -112,15 +116,27 @@ module _ {L B : Type 0} (s0 : Slab (Slot L B)) (h t : Option ℕ) (block child :
 
 module _ {L B : Type 0} where
   -- a write of a leaf's value
-  pub written_sound : (s : Slab (Slot L B)) (h t : Option ℕ) (id : ℕ) (slot : Slot L B) (v w : L) → get s id ≡ Some slot → leaf_of_node slot.node ≡ Some v → IsSound record { slots = s; head = h; tail = t } → IsSound record { slots = with_value s id (with_node slot (Leaf w)); head = h; tail = t } × (view_of record { slots = with_value s id (with_node slot (Leaf w)); head = h; tail = t } ≡ with_leaf (view_of record { slots = s; head = h; tail = t }) id w)
+  pub written_sound : (s : Slab (Slot L B)) (h t : Option ℕ) (id : ℕ) (slot : Slot L B) (v w : L) → get s id ≡ Some slot → leaf_of_node slot.node ≡ Some v
+      → IsChain record { slots = s; head = h; tail = t } → IsChain record {
+        slots = with_value s id (with_node slot (Leaf w));
+        head = h;
+        tail =
+            t;
+      } × (nodes_of record {
+        slots = with_value s id (with_node slot (Leaf w));
+        head = h;
+        tail =
+            t;
+      } ≡ with_leaf (nodes_of record { slots = s; head = h; tail = t }) id w)
   written_sound s h t id slot v w found leaf f =
       let n : slot.node ≡ Leaf v = leaf_is slot.node v leaf in
       let new : Slot L B = with_node slot (Leaf w) in
-      let r = sound_at s (with_value s id new) h t id (Some slot) (Some new) found (Updates-with_value s id new (rw found refl)) refl refl (sym (ap count_some leaf)) (sym (ap kids_of_node n)) refl f in
-      let p : parent_of (view_of record { slots = s; head = h; tail = t }) id ≡ slot.parent = ap parent_of_entry (entries_at s id ∙ ap (option_map entry_of) found) in
+      let r = sound_at s (with_value s id new) h t id (Some slot) (Some new) found (Updates-with_value s id new (rw found refl)) refl refl (sym (ap count_some leaf))
+      (sym (ap kids_of_node n)) refl f in
+      let p : parent_of (nodes_of record { slots = s; head = h; tail = t }) id ≡ slot.parent = ap parent_of_entry (entries_at s id ∙ ap (option_map entry_of) found) in
       let e : Option ℕ → Option (Entry L B) = λ o. Some record { node = Leaf w; parent = o } in (
         r.0,
-        forest_eq _ _ r.1 (map-set (option_map entry_of) s.slots id (Some new) ∙ ap (λ (o : Option ℕ). set (entries_of s) id (e o)) (sym p)) (ap (λ (n : ℕ). s.capacity - n) (len_kept s id slot new found)),
+        forest_eq _ _ r.1 (map-set (option_map entry_of) s.slots id (Some new) ∙ ap (λ (o : Option ℕ). set (entries_of s) id (e o)) (sym p)) refl,
       )
 
 module _ {L B : Type 0} where
@@ -129,29 +145,47 @@ module _ {L B : Type 0} where
   block_is (Block k w) v h = ap (Block k) (cc)
 
   -- a write of a block's value
-  pub block_written_sound : (s : Slab (Slot L B)) (h t : Option ℕ) (id : ℕ) (slot : Slot L B) (v w : B) → get s id ≡ Some slot → block_of_node slot.node ≡ Some v → IsSound record { slots = s; head = h; tail = t } → IsSound record { slots = with_value s id (with_node slot (Block (kids_of_node slot.node) w)); head = h; tail = t } × (view_of record { slots = with_value s id (with_node slot (Block (kids_of_node slot.node) w)); head = h; tail = t } ≡ with_block (view_of record { slots = s; head = h; tail = t }) id w)
+  pub block_written_sound : (s : Slab (Slot L B)) (h t : Option ℕ) (id : ℕ) (slot : Slot L B) (v w : B) → get s id ≡ Some slot → block_of_node slot.node ≡ Some v
+      → IsChain record { slots = s; head = h; tail = t } → IsChain record {
+        slots = with_value s id (with_node slot (Block (kids_of_node slot.node) w));
+        head = h;
+        tail =
+            t;
+      } × (nodes_of record {
+        slots = with_value s id (with_node slot (Block (kids_of_node slot.node) w));
+        head = h;
+        tail =
+            t;
+      } ≡ with_block (nodes_of record { slots = s; head = h; tail = t }) id w)
   block_written_sound s h t id slot v w found block f =
       let n : slot.node ≡ Block (kids_of_node slot.node) v = block_is slot.node v block in
       let new : Slot L B = with_node slot (Block (kids_of_node slot.node) w) in
-      let r = sound_at s (with_value s id new) h t id (Some slot) (Some new) found (Updates-with_value s id new (rw found refl)) refl refl (sym (ap (λ z. count_some (leaf_of_node z)) n)) refl refl f in
-      let p : entry (view_of record { slots = s; head = h; tail = t }) id ≡ Some (entry_of slot) = entries_at s id ∙ ap (option_map entry_of) found in (
+      let r = sound_at s (with_value s id new) h t id (Some slot) (Some new) found (Updates-with_value s id new (rw found refl)) refl refl
+      (sym (ap (λ z. count_some (leaf_of_node z)) n)) refl refl f in
+      let p : entry (nodes_of record { slots = s; head = h; tail = t }) id ≡ Some (entry_of slot) = entries_at s id ∙ ap (option_map entry_of) found in (
         r.0,
-        forest_eq _ _ r.1 (map-set (option_map entry_of) s.slots id (Some new) ∙ ap (λ (o : Option (Entry L B)). set (entries_of s) id (with_block_entry o w)) (sym p)) (ap (λ (n : ℕ). s.capacity - n) (len_kept s id slot new found)),
+        forest_eq _ _ r.1 (map-set (option_map entry_of) s.slots id (Some new) ∙ ap (λ (o : Option (Entry L B)). set (entries_of s) id (with_block_entry o w)) (sym p)) refl,
       )
 
 -- the links and the forest make a sound arena
-both_sound : {L B : Type 0} (s : Slab (Slot L B)) (h t : Option ℕ) → Linked s h t → IsForest (view_of record { slots = s; head = h; tail = t }) → IsSound record { slots = s; head = h; tail = t }
+both_sound : {L B : Type 0} (s : Slab (Slot L B)) (h t : Option ℕ) → Linked s h t → IsForest (nodes_of record { slots = s; head = h; tail = t })
+    → IsChain record { slots = s; head = h; tail = t }
 both_sound s h t l f = (l.links, f)
 
-module _ {L B : Type 0} (s0 : Slab (Slot L B)) (h t : Option ℕ) (block at child : ℕ) (slot1 slot2 : Slot L B) (node : Node L B) (sound : IsSound record { slots = s0; head = h; tail = t }) (found1 : get s0 block ≡ Some slot1) (found2 : get (with_value s0 block (with_node slot1 node)) child ≡ Some slot2) where
+module _ {L B : Type 0} (s0 : Slab (Slot L B)) (h t : Option ℕ) (block at child : ℕ) (slot1 slot2 : Slot L B) (node : Node L B) (sound : IsChain record {
+  slots =
+      s0;
+  head = h;
+  tail = t;
+}) (found1 : get s0 block ≡ Some slot1) (found2 : get (with_value s0 block (with_node slot1 node)) child ≡ Some slot2) where
   abbrev before : Forest L B
-  before = view_of record { slots = s0; head = h; tail = t }
+  before = nodes_of record { slots = s0; head = h; tail = t }
 
   abbrev slots_after : Option ℕ → Slab (Slot L B)
   slots_after par = with_value (with_value s0 block (with_node slot1 node)) child (with_parent slot2 par)
 
   abbrev after : Option ℕ → Forest L B
-  after par = view_of record { slots = slots_after par; head = h; tail = t }
+  after par = nodes_of record { slots = slots_after par; head = h; tail = t }
 
   block_entry : entry before block ≡ Some (entry_of slot1)
   block_entry = entries_at s0 block ∙ ap (option_map entry_of) found1
@@ -159,7 +193,13 @@ module _ {L B : Type 0} (s0 : Slab (Slot L B)) (h t : Option ℕ) (block at chil
   old_kids : kids_of before block ≡ kids_of_node slot1.node
   old_kids = ap kids_of_entry block_entry
 
-  pub put_done : node ≡ with_kids slot1.node (insert (kids_of_node slot1.node) at child) → IsSome (block_value before block) → at ≤ length (kids_of before block) → length (kids_of before block) < 8 → parent_of before child ≡ None → IsSound record { slots = slots_after (Some block); head = h; tail = t } × (leaves_of (slots_after (Some block)) h ≡ leaves_of s0 h) × PutsChild before (after (Some block)) block at child
+  pub put_done : node ≡ with_kids slot1.node (insert (kids_of_node slot1.node) at child) → IsSome (block_value before block) → at ≤ length (kids_of before block)
+      → length (kids_of before block) < 8 → parent_of before child ≡ None → IsChain record {
+        slots = slots_after (Some block);
+        head = h;
+        tail =
+            t;
+      } × (leaves_of (slots_after (Some block)) h ≡ leaves_of s0 h) × PutsChild before (after (Some block)) block at child
   put_done rest is_block within room alone =
       let links = Linked-from s0 h t sound in
       let b : IsSome (block_of_node slot1.node) = subst (λ (o : Option (Entry L B)). IsSome (block_of_entry o)) block_entry is_block in
@@ -178,10 +218,17 @@ module _ {L B : Type 0} (s0 : Slab (Slot L B)) (h t : Option ℕ) (block at chil
         p,
       )
 
-  pub take_done : node ≡ with_kids slot1.node (remove (kids_of_node slot1.node) at) → slice_get (kids_of before block) at ≡ Some child → IsSound record { slots = slots_after None; head = h; tail = t } × (leaves_of (slots_after None) h ≡ leaves_of s0 h) × TakesChild before (after None) block at child
+  pub take_done : node ≡ with_kids slot1.node (remove (kids_of_node slot1.node) at) → slice_get (kids_of before block) at ≡ Some child
+      → IsChain record {
+        slots = slots_after None;
+        head = h;
+        tail =
+            t;
+      } × (leaves_of (slots_after None) h ≡ leaves_of s0 h) × TakesChild before (after None) block at child
   take_done rest found =
       let links = Linked-from s0 h t sound in
-      let b : IsSome (block_of_node slot1.node) = block_from_kids slot1.node at (subst (λ (zs : List ℕ). at < length zs) old_kids (slice_get_within (kids_of before block) at child found)) in
+      let b : IsSome (block_of_node slot1.node) =
+      block_from_kids slot1.node at (subst (λ (zs : List ℕ). at < length zs) old_kids (slice_get_within (kids_of before block) at child found)) in
       let ks : List ℕ = remove (kids_of_node slot1.node) at in
       let r = both_links s0 h t block child slot1 slot2 node ks None links found1 b rest found2 in
       let p : TakesChild before (after None) block at child = record {
@@ -198,9 +245,10 @@ module _ {L B : Type 0} (s0 : Slab (Slot L B)) (h t : Option ℕ) (block at chil
       )
 
 -- a child has a slot, after a write of its block too
-pub child_has_slot : {L B : Type 0} (s : Slab (Slot L B)) (h t : Option ℕ) (block at child : ℕ) (old new : Slot L B) → IsSound record { slots = s; head = h; tail = t } → get s block ≡ Some old → slice_get (kids_of (view_of record { slots = s; head = h; tail = t }) block) at ≡ Some child → ContainsKey (with_value s block new) child
+pub child_has_slot : {L B : Type 0} (s : Slab (Slot L B)) (h t : Option ℕ) (block at child : ℕ) (old new : Slot L B) → IsChain record { slots = s; head = h; tail = t }
+    → get s block ≡ Some old → slice_get (kids_of (nodes_of record { slots = s; head = h; tail = t }) block) at ≡ Some child → ContainsKey (with_value s block new) child
 child_has_slot {L} {B} s h t block at child old new f found there =
-    let a : Forest L B = view_of record { slots = s; head = h; tail = t } in
+    let a : Forest L B = nodes_of record { slots = s; head = h; tail = t } in
     let one : 1 ≤ points (parent_of a child) block = omega (arith, f.1.child_once block child, times-remove (kids_of a block) at child child there, same_refl child) in
     let had : IsSome (get s child) = has (get s child) (subst (λ (o : Option (Entry L B)). 1 ≤ points (parent_of_entry o) block) (entries_at s child) one) in
     let u : Updates s (with_value s block new) block (Some new) = Updates-with_value s block new (rw found refl) in

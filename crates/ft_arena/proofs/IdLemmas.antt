@@ -1,5 +1,6 @@
 -- Lemmas on lists of node numbers.
-use Rattle.std.proofs.Common.{◌≡◌, ◌≢◌, ℕ, zero, suc, ◌+◌, ◌<◌, ◌≤◌, List, [], ◌∷◌, ◌++◌, take, drop, length, insert, remove, slice_get, Option, Some, None, refl, sym, ap, ◌∙◌, inl, inr, arith}
+use Rattle.std.proofs.Common.{◌≡◌, ◌≢◌, ℕ, zero, suc, ◌+◌, ◌<◌, ◌≤◌, List, [], ◌∷◌, ◌++◌, take, drop, length, insert, remove, slice_get, Option, Some, None, refl, sym}
+use Rattle.std.proofs.Common.{ap, ◌∙◌, inl, inr, arith}
 use Rattle.std.proofs.lemmas.Bool.{cases_eq, cases_lt}
 use Rattle.std.proofs.lemmas.Grind.{common_steps}
 use Rattle.std.proofs.lemmas.List.{take-append-drop, drop_more}
@@ -111,4 +112,12 @@ times-remove ks at child x found =
     let e : drop at ks ≡ child ∷ drop (at + 1) ks = drop_more ks at child l ∙ ap (λ z. z ∷ drop (at + 1) ks) (get_or_from_slice_get ks at child child found) in
     let n : suc at ≡ at + 1 = omega arith in
     let f : drop (suc at) ks ≡ drop (at + 1) ks = ap (λ n. drop n ks) n in
-    omega (arith, times-append (take at ks) (drop (suc at) ks) x, times-append (take at ks) (drop at ks) x, ap (λ zs. times zs x) (take-append-drop at ks), ap (λ zs. times zs x) e, ap (λ zs. times zs x) f)
+    omega (
+      arith,
+      times-append (take at ks) (drop (suc at) ks) x,
+      times-append (take at ks) (drop at ks) x,
+      ap (λ zs. times zs x) (take-append-drop at ks),
+      ap
+          (λ zs. times zs x) e,
+      ap (λ zs. times zs x) f,
+    )

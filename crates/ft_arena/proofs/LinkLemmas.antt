@@ -6,12 +6,14 @@ use Rattle.ft_arena.specs.declared.nodes.Slot.{Slot}
 use Rattle.ft_arena.specs.declared.nodes.Node.TheVariants.{Leaf}
 use Rattle.ft_arena.specs.Ids.{put_after}
 use Rattle.ft_arena.specs.Forest.{Forest, Changes, count_some, leaf_of_entry, kids_of_entry, parent_of_entry, entry}
-use Rattle.ft_arena.specs.Links.{IsSound, entries_of, entry_of, leaves_of, live_of, next_of, prev_of, view_of, SetsNext, SetsPrev, next_of_slot, prev_of_slot, HasPlace}
+use Rattle.ft_arena.specs.Links.{IsChain, entries_of, entry_of, leaves_of, live_of, next_of, prev_of, nodes_of, SetsNext, SetsPrev, next_of_slot, prev_of_slot, HasPlace}
 use Rattle.ft_arena.proofs.ArenaLemmas.{entries_at}
 use Rattle.ft_arena.proofs.KidLemmas.{kept}
 use Rattle.ft_arena.proofs.HookLemmas.{IsLinked, hooked, linked_from, leaves_from, sound_from, placed}
 
-module _ {L B : Type 0} (s0 s1 s2 s3 : Slab (Slot L B)) (h0 t0 h2 t3 at next : Option ℕ) (id : ℕ) (leaf : L) (sound : IsSound record { slots = s0; head = h0; tail = t0 }) (place : live_of (entries_of s0) at ≡ 1) (follows : next ≡ next_of s0 h0 at) (vacant : get s0 id ≡ None) (ups : Updates s0 s1 id (Some record { node = Leaf leaf; parent = None; prev = at; next = next })) (nx : SetsNext s1 h0 s2 h2 at (Some id)) where
+module _ {L B : Type 0} (s0 s1 s2 s3 : Slab (Slot L B)) (h0 t0 h2 t3 at next : Option ℕ) (id : ℕ) (leaf : L) (sound : IsChain record { slots = s0; head = h0; tail = t0 })
+    (place : live_of (entries_of s0) at ≡ 1) (follows : next ≡ next_of s0 h0 at) (vacant : get s0 id ≡ None)
+    (ups : Updates s0 s1 id (Some record { node = Leaf leaf; parent = None; prev = at; next = next })) (nx : SetsNext s1 h0 s2 h2 at (Some id)) where
   fresh : live_of (entries_of s0) (Some id) ≡ 0
   fresh = ap (λ o. count_some (leaf_of_entry o)) (entries_at s0 id ∙ ap (option_map entry_of) vacant)
 
@@ -47,19 +49,28 @@ module _ {L B : Type 0} (s0 s1 s2 s3 : Slab (Slot L B)) (h0 t0 h2 t3 at next : O
     entries3 : entries_of s3 ≡ entries_of s1
     entries3 = pv.entries ∙ nx.entries
 
-    pub linked_changes : Changes (view_of record { slots = s0; head = h0; tail = t0 }) (view_of record { slots = s3; head = h2; tail = t3 }) id (Some record { node = Leaf leaf; parent = None })
+    pub linked_changes : Changes (nodes_of record { slots = s0; head = h0; tail = t0 }) (nodes_of record { slots = s3; head = h2; tail = t3 }) id (Some record {
+      node =
+          Leaf leaf;
+      parent = None;
+    })
     linked_changes = record { changed = ap (λ es. get_or es id None) entries3 ∙ entries_at s1 id ∙ ap (option_map entry_of) ups.changed; others = there1 s3 entries3 }
 
     links : IsLinked (live_of (entries_of s3)) (next_of s3 h2) (prev_of s3 t3) (put_after (leaves_of s0 h0) at id)
     links =
-        hooked (live_of (entries_of s0)) (next_of s0 h0) (prev_of s0 t0) (live_of (entries_of s3)) (next_of s3 h2) (prev_of s3 t3) (leaves_of s0 h0) id (linked_from s0 h0 t0 sound) at place fresh (ap (λ o. count_some (leaf_of_entry o)) linked_changes.changed) (lives1 s3 entries3) (pv.nexts h2 at ∙ nx.changed) (pv.nexts h2 (Some id) ∙ nx.others (Some id) at_apart ∙ ap next_of_slot ups.changed ∙ follows) (λ p a d. pv.nexts h2 p ∙ nx.others p a ∙ nexts1 p d) (ap (prev_of s3 t3) (sym follows) ∙ pv.changed) (pv.others (Some id) next_apart ∙ nx.prevs t0 (Some id) ∙ ap prev_of_slot ups.changed) (λ p a d. pv.others p (λ e. a (e ∙ follows)) ∙ nx.prevs t0 p ∙ prevs1 p d)
+        hooked (live_of (entries_of s0)) (next_of s0 h0) (prev_of s0 t0) (live_of (entries_of s3)) (next_of s3 h2) (prev_of s3 t3) (leaves_of s0 h0) id
+        (linked_from s0 h0 t0 sound) at place fresh (ap (λ o. count_some (leaf_of_entry o)) linked_changes.changed) (lives1 s3 entries3) (pv.nexts h2 at
+        ∙ nx.changed) (pv.nexts h2 (Some id) ∙ nx.others (Some id) at_apart ∙ ap next_of_slot ups.changed ∙ follows) (λ p a d. pv.nexts h2 p ∙ nx.others p a
+        ∙ nexts1 p d) (ap (prev_of s3 t3) (sym follows) ∙ pv.changed) (pv.others (Some id) next_apart ∙ nx.prevs t0 (Some id)
+        ∙ ap prev_of_slot ups.changed) (λ p a d. pv.others p (λ e. a (e ∙ follows)) ∙ nx.prevs t0 p ∙ prevs1 p d)
 
     pub linked_leaves : leaves_of s3 h2 ≡ put_after (leaves_of s0 h0) at id
     linked_leaves = leaves_from s3 h2 t3 _ links
 
-    pub linked_sound : IsSound record { slots = s3; head = h2; tail = t3 }
+    pub linked_sound : IsChain record { slots = s3; head = h2; tail = t3 }
     linked_sound =
-        let a : Forest L B = view_of record { slots = s0; head = h0; tail = t0 } in
-        let b : Forest L B = view_of record { slots = s3; head = h2; tail = t3 } in
+        let a : Forest L B = nodes_of record { slots = s0; head = h0; tail = t0 } in
+        let b : Forest L B = nodes_of record { slots = s3; head = h2; tail = t3 } in
         let none : entry a id ≡ None = entries_at s0 id ∙ ap (option_map entry_of) vacant in
-        sound_from s0 s3 h0 t0 h2 t3 _ sound links (kept kids_of_entry a b id _ linked_changes (sym (ap kids_of_entry none))) (kept parent_of_entry a b id _ linked_changes (sym (ap parent_of_entry none)))
+        sound_from s0 s3 h0 t0 h2 t3 _ sound links (kept kids_of_entry a b id _ linked_changes (sym (ap kids_of_entry none)))
+        (kept parent_of_entry a b id _ linked_changes (sym (ap parent_of_entry none)))

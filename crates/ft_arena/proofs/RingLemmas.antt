@@ -57,7 +57,8 @@ after_self (y ∷ ys) x h = elim (cases_eq y x) [
     head [] e h = cc
     head (z ∷ zs) e h = let q : z ≡ x = cc in omega (arith, same_refl z, ap (same z) q)
 
-pub IsWalk-other : (next next' : Option ℕ → Option ℕ) (at : Option ℕ) (xs : List ℕ) → ((x : ℕ) → 1 ≤ times xs x → next' (Some x) ≡ next (Some x)) → IsWalk next at xs → IsWalk next' at xs
+pub IsWalk-other : (next next' : Option ℕ → Option ℕ) (at : Option ℕ) (xs : List ℕ) → ((x : ℕ) → 1 ≤ times xs x → next' (Some x) ≡ next (Some x)) → IsWalk next at xs
+    → IsWalk next' at xs
 IsWalk-other next next' at [] h w = w
 IsWalk-other next next' at (y ∷ ys) h w =
     let here : next' (Some y) ≡ next (Some y) = h y (omega (arith, same_refl y)) in (
@@ -65,13 +66,17 @@ IsWalk-other next next' at (y ∷ ys) h w =
       subst (λ (q : Option ℕ). IsWalk next' q ys) (sym here) (IsWalk-other next next' (next (Some y)) ys (λ x p. h x (omega arith)) w.1),
     )
 
-pub IsWalk-insert : (next next' : Option ℕ → Option ℕ) (at : Option ℕ) (xs : List ℕ) (a id : ℕ) → next' (Some a) ≡ Some id → next' (Some id) ≡ next (Some a) → ((x : ℕ) → x ≢ a → x ≢ id → next' (Some x) ≡ next (Some x)) → times xs a ≡ 1 → times xs id ≡ 0 → IsWalk next at xs → IsWalk next' at (insert_after xs a id)
+pub IsWalk-insert : (next next' : Option ℕ → Option ℕ) (at : Option ℕ) (xs : List ℕ) (a id : ℕ) → next' (Some a) ≡ Some id → next' (Some id) ≡ next (Some a)
+    → ((x : ℕ) → x ≢ a → x ≢ id → next' (Some x) ≡ next (Some x)) → times xs a ≡ 1 → times xs id ≡ 0 → IsWalk next at xs → IsWalk next' at (insert_after xs a id)
 IsWalk-insert next next' at [] a id ha hi ho once none w = w
 IsWalk-insert next next' at (y ∷ ys) a id ha hi ho once none w = elim (cases_eq y a) [
   | inl e ↦
       let once_a : times (a ∷ ys) a ≡ 1 = subst (λ (z : ℕ). times (z ∷ ys) a ≡ 1) e once in
       let none_a : times (a ∷ ys) id ≡ 0 = subst (λ (z : ℕ). times (z ∷ ys) id ≡ 0) e none in
-      let rest : IsWalk next' (next (Some a)) ys = IsWalk-other next next' (next (Some a)) ys (λ x p. ho x (λ e'. let q : 1 ≤ times ys a = subst (λ (z : ℕ). 1 ≤ times ys z) e' p in omega (arith, same_refl a)) (λ e'. let q : 1 ≤ times ys id = subst (λ (z : ℕ). 1 ≤ times ys z) e' p in omega arith)) (subst (λ (z : ℕ). IsWalk next (next (Some z)) ys) e w.1) in
+      let rest : IsWalk next' (next (Some a)) ys =
+      IsWalk-other next next' (next (Some a)) ys (λ x p. ho x (λ e'. let q : 1 ≤ times ys a = subst (λ (z : ℕ). 1 ≤ times ys z) e' p in
+      omega (arith, same_refl a)) (λ e'. let q : 1 ≤ times ys id = subst (λ (z : ℕ). 1 ≤ times ys z) e' p in omega arith))
+      (subst (λ (z : ℕ). IsWalk next (next (Some z)) ys) e w.1) in
       let done : IsWalk next' at (a ∷ id ∷ ys) = (w.0 ∙ ap Some e, (ha, subst (λ (q : Option ℕ). IsWalk next' q ys) (sym hi) rest)) in
       subst (λ (z : ℕ). IsWalk next' at (insert_after (z ∷ ys) a id)) (sym e) (subst (λ (zs : List ℕ). IsWalk next' at zs) (sym (insert_after_here ys a id once_a)) done)
   | inr d ↦
@@ -81,7 +86,10 @@ IsWalk-insert next next' at (y ∷ ys) a id ha hi ho once none w = elim (cases_e
       subst (λ (zs : List ℕ). IsWalk next' at zs) (sym (insert_after_later y ys a id d)) done
 ]
 
-pub IsWalk-without : (next next' : Option ℕ → Option ℕ) (at at' : Option ℕ) (xs : List ℕ) (id : ℕ) → ((x : ℕ) → 1 ≤ times xs x → x ≢ id → next (Some x) ≡ Some id → next' (Some x) ≡ next (Some id)) → ((x : ℕ) → 1 ≤ times xs x → x ≢ id → next (Some x) ≢ Some id → next' (Some x) ≡ next (Some x)) → (at ≡ Some id → at' ≡ next (Some id)) → (at ≢ Some id → at' ≡ at) → times xs id ≤ 1 → IsWalk next at xs → IsWalk next' at' (without xs id)
+pub IsWalk-without : (next next' : Option ℕ → Option ℕ) (at at' : Option ℕ) (xs : List ℕ) (id : ℕ)
+    → ((x : ℕ) → 1 ≤ times xs x → x ≢ id → next (Some x) ≡ Some id → next' (Some x) ≡ next (Some id))
+    → ((x : ℕ) → 1 ≤ times xs x → x ≢ id → next (Some x) ≢ Some id → next' (Some x) ≡ next (Some x)) → (at ≡ Some id → at' ≡ next (Some id)) → (at ≢ Some id → at' ≡ at)
+    → times xs id ≤ 1 → IsWalk next at xs → IsWalk next' at' (without xs id)
 IsWalk-without next next' at at' [] id hs ho am ao once w = ao (λ e. cc) ∙ w
 IsWalk-without next next' at at' (y ∷ ys) id hs ho am ao once w = elim (cases_eq y id) [
   | inl e ↦
@@ -90,11 +98,15 @@ IsWalk-without next next' at at' (y ∷ ys) id hs ho am ao once w = elim (cases_
       let none : times ys id ≡ 0 = omega arith in
       let start : next (Some id) ≢ Some id = starts next (next (Some id)) ys id none rest in
       let here : at' ≡ next (Some id) = am (w.0 ∙ ap Some e) in
-      let done : IsWalk next' at' (without ys id) = IsWalk-without next next' (next (Some id)) at' ys id (λ x p. hs x (omega arith)) (λ x p. ho x (omega arith)) (λ q. absurd (start q)) (λ _. here) (omega arith) rest in
+      let done : IsWalk next' at' (without ys id) =
+      IsWalk-without next next' (next (Some id)) at' ys id (λ x p. hs x (omega arith)) (λ x p. ho x (omega arith)) (λ q. absurd (start q)) (λ _. here)
+      (omega arith) rest in
       let eq : without (y ∷ ys) id ≡ without ys id = subst (λ (z : ℕ). without (z ∷ ys) id ≡ without ys id) (sym e) (without_here ys id) in
       subst (λ (zs : List ℕ). IsWalk next' at' zs) (sym eq) done
   | inr d ↦
-      let rest : IsWalk next' (next' (Some y)) (without ys id) = IsWalk-without next next' (next (Some y)) (next' (Some y)) ys id (λ x p. hs x (omega arith)) (λ x p. ho x (omega arith)) (hs y (omega (arith, same_refl y)) d) (ho y (omega (arith, same_refl y)) d) (omega arith) w.1 in
+      let rest : IsWalk next' (next' (Some y)) (without ys id) =
+      IsWalk-without next next' (next (Some y)) (next' (Some y)) ys id (λ x p. hs x (omega arith)) (λ x p. ho x (omega arith))
+      (hs y (omega (arith, same_refl y)) d) (ho y (omega (arith, same_refl y)) d) (omega arith) w.1 in
       let not : at ≢ Some id = (λ q. d (cc (w.0, q))) in
       let done : IsWalk next' at' (y ∷ without ys id) = (ao not ∙ w.0, rest) in
       subst (λ (zs : List ℕ). IsWalk next' at' zs) (sym (without_later y ys id d)) done
@@ -104,7 +116,10 @@ IsWalk-without next next' at at' (y ∷ ys) id hs ho am ao once w = elim (cases_
     starts next at [] id none w = λ e. cc
     starts next at (z ∷ zs) id none w = λ e. let q : z ≡ id = cc (w.0, e) in omega (arith, same_refl z, ap (same z) q)
 
-pub IsRing-insert : (live : Option ℕ → ℕ) (next prev : Option ℕ → Option ℕ) (live' : Option ℕ → ℕ) (next' prev' : Option ℕ → Option ℕ) (at new : Option ℕ) → IsRing live next prev → live at ≡ 1 → live new ≡ 0 → live' new ≡ 1 → ((p : Option ℕ) → p ≢ new → live' p ≡ live p) → next' at ≡ new → next' new ≡ next at → ((p : Option ℕ) → p ≢ at → p ≢ new → next' p ≡ next p) → prev' (next at) ≡ new → prev' new ≡ at → ((p : Option ℕ) → p ≢ next at → p ≢ new → prev' p ≡ prev p) → IsRing live' next' prev'
+pub IsRing-insert : (live : Option ℕ → ℕ) (next prev : Option ℕ → Option ℕ) (live' : Option ℕ → ℕ) (next' prev' : Option ℕ → Option ℕ) (at new : Option ℕ)
+    → IsRing live next prev → live at ≡ 1 → live new ≡ 0 → live' new ≡ 1 → ((p : Option ℕ) → p ≢ new → live' p ≡ live p) → next' at ≡ new → next' new ≡ next at
+    → ((p : Option ℕ) → p ≢ at → p ≢ new → next' p ≡ next p) → prev' (next at) ≡ new → prev' new ≡ at → ((p : Option ℕ) → p ≢ next at → p ≢ new → prev' p ≡ prev p)
+    → IsRing live' next' prev'
 IsRing-insert live next prev live' next' prev' at new r here fresh l lo n nn nr p pn po =
     record {
       next_live = λ q h. elim (same_place q new) [
@@ -145,7 +160,10 @@ IsRing-insert live next prev live' next' prev' at new r here fresh l lo n nn nr 
       ];
     }
 
-pub IsRing-without : (live : Option ℕ → ℕ) (next prev : Option ℕ → Option ℕ) (live' : Option ℕ → ℕ) (next' prev' : Option ℕ → Option ℕ) (gone : Option ℕ) → IsRing live next prev → live gone ≡ 1 → next gone ≢ gone → live' gone ≡ 0 → ((p : Option ℕ) → p ≢ gone → live' p ≡ live p) → next' (prev gone) ≡ next gone → ((p : Option ℕ) → p ≢ prev gone → p ≢ gone → next' p ≡ next p) → prev' (next gone) ≡ prev gone → ((p : Option ℕ) → p ≢ next gone → p ≢ gone → prev' p ≡ prev p) → IsRing live' next' prev'
+pub IsRing-without : (live : Option ℕ → ℕ) (next prev : Option ℕ → Option ℕ) (live' : Option ℕ → ℕ) (next' prev' : Option ℕ → Option ℕ) (gone : Option ℕ)
+    → IsRing live next prev → live gone ≡ 1 → next gone ≢ gone → live' gone ≡ 0 → ((p : Option ℕ) → p ≢ gone → live' p ≡ live p) → next' (prev gone) ≡ next gone
+    → ((p : Option ℕ) → p ≢ prev gone → p ≢ gone → next' p ≡ next p) → prev' (next gone) ≡ prev gone → ((p : Option ℕ) → p ≢ next gone → p ≢ gone → prev' p ≡ prev p)
+    → IsRing live' next' prev'
 IsRing-without live next prev live' next' prev' gone r here apart dead lo n nr p po =
     let apart' : prev gone ≢ gone = (λ e. apart (ap next (sym e) ∙ r.forth gone here)) in
     record {

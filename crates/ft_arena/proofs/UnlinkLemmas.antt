@@ -7,7 +7,7 @@ use Rattle.ft_arena.specs.declared.nodes.Node.{Node}
 use Rattle.ft_arena.specs.declared.nodes.Node.TheVariants.{Leaf, Block}
 use Rattle.ft_arena.specs.Ids.{without}
 use Rattle.ft_arena.specs.Forest.{Forest, Entry, Changes, count_some, leaf_of_entry, kids_of_entry, parent_of_entry, entry, leaf_of_node, kids_of_node}
-use Rattle.ft_arena.specs.Links.{IsSound, entries_of, entry_of, leaves_of, live_of, next_of, prev_of, view_of, SetsNext, SetsPrev, next_of_slot, prev_of_slot, HasPlace}
+use Rattle.ft_arena.specs.Links.{IsChain, entries_of, entry_of, leaves_of, live_of, next_of, prev_of, nodes_of, SetsNext, SetsPrev, next_of_slot, prev_of_slot, HasPlace}
 use Rattle.ft_arena.proofs.ArenaLemmas.{entries_at}
 use Rattle.ft_arena.proofs.KidLemmas.{kept}
 use Rattle.ft_arena.proofs.HookLemmas.{IsLinked, unhooked, next_apart, linked_from, leaves_from, sound_from, placed}
@@ -20,7 +20,8 @@ no_kids {L} {B} (Some e) h = of_node e.node h
     of_node (Leaf v) h = refl
     of_node (Block ks v) h = absurd (omega arith)
 
-module _ {L B : Type 0} (s0 s1 s2 s3 : Slab (Slot L B)) (h0 t0 h2 t3 : Option ℕ) (id : ℕ) (slot : Slot L B) (sound : IsSound record { slots = s0; head = h0; tail = t0 }) (found : get s0 id ≡ Some slot) (leaf : live_of (entries_of s0) (Some id) ≡ 1) (ups : Updates s0 s1 id None) where
+module _ {L B : Type 0} (s0 s1 s2 s3 : Slab (Slot L B)) (h0 t0 h2 t3 : Option ℕ) (id : ℕ) (slot : Slot L B) (sound : IsChain record { slots = s0; head = h0; tail = t0 })
+    (found : get s0 id ≡ Some slot) (leaf : live_of (entries_of s0) (Some id) ≡ 1) (ups : Updates s0 s1 id None) where
   next0 : next_of s0 h0 (Some id) ≡ slot.next
   next0 = ap next_of_slot found
 
@@ -53,25 +54,30 @@ module _ {L B : Type 0} (s0 s1 s2 s3 : Slab (Slot L B)) (h0 t0 h2 t3 : Option �
 
   module _ (nx : SetsNext s1 h0 s2 h2 slot.prev slot.next) where
     pub next_has_place : HasPlace s2 slot.next
-    next_has_place = placed s0 s2 slot.next (lives1 s2 nx.entries slot.next (λ e. apart (next0 ∙ e))) (ap (live_of (entries_of s0)) (sym next0) ∙ sound.0.ring.next_live (Some id) leaf)
+    next_has_place = placed s0 s2 slot.next (lives1 s2 nx.entries slot.next (λ e. apart (next0 ∙ e))) (ap (live_of (entries_of s0)) (sym next0)
+        ∙ sound.0.ring.next_live (Some id) leaf)
 
     module _ (pv : SetsPrev s2 t0 s3 t3 slot.next slot.prev) where
       entries3 : entries_of s3 ≡ entries_of s1
       entries3 = pv.entries ∙ nx.entries
 
-      pub unlinked_changes : Changes (view_of record { slots = s0; head = h0; tail = t0 }) (view_of record { slots = s3; head = h2; tail = t3 }) id None
+      pub unlinked_changes : Changes (nodes_of record { slots = s0; head = h0; tail = t0 }) (nodes_of record { slots = s3; head = h2; tail = t3 }) id None
       unlinked_changes = record { changed = ap (λ es. get_or es id None) entries3 ∙ entries_at s1 id ∙ ap (option_map entry_of) ups.changed; others = there1 s3 entries3 }
 
       links : IsLinked (live_of (entries_of s3)) (next_of s3 h2) (prev_of s3 t3) (without (leaves_of s0 h0) id)
       links =
-          unhooked (live_of (entries_of s0)) (next_of s0 h0) (prev_of s0 t0) (live_of (entries_of s3)) (next_of s3 h2) (prev_of s3 t3) (leaves_of s0 h0) id (linked_from s0 h0 t0 sound) leaf (ap (λ o. count_some (leaf_of_entry o)) unlinked_changes.changed) (lives1 s3 entries3) (ap (next_of s3 h2) prev0 ∙ pv.nexts h2 slot.prev ∙ nx.changed ∙ sym next0) (λ p a d. pv.nexts h2 p ∙ nx.others p (λ e. a (e ∙ sym prev0)) ∙ nexts1 p d) (ap (prev_of s3 t3) next0 ∙ pv.changed ∙ sym prev0) (λ p a d. pv.others p (λ e. a (e ∙ sym next0)) ∙ nx.prevs t0 p ∙ prevs1 p d)
+          unhooked (live_of (entries_of s0)) (next_of s0 h0) (prev_of s0 t0) (live_of (entries_of s3)) (next_of s3 h2) (prev_of s3 t3) (leaves_of s0 h0) id
+          (linked_from s0 h0 t0 sound) leaf (ap (λ o. count_some (leaf_of_entry o)) unlinked_changes.changed) (lives1 s3 entries3) (ap (next_of s3 h2) prev0
+          ∙ pv.nexts h2 slot.prev ∙ nx.changed ∙ sym next0) (λ p a d. pv.nexts h2 p ∙ nx.others p (λ e. a (e ∙ sym prev0)) ∙ nexts1 p d) (ap (prev_of s3 t3) next0
+          ∙ pv.changed ∙ sym prev0) (λ p a d. pv.others p (λ e. a (e ∙ sym next0)) ∙ nx.prevs t0 p ∙ prevs1 p d)
 
       pub unlinked_leaves : leaves_of s3 h2 ≡ without (leaves_of s0 h0) id
       unlinked_leaves = leaves_from s3 h2 t3 _ links
 
-      pub unlinked_sound : slot.parent ≡ None → IsSound record { slots = s3; head = h2; tail = t3 }
+      pub unlinked_sound : slot.parent ≡ None → IsChain record { slots = s3; head = h2; tail = t3 }
       unlinked_sound alone =
-          let a : Forest L B = view_of record { slots = s0; head = h0; tail = t0 } in
-          let b : Forest L B = view_of record { slots = s3; head = h2; tail = t3 } in
+          let a : Forest L B = nodes_of record { slots = s0; head = h0; tail = t0 } in
+          let b : Forest L B = nodes_of record { slots = s3; head = h2; tail = t3 } in
           let was : entry a id ≡ Some (entry_of slot) = entries_at s0 id ∙ ap (option_map entry_of) found in
-          sound_from s0 s3 h0 t0 h2 t3 _ sound links (kept kids_of_entry a b id None unlinked_changes (sym (no_kids (entry a id) leaf))) (kept parent_of_entry a b id None unlinked_changes (sym alone ∙ sym (ap parent_of_entry was)))
+          sound_from s0 s3 h0 t0 h2 t3 _ sound links (kept kids_of_entry a b id None unlinked_changes (sym (no_kids (entry a id) leaf)))
+          (kept parent_of_entry a b id None unlinked_changes (sym alone ∙ sym (ap parent_of_entry was)))

@@ -1,5 +1,5 @@
 -- How an `Arena` keeps its list of leaves. No public clause cites this module.
-use Rattle.std.specs.Prelude.{◌≡◌, ◌≢◌, ℕ, zero, suc, ◌-◌, List, [], ◌∷◌, map, length, Option, Some, None, option_map, slice_index_or}
+use Rattle.std.specs.Prelude.{◌≡◌, ◌≢◌, ℕ, zero, suc, ◌-◌, ◌≤◌, List, [], ◌∷◌, map, length, Option, Some, None, option_map, slice_index_or}
 use Rattle.slab.specs.Slab.{Slab, get, slab_len, ContainsKey}
 use Rattle.ft_arena.specs.declared.nodes.Slot.{Slot}
 use Rattle.ft_arena.specs.Forest.{Forest, Entry, IsForest, count_some, leaf_of_entry}
@@ -48,6 +48,12 @@ pub record IsRing (live : Option ℕ → ℕ) (next prev : Option ℕ → Option
   pub back : (p : Option ℕ) → live p ≡ 1 → prev (next p) ≡ p
   pub forth : (p : Option ℕ) → live p ≡ 1 → next (prev p) ≡ p
 
+-- the slots of an arena, and where its list of leaves begins and ends
+pub record Chain (L B : Type 0) : Type 0 where
+  pub slots : Slab (Slot L B)
+  pub head : Option ℕ
+  pub tail : Option ℕ
+
 module _ {L B : Type 0} where
   -- 1 for None and for a live leaf
   abbrev pub live_of : List (Option (Entry L B)) → Option ℕ → ℕ
@@ -62,16 +68,26 @@ module _ {L B : Type 0} where
     pub walks : IsWalk (next_of s head) head (leaves_of s head)
     pub ring : IsRing (live_of (entries_of s)) (next_of s head) (prev_of s tail)
 
-  abbrev pub view_of : Inside L B → Forest L B
-  view_of a =
-      record {
-        leaves = leaves_of a.slots a.head;
-        nodes = entries_of a.slots;
-        spare = a.slots.capacity - slab_len a.slots;
-      }
+  -- the list of leaves and the nodes, with this many spare
+  abbrev pub forest_of : Chain L B → ℕ → Forest L B
+  forest_of a spare = record { leaves = leaves_of a.slots a.head; nodes = entries_of a.slots; spare = spare }
 
+  -- the same with none spare, which no law on the leaves and the nodes looks at
+  abbrev pub nodes_of : Chain L B → Forest L B
+  nodes_of a = forest_of a 0
+
+  abbrev pub IsChain : Chain L B → Type 0
+  IsChain a = AreLinks a.slots a.head a.tail × IsForest (nodes_of a)
+
+  abbrev pub chain_of : Inside L B → Chain L B
+  chain_of a = record { slots = a.slots; head = a.head; tail = a.tail }
+
+  abbrev pub view_of : Inside L B → Forest L B
+  view_of a = forest_of (chain_of a) a.spare
+
+  -- the leaves are a chain, and the slots have room for as many nodes as are spare
   abbrev pub IsSound : Inside L B → Type 0
-  IsSound a = AreLinks a.slots a.head a.tail × IsForest (view_of a)
+  IsSound a = IsChain (chain_of a) × (a.spare ≤ a.slots.capacity - slab_len a.slots)
 
   -- the one place has this next, and nothing else changes
   pub record SetsNext (old : Slab (Slot L B)) (old_head : Option ℕ) (new : Slab (Slot L B)) (new_head at to : Option ℕ) : Type 0 where

@@ -1,6 +1,6 @@
 //! The arena itself: leaves in one list, and blocks with children, each node under a number.
 
-ghost use Rattle.std.specs.Prelude.{◌≡◌, ◌≢◌, ℕ, ◌+◌, ◌^◌, ◌<◌, ◌≤◌, [], ◌∷◌, length, Some, None, OnOk, IsSome, MatchOption, slice_get};
+ghost use Rattle.std.specs.Prelude.{◌≡◌, ◌≢◌, ℕ, ◌+◌, ◌^◌, ◌<◌, ◌≤◌, [], ◌∷◌, length, Some, None, OnOk, OnErr, IsSome, MatchOption, slice_get};
 ghost use Rattle.std.specs.Borrow.{sem};
 ghost use Rattle.ft_arena.specs.Forest.{Forest, IsForest, Changes, IsPlace, entry, leaf_value, block_value, parent_of, kids_of, PutsChild, TakesChild};
 ghost use Rattle.ft_arena.specs.Ids.{put_after, without, first, after};
@@ -22,6 +22,7 @@ pub struct Arena<L, B> {
     slots: Slab<Slot<L, B>>,
     head: Option<usize>,
     tail: Option<usize>,
+    spare: usize,
 }
 
 impl<L, B> Model for Arena<L, B> {
@@ -39,7 +40,7 @@ impl<L, B> Model for Arena<L, B> {
 impl<L, B> Arena<L, B> {
     ghost use Rattle.ft_arena.specs.Lends.{lends_leaf, lends_block};
 
-    /// An arena without nodes. It takes no memory.
+    /// An arena without nodes.
     pub fn new(alloc: Global) -> Arena<L, B>
         ensures leaves { result.leaves ≡ [] }
         ensures nodes { (id : ℕ) → entry result id ≡ None }
@@ -49,22 +50,25 @@ impl<L, B> Arena<L, B> {
             slots: Slab::new(alloc),
             head: None,
             tail: None,
+            spare: 0,
         }
     }
 
     /// Makes room for `n` more nodes.
     ///
-    /// Answers `OutOfMemory` where there is no room for them, and then every node is as it was.
+    /// Answers `OutOfMemory` where there is no room for them, and then the arena is as it was.
     pub fn reserve(&mut self, n: usize) -> Result<(), OutOfMemory>
         ensures room { OnOk result (n ≤ self.new.spare) }
         ensures spare { self.old.spare ≤ self.new.spare }
         ensures kept { self.new ≡ record self.old { spare = self.new.spare } }
+        ensures err { OnErr result (self.new ≡ self.old) }
     {
         self.slots.reserve(n)?;
+        self.spare = self.spare.max(n);
         Ok(())
     }
 
-    /// Puts a new leaf directly after the given one, or first where none is given. It takes no memory.
+    /// Puts a new leaf directly after the given one, or first where none is given.
     pub fn link_after(&mut self, at: Option<NodeId>, leaf: L) -> NodeId
         requires room { 1 ≤ self.old.spare }
         requires place { IsPlace self.old at }
@@ -83,19 +87,20 @@ impl<L, B> Arena<L, B> {
             next,
         };
         let id = self.slots.insert_reserved(slot);
+        self.spare -= 1;
         set_next(&mut self.slots, &mut self.head, at, Some(id));
         set_prev(&mut self.slots, &mut self.tail, next, Some(id));
         NodeId(id)
     }
 
-    /// Takes a leaf that has no parent out, and answers its value. It takes no memory.
+    /// Takes a leaf that has no parent out, and answers its value.
     pub fn unlink(&mut self, id: NodeId) -> L
         requires live { IsSome (leaf_value self.old id) }
         requires alone { parent_of self.old id ≡ None }
         ensures value { leaf_value self.old id ≡ Some result }
         ensures leaves { self.new.leaves ≡ without self.old.leaves id }
         ensures changes { Changes self.old self.new id None }
-        ensures spare { self.new.spare ≡ self.old.spare + 1 }
+        ensures spare { self.new.spare ≡ self.old.spare }
         ensures sound { IsForest self.new }
     {
         let slot = self.slots.remove(id.0);
@@ -110,8 +115,7 @@ impl<L, B> Arena<L, B> {
         node.into_leaf()
     }
 
-    /// Moves a leaf directly after another, or to the front. Its value and parent stay. It takes no
-    /// memory.
+    /// Moves a leaf directly after another, or to the front. Its value and parent stay.
     pub fn move_after(&mut self, id: NodeId, at: Option<NodeId>)
         requires live { IsSome (leaf_value self.old id) }
         requires place { IsPlace self.old at }
@@ -134,7 +138,7 @@ impl<L, B> Arena<L, B> {
         set_prev(&mut self.slots, &mut self.tail, after, Some(id));
     }
 
-    /// Takes a block without children and parent out, and answers its value. It takes no memory.
+    /// Takes a block without children and parent out, and answers its value.
     pub fn drop_block(&mut self, id: NodeId) -> B
         requires block { IsSome (block_value self.old id) }
         requires empty { kids_of self.old id ≡ [] }
@@ -142,7 +146,7 @@ impl<L, B> Arena<L, B> {
         ensures value { block_value self.old id ≡ Some result }
         ensures leaves { self.new.leaves ≡ self.old.leaves }
         ensures changes { Changes self.old self.new id None }
-        ensures spare { self.new.spare ≡ self.old.spare + 1 }
+        ensures spare { self.new.spare ≡ self.old.spare }
         ensures sound { IsForest self.new }
     {
         let slot = self.slots.remove(id.0);
@@ -155,7 +159,7 @@ impl<L, B> Arena<L, B> {
         node.into_block()
     }
 
-    /// The first leaf: None exactly where there is no leaf. It takes no memory.
+    /// The first leaf: None exactly where there is no leaf.
     pub fn first(&self) -> Option<NodeId>
         ensures value { result ≡ first self.now.leaves }
         ensures sound { IsForest self.now }
@@ -165,7 +169,7 @@ impl<L, B> Arena<L, B> {
         wrap(self.head)
     }
 
-    /// The leaf after this one: None exactly where it is the last. It takes no memory.
+    /// The leaf after this one: None exactly where it is the last.
     pub fn next(&self, id: NodeId) -> Option<NodeId>
         requires { IsSome (leaf_value self.now id) }
         ensures { result ≡ after self.now.leaves id }
@@ -173,7 +177,7 @@ impl<L, B> Arena<L, B> {
         wrap(self.slots[id.0].next)
     }
 
-    /// The leaf before this one: None exactly where it is the first. It takes no memory.
+    /// The leaf before this one: None exactly where it is the first.
     pub fn prev(&self, id: NodeId) -> Option<NodeId>
         requires { IsSome (leaf_value self.now id) }
         ensures { MatchOption result (first self.now.leaves ≡ Some id) (λ p. after self.now.leaves p ≡ Some id) }
@@ -181,7 +185,7 @@ impl<L, B> Arena<L, B> {
         wrap(self.slots[id.0].prev)
     }
 
-    /// Makes a block without children and parent. It takes no memory.
+    /// Makes a block without children and parent.
     pub fn add_block(&mut self, value: B) -> NodeId
         requires { 1 ≤ self.old.spare }
         ensures leaves { self.new.leaves ≡ self.old.leaves }
@@ -199,10 +203,12 @@ impl<L, B> Arena<L, B> {
             prev: None,
             next: None,
         };
-        NodeId(self.slots.insert_reserved(slot))
+        let id = self.slots.insert_reserved(slot);
+        self.spare -= 1;
+        NodeId(id)
     }
 
-    /// Puts a node that has no parent at this place among the block's children. It takes no memory.
+    /// Puts a node that has no parent at this place among the block's children.
     pub fn put_child(&mut self, block: NodeId, at: usize, child: NodeId)
         requires block { IsSome (block_value self.old block) }
         requires child { IsSome (entry self.old child) }
@@ -221,8 +227,7 @@ impl<L, B> Arena<L, B> {
         slot.parent = Some(block.0);
     }
 
-    /// Takes the child at this place out of the block's children, after which it has no parent. It takes
-    /// no memory.
+    /// Takes the child at this place out of the block's children, after which it has no parent.
     pub fn take_child(&mut self, block: NodeId, at: usize) -> NodeId
         requires { at < length (kids_of self.old block) }
         ensures child { slice_get (kids_of self.old block) at ≡ Some result }
@@ -238,7 +243,7 @@ impl<L, B> Arena<L, B> {
         NodeId(child)
     }
 
-    /// The block whose child the node is: None exactly where it has no parent. It takes no memory.
+    /// The block whose child the node is: None exactly where it has no parent.
     pub fn parent(&self, id: NodeId) -> Option<NodeId>
         requires { IsSome (entry self.now id) }
         ensures { result ≡ parent_of self.now id }
@@ -246,7 +251,7 @@ impl<L, B> Arena<L, B> {
         wrap(self.slots[id.0].parent)
     }
 
-    /// The node, with its value and children, for one step. It takes no memory.
+    /// The node, with its value and children, for one step.
     pub fn read<G: Ledger>(&self, id: NodeId, steps: &mut Steps<G>) -> &Node<L, B>
         requires { IsSome (entry self.now id) }
         ensures node { entry self.now id ≡ Some record { node = result.now; parent = parent_of self.now id } }
@@ -256,7 +261,7 @@ impl<L, B> Arena<L, B> {
         &self.slots[id.0].node
     }
 
-    /// The value of a leaf, for writing. It takes no memory.
+    /// The value of a leaf, for writing.
     pub fn leaf_mut(&mut self, id: NodeId) -> &mut L
         requires { IsSome (leaf_value self.old id) }
         ensures* writes_back { sem 𝓛 (lends_leaf L.row B.row self.entry id result) }
@@ -266,7 +271,7 @@ impl<L, B> Arena<L, B> {
         slot.leaf_mut()
     }
 
-    /// The value of a block, for writing. It takes no memory.
+    /// The value of a block, for writing.
     pub fn block_mut(&mut self, id: NodeId) -> &mut B
         requires { IsSome (block_value self.old id) }
         ensures* writes_back { sem 𝓛 (lends_block L.row B.row self.entry id result) }

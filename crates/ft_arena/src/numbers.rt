@@ -46,7 +46,7 @@ impl Kids {
         }
     }
 
-    /// How many nodes there are. It takes no memory.
+    /// How many nodes there are.
     pub fn len(&self) -> usize
         ensures value { result ≡ length self.now }
         ensures few { result ≤ 8 }
@@ -54,8 +54,7 @@ impl Kids {
         self.ids.len()
     }
 
-    /// The node at place `i`, counted from 0: None exactly where `i` isn't below the length. It takes
-    /// no memory.
+    /// The node at place `i`, counted from 0: None exactly where `i` isn't below the length.
     pub fn get(&self, i: usize) -> Option<NodeId>
         ensures { result ≡ slice_get self.now i }
     {

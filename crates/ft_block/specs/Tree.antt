@@ -190,6 +190,20 @@ module _ {L : Type 0} where
   abbrev pub OwesAbove : Measure L → Forest L Summary → ℕ → (List ℕ → List ℕ) → ℕ → ℕ → Type 0
   OwesAbove measure s at e more less = (block : ℕ) → parent_of s at ≡ Some block → Owes measure s block (e (kids_of s block)) more less
 
+  -- in each view that the blocks keep, two nodes together are below 2 ^ 64
+  abbrev pub PairFits : (L → ℕ) → (L → Element) → ℕ → Forest L Summary → ℕ → ℕ → Type 0
+  PairFits size element floor s x y = (view : LenView) → IsKept floor view → length_of (by_view size element view) s x + length_of (by_view size element view) s y < 2 ^ 64
+
+  -- in each view that the blocks keep, the block owes m elements f more and n elements e less
+  abbrev pub OwesExchange : (L → ℕ) → (L → Element) → ℕ → Forest L Summary → Option ℕ → Element → ℕ → Element → ℕ → Type 0
+  OwesExchange size element floor s stale e n f m = (view : LenView) → IsKept floor view
+      → OwesAt (by_view size element view) s stale (amount (sees_in view f) m) (amount (sees_in view e) n)
+
+  -- in each view that the blocks keep, the stale block owes what the parent of a node did, once its children are edited
+  abbrev pub OwesAsAbove : (L → ℕ) → (L → Element) → ℕ → Forest L Summary → ℕ → (List ℕ → List ℕ) → Forest L Summary → Option ℕ → Type 0
+  OwesAsAbove size element floor old at e new stale = (view : LenView) (more less : ℕ) → IsKept floor view
+      → OwesAbove (by_view size element view) old at e more less → OwesAt (by_view size element view) new stale more less
+
   -- a balanced tree of some of the leaves, but for a lower node beside it and a block that has too few children
   pub record IsPartTree (s : Forest L Summary) (root : ℕ) (extra short : Option ℕ) : Type 0 where
     pub shape : IsShape s root extra short

@@ -1,6 +1,31 @@
 //! The tree as its callers see it: leaves in order, each under the number of its node.
 
-ghost use Rattle.std.specs.Prelude.{◌≡◌, ◌≢◌, ℕ, ◌+◌, ◌*◌, ◌^◌, ◌<◌, ◌≤◌, Some, None, IsSome, IsTrue, IfOk, IfErr, OnOk, OnErr, MatchOption, All, IsSomeAnd, true, false, length, [], ◌∷◌};
+ghost use Rattle.std.specs.Prelude.{
+  ◌≡◌,
+  ◌≢◌,
+  ℕ,
+  ◌+◌,
+  ◌*◌,
+  ◌^◌,
+  ◌<◌,
+  ◌≤◌,
+  Some,
+  None,
+  IsSome,
+  IsTrue,
+  IfOk,
+  IfErr,
+  OnOk,
+  OnErr,
+  MatchOption,
+  All,
+  IsSomeAnd,
+  true,
+  false,
+  length,
+  [],
+  ◌∷◌,
+};
 ghost use Rattle.ft_arena.specs.Ids.{first, after};
 
 use crate::change::change_in;
@@ -59,7 +84,27 @@ impl<L: Leaf> Model for Blocks<L> {
 }
 
 impl<L: Leaf> Blocks<L> {
-    ghost use Rattle.ft_block.specs.Leaves.{LeafList, IsLeafIn, IsPlaceIn, times_leaf, ids, value_at, length_by, place_by, left_of, put_leaf, change_leaf, split_leaf, without_leaf, move_leaf, value_after, join_leaf, local_length, seen_length, IsFromFloor};
+    ghost use Rattle.ft_block.specs.Leaves.{
+      LeafList,
+      IsLeafIn,
+      IsPlaceIn,
+      times_leaf,
+      ids,
+      value_at,
+      length_by,
+      place_by,
+      left_of,
+      put_leaf,
+      change_leaf,
+      split_leaf,
+      without_leaf,
+      move_leaf,
+      value_after,
+      join_leaf,
+      local_length,
+      seen_length,
+      IsFromFloor,
+    };
     ghost use Rattle.ft_block.specs.Tree.{IsKept};
     ghost use Rattle.ft_block.specs.declared.leaves.LenView.TheVariants.{At};
 

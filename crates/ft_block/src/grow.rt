@@ -4,7 +4,23 @@ ghost use Rattle.std.specs.Prelude.{◌≡◌, ◌≢◌, ℕ, ◌+◌, ◌-◌,
 ghost use Rattle.ft_arena.specs.Forest.{IsForest, entry, block_value, kids_of, parent_of, leaf_value};
 ghost use Rattle.ft_arena.specs.Ids.{times, insert_after};
 ghost use Rattle.ft_block.specs.declared.leaves.LenView.{LenView};
-ghost use Rattle.ft_block.specs.Tree.{IsTree, IsGrowing, IsBare, SumsKeptBut, OwesAbove, OwesAt, AreFromFloor, IsKept, by_view, by_size, height_of, length_of, total, kind_of, insert_before};
+ghost use Rattle.ft_block.specs.Tree.{
+  IsTree,
+  IsGrowing,
+  IsBare,
+  SumsKeptBut,
+  OwesAsAbove,
+  PairFits,
+  AreFromFloor,
+  IsKept,
+  by_view,
+  by_size,
+  height_of,
+  length_of,
+  total,
+  kind_of,
+  insert_before,
+};
 ghost use Rattle.ft_block.specs.Steps.{SplitsAt, RootsOver, Halves, PutsInHalf, Resums, ResumsBoth, InsertsLeaf};
 
 use crate::leaves::Leaf;
@@ -60,7 +76,7 @@ fn root_over<L: Leaf, G: Ledger>(
     requires id_alone { parent_of arena.old id ≡ None }
     requires differ { id ≢ root }
     requires floors { AreFromFloor floor arena.old }
-    requires fits { (view : LenView) → IsKept floor view → length_of (by_view L.size L.element view) arena.old root + length_of (by_view L.size L.element view) arena.old id < 2 ^ 64 }
+    requires fits { PairFits L.size L.element floor arena.old root id }
     ensures roots { IfOk result (λ top. RootsOver arena.old arena.new root id top) }
     ensures floors { OnOk result (AreFromFloor floor arena.new) }
     ensures sums { IfOk result (λ top. (view : LenView) → IsKept floor view → Resums (by_view L.size L.element view) arena.old arena.new top) }
@@ -186,7 +202,7 @@ pub(crate) fn grow<L: Leaf, G: Ledger>(
     ensures tree { IfOk result (λ r. IsTree arena.new r.0) }
     ensures stale { IfOk result (λ r. (b : ℕ) → r.1 ≡ Some b → IsSome (block_value arena.new b)) }
     ensures sums { IfOk result (λ r. SumsKeptBut L.size L.element floor arena.new r.1) }
-    ensures owes { IfOk result (λ r. (view : LenView) (more less : ℕ) → IsKept floor view → OwesAbove (by_view L.size L.element view) arena.old at (λ xs. insert_after xs at id) more less → OwesAt (by_view L.size L.element view) arena.new r.1 more less) }
+    ensures owes { IfOk result (λ r. OwesAsAbove L.size L.element floor arena.old at (λ xs. insert_after xs at id) arena.new r.1) }
     ensures floors { OnOk result (AreFromFloor floor arena.new) }
     ensures leaves { OnOk result (arena.new.leaves ≡ arena.old.leaves) }
     ensures leaf_values { OnOk result ((x : ℕ) → leaf_value arena.new x ≡ leaf_value arena.old x) }
@@ -227,7 +243,7 @@ pub(crate) fn grow_front<L: Leaf, G: Ledger>(
     ensures tree { IfOk result (λ r. IsTree arena.new r.0) }
     ensures stale { IfOk result (λ r. (b : ℕ) → r.1 ≡ Some b → IsSome (block_value arena.new b)) }
     ensures sums { IfOk result (λ r. SumsKeptBut L.size L.element floor arena.new r.1) }
-    ensures owes { IfOk result (λ r. (view : LenView) (more less : ℕ) → IsKept floor view → OwesAbove (by_view L.size L.element view) arena.old at (λ xs. insert_before xs at id) more less → OwesAt (by_view L.size L.element view) arena.new r.1 more less) }
+    ensures owes { IfOk result (λ r. OwesAsAbove L.size L.element floor arena.old at (λ xs. insert_before xs at id) arena.new r.1) }
     ensures floors { OnOk result (AreFromFloor floor arena.new) }
     ensures leaves { OnOk result (arena.new.leaves ≡ arena.old.leaves) }
     ensures leaf_values { OnOk result ((x : ℕ) → leaf_value arena.new x ≡ leaf_value arena.old x) }

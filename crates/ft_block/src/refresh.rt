@@ -3,10 +3,8 @@
 ghost use Rattle.std.specs.Prelude.{◌≡◌, ℕ, ◌+◌, ◌^◌, ◌<◌, ◌≤◌, [], ◌∷◌, None, Some, IsSome, IfOk, OnOk};
 ghost use Rattle.ft_arena.specs.Forest.{IsForest, entry, block_value, kids_of, parent_of, leaf_value};
 ghost use Rattle.ft_arena.specs.Ids.{times};
-ghost use Rattle.ft_partial.specs.StepFunctions.{amount};
 ghost use Rattle.ft_block.specs.declared.leaves.LenView.{LenView};
-ghost use Rattle.ft_block.specs.Leaves.{sees_in};
-ghost use Rattle.ft_block.specs.Tree.{IsPartTree, SumsKeptBut, OwesAt, AreFromFloor, IsKept, by_view, by_size, kept_length, length_of, total};
+ghost use Rattle.ft_block.specs.Tree.{IsPartTree, SumsKeptBut, OwesExchange, AreFromFloor, IsKept, by_view, by_size, kept_length, length_of, total};
 ghost use Rattle.ft_block.specs.Steps.{SameShape, Resums};
 
 use crate::leaves::Leaf;
@@ -87,7 +85,7 @@ pub(crate) fn exchange_up<L: Leaf>(
     requires block { (b : ℕ) → stale ≡ Some b → IsSome (block_value arena.old b) }
     requires floors { AreFromFloor floor arena.old }
     requires sums { SumsKeptBut L.size L.element floor arena.old stale }
-    requires owes { (view : LenView) → IsKept floor view → OwesAt (by_view L.size L.element view) arena.old stale (amount (sees_in view new.now) new_len) (amount (sees_in view e.now) len) }
+    requires owes { OwesExchange L.size L.element floor arena.old stale e.now len new.now new_len }
     ensures shape { OnOk result (SameShape arena.old arena.new) }
     ensures floors { OnOk result (AreFromFloor floor arena.new) }
     ensures sums { OnOk result (SumsKeptBut L.size L.element floor arena.new None) }

@@ -5,7 +5,7 @@ ghost use Rattle.std.specs.Prelude.{◌≡◌, ◌≢◌, IsTrue, false, ℕ, �
 ghost use Rattle.ft_arena.specs.Forest.{IsForest, IsPlace, block_value, kids_of, leaf_value, parent_of};
 ghost use Rattle.ft_arena.specs.Ids.{times, put_after, without};
 ghost use Rattle.ft_block.specs.declared.leaves.LenView.{LenView};
-ghost use Rattle.ft_block.specs.Tree.{IsTree, IsApart, SumsBut, SumsKeptBut, AreFromFloor, IsKept, IsBare, by_view, by_size, height_of, length_of, total};
+ghost use Rattle.ft_block.specs.Tree.{IsTree, IsApart, SumsBut, SumsKeptBut, AreFromFloor, IsKept, PairFits, IsBare, by_view, by_size, height_of, length_of, total};
 ghost use Rattle.ft_block.specs.Inside.{IsRooted};
 ghost use Rattle.ft_block.specs.Steps.{Regroups, Shares, ResumsPair, DropsRoot, IsPair, TakesLeaf, MovesLeaf};
 
@@ -117,7 +117,7 @@ fn balance<L: Leaf, G: Ledger>(
     requires many { 9 ≤ length (kids_of arena.old front) + length (kids_of arena.old rear) }
     requires floors { AreFromFloor floor arena.old }
     requires sums { (view : LenView) → IsKept floor view → SumsBut (by_view L.size L.element view) arena.old None }
-    requires fits { (view : LenView) → IsKept floor view → length_of (by_view L.size L.element view) arena.old front + length_of (by_view L.size L.element view) arena.old rear < 2 ^ 64 }
+    requires fits { PairFits L.size L.element floor arena.old front rear }
     ensures shares { OnOk result (Shares arena.old arena.new up front rear) }
     ensures up_kids { OnOk result (kids_of arena.new up ≡ kids_of arena.old up) }
     ensures sums { OnOk result ((view : LenView) → IsKept floor view → ResumsPair (by_view L.size L.element view) arena.old arena.new up front rear) }
@@ -148,7 +148,7 @@ fn merge<L: Leaf, G: Ledger>(
     requires many { 4 ≤ length (kids_of arena.old front) + length (kids_of arena.old rear) }
     requires floors { AreFromFloor floor arena.old }
     requires sums { (view : LenView) → IsKept floor view → SumsBut (by_view L.size L.element view) arena.old None }
-    requires fits { (view : LenView) → IsKept floor view → length_of (by_view L.size L.element view) arena.old front + length_of (by_view L.size L.element view) arena.old rear < 2 ^ 64 }
+    requires fits { PairFits L.size L.element floor arena.old front rear }
     ensures shares { OnOk result (Shares arena.old arena.new up front rear) }
     ensures sums { OnOk result ((view : LenView) → IsKept floor view → ResumsPair (by_view L.size L.element view) arena.old arena.new up front rear) }
     ensures floors { OnOk result (AreFromFloor floor arena.new) }

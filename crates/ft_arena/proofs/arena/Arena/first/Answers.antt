@@ -6,4 +6,4 @@ use Rattle.ft_arena.proofs.arena.Arena.first.Goals as goal
 pub returns-clause-few : goal.returns-clause-few
 returns-clause-few g c =
     let e = ap (λ (s : Forest g.row.L.Denot g.row.B.Denot). length s.leaves) c.self.view_is in
-    omega (arith, e, leaves_fit c.self.inside.slots c.self.inside.head c.self.inside.tail c.self.invariant, c.capacity-capacity.ensures.slots)
+    omega (arith, e, leaves_fit c.self.inside.slots c.self.inside.head c.self.inside.tail c.self.invariant.0, c.capacity-capacity.ensures.slots)

@@ -11,5 +11,7 @@ use Rattle.ft_arena.proofs.arena.Arena.prev.Goals as goal
 pub returns : goal.returns
 returns g c =
     let live = count_is_some _ (at_view (λ s i. IsSome (leaf_value s i)) c.self.inside c.args.self.now c.id.inside.0 c.args.id c.self.view_is c.id.view_is c.requires) in
-    let b = before_is c.self.inside.slots c.self.inside.head c.self.inside.tail c.id.inside.0 c.self.invariant live in
-    rw (← c.self.view_is, ← c.id.view_is) (subst (λ (q : Option ℕ). MatchOption q (first (view_of c.self.inside).leaves ≡ Some c.id.inside.0) (λ p. after (view_of c.self.inside).leaves p ≡ Some c.id.inside.0)) (sym (c.wrap.ensures ∙ sym (ap prev_of_slot c.index.ensures))) b)
+    let b = before_is c.self.inside.slots c.self.inside.head c.self.inside.tail c.id.inside.0 c.self.invariant.0 live in
+    rw (← c.self.view_is, ← c.id.view_is) (subst
+    (λ (q : Option ℕ). MatchOption q (first (view_of c.self.inside).leaves ≡ Some c.id.inside.0) (λ p. after (view_of c.self.inside).leaves p ≡ Some c.id.inside.0))
+    (sym (c.wrap.ensures ∙ sym (ap prev_of_slot c.index.ensures))) b)
