@@ -1,0 +1,4 @@
+pub mod ListLemmas
+pub mod PushLemmas
+pub mod DetachLemmas
+pub mod LoopLemmas

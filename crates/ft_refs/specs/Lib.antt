@@ -1,0 +1,2 @@
+pub mod RefLists
+pub mod Links
