@@ -7,6 +7,8 @@ mod arenas;
 #[cfg(test)]
 mod large;
 #[cfg(test)]
+mod references;
+#[cfg(test)]
 mod runs;
 #[cfg(test)]
 mod small;
