@@ -16,7 +16,7 @@ use Rattle.ft_msg.specs.ClientSteps.{is_without_edits, taken_entries}
 use Rattle.ft_laws.proofs.ClientsAgree.{clients-agree, idle-clients-show, idle-views}
 use Rattle.ft_laws.proofs.CountedEntries.{entries-counted}
 use Rattle.ft_laws.proofs.EveryClientReady.{pending-stays-on_top}
-use Rattle.ft_worlds.specs.Worlds.{AttributionsAgree, ClientsAreOfLog, CountsAreAgreed, HasCountsOf, ClientsShowTheSame, EventsHaveTheirRefusals, IsOfLog, LogIsInOrder, ViewsAreApplied, reached}
+use Rattle.ft_worlds.specs.Worlds.{AttributionsAgree, ClientsAreOfLog, ClientsAttributeTheSame, CountsAreAgreed, HasCountsOf, ClientsShowTheSame, EventsHaveTheirRefusals, IsOfLog, LogIsInOrder, ViewsAreApplied, reached}
 use Rattle.ft_worlds.proofs.Lists.{each-found, each-weaker}
 use Rattle.ft_worlds.proofs.Orders.{leads-order}
 use Rattle.ft_worlds.proofs.WorldEvents.{IsReachedWorld, Serves, Turns, first-reached, reaches, steps-turn}
@@ -88,3 +88,10 @@ pub attributions-agree : AttributionsAgree
 attributions-agree events name c f none =
     let w = reached events in
     blame-of w.log c.client (each-found (λ (c : NamedClient). IsOfLog w.log c.client) (is_client name) w.clients c f (clients-of-log events)).0 none
+
+pub clients-attribute-the_same : ClientsAttributeTheSame
+clients-attribute-the_same events name other c d f g n a b =
+    let w = reached events in
+    let o = (each-found (λ (c : NamedClient). IsOfLog w.log c.client) (is_client name) w.clients c f (clients-of-log events)).0 in
+    let p = (each-found (λ (c : NamedClient). IsOfLog w.log c.client) (is_client other) w.clients d g (clients-of-log events)).0 in
+    blame-of w.log c.client o a ∙ (ap (λ i. blame (client_over (agreed (take i w.log)))) n ∙ sym (blame-of w.log d.client p b))

@@ -87,8 +87,14 @@ abbrev pub CountsAreAgreed : Type 0
 CountsAreAgreed =
     (events : List Event) → Each (λ c. HasCountsOf (agreed (take c.client.doc.number (reached events).log)) c.client.doc) (reached events).clients
 
--- two clients with the same number and nothing pending tell the same of who inserted the text, which is what the messages tell
+-- a client with nothing pending tells of who inserted the text what the messages that it processed tell
 abbrev pub AttributionsAgree : Type 0
 AttributionsAgree =
     (events : List Event) (name : Characters) (c : NamedClient) → find (is_client name) (reached events).clients ≡ Some c → is_without_edits c.client ≡ true
     → blame c.client ≡ blame (client_over (agreed (take c.client.doc.number (reached events).log)))
+
+-- two clients with the same number and nothing pending tell the same of who inserted the text
+abbrev pub ClientsAttributeTheSame : Type 0
+ClientsAttributeTheSame =
+    (events : List Event) (name other : Characters) (c d : NamedClient) → find (is_client name) (reached events).clients ≡ Some c → find (is_client other) (reached events).clients ≡ Some d
+    → c.client.doc.number ≡ d.client.doc.number → is_without_edits c.client ≡ true → is_without_edits d.client ≡ true → blame c.client ≡ blame d.client

@@ -1,6 +1,6 @@
 //! What holds of every world that events make of the empty one.
 
-ghost use Rattle.ft_worlds.specs.Worlds.{AttributionsAgree, ClientsAreOfLog, CountsAreAgreed, ClientsShowTheSame, EventsHaveTheirRefusals, LogIsInOrder, ViewsAreApplied};
+ghost use Rattle.ft_worlds.specs.Worlds.{AttributionsAgree, ClientsAreOfLog, ClientsAttributeTheSame, ClientsShowTheSame, CountsAreAgreed, EventsHaveTheirRefusals, LogIsInOrder, ViewsAreApplied};
 ghost use Rattle.ft_worlds.specs.NewNames.{ConnectionsHaveNewNames, GuestsHaveNewNames};
 ghost use Rattle.ft_worlds.specs.Offers.{OffersAreOfTheLog};
 ghost use Rattle.ft_worlds.specs.Reports.{OpenedReportsAreOne, ReportsAreOne};
@@ -44,10 +44,12 @@ pub fn reports_are_one()
 {}
 
 /// The counts of a client are those of the messages that it processed, and so is, with nothing
-/// pending, who inserted its text.
+/// pending, who inserted its text. Two clients with the same number and nothing pending tell the same
+/// of who inserted it.
 pub fn counts_and_attributions_agree()
     ensures counts { CountsAreAgreed }
     ensures attributions { AttributionsAgree }
+    ensures same { ClientsAttributeTheSame }
 {}
 
 /// The name of each new connection is a new one, so a table of names gives it the next number.
