@@ -12,26 +12,30 @@ use Rattle.ft_msg.specs.declared.views.Link.{Link}
 use Rattle.ft_msg.specs.declared.views.Link.TheVariants.{Offline, Joining, Online}
 use Rattle.ft_props.specs.Properties.{Characters}
 use Rattle.ft_op.specs.Document.{Document, empty}
-use Rattle.ft_op.specs.Operation.{sub_operations}
+use Rattle.ft_op.specs.Operation.{SubOperation, sub_operations}
 use Rattle.ft_op.specs.Stages.{Stage}
 use Rattle.ft_msg.specs.Agreed.{agreed}
-use Rattle.ft_msg.specs.Client.{NaiveClient, PendingEdit, after_edit, client_over, connect, drop_link, local_edit, local_sub_operations, noop, stages_of}
+use Rattle.ft_msg.specs.Client.{EditResult, NaiveClient, PendingEdit, after_edit, client_over, connect, drop_link, local_edit, local_sub_operation, local_sub_operations, noop, stages_of}
 use Rattle.ft_msg.specs.Process.{is_body, is_op_kind, is_sent_as}
 use Rattle.ft_op.specs.Same.{same_int}
 use Rattle.ft_op.proofs.SameOperations.{same_op-Decides}
 use Rattle.ft_seqr.specs.Sequencer.{JoinedConnection, NaiveSequencer, is_joined, join, kind_of, next, sequence, submit, submitted}
-use Rattle.ft_seqr.specs.World.{conn_of}
+use Rattle.ft_seqr.specs.World.{conn_of, inserted}
 use Rattle.ft_laws.specs.Agreement.{IsRun}
 use Rattle.ft_msg.specs.ClientSteps.{ClientStep, Edits, Connects, Drops, Idles, Sends, Restarts, after_step, has_fitting_body, is_none_pending, taken_entries, unless_refused}
 use Rattle.ft_laws.specs.Sequencing.{Each}
 use Rattle.ft_laws.proofs.AnyAndAll.{any-behind}
 use Rattle.ft_laws.proofs.Booleans.{never}
 use Rattle.ft_laws.proofs.ClientsAgree.{clients-agree}
+use Rattle.ft_laws.proofs.CountedEntries.{after_first, with_first}
 use Rattle.ft_laws.proofs.NumberTests.{same_number}
+use Rattle.ft_msg.specs.WellFormed.{has_body}
 use Rattle.ft_worlds.specs.LogOrder.{Follows}
 use Rattle.ft_worlds.proofs.Lists.{each-any, each-found, each-more, each-weaker, filter-more, find-changed, find-filtered, find-mapped, find-more, find-new}
 use Rattle.ft_worlds.proofs.Orders.{IsAccepted, IsBase, IsBounded, Leads, after_draft, draft-numbered, gone, join-numbered, leads-more, leads-up, leave-numbered, new_connection, numbered-base, numbered-follows, others, submit-accepted}
 use Rattle.ft_worlds.proofs.Links.{AnyEdits, HasJoined, IsAnswered, IsDraftOf, IsFirstQueued, IsLinked, IsOffline, IsOnline, IsQueue, IsQueued, answered-more, answered-next, answered-weaker, awaits-new, is_owed, owed, owed-more, queue-more, queue-up, queued-more, queued-noop}
+use Rattle.ft_worlds.proofs.Owing.{behind, edit_cost, entry_cost, noops, op_inserts, owing, owing-edited, owing-sent, owing_of, stage_inserts, total, total-append}
+use Rattle.ft_worlds.proofs.Prices.{client-priced}
 use Rattle.ft_worlds.proofs.Served.{IsOwned, IsServed, entry_of, run-more, taken-more}
 
 -- ---- numbers of clients that took the same
@@ -62,10 +66,34 @@ served-step owner count q log name rest x y s h e o l v =
 
 -- ---- an edit of its own
 
+-- the stages of sub-operations insert what these do
+rest-insert : (n : ℕ) (here : Stage) (r : Result (Document × List Stage) EditFault) (taken : Document × List Stage) → ((rest : Document × List Stage) → r ≡ Ok rest → total stage_inserts rest.1 ≡ n)
+    → with_first here r ≡ Ok taken → total stage_inserts taken.1 ≡ stage_inserts here + n
+rest-insert n here (Err fault) taken f h = (cc)
+rest-insert n here (Ok rest) taken f h =
+    let same : (rest.0, here ∷ rest.1) ≡ taken = (cc) in
+    ap (λ (z : Document × List Stage). total stage_inserts z.1) (sym same) ∙ ap (λ m. stage_inserts here + m) (f rest refl)
+
+all-insert : (os : List SubOperation) (doc : Document) (stages : List Stage) (k : ℕ) (taken : Document × List Stage) → local_sub_operations doc stages k os ≡ Ok taken → total stage_inserts taken.1 ≡ total inserted os
+all-insert [] doc stages k taken h =
+    let bare : List Stage = [] in
+    let same : (doc, bare) ≡ taken = (cc) in
+    ap (λ (z : Document × List Stage). total stage_inserts z.1) (sym same)
+all-insert (o ∷ os) doc stages k taken h =
+    first (λ d ss rest. all-insert os d ss (k + 1) rest) (local_sub_operation doc stages k o) h
+  where
+    first : ((d : Document) (ss : List Stage) (rest : Document × List Stage) → local_sub_operations d ss (k + 1) os ≡ Ok rest → total stage_inserts rest.1 ≡ total inserted os) → (r : EditResult)
+        → after_first stages k o os r ≡ Ok taken → total stage_inserts taken.1 ≡ inserted o + total inserted os
+    first ih (Err fault) g = (cc)
+    first ih (Ok one) g =
+        let here : Stage = record { stage = k; sub_operation = o; names = one.1 } in
+        rest-insert (total inserted os) here (local_sub_operations one.0 (stages ++ (here ∷ [])) (k + 1) os) taken (λ rest f. ih one.0 (stages ++ (here ∷ [])) rest f) g
+
 -- what an accepted edit makes
 pub record IsEdited (x : NaiveClient) (op : ChannelOp) (y : NaiveClient) : Type 0 where
   pub doc : Document
   pub stages : List Stage
+  pub inserts : total stage_inserts stages ≡ op_inserts op
   pub same : after_edit op doc stages x ≡ y
 
 abbrev edited : NaiveClient → ChannelOp → Result (Document × List Stage) EditFault → Result NaiveClient EditFault
@@ -73,11 +101,30 @@ edited x op (Err fault) = Err fault
 edited x op (Ok taken) = Ok (after_edit op taken.0 taken.1 x)
 
 pub edit-made : (x y : NaiveClient) (op : ChannelOp) → local_edit x op ≡ Ok y → IsEdited x op y
-edit-made x y op h = by (local_sub_operations x.doc (stages_of x) (x.last_stage + 1) (sub_operations op)) h
+edit-made x y op h = by (local_sub_operations x.doc (stages_of x) (x.last_stage + 1) (sub_operations op)) refl h
   where
-    by : (r : Result (Document × List Stage) EditFault) → edited x op r ≡ Ok y → IsEdited x op y
-    by (Err fault) g = (cc)
-    by (Ok taken) g = let s : after_edit op taken.0 taken.1 x ≡ y = (cc) in record { doc = taken.0; stages = taken.1; same = s }
+    by : (r : Result (Document × List Stage) EditFault) → local_sub_operations x.doc (stages_of x) (x.last_stage + 1) (sub_operations op) ≡ r → edited x op r ≡ Ok y → IsEdited x op y
+    by (Err fault) e g = (cc)
+    by (Ok taken) e g =
+        let s : after_edit op taken.0 taken.1 x ≡ y = (cc) in
+        record { doc = taken.0; stages = taken.1; inserts = all-insert (sub_operations op) x.doc (stages_of x) (x.last_stage + 1) taken e; same = s }
+
+edited-owes : (x : NaiveClient) (op : ChannelOp) (doc : Document) (stages : List Stage) (rest : List Entry) (link : Link) → total stage_inserts stages ≡ op_inserts op
+    → owing_of (after_edit op doc stages (record x { link = link })) rest ≤ owing_of x rest + (1 + op_inserts op)
+edited-owes x op doc stages rest Offline e = let h = owing-edited x.conns rest x.pending (record { stages = stages; ref_seq = x.doc.number; sent = None }) x.queue in omega (arith, h, e)
+edited-owes x op doc stages rest (Joining conn) e = let h = owing-edited x.conns rest x.pending (record { stages = stages; ref_seq = x.doc.number; sent = None }) x.queue in omega (arith, h, e)
+edited-owes x op doc stages rest (Online conn) e =
+    let d : Draft = record { client_seq = x.next_client_seq; ref_seq = x.doc.number; body = Op op } in
+    let edit : PendingEdit = record { stages = stages; ref_seq = x.doc.number; sent = Some (record { conn = conn; client_seq = x.next_client_seq; op = op }) } in
+    let h = owing-edited x.conns rest x.pending edit x.queue in
+    let none = total-append noops x.queue (d ∷ []) in
+    omega (arith, h, e, none)
+
+-- it owes one message more, and the elements that the edit inserts
+pub edit-owes : (x y : NaiveClient) (op : ChannelOp) (rest : List Entry) → local_edit x op ≡ Ok y → owing_of y rest ≤ owing_of x rest + (1 + op_inserts op)
+edit-owes x y op rest h =
+    let e = edit-made x y op h in
+    subst (λ z. owing_of z rest ≤ owing_of x rest + (1 + op_inserts op)) e.same (edited-owes x op e.doc e.stages rest x.link e.inserts)
 
 -- the parts of a client of which a link speaks
 pub record HasLink (x : NaiveClient) (cs : List ℕ) (link : Link) (rest : List Entry) (q : NaiveSequencer) (number : ℕ) : Type 0 where
@@ -150,6 +197,21 @@ noop-link x y rest q (Online conn) h l = subst (λ z. HasLink z x.conns (Online 
         answered = answered-weaker (owed x.conns rest) x.pending (λ ys. IsQueued conn x.queue ys) (λ ys. IsQueued conn (x.queue ++ (d ∷ [])) ys) (λ ys g. queued-noop conn x.queue ys d g refl) l.answered;
       };
     }
+
+noop-queued : (x y : NaiveClient) (rest : List Entry) (link : Link) → noop (record x { link = link }) ≡ Ok y → owing_of y rest ≤ owing_of x rest + 1
+noop-queued x y rest Offline h = (cc)
+noop-queued x y rest (Joining conn) h = (cc)
+noop-queued x y rest (Online conn) h = subst (λ w. owing_of w rest ≤ owing_of x rest + 1) same (let more = total-append noops x.queue (d ∷ []) in omega (arith, more))
+  where
+    d : Draft
+    d = record { client_seq = x.next_client_seq; ref_seq = x.doc.number; body = Nothing }
+
+    same : record x { link = Online conn; next_client_seq = x.next_client_seq + 1; queue = x.queue ++ (d ∷ []) } ≡ y
+    same = (cc)
+
+-- it owes one message more
+pub noop-owes : (x y : NaiveClient) (rest : List Entry) → noop x ≡ Ok y → owing_of y rest ≤ owing_of x rest + 1
+noop-owes x y rest h = noop-queued x y rest x.link h
 
 pub served-idles : (owner : ℕ → Option Characters) (count : ℕ) (q : NaiveSequencer) (log : List Entry) (name : Characters) (rest : List Entry) (x y : NaiveClient) → noop x ≡ Ok y
     → IsServed owner count q log name rest x → IsServed owner count q log name rest y
@@ -269,6 +331,7 @@ pub record IsSent (owner : ℕ → Option Characters) (count : ℕ) (q : NaiveSe
   pub logged : IsLogged count q log conn p
   pub owned : owner conn ≡ Some name
   pub served : IsServed owner count p.0 (log ++ (p.1 ∷ [])) name (rest ++ (p.1 ∷ [])) (record x { queue = ds })
+  pub owes : owing x.conns (rest ++ (p.1 ∷ [])) x.pending ds + entry_cost p.1 ≤ owing x.conns rest x.pending (d ∷ ds)
 
 -- a client's draft is accepted
 pub draft-accepted : (count : ℕ) (q : NaiveSequencer) (log : List Entry) (conn number next : ℕ) (j : JoinedConnection) (d : Draft) (ds : List Draft) → IsBase count q log → find (is_joined conn) q.joined ≡ Some j
@@ -278,6 +341,11 @@ draft-accepted count q log conn number next j d ds b f u h =
     let low = here.above in
     let up = queue-up (j.client_seq + 1) d.ref_seq ds number next h.2 in
     record { next = h.0; above = omega (arith, low, h.1); rising = h.1; below = omega (arith, up, u) }
+
+owed-body : (b : Body) (t : Bool) → t ≡ true → is_op_kind (kind_of b) && t ≡ has_body b
+owed-body Nothing t h = refl
+owed-body (Op op) t h = h
+owed-body (Elsewhere address) t h = h
 
 sent-online : (owner : ℕ → Option Characters) (count : ℕ) (q : NaiveSequencer) (log : List Entry) (name : Characters) (rest : List Entry) (x : NaiveClient) (conn : ℕ) (d : Draft) (ds : List Draft) → IsBase count q log
     → x.link ≡ Online conn → x.queue ≡ d ∷ ds → IsOnline x.conns x.doc.number x.next_client_seq (d ∷ ds) x.pending rest q conn → IsServed owner count q log name rest x → IsSent owner count q log name rest x conn d ds
@@ -312,6 +380,7 @@ sent-online owner count q log name rest x conn d ds b k u l v =
         conns = v.conns;
         link = subst (λ t. IsLinked x.conns x.doc.number x.next_client_seq ds x.pending (rest ++ (e ∷ [])) (sequence q j d).0 t) (sym (k ∙ ap Online same)) online;
       };
+      owes = owing-sent conn x.conns rest e x.pending d ds refl (owed-body d.body (list_any (nat_eq j.conn) x.conns) own) l.answered (client-priced v.steps x v.run);
     }
 
 pub served-sends : (owner : ℕ → Option Characters) (count : ℕ) (q : NaiveSequencer) (log : List Entry) (name : Characters) (rest : List Entry) (x : NaiveClient) (conn : ℕ) (d : Draft) (ds : List Draft) → IsBase count q log
@@ -415,6 +484,20 @@ served-connects owner count q log name label rest x y b h v =
 
     one-own : (n : ℕ) → list_any (nat_eq n) (n ∷ []) ≡ true
     one-own n = ap (λ b. b || false) (self n)
+
+-- it owes no more
+pub connect-owes : (count : ℕ) (q : NaiveSequencer) (log : List Entry) (label : Characters) (rest : List Entry) (x y : NaiveClient) → connect x (count + 1) ≡ Ok y → Each (λ e. e.origin ≤ count) rest
+    → owing_of y (rest ++ ((join q (count + 1) label).1 ∷ [])) ≡ owing_of x rest
+connect-owes count q log label rest x y h known =
+    let e = (join q (count + 1) label).1 in
+    let conns = x.conns ++ ((count + 1) ∷ []) in
+    ap (λ (z : NaiveClient). owing_of z (rest ++ (e ∷ []))) (sym (connects-to x y (count + 1) x.link h).1)
+    ∙ ap (λ es. total edit_cost (behind es x.pending) + total noops x.queue) (owed-more conns rest e refl ∙ owed-old x.conns count rest known)
+
+-- the rest of the log is of connections so far
+pub rest-known : (owner : ℕ → Option Characters) (count : ℕ) (q : NaiveSequencer) (log : List Entry) (name : Characters) (rest : List Entry) (x : NaiveClient) → IsBase count q log → IsServed owner count q log name rest x → Each (λ e. e.origin ≤ count) rest
+rest-known owner count q log name rest x b v =
+    each-behind (λ (e : Entry). e.origin ≤ count) (taken_entries v.steps) rest (subst (Each (λ (e : Entry). e.origin ≤ count)) (sym v.entries) b.origins)
 
 -- ---- a client loses its connection
 

@@ -71,7 +71,7 @@ either-true a b c e h = ap (λ t. t || b) (sym e) ∙ h
 same-test : (owner name : Characters) (c : NamedClient) (d : NamedClient) → is_client d.name c ≡ true → is_client owner d ≡ is_client owner c
 same-test owner name c d h = let e : d.name ≡ c.name = (bytes_eq-Decides d.name c.name).0 h in ap (bytes_eq owner) e
 
-any-placed : (owner : Characters) (d : NamedClient) (cs : List NamedClient) → list_any (is_client owner) (map (in_place d) cs) ≡ list_any (is_client owner) cs
+pub any-placed : (owner : Characters) (d : NamedClient) (cs : List NamedClient) → list_any (is_client owner) (map (in_place d) cs) ≡ list_any (is_client owner) cs
 any-placed owner d [] = refl
 any-placed owner d (c ∷ cs) = by (is_client d.name c) refl ∙ ap (λ b. is_client owner c || b) (any-placed owner d cs)
   where

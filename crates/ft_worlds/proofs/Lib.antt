@@ -1,6 +1,9 @@
 mod Lists
 mod Orders
 mod Links
+mod Owing
+mod Prices
+mod HeldElements
 mod Served
 mod ClientEvents
 mod ConnectionNames
@@ -10,3 +13,4 @@ pub mod WorldLaws
 pub mod ReportLaws
 pub mod OfferLaws
 pub mod NameLaws
+pub mod LoadLaws

@@ -334,6 +334,10 @@ own-join kind.Leave conn origin h = (cc)
 own-join kind.Noop conn origin h = (cc)
 own-join (kind.Other word) conn origin h = (cc)
 
+-- behind its own join nothing is owed
+pub joined-none : (conns : List ℕ) (conn r : ℕ) (rest : List Entry) (e : Entry) → is_own_join (Joining conn) e.msg.kind e.origin ≡ true → Awaits conns conn r (e ∷ rest) → owed conns rest ≡ []
+joined-none conns conn r rest e o w = (subst (λ b. AwaitsHere b ((owed conns rest ≡ []) × (r ≤ e.msg.seq)) (Awaits conns conn r rest)) o w).0
+
 -- its own join
 pub linked-join : (conns : List ℕ) (queue : List Draft) (pending : List PendingEdit) (rest : List Entry) (q : NaiveSequencer) (e : Entry) (conn : ℕ) (doc : Document) → doc.number ≡ e.msg.seq
     → is_own_join (Joining conn) e.msg.kind e.origin ≡ true → IsJoining conns queue pending (e ∷ rest) q conn

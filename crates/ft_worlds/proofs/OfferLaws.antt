@@ -99,7 +99,7 @@ abbrev chosen : (NamedClient → Stepped) → Option NamedClient → Stepped
 chosen f None = Err UnknownClient
 chosen f (Some c) = f c
 
-offer-of : (w : NaiveWorld) (r : IsReachedWorld w) (name text : Characters) (p : NaiveWorld × Output) → of_client w name (λ c. offer_client w c text) ≡ Ok p → IsOfferOf w name text
+offer-of : (w : NaiveWorld) (r : IsReachedWorld 0 w) (name text : Characters) (p : NaiveWorld × Output) → of_client w name (λ c. offer_client w c text) ≡ Ok p → IsOfferOf w name text
 offer-of w r name text p h = by (find (is_client name) w.clients) refl h
   where
     same : (c : NamedClient) (m : Message) (entry : Entry) (es : List Entry) → find (is_client name) w.clients ≡ Some c → message (encode_utf8_all text) ≡ Ok m → Meets w r c

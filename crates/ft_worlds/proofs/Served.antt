@@ -1,7 +1,7 @@
 -- A client of a world: it came from the empty document by steps that it accepted, took the first messages of the log, and
 -- takes each further one.
 use Rattle.std.proofs.Common.{◌≡◌, ℕ, ◌+◌, ◌≤◌, Bool, true, false, cond, not, ◌&&◌, nat_eq, nat_lt, List, [], ◌∷◌, ◌++◌, append_assoc, Option, Some, None, Result, Ok, Err, find, ℤ, pos, negsuc, int_lt, refl, sym, ◌∙◌, ap, subst, arith}
-use Rattle.std.specs.List.{list_all}
+use Rattle.std.specs.List.{list_all, list_any}
 use Rattle.std.proofs.lemmas.Bool.Decides.{nat_tests}
 use Rattle.ft_base.proofs.Booleans.{both}
 use Rattle.ft_op.specs.declared.operations.ChannelOp.{ChannelOp}
@@ -29,7 +29,8 @@ use Rattle.ft_laws.proofs.AnyAndAll.{all-append}
 use Rattle.ft_worlds.specs.LogOrder.{Follows, RefersWithin}
 use Rattle.ft_worlds.proofs.Lists.{each-any, each-weaker}
 use Rattle.ft_worlds.proofs.Orders.{Leads, leads-more}
-use Rattle.ft_worlds.proofs.Links.{IsLinked, is_owed, linked-foreign, linked-join, linked-more, linked-oldest, linked-own}
+use Rattle.ft_worlds.proofs.Links.{IsLinked, is_owed, joined-none, linked-foreign, linked-join, linked-more, linked-oldest, linked-own}
+use Rattle.ft_worlds.proofs.Owing.{owing, owing-foreign, owing-join, owing-own}
 
 -- ---- one step more
 
@@ -161,6 +162,7 @@ pub record IsTaken (x : NaiveClient) (e : Entry) (rest : List Entry) (q : NaiveS
   pub minimum : y.doc.minimum ≡ e.msg.min
   pub conns : y.conns ≡ x.conns
   pub link : IsLinked x.conns e.msg.seq y.next_client_seq y.queue y.pending rest q y.link
+  pub owes : owing x.conns rest y.pending y.queue ≤ owing x.conns (e ∷ rest) x.pending x.queue
 
 body-is-op : (op : ChannelOp) (b : Body) → is_body op b ≡ true → is_op b ≡ true
 body-is-op op Nothing h = (cc)
@@ -178,14 +180,23 @@ sent-is-op e (edit ∷ edits) h = by edit.sent refl
         body-is-op sent.op e.msg.body (both _ (is_body sent.op e.msg.body) t).1
 
 taken-own : (x : NaiveClient) (e : Entry) (edits : List PendingEdit) (rest : List Entry) (q : NaiveSequencer) → x.doc.number ≤ e.msg.seq → is_owed x.conns e ≡ true → is_own_join x.link e.msg.kind e.origin ≡ false
-    → is_oldest e edits ≡ true → IsLinked x.conns x.doc.number x.next_client_seq x.queue edits (e ∷ rest) q x.link → IsTaken x e rest q (after_own_message (record x { pending = edits }) e)
+    → is_oldest e edits ≡ true → IsLinked x.conns x.doc.number x.next_client_seq x.queue edits (e ∷ rest) q x.link → IsTaken (record x { pending = edits }) e rest q (after_own_message (record x { pending = edits }) e)
 taken-own x e [] rest q u h o s l = (cc)
 taken-own x e (edit ∷ edits) rest q u h o s l = record {
   number = refl;
   minimum = refl;
   conns = refl;
   link = linked-own x.conns x.doc.number e.msg.seq x.next_client_seq x.queue edit edits rest q e (ack_stages e.msg.seq e.origin (λ i. i) edit.stages x.doc).1 x.link u h o l;
+  owes = let same = owing-own x.conns rest e edit edits (ack_stages e.msg.seq e.origin (λ i. i) edit.stages x.doc).1 x.queue h in omega (arith, same);
 }
+
+-- an own join is no operation
+join-unowed : (k : MsgKind) (conn origin : ℕ) (b : Bool) → is_own_join (Joining conn) k origin ≡ true → is_op_kind k && b ≡ false
+join-unowed kind.Join conn origin b h = refl
+join-unowed kind.Op conn origin b h = (cc)
+join-unowed kind.Leave conn origin b h = (cc)
+join-unowed kind.Noop conn origin b h = (cc)
+join-unowed (kind.Other word) conn origin b h = (cc)
 
 taken-join : (x : NaiveClient) (e : Entry) (rest : List Entry) (q : NaiveSequencer) (link : Link) → is_own_join link e.msg.kind e.origin ≡ true
     → IsLinked x.conns x.doc.number x.next_client_seq x.queue x.pending (e ∷ rest) q link → IsTaken x e rest q (come_online x e)
@@ -196,6 +207,7 @@ taken-join x e rest q (Joining conn) o l = record {
   minimum = refl;
   conns = refl;
   link = linked-join x.conns x.queue x.pending rest q e conn (record x.doc { number = e.msg.seq; minimum = e.msg.min }) refl o l;
+  owes = owing-join x.conns rest e (record x.doc { number = e.msg.seq; minimum = e.msg.min }) x.pending x.queue (join-unowed e.msg.kind conn e.origin (list_any (nat_eq e.origin) x.conns) o) (joined-none x.conns conn l.j.ref_seq rest e o l.awaits);
 }
 
 fitting-op : (k : MsgKind) (b : Body) → cond (is_op_kind k) (has_body b) (not (has_body b)) ≡ true → is_op b ≡ true → is_op_kind k ≡ true
@@ -240,6 +252,7 @@ taken x e rest q f l false false false ha hb hc =
       minimum = refl;
       conns = refl;
       link = linked-foreign x.conns x.doc.number e.msg.seq x.next_client_seq x.queue x.pending rest q e x.link (omega (arith, s)) hc ha l;
+      owes = let same = owing-foreign x.conns rest e x.pending x.queue hc in omega (arith, same);
     }
 
 -- a client that took the log but for these takes the first of them
@@ -247,6 +260,7 @@ pub record TakesNext (owner : ℕ → Option Characters) (count : ℕ) (q : Naiv
   pub y : NaiveClient
   pub processed : process x e ≡ Ok y
   pub served : IsServed owner count q log name rest y
+  pub owes : owing y.conns rest y.pending y.queue ≤ owing x.conns (e ∷ rest) x.pending x.queue
 
 pub served-takes : (owner : ℕ → Option Characters) (count : ℕ) (q : NaiveSequencer) (log : List Entry) (name : Characters) (rest : List Entry) (x : NaiveClient) (e : Entry) → IsServed owner count q log name (e ∷ rest) x
     → TakesNext owner count q log name rest x e
@@ -269,4 +283,5 @@ served-takes owner count q log name rest x e s =
         link = subst (λ cs. IsLinked cs y.doc.number y.next_client_seq y.queue y.pending rest q y.link) (sym t.conns)
             (subst (λ i. IsLinked x.conns i y.next_client_seq y.queue y.pending rest q y.link) (sym t.number) t.link);
       };
+      owes = subst (λ cs. owing cs rest y.pending y.queue ≤ owing x.conns (e ∷ rest) x.pending x.queue) (sym t.conns) t.owes;
     }

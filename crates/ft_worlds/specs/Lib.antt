@@ -1,4 +1,5 @@
 pub mod LogOrder
+pub mod Load
 pub mod Worlds
 pub mod Reports
 pub mod Offers

@@ -1,6 +1,7 @@
 //! What holds of every world that events make of the empty one.
 
 ghost use Rattle.ft_worlds.specs.Worlds.{AttributionsAgree, ClientsAreOfLog, ClientsAttributeTheSame, ClientsShowTheSame, CountsAreAgreed, EventsHaveTheirRefusals, LogIsInOrder, ViewsAreApplied};
+ghost use Rattle.ft_worlds.specs.Load.{ElementsAreWithinLoad, NumberIsWithinLoad};
 ghost use Rattle.ft_worlds.specs.NewNames.{ConnectionsHaveNewNames, GuestsHaveNewNames};
 ghost use Rattle.ft_worlds.specs.Offers.{OffersAreOfTheLog};
 ghost use Rattle.ft_worlds.specs.Reports.{OpenedReportsAreOne, ReportsAreOne};
@@ -56,4 +57,11 @@ pub fn counts_and_attributions_agree()
 pub fn connections_have_new_names()
     ensures clients { ConnectionsHaveNewNames }
     ensures guests { GuestsHaveNewNames }
+{}
+
+/// The load of a world bounds what it counts: the number of its sequencer, and the elements that each
+/// list of each client ever held. So each is below 2^53 where the load is.
+pub fn loads_bound()
+    ensures number { NumberIsWithinLoad }
+    ensures elements { ElementsAreWithinLoad }
 {}

@@ -1,0 +1,8 @@
+use Rattle.ft_worlds.proofs.LoadLaws.{elements-within-load, number-within-load}
+use Rattle.ft_worlds.proofs.worlds.loads_bound.Goals as goal
+
+pub returns-clause-number : goal.returns-clause-number
+returns-clause-number c = number-within-load
+
+pub returns-clause-elements : goal.returns-clause-elements
+returns-clause-elements c = elements-within-load
