@@ -3,6 +3,8 @@ pub mod Refusals
 pub mod SameMessage
 pub mod EventGrammar
 pub mod WrittenEvent
+pub mod WellFormedEvent
+pub mod EventLaws
 pub mod AnswerTexts
 pub mod World
 pub mod Walk

@@ -2,6 +2,7 @@
 #![tactic(auto)]
 
 pub mod events;
+pub mod laws;
 pub mod nacks;
 pub mod refusals;
 
