@@ -29,13 +29,15 @@ use Rattle.ft_laws.proofs.Booleans.{never}
 use Rattle.ft_laws.proofs.ClientsAgree.{clients-agree}
 use Rattle.ft_laws.proofs.CountedEntries.{after_first, with_first}
 use Rattle.ft_laws.proofs.NumberTests.{same_number}
-use Rattle.ft_msg.specs.WellFormed.{has_body}
+use Rattle.ft_msg.specs.WellFormed.{IsWellFormedBody, has_body}
 use Rattle.ft_worlds.specs.LogOrder.{Follows}
 use Rattle.ft_worlds.proofs.Lists.{each-any, each-found, each-more, each-weaker, filter-more, find-changed, find-filtered, find-mapped, find-more, find-new}
 use Rattle.ft_worlds.proofs.Orders.{IsAccepted, IsBase, IsBounded, Leads, after_draft, draft-numbered, gone, join-numbered, leads-more, leads-up, leave-numbered, new_connection, numbered-base, numbered-follows, others, submit-accepted}
 use Rattle.ft_worlds.proofs.Links.{AnyEdits, HasJoined, IsAnswered, IsDraftOf, IsFirstQueued, IsLinked, IsOffline, IsOnline, IsQueue, IsQueued, answered-more, answered-next, answered-weaker, awaits-new, is_owed, owed, owed-more, queue-more, queue-up, queued-more, queued-noop}
-use Rattle.ft_worlds.proofs.Owing.{behind, edit_cost, entry_cost, noops, op_inserts, owing, owing-edited, owing-sent, owing_of, stage_inserts, total, total-append}
+use Rattle.ft_worlds.proofs.Owing.{answered-behind, behind, each-behind_some, edit_cost, entry_cost, noops, op_inserts, owing, owing-edited, owing-sent, owing_of, stage_inserts, total, total-append}
 use Rattle.ft_worlds.proofs.Prices.{client-priced}
+use Rattle.ft_worlds.proofs.FormedClients.{IsFormed, IsFormedEdit, IsFormedSent}
+use Rattle.ft_props.specs.Element.{ListElement}
 use Rattle.ft_worlds.proofs.Served.{IsOwned, IsServed, entry_of, run-more, taken-more}
 
 -- ---- numbers of clients that took the same
@@ -314,7 +316,9 @@ pub sequence-logged : (count : ℕ) (q : NaiveSequencer) (log : List Entry) (con
 sequence-logged count q log conn j d b f a =
     let here = each-found (IsBounded q.minimum q.number count) (is_joined conn) q.joined j f b.joined in
     let same : conn ≡ j.conn = same_number conn j.conn here.1 in
-    let n = draft-numbered count q log j d b here.0.known a in
+    let last = (each-found (λ (i : JoinedConnection). i.client_seq ≤ q.number) (is_joined conn) q.joined j f b.sent).0 in
+    let next = a.next in
+    let n = draft-numbered count q log j d b here.0.known a (omega (arith, last, next)) in
     record {
       base = numbered-base count count (after_draft j d q) q log (sequence q j d).1 (omega arith) b n;
       follows = numbered-follows count (after_draft j d q) q (sequence q j d).1 b.within n;
@@ -332,6 +336,7 @@ pub record IsSent (owner : ℕ → Option Characters) (count : ℕ) (q : NaiveSe
   pub owned : owner conn ≡ Some name
   pub served : IsServed owner count p.0 (log ++ (p.1 ∷ [])) name (rest ++ (p.1 ∷ [])) (record x { queue = ds })
   pub owes : owing x.conns (rest ++ (p.1 ∷ [])) x.pending ds + entry_cost p.1 ≤ owing x.conns rest x.pending (d ∷ ds)
+  pub formed : IsFormed x → IsWellFormedBody p.1.msg.body
 
 -- a client's draft is accepted
 pub draft-accepted : (count : ℕ) (q : NaiveSequencer) (log : List Entry) (conn number next : ℕ) (j : JoinedConnection) (d : Draft) (ds : List Draft) → IsBase count q log → find (is_joined conn) q.joined ≡ Some j
@@ -341,6 +346,17 @@ draft-accepted count q log conn number next j d ds b f u h =
     let low = here.above in
     let up = queue-up (j.client_seq + 1) d.ref_seq ds number next h.2 in
     record { next = h.0; above = omega (arith, low, h.1); rising = h.1; below = omega (arith, up, u) }
+
+-- the first draft of the queue is well formed where the pending edits are
+queued-formed : (conn : ℕ) (xs : List ListElement) (es : List Entry) (pending : List PendingEdit) (d : Draft) (ds : List Draft) → IsAnswered es pending (λ ys. IsQueued conn (d ∷ ds) ys) → Each (IsFormedEdit xs) pending → IsWellFormedBody d.body
+queued-formed conn xs es pending d ds a f =
+    by d.body (behind es pending) (answered-behind es pending (λ ys. IsQueued conn (d ∷ ds) ys) a) (each-behind_some (IsFormedEdit xs) es pending f)
+  where
+    by : (b : Body) (edits : List PendingEdit) → IsFirstQueued conn d b edits (λ ys. IsQueued conn ds ys) → Each (IsFormedEdit xs) edits → IsWellFormedBody b
+    by Nothing edits h g = tt
+    by (Op op) [] h g = absurd h
+    by (Op op) (edit ∷ edits) h g = subst IsFormedSent h.0.0 g.0.sent
+    by (Elsewhere address) edits h g = absurd h
 
 owed-body : (b : Body) (t : Bool) → t ≡ true → is_op_kind (kind_of b) && t ≡ has_body b
 owed-body Nothing t h = refl
@@ -381,6 +397,7 @@ sent-online owner count q log name rest x conn d ds b k u l v =
         link = subst (λ t. IsLinked x.conns x.doc.number x.next_client_seq ds x.pending (rest ++ (e ∷ [])) (sequence q j d).0 t) (sym (k ∙ ap Online same)) online;
       };
       owes = owing-sent conn x.conns rest e x.pending d ds refl (owed-body d.body (list_any (nat_eq j.conn) x.conns) own) l.answered (client-priced v.steps x v.run);
+      formed = λ f. queued-formed conn x.doc.text.items (owed x.conns rest) x.pending d ds l.answered f;
     }
 
 pub served-sends : (owner : ℕ → Option Characters) (count : ℕ) (q : NaiveSequencer) (log : List Entry) (name : Characters) (rest : List Entry) (x : NaiveClient) (conn : ℕ) (d : Draft) (ds : List Draft) → IsBase count q log

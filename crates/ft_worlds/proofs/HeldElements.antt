@@ -4,7 +4,7 @@ use Rattle.std.specs.List.{list_all}
 use Rattle.std.proofs.lemmas.Bool.Decides.{nat_tests}
 use Rattle.ft_base.specs.declared.stamps.Stamp.{Stamp}
 use Rattle.ft_base.specs.declared.stamps.Stamp.TheVariants.{Acked, Local}
-use Rattle.ft_base.specs.Scan.{at, len, one_more_if}
+use Rattle.ft_base.specs.Scan.{at, change_range, len, one_more_if, put}
 use Rattle.ft_base.specs.Visibility.{is_acked, is_of_stage}
 use Rattle.ft_base.proofs.Booleans.{all_three, both}
 use Rattle.std.proofs.lemmas.List.{length-replicate}
@@ -15,8 +15,8 @@ use Rattle.ft_op.specs.declared.operations.Target.TheVariants.{Rows, Cols}
 use Rattle.ft_msg.specs.declared.messages.Body.{Body}
 use Rattle.ft_msg.specs.declared.messages.Body.TheVariants.{Nothing, Op, Elsewhere}
 use Rattle.ft_msg.specs.declared.messages.Entry.{Entry}
-use Rattle.ft_props.specs.Properties.{PropertyList}
-use Rattle.ft_props.specs.Element.{ElementContent, GridUnit, ListElement, is_pending, seen_by}
+use Rattle.ft_props.specs.Properties.{PropertyList, apply}
+use Rattle.ft_props.specs.Element.{ElementContent, GridUnit, ListElement, is_pending, new_elements, seen_by, sequenced_elements, with_annotation, with_removal, without_pending}
 use Rattle.ft_props.specs.Steps.{is_inserted_by}
 use Rattle.ft_op.specs.Operation.{OnGrid, OnIntervals, OnText, SubOperation, segment_contents, sub_operations}
 use Rattle.ft_op.specs.Document.{Document, cell_effect, effect, effects, empty, ends_of, given_ends_fit, with_skip}
@@ -28,8 +28,10 @@ use Rattle.ft_laws.specs.Agreement.{IsRun}
 use Rattle.ft_msg.specs.ClientSteps.{ClientStep, taken_entries}
 use Rattle.ft_laws.specs.Reconnecting.{has_insertion_of, has_marks_of, has_removal_of, inserts_text, is_stage_of, removes_text}
 use Rattle.ft_laws.specs.Sequencing.{Each, IsBlockOf, IsTyped, inserts_in, removes_in}
+use Rattle.ft_laws.proofs.AgreedStage.{len-put-add}
 use Rattle.ft_laws.proofs.ClientsAgree.{clients-agree}
 use Rattle.ft_laws.proofs.EveryClientReady.{every-client-ready}
+use Rattle.ft_laws.proofs.RangesOfLists.{len-range}
 use Rattle.ft_worlds.specs.Load.{IsHeldWithin}
 use Rattle.ft_worlds.proofs.Owing.{body_inserts, edit_inserts, stage_inserts, total, total-append}
 
@@ -99,6 +101,105 @@ entry-made doc e =
 entries-made : (es : List Entry) (doc : Document) → IsMadeWithin (total entry_inserts es) doc (take_entries doc es)
 entries-made [] doc = made-itself 0 doc
 entries-made (e ∷ es) doc = made-then (entry_inserts e) (total entry_inserts es) doc (take_entry doc e) _ (entry-made doc e) (entries-made es (take_entry doc e))
+
+-- ---- how many elements there are
+
+-- how many elements a list has, seen or not
+abbrev pub size : List ListElement → ℕ
+size xs = len (λ e. true) xs
+
+new-size : (n : ℕ) (ins : Stamp) (dels : List Stamp) (by : Option Stamp) (props : PropertyList) (bs : List ElementContent) → size (new_elements n ins dels by props bs) ≡ length bs
+new-size n ins dels by props [] = refl
+new-size n ins dels by props (b ∷ bs) = ap suc (new-size (n + 1) ins dels by props bs)
+
+put-size : (s c r p n : ℕ) (by : Option Stamp) (props : PropertyList) (bs : List ElementContent) (xs : List ListElement) → size (put (seen_by r c) is_pending p (new_elements n (Acked s c) [] by props bs) xs) ≡ size xs + length bs
+put-size s c r p n by props bs xs = sums _ _ _ _ (len-put-add (λ e. true) (seen_by r c) is_pending p (new_elements n (Acked s c) [] by props bs) xs) (new-size n (Acked s c) [] by props bs)
+  where
+    sums : (a i j k : ℕ) → k ≡ j + i → j ≡ a → k ≡ i + a
+    sums a i j k f g = omega arith
+
+range-size : (test : ListElement → Bool) (f : ListElement → ListElement) (p q : ℕ) (xs : List ListElement) → size (change_range test p q f xs) ≡ size xs
+range-size test f p q xs = len-range (λ e. true) test f (λ e. refl) p q 0 xs
+
+-- the second document has at most n elements more in each list
+pub record IsGrownWithin (n : ℕ) (doc after : Document) : Type 0 where
+  pub text : size after.text.items ≤ size doc.text.items + n
+  pub rows : size after.rows.items ≤ size doc.rows.items + n
+  pub cols : size after.cols.items ≤ size doc.cols.items + n
+
+grown-choice : (n : ℕ) (doc : Document) (b : Bool) (p q : Document) → IsGrownWithin n doc p → IsGrownWithin n doc q → IsGrownWithin n doc (cond b p q)
+grown-choice n doc true p q f g = f
+grown-choice n doc false p q f g = g
+
+grown-skipped : (n : ℕ) (doc : Document) → IsGrownWithin n doc (with_skip doc)
+grown-skipped n doc = record { text = omega arith; rows = omega arith; cols = omega arith }
+
+grown-then : (m n : ℕ) (doc p q : Document) → IsGrownWithin m doc p → IsGrownWithin n p q → IsGrownWithin (m + n) doc q
+grown-then m n doc p q f g = record {
+  text = let a = f.text in let b = g.text in omega (arith, a, b);
+  rows = let a = f.rows in let b = g.rows in omega (arith, a, b);
+  cols = let a = f.cols in let b = g.cols in omega (arith, a, b);
+}
+
+module _ (s c r : ℕ) where
+  effect-grown : (doc : Document) (o : SubOperation) → IsGrownWithin (inserted o) doc (effect doc s c r o)
+  effect-grown doc (OnText (Insert p seg props)) =
+      let e = put-size s c r p doc.text.made (Some (Acked s c)) (apply [] props) (segment_contents seg) doc.text.items in
+      grown-choice _ doc (nat_le p (len (seen_by r c) doc.text.items)) _ _ (record { text = omega (arith, e); rows = omega arith; cols = omega arith }) (grown-skipped _ doc)
+  effect-grown doc (OnText (Remove p q)) =
+      let e = range-size (seen_by r c) (with_removal s c) p q doc.text.items in
+      grown-choice _ doc (nat_le q (len (seen_by r c) doc.text.items)) _ _ (record { text = omega (arith, e); rows = omega arith; cols = omega arith }) (grown-skipped _ doc)
+  effect-grown doc (OnText (Annotate p q changes)) =
+      let e = range-size (seen_by r c) (with_annotation changes) p q doc.text.items in
+      grown-choice _ doc (nat_le q (len (seen_by r c) doc.text.items)) _ _ (record { text = omega (arith, e); rows = omega arith; cols = omega arith }) (grown-skipped _ doc)
+  effect-grown doc (OnIntervals op) = grown-choice _ doc (given_ends_fit (len (seen_by r c) doc.text.items) (ends_of op)) _ _ (record { text = omega arith; rows = omega arith; cols = omega arith }) (grown-skipped _ doc)
+  effect-grown doc (OnGrid (SpliceIn Rows p count)) =
+      let e = put-size s c r p doc.rows.made None [] (replicate count GridUnit) doc.rows.items in
+      let f = replicated count in
+      grown-choice _ doc (nat_le p (len (seen_by r c) doc.rows.items)) _ _ (record { text = omega arith; rows = omega (arith, e, f); cols = omega arith }) (grown-skipped _ doc)
+  effect-grown doc (OnGrid (SpliceIn Cols p count)) =
+      let e = put-size s c r p doc.cols.made None [] (replicate count GridUnit) doc.cols.items in
+      let f = replicated count in
+      grown-choice _ doc (nat_le p (len (seen_by r c) doc.cols.items)) _ _ (record { text = omega arith; rows = omega arith; cols = omega (arith, e, f) }) (grown-skipped _ doc)
+  effect-grown doc (OnGrid (SpliceOut Rows p q)) =
+      let e = range-size (seen_by r c) (with_removal s c) p q doc.rows.items in
+      grown-choice _ doc (nat_le q (len (seen_by r c) doc.rows.items)) _ _ (record { text = omega arith; rows = omega (arith, e); cols = omega arith }) (grown-skipped _ doc)
+  effect-grown doc (OnGrid (SpliceOut Cols p q)) =
+      let e = range-size (seen_by r c) (with_removal s c) p q doc.cols.items in
+      grown-choice _ doc (nat_le q (len (seen_by r c) doc.cols.items)) _ _ (record { text = omega arith; rows = omega arith; cols = omega (arith, e) }) (grown-skipped _ doc)
+  effect-grown doc (OnGrid (Set i j value)) = by (at (seen_by r c) i doc.rows.items) (at (seen_by r c) j doc.cols.items)
+    where
+      by : (o p : Option ListElement) → IsGrownWithin 0 doc (cell_effect doc o p value)
+      by (Some x) (Some y) = record { text = omega arith; rows = omega arith; cols = omega arith }
+      by (Some x) None = record { text = omega arith; rows = omega arith; cols = omega arith }
+      by None p = record { text = omega arith; rows = omega arith; cols = omega arith }
+
+  effects-grown : (os : List SubOperation) (doc : Document) → IsGrownWithin (total inserted os) doc (effects doc s c r os)
+  effects-grown [] doc = record { text = omega arith; rows = omega arith; cols = omega arith }
+  effects-grown (o ∷ os) doc = grown-then (inserted o) (total inserted os) doc (effect doc s c r o) _ (effect-grown doc o) (effects-grown os (effect doc s c r o))
+
+  body-grown : (b : Body) (doc : Document) → IsGrownWithin (body_inserts b) doc (body_effect doc s c r b)
+  body-grown Nothing doc = record { text = omega arith; rows = omega arith; cols = omega arith }
+  body-grown (Op op) doc = effects-grown (sub_operations op) doc
+  body-grown (Elsewhere address) doc = record { text = omega arith; rows = omega arith; cols = omega arith }
+
+entry-grown : (doc : Document) (e : Entry) → IsGrownWithin (entry_inserts e) doc (take_entry doc e)
+entry-grown doc e =
+    let h = body-grown e.msg.seq e.origin (reference_number e.msg.ref_seq) e.msg.body doc in
+    record { text = h.text; rows = h.rows; cols = h.cols }
+
+entries-grown : (es : List Entry) (doc : Document) → IsGrownWithin (total entry_inserts es) doc (take_entries doc es)
+entries-grown [] doc = record { text = omega arith; rows = omega arith; cols = omega arith }
+entries-grown (e ∷ es) doc = grown-then (entry_inserts e) (total entry_inserts es) doc (take_entry doc e) _ (entry-grown doc e) (entries-grown es (take_entry doc e))
+
+-- each element is sequenced or pending
+two-kinds : (xs : List ListElement) → size xs ≡ size (sequenced_elements xs) + len is_pending xs
+two-kinds [] = omega arith
+two-kinds (e ∷ xs) = by (is_acked e.ins) (two-kinds xs)
+  where
+    by : (b : Bool) → size xs ≡ size (sequenced_elements xs) + len is_pending xs → suc (size xs) ≡ size (cond b (without_pending e ∷ sequenced_elements xs) (sequenced_elements xs)) + one_more_if (not b) (len is_pending xs)
+    by true h = omega (arith, h)
+    by false h = omega (arith, h)
 
 -- ---- how many elements are pending
 
@@ -209,12 +310,15 @@ stages-of : (edits : List PendingEdit) → total stage_inserts (flat_map (λ (e 
 stages-of [] = refl
 stages-of (e ∷ edits) = let ih = stages-of edits in let sum = total-append stage_inserts e.stages (flat_map (λ (e : PendingEdit). e.stages) edits) in omega (arith, ih, sum)
 
--- what a client's lists ever held
-pub held-within : (steps : List ClientStep) (x : NaiveClient) → IsRun steps x → IsHeldWithin (total entry_inserts (taken_entries steps) + total edit_inserts x.pending) x.doc
-held-within steps x r =
+-- each list has at most n pending elements
+pub record IsPendingWithin (n : ℕ) (doc : Document) : Type 0 where
+  pub text : len is_pending doc.text.items ≤ n
+  pub rows : len is_pending doc.rows.items ≤ n
+  pub cols : len is_pending doc.cols.items ≤ n
+
+pending-within : (steps : List ClientStep) (x : NaiveClient) → IsRun steps x → IsPendingWithin (total edit_inserts x.pending) x.doc
+pending-within steps x r =
     let ready = every-client-ready steps x r.made r.bodies in
-    let agrees = clients-agree steps x r.made r.bodies in
-    let made = entries-made (taken_entries steps) empty in
     let stages = stages_of x in
     let typed = λ (t : Stage). IsTyped t.stage x.doc t.names t.sub_operation in
     let sum = stages-of x.pending in
@@ -224,14 +328,42 @@ held-within steps x r =
     let text_less = stages-less (counted_of inserts_text x.doc.text.items) typed (λ t h. text-stage x.doc t t.sub_operation h) stages ready.typed in
     let rows_less = stages-less (counted_of (inserts_in Rows) x.doc.rows.items) typed (λ t h. rows-stage x.doc t t.sub_operation h) stages ready.typed in
     let cols_less = stages-less (counted_of (inserts_in Cols) x.doc.cols.items) typed (λ t h. cols-stage x.doc t t.sub_operation h) stages ready.typed in
+    record { text = omega (arith, sum, text_pending, text_less); rows = omega (arith, sum, rows_pending, rows_less); cols = omega (arith, sum, cols_pending, cols_less) }
+
+-- what a client's lists ever held
+pub held-within : (steps : List ClientStep) (x : NaiveClient) → IsRun steps x → IsHeldWithin (total entry_inserts (taken_entries steps) + total edit_inserts x.pending) x.doc
+held-within steps x r =
+    let agrees = clients-agree steps x r.made r.bodies in
+    let made = entries-made (taken_entries steps) empty in
+    let pending = pending-within steps x r in
     let text_made : x.doc.text.made ≡ (agreed (taken_entries steps)).text.made = ap (λ (d : Document). d.text.made) agrees in
     let rows_made : x.doc.rows.made ≡ (agreed (taken_entries steps)).rows.made = ap (λ (d : Document). d.rows.made) agrees in
     let cols_made : x.doc.cols.made ≡ (agreed (taken_entries steps)).cols.made = ap (λ (d : Document). d.cols.made) agrees in
-    let a = made.text in
-    let b = made.rows in
-    let c = made.cols in
     record {
-      text = omega (arith, sum, text_pending, text_less, text_made, a);
-      rows = omega (arith, sum, rows_pending, rows_less, rows_made, b);
-      cols = omega (arith, sum, cols_pending, cols_less, cols_made, c);
+      text = let a = made.text in let b = pending.text in omega (arith, text_made, a, b);
+      rows = let a = made.rows in let b = pending.rows in omega (arith, rows_made, a, b);
+      cols = let a = made.cols in let b = pending.cols in omega (arith, cols_made, a, b);
+    }
+
+-- each list has at most n elements
+pub record IsSizedWithin (n : ℕ) (doc : Document) : Type 0 where
+  pub text : size doc.text.items ≤ n
+  pub rows : size doc.rows.items ≤ n
+  pub cols : size doc.cols.items ≤ n
+
+pub sized-within : (steps : List ClientStep) (x : NaiveClient) → IsRun steps x → IsSizedWithin (total entry_inserts (taken_entries steps) + total edit_inserts x.pending) x.doc
+sized-within steps x r =
+    let agrees = clients-agree steps x r.made r.bodies in
+    let grown = entries-grown (taken_entries steps) empty in
+    let pending = pending-within steps x r in
+    let text_size : size (sequenced_elements x.doc.text.items) ≡ size (agreed (taken_entries steps)).text.items = ap (λ (d : Document). size d.text.items) agrees in
+    let rows_size : size (sequenced_elements x.doc.rows.items) ≡ size (agreed (taken_entries steps)).rows.items = ap (λ (d : Document). size d.rows.items) agrees in
+    let cols_size : size (sequenced_elements x.doc.cols.items) ≡ size (agreed (taken_entries steps)).cols.items = ap (λ (d : Document). size d.cols.items) agrees in
+    let text_both = two-kinds x.doc.text.items in
+    let rows_both = two-kinds x.doc.rows.items in
+    let cols_both = two-kinds x.doc.cols.items in
+    record {
+      text = let a = grown.text in let b = pending.text in omega (arith, text_size, text_both, a, b);
+      rows = let a = grown.rows in let b = pending.rows in omega (arith, rows_size, rows_both, a, b);
+      cols = let a = grown.cols in let b = pending.cols in omega (arith, cols_size, cols_both, a, b);
     }

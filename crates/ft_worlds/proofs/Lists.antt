@@ -14,6 +14,10 @@ pub each-more : {A : Type 0} (P : A → Type 0) (xs : List A) (y : A) → Each P
 each-more P [] y h p = (p, h)
 each-more P (x ∷ xs) y h p = (h.0, each-more P xs y h.1 p)
 
+pub each-joined : {A : Type 0} (P : A → Type 0) (xs ys : List A) → Each P xs → Each P ys → Each P (xs ++ ys)
+each-joined P [] ys h g = g
+each-joined P (x ∷ xs) ys h g = (h.0, each-joined P xs ys h.1 g)
+
 pub each-mapped : {A B : Type 0} (P : A → Type 0) (Q : B → Type 0) (f : A → B) → ((x : A) → P x → Q (f x)) → (xs : List A) → Each P xs → Each Q (map f xs)
 each-mapped P Q f g [] h = h
 each-mapped P Q f g (x ∷ xs) h = (g x h.0, each-mapped P Q f g xs h.1)

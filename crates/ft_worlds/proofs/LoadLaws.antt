@@ -1,27 +1,13 @@
 -- The load bounds the number of the sequencer and the elements that clients ever held.
-use Rattle.std.proofs.Common.{◌≡◌, ℕ, ◌+◌, ◌≤◌, true, List, [], ◌∷◌, ◌++◌, length, Option, Some, None, sym, ◌∙◌, ap, arith}
-use Rattle.ft_base.proofs.Booleans.{both}
-use Rattle.ft_op.specs.declared.operations.ChannelOp.{ChannelOp}
-use Rattle.ft_msg.specs.declared.messages.Body.{Body}
-use Rattle.ft_msg.specs.declared.messages.Body.TheVariants.{Nothing, Op, Elsewhere}
-use Rattle.ft_msg.specs.declared.messages.Draft.{Draft}
+use Rattle.std.proofs.Common.{◌≡◌, ℕ, ◌+◌, ◌≤◌, List, [], ◌∷◌, length, arith}
 use Rattle.ft_msg.specs.declared.messages.Entry.{Entry}
-use Rattle.ft_msg.specs.declared.views.Link.{Link}
-use Rattle.ft_msg.specs.declared.views.Link.TheVariants.{Offline, Joining, Online}
-use Rattle.ft_op.proofs.SameOperations.{same_op-Decides}
-use Rattle.ft_msg.specs.Client.{PendingEdit, SentAs}
-use Rattle.ft_msg.specs.ClientSteps.{taken_entries}
-use Rattle.ft_msg.specs.Process.{is_body, is_sent_as}
-use Rattle.ft_seqr.specs.Sequencer.{NaiveSequencer}
 use Rattle.ft_seqr.specs.World.{NamedClient, NaiveWorld}
 use Rattle.ft_laws.specs.Sequencing.{Each}
 use Rattle.ft_worlds.specs.Load.{ElementsAreWithinLoad, IsHeldWithin, NumberIsWithinLoad}
 use Rattle.ft_worlds.specs.Worlds.{reached}
 use Rattle.ft_worlds.proofs.Orders.{Leads}
-use Rattle.ft_worlds.proofs.Links.{AnyEdits, IsAnswered, IsLinked, IsQueued, answered-weaker, is_owed, owed}
-use Rattle.ft_worlds.proofs.Owing.{IsPriced, IsPricedAs, behind, body_inserts, debt, edit_cost, edit_inserts, entry_cost, op_inserts, owing_of, total, total-append, total-filter, total-less}
-use Rattle.ft_worlds.proofs.Prices.{client-priced}
-use Rattle.ft_worlds.proofs.HeldElements.{entry_inserts, held-within}
+use Rattle.ft_worlds.proofs.Owing.{debt, entry_cost, owing_of, total}
+use Rattle.ft_worlds.proofs.Sizes.{served-held}
 use Rattle.ft_worlds.proofs.WorldEvents.{IsReachedWorld, Serves, debt-is}
 use Rattle.ft_worlds.proofs.WorldLaws.{world-reached}
 
@@ -46,52 +32,13 @@ number-within-load events =
 
 -- ---- elements
 
--- the message inserts what the edit does
-body-inserts : (n : ℕ) (op : ChannelOp) (b : Body) → op_inserts op ≡ n → is_body op b ≡ true → n ≡ body_inserts b
-body-inserts n op Nothing e h = (cc)
-body-inserts n op (Op other) e h = sym e ∙ ap op_inserts ((same_op-Decides op other).0 h)
-body-inserts n op (Elsewhere address) e h = (cc)
-
-sent-inserts : (e : Entry) (edit : PendingEdit) (sent : Option SentAs) → IsPricedAs (edit_inserts edit) sent → is_sent_as e (record edit { sent = sent }) ≡ true → edit_inserts edit ≡ entry_inserts e
-sent-inserts e edit None p h = (cc)
-sent-inserts e edit (Some sent) p h = body-inserts (edit_inserts edit) sent.op e.msg.body p (both _ (is_body sent.op e.msg.body) h).1
-
--- the edits insert what the messages do that answer them, and what is behind these
-answered-insert : (es : List Entry) (edits : List PendingEdit) → Each IsPriced edits → IsAnswered es edits AnyEdits → total edit_inserts edits ≤ total entry_inserts es + total edit_cost (behind es edits)
-answered-insert [] edits p h = let less = total-less edit_cost edit_inserts (λ e. omega arith) edits in omega (arith, less)
-answered-insert (e ∷ es) [] p h = absurd h
-answered-insert (e ∷ es) (edit ∷ edits) p h =
-    let ih = answered-insert es edits p.1 h.1 in
-    let here = sent-inserts e edit edit.sent p.0 h.0 in
-    omega (arith, ih, here)
-
-linked-answered : (conns : List ℕ) (number next : ℕ) (queue : List Draft) (pending : List PendingEdit) (rest : List Entry) (q : NaiveSequencer) (link : Link) → IsLinked conns number next queue pending rest q link
-    → IsAnswered (owed conns rest) pending AnyEdits
-linked-answered conns number next queue pending rest q Offline l = l.answered
-linked-answered conns number next queue pending rest q (Joining conn) l = l.answered
-linked-answered conns number next queue pending rest q (Online conn) l = answered-weaker (owed conns rest) pending (λ edits. IsQueued conn queue edits) AnyEdits (λ ys g. tt) l.answered
-
 -- a client's lists held what the log costs and what the client owes, at most
-served-held : (w : NaiveWorld) (r : IsReachedWorld 0 w) (c : NamedClient) → Serves r.owner (length w.names) w.sequencer w.log c → debt w.log c ≤ total (debt w.log) w.clients → IsHeldWithin w.load c.client.doc
-served-held w r c s less =
-    let x = c.client in
-    let v = s.served in
-    let held = held-within v.steps x v.run in
-    let answered = answered-insert (owed x.conns s.rest) x.pending (client-priced v.steps x v.run) (linked-answered x.conns x.doc.number x.next_client_seq x.queue x.pending s.rest w.sequencer x.link v.link) in
-    let some = total-filter entry_inserts (is_owed x.conns) s.rest in
-    let sum = total-append entry_inserts (taken_entries v.steps) s.rest in
-    let all : total entry_inserts (taken_entries v.steps ++ s.rest) ≡ total entry_inserts w.log = ap (total entry_inserts) v.entries in
-    let costs = total-less entry_cost entry_inserts (λ e. omega arith) w.log in
-    let owes : debt w.log c ≡ owing_of x s.rest = debt-is r.owner (length w.names) w.sequencer w.log c.name s.rest x v in
+client-held : (w : NaiveWorld) (r : IsReachedWorld ⊥ 0 w) (c : NamedClient) → Serves ⊥ r.owner (length w.names) w.sequencer w.log c → debt w.log c ≤ total (debt w.log) w.clients → IsHeldWithin w.load c.client.doc
+client-held w r c s less =
+    let held = served-held r.owner (length w.names) w.sequencer w.log c.name s.rest c.client s.served in
+    let owes : debt w.log c ≡ owing_of c.client s.rest = debt-is ⊥ r.owner (length w.names) w.sequencer w.log c.name s.rest c.client s.served in
     let p = r.paid in
-    let a = held.text in
-    let b = held.rows in
-    let d = held.cols in
-    record {
-      text = omega (arith, answered, some, sum, all, costs, owes, p, a, less);
-      rows = omega (arith, answered, some, sum, all, costs, owes, p, b, less);
-      cols = omega (arith, answered, some, sum, all, costs, owes, p, d, less);
-    }
+    record { text = let a = held.text in omega (arith, a, owes, p, less); rows = let a = held.rows in omega (arith, a, owes, p, less); cols = let a = held.cols in omega (arith, a, owes, p, less) }
 
 -- what holds of each that costs at most what all cost
 each-below : {A : Type 0} (f : A → ℕ) (P Q : A → Type 0) (n : ℕ) → ((x : A) → P x → f x ≤ n → Q x) → (xs : List A) → total f xs ≤ n → Each P xs → Each Q xs
@@ -102,4 +49,4 @@ pub elements-within-load : ElementsAreWithinLoad
 elements-within-load events =
     let w = reached events in
     let r = world-reached events in
-    each-below (debt w.log) (Serves r.owner (length w.names) w.sequencer w.log) (λ (c : NamedClient). IsHeldWithin w.load c.client.doc) (total (debt w.log) w.clients) (λ c s l. served-held w r c s l) w.clients (omega arith) r.clients
+    each-below (debt w.log) (Serves ⊥ r.owner (length w.names) w.sequencer w.log) (λ (c : NamedClient). IsHeldWithin w.load c.client.doc) (total (debt w.log) w.clients) (λ c s l. client-held w r c s l) w.clients (omega arith) r.clients

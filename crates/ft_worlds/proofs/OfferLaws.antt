@@ -99,38 +99,38 @@ abbrev chosen : (NamedClient → Stepped) → Option NamedClient → Stepped
 chosen f None = Err UnknownClient
 chosen f (Some c) = f c
 
-offer-of : (w : NaiveWorld) (r : IsReachedWorld 0 w) (name text : Characters) (p : NaiveWorld × Output) → of_client w name (λ c. offer_client w c text) ≡ Ok p → IsOfferOf w name text
+offer-of : (w : NaiveWorld) (r : IsReachedWorld ⊥ 0 w) (name text : Characters) (p : NaiveWorld × Output) → of_client w name (λ c. offer_client w c text) ≡ Ok p → IsOfferOf w name text
 offer-of w r name text p h = by (find (is_client name) w.clients) refl h
   where
-    same : (c : NamedClient) (m : Message) (entry : Entry) (es : List Entry) → find (is_client name) w.clients ≡ Some c → message (encode_utf8_all text) ≡ Ok m → Meets w r c
+    same : (c : NamedClient) (m : Message) (entry : Entry) (es : List Entry) → find (is_client name) w.clients ≡ Some c → message (encode_utf8_all text) ≡ Ok m → Meets ⊥ w r c
         → ahead_of w c.client ≡ entry ∷ es → (b : Bool) → same_message m entry.msg ≡ b → cond b (now w c (processed c.client (entry ∷ []))) (Err (Foreign m.seq)) ≡ Ok p → IsOfferOf w name text
     same c m entry es f a s n true e g =
-        let rest : entry ∷ es ≡ s.rest = sym n ∙ ahead-is r.owner w c s.rest s.served in
+        let rest : entry ∷ es ≡ s.rest = sym n ∙ ahead-is ⊥ r.owner w c s.rest s.served in
         let t = served-takes r.owner (length w.names) w.sequencer w.log c.name es c.client entry (subst (λ xs. IsServed r.owner (length w.names) w.sequencer w.log c.name xs c.client) (sym rest) s.served) in
         record { c = c; found = f; entry = entry; later = es; next = n; reads = a ∙ ap Ok (message-same m entry.msg e); after = t.y; takes = t.processed }
     same c m entry es f a s n false e g = (cc)
 
-    next : (c : NamedClient) (m : Message) (es : List Entry) → find (is_client name) w.clients ≡ Some c → message (encode_utf8_all text) ≡ Ok m → Meets w r c
+    next : (c : NamedClient) (m : Message) (es : List Entry) → find (is_client name) w.clients ≡ Some c → message (encode_utf8_all text) ≡ Ok m → Meets ⊥ w r c
         → ahead_of w c.client ≡ es → offer_next w c m es ≡ Ok p → IsOfferOf w name text
     next c m [] f a s n g = (cc)
     next c m (entry ∷ es) f a s n g = same c m entry es f a s n (same_message m entry.msg) refl g
 
-    ordered : (c : NamedClient) (m : Message) → find (is_client name) w.clients ≡ Some c → message (encode_utf8_all text) ≡ Ok m → Meets w r c → (b : Bool)
+    ordered : (c : NamedClient) (m : Message) → find (is_client name) w.clients ≡ Some c → message (encode_utf8_all text) ≡ Ok m → Meets ⊥ w r c → (b : Bool)
         → cond b (offer_next w c m (ahead_of w c.client)) (Err (OutOfOrder (c.client.doc.number + 1) m.seq)) ≡ Ok p → IsOfferOf w name text
     ordered c m f a s true g = next c m (ahead_of w c.client) f a s refl g
     ordered c m f a s false g = (cc)
 
-    read : (c : NamedClient) → find (is_client name) w.clients ≡ Some c → Meets w r c → (a : Result Message Cause) → message (encode_utf8_all text) ≡ a → offered w c a ≡ Ok p → IsOfferOf w name text
+    read : (c : NamedClient) → find (is_client name) w.clients ≡ Some c → Meets ⊥ w r c → (a : Result Message Cause) → message (encode_utf8_all text) ≡ a → offered w c a ≡ Ok p → IsOfferOf w name text
     read c f s (Err fault) a g = (cc)
     read c f s (Ok m) a g = ordered c m f a s (nat_eq m.seq (c.client.doc.number + 1)) g
 
-    linked : (c : NamedClient) → find (is_client name) w.clients ≡ Some c → Meets w r c → (o : Option ℕ) → offering w c text o ≡ Ok p → IsOfferOf w name text
+    linked : (c : NamedClient) → find (is_client name) w.clients ≡ Some c → Meets ⊥ w r c → (o : Option ℕ) → offering w c text o ≡ Ok p → IsOfferOf w name text
     linked c f s None g = (cc)
     linked c f s (Some conn) g = read c f s (message (encode_utf8_all text)) refl g
 
     by : (o : Option NamedClient) → find (is_client name) w.clients ≡ o → chosen (λ c. offer_client w c text) o ≡ Ok p → IsOfferOf w name text
     by None f g = (cc)
-    by (Some c) f g = linked c f (found-serves w r name c f) (conn_of c.client.link) g
+    by (Some c) f g = linked c f (found-serves ⊥ w r name c f) (conn_of c.client.link) g
 
 unloaded : (n : ℕ) (s : Stepped) (p : NaiveWorld × Output) (G : Type 0) → ((q : NaiveWorld × Output) → s ≡ Ok q → G) → loaded n s ≡ Ok p → G
 unloaded n (Err refusal) p G f h = (cc)

@@ -1,5 +1,5 @@
 -- The sequencer keeps the order of the log: each message that it numbers may stand behind those before it.
-use Rattle.std.proofs.Common.{◌≡◌, ℕ, ◌+◌, ◌≤◌, min, Bool, true, false, cond, not, nat_eq, nat_lt, List, [], ◌∷◌, ◌++◌, Option, Some, None, Result, Ok, Err, map, filter, find, fold, option_map, refl, sym, ◌∙◌, ap, subst, arith, is_some}
+use Rattle.std.proofs.Common.{◌≡◌, ℕ, ◌+◌, ◌≤◌, min, Bool, true, false, cond, not, nat_eq, nat_lt, List, [], ◌∷◌, ◌++◌, Option, Some, None, Result, Ok, Err, map, filter, find, fold, option_map, refl, sym, ◌∙◌, ap, subst, arith, is_some, ℤ, pos, negsuc}
 use Rattle.std.proofs.lemmas.Bool.Decides.{nat_tests}
 use Rattle.ft_msg.specs.declared.messages.Body.{Body}
 use Rattle.ft_msg.specs.declared.messages.Body.TheVariants.{Nothing, Op, Elsewhere}
@@ -84,12 +84,23 @@ moved m n count (j ∷ joined) w b =
       bounded = join-bounds m n count (least j.ref_seq joined) (j ∷ joined) b (high, least-each joined j.ref_seq);
     }
 
+-- the number is a count up to n, or -1
+abbrev pub IsUpTo : ℕ → ℤ → Type 0
+IsUpTo n (pos k) = k ≤ n
+IsUpTo n (negsuc k) = k ≡ 0
+
+-- the client number and the reference number are such numbers
+abbrev pub AreUpTo : ℕ → Entry → Type 0
+AreUpTo n e = IsUpTo n e.msg.client_seq × IsUpTo n e.msg.ref_seq
+
 -- what is known of the sequencer and the log, where count connections were made
 pub record IsBase (count : ℕ) (q : NaiveSequencer) (log : List Entry) : Type 0 where
   pub order : Leads 0 0 log q.number q.minimum
   pub within : q.minimum ≤ q.number
   pub joined : Each (IsBounded q.minimum q.number count) q.joined
   pub origins : Each (λ e. e.origin ≤ count) log
+  pub told : Each (λ e. AreUpTo e.msg.seq e) log
+  pub sent : Each (λ j. j.client_seq ≤ q.number) q.joined
 
 -- the sequencer numbers an entry, with these connections joined then
 pub record IsNumbered (more : ℕ) (joined : List JoinedConnection) (q : NaiveSequencer) (entry : Entry) : Type 0 where
@@ -101,6 +112,8 @@ pub record IsNumbered (more : ℕ) (joined : List JoinedConnection) (q : NaiveSe
   pub sender : is_some entry.msg.client_id ≡ true
   pub kind : IsWellFormedKind entry.msg.kind
   pub origin : entry.origin ≤ more
+  pub told : AreUpTo (q.number + 1) entry
+  pub sent : Each (λ j. j.client_seq ≤ q.number + 1) joined
 
 pub numbered-follows : (more : ℕ) (joined : List JoinedConnection) (q : NaiveSequencer) (entry : Entry) → q.minimum ≤ q.number → IsNumbered more joined q entry → Follows q.number q.minimum entry
 numbered-follows more joined q entry w h =
@@ -119,6 +132,8 @@ numbered-base count more joined q log entry c b h =
       within = m.below;
       joined = m.bounded;
       origins = each-more (λ e. e.origin ≤ more) log entry (each-weaker (λ e. e.origin ≤ count) (λ e. e.origin ≤ more) (λ e o. omega (arith, o, c)) log b.origins) h.origin;
+      told = each-more (λ e. AreUpTo e.msg.seq e) log entry b.told (subst (λ n. AreUpTo n entry) (sym h.seq) h.told);
+      sent = h.sent;
     }
 
 -- ---- joins and leaves
@@ -128,6 +143,9 @@ widen m n count more j c h = record { above = h.above; below = h.below; known = 
 
 abbrev pub new_connection : NaiveSequencer → ℕ → Characters → JoinedConnection
 new_connection q conn name = record { conn = conn; name = name; ref_seq = q.minimum; client_seq = 0 }
+
+sent-later : (q : NaiveSequencer) → Each (λ j. j.client_seq ≤ q.number) q.joined → Each (λ j. j.client_seq ≤ q.number + 1) q.joined
+sent-later q h = each-weaker (λ (j : JoinedConnection). j.client_seq ≤ q.number) (λ (j : JoinedConnection). j.client_seq ≤ q.number + 1) (λ j l. omega (arith, l)) q.joined h
 
 pub join-numbered : (count : ℕ) (q : NaiveSequencer) (log : List Entry) (name : Characters) → IsBase count q log → IsNumbered (count + 1) (q.joined ++ (new_connection q (count + 1) name ∷ [])) q (join q (count + 1) name).1
 join-numbered count q log name b =
@@ -143,6 +161,8 @@ join-numbered count q log name b =
       sender = refl;
       kind = tt;
       origin = omega arith;
+      told = (refl, refl);
+      sent = each-more (λ j. j.client_seq ≤ q.number + 1) q.joined (new_connection q (count + 1) name) (sent-later q b.sent) (omega arith);
     }
 
 -- the connections without one
@@ -166,6 +186,8 @@ leave-numbered count q log conn j b k = record {
   sender = refl;
   kind = tt;
   origin = k;
+  told = (refl, refl);
+  sent = each-filtered (λ j. j.client_seq ≤ q.number + 1) (λ i. not (is_joined conn i)) q.joined (sent-later q b.sent);
 }
 
 -- ---- drafts
@@ -196,8 +218,8 @@ draft-bounded : (m n count : ℕ) (b : Bool) (d : Draft) (i : JoinedConnection) 
 draft-bounded m n count true d i l h b = record { above = l; below = h; known = b.known }
 draft-bounded m n count false d i l h b = b
 
-pub draft-numbered : (count : ℕ) (q : NaiveSequencer) (log : List Entry) (j : JoinedConnection) (d : Draft) → IsBase count q log → j.conn ≤ count → IsAccepted q j d → IsNumbered count (after_draft j d q) q (sequence q j d).1
-draft-numbered count q log j d b k a = record {
+pub draft-numbered : (count : ℕ) (q : NaiveSequencer) (log : List Entry) (j : JoinedConnection) (d : Draft) → IsBase count q log → j.conn ≤ count → IsAccepted q j d → d.client_seq ≤ q.number + 1 → IsNumbered count (after_draft j d q) q (sequence q j d).1
+draft-numbered count q log j d b k a u = record {
   bounded = each-mapped (IsBounded q.minimum q.number count) (IsBounded q.minimum q.number count) (λ i. cond (is_joined j.conn i) (submitted d i) i)
       (λ i h. draft-bounded q.minimum q.number count (is_joined j.conn i) d i a.above a.below h) q.joined b.joined;
   seq = refl;
@@ -207,7 +229,13 @@ draft-numbered count q log j d b k a = record {
   sender = refl;
   kind = known_kind d.body;
   origin = k;
+  told = (u, let l = a.below in omega (arith, l));
+  sent = each-mapped (λ i. i.client_seq ≤ q.number + 1) (λ i. i.client_seq ≤ q.number + 1) (λ i. cond (is_joined j.conn i) (submitted d i) i) (λ i h. sent-draft (is_joined j.conn i) i h) q.joined (sent-later q b.sent);
 }
+  where
+    sent-draft : (t : Bool) (i : JoinedConnection) → i.client_seq ≤ q.number + 1 → (cond t (submitted d i) i).client_seq ≤ q.number + 1
+    sent-draft true i h = u
+    sent-draft false i h = h
 
 abbrev nacked : NaiveSequencer → JoinedConnection → Draft → Option Nack → Result (NaiveSequencer × Entry) Nack
 nacked q j d (Some nack) = Err nack

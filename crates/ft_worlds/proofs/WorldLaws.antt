@@ -21,14 +21,14 @@ use Rattle.ft_worlds.proofs.Lists.{each-found, each-weaker}
 use Rattle.ft_worlds.proofs.Orders.{leads-order}
 use Rattle.ft_worlds.proofs.WorldEvents.{IsReachedWorld, Serves, Turns, first-reached, reaches, steps-turn}
 
-pub world-reached : (events : List Event) → IsReachedWorld 0 (reached events)
-world-reached events = reaches events new_world first-reached
+pub world-reached : (events : List Event) → IsReachedWorld ⊥ 0 (reached events)
+world-reached events = reaches ⊥ events new_world (first-reached ⊥) (λ f. absurd f)
 
 pub log-in-order : LogIsInOrder
 log-in-order events = let r = world-reached events in leads-order (reached events).log 0 0 (reached events).sequencer.number (reached events).sequencer.minimum r.base.order
 
 -- a client that is served is of the log
-of-log : (w : NaiveWorld) (r : IsReachedWorld 0 w) (c : NamedClient) → Serves r.owner (length w.names) w.sequencer w.log c → IsOfLog w.log c.client
+of-log : (w : NaiveWorld) (r : IsReachedWorld ⊥ 0 w) (c : NamedClient) → Serves ⊥ r.owner (length w.names) w.sequencer w.log c → IsOfLog w.log c.client
 of-log w r c s = record {
   steps = s.served.steps;
   run = s.served.run;
@@ -39,15 +39,15 @@ pub clients-of-log : ClientsAreOfLog
 clients-of-log events =
     let r = world-reached events in
     let w = reached events in
-    each-weaker (Serves r.owner (length w.names) w.sequencer w.log) (λ (c : NamedClient). IsOfLog w.log c.client) (λ c s. of-log w r c s) w.clients r.clients
+    each-weaker (Serves ⊥ r.owner (length w.names) w.sequencer w.log) (λ (c : NamedClient). IsOfLog w.log c.client) (λ c s. of-log w r c s) w.clients r.clients
 
-refused : (e : Event) (s : Stepped) (refusal : Refusal) → Turns 0 e s → s ≡ Err refusal → Turns 0 e (Err refusal)
-refused e s refusal h g = subst (Turns 0 e) g h
+refused : (e : Event) (s : Stepped) (refusal : Refusal) → Turns ⊥ 0 e s → s ≡ Err refusal → Turns ⊥ 0 e (Err refusal)
+refused e s refusal h g = subst (Turns ⊥ 0 e) g h
 
 pub events-have-their_refusals : EventsHaveTheirRefusals
-events-have-their_refusals events e refusal h = refused e (step (reached events) e) refusal (steps-turn (reached events) (world-reached events) e) h
+events-have-their_refusals events e refusal h = refused e (step (reached events) e) refusal (steps-turn ⊥ (reached events) (world-reached events) e (λ f. absurd f)) h
 
-on-top : (w : NaiveWorld) (r : IsReachedWorld 0 w) (conn : ℕ) (c : NamedClient) → Serves r.owner (length w.names) w.sequencer w.log c → content c.client ≡ applied c.client w.log conn
+on-top : (w : NaiveWorld) (r : IsReachedWorld ⊥ 0 w) (conn : ℕ) (c : NamedClient) → Serves ⊥ r.owner (length w.names) w.sequencer w.log c → content c.client ≡ applied c.client w.log conn
 on-top w r conn c s =
     pending-stays-on_top s.served.steps c.client s.rest conn s.served.run.made s.served.run.bodies ∙ ap (λ log. applied c.client log conn) s.served.entries
 
@@ -55,7 +55,7 @@ pub views-are-applied : ViewsAreApplied
 views-are-applied events conn =
     let r = world-reached events in
     let w = reached events in
-    each-weaker (Serves r.owner (length w.names) w.sequencer w.log) (λ (c : NamedClient). content c.client ≡ applied c.client w.log conn) (λ c s. on-top w r conn c s) w.clients r.clients
+    each-weaker (Serves ⊥ r.owner (length w.names) w.sequencer w.log) (λ (c : NamedClient). content c.client ≡ applied c.client w.log conn) (λ c s. on-top w r conn c s) w.clients r.clients
 
 -- what a client with nothing pending shows
 idle-shows : (log : List Entry) (x : NaiveClient) → IsOfLog log x → is_without_edits x ≡ true → content x ≡ shown (agreed (take x.doc.number log))

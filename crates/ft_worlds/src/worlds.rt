@@ -1,6 +1,7 @@
 //! What holds of every world that events make of the empty one.
 
 ghost use Rattle.ft_worlds.specs.Worlds.{AttributionsAgree, ClientsAreOfLog, ClientsAttributeTheSame, ClientsShowTheSame, CountsAreAgreed, EventsHaveTheirRefusals, LogIsInOrder, ViewsAreApplied};
+ghost use Rattle.ft_worlds.specs.FormedLogs.{EntriesAreWellFormed};
 ghost use Rattle.ft_worlds.specs.Load.{ElementsAreWithinLoad, NumberIsWithinLoad};
 ghost use Rattle.ft_worlds.specs.NewNames.{ConnectionsHaveNewNames, GuestsHaveNewNames};
 ghost use Rattle.ft_worlds.specs.Offers.{OffersAreOfTheLog};
@@ -64,4 +65,10 @@ pub fn connections_have_new_names()
 pub fn loads_bound()
     ensures number { NumberIsWithinLoad }
     ensures elements { ElementsAreWithinLoad }
+{}
+
+/// Each message of a log is well formed, where each event was when it was taken, and the load with
+/// what the event would add was below 2^53.
+pub fn entries_are_well_formed()
+    ensures { EntriesAreWellFormed }
 {}
