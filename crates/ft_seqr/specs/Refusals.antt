@@ -1,7 +1,5 @@
 -- Which refusal a fault is, and the number and the text that are written of a refusal.
 use Rattle.std.specs.Prelude.{ℕ, List, ◌++◌, codes, decimal}
-use Rattle.std.specs.Fmt.{signed_decimal}
-use Rattle.ft_json.specs.Fields.{field_name}
 use Rattle.ft_msg.specs.declared.faults.Cause.{Cause}
 use Rattle.ft_msg.specs.declared.faults.Cause.TheVariants as cause
 use Rattle.ft_msg.specs.declared.faults.EditFault.{EditFault}
@@ -10,12 +8,10 @@ use Rattle.ft_msg.specs.declared.faults.LinkFault.{LinkFault}
 use Rattle.ft_msg.specs.declared.faults.LinkFault.TheVariants as link
 use Rattle.ft_msg.specs.declared.faults.ProcessFault.{ProcessFault}
 use Rattle.ft_msg.specs.declared.faults.ProcessFault.TheVariants as processing
+pub use Rattle.ft_msg.specs.FaultTexts.{bad_numbers_text, cause_text}
+pub use Rattle.ft_sumdoc.specs.FaultTexts.{summary_cause_text, summary_fault_text}
 use Rattle.ft_seqr.specs.declared.nacks.Nack.{Nack}
 use Rattle.ft_seqr.specs.declared.nacks.Nack.TheVariants as nack
-use Rattle.ft_sumdoc.specs.declared.summary.SumCause.{SumCause}
-use Rattle.ft_sumdoc.specs.declared.summary.SumCause.TheVariants as sum_cause
-use Rattle.ft_sumdoc.specs.declared.summary.SumFault.{SumFault}
-use Rattle.ft_sumdoc.specs.declared.summary.SumFault.TheVariants as sum
 use Rattle.ft_seqr.specs.declared.refusals.Refusal.{Refusal}
 use Rattle.ft_seqr.specs.declared.refusals.Refusal.TheVariants.{Malformed, UnknownClient, NameInUse, AlreadyConnected, NotConnected, OutOfRange, NothingToTicket, NothingToDeliver, OutOfOrder, Foreign, Pending, ClientLimit, IdInUse, NoSuchInterval, CountLimit, LineTooLong, Nacked, BadNumbers, Summary, OutOfMemory, Stopped}
 
@@ -51,21 +47,6 @@ refusal_of_process number processing.NotSent = Foreign number
 
 -- ---- numbers and texts
 
--- the text of a cause
-abbrev pub cause_text : Cause → List ℕ
-cause_text cause.NotUtf8 = codes "NotUtf8"
-cause_text cause.NotJson = codes "NotJson"
-cause_text cause.Fraction = codes "Fraction"
-cause_text cause.TooDeep = codes "TooDeep"
-cause_text (cause.Missing field) = codes "Missing " ++ field_name field
-cause_text (cause.WrongKind field) = codes "WrongKind " ++ field_name field
-cause_text (cause.UnknownType n) = codes "UnknownType " ++ decimal n
-cause_text (cause.Reversed a b) = codes "Reversed " ++ (signed_decimal a ++ (codes " " ++ signed_decimal b))
-cause_text cause.CountLimit = codes "CountLimit"
-cause_text cause.NestedGroup = codes "NestedGroup"
-cause_text cause.UnknownWord = codes "UnknownWord"
-cause_text cause.OutOfMemory = codes "OutOfMemory"
-
 -- a name with the number that was to be and the one that came
 abbrev pub two_numbers : List ℕ → ℕ → ℕ → List ℕ
 two_numbers word a b = word ++ (codes " " ++ (decimal a ++ (codes " got " ++ decimal b)))
@@ -77,23 +58,6 @@ nack_text (nack.ClientSeq expected got) = two_numbers (codes "ClientSeq expected
 nack_text (nack.RefBelow min got) = two_numbers (codes "RefBelow min") min got
 nack_text (nack.RefBack last got) = two_numbers (codes "RefBack last") last got
 nack_text (nack.RefAhead seq got) = two_numbers (codes "RefAhead seq") seq got
-
--- the text of the cause of a summary's fault
-abbrev pub summary_cause_text : SumCause → List ℕ
-summary_cause_text sum_cause.NotUtf8 = codes "NotUtf8"
-summary_cause_text sum_cause.NotJson = codes "NotJson"
-summary_cause_text sum_cause.Fraction = codes "Fraction"
-summary_cause_text sum_cause.TooDeep = codes "TooDeep"
-summary_cause_text (sum_cause.Missing field) = codes "Missing " ++ field_name field
-summary_cause_text (sum_cause.WrongKind field) = codes "WrongKind " ++ field_name field
-
--- the text of a summary's fault
-abbrev pub summary_fault_text : SumFault → List ℕ
-summary_fault_text (sum.Malformed fault) = codes "Malformed " ++ summary_cause_text fault
-summary_fault_text (sum.Version n) = codes "Version " ++ decimal n
-summary_fault_text (sum.BadStamp place) = codes "BadStamp " ++ decimal place
-summary_fault_text (sum.BadCount said found) = codes "BadCount said " ++ (decimal said ++ (codes " found " ++ decimal found))
-summary_fault_text sum.OutOfMemory = codes "OutOfMemory"
 
 -- the number of a refusal; want of memory, now or earlier, ends a run and has none
 abbrev pub refusal_number : Refusal → ℕ
@@ -138,8 +102,7 @@ refusal_text NoSuchInterval = codes "NoSuchInterval"
 refusal_text CountLimit = codes "CountLimit 1000000"
 refusal_text LineTooLong = codes "LineTooLong"
 refusal_text (Nacked fault) = codes "Nacked " ++ nack_text fault
-refusal_text (BadNumbers field kept got) =
-    codes "BadNumbers " ++ (field_name field ++ (codes " kept " ++ (decimal kept ++ (codes " got " ++ signed_decimal got))))
+refusal_text (BadNumbers field kept got) = bad_numbers_text field kept got
 refusal_text (Summary fault) = codes "Summary " ++ summary_fault_text fault
 refusal_text OutOfMemory = codes "OutOfMemory"
 refusal_text Stopped = codes "Stopped"

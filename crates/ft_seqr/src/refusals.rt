@@ -6,7 +6,7 @@ ghost use Rattle.ft_seqr.specs.Refusals.{refusal_number, refusal_of_cause, refus
 use crate::nacks::Nack;
 use ft_json::Field;
 use ft_msg::{Cause, LinkFault, ProcessFault};
-use ft_sumdoc::{SumCause, SumFault};
+use ft_sumdoc::SumFault;
 use std::fmt;
 
 /// Why a line is refused. What was made before it stays as it was.
@@ -56,40 +56,6 @@ pub enum Refusal {
     Stopped,
 }
 
-/// A cause as it is written.
-#[derive(Drop)]
-struct CauseText(Cause);
-
-impl fmt::Display for CauseText {
-    ghost use Rattle.std.specs.Prelude.{Some};
-    ghost use Rattle.ft_seqr.specs.Refusals.{cause_text};
-
-    ghost output = { λ c. Some (cause_text c.0) };
-
-    fn fmt<W: fmt::Write>(&self, f: &mut fmt::Formatter<W>) -> fmt::Result {
-        match self.0 {
-            Cause::NotUtf8 => write!(f, "NotUtf8"),
-            Cause::NotJson => write!(f, "NotJson"),
-            Cause::Fraction => write!(f, "Fraction"),
-            Cause::TooDeep => write!(f, "TooDeep"),
-            Cause::Missing(field) => {
-                let name = field.name();
-                write!(f, "Missing {name}")
-            }
-            Cause::WrongKind(field) => {
-                let name = field.name();
-                write!(f, "WrongKind {name}")
-            }
-            Cause::UnknownType(n) => write!(f, "UnknownType {n}"),
-            Cause::Reversed { pos1, pos2 } => write!(f, "Reversed {pos1} {pos2}"),
-            Cause::CountLimit => write!(f, "CountLimit"),
-            Cause::NestedGroup => write!(f, "NestedGroup"),
-            Cause::UnknownWord => write!(f, "UnknownWord"),
-            Cause::OutOfMemory => write!(f, "OutOfMemory"),
-        }
-    }
-}
-
 /// A nack as it is written.
 #[derive(Drop)]
 struct NackText(Nack);
@@ -113,58 +79,6 @@ impl fmt::Display for NackText {
     }
 }
 
-/// The cause of a summary's fault as it is written.
-#[derive(Drop)]
-struct SumCauseText(SumCause);
-
-impl fmt::Display for SumCauseText {
-    ghost use Rattle.std.specs.Prelude.{Some};
-    ghost use Rattle.ft_seqr.specs.Refusals.{summary_cause_text};
-
-    ghost output = { λ c. Some (summary_cause_text c.0) };
-
-    fn fmt<W: fmt::Write>(&self, f: &mut fmt::Formatter<W>) -> fmt::Result {
-        match self.0 {
-            SumCause::NotUtf8 => write!(f, "NotUtf8"),
-            SumCause::NotJson => write!(f, "NotJson"),
-            SumCause::Fraction => write!(f, "Fraction"),
-            SumCause::TooDeep => write!(f, "TooDeep"),
-            SumCause::Missing(field) => {
-                let name = field.name();
-                write!(f, "Missing {name}")
-            }
-            SumCause::WrongKind(field) => {
-                let name = field.name();
-                write!(f, "WrongKind {name}")
-            }
-        }
-    }
-}
-
-/// A summary's fault as it is written.
-#[derive(Drop)]
-struct SumFaultText(SumFault);
-
-impl fmt::Display for SumFaultText {
-    ghost use Rattle.std.specs.Prelude.{Some};
-    ghost use Rattle.ft_seqr.specs.Refusals.{summary_fault_text};
-
-    ghost output = { λ s. Some (summary_fault_text s.0) };
-
-    fn fmt<W: fmt::Write>(&self, f: &mut fmt::Formatter<W>) -> fmt::Result {
-        match self.0 {
-            SumFault::Malformed(cause) => {
-                let text = SumCauseText(cause);
-                write!(f, "Malformed {text}")
-            }
-            SumFault::Version(n) => write!(f, "Version {n}"),
-            SumFault::BadStamp(place) => write!(f, "BadStamp {place}"),
-            SumFault::BadCount { said, found } => write!(f, "BadCount said {said} found {found}"),
-            SumFault::OutOfMemory => write!(f, "OutOfMemory"),
-        }
-    }
-}
-
 impl fmt::Display for Refusal {
     ghost use Rattle.std.specs.Prelude.{Some};
     ghost use Rattle.ft_seqr.specs.Refusals.{refusal_text};
@@ -173,10 +87,7 @@ impl fmt::Display for Refusal {
 
     fn fmt<W: fmt::Write>(&self, f: &mut fmt::Formatter<W>) -> fmt::Result {
         match *self {
-            Refusal::Malformed(cause) => {
-                let text = CauseText(cause);
-                write!(f, "Malformed {text}")
-            }
+            Refusal::Malformed(cause) => write!(f, "Malformed {cause}"),
             Refusal::UnknownClient => write!(f, "UnknownClient"),
             Refusal::NameInUse => write!(f, "NameInUse"),
             Refusal::AlreadyConnected => write!(f, "AlreadyConnected"),
@@ -199,13 +110,9 @@ impl fmt::Display for Refusal {
                 write!(f, "Nacked {text}")
             }
             Refusal::BadNumbers { field, kept, got } => {
-                let name = field.name();
-                write!(f, "BadNumbers {name} kept {kept} got {got}")
+                write!(f, "BadNumbers {field} kept {kept} got {got}")
             }
-            Refusal::Summary(fault) => {
-                let text = SumFaultText(fault);
-                write!(f, "Summary {text}")
-            }
+            Refusal::Summary(fault) => write!(f, "Summary {fault}"),
             Refusal::OutOfMemory => write!(f, "OutOfMemory"),
             Refusal::Stopped => write!(f, "Stopped"),
         }
