@@ -1,9 +1,10 @@
 //! Puts leaves into a tree of blocks and finds places in it, for a script that times it.
 //!
-//! The words are the number of leaves and the number of finds. Each leaf holds one element and is put
-//! in at a pseudo-random place, which is found first, by a sender who lags behind within a window of
-//! 100 sequence numbers; finds are by such perspectives too. Written are the two numbers, the length of
-//! the tree and how many places were found.
+//! The words are the number of leaves, of sequence numbers above the floor, of finds and of leaves taken
+//! out. Each leaf holds one element and is put in at a pseudo-random place, which is found first, by a
+//! sender who lags behind within these sequence numbers; finds are by such perspectives too. Written are
+//! the number of leaves, the length of the tree at the end, and how many places were found and leaves
+//! taken out.
 #![tactic(auto)]
 
 mod trees;
@@ -12,14 +13,24 @@ mod units;
 use anyhow::{Context, Error};
 use std::env;
 
+// The number that the word is.
+fn number(word: Option<String>) -> Result<u32, Error> {
+    let word = word.context("too few numbers")?;
+    let number = word.parse().context("a word is no number")?;
+    Ok(number)
+}
+
 fn main(rt: HostRuntime) -> Result<(), Error> {
     let mut words = env::args(&rt)?.skip(1);
-    let leaves = words.next().context("no number of leaves")?;
-    let leaves: u32 = leaves.parse().context("the leaves are no number")?;
-    let finds = words.next().context("no number of finds")?;
-    let finds: u32 = finds.parse().context("the finds are no number")?;
-    match trees::run(rt.alloc(), leaves, finds) {
-        Ok(answer) => println!(rt; "{leaves} {finds} {} {}", answer.length, answer.found)?,
+    let leaves = number(words.next())?;
+    let window = number(words.next())?;
+    let finds = number(words.next())?;
+    let takes = number(words.next())?;
+    match trees::run(rt.alloc(), leaves, window, finds, takes) {
+        Ok(answer) => println!(rt;
+            "{leaves} {} {} {}",
+            answer.length, answer.found, answer.taken
+        )?,
         Err(_) => println!(rt; "out of memory")?,
     }
     Ok(())

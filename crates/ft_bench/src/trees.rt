@@ -1,6 +1,6 @@
 //! Insertions at pseudo-random places by senders from all over a window, and finds.
 
-ghost use Rattle.std.specs.Prelude.{◌≡◌, ◌+◌, ◌-◌, ◌<◌, ◌≤◌, IsTrue, IfOk};
+ghost use Rattle.std.specs.Prelude.{◌≡◌, ◌+◌, ◌-◌, ◌<◌, ◌≤◌, IsTrue, IfOk, OnOk};
 ghost use Rattle.ft_block.specs.Leaves.{IsPlaceIn, length_by};
 
 use crate::units::Unit;
@@ -11,13 +11,16 @@ use std::alloc::Global;
 use std::marker::Brand;
 use std::sync::ledger::{Blank, Ledger};
 
-/// What is left at the end: the length of the tree, and how many places were found in it.
+/// What is left at the end: the length of the tree, how many places were found in it, and how many leaves
+/// were taken out before.
 #[derive(Clone, Copy, Debug, PartialEq, Eq)]
 pub struct Answer {
     /// The length of the tree.
     pub length: u64,
     /// How many places were found.
     pub found: u32,
+    /// How many leaves were taken out.
+    pub taken: u32,
 }
 
 /// The numbers of Lehmer's generator with the factor 48,271, one after another.
@@ -38,18 +41,16 @@ impl Numbers {
     }
 }
 
-/// How many sequence numbers are above the floor.
-const WINDOW: u64 = 100;
-
 /// How many connections take turns.
 const CONNECTIONS: u64 = 8;
 
 // The perspective of the n-th message's sender, who had seen all before it but some of the window.
-fn sender(n: u64) -> Perspective
-    ensures { n ≤ result.r + WINDOW }
+fn sender(n: u64, window: u32) -> Perspective
+    requires { 1 ≤ window }
+    ensures { n ≤ result.r + window }
 {
     Perspective {
-        r: n.saturating_sub(n % WINDOW),
+        r: n.saturating_sub(n % u64::from(window)),
         c: (n % CONNECTIONS) as u32 + 1,
     }
 }
@@ -75,21 +76,23 @@ fn leaf_with<G: Ledger>(
 fn filled<G: Ledger>(
     alloc: Global,
     leaves: u32,
+    window: u32,
     steps: &mut Steps<G>,
 ) -> Result<Blocks<Unit>, OutOfMemory>
+    requires { 1 ≤ window }
     ensures usable { IfOk result (λ blocks. IsTrue blocks.usable) }
-    ensures floor { IfOk result (λ blocks. blocks.floor ≤ leaves - WINDOW) }
+    ensures floor { IfOk result (λ blocks. blocks.floor ≤ leaves - window) }
 {
     let mut blocks = Blocks::new(alloc);
     let mut numbers = Numbers::new();
     for n in 0..leaves {
         let _first = blocks.first();
         let n = u64::from(n);
-        let at = sender(n);
+        let at = sender(n, window);
         let p = numbers.next() % (n + 1);
         let after = leaf_with(&blocks, p, at, steps);
         blocks.insert_after(after, Unit::new(alloc, n + 1, at.c))?;
-        blocks.raise_floor((n + 1).saturating_sub(WINDOW));
+        blocks.raise_floor((n + 1).saturating_sub(u64::from(window)));
     }
     Ok(blocks)
 }
@@ -98,17 +101,19 @@ fn filled<G: Ledger>(
 fn found_among<G: Ledger>(
     blocks: &Blocks<Unit>,
     leaves: u32,
+    window: u32,
     finds: u32,
     steps: &mut Steps<G>,
 ) -> u32
+    requires window { 1 ≤ window }
     requires usable { IsTrue blocks.now.usable }
-    requires floor { blocks.now.floor ≤ leaves - WINDOW }
+    requires floor { blocks.now.floor ≤ leaves - window }
     ensures { result ≤ finds }
 {
     let mut numbers = Numbers::new();
     let mut found = 0;
     for _i in 0..finds {
-        let r = u64::from(leaves).saturating_sub(numbers.next() % WINDOW);
+        let r = u64::from(leaves).saturating_sub(numbers.next() % u64::from(window));
         let p = numbers.next() % (r + 1);
         if blocks.find(p, Perspective { r, c: 1 }, steps).is_ok() {
             found += 1;
@@ -117,29 +122,68 @@ fn found_among<G: Ledger>(
     found
 }
 
-// The same on a counter of its own.
+// Takes so many leaves out, each at a pseudo-random place, and tells how many there were.
+fn taken_from<G: Ledger>(
+    blocks: &mut Blocks<Unit>,
+    leaves: u32,
+    takes: u32,
+    steps: &mut Steps<G>,
+) -> Result<u32, OutOfMemory>
+    requires usable { IsTrue blocks.old.usable }
+    requires floor { blocks.old.floor ≤ leaves }
+    ensures { OnOk result (IsTrue blocks.new.usable) }
+{
+    let mut numbers = Numbers::new();
+    let mut taken = 0;
+    for n in 0..takes.min(leaves) {
+        let p = numbers.next() % u64::from(leaves - n) + 1;
+        let at = Perspective {
+            r: u64::from(leaves),
+            c: 1,
+        };
+        if let Some(id) = leaf_with(blocks, p, at, steps) {
+            blocks.take(id)?;
+            taken += 1;
+        }
+    }
+    Ok(taken)
+}
+
+// The same as `run`, on a counter of its own.
 fn run_on<G: Ledger>(
     alloc: Global,
     leaves: u32,
+    window: u32,
     finds: u32,
+    takes: u32,
     blank: Blank,
 ) -> Result<Answer, OutOfMemory>
+    requires window { 1 ≤ window }
     requires name { blank.name ≡ G.name }
     requires parts { blank.parts ≡ G.parts }
     requires some { 0 < blank.parts }
 {
     let mut steps = Steps::<G>::new(blank);
-    let blocks = filled(alloc, leaves, &mut steps)?;
-    let found = found_among(&blocks, leaves, finds, &mut steps);
+    let mut blocks = filled(alloc, leaves, window, &mut steps)?;
+    let found = found_among(&blocks, leaves, window, finds, &mut steps);
+    let taken = taken_from(&mut blocks, leaves, takes, &mut steps)?;
     Ok(Answer {
-        length: blocks.length(LenView::Stage(u64::MAX)),
+        length: blocks.length(LenView::All),
         found,
+        taken,
     })
 }
 
-/// Puts so many leaves into a tree, and finds so many places in it.
+/// Puts so many leaves into a tree, of which the last `window` are above the floor, finds so many places
+/// in it, and takes so many leaves out.
 ///
 /// Answers `OutOfMemory` where there is no room for the leaves.
-pub fn run(alloc: Global, leaves: u32, finds: u32) -> Result<Answer, OutOfMemory> {
-    run_on::<Brand>(alloc, leaves, finds, Blank::new(1))
+pub fn run(
+    alloc: Global,
+    leaves: u32,
+    window: u32,
+    finds: u32,
+    takes: u32,
+) -> Result<Answer, OutOfMemory> {
+    run_on::<Brand>(alloc, leaves, window.max(1), finds, takes, Blank::new(1))
 }

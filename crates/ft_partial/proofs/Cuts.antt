@@ -33,17 +33,49 @@ rising-insert xs i y rising inside low high d a b lt len =
     let n : b < length xs + 1 = omega (arith, length-insert xs i y inside) in
     elim (cases_lt a i) [
       | inl ai ↦ elim (cases_lt b i) [
-        | inl bi ↦ omega (arith, ap (λ s. s.from) (get_or-insert_below xs i y d a ai inside), ap (λ s. s.from) (get_or-insert_below xs i y d b bi inside), rising d a b lt (omega arith))
+        | inl bi ↦ omega (
+          arith,
+          ap (λ s. s.from) (get_or-insert_below xs i y d a ai inside),
+          ap (λ s. s.from) (get_or-insert_below xs i y d b bi inside),
+          rising d a b lt
+              (omega arith),
+        )
         | inr ib ↦ elim (cases_lt i b) [
-          | inl strictly ↦ omega (arith, ap (λ s. s.from) (get_or-insert_below xs i y d a ai inside), ap (λ s. s.from) (ins_above xs i b y d strictly inside), low d a ai, high d (b - 1) (omega arith) (omega arith))
+          | inl strictly ↦ omega (
+            arith,
+            ap (λ s. s.from) (get_or-insert_below xs i y d a ai inside),
+            ap (λ s. s.from) (ins_above xs i b y d strictly inside),
+            low d a ai,
+            high d (b - 1) (omega arith) (omega arith),
+          )
           | inr bi ↦ let same : b ≡ i = omega arith in
-              omega (arith, ap (λ s. s.from) (get_or-insert_below xs i y d a ai inside), ap (λ n. from_at (insert xs i y) n d) same, ap (λ s. s.from) (get_or-insert_at xs i y d inside), low d a ai)
+              omega (
+                arith,
+                ap (λ s. s.from) (get_or-insert_below xs i y d a ai inside),
+                ap (λ n. from_at (insert xs i y) n d) same,
+                ap (λ s. s.from)
+                    (get_or-insert_at xs i y d inside),
+                low d a ai,
+              )
         ]
       ]
       | inr ia ↦ elim (cases_lt i a) [
-        | inl strictly ↦ omega (arith, ap (λ s. s.from) (ins_above xs i a y d strictly inside), ap (λ s. s.from) (ins_above xs i b y d (omega arith) inside), rising d (a - 1) (b - 1) (omega arith) (omega arith))
+        | inl strictly ↦ omega (
+          arith,
+          ap (λ s. s.from) (ins_above xs i a y d strictly inside),
+          ap (λ s. s.from) (ins_above xs i b y d (omega arith) inside),
+          rising d
+              (a - 1) (b - 1) (omega arith) (omega arith),
+        )
         | inr ai ↦ let same : a ≡ i = omega arith in
-            omega (arith, ap (λ n. from_at (insert xs i y) n d) same, ap (λ s. s.from) (get_or-insert_at xs i y d inside), ap (λ s. s.from) (ins_above xs i b y d (omega arith) inside), high d (b - 1) (omega arith) (omega arith))
+            omega (
+              arith,
+              ap (λ n. from_at (insert xs i y) n d) same,
+              ap (λ s. s.from) (get_or-insert_at xs i y d inside),
+              ap (λ s. s.from)
+                  (ins_above xs i b y d (omega arith) inside),
+              high d (b - 1) (omega arith) (omega arith),
+            )
       ]
     ]
 

@@ -1,5 +1,6 @@
 -- Steps that show only below the floor are left out.
-use Rattle.std.proofs.Common.{◌≡◌, ◌⊎◌, ℕ, zero, suc, ◌+◌, ◌-◌, ◌/◌, ◌<◌, ◌≤◌, ◌%◌, ◌^◌, true, cond, nat_le, List, [], ◌∷◌, ◌++◌, take, drop, get_or, set, length, refl, sym, ◌∙◌, ap, subst, inl, inr, arith, append_assoc, length-append}
+use Rattle.std.proofs.Common.{◌≡◌, ◌⊎◌, ℕ, zero, suc, ◌+◌, ◌-◌, ◌/◌, ◌<◌, ◌≤◌, ◌%◌, ◌^◌, true, cond, nat_le, List, [], ◌∷◌, ◌++◌, take, drop, get_or, set, length, refl}
+use Rattle.std.proofs.Common.{sym, ◌∙◌, ap, subst, inl, inr, arith, append_assoc, length-append}
 use Rattle.std.specs.Prelude.{remove}
 use Rattle.std.proofs.Math.Seq.{take-suc-set, drop-cons}
 use Rattle.std.proofs.lemmas.Bool.{cases_lt}
@@ -79,10 +80,28 @@ rising-remove ws n rising inside d a b lt len =
     let m : b + 1 < length ws = omega (arith, length-remove ws n inside) in
     elim (cases_lt a n) [
       | inl an ↦ elim (cases_lt b n) [
-        | inl bn ↦ omega (arith, ap (λ s. s.from) (get_or-remove_below ws n d a an inside), ap (λ s. s.from) (get_or-remove_below ws n d b bn inside), rising d a b lt (omega arith))
-        | inr nb ↦ omega (arith, ap (λ s. s.from) (get_or-remove_below ws n d a an inside), ap (λ s. s.from) (get_or-remove_above ws n d b nb inside), rising d a (b + 1) (omega arith) m)
+        | inl bn ↦ omega (
+          arith,
+          ap (λ s. s.from) (get_or-remove_below ws n d a an inside),
+          ap (λ s. s.from) (get_or-remove_below ws n d b bn inside),
+          rising d a b lt
+              (omega arith),
+        )
+        | inr nb ↦ omega (
+          arith,
+          ap (λ s. s.from) (get_or-remove_below ws n d a an inside),
+          ap (λ s. s.from) (get_or-remove_above ws n d b nb inside),
+          rising d a (b + 1)
+              (omega arith) m,
+        )
       ]
-      | inr na ↦ omega (arith, ap (λ s. s.from) (get_or-remove_above ws n d a na inside), ap (λ s. s.from) (get_or-remove_above ws n d b (omega arith) inside), rising d (a + 1) (b + 1) (omega arith) m)
+      | inr na ↦ omega (
+        arith,
+        ap (λ s. s.from) (get_or-remove_above ws n d a na inside),
+        ap (λ s. s.from) (get_or-remove_above ws n d b (omega arith) inside),
+        rising d
+            (a + 1) (b + 1) (omega arith) m,
+      )
     ]
 
 no_gap : (n : ℕ) → n - n ≡ 0
@@ -156,7 +175,8 @@ folds_skip floor xs ys kept i last d l f why =
     skipped k h rising zs rest e (inr covered) = skip_covered floor (end_value 0 zs) k (get_or ys i d) (drop (suc i) ys) rising covered h
 
 -- in the words of the code
-pub skip_reason : (floor : ℕ) (ys : List Step) (i last : ℕ) (d : Step) → CanSkip ys i last floor → ((get_or ys i d).value ≡ last) ⊎ (head_covers floor (get_or ys i d) (drop (suc i) ys))
+pub skip_reason : (floor : ℕ) (ys : List Step) (i last : ℕ) (d : Step) → CanSkip ys i last floor
+    → ((get_or ys i d).value ≡ last) ⊎ (head_covers floor (get_or ys i d) (drop (suc i) ys))
 skip_reason floor ys i last d (inl same) = inl (same d)
 skip_reason floor ys i last d (inr covered) =
     let C : List Step → Type 0 = λ ts. head_covers floor (get_or ys i d) ts in
@@ -184,7 +204,8 @@ front-le (suc n) (y ∷ ys) = omega (arith, front-le n ys)
 none_left : (zs ys : List Step) (i : ℕ) → length ys ≤ i → zs ++ drop i ys ≡ zs
 none_left zs ys i h = ap (λ ts. zs ++ ts) (drop_all ys i h) ∙ right_nil zs
 
-pub folds_all : (floor : ℕ) (xs ys : List Step) (kept i last : ℕ) → Folds floor xs ys kept i last → length ys ≤ i → IsFolded (take kept ys) floor → FoldsSteps xs (take kept ys) floor
+pub folds_all : (floor : ℕ) (xs ys : List Step) (kept i last : ℕ) → Folds floor xs ys kept i last → length ys ≤ i → IsFolded (take kept ys) floor
+    → FoldsSteps xs (take kept ys) floor
 folds_all floor xs ys kept i last f h folded =
     let S : List Step → Type 0 = λ ws. IsRising ws in
     let same = none_left (take kept ys) ys i h in
@@ -196,7 +217,8 @@ folds_all floor xs ys kept i last f h folded =
     }
 
 -- one turn of the loop, in the words of the code
-pub turn_keep : (floor : ℕ) (xs ys new : List Step) (kept i last more end : ℕ) (s : Step) → i < length ys → s ≡ get_or ys i s → new ≡ set ys kept s → more ≡ kept + 1 → end ≡ s.value
+pub turn_keep : (floor : ℕ) (xs ys new : List Step) (kept i last more end : ℕ) (s : Step) → i < length ys → s ≡ get_or ys i s → new ≡ set ys kept s → more ≡ kept + 1
+    → end ≡ s.value
     → Folds floor xs ys kept i last → Folds floor xs new more (i + 1) end
 turn_keep floor xs ys new kept i last more end s l es en em ee f =
     let made = folds_keep floor xs ys kept i last s l f in

@@ -1,5 +1,6 @@
 -- A change made to the steps within its span.
-use Rattle.std.proofs.Common.{◌≡◌, ◌⊎◌, ℕ, zero, suc, ◌+◌, ◌<◌, ◌≤◌, ◌%◌, ◌^◌, Bool, true, false, cond, List, [], ◌∷◌, ◌++◌, take, get_or, set, length, refl, sym, ◌∙◌, ap, subst, inl, inr, arith}
+use Rattle.std.proofs.Common.{◌≡◌, ◌⊎◌, ℕ, zero, suc, ◌+◌, ◌<◌, ◌≤◌, ◌%◌, ◌^◌, Bool, true, false, cond, List, [], ◌∷◌, ◌++◌, take, get_or, set, length, refl, sym, ◌∙◌}
+use Rattle.std.proofs.Common.{ap, subst, inl, inr, arith}
 use Rattle.std.proofs.lemmas.Bool.{cases_lt}
 use Rattle.std.proofs.lemmas.Bool.Decides.{nat_tests}
 use Rattle.std.proofs.lemmas.List.{get_or_default, get_or-set_same, get_or-set_other, length-set}
@@ -78,7 +79,8 @@ move_place xs ys span k i lifts p = record {
 }
 
 -- before a step, or not
-known_side : (xs : List Step) → IsRising xs → (q k i a j : ℕ) (d : Step) → IsStepAt xs q a → IsPlace xs k i → i ≡ suc j → ((q ≤ k) × (q ≤ from_at xs j d)) ⊎ ((k < q) × (from_at xs j d < q))
+known_side : (xs : List Step) → IsRising xs → (q k i a j : ℕ) (d : Step) → IsStepAt xs q a → IsPlace xs k i → i ≡ suc j
+    → ((q ≤ k) × (q ≤ from_at xs j d)) ⊎ ((k < q) × (from_at xs j d < q))
 known_side xs rising q k i a j d step p e =
     elim (cases_lt a i) [
       | inl ai ↦ inl (omega (arith, p.below d a ai, step.here d), omega (arith, rising_le xs rising d a j (omega arith) (omega (arith, p.inside)), step.here d))
@@ -121,7 +123,8 @@ lifted_rising xs ys span rising lifts d i j h l =
     omega (arith, rising d i j h inside, ap (λ s. s.from) (lifts.below d i before before), ap (λ s. s.from) (lifts.below d j inside inside))
 
 -- cut twice and lift between
-pub steps_raised : (old mid xs ys : List Step) (span : Span) (a b : ℕ) → Cuts old mid span.to b → Cuts mid xs span.from a → LiftsBelow xs ys span (length xs) → RaisesSteps old ys span
+pub steps_raised : (old mid xs ys : List Step) (span : Span) (a b : ℕ) → Cuts old mid span.to b → Cuts mid xs span.from a → LiftsBelow xs ys span (length xs)
+    → RaisesSteps old ys span
 steps_raised old mid xs ys span a b first second lifts =
     let end = second.kept span.to b first.step in
     record {

@@ -1,5 +1,6 @@
 -- The sum of two step functions, by one pass over the steps of both.
-use Rattle.std.proofs.Common.{◌≡◌, ◌⊎◌, ℕ, suc, ◌+◌, ◌<◌, ◌≤◌, ◌%◌, ◌^◌, Bool, true, false, cond, nat_le, min, List, [], ◌∷◌, ◌++◌, get_or, length, refl, ◌∙◌, ap, inl, inr, arith, length-append}
+use Rattle.std.proofs.Common.{◌≡◌, ◌⊎◌, ℕ, suc, ◌+◌, ◌<◌, ◌≤◌, ◌%◌, ◌^◌, Bool, true, false, cond, nat_le, min, List, [], ◌∷◌, ◌++◌, get_or, length, refl, ◌∙◌, ap, inl}
+use Rattle.std.proofs.Common.{inr, arith, length-append}
 use Rattle.std.proofs.Math.ListN.{get_or-append}
 use Rattle.std.proofs.Math.Seq.{get_or-append_seam}
 use Rattle.std.proofs.lemmas.Bool.{cases_lt}
@@ -11,7 +12,8 @@ use Rattle.ft_partial.proofs.Values.{no_step, value_from-place}
 use Rattle.ft_partial.proofs.Places.{from_at, rising_le, place_here}
 
 -- the next place where both lists go on
-pub next_of_both : (xs ys : List Step) (i j k : ℕ) (x y : Step) → i < length xs → j < length ys → ((d : Step) → get_or xs i d ≡ x) → ((d : Step) → get_or ys j d ≡ y) → k ≡ min x.from y.from
+pub next_of_both : (xs ys : List Step) (i j k : ℕ) (x y : Step) → i < length xs → j < length ys → ((d : Step) → get_or xs i d ≡ x) → ((d : Step) → get_or ys j d ≡ y)
+    → k ≡ min x.from y.from
     → IsNextPlace xs i ys j k
 next_of_both xs ys i j k x y li lj ex ey ek = record {
   one = elim (cases_lt x.from y.from) [

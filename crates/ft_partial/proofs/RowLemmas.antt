@@ -1,5 +1,6 @@
 -- The rows of the connections.
-use Rattle.std.proofs.Common.{◌≡◌, ℕ, ◌+◌, ◌-◌, ◌<◌, ◌≤◌, ◌%◌, ◌^◌, Bool, true, false, cond, ◌&&◌, ◌||◌, not, nat_le, nat_eq, min, List, [], ◌∷◌, ◌++◌, take, get_or, length, refl, sym, ◌∙◌, ap, subst, arith}
+use Rattle.std.proofs.Common.{◌≡◌, ℕ, ◌+◌, ◌-◌, ◌<◌, ◌≤◌, ◌%◌, ◌^◌, Bool, true, false, cond, ◌&&◌, ◌||◌, not, nat_le, nat_eq, min, List, [], ◌∷◌, ◌++◌, take, get_or}
+use Rattle.std.proofs.Common.{length, refl, sym, ◌∙◌, ap, subst, arith}
 use Rattle.std.specs.List.{list_any}
 use Rattle.std.proofs.lemmas.Bool.Decides.{nat_tests}
 use Rattle.std.proofs.lemmas.Grind.{common_steps}
@@ -161,7 +162,8 @@ done_before true t h = refl
 done_before false true h = cc (h refl)
 done_before false false h = refl
 
-pub row_done : (floor : ℕ) (old : List Step) (before : List Stamp) (s d : ℕ) (e f : Element) (n m : ℕ) → list_any (is_by d) before ≡ true → ExchangesRow floor old old before (Acked s d) e n f m
+pub row_done : (floor : ℕ) (old : List Step) (before : List Stamp) (s d : ℕ) (e f : Element) (n m : ℕ) → list_any (is_by d) before ≡ true
+    → ExchangesRow floor old old before (Acked s d) e n f m
 row_done floor old before s d e f n m some r c hr hc =
     unchanged (not (list_any (is_by c) before) && nat_eq d c) (value_at old (place_of c r)) (row_value floor e n c r) (row_value floor f m c r)
     (done_before (list_any (is_by c) before) (nat_eq d c) (λ h. sym (same_by d c before h) ∙ some))
@@ -178,7 +180,8 @@ any-more : (p : Stamp → Bool) (xs : List Stamp) (i : ℕ) (d : Stamp) → i < 
     → list_any p (take (i + 1) xs) ≡ (list_any p (take i xs) || p (get_or xs i d))
 any-more p xs i d h = grind (arith, common_steps)
 
-two_steps : (a b : Bool) (vn vk vo x y : ℕ) → (vk + amount a x) % 2 ^ 64 ≡ (vo + amount a y) % 2 ^ 64 → (vn + amount (not a && b) x) % 2 ^ 64 ≡ (vk + amount (not a && b) y) % 2 ^ 64
+two_steps : (a b : Bool) (vn vk vo x y : ℕ) → (vk + amount a x) % 2 ^ 64 ≡ (vo + amount a y) % 2 ^ 64
+    → (vn + amount (not a && b) x) % 2 ^ 64 ≡ (vk + amount (not a && b) y) % 2 ^ 64
     → (vn + amount (a || b) x) % 2 ^ 64 ≡ (vo + amount (a || b) y) % 2 ^ 64
 two_steps true b vn vk vo x y h1 h2 = omega arith
 two_steps false true vn vk vo x y h1 h2 = omega arith
@@ -191,7 +194,8 @@ pub rows_more : (floor : ℕ) (old now new : List Step) (stamps first : List Sta
 rows_more floor old now new stamps first i z e f n m h es before one r c hr hc =
     let F : List Stamp → Type 0 = λ xs. ExchangesRow floor now new xs (get_or stamps i z) e n f m in
     let more = any-more (is_by c) stamps i z h in
-    let step = two_steps (list_any (is_by c) (take i stamps)) (is_by c (get_or stamps i z)) (value_at new (place_of c r)) (value_at now (place_of c r)) (value_at old (place_of c r))
+    let step = two_steps (list_any (is_by c) (take i stamps)) (is_by c (get_or stamps i z)) (value_at new (place_of c r)) (value_at now (place_of c r))
+    (value_at old (place_of c r))
     (row_value floor e n c r) (row_value floor f m c r) (before r c hr hc) (subst F es one r c hr hc) in
     ap (λ b. (value_at new (place_of c r) + amount b (row_value floor e n c r)) % 2 ^ 64) more
     ∙ step ∙ ap (λ b. (value_at old (place_of c r) + amount b (row_value floor f m c r)) % 2 ^ 64) (sym more)

@@ -122,7 +122,8 @@ others e xs ys same f =
 
 head_gone : (x : Item) (xs : List Item) → length (without x.element (x ∷ xs)) ≤ length xs
 head_gone x xs =
-    let e : length (without x.element (x ∷ xs)) ≡ length (without x.element xs) = ap (λ b. length (cond b (without x.element xs) (x ∷ without x.element xs))) (element-refl x.element) in
+    let e : length (without x.element (x ∷ xs)) ≡ length (without x.element xs) =
+    ap (λ b. length (cond b (without x.element xs) (x ∷ without x.element xs))) (element-refl x.element) in
     omega (arith, without-le x.element xs)
 
 by_size : (n : ℕ) (p : Element → Bool) (xs ys : List Item) → length xs + length ys ≤ n → SameByStamps xs ys → length_where p xs ≡ length_where p ys

@@ -1,8 +1,47 @@
 //! Step functions: to each place belongs a value, which is a number round 2^64.
 
-ghost use Rattle.std.specs.Prelude.{◌≡◌, ◌+◌, ◌*◌, ◌-◌, ◌≤◌, ◌<◌, ◌^◌, ◌%◌, ℕ, true, false, nat_le, IfOk, OnOk, MatchOption, [], length, insert, slice_index_or, vec_len, vec_capacity};
+ghost use Rattle.std.specs.Prelude.{
+  ◌≡◌,
+  ◌+◌,
+  ◌*◌,
+  ◌-◌,
+  ◌≤◌,
+  ◌<◌,
+  ◌^◌,
+  ◌%◌,
+  ℕ,
+  true,
+  false,
+  nat_le,
+  IfOk,
+  OnOk,
+  MatchOption,
+  [],
+  length,
+  insert,
+  slice_index_or,
+  vec_len,
+  vec_capacity,
+};
 ghost use Rattle.ft_partial.specs.StepFunctions.{amount, value_from, value_at, Raises, MovesRise, ExchangesSpan};
-ghost use Rattle.ft_partial.specs.Steps.{IsRising, IsPlace, IsStepAt, value_before, Cuts, LiftsBelow, RaisesSteps, is_covered, CanSkip, IsShown, IsFolded, FoldsSteps, AllBefore, IsNextPlace, IsAtEnd, IsSum};
+ghost use Rattle.ft_partial.specs.Steps.{
+  IsRising,
+  IsPlace,
+  IsStepAt,
+  value_before,
+  Cuts,
+  LiftsBelow,
+  RaisesSteps,
+  is_covered,
+  CanSkip,
+  IsShown,
+  IsFolded,
+  FoldsSteps,
+  AllBefore,
+  IsNextPlace,
+  IsAtEnd,
+  IsSum,
+};
 
 use ft_base::OutOfMemory;
 use std::alloc::Global;

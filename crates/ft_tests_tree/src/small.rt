@@ -55,7 +55,7 @@ fn small<G: Ledger>(alloc: Global, steps: &mut Steps<G>) -> Result<Blocks<Run>, 
 }
 
 // What the calls answer on that tree.
-fn small_answers<G: Ledger>(alloc: Global, blank: Blank) -> Result<[u64; 12], Fail>
+fn small_answers<G: Ledger>(alloc: Global, blank: Blank) -> Result<[u64; 14], Fail>
     requires name { blank.name ≡ G.name }
     requires parts { blank.parts ≡ G.parts }
     requires some { 0 < blank.parts }
@@ -74,8 +74,10 @@ fn small_answers<G: Ledger>(alloc: Global, blank: Blank) -> Result<[u64; 12], Fa
         blocks.length(LenView::Stage(u64::MAX)),
         blocks.length(LenView::Stage(4)),
         blocks.length(LenView::Stage(3)),
+        blocks.length(LenView::All),
         blocks.length(LenView::At(Perspective { r: 3, c: 9 })),
         blocks.length(LenView::At(Perspective { r: 2, c: 9 })),
+        blocks.position_of(last, LenView::All),
         blocks.position_of(last, LenView::Stage(u64::MAX)),
         blocks.position_of(last, LenView::At(Perspective { r: 0, c: 2 })),
         blocks.leaf(last).number,
@@ -89,7 +91,7 @@ fn small_answers<G: Ledger>(alloc: Global, blank: Blank) -> Result<[u64; 12], Fa
 #[test]
 fn a_few_leaves(rt: HostRuntime) -> Result<(), Fail> {
     let answers = small_answers::<Brand>(rt.alloc(), Blank::new(1))?;
-    assert_eq!(rt; answers, [3, 5, 3, 3, 0, 1, 3, 8, 2, 3, 1, 1]);
+    assert_eq!(rt; answers, [3, 5, 3, 5, 3, 0, 3, 1, 3, 8, 2, 3, 1, 1]);
     Ok(())
 }
 

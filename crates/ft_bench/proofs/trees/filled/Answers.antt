@@ -16,6 +16,12 @@ loop-n-preserved g c =
     ap (length_by (λ (x : Leaf). x.extra + 1)) c.in_ok-insert_after.ensures.ok
     ∙ length_by-put_leaf (λ (x : Leaf). x.extra + 1) c.loop-n.blocks.leaves c.leaf_with-after.result _ c.leaf_with-after.ensures c.first-first.ensures.once in
     let raised = c.raise_floor.ensures in
-    let sized : length_by (λ (x : Leaf). x.extra + 1) c.raise_floor.new.self.leaves ≡ length_by (λ (x : Leaf). x.extra + 1) c.insert_after.new.self.leaves = ap (λ (w : LeafList Leaf). length_by (λ (x : Leaf). x.extra + 1) w.leaves) raised in
+    let sized : length_by (λ (x : Leaf). x.extra + 1) c.raise_floor.new.self.leaves ≡ length_by (λ (x : Leaf). x.extra + 1) c.insert_after.new.self.leaves =
+    ap (λ (w : LeafList Leaf). length_by (λ (x : Leaf). x.extra + 1) w.leaves) raised in
     let floor = ap (λ (w : LeafList Leaf). w.floor) raised in
-    record { usable = ap (λ (w : LeafList Leaf). w.usable) raised ∙ c.in_ok-insert_after.ensures.usable; floor = omega (arith, floor); sized = omega (arith, sized, put, c.new.ensures, c.loop-n.invariant.sized) }
+    record {
+      usable = ap (λ (w : LeafList Leaf). w.usable) raised ∙ c.in_ok-insert_after.ensures.usable;
+      floor = omega (arith, floor);
+      sized =
+          omega (arith, sized, put, c.new.ensures, c.loop-n.invariant.sized);
+    }

@@ -9,6 +9,7 @@ pub returns-then-not-is_any_by-clause-exchanges : goal.returns-then-not-is_any_b
 returns-then-not-is_any_by-clause-exchanges c =
     let S : Span → Type 0 = λ s. ExchangesSpan c.args.own.now.steps c.exchange.new.self.steps s c.row_span-then-not-is_any_by.result in
     let T : Span → Type 0 = λ t. ExchangesSpan c.args.own.now.steps c.exchange.new.self.steps (row_span c.args.floor c.args.e.now c.args.len c.in-Acked.conn) t in
-    rw c.in-Acked.is (row_exchanged c.args.floor c.args.own.now.steps c.exchange.new.self.steps c.args.before.now c.in-Acked.seq c.in-Acked.conn c.args.e.now c.args.new.now c.args.len c.args.new_len
+    rw c.in-Acked.is (row_exchanged c.args.floor c.args.own.now.steps c.exchange.new.self.steps c.args.before.now c.in-Acked.seq c.in-Acked.conn c.args.e.now
+    c.args.new.now c.args.len c.args.new_len
     c.row_span.ensures.fits c.row_span-then-not-is_any_by.ensures.fits (sym c.if-not-is_any_by.ensures)
     (subst T c.row_span-then-not-is_any_by.ensures.span (subst S c.row_span.ensures.span c.exchange.ensures.exchanges)))

@@ -10,7 +10,8 @@ loop-i-init c = record {
 
 pub loop-i-preserved : goal.loop-i-preserved
 loop-i-preserved c = record {
-  rows = rows_more c.args.floor _ _ _ c.args.stamps.now (take c.loop-i.i c.args.stamps.now) c.loop-i.i _ c.args.e.now c.args.new.now c.args.len c.args.new_len c.loop-i-test.true refl
+  rows = rows_more c.args.floor _ _ _ c.args.stamps.now (take c.loop-i.i c.args.stamps.now) c.loop-i.i _ c.args.e.now c.args.new.now c.args.len c.args.new_len
+      c.loop-i-test.true refl
       c.loop-i.invariant.rows c.exchange_row.ensures.exchanges;
   room = omega arith;
 }

@@ -10,6 +10,7 @@ returns-then-steps-i c = place_past c.args.steps.now c.args.i c.args.place _ c.r
 pub returns-else-i-steps : goal.returns-else-i-steps
 returns-else-i-steps c =
     elim c.else-i-steps.branch [
-      | else-i-steps-via-then-i-steps+else-steps-i w ↦ place_here c.args.steps.now c.args.i c.args.place c.requires.rising c.requires.inside c.requires.before (λ d h. omega (arith, c.requires.after d h, from_at-default c.args.steps.now c.args.i d no_step h, w.if-steps-i.false))
+      | else-i-steps-via-then-i-steps+else-steps-i w ↦ place_here c.args.steps.now c.args.i c.args.place c.requires.rising c.requires.inside c.requires.before
+          (λ d h. omega (arith, c.requires.after d h, from_at-default c.args.steps.now c.args.i d no_step h, w.if-steps-i.false))
       | else-i-steps-via-else-i-steps w ↦ place_here c.args.steps.now c.args.i c.args.place c.requires.rising c.requires.inside c.requires.before (λ d h. absurd (omega arith))
     ]

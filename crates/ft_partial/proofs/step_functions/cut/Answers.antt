@@ -15,4 +15,5 @@ pub returns-clause-cuts : goal.returns-clause-cuts
 returns-clause-cuts c =
     let P : List Step → Type 0 = λ xs. IsPlace xs c.args.place c.count_up_to-i.result in
     let place = subst P c.as_slice.ensures.value c.count_up_to-i.ensures in
-    cut_later c.args.steps.now.items _ c.args.place c.count_up_to-i.result c.index-last.result.now c.requires.rising place c.if-i-eq0.false c.index-last.ensures c.if-last-place.false c.put-2.ensures.items
+    cut_later c.args.steps.now.items _ c.args.place c.count_up_to-i.result c.index-last.result.now c.requires.rising place c.if-i-eq0.false c.index-last.ensures
+    c.if-last-place.false c.put-2.ensures.items

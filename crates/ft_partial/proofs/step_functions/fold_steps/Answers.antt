@@ -12,20 +12,23 @@ loop-i-preserved c =
     let inside : c.loop-i.i < length c.loop-i.steps.items = omega arith in
     elim c.if-is_needed.branch [
       | then-is_needed w ↦
-          let new = turn_keep c.args.floor c.args.steps.now.items c.loop-i.steps.items c.if-is_needed.steps.items c.loop-i.kept c.loop-i.i c.loop-i.last c.if-is_needed.kept c.if-is_needed.last
+          let new = turn_keep c.args.floor c.args.steps.now.items c.loop-i.steps.items c.if-is_needed.steps.items c.loop-i.kept c.loop-i.i c.loop-i.last
+          c.if-is_needed.kept c.if-is_needed.last
           c.index-step.result.now inside c.index-step.ensures (ap (λ v. v.items) w.steps-is) w.kept-is w.last-is old in
           let N : List Step → Type 0 = λ ts. IsShown ts c.loop-i.i c.args.floor in
           let next = subst N c.as_slice.ensures.value (c.is_needed.ensures.needed w.if-is_needed.true) in
           record {
             folds = new;
-            shows = shows_kept c.args.floor c.args.steps.now.items c.loop-i.steps.items c.if-is_needed.steps.items c.loop-i.kept c.loop-i.i c.if-is_needed.kept c.index-step.result.now
+            shows = shows_kept c.args.floor c.args.steps.now.items c.loop-i.steps.items c.if-is_needed.steps.items c.loop-i.kept c.loop-i.i c.if-is_needed.kept
+                c.index-step.result.now
                 c.requires (omega (arith, old.len)) c.index-step.ensures (ap (λ v. v.items) w.steps-is) w.kept-is next c.loop-i.invariant.shows;
             end = omega (arith, new.len, old.len);
           }
       | else-is_needed w ↦
           let C : List Step → Type 0 = λ ts. CanSkip ts c.loop-i.i c.loop-i.last c.args.floor in
           let why = subst C c.as_slice.ensures.value (c.is_needed.ensures.needless w.if-is_needed.false) in
-          let new = turn_skip c.args.floor c.args.steps.now.items c.loop-i.steps.items c.if-is_needed.steps.items c.loop-i.kept c.loop-i.i c.loop-i.last c.if-is_needed.kept c.if-is_needed.last
+          let new = turn_skip c.args.floor c.args.steps.now.items c.loop-i.steps.items c.if-is_needed.steps.items c.loop-i.kept c.loop-i.i c.loop-i.last
+          c.if-is_needed.kept c.if-is_needed.last
           c.index-step.result.now inside (ap (λ v. v.items) w.steps-is) w.kept-is w.last-is why old in
           record {
             folds = new;

@@ -11,10 +11,15 @@ loop-i-init c = record {
 
 pub loop-i-preserved : goal.loop-i-preserved
 loop-i-preserved c = record {
-  lifts = lifts_more c.args.steps.now c.loop-i.steps c.args.span c.args.first c.loop-i.i record { from = 0; value = 0 } c.requires.rising c.requires.first c.loop-i.invariant.first (omega (arith, c.loop-i.invariant.lifts.len)) c.if-steps-i.true c.loop-i.invariant.lifts;
+  lifts = lifts_more c.args.steps.now c.loop-i.steps c.args.span c.args.first c.loop-i.i record {
+    from = 0;
+    value =
+        0;
+  } c.requires.rising c.requires.first c.loop-i.invariant.first (omega (arith, c.loop-i.invariant.lifts.len)) c.if-steps-i.true c.loop-i.invariant.lifts;
   first = omega arith;
   inside = omega (arith, c.loop-i.invariant.lifts.len);
 }
 
 pub returns-else-steps-i : goal.returns-else-steps-i
-returns-else-steps-i c = lifts_all c.args.steps.now c.loop-i.steps c.args.span c.loop-i.i _ c.requires.rising (omega (arith, c.loop-i.invariant.lifts.len)) c.if-steps-i.false c.loop-i.invariant.lifts
+returns-else-steps-i c = lifts_all c.args.steps.now c.loop-i.steps c.args.span c.loop-i.i _ c.requires.rising (omega (arith, c.loop-i.invariant.lifts.len))
+    c.if-steps-i.false c.loop-i.invariant.lifts

@@ -18,4 +18,5 @@ exchange-requires-clause-old c =
 pub exchange-requires-clause-new : goal.exchange-requires-clause-new
 exchange-requires-clause-new c =
     let floor = ap (λ t. t.floor) c.self.view_is in
-    subst (λ zs. Covers c.args.self.now.floor zs c.args.new.now) (sym c.as_slice.ensures) (subst (λ k. Covers k c.in_ok-stamps.stamps c.args.new.now) floor c.in_ok-stamps.ensures.new)
+    subst (λ zs. Covers c.args.self.now.floor zs c.args.new.now) (sym c.as_slice.ensures)
+    (subst (λ k. Covers k c.in_ok-stamps.stamps c.args.new.now) floor c.in_ok-stamps.ensures.new)
