@@ -21,7 +21,7 @@ impl Model for Bytes {
 }
 
 impl Bytes {
-    /// No bytes. It takes no memory.
+    /// No bytes.
     pub fn new(alloc: Global) -> Bytes
         ensures { result ≡ [] }
     {
@@ -52,29 +52,28 @@ impl Bytes {
         Ok(())
     }
 
-    /// How many bytes there are. It takes no memory.
+    /// How many bytes there are.
     pub fn len(&self) -> usize
         ensures { result ≡ length self.now }
     {
         self.items.len()
     }
 
-    /// Whether there are none. It takes no memory.
+    /// Whether there are none.
     pub fn is_empty(&self) -> bool
         ensures { IsTrue result ↔ (self.now ≡ []) }
     {
         self.items.is_empty()
     }
 
-    /// The byte at place `i`, counted from 0: None exactly where `i` isn't below the length. It
-    /// takes no memory.
+    /// The byte at place `i`, counted from 0: None exactly where `i` isn't below the length.
     pub fn at(&self, i: usize) -> Option<&u8>
         ensures { option_copied result ≡ slice_get self.now i }
     {
         self.items.get(i)
     }
 
-    /// The bytes in order. It takes no memory.
+    /// The bytes in order.
     pub fn as_slice(&self) -> &[u8]
         ensures { result.now ≡ self.now }
     {
@@ -92,7 +91,7 @@ impl Bytes {
         })
     }
 
-    /// Whether both lists have the same bytes in the same order. It takes no memory.
+    /// Whether both lists have the same bytes in the same order.
     pub fn same(&self, other: &Bytes) -> bool
         ensures { IsTrue result ↔ (self.now ≡ other.now) }
     {

@@ -1,5 +1,6 @@
 //! Bytes in and bytes out: sources and sinks that count their faults, over memory and over standard
-//! input and output, and the lines of what a source gives.
+//! input and output, and the lines of what a source gives. Only a call that can answer `OutOfMemory`
+//! takes memory.
 #![tactic(auto)]
 
 pub mod byte_lists;
@@ -9,8 +10,6 @@ mod pieces;
 pub mod reader;
 pub mod standard;
 pub mod streams;
-#[cfg(test)]
-mod tests;
 
 pub use byte_lists::Bytes;
 pub use memory::{MemSink, MemSource};

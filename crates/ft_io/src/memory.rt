@@ -40,9 +40,9 @@ impl Model for MemSource {
 }
 
 impl MemSource {
-    /// A source that has these bytes, gives at most `piece` of them at a call, and fails at the calls
-    /// whose numbers are in `fails`. Calls are numbered from 1, and all past the 2^64 - 1st have its
-    /// number. It takes no memory.
+    /// A source that has these bytes, gives at most `piece` of them at a call, and fails at the
+    /// calls whose numbers are in `fails`. Calls are numbered from 1, and all past the 2^64 - 1st
+    /// have its number.
     pub fn new(_alloc: Global, bytes: Vec<u8>, piece: usize, fails: Vec<u64>) -> MemSource
         requires { 1 ≤ piece }
         ensures { result ≡ new_supply bytes.items piece fails.items }
@@ -137,7 +137,7 @@ impl MemSink {
         })
     }
 
-    /// The bytes taken, in order. It takes no memory.
+    /// The bytes taken, in order.
     pub fn taken(&self) -> &[u8]
         ensures { result.now ≡ self.now.taken }
     {

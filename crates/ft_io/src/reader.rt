@@ -93,7 +93,7 @@ impl Lines {
         })
     }
 
-    /// Changes the greatest length of the lines that are handed out from here on. It takes no memory.
+    /// Changes the greatest length of the lines that are handed out from here on.
     pub fn set_limit(&mut self, limit: usize)
         ensures { self.new ≡ record self.old { limit = limit } }
     {

@@ -25,7 +25,7 @@ impl Model for StdSource {
 }
 
 impl StdSource {
-    /// Standard input, which has not failed yet. It takes no memory.
+    /// Standard input, which has not failed yet.
     pub fn new(input: Stdin) -> StdSource
         ensures { result ≡ 0 }
     {
@@ -58,7 +58,7 @@ impl Model for StdSink {
 }
 
 impl StdSink {
-    /// Standard output, which has not failed yet. It takes no memory.
+    /// Standard output, which has not failed yet.
     pub fn new(output: Stdout) -> StdSink
         ensures { result ≡ 0 }
     {
@@ -102,70 +102,5 @@ fn counted(faults: &mut u64, answer: io::Result<usize>) -> Result<usize, Failed>
             *faults = faults.saturating_add(1);
             Err(Failed)
         }
-    }
-}
-
-#[cfg(test)]
-mod tests {
-    use super::*;
-    use std::test::Fail;
-
-    /// A writer that takes at most so many bytes, or fails, and whose flush may fail.
-    #[derive(Drop)]
-    struct Fake {
-        takes: Option<usize>,
-        flushes: bool,
-    }
-
-    impl Write for Fake {
-        fn write(&mut self, buf: &[u8]) -> io::Result<usize> {
-            match self.takes {
-                Some(n) => Ok(n.min(buf.len())),
-                None => Err(io::Error::from(ErrorKind::BrokenPipe)),
-            }
-        }
-
-        fn flush(&mut self) -> io::Result<()> {
-            if self.flushes {
-                Ok(())
-            } else {
-                Err(io::Error::from(ErrorKind::BrokenPipe))
-            }
-        }
-    }
-
-    #[test]
-    fn an_error_of_a_writer_is_counted(rt: HostRuntime) -> Result<(), Fail> {
-        for (takes, flushes, bytes, want) in [
-            (Some(3), true, "abcd", Ok(3)),
-            (Some(9), true, "abcd", Ok(4)),
-            (Some(9), true, "", Ok(0)),
-            (Some(0), true, "abcd", Err(Failed)),
-            (Some(3), false, "abcd", Err(Failed)),
-            (None, true, "abcd", Err(Failed)),
-        ] {
-            for (before, after) in [(0, 1), (u64::MAX - 1, u64::MAX), (u64::MAX, u64::MAX)] {
-                let mut faults = before;
-                let mut fake = Fake { takes, flushes };
-                let answer = write_through(&mut fake, bytes.as_bytes());
-                let got = counted(&mut faults, answer);
-                assert_eq!(rt; got, want, "{takes:?} {flushes} {bytes}");
-                assert_eq!(rt;
-                    faults,
-                    if want.is_ok() { before } else { after },
-                    "{takes:?}"
-                );
-            }
-        }
-        Ok(())
-    }
-
-    #[test]
-    fn the_standard_ones_are_made(rt: HostRuntime) {
-        let mut source = StdSource::new(rt.stdin());
-        let mut sink = StdSink::new(rt.stdout());
-        assert_eq!(rt; source.read(&mut []), Ok(0));
-        assert_eq!(rt; sink.write(b""), Ok(0));
-        assert_eq!(rt; (source.faults, sink.faults), (0, 0));
     }
 }

@@ -17,7 +17,7 @@ pub trait Source {
     ghost faults: { Self → ℕ };
 
     /// Reads bytes into the front of `buf`, and answers how many: none only at the end or where
-    /// `buf` is empty. It takes no memory.
+    /// `buf` is empty.
     ///
     /// Answers `Failed` only where the count of faults rose in this call, and then no byte was read.
     fn read(&mut self, buf: &mut [u8]) -> Result<usize, Failed>
@@ -34,8 +34,7 @@ pub trait Sink {
     /// How often it has failed: a count that never falls, and that stops at 2^64 - 1.
     ghost faults: { Self → ℕ };
 
-    /// Takes bytes from the front of `buf`, and answers how many: none only where `buf` is empty. It
-    /// takes no memory.
+    /// Takes bytes from the front of `buf`, and answers how many: none only where `buf` is empty.
     ///
     /// Answers `Failed` only where the count of faults rose in this call, and then no byte was taken.
     fn write(&mut self, buf: &[u8]) -> Result<usize, Failed>
@@ -45,7 +44,7 @@ pub trait Sink {
         ensures cause { HasCause (faults self.old) (faults self.new) result };
 }
 
-/// Writes all the bytes, in order. It takes no memory.
+/// Writes all the bytes, in order.
 ///
 /// Answers `Failed` only where the sink's count of faults rose in this call, and then the sink has
 /// taken some of the first of the bytes.

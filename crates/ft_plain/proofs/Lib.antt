@@ -1,4 +1,5 @@
 pub mod BackwardRuns
+pub mod CountedOthers
 pub mod PlacedCell
 pub mod PlacedList
 pub mod PushedCharacter

@@ -1,5 +1,5 @@
 -- A replica that observes messages and makes no edits of its own, and what it answers to the next message.
-use Rattle.std.specs.Prelude.{◌≡◌, ℕ, max, Option, Some, None, Result, Ok, Err}
+use Rattle.std.specs.Prelude.{◌≡◌, ℕ, max, Option, Some, None, option_map, Result, Ok, Err}
 use Rattle.ft_op.specs.Document.{Document}
 use Rattle.ft_msg.specs.declared.messages.Entry.{Entry}
 use Rattle.ft_msg.specs.declared.views.Link.TheVariants.{Offline}
@@ -9,32 +9,10 @@ use Rattle.ft_msg.specs.declared.faults.ProcessFault.TheVariants.{OutOfMemory, S
 use Rattle.ft_msg.specs.Client.{client_over}
 use Rattle.ft_msg.specs.Process.{process}
 
--- an observer: the document of the messages that it processed, and the number at which it stopped, if it did
+-- an observer: the document of the messages that it processed, and the numbers with which it stopped, if it did
 pub record Observer : Type 0 where
   pub doc : Document
-  pub stop : Option ℕ
-
--- the numbers of the second document are those of the first
-pub record KeepsNumbers (old new : Document) : Type 0 where
-  pub number : new.number ≡ old.number
-  pub minimum : new.minimum ≡ old.minimum
-  pub skipped : new.skipped ≡ old.skipped
-  pub other : new.other ≡ old.other
-
--- the last number, the last minimum and the count of messages for others are as in the first document
-pub record KeepsMessageNumbers (old new : Document) : Type 0 where
-  pub number : new.number ≡ old.number
-  pub minimum : new.minimum ≡ old.minimum
-  pub other : new.other ≡ old.other
-
--- the answer to the next message: Ok where the client over its document takes it, and then the document is that client's; the
--- client's refusal, and then nothing changed; want of memory, and then it has stopped with its numbers as they were; or that
--- it had stopped before, and then nothing changed
-abbrev pub AnswersEntry : Observer → Observer → Entry → Result (Unit {0}) ProcessFault → Type 0
-AnswersEntry old new entry (Ok _) = (old.stop ≡ None) × (new.stop ≡ None) × (process (client_over old.doc) entry ≡ Ok (client_over new.doc))
-AnswersEntry old new entry (Err OutOfMemory) = (old.stop ≡ None) × (new.stop ≡ Some old.doc.number) × KeepsNumbers old.doc new.doc
-AnswersEntry old new entry (Err (Stopped seq)) = (old.stop ≡ Some seq) × (new ≡ old)
-AnswersEntry old new entry (Err fault) = (old.stop ≡ None) × (new ≡ old) × (process (client_over old.doc) entry ≡ Err fault)
+  pub stop : Option Numbers
 
 -- the numbers of an observer over a document
 abbrev pub numbers_of : Document → Numbers
@@ -47,3 +25,20 @@ numbers_of doc = record {
   made = max doc.text.made (max doc.rows.made doc.cols.made);
   link = Offline;
 }
+
+-- the numbers that an observer tells: those with which it stopped, or else those of its document
+abbrev pub told_numbers : Observer → Numbers
+told_numbers x = elim x.stop [ Some numbers ↦ numbers | None ↦ numbers_of x.doc ]
+
+-- the number at which an observer stopped, if it did
+abbrev pub stop_number : Observer → Option ℕ
+stop_number x = option_map (λ numbers. numbers.seq) x.stop
+
+-- the answer to the next message: Ok where the client over its document takes it, and then the document is that client's; the
+-- client's refusal, and then nothing changed; want of memory, and then it has stopped with its numbers as they were; or that
+-- it had stopped before, and then nothing changed
+abbrev pub AnswersEntry : Observer → Observer → Entry → Result (Unit {0}) ProcessFault → Type 0
+AnswersEntry old new entry (Ok _) = (old.stop ≡ None) × (new.stop ≡ None) × (process (client_over old.doc) entry ≡ Ok (client_over new.doc))
+AnswersEntry old new entry (Err OutOfMemory) = (old.stop ≡ None) × (new.stop ≡ Some (numbers_of old.doc))
+AnswersEntry old new entry (Err (Stopped seq)) = (stop_number old ≡ Some seq) × (new ≡ old)
+AnswersEntry old new entry (Err fault) = (old.stop ≡ None) × (new ≡ old) × (process (client_over old.doc) entry ≡ Err fault)

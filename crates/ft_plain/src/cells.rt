@@ -28,14 +28,14 @@ impl Model for PlainCell {
 }
 
 impl PlainCell {
-    /// Whether it is the cell of that row and column. It takes no memory.
+    /// Whether it is the cell of that row and column.
     fn is_at(&self, row: ElementName, col: ElementName) -> bool
         ensures { result ≡ is_cell row col self.now }
     {
         row.same(&self.row) && col.same(&self.col)
     }
 
-    /// Whether it belongs to that row. It takes no memory.
+    /// Whether it belongs to that row.
     fn is_in_row(&self, row: ElementName) -> bool
         ensures { result ≡ same_id row self.now.row }
     {
@@ -59,7 +59,7 @@ impl Model for PlainCells {
 }
 
 impl PlainCells {
-    /// No cells. It takes no memory.
+    /// No cells.
     pub fn new(alloc: Global) -> PlainCells
         ensures { result ≡ [] }
     {
@@ -88,7 +88,7 @@ impl PlainCells {
         self.put(PlainCell { row, col, value })
     }
 
-    /// Takes the cell of that row and column out, if it is there. It takes no memory.
+    /// Takes the cell of that row and column out, if it is there.
     fn take_out(&mut self, row: ElementName, col: ElementName)
         ensures { self.new ≡ filter (λ other. not (is_cell row col other)) self.old }
     {
@@ -118,8 +118,7 @@ impl PlainCells {
         self.items.iter().position(|cell| cell.is_at(row, col))
     }
 
-    /// The value of the cell of that row and column: None exactly where it has none. It takes no
-    /// memory.
+    /// The value of the cell of that row and column: None exactly where it has none.
     pub fn value(&self, row: ElementName, col: ElementName) -> Option<&ValText>
         ensures { option_copied result ≡ cell_value row col self.now }
     {
@@ -129,7 +128,7 @@ impl PlainCells {
         }
     }
 
-    /// Whether a cell belongs to that row. It takes no memory.
+    /// Whether a cell belongs to that row.
     pub fn has_row(&self, row: ElementName) -> bool
         ensures { result ≡ list_any (λ cell. same_id row cell.row) self.now }
     {

@@ -1,13 +1,13 @@
 //! The document of a plain replica, and what sequenced messages make of it.
 
-ghost use Rattle.std.specs.Prelude.{◌≡◌, ◌<◌, ◌^◌, Some, OnOk, OnErr, pos};
+ghost use Rattle.std.specs.Prelude.{◌≡◌, ◌+◌, ◌<◌, ◌≤◌, ◌^◌, None, Some, OnOk, OnErr, length, pos};
 ghost use Rattle.ft_op.specs.Operation.{sub_operations};
 ghost use Rattle.ft_op.specs.Document.{effects, empty, with_skip};
 ghost use Rattle.ft_msg.specs.Agreed.{body_effect, reference_number, take_entry};
 ghost use Rattle.ft_msg.specs.Client.{client_over};
 ghost use Rattle.ft_msg.specs.Process.{numbers_fault, process_fault};
 ghost use Rattle.ft_msg.specs.WellFormed.{HasNumbersInRange};
-ghost use Rattle.ft_plain.specs.Observer.{KeepsMessageNumbers, KeepsNumbers, numbers_of};
+ghost use Rattle.ft_plain.specs.Observer.{numbers_of};
 
 mod grid_effects;
 mod interval_effects;
@@ -50,7 +50,7 @@ impl Model for PlainDocument {
 }
 
 impl PlainDocument {
-    /// The document at number 0. It takes no memory.
+    /// The document at number 0.
     pub fn new(alloc: Global) -> PlainDocument
         ensures { result ≡ empty }
     {
@@ -67,54 +67,55 @@ impl PlainDocument {
         }
     }
 
-    /// Its allocator. It takes no memory.
+    /// Its allocator.
     pub fn alloc(&self) -> Global {
         self.text.alloc()
     }
 
-    /// The last number. It takes no memory.
+    /// The last number.
     pub fn number(&self) -> u64
         ensures { result ≡ self.now.number }
     {
         self.number
     }
 
-    /// The elements of the text, removed ones included. It takes no memory.
+    /// The elements of the text, removed ones included.
     pub fn text(&self) -> &[PlainElement]
-        ensures { result.now ≡ self.now.text.items }
+        ensures items { result.now ≡ self.now.text.items }
+        ensures countable { length result.now < 2 ^ 53 }
     {
         self.text.as_slice()
     }
 
-    /// The units of the rows, removed ones included. It takes no memory.
+    /// The units of the rows, removed ones included.
     pub fn rows(&self) -> &[PlainElement]
         ensures { result.now ≡ self.now.rows.items }
     {
         self.rows.as_slice()
     }
 
-    /// The units of the columns, removed ones included. It takes no memory.
+    /// The units of the columns, removed ones included.
     pub fn cols(&self) -> &[PlainElement]
         ensures { result.now ≡ self.now.cols.items }
     {
         self.cols.as_slice()
     }
 
-    /// The intervals by rising label and id. It takes no memory.
+    /// The intervals by rising label and id.
     pub fn intervals(&self) -> &[PlainInterval]
         ensures { result.now ≡ self.now.intervals }
     {
         self.intervals.as_slice()
     }
 
-    /// The cells that have a value. It takes no memory.
+    /// The cells that have a value.
     pub fn cells(&self) -> &PlainCells
         ensures { result.now ≡ self.now.cells }
     {
         &self.cells
     }
 
-    /// The numbers of an observer over it. It takes no memory.
+    /// The numbers of an observer over it.
     pub fn numbers(&self) -> Numbers
         ensures { result ≡ numbers_of self.now }
     {
@@ -130,10 +131,11 @@ impl PlainDocument {
     }
 
     /// Why an observer refuses the entry, if it does: it isn't the next one, or its numbers
-    /// contradict what is kept. It takes no memory.
+    /// contradict what is kept.
     pub fn process_fault(&self, entry: &Entry) -> Option<ProcessFault>
         requires { HasNumbersInRange entry.now.msg }
-        ensures { result ≡ process_fault (client_over self.now) entry.now }
+        ensures fault { result ≡ process_fault (client_over self.now) entry.now }
+        ensures next { result ≡ None → entry.now.msg.seq ≡ self.now.number + 1 }
     {
         if entry.msg.seq != self.number + 1 {
             return Some(ProcessFault::OutOfOrder {
@@ -184,22 +186,19 @@ impl PlainDocument {
 
     /// Takes an entry.
     ///
-    /// Answers `OutOfMemory` where there is no room, or a count would pass 2^64 - 1, and then the
-    /// numbers are as they were, but nothing is said of the rest.
+    /// Answers `OutOfMemory` where there is no room, the count of skipped sub-operations would pass
+    /// 2^64 - 1, or that of the elements of a list 2^53 - 1, and then nothing is said of the document.
     pub fn take(&mut self, entry: &Entry) -> Result<(), OutOfMemory>
-        requires { HasNumbersInRange entry.now.msg }
-        ensures ok { OnOk result (self.new ≡ take_entry self.old entry.now) }
-        ensures err { OnErr result (KeepsNumbers self.old self.new) }
+        requires in_range { HasNumbersInRange entry.now.msg }
+        requires others { self.old.other < 2 ^ 53 }
+        ensures taken { OnOk result (self.new ≡ take_entry self.old entry.now) }
+        ensures others { OnOk result (self.new.other ≤ self.old.other + 1) }
     {
-        let skipped = self.skipped;
         let at = Perspective {
             r: reference_number(entry.msg.ref_seq),
             c: entry.origin,
         };
-        if self.take_body(&entry.msg.body, entry.msg.seq, at).is_err() {
-            self.skipped = skipped;
-            return Err(OutOfMemory);
-        }
+        self.take_body(&entry.msg.body, entry.msg.seq, at)?;
         self.number = entry.msg.seq;
         self.minimum = entry.msg.min;
         Ok(())
@@ -207,14 +206,14 @@ impl PlainDocument {
 
     /// Takes the body of a message with number `seq`.
     fn take_body(&mut self, body: &Body, seq: u64, at: Perspective) -> Result<(), OutOfMemory>
-        ensures ok { OnOk result (self.new ≡ body_effect self.old seq at.c at.r body.now) }
-        ensures err { OnErr result (KeepsMessageNumbers self.old self.new) }
+        requires { self.old.other < 2 ^ 53 }
+        ensures { OnOk result (self.new ≡ body_effect self.old seq at.c at.r body.now) }
     {
         match body {
             Body::Nothing => Ok(()),
             Body::Op(op) => self.apply(op, seq, at),
             Body::Elsewhere(_) => {
-                self.other = self.other.checked_add(1).ok_or(OutOfMemory)?;
+                self.other += 1;
                 Ok(())
             }
         }
@@ -222,8 +221,7 @@ impl PlainDocument {
 
     /// Applies an operation under number `seq`.
     fn apply(&mut self, op: &ChannelOp, seq: u64, at: Perspective) -> Result<(), OutOfMemory>
-        ensures ok { OnOk result (self.new ≡ effects self.old seq at.c at.r (sub_operations op.now)) }
-        ensures kept { KeepsMessageNumbers self.old self.new }
+        ensures { OnOk result (self.new ≡ effects self.old seq at.c at.r (sub_operations op.now)) }
     {
         match op {
             ChannelOp::Text(op) => self.apply_to_text(op, seq, at),

@@ -55,7 +55,7 @@ impl Model for PlainElement {
 }
 
 impl PlainElement {
-    /// An element that nobody has removed or changed. It takes no memory.
+    /// An element that nobody has removed or changed.
     pub fn new(
         alloc: Global,
         nth: u64,
@@ -78,56 +78,56 @@ impl PlainElement {
         }
     }
 
-    /// What it is. It takes no memory.
+    /// What it is.
     pub fn content(&self) -> Content
         ensures { content_of result ≡ self.now.content }
     {
         self.content
     }
 
-    /// Its name. It takes no memory.
+    /// Its name.
     pub fn name(&self) -> ElementName
         ensures { result ≡ name_of_element self.now }
     {
         ElementName::new(&self.ins, self.nth)
     }
 
-    /// Whether it has this name. It takes no memory.
+    /// Whether it has this name.
     pub fn has_name(&self, name: &ElementName) -> bool
         ensures { result ≡ has_id name.now self.now }
     {
         name.same(&self.name())
     }
 
-    /// Whether its insertion is sequenced. It takes no memory.
+    /// Whether its insertion is sequenced.
     pub fn is_sequenced(&self) -> bool
         ensures { result ≡ is_sequenced self.now }
     {
         matches!(self.ins, Stamp::Acked { .. })
     }
 
-    /// Whether its insertion is sequenced and no removal of it is. It takes no memory.
+    /// Whether its insertion is sequenced and no removal of it is.
     pub fn is_unremoved(&self) -> bool
         ensures { result ≡ is_unremoved self.now }
     {
         self.is_sequenced() && !has_any_sequenced(self.dels.as_slice())
     }
 
-    /// Whether its insertion is pending. It takes no memory.
+    /// Whether its insertion is pending.
     pub fn is_pending(&self) -> bool
         ensures { result ≡ is_pending self.now }
     {
         matches!(self.ins, Stamp::Local { .. })
     }
 
-    /// Whether the perspective sees it. It takes no memory.
+    /// Whether the perspective sees it.
     pub fn is_seen_by(&self, at: Perspective) -> bool
         ensures { result ≡ seen_by at.r at.c self.now }
     {
         has_occurred(&self.ins, at) && !has_any_occurred(self.dels.as_slice(), at)
     }
 
-    /// Whether a client sees it at its pending stage. It takes no memory.
+    /// Whether a client sees it at its pending stage.
     pub fn is_seen_at(&self, stage: u64) -> bool
         ensures { result ≡ seen stage self.now }
     {

@@ -28,14 +28,14 @@ impl Model for NamedEnds {
 }
 
 impl NamedEnds {
-    /// The element at the start, if there is one. It takes no memory.
+    /// The element at the start, if there is one.
     pub fn first(&self) -> Option<ElementName>
         ensures { result ≡ self.now.first }
     {
         self.first
     }
 
-    /// The element at the end, if there is one. It takes no memory.
+    /// The element at the end, if there is one.
     pub fn second(&self) -> Option<ElementName>
         ensures { result ≡ self.now.second }
     {
@@ -44,7 +44,6 @@ impl NamedEnds {
 }
 
 /// Whether both ends are detached, or both are places among the elements that the perspective sees.
-/// It takes no memory.
 pub fn ends_fit(list: &PlainList, ends: Ends, at: Perspective) -> bool
     ensures { result ≡ ends_fit (len (seen_by at.r at.c) list.now.items) ends }
 {
@@ -53,7 +52,7 @@ pub fn ends_fit(list: &PlainList, ends: Ends, at: Perspective) -> bool
         || (is_place(count, ends.start) && is_place(count, ends.end))
 }
 
-/// The same, if ends are given. It takes no memory.
+/// The same, if ends are given.
 pub fn given_ends_fit(list: &PlainList, ends: Option<Ends>, at: Perspective) -> bool
     ensures { result ≡ given_ends_fit (len (seen_by at.r at.c) list.now.items) ends }
 {
@@ -63,7 +62,7 @@ pub fn given_ends_fit(list: &PlainList, ends: Option<Ends>, at: Perspective) -> 
     }
 }
 
-/// The elements at the ends, among those that the perspective sees. It takes no memory.
+/// The elements at the ends, among those that the perspective sees.
 pub fn elements_at_ends(list: &PlainList, ends: Ends, at: Perspective) -> NamedEnds
     ensures { result ≡ elements_at_ends (seen_by at.r at.c) list.now.items ends }
 {
@@ -73,7 +72,7 @@ pub fn elements_at_ends(list: &PlainList, ends: Ends, at: Perspective) -> NamedE
     }
 }
 
-/// The elements at the ends, if ends are given. It takes no memory.
+/// The elements at the ends, if ends are given.
 pub fn elements_at_given_ends(list: &PlainList, ends: Option<Ends>, at: Perspective) -> NamedEnds
     ensures { result ≡ elements_at_given_ends (seen_by at.r at.c) list.now.items ends }
 {

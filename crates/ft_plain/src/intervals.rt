@@ -38,7 +38,7 @@ impl Model for PlainInterval {
 }
 
 impl PlainInterval {
-    /// An interval with these parts. It takes no memory.
+    /// An interval with these parts.
     pub fn new(label: Text, id: Text, ends: &NamedEnds, props: Props) -> PlainInterval
         ensures { result ≡ record { label = label; id = id; start = ends.now.first; end = ends.now.second; props = props } }
     {
@@ -51,49 +51,49 @@ impl PlainInterval {
         }
     }
 
-    /// Its label. It takes no memory.
+    /// Its label.
     pub fn label(&self) -> &Text
         ensures { result.now ≡ self.now.label }
     {
         &self.label
     }
 
-    /// Its id. It takes no memory.
+    /// Its id.
     pub fn id(&self) -> &Text
         ensures { result.now ≡ self.now.id }
     {
         &self.id
     }
 
-    /// The element at its start, if it is attached. It takes no memory.
+    /// The element at its start, if it is attached.
     pub fn start(&self) -> Option<ElementName>
         ensures { result ≡ self.now.start }
     {
         self.start
     }
 
-    /// The element at its end, if it is attached. It takes no memory.
+    /// The element at its end, if it is attached.
     pub fn end(&self) -> Option<ElementName>
         ensures { result ≡ self.now.end }
     {
         self.end
     }
 
-    /// Its properties. It takes no memory.
+    /// Its properties.
     pub fn props(&self) -> &Props
         ensures { result.now ≡ self.now.props }
     {
         &self.props
     }
 
-    /// Whether it is the interval of that label and id. It takes no memory.
+    /// Whether it is the interval of that label and id.
     fn is_of(&self, label: &Text, id: &Text) -> bool
         ensures { result ≡ is_interval label.now id.now self.now }
     {
         is_same_text(label, &self.label) && is_same_text(id, &self.id)
     }
 
-    /// The order of the two: by label, then by id. It takes no memory.
+    /// The order of the two: by label, then by id.
     fn order(&self, other: &PlainInterval) -> Ordering
         ensures { result ≡ interval_cmp self.now other.now }
     {
@@ -124,7 +124,7 @@ impl PlainInterval {
         Ok(())
     }
 
-    /// Slides both ends. It takes no memory.
+    /// Slides both ends.
     fn slide(&mut self, items: &[PlainElement])
         ensures { self.new ≡ slide_interval items.now self.old }
     {
@@ -156,7 +156,7 @@ impl Model for PlainIntervals {
 }
 
 impl PlainIntervals {
-    /// No intervals. It takes no memory.
+    /// No intervals.
     pub fn new(alloc: Global) -> PlainIntervals
         ensures { result ≡ [] }
     {
@@ -165,14 +165,14 @@ impl PlainIntervals {
         }
     }
 
-    /// All in order. It takes no memory.
+    /// All in order.
     pub fn as_slice(&self) -> &[PlainInterval]
         ensures { result.now ≡ self.now }
     {
         self.items.as_slice()
     }
 
-    /// Whether the label has the id. It takes no memory.
+    /// Whether the label has the id.
     pub fn has(&self, label: &Text, id: &Text) -> bool
         ensures { result ≡ has_interval label.now id.now self.now }
     {
@@ -218,14 +218,14 @@ impl PlainIntervals {
         Ok(())
     }
 
-    /// Takes the interval of that label and id out, if it is there. It takes no memory.
+    /// Takes the interval of that label and id out, if it is there.
     pub fn delete(&mut self, label: &Text, id: &Text)
         ensures { self.new ≡ filter (λ i. not (is_interval label.now id.now i)) self.old }
     {
         self.items.retain(|i| !i.is_of(label, id));
     }
 
-    /// Slides all ends. It takes no memory.
+    /// Slides all ends.
     pub fn slide_ends(&mut self, items: &[PlainElement])
         ensures { self.new ≡ slide_ends items.now self.old }
     {

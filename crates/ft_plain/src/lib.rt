@@ -1,4 +1,5 @@
-//! A plain replica: each list is one `Vec`, removed elements included.
+//! A plain replica: each list is one `Vec`, removed elements included. Only a call that can answer
+//! `OutOfMemory` takes memory.
 #![tactic(auto)]
 
 mod cells;
@@ -14,7 +15,5 @@ mod shown;
 mod shown_grid;
 mod shown_intervals;
 mod slides;
-#[cfg(test)]
-mod tests;
 
 pub use plain::Plain;

@@ -1,6 +1,6 @@
 //! One list of a plain replica: the text, the rows or the columns.
 
-ghost use Rattle.std.specs.Prelude.{◌≡◌, [], None, OnOk, OnErr, map, nat_le, option_map, replicate};
+ghost use Rattle.std.specs.Prelude.{◌≡◌, ◌+◌, ◌<◌, ◌^◌, [], None, IfOk, OnOk, OnErr, length, map, nat_le, option_map, replicate};
 ghost use Rattle.ft_base.specs.Scan.{at as seen_at, change_range, len};
 ghost use Rattle.ft_base.specs.declared.stamps.Stamp.TheVariants.{Acked};
 ghost use Rattle.ft_props.specs.Element.{GridUnit, id, seen_by, with_annotation};
@@ -17,7 +17,11 @@ use ft_props::{Changes, Props};
 use std::alloc::Global;
 use std::marker::Model;
 
-/// A list of elements, removed ones included, and how many were ever sequenced in it.
+/// How many elements may ever be sequenced in a list.
+const MOST_MADE: u64 = 9_007_199_254_740_991;
+
+/// A list of elements, removed ones included, and how many were ever sequenced in it: at most
+/// 2^53 - 1.
 #[derive(Drop)]
 pub struct PlainList {
     items: Vec<PlainElement>,
@@ -25,15 +29,18 @@ pub struct PlainList {
 }
 
 impl Model for PlainList {
+    ghost use Rattle.std.specs.Prelude.{◌<◌, ◌≤◌, ◌^◌, vec_len};
     ghost use Rattle.ft_props.specs.Steps.{Sequence};
 
     ghost Value = { Sequence };
 
     ghost view = { λ a. record { items = a.items.items; made = a.made } };
+
+    ghost invariant = { λ a. (vec_len a.items ≤ a.made) × (a.made < 2 ^ 53) };
 }
 
 impl PlainList {
-    /// A list without elements. It takes no memory.
+    /// A list without elements.
     pub fn new(alloc: Global) -> PlainList
         ensures { result ≡ empty_list }
     {
@@ -43,33 +50,34 @@ impl PlainList {
         }
     }
 
-    /// Its allocator. It takes no memory.
+    /// Its allocator.
     pub fn alloc(&self) -> Global {
         *self.items.allocator()
     }
 
-    /// How many elements were ever sequenced in it. It takes no memory.
+    /// How many elements were ever sequenced in it.
     pub fn made(&self) -> u64
         ensures { result ≡ self.now.made }
     {
         self.made
     }
 
-    /// The elements in order, removed ones included. It takes no memory.
+    /// The elements in order, removed ones included.
     pub fn as_slice(&self) -> &[PlainElement]
-        ensures { result.now ≡ self.now.items }
+        ensures items { result.now ≡ self.now.items }
+        ensures countable { length result.now < 2 ^ 53 }
     {
         self.items.as_slice()
     }
 
-    /// How many elements the perspective sees. It takes no memory.
+    /// How many elements the perspective sees.
     pub fn seen_count(&self, at: Perspective) -> usize
         ensures { result ≡ len (seen_by at.r at.c) self.now.items }
     {
         seen_count(self.items.as_slice(), at)
     }
 
-    /// Whether the perspective sees at least `p` elements. It takes no memory.
+    /// Whether the perspective sees at least `p` elements.
     pub fn is_within(&self, p: u64, at: Perspective) -> bool
         ensures { result ≡ nat_le p (len (seen_by at.r at.c) self.now.items) }
     {
@@ -77,7 +85,7 @@ impl PlainList {
     }
 
     /// The name of the element that the perspective sees with `i` seen ones before it: None exactly
-    /// where it sees at most `i`. It takes no memory.
+    /// where it sees at most `i`.
     pub fn name_at(&self, i: u64, at: Perspective) -> Option<ElementName>
         ensures { result ≡ option_map id (seen_at (seen_by at.r at.c) i self.now.items) }
     {
@@ -87,8 +95,8 @@ impl PlainList {
     /// Puts new elements with these properties in under number `seq` by the perspective's connection, directly
     /// after the `p`-th element that the perspective sees, but past the run of pending elements there.
     ///
-    /// Answers `OutOfMemory` where there is no room for them or the count of elements passes
-    /// 2^64 - 1, and then the list is as it was.
+    /// Answers `OutOfMemory` where there is no room for them or the count of elements would pass
+    /// 2^53 - 1, and then the list is as it was.
     pub fn insert(
         &mut self,
         p: u64,
@@ -101,19 +109,34 @@ impl PlainList {
         ensures ok { OnOk result (self.new ≡ after_insertion seq at.c at.r p by props.now (map content_of contents.now) self.old) }
         ensures err { OnErr result (self.new ≡ self.old) }
     {
+        let made = self.made_with(contents.len())?;
         let ins = Stamp::Acked { seq, conn: at.c };
         let new = new_elements(self.alloc(), self.made, ins, by, props, contents)?;
         let place = place_of(self.items.as_slice(), p, at);
         let i = place + pending_run(&self.items[place..]);
         put_at(&mut self.items, i, new)?;
-        self.made += contents.len() as u64;
+        self.made = made;
         Ok(())
+    }
+
+    /// How many elements there were ever after so many more.
+    ///
+    /// Answers `OutOfMemory` where they pass 2^53 - 1.
+    fn made_with(&self, count: usize) -> Result<u64, OutOfMemory>
+        ensures sum { IfOk result (λ made. made ≡ self.now.made + count) }
+        ensures countable { IfOk result (λ made. made < 2 ^ 53) }
+    {
+        let count = count as u64;
+        if count > MOST_MADE - self.made {
+            return Err(OutOfMemory);
+        }
+        Ok(self.made + count)
     }
 
     /// Puts so many new units in as `insert` does.
     ///
-    /// Answers `OutOfMemory` where there is no room for them or the count of elements passes
-    /// 2^64 - 1, and then the list is as it was.
+    /// Answers `OutOfMemory` where there is no room for them or the count of elements would pass
+    /// 2^53 - 1, and then the list is as it was.
     pub fn insert_units(
         &mut self,
         p: u64,

@@ -31,7 +31,7 @@ impl Model for ElementName {
 }
 
 impl ElementName {
-    /// The name of the `nth` element with this insertion. It takes no memory.
+    /// The name of the `nth` element with this insertion.
     pub fn new(ins: &Stamp, nth: u64) -> ElementName
         ensures { result ≡ id_of_stamp ins.now nth }
     {
@@ -44,7 +44,7 @@ impl ElementName {
         }
     }
 
-    /// Whether both names are equal. It takes no memory.
+    /// Whether both names are equal.
     pub fn same(&self, other: &ElementName) -> bool
         ensures { result ≡ same_id self.now other.now }
     {

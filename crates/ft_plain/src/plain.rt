@@ -1,10 +1,10 @@
 //! The plain replica. So far it observes messages: it makes no edits of its own.
 
-ghost use Rattle.std.specs.Prelude.{◌≡◌, ◌↔◌, ℕ, IfOk, None, OnOk, Some};
+ghost use Rattle.std.specs.Prelude.{◌≡◌, ◌↔◌, ℕ, IfOk, None, Ok, OnOk, Some};
 ghost use Rattle.ft_msg.specs.WellFormed.{HasNumbersInRange};
 ghost use Rattle.ft_msg.specs.Content.{shown};
 ghost use Rattle.ft_op.specs.Document.{empty};
-ghost use Rattle.ft_plain.specs.Observer.{AnswersEntry, numbers_of};
+ghost use Rattle.ft_plain.specs.Observer.{AnswersEntry, numbers_of, stop_number, told_numbers};
 
 use crate::documents::PlainDocument;
 use crate::shown::{shown_markers, shown_runs, shown_text};
@@ -16,27 +16,30 @@ use std::alloc::Global;
 use std::marker::Model;
 
 /// A replica over plain lists, which contracts see as the document of the messages that it processed
-/// and the number at which it stopped, if it did.
+/// and the numbers with which it stopped, if it did.
 #[derive(Drop)]
 pub struct Plain {
     doc: PlainDocument,
-    stop: Option<u64>,
+    stop: Option<Numbers>,
 }
 
 impl Model for Plain {
+    ghost use Rattle.std.specs.Prelude.{◌≡◌, ◌≤◌, None};
     ghost use Rattle.ft_plain.specs.Observer.{Observer};
 
     ghost Value = { Observer };
 
     ghost view = { λ a. record { doc = a.doc; stop = a.stop } };
+
+    ghost invariant = { λ a. a.stop ≡ None → a.doc.other ≤ a.doc.number };
 }
 
 impl Plain {
     /// A replica at number 0.
     ///
-    /// So far it takes no memory, and always succeeds.
+    /// So far it always succeeds.
     pub fn start(alloc: Global) -> Result<Plain, OutOfMemory>
-        ensures { IfOk result (λ p. p ≡ record { doc = empty; stop = None }) }
+        ensures { result ≡ Ok (record { doc = empty; stop = None }) }
     {
         Ok(Plain {
             doc: PlainDocument::new(alloc),
@@ -48,31 +51,35 @@ impl Plain {
     ///
     /// Answers `Stopped` where an earlier call found no memory; then `OutOfOrder` where the message
     /// isn't the next one; then `BadNumbers` where its reference number or its minimum contradicts what
-    /// the replica keeps; and `OutOfMemory` where there is no room, or a count would pass 2^64 - 1, after
-    /// which the replica has stopped.
+    /// the replica keeps; and `OutOfMemory` where there is no room, the count of skipped sub-operations
+    /// would pass 2^64 - 1, or that of the elements of a list 2^53 - 1, after which the replica has
+    /// stopped.
     pub fn process(&mut self, entry: &Entry) -> Result<(), ProcessFault>
         requires { HasNumbersInRange entry.now.msg }
         ensures { AnswersEntry self.old self.new entry.now result }
     {
-        if let Some(seq) = self.stop {
-            return Err(ProcessFault::Stopped { seq });
+        if let Some(numbers) = self.stop {
+            return Err(ProcessFault::Stopped { seq: numbers.seq });
         }
         if let Some(fault) = self.doc.process_fault(entry) {
             return Err(fault);
         }
-        let number = self.doc.number();
+        let numbers = self.doc.numbers();
         if self.doc.take(entry).is_err() {
-            self.stop = Some(number);
+            self.stop = Some(numbers);
             return Err(ProcessFault::OutOfMemory);
         }
         Ok(())
     }
 
-    /// The numbers. It takes no memory.
+    /// The numbers; after want of memory, those before the call that found none.
     pub fn numbers(&self) -> Numbers
-        ensures { result ≡ numbers_of self.now.doc }
+        ensures { result ≡ told_numbers self.now }
     {
-        self.doc.numbers()
+        match self.stop {
+            Some(numbers) => numbers,
+            None => self.doc.numbers(),
+        }
     }
 
     /// What is shown: its numbers, its text with markers, properties and intervals, and its grid.
@@ -89,10 +96,10 @@ impl Plain {
         ensures cols { IfOk result (λ v. v.cols ≡ (shown self.now.doc).cols) }
         ensures cells { IfOk result (λ v. v.cells ≡ (shown self.now.doc).cells) }
         ensures running { OnOk result (self.now.stop ≡ None) }
-        ensures stopped { (seq : ℕ) → (result ≡ Err (ViewFault.Stopped seq)) ↔ (self.now.stop ≡ Some seq) }
+        ensures stopped { (seq : ℕ) → (result ≡ Err (ViewFault.Stopped seq)) ↔ (stop_number self.now ≡ Some seq) }
     {
-        if let Some(seq) = self.stop {
-            return Err(ViewFault::Stopped { seq });
+        if let Some(numbers) = self.stop {
+            return Err(ViewFault::Stopped { seq: numbers.seq });
         }
         match self.running_view() {
             Ok(view) => Ok(view),

@@ -13,7 +13,7 @@ use ft_base::{OutOfMemory, Perspective, Stamp};
 use ft_props::{Changes, Props};
 use std::alloc::Global;
 
-/// How many elements the perspective sees. It takes no memory.
+/// How many elements the perspective sees.
 #[tactic(auto, using(ft_base::proofs::PlainList::seen_counts))]
 pub fn seen_count(items: &[PlainElement], at: Perspective) -> usize
     ensures { result ≡ len (seen_by at.r at.c) items.now }
@@ -21,8 +21,8 @@ pub fn seen_count(items: &[PlainElement], at: Perspective) -> usize
     items.iter().filter(|e| e.is_seen_by(at)).count()
 }
 
-/// The number of elements up to the `p`-th that the perspective sees: 0 for `p` = 0, and all where it
-/// sees fewer. It takes no memory.
+/// The number of elements up to the `p`-th that the perspective sees: 0 for `p` = 0, and all where
+/// it sees fewer.
 pub fn place_of(items: &[PlainElement], p: u64, at: Perspective) -> usize
     ensures place { result ≡ place (seen_by at.r at.c) p items.now }
     ensures inside { result ≤ length items.now }
@@ -39,8 +39,8 @@ pub fn place_of(items: &[PlainElement], p: u64, at: Perspective) -> usize
     items.len()
 }
 
-/// The name of the element that the perspective sees with `i` seen ones before it: None exactly where
-/// it sees at most `i`. It takes no memory.
+/// The name of the element that the perspective sees with `i` seen ones before it: None exactly
+/// where it sees at most `i`.
 pub fn name_at(items: &[PlainElement], i: u64, at: Perspective) -> Option<ElementName>
     ensures { result ≡ option_map id (seen_at (seen_by at.r at.c) i items.now) }
 {
@@ -56,7 +56,7 @@ pub fn name_at(items: &[PlainElement], i: u64, at: Perspective) -> Option<Elemen
     None
 }
 
-/// How many pending elements stand at the front. It takes no memory.
+/// How many pending elements stand at the front.
 pub fn pending_run(items: &[PlainElement]) -> usize
     ensures run { result ≡ prefix_len is_pending items.now }
     ensures inside { result ≤ length items.now }
@@ -72,7 +72,7 @@ pub fn pending_run(items: &[PlainElement]) -> usize
 /// New elements with these contents and properties, numbered from `first` on, which nobody has removed
 /// or changed.
 ///
-/// Answers `OutOfMemory` where there is no room for them, or their numbers pass 2^64 - 1.
+/// Answers `OutOfMemory` where there is no room for them.
 pub fn new_elements(
     alloc: Global,
     first: u64,
@@ -81,15 +81,16 @@ pub fn new_elements(
     props: &Props,
     contents: &[Content],
 ) -> Result<Vec<PlainElement>, OutOfMemory>
+    requires { first + length contents.now < 2 ^ 64 }
     ensures elements { IfOk result (λ v. v.items ≡ new_elements first ins [] by props.now (map content_of contents.now)) }
-    ensures numbers { OnOk result (first + length contents.now < 2 ^ 64) }
+    ensures count { IfOk result (λ v. length v.items ≡ length contents.now) }
 {
     let mut elements = Vec::new(alloc);
     let mut nth = first;
     for content in contents {
         let e = PlainElement::new(alloc, nth, *content, ins, by, props.copy()?);
         elements.push(e)?;
-        nth = nth.checked_add(1).ok_or(OutOfMemory)?;
+        nth += 1;
     }
     Ok(elements)
 }
@@ -104,6 +105,7 @@ pub fn put_at(
 ) -> Result<(), OutOfMemory>
     requires { i ≤ length items.old.items }
     ensures ok { OnOk result (items.new.items ≡ take i items.old.items ++ (new.items ++ drop i items.old.items)) }
+    ensures count { OnOk result (length items.new.items ≡ length items.old.items + length new.items) }
     ensures err { OnErr result (items.new.items ≡ items.old.items) }
 {
     let count = new.len();

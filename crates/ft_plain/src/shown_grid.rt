@@ -11,7 +11,7 @@ use ft_json::ValText;
 use ft_sumdoc::{CellRec, CellRecs};
 use std::alloc::Global;
 
-/// How many elements a client sees at its pending stage. It takes no memory.
+/// How many elements a client sees at its pending stage.
 pub fn shown_count(items: &[PlainElement], stage: u64) -> usize
     ensures { result ≡ length (stage_view stage items.now) }
 {

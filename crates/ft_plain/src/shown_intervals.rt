@@ -1,6 +1,6 @@
 //! The intervals that are shown.
 
-ghost use Rattle.std.specs.Prelude.{◌≡◌, IfOk, map};
+ghost use Rattle.std.specs.Prelude.{◌≡◌, ◌<◌, ◌≤◌, ◌^◌, IfOk, length, map};
 ghost use Rattle.ft_base.specs.Scan.{rank};
 ghost use Rattle.ft_props.specs.Element.{has_id, seen};
 ghost use Rattle.ft_props.specs.Slide.{end_number};
@@ -22,6 +22,7 @@ pub fn shown_intervals(
     intervals: &[PlainInterval],
     stage: u64,
 ) -> Result<IntervalRecs, OutOfMemory>
+    requires { length items.now < 2 ^ 53 }
     ensures { IfOk result (λ shown. shown ≡ map (interval_record stage items.now) intervals.now) }
 {
     let mut shown = IntervalRecs::new(alloc);
@@ -37,38 +38,35 @@ fn shown_interval(
     i: &PlainInterval,
     stage: u64,
 ) -> Result<IntervalRec, OutOfMemory>
+    requires { length items.now < 2 ^ 53 }
     ensures { IfOk result (λ shown. shown ≡ interval_record stage items.now i.now) }
 {
     Ok(IntervalRec {
         label: i.label().copy()?,
         id: i.id().copy()?,
         ends: Ends2 {
-            start: end_number(items, i.start(), stage)?,
-            end: end_number(items, i.end(), stage)?,
+            start: end_number(items, i.start(), stage),
+            end: end_number(items, i.end(), stage),
         },
         props: i.props().copy()?,
     })
 }
 
 /// How many seen elements stand left of the end, -1 where it is detached.
-///
-/// Answers `OutOfMemory` where they are 2^63 or more, which no memory holds.
-fn end_number(
-    items: &[PlainElement],
-    end: Option<ElementName>,
-    stage: u64,
-) -> Result<i64, OutOfMemory>
-    ensures { IfOk result (λ number. number ≡ end_number stage items.now end) }
+fn end_number(items: &[PlainElement], end: Option<ElementName>, stage: u64) -> i64
+    requires { length items.now < 2 ^ 53 }
+    ensures { result ≡ end_number stage items.now end }
 {
-    let Some(name) = end else {
-        return Ok(-1);
-    };
-    i64::try_from(rank(items, &name, stage)).map_err(|_| OutOfMemory)
+    match end {
+        Some(name) => rank(items, &name, stage) as i64,
+        None => -1,
+    }
 }
 
 /// How many seen elements stand left of the one of that name.
 fn rank(items: &[PlainElement], name: &ElementName, stage: u64) -> u64
-    ensures { result ≡ rank (has_id name.now) (seen stage) items.now }
+    ensures rank { result ≡ rank (has_id name.now) (seen stage) items.now }
+    ensures inside { result ≤ length items.now }
 {
     let mut count = 0;
     for e in items {

@@ -7,8 +7,8 @@ ghost use Rattle.ft_props.specs.Slide.{slide};
 use crate::elements::PlainElement;
 use crate::names::ElementName;
 
-/// The element of the end if no removal of it is sequenced, else the next one of which none is, else
-/// the last one before it, else none. It takes no memory.
+/// The element of the end if no removal of it is sequenced, else the next one of which none is,
+/// else the last one before it, else none.
 pub fn slide(items: &[PlainElement], end: Option<ElementName>) -> Option<ElementName>
     ensures { result ≡ slide items.now end }
 {

@@ -4,7 +4,6 @@ ghost use Rattle.std.specs.Prelude.{◌≡◌, ℕ, OnOk, map};
 ghost use Rattle.ft_op.specs.declared.operations.ChannelOp.TheVariants.{Grid};
 ghost use Rattle.ft_op.specs.Operation.{OnGrid, sub_operations};
 ghost use Rattle.ft_op.specs.Document.{effects, grid_effect, rows_or_cols};
-ghost use Rattle.ft_plain.specs.Observer.{KeepsMessageNumbers};
 
 use crate::documents::PlainDocument;
 use crate::lists::PlainList;
@@ -20,8 +19,7 @@ impl PlainDocument {
         seq: u64,
         at: Perspective,
     ) -> Result<(), OutOfMemory>
-        ensures ok { OnOk result (self.new ≡ effects self.old seq at.c at.r (sub_operations (Grid op.now))) }
-        ensures kept { KeepsMessageNumbers self.old self.new }
+        ensures { OnOk result (self.new ≡ effects self.old seq at.c at.r (sub_operations (Grid op.now))) }
     {
         match op {
             GridOp::One(op) => self.apply_cell_op(op, seq, at),
@@ -36,8 +34,7 @@ impl PlainDocument {
         seq: u64,
         at: Perspective,
     ) -> Result<(), OutOfMemory>
-        ensures ok { OnOk result (self.new ≡ effects self.old seq at.c at.r (map (λ op. OnGrid op) ops.now)) }
-        ensures kept { KeepsMessageNumbers self.old self.new }
+        ensures { OnOk result (self.new ≡ effects self.old seq at.c at.r (map (λ op. OnGrid op) ops.now)) }
     {
         for op in ops {
             self.apply_cell_op(op, seq, at)?;
@@ -47,8 +44,7 @@ impl PlainDocument {
 
     /// Applies a splice or a cell write.
     fn apply_cell_op(&mut self, op: &CellOp, seq: u64, at: Perspective) -> Result<(), OutOfMemory>
-        ensures ok { OnOk result (self.new ≡ grid_effect self.old seq at.c at.r op.now) }
-        ensures kept { KeepsMessageNumbers self.old self.new }
+        ensures { OnOk result (self.new ≡ grid_effect self.old seq at.c at.r op.now) }
     {
         match op {
             CellOp::SpliceIn { target, pos, count } => {
@@ -80,8 +76,7 @@ impl PlainDocument {
         seq: u64,
         at: Perspective,
     ) -> Result<(), OutOfMemory>
-        ensures ok { OnOk result (self.new ≡ grid_effect self.old seq at.c at.r (CellOp.SpliceIn target p count)) }
-        ensures kept { KeepsMessageNumbers self.old self.new }
+        ensures { OnOk result (self.new ≡ grid_effect self.old seq at.c at.r (CellOp.SpliceIn target p count)) }
     {
         if !self.list(target).is_within(p, at) {
             return self.skip();
@@ -101,8 +96,7 @@ impl PlainDocument {
         seq: u64,
         at: Perspective,
     ) -> Result<(), OutOfMemory>
-        ensures ok { OnOk result (self.new ≡ grid_effect self.old seq at.c at.r (CellOp.SpliceOut target p q)) }
-        ensures kept { KeepsMessageNumbers self.old self.new }
+        ensures { OnOk result (self.new ≡ grid_effect self.old seq at.c at.r (CellOp.SpliceOut target p q)) }
     {
         if !self.list(target).is_within(q, at) {
             return self.skip();
@@ -121,8 +115,7 @@ impl PlainDocument {
         value: &ValText,
         at: Perspective,
     ) -> Result<(), OutOfMemory>
-        ensures ok { (seq : ℕ) → OnOk result (self.new ≡ grid_effect self.old seq at.c at.r (CellOp.Set i j value.now)) }
-        ensures kept { KeepsMessageNumbers self.old self.new }
+        ensures { (seq : ℕ) → OnOk result (self.new ≡ grid_effect self.old seq at.c at.r (CellOp.Set i j value.now)) }
     {
         match (self.rows.name_at(i, at), self.cols.name_at(j, at)) {
             (Some(row), Some(col)) => self.cells.write(row, col, value),

@@ -3,7 +3,6 @@
 ghost use Rattle.std.specs.Prelude.{◌≡◌, ℕ, OnOk};
 ghost use Rattle.ft_op.specs.declared.operations.TextOp.TheVariants.{IntervalAdd, IntervalChange, IntervalDelete};
 ghost use Rattle.ft_op.specs.Document.{interval_effect, with_slid_ends};
-ghost use Rattle.ft_plain.specs.Observer.{KeepsMessageNumbers};
 
 use crate::documents::PlainDocument;
 use crate::ends::{elements_at_ends, elements_at_given_ends, ends_fit, given_ends_fit};
@@ -22,8 +21,7 @@ impl PlainDocument {
         props: &PropSet,
         at: Perspective,
     ) -> Result<(), OutOfMemory>
-        ensures ok { OnOk result (self.new ≡ interval_effect self.old at.c at.r (IntervalAdd label.now id.now ends props.now)) }
-        ensures kept { KeepsMessageNumbers self.old self.new }
+        ensures { OnOk result (self.new ≡ interval_effect self.old at.c at.r (IntervalAdd label.now id.now ends props.now)) }
     {
         if !ends_fit(&self.text, ends, at) {
             return self.skip();
@@ -48,8 +46,7 @@ impl PlainDocument {
         props: &PropSet,
         at: Perspective,
     ) -> Result<(), OutOfMemory>
-        ensures ok { OnOk result (self.new ≡ interval_effect self.old at.c at.r (IntervalChange label.now id.now ends props.now)) }
-        ensures kept { KeepsMessageNumbers self.old self.new }
+        ensures { OnOk result (self.new ≡ interval_effect self.old at.c at.r (IntervalChange label.now id.now ends props.now)) }
     {
         if !given_ends_fit(&self.text, ends, at) {
             return self.skip();
@@ -60,16 +57,15 @@ impl PlainDocument {
         Ok(())
     }
 
-    /// Takes an interval away, if it is there. It takes no memory.
+    /// Takes an interval away, if it is there.
     pub(crate) fn delete_interval(&mut self, label: &Text, id: &Text)
-        ensures effect { (c r : ℕ) → self.new ≡ interval_effect self.old c r (IntervalDelete label.now id.now) }
-        ensures kept { KeepsMessageNumbers self.old self.new }
+        ensures { (c r : ℕ) → self.new ≡ interval_effect self.old c r (IntervalDelete label.now id.now) }
     {
         self.intervals.delete(label, id);
         self.slide_ends();
     }
 
-    /// Slides each end of an interval. It takes no memory.
+    /// Slides each end of an interval.
     pub(crate) fn slide_ends(&mut self)
         ensures { self.new ≡ with_slid_ends self.old }
     {

@@ -4,7 +4,6 @@ ghost use Rattle.std.specs.Prelude.{◌≡◌, ℕ, IfOk, OnOk, chars, map};
 ghost use Rattle.ft_op.specs.Operation.{OnText, segment_contents, text_sub_operations};
 ghost use Rattle.ft_op.specs.Document.{effects, text_effect};
 ghost use Rattle.ft_plain.specs.Contents.{content_of};
-ghost use Rattle.ft_plain.specs.Observer.{KeepsMessageNumbers};
 
 use crate::documents::PlainDocument;
 use crate::elements::Content;
@@ -21,8 +20,7 @@ impl PlainDocument {
         seq: u64,
         at: Perspective,
     ) -> Result<(), OutOfMemory>
-        ensures ok { OnOk result (self.new ≡ effects self.old seq at.c at.r (text_sub_operations op.now)) }
-        ensures kept { KeepsMessageNumbers self.old self.new }
+        ensures { OnOk result (self.new ≡ effects self.old seq at.c at.r (text_sub_operations op.now)) }
     {
         match op {
             TextOp::One(op) => self.apply_text_op(op, seq, at),
@@ -53,8 +51,7 @@ impl PlainDocument {
         seq: u64,
         at: Perspective,
     ) -> Result<(), OutOfMemory>
-        ensures ok { OnOk result (self.new ≡ effects self.old seq at.c at.r (map (λ op. OnText op) ops.now)) }
-        ensures kept { KeepsMessageNumbers self.old self.new }
+        ensures { OnOk result (self.new ≡ effects self.old seq at.c at.r (map (λ op. OnText op) ops.now)) }
     {
         for op in ops {
             self.apply_text_op(op, seq, at)?;
@@ -64,8 +61,7 @@ impl PlainDocument {
 
     /// Applies an insertion, a removal or an annotation.
     fn apply_text_op(&mut self, op: &BaseOp, seq: u64, at: Perspective) -> Result<(), OutOfMemory>
-        ensures ok { OnOk result (self.new ≡ text_effect self.old seq at.c at.r op.now) }
-        ensures kept { KeepsMessageNumbers self.old self.new }
+        ensures { OnOk result (self.new ≡ text_effect self.old seq at.c at.r op.now) }
     {
         match op {
             BaseOp::Insert { pos, seg, props } => self.insert_text(*pos, seg, props, seq, at),
@@ -87,8 +83,7 @@ impl PlainDocument {
         seq: u64,
         at: Perspective,
     ) -> Result<(), OutOfMemory>
-        ensures ok { OnOk result (self.new ≡ text_effect self.old seq at.c at.r (BaseOp.Insert p seg.now props.now)) }
-        ensures kept { KeepsMessageNumbers self.old self.new }
+        ensures { OnOk result (self.new ≡ text_effect self.old seq at.c at.r (BaseOp.Insert p seg.now props.now)) }
     {
         if !self.text.is_within(p, at) {
             return self.skip();
@@ -102,8 +97,7 @@ impl PlainDocument {
 
     /// Removes the elements of the text from `p` up to before `q`, and slides the ends of intervals.
     fn remove_text(&mut self, p: u64, q: u64, seq: u64, at: Perspective) -> Result<(), OutOfMemory>
-        ensures ok { OnOk result (self.new ≡ text_effect self.old seq at.c at.r (BaseOp.Remove p q)) }
-        ensures kept { KeepsMessageNumbers self.old self.new }
+        ensures { OnOk result (self.new ≡ text_effect self.old seq at.c at.r (BaseOp.Remove p q)) }
     {
         if !self.text.is_within(q, at) {
             return self.skip();
@@ -121,8 +115,7 @@ impl PlainDocument {
         changes: &Changes,
         at: Perspective,
     ) -> Result<(), OutOfMemory>
-        ensures ok { (seq : ℕ) → OnOk result (self.new ≡ text_effect self.old seq at.c at.r (BaseOp.Annotate p q changes.now)) }
-        ensures kept { KeepsMessageNumbers self.old self.new }
+        ensures { (seq : ℕ) → OnOk result (self.new ≡ text_effect self.old seq at.c at.r (BaseOp.Annotate p q changes.now)) }
     {
         if !self.text.is_within(q, at) {
             return self.skip();

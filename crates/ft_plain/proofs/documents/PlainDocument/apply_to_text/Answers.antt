@@ -3,7 +3,7 @@ use Rattle.ft_op.specs.Operation.{text_sub_operations}
 use Rattle.ft_op.specs.Document.{effects}
 use Rattle.ft_plain.proofs.documents.PlainDocument.apply_to_text.Goals as goal
 
-pub returns-in-IntervalDelete-clause-ok : goal.returns-in-IntervalDelete-clause-ok
-returns-in-IntervalDelete-clause-ok c =
-    c.delete_interval.ensures.effect c.args.at.c c.args.at.r
+pub returns-in-IntervalDelete : goal.returns-in-IntervalDelete
+returns-in-IntervalDelete c =
+    c.delete_interval.ensures c.args.at.c c.args.at.r
     ∙ ap (λ op. effects c.args.self.now c.args.seq c.args.at.c c.args.at.r (text_sub_operations op)) (sym c.in-IntervalDelete.is)
