@@ -1,27 +1,11 @@
-//! Vemiktag's program: what it reads, what it writes, and how it ends.
+//! Vemiktag's program: its words, its standard input and its standard output, given to a run.
 //!
-//! `log` reads sequenced messages from standard input, one a line, and writes to standard output what
-//! an observer of them shows at the end, and which lines were refused. The program ends with 0 where
-//! nothing was refused or skipped, 1 where something was, 2 where the words are no form, 3 and 4 where
-//! the input or the output failed, 5 where no memory was found, 6 where the input is too long, and 7
-//! where the system doesn't tell the words.
+//! It ends with 0 where nothing was refused or skipped, 1 where something was, 2 where the words are no
+//! form, 3 and 4 where the input or the output failed, 5 where no memory was found, 6 where the input is
+//! too long, and 7 where the system doesn't tell the words.
 #![tactic(auto)]
 
-pub mod observer;
-#[cfg(test)]
-mod operation_cases;
-pub mod refusals;
-pub mod replay;
-pub mod report;
-pub mod running;
-pub mod statuses;
-#[cfg(test)]
-mod tests;
-pub mod view_lines;
-pub mod words;
-pub mod writing;
-
-use crate::running::run;
+use ft_cli::running::run;
 use ft_io::{StdSink, StdSource};
 use std::alloc::AllocError;
 use std::process::ExitCode;
