@@ -1,5 +1,5 @@
 -- What an observer makes of a message, in the steps in which the code comes to it, and the lines of its view.
-use Rattle.std.proofs.Common.{◌≡◌, ℕ, ◌+◌, ◌≤◌, List, [], ◌∷◌, Option, Some, None, length, arith, refl, sym, ◌∙◌, ap}
+use Rattle.std.proofs.Common.{◌≡◌, ℕ, ◌+◌, ◌≤◌, List, [], ◌∷◌, Option, Some, None, length, arith, refl, sym, ◌∙◌, ap, option_map}
 use Rattle.ft_op.specs.Document.{Document}
 use Rattle.ft_msg.specs.declared.messages.Entry.{Entry}
 use Rattle.ft_msg.specs.declared.messages.Message.{Message}
@@ -8,7 +8,7 @@ use Rattle.ft_msg.specs.Client.{client_over}
 use Rattle.ft_msg.specs.Content.{ViewContent, shown}
 use Rattle.ft_msg.specs.NameTable.{names_after}
 use Rattle.ft_msg.specs.Process.{process}
-use Rattle.ft_plain.specs.Observer.{numbers_of}
+use Rattle.ft_plain.specs.Observer.{Observer, numbers_of, stop_number}
 use Rattle.ft_cli.specs.Report.{bytes_of, view_lines}
 use Rattle.ft_seqr.specs.ViewLines.{content_lines, content_of, numbers_line}
 use Rattle.ft_seqr.specs.Walk.{Step}
@@ -32,6 +32,13 @@ unfolding observe_message
 observe_message-entry seen inside m entry names same is_entry is_names is =
     let given : Entry → List (List ℕ) → Step Observation = λ e ns. observe_answer (record { names = ns; doc = inside.doc }) (process (client_over inside.doc) e) in
     sym (ap (λ s. observe_message s m) same) ∙ sym (ap (λ ns. given (entry_of inside.names m) ns) is_names) ∙ sym (ap (λ e. given e names) is_entry) ∙ is
+
+absurd_none : {n : ℕ} → None ≡ Some n → ⊥
+absurd_none e = cc
+
+-- a replica that has not stopped tells no number at which it did
+pub running-stopped : (x : Observer) (seq : ℕ) → x.stop ≡ None → stop_number x ≡ Some seq → ⊥
+running-stopped x seq running stopped = absurd_none (sym (ap (λ stop. option_map (λ numbers. numbers.seq) stop) running) ∙ stopped)
 
 -- a view with these parts shows this content
 same_content : (v : View) (w : ViewContent) → v.text ≡ w.text → v.markers ≡ w.markers → v.runs ≡ w.runs → v.intervals ≡ w.intervals → v.rows ≡ w.rows → v.cols ≡ w.cols → v.cells ≡ w.cells

@@ -171,7 +171,7 @@ module _ {first next left held holds : Option (List ℕ)} {old new : Reader} {at
   module _ {given : List ℕ} {line : Line} (next_is : NextLine first left old new given stands.handed line) (taken : Option (List ℕ)) where
     -- its step is done
     pub stands_next : (after : Progress Observation) (sink_before sink_now : ℕ) → after ≡ after_line observe at next_is.text
-        → Writes {T = Unit {0}} holds taken sink_before sink_now (bytes_of (written_by_line observe at next_is.text)) (Ok tt) → Stands first left new held taken after
+        → Writes {T = Progress Observation} holds taken sink_before sink_now (bytes_of (written_by_line observe at next_is.text)) (Ok after) → Stands first left new held taken after
     stands_next after sink_before sink_now is writes =
         let text = next_is.text in
         let all : bytes_of (log_lines stands.handed) ++ writes.written ≡ bytes_of (log_lines (stands.handed ++ text ∷ [])) =
@@ -199,7 +199,7 @@ module _ {first next left held holds : Option (List ℕ)} {old new : Reader} {at
 
     -- the run ends with a fault in its step
     pub moves_step : (f : Fault) (sink_start sink_before sink_now : ℕ) (source_rose : Type 0) → sink_start ≤ sink_before
-        → Writes {T = Unit {0}} holds taken sink_before sink_now (bytes_of (written_by_line observe at next_is.text)) (Err f)
+        → Writes {T = Progress Observation} holds taken sink_before sink_now (bytes_of (written_by_line observe at next_is.text)) (Err f)
         → Moves first left held taken (SaysOfLines left source_rose (Rose sink_start sink_now) (Err f))
     moves_step fault.Read sink_start sink_before sink_now source_rose later writes = absurd writes.says
     moves_step fault.InputLimit sink_start sink_before sink_now source_rose later writes = absurd writes.says

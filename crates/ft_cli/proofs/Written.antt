@@ -5,8 +5,8 @@ use Rattle.std.specs.Io.KnownBytes.{Appends}
 use Rattle.ft_io.specs.Streams.{Rose}
 use Rattle.ft_io.proofs.TakenAndLeft.{Appends-nil}
 use Rattle.ft_cli.specs.declared.statuses.Fault.{Fault}
-use Rattle.ft_cli.specs.declared.statuses.Fault.TheVariants.{Write, OutOfMemory}
-use Rattle.ft_cli.specs.Writing.{Begins, Writes}
+use Rattle.ft_cli.specs.declared.statuses.Fault.TheVariants.{Read, Write, OutOfMemory, InputLimit}
+use Rattle.ft_cli.specs.Writing.{Begins, SaysOfWritten, Writes}
 
 -- the first n bytes
 pub begins_take : (n : ℕ) (bytes : List ℕ) → Begins (take n bytes) bytes
@@ -22,11 +22,25 @@ pub writes_failed : {T : Type 0} (held holds : Option (List ℕ)) (before now n 
 writes_failed {T} held holds before now n bytes result is takes later rose =
     subst (Writes {T = T} held holds before now bytes) (sym is) (record { written = take n bytes; takes = takes; later = later; says = (rose, begins_take n bytes) })
 
+-- what a fault says of the bytes written doesn't know what is answered where there is none
+said_of_fault : (T U : Type 0) (rose : Type 0) (bytes written : List ℕ) (fault : Fault) → SaysOfWritten {T = T} rose bytes written (Err fault) → SaysOfWritten {T = U} rose bytes written (Err fault)
+said_of_fault T U rose bytes written Read h = h
+said_of_fault T U rose bytes written Write h = h
+said_of_fault T U rose bytes written OutOfMemory h = h
+said_of_fault T U rose bytes written InputLimit h = h
+
 -- no memory was found before anything was written
 pub writes_nothing : {T : Type 0} (held : Option (List ℕ)) (now : ℕ) (bytes : List ℕ) (result : Result T Fault) → result ≡ Err OutOfMemory → now ≤ now
     → Writes held held now now bytes result
 writes_nothing {T} held now bytes result is same =
     subst (Writes {T = T} held held now now bytes) (sym is) (record { written = []; takes = Appends-nil held; later = same; says = begins_nil bytes })
+
+-- a fault says the same of the bytes written, whatever is answered where there is none
+pub writes_fault : (T U : Type 0) (held holds : Option (List ℕ)) (before now : ℕ) (bytes other : List ℕ) (fault : Fault) (result : Result U Fault) → result ≡ Err fault → bytes ≡ other
+    → Writes {T = T} held holds before now bytes (Err fault) → Writes {T = U} held holds before now other result
+writes_fault T U held holds before now bytes other fault result is same h =
+    subst (Writes {T = U} held holds before now other) (sym is) (subst (λ bs. Writes {T = U} held holds before now bs (Err fault)) same
+    (record { written = h.written; takes = h.takes; later = h.later; says = said_of_fault T U (Rose before now) bytes h.written fault h.says }))
 
 -- behind what was written before
 pub begins_append : (done : List ℕ) {front whole : List ℕ} → Begins front whole → Begins (done ++ front) (done ++ whole)

@@ -2,7 +2,8 @@
 use Rattle.std.specs.Prelude.{ℕ, ◌&&◌, ◌==◌, List, [], ◌∷◌, ◌++◌, Option, Some, None, if◌then◌else◌}
 use Rattle.std.specs.List.{flat_map}
 use Rattle.ft_io.specs.Lines.{lines, ended_lines, with_lf}
-use Rattle.ft_op.specs.Document.{Document}
+use Rattle.ft_op.specs.Document.{Document, empty}
+use Rattle.ft_msg.specs.declared.views.Numbers.{Numbers}
 use Rattle.ft_msg.specs.Content.{shown}
 use Rattle.ft_plain.specs.Observer.{numbers_of}
 use Rattle.ft_seqr.specs.SessionReport.{closing_lines}
@@ -22,6 +23,10 @@ view_lines doc = numbers_line (numbers_of doc) ∷ content_lines (shown doc)
 -- the bytes of lines, each with its LF
 abbrev pub bytes_of : List (List ℕ) → List ℕ
 bytes_of texts = flat_map with_lf texts
+
+-- a document with the counts of these numbers
+abbrev pub counted : Numbers → Document
+counted numbers = record empty { skipped = numbers.skipped; other = numbers.other }
 
 -- an observer after the lines of a log
 abbrev pub log_after : List (List ℕ) → Progress Observation

@@ -1,6 +1,6 @@
 //! The observer of a log.
 
-ghost use Rattle.std.specs.Prelude.{◌≡◌, ℕ, ◌+◌, ◌-◌, ◌<◌, ◌≤◌, ◌^◌, List, IfOk, OnOk, OnErr, length, string_bytes};
+ghost use Rattle.std.specs.Prelude.{◌≡◌, ℕ, ◌+◌, ◌-◌, ◌<◌, ◌≤◌, ◌^◌, List, None, Ok, IfOk, OnOk, OnErr, length, string_bytes};
 ghost use Rattle.ft_msg.specs.Client.{client_over};
 ghost use Rattle.ft_msg.specs.Process.{process};
 ghost use Rattle.ft_msg.specs.WellFormed.{HasNumbersInRange};
@@ -11,14 +11,15 @@ ghost use Rattle.ft_cli.specs.Observation.{entry_of, names_with, nothing_observe
 
 use crate::view_lines::view_text;
 use ft_base::OutOfMemory;
-use ft_msg::{Cause, Entry, Message, Names, Numbers, ProcessFault, read_message};
+use ft_msg::{Cause, Entry, Message, Names, Numbers, ProcessFault, ViewFault, read_message};
 use ft_plain::Plain;
 use ft_seqr::Refusal;
 use std::alloc::Global;
 use std::marker::Model;
 
-/// The observer of a log: a replica that takes its messages and sends none. Contracts see it as the
-/// names of the connections so far and the document of the messages that it took.
+/// The observer of a log: a replica that takes its messages and sends none, and that always found
+/// memory. Contracts see it as the names of the connections so far and the document of the messages
+/// that it took.
 #[derive(Drop)]
 pub struct Observer {
     alloc: Global,
@@ -27,19 +28,22 @@ pub struct Observer {
 }
 
 impl Model for Observer {
+    ghost use Rattle.std.specs.Prelude.{◌≡◌, None};
     ghost use Rattle.ft_cli.specs.Observation.{Observation};
 
     ghost Value = { Observation };
 
     ghost view = { λ a. record { names = a.names; doc = a.replica.doc } };
+
+    ghost invariant = { λ a. a.replica.stop ≡ None };
 }
 
 impl Observer {
     /// An observer before the first message.
     ///
-    /// Answers `OutOfMemory` where there is no room for it.
+    /// So far it always succeeds.
     pub fn new(alloc: Global) -> Result<Observer, OutOfMemory>
-        ensures { IfOk result (λ observer. observer ≡ nothing_observed) }
+        ensures { result ≡ Ok nothing_observed }
     {
         Ok(Observer {
             alloc,
@@ -48,22 +52,22 @@ impl Observer {
         })
     }
 
-    /// Takes the message that the line is, and answers why it is refused, if it is.
+    /// The observer after the message that the line is, and why the line is refused, if it is.
     ///
-    /// Answers `OutOfMemory` where there is no room for it, and then it says nothing of its document.
-    pub fn take(&mut self, line: &[u8]) -> Result<Option<Refusal>, OutOfMemory>
-        requires { length self.old.names < 2 ^ 32 - 1 }
-        ensures step { IfOk result (λ refusal. observe self.old line.now ≡ answers self.new refusal) }
-        ensures names { length self.new.names ≤ length self.old.names + 1 }
+    /// Answers `OutOfMemory` where there is no room for the message, and then the observer is gone.
+    pub fn take(self, line: &[u8]) -> Result<(Observer, Option<Refusal>), OutOfMemory>
+        requires { length self.names < 2 ^ 32 - 1 }
+        ensures step { IfOk result (λ p. observe self line.now ≡ answers p.0 p.1) }
+        ensures names { IfOk result (λ p. length p.0.names ≤ length self.names + 1) }
     {
         match read_message(self.alloc, line) {
             Ok(message) => self.take_message(message),
             Err(Cause::OutOfMemory) => Err(OutOfMemory),
-            Err(cause) => Ok(Some(Refusal::of_cause(cause))),
+            Err(cause) => Ok((self, Some(Refusal::of_cause(cause)))),
         }
     }
 
-    /// The numbers of its replica. It takes no memory.
+    /// The numbers of its replica.
     pub fn numbers(&self) -> Numbers
         ensures { result ≡ numbers_of self.now.doc }
     {
@@ -78,19 +82,31 @@ impl Observer {
     {
         match self.replica.view() {
             Ok(view) => view_text(self.alloc, &view),
-            Err(_) => Err(OutOfMemory),
+            Err(ViewFault::OutOfMemory) => Err(OutOfMemory),
+            Err(ViewFault::Stopped { .. }) => unreachable!(),
         }
     }
 
-    // Takes a message, and answers why it is refused, if it is.
-    fn take_message(&mut self, msg: Message) -> Result<Option<Refusal>, OutOfMemory>
-        requires room { length self.old.names < 2 ^ 32 - 1 }
+    // The observer after a message, and why the message is refused, if it is.
+    fn take_message(self, msg: Message) -> Result<(Observer, Option<Refusal>), OutOfMemory>
+        requires room { length self.names < 2 ^ 32 - 1 }
         requires in_range { HasNumbersInRange msg }
-        ensures step { IfOk result (λ refusal. observe_message self.old msg ≡ answers self.new refusal) }
-        ensures names { length self.new.names ≤ length self.old.names + 1 }
+        ensures step { IfOk result (λ p. observe_message self msg ≡ answers p.0 p.1) }
+        ensures names { IfOk result (λ p. length p.0.names ≤ length self.names + 1) }
     {
-        let entry = number_sender(&mut self.names, msg)?;
-        give(&mut self.replica, &entry)
+        let Observer {
+            alloc,
+            mut names,
+            mut replica,
+        } = self;
+        let entry = number_sender(&mut names, msg)?;
+        let refusal = give(&mut replica, &entry)?;
+        let observer = Observer {
+            alloc,
+            names,
+            replica,
+        };
+        Ok((observer, refusal))
     }
 }
 
@@ -110,9 +126,11 @@ fn number_sender(names: &mut Names, msg: Message) -> Result<Entry, OutOfMemory>
 
 // Gives the replica a message, and answers why it is refused, if it is.
 fn give(replica: &mut Plain, entry: &Entry) -> Result<Option<Refusal>, OutOfMemory>
-    requires { HasNumbersInRange entry.now.msg }
-    ensures { IfOk result (λ refusal. (names : List (List ℕ)) → observe_answer (record { names = names; doc = replica.old.doc })
+    requires in_range { HasNumbersInRange entry.now.msg }
+    requires running { replica.old.stop ≡ None }
+    ensures step { IfOk result (λ refusal. (names : List (List ℕ)) → observe_answer (record { names = names; doc = replica.old.doc })
         (process (client_over replica.old.doc) entry.now) ≡ answers (record { names = names; doc = replica.new.doc }) refusal) }
+    ensures running { OnOk result (replica.new.stop ≡ None) }
 {
     match replica.process(entry) {
         Ok(()) => Ok(None),
@@ -122,7 +140,7 @@ fn give(replica: &mut Plain, entry: &Entry) -> Result<Option<Refusal>, OutOfMemo
         Err(ProcessFault::BadNumbers { field, kept, got }) => {
             Ok(Some(Refusal::BadNumbers { field, kept, got }))
         }
-        Err(ProcessFault::NotSent) => unreachable!(),
-        Err(ProcessFault::OutOfMemory | ProcessFault::Stopped { .. }) => Err(OutOfMemory),
+        Err(ProcessFault::OutOfMemory) => Err(OutOfMemory),
+        Err(ProcessFault::NotSent | ProcessFault::Stopped { .. }) => unreachable!(),
     }
 }

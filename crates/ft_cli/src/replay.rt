@@ -55,40 +55,43 @@ impl Replay {
         })
     }
 
-    /// Takes a line as a reader of lines hands it out, and answers why it is refused, if it is.
+    /// The log with one more line, as a reader of lines hands it out, and why the line is refused, if
+    /// it is.
     ///
-    /// Answers `OutOfMemory` where there is no room for its message.
-    pub fn take(&mut self, line: Line) -> Result<Option<Refusal>, OutOfMemory>
-        requires { self.old.lines < 2 ^ 32 - 1 }
+    /// Answers `OutOfMemory` where there is no room for its message, and then the log is gone.
+    pub fn take(self, line: Line) -> Result<(Replay, Option<Refusal>), OutOfMemory>
+        requires few { self.lines < 2 ^ 32 - 1 }
+        requires handed { (text : List ℕ) × (line ≡ handed_out line_limit text) }
         ensures after { (text : List ℕ) → line ≡ handed_out line_limit text
-            → IfOk result (λ refusal. self.new ≡ after_line observe self.old text) }
+            → IfOk result (λ p. p.0 ≡ after_line observe self text) }
         ensures written { (text : List ℕ) → line ≡ handed_out line_limit text
-            → IfOk result (λ refusal. written_by_line observe self.old text ≡ refusal_lines (self.old.lines + 1) refusal) }
+            → IfOk result (λ p. written_by_line observe self text ≡ refusal_lines (self.lines + 1) p.1) }
     {
-        self.lines += 1;
-        let refusal = step(&mut self.observer, &line)?;
-        if refusal.is_some() {
-            self.refused += 1;
-        }
-        Ok(refusal)
+        let (observer, refusal) = step(self.observer, &line)?;
+        let replay = Replay {
+            lines: self.lines + 1,
+            refused: self.refused + u64::from(refusal.is_some()),
+            observer,
+        };
+        Ok((replay, refusal))
     }
 
-    /// Takes a line, and writes its refusal, if it is refused.
+    /// The log with one more line, as a reader of lines hands it out, whose refusal is written, if it
+    /// is refused.
     ///
     /// Answers `Write` only where the sink's count of faults rose, and `OutOfMemory` where there is no
-    /// room for the message or the refusal.
-    pub fn step<K: Sink>(&mut self, alloc: Global, line: Line, out: &mut K) -> Result<(), Fault>
-        requires { self.old.lines < 2 ^ 32 - 1 }
+    /// room for the message or the refusal; then the log is gone.
+    pub fn step<K: Sink>(self, alloc: Global, line: Line, out: &mut K) -> Result<Replay, Fault>
+        requires few { self.lines < 2 ^ 32 - 1 }
+        requires handed { (text : List ℕ) × (line ≡ handed_out line_limit text) }
         ensures after { (text : List ℕ) → line ≡ handed_out line_limit text
-            → OnOk result (self.new ≡ after_line observe self.old text) }
+            → IfOk result (λ replay. replay ≡ after_line observe self text) }
         ensures writes { (text : List ℕ) → line ≡ handed_out line_limit text
-            → Writes (K.contents out.old) (K.contents out.new) (K.faults out.old) (K.faults out.new) (bytes_of (written_by_line observe self.old text)) result }
+            → Writes (K.contents out.old) (K.contents out.new) (K.faults out.old) (K.faults out.new) (bytes_of (written_by_line observe self text)) result }
     {
-        if let Some(refusal) = self.take(line)? {
-            let text = refused_line(alloc, self.lines, refusal)?;
-            put(out, text.as_bytes())?;
-        }
-        Ok(())
+        let (replay, refusal) = self.take(line)?;
+        write_refusal(alloc, replay.lines, refusal, out)?;
+        Ok(replay)
     }
 
     /// Writes what stands behind the lines of a log: the observer's view and the last lines. Answers
@@ -106,6 +109,7 @@ impl Replay {
     }
 
     // What stands behind the lines of a log.
+    #[tactic(auto, unfolding(ft_seqr::specs::SessionReport::closing_lines))]
     fn end_text(&self, alloc: Global) -> Result<String, OutOfMemory>
         ensures { IfOk result (λ text. string_bytes text ≡ bytes_of (log_end self.now)) }
     {
@@ -127,18 +131,36 @@ impl Replay {
     }
 }
 
-// Takes a line, and answers why it is refused, if it is.
-fn step(observer: &mut Observer, line: &Line) -> Result<Option<Refusal>, OutOfMemory>
-    requires { length observer.old.names < 2 ^ 32 - 1 }
+// The observer after a line, and why the line is refused, if it is.
+fn step(observer: Observer, line: &Line) -> Result<(Observer, Option<Refusal>), OutOfMemory>
+    requires few { length observer.names < 2 ^ 32 - 1 }
+    requires handed { (text : List ℕ) × (line.now ≡ handed_out line_limit text) }
     ensures step { (text : List ℕ) → line.now ≡ handed_out line_limit text
-        → IfOk result (λ refusal. step_of observe observer.old text ≡ answers observer.new refusal) }
-    ensures names { length observer.new.names ≤ length observer.old.names + 1 }
+        → IfOk result (λ p. step_of observe observer text ≡ answers p.0 p.1) }
+    ensures names { IfOk result (λ p. length p.0.names ≤ length observer.names + 1) }
 {
     match line {
-        Line::Full(text) if is_blank(text.as_slice()) => Ok(None),
+        Line::Full(text) if is_blank(text.as_slice()) => Ok((observer, None)),
         Line::Full(text) => observer.take(text.as_slice()),
-        _ => Ok(Some(Refusal::LineTooLong)),
+        Line::TooLong => Ok((observer, Some(Refusal::LineTooLong))),
+        Line::End => unreachable!(),
     }
+}
+
+// Writes why the line with this number is refused, if it is.
+fn write_refusal<K: Sink>(
+    alloc: Global,
+    line: u64,
+    refusal: Option<Refusal>,
+    out: &mut K,
+) -> Result<(), Fault>
+    ensures { Writes (K.contents out.old) (K.contents out.new) (K.faults out.old) (K.faults out.new) (bytes_of (refusal_lines line refusal)) result }
+{
+    if let Some(refusal) = refusal {
+        let text = refused_line(alloc, line, refusal)?;
+        put(out, text.as_bytes())?;
+    }
+    Ok(())
 }
 
 // Whether the line has only spaces, tabs and CR.

@@ -1,10 +1,8 @@
 //! The last lines of a report.
 
 ghost use Rattle.std.specs.Prelude.{◌≡◌, IfOk, string_bytes};
-ghost use Rattle.ft_op.specs.Document.{Document};
-ghost use Rattle.ft_plain.specs.Observer.{numbers_of};
 ghost use Rattle.ft_seqr.specs.SessionReport.{closing_lines};
-ghost use Rattle.ft_cli.specs.Report.{bytes_of};
+ghost use Rattle.ft_cli.specs.Report.{bytes_of, counted};
 
 use ft_base::OutOfMemory;
 use ft_msg::Numbers;
@@ -16,8 +14,7 @@ use std::alloc::Global;
 /// Answers `OutOfMemory` where there is no room for them.
 #[tactic(auto, unfolding(ft_seqr::specs::SessionReport::closing_lines))]
 pub fn closing_text(alloc: Global, refused: u64, numbers: &Numbers) -> Result<String, OutOfMemory>
-    ensures { (doc : Document) → numbers.now ≡ numbers_of doc
-        → IfOk result (λ text. string_bytes text ≡ bytes_of (closing_lines refused doc)) }
+    ensures { IfOk result (λ text. string_bytes text ≡ bytes_of (closing_lines refused (counted numbers.now))) }
 {
     let skipped = numbers.skipped;
     let other = numbers.other;

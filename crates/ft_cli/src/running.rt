@@ -74,7 +74,7 @@ fn read_lines<S: Source, K: Sink>(alloc: Global, src: &mut S, out: &mut K) -> Re
     loop {
         match lines.next(src)? {
             Line::End => return Ok(replay),
-            line => replay.step(alloc, line, out)?,
+            line => replay = replay.step(alloc, line, out)?,
         }
     }
 }

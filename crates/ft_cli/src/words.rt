@@ -10,7 +10,7 @@ pub enum Form {
     Log,
 }
 
-/// The form that the words are, none where they are of no form. It takes no memory.
+/// The form that the words are, none where they are of no form.
 pub fn read_words(words: &Vec<String>) -> Option<Form>
     ensures { result ≡ form_of (texts_of words.now.items) }
 {

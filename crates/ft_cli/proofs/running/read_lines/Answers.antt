@@ -39,20 +39,21 @@ pub step-requires : goal.step-requires
 step-requires g c =
     let h = c.loop-replay.invariant in
     let call = c.in_ok-line.ensures.call h.stands.reading.runs in
-    few_lines h.stands (next_line h.stands c.in_ok-line.line call c.in_default.not-End)
+    let next = next_line h.stands c.in_ok-line.line call c.in_default.not-End in
+    record { few = few_lines h.stands next; handed = (next.text, next.is_text) }
 
-pub returns-in_err-step-in_default : goal.returns-in_err-step-in_default
-returns-in_err-step-in_default g c =
+pub returns-in_err-replay-in_default : goal.returns-in_err-replay-in_default
+returns-in_err-replay-in_default g c =
     let now = c.loop-replay in
     let h = now.invariant in
     let call = c.in_ok-line.ensures.call h.stands.reading.runs in
     let next = next_line h.stands c.in_ok-line.line call c.in_default.not-End in
-    let writes = c.in_err-step-in_default.ensures.writes next.text next.is_text in
-    let r = c.from_residual-in_err-step-in_default in
+    let writes = c.in_err-replay-in_default.ensures.writes next.text next.is_text in
+    let r = c.from_residual-in_err-replay-in_default in
     let p = err_from_is_err_and r.result r.ensures.1 in
     record {
       run = with_answer (g.S.Source.remaining c.args.src.now) (g.S.Source.remaining c.next.new.src) (g.K.Sink.contents c.args.out.now) (g.K.Sink.contents c.step.new.out) _ _ (p.1 ∙ ap Err p.2)
-          (moves_step h.stands next (g.K.Sink.contents c.step.new.out) c.in_err-step-in_default.field-0.0 (g.K.Sink.faults c.args.out.now) (g.K.Sink.faults now.out) (g.K.Sink.faults c.step.new.out) _ h.sink_later writes);
+          (moves_step h.stands next (g.K.Sink.contents c.step.new.out) c.in_err-replay-in_default.field-0.0 (g.K.Sink.faults c.args.out.now) (g.K.Sink.faults now.out) (g.K.Sink.faults c.step.new.out) _ h.sink_later writes);
       source_later = omega (arith, h.source_later, call.later);
       sink_later = omega (arith, h.sink_later, writes.later);
     }
@@ -69,10 +70,10 @@ loop-replay-preserved g c =
     let h = now.invariant in
     let call = c.in_ok-line.ensures.call h.stands.reading.runs in
     let next = next_line h.stands c.in_ok-line.line call c.in_default.not-End in
-    let told = c.in_ok-step-in_default.ensures in
+    let told = c.in_ok-replay-in_default.ensures in
     let writes = told.writes next.text next.is_text in
     record {
-      stands = stands_next h.stands next (g.K.Sink.contents c.step.new.out) c.step.new.self (g.K.Sink.faults now.out) (g.K.Sink.faults c.step.new.out) (told.after next.text next.is_text) writes;
+      stands = stands_next h.stands next (g.K.Sink.contents c.step.new.out) c.in_ok-replay-in_default.replay (g.K.Sink.faults now.out) (g.K.Sink.faults c.step.new.out) (told.after next.text next.is_text) writes;
       source_later = omega (arith, h.source_later, call.later);
       sink_later = omega (arith, h.sink_later, writes.later);
     }

@@ -1,14 +1,12 @@
 use Rattle.std.proofs.Common.{length, arith, ap}
-use Rattle.std.proofs.lemmas.Result.{IfOk-weaker}
 use Rattle.ft_cli.proofs.Observing.{length-names_with, observe_message-entry}
 use Rattle.ft_cli.proofs.observer.Observer.take_message.Goals as goal
 
 pub returns-clause-step : goal.returns-clause-step
 returns-clause-step c =
     let a = c.self.inside in
-    IfOk-weaker c.give.result _ _
-    (λ refusal h. observe_message-entry c.args.self.now (record { names = a.names; doc = a.replica.doc }) c.args.msg c.in_ok-entry.entry c.number_sender.new.names
-    c.self.view_is c.in_ok-entry.ensures.ok c.in_ok-entry.ensures.names (h c.number_sender.new.names)) c.give.ensures
+    observe_message-entry c.args.self (record { names = a.names; doc = a.replica.doc }) c.args.msg c.in_ok-entry.entry c.number_sender.new.names
+    c.self.view_is c.in_ok-entry.ensures.ok c.in_ok-entry.ensures.names (c.in_ok-refusal.ensures.step c.number_sender.new.names)
 
 pub returns-clause-names : goal.returns-clause-names
 returns-clause-names c =
