@@ -1,11 +1,13 @@
 //! Vemiktag's program: its words, its standard input and its standard output, given to a run.
 //!
-//! It ends with 0 where nothing was refused or skipped, 1 where something was, 2 where the words are no
-//! form, 3 and 4 where the input or the output failed, 5 where no memory was found, 6 where the input is
-//! too long, and 7 where the system doesn't tell the words.
+//! It ends with 0 where nothing was refused or skipped, 1 where something was, 2 where the words are of
+//! no form, and then it tells the forms on standard error, 3 and 4 where the input or the output failed,
+//! 5 where no memory was found, 6 where the input is too long, and 7 where the system doesn't tell the
+//! words.
 #![tactic(auto)]
 
 use ft_cli::running::run;
+use ft_cli::statuses::Status;
 use ft_io::{StdSink, StdSource};
 use std::alloc::AllocError;
 use std::process::ExitCode;
@@ -15,14 +17,17 @@ use std::{env, io};
 const NO_WORDS: u8 = 7;
 
 fn main(rt: HostRuntime) -> ExitCode {
-    match told_words(&rt) {
-        Ok(words) => {
-            let mut src = StdSource::new(rt.stdin());
-            let mut out = StdSink::new(rt.stdout());
-            ExitCode::from(run(rt.alloc(), &words, &mut src, &mut out).code())
-        }
-        Err(_) => ExitCode::from(NO_WORDS),
+    let Ok(words) = told_words(&rt) else {
+        return ExitCode::from(NO_WORDS);
+    };
+    let mut src = StdSource::new(rt.stdin());
+    let mut out = StdSink::new(rt.stdout());
+    let status = run(rt.alloc(), &words, &mut src, &mut out);
+    if status == Status::Usage {
+        // The status says it too: a line that can't be written is no fault of the run.
+        let _ = eprintln!(rt; "usage: vemiktag log");
     }
+    ExitCode::from(status.code())
 }
 
 // The words of the command line, without the program's name.
