@@ -1,9 +1,8 @@
 -- Sub-operations leave the count of messages for others as it is, and a message raises it by at most one.
 use Rattle.std.proofs.Common.{◌≡◌, ℕ, ◌+◌, ◌≤◌, Bool, true, false, cond, nat_le, List, [], ◌∷◌, Option, None, Some, replicate, refl, ◌∙◌, arith}
-use Rattle.ft_base.specs.declared.stamps.Stamp.TheVariants.{Acked}
-use Rattle.ft_base.specs.Scan.{at, change_range, len}
-use Rattle.ft_props.specs.Element.{GridUnit, ListElement, seen_by, with_annotation}
-use Rattle.ft_props.specs.Properties.{ValueBytes, apply}
+use Rattle.ft_base.specs.Scan.{at, len}
+use Rattle.ft_props.specs.Element.{GridUnit, ListElement, seen_by}
+use Rattle.ft_props.specs.Properties.{ValueBytes}
 use Rattle.ft_props.specs.Steps.{Sequence, after_insertion, after_removal}
 use Rattle.ft_op.specs.declared.operations.BaseOp.{BaseOp}
 use Rattle.ft_op.specs.declared.operations.BaseOp.TheVariants.{Insert, Remove, Annotate}
