@@ -1,6 +1,6 @@
 //! A log as far as it was read.
 
-ghost use Rattle.std.specs.Prelude.{◌≡◌, ℕ, ◌+◌, ◌-◌, ◌<◌, ◌≤◌, ◌^◌, List, IfOk, length, string_bytes};
+ghost use Rattle.std.specs.Prelude.{◌≡◌, ℕ, ◌+◌, ◌-◌, ◌<◌, ◌≤◌, ◌^◌, List, Ok, IfOk, length, string_bytes};
 ghost use Rattle.ft_io.specs.Reader.{handed_out};
 ghost use Rattle.ft_seqr.specs.Walk.{after_line, answers, begin, is_blank, line_limit, refusal_lines, step_of, written_by_line};
 ghost use Rattle.ft_cli.specs.Observation.{nothing_observed, observe};
@@ -44,9 +44,9 @@ impl Model for Replay {
 impl Replay {
     /// A log before its first line.
     ///
-    /// Answers `OutOfMemory` where there is no room for its observer.
+    /// So far it always succeeds.
     pub fn new(alloc: Global) -> Result<Replay, OutOfMemory>
-        ensures { IfOk result (λ replay. replay ≡ begin nothing_observed) }
+        ensures { result ≡ Ok (begin nothing_observed) }
     {
         Ok(Replay {
             lines: 0,

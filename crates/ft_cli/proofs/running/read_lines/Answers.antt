@@ -1,6 +1,8 @@
-use Rattle.std.proofs.Common.{◌∙◌, Err, ap, arith}
+use Rattle.std.proofs.Common.{◌≡◌, ◌∙◌, Err, IfOk, ap, arith, refl, subst, sym}
 use Rattle.std.proofs.lemmas.Result.{err_from_is_err_and}
 use Rattle.ft_io.specs.Streams.{Rose}
+use Rattle.ft_seqr.specs.Walk.{begin}
+use Rattle.ft_cli.specs.Observation.{nothing_observed}
 use Rattle.ft_cli.proofs.RunLaws.{stands_start, with_answer, moves_nothing, moves_end, moves_fault, next_line, few_lines, stands_next, moves_step}
 use Rattle.ft_cli.proofs.running.read_lines.Goals as goal
 
@@ -15,7 +17,7 @@ returns-in_err-lines-clause-run g c =
 
 pub loop-replay-init : goal.loop-replay-init
 loop-replay-init g c = record {
-  stands = stands_start (g.S.Source.remaining c.args.src.now) (g.K.Sink.contents c.args.out.now) c.in_ok-lines.lines c.in_ok-replay.replay c.in_ok-lines.ensures c.in_ok-replay.ensures;
+  stands = stands_start (g.S.Source.remaining c.args.src.now) (g.K.Sink.contents c.args.out.now) c.in_ok-lines.lines c.in_ok-replay.replay c.in_ok-lines.ensures (subst (λ made. IfOk made (λ at. at ≡ begin nothing_observed)) (sym c.in_ok-replay.ensures) refl);
   source_later = omega arith;
   sink_later = omega arith;
 }
