@@ -23,7 +23,8 @@ writes_failed {T} held holds before now n bytes result is takes later rose =
     subst (Writes {T = T} held holds before now bytes) (sym is) (record { written = take n bytes; takes = takes; later = later; says = (rose, begins_take n bytes) })
 
 -- what a fault says of the bytes written doesn't know what is answered where there is none
-said_of_fault : (T U : Type 0) (rose : Type 0) (bytes written : List ℕ) (fault : Fault) → SaysOfWritten {T = T} rose bytes written (Err fault) → SaysOfWritten {T = U} rose bytes written (Err fault)
+said_of_fault : (T U : Type 0) (rose : Type 0) (bytes written : List ℕ) (fault : Fault)
+    → SaysOfWritten {T = T} rose bytes written (Err fault) → SaysOfWritten {T = U} rose bytes written (Err fault)
 said_of_fault T U rose bytes written Read h = h
 said_of_fault T U rose bytes written Write h = h
 said_of_fault T U rose bytes written OutOfMemory h = h
@@ -36,8 +37,8 @@ writes_nothing {T} held now bytes result is same =
     subst (Writes {T = T} held held now now bytes) (sym is) (record { written = []; takes = Appends-nil held; later = same; says = begins_nil bytes })
 
 -- a fault says the same of the bytes written, whatever is answered where there is none
-pub writes_fault : (T U : Type 0) (held holds : Option (List ℕ)) (before now : ℕ) (bytes other : List ℕ) (fault : Fault) (result : Result U Fault) → result ≡ Err fault → bytes ≡ other
-    → Writes {T = T} held holds before now bytes (Err fault) → Writes {T = U} held holds before now other result
+pub writes_fault : (T U : Type 0) (held holds : Option (List ℕ)) (before now : ℕ) (bytes other : List ℕ) (fault : Fault) (result : Result U Fault)
+    → result ≡ Err fault → bytes ≡ other → Writes {T = T} held holds before now bytes (Err fault) → Writes {T = U} held holds before now other result
 writes_fault T U held holds before now bytes other fault result is same h =
     subst (Writes {T = U} held holds before now other) (sym is) (subst (λ bs. Writes {T = U} held holds before now bs (Err fault)) same
     (record { written = h.written; takes = h.takes; later = h.later; says = said_of_fault T U (Rose before now) bytes h.written fault h.says }))

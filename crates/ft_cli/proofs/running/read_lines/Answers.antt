@@ -17,7 +17,8 @@ returns-in_err-lines-clause-run g c =
 
 pub loop-replay-init : goal.loop-replay-init
 loop-replay-init g c = record {
-  stands = stands_start (g.S.Source.remaining c.args.src.now) (g.K.Sink.contents c.args.out.now) c.in_ok-lines.lines c.in_ok-replay.replay c.in_ok-lines.ensures (subst (λ made. IfOk made (λ at. at ≡ begin nothing_observed)) (sym c.in_ok-replay.ensures) refl);
+  stands = stands_start (g.S.Source.remaining c.args.src.now) (g.K.Sink.contents c.args.out.now) c.in_ok-lines.lines c.in_ok-replay.replay c.in_ok-lines.ensures
+      (subst (λ made. IfOk made (λ at. at ≡ begin nothing_observed)) (sym c.in_ok-replay.ensures) refl);
   source_later = omega arith;
   sink_later = omega arith;
 }

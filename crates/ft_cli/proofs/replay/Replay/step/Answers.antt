@@ -17,5 +17,6 @@ returns-in_err-write_refusal-clause-writes g c text is_text =
     let p = err_from_is_err_and r.result r.ensures.1 in
     let taken = c.in_ok-replay in
     let numbered = ap (λ progress. progress.lines) (c.replay.view_is ∙ taken.ensures.after text is_text) in
-    writes_fault (Unit {0}) Replay (g.K.Sink.contents c.args.out.now) (g.K.Sink.contents c.write_refusal.new.out) (g.K.Sink.faults c.args.out.now) (g.K.Sink.faults c.write_refusal.new.out) _ _ _ r.result
+    writes_fault (Unit {0}) Replay (g.K.Sink.contents c.args.out.now) (g.K.Sink.contents c.write_refusal.new.out)
+    (g.K.Sink.faults c.args.out.now) (g.K.Sink.faults c.write_refusal.new.out) _ _ _ r.result
     (p.1 ∙ ap Err p.2) (ap bytes_of (ap (λ n. refusal_lines n taken.refusal) numbered ∙ sym (taken.ensures.written text is_text))) c.in_err-write_refusal.ensures
