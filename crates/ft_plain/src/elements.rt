@@ -10,7 +10,7 @@ ghost use Rattle.ft_plain.specs.Contents.{content_of};
 use crate::names::ElementName;
 use ft_base::visibility::{has_occurred, has_occurred_at_stage};
 use ft_base::{OutOfMemory, Perspective, Stamp, Stamps};
-use ft_props::{Changes, Props};
+use ft_props::{Changes, Overlay, Props};
 use std::alloc::Global;
 use std::marker::Model;
 
@@ -38,10 +38,8 @@ pub struct PlainElement {
     removal_stage: Option<u64>,
     /// The message that inserted it, where that is known.
     by: Option<Stamp>,
-    /// Its acknowledged properties.
-    props: Props,
-    /// Its pending changes, by rising stage.
-    pending: Vec<(u64, Changes)>,
+    /// Its acknowledged properties, and the pending changes of them.
+    overlay: Overlay,
 }
 
 impl Model for PlainElement {
@@ -51,7 +49,7 @@ impl Model for PlainElement {
 
     ghost use Rattle.ft_plain.specs.Contents.{content_of};
 
-    ghost view = { λ a. record { nth = a.nth; content = content_of a.content; ins = a.ins; dels = a.dels; removal_stage = a.removal_stage; by = a.by; props = a.props; pending = a.pending.items } };
+    ghost view = { λ a. record { nth = a.nth; content = content_of a.content; ins = a.ins; dels = a.dels; removal_stage = a.removal_stage; by = a.by; props = a.overlay.acked; pending = a.overlay.pending } };
 }
 
 impl PlainElement {
@@ -73,8 +71,7 @@ impl PlainElement {
             dels: Stamps::new(alloc),
             removal_stage: None,
             by,
-            props,
-            pending: Vec::new(alloc),
+            overlay: Overlay::of(alloc, props),
         }
     }
 
@@ -153,8 +150,7 @@ impl PlainElement {
         ensures ok { OnOk result (self.new ≡ with_annotation changes.now self.old) }
         ensures err { OnErr result (self.new ≡ self.old) }
     {
-        self.props = self.props.changed(changes)?;
-        Ok(())
+        self.overlay.set_acked(changes)
     }
 
     /// Its acknowledged properties with its pending changes made in order of stage.
@@ -163,11 +159,7 @@ impl PlainElement {
     pub fn shown_props(&self) -> Result<Props, OutOfMemory>
         ensures { IfOk result (λ props. props ≡ shown_props self.now.props self.now.pending) }
     {
-        let mut props = self.props.copy()?;
-        for (_, changes) in &self.pending {
-            props = props.changed(changes)?;
-        }
-        Ok(props)
+        self.overlay.shown()
     }
 }
 
