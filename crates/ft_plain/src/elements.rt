@@ -8,6 +8,7 @@ ghost use Rattle.ft_props.specs.Properties.{shown_props};
 ghost use Rattle.ft_plain.specs.Contents.{content_of};
 
 use crate::names::ElementName;
+use crate::seen::Seen;
 use ft_base::visibility::{has_occurred, has_occurred_at_stage};
 use ft_base::{OutOfMemory, Perspective, Stamp, Stamps};
 use ft_props::{Changes, Overlay, Props};
@@ -117,13 +118,6 @@ impl PlainElement {
         matches!(self.ins, Stamp::Local { .. })
     }
 
-    /// Whether the perspective sees it.
-    pub fn is_seen_by(&self, at: Perspective) -> bool
-        ensures { result ≡ seen_by at.r at.c self.now }
-    {
-        has_occurred(&self.ins, at) && !has_any_occurred(self.dels.as_slice(), at)
-    }
-
     /// Whether a client sees it at its pending stage.
     pub fn is_seen_at(&self, stage: u64) -> bool
         ensures { result ≡ seen stage self.now }
@@ -160,6 +154,16 @@ impl PlainElement {
         ensures { IfOk result (λ props. props ≡ shown_props self.now.props self.now.pending) }
     {
         self.overlay.shown()
+    }
+}
+
+impl Seen for PlainElement {
+    ghost seen_by = { λ r c e. seen_by r c e };
+
+    fn is_seen_by(&self, at: Perspective) -> bool
+        ensures { result ≡ seen_by at.r at.c self.now }
+    {
+        has_occurred(&self.ins, at) && !has_any_occurred(self.dels.as_slice(), at)
     }
 }
 

@@ -11,6 +11,7 @@ mod lists;
 pub mod names;
 pub mod plain;
 mod scans;
+mod seen;
 mod shown;
 mod shown_grid;
 mod shown_intervals;

@@ -9,9 +9,8 @@ ghost use Rattle.ft_plain.specs.Contents.{content_of};
 
 use crate::elements::{Content, PlainElement};
 use crate::names::ElementName;
-use crate::scans::{
-    annotate, mark_removed, name_at, new_elements, pending_run, place_of, put_at, seen_count, units,
-};
+use crate::scans::{annotate, mark_removed, name_at, new_elements, pending_run, put_at, units};
+use crate::seen::{place_of, seen_count};
 use ft_base::{OutOfMemory, Perspective, Stamp};
 use ft_props::{Changes, Props};
 use std::alloc::Global;

@@ -1,43 +1,17 @@
-//! Scans of a list of elements: how many are seen, where an insertion goes, and which elements a
-//! removal is for.
+//! Scans of a list of elements: where an insertion goes, and which elements a removal is for.
 
 ghost use Rattle.std.specs.Prelude.{◌≡◌, ◌≤◌, ◌+◌, ◌<◌, ◌^◌, ◌++◌, [], None, Some, IfOk, OnOk, OnErr, length, map, option_map, replicate, take, drop};
 ghost use Rattle.std.specs.List.{prefix_len};
-ghost use Rattle.ft_base.specs.Scan.{at as seen_at, change_range, len, place, put};
+ghost use Rattle.ft_base.specs.Scan.{at as seen_at, change_range};
 ghost use Rattle.ft_props.specs.Element.{GridUnit, id, is_pending, new_elements, seen_by, with_annotation, with_removal};
 ghost use Rattle.ft_plain.specs.Contents.{content_of};
 
 use crate::elements::{Content, PlainElement};
 use crate::names::ElementName;
+use crate::seen::Seen;
 use ft_base::{OutOfMemory, Perspective, Stamp};
 use ft_props::{Changes, Props};
 use std::alloc::Global;
-
-/// How many elements the perspective sees.
-#[tactic(auto, using(ft_base::proofs::PlainList::seen_counts))]
-pub fn seen_count(items: &[PlainElement], at: Perspective) -> usize
-    ensures { result ≡ len (seen_by at.r at.c) items.now }
-{
-    items.iter().filter(|e| e.is_seen_by(at)).count()
-}
-
-/// The number of elements up to the `p`-th that the perspective sees: 0 for `p` = 0, and all where
-/// it sees fewer.
-pub fn place_of(items: &[PlainElement], p: u64, at: Perspective) -> usize
-    ensures place { result ≡ place (seen_by at.r at.c) p items.now }
-    ensures inside { result ≤ length items.now }
-{
-    let mut left = p;
-    for (i, e) in items.iter().enumerate() {
-        if left == 0 {
-            return i;
-        }
-        if e.is_seen_by(at) {
-            left -= 1;
-        }
-    }
-    items.len()
-}
 
 /// The name of the element that the perspective sees with `i` seen ones before it: None exactly
 /// where it sees at most `i`.
