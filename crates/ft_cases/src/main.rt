@@ -1,0 +1,38 @@
+//! Runs cases of the command line over memory, and writes what each comes to.
+//!
+//! A case of standard input is the line `case NAME`, the line `words` with the words of the command line
+//! behind it, the line `input`, the lines of the input, and the line `end`. Between `case` and `input` may
+//! stand: `failing-reads` and `failing-writes` with the numbers of the reads and writes that fail, from 1 on;
+//! `piece` with the number of bytes that are read and written at a time (without it the case runs three
+//! times, with 1, 16 and 65,536); `room` with the number of bytes that the output has room for; and `repeat`
+//! with a byte and a count, which is input. The line `end-without-lf` ends an input whose last line has no
+//! LF. Lines that are empty or begin with `#` are passed outside of an input.
+//!
+//! Of each case standard output gets its `case` line, the line `status` with the status of the run, and the
+//! bytes written with one LF more; the latter two again where a run in other pieces comes to something else.
+#![tactic(auto)]
+
+mod cases;
+mod reading;
+
+use crate::reading::outcomes;
+use std::io;
+use std::io::{ErrorKind, Read, Write};
+use std::process::ExitCode;
+
+fn main(rt: HostRuntime) -> ExitCode {
+    match run(&rt) {
+        Ok(()) => ExitCode::SUCCESS,
+        Err(_) => ExitCode::FAILURE,
+    }
+}
+
+// Reads standard input to its end and writes what comes of it to standard output.
+fn run(rt: &HostRuntime) -> io::Result<()> {
+    let mut input = Vec::new(rt.alloc());
+    rt.stdin().read_to_end(&mut input)?;
+    match outcomes(rt.alloc(), input.as_slice()) {
+        Ok(output) => rt.stdout().write_all(output.as_slice()),
+        Err(_) => Err(io::Error::from(ErrorKind::OutOfMemory)),
+    }
+}

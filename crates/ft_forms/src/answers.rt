@@ -1,0 +1,57 @@
+//! What is written of a line.
+
+use crate::forms::{draft, grid, message, numbers, string, text, value};
+use ft_base::OutOfMemory;
+use ft_msg::Cause;
+use ft_seqr::Refusal;
+use memchr::memchr;
+use std::alloc::Global;
+
+/// What is written of the lines, each with an LF behind it.
+///
+/// Answers `OutOfMemory` where there is no room for it.
+pub fn answers(alloc: Global, input: &[u8]) -> Result<Vec<u8>, OutOfMemory> {
+    let mut output = Vec::new(alloc);
+    for line in input.split_inclusive(|byte| *byte == b'\n') {
+        let text = &line[..memchr(b'\n', line).unwrap_or(line.len())];
+        push_answer(alloc, &mut output, text)?;
+        output.push(b'\n')?;
+    }
+    Ok(output)
+}
+
+// Adds what is written of a line.
+fn push_answer(alloc: Global, output: &mut Vec<u8>, line: &[u8]) -> Result<(), OutOfMemory> {
+    if line.is_empty() || line[0] == b'#' {
+        output.extend_from_slice(line)?;
+        return Ok(());
+    }
+    let place = memchr(b' ', line).unwrap_or(line.len());
+    let form = str::from_utf8(&line[..place]).unwrap_or("");
+    match read(alloc, form, &line[(place + 1).min(line.len())..]) {
+        Ok(told) => output.extend_from_slice(told.as_bytes())?,
+        Err(cause) => output.extend_from_slice(refused(alloc, cause)?.as_bytes())?,
+    }
+    Ok(())
+}
+
+// What the text is, in its one spelling.
+fn read(alloc: Global, form: &str, bytes: &[u8]) -> Result<String, Cause> {
+    match form {
+        "value" => value(alloc, bytes),
+        "numbers" => numbers(alloc, bytes),
+        "string" => string(alloc, bytes),
+        "text" => text(alloc, bytes),
+        "grid" => grid(alloc, bytes),
+        "message" => message(alloc, bytes),
+        "draft" => draft(alloc, bytes),
+        _ => Err(Cause::UnknownWord),
+    }
+}
+
+// Why it is refused, with the refusal's number.
+fn refused(alloc: Global, cause: Cause) -> Result<String, OutOfMemory> {
+    let refusal = Refusal::of_cause(cause);
+    let number = refusal.number();
+    Ok(format!(in alloc; "refused {number} {refusal}")?)
+}

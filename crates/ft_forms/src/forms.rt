@@ -1,0 +1,117 @@
+//! The forms: each reads a text and writes what it read.
+
+ghost use Rattle.ft_op.specs.WellFormed.{IsWellFormed};
+
+use ft_base::OutOfMemory;
+use ft_json::{
+    Field, FieldFault, canonical, num_field, quote, read_line, signed_field, text_field,
+};
+use ft_msg::{Cause, Entry, read_draft, read_message, write_draft, write_message};
+use ft_op::{ChannelOp, read_grid_op, read_text_op, write_op};
+use ft_seqr::Refusal;
+use std::alloc::Global;
+
+/// What stands where a copy isn't the same as what it was made of.
+const OTHER_COPY: &str = "the copy is another one";
+
+/// A value, as it is kept.
+pub fn value(alloc: Global, bytes: &[u8]) -> Result<String, Cause> {
+    let value = read_line(alloc, bytes)?;
+    let kept = canonical(alloc, &value)?;
+    owned(alloc, kept.as_str())
+}
+
+/// The field `pos1` as a number from -1 on and as a number of either sign.
+pub fn numbers(alloc: Global, bytes: &[u8]) -> Result<String, Cause> {
+    let value = read_line(alloc, bytes)?;
+    both_numbers(
+        alloc,
+        num_field(&value, Field::Pos1),
+        signed_field(&value, Field::Pos1),
+    )
+}
+
+/// The string of the field `id`.
+pub fn string(alloc: Global, bytes: &[u8]) -> Result<String, Cause> {
+    let value = read_line(alloc, bytes)?;
+    let text = text_field(alloc, &value, Field::Id)?;
+    let string = quote(alloc, &text)?;
+    owned(alloc, string.as_str())
+}
+
+/// An operation of the text.
+pub fn text(alloc: Global, bytes: &[u8]) -> Result<String, Cause> {
+    let value = read_line(alloc, bytes)?;
+    operation(alloc, &ChannelOp::Text(read_text_op(alloc, &value)?))
+}
+
+/// An operation of the grid.
+pub fn grid(alloc: Global, bytes: &[u8]) -> Result<String, Cause> {
+    let value = read_line(alloc, bytes)?;
+    operation(alloc, &ChannelOp::Grid(read_grid_op(alloc, &value)?))
+}
+
+/// A sequenced message.
+pub fn message(alloc: Global, bytes: &[u8]) -> Result<String, Cause> {
+    let msg = read_message(alloc, bytes)?;
+    let written = write_message(alloc, &msg)?;
+    let entry = Entry { msg, origin: 1 };
+    if !entry.copy()?.same(&entry) {
+        return owned(alloc, OTHER_COPY);
+    }
+    owned(alloc, written.as_str())
+}
+
+/// A draft.
+pub fn draft(alloc: Global, bytes: &[u8]) -> Result<String, Cause> {
+    let draft = read_draft(alloc, bytes)?;
+    if !draft.copy()?.same(&draft) {
+        return owned(alloc, OTHER_COPY);
+    }
+    let written = write_draft(alloc, &draft)?;
+    owned(alloc, written.as_str())
+}
+
+// An operation.
+fn operation(alloc: Global, op: &ChannelOp) -> Result<String, Cause>
+    requires { IsWellFormed op.now }
+{
+    if !op.copy()?.same(op) {
+        return owned(alloc, OTHER_COPY);
+    }
+    let written = write_op(alloc, op)?;
+    owned(alloc, written.as_str())
+}
+
+// Both numbers, or why there are none.
+fn both_numbers(
+    alloc: Global,
+    number: Result<i64, FieldFault>,
+    signed: Result<i64, FieldFault>,
+) -> Result<String, Cause> {
+    let number = number_text(alloc, number)?;
+    let signed = number_text(alloc, signed)?;
+    match format!(in alloc; "{number}, {signed}") {
+        Ok(text) => Ok(text),
+        Err(_) => Err(Cause::OutOfMemory),
+    }
+}
+
+// The number, or why there is none.
+fn number_text(alloc: Global, number: Result<i64, FieldFault>) -> Result<String, OutOfMemory> {
+    match number {
+        Ok(number) => Ok(format!(in alloc; "{number}")?),
+        Err(fault) => {
+            let refusal = Refusal::of_cause(Cause::from(fault));
+            Ok(format!(in alloc; "{refusal}")?)
+        }
+    }
+}
+
+// The text as a string of its own.
+fn owned(alloc: Global, text: &str) -> Result<String, Cause> {
+    match String::from_str(alloc, text) {
+        Ok(owned) => Ok(owned),
+        Err(_) => Err(Cause::OutOfMemory),
+    }
+}
