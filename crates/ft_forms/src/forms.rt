@@ -1,12 +1,13 @@
 //! The forms: each reads a text and writes what it read.
 
 ghost use Rattle.ft_op.specs.WellFormed.{IsWellFormed};
+ghost use Rattle.ft_msg.specs.WellFormed.{IsWellFormedDraft, IsWellFormedMessage};
 
 use ft_base::OutOfMemory;
 use ft_json::{
     Field, FieldFault, canonical, num_field, quote, read_line, signed_field, text_field,
 };
-use ft_msg::{Cause, Entry, read_draft, read_message, write_draft, write_message};
+use ft_msg::{Cause, Draft, Message, read_draft, read_message, write_draft, write_message};
 use ft_op::{ChannelOp, read_grid_op, read_text_op, write_op};
 use ft_seqr::Refusal;
 use std::alloc::Global;
@@ -54,33 +55,64 @@ pub fn grid(alloc: Global, bytes: &[u8]) -> Result<String, Cause> {
 /// A sequenced message.
 pub fn message(alloc: Global, bytes: &[u8]) -> Result<String, Cause> {
     let msg = read_message(alloc, bytes)?;
-    let written = write_message(alloc, &msg)?;
-    let entry = Entry { msg, origin: 1 };
-    if !entry.copy()?.same(&entry) {
-        return owned(alloc, OTHER_COPY);
-    }
-    owned(alloc, written.as_str())
+    message_text(alloc, &msg)
 }
 
 /// A draft.
 pub fn draft(alloc: Global, bytes: &[u8]) -> Result<String, Cause> {
     let draft = read_draft(alloc, bytes)?;
-    if !draft.copy()?.same(&draft) {
-        return owned(alloc, OTHER_COPY);
-    }
-    let written = write_draft(alloc, &draft)?;
-    owned(alloc, written.as_str())
+    draft_text(alloc, &draft)
 }
 
 // An operation.
 fn operation(alloc: Global, op: &ChannelOp) -> Result<String, Cause>
     requires { IsWellFormed op.now }
 {
-    if !op.copy()?.same(op) {
+    if !op_is_copied(op)? {
         return owned(alloc, OTHER_COPY);
     }
     let written = write_op(alloc, op)?;
     owned(alloc, written.as_str())
+}
+
+// The text of a message.
+fn message_text(alloc: Global, msg: &Message) -> Result<String, Cause>
+    requires { IsWellFormedMessage msg.now }
+{
+    if !message_is_copied(msg)? {
+        return owned(alloc, OTHER_COPY);
+    }
+    let written = write_message(alloc, msg)?;
+    owned(alloc, written.as_str())
+}
+
+// The text of a draft.
+fn draft_text(alloc: Global, draft: &Draft) -> Result<String, Cause>
+    requires { IsWellFormedDraft draft.now }
+{
+    if !draft_is_copied(draft)? {
+        return owned(alloc, OTHER_COPY);
+    }
+    let written = write_draft(alloc, draft)?;
+    owned(alloc, written.as_str())
+}
+
+// Whether a copy is the same.
+fn op_is_copied(op: &ChannelOp) -> Result<bool, OutOfMemory> {
+    let copy = op.copy()?;
+    Ok(copy.same(op))
+}
+
+// Whether a copy is the same.
+fn message_is_copied(msg: &Message) -> Result<bool, OutOfMemory> {
+    let copy = msg.copy()?;
+    Ok(copy.same(msg))
+}
+
+// Whether a copy is the same.
+fn draft_is_copied(draft: &Draft) -> Result<bool, OutOfMemory> {
+    let copy = draft.copy()?;
+    Ok(copy.same(draft))
 }
 
 // Both numbers, or why there are none.
