@@ -1,0 +1,19 @@
+//! Tests of what no clause says, for the crates below: that calls which take memory succeed where there is
+//! memory, that generic code works at a type, and what a read or a write that fails in mid-stream leaves. Cases
+//! that are input and output of a program are data of `ft_cases` and `ft_forms`.
+#![tactic(auto)]
+
+#[cfg(test)]
+mod base;
+#[cfg(test)]
+mod io;
+#[cfg(test)]
+mod json;
+#[cfg(test)]
+mod messages;
+#[cfg(test)]
+mod properties;
+#[cfg(test)]
+mod refusals;
+#[cfg(test)]
+mod sessions;
