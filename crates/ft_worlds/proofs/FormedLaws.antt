@@ -1,5 +1,5 @@
 -- Every entry of a log is well formed.
-use Rattle.std.proofs.Common.{◌≡◌, ℕ, ◌+◌, ◌-◌, ◌≤◌, ◌<◌, ◌^◌, Bool, true, false, cond, not, ℤ, pos, negsuc, List, [], ◌∷◌, Option, refl, sym, subst, arith, is_some, le-ltb, lt-ltb}
+use Rattle.std.proofs.Common.{◌≡◌, ℕ, ◌+◌, ◌-◌, ◌≤◌, ◌<◌, ◌^◌, true, cond, not, ℤ, pos, negsuc, List, [], ◌∷◌, Option, refl, sym, subst, arith, is_some, le-ltb, lt-ltb}
 use Rattle.std.specs.Prelude.{IsTrue}
 use Rattle.ft_msg.specs.declared.messages.Body.{Body}
 use Rattle.ft_msg.specs.declared.messages.Entry.{Entry}

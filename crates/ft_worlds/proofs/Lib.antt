@@ -18,3 +18,4 @@ pub mod OfferLaws
 pub mod NameLaws
 pub mod LoadLaws
 pub mod FormedLaws
+pub mod SummaryLaws

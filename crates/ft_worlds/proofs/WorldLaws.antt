@@ -28,7 +28,7 @@ pub log-in-order : LogIsInOrder
 log-in-order events = let r = world-reached events in leads-order (reached events).log 0 0 (reached events).sequencer.number (reached events).sequencer.minimum r.base.order
 
 -- a client that is served is of the log
-of-log : (w : NaiveWorld) (r : IsReachedWorld ⊥ 0 w) (c : NamedClient) → Serves ⊥ r.owner (length w.names) w.sequencer w.log c → IsOfLog w.log c.client
+pub of-log : (w : NaiveWorld) (r : IsReachedWorld ⊥ 0 w) (c : NamedClient) → Serves ⊥ r.owner (length w.names) w.sequencer w.log c → IsOfLog w.log c.client
 of-log w r c s = record {
   steps = s.served.steps;
   run = s.served.run;

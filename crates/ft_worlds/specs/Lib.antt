@@ -1,5 +1,6 @@
 pub mod LogOrder
 pub mod Load
+pub mod Summaries
 pub mod FormedLogs
 pub mod Worlds
 pub mod Reports

@@ -5,6 +5,7 @@ ghost use Rattle.ft_worlds.specs.FormedLogs.{EntriesAreWellFormed};
 ghost use Rattle.ft_worlds.specs.Load.{ElementsAreWithinLoad, NumberIsWithinLoad};
 ghost use Rattle.ft_worlds.specs.NewNames.{ConnectionsHaveNewNames, GuestsHaveNewNames};
 ghost use Rattle.ft_worlds.specs.Offers.{OffersAreOfTheLog};
+ghost use Rattle.ft_worlds.specs.Summaries.{SummariesGoOn};
 ghost use Rattle.ft_worlds.specs.Reports.{OpenedReportsAreOne, ReportsAreOne};
 
 /// The log's messages follow one another: their numbers are 1, 2, 3 and so on, minimums never fall,
@@ -71,4 +72,10 @@ pub fn loads_bound()
 /// what the event would add was below 2^53.
 pub fn entries_are_well_formed()
     ensures { EntriesAreWellFormed }
+{}
+
+/// Whoever begins with what a summary keeps of the document of a client with nothing pending shows
+/// after each further message of the log what the log shows up to there.
+pub fn summaries_go_on()
+    ensures { SummariesGoOn }
 {}

@@ -1,0 +1,19 @@
+-- What a summary of a client of a world stands for.
+use Rattle.std.specs.Prelude.{◌≡◌, true, List, ◌++◌, Some, find, take}
+use Rattle.ft_msg.specs.declared.messages.Entry.{Entry}
+use Rattle.ft_seqr.specs.declared.events.Event.{Event}
+use Rattle.ft_props.specs.Properties.{Characters}
+use Rattle.ft_msg.specs.Agreed.{agreed, take_entries}
+use Rattle.ft_msg.specs.ClientSteps.{is_without_edits}
+use Rattle.ft_msg.specs.Content.{shown}
+use Rattle.ft_msg.specs.Summary.{trim}
+use Rattle.ft_seqr.specs.World.{NamedClient, ahead_of, is_client}
+use Rattle.ft_worlds.specs.Worlds.{reached}
+
+-- whoever begins with the document of a client with nothing pending, as a summary keeps it, shows after the next messages of
+-- the log what all messages up to there show
+abbrev pub SummariesGoOn : Type 0
+SummariesGoOn =
+    (events : List Event) (name : Characters) (c : NamedClient) (next rest : List Entry) → find (is_client name) (reached events).clients ≡ Some c → is_without_edits c.client ≡ true
+    → ahead_of (reached events) c.client ≡ next ++ rest
+    → shown (take_entries (trim c.client.doc) next) ≡ shown (agreed (take c.client.doc.number (reached events).log ++ next))
