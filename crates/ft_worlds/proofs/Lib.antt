@@ -6,6 +6,7 @@ mod Prices
 mod HeldElements
 mod OrderedEnds
 mod FormedClients
+mod SummaryLists
 mod Served
 mod ClientEvents
 mod ConnectionNames

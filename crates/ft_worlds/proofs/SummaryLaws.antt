@@ -9,8 +9,10 @@ use Rattle.ft_laws.specs.Trimming.{AreFrom, IsConsistent}
 use Rattle.ft_laws.proofs.ClientsAgree.{idle-clients-agree, op-kind}
 use Rattle.ft_laws.proofs.ConsistentDocument.{agreed-consistent}
 use Rattle.ft_laws.proofs.TrimmedFromNow.{trim-shows}
+use Rattle.ft_seqr.specs.World.{known_names}
 use Rattle.ft_worlds.specs.LogOrder.{Follows, RefersWithin}
-use Rattle.ft_worlds.specs.Summaries.{SummariesGoOn}
+use Rattle.ft_worlds.specs.Summaries.{SummariesGiveLists, SummariesGoOn}
+use Rattle.ft_worlds.proofs.SummaryLists.{IsPlain, agreed-plain, lists-given}
 use Rattle.ft_worlds.specs.Worlds.{reached}
 use Rattle.ft_worlds.proofs.Orders.{Leads}
 use Rattle.ft_worlds.proofs.WorldEvents.{ahead-is, found-serves}
@@ -46,3 +48,13 @@ summaries-go-on events name c next rest f none ahead =
     (subst (λ es. Leads x.doc.number x.doc.minimum es w.sequencer.number w.sequencer.minimum) (sym (ahead-is ⊥ r.owner w c s.rest s.served) ∙ ahead) s.served.order) in
     trim-shows x.doc next (subst IsConsistent (sym doc) (agreed-consistent entries)) order
     ∙ (ap (λ d. shown (take_entries d next)) doc ∙ ap shown (sym (take-more entries next _)))
+
+pub summaries-give-lists : SummariesGiveLists
+summaries-give-lists events name c f none =
+    let w = reached events in
+    let r = world-reached events in
+    let s = found-serves ⊥ w r name c f in
+    let x = c.client in
+    let o = of-log w r c (record { rest = s.rest; served = s.served; formed = s.formed }) in
+    let doc : x.doc ≡ agreed (take x.doc.number w.log) = idle-clients-agree o.steps x o.run.made o.run.bodies none ∙ ap agreed o.entries in
+    lists-given (known_names w x) x.doc (subst IsPlain (sym doc) (agreed-plain (take x.doc.number w.log)))

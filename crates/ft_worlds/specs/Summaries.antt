@@ -1,13 +1,17 @@
 -- What a summary of a client of a world stands for.
-use Rattle.std.specs.Prelude.{◌≡◌, true, List, ◌++◌, Some, find, take}
+use Rattle.std.specs.Prelude.{◌≡◌, true, List, ◌++◌, Some, find, map, take}
 use Rattle.ft_msg.specs.declared.messages.Entry.{Entry}
 use Rattle.ft_seqr.specs.declared.events.Event.{Event}
 use Rattle.ft_props.specs.Properties.{Characters}
 use Rattle.ft_msg.specs.Agreed.{agreed, take_entries}
 use Rattle.ft_msg.specs.ClientSteps.{is_without_edits}
 use Rattle.ft_msg.specs.Content.{shown}
-use Rattle.ft_msg.specs.Summary.{trim}
-use Rattle.ft_seqr.specs.World.{NamedClient, ahead_of, is_client}
+use Rattle.ft_msg.specs.Summary.{doc_of, trim}
+use Rattle.ft_props.specs.Element.{nameless}
+use Rattle.ft_op.specs.Document.{Document}
+use Rattle.ft_sumdoc.specs.declared.summary.SumDoc.{SumDoc}
+use Rattle.ft_seqr.specs.SummaryText.{summary_of}
+use Rattle.ft_seqr.specs.World.{NamedClient, ahead_of, is_client, known_names}
 use Rattle.ft_worlds.specs.Worlds.{reached}
 
 -- whoever begins with the document of a client with nothing pending, as a summary keeps it, shows after the next messages of
@@ -17,3 +21,15 @@ SummariesGoOn =
     (events : List Event) (name : Characters) (c : NamedClient) (next rest : List Entry) → find (is_client name) (reached events).clients ≡ Some c → is_without_edits c.client ≡ true
     → ahead_of (reached events) c.client ≡ next ++ rest
     → shown (take_entries (trim c.client.doc) next) ≡ shown (agreed (take c.client.doc.number (reached events).log ++ next))
+
+-- the lists that the summary gives are those of the document as a summary keeps it, but for the names of elements
+pub record GivesLists (sum : SumDoc) (doc : Document) : Type 0 where
+  pub text : map nameless (doc_of sum).text.items ≡ map nameless (trim doc).text.items
+  pub rows : map nameless (doc_of sum).rows.items ≡ map nameless (trim doc).rows.items
+  pub cols : map nameless (doc_of sum).cols.items ≡ map nameless (trim doc).cols.items
+
+-- so it is with the summary of a client with nothing pending
+abbrev pub SummariesGiveLists : Type 0
+SummariesGiveLists =
+    (events : List Event) (name : Characters) (c : NamedClient) → find (is_client name) (reached events).clients ≡ Some c → is_without_edits c.client ≡ true
+    → GivesLists (summary_of (known_names (reached events) c.client) c.client.doc) c.client.doc

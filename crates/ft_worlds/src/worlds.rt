@@ -5,7 +5,7 @@ ghost use Rattle.ft_worlds.specs.FormedLogs.{EntriesAreWellFormed};
 ghost use Rattle.ft_worlds.specs.Load.{ElementsAreWithinLoad, NumberIsWithinLoad};
 ghost use Rattle.ft_worlds.specs.NewNames.{ConnectionsHaveNewNames, GuestsHaveNewNames};
 ghost use Rattle.ft_worlds.specs.Offers.{OffersAreOfTheLog};
-ghost use Rattle.ft_worlds.specs.Summaries.{SummariesGoOn};
+ghost use Rattle.ft_worlds.specs.Summaries.{SummariesGiveLists, SummariesGoOn};
 ghost use Rattle.ft_worlds.specs.Reports.{OpenedReportsAreOne, ReportsAreOne};
 
 /// The log's messages follow one another: their numbers are 1, 2, 3 and so on, minimums never fall,
@@ -78,4 +78,10 @@ pub fn entries_are_well_formed()
 /// after each further message of the log what the log shows up to there.
 pub fn summaries_go_on()
     ensures { SummariesGoOn }
+{}
+
+/// The text, the rows and the columns that the summary of a client with nothing pending gives are
+/// those that a summary keeps of its document.
+pub fn summaries_give_lists()
+    ensures { SummariesGiveLists }
 {}
