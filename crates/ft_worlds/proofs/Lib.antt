@@ -7,6 +7,7 @@ mod HeldElements
 mod OrderedEnds
 mod FormedClients
 mod SummaryLists
+mod SummaryIntervals
 mod Served
 mod ClientEvents
 mod ConnectionNames

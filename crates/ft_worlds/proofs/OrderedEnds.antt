@@ -122,7 +122,7 @@ any-carried h b (x ∷ xs) ys c g = by (λ us d f. any-carried h b xs us d f) ys
     by ih (u ∷ us) (inr n) = or_right (has_id (h b) u) (list_any (has_id (h b)) us) (by ih us n)
 
 -- an element with the name of a later one isn't there
-other-name : (b : ElementId) (y : ListElement) (ys : List ListElement) → are_distinct (y ∷ ys) ≡ true → list_any (has_id b) ys ≡ true → has_id b y ≡ false
+pub other-name : (b : ElementId) (y : ListElement) (ys : List ListElement) → are_distinct (y ∷ ys) ≡ true → list_any (has_id b) ys ≡ true → has_id b y ≡ false
 other-name b y ys d g = by (has_id b y) refl
   where
     by : (t : Bool) → has_id b y ≡ t → t ≡ false

@@ -2,17 +2,21 @@
 use Rattle.std.proofs.Common.{◌≡◌, ℕ, ◌+◌, ◌≤◌, true, ℤ, pos, negsuc, List, [], ◌∷◌, ◌++◌, take, refl, sym, ◌∙◌, ap, subst}
 use Rattle.ft_msg.specs.declared.messages.Entry.{Entry}
 use Rattle.ft_op.specs.Document.{Document}
+use Rattle.ft_props.specs.Properties.{Characters}
 use Rattle.ft_msg.specs.Agreed.{agreed, reference_number, take_entries, take_entry}
 use Rattle.ft_msg.specs.Content.{shown}
+use Rattle.ft_msg.specs.Summary.{segment_items, trim}
 use Rattle.ft_msg.specs.Process.{is_op, is_op_kind}
 use Rattle.ft_laws.specs.Trimming.{AreFrom, IsConsistent}
 use Rattle.ft_laws.proofs.ClientsAgree.{idle-clients-agree, op-kind}
-use Rattle.ft_laws.proofs.ConsistentDocument.{agreed-consistent}
+use Rattle.ft_laws.proofs.ConsistentDocument.{agreed-consistent, trim-consistent}
 use Rattle.ft_laws.proofs.TrimmedFromNow.{trim-shows}
 use Rattle.ft_seqr.specs.World.{known_names}
 use Rattle.ft_worlds.specs.LogOrder.{Follows, RefersWithin}
-use Rattle.ft_worlds.specs.Summaries.{SummariesGiveLists, SummariesGoOn}
-use Rattle.ft_worlds.proofs.SummaryLists.{IsPlain, agreed-plain, lists-given}
+use Rattle.ft_worlds.specs.Summaries.{GivesAllButCells, SummariesGiveAllButCells, SummariesGoOn}
+use Rattle.ft_worlds.proofs.SummaryLists.{IsPlain, agreed-plain, runs-back, text-back, trim-plain}
+use Rattle.ft_worlds.proofs.SummaryIntervals.{intervals-back, segments-distinct}
+use Rattle.ft_seqr.specs.SummaryText.{segments_from, summary_of}
 use Rattle.ft_worlds.specs.Worlds.{reached}
 use Rattle.ft_worlds.proofs.Orders.{Leads}
 use Rattle.ft_worlds.proofs.WorldEvents.{ahead-is, found-serves}
@@ -49,12 +53,30 @@ summaries-go-on events name c next rest f none ahead =
     trim-shows x.doc next (subst IsConsistent (sym doc) (agreed-consistent entries)) order
     ∙ (ap (λ d. shown (take_entries d next)) doc ∙ ap shown (sym (take-more entries next _)))
 
-pub summaries-give-lists : SummariesGiveLists
-summaries-give-lists events name c f none =
+-- what the summary of a document of messages gives
+all-but-cells : (conns : List Characters) (doc : Document) → IsPlain doc → IsConsistent doc → GivesAllButCells (summary_of conns doc) doc
+all-but-cells conns doc h d =
+    let t = trim-plain doc h in
+    let e = trim-consistent doc d in
+    let text = text-back (trim doc).text.items t.text in
+    record {
+      text = text;
+      rows = runs-back (trim doc).rows.items t.rows;
+      cols = runs-back (trim doc).cols.items t.cols;
+      intervals = intervals-back (trim doc).text.items (segment_items 0 (segments_from 0 (trim doc).text.items)) text e.text.distinct (segments-distinct (segments_from 0 (trim doc).text.items)) t.text (trim doc).intervals e.ends;
+      skipped = refl;
+      other = refl;
+      number = refl;
+      minimum = refl;
+    }
+
+pub summaries-give-all_but_cells : SummariesGiveAllButCells
+summaries-give-all_but_cells events name c f none =
     let w = reached events in
     let r = world-reached events in
     let s = found-serves ⊥ w r name c f in
     let x = c.client in
+    let entries = take x.doc.number w.log in
     let o = of-log w r c (record { rest = s.rest; served = s.served; formed = s.formed }) in
-    let doc : x.doc ≡ agreed (take x.doc.number w.log) = idle-clients-agree o.steps x o.run.made o.run.bodies none ∙ ap agreed o.entries in
-    lists-given (known_names w x) x.doc (subst IsPlain (sym doc) (agreed-plain (take x.doc.number w.log)))
+    let doc : x.doc ≡ agreed entries = idle-clients-agree o.steps x o.run.made o.run.bodies none ∙ ap agreed o.entries in
+    all-but-cells (known_names w x) x.doc (subst IsPlain (sym doc) (agreed-plain entries)) (subst IsConsistent (sym doc) (agreed-consistent entries))

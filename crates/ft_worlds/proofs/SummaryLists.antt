@@ -16,7 +16,7 @@ use Rattle.ft_sumdoc.specs.declared.summary.RunRec.{RunRec}
 use Rattle.ft_props.specs.Properties.{PropertyList}
 use Rattle.ft_props.specs.declared.properties.Changes.{Changes}
 use Rattle.ft_props.specs.Element.{Character, ElementContent, GridUnit, ListElement, MarkerOf, NamelessElement, nameless, new_elements}
-use Rattle.ft_props.specs.Properties.{Characters, apply}
+use Rattle.ft_props.specs.Properties.{apply}
 use Rattle.ft_props.specs.Element.{is_pending, seen_by, with_annotation, with_removal}
 use Rattle.ft_props.specs.Compaction.{is_collectable, is_insertion_at_or_below, trim_element, with_universal_insertion}
 use Rattle.ft_base.specs.Scan.{at, len, retain_map}
@@ -33,8 +33,6 @@ use Rattle.ft_msg.specs.declared.messages.Entry.{Entry}
 use Rattle.ft_msg.specs.Agreed.{agreed, body_effect, reference_number, take_entries, take_entry}
 use Rattle.ft_msg.specs.Summary.{trim}
 use Rattle.ft_laws.proofs.HeldNames.{all-append, all-put, all-range}
-use Rattle.ft_seqr.specs.SummaryText.{summary_of}
-use Rattle.ft_worlds.specs.Summaries.{GivesLists}
 use Rattle.ft_op.specs.Same.{same_list}
 use Rattle.ft_msg.specs.Content.{same_props}
 use Rattle.ft_msg.specs.Summary.{run_items, segment_bodies, segment_items, stamp_of}
@@ -413,9 +411,3 @@ trim-plain doc h = record {
   rows = trim-all is_plain_unit doc.minimum universal-unit doc.rows.items h.rows;
   cols = trim-all is_plain_unit doc.minimum universal-unit doc.cols.items h.cols;
 }
-
--- the lists of a plain document's summary
-pub lists-given : (conns : List Characters) (doc : Document) → IsPlain doc → GivesLists (summary_of conns doc) doc
-lists-given conns doc h =
-    let t = trim-plain doc h in
-    record { text = text-back (trim doc).text.items t.text; rows = runs-back (trim doc).rows.items t.rows; cols = runs-back (trim doc).cols.items t.cols }

@@ -6,6 +6,7 @@ use Rattle.ft_props.specs.Properties.{Characters}
 use Rattle.ft_msg.specs.Agreed.{agreed, take_entries}
 use Rattle.ft_msg.specs.ClientSteps.{is_without_edits}
 use Rattle.ft_msg.specs.Content.{shown}
+use Rattle.ft_msg.specs.Indexed.{indexed_interval}
 use Rattle.ft_msg.specs.Summary.{doc_of, trim}
 use Rattle.ft_props.specs.Element.{nameless}
 use Rattle.ft_op.specs.Document.{Document}
@@ -22,14 +23,19 @@ SummariesGoOn =
     → ahead_of (reached events) c.client ≡ next ++ rest
     → shown (take_entries (trim c.client.doc) next) ≡ shown (agreed (take c.client.doc.number (reached events).log ++ next))
 
--- the lists that the summary gives are those of the document as a summary keeps it, but for the names of elements
-pub record GivesLists (sum : SumDoc) (doc : Document) : Type 0 where
+-- the summary gives the document as a summary keeps it, but for the names of elements, in all but the cells
+pub record GivesAllButCells (sum : SumDoc) (doc : Document) : Type 0 where
   pub text : map nameless (doc_of sum).text.items ≡ map nameless (trim doc).text.items
   pub rows : map nameless (doc_of sum).rows.items ≡ map nameless (trim doc).rows.items
   pub cols : map nameless (doc_of sum).cols.items ≡ map nameless (trim doc).cols.items
+  pub intervals : map (indexed_interval (doc_of sum).text.items) (doc_of sum).intervals ≡ map (indexed_interval (trim doc).text.items) (trim doc).intervals
+  pub skipped : (doc_of sum).skipped ≡ (trim doc).skipped
+  pub other : (doc_of sum).other ≡ (trim doc).other
+  pub number : (doc_of sum).number ≡ (trim doc).number
+  pub minimum : (doc_of sum).minimum ≡ (trim doc).minimum
 
 -- so it is with the summary of a client with nothing pending
-abbrev pub SummariesGiveLists : Type 0
-SummariesGiveLists =
+abbrev pub SummariesGiveAllButCells : Type 0
+SummariesGiveAllButCells =
     (events : List Event) (name : Characters) (c : NamedClient) → find (is_client name) (reached events).clients ≡ Some c → is_without_edits c.client ≡ true
-    → GivesLists (summary_of (known_names (reached events) c.client) c.client.doc) c.client.doc
+    → GivesAllButCells (summary_of (known_names (reached events) c.client) c.client.doc) c.client.doc
