@@ -16,7 +16,7 @@ use Rattle.ft_worlds.specs.LogOrder.{Follows, RefersWithin}
 use Rattle.ft_worlds.specs.Summaries.{GivesAllButCells, SummariesGiveAllButCells, SummariesGoOn}
 use Rattle.ft_worlds.proofs.SummaryLists.{IsPlain, agreed-plain, runs-back, text-back, trim-plain}
 use Rattle.ft_worlds.proofs.SummaryIntervals.{intervals-back, segments-distinct}
-use Rattle.ft_seqr.specs.SummaryText.{segments_from, summary_of}
+use Rattle.ft_msg.specs.SummaryOf.{segments_from, summary_of}
 use Rattle.ft_worlds.specs.Worlds.{reached}
 use Rattle.ft_worlds.proofs.Orders.{Leads}
 use Rattle.ft_worlds.proofs.WorldEvents.{ahead-is, found-serves}

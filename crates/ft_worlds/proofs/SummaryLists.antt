@@ -34,9 +34,11 @@ use Rattle.ft_msg.specs.Agreed.{agreed, body_effect, reference_number, take_entr
 use Rattle.ft_msg.specs.Summary.{trim}
 use Rattle.ft_laws.proofs.HeldNames.{all-append, all-put, all-range}
 use Rattle.ft_op.specs.Same.{same_list}
-use Rattle.ft_msg.specs.Content.{same_props}
 use Rattle.ft_msg.specs.Summary.{run_items, segment_bodies, segment_items, stamp_of}
-use Rattle.ft_seqr.specs.SummaryText.{are_alike, author_of, body_of, chunk_length, extended_runs, extended_segments, mark_of, same_mark, segment_of, segments_from, unit_runs}
+use Rattle.ft_sumdoc.specs.Chunks.{chunk_length}
+use Rattle.ft_sumdoc.specs.Stamps.{same_mark}
+use Rattle.ft_sumdoc.specs.WellFormed.{same_props, same_stamps}
+use Rattle.ft_msg.specs.SummaryOf.{author_of, body_of, extended_runs, extended_segments, mark_of, segment_of, segments_from, unit_runs}
 
 -- ---- what segments hold
 
@@ -87,14 +89,19 @@ props-same ((k, v) ∷ ps) ((l, w) ∷ qs) h =
     let e = both (bytes_eq k l) (bytes_eq v w) p.0 in
     ap (λ (i : List ℕ). (i, v) ∷ ps) ((bytes_eq-Decides k l).0 e.0) ∙ (ap (λ (i : List ℕ). (l, i) ∷ ps) ((bytes_eq-Decides v w).0 e.1) ∙ ap (λ rest. (l, w) ∷ rest) (props-same ps qs p.1))
 
+-- whether two segments differ in nothing but what they hold
+abbrev alike_beside : SegRec → SegRec → Bool
+alike_beside a b = same_props a.props b.props && same_mark a.by b.by && same_stamps a.ins a.dels b.ins b.dels
+
 -- what segments hold that differ in nothing else is the same
-alike-hold : (a b : SegRec) (c : Seg) → are_alike a b ≡ true → held_by (record a { body = c }) ≡ held_by (record b { body = c })
+alike-hold : (a b : SegRec) (c : Seg) → alike_beside a b ≡ true → held_by (record a { body = c }) ≡ held_by (record b { body = c })
 alike-hold a b c h =
-    let p = all_four (same_props a.props b.props) (same_mark a.by b.by) (same_mark a.ins b.ins) (same_list same_mark a.dels b.dels) h in
+    let p = all_three (same_props a.props b.props) (same_mark a.by b.by) (same_stamps a.ins a.dels b.ins b.dels) h in
+    let q = both (same_mark a.ins b.ins) (same_list same_mark a.dels b.dels) p.2 in
     let props = props-same a.props b.props p.0 in
     let by = marks-same a.by b.by p.1 in
-    let ins = marks-same a.ins b.ins p.2 in
-    let dels = all-marks-same a.dels b.dels p.3 in
+    let ins = marks-same a.ins b.ins q.0 in
+    let dels = all-marks-same a.dels b.dels q.1 in
     ap (λ (z : PropertyList). held_by (record { body = c; props = z; by = a.by; ins = a.ins; dels = a.dels })) props
     ∙ (ap (λ (z : Mark). held_by (record { body = c; props = b.props; by = z; ins = a.ins; dels = a.dels })) by
     ∙ (ap (λ (z : Mark). held_by (record { body = c; props = b.props; by = b.by; ins = z; dels = a.dels })) ins
@@ -103,30 +110,29 @@ alike-hold a b c h =
 -- a segment put before others adds what it holds
 extended-hold : (ends : Bool) (s : SegRec) (segs : List SegRec) → flat_map held_by (extended_segments ends s segs) ≡ held_by s ++ flat_map held_by segs
 extended-hold ends s [] = refl
-extended-hold ends s (next ∷ segs) = by s.body next.body
+extended-hold ends s (next ∷ segs) = by ends s.body next.body
   where
-    text-joined : (front text : List ℕ) → are_alike s next ≡ true → held_by (record next { body = Chars (front ++ text) }) ≡ held_by (record s { body = Chars front }) ++ held_by (record next { body = Chars text })
+    text-joined : (front text : List ℕ) → alike_beside s next ≡ true → held_by (record next { body = Chars (front ++ text) }) ≡ held_by (record s { body = Chars front }) ++ held_by (record next { body = Chars text })
     text-joined front text h =
         let make = bare (stamp_of next.ins) (map stamp_of next.dels) (Some (stamp_of next.by)) next.props in
         ap (map (bare (stamp_of next.ins) (map stamp_of next.dels) (Some (stamp_of next.by)) next.props)) (map-append (λ c. Character c) front text)
         ∙ (map-append (bare (stamp_of next.ins) (map stamp_of next.dels) (Some (stamp_of next.by)) next.props) (map (λ c. Character c) front) (map (λ c. Character c) text)
         ∙ ap (λ es. es ++ held_by (record next { body = Chars text })) (sym (alike-hold s next (Chars front) h)))
 
-    test : Bool → Bool
-    test b = not ends && b
-
-    joined : (front text : List ℕ) (t : Bool) → not ends && are_alike s next ≡ t
+    joined : (front text : List ℕ) (t : Bool) → alike_beside s next ≡ t
         → flat_map held_by (cond t (record next { body = Chars (front ++ text) } ∷ segs) (record s { body = Chars front } ∷ record next { body = Chars text } ∷ segs))
         ≡ held_by (record s { body = Chars front }) ++ (held_by (record next { body = Chars text }) ++ flat_map held_by segs)
     joined front text false e = refl
     joined front text true e =
-        ap (λ es. es ++ flat_map held_by segs) (text-joined front text (both (not ends) (are_alike s next) e).1)
+        ap (λ es. es ++ flat_map held_by segs) (text-joined front text e)
         ∙ append_assoc (held_by (record s { body = Chars front })) (held_by (record next { body = Chars text })) (flat_map held_by segs)
 
-    by : (b c : Seg) → flat_map held_by (extended_segments ends (record s { body = b }) (record next { body = c } ∷ segs)) ≡ held_by (record s { body = b }) ++ (held_by (record next { body = c }) ++ flat_map held_by segs)
-    by (Marker r) c = refl
-    by (Chars front) (Marker r) = refl
-    by (Chars front) (Chars text) = joined front text (not ends && are_alike s next) refl
+    by : (e : Bool) (b c : Seg)
+        → flat_map held_by (extended_segments e (record s { body = b }) (record next { body = c } ∷ segs)) ≡ held_by (record s { body = b }) ++ (held_by (record next { body = c }) ++ flat_map held_by segs)
+    by true b c = refl
+    by false (Marker r) c = refl
+    by false (Chars front) (Marker r) = refl
+    by false (Chars front) (Chars text) = joined front text (alike_beside s next) refl
 
 -- ---- elements as messages make them
 
@@ -224,9 +230,9 @@ more-units r = ap (λ n. units_of (record r { count = n })) (add-one r.count)
 
 extended-units : (ins : Mark) (dels : List Mark) (runs : List RunRec) → flat_map units_of (extended_runs ins dels runs) ≡ unit ins dels ∷ flat_map units_of runs
 extended-units ins dels [] = refl
-extended-units ins dels (r ∷ runs) = by (same_mark ins r.ins && same_list same_mark dels r.dels) refl
+extended-units ins dels (r ∷ runs) = by (same_stamps ins dels r.ins r.dels) refl
   where
-    by : (t : Bool) → same_mark ins r.ins && same_list same_mark dels r.dels ≡ t
+    by : (t : Bool) → same_stamps ins dels r.ins r.dels ≡ t
         → flat_map units_of (cond t (record r { count = r.count + 1 } ∷ runs) (record { count = 1; ins = ins; dels = dels } ∷ r ∷ runs)) ≡ unit ins dels ∷ (units_of r ++ flat_map units_of runs)
     by false e = refl
     by true e =

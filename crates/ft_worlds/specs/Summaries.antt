@@ -11,7 +11,7 @@ use Rattle.ft_msg.specs.Summary.{doc_of, trim}
 use Rattle.ft_props.specs.Element.{nameless}
 use Rattle.ft_op.specs.Document.{Document}
 use Rattle.ft_sumdoc.specs.declared.summary.SumDoc.{SumDoc}
-use Rattle.ft_seqr.specs.SummaryText.{summary_of}
+use Rattle.ft_msg.specs.SummaryOf.{summary_of}
 use Rattle.ft_seqr.specs.World.{NamedClient, ahead_of, is_client, known_names}
 use Rattle.ft_worlds.specs.Worlds.{reached}
 
