@@ -14,7 +14,7 @@ use Rattle.ft_msg.specs.Client.{NaiveClient}
 use Rattle.ft_msg.specs.Reached.{IsReached}
 use Rattle.ft_seqr.specs.declared.refusals.Refusal.{Refusal}
 use Rattle.ft_seqr.specs.declared.refusals.Refusal.TheVariants as refusal
-use Rattle.ft_msg.specs.ValidSummary.{are_distinct_names}
+use Rattle.ft_sumdoc.specs.Counts.{are_distinct}
 use Rattle.ft_seqr.specs.World.{NamedClient, in_place, is_client}
 use Rattle.ft_session.specs.ClientEvents.{NaiveClients, client_event}
 use Rattle.ft_session.specs.Worlds.{AnswersEvent, AnswersMember, MembersStand, MemberStands, MemberState, WorldStands, WorldState, has_name, is_want, made_by, names_of}
@@ -22,7 +22,7 @@ use Rattle.ft_session.proofs.NamedMember.{Found, found, names-placed, not_found}
 
 -- the place of a member among members of any type that show themselves so
 place_found : {A : Type 0} (view : A → MemberState) (name : Characters) (i : ℕ) (xs : List A) (ns : List NamedClient)
-    → MembersStand (map view xs) ns → are_distinct_names (names_of ns) ≡ true → position (λ x. has_name name (view x)) xs ≡ Some i → Found name (map view xs) i ns
+    → MembersStand (map view xs) ns → are_distinct (names_of ns) ≡ true → position (λ x. has_name name (view x)) xs ≡ Some i → Found name (map view xs) i ns
 place_found view name i xs ns s d h =
     let (j, e, f) = found view name 0 i xs ns s d (sym (position_from-zero (λ x. has_name name (view x)) xs) ∙ h) in
     let q : j ≡ i = omega arith in
@@ -107,7 +107,7 @@ module _ (name : Characters) (step : List Entry → ℕ → NaiveClient → Resu
               record {
                 running = refl;
                 members = subst (λ ms. MembersStand ms (map (in_place after) n.clients)) (sym (map-set view xs i y)) (f.put (view y) after f.named stands);
-                distinct = ap are_distinct_names (names-placed after n.clients) ∙ s.distinct;
+                distinct = ap are_distinct (names-placed after n.clients) ∙ s.distinct;
                 log = s.log;
                 conns = ap (λ c. c + more) s.conns;
               },
