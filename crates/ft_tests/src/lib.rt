@@ -6,9 +6,7 @@
 #[cfg(test)]
 mod base;
 #[cfg(test)]
-mod io;
-#[cfg(test)]
-mod json;
+mod json_values;
 #[cfg(test)]
 mod messages;
 #[cfg(test)]
@@ -17,3 +15,5 @@ mod properties;
 mod refusals;
 #[cfg(test)]
 mod sessions;
+#[cfg(test)]
+mod streams;
