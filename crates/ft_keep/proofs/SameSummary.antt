@@ -96,11 +96,11 @@ module _ {min : ℕ} {held : ElementId → Bool} where
 -- ---- cells
 
 -- whether a value, if there is one, isn't null
-abbrev is_shown : Option ValueBytes → Bool
+abbrev pub is_shown : Option ValueBytes → Bool
 is_shown None = true
 is_shown (Some v) = not (is_null v)
 
-shown-value : (row col : ElementId) (cells : List Cell) → list_all has_value cells ≡ true → is_shown (cell_value row col cells) ≡ true
+pub shown-value : (row col : ElementId) (cells : List Cell) → list_all has_value cells ≡ true → is_shown (cell_value row col cells) ≡ true
 shown-value row col [] h = refl
 shown-value row col (c ∷ cells) h =
     let p = both (has_value c) (list_all has_value cells) h in
@@ -137,43 +137,77 @@ module _ (row col : ElementId) (keep : Cell → Bool) where
       step false false e k w q = q w
 
 -- whether a summary has the cell of these rows and columns
-abbrev is_summed : List ListElement → List ListElement → Cell → Bool
+abbrev pub is_summed : List ListElement → List ListElement → Cell → Bool
 is_summed rows cols c = not (is_null c.value) && not (has_sequenced_removal rows c.row) && not (has_sequenced_removal cols c.col)
+
+-- a value that isn't of a removed row or column
+abbrev pub unless_removed : Bool → Bool → Option ValueBytes → Option ValueBytes
+unless_removed true col v = None
+unless_removed false true v = None
+unless_removed false false v = v
+
+module _ (rows cols : List ListElement) (row col : ElementId) where
+  row-gone : (c : Cell) → has_sequenced_removal rows row ≡ true → row ≡ c.row → is_summed rows cols c ≡ false
+  row-gone c r p = rw (subst (λ i. has_sequenced_removal rows i ≡ true) p r) (middle (not (is_null c.value)))
+    where
+      middle : (d : Bool) → d && false && not (has_sequenced_removal cols c.col) ≡ false
+      middle true = refl
+      middle false = refl
+
+  col-gone : (c : Cell) → has_sequenced_removal cols col ≡ true → col ≡ c.col → is_summed rows cols c ≡ false
+  col-gone c r p = rw (subst (λ i. has_sequenced_removal cols i ≡ true) p r) (last (not (is_null c.value)) (not (has_sequenced_removal rows c.row)))
+    where
+      last : (d e : Bool) → d && e && false ≡ false
+      last true true = refl
+      last true false = refl
+      last false e = refl
+
+  there : (c : Cell) → has_sequenced_removal rows row ≡ false → has_sequenced_removal cols col ≡ false → has_value c ≡ true → row ≡ c.row → col ≡ c.col → is_summed rows cols c ≡ true
+  there c r s v p q = rw (v, subst (λ i. has_sequenced_removal rows i ≡ false) p r, subst (λ i. has_sequenced_removal cols i ≡ false) q s) refl
+
+  -- what a summary has of a cell that shows no null
+  pub summed-value : (cells : List Cell) → (has_sequenced_removal rows row ≡ false → has_sequenced_removal cols col ≡ false → is_shown (cell_value row col cells) ≡ true)
+      → cell_value row col (filter (is_summed rows cols) cells) ≡ unless_removed (has_sequenced_removal rows row) (has_sequenced_removal cols col) (cell_value row col cells)
+  summed-value cells shown = step (has_sequenced_removal rows row) (has_sequenced_removal cols col) refl refl
+    where
+      step : (r s : Bool) → has_sequenced_removal rows row ≡ r → has_sequenced_removal cols col ≡ s → cell_value row col (filter (is_summed rows cols) cells) ≡ unless_removed r s (cell_value row col cells)
+      step true s f g = none-kept row col (is_summed rows cols) cells (λ c p q. row-gone c f p)
+      step false true f g = none-kept row col (is_summed rows cols) cells (λ c p q. col-gone c g q)
+      step false false f g = value-stays row col (is_summed rows cols) cells (shown f g) (λ c v p q. there c f g v p q)
+
+unless-same : (r s : Bool) (v w : Option ValueBytes) → (r ≡ false → s ≡ false → v ≡ w) → unless_removed r s v ≡ unless_removed r s w
+unless-same true s v w h = refl
+unless-same false true v w h = refl
+unless-same false false v w h = h refl refl
+
+-- what isn't removed in the compacted list isn't removed in the whole one
+pub unremoved-whole : (ks xs : List ListElement) (a : ElementId) → is_removed_alike ks xs a ≡ true → has_sequenced_removal ks a ≡ false → has_sequenced_removal xs a ≡ false
+unremoved-whole ks xs a h f = step (has_sequenced_removal xs a) (has_sequenced_removal ks a) h f
+  where
+    step : (b c : Bool) → not b || c ≡ true → c ≡ false → b ≡ false
+    step true c g e = (cc)
+    step false c g e = refl
+
+same-removal : {low : ℕ} {held : ElementId → Bool} {ks xs : List ListElement} (a : ElementId) → Keeps low held ks xs → is_removed_alike ks xs a ≡ true → has_sequenced_removal ks a ≡ has_sequenced_removal xs a
+same-removal {ks = ks} {xs = xs} a k h = step (has_sequenced_removal xs a) refl h
+  where
+    step : (b : Bool) → has_sequenced_removal xs a ≡ b → not b || has_sequenced_removal ks a ≡ true → has_sequenced_removal ks a ≡ b
+    step true e g = g
+    step false e g = unremoved-kept a k e
 
 module _ {low : ℕ} {held_row held_col : ElementId → Bool} {krows xrows kcols xcols : List ListElement} (rows : Keeps low held_row krows xrows) (cols : Keeps low held_col kcols xcols) (ks cs : List Cell)
     (agree : (row col : ElementId) → has_sequenced_removal xrows row ≡ false → has_sequenced_removal xcols col ≡ false → cell_value row col ks ≡ cell_value row col cs) (values : list_all has_value cs ≡ true) where
-  value-same : (row col : ElementId) → is_removed_alike krows xrows row ≡ true → is_removed_alike kcols xcols col ≡ true → cell_value row col (filter (is_summed krows kcols) ks) ≡ cell_value row col (filter (is_summed xrows xcols) cs)
-  value-same row col a b = step (has_sequenced_removal xrows row) (has_sequenced_removal xcols col) refl refl a b
-    where
-      row-gone : (us vs : List ListElement) (c : Cell) → has_sequenced_removal us row ≡ true → row ≡ c.row → is_summed us vs c ≡ false
-      row-gone us vs c r p = rw (subst (λ i. has_sequenced_removal us i ≡ true) p r) (middle (not (is_null c.value)))
-        where
-          middle : (d : Bool) → d && false && not (has_sequenced_removal vs c.col) ≡ false
-          middle true = refl
-          middle false = refl
-
-      col-gone : (us vs : List ListElement) (c : Cell) → has_sequenced_removal vs col ≡ true → col ≡ c.col → is_summed us vs c ≡ false
-      col-gone us vs c r p = rw (subst (λ i. has_sequenced_removal vs i ≡ true) p r) (last (not (is_null c.value)) (not (has_sequenced_removal us c.row)))
-        where
-          last : (d e : Bool) → d && e && false ≡ false
-          last true true = refl
-          last true false = refl
-          last false e = refl
-
-      there : (us vs : List ListElement) (c : Cell) → has_sequenced_removal us row ≡ false → has_sequenced_removal vs col ≡ false → has_value c ≡ true → row ≡ c.row → col ≡ c.col → is_summed us vs c ≡ true
-      there us vs c r s v p q = rw (v, subst (λ i. has_sequenced_removal us i ≡ false) p r, subst (λ i. has_sequenced_removal vs i ≡ false) q s) refl
-
-      step : (r s : Bool) → has_sequenced_removal xrows row ≡ r → has_sequenced_removal xcols col ≡ s → not r || has_sequenced_removal krows row ≡ true → not s || has_sequenced_removal kcols col ≡ true
-          → cell_value row col (filter (is_summed krows kcols) ks) ≡ cell_value row col (filter (is_summed xrows xcols) cs)
-      step true s f g h k =
-          none-kept row col (is_summed krows kcols) ks (λ c p q. row-gone krows kcols c h p) ∙ sym (none-kept row col (is_summed xrows xcols) cs (λ c p q. row-gone xrows xcols c f p))
-      step false true f g h k =
-          none-kept row col (is_summed krows kcols) ks (λ c p q. col-gone krows kcols c k q) ∙ sym (none-kept row col (is_summed xrows xcols) cs (λ c p q. col-gone xrows xcols c g q))
-      step false false f g h k =
-          let same = agree row col f g in
-          let shown = shown-value row col cs values in
-          value-stays row col (is_summed krows kcols) ks (ap is_shown same ∙ shown) (λ c v p q. there krows kcols c (unremoved-kept row rows f) (unremoved-kept col cols g) v p q)
-          ∙ same ∙ sym (value-stays row col (is_summed xrows xcols) cs shown (λ c v p q. there xrows xcols c f g v p q))
+  value-same : (row col : ElementId) → is_removed_alike krows xrows row ≡ true → is_removed_alike kcols xcols col ≡ true
+      → cell_value row col (filter (is_summed krows kcols) ks) ≡ cell_value row col (filter (is_summed xrows xcols) cs)
+  value-same row col a b =
+      let shown = shown-value row col cs values in
+      let unremoved = unremoved-whole krows xrows row a in
+      let other = unremoved-whole kcols xcols col b in
+      summed-value krows kcols row col ks (λ f g. ap is_shown (agree row col (unremoved f) (other g)) ∙ shown)
+      ∙ ap (λ r. unless_removed r (has_sequenced_removal kcols col) (cell_value row col ks)) (same-removal row rows a)
+      ∙ ap (λ c. unless_removed (has_sequenced_removal xrows row) c (cell_value row col ks)) (same-removal col cols b)
+      ∙ unless-same (has_sequenced_removal xrows row) (has_sequenced_removal xcols col) (cell_value row col ks) (cell_value row col cs) (λ f g. agree row col f g)
+      ∙ sym (summed-value xrows xcols row col cs (λ f g. shown))
 
 -- ---- the document
 
