@@ -24,3 +24,4 @@ pub mod NamedLists
 pub mod NamedClients
 pub mod NamedCells
 pub mod SummaryStart
+pub mod SummariesAlike

@@ -49,13 +49,13 @@ before-twins : {xs ys : List ListElement} → BesideList IsTwin xs ys → is_bef
 before-twins ends = refl
 before-twins (next {x = x} {y = y} t ts) = twin-pending x y t
 
-old-twin : (floor : ℕ) (x y : ListElement) → IsTwin x y → is_insertion_at_or_below floor x.ins ≡ is_insertion_at_or_below floor y.ins
+pub old-twin : (floor : ℕ) (x y : ListElement) → IsTwin x y → is_insertion_at_or_below floor x.ins ≡ is_insertion_at_or_below floor y.ins
 old-twin floor x y t = same-of (λ (e : ListElement). is_insertion_at_or_below floor e.ins) (λ e n. refl) x y t
 
-gone-twin : (floor : ℕ) (x y : ListElement) → IsTwin x y → is_collectable floor x ≡ is_collectable floor y
+pub gone-twin : (floor : ℕ) (x y : ListElement) → IsTwin x y → is_collectable floor x ≡ is_collectable floor y
 gone-twin floor x y t = same-of (is_collectable floor) (λ e n. refl) x y t
 
-universal-twin : (x y : ListElement) → IsTwin x y → IsTwin (with_universal_insertion x) (with_universal_insertion y)
+pub universal-twin : (x y : ListElement) → IsTwin x y → IsTwin (with_universal_insertion x) (with_universal_insertion y)
 universal-twin x y t = subst (λ z. IsTwin (with_universal_insertion x) (with_universal_insertion z)) (sym t) refl
 
 module _ {floor : ℕ} {held : ElementId → Bool} (others : ElementId → Bool) where
@@ -117,10 +117,10 @@ module _ (p q : Document) (text : BesideList IsTwin p.text.items q.text.items) (
 
 -- ---- clients
 
-abbrev index_with : List NamelessElement → List NamelessElement → List NamelessElement → List IndexedInterval → List CellRec → ℕ → ℕ → ℕ → ℕ → IndexedDocument
+abbrev pub index_with : List NamelessElement → List NamelessElement → List NamelessElement → List IndexedInterval → List CellRec → ℕ → ℕ → ℕ → ℕ → IndexedDocument
 index_with t r c is cs s o n m = record { text = t; rows = r; cols = c; intervals = is; cells = cs; skipped = s; other = o; number = n; minimum = m }
 
-same-index : {t u r v c w : List NamelessElement} {is js : List IndexedInterval} {cs ds : List CellRec} {a b d e f g h i : ℕ} → t ≡ u → r ≡ v → c ≡ w → is ≡ js → cs ≡ ds → a ≡ b → d ≡ e → f ≡ g → h ≡ i → index_with t r c is cs a d f h ≡ index_with u v w js ds b e g i
+pub same-index : {t u r v c w : List NamelessElement} {is js : List IndexedInterval} {cs ds : List CellRec} {a b d e f g h i : ℕ} → t ≡ u → r ≡ v → c ≡ w → is ≡ js → cs ≡ ds → a ≡ b → d ≡ e → f ≡ g → h ≡ i → index_with t r c is cs a d f h ≡ index_with u v w js ds b e g i
 same-index e1 e2 e3 e4 e5 e6 e7 e8 e9 = rw (e1, e2, e3, e4, e5, e6, e7, e8, e9) refl
 
 least-alike : (p q : Document) (n : ℕ) {es fs : List PendingEdit} → EditsBeside p q es fs → fold (λ m (e : PendingEdit). min m e.ref_seq) n es ≡ fold (λ m (e : PendingEdit). min m e.ref_seq) n fs

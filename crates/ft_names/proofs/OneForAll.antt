@@ -1,20 +1,25 @@
 -- What a replica does on one well named client that it shows, it answers for each client for which it stands.
-use Rattle.std.proofs.Common.{◌≡◌, Result, Ok, Err, refl, sym, ◌∙◌, ap, subst}
+use Rattle.std.proofs.Common.{◌≡◌, ℕ, List, take, Result, Ok, Err, refl, sym, ◌∙◌, ap, subst}
+use Rattle.ft_sumdoc.specs.declared.summary.SumDoc.{SumDoc}
+use Rattle.ft_props.specs.Properties.{Characters}
 use Rattle.ft_msg.specs.Answers.{AnswersClient, FaultKind, MeansRefusal, Refusal, ReplicaState, StoppedBefore, WantOfMemory}
 use Rattle.ft_msg.specs.Client.{NaiveClient}
 use Rattle.ft_msg.specs.Compacted.{IsCompacted, StandsFor}
 use Rattle.ft_msg.specs.Indexed.{indexed_client}
 use Rattle.ft_msg.specs.Reached.{IsReached}
+use Rattle.ft_msg.specs.SummaryOf.{Summarizes}
 use Rattle.ft_keep.specs.Keeping.{AnswersAlike, DoesStep, refused as refuse, taken as take_both}
 use Rattle.ft_keep.proofs.AllSteps.{reached-sound}
 use Rattle.ft_keep.proofs.CountsKept.{rises-kept}
 use Rattle.ft_keep.proofs.Runs.{run-facts}
 use Rattle.ft_keep.proofs.SameContent.{show-alike}
+use Rattle.ft_keep.proofs.SameSummary.{run-values}
 use Rattle.ft_names.specs.WellNamed.{IsWellNamed}
 use Rattle.ft_names.specs.Renaming.{AnswersUpToNames, DifferInNames, ShowsOf, refused, taken}
 use Rattle.ft_names.proofs.CountedSteps.{Counts, rises-alike}
 use Rattle.ft_names.proofs.KeptNames.{kept-differs}
-use Rattle.ft_names.proofs.NamedSteps.{reached-named, views-of}
+use Rattle.ft_names.proofs.NamedSteps.{alike-of, reached-named, views-of}
+use Rattle.ft_names.proofs.SummariesAlike.{summed-alike}
 
 module _ (E : Type 0) where
   -- after a step that all three take: the whole client, the kept one, which took it too, and what both show
@@ -73,3 +78,13 @@ one-shows state p named shows x r s =
     let v = views-of p s.kept d in
     let k = show-alike s.kept x (run-facts r.steps x (reached-sound x r)) s.keeps in
     record { content = v.content ∙ k.content; overlap = λ label a b. v.overlap label a b ∙ k.overlap label a b; blame = v.blame ∙ k.blame }
+
+-- a summary of that client is one of each client for which it stands
+pub one-sums : (state : ReplicaState) (sum : SumDoc) (names : List Characters) (origin : ℕ) (p : NaiveClient) → IsWellNamed p → indexed_client p ≡ state.client
+    → Summarizes sum names origin p.doc
+    → (x : NaiveClient) (r : IsReached x) → StandsFor state.client x → Summarizes sum names origin x.doc
+one-sums state sum names origin p named shows m x r s =
+    let d = kept-differs p x s.kept named (reached-named x r) s.keeps (shows ∙ sym s.shows) in
+    let run = reached-sound x r in
+    let same = summed-alike p s.kept x (alike-of p s.kept d) s.keeps (run-facts r.steps x run) (run-values r.steps x run) in
+    record { gives = m.gives ∙ same.indexed; written = m.written ∙ same.summary (take origin names) }

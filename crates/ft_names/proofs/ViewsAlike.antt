@@ -92,7 +92,7 @@ stages-shown p q rows cols (next {x = t} {y = u} {xs = ts} {ys = us} s ss) =
     ))
     (beside-both (stages-shown p q rows cols ss) (grid-names p q t.sub_operation t.names u.names rows s.names)))
 
-abbrev CellsShown : List ListElement → List ListElement → List Cell → List Cell → List Stage → List Stage → ElementId → ElementId → Type 0
+abbrev pub CellsShown : List ListElement → List ListElement → List Cell → List Cell → List Stage → List Stage → ElementId → ElementId → Type 0
 CellsShown cols others cells values ts us i j = BesideList (Named (λ c d. shown_cell_value i c (cell_value i c cells) ts ≡ shown_cell_value j d (cell_value j d values) us)) cols others
 
 row-shown : (i : ℕ) (cells others : List Cell) (ts us : List Stage) (a b : ElementId) (j : ℕ) {cols vs : List ListElement} → CellsShown cols vs cells others ts us a b → row_cells cells ts i a j cols ≡ row_cells others us i b j vs
@@ -100,12 +100,12 @@ row-shown i cells others ts us a b j ends = refl
 row-shown i cells others ts us a b j (next {x = x} {y = y} {xs = xs} {ys = ys} q qs) =
     ap (λ v. cell_record i j v ++ row_cells cells ts i a (j + 1) xs) q.1 ∙ ap (λ cs. cell_record i j (shown_cell_value b (id y) (cell_value b (id y) others) us) ++ cs) (row-shown i cells others ts us a b (j + 1) qs)
 
-cells-shown : (cells others : List Cell) (ts us : List Stage) (cols vs : List ListElement) (i : ℕ) {xs ys : List ListElement} → BesideList (Named (CellsShown cols vs cells others ts us)) xs ys → all_cells cells ts cols i xs ≡ all_cells others us vs i ys
+pub cells-shown : (cells others : List Cell) (ts us : List Stage) (cols vs : List ListElement) (i : ℕ) {xs ys : List ListElement} → BesideList (Named (CellsShown cols vs cells others ts us)) xs ys → all_cells cells ts cols i xs ≡ all_cells others us vs i ys
 cells-shown cells others ts us cols vs i ends = refl
 cells-shown cells others ts us cols vs i (next {x = x} {y = y} {xs = xs} {ys = ys} q qs) =
     ap (λ cs. cs ++ all_cells cells ts cols (i + 1) xs) (row-shown i cells others ts us (id x) (id y) 0 q.1) ∙ ap (λ cs. row_cells others us i (id y) 0 vs ++ cs) (cells-shown cells others ts us cols vs (i + 1) qs)
 
-filtered-named : (k : ℕ) (P : ElementId → ElementId → Type 0) {xs ys : List ListElement} → BesideList (Named P) xs ys → BesideList (Named P) (stage_view k xs) (stage_view k ys)
+pub filtered-named : (k : ℕ) (P : ElementId → ElementId → Type 0) {xs ys : List ListElement} → BesideList (Named P) xs ys → BesideList (Named P) (stage_view k xs) (stage_view k ys)
 filtered-named k P h = beside-filter (seen k) (seen k) (λ x y t. twin-seen k x y t.0) h
 
 -- ---- views

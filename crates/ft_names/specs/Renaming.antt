@@ -24,6 +24,7 @@ use Rattle.ft_msg.specs.Process.{process}
 use Rattle.ft_msg.specs.Reached.{IsReached}
 use Rattle.ft_msg.specs.Reconnection.{regenerated}
 use Rattle.ft_msg.specs.Summary.{GivesDocument, doc_of}
+use Rattle.ft_msg.specs.SummaryOf.{Summarizes}
 use Rattle.ft_sumdoc.specs.Valid.{IsValidSummary}
 use Rattle.ft_msg.specs.WellFormed.{IsWellFormedMessage}
 use Rattle.ft_laws.specs.Starts.{IsRunFrom, IsSoundRun}
@@ -132,6 +133,13 @@ pub record ShowsOf (p x : NaiveClient) : Type 0 where
 
 abbrev pub OneViewAnswersAll : Type 0
 OneViewAnswersAll = (state : ReplicaState) (p : NaiveClient) → IsWellNamed p → indexed_client p ≡ state.client → (x : NaiveClient) → IsReached x → StandsFor state.client x → ShowsOf p x
+
+-- a summary of one well named client that it shows, with the names of that table up to origin, is one of each client for which it
+-- stands
+abbrev pub OneSummaryAnswersAll : Type 0
+OneSummaryAnswersAll =
+    (state : ReplicaState) (sum : SumDoc) (names : List Characters) (origin : ℕ) (p : NaiveClient) → IsWellNamed p → indexed_client p ≡ state.client
+    → Summarizes sum names origin p.doc → (x : NaiveClient) → IsReached x → StandsFor state.client x → Summarizes sum names origin x.doc
 
 -- the cells of the units that are kept are shown as before
 abbrev pub ShowsItsCells : NaiveClient → NaiveClient → Type 0

@@ -8,7 +8,7 @@ use Rattle.ft_keep.proofs.KeptSteps as keep
 use Rattle.ft_names.proofs.CountedSteps.{connects-count, drops-count, edits-count, entries-count, idles-count}
 use Rattle.ft_names.proofs.MirroredCompaction.{one-compacts}
 use Rattle.ft_names.proofs.NamedSteps.{connects-of, drops-of, edits-of, entries-of, idles-of, reached-named}
-use Rattle.ft_names.proofs.OneForAll.{one-for-all, one-shows}
+use Rattle.ft_names.proofs.OneForAll.{one-for-all, one-shows, one-sums}
 use Rattle.ft_names.proofs.naming.replicas.Goals as goal
 
 pub returns-clause-edits : goal.returns-clause-edits
@@ -35,6 +35,9 @@ returns-clause-idles c = λ start old new result p named shows does x r e s.
 
 pub returns-clause-shows : goal.returns-clause-shows
 returns-clause-shows c = λ state p named shows x r s. one-shows state p named shows x r s
+
+pub returns-clause-sums : goal.returns-clause-sums
+returns-clause-sums c = λ state sum names origin p named shows m x r s. one-sums state sum names origin p named shows m x r s
 
 pub returns-clause-compacts : goal.returns-clause-compacts
 returns-clause-compacts c = λ start old new result p named shows does x r e s. one-compacts start old new result p named shows does x r e s
