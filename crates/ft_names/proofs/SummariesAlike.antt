@@ -1,5 +1,5 @@
 -- The summary of a document looks at no name of its elements, and is that of each document that it keeps.
-use Rattle.std.proofs.Common.{◌≡◌, ◌≤◌, ℕ, ◌+◌, ◌%◌, Bool, true, false, cond, not, ◌&&◌, ◌||◌, ◌==◌, List, [], ◌∷◌, Option, Some, None, refl, sym, ◌∙◌, ap, subst, filter, map}
+use Rattle.std.proofs.Common.{◌≡◌, ◌≤◌, ℕ, ◌+◌, ◌%◌, Bool, true, false, cond, not, ◌&&◌, ◌==◌, List, [], ◌∷◌, Option, Some, None, refl, sym, ◌∙◌, ap, subst, filter, map}
 use Rattle.std.specs.List.{list_all}
 use Rattle.ft_sumdoc.specs.declared.summary.CellRec.{CellRec}
 use Rattle.ft_sumdoc.specs.declared.summary.IntervalRec.{IntervalRec}
@@ -116,7 +116,8 @@ trimmed-indexed p q h =
     (cells-indexed (trim p).cells (trim q).cells (trim p).cols.items (trim q).cols.items 0 h.cells) h.skipped h.other h.number h.minimum
 
 abbrev summary_with : List Characters → ℕ → ℕ → ℕ → ℕ → List SegRec → List RunRec → List RunRec → List IntervalRec → List CellRec → SumDoc
-summary_with conns n m s o text rows cols is cs = record { seq = n; min = m; skipped = s; other = o; conns = conns; text = text; rows = rows; cols = cols; intervals = is; cells = cs }
+summary_with conns n m s o text rows cols is cs =
+    record { seq = n; min = m; skipped = s; other = o; conns = conns; text = text; rows = rows; cols = cols; intervals = is; cells = cs }
 
 same-summary : (conns : List Characters) {a b d e f g h i : ℕ} {t u : List SegRec} {r v c w : List RunRec} {is js : List IntervalRec} {cs ds : List CellRec}
     → a ≡ b → d ≡ e → f ≡ g → h ≡ i → t ≡ u → r ≡ v → c ≡ w → is ≡ js → cs ≡ ds
@@ -174,18 +175,21 @@ module _ (last : ℕ) (p q : Document) (h : DocsAlike last p q) (xrows xcols : L
       beside-more (λ x y r. (r.0.0, value-alike i j (id x) (id y) r.0.1 e r.1.0.1 a r.1.1))
       (beside-both (trimmed-lists p.minimum q.minimum h.parts.minimum (λ c d. cell_value i c p.cells ≡ cell_value j d q.cells) cells)
       (beside-all (λ e. is_removed_alike q.cols.items xcols (id e)) s.cols
-      (trimmed-lists p.minimum q.minimum h.parts.minimum (λ i j. has_sequenced_removal p.cols.items i ≡ has_sequenced_removal q.cols.items j) (removed-beside (places last p.cols q.cols h.parts.cols)))))
+      (trimmed-lists p.minimum q.minimum h.parts.minimum (λ i j. has_sequenced_removal p.cols.items i ≡ has_sequenced_removal q.cols.items j)
+      (removed-beside (places last p.cols q.cols h.parts.cols)))))
 
   pub names-trimmed : TrimmedAlike p q
   names-trimmed = record {
     text = trimmed-twins p.minimum q.minimum h.parts.minimum h.parts.text.twins;
     rows = trimmed-twins p.minimum q.minimum h.parts.minimum h.parts.rows.twins;
     cols = trimmed-twins p.minimum q.minimum h.parts.minimum h.parts.cols.twins;
-    intervals = intervals-more (SettledAlike p.text.items q.text.items) (EndsBeside (trim p).text.items (trim q).text.items) (λ i j e. trimmed-ends p.minimum q.minimum h.parts.minimum (settled-beside e)) h.intervals;
+    intervals = intervals-more (SettledAlike p.text.items q.text.items) (EndsBeside (trim p).text.items (trim q).text.items)
+        (λ i j e. trimmed-ends p.minimum q.minimum h.parts.minimum (settled-beside e)) h.intervals;
     cells = beside-more (λ x y r. (r.0.0, row-alike (id x) (id y) r.0.1 r.1.0.1 r.1.1))
         (beside-both (trimmed-lists p.minimum q.minimum h.parts.minimum (RowsAlike p.cols.items q.cols.items p.cells q.cells) h.parts.cells)
         (beside-all (λ e. is_removed_alike q.rows.items xrows (id e)) s.rows
-        (trimmed-lists p.minimum q.minimum h.parts.minimum (λ i j. has_sequenced_removal p.rows.items i ≡ has_sequenced_removal q.rows.items j) (removed-beside (places last p.rows q.rows h.parts.rows)))));
+        (trimmed-lists p.minimum q.minimum h.parts.minimum (λ i j. has_sequenced_removal p.rows.items i ≡ has_sequenced_removal q.rows.items j)
+        (removed-beside (places last p.rows q.rows h.parts.rows)))));
     skipped = h.parts.skipped;
     other = h.parts.other;
     number = h.parts.number;
@@ -206,7 +210,8 @@ intervals-self : (xs : List ListElement) (is : List Interval) → IntervalsBesid
 intervals-self xs [] = ends
 intervals-self xs (i ∷ is) = next (record { label = refl; id = refl; start = ends-self xs i.start; end = ends-self xs i.end; props = refl }) (intervals-self xs is)
 
-module _ (x : NaiveClient) (f : ClientFacts x) (has : list_all has_value x.doc.cells ≡ true) (text rows cols : Sequence) (cells : List Cell) (k : KeepsDocument x (with_lists x.doc text rows cols cells)) where
+module _ (x : NaiveClient) (f : ClientFacts x) (has : list_all has_value x.doc.cells ≡ true)
+    (text rows cols : Sequence) (cells : List Cell) (k : KeepsDocument x (with_lists x.doc text rows cols cells)) where
   abbrev kept : Document
   kept = with_lists x.doc text rows cols cells
 
@@ -234,8 +239,10 @@ module _ (x : NaiveClient) (f : ClientFacts x) (has : list_all has_value x.doc.c
     text = twins-of-list k.text;
     rows = twins-of-list k.rows;
     cols = twins-of-list k.cols;
-    intervals = subst (λ us. IntervalsBeside (EndsBeside (trimmed_items x.doc.minimum text.items) us) x.doc.intervals x.doc.intervals) (same-list k.text) (intervals-self (trimmed_items x.doc.minimum text.items) x.doc.intervals);
-    cells = cells-of-index 0 (trim kept).cells (trim x.doc).cells (trim kept).cols.items (trim x.doc).cols.items (twins-of-list k.cols) (twins-of-list k.rows) (ap (λ (d : IndexedDocument). d.cells) (summary-same x kept f has k));
+    intervals = subst (λ us. IntervalsBeside (EndsBeside (trimmed_items x.doc.minimum text.items) us) x.doc.intervals x.doc.intervals) (same-list k.text)
+        (intervals-self (trimmed_items x.doc.minimum text.items) x.doc.intervals);
+    cells = cells-of-index 0 (trim kept).cells (trim x.doc).cells (trim kept).cols.items (trim x.doc).cols.items (twins-of-list k.cols) (twins-of-list k.rows)
+        (ap (λ (d : IndexedDocument). d.cells) (summary-same x kept f has k));
     skipped = refl;
     other = refl;
     number = refl;
@@ -250,7 +257,9 @@ pub record SummedAlike (p q : Document) : Type 0 where
   pub summary : (conns : List Characters) → summary_of conns p ≡ summary_of conns q
 
 pub summed-alike : (p kept x : NaiveClient) → ClientsAlike p kept → IsCompacted kept x → ClientFacts x → list_all has_value x.doc.cells ≡ true → SummedAlike p.doc x.doc
-summed-alike p kept x c k f has = shaped kept.doc.text kept.doc.rows kept.doc.cols kept.doc.cells (subst (λ d. KeepsDocument x d) k.doc.rest k.doc) (subst (λ d. DocsAlike p.last_stage p.doc d) k.doc.rest c.doc)
+summed-alike p kept x c k f has =
+    shaped kept.doc.text kept.doc.rows kept.doc.cols kept.doc.cells (subst (λ d. KeepsDocument x d) k.doc.rest k.doc)
+    (subst (λ d. DocsAlike p.last_stage p.doc d) k.doc.rest c.doc)
   where
     shaped : (text rows cols : Sequence) (cells : List Cell) → KeepsDocument x (with_lists x.doc text rows cols cells)
         → DocsAlike p.last_stage p.doc (with_lists x.doc text rows cols cells) → SummedAlike p.doc x.doc

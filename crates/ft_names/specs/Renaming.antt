@@ -134,8 +134,8 @@ pub record ShowsOf (p x : NaiveClient) : Type 0 where
 abbrev pub OneViewAnswersAll : Type 0
 OneViewAnswersAll = (state : ReplicaState) (p : NaiveClient) → IsWellNamed p → indexed_client p ≡ state.client → (x : NaiveClient) → IsReached x → StandsFor state.client x → ShowsOf p x
 
--- a summary of one well named client that it shows, with the names of that table up to origin, is one of each client for which it
--- stands
+-- a summary of one well named client that it shows, with the first names of a table, up to origin, is one of each client for which
+-- it stands
 abbrev pub OneSummaryAnswersAll : Type 0
 OneSummaryAnswersAll =
     (state : ReplicaState) (sum : SumDoc) (names : List Characters) (origin : ℕ) (p : NaiveClient) → IsWellNamed p → indexed_client p ≡ state.client
