@@ -1,11 +1,13 @@
 -- The runs of equal properties as a loop makes them that goes through the elements from the last to the first.
-use Rattle.std.proofs.Common.{◌≡◌, ℕ, suc, ◌+◌, Bool, true, false, cond, ◌&&◌, nat_eq, List, [], ◌∷◌, ◌++◌, IsTrue, ◌↔◌, length, reverse, bytes_eq, refl, sym, ◌∙◌, ap, subst, arith}
+use Rattle.std.proofs.Common.{◌≡◌, ℕ, suc, ◌+◌, Bool, true, false, cond, ◌&&◌, nat_eq, List, []}
+use Rattle.std.proofs.Common.{◌∷◌, ◌++◌, IsTrue, ◌↔◌, length, reverse, bytes_eq, refl, sym, ◌∙◌, ap, subst, arith}
 use Rattle.std.proofs.lemmas.List.{reverse-append}
 use Rattle.std.proofs.lemmas.Slice.Eq.{bytes_eq-Decides}
 use Rattle.ft_msg.specs.declared.views.Run.{Run}
 use Rattle.ft_msg.specs.Content.{extended_property_runs, property_runs_from, same_props}
 use Rattle.ft_props.specs.Element.{ListElement}
 use Rattle.ft_props.specs.Properties.{PropertyList}
+use Rattle.ft_plain.proofs.Tested.{tested}
 use Rattle.ft_plain.specs.PropertyRuns.{all_shown_props, runs_before}
 
 -- the test of equal properties decides equality
@@ -30,12 +32,6 @@ same_from_same_props ((k, v) ∷ ps) ((l, w) ∷ qs) h =
     let rest = same_from_same_props ps qs parts.2 in
     cc
 
-tested : (r b : Bool) → (b ≡ true → r ≡ true) → (r ≡ true → b ≡ true) → b ≡ r
-tested true true f g = refl
-tested true false f g = g refl
-tested false true f g = sym (f refl)
-tested false false f g = refl
-
 -- what a comparison of properties answers is that test
 pub same_props-is : (r : Bool) (ps qs : PropertyList) → IsTrue r ↔ (ps ≡ qs) → same_props ps qs ≡ r
 same_props-is r ps qs h = tested r (same_props ps qs) (λ e. h.1 (same_from_same_props ps qs e)) (λ e. subst (λ xs. same_props ps xs ≡ true) (h.0 e) (same_props-itself ps))
@@ -57,12 +53,14 @@ reverse-push : (runs : List Run) (run : Run) → reverse (runs ++ run ∷ []) �
 reverse-push runs run = reverse-append runs (run ∷ [])
 
 -- a run before none
-pub run-alone : (i : ℕ) (props : PropertyList) (old new : List Run) → (props ≡ [] → ⊥) → old ≡ [] → new ≡ one_run i props ∷ [] → reverse new ≡ extended_property_runs i props (reverse old)
+pub run-alone : (i : ℕ) (props : PropertyList) (old new : List Run) → (props ≡ [] → ⊥) → old ≡ [] → new ≡ one_run i props ∷ [] → reverse new ≡
+    extended_property_runs i props (reverse old)
 run-alone i props old new filled none made = ap reverse made ∙ sym (extended-none i props filled) ∙ ap (λ runs. extended_property_runs i props (reverse runs)) (sym none)
 
 -- an element that the first run goes on with
 pub run-joined : (i : ℕ) (props : PropertyList) (rest old new : List Run) (first : Run) → (props ≡ [] → ⊥) → old ≡ rest ++ first ∷ []
-    → (nat_eq first.start (i + 1) && same_props first.props props) ≡ true → new ≡ rest ++ record first { start = i } ∷ [] → reverse new ≡ extended_property_runs i props (reverse old)
+    → (nat_eq first.start (i + 1) && same_props first.props props) ≡ true → new ≡ rest ++ record first { start = i } ∷ [] → reverse new ≡ extended_property_runs i
+    props (reverse old)
 run-joined i props rest old new first filled before joins made =
     ap reverse made ∙ reverse-push rest (record first { start = i })
     ∙ sym (ap (λ b. cond b (record first { start = i } ∷ reverse rest) (one_run i props ∷ first ∷ reverse rest)) joins)
@@ -71,7 +69,8 @@ run-joined i props rest old new first filled before joins made =
 
 -- an element that begins a run of its own
 pub run-apart : (i : ℕ) (props : PropertyList) (rest old new : List Run) (first : Run) → (props ≡ [] → ⊥) → old ≡ rest ++ first ∷ []
-    → (nat_eq first.start (i + 1) && same_props first.props props) ≡ false → new ≡ (rest ++ first ∷ []) ++ one_run i props ∷ [] → reverse new ≡ extended_property_runs i props (reverse old)
+    → (nat_eq first.start (i + 1) && same_props first.props props) ≡ false → new ≡ (rest ++ first ∷ []) ++ one_run i props ∷ [] → reverse new ≡
+    extended_property_runs i props (reverse old)
 run-apart i props rest old new first filled before joins made =
     ap reverse made ∙ reverse-push (rest ++ first ∷ []) (one_run i props) ∙ ap (λ runs. one_run i props ∷ runs) (reverse-push rest first)
     ∙ sym (ap (λ b. cond b (record first { start = i } ∷ reverse rest) (one_run i props ∷ first ∷ reverse rest)) joins)

@@ -1,7 +1,7 @@
 -- An insertion as a loop over a list does it: at a computed place.
-use Rattle.std.proofs.Common.{◌≡◌, ℕ, zero, suc, ◌+◌, Bool, cond, List, [], ◌∷◌, ◌++◌, take, drop, sym, ap, arith, append-nil}
+use Rattle.std.proofs.Common.{◌≡◌, ℕ, zero, suc, ◌+◌, Bool, cond, List, [], ◌∷◌, ◌++◌, take, drop, sym, ap, arith, append-nil, refl}
 use Rattle.std.specs.List.{prefix_len}
-use Rattle.ft_base.specs.Scan.{place, put, put_past}
+use Rattle.ft_base.specs.Scan.{no_run, place, put, put_past}
 
 -- new at place i
 abbrev put_at : {A : Type 0} → ℕ → List A → List A → List A
@@ -26,3 +26,10 @@ put-place seen past (suc p) new [] = sym (append-nil new)
 put-place seen past (suc p) new (x ∷ xs) =
     let n : ℕ = place seen (cond (seen x) p (suc p)) xs in
     rw (later n (prefix_len past (drop n xs))) (ap (λ ys. x ∷ ys) (put-place seen past (cond (seen x) p (suc p)) new xs))
+
+-- directly behind the p-th seen element
+pub put-behind : {A : Type 0} (seen : A → Bool) (p : ℕ) (new xs : List A) → put seen no_run p new xs ≡ put_at (place seen p xs) new xs
+put-behind seen zero new [] = sym (append-nil new)
+put-behind seen zero new (x ∷ xs) = refl
+put-behind seen (suc p) new [] = sym (append-nil new)
+put-behind seen (suc p) new (x ∷ xs) = ap (λ ys. x ∷ ys) (put-behind seen (cond (seen x) p (suc p)) new xs)

@@ -9,6 +9,7 @@ absent : (row col : ElementId) (cells : List Cell) → list_any (λ cell. same_i
 absent row col [] h = refl
 absent row col (cell ∷ cells) h = grind (arith, absent row col cells)
 
-pub row_cells-absent : (cells : List Cell) (i : ℕ) (row : ElementId) (j : ℕ) (cols : List ListElement) → list_any (λ cell. same_id row cell.row) cells ≡ false → row_cells cells [] i row j cols ≡ []
+pub row_cells-absent : (cells : List Cell) (i : ℕ) (row : ElementId) (j : ℕ) (cols : List ListElement) → list_any (λ cell. same_id row cell.row) cells ≡ false →
+    row_cells cells [] i row j cols ≡ []
 row_cells-absent cells i row j [] h = refl
 row_cells-absent cells i row j (col ∷ cols) h = grind (arith, absent row (id col) cells h, row_cells-absent cells i row (j + 1) cols h)

@@ -5,6 +5,8 @@ ghost use Rattle.std.specs.List.{list_any};
 ghost use Rattle.ft_props.specs.Element.{same_id};
 ghost use Rattle.ft_op.specs.Cells.{cell_value, is_cell, is_null, put_cell, write_cell};
 
+mod copies;
+
 use crate::names::ElementName;
 use ft_base::OutOfMemory;
 use ft_json::ValText;

@@ -3,14 +3,21 @@
 ghost use Rattle.std.specs.Prelude.{◌≡◌, ◌+◌, ◌<◌, ◌≤◌, ◌^◌, None, Some, OnOk, OnErr, length, pos};
 ghost use Rattle.ft_op.specs.Operation.{sub_operations};
 ghost use Rattle.ft_op.specs.Document.{effects, empty, with_skip};
-ghost use Rattle.ft_msg.specs.Agreed.{body_effect, reference_number, take_entry};
+ghost use Rattle.ft_msg.specs.Agreed.{body_effect, reference_number, take_entry, with_numbers};
 ghost use Rattle.ft_msg.specs.Client.{client_over};
 ghost use Rattle.ft_msg.specs.Process.{numbers_fault, process_fault};
 ghost use Rattle.ft_msg.specs.WellFormed.{HasNumbersInRange};
 ghost use Rattle.ft_plain.specs.Observer.{numbers_of};
 
+mod acknowledgements;
 mod grid_effects;
 mod interval_effects;
+pub mod own_cells;
+pub mod own_edits;
+pub mod own_intervals;
+mod own_operations;
+mod pieces;
+pub mod rebuilding;
 mod text_effects;
 
 use crate::cells::PlainCells;
@@ -77,6 +84,13 @@ impl PlainDocument {
         ensures { result ≡ self.now.number }
     {
         self.number
+    }
+
+    /// The number of the next message.
+    pub fn next_number(&self) -> u64
+        ensures { result ≡ self.now.number + 1 }
+    {
+        self.number + 1
     }
 
     /// The elements of the text, removed ones included.
@@ -147,7 +161,7 @@ impl PlainDocument {
     }
 
     /// The first of the conditions on its numbers that the entry breaks.
-    fn numbers_fault(&self, entry: &Entry) -> Option<ProcessFault>
+    pub fn numbers_fault(&self, entry: &Entry) -> Option<ProcessFault>
         requires { HasNumbersInRange entry.now.msg }
         ensures { result ≡ numbers_fault (client_over self.now) entry.now }
     {
@@ -199,9 +213,17 @@ impl PlainDocument {
             c: entry.origin,
         };
         self.take_body(&entry.msg.body, entry.msg.seq, at)?;
+        self.set_numbers(entry);
+        Ok(())
+    }
+
+    /// Takes the number and the minimum of the entry as its last ones.
+    pub fn set_numbers(&mut self, entry: &Entry)
+        requires { HasNumbersInRange entry.now.msg }
+        ensures { self.new ≡ with_numbers entry.now self.old }
+    {
         self.number = entry.msg.seq;
         self.minimum = entry.msg.min;
-        Ok(())
     }
 
     /// Takes the body of a message with number `seq`.

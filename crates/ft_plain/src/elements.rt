@@ -7,11 +7,12 @@ ghost use Rattle.ft_props.specs.Element.{has_id, id as name_of_element, is_pendi
 ghost use Rattle.ft_props.specs.Properties.{shown_props};
 ghost use Rattle.ft_plain.specs.Contents.{content_of};
 
+mod pending;
+
 use crate::names::ElementName;
-use crate::seen::Seen;
 use ft_base::visibility::{has_occurred, has_occurred_at_stage};
 use ft_base::{OutOfMemory, Perspective, Stamp, Stamps};
-use ft_props::{Changes, Overlay, Props};
+use ft_props::{Changes, Props};
 use std::alloc::Global;
 use std::marker::Model;
 
@@ -39,8 +40,10 @@ pub struct PlainElement {
     removal_stage: Option<u64>,
     /// The message that inserted it, where that is known.
     by: Option<Stamp>,
-    /// Its acknowledged properties, and the pending changes of them.
-    overlay: Overlay,
+    /// Its acknowledged properties.
+    props: Props,
+    /// Its pending changes, by rising stage.
+    pending: Vec<(u64, Changes)>,
 }
 
 impl Model for PlainElement {
@@ -50,7 +53,7 @@ impl Model for PlainElement {
 
     ghost use Rattle.ft_plain.specs.Contents.{content_of};
 
-    ghost view = { λ a. record { nth = a.nth; content = content_of a.content; ins = a.ins; dels = a.dels; removal_stage = a.removal_stage; by = a.by; props = a.overlay.acked; pending = a.overlay.pending } };
+    ghost view = { λ a. record { nth = a.nth; content = content_of a.content; ins = a.ins; dels = a.dels; removal_stage = a.removal_stage; by = a.by; props = a.props; pending = a.pending.items } };
 }
 
 impl PlainElement {
@@ -72,7 +75,8 @@ impl PlainElement {
             dels: Stamps::new(alloc),
             removal_stage: None,
             by,
-            overlay: Overlay::of(alloc, props),
+            props,
+            pending: Vec::new(alloc),
         }
     }
 
@@ -118,6 +122,13 @@ impl PlainElement {
         matches!(self.ins, Stamp::Local { .. })
     }
 
+    /// Whether the perspective sees it.
+    pub fn is_seen_by(&self, at: Perspective) -> bool
+        ensures { result ≡ seen_by at.r at.c self.now }
+    {
+        has_occurred(&self.ins, at) && !has_any_occurred(self.dels.as_slice(), at)
+    }
+
     /// Whether a client sees it at its pending stage.
     pub fn is_seen_at(&self, stage: u64) -> bool
         ensures { result ≡ seen stage self.now }
@@ -144,7 +155,8 @@ impl PlainElement {
         ensures ok { OnOk result (self.new ≡ with_annotation changes.now self.old) }
         ensures err { OnErr result (self.new ≡ self.old) }
     {
-        self.overlay.set_acked(changes)
+        self.props = self.props.changed(changes)?;
+        Ok(())
     }
 
     /// Its acknowledged properties with its pending changes made in order of stage.
@@ -153,17 +165,11 @@ impl PlainElement {
     pub fn shown_props(&self) -> Result<Props, OutOfMemory>
         ensures { IfOk result (λ props. props ≡ shown_props self.now.props self.now.pending) }
     {
-        self.overlay.shown()
-    }
-}
-
-impl Seen for PlainElement {
-    ghost seen_by = { λ r c e. seen_by r c e };
-
-    fn is_seen_by(&self, at: Perspective) -> bool
-        ensures { result ≡ seen_by at.r at.c self.now }
-    {
-        has_occurred(&self.ins, at) && !has_any_occurred(self.dels.as_slice(), at)
+        let mut props = self.props.copy()?;
+        for (_, changes) in &self.pending {
+            props = props.changed(changes)?;
+        }
+        Ok(props)
     }
 }
 

@@ -7,9 +7,10 @@ ghost use Rattle.ft_props.specs.Properties.{apply};
 ghost use Rattle.ft_op.specs.Intervals.{has_interval, interval_cmp, is_interval, slide_ends, slide_interval, with_changed_interval, with_ends};
 ghost use Rattle.ft_plain.specs.Rising.{rising_place};
 
+mod pending;
+
 use crate::elements::PlainElement;
-use crate::ends::NamedEnds;
-use crate::names::ElementName;
+use crate::names::{ElementName, ElementNames};
 use crate::slides::slide;
 use ft_base::{OutOfMemory, Text};
 use ft_op::Ends;
@@ -39,7 +40,7 @@ impl Model for PlainInterval {
 
 impl PlainInterval {
     /// An interval with these parts.
-    pub fn new(label: Text, id: Text, ends: &NamedEnds, props: Props) -> PlainInterval
+    pub fn new(label: Text, id: Text, ends: &ElementNames, props: Props) -> PlainInterval
         ensures { result ≡ record { label = label; id = id; start = ends.now.first; end = ends.now.second; props = props } }
     {
         PlainInterval {
@@ -109,7 +110,7 @@ impl PlainInterval {
     fn change(
         &mut self,
         ends: Option<Ends>,
-        at: &NamedEnds,
+        at: &ElementNames,
         props: &PropSet,
     ) -> Result<(), OutOfMemory>
         ensures ok { let changed = with_ends ends at.now self.old in
@@ -205,7 +206,7 @@ impl PlainIntervals {
         label: &Text,
         id: &Text,
         ends: Option<Ends>,
-        at: &NamedEnds,
+        at: &ElementNames,
         props: &PropSet,
     ) -> Result<(), OutOfMemory>
         ensures { OnOk result (self.new ≡ with_changed_interval label.now id.now (λ i. let j = with_ends ends at.now i in record j { props = apply j.props props.now }) self.old) }

@@ -2,19 +2,22 @@
 //! `OutOfMemory` takes memory.
 #![tactic(auto)]
 
-mod cells;
-mod documents;
+pub mod cells;
+pub mod client;
+pub mod documents;
+mod element_tests;
 pub mod elements;
 mod ends;
-mod intervals;
+pub mod intervals;
 mod lists;
+mod marks;
 pub mod names;
 pub mod plain;
+mod runs;
 mod scans;
-mod seen;
-mod shown;
-mod shown_grid;
-mod shown_intervals;
+pub mod shown;
+pub mod shown_grid;
+pub mod shown_intervals;
 mod slides;
 
 pub use plain::Plain;

@@ -7,19 +7,25 @@ ghost use Rattle.ft_props.specs.Element.{GridUnit, id, seen_by, with_annotation}
 ghost use Rattle.ft_props.specs.Steps.{after_insertion, after_removal, empty_list};
 ghost use Rattle.ft_plain.specs.Contents.{content_of};
 
+mod pending;
+
+use crate::element_tests::ElementTest;
 use crate::elements::{Content, PlainElement};
+use crate::marks::Removal;
 use crate::names::ElementName;
-use crate::scans::{annotate, mark_removed, name_at, new_elements, pending_run, put_at, units};
-use crate::seen::{place_of, seen_count};
+use crate::scans::{
+    mark_range, name_at, new_elements, pending_run, place_of, put_at, seen_count, units,
+};
 use ft_base::{OutOfMemory, Perspective, Stamp};
 use ft_props::{Changes, Props};
+pub use pending::stage_position;
 use std::alloc::Global;
 use std::marker::Model;
 
-/// How many elements may ever be sequenced in a list.
-const MOST_MADE: u64 = 9_007_199_254_740_991;
+/// How many elements may stand in a list, and how many may ever be sequenced in it.
+const MOST_ELEMENTS: u64 = 9_007_199_254_740_991;
 
-/// A list of elements, removed ones included, and how many were ever sequenced in it: at most
+/// A list of elements, removed ones included, and how many were ever sequenced in it: both at most
 /// 2^53 - 1.
 #[derive(Drop)]
 pub struct PlainList {
@@ -28,14 +34,14 @@ pub struct PlainList {
 }
 
 impl Model for PlainList {
-    ghost use Rattle.std.specs.Prelude.{◌<◌, ◌≤◌, ◌^◌, vec_len};
+    ghost use Rattle.std.specs.Prelude.{◌<◌, ◌^◌, vec_len};
     ghost use Rattle.ft_props.specs.Steps.{Sequence};
 
     ghost Value = { Sequence };
 
     ghost view = { λ a. record { items = a.items.items; made = a.made } };
 
-    ghost invariant = { λ a. (vec_len a.items ≤ a.made) × (a.made < 2 ^ 53) };
+    ghost invariant = { λ a. (vec_len a.items < 2 ^ 53) × (a.made < 2 ^ 53) };
 }
 
 impl PlainList {
@@ -69,26 +75,26 @@ impl PlainList {
         self.items.as_slice()
     }
 
-    /// How many elements the perspective sees.
-    pub fn seen_count(&self, at: Perspective) -> usize
-        ensures { result ≡ len (seen_by at.r at.c) self.now.items }
+    /// How many elements are seen.
+    pub fn seen_count<T: ElementTest>(&self, seen: T) -> usize
+        ensures { result ≡ len (T.test seen) self.now.items }
     {
-        seen_count(self.items.as_slice(), at)
+        seen_count(self.items.as_slice(), seen)
     }
 
-    /// Whether the perspective sees at least `p` elements.
-    pub fn is_within(&self, p: u64, at: Perspective) -> bool
-        ensures { result ≡ nat_le p (len (seen_by at.r at.c) self.now.items) }
+    /// Whether at least `p` elements are seen.
+    pub fn is_within<T: ElementTest>(&self, p: u64, seen: T) -> bool
+        ensures { result ≡ nat_le p (len (T.test seen) self.now.items) }
     {
-        p <= self.seen_count(at) as u64
+        p <= self.seen_count(seen) as u64
     }
 
-    /// The name of the element that the perspective sees with `i` seen ones before it: None exactly
-    /// where it sees at most `i`.
-    pub fn name_at(&self, i: u64, at: Perspective) -> Option<ElementName>
-        ensures { result ≡ option_map id (seen_at (seen_by at.r at.c) i self.now.items) }
+    /// The name of the element that is seen with `i` seen ones before it: None exactly where at most
+    /// `i` are seen.
+    pub fn name_at<T: ElementTest>(&self, i: u64, seen: T) -> Option<ElementName>
+        ensures { result ≡ option_map id (seen_at (T.test seen) i self.now.items) }
     {
-        name_at(self.items.as_slice(), i, at)
+        name_at(self.items.as_slice(), i, seen)
     }
 
     /// Puts new elements with these properties in under number `seq` by the perspective's connection, directly
@@ -108,7 +114,8 @@ impl PlainList {
         ensures ok { OnOk result (self.new ≡ after_insertion seq at.c at.r p by props.now (map content_of contents.now) self.old) }
         ensures err { OnErr result (self.new ≡ self.old) }
     {
-        let made = self.made_with(contents.len())?;
+        let made = self.made_with(contents.len() as u64)?;
+        check_room(self.items.len(), contents.len())?;
         let ins = Stamp::Acked { seq, conn: at.c };
         let new = new_elements(self.alloc(), self.made, ins, by, props, contents)?;
         let place = place_of(self.items.as_slice(), p, at);
@@ -121,12 +128,11 @@ impl PlainList {
     /// How many elements there were ever after so many more.
     ///
     /// Answers `OutOfMemory` where they pass 2^53 - 1.
-    fn made_with(&self, count: usize) -> Result<u64, OutOfMemory>
+    fn made_with(&self, count: u64) -> Result<u64, OutOfMemory>
         ensures sum { IfOk result (λ made. made ≡ self.now.made + count) }
         ensures countable { IfOk result (λ made. made < 2 ^ 53) }
     {
-        let count = count as u64;
-        if count > MOST_MADE - self.made {
+        if count > MOST_ELEMENTS - self.made {
             return Err(OutOfMemory);
         }
         Ok(self.made + count)
@@ -159,7 +165,8 @@ impl PlainList {
     pub fn remove(&mut self, p: u64, q: u64, seq: u64, at: Perspective) -> Result<(), OutOfMemory>
         ensures { OnOk result (self.new ≡ after_removal seq at.c at.r p q self.old) }
     {
-        mark_removed(self.items.as_mut_slice(), p, q, seq, at)
+        let removal = Removal { seq, conn: at.c };
+        mark_range(self.items.as_mut_slice(), p, q, at, &removal)
     }
 
     /// Makes the changes of the properties of each element that the perspective sees from the `p`-th
@@ -175,6 +182,18 @@ impl PlainList {
     ) -> Result<(), OutOfMemory>
         ensures { OnOk result (self.new ≡ record self.old { items = change_range (seen_by at.r at.c) p q (with_annotation changes.now) self.old.items }) }
     {
-        annotate(self.items.as_mut_slice(), p, q, changes, at)
+        mark_range(self.items.as_mut_slice(), p, q, at, changes)
     }
+}
+
+/// Answers `OutOfMemory` where a list of so many elements can't take so many more: it would have
+/// more than 2^53 - 1.
+fn check_room(count: usize, more: usize) -> Result<(), OutOfMemory>
+    requires { count < 2 ^ 53 }
+    ensures { OnOk result (count + more < 2 ^ 53) }
+{
+    if more as u64 > MOST_ELEMENTS - count as u64 {
+        return Err(OutOfMemory);
+    }
+    Ok(())
 }

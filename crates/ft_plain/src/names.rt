@@ -1,9 +1,13 @@
 //! Names of elements.
 
-ghost use Rattle.std.specs.Prelude.{◌≡◌};
+ghost use Rattle.std.specs.Prelude.{◌≡◌, IfOk};
 ghost use Rattle.ft_props.specs.Element.{id_of_stamp, same_id};
+ghost use Rattle.ft_props.specs.Steps.{acked_id};
+ghost use Rattle.ft_op.specs.Intervals.{no_elements, settle_elements};
 
-use ft_base::Stamp;
+use crate::elements::PlainElement;
+use crate::slides::settle;
+use ft_base::{OutOfMemory, Stamp};
 use std::marker::Model;
 
 /// The name of an element in its list: its number among the elements that were ever sequenced there,
@@ -44,10 +48,94 @@ impl ElementName {
         }
     }
 
+    /// The name after the stage was acknowledged in a list in which `made` elements were sequenced before.
+    ///
+    /// Answers `OutOfMemory` where its number would pass 2^64 - 1.
+    pub fn acked(self, stage: u64, made: u64) -> Result<ElementName, OutOfMemory>
+        ensures { IfOk result (λ name. name ≡ acked_id stage made self) }
+    {
+        match self.stage {
+            Some(own) if own == stage => Ok(ElementName {
+                stage: None,
+                nth: made.checked_add(self.nth).ok_or(OutOfMemory)?,
+            }),
+            Some(_) | None => Ok(self),
+        }
+    }
+
     /// Whether both names are equal.
     pub fn same(&self, other: &ElementName) -> bool
         ensures { result ≡ same_id self.now other.now }
     {
         self.stage == other.stage && self.nth == other.nth
+    }
+}
+
+/// The two elements that an operation names: the ends of an interval, none for a detached one, or the row
+/// and the column of a cell.
+#[derive(Drop)]
+pub struct ElementNames {
+    first: Option<ElementName>,
+    second: Option<ElementName>,
+}
+
+impl Model for ElementNames {
+    ghost use Rattle.ft_op.specs.Intervals.{NamedElements};
+
+    ghost Value = { NamedElements };
+
+    ghost view = { λ a. record { first = a.first; second = a.second } };
+}
+
+impl ElementNames {
+    /// These two.
+    pub fn new(first: Option<ElementName>, second: Option<ElementName>) -> ElementNames
+        ensures { result ≡ record { first = first; second = second } }
+    {
+        ElementNames { first, second }
+    }
+
+    /// No element.
+    pub fn none() -> ElementNames
+        ensures { result ≡ no_elements }
+    {
+        ElementNames {
+            first: None,
+            second: None,
+        }
+    }
+
+    /// The element at the start, or the row, if there is one.
+    pub fn first(&self) -> Option<ElementName>
+        ensures { result ≡ self.now.first }
+    {
+        self.first
+    }
+
+    /// The element at the end, or the column, if there is one.
+    pub fn second(&self) -> Option<ElementName>
+        ensures { result ≡ self.now.second }
+    {
+        self.second
+    }
+
+    /// Equal names.
+    pub fn copy(&self) -> ElementNames
+        ensures { result ≡ self.now }
+    {
+        ElementNames {
+            first: self.first,
+            second: self.second,
+        }
+    }
+
+    /// Both elements settled at the pending stage.
+    pub fn settled(&self, items: &[PlainElement], stage: u64) -> ElementNames
+        ensures { result ≡ settle_elements items.now stage self.now }
+    {
+        ElementNames {
+            first: settle(items, stage, self.first),
+            second: settle(items, stage, self.second),
+        }
     }
 }

@@ -1,26 +1,53 @@
-//! Scans of a list of elements: where an insertion goes, and which elements a removal is for.
+//! Scans of a list of elements: how many are seen, where an insertion goes, and which elements a mark
+//! is for.
 
 ghost use Rattle.std.specs.Prelude.{◌≡◌, ◌≤◌, ◌+◌, ◌<◌, ◌^◌, ◌++◌, [], None, Some, IfOk, OnOk, OnErr, length, map, option_map, replicate, take, drop};
 ghost use Rattle.std.specs.List.{prefix_len};
-ghost use Rattle.ft_base.specs.Scan.{at as seen_at, change_range};
-ghost use Rattle.ft_props.specs.Element.{GridUnit, id, is_pending, new_elements, seen_by, with_annotation, with_removal};
+ghost use Rattle.ft_base.specs.Scan.{at as seen_at, change_range, len, place, rank};
+ghost use Rattle.ft_props.specs.Element.{GridUnit, id, is_pending, new_elements};
 ghost use Rattle.ft_plain.specs.Contents.{content_of};
 
+use crate::element_tests::ElementTest;
 use crate::elements::{Content, PlainElement};
+use crate::marks::Mark;
 use crate::names::ElementName;
-use crate::seen::Seen;
-use ft_base::{OutOfMemory, Perspective, Stamp};
-use ft_props::{Changes, Props};
+use ft_base::{OutOfMemory, Stamp};
+use ft_props::Props;
 use std::alloc::Global;
 
-/// The name of the element that the perspective sees with `i` seen ones before it: None exactly
-/// where it sees at most `i`.
-pub fn name_at(items: &[PlainElement], i: u64, at: Perspective) -> Option<ElementName>
-    ensures { result ≡ option_map id (seen_at (seen_by at.r at.c) i items.now) }
+/// How many elements are seen.
+#[tactic(auto, using(ft_base::proofs::PlainList::seen_counts))]
+pub fn seen_count<T: ElementTest>(items: &[PlainElement], seen: T) -> usize
+    ensures { result ≡ len (T.test seen) items.now }
+{
+    items.iter().filter(|e| seen.passes(e)).count()
+}
+
+/// The number of elements up to the `p`-th that is seen: 0 for `p` = 0, and all where fewer are seen.
+pub fn place_of<T: ElementTest>(items: &[PlainElement], p: u64, seen: T) -> usize
+    ensures place { result ≡ place (T.test seen) p items.now }
+    ensures inside { result ≤ length items.now }
+{
+    let mut left = p;
+    for (i, e) in items.iter().enumerate() {
+        if left == 0 {
+            return i;
+        }
+        if seen.passes(e) {
+            left -= 1;
+        }
+    }
+    items.len()
+}
+
+/// The name of the element that is seen with `i` seen ones before it: None exactly where at most `i`
+/// are seen.
+pub fn name_at<T: ElementTest>(items: &[PlainElement], i: u64, seen: T) -> Option<ElementName>
+    ensures { result ≡ option_map id (seen_at (T.test seen) i items.now) }
 {
     let mut left = i;
     for e in items {
-        if e.is_seen_by(at) {
+        if seen.passes(e) {
             if left == 0 {
                 return Some(e.name());
             }
@@ -88,54 +115,45 @@ pub fn put_at(
     Ok(())
 }
 
-/// Gives a removal under number `seq` to each element that the perspective sees from the `p`-th up to
-/// before the `q`-th.
+/// Marks each element that is seen from the `p`-th up to before the `q`-th.
 ///
-/// Answers `OutOfMemory` where there is no room for one, and then some may have theirs.
-pub fn mark_removed(
+/// Answers `OutOfMemory` where there is no room for a mark, and then some may have theirs.
+pub fn mark_range<T: ElementTest, M: Mark>(
     items: &mut [PlainElement],
     p: u64,
     q: u64,
-    seq: u64,
-    at: Perspective,
+    seen: T,
+    mark: &M,
 ) -> Result<(), OutOfMemory>
-    ensures { OnOk result (items.new ≡ change_range (seen_by at.r at.c) p q (with_removal seq at.c) items.old) }
+    ensures { OnOk result (items.new ≡ change_range (T.test seen) p q (M.marked mark.now) items.old) }
 {
-    let mut seen: u64 = 0;
+    let mut place: u64 = 0;
     for e in items.iter_mut() {
-        if e.is_seen_by(at) {
-            if p <= seen && seen < q {
-                e.remove(seq, at.c)?;
+        if seen.passes(e) {
+            if p <= place && place < q {
+                mark.put_on(e)?;
             }
-            seen += 1;
+            place += 1;
         }
     }
     Ok(())
 }
 
-/// Makes the changes of the properties of each element that the perspective sees from the `p`-th up to
-/// before the `q`-th.
-///
-/// Answers `OutOfMemory` where there is no room for what they make, and then some may have theirs.
-pub fn annotate(
-    items: &mut [PlainElement],
-    p: u64,
-    q: u64,
-    changes: &Changes,
-    at: Perspective,
-) -> Result<(), OutOfMemory>
-    ensures { OnOk result (items.new ≡ change_range (seen_by at.r at.c) p q (with_annotation changes.now) items.old) }
+/// How many seen elements stand left of the first one that is meant.
+pub fn rank<M: ElementTest, T: ElementTest>(items: &[PlainElement], meant: M, seen: T) -> u64
+    ensures rank { result ≡ rank (M.test meant) (T.test seen) items.now }
+    ensures inside { result ≤ length items.now }
 {
-    let mut seen: u64 = 0;
-    for e in items.iter_mut() {
-        if e.is_seen_by(at) {
-            if p <= seen && seen < q {
-                e.annotate(changes)?;
-            }
-            seen += 1;
+    let mut count = 0;
+    for e in items {
+        if meant.passes(e) {
+            return count;
+        }
+        if seen.passes(e) {
+            count += 1;
         }
     }
-    Ok(())
+    count
 }
 
 /// The contents of so many new units.

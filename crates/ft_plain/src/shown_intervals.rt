@@ -1,14 +1,14 @@
 //! The intervals that are shown.
 
-ghost use Rattle.std.specs.Prelude.{◌≡◌, ◌<◌, ◌≤◌, ◌^◌, IfOk, length, map};
-ghost use Rattle.ft_base.specs.Scan.{rank};
-ghost use Rattle.ft_props.specs.Element.{has_id, seen};
+ghost use Rattle.std.specs.Prelude.{◌≡◌, ◌<◌, ◌^◌, IfOk, length, map};
 ghost use Rattle.ft_props.specs.Slide.{end_number};
 ghost use Rattle.ft_msg.specs.Content.{interval_record};
 
+use crate::element_tests::AtStage;
 use crate::elements::PlainElement;
 use crate::intervals::PlainInterval;
 use crate::names::ElementName;
+use crate::scans::rank;
 use ft_base::OutOfMemory;
 use ft_sumdoc::{Ends2, IntervalRec, IntervalRecs};
 use std::alloc::Global;
@@ -53,29 +53,12 @@ fn shown_interval(
 }
 
 /// How many seen elements stand left of the end, -1 where it is detached.
-fn end_number(items: &[PlainElement], end: Option<ElementName>, stage: u64) -> i64
+pub fn end_number(items: &[PlainElement], end: Option<ElementName>, stage: u64) -> i64
     requires { length items.now < 2 ^ 53 }
     ensures { result ≡ end_number stage items.now end }
 {
     match end {
-        Some(name) => rank(items, &name, stage) as i64,
+        Some(name) => rank(items, name, AtStage(stage)) as i64,
         None => -1,
     }
-}
-
-/// How many seen elements stand left of the one of that name.
-fn rank(items: &[PlainElement], name: &ElementName, stage: u64) -> u64
-    ensures rank { result ≡ rank (has_id name.now) (seen stage) items.now }
-    ensures inside { result ≤ length items.now }
-{
-    let mut count = 0;
-    for e in items {
-        if e.has_name(name) {
-            return count;
-        }
-        if e.is_seen_at(stage) {
-            count += 1;
-        }
-    }
-    count
 }

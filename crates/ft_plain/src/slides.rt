@@ -1,9 +1,11 @@
-//! Where an end goes whose element was removed.
+//! Where an end goes whose element isn't seen any more.
 
 ghost use Rattle.std.specs.Prelude.{◌≡◌, find, option_map};
-ghost use Rattle.ft_props.specs.Element.{id, is_unremoved};
-ghost use Rattle.ft_props.specs.Slide.{slide};
+ghost use Rattle.ft_base.specs.Scan.{settled};
+ghost use Rattle.ft_props.specs.Element.{id};
+ghost use Rattle.ft_props.specs.Slide.{settle, slide};
 
+use crate::element_tests::{AtStage, ElementTest, Sequenced, Unremoved};
 use crate::elements::PlainElement;
 use crate::names::ElementName;
 
@@ -12,25 +14,44 @@ use crate::names::ElementName;
 pub fn slide(items: &[PlainElement], end: Option<ElementName>) -> Option<ElementName>
     ensures { result ≡ slide items.now end }
 {
-    let name = end?;
+    settled(items, Sequenced(end?), Unremoved)
+}
+
+/// The element of the end if a client sees it at its pending stage, else the next one that it sees,
+/// else the last one before it, else none.
+pub fn settle(items: &[PlainElement], stage: u64, end: Option<ElementName>) -> Option<ElementName>
+    ensures { result ≡ settle items.now stage end }
+{
+    settled(items, end?, AtStage(stage))
+}
+
+/// The element that is meant if it is seen, else the next one that is, else the last one before it, else
+/// none.
+fn settled<M: ElementTest, T: ElementTest>(
+    items: &[PlainElement],
+    meant: M,
+    seen: T,
+) -> Option<ElementName>
+    ensures { result ≡ option_map id (settled (M.test meant) (T.test seen) items.now) }
+{
     let mut last = None;
     for (i, e) in items.iter().enumerate() {
-        if e.is_sequenced() && e.has_name(&name) {
-            return first_unremoved(&items[i..]).or(last);
+        if meant.passes(e) {
+            return first_seen(&items[i..], seen).or(last);
         }
-        if e.is_unremoved() {
+        if seen.passes(e) {
             last = Some(e.name());
         }
     }
     None
 }
 
-/// The first element whose insertion is sequenced and no removal is.
-fn first_unremoved(items: &[PlainElement]) -> Option<ElementName>
-    ensures { result ≡ option_map id (find is_unremoved items.now) }
+/// The first element that is seen.
+fn first_seen<T: ElementTest>(items: &[PlainElement], seen: T) -> Option<ElementName>
+    ensures { result ≡ option_map id (find (T.test seen) items.now) }
 {
     for e in items {
-        if e.is_unremoved() {
+        if seen.passes(e) {
             return Some(e.name());
         }
     }

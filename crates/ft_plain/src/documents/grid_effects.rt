@@ -58,7 +58,7 @@ impl PlainDocument {
     }
 
     /// The list that a splice is for.
-    fn list(&self, target: Target) -> &PlainList
+    pub(crate) fn list(&self, target: Target) -> &PlainList
         ensures { result.now ≡ rows_or_cols target self.now }
     {
         match target {

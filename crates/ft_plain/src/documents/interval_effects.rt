@@ -6,10 +6,9 @@ ghost use Rattle.ft_op.specs.Document.{interval_effect, with_slid_ends};
 
 use crate::documents::PlainDocument;
 use crate::ends::{elements_at_ends, elements_at_given_ends, ends_fit, given_ends_fit};
-use crate::intervals::PlainInterval;
 use ft_base::{OutOfMemory, Perspective, Text};
 use ft_op::Ends;
-use ft_props::{PropSet, Props};
+use ft_props::PropSet;
 
 impl PlainDocument {
     /// Adds an interval, unless its id is in use in the label.
@@ -26,12 +25,8 @@ impl PlainDocument {
         if !ends_fit(&self.text, ends, at) {
             return self.skip();
         }
-        if !self.intervals.has(label, id) {
-            let named = elements_at_ends(&self.text, ends, at);
-            let props = Props::new(self.text.alloc()).applied(props)?;
-            let interval = PlainInterval::new(label.copy()?, id.copy()?, &named, props);
-            self.intervals.put(interval)?;
-        }
+        let named = elements_at_ends(&self.text, ends, at);
+        self.intervals.add(label, id, &named, props)?;
         self.slide_ends();
         Ok(())
     }

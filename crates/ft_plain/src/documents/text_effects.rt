@@ -127,7 +127,7 @@ impl PlainDocument {
 /// The contents of the elements that the segment puts in.
 ///
 /// Answers `OutOfMemory` where there is no room for them.
-fn segment_contents(alloc: Global, seg: &Seg) -> Result<Vec<Content>, OutOfMemory>
+pub(crate) fn segment_contents(alloc: Global, seg: &Seg) -> Result<Vec<Content>, OutOfMemory>
     ensures { IfOk result (λ v. map content_of v.items ≡ segment_contents seg.now) }
 {
     match seg {

@@ -24,6 +24,7 @@ returns c =
           (let same = same_props-is w.same.result first.props c.args.props w.same.ensures in grind (arith, nat_tests))
       | else-first-place-via-else-first-place w ↦ grind (arith, nat_tests)
     ] in
-    on_ok_weaker c.push_run-2.result (λ made. run-apart c.args.place c.args.props c.pop.new.self.items c.args.runs.now.items c.push_run-2.new.runs.items first filled c.in-Some.ensures.items joins
+    on_ok_weaker c.push_run-2.result (λ made. run-apart c.args.place c.args.props c.pop.new.self.items c.args.runs.now.items c.push_run-2.new.runs.items first
+    filled c.in-Some.ensures.items joins
     (cc (made, c.in_ok-push-2.ensures.items)))
     c.push_run-2.ensures

@@ -10,5 +10,6 @@ pub returns-in_ok-push : goal.returns-in_ok-push
 returns-in_ok-push c =
     let pushed = c.in_ok-push.ensures.bytes in
     ap chars pushed
-    ∙ chars-push (string_bytes c.args.text.now) c.in-Character.c (IsUtf8-string_bytes c.args.text.now) (subst (λ (xs : List ℕ). IsUtf8 xs) pushed (IsUtf8-string_bytes c.push.new.self))
+    ∙ chars-push (string_bytes c.args.text.now) c.in-Character.c (IsUtf8-string_bytes c.args.text.now)
+    (subst (λ (xs : List ℕ). IsUtf8 xs) pushed (IsUtf8-string_bytes c.push.new.self))
     ∙ ap (λ content. chars (string_bytes c.args.text.now) ++ content_characters (content_of content)) (sym c.in-Character.is)

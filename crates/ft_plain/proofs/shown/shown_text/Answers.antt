@@ -34,7 +34,10 @@ loop-e-preserved c =
     let at_front = drop_more xs c.loop-e.e-index c.e-item.result c.loop-e-test.true ∙ ap (λ e. e ∷ rest) (sym c.e-item.is) in
     elim c.if-is_seen_at.branch [
       | then-is_seen_at+in_ok-push_character w ↦
-          taken c.args.stage c.e-item.result rest (drop c.loop-e.e-index xs) (chars (string_bytes c.loop-e.text)) (chars (string_bytes c.if-is_seen_at.text)) all at_front w.if-is_seen_at.ensures (ap (λ t. chars (string_bytes t)) w.text-is ∙ w.in_ok-push_character.ensures ∙ ap (λ x. chars (string_bytes c.loop-e.text) ++ content_characters x) w.content.ensures) c.loop-e.invariant
+          taken c.args.stage c.e-item.result rest (drop c.loop-e.e-index xs) (chars (string_bytes c.loop-e.text)) (chars (string_bytes c.if-is_seen_at.text)) all
+          at_front w.if-is_seen_at.ensures (ap (λ t. chars (string_bytes t)) w.text-is ∙ w.in_ok-push_character.ensures ∙ ap
+          (λ x. chars (string_bytes c.loop-e.text) ++ content_characters x) w.content.ensures) c.loop-e.invariant
       | else-is_seen_at w ↦
-          rw w.text-is (passed c.args.stage c.e-item.result rest (drop c.loop-e.e-index xs) (chars (string_bytes c.loop-e.text)) all at_front w.if-is_seen_at.ensures c.loop-e.invariant)
+          rw w.text-is (passed c.args.stage c.e-item.result rest (drop c.loop-e.e-index xs) (chars (string_bytes c.loop-e.text)) all at_front
+          w.if-is_seen_at.ensures c.loop-e.invariant)
     ]

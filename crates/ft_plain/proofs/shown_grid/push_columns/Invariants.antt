@@ -6,5 +6,6 @@ use Rattle.ft_plain.proofs.shown_grid.push_columns.Given as goal
 abbrev pub invariant-loop-col : goal.invariant-loop-col
 invariant-loop-col l = record {
   counted : l.j ≤ l.col-index;
-  all : l.shown ++ row_cells l.cells [] l.place l.row l.j (stage_view l.stage (drop l.col-index l.cols)) ≡ l.initial.shown ++ row_cells l.cells [] l.place l.row 0 (stage_view l.stage l.cols);
+  all : l.shown ++ row_cells l.cells [] l.place l.row l.j (stage_view l.stage (drop l.col-index l.cols)) ≡ l.initial.shown ++ row_cells l.cells [] l.place l.row 0
+      (stage_view l.stage l.cols);
 }

@@ -6,5 +6,6 @@ use Rattle.ft_plain.proofs.shown_grid.shown_cells.Given as goal
 abbrev pub invariant-loop-row : goal.invariant-loop-row
 invariant-loop-row l = record {
   counted : l.place ≤ l.row-index;
-  all : l.shown ++ all_cells l.cells [] (stage_view l.stage l.cols) l.place (stage_view l.stage (drop l.row-index l.rows)) ≡ all_cells l.cells [] (stage_view l.stage l.cols) 0 (stage_view l.stage l.rows);
+  all : l.shown ++ all_cells l.cells [] (stage_view l.stage l.cols) l.place (stage_view l.stage (drop l.row-index l.rows)) ≡ all_cells l.cells []
+      (stage_view l.stage l.cols) 0 (stage_view l.stage l.rows);
 }

@@ -8,7 +8,8 @@ pub returns-in-Some : goal.returns-in-Some
 returns-in-Some c =
     let at = ap (position (is_cell c.args.row c.args.col)) c.self.view_is ∙ sym c.place_of.ensures ∙ c.in-Some.is in
     let found = find-found (is_cell c.args.row c.args.col) c.index.result.now c.self.inside.items.items c.in-Some.i at in
-    ap (λ cell. Some cell.value) (c.behind-self.view_is ∙ c.index.ensures) ∙ ap (option_map (λ cell. cell.value)) (sym found) ∙ ap (cell_value c.args.row c.args.col) c.self.view_is
+    ap (λ cell. Some cell.value) (c.behind-self.view_is ∙ c.index.ensures) ∙ ap (option_map (λ cell. cell.value)) (sym found) ∙ ap
+    (cell_value c.args.row c.args.col) c.self.view_is
 
 pub returns-in-None : goal.returns-in-None
 returns-in-None c =

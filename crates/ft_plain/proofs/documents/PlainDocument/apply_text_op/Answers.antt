@@ -5,4 +5,5 @@ use Rattle.ft_plain.proofs.documents.PlainDocument.apply_text_op.Goals as goal
 
 pub returns-in-Annotate : goal.returns-in-Annotate
 returns-in-Annotate c =
-    on_ok_weaker c.annotate_text.result (λ made. made ∙ ap (text_effect c.args.self.now c.args.seq c.args.at.c c.args.at.r) (sym c.in-Annotate.is)) (c.annotate_text.ensures c.args.seq)
+    on_ok_weaker c.annotate_text.result (λ made. made ∙ ap (text_effect c.args.self.now c.args.seq c.args.at.c c.args.at.r) (sym c.in-Annotate.is))
+    (c.annotate_text.ensures c.args.seq)

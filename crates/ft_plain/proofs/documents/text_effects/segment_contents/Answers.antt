@@ -14,5 +14,6 @@ map-characters (c ∷ cs) = ap (λ xs. CharacterOf c ∷ xs) (map-characters cs)
 pub returns-in-Chars : goal.returns-in-Chars
 returns-in-Chars c =
     IfOk-weaker c.characters.result (λ v. v.items ≡ map (λ x. Character x) (chars c.as_str.result.now)) (λ v. map content_of v.items ≡ segment_contents c.args.seg.now)
-    (λ v e. ap (map content_of) e ∙ map-characters (chars c.as_str.result.now) ∙ ap (map (λ x. CharacterOf x)) c.as_str.ensures.characters ∙ sym (ap segment_contents c.in-Chars.is))
+    (λ v e. ap (map content_of) e ∙ map-characters (chars c.as_str.result.now) ∙ ap (map (λ x. CharacterOf x)) c.as_str.ensures.characters ∙ sym
+    (ap segment_contents c.in-Chars.is))
     c.characters.ensures

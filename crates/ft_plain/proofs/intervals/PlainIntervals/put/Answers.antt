@@ -23,4 +23,5 @@ returns-in-Ok-clause-ok c =
 pub returns-in_ok-insert-in-Err-clause-ok : goal.returns-in_ok-insert-in-Err-clause-ok
 returns-in_ok-insert-in-Err-clause-ok c =
     let place = ap (rising_place interval_cmp c.args.interval) (sym c.as_slice.ensures.value) ∙ sym c.place_of.ensures ∙ c.in-Err.is in
-    c.in_ok-insert-in-Err.ensures.items ∙ sym (put_rising-missing interval_cmp c.args.interval c.in-Err.i c.self.inside.items.items place) ∙ ap (put_rising interval_cmp c.args.interval) c.self.view_is
+    c.in_ok-insert-in-Err.ensures.items ∙ sym (put_rising-missing interval_cmp c.args.interval c.in-Err.i c.self.inside.items.items place) ∙ ap
+    (put_rising interval_cmp c.args.interval) c.self.view_is

@@ -1,0 +1,4 @@
+//! What a client of a replica's own does, the replica answers.
+#![tactic(auto)]
+
+pub mod own;

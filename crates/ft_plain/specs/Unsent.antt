@@ -1,0 +1,15 @@
+-- What a client hasn't sent yet.
+use Rattle.std.specs.Prelude.{ℕ, ◌+◌, List, [], ◌∷◌, ◌++◌, Option, Some, None}
+use Rattle.ft_msg.specs.declared.messages.Draft.{Draft}
+use Rattle.ft_msg.specs.declared.messages.Body.TheVariants.{Op}
+use Rattle.ft_msg.specs.Client.{SentAs}
+
+-- the client sequence number of the next message, and the messages that aren't sent yet
+pub record Unsent : Type 0 where
+  pub next : ℕ
+  pub drafts : List Draft
+
+-- with the draft of an edit behind the others, if it is sent
+abbrev pub with_sent : Option SentAs → ℕ → Unsent → Unsent
+with_sent None ref_seq box = box
+with_sent (Some sent) ref_seq box = record { next = box.next + 1; drafts = box.drafts ++ (record { client_seq = sent.client_seq; ref_seq = ref_seq; body = Op sent.op } ∷ []) }

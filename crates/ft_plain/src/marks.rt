@@ -1,0 +1,75 @@
+//! Marks on elements: sequenced removals and changes, and those that are pending.
+
+ghost use Rattle.ft_props.specs.Element.{with_annotation, with_pending_annotation, with_pending_removal, with_removal};
+
+use crate::elements::PlainElement;
+use ft_base::OutOfMemory;
+use ft_props::Changes;
+
+/// Something that is put on an element.
+pub trait Mark {
+    ghost use Rattle.std.specs.Prelude.{◌≡◌, OnOk, OnErr};
+    ghost use Rattle.ft_props.specs.Element.{ListElement};
+
+    /// The element with the mark.
+    ghost marked: { Self → ListElement → ListElement };
+
+    /// Puts the mark on the element.
+    ///
+    /// Answers `OutOfMemory` where there is no room for it, and then nothing changed.
+    fn put_on(&self, e: &mut PlainElement) -> Result<(), OutOfMemory>
+        ensures ok { OnOk result (e.new ≡ marked self.now e.old) }
+        ensures err { OnErr result (e.new ≡ e.old) };
+}
+
+/// A sequenced removal: its number, and the connection that sent it.
+#[derive(Drop)]
+pub struct Removal {
+    pub seq: u64,
+    pub conn: u32,
+}
+
+impl Mark for Removal {
+    ghost marked = { λ r e. with_removal r.seq r.conn e };
+
+    fn put_on(&self, e: &mut PlainElement) -> Result<(), OutOfMemory> {
+        e.remove(self.seq, self.conn)
+    }
+}
+
+/// Sequenced changes of properties.
+impl Mark for Changes {
+    ghost marked = { λ c e. with_annotation c e };
+
+    fn put_on(&self, e: &mut PlainElement) -> Result<(), OutOfMemory> {
+        e.annotate(self)
+    }
+}
+
+/// A pending removal, by its stage.
+#[derive(Drop)]
+pub struct PendingRemoval(pub u64);
+
+impl Mark for PendingRemoval {
+    ghost marked = { λ r e. with_pending_removal r.0 e };
+
+    fn put_on(&self, e: &mut PlainElement) -> Result<(), OutOfMemory> {
+        e.remove_at_stage(self.0);
+        Ok(())
+    }
+}
+
+/// Pending changes of properties, with their stage.
+#[derive(Drop)]
+pub struct PendingChanges {
+    pub stage: u64,
+    pub changes: Changes,
+}
+
+impl Mark for PendingChanges {
+    ghost marked = { λ c e. with_pending_annotation c.stage c.changes e };
+
+    fn put_on(&self, e: &mut PlainElement) -> Result<(), OutOfMemory> {
+        e.annotate_at_stage(self.stage, &self.changes)
+    }
+}
