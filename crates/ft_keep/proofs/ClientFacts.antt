@@ -56,7 +56,8 @@ client-facts bound c gss x h r = record {
 
 -- ---- names that stay
 
-pub names-staying : (gone : ListElement → Bool) (list : Sequence) → list_all (λ e. gone e || not (has_named gone list.items (id e))) list.items ≡ true → IsFreshFrom list → HoldsNames gone (held_but gone list.items) list
+pub names-staying : (gone : ListElement → Bool) (list : Sequence) → list_all (λ e. gone e || not (has_named gone list.items (id e))) list.items ≡ true
+    → IsFreshFrom list → HoldsNames gone (held_but gone list.items) list
 names-staying gone list h f = record {
   all = h;
   later = λ n l. ap not (any-less (λ e. has_id (SequencedId n) e && gone e) (has_id (SequencedId n)) (λ e k. ap (λ b. b && gone e) k) list.items (f n l));

@@ -41,7 +41,8 @@ gone-before low e f g = step e.ins f
 
 module _ {low : ℕ} {held : ElementId → Bool} where
   -- what passes in a compacted list passes in the whole one
-  pub none-kept : (test : ListElement → Bool) → ((e : ListElement) → is_insertion_at_or_below low e.ins ≡ true → test (with_universal_insertion e) ≡ test e) → {ks xs : List ListElement} → Keeps low held ks xs → list_any test xs ≡ false → list_any test ks ≡ false
+  pub none-kept : (test : ListElement → Bool) → ((e : ListElement) → is_insertion_at_or_below low e.ins ≡ true → test (with_universal_insertion e) ≡ test e)
+      → {ks xs : List ListElement} → Keeps low held ks xs → list_any test xs ≡ false → list_any test ks ≡ false
   none-kept test alike none h = refl
   none-kept test alike (same {e = e} {ks = ks} {xs = xs} k) h = step (test e) (none-kept test alike k) h
     where
@@ -71,20 +72,33 @@ module _ {low : ℕ} {held : ElementId → Bool} where
   free-kept : {ks xs : List ListElement} → Keeps low held ks xs → AreFree low held xs → AreFree low held ks
   free-kept none h = tt
   free-kept (same k) h = (λ g. (let f = h.0 g in record { removal = f.removal; changes = f.changes; name = f.name; next = next-kept k f.next }), free-kept k h.1)
-  free-kept (universal {e = e} o k) h =
-      (λ g. (let f = h.0 (gone-before low e o g) in record { removal = f.removal; changes = f.changes; name = ap held (id-universal low e o) ∙ f.name; next = next-kept k f.next }), free-kept k h.1)
+  free-kept (universal {e = e} o k) h = (
+    λ g. (let f = h.0 (gone-before low e o g) in record {
+      removal = f.removal;
+      changes = f.changes;
+      name = ap held (id-universal low e o)
+          ∙ f.name;
+      next = next-kept k f.next;
+    }),
+    free-kept k h.1,
+  )
   free-kept (collected g u n k) h = free-kept k h.1
 
 -- the document with these lists and cells
 abbrev pub with_lists : Document → Sequence → Sequence → Sequence → List Cell → Document
 with_lists doc text rows cols cells = record doc { text = text; rows = rows; cols = cols; cells = cells }
 
-further : (x : NaiveClient) (text rows cols : Sequence) (cells : List Cell) (fewer : Document) → KeepsDocument x (with_lists x.doc text rows cols cells) → KeepsDocument (record x { doc = with_lists x.doc text rows cols cells }) fewer → KeepsDocument x fewer
+further : (x : NaiveClient) (text rows cols : Sequence) (cells : List Cell) (fewer : Document) → KeepsDocument x (with_lists x.doc text rows cols cells)
+    → KeepsDocument (record x { doc = with_lists x.doc text rows cols cells }) fewer → KeepsDocument x fewer
 further x text rows cols cells fewer k f = record {
   text = record { items = keeps-twice k.text.items f.text.items; made = f.text.made ∙ k.text.made };
   rows = record { items = keeps-twice k.rows.items f.rows.items; made = f.rows.made ∙ k.rows.made };
   cols = record { items = keeps-twice k.cols.items f.cols.items; made = f.cols.made ∙ k.cols.made };
-  cells = record { values = λ row col a b. f.cells.values row col (unremoved-kept row k.rows.items a) (unremoved-kept col k.cols.items b) ∙ k.cells.values row col a b; none = λ row col e. f.cells.none row col (k.cells.none row col e) };
+  cells = record {
+    values = λ row col a b. f.cells.values row col (unremoved-kept row k.rows.items a) (unremoved-kept col k.cols.items b)
+        ∙ k.cells.values row col a b;
+    none = λ row col e. f.cells.none row col (k.cells.none row col e);
+  };
   rest = f.rest;
 }
 
@@ -93,7 +107,8 @@ kept-shape x kept k = k.rest ∙ ap (λ d. record x { doc = d }) k.doc.rest
 
 pub compacts-further : (x kept fewer : NaiveClient) → IsCompacted kept x → IsCompacted fewer kept → IsCompacted fewer x
 compacts-further x kept fewer k f = record {
-  doc = further x kept.doc.text kept.doc.rows kept.doc.cols kept.doc.cells fewer.doc (subst (λ d. KeepsDocument x d) k.doc.rest k.doc) (subst (λ y. KeepsDocument y fewer.doc) (kept-shape x kept k) f.doc);
+  doc = further x kept.doc.text kept.doc.rows kept.doc.cols kept.doc.cells fewer.doc (subst (λ d. KeepsDocument x d) k.doc.rest k.doc)
+      (subst (λ y. KeepsDocument y fewer.doc) (kept-shape x kept k) f.doc);
   rest = f.rest ∙ ap (λ (y : NaiveClient). record y { doc = fewer.doc }) k.rest;
 }
 
@@ -103,7 +118,8 @@ tombstones-kept x kept h k =
     let d : KeepsDocument x (with_lists x.doc kept.doc.text kept.doc.rows kept.doc.cols kept.doc.cells) = subst (λ d. KeepsDocument x d) k.doc.rest k.doc in
     subst HasFreeTombstones (sym (kept-shape x kept k)) (shaped kept.doc.text kept.doc.rows kept.doc.cols kept.doc.cells d)
   where
-    shaped : (text rows cols : Sequence) (cells : List Cell) → KeepsDocument x (with_lists x.doc text rows cols cells) → HasFreeTombstones (record x { doc = with_lists x.doc text rows cols cells })
+    shaped : (text rows cols : Sequence) (cells : List Cell) → KeepsDocument x (with_lists x.doc text rows cols cells)
+        → HasFreeTombstones (record x { doc = with_lists x.doc text rows cols cells })
     shaped text rows cols cells d = record { text = free-kept d.text.items h.text; rows = free-kept d.rows.items h.rows; cols = free-kept d.cols.items h.cols }
 
 -- ---- all that may be left out
@@ -118,7 +134,8 @@ leaves-trimmed low (e ∷ xs) = step (is_collectable low e) refl (leaves-trimmed
     stay false f l = stays l
 
     step : (b : Bool) → is_collectable low e ≡ b → Leaves low (retain_map (λ e. not (is_collectable low e)) (trim_element low) xs) xs
-        → Leaves low (cond (not b) (trim_element low e ∷ retain_map (λ e. not (is_collectable low e)) (trim_element low) xs) (retain_map (λ e. not (is_collectable low e)) (trim_element low) xs)) (e ∷ xs)
+        → Leaves low (cond (not b) (trim_element low e ∷ retain_map (λ e. not (is_collectable low e)) (trim_element low) xs)
+        (retain_map (λ e. not (is_collectable low e)) (trim_element low) xs)) (e ∷ xs)
     step true f l = goes f l
     step false f l = stay (is_insertion_at_or_below low e.ins) refl l
 
@@ -142,12 +159,14 @@ none-left low [] = refl
 none-left low (e ∷ xs) = step (is_collectable low e) refl (none-left low xs)
   where
     step : (b : Bool) → is_collectable low e ≡ b → list_any (is_collectable low) (retain_map (λ e. not (is_collectable low e)) (trim_element low) xs) ≡ false
-        → list_any (is_collectable low) (cond (not b) (trim_element low e ∷ retain_map (λ e. not (is_collectable low e)) (trim_element low) xs) (retain_map (λ e. not (is_collectable low e)) (trim_element low) xs)) ≡ false
+        → list_any (is_collectable low) (cond (not b) (trim_element low e ∷ retain_map (λ e. not (is_collectable low e)) (trim_element low) xs)
+        (retain_map (λ e. not (is_collectable low e)) (trim_element low) xs)) ≡ false
     step true f ih = ih
     step false f ih = rw (trimmed-stays low e f) ih
 
 -- a cell of which all that it could be are kept has its value
-value-filtered : (row col : ElementId) (keep : Cell → Bool) (cells : List Cell) → ((c : Cell) → row ≡ c.row → col ≡ c.col → keep c ≡ true) → cell_value row col (filter keep cells) ≡ cell_value row col cells
+value-filtered : (row col : ElementId) (keep : Cell → Bool) (cells : List Cell) → ((c : Cell) → row ≡ c.row → col ≡ c.col → keep c ≡ true)
+    → cell_value row col (filter keep cells) ≡ cell_value row col cells
 value-filtered row col keep [] h = refl
 value-filtered row col keep (c ∷ cells) h = step (is_cell row col c) (keep c) refl refl (value-filtered row col keep cells h)
   where
@@ -172,7 +191,8 @@ fully-compacted x h = record {
     cols = list-trimmed (floor x) _ x.doc.cols h.cols;
     cells = record {
       values = λ row col a b. value-filtered row col (λ c. not (has_sequenced_removal x.doc.rows.items c.row) && not (has_sequenced_removal x.doc.cols.items c.col)) x.doc.cells
-          (λ c p q. two (has_sequenced_removal x.doc.rows.items c.row) (has_sequenced_removal x.doc.cols.items c.col) (subst (λ i. has_sequenced_removal x.doc.rows.items i ≡ false) p a) (subst (λ i. has_sequenced_removal x.doc.cols.items i ≡ false) q b));
+          (λ c p q. two (has_sequenced_removal x.doc.rows.items c.row) (has_sequenced_removal x.doc.cols.items c.col)
+          (subst (λ i. has_sequenced_removal x.doc.rows.items i ≡ false) p a) (subst (λ i. has_sequenced_removal x.doc.cols.items i ≡ false) q b));
       none = λ row col e. none-filtered row col (λ c. not (has_sequenced_removal x.doc.rows.items c.row) && not (has_sequenced_removal x.doc.cols.items c.col)) x.doc.cells e;
     };
     rest = refl;
@@ -196,17 +216,20 @@ starts-from-summary steps x run h =
     let z = client_over x.doc in
     let next = run-next steps Restarts x z run (ap (λ b. cond b (Some (client_over x.doc)) None) h) refl in
     let free = (facts-from run.start (steps ++ (Restarts ∷ [])) z next).free in
-    let values : list_all has_value x.doc.cells ≡ true = subst (λ (d : Document). list_all has_value d.cells ≡ true) (sym (idle-clients-agree-from run.start steps x run.run h)) (take_entries-consistent run.start (taken_entries steps) run.run.sound.consistent).cells in
+    let values : list_all has_value x.doc.cells ≡ true = subst (λ (d : Document). list_all has_value d.cells ≡ true)
+    (sym (idle-clients-agree-from run.start steps x run.run h)) (take_entries-consistent run.start (taken_entries steps) run.run.sound.consistent).cells in
     record {
       doc = record {
         text = list-trimmed x.doc.minimum _ x.doc.text free.text;
         rows = list-trimmed x.doc.minimum _ x.doc.rows free.rows;
         cols = list-trimmed x.doc.minimum _ x.doc.cols free.cols;
         cells = record {
-          values = λ row col a b. value-kept row col (λ c. not (is_null c.value) && not (has_sequenced_removal x.doc.rows.items c.row) && not (has_sequenced_removal x.doc.cols.items c.col)) x.doc.cells values
+          values = λ row col a b. value-kept row col (λ c. not (is_null c.value) && not (has_sequenced_removal x.doc.rows.items c.row)
+              && not (has_sequenced_removal x.doc.cols.items c.col)) x.doc.cells values
               (λ c v p q. three (not (is_null c.value)) (has_sequenced_removal x.doc.rows.items c.row) (has_sequenced_removal x.doc.cols.items c.col) v
               (subst (λ i. has_sequenced_removal x.doc.rows.items i ≡ false) p a) (subst (λ i. has_sequenced_removal x.doc.cols.items i ≡ false) q b));
-          none = λ row col e. none-filtered row col (λ c. not (is_null c.value) && not (has_sequenced_removal x.doc.rows.items c.row) && not (has_sequenced_removal x.doc.cols.items c.col)) x.doc.cells e;
+          none = λ row col e. none-filtered row col (λ c. not (is_null c.value) && not (has_sequenced_removal x.doc.rows.items c.row)
+              && not (has_sequenced_removal x.doc.cols.items c.col)) x.doc.cells e;
         };
         rest = refl;
       };

@@ -32,9 +32,11 @@ counts text rows cols = record { text = text; rows = rows; cols = cols }
 held-kept : (kept x : NaiveClient) → IsCompacted kept x → held_in kept.doc ≡ held_in x.doc
 held-kept kept x k =
     ap (λ n. counts n (count_held kept.doc.rows) (count_held kept.doc.cols)) (count-kept k.doc.text)
-    ∙ ap (λ n. counts (count_held x.doc.text) n (count_held kept.doc.cols)) (count-kept k.doc.rows) ∙ ap (λ n. counts (count_held x.doc.text) (count_held x.doc.rows) n) (count-kept k.doc.cols)
+    ∙ ap (λ n. counts (count_held x.doc.text) n (count_held kept.doc.cols)) (count-kept k.doc.rows)
+    ∙ ap (λ n. counts (count_held x.doc.text) (count_held x.doc.rows) n) (count-kept k.doc.cols)
 
 -- counts that rise as those of a compacted client do rise as those of the whole one
-pub rises-kept : (old new : HeldCounts) (kept x kept_after after : NaiveClient) → IsCompacted kept x → IsCompacted kept_after after → RiseAlike old new (held_in kept.doc) (held_in kept_after.doc) → RiseAlike old new (held_in x.doc) (held_in after.doc)
+pub rises-kept : (old new : HeldCounts) (kept x kept_after after : NaiveClient) → IsCompacted kept x → IsCompacted kept_after after
+    → RiseAlike old new (held_in kept.doc) (held_in kept_after.doc) → RiseAlike old new (held_in x.doc) (held_in after.doc)
 rises-kept old new kept x kept_after after k l rises =
     subst (λ h. RiseAlike old new h (held_in after.doc)) (held-kept kept x k) (subst (λ h. RiseAlike old new (held_in kept.doc) h) (held-kept kept_after after l) rises)

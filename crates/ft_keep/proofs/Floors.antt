@@ -30,10 +30,12 @@ least-append low [] edit n l r = le-min {k = low} {a = n} {b = edit.ref_seq} l r
 least-append low (e ∷ edits) edit n l r = least-append low edits edit (min n e.ref_seq) l r
 
 -- edits that are sent again
-pub least-resubmitted : (low : ℕ) (doc : Document) (conn i : ℕ) (edits : List PendingEdit) (n : ℕ) → low ≤ n → low ≤ doc.number → low ≤ least_ref n (resubmitted_edits doc conn i edits)
+pub least-resubmitted : (low : ℕ) (doc : Document) (conn i : ℕ) (edits : List PendingEdit) (n : ℕ) → low ≤ n → low ≤ doc.number
+    → low ≤ least_ref n (resubmitted_edits doc conn i edits)
 least-resubmitted low doc conn i [] n l r = l
 least-resubmitted low doc conn i (edit ∷ edits) n l r =
-    step (regenerated_edit doc edit) (least-resubmitted low doc conn i edits n l r) (least-resubmitted low doc conn (i + 1) edits (min n doc.number) (le-min {k = low} {a = n} {b = doc.number} l r) r)
+    step (regenerated_edit doc edit) (least-resubmitted low doc conn i edits n l r)
+    (least-resubmitted low doc conn (i + 1) edits (min n doc.number) (le-min {k = low} {a = n} {b = doc.number} l r) r)
   where
     step : (o : Option ChannelOp) → low ≤ least_ref n (resubmitted_edits doc conn i edits) → low ≤ least_ref (min n doc.number) (resubmitted_edits doc conn (i + 1) edits)
         → low ≤ least_ref n (elim o [ None ↦ resubmitted_edits doc conn i edits | Some op ↦ resubmitted_edit doc conn i edit op ∷ resubmitted_edits doc conn (i + 1) edits ])

@@ -57,7 +57,8 @@ stages-above c n [] (edit ∷ edits) h = absurd h
 stages-above c n (gs ∷ gss) [] h = absurd h
 stages-above c n (gs ∷ gss) (edit ∷ edits) h =
     let l = least-first edits (min n edit.ref_seq) in
-    above-append (least_ref n (edit ∷ edits)) gs (flat gss) (above-refs (least_ref n (edit ∷ edits)) edit.ref_seq gs (omega arith) h.0.refs) (stages-above c (min n edit.ref_seq) gss edits h.1)
+    above-append (least_ref n (edit ∷ edits)) gs (flat gss) (above-refs (least_ref n (edit ∷ edits)) edit.ref_seq gs (omega arith) h.0.refs)
+    (stages-above c (min n edit.ref_seq) gss edits h.1)
 
 -- ---- names that are held
 
@@ -95,9 +96,11 @@ module _ (held : ElementId → Bool) (a : ElementId) (free : held a ≡ false) w
       let p = both (has_held_text held t) (list_all (has_held_text held) ts) h in
       rw (step t.sub_operation p.0) (texts-other ts p.1)
     where
-      step : (o : SubOperation) → elim o [ OnIntervals op ↦ are_held held t.names | _ ↦ true ] ≡ true → elim o [ OnIntervals op ↦ is_named_by a t.names.first || is_named_by a t.names.second | _ ↦ false ] ≡ false
+      step : (o : SubOperation) → elim o [ OnIntervals op ↦ are_held held t.names | _ ↦ true ] ≡ true
+          → elim o [ OnIntervals op ↦ is_named_by a t.names.first || is_named_by a t.names.second | _ ↦ false ] ≡ false
       step (OnText op) g = refl
-      step (OnIntervals op) g = let q = both (is_held_end held t.names.first) (is_held_end held t.names.second) g in rw (end-other t.names.first q.0, end-other t.names.second q.1) refl
+      step (OnIntervals op) g = let q = both (is_held_end held t.names.first) (is_held_end held t.names.second) g in rw
+          (end-other t.names.first q.0, end-other t.names.second q.1) refl
       step (OnGrid op) g = refl
 
   rows-other : (ts : List Stage) → list_all (has_held_row held) ts ≡ true → list_any (stage_holds_row a) ts ≡ false
@@ -129,7 +132,8 @@ module _ (held : ElementId → Bool) (a : ElementId) (free : held a ≡ false) w
       step (OnGrid (Set i j value)) g = end-other t.names.second g
 
 -- names held by stages and intervals are none of elements that are gone, where all such names are held
-pub names-free : (gone : ListElement → Bool) (held other : ElementId → Bool) (xs : List ListElement) → ((a : ElementId) → held a ≡ false → other a ≡ false) → list_all (λ e. not (gone e) || not (held (id e))) xs ≡ true
+pub names-free : (gone : ListElement → Bool) (held other : ElementId → Bool) (xs : List ListElement) → ((a : ElementId) → held a ≡ false → other a ≡ false)
+    → list_all (λ e. not (gone e) || not (held (id e))) xs ≡ true
     → list_all (λ e. not (gone e) || not (other (id e))) xs ≡ true
 names-free gone held other xs f h = all-weaker (λ e. not (gone e) || not (held (id e))) (λ e. not (gone e) || not (other (id e))) (λ e g. step e (gone e) (held (id e)) refl g) xs h
   where
@@ -140,7 +144,8 @@ names-free gone held other xs f h = all-weaker (λ e. not (gone e) || not (held 
 
 -- ---- names of stages
 
-module _ (gone : ListElement → Bool) (held : ElementId → Bool) (test : ListElement → Bool) (unseen : (e : ListElement) → gone e ≡ true → test e ≡ false) (xs : List ListElement) (names : list_all (keeps_name gone held) xs ≡ true) where
+module _ (gone : ListElement → Bool) (held : ElementId → Bool) (test : ListElement → Bool) (unseen : (e : ListElement) → gone e ≡ true → test e ≡ false)
+    (xs : List ListElement) (names : list_all (keeps_name gone held) xs ≡ true) where
   pub end-held : (z : ℤ) → is_held_end held (element_at_end test xs z) ≡ true
   end-held (pos p) = at-held gone held test unseen p xs names
   end-held (negsuc p) = refl
@@ -157,7 +162,8 @@ module _ (gone : ListElement → Bool) (held : ElementId → Bool) (test : ListE
       step None b e g = absurd e
       step (Some a) None e g = absurd e
 
-up_to-held : (gone : ListElement → Bool) (held : ElementId → Bool) (k : ℕ) → ((e : ListElement) → gone (element_up_to k e) ≡ gone e) → (xs : List ListElement) → list_all (keeps_name gone held) xs ≡ true → list_all (keeps_name gone held) (list_up_to k xs) ≡ true
+up_to-held : (gone : ListElement → Bool) (held : ElementId → Bool) (k : ℕ) → ((e : ListElement) → gone (element_up_to k e) ≡ gone e) → (xs : List ListElement)
+    → list_all (keeps_name gone held) xs ≡ true → list_all (keeps_name gone held) (list_up_to k xs) ≡ true
 up_to-held gone held k same [] h = refl
 up_to-held gone held k same (e ∷ xs) h = grind (arith, up_to-held gone held k same xs, same e)
 
@@ -166,15 +172,19 @@ unexpected low c t above = collectable-unexpected low t.ref c (suc (suc t.before
 
 module _ (low c : ℕ) (doc : Document) (held_text : ElementId → Bool) (text : list_all (keeps_name (is_collectable low) held_text) doc.text.items ≡ true) where
   module _ (t : ToldStage) (above : low ≤ t.ref) where
-    pub stage-text : (o : SubOperation) (sent : SentStage) → Tells o sent → NamesBy (expects t.ref c (suc (suc t.before))) (list_up_to t.before doc.text.items) (list_up_to t.before doc.rows.items) (list_up_to t.before doc.cols.items) sent t.stage.names
+    pub stage-text : (o : SubOperation) (sent : SentStage) → Tells o sent → NamesBy (expects t.ref c (suc (suc t.before))) (list_up_to t.before doc.text.items)
+        (list_up_to t.before doc.rows.items) (list_up_to t.before doc.cols.items) sent t.stage.names
         → elim o [ OnIntervals op ↦ are_held held_text t.stage.names | _ ↦ true ] ≡ true
     stage-text (OnText op) sent h n = refl
     stage-text (OnIntervals op) sent h n =
-        let p = subst (λ i. NamesBy (expects t.ref c (suc (suc t.before))) (list_up_to t.before doc.text.items) (list_up_to t.before doc.rows.items) (list_up_to t.before doc.cols.items) i t.stage.names) h.place.made n in
+        let p = subst (λ i. NamesBy (expects t.ref c (suc (suc t.before))) (list_up_to t.before doc.text.items) (list_up_to t.before doc.rows.items)
+        (list_up_to t.before doc.cols.items) i t.stage.names) h.place.made n in
         step p
       where
-        step : NamesBy (expects t.ref c (suc (suc t.before))) (list_up_to t.before doc.text.items) (list_up_to t.before doc.rows.items) (list_up_to t.before doc.cols.items) (IntervalsChanged h.place.other) t.stage.names → are_held held_text t.stage.names ≡ true
-        step p = ap (are_held held_text) (sym p.1) ∙ given-held (is_collectable low) held_text (expects t.ref c (suc (suc t.before))) (unexpected low c t above) (list_up_to t.before doc.text.items) (up_to-held (is_collectable low) held_text t.before (λ e. refl) doc.text.items text) _
+        step : NamesBy (expects t.ref c (suc (suc t.before))) (list_up_to t.before doc.text.items) (list_up_to t.before doc.rows.items)
+            (list_up_to t.before doc.cols.items) (IntervalsChanged h.place.other) t.stage.names → are_held held_text t.stage.names ≡ true
+        step p = ap (are_held held_text) (sym p.1) ∙ given-held (is_collectable low) held_text (expects t.ref c (suc (suc t.before)))
+            (unexpected low c t above) (list_up_to t.before doc.text.items) (up_to-held (is_collectable low) held_text t.before (λ e. refl) doc.text.items text) _
     stage-text (OnGrid op) sent h n = refl
 
   stages-text : (m : ℕ) (ts : List ToldStage) → AreAbove low ts → AreTold m ts → AllStand c doc ts → list_all (has_held_text held_text) (bare_stages ts) ≡ true
@@ -183,17 +193,21 @@ module _ (low c : ℕ) (doc : Document) (held_text : ElementId → Bool) (text :
 
 module _ (low c : ℕ) (doc : Document) (held_row : ElementId → Bool) (rows : list_all (keeps_name (is_collectable low) held_row) doc.rows.items ≡ true) where
   module _ (t : ToldStage) (above : low ≤ t.ref) where
-    stage-row : (o : SubOperation) (sent : SentStage) → Tells o sent → NamesBy (expects t.ref c (suc (suc t.before))) (list_up_to t.before doc.text.items) (list_up_to t.before doc.rows.items) (list_up_to t.before doc.cols.items) sent t.stage.names
+    stage-row : (o : SubOperation) (sent : SentStage) → Tells o sent → NamesBy (expects t.ref c (suc (suc t.before))) (list_up_to t.before doc.text.items)
+        (list_up_to t.before doc.rows.items) (list_up_to t.before doc.cols.items) sent t.stage.names
         → elim o [ OnGrid op ↦ elim op [ Set i j value ↦ is_held_end held_row t.stage.names.first | _ ↦ true ] | _ ↦ true ] ≡ true
     stage-row (OnText op) sent h n = refl
     stage-row (OnIntervals op) sent h n = refl
     stage-row (OnGrid (SpliceIn target p count)) sent h n = refl
     stage-row (OnGrid (SpliceOut target p q)) sent h n = refl
     stage-row (OnGrid (Set i j value)) sent h n =
-        step (subst (λ i. NamesBy (expects t.ref c (suc (suc t.before))) (list_up_to t.before doc.text.items) (list_up_to t.before doc.rows.items) (list_up_to t.before doc.cols.items) i t.stage.names) h.place.made n)
+        step (subst (λ i. NamesBy (expects t.ref c (suc (suc t.before))) (list_up_to t.before doc.text.items) (list_up_to t.before doc.rows.items)
+        (list_up_to t.before doc.cols.items) i t.stage.names) h.place.made n)
       where
-        step : NamesBy (expects t.ref c (suc (suc t.before))) (list_up_to t.before doc.text.items) (list_up_to t.before doc.rows.items) (list_up_to t.before doc.cols.items) (CellWritten h.place.first h.place.second value) t.stage.names → is_held_end held_row t.stage.names.first ≡ true
-        step p = one-held (is_collectable low) held_row (expects t.ref c (suc (suc t.before))) (unexpected low c t above) (list_up_to t.before doc.rows.items) (up_to-held (is_collectable low) held_row t.before (λ e. refl) doc.rows.items rows) h.place.first t.stage.names.first p.0
+        step : NamesBy (expects t.ref c (suc (suc t.before))) (list_up_to t.before doc.text.items) (list_up_to t.before doc.rows.items)
+            (list_up_to t.before doc.cols.items) (CellWritten h.place.first h.place.second value) t.stage.names → is_held_end held_row t.stage.names.first ≡ true
+        step p = one-held (is_collectable low) held_row (expects t.ref c (suc (suc t.before))) (unexpected low c t above) (list_up_to t.before doc.rows.items)
+            (up_to-held (is_collectable low) held_row t.before (λ e. refl) doc.rows.items rows) h.place.first t.stage.names.first p.0
 
   stages-row : (m : ℕ) (ts : List ToldStage) → AreAbove low ts → AreTold m ts → AllStand c doc ts → list_all (has_held_row held_row) (bare_stages ts) ≡ true
   stages-row m [] a told h = refl
@@ -201,17 +215,21 @@ module _ (low c : ℕ) (doc : Document) (held_row : ElementId → Bool) (rows : 
 
 module _ (low c : ℕ) (doc : Document) (held_col : ElementId → Bool) (cols : list_all (keeps_name (is_collectable low) held_col) doc.cols.items ≡ true) where
   module _ (t : ToldStage) (above : low ≤ t.ref) where
-    stage-col : (o : SubOperation) (sent : SentStage) → Tells o sent → NamesBy (expects t.ref c (suc (suc t.before))) (list_up_to t.before doc.text.items) (list_up_to t.before doc.rows.items) (list_up_to t.before doc.cols.items) sent t.stage.names
+    stage-col : (o : SubOperation) (sent : SentStage) → Tells o sent → NamesBy (expects t.ref c (suc (suc t.before))) (list_up_to t.before doc.text.items)
+        (list_up_to t.before doc.rows.items) (list_up_to t.before doc.cols.items) sent t.stage.names
         → elim o [ OnGrid op ↦ elim op [ Set i j value ↦ is_held_end held_col t.stage.names.second | _ ↦ true ] | _ ↦ true ] ≡ true
     stage-col (OnText op) sent h n = refl
     stage-col (OnIntervals op) sent h n = refl
     stage-col (OnGrid (SpliceIn target p count)) sent h n = refl
     stage-col (OnGrid (SpliceOut target p q)) sent h n = refl
     stage-col (OnGrid (Set i j value)) sent h n =
-        step (subst (λ i. NamesBy (expects t.ref c (suc (suc t.before))) (list_up_to t.before doc.text.items) (list_up_to t.before doc.rows.items) (list_up_to t.before doc.cols.items) i t.stage.names) h.place.made n)
+        step (subst (λ i. NamesBy (expects t.ref c (suc (suc t.before))) (list_up_to t.before doc.text.items) (list_up_to t.before doc.rows.items)
+        (list_up_to t.before doc.cols.items) i t.stage.names) h.place.made n)
       where
-        step : NamesBy (expects t.ref c (suc (suc t.before))) (list_up_to t.before doc.text.items) (list_up_to t.before doc.rows.items) (list_up_to t.before doc.cols.items) (CellWritten h.place.first h.place.second value) t.stage.names → is_held_end held_col t.stage.names.second ≡ true
-        step p = one-held (is_collectable low) held_col (expects t.ref c (suc (suc t.before))) (unexpected low c t above) (list_up_to t.before doc.cols.items) (up_to-held (is_collectable low) held_col t.before (λ e. refl) doc.cols.items cols) h.place.second t.stage.names.second p.1
+        step : NamesBy (expects t.ref c (suc (suc t.before))) (list_up_to t.before doc.text.items) (list_up_to t.before doc.rows.items)
+            (list_up_to t.before doc.cols.items) (CellWritten h.place.first h.place.second value) t.stage.names → is_held_end held_col t.stage.names.second ≡ true
+        step p = one-held (is_collectable low) held_col (expects t.ref c (suc (suc t.before))) (unexpected low c t above) (list_up_to t.before doc.cols.items)
+            (up_to-held (is_collectable low) held_col t.before (λ e. refl) doc.cols.items cols) h.place.second t.stage.names.second p.1
 
   stages-col : (m : ℕ) (ts : List ToldStage) → AreAbove low ts → AreTold m ts → AllStand c doc ts → list_all (has_held_col held_col) (bare_stages ts) ≡ true
   stages-col m [] a told h = refl
@@ -224,7 +242,9 @@ abbrev pub stays : ℕ → List ListElement → ElementId → Bool
 stays low xs a = not (has_named (is_collectable low) xs a)
 
 pub gone-named : (low : ℕ) (xs : List ListElement) → list_all (λ e. not (is_collectable low e) || not (stays low xs (id e))) xs ≡ true
-gone-named low xs = all-weaker (λ e. not (is_collectable low e) || has_named (is_collectable low) xs (id e)) (λ e. not (is_collectable low e) || not (stays low xs (id e))) (λ e h. step (is_collectable low e) (has_named (is_collectable low) xs (id e)) h) xs (own-named (is_collectable low) xs)
+gone-named low xs = all-weaker (λ e. not (is_collectable low e) || has_named (is_collectable low) xs (id e))
+    (λ e. not (is_collectable low e) || not (stays low xs (id e))) (λ e h. step (is_collectable low e) (has_named (is_collectable low) xs (id e)) h) xs
+    (own-named (is_collectable low) xs)
   where
     step : (a b : Bool) → not a || b ≡ true → not a || not (not b) ≡ true
     step true true h = refl
@@ -272,13 +292,17 @@ free-tombstones bound c gss x h r =
           (λ j m. before-stages low c n doc (λ d. d.text.items) text_edit (λ t s. s.text) j ts above h.doc.stand m)
           (λ j m. marks-stages low c n doc (λ d. d.text.items) text_edit (λ t s. s.text) j ts above h.doc.stand m) h.doc.text
           (names-free (is_collectable low) (stays low doc.text.items) (holds_text x) doc.text.items
-          (λ a f. or-none (list_any (interval_holds a) doc.intervals) (list_any (stage_holds_text a) (stages_of x)) (ends-other (stays low doc.text.items) a f doc.intervals names.ends) (texts-other (stays low doc.text.items) a f (stages_of x) names.text)) (gone-named low doc.text.items));
+          (λ a f. or-none (list_any (interval_holds a) doc.intervals) (list_any (stage_holds_text a) (stages_of x))
+          (ends-other (stays low doc.text.items) a f doc.intervals names.ends) (texts-other (stays low doc.text.items) a f (stages_of x) names.text))
+          (gone-named low doc.text.items));
       rows = list-free low n (stage_numbers ts) (holds_row x) doc.rows.items
           (λ j m. before-stages low c n doc (λ d. d.rows.items) rows_edit (λ t s. s.rows) j ts above h.doc.stand m)
           (λ j m. marks-stages low c n doc (λ d. d.rows.items) rows_edit (λ t s. s.rows) j ts above h.doc.stand m) h.doc.rows
-          (names-free (is_collectable low) (stays low doc.rows.items) (holds_row x) doc.rows.items (λ a f. rows-other (stays low doc.rows.items) a f (stages_of x) names.rows) (gone-named low doc.rows.items));
+          (names-free (is_collectable low) (stays low doc.rows.items) (holds_row x) doc.rows.items
+          (λ a f. rows-other (stays low doc.rows.items) a f (stages_of x) names.rows) (gone-named low doc.rows.items));
       cols = list-free low n (stage_numbers ts) (holds_col x) doc.cols.items
           (λ j m. before-stages low c n doc (λ d. d.cols.items) cols_edit (λ t s. s.cols) j ts above h.doc.stand m)
           (λ j m. marks-stages low c n doc (λ d. d.cols.items) cols_edit (λ t s. s.cols) j ts above h.doc.stand m) h.doc.cols
-          (names-free (is_collectable low) (stays low doc.cols.items) (holds_col x) doc.cols.items (λ a f. cols-other (stays low doc.cols.items) a f (stages_of x) names.cols) (gone-named low doc.cols.items));
+          (names-free (is_collectable low) (stays low doc.cols.items) (holds_col x) doc.cols.items
+          (λ a f. cols-other (stays low doc.cols.items) a f (stages_of x) names.cols) (gone-named low doc.cols.items));
     }

@@ -50,7 +50,8 @@ pub annotation-marking : (low k : ℕ) (changes : Changes) → Marking low (with
 annotation-marking low k changes = record { name = λ e. refl; ins = λ e. refl; gone = λ e g. g; old = λ e. refl }
 
 module _ {low : ℕ} {held : ElementId → Bool} {kept list : Sequence} (k : ℕ) (h : KeepsList low held kept list) where
-  insertion-kept : (p : ℕ) (props : PropertyList) (bs : List ElementContent) → p ≤ len (seen (k - 1)) list.items → KeepsList low held (after_local_insertion k p props bs kept) (after_local_insertion k p props bs list)
+  insertion-kept : (p : ℕ) (props : PropertyList) (bs : List ElementContent) → p ≤ len (seen (k - 1)) list.items
+      → KeepsList low held (after_local_insertion k p props bs kept) (after_local_insertion k p props bs list)
   insertion-kept p props bs l = record { items = put-kept (seen (k - 1)) (seen-alike low (k - 1) held) (new_elements 0 (Local k) [] None props bs) p l h.items; made = h.made }
 
   mark-kept : (p q : ℕ) (f : ListElement → ListElement) → Marking low f → KeepsList low held (after_local_mark k p q f kept) (after_local_mark k p q f list)
@@ -69,44 +70,57 @@ module _ (gone : ListElement → Bool) (held : ElementId → Bool) (pending : (k
       let e : ListElement = record { nth = i; content = b; ins = Local k; dels = []; removal_stage = None; by = None; props = props; pending = [] } in
       rw (or_right (gone e) (held (PendingId k i)) (pending k i), new-held k (i + 1) props bs) refl
 
-  insertion-names : (k p : ℕ) (props : PropertyList) (bs : List ElementContent) (list : Sequence) → HoldsNames gone held list → HoldsNames gone held (after_local_insertion k p props bs list)
-  insertion-names k p props bs list h = record { all = all-put (keeps_name gone held) (seen (k - 1)) no_run p (new_elements 0 (Local k) [] None props bs) list.items (new-held k 0 props bs) h.all; later = h.later }
+  insertion-names : (k p : ℕ) (props : PropertyList) (bs : List ElementContent) (list : Sequence) → HoldsNames gone held list
+      → HoldsNames gone held (after_local_insertion k p props bs list)
+  insertion-names k p props bs list h = record {
+    all = all-put (keeps_name gone held) (seen (k - 1)) no_run p (new_elements 0 (Local k) [] None props bs)
+        list.items (new-held k 0 props bs) h.all;
+    later = h.later;
+  }
 
 -- ---- one sub-operation
 
 -- both are refused with one fault, or both are taken with the same names
 pub data TakenAlike (low : ℕ) (held : HeldNames) (o : SubOperation) : EditResult → EditResult → Type 0 where
   refused : (fault : EditFault) → TakenAlike low held o (Err fault) (Err fault)
-  taken : (kept doc : Document) (names : NamedElements) → Trimmed low held kept doc → elim o [ OnIntervals op ↦ are_held held.text names | _ ↦ true ] ≡ true → TakenAlike low held o (Ok (kept, names)) (Ok (doc, names))
+  taken : (kept doc : Document) (names : NamedElements) → Trimmed low held kept doc → elim o [ OnIntervals op ↦ are_held held.text names | _ ↦ true ] ≡ true
+      → TakenAlike low held o (Ok (kept, names)) (Ok (doc, names))
 
 at_most : (p n : ℕ) → nat_le p n ≡ true → p ≤ n
 at_most p n h = grind (arith, nat_tests)
 
 module _ (low : ℕ) (held : HeldNames) (pending : HoldsPending held) where
-  text-taken : (op : BaseOp) (p m n : ℕ) (kept doc : Document) → m ≡ n → (p ≤ n → Trimmed low held kept doc) → TakenAlike low held (OnText op) (if_in_range p m kept) (if_in_range p n doc)
+  text-taken : (op : BaseOp) (p m n : ℕ) (kept doc : Document) → m ≡ n → (p ≤ n → Trimmed low held kept doc)
+      → TakenAlike low held (OnText op) (if_in_range p m kept) (if_in_range p n doc)
   text-taken op p m n kept doc e f = subst (λ i. TakenAlike low held (OnText op) (if_in_range p i kept) (if_in_range p n doc)) (sym e) (step (nat_le p n) refl)
     where
-      step : (b : Bool) → nat_le p n ≡ b → TakenAlike low held (OnText op) (cond b (Ok (kept, no_elements)) (Err (OutOfRange n))) (cond b (Ok (doc, no_elements)) (Err (OutOfRange n)))
+      step : (b : Bool) → nat_le p n ≡ b → TakenAlike low held (OnText op) (cond b (Ok (kept, no_elements)) (Err (OutOfRange n)))
+          (cond b (Ok (doc, no_elements)) (Err (OutOfRange n)))
       step true g = taken kept doc no_elements (f (at_most p n g)) refl
       step false g = refused (OutOfRange n)
 
-  grid-taken : (op : CellOp) (p m n : ℕ) (kept doc : Document) → m ≡ n → (p ≤ n → Trimmed low held kept doc) → TakenAlike low held (OnGrid op) (if_in_range p m kept) (if_in_range p n doc)
+  grid-taken : (op : CellOp) (p m n : ℕ) (kept doc : Document) → m ≡ n → (p ≤ n → Trimmed low held kept doc)
+      → TakenAlike low held (OnGrid op) (if_in_range p m kept) (if_in_range p n doc)
   grid-taken op p m n kept doc e f = subst (λ i. TakenAlike low held (OnGrid op) (if_in_range p i kept) (if_in_range p n doc)) (sym e) (step (nat_le p n) refl)
     where
-      step : (b : Bool) → nat_le p n ≡ b → TakenAlike low held (OnGrid op) (cond b (Ok (kept, no_elements)) (Err (OutOfRange n))) (cond b (Ok (doc, no_elements)) (Err (OutOfRange n)))
+      step : (b : Bool) → nat_le p n ≡ b → TakenAlike low held (OnGrid op) (cond b (Ok (kept, no_elements)) (Err (OutOfRange n)))
+          (cond b (Ok (doc, no_elements)) (Err (OutOfRange n)))
       step true g = taken kept doc no_elements (f (at_most p n g)) refl
       step false g = refused (OutOfRange n)
 
   local_text-alike : (kept doc : Document) (k : ℕ) (op : BaseOp) → Trimmed low held kept doc → TakenAlike low held (OnText op) (local_text kept k op) (local_text doc k op)
   local_text-alike kept doc k (Insert p seg props) t =
       text-taken (Insert p seg props) p _ _ _ _ (len-list k t.text)
-      (λ l. text-step t _ _ (insertion-kept k t.text p (apply [] props) (segment_contents seg) l) (insertion-names (is_collectable low) held.text pending.text k p (apply [] props) (segment_contents seg) doc.text t.text_names))
+      (λ l. text-step t _ _ (insertion-kept k t.text p (apply [] props) (segment_contents seg) l)
+      (insertion-names (is_collectable low) held.text pending.text k p (apply [] props) (segment_contents seg) doc.text t.text_names))
   local_text-alike kept doc k (Remove p q) t =
       text-taken (Remove p q) q _ _ _ _ (len-list k t.text)
-      (λ l. text-step t _ _ (mark-kept k t.text p q (with_pending_removal k) (removal-marking low k)) (range-names (is_collectable low) held.text (seen (k - 1)) (with_pending_removal k) (λ e. refl) (λ e g. g) p q doc.text t.text_names))
+      (λ l. text-step t _ _ (mark-kept k t.text p q (with_pending_removal k) (removal-marking low k))
+      (range-names (is_collectable low) held.text (seen (k - 1)) (with_pending_removal k) (λ e. refl) (λ e g. g) p q doc.text t.text_names))
   local_text-alike kept doc k (Annotate p q changes) t =
       text-taken (Annotate p q changes) q _ _ _ _ (len-list k t.text)
-      (λ l. text-step t _ _ (mark-kept k t.text p q (with_pending_annotation k changes) (annotation-marking low k changes)) (range-names (is_collectable low) held.text (seen (k - 1)) (with_pending_annotation k changes) (λ e. refl) (λ e g. g) p q doc.text t.text_names))
+      (λ l. text-step t _ _ (mark-kept k t.text p q (with_pending_annotation k changes) (annotation-marking low k changes))
+      (range-names (is_collectable low) held.text (seen (k - 1)) (with_pending_annotation k changes) (λ e. refl) (λ e g. g) p q doc.text t.text_names))
 
   -- ---- intervals
 
@@ -114,7 +128,8 @@ module _ (low : ℕ) (held : HeldNames) (pending : HoldsPending held) where
   end-kept k (pos p) h = at-kept (seen (k - 1)) (seen-alike low (k - 1) held.text) p h
   end-kept k (negsuc p) h = refl
 
-  given-kept : {ks xs : List ListElement} (k : ℕ) (ends : Option Ends) → Keeps low held.text ks xs → elements_at_given_ends (seen (k - 1)) ks ends ≡ elements_at_given_ends (seen (k - 1)) xs ends
+  given-kept : {ks xs : List ListElement} (k : ℕ) (ends : Option Ends) → Keeps low held.text ks xs → elements_at_given_ends (seen (k - 1)) ks ends
+      ≡ elements_at_given_ends (seen (k - 1)) xs ends
   given-kept k None h = refl
   given-kept k (Some ends) h = rw (end-kept k ends.start h, end-kept k ends.end h) refl
 
@@ -125,13 +140,19 @@ module _ (low : ℕ) (held : HeldNames) (pending : HoldsPending held) where
       let n = len (seen (k - 1)) doc.text.items in
       let shown : shown_intervals kept.text.items kept.intervals stages ≡ shown_intervals doc.text.items doc.intervals stages =
       ap (λ is. shown_intervals kept.text.items is stages) (same-intervals t) ∙ shown-kept t.text.items t.text_names.all stages doc.intervals t.ends names in
-      subst (λ is. TakenAlike low held (OnIntervals op) (unless_fault (id_fault is op) (cond (given_ends_fit m (ends_of op)) (Ok (kept, elements_at_given_ends (seen (k - 1)) kept.text.items (ends_of op))) (Err (OutOfRange m)))) (local_interval doc stages k op)) (sym shown)
-      (subst (λ at. TakenAlike low held (OnIntervals op) (unless_fault (id_fault (shown_intervals doc.text.items doc.intervals stages) op) (cond (given_ends_fit m (ends_of op)) (Ok (kept, at)) (Err (OutOfRange m)))) (local_interval doc stages k op)) (sym (given-kept k (ends_of op) t.text.items))
-      (subst (λ i. TakenAlike low held (OnIntervals op) (unless_fault (id_fault (shown_intervals doc.text.items doc.intervals stages) op) (cond (given_ends_fit i (ends_of op)) (Ok (kept, elements_at_given_ends (seen (k - 1)) doc.text.items (ends_of op))) (Err (OutOfRange i)))) (local_interval doc stages k op)) (sym (len-list k t.text))
+      subst (λ is. TakenAlike low held (OnIntervals op) (unless_fault (id_fault is op)
+      (cond (given_ends_fit m (ends_of op)) (Ok (kept, elements_at_given_ends (seen (k - 1)) kept.text.items (ends_of op))) (Err (OutOfRange m))))
+      (local_interval doc stages k op)) (sym shown)
+      (subst (λ at. TakenAlike low held (OnIntervals op) (unless_fault (id_fault (shown_intervals doc.text.items doc.intervals stages) op)
+      (cond (given_ends_fit m (ends_of op)) (Ok (kept, at)) (Err (OutOfRange m)))) (local_interval doc stages k op)) (sym (given-kept k (ends_of op) t.text.items))
+      (subst (λ i. TakenAlike low held (OnIntervals op) (unless_fault (id_fault (shown_intervals doc.text.items doc.intervals stages) op)
+      (cond (given_ends_fit i (ends_of op)) (Ok (kept, elements_at_given_ends (seen (k - 1)) doc.text.items (ends_of op))) (Err (OutOfRange i))))
+      (local_interval doc stages k op)) (sym (len-list k t.text))
       (step (id_fault (shown_intervals doc.text.items doc.intervals stages) op) (given_ends_fit n (ends_of op)))))
     where
       step : (fault : Option EditFault) (b : Bool)
-          → TakenAlike low held (OnIntervals op) (unless_fault fault (cond b (Ok (kept, elements_at_given_ends (seen (k - 1)) doc.text.items (ends_of op))) (Err (OutOfRange (len (seen (k - 1)) doc.text.items)))))
+          → TakenAlike low held (OnIntervals op) (unless_fault fault (cond b (Ok (kept, elements_at_given_ends (seen (k - 1)) doc.text.items (ends_of op)))
+          (Err (OutOfRange (len (seen (k - 1)) doc.text.items)))))
           (unless_fault fault (cond b (Ok (doc, elements_at_given_ends (seen (k - 1)) doc.text.items (ends_of op))) (Err (OutOfRange (len (seen (k - 1)) doc.text.items)))))
       step (Some fault) b = refused fault
       step None true = taken kept doc (elements_at_given_ends (seen (k - 1)) doc.text.items (ends_of op)) t
@@ -140,17 +161,21 @@ module _ (low : ℕ) (held : HeldNames) (pending : HoldsPending held) where
 
   -- ---- the grid
 
-  local_set-alike : (kept doc : Document) (k i j : ℕ) (value : ValueBytes) (a b x y : Option ListElement) → len (seen (k - 1)) kept.rows.items ≡ len (seen (k - 1)) doc.rows.items → len (seen (k - 1)) kept.cols.items ≡ len (seen (k - 1)) doc.cols.items
-      → option_map id a ≡ option_map id x → option_map id b ≡ option_map id y → Trimmed low held kept doc → TakenAlike low held (OnGrid (Set i j value)) (local_set kept k a b) (local_set doc k x y)
+  local_set-alike : (kept doc : Document) (k i j : ℕ) (value : ValueBytes) (a b x y : Option ListElement) → len (seen (k - 1)) kept.rows.items
+      ≡ len (seen (k - 1)) doc.rows.items → len (seen (k - 1)) kept.cols.items ≡ len (seen (k - 1)) doc.cols.items
+      → option_map id a ≡ option_map id x → option_map id b ≡ option_map id y → Trimmed low held kept doc
+      → TakenAlike low held (OnGrid (Set i j value)) (local_set kept k a b) (local_set doc k x y)
   local_set-alike kept doc k i j value (Some a) (Some b) (Some x) (Some y) m n p q t =
       let e : id a ≡ id x = cc in
       let f : id b ≡ id y = cc in
       subst (λ u. TakenAlike low held (OnGrid (Set i j value)) (Ok (kept, record { first = Some u; second = Some (id b) })) (local_set doc k (Some x) (Some y))) (sym e)
       (subst (λ u. TakenAlike low held (OnGrid (Set i j value)) (Ok (kept, record { first = Some (id x); second = Some u })) (local_set doc k (Some x) (Some y))) (sym f)
       (taken kept doc (record { first = Some (id x); second = Some (id y) }) t refl))
-  local_set-alike kept doc k i j value None b None y m n p q t = subst (λ u. TakenAlike low held (OnGrid (Set i j value)) (Err (OutOfRange u)) (local_set doc k None y)) (sym m) (refused (OutOfRange (len (seen (k - 1)) doc.rows.items)))
+  local_set-alike kept doc k i j value None b None y m n p q t = subst (λ u. TakenAlike low held (OnGrid (Set i j value)) (Err (OutOfRange u))
+      (local_set doc k None y)) (sym m) (refused (OutOfRange (len (seen (k - 1)) doc.rows.items)))
   local_set-alike kept doc k i j value (Some a) None (Some x) None m n p q t =
-      subst (λ u. TakenAlike low held (OnGrid (Set i j value)) (Err (OutOfRange u)) (local_set doc k (Some x) None)) (sym n) (refused (OutOfRange (len (seen (k - 1)) doc.cols.items)))
+      subst (λ u. TakenAlike low held (OnGrid (Set i j value)) (Err (OutOfRange u)) (local_set doc k (Some x) None)) (sym n)
+      (refused (OutOfRange (len (seen (k - 1)) doc.cols.items)))
   local_set-alike kept doc k i j value None b (Some x) y m n p q t = absurd cc
   local_set-alike kept doc k i j value (Some a) b None y m n p q t = absurd cc
   local_set-alike kept doc k i j value (Some a) None (Some x) (Some y) m n p q t = absurd cc
@@ -159,18 +184,23 @@ module _ (low : ℕ) (held : HeldNames) (pending : HoldsPending held) where
   local_grid-alike : (kept doc : Document) (k : ℕ) (op : CellOp) → Trimmed low held kept doc → TakenAlike low held (OnGrid op) (local_grid kept k op) (local_grid doc k op)
   local_grid-alike kept doc k (SpliceIn Rows p count) t =
       grid-taken (SpliceIn Rows p count) p _ _ _ _ (len-list k t.rows)
-      (λ l. rows-step t _ _ (insertion-kept k t.rows p [] (replicate count GridUnit) l) (insertion-names is_removed held.rows pending.rows k p [] (replicate count GridUnit) doc.rows t.row_names))
+      (λ l. rows-step t _ _ (insertion-kept k t.rows p [] (replicate count GridUnit) l)
+      (insertion-names is_removed held.rows pending.rows k p [] (replicate count GridUnit) doc.rows t.row_names))
   local_grid-alike kept doc k (SpliceIn Cols p count) t =
       grid-taken (SpliceIn Cols p count) p _ _ _ _ (len-list k t.cols)
-      (λ l. cols-step t _ _ (insertion-kept k t.cols p [] (replicate count GridUnit) l) (insertion-names is_removed held.cols pending.cols k p [] (replicate count GridUnit) doc.cols t.col_names))
+      (λ l. cols-step t _ _ (insertion-kept k t.cols p [] (replicate count GridUnit) l)
+      (insertion-names is_removed held.cols pending.cols k p [] (replicate count GridUnit) doc.cols t.col_names))
   local_grid-alike kept doc k (SpliceOut Rows p q) t =
       grid-taken (SpliceOut Rows p q) q _ _ _ _ (len-list k t.rows)
-      (λ l. rows-step t _ _ (mark-kept k t.rows p q (with_pending_removal k) (removal-marking low k)) (range-names is_removed held.rows (seen (k - 1)) (with_pending_removal k) (λ e. refl) (λ e g. g) p q doc.rows t.row_names))
+      (λ l. rows-step t _ _ (mark-kept k t.rows p q (with_pending_removal k) (removal-marking low k))
+      (range-names is_removed held.rows (seen (k - 1)) (with_pending_removal k) (λ e. refl) (λ e g. g) p q doc.rows t.row_names))
   local_grid-alike kept doc k (SpliceOut Cols p q) t =
       grid-taken (SpliceOut Cols p q) q _ _ _ _ (len-list k t.cols)
-      (λ l. cols-step t _ _ (mark-kept k t.cols p q (with_pending_removal k) (removal-marking low k)) (range-names is_removed held.cols (seen (k - 1)) (with_pending_removal k) (λ e. refl) (λ e g. g) p q doc.cols t.col_names))
+      (λ l. cols-step t _ _ (mark-kept k t.cols p q (with_pending_removal k) (removal-marking low k))
+      (range-names is_removed held.cols (seen (k - 1)) (with_pending_removal k) (λ e. refl) (λ e g. g) p q doc.cols t.col_names))
   local_grid-alike kept doc k (Set i j value) t =
-      local_set-alike kept doc k i j value (at (seen (k - 1)) i kept.rows.items) (at (seen (k - 1)) j kept.cols.items) (at (seen (k - 1)) i doc.rows.items) (at (seen (k - 1)) j doc.cols.items)
+      local_set-alike kept doc k i j value (at (seen (k - 1)) i kept.rows.items) (at (seen (k - 1)) j kept.cols.items) (at (seen (k - 1)) i doc.rows.items)
+      (at (seen (k - 1)) j doc.cols.items)
       (len-list k t.rows) (len-list k t.cols) (at-list k t.rows i) (at-list k t.cols j) t
 
   sub_operation-alike : (kept doc : Document) (stages : List Stage) (k : ℕ) (o : SubOperation) → Trimmed low held kept doc → list_all (has_held_text held.text) stages ≡ true
@@ -184,15 +214,18 @@ module _ (low : ℕ) (held : HeldNames) (pending : HoldsPending held) where
 -- both are refused with one fault, or both are taken with the same stages
 pub data EditAlike (low : ℕ) (held : HeldNames) : Result (Document × List Stage) EditFault → Result (Document × List Stage) EditFault → Type 0 where
   edit_refused : (fault : EditFault) → EditAlike low held (Err fault) (Err fault)
-  edit_taken : (kept doc : Document) (stages : List Stage) → Trimmed low held kept doc → list_all (has_held_text held.text) stages ≡ true → EditAlike low held (Ok (kept, stages)) (Ok (doc, stages))
+  edit_taken : (kept doc : Document) (stages : List Stage) → Trimmed low held kept doc → list_all (has_held_text held.text) stages ≡ true
+      → EditAlike low held (Ok (kept, stages)) (Ok (doc, stages))
 
 module _ (low : ℕ) (held : HeldNames) (pending : HoldsPending held) where
-  with_first-alike : (here : Stage) {r s : Result (Document × List Stage) EditFault} → has_held_text held.text here ≡ true → EditAlike low held r s → EditAlike low held (with_first here r) (with_first here s)
+  with_first-alike : (here : Stage) {r s : Result (Document × List Stage) EditFault} → has_held_text held.text here ≡ true → EditAlike low held r s
+      → EditAlike low held (with_first here r) (with_first here s)
   with_first-alike here h (edit_refused fault) = edit_refused fault
   with_first-alike here h (edit_taken kept doc stages t g) = edit_taken kept doc (here ∷ stages) t (rw (h, g) refl)
 
   after_first-alike : (stages : List Stage) (k : ℕ) (o : SubOperation) (os : List SubOperation) {r s : EditResult}
-      → ((kept doc : Document) (more : List Stage) → Trimmed low held kept doc → list_all (has_held_text held.text) more ≡ true → EditAlike low held (local_sub_operations kept more (k + 1) os) (local_sub_operations doc more (k + 1) os))
+      → ((kept doc : Document) (more : List Stage) → Trimmed low held kept doc → list_all (has_held_text held.text) more ≡ true
+      → EditAlike low held (local_sub_operations kept more (k + 1) os) (local_sub_operations doc more (k + 1) os))
       → list_all (has_held_text held.text) stages ≡ true → TakenAlike low held o r s → EditAlike low held (after_first stages k o os r) (after_first stages k o os s)
   after_first-alike stages k o os ih h (refused fault) = edit_refused fault
   after_first-alike stages k o os ih h (taken kept doc names t g) =
@@ -200,7 +233,8 @@ module _ (low : ℕ) (held : HeldNames) (pending : HoldsPending held) where
       let last : list_all (has_held_text held.text) (record { stage = k; sub_operation = o; names = names } ∷ []) ≡ true = rw g refl in
       with_first-alike here g (ih kept doc (stages ++ (here ∷ [])) t (all-append (has_held_text held.text) stages (here ∷ []) h last))
 
-  pub sub_operations-alike : (os : List SubOperation) (kept doc : Document) (stages : List Stage) (k : ℕ) → Trimmed low held kept doc → list_all (has_held_text held.text) stages ≡ true
+  pub sub_operations-alike : (os : List SubOperation) (kept doc : Document) (stages : List Stage) (k : ℕ) → Trimmed low held kept doc
+      → list_all (has_held_text held.text) stages ≡ true
       → EditAlike low held (local_sub_operations kept stages k os) (local_sub_operations doc stages k os)
   sub_operations-alike [] kept doc stages k t h = edit_taken kept doc [] t refl
   sub_operations-alike (o ∷ os) kept doc stages k t h =

@@ -88,8 +88,10 @@ module _ {low : ℕ} {held : ElementId → Bool} where
 module _ {low : ℕ} {held : ElementId → Bool} {ks xs : List ListElement} (h : Keeps low held ks xs) where
   text_pieces-kept : (k : ℕ) (op : BaseOp) → text_pieces k ks op ≡ text_pieces k xs op
   text_pieces-kept k (Insert p seg props) = ap (λ i. unless_empty (segment_contents seg) (OnText (Insert i seg props))) (position-kept k h)
-  text_pieces-kept k (Remove p q) = ap (λ rs. map (λ r. OnText (Remove r.0 r.1)) (lowered_runs 0 rs)) (runs-kept (seen (k - 1)) (is_removed_by k) (seen-alike low (k - 1) held) (λ e f. refl) 0 h)
-  text_pieces-kept k (Annotate p q changes) = ap (map (λ r. OnText (Annotate r.0 r.1 changes))) (runs-kept (seen (k - 1)) (is_annotated_by k) (seen-alike low (k - 1) held) (λ e f. refl) 0 h)
+  text_pieces-kept k (Remove p q) = ap (λ rs. map (λ r. OnText (Remove r.0 r.1)) (lowered_runs 0 rs))
+      (runs-kept (seen (k - 1)) (is_removed_by k) (seen-alike low (k - 1) held) (λ e f. refl) 0 h)
+  text_pieces-kept k (Annotate p q changes) = ap (map (λ r. OnText (Annotate r.0 r.1 changes)))
+      (runs-kept (seen (k - 1)) (is_annotated_by k) (seen-alike low (k - 1) held) (λ e f. refl) 0 h)
 
   ends_in-kept : (k : ℕ) (names : NamedElements) → are_held held names ≡ true → ends_in k ks names ≡ ends_in k xs names
   ends_in-kept k names g =
@@ -107,7 +109,8 @@ module _ {low : ℕ} {held : ElementId → Bool} {ks xs : List ListElement} (h :
   splice_in-kept : (k count : ℕ) (make : ℕ → SubOperation) → cond (nat_eq count 0) [] (make (stage_position k ks) ∷ []) ≡ cond (nat_eq count 0) [] (make (stage_position k xs) ∷ [])
   splice_in-kept k count make = ap (λ i. cond (nat_eq count 0) [] (make i ∷ [])) (position-kept k h)
 
-  splice_out-kept : (k : ℕ) (make : ℕ × ℕ → SubOperation) → map make (lowered_runs 0 (marked_runs k (is_removed_by k) ks)) ≡ map make (lowered_runs 0 (marked_runs k (is_removed_by k) xs))
+  splice_out-kept : (k : ℕ) (make : ℕ × ℕ → SubOperation) → map make (lowered_runs 0 (marked_runs k (is_removed_by k) ks))
+      ≡ map make (lowered_runs 0 (marked_runs k (is_removed_by k) xs))
   splice_out-kept k make = ap (λ rs. map make (lowered_runs 0 rs)) (runs-kept (seen (k - 1)) (is_removed_by k) (seen-alike low (k - 1) held) (λ e f. refl) 0 h)
 
   named-alike : (k : ℕ) (x : ElementId) → Alike low held (λ e. has_id x e && seen k e)
@@ -144,7 +147,8 @@ module _ (gone : ListElement → Bool) (held : ElementId → Bool) (k : ℕ) (un
       let p = both (keeps_name gone held e) (list_all (keeps_name gone held) xs) h in
       step (has_id x e) (seen k e) refl refl g (λ f. seen-held (Some x) xs p.1 f) p.0
     where
-      step : (a b : Bool) → has_id x e ≡ a → seen k e ≡ b → (a && b) || list_any (λ d. has_id x d && seen k d) xs ≡ true → (list_any (λ d. has_id x d && seen k d) xs ≡ true → held x ≡ true) → keeps_name gone held e ≡ true → held x ≡ true
+      step : (a b : Bool) → has_id x e ≡ a → seen k e ≡ b → (a && b) || list_any (λ d. has_id x d && seen k d) xs ≡ true
+          → (list_any (λ d. has_id x d && seen k d) xs ≡ true → held x ≡ true) → keeps_name gone held e ≡ true → held x ≡ true
       step true true f t q ih n = ap held (same_id-eq x (id e) f) ∙ found-held gone held (seen k) unseen e n t
       step true false f t q ih n = ih q
       step false b f t q ih n = ih q
@@ -152,8 +156,12 @@ module _ (gone : ListElement → Bool) (held : ElementId → Bool) (k : ℕ) (un
 module _ {low : ℕ} {held : HeldNames} (kept doc : Document) (t : Trimmed low held kept doc) where
   set-kept : (k i j : ℕ) (names : NamedElements) (value : ValueBytes) → grid_pieces k kept names (Set i j value) ≡ grid_pieces k doc names (Set i j value)
   set-kept k i j names value =
-      ap (λ b. cond (b && is_named_and_seen k kept.cols.items names.second) (OnGrid (Set (position_of_named (k - 1) kept.rows.items names.first) (position_of_named (k - 1) kept.cols.items names.second) value) ∷ []) []) (seen-kept t.rows.items k names.first)
-      ∙ ap (λ b. cond (is_named_and_seen k doc.rows.items names.first && b) (OnGrid (Set (position_of_named (k - 1) kept.rows.items names.first) (position_of_named (k - 1) kept.cols.items names.second) value) ∷ []) []) (seen-kept t.cols.items k names.second)
+      ap (λ b. cond (b && is_named_and_seen k kept.cols.items names.second) (OnGrid
+      (Set (position_of_named (k - 1) kept.rows.items names.first) (position_of_named (k - 1) kept.cols.items names.second) value) ∷ []) [])
+      (seen-kept t.rows.items k names.first)
+      ∙ ap (λ b. cond (is_named_and_seen k doc.rows.items names.first && b) (OnGrid
+      (Set (position_of_named (k - 1) kept.rows.items names.first) (position_of_named (k - 1) kept.cols.items names.second) value) ∷ []) [])
+      (seen-kept t.cols.items k names.second)
       ∙ step (is_named_and_seen k doc.rows.items names.first) (is_named_and_seen k doc.cols.items names.second) refl refl
     where
       step : (a b : Bool) → is_named_and_seen k doc.rows.items names.first ≡ a → is_named_and_seen k doc.cols.items names.second ≡ b
@@ -180,17 +188,20 @@ module _ {low : ℕ} {held : HeldNames} (kept doc : Document) (t : Trimmed low h
   pieces-kept : (s : Stage) → has_held_text held.text s ≡ true → pieces kept s ≡ pieces doc s
   pieces-kept s h = step s.sub_operation h
     where
-      step : (o : SubOperation) → elim o [ OnIntervals op ↦ are_held held.text s.names | _ ↦ true ] ≡ true → pieces kept (record s { sub_operation = o }) ≡ pieces doc (record s { sub_operation = o })
+      step : (o : SubOperation) → elim o [ OnIntervals op ↦ are_held held.text s.names | _ ↦ true ] ≡ true → pieces kept (record s { sub_operation = o })
+          ≡ pieces doc (record s { sub_operation = o })
       step (OnText op) g = text_pieces-kept t.text.items s.stage op
       step (OnIntervals op) g =
           ap (λ names. OnIntervals (interval_piece s.stage kept.text.items names op) ∷ []) (settled-kept s.stage s.names g)
-          ∙ ap (λ p. OnIntervals p ∷ []) (interval_piece-kept t.text.items s.stage (settle_elements doc.text.items s.stage s.names) op (elements-held t.text.items t.text_names.all s.stage s.names))
+          ∙ ap (λ p. OnIntervals p ∷ []) (interval_piece-kept t.text.items s.stage (settle_elements doc.text.items s.stage s.names) op
+          (elements-held t.text.items t.text_names.all s.stage s.names))
       step (OnGrid op) g = grid_pieces-kept s.stage s.names op
 
   carried-kept : (s : Stage) → has_held_text held.text s ≡ true → carried_stage kept s ≡ carried_stage doc s
   carried-kept s h = step s.sub_operation h
     where
-      step : (o : SubOperation) → elim o [ OnIntervals op ↦ are_held held.text s.names | _ ↦ true ] ≡ true → carried_stage kept (record s { sub_operation = o }) ≡ carried_stage doc (record s { sub_operation = o })
+      step : (o : SubOperation) → elim o [ OnIntervals op ↦ are_held held.text s.names | _ ↦ true ] ≡ true
+          → carried_stage kept (record s { sub_operation = o }) ≡ carried_stage doc (record s { sub_operation = o })
       step (OnText op) g = ap (goes_on (record s { sub_operation = OnText op })) (text_pieces-kept t.text.items s.stage op)
       step (OnIntervals op) g = ap (λ (names : NamedElements). record s { sub_operation = OnIntervals op; names = names } ∷ []) (settled-kept s.stage s.names g)
       step (OnGrid op) g = ap (goes_on (record s { sub_operation = OnGrid op })) (grid_pieces-kept s.stage s.names op)
@@ -206,18 +217,22 @@ module _ {low : ℕ} {held : HeldNames} (kept doc : Document) (t : Trimmed low h
   all-carried (s ∷ ss) h = let p = both (has_held_text held.text s) (list_all (has_held_text held.text) ss) h in rw (carried-kept s p.0, all-carried ss p.1) refl
 
   -- the pending edits are sent again alike
-  pub resubmitted-kept : (conn n : ℕ) (edits : List PendingEdit) → kept.number ≡ doc.number → list_all (has_held_text held.text) (flat_map (λ e. e.stages) edits) ≡ true → resubmitted_edits kept conn n edits ≡ resubmitted_edits doc conn n edits
+  pub resubmitted-kept : (conn n : ℕ) (edits : List PendingEdit) → kept.number ≡ doc.number
+      → list_all (has_held_text held.text) (flat_map (λ e. e.stages) edits) ≡ true → resubmitted_edits kept conn n edits ≡ resubmitted_edits doc conn n edits
   resubmitted-kept conn n [] e h = refl
   resubmitted-kept conn n (edit ∷ edits) e h =
-      let p = both (list_all (has_held_text held.text) edit.stages) (list_all (has_held_text held.text) (flat_map (λ d. d.stages) edits)) (sym (list_all-append (has_held_text held.text) edit.stages (flat_map (λ d. d.stages) edits)) ∙ h) in
+      let p = both (list_all (has_held_text held.text) edit.stages) (list_all (has_held_text held.text) (flat_map (λ d. d.stages) edits))
+      (sym (list_all-append (has_held_text held.text) edit.stages (flat_map (λ d. d.stages) edits)) ∙ h) in
       ap (edits_from kept conn n edit edits) (ap op_of (all-pieces edit.stages p.0))
       ∙ step (regenerated_edit doc edit) p.0 (resubmitted-kept conn n edits e p.1) (resubmitted-kept conn (n + 1) edits e p.1)
     where
-      step : (o : Option ChannelOp) → list_all (has_held_text held.text) edit.stages ≡ true → resubmitted_edits kept conn n edits ≡ resubmitted_edits doc conn n edits → resubmitted_edits kept conn (n + 1) edits ≡ resubmitted_edits doc conn (n + 1) edits
+      step : (o : Option ChannelOp) → list_all (has_held_text held.text) edit.stages ≡ true → resubmitted_edits kept conn n edits
+          ≡ resubmitted_edits doc conn n edits → resubmitted_edits kept conn (n + 1) edits ≡ resubmitted_edits doc conn (n + 1) edits
           → edits_from kept conn n edit edits o ≡ edits_from doc conn n edit edits o
       step None g now more = now
       step (Some op) g now more =
-          ap (λ (d : PendingEdit). d ∷ resubmitted_edits kept conn (n + 1) edits) (ap (λ ss. sent_again ss kept.number conn n op) (all-carried edit.stages g) ∙ ap (λ r. sent_again (flat_map (carried_stage doc) edit.stages) r conn n op) e)
+          ap (λ (d : PendingEdit). d ∷ resubmitted_edits kept conn (n + 1) edits)
+          (ap (λ ss. sent_again ss kept.number conn n op) (all-carried edit.stages g) ∙ ap (λ r. sent_again (flat_map (carried_stage doc) edit.stages) r conn n op) e)
           ∙ ap (λ ds. resubmitted_edit doc conn n edit op ∷ ds) more
 
 -- ---- lists
@@ -229,7 +244,8 @@ carried-renaming low = record { gone = λ e g. gone (list_any is_acked e.dels) e
     gone true e g = g
     gone false e g = g
 
-    old : (b : Bool) (e : ListElement) → cond b (without_pending (with_universal_insertion e)) (with_universal_insertion e) ≡ with_universal_insertion (cond b (without_pending e) e)
+    old : (b : Bool) (e : ListElement) → cond b (without_pending (with_universal_insertion e)) (with_universal_insertion e)
+        ≡ with_universal_insertion (cond b (without_pending e) e)
     old true e = refl
     old false e = refl
 
@@ -256,5 +272,6 @@ module _ {low : ℕ} {held : ElementId → Bool} {ks xs : List ListElement} (h :
   stages-rebuilt (k ∷ stages) l = stages-rebuilt stages (stage-rebuilt k l)
 
   -- the rebuilt list leaves out no more
-  pub list-rebuilt : (stages : List ℕ) → Leaves low (put_stages ks (retain_map is_sequenced carried_element ks) stages) (put_stages xs (retain_map is_sequenced carried_element xs) stages)
+  pub list-rebuilt : (stages : List ℕ) → Leaves low (put_stages ks (retain_map is_sequenced carried_element ks) stages)
+      (put_stages xs (retain_map is_sequenced carried_element xs) stages)
   list-rebuilt stages = stages-rebuilt stages (leaves-retained is_sequenced carried_element (carried-renaming low) (sequenced-universal low) (leaves-same h))

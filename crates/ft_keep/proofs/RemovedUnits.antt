@@ -49,7 +49,8 @@ any-put is seen past (suc p) new (x ∷ xs) h = inside (is x) (list_any is xs) (
     inside true c f g = refl
     inside false c f g = f g
 
-any-range : {A : Type 0} (is seen : A → Bool) (f : A → A) → ((x : A) → is x ≡ true → is (f x) ≡ true) → (i p q : ℕ) (xs : List A) → list_any is xs ≡ true → list_any is (change_range_from i seen p q f xs) ≡ true
+any-range : {A : Type 0} (is seen : A → Bool) (f : A → A) → ((x : A) → is x ≡ true → is (f x) ≡ true) → (i p q : ℕ) (xs : List A) → list_any is xs ≡ true
+    → list_any is (change_range_from i seen p q f xs) ≡ true
 any-range is seen f more i p q [] h = (cc)
 any-range is seen f more i p q (x ∷ xs) h = inside (is x) (list_any is xs) (here (seen x && within p q i)) (any-range is seen f more (one_more_if (seen x) i) p q xs) h
   where
@@ -82,9 +83,12 @@ removal-named : (s c : ℕ) (a : ElementId) (e : ListElement) → has_id a e && 
 removal-named s c a e h = let p = both (has_id a e) (is_removed e) h in rw (p.0, removed-more s c e p.1) refl
 
 text-removed : (doc : Document) (s c r : ℕ) (op : BaseOp) → StayRemoved doc (text_effect doc s c r op)
-text-removed doc s c r (Insert p seg props) = chosen (nat_le p (len (seen_by r c) doc.text.items)) doc _ _ (record { rows = λ a h. h; cols = λ a h. h }) (record { rows = λ a h. h; cols = λ a h. h })
-text-removed doc s c r (Remove p q) = chosen (nat_le q (len (seen_by r c) doc.text.items)) doc _ _ (record { rows = λ a h. h; cols = λ a h. h }) (record { rows = λ a h. h; cols = λ a h. h })
-text-removed doc s c r (Annotate p q changes) = chosen (nat_le q (len (seen_by r c) doc.text.items)) doc _ _ (record { rows = λ a h. h; cols = λ a h. h }) (record { rows = λ a h. h; cols = λ a h. h })
+text-removed doc s c r (Insert p seg props) = chosen (nat_le p (len (seen_by r c) doc.text.items)) doc _ _ (record { rows = λ a h. h; cols = λ a h. h })
+    (record { rows = λ a h. h; cols = λ a h. h })
+text-removed doc s c r (Remove p q) = chosen (nat_le q (len (seen_by r c) doc.text.items)) doc _ _ (record { rows = λ a h. h; cols = λ a h. h })
+    (record { rows = λ a h. h; cols = λ a h. h })
+text-removed doc s c r (Annotate p q changes) = chosen (nat_le q (len (seen_by r c) doc.text.items)) doc _ _ (record { rows = λ a h. h; cols = λ a h. h })
+    (record { rows = λ a h. h; cols = λ a h. h })
 
 cell-removed : (doc : Document) (a b : Option ListElement) (value : ValueBytes) → StayRemoved doc (cell_effect doc a b value)
 cell-removed doc (Some a) (Some b) value = record { rows = λ x h. h; cols = λ x h. h }
@@ -94,11 +98,19 @@ cell-removed doc (Some a) None value = record { rows = λ x h. h; cols = λ x h.
 grid-removed : (doc : Document) (s c r : ℕ) (op : CellOp) → StayRemoved doc (grid_effect doc s c r op)
 grid-removed doc s c r (SpliceIn Rows p count) =
     chosen (nat_le p (len (seen_by r c) doc.rows.items)) doc _ _
-    (record { rows = λ a h. any-put (λ e. has_id a e && is_removed e) (seen_by r c) is_pending p (new_elements doc.rows.made (Acked s c) [] None [] (replicate count GridUnit)) doc.rows.items h; cols = λ a h. h })
+    (record {
+      rows = λ a h. any-put (λ e. has_id a e && is_removed e) (seen_by r c) is_pending p
+          (new_elements doc.rows.made (Acked s c) [] None [] (replicate count GridUnit)) doc.rows.items h;
+      cols = λ a h. h;
+    })
     (record { rows = λ a h. h; cols = λ a h. h })
 grid-removed doc s c r (SpliceIn Cols p count) =
     chosen (nat_le p (len (seen_by r c) doc.cols.items)) doc _ _
-    (record { rows = λ a h. h; cols = λ a h. any-put (λ e. has_id a e && is_removed e) (seen_by r c) is_pending p (new_elements doc.cols.made (Acked s c) [] None [] (replicate count GridUnit)) doc.cols.items h })
+    (record {
+      rows = λ a h. h;
+      cols = λ a h. any-put (λ e. has_id a e && is_removed e) (seen_by r c) is_pending p
+          (new_elements doc.cols.made (Acked s c) [] None [] (replicate count GridUnit)) doc.cols.items h;
+    })
     (record { rows = λ a h. h; cols = λ a h. h })
 grid-removed doc s c r (SpliceOut Rows p q) =
     chosen (nat_le q (len (seen_by r c) doc.rows.items)) doc _ _
@@ -112,12 +124,14 @@ grid-removed doc s c r (Set i j value) = cell-removed doc (at (seen_by r c) i do
 
 effect-removed : (doc : Document) (s c r : ℕ) (o : SubOperation) → StayRemoved doc (effect doc s c r o)
 effect-removed doc s c r (OnText op) = text-removed doc s c r op
-effect-removed doc s c r (OnIntervals op) = chosen (given_ends_fit (len (seen_by r c) doc.text.items) (ends_of op)) doc _ _ (record { rows = λ a h. h; cols = λ a h. h }) (record { rows = λ a h. h; cols = λ a h. h })
+effect-removed doc s c r (OnIntervals op) = chosen (given_ends_fit (len (seen_by r c) doc.text.items) (ends_of op)) doc _ _
+    (record { rows = λ a h. h; cols = λ a h. h }) (record { rows = λ a h. h; cols = λ a h. h })
 effect-removed doc s c r (OnGrid op) = grid-removed doc s c r op
 
 effects-removed : (os : List SubOperation) (doc : Document) (s c r : ℕ) → StayRemoved doc (effects doc s c r os)
 effects-removed [] doc s c r = removed-itself doc
-effects-removed (o ∷ os) doc s c r = removed-then doc (effect doc s c r o) (effects (effect doc s c r o) s c r os) (effect-removed doc s c r o) (effects-removed os (effect doc s c r o) s c r)
+effects-removed (o ∷ os) doc s c r = removed-then doc (effect doc s c r o) (effects (effect doc s c r o) s c r os) (effect-removed doc s c r o)
+    (effects-removed os (effect doc s c r o) s c r)
 
 body-removed : (doc : Document) (s c r : ℕ) (body : Body) → StayRemoved doc (body_effect doc s c r body)
 body-removed doc s c r Nothing = removed-itself doc
@@ -129,7 +143,8 @@ entry-removed doc entry = let b = body-removed doc entry.msg.seq entry.origin (r
 
 pub entries-removed : (entries : List Entry) (doc : Document) → StayRemoved doc (take_entries doc entries)
 entries-removed [] doc = removed-itself doc
-entries-removed (entry ∷ entries) doc = removed-then doc (take_entry doc entry) (take_entries (take_entry doc entry) entries) (entry-removed doc entry) (entries-removed entries (take_entry doc entry))
+entries-removed (entry ∷ entries) doc = removed-then doc (take_entry doc entry) (take_entries (take_entry doc entry) entries) (entry-removed doc entry)
+    (entries-removed entries (take_entry doc entry))
 
 -- ---- with what is pending
 
@@ -146,11 +161,14 @@ removed-sequenced a (e ∷ xs) h =
     step (Local k) (t ∷ dels) g ih = (cc)
 
 -- two documents whose sequenced parts are before and after entries
-pub removed-stay : (doc after : Document) (entries : List Entry) → list_all is_marked_later doc.rows.items ≡ true → list_all is_marked_later doc.cols.items ≡ true → list_all is_marked_later after.rows.items ≡ true → list_all is_marked_later after.cols.items ≡ true
+pub removed-stay : (doc after : Document) (entries : List Entry) → list_all is_marked_later doc.rows.items ≡ true → list_all is_marked_later doc.cols.items
+    ≡ true → list_all is_marked_later after.rows.items ≡ true → list_all is_marked_later after.cols.items ≡ true
     → sequenced_part after ≡ take_entries (sequenced_part doc) entries → StayRemoved doc after
 removed-stay doc after entries r c s d e =
     let g = entries-removed entries (sequenced_part doc) in
     record {
-      rows = λ a h. sym (removed-sequenced a after.rows.items s) ∙ ap (λ (y : Document). has_named is_removed y.rows.items a) e ∙ g.rows a (removed-sequenced a doc.rows.items r ∙ h);
-      cols = λ a h. sym (removed-sequenced a after.cols.items d) ∙ ap (λ (y : Document). has_named is_removed y.cols.items a) e ∙ g.cols a (removed-sequenced a doc.cols.items c ∙ h);
+      rows = λ a h. sym (removed-sequenced a after.rows.items s) ∙ ap (λ (y : Document). has_named is_removed y.rows.items a) e
+          ∙ g.rows a (removed-sequenced a doc.rows.items r ∙ h);
+      cols = λ a h. sym (removed-sequenced a after.cols.items d) ∙ ap (λ (y : Document). has_named is_removed y.cols.items a) e
+          ∙ g.cols a (removed-sequenced a doc.cols.items c ∙ h);
     }

@@ -34,8 +34,14 @@ entries-append : (doc : Document) (es fs : List Entry) → take_entries doc (es 
 entries-append doc [] fs = refl
 entries-append doc (e ∷ es) fs = entries-append (take_entry doc e) es fs
 
-pub run-next : (steps : List ClientStep) (step : ClientStep) (x z : NaiveClient) (h : IsSoundRun steps x) → after_step x step ≡ Some z → list_all has_fitting_body (taken_entries (step ∷ [])) ≡ true → IsRunFrom h.start (steps ++ (step ∷ [])) z
-run-next steps step x z h e fits = record { sound = h.run.sound; made = after-one steps (Some (client_over h.start)) step x z h.run.made e; bodies = bodies-one steps step h.run.bodies fits }
+pub run-next : (steps : List ClientStep) (step : ClientStep) (x z : NaiveClient) (h : IsSoundRun steps x) → after_step x step ≡ Some z
+    → list_all has_fitting_body (taken_entries (step ∷ [])) ≡ true → IsRunFrom h.start (steps ++ (step ∷ [])) z
+run-next steps step x z h e fits = record {
+  sound = h.run.sound;
+  made = after-one steps (Some (client_over h.start)) step x z h.run.made e;
+  bodies = bodies-one
+      steps step h.run.bodies fits;
+}
 
 -- ---- what holds of the client
 
@@ -46,9 +52,11 @@ pub run-facts : (steps : List ClientStep) (x : NaiveClient) → IsSoundRun steps
 run-facts steps x h = facts-from h.start steps x h.run
 
 -- without what is pending its document goes on by the entries that it takes
-pub run-sequenced : (steps : List ClientStep) (step : ClientStep) (x z : NaiveClient) (h : IsSoundRun steps x) → IsRunFrom h.start (steps ++ (step ∷ [])) z → sequenced_part z.doc ≡ take_entries (sequenced_part x.doc) (taken_entries (step ∷ []))
+pub run-sequenced : (steps : List ClientStep) (step : ClientStep) (x z : NaiveClient) (h : IsSoundRun steps x) → IsRunFrom h.start (steps ++ (step ∷ [])) z
+    → sequenced_part z.doc ≡ take_entries (sequenced_part x.doc) (taken_entries (step ∷ []))
 run-sequenced steps step x z h g =
-    clients-agree-from h.start (steps ++ (step ∷ [])) z g ∙ ap (take_entries h.start) (taken-append steps (step ∷ [])) ∙ entries-append h.start (taken_entries steps) (taken_entries (step ∷ []))
+    clients-agree-from h.start (steps ++ (step ∷ [])) z g ∙ ap (take_entries h.start) (taken-append steps (step ∷ []))
+    ∙ entries-append h.start (taken_entries steps) (taken_entries (step ∷ []))
     ∙ ap (λ d. take_entries d (taken_entries (step ∷ []))) (sym (clients-agree-from h.start steps x h.run))
 
 -- what was removed stays removed
@@ -115,7 +123,9 @@ process_from x entry None = Ok (after_entry x entry)
 abbrev has_numbers : Entry → Bool
 has_numbers entry = nat_le entry.msg.min entry.msg.seq
 
-then-numbers : (entries : List Entry) (steps : List ClientStep) (y : NaiveClient) (o : Option NaiveClient) → ((z : NaiveClient) → o ≡ Some z → after_steps (Some z) steps ≡ Some y → list_all has_numbers entries ≡ true) → after_steps o steps ≡ Some y → list_all has_numbers entries ≡ true
+then-numbers : (entries : List Entry) (steps : List ClientStep) (y : NaiveClient) (o : Option NaiveClient)
+    → ((z : NaiveClient) → o ≡ Some z → after_steps (Some z) steps ≡ Some y → list_all has_numbers entries ≡ true) → after_steps o steps ≡ Some y
+    → list_all has_numbers entries ≡ true
 then-numbers entries steps y None f h = (cc)
 then-numbers entries steps y (Some z) f h = f z refl h
 
@@ -128,7 +138,8 @@ taken-numbers (Idles ∷ steps) x y h = then-numbers (taken_entries steps) steps
 taken-numbers (Sends ∷ steps) x y h = taken-numbers steps (record x { queue = drop 1 x.queue }) y h
 taken-numbers (Restarts ∷ steps) x y h = then-numbers (taken_entries steps) steps y (after_step x Restarts) (λ z e g. taken-numbers steps z y g) h
 taken-numbers (Takes entry ∷ steps) x y h =
-    then-numbers (entry ∷ taken_entries steps) steps y (after_step x (Takes entry)) (λ z e g. rw (here (process_fault x entry) refl (refused-ok (process x entry) z e), taken-numbers steps z y g) refl) h
+    then-numbers (entry ∷ taken_entries steps) steps y (after_step x (Takes entry))
+    (λ z e g. rw (here (process_fault x entry) refl (refused-ok (process x entry) z e), taken-numbers steps z y g) refl) h
   where
     test : (m n : ℕ) → m ≤ n → nat_le m n ≡ true
     test m n l = grind (arith, nat_tests)
@@ -137,7 +148,8 @@ taken-numbers (Takes entry ∷ steps) x y h =
     here None e g = test entry.msg.min entry.msg.seq (entry-numbers x entry e).below
     here (Some fault) e g = (cc)
 
-agreed-numbers : (entries : List Entry) (doc : Document) → doc.minimum ≤ doc.number → list_all has_numbers entries ≡ true → (take_entries doc entries).minimum ≤ (take_entries doc entries).number
+agreed-numbers : (entries : List Entry) (doc : Document) → doc.minimum ≤ doc.number → list_all has_numbers entries ≡ true
+    → (take_entries doc entries).minimum ≤ (take_entries doc entries).number
 agreed-numbers [] doc l h = l
 agreed-numbers (entry ∷ entries) doc l h =
     let p = both (has_numbers entry) (list_all has_numbers entries) h in
@@ -149,4 +161,5 @@ agreed-numbers (entry ∷ entries) doc l h =
 -- in every client the minimum is at most the number
 pub run-numbers : (steps : List ClientStep) (x : NaiveClient) → IsSoundRun steps x → x.doc.minimum ≤ x.doc.number
 run-numbers steps x h =
-    subst (λ (d : Document). d.minimum ≤ d.number) (sym (clients-agree-from h.start steps x h.run)) (agreed-numbers (taken_entries steps) h.start h.run.sound.numbers (taken-numbers steps (client_over h.start) x h.run.made))
+    subst (λ (d : Document). d.minimum ≤ d.number) (sym (clients-agree-from h.start steps x h.run))
+    (agreed-numbers (taken_entries steps) h.start h.run.sound.numbers (taken-numbers steps (client_over h.start) x h.run.made))

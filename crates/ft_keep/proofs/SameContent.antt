@@ -18,18 +18,23 @@ use Rattle.ft_keep.proofs.ClientFacts.{ClientFacts, kept-beside, staying}
 use Rattle.ft_keep.proofs.FreeTombstones.{has_held_text}
 use Rattle.ft_keep.proofs.ShownIntervals.{shown-held, shown-kept}
 
-pub content-beside : (low : ℕ) (held : HeldNames) (x : NaiveClient) (kept : Document) → Trimmed low held kept x.doc → list_all (has_held_text held.text) (stages_of x) ≡ true → content (record x { doc = kept }) ≡ content x
+pub content-beside : (low : ℕ) (held : HeldNames) (x : NaiveClient) (kept : Document) → Trimmed low held kept x.doc
+    → list_all (has_held_text held.text) (stages_of x) ≡ true → content (record x { doc = kept }) ≡ content x
 content-beside low held x kept t names =
     let k = x.last_stage in
     let doc = x.doc in
     let stages = stages_of x in
-    let cells : all_cells kept.cells (stages_of x) (filter (seen x.last_stage) kept.cols.items) 0 (filter (seen x.last_stage) kept.rows.items) ≡ all_cells x.doc.cells (stages_of x) (filter (seen x.last_stage) x.doc.cols.items) 0 (filter (seen x.last_stage) x.doc.rows.items) =
-    on_view low held.cols (λ cols. all_cells kept.cells stages cols 0 (filter (seen k) kept.rows.items)) (λ cols. trimmed-cols low kept.cells stages cols 0 (filter (seen k) kept.rows.items)) k kept.cols.items doc.cols.items t.cols.items
-    ∙ on_view low held.rows (all_cells kept.cells stages (filter (seen k) doc.cols.items) 0) (trimmed-rows low kept.cells stages (filter (seen k) doc.cols.items) 0) k kept.rows.items doc.rows.items t.rows.items
+    let cells : all_cells kept.cells (stages_of x) (filter (seen x.last_stage) kept.cols.items) 0 (filter (seen x.last_stage) kept.rows.items)
+    ≡ all_cells x.doc.cells (stages_of x) (filter (seen x.last_stage) x.doc.cols.items) 0 (filter (seen x.last_stage) x.doc.rows.items) =
+    on_view low held.cols (λ cols. all_cells kept.cells stages cols 0 (filter (seen k) kept.rows.items))
+    (λ cols. trimmed-cols low kept.cells stages cols 0 (filter (seen k) kept.rows.items)) k kept.cols.items doc.cols.items t.cols.items
+    ∙ on_view low held.rows (all_cells kept.cells stages (filter (seen k) doc.cols.items) 0)
+    (trimmed-rows low kept.cells stages (filter (seen k) doc.cols.items) 0) k kept.rows.items doc.rows.items t.rows.items
     ∙ agreed-rows kept.cells doc.cells stages stages held.cols held.rows (λ row col a b. ap (λ v. shown_cell_value row col v stages) (t.cells row col a b))
     (filter (seen k) doc.cols.items) (filter-held is_removed held.cols (seen k) (removed-unseen k) doc.cols.items t.col_names.all)
     0 (filter (seen k) doc.rows.items) (filter-held is_removed held.rows (seen k) (removed-unseen k) doc.rows.items t.row_names.all) in
-    let intervals : map (interval_record x.last_stage kept.text.items) (shown_intervals kept.text.items kept.intervals (stages_of x)) ≡ map (interval_record x.last_stage x.doc.text.items) (shown_intervals x.doc.text.items x.doc.intervals (stages_of x)) =
+    let intervals : map (interval_record x.last_stage kept.text.items) (shown_intervals kept.text.items kept.intervals (stages_of x))
+    ≡ map (interval_record x.last_stage x.doc.text.items) (shown_intervals x.doc.text.items x.doc.intervals (stages_of x)) =
     ap (λ is. map (interval_record k kept.text.items) (shown_intervals kept.text.items is stages)) (same-intervals t)
     ∙ ap (map (interval_record k kept.text.items)) (shown-kept t.text.items t.text_names.all stages doc.intervals t.ends names)
     ∙ records-kept t.text.items k (shown_intervals doc.text.items doc.intervals stages) (shown-held t.text.items t.text_names.all stages doc.intervals t.ends) in
@@ -49,7 +54,8 @@ content-kept kept x f k = ap content k.rest ∙ content-beside (floor x) (stayin
 trimmed-origins : (low : ℕ) (xs : List ListElement) → map (λ e. origin_of e.by) (map (trim_element low) xs) ≡ map (λ e. origin_of e.by) xs
 trimmed-origins low [] = refl
 trimmed-origins low (e ∷ xs) =
-    ap (λ o. origin_of o ∷ map (λ d. origin_of d.by) (map (trim_element low) xs)) (on_trimmed low (λ d. d.by) e (λ h. refl)) ∙ ap (λ os. origin_of e.by ∷ os) (trimmed-origins low xs)
+    ap (λ o. origin_of o ∷ map (λ d. origin_of d.by) (map (trim_element low) xs)) (on_trimmed low (λ d. d.by) e (λ h. refl))
+    ∙ ap (λ os. origin_of e.by ∷ os) (trimmed-origins low xs)
 
 pub blame-kept : (kept x : NaiveClient) → IsCompacted kept x → blame kept ≡ blame x
 blame-kept kept x k =

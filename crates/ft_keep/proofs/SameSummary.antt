@@ -50,7 +50,8 @@ gone-old min e f = step e.ins f
 abbrev pub is_removed_alike : List ListElement → List ListElement → ElementId → Bool
 is_removed_alike ks xs a = not (has_sequenced_removal xs a) || has_sequenced_removal ks a
 
-combined : (min : ℕ) (ks xs us : List ListElement) → list_all (λ e. is_removed e || not (has_named is_removed xs (id e))) us ≡ true → list_all (λ e. not (is_removed e) || has_named is_removed ks (id e)) us ≡ true
+combined : (min : ℕ) (ks xs us : List ListElement) → list_all (λ e. is_removed e || not (has_named is_removed xs (id e))) us ≡ true
+    → list_all (λ e. not (is_removed e) || has_named is_removed ks (id e)) us ≡ true
     → list_all (λ e. is_removed_alike ks xs (id e)) (trimmed_items min us) ≡ true
 combined min ks xs [] g h = refl
 combined min ks xs (e ∷ us) g h =
@@ -82,16 +83,19 @@ module _ {min : ℕ} {held : ElementId → Bool} where
   pub list-same : (kept list : Sequence) → KeepsList min held kept list → trim_list min kept ≡ trim_list min list
   list-same kept list k = ap (λ us. record kept { items = us }) (items-trimmed k.items) ∙ ap (λ m. record list { items = trimmed_items min list.items; made = m }) k.made
 
-  all-kept : (is : ListElement → Bool) → ((e : ListElement) → is_insertion_at_or_below min e.ins ≡ true → is (with_universal_insertion e) ≡ is e) → {ks xs : List ListElement} → Keeps min held ks xs → list_all is xs ≡ true → list_all is ks ≡ true
+  all-kept : (is : ListElement → Bool) → ((e : ListElement) → is_insertion_at_or_below min e.ins ≡ true → is (with_universal_insertion e) ≡ is e)
+      → {ks xs : List ListElement} → Keeps min held ks xs → list_all is xs ≡ true → list_all is ks ≡ true
   all-kept is alike none h = refl
   all-kept is alike (same {e = e} {xs = xs} k) h = let p = both (is e) (list_all is xs) h in rw (p.0, all-kept is alike k p.1) refl
   all-kept is alike (universal {e = e} {xs = xs} f k) h = let p = both (is e) (list_all is xs) h in rw (alike e f, p.0, all-kept is alike k p.1) refl
   all-kept is alike (collected {e = e} {xs = xs} g u n k) h = all-kept is alike k (both (is e) (list_all is xs) h).1
 
-  pub removed-alike : (ks xs : List ListElement) → Keeps min held ks xs → list_all (λ e. is_removed e || not (has_named is_removed xs (id e))) xs ≡ true → list_all (λ e. is_removed_alike ks xs (id e)) (trimmed_items min xs) ≡ true
+  pub removed-alike : (ks xs : List ListElement) → Keeps min held ks xs → list_all (λ e. is_removed e || not (has_named is_removed xs (id e))) xs ≡ true
+      → list_all (λ e. is_removed_alike ks xs (id e)) (trimmed_items min xs) ≡ true
   removed-alike ks xs k h =
       subst (λ us. list_all (λ e. is_removed_alike ks xs (id e)) us ≡ true) (items-trimmed k)
-      (combined min ks xs ks (all-kept (λ e. is_removed e || not (has_named is_removed xs (id e))) (λ e f. ap (λ i. is_removed e || not (has_named is_removed xs i)) (id-universal min e f)) k h) (own-named is_removed ks))
+      (combined min ks xs ks (all-kept (λ e. is_removed e || not (has_named is_removed xs (id e)))
+      (λ e f. ap (λ i. is_removed e || not (has_named is_removed xs i)) (id-universal min e f)) k h) (own-named is_removed ks))
 
 -- ---- cells
 
@@ -106,7 +110,8 @@ shown-value row col (c ∷ cells) h =
     let p = both (has_value c) (list_all has_value cells) h in
     step (is_cell row col c) p.0 (shown-value row col cells p.1)
   where
-    step : (b : Bool) → has_value c ≡ true → is_shown (cell_value row col cells) ≡ true → is_shown (option_map (λ (x : Cell). x.value) (cond b (Some c) (find (is_cell row col) cells))) ≡ true
+    step : (b : Bool) → has_value c ≡ true → is_shown (cell_value row col cells) ≡ true
+        → is_shown (option_map (λ (x : Cell). x.value) (cond b (Some c) (find (is_cell row col) cells))) ≡ true
     step true v ih = v
     step false v ih = ih
 
@@ -115,14 +120,16 @@ module _ (row col : ElementId) (keep : Cell → Bool) where
   none-kept [] h = refl
   none-kept (c ∷ cells) h = step (is_cell row col c) (keep c) refl refl (none-kept cells h)
     where
-      step : (a b : Bool) → is_cell row col c ≡ a → keep c ≡ b → cell_value row col (filter keep cells) ≡ None → cell_value row col (cond b (c ∷ filter keep cells) (filter keep cells)) ≡ None
+      step : (a b : Bool) → is_cell row col c ≡ a → keep c ≡ b → cell_value row col (filter keep cells) ≡ None
+          → cell_value row col (cond b (c ∷ filter keep cells) (filter keep cells)) ≡ None
       step true true e k q =
           let p = both (same_id row c.row) (same_id col c.col) e in
           cc (h c (same_id-eq row c.row p.0) (same_id-eq col c.col p.1))
       step false true e k q = ap (λ b. option_map (λ (x : Cell). x.value) (cond b (Some c) (find (is_cell row col) (filter keep cells)))) e ∙ q
       step a false e k q = q
 
-  value-stays : (cells : List Cell) → is_shown (cell_value row col cells) ≡ true → ((c : Cell) → has_value c ≡ true → row ≡ c.row → col ≡ c.col → keep c ≡ true) → cell_value row col (filter keep cells) ≡ cell_value row col cells
+  value-stays : (cells : List Cell) → is_shown (cell_value row col cells) ≡ true
+      → ((c : Cell) → has_value c ≡ true → row ≡ c.row → col ≡ c.col → keep c ≡ true) → cell_value row col (filter keep cells) ≡ cell_value row col cells
   value-stays [] v h = refl
   value-stays (c ∷ cells) v h = step (is_cell row col c) (keep c) refl refl v (λ w. value-stays cells w h)
     where
@@ -162,7 +169,8 @@ module _ (rows cols : List ListElement) (row col : ElementId) where
       last true false = refl
       last false e = refl
 
-  there : (c : Cell) → has_sequenced_removal rows row ≡ false → has_sequenced_removal cols col ≡ false → has_value c ≡ true → row ≡ c.row → col ≡ c.col → is_summed rows cols c ≡ true
+  there : (c : Cell) → has_sequenced_removal rows row ≡ false → has_sequenced_removal cols col ≡ false → has_value c ≡ true → row ≡ c.row → col ≡ c.col
+      → is_summed rows cols c ≡ true
   there c r s v p q = rw (v, subst (λ i. has_sequenced_removal rows i ≡ false) p r, subst (λ i. has_sequenced_removal cols i ≡ false) q s) refl
 
   -- what a summary has of a cell that shows no null
@@ -170,7 +178,8 @@ module _ (rows cols : List ListElement) (row col : ElementId) where
       → cell_value row col (filter (is_summed rows cols) cells) ≡ unless_removed (has_sequenced_removal rows row) (has_sequenced_removal cols col) (cell_value row col cells)
   summed-value cells shown = step (has_sequenced_removal rows row) (has_sequenced_removal cols col) refl refl
     where
-      step : (r s : Bool) → has_sequenced_removal rows row ≡ r → has_sequenced_removal cols col ≡ s → cell_value row col (filter (is_summed rows cols) cells) ≡ unless_removed r s (cell_value row col cells)
+      step : (r s : Bool) → has_sequenced_removal rows row ≡ r → has_sequenced_removal cols col ≡ s → cell_value row col (filter (is_summed rows cols) cells)
+          ≡ unless_removed r s (cell_value row col cells)
       step true s f g = none-kept row col (is_summed rows cols) cells (λ c p q. row-gone c f p)
       step false true f g = none-kept row col (is_summed rows cols) cells (λ c p q. col-gone c g q)
       step false false f g = value-stays row col (is_summed rows cols) cells (shown f g) (λ c v p q. there c f g v p q)
@@ -188,15 +197,18 @@ unremoved-whole ks xs a h f = step (has_sequenced_removal xs a) (has_sequenced_r
     step true c g e = (cc)
     step false c g e = refl
 
-same-removal : {low : ℕ} {held : ElementId → Bool} {ks xs : List ListElement} (a : ElementId) → Keeps low held ks xs → is_removed_alike ks xs a ≡ true → has_sequenced_removal ks a ≡ has_sequenced_removal xs a
+same-removal : {low : ℕ} {held : ElementId → Bool} {ks xs : List ListElement} (a : ElementId) → Keeps low held ks xs → is_removed_alike ks xs a ≡ true
+    → has_sequenced_removal ks a ≡ has_sequenced_removal xs a
 same-removal {ks = ks} {xs = xs} a k h = step (has_sequenced_removal xs a) refl h
   where
     step : (b : Bool) → has_sequenced_removal xs a ≡ b → not b || has_sequenced_removal ks a ≡ true → has_sequenced_removal ks a ≡ b
     step true e g = g
     step false e g = unremoved-kept a k e
 
-module _ {low : ℕ} {held_row held_col : ElementId → Bool} {krows xrows kcols xcols : List ListElement} (rows : Keeps low held_row krows xrows) (cols : Keeps low held_col kcols xcols) (ks cs : List Cell)
-    (agree : (row col : ElementId) → has_sequenced_removal xrows row ≡ false → has_sequenced_removal xcols col ≡ false → cell_value row col ks ≡ cell_value row col cs) (values : list_all has_value cs ≡ true) where
+module _ {low : ℕ} {held_row held_col : ElementId → Bool} {krows xrows kcols xcols : List ListElement} (rows : Keeps low held_row krows xrows)
+    (cols : Keeps low held_col kcols xcols) (ks cs : List Cell)
+    (agree : (row col : ElementId) → has_sequenced_removal xrows row ≡ false → has_sequenced_removal xcols col ≡ false → cell_value row col ks
+    ≡ cell_value row col cs) (values : list_all has_value cs ≡ true) where
   value-same : (row col : ElementId) → is_removed_alike krows xrows row ≡ true → is_removed_alike kcols xcols col ≡ true
       → cell_value row col (filter (is_summed krows kcols) ks) ≡ cell_value row col (filter (is_summed xrows xcols) cs)
   value-same row col a b =
@@ -214,7 +226,8 @@ module _ {low : ℕ} {held_row held_col : ElementId → Bool} {krows xrows kcols
 pub summary-same : (x : NaiveClient) (kept : Document) → ClientFacts x → list_all has_value x.doc.cells ≡ true → KeepsDocument x kept → indexed (trim kept) ≡ indexed (trim x.doc)
 summary-same x kept f values k = ap (λ d. indexed (trim d)) k.rest ∙ shaped kept.text kept.rows kept.cols kept.cells (subst (λ d. KeepsDocument x d) k.rest k)
   where
-    shaped : (text rows cols : Sequence) (cells : List Cell) → KeepsDocument x (with_lists x.doc text rows cols cells) → indexed (trim (with_lists x.doc text rows cols cells)) ≡ indexed (trim x.doc)
+    shaped : (text rows cols : Sequence) (cells : List Cell) → KeepsDocument x (with_lists x.doc text rows cols cells)
+        → indexed (trim (with_lists x.doc text rows cols cells)) ≡ indexed (trim x.doc)
     shaped text rows cols cells d =
         let min = x.doc.minimum in
         let l : floor x ≤ x.doc.minimum = least-first x.pending x.doc.minimum in
@@ -222,7 +235,8 @@ summary-same x kept f values k = ap (λ d. indexed (trim d)) k.rest ∙ shaped k
         let lines = keeps-higher l d.rows.items in
         let columns = keeps-higher l d.cols.items in
         let same : all_cells (filter (is_summed rows.items cols.items) cells) [] (trimmed_items x.doc.minimum cols.items) 0 (trimmed_items x.doc.minimum rows.items)
-        ≡ all_cells (filter (is_summed x.doc.rows.items x.doc.cols.items) x.doc.cells) [] (trimmed_items x.doc.minimum x.doc.cols.items) 0 (trimmed_items x.doc.minimum x.doc.rows.items) =
+        ≡ all_cells (filter (is_summed x.doc.rows.items x.doc.cols.items) x.doc.cells) [] (trimmed_items x.doc.minimum x.doc.cols.items) 0
+        (trimmed_items x.doc.minimum x.doc.rows.items) =
         ap (λ us. all_cells (filter (is_summed rows.items cols.items) cells) [] us 0 (trimmed_items min rows.items)) (items-trimmed columns)
         ∙ ap (all_cells (filter (is_summed rows.items cols.items) cells) [] (trimmed_items min x.doc.cols.items) 0) (items-trimmed lines)
         ∙ agreed-rows (filter (is_summed rows.items cols.items) cells) (filter (is_summed x.doc.rows.items x.doc.cols.items) x.doc.cells) [] []
@@ -233,4 +247,5 @@ summary-same x kept f values k = ap (λ d. indexed (trim d)) k.rest ∙ shaped k
 
 -- the cells of every client have values
 pub run-values : (steps : List ClientStep) (x : NaiveClient) → IsSoundRun steps x → list_all has_value x.doc.cells ≡ true
-run-values steps x run = subst (λ (d : Document). list_all has_value d.cells ≡ true) (sym (clients-agree-from run.start steps x run.run)) (take_entries-consistent run.start (taken_entries steps) run.run.sound.consistent).cells
+run-values steps x run = subst (λ (d : Document). list_all has_value d.cells ≡ true) (sym (clients-agree-from run.start steps x run.run))
+    (take_entries-consistent run.start (taken_entries steps) run.run.sound.consistent).cells

@@ -43,7 +43,8 @@ module _ {low : ℕ} {held : ElementId → Bool} where
 
   ends-kept : {ks xs : List ListElement} (is : List Interval) → Keeps low held ks xs → list_all (has_ends_on xs) is ≡ true → list_all (has_ends_on ks) is ≡ true
   ends-kept {ks} {xs} is k h =
-      all-weaker (has_ends_on xs) (has_ends_on ks) (λ i g. (let p = both (is_end_on xs i.start) (is_end_on xs i.end) g in rw (end-kept i.start k p.0, end-kept i.end k p.1) refl)) is h
+      all-weaker (has_ends_on xs) (has_ends_on ks) (λ i g. (let p = both (is_end_on xs i.start) (is_end_on xs i.end) g in rw
+      (end-kept i.start k p.0, end-kept i.end k p.1) refl)) is h
 
 pub soundly-kept : (steps : List ClientStep) (x kept : NaiveClient) → IsSoundRun steps x → IsCompacted kept x → IsSoundlyKept kept
 soundly-kept steps x kept run k =

@@ -59,7 +59,8 @@ module _ (gone is : ListElement → Bool) where
   before-append [] xs g h = h
   before-append (e ∷ new) xs g h = grind (arith, before-append new xs)
 
-  module _ (test : ListElement → Bool) (unseen : (e : ListElement) → gone e ≡ true → test e ≡ false) (new : List ListElement) (fresh : list_all (λ e. not (gone e)) new ≡ true) where
+  module _ (test : ListElement → Bool) (unseen : (e : ListElement) → gone e ≡ true → test e ≡ false) (new : List ListElement)
+      (fresh : list_all (λ e. not (gone e)) new ≡ true) where
     next-put : (p : ℕ) (xs : List ListElement) → suc p ≤ len test xs → list_all (λ e. not (is e)) xs ≡ true → is_next is (put test no_run (suc p) new xs) ≡ false
     next-put p [] l h = absurd (omega arith)
     next-put p (e ∷ xs) l h = next-none (e ∷ xs) h
@@ -71,7 +72,8 @@ module _ (gone is : ListElement → Bool) where
         let q = both (not (is e)) (list_all (λ d. not (is d)) xs) h in
         step (gone e) (test e) refl refl l q.1 (λ i m. before-put i xs m q.1)
       where
-        step : (a b : Bool) → gone e ≡ a → test e ≡ b → suc p ≤ len test (e ∷ xs) → list_all (λ d. not (is d)) xs ≡ true → ((i : ℕ) → i ≤ len test xs → none_before gone is (put test no_run i new xs) ≡ true)
+        step : (a b : Bool) → gone e ≡ a → test e ≡ b → suc p ≤ len test (e ∷ xs) → list_all (λ d. not (is d)) xs ≡ true
+            → ((i : ℕ) → i ≤ len test xs → none_before gone is (put test no_run i new xs) ≡ true)
             → not (a && is_next is (put test no_run (cond b p (suc p)) new xs)) && none_before gone is (put test no_run (cond b p (suc p)) new xs) ≡ true
         step true true f t m k ih = cc (unseen e f)
         step true false f t m k ih =
@@ -84,7 +86,8 @@ module _ (gone is : ListElement → Bool) where
             let here : suc p ≤ len test xs = rw t at m in
             ih (suc p) here
 
-  module _ (keep : ListElement → Bool) (f : ListElement → ListElement) (other : (e : ListElement) → keep e ≡ false → (gone e ≡ false) × (is e ≡ false)) (same_gone : (e : ListElement) → gone (f e) ≡ gone e) (same_is : (e : ListElement) → is (f e) ≡ is e) where
+  module _ (keep : ListElement → Bool) (f : ListElement → ListElement) (other : (e : ListElement) → keep e ≡ false → (gone e ≡ false) × (is e ≡ false))
+      (same_gone : (e : ListElement) → gone (f e) ≡ gone e) (same_is : (e : ListElement) → is (f e) ≡ is e) where
     next-retained : (xs : List ListElement) → is_next is xs ≡ true → is_next is (retain_map keep f xs) ≡ true
     next-retained [] h = (cc)
     next-retained (e ∷ xs) h = step (keep e) refl
@@ -102,10 +105,15 @@ module _ (gone is : ListElement → Bool) where
         apart true false c i g = refl
         apart true true c i g = cc (i refl)
 
-        step : (b : Bool) → keep e ≡ b → none_before gone is (cond b (f e ∷ retain_map keep f xs) (retain_map keep f xs)) ≡ true → (none_before gone is (retain_map keep f xs) ≡ true → none_before gone is xs ≡ true) → not (gone e && is_next is xs) && none_before gone is xs ≡ true
+        step : (b : Bool) → keep e ≡ b → none_before gone is (cond b (f e ∷ retain_map keep f xs) (retain_map keep f xs)) ≡ true
+            → (none_before gone is (retain_map keep f xs) ≡ true → none_before gone is xs ≡ true) → not (gone e && is_next is xs) && none_before gone is xs ≡ true
         step true k g ih =
             let p = both (not (gone (f e) && is_next is (retain_map keep f xs))) (none_before gone is (retain_map keep f xs)) g in
-            rw (apart (gone e) (is_next is xs) (is_next is (retain_map keep f xs)) (next-retained xs) (ap (λ b. not (b && is_next is (retain_map keep f xs))) (sym (same_gone e)) ∙ p.0), ih p.1) refl
+            rw (
+              apart (gone e) (is_next is xs) (is_next is (retain_map keep f xs)) (next-retained xs)
+                  (ap (λ b. not (b && is_next is (retain_map keep f xs))) (sym (same_gone e)) ∙ p.0),
+              ih p.1,
+            ) refl
         step false k g ih = rw ((other e k).0, ih g) refl
 
 -- ---- one stage
@@ -142,7 +150,8 @@ none-yet k (e ∷ xs) = grind (arith, none-yet k xs, first e.ins)
     first (Acked s c) h = refl
     first (Local j) h = grind (arith, nat_tests)
 
-new-stays : (floor k i : ℕ) (props : PropertyList) (items : List ElementContent) → list_all (λ e. not (is_collectable floor e)) (new_elements i (Local k) [] None props items) ≡ true
+new-stays : (floor k i : ℕ) (props : PropertyList) (items : List ElementContent)
+    → list_all (λ e. not (is_collectable floor e)) (new_elements i (Local k) [] None props items) ≡ true
 new-stays floor k i props [] = refl
 new-stays floor k i props (b ∷ bs) = new-stays floor k (i + 1) props bs
 
@@ -162,10 +171,14 @@ module _ (floor k r c : ℕ) (above : floor ≤ r) (xs : List ListElement) where
       fits m n g = grind (arith, nat_tests)
   before-made (TakenOut ranges) h =
       ap (none_before (is_collectable floor) (is_inserted_by (suc k))) h.made
-      ∙ before-none (is_collectable floor) (is_inserted_by (suc k)) (change_ranges (expects r c (suc (suc k))) (with_pending_removal (suc k)) ranges (list_up_to k xs)) (all-ranges-seen (λ e. not (is_inserted_by (suc k) e)) (expects r c (suc (suc k))) (with_pending_removal (suc k)) (λ e g f. g) ranges (list_up_to k xs) (none-yet k xs))
+      ∙ before-none (is_collectable floor) (is_inserted_by (suc k)) (change_ranges (expects r c (suc (suc k))) (with_pending_removal (suc k)) ranges
+      (list_up_to k xs)) (all-ranges-seen (λ e. not (is_inserted_by (suc k) e)) (expects r c (suc (suc k))) (with_pending_removal (suc k)) (λ e g f. g)
+      ranges (list_up_to k xs) (none-yet k xs))
   before-made (Annotated ranges changes) h =
       ap (none_before (is_collectable floor) (is_inserted_by (suc k))) h.made
-      ∙ before-none (is_collectable floor) (is_inserted_by (suc k)) (change_ranges (expects r c (suc (suc k))) (with_pending_annotation (suc k) changes) ranges (list_up_to k xs)) (all-ranges-seen (λ e. not (is_inserted_by (suc k) e)) (expects r c (suc (suc k))) (with_pending_annotation (suc k) changes) (λ e g f. g) ranges (list_up_to k xs) (none-yet k xs))
+      ∙ before-none (is_collectable floor) (is_inserted_by (suc k)) (change_ranges (expects r c (suc (suc k))) (with_pending_annotation (suc k) changes) ranges
+      (list_up_to k xs)) (all-ranges-seen (λ e. not (is_inserted_by (suc k) e)) (expects r c (suc (suc k))) (with_pending_annotation (suc k) changes)
+      (λ e g f. g) ranges (list_up_to k xs) (none-yet k xs))
 
   -- no element that may be left out stands before one of the stage
   pub before-standing : (edit : StageEdit) → IsStanding k r c edit xs → none_before (is_collectable floor) (is_inserted_by (suc k)) xs ≡ true
@@ -173,14 +186,16 @@ module _ (floor k r c : ℕ) (above : floor ≤ r) (xs : List ListElement) where
       before-retained (is_collectable floor) (is_inserted_by (suc k)) (λ e. has_occurred_at_stage (suc k) e.ins) (element_up_to (suc k))
       (λ e g. (pending-stays floor (suc k) e g, later-inserted (suc k) e.ins g)) (λ e. refl) (λ e. refl) xs (before-made edit h)
 
-  bare : (ys : List ListElement) → list_all (λ e. not (is_removed_by (suc k) e)) ys ≡ true → list_all (λ e. not (is_annotated_by (suc k) e)) ys ≡ true → list_all (is_unmarked_if_gone floor (suc k)) ys ≡ true
+  bare : (ys : List ListElement) → list_all (λ e. not (is_removed_by (suc k) e)) ys ≡ true → list_all (λ e. not (is_annotated_by (suc k) e)) ys ≡ true
+      → list_all (is_unmarked_if_gone floor (suc k)) ys ≡ true
   bare [] g h = refl
   bare (e ∷ ys) g h = grind (arith, bare ys)
 
   first : list_all (is_unmarked_if_gone floor (suc k)) (list_up_to k xs) ≡ true
   first = bare (list_up_to k xs) (unmarked-below k xs) (unchanged-below k xs)
 
-  unseen-marked : (g : ListElement → ListElement) → ((e : ListElement) → is_collectable floor (g e) ≡ is_collectable floor e) → (e : ListElement) → expects r c (suc (suc k)) e ≡ true → is_unmarked_if_gone floor (suc k) (g e) ≡ true
+  unseen-marked : (g : ListElement → ListElement) → ((e : ListElement) → is_collectable floor (g e) ≡ is_collectable floor e) → (e : ListElement)
+      → expects r c (suc (suc k)) e ≡ true → is_unmarked_if_gone floor (suc k) (g e) ≡ true
   unseen-marked g same e s = step (is_collectable floor e) refl
     where
       step : (b : Bool) → is_collectable floor e ≡ b → not (is_collectable floor (g e) && (is_removed_by (suc k) (g e) || is_annotated_by (suc k) (g e))) ≡ true
@@ -191,17 +206,21 @@ module _ (floor k r c : ℕ) (above : floor ≤ r) (xs : List ListElement) where
   marks-made (PutIn p props items) h =
       ap (list_all (is_unmarked_if_gone floor (suc k))) h.made
       ∙ all-put (is_unmarked_if_gone floor (suc k)) (expects r c (suc (suc k))) no_run p (new_elements 0 (Local (suc k)) [] None props items) (list_up_to k xs)
-      (all-weaker (λ e. not (is_collectable floor e)) (is_unmarked_if_gone floor (suc k)) (λ e f. stays (is_collectable floor e) (is_removed_by (suc k) e || is_annotated_by (suc k) e) f) (new_elements 0 (Local (suc k)) [] None props items) (new-stays floor (suc k) 0 props items)) first
+      (all-weaker (λ e. not (is_collectable floor e)) (is_unmarked_if_gone floor (suc k))
+      (λ e f. stays (is_collectable floor e) (is_removed_by (suc k) e || is_annotated_by (suc k) e) f) (new_elements 0 (Local (suc k)) [] None props items)
+      (new-stays floor (suc k) 0 props items)) first
     where
       stays : (a b : Bool) → not a ≡ true → not (a && b) ≡ true
       stays true b g = (cc)
       stays false b g = refl
   marks-made (TakenOut ranges) h =
       ap (list_all (is_unmarked_if_gone floor (suc k))) h.made
-      ∙ all-ranges-seen (is_unmarked_if_gone floor (suc k)) (expects r c (suc (suc k))) (with_pending_removal (suc k)) (λ e q s. unseen-marked (with_pending_removal (suc k)) (λ d. refl) e s) ranges (list_up_to k xs) first
+      ∙ all-ranges-seen (is_unmarked_if_gone floor (suc k)) (expects r c (suc (suc k))) (with_pending_removal (suc k))
+      (λ e q s. unseen-marked (with_pending_removal (suc k)) (λ d. refl) e s) ranges (list_up_to k xs) first
   marks-made (Annotated ranges changes) h =
       ap (list_all (is_unmarked_if_gone floor (suc k))) h.made
-      ∙ all-ranges-seen (is_unmarked_if_gone floor (suc k)) (expects r c (suc (suc k))) (with_pending_annotation (suc k) changes) (λ e q s. unseen-marked (with_pending_annotation (suc k) changes) (λ d. refl) e s) ranges (list_up_to k xs) first
+      ∙ all-ranges-seen (is_unmarked_if_gone floor (suc k)) (expects r c (suc (suc k))) (with_pending_annotation (suc k) changes)
+      (λ e q s. unseen-marked (with_pending_annotation (suc k) changes) (λ d. refl) e s) ranges (list_up_to k xs) first
 
   same-marks : (e : ListElement) → is_unmarked_if_gone floor (suc k) (element_up_to (suc k) e) ≡ is_unmarked_if_gone floor (suc k) e
   same-marks e =
@@ -215,10 +234,12 @@ module _ (floor k r c : ℕ) (above : floor ≤ r) (xs : List ListElement) where
   -- and none carries a mark of the stage
   pub marks-standing : (edit : StageEdit) → IsStanding k r c edit xs → list_all (is_unmarked_if_gone floor (suc k)) xs ≡ true
   marks-standing edit h =
-      all-weaker (λ e. cond (has_occurred_at_stage (suc k) e.ins) (is_unmarked_if_gone floor (suc k) e) true) (is_unmarked_if_gone floor (suc k)) (λ e g. step e (has_occurred_at_stage (suc k) e.ins) refl g) xs
+      all-weaker (λ e. cond (has_occurred_at_stage (suc k) e.ins) (is_unmarked_if_gone floor (suc k) e) true) (is_unmarked_if_gone floor (suc k))
+      (λ e g. step e (has_occurred_at_stage (suc k) e.ins) refl g) xs
       (lifted (is_unmarked_if_gone floor (suc k)) (suc k) same-marks xs (marks-made edit h))
     where
-      step : (e : ListElement) (b : Bool) → has_occurred_at_stage (suc k) e.ins ≡ b → cond b (is_unmarked_if_gone floor (suc k) e) true ≡ true → is_unmarked_if_gone floor (suc k) e ≡ true
+      step : (e : ListElement) (b : Bool) → has_occurred_at_stage (suc k) e.ins ≡ b → cond b (is_unmarked_if_gone floor (suc k) e) true ≡ true
+          → is_unmarked_if_gone floor (suc k) e ≡ true
       step e true f g = g
       step e false f g = rw (pending-stays floor (suc k) e f) refl
 
@@ -231,22 +252,27 @@ AreAbove floor (t ∷ ts) = (floor ≤ t.ref) × AreAbove floor ts
 
 module _ (floor c n : ℕ) (doc : Document) (list : Document → List ListElement) (edit : SentStage → StageEdit)
     (stands : (t : ToldStage) → StageStands t.before t.ref c t.sent t.stage.names doc → IsStanding t.before t.ref c (edit t.sent) (list doc)) where
-  pub before-stages : (j : ℕ) (ts : List ToldStage) → AreAbove floor ts → AllStand c doc ts → is_among (stage_numbers ts) j ≡ true → none_before (is_collectable floor) (is_inserted_by j) (list doc) ≡ true
+  pub before-stages : (j : ℕ) (ts : List ToldStage) → AreAbove floor ts → AllStand c doc ts → is_among (stage_numbers ts) j ≡ true
+      → none_before (is_collectable floor) (is_inserted_by j) (list doc) ≡ true
   before-stages j [] a h g = (cc)
   before-stages j (t ∷ ts) a h g = step (nat_eq j (suc t.before)) refl g (before-stages j ts a.1 h.1)
     where
-      step : (b : Bool) → nat_eq j (suc t.before) ≡ b → b || is_among (stage_numbers ts) j ≡ true → (is_among (stage_numbers ts) j ≡ true → none_before (is_collectable floor) (is_inserted_by j) (list doc) ≡ true)
+      step : (b : Bool) → nat_eq j (suc t.before) ≡ b → b || is_among (stage_numbers ts) j ≡ true
+          → (is_among (stage_numbers ts) j ≡ true → none_before (is_collectable floor) (is_inserted_by j) (list doc) ≡ true)
           → none_before (is_collectable floor) (is_inserted_by j) (list doc) ≡ true
       step true e f ih =
           let same : suc t.before ≡ j = grind (arith, nat_tests) in
-          subst (λ i. none_before (is_collectable floor) (is_inserted_by i) (list doc) ≡ true) same (before-standing floor t.before t.ref c a.0 (list doc) (edit t.sent) (stands t h.0))
+          subst (λ i. none_before (is_collectable floor) (is_inserted_by i) (list doc) ≡ true) same
+          (before-standing floor t.before t.ref c a.0 (list doc) (edit t.sent) (stands t h.0))
       step false e f ih = ih f
 
-  pub marks-stages : (j : ℕ) (ts : List ToldStage) → AreAbove floor ts → AllStand c doc ts → is_among (stage_numbers ts) j ≡ true → list_all (is_unmarked_if_gone floor j) (list doc) ≡ true
+  pub marks-stages : (j : ℕ) (ts : List ToldStage) → AreAbove floor ts → AllStand c doc ts → is_among (stage_numbers ts) j ≡ true
+      → list_all (is_unmarked_if_gone floor j) (list doc) ≡ true
   marks-stages j [] a h g = (cc)
   marks-stages j (t ∷ ts) a h g = step (nat_eq j (suc t.before)) refl g (marks-stages j ts a.1 h.1)
     where
-      step : (b : Bool) → nat_eq j (suc t.before) ≡ b → b || is_among (stage_numbers ts) j ≡ true → (is_among (stage_numbers ts) j ≡ true → list_all (is_unmarked_if_gone floor j) (list doc) ≡ true)
+      step : (b : Bool) → nat_eq j (suc t.before) ≡ b → b || is_among (stage_numbers ts) j ≡ true
+          → (is_among (stage_numbers ts) j ≡ true → list_all (is_unmarked_if_gone floor j) (list doc) ≡ true)
           → list_all (is_unmarked_if_gone floor j) (list doc) ≡ true
       step true e f ih =
           let same : suc t.before ≡ j = grind (arith, nat_tests) in
@@ -254,7 +280,9 @@ module _ (floor c n : ℕ) (doc : Document) (list : Document → List ListElemen
       step false e f ih = ih f
 
 module _ (floor n : ℕ) (ks : List ℕ) (held : ElementId → Bool) where
-  next-free : (e : ListElement) (xs : List ListElement) → is_collectable floor e ≡ true → ((j : ℕ) → is_among ks j ≡ true → none_before (is_collectable floor) (is_inserted_by j) (e ∷ xs) ≡ true) → list_all (is_within n ks) xs ≡ true → is_before_pending xs ≡ false
+  next-free : (e : ListElement) (xs : List ListElement) → is_collectable floor e ≡ true
+      → ((j : ℕ) → is_among ks j ≡ true → none_before (is_collectable floor) (is_inserted_by j) (e ∷ xs) ≡ true) → list_all (is_within n ks) xs ≡ true
+      → is_before_pending xs ≡ false
   next-free e [] g before w = refl
   next-free e (d ∷ xs) g before w =
       let p = both (is_within n ks d) (list_all (is_within n ks) xs) w in
@@ -268,14 +296,16 @@ module _ (floor n : ℕ) (ks : List ℕ) (held : ElementId → Bool) where
           let r : not (is_collectable floor e && is_of_stage j d.ins) ≡ false = rw (g, q) refl in
           absurd (cc (p.0, r))
 
-  unmarked : (e : ListElement) → is_collectable floor e ≡ true → ((j : ℕ) → is_among ks j ≡ true → is_unmarked_if_gone floor j e ≡ true) → (m : Option ℕ) → e.removal_stage ≡ m → mark_within ks m ≡ true → m ≡ None
+  unmarked : (e : ListElement) → is_collectable floor e ≡ true → ((j : ℕ) → is_among ks j ≡ true → is_unmarked_if_gone floor j e ≡ true) → (m : Option ℕ)
+      → e.removal_stage ≡ m → mark_within ks m ≡ true → m ≡ None
   unmarked e g free None f w = refl
   unmarked e g free (Some j) f w =
       let q : is_removed_by j e ≡ true = ap (λ m. list_any (is_of_stage j) (removal_stamp m)) f ∙ rw (same_nat j) refl in
       let r : is_unmarked_if_gone floor j e ≡ false = rw (g, q) refl in
       absurd (cc (free j w, r))
 
-  unchanged : (e : ListElement) → is_collectable floor e ≡ true → ((j : ℕ) → is_among ks j ≡ true → is_unmarked_if_gone floor j e ≡ true) → (ps : List (ℕ × Changes)) → e.pending ≡ ps → list_all (λ q. is_among ks q.0) ps ≡ true → ps ≡ []
+  unchanged : (e : ListElement) → is_collectable floor e ≡ true → ((j : ℕ) → is_among ks j ≡ true → is_unmarked_if_gone floor j e ≡ true)
+      → (ps : List (ℕ × Changes)) → e.pending ≡ ps → list_all (λ q. is_among ks q.0) ps ≡ true → ps ≡ []
   unchanged e g free [] f w = refl
   unchanged e g free (p ∷ ps) f w =
       let m = both (is_among ks p.0) (list_all (λ q. is_among ks q.0) ps) w in
@@ -288,14 +318,16 @@ module _ (floor n : ℕ) (ks : List ℕ) (held : ElementId → Bool) where
       either false = refl
 
   -- where names that are held are none of elements that may be left out, these are free
-  pub list-free : (xs : List ListElement) → ((j : ℕ) → is_among ks j ≡ true → none_before (is_collectable floor) (is_inserted_by j) xs ≡ true) → ((j : ℕ) → is_among ks j ≡ true → list_all (is_unmarked_if_gone floor j) xs ≡ true)
+  pub list-free : (xs : List ListElement) → ((j : ℕ) → is_among ks j ≡ true → none_before (is_collectable floor) (is_inserted_by j) xs ≡ true)
+      → ((j : ℕ) → is_among ks j ≡ true → list_all (is_unmarked_if_gone floor j) xs ≡ true)
       → list_all (is_within n ks) xs ≡ true → list_all (λ e. not (is_collectable floor e) || not (held (id e))) xs ≡ true → AreFree floor held xs
   list-free [] before marks w names = tt
   list-free (e ∷ xs) before marks w names =
       let p = both (is_within n ks e) (list_all (is_within n ks) xs) w in
       let q = all_four (stamp_within n ks e.ins) (list_all (is_numbered n) e.dels) (mark_within ks e.removal_stage) (list_all (λ q. is_among ks q.0) e.pending) p.0 in
       let r = both (not (is_collectable floor e) || not (held (id e))) (list_all (λ d. not (is_collectable floor d) || not (held (id d))) xs) names in
-      let here : (j : ℕ) → is_among ks j ≡ true → is_unmarked_if_gone floor j e ≡ true = λ j m. (both (is_unmarked_if_gone floor j e) (list_all (is_unmarked_if_gone floor j) xs) (marks j m)).0 in (
+      let here : (j : ℕ) → is_among ks j ≡ true → is_unmarked_if_gone floor j e
+      ≡ true = λ j m. (both (is_unmarked_if_gone floor j e) (list_all (is_unmarked_if_gone floor j) xs) (marks j m)).0 in (
         λ g. record {
           removal = unmarked e g here e.removal_stage refl q.2;
           changes = unchanged e g here e.pending refl q.3;

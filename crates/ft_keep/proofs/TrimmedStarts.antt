@@ -27,20 +27,23 @@ use Rattle.ft_msg.specs.Compacted.{IsCompacted}
 -- ---- the minimums of the entries that a run takes
 
 -- after a step its minimum is that of the entries which the step took
-minimum-after : (steps : List ClientStep) (step : ClientStep) (x z : NaiveClient) (run : IsSoundRun steps x) → IsRunFrom run.start (steps ++ (step ∷ [])) z → (take_entries (sequenced_part x.doc) (taken_entries (step ∷ []))).minimum ≡ z.doc.minimum
+minimum-after : (steps : List ClientStep) (step : ClientStep) (x z : NaiveClient) (run : IsSoundRun steps x) → IsRunFrom run.start (steps ++ (step ∷ [])) z
+    → (take_entries (sequenced_part x.doc) (taken_entries (step ∷ []))).minimum ≡ z.doc.minimum
 minimum-after steps step x z run next = sym (ap (λ (d : Document). d.minimum) (run-sequenced steps step x z run next))
 
 passed-of : (x z : NaiveClient) (entry : Entry) (o : Option ProcessFault) → process_fault x entry ≡ o → process_from x entry o ≡ Ok z → process_fault x entry ≡ None
 passed-of x z entry None e h = e
 passed-of x z entry (Some fault) e h = (cc)
 
-pub then-from : (steps : List ClientStep) (y : NaiveClient) (o : Option NaiveClient) (P : Type 0) → ((z : NaiveClient) → o ≡ Some z → after_steps (Some z) steps ≡ Some y → P) → after_steps o steps ≡ Some y → P
+pub then-from : (steps : List ClientStep) (y : NaiveClient) (o : Option NaiveClient) (P : Type 0)
+    → ((z : NaiveClient) → o ≡ Some z → after_steps (Some z) steps ≡ Some y → P) → after_steps o steps ≡ Some y → P
 then-from steps y None P f h = (cc)
 then-from steps y (Some z) P f h = f z refl h
 
 -- a step without an entry
 quiet : (before steps : List ClientStep) (step : ClientStep) (x y : NaiveClient) (run : IsSoundRun before x) → taken_entries (step ∷ []) ≡ []
-    → ((z : NaiveClient) → IsSoundRun (before ++ (step ∷ [])) z → after_steps (Some z) steps ≡ Some y → AreFrom z.doc.minimum (taken_entries steps)) → after_steps (after_step x step) steps ≡ Some y
+    → ((z : NaiveClient) → IsSoundRun (before ++ (step ∷ [])) z → after_steps (Some z) steps ≡ Some y → AreFrom z.doc.minimum (taken_entries steps))
+    → after_steps (after_step x step) steps ≡ Some y
     → AreFrom x.doc.minimum (taken_entries steps)
 quiet before steps step x y run none rest h =
     then-from steps y (after_step x step) (AreFrom x.doc.minimum (taken_entries steps))
@@ -51,19 +54,26 @@ quiet before steps step x y run none rest h =
 
 -- a step that takes an entry
 taking : (before steps : List ClientStep) (entry : Entry) (x y : NaiveClient) (run : IsSoundRun before x) → has_fitting_body entry ≡ true
-    → ((z : NaiveClient) → IsSoundRun (before ++ (Takes entry ∷ [])) z → after_steps (Some z) steps ≡ Some y → AreFrom z.doc.minimum (taken_entries steps)) → after_steps (after_step x (Takes entry)) steps ≡ Some y
+    → ((z : NaiveClient) → IsSoundRun (before ++ (Takes entry ∷ [])) z → after_steps (Some z) steps ≡ Some y → AreFrom z.doc.minimum (taken_entries steps))
+    → after_steps (after_step x (Takes entry)) steps ≡ Some y
     → AreFrom x.doc.minimum (entry ∷ taken_entries steps)
 taking before steps entry x y run fits rest h =
     then-from steps y (after_step x (Takes entry)) (AreFrom x.doc.minimum (entry ∷ taken_entries steps))
     (λ z e g.
     let n = entry-numbers x entry (passed-of x z entry (process_fault x entry) refl (refused-ok (process x entry) z e)) in
-    let next = run-next before (Takes entry) x z run e (rw fits refl) in
-    (n.rises, (λ o. n.ref (op-kind (is_op_kind entry.msg.kind) entry.msg.body fits o)), subst (λ m. AreFrom m (taken_entries steps)) (sym (minimum-after before (Takes entry) x z run next)) (rest z (record { start = run.start; run = next }) g))) h
+    let next = run-next before (Takes entry) x z run e (rw fits refl) in (
+      n.rises,
+      (λ o. n.ref (op-kind (is_op_kind entry.msg.kind) entry.msg.body fits o)),
+      subst (λ m. AreFrom m (taken_entries steps))
+          (sym (minimum-after before (Takes entry) x z run next)) (rest z (record { start = run.start; run = next }) g),
+    )) h
 
-pub entries-from : (before steps : List ClientStep) (x y : NaiveClient) → IsSoundRun before x → after_steps (Some x) steps ≡ Some y → list_all has_fitting_body (taken_entries steps) ≡ true → AreFrom x.doc.minimum (taken_entries steps)
+pub entries-from : (before steps : List ClientStep) (x y : NaiveClient) → IsSoundRun before x → after_steps (Some x) steps ≡ Some y
+    → list_all has_fitting_body (taken_entries steps) ≡ true → AreFrom x.doc.minimum (taken_entries steps)
 entries-from before [] x y run h fits = tt
 entries-from before (Edits op ∷ steps) x y run h fits = quiet before steps (Edits op) x y run refl (λ z r g. entries-from (before ++ (Edits op ∷ [])) steps z y r g fits) h
-entries-from before (Connects conn ∷ steps) x y run h fits = quiet before steps (Connects conn) x y run refl (λ z r g. entries-from (before ++ (Connects conn ∷ [])) steps z y r g fits) h
+entries-from before (Connects conn ∷ steps) x y run h fits = quiet before steps (Connects conn) x y run refl
+    (λ z r g. entries-from (before ++ (Connects conn ∷ [])) steps z y r g fits) h
 entries-from before (Drops ∷ steps) x y run h fits = quiet before steps Drops x y run refl (λ z r g. entries-from (before ++ (Drops ∷ [])) steps z y r g fits) h
 entries-from before (Idles ∷ steps) x y run h fits = quiet before steps Idles x y run refl (λ z r g. entries-from (before ++ (Idles ∷ [])) steps z y r g fits) h
 entries-from before (Sends ∷ steps) x y run h fits = quiet before steps Sends x y run refl (λ z r g. entries-from (before ++ (Sends ∷ [])) steps z y r g fits) h
@@ -80,7 +90,8 @@ entries-append : (doc : Document) (es fs : List Entry) → take_entries doc (es 
 entries-append doc [] fs = refl
 entries-append doc (e ∷ es) fs = entries-append (take_entry doc e) es fs
 
-pub trimmed-run-shows : (start : Document) (steps : List ClientStep) (x : NaiveClient) (first further : List Entry) → IsRunFrom start steps x → taken_entries steps ≡ first ++ further
+pub trimmed-run-shows : (start : Document) (steps : List ClientStep) (x : NaiveClient) (first further : List Entry) → IsRunFrom start steps x
+    → taken_entries steps ≡ first ++ further
     → shown (take_entries (trim (take_entries start first)) further) ≡ shown (take_entries start (taken_entries steps))
 trimmed-run-shows start steps x first further run e =
     let begun : IsSoundRun [] (client_over start) = record { start = start; run = record { sound = run.sound; made = refl; bodies = refl } } in
@@ -100,7 +111,8 @@ both-take z (each_takes kept x k) e =
     let same : x ≡ z = (cc) in
     (kept, (refl, subst (IsCompacted kept) same k))
 
-goes-on : (before further : List ClientStep) (w x z : NaiveClient) → IsSoundRun before x → IsCompacted w x → after_steps (Some x) further ≡ Some z → list_all has_fitting_body (taken_entries further) ≡ true → ShowsSoFrom w further z
+goes-on : (before further : List ClientStep) (w x z : NaiveClient) → IsSoundRun before x → IsCompacted w x → after_steps (Some x) further ≡ Some z
+    → list_all has_fitting_body (taken_entries further) ≡ true → ShowsSoFrom w further z
 goes-on before [] w x z run k h fits =
     let same : x ≡ z = (cc) in
     (w, refl, (show-alike w x (run-facts before x run) k).content ∙ ap content same)
@@ -113,8 +125,10 @@ goes-on before (step ∷ further) w x z run k h fits =
     let rest = goes-on (before ++ (step ∷ [])) further t.0 y z (record { start = run.start; run = run-next before step x y run e f.0 }) t.1.1 g f.1 in
     (rest.0, ap (λ o. after_steps o further) t.1.0 ∙ rest.1, rest.2)) h
 
-pub trimmed-start-shows : (steps : List ClientStep) (x : NaiveClient) → IsSoundRun steps x → is_without_edits x ≡ true → (further : List ClientStep) (z : NaiveClient) → after_steps (Some (client_over x.doc)) further ≡ Some z
+pub trimmed-start-shows : (steps : List ClientStep) (x : NaiveClient) → IsSoundRun steps x → is_without_edits x ≡ true
+    → (further : List ClientStep) (z : NaiveClient) → after_steps (Some (client_over x.doc)) further ≡ Some z
     → list_all has_fitting_body (taken_entries further) ≡ true → ShowsSoFrom (client_over (trim x.doc)) further z
 trimmed-start-shows steps x run none further z h fits =
     let next = run-next steps Restarts x (client_over x.doc) run (ap (λ b. cond b (Some (client_over x.doc)) None) none) refl in
-    goes-on (steps ++ (Restarts ∷ [])) further (client_over (trim x.doc)) (client_over x.doc) z (record { start = run.start; run = next }) (starts-from-summary steps x run none) h fits
+    goes-on (steps ++ (Restarts ∷ [])) further (client_over (trim x.doc)) (client_over x.doc) z (record { start = run.start; run = next })
+    (starts-from-summary steps x run none) h fits

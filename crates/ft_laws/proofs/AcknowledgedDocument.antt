@@ -77,7 +77,8 @@ made-as (TakenOut ranges) n = omega arith
 made-as (Annotated ranges changes) n = omega arith
 
 -- one list
-pub list-acked : (k s c r : ℕ) (by : Option Stamp) (edit : StageEdit) (list : Sequence) → HasAuthor s c by edit → list_all (is_from (suc k)) list.items ≡ true → IsStanding k r c edit list.items
+pub list-acked : (k s c r : ℕ) (by : Option Stamp) (edit : StageEdit) (list : Sequence) → HasAuthor s c by edit → list_all (is_from (suc k)) list.items ≡ true
+    → IsStanding k r c edit list.items
     → sequenced_list (acked_list (suc k) s c list) ≡ list_after s c r by edit (sequenced_list list)
 list-acked k s c r by edit list a lowest h =
     ap (λ xs. record { items = xs; made = list.made + len (is_inserted_by (suc k)) list.items }) (acknowledged-sequenced k list.made s c r by edit list.items a lowest h)
@@ -146,7 +147,8 @@ made_of doc text rows cols is cells = record (sequenced_part doc) { text = text;
 
 stage-acked : (k s c r : ℕ) (rename : ElementId → ElementId) (o : SubOperation) (own : NamedElements) (sent : SentStage) (doc : Document)
     → Tells o sent → IsLowest (suc k) doc → StageStands k r c sent (renamed_names rename own) doc
-    → sequenced_part (ack_stage s c rename (record { stage = suc k; sub_operation = o; names = own }) doc) ≡ document_after s c r sent (renamed_names rename own) (sequenced_part doc)
+    → sequenced_part (ack_stage s c rename (record { stage = suc k; sub_operation = o; names = own }) doc)
+    ≡ document_after s c r sent (renamed_names rename own) (sequenced_part doc)
 stage-acked k s c r rename o own sent doc tells low h =
     let names = renamed_names rename own in
     let text = acked_list (suc k) s c doc.text in
@@ -157,8 +159,15 @@ stage-acked k s c r rename o own sent doc tells low h =
     let text' = list_after s c r (Some (Acked s c)) (text_edit sent) (sequenced_list doc.text) in
     let rows' = list_after s c r None (rows_edit sent) (sequenced_list doc.rows) in
     let cols' = list_after s c r None (cols_edit sent) (sequenced_list doc.cols) in
-    ap (λ js. record (sequenced_part doc) { text = sequenced_list text; rows = sequenced_list rows; cols = sequenced_list cols; intervals = js; cells = cells }) (sym (slide-ends text.items is))
-    ∙ ap (λ xs. made_of doc xs (sequenced_list rows) (sequenced_list cols) is cells) (list-acked k s c r (Some (Acked s c)) (text_edit sent) doc.text (text-author s c sent) low.text h.text)
+    ap (λ js. record (sequenced_part doc) {
+      text = sequenced_list text;
+      rows = sequenced_list rows;
+      cols = sequenced_list cols;
+      intervals = js;
+      cells = cells;
+    }) (sym (slide-ends text.items is))
+    ∙ ap (λ xs. made_of doc xs (sequenced_list rows) (sequenced_list cols) is cells)
+    (list-acked k s c r (Some (Acked s c)) (text_edit sent) doc.text (text-author s c sent) low.text h.text)
     ∙ ap (λ xs. made_of doc text' xs (sequenced_list cols) is cells) (list-acked k s c r None (rows_edit sent) doc.rows (rows-author s c sent) low.rows h.rows)
     ∙ ap (λ xs. made_of doc text' rows' xs is cells) (list-acked k s c r None (cols_edit sent) doc.cols (cols-author s c sent) low.cols h.cols)
     ∙ ap (λ js. made_of doc text' rows' cols' js cells) (tells.intervals names doc.intervals)
@@ -186,12 +195,15 @@ as-agrees false false h = refl
 
 sequenced-agree : (r c k : ℕ) (xs : List ListElement) → list_all (agrees_on r c k) (sequenced_elements xs) ≡ true
 sequenced-agree r c k xs =
-    all-retain_map is_sequenced without_pending (agrees_on r c k) (λ e h. agrees-as (seen_by r c (without_pending e)) (expects r c k (without_pending e)) (expects-seen r c k e h)) xs
+    all-retain_map is_sequenced without_pending (agrees_on r c k) (λ e h. agrees-as (seen_by r c (without_pending e)) (expects r c k (without_pending e))
+    (expects-seen r c k e h)) xs
 
-pub fits-agreed : (k s c r : ℕ) (sent : SentStage) (names : NamedElements) (doc : Document) → IsLowest (suc k) doc → StageStands k r c sent names doc → FitsAgreed s c r sent names (sequenced_part doc)
+pub fits-agreed : (k s c r : ℕ) (sent : SentStage) (names : NamedElements) (doc : Document) → IsLowest (suc k) doc → StageStands k r c sent names doc
+    → FitsAgreed s c r sent names (sequenced_part doc)
 fits-agreed k s c r sent names doc low h =
     let test = expects r c (suc (suc k)) in
-    let agree = λ (xs : List ListElement). seen-agree (agrees_on r c (suc (suc k))) test (seen_by r c) (λ e g. as-agrees (seen_by r c e) (test e) g) (sequenced_elements xs) (sequenced-agree r c (suc (suc k)) xs) in
+    let agree = λ (xs : List ListElement). seen-agree (agrees_on r c (suc (suc k))) test (seen_by r c) (λ e g. as-agrees (seen_by r c e) (test e) g)
+    (sequenced_elements xs) (sequenced-agree r c (suc (suc k)) xs) in
     let here : NamesBy test (sequenced_elements doc.text.items) (sequenced_elements doc.rows.items) (sequenced_elements doc.cols.items) sent names =
     subst (λ xs. NamesBy test xs (sequenced_elements doc.rows.items) (sequenced_elements doc.cols.items) sent names) (list_up_to-lowest k doc.text.items low.text)
     (subst (λ xs. NamesBy test (list_up_to k doc.text.items) xs (sequenced_elements doc.cols.items) sent names) (list_up_to-lowest k doc.rows.items low.rows)
@@ -201,8 +213,10 @@ fits-agreed k s c r sent names doc low h =
       rows = acknowledged-fits k s c r (rows_edit sent) doc.rows.items low.rows h.rows;
       cols = acknowledged-fits k s c r (cols_edit sent) doc.cols.items low.cols h.cols;
       named =
-          subst (λ n. NamesBy (seen_by r c) (sequenced_elements doc.text.items) (sequenced_elements doc.rows.items) (sequenced_elements doc.cols.items) sent n) (names-not_renamed names)
-          (names-as test (seen_by r c) (λ x. x) (sequenced_elements doc.text.items) (sequenced_elements doc.text.items) (sequenced_elements doc.rows.items) (sequenced_elements doc.rows.items) (sequenced_elements doc.cols.items) (sequenced_elements doc.cols.items)
+          subst (λ n. NamesBy (seen_by r c) (sequenced_elements doc.text.items) (sequenced_elements doc.rows.items) (sequenced_elements doc.cols.items) sent n)
+          (names-not_renamed names)
+          (names-as test (seen_by r c) (λ x. x) (sequenced_elements doc.text.items) (sequenced_elements doc.text.items) (sequenced_elements doc.rows.items)
+          (sequenced_elements doc.rows.items) (sequenced_elements doc.cols.items) (sequenced_elements doc.cols.items)
           (agree doc.text.items) (agree doc.rows.items) (agree doc.cols.items) sent names here);
     }
 

@@ -55,7 +55,8 @@ pub record EditAcked (c m s last r : ℕ) (gs rest : List ToldStage) (doc : Docu
   pub holds : Holds c m s last (map (renamed_told out.1) rest) out.0
   pub agrees : sequenced_part out.0 ≡ effects (sequenced_part doc) s c r (flat_map (λ g. told_as g.sent) gs)
 
-pub edit-acked : (c m s last r : ℕ) (gs rest : List ToldStage) (rename : ElementId → ElementId) (doc : Document) → AllRef r gs → Holds c m s last (map (renamed_told rename) (gs ++ rest)) doc
+pub edit-acked : (c m s last r : ℕ) (gs rest : List ToldStage) (rename : ElementId → ElementId) (doc : Document) → AllRef r gs
+    → Holds c m s last (map (renamed_told rename) (gs ++ rest)) doc
     → EditAcked c m s last r gs rest doc (ack_stages s c rename (map (λ g. g.stage) gs) doc)
 edit-acked c m s last r [] rest rename doc refs h = record { holds = h; agrees = refl }
 edit-acked c m s last r (g ∷ gs) rest rename doc refs h =
@@ -64,7 +65,8 @@ edit-acked c m s last r (g ∷ gs) rest rename doc refs h =
     let doc1 = ack_stage s c rename g.stage doc in
     let same : ack_stage s c (λ x. x) t.stage doc ≡ doc1 = renamed-first s c rename g.stage doc in
     let here : sequenced_part doc1 ≡ effects (sequenced_part doc) s c r (told_as g.sent) =
-    ap sequenced_part (sym same) ∙ acknowledged-effects c m s last s t (map (renamed_told rename) (gs ++ rest)) doc h ∙ ap (λ i. effects (sequenced_part doc) s c i (told_as g.sent)) refs.0 in
+    ap sequenced_part (sym same) ∙ acknowledged-effects c m s last s t (map (renamed_told rename) (gs ++ rest)) doc h
+    ∙ ap (λ i. effects (sequenced_part doc) s c i (told_as g.sent)) refs.0 in
     let next : Holds c m s last (map (renamed_told (λ x. f (rename x))) (gs ++ rest)) doc1 =
     subst (λ ts. Holds c m s last ts doc1) (all-twice f rename (gs ++ rest))
     (subst (λ d. Holds c m s last (map (renamed_told f) (map (renamed_told rename) (gs ++ rest))) d) same
@@ -72,5 +74,6 @@ edit-acked c m s last r (g ∷ gs) rest rename doc refs h =
     let later = edit-acked c m s last r gs rest (λ x. f (rename x)) doc1 refs.1 next in
     record {
       holds = later.holds;
-      agrees = later.agrees ∙ ap (λ d. effects d s c r (flat_map (λ g. told_as g.sent) gs)) here ∙ sym (effects-append (sequenced_part doc) s c r (told_as g.sent) (flat_map (λ g. told_as g.sent) gs));
+      agrees = later.agrees ∙ ap (λ d. effects d s c r (flat_map (λ g. told_as g.sent) gs)) here
+          ∙ sym (effects-append (sequenced_part doc) s c r (told_as g.sent) (flat_map (λ g. told_as g.sent) gs));
     }

@@ -29,7 +29,8 @@ only_mark k (Some j) = nat_eq j k
 abbrev pub is_only : ℕ → ListElement → Bool
 is_only k e = only_stamp k e.ins && only_mark k e.removal_stage
 
-acked_props-append : (k : ℕ) (props : PropertyList) (pending : List (ℕ × Changes)) (changes : Changes) → acked_props k props (pending ++ ((k, changes) ∷ [])) ≡ change (acked_props k props pending) changes
+acked_props-append : (k : ℕ) (props : PropertyList) (pending : List (ℕ × Changes)) (changes : Changes) → acked_props k props (pending ++ ((k, changes) ∷ []))
+    ≡ change (acked_props k props pending) changes
 acked_props-append k props [] changes = rw (same_nat k) refl
 acked_props-append k props ((j, other) ∷ pending) changes = acked_props-append k (cond (nat_eq j k) (change props other) props) pending changes
 
@@ -111,7 +112,8 @@ module _ (k n s c r : ℕ) where
       let next : n + (i + 1) ≡ n + i + 1 = omega arith in
       rw (stage, h.0, made-acked (i + 1) by props bs h.1, next) refl
 
-  removal-acked : (e : ListElement) → is_only k e ≡ true → expects r c (suc k) e ≡ true → acked_element k n s c (with_pending_removal k e) ≡ with_removal s c (acked_element k n s c e)
+  removal-acked : (e : ListElement) → is_only k e ≡ true → expects r c (suc k) e ≡ true → acked_element k n s c (with_pending_removal k e)
+      ≡ with_removal s c (acked_element k n s c e)
   removal-acked e h g =
       let p = both (only_stamp k e.ins) (only_mark k e.removal_stage) h in
       let none = unmarked r c k e p.1 g in
@@ -122,7 +124,13 @@ module _ (k n s c r : ℕ) where
       → acked_element k n s c (with_pending_annotation k changes e) ≡ with_annotation changes (acked_element k n s c e)
   annotation-acked changes e h g =
       let stage : nat_eq k k ≡ true = same_nat k in
-      rw (acked_props-append k e.props e.pending changes, filter-append (λ p. not (nat_eq p.0 k)) e.pending (k, changes), stage, append-nil (filter (λ p. not (nat_eq p.0 k)) e.pending)) refl
+      rw (
+        acked_props-append k e.props e.pending changes,
+        filter-append (λ p. not (nat_eq p.0 k)) e.pending (k, changes),
+        stage,
+        append-nil
+            (filter (λ p. not (nat_eq p.0 k)) e.pending),
+      ) refl
 
   pending-acked : (e : ListElement) → is_only k e ≡ true → is_pending (acked_element k n s c e) ≡ false
   pending-acked e h = stamp-not_pending k s c e.ins (both (only_stamp k e.ins) (only_mark k e.removal_stage) h).0
@@ -134,16 +142,20 @@ module _ (k n s c r : ℕ) where
       put-map (is_only k) (expects r c (suc k)) (seen_by r c) (acked_element k n s c) seen-acked is_pending pending-acked p (new_elements 0 (Local k) [] None props items) xs h
       ∙ ap (λ new. put (seen_by r c) is_pending p new (map (acked_element k n s c) xs)) (rw add-zero at (made-acked 0 by props items a))
   after_pending-acked by (TakenOut ranges) xs a h =
-      ranges-map (is_only k) (expects r c (suc k)) (seen_by r c) (acked_element k n s c) (with_pending_removal k) (with_removal s c) seen-acked removal-acked (only-removal k) ranges xs h
+      ranges-map (is_only k) (expects r c (suc k)) (seen_by r c) (acked_element k n s c) (with_pending_removal k) (with_removal s c) seen-acked removal-acked
+      (only-removal k) ranges xs h
   after_pending-acked by (Annotated ranges changes) xs a h =
-      ranges-map (is_only k) (expects r c (suc k)) (seen_by r c) (acked_element k n s c) (with_pending_annotation k changes) (with_annotation changes) seen-acked (annotation-acked changes) (λ e g. g) ranges xs h
+      ranges-map (is_only k) (expects r c (suc k)) (seen_by r c) (acked_element k n s c) (with_pending_annotation k changes) (with_annotation changes)
+      seen-acked (annotation-acked changes) (λ e g. g) ranges xs h
 
   fits-acked : (edit : StageEdit) (xs : List ListElement) → list_all (is_only k) xs ≡ true → fits_sequenced s c r edit (map (acked_element k n s c) xs) ≡ fits_pending r c k edit xs
   fits-acked (PutIn p props items) xs h = ap (nat_le p) (len-map (is_only k) (expects r c (suc k)) (seen_by r c) (acked_element k n s c) seen-acked xs h)
   fits-acked (TakenOut ranges) xs h =
-      fit-map (is_only k) (expects r c (suc k)) (seen_by r c) (acked_element k n s c) (with_pending_removal k) (with_removal s c) seen-acked removal-acked (only-removal k) ranges xs h
+      fit-map (is_only k) (expects r c (suc k)) (seen_by r c) (acked_element k n s c) (with_pending_removal k) (with_removal s c) seen-acked removal-acked
+      (only-removal k) ranges xs h
   fits-acked (Annotated ranges changes) xs h =
-      fit-map (is_only k) (expects r c (suc k)) (seen_by r c) (acked_element k n s c) (with_pending_annotation k changes) (with_annotation changes) seen-acked (annotation-acked changes) (λ e g. g) ranges xs h
+      fit-map (is_only k) (expects r c (suc k)) (seen_by r c) (acked_element k n s c) (with_pending_annotation k changes) (with_annotation changes) seen-acked
+      (annotation-acked changes) (λ e g. g) ranges xs h
 
   acked-sequenced : (xs : List ListElement) → map (acked_element k n s c) (sequenced_elements xs) ≡ sequenced_elements xs
   acked-sequenced xs = map-fixed is_sequenced without_pending (acked_element k n s c) (acked-fixed k n s c) xs
@@ -169,7 +181,8 @@ list_up_to-lowest k (e ∷ xs) h =
     rw (below-stamp k e.ins p.0, below-removal k e.removal_stage p.1, below-changes k e.pending p.2, list_up_to-lowest k xs here.1) refl
 
 -- the acknowledgement of the lowest stage, without what is pending
-pub acknowledged-sequenced : (k n s c r : ℕ) (by : Option Stamp) (edit : StageEdit) (xs : List ListElement) → HasAuthor s c by edit → list_all (is_from (suc k)) xs ≡ true → IsStanding k r c edit xs
+pub acknowledged-sequenced : (k n s c r : ℕ) (by : Option Stamp) (edit : StageEdit) (xs : List ListElement) → HasAuthor s c by edit
+    → list_all (is_from (suc k)) xs ≡ true → IsStanding k r c edit xs
     → sequenced_elements (map (acked_element (suc k) n s c) xs) ≡ after_sequenced s c r n by edit (sequenced_elements xs)
 acknowledged-sequenced k n s c r by edit xs a lowest h =
     sequenced_elements-acked (suc k) n s c xs lowest
@@ -177,7 +190,8 @@ acknowledged-sequenced k n s c r by edit xs a lowest h =
     ∙ after_pending-acked (suc k) n s c r by edit (sequenced_elements xs) a (without-only (suc k) xs)
     ∙ ap (after_sequenced s c r n by edit) (acked-sequenced (suc k) n s c r xs)
 
-pub acknowledged-fits : (k s c r : ℕ) (edit : StageEdit) (xs : List ListElement) → list_all (is_from (suc k)) xs ≡ true → IsStanding k r c edit xs → fits_sequenced s c r edit (sequenced_elements xs) ≡ true
+pub acknowledged-fits : (k s c r : ℕ) (edit : StageEdit) (xs : List ListElement) → list_all (is_from (suc k)) xs ≡ true → IsStanding k r c edit xs
+    → fits_sequenced s c r edit (sequenced_elements xs) ≡ true
 acknowledged-fits k s c r edit xs lowest h =
     ap (fits_sequenced s c r edit) (sym (acked-sequenced (suc k) 0 s c r xs))
     ∙ fits-acked (suc k) 0 s c r edit (sequenced_elements xs) (without-only (suc k) xs)

@@ -33,7 +33,8 @@ use Rattle.ft_laws.proofs.SideBySideStages.{carried-seen, carried-same}
 -- ---- one list
 
 -- without pending stages the same is seen
-first-view : (xs : List ListElement) → list_all (λ e. is_sequenced e || not (seen 0 e)) xs ≡ true → filter (seen 0) (retain_map is_sequenced carried_element xs) ≡ filter (seen 0) xs
+first-view : (xs : List ListElement) → list_all (λ e. is_sequenced e || not (seen 0 e)) xs ≡ true
+    → filter (seen 0) (retain_map is_sequenced carried_element xs) ≡ filter (seen 0) xs
 first-view [] h = refl
 first-view (e ∷ xs) h =
     let p = both (is_sequenced e || not (seen 0 e)) (list_all (λ e. is_sequenced e || not (seen 0 e)) xs) h in
@@ -43,14 +44,16 @@ first-view (e ∷ xs) h =
     rest = retain_map is_sequenced carried_element xs
 
     kept : (b : Bool) → seen 0 e ≡ b → filter (seen 0) (retain_map is_sequenced carried_element xs) ≡ filter (seen 0) xs
-        → cond b (carried_element e ∷ filter (seen 0) (retain_map is_sequenced carried_element xs)) (filter (seen 0) (retain_map is_sequenced carried_element xs)) ≡ cond b (e ∷ filter (seen 0) xs) (filter (seen 0) xs)
+        → cond b (carried_element e ∷ filter (seen 0) (retain_map is_sequenced carried_element xs))
+        (filter (seen 0) (retain_map is_sequenced carried_element xs)) ≡ cond b (e ∷ filter (seen 0) xs) (filter (seen 0) xs)
     kept true h q = ap (λ d. d ∷ filter (seen 0) (retain_map is_sequenced carried_element xs)) (carried-same 0 e h) ∙ ap (λ us. e ∷ us) q
     kept false h q = q
 
     step : (a b : Bool) → seen 0 e ≡ b → a || not (seen 0 e) ≡ true → filter (seen 0) (retain_map is_sequenced carried_element xs) ≡ filter (seen 0) xs
         → filter (seen 0) (cond a (carried_element e ∷ retain_map is_sequenced carried_element xs) (retain_map is_sequenced carried_element xs)) ≡ filter (seen 0) (e ∷ xs)
     step true b h a q =
-        ap (λ c. cond c (carried_element e ∷ filter (seen 0) (retain_map is_sequenced carried_element xs)) (filter (seen 0) (retain_map is_sequenced carried_element xs))) (carried-seen 0 e ∙ h)
+        ap (λ c. cond c (carried_element e ∷ filter (seen 0) (retain_map is_sequenced carried_element xs))
+        (filter (seen 0) (retain_map is_sequenced carried_element xs))) (carried-seen 0 e ∙ h)
         ∙ kept b h q ∙ sym (ap (λ c. cond c (e ∷ filter (seen 0) xs) (filter (seen 0) xs)) h)
     step false b h a q = q ∙ sym (ap (λ c. cond c (e ∷ filter (seen 0) xs) (filter (seen 0) xs)) (hidden (seen 0 e) a))
       where
@@ -68,11 +71,13 @@ module _ (inserts removes : SubOperation → Bool) (stages : List Stage) (m : �
       none : (i : ℕ) → nat_le i 0 ≡ true → is_stage_of inserts stages i ≡ true → false ≡ true
       none i l s = let b : i ≤ 0 = grind (arith, nat_tests) in cc (rise-absent [] inserts i 0 m stages rise b)
 
-      pending : (b : Bool) (i : ℕ) → nat_le i 0 ≡ b → is_stage_of inserts stages i ≡ true → not (b && not (list_any (has_occurred_at_stage 0) (e.dels ++ removal_stamp e.removal_stage))) ≡ true
+      pending : (b : Bool) (i : ℕ) → nat_le i 0 ≡ b → is_stage_of inserts stages i ≡ true
+          → not (b && not (list_any (has_occurred_at_stage 0) (e.dels ++ removal_stamp e.removal_stage))) ≡ true
       pending true i l s = absurd (cc (none i l s))
       pending false i l s = refl
 
-      step : (t : Stamp) → has_insertion_of inserts stages t ≡ true → is_acked t || not (has_occurred_at_stage 0 t && not (list_any (has_occurred_at_stage 0) (e.dels ++ removal_stamp e.removal_stage))) ≡ true
+      step : (t : Stamp) → has_insertion_of inserts stages t ≡ true → is_acked t
+          || not (has_occurred_at_stage 0 t && not (list_any (has_occurred_at_stage 0) (e.dels ++ removal_stamp e.removal_stage))) ≡ true
       step (Acked s c) g = refl
       step (Local i) g = pending (nat_le i 0) i refl g
 
@@ -97,7 +102,8 @@ module _ (inserts removes : SubOperation → Bool) (stages : List Stage) (m : �
   none-put : (k : ℕ) (xs : List ListElement) → list_any (is_inserted_by (suc k)) xs ≡ false → StandSideBySide k xs
   none-put k xs n =
       filter-or (seen k) (is_inserted_by (suc k)) xs n
-      ∙ sym (ap (λ new. put (seen k) no_run (stage_position (suc k) xs) new (filter (seen k) xs)) (filter-none (is_inserted_by (suc k)) xs n) ∙ put-nothing (seen k) (stage_position (suc k) xs) (filter (seen k) xs))
+      ∙ sym (ap (λ new. put (seen k) no_run (stage_position (suc k) xs) new (filter (seen k) xs)) (filter-none (is_inserted_by (suc k)) xs n)
+      ∙ put-nothing (seen k) (stage_position (suc k) xs) (filter (seen k) xs))
 
   pub all-side : (k : ℕ) → StandSideBySide k list.items
   all-side k = step (is_stage_of inserts stages (suc k)) refl
@@ -112,7 +118,12 @@ module _ (inserts removes : SubOperation → Bool) (stages : List Stage) (m : �
 
   -- up to each stage the list has the same views
   pub stage-views : (k : ℕ) → SameViews k list.items (stage_list list.items k)
-  stage-views k = record { view = view-rebuilt list.items all-side first-base k; next = next-rebuilt list.items all-side first-base k; all = λ P f q. all-rebuilt list.items P f q k }
+  stage-views k = record {
+    view = view-rebuilt list.items all-side first-base k;
+    next = next-rebuilt list.items all-side first-base k;
+    all = λ P f q.
+        all-rebuilt list.items P f q k;
+  }
 
   rebuilt-views : SameViews m list.items (rebuilt_list (map (λ t. t.stage) stages) list).items
   rebuilt-views = subst (SameViews m list.items) (sym rebuilt-all) (stage-views m)
@@ -135,12 +146,14 @@ module _ (inserts removes : SubOperation → Bool) (stages : List Stage) (m : �
       unmarked None g = refl
       unmarked (Some i) g = above (nat_le i 0) i refl g
 
-      unoccurred : (dels : List Stamp) (o : Option ℕ) → has_removal_of removes stages o ≡ true → list_all is_acked dels ≡ true → list_any is_acked (dels ++ removal_stamp o) ≡ false → list_any (has_occurred_at_stage 0) (dels ++ removal_stamp o) ≡ false
+      unoccurred : (dels : List Stamp) (o : Option ℕ) → has_removal_of removes stages o ≡ true → list_all is_acked dels ≡ true
+          → list_any is_acked (dels ++ removal_stamp o) ≡ false → list_any (has_occurred_at_stage 0) (dels ++ removal_stamp o) ≡ false
       unoccurred [] o g a n = unmarked o g
       unoccurred (Acked s c ∷ dels) o g a n = (cc)
       unoccurred (Local i ∷ dels) o g a n = (cc)
 
-      step : (a b : Bool) → is_acked e.ins ≡ a → list_any is_acked (e.dels ++ removal_stamp e.removal_stage) ≡ b → has_removal_of removes stages e.removal_stage ≡ true → list_all is_acked e.dels ≡ true → not (a && not b) || seen 0 e ≡ true
+      step : (a b : Bool) → is_acked e.ins ≡ a → list_any is_acked (e.dels ++ removal_stamp e.removal_stage) ≡ b
+          → has_removal_of removes stages e.removal_stage ≡ true → list_all is_acked e.dels ≡ true → not (a && not b) || seen 0 e ≡ true
       step true true p q g d = refl
       step true false p q g d = rw (occurs e.ins p, unoccurred e.dels e.removal_stage g d q) refl
       step false b p q g d = refl
@@ -161,13 +174,15 @@ module _ (x : NaiveClient) (conn : ℕ) (h : IsOrderly x) where
   col-views = rebuilt-views any_kind any_kind (stages_of x) x.last_stage h.stages x.doc.cols h.cols
 
   first-left : list_all (is_left inserts_text removes_text (stages_of x) 0) x.doc.text.items ≡ true
-  first-left = all-weaker (has_marks_of inserts_text removes_text (stages_of x)) (is_left inserts_text removes_text (stages_of x) 0) (left-first inserts_text removes_text (stages_of x)) x.doc.text.items h.text.marks
+  first-left = all-weaker (has_marks_of inserts_text removes_text (stages_of x)) (is_left inserts_text removes_text (stages_of x) 0)
+      (left-first inserts_text removes_text (stages_of x)) x.doc.text.items h.text.marks
 
   first-end : (i : Option ElementId) → is_end_on x.doc.text.items i ≡ true → is_end_at 0 x.doc.text.items i ≡ true
   first-end None k = refl
   first-end (Some i) k =
       named-weaker is_unremoved (seen 0) i x.doc.text.items
-      (all-weaker (has_marks_of inserts_text removes_text (stages_of x)) (λ e. not (is_unremoved e) || seen 0 e) (unremoved-seen inserts_text removes_text (stages_of x) x.last_stage h.stages x.doc.text h.text) x.doc.text.items h.text.marks) k
+      (all-weaker (has_marks_of inserts_text removes_text (stages_of x)) (λ e. not (is_unremoved e) || seen 0 e)
+      (unremoved-seen inserts_text removes_text (stages_of x) x.last_stage h.stages x.doc.text h.text) x.doc.text.items h.text.marks) k
 
   first-ends : list_all (has_ends_at 0 x.doc.text.items) x.doc.intervals ≡ true
   first-ends =
@@ -188,11 +203,14 @@ module _ (x : NaiveClient) (conn : ℕ) (h : IsOrderly x) where
       let text_view : filter (seen m) text ≡ filter (seen m) doc.text.items = text-views.view m (omega arith) in
       let row_view : filter (seen m) rows ≡ filter (seen m) doc.rows.items = row-views.view m (omega arith) in
       let col_view : filter (seen m) cols ≡ filter (seen m) doc.cols.items = col-views.view m (omega arith) in
-      let intervals : map (interval_record m text) (shown_intervals text doc.intervals now) ≡ map (interval_record m doc.text.items) (shown_intervals doc.text.items doc.intervals stages) =
+      let intervals : map (interval_record m text) (shown_intervals text doc.intervals now)
+      ≡ map (interval_record m doc.text.items) (shown_intervals doc.text.items doc.intervals stages) =
       ap (λ ss. map (interval_record m text) (shown_intervals text doc.intervals ss)) again
       ∙ ap (map (interval_record m text)) (intervals-same doc text m text-views h.text.distinct stages 0 doc.intervals h.stages first-left first-ends)
-      ∙ records-same text-views h.text.distinct (shown_intervals doc.text.items doc.intervals stages) (shown-at doc text m text-views h.text.distinct stages 0 doc.intervals h.stages first-left first-ends) in
-      let cells : all_cells doc.cells now (filter (seen m) cols) 0 (filter (seen m) rows) ≡ all_cells doc.cells stages (filter (seen m) doc.cols.items) 0 (filter (seen m) doc.rows.items) =
+      ∙ records-same text-views h.text.distinct (shown_intervals doc.text.items doc.intervals stages)
+      (shown-at doc text m text-views h.text.distinct stages 0 doc.intervals h.stages first-left first-ends) in
+      let cells : all_cells doc.cells now (filter (seen m) cols) 0 (filter (seen m) rows)
+      ≡ all_cells doc.cells stages (filter (seen m) doc.cols.items) 0 (filter (seen m) doc.rows.items) =
       ap (λ ss. all_cells doc.cells ss (filter (seen m) cols) 0 (filter (seen m) rows)) again
       ∙ ap (λ cs. all_cells doc.cells (flat_map (carried_stage doc) stages) cs 0 (filter (seen m) rows)) col_view
       ∙ ap (all_cells doc.cells (flat_map (carried_stage doc) stages) (filter (seen m) doc.cols.items) 0) row_view

@@ -110,7 +110,8 @@ removals : (s c r : ℕ) (is : List Interval) (ranges : List (ℕ × ℕ)) (doc 
     ≡ with_slid_ends (record doc { text = record doc.text { items = change_ranges (seen_by r c) (with_removal s c) ranges doc.text.items }; intervals = is })
 removals s c r is [] doc h once fit = ap (λ js. record doc { intervals = js }) h
 removals s c r is ((p, q) ∷ ranges) doc h once fit =
-    let f = both (nat_le q (len (seen_by r c) doc.text.items)) (ranges_fit (seen_by r c) (with_removal s c) ranges (change_range (seen_by r c) p q (with_removal s c) doc.text.items)) fit in
+    let f = both (nat_le q (len (seen_by r c) doc.text.items)) (ranges_fit (seen_by r c) (with_removal s c) ranges
+    (change_range (seen_by r c) p q (with_removal s c) doc.text.items)) fit in
     let doc1 = with_slid_ends (record doc { text = after_removal s c r p q doc.text }) in
     let slid : doc1.intervals ≡ slide_ends doc1.text.items is =
     ap (slide_ends doc1.text.items) h ∙ ends-twice doc.text.items doc1.text.items is once (more-removed s c (seen_by r c) p q 0 doc.text.items) in
@@ -122,7 +123,8 @@ annotations : (s c r : ℕ) (changes : Changes) (ranges : List (ℕ × ℕ)) (do
     ≡ record doc { text = record doc.text { items = change_ranges (seen_by r c) (with_annotation changes) ranges doc.text.items } }
 annotations s c r changes [] doc fit = refl
 annotations s c r changes ((p, q) ∷ ranges) doc fit =
-    let f = both (nat_le q (len (seen_by r c) doc.text.items)) (ranges_fit (seen_by r c) (with_annotation changes) ranges (change_range (seen_by r c) p q (with_annotation changes) doc.text.items)) fit in
+    let f = both (nat_le q (len (seen_by r c) doc.text.items)) (ranges_fit (seen_by r c) (with_annotation changes) ranges
+    (change_range (seen_by r c) p q (with_annotation changes) doc.text.items)) fit in
     let doc1 : Document = record doc { text = record { items = change_range (seen_by r c) p q (with_annotation changes) doc.text.items; made = doc.text.made } } in
     ap (λ b. effects (cond b doc1 (with_skip doc)) s c r (map (λ r. OnText (Annotate r.0 r.1 changes)) ranges)) f.0
     ∙ annotations s c r changes ranges doc1 f.1
@@ -132,7 +134,8 @@ rows-removals : (s c r : ℕ) (ranges : List (ℕ × ℕ)) (doc : Document) → 
     ≡ record doc { rows = record doc.rows { items = change_ranges (seen_by r c) (with_removal s c) ranges doc.rows.items } }
 rows-removals s c r [] doc fit = refl
 rows-removals s c r ((p, q) ∷ ranges) doc fit =
-    let f = both (nat_le q (len (seen_by r c) doc.rows.items)) (ranges_fit (seen_by r c) (with_removal s c) ranges (change_range (seen_by r c) p q (with_removal s c) doc.rows.items)) fit in
+    let f = both (nat_le q (len (seen_by r c) doc.rows.items)) (ranges_fit (seen_by r c) (with_removal s c) ranges
+    (change_range (seen_by r c) p q (with_removal s c) doc.rows.items)) fit in
     let doc1 : Document = record doc { rows = after_removal s c r p q doc.rows } in
     ap (λ b. effects (cond b doc1 (with_skip doc)) s c r (map (λ r. OnGrid (SpliceOut Rows r.0 r.1)) ranges)) f.0
     ∙ rows-removals s c r ranges doc1 f.1
@@ -142,7 +145,8 @@ cols-removals : (s c r : ℕ) (ranges : List (ℕ × ℕ)) (doc : Document) → 
     ≡ record doc { cols = record doc.cols { items = change_ranges (seen_by r c) (with_removal s c) ranges doc.cols.items } }
 cols-removals s c r [] doc fit = refl
 cols-removals s c r ((p, q) ∷ ranges) doc fit =
-    let f = both (nat_le q (len (seen_by r c) doc.cols.items)) (ranges_fit (seen_by r c) (with_removal s c) ranges (change_range (seen_by r c) p q (with_removal s c) doc.cols.items)) fit in
+    let f = both (nat_le q (len (seen_by r c) doc.cols.items)) (ranges_fit (seen_by r c) (with_removal s c) ranges
+    (change_range (seen_by r c) p q (with_removal s c) doc.cols.items)) fit in
     let doc1 : Document = record doc { cols = after_removal s c r p q doc.cols } in
     ap (λ b. effects (cond b doc1 (with_skip doc)) s c r (map (λ r. OnGrid (SpliceOut Cols r.0 r.1)) ranges)) f.0
     ∙ cols-removals s c r ranges doc1 f.1
@@ -172,31 +176,37 @@ any-put-more test place past zero new xs h = any-past-more test past new xs h
 any-put-more test place past (suc q) new [] h = (cc)
 any-put-more test place past (suc q) new (x ∷ xs) h = grind (arith, any-put-more test place past q new xs, any-put-more test place past (suc q) new xs)
 
-any-range : {A : Type 0} (test seen : A → Bool) (g : A → A) → ((x : A) → test (g x) ≡ test x) → (p q i : ℕ) (xs : List A) → list_any test (change_range_from i seen p q g xs) ≡ list_any test xs
+any-range : {A : Type 0} (test seen : A → Bool) (g : A → A) → ((x : A) → test (g x) ≡ test x) → (p q i : ℕ) (xs : List A)
+    → list_any test (change_range_from i seen p q g xs) ≡ list_any test xs
 any-range test seen g same p q i [] = refl
 any-range test seen g same p q i (x ∷ xs) = grind (arith, any-range test seen g same p q i xs, any-range test seen g same p q (suc i) xs, same x)
 
-pub any-ranges : {A : Type 0} (test seen : A → Bool) (g : A → A) → ((x : A) → test (g x) ≡ test x) → (ranges : List (ℕ × ℕ)) (xs : List A) → list_any test (change_ranges seen g ranges xs) ≡ list_any test xs
+pub any-ranges : {A : Type 0} (test seen : A → Bool) (g : A → A) → ((x : A) → test (g x) ≡ test x) → (ranges : List (ℕ × ℕ)) (xs : List A)
+    → list_any test (change_ranges seen g ranges xs) ≡ list_any test xs
 any-ranges test seen g same [] xs = refl
 any-ranges test seen g same ((p, q) ∷ ranges) xs = any-ranges test seen g same ranges (change_range seen p q g xs) ∙ any-range test seen g same p q 0 xs
 
-new-names-below : (m n s c : ℕ) (by : Option Stamp) (props : PropertyList) (items : List ElementContent) → m < n → len (has_id (SequencedId m)) (new_elements n (Acked s c) [] by props items) ≡ 0
+new-names-below : (m n s c : ℕ) (by : Option Stamp) (props : PropertyList) (items : List ElementContent) → m < n
+    → len (has_id (SequencedId m)) (new_elements n (Acked s c) [] by props items) ≡ 0
 new-names-below m n s c by props [] l = refl
 new-names-below m n s c by props (b ∷ bs) l =
     let here : nat_eq m n ≡ false = grind (arith, nat_tests) in
     rw here (new-names-below m (n + 1) s c by props bs (omega arith))
 
-new-names-once : (m n s c : ℕ) (by : Option Stamp) (props : PropertyList) (items : List ElementContent) → len (has_id (SequencedId m)) (new_elements n (Acked s c) [] by props items) ≤ 1
+new-names-once : (m n s c : ℕ) (by : Option Stamp) (props : PropertyList) (items : List ElementContent)
+    → len (has_id (SequencedId m)) (new_elements n (Acked s c) [] by props items) ≤ 1
 new-names-once m n s c by props [] = omega arith
 new-names-once m n s c by props (b ∷ bs) = grind (arith, nat_tests, new-names-once m (n + 1) s c by props bs, new-names-below m (n + 1) s c by props bs)
 
-new-names-above : (m n s c : ℕ) (by : Option Stamp) (props : PropertyList) (items : List ElementContent) → n + length items ≤ m → len (has_id (SequencedId m)) (new_elements n (Acked s c) [] by props items) ≡ 0
+new-names-above : (m n s c : ℕ) (by : Option Stamp) (props : PropertyList) (items : List ElementContent) → n + length items ≤ m
+    → len (has_id (SequencedId m)) (new_elements n (Acked s c) [] by props items) ≡ 0
 new-names-above m n s c by props [] l = refl
 new-names-above m n s c by props (b ∷ bs) l =
     let here : nat_eq m n ≡ false = grind (arith, nat_tests) in
     rw here (new-names-above m (n + 1) s c by props bs (omega arith))
 
-new-names-pending : (k m n s c : ℕ) (by : Option Stamp) (props : PropertyList) (items : List ElementContent) → len (has_id (PendingId k m)) (new_elements n (Acked s c) [] by props items) ≡ 0
+new-names-pending : (k m n s c : ℕ) (by : Option Stamp) (props : PropertyList) (items : List ElementContent)
+    → len (has_id (PendingId k m)) (new_elements n (Acked s c) [] by props items) ≡ 0
 new-names-pending k m n s c by props [] = refl
 new-names-pending k m n s c by props (b ∷ bs) = new-names-pending k m (n + 1) s c by props bs
 
@@ -221,7 +231,8 @@ put-once s c r p by props items list h (PendingId k m) =
     let new = new-names-pending k m list.made s c by props items in
     omega arith
 
-put-fresh : (s c : ℕ) (by : Option Stamp) (props : PropertyList) (items : List ElementContent) (list : Sequence) → IsNamed list → (a : ElementId) → IsFresh (list.made + length items) a
+put-fresh : (s c : ℕ) (by : Option Stamp) (props : PropertyList) (items : List ElementContent) (list : Sequence) → IsNamed list → (a : ElementId)
+    → IsFresh (list.made + length items) a
     → len (has_id a) (new_elements list.made (Acked s c) [] by props items) + len (has_id a) list.items ≡ 0
 put-fresh s c by props items list h (SequencedId m) l =
     let none = h.fresh (SequencedId m) (omega arith) in
@@ -250,25 +261,35 @@ named-after s c r by (PutIn p props items) list h =
 named-after s c r by (TakenOut ranges) list h = ranges-named (seen_by r c) (with_removal s c) (λ a x. refl) ranges list h
 named-after s c r by (Annotated ranges changes) list h = ranges-named (seen_by r c) (with_annotation changes) (λ a x. refl) ranges list h
 
-end-after : (s c r : ℕ) (by : Option Stamp) (edit : StageEdit) (list : Sequence) (o : Option ElementId) → removes edit ≡ false → Stands list.items o → Stands (list_after s c r by edit list).items o
+end-after : (s c r : ℕ) (by : Option Stamp) (edit : StageEdit) (list : Sequence) (o : Option ElementId) → removes edit ≡ false → Stands list.items o
+    → Stands (list_after s c r by edit list).items o
 end-after s c r by edit list None keeps h = tt
-end-after s c r by (PutIn p props items) list (Some a) keeps h = any-put-more (is_standing_at a) (seen_by r c) is_pending p (new_elements list.made (Acked s c) [] by props items) list.items h
+end-after s c r by (PutIn p props items) list (Some a) keeps h = any-put-more (is_standing_at a) (seen_by r c) is_pending p
+    (new_elements list.made (Acked s c) [] by props items) list.items h
 end-after s c r by (TakenOut []) list (Some a) keeps h = h
 end-after s c r by (TakenOut (range ∷ ranges)) list (Some a) keeps h = (cc)
 end-after s c r by (Annotated ranges changes) list (Some a) keeps h = any-ranges (is_standing_at a) (seen_by r c) (with_annotation changes) (λ x. refl) ranges list.items ∙ h
 
 -- an edit that removes nothing keeps the ends where they stand
-pub ends-after : (s c r : ℕ) (by : Option Stamp) (edit : StageEdit) (list : Sequence) (is : List Interval) → removes edit ≡ false → EndsStand list.items is → EndsStand (list_after s c r by edit list).items is
+pub ends-after : (s c r : ℕ) (by : Option Stamp) (edit : StageEdit) (list : Sequence) (is : List Interval) → removes edit ≡ false → EndsStand list.items is
+    → EndsStand (list_after s c r by edit list).items is
 ends-after s c r by edit list [] keeps h = tt
-ends-after s c r by edit list (i ∷ is) keeps h = (end-after s c r by edit list i.start keeps h.0, end-after s c r by edit list i.end keeps h.1, ends-after s c r by edit list is keeps h.2)
+ends-after s c r by edit list (i ∷ is) keeps h = (
+  end-after s c r by edit list i.start keeps h.0,
+  end-after s c r by edit list i.end keeps h.1,
+  ends-after s c
+      r by edit list is keeps h.2,
+)
 
 ends-kept : (s c r : ℕ) (by : Option Stamp) (edit : StageEdit) (list : Sequence) (is : List Interval) → removes edit ≡ false → IsNamed list → EndsStand list.items is
     → slide_ends (list_after s c r by edit list).items is ≡ is
-ends-kept s c r by edit list is keeps named h = ends-stay (list_after s c r by edit list).items is (named-after s c r by edit list named).once (ends-after s c r by edit list is keeps h)
+ends-kept s c r by edit list is keeps named h = ends-stay (list_after s c r by edit list).items is (named-after s c r by edit list named).once
+    (ends-after s c r by edit list is keeps h)
 
 -- ---- a stage
 
-cell-write : (doc : Document) (value : ValueBytes) (row col : Option ListElement) (first second : Option ElementId) → IsOneName (option_map id row) first → IsOneName (option_map id col) second
+cell-write : (doc : Document) (value : ValueBytes) (row col : Option ListElement) (first second : Option ElementId) → IsOneName (option_map id row) first
+    → IsOneName (option_map id col) second
     → cell_effect doc row col value ≡ record doc { cells = write_named_cell first second value doc.cells }
 cell-write doc value (Some row) (Some col) (Some a) (Some b) h g = rw (h, g) refl
 cell-write doc value (Some row) (Some col) (Some a) None h g = absurd g
@@ -291,7 +312,8 @@ pub effects-stage : (s c r : ℕ) (sent : SentStage) (names : NamedElements) (do
 effects-stage s c r (TextPut p seg props) names doc sound fits =
     let list = list_after s c r (Some (Acked s c)) (PutIn p (apply [] props) (segment_contents seg)) doc.text in
     ap (λ b. cond b (record doc { text = list }) (with_skip doc)) fits.text
-    ∙ ap (λ is. record doc { text = list; intervals = is }) (sym (ends-kept s c r (Some (Acked s c)) (PutIn p (apply [] props) (segment_contents seg)) doc.text doc.intervals refl sound.named sound.ends))
+    ∙ ap (λ is. record doc { text = list; intervals = is }) (sym (ends-kept s c r (Some (Acked s c)) (PutIn p (apply [] props) (segment_contents seg)) doc.text
+    doc.intervals refl sound.named sound.ends))
 effects-stage s c r (TextTaken ranges) names doc sound fits =
     removals s c r doc.intervals ranges doc (sym (ends-stay doc.text.items doc.intervals sound.named.once sound.ends)) sound.named.once fits.text
 effects-stage s c r (TextAnnotated ranges changes) names doc sound fits =
@@ -299,7 +321,10 @@ effects-stage s c r (TextAnnotated ranges changes) names doc sound fits =
     annotations s c r changes ranges doc fits.text
     ∙ ap (λ is. record doc { text = list; intervals = is }) (sym (ends-kept s c r (Some (Acked s c)) (Annotated ranges changes) doc.text doc.intervals refl sound.named sound.ends))
 effects-stage s c r (IntervalsChanged op) names doc sound fits =
-    ap (λ b. cond b (with_slid_ends (record doc { intervals = after_interval_operation op (elements_at_given_ends (seen_by r c) doc.text.items (ends_of op)) doc.intervals })) (with_skip doc)) fits.named.0
+    ap (λ b. cond b (with_slid_ends (record doc {
+      intervals = after_interval_operation op (elements_at_given_ends (seen_by r c) doc.text.items (ends_of op))
+          doc.intervals;
+    })) (with_skip doc)) fits.named.0
     ∙ ap (λ n. with_slid_ends (record doc { intervals = after_interval_operation op n doc.intervals })) fits.named.1
 effects-stage s c r (UnitsPut Rows p count) names doc sound fits =
     let list = list_after s c r None (PutIn p [] (replicate count GridUnit)) doc.rows in
@@ -319,7 +344,8 @@ effects-stage s c r (UnitsTaken Cols ranges) names doc sound fits =
     ∙ ap (λ is. record doc { cols = list; intervals = is }) (sym (ends-stay doc.text.items doc.intervals sound.named.once sound.ends))
 effects-stage s c r (CellWritten i j value) names doc sound fits =
     cell-write doc value (at (seen_by r c) i doc.rows.items) (at (seen_by r c) j doc.cols.items) names.first names.second fits.named.0 fits.named.1
-    ∙ ap (λ is. record doc { cells = write_named_cell names.first names.second value doc.cells; intervals = is }) (sym (ends-stay doc.text.items doc.intervals sound.named.once sound.ends))
+    ∙ ap (λ is. record doc { cells = write_named_cell names.first names.second value doc.cells; intervals = is })
+    (sym (ends-stay doc.text.items doc.intervals sound.named.once sound.ends))
 
 -- a stage keeps what stands in the document
 pub sound-after : (s c r : ℕ) (sent : SentStage) (names : NamedElements) (doc : Document) → IsSound doc → IsSound (document_after s c r sent names doc)

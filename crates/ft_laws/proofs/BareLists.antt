@@ -26,8 +26,11 @@ bare-changes (p ∷ pending) h = (cc)
 
 bare-element : (n : ℕ) (e : ListElement) → is_within n [] e ≡ true → (is_sequenced e ≡ true) × (without_pending e ≡ e)
 bare-element n e h =
-    let p = all_four (stamp_within n [] e.ins) (list_all (is_numbered n) e.dels) (mark_within [] e.removal_stage) (list_all (λ p. is_among [] p.0) e.pending) h in
-    (bare-stamp n e.ins p.0, ap (λ m. record e { removal_stage = m; pending = [] }) (sym (bare-mark e.removal_stage p.2)) ∙ ap (λ q. record e { pending = q }) (sym (bare-changes e.pending p.3)))
+    let p = all_four (stamp_within n [] e.ins) (list_all (is_numbered n) e.dels) (mark_within [] e.removal_stage) (list_all (λ p. is_among [] p.0) e.pending) h in (
+      bare-stamp n e.ins p.0,
+      ap (λ m. record e { removal_stage = m; pending = [] }) (sym (bare-mark e.removal_stage p.2))
+          ∙ ap (λ q. record e { pending = q }) (sym (bare-changes e.pending p.3)),
+    )
 
 all-kept : (keep : ListElement → Bool) (f : ListElement → ListElement) (n : ℕ) → ((e : ListElement) → is_within n [] e ≡ true → (keep e ≡ true) × (f e ≡ e))
     → (xs : List ListElement) → list_all (is_within n []) xs ≡ true → retain_map keep f xs ≡ xs
@@ -40,7 +43,8 @@ all-kept keep f n k (e ∷ xs) h =
 pub sequenced-bare : (n : ℕ) (list : Sequence) → list_all (is_within n []) list.items ≡ true → sequenced_list list ≡ list
 sequenced-bare n list h = ap (λ xs. record list { items = xs }) (all-kept is_sequenced without_pending n (bare-element n) list.items h)
 
-pub lists-bare : (n : ℕ) (doc : Document) → list_all (is_within n []) doc.text.items ≡ true → list_all (is_within n []) doc.rows.items ≡ true → list_all (is_within n []) doc.cols.items ≡ true → sequenced_part doc ≡ doc
+pub lists-bare : (n : ℕ) (doc : Document) → list_all (is_within n []) doc.text.items ≡ true → list_all (is_within n []) doc.rows.items ≡ true
+    → list_all (is_within n []) doc.cols.items ≡ true → sequenced_part doc ≡ doc
 lists-bare n doc text rows cols =
     ap (λ list. record doc { text = list; rows = sequenced_list doc.rows; cols = sequenced_list doc.cols }) (sequenced-bare n doc.text text)
     ∙ ap (λ list. record doc { rows = list; cols = sequenced_list doc.cols }) (sequenced-bare n doc.rows rows)

@@ -38,7 +38,8 @@ second-empty [] ys h = h
 second-empty (x ∷ xs) ys h = absurd cc
 
 module _ (doc : Document) where
-  stage-gone : (k : ℕ) (o : SubOperation) (names : NamedElements) → pieces doc (record { stage = k; sub_operation = o; names = names }) ≡ [] → carried_stage doc (record { stage = k; sub_operation = o; names = names }) ≡ []
+  stage-gone : (k : ℕ) (o : SubOperation) (names : NamedElements) → pieces doc (record { stage = k; sub_operation = o; names = names }) ≡ []
+      → carried_stage doc (record { stage = k; sub_operation = o; names = names }) ≡ []
   stage-gone k (OnText op) names h = by_pieces (text_pieces k doc.text.items op) h
     where
       by_pieces : (ps : List SubOperation) → ps ≡ [] → (elim ps as (λ _. List Stage) [ [] ↦ [] | _ ∷ _ ↦ record { stage = k; sub_operation = OnText op; names = names } ∷ [] ]) ≡ []
@@ -60,30 +61,39 @@ module _ (doc : Document) where
   module _ (edit : PendingEdit) (edits : List PendingEdit) (conn n : ℕ) where
     stages-here : (o : Option ChannelOp) → op_of (flat_map (pieces doc) edit.stages) ≡ o → (rest : List Stage)
         → flat_map (λ e. e.stages) (resubmitted_edits doc conn n edits) ≡ rest → flat_map (λ e. e.stages) (resubmitted_edits doc conn (n + 1) edits) ≡ rest
-        → flat_map (λ (e : PendingEdit). e.stages) (elim o [ None ↦ resubmitted_edits doc conn n edits | Some op ↦ resubmitted_edit doc conn n edit op ∷ resubmitted_edits doc conn (n + 1) edits ])
+        → flat_map (λ (e : PendingEdit). e.stages) (elim o [
+          | None ↦ resubmitted_edits doc conn n edits
+          | Some op ↦ resubmitted_edit doc conn n edit op ∷
+              resubmitted_edits doc conn (n + 1) edits
+        ])
         ≡ flat_map (carried_stage doc) edit.stages ++ rest
     stages-here None h rest p q = p ∙ ap (λ us. us ++ rest) (sym (stages-gone edit.stages (no-operation (flat_map (pieces doc) edit.stages) h)))
     stages-here (Some op) h rest p q = ap (λ us. flat_map (carried_stage doc) edit.stages ++ us) q
 
     queue-here : (r : ℕ) (o : Option ChannelOp) (ops : List ChannelOp)
-        → flat_map (draft_of r) (resubmitted_edits doc conn n edits) ≡ drafts_from n r ops → flat_map (draft_of r) (resubmitted_edits doc conn (n + 1) edits) ≡ drafts_from (n + 1) r ops
+        → flat_map (draft_of r) (resubmitted_edits doc conn n edits) ≡ drafts_from n r ops → flat_map (draft_of r) (resubmitted_edits doc conn (n + 1) edits)
+        ≡ drafts_from (n + 1) r ops
         → flat_map (draft_of r) (elim o [ None ↦ resubmitted_edits doc conn n edits | Some op ↦ resubmitted_edit doc conn n edit op ∷ resubmitted_edits doc conn (n + 1) edits ])
         ≡ drafts_from n r (cons_option o ops)
     queue-here r None ops p q = p
     queue-here r (Some op) ops p q = ap (λ ds. record { client_seq = n; ref_seq = r; body = Op op } ∷ ds) q
 
   -- the stages that go on are those that have a piece
-  pub stages-resubmitted : (conn n : ℕ) (edits : List PendingEdit) → flat_map (λ e. e.stages) (resubmitted_edits doc conn n edits) ≡ flat_map (carried_stage doc) (flat_map (λ e. e.stages) edits)
+  pub stages-resubmitted : (conn n : ℕ) (edits : List PendingEdit) → flat_map (λ e. e.stages) (resubmitted_edits doc conn n edits)
+      ≡ flat_map (carried_stage doc) (flat_map (λ e. e.stages) edits)
   stages-resubmitted conn n [] = refl
   stages-resubmitted conn n (edit ∷ edits) =
-      stages-here edit edits conn n (op_of (flat_map (pieces doc) edit.stages)) refl (flat_map (carried_stage doc) (flat_map (λ e. e.stages) edits)) (stages-resubmitted conn n edits) (stages-resubmitted conn (n + 1) edits)
+      stages-here edit edits conn n (op_of (flat_map (pieces doc) edit.stages)) refl (flat_map (carried_stage doc) (flat_map (λ e. e.stages) edits))
+      (stages-resubmitted conn n edits) (stages-resubmitted conn (n + 1) edits)
       ∙ sym (flat_map-append (carried_stage doc) edit.stages (flat_map (λ e. e.stages) edits))
 
   -- each edit that goes on is queued
-  pub queue-resubmitted : (conn n r : ℕ) (edits : List PendingEdit) → flat_map (draft_of r) (resubmitted_edits doc conn n edits) ≡ drafts_from n r (filter_map (regenerated_edit doc) edits)
+  pub queue-resubmitted : (conn n r : ℕ) (edits : List PendingEdit) → flat_map (draft_of r) (resubmitted_edits doc conn n edits)
+      ≡ drafts_from n r (filter_map (regenerated_edit doc) edits)
   queue-resubmitted conn n r [] = refl
   queue-resubmitted conn n r (edit ∷ edits) =
-      queue-here edit edits conn n r (op_of (flat_map (pieces doc) edit.stages)) (filter_map (regenerated_edit doc) edits) (queue-resubmitted conn n r edits) (queue-resubmitted conn (n + 1) r edits)
+      queue-here edit edits conn n r (op_of (flat_map (pieces doc) edit.stages)) (filter_map (regenerated_edit doc) edits) (queue-resubmitted conn n r edits)
+      (queue-resubmitted conn (n + 1) r edits)
 
 -- ---- the numbers of a document have no part in it
 
@@ -94,7 +104,8 @@ grid-numbers entry doc k names (SpliceOut Rows p q) = refl
 grid-numbers entry doc k names (SpliceOut Cols p q) = refl
 grid-numbers entry doc k names (Set i j value) = refl
 
-piece-numbers : (entry : Entry) (doc : Document) (k : ℕ) (o : SubOperation) (names : NamedElements) → pieces (with_numbers entry doc) (record { stage = k; sub_operation = o; names = names }) ≡ pieces doc (record { stage = k; sub_operation = o; names = names })
+piece-numbers : (entry : Entry) (doc : Document) (k : ℕ) (o : SubOperation) (names : NamedElements)
+    → pieces (with_numbers entry doc) (record { stage = k; sub_operation = o; names = names }) ≡ pieces doc (record { stage = k; sub_operation = o; names = names })
 piece-numbers entry doc k (OnText op) names = refl
 piece-numbers entry doc k (OnIntervals op) names = refl
 piece-numbers entry doc k (OnGrid op) names = grid-numbers entry doc k names op
@@ -102,9 +113,11 @@ piece-numbers entry doc k (OnGrid op) names = grid-numbers entry doc k names op
 pieces-numbers : (entry : Entry) (doc : Document) (stages : List Stage) → flat_map (pieces (with_numbers entry doc)) stages ≡ flat_map (pieces doc) stages
 pieces-numbers entry doc [] = refl
 pieces-numbers entry doc (t ∷ stages) =
-    ap (λ us. us ++ flat_map (pieces (with_numbers entry doc)) stages) (piece-numbers entry doc t.stage t.sub_operation t.names) ∙ ap (λ us. pieces doc t ++ us) (pieces-numbers entry doc stages)
+    ap (λ us. us ++ flat_map (pieces (with_numbers entry doc)) stages) (piece-numbers entry doc t.stage t.sub_operation t.names)
+    ∙ ap (λ us. pieces doc t ++ us) (pieces-numbers entry doc stages)
 
-pub edits-numbers : (entry : Entry) (doc : Document) (edits : List PendingEdit) → filter_map (regenerated_edit (with_numbers entry doc)) edits ≡ filter_map (regenerated_edit doc) edits
+pub edits-numbers : (entry : Entry) (doc : Document) (edits : List PendingEdit) → filter_map (regenerated_edit (with_numbers entry doc)) edits
+    ≡ filter_map (regenerated_edit doc) edits
 edits-numbers entry doc [] = refl
 edits-numbers entry doc (edit ∷ edits) =
     ap (λ ps. cons_option (op_of ps) (filter_map (regenerated_edit (with_numbers entry doc)) edits)) (pieces-numbers entry doc edit.stages)

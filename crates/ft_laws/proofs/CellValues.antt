@@ -34,12 +34,15 @@ module _ (row col : ElementId) (cell : Cell) where
       ≡ cond (is_cell row col cell) (Some cell.value) (option_map (λ (c : Cell). c.value) (cond (is_cell row col other) (Some other) (find (is_cell row col) cells)))
   put-same other cells b e = rw e (step (is_cell row col cell))
     where
-      step : (b : Bool) → option_map (λ (c : Cell). c.value) (cond b (Some cell) (find (is_cell row col) cells)) ≡ cond b (Some cell.value) (option_map (λ (c : Cell). c.value) (cond b (Some other) (find (is_cell row col) cells)))
+      step : (b : Bool) → option_map (λ (c : Cell). c.value) (cond b (Some cell) (find (is_cell row col) cells))
+          ≡ cond b (Some cell.value) (option_map (λ (c : Cell). c.value) (cond b (Some other) (find (is_cell row col) cells)))
       step true = refl
       step false = refl
 
-  put-other : (other : Cell) (cells : List Cell) (a b : Bool) → (b ≡ true → a ≡ false) → cell_value row col (put_cell cell cells) ≡ cond b (Some cell.value) (cell_value row col cells)
-      → option_map (λ (c : Cell). c.value) (cond a (Some other) (find (is_cell row col) (put_cell cell cells))) ≡ cond b (Some cell.value) (option_map (λ (c : Cell). c.value) (cond a (Some other) (find (is_cell row col) cells)))
+  put-other : (other : Cell) (cells : List Cell) (a b : Bool) → (b ≡ true → a ≡ false) → cell_value row col (put_cell cell cells)
+      ≡ cond b (Some cell.value) (cell_value row col cells)
+      → option_map (λ (c : Cell). c.value) (cond a (Some other) (find (is_cell row col) (put_cell cell cells)))
+      ≡ cond b (Some cell.value) (option_map (λ (c : Cell). c.value) (cond a (Some other) (find (is_cell row col) cells)))
   put-other other cells true true f h = cc (f refl)
   put-other other cells true false f h = refl
   put-other other cells false b f h = h
@@ -57,7 +60,8 @@ module _ (row col : ElementId) (cell : Cell) where
       step true e h = put-same other cells true (is_cell-same row col cell other e)
       step false e h = put-other other cells (is_cell row col other) (is_cell row col cell) (λ k. is_cell-other row col cell other e k) h
 
-  value-filter : (cells : List Cell) → cell_value row col (filter (λ other. not (is_cell cell.row cell.col other)) cells) ≡ cond (is_cell row col cell) None (cell_value row col cells)
+  value-filter : (cells : List Cell) → cell_value row col (filter (λ other. not (is_cell cell.row cell.col other)) cells)
+      ≡ cond (is_cell row col cell) None (cell_value row col cells)
   value-filter [] = same-choice (is_cell row col cell) None
   value-filter (other ∷ cells) = step (is_cell cell.row cell.col other) refl (value-filter cells)
     where
@@ -65,7 +69,8 @@ module _ (row col : ElementId) (cell : Cell) where
       rest = filter (λ other. not (is_cell cell.row cell.col other)) cells
 
       here : (a b : Bool) → (b ≡ true → a ≡ false) → cell_value row col rest ≡ cond b None (cell_value row col cells)
-          → option_map (λ (c : Cell). c.value) (cond a (Some other) (find (is_cell row col) rest)) ≡ cond b None (option_map (λ (c : Cell). c.value) (cond a (Some other) (find (is_cell row col) cells)))
+          → option_map (λ (c : Cell). c.value) (cond a (Some other) (find (is_cell row col) rest))
+          ≡ cond b None (option_map (λ (c : Cell). c.value) (cond a (Some other) (find (is_cell row col) cells)))
       here true true f h = cc (f refl)
       here true false f h = refl
       here false b f h = h
@@ -86,7 +91,8 @@ module _ (row col : ElementId) (cell : Cell) where
   pub value-write : (cells : List Cell) → cell_value row col (write_cell cell cells) ≡ cond (is_cell row col cell) (value_unless_null cell.value) (cell_value row col cells)
   value-write cells = step (is_null cell.value)
     where
-      step : (b : Bool) → cell_value row col (cond b (filter (λ other. not (is_cell cell.row cell.col other)) cells) (put_cell cell cells)) ≡ cond (is_cell row col cell) (cond b None (Some cell.value)) (cell_value row col cells)
+      step : (b : Bool) → cell_value row col (cond b (filter (λ other. not (is_cell cell.row cell.col other)) cells) (put_cell cell cells))
+          ≡ cond (is_cell row col cell) (cond b None (Some cell.value)) (cell_value row col cells)
       step true = value-filter cells
       step false = value-put cells
 
@@ -97,12 +103,14 @@ module _ (row col : ElementId) (cell : Cell) where
       written : (cells : List Cell) (b : Bool) → List Cell
       written cells b = cond b (filter (λ other. not (is_cell cell.row cell.col other)) cells) (put_cell cell cells)
 
-      step : (b : Bool) → cell_value row col (cond b (filter (λ other. not (is_cell cell.row cell.col other)) ks) (put_cell cell ks)) ≡ cell_value row col (cond b (filter (λ other. not (is_cell cell.row cell.col other)) cs) (put_cell cell cs))
+      step : (b : Bool) → cell_value row col (cond b (filter (λ other. not (is_cell cell.row cell.col other)) ks) (put_cell cell ks))
+          ≡ cell_value row col (cond b (filter (λ other. not (is_cell cell.row cell.col other)) cs) (put_cell cell cs))
       step true = value-filter ks ∙ ap (cond (is_cell row col cell) None) h ∙ sym (value-filter cs)
       step false = value-put ks ∙ ap (cond (is_cell row col cell) (Some cell.value)) h ∙ sym (value-put cs)
 
   -- where a write leaves no value, and there was none, it leaves none
-  pub write-none : (ks cs : List Cell) → (cell_value row col cs ≡ None → cell_value row col ks ≡ None) → cell_value row col (write_cell cell cs) ≡ None → cell_value row col (write_cell cell ks) ≡ None
+  pub write-none : (ks cs : List Cell) → (cell_value row col cs ≡ None → cell_value row col ks ≡ None) → cell_value row col (write_cell cell cs) ≡ None
+      → cell_value row col (write_cell cell ks) ≡ None
   write-none ks cs h e = value-write ks ∙ step (is_cell row col cell) (sym (value-write cs) ∙ e)
     where
       step : (b : Bool) → cond b (value_unless_null cell.value) (cell_value row col cs) ≡ None → cond b (value_unless_null cell.value) (cell_value row col ks) ≡ None
@@ -114,7 +122,8 @@ pub none-filtered : (row col : ElementId) (keep : Cell → Bool) (cells : List C
 none-filtered row col keep [] h = h
 none-filtered row col keep (c ∷ cells) h = step (is_cell row col c) refl (keep c) h (λ g. none-filtered row col keep cells g)
   where
-    step : (a : Bool) → is_cell row col c ≡ a → (b : Bool) → option_map (λ (d : Cell). d.value) (cond a (Some c) (find (is_cell row col) cells)) ≡ None → (cell_value row col cells ≡ None → cell_value row col (filter keep cells) ≡ None)
+    step : (a : Bool) → is_cell row col c ≡ a → (b : Bool) → option_map (λ (d : Cell). d.value) (cond a (Some c) (find (is_cell row col) cells)) ≡ None
+        → (cell_value row col cells ≡ None → cell_value row col (filter keep cells) ≡ None)
         → cell_value row col (cond b (c ∷ filter keep cells) (filter keep cells)) ≡ None
     step true e b g ih = (cc)
     step false e true g ih = ap (λ b. option_map (λ (d : Cell). d.value) (cond b (Some c) (find (is_cell row col) (filter keep cells)))) e ∙ ih g
@@ -137,7 +146,8 @@ write-values cell cells h = step (is_null cell.value) refl
     step false e = stands (ap not e) cells h
 
 -- a cell of which all that it could be are kept has its value
-pub value-kept : (row col : ElementId) (keep : Cell → Bool) (cells : List Cell) → list_all has_value cells ≡ true → ((c : Cell) → has_value c ≡ true → row ≡ c.row → col ≡ c.col → keep c ≡ true)
+pub value-kept : (row col : ElementId) (keep : Cell → Bool) (cells : List Cell) → list_all has_value cells ≡ true
+    → ((c : Cell) → has_value c ≡ true → row ≡ c.row → col ≡ c.col → keep c ≡ true)
     → cell_value row col (filter keep cells) ≡ cell_value row col cells
 value-kept row col keep [] v h = refl
 value-kept row col keep (c ∷ cells) v h =

@@ -85,8 +85,10 @@ at-below n test zero (e ∷ xs) h =
     step false f g = g
 at-below n test (suc i) (e ∷ xs) h = at-below n test (cond (test e) i (suc i)) xs (both (is_numbered_below n e) (list_all (is_numbered_below n) xs) h).1
 
-cell-units : (doc : Document) (row col : Option ListElement) (value : ValueBytes) → is_unit_below doc.rows.made row ≡ true → is_unit_below doc.cols.made col ≡ true → AreCellsOfUnits doc → AreCellsOfUnits (cell_effect doc row col value)
-cell-units doc (Some row) (Some col) value r c h = all-write (is_cell_below doc.rows.made doc.cols.made) (record { row = id row; col = id col; value = value }) doc.cells (rw (r, c) refl) h
+cell-units : (doc : Document) (row col : Option ListElement) (value : ValueBytes) → is_unit_below doc.rows.made row ≡ true → is_unit_below doc.cols.made col
+    ≡ true → AreCellsOfUnits doc → AreCellsOfUnits (cell_effect doc row col value)
+cell-units doc (Some row) (Some col) value r c h = all-write (is_cell_below doc.rows.made doc.cols.made) (record { row = id row; col = id col; value = value })
+    doc.cells (rw (r, c) refl) h
 cell-units doc None col value r c h = h
 cell-units doc (Some row) None value r c h = h
 
@@ -100,10 +102,12 @@ text-units doc s c r (Annotate p q changes) h = either-way (nat_le q (len (seen_
 grid-units : (doc : Document) (s c r : ℕ) (op : CellOp) → IsConsistent doc → AreCellsOfUnits doc → AreCellsOfUnits (grid_effect doc s c r op)
 grid-units doc s c r (SpliceIn Rows p count) k h =
     either-way (nat_le p (len (seen_by r c) doc.rows.items)) _ (with_skip doc)
-    (all-weaker (is_cell_below doc.rows.made doc.cols.made) (is_cell_below (doc.rows.made + length (replicate count GridUnit)) doc.cols.made) (more-units doc.rows.made (doc.rows.made + length (replicate count GridUnit)) doc.cols.made doc.cols.made (omega arith) (omega arith)) doc.cells h) h
+    (all-weaker (is_cell_below doc.rows.made doc.cols.made) (is_cell_below (doc.rows.made + length (replicate count GridUnit)) doc.cols.made)
+    (more-units doc.rows.made (doc.rows.made + length (replicate count GridUnit)) doc.cols.made doc.cols.made (omega arith) (omega arith)) doc.cells h) h
 grid-units doc s c r (SpliceIn Cols p count) k h =
     either-way (nat_le p (len (seen_by r c) doc.cols.items)) _ (with_skip doc)
-    (all-weaker (is_cell_below doc.rows.made doc.cols.made) (is_cell_below doc.rows.made (doc.cols.made + length (replicate count GridUnit))) (more-units doc.rows.made doc.rows.made doc.cols.made (doc.cols.made + length (replicate count GridUnit)) (omega arith) (omega arith)) doc.cells h) h
+    (all-weaker (is_cell_below doc.rows.made doc.cols.made) (is_cell_below doc.rows.made (doc.cols.made + length (replicate count GridUnit)))
+    (more-units doc.rows.made doc.rows.made doc.cols.made (doc.cols.made + length (replicate count GridUnit)) (omega arith) (omega arith)) doc.cells h) h
 grid-units doc s c r (SpliceOut Rows p q) k h = either-way (nat_le q (len (seen_by r c) doc.rows.items)) _ (with_skip doc) h h
 grid-units doc s c r (SpliceOut Cols p q) k h = either-way (nat_le q (len (seen_by r c) doc.cols.items)) _ (with_skip doc) h h
 grid-units doc s c r (Set i j value) k h =

@@ -135,18 +135,21 @@ flat-append : (gss : List (List ToldStage)) (gs : List ToldStage) → flat (gss 
 flat-append [] gs = append-nil gs
 flat-append (hs ∷ gss) gs = ap (λ ts. hs ++ ts) (flat-append gss gs) ∙ sym (append_assoc hs (flat gss) gs)
 
-edits-append : (c : ℕ) (gss : List (List ToldStage)) (edits : List PendingEdit) (gs : List ToldStage) (edit : PendingEdit) → EditsTold c gss edits → EditTold c gs edit → EditsTold c (gss ++ (gs ∷ [])) (edits ++ (edit ∷ []))
+edits-append : (c : ℕ) (gss : List (List ToldStage)) (edits : List PendingEdit) (gs : List ToldStage) (edit : PendingEdit) → EditsTold c gss edits
+    → EditTold c gs edit → EditsTold c (gss ++ (gs ∷ [])) (edits ++ (edit ∷ []))
 edits-append c [] [] gs edit h k = (k, tt)
 edits-append c [] (e ∷ edits) gs edit h k = absurd h
 edits-append c (hs ∷ gss) [] gs edit h k = absurd h
 edits-append c (hs ∷ gss) (e ∷ edits) gs edit h k = (h.0, edits-append c gss edits gs edit h.1 k)
 
-sent-told : (c m : ℕ) (conns : List ℕ) (link : Link) (op : ChannelOp) (gs : List ToldStage) → LinkIs c conns link → sub_operations op ≡ flat_map (λ g. told_as g.sent) gs → SentTold c gs (sent_as link m op)
+sent-told : (c m : ℕ) (conns : List ℕ) (link : Link) (op : ChannelOp) (gs : List ToldStage) → LinkIs c conns link → sub_operations op
+    ≡ flat_map (λ g. told_as g.sent) gs → SentTold c gs (sent_as link m op)
 sent-told c m conns Offline op gs h e = tt
 sent-told c m conns (Joining conn) op gs h e = tt
 sent-told c m conns (Online conn) op gs h e = (h, e)
 
-draft-holds : (bound c : ℕ) (gss : List (List ToldStage)) (sent : Option SentAs) (ref : ℕ) (x : NaiveClient) → ClientHolds bound c gss x → ClientHolds bound c gss (with_draft sent ref x)
+draft-holds : (bound c : ℕ) (gss : List (List ToldStage)) (sent : Option SentAs) (ref : ℕ) (x : NaiveClient) → ClientHolds bound c gss x
+    → ClientHolds bound c gss (with_draft sent ref x)
 draft-holds bound c gss None ref x h = h
 draft-holds bound c gss (Some sent) ref x h = record { doc = h.doc; edits = h.edits; link = h.link; conn = h.conn }
 
@@ -181,7 +184,8 @@ one-kind (Grid (grid.Group ops)) = inr (inl (all-grid ops))
 kinds-typed : (n k : ℕ) (stages : List Stage) → map (λ g. g.stage.sub_operation) (typed_stages n k stages) ≡ flat_map (λ g. told_as g.sent) (typed_stages n k stages)
 kinds-typed n k [] = refl
 kinds-typed n k (t ∷ stages) =
-    ap (λ os. t.sub_operation ∷ os) (kinds-typed n (suc k) stages) ∙ ap (λ os. os ++ flat_map (λ g. told_as g.sent) (typed_stages n (suc k) stages)) (sym (told_as-told_of t.sub_operation))
+    ap (λ os. t.sub_operation ∷ os) (kinds-typed n (suc k) stages) ∙ ap (λ os. os ++ flat_map (λ g. told_as g.sent) (typed_stages n (suc k) stages))
+    (sym (told_as-told_of t.sub_operation))
 
 edited-holds : (bound c : ℕ) (gss : List (List ToldStage)) (x : NaiveClient) (op : ChannelOp) (taken : Document × List Stage) → ClientHolds bound c gss x
     → OwnEdit c x.doc.number x.last_stage (flat gss) x.doc (sub_operations op) taken → Stepped bound (sequenced_part x.doc) (after_edit op taken.0 taken.1 x)
@@ -192,12 +196,21 @@ edited-holds bound c gss x op taken h own =
     let y : NaiveClient = record x { doc = taken.0; last_stage = x.last_stage + length taken.1; pending = x.pending ++ (edit ∷ []) } in
     let number : taken.0.number ≡ x.doc.number = ap (λ d. d.number) own.agrees in
     let doc : Holds c taken.0.number taken.0.number y.last_stage (flat (gss ++ (gs ∷ []))) taken.0 =
-    subst (λ n. Holds c n n y.last_stage (flat (gss ++ (gs ∷ []))) taken.0) (sym number) (subst (λ ts. Holds c x.doc.number x.doc.number y.last_stage ts taken.0) (sym (flat-append gss gs)) own.holds) in
-    let told : EditTold c gs edit = record { stages = sym (stages-typed x.doc.number x.last_stage taken.1); refs = refs-typed x.doc.number x.last_stage taken.1; kind = subst AreOfOneKind (sym (kinds-typed x.doc.number x.last_stage taken.1 ∙ own.told)) (one-kind op); sent = sent-told c x.next_client_seq x.conns x.link op gs h.link (sym own.told) } in
+    subst (λ n. Holds c n n y.last_stage (flat (gss ++ (gs ∷ []))) taken.0) (sym number)
+    (subst (λ ts. Holds c x.doc.number x.doc.number y.last_stage ts taken.0) (sym (flat-append gss gs)) own.holds) in
+    let told : EditTold c gs edit = record {
+      stages = sym (stages-typed x.doc.number x.last_stage taken.1);
+      refs = refs-typed x.doc.number x.last_stage
+          taken.1;
+      kind = subst AreOfOneKind (sym (kinds-typed x.doc.number x.last_stage taken.1 ∙ own.told)) (one-kind op);
+      sent = sent-told c
+          x.next_client_seq x.conns x.link op gs h.link (sym own.told);
+    } in
     record {
       c = c;
       gss = gss ++ (gs ∷ []);
-      client = draft-holds bound c (gss ++ (gs ∷ [])) sent x.doc.number y (record { doc = doc; edits = edits-append c gss x.pending gs edit h.edits told; link = h.link; conn = h.conn });
+      client = draft-holds bound c (gss ++ (gs ∷ [])) sent x.doc.number y (record
+          { doc = doc; edits = edits-append c gss x.pending gs edit h.edits told; link = h.link; conn = h.conn });
       agrees = ap sequenced_part (draft-doc sent x.doc.number y) ∙ own.agrees;
     }
 
@@ -213,9 +226,11 @@ edit-result bound c gss x y op h (Ok taken) e f =
     let next : x.last_stage + 1 ≡ suc x.last_stage = add-one x.last_stage in
     subst (λ z. Stepped bound (sequenced_part x.doc) z) same
     (edited-holds bound c gss x op taken h
-    (sub_operations-own c x.doc.number (sub_operations op) x.last_stage (flat gss) x.doc (stages_of x) taken (ap (λ i. local_sub_operations x.doc (stages_of x) i (sub_operations op)) (sym next) ∙ e) h.doc))
+    (sub_operations-own c x.doc.number (sub_operations op) x.last_stage (flat gss) x.doc (stages_of x) taken
+    (ap (λ i. local_sub_operations x.doc (stages_of x) i (sub_operations op)) (sym next) ∙ e) h.doc))
 
-pub local_edit-holds : (bound c : ℕ) (gss : List (List ToldStage)) (x y : NaiveClient) (op : ChannelOp) → ClientHolds bound c gss x → local_edit x op ≡ Ok y → Stepped bound (sequenced_part x.doc) y
+pub local_edit-holds : (bound c : ℕ) (gss : List (List ToldStage)) (x y : NaiveClient) (op : ChannelOp) → ClientHolds bound c gss x → local_edit x op ≡ Ok y
+    → Stepped bound (sequenced_part x.doc) y
 local_edit-holds bound c gss x y op h e = edit-result bound c gss x y op h (local_sub_operations x.doc (stages_of x) (x.last_stage + 1) (sub_operations op)) refl e
 
 -- ---- links and drafts
@@ -230,22 +245,43 @@ any-left o conns conn h = left (list_any (nat_eq o) conns) (list_any (nat_eq o) 
 any-last : (conns : List ℕ) (conn : ℕ) → list_any (nat_eq conn) (conns ++ (conn ∷ [])) ≡ true
 any-last conns conn = list_any-append (nat_eq conn) conns (conn ∷ []) ∙ rw (same_nat conn) (or-true (list_any (nat_eq conn) conns))
 
-connect-result : (bound c : ℕ) (gss : List (List ToldStage)) (x y : NaiveClient) (conn : ℕ) → ClientHolds bound c gss x → (link : Link) → x.link ≡ link → connect (record x { link = link }) conn ≡ Ok y → Stepped bound (sequenced_part x.doc) y
+connect-result : (bound c : ℕ) (gss : List (List ToldStage)) (x y : NaiveClient) (conn : ℕ) → ClientHolds bound c gss x → (link : Link) → x.link ≡ link
+    → connect (record x { link = link }) conn ≡ Ok y → Stepped bound (sequenced_part x.doc) y
 connect-result bound c gss x y conn h Offline e f =
     let same : record x { link = Joining conn; conns = x.conns ++ (conn ∷ []); next_client_seq = 1 } ≡ y = (cc) in
     subst (λ z. Stepped bound (sequenced_part x.doc) z) same
-    (record { c = c; gss = gss; client = record { doc = h.doc; edits = h.edits; link = any-last x.conns conn; conn = λ o l g. h.conn o l (any-left o x.conns conn g) }; agrees = refl })
+    (record {
+      c = c;
+      gss = gss;
+      client = record {
+        doc = h.doc;
+        edits = h.edits;
+        link = any-last x.conns conn;
+        conn = λ o l g. h.conn o l
+            (any-left o x.conns conn g);
+      };
+      agrees = refl;
+    })
 connect-result bound c gss x y conn h (Joining d) e f = (cc)
 connect-result bound c gss x y conn h (Online d) e f = (cc)
 
-pub connect-holds : (bound c : ℕ) (gss : List (List ToldStage)) (x y : NaiveClient) (conn : ℕ) → ClientHolds bound c gss x → connect x conn ≡ Ok y → Stepped bound (sequenced_part x.doc) y
+pub connect-holds : (bound c : ℕ) (gss : List (List ToldStage)) (x y : NaiveClient) (conn : ℕ) → ClientHolds bound c gss x → connect x conn ≡ Ok y
+    → Stepped bound (sequenced_part x.doc) y
 connect-holds bound c gss x y conn h e = connect-result bound c gss x y conn h x.link refl e
 
-dropped : (bound c : ℕ) (gss : List (List ToldStage)) (x y : NaiveClient) → ClientHolds bound c gss x → record x { link = Offline; queue = [] } ≡ y → Stepped bound (sequenced_part x.doc) y
+dropped : (bound c : ℕ) (gss : List (List ToldStage)) (x y : NaiveClient) → ClientHolds bound c gss x → record x { link = Offline; queue = [] } ≡ y
+    → Stepped bound (sequenced_part x.doc) y
 dropped bound c gss x y h same =
-    subst (λ z. Stepped bound (sequenced_part x.doc) z) same (record { c = c; gss = gss; client = record { doc = h.doc; edits = h.edits; link = tt; conn = h.conn }; agrees = refl })
+    subst (λ z. Stepped bound (sequenced_part x.doc) z) same (record {
+      c = c;
+      gss = gss;
+      client = record
+          { doc = h.doc; edits = h.edits; link = tt; conn = h.conn };
+      agrees = refl;
+    })
 
-drop-result : (bound c : ℕ) (gss : List (List ToldStage)) (x y : NaiveClient) → ClientHolds bound c gss x → (link : Link) → drop_link (record x { link = link }) ≡ Ok y → Stepped bound (sequenced_part x.doc) y
+drop-result : (bound c : ℕ) (gss : List (List ToldStage)) (x y : NaiveClient) → ClientHolds bound c gss x → (link : Link)
+    → drop_link (record x { link = link }) ≡ Ok y → Stepped bound (sequenced_part x.doc) y
 drop-result bound c gss x y h Offline f = (cc)
 drop-result bound c gss x y h (Joining d) f = dropped bound c gss x y h (cc)
 drop-result bound c gss x y h (Online d) f = dropped bound c gss x y h (cc)
@@ -253,22 +289,36 @@ drop-result bound c gss x y h (Online d) f = dropped bound c gss x y h (cc)
 pub drop_link-holds : (bound c : ℕ) (gss : List (List ToldStage)) (x y : NaiveClient) → ClientHolds bound c gss x → drop_link x ≡ Ok y → Stepped bound (sequenced_part x.doc) y
 drop_link-holds bound c gss x y h e = drop-result bound c gss x y h x.link e
 
-noop-result : (bound c : ℕ) (gss : List (List ToldStage)) (x y : NaiveClient) → ClientHolds bound c gss x → (link : Link) → x.link ≡ link → noop (record x { link = link }) ≡ Ok y → Stepped bound (sequenced_part x.doc) y
+noop-result : (bound c : ℕ) (gss : List (List ToldStage)) (x y : NaiveClient) → ClientHolds bound c gss x → (link : Link) → x.link ≡ link
+    → noop (record x { link = link }) ≡ Ok y → Stepped bound (sequenced_part x.doc) y
 noop-result bound c gss x y h Offline e f = (cc)
 noop-result bound c gss x y h (Joining d) e f = (cc)
 noop-result bound c gss x y h (Online d) e f =
-    let same : record x { link = Online d; next_client_seq = x.next_client_seq + 1; queue = x.queue ++ (record { client_seq = x.next_client_seq; ref_seq = x.doc.number; body = Nothing } ∷ []) } ≡ y = (cc) in
-    subst (λ z. Stepped bound (sequenced_part x.doc) z) same (record { c = c; gss = gss; client = record { doc = h.doc; edits = h.edits; link = subst (LinkIs c x.conns) e h.link; conn = h.conn }; agrees = refl })
+    let same : record x {
+      link = Online d;
+      next_client_seq = x.next_client_seq + 1;
+      queue = x.queue ++
+          (record { client_seq = x.next_client_seq; ref_seq = x.doc.number; body = Nothing } ∷ []);
+    } ≡ y = (cc) in
+    subst (λ z. Stepped bound (sequenced_part x.doc) z) same (record {
+      c = c;
+      gss = gss;
+      client = record
+          { doc = h.doc; edits = h.edits; link = subst (LinkIs c x.conns) e h.link; conn = h.conn };
+      agrees = refl;
+    })
 
 pub noop-holds : (bound c : ℕ) (gss : List (List ToldStage)) (x y : NaiveClient) → ClientHolds bound c gss x → noop x ≡ Ok y → Stepped bound (sequenced_part x.doc) y
 noop-holds bound c gss x y h e = noop-result bound c gss x y h x.link refl e
 
-pub send-holds : (bound c : ℕ) (gss : List (List ToldStage)) (x : NaiveClient) → ClientHolds bound c gss x → Stepped bound (sequenced_part x.doc) (record x { queue = drop 1 x.queue })
+pub send-holds : (bound c : ℕ) (gss : List (List ToldStage)) (x : NaiveClient) → ClientHolds bound c gss x
+    → Stepped bound (sequenced_part x.doc) (record x { queue = drop 1 x.queue })
 send-holds bound c gss x h = record { c = c; gss = gss; client = record { doc = h.doc; edits = h.edits; link = h.link; conn = h.conn }; agrees = refl }
 
 -- ---- a message of another client
 
-body-holds : (c n s e d last : ℕ) (ts : List ToldStage) (doc : Document) (body : Body) → (is_op body ≡ true → nat_eq d c ≡ false) → n < s → Holds c n n last ts doc → Holds c s s last ts (body_effect doc s d e body)
+body-holds : (c n s e d last : ℕ) (ts : List ToldStage) (doc : Document) (body : Body) → (is_op body ≡ true → nat_eq d c ≡ false) → n < s
+    → Holds c n n last ts doc → Holds c s s last ts (body_effect doc s d e body)
 body-holds c n s e d last ts doc Nothing others l h = holds-more c n s n s last ts doc (omega arith) (omega arith) h
 body-holds c n s e d last ts doc (Op op) others l h =
     holds-more c n s s s last ts (effects doc s d e (sub_operations op)) (omega arith) (omega arith)
@@ -276,10 +326,12 @@ body-holds c n s e d last ts doc (Op op) others l h =
 body-holds c n s e d last ts doc (Elsewhere address) others l h =
     holds-counted c s s last doc.skipped (doc.other + 1) doc.number doc.minimum ts doc (holds-more c n s n s last ts doc (omega arith) (omega arith) h)
 
-numbered-holds : (c last : ℕ) (ts : List ToldStage) (entry : Entry) (doc : Document) → Holds c entry.msg.seq entry.msg.seq last ts doc → Holds c entry.msg.seq entry.msg.seq last ts (with_numbers entry doc)
+numbered-holds : (c last : ℕ) (ts : List ToldStage) (entry : Entry) (doc : Document) → Holds c entry.msg.seq entry.msg.seq last ts doc
+    → Holds c entry.msg.seq entry.msg.seq last ts (with_numbers entry doc)
 numbered-holds c last ts entry doc h = holds-counted c entry.msg.seq entry.msg.seq last doc.skipped doc.other entry.msg.seq entry.msg.min ts doc h
 
-pub foreign-message : (bound c : ℕ) (gss : List (List ToldStage)) (x : NaiveClient) (entry : Entry) → ClientHolds bound c gss x → x.doc.number < entry.msg.seq → (is_op entry.msg.body ≡ true → nat_eq entry.origin c ≡ false)
+pub foreign-message : (bound c : ℕ) (gss : List (List ToldStage)) (x : NaiveClient) (entry : Entry) → ClientHolds bound c gss x → x.doc.number < entry.msg.seq
+    → (is_op entry.msg.body ≡ true → nat_eq entry.origin c ≡ false)
     → Stepped bound (take_entry (sequenced_part x.doc) entry) (after_foreign_message x entry)
 foreign-message bound c gss x entry h l others =
     let r = reference_number entry.msg.ref_seq in
@@ -287,7 +339,8 @@ foreign-message bound c gss x entry h l others =
       c = c;
       gss = gss;
       client = record {
-        doc = numbered-holds c x.last_stage (flat gss) entry (body_effect x.doc entry.msg.seq entry.origin r entry.msg.body) (body-holds c x.doc.number entry.msg.seq r entry.origin x.last_stage (flat gss) x.doc entry.msg.body others l h.doc);
+        doc = numbered-holds c x.last_stage (flat gss) entry (body_effect x.doc entry.msg.seq entry.origin r entry.msg.body)
+            (body-holds c x.doc.number entry.msg.seq r entry.origin x.last_stage (flat gss) x.doc entry.msg.body others l h.doc);
         edits = h.edits;
         link = h.link;
         conn = h.conn;
@@ -311,10 +364,12 @@ same-body op (Elsewhere address) doc s d r h = (cc)
 same-number : (m n : ℕ) → nat_eq m n ≡ true → n ≡ m
 same-number m n h = grind (arith, nat_tests)
 
-pub sent-facts : (c : ℕ) (gs : List ToldStage) (stages : List Stage) (ref : ℕ) (entry : Entry) (sent : Option SentAs) → SentTold c gs sent → is_sent_as entry (record { stages = stages; ref_seq = ref; sent = sent }) ≡ true → SentFacts c gs ref entry
+pub sent-facts : (c : ℕ) (gs : List ToldStage) (stages : List Stage) (ref : ℕ) (entry : Entry) (sent : Option SentAs) → SentTold c gs sent
+    → is_sent_as entry (record { stages = stages; ref_seq = ref; sent = sent }) ≡ true → SentFacts c gs ref entry
 sent-facts c gs stages ref entry None told h = (cc)
 sent-facts c gs stages ref entry (Some sent) told h =
-    let p = all_four (nat_eq sent.conn entry.origin) (same_int (pos sent.client_seq) entry.msg.client_seq) (same_int (pos ref) entry.msg.ref_seq) (is_body sent.op entry.msg.body) h in
+    let p = all_four (nat_eq sent.conn entry.origin) (same_int (pos sent.client_seq) entry.msg.client_seq) (same_int (pos ref) entry.msg.ref_seq)
+    (is_body sent.op entry.msg.body) h in
     record {
       origin = same-number sent.conn entry.origin p.0 ∙ told.0;
       ref_seq = ap reference_number (sym ((same_int-Decides (pos ref) entry.msg.ref_seq).0 p.2));
@@ -345,12 +400,21 @@ kinds-renamed : (f : ElementId → ElementId) (gs : List ToldStage) → map (λ 
 kinds-renamed f [] = refl
 kinds-renamed f (g ∷ gs) = ap (λ os. g.stage.sub_operation ∷ os) (kinds-renamed f gs)
 
-edits-renamed : (c : ℕ) (f : ElementId → ElementId) (gss : List (List ToldStage)) (edits : List PendingEdit) → EditsTold c gss edits → EditsTold c (map (map (renamed_told f)) gss) (map (renamed_edit f) edits)
+edits-renamed : (c : ℕ) (f : ElementId → ElementId) (gss : List (List ToldStage)) (edits : List PendingEdit) → EditsTold c gss edits
+    → EditsTold c (map (map (renamed_told f)) gss) (map (renamed_edit f) edits)
 edits-renamed c f [] [] h = tt
 edits-renamed c f [] (edit ∷ edits) h = absurd h
 edits-renamed c f (gs ∷ gss) [] h = absurd h
-edits-renamed c f (gs ∷ gss) (edit ∷ edits) h =
-    (record { stages = ap (map (renamed_stage f)) h.0.stages ∙ stages-renamed f gs; refs = refs-renamed f edit.ref_seq gs h.0.refs; kind = subst AreOfOneKind (sym (kinds-renamed f gs)) h.0.kind; sent = sent-renamed c f gs edit.sent h.0.sent }, edits-renamed c f gss edits h.1)
+edits-renamed c f (gs ∷ gss) (edit ∷ edits) h = (
+  record {
+    stages = ap (map (renamed_stage f)) h.0.stages ∙ stages-renamed f gs;
+    refs = refs-renamed f edit.ref_seq gs h.0.refs;
+    kind = subst AreOfOneKind
+        (sym (kinds-renamed f gs)) h.0.kind;
+    sent = sent-renamed c f gs edit.sent h.0.sent;
+  },
+  edits-renamed c f gss edits h.1,
+)
 
 pub told-unrenamed : (ts : List ToldStage) → map (renamed_told (λ x. x)) ts ≡ ts
 told-unrenamed [] = refl
@@ -370,10 +434,12 @@ own-step bound c gs gss x entry edit edits h l sent =
     let facts = sent-facts c gs edit.stages edit.ref_seq entry edit.sent told.sent sent in
     let out = ack_stages s c (λ i. i) (map (λ g. g.stage) gs) x.doc in
     let start : Holds c n s x.last_stage (map (renamed_told (λ i. i)) (gs ++ flat gss)) x.doc =
-    subst (λ ts. Holds c n s x.last_stage ts x.doc) (sym (told-unrenamed (gs ++ flat gss))) (holds-more c n n n s x.last_stage (gs ++ flat gss) x.doc (omega arith) (omega arith) h.doc) in
+    subst (λ ts. Holds c n s x.last_stage ts x.doc) (sym (told-unrenamed (gs ++ flat gss)))
+    (holds-more c n n n s x.last_stage (gs ++ flat gss) x.doc (omega arith) (omega arith) h.doc) in
     let e = edit-acked c n s x.last_stage edit.ref_seq gs (flat gss) (λ i. i) x.doc told.refs start in
     let rest : Holds c s s x.last_stage (flat (map (map (renamed_told out.1)) gss)) out.0 =
-    subst (λ ts. Holds c s s x.last_stage ts out.0) (flat-renamed out.1 gss) (holds-more c n s s s x.last_stage (map (renamed_told out.1) (flat gss)) out.0 (omega arith) (omega arith) e.holds) in
+    subst (λ ts. Holds c s s x.last_stage ts out.0) (flat-renamed out.1 gss)
+    (holds-more c n s s s x.last_stage (map (renamed_told out.1) (flat gss)) out.0 (omega arith) (omega arith) e.holds) in
     let A = sequenced_part x.doc in
     let same : out ≡ ack_stages s entry.origin (λ i. i) edit.stages x.doc =
     ap (λ d. ack_stages s d (λ i. i) (map (λ g. g.stage) gs) x.doc) (sym facts.origin) ∙ ap (λ ts. ack_stages s entry.origin (λ i. i) ts x.doc) (sym told.stages) in
@@ -400,6 +466,7 @@ own-edits bound c gss x entry [] h l oldest = (cc)
 own-edits bound c [] x entry (edit ∷ edits) h l oldest = absurd h.edits
 own-edits bound c (gs ∷ gss) x entry (edit ∷ edits) h l oldest = own-step bound c gs gss x entry edit edits h l oldest
 
-pub own-message : (bound c : ℕ) (gss : List (List ToldStage)) (x : NaiveClient) (entry : Entry) → ClientHolds bound c gss x → x.doc.number < entry.msg.seq → is_oldest entry x.pending ≡ true
+pub own-message : (bound c : ℕ) (gss : List (List ToldStage)) (x : NaiveClient) (entry : Entry) → ClientHolds bound c gss x → x.doc.number < entry.msg.seq
+    → is_oldest entry x.pending ≡ true
     → Stepped bound (take_entry (sequenced_part x.doc) entry) (after_own_message x entry)
 own-message bound c gss x entry h l oldest = own-edits bound c gss x entry x.pending h l oldest

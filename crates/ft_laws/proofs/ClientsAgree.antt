@@ -55,22 +55,31 @@ other-connection conns conn o h g = either (nat_eq o conn) refl
     either false e = refl
 
 -- a client that comes online sends its pending edits again
-own-join : (bound c : ℕ) (gss : List (List ToldStage)) (x : NaiveClient) (entry : Entry) → ClientHolds bound c gss x → x.doc.number < entry.msg.seq → list_any (nat_eq entry.origin) x.conns ≡ true
+own-join : (bound c : ℕ) (gss : List (List ToldStage)) (x : NaiveClient) (entry : Entry) → ClientHolds bound c gss x → x.doc.number < entry.msg.seq
+    → list_any (nat_eq entry.origin) x.conns ≡ true
     → has_body entry.msg.body ≡ false → Stepped bound (take_entry (sequenced_part x.doc) entry) (come_online x entry)
 own-join bound c gss x entry h l used body =
     let s = entry.msg.seq in
     let doc = with_numbers entry x.doc in
     let ks = map (λ t. t.stage) (stages_of x) in
     let numbered : Holds c s s x.last_stage (flat gss) doc =
-    holds-counted c s s x.last_stage x.doc.skipped x.doc.other s entry.msg.min (flat gss) x.doc (holds-more c x.doc.number s x.doc.number s x.last_stage (flat gss) x.doc (omega arith) (omega arith) h.doc) in
+    holds-counted c s s x.last_stage x.doc.skipped x.doc.other s entry.msg.min (flat gss) x.doc
+    (holds-more c x.doc.number s x.doc.number s x.last_stage (flat gss) x.doc (omega arith) (omega arith) h.doc) in
     let told : Holds entry.origin s s x.last_stage (flat (edits_again doc s gss x.pending)) (rebuilt_document (stage_numbers (flat gss)) doc) =
-    subst (λ ts. Holds entry.origin s s x.last_stage ts (rebuilt_document (stage_numbers (flat gss)) doc)) (sym (flat-again doc s c gss x.pending h.edits)) (holds-again c s s x.last_stage entry.origin (flat gss) doc numbered) in
+    subst (λ ts. Holds entry.origin s s x.last_stage ts (rebuilt_document (stage_numbers (flat gss)) doc)) (sym (flat-again doc s c gss x.pending h.edits))
+    (holds-again c s s x.last_stage entry.origin (flat gss) doc numbered) in
     let holds : Holds entry.origin s s x.last_stage (flat (edits_again doc s gss x.pending)) (rebuilt_document ks doc) =
     subst (λ js. Holds entry.origin s s x.last_stage (flat (edits_again doc s gss x.pending)) (rebuilt_document js doc)) (sym (client-numbers bound c gss x h)) told in
     record {
       c = entry.origin;
       gss = edits_again doc s gss x.pending;
-      client = record { doc = holds; edits = edits-told_again doc s c entry.origin 1 gss x.pending refl h.edits; link = refl; conn = λ o k g. other-connection x.conns entry.origin o used g };
+      client = record {
+        doc = holds;
+        edits = edits-told_again doc s c entry.origin 1 gss x.pending refl h.edits;
+        link = refl;
+        conn = λ o k g. other-connection
+            x.conns entry.origin o used g;
+      };
       agrees = rebuilt-sequenced ks doc ∙ ap (with_numbers entry) (sym (empty-body (sequenced_part x.doc) s entry.origin (reference_number entry.msg.ref_seq) entry.msg.body body));
     }
   where
@@ -103,7 +112,8 @@ abbrev sent_fault : NaiveClient → Entry → Option ProcessFault → Option Pro
 sent_fault x entry (Some fault) = Some fault
 sent_fault x entry None = cond (is_op_kind entry.msg.kind && is_own x entry && not (is_oldest entry x.pending)) (Some NotSent) None
 
-no-numbers-fault : (x : NaiveClient) (entry : Entry) (o : Option ProcessFault) → sent_fault x entry o ≡ None → cond (is_op_kind entry.msg.kind && is_own x entry && not (is_oldest entry x.pending)) (Some NotSent) None ≡ None
+no-numbers-fault : (x : NaiveClient) (entry : Entry) (o : Option ProcessFault) → sent_fault x entry o ≡ None
+    → cond (is_op_kind entry.msg.kind && is_own x entry && not (is_oldest entry x.pending)) (Some NotSent) None ≡ None
 no-numbers-fault x entry None h = h
 no-numbers-fault x entry (Some fault) h = (cc)
 
@@ -125,7 +135,8 @@ processed x y entry (Some fault) e h = (cc)
 
 -- ---- the three ways of an entry
 
-own-join-origin : (link : Link) (k : MsgKind) (origin : ℕ) (c : ℕ) (conns : List ℕ) → LinkIs c conns link → is_own_join link k origin ≡ true → (list_any (nat_eq origin) conns ≡ true) × (is_op_kind k ≡ false)
+own-join-origin : (link : Link) (k : MsgKind) (origin : ℕ) (c : ℕ) (conns : List ℕ) → LinkIs c conns link → is_own_join link k origin ≡ true
+    → (list_any (nat_eq origin) conns ≡ true) × (is_op_kind k ≡ false)
 own-join-origin (Joining conn) kind.Join origin c conns h g = (ap (λ i. list_any (nat_eq i) conns) (sym (same g)) ∙ h, refl)
   where
     same : nat_eq conn origin ≡ true → conn ≡ origin
@@ -151,7 +162,8 @@ not-both : (a b : Bool) → a && b ≡ false → a ≡ true → b ≡ false
 not-both true b h g = h
 not-both false b h g = (cc)
 
-entry-holds : (bound c : ℕ) (gss : List (List ToldStage)) (x : NaiveClient) (entry : Entry) → ClientHolds bound c gss x → Accepted x entry → entry.origin < bound → has_fitting_body entry ≡ true
+entry-holds : (bound c : ℕ) (gss : List (List ToldStage)) (x : NaiveClient) (entry : Entry) → ClientHolds bound c gss x → Accepted x entry
+    → entry.origin < bound → has_fitting_body entry ≡ true
     → (b : Bool) → is_own_join x.link entry.msg.kind entry.origin ≡ b → (o : Bool) → is_op entry.msg.body && is_own x entry ≡ o
     → Stepped bound (take_entry (sequenced_part x.doc) entry) (cond b (come_online x entry) (cond o (after_own_message x entry) (after_foreign_message x entry)))
 entry-holds bound c gss x entry h a below fits true e o f =
@@ -164,7 +176,8 @@ entry-holds bound c gss x entry h a below fits false e true f =
 entry-holds bound c gss x entry h a below fits false e false f =
     foreign-message bound c gss x entry h a.next (λ op. h.conn entry.origin below (not-both (is_op entry.msg.body) (is_own x entry) f op))
 
-pub process-holds : (bound c : ℕ) (gss : List (List ToldStage)) (x y : NaiveClient) (entry : Entry) → ClientHolds bound c gss x → entry.origin < bound → has_fitting_body entry ≡ true
+pub process-holds : (bound c : ℕ) (gss : List (List ToldStage)) (x y : NaiveClient) (entry : Entry) → ClientHolds bound c gss x → entry.origin < bound
+    → has_fitting_body entry ≡ true
     → process x entry ≡ Ok y → Stepped bound (take_entry (sequenced_part x.doc) entry) y
 process-holds bound c gss x y entry h below fits e =
     let p = processed x y entry (process_fault x entry) refl e in
@@ -211,12 +224,25 @@ then-holds bound steps A B y ih None f h = (cc)
 then-holds bound steps A B y ih (Some z) f h = ih z (f z refl) h
 
 -- a new client over the document of one with nothing pending
-restarted : (bound c : ℕ) (gss : List (List ToldStage)) (x : NaiveClient) (edits : List PendingEdit) → ClientHolds bound c gss (record x { pending = edits }) → is_none_pending edits ≡ true → Stepped bound (sequenced_part x.doc) (client_over x.doc)
+restarted : (bound c : ℕ) (gss : List (List ToldStage)) (x : NaiveClient) (edits : List PendingEdit) → ClientHolds bound c gss (record x { pending = edits })
+    → is_none_pending edits ≡ true → Stepped bound (sequenced_part x.doc) (client_over x.doc)
 restarted bound c [] x [] h none = record {
   c = bound;
   gss = [];
   client = record {
-    doc = record { told = tt; rising = omega arith; text = h.doc.text; rows = h.doc.rows; cols = h.doc.cols; text_order = h.doc.text_order; rows_order = h.doc.rows_order; cols_order = h.doc.cols_order; stand = tt; sound = h.doc.sound };
+    doc = record {
+      told = tt;
+      rising = omega arith;
+      text = h.doc.text;
+      rows = h.doc.rows;
+      cols = h.doc.cols;
+      text_order = h.doc.text_order;
+      rows_order =
+          h.doc.rows_order;
+      cols_order = h.doc.cols_order;
+      stand = tt;
+      sound = h.doc.sound;
+    };
     edits = tt;
     link = tt;
     conn = λ o l g. below-other o bound l;
@@ -226,7 +252,8 @@ restarted bound c [] x [] h none = record {
 restarted bound c (gs ∷ gss) x [] h none = absurd h.edits
 restarted bound c gss x (edit ∷ edits) h none = (cc)
 
-restarts : (bound c : ℕ) (gss : List (List ToldStage)) (x z : NaiveClient) (edits : List PendingEdit) → ClientHolds bound c gss (record x { pending = edits }) → (b : Bool) → is_none_pending edits ≡ b
+restarts : (bound c : ℕ) (gss : List (List ToldStage)) (x z : NaiveClient) (edits : List PendingEdit) → ClientHolds bound c gss (record x { pending = edits })
+    → (b : Bool) → is_none_pending edits ≡ b
     → cond b (Some (client_over x.doc)) None ≡ Some z → Stepped bound (sequenced_part x.doc) z
 restarts bound c gss x z edits h true e f =
     let same : client_over x.doc ≡ z = (cc) in
@@ -234,7 +261,8 @@ restarts bound c gss x z edits h true e f =
 restarts bound c gss x z edits h false e f = (cc)
 
 -- all steps of a client keep what is known of it
-pub steps-hold : (bound : ℕ) (steps : List ClientStep) (A : Document) (x y : NaiveClient) → Stepped bound A x → AreBelow bound (taken_entries steps) → list_all has_fitting_body (taken_entries steps) ≡ true
+pub steps-hold : (bound : ℕ) (steps : List ClientStep) (A : Document) (x y : NaiveClient) → Stepped bound A x → AreBelow bound (taken_entries steps)
+    → list_all has_fitting_body (taken_entries steps) ≡ true
     → after_steps (Some x) steps ≡ Some y → Stepped bound (take_entries A (taken_entries steps)) y
 steps-hold bound [] A x y s below fits h =
     let same : x ≡ y = (cc) in
@@ -252,13 +280,15 @@ steps-hold bound (Idles ∷ steps) A x y s below fits h =
     then-holds bound steps A (take_entries A (taken_entries steps)) y (λ z t g. steps-hold bound steps A z y t below fits g) (after_step x Idles)
     (λ z e. agreeing bound (sequenced_part x.doc) A z s.agrees (noop-holds bound s.c s.gss x z s.client (refused-ok (noop x) z e))) h
 steps-hold bound (Sends ∷ steps) A x y s below fits h =
-    steps-hold bound steps A (record x { queue = drop 1 x.queue }) y (agreeing bound (sequenced_part x.doc) A (record x { queue = drop 1 x.queue }) s.agrees (send-holds bound s.c s.gss x s.client)) below fits h
+    steps-hold bound steps A (record x { queue = drop 1 x.queue }) y (agreeing bound (sequenced_part x.doc) A (record x { queue = drop 1 x.queue }) s.agrees
+    (send-holds bound s.c s.gss x s.client)) below fits h
 steps-hold bound (Restarts ∷ steps) A x y s below fits h =
     then-holds bound steps A (take_entries A (taken_entries steps)) y (λ z t g. steps-hold bound steps A z y t below fits g) (after_step x Restarts)
     (λ z e. agreeing bound (sequenced_part x.doc) A z s.agrees (restarts bound s.c s.gss x z x.pending s.client (is_none_pending x.pending) refl e)) h
 steps-hold bound (Takes entry ∷ steps) A x y s below fits h =
     let f = both (has_fitting_body entry) (list_all has_fitting_body (taken_entries steps)) fits in
-    then-holds bound steps (take_entry A entry) (take_entries (take_entry A entry) (taken_entries steps)) y (λ z t g. steps-hold bound steps (take_entry A entry) z y t below.1 f.1 g) (after_step x (Takes entry))
+    then-holds bound steps (take_entry A entry) (take_entries (take_entry A entry) (taken_entries steps)) y
+    (λ z t g. steps-hold bound steps (take_entry A entry) z y t below.1 f.1 g) (after_step x (Takes entry))
     (λ z e. agreeing bound (take_entry (sequenced_part x.doc) entry) (take_entry A entry) z (ap (λ d. take_entry d entry) s.agrees)
     (process-holds bound s.c s.gss x z entry s.client below.0 f.0 (refused-ok (process x entry) z e))) h
 
@@ -269,7 +299,8 @@ stepped-start bound start sound =
     let h = start-holds bound start sound in
     record { c = bound; gss = []; client = h; agrees = document-bare bound start.number start.number 0 start h.doc }
 
-pub all-stepped-from : (start : Document) (steps : List ClientStep) (y : NaiveClient) → IsRunFrom start steps y → Stepped (bound_of (taken_entries steps)) (take_entries start (taken_entries steps)) y
+pub all-stepped-from : (start : Document) (steps : List ClientStep) (y : NaiveClient) → IsRunFrom start steps y
+    → Stepped (bound_of (taken_entries steps)) (take_entries start (taken_entries steps)) y
 all-stepped-from start steps y run =
     let bound = bound_of (taken_entries steps) in
     steps-hold bound steps start (client_over start) y (stepped-start bound start run.sound) (are-below (taken_entries steps)) run.bodies run.made
@@ -278,20 +309,23 @@ all-stepped-from start steps y run =
 pub clients-agree-from : (start : Document) (steps : List ClientStep) (y : NaiveClient) → IsRunFrom start steps y → sequenced_part y.doc ≡ take_entries start (taken_entries steps)
 clients-agree-from start steps y run = (all-stepped-from start steps y run).agrees
 
-bare-client : (bound c : ℕ) (gss : List (List ToldStage)) (x : NaiveClient) (edits : List PendingEdit) → ClientHolds bound c gss (record x { pending = edits }) → is_none_pending edits ≡ true → sequenced_part x.doc ≡ x.doc
+bare-client : (bound c : ℕ) (gss : List (List ToldStage)) (x : NaiveClient) (edits : List PendingEdit) → ClientHolds bound c gss (record x { pending = edits })
+    → is_none_pending edits ≡ true → sequenced_part x.doc ≡ x.doc
 bare-client bound c [] x [] h none = document-bare c x.doc.number x.doc.number x.last_stage x.doc h.doc
 bare-client bound c (gs ∷ gss) x [] h none = absurd h.edits
 bare-client bound c gss x (edit ∷ edits) h none = (cc)
 
 -- a client with nothing pending has just that document
-pub idle-clients-agree-from : (start : Document) (steps : List ClientStep) (y : NaiveClient) → IsRunFrom start steps y → is_without_edits y ≡ true → y.doc ≡ take_entries start (taken_entries steps)
+pub idle-clients-agree-from : (start : Document) (steps : List ClientStep) (y : NaiveClient) → IsRunFrom start steps y → is_without_edits y ≡ true → y.doc
+    ≡ take_entries start (taken_entries steps)
 idle-clients-agree-from start steps y run none =
     let s = all-stepped-from start steps y run in
     sym (bare-client (bound_of (taken_entries steps)) s.c s.gss y y.pending s.client none) ∙ s.agrees
 
 -- ---- from the empty document on
 
-pub run-from-empty : (steps : List ClientStep) (y : NaiveClient) → after_steps (Some (client_over empty)) steps ≡ Some y → list_all has_fitting_body (taken_entries steps) ≡ true → IsRunFrom empty steps y
+pub run-from-empty : (steps : List ClientStep) (y : NaiveClient) → after_steps (Some (client_over empty)) steps ≡ Some y
+    → list_all has_fitting_body (taken_entries steps) ≡ true → IsRunFrom empty steps y
 run-from-empty steps y h fits = record { sound = empty-sound; made = h; bodies = fits }
 
 pub all-stepped : (steps : List ClientStep) (y : NaiveClient) → after_steps (Some (client_over empty)) steps ≡ Some y → list_all has_fitting_body (taken_entries steps) ≡ true
@@ -304,17 +338,20 @@ pub clients-agree : (steps : List ClientStep) (y : NaiveClient) → after_steps 
 clients-agree steps y h fits = clients-agree-from empty steps y (run-from-empty steps y h fits)
 
 -- a client with nothing pending has the agreed document
-pub idle-clients-agree : (steps : List ClientStep) (y : NaiveClient) → after_steps (Some (client_over empty)) steps ≡ Some y → list_all has_fitting_body (taken_entries steps) ≡ true
+pub idle-clients-agree : (steps : List ClientStep) (y : NaiveClient) → after_steps (Some (client_over empty)) steps ≡ Some y
+    → list_all has_fitting_body (taken_entries steps) ≡ true
     → is_without_edits y ≡ true → y.doc ≡ agreed (taken_entries steps)
 idle-clients-agree steps y h fits none = idle-clients-agree-from empty steps y (run-from-empty steps y h fits) none
 
 -- ---- what is shown
 
-filter-agree : (is test test' : ListElement → Bool) → ((e : ListElement) → is e ≡ true → test e ≡ test' e) → (xs : List ListElement) → list_all is xs ≡ true → filter test xs ≡ filter test' xs
+filter-agree : (is test test' : ListElement → Bool) → ((e : ListElement) → is e ≡ true → test e ≡ test' e) → (xs : List ListElement) → list_all is xs ≡ true
+    → filter test xs ≡ filter test' xs
 filter-agree is test test' same [] h = refl
 filter-agree is test test' same (e ∷ xs) h = grind (arith, filter-agree is test test' same xs, same e)
 
-rank-agree : (is meant test test' : ListElement → Bool) → ((e : ListElement) → is e ≡ true → test e ≡ test' e) → (xs : List ListElement) → list_all is xs ≡ true → rank meant test xs ≡ rank meant test' xs
+rank-agree : (is meant test test' : ListElement → Bool) → ((e : ListElement) → is e ≡ true → test e ≡ test' e) → (xs : List ListElement) → list_all is xs
+    ≡ true → rank meant test xs ≡ rank meant test' xs
 rank-agree is meant test test' same [] h = refl
 rank-agree is meant test test' same (e ∷ xs) h = grind (arith, rank-agree is meant test test' same xs, same e)
 
@@ -358,18 +395,24 @@ shows-bare : (c m n last : ℕ) (x : NaiveClient) → Holds c m n last [] x.doc 
 shows-bare c m n last x h =
     let k = x.last_stage in
     let doc = x.doc in
-    ap (λ text. shown_of doc text (filter (seen k) doc.rows.items) (filter (seen k) doc.cols.items) (map (interval_record k doc.text.items) doc.intervals)) (filter-agree (is_within n []) (seen k) (seen 0) (seen-bare n k) doc.text.items h.text)
-    ∙ ap (λ rows. shown_of doc (filter (seen 0) doc.text.items) rows (filter (seen k) doc.cols.items) (map (interval_record k doc.text.items) doc.intervals)) (filter-agree (is_within n []) (seen k) (seen 0) (seen-bare n k) doc.rows.items h.rows)
-    ∙ ap (λ cols. shown_of doc (filter (seen 0) doc.text.items) (filter (seen 0) doc.rows.items) cols (map (interval_record k doc.text.items) doc.intervals)) (filter-agree (is_within n []) (seen k) (seen 0) (seen-bare n k) doc.cols.items h.cols)
-    ∙ ap (λ is. shown_of doc (filter (seen 0) doc.text.items) (filter (seen 0) doc.rows.items) (filter (seen 0) doc.cols.items) is) (intervals-bare n k doc.text.items doc.intervals h.text)
+    ap (λ text. shown_of doc text (filter (seen k) doc.rows.items) (filter (seen k) doc.cols.items) (map (interval_record k doc.text.items) doc.intervals))
+    (filter-agree (is_within n []) (seen k) (seen 0) (seen-bare n k) doc.text.items h.text)
+    ∙ ap (λ rows. shown_of doc (filter (seen 0) doc.text.items) rows (filter (seen k) doc.cols.items) (map (interval_record k doc.text.items) doc.intervals))
+    (filter-agree (is_within n []) (seen k) (seen 0) (seen-bare n k) doc.rows.items h.rows)
+    ∙ ap (λ cols. shown_of doc (filter (seen 0) doc.text.items) (filter (seen 0) doc.rows.items) cols (map (interval_record k doc.text.items) doc.intervals))
+    (filter-agree (is_within n []) (seen k) (seen 0) (seen-bare n k) doc.cols.items h.cols)
+    ∙ ap (λ is. shown_of doc (filter (seen 0) doc.text.items) (filter (seen 0) doc.rows.items) (filter (seen 0) doc.cols.items) is)
+    (intervals-bare n k doc.text.items doc.intervals h.text)
 
-shows-idle : (bound c : ℕ) (gss : List (List ToldStage)) (x : NaiveClient) (edits : List PendingEdit) → ClientHolds bound c gss (record x { pending = edits }) → is_none_pending edits ≡ true → content (record x { pending = edits }) ≡ shown x.doc
+shows-idle : (bound c : ℕ) (gss : List (List ToldStage)) (x : NaiveClient) (edits : List PendingEdit) → ClientHolds bound c gss (record x { pending = edits })
+    → is_none_pending edits ≡ true → content (record x { pending = edits }) ≡ shown x.doc
 shows-idle bound c [] x [] h none = shows-bare c x.doc.number x.doc.number x.last_stage x h.doc
 shows-idle bound c (gs ∷ gss) x [] h none = absurd h.edits
 shows-idle bound c gss x (edit ∷ edits) h none = (cc)
 
 -- a client with nothing pending shows the start with the entries that it took
-pub idle-clients-show-from : (start : Document) (steps : List ClientStep) (y : NaiveClient) → IsRunFrom start steps y → is_without_edits y ≡ true → content y ≡ shown (take_entries start (taken_entries steps))
+pub idle-clients-show-from : (start : Document) (steps : List ClientStep) (y : NaiveClient) → IsRunFrom start steps y → is_without_edits y ≡ true → content y
+    ≡ shown (take_entries start (taken_entries steps))
 idle-clients-show-from start steps y run none =
     let s = all-stepped-from start steps y run in
     shows-idle (bound_of (taken_entries steps)) s.c s.gss y y.pending s.client none ∙ ap shown (idle-clients-agree-from start steps y run none)
@@ -379,14 +422,16 @@ pub idle-clients-show : (steps : List ClientStep) (y : NaiveClient) → after_st
     → is_without_edits y ≡ true → content y ≡ shown (agreed (taken_entries steps))
 idle-clients-show steps y h fits none = idle-clients-show-from empty steps y (run-from-empty steps y h fits) none
 
-views-idle : (bound c k : ℕ) (gss : List (List ToldStage)) (x : NaiveClient) (edits : List PendingEdit) → ClientHolds bound c gss (record x { pending = edits }) → is_none_pending edits ≡ true
+views-idle : (bound c k : ℕ) (gss : List (List ToldStage)) (x : NaiveClient) (edits : List PendingEdit)
+    → ClientHolds bound c gss (record x { pending = edits }) → is_none_pending edits ≡ true
     → stage_view k x.doc.text.items ≡ stage_view 0 x.doc.text.items
 views-idle bound c k [] x [] h none = filter-agree (is_within x.doc.number []) (seen k) (seen 0) (seen-bare x.doc.number k) x.doc.text.items h.doc.text
 views-idle bound c k (gs ∷ gss) x [] h none = absurd h.edits
 views-idle bound c k gss x (edit ∷ edits) h none = (cc)
 
 -- and sees the elements of the text that this document has, at each stage
-pub idle-views : (steps : List ClientStep) (y : NaiveClient) (k : ℕ) → after_steps (Some (client_over empty)) steps ≡ Some y → list_all has_fitting_body (taken_entries steps) ≡ true
+pub idle-views : (steps : List ClientStep) (y : NaiveClient) (k : ℕ) → after_steps (Some (client_over empty)) steps ≡ Some y
+    → list_all has_fitting_body (taken_entries steps) ≡ true
     → is_without_edits y ≡ true → stage_view k y.doc.text.items ≡ stage_view 0 (agreed (taken_entries steps)).text.items
 idle-views steps y k h fits none =
     let s = all-stepped steps y h fits in

@@ -81,7 +81,8 @@ module _ {floor : ℕ} {held : ElementId → Bool} where
     filter-kept (universal {e = e} {ks = ks} {xs = xs} f k) = rw (h.old e f) (chosen (test e) (filter-kept k))
       where
         chosen : (b : Bool) → map (trim_element floor) (filter test ks) ≡ map (trim_element floor) (filter test xs)
-            → map (trim_element floor) (cond b (with_universal_insertion e ∷ filter test ks) (filter test ks)) ≡ map (trim_element floor) (cond b (e ∷ filter test xs) (filter test xs))
+            → map (trim_element floor) (cond b (with_universal_insertion e ∷ filter test ks) (filter test ks))
+            ≡ map (trim_element floor) (cond b (e ∷ filter test xs) (filter test xs))
         chosen true q = ap (λ d. d ∷ map (trim_element floor) (filter test ks)) (trim-universal floor e f) ∙ ap (λ us. trim_element floor e ∷ us) q
         chosen false q = q
     filter-kept (collected {e = e} g u n k) = rw (h.gone e g u) (filter-kept k)
@@ -99,7 +100,8 @@ module _ {floor : ℕ} {held : ElementId → Bool} where
     or-kept None (Some y) c d p q = (cc)
     or-kept (Some x) None c d p q = (cc)
 
-    chosen-kept : (b : Bool) (o p u v : Option ListElement) → option_map id o ≡ option_map id p → option_map id u ≡ option_map id v → option_map id (cond b o u) ≡ option_map id (cond b p v)
+    chosen-kept : (b : Bool) (o p u v : Option ListElement) → option_map id o ≡ option_map id p → option_map id u ≡ option_map id v
+        → option_map id (cond b o u) ≡ option_map id (cond b p v)
     chosen-kept true o p u v q r = q
     chosen-kept false o p u v q r = r
 
@@ -107,12 +109,14 @@ module _ {floor : ℕ} {held : ElementId → Bool} where
         → option_map id (settled_after is ok before ks) ≡ option_map id (settled_after is ok last xs)
     settled-kept before last q none = refl
     settled-kept before last q (same {e = e} {ks = ks} {xs = xs} k) =
-        chosen-kept (is e) (option_or (find ok (e ∷ ks)) before) (option_or (find ok (e ∷ xs)) last) (settled_after is ok (cond (ok e) (Some e) before) ks) (settled_after is ok (cond (ok e) (Some e) last) xs)
+        chosen-kept (is e) (option_or (find ok (e ∷ ks)) before) (option_or (find ok (e ∷ xs)) last) (settled_after is ok (cond (ok e) (Some e) before) ks)
+        (settled_after is ok (cond (ok e) (Some e) last) xs)
         (or-kept (find ok (e ∷ ks)) (find ok (e ∷ xs)) before last (find-kept ok g (same k)) q)
         (settled-kept (cond (ok e) (Some e) before) (cond (ok e) (Some e) last) (found-same ok g e (ok e) before last q) k)
     settled-kept before last q (universal {e = e} {ks = ks} {xs = xs} f k) =
         let d = with_universal_insertion e in
-        rw (h.old e f) (chosen-kept (is e) (option_or (find ok (d ∷ ks)) before) (option_or (find ok (e ∷ xs)) last) (settled_after is ok (cond (ok d) (Some d) before) ks) (settled_after is ok (cond (ok e) (Some e) last) xs)
+        rw (h.old e f) (chosen-kept (is e) (option_or (find ok (d ∷ ks)) before) (option_or (find ok (e ∷ xs)) last)
+        (settled_after is ok (cond (ok d) (Some d) before) ks) (settled_after is ok (cond (ok e) (Some e) last) xs)
         (or-kept (find ok (d ∷ ks)) (find ok (e ∷ xs)) before last (find-kept ok g (universal f k)) q)
         (settled-kept (cond (ok d) (Some d) before) (cond (ok e) (Some e) last) (rw (g.old e f) (found-universal ok g e (ok e) before last f q)) k))
     settled-kept before last q (collected {e = e} c u n k) = rw (h.gone e c u, g.gone e c u) (settled-kept before last q k)
@@ -122,7 +126,8 @@ module _ {floor : ℕ} {held : ElementId → Bool} where
 pub seen_by-alike : (floor r c : ℕ) (held : ElementId → Bool) → floor ≤ r → Alike floor held (seen_by r c)
 seen_by-alike floor r c held above = record { gone = λ e g u. collected-unseen floor r c above e g; old = λ e f. with_universal_insertion-seen floor r c above e f }
 
-pub removed-by : (floor : ℕ) (occurred : Stamp → Bool) → ((s c : ℕ) → occurred (Acked s c) ≡ true) → (dels : List Stamp) → has_collectable_removal floor dels ≡ true → list_any occurred dels ≡ true
+pub removed-by : (floor : ℕ) (occurred : Stamp → Bool) → ((s c : ℕ) → occurred (Acked s c) ≡ true) → (dels : List Stamp) → has_collectable_removal floor dels
+    ≡ true → list_any occurred dels ≡ true
 removed-by floor occurred h [] g = (cc)
 removed-by floor occurred h (Acked s c ∷ dels) g = ap (λ b. b || list_any occurred dels) (h s c)
 removed-by floor occurred h (Local k ∷ dels) g = (cc)
@@ -131,7 +136,8 @@ removed-by floor occurred h (Local k ∷ dels) g = (cc)
 present-alike : (floor : ℕ) (held : ElementId → Bool) (occurred : Stamp → Bool) → ((s c : ℕ) → occurred (Acked s c) ≡ true)
     → Alike floor held (λ e. occurred e.ins && not (list_any occurred (e.dels ++ removal_stamp e.removal_stage)))
 present-alike floor held occurred h = record {
-  gone = λ e g u. rw (any-append occurred e.dels (removal_stamp e.removal_stage) (removed-by floor occurred h e.dels (both (is_acked e.ins) (has_collectable_removal floor e.dels) g).1)) (never (occurred e.ins));
+  gone = λ e g u. rw (any-append occurred e.dels (removal_stamp e.removal_stage)
+      (removed-by floor occurred h e.dels (both (is_acked e.ins) (has_collectable_removal floor e.dels) g).1)) (never (occurred e.ins));
   old = λ e f. ap (λ b. b && not (list_any occurred (e.dels ++ removal_stamp e.removal_stage))) (h 0 0 ∙ sym (sequenced e.ins f));
 }
   where
@@ -174,13 +180,15 @@ is_held_end held None = true
 is_held_end held (Some x) = held x
 
 -- an end that is held slides in a compacted list as in the whole one
-pub slide-kept : {floor : ℕ} {held : ElementId → Bool} {ks xs : List ListElement} (x : Option ElementId) → is_held_end held x ≡ true → Keeps floor held ks xs → slide ks x ≡ slide xs x
+pub slide-kept : {floor : ℕ} {held : ElementId → Bool} {ks xs : List ListElement} (x : Option ElementId) → is_held_end held x ≡ true → Keeps floor held ks xs
+    → slide ks x ≡ slide xs x
 slide-kept None h k = refl
 slide-kept {floor} {held} (Some x) h k =
     settled-kept (λ e. is_sequenced e && has_id x e) is_unremoved (sequenced_id-alike floor held x h) (unremoved-alike floor held) None None refl k
 
 -- and settles there as in the whole one
-pub settle-kept : {floor : ℕ} {held : ElementId → Bool} {ks xs : List ListElement} (k : ℕ) (x : Option ElementId) → is_held_end held x ≡ true → Keeps floor held ks xs → settle ks k x ≡ settle xs k x
+pub settle-kept : {floor : ℕ} {held : ElementId → Bool} {ks xs : List ListElement} (k : ℕ) (x : Option ElementId) → is_held_end held x ≡ true
+    → Keeps floor held ks xs → settle ks k x ≡ settle xs k x
 settle-kept k None h kept = refl
 settle-kept {floor} {held} k (Some x) h kept = settled-kept (has_id x) (seen k) (has_id-alike floor held x h) (seen-alike floor k held) None None refl kept
 
@@ -223,7 +231,8 @@ module _ {floor : ℕ} {held : ElementId → Bool} (test : ListElement → Bool)
   universal-choice true e {ks} {xs} g k = subst (λ d. Keeps floor held (d ∷ ks) (f e ∷ xs)) (sym (m.old e)) (universal (rw (m.ins e) g) k)
   universal-choice false e g k = universal g k
 
-  collected-choice : (b : Bool) (e : ListElement) {ks xs : List ListElement} → is_collectable floor e ≡ true → held (id e) ≡ false → is_before_pending xs ≡ false → Keeps floor held ks xs
+  collected-choice : (b : Bool) (e : ListElement) {ks xs : List ListElement} → is_collectable floor e ≡ true → held (id e) ≡ false → is_before_pending xs
+      ≡ false → Keeps floor held ks xs
       → Keeps floor held ks (cond b (f e) e ∷ xs)
   collected-choice true e g u n k = collected (m.gone e g) (rw (m.name e) u) n k
   collected-choice false e g u n k = collected g u n k
@@ -233,7 +242,8 @@ module _ {floor : ℕ} {held : ElementId → Bool} (test : ListElement → Bool)
   range-kept i p q none = none
   range-kept i p q (same {e = e} k) = same (range-kept (one_more_if (test e) i) p q k)
   range-kept i p q (universal {e = e} {ks = ks} {xs = xs} g k) =
-      subst (λ b. Keeps floor held (cond (b && within p q i) (f (with_universal_insertion e)) (with_universal_insertion e) ∷ change_range_from (one_more_if b i) test p q f ks) (cond (test e && within p q i) (f e) e ∷ change_range_from (one_more_if (test e) i) test p q f xs))
+      subst (λ b. Keeps floor held (cond (b && within p q i) (f (with_universal_insertion e)) (with_universal_insertion e) ∷ change_range_from
+      (one_more_if b i) test p q f ks) (cond (test e && within p q i) (f e) e ∷ change_range_from (one_more_if (test e) i) test p q f xs))
       (sym (h.old e g)) (universal-choice (test e && within p q i) e g (range-kept (one_more_if (test e) i) p q k))
   range-kept i p q (collected {e = e} {ks = ks} {xs = xs} g u n k) =
       subst (λ b. Keeps floor held (change_range_from i test p q f ks) (cond (b && within p q i) (f e) e ∷ change_range_from (one_more_if b i) test p q f xs))

@@ -43,7 +43,8 @@ slide-on : (xs : List ListElement) (x : Option ElementId) → is_end_on xs (slid
 slide-on xs None = refl
 slide-on xs (Some x) =
     sym (on_held xs (slide xs (Some x)))
-    ∙ settled-held (λ e. not (is_unremoved e)) (has_named is_unremoved xs) is_unremoved (λ e h. hidden (is_unremoved e) h) (λ e. is_sequenced e && has_id x e) None xs refl (own-named is_unremoved xs)
+    ∙ settled-held (λ e. not (is_unremoved e)) (has_named is_unremoved xs) is_unremoved (λ e h. hidden (is_unremoved e) h) (λ e. is_sequenced e && has_id x e)
+    None xs refl (own-named is_unremoved xs)
 
 slide_ends-on : (xs : List ListElement) (is : List Interval) → list_all (has_ends_on xs) (slide_ends xs is) ≡ true
 slide_ends-on xs [] = refl
@@ -73,7 +74,8 @@ module _ {A : Type 0} (P : A → Bool) where
   any-put-stays seen past (suc p) new [] h = (cc)
   any-put-stays seen past (suc p) new (x ∷ xs) h = step (P x) h (any-put-stays seen past (cond (seen x) p (suc p)) new xs)
     where
-      step : (b : Bool) → b || list_any P xs ≡ true → (list_any P xs ≡ true → list_any P (put seen past (cond (seen x) p (suc p)) new xs) ≡ true) → b || list_any P (put seen past (cond (seen x) p (suc p)) new xs) ≡ true
+      step : (b : Bool) → b || list_any P xs ≡ true → (list_any P xs ≡ true → list_any P (put seen past (cond (seen x) p (suc p)) new xs) ≡ true) → b
+          || list_any P (put seen past (cond (seen x) p (suc p)) new xs) ≡ true
       step true k g = refl
       step false k g = g k
 
@@ -105,7 +107,8 @@ text_effect-consistent doc s c r (Insert p seg props) h =
       text = insertion-numbered s c r p (Some (Acked s c)) (apply [] props) (segment_contents seg) doc.text h.text;
       rows = h.rows;
       cols = h.cols;
-      ends = ends-stay doc.text.items new.items (λ x k. any-put-stays (λ e. has_id x e && is_unremoved e) (seen_by r c) is_pending p (new_elements doc.text.made (Acked s c) [] (Some (Acked s c)) (apply [] props) (segment_contents seg)) doc.text.items k) doc.intervals h.ends;
+      ends = ends-stay doc.text.items new.items (λ x k. any-put-stays (λ e. has_id x e && is_unremoved e) (seen_by r c) is_pending p
+          (new_elements doc.text.made (Acked s c) [] (Some (Acked s c)) (apply [] props) (segment_contents seg)) doc.text.items k) doc.intervals h.ends;
       cells = h.cells;
     })
     (skip-consistent doc h)
@@ -121,7 +124,8 @@ text_effect-consistent doc s c r (Annotate p q changes) h =
       text = range-numbered (seen_by r c) (with_annotation changes) (λ e. refl) (λ e. refl) (λ e. refl) p q doc.text h.text;
       rows = h.rows;
       cols = h.cols;
-      ends = ends-stay doc.text.items items (λ x k. any-range-stays (λ e. has_id x e && is_unremoved e) (seen_by r c) (with_annotation changes) (λ e. refl) 0 p q doc.text.items ∙ k) doc.intervals h.ends;
+      ends = ends-stay doc.text.items items (λ x k. any-range-stays (λ e. has_id x e && is_unremoved e) (seen_by r c) (with_annotation changes) (λ e. refl) 0 p
+          q doc.text.items ∙ k) doc.intervals h.ends;
       cells = h.cells;
     })
     (skip-consistent doc h)
@@ -129,7 +133,14 @@ text_effect-consistent doc s c r (Annotate p q changes) h =
 interval_effect-consistent : (doc : Document) (c r : ℕ) (op : TextOp) → IsConsistent doc → IsConsistent (interval_effect doc c r op)
 interval_effect-consistent doc c r op h =
     by_choice _ _ (with_skip doc)
-    (record { text = h.text; rows = h.rows; cols = h.cols; ends = slide_ends-on doc.text.items (after_interval_operation op (elements_at_given_ends (seen_by r c) doc.text.items (ends_of op)) doc.intervals); cells = h.cells })
+    (record {
+      text = h.text;
+      rows = h.rows;
+      cols = h.cols;
+      ends = slide_ends-on doc.text.items
+          (after_interval_operation op (elements_at_given_ends (seen_by r c) doc.text.items (ends_of op)) doc.intervals);
+      cells = h.cells;
+    })
     (skip-consistent doc h)
 
 pub cell_effect-consistent : (doc : Document) (row col : Option ListElement) (value : ValueBytes) → IsConsistent doc → IsConsistent (cell_effect doc row col value)
@@ -141,10 +152,24 @@ cell_effect-consistent doc (Some row) None value h = skip-consistent doc h
 grid_effect-consistent : (doc : Document) (s c r : ℕ) (op : CellOp) → IsConsistent doc → IsConsistent (grid_effect doc s c r op)
 grid_effect-consistent doc s c r (SpliceIn Rows p count) h =
     by_choice (nat_le p (len (seen_by r c) doc.rows.items)) _ (with_skip doc)
-    (record { text = h.text; rows = insertion-numbered s c r p None [] (replicate count GridUnit) doc.rows h.rows; cols = h.cols; ends = h.ends; cells = h.cells }) (skip-consistent doc h)
+    (record {
+      text = h.text;
+      rows = insertion-numbered s c r p None [] (replicate count GridUnit) doc.rows h.rows;
+      cols = h.cols;
+      ends = h.ends;
+      cells =
+          h.cells;
+    }) (skip-consistent doc h)
 grid_effect-consistent doc s c r (SpliceIn Cols p count) h =
     by_choice (nat_le p (len (seen_by r c) doc.cols.items)) _ (with_skip doc)
-    (record { text = h.text; rows = h.rows; cols = insertion-numbered s c r p None [] (replicate count GridUnit) doc.cols h.cols; ends = h.ends; cells = h.cells }) (skip-consistent doc h)
+    (record {
+      text = h.text;
+      rows = h.rows;
+      cols = insertion-numbered s c r p None [] (replicate count GridUnit) doc.cols h.cols;
+      ends = h.ends;
+      cells =
+          h.cells;
+    }) (skip-consistent doc h)
 grid_effect-consistent doc s c r (SpliceOut Rows p q) h =
     by_choice (nat_le q (len (seen_by r c) doc.rows.items)) _ (with_skip doc)
     (record { text = h.text; rows = removal-numbered s c r p q doc.rows h.rows; cols = h.cols; ends = h.ends; cells = h.cells }) (skip-consistent doc h)
@@ -181,7 +206,14 @@ take_entries-consistent doc (entry ∷ entries) h = take_entries-consistent (tak
 pub agreed-consistent : (entries : List Entry) → IsConsistent (agreed entries)
 agreed-consistent entries =
     take_entries-consistent empty entries
-    (record { text = record { below = refl; distinct = refl }; rows = record { below = refl; distinct = refl }; cols = record { below = refl; distinct = refl }; ends = refl; cells = refl })
+    (record {
+      text = record { below = refl; distinct = refl };
+      rows = record { below = refl; distinct = refl };
+      cols = record
+          { below = refl; distinct = refl };
+      ends = refl;
+      cells = refl;
+    })
 
 -- ---- the trimmed form
 
@@ -200,10 +232,12 @@ trimmed-below floor n e h = step (is_insertion_at_or_below floor e.ins)
     step false = h
 
 trim_list-numbered : (floor : ℕ) (list : Sequence) → IsNumbered list → IsNumbered (trim_list floor list)
-trim_list-numbered floor list h = retain_map-numbered (λ e. not (is_collectable floor e)) (trim_element floor) (trimmed-id floor) list.made (trimmed-below floor list.made) list refl h
+trim_list-numbered floor list h = retain_map-numbered (λ e. not (is_collectable floor e)) (trim_element floor) (trimmed-id floor) list.made
+    (trimmed-below floor list.made) list refl h
 
 -- each unremoved element is kept
-trimmed-named : (floor : ℕ) (x : ElementId) (xs : List ListElement) → has_named is_unremoved xs x ≡ true → has_named is_unremoved (retain_map (λ e. not (is_collectable floor e)) (trim_element floor) xs) x ≡ true
+trimmed-named : (floor : ℕ) (x : ElementId) (xs : List ListElement) → has_named is_unremoved xs x ≡ true
+    → has_named is_unremoved (retain_map (λ e. not (is_collectable floor e)) (trim_element floor) xs) x ≡ true
 trimmed-named floor x [] h = (cc)
 trimmed-named floor x (y ∷ xs) h =
     let rest = retain_map (λ e. not (is_collectable floor e)) (trim_element floor) xs in
@@ -223,7 +257,8 @@ trimmed-named floor x (y ∷ xs) h =
     never true = refl
     never false = refl
 
-    kept : (a b : Bool) → (b ≡ true → is_unremoved (trim_element floor y) ≡ true) → (a && b) || has_named is_unremoved xs x ≡ true → (has_named is_unremoved xs x ≡ true → list_any (λ e. has_id x e && is_unremoved e) (retain_map (λ e. not (is_collectable floor e)) (trim_element floor) xs) ≡ true)
+    kept : (a b : Bool) → (b ≡ true → is_unremoved (trim_element floor y) ≡ true) → (a && b) || has_named is_unremoved xs x ≡ true
+        → (has_named is_unremoved xs x ≡ true → list_any (λ e. has_id x e && is_unremoved e) (retain_map (λ e. not (is_collectable floor e)) (trim_element floor) xs) ≡ true)
         → (a && is_unremoved (trim_element floor y)) || list_any (λ e. has_id x e && is_unremoved e) (retain_map (λ e. not (is_collectable floor e)) (trim_element floor) xs) ≡ true
     kept true true u k g = rw (u refl) refl
     kept true false u k g = or_later (is_unremoved (trim_element floor y)) _ (g k)
@@ -233,8 +268,10 @@ trimmed-named floor x (y ∷ xs) h =
         or_later false b h = h
     kept false b u k g = g k
 
-    step : (a b : Bool) → is_collectable floor y ≡ a → is_unremoved y ≡ b → has_named is_unremoved (y ∷ xs) x ≡ true → (has_named is_unremoved xs x ≡ true → has_named is_unremoved (retain_map (λ e. not (is_collectable floor e)) (trim_element floor) xs) x ≡ true)
-        → has_named is_unremoved (cond (not a) (trim_element floor y ∷ retain_map (λ e. not (is_collectable floor e)) (trim_element floor) xs) (retain_map (λ e. not (is_collectable floor e)) (trim_element floor) xs)) x ≡ true
+    step : (a b : Bool) → is_collectable floor y ≡ a → is_unremoved y ≡ b → has_named is_unremoved (y ∷ xs) x ≡ true
+        → (has_named is_unremoved xs x ≡ true → has_named is_unremoved (retain_map (λ e. not (is_collectable floor e)) (trim_element floor) xs) x ≡ true)
+        → has_named is_unremoved (cond (not a) (trim_element floor y ∷ retain_map (λ e. not (is_collectable floor e)) (trim_element floor) xs)
+        (retain_map (λ e. not (is_collectable floor e)) (trim_element floor) xs)) x ≡ true
     step true true a b k g = cc (b, (unremoved-alike floor (λ _. false)).gone y a refl)
     step true false a b k g = g (rw (b, never (has_id x y)) at k)
     step false b e f k g = rw (ap (λ i. i) (trimmed-id floor y)) (kept (has_id x y) (is_unremoved y) trimmed-unremoved k g)

@@ -29,7 +29,8 @@ taken x y entry None h = (cc)
 online : (x : NaiveClient) (entry : Entry) → is_own_join x.link entry.msg.kind entry.origin ≡ true → after_entry x entry ≡ come_online x entry
 online x entry h = ap (λ b. cond b (come_online x entry) (cond (is_op entry.msg.body && is_own x entry) (after_own_message x entry) (after_foreign_message x entry))) h
 
-pub own-join-comes_back : (start : Document) (steps : List ClientStep) (x y : NaiveClient) (entry : Entry) → IsRunFrom start steps x → is_own_join x.link entry.msg.kind entry.origin ≡ true → process x entry ≡ Ok y → ComesBack x y entry
+pub own-join-comes_back : (start : Document) (steps : List ClientStep) (x y : NaiveClient) (entry : Entry) → IsRunFrom start steps x
+    → is_own_join x.link entry.msg.kind entry.origin ≡ true → process x entry ≡ Ok y → ComesBack x y entry
 own-join-comes_back start steps x y entry run own h =
     let same : come_online x entry ≡ y = sym (online x entry own) ∙ taken x y entry (process_fault x entry) h in
     subst (λ z. ComesBack x z entry) same (record { content = join-changes_nothing-from start steps x entry run; queue = join-sends_again x entry })
@@ -50,7 +51,8 @@ first-same (x ∷ es) (f ∷ fs) us vs log n h g e =
     let rest : es ≡ fs = first-same es fs us vs (fs ++ vs) n tails refl (omega arith) in
     ap (λ y. y ∷ es) heads ∙ ap (λ ys. f ∷ ys) rest
 
-pub same-number-shows : (start : Document) (log : List Entry) (steps others : List ClientStep) (x y : NaiveClient) → IsRunFrom start steps x → IsRunFrom start others y → AreFirstOf log (taken_entries steps) → AreFirstOf log (taken_entries others)
+pub same-number-shows : (start : Document) (log : List Entry) (steps others : List ClientStep) (x y : NaiveClient) → IsRunFrom start steps x
+    → IsRunFrom start others y → AreFirstOf log (taken_entries steps) → AreFirstOf log (taken_entries others)
     → is_without_edits x ≡ true → is_without_edits y ≡ true → x.doc.number ≡ y.doc.number → content x ≡ content y
 same-number-shows start log steps others x y run run' first first' none none' number =
     let counted = steps-counted steps (client_over start) x run.made in

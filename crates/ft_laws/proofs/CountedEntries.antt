@@ -45,12 +45,14 @@ unless-number : (fault : Option EditFault) (r : EditResult) (taken : Document ×
 unless-number None r taken h = h
 unless-number (Some fault) r taken h = (cc)
 
-interval-number : (doc : Document) (stages : List Stage) (k : ℕ) (op : TextOp) (taken : Document × NamedElements) → local_interval doc stages k op ≡ Ok taken → taken.0.number ≡ doc.number
+interval-number : (doc : Document) (stages : List Stage) (k : ℕ) (op : TextOp) (taken : Document × NamedElements) → local_interval doc stages k op ≡ Ok taken
+    → taken.0.number ≡ doc.number
 interval-number doc stages k op taken h =
     let n = len (seen (k - 1)) doc.text.items in
     let names = elements_at_given_ends (seen (k - 1)) doc.text.items (ends_of op) in
     let answer : EditResult = cond (given_ends_fit n (ends_of op)) (Ok (doc, names)) (Err (OutOfRange n)) in
-    let c = ok-choice (given_ends_fit n (ends_of op)) (doc, names) taken (OutOfRange n) (unless-number (id_fault (shown_intervals doc.text.items doc.intervals stages) op) answer taken h) in
+    let c = ok-choice (given_ends_fit n (ends_of op)) (doc, names) taken (OutOfRange n)
+    (unless-number (id_fault (shown_intervals doc.text.items doc.intervals stages) op) answer taken h) in
     ap (λ (z : Document × NamedElements). z.0.number) (sym c.1)
 
 set-number : (doc : Document) (k : ℕ) (row col : Option ListElement) (taken : Document × NamedElements) → local_set doc k row col ≡ Ok taken → taken.0.number ≡ doc.number
@@ -68,7 +70,8 @@ grid-number doc k (SpliceOut Rows p q) taken h = range-number q (len (seen (k - 
 grid-number doc k (SpliceOut Cols p q) taken h = range-number q (len (seen (k - 1)) doc.cols.items) doc _ taken refl h
 grid-number doc k (Set i j value) taken h = set-number doc k (at (seen (k - 1)) i doc.rows.items) (at (seen (k - 1)) j doc.cols.items) taken h
 
-one-number : (doc : Document) (stages : List Stage) (k : ℕ) (o : SubOperation) (taken : Document × NamedElements) → local_sub_operation doc stages k o ≡ Ok taken → taken.0.number ≡ doc.number
+one-number : (doc : Document) (stages : List Stage) (k : ℕ) (o : SubOperation) (taken : Document × NamedElements) → local_sub_operation doc stages k o
+    ≡ Ok taken → taken.0.number ≡ doc.number
 one-number doc stages k (OnText op) taken h = text-number doc k op taken h
 one-number doc stages k (OnIntervals op) taken h = interval-number doc stages k op taken h
 one-number doc stages k (OnGrid op) taken h = grid-number doc k op taken h
@@ -77,7 +80,8 @@ abbrev pub with_first : Stage → Result (Document × List Stage) EditFault → 
 with_first here (Err fault) = Err fault
 with_first here (Ok rest) = Ok (rest.0, here ∷ rest.1)
 
-rest-number : (n : ℕ) (here : Stage) (r : Result (Document × List Stage) EditFault) (taken : Document × List Stage) → ((rest : Document × List Stage) → r ≡ Ok rest → rest.0.number ≡ n) → with_first here r ≡ Ok taken → taken.0.number ≡ n
+rest-number : (n : ℕ) (here : Stage) (r : Result (Document × List Stage) EditFault) (taken : Document × List Stage)
+    → ((rest : Document × List Stage) → r ≡ Ok rest → rest.0.number ≡ n) → with_first here r ≡ Ok taken → taken.0.number ≡ n
 rest-number n here (Err fault) taken f h = (cc)
 rest-number n here (Ok rest) taken f h =
     let same : (rest.0, here ∷ rest.1) ≡ taken = (cc) in
@@ -86,9 +90,11 @@ rest-number n here (Ok rest) taken f h =
 abbrev pub after_first : List Stage → ℕ → SubOperation → List SubOperation → EditResult → Result (Document × List Stage) EditFault
 after_first stages k o os (Err fault) = Err fault
 after_first stages k o os (Ok taken) =
-    with_first (record { stage = k; sub_operation = o; names = taken.1 }) (local_sub_operations taken.0 (stages ++ (record { stage = k; sub_operation = o; names = taken.1 } ∷ [])) (k + 1) os)
+    with_first (record { stage = k; sub_operation = o; names = taken.1 }) (local_sub_operations taken.0
+    (stages ++ (record { stage = k; sub_operation = o; names = taken.1 } ∷ [])) (k + 1) os)
 
-all-number : (os : List SubOperation) (doc : Document) (stages : List Stage) (k : ℕ) (taken : Document × List Stage) → local_sub_operations doc stages k os ≡ Ok taken → taken.0.number ≡ doc.number
+all-number : (os : List SubOperation) (doc : Document) (stages : List Stage) (k : ℕ) (taken : Document × List Stage) → local_sub_operations doc stages k os
+    ≡ Ok taken → taken.0.number ≡ doc.number
 all-number [] doc stages k taken h =
     let bare : List Stage = [] in
     let same : (doc, bare) ≡ taken = (cc) in
@@ -96,7 +102,8 @@ all-number [] doc stages k taken h =
 all-number (o ∷ os) doc stages k taken h =
     first (λ d ss rest. all-number os d ss (k + 1) rest) (local_sub_operation doc stages k o) refl h
   where
-    first : ((d : Document) (ss : List Stage) (rest : Document × List Stage) → local_sub_operations d ss (k + 1) os ≡ Ok rest → rest.0.number ≡ d.number) → (r : EditResult) → local_sub_operation doc stages k o ≡ r
+    first : ((d : Document) (ss : List Stage) (rest : Document × List Stage) → local_sub_operations d ss (k + 1) os ≡ Ok rest → rest.0.number ≡ d.number)
+        → (r : EditResult) → local_sub_operation doc stages k o ≡ r
         → after_first stages k o os r ≡ Ok taken → taken.0.number ≡ doc.number
     first ih (Err fault) e g = (cc)
     first ih (Ok one) e g =
@@ -108,7 +115,8 @@ abbrev pub edited : NaiveClient → ChannelOp → Result (Document × List Stage
 edited x op (Err fault) = Err fault
 edited x op (Ok taken) = Ok (after_edit op taken.0 taken.1 x)
 
-edit-number : (x z : NaiveClient) (op : ChannelOp) (r : Result (Document × List Stage) EditFault) → local_sub_operations x.doc (stages_of x) (x.last_stage + 1) (sub_operations op) ≡ r → edited x op r ≡ Ok z → z.doc.number ≡ x.doc.number
+edit-number : (x z : NaiveClient) (op : ChannelOp) (r : Result (Document × List Stage) EditFault)
+    → local_sub_operations x.doc (stages_of x) (x.last_stage + 1) (sub_operations op) ≡ r → edited x op r ≡ Ok z → z.doc.number ≡ x.doc.number
 edit-number x z op (Err fault) e h = (cc)
 edit-number x z op (Ok taken) e h =
     let same : after_edit op taken.0 taken.1 x ≡ z = (cc) in
@@ -139,12 +147,18 @@ noop-number x z Offline h = (cc)
 noop-number x z (Joining d) h = (cc)
 noop-number x z (Online d) h = ap (λ (y : NaiveClient). y.doc.number) (sym same)
   where
-    same : record x { link = Online d; next_client_seq = x.next_client_seq + 1; queue = x.queue ++ (record { client_seq = x.next_client_seq; ref_seq = x.doc.number; body = Nothing } ∷ []) } ≡ z
+    same : record x {
+      link = Online d;
+      next_client_seq = x.next_client_seq + 1;
+      queue = x.queue ++
+          (record { client_seq = x.next_client_seq; ref_seq = x.doc.number; body = Nothing } ∷ []);
+    } ≡ z
     same = (cc)
 
 -- ---- an entry
 
-entry-number : (x : NaiveClient) (entry : Entry) (b o : Bool) → (cond b (come_online x entry) (cond o (after_own_message x entry) (after_foreign_message x entry))).doc.number ≡ entry.msg.seq
+entry-number : (x : NaiveClient) (entry : Entry) (b o : Bool) → (cond b (come_online x entry)
+    (cond o (after_own_message x entry) (after_foreign_message x entry))).doc.number ≡ entry.msg.seq
 entry-number x entry true o = refl
 entry-number x entry false true = own x.pending
   where
@@ -161,7 +175,8 @@ abbrev processed : NaiveClient → Entry → Option ProcessFault → Result Naiv
 processed x entry (Some fault) = Err fault
 processed x entry None = Ok (after_entry x entry)
 
-process-number : (x z : NaiveClient) (entry : Entry) (fault : Option ProcessFault) → process_fault x entry ≡ fault → processed x entry fault ≡ Ok z → z.doc.number ≡ x.doc.number + 1
+process-number : (x z : NaiveClient) (entry : Entry) (fault : Option ProcessFault) → process_fault x entry ≡ fault → processed x entry fault ≡ Ok z
+    → z.doc.number ≡ x.doc.number + 1
 process-number x z entry (Some fault) e h = (cc)
 process-number x z entry None e h =
     let same : after_entry x entry ≡ z = (cc) in
@@ -193,13 +208,17 @@ steps-counted [] x y h =
     omega arith
 steps-counted (Edits op ∷ steps) x y h =
     then-counted x.doc.number (length (taken_entries steps)) steps y (after_step x (Edits op))
-    (λ z e. edit-number x z op (local_sub_operations x.doc (stages_of x) (x.last_stage + 1) (sub_operations op)) refl (refused-ok (local_edit x op) z e)) (λ z g. steps-counted steps z y g) h
+    (λ z e. edit-number x z op (local_sub_operations x.doc (stages_of x) (x.last_stage + 1) (sub_operations op)) refl (refused-ok (local_edit x op) z e))
+    (λ z g. steps-counted steps z y g) h
 steps-counted (Connects conn ∷ steps) x y h =
-    then-counted x.doc.number (length (taken_entries steps)) steps y (after_step x (Connects conn)) (λ z e. connect-number x z conn x.link (refused-ok (connect x conn) z e)) (λ z g. steps-counted steps z y g) h
+    then-counted x.doc.number (length (taken_entries steps)) steps y (after_step x (Connects conn))
+    (λ z e. connect-number x z conn x.link (refused-ok (connect x conn) z e)) (λ z g. steps-counted steps z y g) h
 steps-counted (Drops ∷ steps) x y h =
-    then-counted x.doc.number (length (taken_entries steps)) steps y (after_step x Drops) (λ z e. drop-number x z x.link (refused-ok (drop_link x) z e)) (λ z g. steps-counted steps z y g) h
+    then-counted x.doc.number (length (taken_entries steps)) steps y (after_step x Drops) (λ z e. drop-number x z x.link (refused-ok (drop_link x) z e))
+    (λ z g. steps-counted steps z y g) h
 steps-counted (Idles ∷ steps) x y h =
-    then-counted x.doc.number (length (taken_entries steps)) steps y (after_step x Idles) (λ z e. noop-number x z x.link (refused-ok (noop x) z e)) (λ z g. steps-counted steps z y g) h
+    then-counted x.doc.number (length (taken_entries steps)) steps y (after_step x Idles) (λ z e. noop-number x z x.link (refused-ok (noop x) z e))
+    (λ z g. steps-counted steps z y g) h
 steps-counted (Sends ∷ steps) x y h = steps-counted steps (record x { queue = drop 1 x.queue }) y h
 steps-counted (Restarts ∷ steps) x y h =
     then-counted x.doc.number (length (taken_entries steps)) steps y (after_step x Restarts) (λ z e. restart-number x z (is_without_edits x) e) (λ z g. steps-counted steps z y g) h

@@ -115,7 +115,8 @@ module _ (c : ℕ) (doc : Document) (list : Document → List ListElement) (edit
       present-step there false e f ih = ih f
 
   -- each name stands once in a list of a client's document
-  pub names-once : (n : ℕ) (ts : List ToldStage) → list_all (is_within n (stage_numbers ts)) (list doc) ≡ true → AllStand c doc ts → Once (sequenced_elements (list doc)) → Once (list doc)
+  pub names-once : (n : ℕ) (ts : List ToldStage) → list_all (is_within n (stage_numbers ts)) (list doc) ≡ true → AllStand c doc ts
+      → Once (sequenced_elements (list doc)) → Once (list doc)
   names-once n ts w h once (SequencedId m) = subst (λ i. i ≤ 1) (count-sequenced m (list doc)) (once (SequencedId m))
   names-once n ts w h once (PendingId k m) = either (is_among (stage_numbers ts) k) refl
     where

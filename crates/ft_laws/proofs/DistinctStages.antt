@@ -25,7 +25,8 @@ distinct-filter test (e ∷ xs) h =
     let p = both (not (list_any (has_id (id e)) xs)) (are_distinct xs) h in
     step (test e) (absent-filter (id e) test xs (hidden _ p.0)) (distinct-filter test xs p.1)
   where
-    step : (b : Bool) → list_any (has_id (id e)) (filter test xs) ≡ false → are_distinct (filter test xs) ≡ true → are_distinct (cond b (e ∷ filter test xs) (filter test xs)) ≡ true
+    step : (b : Bool) → list_any (has_id (id e)) (filter test xs) ≡ false → are_distinct (filter test xs) ≡ true
+        → are_distinct (cond b (e ∷ filter test xs) (filter test xs)) ≡ true
     step true a d = rw (a, d) refl
     step false a d = d
 
@@ -33,10 +34,12 @@ absent-carried : (x : ElementId) (xs : List ListElement) → list_any (has_id x)
 absent-carried x [] h = refl
 absent-carried x (e ∷ xs) h = step (is_sequenced e) (same_id x (id e)) refl h (absent-carried x xs)
   where
-    step : (b c : Bool) → same_id x (id e) ≡ c → c || list_any (has_id x) xs ≡ false → (list_any (has_id x) xs ≡ false → list_any (has_id x) (retain_map is_sequenced carried_element xs) ≡ false)
+    step : (b c : Bool) → same_id x (id e) ≡ c → c || list_any (has_id x) xs ≡ false
+        → (list_any (has_id x) xs ≡ false → list_any (has_id x) (retain_map is_sequenced carried_element xs) ≡ false)
         → list_any (has_id x) (cond b (carried_element e ∷ retain_map is_sequenced carried_element xs) (retain_map is_sequenced carried_element xs)) ≡ false
     step b true e h g = absurd cc
-    step true false q h g = ap (λ i. same_id x i || list_any (has_id x) (retain_map is_sequenced carried_element xs)) (carried-id e) ∙ ap (λ b. b || list_any (has_id x) (retain_map is_sequenced carried_element xs)) q ∙ g h
+    step true false q h g = ap (λ i. same_id x i || list_any (has_id x) (retain_map is_sequenced carried_element xs)) (carried-id e)
+        ∙ ap (λ b. b || list_any (has_id x) (retain_map is_sequenced carried_element xs)) q ∙ g h
     step false false q h g = g h
 
 distinct-carried : (xs : List ListElement) → are_distinct xs ≡ true → are_distinct (retain_map is_sequenced carried_element xs) ≡ true
@@ -47,7 +50,8 @@ distinct-carried (e ∷ xs) h =
   where
     step : (b : Bool) → list_any (has_id (id e)) (retain_map is_sequenced carried_element xs) ≡ false → are_distinct (retain_map is_sequenced carried_element xs) ≡ true
         → are_distinct (cond b (carried_element e ∷ retain_map is_sequenced carried_element xs) (retain_map is_sequenced carried_element xs)) ≡ true
-    step true a d = ap (λ i. not (list_any (has_id i) (retain_map is_sequenced carried_element xs)) && are_distinct (retain_map is_sequenced carried_element xs)) (carried-id e) ∙ rw (a, d) refl
+    step true a d = ap (λ i. not (list_any (has_id i) (retain_map is_sequenced carried_element xs))
+        && are_distinct (retain_map is_sequenced carried_element xs)) (carried-id e) ∙ rw (a, d) refl
     step false a d = d
 
 -- elements of a stage have other names than those of no stage or another
@@ -67,7 +71,8 @@ module _ (k : ℕ) where
   apart-from e [] h g = refl
   apart-from e (d ∷ xs) h g = step (is_inserted_by k d) refl g (apart-from e xs h)
     where
-      step : (b : Bool) → is_inserted_by k d ≡ b → b || list_any (is_inserted_by k) xs ≡ false → (list_any (is_inserted_by k) xs ≡ false → list_any (has_id (id e)) xs ≡ false) → list_any (has_id (id e)) (d ∷ xs) ≡ false
+      step : (b : Bool) → is_inserted_by k d ≡ b → b || list_any (is_inserted_by k) xs ≡ false
+          → (list_any (is_inserted_by k) xs ≡ false → list_any (has_id (id e)) xs ≡ false) → list_any (has_id (id e)) (d ∷ xs) ≡ false
       step true q g r = absurd cc
       step false q g r = rw (other-stage k e d h q) (r g)
 
@@ -81,21 +86,24 @@ module _ (k : ℕ) where
   none-both x [] xs g h = h
   none-both x (e ∷ new) xs g h = grind (arith, none-both x new xs)
 
-  distinct-append : (new xs : List ListElement) → are_distinct new ≡ true → list_all (is_inserted_by k) new ≡ true → are_distinct xs ≡ true → list_any (is_inserted_by k) xs ≡ false → are_distinct (new ++ xs) ≡ true
+  distinct-append : (new xs : List ListElement) → are_distinct new ≡ true → list_all (is_inserted_by k) new ≡ true → are_distinct xs ≡ true
+      → list_any (is_inserted_by k) xs ≡ false → are_distinct (new ++ xs) ≡ true
   distinct-append [] xs d a e n = e
   distinct-append (y ∷ new) xs d a e n =
       let p = both (not (list_any (has_id (id y)) new)) (are_distinct new) d in
       let q = both (is_inserted_by k y) (list_all (is_inserted_by k) new) a in
       rw (none-both (id y) new xs (hidden _ p.0) (apart-from y xs q.0 n), distinct-append new xs p.1 q.1 e n) refl
 
-  distinct-put : (see : ListElement → Bool) (p : ℕ) (new xs : List ListElement) → are_distinct new ≡ true → list_all (is_inserted_by k) new ≡ true → are_distinct xs ≡ true → list_any (is_inserted_by k) xs ≡ false → are_distinct (put see no_run p new xs) ≡ true
+  distinct-put : (see : ListElement → Bool) (p : ℕ) (new xs : List ListElement) → are_distinct new ≡ true → list_all (is_inserted_by k) new ≡ true
+      → are_distinct xs ≡ true → list_any (is_inserted_by k) xs ≡ false → are_distinct (put see no_run p new xs) ≡ true
   distinct-put see zero new xs d a e n = ap are_distinct (put_past-no_run new xs) ∙ distinct-append new xs d a e n
   distinct-put see (suc p) new [] d a e n = d
   distinct-put see (suc p) new (x ∷ xs) d a e n =
       let q = both (not (list_any (has_id (id x)) xs)) (are_distinct xs) e in
       step (is_inserted_by k x) refl n q.0 (distinct-put see (cond (see x) p (suc p)) new xs d a q.1)
     where
-      step : (b : Bool) → is_inserted_by k x ≡ b → b || list_any (is_inserted_by k) xs ≡ false → not (list_any (has_id (id x)) xs) ≡ true → (list_any (is_inserted_by k) xs ≡ false → are_distinct (put see no_run (cond (see x) p (suc p)) new xs) ≡ true)
+      step : (b : Bool) → is_inserted_by k x ≡ b → b || list_any (is_inserted_by k) xs ≡ false → not (list_any (has_id (id x)) xs) ≡ true
+          → (list_any (is_inserted_by k) xs ≡ false → are_distinct (put see no_run (cond (see x) p (suc p)) new xs) ≡ true)
           → are_distinct (x ∷ put see no_run (cond (see x) p (suc p)) new xs) ≡ true
       step true i n q r = absurd cc
       step false i n q r = rw (any-put (has_id (id x)) see no_run (cond (see x) p (suc p)) new xs (apart-block x new i a) (hidden _ q), r n) refl
@@ -104,7 +112,8 @@ all-inserted : (k : ℕ) (xs : List ListElement) → list_all (is_inserted_by k)
 all-inserted k [] = refl
 all-inserted k (e ∷ xs) = step (is_inserted_by k e) refl (all-inserted k xs)
   where
-    step : (b : Bool) → is_inserted_by k e ≡ b → list_all (is_inserted_by k) (filter (is_inserted_by k) xs) ≡ true → list_all (is_inserted_by k) (cond b (e ∷ filter (is_inserted_by k) xs) (filter (is_inserted_by k) xs)) ≡ true
+    step : (b : Bool) → is_inserted_by k e ≡ b → list_all (is_inserted_by k) (filter (is_inserted_by k) xs) ≡ true
+        → list_all (is_inserted_by k) (cond b (e ∷ filter (is_inserted_by k) xs) (filter (is_inserted_by k) xs)) ≡ true
     step true h g = rw (h, g) refl
     step false h g = g
 

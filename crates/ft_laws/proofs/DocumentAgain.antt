@@ -32,8 +32,10 @@ use Rattle.ft_laws.proofs.HoldsAfterAcknowledgement.{rise-weaker}
 
 -- ---- one stage
 
-module _ (n last conn k : ℕ) (ts : List ToldStage) (doc : Document) (text : CanBeRebuilt n last ts doc.text) (rows : CanBeRebuilt n last ts doc.rows) (cols : CanBeRebuilt n last ts doc.cols) (below : k < last) where
-  text-again : (r d a b : ℕ) (ranges : List (ℕ × ℕ)) (other : TextOp) (o : SubOperation) (names : NamedElements) → IsStanding k r d (text_edit (placed a b ranges other o)) doc.text.items
+module _ (n last conn k : ℕ) (ts : List ToldStage) (doc : Document) (text : CanBeRebuilt n last ts doc.text) (rows : CanBeRebuilt n last ts doc.rows)
+    (cols : CanBeRebuilt n last ts doc.cols) (below : k < last) where
+  text-again : (r d a b : ℕ) (ranges : List (ℕ × ℕ)) (other : TextOp) (o : SubOperation) (names : NamedElements)
+      → IsStanding k r d (text_edit (placed a b ranges other o)) doc.text.items
       → IsStanding k n conn (text_edit (retold doc (suc k) names o)) (rebuilt_document (stage_numbers ts) doc).text.items
   text-again r d a b ranges other (OnText (Insert p seg props)) names h = list-again n last ts doc.text text conn k below r d (PutIn a (apply [] props) (segment_contents seg)) h
   text-again r d a b ranges other (OnText (Remove p q)) names h = list-again n last ts doc.text text conn k below r d (TakenOut ranges) h
@@ -43,7 +45,8 @@ module _ (n last conn k : ℕ) (ts : List ToldStage) (doc : Document) (text : Ca
   text-again r d a b ranges other (OnGrid (SpliceOut target p q)) names h = untouched-again n last ts doc.text text conn k below r d h
   text-again r d a b ranges other (OnGrid (Set i j value)) names h = untouched-again n last ts doc.text text conn k below r d h
 
-  rows-again : (r d a b : ℕ) (ranges : List (ℕ × ℕ)) (other : TextOp) (o : SubOperation) (names : NamedElements) → IsStanding k r d (rows_edit (placed a b ranges other o)) doc.rows.items
+  rows-again : (r d a b : ℕ) (ranges : List (ℕ × ℕ)) (other : TextOp) (o : SubOperation) (names : NamedElements)
+      → IsStanding k r d (rows_edit (placed a b ranges other o)) doc.rows.items
       → IsStanding k n conn (rows_edit (retold doc (suc k) names o)) (rebuilt_document (stage_numbers ts) doc).rows.items
   rows-again r d a b ranges other (OnText (Insert p seg props)) names h = untouched-again n last ts doc.rows rows conn k below r d h
   rows-again r d a b ranges other (OnText (Remove p q)) names h = untouched-again n last ts doc.rows rows conn k below r d h
@@ -55,7 +58,8 @@ module _ (n last conn k : ℕ) (ts : List ToldStage) (doc : Document) (text : Ca
   rows-again r d a b ranges other (OnGrid (SpliceOut Cols p q)) names h = untouched-again n last ts doc.rows rows conn k below r d h
   rows-again r d a b ranges other (OnGrid (Set i j value)) names h = untouched-again n last ts doc.rows rows conn k below r d h
 
-  cols-again : (r d a b : ℕ) (ranges : List (ℕ × ℕ)) (other : TextOp) (o : SubOperation) (names : NamedElements) → IsStanding k r d (cols_edit (placed a b ranges other o)) doc.cols.items
+  cols-again : (r d a b : ℕ) (ranges : List (ℕ × ℕ)) (other : TextOp) (o : SubOperation) (names : NamedElements)
+      → IsStanding k r d (cols_edit (placed a b ranges other o)) doc.cols.items
       → IsStanding k n conn (cols_edit (retold doc (suc k) names o)) (rebuilt_document (stage_numbers ts) doc).cols.items
   cols-again r d a b ranges other (OnText (Insert p seg props)) names h = untouched-again n last ts doc.cols cols conn k below r d h
   cols-again r d a b ranges other (OnText (Remove p q)) names h = untouched-again n last ts doc.cols cols conn k below r d h
@@ -73,7 +77,8 @@ module _ (n last conn k : ℕ) (ts : List ToldStage) (doc : Document) (text : Ca
 
   named-again : (r d a b : ℕ) (ranges : List (ℕ × ℕ)) (other : TextOp) (o p : SubOperation) (os : List SubOperation) (names : NamedElements) → ends_alike o other ≡ true
       → StageStands k r d (placed a b ranges other o) names doc → pieces doc (stage_as (suc k) o names) ≡ p ∷ os
-      → NamesBy (expects n conn (suc (suc k))) (list_up_to k (rebuilt_document (stage_numbers ts) doc).text.items) (list_up_to k (rebuilt_document (stage_numbers ts) doc).rows.items) (list_up_to k (rebuilt_document (stage_numbers ts) doc).cols.items)
+      → NamesBy (expects n conn (suc (suc k))) (list_up_to k (rebuilt_document (stage_numbers ts) doc).text.items)
+      (list_up_to k (rebuilt_document (stage_numbers ts) doc).rows.items) (list_up_to k (rebuilt_document (stage_numbers ts) doc).cols.items)
       (retold doc (suc k) names o) (names_again doc (suc k) names o)
   named-again r d a b ranges other (OnText (Insert q seg props)) p os names e h g = tt
   named-again r d a b ranges other (OnText (Remove q l)) p os names e h g = tt
@@ -127,14 +132,49 @@ record IsIdle (sent : SentStage) : Type 0 where
   cols : is_nothing (cols_edit sent) ≡ true
 
 gone-idle : (doc : Document) (k : ℕ) (o : SubOperation) (names : NamedElements) → pieces doc (stage_as k o names) ≡ [] → IsIdle (retold doc k names o)
-gone-idle doc k (OnText (Insert p seg props)) names h = record { text = no-items (segment_contents seg) (OnText (Insert (stage_position k doc.text.items) seg props)) (stage_position k doc.text.items) (apply [] props) h; rows = refl; cols = refl }
-gone-idle doc k (OnText (Remove p q)) names h = record { text = no-ranges (λ r. OnText (Remove r.0 r.1)) (lowered_runs 0 (marked_runs k (is_removed_by k) doc.text.items)) h; rows = refl; cols = refl }
-gone-idle doc k (OnText (Annotate p q changes)) names h = record { text = no-changes (λ r. OnText (Annotate r.0 r.1 changes)) changes (marked_runs k (is_annotated_by k) doc.text.items) h; rows = refl; cols = refl }
+gone-idle doc k (OnText (Insert p seg props)) names h = record {
+  text = no-items (segment_contents seg)
+      (OnText (Insert (stage_position k doc.text.items) seg props)) (stage_position k doc.text.items) (apply [] props) h;
+  rows = refl;
+  cols = refl;
+}
+gone-idle doc k (OnText (Remove p q)) names h = record {
+  text = no-ranges (λ r. OnText (Remove r.0 r.1))
+      (lowered_runs 0 (marked_runs k (is_removed_by k) doc.text.items)) h;
+  rows = refl;
+  cols = refl;
+}
+gone-idle doc k (OnText (Annotate p q changes)) names h = record {
+  text = no-changes (λ r. OnText (Annotate r.0 r.1 changes)) changes
+      (marked_runs k (is_annotated_by k) doc.text.items) h;
+  rows = refl;
+  cols = refl;
+}
 gone-idle doc k (OnIntervals op) names h = record { text = refl; rows = refl; cols = refl }
-gone-idle doc k (OnGrid (SpliceIn Rows p count)) names h = record { text = refl; rows = no-units count (stage_position k doc.rows.items) (OnGrid (SpliceIn Rows (stage_position k doc.rows.items) count)) h; cols = refl }
-gone-idle doc k (OnGrid (SpliceIn Cols p count)) names h = record { text = refl; rows = refl; cols = no-units count (stage_position k doc.cols.items) (OnGrid (SpliceIn Cols (stage_position k doc.cols.items) count)) h }
-gone-idle doc k (OnGrid (SpliceOut Rows p q)) names h = record { text = refl; rows = no-ranges (λ r. OnGrid (SpliceOut Rows r.0 r.1)) (lowered_runs 0 (marked_runs k (is_removed_by k) doc.rows.items)) h; cols = refl }
-gone-idle doc k (OnGrid (SpliceOut Cols p q)) names h = record { text = refl; rows = refl; cols = no-ranges (λ r. OnGrid (SpliceOut Cols r.0 r.1)) (lowered_runs 0 (marked_runs k (is_removed_by k) doc.cols.items)) h }
+gone-idle doc k (OnGrid (SpliceIn Rows p count)) names h = record {
+  text = refl;
+  rows = no-units count (stage_position k doc.rows.items)
+      (OnGrid (SpliceIn Rows (stage_position k doc.rows.items) count)) h;
+  cols = refl;
+}
+gone-idle doc k (OnGrid (SpliceIn Cols p count)) names h = record {
+  text = refl;
+  rows = refl;
+  cols = no-units count (stage_position k doc.cols.items)
+      (OnGrid (SpliceIn Cols (stage_position k doc.cols.items) count)) h;
+}
+gone-idle doc k (OnGrid (SpliceOut Rows p q)) names h = record {
+  text = refl;
+  rows = no-ranges (λ r. OnGrid (SpliceOut Rows r.0 r.1))
+      (lowered_runs 0 (marked_runs k (is_removed_by k) doc.rows.items)) h;
+  cols = refl;
+}
+gone-idle doc k (OnGrid (SpliceOut Cols p q)) names h = record {
+  text = refl;
+  rows = refl;
+  cols = no-ranges (λ r. OnGrid (SpliceOut Cols r.0 r.1))
+      (lowered_runs 0 (marked_runs k (is_removed_by k) doc.cols.items)) h;
+}
 gone-idle doc k (OnGrid (Set i j value)) names h = record { text = refl; rows = refl; cols = refl }
 
 -- nothing is marked by the stage
@@ -143,8 +183,10 @@ record AreFree (k : ℕ) (doc : Document) : Type 0 where
   rows : list_all (is_free_of k) doc.rows.items ≡ true
   cols : list_all (is_free_of k) doc.cols.items ≡ true
 
-gone-free : (n last conn k : ℕ) (ts : List ToldStage) (doc : Document) (text : CanBeRebuilt n last ts doc.text) (rows : CanBeRebuilt n last ts doc.rows) (cols : CanBeRebuilt n last ts doc.cols) → k < last
-    → (r d a b : ℕ) (ranges : List (ℕ × ℕ)) (other : TextOp) (o : SubOperation) (names : NamedElements) → StageStands k r d (placed a b ranges other o) names doc → pieces doc (stage_as (suc k) o names) ≡ []
+gone-free : (n last conn k : ℕ) (ts : List ToldStage) (doc : Document) (text : CanBeRebuilt n last ts doc.text) (rows : CanBeRebuilt n last ts doc.rows)
+    (cols : CanBeRebuilt n last ts doc.cols) → k < last
+    → (r d a b : ℕ) (ranges : List (ℕ × ℕ)) (other : TextOp) (o : SubOperation) (names : NamedElements)
+    → StageStands k r d (placed a b ranges other o) names doc → pieces doc (stage_as (suc k) o names) ≡ []
     → AreFree (suc k) (rebuilt_document (stage_numbers ts) doc)
 gone-free n last conn k ts doc text rows cols below r d a b ranges other o names h g =
     let idle = gone-idle doc (suc k) o names g in
@@ -232,16 +274,21 @@ module _ (c m n last conn : ℕ) (ts : List ToldStage) (doc : Document) (h : Hol
   IsAgain [] t = AreFree (suc t.before) after
   IsAgain (p ∷ ps) t = StageStands t.before n conn (retold_stage doc n t).sent (retold_stage doc n t).stage.names after
 
-  stage-again : (k r : ℕ) (o : SubOperation) (sent : SentStage) (names : NamedElements) (place : IsPlaced o sent) → k < last → StageStands k r c sent names doc → (ps : List SubOperation) → pieces doc (stage_as (suc k) o names) ≡ ps
+  stage-again : (k r : ℕ) (o : SubOperation) (sent : SentStage) (names : NamedElements) (place : IsPlaced o sent) → k < last → StageStands k r c sent names doc
+      → (ps : List SubOperation) → pieces doc (stage_as (suc k) o names) ≡ ps
       → IsAgain ps (record { stage = stage_as (suc k) o names; before = k; ref = r; sent = sent })
   stage-again k r o sent names place below s [] e =
-      gone-free n last conn k ts doc text-ready rows-ready cols-ready below r c place.first place.second place.ranges place.other o names (subst (λ u. StageStands k r c u names doc) place.made s) e
+      gone-free n last conn k ts doc text-ready rows-ready cols-ready below r c place.first place.second place.ranges place.other o names
+      (subst (λ u. StageStands k r c u names doc) place.made s) e
   stage-again k r o sent names place below s (p ∷ ps) e =
-      placed-again n last conn k ts doc text-ready rows-ready cols-ready below r c place.first place.second place.ranges place.other o p ps names place.alike (subst (λ u. StageStands k r c u names doc) place.made s) e
+      placed-again n last conn k ts doc text-ready rows-ready cols-ready below r c place.first place.second place.ranges place.other o p ps names place.alike
+      (subst (λ u. StageStands k r c u names doc) place.made s) e
 
-  numbered-again : (t : ToldStage) → t.stage.stage ≡ suc t.before → Tells t.stage.sub_operation t.sent → t.before < last → StageStands t.before t.ref c t.sent t.stage.names doc → (ps : List SubOperation) → pieces doc t.stage ≡ ps → IsAgain ps t
+  numbered-again : (t : ToldStage) → t.stage.stage ≡ suc t.before → Tells t.stage.sub_operation t.sent → t.before < last
+      → StageStands t.before t.ref c t.sent t.stage.names doc → (ps : List SubOperation) → pieces doc t.stage ≡ ps → IsAgain ps t
   numbered-again t e tells below s ps f =
-      subst (λ i. pieces doc (stage_as i t.stage.sub_operation t.stage.names) ≡ ps → IsAgain ps (record { stage = stage_as i t.stage.sub_operation t.stage.names; before = t.before; ref = t.ref; sent = t.sent })) (sym e)
+      subst (λ i. pieces doc (stage_as i t.stage.sub_operation t.stage.names) ≡ ps
+      → IsAgain ps (record { stage = stage_as i t.stage.sub_operation t.stage.names; before = t.before; ref = t.ref; sent = t.sent })) (sym e)
       (stage-again t.before t.ref t.stage.sub_operation t.sent t.stage.names tells.place below s ps) f
 
   stand-again : (j : ℕ) (us : List ToldStage) → Rise j last us → AreTold m us → AllStand c doc us → AllStand conn after (flat_map (again doc n) us)
@@ -251,16 +298,19 @@ module _ (c m n last conn : ℕ) (ts : List ToldStage) (doc : Document) (h : Hol
       let below : t.before < last = omega arith in
       by_pieces (pieces doc t.stage) (numbered-again t told.0 told.1 below s.0 (pieces doc t.stage) refl) (stand-again (suc t.before) us rise.1 told.3 s.1)
     where
-      by_pieces : (ps : List SubOperation) → IsAgain ps t → AllStand conn after (flat_map (again doc n) us) → AllStand conn after (unless_gone ps (retold_stage doc n t) ++ flat_map (again doc n) us)
+      by_pieces : (ps : List SubOperation) → IsAgain ps t → AllStand conn after (flat_map (again doc n) us)
+          → AllStand conn after (unless_gone ps (retold_stage doc n t) ++ flat_map (again doc n) us)
       by_pieces [] here ih = ih
       by_pieces (p ∷ ps) here ih = (here, ih)
 
-  left-again : (i j : ℕ) (us : List ToldStage) → Rise j last us → AreTold m us → AllStand c doc us → is_among (stage_numbers us) i ≡ true → (is_among (stage_numbers (flat_map (again doc n) us)) i ≡ true) ⊎ AreFree i after
+  left-again : (i j : ℕ) (us : List ToldStage) → Rise j last us → AreTold m us → AllStand c doc us → is_among (stage_numbers us) i ≡ true
+      → (is_among (stage_numbers (flat_map (again doc n) us)) i ≡ true) ⊎ AreFree i after
   left-again i j [] rise told s g = (cc)
   left-again i j (t ∷ us) rise told s g =
       let above : suc t.before ≤ last = rise-last (suc t.before) last us rise.1 in
       let below : t.before < last = omega arith in
-      by_number (nat_eq i (suc t.before)) refl g (pieces doc t.stage) (numbered-again t told.0 told.1 below s.0 (pieces doc t.stage) refl) (left-again i (suc t.before) us rise.1 told.3 s.1)
+      by_number (nat_eq i (suc t.before)) refl g (pieces doc t.stage) (numbered-again t told.0 told.1 below s.0 (pieces doc t.stage) refl)
+      (left-again i (suc t.before) us rise.1 told.3 s.1)
     where
       or-true : (b : Bool) → b || true ≡ true
       or-true true = refl
@@ -272,7 +322,8 @@ module _ (c m n last conn : ℕ) (ts : List ToldStage) (doc : Document) (h : Hol
       more (p ∷ ps) (inl q) = inl (rw q (or-true (nat_eq i (suc t.before))))
       more (p ∷ ps) (inr q) = inr q
 
-      here-again : i ≡ suc t.before → nat_eq i (suc t.before) ≡ true → (ps : List SubOperation) → IsAgain ps t → (is_among (stage_numbers (unless_gone ps (retold_stage doc n t) ++ flat_map (again doc n) us)) i ≡ true) ⊎ AreFree i after
+      here-again : i ≡ suc t.before → nat_eq i (suc t.before) ≡ true → (ps : List SubOperation) → IsAgain ps t
+          → (is_among (stage_numbers (unless_gone ps (retold_stage doc n t) ++ flat_map (again doc n) us)) i ≡ true) ⊎ AreFree i after
       here-again e f [] q = inr (subst (λ k. AreFree k after) (sym e) q)
       here-again e f (p ∷ ps) q = inl (rw f refl)
 
@@ -287,11 +338,13 @@ module _ (c m n last conn : ℕ) (ts : List ToldStage) (doc : Document) (h : Hol
   left : (i : ℕ) → is_among (stage_numbers ts) i ≡ true → (is_among (stage_numbers (flat_map (again doc n) ts)) i ≡ true) ⊎ AreFree i after
   left i g = left-again i 0 ts h.rising h.told h.stand g
 
-  one-list : (list : Document → List ListElement) → ((i : ℕ) → AreFree i after → list_all (is_free_of i) (list after) ≡ true) → list_all (is_within n (stage_numbers ts)) (list after) ≡ true
+  one-list : (list : Document → List ListElement) → ((i : ℕ) → AreFree i after → list_all (is_free_of i) (list after) ≡ true)
+      → list_all (is_within n (stage_numbers ts)) (list after) ≡ true
       → list_all (is_within n (stage_numbers (flat_map (again doc n) ts))) (list after) ≡ true
   one-list list free w = fewer-all n (stage_numbers ts) (stage_numbers (flat_map (again doc n) ts)) (list after) (λ i g. or-free i (left i g)) w
     where
-      or-free : (i : ℕ) → (is_among (stage_numbers (flat_map (again doc n) ts)) i ≡ true) ⊎ AreFree i after → (is_among (stage_numbers (flat_map (again doc n) ts)) i ≡ true) ⊎ (list_all (is_free_of i) (list after) ≡ true)
+      or-free : (i : ℕ) → (is_among (stage_numbers (flat_map (again doc n) ts)) i ≡ true) ⊎ AreFree i after
+          → (is_among (stage_numbers (flat_map (again doc n) ts)) i ≡ true) ⊎ (list_all (is_free_of i) (list after) ≡ true)
       or-free i (inl q) = inl q
       or-free i (inr q) = inr (free i q)
 

@@ -102,13 +102,16 @@ module _ (doc : Document) where
   pieces-text : (k : ℕ) (o : SubOperation) (names : NamedElements) → is_on_text o ≡ true → list_all is_on_text (pieces doc (stage_as k o names)) ≡ true
   pieces-text k (OnText (Insert p seg props)) names h = one-piece is_on_text (segment_contents seg) (OnText (Insert (stage_position k doc.text.items) seg props)) refl
   pieces-text k (OnText (Remove p q)) names h = all-mapped is_on_text (λ r. OnText (Remove r.0 r.1)) (λ r. refl) (lowered_runs 0 (marked_runs k (is_removed_by k) doc.text.items))
-  pieces-text k (OnText (Annotate p q changes)) names h = all-mapped is_on_text (λ r. OnText (Annotate r.0 r.1 changes)) (λ r. refl) (marked_runs k (is_annotated_by k) doc.text.items)
+  pieces-text k (OnText (Annotate p q changes)) names h = all-mapped is_on_text (λ r. OnText (Annotate r.0 r.1 changes)) (λ r. refl)
+      (marked_runs k (is_annotated_by k) doc.text.items)
   pieces-text k (OnIntervals op) names h = (cc)
   pieces-text k (OnGrid op) names h = (cc)
 
   pieces-grid : (k : ℕ) (o : SubOperation) (names : NamedElements) → is_on_grid o ≡ true → list_all is_on_grid (pieces doc (stage_as k o names)) ≡ true
-  pieces-grid k (OnGrid (SpliceIn target p count)) names h = chosen-piece is_on_grid (nat_eq count 0) [] (OnGrid (SpliceIn target (stage_position k (rows_or_cols target doc).items) count) ∷ []) refl refl
-  pieces-grid k (OnGrid (SpliceOut target p q)) names h = all-mapped is_on_grid (λ r. OnGrid (SpliceOut target r.0 r.1)) (λ r. refl) (lowered_runs 0 (marked_runs k (is_removed_by k) (rows_or_cols target doc).items))
+  pieces-grid k (OnGrid (SpliceIn target p count)) names h = chosen-piece is_on_grid (nat_eq count 0) []
+      (OnGrid (SpliceIn target (stage_position k (rows_or_cols target doc).items) count) ∷ []) refl refl
+  pieces-grid k (OnGrid (SpliceOut target p q)) names h = all-mapped is_on_grid (λ r. OnGrid (SpliceOut target r.0 r.1)) (λ r. refl)
+      (lowered_runs 0 (marked_runs k (is_removed_by k) (rows_or_cols target doc).items))
   pieces-grid k (OnGrid (Set i j value)) names h =
       chosen-piece is_on_grid (is_named_and_seen k doc.rows.items names.first && is_named_and_seen k doc.cols.items names.second)
       (OnGrid (Set (position_of_named (k - 1) doc.rows.items names.first) (position_of_named (k - 1) doc.cols.items names.second) value) ∷ []) [] refl refl
@@ -181,7 +184,8 @@ module _ (doc : Document) where
     mapped-told f t [] h = refl
     mapped-told f t (r ∷ rs) h = append-nil (told_as t.sent) ∙ h
 
-    empty-told : {A : Type 0} (items : List A) (o : SubOperation) (t : ToldStage) → told_as t.sent ≡ o ∷ [] → flat_map (λ g. told_as g.sent) (unless_gone (unless_empty items o) t) ≡ unless_empty items o
+    empty-told : {A : Type 0} (items : List A) (o : SubOperation) (t : ToldStage) → told_as t.sent ≡ o ∷ []
+        → flat_map (λ g. told_as g.sent) (unless_gone (unless_empty items o) t) ≡ unless_empty items o
     empty-told [] o t h = refl
     empty-told (b ∷ bs) o t h = append-nil (told_as t.sent) ∙ h
 
@@ -233,7 +237,8 @@ module _ (doc : Document) where
         by_pieces [] ih = ih
         by_pieces (p ∷ ps) ih = (refl, ih)
 
-    all-again : (is : SubOperation → Bool) (gs : List ToldStage) → list_all is (map (λ g. g.stage.sub_operation) gs) ≡ true → list_all is (map (λ g. g.stage.sub_operation) (flat_map (again doc n) gs)) ≡ true
+    all-again : (is : SubOperation → Bool) (gs : List ToldStage) → list_all is (map (λ g. g.stage.sub_operation) gs) ≡ true
+        → list_all is (map (λ g. g.stage.sub_operation) (flat_map (again doc n) gs)) ≡ true
     all-again is [] h = refl
     all-again is (g ∷ gs) h =
         let p = both (is g.stage.sub_operation) (list_all is (map (λ g. g.stage.sub_operation) gs)) h in
@@ -250,7 +255,8 @@ module _ (doc : Document) where
     alone-again k (OnIntervals op) names before ref sent h = h
     alone-again k (OnGrid op) names before ref sent h = (cc)
 
-    interval-again : (gs : List ToldStage) → is_one_interval (map (λ g. g.stage.sub_operation) gs) ≡ true → is_one_interval (map (λ g. g.stage.sub_operation) (flat_map (again doc n) gs)) ≡ true
+    interval-again : (gs : List ToldStage) → is_one_interval (map (λ g. g.stage.sub_operation) gs) ≡ true
+        → is_one_interval (map (λ g. g.stage.sub_operation) (flat_map (again doc n) gs)) ≡ true
     interval-again [] h = (cc)
     interval-again (g ∷ []) h = alone-again g.stage.stage g.stage.sub_operation g.stage.names g.before g.ref g.sent h
     interval-again (g ∷ f ∷ gs) h = (cc)
@@ -296,10 +302,12 @@ module _ (doc : Document) where
         by_op : (o : Option ChannelOp) → op_of (flat_map (pieces doc) edit.stages) ≡ o → flat (edits_again gss edits) ≡ flat_map (again doc n) (flat gss)
             → flat (unless_none o (flat_map (again doc n) gs) (edits_again gss edits)) ≡ flat_map (again doc n) gs ++ flat_map (again doc n) (flat gss)
         by_op None e ih =
-            ih ∙ ap (λ ts. ts ++ flat_map (again doc n) (flat gss)) (sym (gone-again gs (ap (flat_map (pieces doc)) (sym h.0.stages) ∙ no-operation (flat_map (pieces doc) edit.stages) e)))
+            ih ∙ ap (λ ts. ts ++ flat_map (again doc n) (flat gss)) (sym (gone-again gs
+            (ap (flat_map (pieces doc)) (sym h.0.stages) ∙ no-operation (flat_map (pieces doc) edit.stages) e)))
         by_op (Some op) e ih = ap (λ ts. flat_map (again doc n) gs ++ ts) ih
 
-    edit-again : (c conn i : ℕ) (gs : List ToldStage) (edit : PendingEdit) (op : ChannelOp) → doc.number ≡ n → EditTold c gs edit → op_of (flat_map (pieces doc) edit.stages) ≡ Some op
+    edit-again : (c conn i : ℕ) (gs : List ToldStage) (edit : PendingEdit) (op : ChannelOp) → doc.number ≡ n → EditTold c gs edit
+        → op_of (flat_map (pieces doc) edit.stages) ≡ Some op
         → EditTold conn (flat_map (again doc n) gs) (resubmitted_edit doc conn i edit op)
     edit-again c conn i gs edit op number h e =
         let same : op_of (flat_map (pieces doc) (map (λ g. g.stage) gs)) ≡ Some op = ap (λ ts. op_of (flat_map (pieces doc) ts)) (sym h.stages) ∙ e in
@@ -311,7 +319,8 @@ module _ (doc : Document) where
         }
 
     -- the edits that are sent again under the connection are told
-    pub edits-told_again : (c conn i : ℕ) (gss : List (List ToldStage)) (edits : List PendingEdit) → doc.number ≡ n → EditsTold c gss edits → EditsTold conn (edits_again gss edits) (resubmitted_edits doc conn i edits)
+    pub edits-told_again : (c conn i : ℕ) (gss : List (List ToldStage)) (edits : List PendingEdit) → doc.number ≡ n → EditsTold c gss edits
+        → EditsTold conn (edits_again gss edits) (resubmitted_edits doc conn i edits)
     edits-told_again c conn i [] [] number h = tt
     edits-told_again c conn i [] (edit ∷ edits) number h = absurd h
     edits-told_again c conn i (gs ∷ gss) [] number h = absurd h
@@ -321,6 +330,10 @@ module _ (doc : Document) where
         by_op : (o : Option ChannelOp) → op_of (flat_map (pieces doc) edit.stages) ≡ o → EditsTold conn (edits_again gss edits) (resubmitted_edits doc conn i edits)
             → EditsTold conn (edits_again gss edits) (resubmitted_edits doc conn (i + 1) edits)
             → EditsTold conn (unless_none o (flat_map (again doc n) gs) (edits_again gss edits))
-            (elim o as (λ _. List PendingEdit) [ None ↦ resubmitted_edits doc conn i edits | Some op ↦ resubmitted_edit doc conn i edit op ∷ resubmitted_edits doc conn (i + 1) edits ])
+            (elim o as (λ _. List PendingEdit) [
+              | None ↦ resubmitted_edits doc conn i edits
+              | Some op ↦ resubmitted_edit doc conn i edit op ∷ resubmitted_edits
+                  doc conn (i + 1) edits
+            ])
         by_op None e ih jh = ih
         by_op (Some op) e ih jh = (edit-again c conn i gs edit op number h.0 e, jh)

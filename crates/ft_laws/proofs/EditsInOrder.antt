@@ -72,7 +72,8 @@ grid-back (OnGrid op ∷ p ∷ ps) h = ap (λ us. OnGrid op ∷ us) (grid-group 
 grid-back (OnIntervals op ∷ ps) h = absurd cc
 grid-back (OnText op ∷ ps) h = absurd cc
 
-interval-back : (k : ℕ) (xs : List ListElement) (names : NamedElements) (op : TextOp) → is_interval_operation op ≡ true → sub_operations_of (op_of (OnIntervals (interval_piece k xs names op) ∷ [])) ≡ OnIntervals (interval_piece k xs names op) ∷ []
+interval-back : (k : ℕ) (xs : List ListElement) (names : NamedElements) (op : TextOp) → is_interval_operation op ≡ true
+    → sub_operations_of (op_of (OnIntervals (interval_piece k xs names op) ∷ [])) ≡ OnIntervals (interval_piece k xs names op) ∷ []
 interval-back k xs names (One op) h = absurd cc
 interval-back k xs names (Group ops) h = absurd cc
 interval-back k xs names (IntervalAdd label id ends props) h = refl
@@ -108,15 +109,18 @@ module _ (doc : Document) where
 
   grid-kind : (k : ℕ) (names : NamedElements) (op : CellOp) → list_all is_grid_piece (grid_pieces k doc names op) ≡ true
   grid-kind k names (SpliceIn target p count) = no-piece-of _ _ refl
-  grid-kind k names (SpliceOut target p q) = mapped-grid (λ (r : ℕ × ℕ). SpliceOut target r.0 r.1) (lowered_runs 0 (marked_runs k (is_removed_by k) (rows_or_cols target doc).items))
+  grid-kind k names (SpliceOut target p q) = mapped-grid (λ (r : ℕ × ℕ). SpliceOut target r.0 r.1)
+      (lowered_runs 0 (marked_runs k (is_removed_by k) (rows_or_cols target doc).items))
   grid-kind k names (Set i j value) = piece-of (is_named_and_seen k doc.rows.items names.first && is_named_and_seen k doc.cols.items names.second) _ refl
 
-  text-stage : (k : ℕ) (o : SubOperation) (names : NamedElements) → is_text_stage (record { stage = k; sub_operation = o; names = names }) ≡ true → list_all is_text_piece (pieces doc (record { stage = k; sub_operation = o; names = names })) ≡ true
+  text-stage : (k : ℕ) (o : SubOperation) (names : NamedElements) → is_text_stage (record { stage = k; sub_operation = o; names = names }) ≡ true
+      → list_all is_text_piece (pieces doc (record { stage = k; sub_operation = o; names = names })) ≡ true
   text-stage k (OnText op) names h = text-kind k op
   text-stage k (OnIntervals op) names h = absurd cc
   text-stage k (OnGrid op) names h = absurd cc
 
-  grid-stage : (k : ℕ) (o : SubOperation) (names : NamedElements) → is_grid_stage (record { stage = k; sub_operation = o; names = names }) ≡ true → list_all is_grid_piece (pieces doc (record { stage = k; sub_operation = o; names = names })) ≡ true
+  grid-stage : (k : ℕ) (o : SubOperation) (names : NamedElements) → is_grid_stage (record { stage = k; sub_operation = o; names = names }) ≡ true
+      → list_all is_grid_piece (pieces doc (record { stage = k; sub_operation = o; names = names })) ≡ true
   grid-stage k (OnGrid op) names h = grid-kind k names op
   grid-stage k (OnIntervals op) names h = absurd cc
   grid-stage k (OnText op) names h = absurd cc
@@ -134,7 +138,8 @@ module _ (doc : Document) where
       all-append is_grid_piece (pieces doc t) (flat_map (pieces doc) ts) (grid-stage t.stage t.sub_operation t.names p.0) (grid-stages ts p.1)
 
   interval-stage : (k : ℕ) (o : SubOperation) (names : NamedElements) → is_interval_edit (record { stage = k; sub_operation = o; names = names } ∷ []) ≡ true
-      → sub_operations_of (op_of (flat_map (pieces doc) (record { stage = k; sub_operation = o; names = names } ∷ []))) ≡ flat_map (pieces doc) (record { stage = k; sub_operation = o; names = names } ∷ [])
+      → sub_operations_of (op_of (flat_map (pieces doc) (record { stage = k; sub_operation = o; names = names } ∷ [])))
+      ≡ flat_map (pieces doc) (record { stage = k; sub_operation = o; names = names } ∷ [])
   interval-stage k (OnIntervals op) names h = interval-back k doc.text.items _ op h
   interval-stage k (OnText op) names h = absurd cc
   interval-stage k (OnGrid op) names h = absurd cc
@@ -148,7 +153,8 @@ module _ (doc : Document) where
   edit-back : (edit : PendingEdit) → is_one_operation edit ≡ true → sub_operations_of (op_of (flat_map (pieces doc) edit.stages)) ≡ flat_map (pieces doc) edit.stages
   edit-back edit h = by_kind (list_all is_text_stage edit.stages) (list_all is_grid_stage edit.stages) (is_interval_edit edit.stages) refl refl refl h
     where
-      by_kind : (b c e : Bool) → list_all is_text_stage edit.stages ≡ b → list_all is_grid_stage edit.stages ≡ c → is_interval_edit edit.stages ≡ e → b || c || e ≡ true → sub_operations_of (op_of (flat_map (pieces doc) edit.stages)) ≡ flat_map (pieces doc) edit.stages
+      by_kind : (b c e : Bool) → list_all is_text_stage edit.stages ≡ b → list_all is_grid_stage edit.stages ≡ c → is_interval_edit edit.stages ≡ e → b || c
+          || e ≡ true → sub_operations_of (op_of (flat_map (pieces doc) edit.stages)) ≡ flat_map (pieces doc) edit.stages
       by_kind true c e p q r h = text-back (flat_map (pieces doc) edit.stages) (text-stages edit.stages p)
       by_kind false true e p q r h = grid-back (flat_map (pieces doc) edit.stages) (grid-stages edit.stages q)
       by_kind false false true p q r h = interval-stages edit.stages r
@@ -178,18 +184,23 @@ module _ (x : NaiveClient) (conn : ℕ) (ready : IsReady x) where
     pub follows : Follows x conn ready level is done d
 
   -- the stages of one edit
-  stages-reached : (ts rest : List Stage) (s : ℕ) (is : List Interval) (done : List Stage) (d : Document) → Each (λ t. IsTyped t.stage x.doc t.names t.sub_operation) ts → list_all (writes_known_units x.doc.rows.items x.doc.cols.items) ts ≡ true
+  stages-reached : (ts rest : List Stage) (s : ℕ) (is : List Interval) (done : List Stage) (d : Document)
+      → Each (λ t. IsTyped t.stage x.doc t.names t.sub_operation) ts → list_all (writes_known_units x.doc.rows.items x.doc.cols.items) ts ≡ true
       → Reached (ts ++ rest) is done d → Reached rest (shown_intervals x.doc.text.items is ts) (done ++ ts) (effects d s conn x.doc.number (flat_map (pieces x.doc) ts))
   stages-reached [] rest s is done d typed w r = subst (λ ts. Reached rest is ts d) (sym (append-nil done)) r
   stages-reached (t ∷ ts) rest s is done d typed w r =
       let p = both (writes_known_units x.doc.rows.items x.doc.cols.items t) (list_all (writes_known_units x.doc.rows.items x.doc.cols.items) ts) w in
       let next = stage-follows x conn ready t (ts ++ rest) r.level r.ahead is done d r.follows s typed.0 p.0 in
-      let now : Reached (ts ++ rest) _ (done ++ (t ∷ [])) (effects d s conn x.doc.number (pieces x.doc t)) = record { level = t.stage; ahead = ahead-next x conn ready t (ts ++ rest) r.level r.ahead; follows = next } in
+      let now : Reached (ts ++ rest) _ (done ++ (t ∷ [])) (effects d s conn x.doc.number (pieces x.doc t)) = record
+      { level = t.stage; ahead = ahead-next x conn ready t (ts ++ rest) r.level r.ahead; follows = next } in
       let all = stages-reached ts rest s _ (done ++ (t ∷ [])) (effects d s conn x.doc.number (pieces x.doc t)) typed.1 p.1 now in
-      subst (λ us. Reached rest (shown_intervals x.doc.text.items is (t ∷ ts)) us (effects d s conn x.doc.number (flat_map (pieces x.doc) (t ∷ ts)))) (append_assoc done (t ∷ []) ts)
-      (subst (λ z. Reached rest (shown_intervals x.doc.text.items is (t ∷ ts)) ((done ++ (t ∷ [])) ++ ts) z) (sym (effects-append d s conn x.doc.number (pieces x.doc t) (flat_map (pieces x.doc) ts))) all)
+      subst (λ us. Reached rest (shown_intervals x.doc.text.items is (t ∷ ts)) us (effects d s conn x.doc.number (flat_map (pieces x.doc) (t ∷ ts))))
+      (append_assoc done (t ∷ []) ts)
+      (subst (λ z. Reached rest (shown_intervals x.doc.text.items is (t ∷ ts)) ((done ++ (t ∷ [])) ++ ts) z)
+      (sym (effects-append d s conn x.doc.number (pieces x.doc t) (flat_map (pieces x.doc) ts))) all)
 
-  numbers-reached : (rest : List Stage) (is : List Interval) (done : List Stage) (d : Document) (entry : Entry) → Reached rest is done d → Reached rest is done (with_numbers entry d)
+  numbers-reached : (rest : List Stage) (is : List Interval) (done : List Stage) (d : Document) (entry : Entry) → Reached rest is done d
+      → Reached rest is done (with_numbers entry d)
   numbers-reached rest is done d entry r =
       let f = r.follows in
       record {
@@ -217,10 +228,12 @@ module _ (x : NaiveClient) (conn : ℕ) (ready : IsReady x) where
   shown-append xs is (t ∷ ts) us = shown-append xs (intervals_after_stage t.sub_operation (settle_elements xs t.stage t.names) (settle_ends xs t.stage is)) ts us
 
   -- all edits
-  pub edits-reached : (edits : List PendingEdit) (s min : ℕ) (is : List Interval) (done : List Stage) (d : Document) → Each (λ t. IsTyped t.stage x.doc t.names t.sub_operation) (flat_map (λ e. e.stages) edits)
+  pub edits-reached : (edits : List PendingEdit) (s min : ℕ) (is : List Interval) (done : List Stage) (d : Document)
+      → Each (λ t. IsTyped t.stage x.doc t.names t.sub_operation) (flat_map (λ e. e.stages) edits)
       → list_all (writes_known_units x.doc.rows.items x.doc.cols.items) (flat_map (λ e. e.stages) edits) ≡ true → list_all is_one_operation edits ≡ true
       → Reached (flat_map (λ e. e.stages) edits) is done d
-      → Reached [] (shown_intervals x.doc.text.items is (flat_map (λ e. e.stages) edits)) (done ++ flat_map (λ e. e.stages) edits) (take_entries d (numbered s x.doc.number min conn (filter_map (regenerated_edit x.doc) edits)))
+      → Reached [] (shown_intervals x.doc.text.items is (flat_map (λ e. e.stages) edits)) (done ++ flat_map (λ e. e.stages) edits)
+      (take_entries d (numbered s x.doc.number min conn (filter_map (regenerated_edit x.doc) edits)))
   edits-reached [] s min is done d typed w o r = subst (λ ts. Reached [] is ts d) (sym (append-nil done)) r
   edits-reached (edit ∷ edits) s min is done d typed w o r =
       let rest = flat_map (λ (e : PendingEdit). e.stages) edits in
@@ -229,18 +242,41 @@ module _ (x : NaiveClient) (conn : ℕ) (ready : IsReady x) where
       let here = stages-reached edit.stages rest s is done d (each-front _ edit.stages rest typed) (all-front _ edit.stages rest w) r in
       let stages = append_assoc done edit.stages rest in
       step (op_of (flat_map (pieces x.doc) edit.stages)) refl back here
-      (λ s' d' now. subst (λ us. Reached [] (shown_intervals x.doc.text.items is (edit.stages ++ rest)) us (take_entries d' (numbered s' x.doc.number min conn (filter_map (regenerated_edit x.doc) edits)))) stages
-      (subst (λ js. Reached [] js ((done ++ edit.stages) ++ rest) (take_entries d' (numbered s' x.doc.number min conn (filter_map (regenerated_edit x.doc) edits)))) (sym (shown-append x.doc.text.items is edit.stages rest))
-      (edits-reached edits s' min (shown_intervals x.doc.text.items is edit.stages) (done ++ edit.stages) d' (each-back _ edit.stages rest typed) (all-back _ edit.stages rest w) p.1 now)))
+      (λ s' d' now. subst (λ us. Reached [] (shown_intervals x.doc.text.items is (edit.stages ++ rest)) us
+      (take_entries d' (numbered s' x.doc.number min conn (filter_map (regenerated_edit x.doc) edits)))) stages
+      (subst (λ js. Reached [] js ((done ++ edit.stages) ++ rest) (take_entries d'
+      (numbered s' x.doc.number min conn (filter_map (regenerated_edit x.doc) edits)))) (sym (shown-append x.doc.text.items is edit.stages rest))
+      (edits-reached edits s' min (shown_intervals x.doc.text.items is edit.stages) (done ++ edit.stages) d' (each-back _ edit.stages rest typed)
+      (all-back _ edit.stages rest w) p.1 now)))
     where
-      step : (q : Option ChannelOp) → op_of (flat_map (pieces x.doc) edit.stages) ≡ q → sub_operations_of (op_of (flat_map (pieces x.doc) edit.stages)) ≡ flat_map (pieces x.doc) edit.stages
-          → Reached (flat_map (λ (e : PendingEdit). e.stages) edits) (shown_intervals x.doc.text.items is edit.stages) (done ++ edit.stages) (effects d s conn x.doc.number (flat_map (pieces x.doc) edit.stages))
+      step : (q : Option ChannelOp) → op_of (flat_map (pieces x.doc) edit.stages) ≡ q → sub_operations_of (op_of (flat_map (pieces x.doc) edit.stages))
+          ≡ flat_map (pieces x.doc) edit.stages
+          → Reached (flat_map (λ (e : PendingEdit). e.stages) edits) (shown_intervals x.doc.text.items is edit.stages) (done ++ edit.stages)
+          (effects d s conn x.doc.number (flat_map (pieces x.doc) edit.stages))
           → ((s' : ℕ) (d' : Document) → Reached (flat_map (λ (e : PendingEdit). e.stages) edits) (shown_intervals x.doc.text.items is edit.stages) (done ++ edit.stages) d'
-          → Reached [] (shown_intervals x.doc.text.items is (edit.stages ++ flat_map (λ (e : PendingEdit). e.stages) edits)) (done ++ (edit.stages ++ flat_map (λ (e : PendingEdit). e.stages) edits)) (take_entries d' (numbered s' x.doc.number min conn (filter_map (regenerated_edit x.doc) edits))))
-          → Reached [] (shown_intervals x.doc.text.items is (edit.stages ++ flat_map (λ (e : PendingEdit). e.stages) edits)) (done ++ (edit.stages ++ flat_map (λ (e : PendingEdit). e.stages) edits)) (take_entries d (numbered s x.doc.number min conn (cons_option q (filter_map (regenerated_edit x.doc) edits))))
-      step None q back here later = later s d (subst (λ ps. Reached (flat_map (λ (e : PendingEdit). e.stages) edits) (shown_intervals x.doc.text.items is edit.stages) (done ++ edit.stages) (effects d s conn x.doc.number ps)) (no-operation (flat_map (pieces x.doc) edit.stages) q) here)
+          → Reached [] (shown_intervals x.doc.text.items is (edit.stages ++ flat_map (λ (e : PendingEdit). e.stages) edits))
+          (done ++ (edit.stages ++ flat_map (λ (e : PendingEdit). e.stages) edits))
+          (take_entries d' (numbered s' x.doc.number min conn (filter_map (regenerated_edit x.doc) edits))))
+          → Reached [] (shown_intervals x.doc.text.items is (edit.stages ++ flat_map (λ (e : PendingEdit). e.stages) edits))
+          (done ++ (edit.stages ++ flat_map (λ (e : PendingEdit). e.stages) edits))
+          (take_entries d (numbered s x.doc.number min conn (cons_option q (filter_map (regenerated_edit x.doc) edits))))
+      step None q back here later = later s d (subst (λ ps. Reached (flat_map (λ (e : PendingEdit). e.stages) edits)
+          (shown_intervals x.doc.text.items is edit.stages) (done ++ edit.stages) (effects d s conn x.doc.number ps)) (no-operation (flat_map (pieces x.doc) edit.stages) q) here)
       step (Some op) q back here later =
           let same : flat_map (pieces x.doc) edit.stages ≡ sub_operations op = sym back ∙ ap sub_operations_of q in
-          let entry : Entry = record { msg = record { client_id = None; seq = s; min = min; client_seq = pos 0; ref_seq = pos x.doc.number; kind = kind.Op; body = body.Op op }; origin = conn } in
+          let entry : Entry = record {
+            msg = record {
+              client_id = None;
+              seq = s;
+              min = min;
+              client_seq = pos 0;
+              ref_seq = pos x.doc.number;
+              kind = kind.Op;
+              body = body.Op op;
+            };
+            origin = conn;
+          } in
           later (s + 1) (with_numbers entry (effects d s conn x.doc.number (sub_operations op)))
-          (numbers-reached (flat_map (λ (e : PendingEdit). e.stages) edits) (shown_intervals x.doc.text.items is edit.stages) (done ++ edit.stages) (effects d s conn x.doc.number (sub_operations op)) entry (subst (λ ps. Reached (flat_map (λ (e : PendingEdit). e.stages) edits) (shown_intervals x.doc.text.items is edit.stages) (done ++ edit.stages) (effects d s conn x.doc.number ps)) same here))
+          (numbers-reached (flat_map (λ (e : PendingEdit). e.stages) edits) (shown_intervals x.doc.text.items is edit.stages) (done ++ edit.stages)
+          (effects d s conn x.doc.number (sub_operations op)) entry (subst (λ ps. Reached (flat_map (λ (e : PendingEdit). e.stages) edits)
+          (shown_intervals x.doc.text.items is edit.stages) (done ++ edit.stages) (effects d s conn x.doc.number ps)) same here))

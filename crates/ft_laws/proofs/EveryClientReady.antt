@@ -70,7 +70,8 @@ once-distinct (e ∷ xs) h =
 module _ (c m n : ℕ) (doc : Document) (list : Document → Sequence) (edit : SentStage → StageEdit)
     (stands : (t : ToldStage) → StageStands t.before t.ref c t.sent t.stage.names doc → IsStanding t.before t.ref c (edit t.sent) (list doc).items)
     (inserts removes annotates : SubOperation → Bool) (kinds : AreKindsOf inserts removes annotates edit) (ts : List ToldStage) where
-  ready-list : AreTold m ts → AllStand c doc ts → list_all (is_within n (stage_numbers ts)) (list doc).items ≡ true → list_all is_ordered (list doc).items ≡ true → Once (sequenced_elements (list doc).items)
+  ready-list : AreTold m ts → AllStand c doc ts → list_all (is_within n (stage_numbers ts)) (list doc).items ≡ true → list_all is_ordered (list doc).items
+      ≡ true → Once (sequenced_elements (list doc).items)
       → IsReadyList inserts removes annotates n (bare_stages ts) (list doc)
   ready-list told stand within ordered once =
       let items = λ (d : Document). (list d).items in
@@ -95,14 +96,16 @@ standing-end : (a : ElementId) (xs : List ListElement) → list_any (is_standing
 standing-end a [] h = h
 standing-end a (e ∷ xs) h = step (is_sequenced e) h (standing-end a xs)
   where
-    swapped : (u i : Bool) → (u && i) || list_any (is_standing_at a) (sequenced_elements xs) ≡ true → (list_any (is_standing_at a) (sequenced_elements xs) ≡ true → list_any (λ e. has_id a e && is_unremoved e) xs ≡ true)
+    swapped : (u i : Bool) → (u && i) || list_any (is_standing_at a) (sequenced_elements xs) ≡ true
+        → (list_any (is_standing_at a) (sequenced_elements xs) ≡ true → list_any (λ e. has_id a e && is_unremoved e) xs ≡ true)
         → (i && u) || list_any (λ e. has_id a e && is_unremoved e) xs ≡ true
     swapped true true g ih = refl
     swapped true false g ih = ih g
     swapped false true g ih = ih g
     swapped false false g ih = ih g
 
-    step : (b : Bool) → list_any (is_standing_at a) (cond b (without_pending e ∷ sequenced_elements xs) (sequenced_elements xs)) ≡ true → (list_any (is_standing_at a) (sequenced_elements xs) ≡ true → list_any (λ e. has_id a e && is_unremoved e) xs ≡ true)
+    step : (b : Bool) → list_any (is_standing_at a) (cond b (without_pending e ∷ sequenced_elements xs) (sequenced_elements xs)) ≡ true
+        → (list_any (is_standing_at a) (sequenced_elements xs) ≡ true → list_any (λ e. has_id a e && is_unremoved e) xs ≡ true)
         → (has_id a e && is_unremoved e) || list_any (λ e. has_id a e && is_unremoved e) xs ≡ true
     step true g ih = swapped (is_unremoved e) (has_id a e) (ap (λ u. (u && has_id a e) || list_any (is_standing_at a) (sequenced_elements xs)) (sym (unremoved-bare e)) ∙ g) ih
     step false g ih = or_right (has_id a e && is_unremoved e) (list_any (λ e. has_id a e && is_unremoved e) xs) (ih g)
@@ -162,7 +165,8 @@ interval-stage [] h = (cc)
 interval-stage (g ∷ []) h = one-interval g.stage.sub_operation h
 interval-stage (g ∷ f ∷ gs) h = absurd (two-intervals g.stage.sub_operation f.stage.sub_operation (map (λ g. g.stage.sub_operation) gs) h)
 
-one-operation : (gs : List ToldStage) → AreOfOneKind (map (λ g. g.stage.sub_operation) gs) → list_all is_text_stage (bare_stages gs) || list_all is_grid_stage (bare_stages gs) || is_interval_edit (bare_stages gs) ≡ true
+one-operation : (gs : List ToldStage) → AreOfOneKind (map (λ g. g.stage.sub_operation) gs) → list_all is_text_stage (bare_stages gs)
+    || list_all is_grid_stage (bare_stages gs) || is_interval_edit (bare_stages gs) ≡ true
 one-operation gs (inl h) = rw (text-stages gs h) refl
 one-operation gs (inr (inl h)) = rw (grid-stages gs h) (middle (list_all is_text_stage (bare_stages gs)) (is_interval_edit (bare_stages gs)))
   where
@@ -182,7 +186,8 @@ edits-of-one c (gs ∷ gss) (edit ∷ edits) h =
 
 -- ---- the client
 
-pub client-ready : (bound c : ℕ) (gss : List (List ToldStage)) (x : NaiveClient) (agreed_doc : Document) → ClientHolds bound c gss x → sequenced_part x.doc ≡ agreed_doc → AreCellsOfUnits agreed_doc → IsReady x
+pub client-ready : (bound c : ℕ) (gss : List (List ToldStage)) (x : NaiveClient) (agreed_doc : Document) → ClientHolds bound c gss x → sequenced_part x.doc
+    ≡ agreed_doc → AreCellsOfUnits agreed_doc → IsReady x
 client-ready bound c gss x agreed_doc h agrees units =
     let ts = flat gss in
     let doc = x.doc in
@@ -216,10 +221,12 @@ client-ready-from start steps x run =
     client-ready _ s.c s.gss x (take_entries start entries) s.client s.agrees (entries-units start entries run.sound.consistent run.sound.cells)
 
 -- shows what the start and the entries that it took show once its pending operations are sequenced next
-pub pending-stays-on_top-from : (start : Document) (steps : List ClientStep) (x : NaiveClient) (conn : ℕ) → IsRunFrom start steps x → content x ≡ shown_with_pending (take_entries start (taken_entries steps)) x conn
+pub pending-stays-on_top-from : (start : Document) (steps : List ClientStep) (x : NaiveClient) (conn : ℕ) → IsRunFrom start steps x → content x
+    ≡ shown_with_pending (take_entries start (taken_entries steps)) x conn
 pending-stays-on_top-from start steps x conn run =
     let entries = taken_entries steps in
-    pending-on_top-over x conn (client-ready-from start steps x run) (take_entries start entries) (take_entries-consistent start entries run.sound.consistent) (clients-agree-from start steps x run)
+    pending-on_top-over x conn (client-ready-from start steps x run) (take_entries start entries) (take_entries-consistent start entries run.sound.consistent)
+    (clients-agree-from start steps x run)
 
 -- and shows the same after its own join
 pub join-changes_nothing-from : (start : Document) (steps : List ClientStep) (x : NaiveClient) (entry : Entry) → IsRunFrom start steps x → content (come_online x entry) ≡ content x
@@ -227,11 +234,13 @@ join-changes_nothing-from start steps x entry run = join-changes_nothing x entry
 
 -- ---- from the empty document on
 
-pub every-client-ready : (steps : List ClientStep) (x : NaiveClient) → after_steps (Some (client_over empty)) steps ≡ Some x → list_all has_fitting_body (taken_entries steps) ≡ true → IsReady x
+pub every-client-ready : (steps : List ClientStep) (x : NaiveClient) → after_steps (Some (client_over empty)) steps ≡ Some x
+    → list_all has_fitting_body (taken_entries steps) ≡ true → IsReady x
 every-client-ready steps x h fits = client-ready-from empty steps x (run-from-empty steps x h fits)
 
 -- shows what the order will show once its pending operations are sequenced next
-pub pending-stays-on_top : (steps : List ClientStep) (x : NaiveClient) (later : List Entry) (conn : ℕ) → after_steps (Some (client_over empty)) steps ≡ Some x → list_all has_fitting_body (taken_entries steps) ≡ true
+pub pending-stays-on_top : (steps : List ClientStep) (x : NaiveClient) (later : List Entry) (conn : ℕ) → after_steps (Some (client_over empty)) steps ≡ Some x
+    → list_all has_fitting_body (taken_entries steps) ≡ true
     → content x ≡ applied x (taken_entries steps ++ later) conn
 pending-stays-on_top steps x later conn h fits =
     let entries = taken_entries steps in
@@ -240,6 +249,7 @@ pending-stays-on_top steps x later conn h fits =
     pending-stays-on_top-from empty steps x conn (run-from-empty steps x h fits) ∙ ap (λ es. shown_with_pending (agreed es) x conn) (sym first)
 
 -- and shows the same after its own join
-pub every-join-changes_nothing : (steps : List ClientStep) (x : NaiveClient) (entry : Entry) → after_steps (Some (client_over empty)) steps ≡ Some x → list_all has_fitting_body (taken_entries steps) ≡ true
+pub every-join-changes_nothing : (steps : List ClientStep) (x : NaiveClient) (entry : Entry) → after_steps (Some (client_over empty)) steps ≡ Some x
+    → list_all has_fitting_body (taken_entries steps) ≡ true
     → content (come_online x entry) ≡ content x
 every-join-changes_nothing steps x entry h fits = join-changes_nothing-from empty steps x entry (run-from-empty steps x h fits)

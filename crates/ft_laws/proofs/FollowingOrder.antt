@@ -57,17 +57,20 @@ each-kept R test (e ∷ xs) h = step (test e) (each-kept R test xs h.1)
     step true g = (h.0, g)
     step false g = g
 
-each-carried : (R : ListElement → Type 0) → ((e : ListElement) → R e → R (carried_element e)) → (xs : List ListElement) → Each R xs → Each R (retain_map is_sequenced carried_element xs)
+each-carried : (R : ListElement → Type 0) → ((e : ListElement) → R e → R (carried_element e)) → (xs : List ListElement) → Each R xs
+    → Each R (retain_map is_sequenced carried_element xs)
 each-carried R f [] h = tt
 each-carried R f (e ∷ xs) h = step (is_sequenced e) (each-carried R f xs h.1)
   where
-    step : (b : Bool) → Each R (retain_map is_sequenced carried_element xs) → Each R (cond b (carried_element e ∷ retain_map is_sequenced carried_element xs) (retain_map is_sequenced carried_element xs))
+    step : (b : Bool) → Each R (retain_map is_sequenced carried_element xs)
+        → Each R (cond b (carried_element e ∷ retain_map is_sequenced carried_element xs) (retain_map is_sequenced carried_element xs))
     step true g = (f e h.0, g)
     step false g = g
 
 pub each-stage_list : (R : ListElement → Type 0) → ((e : ListElement) → R e → R (carried_element e)) → (xs : List ListElement) → Each R xs → (k : ℕ) → Each R (stage_list xs k)
 each-stage_list R f xs h zero = each-carried R f xs h
-each-stage_list R f xs h (suc k) = each-put R (seen (suc k - 1)) (stage_position (suc k) xs) (filter (is_inserted_by (suc k)) xs) (stage_list xs k) (each-kept R (is_inserted_by (suc k)) xs h) (each-stage_list R f xs h k)
+each-stage_list R f xs h (suc k) = each-put R (seen (suc k - 1)) (stage_position (suc k) xs) (filter (is_inserted_by (suc k)) xs) (stage_list xs k)
+    (each-kept R (is_inserted_by (suc k)) xs h) (each-stage_list R f xs h k)
 
 -- the cells after a write, if there is one
 abbrev pub written : Option Cell → List Cell → List Cell
@@ -107,12 +110,14 @@ rank-same is see other [] h = refl
 rank-same is see other (e ∷ xs) h = rw (h.0, rank-same is see other xs h.1) refl
 
 -- the unit at the number of one that is named
-unit-pair : (n conn made k : ℕ) (xs ds : List ListElement) → SameViews k xs (stage_list xs k) → are_distinct xs ≡ true → (b : Beside n conn made k (stage_list xs k) ds) → Each (λ e. seen (k - 1) e ≡ seen k e) xs
+unit-pair : (n conn made k : ℕ) (xs ds : List ListElement) → SameViews k xs (stage_list xs k) → are_distinct xs ≡ true
+    → (b : Beside n conn made k (stage_list xs k) ds) → Each (λ e. seen (k - 1) e ≡ seen k e) xs
     → (y : ElementId) → has_named (seen k) xs y ≡ true → IsEndPair b.pairs (Some y) (option_map id (at (seen_by n conn) (rank (has_id y) (seen (k - 1)) xs) ds))
 unit-pair n conn made k xs ds v d b same y h =
     let left : are_distinct (lefts b.pairs) ≡ true = subst (λ us. are_distinct us ≡ true) (sym b.left) (stage_list-distinct xs d k) in
     let there : list_any (λ e. has_id y e && seen k e) (lefts b.pairs) ≡ true =
-    subst (λ us. has_named (seen k) us y ≡ true) (sym b.left) (named-filter (seen k) y (stage_list xs k) ∙ ap (list_any (has_id y)) (v.view k (omega arith)) ∙ sym (named-filter (seen k) y xs) ∙ h) in
+    subst (λ us. has_named (seen k) us y ≡ true) (sym b.left) (named-filter (seen k) y (stage_list xs k) ∙ ap (list_any (has_id y)) (v.view k (omega arith))
+    ∙ sym (named-filter (seen k) y xs) ∙ h) in
     let pair = at-pair k (seen_by n conn) b.pairs left (each-with (Image n conn made k) (λ p. seen_by n conn p.1 ≡ seen k p.0) (λ p i. i.perspective) b.pairs b.images) y there in
     let pair' = subst (λ us. IsEndPair b.pairs (Some y) (option_map id (at (seen_by n conn) (rank (has_id y) (seen k) us) (rights b.pairs)))) b.left pair in
     let pair'' = subst (λ us. IsEndPair b.pairs (Some y) (option_map id (at (seen_by n conn) (rank (has_id y) (seen k) (stage_list xs k)) us))) b.right pair' in
@@ -125,7 +130,8 @@ module _ (x : NaiveClient) (conn : ℕ) (ready : IsReady x) where
 
   -- a stage without a write changes no cell that is shown; one with a write is a cell write
   abbrev pub IsLogged : List Pair → List Pair → (Stage × Option Cell) → Type 0
-  IsLogged rows cols (t, None) = (row col : ElementId) → has_named (seen x.last_stage) x.doc.rows.items row ≡ true → has_named (seen x.last_stage) x.doc.cols.items col ≡ true → (v : Option ValueBytes) → cell_after_stage row col t v ≡ v
+  IsLogged rows cols (t, None) = (row col : ElementId) → has_named (seen x.last_stage) x.doc.rows.items row ≡ true
+      → has_named (seen x.last_stage) x.doc.cols.items col ≡ true → (v : Option ValueBytes) → cell_after_stage row col t v ≡ v
   IsLogged rows cols (t, Some w) = IsWritten rows cols t w
 
   pub record Follows (k : ℕ) (is : List Interval) (done : List Stage) (d : Document) : Type 0 where
@@ -153,21 +159,26 @@ module _ (x : NaiveClient) (conn : ℕ) (ready : IsReady x) where
     pub cols_left : list_all (is_left (inserts_in Cols) (removes_in Cols) stages j) x.doc.cols.items ≡ true
     pub cols_changes : list_all (left_changes no_kind stages j) x.doc.cols.items ≡ true
 
-  changes-next : (annotates : SubOperation → Bool) (t : Stage) (stages : List Stage) (j : ℕ) → j < t.stage → (xs : List ListElement) → list_all (left_changes annotates (t ∷ stages) j) xs ≡ true → list_all (left_changes annotates stages t.stage) xs ≡ true
+  changes-next : (annotates : SubOperation → Bool) (t : Stage) (stages : List Stage) (j : ℕ) → j < t.stage → (xs : List ListElement)
+      → list_all (left_changes annotates (t ∷ stages) j) xs ≡ true → list_all (left_changes annotates stages t.stage) xs ≡ true
   changes-next annotates t stages j l xs h =
       all-weaker (left_changes annotates (t ∷ stages) j) (left_changes annotates stages t.stage)
-      (λ e k. all-weaker (left_change annotates (t ∷ stages) j) (left_change annotates stages t.stage) (λ q g. next-left annotates annotates annotates q.0 j t.stage (annotates t.sub_operation) _ l g) e.pending k) xs h
+      (λ e k. all-weaker (left_change annotates (t ∷ stages) j) (left_change annotates stages t.stage)
+      (λ q g. next-left annotates annotates annotates q.0 j t.stage (annotates t.sub_operation) _ l g) e.pending k) xs h
 
   pub ahead-next : (t : Stage) (stages : List Stage) (j : ℕ) → Ahead (t ∷ stages) j → Ahead stages t.stage
   ahead-next t stages j a =
       let l : j < t.stage = a.rise.0 in
       record {
         rise = a.rise.1;
-        text_left = all-weaker (is_left inserts_text removes_text (t ∷ stages) j) (is_left inserts_text removes_text stages t.stage) (λ e q. left-next inserts_text removes_text t stages j e l q) x.doc.text.items a.text_left;
+        text_left = all-weaker (is_left inserts_text removes_text (t ∷ stages) j) (is_left inserts_text removes_text stages t.stage)
+            (λ e q. left-next inserts_text removes_text t stages j e l q) x.doc.text.items a.text_left;
         text_changes = changes-next annotates_text t stages j l x.doc.text.items a.text_changes;
-        rows_left = all-weaker (is_left (inserts_in Rows) (removes_in Rows) (t ∷ stages) j) (is_left (inserts_in Rows) (removes_in Rows) stages t.stage) (λ e q. left-next (inserts_in Rows) (removes_in Rows) t stages j e l q) x.doc.rows.items a.rows_left;
+        rows_left = all-weaker (is_left (inserts_in Rows) (removes_in Rows) (t ∷ stages) j) (is_left (inserts_in Rows) (removes_in Rows) stages t.stage)
+            (λ e q. left-next (inserts_in Rows) (removes_in Rows) t stages j e l q) x.doc.rows.items a.rows_left;
         rows_changes = changes-next no_kind t stages j l x.doc.rows.items a.rows_changes;
-        cols_left = all-weaker (is_left (inserts_in Cols) (removes_in Cols) (t ∷ stages) j) (is_left (inserts_in Cols) (removes_in Cols) stages t.stage) (λ e q. left-next (inserts_in Cols) (removes_in Cols) t stages j e l q) x.doc.cols.items a.cols_left;
+        cols_left = all-weaker (is_left (inserts_in Cols) (removes_in Cols) (t ∷ stages) j) (is_left (inserts_in Cols) (removes_in Cols) stages t.stage)
+            (λ e q. left-next (inserts_in Cols) (removes_in Cols) t stages j e l q) x.doc.cols.items a.cols_left;
         cols_changes = changes-next no_kind t stages j l x.doc.cols.items a.cols_changes;
       }
 
@@ -207,28 +218,47 @@ module _ (x : NaiveClient) (conn : ℕ) (ready : IsReady x) where
       log = f.log ++ ((t, o) ∷ []);
       logged = map-append (λ (l : Stage × Option Cell). l.0) f.log ((t, o) ∷ []) ∙ ap (λ ts. ts ++ (t ∷ [])) f.logged;
       cells = cells ∙ ap (written o) f.cells ∙ sym (written-append f.log (t, o) x.doc.cells);
-      entries = each-append (IsLogged rows.next.pairs cols.next.pairs) f.log ((t, o) ∷ []) (each-with (IsLogged f.rows.pairs f.cols.pairs) (IsLogged rows.next.pairs cols.next.pairs) still f.log f.entries) (entry, tt);
+      entries = each-append (IsLogged rows.next.pairs cols.next.pairs) f.log ((t, o) ∷ [])
+          (each-with (IsLogged f.rows.pairs f.cols.pairs) (IsLogged rows.next.pairs cols.next.pairs) still f.log f.entries) (entry, tt);
     }
       where
         still : (l : Stage × Option Cell) → IsLogged f.rows.pairs f.cols.pairs l → IsLogged rows.next.pairs cols.next.pairs l
         still (u, None) h = h
-        still (u, Some w) h = record { i = h.i; j = h.j; row = h.row; col = h.col; op = h.op; first = h.first; second = h.second; row_pair = rows.stays h.row w.row h.row_pair; col_pair = cols.stays h.col w.col h.col_pair }
+        still (u, Some w) h = record {
+          i = h.i;
+          j = h.j;
+          row = h.row;
+          col = h.col;
+          op = h.op;
+          first = h.first;
+          second = h.second;
+          row_pair = rows.stays h.row
+              w.row h.row_pair;
+          col_pair = cols.stays h.col w.col h.col_pair;
+        }
 
-    text-untouched : inserts_text t.sub_operation ≡ false → removes_text t.sub_operation ≡ false → annotates_text t.sub_operation ≡ false → Onward n conn x.doc.text.made j t.stage f.text (stage_list x.doc.text.items t.stage) d.text.items
+    text-untouched : inserts_text t.sub_operation ≡ false → removes_text t.sub_operation ≡ false → annotates_text t.sub_operation ≡ false
+        → Onward n conn x.doc.text.made j t.stage f.text (stage_list x.doc.text.items t.stage) d.text.items
     text-untouched i r c =
-        untouched inserts_text removes_text annotates_text t stages j x.last_stage above a.rise.1 x.doc.text.items a.text_left a.text_changes (λ i k l. (text-views i).view k l) n conn x.doc.text.made i r c d.text.items f.text
+        untouched inserts_text removes_text annotates_text t stages j x.last_stage above a.rise.1 x.doc.text.items a.text_left a.text_changes
+        (λ i k l. (text-views i).view k l) n conn x.doc.text.made i r c d.text.items f.text
 
-    rows-untouched : inserts_in Rows t.sub_operation ≡ false → removes_in Rows t.sub_operation ≡ false → Onward n conn x.doc.rows.made j t.stage f.rows (stage_list x.doc.rows.items t.stage) d.rows.items
+    rows-untouched : inserts_in Rows t.sub_operation ≡ false → removes_in Rows t.sub_operation ≡ false
+        → Onward n conn x.doc.rows.made j t.stage f.rows (stage_list x.doc.rows.items t.stage) d.rows.items
     rows-untouched i r =
-        untouched (inserts_in Rows) (removes_in Rows) no_kind t stages j x.last_stage above a.rise.1 x.doc.rows.items a.rows_left a.rows_changes (λ i k l. (row-views i).view k l) n conn x.doc.rows.made i r refl d.rows.items f.rows
+        untouched (inserts_in Rows) (removes_in Rows) no_kind t stages j x.last_stage above a.rise.1 x.doc.rows.items a.rows_left a.rows_changes
+        (λ i k l. (row-views i).view k l) n conn x.doc.rows.made i r refl d.rows.items f.rows
 
-    cols-untouched : inserts_in Cols t.sub_operation ≡ false → removes_in Cols t.sub_operation ≡ false → Onward n conn x.doc.cols.made j t.stage f.cols (stage_list x.doc.cols.items t.stage) d.cols.items
+    cols-untouched : inserts_in Cols t.sub_operation ≡ false → removes_in Cols t.sub_operation ≡ false
+        → Onward n conn x.doc.cols.made j t.stage f.cols (stage_list x.doc.cols.items t.stage) d.cols.items
     cols-untouched i r =
-        untouched (inserts_in Cols) (removes_in Cols) no_kind t stages j x.last_stage above a.rise.1 x.doc.cols.items a.cols_left a.cols_changes (λ i k l. (col-views i).view k l) n conn x.doc.cols.made i r refl d.cols.items f.cols
+        untouched (inserts_in Cols) (removes_in Cols) no_kind t stages j x.last_stage above a.rise.1 x.doc.cols.items a.cols_left a.cols_changes
+        (λ i k l. (col-views i).view k l) n conn x.doc.cols.made i r refl d.cols.items f.cols
 
     -- ends stay where the stage removes nothing of the text
     kept-ends : removes_text t.sub_operation ≡ false → list_all (has_ends_at t.stage x.doc.text.items) is ≡ true
-    kept-ends r = still-ends j t.stage x.doc.text.items (still-seen-kept inserts_text removes_text annotates_text t stages j x.last_stage above a.rise.1 r x.doc.text.items a.text_left) is f.ends
+    kept-ends r = still-ends j t.stage x.doc.text.items (still-seen-kept inserts_text removes_text annotates_text t stages j x.last_stage above a.rise.1 r
+        x.doc.text.items a.text_left) is f.ends
 
     kept-intervals : removes_text t.sub_operation ≡ false → settle_ends x.doc.text.items t.stage is ≡ is
     kept-intervals r = ends-stay t.stage x.doc.text.items ready.text.place.distinct is (kept-ends r)
@@ -236,29 +266,38 @@ module _ (x : NaiveClient) (conn : ℕ) (ready : IsReady x) where
     -- a stage that changes nothing
     idle : inserts_text t.sub_operation ≡ false → removes_text t.sub_operation ≡ false → annotates_text t.sub_operation ≡ false
         → inserts_in Rows t.sub_operation ≡ false → removes_in Rows t.sub_operation ≡ false → inserts_in Cols t.sub_operation ≡ false → removes_in Cols t.sub_operation ≡ false
-        → ((row col : ElementId) → has_named (seen x.last_stage) x.doc.rows.items row ≡ true → has_named (seen x.last_stage) x.doc.cols.items col ≡ true → (v : Option ValueBytes) → cell_after_stage row col t v ≡ v)
+        → ((row col : ElementId) → has_named (seen x.last_stage) x.doc.rows.items row ≡ true → has_named (seen x.last_stage) x.doc.cols.items col ≡ true
+        → (v : Option ValueBytes) → cell_after_stage row col t v ≡ v)
         → Follows t.stage (settle_ends x.doc.text.items t.stage is) (done ++ (t ∷ [])) d
     idle ti tr ta ri rr ci cr neutral =
         let text = text-untouched ti tr ta in
         subst (λ js. Follows t.stage js (done ++ (t ∷ [])) d) (sym (kept-intervals tr))
-        (carry d f.sound text f.text_made (rows-untouched ri rr) f.rows_made (cols-untouched ci cr) f.cols_made is (kept-ends tr) (pairs-stay f.text.pairs text.next.pairs text.stays is d.intervals f.intervals) None refl neutral)
+        (carry d f.sound text f.text_made (rows-untouched ri rr) f.rows_made (cols-untouched ci cr) f.cols_made is (kept-ends tr)
+        (pairs-stay f.text.pairs text.next.pairs text.stays is d.intervals f.intervals) None refl neutral)
 
-    neutral-text : (op : BaseOp) → t.sub_operation ≡ OnText op → (row col : ElementId) → has_named (seen x.last_stage) x.doc.rows.items row ≡ true → has_named (seen x.last_stage) x.doc.cols.items col ≡ true → (v : Option ValueBytes) → cell_after_stage row col t v ≡ v
+    neutral-text : (op : BaseOp) → t.sub_operation ≡ OnText op → (row col : ElementId) → has_named (seen x.last_stage) x.doc.rows.items row ≡ true
+        → has_named (seen x.last_stage) x.doc.cols.items col ≡ true → (v : Option ValueBytes) → cell_after_stage row col t v ≡ v
     neutral-text op e row col _ _ v = subst (λ o. cell_after_stage row col (record { stage = t.stage; sub_operation = o; names = t.names }) v ≡ v) (sym e) refl
 
-    neutral-in : (target : Target) (p count : ℕ) → t.sub_operation ≡ OnGrid (SpliceIn target p count) → (row col : ElementId) → has_named (seen x.last_stage) x.doc.rows.items row ≡ true → has_named (seen x.last_stage) x.doc.cols.items col ≡ true → (v : Option ValueBytes) → cell_after_stage row col t v ≡ v
+    neutral-in : (target : Target) (p count : ℕ) → t.sub_operation ≡ OnGrid (SpliceIn target p count) → (row col : ElementId)
+        → has_named (seen x.last_stage) x.doc.rows.items row ≡ true → has_named (seen x.last_stage) x.doc.cols.items col ≡ true → (v : Option ValueBytes)
+        → cell_after_stage row col t v ≡ v
     neutral-in target p count e row col _ _ v = subst (λ o. cell_after_stage row col (record { stage = t.stage; sub_operation = o; names = t.names }) v ≡ v) (sym e) refl
 
-    neutral-out : (target : Target) (p q : ℕ) → t.sub_operation ≡ OnGrid (SpliceOut target p q) → (row col : ElementId) → has_named (seen x.last_stage) x.doc.rows.items row ≡ true → has_named (seen x.last_stage) x.doc.cols.items col ≡ true → (v : Option ValueBytes) → cell_after_stage row col t v ≡ v
+    neutral-out : (target : Target) (p q : ℕ) → t.sub_operation ≡ OnGrid (SpliceOut target p q) → (row col : ElementId)
+        → has_named (seen x.last_stage) x.doc.rows.items row ≡ true → has_named (seen x.last_stage) x.doc.cols.items col ≡ true → (v : Option ValueBytes)
+        → cell_after_stage row col t v ≡ v
     neutral-out target p q e row col _ _ v = subst (λ o. cell_after_stage row col (record { stage = t.stage; sub_operation = o; names = t.names }) v ≡ v) (sym e) refl
 
-    neutral-intervals : (op : TextOp) → t.sub_operation ≡ OnIntervals op → (row col : ElementId) → has_named (seen x.last_stage) x.doc.rows.items row ≡ true → has_named (seen x.last_stage) x.doc.cols.items col ≡ true → (v : Option ValueBytes) → cell_after_stage row col t v ≡ v
+    neutral-intervals : (op : TextOp) → t.sub_operation ≡ OnIntervals op → (row col : ElementId) → has_named (seen x.last_stage) x.doc.rows.items row ≡ true
+        → has_named (seen x.last_stage) x.doc.cols.items col ≡ true → (v : Option ValueBytes) → cell_after_stage row col t v ≡ v
     neutral-intervals op e row col _ _ v = subst (λ o. cell_after_stage row col (record { stage = t.stage; sub_operation = o; names = t.names }) v ≡ v) (sym e) refl
 
     -- ---- the text
 
     module _ (s : ℕ) where
-      insertion-follows : (p : ℕ) (seg : Seg) (props : PropertySet) (b : ElementContent) (bs : List ElementContent) → t.sub_operation ≡ OnText (Insert p seg props) → segment_contents seg ≡ b ∷ bs
+      insertion-follows : (p : ℕ) (seg : Seg) (props : PropertySet) (b : ElementContent) (bs : List ElementContent) → t.sub_operation
+          ≡ OnText (Insert p seg props) → segment_contents seg ≡ b ∷ bs
           → IsTypedText t.stage x.doc.text.items (Insert p seg props)
           → Follows t.stage (settle_ends x.doc.text.items t.stage is) (done ++ (t ∷ [])) (text_effect d s conn n (Insert (stage_position t.stage x.doc.text.items) seg props))
       insertion-follows p seg props b bs o c typed =
@@ -267,10 +306,12 @@ module _ (x : NaiveClient) (conn : ℕ) (ready : IsReady x) where
           let by = Some (Acked s conn) in
           let d1 : Document = record d { text = after_insertion s conn n pos by (apply [] props) (segment_contents seg) d.text } in
           let fits : nat_le pos (len (seen_by n conn) d.text.items) ≡ true =
-          place-fits inserts_text removes_text annotates_text t stages j x.last_stage above a.rise.1 x.doc.text.items a.text_left a.text_changes (λ i k l. (text-views i).view k l) n conn x.doc.text.made d.text.items f.text in
+          place-fits inserts_text removes_text annotates_text t stages j x.last_stage above a.rise.1 x.doc.text.items a.text_left a.text_changes
+          (λ i k l. (text-views i).view k l) n conn x.doc.text.made d.text.items f.text in
           let e : text_effect d s conn n (Insert pos seg props) ≡ d1 = ap (λ c. cond c d1 (with_skip d)) fits in
           let text : Onward n conn x.doc.text.made j k f.text (stage_list x.doc.text.items k) d1.text.items =
-          inserted inserts_text removes_text annotates_text t stages j x.last_stage above a.rise.1 x.doc.text.items a.text_left a.text_changes (λ i k l. (text-views i).view k l) n conn x.doc.text.made
+          inserted inserts_text removes_text annotates_text t stages j x.last_stage above a.rise.1 x.doc.text.items a.text_left a.text_changes
+          (λ i k l. (text-views i).view k l) n conn x.doc.text.made
           (ap removes_text o) (ap annotates_text o) ready.text.later s by (apply [] props) (segment_contents seg) typed d.text f.text_made f.text in
           let more : x.doc.text.made ≤ d1.text.made = (let h = f.text_made in omega arith) in
           let tr : removes_text t.sub_operation ≡ false = ap removes_text o in
@@ -292,21 +333,28 @@ module _ (x : NaiveClient) (conn : ℕ) (ready : IsReady x) where
           let sound : IsConsistent d1 = effects-consistent d s conn n (text_pieces k x.doc.text.items (Remove p q)) f.sound in
           let text : Onward n conn x.doc.text.made j k f.text (stage_list x.doc.text.items k) d1.text.items =
           subst (λ us. Onward n conn x.doc.text.made j k f.text (stage_list x.doc.text.items k) us) (sym e)
-          (removed inserts_text removes_text annotates_text t stages j x.last_stage above a.rise.1 x.doc.text.items a.text_left a.text_changes (λ i k l. (text-views i).view k l) n conn x.doc.text.made
+          (removed inserts_text removes_text annotates_text t stages j x.last_stage above a.rise.1 x.doc.text.items a.text_left a.text_changes
+          (λ i k l. (text-views i).view k l) n conn x.doc.text.made
           (ap inserts_text o) (ap annotates_text o) s d.text.items f.text) in
           let ps = text.next.pairs in
-          let before : list_all (has_ends_at (k - 1) x.doc.text.items) is ≡ true = still-ends j (k - 1) x.doc.text.items (still-seen-before inserts_text removes_text t stages j x.last_stage above a.rise.1 x.doc.text.items a.text_left) is f.ends in
+          let before : list_all (has_ends_at (k - 1) x.doc.text.items) is ≡ true = still-ends j (k - 1) x.doc.text.items
+          (still-seen-before inserts_text removes_text t stages j x.last_stage above a.rise.1 x.doc.text.items a.text_left) is f.ends in
           let settled : settle_ends (lefts ps) k is ≡ settle_ends x.doc.text.items k is =
           ap (λ us. settle_ends us k is) text.next.left ∙ ends-same (text-views k) ready.text.place.distinct k (let l = above in omega arith) (omega arith) is before in
           let slid : slide_ends (rights ps) d.intervals ≡ d1.intervals = ap (λ us. slide_ends us d.intervals) (text.next.right ∙ e) ∙ sym r.ends in
           let pairs : IntervalPairs ps (settle_ends (lefts ps) k is) (slide_ends (rights ps) d.intervals) =
-          pairs-settled k ps (subst (λ us. are_distinct us ≡ true) (sym text.next.left) (stage_list-distinct x.doc.text.items ready.text.place.distinct k)) (subst (λ us. are_distinct us ≡ true) (sym text.next.right) sound.text.distinct)
-          (each-with (Image n conn x.doc.text.made k) (λ p. is_unremoved p.1 ≡ seen k p.0) (λ p i. i.unremoved) ps text.next.images) (each-with (Image n conn x.doc.text.made k) (λ p. is_sequenced p.1 ≡ true) (λ p i. i.sequenced) ps text.next.images)
+          pairs-settled k ps (subst (λ us. are_distinct us ≡ true) (sym text.next.left) (stage_list-distinct x.doc.text.items ready.text.place.distinct k))
+          (subst (λ us. are_distinct us ≡ true) (sym text.next.right) sound.text.distinct)
+          (each-with (Image n conn x.doc.text.made k) (λ p. is_unremoved p.1 ≡ seen k p.0) (λ p i. i.unremoved) ps text.next.images)
+          (each-with (Image n conn x.doc.text.made k) (λ p. is_sequenced p.1 ≡ true) (λ p i. i.sequenced) ps text.next.images)
           is d.intervals (pairs-stay f.text.pairs ps text.stays is d.intervals f.intervals) in
           carry d1 sound text (subst (λ z. x.doc.text.made ≤ z) (sym (ap (λ l. l.made) r.text)) f.text_made)
-          (subst (λ l. Onward n conn x.doc.rows.made j k f.rows (stage_list x.doc.rows.items k) l.items) (sym r.rows) (rows-untouched (ap (inserts_in Rows) o) (ap (removes_in Rows) o))) (subst (λ l. x.doc.rows.made ≤ l.made) (sym r.rows) f.rows_made)
-          (subst (λ l. Onward n conn x.doc.cols.made j k f.cols (stage_list x.doc.cols.items k) l.items) (sym r.cols) (cols-untouched (ap (inserts_in Cols) o) (ap (removes_in Cols) o))) (subst (λ l. x.doc.cols.made ≤ l.made) (sym r.cols) f.cols_made)
-          (settle_ends x.doc.text.items k is) (ends-at k x.doc.text.items is) (subst (λ us. IntervalPairs ps us d1.intervals) settled (subst (λ us. IntervalPairs ps (settle_ends (lefts ps) k is) us) slid pairs))
+          (subst (λ l. Onward n conn x.doc.rows.made j k f.rows (stage_list x.doc.rows.items k) l.items) (sym r.rows)
+          (rows-untouched (ap (inserts_in Rows) o) (ap (removes_in Rows) o))) (subst (λ l. x.doc.rows.made ≤ l.made) (sym r.rows) f.rows_made)
+          (subst (λ l. Onward n conn x.doc.cols.made j k f.cols (stage_list x.doc.cols.items k) l.items) (sym r.cols)
+          (cols-untouched (ap (inserts_in Cols) o) (ap (removes_in Cols) o))) (subst (λ l. x.doc.cols.made ≤ l.made) (sym r.cols) f.cols_made)
+          (settle_ends x.doc.text.items k is) (ends-at k x.doc.text.items is) (subst (λ us. IntervalPairs ps us d1.intervals) settled
+          (subst (λ us. IntervalPairs ps (settle_ends (lefts ps) k is) us) slid pairs))
           None r.cells (neutral-text (Remove p q) o)
 
       annotation-follows : (p q : ℕ) (changes : Changes) → t.sub_operation ≡ OnText (Annotate p q changes) → IsTypedText t.stage x.doc.text.items (Annotate p q changes)
@@ -319,19 +367,26 @@ module _ (x : NaiveClient) (conn : ℕ) (ready : IsReady x) where
           let e : d1.text.items ≡ change_runs (seen_by n conn) (with_annotation changes) rs d.text.items = ap (λ l. l.items) r.text in
           let text : Onward n conn x.doc.text.made j k f.text (stage_list x.doc.text.items k) d1.text.items =
           subst (λ us. Onward n conn x.doc.text.made j k f.text (stage_list x.doc.text.items k) us) (sym e)
-          (annotated inserts_text removes_text annotates_text t stages j x.last_stage above a.rise.1 x.doc.text.items a.text_left a.text_changes (λ i k l. (text-views i).view k l) n conn x.doc.text.made
+          (annotated inserts_text removes_text annotates_text t stages j x.last_stage above a.rise.1 x.doc.text.items a.text_left a.text_changes
+          (λ i k l. (text-views i).view k l) n conn x.doc.text.made
           (ap inserts_text o) (ap removes_text o) changes
           (each-stage_list (λ e. StagesRise e.pending × Each (λ q. nat_eq q.0 k ≡ true → q.1 ≡ changes) e.pending) carried-typed x.doc.text.items
-          (each-both (λ e. StagesRise e.pending) (λ e. Each (λ q. nat_eq q.0 k ≡ true → q.1 ≡ changes) e.pending) (λ e. StagesRise e.pending × Each (λ q. nat_eq q.0 k ≡ true → q.1 ≡ changes) e.pending) (λ e u v. (u, v)) x.doc.text.items ready.text.rising typed) j)
+          (each-both (λ e. StagesRise e.pending) (λ e. Each (λ q. nat_eq q.0 k ≡ true → q.1 ≡ changes) e.pending)
+          (λ e. StagesRise e.pending × Each (λ q. nat_eq q.0 k ≡ true → q.1 ≡ changes) e.pending) (λ e u v. (u, v)) x.doc.text.items ready.text.rising typed) j)
           d.text.items f.text) in
           let tr : removes_text t.sub_operation ≡ false = ap removes_text o in
           subst (λ js. Follows k js (done ++ (t ∷ [])) d1) (sym (kept-intervals tr))
-          (carry d1 (effects-consistent d s conn n (text_pieces k x.doc.text.items (Annotate p q changes)) f.sound) text (subst (λ z. x.doc.text.made ≤ z) (sym (ap (λ l. l.made) r.text)) f.text_made)
-          (subst (λ l. Onward n conn x.doc.rows.made j k f.rows (stage_list x.doc.rows.items k) l.items) (sym r.rows) (rows-untouched (ap (inserts_in Rows) o) (ap (removes_in Rows) o))) (subst (λ l. x.doc.rows.made ≤ l.made) (sym r.rows) f.rows_made)
-          (subst (λ l. Onward n conn x.doc.cols.made j k f.cols (stage_list x.doc.cols.items k) l.items) (sym r.cols) (cols-untouched (ap (inserts_in Cols) o) (ap (removes_in Cols) o))) (subst (λ l. x.doc.cols.made ≤ l.made) (sym r.cols) f.cols_made)
-          is (kept-ends tr) (subst (λ us. IntervalPairs text.next.pairs is us) (sym r.ends) (pairs-stay f.text.pairs text.next.pairs text.stays is d.intervals f.intervals)) None r.cells (neutral-text (Annotate p q changes) o))
+          (carry d1 (effects-consistent d s conn n (text_pieces k x.doc.text.items (Annotate p q changes)) f.sound) text
+          (subst (λ z. x.doc.text.made ≤ z) (sym (ap (λ l. l.made) r.text)) f.text_made)
+          (subst (λ l. Onward n conn x.doc.rows.made j k f.rows (stage_list x.doc.rows.items k) l.items) (sym r.rows)
+          (rows-untouched (ap (inserts_in Rows) o) (ap (removes_in Rows) o))) (subst (λ l. x.doc.rows.made ≤ l.made) (sym r.rows) f.rows_made)
+          (subst (λ l. Onward n conn x.doc.cols.made j k f.cols (stage_list x.doc.cols.items k) l.items) (sym r.cols)
+          (cols-untouched (ap (inserts_in Cols) o) (ap (removes_in Cols) o))) (subst (λ l. x.doc.cols.made ≤ l.made) (sym r.cols) f.cols_made)
+          is (kept-ends tr) (subst (λ us. IntervalPairs text.next.pairs is us) (sym r.ends)
+          (pairs-stay f.text.pairs text.next.pairs text.stays is d.intervals f.intervals)) None r.cells (neutral-text (Annotate p q changes) o))
         where
-          carried-typed : (e : ListElement) → StagesRise e.pending × Each (λ q. nat_eq q.0 t.stage ≡ true → q.1 ≡ changes) e.pending → StagesRise (carried_element e).pending × Each (λ q. nat_eq q.0 t.stage ≡ true → q.1 ≡ changes) (carried_element e).pending
+          carried-typed : (e : ListElement) → StagesRise e.pending × Each (λ q. nat_eq q.0 t.stage ≡ true → q.1 ≡ changes) e.pending
+              → StagesRise (carried_element e).pending × Each (λ q. nat_eq q.0 t.stage ≡ true → q.1 ≡ changes) (carried_element e).pending
           carried-typed e h = step (list_any is_acked e.dels)
             where
               step : (b : Bool) → StagesRise (cond b (without_pending e) e).pending × Each (λ q. nat_eq q.0 t.stage ≡ true → q.1 ≡ changes) (cond b (without_pending e) e).pending
@@ -340,17 +395,20 @@ module _ (x : NaiveClient) (conn : ℕ) (ready : IsReady x) where
 
       -- ---- the rows and the columns
 
-      row-insertion-follows : (p count : ℕ) → t.sub_operation ≡ OnGrid (SpliceIn Rows p count) → IsBlockOf [] (replicate count GridUnit) (filter (is_inserted_by t.stage) x.doc.rows.items)
+      row-insertion-follows : (p count : ℕ) → t.sub_operation ≡ OnGrid (SpliceIn Rows p count)
+          → IsBlockOf [] (replicate count GridUnit) (filter (is_inserted_by t.stage) x.doc.rows.items)
           → Follows t.stage (settle_ends x.doc.text.items t.stage is) (done ++ (t ∷ [])) (grid_effect d s conn n (SpliceIn Rows (stage_position t.stage x.doc.rows.items) count))
       row-insertion-follows p count o typed =
           let k = t.stage in
           let pos = stage_position k x.doc.rows.items in
           let d1 : Document = record d { rows = after_insertion s conn n pos None [] (replicate count GridUnit) d.rows } in
           let fits : nat_le pos (len (seen_by n conn) d.rows.items) ≡ true =
-          place-fits (inserts_in Rows) (removes_in Rows) no_kind t stages j x.last_stage above a.rise.1 x.doc.rows.items a.rows_left a.rows_changes (λ i k l. (row-views i).view k l) n conn x.doc.rows.made d.rows.items f.rows in
+          place-fits (inserts_in Rows) (removes_in Rows) no_kind t stages j x.last_stage above a.rise.1 x.doc.rows.items a.rows_left a.rows_changes
+          (λ i k l. (row-views i).view k l) n conn x.doc.rows.made d.rows.items f.rows in
           let e : grid_effect d s conn n (SpliceIn Rows pos count) ≡ d1 = ap (λ c. cond c d1 (with_skip d)) fits in
           let rows : Onward n conn x.doc.rows.made j k f.rows (stage_list x.doc.rows.items k) d1.rows.items =
-          inserted (inserts_in Rows) (removes_in Rows) no_kind t stages j x.last_stage above a.rise.1 x.doc.rows.items a.rows_left a.rows_changes (λ i k l. (row-views i).view k l) n conn x.doc.rows.made
+          inserted (inserts_in Rows) (removes_in Rows) no_kind t stages j x.last_stage above a.rise.1 x.doc.rows.items a.rows_left a.rows_changes
+          (λ i k l. (row-views i).view k l) n conn x.doc.rows.made
           (ap (removes_in Rows) o) refl ready.rows.later s None [] (replicate count GridUnit) typed d.rows f.rows_made f.rows in
           let more : x.doc.rows.made ≤ d1.rows.made = (let h = f.rows_made in omega arith) in
           let tr : removes_text t.sub_operation ≡ false = ap removes_text o in
@@ -361,17 +419,20 @@ module _ (x : NaiveClient) (conn : ℕ) (ready : IsReady x) where
           (cols-untouched (ap (inserts_in Cols) o) (ap (removes_in Cols) o)) f.cols_made
           is (kept-ends tr) (pairs-stay f.text.pairs text.next.pairs text.stays is d.intervals f.intervals) None refl (neutral-in Rows p count o)))
 
-      col-insertion-follows : (p count : ℕ) → t.sub_operation ≡ OnGrid (SpliceIn Cols p count) → IsBlockOf [] (replicate count GridUnit) (filter (is_inserted_by t.stage) x.doc.cols.items)
+      col-insertion-follows : (p count : ℕ) → t.sub_operation ≡ OnGrid (SpliceIn Cols p count)
+          → IsBlockOf [] (replicate count GridUnit) (filter (is_inserted_by t.stage) x.doc.cols.items)
           → Follows t.stage (settle_ends x.doc.text.items t.stage is) (done ++ (t ∷ [])) (grid_effect d s conn n (SpliceIn Cols (stage_position t.stage x.doc.cols.items) count))
       col-insertion-follows p count o typed =
           let k = t.stage in
           let pos = stage_position k x.doc.cols.items in
           let d1 : Document = record d { cols = after_insertion s conn n pos None [] (replicate count GridUnit) d.cols } in
           let fits : nat_le pos (len (seen_by n conn) d.cols.items) ≡ true =
-          place-fits (inserts_in Cols) (removes_in Cols) no_kind t stages j x.last_stage above a.rise.1 x.doc.cols.items a.cols_left a.cols_changes (λ i k l. (col-views i).view k l) n conn x.doc.cols.made d.cols.items f.cols in
+          place-fits (inserts_in Cols) (removes_in Cols) no_kind t stages j x.last_stage above a.rise.1 x.doc.cols.items a.cols_left a.cols_changes
+          (λ i k l. (col-views i).view k l) n conn x.doc.cols.made d.cols.items f.cols in
           let e : grid_effect d s conn n (SpliceIn Cols pos count) ≡ d1 = ap (λ c. cond c d1 (with_skip d)) fits in
           let cols : Onward n conn x.doc.cols.made j k f.cols (stage_list x.doc.cols.items k) d1.cols.items =
-          inserted (inserts_in Cols) (removes_in Cols) no_kind t stages j x.last_stage above a.rise.1 x.doc.cols.items a.cols_left a.cols_changes (λ i k l. (col-views i).view k l) n conn x.doc.cols.made
+          inserted (inserts_in Cols) (removes_in Cols) no_kind t stages j x.last_stage above a.rise.1 x.doc.cols.items a.cols_left a.cols_changes
+          (λ i k l. (col-views i).view k l) n conn x.doc.cols.made
           (ap (removes_in Cols) o) refl ready.cols.later s None [] (replicate count GridUnit) typed d.cols f.cols_made f.cols in
           let more : x.doc.cols.made ≤ d1.cols.made = (let h = f.cols_made in omega arith) in
           let tr : removes_text t.sub_operation ≡ false = ap removes_text o in
@@ -383,7 +444,8 @@ module _ (x : NaiveClient) (conn : ℕ) (ready : IsReady x) where
           is (kept-ends tr) (pairs-stay f.text.pairs text.next.pairs text.stays is d.intervals f.intervals) None refl (neutral-in Cols p count o)))
 
       row-removal-follows : (p q : ℕ) → t.sub_operation ≡ OnGrid (SpliceOut Rows p q)
-          → Follows t.stage (settle_ends x.doc.text.items t.stage is) (done ++ (t ∷ [])) (effects d s conn n (map (λ r. OnGrid (SpliceOut Rows r.0 r.1)) (lowered_runs 0 (marked_runs t.stage (is_removed_by t.stage) x.doc.rows.items))))
+          → Follows t.stage (settle_ends x.doc.text.items t.stage is) (done ++ (t ∷ []))
+          (effects d s conn n (map (λ r. OnGrid (SpliceOut Rows r.0 r.1)) (lowered_runs 0 (marked_runs t.stage (is_removed_by t.stage) x.doc.rows.items))))
       row-removal-follows p q o =
           let k = t.stage in
           let rs = lowered_runs 0 (marked_runs k (is_removed_by k) x.doc.rows.items) in
@@ -393,19 +455,24 @@ module _ (x : NaiveClient) (conn : ℕ) (ready : IsReady x) where
           let e : d1.rows.items ≡ change_runs (seen_by n conn) (with_removal s conn) rs d.rows.items = ap (λ l. l.items) r.lane in
           let rows : Onward n conn x.doc.rows.made j k f.rows (stage_list x.doc.rows.items k) d1.rows.items =
           subst (λ us. Onward n conn x.doc.rows.made j k f.rows (stage_list x.doc.rows.items k) us) (sym e)
-          (removed (inserts_in Rows) (removes_in Rows) no_kind t stages j x.last_stage above a.rise.1 x.doc.rows.items a.rows_left a.rows_changes (λ i k l. (row-views i).view k l) n conn x.doc.rows.made
+          (removed (inserts_in Rows) (removes_in Rows) no_kind t stages j x.last_stage above a.rise.1 x.doc.rows.items a.rows_left a.rows_changes
+          (λ i k l. (row-views i).view k l) n conn x.doc.rows.made
           (ap (inserts_in Rows) o) refl s d.rows.items f.rows) in
           let tr : removes_text t.sub_operation ≡ false = ap removes_text o in
           let text : Onward n conn x.doc.text.made j k f.text (stage_list x.doc.text.items k) d1.text.items =
-          subst (λ l. Onward n conn x.doc.text.made j k f.text (stage_list x.doc.text.items k) l.items) (sym r.text) (text-untouched (ap inserts_text o) tr (ap annotates_text o)) in
+          subst (λ l. Onward n conn x.doc.text.made j k f.text (stage_list x.doc.text.items k) l.items) (sym r.text)
+          (text-untouched (ap inserts_text o) tr (ap annotates_text o)) in
           subst (λ js. Follows k js (done ++ (t ∷ [])) d1) (sym (kept-intervals tr))
           (carry d1 (effects-consistent d s conn n ops f.sound) text (subst (λ l. x.doc.text.made ≤ l.made) (sym r.text) f.text_made)
           rows (subst (λ z. x.doc.rows.made ≤ z) (sym (ap (λ l. l.made) r.lane)) f.rows_made)
-          (subst (λ l. Onward n conn x.doc.cols.made j k f.cols (stage_list x.doc.cols.items k) l.items) (sym (r.cols refl)) (cols-untouched (ap (inserts_in Cols) o) (ap (removes_in Cols) o))) (subst (λ l. x.doc.cols.made ≤ l.made) (sym (r.cols refl)) f.cols_made)
-          is (kept-ends tr) (subst (λ us. IntervalPairs text.next.pairs is us) (sym r.ends) (pairs-stay f.text.pairs text.next.pairs text.stays is d.intervals f.intervals)) None r.cells (neutral-out Rows p q o))
+          (subst (λ l. Onward n conn x.doc.cols.made j k f.cols (stage_list x.doc.cols.items k) l.items) (sym (r.cols refl))
+          (cols-untouched (ap (inserts_in Cols) o) (ap (removes_in Cols) o))) (subst (λ l. x.doc.cols.made ≤ l.made) (sym (r.cols refl)) f.cols_made)
+          is (kept-ends tr) (subst (λ us. IntervalPairs text.next.pairs is us) (sym r.ends)
+          (pairs-stay f.text.pairs text.next.pairs text.stays is d.intervals f.intervals)) None r.cells (neutral-out Rows p q o))
 
       col-removal-follows : (p q : ℕ) → t.sub_operation ≡ OnGrid (SpliceOut Cols p q)
-          → Follows t.stage (settle_ends x.doc.text.items t.stage is) (done ++ (t ∷ [])) (effects d s conn n (map (λ r. OnGrid (SpliceOut Cols r.0 r.1)) (lowered_runs 0 (marked_runs t.stage (is_removed_by t.stage) x.doc.cols.items))))
+          → Follows t.stage (settle_ends x.doc.text.items t.stage is) (done ++ (t ∷ []))
+          (effects d s conn n (map (λ r. OnGrid (SpliceOut Cols r.0 r.1)) (lowered_runs 0 (marked_runs t.stage (is_removed_by t.stage) x.doc.cols.items))))
       col-removal-follows p q o =
           let k = t.stage in
           let rs = lowered_runs 0 (marked_runs k (is_removed_by k) x.doc.cols.items) in
@@ -415,16 +482,20 @@ module _ (x : NaiveClient) (conn : ℕ) (ready : IsReady x) where
           let e : d1.cols.items ≡ change_runs (seen_by n conn) (with_removal s conn) rs d.cols.items = ap (λ l. l.items) r.lane in
           let cols : Onward n conn x.doc.cols.made j k f.cols (stage_list x.doc.cols.items k) d1.cols.items =
           subst (λ us. Onward n conn x.doc.cols.made j k f.cols (stage_list x.doc.cols.items k) us) (sym e)
-          (removed (inserts_in Cols) (removes_in Cols) no_kind t stages j x.last_stage above a.rise.1 x.doc.cols.items a.cols_left a.cols_changes (λ i k l. (col-views i).view k l) n conn x.doc.cols.made
+          (removed (inserts_in Cols) (removes_in Cols) no_kind t stages j x.last_stage above a.rise.1 x.doc.cols.items a.cols_left a.cols_changes
+          (λ i k l. (col-views i).view k l) n conn x.doc.cols.made
           (ap (inserts_in Cols) o) refl s d.cols.items f.cols) in
           let tr : removes_text t.sub_operation ≡ false = ap removes_text o in
           let text : Onward n conn x.doc.text.made j k f.text (stage_list x.doc.text.items k) d1.text.items =
-          subst (λ l. Onward n conn x.doc.text.made j k f.text (stage_list x.doc.text.items k) l.items) (sym r.text) (text-untouched (ap inserts_text o) tr (ap annotates_text o)) in
+          subst (λ l. Onward n conn x.doc.text.made j k f.text (stage_list x.doc.text.items k) l.items) (sym r.text)
+          (text-untouched (ap inserts_text o) tr (ap annotates_text o)) in
           subst (λ js. Follows k js (done ++ (t ∷ [])) d1) (sym (kept-intervals tr))
           (carry d1 (effects-consistent d s conn n ops f.sound) text (subst (λ l. x.doc.text.made ≤ l.made) (sym r.text) f.text_made)
-          (subst (λ l. Onward n conn x.doc.rows.made j k f.rows (stage_list x.doc.rows.items k) l.items) (sym (r.rows refl)) (rows-untouched (ap (inserts_in Rows) o) (ap (removes_in Rows) o))) (subst (λ l. x.doc.rows.made ≤ l.made) (sym (r.rows refl)) f.rows_made)
+          (subst (λ l. Onward n conn x.doc.rows.made j k f.rows (stage_list x.doc.rows.items k) l.items) (sym (r.rows refl))
+          (rows-untouched (ap (inserts_in Rows) o) (ap (removes_in Rows) o))) (subst (λ l. x.doc.rows.made ≤ l.made) (sym (r.rows refl)) f.rows_made)
           cols (subst (λ z. x.doc.cols.made ≤ z) (sym (ap (λ l. l.made) r.lane)) f.cols_made)
-          is (kept-ends tr) (subst (λ us. IntervalPairs text.next.pairs is us) (sym r.ends) (pairs-stay f.text.pairs text.next.pairs text.stays is d.intervals f.intervals)) None r.cells (neutral-out Cols p q o))
+          is (kept-ends tr) (subst (λ us. IntervalPairs text.next.pairs is us) (sym r.ends)
+          (pairs-stay f.text.pairs text.next.pairs text.stays is d.intervals f.intervals)) None r.cells (neutral-out Cols p q o))
 
       -- ---- the intervals
 
@@ -442,59 +513,78 @@ module _ (x : NaiveClient) (conn : ℕ) (ready : IsReady x) where
         positive = (let l = above in omega arith)
 
         -- a settled end and what stands on the other side at its number
-        end-pair : (y : Option ElementId) → is_end_at t.stage x.doc.text.items y ≡ true → IsEndPair text-now.next.pairs y (element_at_end (seen_by n conn) d.text.items (end_number t.stage x.doc.text.items y))
+        end-pair : (y : Option ElementId) → is_end_at t.stage x.doc.text.items y ≡ true
+            → IsEndPair text-now.next.pairs y (element_at_end (seen_by n conn) d.text.items (end_number t.stage x.doc.text.items y))
         end-pair None h = tt
         end-pair (Some y) h =
             let k = t.stage in
             let there : list_any (λ e. has_id y e && seen k e) (lefts text-now.next.pairs) ≡ true =
             subst (λ us. has_named (seen k) us y ≡ true) (sym text-now.next.left)
-            (named-filter (seen k) y (stage_list x.doc.text.items k) ∙ ap (list_any (has_id y)) ((text-views k).view k (omega arith)) ∙ sym (named-filter (seen k) y x.doc.text.items) ∙ h) in
-            let pair = at-pair k (seen_by n conn) text-now.next.pairs left-distinct (each-with (Image n conn x.doc.text.made k) (λ p. seen_by n conn p.1 ≡ seen k p.0) (λ p i. i.perspective) text-now.next.pairs text-now.next.images) y there in
-            let pair' = subst (λ us. IsEndPair text-now.next.pairs (Some y) (option_map id (at (seen_by n conn) (rank (has_id y) (seen k) us) (rights text-now.next.pairs)))) text-now.next.left pair in
-            let pair'' = subst (λ us. IsEndPair text-now.next.pairs (Some y) (option_map id (at (seen_by n conn) (rank (has_id y) (seen k) (stage_list x.doc.text.items k)) us))) text-now.next.right pair' in
-            subst (λ z. IsEndPair text-now.next.pairs (Some y) (element_at_end (seen_by n conn) d.text.items z)) (number-same (text-views k) ready.text.place.distinct (Some y) h) pair''
+            (named-filter (seen k) y (stage_list x.doc.text.items k) ∙ ap (list_any (has_id y)) ((text-views k).view k (omega arith))
+            ∙ sym (named-filter (seen k) y x.doc.text.items) ∙ h) in
+            let pair = at-pair k (seen_by n conn) text-now.next.pairs left-distinct
+            (each-with (Image n conn x.doc.text.made k) (λ p. seen_by n conn p.1 ≡ seen k p.0) (λ p i. i.perspective) text-now.next.pairs text-now.next.images) y there in
+            let pair' = subst (λ us. IsEndPair text-now.next.pairs (Some y) (option_map id
+            (at (seen_by n conn) (rank (has_id y) (seen k) us) (rights text-now.next.pairs)))) text-now.next.left pair in
+            let pair'' = subst (λ us. IsEndPair text-now.next.pairs (Some y) (option_map id
+            (at (seen_by n conn) (rank (has_id y) (seen k) (stage_list x.doc.text.items k)) us))) text-now.next.right pair' in
+            subst (λ z. IsEndPair text-now.next.pairs (Some y) (element_at_end (seen_by n conn) d.text.items z))
+            (number-same (text-views k) ready.text.place.distinct (Some y) h) pair''
 
         -- as many are seen on both sides
         len-now : len (seen_by n conn) d.text.items ≡ len (seen t.stage) x.doc.text.items
         len-now =
             let k = t.stage in
             ap (len (seen_by n conn)) (sym text-now.next.right)
-            ∙ len-map (λ p. p.1) (λ p. seen k p.0) (seen_by n conn) text-now.next.pairs (each-with (Image n conn x.doc.text.made k) (λ p. seen_by n conn p.1 ≡ seen k p.0) (λ p i. i.perspective) text-now.next.pairs text-now.next.images)
-            ∙ sym (len-map (λ p. p.0) (λ p. seen k p.0) (seen k) text-now.next.pairs (each-with (Image n conn x.doc.text.made k) (λ p. seen k p.0 ≡ seen k p.0) (λ p i. refl) text-now.next.pairs text-now.next.images))
+            ∙ len-map (λ p. p.1) (λ p. seen k p.0) (seen_by n conn) text-now.next.pairs
+            (each-with (Image n conn x.doc.text.made k) (λ p. seen_by n conn p.1 ≡ seen k p.0) (λ p i. i.perspective) text-now.next.pairs text-now.next.images)
+            ∙ sym (len-map (λ p. p.0) (λ p. seen k p.0) (seen k) text-now.next.pairs
+            (each-with (Image n conn x.doc.text.made k) (λ p. seen k p.0 ≡ seen k p.0) (λ p i. refl) text-now.next.pairs text-now.next.images))
             ∙ ap (len (seen k)) text-now.next.left
             ∙ len-view (seen k) (stage_list x.doc.text.items k) ∙ ap length ((text-views k).view k (omega arith)) ∙ sym (len-view (seen k) x.doc.text.items)
 
         ends-fit-now : are_ends_in x.doc.text.items t.names.first t.names.second ≡ true
             → given_ends_fit (len (seen_by n conn) d.text.items) (Some (ends_in t.stage x.doc.text.items (settle_elements x.doc.text.items t.stage t.names))) ≡ true
-        ends-fit-now h = ap (λ l. ends_fit l (ends_in t.stage x.doc.text.items (settle_elements x.doc.text.items t.stage t.names))) len-now ∙ ends-fit t.stage x.doc.text.items ready.text.place.distinct t.names.first t.names.second h
+        ends-fit-now h = ap (λ l. ends_fit l (ends_in t.stage x.doc.text.items (settle_elements x.doc.text.items t.stage t.names))) len-now
+            ∙ ends-fit t.stage x.doc.text.items ready.text.place.distinct t.names.first t.names.second h
 
         pairs-now : IntervalPairs text-now.next.pairs (settle_ends x.doc.text.items t.stage is) d.intervals
-        pairs-now = subst (λ js. IntervalPairs text-now.next.pairs js d.intervals) (sym (kept-intervals (ap removes_text o))) (pairs-stay f.text.pairs text-now.next.pairs text-now.stays is d.intervals f.intervals)
+        pairs-now = subst (λ js. IntervalPairs text-now.next.pairs js d.intervals) (sym (kept-intervals (ap removes_text o)))
+            (pairs-stay f.text.pairs text-now.next.pairs text-now.stays is d.intervals f.intervals)
 
         finish : (piece : TextOp) → given_ends_fit (len (seen_by n conn) d.text.items) (ends_of piece) ≡ true
-            → (js ds : List Interval) → list_all (has_ends_at t.stage x.doc.text.items) js ≡ true → ds ≡ after_interval_operation piece (elements_at_given_ends (seen_by n conn) d.text.items (ends_of piece)) d.intervals → IntervalPairs text-now.next.pairs js ds
+            → (js ds : List Interval) → list_all (has_ends_at t.stage x.doc.text.items) js ≡ true → ds
+            ≡ after_interval_operation piece (elements_at_given_ends (seen_by n conn) d.text.items (ends_of piece)) d.intervals → IntervalPairs text-now.next.pairs js ds
             → Follows t.stage js (done ++ (t ∷ [])) (interval_effect d conn n piece)
         finish piece fit js ds ends e pairs =
             let k = t.stage in
-            let d1 : Document = with_slid_ends (record d { intervals = after_interval_operation piece (elements_at_given_ends (seen_by n conn) d.text.items (ends_of piece)) d.intervals }) in
+            let d1 : Document = with_slid_ends (record d {
+              intervals = after_interval_operation piece
+                  (elements_at_given_ends (seen_by n conn) d.text.items (ends_of piece)) d.intervals;
+            }) in
             let same : interval_effect d conn n piece ≡ d1 = ap (λ c. cond c d1 (with_skip d)) fit in
-            let settled : settle_ends (lefts text-now.next.pairs) k js ≡ js = ap (λ us. settle_ends us k js) text-now.next.left ∙ ends-other (text-views k) ready.text.place.distinct k positive (omega arith) js ends in
+            let settled : settle_ends (lefts text-now.next.pairs) k js ≡ js = ap (λ us. settle_ends us k js) text-now.next.left
+            ∙ ends-other (text-views k) ready.text.place.distinct k positive (omega arith) js ends in
             let slid : slide_ends (rights text-now.next.pairs) ds ≡ d1.intervals = ap (λ us. slide_ends us ds) text-now.next.right ∙ ap (slide_ends d.text.items) e in
             let settled_pairs : IntervalPairs text-now.next.pairs (settle_ends (lefts text-now.next.pairs) k js) (slide_ends (rights text-now.next.pairs) ds) =
             pairs-settled k text-now.next.pairs left-distinct right-distinct
-            (each-with (Image n conn x.doc.text.made k) (λ p. is_unremoved p.1 ≡ seen k p.0) (λ p i. i.unremoved) text-now.next.pairs text-now.next.images) (each-with (Image n conn x.doc.text.made k) (λ p. is_sequenced p.1 ≡ true) (λ p i. i.sequenced) text-now.next.pairs text-now.next.images) js ds pairs in
+            (each-with (Image n conn x.doc.text.made k) (λ p. is_unremoved p.1 ≡ seen k p.0) (λ p i. i.unremoved) text-now.next.pairs text-now.next.images)
+            (each-with (Image n conn x.doc.text.made k) (λ p. is_sequenced p.1 ≡ true) (λ p i. i.sequenced) text-now.next.pairs text-now.next.images) js ds pairs in
             subst (λ z. Follows k js (done ++ (t ∷ [])) z) (sym same)
             (carry d1 (subst IsConsistent same (effect-consistent d s conn n (OnIntervals piece) f.sound)) text-now f.text_made
             (rows-untouched (ap (inserts_in Rows) o) (ap (removes_in Rows) o)) f.rows_made (cols-untouched (ap (inserts_in Cols) o) (ap (removes_in Cols) o)) f.cols_made
-            js ends (subst (λ us. IntervalPairs text-now.next.pairs us d1.intervals) settled (subst (λ us. IntervalPairs text-now.next.pairs (settle_ends (lefts text-now.next.pairs) k js) us) slid settled_pairs))
+            js ends (subst (λ us. IntervalPairs text-now.next.pairs us d1.intervals) settled
+            (subst (λ us. IntervalPairs text-now.next.pairs (settle_ends (lefts text-now.next.pairs) k js) us) slid settled_pairs))
             None refl (neutral-intervals op o))
 
-        ends-after : (piece : TextOp) → list_all (has_ends_at t.stage x.doc.text.items) (after_interval_operation piece (settle_elements x.doc.text.items t.stage t.names) (settle_ends x.doc.text.items t.stage is)) ≡ true
+        ends-after : (piece : TextOp) → list_all (has_ends_at t.stage x.doc.text.items)
+            (after_interval_operation piece (settle_elements x.doc.text.items t.stage t.names) (settle_ends x.doc.text.items t.stage is)) ≡ true
         ends-after piece =
             operation-held (has_named (seen t.stage) x.doc.text.items) piece (settle_elements x.doc.text.items t.stage t.names) (settle_ends x.doc.text.items t.stage is)
             (rw (settle-at t.stage x.doc.text.items t.names.first, settle-at t.stage x.doc.text.items t.names.second) refl) (ends-at t.stage x.doc.text.items is)
 
-        named-pairs : AreNamedPairs text-now.next.pairs (settle_elements x.doc.text.items t.stage t.names) (elements_at_ends (seen_by n conn) d.text.items (ends_in t.stage x.doc.text.items (settle_elements x.doc.text.items t.stage t.names)))
+        named-pairs : AreNamedPairs text-now.next.pairs (settle_elements x.doc.text.items t.stage t.names)
+            (elements_at_ends (seen_by n conn) d.text.items (ends_in t.stage x.doc.text.items (settle_elements x.doc.text.items t.stage t.names)))
         named-pairs = record {
           first = end-pair (settle x.doc.text.items t.stage t.names.first) (settle-at t.stage x.doc.text.items t.names.first);
           second = end-pair (settle x.doc.text.items t.stage t.names.second) (settle-at t.stage x.doc.text.items t.names.second);
@@ -507,25 +597,33 @@ module _ (x : NaiveClient) (conn : ℕ) (ready : IsReady x) where
           → Follows t.stage (after_interval_operation op (settle_elements x.doc.text.items t.stage t.names) (settle_ends x.doc.text.items t.stage is)) (done ++ (t ∷ []))
           (interval_effect d conn n (interval_piece t.stage x.doc.text.items (settle_elements x.doc.text.items t.stage t.names) op))
       interval-follows (One op) o h =
-          finish (One op) o (One op) refl _ _ (ends-after (One op) o (One op)) refl (operation-pairs (text-now (One op) o).next.pairs t.stage x.doc.text.items no_elements (One op) no_elements no_elements (no-names (One op) o) (settle_ends x.doc.text.items t.stage is) d.intervals (pairs-now (One op) o))
+          finish (One op) o (One op) refl _ _ (ends-after (One op) o (One op)) refl
+          (operation-pairs (text-now (One op) o).next.pairs t.stage x.doc.text.items no_elements (One op) no_elements no_elements (no-names (One op) o)
+          (settle_ends x.doc.text.items t.stage is) d.intervals (pairs-now (One op) o))
       interval-follows (Group ops) o h =
-          finish (Group ops) o (Group ops) refl _ _ (ends-after (Group ops) o (Group ops)) refl (operation-pairs (text-now (Group ops) o).next.pairs t.stage x.doc.text.items no_elements (Group ops) no_elements no_elements (no-names (Group ops) o) (settle_ends x.doc.text.items t.stage is) d.intervals (pairs-now (Group ops) o))
+          finish (Group ops) o (Group ops) refl _ _ (ends-after (Group ops) o (Group ops)) refl
+          (operation-pairs (text-now (Group ops) o).next.pairs t.stage x.doc.text.items no_elements (Group ops) no_elements no_elements
+          (no-names (Group ops) o) (settle_ends x.doc.text.items t.stage is) d.intervals (pairs-now (Group ops) o))
       interval-follows (IntervalDelete label name) o h =
           let op = IntervalDelete label name in
-          finish op o op refl _ _ (ends-after op o op) refl (operation-pairs (text-now op o).next.pairs t.stage x.doc.text.items no_elements op no_elements no_elements (no-names op o) (settle_ends x.doc.text.items t.stage is) d.intervals (pairs-now op o))
+          finish op o op refl _ _ (ends-after op o op) refl (operation-pairs (text-now op o).next.pairs t.stage x.doc.text.items no_elements op no_elements
+          no_elements (no-names op o) (settle_ends x.doc.text.items t.stage is) d.intervals (pairs-now op o))
       interval-follows (IntervalChange label name None props) o h =
           let op = IntervalChange label name None props in
-          finish op o op refl _ _ (ends-after op o op) refl (operation-pairs (text-now op o).next.pairs t.stage x.doc.text.items no_elements op no_elements no_elements (no-names op o) (settle_ends x.doc.text.items t.stage is) d.intervals (pairs-now op o))
+          finish op o op refl _ _ (ends-after op o op) refl (operation-pairs (text-now op o).next.pairs t.stage x.doc.text.items no_elements op no_elements
+          no_elements (no-names op o) (settle_ends x.doc.text.items t.stage is) d.intervals (pairs-now op o))
       interval-follows (IntervalAdd label name ends props) o h =
           let op = IntervalAdd label name ends props in
           let settled = settle_elements x.doc.text.items t.stage t.names in
           finish op o (IntervalAdd label name (ends_in t.stage x.doc.text.items settled) props) (ends-fit-now op o h) _ _ (ends-after op o op) refl
-          (operation-pairs (text-now op o).next.pairs t.stage x.doc.text.items settled op settled _ (named-pairs op o) (settle_ends x.doc.text.items t.stage is) d.intervals (pairs-now op o))
+          (operation-pairs (text-now op o).next.pairs t.stage x.doc.text.items settled op settled _ (named-pairs op o)
+          (settle_ends x.doc.text.items t.stage is) d.intervals (pairs-now op o))
       interval-follows (IntervalChange label name (Some ends) props) o h =
           let op = IntervalChange label name (Some ends) props in
           let settled = settle_elements x.doc.text.items t.stage t.names in
           finish op o (IntervalChange label name (Some (ends_in t.stage x.doc.text.items settled)) props) (ends-fit-now op o h) _ _ (ends-after op o op) refl
-          (operation-pairs (text-now op o).next.pairs t.stage x.doc.text.items settled op settled _ (named-pairs op o) (settle_ends x.doc.text.items t.stage is) d.intervals (pairs-now op o))
+          (operation-pairs (text-now op o).next.pairs t.stage x.doc.text.items settled op settled _ (named-pairs op o)
+          (settle_ends x.doc.text.items t.stage is) d.intervals (pairs-now op o))
 
       -- ---- the cells
 
@@ -539,17 +637,22 @@ module _ (x : NaiveClient) (conn : ℕ) (ready : IsReady x) where
         set-text : Onward n conn x.doc.text.made j t.stage f.text (stage_list x.doc.text.items t.stage) d.text.items
         set-text = text-untouched (ap inserts_text o) (ap removes_text o) (ap annotates_text o)
 
-        row-unit : (y : ElementId) → has_named (seen t.stage) x.doc.rows.items y ≡ true → IsEndPair rows-now.next.pairs (Some y) (option_map id (at (seen_by n conn) (rank (has_id y) (seen (t.stage - 1)) x.doc.rows.items) d.rows.items))
+        row-unit : (y : ElementId) → has_named (seen t.stage) x.doc.rows.items y ≡ true
+            → IsEndPair rows-now.next.pairs (Some y) (option_map id (at (seen_by n conn) (rank (has_id y) (seen (t.stage - 1)) x.doc.rows.items) d.rows.items))
         row-unit y h =
             unit-pair n conn x.doc.rows.made t.stage x.doc.rows.items d.rows.items (row-views t.stage) ready.rows.place.distinct rows-now.next
-            (same-view (inserts_in Rows) (removes_in Rows) no_kind t stages j x.last_stage above a.rise.1 x.doc.rows.items a.rows_left a.rows_changes (λ i k l. (row-views i).view k l) (ap (inserts_in Rows) o) (ap (removes_in Rows) o)) y h
+            (same-view (inserts_in Rows) (removes_in Rows) no_kind t stages j x.last_stage above a.rise.1 x.doc.rows.items a.rows_left a.rows_changes
+            (λ i k l. (row-views i).view k l) (ap (inserts_in Rows) o) (ap (removes_in Rows) o)) y h
 
-        col-unit : (y : ElementId) → has_named (seen t.stage) x.doc.cols.items y ≡ true → IsEndPair cols-now.next.pairs (Some y) (option_map id (at (seen_by n conn) (rank (has_id y) (seen (t.stage - 1)) x.doc.cols.items) d.cols.items))
+        col-unit : (y : ElementId) → has_named (seen t.stage) x.doc.cols.items y ≡ true
+            → IsEndPair cols-now.next.pairs (Some y) (option_map id (at (seen_by n conn) (rank (has_id y) (seen (t.stage - 1)) x.doc.cols.items) d.cols.items))
         col-unit y h =
             unit-pair n conn x.doc.cols.made t.stage x.doc.cols.items d.cols.items (col-views t.stage) ready.cols.place.distinct cols-now.next
-            (same-view (inserts_in Cols) (removes_in Cols) no_kind t stages j x.last_stage above a.rise.1 x.doc.cols.items a.cols_left a.cols_changes (λ i k l. (col-views i).view k l) (ap (inserts_in Cols) o) (ap (removes_in Cols) o)) y h
+            (same-view (inserts_in Cols) (removes_in Cols) no_kind t stages j x.last_stage above a.rise.1 x.doc.cols.items a.cols_left a.cols_changes
+            (λ i k l. (col-views i).view k l) (ap (inserts_in Cols) o) (ap (removes_in Cols) o)) y h
 
-        write-follows : (row col : ElementId) → t.names.first ≡ Some row → t.names.second ≡ Some col → (u v : Option ListElement) → IsEndPair rows-now.next.pairs (Some row) (option_map id u) → IsEndPair cols-now.next.pairs (Some col) (option_map id v)
+        write-follows : (row col : ElementId) → t.names.first ≡ Some row → t.names.second ≡ Some col → (u v : Option ListElement)
+            → IsEndPair rows-now.next.pairs (Some row) (option_map id u) → IsEndPair cols-now.next.pairs (Some col) (option_map id v)
             → Follows t.stage (settle_ends x.doc.text.items t.stage is) (done ++ (t ∷ [])) (cell_effect d u v value)
         write-follows row col p q None v h g = absurd cc
         write-follows row col p q (Some r) None h g = absurd cc
@@ -558,10 +661,12 @@ module _ (x : NaiveClient) (conn : ℕ) (ready : IsReady x) where
             subst (λ js. Follows t.stage js (done ++ (t ∷ [])) (cell_effect d (Some r) (Some c) value)) (sym (kept-intervals tr))
             (carry (cell_effect d (Some r) (Some c) value) (cell_effect-consistent d (Some r) (Some c) value f.sound) set-text f.text_made rows-now f.rows_made cols-now f.cols_made
             is (kept-ends tr) (pairs-stay f.text.pairs set-text.next.pairs set-text.stays is d.intervals f.intervals)
-            (Some (record { row = id r; col = id c; value = value })) refl (record { i = i; j = j'; row = row; col = col; op = o; first = p; second = q; row_pair = h; col_pair = g }))
+            (Some (record { row = id r; col = id c; value = value })) refl (record
+            { i = i; j = j'; row = row; col = col; op = o; first = p; second = q; row_pair = h; col_pair = g }))
 
         neutral-set : is_named_and_seen t.stage x.doc.rows.items t.names.first && is_named_and_seen t.stage x.doc.cols.items t.names.second ≡ false
-            → (row col : ElementId) → has_named (seen x.last_stage) x.doc.rows.items row ≡ true → has_named (seen x.last_stage) x.doc.cols.items col ≡ true → (v : Option ValueBytes) → cell_after_stage row col t v ≡ v
+            → (row col : ElementId) → has_named (seen x.last_stage) x.doc.rows.items row ≡ true → has_named (seen x.last_stage) x.doc.cols.items col ≡ true
+            → (v : Option ValueBytes) → cell_after_stage row col t v ≡ v
         neutral-set c row col hr hc v =
             let known = subst (λ u. writes_known_units x.doc.rows.items x.doc.cols.items (record { stage = t.stage; sub_operation = u; names = t.names }) ≡ true) o w in
             subst (λ u. cell_after_stage row col (record { stage = t.stage; sub_operation = u; names = t.names }) v ≡ v) (sym o)
@@ -569,38 +674,52 @@ module _ (x : NaiveClient) (conn : ℕ) (ready : IsReady x) where
 
         set-by : (b : Bool) → is_named_and_seen t.stage x.doc.rows.items t.names.first && is_named_and_seen t.stage x.doc.cols.items t.names.second ≡ b
             → (u v : Option ElementId) → t.names.first ≡ u → t.names.second ≡ v
-            → Follows t.stage (settle_ends x.doc.text.items t.stage is) (done ++ (t ∷ [])) (effects d s conn n (cond b (OnGrid (Set (position_of_named (t.stage - 1) x.doc.rows.items u) (position_of_named (t.stage - 1) x.doc.cols.items v) value) ∷ []) []))
-        set-by false c u v p q = idle (ap inserts_text o) (ap removes_text o) (ap annotates_text o) (ap (inserts_in Rows) o) (ap (removes_in Rows) o) (ap (inserts_in Cols) o) (ap (removes_in Cols) o) (neutral-set c)
+            → Follows t.stage (settle_ends x.doc.text.items t.stage is) (done ++ (t ∷ []))
+            (effects d s conn n (cond b (OnGrid (Set (position_of_named (t.stage - 1) x.doc.rows.items u) (position_of_named (t.stage - 1) x.doc.cols.items v) value) ∷ []) []))
+        set-by false c u v p q = idle (ap inserts_text o) (ap removes_text o) (ap annotates_text o) (ap (inserts_in Rows) o) (ap (removes_in Rows) o)
+            (ap (inserts_in Cols) o) (ap (removes_in Cols) o) (neutral-set c)
         set-by true c None v p q = absurd (cc (subst (λ u. is_named_and_seen t.stage x.doc.rows.items u && is_named_and_seen t.stage x.doc.cols.items t.names.second ≡ true) p c))
         set-by true c (Some r) None p q =
-            absurd (cc (both (is_named_and_seen t.stage x.doc.rows.items t.names.first) (is_named_and_seen t.stage x.doc.cols.items None) (subst (λ u. is_named_and_seen t.stage x.doc.rows.items t.names.first && is_named_and_seen t.stage x.doc.cols.items u ≡ true) q c)).1)
+            absurd (cc (both (is_named_and_seen t.stage x.doc.rows.items t.names.first) (is_named_and_seen t.stage x.doc.cols.items None)
+            (subst (λ u. is_named_and_seen t.stage x.doc.rows.items t.names.first && is_named_and_seen t.stage x.doc.cols.items u ≡ true) q c)).1)
         set-by true c (Some r) (Some u) p q =
             let g = both (is_named_and_seen t.stage x.doc.rows.items t.names.first) (is_named_and_seen t.stage x.doc.cols.items t.names.second) c in
-            write-follows r u p q (at (seen_by n conn) (rank (has_id r) (seen (t.stage - 1)) x.doc.rows.items) d.rows.items) (at (seen_by n conn) (rank (has_id u) (seen (t.stage - 1)) x.doc.cols.items) d.cols.items)
-            (row-unit r (subst (λ z. is_named_and_seen t.stage x.doc.rows.items z ≡ true) p g.0)) (col-unit u (subst (λ z. is_named_and_seen t.stage x.doc.cols.items z ≡ true) q g.1))
+            write-follows r u p q (at (seen_by n conn) (rank (has_id r) (seen (t.stage - 1)) x.doc.rows.items) d.rows.items)
+            (at (seen_by n conn) (rank (has_id u) (seen (t.stage - 1)) x.doc.cols.items) d.cols.items)
+            (row-unit r (subst (λ z. is_named_and_seen t.stage x.doc.rows.items z ≡ true) p g.0))
+            (col-unit u (subst (λ z. is_named_and_seen t.stage x.doc.cols.items z ≡ true) q g.1))
 
         set-follows : Follows t.stage (settle_ends x.doc.text.items t.stage is) (done ++ (t ∷ [])) (effects d s conn n (grid_pieces t.stage x.doc t.names (Set i j' value)))
-        set-follows = set-by (is_named_and_seen t.stage x.doc.rows.items t.names.first && is_named_and_seen t.stage x.doc.cols.items t.names.second) refl t.names.first t.names.second refl refl
+        set-follows = set-by (is_named_and_seen t.stage x.doc.rows.items t.names.first && is_named_and_seen t.stage x.doc.cols.items t.names.second) refl
+            t.names.first t.names.second refl refl
 
       -- ---- any stage
 
-      empty-insertion : (p : ℕ) (seg : Seg) (props : PropertySet) → t.sub_operation ≡ OnText (Insert p seg props) → IsTypedText t.stage x.doc.text.items (Insert p seg props) → (bs : List ElementContent) → segment_contents seg ≡ bs
-          → Follows t.stage (settle_ends x.doc.text.items t.stage is) (done ++ (t ∷ [])) (effects d s conn n (unless_empty bs (OnText (Insert (stage_position t.stage x.doc.text.items) seg props))))
+      empty-insertion : (p : ℕ) (seg : Seg) (props : PropertySet) → t.sub_operation ≡ OnText (Insert p seg props)
+          → IsTypedText t.stage x.doc.text.items (Insert p seg props) → (bs : List ElementContent) → segment_contents seg ≡ bs
+          → Follows t.stage (settle_ends x.doc.text.items t.stage is) (done ++ (t ∷ []))
+          (effects d s conn n (unless_empty bs (OnText (Insert (stage_position t.stage x.doc.text.items) seg props))))
       empty-insertion p seg props o typed [] c =
-          idle (ap inserts_text o ∙ ap has_some c) (ap removes_text o) (ap annotates_text o) (ap (inserts_in Rows) o) (ap (removes_in Rows) o) (ap (inserts_in Cols) o) (ap (removes_in Cols) o) (neutral-text (Insert p seg props) o)
+          idle (ap inserts_text o ∙ ap has_some c) (ap removes_text o) (ap annotates_text o) (ap (inserts_in Rows) o) (ap (removes_in Rows) o)
+          (ap (inserts_in Cols) o) (ap (removes_in Cols) o) (neutral-text (Insert p seg props) o)
       empty-insertion p seg props o typed (b ∷ bs) c = insertion-follows p seg props b bs o c typed
 
-      splice-in : (target : Target) (p count : ℕ) → t.sub_operation ≡ OnGrid (SpliceIn target p count) → IsBlockOf [] (replicate count GridUnit) (filter (is_inserted_by t.stage) (rows_or_cols target x.doc).items) → (b : Bool) → nat_eq count 0 ≡ b
-          → Follows t.stage (settle_ends x.doc.text.items t.stage is) (done ++ (t ∷ [])) (effects d s conn n (cond b [] (OnGrid (SpliceIn target (stage_position t.stage (rows_or_cols target x.doc).items) count) ∷ [])))
+      splice-in : (target : Target) (p count : ℕ) → t.sub_operation ≡ OnGrid (SpliceIn target p count)
+          → IsBlockOf [] (replicate count GridUnit) (filter (is_inserted_by t.stage) (rows_or_cols target x.doc).items) → (b : Bool) → nat_eq count 0 ≡ b
+          → Follows t.stage (settle_ends x.doc.text.items t.stage is) (done ++ (t ∷ []))
+          (effects d s conn n (cond b [] (OnGrid (SpliceIn target (stage_position t.stage (rows_or_cols target x.doc).items) count) ∷ [])))
       splice-in Rows p count o typed true e =
-          idle (ap inserts_text o) (ap removes_text o) (ap annotates_text o) (ap (inserts_in Rows) o ∙ ap not e) (ap (removes_in Rows) o) (ap (inserts_in Cols) o) (ap (removes_in Cols) o) (neutral-in Rows p count o)
+          idle (ap inserts_text o) (ap removes_text o) (ap annotates_text o) (ap (inserts_in Rows) o ∙ ap not e) (ap (removes_in Rows) o)
+          (ap (inserts_in Cols) o) (ap (removes_in Cols) o) (neutral-in Rows p count o)
       splice-in Cols p count o typed true e =
-          idle (ap inserts_text o) (ap removes_text o) (ap annotates_text o) (ap (inserts_in Rows) o) (ap (removes_in Rows) o) (ap (inserts_in Cols) o ∙ ap not e) (ap (removes_in Cols) o) (neutral-in Cols p count o)
+          idle (ap inserts_text o) (ap removes_text o) (ap annotates_text o) (ap (inserts_in Rows) o) (ap (removes_in Rows) o)
+          (ap (inserts_in Cols) o ∙ ap not e) (ap (removes_in Cols) o) (neutral-in Cols p count o)
       splice-in Rows p count o typed false e = row-insertion-follows p count o typed
       splice-in Cols p count o typed false e = col-insertion-follows p count o typed
 
       by_kind : (o : SubOperation) → t.sub_operation ≡ o → IsTyped t.stage x.doc t.names o → writes_known_units x.doc.rows.items x.doc.cols.items t ≡ true
-          → Follows t.stage (intervals_after_stage o (settle_elements x.doc.text.items t.stage t.names) (settle_ends x.doc.text.items t.stage is)) (done ++ (t ∷ [])) (effects d s conn n (pieces x.doc (record { stage = t.stage; sub_operation = o; names = t.names })))
+          → Follows t.stage (intervals_after_stage o (settle_elements x.doc.text.items t.stage t.names) (settle_ends x.doc.text.items t.stage is))
+          (done ++ (t ∷ [])) (effects d s conn n (pieces x.doc (record { stage = t.stage; sub_operation = o; names = t.names })))
       by_kind (OnText (Insert p seg props)) o typed w = empty-insertion p seg props o typed (segment_contents seg) refl
       by_kind (OnText (Remove p q)) o typed w = removal-follows p q o
       by_kind (OnText (Annotate p q changes)) o typed w = annotation-follows p q changes o typed
@@ -612,5 +731,6 @@ module _ (x : NaiveClient) (conn : ℕ) (ready : IsReady x) where
 
       -- the pieces of a stage make of the order's document what the stage made of the client's
       pub stage-follows : IsTyped t.stage x.doc t.names t.sub_operation → writes_known_units x.doc.rows.items x.doc.cols.items t ≡ true
-          → Follows t.stage (intervals_after_stage t.sub_operation (settle_elements x.doc.text.items t.stage t.names) (settle_ends x.doc.text.items t.stage is)) (done ++ (t ∷ [])) (effects d s conn n (pieces x.doc t))
+          → Follows t.stage (intervals_after_stage t.sub_operation (settle_elements x.doc.text.items t.stage t.names)
+          (settle_ends x.doc.text.items t.stage is)) (done ++ (t ∷ [])) (effects d s conn n (pieces x.doc t))
       stage-follows typed w = by_kind t.sub_operation refl typed w

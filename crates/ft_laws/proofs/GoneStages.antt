@@ -39,13 +39,15 @@ rises-none i k (p ∷ pending) l h =
     let other : nat_eq p.0 k ≡ false = grind (arith, nat_tests) in
     rw (other, rises-none p.0 k pending above q.1) refl
 
-pub late-changes : (k : ℕ) (t : Stamp) (pending : List (ℕ × Changes)) → has_occurred_at_stage k t ≡ false → rises_from (insertion_stage t) pending ≡ true → list_any (λ p. nat_eq p.0 k) pending ≡ false
+pub late-changes : (k : ℕ) (t : Stamp) (pending : List (ℕ × Changes)) → has_occurred_at_stage k t ≡ false → rises_from (insertion_stage t) pending ≡ true
+    → list_any (λ p. nat_eq p.0 k) pending ≡ false
 late-changes k (Acked s c) pending h g = (cc)
 late-changes k (Local j) pending h g =
     let l : k ≤ j = grind (arith, nat_tests) in
     rises-none j k pending l g
 
-pub late-removal : (k : ℕ) (t : Stamp) (dels : List Stamp) (m : Option ℕ) → has_occurred_at_stage k t ≡ false → is_unremoved_pending t dels m ≡ true → list_any (is_of_stage k) (removal_stamp m) ≡ false
+pub late-removal : (k : ℕ) (t : Stamp) (dels : List Stamp) (m : Option ℕ) → has_occurred_at_stage k t ≡ false → is_unremoved_pending t dels m ≡ true
+    → list_any (is_of_stage k) (removal_stamp m) ≡ false
 late-removal k (Acked s c) dels m h g = (cc)
 late-removal k (Local j) [] None h g = refl
 late-removal k (Local j) [] (Some i) h g =
@@ -53,7 +55,8 @@ late-removal k (Local j) [] (Some i) h g =
     rw other refl
 late-removal k (Local j) (d ∷ dels) m h g = (cc)
 
-one-free : (k : ℕ) (e : ListElement) → is_inserted_by k e ≡ false → is_ordered e ≡ true → cond (is_upto k e) (is_unmarked_by k e) true ≡ true → cond (is_upto k e) (is_unchanged_by k e) true ≡ true → is_free_of k e ≡ true
+one-free : (k : ℕ) (e : ListElement) → is_inserted_by k e ≡ false → is_ordered e ≡ true → cond (is_upto k e) (is_unmarked_by k e) true ≡ true
+    → cond (is_upto k e) (is_unchanged_by k e) true ≡ true → is_free_of k e ≡ true
 one-free k e i o u v = by_reach (is_upto k e) refl u v
   where
     not-true : (b : Bool) → not b ≡ true → b ≡ false
@@ -66,7 +69,8 @@ one-free k e i o u v = by_reach (is_upto k e) refl u v
         let p = all_three (rises_from (insertion_stage e.ins) e.pending) (is_removed_last e.removal_stage e.pending) (is_unremoved_pending e.ins e.dels e.removal_stage) o in
         rw (i, late-removal k e.ins e.dels e.removal_stage h p.2, late-changes k e.ins e.pending h p.0) refl
 
-all-free : (k : ℕ) (xs : List ListElement) → list_any (is_inserted_by k) xs ≡ false → list_all is_ordered xs ≡ true → list_all (λ e. cond (is_upto k e) (is_unmarked_by k e) true) xs ≡ true
+all-free : (k : ℕ) (xs : List ListElement) → list_any (is_inserted_by k) xs ≡ false → list_all is_ordered xs ≡ true
+    → list_all (λ e. cond (is_upto k e) (is_unmarked_by k e) true) xs ≡ true
     → list_all (λ e. cond (is_upto k e) (is_unchanged_by k e) true) xs ≡ true → list_all (is_free_of k) xs ≡ true
 all-free k [] i o u v = refl
 all-free k (e ∷ xs) i o u v =
@@ -141,7 +145,8 @@ removed-next n k (Acked s c ∷ dels) m h g = refl
 removed-next n k (Local j ∷ dels) m h g = (cc)
 
 -- the view of the stage before stays
-pub free-views : (n k : ℕ) (ks : List ℕ) (xs : List ListElement) → list_all (is_within n ks) xs ≡ true → list_all (is_free_of (suc k)) xs ≡ true → Each (λ e. seen (suc k) e ≡ seen k e) xs
+pub free-views : (n k : ℕ) (ks : List ℕ) (xs : List ListElement) → list_all (is_within n ks) xs ≡ true → list_all (is_free_of (suc k)) xs ≡ true
+    → Each (λ e. seen (suc k) e ≡ seen k e) xs
 free-views n k ks [] w h = tt
 free-views n k ks (e ∷ xs) w h =
     let p = both (is_within n ks e) (list_all (is_within n ks) xs) w in
@@ -159,9 +164,11 @@ module _ (n : ℕ) (ks js : List ℕ) (e : ListElement) (left : (j : ℕ) → is
 
   fewer-mark : (m : Option ℕ) → e.removal_stage ≡ m → mark_within ks m ≡ true → mark_within js m ≡ true
   fewer-mark None f h = refl
-  fewer-mark (Some j) f h = left j h (ap (λ m. is_inserted_by j e || (list_any (is_of_stage j) (removal_stamp m) || is_annotated_by j e)) f ∙ rw (same_nat j) (or-true (is_inserted_by j e)))
+  fewer-mark (Some j) f h = left j h (ap (λ m. is_inserted_by j e || (list_any (is_of_stage j) (removal_stamp m) || is_annotated_by j e)) f
+      ∙ rw (same_nat j) (or-true (is_inserted_by j e)))
 
-  fewer-changes : (pending : List (ℕ × Changes)) → ((j : ℕ) → list_any (λ p. nat_eq p.0 j) pending ≡ true → is_annotated_by j e ≡ true) → list_all (λ p. is_among ks p.0) pending ≡ true → list_all (λ p. is_among js p.0) pending ≡ true
+  fewer-changes : (pending : List (ℕ × Changes)) → ((j : ℕ) → list_any (λ p. nat_eq p.0 j) pending ≡ true → is_annotated_by j e ≡ true)
+      → list_all (λ p. is_among ks p.0) pending ≡ true → list_all (λ p. is_among js p.0) pending ≡ true
   fewer-changes [] f h = refl
   fewer-changes (p ∷ pending) f h =
       let q = both (is_among ks p.0) (list_all (λ p. is_among ks p.0) pending) h in
@@ -175,7 +182,8 @@ module _ (n : ℕ) (ks js : List ℕ) (e : ListElement) (left : (j : ℕ) → is
       rw (fewer-stamp e.ins refl p.0, p.1, fewer-mark e.removal_stage refl p.2, fewer-changes e.pending (λ j g. g) p.3) refl
 
 -- where each stage is also among the others or has no mark, the others are all that is pending
-pub fewer-all : (n : ℕ) (ks js : List ℕ) (xs : List ListElement) → ((j : ℕ) → is_among ks j ≡ true → (is_among js j ≡ true) ⊎ (list_all (is_free_of j) xs ≡ true)) → list_all (is_within n ks) xs ≡ true → list_all (is_within n js) xs ≡ true
+pub fewer-all : (n : ℕ) (ks js : List ℕ) (xs : List ListElement) → ((j : ℕ) → is_among ks j ≡ true
+    → (is_among js j ≡ true) ⊎ (list_all (is_free_of j) xs ≡ true)) → list_all (is_within n ks) xs ≡ true → list_all (is_within n js) xs ≡ true
 fewer-all n ks js [] left h = refl
 fewer-all n ks js (e ∷ xs) left h =
     let p = both (is_within n ks e) (list_all (is_within n ks) xs) h in

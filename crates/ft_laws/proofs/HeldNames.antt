@@ -32,7 +32,8 @@ module _ {A : Type 0} (is : A → Bool) where
       let p = both (is x) (list_all is xs) h in
       chosen (past x) p.0 (all-put_past past new xs g p.1) (all-append new (x ∷ xs) g h)
     where
-      chosen : (b : Bool) → is x ≡ true → list_all is (put_past past new xs) ≡ true → list_all is (new ++ (x ∷ xs)) ≡ true → list_all is (cond b (x ∷ put_past past new xs) (new ++ (x ∷ xs))) ≡ true
+      chosen : (b : Bool) → is x ≡ true → list_all is (put_past past new xs) ≡ true → list_all is (new ++ (x ∷ xs)) ≡ true
+          → list_all is (cond b (x ∷ put_past past new xs) (new ++ (x ∷ xs))) ≡ true
       chosen true a b c = rw (a, b) refl
       chosen false a b c = c
 
@@ -45,7 +46,8 @@ module _ {A : Type 0} (is : A → Bool) where
       rw (q.0, all-put seen past (cond (seen x) p (suc p)) new xs g q.1) refl
 
   -- and one that f keeps goes through a change of a range
-  pub all-range : (test : A → Bool) (f : A → A) → ((x : A) → is x ≡ true → is (f x) ≡ true) → (i p q : ℕ) (xs : List A) → list_all is xs ≡ true → list_all is (change_range_from i test p q f xs) ≡ true
+  pub all-range : (test : A → Bool) (f : A → A) → ((x : A) → is x ≡ true → is (f x) ≡ true) → (i p q : ℕ) (xs : List A) → list_all is xs ≡ true
+      → list_all is (change_range_from i test p q f xs) ≡ true
   all-range test f k i p q [] h = refl
   all-range test f k i p q (x ∷ xs) h =
       let r = both (is x) (list_all is xs) h in
@@ -68,9 +70,11 @@ module _ (gone : ListElement → Bool) (held : ElementId → Bool) where
       let here : held (SequencedId n) ≡ true = h n (omega arith) in
       rw (or_right (gone e) (held (SequencedId n)) here, new-held (n + 1) s c by props bs (λ m l. h m (omega arith))) refl
 
-  pub insertion-names : (s c r p : ℕ) (by : Option Stamp) (props : PropertyList) (bs : List ElementContent) (list : Sequence) → HoldsNames gone held list → HoldsNames gone held (after_insertion s c r p by props bs list)
+  pub insertion-names : (s c r p : ℕ) (by : Option Stamp) (props : PropertyList) (bs : List ElementContent) (list : Sequence) → HoldsNames gone held list
+      → HoldsNames gone held (after_insertion s c r p by props bs list)
   insertion-names s c r p by props bs list h = record {
-    all = all-put (keeps_name gone held) (seen_by r c) is_pending p (new_elements list.made (Acked s c) [] by props bs) list.items (new-held list.made s c by props bs h.later) h.all;
+    all = all-put (keeps_name gone held) (seen_by r c) is_pending p (new_elements list.made (Acked s c) [] by props bs) list.items
+        (new-held list.made s c by props bs h.later) h.all;
     later = λ n l. h.later n (omega arith);
   }
 
@@ -82,7 +86,8 @@ module _ (gone : ListElement → Bool) (held : ElementId → Bool) where
   }
 
   -- a test that passes no element that is gone finds held names
-  pub found-held : (test : ListElement → Bool) → ((e : ListElement) → gone e ≡ true → test e ≡ false) → (e : ListElement) → keeps_name gone held e ≡ true → test e ≡ true → held (id e) ≡ true
+  pub found-held : (test : ListElement → Bool) → ((e : ListElement) → gone e ≡ true → test e ≡ false) → (e : ListElement) → keeps_name gone held e ≡ true
+      → test e ≡ true → held (id e) ≡ true
   found-held test h e k t = step (gone e) refl k
     where
       step : (b : Bool) → gone e ≡ b → b || held (id e) ≡ true → held (id e) ≡ true
@@ -110,15 +115,18 @@ module _ (gone : ListElement → Bool) (held : ElementId → Bool) where
         let p = both (keeps_name gone held x) (list_all (keeps_name gone held) xs) k in
         chosen-held x (find test xs) p.0 (find-held xs p.1) (test x) refl
 
-    or-held : (a b : Option ListElement) → is_held_end held (option_map id a) ≡ true → is_held_end held (option_map id b) ≡ true → is_held_end held (option_map id (option_or a b)) ≡ true
+    or-held : (a b : Option ListElement) → is_held_end held (option_map id a) ≡ true → is_held_end held (option_map id b) ≡ true
+        → is_held_end held (option_map id (option_or a b)) ≡ true
     or-held None b p q = q
     or-held (Some x) b p q = p
 
-    either-held : (b : Bool) (o p : Option ListElement) → is_held_end held (option_map id o) ≡ true → is_held_end held (option_map id p) ≡ true → is_held_end held (option_map id (cond b o p)) ≡ true
+    either-held : (b : Bool) (o p : Option ListElement) → is_held_end held (option_map id o) ≡ true → is_held_end held (option_map id p) ≡ true
+        → is_held_end held (option_map id (cond b o p)) ≡ true
     either-held true o p q r = q
     either-held false o p q r = r
 
-    pub settled-held : (is : ListElement → Bool) (last : Option ListElement) (xs : List ListElement) → is_held_end held (option_map id last) ≡ true → list_all (keeps_name gone held) xs ≡ true
+    pub settled-held : (is : ListElement → Bool) (last : Option ListElement) (xs : List ListElement) → is_held_end held (option_map id last) ≡ true
+        → list_all (keeps_name gone held) xs ≡ true
         → is_held_end held (option_map id (settled_after is test last xs)) ≡ true
     settled-held is last [] l k = refl
     settled-held is last (x ∷ xs) l k =
@@ -133,6 +141,7 @@ module _ (gone : ListElement → Bool) (held : ElementId → Bool) where
         let p = both (keeps_name gone held x) (list_all (keeps_name gone held) xs) k in
         chosen (test x) refl p.0 (filter-held xs p.1)
       where
-        chosen : (b : Bool) → test x ≡ b → keeps_name gone held x ≡ true → list_all (λ e. held (id e)) (filter test xs) ≡ true → list_all (λ e. held (id e)) (cond b (x ∷ filter test xs) (filter test xs)) ≡ true
+        chosen : (b : Bool) → test x ≡ b → keeps_name gone held x ≡ true → list_all (λ e. held (id e)) (filter test xs) ≡ true
+            → list_all (λ e. held (id e)) (cond b (x ∷ filter test xs) (filter test xs)) ≡ true
         chosen true t k q = rw (found-held test h x k t, q) refl
         chosen false t k q = q

@@ -69,7 +69,8 @@ module _ (j n s d : ℕ) where
         rw (
           list_any-append (has_occurred r c) e.dels (acked_removal j s d e.removal_stage),
           stamp-expected e.ins,
-          or_assoc (list_any (has_occurred r c) e.dels) (list_any (has_occurred r c) (acked_removal j s d e.removal_stage)) (below_mark (suc k) (remaining_removal j e.removal_stage)),
+          or_assoc (list_any (has_occurred r c) e.dels) (list_any (has_occurred r c) (acked_removal j s d e.removal_stage))
+              (below_mark (suc k) (remaining_removal j e.removal_stage)),
           mark-expected e.removal_stage,
         ) refl
 
@@ -88,21 +89,25 @@ module _ (j n s d : ℕ) where
 
     removal-acked : (e : ListElement) → expects r c (suc k) e ≡ true → acked_element j n s d (with_pending_removal k e) ≡ with_pending_removal k (acked_element j n s d e)
     removal-acked e h =
-        let none = unmarked-mark e.removal_stage (not_either (has_occurred r c e.ins || below_stamp (suc k) e.ins) (list_any (has_occurred r c) e.dels) (below_mark (suc k) e.removal_stage) h) in
+        let none = unmarked-mark e.removal_stage (not_either (has_occurred r c e.ins || below_stamp (suc k) e.ins) (list_any (has_occurred r c) e.dels)
+        (below_mark (suc k) e.removal_stage) h) in
         rw (none, another) refl
 
     props-acked : (changes : Changes) (props : PropertyList) (pending : List (ℕ × Changes)) → acked_props j props (pending ++ ((k, changes) ∷ [])) ≡ acked_props j props pending
     props-acked changes props [] = rw another refl
     props-acked changes props ((i, other) ∷ pending) = props-acked changes (cond (nat_eq i j) (change props other) props) pending
 
-    changes-acked : (changes : Changes) (pending : List (ℕ × Changes)) → filter (λ p. not (nat_eq p.0 j)) (pending ++ ((k, changes) ∷ [])) ≡ filter (λ p. not (nat_eq p.0 j)) pending ++ ((k, changes) ∷ [])
+    changes-acked : (changes : Changes) (pending : List (ℕ × Changes)) → filter (λ p. not (nat_eq p.0 j)) (pending ++ ((k, changes) ∷ []))
+        ≡ filter (λ p. not (nat_eq p.0 j)) pending ++ ((k, changes) ∷ [])
     changes-acked changes [] = rw another refl
     changes-acked changes (p ∷ pending) = grind (arith, changes-acked changes pending)
 
-    annotation-acked : (changes : Changes) (e : ListElement) → acked_element j n s d (with_pending_annotation k changes e) ≡ with_pending_annotation k changes (acked_element j n s d e)
+    annotation-acked : (changes : Changes) (e : ListElement) → acked_element j n s d (with_pending_annotation k changes e)
+        ≡ with_pending_annotation k changes (acked_element j n s d e)
     annotation-acked changes e = rw (props-acked changes e.props e.pending, changes-acked changes e.pending) refl
 
-    made-acked : (i : ℕ) (props : PropertyList) (items : List ElementContent) → map (acked_element j n s d) (new_elements i (Local k) [] None props items) ≡ new_elements i (Local k) [] None props items
+    made-acked : (i : ℕ) (props : PropertyList) (items : List ElementContent) → map (acked_element j n s d) (new_elements i (Local k) [] None props items)
+        ≡ new_elements i (Local k) [] None props items
     made-acked i props [] = refl
     made-acked i props (b ∷ bs) = rw (another, made-acked (i + 1) props bs) refl
 
@@ -110,24 +115,32 @@ module _ (j n s d : ℕ) where
     all_true [] = refl
     all_true (e ∷ xs) = all_true xs
 
-    pub higher-acked : (edit : StageEdit) (xs : List ListElement) → after_pending r c k edit (map (acked_element j n s d) xs) ≡ map (acked_element j n s d) (after_pending r c k edit xs)
+    pub higher-acked : (edit : StageEdit) (xs : List ListElement) → after_pending r c k edit (map (acked_element j n s d) xs)
+        ≡ map (acked_element j n s d) (after_pending r c k edit xs)
     higher-acked (PutIn p props items) xs =
-        sym (put-map (λ e. true) (expects r c (suc k)) (expects r c (suc k)) (acked_element j n s d) (λ e h. as_expected e) no_run (λ e h. refl) p (new_elements 0 (Local k) [] None props items) xs (all_true xs)
+        sym (put-map (λ e. true) (expects r c (suc k)) (expects r c (suc k)) (acked_element j n s d) (λ e h. as_expected e) no_run (λ e h. refl) p
+        (new_elements 0 (Local k) [] None props items) xs (all_true xs)
         ∙ ap (λ new. put (expects r c (suc k)) no_run p new (map (acked_element j n s d) xs)) (made-acked 0 props items))
     higher-acked (TakenOut ranges) xs =
-        sym (ranges-map (λ e. true) (expects r c (suc k)) (expects r c (suc k)) (acked_element j n s d) (with_pending_removal k) (with_pending_removal k) (λ e h. as_expected e) (λ e h g. removal-acked e g) (λ e h. refl) ranges xs (all_true xs))
+        sym (ranges-map (λ e. true) (expects r c (suc k)) (expects r c (suc k)) (acked_element j n s d) (with_pending_removal k) (with_pending_removal k)
+        (λ e h. as_expected e) (λ e h g. removal-acked e g) (λ e h. refl) ranges xs (all_true xs))
     higher-acked (Annotated ranges changes) xs =
-        sym (ranges-map (λ e. true) (expects r c (suc k)) (expects r c (suc k)) (acked_element j n s d) (with_pending_annotation k changes) (with_pending_annotation k changes) (λ e h. as_expected e) (λ e h g. annotation-acked changes e) (λ e h. refl) ranges xs (all_true xs))
+        sym (ranges-map (λ e. true) (expects r c (suc k)) (expects r c (suc k)) (acked_element j n s d) (with_pending_annotation k changes)
+        (with_pending_annotation k changes) (λ e h. as_expected e) (λ e h g. annotation-acked changes e) (λ e h. refl) ranges xs (all_true xs))
 
     pub higher-fits : (edit : StageEdit) (xs : List ListElement) → fits_pending r c k edit (map (acked_element j n s d) xs) ≡ fits_pending r c k edit xs
-    higher-fits (PutIn p props items) xs = ap (nat_le p) (len-map (λ e. true) (expects r c (suc k)) (expects r c (suc k)) (acked_element j n s d) (λ e h. as_expected e) xs (all_true xs))
+    higher-fits (PutIn p props items) xs = ap (nat_le p) (len-map (λ e. true) (expects r c (suc k)) (expects r c (suc k)) (acked_element j n s d)
+        (λ e h. as_expected e) xs (all_true xs))
     higher-fits (TakenOut ranges) xs =
-        fit-map (λ e. true) (expects r c (suc k)) (expects r c (suc k)) (acked_element j n s d) (with_pending_removal k) (with_pending_removal k) (λ e h. as_expected e) (λ e h g. removal-acked e g) (λ e h. refl) ranges xs (all_true xs)
+        fit-map (λ e. true) (expects r c (suc k)) (expects r c (suc k)) (acked_element j n s d) (with_pending_removal k) (with_pending_removal k)
+        (λ e h. as_expected e) (λ e h g. removal-acked e g) (λ e h. refl) ranges xs (all_true xs)
     higher-fits (Annotated ranges changes) xs =
-        fit-map (λ e. true) (expects r c (suc k)) (expects r c (suc k)) (acked_element j n s d) (with_pending_annotation k changes) (with_pending_annotation k changes) (λ e h. as_expected e) (λ e h g. annotation-acked changes e) (λ e h. refl) ranges xs (all_true xs)
+        fit-map (λ e. true) (expects r c (suc k)) (expects r c (suc k)) (acked_element j n s d) (with_pending_annotation k changes)
+        (with_pending_annotation k changes) (λ e h. as_expected e) (λ e h g. annotation-acked changes e) (λ e h. refl) ranges xs (all_true xs)
 
   -- where the message of stage k + 1 sees the acknowledged edit
-  pub acknowledgement-keeps : (r c k : ℕ) (edit : StageEdit) (xs : List ListElement) → nat_le s r || nat_eq d c ≡ true → j ≤ k → IsStanding k r c edit xs → IsStanding k r c edit (map (acked_element j n s d) xs)
+  pub acknowledgement-keeps : (r c k : ℕ) (edit : StageEdit) (xs : List ListElement) → nat_le s r || nat_eq d c ≡ true → j ≤ k → IsStanding k r c edit xs
+      → IsStanding k r c edit (map (acked_element j n s d) xs)
   acknowledgement-keeps r c k edit xs known l h =
       let below : j < suc k = omega arith in
       let above : j ≤ suc k = omega arith in

@@ -89,7 +89,8 @@ module _ (k n s c r i : ℕ) (l : k ≤ i) where
 
 -- ---- the stage puts into one list at most
 
-one-text : (k r c : ℕ) (o : SubOperation) (sent : SentStage) (doc : Document) → Tells o sent → IsStanding k r c (text_edit sent) doc.text.items → IsOneList (suc k) (made_before doc o) doc.text
+one-text : (k r c : ℕ) (o : SubOperation) (sent : SentStage) (doc : Document) → Tells o sent → IsStanding k r c (text_edit sent) doc.text.items
+    → IsOneList (suc k) (made_before doc o) doc.text
 one-text k r c o (TextPut p seg props) doc tells h = inl (sym (tells.made doc))
 one-text k r c o (TextTaken ranges) doc tells h = inr (standing-count k r c (TakenOut ranges) doc.text.items h)
 one-text k r c o (TextAnnotated ranges changes) doc tells h = inr (standing-count k r c (Annotated ranges changes) doc.text.items h)
@@ -98,7 +99,8 @@ one-text k r c o (UnitsPut target p count) doc tells h = inr (standing-count k r
 one-text k r c o (UnitsTaken target ranges) doc tells h = inr (standing-count k r c (TakenOut []) doc.text.items h)
 one-text k r c o (CellWritten i j value) doc tells h = inr (standing-count k r c (TakenOut []) doc.text.items h)
 
-one-rows : (k r c : ℕ) (o : SubOperation) (sent : SentStage) (doc : Document) → Tells o sent → IsStanding k r c (rows_edit sent) doc.rows.items → IsOneList (suc k) (made_before doc o) doc.rows
+one-rows : (k r c : ℕ) (o : SubOperation) (sent : SentStage) (doc : Document) → Tells o sent → IsStanding k r c (rows_edit sent) doc.rows.items
+    → IsOneList (suc k) (made_before doc o) doc.rows
 one-rows k r c o (TextPut p seg props) doc tells h = inr (standing-count k r c (TakenOut []) doc.rows.items h)
 one-rows k r c o (TextTaken ranges) doc tells h = inr (standing-count k r c (TakenOut []) doc.rows.items h)
 one-rows k r c o (TextAnnotated ranges changes) doc tells h = inr (standing-count k r c (TakenOut []) doc.rows.items h)
@@ -109,7 +111,8 @@ one-rows k r c o (UnitsTaken Rows ranges) doc tells h = inr (standing-count k r 
 one-rows k r c o (UnitsTaken Cols ranges) doc tells h = inr (standing-count k r c (TakenOut []) doc.rows.items h)
 one-rows k r c o (CellWritten i j value) doc tells h = inr (standing-count k r c (TakenOut []) doc.rows.items h)
 
-one-cols : (k r c : ℕ) (o : SubOperation) (sent : SentStage) (doc : Document) → Tells o sent → IsStanding k r c (cols_edit sent) doc.cols.items → IsOneList (suc k) (made_before doc o) doc.cols
+one-cols : (k r c : ℕ) (o : SubOperation) (sent : SentStage) (doc : Document) → Tells o sent → IsStanding k r c (cols_edit sent) doc.cols.items
+    → IsOneList (suc k) (made_before doc o) doc.cols
 one-cols k r c o (TextPut p seg props) doc tells h = inr (standing-count k r c (TakenOut []) doc.cols.items h)
 one-cols k r c o (TextTaken ranges) doc tells h = inr (standing-count k r c (TakenOut []) doc.cols.items h)
 one-cols k r c o (TextAnnotated ranges changes) doc tells h = inr (standing-count k r c (TakenOut []) doc.cols.items h)
@@ -133,12 +136,14 @@ module _ (n s c : ℕ) (rename : ElementId → ElementId) (t : Stage) (doc : Doc
         rows = acknowledgement-keeps t.stage doc.rows.made s c r c k (rows_edit sent) doc.rows.items (known-own s r c) l h.rows;
         cols = acknowledgement-keeps t.stage doc.cols.made s c r c k (cols_edit sent) doc.cols.items (known-own s r c) l h.cols;
         named =
-            names-as test test (acked_id t.stage n) (list_up_to k doc.text.items) (list_up_to k (acked_list t.stage s c doc.text).items) (list_up_to k doc.rows.items) (list_up_to k (acked_list t.stage s c doc.rows).items)
+            names-as test test (acked_id t.stage n) (list_up_to k doc.text.items) (list_up_to k (acked_list t.stage s c doc.text).items)
+            (list_up_to k doc.rows.items) (list_up_to k (acked_list t.stage s c doc.rows).items)
             (list_up_to k doc.cols.items) (list_up_to k (acked_list t.stage s c doc.cols).items)
             (seen-acked t.stage n s c r k l doc.text text) (seen-acked t.stage n s c r k l doc.rows rows) (seen-acked t.stage n s c r k l doc.cols cols) sent names h.named;
       }
 
-  all-kept : (j last : ℕ) (ts : List ToldStage) → t.stage ≤ j → Rise j last ts → AllStand c doc ts → AllStand c (ack_stage s c rename t doc) (map (renamed_told (acked_id t.stage n)) ts)
+  all-kept : (j last : ℕ) (ts : List ToldStage) → t.stage ≤ j → Rise j last ts → AllStand c doc ts
+      → AllStand c (ack_stage s c rename t doc) (map (renamed_told (acked_id t.stage n)) ts)
   all-kept j last [] l rise h = tt
   all-kept j last (u ∷ ts) l rise h =
       let here : j ≤ u.before = rise.0 in
@@ -187,14 +192,16 @@ lowest-first c m n last t ts doc h =
       cols = within-from n (suc t.before) (stage_numbers (t ∷ ts)) doc.cols.items least h.cols;
     }
 
-within-list : (n s c j k m : ℕ) (f : ElementId → ElementId) (ts : List ToldStage) (xs : List ListElement) → n ≤ s → j ≡ suc k → list_all (is_within n (suc k ∷ stage_numbers ts)) xs ≡ true
+within-list : (n s c j k m : ℕ) (f : ElementId → ElementId) (ts : List ToldStage) (xs : List ListElement) → n ≤ s → j ≡ suc k
+    → list_all (is_within n (suc k ∷ stage_numbers ts)) xs ≡ true
     → list_all (is_within s (stage_numbers (map (renamed_told f) ts))) (map (acked_element j m s c) xs) ≡ true
 within-list n s c j k m f ts xs l e h =
     ap (λ ks. list_all (is_within s ks) (map (acked_element j m s c) xs)) (numbers-renamed f ts)
     ∙ ap (λ i. list_all (is_within s (stage_numbers ts)) (map (acked_element i m s c) xs)) e
     ∙ within-acked n s c (suc k) m (stage_numbers ts) xs l h
 
-order-list : (s c j k m : ℕ) (xs : List ListElement) → j ≡ suc k → list_all is_ordered xs ≡ true → list_all (is_from (suc k)) xs ≡ true → list_all is_ordered (map (acked_element j m s c) xs) ≡ true
+order-list : (s c j k m : ℕ) (xs : List ListElement) → j ≡ suc k → list_all is_ordered xs ≡ true → list_all (is_from (suc k)) xs ≡ true
+    → list_all is_ordered (map (acked_element j m s c) xs) ≡ true
 order-list s c j k m xs e h g = ap (λ i. list_all is_ordered (map (acked_element i m s c) xs)) e ∙ ordered-acked (suc k) m s c xs h g
 
 -- the acknowledgement of the first stage, whose names are those of now
@@ -210,9 +217,12 @@ acknowledged-holds c m n last s t ts doc l h =
     let j = made_before doc t.stage.sub_operation in
     let f = acked_id t.stage.stage j in
     let e : t.stage.stage ≡ suc t.before = h.told.0 in
-    let text : IsOneList t.stage.stage j doc.text = subst (λ i. IsOneList i j doc.text) (sym e) (one-text t.before t.ref c t.stage.sub_operation t.sent doc h.told.1 h.stand.0.text) in
-    let rows : IsOneList t.stage.stage j doc.rows = subst (λ i. IsOneList i j doc.rows) (sym e) (one-rows t.before t.ref c t.stage.sub_operation t.sent doc h.told.1 h.stand.0.rows) in
-    let cols : IsOneList t.stage.stage j doc.cols = subst (λ i. IsOneList i j doc.cols) (sym e) (one-cols t.before t.ref c t.stage.sub_operation t.sent doc h.told.1 h.stand.0.cols) in
+    let text : IsOneList t.stage.stage j doc.text = subst (λ i. IsOneList i j doc.text) (sym e)
+    (one-text t.before t.ref c t.stage.sub_operation t.sent doc h.told.1 h.stand.0.text) in
+    let rows : IsOneList t.stage.stage j doc.rows = subst (λ i. IsOneList i j doc.rows) (sym e)
+    (one-rows t.before t.ref c t.stage.sub_operation t.sent doc h.told.1 h.stand.0.rows) in
+    let cols : IsOneList t.stage.stage j doc.cols = subst (λ i. IsOneList i j doc.cols) (sym e)
+    (one-cols t.before t.ref c t.stage.sub_operation t.sent doc h.told.1 h.stand.0.cols) in
     let low = lowest-first c m n last t ts doc h in
     let reached : t.stage.stage ≤ suc t.before = subst (λ i. i ≤ suc t.before) (sym e) (omega arith) in
     record {

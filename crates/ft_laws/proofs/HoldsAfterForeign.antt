@@ -44,13 +44,15 @@ module _ (s d e c : ℕ) (others : nat_eq d c ≡ false) where
   seen-edit : (k r n : ℕ) (by : Option Stamp) (edit : StageEdit) (xs : List ListElement) → r < s
       → SeenAs (expects r c (suc (suc k))) (expects r c (suc (suc k))) (λ x. x) (list_up_to k xs) (after_sequenced s d e n by edit (list_up_to k xs))
   seen-edit k r n by (PutIn p props items) xs above =
-      seen-put (expects r c (suc (suc k))) (seen_by e d) is_pending p (new_elements n (Acked s d) [] by props items) (list_up_to k xs) (new-unexpected r c (suc (suc k)) n s d by props items above others)
+      seen-put (expects r c (suc (suc k))) (seen_by e d) is_pending p (new_elements n (Acked s d) [] by props items) (list_up_to k xs)
+      (new-unexpected r c (suc (suc k)) n s d by props items above others)
   seen-edit k r n by (TakenOut ranges) xs above =
       seen-ranges (expects r c (suc (suc k))) (seen_by e d) (with_removal s d) (unexpected-removal r c (suc (suc k)) s d above others) (λ x. refl) ranges (list_up_to k xs)
   seen-edit k r n by (Annotated ranges changes) xs above =
       seen-ranges (expects r c (suc (suc k))) (seen_by e d) (with_annotation changes) (λ x. refl) (λ x. refl) ranges (list_up_to k xs)
 
-  seen-foreign : (k r : ℕ) (xs ys : List ListElement) → r < s → IsForeign s d e xs ys → SeenAs (expects r c (suc (suc k))) (expects r c (suc (suc k))) (λ x. x) (list_up_to k xs) (list_up_to k ys)
+  seen-foreign : (k r : ℕ) (xs ys : List ListElement) → r < s → IsForeign s d e xs ys
+      → SeenAs (expects r c (suc (suc k))) (expects r c (suc (suc k))) (λ x. x) (list_up_to k xs) (list_up_to k ys)
   seen-foreign k r xs ys above f =
       subst (λ zs. SeenAs (expects r c (suc (suc k))) (expects r c (suc (suc k))) (λ x. x) (list_up_to k xs) zs)
       (sym (ap (list_up_to k) f.made ∙ sequenced-list_up_to s d e f.n f.by k f.edit xs)) (seen-edit k r f.n f.by f.edit xs above)
@@ -59,7 +61,8 @@ module _ (s d e c : ℕ) (others : nat_eq d c ≡ false) where
   list-keeps k r edit xs ys above f h =
       subst (λ zs. IsStanding k r c edit zs) (sym f.made) (foreign_step-keeps s d e f.n f.by k r c edit f.edit xs above others f.fits h)
 
-  module _ (doc after : Document) (text : IsForeign s d e doc.text.items after.text.items) (rows : IsForeign s d e doc.rows.items after.rows.items) (cols : IsForeign s d e doc.cols.items after.cols.items) where
+  module _ (doc after : Document) (text : IsForeign s d e doc.text.items after.text.items) (rows : IsForeign s d e doc.rows.items after.rows.items)
+      (cols : IsForeign s d e doc.cols.items after.cols.items) where
     stage-keeps : (k r : ℕ) (sent : SentStage) (names : NamedElements) → r < s → StageStands k r c sent names doc → StageStands k r c sent names after
     stage-keeps k r sent names above h =
         let test = expects r c (suc (suc k)) in
@@ -69,8 +72,10 @@ module _ (s d e c : ℕ) (others : nat_eq d c ≡ false) where
           cols = list-keeps k r (cols_edit sent) doc.cols.items after.cols.items above cols h.cols;
           named =
               subst (λ ns. NamesBy test (list_up_to k after.text.items) (list_up_to k after.rows.items) (list_up_to k after.cols.items) sent ns) (names-not_renamed names)
-              (names-as test test (λ x. x) (list_up_to k doc.text.items) (list_up_to k after.text.items) (list_up_to k doc.rows.items) (list_up_to k after.rows.items) (list_up_to k doc.cols.items) (list_up_to k after.cols.items)
-              (seen-foreign k r doc.text.items after.text.items above text) (seen-foreign k r doc.rows.items after.rows.items above rows) (seen-foreign k r doc.cols.items after.cols.items above cols) sent names h.named);
+              (names-as test test (λ x. x) (list_up_to k doc.text.items) (list_up_to k after.text.items) (list_up_to k doc.rows.items)
+              (list_up_to k after.rows.items) (list_up_to k doc.cols.items) (list_up_to k after.cols.items)
+              (seen-foreign k r doc.text.items after.text.items above text) (seen-foreign k r doc.rows.items after.rows.items above rows)
+              (seen-foreign k r doc.cols.items after.cols.items above cols) sent names h.named);
         }
 
     stages-keep : (m : ℕ) (ts : List ToldStage) → m < s → AreTold m ts → AllStand c doc ts → AllStand c after ts
@@ -115,16 +120,33 @@ same-lists s d e doc = (as-it-was s d e doc.text.items, as-it-was s d e doc.rows
 
 text-foreign : (s d e : ℕ) (doc : Document) (op : BaseOp) → AreForeign s d e doc (text_effect doc s d e op)
 text-foreign s d e doc (Insert p seg props) =
-    by_cond (AreForeign s d e doc) (nat_le p (len (seen_by e d) doc.text.items)) (record doc { text = after_insertion s d e p (Some (Acked s d)) (apply [] props) (segment_contents seg) doc.text }) (with_skip doc)
-    (λ h. (record { n = doc.text.made; by = Some (Acked s d); edit = PutIn p (apply [] props) (segment_contents seg); fits = h; made = refl }, as-it-was s d e doc.rows.items, as-it-was s d e doc.cols.items))
+    by_cond (AreForeign s d e doc) (nat_le p (len (seen_by e d) doc.text.items))
+    (record doc { text = after_insertion s d e p (Some (Acked s d)) (apply [] props) (segment_contents seg) doc.text }) (with_skip doc)
+    (λ h. (
+      record { n = doc.text.made; by = Some (Acked s d); edit = PutIn p (apply [] props) (segment_contents seg); fits = h; made = refl },
+      as-it-was s d e
+          doc.rows.items,
+      as-it-was s d e doc.cols.items,
+    ))
     (same-lists s d e doc)
 text-foreign s d e doc (Remove p q) =
     by_cond (AreForeign s d e doc) (nat_le q (len (seen_by e d) doc.text.items)) (with_slid_ends (record doc { text = after_removal s d e p q doc.text })) (with_skip doc)
-    (λ h. (record { n = 0; by = None; edit = TakenOut ((p, q) ∷ []); fits = one-test q (len (seen_by e d) doc.text.items) h; made = refl }, as-it-was s d e doc.rows.items, as-it-was s d e doc.cols.items))
+    (λ h. (
+      record { n = 0; by = None; edit = TakenOut ((p, q) ∷ []); fits = one-test q (len (seen_by e d) doc.text.items) h; made = refl },
+      as-it-was s d e
+          doc.rows.items,
+      as-it-was s d e doc.cols.items,
+    ))
     (same-lists s d e doc)
 text-foreign s d e doc (Annotate p q changes) =
-    by_cond (AreForeign s d e doc) (nat_le q (len (seen_by e d) doc.text.items)) (record doc { text = record { items = change_range (seen_by e d) p q (with_annotation changes) doc.text.items; made = doc.text.made } }) (with_skip doc)
-    (λ h. (record { n = 0; by = None; edit = Annotated ((p, q) ∷ []) changes; fits = one-test q (len (seen_by e d) doc.text.items) h; made = refl }, as-it-was s d e doc.rows.items, as-it-was s d e doc.cols.items))
+    by_cond (AreForeign s d e doc) (nat_le q (len (seen_by e d) doc.text.items))
+    (record doc { text = record { items = change_range (seen_by e d) p q (with_annotation changes) doc.text.items; made = doc.text.made } }) (with_skip doc)
+    (λ h. (
+      record { n = 0; by = None; edit = Annotated ((p, q) ∷ []) changes; fits = one-test q (len (seen_by e d) doc.text.items) h; made = refl },
+      as-it-was
+          s d e doc.rows.items,
+      as-it-was s d e doc.cols.items,
+    ))
     (same-lists s d e doc)
 
 cell-foreign : (s d e : ℕ) (doc : Document) (row col : Option ListElement) (value : ValueBytes) → AreForeign s d e doc (cell_effect doc row col value)
@@ -134,20 +156,46 @@ cell-foreign s d e doc (Some row) (Some col) value = same-lists s d e doc
 
 grid-foreign : (s d e : ℕ) (doc : Document) (op : CellOp) → AreForeign s d e doc (grid_effect doc s d e op)
 grid-foreign s d e doc (SpliceIn Rows p count) =
-    by_cond (AreForeign s d e doc) (nat_le p (len (seen_by e d) doc.rows.items)) (record doc { rows = after_insertion s d e p None [] (replicate count GridUnit) doc.rows }) (with_skip doc)
-    (λ h. (as-it-was s d e doc.text.items, record { n = doc.rows.made; by = None; edit = PutIn p [] (replicate count GridUnit); fits = h; made = refl }, as-it-was s d e doc.cols.items))
+    by_cond (AreForeign s d e doc) (nat_le p (len (seen_by e d) doc.rows.items))
+    (record doc { rows = after_insertion s d e p None [] (replicate count GridUnit) doc.rows }) (with_skip doc)
+    (λ h. (
+      as-it-was s d e doc.text.items,
+      record { n = doc.rows.made; by = None; edit = PutIn p [] (replicate count GridUnit); fits = h; made = refl },
+      as-it-was s d e doc.cols.items,
+    ))
     (same-lists s d e doc)
 grid-foreign s d e doc (SpliceIn Cols p count) =
-    by_cond (AreForeign s d e doc) (nat_le p (len (seen_by e d) doc.cols.items)) (record doc { cols = after_insertion s d e p None [] (replicate count GridUnit) doc.cols }) (with_skip doc)
-    (λ h. (as-it-was s d e doc.text.items, as-it-was s d e doc.rows.items, record { n = doc.cols.made; by = None; edit = PutIn p [] (replicate count GridUnit); fits = h; made = refl }))
+    by_cond (AreForeign s d e doc) (nat_le p (len (seen_by e d) doc.cols.items))
+    (record doc { cols = after_insertion s d e p None [] (replicate count GridUnit) doc.cols }) (with_skip doc)
+    (λ h. (
+      as-it-was s d e doc.text.items,
+      as-it-was s d e doc.rows.items,
+      record
+          { n = doc.cols.made; by = None; edit = PutIn p [] (replicate count GridUnit); fits = h; made = refl },
+    ))
     (same-lists s d e doc)
 grid-foreign s d e doc (SpliceOut Rows p q) =
     by_cond (AreForeign s d e doc) (nat_le q (len (seen_by e d) doc.rows.items)) (record doc { rows = after_removal s d e p q doc.rows }) (with_skip doc)
-    (λ h. (as-it-was s d e doc.text.items, record { n = 0; by = None; edit = TakenOut ((p, q) ∷ []); fits = one-test q (len (seen_by e d) doc.rows.items) h; made = refl }, as-it-was s d e doc.cols.items))
+    (λ h. (
+      as-it-was s d e doc.text.items,
+      record {
+        n = 0;
+        by = None;
+        edit = TakenOut ((p, q) ∷ []);
+        fits = one-test q (len (seen_by e d) doc.rows.items) h;
+        made = refl;
+      },
+      as-it-was s d e doc.cols.items,
+    ))
     (same-lists s d e doc)
 grid-foreign s d e doc (SpliceOut Cols p q) =
     by_cond (AreForeign s d e doc) (nat_le q (len (seen_by e d) doc.cols.items)) (record doc { cols = after_removal s d e p q doc.cols }) (with_skip doc)
-    (λ h. (as-it-was s d e doc.text.items, as-it-was s d e doc.rows.items, record { n = 0; by = None; edit = TakenOut ((p, q) ∷ []); fits = one-test q (len (seen_by e d) doc.cols.items) h; made = refl }))
+    (λ h. (
+      as-it-was s d e doc.text.items,
+      as-it-was s d e doc.rows.items,
+      record
+          { n = 0; by = None; edit = TakenOut ((p, q) ∷ []); fits = one-test q (len (seen_by e d) doc.cols.items) h; made = refl },
+    ))
     (same-lists s d e doc)
 grid-foreign s d e doc (Set i j value) = cell-foreign s d e doc (at (seen_by e d) i doc.rows.items) (at (seen_by e d) j doc.cols.items) value
 
@@ -166,7 +214,8 @@ skip-sound doc h = record { named = h.named; ends = h.ends; rows = h.rows; cols 
 
 text-sound : (s d e : ℕ) (doc : Document) (op : BaseOp) → IsSound doc → IsSound (text_effect doc s d e op)
 text-sound s d e doc (Insert p seg props) h =
-    by_cond (λ x. IsSound x) (nat_le p (len (seen_by e d) doc.text.items)) (record doc { text = after_insertion s d e p (Some (Acked s d)) (apply [] props) (segment_contents seg) doc.text }) (with_skip doc)
+    by_cond (λ x. IsSound x) (nat_le p (len (seen_by e d) doc.text.items))
+    (record doc { text = after_insertion s d e p (Some (Acked s d)) (apply [] props) (segment_contents seg) doc.text }) (with_skip doc)
     (λ f. record {
       named = named-after s d e (Some (Acked s d)) (PutIn p (apply [] props) (segment_contents seg)) doc.text h.named;
       ends = ends-after s d e (Some (Acked s d)) (PutIn p (apply [] props) (segment_contents seg)) doc.text doc.intervals refl h.ends;
@@ -175,9 +224,16 @@ text-sound s d e doc (Insert p seg props) h =
     }) (skip-sound doc h)
 text-sound s d e doc (Remove p q) h =
     by_cond (λ x. IsSound x) (nat_le q (len (seen_by e d) doc.text.items)) (with_slid_ends (record doc { text = after_removal s d e p q doc.text })) (with_skip doc)
-    (λ f. record { named = named-after s d e None (TakenOut ((p, q) ∷ [])) doc.text h.named; ends = ends-stand (after_removal s d e p q doc.text).items doc.intervals; rows = h.rows; cols = h.cols }) (skip-sound doc h)
+    (λ f. record {
+      named = named-after s d e None (TakenOut ((p, q) ∷ [])) doc.text h.named;
+      ends = ends-stand (after_removal s d e p q doc.text).items
+          doc.intervals;
+      rows = h.rows;
+      cols = h.cols;
+    }) (skip-sound doc h)
 text-sound s d e doc (Annotate p q changes) h =
-    by_cond (λ x. IsSound x) (nat_le q (len (seen_by e d) doc.text.items)) (record doc { text = record { items = change_range (seen_by e d) p q (with_annotation changes) doc.text.items; made = doc.text.made } }) (with_skip doc)
+    by_cond (λ x. IsSound x) (nat_le q (len (seen_by e d) doc.text.items))
+    (record doc { text = record { items = change_range (seen_by e d) p q (with_annotation changes) doc.text.items; made = doc.text.made } }) (with_skip doc)
     (λ f. record {
       named = named-after s d e None (Annotated ((p, q) ∷ []) changes) doc.text h.named;
       ends = ends-after s d e None (Annotated ((p, q) ∷ []) changes) doc.text doc.intervals refl h.ends;
@@ -200,11 +256,15 @@ list-sound Cols doc h = h.cols
 
 grid-sound : (s d e : ℕ) (doc : Document) (op : CellOp) → IsSound doc → IsSound (grid_effect doc s d e op)
 grid-sound s d e doc (SpliceIn target p count) h =
-    by_cond (λ x. IsSound x) (nat_le p (len (seen_by e d) (rows_or_cols target doc).items)) (with_rows_or_cols target doc (after_insertion s d e p None [] (replicate count GridUnit) (rows_or_cols target doc))) (with_skip doc)
-    (λ f. lists-sound target (after_insertion s d e p None [] (replicate count GridUnit) (rows_or_cols target doc)) doc (named-after s d e None (PutIn p [] (replicate count GridUnit)) (rows_or_cols target doc) (list-sound target doc h)) h) (skip-sound doc h)
+    by_cond (λ x. IsSound x) (nat_le p (len (seen_by e d) (rows_or_cols target doc).items))
+    (with_rows_or_cols target doc (after_insertion s d e p None [] (replicate count GridUnit) (rows_or_cols target doc))) (with_skip doc)
+    (λ f. lists-sound target (after_insertion s d e p None [] (replicate count GridUnit) (rows_or_cols target doc)) doc
+    (named-after s d e None (PutIn p [] (replicate count GridUnit)) (rows_or_cols target doc) (list-sound target doc h)) h) (skip-sound doc h)
 grid-sound s d e doc (SpliceOut target p q) h =
-    by_cond (λ x. IsSound x) (nat_le q (len (seen_by e d) (rows_or_cols target doc).items)) (with_rows_or_cols target doc (after_removal s d e p q (rows_or_cols target doc))) (with_skip doc)
-    (λ f. lists-sound target (after_removal s d e p q (rows_or_cols target doc)) doc (named-after s d e None (TakenOut ((p, q) ∷ [])) (rows_or_cols target doc) (list-sound target doc h)) h) (skip-sound doc h)
+    by_cond (λ x. IsSound x) (nat_le q (len (seen_by e d) (rows_or_cols target doc).items))
+    (with_rows_or_cols target doc (after_removal s d e p q (rows_or_cols target doc))) (with_skip doc)
+    (λ f. lists-sound target (after_removal s d e p q (rows_or_cols target doc)) doc
+    (named-after s d e None (TakenOut ((p, q) ∷ [])) (rows_or_cols target doc) (list-sound target doc h)) h) (skip-sound doc h)
 grid-sound s d e doc (Set i j value) h = cell-sound doc (at (seen_by e d) i doc.rows.items) (at (seen_by e d) j doc.cols.items) value h
 
 -- each sub-operation keeps what stands in the document
@@ -213,7 +273,13 @@ effect-sound s d e doc (OnText op) h = text-sound s d e doc op h
 effect-sound s d e doc (OnIntervals op) h =
     by_cond (λ x. IsSound x) (given_ends_fit (len (seen_by e d) doc.text.items) (ends_of op))
     (with_slid_ends (record doc { intervals = after_interval_operation op (elements_at_given_ends (seen_by e d) doc.text.items (ends_of op)) doc.intervals })) (with_skip doc)
-    (λ f. record { named = h.named; ends = ends-stand doc.text.items (after_interval_operation op (elements_at_given_ends (seen_by e d) doc.text.items (ends_of op)) doc.intervals); rows = h.rows; cols = h.cols }) (skip-sound doc h)
+    (λ f. record {
+      named = h.named;
+      ends = ends-stand doc.text.items (after_interval_operation op
+          (elements_at_given_ends (seen_by e d) doc.text.items (ends_of op)) doc.intervals);
+      rows = h.rows;
+      cols = h.cols;
+    }) (skip-sound doc h)
 effect-sound s d e doc (OnGrid op) h = grid-sound s d e doc op h
 
 pub effects-sound : (s d e : ℕ) (doc : Document) (os : List SubOperation) → IsSound doc → IsSound (effects doc s d e os)
@@ -222,13 +288,15 @@ effects-sound s d e doc (o ∷ os) h = effects-sound s d e (effect doc s d e o) 
 
 -- ---- a sub-operation of another client, and several
 
-pub effect-holds : (s d e c m n last : ℕ) (ts : List ToldStage) (doc : Document) (o : SubOperation) → nat_eq d c ≡ false → m < s → n ≤ s → Holds c m n last ts doc → Holds c m s last ts (effect doc s d e o)
+pub effect-holds : (s d e c m n last : ℕ) (ts : List ToldStage) (doc : Document) (o : SubOperation) → nat_eq d c ≡ false → m < s → n ≤ s
+    → Holds c m n last ts doc → Holds c m s last ts (effect doc s d e o)
 effect-holds s d e c m n last ts doc o others above l h =
     let f = effect-foreign s d e doc o in
     foreign-holds s d e c others doc (effect doc s d e o) f.0 f.1 f.2 m n last ts above l
     (subst (λ x. IsSound x) (sym (effect-sequenced doc s d e o)) (effect-sound s d e (sequenced_part doc) o h.sound)) h
 
-pub effects-hold : (s d e c m last : ℕ) (ts : List ToldStage) (doc : Document) (os : List SubOperation) → nat_eq d c ≡ false → m < s → Holds c m s last ts doc → Holds c m s last ts (effects doc s d e os)
+pub effects-hold : (s d e c m last : ℕ) (ts : List ToldStage) (doc : Document) (os : List SubOperation) → nat_eq d c ≡ false → m < s → Holds c m s last ts doc
+    → Holds c m s last ts (effects doc s d e os)
 effects-hold s d e c m last ts doc [] others above h = h
 effects-hold s d e c m last ts doc (o ∷ os) others above h =
     effects-hold s d e c m last ts (effect doc s d e o) os others above (effect-holds s d e c m s last ts doc o others above (omega arith) h)

@@ -27,7 +27,8 @@ none-sequenced : (k i : ℕ) (props : PropertyList) (items : List ElementContent
 none-sequenced k i props [] = refl
 none-sequenced k i props (b ∷ bs) = none-sequenced k (i + 1) props bs
 
-marks-sequenced : (seen : ListElement → Bool) (g : ListElement → ListElement) → ((e : ListElement) → is_sequenced (g e) ≡ is_sequenced e) → ((e : ListElement) → without_pending (g e) ≡ without_pending e)
+marks-sequenced : (seen : ListElement → Bool) (g : ListElement → ListElement) → ((e : ListElement) → is_sequenced (g e) ≡ is_sequenced e)
+    → ((e : ListElement) → without_pending (g e) ≡ without_pending e)
     → (ranges : List (ℕ × ℕ)) (xs : List ListElement) → sequenced_elements (change_ranges seen g ranges xs) ≡ sequenced_elements xs
 marks-sequenced seen g keep same [] xs = refl
 marks-sequenced seen g keep same ((p, q) ∷ ranges) xs =
@@ -35,7 +36,8 @@ marks-sequenced seen g keep same ((p, q) ∷ ranges) xs =
     ∙ range-left_out (λ e. true) is_sequenced seen without_pending g (λ e h f. keep e) (λ e h f. same e) p q 0 xs (all_true xs)
 
 pub own-sequenced : (k : ℕ) (edit : StageEdit) (xs : List ListElement) → sequenced_elements (after_own k edit xs) ≡ sequenced_elements xs
-own-sequenced k (PutIn p props items) xs = drop-put is_sequenced (seen k) without_pending p (new_elements 0 (Local (suc k)) [] None props items) xs (none-sequenced (suc k) 0 props items)
+own-sequenced k (PutIn p props items) xs = drop-put is_sequenced (seen k) without_pending p (new_elements 0 (Local (suc k)) [] None props items) xs
+    (none-sequenced (suc k) 0 props items)
 own-sequenced k (TakenOut ranges) xs = marks-sequenced (seen k) (with_pending_removal (suc k)) (λ e. refl) (λ e. refl) ranges xs
 own-sequenced k (Annotated ranges changes) xs = marks-sequenced (seen k) (with_pending_annotation (suc k) changes) (λ e. refl) (λ e. refl) ranges xs
 
@@ -88,17 +90,20 @@ module _ (n c k : ℕ) where
   now-below : (edit : StageEdit) (xs ys : List ListElement) → IsOwnStep k edit xs ys → list_all (is_current n c k) xs ≡ true → list_up_to k ys ≡ xs
   now-below edit xs ys o h = ap (list_up_to k) o.made ∙ own-below n c k k edit xs (omega arith) o.one h ∙ list_up_to-now n c k xs h
 
-  same-below : (i : ℕ) (edit : StageEdit) (xs ys : List ListElement) → i < suc k → IsOwnStep k edit xs ys → list_all (is_current n c k) xs ≡ true → list_up_to i ys ≡ list_up_to i xs
+  same-below : (i : ℕ) (edit : StageEdit) (xs ys : List ListElement) → i < suc k → IsOwnStep k edit xs ys → list_all (is_current n c k) xs ≡ true
+      → list_up_to i ys ≡ list_up_to i xs
   same-below i edit xs ys l o h = ap (list_up_to i) o.made ∙ own-below n c k i edit xs l o.one h
 
-  lower-list : (i r d : ℕ) (lower edit : StageEdit) (xs ys : List ListElement) → i < k → IsOwnStep k edit xs ys → list_all (is_current n c k) xs ≡ true → IsStanding i r d lower xs → IsStanding i r d lower ys
+  lower-list : (i r d : ℕ) (lower edit : StageEdit) (xs ys : List ListElement) → i < k → IsOwnStep k edit xs ys → list_all (is_current n c k) xs ≡ true
+      → IsStanding i r d lower xs → IsStanding i r d lower ys
   lower-list i r d lower edit xs ys l o h stands = subst (λ zs. IsStanding i r d lower zs) (sym o.made) (own-keeps i k r d n c lower edit xs l o.one h stands)
 
   new-list : (edit : StageEdit) (xs ys : List ListElement) → IsOwnStep k edit xs ys → list_all (is_current n c k) xs ≡ true → IsStanding k n c edit ys
   new-list edit xs ys o h = subst (λ zs. IsStanding k n c edit zs) (sym o.made) (own-stands n c k edit xs o.one h o.fits)
 
   module _ (sent : SentStage) (names : NamedElements) (doc after : Document) (o : IsOwn k sent names doc after)
-      (text : list_all (is_current n c k) doc.text.items ≡ true) (rows : list_all (is_current n c k) doc.rows.items ≡ true) (cols : list_all (is_current n c k) doc.cols.items ≡ true) where
+      (text : list_all (is_current n c k) doc.text.items ≡ true) (rows : list_all (is_current n c k) doc.rows.items ≡ true)
+      (cols : list_all (is_current n c k) doc.cols.items ≡ true) where
     lower-stage : (i r d : ℕ) (lower : SentStage) (own : NamedElements) → i < k → StageStands i r d lower own doc → StageStands i r d lower own after
     lower-stage i r d lower own l h =
         let test = expects r d (suc (suc i)) in
@@ -108,9 +113,12 @@ module _ (n c k : ℕ) where
           rows = lower-list i r d (rows_edit lower) (rows_edit sent) doc.rows.items after.rows.items l o.rows rows h.rows;
           cols = lower-list i r d (cols_edit lower) (cols_edit sent) doc.cols.items after.cols.items l o.cols cols h.cols;
           named =
-              subst (λ xs. NamesBy test xs (list_up_to i after.rows.items) (list_up_to i after.cols.items) lower own) (sym (same-below i (text_edit sent) doc.text.items after.text.items l' o.text text))
-              (subst (λ xs. NamesBy test (list_up_to i doc.text.items) xs (list_up_to i after.cols.items) lower own) (sym (same-below i (rows_edit sent) doc.rows.items after.rows.items l' o.rows rows))
-              (subst (λ xs. NamesBy test (list_up_to i doc.text.items) (list_up_to i doc.rows.items) xs lower own) (sym (same-below i (cols_edit sent) doc.cols.items after.cols.items l' o.cols cols)) h.named));
+              subst (λ xs. NamesBy test xs (list_up_to i after.rows.items) (list_up_to i after.cols.items) lower own)
+              (sym (same-below i (text_edit sent) doc.text.items after.text.items l' o.text text))
+              (subst (λ xs. NamesBy test (list_up_to i doc.text.items) xs (list_up_to i after.cols.items) lower own)
+              (sym (same-below i (rows_edit sent) doc.rows.items after.rows.items l' o.rows rows))
+              (subst (λ xs. NamesBy test (list_up_to i doc.text.items) (list_up_to i doc.rows.items) xs lower own)
+              (sym (same-below i (cols_edit sent) doc.cols.items after.cols.items l' o.cols cols)) h.named));
         }
 
     lower-stages : (j : ℕ) (ts : List ToldStage) → Rise j k ts → AllStand c doc ts → AllStand c after ts
@@ -129,29 +137,35 @@ module _ (n c k : ℕ) where
           rows = new-list (rows_edit sent) doc.rows.items after.rows.items o.rows rows;
           cols = new-list (cols_edit sent) doc.cols.items after.cols.items o.cols cols;
           named =
-              subst (λ xs. NamesBy test xs (list_up_to k after.rows.items) (list_up_to k after.cols.items) sent names) (sym (now-below (text_edit sent) doc.text.items after.text.items o.text text))
-              (subst (λ xs. NamesBy test doc.text.items xs (list_up_to k after.cols.items) sent names) (sym (now-below (rows_edit sent) doc.rows.items after.rows.items o.rows rows))
+              subst (λ xs. NamesBy test xs (list_up_to k after.rows.items) (list_up_to k after.cols.items) sent names)
+              (sym (now-below (text_edit sent) doc.text.items after.text.items o.text text))
+              (subst (λ xs. NamesBy test doc.text.items xs (list_up_to k after.cols.items) sent names)
+              (sym (now-below (rows_edit sent) doc.rows.items after.rows.items o.rows rows))
               (subst (λ xs. NamesBy test doc.text.items doc.rows.items xs sent names) (sym (now-below (cols_edit sent) doc.cols.items after.cols.items o.cols cols))
               (subst (λ ns. NamesBy test doc.text.items doc.rows.items doc.cols.items sent ns) (names-not_renamed names)
-              (names-as (seen k) test (λ x. x) doc.text.items doc.text.items doc.rows.items doc.rows.items doc.cols.items doc.cols.items (agree doc.text.items text) (agree doc.rows.items rows) (agree doc.cols.items cols) sent names o.named))));
+              (names-as (seen k) test (λ x. x) doc.text.items doc.text.items doc.rows.items doc.rows.items doc.cols.items doc.cols.items
+              (agree doc.text.items text) (agree doc.rows.items rows) (agree doc.cols.items cols) sent names o.named))));
         }
 
 numbers-append : (ts : List ToldStage) (g : ToldStage) → stage_numbers (ts ++ (g ∷ [])) ≡ stage_numbers ts ++ (suc g.before ∷ [])
 numbers-append [] g = refl
 numbers-append (t ∷ ts) g = ap (λ ks. suc t.before ∷ ks) (numbers-append ts g)
 
-within-step : (n k : ℕ) (edit : StageEdit) (ts : List ToldStage) (g : ToldStage) (xs ys : List ListElement) → g.before ≡ k → IsOwnStep k edit xs ys → list_all (is_within n (stage_numbers ts)) xs ≡ true
+within-step : (n k : ℕ) (edit : StageEdit) (ts : List ToldStage) (g : ToldStage) (xs ys : List ListElement) → g.before ≡ k → IsOwnStep k edit xs ys
+    → list_all (is_within n (stage_numbers ts)) xs ≡ true
     → list_all (is_within n (stage_numbers (ts ++ (g ∷ [])))) ys ≡ true
 within-step n k edit ts g xs ys e o h =
     ap (λ ks. list_all (is_within n ks) ys) (numbers-append ts g ∙ ap (λ i. stage_numbers ts ++ (suc i ∷ [])) e)
     ∙ ap (list_all (is_within n (stage_numbers ts ++ (suc k ∷ [])))) o.made
     ∙ within-own n k edit (stage_numbers ts) xs h
 
-order-step : (n c k : ℕ) (edit : StageEdit) (xs ys : List ListElement) → IsOwnStep k edit xs ys → list_all is_ordered xs ≡ true → list_all (is_current n c k) xs ≡ true → list_all is_ordered ys ≡ true
+order-step : (n c k : ℕ) (edit : StageEdit) (xs ys : List ListElement) → IsOwnStep k edit xs ys → list_all is_ordered xs ≡ true
+    → list_all (is_current n c k) xs ≡ true → list_all is_ordered ys ≡ true
 order-step n c k edit xs ys o h g = ap (list_all is_ordered) o.made ∙ ordered-own n c k edit xs o.one h g
 
 -- a stage of the client's own, whose message will have reference number n
-pub own-holds : (c n k : ℕ) (ts : List ToldStage) (stage : Stage) (sent : SentStage) (doc after : Document) → stage.stage ≡ suc k → Tells stage.sub_operation sent → IsOwn k sent stage.names doc after
+pub own-holds : (c n k : ℕ) (ts : List ToldStage) (stage : Stage) (sent : SentStage) (doc after : Document) → stage.stage ≡ suc k
+    → Tells stage.sub_operation sent → IsOwn k sent stage.names doc after
     → Holds c n n k ts doc → Holds c n n (suc k) (ts ++ (record { stage = stage; before = k; ref = n; sent = sent } ∷ [])) after
 own-holds c n k ts stage sent doc after e tells o h =
     let g : ToldStage = record { stage = stage; before = k; ref = n; sent = sent } in
@@ -168,6 +182,7 @@ own-holds c n k ts stage sent doc after e tells o h =
       text_order = order-step n c k (text_edit sent) doc.text.items after.text.items o.text h.text_order text;
       rows_order = order-step n c k (rows_edit sent) doc.rows.items after.rows.items o.rows h.rows_order rows;
       cols_order = order-step n c k (cols_edit sent) doc.cols.items after.cols.items o.cols h.cols_order cols;
-      stand = stand-append c after ts g (lower-stages n c k sent stage.names doc after o text rows cols 0 ts h.rising h.stand) (new-stage n c k sent stage.names doc after o text rows cols, tt);
+      stand = stand-append c after ts g (lower-stages n c k sent stage.names doc after o text rows cols 0 ts h.rising h.stand)
+          (new-stage n c k sent stage.names doc after o text rows cols, tt);
       sound = subst (λ d. IsSound d) (sym o.agrees) h.sound;
     }

@@ -29,7 +29,8 @@ abbrev pub left_changes : (SubOperation → Bool) → List Stage → ℕ → Lis
 left_changes annotates stages j e = list_all (left_change annotates stages j) e.pending
 
 module _ (inserts removes annotates : SubOperation → Bool) (t : Stage) (stages : List Stage) (j m : ℕ) (l : j < t.stage) (rise : StagesRiseTo t.stage stages m) where
-  other-stage : (kind : SubOperation → Bool) (i : ℕ) → nat_eq i t.stage ≡ false → nat_le i j || is_stage_of kind (t ∷ stages) i ≡ true → nat_le i j || is_stage_of kind stages i ≡ true
+  other-stage : (kind : SubOperation → Bool) (i : ℕ) → nat_eq i t.stage ≡ false → nat_le i j || is_stage_of kind (t ∷ stages) i ≡ true → nat_le i j
+      || is_stage_of kind stages i ≡ true
   other-stage kind i h g = step (nat_eq t.stage i) refl g
     where
       step : (b : Bool) → nat_eq t.stage i ≡ b → nat_le i j || ((b && kind t.sub_operation) || is_stage_of kind stages i) ≡ true → nat_le i j || is_stage_of kind stages i ≡ true
@@ -37,7 +38,8 @@ module _ (inserts removes annotates : SubOperation → Bool) (t : Stage) (stages
       step false e k = k
 
   -- an element that the stage neither inserts nor removes is seen as before
-  pub seen-untouched : (e : ListElement) → is_left inserts removes (t ∷ stages) j e ≡ true → is_inserted_by t.stage e ≡ false → is_removed_by t.stage e ≡ false → seen t.stage e ≡ seen j e
+  pub seen-untouched : (e : ListElement) → is_left inserts removes (t ∷ stages) j e ≡ true → is_inserted_by t.stage e ≡ false → is_removed_by t.stage e ≡ false
+      → seen t.stage e ≡ seen j e
   seen-untouched e h a b =
       let p = all_three (left_insertion inserts (t ∷ stages) j e.ins) (left_removal removes (t ∷ stages) j e.removal_stage) (list_all is_acked e.dels) h in
       seen-same inserts removes stages j t.stage m (omega arith) rise e (rw (insertion e.ins a p.0, removal e.removal_stage b p.1, p.2) refl)
@@ -63,7 +65,8 @@ module _ (inserts removes annotates : SubOperation → Bool) (t : Stage) (stages
 
   -- a stage that doesn't remove marks nothing as removed
   pub not-removed : removes t.sub_operation ≡ false → (e : ListElement) → is_left inserts removes (t ∷ stages) j e ≡ true → is_removed_by t.stage e ≡ false
-  not-removed k e h = removal e.removal_stage (all_three (left_insertion inserts (t ∷ stages) j e.ins) (left_removal removes (t ∷ stages) j e.removal_stage) (list_all is_acked e.dels) h).1
+  not-removed k e h = removal e.removal_stage (all_three (left_insertion inserts (t ∷ stages) j e.ins) (left_removal removes (t ∷ stages) j e.removal_stage)
+      (list_all is_acked e.dels) h).1
     where
       removal : (o : Option ℕ) → left_removal removes (t ∷ stages) j o ≡ true → list_any (is_of_stage t.stage) (removal_stamp o) ≡ false
       removal None h = refl
@@ -118,16 +121,19 @@ module _ (inserts removes annotates : SubOperation → Bool) (t : Stage) (stages
       rw (same_reach q.0 p.0, filter-same qs p.1) refl
 
   -- where the stage has no changes of the element, the changes up to it are those before
-  pub changes-same : (e : ListElement) → left_changes annotates (t ∷ stages) j e ≡ true → is_annotated_by t.stage e ≡ false → pending_up_to t.stage e.pending ≡ pending_up_to j e.pending
+  pub changes-same : (e : ListElement) → left_changes annotates (t ∷ stages) j e ≡ true → is_annotated_by t.stage e ≡ false → pending_up_to t.stage e.pending
+      ≡ pending_up_to j e.pending
   changes-same e h a = filter-same e.pending (others e.pending h a)
     where
-      others : (qs : List (ℕ × Changes)) → list_all (left_change annotates (t ∷ stages) j) qs ≡ true → list_any (λ q. nat_eq q.0 t.stage) qs ≡ false → list_all (left_change annotates stages j) qs ≡ true
+      others : (qs : List (ℕ × Changes)) → list_all (left_change annotates (t ∷ stages) j) qs ≡ true → list_any (λ q. nat_eq q.0 t.stage) qs ≡ false
+          → list_all (left_change annotates stages j) qs ≡ true
       others [] h a = refl
       others (q ∷ qs) h a =
           let p = both (left_change annotates (t ∷ stages) j q) (list_all (left_change annotates (t ∷ stages) j) qs) h in
           step (nat_eq q.0 t.stage) refl a p.0 (others qs p.1)
         where
-          step : (b : Bool) → nat_eq q.0 t.stage ≡ b → b || list_any (λ q. nat_eq q.0 t.stage) qs ≡ false → left_change annotates (t ∷ stages) j q ≡ true → (list_any (λ q. nat_eq q.0 t.stage) qs ≡ false → list_all (left_change annotates stages j) qs ≡ true)
+          step : (b : Bool) → nat_eq q.0 t.stage ≡ b → b || list_any (λ q. nat_eq q.0 t.stage) qs ≡ false → left_change annotates (t ∷ stages) j q ≡ true
+              → (list_any (λ q. nat_eq q.0 t.stage) qs ≡ false → list_all (left_change annotates stages j) qs ≡ true)
               → left_change annotates stages j q && list_all (left_change annotates stages j) qs ≡ true
           step true e a h g = (cc)
           step false e a h g = rw (other-stage annotates q.0 e h, g a) refl
@@ -156,8 +162,10 @@ module _ (inserts removes annotates : SubOperation → Bool) (t : Stage) (stages
 
   -- ---- the list up to the stage
 
-  pub inserted-left : (xs : List ListElement) → list_all (is_left inserts removes (t ∷ stages) j) xs ≡ true → (i : ℕ) → j < i → i ≤ t.stage → is_stage_of inserts (t ∷ []) i ≡ false → list_any (is_inserted_by i) xs ≡ false
-  inserted-left xs h i a b k = none-passes (is_left inserts removes (t ∷ stages) j) (is_inserted_by i) (λ e g. by_stamp e.ins (all_three (left_insertion inserts (t ∷ stages) j e.ins) (left_removal removes (t ∷ stages) j e.removal_stage) (list_all is_acked e.dels) g).0) xs h
+  pub inserted-left : (xs : List ListElement) → list_all (is_left inserts removes (t ∷ stages) j) xs ≡ true → (i : ℕ) → j < i → i ≤ t.stage
+      → is_stage_of inserts (t ∷ []) i ≡ false → list_any (is_inserted_by i) xs ≡ false
+  inserted-left xs h i a b k = none-passes (is_left inserts removes (t ∷ stages) j) (is_inserted_by i)
+      (λ e g. by_stamp e.ins (all_three (left_insertion inserts (t ∷ stages) j e.ins) (left_removal removes (t ∷ stages) j e.removal_stage) (list_all is_acked e.dels) g).0) xs h
     where
       by_stamp : (s : Stamp) → left_insertion inserts (t ∷ stages) j s ≡ true → is_of_stage i s ≡ false
       by_stamp (Acked s c) g = refl
@@ -171,7 +179,8 @@ module _ (inserts removes annotates : SubOperation → Bool) (t : Stage) (stages
           none q =
               let u : nat_le o j ≡ false = grind (arith, nat_tests) in
               let v : is_stage_of inserts stages o ≡ false = later-stage inserts o (omega arith) in
-              let w : nat_eq t.stage o && inserts t.sub_operation ≡ false = subst (λ z. nat_eq t.stage z && inserts t.sub_operation ≡ false) (sym q) (first (nat_eq t.stage i && inserts t.sub_operation) k) in
+              let w : nat_eq t.stage o && inserts t.sub_operation ≡ false = subst (λ z. nat_eq t.stage z && inserts t.sub_operation ≡ false) (sym q)
+              (first (nat_eq t.stage i && inserts t.sub_operation) k) in
               rw (u, w, v) at g
 
           step : (b : Bool) → nat_eq o i ≡ b → b ≡ false
@@ -187,7 +196,8 @@ module _ (inserts removes annotates : SubOperation → Bool) (t : Stage) (stages
   pub list-same : inserts t.sub_operation ≡ false → (xs : List ListElement) → list_all (is_left inserts removes (t ∷ stages) j) xs ≡ true → stage_list xs t.stage ≡ stage_list xs j
   list-same k xs h =
       sym (list-next xs h)
-      ∙ ap (λ new. put (seen (t.stage - 1)) no_run (stage_position t.stage xs) new (stage_list xs j)) (filter-none (is_inserted_by t.stage) xs (inserted-left xs h t.stage l (omega arith) (rw (k, none (nat_eq t.stage t.stage)) refl)))
+      ∙ ap (λ new. put (seen (t.stage - 1)) no_run (stage_position t.stage xs) new (stage_list xs j))
+      (filter-none (is_inserted_by t.stage) xs (inserted-left xs h t.stage l (omega arith) (rw (k, none (nat_eq t.stage t.stage)) refl)))
       ∙ put-nothing (seen (t.stage - 1)) (stage_position t.stage xs) (stage_list xs j)
     where
       none : (b : Bool) → b && false ≡ false
@@ -215,7 +225,8 @@ module _ (inserts removes annotates : SubOperation → Bool) (t : Stage) (stages
       apart k b = grind (arith, nat_tests)
 
   -- the changes of a stage come behind those before it
-  pub changes-added : (c : Changes) (qs : List (ℕ × Changes)) → StagesRise qs → list_all (left_change annotates (t ∷ stages) j) qs ≡ true → Each (λ q. nat_eq q.0 t.stage ≡ true → q.1 ≡ c) qs
+  pub changes-added : (c : Changes) (qs : List (ℕ × Changes)) → StagesRise qs → list_all (left_change annotates (t ∷ stages) j) qs ≡ true
+      → Each (λ q. nat_eq q.0 t.stage ≡ true → q.1 ≡ c) qs
       → list_any (λ q. nat_eq q.0 t.stage) qs ≡ true → pending_up_to t.stage qs ≡ pending_up_to j qs ++ ((t.stage, c) ∷ [])
   changes-added c [] r h e a = (cc)
   changes-added c (q ∷ qs) r h e a =
@@ -246,7 +257,8 @@ module _ (inserts removes annotates : SubOperation → Bool) (t : Stage) (stages
           second true b e h = refl
           second false b e h = cc
 
-      step : (b : Bool) → nat_eq q.0 t.stage ≡ b → b || list_any (λ q. nat_eq q.0 t.stage) qs ≡ true → (list_any (λ q. nat_eq q.0 t.stage) qs ≡ true → pending_up_to t.stage qs ≡ pending_up_to j qs ++ ((t.stage, c) ∷ []))
+      step : (b : Bool) → nat_eq q.0 t.stage ≡ b → b || list_any (λ q. nat_eq q.0 t.stage) qs ≡ true
+          → (list_any (λ q. nat_eq q.0 t.stage) qs ≡ true → pending_up_to t.stage qs ≡ pending_up_to j qs ++ ((t.stage, c) ∷ []))
           → pending_up_to t.stage (q ∷ qs) ≡ pending_up_to j (q ∷ qs) ++ ((t.stage, c) ∷ [])
       step true g k f = here g
       step false g k f =

@@ -41,10 +41,12 @@ runs-view : (i : ℕ) (see is_marked : ListElement → Bool) (xs : List ListElem
 runs-view i see is_marked [] = refl
 runs-view i see is_marked (e ∷ xs) = step (see e) refl (runs-view (suc i) see is_marked xs) (runs-view i see is_marked xs)
   where
-    step : (b : Bool) → see e ≡ b → marked_runs_from (suc i) see is_marked (filter see xs) ≡ marked_runs_from (suc i) see is_marked xs → marked_runs_from i see is_marked (filter see xs) ≡ marked_runs_from i see is_marked xs
+    step : (b : Bool) → see e ≡ b → marked_runs_from (suc i) see is_marked (filter see xs) ≡ marked_runs_from (suc i) see is_marked xs
+        → marked_runs_from i see is_marked (filter see xs) ≡ marked_runs_from i see is_marked xs
         → marked_runs_from i see is_marked (cond b (e ∷ filter see xs) (filter see xs)) ≡ marked_runs_from i see is_marked (e ∷ xs)
     step true h p q =
-        ap (λ b. cond (b && is_marked e) (extended_runs i (marked_runs_from (one_more_if b i) see is_marked (filter see xs))) (marked_runs_from (one_more_if b i) see is_marked (filter see xs))) h
+        ap (λ b. cond (b && is_marked e) (extended_runs i (marked_runs_from (one_more_if b i) see is_marked (filter see xs)))
+        (marked_runs_from (one_more_if b i) see is_marked (filter see xs))) h
         ∙ ap (λ rs. cond (is_marked e) (extended_runs i rs) rs) p
         ∙ sym (ap (λ b. cond (b && is_marked e) (extended_runs i (marked_runs_from (one_more_if b i) see is_marked xs)) (marked_runs_from (one_more_if b i) see is_marked xs)) h)
     step false h p q =
@@ -71,7 +73,8 @@ len-same : (see see' : ListElement → Bool) (xs : List ListElement) → Each (�
 len-same see see' [] h = refl
 len-same see see' (e ∷ xs) h = rw (h.0, len-same see see' xs h.1) refl
 
-module _ (inserts removes annotates : SubOperation → Bool) (t : Stage) (stages : List Stage) (j m : ℕ) (l : j < t.stage) (rise : StagesRiseTo t.stage stages m) (xs : List ListElement)
+module _ (inserts removes annotates : SubOperation → Bool) (t : Stage) (stages : List Stage) (j m : ℕ) (l : j < t.stage) (rise : StagesRiseTo t.stage stages m)
+    (xs : List ListElement)
     (left : list_all (is_left inserts removes (t ∷ stages) j) xs ≡ true) (changes : list_all (left_changes annotates (t ∷ stages) j) xs ≡ true)
     (views : (i k : ℕ) → k ≤ i → filter (seen k) (stage_list xs i) ≡ filter (seen k) xs) where
   -- what is known of each element of the list up to the stage before
@@ -98,8 +101,10 @@ module _ (inserts removes annotates : SubOperation → Bool) (t : Stage) (stages
 
   each-ahead : Each IsAhead (stage_list xs j)
   each-ahead =
-      each-both (λ e. (is_left inserts removes (t ∷ stages) j e ≡ true) × (left_changes annotates (t ∷ stages) j e ≡ true)) (λ e. is_inserted_by t.stage e ≡ false) IsAhead (λ e a b. record { still = a.0; pending = a.1; absent = b }) (stage_list xs j)
-      (each-both (λ e. is_left inserts removes (t ∷ stages) j e ≡ true) (λ e. left_changes annotates (t ∷ stages) j e ≡ true) (λ e. (is_left inserts removes (t ∷ stages) j e ≡ true) × (left_changes annotates (t ∷ stages) j e ≡ true)) (λ e a b. (a, b)) (stage_list xs j)
+      each-both (λ e. (is_left inserts removes (t ∷ stages) j e ≡ true) × (left_changes annotates (t ∷ stages) j e ≡ true))
+      (λ e. is_inserted_by t.stage e ≡ false) IsAhead (λ e a b. record { still = a.0; pending = a.1; absent = b }) (stage_list xs j)
+      (each-both (λ e. is_left inserts removes (t ∷ stages) j e ≡ true) (λ e. left_changes annotates (t ∷ stages) j e ≡ true)
+      (λ e. (is_left inserts removes (t ∷ stages) j e ≡ true) × (left_changes annotates (t ∷ stages) j e ≡ true)) (λ e a b. (a, b)) (stage_list xs j)
       (each-all (is_left inserts removes (t ∷ stages) j) (stage_list xs j) (all-rebuilt xs (is_left inserts removes (t ∷ stages) j) carried-left left j))
       (each-all (left_changes annotates (t ∷ stages) j) (stage_list xs j) (all-rebuilt xs (left_changes annotates (t ∷ stages) j) carried-changes changes j)))
       (each-none (is_inserted_by t.stage) (stage_list xs j) (later-absent xs j t.stage l))
@@ -111,15 +116,18 @@ module _ (inserts removes annotates : SubOperation → Bool) (t : Stage) (stages
   len-before : len (seen j) (stage_list xs j) ≡ len (seen (t.stage - 1)) xs
   len-before =
       len-view (seen j) (stage_list xs j) ∙ ap length (views j j (omega arith)) ∙ sym (len-view (seen j) xs)
-      ∙ sym (len-same (seen (t.stage - 1)) (seen j) xs (each-with (λ e. is_left inserts removes (t ∷ stages) j e ≡ true) (λ e. seen (t.stage - 1) e ≡ seen j e) (λ e h. seen-before inserts removes annotates t stages j m l rise e h) xs (each-all (is_left inserts removes (t ∷ stages) j) xs left)))
+      ∙ sym (len-same (seen (t.stage - 1)) (seen j) xs (each-with (λ e. is_left inserts removes (t ∷ stages) j e ≡ true) (λ e. seen (t.stage - 1) e ≡ seen j e)
+      (λ e h. seen-before inserts removes annotates t stages j m l rise e h) xs (each-all (is_left inserts removes (t ∷ stages) j) xs left)))
 
   -- a stage that touches nothing changes nothing that is seen
   pub same-view : inserts t.sub_operation ≡ false → removes t.sub_operation ≡ false → Each (λ e. seen (t.stage - 1) e ≡ seen t.stage e) xs
   same-view i r =
       each-both (λ e. is_left inserts removes (t ∷ stages) j e ≡ true) (λ e. is_inserted_by t.stage e ≡ false) (λ e. seen (t.stage - 1) e ≡ seen t.stage e)
-      (λ e h a. seen-before inserts removes annotates t stages j m l rise e h ∙ sym (seen-untouched inserts removes annotates t stages j m l rise e h a (not-removed inserts removes annotates t stages j m l rise r e h))) xs
+      (λ e h a. seen-before inserts removes annotates t stages j m l rise e h
+      ∙ sym (seen-untouched inserts removes annotates t stages j m l rise e h a (not-removed inserts removes annotates t stages j m l rise r e h))) xs
       (each-all (is_left inserts removes (t ∷ stages) j) xs left)
-      (each-none (is_inserted_by t.stage) xs (inserted-left inserts removes annotates t stages j m l rise xs left t.stage l (omega arith) (rw (i, none (nat_eq t.stage t.stage)) refl)))
+      (each-none (is_inserted_by t.stage) xs (inserted-left inserts removes annotates t stages j m l rise xs left t.stage l (omega arith)
+      (rw (i, none (nat_eq t.stage t.stage)) refl)))
     where
       none : (b : Bool) → b && false ≡ false
       none true = refl
@@ -130,14 +138,16 @@ module _ (inserts removes annotates : SubOperation → Bool) (t : Stage) (stages
     pub len-beside : (ds : List ListElement) → Beside n conn made j (stage_list xs j) ds → len (seen_by n conn) ds ≡ len (seen (t.stage - 1)) xs
     len-beside ds b =
         ap (len (seen_by n conn)) (sym b.right)
-        ∙ len-map (λ p. p.1) (λ p. seen j p.0) (seen_by n conn) b.pairs (each-with (Image n conn made j) (λ p. seen_by n conn p.1 ≡ seen j p.0) (λ p i. i.perspective) b.pairs b.images)
+        ∙ len-map (λ p. p.1) (λ p. seen j p.0) (seen_by n conn) b.pairs (each-with (Image n conn made j) (λ p. seen_by n conn p.1 ≡ seen j p.0)
+        (λ p i. i.perspective) b.pairs b.images)
         ∙ sym (len-map (λ p. p.0) (λ p. seen j p.0) (seen j) b.pairs (each-with (Image n conn made j) (λ p. seen j p.0 ≡ seen j p.0) (λ p i. refl) b.pairs b.images))
         ∙ ap (len (seen j)) b.left
         ∙ len-before
 
     -- so the place of an insertion is in range
     pub place-fits : (ds : List ListElement) → Beside n conn made j (stage_list xs j) ds → nat_le (stage_position t.stage xs) (len (seen_by n conn) ds) ≡ true
-    place-fits ds b = fits (stage_position t.stage xs) (len (seen_by n conn) ds) (let h : stage_position t.stage xs ≤ len (seen (t.stage - 1)) xs = rank-len (is_inserted_by t.stage) (seen (t.stage - 1)) xs in let e = len-beside ds b in omega arith)
+    place-fits ds b = fits (stage_position t.stage xs) (len (seen_by n conn) ds)
+        (let h : stage_position t.stage xs ≤ len (seen (t.stage - 1)) xs = rank-len (is_inserted_by t.stage) (seen (t.stage - 1)) xs in let e = len-beside ds b in omega arith)
       where
         fits : (p q : ℕ) → p ≤ q → nat_le p q ≡ true
         fits p q h = grind (arith, nat_tests)
@@ -149,7 +159,8 @@ module _ (inserts removes annotates : SubOperation → Bool) (t : Stage) (stages
     }
 
     -- a stage of none of these kinds
-    pub untouched : inserts t.sub_operation ≡ false → removes t.sub_operation ≡ false → annotates t.sub_operation ≡ false → (ds : List ListElement) (b : Beside n conn made j (stage_list xs j) ds) → Onward n conn made j t.stage b (stage_list xs t.stage) ds
+    pub untouched : inserts t.sub_operation ≡ false → removes t.sub_operation ≡ false → annotates t.sub_operation ≡ false
+        → (ds : List ListElement) (b : Beside n conn made j (stage_list xs j) ds) → Onward n conn made j t.stage b (stage_list xs t.stage) ds
     untouched i r c ds b =
         subst (λ us. Onward n conn made j t.stage b us ds) (sym (list-same inserts removes annotates t stages j m l rise i xs left))
         (beside-same n conn made j t.stage (each-with IsAhead (SameAt n conn made j t.stage) (same-ahead r c) (stage_list xs j) each-ahead) b)
@@ -180,7 +191,8 @@ module _ (inserts removes annotates : SubOperation → Bool) (t : Stage) (stages
             apart : (i : ℕ) → nat_lt k i ≡ true → nat_le i k ≡ false
             apart i h = grind (arith, nat_tests)
 
-        by_stamp : (s : Stamp) → e.ins ≡ s → is_of_stage t.stage s ≡ true → (elim s [ Acked r c ↦ true | Local i ↦ has_none e.dels && is_removed_after i e.removal_stage && list_all (λ q. nat_lt i q.0) e.pending ]) ≡ true → IsNew n conn made t.stage e
+        by_stamp : (s : Stamp) → e.ins ≡ s → is_of_stage t.stage s ≡ true → (elim s
+            [ Acked r c ↦ true | Local i ↦ has_none e.dels && is_removed_after i e.removal_stage && list_all (λ q. nat_lt i q.0) e.pending ]) ≡ true → IsNew n conn made t.stage e
         by_stamp (Acked r c) q h k = absurd cc
         by_stamp (Local i) q h k =
             let same : i ≡ t.stage = grind (arith, nat_tests) in
@@ -202,32 +214,41 @@ module _ (inserts removes annotates : SubOperation → Bool) (t : Stage) (stages
         let p = both (is_marked_later e) (list_all is_marked_later ys) h in
         step (is_inserted_by t.stage e) refl p.0 (block-new ys p.1)
       where
-        step : (b : Bool) → is_inserted_by t.stage e ≡ b → is_marked_later e ≡ true → Each (IsNew n conn made t.stage) (filter (is_inserted_by t.stage) ys) → Each (IsNew n conn made t.stage) (cond b (e ∷ filter (is_inserted_by t.stage) ys) (filter (is_inserted_by t.stage) ys))
+        step : (b : Bool) → is_inserted_by t.stage e ≡ b → is_marked_later e ≡ true → Each (IsNew n conn made t.stage) (filter (is_inserted_by t.stage) ys)
+            → Each (IsNew n conn made t.stage) (cond b (e ∷ filter (is_inserted_by t.stage) ys) (filter (is_inserted_by t.stage) ys))
         step true q h g = (new-element e q h, g)
         step false q h g = g
 
     -- a stage that inserts
-    pub inserted : removes t.sub_operation ≡ false → annotates t.sub_operation ≡ false → list_all is_marked_later xs ≡ true → (s : ℕ) (by : Option Stamp) (props : PropertyList) (bs : List ElementContent) → IsBlockOf props bs (filter (is_inserted_by t.stage) xs)
+    pub inserted : removes t.sub_operation ≡ false → annotates t.sub_operation ≡ false → list_all is_marked_later xs ≡ true
+        → (s : ℕ) (by : Option Stamp) (props : PropertyList) (bs : List ElementContent) → IsBlockOf props bs (filter (is_inserted_by t.stage) xs)
         → (list : Sequence) → made ≤ list.made → (b : Beside n conn made j (stage_list xs j) list.items)
         → Onward n conn made j t.stage b (stage_list xs t.stage) (after_insertion s conn n (stage_position t.stage xs) by props bs list).items
     inserted r c later s by props bs isblock list more b =
-        subst (λ us. Onward n conn made j t.stage b us (after_insertion s conn n (stage_position t.stage xs) by props bs list).items) (list-next inserts removes annotates t stages j m l rise xs left)
+        subst (λ us. Onward n conn made j t.stage b us (after_insertion s conn n (stage_position t.stage xs) by props bs list).items)
+        (list-next inserts removes annotates t stages j m l rise xs left)
         (beside-insertion n conn made j t.stage s (stage_position t.stage xs) by props bs (filter (is_inserted_by t.stage) xs) (stage_list xs j) list
-        (each-with IsAhead (SameAt n conn made j t.stage) (same-ahead r c) (stage_list xs j) each-ahead) (each-with IsAhead (λ e. seen (t.stage - 1) e ≡ seen j e) before (stage_list xs j) each-ahead) more isblock (block-new xs later) b)
+        (each-with IsAhead (SameAt n conn made j t.stage) (same-ahead r c) (stage_list xs j) each-ahead)
+        (each-with IsAhead (λ e. seen (t.stage - 1) e ≡ seen j e) before (stage_list xs j) each-ahead) more isblock (block-new xs later) b)
 
     -- the runs of a stage are the same in the list up to it
-    runs-same : inserts t.sub_operation ≡ false → (is_marked : ListElement → Bool) → marked_runs_from 0 (seen (t.stage - 1)) is_marked (stage_list xs j) ≡ marked_runs t.stage is_marked xs
+    runs-same : inserts t.sub_operation ≡ false → (is_marked : ListElement → Bool) → marked_runs_from 0 (seen (t.stage - 1)) is_marked (stage_list xs j)
+        ≡ marked_runs t.stage is_marked xs
     runs-same i is_marked =
         sym (runs-view 0 (seen (t.stage - 1)) is_marked (stage_list xs j))
-        ∙ ap (marked_runs_from 0 (seen (t.stage - 1)) is_marked) (ap (filter (seen (t.stage - 1))) (sym (list-same inserts removes annotates t stages j m l rise i xs left)) ∙ views t.stage (t.stage - 1) (omega arith))
+        ∙ ap (marked_runs_from 0 (seen (t.stage - 1)) is_marked) (ap (filter (seen (t.stage - 1)))
+        (sym (list-same inserts removes annotates t stages j m l rise i xs left)) ∙ views t.stage (t.stage - 1) (omega arith))
         ∙ runs-view 0 (seen (t.stage - 1)) is_marked xs
 
     -- a stage that removes
     pub removed : inserts t.sub_operation ≡ false → annotates t.sub_operation ≡ false → (s : ℕ) (ds : List ListElement) (b : Beside n conn made j (stage_list xs j) ds)
-        → Onward n conn made j t.stage b (stage_list xs t.stage) (change_runs (seen_by n conn) (with_removal s conn) (lowered_runs 0 (marked_runs t.stage (is_removed_by t.stage) xs)) ds)
+        → Onward n conn made j t.stage b (stage_list xs t.stage) (change_runs (seen_by n conn) (with_removal s conn)
+        (lowered_runs 0 (marked_runs t.stage (is_removed_by t.stage) xs)) ds)
     removed i c s ds b =
-        subst (λ us. Onward n conn made j t.stage b us (change_runs (seen_by n conn) (with_removal s conn) (lowered_runs 0 (marked_runs t.stage (is_removed_by t.stage) xs)) ds)) (sym (list-same inserts removes annotates t stages j m l rise i xs left))
-        (subst (λ rs. Onward n conn made j t.stage b (stage_list xs j) (change_runs (seen_by n conn) (with_removal s conn) (lowered_runs 0 rs) ds)) (runs-same i (is_removed_by t.stage))
+        subst (λ us. Onward n conn made j t.stage b us (change_runs (seen_by n conn) (with_removal s conn)
+        (lowered_runs 0 (marked_runs t.stage (is_removed_by t.stage) xs)) ds)) (sym (list-same inserts removes annotates t stages j m l rise i xs left))
+        (subst (λ rs. Onward n conn made j t.stage b (stage_list xs j) (change_runs (seen_by n conn) (with_removal s conn) (lowered_runs 0 rs) ds))
+        (runs-same i (is_removed_by t.stage))
         (beside-removal n conn made j t.stage s (stage_list xs j) ds
         (each-with IsAhead (RemovedAt n conn made j t.stage) (λ e a. record {
           before = before e a;
@@ -236,11 +257,13 @@ module _ (inserts removes annotates : SubOperation → Bool) (t : Stage) (stages
         }) (stage_list xs j) each-ahead) b))
 
     -- a stage that annotates
-    pub annotated : inserts t.sub_operation ≡ false → removes t.sub_operation ≡ false → (c : Changes) → Each (λ e. StagesRise e.pending × Each (λ q. nat_eq q.0 t.stage ≡ true → q.1 ≡ c) e.pending) (stage_list xs j)
+    pub annotated : inserts t.sub_operation ≡ false → removes t.sub_operation ≡ false → (c : Changes)
+        → Each (λ e. StagesRise e.pending × Each (λ q. nat_eq q.0 t.stage ≡ true → q.1 ≡ c) e.pending) (stage_list xs j)
         → (ds : List ListElement) (b : Beside n conn made j (stage_list xs j) ds)
         → Onward n conn made j t.stage b (stage_list xs t.stage) (change_runs (seen_by n conn) (with_annotation c) (marked_runs t.stage (is_annotated_by t.stage) xs) ds)
     annotated i r c typed ds b =
-        subst (λ us. Onward n conn made j t.stage b us (change_runs (seen_by n conn) (with_annotation c) (marked_runs t.stage (is_annotated_by t.stage) xs) ds)) (sym (list-same inserts removes annotates t stages j m l rise i xs left))
+        subst (λ us. Onward n conn made j t.stage b us (change_runs (seen_by n conn) (with_annotation c) (marked_runs t.stage (is_annotated_by t.stage) xs)
+        ds)) (sym (list-same inserts removes annotates t stages j m l rise i xs left))
         (subst (λ rs. Onward n conn made j t.stage b (stage_list xs j) (change_runs (seen_by n conn) (with_annotation c) rs ds)) (runs-same i (is_annotated_by t.stage))
         (beside-annotation n conn made j t.stage c (stage_list xs j) ds
         (each-both IsAhead (λ e. StagesRise e.pending × Each (λ q. nat_eq q.0 t.stage ≡ true → q.1 ≡ c) e.pending) (AnnotatedAt n conn made j t.stage c) (λ e a u. record {

@@ -21,7 +21,8 @@ apart-weaker i j ((a, b) ∷ runs) l h =
     let there : i ≤ a = omega arith in
     (there, h.1, h.2)
 
-extended-choice : (i a b : ℕ) (runs : List (ℕ × ℕ)) (m : Bool) → nat_eq a (i + 1) ≡ m → AreApart (suc i) ((a, b) ∷ runs) → AreApart i (cond m ((i, b) ∷ runs) ((i, i + 1) ∷ (a, b) ∷ runs))
+extended-choice : (i a b : ℕ) (runs : List (ℕ × ℕ)) (m : Bool) → nat_eq a (i + 1) ≡ m → AreApart (suc i) ((a, b) ∷ runs)
+    → AreApart i (cond m ((i, b) ∷ runs) ((i, i + 1) ∷ (a, b) ∷ runs))
 extended-choice i a b runs true e h =
     let l : suc i ≤ a = h.0 in
     let k : a < b = h.1 in
@@ -91,22 +92,27 @@ abbrev pub fit_from : ℕ → (ListElement → Bool) → (ListElement → ListEl
 fit_from o test g [] ys = true
 fit_from o test g ((p, q) ∷ ranges) ys = nat_le q (o + len test ys) && fit_from o test g ranges (change_range_from o test p q g ys)
 
-pub ranges-from-first : (test : ListElement → Bool) (g : ListElement → ListElement) (ranges : List (ℕ × ℕ)) (ys : List ListElement) → change_ranges test g ranges ys ≡ ranges_from 0 test g ranges ys
+pub ranges-from-first : (test : ListElement → Bool) (g : ListElement → ListElement) (ranges : List (ℕ × ℕ)) (ys : List ListElement)
+    → change_ranges test g ranges ys ≡ ranges_from 0 test g ranges ys
 ranges-from-first test g [] ys = refl
 ranges-from-first test g ((p, q) ∷ ranges) ys = ranges-from-first test g ranges (change_range test p q g ys)
 
-pub fit-from-first : (test : ListElement → Bool) (g : ListElement → ListElement) (ranges : List (ℕ × ℕ)) (ys : List ListElement) → ranges_fit test g ranges ys ≡ fit_from 0 test g ranges ys
+pub fit-from-first : (test : ListElement → Bool) (g : ListElement → ListElement) (ranges : List (ℕ × ℕ)) (ys : List ListElement) → ranges_fit test g ranges ys
+    ≡ fit_from 0 test g ranges ys
 fit-from-first test g [] ys = refl
 fit-from-first test g ((p, q) ∷ ranges) ys =
     let none : len test ys ≡ 0 + len test ys = omega arith in
-    ap (λ n. nat_le q n && ranges_fit test g ranges (change_range test p q g ys)) none ∙ ap (λ b. nat_le q (0 + len test ys) && b) (fit-from-first test g ranges (change_range test p q g ys))
+    ap (λ n. nat_le q n && ranges_fit test g ranges (change_range test p q g ys)) none
+    ∙ ap (λ b. nat_le q (0 + len test ys) && b) (fit-from-first test g ranges (change_range test p q g ys))
 
 module _ (test : ListElement → Bool) (g : ListElement → ListElement) where
   -- an element that isn't seen
-  skip-unseen : (o : ℕ) (y : ListElement) (ys : List ListElement) (ranges : List (ℕ × ℕ)) → test y ≡ false → ranges_from o test g ranges (y ∷ ys) ≡ y ∷ ranges_from o test g ranges ys
+  skip-unseen : (o : ℕ) (y : ListElement) (ys : List ListElement) (ranges : List (ℕ × ℕ)) → test y ≡ false → ranges_from o test g ranges (y ∷ ys)
+      ≡ y ∷ ranges_from o test g ranges ys
   skip-unseen o y ys [] h = refl
   skip-unseen o y ys ((p, q) ∷ ranges) h =
-      ap (λ b. ranges_from o test g ranges (cond (b && within p q o) (g y) y ∷ change_range_from (one_more_if b o) test p q g ys)) h ∙ skip-unseen o y (change_range_from o test p q g ys) ranges h
+      ap (λ b. ranges_from o test g ranges (cond (b && within p q o) (g y) y ∷ change_range_from (one_more_if b o) test p q g ys)) h
+      ∙ skip-unseen o y (change_range_from o test p q g ys) ranges h
 
   fit-unseen : (o : ℕ) (y : ListElement) (ys : List ListElement) (ranges : List (ℕ × ℕ)) → test y ≡ false → fit_from o test g ranges (y ∷ ys) ≡ fit_from o test g ranges ys
   fit-unseen o y ys [] h = refl
@@ -118,14 +124,16 @@ module _ (test : ListElement → Bool) (g : ListElement → ListElement) where
   not-within o p q l = grind (arith, nat_tests)
 
   -- a seen element before all ranges
-  skip-before : (o : ℕ) (y : ListElement) (ys : List ListElement) (ranges : List (ℕ × ℕ)) → test y ≡ true → AreFrom (suc o) ranges → ranges_from o test g ranges (y ∷ ys) ≡ y ∷ ranges_from (suc o) test g ranges ys
+  skip-before : (o : ℕ) (y : ListElement) (ys : List ListElement) (ranges : List (ℕ × ℕ)) → test y ≡ true → AreFrom (suc o) ranges
+      → ranges_from o test g ranges (y ∷ ys) ≡ y ∷ ranges_from (suc o) test g ranges ys
   skip-before o y ys [] h f = refl
   skip-before o y ys ((p, q) ∷ ranges) h f =
       ap (λ b. ranges_from o test g ranges (cond (b && within p q o) (g y) y ∷ change_range_from (one_more_if b o) test p q g ys)) h
       ∙ ap (λ b. ranges_from o test g ranges (cond b (g y) y ∷ change_range_from (suc o) test p q g ys)) (not-within o p q f.0)
       ∙ skip-before o y (change_range_from (suc o) test p q g ys) ranges h f.1
 
-  fit-before : (o : ℕ) (y : ListElement) (ys : List ListElement) (ranges : List (ℕ × ℕ)) → test y ≡ true → AreFrom (suc o) ranges → fit_from o test g ranges (y ∷ ys) ≡ fit_from (suc o) test g ranges ys
+  fit-before : (o : ℕ) (y : ListElement) (ys : List ListElement) (ranges : List (ℕ × ℕ)) → test y ≡ true → AreFrom (suc o) ranges
+      → fit_from o test g ranges (y ∷ ys) ≡ fit_from (suc o) test g ranges ys
   fit-before o y ys [] h f = refl
   fit-before o y ys ((p, q) ∷ ranges) h f =
       let next : o + suc (len test ys) ≡ suc o + len test ys = omega arith in
@@ -143,7 +151,8 @@ module _ (test : ListElement → Bool) (g : ListElement → ListElement) where
       more true = omega arith
       more false = l
 
-      over-step : (b w : Bool) → w ≡ false → change_range_from (one_more_if (test y) o) test p q g ys ≡ ys → cond (b && w) (g y) y ∷ change_range_from (one_more_if (test y) o) test p q g ys ≡ y ∷ ys
+      over-step : (b w : Bool) → w ≡ false → change_range_from (one_more_if (test y) o) test p q g ys ≡ ys
+          → cond (b && w) (g y) y ∷ change_range_from (one_more_if (test y) o) test p q g ys ≡ y ∷ ys
       over-step true true e ih = (cc)
       over-step true false e ih = ap (λ zs. y ∷ zs) ih
       over-step false w e ih = ap (λ zs. y ∷ zs) ih
@@ -162,7 +171,8 @@ module _ (test : ListElement → Bool) (g : ListElement → ListElement) where
   is-within o p q l k = grind (arith, nat_tests)
 
   -- the range changes a seen element at its place
-  head-changed : (o p q : ℕ) (y : ListElement) (ys : List ListElement) → test y ≡ true → p ≤ o → o < q → change_range_from o test p q g (y ∷ ys) ≡ g y ∷ change_range_from (suc o) test p q g ys
+  head-changed : (o p q : ℕ) (y : ListElement) (ys : List ListElement) → test y ≡ true → p ≤ o → o < q → change_range_from o test p q g (y ∷ ys)
+      ≡ g y ∷ change_range_from (suc o) test p q g ys
   head-changed o p q y ys h l k =
       ap (λ b. cond (b && within p q o) (g y) y ∷ change_range_from (one_more_if b o) test p q g ys) h
       ∙ ap (λ b. cond b (g y) y ∷ change_range_from (suc o) test p q g ys) (is-within o p q l k)
@@ -190,7 +200,8 @@ module _ (test : ListElement → Bool) (g f h : ListElement → ListElement) (se
     fits = fit-unseen test g o (f x) (map f zs) ranges e ∙ m.fits;
   }
 
-  before-marks : (o : ℕ) (ranges : List (ℕ × ℕ)) (x : ListElement) (zs : List ListElement) → test (f x) ≡ true → h x ≡ f x → AreFrom (suc o) ranges → Marks (suc o) ranges zs → Marks o ranges (x ∷ zs)
+  before-marks : (o : ℕ) (ranges : List (ℕ × ℕ)) (x : ListElement) (zs : List ListElement) → test (f x) ≡ true → h x ≡ f x → AreFrom (suc o) ranges
+      → Marks (suc o) ranges zs → Marks o ranges (x ∷ zs)
   before-marks o ranges x zs e k l m = record {
     made = skip-before test g o (f x) (map f zs) ranges e l ∙ ap (λ y. y ∷ ranges_from (suc o) test g ranges (map f zs)) (sym k) ∙ ap (λ ys. h x ∷ ys) m.made;
     fits = fit-before test g o (f x) (map f zs) ranges e l ∙ m.fits;
@@ -212,13 +223,15 @@ module _ (test : ListElement → Bool) (g f h : ListElement → ListElement) (se
 
   module _ (seen-on : still ≡ true) where
     -- a run of its own
-    one-marks : (i : ℕ) (rs : List (ℕ × ℕ)) (x : ListElement) (zs : List ListElement) → MarkedAs x → is x ≡ true → AreFrom (suc i) rs → Marks (suc i) rs zs → Marks i ((i, i + 1) ∷ rs) (x ∷ zs)
+    one-marks : (i : ℕ) (rs : List (ℕ × ℕ)) (x : ListElement) (zs : List ListElement) → MarkedAs x → is x ≡ true → AreFrom (suc i) rs → Marks (suc i) rs zs
+        → Marks i ((i, i + 1) ∷ rs) (x ∷ zs)
     one-marks i rs x zs p e l m =
         let q = p.marked e in
         let here : test (f x) ≡ true = p.same ∙ q.0 in
         let on : test (h x) ≡ true = q.2 ∙ seen-on in
         let first : change_range_from i test i (i + 1) g (f x ∷ map f zs) ≡ h x ∷ map f zs =
-        head-changed test g i i (i + 1) (f x) (map f zs) here (omega arith) (omega arith) ∙ ap (λ ys. g (f x) ∷ ys) (range-over test g (suc i) i (i + 1) (map f zs) (omega arith)) ∙ ap (λ y. y ∷ map f zs) (sym q.1) in
+        head-changed test g i i (i + 1) (f x) (map f zs) here (omega arith) (omega arith)
+        ∙ ap (λ ys. g (f x) ∷ ys) (range-over test g (suc i) i (i + 1) (map f zs) (omega arith)) ∙ ap (λ y. y ∷ map f zs) (sym q.1) in
         record {
           made = ap (ranges_from i test g rs) first ∙ skip-before test g i (h x) (map f zs) rs on l ∙ ap (λ ys. h x ∷ ys) m.made;
           fits =
@@ -228,14 +241,16 @@ module _ (test : ListElement → Bool) (g f h : ListElement → ListElement) (se
         }
 
     -- a run that goes on
-    more-marks : (i b : ℕ) (rs : List (ℕ × ℕ)) (x : ListElement) (zs : List ListElement) → MarkedAs x → is x ≡ true → i < b → AreFrom (suc i) rs → Marks (suc i) ((i + 1, b) ∷ rs) zs → Marks i ((i, b) ∷ rs) (x ∷ zs)
+    more-marks : (i b : ℕ) (rs : List (ℕ × ℕ)) (x : ListElement) (zs : List ListElement) → MarkedAs x → is x ≡ true → i < b → AreFrom (suc i) rs
+        → Marks (suc i) ((i + 1, b) ∷ rs) zs → Marks i ((i, b) ∷ rs) (x ∷ zs)
     more-marks i b rs x zs p e k l m =
         let q = p.marked e in
         let here : test (f x) ≡ true = p.same ∙ q.0 in
         let on : test (h x) ≡ true = q.2 ∙ seen-on in
         let rest = change_range_from (suc i) test (i + 1) b g (map f zs) in
         let first : change_range_from i test i b g (f x ∷ map f zs) ≡ h x ∷ rest =
-        head-changed test g i i b (f x) (map f zs) here (omega arith) k ∙ ap (λ ys. g (f x) ∷ ys) (range-from test g (suc i) i (i + 1) b (map f zs) (omega arith) (omega arith)) ∙ ap (λ y. y ∷ rest) (sym q.1) in
+        head-changed test g i i b (f x) (map f zs) here (omega arith) k ∙ ap (λ ys. g (f x) ∷ ys)
+        (range-from test g (suc i) i (i + 1) b (map f zs) (omega arith) (omega arith)) ∙ ap (λ y. y ∷ rest) (sym q.1) in
         let bounds = both (nat_le b (suc i + len test (map f zs))) (fit_from (suc i) test g rs rest) m.fits in
         let bound : b ≤ suc i + len test (map f zs) = bound-test b (suc i + len test (map f zs)) bounds.0 in
         record {
@@ -249,7 +264,8 @@ module _ (test : ListElement → Bool) (g f h : ListElement → ListElement) (se
     next-number : (a i : ℕ) → nat_eq a (i + 1) ≡ true → a ≡ i + 1
     next-number a i e = grind (arith, nat_tests)
 
-    choice-marks : (i a b : ℕ) (rs : List (ℕ × ℕ)) (x : ListElement) (zs : List ListElement) → MarkedAs x → is x ≡ true → AreApart (suc i) ((a, b) ∷ rs) → Marks (suc i) ((a, b) ∷ rs) zs
+    choice-marks : (i a b : ℕ) (rs : List (ℕ × ℕ)) (x : ListElement) (zs : List ListElement) → MarkedAs x → is x ≡ true → AreApart (suc i) ((a, b) ∷ rs)
+        → Marks (suc i) ((a, b) ∷ rs) zs
         → (t : Bool) → nat_eq a (i + 1) ≡ t → Marks i (cond t ((i, b) ∷ rs) ((i, i + 1) ∷ (a, b) ∷ rs)) (x ∷ zs)
     choice-marks i a b rs x zs p e l m true j =
         let start : suc i ≤ a = l.0 in
@@ -257,7 +273,8 @@ module _ (test : ListElement → Bool) (g f h : ListElement → ListElement) (se
         more-marks i b rs x zs p e (omega arith) (from-weaker (suc i) b rs (omega arith) (apart-from b rs l.2)) (subst (λ n. Marks (suc i) ((n, b) ∷ rs) zs) (next-number a i j) m)
     choice-marks i a b rs x zs p e l m false j = one-marks i ((a, b) ∷ rs) x zs p e (apart-from (suc i) ((a, b) ∷ rs) l) m
 
-    marked-marks : (i : ℕ) (rs : List (ℕ × ℕ)) (x : ListElement) (zs : List ListElement) → MarkedAs x → is x ≡ true → AreApart (suc i) rs → Marks (suc i) rs zs → Marks i (extended_runs i rs) (x ∷ zs)
+    marked-marks : (i : ℕ) (rs : List (ℕ × ℕ)) (x : ListElement) (zs : List ListElement) → MarkedAs x → is x ≡ true → AreApart (suc i) rs → Marks (suc i) rs zs
+        → Marks i (extended_runs i rs) (x ∷ zs)
     marked-marks i [] x zs p e l m = one-marks i [] x zs p e l m
     marked-marks i ((a, b) ∷ rs) x zs p e l m = choice-marks i a b rs x zs p e l m (nat_eq a (i + 1)) refl
 
@@ -265,7 +282,8 @@ module _ (test : ListElement → Bool) (g f h : ListElement → ListElement) (se
         → Marks i (cond (s && t) (extended_runs i (marked_runs_from (one_more_if s i) seen is zs)) (marked_runs_from (one_more_if s i) seen is zs)) (x ∷ zs)
     step-marks i x zs p true true e k ih = marked-marks i (marked_runs_from (suc i) seen is zs) x zs p k (runs-apart seen is (suc i) zs) (ih (suc i))
     step-marks i x zs p true false e k ih =
-        before-marks i (marked_runs_from (suc i) seen is zs) x zs (p.same ∙ e) (p.unmarked k) (apart-from (suc i) (marked_runs_from (suc i) seen is zs) (runs-apart seen is (suc i) zs)) (ih (suc i))
+        before-marks i (marked_runs_from (suc i) seen is zs) x zs (p.same ∙ e) (p.unmarked k)
+        (apart-from (suc i) (marked_runs_from (suc i) seen is zs) (runs-apart seen is (suc i) zs)) (ih (suc i))
     step-marks i x zs p false true e k ih = absurd (contradiction (sym (p.marked k).0 ∙ e))
     step-marks i x zs p false false e k ih = unseen-marks i (marked_runs_from i seen is zs) x zs (p.same ∙ e) (p.unmarked k) (ih i)
 
@@ -288,16 +306,19 @@ module _ (test : ListElement → Bool) (g f h : ListElement → ListElement) (se
         let ls = lowered_runs (d + (i + 1 - i)) rs in
         let n : Marks o ls zs = subst (λ c. Marks o (lowered_runs c rs) zs) (sym low) (subst (λ c. Marks c (lowered_runs (suc d) rs) zs) place m) in
         let first : change_range_from o test o (i + 1 - d) g (f x ∷ map f zs) ≡ h x ∷ map f zs =
-        head-changed test g o o (i + 1 - d) (f x) (map f zs) here (omega arith) (omega arith) ∙ ap (λ ys. g (f x) ∷ ys) (range-over test g (suc o) o (i + 1 - d) (map f zs) (omega arith)) ∙ ap (λ y. y ∷ map f zs) (sym q.1) in
+        head-changed test g o o (i + 1 - d) (f x) (map f zs) here (omega arith) (omega arith)
+        ∙ ap (λ ys. g (f x) ∷ ys) (range-over test g (suc o) o (i + 1 - d) (map f zs) (omega arith)) ∙ ap (λ y. y ∷ map f zs) (sym q.1) in
         record {
           made = ap (ranges_from o test g ls) first ∙ skip-unseen test g o (h x) (map f zs) ls off ∙ ap (λ ys. h x ∷ ys) n.made;
           fits =
-              both-bounds (nat_le (i + 1 - d) (o + one_more_if (test (f x)) (len test (map f zs)))) (fit_from o test g ls (change_range_from o test o (i + 1 - d) g (f x ∷ map f zs)))
+              both-bounds (nat_le (i + 1 - d) (o + one_more_if (test (f x)) (len test (map f zs))))
+              (fit_from o test g ls (change_range_from o test o (i + 1 - d) g (f x ∷ map f zs)))
               (ap (λ b. nat_le (i + 1 - d) (o + one_more_if b (len test (map f zs)))) here ∙ test-bound (i + 1 - d) (o + suc (len test (map f zs))) (omega arith))
               (ap (fit_from o test g ls) first ∙ fit-unseen test g o (h x) (map f zs) ls off ∙ n.fits);
         }
 
-    more-gone : (i d b : ℕ) (rs : List (ℕ × ℕ)) (x : ListElement) (zs : List ListElement) → d ≤ i → MarkedAs x → is x ≡ true → i + 1 < b → Marks (suc i - suc d) (lowered_runs (suc d) ((i + 1, b) ∷ rs)) zs
+    more-gone : (i d b : ℕ) (rs : List (ℕ × ℕ)) (x : ListElement) (zs : List ListElement) → d ≤ i → MarkedAs x → is x ≡ true → i + 1 < b
+        → Marks (suc i - suc d) (lowered_runs (suc d) ((i + 1, b) ∷ rs)) zs
         → Marks (i - d) (lowered_runs d ((i, b) ∷ rs)) (x ∷ zs)
     more-gone i d b rs x zs l p e k m =
         let o = i - d in
@@ -315,7 +336,8 @@ module _ (test : ListElement → Bool) (g f h : ListElement → ListElement) (se
         (subst (λ c. Marks c ((i + 1 - suc d, b - suc d) ∷ lowered_runs (suc d + (b - (i + 1))) rs) zs) place m)) in
         let rest = change_range_from o test o (b - suc d) g (map f zs) in
         let tail : change_range_from (suc o) test o (b - d) g (map f zs) ≡ rest =
-        range-from test g (suc o) o (suc o) (b - d) (map f zs) (omega arith) (omega arith) ∙ ap (λ c. change_range_from (suc o) test (suc o) c g (map f zs)) end ∙ range-moved test g o o (b - suc d) (map f zs) in
+        range-from test g (suc o) o (suc o) (b - d) (map f zs) (omega arith) (omega arith)
+        ∙ ap (λ c. change_range_from (suc o) test (suc o) c g (map f zs)) end ∙ range-moved test g o o (b - suc d) (map f zs) in
         let first : change_range_from o test o (b - d) g (f x ∷ map f zs) ≡ h x ∷ rest =
         head-changed test g o o (b - d) (f x) (map f zs) here (omega arith) (omega arith) ∙ ap (λ ys. g (f x) ∷ ys) tail ∙ ap (λ y. y ∷ rest) (sym q.1) in
         let bounds = both (nat_le (b - suc d) (o + len test (map f zs))) (fit_from o test g ls rest) n.fits in
@@ -331,7 +353,8 @@ module _ (test : ListElement → Bool) (g f h : ListElement → ListElement) (se
     next-place : (a i : ℕ) → nat_eq a (i + 1) ≡ true → a ≡ i + 1
     next-place a i e = grind (arith, nat_tests)
 
-    choice-gone : (i d a b : ℕ) (rs : List (ℕ × ℕ)) (x : ListElement) (zs : List ListElement) → d ≤ i → MarkedAs x → is x ≡ true → AreApart (suc i) ((a, b) ∷ rs) → Marks (suc i - suc d) (lowered_runs (suc d) ((a, b) ∷ rs)) zs
+    choice-gone : (i d a b : ℕ) (rs : List (ℕ × ℕ)) (x : ListElement) (zs : List ListElement) → d ≤ i → MarkedAs x → is x ≡ true
+        → AreApart (suc i) ((a, b) ∷ rs) → Marks (suc i - suc d) (lowered_runs (suc d) ((a, b) ∷ rs)) zs
         → (t : Bool) → nat_eq a (i + 1) ≡ t → Marks (i - d) (lowered_runs d (cond t ((i, b) ∷ rs) ((i, i + 1) ∷ (a, b) ∷ rs))) (x ∷ zs)
     choice-gone i d a b rs x zs l p e k m true j =
         let some : a < b = k.1 in
@@ -340,7 +363,8 @@ module _ (test : ListElement → Bool) (g f h : ListElement → ListElement) (se
         more-gone i d b rs x zs l p e more (subst (λ c. Marks (suc i - suc d) (lowered_runs (suc d) ((c, b) ∷ rs)) zs) same m)
     choice-gone i d a b rs x zs l p e k m false j = one-gone i d ((a, b) ∷ rs) x zs l p e m
 
-    marked-gone : (i d : ℕ) (rs : List (ℕ × ℕ)) (x : ListElement) (zs : List ListElement) → d ≤ i → MarkedAs x → is x ≡ true → AreApart (suc i) rs → Marks (suc i - suc d) (lowered_runs (suc d) rs) zs
+    marked-gone : (i d : ℕ) (rs : List (ℕ × ℕ)) (x : ListElement) (zs : List ListElement) → d ≤ i → MarkedAs x → is x ≡ true → AreApart (suc i) rs
+        → Marks (suc i - suc d) (lowered_runs (suc d) rs) zs
         → Marks (i - d) (lowered_runs d (extended_runs i rs)) (x ∷ zs)
     marked-gone i d [] x zs l p e k m = one-gone i d [] x zs l p e m
     marked-gone i d ((a, b) ∷ rs) x zs l p e k m = choice-gone i d a b rs x zs l p e k m (nat_eq a (i + 1)) refl

@@ -271,7 +271,8 @@ removal-chosen k e h =
         negated false h = refl
     step false f g u = late-removal k e.ins e.dels e.removal_stage f u
 
-none-taken : (k r c : ℕ) (edit : StageEdit) (xs : List ListElement) → is_taking edit ≡ false → list_all is_ordered xs ≡ true → IsStanding k r c edit xs → list_any (is_removed_by (suc k)) xs ≡ false
+none-taken : (k r c : ℕ) (edit : StageEdit) (xs : List ListElement) → is_taking edit ≡ false → list_all is_ordered xs ≡ true → IsStanding k r c edit xs
+    → list_any (is_removed_by (suc k)) xs ≡ false
 none-taken k r c edit xs h o s =
     none-passes (λ e. cond (is_upto (suc k) e) (is_unmarked_by (suc k) e) true && is_ordered e) (is_removed_by (suc k)) (removal-chosen (suc k)) xs
     (all-both (λ e. cond (is_upto (suc k) e) (is_unmarked_by (suc k) e) true) is_ordered xs
@@ -297,7 +298,8 @@ annotation-chosen k e h =
 unchanged-same : (k : ℕ) (e : ListElement) → is_unchanged_by k (element_up_to k e) ≡ is_unchanged_by k e
 unchanged-same k e = ap not (filtered-same k e.pending)
 
-none-changed : (k r c : ℕ) (edit : StageEdit) (xs : List ListElement) → is_changing edit ≡ false → list_all is_ordered xs ≡ true → IsStanding k r c edit xs → list_any (is_annotated_by (suc k)) xs ≡ false
+none-changed : (k r c : ℕ) (edit : StageEdit) (xs : List ListElement) → is_changing edit ≡ false → list_all is_ordered xs ≡ true → IsStanding k r c edit xs
+    → list_any (is_annotated_by (suc k)) xs ≡ false
 none-changed k r c edit xs h o s =
     none-passes (λ e. cond (is_upto (suc k) e) (is_unchanged_by (suc k) e) true && is_ordered e) (is_annotated_by (suc k)) (annotation-chosen (suc k)) xs
     (all-both (λ e. cond (is_upto (suc k) e) (is_unchanged_by (suc k) e) true) is_ordered xs
@@ -317,7 +319,8 @@ other-number ks j k h g = either (nat_eq j k) refl
     either false e = refl
 
 module _ (n : ℕ) (ks : List ℕ) where
-  within-parts : (e : ListElement) → is_within n ks e ≡ true → (stamp_within n ks e.ins ≡ true) × (list_all (is_numbered n) e.dels ≡ true) × (mark_within ks e.removal_stage ≡ true) × (list_all (λ p. is_among ks p.0) e.pending ≡ true)
+  within-parts : (e : ListElement) → is_within n ks e ≡ true → (stamp_within n ks e.ins ≡ true) × (list_all (is_numbered n) e.dels ≡ true)
+      × (mark_within ks e.removal_stage ≡ true) × (list_all (λ p. is_among ks p.0) e.pending ≡ true)
   within-parts e h = all_four (stamp_within n ks e.ins) (list_all (is_numbered n) e.dels) (mark_within ks e.removal_stage) (list_all (λ p. is_among ks p.0) e.pending) h
 
   unmarked-among : (k : ℕ) → is_among ks k ≡ false → (e : ListElement) → is_within n ks e ≡ true → is_removed_by k e ≡ false
@@ -349,12 +352,14 @@ module _ (n : ℕ) (ks : List ℕ) where
 
 module _ (c m n : ℕ) (doc : Document) (list : Document → List ListElement) (edit : SentStage → StageEdit)
     (stands : (t : ToldStage) → StageStands t.before t.ref c t.sent t.stage.names doc → IsStanding t.before t.ref c (edit t.sent) (list doc)) where
-  of-kind : (kind : SubOperation → Bool) (k : ℕ) → ((t : ToldStage) → Tells t.stage.sub_operation t.sent → StageStands t.before t.ref c t.sent t.stage.names doc → suc t.before ≡ k → kind t.stage.sub_operation ≡ true)
+  of-kind : (kind : SubOperation → Bool) (k : ℕ) → ((t : ToldStage) → Tells t.stage.sub_operation t.sent
+      → StageStands t.before t.ref c t.sent t.stage.names doc → suc t.before ≡ k → kind t.stage.sub_operation ≡ true)
       → (ts : List ToldStage) → AreTold m ts → AllStand c doc ts → is_among (stage_numbers ts) k ≡ true → is_stage_of kind (bare_stages ts) k ≡ true
   of-kind kind k f [] told h g = (cc)
   of-kind kind k f (t ∷ ts) told h g = step (nat_eq k (suc t.before)) refl g (of-kind kind k f ts told.3 h.1)
     where
-      step : (b : Bool) → nat_eq k (suc t.before) ≡ b → b || is_among (stage_numbers ts) k ≡ true → (is_among (stage_numbers ts) k ≡ true → is_stage_of kind (bare_stages ts) k ≡ true)
+      step : (b : Bool) → nat_eq k (suc t.before) ≡ b → b || is_among (stage_numbers ts) k ≡ true
+          → (is_among (stage_numbers ts) k ≡ true → is_stage_of kind (bare_stages ts) k ≡ true)
           → (nat_eq t.stage.stage k && kind t.stage.sub_operation) || is_stage_of kind (bare_stages ts) k ≡ true
       step true e g ih =
           let same : suc t.before ≡ k = sym (same_number k (suc t.before) e) in
@@ -362,37 +367,47 @@ module _ (c m n : ℕ) (doc : Document) (list : Document → List ListElement) (
           rw (here, f t told.1 h.0 same) refl
       step false e g ih = or_right (nat_eq t.stage.stage k && kind t.stage.sub_operation) (is_stage_of kind (bare_stages ts) k) (ih g)
 
-  module _ (inserts removes annotates : SubOperation → Bool) (kinds : AreKindsOf inserts removes annotates edit) (ts : List ToldStage) (told : AreTold m ts) (stand : AllStand c doc ts)
+  module _ (inserts removes annotates : SubOperation → Bool) (kinds : AreKindsOf inserts removes annotates edit) (ts : List ToldStage) (told : AreTold m ts)
+      (stand : AllStand c doc ts)
       (within : list_all (is_within n (stage_numbers ts)) (list doc) ≡ true) (ordered : list_all is_ordered (list doc) ≡ true) where
     inserted-kind : (k : ℕ) → list_any (is_inserted_by k) (list doc) ≡ true → is_stage_of inserts (bare_stages ts) k ≡ true
     inserted-kind k h = of-kind inserts k here ts told stand (among-inserted n (stage_numbers ts) (list doc) within k h)
       where
-        here : (t : ToldStage) → Tells t.stage.sub_operation t.sent → StageStands t.before t.ref c t.sent t.stage.names doc → suc t.before ≡ k → inserts t.stage.sub_operation ≡ true
+        here : (t : ToldStage) → Tells t.stage.sub_operation t.sent → StageStands t.before t.ref c t.sent t.stage.names doc → suc t.before ≡ k
+            → inserts t.stage.sub_operation ≡ true
         here t tells s e = either (is_putting (edit t.sent)) refl
           where
             either : (b : Bool) → is_putting (edit t.sent) ≡ b → inserts t.stage.sub_operation ≡ true
-            either true f = kinds.puts t.stage.sub_operation tells.place.first tells.place.second tells.place.ranges tells.place.other (ap (λ x. is_putting (edit x)) (sym tells.place.made) ∙ f)
-            either false f = absurd (contradicted (list_any (is_inserted_by k) (list doc)) h (ap (λ i. list_any (is_inserted_by i) (list doc)) (sym e) ∙ none-put t.before t.ref c (edit t.sent) (list doc) f (stands t s)))
+            either true f = kinds.puts t.stage.sub_operation tells.place.first tells.place.second tells.place.ranges tells.place.other
+                (ap (λ x. is_putting (edit x)) (sym tells.place.made) ∙ f)
+            either false f = absurd (contradicted (list_any (is_inserted_by k) (list doc)) h
+                (ap (λ i. list_any (is_inserted_by i) (list doc)) (sym e) ∙ none-put t.before t.ref c (edit t.sent) (list doc) f (stands t s)))
 
     removed-kind : (k : ℕ) → list_any (is_removed_by k) (list doc) ≡ true → is_stage_of removes (bare_stages ts) k ≡ true
     removed-kind k h = of-kind removes k here ts told stand (among-removed n (stage_numbers ts) (list doc) within k h)
       where
-        here : (t : ToldStage) → Tells t.stage.sub_operation t.sent → StageStands t.before t.ref c t.sent t.stage.names doc → suc t.before ≡ k → removes t.stage.sub_operation ≡ true
+        here : (t : ToldStage) → Tells t.stage.sub_operation t.sent → StageStands t.before t.ref c t.sent t.stage.names doc → suc t.before ≡ k
+            → removes t.stage.sub_operation ≡ true
         here t tells s e = either (is_taking (edit t.sent)) refl
           where
             either : (b : Bool) → is_taking (edit t.sent) ≡ b → removes t.stage.sub_operation ≡ true
-            either true f = kinds.takes t.stage.sub_operation tells.place.first tells.place.second tells.place.ranges tells.place.other (ap (λ x. is_taking (edit x)) (sym tells.place.made) ∙ f)
-            either false f = absurd (contradicted (list_any (is_removed_by k) (list doc)) h (ap (λ i. list_any (is_removed_by i) (list doc)) (sym e) ∙ none-taken t.before t.ref c (edit t.sent) (list doc) f ordered (stands t s)))
+            either true f = kinds.takes t.stage.sub_operation tells.place.first tells.place.second tells.place.ranges tells.place.other
+                (ap (λ x. is_taking (edit x)) (sym tells.place.made) ∙ f)
+            either false f = absurd (contradicted (list_any (is_removed_by k) (list doc)) h
+                (ap (λ i. list_any (is_removed_by i) (list doc)) (sym e) ∙ none-taken t.before t.ref c (edit t.sent) (list doc) f ordered (stands t s)))
 
     annotated-kind : (k : ℕ) → list_any (is_annotated_by k) (list doc) ≡ true → is_stage_of annotates (bare_stages ts) k ≡ true
     annotated-kind k h = of-kind annotates k here ts told stand (among-annotated n (stage_numbers ts) (list doc) within k h)
       where
-        here : (t : ToldStage) → Tells t.stage.sub_operation t.sent → StageStands t.before t.ref c t.sent t.stage.names doc → suc t.before ≡ k → annotates t.stage.sub_operation ≡ true
+        here : (t : ToldStage) → Tells t.stage.sub_operation t.sent → StageStands t.before t.ref c t.sent t.stage.names doc → suc t.before ≡ k
+            → annotates t.stage.sub_operation ≡ true
         here t tells s e = either (is_changing (edit t.sent)) refl
           where
             either : (b : Bool) → is_changing (edit t.sent) ≡ b → annotates t.stage.sub_operation ≡ true
-            either true f = kinds.changes t.stage.sub_operation tells.place.first tells.place.second tells.place.ranges tells.place.other (ap (λ x. is_changing (edit x)) (sym tells.place.made) ∙ f)
-            either false f = absurd (contradicted (list_any (is_annotated_by k) (list doc)) h (ap (λ i. list_any (is_annotated_by i) (list doc)) (sym e) ∙ none-changed t.before t.ref c (edit t.sent) (list doc) f ordered (stands t s)))
+            either true f = kinds.changes t.stage.sub_operation tells.place.first tells.place.second tells.place.ranges tells.place.other
+                (ap (λ x. is_changing (edit x)) (sym tells.place.made) ∙ f)
+            either false f = absurd (contradicted (list_any (is_annotated_by k) (list doc)) h
+                (ap (λ i. list_any (is_annotated_by i) (list doc)) (sym e) ∙ none-changed t.before t.ref c (edit t.sent) (list doc) f ordered (stands t s)))
 
     acked-removal : (t : Stamp) → is_numbered n t ≡ true → is_acked t ≡ true
     acked-removal (Acked s d) h = refl

@@ -43,7 +43,10 @@ module _ (test test' : ListElement → Bool) (h : ElementId → ElementId) (text
   names-as r c (IntervalsChanged op) names n = (ap (λ m. given_ends_fit m (ends_of op)) s.count ∙ n.0, ends-as (ends_of op) ∙ ap (renamed_names h) n.1)
   names-as r c (UnitsPut target p count) names n = tt
   names-as r c (UnitsTaken target ranges) names n = tt
-  names-as r c (CellWritten i j value) names n = (one-as (option_map id (at test i rows)) (option_map id (at test' i rows')) names.first (r.names i) n.0, one-as (option_map id (at test j cols)) (option_map id (at test' j cols')) names.second (c.names j) n.1)
+  names-as r c (CellWritten i j value) names n = (
+    one-as (option_map id (at test i rows)) (option_map id (at test' i rows')) names.first (r.names i) n.0,
+    one-as (option_map id (at test j cols)) (option_map id (at test' j cols')) names.second (c.names j) n.1,
+  )
 
 -- without a renaming
 pub not-renamed : (o : Option ElementId) → renamed (λ x. x) o ≡ o
@@ -55,7 +58,8 @@ names-not_renamed names = rw (not-renamed names.first, not-renamed names.second)
 
 -- ---- scans
 
-module _ (is seen seen' : ListElement → Bool) (h : ElementId → ElementId) (f : ListElement → ListElement) (same : (x : ListElement) → is x ≡ true → seen' (f x) ≡ seen x) (name : (x : ListElement) → is x ≡ true → id (f x) ≡ h (id x)) where
+module _ (is seen seen' : ListElement → Bool) (h : ElementId → ElementId) (f : ListElement → ListElement)
+    (same : (x : ListElement) → is x ≡ true → seen' (f x) ≡ seen x) (name : (x : ListElement) → is x ≡ true → id (f x) ≡ h (id x)) where
   at-map : (i : ℕ) (xs : List ListElement) → list_all is xs ≡ true → option_map id (at seen' i (map f xs)) ≡ renamed h (option_map id (at seen i xs))
   at-map i [] g = refl
   at-map zero (x ∷ xs) g = grind (arith, at-map zero xs, same x, name x)
@@ -115,16 +119,19 @@ pub seen-itself : (test : ListElement → Bool) (xs : List ListElement) → Seen
 seen-itself test xs = record { count = refl; names = λ i. sym (not-renamed (option_map id (at test i xs))) }
 
 -- two tests that agree on a list
-at-agree : (is test test' : ListElement → Bool) → ((x : ListElement) → is x ≡ true → test' x ≡ test x) → (i : ℕ) (xs : List ListElement) → list_all is xs ≡ true → at test' i xs ≡ at test i xs
+at-agree : (is test test' : ListElement → Bool) → ((x : ListElement) → is x ≡ true → test' x ≡ test x) → (i : ℕ) (xs : List ListElement) → list_all is xs
+    ≡ true → at test' i xs ≡ at test i xs
 at-agree is test test' same i [] h = refl
 at-agree is test test' same zero (x ∷ xs) h = grind (arith, at-agree is test test' same zero xs, same x)
 at-agree is test test' same (suc i) (x ∷ xs) h = grind (arith, at-agree is test test' same i xs, at-agree is test test' same (suc i) xs, same x)
 
-count-agree : (is test test' : ListElement → Bool) → ((x : ListElement) → is x ≡ true → test' x ≡ test x) → (xs : List ListElement) → list_all is xs ≡ true → len test' xs ≡ len test xs
+count-agree : (is test test' : ListElement → Bool) → ((x : ListElement) → is x ≡ true → test' x ≡ test x) → (xs : List ListElement) → list_all is xs ≡ true
+    → len test' xs ≡ len test xs
 count-agree is test test' same [] h = refl
 count-agree is test test' same (x ∷ xs) h = grind (arith, count-agree is test test' same xs, same x)
 
-pub seen-agree : (is test test' : ListElement → Bool) → ((x : ListElement) → is x ≡ true → test' x ≡ test x) → (xs : List ListElement) → list_all is xs ≡ true → SeenAs test test' (λ x. x) xs xs
+pub seen-agree : (is test test' : ListElement → Bool) → ((x : ListElement) → is x ≡ true → test' x ≡ test x) → (xs : List ListElement) → list_all is xs ≡ true
+    → SeenAs test test' (λ x. x) xs xs
 seen-agree is test test' same xs h = record {
   count = count-agree is test test' same xs h;
   names = λ i. ap (option_map id) (at-agree is test test' same i xs h) ∙ sym (not-renamed (option_map id (at test i xs)));

@@ -46,7 +46,8 @@ insertion_stage (Local j) = j
 abbrev pub is_ordered : ListElement → Bool
 is_ordered e = rises_from (insertion_stage e.ins) e.pending && is_removed_last e.removal_stage e.pending && is_unremoved_pending e.ins e.dels e.removal_stage
 
-pub parts : (e : ListElement) → is_ordered e ≡ true → (rises_from (insertion_stage e.ins) e.pending ≡ true) × (is_removed_last e.removal_stage e.pending ≡ true) × (is_unremoved_pending e.ins e.dels e.removal_stage ≡ true)
+pub parts : (e : ListElement) → is_ordered e ≡ true → (rises_from (insertion_stage e.ins) e.pending ≡ true)
+    × (is_removed_last e.removal_stage e.pending ≡ true) × (is_unremoved_pending e.ins e.dels e.removal_stage ≡ true)
 parts e h = all_three (rises_from (insertion_stage e.ins) e.pending) (is_removed_last e.removal_stage e.pending) (is_unremoved_pending e.ins e.dels e.removal_stage) h
 
 -- a change of what is seen
@@ -81,8 +82,10 @@ removal-ordered s d r e h g =
     let p = parts e h in
     rw (p.0, p.1, acked-unremoved e.ins (e.dels ++ (Acked s d ∷ [])) e.removal_stage (seen-acked r d e g)) refl
 
-pub ordered-sequenced : (s d r m : ℕ) (by : Option Stamp) (edit : StageEdit) (xs : List ListElement) → list_all is_ordered xs ≡ true → list_all is_ordered (after_sequenced s d r m by edit xs) ≡ true
-ordered-sequenced s d r m by (PutIn p props items) xs h = all-put is_ordered (seen_by r d) is_pending p (new_elements m (Acked s d) [] by props items) xs (new-ordered s d m by props items) h
+pub ordered-sequenced : (s d r m : ℕ) (by : Option Stamp) (edit : StageEdit) (xs : List ListElement) → list_all is_ordered xs ≡ true
+    → list_all is_ordered (after_sequenced s d r m by edit xs) ≡ true
+ordered-sequenced s d r m by (PutIn p props items) xs h = all-put is_ordered (seen_by r d) is_pending p (new_elements m (Acked s d) [] by props items) xs
+    (new-ordered s d m by props items) h
 ordered-sequenced s d r m by (TakenOut ranges) xs h = all-ranges-seen is_ordered (seen_by r d) (with_removal s d) (removal-ordered s d r) ranges xs h
 ordered-sequenced s d r m by (Annotated ranges changes) xs h = all-ranges-seen is_ordered (seen_by r d) (with_annotation changes) (λ e g f. g) ranges xs h
 
@@ -91,7 +94,14 @@ ordered-sequenced s d r m by (Annotated ranges changes) xs h = all-ranges-seen i
 all-range-to : {A : Type 0} (is is' seen : A → Bool) (g : A → A) → ((x : A) → is x ≡ true → is' x ≡ true) → ((x : A) → is x ≡ true → seen x ≡ true → is' (g x) ≡ true)
     → (p q i : ℕ) (xs : List A) → list_all is xs ≡ true → list_all is' (change_range_from i seen p q g xs) ≡ true
 all-range-to is is' seen g stay keep p q i [] h = refl
-all-range-to is is' seen g stay keep p q i (x ∷ xs) h = grind (arith, all-range-to is is' seen g stay keep p q i xs, all-range-to is is' seen g stay keep p q (suc i) xs, stay x, keep x)
+all-range-to is is' seen g stay keep p q i (x ∷ xs) h = grind (
+  arith,
+  all-range-to is is' seen g stay keep p q i xs,
+  all-range-to is is' seen g stay keep p q
+      (suc i) xs,
+  stay x,
+  keep x,
+)
 
 own-new-ordered : (k i : ℕ) (props : PropertyList) (items : List ElementContent) → list_all is_ordered (new_elements i (Local k) [] None props items) ≡ true
 own-new-ordered k i props [] = refl
@@ -101,7 +111,8 @@ below-last : (k : ℕ) (pending : List (ℕ × Changes)) → list_all (λ p. nat
 below-last k [] h = refl
 below-last k (p ∷ pending) h = grind (arith, nat_tests, below-last k pending)
 
-rises-append : (i k : ℕ) (changes : Changes) (pending : List (ℕ × Changes)) → nat_lt i (suc k) ≡ true → list_all (λ p. nat_le p.0 k) pending ≡ true → rises_from i pending ≡ true → rises_from i (pending ++ ((suc k, changes) ∷ [])) ≡ true
+rises-append : (i k : ℕ) (changes : Changes) (pending : List (ℕ × Changes)) → nat_lt i (suc k) ≡ true → list_all (λ p. nat_le p.0 k) pending ≡ true
+    → rises_from i pending ≡ true → rises_from i (pending ++ ((suc k, changes) ∷ [])) ≡ true
 rises-append i k changes [] l h g = rw l refl
 rises-append i k changes (p ∷ pending) l h g =
     let q = both (nat_le p.0 k) (list_all (λ p. nat_le p.0 k) pending) h in
@@ -109,7 +120,8 @@ rises-append i k changes (p ∷ pending) l h g =
     let below : nat_lt p.0 (suc k) ≡ true = grind (arith, nat_tests) in
     rw (r.0, rises-append p.0 k changes pending below q.1 r.1) refl
 
-mark-unremoved : (k : ℕ) (t : Stamp) (dels : List Stamp) (m : Option ℕ) → has_occurred_at_stage k t ≡ true → is_unremoved_pending t dels m ≡ true → is_unremoved_pending t dels (Some (suc k)) ≡ true
+mark-unremoved : (k : ℕ) (t : Stamp) (dels : List Stamp) (m : Option ℕ) → has_occurred_at_stage k t ≡ true → is_unremoved_pending t dels m ≡ true
+    → is_unremoved_pending t dels (Some (suc k)) ≡ true
 mark-unremoved k (Acked s c) dels m h g = refl
 mark-unremoved k (Local j) [] m h g = grind (arith, nat_tests)
 mark-unremoved k (Local j) (t ∷ dels) m h g = (cc)
@@ -122,7 +134,8 @@ abbrev is_ready : ℕ → ℕ → ℕ → ListElement → Bool
 is_ready n c k e = is_ordered e && is_current n c k e
 
 module _ (n c k : ℕ) where
-  current-parts : (e : ListElement) → is_current n c k e ≡ true → (stamp_known n c k e.ins ≡ true) × (list_all (has_occurred n c) e.dels ≡ true) × (mark_upto k e.removal_stage ≡ true) × (list_all (λ q. nat_le q.0 k) e.pending ≡ true)
+  current-parts : (e : ListElement) → is_current n c k e ≡ true → (stamp_known n c k e.ins ≡ true) × (list_all (has_occurred n c) e.dels ≡ true)
+      × (mark_upto k e.removal_stage ≡ true) × (list_all (λ q. nat_le q.0 k) e.pending ≡ true)
   current-parts e h = all_four (stamp_known n c k e.ins) (list_all (has_occurred n c) e.dels) (mark_upto k e.removal_stage) (list_all (λ q. nat_le q.0 k) e.pending) h
 
   own-removal-ordered : (e : ListElement) → is_ready n c k e ≡ true → seen k e ≡ true → is_ordered (with_pending_removal (suc k) e) ≡ true
@@ -139,22 +152,27 @@ module _ (n c k : ℕ) where
       let p = parts e r.0 in
       let q = current-parts e r.1 in
       let reached = (both (has_occurred_at_stage k e.ins) (not (list_any (has_occurred_at_stage k) (e.dels ++ removal_stamp e.removal_stage))) g).0 in
-      let last : is_removed_last e.removal_stage (e.pending ++ ((suc k, changes) ∷ [])) ≡ true = ap (λ m. is_removed_last m (e.pending ++ ((suc k, changes) ∷ []))) (unmarked n c k e r.1 g) in
+      let last : is_removed_last e.removal_stage (e.pending ++ ((suc k, changes) ∷ []))
+      ≡ true = ap (λ m. is_removed_last m (e.pending ++ ((suc k, changes) ∷ []))) (unmarked n c k e r.1 g) in
       rw (rises-append (insertion_stage e.ins) k changes e.pending (stage-before k e.ins reached) q.3 p.0, last, p.2) refl
 
   all-ready : (xs : List ListElement) → list_all is_ordered xs ≡ true → list_all (is_current n c k) xs ≡ true → list_all (is_ready n c k) xs ≡ true
   all-ready [] h g = refl
   all-ready (e ∷ xs) h g = grind (arith, all-ready xs)
 
-  pub ordered-own : (edit : StageEdit) (xs : List ListElement) → has_one_range edit ≡ true → list_all is_ordered xs ≡ true → list_all (is_current n c k) xs ≡ true → list_all is_ordered (after_own k edit xs) ≡ true
-  ordered-own (PutIn p props items) xs o h g = all-put is_ordered (seen k) no_run p (new_elements 0 (Local (suc k)) [] None props items) xs (own-new-ordered (suc k) 0 props items) h
+  pub ordered-own : (edit : StageEdit) (xs : List ListElement) → has_one_range edit ≡ true → list_all is_ordered xs ≡ true → list_all (is_current n c k) xs
+      ≡ true → list_all is_ordered (after_own k edit xs) ≡ true
+  ordered-own (PutIn p props items) xs o h g = all-put is_ordered (seen k) no_run p (new_elements 0 (Local (suc k)) [] None props items) xs
+      (own-new-ordered (suc k) 0 props items) h
   ordered-own (TakenOut []) xs o h g = h
   ordered-own (TakenOut (range ∷ [])) xs o h g =
-      all-range-to (is_ready n c k) is_ordered (seen k) (with_pending_removal (suc k)) (λ e r. (both (is_ordered e) (is_current n c k e) r).0) own-removal-ordered range.0 range.1 0 xs (all-ready xs h g)
+      all-range-to (is_ready n c k) is_ordered (seen k) (with_pending_removal (suc k)) (λ e r. (both (is_ordered e) (is_current n c k e) r).0)
+      own-removal-ordered range.0 range.1 0 xs (all-ready xs h g)
   ordered-own (TakenOut (range ∷ other ∷ ranges)) xs o h g = absurd (grind (arith, nat_tests))
   ordered-own (Annotated [] changes) xs o h g = h
   ordered-own (Annotated (range ∷ []) changes) xs o h g =
-      all-range-to (is_ready n c k) is_ordered (seen k) (with_pending_annotation (suc k) changes) (λ e r. (both (is_ordered e) (is_current n c k e) r).0) (own-annotation-ordered changes) range.0 range.1 0 xs (all-ready xs h g)
+      all-range-to (is_ready n c k) is_ordered (seen k) (with_pending_annotation (suc k) changes) (λ e r. (both (is_ordered e) (is_current n c k e) r).0)
+      (own-annotation-ordered changes) range.0 range.1 0 xs (all-ready xs h g)
   ordered-own (Annotated (range ∷ other ∷ ranges) changes) xs o h g = absurd (grind (arith, nat_tests))
 
 -- ---- the acknowledgement of the lowest stage
@@ -178,11 +196,13 @@ rises-filter i k (p ∷ pending) h =
     filter-step true l ih = rw (l, ih) refl
     filter-step false l ih = rises-weaker i p.0 (filter (λ p. not (nat_eq p.0 k)) pending) l ih
 
-last-filter : (j k : ℕ) (pending : List (ℕ × Changes)) → list_all (λ p. nat_lt p.0 j) pending ≡ true → list_all (λ p. nat_lt p.0 j) (filter (λ p. not (nat_eq p.0 k)) pending) ≡ true
+last-filter : (j k : ℕ) (pending : List (ℕ × Changes)) → list_all (λ p. nat_lt p.0 j) pending ≡ true
+    → list_all (λ p. nat_lt p.0 j) (filter (λ p. not (nat_eq p.0 k)) pending) ≡ true
 last-filter j k [] h = refl
 last-filter j k (p ∷ pending) h = grind (arith, last-filter j k pending)
 
-removed-acked : (k : ℕ) (m : Option ℕ) (pending : List (ℕ × Changes)) → is_removed_last m pending ≡ true → is_removed_last (remaining_removal k m) (filter (λ p. not (nat_eq p.0 k)) pending) ≡ true
+removed-acked : (k : ℕ) (m : Option ℕ) (pending : List (ℕ × Changes)) → is_removed_last m pending ≡ true
+    → is_removed_last (remaining_removal k m) (filter (λ p. not (nat_eq p.0 k)) pending) ≡ true
 removed-acked k None pending h = refl
 removed-acked k (Some j) pending h = either (nat_eq j k)
   where
@@ -190,7 +210,8 @@ removed-acked k (Some j) pending h = either (nat_eq j k)
     either true = refl
     either false = last-filter j k pending h
 
-stamp-acked : (k s d : ℕ) (t : Stamp) (dels : List Stamp) (m : Option ℕ) → from_stamp k t ≡ true → is_unremoved_pending t dels m ≡ true → is_unremoved_pending (acked_stamp k s d t) (dels ++ acked_removal k s d m) (remaining_removal k m) ≡ true
+stamp-acked : (k s d : ℕ) (t : Stamp) (dels : List Stamp) (m : Option ℕ) → from_stamp k t ≡ true → is_unremoved_pending t dels m ≡ true
+    → is_unremoved_pending (acked_stamp k s d t) (dels ++ acked_removal k s d m) (remaining_removal k m) ≡ true
 stamp-acked k s d (Acked r c) dels m l h = refl
 stamp-acked k s d (Local j) (t ∷ dels) m l h = (cc)
 stamp-acked k s d (Local j) [] None l h = either (nat_eq j k)
@@ -208,7 +229,8 @@ stamp-acked k s d (Local j) [] (Some i) l h = either (nat_eq j k) (later (nat_eq
     either true e = refl
     either false e = rw e h
 
-rises-acked : (k s d : ℕ) (t : Stamp) (pending : List (ℕ × Changes)) → rises_from (insertion_stage t) pending ≡ true → rises_from (insertion_stage (acked_stamp k s d t)) (filter (λ p. not (nat_eq p.0 k)) pending) ≡ true
+rises-acked : (k s d : ℕ) (t : Stamp) (pending : List (ℕ × Changes)) → rises_from (insertion_stage t) pending ≡ true
+    → rises_from (insertion_stage (acked_stamp k s d t)) (filter (λ p. not (nat_eq p.0 k)) pending) ≡ true
 rises-acked k s d (Acked r c) pending h = rises-filter 0 k pending h
 rises-acked k s d (Local j) pending h = either (nat_eq j k)
   where
@@ -227,5 +249,6 @@ ordered-and-from : (k : ℕ) (xs : List ListElement) → list_all is_ordered xs 
 ordered-and-from k [] h g = refl
 ordered-and-from k (e ∷ xs) h g = grind (arith, ordered-and-from k xs)
 
-pub ordered-acked : (k m s d : ℕ) (xs : List ListElement) → list_all is_ordered xs ≡ true → list_all (is_from k) xs ≡ true → list_all is_ordered (map (acked_element k m s d) xs) ≡ true
+pub ordered-acked : (k m s d : ℕ) (xs : List ListElement) → list_all is_ordered xs ≡ true → list_all (is_from k) xs ≡ true
+    → list_all is_ordered (map (acked_element k m s d) xs) ≡ true
 ordered-acked k m s d xs h g = all-map (λ e. is_ordered e && is_from k e) is_ordered (acked_element k m s d) (acked-ordered k m s d) xs (ordered-and-from k xs h g)

@@ -33,7 +33,8 @@ module _ {A : Type 0} (is seen seen' : A → Bool) (same : (x : A) → is x ≡ 
   range-agree p q i g (x ∷ xs) h = grind (arith, range-agree p q i g xs, range-agree p q (suc i) g xs, same x)
 
 -- a change that is left out again
-pub range-left_out : {A : Type 0} (is keep seen : A → Bool) (f g : A → A) → ((x : A) → is x ≡ true → seen x ≡ true → keep (g x) ≡ keep x) → ((x : A) → is x ≡ true → seen x ≡ true → f (g x) ≡ f x)
+pub range-left_out : {A : Type 0} (is keep seen : A → Bool) (f g : A → A) → ((x : A) → is x ≡ true → seen x ≡ true → keep (g x) ≡ keep x)
+    → ((x : A) → is x ≡ true → seen x ≡ true → f (g x) ≡ f x)
     → (p q i : ℕ) (xs : List A) → list_all is xs ≡ true → retain_map keep f (change_range_from i seen p q g xs) ≡ retain_map keep f xs
 range-left_out is keep seen f g k e p q i [] h = refl
 range-left_out is keep seen f g k e p q i (x ∷ xs) h =
@@ -44,7 +45,8 @@ range-left_out is keep seen f g k e p q i (x ∷ xs) h =
 later : (i k : ℕ) → i < suc k → nat_le (suc k) i ≡ false
 later i k l = grind (arith, nat_tests)
 
-pub later-insertion : (i k j : ℕ) (props : PropertyList) (items : List ElementContent) → i < suc k → list_any (is_upto i) (new_elements j (Local (suc k)) [] None props items) ≡ false
+pub later-insertion : (i k j : ℕ) (props : PropertyList) (items : List ElementContent) → i < suc k
+    → list_any (is_upto i) (new_elements j (Local (suc k)) [] None props items) ≡ false
 later-insertion i k j props [] l = refl
 later-insertion i k j props (b ∷ bs) l = rw (later i k l) (later-insertion i k (j + 1) props bs l)
 
@@ -101,22 +103,26 @@ module _ (r c k : ℕ) where
 
     insertion-below : (p : ℕ) (props : PropertyList) (items : List ElementContent) (xs : List ListElement)
         → list_up_to i (put (seen k) no_run p (new_elements 0 (Local (suc k)) [] None props items) xs) ≡ list_up_to i xs
-    insertion-below p props items xs = drop-put (is_upto i) (seen k) (element_up_to i) p (new_elements 0 (Local (suc k)) [] None props items) xs (later-insertion i k 0 props items l)
+    insertion-below p props items xs = drop-put (is_upto i) (seen k) (element_up_to i) p (new_elements 0 (Local (suc k)) [] None props items) xs
+        (later-insertion i k 0 props items l)
 
-    removal-below : (p q : ℕ) (xs : List ListElement) → list_all (is_current r c k) xs ≡ true → list_up_to i (change_range (seen k) p q (with_pending_removal (suc k)) xs) ≡ list_up_to i xs
+    removal-below : (p q : ℕ) (xs : List ListElement) → list_all (is_current r c k) xs ≡ true
+        → list_up_to i (change_range (seen k) p q (with_pending_removal (suc k)) xs) ≡ list_up_to i xs
     removal-below p q xs h = range-left_out (is_current r c k) (is_upto i) (seen k) (element_up_to i) (with_pending_removal (suc k)) (λ e f g. refl) removal-later p q 0 xs h
 
     annotation-below : (changes : Changes) (p q : ℕ) (xs : List ListElement) → list_all (is_current r c k) xs ≡ true
         → list_up_to i (change_range (seen k) p q (with_pending_annotation (suc k) changes) xs) ≡ list_up_to i xs
     annotation-below changes p q xs h =
-        range-left_out (is_current r c k) (is_upto i) (seen k) (element_up_to i) (with_pending_annotation (suc k) changes) (λ e f g. refl) (λ e f g. annotation-later changes e) p q 0 xs h
+        range-left_out (is_current r c k) (is_upto i) (seen k) (element_up_to i) (with_pending_annotation (suc k) changes) (λ e f g. refl)
+        (λ e f g. annotation-later changes e) p q 0 xs h
 
   removal-current : (e : ListElement) → is_current r c (suc k) e ≡ true → is_current r c (suc k) (with_pending_removal (suc k) e) ≡ true
   removal-current e h =
       let p = all_four (stamp_known r c (suc k) e.ins) (list_all (has_occurred r c) e.dels) (mark_upto (suc k) e.removal_stage) (list_all (λ q. nat_le q.0 (suc k)) e.pending) h in
       rw (p.0, p.1, own-stage k, p.3) refl
 
-  changes-current : (changes : Changes) (pending : List (ℕ × Changes)) → list_all (λ q. nat_le q.0 (suc k)) pending ≡ true → list_all (λ q. nat_le q.0 (suc k)) (pending ++ ((suc k, changes) ∷ [])) ≡ true
+  changes-current : (changes : Changes) (pending : List (ℕ × Changes)) → list_all (λ q. nat_le q.0 (suc k)) pending ≡ true
+      → list_all (λ q. nat_le q.0 (suc k)) (pending ++ ((suc k, changes) ∷ [])) ≡ true
   changes-current changes [] h = rw (own-stage k) refl
   changes-current changes (p ∷ pending) h = grind (arith, changes-current changes pending)
 
@@ -126,18 +132,23 @@ module _ (r c k : ℕ) where
       rw (p.0, p.1, p.2, changes-current changes e.pending p.3) refl
 
   -- the list that an edit makes is current
-  pub own-current : (edit : StageEdit) (xs : List ListElement) → has_one_range edit ≡ true → list_all (is_current r c k) xs ≡ true → list_all (is_current r c (suc k)) (after_own k edit xs) ≡ true
+  pub own-current : (edit : StageEdit) (xs : List ListElement) → has_one_range edit ≡ true → list_all (is_current r c k) xs ≡ true
+      → list_all (is_current r c (suc k)) (after_own k edit xs) ≡ true
   own-current (PutIn p props items) xs o h =
-      all-put (is_current r c (suc k)) (seen k) p (new_elements 0 (Local (suc k)) [] None props items) xs (after_local_insertion-current r c k 0 props items) (more-current r c k xs h)
+      all-put (is_current r c (suc k)) (seen k) p (new_elements 0 (Local (suc k)) [] None props items) xs (after_local_insertion-current r c k 0 props items)
+      (more-current r c k xs h)
   own-current (TakenOut []) xs o h = more-current r c k xs h
-  own-current (TakenOut (range ∷ [])) xs o h = all-range (is_current r c (suc k)) (seen k) (with_pending_removal (suc k)) removal-current range.0 range.1 0 xs (more-current r c k xs h)
+  own-current (TakenOut (range ∷ [])) xs o h = all-range (is_current r c (suc k)) (seen k) (with_pending_removal (suc k)) removal-current range.0 range.1 0 xs
+      (more-current r c k xs h)
   own-current (TakenOut (range ∷ other ∷ ranges)) xs o h = absurd (grind (arith, nat_tests))
   own-current (Annotated [] changes) xs o h = more-current r c k xs h
-  own-current (Annotated (range ∷ []) changes) xs o h = all-range (is_current r c (suc k)) (seen k) (with_pending_annotation (suc k) changes) (annotation-current changes) range.0 range.1 0 xs (more-current r c k xs h)
+  own-current (Annotated (range ∷ []) changes) xs o h = all-range (is_current r c (suc k)) (seen k) (with_pending_annotation (suc k) changes)
+      (annotation-current changes) range.0 range.1 0 xs (more-current r c k xs h)
   own-current (Annotated (range ∷ other ∷ ranges) changes) xs o h = absurd (grind (arith, nat_tests))
 
   -- the list up to a lower stage is as it was
-  pub own-below : (i : ℕ) (edit : StageEdit) (xs : List ListElement) → i < suc k → has_one_range edit ≡ true → list_all (is_current r c k) xs ≡ true → list_up_to i (after_own k edit xs) ≡ list_up_to i xs
+  pub own-below : (i : ℕ) (edit : StageEdit) (xs : List ListElement) → i < suc k → has_one_range edit ≡ true → list_all (is_current r c k) xs ≡ true
+      → list_up_to i (after_own k edit xs) ≡ list_up_to i xs
   own-below i (PutIn p props items) xs l o h = insertion-below i l p props items xs
   own-below i (TakenOut []) xs l o h = refl
   own-below i (TakenOut (range ∷ [])) xs l o h = removal-below i l range.0 range.1 xs h
@@ -147,16 +158,20 @@ module _ (r c k : ℕ) where
   own-below i (Annotated (range ∷ other ∷ ranges) changes) xs l o h = absurd (grind (arith, nat_tests))
 
   -- the client's view is what the message will see
-  own-as_pending : (edit : StageEdit) (xs : List ListElement) → has_one_range edit ≡ true → list_all (is_current r c k) xs ≡ true → after_pending r c (suc k) edit xs ≡ after_own k edit xs
-  own-as_pending (PutIn p props items) xs o h = put-agree (is_current r c k) (seen k) (expects r c (suc (suc k))) expected no_run p (new_elements 0 (Local (suc k)) [] None props items) xs h
+  own-as_pending : (edit : StageEdit) (xs : List ListElement) → has_one_range edit ≡ true → list_all (is_current r c k) xs ≡ true
+      → after_pending r c (suc k) edit xs ≡ after_own k edit xs
+  own-as_pending (PutIn p props items) xs o h = put-agree (is_current r c k) (seen k) (expects r c (suc (suc k))) expected no_run p
+      (new_elements 0 (Local (suc k)) [] None props items) xs h
   own-as_pending (TakenOut []) xs o h = refl
   own-as_pending (TakenOut (range ∷ [])) xs o h = range-agree (is_current r c k) (seen k) (expects r c (suc (suc k))) expected range.0 range.1 0 (with_pending_removal (suc k)) xs h
   own-as_pending (TakenOut (range ∷ other ∷ ranges)) xs o h = absurd (grind (arith, nat_tests))
   own-as_pending (Annotated [] changes) xs o h = refl
-  own-as_pending (Annotated (range ∷ []) changes) xs o h = range-agree (is_current r c k) (seen k) (expects r c (suc (suc k))) expected range.0 range.1 0 (with_pending_annotation (suc k) changes) xs h
+  own-as_pending (Annotated (range ∷ []) changes) xs o h = range-agree (is_current r c k) (seen k) (expects r c (suc (suc k))) expected range.0 range.1 0
+      (with_pending_annotation (suc k) changes) xs h
   own-as_pending (Annotated (range ∷ other ∷ ranges) changes) xs o h = absurd (grind (arith, nat_tests))
 
-  own-as_fits : (edit : StageEdit) (xs : List ListElement) → has_one_range edit ≡ true → list_all (is_current r c k) xs ≡ true → fits_pending r c (suc k) edit xs ≡ fits_own k edit xs
+  own-as_fits : (edit : StageEdit) (xs : List ListElement) → has_one_range edit ≡ true → list_all (is_current r c k) xs ≡ true
+      → fits_pending r c (suc k) edit xs ≡ fits_own k edit xs
   own-as_fits (PutIn p props items) xs o h = ap (nat_le p) (len-agree (is_current r c k) (seen k) (expects r c (suc (suc k))) expected xs h)
   own-as_fits (TakenOut []) xs o h = refl
   own-as_fits (TakenOut (range ∷ [])) xs o h = ap (λ n. nat_le range.1 n && true) (len-agree (is_current r c k) (seen k) (expects r c (suc (suc k))) expected xs h)
@@ -166,7 +181,8 @@ module _ (r c k : ℕ) where
   own-as_fits (Annotated (range ∷ other ∷ ranges) changes) xs o h = absurd (grind (arith, nat_tests))
 
   -- an edit makes what is to be known of its stage
-  pub own-stands : (edit : StageEdit) (xs : List ListElement) → has_one_range edit ≡ true → list_all (is_current r c k) xs ≡ true → fits_own k edit xs ≡ true → IsStanding k r c edit (after_own k edit xs)
+  pub own-stands : (edit : StageEdit) (xs : List ListElement) → has_one_range edit ≡ true → list_all (is_current r c k) xs ≡ true → fits_own k edit xs ≡ true
+      → IsStanding k r c edit (after_own k edit xs)
   own-stands edit xs o h fits =
       let lower : list_up_to k (after_own k edit xs) ≡ xs = own-below k edit xs (omega arith) o h ∙ list_up_to-now r c k xs h in
       record {
@@ -178,13 +194,15 @@ module _ (r c k : ℕ) where
       }
 
 -- what is known of a stage depends on the list up to it alone
-pub stands-as : (i r c : ℕ) (edit : StageEdit) (xs ys : List ListElement) → list_up_to i ys ≡ list_up_to i xs → list_up_to (suc i) ys ≡ list_up_to (suc i) xs → IsStanding i r c edit xs → IsStanding i r c edit ys
+pub stands-as : (i r c : ℕ) (edit : StageEdit) (xs ys : List ListElement) → list_up_to i ys ≡ list_up_to i xs → list_up_to (suc i) ys ≡ list_up_to (suc i) xs
+    → IsStanding i r c edit xs → IsStanding i r c edit ys
 stands-as i r c edit xs ys e f h = record {
   in_range = ap (fits_pending r c (suc i) edit) e ∙ h.in_range;
   made = f ∙ h.made ∙ ap (after_pending r c (suc i) edit) (sym e);
 }
 
 -- an edit keeps what is known of the lower stages
-pub own-keeps : (i k r c n d : ℕ) (lower edit : StageEdit) (xs : List ListElement) → i < k → has_one_range edit ≡ true → list_all (is_current n d k) xs ≡ true → IsStanding i r c lower xs → IsStanding i r c lower (after_own k edit xs)
+pub own-keeps : (i k r c n d : ℕ) (lower edit : StageEdit) (xs : List ListElement) → i < k → has_one_range edit ≡ true → list_all (is_current n d k) xs ≡ true
+    → IsStanding i r c lower xs → IsStanding i r c lower (after_own k edit xs)
 own-keeps i k r c n d lower edit xs l o h stands =
     stands-as i r c lower xs (after_own k edit xs) (own-below n d k i edit xs (omega arith) o h) (own-below n d k (suc i) edit xs (omega arith) o h) stands

@@ -68,7 +68,8 @@ own-named test [] = refl
 own-named test (y ∷ xs) =
     rw (
       here (test y) (list_any (λ e. has_id (id y) e && test e) xs),
-      all-weaker (λ e. not (test e) || has_named test xs (id e)) (λ e. not (test e) || has_named test (y ∷ xs) (id e)) (λ e h. later (not (test e)) (has_id (id e) y && test y) (has_named test xs (id e)) h) xs (own-named test xs),
+      all-weaker (λ e. not (test e) || has_named test xs (id e)) (λ e. not (test e) || has_named test (y ∷ xs) (id e))
+          (λ e h. later (not (test e)) (has_id (id e) y && test y) (has_named test xs (id e)) h) xs (own-named test xs),
     ) refl
   where
     here : (b c : Bool) → not b || ((same_id (id y) (id y) && b) || c) ≡ true
@@ -104,7 +105,8 @@ other-named test (y ∷ xs) h =
         both-ways false = refl
 
 -- a test of names that all who pass another have
-pub named-passes : (test held : ListElement → Bool) (has : ElementId → Bool) → ((e : ListElement) → held e ≡ true → test e ≡ true → has (id e) ≡ true) → (x : ElementId) (xs : List ListElement)
+pub named-passes : (test held : ListElement → Bool) (has : ElementId → Bool) → ((e : ListElement) → held e ≡ true → test e ≡ true → has (id e) ≡ true)
+    → (x : ElementId) (xs : List ListElement)
     → list_all held xs ≡ true → has_named test xs x ≡ true → has x ≡ true
 named-passes test held has f x [] h k = (cc)
 named-passes test held has f x (y ∷ xs) h k =
@@ -155,11 +157,13 @@ more_below n m e l h = let p = both (is_sequenced e) (nat_lt e.nth n) h in rw (p
 below_next : (n m : ℕ) → n < m → nat_lt n m ≡ true
 below_next n m l = grind (arith, nat_tests)
 
-new-below : (n m s c : ℕ) (by : Option Stamp) (props : PropertyList) (bs : List ElementContent) → n + length bs ≤ m → list_all (is_numbered_below m) (new_elements n (Acked s c) [] by props bs) ≡ true
+new-below : (n m s c : ℕ) (by : Option Stamp) (props : PropertyList) (bs : List ElementContent) → n + length bs ≤ m
+    → list_all (is_numbered_below m) (new_elements n (Acked s c) [] by props bs) ≡ true
 new-below n m s c by props [] l = refl
 new-below n m s c by props (b ∷ bs) l = rw (below_next n m (omega arith), new-below (n + 1) m s c by props bs (omega arith)) refl
 
-new-from : (k n s c : ℕ) (by : Option Stamp) (props : PropertyList) (bs : List ElementContent) → k ≤ n → list_all (is_numbered_from k) (new_elements n (Acked s c) [] by props bs) ≡ true
+new-from : (k n s c : ℕ) (by : Option Stamp) (props : PropertyList) (bs : List ElementContent) → k ≤ n
+    → list_all (is_numbered_from k) (new_elements n (Acked s c) [] by props bs) ≡ true
 new-from k n s c by props [] l = refl
 new-from k n s c by props (b ∷ bs) l = rw (from_self k n l, new-from k (n + 1) s c by props bs (omega arith)) refl
 
@@ -189,7 +193,8 @@ any-put is seen past (suc p) new [] g h = g
 any-put is seen past (suc p) new (x ∷ xs) g h = grind (arith, any-put is seen past p new xs, any-put is seen past (suc p) new xs)
 
 module _ (n : ℕ) where
-  distinct-append : (new xs : List ListElement) → are_distinct new ≡ true → list_all (is_numbered_from n) new ≡ true → are_distinct xs ≡ true → list_all (is_numbered_below n) xs ≡ true → are_distinct (new ++ xs) ≡ true
+  distinct-append : (new xs : List ListElement) → are_distinct new ≡ true → list_all (is_numbered_from n) new ≡ true → are_distinct xs ≡ true
+      → list_all (is_numbered_below n) xs ≡ true → are_distinct (new ++ xs) ≡ true
   distinct-append [] xs d f e b = e
   distinct-append (y ∷ new) xs d f e b =
       let p = both (not (list_any (has_id (id y)) new)) (are_distinct new) d in
@@ -214,30 +219,38 @@ module _ (n : ℕ) where
         (rw (any-put_past (has_id (id x)) past new xs (old-apart n x new q.0 f) (negated (list_any (has_id (id x)) xs) p.0), distinct-put_past xs p.1 q.1) refl)
         (distinct-append new (x ∷ xs) d f e b)
       where
-        chosen : (c : Bool) → are_distinct (x ∷ put_past past new xs) ≡ true → are_distinct (new ++ (x ∷ xs)) ≡ true → are_distinct (cond c (x ∷ put_past past new xs) (new ++ (x ∷ xs))) ≡ true
+        chosen : (c : Bool) → are_distinct (x ∷ put_past past new xs) ≡ true → are_distinct (new ++ (x ∷ xs)) ≡ true
+            → are_distinct (cond c (x ∷ put_past past new xs) (new ++ (x ∷ xs))) ≡ true
         chosen true g h = g
         chosen false g h = h
 
-    distinct-put : (seen : ListElement → Bool) (p : ℕ) (xs : List ListElement) → are_distinct xs ≡ true → list_all (is_numbered_below n) xs ≡ true → are_distinct (put seen past p new xs) ≡ true
+    distinct-put : (seen : ListElement → Bool) (p : ℕ) (xs : List ListElement) → are_distinct xs ≡ true → list_all (is_numbered_below n) xs ≡ true
+        → are_distinct (put seen past p new xs) ≡ true
     distinct-put seen zero xs e b = distinct-put_past xs e b
     distinct-put seen (suc p) [] e b = d
     distinct-put seen (suc p) (x ∷ xs) e b =
         let r = both (not (list_any (has_id (id x)) xs)) (are_distinct xs) e in
         let q = both (is_numbered_below n x) (list_all (is_numbered_below n) xs) b in
-        rw (any-put (has_id (id x)) seen past (cond (seen x) p (suc p)) new xs (old-apart n x new q.0 f) (negated (list_any (has_id (id x)) xs) r.0), distinct-put seen (cond (seen x) p (suc p)) xs r.1 q.1) refl
+        rw (
+          any-put (has_id (id x)) seen past (cond (seen x) p (suc p)) new xs (old-apart n x new q.0 f) (negated (list_any (has_id (id x)) xs) r.0),
+          distinct-put seen (cond (seen x) p (suc p)) xs r.1 q.1,
+        ) refl
 
 -- a sequenced insertion keeps names apart
-pub insertion-numbered : (s c r p : ℕ) (by : Option Stamp) (props : PropertyList) (bs : List ElementContent) (list : Sequence) → IsNumbered list → IsNumbered (after_insertion s c r p by props bs list)
+pub insertion-numbered : (s c r p : ℕ) (by : Option Stamp) (props : PropertyList) (bs : List ElementContent) (list : Sequence) → IsNumbered list
+    → IsNumbered (after_insertion s c r p by props bs list)
 insertion-numbered s c r p by props bs list h =
     let new = new_elements list.made (Acked s c) [] by props bs in
     let m = list.made + length bs in
     record {
       below = all-put (is_numbered_below m) (seen_by r c) is_pending p new list.items (new-below list.made m s c by props bs (omega arith))
           (all-weaker (is_numbered_below list.made) (is_numbered_below m) (λ e k. more_below list.made m e (omega arith) k) list.items h.below);
-      distinct = distinct-put list.made is_pending new (new-distinct list.made s c by props bs) (new-from list.made list.made s c by props bs (omega arith)) (seen_by r c) p list.items h.distinct h.below;
+      distinct = distinct-put list.made is_pending new (new-distinct list.made s c by props bs) (new-from list.made list.made s c by props bs (omega arith))
+          (seen_by r c) p list.items h.distinct h.below;
     }
 
-module _ (test : ListElement → Bool) (f : ListElement → ListElement) (name : (e : ListElement) → id (f e) ≡ id e) (nth : (e : ListElement) → (f e).nth ≡ e.nth) (ins : (e : ListElement) → (f e).ins ≡ e.ins) where
+module _ (test : ListElement → Bool) (f : ListElement → ListElement) (name : (e : ListElement) → id (f e) ≡ id e) (nth : (e : ListElement) → (f e).nth ≡ e.nth)
+    (ins : (e : ListElement) → (f e).ins ≡ e.ins) where
   changed-id : (b : Bool) (e : ListElement) → id (cond b (f e) e) ≡ id e
   changed-id true e = name e
   changed-id false e = refl
@@ -249,7 +262,12 @@ module _ (test : ListElement → Bool) (f : ListElement → ListElement) (name :
 
   range-distinct : (i p q : ℕ) (xs : List ListElement) → are_distinct (change_range_from i test p q f xs) ≡ are_distinct xs
   range-distinct i p q [] = refl
-  range-distinct i p q (e ∷ xs) = rw (changed-id (test e && within p q i) e, range-named (id e) (one_more_if (test e) i) p q xs, range-distinct (one_more_if (test e) i) p q xs) refl
+  range-distinct i p q (e ∷ xs) = rw (
+    changed-id (test e && within p q i) e,
+    range-named (id e) (one_more_if (test e) i) p q xs,
+    range-distinct
+        (one_more_if (test e) i) p q xs,
+  ) refl
 
   pub range-numbered : (p q : ℕ) (list : Sequence) → IsNumbered list → IsNumbered (record list { items = change_range_from 0 test p q f list.items })
   range-numbered p q list h = record {
@@ -258,10 +276,12 @@ module _ (test : ListElement → Bool) (f : ListElement → ListElement) (name :
   }
 
 -- and so does leaving elements out
-pub retain_map-numbered : (keep : ListElement → Bool) (f : ListElement → ListElement) → ((e : ListElement) → id (f e) ≡ id e) → (n : ℕ) → ((e : ListElement) → is_numbered_below n e ≡ true → is_numbered_below n (f e) ≡ true) → (list : Sequence) → n ≡ list.made → IsNumbered list
+pub retain_map-numbered : (keep : ListElement → Bool) (f : ListElement → ListElement) → ((e : ListElement) → id (f e) ≡ id e) → (n : ℕ)
+    → ((e : ListElement) → is_numbered_below n e ≡ true → is_numbered_below n (f e) ≡ true) → (list : Sequence) → n ≡ list.made → IsNumbered list
     → IsNumbered (record list { items = retain_map keep f list.items })
 retain_map-numbered keep f name n kept list e h = record {
-  below = subst (λ m. list_all (is_numbered_below m) (retain_map keep f list.items) ≡ true) e (below list.items (subst (λ m. list_all (is_numbered_below m) list.items ≡ true) (sym e) h.below));
+  below = subst (λ m. list_all (is_numbered_below m) (retain_map keep f list.items) ≡ true) e
+      (below list.items (subst (λ m. list_all (is_numbered_below m) list.items ≡ true) (sym e) h.below));
   distinct = distinct list.items h.distinct;
 }
   where
@@ -273,7 +293,8 @@ retain_map-numbered keep f name n kept list e h = record {
     below [] h = refl
     below (x ∷ xs) h = let p = both (is_numbered_below n x) (list_all (is_numbered_below n) xs) h in step (keep x) (kept x p.0) (below xs p.1)
       where
-        step : (b : Bool) → is_numbered_below n (f x) ≡ true → list_all (is_numbered_below n) (retain_map keep f xs) ≡ true → list_all (is_numbered_below n) (cond b (f x ∷ retain_map keep f xs) (retain_map keep f xs)) ≡ true
+        step : (b : Bool) → is_numbered_below n (f x) ≡ true → list_all (is_numbered_below n) (retain_map keep f xs) ≡ true
+            → list_all (is_numbered_below n) (cond b (f x ∷ retain_map keep f xs) (retain_map keep f xs)) ≡ true
         step true g k = rw (g, k) refl
         step false g k = k
 
@@ -281,7 +302,9 @@ retain_map-numbered keep f name n kept list e h = record {
     absent x [] h = refl
     absent x (y ∷ xs) h = step (keep y) (same_id x (id y)) refl h (absent x xs)
       where
-        step : (b c : Bool) → same_id x (id y) ≡ c → c || list_any (has_id x) xs ≡ false → (list_any (has_id x) xs ≡ false → list_any (has_id x) (retain_map keep f xs) ≡ false) → list_any (has_id x) (cond b (f y ∷ retain_map keep f xs) (retain_map keep f xs)) ≡ false
+        step : (b c : Bool) → same_id x (id y) ≡ c → c || list_any (has_id x) xs ≡ false
+            → (list_any (has_id x) xs ≡ false → list_any (has_id x) (retain_map keep f xs) ≡ false)
+            → list_any (has_id x) (cond b (f y ∷ retain_map keep f xs) (retain_map keep f xs)) ≡ false
         step b true e h g = (cc)
         step true false e h g = rw (name y, e) (g h)
         step false false e h g = g h
@@ -292,6 +315,7 @@ retain_map-numbered keep f name n kept list e h = record {
         let p = both (not (list_any (has_id (id y)) xs)) (are_distinct xs) h in
         step (keep y) (absent (id y) xs (negated (list_any (has_id (id y)) xs) p.0)) (distinct xs p.1)
       where
-        step : (b : Bool) → list_any (has_id (id y)) (retain_map keep f xs) ≡ false → are_distinct (retain_map keep f xs) ≡ true → are_distinct (cond b (f y ∷ retain_map keep f xs) (retain_map keep f xs)) ≡ true
+        step : (b : Bool) → list_any (has_id (id y)) (retain_map keep f xs) ≡ false → are_distinct (retain_map keep f xs) ≡ true
+            → are_distinct (cond b (f y ∷ retain_map keep f xs) (retain_map keep f xs)) ≡ true
         step true g k = rw (name y, g, k) refl
         step false g k = k

@@ -66,12 +66,36 @@ typed-place (OnGrid (SpliceOut target p q)) = record { first = 0; second = 0; ra
 typed-place (OnGrid (Set i j value)) = record { first = i; second = j; ranges = []; other = IntervalDelete [] []; alike = refl; made = refl }
 
 pub tells-told_of : (o : SubOperation) → Tells o (told_of o)
-tells-told_of (OnText (Insert p seg props)) = record { place = typed-place (OnText (Insert p seg props)); intervals = λ names is. refl; cells = λ names cells. refl; made = λ doc. refl }
+tells-told_of (OnText (Insert p seg props)) = record {
+  place = typed-place (OnText (Insert p seg props));
+  intervals = λ names is. refl;
+  cells = λ names cells.
+      refl;
+  made = λ doc. refl;
+}
 tells-told_of (OnText (Remove p q)) = record { place = typed-place (OnText (Remove p q)); intervals = λ names is. refl; cells = λ names cells. refl; made = λ doc. refl }
-tells-told_of (OnText (Annotate p q changes)) = record { place = typed-place (OnText (Annotate p q changes)); intervals = λ names is. refl; cells = λ names cells. refl; made = λ doc. refl }
+tells-told_of (OnText (Annotate p q changes)) = record {
+  place = typed-place (OnText (Annotate p q changes));
+  intervals = λ names is. refl;
+  cells = λ names
+      cells. refl;
+  made = λ doc. refl;
+}
 tells-told_of (OnIntervals op) = record { place = typed-place (OnIntervals op); intervals = λ names is. refl; cells = λ names cells. refl; made = λ doc. refl }
-tells-told_of (OnGrid (SpliceIn target p count)) = record { place = typed-place (OnGrid (SpliceIn target p count)); intervals = λ names is. refl; cells = λ names cells. refl; made = λ doc. refl }
-tells-told_of (OnGrid (SpliceOut target p q)) = record { place = typed-place (OnGrid (SpliceOut target p q)); intervals = λ names is. refl; cells = λ names cells. refl; made = λ doc. refl }
+tells-told_of (OnGrid (SpliceIn target p count)) = record {
+  place = typed-place (OnGrid (SpliceIn target p count));
+  intervals = λ names is. refl;
+  cells =
+      λ names cells. refl;
+  made = λ doc. refl;
+}
+tells-told_of (OnGrid (SpliceOut target p q)) = record {
+  place = typed-place (OnGrid (SpliceOut target p q));
+  intervals = λ names is. refl;
+  cells = λ names
+      cells. refl;
+  made = λ doc. refl;
+}
 tells-told_of (OnGrid (Set i j value)) = record { place = typed-place (OnGrid (Set i j value)); intervals = λ names is. refl; cells = λ names cells. refl; made = λ doc. refl }
 
 -- ---- what an answer that isn't a fault says
@@ -149,21 +173,28 @@ module _ (k : ℕ) where
   unless-ok None r taken h = h
   unless-ok (Some fault) r taken h = (cc)
 
-  local-interval : (doc : Document) (stages : List Stage) (op : TextOp) (taken : Document × NamedElements) → local_interval doc stages (suc k) op ≡ Ok taken → IsOwn k (IntervalsChanged op) taken.1 doc taken.0
+  local-interval : (doc : Document) (stages : List Stage) (op : TextOp) (taken : Document × NamedElements) → local_interval doc stages (suc k) op ≡ Ok taken
+      → IsOwn k (IntervalsChanged op) taken.1 doc taken.0
   local-interval doc stages op taken h =
       let n = len (seen (suc k - 1)) doc.text.items in
       let names = elements_at_given_ends (seen (suc k - 1)) doc.text.items (ends_of op) in
       let answer : EditResult = cond (given_ends_fit n (ends_of op)) (Ok (doc, names)) (Err (OutOfRange n)) in
-      let c = ok-choice (given_ends_fit n (ends_of op)) (doc, names) taken (OutOfRange n) (unless-ok (id_fault (shown_intervals doc.text.items doc.intervals stages) op) answer taken h) in
+      let c = ok-choice (given_ends_fit n (ends_of op)) (doc, names) taken (OutOfRange n)
+      (unless-ok (id_fault (shown_intervals doc.text.items doc.intervals stages) op) answer taken h) in
       subst (λ z. IsOwn k (IntervalsChanged op) z.1 doc z.0) c.1 (record {
         text = untouched k doc.text.items;
         rows = untouched k doc.rows.items;
         cols = untouched k doc.cols.items;
-        named = (ap (λ i. given_ends_fit (len (seen i) doc.text.items) (ends_of op)) (sym (pred_suc k)) ∙ c.0, ap (λ i. elements_at_given_ends (seen i) doc.text.items (ends_of op)) (sym (pred_suc k)));
+        named = (
+          ap (λ i. given_ends_fit (len (seen i) doc.text.items) (ends_of op)) (sym (pred_suc k))
+              ∙ c.0,
+          ap (λ i. elements_at_given_ends (seen i) doc.text.items (ends_of op)) (sym (pred_suc k)),
+        );
         agrees = refl;
       })
 
-  rows-own : (doc : Document) (sent : SentStage) (ys : List ListElement) → IsOwnStep k (rows_edit sent) doc.rows.items ys → text_edit sent ≡ TakenOut [] → cols_edit sent ≡ TakenOut []
+  rows-own : (doc : Document) (sent : SentStage) (ys : List ListElement) → IsOwnStep k (rows_edit sent) doc.rows.items ys → text_edit sent ≡ TakenOut []
+      → cols_edit sent ≡ TakenOut []
       → NamesBy (seen k) doc.text.items doc.rows.items doc.cols.items sent no_elements → IsOwn k sent no_elements doc (record doc { rows = record doc.rows { items = ys } })
   rows-own doc sent ys o e f names = record {
     text = subst (λ edit. IsOwnStep k edit doc.text.items doc.text.items) (sym e) (untouched k doc.text.items);
@@ -173,7 +204,8 @@ module _ (k : ℕ) where
     agrees = ap (λ list. record (sequenced_part doc) { rows = list }) (list-agrees (rows_edit sent) doc.rows ys o);
   }
 
-  cols-own : (doc : Document) (sent : SentStage) (ys : List ListElement) → IsOwnStep k (cols_edit sent) doc.cols.items ys → text_edit sent ≡ TakenOut [] → rows_edit sent ≡ TakenOut []
+  cols-own : (doc : Document) (sent : SentStage) (ys : List ListElement) → IsOwnStep k (cols_edit sent) doc.cols.items ys → text_edit sent ≡ TakenOut []
+      → rows_edit sent ≡ TakenOut []
       → NamesBy (seen k) doc.text.items doc.rows.items doc.cols.items sent no_elements → IsOwn k sent no_elements doc (record doc { cols = record doc.cols { items = ys } })
   cols-own doc sent ys o e f names = record {
     text = subst (λ edit. IsOwnStep k edit doc.text.items doc.text.items) (sym e) (untouched k doc.text.items);
@@ -183,7 +215,8 @@ module _ (k : ℕ) where
     agrees = ap (λ list. record (sequenced_part doc) { cols = list }) (list-agrees (cols_edit sent) doc.cols ys o);
   }
 
-  set-own : (doc : Document) (i j : ℕ) (value : ValueBytes) (row col : Option ListElement) (taken : Document × NamedElements) → at (seen k) i doc.rows.items ≡ row → at (seen k) j doc.cols.items ≡ col
+  set-own : (doc : Document) (i j : ℕ) (value : ValueBytes) (row col : Option ListElement) (taken : Document × NamedElements) → at (seen k) i doc.rows.items
+      ≡ row → at (seen k) j doc.cols.items ≡ col
       → local_set doc (suc k) row col ≡ Ok taken → IsOwn k (CellWritten i j value) taken.1 doc taken.0
   set-own doc i j value (Some row) (Some col) taken e f h =
       let names : NamedElements = record { first = Some (id row); second = Some (id col) } in
@@ -203,12 +236,14 @@ module _ (k : ℕ) where
       let list = after_local_insertion (suc k) p [] (replicate count GridUnit) doc.rows in
       let n = len (seen (suc k - 1)) doc.rows.items in
       let c = ok-choice (nat_le p n) (record doc { rows = list }, no_elements) taken (OutOfRange n) h in
-      subst (λ z. IsOwn k (UnitsPut Rows p count) z.1 doc z.0) c.1 (rows-own doc (UnitsPut Rows p count) list.items (put-step p [] (replicate count GridUnit) doc.rows c.0) refl refl tt)
+      subst (λ z. IsOwn k (UnitsPut Rows p count) z.1 doc z.0) c.1 (rows-own doc (UnitsPut Rows p count) list.items
+      (put-step p [] (replicate count GridUnit) doc.rows c.0) refl refl tt)
   local-grid doc (SpliceIn Cols p count) taken h =
       let list = after_local_insertion (suc k) p [] (replicate count GridUnit) doc.cols in
       let n = len (seen (suc k - 1)) doc.cols.items in
       let c = ok-choice (nat_le p n) (record doc { cols = list }, no_elements) taken (OutOfRange n) h in
-      subst (λ z. IsOwn k (UnitsPut Cols p count) z.1 doc z.0) c.1 (cols-own doc (UnitsPut Cols p count) list.items (put-step p [] (replicate count GridUnit) doc.cols c.0) refl refl tt)
+      subst (λ z. IsOwn k (UnitsPut Cols p count) z.1 doc z.0) c.1 (cols-own doc (UnitsPut Cols p count) list.items
+      (put-step p [] (replicate count GridUnit) doc.cols c.0) refl refl tt)
   local-grid doc (SpliceOut Rows p q) taken h =
       let list = after_local_mark (suc k) p q (with_pending_removal (suc k)) doc.rows in
       let n = len (seen (suc k - 1)) doc.rows.items in
@@ -223,7 +258,8 @@ module _ (k : ℕ) where
       set-own doc i j value (at (seen (suc k - 1)) i doc.rows.items) (at (seen (suc k - 1)) j doc.cols.items) taken
       (ap (λ m. at (seen m) i doc.rows.items) (sym (pred_suc k))) (ap (λ m. at (seen m) j doc.cols.items) (sym (pred_suc k))) h
 
-  pub local-own : (doc : Document) (stages : List Stage) (o : SubOperation) (taken : Document × NamedElements) → local_sub_operation doc stages (suc k) o ≡ Ok taken → IsOwn k (told_of o) taken.1 doc taken.0
+  pub local-own : (doc : Document) (stages : List Stage) (o : SubOperation) (taken : Document × NamedElements) → local_sub_operation doc stages (suc k) o
+      ≡ Ok taken → IsOwn k (told_of o) taken.1 doc taken.0
   local-own doc stages (OnText op) taken h = local-text doc op taken h
   local-own doc stages (OnIntervals op) taken h = local-interval doc stages op taken h
   local-own doc stages (OnGrid op) taken h = local-grid doc op taken h
@@ -260,7 +296,8 @@ then_stage stages k o os (Ok taken) =
     then_rest here (local_sub_operations taken.0 (stages ++ (here ∷ [])) (k + 1) os)
 
 abbrev Later : ℕ → ℕ → List SubOperation → Type 0
-Later c n os = (k : ℕ) (ts : List ToldStage) (doc : Document) (stages : List Stage) (taken : Document × List Stage) → local_sub_operations doc stages (suc k) os ≡ Ok taken → Holds c n n k ts doc → OwnEdit c n k ts doc os taken
+Later c n os = (k : ℕ) (ts : List ToldStage) (doc : Document) (stages : List Stage) (taken : Document × List Stage)
+    → local_sub_operations doc stages (suc k) os ≡ Ok taken → Holds c n n k ts doc → OwnEdit c n k ts doc os taken
 
 none-typed : (c n k : ℕ) (ts : List ToldStage) (doc : Document) → Holds c n n k ts doc → OwnEdit c n k ts doc [] (doc, [])
 none-typed c n k ts doc h = record {
@@ -272,7 +309,8 @@ none-typed c n k ts doc h = record {
     plus-zero : (m : ℕ) → m + 0 ≡ m
     plus-zero m = omega arith
 
-one-typed : (c n k : ℕ) (ts : List ToldStage) (doc : Document) (o : SubOperation) (os : List SubOperation) (t : Document × NamedElements) (rest : Document × List Stage) → IsOwn k (told_of o) t.1 doc t.0
+one-typed : (c n k : ℕ) (ts : List ToldStage) (doc : Document) (o : SubOperation) (os : List SubOperation) (t : Document × NamedElements)
+    (rest : Document × List Stage) → IsOwn k (told_of o) t.1 doc t.0
     → OwnEdit c n (suc k) (ts ++ (record { stage = record { stage = suc k; sub_operation = o; names = t.1 }; before = k; ref = n; sent = told_of o } ∷ [])) t.0 os rest
     → OwnEdit c n k ts doc (o ∷ os) (rest.0, record { stage = suc k; sub_operation = o; names = t.1 } ∷ rest.1)
 one-typed c n k ts doc o os t rest own later =
@@ -285,8 +323,10 @@ one-typed c n k ts doc o os t rest own later =
       told = ap (λ ps. ps ++ flat_map (λ g. told_as g.sent) (typed_stages n (suc k) rest.1)) (told_as-told_of o) ∙ ap (λ ps. o ∷ ps) later.told;
     }
 
-rest-typed : (c n k : ℕ) (ts : List ToldStage) (doc : Document) (stages : List Stage) (o : SubOperation) (os : List SubOperation) (t : Document × NamedElements) (taken : Document × List Stage)
-    → IsOwn k (told_of o) t.1 doc t.0 → ((rest : Document × List Stage) → local_sub_operations t.0 (stages ++ (record { stage = suc k; sub_operation = o; names = t.1 } ∷ [])) (suc k + 1) os ≡ Ok rest
+rest-typed : (c n k : ℕ) (ts : List ToldStage) (doc : Document) (stages : List Stage) (o : SubOperation) (os : List SubOperation)
+    (t : Document × NamedElements) (taken : Document × List Stage)
+    → IsOwn k (told_of o) t.1 doc t.0 → ((rest : Document × List Stage) → local_sub_operations t.0
+    (stages ++ (record { stage = suc k; sub_operation = o; names = t.1 } ∷ [])) (suc k + 1) os ≡ Ok rest
     → OwnEdit c n (suc k) (ts ++ (record { stage = record { stage = suc k; sub_operation = o; names = t.1 }; before = k; ref = n; sent = told_of o } ∷ [])) t.0 os rest)
     → (q : Result (Document × List Stage) EditFault) → local_sub_operations t.0 (stages ++ (record { stage = suc k; sub_operation = o; names = t.1 } ∷ [])) (suc k + 1) os ≡ q
     → then_rest (record { stage = suc k; sub_operation = o; names = t.1 }) q ≡ Ok taken → OwnEdit c n k ts doc (o ∷ os) taken
@@ -295,7 +335,8 @@ rest-typed c n k ts doc stages o os t taken own later (Ok rest) e h =
     let same : (rest.0, record { stage = suc k; sub_operation = o; names = t.1 } ∷ rest.1) ≡ taken = (cc) in
     subst (λ z. OwnEdit c n k ts doc (o ∷ os) z) same (one-typed c n k ts doc o os t rest own (later rest e))
 
-first-typed : (c n k : ℕ) (ts : List ToldStage) (doc : Document) (stages : List Stage) (o : SubOperation) (os : List SubOperation) (taken : Document × List Stage) → Holds c n n k ts doc → Later c n os
+first-typed : (c n k : ℕ) (ts : List ToldStage) (doc : Document) (stages : List Stage) (o : SubOperation) (os : List SubOperation)
+    (taken : Document × List Stage) → Holds c n n k ts doc → Later c n os
     → (r : EditResult) → local_sub_operation doc stages (suc k) o ≡ r → then_stage stages (suc k) o os r ≡ Ok taken → OwnEdit c n k ts doc (o ∷ os) taken
 first-typed c n k ts doc stages o os taken holds ih (Err fault) e h = (cc)
 first-typed c n k ts doc stages o os taken holds ih (Ok t) e h =

@@ -76,7 +76,8 @@ module _ {A B : Type 0} (to : A → B) (see : A → Bool) (see' : B → Bool) wh
   at-map i [] h = refl
   at-map zero (x ∷ xs) h = rw h.0 (step (see x) (at-map zero xs h.1))
     where
-      step : (b : Bool) → at see' zero (map to xs) ≡ option_map to (at see zero xs) → cond b (Some (to x)) (at see' zero (map to xs)) ≡ option_map to (cond b (Some x) (at see zero xs))
+      step : (b : Bool) → at see' zero (map to xs) ≡ option_map to (at see zero xs) → cond b (Some (to x)) (at see' zero (map to xs))
+          ≡ option_map to (cond b (Some x) (at see zero xs))
       step true e = refl
       step false e = e
   at-map (suc i) (x ∷ xs) h = ap (λ b. at see' (cond b i (suc i)) (map to xs)) h.0 ∙ at-map (cond (see x) i (suc i)) xs h.1
@@ -93,7 +94,8 @@ module _ {A B : Type 0} (to : A → B) (see : A → Bool) (see' : B → Bool) wh
   filter-map [] h = refl
   filter-map (x ∷ xs) h = rw h.0 (step (see x) (filter-map xs h.1))
     where
-      step : (b : Bool) → filter see' (map to xs) ≡ map to (filter see xs) → cond b (to x ∷ filter see' (map to xs)) (filter see' (map to xs)) ≡ map to (cond b (x ∷ filter see xs) (filter see xs))
+      step : (b : Bool) → filter see' (map to xs) ≡ map to (filter see xs) → cond b (to x ∷ filter see' (map to xs)) (filter see' (map to xs))
+          ≡ map to (cond b (x ∷ filter see xs) (filter see xs))
       step true e = ap (λ ys. to x ∷ ys) e
       step false e = e
 
@@ -105,7 +107,8 @@ module _ {A B : Type 0} (to : A → B) (see : A → Bool) (see' : B → Bool) wh
   none-past past new [] h = sym (append-nil new)
   none-past past new (x ∷ xs) h = rw h.0 refl
 
-  pub put-map : (past : B → Bool) (p : ℕ) (new xs : List A) → Each (λ x. see' (to x) ≡ see x) xs → Each (λ x. past (to x) ≡ false) xs → map to (put see no_run p new xs) ≡ put see' past p (map to new) (map to xs)
+  pub put-map : (past : B → Bool) (p : ℕ) (new xs : List A) → Each (λ x. see' (to x) ≡ see x) xs → Each (λ x. past (to x) ≡ false) xs
+      → map to (put see no_run p new xs) ≡ put see' past p (map to new) (map to xs)
   put-map past zero new xs h k = ap (map to) (put_past-no_run new xs) ∙ map-append new xs ∙ sym (none-past past (map to new) xs k)
   put-map past (suc p) new [] h k = refl
   put-map past (suc p) new (x ∷ xs) h k = rw h.0 (ap (λ ys. to x ∷ ys) (put-map past (cond (see x) p (suc p)) new xs h.1 k.1))
@@ -148,7 +151,8 @@ module _ {A B : Type 0} (to : A → B) (is ok : A → Bool) (is' ok' : B → Boo
   choice-map true u v = refl
   choice-map false u v = refl
 
-  pub settled-map : (last : Option A) (xs : List A) → Each (λ x. is' (to x) ≡ is x) xs → Each (λ x. ok' (to x) ≡ ok x) xs → settled_after is' ok' (option_map to last) (map to xs) ≡ option_map to (settled_after is ok last xs)
+  pub settled-map : (last : Option A) (xs : List A) → Each (λ x. is' (to x) ≡ is x) xs → Each (λ x. ok' (to x) ≡ ok x) xs
+      → settled_after is' ok' (option_map to last) (map to xs) ≡ option_map to (settled_after is ok last xs)
   settled-map last [] h k = refl
   settled-map last (x ∷ xs) h k =
       let a = find-map to ok ok' (x ∷ xs) k in
@@ -199,17 +203,20 @@ other-than x e xs h k = step (same_id x (id e)) refl
     step false g = refl
 
 -- where names are distinct on both sides, the two names of a pair mean the same pair
-pub agree : (ps : List Pair) → are_distinct (lefts ps) ≡ true → are_distinct (rights ps) ≡ true → (x y : ElementId) → has_pair ps x y ≡ true → Each (λ p. has_id x p.0 ≡ has_id y p.1) ps
+pub agree : (ps : List Pair) → are_distinct (lefts ps) ≡ true → are_distinct (rights ps) ≡ true → (x y : ElementId) → has_pair ps x y ≡ true
+    → Each (λ p. has_id x p.0 ≡ has_id y p.1) ps
 agree [] d f x y h = tt
 agree (p ∷ ps) d f x y h =
     let u = both (not (list_any (has_id (id p.0)) (lefts ps))) (are_distinct (lefts ps)) d in
     let v = both (not (list_any (has_id (id p.1)) (rights ps))) (are_distinct (rights ps)) f in
     step (same_id x (id p.0)) (same_id y (id p.1)) refl refl h (hidden _ u.0) (hidden _ v.0) (agree ps u.1 v.1 x y)
   where
-    rest : has_pair ps x y ≡ true → list_any (has_id (id p.0)) (lefts ps) ≡ false → list_any (has_id (id p.1)) (rights ps) ≡ false → Each (λ q. has_id x q.0 ≡ has_id y q.1) ps → Each (λ q. has_id x q.0 ≡ has_id y q.1) (p ∷ ps)
+    rest : has_pair ps x y ≡ true → list_any (has_id (id p.0)) (lefts ps) ≡ false → list_any (has_id (id p.1)) (rights ps) ≡ false
+        → Each (λ q. has_id x q.0 ≡ has_id y q.1) ps → Each (λ q. has_id x q.0 ≡ has_id y q.1) (p ∷ ps)
     rest k l r g = (other-than x p.0 (lefts ps) l (left-there ps x y k) ∙ sym (other-than y p.1 (rights ps) r (right-there ps x y k)), g)
 
-    step : (a b : Bool) → same_id x (id p.0) ≡ a → same_id y (id p.1) ≡ b → (a && b) || has_pair ps x y ≡ true → list_any (has_id (id p.0)) (lefts ps) ≡ false → list_any (has_id (id p.1)) (rights ps) ≡ false
+    step : (a b : Bool) → same_id x (id p.0) ≡ a → same_id y (id p.1) ≡ b → (a && b) || has_pair ps x y ≡ true → list_any (has_id (id p.0)) (lefts ps) ≡ false
+        → list_any (has_id (id p.1)) (rights ps) ≡ false
         → (has_pair ps x y ≡ true → Each (λ q. has_id x q.0 ≡ has_id y q.1) ps) → Each (λ q. has_id x q.0 ≡ has_id y q.1) (p ∷ ps)
     step true true i j k l r g =
         let s : x ≡ id p.0 = same_id-eq x (id p.0) i in
@@ -227,7 +234,8 @@ pub own-pair : (ps : List Pair) → Each (λ p. has_pair ps (id p.0) (id p.1) �
 own-pair [] = tt
 own-pair (p ∷ ps) = (
   rw (same_id-refl (id p.0), same_id-refl (id p.1)) refl,
-  each-with (λ q. has_pair ps (id q.0) (id q.1) ≡ true) (λ q. has_pair (p ∷ ps) (id q.0) (id q.1) ≡ true) (λ q h. or_right (has_id (id q.0) p.0 && has_id (id q.1) p.1) (has_pair ps (id q.0) (id q.1)) h) ps (own-pair ps),
+  each-with (λ q. has_pair ps (id q.0) (id q.1) ≡ true) (λ q. has_pair (p ∷ ps) (id q.0) (id q.1) ≡ true)
+      (λ q h. or_right (has_id (id q.0) p.0 && has_id (id q.1) p.1) (has_pair ps (id q.0) (id q.1)) h) ps (own-pair ps),
 )
 
 -- ---- ends of intervals
@@ -274,7 +282,8 @@ module _ (all : List Pair) (is ok : Pair → Bool) where
 
 module _ (k : ℕ) (ps : List Pair) (d : are_distinct (lefts ps) ≡ true) (f : are_distinct (rights ps) ≡ true) where
   -- an end settles on one side as its pair slides on the other
-  pub settled-pair : Each (λ p. is_unremoved p.1 ≡ seen k p.0) ps → Each (λ p. is_sequenced p.1 ≡ true) ps → (x y : Option ElementId) → IsEndPair ps x y → IsEndPair ps (settle (lefts ps) k x) (slide (rights ps) y)
+  pub settled-pair : Each (λ p. is_unremoved p.1 ≡ seen k p.0) ps → Each (λ p. is_sequenced p.1 ≡ true) ps → (x y : Option ElementId) → IsEndPair ps x y
+      → IsEndPair ps (settle (lefts ps) k x) (slide (rights ps) y)
   settled-pair u s None None h = tt
   settled-pair u s None (Some y) h = (cc)
   settled-pair u s (Some x) None h = (cc)
@@ -282,10 +291,13 @@ module _ (k : ℕ) (ps : List Pair) (d : are_distinct (lefts ps) ≡ true) (f : 
       let g = agree ps d f x y h in
       let o = settled_after (λ p. has_id x p.0) (λ p. seen k p.0) None ps in
       let left : settle (lefts ps) k (Some x) ≡ option_map id (option_map (λ p. p.0) o) =
-      ap (option_map id) (settled-map (λ p. p.0) (λ p. has_id x p.0) (λ p. seen k p.0) (has_id x) (seen k) None ps (each-with (λ p. is_unremoved p.1 ≡ seen k p.0) (λ p. has_id x p.0 ≡ has_id x p.0) (λ p m. refl) ps u) (each-with (λ p. is_unremoved p.1 ≡ seen k p.0) (λ p. seen k p.0 ≡ seen k p.0) (λ p m. refl) ps u)) in
+      ap (option_map id) (settled-map (λ p. p.0) (λ p. has_id x p.0) (λ p. seen k p.0) (has_id x) (seen k) None ps
+      (each-with (λ p. is_unremoved p.1 ≡ seen k p.0) (λ p. has_id x p.0 ≡ has_id x p.0) (λ p m. refl) ps u)
+      (each-with (λ p. is_unremoved p.1 ≡ seen k p.0) (λ p. seen k p.0 ≡ seen k p.0) (λ p m. refl) ps u)) in
       let right : slide (rights ps) (Some y) ≡ option_map id (option_map (λ p. p.1) o) =
       ap (option_map id) (settled-map (λ p. p.1) (λ p. has_id x p.0) (λ p. seen k p.0) (λ e. is_sequenced e && has_id y e) is_unremoved None ps
-      (each-both (λ p. is_sequenced p.1 ≡ true) (λ p. has_id x p.0 ≡ has_id y p.1) (λ p. is_sequenced p.1 && has_id y p.1 ≡ has_id x p.0) (λ p m n. ap (λ b. b && has_id y p.1) m ∙ sym n) ps s g) u) in
+      (each-both (λ p. is_sequenced p.1 ≡ true) (λ p. has_id x p.0 ≡ has_id y p.1) (λ p. is_sequenced p.1 && has_id y p.1 ≡ has_id x p.0)
+      (λ p m n. ap (λ b. b && has_id y p.1) m ∙ sym n) ps s g) u) in
       rw (left, right) (found-ends ps o (found-settled ps (λ p. has_id x p.0) (λ p. seen k p.0) None ps tt (own-pair ps)))
 
   -- a pair has one number on both sides
@@ -296,11 +308,15 @@ module _ (k : ℕ) (ps : List Pair) (d : are_distinct (lefts ps) ≡ true) (f : 
   number-pair u (Some x) (Some y) h =
       let g = agree ps d f x y h in
       ap pos
-      (rank-map (λ p. p.1) (λ p. has_id x p.0) (λ p. seen k p.0) (has_id y) (seen 0) ps (each-with (λ p. has_id x p.0 ≡ has_id y p.1) (λ p. has_id y p.1 ≡ has_id x p.0) (λ p m. sym m) ps g) u
-      ∙ sym (rank-map (λ p. p.0) (λ p. has_id x p.0) (λ p. seen k p.0) (has_id x) (seen k) ps (each-with (λ p. has_id x p.0 ≡ has_id y p.1) (λ p. has_id x p.0 ≡ has_id x p.0) (λ p m. refl) ps g) (each-with (λ p. seen 0 p.1 ≡ seen k p.0) (λ p. seen k p.0 ≡ seen k p.0) (λ p m. refl) ps u)))
+      (rank-map (λ p. p.1) (λ p. has_id x p.0) (λ p. seen k p.0) (has_id y) (seen 0) ps
+      (each-with (λ p. has_id x p.0 ≡ has_id y p.1) (λ p. has_id y p.1 ≡ has_id x p.0) (λ p m. sym m) ps g) u
+      ∙ sym (rank-map (λ p. p.0) (λ p. has_id x p.0) (λ p. seen k p.0) (has_id x) (seen k) ps
+      (each-with (λ p. has_id x p.0 ≡ has_id y p.1) (λ p. has_id x p.0 ≡ has_id x p.0) (λ p m. refl) ps g)
+      (each-with (λ p. seen 0 p.1 ≡ seen k p.0) (λ p. seen k p.0 ≡ seen k p.0) (λ p m. refl) ps u)))
 
 -- pairs stay where only elements change that keep their names
-pub pair-changed : (f : Pair → Pair) → ((p : Pair) → id (f p).0 ≡ id p.0) → ((p : Pair) → id (f p).1 ≡ id p.1) → (x y : ElementId) (ps : List Pair) → has_pair (map f ps) x y ≡ has_pair ps x y
+pub pair-changed : (f : Pair → Pair) → ((p : Pair) → id (f p).0 ≡ id p.0) → ((p : Pair) → id (f p).1 ≡ id p.1) → (x y : ElementId) (ps : List Pair)
+    → has_pair (map f ps) x y ≡ has_pair ps x y
 pair-changed f a b x y [] = refl
 pair-changed f a b x y (p ∷ ps) = rw (a p, b p, pair-changed f a b x y ps) refl
 
@@ -334,7 +350,8 @@ at-rank is ok (x ∷ xs) h k =
     let p = both (not (is x) || ok x) (list_all (λ x. not (is x) || ok x) xs) h in
     step (is x) (ok x) refl refl p.0 k (at-rank is ok xs p.1)
   where
-    step : (a b : Bool) → is x ≡ a → ok x ≡ b → not a || b ≡ true → a || list_any is xs ≡ true → (list_any is xs ≡ true → IsAt is (at ok (rank is ok xs) xs)) → IsAt is (at ok (cond a 0 (one_more_if b (rank is ok xs))) (x ∷ xs))
+    step : (a b : Bool) → is x ≡ a → ok x ≡ b → not a || b ≡ true → a || list_any is xs ≡ true → (list_any is xs ≡ true → IsAt is (at ok (rank is ok xs) xs))
+        → IsAt is (at ok (cond a 0 (one_more_if b (rank is ok xs))) (x ∷ xs))
     step true true e f h k g = record { found = x; there = ap (λ b. cond b (Some x) (at ok zero xs)) f; meant = e }
     step true false e f h k g = absurd cc
     step false true e f h k g = let r = g k in record { found = r.found; there = at-seen ok (rank is ok xs) x xs f ∙ r.there; meant = r.meant }
@@ -344,7 +361,8 @@ any-named : (test : ListElement → Bool) (x : ElementId) (ps : List Pair) → l
 any-named test x [] h = absurd cc
 any-named test x (p ∷ ps) h = step (same_id x (id p.0)) h (any-named test x ps)
   where
-    step : (b : Bool) → (b && test p.0) || list_any (λ e. has_id x e && test e) (lefts ps) ≡ true → (list_any (λ e. has_id x e && test e) (lefts ps) ≡ true → list_any (λ p. has_id x p.0) ps ≡ true) → b || list_any (λ p. has_id x p.0) ps ≡ true
+    step : (b : Bool) → (b && test p.0) || list_any (λ e. has_id x e && test e) (lefts ps) ≡ true
+        → (list_any (λ e. has_id x e && test e) (lefts ps) ≡ true → list_any (λ p. has_id x p.0) ps ≡ true) → b || list_any (λ p. has_id x p.0) ps ≡ true
     step true h g = refl
     step false h g = g h
 
@@ -353,13 +371,15 @@ all-left test [] h = refl
 all-left test (p ∷ ps) h = let q = both (test p.0) (list_all test (lefts ps)) h in rw (q.0, all-left test ps q.1) refl
 
 -- what stands on the other side at a seen element's number is its pair
-pub at-pair : (k : ℕ) (see : ListElement → Bool) (ps : List Pair) → are_distinct (lefts ps) ≡ true → Each (λ p. see p.1 ≡ seen k p.0) ps → (x : ElementId) → list_any (λ e. has_id x e && seen k e) (lefts ps) ≡ true
+pub at-pair : (k : ℕ) (see : ListElement → Bool) (ps : List Pair) → are_distinct (lefts ps) ≡ true → Each (λ p. see p.1 ≡ seen k p.0) ps → (x : ElementId)
+    → list_any (λ e. has_id x e && seen k e) (lefts ps) ≡ true
     → IsEndPair ps (Some x) (option_map id (at see (rank (has_id x) (seen k) (lefts ps)) (rights ps)))
 at-pair k see ps d u x h =
     let is : Pair → Bool = λ p. has_id x p.0 in
     let ok : Pair → Bool = λ p. seen k p.0 in
     let same_rank : rank (has_id x) (seen k) (lefts ps) ≡ rank is ok ps =
-    rank-map (λ p. p.0) is ok (has_id x) (seen k) ps (each-with (λ p. see p.1 ≡ seen k p.0) (λ p. has_id x p.0 ≡ has_id x p.0) (λ p m. refl) ps u) (each-with (λ p. see p.1 ≡ seen k p.0) (λ p. seen k p.0 ≡ seen k p.0) (λ p m. refl) ps u) in
+    rank-map (λ p. p.0) is ok (has_id x) (seen k) ps (each-with (λ p. see p.1 ≡ seen k p.0) (λ p. has_id x p.0 ≡ has_id x p.0) (λ p m. refl) ps u)
+    (each-with (λ p. see p.1 ≡ seen k p.0) (λ p. seen k p.0 ≡ seen k p.0) (λ p m. refl) ps u) in
     let r = at-rank is ok ps (all-left (λ e. not (has_id x e) || seen k e) ps (only-named (seen k) (lefts ps) d x h)) (any-named (seen k) x ps h) in
     let found : IsFound ps (Some r.found) = subst (IsFound ps) r.there (found-at ps is ok (rank is ok ps) ps (own-pair ps)) in
     let name : x ≡ id r.found.0 = same_id-eq x (id r.found.0) r.meant in

@@ -61,25 +61,29 @@ alike-characters (p ∷ ps) h = ap (λ c. content_characters c ++ text_character
 
 alike-markers : (i : ℕ) (ps : List Pair) → Each IsAlike ps → markers_from i (rights ps) ≡ markers_from i (lefts ps)
 alike-markers i [] h = refl
-alike-markers i (p ∷ ps) h = ap (λ c. content_markers i c ++ markers_from (i + 1) (rights ps)) h.0.content ∙ ap (λ us. content_markers i p.0.content ++ us) (alike-markers (i + 1) ps h.1)
+alike-markers i (p ∷ ps) h = ap (λ c. content_markers i c ++ markers_from (i + 1) (rights ps)) h.0.content
+    ∙ ap (λ us. content_markers i p.0.content ++ us) (alike-markers (i + 1) ps h.1)
 
 alike-runs : (i : ℕ) (ps : List Pair) → Each IsAlike ps → property_runs_from i (rights ps) ≡ property_runs_from i (lefts ps)
 alike-runs i [] h = refl
-alike-runs i (p ∷ ps) h = ap (λ q. extended_property_runs i q (property_runs_from (i + 1) (rights ps))) h.0.props ∙ ap (extended_property_runs i (shown_props p.0.props p.0.pending)) (alike-runs (i + 1) ps h.1)
+alike-runs i (p ∷ ps) h = ap (λ q. extended_property_runs i q (property_runs_from (i + 1) (rights ps))) h.0.props
+    ∙ ap (extended_property_runs i (shown_props p.0.props p.0.pending)) (alike-runs (i + 1) ps h.1)
 
 as-long : (ps : List Pair) → length (rights ps) ≡ length (lefts ps)
 as-long [] = refl
 as-long (p ∷ ps) = ap suc (as-long ps)
 
 module _ (ks cs : List Cell) (stages : List Stage) where
-  paired-row : (i : ℕ) (p : Pair) (j : ℕ) (qs : List Pair) → Each (λ q. cell_value (id p.1) (id q.1) ks ≡ shown_cell_value (id p.0) (id q.0) (cell_value (id p.0) (id q.0) cs) stages) qs
+  paired-row : (i : ℕ) (p : Pair) (j : ℕ) (qs : List Pair) → Each (λ q. cell_value (id p.1) (id q.1) ks
+      ≡ shown_cell_value (id p.0) (id q.0) (cell_value (id p.0) (id q.0) cs) stages) qs
       → row_cells ks [] i (id p.1) j (rights qs) ≡ row_cells cs stages i (id p.0) j (lefts qs)
   paired-row i p j [] h = refl
   paired-row i p j (q ∷ qs) h =
       ap (λ v. cell_record i j v ++ row_cells ks [] i (id p.1) (j + 1) (rights qs)) h.0
       ∙ ap (λ us. cell_record i j (shown_cell_value (id p.0) (id q.0) (cell_value (id p.0) (id q.0) cs) stages) ++ us) (paired-row i p (j + 1) qs h.1)
 
-  paired-cells : (qs : List Pair) (i : ℕ) (ps : List Pair) → Each (λ p. Each (λ q. cell_value (id p.1) (id q.1) ks ≡ shown_cell_value (id p.0) (id q.0) (cell_value (id p.0) (id q.0) cs) stages) qs) ps
+  paired-cells : (qs : List Pair) (i : ℕ) (ps : List Pair) → Each (λ p. Each
+      (λ q. cell_value (id p.1) (id q.1) ks ≡ shown_cell_value (id p.0) (id q.0) (cell_value (id p.0) (id q.0) cs) stages) qs) ps
       → all_cells ks [] (rights qs) i (rights ps) ≡ all_cells cs stages (lefts qs) i (lefts ps)
   paired-cells qs i [] h = refl
   paired-cells qs i (p ∷ ps) h =
@@ -92,13 +96,15 @@ each-pair : (S : Pair → Type 0) (ps : List Pair) (b z : ElementId) (G : Type 0
 each-pair S [] b z G h k f = absurd (cc k)
 each-pair S (p ∷ ps) b z G h k f = step (same_id b (id p.0)) (same_id z (id p.1)) refl refl k (each-pair S ps b z G h.1)
   where
-    step : (u v : Bool) → same_id b (id p.0) ≡ u → same_id z (id p.1) ≡ v → (u && v) || has_pair ps b z ≡ true → (has_pair ps b z ≡ true → ((p : Pair) → S p → b ≡ id p.0 → z ≡ id p.1 → G) → G) → G
+    step : (u v : Bool) → same_id b (id p.0) ≡ u → same_id z (id p.1) ≡ v → (u && v) || has_pair ps b z ≡ true
+        → (has_pair ps b z ≡ true → ((p : Pair) → S p → b ≡ id p.0 → z ≡ id p.1 → G) → G) → G
     step true true i j k g = f p h.0 (same_id-eq b (id p.0) i) (same_id-eq z (id p.1) j)
     step true false i j k g = g k f
     step false v i j k g = g k f
 
 -- names of pairs are equal on one side where they are on the other
-pair-agree : (ps : List Pair) → are_distinct (lefts ps) ≡ true → are_distinct (rights ps) ≡ true → (a y b z : ElementId) → has_pair ps a y ≡ true → has_pair ps b z ≡ true → same_id a b ≡ same_id y z
+pair-agree : (ps : List Pair) → are_distinct (lefts ps) ≡ true → are_distinct (rights ps) ≡ true → (a y b z : ElementId) → has_pair ps a y ≡ true
+    → has_pair ps b z ≡ true → same_id a b ≡ same_id y z
 pair-agree ps d f a y b z h k =
     each-pair (λ p. has_id a p.0 ≡ has_id y p.1) ps b z (same_id a b ≡ same_id y z) (agree ps d f a y h) k (λ p s i j. ap (same_id a) i ∙ s ∙ sym (ap (same_id y) j))
 
@@ -124,7 +130,8 @@ name-before n conn made k p r i h = step (is_sequenced p.0) refl
     step true q = ap (λ i. same_id i r) (i.old q)
     step false q = new-name p.1.ins p.1.nth r (i.new q) i.sequenced h ∙ sym (pending-name p.0.ins p.0.nth r q h)
 
-cells-before : (rows cols : ℕ) (a y b z : ElementId) → ((r : ElementId) → is_name_below rows r ≡ true → same_id y r ≡ same_id a r) → ((r : ElementId) → is_name_below cols r ≡ true → same_id z r ≡ same_id b r)
+cells-before : (rows cols : ℕ) (a y b z : ElementId) → ((r : ElementId) → is_name_below rows r ≡ true → same_id y r ≡ same_id a r)
+    → ((r : ElementId) → is_name_below cols r ≡ true → same_id z r ≡ same_id b r)
     → (cs : List Cell) → list_all (is_cell_below rows cols) cs ≡ true → cell_value y z cs ≡ cell_value a b cs
 cells-before rows cols a y b z f g [] h = refl
 cells-before rows cols a y b z f g (c ∷ cs) h =
@@ -133,7 +140,8 @@ cells-before rows cols a y b z f g (c ∷ cs) h =
     let same : is_cell y z c ≡ is_cell a b c = ap (λ u. u && same_id z c.col) (f c.row q.0) ∙ ap (λ u. same_id a c.row && u) (g c.col q.1) in
     ap (λ u. option_map (λ (w : Cell). w.value) (cond u (Some c) (find (is_cell y z) cs))) same ∙ step (is_cell a b c) (cells-before rows cols a y b z f g cs p.1)
   where
-    step : (u : Bool) → cell_value y z cs ≡ cell_value a b cs → option_map (λ (w : Cell). w.value) (cond u (Some c) (find (is_cell y z) cs)) ≡ option_map (λ (w : Cell). w.value) (cond u (Some c) (find (is_cell a b) cs))
+    step : (u : Bool) → cell_value y z cs ≡ cell_value a b cs → option_map (λ (w : Cell). w.value) (cond u (Some c) (find (is_cell y z) cs))
+        ≡ option_map (λ (w : Cell). w.value) (cond u (Some c) (find (is_cell a b) cs))
     step true e = refl
     step false e = e
 
@@ -153,7 +161,8 @@ record IsUnit (n conn made j m : ℕ) (xs : List ListElement) (ps : List Pair) (
   own : has_pair ps (id p.0) (id p.1) ≡ true
   named : has_named (seen m) xs (id p.0) ≡ true
 
-module _ (n conn made j m : ℕ) (xs ds : List ListElement) (view : filter (seen j) (stage_list xs j) ≡ filter (seen j) xs) (last : Each (λ e. seen m e ≡ seen j e) xs) (b : Beside n conn made j (stage_list xs j) ds) where
+module _ (n conn made j m : ℕ) (xs ds : List ListElement) (view : filter (seen j) (stage_list xs j) ≡ filter (seen j) xs)
+    (last : Each (λ e. seen m e ≡ seen j e) xs) (b : Beside n conn made j (stage_list xs j) ds) where
   left-view : filter (seen m) xs ≡ lefts (filter (λ p. seen j p.0) b.pairs)
   left-view =
       filter-same (seen m) (seen j) xs last ∙ sym view ∙ ap (filter (seen j)) (sym b.left)
@@ -162,18 +171,25 @@ module _ (n conn made j m : ℕ) (xs ds : List ListElement) (view : filter (seen
   left-named : Each (λ p. not (seen j p.0) || has_named (seen j) (stage_list xs j) (id p.0) ≡ true) b.pairs
   left-named =
       each-under (λ e. not (seen j e) || has_named (seen j) (stage_list xs j) (id e) ≡ true) (λ p. p.0) b.pairs
-      (subst (Each (λ e. not (seen j e) || has_named (seen j) (stage_list xs j) (id e) ≡ true)) (sym b.left) (each-all (λ e. not (seen j e) || has_named (seen j) (stage_list xs j) (id e)) (stage_list xs j) (own-named (seen j) (stage_list xs j))))
+      (subst (Each (λ e. not (seen j e) || has_named (seen j) (stage_list xs j) (id e) ≡ true)) (sym b.left)
+      (each-all (λ e. not (seen j e) || has_named (seen j) (stage_list xs j) (id e)) (stage_list xs j) (own-named (seen j) (stage_list xs j))))
 
   units : Each (IsUnit n conn made j m xs b.pairs) (filter (λ p. seen j p.0) b.pairs)
   units =
-      each-visible j (λ p. (Image n conn made j p × (has_pair b.pairs (id p.0) (id p.1) ≡ true)) × (not (seen j p.0) || has_named (seen j) (stage_list xs j) (id p.0) ≡ true)) (IsUnit n conn made j m xs b.pairs)
+      each-visible j (λ p. (Image n conn made j p × (has_pair b.pairs (id p.0) (id p.1) ≡ true))
+      × (not (seen j p.0) || has_named (seen j) (stage_list xs j) (id p.0) ≡ true)) (IsUnit n conn made j m xs b.pairs)
       (λ p h v. record {
         image = h.0.0;
         own = h.0.1;
-        named = named-filter (seen m) (id p.0) xs ∙ ap (list_any (has_id (id p.0))) (filter-same (seen m) (seen j) xs last ∙ sym view) ∙ sym (named-filter (seen j) (id p.0) (stage_list xs j)) ∙ there (seen j p.0) _ v h.1;
+        named = named-filter (seen m) (id p.0) xs ∙ ap (list_any (has_id (id p.0))) (filter-same (seen m) (seen j) xs last ∙ sym view)
+            ∙ sym (named-filter (seen j) (id p.0) (stage_list xs j)) ∙ there (seen j p.0) _ v h.1;
       }) b.pairs
-      (each-both (λ p. Image n conn made j p × (has_pair b.pairs (id p.0) (id p.1) ≡ true)) (λ p. not (seen j p.0) || has_named (seen j) (stage_list xs j) (id p.0) ≡ true) (λ p. (Image n conn made j p × (has_pair b.pairs (id p.0) (id p.1) ≡ true)) × (not (seen j p.0) || has_named (seen j) (stage_list xs j) (id p.0) ≡ true)) (λ p u v. (u, v)) b.pairs
-      (each-both (Image n conn made j) (λ p. has_pair b.pairs (id p.0) (id p.1) ≡ true) (λ p. Image n conn made j p × (has_pair b.pairs (id p.0) (id p.1) ≡ true)) (λ p u v. (u, v)) b.pairs b.images (own-pair b.pairs)) left-named)
+      (each-both (λ p. Image n conn made j p × (has_pair b.pairs (id p.0) (id p.1) ≡ true))
+      (λ p. not (seen j p.0) || has_named (seen j) (stage_list xs j) (id p.0) ≡ true)
+      (λ p. (Image n conn made j p × (has_pair b.pairs (id p.0) (id p.1) ≡ true))
+      × (not (seen j p.0) || has_named (seen j) (stage_list xs j) (id p.0) ≡ true)) (λ p u v. (u, v)) b.pairs
+      (each-both (Image n conn made j) (λ p. has_pair b.pairs (id p.0) (id p.1) ≡ true)
+      (λ p. Image n conn made j p × (has_pair b.pairs (id p.0) (id p.1) ≡ true)) (λ p u v. (u, v)) b.pairs b.images (own-pair b.pairs)) left-named)
     where
       there : (u v : Bool) → u ≡ true → not u || v ≡ true → v ≡ true
       there true v p h = h
@@ -186,9 +202,12 @@ right-view n conn made j ls ds b =
 
 module _ (x : NaiveClient) (conn : ℕ) (ready : IsReady x) where
   -- the cells that the stages wrote are those that they show
-  module _ (rows cols : List Pair) (dr : are_distinct (lefts rows) ≡ true) (fr : are_distinct (rights rows) ≡ true) (dc : are_distinct (lefts cols) ≡ true) (fc : are_distinct (rights cols) ≡ true)
-      (a y b z : ElementId) (row : has_pair rows a y ≡ true) (col : has_pair cols b z ≡ true) (ha : has_named (seen x.last_stage) x.doc.rows.items a ≡ true) (hb : has_named (seen x.last_stage) x.doc.cols.items b ≡ true) where
-    written-value : (t : Stage) (w : Cell) → IsWritten rows cols t w → (cells : List Cell) (v : Option ValueBytes) → cell_value y z cells ≡ v → cell_value y z (write_cell w cells) ≡ cell_after_stage a b t v
+  module _ (rows cols : List Pair) (dr : are_distinct (lefts rows) ≡ true) (fr : are_distinct (rights rows) ≡ true) (dc : are_distinct (lefts cols) ≡ true)
+      (fc : are_distinct (rights cols) ≡ true)
+      (a y b z : ElementId) (row : has_pair rows a y ≡ true) (col : has_pair cols b z ≡ true) (ha : has_named (seen x.last_stage) x.doc.rows.items a ≡ true)
+      (hb : has_named (seen x.last_stage) x.doc.cols.items b ≡ true) where
+    written-value : (t : Stage) (w : Cell) → IsWritten rows cols t w → (cells : List Cell) (v : Option ValueBytes) → cell_value y z cells ≡ v
+        → cell_value y z (write_cell w cells) ≡ cell_after_stage a b t v
     written-value t w h cells v e =
         let r : same_id y w.row ≡ same_id a h.row = sym (pair-agree rows dr fr a y h.row w.row row h.row_pair) in
         let c : same_id z w.col ≡ same_id b h.col = sym (pair-agree cols dc fc b z h.col w.col col h.col_pair) in
@@ -204,7 +223,8 @@ module _ (x : NaiveClient) (conn : ℕ) (ready : IsReady x) where
             ∙ ap (λ u. cond (is_named_by a u && is_named_by b t.names.second) (value_unless_null w.value) v) h.first
             ∙ ap (λ u. cond (same_id a h.row && is_named_by b u) (value_unless_null w.value) v) h.second
 
-    log-value : (log : Log) (cells : List Cell) (v : Option ValueBytes) → Each (IsLogged x conn ready rows cols) log → cell_value y z cells ≡ v → cell_value y z (written_cells log cells) ≡ shown_cell_value a b v (map (λ l. l.0) log)
+    log-value : (log : Log) (cells : List Cell) (v : Option ValueBytes) → Each (IsLogged x conn ready rows cols) log → cell_value y z cells ≡ v
+        → cell_value y z (written_cells log cells) ≡ shown_cell_value a b v (map (λ l. l.0) log)
     log-value [] cells v h e = e
     log-value ((t, None) ∷ log) cells v h e = log-value log cells (cell_after_stage a b t v) h.1 (e ∙ sym (h.0 a b ha hb v))
     log-value ((t, Some w) ∷ log) cells v h e = log-value log (write_cell w cells) (cell_after_stage a b t v) h.1 (written-value t w h.0 cells v e)
@@ -212,13 +232,19 @@ module _ (x : NaiveClient) (conn : ℕ) (ready : IsReady x) where
   module _ (j : ℕ) (is : List Interval) (d : Document) (ahead : Ahead x conn ready [] j) (f : Follows x conn ready j is (stages_of x) d) where
     -- nothing of a later stage is pending
     last-text : Each (λ e. seen x.last_stage e ≡ seen j e) x.doc.text.items
-    last-text = each-with (λ e. is_left inserts_text removes_text [] j e ≡ true) (λ e. seen x.last_stage e ≡ seen j e) (λ e h. seen-same inserts_text removes_text [] j x.last_stage x.last_stage ahead.rise (omega arith) e h) x.doc.text.items (each-all (is_left inserts_text removes_text [] j) x.doc.text.items ahead.text_left)
+    last-text = each-with (λ e. is_left inserts_text removes_text [] j e ≡ true) (λ e. seen x.last_stage e ≡ seen j e)
+        (λ e h. seen-same inserts_text removes_text [] j x.last_stage x.last_stage ahead.rise (omega arith) e h) x.doc.text.items
+        (each-all (is_left inserts_text removes_text [] j) x.doc.text.items ahead.text_left)
 
     last-rows : Each (λ e. seen x.last_stage e ≡ seen j e) x.doc.rows.items
-    last-rows = each-with (λ e. is_left (inserts_in Rows) (removes_in Rows) [] j e ≡ true) (λ e. seen x.last_stage e ≡ seen j e) (λ e h. seen-same (inserts_in Rows) (removes_in Rows) [] j x.last_stage x.last_stage ahead.rise (omega arith) e h) x.doc.rows.items (each-all (is_left (inserts_in Rows) (removes_in Rows) [] j) x.doc.rows.items ahead.rows_left)
+    last-rows = each-with (λ e. is_left (inserts_in Rows) (removes_in Rows) [] j e ≡ true) (λ e. seen x.last_stage e ≡ seen j e)
+        (λ e h. seen-same (inserts_in Rows) (removes_in Rows) [] j x.last_stage x.last_stage ahead.rise (omega arith) e h) x.doc.rows.items
+        (each-all (is_left (inserts_in Rows) (removes_in Rows) [] j) x.doc.rows.items ahead.rows_left)
 
     last-cols : Each (λ e. seen x.last_stage e ≡ seen j e) x.doc.cols.items
-    last-cols = each-with (λ e. is_left (inserts_in Cols) (removes_in Cols) [] j e ≡ true) (λ e. seen x.last_stage e ≡ seen j e) (λ e h. seen-same (inserts_in Cols) (removes_in Cols) [] j x.last_stage x.last_stage ahead.rise (omega arith) e h) x.doc.cols.items (each-all (is_left (inserts_in Cols) (removes_in Cols) [] j) x.doc.cols.items ahead.cols_left)
+    last-cols = each-with (λ e. is_left (inserts_in Cols) (removes_in Cols) [] j e ≡ true) (λ e. seen x.last_stage e ≡ seen j e)
+        (λ e h. seen-same (inserts_in Cols) (removes_in Cols) [] j x.last_stage x.last_stage ahead.rise (omega arith) e h) x.doc.cols.items
+        (each-all (is_left (inserts_in Cols) (removes_in Cols) [] j) x.doc.cols.items ahead.cols_left)
 
     -- every change is of a stage up to the last
     pending-all : Each (λ p. pending_up_to j p.0.pending ≡ p.0.pending) f.text.pairs
@@ -226,7 +252,8 @@ module _ (x : NaiveClient) (conn : ℕ) (ready : IsReady x) where
         each-under (λ e. pending_up_to j e.pending ≡ e.pending) (λ p. p.0) f.text.pairs
         (subst (Each (λ e. pending_up_to j e.pending ≡ e.pending)) (sym f.text.left)
         (each-stage_list (λ e. pending_up_to j e.pending ≡ e.pending) carried x.doc.text.items
-        (each-with (λ e. left_changes annotates_text [] j e ≡ true) (λ e. pending_up_to j e.pending ≡ e.pending) (λ e h. up-to e.pending h) x.doc.text.items (each-all (left_changes annotates_text [] j) x.doc.text.items ahead.text_changes)) j))
+        (each-with (λ e. left_changes annotates_text [] j e ≡ true) (λ e. pending_up_to j e.pending ≡ e.pending) (λ e h. up-to e.pending h) x.doc.text.items
+        (each-all (left_changes annotates_text [] j) x.doc.text.items ahead.text_changes)) j))
       where
         first : (b : Bool) → b || false ≡ true → b ≡ true
         first true h = refl
@@ -249,7 +276,8 @@ module _ (x : NaiveClient) (conn : ℕ) (ready : IsReady x) where
     text-alike =
         each-visible j (λ p. Image x.doc.number conn x.doc.text.made j p × (pending_up_to j p.0.pending ≡ p.0.pending)) IsAlike
         (λ p h v. record { content = h.0.content; props = ap (shown_props p.1.props) h.0.bare ∙ h.0.props v ∙ ap (shown_props p.0.props) h.1 }) f.text.pairs
-        (each-both (Image x.doc.number conn x.doc.text.made j) (λ p. pending_up_to j p.0.pending ≡ p.0.pending) (λ p. Image x.doc.number conn x.doc.text.made j p × (pending_up_to j p.0.pending ≡ p.0.pending)) (λ p u v. (u, v)) f.text.pairs f.text.images pending-all)
+        (each-both (Image x.doc.number conn x.doc.text.made j) (λ p. pending_up_to j p.0.pending ≡ p.0.pending)
+        (λ p. Image x.doc.number conn x.doc.text.made j p × (pending_up_to j p.0.pending ≡ p.0.pending)) (λ p u v. (u, v)) f.text.pairs f.text.images pending-all)
 
     text-left : filter (seen x.last_stage) x.doc.text.items ≡ lefts (filter (λ p. seen j p.0) f.text.pairs)
     text-left = left-view x.doc.number conn x.doc.text.made j x.last_stage x.doc.text.items d.text.items ((text-views x conn ready j).view j (omega arith)) last-text f.text
@@ -287,7 +315,8 @@ module _ (x : NaiveClient) (conn : ℕ) (ready : IsReady x) where
     col-units : Each (IsUnit x.doc.number conn x.doc.cols.made j x.last_stage x.doc.cols.items f.cols.pairs) (filter (λ p. seen j p.0) f.cols.pairs)
     col-units = units x.doc.number conn x.doc.cols.made j x.last_stage x.doc.cols.items d.cols.items ((col-views x conn ready j).view j (omega arith)) last-cols f.cols
 
-    cell-same : (p q : Pair) → IsUnit x.doc.number conn x.doc.rows.made j x.last_stage x.doc.rows.items f.rows.pairs p → IsUnit x.doc.number conn x.doc.cols.made j x.last_stage x.doc.cols.items f.cols.pairs q
+    cell-same : (p q : Pair) → IsUnit x.doc.number conn x.doc.rows.made j x.last_stage x.doc.rows.items f.rows.pairs p
+        → IsUnit x.doc.number conn x.doc.cols.made j x.last_stage x.doc.cols.items f.cols.pairs q
         → cell_value (id p.1) (id q.1) d.cells ≡ shown_cell_value (id p.0) (id q.0) (cell_value (id p.0) (id q.0) x.doc.cells) (stages_of x)
     cell-same p q h g =
         let v = cell_value (id p.0) (id q.0) x.doc.cells in
@@ -297,15 +326,18 @@ module _ (x : NaiveClient) (conn : ℕ) (ready : IsReady x) where
         (λ r k. name-before x.doc.number conn x.doc.rows.made j p r h.image k) (λ r k. name-before x.doc.number conn x.doc.cols.made j q r g.image k) x.doc.cells ready.cells)
         ∙ ap (shown_cell_value (id p.0) (id q.0) v) f.logged
 
-    cells-same : all_cells d.cells [] (filter (seen 0) d.cols.items) 0 (filter (seen 0) d.rows.items) ≡ all_cells x.doc.cells (stages_of x) (filter (seen x.last_stage) x.doc.cols.items) 0 (filter (seen x.last_stage) x.doc.rows.items)
+    cells-same : all_cells d.cells [] (filter (seen 0) d.cols.items) 0 (filter (seen 0) d.rows.items)
+        ≡ all_cells x.doc.cells (stages_of x) (filter (seen x.last_stage) x.doc.cols.items) 0 (filter (seen x.last_stage) x.doc.rows.items)
     cells-same =
         ap (λ us. all_cells d.cells [] us 0 (filter (seen 0) d.rows.items)) col-right
         ∙ ap (all_cells d.cells [] (rights (filter (λ p. seen j p.0) f.cols.pairs)) 0) row-right
         ∙ paired-cells d.cells x.doc.cells (stages_of x) (filter (λ p. seen j p.0) f.cols.pairs) 0 (filter (λ p. seen j p.0) f.rows.pairs)
         (each-with (IsUnit x.doc.number conn x.doc.rows.made j x.last_stage x.doc.rows.items f.rows.pairs)
-        (λ p. Each (λ q. cell_value (id p.1) (id q.1) d.cells ≡ shown_cell_value (id p.0) (id q.0) (cell_value (id p.0) (id q.0) x.doc.cells) (stages_of x)) (filter (λ p. seen j p.0) f.cols.pairs))
+        (λ p. Each (λ q. cell_value (id p.1) (id q.1) d.cells ≡ shown_cell_value (id p.0) (id q.0) (cell_value (id p.0) (id q.0) x.doc.cells) (stages_of x))
+        (filter (λ p. seen j p.0) f.cols.pairs))
         (λ p h. each-with (IsUnit x.doc.number conn x.doc.cols.made j x.last_stage x.doc.cols.items f.cols.pairs)
-        (λ q. cell_value (id p.1) (id q.1) d.cells ≡ shown_cell_value (id p.0) (id q.0) (cell_value (id p.0) (id q.0) x.doc.cells) (stages_of x)) (λ q g. cell-same p q h g) (filter (λ p. seen j p.0) f.cols.pairs) col-units)
+        (λ q. cell_value (id p.1) (id q.1) d.cells ≡ shown_cell_value (id p.0) (id q.0) (cell_value (id p.0) (id q.0) x.doc.cells) (stages_of x))
+        (λ q g. cell-same p q h g) (filter (λ p. seen j p.0) f.cols.pairs) col-units)
         (filter (λ p. seen j p.0) f.rows.pairs) row-units)
         ∙ sym (ap (λ us. all_cells x.doc.cells (stages_of x) us 0 (filter (seen x.last_stage) x.doc.rows.items)) col-left
         ∙ ap (all_cells x.doc.cells (stages_of x) (lefts (filter (λ p. seen j p.0) f.cols.pairs)) 0) row-left)
@@ -321,7 +353,8 @@ module _ (x : NaiveClient) (conn : ℕ) (ready : IsReady x) where
     intervals-same : map (interval_record 0 d.text.items) d.intervals ≡ map (interval_record x.last_stage x.doc.text.items) is
     intervals-same =
         ap (λ us. map (interval_record 0 us) d.intervals) (sym f.text.right)
-        ∙ pairs-shown j f.text.pairs (subst (λ us. are_distinct us ≡ true) (sym f.text.left) (stage_list-distinct x.doc.text.items ready.text.place.distinct j)) (subst (λ us. are_distinct us ≡ true) (sym f.text.right) f.sound.text.distinct)
+        ∙ pairs-shown j f.text.pairs (subst (λ us. are_distinct us ≡ true) (sym f.text.left)
+        (stage_list-distinct x.doc.text.items ready.text.place.distinct j)) (subst (λ us. are_distinct us ≡ true) (sym f.text.right) f.sound.text.distinct)
         (each-with (Image x.doc.number conn x.doc.text.made j) (λ p. seen 0 p.1 ≡ seen j p.0) (λ p i. i.at_last) f.text.pairs f.text.images) is d.intervals f.intervals
         ∙ ap (λ us. map (interval_record j us) is) f.text.left
         ∙ records-same (text-views x conn ready j) ready.text.place.distinct is f.ends
@@ -330,19 +363,26 @@ module _ (x : NaiveClient) (conn : ℕ) (ready : IsReady x) where
     pub shown-follows : is ≡ shown_intervals x.doc.text.items x.doc.intervals (stages_of x) → shown d ≡ content x
     shown-follows e =
         let vt = filter (λ p. seen j p.0) f.text.pairs in
-        let text : text_characters (filter (seen 0) d.text.items) ≡ text_characters (filter (seen x.last_stage) x.doc.text.items) = ap text_characters text-right ∙ alike-characters vt text-alike ∙ sym (ap text_characters text-left) in
-        let markers : markers_from 0 (filter (seen 0) d.text.items) ≡ markers_from 0 (filter (seen x.last_stage) x.doc.text.items) = ap (markers_from 0) text-right ∙ alike-markers 0 vt text-alike ∙ sym (ap (markers_from 0) text-left) in
-        let runs : property_runs_from 0 (filter (seen 0) d.text.items) ≡ property_runs_from 0 (filter (seen x.last_stage) x.doc.text.items) = ap (property_runs_from 0) text-right ∙ alike-runs 0 vt text-alike ∙ sym (ap (property_runs_from 0) text-left) in
-        let rows : length (filter (seen 0) d.rows.items) ≡ length (filter (seen x.last_stage) x.doc.rows.items) = ap length row-right ∙ as-long (filter (λ p. seen j p.0) f.rows.pairs) ∙ sym (ap length row-left) in
-        let cols : length (filter (seen 0) d.cols.items) ≡ length (filter (seen x.last_stage) x.doc.cols.items) = ap length col-right ∙ as-long (filter (λ p. seen j p.0) f.cols.pairs) ∙ sym (ap length col-left) in
-        let intervals : map (interval_record 0 d.text.items) d.intervals ≡ map (interval_record x.last_stage x.doc.text.items) (shown_intervals x.doc.text.items x.doc.intervals (stages_of x)) = intervals-same ∙ ap (map (interval_record x.last_stage x.doc.text.items)) e in
+        let text : text_characters (filter (seen 0) d.text.items) ≡ text_characters (filter (seen x.last_stage) x.doc.text.items) = ap text_characters
+        text-right ∙ alike-characters vt text-alike ∙ sym (ap text_characters text-left) in
+        let markers : markers_from 0 (filter (seen 0) d.text.items) ≡ markers_from 0 (filter (seen x.last_stage) x.doc.text.items) = ap (markers_from 0)
+        text-right ∙ alike-markers 0 vt text-alike ∙ sym (ap (markers_from 0) text-left) in
+        let runs : property_runs_from 0 (filter (seen 0) d.text.items) ≡ property_runs_from 0 (filter (seen x.last_stage) x.doc.text.items) = ap
+        (property_runs_from 0) text-right ∙ alike-runs 0 vt text-alike ∙ sym (ap (property_runs_from 0) text-left) in
+        let rows : length (filter (seen 0) d.rows.items) ≡ length (filter (seen x.last_stage) x.doc.rows.items) = ap length row-right
+        ∙ as-long (filter (λ p. seen j p.0) f.rows.pairs) ∙ sym (ap length row-left) in
+        let cols : length (filter (seen 0) d.cols.items) ≡ length (filter (seen x.last_stage) x.doc.cols.items) = ap length col-right
+        ∙ as-long (filter (λ p. seen j p.0) f.cols.pairs) ∙ sym (ap length col-left) in
+        let intervals : map (interval_record 0 d.text.items) d.intervals ≡ map (interval_record x.last_stage x.doc.text.items)
+        (shown_intervals x.doc.text.items x.doc.intervals (stages_of x)) = intervals-same ∙ ap (map (interval_record x.last_stage x.doc.text.items)) e in
         rw (text, markers, runs, intervals, cells-same, rows, cols) refl
 
   -- the content of a client is what its document without what is pending shows with its pending operations next
   pub pending-on_top-over : (doc : Document) → IsConsistent doc → sequenced_part x.doc ≡ doc → content x ≡ shown_with_pending doc x conn
   pending-on_top-over doc k e =
       let sound : IsConsistent (sequenced_part x.doc) = subst IsConsistent (sym e) k in
-      let r = edits-reached x conn ready x.pending (x.doc.number + 1) x.doc.minimum x.doc.intervals [] (sequenced_part x.doc) ready.typed ready.writes ready.edits (reached-first x conn ready sound) in
+      let r = edits-reached x conn ready x.pending (x.doc.number + 1) x.doc.minimum x.doc.intervals [] (sequenced_part x.doc) ready.typed ready.writes
+      ready.edits (reached-first x conn ready sound) in
       sym (shown-follows r.level _ _ r.ahead r.follows refl) ∙ ap (λ d. shown_with_pending d x conn) e
 
   -- so is what the order shows

@@ -35,11 +35,13 @@ seen-earlier k m e l h s = step (list_any (has_occurred_at_stage k) (e.dels ++ r
     dels : List Stamp
     dels = e.dels ++ removal_stamp e.removal_stage
 
-    step : (b : Bool) → list_any (has_occurred_at_stage k) (e.dels ++ removal_stamp e.removal_stage) ≡ b → has_occurred_at_stage k e.ins && not (list_any (has_occurred_at_stage k) (e.dels ++ removal_stamp e.removal_stage)) ≡ true
+    step : (b : Bool) → list_any (has_occurred_at_stage k) (e.dels ++ removal_stamp e.removal_stage) ≡ b → has_occurred_at_stage k e.ins
+        && not (list_any (has_occurred_at_stage k) (e.dels ++ removal_stamp e.removal_stage)) ≡ true
     step true q = let r = any-earlier k m (e.dels ++ removal_stamp e.removal_stage) l q in grind (arith)
     step false q = rw (h, q) refl
 
-named-earlier : (k m : ℕ) (x : ElementId) (xs : List ListElement) → k ≤ m → list_all (λ e. not (has_id x e) || has_occurred_at_stage k e.ins) xs ≡ true → has_named (seen m) xs x ≡ true → has_named (seen k) xs x ≡ true
+named-earlier : (k m : ℕ) (x : ElementId) (xs : List ListElement) → k ≤ m → list_all (λ e. not (has_id x e) || has_occurred_at_stage k e.ins) xs ≡ true
+    → has_named (seen m) xs x ≡ true → has_named (seen k) xs x ≡ true
 named-earlier k m x [] l h n = (cc)
 named-earlier k m x (e ∷ xs) l h n =
     let p = both (not (has_id x e) || has_occurred_at_stage k e.ins) (list_all (λ e. not (has_id x e) || has_occurred_at_stage k e.ins) xs) h in
@@ -49,14 +51,16 @@ named-earlier k m x (e ∷ xs) l h n =
     later true b h = refl
     later false b h = h
 
-    step : (a b : Bool) → same_id x (id e) ≡ a → seen m e ≡ b → not a || has_occurred_at_stage k e.ins ≡ true → (a && b) || has_named (seen m) xs x ≡ true → (has_named (seen m) xs x ≡ true → has_named (seen k) xs x ≡ true)
+    step : (a b : Bool) → same_id x (id e) ≡ a → seen m e ≡ b → not a || has_occurred_at_stage k e.ins ≡ true → (a && b) || has_named (seen m) xs x ≡ true
+        → (has_named (seen m) xs x ≡ true → has_named (seen k) xs x ≡ true)
         → (a && seen k e) || has_named (seen k) xs x ≡ true
     step true true p q h n g = ap (λ b. b || has_named (seen k) xs x) (seen-earlier k m e l h q)
     step true false p q h n g = later (seen k e) _ (g n)
     step false b p q h n g = g n
 
 module _ (doc : Document) (m : ℕ) (row col : ElementId) (row-seen : has_named (seen m) doc.rows.items row ≡ true) (col-seen : has_named (seen m) doc.cols.items col ≡ true) where
-  named-seen : (k : ℕ) (x : ElementId) (xs : List ListElement) (o : Option ElementId) → k ≤ m → has_named (seen m) xs x ≡ true → is_inserted_before k xs o ≡ true → is_named_by x o ≡ true → is_named_and_seen k xs o ≡ true
+  named-seen : (k : ℕ) (x : ElementId) (xs : List ListElement) (o : Option ElementId) → k ≤ m → has_named (seen m) xs x ≡ true → is_inserted_before k xs o
+      ≡ true → is_named_by x o ≡ true → is_named_and_seen k xs o ≡ true
   named-seen k x xs None l s b n = (cc)
   named-seen k x xs (Some y) l s b n =
       let e : x ≡ y = same_id-eq x y n in
@@ -68,7 +72,8 @@ module _ (doc : Document) (m : ℕ) (row col : ElementId) (row-seen : has_named 
   both-seen false b h p q = (cc)
 
   -- a write without a piece is to another cell
-  pub set-gone : (k i j : ℕ) (value : ValueBytes) (names : NamedElements) (v : Option ValueBytes) → k ≤ m → is_inserted_before k doc.rows.items names.first && is_inserted_before k doc.cols.items names.second ≡ true
+  pub set-gone : (k i j : ℕ) (value : ValueBytes) (names : NamedElements) (v : Option ValueBytes) → k ≤ m → is_inserted_before k doc.rows.items names.first
+      && is_inserted_before k doc.cols.items names.second ≡ true
       → is_named_and_seen k doc.rows.items names.first && is_named_and_seen k doc.cols.items names.second ≡ false
       → cond (is_named_by row names.first && is_named_by col names.second) (value_unless_null value) v ≡ v
   set-gone k i j value names v l w h = step (is_named_by row names.first) (is_named_by col names.second) refl refl
@@ -88,18 +93,24 @@ module _ (doc : Document) (m : ℕ) (row col : ElementId) (row-seen : has_named 
   no-piece true ps o h = absurd cc
   no-piece false ps o h = refl
 
-  module _ (stages : List Stage) (v : Option ValueBytes) (later : (w : Option ValueBytes) → shown_cell_value row col w (flat_map (carried_stage doc) stages) ≡ shown_cell_value row col w stages) where
+  module _ (stages : List Stage) (v : Option ValueBytes) (later : (w : Option ValueBytes) → shown_cell_value row col w (flat_map (carried_stage doc) stages)
+      ≡ shown_cell_value row col w stages) where
     by_pieces : (t : Stage) (ps : List SubOperation) → (ps ≡ [] → cell_after_stage row col t v ≡ v)
-        → shown_cell_value row col v ((elim ps [ [] ↦ [] | _ ∷ _ ↦ t ∷ [] ]) ++ flat_map (carried_stage doc) stages) ≡ shown_cell_value row col (cell_after_stage row col t v) stages
+        → shown_cell_value row col v ((elim ps [ [] ↦ [] | _ ∷ _ ↦ t ∷ [] ]) ++ flat_map (carried_stage doc) stages)
+        ≡ shown_cell_value row col (cell_after_stage row col t v) stages
     by_pieces t [] f = later v ∙ ap (λ w. shown_cell_value row col w stages) (sym (f refl))
     by_pieces t (p ∷ ps) f = later (cell_after_stage row col t v)
 
-    value-stage : (k : ℕ) (o : SubOperation) (names : NamedElements) → k ≤ m → writes_known_units doc.rows.items doc.cols.items (record { stage = k; sub_operation = o; names = names }) ≡ true
-        → shown_cell_value row col v (flat_map (carried_stage doc) (record { stage = k; sub_operation = o; names = names } ∷ stages)) ≡ shown_cell_value row col v (record { stage = k; sub_operation = o; names = names } ∷ stages)
+    value-stage : (k : ℕ) (o : SubOperation) (names : NamedElements) → k ≤ m
+        → writes_known_units doc.rows.items doc.cols.items (record { stage = k; sub_operation = o; names = names }) ≡ true
+        → shown_cell_value row col v (flat_map (carried_stage doc) (record { stage = k; sub_operation = o; names = names } ∷ stages))
+        ≡ shown_cell_value row col v (record { stage = k; sub_operation = o; names = names } ∷ stages)
     value-stage k (OnText op) names l w = by_pieces (record { stage = k; sub_operation = OnText op; names = names }) (text_pieces k doc.text.items op) (λ e. refl)
     value-stage k (OnIntervals op) names l w = later v
-    value-stage k (OnGrid (SpliceIn target p count)) names l w = by_pieces (record { stage = k; sub_operation = OnGrid (SpliceIn target p count); names = names }) (grid_pieces k doc names (SpliceIn target p count)) (λ e. refl)
-    value-stage k (OnGrid (SpliceOut target p q)) names l w = by_pieces (record { stage = k; sub_operation = OnGrid (SpliceOut target p q); names = names }) (grid_pieces k doc names (SpliceOut target p q)) (λ e. refl)
+    value-stage k (OnGrid (SpliceIn target p count)) names l w = by_pieces
+        (record { stage = k; sub_operation = OnGrid (SpliceIn target p count); names = names }) (grid_pieces k doc names (SpliceIn target p count)) (λ e. refl)
+    value-stage k (OnGrid (SpliceOut target p q)) names l w = by_pieces (record { stage = k; sub_operation = OnGrid (SpliceOut target p q); names = names })
+        (grid_pieces k doc names (SpliceOut target p q)) (λ e. refl)
     value-stage k (OnGrid (Set i j value)) names l w =
         by_pieces (record { stage = k; sub_operation = OnGrid (Set i j value); names = names }) (grid_pieces k doc names (Set i j value))
         (λ e. set-gone k i j value names v l w (no-piece (is_named_and_seen k doc.rows.items names.first && is_named_and_seen k doc.cols.items names.second) [] _ e))

@@ -130,25 +130,32 @@ module _ (ps : List Pair) (h : Each (λ p. IsFewer p.0 p.1 × (is_sequenced p.0 
       step true false f = f refl
       step false b f = refl
 
-  right-slide : (x : ElementId) → slide (rights ps) (Some x) ≡ option_map id (option_map (λ p. p.1) (settled_after (λ p. has_id x p.0) (λ p. is_unremoved p.1 && is_unremoved p.0) None ps))
+  right-slide : (x : ElementId) → slide (rights ps) (Some x) ≡ option_map id
+      (option_map (λ p. p.1) (settled_after (λ p. has_id x p.0) (λ p. is_unremoved p.1 && is_unremoved p.0) None ps))
   right-slide x =
       ap (option_map id) (settled-map (λ p. p.1) (λ p. has_id x p.0) (λ p. is_unremoved p.1 && is_unremoved p.0) (λ e. is_sequenced e && has_id x e) is_unremoved None ps
-      (each-with (λ p. IsFewer p.0 p.1 × (is_sequenced p.0 ≡ true)) (λ p. is_sequenced p.1 && has_id x p.1 ≡ has_id x p.0) (λ p k. ap (λ b. b && has_id x p.1) (k.0.sequenced ∙ k.1) ∙ ap (same_id x) k.0.name) ps h)
+      (each-with (λ p. IsFewer p.0 p.1 × (is_sequenced p.0 ≡ true)) (λ p. is_sequenced p.1 && has_id x p.1 ≡ has_id x p.0)
+      (λ p k. ap (λ b. b && has_id x p.1) (k.0.sequenced ∙ k.1) ∙ ap (same_id x) k.0.name) ps h)
       (each-with (λ p. IsFewer p.0 p.1 × (is_sequenced p.0 ≡ true)) (λ p. is_unremoved p.1 ≡ is_unremoved p.1 && is_unremoved p.0) (λ p k. both-unremoved p k.0) ps h))
 
 -- an end that slid before slides on as it would slide at once
-again-pairs : (ps : List Pair) → Each (λ p. IsFewer p.0 p.1 × (is_sequenced p.0 ≡ true)) ps → are_distinct (lefts ps) ≡ true → (x : ElementId) → slide (rights ps) (slide (lefts ps) (Some x)) ≡ slide (rights ps) (Some x)
+again-pairs : (ps : List Pair) → Each (λ p. IsFewer p.0 p.1 × (is_sequenced p.0 ≡ true)) ps → are_distinct (lefts ps) ≡ true → (x : ElementId)
+    → slide (rights ps) (slide (lefts ps) (Some x)) ≡ slide (rights ps) (Some x)
 again-pairs ps h d x =
     ap (slide (rights ps)) (left-slide ps h x)
-    ∙ step (settled_after (λ p. has_id x p.0) (λ p. is_unremoved p.0) None ps) (settled_twice (λ p. id p.0) (λ p. is_unremoved p.0) (λ p. is_unremoved p.1 && is_unremoved p.0) (λ p k. both-false (is_unremoved p.1) (is_unremoved p.0) k) x ps (apart-left ps (distinct-apart (lefts ps) d)))
+    ∙ step (settled_after (λ p. has_id x p.0) (λ p. is_unremoved p.0) None ps)
+    (settled_twice (λ p. id p.0) (λ p. is_unremoved p.0) (λ p. is_unremoved p.1 && is_unremoved p.0)
+    (λ p k. both-false (is_unremoved p.1) (is_unremoved p.0) k) x ps (apart-left ps (distinct-apart (lefts ps) d)))
     ∙ sym (right-slide ps h x)
   where
     both-false : (a b : Bool) → b ≡ false → a && b ≡ false
     both-false true b h = h
     both-false false b h = refl
 
-    step : (o : Option Pair) → again (λ p. id p.0) (λ p. is_unremoved p.0) (λ p. is_unremoved p.1 && is_unremoved p.0) (λ p k. both-false (is_unremoved p.1) (is_unremoved p.0) k) ps o ≡ settled_after (λ p. has_id x p.0) (λ p. is_unremoved p.1 && is_unremoved p.0) None ps
-        → slide (rights ps) (option_map id (option_map (λ p. p.0) o)) ≡ option_map id (option_map (λ p. p.1) (settled_after (λ p. has_id x p.0) (λ p. is_unremoved p.1 && is_unremoved p.0) None ps))
+    step : (o : Option Pair) → again (λ p. id p.0) (λ p. is_unremoved p.0) (λ p. is_unremoved p.1 && is_unremoved p.0)
+        (λ p k. both-false (is_unremoved p.1) (is_unremoved p.0) k) ps o ≡ settled_after (λ p. has_id x p.0) (λ p. is_unremoved p.1 && is_unremoved p.0) None ps
+        → slide (rights ps) (option_map id (option_map (λ p. p.0) o)) ≡ option_map id
+        (option_map (λ p. p.1) (settled_after (λ p. has_id x p.0) (λ p. is_unremoved p.1 && is_unremoved p.0) None ps))
     step None u = ap (λ o. option_map id (option_map (λ (p : Pair). p.1) o)) u
     step (Some y) u = right-slide ps h (id y.0) ∙ ap (λ o. option_map id (option_map (λ (p : Pair). p.1) o)) u
 
@@ -161,7 +168,8 @@ slide-again xs ys f s d (Some x) =
     (subst (λ us. slide us (slide (lefts (zipped xs ys)) (Some x)) ≡ slide us (Some x)) right
     (again-pairs (zipped xs ys) (zip-each xs ys f s) (subst (λ us. are_distinct us ≡ true) (sym left) d) x))
 
-pub slide_ends-again : (xs ys : List ListElement) → Fewer xs ys → list_all is_sequenced xs ≡ true → are_distinct xs ≡ true → (is : List Interval) → slide_ends ys (slide_ends xs is) ≡ slide_ends ys is
+pub slide_ends-again : (xs ys : List ListElement) → Fewer xs ys → list_all is_sequenced xs ≡ true → are_distinct xs ≡ true → (is : List Interval)
+    → slide_ends ys (slide_ends xs is) ≡ slide_ends ys is
 slide_ends-again xs ys f s d [] = refl
 slide_ends-again xs ys f s d (i ∷ is) = rw (slide-again xs ys f s d i.start, slide-again xs ys f s d i.end, slide_ends-again xs ys f s d is) refl
 
@@ -171,13 +179,16 @@ slide-stays : (xs : List ListElement) → list_all is_sequenced xs ≡ true → 
 slide-stays xs s d None h = refl
 slide-stays xs s d (Some x) h = ap (option_map id) (same None xs s) ∙ stays is_unremoved x None xs (only-named is_unremoved xs d x h) h
   where
-    same : (last : Option ListElement) (xs : List ListElement) → list_all is_sequenced xs ≡ true → settled_after (λ e. is_sequenced e && has_id x e) is_unremoved last xs ≡ settled_after (has_id x) is_unremoved last xs
+    same : (last : Option ListElement) (xs : List ListElement) → list_all is_sequenced xs ≡ true
+        → settled_after (λ e. is_sequenced e && has_id x e) is_unremoved last xs ≡ settled_after (has_id x) is_unremoved last xs
     same last [] s = refl
     same last (e ∷ xs) s = let p = both (is_sequenced e) (list_all is_sequenced xs) s in
-        ap (λ b. cond (b && has_id x e) (option_or (find is_unremoved (e ∷ xs)) last) (settled_after (λ e. is_sequenced e && has_id x e) is_unremoved (cond (is_unremoved e) (Some e) last) xs)) p.0
+        ap (λ b. cond (b && has_id x e) (option_or (find is_unremoved (e ∷ xs)) last)
+        (settled_after (λ e. is_sequenced e && has_id x e) is_unremoved (cond (is_unremoved e) (Some e) last) xs)) p.0
         ∙ ap (cond (has_id x e) (option_or (find is_unremoved (e ∷ xs)) last)) (same (cond (is_unremoved e) (Some e) last) xs p.1)
 
-pub slide_ends-stay : (xs : List ListElement) → list_all is_sequenced xs ≡ true → are_distinct xs ≡ true → (is : List Interval) → list_all (has_ends_on xs) is ≡ true → slide_ends xs is ≡ is
+pub slide_ends-stay : (xs : List ListElement) → list_all is_sequenced xs ≡ true → are_distinct xs ≡ true → (is : List Interval) → list_all (has_ends_on xs) is
+    ≡ true → slide_ends xs is ≡ is
 slide_ends-stay xs s d [] h = refl
 slide_ends-stay xs s d (i ∷ is) h =
     let q = both (has_ends_on xs i) (list_all (has_ends_on xs) is) h in
@@ -199,18 +210,38 @@ pub record TextBecomes (d d' : Document) (items : List ListElement) (intervals :
 
 module _ (s c r : ℕ) where
   one-removal : (p q : ℕ) (d : Document) → IsConsistent d
-      → TextBecomes d (text_effect d s c r (Remove p q)) (change_run (seen_by r c) (with_removal s c) (p, q) d.text.items) (slide_ends (change_run (seen_by r c) (with_removal s c) (p, q) d.text.items) d.intervals)
+      → TextBecomes d (text_effect d s c r (Remove p q)) (change_run (seen_by r c) (with_removal s c) (p, q) d.text.items)
+      (slide_ends (change_run (seen_by r c) (with_removal s c) (p, q) d.text.items) d.intervals)
   one-removal p q d h = step (nat_le q (len (seen_by r c) d.text.items))
     where
-      step : (b : Bool) → TextBecomes d (cond b (with_slid_ends (record d { text = record d.text { items = change_range (seen_by r c) p q (with_removal s c) d.text.items } })) (with_skip d))
-          (cond b (change_range (seen_by r c) p q (with_removal s c) d.text.items) d.text.items) (slide_ends (cond b (change_range (seen_by r c) p q (with_removal s c) d.text.items) d.text.items) d.intervals)
+      step : (b : Bool) → TextBecomes d (cond b (with_slid_ends (record d {
+        text = record d.text
+            { items = change_range (seen_by r c) p q (with_removal s c) d.text.items };
+      })) (with_skip d))
+          (cond b (change_range (seen_by r c) p q (with_removal s c) d.text.items) d.text.items)
+          (slide_ends (cond b (change_range (seen_by r c) p q (with_removal s c) d.text.items) d.text.items) d.intervals)
       step true = record { text = refl; rows = refl; cols = refl; cells = refl; ends = refl }
-      step false = record { text = refl; rows = refl; cols = refl; cells = refl; ends = sym (slide_ends-stay d.text.items (numbered-sequenced d.text.made d.text.items h.text.below) h.text.distinct d.intervals h.ends) }
+      step false = record {
+        text = refl;
+        rows = refl;
+        cols = refl;
+        cells = refl;
+        ends = sym
+            (slide_ends-stay d.text.items (numbered-sequenced d.text.made d.text.items h.text.below) h.text.distinct d.intervals h.ends);
+      }
 
   -- removals one after another: the ends slide once for all
   pub removals : (rs : List (ℕ × ℕ)) (d : Document) → IsConsistent d
-      → TextBecomes d (effects d s c r (map (λ r. OnText (Remove r.0 r.1)) rs)) (change_runs (seen_by r c) (with_removal s c) rs d.text.items) (slide_ends (change_runs (seen_by r c) (with_removal s c) rs d.text.items) d.intervals)
-  removals [] d h = record { text = refl; rows = refl; cols = refl; cells = refl; ends = sym (slide_ends-stay d.text.items (numbered-sequenced d.text.made d.text.items h.text.below) h.text.distinct d.intervals h.ends) }
+      → TextBecomes d (effects d s c r (map (λ r. OnText (Remove r.0 r.1)) rs)) (change_runs (seen_by r c) (with_removal s c) rs d.text.items)
+      (slide_ends (change_runs (seen_by r c) (with_removal s c) rs d.text.items) d.intervals)
+  removals [] d h = record {
+    text = refl;
+    rows = refl;
+    cols = refl;
+    cells = refl;
+    ends = sym
+        (slide_ends-stay d.text.items (numbered-sequenced d.text.made d.text.items h.text.below) h.text.distinct d.intervals h.ends);
+  }
   removals (x ∷ rs) d h =
       let d1 = text_effect d s c r (Remove x.0 x.1) in
       let h1 = effect-consistent d s c r (OnText (Remove x.0 x.1)) h in
@@ -220,27 +251,36 @@ module _ (s c r : ℕ) where
       let items : d1.text.items ≡ run = ap (λ l. l.items) one.text in
       let all = change_runs (seen_by r c) (with_removal s c) rs run in
       record {
-        text = rest.text ∙ ap (λ us. record { items = change_runs (seen_by r c) (with_removal s c) rs us; made = d1.text.made }) items ∙ ap (λ l. record { items = all; made = l.made }) one.text;
+        text = rest.text ∙ ap (λ us. record { items = change_runs (seen_by r c) (with_removal s c) rs us; made = d1.text.made }) items
+            ∙ ap (λ l. record { items = all; made = l.made }) one.text;
         rows = rest.rows ∙ one.rows;
         cols = rest.cols ∙ one.cols;
         cells = rest.cells ∙ one.cells;
         ends =
             rest.ends
             ∙ ap (slide_ends (change_runs (seen_by r c) (with_removal s c) rs d1.text.items)) (one.ends ∙ ap (λ us. slide_ends us d.intervals) (sym items))
-            ∙ slide_ends-again d1.text.items (change_runs (seen_by r c) (with_removal s c) rs d1.text.items) (runs-fewer (seen_by r c) s c rs d1.text.items) (numbered-sequenced d1.text.made d1.text.items h1.text.below) h1.text.distinct d.intervals
+            ∙ slide_ends-again d1.text.items (change_runs (seen_by r c) (with_removal s c) rs d1.text.items) (runs-fewer (seen_by r c) s c rs d1.text.items)
+            (numbered-sequenced d1.text.made d1.text.items h1.text.below) h1.text.distinct d.intervals
             ∙ ap (λ us. slide_ends (change_runs (seen_by r c) (with_removal s c) rs us) d.intervals) items;
       }
 
-  one-annotation : (p q : ℕ) (changes : Changes) (d : Document) → TextBecomes d (text_effect d s c r (Annotate p q changes)) (change_run (seen_by r c) (with_annotation changes) (p, q) d.text.items) d.intervals
+  one-annotation : (p q : ℕ) (changes : Changes) (d : Document) → TextBecomes d (text_effect d s c r (Annotate p q changes))
+      (change_run (seen_by r c) (with_annotation changes) (p, q) d.text.items) d.intervals
   one-annotation p q changes d = step (nat_le q (len (seen_by r c) d.text.items))
     where
-      step : (b : Bool) → TextBecomes d (cond b (record d { text = record { items = change_range (seen_by r c) p q (with_annotation changes) d.text.items; made = d.text.made } }) (with_skip d))
+      step : (b : Bool) → TextBecomes d (cond b (record d {
+        text = record {
+          items = change_range (seen_by r c) p q (with_annotation changes) d.text.items;
+          made = d.text.made;
+        };
+      }) (with_skip d))
           (cond b (change_range (seen_by r c) p q (with_annotation changes) d.text.items) d.text.items) d.intervals
       step true = record { text = refl; rows = refl; cols = refl; cells = refl; ends = refl }
       step false = record { text = refl; rows = refl; cols = refl; cells = refl; ends = refl }
 
   -- annotations one after another
-  pub annotations : (changes : Changes) (rs : List (ℕ × ℕ)) (d : Document) → TextBecomes d (effects d s c r (map (λ r. OnText (Annotate r.0 r.1 changes)) rs)) (change_runs (seen_by r c) (with_annotation changes) rs d.text.items) d.intervals
+  pub annotations : (changes : Changes) (rs : List (ℕ × ℕ)) (d : Document)
+      → TextBecomes d (effects d s c r (map (λ r. OnText (Annotate r.0 r.1 changes)) rs)) (change_runs (seen_by r c) (with_annotation changes) rs d.text.items) d.intervals
   annotations changes [] d = record { text = refl; rows = refl; cols = refl; cells = refl; ends = refl }
   annotations changes (x ∷ rs) d =
       let d1 = text_effect d s c r (Annotate x.0 x.1 changes) in
@@ -250,7 +290,8 @@ module _ (s c r : ℕ) where
       let items : d1.text.items ≡ run = ap (λ l. l.items) one.text in
       let all = change_runs (seen_by r c) (with_annotation changes) rs run in
       record {
-        text = rest.text ∙ ap (λ us. record { items = change_runs (seen_by r c) (with_annotation changes) rs us; made = d1.text.made }) items ∙ ap (λ l. record { items = all; made = l.made }) one.text;
+        text = rest.text ∙ ap (λ us. record { items = change_runs (seen_by r c) (with_annotation changes) rs us; made = d1.text.made }) items
+            ∙ ap (λ l. record { items = all; made = l.made }) one.text;
         rows = rest.rows ∙ one.rows;
         cols = rest.cols ∙ one.cols;
         cells = rest.cells ∙ one.cells;
@@ -267,19 +308,29 @@ pub record LaneBecomes (target : Target) (d d' : Document) (items : List ListEle
   pub ends : d'.intervals ≡ d.intervals
 
 module _ (s c r : ℕ) where
-  one-splice : (target : Target) (p q : ℕ) (d : Document) → LaneBecomes target d (grid_effect d s c r (SpliceOut target p q)) (change_run (seen_by r c) (with_removal s c) (p, q) (rows_or_cols target d).items)
+  one-splice : (target : Target) (p q : ℕ) (d : Document) → LaneBecomes target d (grid_effect d s c r (SpliceOut target p q))
+      (change_run (seen_by r c) (with_removal s c) (p, q) (rows_or_cols target d).items)
   one-splice Rows p q d = step (nat_le q (len (seen_by r c) d.rows.items))
     where
-      step : (b : Bool) → LaneBecomes Rows d (cond b (record d { rows = record d.rows { items = change_range (seen_by r c) p q (with_removal s c) d.rows.items } }) (with_skip d)) (cond b (change_range (seen_by r c) p q (with_removal s c) d.rows.items) d.rows.items)
+      step : (b : Bool) → LaneBecomes Rows d (cond b (record d {
+        rows = record d.rows
+            { items = change_range (seen_by r c) p q (with_removal s c) d.rows.items };
+      }) (with_skip d))
+          (cond b (change_range (seen_by r c) p q (with_removal s c) d.rows.items) d.rows.items)
       step true = record { lane = refl; text = refl; rows = λ e. absurd cc; cols = λ e. refl; cells = refl; ends = refl }
       step false = record { lane = refl; text = refl; rows = λ e. absurd cc; cols = λ e. refl; cells = refl; ends = refl }
   one-splice Cols p q d = step (nat_le q (len (seen_by r c) d.cols.items))
     where
-      step : (b : Bool) → LaneBecomes Cols d (cond b (record d { cols = record d.cols { items = change_range (seen_by r c) p q (with_removal s c) d.cols.items } }) (with_skip d)) (cond b (change_range (seen_by r c) p q (with_removal s c) d.cols.items) d.cols.items)
+      step : (b : Bool) → LaneBecomes Cols d (cond b (record d {
+        cols = record d.cols
+            { items = change_range (seen_by r c) p q (with_removal s c) d.cols.items };
+      }) (with_skip d))
+          (cond b (change_range (seen_by r c) p q (with_removal s c) d.cols.items) d.cols.items)
       step true = record { lane = refl; text = refl; rows = λ e. refl; cols = λ e. absurd cc; cells = refl; ends = refl }
       step false = record { lane = refl; text = refl; rows = λ e. refl; cols = λ e. absurd cc; cells = refl; ends = refl }
 
-  pub splices : (target : Target) (rs : List (ℕ × ℕ)) (d : Document) → LaneBecomes target d (effects d s c r (map (λ r. OnGrid (SpliceOut target r.0 r.1)) rs)) (change_runs (seen_by r c) (with_removal s c) rs (rows_or_cols target d).items)
+  pub splices : (target : Target) (rs : List (ℕ × ℕ)) (d : Document) → LaneBecomes target d (effects d s c r (map (λ r. OnGrid (SpliceOut target r.0 r.1)) rs))
+      (change_runs (seen_by r c) (with_removal s c) rs (rows_or_cols target d).items)
   splices target [] d = record { lane = refl; text = refl; rows = λ e. refl; cols = λ e. refl; cells = refl; ends = refl }
   splices target (x ∷ rs) d =
       let d1 = grid_effect d s c r (SpliceOut target x.0 x.1) in
@@ -289,7 +340,8 @@ module _ (s c r : ℕ) where
       let items : (rows_or_cols target d1).items ≡ run = ap (λ l. l.items) one.lane in
       let all = change_runs (seen_by r c) (with_removal s c) rs run in
       record {
-        lane = rest.lane ∙ ap (λ us. record { items = change_runs (seen_by r c) (with_removal s c) rs us; made = (rows_or_cols target d1).made }) items ∙ ap (λ l. record { items = all; made = l.made }) one.lane;
+        lane = rest.lane ∙ ap (λ us. record { items = change_runs (seen_by r c) (with_removal s c) rs us; made = (rows_or_cols target d1).made }) items
+            ∙ ap (λ l. record { items = all; made = l.made }) one.lane;
         text = rest.text ∙ one.text;
         rows = λ e. rest.rows e ∙ one.rows e;
         cols = λ e. rest.cols e ∙ one.cols e;

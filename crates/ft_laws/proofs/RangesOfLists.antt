@@ -49,7 +49,8 @@ module _ {A : Type 0} where
   len-range test seen g same p q i [] = refl
   len-range test seen g same p q i (x ∷ xs) = grind (arith, len-range test seen g same p q i xs, len-range test seen g same p q (suc i) xs, same x)
 
-  pub all-range : (is seen : A → Bool) (g : A → A) → ((x : A) → is x ≡ true → is (g x) ≡ true) → (p q i : ℕ) (xs : List A) → list_all is xs ≡ true → list_all is (change_range_from i seen p q g xs) ≡ true
+  pub all-range : (is seen : A → Bool) (g : A → A) → ((x : A) → is x ≡ true → is (g x) ≡ true) → (p q i : ℕ) (xs : List A) → list_all is xs ≡ true
+      → list_all is (change_range_from i seen p q g xs) ≡ true
   all-range is seen g keep p q i [] h = refl
   all-range is seen g keep p q i (x ∷ xs) h = grind (arith, all-range is seen g keep p q i xs, all-range is seen g keep p q (suc i) xs, keep x)
 
@@ -103,7 +104,8 @@ module _ {A : Type 0} where
       ∙ ap (change_ranges other h others) (ranges-range seen other g h same same' both_ways m n ranges xs)
 
   -- ranges fit as before in another list of the same length, after whose changes the lists are so again
-  pub len-ranges : (test seen : A → Bool) (g : A → A) → ((x : A) → test (g x) ≡ test x) → (ranges : List (ℕ × ℕ)) (xs : List A) → len test (change_ranges seen g ranges xs) ≡ len test xs
+  pub len-ranges : (test seen : A → Bool) (g : A → A) → ((x : A) → test (g x) ≡ test x) → (ranges : List (ℕ × ℕ)) (xs : List A)
+      → len test (change_ranges seen g ranges xs) ≡ len test xs
   len-ranges test seen g same [] xs = refl
   len-ranges test seen g same ((p, q) ∷ ranges) xs = len-ranges test seen g same ranges (change_range seen p q g xs) ∙ len-range test seen g same p q 0 xs
 
@@ -112,7 +114,8 @@ module _ {A : Type 0} where
   fit-range seen other g h same same' both_ways m n [] xs = refl
   fit-range seen other g h same same' both_ways m n ((p, q) ∷ ranges) xs =
       let here : len seen (change_range other m n h xs) ≡ len seen xs = len-range seen other h same m n 0 xs in
-      let later : change_range seen p q g (change_range other m n h xs) ≡ change_range other m n h (change_range seen p q g xs) = range-range seen other g h same same' both_ways p q 0 m n 0 xs in
+      let later : change_range seen p q g (change_range other m n h xs) ≡ change_range other m n h (change_range seen p q g xs) = range-range seen other g h
+      same same' both_ways p q 0 m n 0 xs in
       ap (λ b. nat_le q b && ranges_fit seen g ranges (change_range seen p q g (change_range other m n h xs))) here
       ∙ ap (λ ys. nat_le q (len seen xs) && ranges_fit seen g ranges ys) later
       ∙ ap (λ b. nat_le q (len seen xs) && b) (fit-range seen other g h same same' both_ways m n ranges (change_range seen p q g xs))

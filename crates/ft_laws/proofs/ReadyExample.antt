@@ -13,7 +13,8 @@ inserting k h = step (nat_eq 1 (suc k)) (nat_eq 3 (suc k)) refl refl h
     none true = refl
     none false = refl
 
-    step : (a b : Bool) → nat_eq 1 (suc k) ≡ a → nat_eq 3 (suc k) ≡ b → (nat_eq 1 (suc k) && true) || ((nat_eq 2 (suc k) && false) || ((nat_eq 3 (suc k) && true) || false)) ≡ true → StandSideBySide k client_after.doc.text.items
+    step : (a b : Bool) → nat_eq 1 (suc k) ≡ a → nat_eq 3 (suc k) ≡ b → (nat_eq 1 (suc k) && true)
+        || ((nat_eq 2 (suc k) && false) || ((nat_eq 3 (suc k) && true) || false)) ≡ true → StandSideBySide k client_after.doc.text.items
     step true b p q h = let e : k ≡ 0 = grind (arith, nat_tests) in subst (λ i. StandSideBySide i client_after.doc.text.items) (sym e) refl
     step false true p q h = let e : k ≡ 2 = grind (arith, nat_tests) in subst (λ i. StandSideBySide i client_after.doc.text.items) (sym e) refl
     step false false p q h = absurd (cc (subst (λ c. (c && true) || ((nat_eq 2 (suc k) && false) || ((nat_eq 3 (suc k) && true) || false)) ≡ true) p h, none (nat_eq 2 (suc k)), q))

@@ -30,7 +30,8 @@ carried-sequenced [] = refl
 carried-sequenced (e ∷ xs) = kept (is_sequenced e) refl (carried-sequenced xs)
   where
     kept : (b : Bool) → is_sequenced e ≡ b → sequenced_elements (retain_map is_sequenced carried_element xs) ≡ sequenced_elements xs
-        → sequenced_elements (cond b (carried_element e ∷ retain_map is_sequenced carried_element xs) (retain_map is_sequenced carried_element xs)) ≡ cond b (without_pending e ∷ sequenced_elements xs) (sequenced_elements xs)
+        → sequenced_elements (cond b (carried_element e ∷ retain_map is_sequenced carried_element xs) (retain_map is_sequenced carried_element xs))
+        ≡ cond b (without_pending e ∷ sequenced_elements xs) (sequenced_elements xs)
     kept true h ih =
         let here : is_sequenced (carried_element e) ≡ true = ap is_acked (carried_element-ins e) ∙ h in
         rw (here, carried-bare e) (ap (λ ys. without_pending e ∷ ys) ih)
@@ -71,7 +72,8 @@ edits-stages c [] [] h = refl
 edits-stages c [] (edit ∷ edits) h = absurd h
 edits-stages c (gs ∷ gss) [] h = absurd h
 edits-stages c (gs ∷ gss) (edit ∷ edits) h =
-    ap (λ ts. ts ++ flat_map (λ e. e.stages) edits) h.0.stages ∙ ap (λ ts. map (λ g. g.stage) gs ++ ts) (edits-stages c gss edits h.1) ∙ sym (map-append (λ g. g.stage) gs (flat gss))
+    ap (λ ts. ts ++ flat_map (λ e. e.stages) edits) h.0.stages ∙ ap (λ ts. map (λ g. g.stage) gs ++ ts) (edits-stages c gss edits h.1)
+    ∙ sym (map-append (λ g. g.stage) gs (flat gss))
 
 pub client-numbers : (bound c : ℕ) (gss : List (List ToldStage)) (x : NaiveClient) → ClientHolds bound c gss x → map (λ t. t.stage) (stages_of x) ≡ stage_numbers (flat gss)
 client-numbers bound c gss x h = ap (map (λ t. t.stage)) (edits-stages c gss x.pending h.edits) ∙ told-numbers x.doc.number (flat gss) h.doc.told

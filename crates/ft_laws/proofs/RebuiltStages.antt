@@ -69,7 +69,8 @@ module _ (q : ListElement → Bool) (bare : (e : ListElement) → q e ≡ true �
       reached (Acked s c) f = refl
       reached (Local i) f = grind (arith, nat_tests)
 
-      stage-step : (b : Bool) → is_inserted_by j e ≡ b → passes_up_to k e ≡ true → list_all q (filter (is_inserted_by j) xs) ≡ true → list_all q (cond b (e ∷ filter (is_inserted_by j) xs) (filter (is_inserted_by j) xs)) ≡ true
+      stage-step : (b : Bool) → is_inserted_by j e ≡ b → passes_up_to k e ≡ true → list_all q (filter (is_inserted_by j) xs) ≡ true
+          → list_all q (cond b (e ∷ filter (is_inserted_by j) xs) (filter (is_inserted_by j) xs)) ≡ true
       stage-step true f g ih =
           let here : q e ≡ true = ap (λ b. cond b (q e) true) (sym (reached e.ins f)) ∙ g in
           rw (here, ih) refl
@@ -79,9 +80,11 @@ module _ (q : ListElement → Bool) (bare : (e : ListElement) → q e ≡ true �
   pub rebuilt-passes : (k j : ℕ) (xs : List ListElement) → j ≤ k → list_all (passes_up_to k) xs ≡ true → list_all q (stage_list xs j) ≡ true
   rebuilt-passes k zero xs l h = first-passes k xs h
   rebuilt-passes k (suc j) xs l h =
-      all-put q (seen (suc j - 1)) no_run (stage_position (suc j) xs) (filter (is_inserted_by (suc j)) xs) (stage_list xs j) (stage-passes k (suc j) xs l h) (rebuilt-passes k j xs (omega arith) h)
+      all-put q (seen (suc j - 1)) no_run (stage_position (suc j) xs) (filter (is_inserted_by (suc j)) xs) (stage_list xs j) (stage-passes k (suc j) xs l h)
+      (rebuilt-passes k j xs (omega arith) h)
 
-pub lifted : (q : ListElement → Bool) (k : ℕ) → ((e : ListElement) → q (element_up_to k e) ≡ q e) → (xs : List ListElement) → list_all q (list_up_to k xs) ≡ true → list_all (λ e. cond (is_upto k e) (q e) true) xs ≡ true
+pub lifted : (q : ListElement → Bool) (k : ℕ) → ((e : ListElement) → q (element_up_to k e) ≡ q e) → (xs : List ListElement) → list_all q (list_up_to k xs)
+    ≡ true → list_all (λ e. cond (is_upto k e) (q e) true) xs ≡ true
 lifted q k same [] h = refl
 lifted q k same (e ∷ xs) h = grind (arith, lifted q k same xs, same e)
 
@@ -140,20 +143,24 @@ is_changing (PutIn p props items) = false
 is_changing (TakenOut ranges) = false
 is_changing (Annotated ranges changes) = true
 
-pub unmarked-standing : (k r c : ℕ) (edit : StageEdit) (xs : List ListElement) → is_taking edit ≡ false → IsStanding k r c edit xs → list_all (is_unmarked_by (suc k)) (list_up_to (suc k) xs) ≡ true
+pub unmarked-standing : (k r c : ℕ) (edit : StageEdit) (xs : List ListElement) → is_taking edit ≡ false → IsStanding k r c edit xs
+    → list_all (is_unmarked_by (suc k)) (list_up_to (suc k) xs) ≡ true
 unmarked-standing k r c (PutIn p props items) xs t h =
     ap (list_all (is_unmarked_by (suc k))) h.made
-    ∙ all-put (is_unmarked_by (suc k)) (expects r c (suc (suc k))) no_run p (new_elements 0 (Local (suc k)) [] None props items) (list_up_to k xs) (new-unmarked (suc k) 0 props items) (unmarked-below k xs)
+    ∙ all-put (is_unmarked_by (suc k)) (expects r c (suc (suc k))) no_run p (new_elements 0 (Local (suc k)) [] None props items) (list_up_to k xs)
+    (new-unmarked (suc k) 0 props items) (unmarked-below k xs)
 unmarked-standing k r c (TakenOut []) xs t h = ap (list_all (is_unmarked_by (suc k))) h.made ∙ unmarked-below k xs
 unmarked-standing k r c (TakenOut (range ∷ ranges)) xs t h = (cc)
 unmarked-standing k r c (Annotated ranges changes) xs t h =
     ap (list_all (is_unmarked_by (suc k))) h.made
     ∙ all-ranges (is_unmarked_by (suc k)) (expects r c (suc (suc k))) (with_pending_annotation (suc k) changes) (λ e g. g) ranges (list_up_to k xs) (unmarked-below k xs)
 
-pub unchanged-standing : (k r c : ℕ) (edit : StageEdit) (xs : List ListElement) → is_changing edit ≡ false → IsStanding k r c edit xs → list_all (is_unchanged_by (suc k)) (list_up_to (suc k) xs) ≡ true
+pub unchanged-standing : (k r c : ℕ) (edit : StageEdit) (xs : List ListElement) → is_changing edit ≡ false → IsStanding k r c edit xs
+    → list_all (is_unchanged_by (suc k)) (list_up_to (suc k) xs) ≡ true
 unchanged-standing k r c (PutIn p props items) xs t h =
     ap (list_all (is_unchanged_by (suc k))) h.made
-    ∙ all-put (is_unchanged_by (suc k)) (expects r c (suc (suc k))) no_run p (new_elements 0 (Local (suc k)) [] None props items) (list_up_to k xs) (new-unchanged (suc k) 0 props items) (unchanged-below k xs)
+    ∙ all-put (is_unchanged_by (suc k)) (expects r c (suc (suc k))) no_run p (new_elements 0 (Local (suc k)) [] None props items) (list_up_to k xs)
+    (new-unchanged (suc k) 0 props items) (unchanged-below k xs)
 unchanged-standing k r c (TakenOut ranges) xs t h =
     ap (list_all (is_unchanged_by (suc k))) h.made
     ∙ all-ranges (is_unchanged_by (suc k)) (expects r c (suc (suc k))) (with_pending_removal (suc k)) (λ e g. g) ranges (list_up_to k xs) (unchanged-below k xs)
@@ -164,7 +171,8 @@ abbrev pub has_changes : ℕ → Changes → ListElement → Bool
 has_changes k changes e = list_all (λ p. cond (nat_eq p.0 k) (same_changes p.1 changes) true) e.pending
 
 pub has-same : (k : ℕ) (changes : Changes) (pending : List (ℕ × Changes))
-    → list_all (λ p. cond (nat_eq p.0 k) (same_changes p.1 changes) true) (filter (λ p. nat_le p.0 k) pending) ≡ list_all (λ p. cond (nat_eq p.0 k) (same_changes p.1 changes) true) pending
+    → list_all (λ p. cond (nat_eq p.0 k) (same_changes p.1 changes) true) (filter (λ p. nat_le p.0 k) pending)
+    ≡ list_all (λ p. cond (nat_eq p.0 k) (same_changes p.1 changes) true) pending
 has-same k changes [] = refl
 has-same k changes (p ∷ pending) = grind (arith, nat_tests, has-same k changes pending)
 
@@ -183,11 +191,13 @@ all-append is (y ∷ xs) x h g = grind (arith, all-append is xs x)
 own-changes : (k : ℕ) (changes : Changes) → cond (nat_eq k k) (same_changes changes changes) true ≡ true
 own-changes k changes = rw (same_nat k) ((same_changes-Decides changes changes).1 refl)
 
-pub has-standing : (k r c : ℕ) (ranges : List (ℕ × ℕ)) (changes : Changes) (xs : List ListElement) → IsStanding k r c (Annotated ranges changes) xs → list_all (has_changes (suc k) changes) (list_up_to (suc k) xs) ≡ true
+pub has-standing : (k r c : ℕ) (ranges : List (ℕ × ℕ)) (changes : Changes) (xs : List ListElement) → IsStanding k r c (Annotated ranges changes) xs
+    → list_all (has_changes (suc k) changes) (list_up_to (suc k) xs) ≡ true
 has-standing k r c ranges changes xs h =
     ap (list_all (has_changes (suc k) changes)) h.made
     ∙ all-ranges (has_changes (suc k) changes) (expects r c (suc (suc k))) (with_pending_annotation (suc k) changes)
-    (λ e g. all-append (λ p. cond (nat_eq p.0 (suc k)) (same_changes p.1 changes) true) e.pending (suc k, changes) g (own-changes (suc k) changes)) ranges (list_up_to k xs) (has-below k changes xs)
+    (λ e g. all-append (λ p. cond (nat_eq p.0 (suc k)) (same_changes p.1 changes) true) e.pending (suc k, changes) g (own-changes (suc k) changes)) ranges
+    (list_up_to k xs) (has-below k changes xs)
 
 -- ---- the elements of the rebuilt list
 
@@ -219,7 +229,8 @@ pending-carried j e h o =
     let p = all_three (rises_from (insertion_stage e.ins) e.pending) (is_removed_last e.removal_stage e.pending) (is_unremoved_pending e.ins e.dels e.removal_stage) o in
     unremoved e.ins e.dels h p.2
   where
-    unremoved : (t : Stamp) (dels : List Stamp) → is_of_stage j t ≡ true → is_unremoved_pending t dels e.removal_stage ≡ true → not (list_any is_acked dels) || (is_none e.removal_stage && is_empty_list e.pending) ≡ true
+    unremoved : (t : Stamp) (dels : List Stamp) → is_of_stage j t ≡ true → is_unremoved_pending t dels e.removal_stage ≡ true → not (list_any is_acked dels)
+        || (is_none e.removal_stage && is_empty_list e.pending) ≡ true
     unremoved (Acked s c) dels f g = (cc)
     unremoved (Local i) [] f g = refl
     unremoved (Local i) (d ∷ dels) f g = (cc)
@@ -231,7 +242,8 @@ stage-carried j (e ∷ xs) h = grind (arith, stage-carried j xs, pending-carried
 rebuilt-carried : (j : ℕ) (xs : List ListElement) → list_all is_ordered xs ≡ true → list_all is_carried (stage_list xs j) ≡ true
 rebuilt-carried zero xs h = first-carried xs
 rebuilt-carried (suc j) xs h =
-    all-put is_carried (seen (suc j - 1)) no_run (stage_position (suc j) xs) (filter (is_inserted_by (suc j)) xs) (stage_list xs j) (stage-carried (suc j) xs h) (rebuilt-carried j xs h)
+    all-put is_carried (seen (suc j - 1)) no_run (stage_position (suc j) xs) (filter (is_inserted_by (suc j)) xs) (stage_list xs j)
+    (stage-carried (suc j) xs h) (rebuilt-carried j xs h)
 
 first-reached : (xs : List ListElement) → list_all (is_upto 0) (retain_map is_sequenced carried_element xs) ≡ true
 first-reached [] = refl
@@ -263,7 +275,8 @@ more-reached j (e ∷ xs) h = grind (arith, more-reached j xs, stamp e.ins)
 pub rebuilt-reached : (j : ℕ) (xs : List ListElement) → list_all (is_upto j) (stage_list xs j) ≡ true
 rebuilt-reached zero xs = first-reached xs
 rebuilt-reached (suc j) xs =
-    all-put (is_upto (suc j)) (seen (suc j - 1)) no_run (stage_position (suc j) xs) (filter (is_inserted_by (suc j)) xs) (stage_list xs j) (own-reached (suc j) xs) (more-reached j (stage_list xs j) (rebuilt-reached j xs))
+    all-put (is_upto (suc j)) (seen (suc j - 1)) no_run (stage_position (suc j) xs) (filter (is_inserted_by (suc j)) xs) (stage_list xs j)
+    (own-reached (suc j) xs) (more-reached j (stage_list xs j) (rebuilt-reached j xs))
 
 -- the numbers and stages, and the order
 abbrev pub is_kept : ℕ → List ℕ → ListElement → Bool
@@ -307,11 +320,15 @@ pub record Known (n k : ℕ) (ks : List ℕ) (e : ListElement) : Type 0 where
   pub carried : is_carried e ≡ true
 
 module _ (n k : ℕ) (ks : List ℕ) (e : ListElement) (known : Known n k ks e) where
-  within-parts : (stamp_within n ks e.ins ≡ true) × (list_all (is_numbered n) e.dels ≡ true) × (mark_within ks e.removal_stage ≡ true) × (list_all (λ q. is_among ks q.0) e.pending ≡ true)
-  within-parts = all_four (stamp_within n ks e.ins) (list_all (is_numbered n) e.dels) (mark_within ks e.removal_stage) (list_all (λ q. is_among ks q.0) e.pending) (both (is_within n ks e) (is_ordered e) known.kept).0
+  within-parts : (stamp_within n ks e.ins ≡ true) × (list_all (is_numbered n) e.dels ≡ true) × (mark_within ks e.removal_stage ≡ true)
+      × (list_all (λ q. is_among ks q.0) e.pending ≡ true)
+  within-parts = all_four (stamp_within n ks e.ins) (list_all (is_numbered n) e.dels) (mark_within ks e.removal_stage)
+      (list_all (λ q. is_among ks q.0) e.pending) (both (is_within n ks e) (is_ordered e) known.kept).0
 
-  ordered-parts : (rises_from (insertion_stage e.ins) e.pending ≡ true) × (is_removed_last e.removal_stage e.pending ≡ true) × (is_unremoved_pending e.ins e.dels e.removal_stage ≡ true)
-  ordered-parts = all_three (rises_from (insertion_stage e.ins) e.pending) (is_removed_last e.removal_stage e.pending) (is_unremoved_pending e.ins e.dels e.removal_stage) (both (is_within n ks e) (is_ordered e) known.kept).1
+  ordered-parts : (rises_from (insertion_stage e.ins) e.pending ≡ true) × (is_removed_last e.removal_stage e.pending ≡ true)
+      × (is_unremoved_pending e.ins e.dels e.removal_stage ≡ true)
+  ordered-parts = all_three (rises_from (insertion_stage e.ins) e.pending) (is_removed_last e.removal_stage e.pending)
+      (is_unremoved_pending e.ins e.dels e.removal_stage) (both (is_within n ks e) (is_ordered e) known.kept).1
 
   unbare-dels : is_none e.removal_stage && is_empty_list e.pending ≡ false → e.dels ≡ []
   unbare-dels h = no-dels n e.dels within-parts.1 (not-bare (list_any is_acked e.dels) (is_none e.removal_stage && is_empty_list e.pending) known.carried h)
@@ -343,7 +360,8 @@ module _ (n k : ℕ) (ks : List ℕ) (e : ListElement) (known : Known n k ks e) 
 
   changed-seen : is_annotated_by (suc k) e ≡ true → seen k e ≡ true
   changed-seen h =
-      let some : is_none e.removal_stage && is_empty_list e.pending ≡ false = ap (λ b. is_none e.removal_stage && b) (annotated-nonempty e.pending h) ∙ never (is_none e.removal_stage) in
+      let some : is_none e.removal_stage && is_empty_list e.pending ≡ false = ap (λ b. is_none e.removal_stage && b) (annotated-nonempty e.pending h)
+      ∙ never (is_none e.removal_stage) in
       removal e.removal_stage refl (unbare-dels some)
     where
       removal : (m : Option ℕ) → e.removal_stage ≡ m → e.dels ≡ [] → seen k e ≡ true
@@ -377,7 +395,8 @@ module _ (n k : ℕ) (ks : List ℕ) (e : ListElement) (known : Known n k ks e) 
   current-reached : (c : ℕ) → is_current n c k (element_up_to k e) ≡ true
   current-reached c = rw (known-ins c e.ins within-parts.0 known.reached, known-dels c e.dels within-parts.1, mark-reached e.removal_stage, changes-reached e.pending) refl
 
-  removed-same : (dels : List Stamp) (m : Option ℕ) → list_any (has_occurred_at_stage k) (dels ++ removal_stamp (removal_up_to k m)) ≡ list_any (has_occurred_at_stage k) (dels ++ removal_stamp m)
+  removed-same : (dels : List Stamp) (m : Option ℕ) → list_any (has_occurred_at_stage k) (dels ++ removal_stamp (removal_up_to k m))
+      ≡ list_any (has_occurred_at_stage k) (dels ++ removal_stamp m)
   removed-same dels None = refl
   removed-same [] (Some j) = grind (arith, nat_tests)
   removed-same (t ∷ dels) (Some j) = ap (λ b. has_occurred_at_stage k t || b) (removed-same dels (Some j))
@@ -408,7 +427,8 @@ module _ (n k : ℕ) (ks : List ℕ) (e : ListElement) (known : Known n k ks e) 
   removed-up_to : e.removal_stage ≡ Some (suc k) → is_annotated_by (suc k) e ≡ false → element_up_to (suc k) e ≡ with_pending_removal (suc k) (element_up_to k e)
   removed-up_to h g = rw (h, own-mark, changes-next e.pending g) refl
 
-  above-none : (i : ℕ) (pending : List (ℕ × Changes)) → suc k ≤ i → rises_from i pending ≡ true → (filter (λ p. nat_le p.0 (suc k)) pending ≡ []) × (filter (λ p. nat_le p.0 k) pending ≡ [])
+  above-none : (i : ℕ) (pending : List (ℕ × Changes)) → suc k ≤ i → rises_from i pending ≡ true → (filter (λ p. nat_le p.0 (suc k)) pending ≡ [])
+      × (filter (λ p. nat_le p.0 k) pending ≡ [])
   above-none i [] l h = (refl, refl)
   above-none i (p ∷ pending) l h =
       let q = both (nat_lt i p.0) (rises_from p.0 pending) h in
@@ -427,18 +447,21 @@ module _ (n k : ℕ) (ks : List ℕ) (e : ListElement) (known : Known n k ks e) 
       added-step (nat_eq j (suc k)) refl g a rest (λ f q. changes-added j changes pending rest f q)
     where
       later-step : (w : Bool) → filter (λ p. nat_le p.0 (suc k)) pending ≡ filter (λ p. nat_le p.0 k) pending ++ ((suc k, changes) ∷ [])
-          → cond w ((j, other) ∷ filter (λ p. nat_le p.0 (suc k)) pending) (filter (λ p. nat_le p.0 (suc k)) pending) ≡ cond w ((j, other) ∷ filter (λ p. nat_le p.0 k) pending) (filter (λ p. nat_le p.0 k) pending) ++ ((suc k, changes) ∷ [])
+          → cond w ((j, other) ∷ filter (λ p. nat_le p.0 (suc k)) pending) (filter (λ p. nat_le p.0 (suc k)) pending)
+          ≡ cond w ((j, other) ∷ filter (λ p. nat_le p.0 k) pending) (filter (λ p. nat_le p.0 k) pending) ++ ((suc k, changes) ∷ [])
       later-step true m = ap (λ ps. (j, other) ∷ ps) m
       later-step false m = m
 
-      added-step : (b : Bool) → nat_eq j (suc k) ≡ b → b || list_any (λ p. nat_eq p.0 (suc k)) pending ≡ true → cond b (same_changes other changes) true && list_all (λ p. cond (nat_eq p.0 (suc k)) (same_changes p.1 changes) true) pending ≡ true
+      added-step : (b : Bool) → nat_eq j (suc k) ≡ b → b || list_any (λ p. nat_eq p.0 (suc k)) pending ≡ true → cond b (same_changes other changes) true
+          && list_all (λ p. cond (nat_eq p.0 (suc k)) (same_changes p.1 changes) true) pending ≡ true
           → rises_from j pending ≡ true
           → (list_any (λ p. nat_eq p.0 (suc k)) pending ≡ true → list_all (λ p. cond (nat_eq p.0 (suc k)) (same_changes p.1 changes) true) pending ≡ true
           → filter (λ p. nat_le p.0 (suc k)) pending ≡ filter (λ p. nat_le p.0 k) pending ++ ((suc k, changes) ∷ []))
           → filter (λ p. nat_le p.0 (suc k)) ((j, other) ∷ pending) ≡ filter (λ p. nat_le p.0 k) ((j, other) ∷ pending) ++ ((suc k, changes) ∷ [])
       added-step true e f q r ih =
           let same : j ≡ suc k = grind (arith, nat_tests) in
-          let value : other ≡ changes = (same_changes-Decides other changes).0 (both (same_changes other changes) (list_all (λ p. cond (nat_eq p.0 (suc k)) (same_changes p.1 changes) true) pending) q).0 in
+          let value : other ≡ changes = (same_changes-Decides other changes).0 (both (same_changes other changes)
+          (list_all (λ p. cond (nat_eq p.0 (suc k)) (same_changes p.1 changes) true) pending) q).0 in
           let none = above-none j pending (omega arith) r in
           let on : nat_le j (suc k) ≡ true = grind (arith, nat_tests) in
           let off : nat_le j k ≡ false = grind (arith, nat_tests) in
@@ -460,7 +483,8 @@ module _ (n k : ℕ) (ks : List ℕ) (e : ListElement) (known : Known n k ks e) 
       own-below = grind (arith, nat_tests)
 
       all-false : (has_occurred n c e.ins || below_stamp (suc (suc k)) e.ins) && not (list_any (has_occurred n c) e.dels || true) ≡ false
-      all-false = ap (λ b. (has_occurred n c e.ins || below_stamp (suc (suc k)) e.ins) && not b) (or-true (list_any (has_occurred n c) e.dels)) ∙ never (has_occurred n c e.ins || below_stamp (suc (suc k)) e.ins)
+      all-false = ap (λ b. (has_occurred n c e.ins || below_stamp (suc (suc k)) e.ins) && not b) (or-true (list_any (has_occurred n c) e.dels))
+          ∙ never (has_occurred n c e.ins || below_stamp (suc (suc k)) e.ins)
 
   pub removal-marked : (c : ℕ) → is_unchanged_by (suc k) e ≡ true
       → MarkedAs (expects n c (suc (suc k))) (with_pending_removal (suc k)) (element_up_to k) (element_up_to (suc k)) (seen k) (is_removed_by (suc k)) false e
@@ -518,8 +542,10 @@ runs-view : (seen is : ListElement → Bool) (i : ℕ) (xs : List ListElement) �
 runs-view seen is i [] = refl
 runs-view seen is i (e ∷ xs) = view-step (seen e) refl (runs-view seen is i xs) (runs-view seen is (suc i) xs)
   where
-    view-step : (s : Bool) → seen e ≡ s → marked_runs_from i seen is xs ≡ marked_runs_from i seen is (filter seen xs) → marked_runs_from (suc i) seen is xs ≡ marked_runs_from (suc i) seen is (filter seen xs)
-        → cond (s && is e) (extended_runs i (marked_runs_from (one_more_if s i) seen is xs)) (marked_runs_from (one_more_if s i) seen is xs) ≡ marked_runs_from i seen is (cond s (e ∷ filter seen xs) (filter seen xs))
+    view-step : (s : Bool) → seen e ≡ s → marked_runs_from i seen is xs ≡ marked_runs_from i seen is (filter seen xs) → marked_runs_from (suc i) seen is xs
+        ≡ marked_runs_from (suc i) seen is (filter seen xs)
+        → cond (s && is e) (extended_runs i (marked_runs_from (one_more_if s i) seen is xs)) (marked_runs_from (one_more_if s i) seen is xs)
+        ≡ marked_runs_from i seen is (cond s (e ∷ filter seen xs) (filter seen xs))
     view-step true h f g = ap (λ rs. cond (is e) (extended_runs i rs) rs) g ∙ sym (rw h refl)
     view-step false h f g = f
 
@@ -561,7 +587,8 @@ pub block-up_to : (k : ℕ) (xs : List ListElement) → filter (is_inserted_by k
 block-up_to k [] = refl
 block-up_to k (e ∷ xs) = grind (arith, block-up_to k xs, stage-reached k e.ins)
 
-module _ (n c k last : ℕ) (ks : List ℕ) (xs : List ListElement) (below : k < last) (kept : list_all (is_kept n ks) xs ≡ true) (view : filter (seen k) (stage_list xs k) ≡ filter (seen k) xs) where
+module _ (n c k last : ℕ) (ks : List ℕ) (xs : List ListElement) (below : k < last) (kept : list_all (is_kept n ks) xs ≡ true)
+    (view : filter (seen k) (stage_list xs k) ≡ filter (seen k) xs) where
   ordered-all : (zs : List ListElement) → list_all (is_kept n ks) zs ≡ true → list_all is_ordered zs ≡ true
   ordered-all [] h = refl
   ordered-all (e ∷ zs) h =
@@ -570,7 +597,8 @@ module _ (n c k last : ℕ) (ks : List ℕ) (xs : List ListElement) (below : k <
 
   again-runs : (is : ListElement → Bool) → marked_runs (suc k) is xs ≡ marked_runs_from 0 (seen k) is (stage_list xs k)
   again-runs is =
-      ap (λ i. marked_runs_from 0 (seen i) is xs) (pred_suc k) ∙ runs-view (seen k) is 0 xs ∙ ap (marked_runs_from 0 (seen k) is) (sym view) ∙ sym (runs-view (seen k) is 0 (stage_list xs k))
+      ap (λ i. marked_runs_from 0 (seen i) is xs) (pred_suc k) ∙ runs-view (seen k) is 0 xs ∙ ap (marked_runs_from 0 (seen k) is) (sym view)
+      ∙ sym (runs-view (seen k) is 0 (stage_list xs k))
 
   lower : list_up_to k (stage_list xs last) ≡ map (element_up_to k) (stage_list xs k)
   lower = up_to-rebuilt xs k last (omega arith)
@@ -583,10 +611,14 @@ module _ (n c k last : ℕ) (ks : List ℕ) (xs : List ListElement) (below : k <
       let test = expects n c (suc (suc k)) in
       let zs = stage_list xs k in
       let none = none-filtered (is_inserted_by (suc k)) xs (none-counted (is_inserted_by (suc k)) xs (standing-count k r d (TakenOut ranges) xs h)) in
-      let unchanged = rebuilt-passes (is_unchanged_by (suc k)) (λ e g. refl) (suc k) k xs (omega arith) (lifted (is_unchanged_by (suc k)) (suc k) (λ e. ap not (filtered-same (suc k) e.pending)) xs (unchanged-standing k r d (TakenOut ranges) xs refl h)) in
-      let each = each-of (MarkedAs test (with_pending_removal (suc k)) (element_up_to k) (element_up_to (suc k)) (seen k) (is_removed_by (suc k)) false) (is_upto k) (is_kept n ks) is_carried (is_unchanged_by (suc k)) (is_unchanged_by (suc k))
-      (λ e a b g u v. removal-marked n k ks e (record { reached = a; kept = b; carried = g }) c u) zs (rebuilt-reached k xs) (rebuilt-kept n k ks xs kept) (rebuilt-carried k xs (ordered-all xs kept)) unchanged unchanged in
-      let marks = lowered-mark test (with_pending_removal (suc k)) (element_up_to k) (element_up_to (suc k)) (seen k) (is_removed_by (suc k)) false refl 0 0 zs (omega arith) each in
+      let unchanged = rebuilt-passes (is_unchanged_by (suc k)) (λ e g. refl) (suc k) k xs (omega arith)
+      (lifted (is_unchanged_by (suc k)) (suc k) (λ e. ap not (filtered-same (suc k) e.pending)) xs (unchanged-standing k r d (TakenOut ranges) xs refl h)) in
+      let each = each-of (MarkedAs test (with_pending_removal (suc k)) (element_up_to k) (element_up_to (suc k)) (seen k) (is_removed_by (suc k)) false)
+      (is_upto k) (is_kept n ks) is_carried (is_unchanged_by (suc k)) (is_unchanged_by (suc k))
+      (λ e a b g u v. removal-marked n k ks e (record { reached = a; kept = b; carried = g }) c u) zs (rebuilt-reached k xs) (rebuilt-kept n k ks xs kept)
+      (rebuilt-carried k xs (ordered-all xs kept)) unchanged unchanged in
+      let marks = lowered-mark test (with_pending_removal (suc k)) (element_up_to k) (element_up_to (suc k)) (seen k) (is_removed_by (suc k)) false refl 0 0 zs
+      (omega arith) each in
       let runs = ap (lowered_runs 0) (again-runs (is_removed_by (suc k))) in
       let now = lowered_runs 0 (marked_runs_from 0 (seen k) (is_removed_by (suc k)) zs) in
       record {
@@ -595,24 +627,31 @@ module _ (n c k last : ℕ) (ks : List ℕ) (xs : List ListElement) (below : k <
             ∙ fit-from-first test (with_pending_removal (suc k)) now (map (element_up_to k) zs) ∙ marks.fits;
         made =
             no-block none ∙ sym marks.made ∙ sym (ranges-from-first test (with_pending_removal (suc k)) now (map (element_up_to k) zs))
-            ∙ ap (change_ranges test (with_pending_removal (suc k)) now) (sym lower) ∙ ap (λ rs. change_ranges test (with_pending_removal (suc k)) rs (list_up_to k (stage_list xs last))) (sym runs);
+            ∙ ap (change_ranges test (with_pending_removal (suc k)) now) (sym lower)
+            ∙ ap (λ rs. change_ranges test (with_pending_removal (suc k)) rs (list_up_to k (stage_list xs last))) (sym runs);
       }
 
-  pub annotation-again : (r d : ℕ) (ranges : List (ℕ × ℕ)) (changes : Changes) → IsStanding k r d (Annotated ranges changes) xs → IsStanding k n c (sent_again k xs (Annotated ranges changes)) (stage_list xs last)
+  pub annotation-again : (r d : ℕ) (ranges : List (ℕ × ℕ)) (changes : Changes) → IsStanding k r d (Annotated ranges changes) xs
+      → IsStanding k n c (sent_again k xs (Annotated ranges changes)) (stage_list xs last)
   annotation-again r d ranges changes h =
       let test = expects n c (suc (suc k)) in
       let g = with_pending_annotation (suc k) changes in
       let zs = stage_list xs k in
       let none = none-filtered (is_inserted_by (suc k)) xs (none-counted (is_inserted_by (suc k)) xs (standing-count k r d (Annotated ranges changes) xs h)) in
-      let unmarked = rebuilt-passes (is_unmarked_by (suc k)) (λ e u. refl) (suc k) k xs (omega arith) (lifted (is_unmarked_by (suc k)) (suc k) (unmarked-same (suc k)) xs (unmarked-standing k r d (Annotated ranges changes) xs refl h)) in
-      let values = rebuilt-passes (has_changes (suc k) changes) (λ e u. refl) (suc k) k xs (omega arith) (lifted (has_changes (suc k) changes) (suc k) (λ e. has-same (suc k) changes e.pending) xs (has-standing k r d ranges changes xs h)) in
-      let each = each-of (MarkedAs test g (element_up_to k) (element_up_to (suc k)) (seen k) (is_annotated_by (suc k)) true) (is_upto k) (is_kept n ks) is_carried (is_unmarked_by (suc k)) (has_changes (suc k) changes)
-      (λ e a b i u v. annotation-marked n k ks e (record { reached = a; kept = b; carried = i }) c changes u v) zs (rebuilt-reached k xs) (rebuilt-kept n k ks xs kept) (rebuilt-carried k xs (ordered-all xs kept)) unmarked values in
+      let unmarked = rebuilt-passes (is_unmarked_by (suc k)) (λ e u. refl) (suc k) k xs (omega arith)
+      (lifted (is_unmarked_by (suc k)) (suc k) (unmarked-same (suc k)) xs (unmarked-standing k r d (Annotated ranges changes) xs refl h)) in
+      let values = rebuilt-passes (has_changes (suc k) changes) (λ e u. refl) (suc k) k xs (omega arith)
+      (lifted (has_changes (suc k) changes) (suc k) (λ e. has-same (suc k) changes e.pending) xs (has-standing k r d ranges changes xs h)) in
+      let each = each-of (MarkedAs test g (element_up_to k) (element_up_to (suc k)) (seen k) (is_annotated_by (suc k)) true) (is_upto k) (is_kept n ks)
+      is_carried (is_unmarked_by (suc k)) (has_changes (suc k) changes)
+      (λ e a b i u v. annotation-marked n k ks e (record { reached = a; kept = b; carried = i }) c changes u v) zs (rebuilt-reached k xs)
+      (rebuilt-kept n k ks xs kept) (rebuilt-carried k xs (ordered-all xs kept)) unmarked values in
       let marks = runs-mark test g (element_up_to k) (element_up_to (suc k)) (seen k) (is_annotated_by (suc k)) true refl 0 zs each in
       let runs = again-runs (is_annotated_by (suc k)) in
       let now = marked_runs_from 0 (seen k) (is_annotated_by (suc k)) zs in
       record {
-        in_range = ap (λ rs. ranges_fit test g rs (list_up_to k (stage_list xs last))) runs ∙ ap (ranges_fit test g now) lower ∙ fit-from-first test g now (map (element_up_to k) zs) ∙ marks.fits;
+        in_range = ap (λ rs. ranges_fit test g rs (list_up_to k (stage_list xs last))) runs ∙ ap (ranges_fit test g now) lower
+            ∙ fit-from-first test g now (map (element_up_to k) zs) ∙ marks.fits;
         made =
             no-block none ∙ sym marks.made ∙ sym (ranges-from-first test g now (map (element_up_to k) zs))
             ∙ ap (change_ranges test g now) (sym lower) ∙ ap (λ rs. change_ranges test g rs (list_up_to k (stage_list xs last))) (sym runs);
@@ -624,7 +663,8 @@ module _ (n c k last : ℕ) (ks : List ℕ) (xs : List ListElement) (below : k <
   unmoved [] h = refl
   unmoved (e ∷ zs) h = rw (h.0, unmoved zs h.1) refl
 
-  put-each : (test : ListElement → Bool) (f : ListElement → ListElement) (p : ℕ) (new zs : List ListElement) → Each (λ e. test (f e) ≡ seen k e) zs → map f (put (seen k) no_run p new zs) ≡ put test no_run p (map f new) (map f zs)
+  put-each : (test : ListElement → Bool) (f : ListElement → ListElement) (p : ℕ) (new zs : List ListElement) → Each (λ e. test (f e) ≡ seen k e) zs
+      → map f (put (seen k) no_run p new zs) ≡ put test no_run p (map f new) (map f zs)
   put-each test f zero new zs h = ap (map f) (put_past-no_run new zs) ∙ map-append f new zs ∙ sym (put_past-no_run (map f new) (map f zs))
   put-each test f (suc p) new [] h = refl
   put-each test f (suc p) new (e ∷ zs) h = rw h.0 (ap (λ ys. f e ∷ ys) (put-each test f (cond (seen k e) p (suc p)) new zs h.1))
@@ -641,20 +681,24 @@ module _ (n c k last : ℕ) (ks : List ℕ) (xs : List ListElement) (below : k <
   rank-bound is [] = omega arith
   rank-bound is (e ∷ zs) = grind (arith, rank-bound is zs)
 
-  pub insertion-again : (r d p : ℕ) (props : PropertyList) (items : List ElementContent) → IsStanding k r d (PutIn p props items) xs → IsStanding k n c (sent_again k xs (PutIn p props items)) (stage_list xs last)
+  pub insertion-again : (r d p : ℕ) (props : PropertyList) (items : List ElementContent) → IsStanding k r d (PutIn p props items) xs
+      → IsStanding k n c (sent_again k xs (PutIn p props items)) (stage_list xs last)
   insertion-again r d p props items h =
       let test = expects n c (suc (suc k)) in
       let zs = stage_list xs k in
       let new = filter (is_inserted_by (suc k)) xs in
       let block = new_elements 0 (Local (suc k)) [] None props items in
       let place = stage_position (suc k) xs in
-      let unmarked = rebuilt-passes (is_unmarked_by (suc k)) (λ e u. refl) (suc k) k xs (omega arith) (lifted (is_unmarked_by (suc k)) (suc k) (unmarked-same (suc k)) xs (unmarked-standing k r d (PutIn p props items) xs refl h)) in
-      let unchanged = rebuilt-passes (is_unchanged_by (suc k)) (λ e g. refl) (suc k) k xs (omega arith) (lifted (is_unchanged_by (suc k)) (suc k) (λ e. ap not (filtered-same (suc k) e.pending)) xs (unchanged-standing k r d (PutIn p props items) xs refl h)) in
+      let unmarked = rebuilt-passes (is_unmarked_by (suc k)) (λ e u. refl) (suc k) k xs (omega arith)
+      (lifted (is_unmarked_by (suc k)) (suc k) (unmarked-same (suc k)) xs (unmarked-standing k r d (PutIn p props items) xs refl h)) in
+      let unchanged = rebuilt-passes (is_unchanged_by (suc k)) (λ e g. refl) (suc k) k xs (omega arith)
+      (lifted (is_unchanged_by (suc k)) (suc k) (λ e. ap not (filtered-same (suc k) e.pending)) xs (unchanged-standing k r d (PutIn p props items) xs refl h)) in
       let alone = each-of (λ e. element_up_to (suc k) e ≡ element_up_to k e) (is_upto k) (is_kept n ks) is_carried (is_unmarked_by (suc k)) (is_unchanged_by (suc k))
       (λ e a b g u v. left-alone n k ks e (record { reached = a; kept = b; carried = g }) (hidden (is_removed_by (suc k) e) u) (hidden (is_annotated_by (suc k) e) v)) zs
       (rebuilt-reached k xs) (rebuilt-kept n k ks xs kept) (rebuilt-carried k xs (ordered-all xs kept)) unmarked unchanged in
       let same = each-of (λ e. test (element_up_to k e) ≡ seen k e) (is_upto k) (is_kept n ks) is_carried (is_unmarked_by (suc k)) (is_unchanged_by (suc k))
-      (λ e a b g u v. expected-seen n k ks e (record { reached = a; kept = b; carried = g }) c) zs (rebuilt-reached k xs) (rebuilt-kept n k ks xs kept) (rebuilt-carried k xs (ordered-all xs kept)) unmarked unchanged in
+      (λ e a b g u v. expected-seen n k ks e (record { reached = a; kept = b; carried = g }) c) zs (rebuilt-reached k xs) (rebuilt-kept n k ks xs kept)
+      (rebuilt-carried k xs (ordered-all xs kept)) unmarked unchanged in
       let same' = each-of (λ e. test (element_up_to (suc k) e) ≡ seen k e) (is_upto k) (is_kept n ks) is_carried (is_unmarked_by (suc k)) (is_unchanged_by (suc k))
       (λ e a b g u v.
       let here : Known n k ks e = record { reached = a; kept = b; carried = g } in
@@ -662,7 +706,8 @@ module _ (n c k last : ℕ) (ks : List ℕ) (xs : List ListElement) (below : k <
       (rebuilt-reached k xs) (rebuilt-kept n k ks xs kept) (rebuilt-carried k xs (ordered-all xs kept)) unmarked unchanged in
       let elements : map (element_up_to (suc k)) new ≡ block =
       sym (block-up_to (suc k) xs) ∙ ap (filter (is_inserted_by (suc k))) h.made
-      ∙ block-filter (is_inserted_by (suc k)) (expects r d (suc (suc k))) p block (list_up_to k xs) (all-new (suc k) 0 props items) (none-counted (is_inserted_by (suc k)) (list_up_to k xs) (none-later k xs)) in
+      ∙ block-filter (is_inserted_by (suc k)) (expects r d (suc (suc k))) p block (list_up_to k xs) (all-new (suc k) 0 props items)
+      (none-counted (is_inserted_by (suc k)) (list_up_to k xs) (none-later k xs)) in
       let bound : place ≤ len (seen k) xs = subst (λ i. rank (is_inserted_by (suc k)) (seen i) xs ≤ len (seen k) xs) (sym (pred_suc k)) (rank-bound (is_inserted_by (suc k)) xs) in
       let length_now : len test (list_up_to k (stage_list xs last)) ≡ len (seen k) xs =
       ap (len test) lower ∙ len-each test (element_up_to k) zs same ∙ len-view zs ∙ ap (len (seen k)) view ∙ sym (len-view xs) in
@@ -684,7 +729,8 @@ module _ (n c k last : ℕ) (ks : List ℕ) (xs : List ListElement) (below : k <
       (λ e a b g u v. expected-seen n k ks e (record { reached = a; kept = b; carried = g }) c) (stage_list xs k) (rebuilt-reached k xs) (rebuilt-kept n k ks xs kept)
       (rebuilt-carried k xs (ordered-all xs kept)) (rebuilt-carried k xs (ordered-all xs kept)) (rebuilt-carried k xs (ordered-all xs kept))
 
-  at-each : (test : ListElement → Bool) (i : ℕ) (zs : List ListElement) → Each (λ e. test (element_up_to k e) ≡ seen k e) zs → option_map id (at test i (map (element_up_to k) zs)) ≡ option_map id (at (seen k) i zs)
+  at-each : (test : ListElement → Bool) (i : ℕ) (zs : List ListElement) → Each (λ e. test (element_up_to k e) ≡ seen k e) zs
+      → option_map id (at test i (map (element_up_to k) zs)) ≡ option_map id (at (seen k) i zs)
   at-each test i [] h = refl
   at-each test zero (e ∷ zs) h = first-step (test (element_up_to k e)) (seen k e) h.0 (at-each test zero zs h.1)
     where
@@ -705,7 +751,8 @@ module _ (n c k last : ℕ) (ks : List ℕ) (xs : List ListElement) (below : k <
   at-view i [] = refl
   at-view i (e ∷ zs) = view-step (seen k e) refl i (λ j. at-view j zs)
     where
-      view-step : (b : Bool) → seen k e ≡ b → (i : ℕ) → ((j : ℕ) → at (seen k) j zs ≡ at (seen k) j (filter (seen k) zs)) → at (seen k) i (e ∷ zs) ≡ at (seen k) i (cond b (e ∷ filter (seen k) zs) (filter (seen k) zs))
+      view-step : (b : Bool) → seen k e ≡ b → (i : ℕ) → ((j : ℕ) → at (seen k) j zs ≡ at (seen k) j (filter (seen k) zs)) → at (seen k) i (e ∷ zs)
+          ≡ at (seen k) i (cond b (e ∷ filter (seen k) zs) (filter (seen k) zs))
       view-step true h zero ih = rw h refl
       view-step true h (suc i) ih = ap (λ b. at (seen k) (cond b i (suc i)) zs) h ∙ ih i ∙ sym (ap (λ b. at (seen k) (cond b i (suc i)) (filter (seen k) zs)) h)
       view-step false h i ih = at-unseen i e zs h ∙ ih i

@@ -24,7 +24,8 @@ first-run i see is_marked [] = tt
 first-run i see is_marked (e ∷ xs) = step (see e) (is_marked e) (first-run (one_more_if (see e) i) see is_marked xs)
   where
     step : (a b : Bool) → FirstRun (one_more_if a i + len see xs) (marked_runs_from (one_more_if a i) see is_marked xs)
-        → FirstRun (i + one_more_if a (len see xs)) (cond (a && b) (extended_runs i (marked_runs_from (one_more_if a i) see is_marked xs)) (marked_runs_from (one_more_if a i) see is_marked xs))
+        → FirstRun (i + one_more_if a (len see xs)) (cond (a && b) (extended_runs i (marked_runs_from (one_more_if a i) see is_marked xs))
+        (marked_runs_from (one_more_if a i) see is_marked xs))
     step true true h =
         let e : suc i + len see xs ≡ i + suc (len see xs) = omega arith in
         first-extended i (i + suc (len see xs)) (marked_runs_from (suc i) see is_marked xs) (omega arith) (subst (λ n. FirstRun n (marked_runs_from (suc i) see is_marked xs)) e h)
@@ -65,7 +66,8 @@ module _ {A : Type 0} (see : A → Bool) (f : A → A) where
       step : (b : Bool) → see x ≡ b
           → (suc i + len see xs ≤ p → change_range_from (suc i) see p q f (xs ++ ys) ≡ xs ++ change_range_from (suc i + len see xs) see p q f ys)
           → (i + len see xs ≤ p → change_range_from i see p q f (xs ++ ys) ≡ xs ++ change_range_from (i + len see xs) see p q f ys)
-          → cond (see x && within p q i) (f x) x ∷ change_range_from (one_more_if (see x) i) see p q f (xs ++ ys) ≡ x ∷ (xs ++ change_range_from (i + one_more_if (see x) (len see xs)) see p q f ys)
+          → cond (see x && within p q i) (f x) x ∷ change_range_from (one_more_if (see x) i) see p q f (xs ++ ys)
+          ≡ x ∷ (xs ++ change_range_from (i + one_more_if (see x) (len see xs)) see p q f ys)
       step true e seen unseen =
           let k : i + suc (len see xs) ≤ p = subst (λ b. i + one_more_if b (len see xs) ≤ p) e l in
           let g : suc i + len see xs ≡ i + suc (len see xs) = omega arith in
@@ -79,7 +81,8 @@ module _ {A : Type 0} (see : A → Bool) (f : A → A) where
   past-range i p q [] l = refl
   past-range i p q (x ∷ xs) l = step (see x) (past-range (suc i) p q xs (omega arith)) (past-range i p q xs l)
     where
-      step : (b : Bool) → change_range_from (suc i) see p q f xs ≡ xs → change_range_from i see p q f xs ≡ xs → cond (b && within p q i) (f x) x ∷ change_range_from (one_more_if b i) see p q f xs ≡ x ∷ xs
+      step : (b : Bool) → change_range_from (suc i) see p q f xs ≡ xs → change_range_from i see p q f xs ≡ xs
+          → cond (b && within p q i) (f x) x ∷ change_range_from (one_more_if b i) see p q f xs ≡ x ∷ xs
       step true g h = rw (beyond p q i l, g) refl
       step false g h = ap (λ ys. x ∷ ys) h
 
@@ -91,8 +94,10 @@ module _ {A : Type 0} (see : A → Bool) (f : A → A) where
   shift-range i p q [] l = refl
   shift-range i p q (x ∷ xs) l = step (see x) (shift-range (suc i) p q xs (omega arith)) (shift-range i p q xs l)
     where
-      step : (b : Bool) → change_range_from (suc (suc i)) see p (suc q) f xs ≡ change_range_from (suc i) see p q f xs → change_range_from (suc i) see p (suc q) f xs ≡ change_range_from i see p q f xs
-          → cond (b && within p (suc q) (suc i)) (f x) x ∷ change_range_from (one_more_if b (suc i)) see p (suc q) f xs ≡ cond (b && within p q i) (f x) x ∷ change_range_from (one_more_if b i) see p q f xs
+      step : (b : Bool) → change_range_from (suc (suc i)) see p (suc q) f xs ≡ change_range_from (suc i) see p q f xs
+          → change_range_from (suc i) see p (suc q) f xs ≡ change_range_from i see p q f xs
+          → cond (b && within p (suc q) (suc i)) (f x) x ∷ change_range_from (one_more_if b (suc i)) see p (suc q) f xs
+          ≡ cond (b && within p q i) (f x) x ∷ change_range_from (one_more_if b i) see p q f xs
       step true g h = rw (shifted p q i l, g) refl
       step false g h = ap (λ ys. x ∷ ys) h
 
@@ -105,7 +110,8 @@ module _ {A : Type 0} (see : A → Bool) (f : A → A) where
   start-range i p q r (x ∷ xs) l k = step (see x) (start-range (suc i) p q r xs (omega arith) (omega arith)) (start-range i p q r xs l k)
     where
       step : (b : Bool) → change_range_from (suc i) see p q f xs ≡ change_range_from (suc i) see r q f xs → change_range_from i see p q f xs ≡ change_range_from i see r q f xs
-          → cond (b && within p q i) (f x) x ∷ change_range_from (one_more_if b i) see p q f xs ≡ cond (b && within r q i) (f x) x ∷ change_range_from (one_more_if b i) see r q f xs
+          → cond (b && within p q i) (f x) x ∷ change_range_from (one_more_if b i) see p q f xs
+          ≡ cond (b && within r q i) (f x) x ∷ change_range_from (one_more_if b i) see r q f xs
       step true g h = rw (started p q r i l k, g) refl
       step false g h = ap (λ ys. x ∷ ys) h
 
@@ -113,7 +119,8 @@ module _ {A : Type 0} (see : A → Bool) (f : A → A) where
   at_start p q l = grind (arith, nat_tests)
 
   -- a range whose first element is the one behind the front
-  first-range : (p q : ℕ) (pre : List A) (x : A) (xs : List A) → len see pre ≡ p → p < q → see x ≡ true → change_range see p q f (pre ++ (x ∷ xs)) ≡ pre ++ (f x ∷ change_range_from (suc p) see p q f xs)
+  first-range : (p q : ℕ) (pre : List A) (x : A) (xs : List A) → len see pre ≡ p → p < q → see x ≡ true → change_range see p q f (pre ++ (x ∷ xs))
+      ≡ pre ++ (f x ∷ change_range_from (suc p) see p q f xs)
   first-range p q pre x xs e l s =
       before-range 0 p q pre (x ∷ xs) (omega arith)
       ∙ (let g : 0 + len see pre ≡ p = omega arith in ap (λ i. pre ++ change_range_from i see p q f (x ∷ xs)) g)
@@ -139,23 +146,28 @@ module _ {A : Type 0} (see : A → Bool) (f : A → A) where
 
     first-one : (i : ℕ) (pre : List A) (x : A) (xs : List A) → len see pre ≡ i → see x ≡ true → change_run (i, suc i) (pre ++ (x ∷ xs)) ≡ pre ++ (f x ∷ xs)
     first-one i pre x xs e s =
-        run-in_range (i, suc i) (pre ++ (x ∷ xs)) (let g = len-append pre (x ∷ xs) in let k : len see (x ∷ xs) ≡ suc (len see xs) = ap (λ b. one_more_if b (len see xs)) s in omega arith)
+        run-in_range (i, suc i) (pre ++ (x ∷ xs)) (let g = len-append pre (x ∷ xs) in let k : len see (x ∷ xs)
+        ≡ suc (len see xs) = ap (λ b. one_more_if b (len see xs)) s in omega arith)
         ∙ first-range i (suc i) pre x xs e (omega arith) s
         ∙ ap (λ us. pre ++ (f x ∷ us)) (past-range (suc i) i (suc i) xs (omega arith))
 
     -- where f hides what it changes, each run is lowered by what the earlier ones hid
     module _ (hides : (x : A) → see (f x) ≡ false) where
-      joined-lowered : (p b : ℕ) (pre : List A) (x : A) (xs : List A) → len see pre ≡ p → p < b → b ≤ p + len see xs → see x ≡ true → change_run (p, suc b) (pre ++ (x ∷ xs)) ≡ change_run (p, b) (pre ++ (f x ∷ xs))
+      joined-lowered : (p b : ℕ) (pre : List A) (x : A) (xs : List A) → len see pre ≡ p → p < b → b ≤ p + len see xs → see x ≡ true
+          → change_run (p, suc b) (pre ++ (x ∷ xs)) ≡ change_run (p, b) (pre ++ (f x ∷ xs))
       joined-lowered p b pre x xs e l m s =
-          run-in_range (p, suc b) (pre ++ (x ∷ xs)) (let g = len-append pre (x ∷ xs) in let k : len see (x ∷ xs) ≡ suc (len see xs) = ap (λ b. one_more_if b (len see xs)) s in omega arith)
+          run-in_range (p, suc b) (pre ++ (x ∷ xs)) (let g = len-append pre (x ∷ xs) in let k : len see (x ∷ xs)
+          ≡ suc (len see xs) = ap (λ b. one_more_if b (len see xs)) s in omega arith)
           ∙ first-range p (suc b) pre x xs e (omega arith) s
           ∙ ap (λ us. pre ++ (f x ∷ us)) (shift-range p p b xs (omega arith))
-          ∙ sym (run-in_range (p, b) (pre ++ (f x ∷ xs)) (let g = len-append pre (f x ∷ xs) in let k : len see (f x ∷ xs) ≡ len see xs = ap (λ b. one_more_if b (len see xs)) (hides x) in omega arith)
+          ∙ sym (run-in_range (p, b) (pre ++ (f x ∷ xs)) (let g = len-append pre (f x ∷ xs) in let k : len see (f x ∷ xs)
+          ≡ len see xs = ap (λ b. one_more_if b (len see xs)) (hides x) in omega arith)
           ∙ before-range 0 p b pre (f x ∷ xs) (omega arith)
           ∙ (let g : 0 + len see pre ≡ p = omega arith in ap (λ i. pre ++ change_range_from i see p b f (f x ∷ xs)) g)
           ∙ rw (hides x) refl)
 
-      extended-lowered : (d i : ℕ) (pre : List A) (x : A) (xs : List A) (ys : List A) (runs : List (ℕ × ℕ)) → len see pre + d ≡ i → see x ≡ true → FirstRun (suc i + len see xs) runs
+      extended-lowered : (d i : ℕ) (pre : List A) (x : A) (xs : List A) (ys : List A) (runs : List (ℕ × ℕ)) → len see pre + d ≡ i → see x ≡ true
+          → FirstRun (suc i + len see xs) runs
           → change_runs (lowered_runs (suc d) runs) (pre ++ (f x ∷ xs)) ≡ ys
           → change_runs (lowered_runs d (extended_runs i runs)) (pre ++ (x ∷ xs)) ≡ ys
       extended-lowered d i pre x xs ys [] e s first h =
@@ -174,7 +186,8 @@ module _ {A : Type 0} (see : A → Bool) (f : A → A) where
               let p' : a - suc d ≡ len see pre = omega arith in
               let w : suc d + (b - a) ≡ d + (b - i) = omega arith in
               let h' : change_runs (lowered_runs (d + (b - i)) runs) (change_run (len see pre, b - suc d) (pre ++ (f x ∷ xs))) ≡ ys =
-              subst (λ j. change_runs (lowered_runs (d + (b - i)) runs) (change_run (j, b - suc d) (pre ++ (f x ∷ xs))) ≡ ys) p' (subst (λ j. change_runs (lowered_runs j runs) (change_run (a - suc d, b - suc d) (pre ++ (f x ∷ xs))) ≡ ys) w h) in
+              subst (λ j. change_runs (lowered_runs (d + (b - i)) runs) (change_run (j, b - suc d) (pre ++ (f x ∷ xs))) ≡ ys) p'
+              (subst (λ j. change_runs (lowered_runs j runs) (change_run (a - suc d, b - suc d) (pre ++ (f x ∷ xs))) ≡ ys) w h) in
               rw (p, q) (ap (change_runs (lowered_runs (d + (b - i)) runs)) (joined-lowered (len see pre) (b - suc d) pre x xs refl (omega arith) (omega arith) s) ∙ h')
           step false g =
               let p : i - d ≡ len see pre = omega arith in
@@ -188,23 +201,29 @@ module _ {A : Type 0} (see : A → Bool) (f : A → A) where
       lowered-all d i pre (x ∷ xs) e h = step (see x) (is_marked (to x)) refl refl (λ d' i' pre' e'. lowered-all d' i' pre' xs e' h.1)
         where
           step : (a b : Bool) → see x ≡ a → is_marked (to x) ≡ b
-              → ((d' i' : ℕ) (pre' : List A) → len see pre' + d' ≡ i' → change_runs (lowered_runs d' (marked_runs_from i' seeL is_marked (map to xs))) (pre' ++ xs) ≡ pre' ++ change_marked xs)
-              → change_runs (lowered_runs d (marked_runs_from i seeL is_marked (to x ∷ map to xs))) (pre ++ (x ∷ xs)) ≡ pre ++ (cond (see x && is_marked (to x)) (f x) x ∷ change_marked xs)
+              → ((d' i' : ℕ) (pre' : List A) → len see pre' + d' ≡ i' → change_runs (lowered_runs d' (marked_runs_from i' seeL is_marked (map to xs)))
+              (pre' ++ xs) ≡ pre' ++ change_marked xs)
+              → change_runs (lowered_runs d (marked_runs_from i seeL is_marked (to x ∷ map to xs))) (pre ++ (x ∷ xs))
+              ≡ pre ++ (cond (see x && is_marked (to x)) (f x) x ∷ change_marked xs)
           step true true p q rest =
               let k = len-append pre (f x ∷ []) in
               let g : len see (f x ∷ []) ≡ 0 = ap (λ b. one_more_if b 0) (hides x) in
               let r : change_runs (lowered_runs (suc d) (marked_runs_from (suc i) seeL is_marked (map to xs))) (pre ++ (f x ∷ xs)) ≡ pre ++ (f x ∷ change_marked xs) =
-              ap (change_runs (lowered_runs (suc d) (marked_runs_from (suc i) seeL is_marked (map to xs)))) (along pre (f x) xs) ∙ rest (suc d) (suc i) (pre ++ (f x ∷ [])) (omega arith) ∙ sym (along pre (f x) (change_marked xs)) in
-              let first = subst (λ n. FirstRun (suc i + n) (marked_runs_from (suc i) seeL is_marked (map to xs))) (len-same xs h.1) (first-run (suc i) seeL is_marked (map to xs)) in
+              ap (change_runs (lowered_runs (suc d) (marked_runs_from (suc i) seeL is_marked (map to xs)))) (along pre (f x) xs)
+              ∙ rest (suc d) (suc i) (pre ++ (f x ∷ [])) (omega arith) ∙ sym (along pre (f x) (change_marked xs)) in
+              let first = subst (λ n. FirstRun (suc i + n) (marked_runs_from (suc i) seeL is_marked (map to xs))) (len-same xs h.1)
+              (first-run (suc i) seeL is_marked (map to xs)) in
               rw (sym h.0, p, q) (extended-lowered d i pre x xs (pre ++ (f x ∷ change_marked xs)) (marked_runs_from (suc i) seeL is_marked (map to xs)) e p first r)
           step true false p q rest =
               let k = len-append pre (x ∷ []) in
               let g : len see (x ∷ []) ≡ 1 = ap (λ b. one_more_if b 0) p in
-              rw (sym h.0, p, q) (ap (change_runs (lowered_runs d (marked_runs_from (suc i) seeL is_marked (map to xs)))) (along pre x xs) ∙ rest d (suc i) (pre ++ (x ∷ [])) (omega arith) ∙ sym (along pre x (change_marked xs)))
+              rw (sym h.0, p, q) (ap (change_runs (lowered_runs d (marked_runs_from (suc i) seeL is_marked (map to xs)))) (along pre x xs)
+              ∙ rest d (suc i) (pre ++ (x ∷ [])) (omega arith) ∙ sym (along pre x (change_marked xs)))
           step false b p q rest =
               let k = len-append pre (x ∷ []) in
               let g : len see (x ∷ []) ≡ 0 = ap (λ b. one_more_if b 0) p in
-              rw (sym h.0, p) (ap (change_runs (lowered_runs d (marked_runs_from i seeL is_marked (map to xs)))) (along pre x xs) ∙ rest d i (pre ++ (x ∷ [])) (omega arith) ∙ sym (along pre x (change_marked xs)))
+              rw (sym h.0, p) (ap (change_runs (lowered_runs d (marked_runs_from i seeL is_marked (map to xs)))) (along pre x xs)
+              ∙ rest d i (pre ++ (x ∷ [])) (omega arith) ∙ sym (along pre x (change_marked xs)))
 
       -- all runs, each lowered by the earlier ones
       pub lowered-marked : (xs : List A) → Each (λ x. see x ≡ seeL (to x)) xs → change_runs (lowered_runs 0 (marked_runs_from 0 seeL is_marked (map to xs))) xs ≡ change_marked xs
@@ -212,12 +231,15 @@ module _ {A : Type 0} (see : A → Bool) (f : A → A) where
 
     -- where f hides nothing, each run stays where it is
     module _ (keeps : (x : A) → see (f x) ≡ see x) where
-      joined-kept : (p b : ℕ) (pre : List A) (x : A) (xs : List A) → len see pre ≡ p → suc p < b → b ≤ suc p + len see xs → see x ≡ true → change_run (p, b) (pre ++ (x ∷ xs)) ≡ change_run (suc p, b) (pre ++ (f x ∷ xs))
+      joined-kept : (p b : ℕ) (pre : List A) (x : A) (xs : List A) → len see pre ≡ p → suc p < b → b ≤ suc p + len see xs → see x ≡ true
+          → change_run (p, b) (pre ++ (x ∷ xs)) ≡ change_run (suc p, b) (pre ++ (f x ∷ xs))
       joined-kept p b pre x xs e l m s =
-          run-in_range (p, b) (pre ++ (x ∷ xs)) (let g = len-append pre (x ∷ xs) in let k : len see (x ∷ xs) ≡ suc (len see xs) = ap (λ b. one_more_if b (len see xs)) s in omega arith)
+          run-in_range (p, b) (pre ++ (x ∷ xs)) (let g = len-append pre (x ∷ xs) in let k : len see (x ∷ xs)
+          ≡ suc (len see xs) = ap (λ b. one_more_if b (len see xs)) s in omega arith)
           ∙ first-range p b pre x xs e (omega arith) s
           ∙ ap (λ us. pre ++ (f x ∷ us)) (start-range (suc p) p b (suc p) xs (omega arith) (omega arith))
-          ∙ sym (run-in_range (suc p, b) (pre ++ (f x ∷ xs)) (let g = len-append pre (f x ∷ xs) in let k : len see (f x ∷ xs) ≡ suc (len see xs) = ap (λ b. one_more_if b (len see xs)) (keeps x ∙ s) in omega arith)
+          ∙ sym (run-in_range (suc p, b) (pre ++ (f x ∷ xs)) (let g = len-append pre (f x ∷ xs) in let k : len see (f x ∷ xs)
+          ≡ suc (len see xs) = ap (λ b. one_more_if b (len see xs)) (keeps x ∙ s) in omega arith)
           ∙ before-range 0 (suc p) b pre (f x ∷ xs) (omega arith)
           ∙ (let g : 0 + len see pre ≡ p = omega arith in ap (λ i. pre ++ change_range_from i see (suc p) b f (f x ∷ xs)) g)
           ∙ rw (keeps x, s, outside (suc p) b p (omega arith)) refl)
@@ -236,7 +258,8 @@ module _ {A : Type 0} (see : A → Bool) (f : A → A) where
               ap (change_runs runs) (joined-kept i b pre x xs e (omega arith) v s) ∙ subst (λ j. change_runs runs (change_run (j, b) (pre ++ (f x ∷ xs))) ≡ ys) k h
           step false g = let q : i + 1 ≡ suc i = omega arith in rw q (ap (change_runs ((a, b) ∷ runs)) (first-one i pre x xs e s) ∙ h)
 
-      kept-all : (i : ℕ) (pre xs : List A) → len see pre ≡ i → Each (λ x. see x ≡ seeL (to x)) xs → change_runs (marked_runs_from i seeL is_marked (map to xs)) (pre ++ xs) ≡ pre ++ change_marked xs
+      kept-all : (i : ℕ) (pre xs : List A) → len see pre ≡ i → Each (λ x. see x ≡ seeL (to x)) xs
+          → change_runs (marked_runs_from i seeL is_marked (map to xs)) (pre ++ xs) ≡ pre ++ change_marked xs
       kept-all i pre [] e h = refl
       kept-all i pre (x ∷ xs) e h = step (see x) (is_marked (to x)) refl refl (λ i' pre' e'. kept-all i' pre' xs e' h.1)
         where
@@ -247,17 +270,21 @@ module _ {A : Type 0} (see : A → Bool) (f : A → A) where
               let k = len-append pre (f x ∷ []) in
               let g : len see (f x ∷ []) ≡ 1 = ap (λ b. one_more_if b 0) (keeps x ∙ p) in
               let r : change_runs (marked_runs_from (suc i) seeL is_marked (map to xs)) (pre ++ (f x ∷ xs)) ≡ pre ++ (f x ∷ change_marked xs) =
-              ap (change_runs (marked_runs_from (suc i) seeL is_marked (map to xs))) (along pre (f x) xs) ∙ rest (suc i) (pre ++ (f x ∷ [])) (omega arith) ∙ sym (along pre (f x) (change_marked xs)) in
-              let first = subst (λ n. FirstRun (suc i + n) (marked_runs_from (suc i) seeL is_marked (map to xs))) (len-same xs h.1) (first-run (suc i) seeL is_marked (map to xs)) in
+              ap (change_runs (marked_runs_from (suc i) seeL is_marked (map to xs))) (along pre (f x) xs) ∙ rest (suc i) (pre ++ (f x ∷ [])) (omega arith)
+              ∙ sym (along pre (f x) (change_marked xs)) in
+              let first = subst (λ n. FirstRun (suc i + n) (marked_runs_from (suc i) seeL is_marked (map to xs))) (len-same xs h.1)
+              (first-run (suc i) seeL is_marked (map to xs)) in
               rw (sym h.0, p, q) (extended-kept i pre x xs (pre ++ (f x ∷ change_marked xs)) (marked_runs_from (suc i) seeL is_marked (map to xs)) e p first r)
           step true false p q rest =
               let k = len-append pre (x ∷ []) in
               let g : len see (x ∷ []) ≡ 1 = ap (λ b. one_more_if b 0) p in
-              rw (sym h.0, p, q) (ap (change_runs (marked_runs_from (suc i) seeL is_marked (map to xs))) (along pre x xs) ∙ rest (suc i) (pre ++ (x ∷ [])) (omega arith) ∙ sym (along pre x (change_marked xs)))
+              rw (sym h.0, p, q) (ap (change_runs (marked_runs_from (suc i) seeL is_marked (map to xs))) (along pre x xs)
+              ∙ rest (suc i) (pre ++ (x ∷ [])) (omega arith) ∙ sym (along pre x (change_marked xs)))
           step false b p q rest =
               let k = len-append pre (x ∷ []) in
               let g : len see (x ∷ []) ≡ 0 = ap (λ b. one_more_if b 0) p in
-              rw (sym h.0, p) (ap (change_runs (marked_runs_from i seeL is_marked (map to xs))) (along pre x xs) ∙ rest i (pre ++ (x ∷ [])) (omega arith) ∙ sym (along pre x (change_marked xs)))
+              rw (sym h.0, p) (ap (change_runs (marked_runs_from i seeL is_marked (map to xs))) (along pre x xs) ∙ rest i (pre ++ (x ∷ [])) (omega arith)
+              ∙ sym (along pre x (change_marked xs)))
 
       -- all runs, each where it is
       pub kept-marked : (xs : List A) → Each (λ x. see x ≡ seeL (to x)) xs → change_runs (marked_runs_from 0 seeL is_marked (map to xs)) xs ≡ change_marked xs

@@ -40,7 +40,9 @@ started-left : (xs : List ListElement) → lefts (started xs) ≡ retain_map is_
 started-left [] = refl
 started-left (e ∷ xs) = step (is_sequenced e) (started-left xs)
   where
-    step : (b : Bool) → lefts (started xs) ≡ retain_map is_sequenced carried_element xs → lefts (cond b ((carried_element e, without_pending e) ∷ started xs) (started xs)) ≡ cond b (carried_element e ∷ retain_map is_sequenced carried_element xs) (retain_map is_sequenced carried_element xs)
+    step : (b : Bool) → lefts (started xs) ≡ retain_map is_sequenced carried_element xs
+        → lefts (cond b ((carried_element e, without_pending e) ∷ started xs) (started xs))
+        ≡ cond b (carried_element e ∷ retain_map is_sequenced carried_element xs) (retain_map is_sequenced carried_element xs)
     step true h = ap (λ us. carried_element e ∷ us) h
     step false h = h
 
@@ -48,7 +50,8 @@ started-right : (xs : List ListElement) → rights (started xs) ≡ sequenced_el
 started-right [] = refl
 started-right (e ∷ xs) = step (is_sequenced e) (started-right xs)
   where
-    step : (b : Bool) → rights (started xs) ≡ sequenced_elements xs → rights (cond b ((carried_element e, without_pending e) ∷ started xs) (started xs)) ≡ cond b (without_pending e ∷ sequenced_elements xs) (sequenced_elements xs)
+    step : (b : Bool) → rights (started xs) ≡ sequenced_elements xs → rights (cond b ((carried_element e, without_pending e) ∷ started xs) (started xs))
+        ≡ cond b (without_pending e ∷ sequenced_elements xs) (sequenced_elements xs)
     step true h = ap (λ us. without_pending e ∷ us) h
     step false h = h
 
@@ -87,16 +90,20 @@ module _ (inserts removes annotates : SubOperation → Bool) (n conn m : ℕ) (s
       let p = both (is_stage_of annotates stages q.0) (list_all (λ q. is_stage_of annotates stages q.0) qs) h in
       rw (none-first annotates q.0 p.0) (no-changes qs p.1)
 
-  start-image : (made : ℕ) (e : ListElement) → is_sequenced e ≡ true → has_marks_of inserts removes stages e ≡ true → is_known n e ≡ true → list_all (λ q. is_stage_of annotates stages q.0) e.pending ≡ true → Image n conn made 0 (carried_element e, without_pending e)
+  start-image : (made : ℕ) (e : ListElement) → is_sequenced e ≡ true → has_marks_of inserts removes stages e ≡ true → is_known n e ≡ true
+      → list_all (λ q. is_stage_of annotates stages q.0) e.pending ≡ true → Image n conn made 0 (carried_element e, without_pending e)
   start-image made e q h k c =
       let p = all_three (has_insertion_of inserts stages e.ins) (has_removal_of removes stages e.removal_stage) (list_all is_acked e.dels) h in
       let g = both (is_known_stamp n e.ins) (list_all (is_known_stamp n) e.dels) k in
       let now : seen 0 (carried_element e) ≡ has_none e.dels =
-      carried-seen 0 e ∙ ap (λ b. b && not (list_any (has_occurred_at_stage 0) (e.dels ++ removal_stamp e.removal_stage))) (at_stage e.ins q) ∙ seen-by-test (has_occurred_at_stage 0) e.dels (removal_stamp e.removal_stage) (acked-dels e.dels p.2) (no-removal e.removal_stage p.1) in
+      carried-seen 0 e ∙ ap (λ b. b && not (list_any (has_occurred_at_stage 0) (e.dels ++ removal_stamp e.removal_stage))) (at_stage e.ins q)
+      ∙ seen-by-test (has_occurred_at_stage 0) e.dels (removal_stamp e.removal_stage) (acked-dels e.dels p.2) (no-removal e.removal_stage p.1) in
       record {
-        perspective = ap (λ b. b && not (list_any (has_occurred n conn) (e.dels ++ []))) (occurred e.ins q g.0) ∙ seen-by-test (has_occurred n conn) e.dels [] (known-dels e.dels p.2 g.1) refl ∙ sym now;
+        perspective = ap (λ b. b && not (list_any (has_occurred n conn) (e.dels ++ []))) (occurred e.ins q g.0)
+            ∙ seen-by-test (has_occurred n conn) e.dels [] (known-dels e.dels p.2 g.1) refl ∙ sym now;
         unremoved = ap (λ b. b && not (list_any is_acked (e.dels ++ []))) q ∙ seen-by-test is_acked e.dels [] p.2 refl ∙ sym now;
-        at_last = ap (λ b. b && not (list_any (has_occurred_at_stage 0) (e.dels ++ []))) (at_stage e.ins q) ∙ seen-by-test (has_occurred_at_stage 0) e.dels [] (acked-dels e.dels p.2) refl ∙ sym now;
+        at_last = ap (λ b. b && not (list_any (has_occurred_at_stage 0) (e.dels ++ []))) (at_stage e.ins q)
+            ∙ seen-by-test (has_occurred_at_stage 0) e.dels [] (acked-dels e.dels p.2) refl ∙ sym now;
         sequenced = q;
         content = content (list_any is_acked e.dels);
         bare = refl;
@@ -121,7 +128,8 @@ module _ (inserts removes annotates : SubOperation → Bool) (n conn m : ℕ) (s
       props true = refl
       props false = sym (ap (shown_props e.props) (no-changes e.pending c))
 
-  start-images : (made : ℕ) (xs : List ListElement) → list_all (has_marks_of inserts removes stages) xs ≡ true → list_all (is_known n) xs ≡ true → list_all (λ e. list_all (λ q. is_stage_of annotates stages q.0) e.pending) xs ≡ true
+  start-images : (made : ℕ) (xs : List ListElement) → list_all (has_marks_of inserts removes stages) xs ≡ true → list_all (is_known n) xs ≡ true
+      → list_all (λ e. list_all (λ q. is_stage_of annotates stages q.0) e.pending) xs ≡ true
       → Each (Image n conn made 0) (started xs)
   start-images made [] h k c = tt
   start-images made (e ∷ xs) h k c =
@@ -130,13 +138,15 @@ module _ (inserts removes annotates : SubOperation → Bool) (n conn m : ℕ) (s
       let r = both (list_all (λ q. is_stage_of annotates stages q.0) e.pending) (list_all (λ e. list_all (λ q. is_stage_of annotates stages q.0) e.pending) xs) c in
       step (is_sequenced e) refl p.0 q.0 r.0 (start-images made xs p.1 q.1 r.1)
     where
-      step : (b : Bool) → is_sequenced e ≡ b → has_marks_of inserts removes stages e ≡ true → is_known n e ≡ true → list_all (λ q. is_stage_of annotates stages q.0) e.pending ≡ true → Each (Image n conn made 0) (started xs)
+      step : (b : Bool) → is_sequenced e ≡ b → has_marks_of inserts removes stages e ≡ true → is_known n e ≡ true
+          → list_all (λ q. is_stage_of annotates stages q.0) e.pending ≡ true → Each (Image n conn made 0) (started xs)
           → Each (Image n conn made 0) (cond b ((carried_element e, without_pending e) ∷ started xs) (started xs))
       step true s h k c g = (start-image made e s h k c, g)
       step false s h k c g = g
 
 -- a list before its pending stages beside the one without what is pending
-abbrev start : (inserts removes annotates : SubOperation → Bool) (n conn m : ℕ) (stages : List Stage) → StagesRiseTo 0 stages m → (list : Sequence) → IsReadyList inserts removes annotates n stages list
+abbrev start : (inserts removes annotates : SubOperation → Bool) (n conn m : ℕ) (stages : List Stage) → StagesRiseTo 0 stages m → (list : Sequence)
+    → IsReadyList inserts removes annotates n stages list
     → Beside n conn list.made 0 (stage_list list.items 0) (sequenced_elements list.items)
 start inserts removes annotates n conn m stages rise list h = record {
   pairs = started list.items;
@@ -157,7 +167,8 @@ started-pair x (e ∷ xs) h = step (same_id x (id e)) (is_sequenced e) refl refl
     unsequenced : is_sequenced e ≡ false → is_unremoved e ≡ false
     unsequenced q = ap (λ b. b && not (list_any is_acked (e.dels ++ removal_stamp e.removal_stage))) q
 
-    step : (a b : Bool) → same_id x (id e) ≡ a → is_sequenced e ≡ b → (a && is_unremoved e) || has_named is_unremoved xs x ≡ true → (has_named is_unremoved xs x ≡ true → has_pair (started xs) x x ≡ true)
+    step : (a b : Bool) → same_id x (id e) ≡ a → is_sequenced e ≡ b → (a && is_unremoved e) || has_named is_unremoved xs x ≡ true
+        → (has_named is_unremoved xs x ≡ true → has_pair (started xs) x x ≡ true)
         → has_pair (cond b ((carried_element e, without_pending e) ∷ started xs) (started xs)) x x ≡ true
     step true true p q h g = ap (λ i. (same_id x i && same_id x (id e)) || has_pair (started xs) x x) (carried-id e) ∙ ap (λ b. (b && b) || has_pair (started xs) x x) p
     step false true p q h g = or_true (same_id x (id (carried_element e)) && same_id x (id e)) (has_pair (started xs) x x) (g h)
@@ -175,7 +186,8 @@ started-intervals xs (i ∷ is) h =
     let q = both (is_end_on xs i.start) (is_end_on xs i.end) p.0 in
     (record { label = refl; id = refl; props = refl; start = started-end xs i.start q.0; end = started-end xs i.end q.1 }, started-intervals xs is p.1)
 
-changes-first : (annotates : SubOperation → Bool) (stages : List Stage) (xs : List ListElement) → list_all (λ e. list_all (λ q. is_stage_of annotates stages q.0) e.pending) xs ≡ true → list_all (left_changes annotates stages 0) xs ≡ true
+changes-first : (annotates : SubOperation → Bool) (stages : List Stage) (xs : List ListElement)
+    → list_all (λ e. list_all (λ q. is_stage_of annotates stages q.0) e.pending) xs ≡ true → list_all (left_changes annotates stages 0) xs ≡ true
 changes-first annotates stages xs h =
     all-weaker (λ e. list_all (λ q. is_stage_of annotates stages q.0) e.pending) (left_changes annotates stages 0)
     (λ e k. all-weaker (λ q. is_stage_of annotates stages q.0) (λ q. nat_le q.0 0 || is_stage_of annotates stages q.0) (λ q g. or_true (nat_le q.0 0) _ g) e.pending k) xs h
@@ -184,7 +196,8 @@ changes-first annotates stages xs h =
     or_true true b h = refl
     or_true false b h = h
 
-left-start : (inserts removes : SubOperation → Bool) (stages : List Stage) (xs : List ListElement) → list_all (has_marks_of inserts removes stages) xs ≡ true → list_all (is_left inserts removes stages 0) xs ≡ true
+left-start : (inserts removes : SubOperation → Bool) (stages : List Stage) (xs : List ListElement) → list_all (has_marks_of inserts removes stages) xs ≡ true
+    → list_all (is_left inserts removes stages 0) xs ≡ true
 left-start inserts removes stages xs h = all-weaker (has_marks_of inserts removes stages) (is_left inserts removes stages 0) (left-first inserts removes stages) xs h
 
 module _ (x : NaiveClient) (conn : ℕ) (ready : IsReady x) where
@@ -192,12 +205,14 @@ module _ (x : NaiveClient) (conn : ℕ) (ready : IsReady x) where
   first-end None k = refl
   first-end (Some i) k =
       named-weaker is_unremoved (seen 0) i x.doc.text.items
-      (all-weaker (has_marks_of inserts_text removes_text (stages_of x)) (λ e. not (is_unremoved e) || seen 0 e) (unremoved-seen inserts_text removes_text (stages_of x) x.last_stage ready.stages x.doc.text ready.text.place) x.doc.text.items ready.text.place.marks) k
+      (all-weaker (has_marks_of inserts_text removes_text (stages_of x)) (λ e. not (is_unremoved e) || seen 0 e)
+      (unremoved-seen inserts_text removes_text (stages_of x) x.last_stage ready.stages x.doc.text ready.text.place) x.doc.text.items ready.text.place.marks) k
 
   first-ends : list_all (has_ends_at 0 x.doc.text.items) x.doc.intervals ≡ true
   first-ends =
       all-weaker (has_ends_on x.doc.text.items) (has_ends_at 0 x.doc.text.items)
-      (λ i k. let p = both (is_end_on x.doc.text.items i.start) (is_end_on x.doc.text.items i.end) k in rw (first-end i.start p.0, first-end i.end p.1) refl) x.doc.intervals ready.ends
+      (λ i k. let p = both (is_end_on x.doc.text.items i.start) (is_end_on x.doc.text.items i.end) k in rw (first-end i.start p.0, first-end i.end p.1) refl)
+      x.doc.intervals ready.ends
 
   -- before any stage
   pub reached-first : IsConsistent (sequenced_part x.doc) → Reached x conn ready (stages_of x) x.doc.intervals [] (sequenced_part x.doc)

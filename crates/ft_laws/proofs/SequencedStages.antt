@@ -43,7 +43,8 @@ own_number n s c = rw (same_nat c) (or_right (nat_le s n))
 marked-unseen : (k : ℕ) (e : ListElement) → is_removed_by k e ≡ true → seen k e ≡ false
 marked-unseen k e h = rw (any-behind (has_occurred_at_stage k) e.dels (removal_stamp e.removal_stage) (marked e.removal_stage h)) (never (has_occurred_at_stage k e.ins))
   where
-    marked : (o : Option ℕ) → list_any (λ s. elim s [ Acked r c ↦ false | Local i ↦ nat_eq i k ]) (removal_stamp o) ≡ true → list_any (has_occurred_at_stage k) (removal_stamp o) ≡ true
+    marked : (o : Option ℕ) → list_any (λ s. elim s [ Acked r c ↦ false | Local i ↦ nat_eq i k ]) (removal_stamp o) ≡ true
+        → list_any (has_occurred_at_stage k) (removal_stamp o) ≡ true
     marked None h = (cc)
     marked (Some i) h = step (nat_eq i k) (nat_le i k) refl refl h
       where
@@ -97,7 +98,8 @@ module _ (n conn made : ℕ) where
 
   images-same : (j k : ℕ) {ls ds : List ListElement} → Each (SameAt j k) ls → (b : Beside j ls ds) → Each (Image k) b.pairs
   images-same j k s b =
-      each-both (λ p. SameAt j k p.0) (Image j) (Image k) (λ p u v. image-same j k p u v) b.pairs (each-under (SameAt j k) (λ p. p.0) b.pairs (subst (Each (SameAt j k)) (sym b.left) s)) b.images
+      each-both (λ p. SameAt j k p.0) (Image j) (Image k) (λ p u v. image-same j k p u v) b.pairs
+      (each-under (SameAt j k) (λ p. p.0) b.pairs (subst (Each (SameAt j k)) (sym b.left) s)) b.images
 
   -- a stage that doesn't touch the list
   pub beside-same : (j k : ℕ) {ls ds : List ListElement} → Each (SameAt j k) ls → (b : Beside j ls ds) → Onward j k b ls ds
@@ -113,26 +115,52 @@ module _ (n conn made : ℕ) where
 
   abbrev block-pairs : (s i : ℕ) (by : Option Stamp) (props : PropertyList) (bs : List ElementContent) (es : List ListElement) → IsBlockOf props bs es → List Pair
   block-pairs s i by props [] [] h = []
-  block-pairs s i by props (b ∷ bs) (e ∷ es) h = (e, record { nth = i; content = b; ins = Acked s conn; dels = []; removal_stage = None; by = by; props = props; pending = [] }) ∷ block-pairs s (i + 1) by props bs es h.2
+  block-pairs s i by props (b ∷ bs) (e ∷ es) h = (
+    e,
+    record {
+      nth = i;
+      content = b;
+      ins = Acked s conn;
+      dels = [];
+      removal_stage = None;
+      by = by;
+      props =
+          props;
+      pending = [];
+    },
+  ) ∷ block-pairs s (i + 1) by props bs es h.2
   block-pairs s i by props [] (e ∷ es) h = []
   block-pairs s i by props (b ∷ bs) [] h = []
 
-  block-left : (s i : ℕ) (by : Option Stamp) (props : PropertyList) (bs : List ElementContent) (es : List ListElement) (h : IsBlockOf props bs es) → lefts (block-pairs s i by props bs es h) ≡ es
+  block-left : (s i : ℕ) (by : Option Stamp) (props : PropertyList) (bs : List ElementContent) (es : List ListElement) (h : IsBlockOf props bs es)
+      → lefts (block-pairs s i by props bs es h) ≡ es
   block-left s i by props [] [] h = refl
   block-left s i by props (b ∷ bs) (e ∷ es) h = ap (λ us. e ∷ us) (block-left s (i + 1) by props bs es h.2)
   block-left s i by props [] (e ∷ es) h = (cc)
   block-left s i by props (b ∷ bs) [] h = (cc)
 
-  block-right : (s i : ℕ) (by : Option Stamp) (props : PropertyList) (bs : List ElementContent) (es : List ListElement) (h : IsBlockOf props bs es) → rights (block-pairs s i by props bs es h) ≡ new_elements i (Acked s conn) [] by props bs
+  block-right : (s i : ℕ) (by : Option Stamp) (props : PropertyList) (bs : List ElementContent) (es : List ListElement) (h : IsBlockOf props bs es)
+      → rights (block-pairs s i by props bs es h) ≡ new_elements i (Acked s conn) [] by props bs
   block-right s i by props [] [] h = refl
-  block-right s i by props (b ∷ bs) (e ∷ es) h = ap (λ us. record { nth = i; content = b; ins = Acked s conn; dels = []; removal_stage = None; by = by; props = props; pending = [] } ∷ us) (block-right s (i + 1) by props bs es h.2)
+  block-right s i by props (b ∷ bs) (e ∷ es) h = ap (λ us. record {
+    nth = i;
+    content = b;
+    ins = Acked s conn;
+    dels = [];
+    removal_stage = None;
+    by = by;
+    props =
+        props;
+    pending = [];
+  } ∷ us) (block-right s (i + 1) by props bs es h.2)
   block-right s i by props [] (e ∷ es) h = (cc)
   block-right s i by props (b ∷ bs) [] h = (cc)
 
   from_made : (i : ℕ) → made ≤ i → nat_le made i ≡ true
   from_made i l = grind (arith, nat_tests)
 
-  block-images : (k s i : ℕ) (by : Option Stamp) (props : PropertyList) (bs : List ElementContent) (es : List ListElement) (h : IsBlockOf props bs es) → made ≤ i → Each (IsNew k) es → Each (Image k) (block-pairs s i by props bs es h)
+  block-images : (k s i : ℕ) (by : Option Stamp) (props : PropertyList) (bs : List ElementContent) (es : List ListElement) (h : IsBlockOf props bs es)
+      → made ≤ i → Each (IsNew k) es → Each (Image k) (block-pairs s i by props bs es h)
   block-images k s i by props [] [] h l a = tt
   block-images k s i by props (b ∷ bs) (e ∷ es) h l a =
       let v = a.0.view in (
@@ -244,8 +272,10 @@ module _ (n conn made : ℕ) where
         stays = λ x y h. stays b.pairs x y h;
       }
     where
-      stays : (ps : List Pair) (x y : ElementId) → has_pair ps x y ≡ true → has_pair (map (λ p. cond (seen_by n conn p.1 && is_removed_by k p.0) (p.0, with_removal s conn p.1) p) ps) x y ≡ true
-      stays ps x y h = pair-changed (λ p. cond (seen_by n conn p.1 && is_removed_by k p.0) (p.0, with_removal s conn p.1) p) (λ p. same_left (seen_by n conn p.1 && is_removed_by k p.0) p) (λ p. same_right (seen_by n conn p.1 && is_removed_by k p.0) p) x y ps ∙ h
+      stays : (ps : List Pair) (x y : ElementId) → has_pair ps x y ≡ true → has_pair
+          (map (λ p. cond (seen_by n conn p.1 && is_removed_by k p.0) (p.0, with_removal s conn p.1) p) ps) x y ≡ true
+      stays ps x y h = pair-changed (λ p. cond (seen_by n conn p.1 && is_removed_by k p.0) (p.0, with_removal s conn p.1) p)
+          (λ p. same_left (seen_by n conn p.1 && is_removed_by k p.0) p) (λ p. same_right (seen_by n conn p.1 && is_removed_by k p.0) p) x y ps ∙ h
         where
           same_left : (b : Bool) (p : Pair) → id (cond b (p.0, with_removal s conn p.1) p).0 ≡ id p.0
           same_left true p = refl
@@ -255,7 +285,8 @@ module _ (n conn made : ℕ) where
           same_right true p = refl
           same_right false p = refl
 
-      mapped : (ps : List Pair) → Each (λ p. RemovedAt j k p.0) ps → Each (Image j) ps → Each (Image k) (map (λ p. cond (seen_by n conn p.1 && is_removed_by k p.0) (p.0, with_removal s conn p.1) p) ps)
+      mapped : (ps : List Pair) → Each (λ p. RemovedAt j k p.0) ps → Each (Image j) ps
+          → Each (Image k) (map (λ p. cond (seen_by n conn p.1 && is_removed_by k p.0) (p.0, with_removal s conn p.1) p) ps)
       mapped [] u v = tt
       mapped (p ∷ ps) u v = (changed-image j k s p u.0 v.0, mapped ps u.1 v.1)
 
@@ -268,7 +299,8 @@ module _ (n conn made : ℕ) where
     pub others : is_annotated_by k e ≡ false → pending_up_to k e.pending ≡ pending_up_to j e.pending
     pub changed : is_annotated_by k e ≡ true → pending_up_to k e.pending ≡ pending_up_to j e.pending ++ ((k, c) ∷ [])
 
-  annotated-image : (j k : ℕ) (c : Changes) (p : Pair) → AnnotatedAt j k c p.0 → Image j p → Image k (cond (seen_by n conn p.1 && is_annotated_by k p.0) (p.0, with_annotation c p.1) p)
+  annotated-image : (j k : ℕ) (c : Changes) (p : Pair) → AnnotatedAt j k c p.0 → Image j p
+      → Image k (cond (seen_by n conn p.1 && is_annotated_by k p.0) (p.0, with_annotation c p.1) p)
   annotated-image j k c p r i = step (seen_by n conn p.1) (is_annotated_by k p.0) refl refl
     where
       unseen : seen_by n conn p.1 ≡ false → Image k p
@@ -292,7 +324,8 @@ module _ (n conn made : ℕ) where
         sequenced = i.sequenced;
         content = i.content;
         bare = i.bare;
-        props = λ q. ap (λ ps. change ps c) (i.props (sym r.view ∙ q)) ∙ sym (ap (shown_props p.0.props) (r.changed h) ∙ shown_props-append p.0.props (pending_up_to j p.0.pending) ((k, c) ∷ []));
+        props = λ q. ap (λ ps. change ps c) (i.props (sym r.view ∙ q)) ∙ sym (ap (shown_props p.0.props) (r.changed h)
+            ∙ shown_props-append p.0.props (pending_up_to j p.0.pending) ((k, c) ∷ []));
         old = i.old;
         new = i.new;
       }
@@ -330,8 +363,10 @@ module _ (n conn made : ℕ) where
         stays = λ x y h. stays b.pairs x y h;
       }
     where
-      stays : (ps : List Pair) (x y : ElementId) → has_pair ps x y ≡ true → has_pair (map (λ p. cond (seen_by n conn p.1 && is_annotated_by k p.0) (p.0, with_annotation c p.1) p) ps) x y ≡ true
-      stays ps x y h = pair-changed (λ p. cond (seen_by n conn p.1 && is_annotated_by k p.0) (p.0, with_annotation c p.1) p) (λ p. same_left (seen_by n conn p.1 && is_annotated_by k p.0) p) (λ p. same_right (seen_by n conn p.1 && is_annotated_by k p.0) p) x y ps ∙ h
+      stays : (ps : List Pair) (x y : ElementId) → has_pair ps x y ≡ true → has_pair
+          (map (λ p. cond (seen_by n conn p.1 && is_annotated_by k p.0) (p.0, with_annotation c p.1) p) ps) x y ≡ true
+      stays ps x y h = pair-changed (λ p. cond (seen_by n conn p.1 && is_annotated_by k p.0) (p.0, with_annotation c p.1) p)
+          (λ p. same_left (seen_by n conn p.1 && is_annotated_by k p.0) p) (λ p. same_right (seen_by n conn p.1 && is_annotated_by k p.0) p) x y ps ∙ h
         where
           same_left : (b : Bool) (p : Pair) → id (cond b (p.0, with_annotation c p.1) p).0 ≡ id p.0
           same_left true p = refl
@@ -341,6 +376,7 @@ module _ (n conn made : ℕ) where
           same_right true p = refl
           same_right false p = refl
 
-      mapped : (ps : List Pair) → Each (λ p. AnnotatedAt j k c p.0) ps → Each (Image j) ps → Each (Image k) (map (λ p. cond (seen_by n conn p.1 && is_annotated_by k p.0) (p.0, with_annotation c p.1) p) ps)
+      mapped : (ps : List Pair) → Each (λ p. AnnotatedAt j k c p.0) ps → Each (Image j) ps
+          → Each (Image k) (map (λ p. cond (seen_by n conn p.1 && is_annotated_by k p.0) (p.0, with_annotation c p.1) p) ps)
       mapped [] u v = tt
       mapped (p ∷ ps) u v = (annotated-image j k c p u.0 v.0, mapped ps u.1 v.1)

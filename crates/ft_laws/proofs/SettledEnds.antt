@@ -54,7 +54,8 @@ module _ {A : Type 0} (is ok kept : A → Bool) (h : (x : A) → kept x ≡ fals
       let p = both (not (is x) || kept x) (list_all (λ y. not (is y) || kept y) xs) k in
       step (kept x) refl p.0 (settled-filter (cond (ok x) (Some x) last) xs p.1)
     where
-      step : (b : Bool) → kept x ≡ b → not (is x) || kept x ≡ true → settled_after is ok (cond (ok x) (Some x) last) (filter kept xs) ≡ settled_after is ok (cond (ok x) (Some x) last) xs
+      step : (b : Bool) → kept x ≡ b → not (is x) || kept x ≡ true → settled_after is ok (cond (ok x) (Some x) last) (filter kept xs)
+          ≡ settled_after is ok (cond (ok x) (Some x) last) xs
           → settled_after is ok last (cond b (x ∷ filter kept xs) (filter kept xs)) ≡ settled_after is ok last (x ∷ xs)
       step true e k q = rw (find-filter xs, q) refl
       step false e k q = grind (arith, h x)
@@ -65,26 +66,32 @@ module _ {A : Type 0} (is ok kept : A → Bool) (h : (x : A) → kept x ≡ fals
       let p = both (not (is x) || kept x) (list_all (λ y. not (is y) || kept y) xs) k in
       step (kept x) refl p.0 (rank-filter xs p.1)
     where
-      step : (b : Bool) → kept x ≡ b → not (is x) || kept x ≡ true → rank is ok (filter kept xs) ≡ rank is ok xs → rank is ok (cond b (x ∷ filter kept xs) (filter kept xs)) ≡ rank is ok (x ∷ xs)
+      step : (b : Bool) → kept x ≡ b → not (is x) || kept x ≡ true → rank is ok (filter kept xs) ≡ rank is ok xs
+          → rank is ok (cond b (x ∷ filter kept xs) (filter kept xs)) ≡ rank is ok (x ∷ xs)
       step true e k q = rw q refl
       step false e k q = grind (arith, h x)
 
 -- ---- elements that a name means
 
-de_morgan : (test : ListElement → Bool) (x : ElementId) (xs : List ListElement) → not (has_named (λ e. not (test e)) xs x) ≡ true → list_all (λ e. not (has_id x e) || test e) xs ≡ true
+de_morgan : (test : ListElement → Bool) (x : ElementId) (xs : List ListElement) → not (has_named (λ e. not (test e)) xs x) ≡ true
+    → list_all (λ e. not (has_id x e) || test e) xs ≡ true
 de_morgan test x [] h = refl
 de_morgan test x (e ∷ xs) h = step (same_id x (id e)) (test e) h (de_morgan test x xs)
   where
-    step : (a b : Bool) → not ((a && not b) || has_named (λ e. not (test e)) xs x) ≡ true → (not (has_named (λ e. not (test e)) xs x) ≡ true → list_all (λ e. not (has_id x e) || test e) xs ≡ true) → (not a || b) && list_all (λ e. not (has_id x e) || test e) xs ≡ true
+    step : (a b : Bool) → not ((a && not b) || has_named (λ e. not (test e)) xs x) ≡ true
+        → (not (has_named (λ e. not (test e)) xs x) ≡ true → list_all (λ e. not (has_id x e) || test e) xs ≡ true) → (not a || b)
+        && list_all (λ e. not (has_id x e) || test e) xs ≡ true
     step true true h g = g h
     step true false h g = (cc)
     step false b h g = g h
 
 -- where names are distinct, all that a name means pass if one does
-pub only-named : (test : ListElement → Bool) (xs : List ListElement) → are_distinct xs ≡ true → (x : ElementId) → has_named test xs x ≡ true → list_all (λ e. not (has_id x e) || test e) xs ≡ true
+pub only-named : (test : ListElement → Bool) (xs : List ListElement) → are_distinct xs ≡ true → (x : ElementId) → has_named test xs x ≡ true
+    → list_all (λ e. not (has_id x e) || test e) xs ≡ true
 only-named test xs d x h =
     de_morgan test x xs
-    (named-passes test (λ e. not (test e) || not (has_named (λ e. not (test e)) xs (id e))) (λ y. not (has_named (λ e. not (test e)) xs y)) (λ e k t. second (test e) _ k t) x xs (other-named (λ e. not (test e)) xs d) h)
+    (named-passes test (λ e. not (test e) || not (has_named (λ e. not (test e)) xs (id e))) (λ y. not (has_named (λ e. not (test e)) xs y))
+    (λ e k t. second (test e) _ k t) x xs (other-named (λ e. not (test e)) xs d) h)
   where
     second : (a b : Bool) → not a || b ≡ true → a ≡ true → b ≡ true
     second true b h t = h
@@ -105,14 +112,16 @@ settle-at k xs None = refl
 settle-at k xs (Some x) = settled-held (λ e. not (seen k e)) (has_named (seen k) xs) (seen k) (λ e h. hidden (seen k e) h) (has_id x) None xs refl (own-named (seen k) xs)
 
 -- an end at the stage settles where it is
-pub stays : (ok : ListElement → Bool) (x : ElementId) (last : Option ListElement) (xs : List ListElement) → list_all (λ e. not (has_id x e) || ok e) xs ≡ true → has_named ok xs x ≡ true
+pub stays : (ok : ListElement → Bool) (x : ElementId) (last : Option ListElement) (xs : List ListElement) → list_all (λ e. not (has_id x e) || ok e) xs ≡ true
+    → has_named ok xs x ≡ true
     → option_map id (settled_after (has_id x) ok last xs) ≡ Some x
 stays ok x last [] h k = (cc)
 stays ok x last (e ∷ xs) h k =
     let p = both (not (has_id x e) || ok e) (list_all (λ e. not (has_id x e) || ok e) xs) h in
     step (same_id x (id e)) (ok e) refl p.0 k (stays ok x (cond (ok e) (Some e) last) xs p.1)
   where
-    step : (a b : Bool) → same_id x (id e) ≡ a → not a || b ≡ true → (a && b) || has_named ok xs x ≡ true → (has_named ok xs x ≡ true → option_map id (settled_after (has_id x) ok (cond (ok e) (Some e) last) xs) ≡ Some x)
+    step : (a b : Bool) → same_id x (id e) ≡ a → not a || b ≡ true → (a && b) || has_named ok xs x ≡ true
+        → (has_named ok xs x ≡ true → option_map id (settled_after (has_id x) ok (cond (ok e) (Some e) last) xs) ≡ Some x)
         → option_map id (cond a (option_or (cond b (Some e) (find ok xs)) last) (settled_after (has_id x) ok (cond (ok e) (Some e) last) xs)) ≡ Some x
     step true true a h k g = ap Some (sym (same_id-eq x (id e) a))
     step true false a h k g = (cc)
@@ -127,7 +136,8 @@ wider false b c f h = refl
 wider true b c f h = f h
 
 module _ {m : ℕ} {xs ys : List ListElement} (v : SameViews m xs ys) (d : are_distinct xs ≡ true) where
-  carried-next : (x : ElementId) (k : ℕ) (e : ListElement) → not (has_id x e) || is_seen_or_next k e ≡ true → not (has_id x (carried_element e)) || is_seen_or_next k (carried_element e) ≡ true
+  carried-next : (x : ElementId) (k : ℕ) (e : ListElement) → not (has_id x e) || is_seen_or_next k e ≡ true → not (has_id x (carried_element e))
+      || is_seen_or_next k (carried_element e) ≡ true
   carried-next x k e h = rw (carried-id e, carried-seen k e, carried_element-ins e) h
 
   -- an end on elements seen before or inserted by the stage settles alike
@@ -149,7 +159,8 @@ module _ {m : ℕ} {xs ys : List ListElement} (v : SameViews m xs ys) (d : are_d
   settle-same (suc k) p l (Some x) h =
       let g : has_named (seen k) xs x ≡ true = subst (λ i. has_named (seen i) xs x ≡ true) (pred_suc k) h in
       settle-next k (omega arith) x
-      (all-weaker (λ e. not (has_id x e) || seen k e) (λ e. not (has_id x e) || is_seen_or_next k e) (λ e q. wider (has_id x e) (seen k e) (is_seen_or_next k e) (λ s. or_left (seen k e) _ s) q) xs (only-named (seen k) xs d x g))
+      (all-weaker (λ e. not (has_id x e) || seen k e) (λ e. not (has_id x e) || is_seen_or_next k e)
+      (λ e q. wider (has_id x e) (seen k e) (is_seen_or_next k e) (λ s. or_left (seen k e) _ s) q) xs (only-named (seen k) xs d x g))
 
   -- an end at the stage stays where it is in the other list
   pub stays-other : (k : ℕ) → 0 < k → k ≤ m → (x : Option ElementId) → is_end_at k xs x ≡ true → settle ys k x ≡ x
@@ -157,7 +168,8 @@ module _ {m : ℕ} {xs ys : List ListElement} (v : SameViews m xs ys) (d : are_d
   stays-other zero p l (Some x) h = absurd (omega arith)
   stays-other (suc k) p l (Some x) h =
       settle-next k (omega arith) x
-      (all-weaker (λ e. not (has_id x e) || seen (suc k) e) (λ e. not (has_id x e) || is_seen_or_next k e) (λ e q. wider (has_id x e) (seen (suc k) e) (is_seen_or_next k e) (λ s. turned (is_seen_or_next k e) refl e s) q) xs (only-named (seen (suc k)) xs d x h))
+      (all-weaker (λ e. not (has_id x e) || seen (suc k) e) (λ e. not (has_id x e) || is_seen_or_next k e)
+      (λ e q. wider (has_id x e) (seen (suc k) e) (is_seen_or_next k e) (λ s. turned (is_seen_or_next k e) refl e s) q) xs (only-named (seen (suc k)) xs d x h))
       ∙ settle-stays (suc k) xs d (Some x) h
     where
       turned : (b : Bool) {c : Bool} → b ≡ c → (e : ListElement) → seen (suc k) e ≡ true → is_seen_or_next k e ≡ true
@@ -247,7 +259,8 @@ module _ (inserts removes : SubOperation → Bool) where
       step false true false p q r h = absurd (grind (arith, nat_tests))
       step false false false p q r h = h
 
-  pub left-next : (t : Stage) (stages : List Stage) (j : ℕ) (e : ListElement) → j < t.stage → is_left inserts removes (t ∷ stages) j e ≡ true → is_left inserts removes stages t.stage e ≡ true
+  pub left-next : (t : Stage) (stages : List Stage) (j : ℕ) (e : ListElement) → j < t.stage → is_left inserts removes (t ∷ stages) j e ≡ true
+      → is_left inserts removes stages t.stage e ≡ true
   left-next t stages j e l h =
       let p = all_three (left_insertion inserts (t ∷ stages) j e.ins) (left_removal removes (t ∷ stages) j e.removal_stage) (list_all is_acked e.dels) h in
       rw (insertion e.ins p.0, removal e.removal_stage p.1, p.2) refl
@@ -271,7 +284,8 @@ module _ (inserts removes : SubOperation → Bool) where
     occurred-insertion (Acked s c) h = refl
     occurred-insertion (Local i) h = left-stage i j k (is_stage_of inserts stages i) l (λ b. rise-absent [] inserts i k m stages rise b) h
 
-    occurred-removal : (o : Option ℕ) → left_removal removes stages j o ≡ true → list_any (has_occurred_at_stage k) (removal_stamp o) ≡ list_any (has_occurred_at_stage j) (removal_stamp o)
+    occurred-removal : (o : Option ℕ) → left_removal removes stages j o ≡ true → list_any (has_occurred_at_stage k) (removal_stamp o)
+        ≡ list_any (has_occurred_at_stage j) (removal_stamp o)
     occurred-removal None h = refl
     occurred-removal (Some i) h = ap (λ b. b || false) (left-stage i j k (is_stage_of removes stages i) l (λ b. rise-absent [] removes i k m stages rise b) h)
 
@@ -296,7 +310,8 @@ abbrev pub StillSeen : ℕ → ℕ → List ListElement → Type 0
 StillSeen j k xs = list_all (λ e. not (seen j e) || seen k e) xs ≡ true
 
 -- a test that each element passes which passes another is passed by an element of the name too
-pub named-weaker : (P Q : ListElement → Bool) (x : ElementId) (xs : List ListElement) → list_all (λ e. not (P e) || Q e) xs ≡ true → has_named P xs x ≡ true → has_named Q xs x ≡ true
+pub named-weaker : (P Q : ListElement → Bool) (x : ElementId) (xs : List ListElement) → list_all (λ e. not (P e) || Q e) xs ≡ true → has_named P xs x ≡ true
+    → has_named Q xs x ≡ true
 named-weaker P Q x [] h n = (cc)
 named-weaker P Q x (e ∷ xs) h n =
     let p = both (not (P e) || Q e) (list_all (λ e. not (P e) || Q e) xs) h in
@@ -314,7 +329,8 @@ still-end j k xs h (Some x) n = named-weaker (seen j) (seen k) x xs h n
 
 pub still-ends : (j k : ℕ) (xs : List ListElement) → StillSeen j k xs → (is : List Interval) → list_all (has_ends_at j xs) is ≡ true → list_all (has_ends_at k xs) is ≡ true
 still-ends j k xs h is n =
-    all-weaker (has_ends_at j xs) (has_ends_at k xs) (λ i q. let p = both (is_end_at j xs i.start) (is_end_at j xs i.end) q in rw (still-end j k xs h i.start p.0, still-end j k xs h i.end p.1) refl) is n
+    all-weaker (has_ends_at j xs) (has_ends_at k xs) (λ i q. let p = both (is_end_at j xs i.start) (is_end_at j xs i.end) q in rw
+    (still-end j k xs h i.start p.0, still-end j k xs h i.end p.1) refl) is n
 
 -- ---- a stage without a piece
 
@@ -331,7 +347,8 @@ no_runs i see is_marked (e ∷ xs) h = step (see e && is_marked e) (marked_runs_
         chosen true x y h = (cc)
         chosen false x y h = (cc)
 
-    step : (b : Bool) (runs : List (ℕ × ℕ)) → cond b (extended_runs i runs) runs ≡ [] → (runs ≡ [] → list_all (λ e. not (see e && is_marked e)) xs ≡ true) → not b && list_all (λ e. not (see e && is_marked e)) xs ≡ true
+    step : (b : Bool) (runs : List (ℕ × ℕ)) → cond b (extended_runs i runs) runs ≡ [] → (runs ≡ [] → list_all (λ e. not (see e && is_marked e)) xs ≡ true)
+        → not b && list_all (λ e. not (see e && is_marked e)) xs ≡ true
     step true runs h g = extended runs h
     step false runs h g = g h
 
@@ -360,11 +377,13 @@ module _ (inserts removes : SubOperation → Bool) (t : Stage) (stages : List St
   without-removal (Some i) e h = left-other i (nat_eq t.stage i) (removes t.sub_operation) (is_stage_of removes stages i) e h
 
   -- a stage of neither kind changes nothing that is seen
-  pub still-seen-other : inserts t.sub_operation ≡ false → removes t.sub_operation ≡ false → (xs : List ListElement) → list_all (is_left inserts removes (t ∷ stages) j) xs ≡ true → StillSeen j t.stage xs
+  pub still-seen-other : inserts t.sub_operation ≡ false → removes t.sub_operation ≡ false → (xs : List ListElement)
+      → list_all (is_left inserts removes (t ∷ stages) j) xs ≡ true → StillSeen j t.stage xs
   still-seen-other a b xs h =
       all-weaker (is_left inserts removes (t ∷ stages) j) (λ e. not (seen j e) || seen t.stage e)
       (λ e q. let p = all_three (left_insertion inserts (t ∷ stages) j e.ins) (left_removal removes (t ∷ stages) j e.removal_stage) (list_all is_acked e.dels) q in
-      implied (seen j e) (seen t.stage e) (seen-same inserts removes stages j t.stage m (omega arith) rise e (rw (without-insertion e.ins a p.0, without-removal e.removal_stage b p.1, p.2) refl))) xs h
+      implied (seen j e) (seen t.stage e) (seen-same inserts removes stages j t.stage m (omega arith) rise e
+      (rw (without-insertion e.ins a p.0, without-removal e.removal_stage b p.1, p.2) refl))) xs h
 
   -- up to the stage before nothing changes
   pub still-seen-before : (xs : List ListElement) → list_all (is_left inserts removes (t ∷ stages) j) xs ≡ true → StillSeen j (t.stage - 1) xs
@@ -381,11 +400,13 @@ module _ (inserts removes : SubOperation → Bool) (t : Stage) (stages : List St
       let q = both (not (seen (t.stage - 1) e && is_removed_by t.stage e)) (list_all (λ e. not (seen (t.stage - 1) e && is_removed_by t.stage e)) xs) k in
       rw (here p.0 q.0, still-seen-removal a xs p.1 q.1) refl
     where
-      unmarked : (o : Option ℕ) → list_any (λ s. elim s [ Acked s c ↦ false | Local i ↦ nat_eq i t.stage ]) (removal_stamp o) ≡ false → left_removal removes (t ∷ stages) j o ≡ true → left_removal removes stages j o ≡ true
+      unmarked : (o : Option ℕ) → list_any (λ s. elim s [ Acked s c ↦ false | Local i ↦ nat_eq i t.stage ]) (removal_stamp o) ≡ false
+          → left_removal removes (t ∷ stages) j o ≡ true → left_removal removes stages j o ≡ true
       unmarked None n h = refl
       unmarked (Some i) n h = step (nat_eq i t.stage) (nat_eq t.stage i) (nat_le i j) refl refl n h
         where
-          step : (x y z : Bool) → nat_eq i t.stage ≡ x → nat_eq t.stage i ≡ y → x || false ≡ false → z || ((y && removes t.sub_operation) || is_stage_of removes stages i) ≡ true → z || is_stage_of removes stages i ≡ true
+          step : (x y z : Bool) → nat_eq i t.stage ≡ x → nat_eq t.stage i ≡ y → x || false ≡ false → z
+              || ((y && removes t.sub_operation) || is_stage_of removes stages i) ≡ true → z || is_stage_of removes stages i ≡ true
           step true y z p q n h = (cc)
           step false true z p q n h = absurd (grind (arith, nat_tests))
           step false false z p q n h = h
@@ -403,7 +424,8 @@ module _ (inserts removes : SubOperation → Bool) (t : Stage) (stages : List St
           step true true a b c = (cc)
           step true false a b c = rw (sym (before p) ∙ b) refl
           step false y u b c =
-              implied (seen j e) (seen t.stage e) (seen-same inserts removes stages j t.stage m (omega arith) rise e (rw (without-insertion e.ins a parts.0, unmarked e.removal_stage u parts.1, parts.2) refl))
+              implied (seen j e) (seen t.stage e) (seen-same inserts removes stages j t.stage m (omega arith) rise e
+              (rw (without-insertion e.ins a parts.0, unmarked e.removal_stage u parts.1, parts.2) refl))
 
 -- ---- the intervals after all stages
 
@@ -411,7 +433,8 @@ no_insertion : (bs : List ElementContent) (o : SubOperation) → unless_empty bs
 no_insertion [] o h = refl
 no_insertion (b ∷ bs) o h = absurd cc
 
-module _ (doc : Document) (t : Stage) (stages : List Stage) (j m : ℕ) (l : j < t.stage) (rise : StagesRiseTo t.stage stages m) (left : list_all (is_left inserts_text removes_text (t ∷ stages) j) doc.text.items ≡ true) where
+module _ (doc : Document) (t : Stage) (stages : List Stage) (j m : ℕ) (l : j < t.stage) (rise : StagesRiseTo t.stage stages m)
+    (left : list_all (is_left inserts_text removes_text (t ∷ stages) j) doc.text.items ≡ true) where
   still-seen-text : (op : BaseOp) → t.sub_operation ≡ OnText op → text_pieces t.stage doc.text.items op ≡ [] → StillSeen j t.stage doc.text.items
   still-seen-text (Insert p seg props) e h =
       still-seen-other inserts_text removes_text t stages j m l rise (ap inserts_text e ∙ no_insertion (segment_contents seg) _ h) (ap removes_text e) doc.text.items left
@@ -435,29 +458,39 @@ module _ (doc : Document) (ys : List ListElement) (m : ℕ) (v : SameViews m doc
       omega arith
 
   -- each end is at the last stage in the end
-  pub shown-at : (stages : List Stage) (j : ℕ) (is : List Interval) → StagesRiseTo j stages m → list_all (is_left inserts_text removes_text stages j) xs ≡ true → list_all (has_ends_at j xs) is ≡ true
+  pub shown-at : (stages : List Stage) (j : ℕ) (is : List Interval) → StagesRiseTo j stages m → list_all (is_left inserts_text removes_text stages j) xs ≡ true
+      → list_all (has_ends_at j xs) is ≡ true
       → list_all (has_ends_at m xs) (shown_intervals xs is stages) ≡ true
   shown-at [] j is rise left h =
       still-ends j m xs
-      (all-weaker (is_left inserts_text removes_text [] j) (λ e. not (seen j e) || seen m e) (λ e q. implied (seen j e) (seen m e) (seen-same inserts_text removes_text [] j m m rise (omega arith) e q)) xs left) is h
+      (all-weaker (is_left inserts_text removes_text [] j) (λ e. not (seen j e) || seen m e)
+      (λ e q. implied (seen j e) (seen m e) (seen-same inserts_text removes_text [] j m m rise (omega arith) e q)) xs left) is h
   shown-at (t ∷ stages) j is rise left h =
       let b : j < t.stage = rise.0 in
       shown-at stages t.stage (intervals_after_stage t.sub_operation (settle_elements xs t.stage t.names) (settle_ends xs t.stage is)) rise.1
-      (all-weaker (is_left inserts_text removes_text (t ∷ stages) j) (is_left inserts_text removes_text stages t.stage) (λ e q. left-next inserts_text removes_text t stages j e b q) xs left)
+      (all-weaker (is_left inserts_text removes_text (t ∷ stages) j) (is_left inserts_text removes_text stages t.stage)
+      (λ e q. left-next inserts_text removes_text t stages j e b q) xs left)
       (after t.sub_operation)
     where
       after : (o : SubOperation) → list_all (has_ends_at t.stage xs) (intervals_after_stage o (settle_elements xs t.stage t.names) (settle_ends xs t.stage is)) ≡ true
       after (OnText op) = ends-at t.stage xs is
       after (OnGrid op) = ends-at t.stage xs is
       after (OnIntervals op) =
-          operation-held (has_named (seen t.stage) xs) op (settle_elements xs t.stage t.names) (settle_ends xs t.stage is) (rw (settle-at t.stage xs t.names.first, settle-at t.stage xs t.names.second) refl) (ends-at t.stage xs is)
+          operation-held (has_named (seen t.stage) xs) op (settle_elements xs t.stage t.names) (settle_ends xs t.stage is)
+          (rw (settle-at t.stage xs t.names.first, settle-at t.stage xs t.names.second) refl) (ends-at t.stage xs is)
 
   names-same : (k : ℕ) → 0 < k → k ≤ m → (names : NamedElements) → settle_elements ys k (settle_elements xs k names) ≡ settle_elements xs k names
-  names-same k p l names = rw (stays-other v d k p l (settle xs k names.first) (settle-at k xs names.first), stays-other v d k p l (settle xs k names.second) (settle-at k xs names.second)) refl
+  names-same k p l names = rw (
+    stays-other v d k p l (settle xs k names.first) (settle-at k xs names.first),
+    stays-other v d k p l (settle xs k names.second)
+        (settle-at k xs names.second),
+  ) refl
 
   -- a stage shows the intervals alike, if the later ones do
-  module _ (t : Stage) (stages : List Stage) (j : ℕ) (is : List Interval) (above : j < t.stage) (rise : StagesRiseTo t.stage stages m) (left : list_all (is_left inserts_text removes_text (t ∷ stages) j) xs ≡ true)
-      (h : list_all (has_ends_at j xs) is ≡ true) (later : (js : List Interval) → list_all (has_ends_at t.stage xs) js ≡ true → shown_intervals ys js (flat_map (carried_stage doc) stages) ≡ shown_intervals xs js stages) where
+  module _ (t : Stage) (stages : List Stage) (j : ℕ) (is : List Interval) (above : j < t.stage) (rise : StagesRiseTo t.stage stages m)
+      (left : list_all (is_left inserts_text removes_text (t ∷ stages) j) xs ≡ true)
+      (h : list_all (has_ends_at j xs) is ≡ true) (later : (js : List Interval) → list_all (has_ends_at t.stage xs) js ≡ true
+      → shown_intervals ys js (flat_map (carried_stage doc) stages) ≡ shown_intervals xs js stages) where
     within_last : t.stage ≤ m
     within_last = rise-below t.stage m stages rise
 
@@ -475,23 +508,28 @@ module _ (doc : Document) (ys : List ListElement) (m : ℕ) (v : SameViews m doc
         let e = still-ends j t.stage xs s is h in
         later is e ∙ ap (λ js. shown_intervals xs js stages) (sym (ends-stay t.stage xs d is e))
 
-    with_operation : (op : TextOp) → shown_intervals ys (after_interval_operation op (settle_elements ys t.stage (settle_elements xs t.stage t.names)) (settle_ends ys t.stage is)) (flat_map (carried_stage doc) stages)
+    with_operation : (op : TextOp) → shown_intervals ys (after_interval_operation op (settle_elements ys t.stage (settle_elements xs t.stage t.names))
+        (settle_ends ys t.stage is)) (flat_map (carried_stage doc) stages)
         ≡ shown_intervals xs (after_interval_operation op (settle_elements xs t.stage t.names) (settle_ends xs t.stage is)) stages
     with_operation op =
-        ap (λ names. shown_intervals ys (after_interval_operation op names (settle_ends ys t.stage is)) (flat_map (carried_stage doc) stages)) (names-same t.stage positive within_last t.names)
+        ap (λ names. shown_intervals ys (after_interval_operation op names (settle_ends ys t.stage is)) (flat_map (carried_stage doc) stages))
+        (names-same t.stage positive within_last t.names)
         ∙ ap (λ js. shown_intervals ys (after_interval_operation op (settle_elements xs t.stage t.names) js) (flat_map (carried_stage doc) stages)) same-ends
         ∙ later (after_interval_operation op (settle_elements xs t.stage t.names) (settle_ends xs t.stage is))
-        (operation-held (has_named (seen t.stage) xs) op (settle_elements xs t.stage t.names) (settle_ends xs t.stage is) (rw (settle-at t.stage xs t.names.first, settle-at t.stage xs t.names.second) refl) (ends-at t.stage xs is))
+        (operation-held (has_named (seen t.stage) xs) op (settle_elements xs t.stage t.names) (settle_ends xs t.stage is)
+        (rw (settle-at t.stage xs t.names.first, settle-at t.stage xs t.names.second) refl) (ends-at t.stage xs is))
 
     by_pieces : ((names : NamedElements) (js : List Interval) → intervals_after_stage t.sub_operation names js ≡ js) → (ps : List SubOperation) → (ps ≡ [] → StillSeen j t.stage xs)
         → shown_intervals ys is ((elim ps [ [] ↦ [] | _ ∷ _ ↦ t ∷ [] ]) ++ flat_map (carried_stage doc) stages) ≡ shown_intervals xs (settle_ends xs t.stage is) stages
     by_pieces n [] f = without_piece (f refl)
-    by_pieces n (p ∷ ps) f = ap (λ js. shown_intervals ys js (flat_map (carried_stage doc) stages)) (n (settle_elements ys t.stage t.names) (settle_ends ys t.stage is)) ∙ with_piece
+    by_pieces n (p ∷ ps) f = ap (λ js. shown_intervals ys js (flat_map (carried_stage doc) stages))
+        (n (settle_elements ys t.stage t.names) (settle_ends ys t.stage is)) ∙ with_piece
 
   stage-same : (k : ℕ) (o : SubOperation) (names : NamedElements) (stages : List Stage) (j : ℕ) (is : List Interval) → j < k → StagesRiseTo k stages m
       → list_all (is_left inserts_text removes_text (record { stage = k; sub_operation = o; names = names } ∷ stages) j) xs ≡ true → list_all (has_ends_at j xs) is ≡ true
       → ((js : List Interval) → list_all (has_ends_at k xs) js ≡ true → shown_intervals ys js (flat_map (carried_stage doc) stages) ≡ shown_intervals xs js stages)
-      → shown_intervals ys is (flat_map (carried_stage doc) (record { stage = k; sub_operation = o; names = names } ∷ stages)) ≡ shown_intervals xs is (record { stage = k; sub_operation = o; names = names } ∷ stages)
+      → shown_intervals ys is (flat_map (carried_stage doc) (record { stage = k; sub_operation = o; names = names } ∷ stages))
+      ≡ shown_intervals xs is (record { stage = k; sub_operation = o; names = names } ∷ stages)
   stage-same k (OnText op) names stages j is above rise left h later =
       let t : Stage = record { stage = k; sub_operation = OnText op; names = names } in
       by_pieces t stages j is above rise left h later (λ _ _. refl) (text_pieces k xs op) (λ e. still-seen-text doc t stages j m above rise left op refl e)
@@ -503,13 +541,15 @@ module _ (doc : Document) (ys : List ListElement) (m : ℕ) (v : SameViews m doc
       with_operation t stages j is above rise left h later op
 
   -- the intervals are shown alike, with the stages as they go on
-  pub intervals-same : (stages : List Stage) (j : ℕ) (is : List Interval) → StagesRiseTo j stages m → list_all (is_left inserts_text removes_text stages j) xs ≡ true → list_all (has_ends_at j xs) is ≡ true
+  pub intervals-same : (stages : List Stage) (j : ℕ) (is : List Interval) → StagesRiseTo j stages m → list_all (is_left inserts_text removes_text stages j) xs
+      ≡ true → list_all (has_ends_at j xs) is ≡ true
       → shown_intervals ys is (flat_map (carried_stage doc) stages) ≡ shown_intervals xs is stages
   intervals-same [] j is rise left h = refl
   intervals-same (t ∷ stages) j is rise left h =
       let b : j < t.stage = rise.0 in
       stage-same t.stage t.sub_operation t.names stages j is b rise.1 left h
-      (λ js g. intervals-same stages t.stage js rise.1 (all-weaker (is_left inserts_text removes_text (t ∷ stages) j) (is_left inserts_text removes_text stages t.stage) (λ e q. left-next inserts_text removes_text t stages j e b q) xs left) g)
+      (λ js g. intervals-same stages t.stage js rise.1 (all-weaker (is_left inserts_text removes_text (t ∷ stages) j)
+      (is_left inserts_text removes_text stages t.stage) (λ e q. left-next inserts_text removes_text t stages j e b q) xs left) g)
 
 -- ---- settled ends of an operation fit
 
@@ -527,7 +567,8 @@ pub named-filter : (test : ListElement → Bool) (x : ElementId) (xs : List List
 named-filter test x [] = refl
 named-filter test x (e ∷ xs) = step (same_id x (id e)) (test e) refl (named-filter test x xs)
   where
-    step : (a b : Bool) → same_id x (id e) ≡ a → has_named test xs x ≡ list_any (has_id x) (filter test xs) → (a && b) || has_named test xs x ≡ list_any (has_id x) (cond b (e ∷ filter test xs) (filter test xs))
+    step : (a b : Bool) → same_id x (id e) ≡ a → has_named test xs x ≡ list_any (has_id x) (filter test xs) → (a && b) || has_named test xs x
+        ≡ list_any (has_id x) (cond b (e ∷ filter test xs) (filter test xs))
     step true true p h = sym (ap (λ b. b || list_any (has_id x) (filter test xs)) p)
     step false true p h = h ∙ sym (ap (λ b. b || list_any (has_id x) (filter test xs)) p)
     step true false p h = h
@@ -570,7 +611,8 @@ rank-below is ok (e ∷ xs) h k =
     let p = both (not (is e) || ok e) (list_all (λ e. not (is e) || ok e) xs) h in
     step (is e) (ok e) p.0 k (rank-below is ok xs p.1)
   where
-    step : (a b : Bool) → not a || b ≡ true → a || list_any is xs ≡ true → (list_any is xs ≡ true → rank is ok xs < len ok xs) → cond a 0 (one_more_if b (rank is ok xs)) < one_more_if b (len ok xs)
+    step : (a b : Bool) → not a || b ≡ true → a || list_any is xs ≡ true → (list_any is xs ≡ true → rank is ok xs < len ok xs)
+        → cond a 0 (one_more_if b (rank is ok xs)) < one_more_if b (len ok xs)
     step true true h k g = omega arith
     step true false h k g = absurd cc
     step false true h k g = let r = g k in omega arith
@@ -584,7 +626,8 @@ any-has_id test x (e ∷ xs) h = step (same_id x (id e)) h (any-has_id test x xs
     step true h g = refl
     step false h g = g h
 
-end-place : (k : ℕ) (xs : List ListElement) → are_distinct xs ≡ true → (x : ElementId) → has_named (seen k) xs x ≡ true → nat_lt (rank (has_id x) (seen k) xs) (len (seen k) xs) ≡ true
+end-place : (k : ℕ) (xs : List ListElement) → are_distinct xs ≡ true → (x : ElementId) → has_named (seen k) xs x ≡ true
+    → nat_lt (rank (has_id x) (seen k) xs) (len (seen k) xs) ≡ true
 end-place k xs d x h = below (rank (has_id x) (seen k) xs) (len (seen k) xs) (rank-below (has_id x) (seen k) xs (only-named (seen k) xs d x h) (any-has_id (seen k) x xs h))
   where
     below : (p q : ℕ) → p < q → nat_lt p q ≡ true
@@ -600,7 +643,8 @@ ends-fit k xs d (Some x) (Some y) h =
     let p = both (list_any (has_id x) xs) (list_any (has_id y) xs) h in
     step (settle xs k (Some x)) (settle xs k (Some y)) refl refl (settle-at k xs (Some x)) (settle-at k xs (Some y)) p.0 p.1
   where
-    step : (u v : Option ElementId) → settle xs k (Some x) ≡ u → settle xs k (Some y) ≡ v → is_end_at k xs (settle xs k (Some x)) ≡ true → is_end_at k xs (settle xs k (Some y)) ≡ true → list_any (has_id x) xs ≡ true → list_any (has_id y) xs ≡ true
+    step : (u v : Option ElementId) → settle xs k (Some x) ≡ u → settle xs k (Some y) ≡ v → is_end_at k xs (settle xs k (Some x)) ≡ true
+        → is_end_at k xs (settle xs k (Some y)) ≡ true → list_any (has_id x) xs ≡ true → list_any (has_id y) xs ≡ true
         → ends_fit (len (seen k) xs) (record { start = end_number k xs u; end = end_number k xs v }) ≡ true
     step None None p q a b i j = refl
     step None (Some v) p q a b i j = absurd (cc (nowhere k xs x v i p (subst (λ o. is_end_at k xs o ≡ true) q b)))

@@ -36,7 +36,8 @@ few-left : (n : ℕ) → suc n ≤ 1 → n ≡ 0
 few-left n h = omega arith
 
 -- the element with the number of a named one is that one
-pub at-rank : (test : ListElement → Bool) (x : ElementId) (xs : List ListElement) → len (has_id x) xs ≤ 1 → has_named test xs x ≡ true → option_map id (at test (rank (has_id x) test xs) xs) ≡ Some x
+pub at-rank : (test : ListElement → Bool) (x : ElementId) (xs : List ListElement) → len (has_id x) xs ≤ 1 → has_named test xs x ≡ true
+    → option_map id (at test (rank (has_id x) test xs) xs) ≡ Some x
 at-rank test x [] l h = (cc)
 at-rank test x (e ∷ xs) l h = rank-step (has_id x e) refl l h (at-rank test x xs)
   where
@@ -49,7 +50,8 @@ at-rank test x (e ∷ xs) l h = rank-step (has_id x e) refl l h (at-rank test x 
         rw here (ap Some (sym (same_id-eq x (id e) f)))
     rank-step false f l h ih = ap (option_map id) (at-next test (rank (has_id x) test xs) e xs (test e) refl) ∙ ih l h
 
-pub rank-fits : (test : ListElement → Bool) (x : ElementId) (xs : List ListElement) → len (has_id x) xs ≤ 1 → has_named test xs x ≡ true → nat_lt (rank (has_id x) test xs) (len test xs) ≡ true
+pub rank-fits : (test : ListElement → Bool) (x : ElementId) (xs : List ListElement) → len (has_id x) xs ≤ 1 → has_named test xs x ≡ true
+    → nat_lt (rank (has_id x) test xs) (len test xs) ≡ true
 rank-fits test x [] l h = (cc)
 rank-fits test x (e ∷ xs) l h = fit-step (has_id x e) refl l h (rank-fits test x xs)
   where
@@ -98,11 +100,13 @@ module _ (ok : ListElement → Bool) (whole : List ListElement) where
   found-of [] last h l = l
   found-of (e ∷ xs) last h l = find-step (ok e) refl (found-of xs last (tail-of e xs h) l)
     where
-      find-step : (b : Bool) → ok e ≡ b → IsFound ok whole (option_map id (option_or (find ok xs) last)) → IsFound ok whole (option_map id (option_or (cond b (Some e) (find ok xs)) last))
+      find-step : (b : Bool) → ok e ≡ b → IsFound ok whole (option_map id (option_or (find ok xs) last))
+          → IsFound ok whole (option_map id (option_or (cond b (Some e) (find ok xs)) last))
       find-step true g ih = head-of e xs h g
       find-step false g ih = ih
 
-  settled-of : (is : ListElement → Bool) (xs : List ListElement) (last : Option ListElement) → AreOf xs → IsFound ok whole (option_map id last) → IsFound ok whole (option_map id (settled_after is ok last xs))
+  settled-of : (is : ListElement → Bool) (xs : List ListElement) (last : Option ListElement) → AreOf xs → IsFound ok whole (option_map id last)
+      → IsFound ok whole (option_map id (settled_after is ok last xs))
   settled-of is [] last h l = tt
   settled-of is (e ∷ xs) last h l = settle-step (is e) (settled-of is xs (cond (ok e) (Some e) last) (tail-of e xs h) (last-step (ok e) refl))
     where
@@ -128,11 +132,13 @@ some-found : (ok : ListElement → Bool) (xs : List ListElement) (last : Option 
 some-found ok [] last = refl
 some-found ok (e ∷ xs) last = find-step (ok e) (some-found ok xs last)
   where
-    find-step : (b : Bool) → is_some (option_or (find ok xs) last) ≡ list_any ok xs || is_some last → is_some (option_or (cond b (Some e) (find ok xs)) last) ≡ (b || list_any ok xs) || is_some last
+    find-step : (b : Bool) → is_some (option_or (find ok xs) last) ≡ list_any ok xs || is_some last → is_some (option_or (cond b (Some e) (find ok xs)) last)
+        ≡ (b || list_any ok xs) || is_some last
     find-step true h = refl
     find-step false h = h
 
-some-settled : (is ok : ListElement → Bool) (xs : List ListElement) (last : Option ListElement) → list_any is xs ≡ true → is_some (settled_after is ok last xs) ≡ list_any ok xs || is_some last
+some-settled : (is ok : ListElement → Bool) (xs : List ListElement) (last : Option ListElement) → list_any is xs ≡ true → is_some (settled_after is ok last xs)
+    ≡ list_any ok xs || is_some last
 some-settled is ok [] last h = (cc)
 some-settled is ok (e ∷ xs) last h = settle-step (is e) h (some-settled is ok xs (cond (ok e) (Some e) last))
   where
@@ -144,7 +150,8 @@ some-settled is ok (e ∷ xs) last h = settle-step (is e) h (some-settled is ok 
         or-true false = refl
     last-step false = refl
 
-    settle-step : (b : Bool) → b || list_any is xs ≡ true → (list_any is xs ≡ true → is_some (settled_after is ok (cond (ok e) (Some e) last) xs) ≡ list_any ok xs || is_some (cond (ok e) (Some e) last))
+    settle-step : (b : Bool) → b || list_any is xs ≡ true → (list_any is xs ≡ true → is_some (settled_after is ok (cond (ok e) (Some e) last) xs)
+        ≡ list_any ok xs || is_some (cond (ok e) (Some e) last))
         → is_some (cond b (option_or (find ok (e ∷ xs)) last) (settled_after is ok (cond (ok e) (Some e) last) xs)) ≡ (ok e || list_any ok xs) || is_some last
     settle-step true g ih = some-found ok (e ∷ xs) last
     settle-step false g ih = ih g ∙ last-step (ok e)
@@ -153,7 +160,8 @@ mapped-some : {A B : Type 0} (f : A → B) (o : Option A) → is_some (option_ma
 mapped-some f None = refl
 mapped-some f (Some x) = refl
 
-same-settled : (k : ℕ) (xs : List ListElement) (x y : ElementId) → list_any (has_id x) xs ≡ true → list_any (has_id y) xs ≡ true → is_some (settle xs k (Some x)) ≡ is_some (settle xs k (Some y))
+same-settled : (k : ℕ) (xs : List ListElement) (x y : ElementId) → list_any (has_id x) xs ≡ true → list_any (has_id y) xs ≡ true
+    → is_some (settle xs k (Some x)) ≡ is_some (settle xs k (Some y))
 same-settled k xs x y h g =
     mapped-some id (settled_after (has_id x) (seen k) None xs) ∙ some-settled (has_id x) (seen k) xs None h
     ∙ sym (mapped-some id (settled_after (has_id y) (seen k) None xs) ∙ some-settled (has_id y) (seen k) xs None g)
@@ -223,7 +231,8 @@ both-here xs (Some a) (Some b) h g = (h, g)
 both-here xs None b h g = absurd h
 both-here xs (Some a) None h g = absurd g
 
-two-ends : (test : ListElement → Bool) (xs : List ListElement) (s e : ℤ) → ends_fit (len test xs) (record { start = s; end = e }) ≡ true → AreThere xs (element_at_end test xs s) (element_at_end test xs e)
+two-ends : (test : ListElement → Bool) (xs : List ListElement) (s e : ℤ) → ends_fit (len test xs) (record { start = s; end = e }) ≡ true
+    → AreThere xs (element_at_end test xs s) (element_at_end test xs e)
 two-ends test xs (negsuc p) (negsuc q) h = tt
 two-ends test xs (negsuc p) (pos q) h = (cc)
 two-ends test xs (pos p) (negsuc q) h = absurd (no-end (both (nat_lt p (len test xs)) false h).1)
@@ -235,13 +244,15 @@ two-ends test xs (pos p) (pos q) h =
     both-here xs (option_map id (at test p xs)) (option_map id (at test q xs)) (place-here test p xs f.0) (place-here test q xs f.1)
 
 -- the elements at ends that fit are there
-pub ends-there : (test : ListElement → Bool) (xs : List ListElement) (ends : Ends) → ends_fit (len test xs) ends ≡ true → AreThere xs (elements_at_ends test xs ends).first (elements_at_ends test xs ends).second
+pub ends-there : (test : ListElement → Bool) (xs : List ListElement) (ends : Ends) → ends_fit (len test xs) ends ≡ true
+    → AreThere xs (elements_at_ends test xs ends).first (elements_at_ends test xs ends).second
 ends-there test xs ends h = two-ends test xs ends.start ends.end h
 
 -- ---- ends as numbers
 
 -- the numbers of ends that pass fit
-pub numbers-fit : (k : ℕ) (xs : List ListElement) (a b : Option ElementId) → Once xs → AreFound (seen k) xs a b → ends_fit (len (seen k) xs) (record { start = end_number k xs a; end = end_number k xs b }) ≡ true
+pub numbers-fit : (k : ℕ) (xs : List ListElement) (a b : Option ElementId) → Once xs → AreFound (seen k) xs a b
+    → ends_fit (len (seen k) xs) (record { start = end_number k xs a; end = end_number k xs b }) ≡ true
 numbers-fit k xs None None once h = refl
 numbers-fit k xs (Some a) (Some b) once h = rw (rank-fits (seen k) a xs (once a) h.0, rank-fits (seen k) b xs (once b) h.1) refl
 numbers-fit k xs (Some a) None once h = absurd h

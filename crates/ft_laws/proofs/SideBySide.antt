@@ -35,7 +35,8 @@ module _ {A : Type 0} (is see : A → Bool) where
       let p = both (see f) (list_all see front) h in
       step (is f) k p.0 (between front x mid back p.1)
     where
-      step : (b : Bool) → b || list_any is front ≡ false → see f ≡ true → (list_any is front ≡ false → is x ≡ true → put see no_run (rank is see (front ++ (x ∷ (mid ++ back)))) (x ∷ mid) (front ++ back) ≡ front ++ (x ∷ (mid ++ back)))
+      step : (b : Bool) → b || list_any is front ≡ false → see f ≡ true → (list_any is front ≡ false → is x ≡ true
+          → put see no_run (rank is see (front ++ (x ∷ (mid ++ back)))) (x ∷ mid) (front ++ back) ≡ front ++ (x ∷ (mid ++ back)))
           → put see no_run (cond b 0 (one_more_if (see f) (rank is see (front ++ (x ∷ (mid ++ back)))))) (x ∷ mid) (f ∷ (front ++ back)) ≡ f ∷ (front ++ (x ∷ (mid ++ back)))
       step true k s g = absurd cc
       step false k s g =
@@ -49,7 +50,8 @@ module _ {A : Type 0} (is see : A → Bool) where
 
 -- it is enough that the elements of the stage stand next to each other among those that are seen before or inserted by it
 pub side_by_side : (k : ℕ) (xs front mid back : List ListElement) → filter (is_seen_or_next k) xs ≡ front ++ (mid ++ back)
-    → list_all (seen k) front ≡ true → list_any (is_inserted_by (suc k)) front ≡ false → list_all (is_inserted_by (suc k)) mid ≡ true → list_all (seen k) back ≡ true → list_any (is_inserted_by (suc k)) back ≡ false
+    → list_all (seen k) front ≡ true → list_any (is_inserted_by (suc k)) front ≡ false → list_all (is_inserted_by (suc k)) mid ≡ true → list_all (seen k) back
+    ≡ true → list_any (is_inserted_by (suc k)) back ≡ false
     → StandSideBySide k xs
 side_by_side k xs front mid back e sf nf am sb nb =
     let S = seen k in
@@ -58,7 +60,8 @@ side_by_side k xs front mid back e sf nf am sb nb =
     let seen_ones : filter (seen k) xs ≡ front ++ back =
     sym (filter-twice (seen k) (is_seen_or_next k) (λ x h. or_left (seen k x) (is_inserted_by (suc k) x) h) xs) ∙ ap (filter (seen k)) e
     ∙ filter-append (seen k) front (mid ++ back) ∙ ap (λ us. us ++ filter (seen k) (mid ++ back)) (filter-whole S S (seen k) front sf)
-    ∙ ap (λ us. front ++ us) (filter-append (seen k) mid back ∙ ap (λ us. us ++ filter (seen k) back) (filter-none (seen k) mid (none-seen mid am)) ∙ filter-whole S S (seen k) back sb) in
+    ∙ ap (λ us. front ++ us) (filter-append (seen k) mid back ∙ ap (λ us. us ++ filter (seen k) back) (filter-none (seen k) mid (none-seen mid am))
+    ∙ filter-whole S S (seen k) back sb) in
     let block : filter (is_inserted_by (suc k)) xs ≡ mid =
     sym (filter-twice (is_inserted_by (suc k)) (is_seen_or_next k) (λ x h. second-false (seen k x) (is_inserted_by (suc k) x) h) xs) ∙ ap (filter (is_inserted_by (suc k))) e
     ∙ filter-append (is_inserted_by (suc k)) front (mid ++ back) ∙ ap (λ us. us ++ filter (is_inserted_by (suc k)) (mid ++ back)) (filter-none (is_inserted_by (suc k)) front nf)
@@ -66,7 +69,8 @@ side_by_side k xs front mid back e sf nf am sb nb =
     ∙ ap (λ us. mid ++ us) (filter-none (is_inserted_by (suc k)) back nb) ∙ append-nil mid in
     let position : stage_position (suc k) xs ≡ rank (is_inserted_by (suc k)) (seen k) (front ++ (mid ++ back)) =
     ap (λ i. rank (is_inserted_by (suc k)) (seen i) xs) (pred_suc k)
-    ∙ sym (rank-filter (is_inserted_by (suc k)) (seen k) (is_seen_or_next k) (λ x h. or_left (seen k x) (is_inserted_by (suc k) x) h) xs (all-always I I (λ x. not (is_inserted_by (suc k) x) || is_seen_or_next k x) (λ x. implied (is_inserted_by (suc k) x) (seen k x)) xs))
+    ∙ sym (rank-filter (is_inserted_by (suc k)) (seen k) (is_seen_or_next k) (λ x h. or_left (seen k x) (is_inserted_by (suc k) x) h) xs
+    (all-always I I (λ x. not (is_inserted_by (suc k) x) || is_seen_or_next k x) (λ x. implied (is_inserted_by (suc k) x) (seen k x)) xs))
     ∙ ap (rank (is_inserted_by (suc k)) (seen k)) e in
     rw (seen_ones, block, position) (e ∙ sym (placed mid am))
   where
@@ -82,7 +86,8 @@ side_by_side k xs front mid back e sf nf am sb nb =
     none-seen [] h = refl
     none-seen (y ∷ ys) h = let p = both (is_inserted_by (suc k) y) (list_all (is_inserted_by (suc k)) ys) h in rw (unseen-before (suc k) k y (omega arith) p.0) (none-seen ys p.1)
 
-    placed : (ys : List ListElement) → list_all (is_inserted_by (suc k)) ys ≡ true → put (seen k) no_run (rank (is_inserted_by (suc k)) (seen k) (front ++ (ys ++ back))) ys (front ++ back) ≡ front ++ (ys ++ back)
+    placed : (ys : List ListElement) → list_all (is_inserted_by (suc k)) ys ≡ true
+        → put (seen k) no_run (rank (is_inserted_by (suc k)) (seen k) (front ++ (ys ++ back))) ys (front ++ back) ≡ front ++ (ys ++ back)
     placed [] h = put-nothing (seen k) (rank (is_inserted_by (suc k)) (seen k) (front ++ back)) (front ++ back)
     placed (y ∷ ys) h = between (is_inserted_by (suc k)) (seen k) front y ys back sf nf (both (is_inserted_by (suc k) y) (list_all (is_inserted_by (suc k)) ys) h).0
 
@@ -92,11 +97,13 @@ wider-stage : (kind : SubOperation → Bool) (stages : List Stage) (k : ℕ) →
 wider-stage kind [] k h = h
 wider-stage kind (t ∷ stages) k h = step (nat_eq t.stage k) (kind t.sub_operation) h (wider-stage kind stages k)
   where
-    step : (a b : Bool) → (a && b) || is_stage_of kind stages k ≡ true → (is_stage_of kind stages k ≡ true → is_stage_of any_kind stages k ≡ true) → (a && true) || is_stage_of any_kind stages k ≡ true
+    step : (a b : Bool) → (a && b) || is_stage_of kind stages k ≡ true → (is_stage_of kind stages k ≡ true → is_stage_of any_kind stages k ≡ true)
+        → (a && true) || is_stage_of any_kind stages k ≡ true
     step true b h g = refl
     step false b h g = g h
 
-any-place : (inserts removes : SubOperation → Bool) (stages : List Stage) (m : ℕ) → StagesRiseTo 0 stages m → (list : Sequence) → IsInPlace inserts removes stages list → IsInPlace any_kind any_kind stages list
+any-place : (inserts removes : SubOperation → Bool) (stages : List Stage) (m : ℕ) → StagesRiseTo 0 stages m → (list : Sequence)
+    → IsInPlace inserts removes stages list → IsInPlace any_kind any_kind stages list
 any-place inserts removes stages m rise list h = record {
   marks = all-weaker (has_marks_of inserts removes stages) (has_marks_of any_kind any_kind stages) wider list.items h.marks;
   side_by_side = λ k _. all-side inserts removes stages m rise list h k;

@@ -131,11 +131,13 @@ standing-run k r c (PutIn p props items) xs h =
 standing-run k r c (TakenOut ranges) xs h =
     ap (is_one_run (is_inserted_by (suc k))) h.made
     ∙ none-one_run (is_inserted_by (suc k)) (after_pending r c (suc k) (TakenOut ranges) (list_up_to k xs))
-    (any-ranges (is_inserted_by (suc k)) (expects r c (suc (suc k))) (with_pending_removal (suc k)) (λ x. refl) ranges (list_up_to k xs) ∙ none-counted (is_inserted_by (suc k)) (list_up_to k xs) (none-later k xs))
+    (any-ranges (is_inserted_by (suc k)) (expects r c (suc (suc k))) (with_pending_removal (suc k)) (λ x. refl) ranges (list_up_to k xs)
+    ∙ none-counted (is_inserted_by (suc k)) (list_up_to k xs) (none-later k xs))
 standing-run k r c (Annotated ranges changes) xs h =
     ap (is_one_run (is_inserted_by (suc k))) h.made
     ∙ none-one_run (is_inserted_by (suc k)) (after_pending r c (suc k) (Annotated ranges changes) (list_up_to k xs))
-    (any-ranges (is_inserted_by (suc k)) (expects r c (suc (suc k))) (with_pending_annotation (suc k) changes) (λ x. refl) ranges (list_up_to k xs) ∙ none-counted (is_inserted_by (suc k)) (list_up_to k xs) (none-later k xs))
+    (any-ranges (is_inserted_by (suc k)) (expects r c (suc (suc k))) (with_pending_annotation (suc k) changes) (λ x. refl) ranges (list_up_to k xs)
+    ∙ none-counted (is_inserted_by (suc k)) (list_up_to k xs) (none-later k xs))
 
 -- ---- the same in the whole list
 
@@ -148,7 +150,8 @@ wide-reached k e h =
     let p = later-stamp k e.ins h in
     rw (p.0, p.1) refl
 
-mark-reached : (k : ℕ) (dels : List Stamp) (m : Option ℕ) → list_any (has_occurred_at_stage k) (dels ++ removal_stamp (removal_up_to (suc k) m)) ≡ list_any (has_occurred_at_stage k) (dels ++ removal_stamp m)
+mark-reached : (k : ℕ) (dels : List Stamp) (m : Option ℕ) → list_any (has_occurred_at_stage k) (dels ++ removal_stamp (removal_up_to (suc k) m))
+    ≡ list_any (has_occurred_at_stage k) (dels ++ removal_stamp m)
 mark-reached k dels None = refl
 mark-reached k [] (Some j) = grind (arith, nat_tests)
 mark-reached k (t ∷ dels) (Some j) = ap (λ b. has_occurred_at_stage k t || b) (mark-reached k dels (Some j))
@@ -161,7 +164,8 @@ wide-up_to k [] = refl
 wide-up_to k (e ∷ xs) = wide-step (is_upto (suc k) e) refl (wide k e) refl (wide-up_to k xs)
   where
     wide-step : (u : Bool) → is_upto (suc k) e ≡ u → (w : Bool) → wide k e ≡ w → filter (wide k) (list_up_to (suc k) xs) ≡ map (element_up_to (suc k)) (filter (wide k) xs)
-        → filter (wide k) (cond u (element_up_to (suc k) e ∷ list_up_to (suc k) xs) (list_up_to (suc k) xs)) ≡ map (element_up_to (suc k)) (cond w (e ∷ filter (wide k) xs) (filter (wide k) xs))
+        → filter (wide k) (cond u (element_up_to (suc k) e ∷ list_up_to (suc k) xs) (list_up_to (suc k) xs))
+        ≡ map (element_up_to (suc k)) (cond w (e ∷ filter (wide k) xs) (filter (wide k) xs))
     wide-step true h true g ih =
         let here : wide k (element_up_to (suc k) e) ≡ true = wide-same k e ∙ g in
         rw here (ap (λ ys. element_up_to (suc k) e ∷ ys) ih)
@@ -217,7 +221,8 @@ pub stage-side_by_side : (k : ℕ) (xs : List ListElement) → is_one_run (is_in
 stage-side_by_side k xs h =
     let is = is_inserted_by (suc k) in
     let run : is_one_run is (filter (wide k) xs) ≡ true =
-    sym (one_run-map is (element_up_to (suc k)) (λ e. refl) (filter (wide k) xs)) ∙ ap (is_one_run is) (sym (wide-up_to k xs)) ∙ filter-one_run is (wide k) (list_up_to (suc k) xs) h in
+    sym (one_run-map is (element_up_to (suc k)) (λ e. refl) (filter (wide k) xs)) ∙ ap (is_one_run is) (sym (wide-up_to k xs))
+    ∙ filter-one_run is (wide k) (list_up_to (suc k) xs) h in
     sym (one_run-put is (seen k) (filter (wide k) xs) (all-of-both k xs) run)
     ∙ ap (λ n. put (seen k) no_run n (filter is (filter (wide k) xs)) (filter (seen k) (filter (wide k) xs))) (rank-wide k xs ∙ ap (λ i. rank is (seen i) xs) (sym (pred_suc k)))
     ∙ ap (λ ys. put (seen k) no_run (stage_position (suc k) xs) ys (filter (seen k) (filter (wide k) xs))) (filter-twice is (wide k) (λ e g. (neither-wide k e g).1) xs)
@@ -229,7 +234,11 @@ pub none-of-stage : (n k : ℕ) (ks : List ℕ) (xs : List ListElement) → is_a
 none-of-stage n k ks [] h g = refl
 none-of-stage n k ks (e ∷ xs) h g =
     let p = both (is_within n ks e) (list_all (is_within n ks) xs) g in
-    rw (none-of-stamp e.ins (all_four (stamp_within n ks e.ins) (list_all (is_numbered n) e.dels) (mark_within ks e.removal_stage) (list_all (λ q. is_among ks q.0) e.pending) p.0).0, none-of-stage n k ks xs h p.1) refl
+    rw (
+      none-of-stamp e.ins (all_four (stamp_within n ks e.ins) (list_all (is_numbered n) e.dels) (mark_within ks e.removal_stage)
+          (list_all (λ q. is_among ks q.0) e.pending) p.0).0,
+      none-of-stage n k ks xs h p.1,
+    ) refl
   where
     none-of-stamp : (t : Stamp) → stamp_within n ks t ≡ true → is_of_stage k t ≡ false
     none-of-stamp (Acked s c) f = refl
@@ -250,12 +259,14 @@ none-up_to-any k j (e ∷ xs) h = grind (arith, none-up_to-any k j xs)
 abbrev pub AllRuns : List ListElement → Type 0
 AllRuns xs = (k : ℕ) → is_one_run (is_inserted_by (suc k)) (list_up_to (suc k) xs) ≡ true
 
-run-absent : (n k : ℕ) (ks : List ℕ) (xs : List ListElement) → is_among ks (suc k) ≡ false → list_all (is_within n ks) xs ≡ true → is_one_run (is_inserted_by (suc k)) (list_up_to (suc k) xs) ≡ true
+run-absent : (n k : ℕ) (ks : List ℕ) (xs : List ListElement) → is_among ks (suc k) ≡ false → list_all (is_within n ks) xs ≡ true
+    → is_one_run (is_inserted_by (suc k)) (list_up_to (suc k) xs) ≡ true
 run-absent n k ks xs h g = none-one_run (is_inserted_by (suc k)) (list_up_to (suc k) xs) (none-up_to-any (suc k) (suc k) xs (none-of-stage n (suc k) ks xs h g))
 
 module _ (c : ℕ) (doc : Document) (list : Document → List ListElement) (edit : SentStage → StageEdit)
     (stands : (t : ToldStage) → StageStands t.before t.ref c t.sent t.stage.names doc → IsStanding t.before t.ref c (edit t.sent) (list doc)) where
-  run-present : (k : ℕ) (ts : List ToldStage) → AllStand c doc ts → is_among (stage_numbers ts) (suc k) ≡ true → is_one_run (is_inserted_by (suc k)) (list_up_to (suc k) (list doc)) ≡ true
+  run-present : (k : ℕ) (ts : List ToldStage) → AllStand c doc ts → is_among (stage_numbers ts) (suc k) ≡ true
+      → is_one_run (is_inserted_by (suc k)) (list_up_to (suc k) (list doc)) ≡ true
   run-present k [] h g = (cc)
   run-present k (t ∷ ts) h g = run-step k t (is_among (stage_numbers ts) (suc k)) (nat_eq (suc k) (suc t.before)) refl g (run-present k ts h.1) h.0
     where
@@ -318,7 +329,8 @@ first-stamp n ks (Acked s c) h w g = refl
 first-stamp n ks (Local zero) h w g = absurd (true-false (sym w ∙ h))
 first-stamp n ks (Local (suc j)) h w g = absurd (grind (arith, nat_tests))
 
-pub first-view : (n : ℕ) (ks : List ℕ) (xs : List ListElement) → is_among ks 0 ≡ false → list_all (is_within n ks) xs ≡ true → filter (seen 0) (stage_list xs 0) ≡ filter (seen 0) xs
+pub first-view : (n : ℕ) (ks : List ℕ) (xs : List ListElement) → is_among ks 0 ≡ false → list_all (is_within n ks) xs ≡ true
+    → filter (seen 0) (stage_list xs 0) ≡ filter (seen 0) xs
 first-view n ks [] h w = refl
 first-view n ks (e ∷ xs) h w =
     let p = both (is_within n ks e) (list_all (is_within n ks) xs) w in
@@ -347,7 +359,8 @@ put-nothing test (suc p) [] = refl
 put-nothing test (suc p) (x ∷ xs) = grind (arith, put-nothing test p xs, put-nothing test (suc p) xs)
 
 pub no-stage : (xs : List ListElement) (k : ℕ) → filter (is_inserted_by (suc k)) xs ≡ [] → stage_list xs (suc k) ≡ stage_list xs k
-no-stage xs k h = ap (λ new. put (seen (suc k - 1)) no_run (stage_position (suc k) xs) new (stage_list xs k)) h ∙ put-nothing (seen (suc k - 1)) (stage_position (suc k) xs) (stage_list xs k)
+no-stage xs k h = ap (λ new. put (seen (suc k - 1)) no_run (stage_position (suc k) xs) new (stage_list xs k)) h
+    ∙ put-nothing (seen (suc k - 1)) (stage_position (suc k) xs) (stage_list xs k)
 
 no-stages : (xs : List ListElement) (d j : ℕ) → ((i : ℕ) → j ≤ i → i < d + j → filter (is_inserted_by (suc i)) xs ≡ []) → stage_list xs (d + j) ≡ stage_list xs j
 no-stages xs zero j h = ap (stage_list xs) (omega arith)
@@ -378,13 +391,15 @@ absent-later : (b i : ℕ) (ks : List ℕ) → suc b ≤ i → is_among ks (suc 
 absent-later b i ks l h = rw (above-number (suc i) (suc b) (omega arith)) h
 
 -- stages put in one after another are those of the numbers up to the last
-pub stages-put : (xs : List ListElement) (j last : ℕ) (ts : List ToldStage) → Rise j last ts → ((i : ℕ) → j ≤ i → i < last → is_among (stage_numbers ts) (suc i) ≡ false → filter (is_inserted_by (suc i)) xs ≡ [])
+pub stages-put : (xs : List ListElement) (j last : ℕ) (ts : List ToldStage) → Rise j last ts
+    → ((i : ℕ) → j ≤ i → i < last → is_among (stage_numbers ts) (suc i) ≡ false → filter (is_inserted_by (suc i)) xs ≡ [])
     → put_stages xs (stage_list xs j) (stage_numbers ts) ≡ stage_list xs last
 stages-put xs j last [] rise h = sym (gap xs j last rise (λ i l k. h i l k refl))
 stages-put xs j last (t ∷ ts) rise h =
     let below : j ≤ t.before = rise.0 in
     let above : suc t.before ≤ last = rise-last (suc t.before) last ts rise.1 in
-    let first : stage_list xs t.before ≡ stage_list xs j = gap xs j t.before below (λ i l k. h i l (omega arith) (absent-first t.before i (stage_numbers ts) k (rise-absent (suc i) (suc t.before) last ts (omega arith) rise.1))) in
+    let first : stage_list xs t.before ≡ stage_list xs j = gap xs j t.before below
+    (λ i l k. h i l (omega arith) (absent-first t.before i (stage_numbers ts) k (rise-absent (suc i) (suc t.before) last ts (omega arith) rise.1))) in
     ap (λ ys. put_stages xs (put_stage xs ys (suc t.before)) (stage_numbers ts)) (sym first)
     ∙ stages-put xs (suc t.before) last ts rise.1 (λ i l k g. h i (omega arith) k (absent-later t.before i (stage_numbers ts) l g))
 
@@ -424,7 +439,8 @@ none-filtered is [] h = refl
 none-filtered is (e ∷ xs) h = grind (arith, none-filtered is xs)
 
 -- a reconnection leaves the view of each stage of a list as it is
-pub list-views : (n k last : ℕ) (ts : List ToldStage) (list : Sequence) → k ≤ last → Rise 0 last ts → list_all (is_within n (stage_numbers ts)) list.items ≡ true → AllRuns list.items
+pub list-views : (n k last : ℕ) (ts : List ToldStage) (list : Sequence) → k ≤ last → Rise 0 last ts → list_all (is_within n (stage_numbers ts)) list.items
+    ≡ true → AllRuns list.items
     → filter (seen k) (rebuilt_list (stage_numbers ts) list).items ≡ filter (seen k) list.items
 list-views n k last ts list l rise w runs =
     let xs = list.items in

@@ -183,7 +183,8 @@ same-head b x y e f = rw (e, f) refl
 not-meant : (b : ElementId) (x : ListElement) → has_id b x ≡ false → is_meant b x ≡ false
 not-meant b x h = rw h (never (is_sequenced x))
 
-first-slid-step : (b : ElementId) (x y : ListElement) (xs ys : List ListElement) → Once (x ∷ xs) → MoreRemoved (x ∷ xs) (y ∷ ys) → (first_unremoved xs ≡ Some b → slid b ys ≡ first_unremoved ys)
+first-slid-step : (b : ElementId) (x y : ListElement) (xs ys : List ListElement) → Once (x ∷ xs) → MoreRemoved (x ∷ xs) (y ∷ ys)
+    → (first_unremoved xs ≡ Some b → slid b ys ≡ first_unremoved ys)
     → (t : Bool) → is_unremoved x ≡ t → cond t (Some (id x)) (first_unremoved xs) ≡ Some b → slid b (y ∷ ys) ≡ first_unremoved (y ∷ ys)
 first-slid-step b x y xs ys once h ih true e f =
     let same : id x ≡ b = (cc) in
@@ -239,7 +240,8 @@ again-last a x y xs ys once h none ih false e =
     rw (gone, ← ih) refl
 
 again-behind : (a : ElementId) (x y : ListElement) (xs ys : List ListElement) → Once (x ∷ xs) → MoreRemoved (x ∷ xs) (y ∷ ys) → list_any (is_meant a) xs ≡ true
-    → (o : Option ElementId) → slid a xs ≡ o → slid_again o ys ≡ slid a ys → slid_again (option_or o (some_if (is_unremoved x) x)) (y ∷ ys) ≡ option_or (slid a ys) (some_if (is_unremoved y) y)
+    → (o : Option ElementId) → slid a xs ≡ o → slid_again o ys ≡ slid a ys → slid_again (option_or o (some_if (is_unremoved x) x)) (y ∷ ys)
+    ≡ option_or (slid a ys) (some_if (is_unremoved y) y)
 again-behind a x y xs ys once h there (Some b) e ih =
     let found = slid-meant a b xs e in
     let here : is_meant b y ≡ false = same-head b x y h.0 h.1 ∙ not-meant b x (not-head b x xs once found) in

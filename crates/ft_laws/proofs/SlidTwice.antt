@@ -45,7 +45,15 @@ module _ {A : Type 0} where
     where
       step : (b : Bool) → test x ≡ b → FirstOf test xs → FirstOf test (x ∷ xs)
       step true e o = FirstOf.found (record { front = []; here = x; back = xs; whole = refl; passes = e; none = refl })
-      step false e (FirstOf.found s) = FirstOf.found (record { front = x ∷ s.front; here = s.here; back = s.back; whole = ap (λ ys. x ∷ ys) s.whole; passes = s.passes; none = rw e s.none })
+      step false e (FirstOf.found s) = FirstOf.found (record {
+        front = x ∷ s.front;
+        here = s.here;
+        back = s.back;
+        whole = ap (λ ys. x ∷ ys) s.whole;
+        passes =
+            s.passes;
+        none = rw e s.none;
+      })
       step false e (FirstOf.absent n) = FirstOf.absent (rw e n)
 
   last_of_list : (test : A → Bool) (xs : List A) → LastOf test xs
@@ -79,8 +87,10 @@ module _ {A : Type 0} where
   settled-at is ok last [] here back n h = rw h refl
   settled-at is ok last (x ∷ front) here back n h = step (is x) n (settled-at is ok (cond (ok x) (Some x) last) front here back)
     where
-      step : (b : Bool) → b || list_any is front ≡ false → (list_any is front ≡ false → is here ≡ true → settled_after is ok (cond (ok x) (Some x) last) (front ++ (here ∷ back)) ≡ option_or (find ok (here ∷ back)) (last_ok ok (cond (ok x) (Some x) last) front))
-          → cond b (option_or (find ok (x ∷ (front ++ (here ∷ back)))) last) (settled_after is ok (cond (ok x) (Some x) last) (front ++ (here ∷ back))) ≡ option_or (find ok (here ∷ back)) (last_ok ok (cond (ok x) (Some x) last) front)
+      step : (b : Bool) → b || list_any is front ≡ false → (list_any is front ≡ false → is here ≡ true
+          → settled_after is ok (cond (ok x) (Some x) last) (front ++ (here ∷ back)) ≡ option_or (find ok (here ∷ back)) (last_ok ok (cond (ok x) (Some x) last) front))
+          → cond b (option_or (find ok (x ∷ (front ++ (here ∷ back)))) last) (settled_after is ok (cond (ok x) (Some x) last) (front ++ (here ∷ back)))
+          ≡ option_or (find ok (here ∷ back)) (last_ok ok (cond (ok x) (Some x) last) front)
       step true n g = (cc)
       step false n g = g n h
 
@@ -156,7 +166,8 @@ module _ {A : Type 0} (name : A → ElementId) where
         ∙ sym (ap (option_or (find fewer rest)) (last-append fewer None front (y ∷ mid) ∙ last-none fewer (cond (fewer y) (Some y) (last_ok fewer None front)) mid n')
         ∙ ap (λ o. option_or o (cond (fewer y) (Some y) (last_ok fewer None front))) (find-none fewer rest m'))
       where
-        chosen : (b : Bool) → find fewer (mid ++ rest) ≡ None → option_or (cond b (Some y) (find fewer (mid ++ rest))) (last_ok fewer None front) ≡ cond b (Some y) (last_ok fewer None front)
+        chosen : (b : Bool) → find fewer (mid ++ rest) ≡ None → option_or (cond b (Some y) (find fewer (mid ++ rest))) (last_ok fewer None front)
+            ≡ cond b (Some y) (last_ok fewer None front)
         chosen true e = refl
         chosen false e = ap (λ o. option_or o (last_ok fewer None front)) e
 
@@ -183,7 +194,8 @@ module _ {A : Type 0} (name : A → ElementId) where
     twice-first front rest d (FirstOf.found s) =
         let d' = subst (λ xs. Apart name (front ++ xs)) s.whole d in
         subst (λ xs. again (front ++ xs) (option_or (find ok xs) (last_ok ok None front)) ≡ option_or (find fewer xs) (last_ok fewer None front)) (sym s.whole)
-        (ap (λ o. again (front ++ (s.front ++ (s.here ∷ s.back))) (option_or o (last_ok ok None front))) (find-first s.front s.here s.back s.none s.passes) ∙ again-next front s.front s.here s.back d' s.none)
+        (ap (λ o. again (front ++ (s.front ++ (s.here ∷ s.back))) (option_or o (last_ok ok None front))) (find-first s.front s.here s.back s.none s.passes)
+        ∙ again-next front s.front s.here s.back d' s.none)
 
     -- settling among some and then among fewer is settling among the fewer
     settled-twice : (x : ElementId) (xs : List A) → Apart name xs → FirstOf (λ e. same_id x (name e)) xs → again xs (settled_by ok x xs) ≡ settled_by fewer x xs

@@ -86,7 +86,8 @@ fresh-step n m e l h = grind (arith, nat_tests)
 pending-step : (n k m : ℕ) (e : ListElement) → is_numbered_below n e ≡ true → has_id (PendingId k m) e ≡ false
 pending-step n k m e h = grind (arith, nat_tests)
 
-none-has : (a : ElementId) (n : ℕ) → ((e : ListElement) → is_numbered_below n e ≡ true → has_id a e ≡ false) → (xs : List ListElement) → list_all (is_numbered_below n) xs ≡ true → len (has_id a) xs ≡ 0
+none-has : (a : ElementId) (n : ℕ) → ((e : ListElement) → is_numbered_below n e ≡ true → has_id a e ≡ false) → (xs : List ListElement)
+    → list_all (is_numbered_below n) xs ≡ true → len (has_id a) xs ≡ 0
 none-has a n f [] h = refl
 none-has a n f (e ∷ xs) h =
     let p = both (is_numbered_below n e) (list_all (is_numbered_below n) xs) h in
@@ -123,7 +124,13 @@ ends-stand xs (i ∷ is) h =
     (end-stands xs i.start q.0, end-stands xs i.end q.1, ends-stand xs is p.1)
 
 pub consistent-sound : (doc : Document) → IsConsistent doc → IsSound doc
-consistent-sound doc h = record { named = numbered-named doc.text h.text; ends = ends-stand doc.text.items doc.intervals h.ends; rows = numbered-named doc.rows h.rows; cols = numbered-named doc.cols h.cols }
+consistent-sound doc h = record {
+  named = numbered-named doc.text h.text;
+  ends = ends-stand doc.text.items doc.intervals h.ends;
+  rows = numbered-named doc.rows
+      h.rows;
+  cols = numbered-named doc.cols h.cols;
+}
 
 -- ---- the client
 
@@ -153,7 +160,14 @@ start-holds bound start h =
 
 pub empty-sound : IsSoundStart empty
 empty-sound = record {
-  consistent = record { text = record { below = refl; distinct = refl }; rows = record { below = refl; distinct = refl }; cols = record { below = refl; distinct = refl }; ends = refl; cells = refl };
+  consistent = record {
+    text = record { below = refl; distinct = refl };
+    rows = record { below = refl; distinct = refl };
+    cols = record
+        { below = refl; distinct = refl };
+    ends = refl;
+    cells = refl;
+  };
   numbers = omega arith;
   text = refl;
   rows = refl;

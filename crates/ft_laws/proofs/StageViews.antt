@@ -28,7 +28,8 @@ module _ {A : Type 0} where
   filter-append test (x ∷ xs) ys = grind (arith, filter-append test xs ys)
 
   -- a test that passes wherever the place looks goes through an insertion
-  filter-put : (test place : A → Bool) → ((x : A) → test x ≡ false → place x ≡ false) → (p : ℕ) (new xs : List A) → filter test (put place no_run p new xs) ≡ put place no_run p (filter test new) (filter test xs)
+  filter-put : (test place : A → Bool) → ((x : A) → test x ≡ false → place x ≡ false) → (p : ℕ) (new xs : List A) → filter test (put place no_run p new xs)
+      ≡ put place no_run p (filter test new) (filter test xs)
   filter-put test place h zero new xs = ap (filter test) (put_past-no_run new xs) ∙ filter-append test new xs ∙ sym (put_past-no_run (filter test new) (filter test xs))
   filter-put test place h (suc p) new [] = refl
   filter-put test place h (suc p) new (x ∷ xs) = grind (arith, filter-put test place h p new xs, filter-put test place h (suc p) new xs, h x)
@@ -134,7 +135,8 @@ module _ (xs : List ListElement) where
         let p = stage_position (suc k) xs in
         ap (λ i. filter (is_seen_or_next k) (put (seen i) no_run p block (stage_list xs k))) (pred_suc k)
         ∙ filter-put (is_seen_or_next k) (seen k) (λ e q. or_first (seen k e) (is_inserted_by (suc k) e) q) p block (stage_list xs k)
-        ∙ ap (λ ys. put (seen k) no_run p ys (filter (is_seen_or_next k) (stage_list xs k))) (filter-all (is_seen_or_next k) (is_inserted_by (suc k)) (λ e q. or_second (seen k e) (is_inserted_by (suc k) e) q) xs)
+        ∙ ap (λ ys. put (seen k) no_run p ys (filter (is_seen_or_next k) (stage_list xs k)))
+        (filter-all (is_seen_or_next k) (is_inserted_by (suc k)) (λ e q. or_second (seen k e) (is_inserted_by (suc k) e) q) xs)
         ∙ ap (put (seen k) no_run p block) (filter-or (seen k) (is_inserted_by (suc k)) (stage_list xs k) (later-absent k (suc k) (omega arith)) ∙ h)
         ∙ sym (side k)
       where
@@ -154,7 +156,8 @@ module _ (xs : List ListElement) where
         ∙ filter-twice (seen (suc k)) (is_seen_or_next k) (seen-next k) xs
 
     -- what a later stage inserts isn't seen
-    test-later : (test : ListElement → Bool) (k : ℕ) → ((j : ℕ) (e : ListElement) → k < j → is_inserted_by j e ≡ true → test e ≡ false) → (m : ℕ) → k ≤ m → filter test (stage_list xs m) ≡ filter test (stage_list xs k)
+    test-later : (test : ListElement → Bool) (k : ℕ) → ((j : ℕ) (e : ListElement) → k < j → is_inserted_by j e ≡ true → test e ≡ false) → (m : ℕ) → k ≤ m
+        → filter test (stage_list xs m) ≡ filter test (stage_list xs k)
     test-later test k h zero l = let e : zero ≡ k = omega arith in ap (λ i. filter test (stage_list xs i)) e
     test-later test k h (suc m) l = elim (cases_lt k (suc m)) [
       | inl b ↦
@@ -179,10 +182,12 @@ module _ (xs : List ListElement) where
             apart (Local i) h = grind (arith, nat_tests)
 
   -- what all elements pass, and after the reconnection too, those of the rebuilt list pass
-  pub all-rebuilt : (P : ListElement → Bool) → ((e : ListElement) → P e ≡ true → P (carried_element e) ≡ true) → list_all P xs ≡ true → (m : ℕ) → list_all P (stage_list xs m) ≡ true
+  pub all-rebuilt : (P : ListElement → Bool) → ((e : ListElement) → P e ≡ true → P (carried_element e) ≡ true) → list_all P xs ≡ true → (m : ℕ)
+      → list_all P (stage_list xs m) ≡ true
   all-rebuilt P h k zero = all-retain_map P is_sequenced carried_element h xs k
   all-rebuilt P h k (suc m) =
-      all-put P (seen (suc m - 1)) no_run (stage_position (suc m) xs) (filter (is_inserted_by (suc m)) xs) (stage_list xs m) (all-filter P (is_inserted_by (suc m)) xs k) (all-rebuilt P h k m)
+      all-put P (seen (suc m - 1)) no_run (stage_position (suc m) xs) (filter (is_inserted_by (suc m)) xs) (stage_list xs m)
+      (all-filter P (is_inserted_by (suc m)) xs k) (all-rebuilt P h k m)
 
   -- ---- only the pending stages count
 
@@ -224,7 +229,8 @@ module _ (xs : List ListElement) where
       let b : j < t.stage = h.0 in
       let r : t.stage ≤ m = rise-below t.stage m stages h.1 in
       ap (λ ys. put_stages xs (put_stage xs ys t.stage) (map (λ t. t.stage) stages))
-      (sym (same-until j (t.stage - 1) (omega arith) (λ i a c. absent i a (omega arith) (rw (apart t.stage i (omega arith)) (rise-absent inserts i t.stage m stages h.1 (omega arith))))))
+      (sym (same-until j (t.stage - 1) (omega arith) (λ i a c. absent i a (omega arith)
+      (rw (apart t.stage i (omega arith)) (rise-absent inserts i t.stage m stages h.1 (omega arith))))))
       ∙ ap (λ ys. put_stages xs ys (map (λ t. t.stage) stages)) (put-next t.stage (omega arith))
       ∙ put_stages-all inserts stages t.stage m h.1 (λ i a r c. absent i (omega arith) r (rw (apart' t.stage i a) c))
     where

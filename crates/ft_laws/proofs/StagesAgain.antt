@@ -57,7 +57,8 @@ stage_as k o names = record { stage = k; sub_operation = o; names = names }
 nowhere : TextOp
 nowhere = IntervalDelete [] []
 
-interval-place : (doc : Document) (k : ℕ) (names : NamedElements) (op : TextOp) → ends_alike (OnIntervals op) (interval_piece k doc.text.items (settle_elements doc.text.items k names) op) ≡ true
+interval-place : (doc : Document) (k : ℕ) (names : NamedElements) (op : TextOp)
+    → ends_alike (OnIntervals op) (interval_piece k doc.text.items (settle_elements doc.text.items k names) op) ≡ true
 interval-place doc k names (One op) = refl
 interval-place doc k names (Group ops) = refl
 interval-place doc k names (IntervalAdd label id ends props) = refl
@@ -94,7 +95,15 @@ tells-retold doc k own (OnText (Annotate p q changes)) = record {
   made = λ d. refl;
 }
 tells-retold doc k own (OnIntervals op) = record {
-  place = record { first = 0; second = 0; ranges = []; other = interval_piece k doc.text.items (settle_elements doc.text.items k own) op; alike = interval-place doc k own op; made = refl };
+  place = record {
+    first = 0;
+    second = 0;
+    ranges = [];
+    other = interval_piece k doc.text.items (settle_elements doc.text.items k own) op;
+    alike =
+        interval-place doc k own op;
+    made = refl;
+  };
   intervals = λ names is. interval-same doc k (settle_elements doc.text.items k own) names op is;
   cells = λ names cells. refl;
   made = λ d. refl;
@@ -112,7 +121,14 @@ tells-retold doc k own (OnGrid (SpliceOut target p q)) = record {
   made = λ d. refl;
 }
 tells-retold doc k own (OnGrid (Set i j value)) = record {
-  place = record { first = position_of_named (k - 1) doc.rows.items own.first; second = position_of_named (k - 1) doc.cols.items own.second; ranges = []; other = nowhere; alike = refl; made = refl };
+  place = record {
+    first = position_of_named (k - 1) doc.rows.items own.first;
+    second = position_of_named (k - 1) doc.cols.items own.second;
+    ranges = [];
+    other = nowhere;
+    alike = refl;
+    made = refl;
+  };
   intervals = λ names is. refl;
   cells = λ names cells. refl;
   made = λ d. refl;
@@ -145,13 +161,16 @@ kept-parts n ks (e ∷ xs) h =
 
 module _ (n last : ℕ) (ts : List ToldStage) (list : Sequence) (ready : CanBeRebuilt n last ts list) where
   list-whole : (rebuilt_list (stage_numbers ts) list).items ≡ stage_list list.items last
-  list-whole = stages-put list.items 0 last ts ready.rising (λ i m o absent. none-filtered (is_inserted_by (suc i)) list.items (none-of-stage n (suc i) (stage_numbers ts) list.items absent ready.within))
+  list-whole = stages-put list.items 0 last ts ready.rising (λ i m o absent. none-filtered (is_inserted_by (suc i)) list.items
+      (none-of-stage n (suc i) (stage_numbers ts) list.items absent ready.within))
 
   list-kept : list_all (is_kept n (stage_numbers ts)) list.items ≡ true
   list-kept = all-kept n (stage_numbers ts) list.items ready.within ready.order
 
-  rebuilt-parts : (list_all (is_within n (stage_numbers ts)) (rebuilt_list (stage_numbers ts) list).items ≡ true) × (list_all is_ordered (rebuilt_list (stage_numbers ts) list).items ≡ true)
-  rebuilt-parts = kept-parts n (stage_numbers ts) (rebuilt_list (stage_numbers ts) list).items (ap (list_all (is_kept n (stage_numbers ts))) list-whole ∙ rebuilt-kept n last (stage_numbers ts) list.items list-kept)
+  rebuilt-parts : (list_all (is_within n (stage_numbers ts)) (rebuilt_list (stage_numbers ts) list).items ≡ true)
+      × (list_all is_ordered (rebuilt_list (stage_numbers ts) list).items ≡ true)
+  rebuilt-parts = kept-parts n (stage_numbers ts) (rebuilt_list (stage_numbers ts) list).items
+      (ap (list_all (is_kept n (stage_numbers ts))) list-whole ∙ rebuilt-kept n last (stage_numbers ts) list.items list-kept)
 
   pub rebuilt-within : list_all (is_within n (stage_numbers ts)) (rebuilt_list (stage_numbers ts) list).items ≡ true
   rebuilt-within = rebuilt-parts.0
@@ -161,11 +180,14 @@ module _ (n last : ℕ) (ts : List ToldStage) (list : Sequence) (ready : CanBeRe
 
   module _ (conn k : ℕ) (below : k < last) where
     list-view : filter (seen k) (stage_list list.items k) ≡ filter (seen k) list.items
-    list-view = stage_view-rebuilt list.items (side_by_side list.items ready.runs) (first-view n (stage_numbers ts) list.items (rise-absent 0 0 last ts (omega arith) ready.rising) ready.within) k
+    list-view = stage_view-rebuilt list.items (side_by_side list.items ready.runs)
+        (first-view n (stage_numbers ts) list.items (rise-absent 0 0 last ts (omega arith) ready.rising) ready.within) k
 
-    pub list-again : (r d : ℕ) (edit : StageEdit) → IsStanding k r d edit list.items → IsStanding k n conn (sent_again k list.items edit) (rebuilt_list (stage_numbers ts) list).items
+    pub list-again : (r d : ℕ) (edit : StageEdit) → IsStanding k r d edit list.items
+        → IsStanding k n conn (sent_again k list.items edit) (rebuilt_list (stage_numbers ts) list).items
     list-again r d edit h =
-        subst (λ ys. IsStanding k n conn (sent_again k list.items edit) ys) (sym list-whole) (stands-again n conn k last (stage_numbers ts) list.items below list-kept list-view r d edit h)
+        subst (λ ys. IsStanding k n conn (sent_again k list.items edit) ys) (sym list-whole)
+        (stands-again n conn k last (stage_numbers ts) list.items below list-kept list-view r d edit h)
 
     pub untouched-again : (r d : ℕ) → IsStanding k r d (TakenOut []) list.items → IsStanding k n conn (TakenOut []) (rebuilt_list (stage_numbers ts) list).items
     untouched-again r d h =
@@ -177,7 +199,8 @@ module _ (n last : ℕ) (ts : List ToldStage) (list : Sequence) (ready : CanBeRe
     length-now = ap (λ ys. len (expects n conn (suc (suc k))) (list_up_to k ys)) list-whole ∙ length-again n conn k last (stage_numbers ts) list.items below list-kept list-view
 
     place-now : (i : ℕ) → option_map id (at (expects n conn (suc (suc k))) i (list_up_to k (rebuilt_list (stage_numbers ts) list).items)) ≡ option_map id (at (seen k) i list.items)
-    place-now i = ap (λ ys. option_map id (at (expects n conn (suc (suc k))) i (list_up_to k ys))) list-whole ∙ place-again n conn k last (stage_numbers ts) list.items below list-kept list-view i
+    place-now i = ap (λ ys. option_map id (at (expects n conn (suc (suc k))) i (list_up_to k ys))) list-whole
+        ∙ place-again n conn k last (stage_numbers ts) list.items below list-kept list-view i
 
     views-now : (r d : ℕ) → IsStanding k r d (TakenOut []) list.items → Each (λ e. seen (suc k) e ≡ seen k e) list.items
     views-now r d h = free-views n k (stage_numbers ts) list.items ready.within (standing-free k r d list.items ready.order h)
@@ -190,7 +213,8 @@ module _ (n last : ℕ) (ts : List ToldStage) (list : Sequence) (ready : CanBeRe
     unit-named r d (Some x) h g =
         let named = sym (named-each (seen (suc k)) (seen k) list.items x (views-now r d h)) ∙ g in
         let here =
-        ap (λ i. option_map id (at (expects n conn (suc (suc k))) (position_of_named i list.items (Some x)) (list_up_to k (rebuilt_list (stage_numbers ts) list).items))) (pred_suc k)
+        ap (λ i. option_map id (at (expects n conn (suc (suc k))) (position_of_named i list.items (Some x))
+        (list_up_to k (rebuilt_list (stage_numbers ts) list).items))) (pred_suc k)
         ∙ place-now (position_of_named k list.items (Some x)) ∙ at-rank (seen k) x list.items (ready.once x) named in
         subst (λ p. IsOneName p (Some x)) (sym here) refl
 
@@ -215,13 +239,16 @@ module _ (n last : ℕ) (ts : List ToldStage) (list : Sequence) (ready : CanBeRe
     given-there r d None names h e = subst (λ ns. AreThere list.items ns.first ns.second) e tt
     given-there r d (Some ends) names h e =
         subst (λ ns. AreThere list.items ns.first ns.second) e
-        (up_to-there list.items (elements_at_ends (expects r d (suc (suc k))) (list_up_to k list.items) ends).first (elements_at_ends (expects r d (suc (suc k))) (list_up_to k list.items) ends).second
+        (up_to-there list.items (elements_at_ends (expects r d (suc (suc k))) (list_up_to k list.items) ends).first
+        (elements_at_ends (expects r d (suc (suc k))) (list_up_to k list.items) ends).second
         (ends-there (expects r d (suc (suc k))) (list_up_to k list.items) ends h))
 
     -- the settled ends are those of the operation that is sent again
     ends-now : (r d : ℕ) (names : NamedElements) → IsStanding k r d (TakenOut []) list.items → AreThere list.items names.first names.second
-        → (given_ends_fit (len (expects n conn (suc (suc k))) (list_up_to k (rebuilt_list (stage_numbers ts) list).items)) (Some (ends_in (suc k) list.items (settle_elements list.items (suc k) names))) ≡ true)
-        × (elements_at_given_ends (expects n conn (suc (suc k))) (list_up_to k (rebuilt_list (stage_numbers ts) list).items) (Some (ends_in (suc k) list.items (settle_elements list.items (suc k) names))) ≡ settle_elements list.items (suc k) names)
+        → (given_ends_fit (len (expects n conn (suc (suc k))) (list_up_to k (rebuilt_list (stage_numbers ts) list).items))
+        (Some (ends_in (suc k) list.items (settle_elements list.items (suc k) names))) ≡ true)
+        × (elements_at_given_ends (expects n conn (suc (suc k))) (list_up_to k (rebuilt_list (stage_numbers ts) list).items)
+        (Some (ends_in (suc k) list.items (settle_elements list.items (suc k) names))) ≡ settle_elements list.items (suc k) names)
     ends-now r d names h there =
         let a = settle list.items (suc k) names.first in
         let b = settle list.items (suc k) names.second in
@@ -241,15 +268,19 @@ module _ (n last : ℕ) (ts : List ToldStage) (list : Sequence) (ready : CanBeRe
           ap (λ x. record { first = x; second = element_at_end test ys (end_number (suc k) list.items b) }) first ∙ ap (λ x. record { first = a; second = x }) second,
         )
 
-    none-given : (r d : ℕ) (ends : Option Ends) (names : NamedElements) → not (are_given ends) ≡ true → elements_at_given_ends (expects r d (suc (suc k))) (list_up_to k list.items) ends ≡ names
+    none-given : (r d : ℕ) (ends : Option Ends) (names : NamedElements) → not (are_given ends) ≡ true
+        → elements_at_given_ends (expects r d (suc (suc k))) (list_up_to k list.items) ends ≡ names
         → no_elements ≡ settle_elements list.items (suc k) names
     none-given r d None names g e = ap (settle_elements list.items (suc k)) e
     none-given r d (Some ends) names g e = (cc)
 
     pub interval-named : (r d : ℕ) (op other : TextOp) (names : NamedElements) → IsStanding k r d (TakenOut []) list.items → ends_alike (OnIntervals op) other ≡ true
-        → (given_ends_fit (len (expects r d (suc (suc k))) (list_up_to k list.items)) (ends_of other) ≡ true) × (elements_at_given_ends (expects r d (suc (suc k))) (list_up_to k list.items) (ends_of other) ≡ names)
-        → (given_ends_fit (len (expects n conn (suc (suc k))) (list_up_to k (rebuilt_list (stage_numbers ts) list).items)) (ends_of (interval_piece (suc k) list.items (settle_elements list.items (suc k) names) op)) ≡ true)
-        × (elements_at_given_ends (expects n conn (suc (suc k))) (list_up_to k (rebuilt_list (stage_numbers ts) list).items) (ends_of (interval_piece (suc k) list.items (settle_elements list.items (suc k) names) op)) ≡ settle_elements list.items (suc k) names)
+        → (given_ends_fit (len (expects r d (suc (suc k))) (list_up_to k list.items)) (ends_of other) ≡ true)
+        × (elements_at_given_ends (expects r d (suc (suc k))) (list_up_to k list.items) (ends_of other) ≡ names)
+        → (given_ends_fit (len (expects n conn (suc (suc k))) (list_up_to k (rebuilt_list (stage_numbers ts) list).items))
+        (ends_of (interval_piece (suc k) list.items (settle_elements list.items (suc k) names) op)) ≡ true)
+        × (elements_at_given_ends (expects n conn (suc (suc k))) (list_up_to k (rebuilt_list (stage_numbers ts) list).items)
+        (ends_of (interval_piece (suc k) list.items (settle_elements list.items (suc k) names) op)) ≡ settle_elements list.items (suc k) names)
     interval-named r d (One op) other names h g f = (refl, none-given r d (ends_of other) names g f.1)
     interval-named r d (Group ops) other names h g f = (refl, none-given r d (ends_of other) names g f.1)
     interval-named r d (IntervalAdd label id ends props) other names h g f = ends-now r d names h (given-there r d (ends_of other) names f.0 f.1)

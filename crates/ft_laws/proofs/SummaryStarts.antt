@@ -50,11 +50,13 @@ count-append n (x ∷ xs) ys h g =
     let next : n + suc (length xs) ≡ n + 1 + length xs = omega arith in
     rw (p.0) (count-append (n + 1) xs ys p.1 (ap (λ i. count_from i ys) (sym next) ∙ g))
 
-count-new : (n s c : ℕ) (dels : List Stamp) (by : Option Stamp) (props : PropertyList) (bs : List ElementContent) → count_from n (new_elements n (Acked s c) dels by props bs) ≡ true
+count-new : (n s c : ℕ) (dels : List Stamp) (by : Option Stamp) (props : PropertyList) (bs : List ElementContent)
+    → count_from n (new_elements n (Acked s c) dels by props bs) ≡ true
 count-new n s c dels by props [] = refl
 count-new n s c dels by props (b ∷ bs) = rw (same_nat n) (count-new (n + 1) s c dels by props bs)
 
-length-new : (n : ℕ) (ins : Stamp) (dels : List Stamp) (by : Option Stamp) (props : PropertyList) (bs : List ElementContent) → length (new_elements n ins dels by props bs) ≡ length bs
+length-new : (n : ℕ) (ins : Stamp) (dels : List Stamp) (by : Option Stamp) (props : PropertyList) (bs : List ElementContent)
+    → length (new_elements n ins dels by props bs) ≡ length bs
 length-new n ins dels by props [] = refl
 length-new n ins dels by props (b ∷ bs) = ap suc (length-new (n + 1) ins dels by props bs)
 
@@ -68,7 +70,8 @@ count-segments n (s ∷ segs) =
     let bs = segment_bodies s.body in
     let new = new_elements n (stamp_of s.ins) (map stamp_of s.dels) (Some (stamp_of s.by)) s.props bs in
     count-append n new (segment_items (n + length bs) segs) (count-new n s.ins.seq s.ins.conn (map stamp_of s.dels) (Some (stamp_of s.by)) s.props bs)
-    (ap (λ i. count_from (n + i) (segment_items (n + length bs) segs)) (length-new n (stamp_of s.ins) (map stamp_of s.dels) (Some (stamp_of s.by)) s.props bs) ∙ count-segments (n + length bs) segs)
+    (ap (λ i. count_from (n + i) (segment_items (n + length bs) segs)) (length-new n (stamp_of s.ins) (map stamp_of s.dels) (Some (stamp_of s.by)) s.props bs)
+    ∙ count-segments (n + length bs) segs)
 
 pub count-runs : (n : ℕ) (runs : List RunRec) → count_from n (run_items n runs) ≡ true
 count-runs n [] = refl
@@ -76,7 +79,8 @@ count-runs n (r ∷ runs) =
     let bs = replicate r.count GridUnit in
     let new = new_elements n (stamp_of r.ins) (map stamp_of r.dels) None [] bs in
     count-append n new (run_items (n + r.count) runs) (count-new n r.ins.seq r.ins.conn (map stamp_of r.dels) None [] bs)
-    (ap (λ i. count_from (n + i) (run_items (n + r.count) runs)) (length-new n (stamp_of r.ins) (map stamp_of r.dels) None [] bs ∙ length-replicate r.count) ∙ count-runs (n + r.count) runs)
+    (ap (λ i. count_from (n + i) (run_items (n + r.count) runs)) (length-new n (stamp_of r.ins) (map stamp_of r.dels) None [] bs ∙ length-replicate r.count)
+    ∙ count-runs (n + r.count) runs)
 
 below-one : (n m : ℕ) (e : ListElement) → n < m → is_sequenced e && nat_eq e.nth n ≡ true → is_numbered_below m e ≡ true
 below-one n m e l h = grind (arith, nat_tests)
@@ -107,7 +111,8 @@ counted-numbered xs h = record { below = counted-below 0 (length xs) xs (omega a
 
 -- ---- their stamps
 
-settled-new : (n m : ℕ) (ins : Stamp) (dels : List Stamp) (by : Option Stamp) (props : PropertyList) (bs : List ElementContent) → is_sequenced_up_to n ins ≡ true → list_all (is_sequenced_up_to n) dels ≡ true
+settled-new : (n m : ℕ) (ins : Stamp) (dels : List Stamp) (by : Option Stamp) (props : PropertyList) (bs : List ElementContent) → is_sequenced_up_to n ins
+    ≡ true → list_all (is_sequenced_up_to n) dels ≡ true
     → list_all (is_settled n) (new_elements m ins dels by props bs) ≡ true
 settled-new n m ins dels by props [] h g = refl
 settled-new n m ins dels by props (b ∷ bs) h g = rw (h, g) (settled-new n (m + 1) ins dels by props bs h g)
@@ -131,7 +136,8 @@ dels-known b (m ∷ ms) h =
     let p = both (is_recent b m) (list_all (is_recent b) ms) h in
     rw (recent-known b m p.0) (dels-known b ms p.1)
 
-stamps-known : (b : Bounds) (ins : Mark) (dels : List Mark) → are_stamps b ins dels ≡ true → (is_sequenced_up_to b.seq (stamp_of ins) ≡ true) × (list_all (is_sequenced_up_to b.seq) (map stamp_of dels) ≡ true)
+stamps-known : (b : Bounds) (ins : Mark) (dels : List Mark) → are_stamps b ins dels ≡ true → (is_sequenced_up_to b.seq (stamp_of ins) ≡ true)
+    × (list_all (is_sequenced_up_to b.seq) (map stamp_of dels) ≡ true)
 stamps-known b ins dels h =
     let p = both (is_universal ins || is_recent b ins) (are_removals b ins.seq dels) h in
     (ins-known b ins p.0, dels-known b dels (both (list_all (is_recent b) dels) (removals_rise ins.seq dels) p.1).0)
@@ -167,7 +173,8 @@ end-there p (x ∷ xs) = step p (is_unremoved x) refl (λ q. end-there q xs)
     more None h = refl
     more (Some a) h = or_right (has_id a x && is_unremoved x) (list_any (λ e. has_id a e && is_unremoved e) xs) h
 
-    step : (q : ℕ) (b : Bool) → is_unremoved x ≡ b → ((i : ℕ) → is_end_on xs (option_map id (at is_unremoved i xs)) ≡ true) → is_end_on (x ∷ xs) (option_map id (at is_unremoved q (x ∷ xs))) ≡ true
+    step : (q : ℕ) (b : Bool) → is_unremoved x ≡ b → ((i : ℕ) → is_end_on xs (option_map id (at is_unremoved i xs)) ≡ true)
+        → is_end_on (x ∷ xs) (option_map id (at is_unremoved q (x ∷ xs))) ≡ true
     step zero true e ih = rw (e, same_id-refl (id x), e) refl
     step zero false e ih = rw e (more (option_map id (at is_unremoved 0 xs)) (ih 0))
     step (suc q) true e ih = rw e (more (option_map id (at is_unremoved q xs)) (ih q))
@@ -208,7 +215,8 @@ name-below n e h = grind (arith, nat_tests)
 abbrev is_good : ℕ → ℕ → Cell → Bool
 is_good rows cols c = has_value c && is_cell_below rows cols c
 
-good-cell : (m n : ℕ) (row col : Option ListElement) (c : CellRec) → not (is_null c.value) ≡ true → passes (is_numbered_below m) row ≡ true → passes (is_numbered_below n) col ≡ true
+good-cell : (m n : ℕ) (row col : Option ListElement) (c : CellRec) → not (is_null c.value) ≡ true → passes (is_numbered_below m) row ≡ true
+    → passes (is_numbered_below n) col ≡ true
     → list_all (is_good m n) (cell_at row col c) ≡ true
 good-cell m n None col c v h g = refl
 good-cell m n (Some row) None c v h g = refl
@@ -217,12 +225,14 @@ good-cell m n (Some row) (Some col) c v h g = rw (v, name-below m row h, name-be
 not-null : (v : ValueBytes) → IsValue v → not (is_null v) ≡ true
 not-null v h = ap not h.1
 
-pub good-cells : (rows cols : List ListElement) (a b : ℕ) (cs : List CellRec) → list_all (is_numbered_below (length rows)) rows ≡ true → list_all (is_numbered_below (length cols)) cols ≡ true → AllByRecursion (IsCell a b) cs
+pub good-cells : (rows cols : List ListElement) (a b : ℕ) (cs : List CellRec) → list_all (is_numbered_below (length rows)) rows ≡ true
+    → list_all (is_numbered_below (length cols)) cols ≡ true → AllByRecursion (IsCell a b) cs
     → list_all (is_good (length rows) (length cols)) (cells_of rows cols cs) ≡ true
 good-cells rows cols a b [] h g k = refl
 good-cells rows cols a b (c ∷ cs) h g k =
     all-append (is_good (length rows) (length cols)) (cell_at (at is_unremoved c.row rows) (at is_unremoved c.col cols) c) (cells_of rows cols cs)
-    (good-cell (length rows) (length cols) (at is_unremoved c.row rows) (at is_unremoved c.col cols) c (not-null c.value k.0.1) (at-passes (is_numbered_below (length rows)) is_unremoved c.row rows h) (at-passes (is_numbered_below (length cols)) is_unremoved c.col cols g))
+    (good-cell (length rows) (length cols) (at is_unremoved c.row rows) (at is_unremoved c.col cols) c (not-null c.value k.0.1)
+    (at-passes (is_numbered_below (length rows)) is_unremoved c.row rows h) (at-passes (is_numbered_below (length cols)) is_unremoved c.col cols g))
     (good-cells rows cols a b cs h g k.1)
 
 first-part : (m n : ℕ) (c : Cell) → is_good m n c ≡ true → has_value c ≡ true

@@ -31,7 +31,8 @@ use Rattle.ft_laws.proofs.AnyAndAll.{any-append}
 
 module _ (floor : ℕ) where
   -- an element but for its insertion is as the trimmed one
-  pub on_trimmed : {B : Type 0} (f : ListElement → B) (e : ListElement) → (is_insertion_at_or_below floor e.ins ≡ true → f (with_universal_insertion e) ≡ f e) → f (trim_element floor e) ≡ f e
+  pub on_trimmed : {B : Type 0} (f : ListElement → B) (e : ListElement) → (is_insertion_at_or_below floor e.ins ≡ true → f (with_universal_insertion e) ≡ f e)
+      → f (trim_element floor e) ≡ f e
   on_trimmed f e h = step (is_insertion_at_or_below floor e.ins) h
     where
       step : (b : Bool) → (b ≡ true → f (with_universal_insertion e) ≡ f e) → f (cond b (with_universal_insertion e) e) ≡ f e
@@ -41,12 +42,14 @@ module _ (floor : ℕ) where
   pub trimmed-characters : (xs : List ListElement) → text_characters (map (trim_element floor) xs) ≡ text_characters xs
   trimmed-characters [] = refl
   trimmed-characters (e ∷ xs) =
-      ap (λ c. content_characters c ++ text_characters (map (trim_element floor) xs)) (on_trimmed (λ d. d.content) e (λ h. refl)) ∙ ap (λ cs. content_characters e.content ++ cs) (trimmed-characters xs)
+      ap (λ c. content_characters c ++ text_characters (map (trim_element floor) xs)) (on_trimmed (λ d. d.content) e (λ h. refl))
+      ∙ ap (λ cs. content_characters e.content ++ cs) (trimmed-characters xs)
 
   pub trimmed-markers : (i : ℕ) (xs : List ListElement) → markers_from i (map (trim_element floor) xs) ≡ markers_from i xs
   trimmed-markers i [] = refl
   trimmed-markers i (e ∷ xs) =
-      ap (λ c. content_markers i c ++ markers_from (i + 1) (map (trim_element floor) xs)) (on_trimmed (λ d. d.content) e (λ h. refl)) ∙ ap (λ cs. content_markers i e.content ++ cs) (trimmed-markers (i + 1) xs)
+      ap (λ c. content_markers i c ++ markers_from (i + 1) (map (trim_element floor) xs)) (on_trimmed (λ d. d.content) e (λ h. refl))
+      ∙ ap (λ cs. content_markers i e.content ++ cs) (trimmed-markers (i + 1) xs)
 
   pub trimmed-runs : (i : ℕ) (xs : List ListElement) → property_runs_from i (map (trim_element floor) xs) ≡ property_runs_from i xs
   trimmed-runs i [] = refl
@@ -58,24 +61,29 @@ module _ (floor : ℕ) where
   trimmed-length [] = refl
   trimmed-length (e ∷ xs) = ap suc (trimmed-length xs)
 
-  trimmed-row_cells : (cells : List Cell) (stages : List Stage) (i : ℕ) (row : ElementId) (j : ℕ) (cols : List ListElement) → row_cells cells stages i row j (map (trim_element floor) cols) ≡ row_cells cells stages i row j cols
+  trimmed-row_cells : (cells : List Cell) (stages : List Stage) (i : ℕ) (row : ElementId) (j : ℕ) (cols : List ListElement)
+      → row_cells cells stages i row j (map (trim_element floor) cols) ≡ row_cells cells stages i row j cols
   trimmed-row_cells cells stages i row j [] = refl
   trimmed-row_cells cells stages i row j (e ∷ cols) =
-      ap (λ x. cell_record i j (shown_cell_value row x (cell_value row x cells) stages) ++ row_cells cells stages i row (j + 1) (map (trim_element floor) cols)) (on_trimmed id e (id-universal floor e))
+      ap (λ x. cell_record i j (shown_cell_value row x (cell_value row x cells) stages) ++ row_cells cells stages i row (j + 1)
+      (map (trim_element floor) cols)) (on_trimmed id e (id-universal floor e))
       ∙ ap (λ cs. cell_record i j (shown_cell_value row (id e) (cell_value row (id e) cells) stages) ++ cs) (trimmed-row_cells cells stages i row (j + 1) cols)
 
-  pub trimmed-cols : (cells : List Cell) (stages : List Stage) (cols : List ListElement) (i : ℕ) (rows : List ListElement) → all_cells cells stages (map (trim_element floor) cols) i rows ≡ all_cells cells stages cols i rows
+  pub trimmed-cols : (cells : List Cell) (stages : List Stage) (cols : List ListElement) (i : ℕ) (rows : List ListElement)
+      → all_cells cells stages (map (trim_element floor) cols) i rows ≡ all_cells cells stages cols i rows
   trimmed-cols cells stages cols i [] = refl
   trimmed-cols cells stages cols i (e ∷ rows) = rw (trimmed-row_cells cells stages i (id e) 0 cols, trimmed-cols cells stages cols (i + 1) rows) refl
 
-  pub trimmed-rows : (cells : List Cell) (stages : List Stage) (cols : List ListElement) (i : ℕ) (rows : List ListElement) → all_cells cells stages cols i (map (trim_element floor) rows) ≡ all_cells cells stages cols i rows
+  pub trimmed-rows : (cells : List Cell) (stages : List Stage) (cols : List ListElement) (i : ℕ) (rows : List ListElement)
+      → all_cells cells stages cols i (map (trim_element floor) rows) ≡ all_cells cells stages cols i rows
   trimmed-rows cells stages cols i [] = refl
   trimmed-rows cells stages cols i (e ∷ rows) =
       ap (λ x. row_cells cells stages i x 0 cols ++ all_cells cells stages cols (i + 1) (map (trim_element floor) rows)) (on_trimmed id e (id-universal floor e))
       ∙ ap (λ cs. row_cells cells stages i (id e) 0 cols ++ cs) (trimmed-rows cells stages cols (i + 1) rows)
 
 -- what doesn't see how old insertions are written is the same of what a compacted list shows
-pub on_view : {B : Type 0} (floor : ℕ) (held : ElementId → Bool) (f : List ListElement → B) → ((xs : List ListElement) → f (map (trim_element floor) xs) ≡ f xs) → (k : ℕ) (ks xs : List ListElement) → Keeps floor held ks xs
+pub on_view : {B : Type 0} (floor : ℕ) (held : ElementId → Bool) (f : List ListElement → B)
+    → ((xs : List ListElement) → f (map (trim_element floor) xs) ≡ f xs) → (k : ℕ) (ks xs : List ListElement) → Keeps floor held ks xs
     → f (filter (seen k) ks) ≡ f (filter (seen k) xs)
 on_view floor held f h k ks xs kept = sym (h (filter (seen k) ks)) ∙ ap f (filter-kept (seen k) (seen-alike floor k held) kept) ∙ h (filter (seen k) xs)
 
@@ -95,7 +103,8 @@ module _ (ks cs : List Cell) (old new : List Stage) (held : ElementId → Bool) 
 
   -- the cells of units that are there are shown alike
   pub agreed-rows : (held' : ElementId → Bool) → ((row col : ElementId) → held' row ≡ true → held col ≡ true → SameValue row col)
-      → (cols : List ListElement) → list_all (λ e. held (id e)) cols ≡ true → (i : ℕ) (rows : List ListElement) → list_all (λ e. held' (id e)) rows ≡ true → all_cells ks old cols i rows ≡ all_cells cs new cols i rows
+      → (cols : List ListElement) → list_all (λ e. held (id e)) cols ≡ true → (i : ℕ) (rows : List ListElement) → list_all (λ e. held' (id e)) rows ≡ true
+      → all_cells ks old cols i rows ≡ all_cells cs new cols i rows
   agreed-rows held' h cols k i [] l = refl
   agreed-rows held' h cols k i (e ∷ rows) l =
       let p = both (held' (id e)) (list_all (λ d. held' (id d)) rows) l in
@@ -129,9 +138,12 @@ removed-unseen k e h = rw (any-append (has_occurred_at_stage k) e.dels (removal_
 
 pub shown-trimmed : (floor : ℕ) (held : HeldNames) (kept doc : Document) → Trimmed floor held kept doc → shown kept ≡ shown doc
 shown-trimmed floor held kept doc t =
-    let cells : all_cells kept.cells [] (filter (seen 0) kept.cols.items) 0 (filter (seen 0) kept.rows.items) ≡ all_cells doc.cells [] (filter (seen 0) doc.cols.items) 0 (filter (seen 0) doc.rows.items) =
-    on_view floor held.cols (λ cols. all_cells kept.cells [] cols 0 (filter (seen 0) kept.rows.items)) (λ cols. trimmed-cols floor kept.cells [] cols 0 (filter (seen 0) kept.rows.items)) 0 kept.cols.items doc.cols.items t.cols.items
-    ∙ on_view floor held.rows (all_cells kept.cells [] (filter (seen 0) doc.cols.items) 0) (trimmed-rows floor kept.cells [] (filter (seen 0) doc.cols.items) 0) 0 kept.rows.items doc.rows.items t.rows.items
+    let cells : all_cells kept.cells [] (filter (seen 0) kept.cols.items) 0 (filter (seen 0) kept.rows.items)
+    ≡ all_cells doc.cells [] (filter (seen 0) doc.cols.items) 0 (filter (seen 0) doc.rows.items) =
+    on_view floor held.cols (λ cols. all_cells kept.cells [] cols 0 (filter (seen 0) kept.rows.items))
+    (λ cols. trimmed-cols floor kept.cells [] cols 0 (filter (seen 0) kept.rows.items)) 0 kept.cols.items doc.cols.items t.cols.items
+    ∙ on_view floor held.rows (all_cells kept.cells [] (filter (seen 0) doc.cols.items) 0)
+    (trimmed-rows floor kept.cells [] (filter (seen 0) doc.cols.items) 0) 0 kept.rows.items doc.rows.items t.rows.items
     ∙ agreed-rows kept.cells doc.cells [] [] held.cols held.rows t.cells
     (filter (seen 0) doc.cols.items) (filter-held is_removed held.cols (seen 0) (removed-unseen 0) doc.cols.items t.col_names.all)
     0 (filter (seen 0) doc.rows.items) (filter-held is_removed held.rows (seen 0) (removed-unseen 0) doc.rows.items t.row_names.all) in
@@ -150,7 +162,8 @@ shown-trimmed floor held kept doc t =
 -- ---- messages
 
 module _ {floor : ℕ} {held : HeldNames} where
-  pub body_effect-trimmed : (s c r : ℕ) (body : Body) (kept doc : Document) → (is_op body ≡ true → floor ≤ r) → Trimmed floor held kept doc → Trimmed floor held (body_effect kept s c r body) (body_effect doc s c r body)
+  pub body_effect-trimmed : (s c r : ℕ) (body : Body) (kept doc : Document) → (is_op body ≡ true → floor ≤ r) → Trimmed floor held kept doc
+      → Trimmed floor held (body_effect kept s c r body) (body_effect doc s c r body)
   body_effect-trimmed s c r Nothing kept doc h t = t
   body_effect-trimmed s c r (Op op) kept doc h t = effects-trimmed s c r (h refl) kept doc (sub_operations op) t
   body_effect-trimmed s c r (Elsewhere address) kept doc h t = record {
@@ -181,9 +194,11 @@ module _ {floor : ℕ} {held : HeldNames} where
   }
 
   -- messages from a minimum at or above the floor on keep the relation
-  pub take_entries-trimmed : (min : ℕ) (entries : List Entry) (kept doc : Document) → floor ≤ min → AreFrom min entries → Trimmed floor held kept doc → Trimmed floor held (take_entries kept entries) (take_entries doc entries)
+  pub take_entries-trimmed : (min : ℕ) (entries : List Entry) (kept doc : Document) → floor ≤ min → AreFrom min entries → Trimmed floor held kept doc
+      → Trimmed floor held (take_entries kept entries) (take_entries doc entries)
   take_entries-trimmed min [] kept doc l h t = t
   take_entries-trimmed min (entry ∷ entries) kept doc l h t =
       take_entries-trimmed entry.msg.min entries (take_entry kept entry) (take_entry doc entry) (let k : min ≤ entry.msg.min = h.0 in omega arith) h.2
       (with_numbers-trimmed entry _ _
-      (body_effect-trimmed entry.msg.seq entry.origin (reference_number entry.msg.ref_seq) entry.msg.body kept doc (λ q. let k : min ≤ reference_number entry.msg.ref_seq = h.1 q in omega arith) t))
+      (body_effect-trimmed entry.msg.seq entry.origin (reference_number entry.msg.ref_seq) entry.msg.body kept doc
+      (λ q. let k : min ≤ reference_number entry.msg.ref_seq = h.1 q in omega arith) t))

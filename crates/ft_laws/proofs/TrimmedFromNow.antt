@@ -29,7 +29,8 @@ held_but gone xs x = not (has_named gone xs x)
 names-held : (gone : ListElement → Bool) (list : Sequence) → IsNumbered list → HoldsNames gone (held_but gone list.items) list
 names-held gone list h = record {
   all = other-named gone list.items h.distinct;
-  later = λ n l. ap not (any-less (λ e. has_id (SequencedId n) e && gone e) (has_id (SequencedId n)) (λ e k. ap (λ b. b && gone e) k) list.items (new-named list.made n list.items h.below l));
+  later = λ n l. ap not (any-less (λ e. has_id (SequencedId n) e && gone e) (has_id (SequencedId n)) (λ e k. ap (λ b. b && gone e) k) list.items
+      (new-named list.made n list.items h.below l));
 }
 
 no_pending : (n : ℕ) (xs : List ListElement) → list_all (is_numbered_below n) xs ≡ true → is_before_pending xs ≡ false
@@ -37,11 +38,13 @@ no_pending n [] h = refl
 no_pending n (e ∷ xs) h = let p = both (is_numbered_below n e) (list_all (is_numbered_below n) xs) h in ap not (both (is_sequenced e) _ p.0).0
 
 module _ (floor n : ℕ) (held : ElementId → Bool) where
-  old-kept : (b : Bool) (e : ListElement) {ks xs : List ListElement} → is_insertion_at_or_below floor e.ins ≡ b → Keeps floor held ks xs → Keeps floor held (cond b (with_universal_insertion e) e ∷ ks) (e ∷ xs)
+  old-kept : (b : Bool) (e : ListElement) {ks xs : List ListElement} → is_insertion_at_or_below floor e.ins ≡ b → Keeps floor held ks xs
+      → Keeps floor held (cond b (with_universal_insertion e) e ∷ ks) (e ∷ xs)
   old-kept true e h k = universal h k
   old-kept false e h k = same k
 
-  one-kept : (b : Bool) (e : ListElement) {ks xs : List ListElement} → is_collectable floor e ≡ b → (is_collectable floor e ≡ true → held (id e) ≡ false) → is_before_pending xs ≡ false → Keeps floor held ks xs
+  one-kept : (b : Bool) (e : ListElement) {ks xs : List ListElement} → is_collectable floor e ≡ b → (is_collectable floor e ≡ true → held (id e) ≡ false)
+      → is_before_pending xs ≡ false → Keeps floor held ks xs
       → Keeps floor held (cond (not b) (trim_element floor e ∷ ks) ks) (e ∷ xs)
   one-kept true e h u f k = collected h (u h) f k
   one-kept false e h u f k = old-kept (is_insertion_at_or_below floor e.ins) e refl k
@@ -81,7 +84,8 @@ list-trimmed floor gone more list h = record {
 pub collectable-removed : (floor : ℕ) (e : ListElement) → is_collectable floor e ≡ true → is_removed e ≡ true
 collectable-removed floor e h = removed-by floor is_acked (λ s c. refl) e.dels (both (is_acked e.ins) (has_collectable_removal floor e.dels) h).1
 
-pub ends-held : (floor : ℕ) (xs : List ListElement) → list_all (keeps_name (is_collectable floor) (held_but (is_collectable floor) xs)) xs ≡ true → (is : List Interval) → list_all (has_ends_on xs) is ≡ true
+pub ends-held : (floor : ℕ) (xs : List ListElement) → list_all (keeps_name (is_collectable floor) (held_but (is_collectable floor) xs)) xs ≡ true
+    → (is : List Interval) → list_all (has_ends_on xs) is ≡ true
     → list_all (has_held_ends (held_but (is_collectable floor) xs)) is ≡ true
 ends-held floor xs names is h =
     all-weaker (has_ends_on xs) (has_held_ends held) (λ i k. let p = both (is_end_on xs i.start) (is_end_on xs i.end) k in rw (end-held i.start p.0, end-held i.end p.1) refl) is h
@@ -89,7 +93,8 @@ ends-held floor xs names is h =
     held : ElementId → Bool
     held x = not (has_named (is_collectable floor) xs x)
 
-    stays : (e : ListElement) → is_collectable floor e || not (has_named (is_collectable floor) xs (id e)) ≡ true → is_unremoved e ≡ true → not (has_named (is_collectable floor) xs (id e)) ≡ true
+    stays : (e : ListElement) → is_collectable floor e || not (has_named (is_collectable floor) xs (id e)) ≡ true → is_unremoved e ≡ true
+        → not (has_named (is_collectable floor) xs (id e)) ≡ true
     stays e k u = step (is_collectable floor e) refl k
       where
         step : (b : Bool) → is_collectable floor e ≡ b → b || not (has_named (is_collectable floor) xs (id e)) ≡ true → not (has_named (is_collectable floor) xs (id e)) ≡ true
@@ -106,7 +111,12 @@ three a b c p q r = rw (p, q, r) refl
 
 -- the trimmed form beside the document
 pub trim-trimmed : (doc : Document) → IsConsistent doc
-    → Trimmed doc.minimum (record { text = held_but (is_collectable doc.minimum) doc.text.items; rows = held_but is_removed doc.rows.items; cols = held_but is_removed doc.cols.items }) (trim doc) doc
+    → Trimmed doc.minimum (record {
+      text = held_but (is_collectable doc.minimum) doc.text.items;
+      rows = held_but is_removed doc.rows.items;
+      cols = held_but
+          is_removed doc.cols.items;
+    }) (trim doc) doc
 trim-trimmed doc h = record {
   text = list-trimmed doc.minimum (is_collectable doc.minimum) (λ e k. k) doc.text h.text;
   rows = list-trimmed doc.minimum is_removed (collectable-removed doc.minimum) doc.rows h.rows;
@@ -115,13 +125,16 @@ trim-trimmed doc h = record {
   row_names = names-held is_removed doc.rows h.rows;
   col_names = names-held is_removed doc.cols h.cols;
   ends = ends-held doc.minimum doc.text.items (names-held (is_collectable doc.minimum) doc.text h.text).all doc.intervals h.ends;
-  cells = λ row col a b. value-kept row col (λ c. not (is_null c.value) && not (has_sequenced_removal doc.rows.items c.row) && not (has_sequenced_removal doc.cols.items c.col)) doc.cells h.cells
+  cells = λ row col a b. value-kept row col (λ c. not (is_null c.value) && not (has_sequenced_removal doc.rows.items c.row)
+      && not (has_sequenced_removal doc.cols.items c.col)) doc.cells h.cells
       (λ c v p q. three (not (is_null c.value)) (not (has_sequenced_removal doc.rows.items c.row)) (not (has_sequenced_removal doc.cols.items c.col)) v
       (subst (λ i. not (has_sequenced_removal doc.rows.items i) ≡ true) p a) (subst (λ i. not (has_sequenced_removal doc.cols.items i) ≡ true) q b));
-  unwritten = λ row col e. none-filtered row col (λ c. not (is_null c.value) && not (has_sequenced_removal doc.rows.items c.row) && not (has_sequenced_removal doc.cols.items c.col)) doc.cells e;
+  unwritten = λ row col e. none-filtered row col (λ c. not (is_null c.value) && not (has_sequenced_removal doc.rows.items c.row)
+      && not (has_sequenced_removal doc.cols.items c.col)) doc.cells e;
   rest = refl;
 }
 
 -- a consistent document and its trimmed form show the same after further messages
-pub trim-shows : (doc : Document) (entries : List Entry) → IsConsistent doc → AreFrom doc.minimum entries → shown (take_entries (trim doc) entries) ≡ shown (take_entries doc entries)
+pub trim-shows : (doc : Document) (entries : List Entry) → IsConsistent doc → AreFrom doc.minimum entries → shown (take_entries (trim doc) entries)
+    ≡ shown (take_entries doc entries)
 trim-shows doc entries h k = shown-trimmed doc.minimum _ _ _ (take_entries-trimmed doc.minimum entries (trim doc) doc (omega arith) k (trim-trimmed doc h))

@@ -50,17 +50,20 @@ block-under k props (b ∷ bs) [] h = h
 block-under k props (b ∷ bs) (y ∷ ys) h = (h.0, h.1, block-under k props bs ys h.2)
 
 -- they have its contents and properties
-pub standing-block : (k r c p : ℕ) (props : PropertyList) (items : List ElementContent) (xs : List ListElement) → IsStanding k r c (PutIn p props items) xs → IsBlockOf props items (filter (is_inserted_by (suc k)) xs)
+pub standing-block : (k r c p : ℕ) (props : PropertyList) (items : List ElementContent) (xs : List ListElement) → IsStanding k r c (PutIn p props items) xs
+    → IsBlockOf props items (filter (is_inserted_by (suc k)) xs)
 standing-block k r c p props items xs h =
     let block = new_elements 0 (Local (suc k)) [] None props items in
     let same : block ≡ map (element_up_to (suc k)) (filter (is_inserted_by (suc k)) xs) =
-    sym (block-filter (is_inserted_by (suc k)) (expects r c (suc (suc k))) p block (list_up_to k xs) (all-new (suc k) 0 props items) (none-counted (is_inserted_by (suc k)) (list_up_to k xs) (none-later k xs)))
+    sym (block-filter (is_inserted_by (suc k)) (expects r c (suc (suc k))) p block (list_up_to k xs) (all-new (suc k) 0 props items)
+    (none-counted (is_inserted_by (suc k)) (list_up_to k xs) (none-later k xs)))
     ∙ ap (filter (is_inserted_by (suc k))) (sym h.made) ∙ block-up_to (suc k) xs in
     block-under (suc k) props items (filter (is_inserted_by (suc k)) xs) (subst (IsBlockOf props items) same (block-new (suc k) 0 props items))
 
 -- ---- the changes of an annotation
 
-late-changes : (k i : ℕ) (changes : Changes) (pending : List (ℕ × Changes)) → nat_le i k ≡ false → rises_from i pending ≡ true → list_all (λ p. cond (nat_eq p.0 k) (same_changes p.1 changes) true) pending ≡ true
+late-changes : (k i : ℕ) (changes : Changes) (pending : List (ℕ × Changes)) → nat_le i k ≡ false → rises_from i pending ≡ true
+    → list_all (λ p. cond (nat_eq p.0 k) (same_changes p.1 changes) true) pending ≡ true
 late-changes k i changes [] h g = refl
 late-changes k i changes (p ∷ pending) h g =
     let q = both (nat_lt i p.0) (rises_from p.0 pending) g in
@@ -73,7 +76,8 @@ late-insertion : (k : ℕ) (t : Stamp) (changes : Changes) (pending : List (ℕ 
 late-insertion k (Acked s c) changes pending h g = (cc)
 late-insertion k (Local j) changes pending h g = late-changes k j changes pending h g
 
-their-changes : (k : ℕ) (changes : Changes) (pending : List (ℕ × Changes)) → list_all (λ p. cond (nat_eq p.0 k) (same_changes p.1 changes) true) pending ≡ true → Each (λ m. nat_eq m.0 k ≡ true → m.1 ≡ changes) pending
+their-changes : (k : ℕ) (changes : Changes) (pending : List (ℕ × Changes)) → list_all (λ p. cond (nat_eq p.0 k) (same_changes p.1 changes) true) pending ≡ true
+    → Each (λ m. nat_eq m.0 k ≡ true → m.1 ≡ changes) pending
 their-changes k changes [] h = tt
 their-changes k changes (p ∷ pending) h =
     let q = both (cond (nat_eq p.0 k) (same_changes p.1 changes) true) (list_all (λ p. cond (nat_eq p.0 k) (same_changes p.1 changes) true) pending) h in
@@ -92,7 +96,8 @@ all-changes k changes (e ∷ xs) h o =
     step true f g u = g
     step false f g u = late-insertion k e.ins changes e.pending f u
 
-pub standing-changes : (k r c : ℕ) (ranges : List (ℕ × ℕ)) (changes : Changes) (xs : List ListElement) → list_all is_ordered xs ≡ true → IsStanding k r c (Annotated ranges changes) xs
+pub standing-changes : (k r c : ℕ) (ranges : List (ℕ × ℕ)) (changes : Changes) (xs : List ListElement) → list_all is_ordered xs ≡ true
+    → IsStanding k r c (Annotated ranges changes) xs
     → Each (λ e. Each (λ m. nat_eq m.0 (suc k) ≡ true → m.1 ≡ changes) e.pending) xs
 standing-changes k r c ranges changes xs o h =
     all-changes (suc k) changes xs (lifted (has_changes (suc k) changes) (suc k) (λ e. has-same (suc k) changes e.pending) xs (has-standing k r c ranges changes xs h)) o
@@ -114,7 +119,8 @@ any-up_to : (k : ℕ) (a : ElementId) (xs : List ListElement) → list_any (has_
 any-up_to k a [] h = h
 any-up_to k a (e ∷ xs) h = step (is_upto k e) h (any-up_to k a xs)
   where
-    step : (b : Bool) → list_any (has_id a) (cond b (element_up_to k e ∷ list_up_to k xs) (list_up_to k xs)) ≡ true → (list_any (has_id a) (list_up_to k xs) ≡ true → list_any (has_id a) xs ≡ true) → has_id a e || list_any (has_id a) xs ≡ true
+    step : (b : Bool) → list_any (has_id a) (cond b (element_up_to k e ∷ list_up_to k xs) (list_up_to k xs)) ≡ true
+        → (list_any (has_id a) (list_up_to k xs) ≡ true → list_any (has_id a) xs ≡ true) → has_id a e || list_any (has_id a) xs ≡ true
     step true g ih = first (has_id a e) g
       where
         first : (b : Bool) → b || list_any (has_id a) (list_up_to k xs) ≡ true → b || list_any (has_id a) xs ≡ true
@@ -155,7 +161,8 @@ all-reached : (k : ℕ) (xs : List ListElement) → list_all (is_upto k) (list_u
 all-reached k [] = refl
 all-reached k (e ∷ xs) = step (is_upto k e) refl (all-reached k xs)
   where
-    step : (b : Bool) → is_upto k e ≡ b → list_all (is_upto k) (list_up_to k xs) ≡ true → list_all (is_upto k) (cond b (element_up_to k e ∷ list_up_to k xs) (list_up_to k xs)) ≡ true
+    step : (b : Bool) → is_upto k e ≡ b → list_all (is_upto k) (list_up_to k xs) ≡ true
+        → list_all (is_upto k) (cond b (element_up_to k e ∷ list_up_to k xs) (list_up_to k xs)) ≡ true
     step true f g = rw (f, g) refl
     step false f g = g
 
@@ -170,7 +177,8 @@ found-before k test zero (e ∷ ys) h =
     step false f g = g
 found-before k test (suc i) (e ∷ ys) h = found-before k test (cond (test e) i (suc i)) ys (both (is_upto k e) (list_all (is_upto k) ys) h).1
 
-at-before : (k : ℕ) (test : ListElement → Bool) (i : ℕ) (xs : List ListElement) (a : Option ElementId) → IsOneName (option_map id (at test i (list_up_to k xs))) a → named_before k a ≡ true
+at-before : (k : ℕ) (test : ListElement → Bool) (i : ℕ) (xs : List ListElement) (a : Option ElementId)
+    → IsOneName (option_map id (at test i (list_up_to k xs))) a → named_before k a ≡ true
 at-before k test i xs a h = from (option_map id (at test i (list_up_to k xs))) a h (found-before k test i (list_up_to k xs) (all-reached k xs))
   where
     from : (o a : Option ElementId) → IsOneName o a → is_before k o ≡ true → named_before k a ≡ true
@@ -223,19 +231,27 @@ module _ (k r c : ℕ) (doc : Document) (names : NamedElements) (ordered : list_
       ) refl
 
 -- each stage is as it was typed
-pub typed-stages : (c m : ℕ) (doc : Document) (ts : List ToldStage) → list_all is_ordered doc.text.items ≡ true → AreTold m ts → AllStand c doc ts → Each (λ t. IsTyped t.stage doc t.names t.sub_operation) (bare_stages ts)
+pub typed-stages : (c m : ℕ) (doc : Document) (ts : List ToldStage) → list_all is_ordered doc.text.items ≡ true → AreTold m ts → AllStand c doc ts
+    → Each (λ t. IsTyped t.stage doc t.names t.sub_operation) (bare_stages ts)
 typed-stages c m doc [] ordered told h = tt
 typed-stages c m doc (t ∷ ts) ordered told h =
     let place = told.1.place in
-    let here : StageStands t.before t.ref c (placed place.first place.second place.ranges place.other t.stage.sub_operation) t.stage.names doc = subst (λ s. StageStands t.before t.ref c s t.stage.names doc) place.made h.0 in
-    (subst (λ i. IsTyped i doc t.stage.names t.stage.sub_operation) (sym told.0) (typed-stage t.before t.ref c doc t.stage.names ordered t.stage.sub_operation place.first place.second place.ranges place.other here), typed-stages c m doc ts ordered told.3 h.1)
+    let here : StageStands t.before t.ref c (placed place.first place.second place.ranges place.other t.stage.sub_operation) t.stage.names doc = subst
+    (λ s. StageStands t.before t.ref c s t.stage.names doc) place.made h.0 in (
+      subst (λ i. IsTyped i doc t.stage.names t.stage.sub_operation) (sym told.0)
+          (typed-stage t.before t.ref c doc t.stage.names ordered t.stage.sub_operation place.first place.second place.ranges place.other here),
+      typed-stages c m
+          doc ts ordered told.3 h.1,
+    )
 
 -- and writes to units that were there before it
-pub stages-known_units : (c m : ℕ) (doc : Document) (ts : List ToldStage) → list_all is_ordered doc.text.items ≡ true → AreTold m ts → AllStand c doc ts → list_all (writes_known_units doc.rows.items doc.cols.items) (bare_stages ts) ≡ true
+pub stages-known_units : (c m : ℕ) (doc : Document) (ts : List ToldStage) → list_all is_ordered doc.text.items ≡ true → AreTold m ts → AllStand c doc ts
+    → list_all (writes_known_units doc.rows.items doc.cols.items) (bare_stages ts) ≡ true
 stages-known_units c m doc [] ordered told h = refl
 stages-known_units c m doc (t ∷ ts) ordered told h =
     let place = told.1.place in
-    let here : StageStands t.before t.ref c (placed place.first place.second place.ranges place.other t.stage.sub_operation) t.stage.names doc = subst (λ s. StageStands t.before t.ref c s t.stage.names doc) place.made h.0 in
+    let here : StageStands t.before t.ref c (placed place.first place.second place.ranges place.other t.stage.sub_operation) t.stage.names doc = subst
+    (λ s. StageStands t.before t.ref c s t.stage.names doc) place.made h.0 in
     let known : writes_known_units doc.rows.items doc.cols.items t.stage ≡ true =
     subst (λ i. writes_known_units doc.rows.items doc.cols.items (record { stage = i; sub_operation = t.stage.sub_operation; names = t.stage.names }) ≡ true) (sym told.0)
     (known-units t.before t.ref c doc t.stage.names ordered t.stage.sub_operation place.first place.second place.ranges place.other here) in

@@ -72,7 +72,12 @@ from-mark k ks (Some j) l h = among-all (nat_le k) ks j l h
 from-element : (n k : ℕ) (ks : List ℕ) → list_all (nat_le k) ks ≡ true → (e : ListElement) → is_within n ks e ≡ true → is_from k e ≡ true
 from-element n k ks l e h =
     let p = parts n ks e h in
-    rw (from-stamp n k ks e.ins l p.0, from-mark k ks e.removal_stage l p.2, all-weaker (λ q. is_among ks q.0) (λ q. nat_le k q.0) (λ q g. among-all (nat_le k) ks q.0 l g) e.pending p.3) refl
+    rw (
+      from-stamp n k ks e.ins l p.0,
+      from-mark k ks e.removal_stage l p.2,
+      all-weaker (λ q. is_among ks q.0) (λ q. nat_le k q.0)
+          (λ q g. among-all (nat_le k) ks q.0 l g) e.pending p.3,
+    ) refl
 
 -- nothing below the least stage is pending
 pub within-from : (n k : ℕ) (ks : List ℕ) (xs : List ListElement) → list_all (nat_le k) ks ≡ true → list_all (is_within n ks) xs ≡ true → list_all (is_from k) xs ≡ true
@@ -101,7 +106,8 @@ current-element n c k ks l e h =
     ) refl
 
 -- a message of reference number n will know all
-pub within-current : (n c k : ℕ) (ks : List ℕ) (xs : List ListElement) → list_all (λ j. nat_le j k) ks ≡ true → list_all (is_within n ks) xs ≡ true → list_all (is_current n c k) xs ≡ true
+pub within-current : (n c k : ℕ) (ks : List ℕ) (xs : List ListElement) → list_all (λ j. nat_le j k) ks ≡ true → list_all (is_within n ks) xs ≡ true
+    → list_all (is_current n c k) xs ≡ true
 within-current n c k ks xs l h = all-weaker (is_within n ks) (is_current n c k) (current-element n c k ks l) xs h
 
 -- ---- more numbers and more stages
@@ -148,7 +154,8 @@ all-put is place past zero new xs h g = all-past is past new xs h g
 all-put is place past (suc q) new [] h g = h
 all-put is place past (suc q) new (x ∷ xs) h g = grind (arith, all-put is place past q new xs, all-put is place past (suc q) new xs)
 
-pub all-ranges : {A : Type 0} (is seen : A → Bool) (g : A → A) → ((x : A) → is x ≡ true → is (g x) ≡ true) → (ranges : List (ℕ × ℕ)) (xs : List A) → list_all is xs ≡ true → list_all is (change_ranges seen g ranges xs) ≡ true
+pub all-ranges : {A : Type 0} (is seen : A → Bool) (g : A → A) → ((x : A) → is x ≡ true → is (g x) ≡ true) → (ranges : List (ℕ × ℕ)) (xs : List A)
+    → list_all is xs ≡ true → list_all is (change_ranges seen g ranges xs) ≡ true
 all-ranges is seen g keep [] xs h = h
 all-ranges is seen g keep ((p, q) ∷ ranges) xs h = all-ranges is seen g keep ranges (change_range seen p q g xs) (all-range is seen g keep p q 0 xs h)
 
@@ -161,7 +168,8 @@ all-map is is' f keep (x ∷ xs) h = grind (arith, all-map is is' f keep xs, kee
 append-none : (ks : List ℕ) → ks ++ [] ≡ ks
 append-none ks = append-nil ks
 
-new-within : (s d i : ℕ) (by : Option Stamp) (props : PropertyList) (items : List ElementContent) (ks : List ℕ) → list_all (is_within s ks) (new_elements i (Acked s d) [] by props items) ≡ true
+new-within : (s d i : ℕ) (by : Option Stamp) (props : PropertyList) (items : List ElementContent) (ks : List ℕ)
+    → list_all (is_within s ks) (new_elements i (Acked s d) [] by props items) ≡ true
 new-within s d i by props [] ks = refl
 new-within s d i by props (b ∷ bs) ks = rw (own-least s, new-within s d (i + 1) by props bs ks) refl
 
@@ -186,7 +194,8 @@ last-among ks k = list_any-append (nat_eq k) ks (k ∷ []) ∙ rw (same_itself k
     same_itself : (n : ℕ) → nat_eq n n ≡ true
     same_itself n = grind (arith, nat_tests)
 
-own-new-within : (n k i : ℕ) (ks : List ℕ) (props : PropertyList) (items : List ElementContent) → list_all (is_within n (ks ++ (k ∷ []))) (new_elements i (Local k) [] None props items) ≡ true
+own-new-within : (n k i : ℕ) (ks : List ℕ) (props : PropertyList) (items : List ElementContent)
+    → list_all (is_within n (ks ++ (k ∷ []))) (new_elements i (Local k) [] None props items) ≡ true
 own-new-within n k i ks props [] = refl
 own-new-within n k i ks props (b ∷ bs) = rw (last-among ks k, own-new-within n k (i + 1) ks props bs) refl
 
@@ -195,19 +204,23 @@ own-removal-within n k ks e h =
     let p = parts n (ks ++ (k ∷ [])) e h in
     rw (p.0, p.1, last-among ks k, p.3) refl
 
-own-annotation-within : (n k : ℕ) (ks : List ℕ) (changes : Changes) (e : ListElement) → is_within n (ks ++ (k ∷ [])) e ≡ true → is_within n (ks ++ (k ∷ [])) (with_pending_annotation k changes e) ≡ true
+own-annotation-within : (n k : ℕ) (ks : List ℕ) (changes : Changes) (e : ListElement) → is_within n (ks ++ (k ∷ [])) e ≡ true
+    → is_within n (ks ++ (k ∷ [])) (with_pending_annotation k changes e) ≡ true
 own-annotation-within n k ks changes e h =
     let p = parts n (ks ++ (k ∷ [])) e h in
     rw (p.0, p.1, p.2, all-append (λ q. is_among (ks ++ (k ∷ [])) q.0) e.pending ((k, changes) ∷ []) p.3 (rw (last-among ks k) refl)) refl
 
 -- an edit of the client's own
-pub within-own : (n k : ℕ) (edit : StageEdit) (ks : List ℕ) (xs : List ListElement) → list_all (is_within n ks) xs ≡ true → list_all (is_within n (ks ++ (suc k ∷ []))) (after_own k edit xs) ≡ true
+pub within-own : (n k : ℕ) (edit : StageEdit) (ks : List ℕ) (xs : List ListElement) → list_all (is_within n ks) xs ≡ true
+    → list_all (is_within n (ks ++ (suc k ∷ []))) (after_own k edit xs) ≡ true
 within-own n k edit ks xs h = steps edit (within-more n n ks (suc k ∷ []) xs (omega arith) h)
   where
     steps : (edit : StageEdit) → list_all (is_within n (ks ++ (suc k ∷ []))) xs ≡ true → list_all (is_within n (ks ++ (suc k ∷ []))) (after_own k edit xs) ≡ true
-    steps (PutIn p props items) g = all-put (is_within n (ks ++ (suc k ∷ []))) (seen k) no_run p (new_elements 0 (Local (suc k)) [] None props items) xs (own-new-within n (suc k) 0 ks props items) g
+    steps (PutIn p props items) g = all-put (is_within n (ks ++ (suc k ∷ []))) (seen k) no_run p (new_elements 0 (Local (suc k)) [] None props items) xs
+        (own-new-within n (suc k) 0 ks props items) g
     steps (TakenOut ranges) g = all-ranges (is_within n (ks ++ (suc k ∷ []))) (seen k) (with_pending_removal (suc k)) (own-removal-within n (suc k) ks) ranges xs g
-    steps (Annotated ranges changes) g = all-ranges (is_within n (ks ++ (suc k ∷ []))) (seen k) (with_pending_annotation (suc k) changes) (own-annotation-within n (suc k) ks changes) ranges xs g
+    steps (Annotated ranges changes) g = all-ranges (is_within n (ks ++ (suc k ∷ []))) (seen k) (with_pending_annotation (suc k) changes)
+        (own-annotation-within n (suc k) ks changes) ranges xs g
 
 acked-stamp-within : (n s d k : ℕ) (ks : List ℕ) (t : Stamp) → n ≤ s → stamp_within n (k ∷ ks) t ≡ true → stamp_within s ks (acked_stamp k s d t) ≡ true
 acked-stamp-within n s d k ks (Acked i c) l h = more-number n s l i h
@@ -233,7 +246,8 @@ remaining-within k ks (Some j) h = either (nat_eq j k) h
     either true g = refl
     either false g = g
 
-filtered-within : (k : ℕ) (ks : List ℕ) (pending : List (ℕ × Changes)) → list_all (λ p. is_among (k ∷ ks) p.0) pending ≡ true → list_all (λ p. is_among ks p.0) (filter (λ p. not (nat_eq p.0 k)) pending) ≡ true
+filtered-within : (k : ℕ) (ks : List ℕ) (pending : List (ℕ × Changes)) → list_all (λ p. is_among (k ∷ ks) p.0) pending ≡ true
+    → list_all (λ p. is_among ks p.0) (filter (λ p. not (nat_eq p.0 k)) pending) ≡ true
 filtered-within k ks [] h = refl
 filtered-within k ks (p ∷ pending) h = grind (arith, filtered-within k ks pending)
 
@@ -242,11 +256,13 @@ acked-element-within n s d k m ks l e h =
     let p = parts n (k ∷ ks) e h in
     rw (
       acked-stamp-within n s d k ks e.ins l p.0,
-      all-append (is_numbered s) e.dels (acked_removal k s d e.removal_stage) (all-weaker (is_numbered n) (is_numbered s) (more-removal n s l) e.dels p.1) (acked-removal-within s d k e.removal_stage),
+      all-append (is_numbered s) e.dels (acked_removal k s d e.removal_stage) (all-weaker (is_numbered n) (is_numbered s) (more-removal n s l) e.dels p.1)
+          (acked-removal-within s d k e.removal_stage),
       remaining-within k ks e.removal_stage p.2,
       filtered-within k ks e.pending p.3,
     ) refl
 
 -- an acknowledgement
-pub within-acked : (n s d k m : ℕ) (ks : List ℕ) (xs : List ListElement) → n ≤ s → list_all (is_within n (k ∷ ks)) xs ≡ true → list_all (is_within s ks) (map (acked_element k m s d) xs) ≡ true
+pub within-acked : (n s d k m : ℕ) (ks : List ℕ) (xs : List ListElement) → n ≤ s → list_all (is_within n (k ∷ ks)) xs ≡ true
+    → list_all (is_within s ks) (map (acked_element k m s d) xs) ≡ true
 within-acked n s d k m ks xs l h = all-map (is_within n (k ∷ ks)) (is_within s ks) (acked_element k m s d) (acked-element-within n s d k m ks l) xs h

@@ -114,11 +114,13 @@ module _ (k n : ℕ) where
       step false = refl
 
   -- a name that an element of the stage gets
-  new-name : (m : ℕ) (i : ElementId) → one_more_if (same_id (SequencedId (n + m)) (acked_id k n i)) 0 ≡ one_more_if (same_id (PendingId k m) i) 0 + one_more_if (same_id (SequencedId (n + m)) i) 0
+  new-name : (m : ℕ) (i : ElementId) → one_more_if (same_id (SequencedId (n + m)) (acked_id k n i)) 0
+      ≡ one_more_if (same_id (PendingId k m) i) 0 + one_more_if (same_id (SequencedId (n + m)) i) 0
   new-name m (SequencedId j) = omega arith
   new-name m (PendingId j p) = step (nat_eq j k) refl
     where
-      step : (b : Bool) → nat_eq j k ≡ b → one_more_if (same_id (SequencedId (n + m)) (cond b (SequencedId (n + p)) (PendingId j p))) 0 ≡ one_more_if (nat_eq k j && nat_eq m p) 0 + 0
+      step : (b : Bool) → nat_eq j k ≡ b → one_more_if (same_id (SequencedId (n + m)) (cond b (SequencedId (n + p)) (PendingId j p))) 0
+          ≡ one_more_if (nat_eq k j && nat_eq m p) 0 + 0
       step true e = ap (λ b. one_more_if b 0) (same-sum n m p ∙ ap (λ b. b && nat_eq m p) (sym (symmetric j k true e))) ∙ plus (one_more_if (nat_eq k j && nat_eq m p) 0)
         where
           plus : (i : ℕ) → i ≡ i + 0
@@ -239,7 +241,8 @@ module _ (last k s c : ℕ) (list : Sequence) (h : IsWellNumbered last list) whe
               subst (λ i. i ≤ 1) (sym (old-count n low)) (h.once (SequencedId n))
           number false e =
               let high : list.made ≤ n = grind (arith, nat_tests) in
-              subst (λ i. len (has_id (SequencedId i)) (map (acked_element k list.made s c) list.items) ≤ 1) (sym (split n high)) (subst (λ i. i ≤ 1) (sym (new-count (n - list.made))) (h.once (PendingId k (n - list.made))))
+              subst (λ i. len (has_id (SequencedId i)) (map (acked_element k list.made s c) list.items) ≤ 1) (sym (split n high))
+              (subst (λ i. i ≤ 1) (sym (new-count (n - list.made))) (h.once (PendingId k (n - list.made))))
       once (PendingId j m) = stage (nat_eq j k) refl
         where
           stage : (b : Bool) → nat_eq j k ≡ b → len (has_id (PendingId j m)) (map (acked_element k list.made s c) list.items) ≤ 1
@@ -251,12 +254,14 @@ module _ (last k s c : ℕ) (list : Sequence) (h : IsWellNumbered last list) whe
           subst (λ i. len (has_id (SequencedId i)) (map (acked_element k list.made s c) list.items) ≡ 0) (sym (split n (omega arith)))
           (new-count (n - list.made) ∙ h.counted k (n - list.made) (omega arith))
 
-      counted : (j n : ℕ) → len (is_inserted_by j) (map (acked_element k list.made s c) list.items) ≤ n → len (has_id (PendingId j n)) (map (acked_element k list.made s c) list.items) ≡ 0
+      counted : (j n : ℕ) → len (is_inserted_by j) (map (acked_element k list.made s c) list.items) ≤ n
+          → len (has_id (PendingId j n)) (map (acked_element k list.made s c) list.items) ≡ 0
       counted j n l = stage (nat_eq j k) refl
         where
           stage : (b : Bool) → nat_eq j k ≡ b → len (has_id (PendingId j n)) (map (acked_element k list.made s c) list.items) ≡ 0
           stage true e = names-acked (PendingId j n) ∙ len-none _ (λ x. gone-name k list.made j n (id x) e) list.items
-          stage false e = names-acked (PendingId j n) ∙ len-same _ _ (λ x. other-name k list.made j n (id x) e) list.items ∙ h.counted j n (subst (λ i. i ≤ n) (stage-count j false e) l)
+          stage false e = names-acked (PendingId j n) ∙ len-same _ _ (λ x. other-name k list.made j n (id x) e) list.items
+              ∙ h.counted j n (subst (λ i. i ≤ n) (stage-count j false e) l)
 
   -- a name that stands is below the next number
   pub stands-below : (a : ElementId) → 1 ≤ len (has_id a) list.items → IsBelow list.made a
@@ -271,11 +276,13 @@ module _ (last k s c : ℕ) (list : Sequence) (h : IsWellNumbered last list) whe
           absurd (omega arith)
 
 -- the names of all elements are below the next number
-pub each-below : (n m : ℕ) {xs ys : List ListElement} → ((i : ℕ) → n ≤ i → len (has_id (SequencedId i)) xs ≡ 0) → ((i : ℕ) → m ≤ i → len (has_id (SequencedId i)) ys ≡ 0) → BesideList IsTwin xs ys
+pub each-below : (n m : ℕ) {xs ys : List ListElement} → ((i : ℕ) → n ≤ i → len (has_id (SequencedId i)) xs ≡ 0)
+    → ((i : ℕ) → m ≤ i → len (has_id (SequencedId i)) ys ≡ 0) → BesideList IsTwin xs ys
     → BesideList (λ x y. IsBelow n (id x) × IsBelow m (id y)) xs ys
 each-below n m f g ends = ends
 each-below n m f g (next {x = x} {y = y} {xs = xs} {ys = ys} t ts) =
-    next (name n x xs f, name m y ys g) (each-below n m (λ i l. (less (has_id (SequencedId i) x) (len (has_id (SequencedId i)) xs) (f i l))) (λ i l. (less (has_id (SequencedId i) y) (len (has_id (SequencedId i)) ys) (g i l))) ts)
+    next (name n x xs f, name m y ys g) (each-below n m (λ i l. (less (has_id (SequencedId i) x) (len (has_id (SequencedId i)) xs) (f i l)))
+    (λ i l. (less (has_id (SequencedId i) y) (len (has_id (SequencedId i)) ys) (g i l))) ts)
   where
     less : (b : Bool) (i : ℕ) → one_more_if b i ≡ 0 → i ≡ 0
     less true i h = absurd (omega arith)
@@ -309,7 +316,11 @@ module _ (last k s c : ℕ) (l m : Sequence) (h : ListsAlike last l m) where
       → BesideList (Named P) l.items m.items → BesideList (Named R) (acked_list k s c l).items (acked_list k s c m).items
   acked-carries P R f g =
       beside-map (acked_element k l.made s c) (acked_element k m.made s c)
-      (λ x y q. (acked-twin k l.made m.made s c x y q.1.0, subst (λ a. R a (id (acked_element k m.made s c y))) (sym (acked-id k s c l.made x)) (subst (λ b. R (acked_id k l.made (id x)) b) (sym (acked-id k s c m.made y)) (f (id x) (id y) q.0.0 q.0.1 q.1.1))))
+      (λ x y q. (
+        acked-twin k l.made m.made s c x y q.1.0,
+        subst (λ a. R a (id (acked_element k m.made s c y))) (sym (acked-id k s c l.made x))
+            (subst (λ b. R (acked_id k l.made (id x)) b) (sym (acked-id k s c m.made y)) (f (id x) (id y) q.0.0 q.0.1 q.1.1)),
+      ))
       (beside-both (each-below l.made m.made h.left.below h.right.below h.twins) g)
 
   pub acked-alike : ListsAlike last (acked_list k s c l) (acked_list k s c m)
@@ -319,21 +330,26 @@ module _ (last k s c : ℕ) (l m : Sequence) (h : ListsAlike last l m) where
     twins = beside-map (acked_element k l.made s c) (acked_element k m.made s c) (λ x y t. acked-twin k l.made m.made s c x y t) h.twins;
   }
 
-  pub acked-stands : (a b : ElementId) → StandAlike l.items m.items a b → StandAlike (acked_list k s c l).items (acked_list k s c m).items (acked_id k l.made a) (acked_id k m.made b)
+  pub acked-stands : (a b : ElementId) → StandAlike l.items m.items a b → StandAlike (acked_list k s c l).items (acked_list k s c m).items
+      (acked_id k l.made a) (acked_id k m.made b)
   acked-stands a b t = record {
-    there = bigger _ _ t.there (subst (λ n. len (has_id a) l.items ≤ n) (sym (len-map (has_id (acked_id k l.made a)) (acked_element k l.made s c) l.items)) (len-weaker _ _ (λ e g. still e g) l.items));
+    there = bigger _ _ t.there (subst (λ n. len (has_id a) l.items ≤ n) (sym (len-map (has_id (acked_id k l.made a)) (acked_element k l.made s c) l.items))
+        (len-weaker _ _ (λ e g. still e g) l.items));
     twins = acked-carries (λ i j. same_id a i ≡ same_id b j) (λ i j. same_id (acked_id k l.made a) i ≡ same_id (acked_id k m.made b) j)
-        (λ i j p q e. same-acked k l.made a i (stands-below last k s c l h.left a t.there) p ∙ e ∙ sym (same-acked k m.made b j (stands-below last k s c m h.right b (there-other t)) q)) t.twins;
+        (λ i j p q e. same-acked k l.made a i (stands-below last k s c l h.left a t.there) p ∙ e
+        ∙ sym (same-acked k m.made b j (stands-below last k s c m h.right b (there-other t)) q)) t.twins;
   }
     where
       bigger : (i j : ℕ) → 1 ≤ i → i ≤ j → 1 ≤ j
       bigger i j p q = omega arith
 
       still : (e : ListElement) → has_id a e ≡ true → has_id (acked_id k l.made a) (acked_element k l.made s c e) ≡ true
-      still e g = ap (same_id (acked_id k l.made a)) (acked-id k s c l.made e) ∙ ap (λ i. same_id (acked_id k l.made a) (acked_id k l.made i)) (sym (same_id-eq a (id e) g)) ∙ same_id-refl (acked_id k l.made a)
+      still e g = ap (same_id (acked_id k l.made a)) (acked-id k s c l.made e)
+          ∙ ap (λ i. same_id (acked_id k l.made a) (acked_id k l.made i)) (sym (same_id-eq a (id e) g)) ∙ same_id-refl (acked_id k l.made a)
 
 -- a name in a list without elements of the stage is none of the stage
-pub unstaged : (last k n : ℕ) (list : Sequence) (a : ElementId) → IsWellNumbered last list → len (is_inserted_by k) list.items ≡ 0 → 1 ≤ len (has_id a) list.items → acked_id k n a ≡ a
+pub unstaged : (last k n : ℕ) (list : Sequence) (a : ElementId) → IsWellNumbered last list → len (is_inserted_by k) list.items ≡ 0
+    → 1 ≤ len (has_id a) list.items → acked_id k n a ≡ a
 unstaged last k n list (SequencedId m) h z l = refl
 unstaged last k n list (PendingId j m) h z l = stage (nat_eq j k) refl
   where

@@ -56,11 +56,13 @@ module _ {A B : Type 0} {Q : A → B → Type 0} where
   beside-length (next q qs) = ap suc (beside-length qs)
 
   -- changed by f and by g
-  pub beside-map : {C D : Type 0} {R : C → D → Type 0} (f : A → C) (g : B → D) → ((x : A) (y : B) → Q x y → R (f x) (g y)) → {xs : List A} {ys : List B} → Beside A B Q xs ys → Beside C D R (map f xs) (map g ys)
+  pub beside-map : {C D : Type 0} {R : C → D → Type 0} (f : A → C) (g : B → D) → ((x : A) (y : B) → Q x y → R (f x) (g y)) → {xs : List A} {ys : List B}
+      → Beside A B Q xs ys → Beside C D R (map f xs) (map g ys)
   beside-map f g h ends = ends
   beside-map f g h (next {x = x} {y = y} q qs) = next (h x y q) (beside-map f g h qs)
 
-  pub beside-flat : {C D : Type 0} {R : C → D → Type 0} (f : A → List C) (g : B → List D) → ((x : A) (y : B) → Q x y → Beside C D R (f x) (g y)) → {xs : List A} {ys : List B} → Beside A B Q xs ys → Beside C D R (flat_map f xs) (flat_map g ys)
+  pub beside-flat : {C D : Type 0} {R : C → D → Type 0} (f : A → List C) (g : B → List D) → ((x : A) (y : B) → Q x y → Beside C D R (f x) (g y))
+      → {xs : List A} {ys : List B} → Beside A B Q xs ys → Beside C D R (flat_map f xs) (flat_map g ys)
   beside-flat f g h ends = ends
   beside-flat {R = R} f g h (next {x = x} {y = y} q qs) = flat-append (h x y q) (beside-flat f g h qs)
     where
@@ -73,7 +75,8 @@ module _ {A B : Type 0} {Q : A → B → Type 0} where
   same-map f g h ends = refl
   same-map f g h (next {x = x} {y = y} {xs = xs} q qs) = ap (λ c. c ∷ map f xs) (h x y q) ∙ ap (λ cs. g y ∷ cs) (same-map f g h qs)
 
-  pub same-flat : {C : Type 0} (f : A → List C) (g : B → List C) → ((x : A) (y : B) → Q x y → f x ≡ g y) → {xs : List A} {ys : List B} → Beside A B Q xs ys → flat_map f xs ≡ flat_map g ys
+  pub same-flat : {C : Type 0} (f : A → List C) (g : B → List C) → ((x : A) (y : B) → Q x y → f x ≡ g y) → {xs : List A} {ys : List B} → Beside A B Q xs ys
+      → flat_map f xs ≡ flat_map g ys
   same-flat f g h ends = refl
   same-flat f g h (next {x = x} {y = y} {xs = xs} q qs) = ap (λ c. c ++ flat_map f xs) (h x y q) ∙ ap (λ cs. g y ++ cs) (same-flat f g h qs)
 
@@ -112,14 +115,16 @@ module _ {A B : Type 0} {Q : A → B → Type 0} where
         step true false e f h = (cc)
         step false true e f h = (cc)
     both-at (suc i) (next {x = x} {y = y} {xs = xs} {ys = ys} q qs) =
-        subst (λ b. Both A B (λ x y. Q x y × (seen x ≡ true)) (at seen (cond (seen x) i (suc i)) xs) (at seen' (cond b i (suc i)) ys)) (agree x y q) (both-at (cond (seen x) i (suc i)) qs)
+        subst (λ b. Both A B (λ x y. Q x y × (seen x ≡ true)) (at seen (cond (seen x) i (suc i)) xs) (at seen' (cond b i (suc i)) ys)) (agree x y q)
+        (both-at (cond (seen x) i (suc i)) qs)
 
     pub beside-range : (f : A → A) (g : B → B) → ((x : A) (y : B) → Q x y → Q (f x) (g y)) → (i p q : ℕ) {xs : List A} {ys : List B} → Beside A B Q xs ys
         → Beside A B Q (change_range_from i seen p q f xs) (change_range_from i seen' p q g ys)
     beside-range f g h i p q ends = ends
     beside-range f g h i p q (next {x = x} {y = y} {xs = xs} {ys = ys} r rs) =
         next (element-choice Q (seen x && within p q i) (seen' y && within p q i) (ap (λ b. b && within p q i) (agree x y r)) (h x y r) r)
-        (subst (λ b. Beside A B Q (change_range_from (one_more_if (seen x) i) seen p q f xs) (change_range_from (one_more_if b i) seen' p q g ys)) (agree x y r) (beside-range f g h (one_more_if (seen x) i) p q rs))
+        (subst (λ b. Beside A B Q (change_range_from (one_more_if (seen x) i) seen p q f xs) (change_range_from (one_more_if b i) seen' p q g ys))
+        (agree x y r) (beside-range f g h (one_more_if (seen x) i) p q rs))
 
     module _ (past : A → Bool) (past' : B → Bool) (goes : (x : A) (y : B) → Q x y → past x ≡ past' y) {new : List A} {new' : List B} (news : Beside A B Q new new') where
       pub beside-past : {xs : List A} {ys : List B} → Beside A B Q xs ys → Beside A B Q (put_past past new xs) (put_past past' new' ys)
@@ -130,13 +135,15 @@ module _ {A B : Type 0} {Q : A → B → Type 0} where
       beside-put zero qs = beside-past qs
       beside-put (suc p) ends = news
       beside-put (suc p) (next {x = x} {y = y} {xs = xs} {ys = ys} q qs) =
-          next q (subst (λ b. Beside A B Q (put seen past (cond (seen x) p (suc p)) new xs) (put seen' past' (cond b p (suc p)) new' ys)) (agree x y q) (beside-put (cond (seen x) p (suc p)) qs))
+          next q (subst (λ b. Beside A B Q (put seen past (cond (seen x) p (suc p)) new xs) (put seen' past' (cond b p (suc p)) new' ys)) (agree x y q)
+          (beside-put (cond (seen x) p (suc p)) qs))
 
   module _ (is : A → Bool) (is' : B → Bool) (same : (x : A) (y : B) → Q x y → is x ≡ is' y) (ok : A → Bool) (ok' : B → Bool) (agree : (x : A) (y : B) → Q x y → ok x ≡ ok' y) where
     pub beside-rank : {xs : List A} {ys : List B} → Beside A B Q xs ys → rank is ok xs ≡ rank is' ok' ys
     beside-rank ends = refl
     beside-rank (next {x = x} {y = y} {xs = xs} q qs) =
-        ap (λ b. cond b 0 (one_more_if (ok x) (rank is ok xs))) (same x y q) ∙ ap (λ b. cond (is' y) 0 (one_more_if b (rank is ok xs))) (agree x y q) ∙ ap (λ n. cond (is' y) 0 (one_more_if (ok' y) n)) (beside-rank qs)
+        ap (λ b. cond b 0 (one_more_if (ok x) (rank is ok xs))) (same x y q) ∙ ap (λ b. cond (is' y) 0 (one_more_if b (rank is ok xs))) (agree x y q)
+        ∙ ap (λ n. cond (is' y) 0 (one_more_if (ok' y) n)) (beside-rank qs)
 
     pub both-settled : {xs : List A} {ys : List B} → Beside A B Q xs ys → {last : Option A} {last' : Option B} → Both A B (λ x y. Q x y × (ok x ≡ true)) last last'
         → Both A B (λ x y. Q x y × (ok x ≡ true)) (settled_after is ok last xs) (settled_after is' ok' last' ys)

@@ -60,14 +60,19 @@ flat-behind (i ∷ es) e = ap (λ ts. i.stages ++ ts) (flat-behind es e) ∙ sym
 draft-alike : (sent : Option SentAs) (ref : ℕ) (x y : NaiveClient) → ClientsAlike x y → ClientsAlike (with_draft sent ref x) (with_draft sent ref y)
 draft-alike None ref x y h = h
 draft-alike (Some sent) ref x y h = record {
-  rest = ap (λ (w : NaiveClient). record w { next_client_seq = w.next_client_seq + 1; queue = w.queue ++ (record { client_seq = sent.client_seq; ref_seq = ref; body = Op sent.op } ∷ []) }) h.rest;
+  rest = ap (λ (w : NaiveClient). record w {
+    next_client_seq = w.next_client_seq + 1;
+    queue = w.queue ++
+        (record { client_seq = sent.client_seq; ref_seq = ref; body = Op sent.op } ∷ []);
+  }) h.rest;
   doc = h.doc;
   pending = h.pending;
   own = h.own;
   rise = h.rise;
 }
 
-module _ (x : NaiveClient) (d : Document) (es : List PendingEdit) (h : DocsAlike x.last_stage x.doc d) (b : EditsBeside x.doc d x.pending es) (own : HasItsStages (stages_of x) x.doc) (rise : RiseTo 0 x.last_stage (stages_of x)) where
+module _ (x : NaiveClient) (d : Document) (es : List PendingEdit) (h : DocsAlike x.last_stage x.doc d) (b : EditsBeside x.doc d x.pending es)
+    (own : HasItsStages (stages_of x) x.doc) (rise : RiseTo 0 x.last_stage (stages_of x)) where
   abbrev other : NaiveClient
   other = record x { doc = d; pending = es }
 
@@ -78,24 +83,49 @@ module _ (x : NaiveClient) (d : Document) (es : List PendingEdit) (h : DocsAlike
       edit : List Stage → PendingEdit
       edit ts = record { stages = ts; ref_seq = x.doc.number; sent = sent_as x.link x.next_client_seq op }
 
-      made : (p q : Document) (ts us : List Stage) → DocsStep x.last_stage (x.last_stage + length ts) x.doc d p q → StagesBeside p q ts us → HasItsStages (stages_of x ++ ts) p → RiseTo 0 (x.last_stage + length ts) (stages_of x ++ ts)
-          → ClientsAlike (record x { doc = p; last_stage = x.last_stage + length ts; pending = x.pending ++ (record { stages = ts; ref_seq = x.doc.number; sent = sent_as x.link x.next_client_seq op } ∷ []) })
-          (record x { doc = q; last_stage = x.last_stage + length ts; pending = es ++ (record { stages = us; ref_seq = x.doc.number; sent = sent_as x.link x.next_client_seq op } ∷ []) })
+      made : (p q : Document) (ts us : List Stage) → DocsStep x.last_stage (x.last_stage + length ts) x.doc d p q → StagesBeside p q ts us
+          → HasItsStages (stages_of x ++ ts) p → RiseTo 0 (x.last_stage + length ts) (stages_of x ++ ts)
+          → ClientsAlike (record x {
+            doc = p;
+            last_stage = x.last_stage + length ts;
+            pending = x.pending ++
+                (record { stages = ts; ref_seq = x.doc.number; sent = sent_as x.link x.next_client_seq op } ∷ []);
+          })
+          (record x {
+            doc = q;
+            last_stage = x.last_stage + length ts;
+            pending = es ++
+                (record { stages = us; ref_seq = x.doc.number; sent = sent_as x.link x.next_client_seq op } ∷ []);
+          })
       made p q ts us step s o r = record {
         rest = refl;
         doc = step.alike;
         pending = beside-append (edits-stay x.doc d p q step.names b) (next (record { stages = s; ref_seq = refl; sent = refl }) ends);
         own = subst (λ ss. HasItsStages ss p) (sym (flat-behind x.pending (record { stages = ts; ref_seq = x.doc.number; sent = sent_as x.link x.next_client_seq op }))) o;
-        rise = subst (λ ss. RiseTo 0 (x.last_stage + length ts) ss) (sym (flat-behind x.pending (record { stages = ts; ref_seq = x.doc.number; sent = sent_as x.link x.next_client_seq op }))) r;
+        rise = subst (λ ss. RiseTo 0 (x.last_stage + length ts) ss) (sym (flat-behind x.pending
+            (record { stages = ts; ref_seq = x.doc.number; sent = sent_as x.link x.next_client_seq op }))) r;
       }
 
       answer : {r1 r2 : Result (Document × List Stage) EditFault} → SubsAlike x.last_stage (stages_of x) x.doc d r1 r2
-          → AnswersTwice EditFault (elim r1 [ Err fault ↦ Err fault | Ok taken ↦ Ok (after_edit op taken.0 taken.1 x) ]) (elim r2 [ Err fault ↦ Err fault | Ok taken ↦ Ok (after_edit op taken.0 taken.1 (record x { doc = d; pending = es })) ])
+          → AnswersTwice EditFault (elim r1 [ Err fault ↦ Err fault | Ok taken ↦ Ok (after_edit op taken.0 taken.1 x) ])
+          (elim r2 [ Err fault ↦ Err fault | Ok taken ↦ Ok (after_edit op taken.0 taken.1 (record x { doc = d; pending = es })) ])
       answer (turned_down fault) = both_refuse fault
       answer (went {d = p} {e = q} {ts = ts} {us = us} step s o r) =
           both_take _ _
-          (subst (λ n. ClientsAlike (after_edit op p ts x) (with_draft (sent_as x.link x.next_client_seq op) n (record x { doc = q; last_stage = x.last_stage + length us; pending = es ++ (record { stages = us; ref_seq = n; sent = sent_as x.link x.next_client_seq op } ∷ []) }))) h.parts.number
-          (subst (λ n. ClientsAlike (after_edit op p ts x) (with_draft (sent_as x.link x.next_client_seq op) x.doc.number (record x { doc = q; last_stage = x.last_stage + n; pending = es ++ (record { stages = us; ref_seq = x.doc.number; sent = sent_as x.link x.next_client_seq op } ∷ []) }))) (beside-length s)
+          (subst (λ n. ClientsAlike (after_edit op p ts x) (with_draft (sent_as x.link x.next_client_seq op) n
+          (record x {
+            doc = q;
+            last_stage = x.last_stage + length us;
+            pending = es ++
+                (record { stages = us; ref_seq = n; sent = sent_as x.link x.next_client_seq op } ∷ []);
+          }))) h.parts.number
+          (subst (λ n. ClientsAlike (after_edit op p ts x) (with_draft (sent_as x.link x.next_client_seq op) x.doc.number
+          (record x {
+            doc = q;
+            last_stage = x.last_stage + n;
+            pending = es ++ (record
+                { stages = us; ref_seq = x.doc.number; sent = sent_as x.link x.next_client_seq op } ∷ []);
+          }))) (beside-length s)
           (draft-alike (sent_as x.link x.next_client_seq op) x.doc.number _ _ (made p q ts us step s o r))))
 
   -- ---- an entry
@@ -111,8 +141,16 @@ module _ (x : NaiveClient) (d : Document) (es : List PendingEdit) (h : DocsAlike
 
   sent_as-alike : (entry : Entry) (e f : PendingEdit) → EditAlike x.doc d e f → is_sent_as entry e ≡ is_sent_as entry f
   sent_as-alike entry e f r =
-      ap (λ (s : Option SentAs). elim s [ None ↦ false | Some sent ↦ nat_eq sent.conn entry.origin && same_int (pos sent.client_seq) entry.msg.client_seq && same_int (pos e.ref_seq) entry.msg.ref_seq && is_body sent.op entry.msg.body ]) r.sent
-      ∙ ap (λ n. elim f.sent [ None ↦ false | Some sent ↦ nat_eq sent.conn entry.origin && same_int (pos sent.client_seq) entry.msg.client_seq && same_int (pos n) entry.msg.ref_seq && is_body sent.op entry.msg.body ]) r.ref_seq
+      ap (λ (s : Option SentAs). elim s [
+        | None ↦ false
+        | Some sent ↦ nat_eq sent.conn entry.origin && same_int (pos sent.client_seq) entry.msg.client_seq
+            && same_int (pos e.ref_seq) entry.msg.ref_seq && is_body sent.op entry.msg.body
+      ]) r.sent
+      ∙ ap (λ n. elim f.sent [
+        | None ↦ false
+        | Some sent ↦ nat_eq sent.conn entry.origin && same_int (pos sent.client_seq) entry.msg.client_seq
+            && same_int (pos n) entry.msg.ref_seq && is_body sent.op entry.msg.body
+      ]) r.ref_seq
 
   oldest-alike : (entry : Entry) {is js : List PendingEdit} → EditsBeside x.doc d is js → is_oldest entry is ≡ is_oldest entry js
   oldest-alike entry ends = refl
@@ -120,12 +158,20 @@ module _ (x : NaiveClient) (d : Document) (es : List PendingEdit) (h : DocsAlike
 
   fault-alike : (entry : Entry) → process_fault x entry ≡ process_fault (record x { doc = d; pending = es }) entry
   fault-alike entry =
-      ap (λ n. fault_by entry n x.doc.minimum (is_oldest entry x.pending)) h.parts.number ∙ ap (λ n. fault_by entry d.number n (is_oldest entry x.pending)) h.parts.minimum ∙ ap (λ b. fault_by entry d.number d.minimum b) (oldest-alike entry b)
+      ap (λ n. fault_by entry n x.doc.minimum (is_oldest entry x.pending)) h.parts.number
+      ∙ ap (λ n. fault_by entry d.number n (is_oldest entry x.pending)) h.parts.minimum ∙ ap (λ b. fault_by entry d.number d.minimum b) (oldest-alike entry b)
 
   foreign-of : (entry : Entry) → ClientsAlike (after_foreign_message x entry) (after_foreign_message (record x { doc = d; pending = es }) entry)
   foreign-of entry =
       let step = entry-alike x.last_stage entry x.doc d h in
-      record { rest = refl; doc = step.alike; pending = edits-stay x.doc d _ _ step.names b; own = has-stages (stages_of x) x.doc (take_entry x.doc entry) (entry-stages x.doc entry) own; rise = rise }
+      record {
+        rest = refl;
+        doc = step.alike;
+        pending = edits-stay x.doc d _ _ step.names b;
+        own = has-stages (stages_of x) x.doc (take_entry x.doc entry)
+            (entry-stages x.doc entry) own;
+        rise = rise;
+      }
 
   join-of : (entry : Entry) → ClientsAlike (come_online x entry) (come_online (record x { doc = d; pending = es }) entry)
   join-of entry =
@@ -155,16 +201,26 @@ module _ (x : NaiveClient) (d : Document) (es : List PendingEdit) (h : DocsAlike
         pending = edits;
       }
 
-      alike : (entry : Entry) {p q : Document} → EditsBeside p q (resubmitted_edits (with_numbers entry x.doc) entry.origin 1 x.pending) (resubmitted_edits (with_numbers entry d) entry.origin 1 es)
+      alike : (entry : Entry) {p q : Document} → EditsBeside p q (resubmitted_edits (with_numbers entry x.doc) entry.origin 1 x.pending)
+          (resubmitted_edits (with_numbers entry d) entry.origin 1 es)
           → online entry (map (λ (t : Stage). t.stage) (stages_of x)) (resubmitted_edits (with_numbers entry d) entry.origin 1 es)
-          ≡ record (come_online x entry) { doc = rebuilt_document (map (λ (t : Stage). t.stage) (stages_of x)) (with_numbers entry d); pending = resubmitted_edits (with_numbers entry d) entry.origin 1 es }
+          ≡ record (come_online x entry) {
+            doc = rebuilt_document (map (λ (t : Stage). t.stage) (stages_of x)) (with_numbers entry d);
+            pending =
+                resubmitted_edits (with_numbers entry d) entry.origin 1 es;
+          }
       alike entry r =
-          rw (sym (beside-length r), sym (same-flat (draft_of entry.msg.seq) (draft_of entry.msg.seq) (λ e f s. ap (λ (o : Option SentAs). draft_of entry.msg.seq (record { stages = []; ref_seq = 0; sent = o })) s.sent) r)) refl
+          rw (
+            sym (beside-length r),
+            sym (same-flat (draft_of entry.msg.seq) (draft_of entry.msg.seq)
+                (λ e f s. ap (λ (o : Option SentAs). draft_of entry.msg.seq (record { stages = []; ref_seq = 0; sent = o })) s.sent) r),
+          ) refl
 
 -- ---- its own message
 
 stage-unrenamed : (t : Stage) → renamed_stage (λ i. i) t ≡ t
-stage-unrenamed t = ap (λ o. record t { names = record { first = o; second = renamed (λ i. i) t.names.second } }) (same t.names.first) ∙ ap (λ o. record t { names = record { first = t.names.first; second = o } }) (same t.names.second)
+stage-unrenamed t = ap (λ o. record t { names = record { first = o; second = renamed (λ i. i) t.names.second } }) (same t.names.first)
+    ∙ ap (λ o. record t { names = record { first = t.names.first; second = o } }) (same t.names.second)
   where
     same : (o : Option ElementId) → renamed (λ i. i) o ≡ o
     same None = refl
@@ -186,28 +242,33 @@ flat-renamed : (f : ElementId → ElementId) (es : List PendingEdit) → stages_
 flat-renamed f [] = refl
 flat-renamed f (e ∷ es) = ap (λ ts. map (renamed_stage f) e.stages ++ ts) (flat-renamed f es) ∙ sym (map-append (renamed_stage f) e.stages (stages_in es))
 
-split : (p q : Document) (ts us : List Stage) {vs ws : List Stage} → length ts ≡ length us → StagesBeside p q (ts ++ vs) (us ++ ws) → StagesBeside p q ts us × StagesBeside p q vs ws
+split : (p q : Document) (ts us : List Stage) {vs ws : List Stage} → length ts ≡ length us → StagesBeside p q (ts ++ vs) (us ++ ws) → StagesBeside p q ts us
+    × StagesBeside p q vs ws
 split p q [] [] l h = (ends, h)
 split p q [] (u ∷ us) l h = absurd (omega arith)
 split p q (t ∷ ts) [] l h = absurd (omega arith)
 split p q (t ∷ ts) (u ∷ us) l (next r rs) = let s = split p q ts us (omega arith) rs in (next r s.0, s.1)
 
-edits-renamed : (p q d e : Document) (f g : ElementId → ElementId) {es fs : List PendingEdit} → EditsBeside p q es fs → StagesBeside d e (map (renamed_stage f) (stages_in es)) (map (renamed_stage g) (stages_in fs))
+edits-renamed : (p q d e : Document) (f g : ElementId → ElementId) {es fs : List PendingEdit} → EditsBeside p q es fs
+    → StagesBeside d e (map (renamed_stage f) (stages_in es)) (map (renamed_stage g) (stages_in fs))
     → EditsBeside d e (map (renamed_edit f) es) (map (renamed_edit g) fs)
 edits-renamed p q d e f g ends h = ends
 edits-renamed p q d e f g (next {x = i} {y = j} {xs = es} {ys = fs} r rs) h =
-    let s = split d e (map (renamed_stage f) i.stages) (map (renamed_stage g) j.stages) (map-length (renamed_stage f) i.stages ∙ beside-length r.stages ∙ sym (map-length (renamed_stage g) j.stages))
+    let s = split d e (map (renamed_stage f) i.stages) (map (renamed_stage g) j.stages)
+    (map-length (renamed_stage f) i.stages ∙ beside-length r.stages ∙ sym (map-length (renamed_stage g) j.stages))
     (subst (λ us. StagesBeside d e (map (renamed_stage f) i.stages ++ map (renamed_stage f) (stages_in es)) us) (map-append (renamed_stage g) j.stages (stages_in fs))
     (subst (λ us. StagesBeside d e us (map (renamed_stage g) (j.stages ++ stages_in fs))) (map-append (renamed_stage f) i.stages (stages_in es)) h)) in
     next (record { stages = s.0; ref_seq = r.ref_seq; sent = r.sent }) (edits-renamed p q d e f g rs s.1)
 
-own-of : (s c : ℕ) (x : NaiveClient) (d : Document) (is es : List PendingEdit) → DocsAlike x.last_stage x.doc d → EditsBeside x.doc d is es → HasItsStages (stages_in is) x.doc → RiseTo 0 x.last_stage (stages_in is)
+own-of : (s c : ℕ) (x : NaiveClient) (d : Document) (is es : List PendingEdit) → DocsAlike x.last_stage x.doc d → EditsBeside x.doc d is es
+    → HasItsStages (stages_in is) x.doc → RiseTo 0 x.last_stage (stages_in is)
     → ClientsAlike (acknowledge s c (record x { pending = is })) (acknowledge s c (record x { doc = d; pending = es }))
 own-of s c x d [] [] h ends own rise = record { rest = refl; doc = h; pending = ends; own = own; rise = rise }
 own-of s c x d (i ∷ is) (j ∷ js) h (next r rs) own rise =
     let a = edit-alike x.last_stage s c 0 (stages_in is) (stages_in js) (λ n. n) (λ n. n) i.stages j.stages x.doc d (beside-length r.stages) h
     (subst (λ us. StagesBeside x.doc d (map (renamed_stage (λ n. n)) (i.stages ++ stages_in is)) us) (sym (stages-unrenamed (j.stages ++ stages_in js)))
-    (subst (λ us. StagesBeside x.doc d us (j.stages ++ stages_in js)) (sym (stages-unrenamed (i.stages ++ stages_in is))) (beside-append r.stages (stages-flat x.doc d rs)))) own rise in
+    (subst (λ us. StagesBeside x.doc d us (j.stages ++ stages_in js)) (sym (stages-unrenamed (i.stages ++ stages_in is)))
+    (beside-append r.stages (stages-flat x.doc d rs)))) own rise in
     let m = ack_stages s c (λ n. n) i.stages x.doc in
     let n = ack_stages s c (λ n. n) j.stages d in
     record {
@@ -246,10 +307,12 @@ module _ (x y : NaiveClient) (h : ClientsAlike x y) where
   entry-of : (entry : Entry) → ClientsAlike (after_entry x entry) (after_entry (record x { doc = y.doc; pending = y.pending }) entry)
   entry-of entry =
       choice (is_own_join x.link entry.msg.kind entry.origin) _ _ _ _ (join-of x y.doc y.pending h.doc h.pending h.own h.rise entry)
-      (choice (is_op entry.msg.body && is_own x entry) _ _ _ _ (numbered-alike entry _ _ (own-of entry.msg.seq entry.origin x y.doc x.pending y.pending h.doc h.pending h.own h.rise)) (foreign-of x y.doc y.pending h.doc h.pending h.own h.rise entry))
+      (choice (is_op entry.msg.body && is_own x entry) _ _ _ _ (numbered-alike entry _ _
+      (own-of entry.msg.seq entry.origin x y.doc x.pending y.pending h.doc h.pending h.own h.rise)) (foreign-of x y.doc y.pending h.doc h.pending h.own h.rise entry))
 
   process-of : (entry : Entry) (o p : Option ProcessFault) → o ≡ p
-      → AnswersTwice ProcessFault (elim o [ Some fault ↦ Err fault | None ↦ Ok (after_entry x entry) ]) (elim p [ Some fault ↦ Err fault | None ↦ Ok (after_entry (record x { doc = y.doc; pending = y.pending }) entry) ])
+      → AnswersTwice ProcessFault (elim o [ Some fault ↦ Err fault | None ↦ Ok (after_entry x entry) ])
+      (elim p [ Some fault ↦ Err fault | None ↦ Ok (after_entry (record x { doc = y.doc; pending = y.pending }) entry) ])
   process-of entry None None e = both_take _ _ (entry-of entry)
   process-of entry (Some f) (Some g) e =
       let same : f ≡ g = (cc) in
@@ -260,16 +323,26 @@ module _ (x y : NaiveClient) (h : ClientsAlike x y) where
   pub entries-alike : (entry : Entry) → AnswersTwice ProcessFault (process x entry) (process y entry)
   entries-alike entry =
       subst (λ z. AnswersTwice ProcessFault (process x entry) (process z entry)) (sym h.rest)
-      (process-of entry (process_fault x entry) (process_fault (record x { doc = y.doc; pending = y.pending }) entry) (fault-alike x y.doc y.pending h.doc h.pending h.own h.rise entry))
+      (process-of entry (process_fault x entry) (process_fault (record x { doc = y.doc; pending = y.pending }) entry)
+      (fault-alike x y.doc y.pending h.doc h.pending h.own h.rise entry))
 
-  relinked : (link : Link) (conns : List ℕ) (n : ℕ) (queue : List Draft) → ClientsAlike (record x { link = link; conns = conns; next_client_seq = n; queue = queue }) (record x { doc = y.doc; pending = y.pending; link = link; conns = conns; next_client_seq = n; queue = queue })
+  relinked : (link : Link) (conns : List ℕ) (n : ℕ) (queue : List Draft)
+      → ClientsAlike (record x { link = link; conns = conns; next_client_seq = n; queue = queue })
+      (record x { doc = y.doc; pending = y.pending; link = link; conns = conns; next_client_seq = n; queue = queue })
   relinked link conns n queue = record { rest = refl; doc = h.doc; pending = h.pending; own = h.own; rise = h.rise }
 
   pub connects-alike : (conn : ℕ) → AnswersTwice LinkFault (connect x conn) (connect y conn)
   connects-alike conn = subst (λ z. AnswersTwice LinkFault (connect x conn) (connect z conn)) (sym h.rest) (step x.link)
     where
-      step : (l : Link) → AnswersTwice LinkFault (elim l [ Offline ↦ Ok (record x { link = Joining conn; conns = x.conns ++ (conn ∷ []); next_client_seq = 1 }) | _ ↦ Err AlreadyConnected ])
-          (elim l [ Offline ↦ Ok (record x { doc = y.doc; pending = y.pending; link = Joining conn; conns = x.conns ++ (conn ∷ []); next_client_seq = 1 }) | _ ↦ Err AlreadyConnected ])
+      step : (l : Link) → AnswersTwice LinkFault (elim l [
+        | Offline ↦ Ok (record x { link = Joining conn; conns = x.conns ++ (conn ∷ []); next_client_seq = 1 })
+        | _ ↦ Err AlreadyConnected
+      ])
+          (elim l [
+            | Offline ↦ Ok (record x { doc = y.doc; pending = y.pending; link = Joining conn; conns = x.conns ++ (conn ∷ []); next_client_seq = 1 })
+            | _
+                ↦ Err AlreadyConnected
+          ])
       step Offline = both_take _ _ (relinked (Joining conn) (x.conns ++ (conn ∷ [])) 1 x.queue)
       step (Joining c) = both_refuse AlreadyConnected
       step (Online c) = both_refuse AlreadyConnected
@@ -277,7 +350,8 @@ module _ (x y : NaiveClient) (h : ClientsAlike x y) where
   pub drops-alike : AnswersTwice LinkFault (drop_link x) (drop_link y)
   drops-alike = subst (λ z. AnswersTwice LinkFault (drop_link x) (drop_link z)) (sym h.rest) (step x.link)
     where
-      step : (l : Link) → AnswersTwice LinkFault (elim l [ Offline ↦ Err NotConnected | _ ↦ Ok (record x { link = Offline; queue = [] }) ]) (elim l [ Offline ↦ Err NotConnected | _ ↦ Ok (record x { doc = y.doc; pending = y.pending; link = Offline; queue = [] }) ])
+      step : (l : Link) → AnswersTwice LinkFault (elim l [ Offline ↦ Err NotConnected | _ ↦ Ok (record x { link = Offline; queue = [] }) ])
+          (elim l [ Offline ↦ Err NotConnected | _ ↦ Ok (record x { doc = y.doc; pending = y.pending; link = Offline; queue = [] }) ])
       step Offline = both_refuse NotConnected
       step (Joining c) = both_take _ _ (relinked Offline x.conns x.next_client_seq [])
       step (Online c) = both_take _ _ (relinked Offline x.conns x.next_client_seq [])
@@ -288,14 +362,29 @@ module _ (x y : NaiveClient) (h : ClientsAlike x y) where
       (subst (λ n. AnswersTwice LinkFault (noop x) (elim x.link [ Online conn ↦ Ok (noop_client n) | _ ↦ Err NotConnected ])) h.doc.parts.number (step x.link))
     where
       noop_client : ℕ → NaiveClient
-      noop_client n = record x { doc = y.doc; pending = y.pending; next_client_seq = x.next_client_seq + 1; queue = x.queue ++ (record { client_seq = x.next_client_seq; ref_seq = n; body = Nothing } ∷ []) }
+      noop_client n = record x {
+        doc = y.doc;
+        pending = y.pending;
+        next_client_seq = x.next_client_seq + 1;
+        queue = x.queue ++
+            (record { client_seq = x.next_client_seq; ref_seq = n; body = Nothing } ∷ []);
+      }
 
-      step : (l : Link) → AnswersTwice LinkFault (elim l [ Online conn ↦ Ok (record x { next_client_seq = x.next_client_seq + 1; queue = x.queue ++ (record { client_seq = x.next_client_seq; ref_seq = x.doc.number; body = Nothing } ∷ []) }) | _ ↦ Err NotConnected ])
+      step : (l : Link) → AnswersTwice LinkFault (elim l [
+        | Online conn ↦ Ok (record x {
+          next_client_seq = x.next_client_seq + 1;
+          queue = x.queue ++ (record { client_seq = x.next_client_seq; ref_seq = x.doc.number; body = Nothing } ∷
+              []);
+        })
+        | _ ↦ Err NotConnected
+      ])
           (elim l [ Online conn ↦ Ok (noop_client x.doc.number) | _ ↦ Err NotConnected ])
       step Offline = both_refuse NotConnected
       step (Joining c) = both_refuse NotConnected
-      step (Online c) = both_take _ _ (relinked x.link x.conns (x.next_client_seq + 1) (x.queue ++ (record { client_seq = x.next_client_seq; ref_seq = x.doc.number; body = Nothing } ∷ [])))
+      step (Online c) = both_take _ _ (relinked x.link x.conns (x.next_client_seq + 1)
+          (x.queue ++ (record { client_seq = x.next_client_seq; ref_seq = x.doc.number; body = Nothing } ∷ [])))
 
   -- its first draft goes to the sequencer
   pub sends-alike : ClientsAlike (record x { queue = drop 1 x.queue }) (record y { queue = drop 1 y.queue })
-  sends-alike = subst (λ (z : NaiveClient). ClientsAlike (record x { queue = drop 1 x.queue }) (record z { queue = drop 1 z.queue })) (sym h.rest) (relinked x.link x.conns x.next_client_seq (drop 1 x.queue))
+  sends-alike = subst (λ (z : NaiveClient). ClientsAlike (record x { queue = drop 1 x.queue }) (record z { queue = drop 1 z.queue })) (sym h.rest)
+      (relinked x.link x.conns x.next_client_seq (drop 1 x.queue))

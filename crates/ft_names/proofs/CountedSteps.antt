@@ -62,7 +62,12 @@ then-counted l m n f g = sums l.made m.made n.made (len is_sequenced l.items) (l
     sums a b c i j k f g = omega arith
 
 then-counts : (p q r : Document) → Counts p q → Counts q r → Counts p r
-then-counts p q r f g = record { text = then-counted p.text q.text r.text f.text g.text; rows = then-counted p.rows q.rows r.rows f.rows g.rows; cols = then-counted p.cols q.cols r.cols f.cols g.cols }
+then-counts p q r f g = record {
+  text = then-counted p.text q.text r.text f.text g.text;
+  rows = then-counted p.rows q.rows r.rows f.rows g.rows;
+  cols =
+      then-counted p.cols q.cols r.cols f.cols g.cols;
+}
 
 choice : (before : Document) (b : Bool) (p q : Document) → Counts before p → Counts before q → Counts before (cond b p q)
 choice before true p q f g = f
@@ -97,17 +102,20 @@ inserted s c r p by props bs list =
     sums a n i j k f g = omega arith
 
 locally-inserted : (k p : ℕ) (props : PropertyList) (bs : List ElementContent) (list : Sequence) → Counted list (after_local_insertion k p props bs list)
-locally-inserted k p props bs list = sums _ _ _ _ (len-put-add is_sequenced (seen (k - 1)) no_run p (new_elements 0 (Local k) [] None props bs) list.items) (new-pending None props k 0 bs)
+locally-inserted k p props bs list = sums _ _ _ _ (len-put-add is_sequenced (seen (k - 1)) no_run p (new_elements 0 (Local k) [] None props bs) list.items)
+    (new-pending None props k 0 bs)
   where
     sums : (a i j k : ℕ) → k ≡ j + i → j ≡ 0 → a + i ≡ a + k
     sums a i j k f g = omega arith
 
-changed : (test : ListElement → Bool) (p q : ℕ) (f : ListElement → ListElement) → ((e : ListElement) → is_sequenced (f e) ≡ is_sequenced e) → (list : Sequence) → list.made + len is_sequenced list.items ≡ list.made + len is_sequenced (change_range test p q f list.items)
+changed : (test : ListElement → Bool) (p q : ℕ) (f : ListElement → ListElement) → ((e : ListElement) → is_sequenced (f e) ≡ is_sequenced e) → (list : Sequence)
+    → list.made + len is_sequenced list.items ≡ list.made + len is_sequenced (change_range test p q f list.items)
 changed test p q f same list = ap (λ n. list.made + n) (sym (len-range is_sequenced test f same p q 0 list.items))
 
 acked : (k s c : ℕ) (list : Sequence) → Counted list (acked_list k s c list)
 acked k s c list =
-    sums _ _ _ _ (len-map is_sequenced (acked_element k list.made s c) list.items ∙ len-sum (λ e. is_sequenced (acked_element k list.made s c e)) (λ e. is_of_stage k e.ins) is_sequenced (λ e. stamped e.ins) list.items)
+    sums _ _ _ _ (len-map is_sequenced (acked_element k list.made s c) list.items
+    ∙ len-sum (λ e. is_sequenced (acked_element k list.made s c e)) (λ e. is_of_stage k e.ins) is_sequenced (λ e. stamped e.ins) list.items)
   where
     sums : (a n i j : ℕ) → j ≡ n + i → a + n + i ≡ a + j
     sums a n i j f = omega arith
@@ -122,7 +130,8 @@ acked k s c list =
 
 list-rebuilt : (ks : List ℕ) (list : Sequence) → Counted list (rebuilt_list ks list)
 list-rebuilt ks list =
-    ap (λ n. list.made + n) (sym (stages-none is_sequenced list.items (λ k. filter-none is_sequenced (is_inserted_by k) (λ e g. apart k e.ins g) list.items) ks (retain_map is_sequenced carried_element list.items)
+    ap (λ n. list.made + n) (sym (stages-none is_sequenced list.items (λ k. filter-none is_sequenced (is_inserted_by k) (λ e g. apart k e.ins g) list.items) ks
+    (retain_map is_sequenced carried_element list.items)
     ∙ sequenced-all is_sequenced (λ e. carried e (list_any is_acked e.dels)) (λ e h. h) list.items))
   where
     apart : (k : ℕ) (t : Stamp) → is_of_stage k t ≡ true → is_acked t ≡ false
@@ -138,17 +147,39 @@ list-rebuilt ks list =
 module _ (s c r : ℕ) where
   effect-counts : (doc : Document) (o : SubOperation) → Counts doc (effect doc s c r o)
   effect-counts doc (OnText (Insert p seg props)) =
-      choice doc (nat_le p (len (seen_by r c) doc.text.items)) _ _ (record { text = inserted s c r p (Some (Acked s c)) (apply [] props) (segment_contents seg) doc.text; rows = refl; cols = refl }) (record { text = refl; rows = refl; cols = refl })
-  effect-counts doc (OnText (Remove p q)) = choice doc (nat_le q (len (seen_by r c) doc.text.items)) _ _ (record { text = changed (seen_by r c) p q (with_removal s c) (λ e. refl) doc.text; rows = refl; cols = refl }) (record { text = refl; rows = refl; cols = refl })
+      choice doc (nat_le p (len (seen_by r c) doc.text.items)) _ _ (record {
+        text = inserted s c r p (Some (Acked s c)) (apply [] props) (segment_contents seg)
+            doc.text;
+        rows = refl;
+        cols = refl;
+      }) (record { text = refl; rows = refl; cols = refl })
+  effect-counts doc (OnText (Remove p q)) = choice doc (nat_le q (len (seen_by r c) doc.text.items)) _ _
+      (record { text = changed (seen_by r c) p q (with_removal s c) (λ e. refl) doc.text; rows = refl; cols = refl }) (record { text = refl; rows = refl; cols = refl })
   effect-counts doc (OnText (Annotate p q changes)) =
-      choice doc (nat_le q (len (seen_by r c) doc.text.items)) _ _ (record { text = changed (seen_by r c) p q (with_annotation changes) (λ e. refl) doc.text; rows = refl; cols = refl }) (record { text = refl; rows = refl; cols = refl })
-  effect-counts doc (OnIntervals op) = choice doc (given_ends_fit (len (seen_by r c) doc.text.items) (ends_of op)) _ _ (record { text = refl; rows = refl; cols = refl }) (record { text = refl; rows = refl; cols = refl })
+      choice doc (nat_le q (len (seen_by r c) doc.text.items)) _ _ (record {
+        text = changed (seen_by r c) p q (with_annotation changes) (λ e. refl) doc.text;
+        rows = refl;
+        cols = refl;
+      }) (record { text = refl; rows = refl; cols = refl })
+  effect-counts doc (OnIntervals op) = choice doc (given_ends_fit (len (seen_by r c) doc.text.items) (ends_of op)) _ _
+      (record { text = refl; rows = refl; cols = refl }) (record { text = refl; rows = refl; cols = refl })
   effect-counts doc (OnGrid (SpliceIn Rows p count)) =
-      choice doc (nat_le p (len (seen_by r c) doc.rows.items)) _ _ (record { text = refl; rows = inserted s c r p None [] (replicate count GridUnit) doc.rows; cols = refl }) (record { text = refl; rows = refl; cols = refl })
+      choice doc (nat_le p (len (seen_by r c) doc.rows.items)) _ _ (record {
+        text = refl;
+        rows = inserted s c r p None [] (replicate count GridUnit) doc.rows;
+        cols = refl;
+      }) (record { text = refl; rows = refl; cols = refl })
   effect-counts doc (OnGrid (SpliceIn Cols p count)) =
-      choice doc (nat_le p (len (seen_by r c) doc.cols.items)) _ _ (record { text = refl; rows = refl; cols = inserted s c r p None [] (replicate count GridUnit) doc.cols }) (record { text = refl; rows = refl; cols = refl })
-  effect-counts doc (OnGrid (SpliceOut Rows p q)) = choice doc (nat_le q (len (seen_by r c) doc.rows.items)) _ _ (record { text = refl; rows = changed (seen_by r c) p q (with_removal s c) (λ e. refl) doc.rows; cols = refl }) (record { text = refl; rows = refl; cols = refl })
-  effect-counts doc (OnGrid (SpliceOut Cols p q)) = choice doc (nat_le q (len (seen_by r c) doc.cols.items)) _ _ (record { text = refl; rows = refl; cols = changed (seen_by r c) p q (with_removal s c) (λ e. refl) doc.cols }) (record { text = refl; rows = refl; cols = refl })
+      choice doc (nat_le p (len (seen_by r c) doc.cols.items)) _ _ (record {
+        text = refl;
+        rows = refl;
+        cols = inserted s c r p None []
+            (replicate count GridUnit) doc.cols;
+      }) (record { text = refl; rows = refl; cols = refl })
+  effect-counts doc (OnGrid (SpliceOut Rows p q)) = choice doc (nat_le q (len (seen_by r c) doc.rows.items)) _ _
+      (record { text = refl; rows = changed (seen_by r c) p q (with_removal s c) (λ e. refl) doc.rows; cols = refl }) (record { text = refl; rows = refl; cols = refl })
+  effect-counts doc (OnGrid (SpliceOut Cols p q)) = choice doc (nat_le q (len (seen_by r c) doc.cols.items)) _ _
+      (record { text = refl; rows = refl; cols = changed (seen_by r c) p q (with_removal s c) (λ e. refl) doc.cols }) (record { text = refl; rows = refl; cols = refl })
   effect-counts doc (OnGrid (Set i j value)) = cell _ _
     where
       cell : (o p : Option ListElement) → Counts doc (cell_effect doc o p value)
@@ -175,7 +206,11 @@ foreign-counts doc entry =
 acks-count : (s c : ℕ) (ts : List Stage) (f : ElementId → ElementId) (doc : Document) → Counts doc (ack_stages s c f ts doc).0
 acks-count s c [] f doc = itself doc
 acks-count s c (t ∷ ts) f doc =
-    then-counts doc (ack_stage s c f t doc) _ (record { text = acked t.stage s c doc.text; rows = acked t.stage s c doc.rows; cols = acked t.stage s c doc.cols }) (acks-count s c ts _ (ack_stage s c f t doc))
+    then-counts doc (ack_stage s c f t doc) _ (record {
+      text = acked t.stage s c doc.text;
+      rows = acked t.stage s c doc.rows;
+      cols = acked t.stage s c doc.cols;
+    }) (acks-count s c ts _ (ack_stage s c f t doc))
 
 own-counts : (s c : ℕ) (x : NaiveClient) (es : List PendingEdit) → Counts x.doc (acknowledge s c (record x { pending = es })).doc
 own-counts s c x [] = itself x.doc
@@ -224,12 +259,18 @@ module _ (k : ℕ) where
   text-counts : (doc : Document) (op : BaseOp) → CountsOn doc (local_text doc k op)
   text-counts doc (Insert p seg props) = in-range doc p _ _ (record { text = locally-inserted k p (apply [] props) (segment_contents seg) doc.text; rows = refl; cols = refl })
   text-counts doc (Remove p q) = in-range doc q _ _ (record { text = changed (seen (k - 1)) p q (with_pending_removal k) (λ e. refl) doc.text; rows = refl; cols = refl })
-  text-counts doc (Annotate p q changes) = in-range doc q _ _ (record { text = changed (seen (k - 1)) p q (with_pending_annotation k changes) (λ e. refl) doc.text; rows = refl; cols = refl })
+  text-counts doc (Annotate p q changes) = in-range doc q _ _ (record {
+    text = changed (seen (k - 1)) p q (with_pending_annotation k changes) (λ e. refl)
+        doc.text;
+    rows = refl;
+    cols = refl;
+  })
 
   interval-counts : (doc : Document) (stages : List Stage) (op : TextOp) → CountsOn doc (local_interval doc stages k op)
   interval-counts doc stages op = step (id_fault (shown_intervals doc.text.items doc.intervals stages) op) (given_ends_fit (len (seen (k - 1)) doc.text.items) (ends_of op))
     where
-      step : (f : Option EditFault) (b : Bool) → CountsOn doc (unless_fault f (cond b (Ok (doc, elements_at_given_ends (seen (k - 1)) doc.text.items (ends_of op))) (Err (OutOfRange (len (seen (k - 1)) doc.text.items)))))
+      step : (f : Option EditFault) (b : Bool) → CountsOn doc (unless_fault f
+          (cond b (Ok (doc, elements_at_given_ends (seen (k - 1)) doc.text.items (ends_of op))) (Err (OutOfRange (len (seen (k - 1)) doc.text.items)))))
       step (Some fault) b = refuses fault
       step None true = takes doc _ (itself doc)
       step None false = refuses _
@@ -277,7 +318,8 @@ edits-count q k op e = taken-counts _ q.doc k (answer (subs-count (q.last_stage 
     drafted None n y c = c
     drafted (Some sent) n y c = c
 
-    answer : {r : Result (Document × List Stage) EditFault} → CountsAll q.doc r → CountsStep EditFault q.doc (elim r [ Err fault ↦ Err fault | Ok taken ↦ Ok (after_edit op taken.0 taken.1 q) ])
+    answer : {r : Result (Document × List Stage) EditFault} → CountsAll q.doc r
+        → CountsStep EditFault q.doc (elim r [ Err fault ↦ Err fault | Ok taken ↦ Ok (after_edit op taken.0 taken.1 q) ])
     answer (all_refused fault) = step_refused fault
     answer (all_taken d ts c) = step_taken (after_edit op d ts q) (drafted (sent_as q.link q.next_client_seq op) q.doc.number _ c)
 
@@ -287,7 +329,11 @@ module _ (q k : NaiveClient) where
   pub connects-count : (conn : ℕ) → connect q conn ≡ Ok k → Counts q.doc k.doc
   connects-count conn e = taken-counts _ q.doc k (step q.link) e
     where
-      step : (l : Link) → CountsStep LinkFault q.doc (elim l [ Offline ↦ Ok (record q { link = Joining conn; conns = q.conns ++ (conn ∷ []); next_client_seq = 1 }) | _ ↦ Err AlreadyConnected ])
+      step : (l : Link) → CountsStep LinkFault q.doc (elim l [
+        | Offline ↦ Ok (record q
+            { link = Joining conn; conns = q.conns ++ (conn ∷ []); next_client_seq = 1 })
+        | _ ↦ Err AlreadyConnected
+      ])
       step Offline = step_taken _ (itself q.doc)
       step (Joining c) = step_refused AlreadyConnected
       step (Online c) = step_refused AlreadyConnected
@@ -303,7 +349,15 @@ module _ (q k : NaiveClient) where
   pub idles-count : noop q ≡ Ok k → Counts q.doc k.doc
   idles-count e = taken-counts _ q.doc k (step q.link) e
     where
-      step : (l : Link) → CountsStep LinkFault q.doc (elim l [ Online conn ↦ Ok (record q { next_client_seq = q.next_client_seq + 1; queue = q.queue ++ (record { client_seq = q.next_client_seq; ref_seq = q.doc.number; body = Nothing } ∷ []) }) | _ ↦ Err NotConnected ])
+      step : (l : Link) → CountsStep LinkFault q.doc (elim l [
+        | Online conn ↦ Ok
+            (record q {
+              next_client_seq = q.next_client_seq + 1;
+              queue = q.queue ++
+                  (record { client_seq = q.next_client_seq; ref_seq = q.doc.number; body = Nothing } ∷ []);
+            })
+        | _ ↦ Err NotConnected
+      ])
       step Offline = step_refused NotConnected
       step (Joining c) = step_refused NotConnected
       step (Online c) = step_taken _ (itself q.doc)
@@ -312,24 +366,30 @@ module _ (q k : NaiveClient) where
 
 -- a test of the insertion counts as many of elements that are shown alike
 same-count : (test : Stamp → Bool) (xs ys : List ListElement) → map nameless xs ≡ map nameless ys → len (λ e. test e.ins) xs ≡ len (λ e. test e.ins) ys
-same-count test xs ys h = sym (len-map (λ (d : NamelessElement). test d.stamps.ins) nameless xs) ∙ ap (len (λ (d : NamelessElement). test d.stamps.ins)) h ∙ len-map (λ (d : NamelessElement). test d.stamps.ins) nameless ys
+same-count test xs ys h = sym (len-map (λ (d : NamelessElement). test d.stamps.ins) nameless xs) ∙ ap (len (λ (d : NamelessElement). test d.stamps.ins)) h
+    ∙ len-map (λ (d : NamelessElement). test d.stamps.ins) nameless ys
 
 list-rises : (old new : ℕ) (p q y k : Sequence) → map nameless p.items ≡ map nameless q.items → map nameless y.items ≡ map nameless k.items → Counted p y → Counted q k
     → new + (p.made + len is_pending p.items) ≡ old + (y.made + len is_pending y.items) → new + (q.made + len is_pending q.items) ≡ old + (k.made + len is_pending k.items)
 list-rises old new p q y k before after f g h =
-    sums old new p.made q.made y.made k.made _ _ _ _ _ _ _ _ (same-count is_acked p.items q.items before) (same-count is_acked y.items k.items after) (same-count (λ t. not (is_acked t)) p.items q.items before) (same-count (λ t. not (is_acked t)) y.items k.items after) f g h
+    sums old new p.made q.made y.made k.made _ _ _ _ _ _ _ _ (same-count is_acked p.items q.items before) (same-count is_acked y.items k.items after)
+    (same-count (λ t. not (is_acked t)) p.items q.items before) (same-count (λ t. not (is_acked t)) y.items k.items after) f g h
   where
     sums : (o n a b c d i j u v l m r s : ℕ) → i ≡ j → u ≡ v → l ≡ m → r ≡ s → c + i ≡ a + u → d + j ≡ b + v → n + (a + l) ≡ o + (c + r) → n + (b + m) ≡ o + (d + s)
     sums o n a b c d i j u v l m r s e f g h p q w = omega arith
 
 -- counts that rise as those of one client do rise as those of another that shows the same before and after
-pub rises-alike : (old new : HeldCounts) (p q y k : NaiveClient) → indexed_client p ≡ indexed_client q → indexed_client y ≡ indexed_client k → Counts p.doc y.doc → Counts q.doc k.doc
+pub rises-alike : (old new : HeldCounts) (p q y k : NaiveClient) → indexed_client p ≡ indexed_client q → indexed_client y ≡ indexed_client k
+    → Counts p.doc y.doc → Counts q.doc k.doc
     → RiseAlike old new (held_in p.doc) (held_in y.doc) → RiseAlike old new (held_in q.doc) (held_in k.doc)
 rises-alike old new p q y k before after f g h =
     let b = ap (λ (c : IndexedClient). c.doc) before in
     let a = ap (λ (c : IndexedClient). c.doc) after in
     record {
-      text = list-rises old.text new.text p.doc.text q.doc.text y.doc.text k.doc.text (ap (λ (d : IndexedDocument). d.text) b) (ap (λ (d : IndexedDocument). d.text) a) f.text g.text h.text;
-      rows = list-rises old.rows new.rows p.doc.rows q.doc.rows y.doc.rows k.doc.rows (ap (λ (d : IndexedDocument). d.rows) b) (ap (λ (d : IndexedDocument). d.rows) a) f.rows g.rows h.rows;
-      cols = list-rises old.cols new.cols p.doc.cols q.doc.cols y.doc.cols k.doc.cols (ap (λ (d : IndexedDocument). d.cols) b) (ap (λ (d : IndexedDocument). d.cols) a) f.cols g.cols h.cols;
+      text = list-rises old.text new.text p.doc.text q.doc.text y.doc.text k.doc.text (ap (λ (d : IndexedDocument). d.text) b)
+          (ap (λ (d : IndexedDocument). d.text) a) f.text g.text h.text;
+      rows = list-rises old.rows new.rows p.doc.rows q.doc.rows y.doc.rows k.doc.rows (ap (λ (d : IndexedDocument). d.rows) b)
+          (ap (λ (d : IndexedDocument). d.rows) a) f.rows g.rows h.rows;
+      cols = list-rises old.cols new.cols p.doc.cols q.doc.cols y.doc.cols k.doc.cols (ap (λ (d : IndexedDocument). d.cols) b)
+          (ap (λ (d : IndexedDocument). d.cols) a) f.cols g.cols h.cols;
     }

@@ -101,7 +101,8 @@ module _ (last more : ℕ) (grows : last ≤ more) (p q : Document) (h : DocsAli
   absent-equal : {A : Type 0} (a b : Option A) → a ≡ None → b ≡ None → a ≡ b
   absent-equal a b e f = e ∙ sym f
 
-  all-absent : (i j : ElementId) → ((c : ElementId) → cell_value i c p.cells ≡ None) → ((d : ElementId) → cell_value j d q.cells ≡ None) → RowsAlike p.cols.items q.cols.items p.cells q.cells i j
+  all-absent : (i j : ElementId) → ((c : ElementId) → cell_value i c p.cells ≡ None) → ((d : ElementId) → cell_value j d q.cells ≡ None)
+      → RowsAlike p.cols.items q.cols.items p.cells q.cells i j
   all-absent i j f g = beside-more (λ x y t. (t, f (id x) ∙ sym (g (id y)))) h.parts.cols.twins
 
   pub rows-step : p.rows.made ≤ l.made → q.rows.made ≤ m.made → ListStep last p.rows q.rows l m → DocsStep last more p q (record p { rows = l }) (record q { rows = m })
@@ -111,7 +112,9 @@ module _ (last more : ℕ) (grows : last ≤ more) (p q : Document) (h : DocsAli
         text = later-lists last more p.text q.text grows h.parts.text;
         rows = alike;
         cols = later-lists last more p.cols q.cols grows h.parts.cols;
-        cells = s.carries (RowsAlike p.cols.items q.cols.items p.cells q.cells) (λ i j u v. all-absent i j (λ c. h.parts.left.rows i c (unused-ahead last p.rows.made i u)) (λ d. h.parts.right.rows j d (unused-ahead last q.rows.made j v))) h.parts.cells;
+        cells = s.carries (RowsAlike p.cols.items q.cols.items p.cells q.cells)
+            (λ i j u v. all-absent i j (λ c. h.parts.left.rows i c (unused-ahead last p.rows.made i u))
+            (λ d. h.parts.right.rows j d (unused-ahead last q.rows.made j v))) h.parts.cells;
         left = record { rows = λ row col u. h.parts.left.rows row col (less-ahead p.rows.made l.made row grown u); cols = λ row col u. h.parts.left.cols row col u };
         right = record { rows = λ row col u. h.parts.right.rows row col (less-ahead q.rows.made m.made row grown' u); cols = λ row col u. h.parts.right.cols row col u };
         skipped = h.parts.skipped;
@@ -131,7 +134,11 @@ module _ (last more : ℕ) (grows : last ≤ more) (p q : Document) (h : DocsAli
         text = later-lists last more p.text q.text grows h.parts.text;
         rows = later-lists last more p.rows q.rows grows h.parts.rows;
         cols = alike;
-        cells = beside-more (λ x y r. (r.0, s.carries (λ c d. cell_value (id x) c p.cells ≡ cell_value (id y) d q.cells) (λ c d u v. h.parts.left.cols (id x) c (unused-ahead last p.cols.made c u) ∙ sym (h.parts.right.cols (id y) d (unused-ahead last q.cols.made d v))) r.1)) h.parts.cells;
+        cells = beside-more (λ x y r. (
+          r.0,
+          s.carries (λ c d. cell_value (id x) c p.cells ≡ cell_value (id y) d q.cells)
+              (λ c d u v. h.parts.left.cols (id x) c (unused-ahead last p.cols.made c u) ∙ sym (h.parts.right.cols (id y) d (unused-ahead last q.cols.made d v))) r.1,
+        )) h.parts.cells;
         left = record { rows = λ row col u. h.parts.left.rows row col u; cols = λ row col u. h.parts.left.cols row col (less-ahead p.cols.made l.made col grown u) };
         right = record { rows = λ row col u. h.parts.right.rows row col u; cols = λ row col u. h.parts.right.cols row col (less-ahead q.cols.made m.made col grown' u) };
         skipped = h.parts.skipped;
@@ -164,14 +171,16 @@ parts-intervals last p q h is js = record {
 }
 
 -- the ends slide alike
-pub slid-docs : (last : ℕ) (p q : Document) → PartsAlike last p q → IntervalsBeside (EndsBeside p.text.items q.text.items) p.intervals q.intervals → DocsAlike last (with_slid_ends p) (with_slid_ends q)
+pub slid-docs : (last : ℕ) (p q : Document) → PartsAlike last p q → IntervalsBeside (EndsBeside p.text.items q.text.items) p.intervals q.intervals
+    → DocsAlike last (with_slid_ends p) (with_slid_ends q)
 slid-docs last p q h is = record {
   parts = parts-intervals last p q h (slide_ends p.text.items p.intervals) (slide_ends q.text.items q.intervals);
   intervals = intervals-slide (places last p.text q.text h.text) is;
 }
 
 pub slid-again : (last : ℕ) (p q : Document) → DocsAlike last p q → DocsAlike last (with_slid_ends p) (with_slid_ends q)
-slid-again last p q h = slid-docs last p q h.parts (intervals-more (SettledAlike p.text.items q.text.items) (EndsBeside p.text.items q.text.items) (λ i j e. settled-beside e) h.intervals)
+slid-again last p q h = slid-docs last p q h.parts (intervals-more (SettledAlike p.text.items q.text.items) (EndsBeside p.text.items q.text.items)
+    (λ i j e. settled-beside e) h.intervals)
 
 pub same_id-turn : (a b : ElementId) → same_id a b ≡ same_id b a
 same_id-turn (SequencedId m) (SequencedId n) = sym (symmetric m n (nat_eq m n) refl)
@@ -180,22 +189,38 @@ same_id-turn (PendingId j m) (SequencedId n) = refl
 same_id-turn (PendingId j m) (PendingId k n) = ap (λ b. b && nat_eq m n) (sym (symmetric j k (nat_eq j k) refl)) ∙ ap (λ b. nat_eq k j && b) (sym (symmetric m n (nat_eq m n) refl))
 
 -- a name that comes later is no other that stands
-ahead-other : (last : ℕ) (list : Sequence) (a i : ElementId) → IsWellNumbered last list → 1 ≤ len (has_id a) list.items → IsSequencedName a → IsAhead list.made i → same_id a i ≡ false
+ahead-other : (last : ℕ) (list : Sequence) (a i : ElementId) → IsWellNumbered last list → 1 ≤ len (has_id a) list.items → IsSequencedName a
+    → IsAhead list.made i → same_id a i ≡ false
 ahead-other last list (SequencedId n) (SequencedId m) h l z u = unused-other last list (SequencedId n) (SequencedId m) h l u
 ahead-other last list (SequencedId n) (PendingId k m) h l z u = refl
 ahead-other last list (PendingId k n) i h l z u = absurd z
 
 -- a write to the cell of names that stand at the same places
-pub cells-written : (last : ℕ) (p q : Document) → DocsAlike last p q → (value : ValueBytes) (a b c d : ElementId) → StandAlike p.rows.items q.rows.items a b → StandAlike p.cols.items q.cols.items c d
-    → IsSequencedName a → IsSequencedName b → IsSequencedName c → IsSequencedName d → DocsAlike last (record p { cells = write_cell (record { row = a; col = c; value = value }) p.cells }) (record q { cells = write_cell (record { row = b; col = d; value = value }) q.cells })
+pub cells-written : (last : ℕ) (p q : Document) → DocsAlike last p q → (value : ValueBytes) (a b c d : ElementId) → StandAlike p.rows.items q.rows.items a b
+    → StandAlike p.cols.items q.cols.items c d
+    → IsSequencedName a → IsSequencedName b → IsSequencedName c → IsSequencedName d
+    → DocsAlike last (record p { cells = write_cell (record { row = a; col = c; value = value }) p.cells })
+    (record q { cells = write_cell (record { row = b; col = d; value = value }) q.cells })
 cells-written last p q h value a b c d rows cols sa sb sc sd = record {
   parts = record {
     text = h.parts.text;
     rows = h.parts.rows;
     cols = h.parts.cols;
-    cells = beside-more (λ x y r. (r.0.0, beside-more (λ u v s. (s.0.0, value_of (id x) (id u) (id y) (id v) r.1.1 s.1.1 s.0.1)) (beside-both r.0.1 cols.twins))) (beside-both h.parts.cells rows.twins);
-    left = record { rows = λ row col u. ahead-row last p a c h.parts.left h.parts.rows.left rows.there sa row col u; cols = λ row col u. ahead-col last p a c h.parts.left h.parts.cols.left cols.there sc row col u };
-    right = record { rows = λ row col u. ahead-row last q b d h.parts.right h.parts.rows.right (there-other rows) sb row col u; cols = λ row col u. ahead-col last q b d h.parts.right h.parts.cols.right (there-other cols) sd row col u };
+    cells = beside-more (λ x y r. (
+      r.0.0,
+      beside-more (λ u v s. (s.0.0, value_of (id x) (id u) (id y) (id v) r.1.1 s.1.1 s.0.1))
+          (beside-both r.0.1 cols.twins),
+    )) (beside-both h.parts.cells rows.twins);
+    left = record {
+      rows = λ row col u. ahead-row last p a c h.parts.left h.parts.rows.left rows.there sa row col u;
+      cols = λ row col u. ahead-col last p a c
+          h.parts.left h.parts.cols.left cols.there sc row col u;
+    };
+    right = record {
+      rows = λ row col u. ahead-row last q b d h.parts.right h.parts.rows.right (there-other rows) sb row col u;
+      cols = λ row col u. ahead-col
+          last q b d h.parts.right h.parts.cols.right (there-other cols) sd row col u;
+    };
     skipped = h.parts.skipped;
     other = h.parts.other;
     number = h.parts.number;
@@ -217,21 +242,25 @@ cells-written last p q h value a b c d rows cols sa sb sc sd = record {
     never true = refl
     never false = refl
 
-    ahead-row : (last : ℕ) (p : Document) (a c : ElementId) → HasNoCellsAhead p → IsWellNumbered last p.rows → 1 ≤ len (has_id a) p.rows.items → IsSequencedName a → (row col : ElementId) → IsAhead p.rows.made row
+    ahead-row : (last : ℕ) (p : Document) (a c : ElementId) → HasNoCellsAhead p → IsWellNumbered last p.rows → 1 ≤ len (has_id a) p.rows.items
+        → IsSequencedName a → (row col : ElementId) → IsAhead p.rows.made row
         → cell_value row col (write_cell (record { row = a; col = c; value = value }) p.cells) ≡ None
     ahead-row last p a c n w t z row col u =
         value-write row col (record { row = a; col = c; value = value }) p.cells
         ∙ ap (λ x. cond (x && same_id col c) (value_unless_null value) (cell_value row col p.cells)) (same_id-turn row a ∙ ahead-other last p.rows a row w t z u) ∙ n.rows row col u
 
-    ahead-col : (last : ℕ) (p : Document) (a c : ElementId) → HasNoCellsAhead p → IsWellNumbered last p.cols → 1 ≤ len (has_id c) p.cols.items → IsSequencedName c → (row col : ElementId) → IsAhead p.cols.made col
+    ahead-col : (last : ℕ) (p : Document) (a c : ElementId) → HasNoCellsAhead p → IsWellNumbered last p.cols → 1 ≤ len (has_id c) p.cols.items
+        → IsSequencedName c → (row col : ElementId) → IsAhead p.cols.made col
         → cell_value row col (write_cell (record { row = a; col = c; value = value }) p.cells) ≡ None
     ahead-col last p a c n w t z row col u =
         value-write row col (record { row = a; col = c; value = value }) p.cells
-        ∙ ap (λ x. cond x (value_unless_null value) (cell_value row col p.cells)) (ap (λ x. same_id row a && x) (same_id-turn col c ∙ ahead-other last p.cols c col w t z u) ∙ never (same_id row a)) ∙ n.cols row col u
+        ∙ ap (λ x. cond x (value_unless_null value) (cell_value row col p.cells))
+        (ap (λ x. same_id row a && x) (same_id-turn col c ∙ ahead-other last p.cols c col w t z u) ∙ never (same_id row a)) ∙ n.cols row col u
 
 -- other numbers
 pub with-numbers : (last : ℕ) (p q : Document) (skipped other number minimum : ℕ) → DocsAlike last p q
-    → DocsAlike last (record p { skipped = skipped; other = other; number = number; minimum = minimum }) (record q { skipped = skipped; other = other; number = number; minimum = minimum })
+    → DocsAlike last (record p { skipped = skipped; other = other; number = number; minimum = minimum })
+    (record q { skipped = skipped; other = other; number = number; minimum = minimum })
 with-numbers last p q skipped other number minimum h = record {
   parts = record {
     text = h.parts.text;

@@ -50,7 +50,8 @@ annotation-keeps changes = record {
 }
 
 -- lists after a change of a range
-pub ranged-lists : (last p q : ℕ) (test : ListElement → Bool) → ((x y : ListElement) → IsTwin x y → test x ≡ test y) → (f : ListElement → ListElement) → KeepsTwins f → (l m : Sequence) → ListsAlike last l m
+pub ranged-lists : (last p q : ℕ) (test : ListElement → Bool) → ((x y : ListElement) → IsTwin x y → test x ≡ test y) → (f : ListElement → ListElement)
+    → KeepsTwins f → (l m : Sequence) → ListsAlike last l m
     → ListsAlike last (record l { items = change_range test p q f l.items }) (record m { items = change_range test p q f m.items })
 ranged-lists last p q test sees f k l m h = record {
   left = ranged-numbered last 0 p q l.made test f k.names l.items h.left;
@@ -59,14 +60,16 @@ ranged-lists last p q test sees f k l m h = record {
 }
 
 module _ (last s c r : ℕ) where
-  inserted-lists : (p : ℕ) (by : Option Stamp) (props : PropertyList) (bs : List ElementContent) (l m : Sequence) → ListsAlike last l m → ListsAlike last (after_insertion s c r p by props bs l) (after_insertion s c r p by props bs m)
+  inserted-lists : (p : ℕ) (by : Option Stamp) (props : PropertyList) (bs : List ElementContent) (l m : Sequence) → ListsAlike last l m
+      → ListsAlike last (after_insertion s c r p by props bs l) (after_insertion s c r p by props bs m)
   inserted-lists p by props bs l m h = record {
     left = inserted-numbered last s c p (seen_by r c) is_pending by props bs l h.left;
     right = inserted-numbered last s c p (seen_by r c) is_pending by props bs m h.right;
     twins = step-twins last l m _ _ (insertion-step (seen_by r c) is_pending (λ x y t. twin-seen_by r c x y t) (λ x y t. twin-pending x y t) last p l m s c by props bs) h.twins;
   }
 
-  insertion : (p : ℕ) (by : Option Stamp) (props : PropertyList) (bs : List ElementContent) (l m : Sequence) → ListStep last l m (after_insertion s c r p by props bs l) (after_insertion s c r p by props bs m)
+  insertion : (p : ℕ) (by : Option Stamp) (props : PropertyList) (bs : List ElementContent) (l m : Sequence)
+      → ListStep last l m (after_insertion s c r p by props bs l) (after_insertion s c r p by props bs m)
   insertion p by props bs l m = insertion-step (seen_by r c) is_pending (λ x y t. twin-seen_by r c x y t) (λ x y t. twin-pending x y t) last p l m s c by props bs
 
   removal : (p q : ℕ) (l m : Sequence) → ListStep last l m (after_removal s c r p q l) (after_removal s c r p q m)
@@ -77,7 +80,8 @@ module _ (last s c r : ℕ) where
 
 -- ---- a choice by the same test
 
-pub step-choice : (last more : ℕ) (p q : Document) (b c : Bool) → b ≡ c → (a1 b1 a2 b2 : Document) → DocsStep last more p q a1 b1 → DocsStep last more p q a2 b2 → DocsStep last more p q (cond b a1 a2) (cond c b1 b2)
+pub step-choice : (last more : ℕ) (p q : Document) (b c : Bool) → b ≡ c → (a1 b1 a2 b2 : Document) → DocsStep last more p q a1 b1
+    → DocsStep last more p q a2 b2 → DocsStep last more p q (cond b a1 a2) (cond c b1 b2)
 step-choice last more p q true true e a1 b1 a2 b2 f g = f
 step-choice last more p q false false e a1 b1 a2 b2 f g = g
 step-choice last more p q true false e a1 b1 a2 b2 f g = (cc)
@@ -93,7 +97,8 @@ abbrev pub renumbered : Document → ℕ → ℕ → ℕ → ℕ → Document
 renumbered p skipped other number minimum = record p { skipped = skipped; other = other; number = number; minimum = minimum }
 
 -- numbers that are equal may be written anew
-pub numbers-alike : (last : ℕ) (p q : Document) (skipped other number minimum skipped' other' number' minimum' : ℕ) → skipped ≡ skipped' → other ≡ other' → number ≡ number' → minimum ≡ minimum' → DocsAlike last p q
+pub numbers-alike : (last : ℕ) (p q : Document) (skipped other number minimum skipped' other' number' minimum' : ℕ) → skipped ≡ skipped' → other ≡ other'
+    → number ≡ number' → minimum ≡ minimum' → DocsAlike last p q
     → DocsAlike last (renumbered p skipped other number minimum) (renumbered q skipped' other' number' minimum')
 numbers-alike last p q skipped other number minimum skipped' other' number' minimum' a b c d h =
     subst (λ n. DocsAlike last (renumbered p skipped other number minimum) (renumbered q n other' number' minimum')) a
@@ -103,7 +108,9 @@ numbers-alike last p q skipped other number minimum skipped' other' number' mini
     (with-numbers last p q skipped other number minimum h))))
 
 -- the ends that an operation gives name elements at the same places
-pub given-names : {xs ys : List ListElement} → BesideList (AreTwins xs ys) xs ys → (test : ListElement → Bool) → ((x y : ListElement) → IsTwin x y → test x ≡ test y) → (given : Option Ends) → NamesAlike (EndsAlike xs ys) (elements_at_given_ends test xs given) (elements_at_given_ends test ys given)
+pub given-names : {xs ys : List ListElement} → BesideList (AreTwins xs ys) xs ys → (test : ListElement → Bool)
+    → ((x y : ListElement) → IsTwin x y → test x ≡ test y) → (given : Option Ends)
+    → NamesAlike (EndsAlike xs ys) (elements_at_given_ends test xs given) (elements_at_given_ends test ys given)
 given-names h test sees None = record { first = detached; second = detached }
 given-names {xs} {ys} h test sees (Some given) = record { first = end given.start; second = end given.end }
   where
@@ -114,7 +121,8 @@ given-names {xs} {ys} h test sees (Some given) = record { first = end given.star
 module _ (last s c r : ℕ) where
   skipped : (p q : Document) → DocsAlike last p q → DocsStep last last p q (with_skip p) (with_skip q)
   skipped p q h = record {
-    alike = numbers-alike last p q (p.skipped + 1) p.other p.number p.minimum (q.skipped + 1) q.other q.number q.minimum (ap (λ n. n + 1) h.parts.skipped) h.parts.other h.parts.number h.parts.minimum h;
+    alike = numbers-alike last p q (p.skipped + 1) p.other p.number p.minimum (q.skipped + 1) q.other q.number q.minimum (ap (λ n. n + 1) h.parts.skipped)
+        h.parts.other h.parts.number h.parts.minimum h;
     names = record { text = λ a b t. t; rows = λ a b t. t; cols = λ a b t. t };
   }
 
@@ -124,7 +132,8 @@ module _ (last s c r : ℕ) where
   text_effect-alike : (p q : Document) → DocsAlike last p q → (op : BaseOp) → DocsStep last last p q (text_effect p s c r op) (text_effect q s c r op)
   text_effect-alike p q h (Insert i seg props) =
       step-choice last last p q _ _ (ap (nat_le i) (length-alike p.text q.text h.parts.text)) _ _ _ _
-      (text-step last last (self-le last) p q h _ _ (inserted-lists last s c r i (Some (Acked s c)) (apply [] props) (segment_contents seg) p.text q.text h.parts.text) (insertion last s c r i (Some (Acked s c)) (apply [] props) (segment_contents seg) p.text q.text))
+      (text-step last last (self-le last) p q h _ _ (inserted-lists last s c r i (Some (Acked s c)) (apply [] props) (segment_contents seg) p.text q.text
+      h.parts.text) (insertion last s c r i (Some (Acked s c)) (apply [] props) (segment_contents seg) p.text q.text))
       (skipped p q h)
   text_effect-alike p q h (Remove i j) =
       step-choice last last p q _ _ (ap (nat_le j) (length-alike p.text q.text h.parts.text)) _ _ _ _
@@ -133,7 +142,8 @@ module _ (last s c r : ℕ) where
       (skipped p q h)
   text_effect-alike p q h (Annotate i j changes) =
       step-choice last last p q _ _ (ap (nat_le j) (length-alike p.text q.text h.parts.text)) _ _ _ _
-      (text-step last last (self-le last) p q h _ _ (ranged-lists last i j (seen_by r c) (λ x y t. twin-seen_by r c x y t) (with_annotation changes) (annotation-keeps changes) p.text q.text h.parts.text)
+      (text-step last last (self-le last) p q h _ _ (ranged-lists last i j (seen_by r c) (λ x y t. twin-seen_by r c x y t) (with_annotation changes)
+      (annotation-keeps changes) p.text q.text h.parts.text)
       (range-step (seen_by r c) (λ x y t. twin-seen_by r c x y t) last 0 i j (with_annotation changes) (annotation-keeps changes) p.text q.text))
       (skipped p q h)
 
@@ -160,7 +170,9 @@ module _ (last s c r : ℕ) where
       stamped (Acked s d) g = tt
       stamped (Local k) g = (cc)
 
-  cell_effect-alike : (p q : Document) → DocsAlike last p q → (value : ValueBytes) (o1 o2 o3 o4 : Option ListElement) → Both ListElement ListElement (λ x y. AreTwins p.rows.items q.rows.items x y × (seen_by r c x ≡ true)) o1 o2 → Both ListElement ListElement (λ x y. AreTwins p.cols.items q.cols.items x y × (seen_by r c x ≡ true)) o3 o4
+  cell_effect-alike : (p q : Document) → DocsAlike last p q → (value : ValueBytes) (o1 o2 o3 o4 : Option ListElement)
+      → Both ListElement ListElement (λ x y. AreTwins p.rows.items q.rows.items x y × (seen_by r c x ≡ true)) o1 o2
+      → Both ListElement ListElement (λ x y. AreTwins p.cols.items q.cols.items x y × (seen_by r c x ≡ true)) o3 o4
       → DocsStep last last p q (cell_effect p o1 o3 value) (cell_effect q o2 o4 value)
   cell_effect-alike p q h value None None o3 o4 rows cols = skipped p q h
   cell_effect-alike p q h value (Some x) (Some y) None None rows cols = skipped p q h
@@ -177,11 +189,13 @@ module _ (last s c r : ℕ) where
   grid_effect-alike : (p q : Document) → DocsAlike last p q → (op : CellOp) → DocsStep last last p q (grid_effect p s c r op) (grid_effect q s c r op)
   grid_effect-alike p q h (SpliceIn Rows i count) =
       step-choice last last p q _ _ (ap (nat_le i) (length-alike p.rows q.rows h.parts.rows)) _ _ _ _
-      (rows-step last last (self-le last) p q h _ _ (inserted-lists last s c r i None [] (replicate count GridUnit) p.rows q.rows h.parts.rows) (grown _ _) (grown _ _) (insertion last s c r i None [] (replicate count GridUnit) p.rows q.rows))
+      (rows-step last last (self-le last) p q h _ _ (inserted-lists last s c r i None [] (replicate count GridUnit) p.rows q.rows h.parts.rows) (grown _ _)
+      (grown _ _) (insertion last s c r i None [] (replicate count GridUnit) p.rows q.rows))
       (skipped p q h)
   grid_effect-alike p q h (SpliceIn Cols i count) =
       step-choice last last p q _ _ (ap (nat_le i) (length-alike p.cols q.cols h.parts.cols)) _ _ _ _
-      (cols-step last last (self-le last) p q h _ _ (inserted-lists last s c r i None [] (replicate count GridUnit) p.cols q.cols h.parts.cols) (grown _ _) (grown _ _) (insertion last s c r i None [] (replicate count GridUnit) p.cols q.cols))
+      (cols-step last last (self-le last) p q h _ _ (inserted-lists last s c r i None [] (replicate count GridUnit) p.cols q.cols h.parts.cols) (grown _ _)
+      (grown _ _) (insertion last s c r i None [] (replicate count GridUnit) p.cols q.cols))
       (skipped p q h)
   grid_effect-alike p q h (SpliceOut Rows i j) =
       step-choice last last p q _ _ (ap (nat_le j) (length-alike p.rows q.rows h.parts.rows)) _ _ _ _
@@ -211,13 +225,15 @@ module _ (last s c r : ℕ) where
 -- ---- a message
 
 pub numbers-taken : (last : ℕ) (entry : Entry) (p q : Document) → DocsAlike last p q → DocsAlike last (with_numbers entry p) (with_numbers entry q)
-numbers-taken last entry p q h = numbers-alike last p q p.skipped p.other entry.msg.seq entry.msg.min q.skipped q.other entry.msg.seq entry.msg.min h.parts.skipped h.parts.other refl refl h
+numbers-taken last entry p q h = numbers-alike last p q p.skipped p.other entry.msg.seq entry.msg.min q.skipped q.other entry.msg.seq entry.msg.min
+    h.parts.skipped h.parts.other refl refl h
 
 body-alike : (last s c r : ℕ) (p q : Document) → DocsAlike last p q → (body : Body) → DocsStep last last p q (body_effect p s c r body) (body_effect q s c r body)
 body-alike last s c r p q h Nothing = same-docs last last p q (self-le last) h
 body-alike last s c r p q h (Op op) = effects-alike last s c r (sub_operations op) p q h
 body-alike last s c r p q h (Elsewhere address) = record {
-  alike = numbers-alike last p q p.skipped (p.other + 1) p.number p.minimum q.skipped (q.other + 1) q.number q.minimum h.parts.skipped (ap (λ n. n + 1) h.parts.other) h.parts.number h.parts.minimum h;
+  alike = numbers-alike last p q p.skipped (p.other + 1) p.number p.minimum q.skipped (q.other + 1) q.number q.minimum h.parts.skipped
+      (ap (λ n. n + 1) h.parts.other) h.parts.number h.parts.minimum h;
   names = record { text = λ a b t. t; rows = λ a b t. t; cols = λ a b t. t };
 }
 
@@ -225,4 +241,8 @@ body-alike last s c r p q h (Elsewhere address) = record {
 pub entry-alike : (last : ℕ) (entry : Entry) (p q : Document) → DocsAlike last p q → DocsStep last last p q (take_entry p entry) (take_entry q entry)
 entry-alike last entry p q h =
     let body = body-alike last entry.msg.seq entry.origin (reference_number entry.msg.ref_seq) p q h entry.msg.body in
-    record { alike = numbers-taken last entry _ _ body.alike; names = record { text = λ a b t. body.names.text a b t; rows = λ a b t. body.names.rows a b t; cols = λ a b t. body.names.cols a b t } }
+    record {
+      alike = numbers-taken last entry _ _ body.alike;
+      names = record
+          { text = λ a b t. body.names.text a b t; rows = λ a b t. body.names.rows a b t; cols = λ a b t. body.names.cols a b t };
+    }

@@ -44,15 +44,18 @@ list-indexed h = same-map nameless nameless (λ x y t. same-of nameless (λ e n.
 interval-indexed : {xs ys : List ListElement} (i j : Interval) → IntervalAlike (SettledAlike xs ys) i j → indexed_interval xs i ≡ indexed_interval ys j
 interval-indexed i j r = rw (r.label, r.id, r.props, place-alike (settled-beside r.start), place-alike (settled-beside r.end)) refl
 
-row-indexed : (i : ℕ) (cells others : List Cell) (a b : ElementId) (j : ℕ) {cols vs : List ListElement} → RowsAlike cols vs cells others a b → row_cells cells [] i a j cols ≡ row_cells others [] i b j vs
+row-indexed : (i : ℕ) (cells others : List Cell) (a b : ElementId) (j : ℕ) {cols vs : List ListElement} → RowsAlike cols vs cells others a b
+    → row_cells cells [] i a j cols ≡ row_cells others [] i b j vs
 row-indexed i cells others a b j ends = refl
 row-indexed i cells others a b j (next {x = x} {y = y} {xs = xs} {ys = ys} q qs) =
     ap (λ v. cell_record i j v ++ row_cells cells [] i a (j + 1) xs) q.1 ∙ ap (λ cs. cell_record i j (cell_value b (id y) others) ++ cs) (row-indexed i cells others a b (j + 1) qs)
 
-pub cells-indexed : (cells others : List Cell) (cols vs : List ListElement) (i : ℕ) {xs ys : List ListElement} → BesideList (Named (RowsAlike cols vs cells others)) xs ys → all_cells cells [] cols i xs ≡ all_cells others [] vs i ys
+pub cells-indexed : (cells others : List Cell) (cols vs : List ListElement) (i : ℕ) {xs ys : List ListElement}
+    → BesideList (Named (RowsAlike cols vs cells others)) xs ys → all_cells cells [] cols i xs ≡ all_cells others [] vs i ys
 cells-indexed cells others cols vs i ends = refl
 cells-indexed cells others cols vs i (next {x = x} {y = y} {xs = xs} {ys = ys} q qs) =
-    ap (λ cs. cs ++ all_cells cells [] cols (i + 1) xs) (row-indexed i cells others (id x) (id y) 0 q.1) ∙ ap (λ cs. row_cells others [] i (id y) 0 vs ++ cs) (cells-indexed cells others cols vs (i + 1) qs)
+    ap (λ cs. cs ++ all_cells cells [] cols (i + 1) xs) (row-indexed i cells others (id x) (id y) 0 q.1)
+    ∙ ap (λ cs. row_cells others [] i (id y) 0 vs ++ cs) (cells-indexed cells others cols vs (i + 1) qs)
 
 pub document-indexed : (last : ℕ) (p q : Document) → DocsAlike last p q → indexed p ≡ indexed q
 document-indexed last p q h =
@@ -85,7 +88,8 @@ edit-indexed p q e f r = rw (same-map (indexed_stage p) (indexed_stage q) (λ t 
 pub client-indexed : (x y : NaiveClient) → ClientsAlike x y → indexed_client x ≡ indexed_client y
 client-indexed x y h =
     ap (λ d. record (indexed_client x) { doc = d }) (document-indexed x.last_stage x.doc y.doc h.doc)
-    ∙ ap (λ es. record (indexed_client x) { doc = indexed y.doc; pending = es }) (same-map (indexed_edit x.doc) (indexed_edit y.doc) (λ e f r. edit-indexed x.doc y.doc e f r) h.pending)
+    ∙ ap (λ es. record (indexed_client x) { doc = indexed y.doc; pending = es })
+    (same-map (indexed_edit x.doc) (indexed_edit y.doc) (λ e f r. edit-indexed x.doc y.doc e f r) h.pending)
     ∙ ap indexed_client (sym h.rest)
 
 -- ---- what the relation says of each
@@ -134,7 +138,8 @@ all-acked e h = shown (list_all is_acked e.dels) h
     shown true g = refl
     shown false g = (cc)
 
-same-removals : (ds es : List Stamp) (o p : Option ℕ) → list_all is_acked ds ≡ true → list_all is_acked es ≡ true → ds ++ removal_stamp o ≡ es ++ removal_stamp p → (ds ≡ es) × (o ≡ p)
+same-removals : (ds es : List Stamp) (o p : Option ℕ) → list_all is_acked ds ≡ true → list_all is_acked es ≡ true → ds ++ removal_stamp o
+    ≡ es ++ removal_stamp p → (ds ≡ es) × (o ≡ p)
 same-removals [] [] None None a b h = (refl, refl)
 same-removals [] [] (Some k) (Some j) a b h =
     let same : k ≡ j = (cc) in
@@ -159,7 +164,16 @@ element-twin : (x y : ListElement) → has_odd_removal x ≡ false → has_odd_r
 element-twin x y a b h =
     let stamps = ap (λ (e : NamelessElement). e.stamps) h in
     let r = same-removals x.dels y.dels x.removal_stage y.removal_stage (all-acked x a) (all-acked y b) (ap (λ (s : ElementStamps). s.dels) stamps) in
-    sym (rw (ap (λ (e : NamelessElement). e.content) h, ap (λ (s : ElementStamps). s.ins) stamps, r.0, r.1, ap (λ (e : NamelessElement). e.by) h, ap (λ (e : NamelessElement). e.props) h, ap (λ (e : NamelessElement). e.pending) h) refl)
+    sym (rw (
+      ap (λ (e : NamelessElement). e.content) h,
+      ap (λ (s : ElementStamps). s.ins) stamps,
+      r.0,
+      r.1,
+      ap (λ (e : NamelessElement). e.by) h,
+      ap
+          (λ (e : NamelessElement). e.props) h,
+      ap (λ (e : NamelessElement). e.pending) h,
+    ) refl)
 
 none-odd : (b : Bool) (n : ℕ) → one_more_if b n ≡ 0 → (b ≡ false) × (n ≡ 0)
 none-odd true n h = absurd (omega arith)
@@ -200,7 +214,8 @@ module _ (last : ℕ) (l m : Sequence) (h : ListsAlike last l m) where
   settled-of None (Some (SequencedId j)) t u r = (cc)
   settled-of (Some (SequencedId i)) None t u r = (cc)
 
-  pub intervals-of : (is js : List Interval) → AreSettledIn l.items is → AreSettledIn m.items js → map (indexed_interval l.items) is ≡ map (indexed_interval m.items) js → IntervalsBeside (SettledAlike l.items m.items) is js
+  pub intervals-of : (is js : List Interval) → AreSettledIn l.items is → AreSettledIn m.items js → map (indexed_interval l.items) is
+      ≡ map (indexed_interval m.items) js → IntervalsBeside (SettledAlike l.items m.items) is js
   intervals-of [] [] a b g = ends
   intervals-of [] (j ∷ js) a b g = (cc)
   intervals-of (i ∷ is) [] a b g = (cc)
@@ -218,7 +233,8 @@ module _ (last : ℕ) (l m : Sequence) (h : ListsAlike last l m) where
 -- ---- cells
 
 -- two lists split by one test
-split-by : (test : CellRec → Bool) (us vs ws zs : List CellRec) → list_all test us ≡ true → list_all test vs ≡ true → list_any test ws ≡ false → list_any test zs ≡ false → us ++ ws ≡ vs ++ zs → (us ≡ vs) × (ws ≡ zs)
+split-by : (test : CellRec → Bool) (us vs ws zs : List CellRec) → list_all test us ≡ true → list_all test vs ≡ true → list_any test ws ≡ false
+    → list_any test zs ≡ false → us ++ ws ≡ vs ++ zs → (us ≡ vs) × (ws ≡ zs)
 split-by test [] [] ws zs a b c d h = (refl, h)
 split-by test [] (v ∷ vs) [] zs a b c d h = (cc)
 split-by test [] (v ∷ vs) (w ∷ ws) zs a b c d h =
@@ -262,15 +278,18 @@ above i j l = grind (arith, nat_tests)
 
 row-passes : (i : ℕ) (cells : List Cell) (a : ElementId) (j : ℕ) (cols : List ListElement) → list_all (λ (c : CellRec). nat_eq c.row i) (row_cells cells [] i a j cols) ≡ true
 row-passes i cells a j [] = refl
-row-passes i cells a j (col ∷ cols) = all-append (λ (c : CellRec). nat_eq c.row i) (cell_record i j (cell_value a (id col) cells)) (row_cells cells [] i a (j + 1) cols) (here (cell_value a (id col) cells)) (row-passes i cells a (j + 1) cols)
+row-passes i cells a j (col ∷ cols) = all-append (λ (c : CellRec). nat_eq c.row i) (cell_record i j (cell_value a (id col) cells))
+    (row_cells cells [] i a (j + 1) cols) (here (cell_value a (id col) cells)) (row-passes i cells a (j + 1) cols)
   where
     here : (v : Option ValueBytes) → list_all (λ (c : CellRec). nat_eq c.row i) (cell_record i j v) ≡ true
     here None = refl
     here (Some v) = rw (same-number i) refl
 
-pub row-misses : (k i : ℕ) → k < i → (cells : List Cell) (a : ElementId) (j : ℕ) (cols : List ListElement) → list_any (λ (c : CellRec). nat_eq c.row k) (row_cells cells [] i a j cols) ≡ false
+pub row-misses : (k i : ℕ) → k < i → (cells : List Cell) (a : ElementId) (j : ℕ) (cols : List ListElement)
+    → list_any (λ (c : CellRec). nat_eq c.row k) (row_cells cells [] i a j cols) ≡ false
 row-misses k i l cells a j [] = refl
-row-misses k i l cells a j (col ∷ cols) = none-append (λ (c : CellRec). nat_eq c.row k) (cell_record i j (cell_value a (id col) cells)) (row_cells cells [] i a (j + 1) cols) (here (cell_value a (id col) cells)) (row-misses k i l cells a (j + 1) cols)
+row-misses k i l cells a j (col ∷ cols) = none-append (λ (c : CellRec). nat_eq c.row k) (cell_record i j (cell_value a (id col) cells))
+    (row_cells cells [] i a (j + 1) cols) (here (cell_value a (id col) cells)) (row-misses k i l cells a (j + 1) cols)
   where
     here : (v : Option ValueBytes) → list_any (λ (c : CellRec). nat_eq c.row k) (cell_record i j v) ≡ false
     here None = refl
@@ -278,11 +297,14 @@ row-misses k i l cells a j (col ∷ cols) = none-append (λ (c : CellRec). nat_e
 
 pub rows-miss : (k i : ℕ) → k < i → (cells : List Cell) (cols rows : List ListElement) → list_any (λ (c : CellRec). nat_eq c.row k) (all_cells cells [] cols i rows) ≡ false
 rows-miss k i l cells cols [] = refl
-rows-miss k i l cells cols (row ∷ rows) = none-append (λ (c : CellRec). nat_eq c.row k) (row_cells cells [] i (id row) 0 cols) (all_cells cells [] cols (i + 1) rows) (row-misses k i l cells (id row) 0 cols) (rows-miss k (i + 1) (omega arith) cells cols rows)
+rows-miss k i l cells cols (row ∷ rows) = none-append (λ (c : CellRec). nat_eq c.row k) (row_cells cells [] i (id row) 0 cols)
+    (all_cells cells [] cols (i + 1) rows) (row-misses k i l cells (id row) 0 cols) (rows-miss k (i + 1) (omega arith) cells cols rows)
 
-pub cols-miss : (i k j : ℕ) → k < j → (cells : List Cell) (a : ElementId) (cols : List ListElement) → list_any (λ (c : CellRec). nat_eq c.col k) (row_cells cells [] i a j cols) ≡ false
+pub cols-miss : (i k j : ℕ) → k < j → (cells : List Cell) (a : ElementId) (cols : List ListElement)
+    → list_any (λ (c : CellRec). nat_eq c.col k) (row_cells cells [] i a j cols) ≡ false
 cols-miss i k j l cells a [] = refl
-cols-miss i k j l cells a (col ∷ cols) = none-append (λ (c : CellRec). nat_eq c.col k) (cell_record i j (cell_value a (id col) cells)) (row_cells cells [] i a (j + 1) cols) (here (cell_value a (id col) cells)) (cols-miss i k (j + 1) (omega arith) cells a cols)
+cols-miss i k j l cells a (col ∷ cols) = none-append (λ (c : CellRec). nat_eq c.col k) (cell_record i j (cell_value a (id col) cells))
+    (row_cells cells [] i a (j + 1) cols) (here (cell_value a (id col) cells)) (cols-miss i k (j + 1) (omega arith) cells a cols)
   where
     here : (v : Option ValueBytes) → list_any (λ (c : CellRec). nat_eq c.col k) (cell_record i j v) ≡ false
     here None = refl
@@ -302,18 +324,23 @@ same-value i j (Some v) (Some w) h = ap (λ (cs : List CellRec). first cs) h
     first [] = None
     first (c ∷ cs) = Some c.value
 
-row-of : (i : ℕ) (cells others : List Cell) (a b : ElementId) (j : ℕ) {cols vs : List ListElement} → BesideList IsTwin cols vs → row_cells cells [] i a j cols ≡ row_cells others [] i b j vs → RowsAlike cols vs cells others a b
+row-of : (i : ℕ) (cells others : List Cell) (a b : ElementId) (j : ℕ) {cols vs : List ListElement} → BesideList IsTwin cols vs → row_cells cells [] i a j cols
+    ≡ row_cells others [] i b j vs → RowsAlike cols vs cells others a b
 row-of i cells others a b j ends h = ends
 row-of i cells others a b j (next {x = x} {y = y} {xs = xs} {ys = ys} t ts) h =
     let v = cell_value a (id x) cells in
     let w = cell_value b (id y) others in
-    let s = split-by (λ (c : CellRec). nat_eq c.col j) (cell_record i j v) (cell_record i j w) (row_cells cells [] i a (j + 1) xs) (row_cells others [] i b (j + 1) ys) (cell-passes i j v) (cell-passes i j w) (cols-miss i j (j + 1) (omega arith) cells a xs) (cols-miss i j (j + 1) (omega arith) others b ys) h in
+    let s = split-by (λ (c : CellRec). nat_eq c.col j) (cell_record i j v) (cell_record i j w) (row_cells cells [] i a (j + 1) xs)
+    (row_cells others [] i b (j + 1) ys) (cell-passes i j v) (cell-passes i j w) (cols-miss i j (j + 1) (omega arith) cells a xs)
+    (cols-miss i j (j + 1) (omega arith) others b ys) h in
     next (t, same-value i j v w s.0) (row-of i cells others a b (j + 1) ts s.1)
 
-pub cells-of-index : (i : ℕ) (cells others : List Cell) (cols vs : List ListElement) → BesideList IsTwin cols vs → {xs ys : List ListElement} → BesideList IsTwin xs ys → all_cells cells [] cols i xs ≡ all_cells others [] vs i ys → BesideList (Named (RowsAlike cols vs cells others)) xs ys
+pub cells-of-index : (i : ℕ) (cells others : List Cell) (cols vs : List ListElement) → BesideList IsTwin cols vs → {xs ys : List ListElement}
+    → BesideList IsTwin xs ys → all_cells cells [] cols i xs ≡ all_cells others [] vs i ys → BesideList (Named (RowsAlike cols vs cells others)) xs ys
 cells-of-index i cells others cols vs k ends h = ends
 cells-of-index i cells others cols vs k (next {x = x} {y = y} {xs = xs} {ys = ys} t ts) h =
-    let s = split-by (λ (c : CellRec). nat_eq c.row i) (row_cells cells [] i (id x) 0 cols) (row_cells others [] i (id y) 0 vs) (all_cells cells [] cols (i + 1) xs) (all_cells others [] vs (i + 1) ys)
+    let s = split-by (λ (c : CellRec). nat_eq c.row i) (row_cells cells [] i (id x) 0 cols) (row_cells others [] i (id y) 0 vs)
+    (all_cells cells [] cols (i + 1) xs) (all_cells others [] vs (i + 1) ys)
     (row-passes i cells (id x) 0 cols) (row-passes i others (id y) 0 vs) (rows-miss i (i + 1) (omega arith) cells cols xs) (rows-miss i (i + 1) (omega arith) others vs ys) h in
     next (t, row-of i cells others (id x) (id y) 0 k s.0) (cells-of-index (i + 1) cells others cols vs k ts s.1)
 
@@ -322,12 +349,21 @@ cells-of-index i cells others cols vs k (next {x = x} {y = y} {xs = xs} {ys = ys
 module _ (last : ℕ) (p q : Document) (h : PartsAlike last p q) where
   names-of : (o : SubOperation) (a b : NamedElements) → AreThere p o a → AreThere q o b → places_of p o a ≡ places_of q o b → StageNames p q o a b
   names-of (OnText op) a b t u g = (t, u)
-  names-of (OnIntervals op) a b t u g = record { first = ends-of last p.text q.text h.text a.first b.first t.0 (ap (λ (x : PlacePair). x.first) g); second = ends-of last p.text q.text h.text a.second b.second t.1 (ap (λ (x : PlacePair). x.second) g) }
+  names-of (OnIntervals op) a b t u g = record {
+    first = ends-of last p.text q.text h.text a.first b.first t.0 (ap (λ (x : PlacePair). x.first) g);
+    second =
+        ends-of last p.text q.text h.text a.second b.second t.1 (ap (λ (x : PlacePair). x.second) g);
+  }
   names-of (OnGrid (SpliceIn target i count)) a b t u g = (t, u)
   names-of (OnGrid (SpliceOut target i j)) a b t u g = (t, u)
-  names-of (OnGrid (Set i j value)) a b t u g = (ends-of last p.rows q.rows h.rows a.first b.first t.0 (ap (λ (x : PlacePair). x.first) g), ends-of last p.cols q.cols h.cols a.second b.second t.1 (ap (λ (x : PlacePair). x.second) g))
+  names-of (OnGrid (Set i j value)) a b t u g = (
+    ends-of last p.rows q.rows h.rows a.first b.first t.0 (ap (λ (x : PlacePair). x.first) g),
+    ends-of last p.cols
+        q.cols h.cols a.second b.second t.1 (ap (λ (x : PlacePair). x.second) g),
+  )
 
-  stage-of : (t : Stage) (k : ℕ) (o : SubOperation) (n : NamedElements) → AreThere p t.sub_operation t.names → AreThere q o n → AreNamedBefore t.stage t.sub_operation t.names → AreNamedBefore k o n → t.stage ≡ k → t.sub_operation ≡ o → places_of p t.sub_operation t.names ≡ places_of q o n
+  stage-of : (t : Stage) (k : ℕ) (o : SubOperation) (n : NamedElements) → AreThere p t.sub_operation t.names → AreThere q o n
+      → AreNamedBefore t.stage t.sub_operation t.names → AreNamedBefore k o n → t.stage ≡ k → t.sub_operation ≡ o → places_of p t.sub_operation t.names ≡ places_of q o n
       → StageAlike p q t (record { stage = k; sub_operation = o; names = n })
   stage-of t k o n a z b c e f g = record {
     rest = rw (e, f) refl;
@@ -343,13 +379,15 @@ module _ (last : ℕ) (p q : Document) (h : PartsAlike last p q) where
   stages-of-index (t ∷ ts) (u ∷ us) a b g =
       let first : indexed_stage p t ≡ indexed_stage q u = (cc) in
       let rest : map (indexed_stage p) ts ≡ map (indexed_stage q) us = (cc) in
-      next (stage-of t u.stage u.sub_operation u.names a.0.0 b.0.0 a.0.1 b.0.1 (ap (λ (x : IndexedStage). x.stage) first) (ap (λ (x : IndexedStage). x.sub_operation) first) (ap (λ (x : IndexedStage). x.places) first)) (stages-of-index ts us a.1 b.1 rest)
+      next (stage-of t u.stage u.sub_operation u.names a.0.0 b.0.0 a.0.1 b.0.1 (ap (λ (x : IndexedStage). x.stage) first)
+      (ap (λ (x : IndexedStage). x.sub_operation) first) (ap (λ (x : IndexedStage). x.places) first)) (stages-of-index ts us a.1 b.1 rest)
 
   split-named : (d : Document) (ts us : List Stage) → AreStagesNamed d (ts ++ us) → AreStagesNamed d ts × AreStagesNamed d us
   split-named d [] us a = (tt, a)
   split-named d (t ∷ ts) us a = let r = split-named d ts us a.1 in ((a.0, r.0), r.1)
 
-  pub edits-of-index : (es fs : List PendingEdit) → AreStagesNamed p (stages_in es) → AreStagesNamed q (stages_in fs) → map (indexed_edit p) es ≡ map (indexed_edit q) fs → EditsBeside p q es fs
+  pub edits-of-index : (es fs : List PendingEdit) → AreStagesNamed p (stages_in es) → AreStagesNamed q (stages_in fs) → map (indexed_edit p) es
+      ≡ map (indexed_edit q) fs → EditsBeside p q es fs
   edits-of-index [] [] a b g = ends
   edits-of-index [] (f ∷ fs) a b g = (cc)
   edits-of-index (e ∷ es) [] a b g = (cc)
@@ -358,11 +396,17 @@ module _ (last : ℕ) (p q : Document) (h : PartsAlike last p q) where
       let rest : map (indexed_edit p) es ≡ map (indexed_edit q) fs = (cc) in
       let i = split-named p e.stages (stages_in es) a in
       let j = split-named q f.stages (stages_in fs) b in
-      next (record { stages = stages-of-index e.stages f.stages i.0 j.0 (ap (λ (x : IndexedEdit). x.stages) first); ref_seq = ap (λ (x : IndexedEdit). x.ref_seq) first; sent = ap (λ (x : IndexedEdit). x.sent) first }) (edits-of-index es fs i.1 j.1 rest)
+      next (record {
+        stages = stages-of-index e.stages f.stages i.0 j.0 (ap (λ (x : IndexedEdit). x.stages) first);
+        ref_seq = ap
+            (λ (x : IndexedEdit). x.ref_seq) first;
+        sent = ap (λ (x : IndexedEdit). x.sent) first;
+      }) (edits-of-index es fs i.1 j.1 rest)
 
 -- ---- clients
 
-pub parts-of-index : (last : ℕ) (p q : Document) → ListsAlike last p.text q.text → ListsAlike last p.rows q.rows → ListsAlike last p.cols q.cols → (h : HasNoCellsAhead p) (g : HasNoCellsAhead q) → indexed p ≡ indexed q → PartsAlike last p q
+pub parts-of-index : (last : ℕ) (p q : Document) → ListsAlike last p.text q.text → ListsAlike last p.rows q.rows → ListsAlike last p.cols q.cols
+    → (h : HasNoCellsAhead p) (g : HasNoCellsAhead q) → indexed p ≡ indexed q → PartsAlike last p q
 parts-of-index last p q text rows cols h g e = record {
   text = text;
   rows = rows;
@@ -386,8 +430,19 @@ indexed-alike x y a b e =
     let cols = lists-alike x.last_stage x.doc.cols y.doc.cols a.cols (subst (λ n. IsWellNumbered n y.doc.cols) (sym last) b.cols) (ap (λ (d : IndexedDocument). d.cols) doc) in
     let parts = parts-of-index x.last_stage x.doc y.doc text rows cols a.cells b.cells doc in
     record {
-      rest = sym (rw (ap (λ (c : IndexedClient). c.link) e, ap (λ (c : IndexedClient). c.conns) e, last, ap (λ (c : IndexedClient). c.next_client_seq) e, ap (λ (c : IndexedClient). c.queue) e) refl);
-      doc = record { parts = parts; intervals = intervals-of x.last_stage x.doc.text y.doc.text text x.doc.intervals y.doc.intervals a.intervals b.intervals (ap (λ (d : IndexedDocument). d.intervals) doc) };
+      rest = sym (rw (
+        ap (λ (c : IndexedClient). c.link) e,
+        ap (λ (c : IndexedClient). c.conns) e,
+        last,
+        ap (λ (c : IndexedClient). c.next_client_seq) e,
+        ap
+            (λ (c : IndexedClient). c.queue) e,
+      ) refl);
+      doc = record {
+        parts = parts;
+        intervals = intervals-of x.last_stage x.doc.text y.doc.text text x.doc.intervals y.doc.intervals a.intervals b.intervals
+            (ap (λ (d : IndexedDocument). d.intervals) doc);
+      };
       pending = edits-of-index x.last_stage x.doc y.doc parts x.pending y.pending a.stages b.stages (ap (λ (c : IndexedClient). c.pending) e);
       own = a.own;
       rise = a.rise;

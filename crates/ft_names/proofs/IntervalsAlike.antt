@@ -36,11 +36,13 @@ settled-beside away = loose
 settled-beside (on_sequenced s) = at_names s.twins
 
 -- what keeps names standing keeps ends
-pub ends-stay : {xs ys us vs : List ListElement} → ((a b : ElementId) → StandAlike xs ys a b → StandAlike us vs a b) → {o p : Option ElementId} → EndsAlike xs ys o p → EndsAlike us vs o p
+pub ends-stay : {xs ys us vs : List ListElement} → ((a b : ElementId) → StandAlike xs ys a b → StandAlike us vs a b) → {o p : Option ElementId}
+    → EndsAlike xs ys o p → EndsAlike us vs o p
 ends-stay f detached = detached
 ends-stay f (on {a = a} {b = b} s) = on (f a b s)
 
-pub settled-stay : {xs ys us vs : List ListElement} → ((a b : ElementId) → StandAlike xs ys a b → StandAlike us vs a b) → {o p : Option ElementId} → SettledAlike xs ys o p → SettledAlike us vs o p
+pub settled-stay : {xs ys us vs : List ListElement} → ((a b : ElementId) → StandAlike xs ys a b → StandAlike us vs a b) → {o p : Option ElementId}
+    → SettledAlike xs ys o p → SettledAlike us vs o p
 settled-stay f away = away
 settled-stay f (on_sequenced {m = m} {n = n} s) = on_sequenced (f (SequencedId m) (SequencedId n) s)
 
@@ -52,7 +54,8 @@ unremoved-id x h = stamped x.ins (both (is_acked x.ins) (not (list_any is_acked 
     stamped (Local k) g = (cc)
 
 module _ {xs ys : List ListElement} (places : BesideList (AreTwins xs ys) xs ys) where
-  slid-settled : {R : ListElement → ListElement → Type 0} → ((x y : ListElement) → R x y → AreTwins xs ys x y × (is_unremoved x ≡ true)) → {o p : Option ListElement} → Both ListElement ListElement R o p → SettledAlike xs ys (option_map id o) (option_map id p)
+  slid-settled : {R : ListElement → ListElement → Type 0} → ((x y : ListElement) → R x y → AreTwins xs ys x y × (is_unremoved x ≡ true))
+      → {o p : Option ListElement} → Both ListElement ListElement R o p → SettledAlike xs ys (option_map id o) (option_map id p)
   slid-settled f neither = away
   slid-settled f (each {x = x} {y = y} r) =
       let q = f x y r in
@@ -65,7 +68,8 @@ module _ {xs ys : List ListElement} (places : BesideList (AreTwins xs ys) xs ys)
   slide-settles loose = away
   slide-settles (at_names {a = a} {b = b} h) =
       slid-settled (λ x y q. (q.0.0, q.1))
-      (both-settled (λ e. is_sequenced e && has_id a e) (λ e. is_sequenced e && has_id b e) (λ x y q. same-meant places a b x y q) is_unremoved is_unremoved (λ x y q. twin-unremoved x y q.0.twin) (named-places places a b h) neither)
+      (both-settled (λ e. is_sequenced e && has_id a e) (λ e. is_sequenced e && has_id b e) (λ x y q. same-meant places a b x y q) is_unremoved is_unremoved
+      (λ x y q. twin-unremoved x y q.0.twin) (named-places places a b h) neither)
 
 -- ---- intervals
 
@@ -84,7 +88,8 @@ pub record NamesAlike (E : Option ElementId → Option ElementId → Type 0) (a 
   pub first : E a.first b.first
   pub second : E a.second b.second
 
-pub intervals-more : (E F : Option ElementId → Option ElementId → Type 0) → ((o p : Option ElementId) → E o p → F o p) → {is js : List Interval} → IntervalsBeside E is js → IntervalsBeside F is js
+pub intervals-more : (E F : Option ElementId → Option ElementId → Type 0) → ((o p : Option ElementId) → E o p → F o p) → {is js : List Interval}
+    → IntervalsBeside E is js → IntervalsBeside F is js
 intervals-more E F f h = beside-more (λ i j q. record { label = q.label; id = q.id; start = f i.start j.start q.start; end = f i.end j.end q.end; props = q.props }) h
 
 module _ (E : Option ElementId → Option ElementId → Type 0) where
@@ -97,12 +102,14 @@ module _ (E : Option ElementId → Option ElementId → Type 0) where
   cmp-alike : (a b i j : Interval) → IntervalAlike E a b → IntervalAlike E i j → interval_cmp a i ≡ interval_cmp b j
   cmp-alike a b i j p q = rw (p.label, p.id, q.label, q.id) refl
 
-  put-alike : (a b : Interval) → IntervalAlike E a b → {is js : List Interval} → IntervalsBeside E is js → IntervalsBeside E (put_rising interval_cmp a is) (put_rising interval_cmp b js)
+  put-alike : (a b : Interval) → IntervalAlike E a b → {is js : List Interval} → IntervalsBeside E is js
+      → IntervalsBeside E (put_rising interval_cmp a is) (put_rising interval_cmp b js)
   put-alike a b p ends = next p ends
   put-alike a b p (next {x = i} {y = j} {xs = is} {ys = js} q qs) = step (interval_cmp a i) (interval_cmp b j) (cmp-alike a b i j p q) (put-alike a b p qs)
     where
       step : (s t : Ordering) → s ≡ t → IntervalsBeside E (put_rising interval_cmp a is) (put_rising interval_cmp b js)
-          → IntervalsBeside E (elim s [ Less ↦ a ∷ i ∷ is | Equal ↦ a ∷ is | Greater ↦ i ∷ put_rising interval_cmp a is ]) (elim t [ Less ↦ b ∷ j ∷ js | Equal ↦ b ∷ js | Greater ↦ j ∷ put_rising interval_cmp b js ])
+          → IntervalsBeside E (elim s [ Less ↦ a ∷ i ∷ is | Equal ↦ a ∷ is | Greater ↦ i ∷ put_rising interval_cmp a is ])
+          (elim t [ Less ↦ b ∷ j ∷ js | Equal ↦ b ∷ js | Greater ↦ j ∷ put_rising interval_cmp b js ])
       step Less Less e r = next p (next q qs)
       step Equal Equal e r = next p qs
       step Greater Greater e r = next q r
@@ -113,7 +120,8 @@ module _ (E : Option ElementId → Option ElementId → Type 0) where
       step Greater Less e r = (cc)
       step Greater Equal e r = (cc)
 
-  given-alike : (given : Option Ends) (a b : NamedElements) → NamesAlike E a b → (i j : Interval) → IntervalAlike E i j → IntervalAlike E (with_ends given a i) (with_ends given b j)
+  given-alike : (given : Option Ends) (a b : NamedElements) → NamesAlike E a b → (i j : Interval) → IntervalAlike E i j
+      → IntervalAlike E (with_ends given a i) (with_ends given b j)
   given-alike None a b n i j q = q
   given-alike (Some g) a b n i j q = record { label = q.label; id = q.id; start = n.first; end = n.second; props = q.props }
 
@@ -123,20 +131,27 @@ module _ (E : Option ElementId → Option ElementId → Type 0) where
   choice true false e i j f g p q = (cc)
   choice false true e i j f g p q = (cc)
 
-  pub operation-alike : (op : TextOp) (a b : NamedElements) → NamesAlike E a b → {is js : List Interval} → IntervalsBeside E is js → IntervalsBeside E (after_interval_operation op a is) (after_interval_operation op b js)
+  pub operation-alike : (op : TextOp) (a b : NamedElements) → NamesAlike E a b → {is js : List Interval} → IntervalsBeside E is js
+      → IntervalsBeside E (after_interval_operation op a is) (after_interval_operation op b js)
   operation-alike (IntervalAdd label name given props) a b n {is} {js} h =
-      beside-choice (has_interval label name is) (has_interval label name js) (has_interval-alike label name h) h (put-alike _ _ (record { label = refl; id = refl; start = n.first; end = n.second; props = refl }) h)
+      beside-choice (has_interval label name is) (has_interval label name js) (has_interval-alike label name h) h
+      (put-alike _ _ (record { label = refl; id = refl; start = n.first; end = n.second; props = refl }) h)
   operation-alike (IntervalChange label name given props) a b n h =
-      beside-map _ _ (λ i j q. choice (is_interval label name i) (is_interval label name j) (is_interval-alike label name i j q) i j _ _ (changed i j (given-alike given a b n i j q)) q) h
+      beside-map _ _ (λ i j q. choice (is_interval label name i) (is_interval label name j) (is_interval-alike label name i j q) i j _ _
+      (changed i j (given-alike given a b n i j q)) q) h
     where
-      changed : (i j : Interval) → IntervalAlike E (with_ends given a i) (with_ends given b j) → IntervalAlike E (record (with_ends given a i) { props = apply (with_ends given a i).props props }) (record (with_ends given b j) { props = apply (with_ends given b j).props props })
+      changed : (i j : Interval) → IntervalAlike E (with_ends given a i) (with_ends given b j)
+          → IntervalAlike E (record (with_ends given a i) { props = apply (with_ends given a i).props props })
+          (record (with_ends given b j) { props = apply (with_ends given b j).props props })
       changed i j q = record { label = q.label; id = q.id; start = q.start; end = q.end; props = ap (λ ps. apply ps props) q.props }
   operation-alike (IntervalDelete label name) a b n h = beside-filter _ _ (λ i j q. ap not (is_interval-alike label name i j q)) h
   operation-alike (One op) a b n h = h
   operation-alike (Group ops) a b n h = h
 
 -- the names of an interval operation's stage
-pub intervals-after : (E : Option ElementId → Option ElementId → Type 0) (o : SubOperation) (a b : NamedElements) → ((op : TextOp) → o ≡ OnIntervals op → NamesAlike E a b) → {is js : List Interval} → IntervalsBeside E is js → IntervalsBeside E (intervals_after_stage o a is) (intervals_after_stage o b js)
+pub intervals-after : (E : Option ElementId → Option ElementId → Type 0) (o : SubOperation) (a b : NamedElements)
+    → ((op : TextOp) → o ≡ OnIntervals op → NamesAlike E a b) → {is js : List Interval} → IntervalsBeside E is js
+    → IntervalsBeside E (intervals_after_stage o a is) (intervals_after_stage o b js)
 intervals-after E (OnText op) a b n h = h
 intervals-after E (OnIntervals op) a b n h = operation-alike E op a b (n op refl) h
 intervals-after E (OnGrid op) a b n h = h
@@ -146,7 +161,9 @@ module _ {xs ys : List ListElement} (places : BesideList (AreTwins xs ys) xs ys)
   names-settle k a b n = record { first = settle-alike places k n.first; second = settle-alike places k n.second }
 
   pub intervals-settle : (k : ℕ) {is js : List Interval} → IntervalsBeside (EndsBeside xs ys) is js → IntervalsBeside (EndsAlike xs ys) (settle_ends xs k is) (settle_ends ys k js)
-  intervals-settle k h = beside-map (settle_interval xs k) (settle_interval ys k) (λ i j q. record { label = q.label; id = q.id; start = settle-alike places k q.start; end = settle-alike places k q.end; props = q.props }) h
+  intervals-settle k h = beside-map (settle_interval xs k) (settle_interval ys k)
+      (λ i j q. record { label = q.label; id = q.id; start = settle-alike places k q.start; end = settle-alike places k q.end; props = q.props }) h
 
   pub intervals-slide : {is js : List Interval} → IntervalsBeside (EndsBeside xs ys) is js → IntervalsBeside (SettledAlike xs ys) (slide_ends xs is) (slide_ends ys js)
-  intervals-slide h = beside-map (slide_interval xs) (slide_interval ys) (λ i j q. record { label = q.label; id = q.id; start = slide-settles places q.start; end = slide-settles places q.end; props = q.props }) h
+  intervals-slide h = beside-map (slide_interval xs) (slide_interval ys)
+      (λ i j q. record { label = q.label; id = q.id; start = slide-settles places q.start; end = slide-settles places q.end; props = q.props }) h

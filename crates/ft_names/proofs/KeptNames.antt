@@ -38,7 +38,8 @@ zero-less m n l e = omega arith
 
 module _ {low : ℕ} {held : ElementId → Bool} where
   -- no more elements pass a test
-  len-less : (test : ListElement → Bool) → ((e : ListElement) → is_insertion_at_or_below low e.ins ≡ true → test (with_universal_insertion e) ≡ test e) → {ks xs : List ListElement} → Keeps low held ks xs → len test ks ≤ len test xs
+  len-less : (test : ListElement → Bool) → ((e : ListElement) → is_insertion_at_or_below low e.ins ≡ true → test (with_universal_insertion e) ≡ test e)
+      → {ks xs : List ListElement} → Keeps low held ks xs → len test ks ≤ len test xs
   len-less test old none = omega arith
   len-less test old (same {e = e} {ks = ks} {xs = xs} k) = at_most (test e) (test e) (len test ks) (len test xs) refl (len-less test old k)
   len-less test old (universal {e = e} {ks = ks} {xs = xs} f k) = at_most (test (with_universal_insertion e)) (test e) (len test ks) (len test xs) (old e f) (len-less test old k)
@@ -88,44 +89,64 @@ module _ {low : ℕ} {held : ElementId → Bool} {ks xs : List ListElement} (k :
   intervals-kept [] h s = tt
   intervals-kept (i ∷ is) h s = (
     (
-      settled-kept i.start (λ a e. h a (or-left (interval_holds a i) (list_any (interval_holds a) is) (or-left (is_named_by a i.start) (is_named_by a i.end) (named-self i.start a e)))) k s.0.0,
-      settled-kept i.end (λ a e. h a (or-left (interval_holds a i) (list_any (interval_holds a) is) (or-right (is_named_by a i.start) (is_named_by a i.end) (named-self i.end a e)))) k s.0.1,
+      settled-kept i.start (λ a e. h a (or-left (interval_holds a i) (list_any (interval_holds a) is)
+          (or-left (is_named_by a i.start) (is_named_by a i.end) (named-self i.start a e)))) k s.0.0,
+      settled-kept i.end (λ a e. h a (or-left (interval_holds a i) (list_any (interval_holds a) is)
+          (or-right (is_named_by a i.start) (is_named_by a i.end) (named-self i.end a e)))) k s.0.1,
     ),
     intervals-kept is (λ a e. h a (or-right (interval_holds a i) (list_any (interval_holds a) is) e)) s.1,
   )
 
 -- ---- a client
 
-module _ (x : NaiveClient) (h : IsWellNamed x) (text rows cols : Sequence) (cells : List Cell) (kt : KeepsList (floor x) (holds_text x) text x.doc.text) (kr : KeepsList (floor x) (holds_row x) rows x.doc.rows) (kc : KeepsList (floor x) (holds_col x) cols x.doc.cols) where
+module _ (x : NaiveClient) (h : IsWellNamed x) (text rows cols : Sequence) (cells : List Cell) (kt : KeepsList (floor x) (holds_text x) text x.doc.text)
+    (kr : KeepsList (floor x) (holds_row x) rows x.doc.rows) (kc : KeepsList (floor x) (holds_col x) cols x.doc.cols) where
   abbrev kept_doc : Document
   kept_doc = record x.doc { text = text; rows = rows; cols = cols; cells = cells }
 
-  there-kept : (n : ℕ) (o : SubOperation) (names : NamedElements) → ((a : ElementId) → stage_holds_text a (record { stage = n; sub_operation = o; names = names }) ≡ true → holds_text x a ≡ true)
-      → ((a : ElementId) → stage_holds_row a (record { stage = n; sub_operation = o; names = names }) ≡ true → holds_row x a ≡ true) → ((a : ElementId) → stage_holds_col a (record { stage = n; sub_operation = o; names = names }) ≡ true → holds_col x a ≡ true)
+  there-kept : (n : ℕ) (o : SubOperation) (names : NamedElements) → ((a : ElementId)
+      → stage_holds_text a (record { stage = n; sub_operation = o; names = names }) ≡ true → holds_text x a ≡ true)
+      → ((a : ElementId) → stage_holds_row a (record { stage = n; sub_operation = o; names = names }) ≡ true → holds_row x a ≡ true)
+      → ((a : ElementId) → stage_holds_col a (record { stage = n; sub_operation = o; names = names }) ≡ true → holds_col x a ≡ true)
       → AreThere x.doc o names → AreThere (record x.doc { text = text; rows = rows; cols = cols; cells = cells }) o names
   there-kept n (OnText op) names f g i t = t
-  there-kept n (OnIntervals op) names f g i t =
-      (stands-kept names.first (λ a e. f a (or-left (is_named_by a names.first) (is_named_by a names.second) (named-self names.first a e))) kt.items t.0, stands-kept names.second (λ a e. f a (or-right (is_named_by a names.first) (is_named_by a names.second) (named-self names.second a e))) kt.items t.1)
+  there-kept n (OnIntervals op) names f g i t = (
+    stands-kept names.first (λ a e. f a (or-left (is_named_by a names.first) (is_named_by a names.second) (named-self names.first a e))) kt.items t.0,
+    stands-kept names.second (λ a e. f a (or-right (is_named_by a names.first) (is_named_by a names.second) (named-self names.second a e))) kt.items t.1,
+  )
   there-kept n (OnGrid (SpliceIn target p count)) names f g i t = t
   there-kept n (OnGrid (SpliceOut target p q)) names f g i t = t
-  there-kept n (OnGrid (Set p q value)) names f g i t = (stands-kept names.first (λ a e. g a (named-self names.first a e)) kr.items t.0, stands-kept names.second (λ a e. i a (named-self names.second a e)) kc.items t.1)
+  there-kept n (OnGrid (Set p q value)) names f g i t = (
+    stands-kept names.first (λ a e. g a (named-self names.first a e)) kr.items t.0,
+    stands-kept
+        names.second (λ a e. i a (named-self names.second a e)) kc.items t.1,
+  )
 
-  stages-kept : (ts : List Stage) → ((a : ElementId) → list_any (stage_holds_text a) ts ≡ true → holds_text x a ≡ true) → ((a : ElementId) → list_any (stage_holds_row a) ts ≡ true → holds_row x a ≡ true) → ((a : ElementId) → list_any (stage_holds_col a) ts ≡ true → holds_col x a ≡ true)
+  stages-kept : (ts : List Stage) → ((a : ElementId) → list_any (stage_holds_text a) ts ≡ true → holds_text x a ≡ true)
+      → ((a : ElementId) → list_any (stage_holds_row a) ts ≡ true → holds_row x a ≡ true) → ((a : ElementId) → list_any (stage_holds_col a) ts ≡ true → holds_col x a ≡ true)
       → AreStagesNamed x.doc ts → AreStagesNamed (record x.doc { text = text; rows = rows; cols = cols; cells = cells }) ts
   stages-kept [] f g i s = tt
   stages-kept (t ∷ ts) f g i s = (
-    (there-kept t.stage t.sub_operation t.names (λ a e. f a (or-left (stage_holds_text a t) (list_any (stage_holds_text a) ts) e)) (λ a e. g a (or-left (stage_holds_row a t) (list_any (stage_holds_row a) ts) e)) (λ a e. i a (or-left (stage_holds_col a t) (list_any (stage_holds_col a) ts) e)) s.0.0, s.0.1),
-    stages-kept ts (λ a e. f a (or-right (stage_holds_text a t) (list_any (stage_holds_text a) ts) e)) (λ a e. g a (or-right (stage_holds_row a t) (list_any (stage_holds_row a) ts) e)) (λ a e. i a (or-right (stage_holds_col a t) (list_any (stage_holds_col a) ts) e)) s.1,
+    (
+      there-kept t.stage t.sub_operation t.names (λ a e. f a (or-left (stage_holds_text a t) (list_any (stage_holds_text a) ts) e))
+          (λ a e. g a (or-left (stage_holds_row a t) (list_any (stage_holds_row a) ts) e))
+          (λ a e. i a (or-left (stage_holds_col a t) (list_any (stage_holds_col a) ts) e)) s.0.0,
+      s.0.1,
+    ),
+    stages-kept ts (λ a e. f a (or-right (stage_holds_text a t) (list_any (stage_holds_text a) ts) e))
+        (λ a e. g a (or-right (stage_holds_row a t) (list_any (stage_holds_row a) ts) e)) (λ a e. i a (or-right (stage_holds_col a t) (list_any (stage_holds_col a) ts) e)) s.1,
   )
 
-  pub shape-named : HasNoCellsAhead (record x.doc { text = text; rows = rows; cols = cols; cells = cells }) → IsWellNamed (record x { doc = record x.doc { text = text; rows = rows; cols = cols; cells = cells } })
+  pub shape-named : HasNoCellsAhead (record x.doc { text = text; rows = rows; cols = cols; cells = cells })
+      → IsWellNamed (record x { doc = record x.doc { text = text; rows = rows; cols = cols; cells = cells } })
   shape-named ahead = record {
     text = kept-numbered x.last_stage text x.doc.text kt h.text;
     rows = kept-numbered x.last_stage rows x.doc.rows kr h.rows;
     cols = kept-numbered x.last_stage cols x.doc.cols kc h.cols;
     intervals = intervals-kept kt.items x.doc.intervals (λ a e. or-left (list_any (interval_holds a) x.doc.intervals) (list_any (stage_holds_text a) (stages_of x)) e) h.intervals;
     cells = ahead;
-    stages = stages-kept (stages_of x) (λ a e. or-right (list_any (interval_holds a) x.doc.intervals) (list_any (stage_holds_text a) (stages_of x)) e) (λ a e. e) (λ a e. e) h.stages;
+    stages = stages-kept (stages_of x) (λ a e. or-right (list_any (interval_holds a) x.doc.intervals) (list_any (stage_holds_text a) (stages_of x)) e)
+        (λ a e. e) (λ a e. e) h.stages;
     own = record {
       text = λ k g. len-kept (is_inserted_by k) (inserted-alike (floor x) k (holds_text x)) kt.items ∙ h.own.text k g;
       rows = λ k g. len-kept (is_inserted_by k) (inserted-alike (floor x) k (holds_row x)) kr.items ∙ h.own.rows k g;

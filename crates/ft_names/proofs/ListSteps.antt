@@ -38,10 +38,12 @@ unused-other last list a i h l u = step (same_id a i) refl
 -- a step of two lists: what holds of the names at each place still holds, where it holds of unused names; and the names that
 -- stood in the first list stand there
 pub record ListStep (last : ℕ) (l m after other : Sequence) : Type 1 where
-  pub carries : (P : ElementId → ElementId → Type 0) → ((a b : ElementId) → IsUnused l.made last a → IsUnused m.made last b → P a b) → BesideList (Named P) l.items m.items → BesideList (Named P) after.items other.items
+  pub carries : (P : ElementId → ElementId → Type 0) → ((a b : ElementId) → IsUnused l.made last a → IsUnused m.made last b → P a b)
+      → BesideList (Named P) l.items m.items → BesideList (Named P) after.items other.items
   pub stay : (a : ElementId) → 1 ≤ len (has_id a) l.items → 1 ≤ len (has_id a) after.items
 
-pub step-stands : (last : ℕ) (l m after other : Sequence) → ListStep last l m after other → ListsAlike last l m → (a b : ElementId) → StandAlike l.items m.items a b → StandAlike after.items other.items a b
+pub step-stands : (last : ℕ) (l m after other : Sequence) → ListStep last l m after other → ListsAlike last l m → (a b : ElementId)
+    → StandAlike l.items m.items a b → StandAlike after.items other.items a b
 step-stands last l m after other s h a b t = record {
   there = s.stay a t.there;
   twins = s.carries (λ i j. same_id a i ≡ same_id b j) (λ i j u v. unused-other last l a i h.left t.there u ∙ sym (unused-other last m b j h.right (there-other t) v)) t.twins;
@@ -52,7 +54,8 @@ step-twins last l m after other s t = twins-of (λ a b. Unit {0}) (s.carries (λ
 
 -- ---- new elements
 
-new-twins : (P : ElementId → ElementId → Type 0) (by : Option Stamp) (props : PropertyList) (t : Stamp) (n m : ℕ) → ((i j : ℕ) → n ≤ i → m ≤ j → P (id_of_stamp t i) (id_of_stamp t j)) → (bs : List ElementContent)
+new-twins : (P : ElementId → ElementId → Type 0) (by : Option Stamp) (props : PropertyList) (t : Stamp) (n m : ℕ)
+    → ((i j : ℕ) → n ≤ i → m ≤ j → P (id_of_stamp t i) (id_of_stamp t j)) → (bs : List ElementContent)
     → BesideList (Named P) (new_elements n t [] by props bs) (new_elements m t [] by props bs)
 new-twins P by props t n m h [] = ends
 new-twins P by props t n m h (b ∷ bs) = next (refl, h n m (omega arith) (omega arith)) (new-twins P by props t (n + 1) (m + 1) (λ i j l g. h i j (omega arith) (omega arith)) bs)
@@ -60,7 +63,8 @@ new-twins P by props t n m h (b ∷ bs) = next (refl, h n m (omega arith) (omega
 more-there : (m n : ℕ) → 1 ≤ n → 1 ≤ m + n
 more-there m n l = omega arith
 
-module _ (test past : ListElement → Bool) (sees : (x y : ListElement) → IsTwin x y → test x ≡ test y) (goes : (x y : ListElement) → IsTwin x y → past x ≡ past y) (last p : ℕ) (l m : Sequence) where
+module _ (test past : ListElement → Bool) (sees : (x y : ListElement) → IsTwin x y → test x ≡ test y)
+    (goes : (x y : ListElement) → IsTwin x y → past x ≡ past y) (last p : ℕ) (l m : Sequence) where
   put-step : (made other : ℕ) (new new' : List ListElement)
       → ((P : ElementId → ElementId → Type 0) → ((a b : ElementId) → IsUnused l.made last a → IsUnused m.made last b → P a b) → BesideList (Named P) new new')
       → ListStep last l m (record { items = put test past p new l.items; made = made }) (record { items = put test past p new' m.items; made = other })
@@ -73,11 +77,13 @@ module _ (test past : ListElement → Bool) (sees : (x y : ListElement) → IsTw
   pub insertion-step : (s c : ℕ) (by : Option Stamp) (props : PropertyList) (bs : List ElementContent)
       → ListStep last l m (record { items = put test past p (new_elements l.made (Acked s c) [] by props bs) l.items; made = l.made + length bs })
       (record { items = put test past p (new_elements m.made (Acked s c) [] by props bs) m.items; made = m.made + length bs })
-  insertion-step s c by props bs = put-step (l.made + length bs) (m.made + length bs) _ _ (λ P u. new-twins P by props (Acked s c) l.made m.made (λ i j g h. u (SequencedId i) (SequencedId j) g h) bs)
+  insertion-step s c by props bs = put-step (l.made + length bs) (m.made + length bs) _ _
+      (λ P u. new-twins P by props (Acked s c) l.made m.made (λ i j g h. u (SequencedId i) (SequencedId j) g h) bs)
 
   -- new elements of a later stage
   pub local-step : (k : ℕ) → last < k → (props : PropertyList) (bs : List ElementContent)
-      → ListStep last l m (record { items = put test past p (new_elements 0 (Local k) [] None props bs) l.items; made = l.made }) (record { items = put test past p (new_elements 0 (Local k) [] None props bs) m.items; made = m.made })
+      → ListStep last l m (record { items = put test past p (new_elements 0 (Local k) [] None props bs) l.items; made = l.made })
+      (record { items = put test past p (new_elements 0 (Local k) [] None props bs) m.items; made = m.made })
   local-step k later props bs = put-step l.made m.made _ _ (λ P u. new-twins P None props (Local k) 0 0 (λ i j g h. u (PendingId k i) (PendingId k j) later later) bs)
 
 -- changes that don't look at names
@@ -85,10 +91,12 @@ pub record KeepsTwins (f : ListElement → ListElement) : Type 0 where
   pub names : KeepsNames f
   pub twins : (x y : ListElement) → IsTwin x y → IsTwin (f x) (f y)
 
-pub range-step : (test : ListElement → Bool) → ((x y : ListElement) → IsTwin x y → test x ≡ test y) → (last i p q : ℕ) (f : ListElement → ListElement) → KeepsTwins f → (l m : Sequence)
+pub range-step : (test : ListElement → Bool) → ((x y : ListElement) → IsTwin x y → test x ≡ test y) → (last i p q : ℕ) (f : ListElement → ListElement)
+    → KeepsTwins f → (l m : Sequence)
     → ListStep last l m (record l { items = change_range_from i test p q f l.items }) (record m { items = change_range_from i test p q f m.items })
 range-step test sees last i p q f k l m = record {
-  carries = λ P u h. beside-range test test (λ x y r. sees x y r.0) f f (λ x y r. (k.twins x y r.0, subst (λ a. P a (id (f y))) (sym (kept-id f k.names x)) (subst (λ b. P (id x) b) (sym (kept-id f k.names y)) r.1))) i p q h;
+  carries = λ P u h. beside-range test test (λ x y r. sees x y r.0) f f (λ x y r.
+      (k.twins x y r.0, subst (λ a. P a (id (f y))) (sym (kept-id f k.names x)) (subst (λ b. P (id x) b) (sym (kept-id f k.names y)) r.1))) i p q h;
   stay = λ a g. subst (λ n. 1 ≤ n) (sym (len-range (has_id a) test f (λ e. ap (same_id a) (kept-id f k.names e)) p q i l.items)) g;
 }
 

@@ -26,8 +26,11 @@ pub rank-at : (ys : List ListElement) → Once ys → (k : ℕ) (b : ElementId) 
 rank-at [] o k b e = (cc)
 rank-at (y ∷ ys) o zero b e =
     let same : id y ≡ b = (cc) in
-    subst (λ i. (rank (has_id i) (λ _. true) (y ∷ ys) ≡ 0) × (1 ≤ len (has_id i) (y ∷ ys))) same
-    (ap (λ c. cond c 0 (suc (rank (has_id (id y)) (λ _. true) ys))) (same_id-refl (id y)), subst (λ c. 1 ≤ one_more_if c (len (has_id (id y)) ys)) (sym (same_id-refl (id y))) (omega arith))
+    subst (λ i. (rank (has_id i) (λ _. true) (y ∷ ys) ≡ 0) × (1 ≤ len (has_id i) (y ∷ ys))) same (
+      ap (λ c. cond c 0 (suc (rank (has_id (id y)) (λ _. true) ys))) (same_id-refl (id y)),
+      subst (λ c. 1 ≤ one_more_if c (len (has_id (id y)) ys))
+          (sym (same_id-refl (id y))) (omega arith),
+    )
 rank-at (y ∷ ys) o (suc k) b e =
     let r = rank-at ys (once-tail y ys o) k b e in
     let away = only-there (has_id b y) (len (has_id b) ys) (o b) r.1 in
@@ -38,7 +41,8 @@ at-rank : (ys : List ListElement) (a : ElementId) → 1 ≤ len (has_id a) ys �
 at-rank [] a l = absurd (omega arith)
 at-rank (y ∷ ys) a l = step (has_id a y) refl l (λ g. at-rank ys a g)
   where
-    step : (b : Bool) → has_id a y ≡ b → 1 ≤ one_more_if b (len (has_id a) ys) → (1 ≤ len (has_id a) ys → name_at ys (rank (has_id a) (λ _. true) ys) ≡ Some a) → name_at (y ∷ ys) (cond b 0 (suc (rank (has_id a) (λ _. true) ys))) ≡ Some a
+    step : (b : Bool) → has_id a y ≡ b → 1 ≤ one_more_if b (len (has_id a) ys) → (1 ≤ len (has_id a) ys → name_at ys (rank (has_id a) (λ _. true) ys) ≡ Some a)
+        → name_at (y ∷ ys) (cond b 0 (suc (rank (has_id a) (λ _. true) ys))) ≡ Some a
     step true e g ih = ap Some (sym (same_id-eq a (id y) e))
     step false e g ih = ih g
 
@@ -81,7 +85,8 @@ never true = refl
 never false = refl
 
 -- a named cell holds what is told of its places
-pub value-named : (ys vs : List ListElement) → Once ys → Once vs → (a c : ElementId) → 1 ≤ len (has_id a) ys → 1 ≤ len (has_id c) vs → (cs : List CellRec) → cell_value a c (named_cells ys vs cs) ≡ lookup (rank (has_id a) (λ _. true) ys) (rank (has_id c) (λ _. true) vs) cs
+pub value-named : (ys vs : List ListElement) → Once ys → Once vs → (a c : ElementId) → 1 ≤ len (has_id a) ys → 1 ≤ len (has_id c) vs → (cs : List CellRec)
+    → cell_value a c (named_cells ys vs cs) ≡ lookup (rank (has_id a) (λ _. true) ys) (rank (has_id c) (λ _. true) vs) cs
 value-named ys vs o w a c l m [] = refl
 value-named ys vs o w a c l m (r ∷ cs) = step (name_at ys r.row) refl (name_at vs r.col) refl (value-named ys vs o w a c l m cs)
   where
@@ -91,7 +96,8 @@ value-named ys vs o w a c l m (r ∷ cs) = step (name_at ys r.row) refl (name_at
     j : ℕ
     j = rank (has_id c) (λ _. true) vs
 
-    chosen : (b : Bool) (cell : Cell) (rest : List Cell) → cell_value a c rest ≡ lookup i j cs → option_map (λ (x : Cell). x.value) (cond b (Some cell) (find (is_cell a c) rest)) ≡ cond b (Some cell.value) (lookup i j cs)
+    chosen : (b : Bool) (cell : Cell) (rest : List Cell) → cell_value a c rest ≡ lookup i j cs
+        → option_map (λ (x : Cell). x.value) (cond b (Some cell) (find (is_cell a c) rest)) ≡ cond b (Some cell.value) (lookup i j cs)
     chosen true cell rest ih = refl
     chosen false cell rest ih = ih
 
@@ -101,7 +107,8 @@ value-named ys vs o w a c l m (r ∷ cs) = step (name_at ys r.row) refl (name_at
     step (Some b) e None f ih = ih ∙ sym (ap (λ x. cond x (Some r.value) (lookup i j cs)) (ap (λ x. nat_eq r.row i && x) (match-none vs w c m r.col f) ∙ never (nat_eq r.row i)))
     step (Some b) e (Some d) f ih =
         chosen (same_id a b && same_id c d) (record { row = b; col = d; value = r.value }) (named_cells ys vs cs) ih
-        ∙ ap (λ x. cond (x && same_id c d) (Some r.value) (lookup i j cs)) (match-some ys o a l r.row b e) ∙ ap (λ x. cond (nat_eq r.row i && x) (Some r.value) (lookup i j cs)) (match-some vs w c m r.col d f)
+        ∙ ap (λ x. cond (x && same_id c d) (Some r.value) (lookup i j cs)) (match-some ys o a l r.row b e)
+        ∙ ap (λ x. cond (nat_eq r.row i && x) (Some r.value) (lookup i j cs)) (match-some vs w c m r.col d f)
 
 -- ---- what the records tell
 
@@ -124,7 +131,8 @@ skip-col i j (u ∷ us) ws h =
 none-row : (i j : ℕ) (ws : List CellRec) → list_any (λ (c : CellRec). nat_eq c.row i) ws ≡ false → lookup i j ws ≡ None
 none-row i j ws h = ap (lookup i j) (sym (append-nil ws)) ∙ skip-row i j ws [] h
 
-look-row : (n : ℕ) (cells : List Cell) (a c : ElementId) (rest : List CellRec) → list_any (λ (r : CellRec). nat_eq r.row n) rest ≡ false → (j : ℕ) (cols : List ListElement) → 1 ≤ len (has_id c) cols
+look-row : (n : ℕ) (cells : List Cell) (a c : ElementId) (rest : List CellRec) → list_any (λ (r : CellRec). nat_eq r.row n) rest ≡ false
+    → (j : ℕ) (cols : List ListElement) → 1 ≤ len (has_id c) cols
     → lookup n (j + rank (has_id c) (λ _. true) cols) (row_cells cells [] n a j cols ++ rest) ≡ cell_value a c cells
 look-row n cells a c rest h j [] l = absurd (omega arith)
 look-row n cells a c rest h j (u ∷ us) l =
@@ -145,18 +153,23 @@ look-row n cells a c rest h j (u ∷ us) l =
 
     here : (v : Option ValueBytes) → lookup n j (cell_record n j v ++ (row_cells cells [] n a (j + 1) us ++ rest)) ≡ v
     here None = skip-col n j (row_cells cells [] n a (j + 1) us) rest (cols-miss n j (j + 1) (omega arith) cells a us) ∙ none-row n j rest h
-    here (Some w) = ap (λ b. cond (b && nat_eq j j) (Some w) (lookup n j (row_cells cells [] n a (j + 1) us ++ rest))) (same-number n) ∙ ap (λ b. cond b (Some w) (lookup n j (row_cells cells [] n a (j + 1) us ++ rest))) (same-number j)
+    here (Some w) = ap (λ b. cond (b && nat_eq j j) (Some w) (lookup n j (row_cells cells [] n a (j + 1) us ++ rest))) (same-number n)
+        ∙ ap (λ b. cond b (Some w) (lookup n j (row_cells cells [] n a (j + 1) us ++ rest))) (same-number j)
 
     other : (m : ℕ) (v : Option ValueBytes) → list_any (λ (r : CellRec). nat_eq r.col (j + suc m)) (cell_record n j v) ≡ false
     other m None = refl
     other m (Some w) = ap (λ b. b || false) (higher j m)
 
-    step : (b : Bool) → has_id c u ≡ b → 1 ≤ one_more_if b (len (has_id c) us) → (1 ≤ len (has_id c) us → lookup n (j + 1 + rank (has_id c) (λ _. true) us) (row_cells cells [] n a (j + 1) us ++ rest) ≡ cell_value a c cells)
-        → lookup n (j + cond b 0 (suc (rank (has_id c) (λ _. true) us))) (cell_record n j (cell_value a (id u) cells) ++ (row_cells cells [] n a (j + 1) us ++ rest)) ≡ cell_value a c cells
+    step : (b : Bool) → has_id c u ≡ b → 1 ≤ one_more_if b (len (has_id c) us)
+        → (1 ≤ len (has_id c) us → lookup n (j + 1 + rank (has_id c) (λ _. true) us) (row_cells cells [] n a (j + 1) us ++ rest) ≡ cell_value a c cells)
+        → lookup n (j + cond b 0 (suc (rank (has_id c) (λ _. true) us))) (cell_record n j (cell_value a (id u) cells) ++
+        (row_cells cells [] n a (j + 1) us ++ rest)) ≡ cell_value a c cells
     step true e g ih =
-        ap (λ i. lookup n i (cell_record n j (cell_value a (id u) cells) ++ (row_cells cells [] n a (j + 1) us ++ rest))) (plus-zero j) ∙ here (cell_value a (id u) cells) ∙ ap (λ i. cell_value a i cells) (sym (same_id-eq c (id u) e))
+        ap (λ i. lookup n i (cell_record n j (cell_value a (id u) cells) ++ (row_cells cells [] n a (j + 1) us ++ rest))) (plus-zero j)
+        ∙ here (cell_value a (id u) cells) ∙ ap (λ i. cell_value a i cells) (sym (same_id-eq c (id u) e))
     step false e g ih =
-        skip-col n (j + suc (rank (has_id c) (λ _. true) us)) (cell_record n j (cell_value a (id u) cells)) (row_cells cells [] n a (j + 1) us ++ rest) (other (rank (has_id c) (λ _. true) us) (cell_value a (id u) cells))
+        skip-col n (j + suc (rank (has_id c) (λ _. true) us)) (cell_record n j (cell_value a (id u) cells)) (row_cells cells [] n a (j + 1) us ++ rest)
+        (other (rank (has_id c) (λ _. true) us) (cell_value a (id u) cells))
         ∙ ap (λ i. lookup n i (row_cells cells [] n a (j + 1) us ++ rest)) (plus-suc j (rank (has_id c) (λ _. true) us)) ∙ ih g
 
 -- the records of all cells tell their values
@@ -172,13 +185,17 @@ look-all cells a c cols m n (x ∷ xs) l = step (has_id a x) refl l (λ g. look-
     plus-suc i k = omega arith
 
     step : (b : Bool) → has_id a x ≡ b → 1 ≤ one_more_if b (len (has_id a) xs)
-        → (1 ≤ len (has_id a) xs → lookup (n + 1 + rank (has_id a) (λ _. true) xs) (0 + rank (has_id c) (λ _. true) cols) (all_cells cells [] cols (n + 1) xs) ≡ cell_value a c cells)
-        → lookup (n + cond b 0 (suc (rank (has_id a) (λ _. true) xs))) (0 + rank (has_id c) (λ _. true) cols) (row_cells cells [] n (id x) 0 cols ++ all_cells cells [] cols (n + 1) xs) ≡ cell_value a c cells
+        → (1 ≤ len (has_id a) xs → lookup (n + 1 + rank (has_id a) (λ _. true) xs) (0 + rank (has_id c) (λ _. true) cols) (all_cells cells [] cols (n + 1) xs)
+        ≡ cell_value a c cells)
+        → lookup (n + cond b 0 (suc (rank (has_id a) (λ _. true) xs))) (0 + rank (has_id c) (λ _. true) cols)
+        (row_cells cells [] n (id x) 0 cols ++ all_cells cells [] cols (n + 1) xs) ≡ cell_value a c cells
     step true e g ih =
         ap (λ i. lookup i (0 + rank (has_id c) (λ _. true) cols) (row_cells cells [] n (id x) 0 cols ++ all_cells cells [] cols (n + 1) xs)) (plus-zero n)
-        ∙ look-row n cells (id x) c (all_cells cells [] cols (n + 1) xs) (rows-miss n (n + 1) (omega arith) cells cols xs) 0 cols m ∙ ap (λ i. cell_value i c cells) (sym (same_id-eq a (id x) e))
+        ∙ look-row n cells (id x) c (all_cells cells [] cols (n + 1) xs) (rows-miss n (n + 1) (omega arith) cells cols xs) 0 cols m
+        ∙ ap (λ i. cell_value i c cells) (sym (same_id-eq a (id x) e))
     step false e g ih =
-        skip-row (n + suc (rank (has_id a) (λ _. true) xs)) (0 + rank (has_id c) (λ _. true) cols) (row_cells cells [] n (id x) 0 cols) (all_cells cells [] cols (n + 1) xs) (row-other (rank (has_id a) (λ _. true) xs) 0 cols)
+        skip-row (n + suc (rank (has_id a) (λ _. true) xs)) (0 + rank (has_id c) (λ _. true) cols) (row_cells cells [] n (id x) 0 cols)
+        (all_cells cells [] cols (n + 1) xs) (row-other (rank (has_id a) (λ _. true) xs) 0 cols)
         ∙ ap (λ i. lookup i (0 + rank (has_id c) (λ _. true) cols) (all_cells cells [] cols (n + 1) xs)) (plus-suc n (rank (has_id a) (λ _. true) xs)) ∙ ih g
       where
         higher : (k : ℕ) → nat_eq n (n + suc k) ≡ false
@@ -188,6 +205,7 @@ look-all cells a c cols m n (x ∷ xs) l = step (has_id a x) refl l (λ g. look-
         row-other k j [] = refl
         row-other k j (u ∷ us) = one (cell_value (id x) (id u) cells) (row-other k (j + 1) us)
           where
-            one : (v : Option ValueBytes) → list_any (λ (r : CellRec). nat_eq r.row (n + suc k)) (row_cells cells [] n (id x) (j + 1) us) ≡ false → list_any (λ (r : CellRec). nat_eq r.row (n + suc k)) (cell_record n j v ++ row_cells cells [] n (id x) (j + 1) us) ≡ false
+            one : (v : Option ValueBytes) → list_any (λ (r : CellRec). nat_eq r.row (n + suc k)) (row_cells cells [] n (id x) (j + 1) us) ≡ false
+                → list_any (λ (r : CellRec). nat_eq r.row (n + suc k)) (cell_record n j v ++ row_cells cells [] n (id x) (j + 1) us) ≡ false
             one None ih = ih
             one (Some w) ih = ap (λ b. b || list_any (λ (r : CellRec). nat_eq r.row (n + suc k)) (row_cells cells [] n (id x) (j + 1) us)) (higher k) ∙ ih

@@ -46,8 +46,17 @@ found : {xs ys us vs : List ListElement} (a : ElementId) → BesideList (AreTwin
 found a ends l = absurd (omega arith)
 found {xs} {ys} a (next {x = x} {y = y} {xs = us} {ys = vs} t ts) l = step (has_id a x) refl l (λ g. found a ts g)
   where
-    step : (b : Bool) → has_id a x ≡ b → 1 ≤ one_more_if b (len (has_id a) us) → (1 ≤ len (has_id a) us → FoundAt xs ys vs a (rank (has_id a) (λ _. true) us)) → FoundAt xs ys (y ∷ vs) a (cond b 0 (suc (rank (has_id a) (λ _. true) us)))
-    step true e g ih = let same = same_id-eq a (id x) e in record { x = x; y = y; here = refl; twin = t.twin; name = same; stand = subst (λ i. StandAlike xs ys i (id y)) (sym same) t.stand }
+    step : (b : Bool) → has_id a x ≡ b → 1 ≤ one_more_if b (len (has_id a) us) → (1 ≤ len (has_id a) us → FoundAt xs ys vs a (rank (has_id a) (λ _. true) us))
+        → FoundAt xs ys (y ∷ vs) a (cond b 0 (suc (rank (has_id a) (λ _. true) us)))
+    step true e g ih = let same = same_id-eq a (id x) e in record {
+      x = x;
+      y = y;
+      here = refl;
+      twin = t.twin;
+      name = same;
+      stand = subst
+          (λ i. StandAlike xs ys i (id y)) (sym same) t.stand;
+    }
     step false e g ih = let f = ih g in record { x = f.x; y = f.y; here = f.here; twin = f.twin; name = f.name; stand = f.stand }
 
 -- of what kind its name is
@@ -66,11 +75,13 @@ sequenced-twin n x y t e = ap id t ∙ of x.ins e
     of (Local j) g = (cc)
 
 module _ (last : ℕ) (l m : Sequence) (h : ListsAlike last l m) where
-  end-named : (k : ℕ) (o : Option ElementId) → StandsIn l.items o → EndsAlike l.items m.items o (end_at m.items (place_in_list l.items o)) × (IsNamedBefore k o → IsNamedBefore k (end_at m.items (place_in_list l.items o)))
+  end-named : (k : ℕ) (o : Option ElementId) → StandsIn l.items o → EndsAlike l.items m.items o (end_at m.items (place_in_list l.items o))
+      × (IsNamedBefore k o → IsNamedBefore k (end_at m.items (place_in_list l.items o)))
   end-named k None s = (detached, λ g. tt)
   end-named k (Some a) s =
       let f = found a (places last l m h) s in
-      subst (λ o. EndsAlike l.items m.items (Some a) (option_map id o) × (IsNamedBefore k (Some a) → IsNamedBefore k (option_map id o))) (sym f.here) (on f.stand, λ g. same-before k a f.x f.y f.twin f.name g)
+      subst (λ o. EndsAlike l.items m.items (Some a) (option_map id o) × (IsNamedBefore k (Some a) → IsNamedBefore k (option_map id o))) (sym f.here)
+      (on f.stand, λ g. same-before k a f.x f.y f.twin f.name g)
 
   settled-named : (o : Option ElementId) → IsSettledIn l.items o → SettledAlike l.items m.items o (end_at m.items (place_in_list l.items o))
   settled-named None s = away
@@ -79,11 +90,14 @@ module _ (last : ℕ) (l m : Sequence) (h : ListsAlike last l m) where
       let f = found (SequencedId n) (places last l m h) s in
       let named = sequenced-twin n f.x f.y f.twin f.name in
       subst (λ o. SettledAlike l.items m.items (Some (SequencedId n)) (option_map id o)) (sym f.here)
-      (subst (λ i. SettledAlike l.items m.items (Some (SequencedId n)) (Some i)) (sym named) (on_sequenced (subst (λ i. StandAlike l.items m.items (SequencedId n) i) named f.stand)))
+      (subst (λ i. SettledAlike l.items m.items (Some (SequencedId n)) (Some i)) (sym named)
+      (on_sequenced (subst (λ i. StandAlike l.items m.items (SequencedId n) i) named f.stand)))
 
-  intervals-named : (is : List Interval) → AreSettledIn l.items is → IntervalsBeside (SettledAlike l.items m.items) is (map (named_interval m.items) (map (indexed_interval l.items) is))
+  intervals-named : (is : List Interval) → AreSettledIn l.items is → IntervalsBeside (SettledAlike l.items m.items) is
+      (map (named_interval m.items) (map (indexed_interval l.items) is))
   intervals-named [] s = ends
-  intervals-named (i ∷ is) s = next (record { label = refl; id = refl; start = settled-named i.start s.0.0; end = settled-named i.end s.0.1; props = refl }) (intervals-named is s.1)
+  intervals-named (i ∷ is) s = next (record { label = refl; id = refl; start = settled-named i.start s.0.0; end = settled-named i.end s.0.1; props = refl })
+      (intervals-named is s.1)
 
 -- ---- cells
 
@@ -131,10 +145,12 @@ absent-row ys vs o a c z (r ∷ cs) = step (name_at ys r.row) refl (name_at vs r
         let none : len (has_id b) ys ≡ 0 = subst (λ i. len (has_id i) ys ≡ 0) same z in
         absurd (omega arith)
 
-    step : (p : Option ElementId) → name_at ys r.row ≡ p → (q : Option ElementId) → cell_value a c (named_cells ys vs cs) ≡ None → cell_value a c (named_cell p q r.value ++ named_cells ys vs cs) ≡ None
+    step : (p : Option ElementId) → name_at ys r.row ≡ p → (q : Option ElementId) → cell_value a c (named_cells ys vs cs) ≡ None
+        → cell_value a c (named_cell p q r.value ++ named_cells ys vs cs) ≡ None
     step None e q ih = ih
     step (Some b) e None ih = ih
-    step (Some b) e (Some d) ih = ap (λ i. option_map (λ (x : Cell). x.value) (cond (i && same_id c d) (Some (record { row = b; col = d; value = r.value })) (find (is_cell a c) (named_cells ys vs cs)))) (apart b e (same_id a b) refl) ∙ ih
+    step (Some b) e (Some d) ih = ap (λ i. option_map (λ (x : Cell). x.value)
+        (cond (i && same_id c d) (Some (record { row = b; col = d; value = r.value })) (find (is_cell a c) (named_cells ys vs cs)))) (apart b e (same_id a b) refl) ∙ ih
 
 absent-col : (ys vs : List ListElement) → Once vs → (a c : ElementId) → len (has_id c) vs ≡ 0 → (cs : List CellRec) → cell_value a c (named_cells ys vs cs) ≡ None
 absent-col ys vs o a c z [] = refl
@@ -152,11 +168,13 @@ absent-col ys vs o a c z (r ∷ cs) = step (name_at ys r.row) (name_at vs r.col)
     never true = refl
     never false = refl
 
-    step : (p : Option ElementId) (q : Option ElementId) → name_at vs r.col ≡ q → cell_value a c (named_cells ys vs cs) ≡ None → cell_value a c (named_cell p q r.value ++ named_cells ys vs cs) ≡ None
+    step : (p : Option ElementId) (q : Option ElementId) → name_at vs r.col ≡ q → cell_value a c (named_cells ys vs cs) ≡ None
+        → cell_value a c (named_cell p q r.value ++ named_cells ys vs cs) ≡ None
     step None q e ih = ih
     step (Some b) None e ih = ih
     step (Some b) (Some d) e ih =
-        ap (λ i. option_map (λ (x : Cell). x.value) (cond i (Some (record { row = b; col = d; value = r.value })) (find (is_cell a c) (named_cells ys vs cs)))) (ap (λ i. same_id a b && i) (apart d e (same_id c d) refl) ∙ never (same_id a b)) ∙ ih
+        ap (λ i. option_map (λ (x : Cell). x.value) (cond i (Some (record { row = b; col = d; value = r.value })) (find (is_cell a c) (named_cells ys vs cs))))
+        (ap (λ i. same_id a b && i) (apart d e (same_id c d) refl) ∙ never (same_id a b)) ∙ ih
 
 module _ (x : NaiveClient) (h : IsWellNamed x) where
   abbrev other : Document
@@ -171,7 +189,8 @@ module _ (x : NaiveClient) (h : IsWellNamed x) where
   col-lists : ListsAlike x.last_stage x.doc.cols other.cols
   col-lists = named-alike x.last_stage x.doc.cols h.cols
 
-  value-alike : (a b c d : ElementId) → StandAlike x.doc.rows.items other.rows.items a b → StandAlike x.doc.cols.items other.cols.items c d → cell_value a c x.doc.cells ≡ cell_value b d other.cells
+  value-alike : (a b c d : ElementId) → StandAlike x.doc.rows.items other.rows.items a b → StandAlike x.doc.cols.items other.cols.items c d
+      → cell_value a c x.doc.cells ≡ cell_value b d other.cells
   value-alike a b c d r s =
       let cs = all_cells x.doc.cells [] x.doc.cols.items 0 x.doc.rows.items in
       sym (value-named other.rows.items other.cols.items row-lists.right.once col-lists.right.once b d (there-other r) (there-other s) cs
@@ -202,7 +221,8 @@ module _ (x : NaiveClient) (h : IsWellNamed x) where
       step (suc i) e (suc j) f =
           let r = other-name row (places x.last_stage x.doc.rows other.rows row-lists) (omega arith) in
           let s = other-name (PendingId k n) (places x.last_stage x.doc.cols other.cols col-lists) (omega arith) in
-          ap (λ a. cell_value a (PendingId k n) other.cells) r.name ∙ ap (λ c. cell_value (id r.y) c other.cells) s.name ∙ sym (value-alike (id r.x) (id r.y) (id s.x) (id s.y) r.stand s.stand)
+          ap (λ a. cell_value a (PendingId k n) other.cells) r.name ∙ ap (λ c. cell_value (id r.y) c other.cells) s.name
+          ∙ sym (value-alike (id r.x) (id r.y) (id s.x) (id s.y) r.stand s.stand)
           ∙ ap (λ c. cell_value (id r.x) c x.doc.cells) (pending-twin k n s.x s.y s.twin s.name) ∙ h.cells.cols (id r.x) (PendingId k s.x.nth) tt
 
   document : DocsAlike x.last_stage x.doc other
@@ -211,7 +231,11 @@ module _ (x : NaiveClient) (h : IsWellNamed x) where
       text = text-lists;
       rows = row-lists;
       cols = col-lists;
-      cells = beside-more (λ r s t. (t.twin, beside-more (λ u v w. (w.twin, value-alike (id r) (id s) (id u) (id v) t.stand w.stand)) (places x.last_stage x.doc.cols other.cols col-lists))) (places x.last_stage x.doc.rows other.rows row-lists);
+      cells = beside-more (λ r s t. (
+        t.twin,
+        beside-more (λ u v w. (w.twin, value-alike (id r) (id s) (id u) (id v) t.stand w.stand))
+            (places x.last_stage x.doc.cols other.cols col-lists),
+      )) (places x.last_stage x.doc.rows other.rows row-lists);
       left = h.cells;
       right = record { rows = λ row col u. none-row-ahead row col u; cols = λ row col u. none-col-ahead row col u };
       skipped = refl;
@@ -224,9 +248,17 @@ module _ (x : NaiveClient) (h : IsWellNamed x) where
 
   -- ---- stages
 
-  stage-of : (k : ℕ) (o : SubOperation) (a : NamedElements) → AreThere x.doc o a → AreNamedBefore k o a → StageNames x.doc other o a (names_at other o (places_of x.doc o a)) × AreNamedBefore k o (names_at other o (places_of x.doc o a))
+  stage-of : (k : ℕ) (o : SubOperation) (a : NamedElements) → AreThere x.doc o a → AreNamedBefore k o a
+      → StageNames x.doc other o a (names_at other o (places_of x.doc o a)) × AreNamedBefore k o (names_at other o (places_of x.doc o a))
   stage-of k (OnText op) a t b = ((t, ap (λ n. names_at other (OnText op) (places_of x.doc (OnText op) n)) t), tt)
-  stage-of k (OnIntervals op) a t b = (record { first = (end-named x.last_stage x.doc.text other.text text-lists k a.first t.0).0; second = (end-named x.last_stage x.doc.text other.text text-lists k a.second t.1).0 }, tt)
+  stage-of k (OnIntervals op) a t b = (
+    record {
+      first = (end-named x.last_stage x.doc.text other.text text-lists k a.first t.0).0;
+      second =
+          (end-named x.last_stage x.doc.text other.text text-lists k a.second t.1).0;
+    },
+    tt,
+  )
   stage-of k (OnGrid (SpliceIn target i count)) a t b =
       let none = ap (λ n. names_at other (OnGrid (SpliceIn target i count)) (places_of x.doc (OnGrid (SpliceIn target i count)) n)) t in
       ((t, none), subst (λ n. AreNamedBefore k (OnGrid (SpliceIn target i count)) n) (sym none) (tt, tt))
@@ -240,7 +272,8 @@ module _ (x : NaiveClient) (h : IsWellNamed x) where
 
   stages-of-names : (ts : List Stage) → AreStagesNamed x.doc ts → StagesBeside x.doc other ts (map (named_stage other) (map (indexed_stage x.doc) ts))
   stages-of-names [] s = ends
-  stages-of-names (t ∷ ts) s = let n = stage-of t.stage t.sub_operation t.names s.0.0 s.0.1 in next (record { rest = refl; names = n.0; before = s.0.1; other = n.1 }) (stages-of-names ts s.1)
+  stages-of-names (t ∷ ts) s = let n = stage-of t.stage t.sub_operation t.names s.0.0 s.0.1 in next
+      (record { rest = refl; names = n.0; before = s.0.1; other = n.1 }) (stages-of-names ts s.1)
 
   first-stages : (ts us : List Stage) → AreStagesNamed x.doc (ts ++ us) → AreStagesNamed x.doc ts × AreStagesNamed x.doc us
   first-stages [] us s = (tt, s)
@@ -248,7 +281,8 @@ module _ (x : NaiveClient) (h : IsWellNamed x) where
 
   edits-of-names : (es : List PendingEdit) → AreStagesNamed x.doc (stages_in es) → EditsBeside x.doc other es (map (named_edit other) (map (indexed_edit x.doc) es))
   edits-of-names [] s = ends
-  edits-of-names (e ∷ es) s = let r = first-stages e.stages (stages_in es) s in next (record { stages = stages-of-names e.stages r.0; ref_seq = refl; sent = refl }) (edits-of-names es r.1)
+  edits-of-names (e ∷ es) s = let r = first-stages e.stages (stages_in es) s in next
+      (record { stages = stages-of-names e.stages r.0; ref_seq = refl; sent = refl }) (edits-of-names es r.1)
 
   pub client-named : ClientsAlike x (named (indexed_client x))
   client-named = record { rest = refl; doc = document; pending = edits-of-names x.pending h.stages; own = h.own; rise = h.rise }
@@ -279,10 +313,13 @@ stages-right p q ends = tt
 stages-right p q (next {x = t} {y = u} {ys = us} s ss) =
     subst (λ (v : Stage). AreStagesNamed q (v ∷ us)) (sym s.rest) ((there-right p q t.sub_operation t.names u.names s.names, s.other), stages-right p q ss)
 
-any-right : (inserts : SubOperation → Bool) (k : ℕ) (p q : Document) {ts us : List Stage} → StagesBeside p q ts us → list_any (λ (t : Stage). nat_eq k t.stage && inserts t.sub_operation) ts ≡ list_any (λ (t : Stage). nat_eq k t.stage && inserts t.sub_operation) us
-any-right inserts k p q h = beside-any (λ (t : Stage). nat_eq k t.stage && inserts t.sub_operation) (λ (t : Stage). nat_eq k t.stage && inserts t.sub_operation) (λ t u s. sym (ap (λ (v : Stage). nat_eq k v.stage && inserts v.sub_operation) s.rest)) h
+any-right : (inserts : SubOperation → Bool) (k : ℕ) (p q : Document) {ts us : List Stage} → StagesBeside p q ts us
+    → list_any (λ (t : Stage). nat_eq k t.stage && inserts t.sub_operation) ts ≡ list_any (λ (t : Stage). nat_eq k t.stage && inserts t.sub_operation) us
+any-right inserts k p q h = beside-any (λ (t : Stage). nat_eq k t.stage && inserts t.sub_operation)
+    (λ (t : Stage). nat_eq k t.stage && inserts t.sub_operation) (λ t u s. sym (ap (λ (v : Stage). nat_eq k v.stage && inserts v.sub_operation) s.rest)) h
 
-put-in-right : (inserts : SubOperation → Bool) (p q : Document) {ts us : List Stage} {xs ys : List ListElement} → StagesBeside p q ts us → BesideList IsTwin xs ys → ArePutIn inserts ts xs → ArePutIn inserts us ys
+put-in-right : (inserts : SubOperation → Bool) (p q : Document) {ts us : List Stage} {xs ys : List ListElement} → StagesBeside p q ts us
+    → BesideList IsTwin xs ys → ArePutIn inserts ts xs → ArePutIn inserts us ys
 put-in-right inserts p q {ts} s t h k g = put-in-twins inserts ts t h k (any-right inserts k p q s ∙ g)
 
 rise-right : (last : ℕ) (p q : Document) (low : ℕ) {ts us : List Stage} → StagesBeside p q ts us → RiseTo low last ts → RiseTo low last us

@@ -163,7 +163,8 @@ named-alike last list h = record { left = h; right = numbered; twins = twins }
     numbered = record {
       once = λ a. once a;
       below = λ n l. high-number n [] (map nameless list.items) (omega arith);
-      counted = λ k n l. high-pending k n [] (map nameless list.items) (subst (λ i. 0 + i ≤ n) (sym (count-nameless k list.items)) (subst (λ i. 0 + i ≤ n) (sym (count k)) (omega arith)));
+      counted = λ k n l. high-pending k n [] (map nameless list.items) (subst (λ i. 0 + i ≤ n) (sym (count-nameless k list.items))
+          (subst (λ i. 0 + i ≤ n) (sym (count k)) (omega arith)));
       stages = λ k l. sym (count k) ∙ h.stages k l;
       removals = sym (len-alike has_odd_removal (λ x y t. same-of has_odd_removal (λ e n. refl) x y t) twins) ∙ h.removals;
     }

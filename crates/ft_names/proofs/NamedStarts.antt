@@ -46,7 +46,8 @@ acked-all n (Acked s c ∷ dels) h = acked-all n dels (both (nat_le s n) (list_a
 acked-all n (Local k ∷ dels) h = (cc)
 
 no-odd : (n : ℕ) (e : ListElement) → is_settled n e ≡ true → has_odd_removal e ≡ false
-no-odd n e h = ap not (acked-all n e.dels (all_four (is_sequenced_up_to n e.ins) (list_all (is_sequenced_up_to n) e.dels) (is_nothing e.removal_stage) (has_no_items e.pending) h).1)
+no-odd n e h = ap not (acked-all n e.dels (all_four (is_sequenced_up_to n e.ins) (list_all (is_sequenced_up_to n) e.dels) (is_nothing e.removal_stage)
+    (has_no_items e.pending) h).1)
 
 start-numbered : (n : ℕ) (list : Sequence) → IsNumbered list → list_all (is_settled n) list.items ≡ true → IsWellNumbered 0 list
 start-numbered n list h s =
@@ -68,7 +69,8 @@ found-counted : (a : ElementId) (xs : List ListElement) → list_any (λ e. has_
 found-counted a [] h = (cc)
 found-counted a (e ∷ xs) h = step (has_id a e) (is_unremoved e) (found-counted a xs) h
   where
-    step : (b u : Bool) → (list_any (λ d. has_id a d && is_unremoved d) xs ≡ true → 1 ≤ len (has_id a) xs) → (b && u) || list_any (λ d. has_id a d && is_unremoved d) xs ≡ true → 1 ≤ one_more_if b (len (has_id a) xs)
+    step : (b u : Bool) → (list_any (λ d. has_id a d && is_unremoved d) xs ≡ true → 1 ≤ len (has_id a) xs) → (b && u)
+        || list_any (λ d. has_id a d && is_unremoved d) xs ≡ true → 1 ≤ one_more_if b (len (has_id a) xs)
     step true u ih g = omega arith
     step false u ih g = ih g
 
@@ -79,7 +81,8 @@ end-settled : (n : ℕ) (xs : List ListElement) → list_all (is_settled n) xs �
 end-settled n xs s None h = tt
 end-settled n xs s (Some (SequencedId i)) h = found-counted (SequencedId i) xs h
 end-settled n xs s (Some (PendingId k i)) h =
-    nothing-counted (len (has_id (PendingId k i)) xs) (none-passes (is_settled n) (has_id (PendingId k i)) (λ e g. not-pending k i e (settled-sequenced n e g)) xs s) (found-counted (PendingId k i) xs h)
+    nothing-counted (len (has_id (PendingId k i)) xs) (none-passes (is_settled n) (has_id (PendingId k i)) (λ e g. not-pending k i e (settled-sequenced n e g))
+    xs s) (found-counted (PendingId k i) xs h)
 
 ends-settled : (n : ℕ) (xs : List ListElement) → list_all (is_settled n) xs ≡ true → (is : List Interval) → list_all (has_ends_on xs) is ≡ true → AreSettledIn xs is
 ends-settled n xs s [] h = tt
@@ -95,7 +98,8 @@ ahead-apart made (SequencedId m) (SequencedId n) l h = grind (arith, nat_tests)
 ahead-apart made (PendingId k m) (SequencedId n) l h = refl
 ahead-apart made a (PendingId k n) l h = (cc)
 
-no-cell : (rows cols : ℕ) (row col : ElementId) → ((c : Cell) → is_cell_below rows cols c ≡ true → is_cell row col c ≡ false) → (cells : List Cell) → list_all (is_cell_below rows cols) cells ≡ true
+no-cell : (rows cols : ℕ) (row col : ElementId) → ((c : Cell) → is_cell_below rows cols c ≡ true → is_cell row col c ≡ false) → (cells : List Cell)
+    → list_all (is_cell_below rows cols) cells ≡ true
     → cell_value row col cells ≡ None
 no-cell rows cols row col f [] h = refl
 no-cell rows cols row col f (c ∷ cells) h =
@@ -109,9 +113,11 @@ second-false false b h = refl
 start-cells : (doc : Document) → list_all (is_cell_below doc.rows.made doc.cols.made) doc.cells ≡ true → HasNoCellsAhead doc
 start-cells doc h = record {
   rows = λ row col l. no-cell doc.rows.made doc.cols.made row col
-      (λ c g. ap (λ b. b && same_id col c.col) (ahead-apart doc.rows.made row c.row l (both (is_name_below doc.rows.made c.row) (is_name_below doc.cols.made c.col) g).0)) doc.cells h;
+      (λ c g. ap (λ b. b && same_id col c.col) (ahead-apart doc.rows.made row c.row l
+      (both (is_name_below doc.rows.made c.row) (is_name_below doc.cols.made c.col) g).0)) doc.cells h;
   cols = λ row col l. no-cell doc.rows.made doc.cols.made row col
-      (λ c g. second-false (same_id row c.row) (same_id col c.col) (ahead-apart doc.cols.made col c.col l (both (is_name_below doc.rows.made c.row) (is_name_below doc.cols.made c.col) g).1)) doc.cells h;
+      (λ c g. second-false (same_id row c.row) (same_id col c.col) (ahead-apart doc.cols.made col c.col l
+      (both (is_name_below doc.rows.made c.row) (is_name_below doc.cols.made c.col) g).1)) doc.cells h;
 }
 
 -- ---- the client
@@ -126,6 +132,11 @@ start-named start h =
       intervals = ends-settled n start.text.items h.text start.intervals h.consistent.ends;
       cells = start-cells start h.cells;
       stages = tt;
-      own = record { text = λ k g. none-put_in n k start.text.items h.text; rows = λ k g. none-put_in n k start.rows.items h.rows; cols = λ k g. none-put_in n k start.cols.items h.cols };
+      own = record {
+        text = λ k g. none-put_in n k start.text.items h.text;
+        rows = λ k g. none-put_in n k start.rows.items h.rows;
+        cols = λ k g. none-put_in n
+            k start.cols.items h.cols;
+      };
       rise = omega arith;
     }

@@ -74,7 +74,8 @@ restarts-of p q h e = record {
   same = ap (λ (d : IndexedDocument). record (indexed_client (client_over p.doc)) { doc = d }) (ap (λ (c : IndexedClient). c.doc) h.same);
 }
   where
-    same-edits : (es fs : List PendingEdit) → (indexed_client (record p { pending = es })).pending ≡ (indexed_client (record q { pending = fs })).pending → is_none_pending es ≡ true → is_none_pending fs ≡ true
+    same-edits : (es fs : List PendingEdit) → (indexed_client (record p { pending = es })).pending ≡ (indexed_client (record q { pending = fs })).pending
+        → is_none_pending es ≡ true → is_none_pending fs ≡ true
     same-edits [] [] g n = refl
     same-edits [] (f ∷ fs) g n = (cc)
     same-edits (e ∷ es) fs g n = (cc)
@@ -132,10 +133,12 @@ pub edits-of : (p q : NaiveClient) (op : ChannelOp) → DifferInNames p q → An
 edits-of p q op h = answers-of _ (edits-alike p p (alike-itself p h.left) op) (edits-alike q q (alike-itself q h.right) op) (edits-alike p q (alike-of p q h) op)
 
 pub entries-of : (p q : NaiveClient) (entry : Entry) → DifferInNames p q → AnswersUpToNames ProcessFault (process p entry) (process q entry)
-entries-of p q entry h = answers-of _ (entries-alike p p (alike-itself p h.left) entry) (entries-alike q q (alike-itself q h.right) entry) (entries-alike p q (alike-of p q h) entry)
+entries-of p q entry h = answers-of _ (entries-alike p p (alike-itself p h.left) entry) (entries-alike q q (alike-itself q h.right) entry)
+    (entries-alike p q (alike-of p q h) entry)
 
 pub connects-of : (p q : NaiveClient) (conn : ℕ) → DifferInNames p q → AnswersUpToNames LinkFault (connect p conn) (connect q conn)
-connects-of p q conn h = answers-of _ (connects-alike p p (alike-itself p h.left) conn) (connects-alike q q (alike-itself q h.right) conn) (connects-alike p q (alike-of p q h) conn)
+connects-of p q conn h = answers-of _ (connects-alike p p (alike-itself p h.left) conn) (connects-alike q q (alike-itself q h.right) conn)
+    (connects-alike p q (alike-of p q h) conn)
 
 pub drops-of : (p q : NaiveClient) → DifferInNames p q → AnswersUpToNames LinkFault (drop_link p) (drop_link q)
 drops-of p q h = answers-of _ (drops-alike p p (alike-itself p h.left)) (drops-alike q q (alike-itself q h.right)) (drops-alike p q (alike-of p q h))

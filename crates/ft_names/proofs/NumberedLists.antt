@@ -16,16 +16,19 @@ use Rattle.ft_names.specs.WellNamed.{IsWellNumbered, has_odd_removal}
 
 module _ (by : Option Stamp) (props : PropertyList) where
   -- a name that none of them has
-  pub none-new : (t : Stamp) (a : ElementId) (n : ℕ) → ((m : ℕ) → n ≤ m → same_id a (id_of_stamp t m) ≡ false) → (bs : List ElementContent) → len (has_id a) (new_elements n t [] by props bs) ≡ 0
+  pub none-new : (t : Stamp) (a : ElementId) (n : ℕ) → ((m : ℕ) → n ≤ m → same_id a (id_of_stamp t m) ≡ false) → (bs : List ElementContent)
+      → len (has_id a) (new_elements n t [] by props bs) ≡ 0
   none-new t a n h [] = refl
   none-new t a n h (b ∷ bs) = rw (h n (omega arith)) (none-new t a (n + 1) (λ m l. h m (omega arith)) bs)
 
   -- each has its own
-  pub once-new : (t : Stamp) (a : ElementId) → ((i j : ℕ) → same_id a (id_of_stamp t i) ≡ true → suc i ≤ j → same_id a (id_of_stamp t j) ≡ false) → (n : ℕ) (bs : List ElementContent) → len (has_id a) (new_elements n t [] by props bs) ≤ 1
+  pub once-new : (t : Stamp) (a : ElementId) → ((i j : ℕ) → same_id a (id_of_stamp t i) ≡ true → suc i ≤ j → same_id a (id_of_stamp t j) ≡ false)
+      → (n : ℕ) (bs : List ElementContent) → len (has_id a) (new_elements n t [] by props bs) ≤ 1
   once-new t a apart n [] = omega arith
   once-new t a apart n (b ∷ bs) = step (same_id a (id_of_stamp t n)) refl (once-new t a apart (n + 1) bs)
     where
-      step : (b : Bool) → same_id a (id_of_stamp t n) ≡ b → len (has_id a) (new_elements (n + 1) t [] by props bs) ≤ 1 → one_more_if b (len (has_id a) (new_elements (n + 1) t [] by props bs)) ≤ 1
+      step : (b : Bool) → same_id a (id_of_stamp t n) ≡ b → len (has_id a) (new_elements (n + 1) t [] by props bs) ≤ 1
+          → one_more_if b (len (has_id a) (new_elements (n + 1) t [] by props bs)) ≤ 1
       step true e ih = subst (λ i. suc i ≤ 1) (sym (none-new t a (n + 1) (λ m l. apart n m e (omega arith)) bs)) (omega arith)
       step false e ih = ih
 
@@ -38,7 +41,8 @@ module _ (by : Option Stamp) (props : PropertyList) where
   new-count t k h n (b ∷ bs) = rw h (ap suc (new-count t k h (n + 1) bs))
 
   -- numbers from n up to before n and their count
-  pub none-behind : (t : Stamp) (a : ElementId) (m : ℕ) → ((i : ℕ) → suc i ≤ m → same_id a (id_of_stamp t i) ≡ false) → (n : ℕ) (bs : List ElementContent) → n + length bs ≤ m → len (has_id a) (new_elements n t [] by props bs) ≡ 0
+  pub none-behind : (t : Stamp) (a : ElementId) (m : ℕ) → ((i : ℕ) → suc i ≤ m → same_id a (id_of_stamp t i) ≡ false) → (n : ℕ) (bs : List ElementContent)
+      → n + length bs ≤ m → len (has_id a) (new_elements n t [] by props bs) ≡ 0
   none-behind t a m h n [] l = refl
   none-behind t a m h n (b ∷ bs) l = rw (h n (omega arith)) (none-behind t a m h (n + 1) bs (omega arith))
 
@@ -80,12 +84,15 @@ none-both m n p q = omega arith
 abbrev put_in : (ListElement → Bool) → (ListElement → Bool) → ℕ → List ListElement → List ListElement → List ListElement
 put_in test past p new xs = put test past p new xs
 
-pub inserted-numbered : (last s c p : ℕ) (test past : ListElement → Bool) (by : Option Stamp) (props : PropertyList) (bs : List ElementContent) (list : Sequence) → IsWellNumbered last list
+pub inserted-numbered : (last s c p : ℕ) (test past : ListElement → Bool) (by : Option Stamp) (props : PropertyList) (bs : List ElementContent)
+    (list : Sequence) → IsWellNumbered last list
     → IsWellNumbered last (record { items = put test past p (new_elements list.made (Acked s c) [] by props bs) list.items; made = list.made + length bs })
 inserted-numbered last s c p test past by props bs list h = record {
   once = λ a. once a;
-  below = λ n l. len-put-add (has_id (SequencedId n)) test past p new list.items ∙ none-both _ _ (none-behind by props (Acked s c) (SequencedId n) n (λ i g. other-number i n g) list.made bs l) (h.below n (omega arith));
-  counted = λ k n l. (let e = len-put-add (is_inserted_by k) test past p new list.items in len-put-add (has_id (PendingId k n)) test past p new list.items ∙ none-both _ _ (none-new by props (Acked s c) (PendingId k n) list.made (λ m g. refl) bs) (h.counted k n (omega arith)));
+  below = λ n l. len-put-add (has_id (SequencedId n)) test past p new list.items
+      ∙ none-both _ _ (none-behind by props (Acked s c) (SequencedId n) n (λ i g. other-number i n g) list.made bs l) (h.below n (omega arith));
+  counted = λ k n l. (let e = len-put-add (is_inserted_by k) test past p new list.items in len-put-add (has_id (PendingId k n)) test past p new list.items
+      ∙ none-both _ _ (none-new by props (Acked s c) (PendingId k n) list.made (λ m g. refl) bs) (h.counted k n (omega arith)));
   stages = λ k l. len-put-add (is_inserted_by k) test past p new list.items ∙ none-both _ _ (new-stage by props (Acked s c) k refl list.made bs) (h.stages k l);
   removals = len-put-add has_odd_removal test past p new list.items ∙ none-both _ _ (new-removals by props (Acked s c) list.made bs) h.removals;
 }
@@ -125,7 +132,8 @@ pub record KeepsNames (f : ListElement → ListElement) : Type 0 where
 pub kept-id : (f : ListElement → ListElement) → KeepsNames f → (e : ListElement) → id (f e) ≡ id e
 kept-id f k e = ap (λ t. id_of_stamp t (f e).nth) (k.ins e) ∙ ap (id_of_stamp e.ins) (k.nth e)
 
-pub ranged-numbered : (last i p q made : ℕ) (test : ListElement → Bool) (f : ListElement → ListElement) → KeepsNames f → (xs : List ListElement) → IsWellNumbered last (record { items = xs; made = made })
+pub ranged-numbered : (last i p q made : ℕ) (test : ListElement → Bool) (f : ListElement → ListElement) → KeepsNames f → (xs : List ListElement)
+    → IsWellNumbered last (record { items = xs; made = made })
     → IsWellNumbered last (record { items = change_range_from i test p q f xs; made = made })
 ranged-numbered last i p q made test f k xs h = record {
   once = λ a. subst (λ n. n ≤ 1) (sym (names a)) (h.once a);
@@ -150,8 +158,10 @@ pub local-numbered : (last p : ℕ) (test past : ListElement → Bool) (props : 
     → IsWellNumbered (last + 1) (record { items = put test past p (new_elements 0 (Local (last + 1)) [] None props bs) list.items; made = list.made })
 local-numbered last p test past props bs list h = record {
   once = λ a. subst (λ n. n ≤ 1) (sym (len-put-add (has_id a) test past p new list.items)) (name a);
-  below = λ n l. len-put-add (has_id (SequencedId n)) test past p new list.items ∙ none-both _ _ (none-new None props (Local (last + 1)) (SequencedId n) 0 (λ m g. refl) bs) (h.below n l);
-  counted = λ k n l. len-put-add (has_id (PendingId k n)) test past p new list.items ∙ counted k n (subst (λ m. m ≤ n) (len-put-add (is_inserted_by k) test past p new list.items) l);
+  below = λ n l. len-put-add (has_id (SequencedId n)) test past p new list.items
+      ∙ none-both _ _ (none-new None props (Local (last + 1)) (SequencedId n) 0 (λ m g. refl) bs) (h.below n l);
+  counted = λ k n l. len-put-add (has_id (PendingId k n)) test past p new list.items
+      ∙ counted k n (subst (λ m. m ≤ n) (len-put-add (is_inserted_by k) test past p new list.items) l);
   stages = λ k l. len-put-add (is_inserted_by k) test past p new list.items ∙ none-both _ _ (new-stage None props (Local (last + 1)) k (above k l) 0 bs) (h.stages k (omega arith));
   removals = len-put-add has_odd_removal test past p new list.items ∙ none-both _ _ (new-removals None props (Local (last + 1)) 0 bs) h.removals;
 }
@@ -197,5 +207,6 @@ local-numbered last p test past props bs list h = record {
         stage : (b : Bool) → nat_eq k (last + 1) ≡ b → len (has_id (PendingId k n)) new + len (has_id (PendingId k n)) list.items ≡ 0
         stage true e =
             let all : len (is_inserted_by k) new ≡ length bs = new-count None props (Local (last + 1)) k (mine k e) 0 bs in
-            none-both _ _ (none-behind None props (Local (last + 1)) (PendingId k n) n (λ i g. ap (λ b. nat_eq k (last + 1) && b) (other-number i n g) ∙ never (nat_eq k (last + 1))) 0 bs (omega arith)) (absent k n e)
+            none-both _ _ (none-behind None props (Local (last + 1)) (PendingId k n) n
+            (λ i g. ap (λ b. nat_eq k (last + 1) && b) (other-number i n g) ∙ never (nat_eq k (last + 1))) 0 bs (omega arith)) (absent k n e)
         stage false e = none-both _ _ (none-new None props (Local (last + 1)) (PendingId k n) 0 (λ m g. other k n m e) bs) (h.counted k n (omega arith))

@@ -59,20 +59,30 @@ module _ (E : Type 0) where
   refusal-through (StoppedBefore seq) p q f h = tt
   refusal-through Refusal p q f h = f h
 
-  pub one-for-all : (kind : E → FaultKind) (old new : ReplicaState) (step : NaiveClient → Result NaiveClient E) (result : Result (Unit {0}) E) (p : NaiveClient) → IsWellNamed p → indexed_client p ≡ old.client → DoesStep kind old new p (step p) result
-      → ((q : NaiveClient) → DifferInNames p q → AnswersUpToNames E (step p) (step q)) → ((q k : NaiveClient) → step q ≡ Ok k → Counts q.doc k.doc) → (x : NaiveClient) → IsWellNamed x
+  pub one-for-all : (kind : E → FaultKind) (old new : ReplicaState) (step : NaiveClient → Result NaiveClient E) (result : Result (Unit {0}) E)
+      (p : NaiveClient) → IsWellNamed p → indexed_client p ≡ old.client → DoesStep kind old new p (step p) result
+      → ((q : NaiveClient) → DifferInNames p q → AnswersUpToNames E (step p) (step q)) → ((q k : NaiveClient) → step q ≡ Ok k → Counts q.doc k.doc)
+      → (x : NaiveClient) → IsWellNamed x
       → ((kept : NaiveClient) → IsCompacted kept x → AnswersAlike E (step kept) (step x)) → StandsFor old.client x → AnswersClient kind old new x (step x) result
   one-for-all kind old new step (Ok u) p named shows does names counts x whole alike s =
       let d = kept-differs p x s.kept named whole s.keeps (shows ∙ sym s.shows) in
       let a = ok-through does.0 (names s.kept d) (alike s.kept s.keeps) does.1 in
-      let rises = rises-alike old.held new.held p s.kept does.0 a.kept d.same a.shows (counts p does.0 does.1) (counts s.kept a.kept a.stepped) does.3 in
-      (a.whole, a.took, record { client = record { kept = a.kept; shows = sym a.shows ∙ does.2; keeps = a.keeps }; held = rises-kept old.held new.held s.kept x a.kept a.whole s.keeps a.keeps rises })
+      let rises = rises-alike old.held new.held p s.kept does.0 a.kept d.same a.shows (counts p does.0 does.1) (counts s.kept a.kept a.stepped) does.3 in (
+        a.whole,
+        a.took,
+        record {
+          client = record { kept = a.kept; shows = sym a.shows ∙ does.2; keeps = a.keeps };
+          held = rises-kept old.held new.held s.kept x
+              a.kept a.whole s.keeps a.keeps rises;
+        },
+      )
   one-for-all kind old new step (Err fault) p named shows does names counts x whole alike s =
       let d = kept-differs p x s.kept named whole s.keeps (shows ∙ sym s.shows) in
       refusal-through (kind fault) (step p ≡ Err fault) (step x ≡ Err fault) (λ e. err-through fault (names s.kept d) (alike s.kept s.keeps) e) does
 
 -- what it shows of that client, each client for which it stands shows
-pub one-shows : (state : ReplicaState) (p : NaiveClient) → IsWellNamed p → indexed_client p ≡ state.client → (x : NaiveClient) (r : IsReached x) → StandsFor state.client x → ShowsOf p x
+pub one-shows : (state : ReplicaState) (p : NaiveClient) → IsWellNamed p → indexed_client p ≡ state.client → (x : NaiveClient) (r : IsReached x)
+    → StandsFor state.client x → ShowsOf p x
 one-shows state p named shows x r s =
     let d = kept-differs p x s.kept named (reached-named x r) s.keeps (shows ∙ sym s.shows) in
     let v = views-of p s.kept d in

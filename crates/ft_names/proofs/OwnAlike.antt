@@ -32,8 +32,10 @@ stages-apart inserts j k last (t ∷ ts) l h = rw (other j t.stage (omega arith)
     other i m g = grind (arith, nat_tests)
 
 -- a list into which the first stage doesn't insert has none of its elements
-not-own : (inserts : SubOperation → Bool) (low last : ℕ) (t : Stage) (ts : List Stage) (xs : List ListElement) → inserts t.sub_operation ≡ false → RiseTo low last (t ∷ ts) → ArePutIn inserts (t ∷ ts) xs → len (is_inserted_by t.stage) xs ≡ 0
-not-own inserts low last t ts xs e r h = h t.stage (ap (λ b. b || list_any (λ u. nat_eq t.stage u.stage && inserts u.sub_operation) ts) (ap (λ b. nat_eq t.stage t.stage && b) e ∙ never (nat_eq t.stage t.stage)) ∙ stages-apart inserts t.stage t.stage last ts (omega arith) r.1)
+not-own : (inserts : SubOperation → Bool) (low last : ℕ) (t : Stage) (ts : List Stage) (xs : List ListElement) → inserts t.sub_operation ≡ false
+    → RiseTo low last (t ∷ ts) → ArePutIn inserts (t ∷ ts) xs → len (is_inserted_by t.stage) xs ≡ 0
+not-own inserts low last t ts xs e r h = h t.stage (ap (λ b. b || list_any (λ u. nat_eq t.stage u.stage && inserts u.sub_operation) ts)
+    (ap (λ b. nat_eq t.stage t.stage && b) e ∙ never (nat_eq t.stage t.stage)) ∙ stages-apart inserts t.stage t.stage last ts (omega arith) r.1)
   where
     never : (b : Bool) → b && false ≡ false
     never true = refl
@@ -43,7 +45,8 @@ pub put-in-twins : (inserts : SubOperation → Bool) (ts : List Stage) {xs ys : 
 put-in-twins inserts ts t h k g = sym (len-alike (is_inserted_by k) (λ x y q. twin-inserted k x y q) t) ∙ h k g
 
 -- a standing name of a stage before the first one is sequenced
-sequenced-name : (inserts : SubOperation → Bool) (low last : ℕ) (t : Stage) (ts : List Stage) (list : Sequence) (a : ElementId) → IsWellNumbered last list → RiseTo low last (t ∷ ts) → ArePutIn inserts (t ∷ ts) list.items → 1 ≤ len (has_id a) list.items
+sequenced-name : (inserts : SubOperation → Bool) (low last : ℕ) (t : Stage) (ts : List Stage) (list : Sequence) (a : ElementId) → IsWellNumbered last list
+    → RiseTo low last (t ∷ ts) → ArePutIn inserts (t ∷ ts) list.items → 1 ≤ len (has_id a) list.items
     → IsNamedBefore t.stage (Some a) → IsSequencedName a
 sequenced-name inserts low last t ts list (SequencedId n) w r h l b = tt
 sequenced-name inserts low last t ts list (PendingId j n) w r h l b =
@@ -52,12 +55,14 @@ sequenced-name inserts low last t ts list (PendingId j n) w r h l b =
     absurd (omega arith)
 
 -- the others have their elements after it
-put-in-after : (inserts : SubOperation → Bool) (last s c : ℕ) (t : Stage) (ts : List Stage) (list : Sequence) → IsWellNumbered last list → ArePutIn inserts (t ∷ ts) list.items → ArePutIn inserts ts (acked_list t.stage s c list).items
+put-in-after : (inserts : SubOperation → Bool) (last s c : ℕ) (t : Stage) (ts : List Stage) (list : Sequence) → IsWellNumbered last list
+    → ArePutIn inserts (t ∷ ts) list.items → ArePutIn inserts ts (acked_list t.stage s c list).items
 put-in-after inserts last s c t ts list w h k g = step (nat_eq k t.stage) refl
   where
     step : (b : Bool) → nat_eq k t.stage ≡ b → len (is_inserted_by k) (acked_list t.stage s c list).items ≡ 0
     step true e = stage-count last t.stage s c list w k true e
-    step false e = stage-count last t.stage s c list w k false e ∙ h k (ap (λ b. b && inserts t.sub_operation || list_any (λ u. nat_eq k u.stage && inserts u.sub_operation) ts) e ∙ g)
+    step false e = stage-count last t.stage s c list w k false e ∙ h k (ap
+        (λ b. b && inserts t.sub_operation || list_any (λ u. nat_eq k u.stage && inserts u.sub_operation) ts) e ∙ g)
 
 -- ---- one stage
 
@@ -69,19 +74,23 @@ record AckedDocs (last : ℕ) (p q d e : Document) (f g : ElementId → ElementI
   pub cols : (a b : ElementId) → StandAlike p.cols.items q.cols.items a b → StandAlike d.cols.items e.cols.items (f a) (g b)
 
 module _ (last s c low : ℕ) (t : Stage) (others : NamedElements) (ts : List Stage) (p q : Document) (h : DocsAlike last p q) (names : StageNames p q t.sub_operation t.names others)
-    (before : AreNamedBefore t.stage t.sub_operation t.names) (other : AreNamedBefore t.stage t.sub_operation others) (rise : RiseTo low last (t ∷ ts)) (own : HasItsStages (t ∷ ts) p) where
+    (before : AreNamedBefore t.stage t.sub_operation t.names) (other : AreNamedBefore t.stage t.sub_operation others) (rise : RiseTo low last (t ∷ ts))
+    (own : HasItsStages (t ∷ ts) p) where
   -- the name as its list renames it
-  list-name : (inserts : SubOperation → Bool) (list : Sequence) (n : ℕ) (a : ElementId) → IsWellNumbered last list → ArePutIn inserts (t ∷ ts) list.items → inserts t.sub_operation ≡ false → 1 ≤ len (has_id a) list.items → acked_id t.stage list.made a ≡ acked_id t.stage n a
+  list-name : (inserts : SubOperation → Bool) (list : Sequence) (n : ℕ) (a : ElementId) → IsWellNumbered last list → ArePutIn inserts (t ∷ ts) list.items
+      → inserts t.sub_operation ≡ false → 1 ≤ len (has_id a) list.items → acked_id t.stage list.made a ≡ acked_id t.stage n a
   list-name inserts list n a w put e l =
       let none = not-own inserts low last t ts list.items e rise put in
       unstaged last t.stage list.made list a w none l ∙ sym (unstaged last t.stage n list a w none l)
 
-  text-name : (doc : Document) → IsWellNumbered last doc.text → ArePutIn inserts_text (t ∷ ts) doc.text.items → (o : SubOperation) → t.sub_operation ≡ o → (a : ElementId) → 1 ≤ len (has_id a) doc.text.items → acked_id t.stage doc.text.made a ≡ acked_id t.stage (made_before doc o) a
+  text-name : (doc : Document) → IsWellNumbered last doc.text → ArePutIn inserts_text (t ∷ ts) doc.text.items → (o : SubOperation) → t.sub_operation ≡ o
+      → (a : ElementId) → 1 ≤ len (has_id a) doc.text.items → acked_id t.stage doc.text.made a ≡ acked_id t.stage (made_before doc o) a
   text-name doc w put (OnText op) e a l = refl
   text-name doc w put (OnIntervals op) e a l = list-name inserts_text doc.text _ a w put (ap inserts_text e) l
   text-name doc w put (OnGrid op) e a l = list-name inserts_text doc.text _ a w put (ap inserts_text e) l
 
-  rows-name : (doc : Document) → IsWellNumbered last doc.rows → ArePutIn inserts_rows (t ∷ ts) doc.rows.items → (o : SubOperation) → t.sub_operation ≡ o → (a : ElementId) → 1 ≤ len (has_id a) doc.rows.items → acked_id t.stage doc.rows.made a ≡ acked_id t.stage (made_before doc o) a
+  rows-name : (doc : Document) → IsWellNumbered last doc.rows → ArePutIn inserts_rows (t ∷ ts) doc.rows.items → (o : SubOperation) → t.sub_operation ≡ o
+      → (a : ElementId) → 1 ≤ len (has_id a) doc.rows.items → acked_id t.stage doc.rows.made a ≡ acked_id t.stage (made_before doc o) a
   rows-name doc w put (OnText op) e a l = list-name inserts_rows doc.rows _ a w put (ap inserts_rows e) l
   rows-name doc w put (OnIntervals op) e a l = list-name inserts_rows doc.rows _ a w put (ap inserts_rows e) l
   rows-name doc w put (OnGrid (SpliceIn Rows i count)) e a l = refl
@@ -89,7 +98,8 @@ module _ (last s c low : ℕ) (t : Stage) (others : NamedElements) (ts : List St
   rows-name doc w put (OnGrid (SpliceOut target i j)) e a l = list-name inserts_rows doc.rows _ a w put (ap inserts_rows e) l
   rows-name doc w put (OnGrid (Set i j value)) e a l = list-name inserts_rows doc.rows _ a w put (ap inserts_rows e) l
 
-  cols-name : (doc : Document) → IsWellNumbered last doc.cols → ArePutIn inserts_cols (t ∷ ts) doc.cols.items → (o : SubOperation) → t.sub_operation ≡ o → (a : ElementId) → 1 ≤ len (has_id a) doc.cols.items → acked_id t.stage doc.cols.made a ≡ acked_id t.stage (made_before doc o) a
+  cols-name : (doc : Document) → IsWellNumbered last doc.cols → ArePutIn inserts_cols (t ∷ ts) doc.cols.items → (o : SubOperation) → t.sub_operation ≡ o
+      → (a : ElementId) → 1 ≤ len (has_id a) doc.cols.items → acked_id t.stage doc.cols.made a ≡ acked_id t.stage (made_before doc o) a
   cols-name doc w put (OnText op) e a l = list-name inserts_cols doc.cols _ a w put (ap inserts_cols e) l
   cols-name doc w put (OnIntervals op) e a l = list-name inserts_cols doc.cols _ a w put (ap inserts_cols e) l
   cols-name doc w put (OnGrid (SpliceIn Rows i count)) e a l = list-name inserts_cols doc.cols _ a w put (ap inserts_cols e) l
@@ -98,7 +108,12 @@ module _ (last s c low : ℕ) (t : Stage) (others : NamedElements) (ts : List St
   cols-name doc w put (OnGrid (Set i j value)) e a l = list-name inserts_cols doc.cols _ a w put (ap inserts_cols e) l
 
   other-put : HasItsStages (t ∷ ts) q
-  other-put = record { text = put-in-twins inserts_text (t ∷ ts) h.parts.text.twins own.text; rows = put-in-twins inserts_rows (t ∷ ts) h.parts.rows.twins own.rows; cols = put-in-twins inserts_cols (t ∷ ts) h.parts.cols.twins own.cols }
+  other-put = record {
+    text = put-in-twins inserts_text (t ∷ ts) h.parts.text.twins own.text;
+    rows = put-in-twins inserts_rows (t ∷ ts) h.parts.rows.twins
+        own.rows;
+    cols = put-in-twins inserts_cols (t ∷ ts) h.parts.cols.twins own.cols;
+  }
 
   -- cells keep their values
   row-value : (doc : Document) → HasNoCellsAhead doc → (i col : ElementId) → cell_value (acked_id t.stage doc.rows.made i) col doc.cells ≡ cell_value i col doc.cells
@@ -121,9 +136,14 @@ module _ (last s c low : ℕ) (t : Stage) (others : NamedElements) (ts : List St
   lists doc = record doc { text = acked_list t.stage s c doc.text; rows = acked_list t.stage s c doc.rows; cols = acked_list t.stage s c doc.cols }
 
   ahead : (doc : Document) → HasNoCellsAhead doc → HasNoCellsAhead (lists doc)
-  ahead doc n = record { rows = λ row col u. n.rows row col (less-ahead doc.rows.made _ row (omega arith) u); cols = λ row col u. n.cols row col (less-ahead doc.cols.made _ col (omega arith) u) }
+  ahead doc n = record {
+    rows = λ row col u. n.rows row col (less-ahead doc.rows.made _ row (omega arith) u);
+    cols = λ row col u. n.cols row col
+        (less-ahead doc.cols.made _ col (omega arith) u);
+  }
 
-  text-stands : (a b : ElementId) → StandAlike p.text.items q.text.items a b → StandAlike (lists p).text.items (lists q).text.items (acked_id t.stage p.text.made a) (acked_id t.stage q.text.made b)
+  text-stands : (a b : ElementId) → StandAlike p.text.items q.text.items a b
+      → StandAlike (lists p).text.items (lists q).text.items (acked_id t.stage p.text.made a) (acked_id t.stage q.text.made b)
   text-stands = acked-stands last t.stage s c p.text q.text h.parts.text
 
   -- the ends of intervals are on sequenced elements
@@ -137,9 +157,12 @@ module _ (last s c low : ℕ) (t : Stage) (others : NamedElements) (ts : List St
       text = acked-alike last t.stage s c p.text q.text h.parts.text;
       rows = acked-alike last t.stage s c p.rows q.rows h.parts.rows;
       cols = acked-alike last t.stage s c p.cols q.cols h.parts.cols;
-      cells = acked-carries last t.stage s c p.rows q.rows h.parts.rows (RowsAlike p.cols.items q.cols.items p.cells q.cells) (RowsAlike (lists p).cols.items (lists q).cols.items p.cells q.cells)
-          (λ i j u v r. acked-carries last t.stage s c p.cols q.cols h.parts.cols (λ a b. cell_value i a p.cells ≡ cell_value j b q.cells) (λ a b. cell_value (acked_id t.stage p.rows.made i) a p.cells ≡ cell_value (acked_id t.stage q.rows.made j) b q.cells)
-          (λ a b x y e. row-value p h.parts.left i (acked_id t.stage p.cols.made a) ∙ col-value p h.parts.left i a ∙ e ∙ sym (row-value q h.parts.right j (acked_id t.stage q.cols.made b) ∙ col-value q h.parts.right j b)) r) h.parts.cells;
+      cells = acked-carries last t.stage s c p.rows q.rows h.parts.rows (RowsAlike p.cols.items q.cols.items p.cells q.cells)
+          (RowsAlike (lists p).cols.items (lists q).cols.items p.cells q.cells)
+          (λ i j u v r. acked-carries last t.stage s c p.cols q.cols h.parts.cols (λ a b. cell_value i a p.cells ≡ cell_value j b q.cells)
+          (λ a b. cell_value (acked_id t.stage p.rows.made i) a p.cells ≡ cell_value (acked_id t.stage q.rows.made j) b q.cells)
+          (λ a b x y e. row-value p h.parts.left i (acked_id t.stage p.cols.made a) ∙ col-value p h.parts.left i a ∙ e
+          ∙ sym (row-value q h.parts.right j (acked_id t.stage q.cols.made b) ∙ col-value q h.parts.right j b)) r) h.parts.cells;
       left = ahead p h.parts.left;
       right = ahead q h.parts.right;
       skipped = h.parts.skipped;
@@ -151,7 +174,8 @@ module _ (last s c low : ℕ) (t : Stage) (others : NamedElements) (ts : List St
   }
 
   -- its cell write
-  written : (o : SubOperation) → t.sub_operation ≡ o → DocsAlike last (record (lists p) { cells = cells_after_stage o t.names p.cells }) (record (lists q) { cells = cells_after_stage o others q.cells })
+  written : (o : SubOperation) → t.sub_operation ≡ o → DocsAlike last (record (lists p) { cells = cells_after_stage o t.names p.cells })
+      (record (lists q) { cells = cells_after_stage o others q.cells })
   written (OnText op) e = parts
   written (OnIntervals op) e = parts
   written (OnGrid (SpliceIn target i count)) e = parts
@@ -162,7 +186,8 @@ module _ (last s c low : ℕ) (t : Stage) (others : NamedElements) (ts : List St
       let o = subst (λ o. AreNamedBefore t.stage o others) e other in
       cell t.names.first others.first t.names.second others.second n.0 n.1 b.0 o.0 b.1 o.1
     where
-      cell : (o1 o2 o3 o4 : Option ElementId) → EndsAlike p.rows.items q.rows.items o1 o2 → EndsAlike p.cols.items q.cols.items o3 o4 → IsNamedBefore t.stage o1 → IsNamedBefore t.stage o2 → IsNamedBefore t.stage o3 → IsNamedBefore t.stage o4
+      cell : (o1 o2 o3 o4 : Option ElementId) → EndsAlike p.rows.items q.rows.items o1 o2 → EndsAlike p.cols.items q.cols.items o3 o4
+          → IsNamedBefore t.stage o1 → IsNamedBefore t.stage o2 → IsNamedBefore t.stage o3 → IsNamedBefore t.stage o4
           → DocsAlike last (record (lists p) { cells = write_named_cell o1 o3 value p.cells }) (record (lists q) { cells = write_named_cell o2 o4 value q.cells })
       cell None None o3 o4 detached g b1 b2 b3 b4 = parts
       cell (Some a) (Some b) None None (on r) detached b1 b2 b3 b4 = parts
@@ -175,7 +200,8 @@ module _ (last s c low : ℕ) (t : Stage) (others : NamedElements) (ts : List St
           (same-stands p.rows.made q.rows.made a b sa sb (acked-stands last t.stage s c p.rows q.rows h.parts.rows a b r))
           (same-stands p.cols.made q.cols.made x y sx sy (acked-stands last t.stage s c p.cols q.cols h.parts.cols x y v)) sa sb sx sy
         where
-          same-stands : {xs ys : List ListElement} (m n : ℕ) (a b : ElementId) → IsSequencedName a → IsSequencedName b → StandAlike xs ys (acked_id t.stage m a) (acked_id t.stage n b) → StandAlike xs ys a b
+          same-stands : {xs ys : List ListElement} (m n : ℕ) (a b : ElementId) → IsSequencedName a → IsSequencedName b
+              → StandAlike xs ys (acked_id t.stage m a) (acked_id t.stage n b) → StandAlike xs ys a b
           same-stands m n (SequencedId i) (SequencedId j) x y g = g
           same-stands m n (PendingId i j) b x y g = absurd x
           same-stands m n (SequencedId i) (PendingId j l) x y g = absurd y
@@ -196,21 +222,32 @@ module _ (last s c low : ℕ) (t : Stage) (others : NamedElements) (ts : List St
           let none = not-own inserts_text low last t ts p.text.items (ap inserts_text e) rise own.text in
           let none' = not-own inserts_text low last t ts q.text.items (ap inserts_text e) rise other-put.text in
           on (subst (λ i. StandAlike (lists p).text.items (lists q).text.items i b) (unstaged last t.stage p.text.made p.text a h.parts.text.left none g.there)
-          (subst (λ i. StandAlike (lists p).text.items (lists q).text.items (acked_id t.stage p.text.made a) i) (unstaged last t.stage q.text.made q.text b h.parts.text.right none' (there-other g)) (text-stands a b g)))
+          (subst (λ i. StandAlike (lists p).text.items (lists q).text.items (acked_id t.stage p.text.made a) i)
+          (unstaged last t.stage q.text.made q.text b h.parts.text.right none' (there-other g)) (text-stands a b g)))
 
-  stage-alike : AckedDocs last p q (with_slid_ends (record (lists p) { intervals = intervals_after_stage t.sub_operation t.names p.intervals; cells = cells_after_stage t.sub_operation t.names p.cells }))
+  stage-alike : AckedDocs last p q (with_slid_ends (record (lists p) {
+    intervals = intervals_after_stage t.sub_operation t.names p.intervals;
+    cells =
+        cells_after_stage t.sub_operation t.names p.cells;
+  }))
       (with_slid_ends (record (lists q) { intervals = intervals_after_stage t.sub_operation others q.intervals; cells = cells_after_stage t.sub_operation others q.cells }))
       (acked_id t.stage (made_before p t.sub_operation)) (acked_id t.stage (made_before q t.sub_operation))
   stage-alike =
       let w = written t.sub_operation refl in
       let E = EndsAlike (lists p).text.items (lists q).text.items in
-      let after = intervals-after (EndsAlike (lists p).text.items (lists q).text.items) t.sub_operation t.names others interval-names (intervals-more (SettledAlike (lists p).text.items (lists q).text.items) (EndsAlike (lists p).text.items (lists q).text.items) (λ i j e. settled-ends e) parts.intervals) in
+      let after = intervals-after (EndsAlike (lists p).text.items (lists q).text.items) t.sub_operation t.names others interval-names
+      (intervals-more (SettledAlike (lists p).text.items (lists q).text.items) (EndsAlike (lists p).text.items (lists q).text.items)
+      (λ i j e. settled-ends e) parts.intervals) in
       record {
-        alike = slid-docs last _ _ (parts-intervals last _ _ w.parts (intervals_after_stage t.sub_operation t.names p.intervals) (intervals_after_stage t.sub_operation others q.intervals))
+        alike = slid-docs last _ _ (parts-intervals last _ _ w.parts (intervals_after_stage t.sub_operation t.names p.intervals)
+            (intervals_after_stage t.sub_operation others q.intervals))
             (intervals-more (EndsAlike (lists p).text.items (lists q).text.items) (EndsBeside (lists p).text.items (lists q).text.items) (λ i j e. ends-beside e) after);
-        text = λ a b g. moved (text-name p h.parts.text.left own.text t.sub_operation refl a g.there) (text-name q h.parts.text.right other-put.text t.sub_operation refl b (there-other g)) (text-stands a b g);
-        rows = λ a b g. moved (rows-name p h.parts.rows.left own.rows t.sub_operation refl a g.there) (rows-name q h.parts.rows.right other-put.rows t.sub_operation refl b (there-other g)) (acked-stands last t.stage s c p.rows q.rows h.parts.rows a b g);
-        cols = λ a b g. moved (cols-name p h.parts.cols.left own.cols t.sub_operation refl a g.there) (cols-name q h.parts.cols.right other-put.cols t.sub_operation refl b (there-other g)) (acked-stands last t.stage s c p.cols q.cols h.parts.cols a b g);
+        text = λ a b g. moved (text-name p h.parts.text.left own.text t.sub_operation refl a g.there)
+            (text-name q h.parts.text.right other-put.text t.sub_operation refl b (there-other g)) (text-stands a b g);
+        rows = λ a b g. moved (rows-name p h.parts.rows.left own.rows t.sub_operation refl a g.there)
+            (rows-name q h.parts.rows.right other-put.rows t.sub_operation refl b (there-other g)) (acked-stands last t.stage s c p.rows q.rows h.parts.rows a b g);
+        cols = λ a b g. moved (cols-name p h.parts.cols.left own.cols t.sub_operation refl a g.there)
+            (cols-name q h.parts.cols.right other-put.cols t.sub_operation refl b (there-other g)) (acked-stands last t.stage s c p.cols q.cols h.parts.cols a b g);
       }
     where
       moved : {xs ys : List ListElement} {a b i j : ElementId} → a ≡ i → b ≡ j → StandAlike xs ys a b → StandAlike xs ys i j
@@ -223,11 +260,13 @@ renamed-twice f g None = refl
 renamed-twice f g (Some a) = refl
 
 stage-twice : (f g : ElementId → ElementId) (t : Stage) → renamed_stage g (renamed_stage f t) ≡ renamed_stage (λ x. g (f x)) t
-stage-twice f g t = ap (λ o. record t { names = record { first = o; second = renamed g (renamed f t.names.second) } }) (renamed-twice f g t.names.first) ∙ ap (λ o. record t { names = record { first = renamed (λ x. g (f x)) t.names.first; second = o } }) (renamed-twice f g t.names.second)
+stage-twice f g t = ap (λ o. record t { names = record { first = o; second = renamed g (renamed f t.names.second) } }) (renamed-twice f g t.names.first)
+    ∙ ap (λ o. record t { names = record { first = renamed (λ x. g (f x)) t.names.first; second = o } }) (renamed-twice f g t.names.second)
 
 stages-twice : (f g : ElementId → ElementId) (ts : List Stage) → map (renamed_stage g) (map (renamed_stage f) ts) ≡ map (renamed_stage (λ x. g (f x))) ts
 stages-twice f g [] = refl
-stages-twice f g (t ∷ ts) = ap (λ u. u ∷ map (renamed_stage g) (map (renamed_stage f) ts)) (stage-twice f g t) ∙ ap (λ us. renamed_stage (λ x. g (f x)) t ∷ us) (stages-twice f g ts)
+stages-twice f g (t ∷ ts) = ap (λ u. u ∷ map (renamed_stage g) (map (renamed_stage f) ts)) (stage-twice f g t)
+    ∙ ap (λ us. renamed_stage (λ x. g (f x)) t ∷ us) (stages-twice f g ts)
 
 map-append : {A B : Type 0} (f : A → B) (xs ys : List A) → map f (xs ++ ys) ≡ map f xs ++ map f ys
 map-append f [] ys = refl
@@ -247,18 +286,21 @@ named-acked k n j (OnText op) a h = tt
 named-acked k n j (OnIntervals op) a h = tt
 named-acked k n j (OnGrid op) a h = (before-acked k n j a.first h.0, before-acked k n j a.second h.1)
 
-ends-renamed : {xs ys us vs : List ListElement} (f g : ElementId → ElementId) → ((a b : ElementId) → StandAlike xs ys a b → StandAlike us vs (f a) (g b)) → {o p : Option ElementId} → EndsAlike xs ys o p → EndsAlike us vs (renamed f o) (renamed g p)
+ends-renamed : {xs ys us vs : List ListElement} (f g : ElementId → ElementId) → ((a b : ElementId) → StandAlike xs ys a b → StandAlike us vs (f a) (g b))
+    → {o p : Option ElementId} → EndsAlike xs ys o p → EndsAlike us vs (renamed f o) (renamed g p)
 ends-renamed f g h detached = detached
 ends-renamed f g h (on {a = a} {b = b} s) = on (h a b s)
 
-names-renamed : (last : ℕ) (p q d e : Document) (f g : ElementId → ElementId) → AckedDocs last p q d e f g → (o : SubOperation) (a b : NamedElements) → StageNames p q o a b → StageNames d e o (renamed_names f a) (renamed_names g b)
+names-renamed : (last : ℕ) (p q d e : Document) (f g : ElementId → ElementId) → AckedDocs last p q d e f g → (o : SubOperation) (a b : NamedElements)
+    → StageNames p q o a b → StageNames d e o (renamed_names f a) (renamed_names g b)
 names-renamed last p q d e f g s (OnText op) a b n = (ap (renamed_names f) n.0, ap (renamed_names g) n.1)
 names-renamed last p q d e f g s (OnIntervals op) a b n = record { first = ends-renamed f g s.text n.first; second = ends-renamed f g s.text n.second }
 names-renamed last p q d e f g s (OnGrid (SpliceIn target i count)) a b n = (ap (renamed_names f) n.0, ap (renamed_names g) n.1)
 names-renamed last p q d e f g s (OnGrid (SpliceOut target i j)) a b n = (ap (renamed_names f) n.0, ap (renamed_names g) n.1)
 names-renamed last p q d e f g s (OnGrid (Set i j value)) a b n = (ends-renamed f g s.rows n.0, ends-renamed f g s.cols n.1)
 
-stages-renamed : (last k m n : ℕ) (p q d e : Document) → AckedDocs last p q d e (acked_id k m) (acked_id k n) → {ts us : List Stage} → StagesBeside p q ts us → StagesBeside d e (map (renamed_stage (acked_id k m)) ts) (map (renamed_stage (acked_id k n)) us)
+stages-renamed : (last k m n : ℕ) (p q d e : Document) → AckedDocs last p q d e (acked_id k m) (acked_id k n) → {ts us : List Stage} → StagesBeside p q ts us
+    → StagesBeside d e (map (renamed_stage (acked_id k m)) ts) (map (renamed_stage (acked_id k n)) us)
 stages-renamed last k m n p q d e s h = beside-map (renamed_stage (acked_id k m)) (renamed_stage (acked_id k n)) (λ t u r. record {
   rest = ap (λ (v : Stage). record v { names = renamed_names (acked_id k n) u.names }) r.rest;
   names = names-renamed last p q d e (acked_id k m) (acked_id k n) s t.sub_operation t.names u.names r.names;
@@ -266,7 +308,8 @@ stages-renamed last k m n p q d e s h = beside-map (renamed_stage (acked_id k m)
   other = named-acked k n t.stage t.sub_operation u.names r.other;
 }) h
 
-any-renamed : (inserts : SubOperation → Bool) (k : ℕ) (f : ElementId → ElementId) (ts : List Stage) → list_any (λ (t : Stage). nat_eq k t.stage && inserts t.sub_operation) (map (renamed_stage f) ts) ≡ list_any (λ (t : Stage). nat_eq k t.stage && inserts t.sub_operation) ts
+any-renamed : (inserts : SubOperation → Bool) (k : ℕ) (f : ElementId → ElementId) (ts : List Stage)
+    → list_any (λ (t : Stage). nat_eq k t.stage && inserts t.sub_operation) (map (renamed_stage f) ts) ≡ list_any (λ (t : Stage). nat_eq k t.stage && inserts t.sub_operation) ts
 any-renamed inserts k f [] = refl
 any-renamed inserts k f (t ∷ ts) = ap (λ b. nat_eq k t.stage && inserts t.sub_operation || b) (any-renamed inserts k f ts)
 
@@ -301,7 +344,8 @@ pub record AckedEdits (last low : ℕ) (rest behind : List Stage) (acked other :
   pub own : HasItsStages rest acked.0
   pub rise : RiseTo low last rest
 
-pub edit-alike : (last s c low : ℕ) (rest behind : List Stage) (f g : ElementId → ElementId) (ts us : List Stage) (p q : Document) → length ts ≡ length us → DocsAlike last p q → StagesBeside p q (map (renamed_stage f) (ts ++ rest)) (map (renamed_stage g) (us ++ behind))
+pub edit-alike : (last s c low : ℕ) (rest behind : List Stage) (f g : ElementId → ElementId) (ts us : List Stage) (p q : Document) → length ts ≡ length us
+    → DocsAlike last p q → StagesBeside p q (map (renamed_stage f) (ts ++ rest)) (map (renamed_stage g) (us ++ behind))
     → HasItsStages (ts ++ rest) p → RiseTo low last (ts ++ rest) → AckedEdits last low rest behind (ack_stages s c f ts p) (ack_stages s c g us q)
 edit-alike last s c low rest behind f g [] [] p q l h b own rise = record { alike = h; stages = b; own = own; rise = rise }
 edit-alike last s c low rest behind f g [] (u ∷ us) p q l h b own rise = absurd (omega arith)
@@ -309,12 +353,18 @@ edit-alike last s c low rest behind f g (t ∷ ts) [] p q l h b own rise = absur
 edit-alike last s c low rest behind f g (t ∷ ts) (u ∷ us) p q l h (next r rs) own rise =
     let same : u ≡ record t { names = u.names } = ap (λ (v : Stage). record v { names = u.names }) r.rest in
     subst (λ (v : Stage). AckedEdits last low rest behind (ack_stages s c f (t ∷ ts) p) (ack_stages s c g (v ∷ us) q)) (sym same)
-    (let st = stage-alike last s c low (renamed_stage f t) (renamed_names g u.names) (map (renamed_stage f) (ts ++ rest)) p q h r.names r.before r.other (rise-renamed f low last (t ∷ (ts ++ rest)) rise) (put-in-renamed f (t ∷ (ts ++ rest)) p own) in
+    (let st = stage-alike last s c low (renamed_stage f t) (renamed_names g u.names) (map (renamed_stage f) (ts ++ rest)) p q h r.names r.before r.other
+    (rise-renamed f low last (t ∷ (ts ++ rest)) rise) (put-in-renamed f (t ∷ (ts ++ rest)) p own) in
     edit-alike last s c low rest behind (λ x. acked_id t.stage (made_before p t.sub_operation) (f x)) (λ x. acked_id t.stage (made_before q t.sub_operation) (g x)) ts us
     (ack_stage s c f t p) (ack_stage s c g (record t { names = u.names }) q) (omega arith) st.alike
-    (subst (λ vs. StagesBeside (ack_stage s c f t p) (ack_stage s c g (record t { names = u.names }) q) vs (map (renamed_stage (λ x. acked_id t.stage (made_before q t.sub_operation) (g x))) (us ++ behind))) (stages-twice f (acked_id t.stage (made_before p t.sub_operation)) (ts ++ rest))
-    (subst (λ vs. StagesBeside (ack_stage s c f t p) (ack_stage s c g (record t { names = u.names }) q) (map (renamed_stage (acked_id t.stage (made_before p t.sub_operation))) (map (renamed_stage f) (ts ++ rest))) vs) (stages-twice g (acked_id t.stage (made_before q t.sub_operation)) (us ++ behind))
-    (stages-renamed last t.stage (made_before p t.sub_operation) (made_before q t.sub_operation) p q (ack_stage s c f t p) (ack_stage s c g (record t { names = u.names }) q) st rs)))
+    (subst (λ vs. StagesBeside (ack_stage s c f t p) (ack_stage s c g (record t { names = u.names }) q) vs
+    (map (renamed_stage (λ x. acked_id t.stage (made_before q t.sub_operation) (g x))) (us ++ behind)))
+    (stages-twice f (acked_id t.stage (made_before p t.sub_operation)) (ts ++ rest))
+    (subst (λ vs. StagesBeside (ack_stage s c f t p) (ack_stage s c g (record t { names = u.names }) q)
+    (map (renamed_stage (acked_id t.stage (made_before p t.sub_operation))) (map (renamed_stage f) (ts ++ rest))) vs)
+    (stages-twice g (acked_id t.stage (made_before q t.sub_operation)) (us ++ behind))
+    (stages-renamed last t.stage (made_before p t.sub_operation) (made_before q t.sub_operation) p q (ack_stage s c f t p)
+    (ack_stage s c g (record t { names = u.names }) q) st rs)))
     (record {
       text = put-in-after inserts_text last s c t (ts ++ rest) p.text h.parts.text.left own.text;
       rows = put-in-after inserts_rows last s c t (ts ++ rest) p.rows h.parts.rows.left own.rows;

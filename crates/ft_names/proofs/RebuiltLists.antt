@@ -23,7 +23,8 @@ module _ (test : ListElement → Bool) where
   filter-all keep h [] = refl
   filter-all keep h (e ∷ xs) = step (test e) (keep e) refl refl (h e) (filter-all keep h xs)
     where
-      step : (a b : Bool) → test e ≡ a → keep e ≡ b → (test e ≡ true → keep e ≡ true) → len test (filter keep xs) ≡ len test xs → len test (cond b (e ∷ filter keep xs) (filter keep xs)) ≡ one_more_if (test e) (len test xs)
+      step : (a b : Bool) → test e ≡ a → keep e ≡ b → (test e ≡ true → keep e ≡ true) → len test (filter keep xs) ≡ len test xs
+          → len test (cond b (e ∷ filter keep xs) (filter keep xs)) ≡ one_more_if (test e) (len test xs)
       step a true p q g ih = ap (one_more_if (test e)) ih
       step false false p q g ih = ih ∙ sym (ap (λ b. one_more_if b (len test xs)) p)
       step true false p q g ih = absurd (true-false (sym (g p) ∙ q))
@@ -40,7 +41,8 @@ module _ (test : ListElement → Bool) where
   filter-less keep [] h = refl
   filter-less keep (e ∷ xs) h = step (test e) refl (keep e) h (λ g. filter-less keep xs g)
     where
-      step : (a : Bool) → test e ≡ a → (b : Bool) → one_more_if a (len test xs) ≡ 0 → (len test xs ≡ 0 → len test (filter keep xs) ≡ 0) → len test (cond b (e ∷ filter keep xs) (filter keep xs)) ≡ 0
+      step : (a : Bool) → test e ≡ a → (b : Bool) → one_more_if a (len test xs) ≡ 0 → (len test xs ≡ 0 → len test (filter keep xs) ≡ 0)
+          → len test (cond b (e ∷ filter keep xs) (filter keep xs)) ≡ 0
       step true p b g ih = absurd (omega arith)
       step false p true g ih = ap (λ i. one_more_if i (len test (filter keep xs))) p ∙ ih g
       step false p false g ih = ih g
@@ -53,7 +55,8 @@ module _ (test : ListElement → Bool) where
         rest : List ListElement
         rest = retain_map is_sequenced carried_element xs
 
-        step : (a b : Bool) → test e ≡ a → is_sequenced e ≡ b → (test e ≡ true → is_sequenced e ≡ true) → len test rest ≡ len test xs → len test (cond b (carried_element e ∷ rest) rest) ≡ one_more_if (test e) (len test xs)
+        step : (a b : Bool) → test e ≡ a → is_sequenced e ≡ b → (test e ≡ true → is_sequenced e ≡ true) → len test rest ≡ len test xs
+            → len test (cond b (carried_element e ∷ rest) rest) ≡ one_more_if (test e) (len test xs)
         step a true p q g ih = ap (λ b. one_more_if b (len test rest)) (carried e) ∙ ap (one_more_if (test e)) ih
         step false false p q g ih = ih ∙ sym (ap (λ b. one_more_if b (len test xs)) p)
         step true false p q g ih = absurd (true-false (sym (g p) ∙ q))
@@ -76,7 +79,8 @@ module _ (test : ListElement → Bool) where
         rest : List ListElement
         rest = retain_map is_sequenced carried_element xs
 
-        step : (a : Bool) → test e ≡ a → (b : Bool) → one_more_if a (len test xs) ≡ 0 → (len test xs ≡ 0 → len test rest ≡ 0) → len test (cond b (carried_element e ∷ rest) rest) ≡ 0
+        step : (a : Bool) → test e ≡ a → (b : Bool) → one_more_if a (len test xs) ≡ 0 → (len test xs ≡ 0 → len test rest ≡ 0)
+            → len test (cond b (carried_element e ∷ rest) rest) ≡ 0
         step true p b g ih = absurd (omega arith)
         step false p true g ih = ap (λ i. one_more_if i (len test rest)) (carried e ∙ p) ∙ ih g
         step false p false g ih = ih g
@@ -85,7 +89,8 @@ module _ (test : ListElement → Bool) where
   put-sum xs ys k = len-put-add test (seen (k - 1)) no_run (stage_position k xs) (filter (is_inserted_by k) xs) ys
 
   -- a test that no stage's elements pass
-  pub stages-none : (xs : List ListElement) → ((k : ℕ) → len test (filter (is_inserted_by k) xs) ≡ 0) → (ks : List ℕ) (ys : List ListElement) → len test (put_stages xs ys ks) ≡ len test ys
+  pub stages-none : (xs : List ListElement) → ((k : ℕ) → len test (filter (is_inserted_by k) xs) ≡ 0) → (ks : List ℕ) (ys : List ListElement)
+      → len test (put_stages xs ys ks) ≡ len test ys
   stages-none xs h [] ys = refl
   stages-none xs h (k ∷ ks) ys = stages-none xs h ks (put_stage xs ys k) ∙ put-sum xs ys k ∙ zero-left _ _ (h k)
     where
@@ -129,7 +134,9 @@ module _ (test : ListElement → Bool) (k : ℕ) (only : (e : ListElement) → t
   stage-passes [] ys h = refl
   stage-passes (j ∷ ks) ys h = step (nat_eq k j) refl h (λ g. stage-passes ks (put_stage xs ys j) g)
     where
-      step : (b : Bool) → nat_eq k j ≡ b → b || list_any (nat_eq k) ks ≡ false → (list_any (nat_eq k) ks ≡ false → len test (put_stages xs (put_stage xs ys j) ks) ≡ len test (put_stage xs ys j)) → len test (put_stages xs (put_stage xs ys j) ks) ≡ len test ys
+      step : (b : Bool) → nat_eq k j ≡ b → b || list_any (nat_eq k) ks ≡ false
+          → (list_any (nat_eq k) ks ≡ false → len test (put_stages xs (put_stage xs ys j) ks) ≡ len test (put_stage xs ys j))
+          → len test (put_stages xs (put_stage xs ys j) ks) ≡ len test ys
       step true e g ih = (cc)
       step false e g ih = ih g ∙ put-sum test xs ys j ∙ zero-left _ _ (other-stage j e)
 
@@ -137,7 +144,9 @@ module _ (test : ListElement → Bool) (k : ℕ) (only : (e : ListElement) → t
   stage-once low [] ys r h = (cc)
   stage-once low (j ∷ ks) ys r h = step (nat_eq k j) refl h (λ g. stage-once j ks (put_stage xs ys j) r.1 g)
     where
-      step : (b : Bool) → nat_eq k j ≡ b → b || list_any (nat_eq k) ks ≡ true → (list_any (nat_eq k) ks ≡ true → len test (put_stages xs (put_stage xs ys j) ks) ≡ len test xs + len test (put_stage xs ys j)) → len test (put_stages xs (put_stage xs ys j) ks) ≡ len test xs + len test ys
+      step : (b : Bool) → nat_eq k j ≡ b → b || list_any (nat_eq k) ks ≡ true
+          → (list_any (nat_eq k) ks ≡ true → len test (put_stages xs (put_stage xs ys j) ks) ≡ len test xs + len test (put_stage xs ys j))
+          → len test (put_stages xs (put_stage xs ys j) ks) ≡ len test xs + len test ys
       step true e g ih =
           let same : k ≡ j = grind (arith, nat_tests) in
           stage-passes ks (put_stage xs ys j) (stage-below k j ks (omega arith) r.1) ∙ put-sum test xs ys j
@@ -194,7 +203,8 @@ unless-passed true b f g = absurd (true-false (sym g ∙ f refl))
 
 module _ (last : ℕ) (ks : List ℕ) (rises : Rises 0 ks) (list : Sequence) (h : IsWellNumbered last list) (staged : IsStagedAmong ks list.items) where
   -- what elements of a stage alone pass is counted as before
-  stage-kept : (test : ListElement → Bool) (k : ℕ) → ((e : ListElement) → test e ≡ true → is_inserted_by k e ≡ true) → ((e : ListElement) → test (carried_element e) ≡ test e) → len test (rebuilt_list ks list).items ≡ len test list.items
+  stage-kept : (test : ListElement → Bool) (k : ℕ) → ((e : ListElement) → test e ≡ true → is_inserted_by k e ≡ true)
+      → ((e : ListElement) → test (carried_element e) ≡ test e) → len test (rebuilt_list ks list).items ≡ len test list.items
   stage-kept test k only carried = step (list_any (nat_eq k) ks) refl
     where
       begin : len test (retain_map is_sequenced carried_element list.items) ≡ 0
@@ -208,9 +218,11 @@ module _ (last : ℕ) (ks : List ℕ) (rises : Rises 0 ks) (list : Sequence) (h 
       step false e = stage-passes test k only list.items ks _ e ∙ begin ∙ sym (test-weaker test (is_inserted_by k) only list.items (staged k e))
 
   -- so is what no pending element passes
-  sequenced-kept : (test : ListElement → Bool) → ((e : ListElement) → test e ≡ true → is_sequenced e ≡ true) → ((e : ListElement) → test (carried_element e) ≡ test e) → len test (rebuilt_list ks list).items ≡ len test list.items
+  sequenced-kept : (test : ListElement → Bool) → ((e : ListElement) → test e ≡ true → is_sequenced e ≡ true)
+      → ((e : ListElement) → test (carried_element e) ≡ test e) → len test (rebuilt_list ks list).items ≡ len test list.items
   sequenced-kept test h carried =
-      stages-none test list.items (λ k. filter-none test (is_inserted_by k) (λ e g. unless-passed (test e) (is_inserted_by k e) (λ p. unstaged k e.ins (h e p)) g) list.items) ks _ ∙ sequenced-all test carried h list.items
+      stages-none test list.items (λ k. filter-none test (is_inserted_by k) (λ e g. unless-passed (test e) (is_inserted_by k e) (λ p. unstaged k e.ins (h e p))
+      g) list.items) ks _ ∙ sequenced-all test carried h list.items
     where
       unstaged : (k : ℕ) (t : Stamp) → is_acked t ≡ true → is_of_stage k t ≡ false
       unstaged k (Acked s c) g = refl
@@ -244,24 +256,31 @@ module _ (last : ℕ) (ks : List ℕ) (rises : Rises 0 ks) (list : Sequence) (h 
     below = λ n l. names-rebuilt (SequencedId n) ∙ h.below n l;
     counted = λ k n l. names-rebuilt (PendingId k n) ∙ h.counted k n (subst (λ m. m ≤ n) (stages-rebuilt k) l);
     stages = λ k l. stages-rebuilt k ∙ h.stages k l;
-    removals = stages-none has_odd_removal list.items (λ k. filter-less has_odd_removal (is_inserted_by k) list.items h.removals) ks _ ∙ sequenced-less has_odd_removal (λ e. carried-odd e) list.items h.removals;
+    removals = stages-none has_odd_removal list.items (λ k. filter-less has_odd_removal (is_inserted_by k) list.items h.removals) ks _
+        ∙ sequenced-less has_odd_removal (λ e. carried-odd e) list.items h.removals;
   }
 
 -- ---- two lists
 
 module _ (P : ElementId → ElementId → Type 0) where
-  carried-beside : {xs ys : List ListElement} → BesideList (Named P) xs ys → BesideList (Named P) (retain_map is_sequenced carried_element xs) (retain_map is_sequenced carried_element ys)
+  carried-beside : {xs ys : List ListElement} → BesideList (Named P) xs ys
+      → BesideList (Named P) (retain_map is_sequenced carried_element xs) (retain_map is_sequenced carried_element ys)
   carried-beside ends = ends
   carried-beside (next {x = x} {y = y} q qs) =
       beside-choice (is_sequenced x) (is_sequenced y) (twin-sequenced x y q.0)
-      (next (carried-twin x y q.0, subst (λ a. P a (id (carried_element y))) (sym (carried-id x)) (subst (λ b. P (id x) b) (sym (carried-id y)) q.1)) (carried-beside qs)) (carried-beside qs)
+      (next (carried-twin x y q.0, subst (λ a. P a (id (carried_element y))) (sym (carried-id x)) (subst (λ b. P (id x) b) (sym (carried-id y)) q.1))
+      (carried-beside qs)) (carried-beside qs)
 
-  put_stage-beside : (k : ℕ) {xs ys us vs : List ListElement} → BesideList (Named P) xs ys → BesideList (Named P) us vs → BesideList (Named P) (put_stage xs us k) (put_stage ys vs k)
+  put_stage-beside : (k : ℕ) {xs ys us vs : List ListElement} → BesideList (Named P) xs ys → BesideList (Named P) us vs
+      → BesideList (Named P) (put_stage xs us k) (put_stage ys vs k)
   put_stage-beside k {xs} {ys} {us} {vs} h g =
-      subst (λ p. BesideList (Named P) (put (seen (k - 1)) no_run (stage_position k xs) (filter (is_inserted_by k) xs) us) (put (seen (k - 1)) no_run p (filter (is_inserted_by k) ys) vs)) (position-alike k (twins-of P h))
-      (beside-put (seen (k - 1)) (seen (k - 1)) (λ x y q. twin-seen (k - 1) x y q.0) no_run no_run (λ x y q. refl) (beside-filter (is_inserted_by k) (is_inserted_by k) (λ x y q. twin-inserted k x y q.0) h) (stage_position k xs) g)
+      subst (λ p. BesideList (Named P) (put (seen (k - 1)) no_run (stage_position k xs) (filter (is_inserted_by k) xs) us)
+      (put (seen (k - 1)) no_run p (filter (is_inserted_by k) ys) vs)) (position-alike k (twins-of P h))
+      (beside-put (seen (k - 1)) (seen (k - 1)) (λ x y q. twin-seen (k - 1) x y q.0) no_run no_run (λ x y q. refl)
+      (beside-filter (is_inserted_by k) (is_inserted_by k) (λ x y q. twin-inserted k x y q.0) h) (stage_position k xs) g)
 
-  put_stages-beside : (ks : List ℕ) {xs ys us vs : List ListElement} → BesideList (Named P) xs ys → BesideList (Named P) us vs → BesideList (Named P) (put_stages xs us ks) (put_stages ys vs ks)
+  put_stages-beside : (ks : List ℕ) {xs ys us vs : List ListElement} → BesideList (Named P) xs ys → BesideList (Named P) us vs
+      → BesideList (Named P) (put_stages xs us ks) (put_stages ys vs ks)
   put_stages-beside [] h g = g
   put_stages-beside (k ∷ ks) h g = put_stages-beside ks h (put_stage-beside k h g)
 
@@ -271,13 +290,15 @@ module _ (P : ElementId → ElementId → Type 0) where
 pub staged-twins : (ks : List ℕ) {xs ys : List ListElement} → BesideList IsTwin xs ys → IsStagedAmong ks xs → IsStagedAmong ks ys
 staged-twins ks t h k g = sym (len-alike (is_inserted_by k) (λ x y q. twin-inserted k x y q) t) ∙ h k g
 
-pub rebuilt-step : (last : ℕ) (ks : List ℕ) → Rises 0 ks → (l m : Sequence) → ListsAlike last l m → IsStagedAmong ks l.items → ListStep last l m (rebuilt_list ks l) (rebuilt_list ks m)
+pub rebuilt-step : (last : ℕ) (ks : List ℕ) → Rises 0 ks → (l m : Sequence) → ListsAlike last l m → IsStagedAmong ks l.items
+    → ListStep last l m (rebuilt_list ks l) (rebuilt_list ks m)
 rebuilt-step last ks r l m h s = record {
   carries = λ P u g. rebuilt-carries P ks l m g;
   stay = λ a g. subst (λ n. 1 ≤ n) (sym (names-rebuilt last ks r l h.left s a)) g;
 }
 
-pub rebuilt-alike : (last : ℕ) (ks : List ℕ) → Rises 0 ks → (l m : Sequence) → ListsAlike last l m → IsStagedAmong ks l.items → ListsAlike last (rebuilt_list ks l) (rebuilt_list ks m)
+pub rebuilt-alike : (last : ℕ) (ks : List ℕ) → Rises 0 ks → (l m : Sequence) → ListsAlike last l m → IsStagedAmong ks l.items
+    → ListsAlike last (rebuilt_list ks l) (rebuilt_list ks m)
 rebuilt-alike last ks r l m h s = record {
   left = rebuilt-numbered last ks r l h.left s;
   right = rebuilt-numbered last ks r m h.right (staged-twins ks h.twins s);

@@ -40,7 +40,8 @@ position_of-alike k (on {a = a} {b = b} s) = beside-rank (has_id a) (has_id b) (
 ends_in-alike : (k : ℕ) {xs ys : List ListElement} (a b : NamedElements) → NamesAlike (EndsAlike xs ys) a b → ends_in k xs a ≡ ends_in k ys b
 ends_in-alike k a b n = rw (end_number-alike k (ends-beside n.first), end_number-alike k (ends-beside n.second)) refl
 
-interval_piece-alike : (k : ℕ) {xs ys : List ListElement} (a b : NamedElements) → NamesAlike (EndsAlike xs ys) a b → (op : TextOp) → interval_piece k xs a op ≡ interval_piece k ys b op
+interval_piece-alike : (k : ℕ) {xs ys : List ListElement} (a b : NamedElements) → NamesAlike (EndsAlike xs ys) a b → (op : TextOp) → interval_piece k xs a op
+    ≡ interval_piece k ys b op
 interval_piece-alike k a b n (IntervalAdd label name given props) = ap (λ e. IntervalAdd label name e props) (ends_in-alike k a b n)
 interval_piece-alike k a b n (IntervalChange label name (Some given) props) = ap (λ e. IntervalChange label name (Some e) props) (ends_in-alike k a b n)
 interval_piece-alike k a b n (IntervalChange label name None props) = refl
@@ -58,18 +59,24 @@ module _ (last : ℕ) (p q : Document) (h : DocsAlike last p q) where
   grid-alike k (SpliceOut Rows i j) a b n = ap (λ rs. map (λ (r : ℕ × ℕ). OnGrid (SpliceOut Rows r.0 r.1)) (lowered_runs 0 rs)) (removed_runs-alike k h.parts.rows.twins)
   grid-alike k (SpliceOut Cols i j) a b n = ap (λ rs. map (λ (r : ℕ × ℕ). OnGrid (SpliceOut Cols r.0 r.1)) (lowered_runs 0 rs)) (removed_runs-alike k h.parts.cols.twins)
   grid-alike k (Set i j value) a b n =
-      ap (λ s. cond (s && is_named_and_seen k p.cols.items a.second) (OnGrid (Set (position_of_named (k - 1) p.rows.items a.first) (position_of_named (k - 1) p.cols.items a.second) value) ∷ []) []) (named_seen-alike k n.0)
-      ∙ ap (λ s. cond (is_named_and_seen k q.rows.items b.first && s) (OnGrid (Set (position_of_named (k - 1) p.rows.items a.first) (position_of_named (k - 1) p.cols.items a.second) value) ∷ []) []) (named_seen-alike k n.1)
-      ∙ ap (λ m. cond (is_named_and_seen k q.rows.items b.first && is_named_and_seen k q.cols.items b.second) (OnGrid (Set m (position_of_named (k - 1) p.cols.items a.second) value) ∷ []) []) (position_of-alike (k - 1) n.0)
-      ∙ ap (λ m. cond (is_named_and_seen k q.rows.items b.first && is_named_and_seen k q.cols.items b.second) (OnGrid (Set (position_of_named (k - 1) q.rows.items b.first) m value) ∷ []) []) (position_of-alike (k - 1) n.1)
+      ap (λ s. cond (s && is_named_and_seen k p.cols.items a.second) (OnGrid
+      (Set (position_of_named (k - 1) p.rows.items a.first) (position_of_named (k - 1) p.cols.items a.second) value) ∷ []) []) (named_seen-alike k n.0)
+      ∙ ap (λ s. cond (is_named_and_seen k q.rows.items b.first && s) (OnGrid
+      (Set (position_of_named (k - 1) p.rows.items a.first) (position_of_named (k - 1) p.cols.items a.second) value) ∷ []) []) (named_seen-alike k n.1)
+      ∙ ap (λ m. cond (is_named_and_seen k q.rows.items b.first && is_named_and_seen k q.cols.items b.second)
+      (OnGrid (Set m (position_of_named (k - 1) p.cols.items a.second) value) ∷ []) []) (position_of-alike (k - 1) n.0)
+      ∙ ap (λ m. cond (is_named_and_seen k q.rows.items b.first && is_named_and_seen k q.cols.items b.second)
+      (OnGrid (Set (position_of_named (k - 1) q.rows.items b.first) m value) ∷ []) []) (position_of-alike (k - 1) n.1)
 
   abbrev stage_of : ℕ → SubOperation → NamedElements → Stage
   stage_of k o a = record { stage = k; sub_operation = o; names = a }
 
-  settled-names : (k : ℕ) (a b : NamedElements) → NamesAlike (EndsAlike p.text.items q.text.items) a b → NamesAlike (EndsAlike p.text.items q.text.items) (settle_elements p.text.items k a) (settle_elements q.text.items k b)
+  settled-names : (k : ℕ) (a b : NamedElements) → NamesAlike (EndsAlike p.text.items q.text.items) a b
+      → NamesAlike (EndsAlike p.text.items q.text.items) (settle_elements p.text.items k a) (settle_elements q.text.items k b)
   settled-names k a b n = names-settle (places last p.text q.text h.parts.text) k a b (loosely a b n)
 
-  pieces-of : (k : ℕ) (o : SubOperation) (a b : NamedElements) → StageNames p q o a b → pieces p (record { stage = k; sub_operation = o; names = a }) ≡ pieces q (record { stage = k; sub_operation = o; names = b })
+  pieces-of : (k : ℕ) (o : SubOperation) (a b : NamedElements) → StageNames p q o a b → pieces p (record { stage = k; sub_operation = o; names = a })
+      ≡ pieces q (record { stage = k; sub_operation = o; names = b })
   pieces-of k (OnText (Insert i seg props)) a b n = ap (λ m. unless_empty (segment_contents seg) (OnText (Insert m seg props))) (position-alike k h.parts.text.twins)
   pieces-of k (OnText (Remove i j)) a b n = ap (λ rs. map (λ (r : ℕ × ℕ). OnText (Remove r.0 r.1)) (lowered_runs 0 rs)) (removed_runs-alike k h.parts.text.twins)
   pieces-of k (OnText (Annotate i j changes)) a b n = ap (λ rs. map (λ (r : ℕ × ℕ). OnText (Annotate r.0 r.1 changes)) rs) (annotated_runs-alike k h.parts.text.twins)
@@ -85,10 +92,12 @@ module _ (last : ℕ) (p q : Document) (h : DocsAlike last p q) where
   -- ---- the stages that go on
 
   module _ (d e : Document) (stay : NamesStay p q d e) where
-    kept-stage : (k : ℕ) (o : SubOperation) (a b : NamedElements) → StageNames p q o a b → AreNamedBefore k o a → AreNamedBefore k o b → StageAlike d e (record { stage = k; sub_operation = o; names = a }) (record { stage = k; sub_operation = o; names = b })
+    kept-stage : (k : ℕ) (o : SubOperation) (a b : NamedElements) → StageNames p q o a b → AreNamedBefore k o a → AreNamedBefore k o b
+        → StageAlike d e (record { stage = k; sub_operation = o; names = a }) (record { stage = k; sub_operation = o; names = b })
     kept-stage k o a b n f g = record { rest = refl; names = stage-names-stay p q d e stay o a b n; before = f; other = g }
 
-    unless-gone : (ps rs : List SubOperation) → ps ≡ rs → (t u : Stage) → StageAlike d e t u → StagesBeside d e (elim ps [ [] ↦ [] | _ ∷ _ ↦ t ∷ [] ]) (elim rs [ [] ↦ [] | _ ∷ _ ↦ u ∷ [] ])
+    unless-gone : (ps rs : List SubOperation) → ps ≡ rs → (t u : Stage) → StageAlike d e t u
+        → StagesBeside d e (elim ps [ [] ↦ [] | _ ∷ _ ↦ t ∷ [] ]) (elim rs [ [] ↦ [] | _ ∷ _ ↦ u ∷ [] ])
     unless-gone [] [] g t u s = ends
     unless-gone (_ ∷ _) (_ ∷ _) g t u s = next s ends
     unless-gone [] (_ ∷ _) g t u s = (cc)
@@ -101,7 +110,8 @@ module _ (last : ℕ) (p q : Document) (h : DocsAlike last p q) where
     carried-of k (OnGrid op) a b n f g = unless-gone _ _ (pieces-of k (OnGrid op) a b n) _ _ (kept-stage k (OnGrid op) a b n f g)
 
     carried-alike : (t u : Stage) → StageAlike p q t u → StagesBeside d e (carried_stage p t) (carried_stage q u)
-    carried-alike t u s = subst (λ v. StagesBeside d e (carried_stage p t) (carried_stage q v)) (sym s.rest) (carried-of t.stage t.sub_operation t.names u.names s.names s.before s.other)
+    carried-alike t u s = subst (λ v. StagesBeside d e (carried_stage p t) (carried_stage q v)) (sym s.rest)
+        (carried-of t.stage t.sub_operation t.names u.names s.names s.before s.other)
 
 -- the stages of edits
 abbrev pub stages_in : List PendingEdit → List Stage
@@ -119,14 +129,21 @@ EditsBeside p q es fs = Beside PendingEdit PendingEdit (EditAlike p q) es fs
 module _ (last : ℕ) (p q : Document) (h : DocsAlike last p q) (d e : Document) (stay : NamesStay p q d e) (conn : ℕ) where
   pub resubmitted-alike : (n : ℕ) {es fs : List PendingEdit} → EditsBeside p q es fs → EditsBeside d e (resubmitted_edits p conn n es) (resubmitted_edits q conn n fs)
   resubmitted-alike n ends = ends
-  resubmitted-alike n (next {x = i} {y = j} {xs = es} {ys = fs} r rs) = step (regenerated_edit p i) (regenerated_edit q j) (regenerated-alike last p q h i j r.stages) (resubmitted-alike n rs) (resubmitted-alike (n + 1) rs)
+  resubmitted-alike n (next {x = i} {y = j} {xs = es} {ys = fs} r rs) = step (regenerated_edit p i) (regenerated_edit q j)
+      (regenerated-alike last p q h i j r.stages) (resubmitted-alike n rs) (resubmitted-alike (n + 1) rs)
     where
-      step : (o w : Option ChannelOp) → o ≡ w → EditsBeside d e (resubmitted_edits p conn n es) (resubmitted_edits q conn n fs) → EditsBeside d e (resubmitted_edits p conn (n + 1) es) (resubmitted_edits q conn (n + 1) fs)
+      step : (o w : Option ChannelOp) → o ≡ w → EditsBeside d e (resubmitted_edits p conn n es) (resubmitted_edits q conn n fs)
+          → EditsBeside d e (resubmitted_edits p conn (n + 1) es) (resubmitted_edits q conn (n + 1) fs)
           → EditsBeside d e (elim o [ None ↦ resubmitted_edits p conn n es | Some op ↦ resubmitted_edit p conn n i op ∷ resubmitted_edits p conn (n + 1) es ])
           (elim w [ None ↦ resubmitted_edits q conn n fs | Some op ↦ resubmitted_edit q conn n j op ∷ resubmitted_edits q conn (n + 1) fs ])
       step None None g a b = a
       step (Some op) (Some other) g a b =
-          next (record { stages = beside-flat (carried_stage p) (carried_stage q) (λ t u s. carried-alike last p q h d e stay t u s) r.stages; ref_seq = h.parts.number; sent = ap (λ (o : Option ChannelOp). option_map (λ x. record { conn = conn; client_seq = n; op = x }) o) g }) b
+          next (record {
+            stages = beside-flat (carried_stage p) (carried_stage q) (λ t u s. carried-alike last p q h d e stay t u s) r.stages;
+            ref_seq =
+                h.parts.number;
+            sent = ap (λ (o : Option ChannelOp). option_map (λ x. record { conn = conn; client_seq = n; op = x }) o) g;
+          }) b
       step None (Some other) g a b = (cc)
       step (Some op) None g a b = (cc)
 
@@ -213,22 +230,26 @@ module _ (inserts : SubOperation → Bool) (have : HavePieces inserts) (k : ℕ)
       never true = refl
       never false = refl
 
-  carried-here : (n : ℕ) (o : SubOperation) (a : NamedElements) → list_any (λ (t : Stage). nat_eq k t.stage && inserts t.sub_operation) (carried_stage p (record { stage = n; sub_operation = o; names = a })) ≡ (nat_eq k n && inserts o)
+  carried-here : (n : ℕ) (o : SubOperation) (a : NamedElements) → list_any (λ (t : Stage). nat_eq k t.stage && inserts t.sub_operation)
+      (carried_stage p (record { stage = n; sub_operation = o; names = a })) ≡ (nat_eq k n && inserts o)
   carried-here n (OnText op) a = step (pieces p (record { stage = n; sub_operation = OnText op; names = a })) refl
     where
       step : (ps : List SubOperation) → pieces p (record { stage = n; sub_operation = OnText op; names = a }) ≡ ps
-          → list_any (λ (t : Stage). nat_eq k t.stage && inserts t.sub_operation) (elim ps [ [] ↦ [] | _ ∷ _ ↦ record { stage = n; sub_operation = OnText op; names = a } ∷ [] ]) ≡ (nat_eq k n && inserts (OnText op))
+          → list_any (λ (t : Stage). nat_eq k t.stage && inserts t.sub_operation)
+          (elim ps [ [] ↦ [] | _ ∷ _ ↦ record { stage = n; sub_operation = OnText op; names = a } ∷ [] ]) ≡ (nat_eq k n && inserts (OnText op))
       step [] g = sym (not-here n (inserts (OnText op)) (have.piece p n (OnText op) a g))
       step (_ ∷ _) g = or-false (nat_eq k n && inserts (OnText op))
   carried-here n (OnIntervals op) a = or-false (nat_eq k n && inserts (OnIntervals op))
   carried-here n (OnGrid op) a = step (pieces p (record { stage = n; sub_operation = OnGrid op; names = a })) refl
     where
       step : (ps : List SubOperation) → pieces p (record { stage = n; sub_operation = OnGrid op; names = a }) ≡ ps
-          → list_any (λ (t : Stage). nat_eq k t.stage && inserts t.sub_operation) (elim ps [ [] ↦ [] | _ ∷ _ ↦ record { stage = n; sub_operation = OnGrid op; names = a } ∷ [] ]) ≡ (nat_eq k n && inserts (OnGrid op))
+          → list_any (λ (t : Stage). nat_eq k t.stage && inserts t.sub_operation)
+          (elim ps [ [] ↦ [] | _ ∷ _ ↦ record { stage = n; sub_operation = OnGrid op; names = a } ∷ [] ]) ≡ (nat_eq k n && inserts (OnGrid op))
       step [] g = sym (not-here n (inserts (OnGrid op)) (have.piece p n (OnGrid op) a g))
       step (_ ∷ _) g = or-false (nat_eq k n && inserts (OnGrid op))
 
-  all-carried : (ts : List Stage) → list_any (λ (t : Stage). nat_eq k t.stage && inserts t.sub_operation) (flat_map (carried_stage p) ts) ≡ list_any (λ (t : Stage). nat_eq k t.stage && inserts t.sub_operation) ts
+  all-carried : (ts : List Stage) → list_any (λ (t : Stage). nat_eq k t.stage && inserts t.sub_operation) (flat_map (carried_stage p) ts)
+      ≡ list_any (λ (t : Stage). nat_eq k t.stage && inserts t.sub_operation) ts
   all-carried [] = refl
   all-carried (t ∷ ts) = any-append _ (carried_stage p t) (flat_map (carried_stage p) ts) ∙ rw (carried-here t.stage t.sub_operation t.names, all-carried ts) refl
 
@@ -238,14 +259,24 @@ module _ (inserts : SubOperation → Bool) (have : HavePieces inserts) (k : ℕ)
       let parts = nil-append (pieces p t) (flat_map (pieces p) ts) g in
       rw (not-here t.stage (inserts t.sub_operation) (have.piece p t.stage t.sub_operation t.names parts.0), none-piece ts parts.1) refl
 
-  pub resubmitted-here : (conn n : ℕ) (es : List PendingEdit) → list_any (λ (t : Stage). nat_eq k t.stage && inserts t.sub_operation) (flat_map (λ (e : PendingEdit). e.stages) (resubmitted_edits p conn n es)) ≡ list_any (λ (t : Stage). nat_eq k t.stage && inserts t.sub_operation) (flat_map (λ (e : PendingEdit). e.stages) es)
+  pub resubmitted-here : (conn n : ℕ) (es : List PendingEdit) → list_any (λ (t : Stage). nat_eq k t.stage && inserts t.sub_operation)
+      (flat_map (λ (e : PendingEdit). e.stages) (resubmitted_edits p conn n es))
+      ≡ list_any (λ (t : Stage). nat_eq k t.stage && inserts t.sub_operation) (flat_map (λ (e : PendingEdit). e.stages) es)
   resubmitted-here conn n [] = refl
   resubmitted-here conn n (e ∷ es) = step (regenerated_edit p e) refl (resubmitted-here conn n es) (resubmitted-here conn (n + 1) es)
     where
-      step : (o : Option ChannelOp) → regenerated_edit p e ≡ o → list_any (λ (t : Stage). nat_eq k t.stage && inserts t.sub_operation) (stages_in (resubmitted_edits p conn n es)) ≡ list_any (λ (t : Stage). nat_eq k t.stage && inserts t.sub_operation) (stages_in es) → list_any (λ (t : Stage). nat_eq k t.stage && inserts t.sub_operation) (stages_in (resubmitted_edits p conn (n + 1) es)) ≡ list_any (λ (t : Stage). nat_eq k t.stage && inserts t.sub_operation) (stages_in es)
-          → list_any (λ (t : Stage). nat_eq k t.stage && inserts t.sub_operation) (stages_in (elim o [ None ↦ resubmitted_edits p conn n es | Some op ↦ resubmitted_edit p conn n e op ∷ resubmitted_edits p conn (n + 1) es ])) ≡ list_any (λ (t : Stage). nat_eq k t.stage && inserts t.sub_operation) (e.stages ++ stages_in es)
-      step None g a b = a ∙ sym (any-append (λ (t : Stage). nat_eq k t.stage && inserts t.sub_operation) e.stages (stages_in es) ∙ ap (λ i. i || list_any (λ (t : Stage). nat_eq k t.stage && inserts t.sub_operation) (stages_in es)) (none-piece e.stages (no-op (flat_map (pieces p) e.stages) g)))
-      step (Some op) g a b = any-append (λ (t : Stage). nat_eq k t.stage && inserts t.sub_operation) (flat_map (carried_stage p) e.stages) (stages_in (resubmitted_edits p conn (n + 1) es)) ∙ rw (all-carried e.stages, b) (sym (any-append (λ (t : Stage). nat_eq k t.stage && inserts t.sub_operation) e.stages (stages_in es)))
+      step : (o : Option ChannelOp) → regenerated_edit p e ≡ o → list_any (λ (t : Stage). nat_eq k t.stage && inserts t.sub_operation)
+          (stages_in (resubmitted_edits p conn n es)) ≡ list_any (λ (t : Stage). nat_eq k t.stage && inserts t.sub_operation) (stages_in es)
+          → list_any (λ (t : Stage). nat_eq k t.stage && inserts t.sub_operation) (stages_in (resubmitted_edits p conn (n + 1) es))
+          ≡ list_any (λ (t : Stage). nat_eq k t.stage && inserts t.sub_operation) (stages_in es)
+          → list_any (λ (t : Stage). nat_eq k t.stage && inserts t.sub_operation)
+          (stages_in (elim o [ None ↦ resubmitted_edits p conn n es | Some op ↦ resubmitted_edit p conn n e op ∷ resubmitted_edits p conn (n + 1) es ]))
+          ≡ list_any (λ (t : Stage). nat_eq k t.stage && inserts t.sub_operation) (e.stages ++ stages_in es)
+      step None g a b = a ∙ sym (any-append (λ (t : Stage). nat_eq k t.stage && inserts t.sub_operation) e.stages (stages_in es)
+          ∙ ap (λ i. i || list_any (λ (t : Stage). nat_eq k t.stage && inserts t.sub_operation) (stages_in es)) (none-piece e.stages (no-op (flat_map (pieces p) e.stages) g)))
+      step (Some op) g a b = any-append (λ (t : Stage). nat_eq k t.stage && inserts t.sub_operation) (flat_map (carried_stage p) e.stages)
+          (stages_in (resubmitted_edits p conn (n + 1) es)) ∙ rw (all-carried e.stages, b)
+          (sym (any-append (λ (t : Stage). nat_eq k t.stage && inserts t.sub_operation) e.stages (stages_in es)))
 
 -- the numbers of the stages that go on rise
 module _ (p : Document) (last : ℕ) where
@@ -253,7 +284,8 @@ module _ (p : Document) (last : ℕ) where
   lower low more [] l h = omega arith
   lower low more (t ∷ ts) l h = (omega arith, h.1)
 
-  carried-rise : (low n : ℕ) (o : SubOperation) (a : NamedElements) (rest : List Stage) → low < n → RiseTo n last rest → RiseTo low last (carried_stage p (record { stage = n; sub_operation = o; names = a }) ++ rest)
+  carried-rise : (low n : ℕ) (o : SubOperation) (a : NamedElements) (rest : List Stage) → low < n → RiseTo n last rest
+      → RiseTo low last (carried_stage p (record { stage = n; sub_operation = o; names = a }) ++ rest)
   carried-rise low n (OnText op) a rest l h = step (pieces p (record { stage = n; sub_operation = OnText op; names = a }))
     where
       step : (ps : List SubOperation) → RiseTo low last ((elim ps [ [] ↦ [] | _ ∷ _ ↦ record { stage = n; sub_operation = OnText op; names = a } ∷ [] ]) ++ rest)
@@ -266,21 +298,25 @@ module _ (p : Document) (last : ℕ) where
       step [] = lower low n rest (omega arith) h
       step (_ ∷ _) = (l, h)
 
-  all-rise : (ts rest after : List Stage) → ((n : ℕ) → RiseTo n last rest → RiseTo n last after) → (low : ℕ) → RiseTo low last (ts ++ rest) → RiseTo low last (flat_map (carried_stage p) ts ++ after)
+  all-rise : (ts rest after : List Stage) → ((n : ℕ) → RiseTo n last rest → RiseTo n last after) → (low : ℕ) → RiseTo low last (ts ++ rest)
+      → RiseTo low last (flat_map (carried_stage p) ts ++ after)
   all-rise [] rest after f low h = f low h
   all-rise (t ∷ ts) rest after f low h =
-      subst (λ us. RiseTo low last us) (sym (append_assoc (carried_stage p t) (flat_map (carried_stage p) ts) after)) (carried-rise low t.stage t.sub_operation t.names (flat_map (carried_stage p) ts ++ after) h.0 (all-rise ts rest after f t.stage h.1))
+      subst (λ us. RiseTo low last us) (sym (append_assoc (carried_stage p t) (flat_map (carried_stage p) ts) after))
+      (carried-rise low t.stage t.sub_operation t.names (flat_map (carried_stage p) ts ++ after) h.0 (all-rise ts rest after f t.stage h.1))
 
   skipped-rise : (ts rest : List Stage) (low : ℕ) → RiseTo low last (ts ++ rest) → RiseTo low last rest
   skipped-rise [] rest low h = h
   skipped-rise (t ∷ ts) rest low h = lower low t.stage rest (omega arith) (skipped-rise ts rest t.stage h.1)
 
-  pub resubmitted-rise : (conn n : ℕ) (es : List PendingEdit) (low : ℕ) → RiseTo low last (flat_map (λ (e : PendingEdit). e.stages) es) → RiseTo low last (flat_map (λ (e : PendingEdit). e.stages) (resubmitted_edits p conn n es))
+  pub resubmitted-rise : (conn n : ℕ) (es : List PendingEdit) (low : ℕ) → RiseTo low last (flat_map (λ (e : PendingEdit). e.stages) es)
+      → RiseTo low last (flat_map (λ (e : PendingEdit). e.stages) (resubmitted_edits p conn n es))
   resubmitted-rise conn n [] low h = h
   resubmitted-rise conn n (e ∷ es) low h =
       step (regenerated_edit p e) (λ g. resubmitted-rise conn n es low g) (λ m g. resubmitted-rise conn (n + 1) es m g)
     where
-      step : (o : Option ChannelOp) → (RiseTo low last (stages_in es) → RiseTo low last (stages_in (resubmitted_edits p conn n es))) → ((m : ℕ) → RiseTo m last (stages_in es) → RiseTo m last (stages_in (resubmitted_edits p conn (n + 1) es)))
+      step : (o : Option ChannelOp) → (RiseTo low last (stages_in es) → RiseTo low last (stages_in (resubmitted_edits p conn n es)))
+          → ((m : ℕ) → RiseTo m last (stages_in es) → RiseTo m last (stages_in (resubmitted_edits p conn (n + 1) es)))
           → RiseTo low last (stages_in (elim o [ None ↦ resubmitted_edits p conn n es | Some op ↦ resubmitted_edit p conn n e op ∷ resubmitted_edits p conn (n + 1) es ]))
       step None a b = a (skipped-rise e.stages (stages_in es) low h)
       step (Some op) a b = all-rise e.stages (stages_in es) (stages_in (resubmitted_edits p conn (n + 1) es)) b low h
@@ -298,7 +334,8 @@ staged-among inserts ts xs h k g = h k (none ts g)
     none [] e = refl
     none (u ∷ us) e = step (nat_eq k u.stage) refl e (λ f. none us f)
       where
-        step : (b : Bool) → nat_eq k u.stage ≡ b → b || list_any (nat_eq k) (map (λ t. t.stage) us) ≡ false → (list_any (nat_eq k) (map (λ t. t.stage) us) ≡ false → list_any (λ (t : Stage). nat_eq k t.stage && inserts t.sub_operation) us ≡ false)
+        step : (b : Bool) → nat_eq k u.stage ≡ b → b || list_any (nat_eq k) (map (λ t. t.stage) us) ≡ false
+            → (list_any (nat_eq k) (map (λ t. t.stage) us) ≡ false → list_any (λ (t : Stage). nat_eq k t.stage && inserts t.sub_operation) us ≡ false)
             → b && inserts u.sub_operation || list_any (λ (t : Stage). nat_eq k t.stage && inserts t.sub_operation) us ≡ false
         step true f w ih = (cc)
         step false f w ih = ih w
@@ -311,24 +348,34 @@ module _ (last : ℕ) (ts : List Stage) (rise : RiseTo 0 last ts) (p q : Documen
   document-alike =
       let ks = map (λ (t : Stage). t.stage) ts in
       let r = rises-to 0 last ts rise in
-      let text = text-step last last (self-le last) p q h _ _ (rebuilt-alike last ks r p.text q.text h.parts.text (staged-among inserts_text ts p.text.items own.text)) (rebuilt-step last ks r p.text q.text h.parts.text (staged-among inserts_text ts p.text.items own.text)) in
+      let text = text-step last last (self-le last) p q h _ _ (rebuilt-alike last ks r p.text q.text h.parts.text
+      (staged-among inserts_text ts p.text.items own.text)) (rebuilt-step last ks r p.text q.text h.parts.text (staged-among inserts_text ts p.text.items own.text)) in
       let p1 = record p { text = rebuilt_list ks p.text } in
       let q1 = record q { text = rebuilt_list ks q.text } in
-      let rows = rows-step last last (self-le last) p1 q1 text.alike _ _ (rebuilt-alike last ks r p.rows q.rows h.parts.rows (staged-among inserts_rows ts p.rows.items own.rows)) (self-le _) (self-le _) (rebuilt-step last ks r p.rows q.rows h.parts.rows (staged-among inserts_rows ts p.rows.items own.rows)) in
+      let rows = rows-step last last (self-le last) p1 q1 text.alike _ _ (rebuilt-alike last ks r p.rows q.rows h.parts.rows
+      (staged-among inserts_rows ts p.rows.items own.rows)) (self-le _) (self-le _)
+      (rebuilt-step last ks r p.rows q.rows h.parts.rows (staged-among inserts_rows ts p.rows.items own.rows)) in
       let p2 = record p1 { rows = rebuilt_list ks p.rows } in
       let q2 = record q1 { rows = rebuilt_list ks q.rows } in
-      let cols = cols-step last last (self-le last) p2 q2 rows.alike _ _ (rebuilt-alike last ks r p.cols q.cols h.parts.cols (staged-among inserts_cols ts p.cols.items own.cols)) (self-le _) (self-le _) (rebuilt-step last ks r p.cols q.cols h.parts.cols (staged-among inserts_cols ts p.cols.items own.cols)) in
+      let cols = cols-step last last (self-le last) p2 q2 rows.alike _ _ (rebuilt-alike last ks r p.cols q.cols h.parts.cols
+      (staged-among inserts_cols ts p.cols.items own.cols)) (self-le _) (self-le _)
+      (rebuilt-step last ks r p.cols q.cols h.parts.cols (staged-among inserts_cols ts p.cols.items own.cols)) in
       record { alike = cols.alike; names = record { text = λ a b s. text.names.text a b s; rows = λ a b s. rows.names.rows a b s; cols = λ a b s. cols.names.cols a b s } }
 
 -- the lists have the elements of the stages that go on
-pub resubmitted-own : (last conn n : ℕ) (es : List PendingEdit) (p q : Document) → DocsAlike last p q → RiseTo 0 last (flat_map (λ (e : PendingEdit). e.stages) es) → HasItsStages (flat_map (λ (e : PendingEdit). e.stages) es) p
-    → HasItsStages (flat_map (λ (e : PendingEdit). e.stages) (resubmitted_edits p conn n es)) (rebuilt_document (map (λ (t : Stage). t.stage) (flat_map (λ (e : PendingEdit). e.stages) es)) p)
+pub resubmitted-own : (last conn n : ℕ) (es : List PendingEdit) (p q : Document) → DocsAlike last p q
+    → RiseTo 0 last (flat_map (λ (e : PendingEdit). e.stages) es) → HasItsStages (flat_map (λ (e : PendingEdit). e.stages) es) p
+    → HasItsStages (flat_map (λ (e : PendingEdit). e.stages) (resubmitted_edits p conn n es))
+    (rebuilt_document (map (λ (t : Stage). t.stage) (flat_map (λ (e : PendingEdit). e.stages) es)) p)
 resubmitted-own last conn n es p q h rise own =
     let ts = flat_map (λ (e : PendingEdit). e.stages) es in
     let ks = map (λ (t : Stage). t.stage) ts in
     let r = rises-to 0 last ts rise in
     record {
-      text = λ k g. stages-rebuilt last ks r p.text h.parts.text.left (staged-among inserts_text ts p.text.items own.text) k ∙ own.text k (sym (resubmitted-here inserts_text text-pieces k p conn n es) ∙ g);
-      rows = λ k g. stages-rebuilt last ks r p.rows h.parts.rows.left (staged-among inserts_rows ts p.rows.items own.rows) k ∙ own.rows k (sym (resubmitted-here inserts_rows rows-pieces k p conn n es) ∙ g);
-      cols = λ k g. stages-rebuilt last ks r p.cols h.parts.cols.left (staged-among inserts_cols ts p.cols.items own.cols) k ∙ own.cols k (sym (resubmitted-here inserts_cols cols-pieces k p conn n es) ∙ g);
+      text = λ k g. stages-rebuilt last ks r p.text h.parts.text.left (staged-among inserts_text ts p.text.items own.text) k
+          ∙ own.text k (sym (resubmitted-here inserts_text text-pieces k p conn n es) ∙ g);
+      rows = λ k g. stages-rebuilt last ks r p.rows h.parts.rows.left (staged-among inserts_rows ts p.rows.items own.rows) k
+          ∙ own.rows k (sym (resubmitted-here inserts_rows rows-pieces k p conn n es) ∙ g);
+      cols = λ k g. stages-rebuilt last ks r p.cols h.parts.cols.left (staged-among inserts_cols ts p.cols.items own.cols) k
+          ∙ own.cols k (sym (resubmitted-here inserts_cols cols-pieces k p conn n es) ∙ g);
     }

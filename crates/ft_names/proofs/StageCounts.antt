@@ -38,9 +38,11 @@ choice before true p q f g = f
 choice before false p q f g = g
 
 module _ (s c r : ℕ) where
-  inserted : (p : ℕ) (by : Option Stamp) (props : PropertyList) (bs : List ElementContent) (list : Sequence) (k : ℕ) → len (is_inserted_by k) (after_insertion s c r p by props bs list).items ≡ len (is_inserted_by k) list.items
+  inserted : (p : ℕ) (by : Option Stamp) (props : PropertyList) (bs : List ElementContent) (list : Sequence) (k : ℕ)
+      → len (is_inserted_by k) (after_insertion s c r p by props bs list).items ≡ len (is_inserted_by k) list.items
   inserted p by props bs list k =
-      len-put-add (is_inserted_by k) (seen_by r c) is_pending p (new_elements list.made (Acked s c) [] by props bs) list.items ∙ ap (λ n. n + len (is_inserted_by k) list.items) (new-stage by props (Acked s c) k refl list.made bs)
+      len-put-add (is_inserted_by k) (seen_by r c) is_pending p (new_elements list.made (Acked s c) [] by props bs) list.items
+      ∙ ap (λ n. n + len (is_inserted_by k) list.items) (new-stage by props (Acked s c) k refl list.made bs)
       ∙ zero (len (is_inserted_by k) list.items)
     where
       zero : (n : ℕ) → 0 + n ≡ n
@@ -50,15 +52,30 @@ module _ (s c r : ℕ) where
   removed p q list k = len-range (is_inserted_by k) (seen_by r c) (with_removal s c) (λ e. refl) p q 0 list.items
 
   effect-stages : (doc : Document) (o : SubOperation) → SameStages doc (effect doc s c r o)
-  effect-stages doc (OnText (Insert p seg props)) = choice doc (nat_le p (len (seen_by r c) doc.text.items)) _ _ (record { text = λ k. inserted p (Some (Acked s c)) (apply [] props) (segment_contents seg) doc.text k; rows = λ k. refl; cols = λ k. refl }) (record { text = λ k. refl; rows = λ k. refl; cols = λ k. refl })
-  effect-stages doc (OnText (Remove p q)) = choice doc (nat_le q (len (seen_by r c) doc.text.items)) _ _ (record { text = λ k. removed p q doc.text k; rows = λ k. refl; cols = λ k. refl }) (record { text = λ k. refl; rows = λ k. refl; cols = λ k. refl })
+  effect-stages doc (OnText (Insert p seg props)) = choice doc (nat_le p (len (seen_by r c) doc.text.items)) _ _
+      (record { text = λ k. inserted p (Some (Acked s c)) (apply [] props) (segment_contents seg) doc.text k; rows = λ k. refl; cols = λ k. refl })
+      (record { text = λ k. refl; rows = λ k. refl; cols = λ k. refl })
+  effect-stages doc (OnText (Remove p q)) = choice doc (nat_le q (len (seen_by r c) doc.text.items)) _ _
+      (record { text = λ k. removed p q doc.text k; rows = λ k. refl; cols = λ k. refl }) (record { text = λ k. refl; rows = λ k. refl; cols = λ k. refl })
   effect-stages doc (OnText (Annotate p q changes)) =
-      choice doc (nat_le q (len (seen_by r c) doc.text.items)) _ _ (record { text = λ k. len-range (is_inserted_by k) (seen_by r c) (with_annotation changes) (λ e. refl) p q 0 doc.text.items; rows = λ k. refl; cols = λ k. refl }) (record { text = λ k. refl; rows = λ k. refl; cols = λ k. refl })
-  effect-stages doc (OnIntervals op) = choice doc (given_ends_fit (len (seen_by r c) doc.text.items) (ends_of op)) _ _ (record { text = λ k. refl; rows = λ k. refl; cols = λ k. refl }) (record { text = λ k. refl; rows = λ k. refl; cols = λ k. refl })
-  effect-stages doc (OnGrid (SpliceIn Rows p count)) = choice doc (nat_le p (len (seen_by r c) doc.rows.items)) _ _ (record { text = λ k. refl; rows = λ k. inserted p None [] (replicate count GridUnit) doc.rows k; cols = λ k. refl }) (record { text = λ k. refl; rows = λ k. refl; cols = λ k. refl })
-  effect-stages doc (OnGrid (SpliceIn Cols p count)) = choice doc (nat_le p (len (seen_by r c) doc.cols.items)) _ _ (record { text = λ k. refl; rows = λ k. refl; cols = λ k. inserted p None [] (replicate count GridUnit) doc.cols k }) (record { text = λ k. refl; rows = λ k. refl; cols = λ k. refl })
-  effect-stages doc (OnGrid (SpliceOut Rows p q)) = choice doc (nat_le q (len (seen_by r c) doc.rows.items)) _ _ (record { text = λ k. refl; rows = λ k. removed p q doc.rows k; cols = λ k. refl }) (record { text = λ k. refl; rows = λ k. refl; cols = λ k. refl })
-  effect-stages doc (OnGrid (SpliceOut Cols p q)) = choice doc (nat_le q (len (seen_by r c) doc.cols.items)) _ _ (record { text = λ k. refl; rows = λ k. refl; cols = λ k. removed p q doc.cols k }) (record { text = λ k. refl; rows = λ k. refl; cols = λ k. refl })
+      choice doc (nat_le q (len (seen_by r c) doc.text.items)) _ _ (record {
+        text = λ k. len-range (is_inserted_by k) (seen_by r c) (with_annotation changes)
+            (λ e. refl) p q 0 doc.text.items;
+        rows = λ k. refl;
+        cols = λ k. refl;
+      }) (record { text = λ k. refl; rows = λ k. refl; cols = λ k. refl })
+  effect-stages doc (OnIntervals op) = choice doc (given_ends_fit (len (seen_by r c) doc.text.items) (ends_of op)) _ _
+      (record { text = λ k. refl; rows = λ k. refl; cols = λ k. refl }) (record { text = λ k. refl; rows = λ k. refl; cols = λ k. refl })
+  effect-stages doc (OnGrid (SpliceIn Rows p count)) = choice doc (nat_le p (len (seen_by r c) doc.rows.items)) _ _
+      (record { text = λ k. refl; rows = λ k. inserted p None [] (replicate count GridUnit) doc.rows k; cols = λ k. refl })
+      (record { text = λ k. refl; rows = λ k. refl; cols = λ k. refl })
+  effect-stages doc (OnGrid (SpliceIn Cols p count)) = choice doc (nat_le p (len (seen_by r c) doc.cols.items)) _ _
+      (record { text = λ k. refl; rows = λ k. refl; cols = λ k. inserted p None [] (replicate count GridUnit) doc.cols k })
+      (record { text = λ k. refl; rows = λ k. refl; cols = λ k. refl })
+  effect-stages doc (OnGrid (SpliceOut Rows p q)) = choice doc (nat_le q (len (seen_by r c) doc.rows.items)) _ _
+      (record { text = λ k. refl; rows = λ k. removed p q doc.rows k; cols = λ k. refl }) (record { text = λ k. refl; rows = λ k. refl; cols = λ k. refl })
+  effect-stages doc (OnGrid (SpliceOut Cols p q)) = choice doc (nat_le q (len (seen_by r c) doc.cols.items)) _ _
+      (record { text = λ k. refl; rows = λ k. refl; cols = λ k. removed p q doc.cols k }) (record { text = λ k. refl; rows = λ k. refl; cols = λ k. refl })
   effect-stages doc (OnGrid (Set i j value)) = cell _ _
     where
       cell : (o p : Option ListElement) → SameStages doc (cell_effect doc o p value)

@@ -42,7 +42,8 @@ none-mapped f g [] fs e h = refl
 none-mapped f g (a ∷ es) [] e h = (cc)
 none-mapped f g (a ∷ es) (b ∷ fs) e h = (cc)
 
-restart-beside : (p q y : NaiveClient) → DifferInNames p q → (b : Bool) → is_without_edits q ≡ b → cond b (Some (client_over q.doc)) None ≡ Some y → TakesBeside (after_step p Restarts) y
+restart-beside : (p q y : NaiveClient) → DifferInNames p q → (b : Bool) → is_without_edits q ≡ b → cond b (Some (client_over q.doc)) None ≡ Some y
+    → TakesBeside (after_step p Restarts) y
 restart-beside p q y d false f e = (cc)
 restart-beside p q y d true f e =
     let none : is_without_edits p ≡ true = none-mapped (indexed_edit p.doc) (indexed_edit q.doc) p.pending q.pending (ap (λ (c : IndexedClient). c.pending) d.same) f in
@@ -66,7 +67,8 @@ abbrev ShowsSoFrom : NaiveClient → List ClientStep → NaiveClient → Type 0
 ShowsSoFrom p further z = (v : NaiveClient) × (after_steps (Some p) further ≡ Some v) × (content v ≡ content z)
 
 -- p differs in names alone from w, which keeps the whole client x
-goes-on : (before further : List ClientStep) (p w x z : NaiveClient) → IsSoundRun before x → DifferInNames p w → IsCompacted w x → after_steps (Some x) further ≡ Some z → list_all has_fitting_body (taken_entries further) ≡ true → ShowsSoFrom p further z
+goes-on : (before further : List ClientStep) (p w x z : NaiveClient) → IsSoundRun before x → DifferInNames p w → IsCompacted w x → after_steps (Some x) further
+    ≡ Some z → list_all has_fitting_body (taken_entries further) ≡ true → ShowsSoFrom p further z
 goes-on before [] p w x z run d k h fits =
     let same : x ≡ z = (cc) in
     let here : content p ≡ content w = (views-of p w d).content in
@@ -82,8 +84,10 @@ goes-on before (step ∷ further) p w x z run d k h fits =
     let rest = goes-on (before ++ (step ∷ [])) further b.0 t.0 y z (record { start = run.start; run = run-next before step x y run e f.0 }) b.1.1 t.1.1 g f.1 in
     (rest.0, ap (λ o. after_steps o further) b.1.0 ∙ rest.1, rest.2)) h
 
-pub summary-start-shows : (steps : List ClientStep) (x : NaiveClient) → IsSoundRun steps x → is_without_edits x ≡ true → (sum : SumDoc) → IsValidSummary sum → GivesDocument sum x.doc
-    → (further : List ClientStep) (z : NaiveClient) → after_steps (Some (client_over x.doc)) further ≡ Some z → list_all has_fitting_body (taken_entries further) ≡ true → ShowsSoFrom (client_over (doc_of sum)) further z
+pub summary-start-shows : (steps : List ClientStep) (x : NaiveClient) → IsSoundRun steps x → is_without_edits x ≡ true → (sum : SumDoc) → IsValidSummary sum
+    → GivesDocument sum x.doc
+    → (further : List ClientStep) (z : NaiveClient) → after_steps (Some (client_over x.doc)) further ≡ Some z
+    → list_all has_fitting_body (taken_entries further) ≡ true → ShowsSoFrom (client_over (doc_of sum)) further z
 summary-start-shows steps x run none sum valid gives further z h fits =
     let next = run-next steps Restarts x (client_over x.doc) run (ap (λ b. cond b (Some (client_over x.doc)) None) none) refl in
     let keeps = starts-from-summary steps x run none in
@@ -93,7 +97,8 @@ summary-start-shows steps x run none sum valid gives further z h fits =
       right = kept-named (client_over x.doc) (client_over (trim x.doc)) whole keeps;
       same = ap over gives;
     } in
-    goes-on (steps ++ (Restarts ∷ [])) further (client_over (doc_of sum)) (client_over (trim x.doc)) (client_over x.doc) z (record { start = run.start; run = next }) differ keeps h fits
+    goes-on (steps ++ (Restarts ∷ [])) further (client_over (doc_of sum)) (client_over (trim x.doc)) (client_over x.doc) z
+    (record { start = run.start; run = next }) differ keeps h fits
   where
     over : IndexedDocument → IndexedClient
     over d = record { doc = d; link = (client_over (doc_of sum)).link; conns = []; last_stage = 0; next_client_seq = 1; queue = []; pending = [] }

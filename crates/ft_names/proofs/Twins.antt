@@ -90,13 +90,15 @@ pub record AreTwins (xs ys : List ListElement) (x y : ListElement) : Type 0 wher
 -- the names of two elements at the same place stand at the same places
 pub places-alike : {xs ys : List ListElement} → Once xs → Once ys → BesideList IsTwin xs ys → BesideList (AreTwins xs ys) xs ys
 places-alike g h ends = ends
-places-alike g h (next {x = x} {y = y} {xs = xs} {ys = ys} t ts) = next (record { twin = t; stand = here }) (beside-more more (places-alike (once-tail x xs g) (once-tail y ys h) ts))
+places-alike g h (next {x = x} {y = y} {xs = xs} {ys = ys} t ts) = next (record { twin = t; stand = here })
+    (beside-more more (places-alike (once-tail x xs g) (once-tail y ys h) ts))
   where
     here : StandAlike (x ∷ xs) (y ∷ ys) (id x) (id y)
     here = record {
       there = one-more (has_id (id x) x) (len (has_id (id x)) xs) (same_id-refl (id x));
       twins = next (t, same_id-refl (id x) ∙ sym (same_id-refl (id y)))
-          (absent-twins (id x) (id y) (only-here (has_id (id x) x) (len (has_id (id x)) xs) (g (id x)) (same_id-refl (id x))) (only-here (has_id (id y) y) (len (has_id (id y)) ys) (h (id y)) (same_id-refl (id y))) ts);
+          (absent-twins (id x) (id y) (only-here (has_id (id x) x) (len (has_id (id x)) xs) (g (id x)) (same_id-refl (id x)))
+          (only-here (has_id (id y) y) (len (has_id (id y)) ys) (h (id y)) (same_id-refl (id y))) ts);
     }
 
     more : (u v : ListElement) → AreTwins xs ys u v → AreTwins (x ∷ xs) (y ∷ ys) u v
@@ -104,16 +106,22 @@ places-alike g h (next {x = x} {y = y} {xs = xs} {ys = ys} t ts) = next (record 
       twin = s.twin;
       stand = record {
         there = some-more (has_id (id u) x) (len (has_id (id u)) xs) s.stand.there;
-        twins = next (t, only-there (has_id (id u) x) (len (has_id (id u)) xs) (g (id u)) s.stand.there ∙ sym (only-there (has_id (id v) y) (len (has_id (id v)) ys) (h (id v)) (there-other s.stand))) s.stand.twins;
+        twins = next (
+          t,
+          only-there (has_id (id u) x) (len (has_id (id u)) xs) (g (id u)) s.stand.there
+              ∙ sym (only-there (has_id (id v) y) (len (has_id (id v)) ys) (h (id v)) (there-other s.stand)),
+        ) s.stand.twins;
       };
     }
 
 -- the same places say so
-pub from-rank : (a b : ElementId) {xs ys : List ListElement} → Once xs → Once ys → BesideList IsTwin xs ys → rank (has_id a) (λ _. true) xs ≡ rank (has_id b) (λ _. true) ys → BesideList (IsTwinNamed a b) xs ys
+pub from-rank : (a b : ElementId) {xs ys : List ListElement} → Once xs → Once ys → BesideList IsTwin xs ys → rank (has_id a) (λ _. true) xs
+    ≡ rank (has_id b) (λ _. true) ys → BesideList (IsTwinNamed a b) xs ys
 from-rank a b g h ends r = ends
 from-rank a b g h (next {x = x} {y = y} {xs = xs} {ys = ys} t ts) r = step (has_id a x) (has_id b y) refl refl r (λ q. from-rank a b (once-tail x xs g) (once-tail y ys h) ts q)
   where
-    step : (i j : Bool) → has_id a x ≡ i → has_id b y ≡ j → cond i 0 (suc (rank (has_id a) (λ _. true) xs)) ≡ cond j 0 (suc (rank (has_id b) (λ _. true) ys)) → (rank (has_id a) (λ _. true) xs ≡ rank (has_id b) (λ _. true) ys → BesideList (IsTwinNamed a b) xs ys) → BesideList (IsTwinNamed a b) (x ∷ xs) (y ∷ ys)
+    step : (i j : Bool) → has_id a x ≡ i → has_id b y ≡ j → cond i 0 (suc (rank (has_id a) (λ _. true) xs)) ≡ cond j 0 (suc (rank (has_id b) (λ _. true) ys))
+        → (rank (has_id a) (λ _. true) xs ≡ rank (has_id b) (λ _. true) ys → BesideList (IsTwinNamed a b) xs ys) → BesideList (IsTwinNamed a b) (x ∷ xs) (y ∷ ys)
     step true true e f q ih = next (t, e ∙ sym f) (absent-twins a b (only-here (has_id a x) (len (has_id a) xs) (g a) e) (only-here (has_id b y) (len (has_id b) ys) (h b) f) ts)
     step false false e f q ih = next (t, e ∙ sym f) (ih (omega arith))
     step true false e f q ih = absurd (omega arith)
@@ -136,7 +144,8 @@ ends-beside detached = loose
 ends-beside (on s) = at_names s.twins
 
 -- the names of two elements, if there are two
-pub named-both : {xs ys : List ListElement} {R : ListElement → ListElement → Type 0} → ((x y : ListElement) → R x y → StandAlike xs ys (id x) (id y)) → {o p : Option ListElement} → Both ListElement ListElement R o p → EndsAlike xs ys (option_map id o) (option_map id p)
+pub named-both : {xs ys : List ListElement} {R : ListElement → ListElement → Type 0} → ((x y : ListElement) → R x y → StandAlike xs ys (id x) (id y))
+    → {o p : Option ListElement} → Both ListElement ListElement R o p → EndsAlike xs ys (option_map id o) (option_map id p)
 named-both f neither = detached
 named-both f (each {x = x} {y = y} r) = on (f x y r)
 
@@ -144,7 +153,8 @@ module _ {xs ys : List ListElement} (places : BesideList (AreTwins xs ys) xs ys)
   pub named-places : (a b : ElementId) → BesideList (IsTwinNamed a b) xs ys → BesideList (λ x y. AreTwins xs ys x y × IsTwinNamed a b x y) xs ys
   named-places a b h = beside-both places h
 
-  pub element-alike : (test : ListElement → Bool) → ((x y : ListElement) → IsTwin x y → test x ≡ test y) → (i : ℕ) → EndsAlike xs ys (option_map id (at test i xs)) (option_map id (at test i ys))
+  pub element-alike : (test : ListElement → Bool) → ((x y : ListElement) → IsTwin x y → test x ≡ test y) → (i : ℕ)
+      → EndsAlike xs ys (option_map id (at test i xs)) (option_map id (at test i ys))
   element-alike test h i = named-both (λ x y q. q.0.stand) (both-at test test (λ x y q. h x y q.twin) i places)
 
   pub settle-alike : (k : ℕ) {o p : Option ElementId} → EndsBeside xs ys o p → EndsAlike xs ys (settle xs k o) (settle ys k p)
@@ -158,7 +168,8 @@ module _ {xs ys : List ListElement} (places : BesideList (AreTwins xs ys) xs ys)
   pub slide-alike : {o p : Option ElementId} → EndsBeside xs ys o p → EndsAlike xs ys (slide xs o) (slide ys p)
   slide-alike loose = detached
   slide-alike (at_names {a = a} {b = b} h) =
-      named-both (λ x y q. q.0.0.stand) (both-settled (λ e. is_sequenced e && has_id a e) (λ e. is_sequenced e && has_id b e) (λ x y q. same-meant a b x y q) is_unremoved is_unremoved (λ x y q. twin-unremoved x y q.0.twin) (named-places a b h) neither)
+      named-both (λ x y q. q.0.0.stand) (both-settled (λ e. is_sequenced e && has_id a e) (λ e. is_sequenced e && has_id b e) (λ x y q. same-meant a b x y q)
+      is_unremoved is_unremoved (λ x y q. twin-unremoved x y q.0.twin) (named-places a b h) neither)
 
 pub end_number-alike : (k : ℕ) {xs ys : List ListElement} {o p : Option ElementId} → EndsBeside xs ys o p → end_number k xs o ≡ end_number k ys p
 end_number-alike k loose = refl
@@ -183,7 +194,8 @@ annotated_runs-alike k t = runs-alike 0 (seen (k - 1)) (is_annotated_by k) (λ x
 pub position-alike : (k : ℕ) {xs ys : List ListElement} → BesideList IsTwin xs ys → stage_position k xs ≡ stage_position k ys
 position-alike k t = beside-rank (is_inserted_by k) (is_inserted_by k) (λ x y q. twin-inserted k x y q) (seen (k - 1)) (seen (k - 1)) (λ x y q. twin-seen (k - 1) x y q) t
 
-pub len-alike : (test : ListElement → Bool) → ((x y : ListElement) → IsTwin x y → test x ≡ test y) → {xs ys : List ListElement} → BesideList IsTwin xs ys → len test xs ≡ len test ys
+pub len-alike : (test : ListElement → Bool) → ((x y : ListElement) → IsTwin x y → test x ≡ test y) → {xs ys : List ListElement} → BesideList IsTwin xs ys
+    → len test xs ≡ len test ys
 len-alike test h t = beside-len test test h t
 
 -- ---- relations of twins by their names

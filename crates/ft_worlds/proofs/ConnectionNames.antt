@@ -91,7 +91,8 @@ each-placed P d (c ∷ cs) p h = (by (is_client d.name c), each-placed P d cs p 
     by false = h.0
 
 -- a client changes, and has no fewer connections
-pub named-placed : (count : ℕ) (clients : List NamedClient) (guests : List NamedGuest) (names : List Characters) (c d : NamedClient) → IsFound clients c → d.name ≡ c.name → c.connects ≤ d.connects → d.connects ≤ count
+pub named-placed : (count : ℕ) (clients : List NamedClient) (guests : List NamedGuest) (names : List Characters) (c d : NamedClient) → IsFound clients c
+    → d.name ≡ c.name → c.connects ≤ d.connects → d.connects ≤ count
     → IsNamed count clients guests names → IsNamed count (map (in_place d) clients) guests names
 named-placed count clients guests names c d i same more l h = record {
   taken = each-weaker (IsTaken count clients guests) (IsTaken count (map (in_place d) clients) guests) (λ label t. again label t) names h.taken;
@@ -107,11 +108,21 @@ named-placed count clients guests names c d i same more l h = record {
       small = t.small;
       used = ap (λ b. b || list_any (is_guest t.owner) guests) (any-placed t.owner d clients) ∙ t.used;
       below = each-placed (λ a. is_client t.owner a ≡ true → t.k ≤ a.connects) d clients
-          (λ e. let b = (each-found (λ (a : NamedClient). is_client t.owner a ≡ true → t.k ≤ a.connects) (is_client i.name) clients c i.found t.below).0 (ap (bytes_eq t.owner) (sym same) ∙ e) in omega (arith, b, more)) t.below;
+          (λ e. let b = (each-found (λ (a : NamedClient). is_client t.owner a ≡ true → t.k ≤ a.connects) (is_client i.name) clients c i.found t.below).0
+          (ap (bytes_eq t.owner) (sym same) ∙ e) in omega (arith, b, more)) t.below;
     }
 
-widen : (count more : ℕ) (clients : List NamedClient) (guests : List NamedGuest) (label : Characters) → count ≤ more → IsTaken count clients guests label → IsTaken more clients guests label
-widen count more clients guests label l t = record { owner = t.owner; k = t.k; is = t.is; first = t.first; small = let s = t.small in omega (arith, s, l); used = t.used; below = t.below }
+widen : (count more : ℕ) (clients : List NamedClient) (guests : List NamedGuest) (label : Characters) → count ≤ more → IsTaken count clients guests label
+    → IsTaken more clients guests label
+widen count more clients guests label l t = record {
+  owner = t.owner;
+  k = t.k;
+  is = t.is;
+  first = t.first;
+  small = let s = t.small in omega (arith, s, l);
+  used = t.used;
+  below = t.below;
+}
 
 any-self : (name : Characters) (d : NamedClient) (cs : List NamedClient) → is_client name d ≡ true → list_any (is_client name) (cs ++ (d ∷ [])) ≡ true
 any-self name d [] h = ap (λ b. b || false) h
@@ -125,7 +136,8 @@ any-found : (name : Characters) (cs : List NamedClient) (c : NamedClient) → fi
 any-found name [] c h = (cc)
 any-found name (a ∷ cs) c h = by (λ g. any-found name cs c g) (is_client name a) h
   where
-    by : (find (is_client name) cs ≡ Some c → list_any (is_client name) cs ≡ true) → (b : Bool) → cond b (Some a) (find (is_client name) cs) ≡ Some c → b || list_any (is_client name) cs ≡ true
+    by : (find (is_client name) cs ≡ Some c → list_any (is_client name) cs ≡ true) → (b : Bool) → cond b (Some a) (find (is_client name) cs) ≡ Some c → b
+        || list_any (is_client name) cs ≡ true
     by ih true g = refl
     by ih false g = ih g
 
@@ -133,12 +145,14 @@ itself : (name : Characters) → bytes_eq name name ≡ true
 itself name = (bytes_eq-Decides name name).1 refl
 
 -- a client joins under its next connection
-pub named-connected : (count : ℕ) (clients : List NamedClient) (guests : List NamedGuest) (names : List Characters) (c d : NamedClient) → IsFound clients c → d.name ≡ c.name → d.connects ≡ c.connects + 1
+pub named-connected : (count : ℕ) (clients : List NamedClient) (guests : List NamedGuest) (names : List Characters) (c d : NamedClient) → IsFound clients c
+    → d.name ≡ c.name → d.connects ≡ c.connects + 1
     → IsNamed count clients guests names → IsNamed (count + 1) (map (in_place d) clients) guests (names ++ (connection_name c.name (c.connects + 1) ∷ []))
 named-connected count clients guests names c d i same next h =
     let old = (each-found (λ (a : NamedClient). a.connects ≤ count) (is_client i.name) clients c i.found h.counted).0 in
     let wide : IsNamed (count + 1) clients guests names = record {
-      taken = each-weaker (IsTaken count clients guests) (IsTaken (count + 1) clients guests) (λ label t. widen count (count + 1) clients guests label (omega arith) t) names h.taken;
+      taken = each-weaker (IsTaken count clients guests) (IsTaken (count + 1) clients guests)
+          (λ label t. widen count (count + 1) clients guests label (omega arith) t) names h.taken;
       counted = each-weaker (λ (a : NamedClient). a.connects ≤ count) (λ (a : NamedClient). a.connects ≤ count + 1) (λ a l. omega (arith, l)) clients h.counted;
     } in
     let placed = named-placed (count + 1) clients guests names c d i same (omega (arith, next)) (omega (arith, next, old)) wide in
@@ -170,7 +184,8 @@ named-connected count clients guests names c d i same next h =
     only (a ∷ cs) = (one a (is_client d.name a) refl, only cs)
 
 -- a client starts under a name that nobody has
-pub named-started : (count : ℕ) (clients : List NamedClient) (guests : List NamedGuest) (names : List Characters) (d : NamedClient) → d.connects ≡ 0 → IsUnused clients guests d.name → IsNamed count clients guests names
+pub named-started : (count : ℕ) (clients : List NamedClient) (guests : List NamedGuest) (names : List Characters) (d : NamedClient) → d.connects ≡ 0
+    → IsUnused clients guests d.name → IsNamed count clients guests names
     → IsNamed count (clients ++ (d ∷ [])) guests names
 named-started count clients guests names d none free h = record {
   taken = each-weaker (IsTaken count clients guests) (IsTaken count (clients ++ (d ∷ [])) guests) (λ label t. again label t) names h.taken;
@@ -186,7 +201,8 @@ named-started count clients guests names d none free h = record {
     front owner [] false h = (cc)
     front owner (a ∷ cs) false h = by (λ g. front owner cs false g) (is_client owner a) h
       where
-        by : (list_any (is_client owner) cs || false ≡ true → list_any (is_client owner) (cs ++ (d ∷ [])) || false ≡ true) → (b : Bool) → b || list_any (is_client owner) cs || false ≡ true
+        by : (list_any (is_client owner) cs || false ≡ true → list_any (is_client owner) (cs ++ (d ∷ [])) || false ≡ true) → (b : Bool) → b
+            || list_any (is_client owner) cs || false ≡ true
             → b || list_any (is_client owner) (cs ++ (d ∷ [])) || false ≡ true
         by ih true g = refl
         by ih false g = ih g
@@ -205,7 +221,8 @@ named-started count clients guests names d none free h = record {
     }
 
 -- a guest enters under a name that nobody has
-pub named-entered : (count : ℕ) (clients : List NamedClient) (guests : List NamedGuest) (names : List Characters) (g : NamedGuest) → IsUnused clients guests g.name → IsNamed count clients guests names
+pub named-entered : (count : ℕ) (clients : List NamedClient) (guests : List NamedGuest) (names : List Characters) (g : NamedGuest)
+    → IsUnused clients guests g.name → IsNamed count clients guests names
     → IsNamed (count + 1) clients (guests ++ (g ∷ [])) (names ++ (connection_name g.name 1 ∷ []))
 named-entered count clients guests names g free h = record {
   taken = each-more (IsTaken (count + 1) clients (guests ++ (g ∷ []))) names (connection_name g.name 1)
@@ -245,7 +262,8 @@ named-entered count clients guests names g free h = record {
     more owner [] h = (cc)
     more owner (x ∷ gs) h = by (λ e. more owner gs e) (is_guest owner x) h
       where
-        by : (list_any (is_guest owner) gs ≡ true → list_any (is_guest owner) (gs ++ (g ∷ [])) ≡ true) → (b : Bool) → b || list_any (is_guest owner) gs ≡ true → b || list_any (is_guest owner) (gs ++ (g ∷ [])) ≡ true
+        by : (list_any (is_guest owner) gs ≡ true → list_any (is_guest owner) (gs ++ (g ∷ [])) ≡ true) → (b : Bool) → b || list_any (is_guest owner) gs ≡ true
+            → b || list_any (is_guest owner) (gs ++ (g ∷ [])) ≡ true
         by ih true e = refl
         by ih false e = ih e
 
@@ -274,7 +292,8 @@ any-none label (n ∷ names) h = by (bytes_eq label n) refl (any-none label name
     by true e g = absurd (h.0 ((bytes_eq-Decides label n).0 e))
     by false e g = g
 
-pub next-is-new : (count : ℕ) (clients : List NamedClient) (guests : List NamedGuest) (names : List Characters) (c : NamedClient) → count + 1 < 2 ^ 64 → IsFound clients c → IsNamed count clients guests names
+pub next-is-new : (count : ℕ) (clients : List NamedClient) (guests : List NamedGuest) (names : List Characters) (c : NamedClient) → count + 1 < 2 ^ 64
+    → IsFound clients c → IsNamed count clients guests names
     → list_any (bytes_eq (connection_name c.name (c.connects + 1))) names ≡ false
 next-is-new count clients guests names c l i h =
     any-none (connection_name c.name (c.connects + 1)) names
@@ -285,11 +304,13 @@ next-is-new count clients guests names c l i h =
         let old = (each-found (λ (a : NamedClient). a.connects ≤ count) (is_client i.name) clients c i.found h.counted).0 in
         let s = t.small in
         let r = names-apart c.name t.owner (c.connects + 1) t.k (omega arith) t.first (omega (arith, old, l)) (omega (arith, s, l)) (e ∙ t.is) in
-        let below = (each-found (λ (a : NamedClient). is_client t.owner a ≡ true → t.k ≤ a.connects) (is_client i.name) clients c i.found t.below).0 (ap (λ o. bytes_eq o c.name) (sym r.0) ∙ itself c.name) in
+        let below = (each-found (λ (a : NamedClient). is_client t.owner a ≡ true → t.k ≤ a.connects) (is_client i.name) clients c i.found t.below).0
+        (ap (λ o. bytes_eq o c.name) (sym r.0) ∙ itself c.name) in
         let k = r.1 in
         absurd (omega (arith, below, k))
 
-pub guest-is-new : (count : ℕ) (clients : List NamedClient) (guests : List NamedGuest) (names : List Characters) (name : Characters) → count + 1 < 2 ^ 64 → IsUnused clients guests name → IsNamed count clients guests names
+pub guest-is-new : (count : ℕ) (clients : List NamedClient) (guests : List NamedGuest) (names : List Characters) (name : Characters) → count + 1 < 2 ^ 64
+    → IsUnused clients guests name → IsNamed count clients guests names
     → list_any (bytes_eq (connection_name name 1)) names ≡ false
 guest-is-new count clients guests names name l free h =
     any-none (connection_name name 1) names (each-weaker (IsTaken count clients guests) (λ n. connection_name name 1 ≡ n → ⊥) (λ n t e. no-more n t e) names h.taken)

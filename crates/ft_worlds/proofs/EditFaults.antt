@@ -75,8 +75,10 @@ set-fault doc k None col = refl
 set-fault doc k (Some row) None = refl
 
 grid-fault : (doc : Document) (k : ℕ) (op : CellOp) → IsFault (local_grid doc k op)
-grid-fault doc k (SpliceIn target p count) = choice (nat_le p (len (seen (k - 1)) (rows_or_cols target doc).items)) _ (OutOfRange (len (seen (k - 1)) (rows_or_cols target doc).items)) refl
-grid-fault doc k (SpliceOut target p q) = choice (nat_le q (len (seen (k - 1)) (rows_or_cols target doc).items)) _ (OutOfRange (len (seen (k - 1)) (rows_or_cols target doc).items)) refl
+grid-fault doc k (SpliceIn target p count) = choice (nat_le p (len (seen (k - 1)) (rows_or_cols target doc).items)) _
+    (OutOfRange (len (seen (k - 1)) (rows_or_cols target doc).items)) refl
+grid-fault doc k (SpliceOut target p q) = choice (nat_le q (len (seen (k - 1)) (rows_or_cols target doc).items)) _
+    (OutOfRange (len (seen (k - 1)) (rows_or_cols target doc).items)) refl
 grid-fault doc k (Set i j value) = set-fault doc k (at (seen (k - 1)) i doc.rows.items) (at (seen (k - 1)) j doc.cols.items)
 
 one-fault : (doc : Document) (stages : List Stage) (k : ℕ) (o : SubOperation) → IsFault (local_sub_operation doc stages k o)
@@ -95,7 +97,8 @@ first-is here (Ok rest) h = tt
 abbrev after_first : List Stage → ℕ → SubOperation → List SubOperation → EditResult → Result (Document × List Stage) EditFault
 after_first stages k o os (Err fault) = Err fault
 after_first stages k o os (Ok taken) =
-    with_first (record { stage = k; sub_operation = o; names = taken.1 }) (local_sub_operations taken.0 (stages ++ (record { stage = k; sub_operation = o; names = taken.1 } ∷ [])) (k + 1) os)
+    with_first (record { stage = k; sub_operation = o; names = taken.1 }) (local_sub_operations taken.0
+    (stages ++ (record { stage = k; sub_operation = o; names = taken.1 } ∷ [])) (k + 1) os)
 
 all-fault : (os : List SubOperation) (doc : Document) (stages : List Stage) (k : ℕ) → IsFault (local_sub_operations doc stages k os)
 all-fault [] doc stages k = tt
@@ -112,7 +115,8 @@ edited x op (Err fault) = Err fault
 edited x op (Ok taken) = Ok (after_edit op taken.0 taken.1 x)
 
 pub edit-fault : (x : NaiveClient) (op : ChannelOp) (fault : EditFault) → local_edit x op ≡ Err fault → is_edit_fault fault ≡ true
-edit-fault x op fault h = by (local_sub_operations x.doc (stages_of x) (x.last_stage + 1) (sub_operations op)) (all-fault (sub_operations op) x.doc (stages_of x) (x.last_stage + 1)) h
+edit-fault x op fault h = by (local_sub_operations x.doc (stages_of x) (x.last_stage + 1) (sub_operations op))
+    (all-fault (sub_operations op) x.doc (stages_of x) (x.last_stage + 1)) h
   where
     by : (r : Result (Document × List Stage) EditFault) → IsFault r → edited x op r ≡ Err fault → is_edit_fault fault ≡ true
     by (Err other) g e = let same : other ≡ fault = (cc) in ap is_edit_fault (sym same) ∙ g

@@ -104,13 +104,15 @@ pub distinct-carried : (h : ElementId → ElementId) (xs ys : List ListElement) 
 distinct-carried h [] ys c d = refl
 distinct-carried h (x ∷ xs) ys c d = by (λ us e f. distinct-carried h xs us e f) ys c d
   where
-    none : (y : ListElement) (us : List ListElement) → id y ≡ h (id x) → Carries h xs us → are_distinct (y ∷ us) ≡ true → (t : Bool) → list_any (has_id (id x)) xs ≡ t → not t ≡ true
+    none : (y : ListElement) (us : List ListElement) → id y ≡ h (id x) → Carries h xs us → are_distinct (y ∷ us) ≡ true → (t : Bool)
+        → list_any (has_id (id x)) xs ≡ t → not t ≡ true
     none y us e c f false g = refl
     none y us e c f true g =
         let there : list_any (has_id (id y)) us ≡ true = ap (λ a. list_any (has_id a) us) e ∙ any-carried h (id x) xs us c g in
         sym (ap not there) ∙ (both (not (list_any (has_id (id y)) us)) (are_distinct us) f).0
 
-    by : ((us : List ListElement) → Carries h xs us → are_distinct us ≡ true → are_distinct xs ≡ true) → (us : List ListElement) → Next (h (id x)) us (λ zs. Carries h xs zs) → are_distinct us ≡ true
+    by : ((us : List ListElement) → Carries h xs us → are_distinct us ≡ true → are_distinct xs ≡ true) → (us : List ListElement)
+        → Next (h (id x)) us (λ zs. Carries h xs zs) → are_distinct us ≡ true
         → not (list_any (has_id (id x)) xs) && are_distinct xs ≡ true
     by ih [] n f = absurd n
     by ih (u ∷ us) (inl e) f = rw (none u us e.0 e.1 f (list_any (has_id (id x)) xs) refl, ih us e.1 (distinct-tail u us f)) refl
@@ -120,7 +122,8 @@ ends-carried : (h : ElementId → ElementId) (xs ys : List ListElement) (names :
     → are_ends_in ys (renamed_names h names).first (renamed_names h names).second ≡ true
 ends-carried h xs ys names c t = by names.first names.second t
   where
-    by : (a b : Option ElementId) → are_ends_in xs a b ≡ true → are_ends_in ys (renamed_names h (record { first = a; second = b })).first (renamed_names h (record { first = a; second = b })).second ≡ true
+    by : (a b : Option ElementId) → are_ends_in xs a b ≡ true → are_ends_in ys (renamed_names h (record { first = a; second = b })).first
+        (renamed_names h (record { first = a; second = b })).second ≡ true
     by None None g = refl
     by (Some a) (Some b) g =
         let p = both (list_any (has_id a) xs) (list_any (has_id b) xs) g in
@@ -128,17 +131,20 @@ ends-carried h xs ys names c t = by names.first names.second t
     by None (Some b) g = (cc)
     by (Some a) None g = (cc)
 
-order-carried : (h : ElementId → ElementId) (xs ys : List ListElement) (names : NamedElements) → Carries h xs ys → are_distinct ys ≡ true → are_ends_in xs names.first names.second ≡ true → AreInOrder xs names.first names.second
+order-carried : (h : ElementId → ElementId) (xs ys : List ListElement) (names : NamedElements) → Carries h xs ys → are_distinct ys ≡ true
+    → are_ends_in xs names.first names.second ≡ true → AreInOrder xs names.first names.second
     → AreInOrder ys (renamed_names h names).first (renamed_names h names).second
 order-carried h xs ys names c d t o = by names.first names.second t o
   where
-    by : (a b : Option ElementId) → are_ends_in xs a b ≡ true → AreInOrder xs a b → AreInOrder ys (renamed_names h (record { first = a; second = b })).first (renamed_names h (record { first = a; second = b })).second
+    by : (a b : Option ElementId) → are_ends_in xs a b ≡ true → AreInOrder xs a b
+        → AreInOrder ys (renamed_names h (record { first = a; second = b })).first (renamed_names h (record { first = a; second = b })).second
     by None None g k = tt
     by (Some a) (Some b) g k = leads-carried h a b xs ys c d (both (list_any (has_id a) xs) (list_any (has_id b) xs) g).1 k
     by None (Some b) g k = tt
     by (Some a) None g k = tt
 
-pub stage-renamed : (h : ElementId → ElementId) (xs ys : List ListElement) → Carries h xs ys → are_distinct ys ≡ true → (t : Stage) → IsFormedStage xs t → IsFormedStage ys (renamed_stage h t)
+pub stage-renamed : (h : ElementId → ElementId) (xs ys : List ListElement) → Carries h xs ys → are_distinct ys ≡ true → (t : Stage) → IsFormedStage xs t
+    → IsFormedStage ys (renamed_stage h t)
 stage-renamed h xs ys c d t f = record { sub = f.sub; there = there t.sub_operation f.there; order = order t.sub_operation f.there f.order }
   where
     there : (o : SubOperation) → AreThereFor xs o t.names → AreThereFor ys o (renamed_names h t.names)
@@ -154,34 +160,49 @@ stage-renamed h xs ys c d t f = record { sub = f.sub; there = there t.sub_operat
 pub stage-moved : (xs ys : List ListElement) → Carries (λ a. a) xs ys → are_distinct ys ≡ true → (t : Stage) → IsFormedStage xs t → IsFormedStage ys t
 stage-moved xs ys c d t f = subst (λ names. IsFormedStage ys (record t { names = names })) (names-not_renamed t.names) (stage-renamed (λ a. a) xs ys c d t f)
 
-stages-renamed : (h : ElementId → ElementId) (xs ys : List ListElement) → Carries h xs ys → are_distinct ys ≡ true → (ts : List Stage) → Each (IsFormedStage xs) ts → Each (IsFormedStage ys) (map (renamed_stage h) ts)
+stages-renamed : (h : ElementId → ElementId) (xs ys : List ListElement) → Carries h xs ys → are_distinct ys ≡ true → (ts : List Stage)
+    → Each (IsFormedStage xs) ts → Each (IsFormedStage ys) (map (renamed_stage h) ts)
 stages-renamed h xs ys c d [] f = tt
 stages-renamed h xs ys c d (t ∷ ts) f = (stage-renamed h xs ys c d t f.0, stages-renamed h xs ys c d ts f.1)
 
-pub edits-renamed : (h : ElementId → ElementId) (xs ys : List ListElement) → Carries h xs ys → are_distinct ys ≡ true → (es : List PendingEdit) → Each (IsFormedEdit xs) es → Each (IsFormedEdit ys) (map (renamed_edit h) es)
+pub edits-renamed : (h : ElementId → ElementId) (xs ys : List ListElement) → Carries h xs ys → are_distinct ys ≡ true → (es : List PendingEdit)
+    → Each (IsFormedEdit xs) es → Each (IsFormedEdit ys) (map (renamed_edit h) es)
 edits-renamed h xs ys c d [] f = tt
 edits-renamed h xs ys c d (e ∷ es) f = (record { stages = stages-renamed h xs ys c d e.stages f.0.stages; sent = f.0.sent }, edits-renamed h xs ys c d es f.1)
 
 pub edits-moved : (xs ys : List ListElement) → Carries (λ a. a) xs ys → are_distinct ys ≡ true → (es : List PendingEdit) → Each (IsFormedEdit xs) es → Each (IsFormedEdit ys) es
 edits-moved xs ys c d es f =
-    each-weaker (IsFormedEdit xs) (IsFormedEdit ys) (λ e g. record { stages = each-weaker (IsFormedStage xs) (IsFormedStage ys) (λ t k. stage-moved xs ys c d t k) e.stages g.stages; sent = g.sent }) es f
+    each-weaker (IsFormedEdit xs) (IsFormedEdit ys) (λ e g. record {
+      stages = each-weaker (IsFormedStage xs) (IsFormedStage ys)
+          (λ t k. stage-moved xs ys c d t k) e.stages g.stages;
+      sent = g.sent;
+    }) es f
 
 -- ---- messages of others
 
-text-carried : (b : Bool) (doc p q : Document) → Carries (λ a. a) doc.text.items p.text.items → Carries (λ a. a) doc.text.items q.text.items → Carries (λ a. a) doc.text.items (cond b p q).text.items
+text-carried : (b : Bool) (doc p q : Document) → Carries (λ a. a) doc.text.items p.text.items → Carries (λ a. a) doc.text.items q.text.items
+    → Carries (λ a. a) doc.text.items (cond b p q).text.items
 text-carried true doc p q f g = f
 text-carried false doc p q f g = g
 
 module _ (s c r : ℕ) where
   effect-carries : (doc : Document) (o : SubOperation) → Carries (λ a. a) doc.text.items (effect doc s c r o).text.items
-  effect-carries doc (OnText (Insert p seg props)) = text-carried (nat_le p (len (seen_by r c) doc.text.items)) doc _ _ (carries-put (seen_by r c) _ p _ doc.text.items) (carries-itself doc.text.items)
-  effect-carries doc (OnText (Remove p q)) = text-carried (nat_le q (len (seen_by r c) doc.text.items)) doc _ _ (carries-range (seen_by r c) (with_removal s c) (λ e. refl) p q 0 doc.text.items) (carries-itself doc.text.items)
-  effect-carries doc (OnText (Annotate p q changes)) = text-carried (nat_le q (len (seen_by r c) doc.text.items)) doc _ _ (carries-range (seen_by r c) (with_annotation changes) (λ e. refl) p q 0 doc.text.items) (carries-itself doc.text.items)
-  effect-carries doc (OnIntervals op) = text-carried (given_ends_fit (len (seen_by r c) doc.text.items) (ends_of op)) doc _ _ (carries-itself doc.text.items) (carries-itself doc.text.items)
-  effect-carries doc (OnGrid (SpliceIn Rows p count)) = text-carried (nat_le p (len (seen_by r c) doc.rows.items)) doc _ _ (carries-itself doc.text.items) (carries-itself doc.text.items)
-  effect-carries doc (OnGrid (SpliceIn Cols p count)) = text-carried (nat_le p (len (seen_by r c) doc.cols.items)) doc _ _ (carries-itself doc.text.items) (carries-itself doc.text.items)
-  effect-carries doc (OnGrid (SpliceOut Rows p q)) = text-carried (nat_le q (len (seen_by r c) doc.rows.items)) doc _ _ (carries-itself doc.text.items) (carries-itself doc.text.items)
-  effect-carries doc (OnGrid (SpliceOut Cols p q)) = text-carried (nat_le q (len (seen_by r c) doc.cols.items)) doc _ _ (carries-itself doc.text.items) (carries-itself doc.text.items)
+  effect-carries doc (OnText (Insert p seg props)) = text-carried (nat_le p (len (seen_by r c) doc.text.items)) doc _ _
+      (carries-put (seen_by r c) _ p _ doc.text.items) (carries-itself doc.text.items)
+  effect-carries doc (OnText (Remove p q)) = text-carried (nat_le q (len (seen_by r c) doc.text.items)) doc _ _
+      (carries-range (seen_by r c) (with_removal s c) (λ e. refl) p q 0 doc.text.items) (carries-itself doc.text.items)
+  effect-carries doc (OnText (Annotate p q changes)) = text-carried (nat_le q (len (seen_by r c) doc.text.items)) doc _ _
+      (carries-range (seen_by r c) (with_annotation changes) (λ e. refl) p q 0 doc.text.items) (carries-itself doc.text.items)
+  effect-carries doc (OnIntervals op) = text-carried (given_ends_fit (len (seen_by r c) doc.text.items) (ends_of op)) doc _ _ (carries-itself doc.text.items)
+      (carries-itself doc.text.items)
+  effect-carries doc (OnGrid (SpliceIn Rows p count)) = text-carried (nat_le p (len (seen_by r c) doc.rows.items)) doc _ _ (carries-itself doc.text.items)
+      (carries-itself doc.text.items)
+  effect-carries doc (OnGrid (SpliceIn Cols p count)) = text-carried (nat_le p (len (seen_by r c) doc.cols.items)) doc _ _ (carries-itself doc.text.items)
+      (carries-itself doc.text.items)
+  effect-carries doc (OnGrid (SpliceOut Rows p q)) = text-carried (nat_le q (len (seen_by r c) doc.rows.items)) doc _ _ (carries-itself doc.text.items)
+      (carries-itself doc.text.items)
+  effect-carries doc (OnGrid (SpliceOut Cols p q)) = text-carried (nat_le q (len (seen_by r c) doc.cols.items)) doc _ _ (carries-itself doc.text.items)
+      (carries-itself doc.text.items)
   effect-carries doc (OnGrid (Set i j value)) = by (at (seen_by r c) i doc.rows.items) (at (seen_by r c) j doc.cols.items)
     where
       by : (o p : Option ListElement) → Carries (λ a. a) doc.text.items (cell_effect doc o p value).text.items
@@ -209,30 +230,42 @@ pub record IsOneTaken (doc : Document) (o : SubOperation) (taken : Document × N
   pub there : IsFormedSub o → are_distinct taken.0.text.items ≡ true → AreThereFor taken.0.text.items o taken.1
   pub order : IsFormedSub o → are_distinct taken.0.text.items ≡ true → AreOrderedFor taken.0.text.items o taken.1
 
-text-taken : (doc after : Document) (op : BaseOp) (p n : ℕ) (taken : Document × NamedElements) → Carries (λ a. a) doc.text.items after.text.items → cond (nat_le p n) (Ok (after, no_elements)) (Err (OutOfRange n)) ≡ Ok taken → IsOneTaken doc (OnText op) taken
+text-taken : (doc after : Document) (op : BaseOp) (p n : ℕ) (taken : Document × NamedElements) → Carries (λ a. a) doc.text.items after.text.items
+    → cond (nat_le p n) (Ok (after, no_elements)) (Err (OutOfRange n)) ≡ Ok taken → IsOneTaken doc (OnText op) taken
 text-taken doc after op p n taken c h =
     let same = (ok-choice (nat_le p n) (after, no_elements) taken (OutOfRange n) h).1 in
     record { carries = subst (λ (z : Document × NamedElements). Carries (λ a. a) doc.text.items z.0.text.items) same c; there = λ f d. tt; order = λ f d. tt }
 
 local-text-taken : (doc : Document) (k : ℕ) (op : BaseOp) (taken : Document × NamedElements) → local_text doc k op ≡ Ok taken → IsOneTaken doc (OnText op) taken
-local-text-taken doc k (Insert p seg props) taken h = text-taken doc _ (Insert p seg props) p (len (seen (k - 1)) doc.text.items) taken (carries-put (seen (k - 1)) no_run p _ doc.text.items) h
-local-text-taken doc k (Remove p q) taken h = text-taken doc _ (Remove p q) q (len (seen (k - 1)) doc.text.items) taken (carries-range (seen (k - 1)) (with_pending_removal k) (λ e. refl) p q 0 doc.text.items) h
-local-text-taken doc k (Annotate p q changes) taken h = text-taken doc _ (Annotate p q changes) q (len (seen (k - 1)) doc.text.items) taken (carries-range (seen (k - 1)) (with_pending_annotation k changes) (λ e. refl) p q 0 doc.text.items) h
+local-text-taken doc k (Insert p seg props) taken h = text-taken doc _ (Insert p seg props) p (len (seen (k - 1)) doc.text.items) taken
+    (carries-put (seen (k - 1)) no_run p _ doc.text.items) h
+local-text-taken doc k (Remove p q) taken h = text-taken doc _ (Remove p q) q (len (seen (k - 1)) doc.text.items) taken
+    (carries-range (seen (k - 1)) (with_pending_removal k) (λ e. refl) p q 0 doc.text.items) h
+local-text-taken doc k (Annotate p q changes) taken h = text-taken doc _ (Annotate p q changes) q (len (seen (k - 1)) doc.text.items) taken
+    (carries-range (seen (k - 1)) (with_pending_annotation k changes) (λ e. refl) p q 0 doc.text.items) h
 
-grid-taken : (doc after : Document) (op : CellOp) (p n : ℕ) (taken : Document × NamedElements) → after.text ≡ doc.text → cond (nat_le p n) (Ok (after, no_elements)) (Err (OutOfRange n)) ≡ Ok taken → IsOneTaken doc (OnGrid op) taken
+grid-taken : (doc after : Document) (op : CellOp) (p n : ℕ) (taken : Document × NamedElements) → after.text ≡ doc.text
+    → cond (nat_le p n) (Ok (after, no_elements)) (Err (OutOfRange n)) ≡ Ok taken → IsOneTaken doc (OnGrid op) taken
 grid-taken doc after op p n taken e h =
     let same = (ok-choice (nat_le p n) (after, no_elements) taken (OutOfRange n) h).1 in
     record {
-      carries = subst (λ (z : Document × NamedElements). Carries (λ a. a) doc.text.items z.0.text.items) same (subst (λ (l : Sequence). Carries (λ a. a) doc.text.items l.items) (sym e) (carries-itself doc.text.items));
+      carries = subst (λ (z : Document × NamedElements). Carries (λ a. a) doc.text.items z.0.text.items) same
+          (subst (λ (l : Sequence). Carries (λ a. a) doc.text.items l.items) (sym e) (carries-itself doc.text.items));
       there = λ f d. tt;
       order = λ f d. tt;
     }
 
-set-taken : (doc : Document) (k i j : ℕ) (value : List ℕ) (row col : Option ListElement) (taken : Document × NamedElements) → local_set doc k row col ≡ Ok taken → IsOneTaken doc (OnGrid (Set i j value)) taken
+set-taken : (doc : Document) (k i j : ℕ) (value : List ℕ) (row col : Option ListElement) (taken : Document × NamedElements) → local_set doc k row col
+    ≡ Ok taken → IsOneTaken doc (OnGrid (Set i j value)) taken
 set-taken doc k i j value (Some row) (Some col) taken h =
     let names : NamedElements = record { first = Some (id row); second = Some (id col) } in
     let same : (doc, names) ≡ taken = (cc) in
-    record { carries = subst (λ (z : Document × NamedElements). Carries (λ a. a) doc.text.items z.0.text.items) same (carries-itself doc.text.items); there = λ f d. tt; order = λ f d. tt }
+    record {
+      carries = subst (λ (z : Document × NamedElements). Carries (λ a. a) doc.text.items z.0.text.items) same (carries-itself doc.text.items);
+      there =
+          λ f d. tt;
+      order = λ f d. tt;
+    }
 set-taken doc k i j value None col taken h = (cc)
 set-taken doc k i j value (Some row) None taken h = (cc)
 
@@ -251,13 +284,15 @@ places-ordered test xs p q l g d = by (at test p xs) (at test q xs) refl refl
     low : nat_lt q (len test xs) ≡ true → q < len test xs
     low k = grind (arith, nat_tests)
 
-    by : (o u : Option ListElement) → at test p xs ≡ o → at test q xs ≡ u → (are_ends_in xs (option_map id o) (option_map id u) ≡ true) × AreInOrder xs (option_map id o) (option_map id u)
+    by : (o u : Option ListElement) → at test p xs ≡ o → at test q xs ≡ u → (are_ends_in xs (option_map id o) (option_map id u) ≡ true)
+        × AreInOrder xs (option_map id o) (option_map id u)
     by (Some a) (Some b) e f = (rw (at-named test p xs a e, at-named test q xs b f) refl, at-leads test p q xs a b l d e f)
     by None u e f = let a = at-above test p xs e in let b = low g in absurd (omega (arith, a, b, l))
     by (Some a) None e f = let b = low g in let c = at-above test q xs f in absurd (omega (arith, b, c))
 
 ends-ordered : (test : ListElement → Bool) (xs : List ListElement) (ends : Ends) → IsWellFormedEnds ends → given_ends_fit (len test xs) (Some ends) ≡ true → are_distinct xs ≡ true
-    → (are_ends_in xs (elements_at_ends test xs ends).first (elements_at_ends test xs ends).second ≡ true) × AreInOrder xs (elements_at_ends test xs ends).first (elements_at_ends test xs ends).second
+    → (are_ends_in xs (elements_at_ends test xs ends).first (elements_at_ends test xs ends).second ≡ true)
+    × AreInOrder xs (elements_at_ends test xs ends).first (elements_at_ends test xs ends).second
 ends-ordered test xs ends f g d = by ends.start ends.end f g
   where
     by : (a b : ℤ) → are_ends a b ≡ true → given_ends_fit (len test xs) (Some (record { start = a; end = b })) ≡ true
@@ -271,7 +306,8 @@ ends-ordered test xs ends f g d = by ends.start ends.end f g
     by (pos p) (negsuc q) e k = (cc)
     by (negsuc p) (pos q) e k = (cc)
 
-interval-ordered : (test : ListElement → Bool) (xs : List ListElement) (op : TextOp) → IsWellFormedText op → given_ends_fit (len test xs) (ends_of op) ≡ true → are_distinct xs ≡ true
+interval-ordered : (test : ListElement → Bool) (xs : List ListElement) (op : TextOp) → IsWellFormedText op → given_ends_fit (len test xs) (ends_of op) ≡ true
+    → are_distinct xs ≡ true
     → (are_ends_in xs (elements_at_given_ends test xs (ends_of op)).first (elements_at_given_ends test xs (ends_of op)).second ≡ true)
     × AreInOrder xs (elements_at_given_ends test xs (ends_of op)).first (elements_at_given_ends test xs (ends_of op)).second
 interval-ordered test xs (One op) f g d = (refl, tt)
@@ -285,20 +321,23 @@ unless-ok : (fault : Option EditFault) (r : EditResult) (taken : Document × Nam
 unless-ok None r taken h = h
 unless-ok (Some fault) r taken h = (cc)
 
-local-interval-taken : (doc : Document) (stages : List Stage) (k : ℕ) (op : TextOp) (taken : Document × NamedElements) → local_interval doc stages k op ≡ Ok taken → IsOneTaken doc (OnIntervals op) taken
+local-interval-taken : (doc : Document) (stages : List Stage) (k : ℕ) (op : TextOp) (taken : Document × NamedElements) → local_interval doc stages k op
+    ≡ Ok taken → IsOneTaken doc (OnIntervals op) taken
 local-interval-taken doc stages k op taken h =
     let test = seen (k - 1) in
     let n = len (seen (k - 1)) doc.text.items in
     let names = elements_at_given_ends (seen (k - 1)) doc.text.items (ends_of op) in
     let answer : EditResult = cond (given_ends_fit n (ends_of op)) (Ok (doc, names)) (Err (OutOfRange n)) in
-    let c = ok-choice (given_ends_fit n (ends_of op)) (doc, names) taken (OutOfRange n) (unless-ok (id_fault (shown_intervals doc.text.items doc.intervals stages) op) answer taken h) in
+    let c = ok-choice (given_ends_fit n (ends_of op)) (doc, names) taken (OutOfRange n)
+    (unless-ok (id_fault (shown_intervals doc.text.items doc.intervals stages) op) answer taken h) in
     subst (IsOneTaken doc (OnIntervals op)) c.1 (record {
       carries = carries-itself doc.text.items;
       there = λ f d. (interval-ordered (seen (k - 1)) doc.text.items op f c.0 d).0;
       order = λ f d. (interval-ordered (seen (k - 1)) doc.text.items op f c.0 d).1;
     })
 
-one-taken : (doc : Document) (stages : List Stage) (k : ℕ) (o : SubOperation) (taken : Document × NamedElements) → local_sub_operation doc stages k o ≡ Ok taken → IsOneTaken doc o taken
+one-taken : (doc : Document) (stages : List Stage) (k : ℕ) (o : SubOperation) (taken : Document × NamedElements) → local_sub_operation doc stages k o
+    ≡ Ok taken → IsOneTaken doc o taken
 one-taken doc stages k (OnText op) taken h = local-text-taken doc k op taken h
 one-taken doc stages k (OnIntervals op) taken h = local-interval-taken doc stages k op taken h
 one-taken doc stages k (OnGrid op) taken h = local-grid-taken doc k op taken h
@@ -308,7 +347,8 @@ pub record AreTaken (doc : Document) (taken : Document × List Stage) : Type 0 w
   pub carries : Carries (λ a. a) doc.text.items taken.0.text.items
   pub formed : are_distinct taken.0.text.items ≡ true → Each (IsFormedStage taken.0.text.items) taken.1
 
-rest-taken : (doc : Document) (here : Stage) (one : Document × NamedElements) (r : Result (Document × List Stage) EditFault) (taken : Document × List Stage) → IsFormedSub here.sub_operation → here.names ≡ one.1 → IsOneTaken doc here.sub_operation one
+rest-taken : (doc : Document) (here : Stage) (one : Document × NamedElements) (r : Result (Document × List Stage) EditFault) (taken : Document × List Stage)
+    → IsFormedSub here.sub_operation → here.names ≡ one.1 → IsOneTaken doc here.sub_operation one
     → ((rest : Document × List Stage) → r ≡ Ok rest → AreTaken one.0 rest) → with_first here r ≡ Ok taken → AreTaken doc taken
 rest-taken doc here one (Err fault) taken f n o g h = (cc)
 rest-taken doc here one (Ok rest) taken f n o g h =
@@ -328,7 +368,8 @@ rest-taken doc here one (Ok rest) taken f n o g h =
           );
     })
 
-all-taken : (os : List SubOperation) (doc : Document) (stages : List Stage) (k : ℕ) (taken : Document × List Stage) → Each IsFormedSub os → local_sub_operations doc stages k os ≡ Ok taken → AreTaken doc taken
+all-taken : (os : List SubOperation) (doc : Document) (stages : List Stage) (k : ℕ) (taken : Document × List Stage) → Each IsFormedSub os
+    → local_sub_operations doc stages k os ≡ Ok taken → AreTaken doc taken
 all-taken [] doc stages k taken f h =
     let bare : List Stage = [] in
     let same : (doc, bare) ≡ taken = (cc) in
@@ -336,12 +377,14 @@ all-taken [] doc stages k taken f h =
 all-taken (o ∷ os) doc stages k taken f h =
     first (λ d ss rest g. all-taken os d ss (k + 1) rest f.1 g) (local_sub_operation doc stages k o) refl h
   where
-    first : ((d : Document) (ss : List Stage) (rest : Document × List Stage) → local_sub_operations d ss (k + 1) os ≡ Ok rest → AreTaken d rest) → (r : EditResult) → local_sub_operation doc stages k o ≡ r
+    first : ((d : Document) (ss : List Stage) (rest : Document × List Stage) → local_sub_operations d ss (k + 1) os ≡ Ok rest → AreTaken d rest)
+        → (r : EditResult) → local_sub_operation doc stages k o ≡ r
         → after_first stages k o os r ≡ Ok taken → AreTaken doc taken
     first ih (Err fault) e g = (cc)
     first ih (Ok one) e g =
         let here : Stage = record { stage = k; sub_operation = o; names = one.1 } in
-        rest-taken doc here one (local_sub_operations one.0 (stages ++ (here ∷ [])) (k + 1) os) taken f.0 refl (one-taken doc stages k o one e) (λ rest q. ih one.0 (stages ++ (here ∷ [])) rest q) g
+        rest-taken doc here one (local_sub_operations one.0 (stages ++ (here ∷ [])) (k + 1) os) taken f.0 refl (one-taken doc stages k o one e)
+        (λ rest q. ih one.0 (stages ++ (here ∷ [])) rest q) g
 
 -- the sub-operations of a well-formed operation
 texts-formed : (ops : List BaseOp) → AllByRecursion IsWellFormedBase ops → Each IsFormedSub (map (λ op. OnText op) ops)
@@ -407,9 +450,11 @@ acked-marks all k m s c (x ∷ xs) h =
     let p = both (is_marked all x) (list_all (is_marked all) xs) h in
     rw (acked-mark all k s c x.ins p.0, acked-marks all k m s c xs p.1) refl
 
-stage-acked : (all : List Stage) (t : Stage) (o : SubOperation) (s c : ℕ) (doc : Document) → t.sub_operation ≡ o → IsOfItsKind all t → list_all (is_marked all) doc.text.items ≡ true
+stage-acked : (all : List Stage) (t : Stage) (o : SubOperation) (s c : ℕ) (doc : Document) → t.sub_operation ≡ o → IsOfItsKind all t
+    → list_all (is_marked all) doc.text.items ≡ true
     → Carries (acked_id t.stage (made_before doc o)) doc.text.items (map (acked_element t.stage doc.text.made s c) doc.text.items)
-stage-acked all t (OnText op) s c doc e k h = carries-map (acked_id t.stage doc.text.made) (acked_element t.stage doc.text.made s c) (is_marked all) (λ x g. named-stamp t.stage doc.text.made s c x.nth x.ins) doc.text.items h
+stage-acked all t (OnText op) s c doc e k h = carries-map (acked_id t.stage doc.text.made) (acked_element t.stage doc.text.made s c) (is_marked all)
+    (λ x g. named-stamp t.stage doc.text.made s c x.nth x.ins) doc.text.items h
 stage-acked all t (OnIntervals op) s c doc e k h =
     carries-map (acked_id t.stage (made_before doc (OnIntervals op))) (acked_element t.stage doc.text.made s c) (is_marked all)
     (λ x g. other-stamp t.stage doc.text.made (made_before doc (OnIntervals op)) s c x.nth x.ins (not-of-stage all t.stage x.ins g (k (ap inserts_text e)))) doc.text.items h
@@ -417,12 +462,15 @@ stage-acked all t (OnGrid op) s c doc e k h =
     carries-map (acked_id t.stage (made_before doc (OnGrid op))) (acked_element t.stage doc.text.made s c) (is_marked all)
     (λ x g. other-stamp t.stage doc.text.made (made_before doc (OnGrid op)) s c x.nth x.ins (not-of-stage all t.stage x.ins g (k (ap inserts_text e)))) doc.text.items h
 
-acks-carry : (all : List Stage) (s c : ℕ) (ts : List Stage) (rename : ElementId → ElementId) (xs : List ListElement) (doc : Document) → Each (IsOfItsKind all) ts → list_all (is_marked all) doc.text.items ≡ true → Carries rename xs doc.text.items
+acks-carry : (all : List Stage) (s c : ℕ) (ts : List Stage) (rename : ElementId → ElementId) (xs : List ListElement) (doc : Document)
+    → Each (IsOfItsKind all) ts → list_all (is_marked all) doc.text.items ≡ true → Carries rename xs doc.text.items
     → Carries (ack_stages s c rename ts doc).1 xs (ack_stages s c rename ts doc).0.text.items
 acks-carry all s c [] rename xs doc k h r = r
 acks-carry all s c (t ∷ ts) rename xs doc k h r =
-    acks-carry all s c ts (λ x. acked_id t.stage (made_before doc t.sub_operation) (rename x)) xs (ack_stage s c rename t doc) k.1 (acked-marks all t.stage doc.text.made s c doc.text.items h)
-    (carries-then rename (acked_id t.stage (made_before doc t.sub_operation)) xs doc.text.items (map (acked_element t.stage doc.text.made s c) doc.text.items) r (stage-acked all t t.sub_operation s c doc refl k.0 h))
+    acks-carry all s c ts (λ x. acked_id t.stage (made_before doc t.sub_operation) (rename x)) xs (ack_stage s c rename t doc) k.1
+    (acked-marks all t.stage doc.text.made s c doc.text.items h)
+    (carries-then rename (acked_id t.stage (made_before doc t.sub_operation)) xs doc.text.items (map (acked_element t.stage doc.text.made s c) doc.text.items)
+    r (stage-acked all t t.sub_operation s c doc refl k.0 h))
 
 -- stages that rise are of their own kinds
 absent : (kind : SubOperation → Bool) (i j m : ℕ) (ts : List Stage) → StagesRiseTo j ts m → i ≤ j → is_stage_of kind ts i ≡ false
@@ -443,7 +491,8 @@ kinds-rise before (t ∷ ts) j m h b all same = (here, kinds-rise (before ++ (t 
         last : (b : Bool) → b || false ≡ b
         last true = refl
         last false = refl
-    any-more (x ∷ xs) i = ap (λ b. (nat_eq x.stage i && inserts_text x.sub_operation) || b) (any-more xs i) ∙ joined (nat_eq x.stage i && inserts_text x.sub_operation) (is_stage_of inserts_text xs i) (nat_eq t.stage i && inserts_text t.sub_operation)
+    any-more (x ∷ xs) i = ap (λ b. (nat_eq x.stage i && inserts_text x.sub_operation) || b) (any-more xs i)
+        ∙ joined (nat_eq x.stage i && inserts_text x.sub_operation) (is_stage_of inserts_text xs i) (nat_eq t.stage i && inserts_text t.sub_operation)
       where
         joined : (a b c : Bool) → a || (b || c) ≡ (a || b) || c
         joined true b c = refl
@@ -504,7 +553,8 @@ runs-within : (i : ℕ) (test mark : ListElement → Bool) (xs : List ListElemen
 runs-within i test mark [] n l = tt
 runs-within i test mark (e ∷ xs) n l = by (test e) (mark e) (λ j k. runs-within j test mark xs n k)
   where
-    by : (a b : Bool) → ((j : ℕ) → j + size xs ≤ n → Each (IsRunWithin n) (marked_runs_from j test mark xs)) → Each (IsRunWithin n) (cond (a && b) (extended_runs i (marked_runs_from (one_more_if a i) test mark xs)) (marked_runs_from (one_more_if a i) test mark xs))
+    by : (a b : Bool) → ((j : ℕ) → j + size xs ≤ n → Each (IsRunWithin n) (marked_runs_from j test mark xs))
+        → Each (IsRunWithin n) (cond (a && b) (extended_runs i (marked_runs_from (one_more_if a i) test mark xs)) (marked_runs_from (one_more_if a i) test mark xs))
     by true true ih = extended-within i n (marked_runs_from (suc i) test mark xs) (omega (arith, l)) (ih (suc i) (omega (arith, l)))
     by true false ih = ih (suc i) (omega (arith, l))
     by false b ih = ih i (omega (arith, l))
@@ -522,7 +572,8 @@ small-range p q n o l s = rw (low o, small-count q n l s) refl
     low : p ≤ q → nat_le p q ≡ true
     low k = grind (arith, nat_tests)
 
-runs-formed : (n : ℕ) (f : ℕ × ℕ → SubOperation) → ((r : ℕ × ℕ) → IsRunWithin n r → IsFormedSub (f r)) → (runs : List (ℕ × ℕ)) → Each (IsRunWithin n) runs → Each IsFormedSub (map f runs)
+runs-formed : (n : ℕ) (f : ℕ × ℕ → SubOperation) → ((r : ℕ × ℕ) → IsRunWithin n r → IsFormedSub (f r)) → (runs : List (ℕ × ℕ)) → Each (IsRunWithin n) runs
+    → Each IsFormedSub (map f runs)
 runs-formed n f k [] h = tt
 runs-formed n f k (r ∷ runs) h = (k r h.0, runs-formed n f k runs h.1)
 
@@ -531,7 +582,8 @@ no-place true h = h
 no-place false h = h
 
 -- the ends of an interval operation that settled
-settled-ends : (k n : ℕ) (xs : List ListElement) (names : NamedElements) → are_distinct xs ≡ true → size xs ≤ n → n < 2 ^ 53 → are_ends_in xs names.first names.second ≡ true → AreInOrder xs names.first names.second
+settled-ends : (k n : ℕ) (xs : List ListElement) (names : NamedElements) → are_distinct xs ≡ true → size xs ≤ n → n < 2 ^ 53
+    → are_ends_in xs names.first names.second ≡ true → AreInOrder xs names.first names.second
     → IsWellFormedEnds (ends_in k xs (settle_elements xs k names))
 settled-ends k n xs names d l s t o = by (settle xs k names.first) (settle xs k names.second) (ends-fit k xs d names.first names.second t) (settled names.first names.second t o)
   where
@@ -541,13 +593,16 @@ settled-ends k n xs names d l s t o = by (settle xs k names.first) (settle xs k 
     settled None (Some b) g h = (cc)
     settled (Some a) None g h = (cc)
 
-    by : (u v : Option ElementId) → ends_fit (len (seen k) xs) (record { start = end_number k xs u; end = end_number k xs v }) ≡ true → AreInOrder xs u v → are_ends (end_number k xs u) (end_number k xs v) ≡ true
+    by : (u v : Option ElementId) → ends_fit (len (seen k) xs) (record { start = end_number k xs u; end = end_number k xs v }) ≡ true → AreInOrder xs u v
+        → are_ends (end_number k xs u) (end_number k xs v) ≡ true
     by None None f h = refl
-    by (Some a) (Some b) f h = small-range (rank (has_id a) (seen k) xs) (rank (has_id b) (seen k) xs) n (rank-leads (seen k) a b xs h) (let r = rank-size (has_id b) (seen k) xs in omega (arith, r, l)) s
+    by (Some a) (Some b) f h = small-range (rank (has_id a) (seen k) xs) (rank (has_id b) (seen k) xs) n (rank-leads (seen k) a b xs h)
+        (let r = rank-size (has_id b) (seen k) xs in omega (arith, r, l)) s
     by None (Some b) f h = (cc)
     by (Some a) None f h = let wrong : false ≡ true = no-place (nat_lt (rank (has_id a) (seen k) xs) (len (seen k) xs)) f in (cc)
 
-interval-formed : (k : ℕ) (xs : List ListElement) (names : NamedElements) (op : TextOp) → IsWellFormedText op → IsWellFormedEnds (ends_in k xs names) → IsWellFormedText (interval_piece k xs names op)
+interval-formed : (k : ℕ) (xs : List ListElement) (names : NamedElements) (op : TextOp) → IsWellFormedText op → IsWellFormedEnds (ends_in k xs names)
+    → IsWellFormedText (interval_piece k xs names op)
 interval-formed k xs names (One op) f e = f
 interval-formed k xs names (Group ops) f e = f
 interval-formed k xs names (IntervalAdd label name ends props) f e = (e, f.1)
@@ -555,7 +610,8 @@ interval-formed k xs names (IntervalChange label name None props) f e = f
 interval-formed k xs names (IntervalChange label name (Some ends) props) f e = (e, f.1)
 interval-formed k xs names (IntervalDelete label name) f e = f
 
-module _ (n : ℕ) (small : n < 2 ^ 53) (doc : Document) (text : size doc.text.items ≤ n) (rows : size doc.rows.items ≤ n) (cols : size doc.cols.items ≤ n) (distinct : are_distinct doc.text.items ≡ true) where
+module _ (n : ℕ) (small : n < 2 ^ 53) (doc : Document) (text : size doc.text.items ≤ n) (rows : size doc.rows.items ≤ n) (cols : size doc.cols.items ≤ n)
+    (distinct : are_distinct doc.text.items ≡ true) where
   place-formed : (k : ℕ) (xs : List ListElement) → size xs ≤ n → IsTrue (is_count (stage_position k xs))
   place-formed k xs l = small-count (stage_position k xs) n (let r = rank-size (is_inserted_by k) (seen (k - 1)) xs in omega (arith, r, l)) small
 
@@ -572,7 +628,8 @@ module _ (n : ℕ) (small : n < 2 ^ 53) (doc : Document) (text : size doc.text.i
   cond-formed false ps qs h g = g
 
   text-formed : (k : ℕ) (op : BaseOp) → IsWellFormedBase op → Each IsFormedSub (text_pieces k doc.text.items op)
-  text-formed k (Insert p seg props) h = unless-formed (segment_contents seg) (OnText (Insert (stage_position k doc.text.items) seg props)) (place-formed k doc.text.items text, h.1, h.2)
+  text-formed k (Insert p seg props) h = unless-formed (segment_contents seg) (OnText (Insert (stage_position k doc.text.items) seg props))
+      (place-formed k doc.text.items text, h.1, h.2)
   text-formed k (Remove p q) h =
       runs-formed n (λ r. OnText (Remove r.0 r.1)) (λ r w. small-range r.0 r.1 n w.0 w.1 small) (lowered_runs 0 (marked_runs k (is_removed_by k) doc.text.items))
       (lowered-within 0 n (marked_runs k (is_removed_by k) doc.text.items) (runs-within 0 (seen (k - 1)) (is_removed_by k) doc.text.items n (omega arith)))
@@ -580,7 +637,8 @@ module _ (n : ℕ) (small : n < 2 ^ 53) (doc : Document) (text : size doc.text.i
       runs-formed n (λ r. OnText (Annotate r.0 r.1 changes)) (λ r w. (small-range r.0 r.1 n w.0 w.1 small, h.1, h.2)) (marked_runs k (is_annotated_by k) doc.text.items)
       (runs-within 0 (seen (k - 1)) (is_annotated_by k) doc.text.items n (omega arith))
 
-  removed-formed : (k : ℕ) (target : Target) (xs : List ListElement) → size xs ≤ n → Each IsFormedSub (map (λ r. OnGrid (SpliceOut target r.0 r.1)) (lowered_runs 0 (marked_runs k (is_removed_by k) xs)))
+  removed-formed : (k : ℕ) (target : Target) (xs : List ListElement) → size xs ≤ n
+      → Each IsFormedSub (map (λ r. OnGrid (SpliceOut target r.0 r.1)) (lowered_runs 0 (marked_runs k (is_removed_by k) xs)))
   removed-formed k target xs l =
       runs-formed n (λ r. OnGrid (SpliceOut target r.0 r.1)) (λ r w. small-range r.0 r.1 n w.0 w.1 small) (lowered_runs 0 (marked_runs k (is_removed_by k) xs))
       (lowered-within 0 n (marked_runs k (is_removed_by k) xs) (runs-within 0 (seen (k - 1)) (is_removed_by k) xs n (omega arith)))
@@ -598,9 +656,14 @@ module _ (n : ℕ) (small : n < 2 ^ 53) (doc : Document) (text : size doc.text.i
   pieces-formed : (t : Stage) → IsFormedStage doc.text.items t → Each IsFormedSub (pieces doc t)
   pieces-formed t h = by t.sub_operation h.sub h.there h.order
     where
-      by : (o : SubOperation) → IsFormedSub o → AreThereFor doc.text.items o t.names → AreOrderedFor doc.text.items o t.names → Each IsFormedSub (pieces doc (record t { sub_operation = o }))
+      by : (o : SubOperation) → IsFormedSub o → AreThereFor doc.text.items o t.names → AreOrderedFor doc.text.items o t.names
+          → Each IsFormedSub (pieces doc (record t { sub_operation = o }))
       by (OnText op) f a b = text-formed t.stage op f
-      by (OnIntervals op) f a b = (interval-formed t.stage doc.text.items (settle_elements doc.text.items t.stage t.names) op f (settled-ends t.stage n doc.text.items t.names distinct text small a b), tt)
+      by (OnIntervals op) f a b = (
+        interval-formed t.stage doc.text.items (settle_elements doc.text.items t.stage t.names) op f
+            (settled-ends t.stage n doc.text.items t.names distinct text small a b),
+        tt,
+      )
       by (OnGrid op) f a b = grid-formed t.stage t.names op f
 
   all-pieces : (ts : List Stage) → Each (IsFormedStage doc.text.items) ts → Each IsFormedSub (flat_map (pieces doc) ts)
@@ -655,7 +718,8 @@ module _ (k : ℕ) (xs ys : List ListElement) (view : filter (seen k) ys ≡ fil
   settled-there : (names : NamedElements) → are_ends_in xs names.first names.second ≡ true → AreInOrder xs names.first names.second
       → (are_ends_in ys (settle xs k names.first) (settle xs k names.second) ≡ true) × AreInOrder ys (settle xs k names.first) (settle xs k names.second)
   settled-there names t o =
-      by (settle xs k names.first) (settle xs k names.second) (settle-at k xs names.first) (settle-at k xs names.second) (ends-fit k xs d names.first names.second t) (settled names.first names.second t o)
+      by (settle xs k names.first) (settle xs k names.second) (settle-at k xs names.first) (settle-at k xs names.second)
+      (ends-fit k xs d names.first names.second t) (settled names.first names.second t o)
     where
       settled : (a b : Option ElementId) → are_ends_in xs a b ≡ true → AreInOrder xs a b → AreInOrder xs (settle xs k a) (settle xs k b)
       settled (Some a) (Some b) g h = let p = both (list_any (has_id a) xs) (list_any (has_id b) xs) g in leads-settled k a b xs d p.0 p.1 h
@@ -663,7 +727,8 @@ module _ (k : ℕ) (xs ys : List ListElement) (view : filter (seen k) ys ≡ fil
       settled None (Some b) g h = (cc)
       settled (Some a) None g h = (cc)
 
-      by : (u v : Option ElementId) → is_end_at k xs u ≡ true → is_end_at k xs v ≡ true → ends_fit (len (seen k) xs) (record { start = end_number k xs u; end = end_number k xs v }) ≡ true → AreInOrder xs u v
+      by : (u v : Option ElementId) → is_end_at k xs u ≡ true → is_end_at k xs v ≡ true
+          → ends_fit (len (seen k) xs) (record { start = end_number k xs u; end = end_number k xs v }) ≡ true → AreInOrder xs u v
           → (are_ends_in ys u v ≡ true) × AreInOrder ys u v
       by None None g h e o = (refl, tt)
       by (Some a) (Some b) g h e o = (rw (named-any (seen k) a ys (named-there a g), named-any (seen k) b ys (named-there b h)) refl, order-there a b g h o)
@@ -671,15 +736,18 @@ module _ (k : ℕ) (xs ys : List ListElement) (view : filter (seen k) ys ≡ fil
       by (Some a) None g h e o = let wrong : false ≡ true = no-place (nat_lt (rank (has_id a) (seen k) xs) (len (seen k) xs)) e in absurd (true-false (sym wrong))
 
 -- a stage that goes on is well formed in the rebuilt text
-stage-goes : (doc : Document) (ys : List ListElement) (t : Stage) → filter (seen t.stage) ys ≡ filter (seen t.stage) doc.text.items → are_distinct doc.text.items ≡ true → are_distinct ys ≡ true → IsFormedStage doc.text.items t
+stage-goes : (doc : Document) (ys : List ListElement) (t : Stage) → filter (seen t.stage) ys ≡ filter (seen t.stage) doc.text.items
+    → are_distinct doc.text.items ≡ true → are_distinct ys ≡ true → IsFormedStage doc.text.items t
     → Each (IsFormedStage ys) (carried_stage doc t)
 stage-goes doc ys t view d f h = by t.sub_operation h.sub h.there h.order
   where
-    kept : (o : SubOperation) → IsFormedSub o → AreThereFor ys o t.names → AreOrderedFor ys o t.names → (ps : List SubOperation) → Each (IsFormedStage ys) (elim ps [ [] ↦ [] | _ ∷ _ ↦ record t { sub_operation = o } ∷ [] ])
+    kept : (o : SubOperation) → IsFormedSub o → AreThereFor ys o t.names → AreOrderedFor ys o t.names → (ps : List SubOperation)
+        → Each (IsFormedStage ys) (elim ps [ [] ↦ [] | _ ∷ _ ↦ record t { sub_operation = o } ∷ [] ])
     kept o s a b [] = tt
     kept o s a b (p ∷ ps) = (record { sub = s; there = a; order = b }, tt)
 
-    by : (o : SubOperation) → IsFormedSub o → AreThereFor doc.text.items o t.names → AreOrderedFor doc.text.items o t.names → Each (IsFormedStage ys) (carried_stage doc (record t { sub_operation = o }))
+    by : (o : SubOperation) → IsFormedSub o → AreThereFor doc.text.items o t.names → AreOrderedFor doc.text.items o t.names
+        → Each (IsFormedStage ys) (carried_stage doc (record t { sub_operation = o }))
     by (OnText op) s a b = kept (OnText op) s tt tt (pieces doc (record t { sub_operation = OnText op }))
     by (OnIntervals op) s a b = let r = settled-there t.stage doc.text.items ys view d f t.names a b in (record { sub = s; there = r.0; order = r.1 }, tt)
     by (OnGrid op) s a b = kept (OnGrid op) s tt tt (pieces doc (record t { sub_operation = OnGrid op }))
@@ -688,7 +756,8 @@ stage-goes doc ys t view d f h = by t.sub_operation h.sub h.there h.order
 abbrev pub StagesAreUpTo : ℕ → List Stage → Type 0
 StagesAreUpTo m ts = Each (λ (t : Stage). t.stage ≤ m) ts
 
-stages-go : (m : ℕ) (doc : Document) (ys : List ListElement) → ((k : ℕ) → k ≤ m → filter (seen k) ys ≡ filter (seen k) doc.text.items) → are_distinct doc.text.items ≡ true → are_distinct ys ≡ true → (ts : List Stage) → StagesAreUpTo m ts
+stages-go : (m : ℕ) (doc : Document) (ys : List ListElement) → ((k : ℕ) → k ≤ m → filter (seen k) ys ≡ filter (seen k) doc.text.items)
+    → are_distinct doc.text.items ≡ true → are_distinct ys ≡ true → (ts : List Stage) → StagesAreUpTo m ts
     → Each (IsFormedStage doc.text.items) ts → Each (IsFormedStage ys) (flat_map (carried_stage doc) ts)
 stages-go m doc ys view d f [] u h = tt
 stages-go m doc ys view d f (t ∷ ts) u h =
@@ -697,7 +766,8 @@ stages-go m doc ys view d f (t ∷ ts) u h =
 module _ (n m : ℕ) (small : n < 2 ^ 53) (doc : Document) (ys : List ListElement) (text : size doc.text.items ≤ n) (rows : size doc.rows.items ≤ n) (cols : size doc.cols.items ≤ n)
     (view : (k : ℕ) → k ≤ m → filter (seen k) ys ≡ filter (seen k) doc.text.items) (d : are_distinct doc.text.items ≡ true) (f : are_distinct ys ≡ true) where
   -- so are the edits that are sent again
-  pub edits-again : (conn i : ℕ) (es : List PendingEdit) → Each (λ (e : PendingEdit). StagesAreUpTo m e.stages) es → Each (IsFormedEdit doc.text.items) es → Each (IsFormedEdit ys) (resubmitted_edits doc conn i es)
+  pub edits-again : (conn i : ℕ) (es : List PendingEdit) → Each (λ (e : PendingEdit). StagesAreUpTo m e.stages) es → Each (IsFormedEdit doc.text.items) es
+      → Each (IsFormedEdit ys) (resubmitted_edits doc conn i es)
   edits-again conn i [] u h = tt
   edits-again conn i (e ∷ es) u h = by (regenerated_edit doc e) refl (edits-again conn i es u.1 h.1) (edits-again conn (i + 1) es u.1 h.1)
     where
@@ -705,7 +775,8 @@ module _ (n m : ℕ) (small : n < 2 ^ 53) (doc : Document) (ys : List ListElemen
       again None = resubmitted_edits doc conn i es
       again (Some op) = resubmitted_edit doc conn i e op ∷ resubmitted_edits doc conn (i + 1) es
 
-      by : (o : Option ChannelOp) → regenerated_edit doc e ≡ o → Each (IsFormedEdit ys) (resubmitted_edits doc conn i es) → Each (IsFormedEdit ys) (resubmitted_edits doc conn (i + 1) es) → Each (IsFormedEdit ys) (again o)
+      by : (o : Option ChannelOp) → regenerated_edit doc e ≡ o → Each (IsFormedEdit ys) (resubmitted_edits doc conn i es)
+          → Each (IsFormedEdit ys) (resubmitted_edits doc conn (i + 1) es) → Each (IsFormedEdit ys) (again o)
       by None g same more = same
       by (Some op) g same more = (
         record {
@@ -780,18 +851,22 @@ own-formed x e ready after v = by x.pending (each-flat (IsOfItsKind (stages_of x
     all : List Stage
     all = stages_of x
 
-    by : (es : List PendingEdit) → Each (λ (e : PendingEdit). Each (IsOfItsKind (stages_of x)) e.stages) es → IsReady (after_own_message (record x { pending = es }) e) → Each (IsFormedEdit x.doc.text.items) es
+    by : (es : List PendingEdit) → Each (λ (e : PendingEdit). Each (IsOfItsKind (stages_of x)) e.stages) es
+        → IsReady (after_own_message (record x { pending = es }) e) → Each (IsFormedEdit x.doc.text.items) es
         → IsFormed (after_own_message (record x { pending = es }) e)
     by [] k r h = tt
     by (edit ∷ es) k r h =
         let acked = ack_stages e.msg.seq e.origin (λ i. i) edit.stages x.doc in
         edits-renamed acked.1 x.doc.text.items acked.0.text.items
-        (acks-carry (stages_of x) e.msg.seq e.origin edit.stages (λ i. i) x.doc.text.items x.doc k.0 (marks-of-text (stages_of x) x.doc.text.items ready.text.place.marks) (carries-itself x.doc.text.items))
+        (acks-carry (stages_of x) e.msg.seq e.origin edit.stages (λ i. i) x.doc.text.items x.doc k.0
+        (marks-of-text (stages_of x) x.doc.text.items ready.text.place.marks) (carries-itself x.doc.text.items))
         r.text.place.distinct es h.1
 
 -- its own join
-pub join-formed : (n : ℕ) (x : NaiveClient) (e : Entry) → n < 2 ^ 53 → size x.doc.text.items ≤ n → size x.doc.rows.items ≤ n → size x.doc.cols.items ≤ n → IsReady x → IsReady (come_online x e)
+pub join-formed : (n : ℕ) (x : NaiveClient) (e : Entry) → n < 2 ^ 53 → size x.doc.text.items ≤ n → size x.doc.rows.items ≤ n → size x.doc.cols.items ≤ n
+    → IsReady x → IsReady (come_online x e)
     → ((k : ℕ) → k ≤ x.last_stage → filter (seen k) (come_online x e).doc.text.items ≡ filter (seen k) x.doc.text.items) → IsFormed x → IsFormed (come_online x e)
 join-formed n x e small text rows cols ready after view v =
-    edits-again n x.last_stage small (with_numbers e x.doc) (come_online x e).doc.text.items text rows cols view ready.text.place.distinct after.text.place.distinct e.origin 1 x.pending
+    edits-again n x.last_stage small (with_numbers e x.doc) (come_online x e).doc.text.items text rows cols view ready.text.place.distinct
+    after.text.place.distinct e.origin 1 x.pending
     (each-flat (λ (t : Stage). t.stage ≤ x.last_stage) x.pending (stages-up 0 x.last_stage (stages_of x) ready.stages)) v

@@ -40,7 +40,8 @@ small-number n (pos k) h s = rw (le-ltb (2 ^ 53 - 1) k (omega arith)) refl
 small-number n (negsuc k) h s = subst (λ i. IsTrue (is_number (negsuc i))) (sym h) refl
 
 -- a message has the parts of its kind
-parts-of : (k : MsgKind) (sender : Option Characters) (body : Body) → cond (is_op_kind k) (has_body body) (not (has_body body)) ≡ true → is_some sender ≡ true → HasItsParts k sender body
+parts-of : (k : MsgKind) (sender : Option Characters) (body : Body) → cond (is_op_kind k) (has_body body) (not (has_body body)) ≡ true → is_some sender ≡ true
+    → HasItsParts k sender body
 parts-of kind.Op sender body h s = (s, h)
 parts-of kind.Join sender body h s = hidden (has_body body) h
 parts-of kind.Leave sender body h s = hidden (has_body body) h
@@ -62,7 +63,8 @@ entry-formed k e small h told body =
       body = body;
     }
 
-entries-formed : (k : ℕ) (es : List Entry) → k < 2 ^ 53 → Each (IsSequencedWithin k) es → Each (λ e. AreUpTo e.msg.seq e) es → Each (λ e. IsWellFormedBody e.msg.body) es → Each (λ e. IsWellFormedMessage e.msg) es
+entries-formed : (k : ℕ) (es : List Entry) → k < 2 ^ 53 → Each (IsSequencedWithin k) es → Each (λ e. AreUpTo e.msg.seq e) es
+    → Each (λ e. IsWellFormedBody e.msg.body) es → Each (λ e. IsWellFormedMessage e.msg) es
 entries-formed k [] small h told body = tt
 entries-formed k (e ∷ es) small h told body = (entry-formed k e small h.0 told.0 body.0, entries-formed k es small h.1 told.1 body.1)
 

@@ -65,14 +65,22 @@ replicated n = length-replicate n GridUnit
 
 module _ (s c r : ℕ) where
   effect-made : (doc : Document) (o : SubOperation) → IsMadeWithin (inserted o) doc (effect doc s c r o)
-  effect-made doc (OnText (Insert p seg props)) = made-choice _ doc (nat_le p (len (seen_by r c) doc.text.items)) _ _ (record { text = omega arith; rows = omega arith; cols = omega arith }) (made-skipped _ doc)
-  effect-made doc (OnText (Remove p q)) = made-choice _ doc (nat_le q (len (seen_by r c) doc.text.items)) _ _ (record { text = omega arith; rows = omega arith; cols = omega arith }) (made-skipped _ doc)
-  effect-made doc (OnText (Annotate p q changes)) = made-choice _ doc (nat_le q (len (seen_by r c) doc.text.items)) _ _ (record { text = omega arith; rows = omega arith; cols = omega arith }) (made-skipped _ doc)
-  effect-made doc (OnIntervals op) = made-choice _ doc (given_ends_fit (len (seen_by r c) doc.text.items) (ends_of op)) _ _ (record { text = omega arith; rows = omega arith; cols = omega arith }) (made-skipped _ doc)
-  effect-made doc (OnGrid (SpliceIn Rows p count)) = let e = replicated count in made-choice _ doc (nat_le p (len (seen_by r c) doc.rows.items)) _ _ (record { text = omega arith; rows = omega (arith, e); cols = omega arith }) (made-skipped _ doc)
-  effect-made doc (OnGrid (SpliceIn Cols p count)) = let e = replicated count in made-choice _ doc (nat_le p (len (seen_by r c) doc.cols.items)) _ _ (record { text = omega arith; rows = omega arith; cols = omega (arith, e) }) (made-skipped _ doc)
-  effect-made doc (OnGrid (SpliceOut Rows p q)) = made-choice _ doc (nat_le q (len (seen_by r c) doc.rows.items)) _ _ (record { text = omega arith; rows = omega arith; cols = omega arith }) (made-skipped _ doc)
-  effect-made doc (OnGrid (SpliceOut Cols p q)) = made-choice _ doc (nat_le q (len (seen_by r c) doc.cols.items)) _ _ (record { text = omega arith; rows = omega arith; cols = omega arith }) (made-skipped _ doc)
+  effect-made doc (OnText (Insert p seg props)) = made-choice _ doc (nat_le p (len (seen_by r c) doc.text.items)) _ _
+      (record { text = omega arith; rows = omega arith; cols = omega arith }) (made-skipped _ doc)
+  effect-made doc (OnText (Remove p q)) = made-choice _ doc (nat_le q (len (seen_by r c) doc.text.items)) _ _
+      (record { text = omega arith; rows = omega arith; cols = omega arith }) (made-skipped _ doc)
+  effect-made doc (OnText (Annotate p q changes)) = made-choice _ doc (nat_le q (len (seen_by r c) doc.text.items)) _ _
+      (record { text = omega arith; rows = omega arith; cols = omega arith }) (made-skipped _ doc)
+  effect-made doc (OnIntervals op) = made-choice _ doc (given_ends_fit (len (seen_by r c) doc.text.items) (ends_of op)) _ _
+      (record { text = omega arith; rows = omega arith; cols = omega arith }) (made-skipped _ doc)
+  effect-made doc (OnGrid (SpliceIn Rows p count)) = let e = replicated count in made-choice _ doc (nat_le p (len (seen_by r c) doc.rows.items)) _ _
+      (record { text = omega arith; rows = omega (arith, e); cols = omega arith }) (made-skipped _ doc)
+  effect-made doc (OnGrid (SpliceIn Cols p count)) = let e = replicated count in made-choice _ doc (nat_le p (len (seen_by r c) doc.cols.items)) _ _
+      (record { text = omega arith; rows = omega arith; cols = omega (arith, e) }) (made-skipped _ doc)
+  effect-made doc (OnGrid (SpliceOut Rows p q)) = made-choice _ doc (nat_le q (len (seen_by r c) doc.rows.items)) _ _
+      (record { text = omega arith; rows = omega arith; cols = omega arith }) (made-skipped _ doc)
+  effect-made doc (OnGrid (SpliceOut Cols p q)) = made-choice _ doc (nat_le q (len (seen_by r c) doc.cols.items)) _ _
+      (record { text = omega arith; rows = omega arith; cols = omega arith }) (made-skipped _ doc)
   effect-made doc (OnGrid (Set i j value)) = by (at (seen_by r c) i doc.rows.items) (at (seen_by r c) j doc.cols.items)
     where
       by : (o p : Option ListElement) → IsMadeWithin 0 doc (cell_effect doc o p value)
@@ -112,8 +120,10 @@ new-size : (n : ℕ) (ins : Stamp) (dels : List Stamp) (by : Option Stamp) (prop
 new-size n ins dels by props [] = refl
 new-size n ins dels by props (b ∷ bs) = ap suc (new-size (n + 1) ins dels by props bs)
 
-put-size : (s c r p n : ℕ) (by : Option Stamp) (props : PropertyList) (bs : List ElementContent) (xs : List ListElement) → size (put (seen_by r c) is_pending p (new_elements n (Acked s c) [] by props bs) xs) ≡ size xs + length bs
-put-size s c r p n by props bs xs = sums _ _ _ _ (len-put-add (λ e. true) (seen_by r c) is_pending p (new_elements n (Acked s c) [] by props bs) xs) (new-size n (Acked s c) [] by props bs)
+put-size : (s c r p n : ℕ) (by : Option Stamp) (props : PropertyList) (bs : List ElementContent) (xs : List ListElement)
+    → size (put (seen_by r c) is_pending p (new_elements n (Acked s c) [] by props bs) xs) ≡ size xs + length bs
+put-size s c r p n by props bs xs = sums _ _ _ _ (len-put-add (λ e. true) (seen_by r c) is_pending p (new_elements n (Acked s c) [] by props bs) xs)
+    (new-size n (Acked s c) [] by props bs)
   where
     sums : (a i j k : ℕ) → k ≡ j + i → j ≡ a → k ≡ i + a
     sums a i j k f g = omega arith
@@ -152,7 +162,8 @@ module _ (s c r : ℕ) where
   effect-grown doc (OnText (Annotate p q changes)) =
       let e = range-size (seen_by r c) (with_annotation changes) p q doc.text.items in
       grown-choice _ doc (nat_le q (len (seen_by r c) doc.text.items)) _ _ (record { text = omega (arith, e); rows = omega arith; cols = omega arith }) (grown-skipped _ doc)
-  effect-grown doc (OnIntervals op) = grown-choice _ doc (given_ends_fit (len (seen_by r c) doc.text.items) (ends_of op)) _ _ (record { text = omega arith; rows = omega arith; cols = omega arith }) (grown-skipped _ doc)
+  effect-grown doc (OnIntervals op) = grown-choice _ doc (given_ends_fit (len (seen_by r c) doc.text.items) (ends_of op)) _ _
+      (record { text = omega arith; rows = omega arith; cols = omega arith }) (grown-skipped _ doc)
   effect-grown doc (OnGrid (SpliceIn Rows p count)) =
       let e = put-size s c r p doc.rows.made None [] (replicate count GridUnit) doc.rows.items in
       let f = replicated count in
@@ -197,7 +208,8 @@ two-kinds : (xs : List ListElement) → size xs ≡ size (sequenced_elements xs)
 two-kinds [] = omega arith
 two-kinds (e ∷ xs) = by (is_acked e.ins) (two-kinds xs)
   where
-    by : (b : Bool) → size xs ≡ size (sequenced_elements xs) + len is_pending xs → suc (size xs) ≡ size (cond b (without_pending e ∷ sequenced_elements xs) (sequenced_elements xs)) + one_more_if (not b) (len is_pending xs)
+    by : (b : Bool) → size xs ≡ size (sequenced_elements xs) + len is_pending xs → suc (size xs)
+        ≡ size (cond b (without_pending e ∷ sequenced_elements xs) (sequenced_elements xs)) + one_more_if (not b) (len is_pending xs)
     by true h = omega (arith, h)
     by false h = omega (arith, h)
 
@@ -224,11 +236,13 @@ stage-counted kind k (t ∷ stages) h = by (nat_eq t.stage k) (kind t.sub_operat
     by true false e g ih = let i = ih g in omega (arith, i)
     by false b e g ih = let i = ih g in omega (arith, i)
 
-element-counted : (kind : SubOperation → Bool) (stages : List Stage) (s : Stamp) → has_insertion_of kind stages s ≡ true → one_more_if (not (is_acked s)) 0 ≤ total (marks_of kind s) stages
+element-counted : (kind : SubOperation → Bool) (stages : List Stage) (s : Stamp) → has_insertion_of kind stages s ≡ true
+    → one_more_if (not (is_acked s)) 0 ≤ total (marks_of kind s) stages
 element-counted kind stages (Acked r c) h = omega arith
 element-counted kind stages (Local k) h = stage-counted kind k stages h
 
-first-counted : (kind : SubOperation → Bool) (e : ListElement) (xs : List ListElement) (stages : List Stage) → total (counted_of kind (e ∷ xs)) stages ≡ total (marks_of kind e.ins) stages + total (counted_of kind xs) stages
+first-counted : (kind : SubOperation → Bool) (e : ListElement) (xs : List ListElement) (stages : List Stage) → total (counted_of kind (e ∷ xs)) stages
+    ≡ total (marks_of kind e.ins) stages + total (counted_of kind xs) stages
 first-counted kind e xs [] = omega arith
 first-counted kind e xs (t ∷ stages) = let ih = first-counted kind e xs stages in let here = by (kind t.sub_operation) (is_of_stage t.stage e.ins) in omega (arith, ih, here)
   where
@@ -242,7 +256,8 @@ more-if true n = omega arith
 more-if false n = omega arith
 
 -- each pending element is of a stage
-pending-counted : (kind : SubOperation → Bool) (stages : List Stage) (xs : List ListElement) → list_all (λ e. has_insertion_of kind stages e.ins) xs ≡ true → len is_pending xs ≤ total (counted_of kind xs) stages
+pending-counted : (kind : SubOperation → Bool) (stages : List Stage) (xs : List ListElement) → list_all (λ e. has_insertion_of kind stages e.ins) xs ≡ true
+    → len is_pending xs ≤ total (counted_of kind xs) stages
 pending-counted kind stages [] h = omega arith
 pending-counted kind stages (e ∷ xs) h =
     let p = both (has_insertion_of kind stages e.ins) (list_all (λ e. has_insertion_of kind stages e.ins) xs) h in
@@ -252,7 +267,8 @@ pending-counted kind stages (e ∷ xs) h =
     let one = more-if (is_pending e) (len is_pending xs) in
     omega (arith, ih, here, sum, one)
 
-marked-inserted : (inserts removes : SubOperation → Bool) (stages : List Stage) (xs : List ListElement) → list_all (has_marks_of inserts removes stages) xs ≡ true → list_all (λ e. has_insertion_of inserts stages e.ins) xs ≡ true
+marked-inserted : (inserts removes : SubOperation → Bool) (stages : List Stage) (xs : List ListElement) → list_all (has_marks_of inserts removes stages) xs
+    ≡ true → list_all (λ e. has_insertion_of inserts stages e.ins) xs ≡ true
 marked-inserted inserts removes stages [] h = refl
 marked-inserted inserts removes stages (e ∷ xs) h =
     let p = both (has_marks_of inserts removes stages e) (list_all (has_marks_of inserts removes stages) xs) h in
@@ -265,7 +281,8 @@ block-length props (c ∷ cs) (e ∷ es) h = ap suc (block-length props cs es h.
 block-length props [] (e ∷ es) h = (cc)
 block-length props (c ∷ cs) [] h = (cc)
 
-block-counted : (props : PropertyList) (cs : List ElementContent) (k : ℕ) (xs : List ListElement) → IsBlockOf props cs (filter (is_inserted_by k) xs) → len (is_inserted_by k) xs ≡ length cs
+block-counted : (props : PropertyList) (cs : List ElementContent) (k : ℕ) (xs : List ListElement) → IsBlockOf props cs (filter (is_inserted_by k) xs)
+    → len (is_inserted_by k) xs ≡ length cs
 block-counted props cs k xs h = sym (length-filter_seen (is_inserted_by k) xs) ∙ block-length props cs (filter (is_inserted_by k) xs) h
 
 chosen-less : (b : Bool) (m n : ℕ) → m ≤ n → cond b m 0 ≤ n
@@ -274,33 +291,39 @@ chosen-less false m n h = omega arith
 
 -- each stage inserted so many
 text-stage : (doc : Document) (t : Stage) (o : SubOperation) → IsTyped t.stage doc t.names o → counted_of inserts_text doc.text.items (record t { sub_operation = o }) ≤ inserted o
-text-stage doc t (OnText (Insert p seg props)) h = let e = block-counted _ (segment_contents seg) t.stage doc.text.items h in chosen-less (inserts_text (OnText (Insert p seg props))) _ _ (omega (arith, e))
+text-stage doc t (OnText (Insert p seg props)) h = let e = block-counted _ (segment_contents seg) t.stage doc.text.items h in chosen-less
+    (inserts_text (OnText (Insert p seg props))) _ _ (omega (arith, e))
 text-stage doc t (OnText (Remove p q)) h = omega arith
 text-stage doc t (OnText (Annotate p q changes)) h = omega arith
 text-stage doc t (OnIntervals op) h = omega arith
 text-stage doc t (OnGrid op) h = omega arith
 
-rows-stage : (doc : Document) (t : Stage) (o : SubOperation) → IsTyped t.stage doc t.names o → counted_of (inserts_in Rows) doc.rows.items (record t { sub_operation = o }) ≤ inserted o
+rows-stage : (doc : Document) (t : Stage) (o : SubOperation) → IsTyped t.stage doc t.names o
+    → counted_of (inserts_in Rows) doc.rows.items (record t { sub_operation = o }) ≤ inserted o
 rows-stage doc t (OnText (Insert p seg props)) h = omega arith
 rows-stage doc t (OnText (Remove p q)) h = omega arith
 rows-stage doc t (OnText (Annotate p q changes)) h = omega arith
 rows-stage doc t (OnIntervals op) h = omega arith
-rows-stage doc t (OnGrid (SpliceIn Rows p count)) h = let e = block-counted [] (replicate count GridUnit) t.stage doc.rows.items h in let n = replicated count in chosen-less (inserts_in Rows (OnGrid (SpliceIn Rows p count))) _ _ (omega (arith, e, n))
+rows-stage doc t (OnGrid (SpliceIn Rows p count)) h = let e = block-counted [] (replicate count GridUnit) t.stage doc.rows.items h in let n = replicated count
+    in chosen-less (inserts_in Rows (OnGrid (SpliceIn Rows p count))) _ _ (omega (arith, e, n))
 rows-stage doc t (OnGrid (SpliceIn Cols p count)) h = omega arith
 rows-stage doc t (OnGrid (SpliceOut target p q)) h = omega arith
 rows-stage doc t (OnGrid (Set i j value)) h = omega arith
 
-cols-stage : (doc : Document) (t : Stage) (o : SubOperation) → IsTyped t.stage doc t.names o → counted_of (inserts_in Cols) doc.cols.items (record t { sub_operation = o }) ≤ inserted o
+cols-stage : (doc : Document) (t : Stage) (o : SubOperation) → IsTyped t.stage doc t.names o
+    → counted_of (inserts_in Cols) doc.cols.items (record t { sub_operation = o }) ≤ inserted o
 cols-stage doc t (OnText (Insert p seg props)) h = omega arith
 cols-stage doc t (OnText (Remove p q)) h = omega arith
 cols-stage doc t (OnText (Annotate p q changes)) h = omega arith
 cols-stage doc t (OnIntervals op) h = omega arith
 cols-stage doc t (OnGrid (SpliceIn Rows p count)) h = omega arith
-cols-stage doc t (OnGrid (SpliceIn Cols p count)) h = let e = block-counted [] (replicate count GridUnit) t.stage doc.cols.items h in let n = replicated count in chosen-less (inserts_in Cols (OnGrid (SpliceIn Cols p count))) _ _ (omega (arith, e, n))
+cols-stage doc t (OnGrid (SpliceIn Cols p count)) h = let e = block-counted [] (replicate count GridUnit) t.stage doc.cols.items h in let n = replicated count
+    in chosen-less (inserts_in Cols (OnGrid (SpliceIn Cols p count))) _ _ (omega (arith, e, n))
 cols-stage doc t (OnGrid (SpliceOut target p q)) h = omega arith
 cols-stage doc t (OnGrid (Set i j value)) h = omega arith
 
-stages-less : (f : Stage → ℕ) (P : Stage → Type 0) → ((t : Stage) → P t → f t ≤ stage_inserts t) → (stages : List Stage) → Each P stages → total f stages ≤ total stage_inserts stages
+stages-less : (f : Stage → ℕ) (P : Stage → Type 0) → ((t : Stage) → P t → f t ≤ stage_inserts t) → (stages : List Stage) → Each P stages
+    → total f stages ≤ total stage_inserts stages
 stages-less f P h [] g = omega arith
 stages-less f P h (t ∷ stages) g = let ih = stages-less f P h stages g.1 in let e = h t g.0 in omega (arith, ih, e)
 
@@ -323,8 +346,10 @@ pending-within steps x r =
     let typed = λ (t : Stage). IsTyped t.stage x.doc t.names t.sub_operation in
     let sum = stages-of x.pending in
     let text_pending = pending-counted inserts_text stages x.doc.text.items (marked-inserted inserts_text removes_text stages x.doc.text.items ready.text.place.marks) in
-    let rows_pending = pending-counted (inserts_in Rows) stages x.doc.rows.items (marked-inserted (inserts_in Rows) (removes_in Rows) stages x.doc.rows.items ready.rows.place.marks) in
-    let cols_pending = pending-counted (inserts_in Cols) stages x.doc.cols.items (marked-inserted (inserts_in Cols) (removes_in Cols) stages x.doc.cols.items ready.cols.place.marks) in
+    let rows_pending = pending-counted (inserts_in Rows) stages x.doc.rows.items
+    (marked-inserted (inserts_in Rows) (removes_in Rows) stages x.doc.rows.items ready.rows.place.marks) in
+    let cols_pending = pending-counted (inserts_in Cols) stages x.doc.cols.items
+    (marked-inserted (inserts_in Cols) (removes_in Cols) stages x.doc.cols.items ready.cols.place.marks) in
     let text_less = stages-less (counted_of inserts_text x.doc.text.items) typed (λ t h. text-stage x.doc t t.sub_operation h) stages ready.typed in
     let rows_less = stages-less (counted_of (inserts_in Rows) x.doc.rows.items) typed (λ t h. rows-stage x.doc t t.sub_operation h) stages ready.typed in
     let cols_less = stages-less (counted_of (inserts_in Cols) x.doc.cols.items) typed (λ t h. cols-stage x.doc t t.sub_operation h) stages ready.typed in

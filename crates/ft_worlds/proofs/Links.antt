@@ -58,24 +58,28 @@ IsQueued conn [] [] = Unit {0}
 IsQueued conn [] (edit ∷ edits) = ⊥
 IsQueued conn (d ∷ ds) edits = IsFirstQueued conn d d.body edits (λ es. IsQueued conn ds es)
 
-pub answered-weaker : (es : List Entry) (edits : List PendingEdit) (R S : List PendingEdit → Type 0) → ((ys : List PendingEdit) → R ys → S ys) → IsAnswered es edits R → IsAnswered es edits S
+pub answered-weaker : (es : List Entry) (edits : List PendingEdit) (R S : List PendingEdit → Type 0) → ((ys : List PendingEdit) → R ys → S ys)
+    → IsAnswered es edits R → IsAnswered es edits S
 answered-weaker [] edits R S f h = f edits h
 answered-weaker (e ∷ es) [] R S f h = h
 answered-weaker (e ∷ es) (edit ∷ edits) R S f h = (h.0, answered-weaker es edits R S f h.1)
 
-pub answered-more : (es : List Entry) (edits : List PendingEdit) (new : PendingEdit) (R S : List PendingEdit → Type 0) → ((ys : List PendingEdit) → R ys → S (ys ++ (new ∷ []))) → IsAnswered es edits R → IsAnswered es (edits ++ (new ∷ [])) S
+pub answered-more : (es : List Entry) (edits : List PendingEdit) (new : PendingEdit) (R S : List PendingEdit → Type 0)
+    → ((ys : List PendingEdit) → R ys → S (ys ++ (new ∷ []))) → IsAnswered es edits R → IsAnswered es (edits ++ (new ∷ [])) S
 answered-more [] edits new R S f h = f edits h
 answered-more (e ∷ es) [] new R S f h = absurd h
 answered-more (e ∷ es) (edit ∷ edits) new R S f h = (h.0, answered-more es edits new R S f h.1)
 
 -- a message more, which is the first of the edits behind
-pub answered-next : (es : List Entry) (e : Entry) (edits : List PendingEdit) (R S : List PendingEdit → Type 0) → ((ys : List PendingEdit) → R ys → IsAnswered (e ∷ []) ys S) → IsAnswered es edits R → IsAnswered (es ++ (e ∷ [])) edits S
+pub answered-next : (es : List Entry) (e : Entry) (edits : List PendingEdit) (R S : List PendingEdit → Type 0)
+    → ((ys : List PendingEdit) → R ys → IsAnswered (e ∷ []) ys S) → IsAnswered es edits R → IsAnswered (es ++ (e ∷ [])) edits S
 answered-next [] e edits R S f h = f edits h
 answered-next (x ∷ es) e [] R S f h = h
 answered-next (x ∷ es) e (edit ∷ edits) R S f h = (h.0, answered-next es e edits R S f h.1)
 
 -- a renaming of the elements that edits name
-pub answered-renamed : (es : List Entry) (edits : List PendingEdit) (f : ElementId → ElementId) (R S : List PendingEdit → Type 0) → ((ys : List PendingEdit) → R ys → S (map (renamed_edit f) ys)) → IsAnswered es edits R → IsAnswered es (map (renamed_edit f) edits) S
+pub answered-renamed : (es : List Entry) (edits : List PendingEdit) (f : ElementId → ElementId) (R S : List PendingEdit → Type 0)
+    → ((ys : List PendingEdit) → R ys → S (map (renamed_edit f) ys)) → IsAnswered es edits R → IsAnswered es (map (renamed_edit f) edits) S
 answered-renamed [] edits f R S g h = g edits h
 answered-renamed (e ∷ es) [] f R S g h = h
 answered-renamed (e ∷ es) (edit ∷ edits) f R S g h = (h.0, answered-renamed es edits f R S g h.1)
@@ -85,19 +89,22 @@ queued-renamed conn f [] [] h = h
 queued-renamed conn f [] (edit ∷ edits) h = h
 queued-renamed conn f (d ∷ ds) edits h = by (λ es g. queued-renamed conn f ds es g) d.body edits h
   where
-    by : ((es : List PendingEdit) → IsQueued conn ds es → IsQueued conn ds (map (renamed_edit f) es)) → (b : Body) (es : List PendingEdit) → IsFirstQueued conn d b es (λ ys. IsQueued conn ds ys) → IsFirstQueued conn d b (map (renamed_edit f) es) (λ ys. IsQueued conn ds ys)
+    by : ((es : List PendingEdit) → IsQueued conn ds es → IsQueued conn ds (map (renamed_edit f) es)) → (b : Body) (es : List PendingEdit)
+        → IsFirstQueued conn d b es (λ ys. IsQueued conn ds ys) → IsFirstQueued conn d b (map (renamed_edit f) es) (λ ys. IsQueued conn ds ys)
     by ih Nothing es g = ih es g
     by ih (Op op) [] g = g
     by ih (Op op) (e ∷ es) g = (g.0, ih es g.1)
     by ih (Elsewhere address) es g = g
 
 -- an edit more with its draft
-pub queued-more : (conn : ℕ) (ds : List Draft) (edits : List PendingEdit) (d : Draft) (op : ChannelOp) (edit : PendingEdit) → IsQueued conn ds edits → d.body ≡ Op op → IsDraftOf conn d op edit → IsQueued conn (ds ++ (d ∷ [])) (edits ++ (edit ∷ []))
+pub queued-more : (conn : ℕ) (ds : List Draft) (edits : List PendingEdit) (d : Draft) (op : ChannelOp) (edit : PendingEdit) → IsQueued conn ds edits → d.body
+    ≡ Op op → IsDraftOf conn d op edit → IsQueued conn (ds ++ (d ∷ [])) (edits ++ (edit ∷ []))
 queued-more conn [] [] d op edit h b i = subst (λ o. IsFirstQueued conn d o (edit ∷ []) (λ ys. IsQueued conn [] ys)) (sym b) (i, tt)
 queued-more conn [] (e ∷ es) d op edit h b i = absurd h
 queued-more conn (x ∷ ds) edits d op edit h b i = by (λ es g. queued-more conn ds es d op edit g b i) x.body edits h
   where
-    by : ((es : List PendingEdit) → IsQueued conn ds es → IsQueued conn (ds ++ (d ∷ [])) (es ++ (edit ∷ []))) → (o : Body) (es : List PendingEdit) → IsFirstQueued conn x o es (λ ys. IsQueued conn ds ys)
+    by : ((es : List PendingEdit) → IsQueued conn ds es → IsQueued conn (ds ++ (d ∷ [])) (es ++ (edit ∷ []))) → (o : Body) (es : List PendingEdit)
+        → IsFirstQueued conn x o es (λ ys. IsQueued conn ds ys)
         → IsFirstQueued conn x o (es ++ (edit ∷ [])) (λ ys. IsQueued conn (ds ++ (d ∷ [])) ys)
     by ih Nothing es g = ih es g
     by ih (Op o) [] g = absurd g
@@ -109,7 +116,8 @@ pub queued-noop : (conn : ℕ) (ds : List Draft) (edits : List PendingEdit) (d :
 queued-noop conn [] edits d h b = subst (λ o. IsFirstQueued conn d o edits (λ ys. IsQueued conn [] ys)) (sym b) h
 queued-noop conn (x ∷ ds) edits d h b = by (λ es g. queued-noop conn ds es d g b) x.body edits h
   where
-    by : ((es : List PendingEdit) → IsQueued conn ds es → IsQueued conn (ds ++ (d ∷ [])) es) → (o : Body) (es : List PendingEdit) → IsFirstQueued conn x o es (λ ys. IsQueued conn ds ys) → IsFirstQueued conn x o es (λ ys. IsQueued conn (ds ++ (d ∷ [])) ys)
+    by : ((es : List PendingEdit) → IsQueued conn ds es → IsQueued conn (ds ++ (d ∷ [])) es) → (o : Body) (es : List PendingEdit)
+        → IsFirstQueued conn x o es (λ ys. IsQueued conn ds ys) → IsFirstQueued conn x o es (λ ys. IsQueued conn (ds ++ (d ∷ [])) ys)
     by ih Nothing es g = ih es g
     by ih (Op o) [] g = g
     by ih (Op o) (e ∷ es) g = (g.0, ih es g.1)
@@ -122,7 +130,8 @@ abbrev pub IsQueue : ℕ → ℕ → List Draft → ℕ → ℕ → Type 0
 IsQueue c r [] n next = (next ≡ c + 1) × (r ≤ n)
 IsQueue c r (d ∷ ds) n next = (d.client_seq ≡ c + 1) × (r ≤ d.ref_seq) × IsQueue (c + 1) d.ref_seq ds n next
 
-pub queue-more : (c r : ℕ) (ds : List Draft) (n next : ℕ) (body : Body) → IsQueue c r ds n next → IsQueue c r (ds ++ (record { client_seq = next; ref_seq = n; body = body } ∷ [])) n (next + 1)
+pub queue-more : (c r : ℕ) (ds : List Draft) (n next : ℕ) (body : Body) → IsQueue c r ds n next
+    → IsQueue c r (ds ++ (record { client_seq = next; ref_seq = n; body = body } ∷ [])) n (next + 1)
 queue-more c r [] n next body h = (h.0, h.1, (ap (λ i. i + 1) h.0, omega arith))
 queue-more c r (d ∷ ds) n next body h = (h.0, h.1, queue-more (c + 1) d.ref_seq ds n next body h.2)
 
@@ -166,10 +175,12 @@ other-join kind.Noop conn origin h = refl
 other-join (kind.Other word) conn origin h = refl
 
 -- the join of a new connection at the end of the rest
-pub awaits-new : (conns : List ℕ) (conn r : ℕ) (rest : List Entry) (e : Entry) → Each (λ x. nat_eq conn x.origin ≡ false) rest → is_own_join (Joining conn) e.msg.kind e.origin ≡ true → r ≤ e.msg.seq → Awaits conns conn r (rest ++ (e ∷ []))
+pub awaits-new : (conns : List ℕ) (conn r : ℕ) (rest : List Entry) (e : Entry) → Each (λ x. nat_eq conn x.origin ≡ false) rest
+    → is_own_join (Joining conn) e.msg.kind e.origin ≡ true → r ≤ e.msg.seq → Awaits conns conn r (rest ++ (e ∷ []))
 awaits-new conns conn r [] e o j l = subst (λ b. AwaitsHere b ((owed conns [] ≡ []) × (r ≤ e.msg.seq)) ⊥) (sym j) (refl, l)
 awaits-new conns conn r (x ∷ rest) e o j l =
-    subst (λ b. AwaitsHere b ((owed conns (rest ++ (e ∷ [])) ≡ []) × (r ≤ x.msg.seq)) (Awaits conns conn r (rest ++ (e ∷ [])))) (sym (other-join x.msg.kind conn x.origin o.0)) (awaits-new conns conn r rest e o.1 j l)
+    subst (λ b. AwaitsHere b ((owed conns (rest ++ (e ∷ [])) ≡ []) × (r ≤ x.msg.seq)) (Awaits conns conn r (rest ++ (e ∷ []))))
+    (sym (other-join x.msg.kind conn x.origin o.0)) (awaits-new conns conn r rest e o.1 j l)
 
 -- ---- links
 
@@ -206,7 +217,8 @@ IsLinked conns number next queue pending rest q (Joining conn) = IsJoining conns
 IsLinked conns number next queue pending rest q (Online conn) = IsOnline conns number next queue pending rest q conn
 
 -- another's message is numbered, and the client's connection stays joined as it is
-pub linked-more : (conns : List ℕ) (number next : ℕ) (queue : List Draft) (pending : List PendingEdit) (rest : List Entry) (q p : NaiveSequencer) (e : Entry) (link : Link) → is_owed conns e ≡ false
+pub linked-more : (conns : List ℕ) (number next : ℕ) (queue : List Draft) (pending : List PendingEdit) (rest : List Entry) (q p : NaiveSequencer) (e : Entry)
+    (link : Link) → is_owed conns e ≡ false
     → ((conn : ℕ) → list_any (nat_eq conn) conns ≡ true → find (is_joined conn) p.joined ≡ find (is_joined conn) q.joined)
     → IsLinked conns number next queue pending rest q link → IsLinked conns number next queue pending (rest ++ (e ∷ [])) p link
 linked-more conns number next queue pending rest q p e Offline h k l =
@@ -233,18 +245,29 @@ linked-more conns number next queue pending rest q p e (Online conn) h k l =
 owed-first : (conns : List ℕ) (rest : List Entry) (e : Entry) (b : Bool) → is_owed conns e ≡ b → owed conns (e ∷ rest) ≡ cond b (e ∷ owed conns rest) (owed conns rest)
 owed-first conns rest e b h = ap (λ t. cond t (e ∷ owed conns rest) (owed conns rest)) h
 
-pub answered-foreign : (conns : List ℕ) (rest : List Entry) (e : Entry) (pending : List PendingEdit) (R : List PendingEdit → Type 0) → is_owed conns e ≡ false → IsAnswered (owed conns (e ∷ rest)) pending R → IsAnswered (owed conns rest) pending R
+pub answered-foreign : (conns : List ℕ) (rest : List Entry) (e : Entry) (pending : List PendingEdit) (R : List PendingEdit → Type 0) → is_owed conns e ≡ false
+    → IsAnswered (owed conns (e ∷ rest)) pending R → IsAnswered (owed conns rest) pending R
 answered-foreign conns rest e pending R h a = subst (λ es. IsAnswered es pending R) (owed-first conns rest e false h) a
 
-awaits-foreign : (conns : List ℕ) (conn r : ℕ) (rest : List Entry) (e : Entry) → is_own_join (Joining conn) e.msg.kind e.origin ≡ false → Awaits conns conn r (e ∷ rest) → Awaits conns conn r rest
+awaits-foreign : (conns : List ℕ) (conn r : ℕ) (rest : List Entry) (e : Entry) → is_own_join (Joining conn) e.msg.kind e.origin ≡ false
+    → Awaits conns conn r (e ∷ rest) → Awaits conns conn r rest
 awaits-foreign conns conn r rest e h w = subst (λ b. AwaitsHere b ((owed conns rest ≡ []) × (r ≤ e.msg.seq)) (Awaits conns conn r rest)) h w
 
 -- a message of another
-pub linked-foreign : (conns : List ℕ) (number later next : ℕ) (queue : List Draft) (pending : List PendingEdit) (rest : List Entry) (q : NaiveSequencer) (e : Entry) (link : Link) → number ≤ later → is_owed conns e ≡ false
+pub linked-foreign : (conns : List ℕ) (number later next : ℕ) (queue : List Draft) (pending : List PendingEdit) (rest : List Entry) (q : NaiveSequencer)
+    (e : Entry) (link : Link) → number ≤ later → is_owed conns e ≡ false
     → is_own_join link e.msg.kind e.origin ≡ false → IsLinked conns number next queue pending (e ∷ rest) q link → IsLinked conns later next queue pending rest q link
 linked-foreign conns number later next queue pending rest q e Offline u h o l = record { unsent = l.unsent; answered = answered-foreign conns rest e pending AnyEdits h l.answered }
 linked-foreign conns number later next queue pending rest q e (Joining conn) u h o l =
-    record { j = l.j; has = l.has; first = l.first; unsent = l.unsent; awaits = awaits-foreign conns conn l.j.ref_seq rest e o l.awaits; answered = answered-foreign conns rest e pending AnyEdits h l.answered }
+    record {
+      j = l.j;
+      has = l.has;
+      first = l.first;
+      unsent = l.unsent;
+      awaits = awaits-foreign conns conn l.j.ref_seq rest e o l.awaits;
+      answered =
+          answered-foreign conns rest e pending AnyEdits h l.answered;
+    }
 linked-foreign conns number later next queue pending rest q e (Online conn) u h o l =
     record {
       j = l.j;
@@ -253,11 +276,13 @@ linked-foreign conns number later next queue pending rest q e (Online conn) u h 
       answered = answered-foreign conns rest e pending (λ edits. IsQueued conn queue edits) h l.answered;
     }
 
-answered-own : (conns : List ℕ) (rest : List Entry) (e : Entry) (pending : List PendingEdit) (R : List PendingEdit → Type 0) → is_owed conns e ≡ true → IsAnswered (owed conns (e ∷ rest)) pending R → IsAnswered (e ∷ owed conns rest) pending R
+answered-own : (conns : List ℕ) (rest : List Entry) (e : Entry) (pending : List PendingEdit) (R : List PendingEdit → Type 0) → is_owed conns e ≡ true
+    → IsAnswered (owed conns (e ∷ rest)) pending R → IsAnswered (e ∷ owed conns rest) pending R
 answered-own conns rest e pending R h a = subst (λ es. IsAnswered es pending R) (owed-first conns rest e true h) a
 
 -- whatever the link, the first pending edit is this message as it was sent
-pub linked-oldest : (conns : List ℕ) (number next : ℕ) (queue : List Draft) (pending : List PendingEdit) (rest : List Entry) (q : NaiveSequencer) (e : Entry) (link : Link) → is_owed conns e ≡ true → IsLinked conns number next queue pending (e ∷ rest) q link
+pub linked-oldest : (conns : List ℕ) (number next : ℕ) (queue : List Draft) (pending : List PendingEdit) (rest : List Entry) (q : NaiveSequencer) (e : Entry)
+    (link : Link) → is_owed conns e ≡ true → IsLinked conns number next queue pending (e ∷ rest) q link
     → is_oldest e pending ≡ true
 linked-oldest conns number next queue pending rest q e link h l = by link l
   where
@@ -271,10 +296,16 @@ linked-oldest conns number next queue pending rest q e link h l = by link l
     by (Online conn) k = first pending (λ edits. IsQueued conn queue edits) (answered-own conns rest e pending (λ edits. IsQueued conn queue edits) h k.answered)
 
 -- its own message
-pub linked-own : (conns : List ℕ) (number later next : ℕ) (queue : List Draft) (edit : PendingEdit) (edits : List PendingEdit) (rest : List Entry) (q : NaiveSequencer) (e : Entry) (f : ElementId → ElementId) (link : Link) → number ≤ later
-    → is_owed conns e ≡ true → is_own_join link e.msg.kind e.origin ≡ false → IsLinked conns number next queue (edit ∷ edits) (e ∷ rest) q link → IsLinked conns later next queue (map (renamed_edit f) edits) rest q link
+pub linked-own : (conns : List ℕ) (number later next : ℕ) (queue : List Draft) (edit : PendingEdit) (edits : List PendingEdit) (rest : List Entry)
+    (q : NaiveSequencer) (e : Entry) (f : ElementId → ElementId) (link : Link) → number ≤ later
+    → is_owed conns e ≡ true → is_own_join link e.msg.kind e.origin ≡ false → IsLinked conns number next queue (edit ∷ edits) (e ∷ rest) q link
+    → IsLinked conns later next queue (map (renamed_edit f) edits) rest q link
 linked-own conns number later next queue edit edits rest q e f Offline u h o l =
-    record { unsent = l.unsent; answered = answered-renamed (owed conns rest) edits f AnyEdits AnyEdits (λ ys g. tt) (answered-own conns rest e (edit ∷ edits) AnyEdits h l.answered).1 }
+    record {
+      unsent = l.unsent;
+      answered = answered-renamed (owed conns rest) edits f AnyEdits AnyEdits (λ ys g. tt)
+          (answered-own conns rest e (edit ∷ edits) AnyEdits h l.answered).1;
+    }
 linked-own conns number later next queue edit edits rest q e f (Joining conn) u h o l =
     record {
       j = l.j;
@@ -296,7 +327,8 @@ linked-own conns number later next queue edit edits rest q e f (Online conn) u h
 -- ---- the client comes online
 
 -- what is sent again has its drafts
-pub again-queued : (doc : Document) (conn k : ℕ) (pending : List PendingEdit) → IsQueued conn (flat_map (draft_of doc.number) (resubmitted_edits doc conn k pending)) (resubmitted_edits doc conn k pending)
+pub again-queued : (doc : Document) (conn k : ℕ) (pending : List PendingEdit)
+    → IsQueued conn (flat_map (draft_of doc.number) (resubmitted_edits doc conn k pending)) (resubmitted_edits doc conn k pending)
 again-queued doc conn k [] = tt
 again-queued doc conn k (edit ∷ pending) = by (again-queued doc conn k pending) (again-queued doc conn (k + 1) pending) (regenerated_edit doc edit)
   where
@@ -321,8 +353,10 @@ again-numbers doc conn k r (edit ∷ pending) next l e =
     again None = resubmitted_edits doc conn (k + 1) pending
     again (Some op) = resubmitted_edit doc conn (k + 1) edit op ∷ resubmitted_edits doc conn (k + 1 + 1) pending
 
-    by : (next ≡ length (resubmitted_edits doc conn (k + 1) pending) + (k + 1) → IsQueue k r (flat_map (draft_of doc.number) (resubmitted_edits doc conn (k + 1) pending)) doc.number next)
-        → (next ≡ length (resubmitted_edits doc conn (k + 1 + 1) pending) + (k + 1 + 1) → IsQueue (k + 1) doc.number (flat_map (draft_of doc.number) (resubmitted_edits doc conn (k + 1 + 1) pending)) doc.number next)
+    by : (next ≡ length (resubmitted_edits doc conn (k + 1) pending) + (k + 1)
+        → IsQueue k r (flat_map (draft_of doc.number) (resubmitted_edits doc conn (k + 1) pending)) doc.number next)
+        → (next ≡ length (resubmitted_edits doc conn (k + 1 + 1) pending) + (k + 1 + 1)
+        → IsQueue (k + 1) doc.number (flat_map (draft_of doc.number) (resubmitted_edits doc conn (k + 1 + 1) pending)) doc.number next)
         → (o : Option ChannelOp) → next ≡ length (again o) + (k + 1) → IsQueue k r (flat_map (draft_of doc.number) (again o)) doc.number next
     by same more None g = same g
     by same more (Some op) g = (refl, l, more (omega (arith, g)))
@@ -335,16 +369,20 @@ own-join kind.Noop conn origin h = (cc)
 own-join (kind.Other word) conn origin h = (cc)
 
 -- behind its own join nothing is owed
-pub joined-none : (conns : List ℕ) (conn r : ℕ) (rest : List Entry) (e : Entry) → is_own_join (Joining conn) e.msg.kind e.origin ≡ true → Awaits conns conn r (e ∷ rest) → owed conns rest ≡ []
+pub joined-none : (conns : List ℕ) (conn r : ℕ) (rest : List Entry) (e : Entry) → is_own_join (Joining conn) e.msg.kind e.origin ≡ true
+    → Awaits conns conn r (e ∷ rest) → owed conns rest ≡ []
 joined-none conns conn r rest e o w = (subst (λ b. AwaitsHere b ((owed conns rest ≡ []) × (r ≤ e.msg.seq)) (Awaits conns conn r rest)) o w).0
 
 -- its own join
-pub linked-join : (conns : List ℕ) (queue : List Draft) (pending : List PendingEdit) (rest : List Entry) (q : NaiveSequencer) (e : Entry) (conn : ℕ) (doc : Document) → doc.number ≡ e.msg.seq
+pub linked-join : (conns : List ℕ) (queue : List Draft) (pending : List PendingEdit) (rest : List Entry) (q : NaiveSequencer) (e : Entry) (conn : ℕ)
+    (doc : Document) → doc.number ≡ e.msg.seq
     → is_own_join (Joining conn) e.msg.kind e.origin ≡ true → IsJoining conns queue pending (e ∷ rest) q conn
-    → IsOnline conns doc.number (length (resubmitted_edits doc e.origin 1 pending) + 1) (flat_map (draft_of doc.number) (resubmitted_edits doc e.origin 1 pending)) (resubmitted_edits doc e.origin 1 pending) rest q e.origin
+    → IsOnline conns doc.number (length (resubmitted_edits doc e.origin 1 pending) + 1)
+    (flat_map (draft_of doc.number) (resubmitted_edits doc e.origin 1 pending)) (resubmitted_edits doc e.origin 1 pending) rest q e.origin
 linked-join conns queue pending rest q e conn doc n o l =
     let same : conn ≡ e.origin = own-join e.msg.kind conn e.origin o in
-    let here : (owed conns rest ≡ []) × (l.j.ref_seq ≤ e.msg.seq) = subst (λ b. AwaitsHere b ((owed conns rest ≡ []) × (l.j.ref_seq ≤ e.msg.seq)) (Awaits conns conn l.j.ref_seq rest)) o l.awaits in
+    let here : (owed conns rest ≡ []) × (l.j.ref_seq ≤ e.msg.seq) = subst (λ b. AwaitsHere b ((owed conns rest ≡ []) × (l.j.ref_seq ≤ e.msg.seq))
+    (Awaits conns conn l.j.ref_seq rest)) o l.awaits in
     let edits = resubmitted_edits doc e.origin 1 pending in
     record {
       j = l.j;

@@ -67,14 +67,16 @@ pub find-filtered : {A : Type 0} (test keep : A → Bool) → ((x : A) → test 
 find-filtered test keep f [] = refl
 find-filtered test keep f (x ∷ xs) = by (find-filtered test keep f xs) (keep x) (test x) refl refl
   where
-    by : find test (filter keep xs) ≡ find test xs → (k t : Bool) → keep x ≡ k → test x ≡ t → find test (cond k (x ∷ filter keep xs) (filter keep xs)) ≡ cond t (Some x) (find test xs)
+    by : find test (filter keep xs) ≡ find test xs → (k t : Bool) → keep x ≡ k → test x ≡ t → find test (cond k (x ∷ filter keep xs) (filter keep xs))
+        ≡ cond t (Some x) (find test xs)
     by ih true true g h = rw h refl
     by ih true false g h = rw h ih
     by ih false true g h = let one : keep x ≡ true = f x h in (cc)
     by ih false false g h = ih
 
 -- a change of elements that the test doesn't find
-pub find-changed : {A : Type 0} (test : A → Bool) (f : A → A) → ((x : A) → test (f x) ≡ test x) → ((x : A) → test x ≡ true → f x ≡ x) → (xs : List A) → find test (map f xs) ≡ find test xs
+pub find-changed : {A : Type 0} (test : A → Bool) (f : A → A) → ((x : A) → test (f x) ≡ test x) → ((x : A) → test x ≡ true → f x ≡ x) → (xs : List A)
+    → find test (map f xs) ≡ find test xs
 find-changed test f s k [] = refl
 find-changed test f s k (x ∷ xs) = by (find-changed test f s k xs) (test x) refl
   where
@@ -87,7 +89,8 @@ pub find-mapped : {A : Type 0} (test : A → Bool) (f : A → A) → ((x : A) �
 find-mapped test f s [] y h = (cc)
 find-mapped test f s (x ∷ xs) y h = by (λ g. find-mapped test f s xs y g) (test x) refl h
   where
-    by : (find test xs ≡ Some y → find test (map f xs) ≡ Some (f y)) → (t : Bool) → test x ≡ t → cond t (Some x) (find test xs) ≡ Some y → cond (test (f x)) (Some (f x)) (find test (map f xs)) ≡ Some (f y)
+    by : (find test xs ≡ Some y → find test (map f xs) ≡ Some (f y)) → (t : Bool) → test x ≡ t → cond t (Some x) (find test xs) ≡ Some y
+        → cond (test (f x)) (Some (f x)) (find test (map f xs)) ≡ Some (f y)
     by ih true e g =
         let same : x ≡ y = (cc) in
         ap (λ b. cond b (Some (f x)) (find test (map f xs))) (s x ∙ e) ∙ ap (λ z. Some (f z)) same
@@ -99,6 +102,7 @@ pub filter-more : {A : Type 0} (test : A → Bool) (xs : List A) (y : A) → fil
 filter-more test [] y = refl
 filter-more test (x ∷ xs) y = by (filter-more test xs y) (test x)
   where
-    by : filter test (xs ++ (y ∷ [])) ≡ filter test xs ++ (cond (test y) (y ∷ []) []) → (t : Bool) → cond t (x ∷ filter test (xs ++ (y ∷ []))) (filter test (xs ++ (y ∷ []))) ≡ cond t (x ∷ filter test xs) (filter test xs) ++ (cond (test y) (y ∷ []) [])
+    by : filter test (xs ++ (y ∷ [])) ≡ filter test xs ++ (cond (test y) (y ∷ []) []) → (t : Bool)
+        → cond t (x ∷ filter test (xs ++ (y ∷ []))) (filter test (xs ++ (y ∷ []))) ≡ cond t (x ∷ filter test xs) (filter test xs) ++ (cond (test y) (y ∷ []) [])
     by ih true = ap (λ zs. x ∷ zs) ih
     by ih false = ih

@@ -33,12 +33,18 @@ number-within-load events =
 -- ---- elements
 
 -- a client's lists held what the log costs and what the client owes, at most
-client-held : (w : NaiveWorld) (r : IsReachedWorld ⊥ 0 w) (c : NamedClient) → Serves ⊥ r.owner (length w.names) w.sequencer w.log c → debt w.log c ≤ total (debt w.log) w.clients → IsHeldWithin w.load c.client.doc
+client-held : (w : NaiveWorld) (r : IsReachedWorld ⊥ 0 w) (c : NamedClient) → Serves ⊥ r.owner (length w.names) w.sequencer w.log c
+    → debt w.log c ≤ total (debt w.log) w.clients → IsHeldWithin w.load c.client.doc
 client-held w r c s less =
     let held = served-held r.owner (length w.names) w.sequencer w.log c.name s.rest c.client s.served in
     let owes : debt w.log c ≡ owing_of c.client s.rest = debt-is ⊥ r.owner (length w.names) w.sequencer w.log c.name s.rest c.client s.served in
     let p = r.paid in
-    record { text = let a = held.text in omega (arith, a, owes, p, less); rows = let a = held.rows in omega (arith, a, owes, p, less); cols = let a = held.cols in omega (arith, a, owes, p, less) }
+    record {
+      text = let a = held.text in omega (arith, a, owes, p, less);
+      rows = let a = held.rows in omega (arith, a, owes, p, less);
+      cols = let a = held.cols
+          in omega (arith, a, owes, p, less);
+    }
 
 -- what holds of each that costs at most what all cost
 each-below : {A : Type 0} (f : A → ℕ) (P Q : A → Type 0) (n : ℕ) → ((x : A) → P x → f x ≤ n → Q x) → (xs : List A) → total f xs ≤ n → Each P xs → Each Q xs
@@ -49,4 +55,5 @@ pub elements-within-load : ElementsAreWithinLoad
 elements-within-load events =
     let w = reached events in
     let r = world-reached events in
-    each-below (debt w.log) (Serves ⊥ r.owner (length w.names) w.sequencer w.log) (λ (c : NamedClient). IsHeldWithin w.load c.client.doc) (total (debt w.log) w.clients) (λ c s l. client-held w r c s l) w.clients (omega arith) r.clients
+    each-below (debt w.log) (Serves ⊥ r.owner (length w.names) w.sequencer w.log) (λ (c : NamedClient). IsHeldWithin w.load c.client.doc)
+    (total (debt w.log) w.clients) (λ c s l. client-held w r c s l) w.clients (omega arith) r.clients

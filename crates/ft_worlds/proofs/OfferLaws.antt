@@ -73,7 +73,8 @@ message-same m n h =
     let d = both _ (same_int m.client_seq n.client_seq) e.0 in
     let c = both _ (nat_eq m.min n.min) d.0 in
     let b = both (same_option bytes_eq m.client_id n.client_id) (nat_eq m.seq n.seq) c.0 in
-    parts ((same_option-Decides bytes_eq bytes_eq-Decides m.client_id n.client_id).0 b.0) ((Decides-eqb m.seq n.seq).0 b.1) ((Decides-eqb m.min n.min).0 c.1) ((same_int-Decides m.client_seq n.client_seq).0 d.1)
+    parts ((same_option-Decides bytes_eq bytes_eq-Decides m.client_id n.client_id).0 b.0) ((Decides-eqb m.seq n.seq).0 b.1) ((Decides-eqb m.min n.min).0 c.1)
+    ((same_int-Decides m.client_seq n.client_seq).0 d.1)
     ((same_int-Decides m.ref_seq n.ref_seq).0 e.1) (kind-same m.kind n.kind f.1) (body-same m.body n.body g.1)
   where
     parts : m.client_id ≡ n.client_id → m.seq ≡ n.seq → m.min ≡ n.min → m.client_seq ≡ n.client_seq → m.ref_seq ≡ n.ref_seq → m.kind ≡ n.kind → m.body ≡ n.body → m ≡ n
@@ -99,14 +100,17 @@ abbrev chosen : (NamedClient → Stepped) → Option NamedClient → Stepped
 chosen f None = Err UnknownClient
 chosen f (Some c) = f c
 
-offer-of : (w : NaiveWorld) (r : IsReachedWorld ⊥ 0 w) (name text : Characters) (p : NaiveWorld × Output) → of_client w name (λ c. offer_client w c text) ≡ Ok p → IsOfferOf w name text
+offer-of : (w : NaiveWorld) (r : IsReachedWorld ⊥ 0 w) (name text : Characters) (p : NaiveWorld × Output) → of_client w name (λ c. offer_client w c text)
+    ≡ Ok p → IsOfferOf w name text
 offer-of w r name text p h = by (find (is_client name) w.clients) refl h
   where
     same : (c : NamedClient) (m : Message) (entry : Entry) (es : List Entry) → find (is_client name) w.clients ≡ Some c → message (encode_utf8_all text) ≡ Ok m → Meets ⊥ w r c
-        → ahead_of w c.client ≡ entry ∷ es → (b : Bool) → same_message m entry.msg ≡ b → cond b (now w c (processed c.client (entry ∷ []))) (Err (Foreign m.seq)) ≡ Ok p → IsOfferOf w name text
+        → ahead_of w c.client ≡ entry ∷ es → (b : Bool) → same_message m entry.msg ≡ b
+        → cond b (now w c (processed c.client (entry ∷ []))) (Err (Foreign m.seq)) ≡ Ok p → IsOfferOf w name text
     same c m entry es f a s n true e g =
         let rest : entry ∷ es ≡ s.rest = sym n ∙ ahead-is ⊥ r.owner w c s.rest s.served in
-        let t = served-takes r.owner (length w.names) w.sequencer w.log c.name es c.client entry (subst (λ xs. IsServed r.owner (length w.names) w.sequencer w.log c.name xs c.client) (sym rest) s.served) in
+        let t = served-takes r.owner (length w.names) w.sequencer w.log c.name es c.client entry
+        (subst (λ xs. IsServed r.owner (length w.names) w.sequencer w.log c.name xs c.client) (sym rest) s.served) in
         record { c = c; found = f; entry = entry; later = es; next = n; reads = a ∙ ap Ok (message-same m entry.msg e); after = t.y; takes = t.processed }
     same c m entry es f a s n false e g = (cc)
 
@@ -120,7 +124,8 @@ offer-of w r name text p h = by (find (is_client name) w.clients) refl h
     ordered c m f a s true g = next c m (ahead_of w c.client) f a s refl g
     ordered c m f a s false g = (cc)
 
-    read : (c : NamedClient) → find (is_client name) w.clients ≡ Some c → Meets ⊥ w r c → (a : Result Message Cause) → message (encode_utf8_all text) ≡ a → offered w c a ≡ Ok p → IsOfferOf w name text
+    read : (c : NamedClient) → find (is_client name) w.clients ≡ Some c → Meets ⊥ w r c → (a : Result Message Cause) → message (encode_utf8_all text) ≡ a
+        → offered w c a ≡ Ok p → IsOfferOf w name text
     read c f s (Err fault) a g = (cc)
     read c f s (Ok m) a g = ordered c m f a s (nat_eq m.seq (c.client.doc.number + 1)) g
 

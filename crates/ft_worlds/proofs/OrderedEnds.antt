@@ -75,7 +75,8 @@ carries-put test past zero new xs = carries-past past new xs
 carries-put test past (suc p) new [] = tt
 carries-put test past (suc p) new (x ∷ xs) = inl (refl, carries-put test past (cond (test x) p (suc p)) new xs)
 
-pub carries-range : (test : ListElement → Bool) (f : ListElement → ListElement) → ((e : ListElement) → id (f e) ≡ id e) → (p q i : ℕ) (xs : List ListElement) → Carries (λ a. a) xs (change_range_from i test p q f xs)
+pub carries-range : (test : ListElement → Bool) (f : ListElement → ListElement) → ((e : ListElement) → id (f e) ≡ id e) → (p q i : ℕ) (xs : List ListElement)
+    → Carries (λ a. a) xs (change_range_from i test p q f xs)
 carries-range test f same p q i [] = tt
 carries-range test f same p q i (x ∷ xs) = inl (by (test x && within p q i), carries-range test f same p q (one_more_if (test x) i) xs)
   where
@@ -83,7 +84,8 @@ carries-range test f same p q i (x ∷ xs) = inl (by (test x && within p q i), c
     by true = same x
     by false = refl
 
-pub carries-map : (h : ElementId → ElementId) (f : ListElement → ListElement) (is : ListElement → Bool) → ((e : ListElement) → is e ≡ true → id (f e) ≡ h (id e)) → (xs : List ListElement) → list_all is xs ≡ true → Carries h xs (map f xs)
+pub carries-map : (h : ElementId → ElementId) (f : ListElement → ListElement) (is : ListElement → Bool)
+    → ((e : ListElement) → is e ≡ true → id (f e) ≡ h (id e)) → (xs : List ListElement) → list_all is xs ≡ true → Carries h xs (map f xs)
 carries-map h f is same [] g = tt
 carries-map h f is same (x ∷ xs) g =
     let p = both (is x) (list_all is xs) g in
@@ -93,7 +95,8 @@ pub carries-then : (h g : ElementId → ElementId) (xs ys zs : List ListElement)
 carries-then h g [] ys zs c d = tt
 carries-then h g (x ∷ xs) ys zs c d = by (λ us vs e f. carries-then h g xs us vs e f) ys zs c d
   where
-    by : ((us vs : List ListElement) → Carries h xs us → Carries g us vs → Carries (λ a. g (h a)) xs vs) → (us vs : List ListElement) → Next (h (id x)) us (λ zs. Carries h xs zs) → Carries g us vs
+    by : ((us vs : List ListElement) → Carries h xs us → Carries g us vs → Carries (λ a. g (h a)) xs vs) → (us vs : List ListElement)
+        → Next (h (id x)) us (λ zs. Carries h xs zs) → Carries g us vs
         → Next (g (h (id x))) vs (λ zs. Carries (λ a. g (h a)) xs zs)
     by ih [] vs n f = absurd n
     by ih (u ∷ us) vs (inl e) f = next-weaker (g (id u)) (g (h (id x))) (λ zs. Carries g us zs) (λ zs. Carries (λ a. g (h a)) xs zs) (ap g e.0) (λ ws r. ih us ws e.1 r) vs f
@@ -111,12 +114,14 @@ pub any-carried : (h : ElementId → ElementId) (b : ElementId) (xs ys : List Li
 any-carried h b [] ys c g = (cc)
 any-carried h b (x ∷ xs) ys c g = by (λ us d f. any-carried h b xs us d f) ys c
   where
-    first : (us : List ListElement) (y : ListElement) → id y ≡ h (id x) → (list_any (has_id b) xs ≡ true → list_any (has_id (h b)) us ≡ true) → (t : Bool) → has_id b x ≡ t → t || list_any (has_id b) xs ≡ true
+    first : (us : List ListElement) (y : ListElement) → id y ≡ h (id x) → (list_any (has_id b) xs ≡ true → list_any (has_id (h b)) us ≡ true) → (t : Bool)
+        → has_id b x ≡ t → t || list_any (has_id b) xs ≡ true
         → has_id (h b) y || list_any (has_id (h b)) us ≡ true
     first us y e ih true s f = ap (λ t. t || list_any (has_id (h b)) us) (named-as h b x y e s)
     first us y e ih false s f = or_right (has_id (h b) y) (list_any (has_id (h b)) us) (ih f)
 
-    by : ((us : List ListElement) → Carries h xs us → list_any (has_id b) xs ≡ true → list_any (has_id (h b)) us ≡ true) → (us : List ListElement) → Next (h (id x)) us (λ zs. Carries h xs zs) → list_any (has_id (h b)) us ≡ true
+    by : ((us : List ListElement) → Carries h xs us → list_any (has_id b) xs ≡ true → list_any (has_id (h b)) us ≡ true) → (us : List ListElement)
+        → Next (h (id x)) us (λ zs. Carries h xs zs) → list_any (has_id (h b)) us ≡ true
     by ih [] n = absurd n
     by ih (u ∷ us) (inl e) = first us u e.0 (λ f. ih us e.1 f) (has_id b x) refl g
     by ih (u ∷ us) (inr n) = or_right (has_id (h b) u) (list_any (has_id (h b)) us) (by ih us n)
@@ -140,7 +145,8 @@ leads-behind a b y ys n l = by (has_id a y) (ap (λ t. not t && leads a b ys) n 
     by true k = refl
     by false k = k
 
-pub leads-carried : (h : ElementId → ElementId) (a b : ElementId) (xs ys : List ListElement) → Carries h xs ys → are_distinct ys ≡ true → list_any (has_id b) xs ≡ true → leads a b xs ≡ true → leads (h a) (h b) ys ≡ true
+pub leads-carried : (h : ElementId → ElementId) (a b : ElementId) (xs ys : List ListElement) → Carries h xs ys → are_distinct ys ≡ true
+    → list_any (has_id b) xs ≡ true → leads a b xs ≡ true → leads (h a) (h b) ys ≡ true
 leads-carried h a b [] ys c d g l = (cc)
 leads-carried h a b (x ∷ xs) ys c d g l = by (λ us e f m k. leads-carried h a b xs us e f m k) ys c d
   where
@@ -179,7 +185,8 @@ rank-leads test a b (e ∷ xs) l = by (has_id a e) (has_id b e) l (λ k. rank-le
     by false false k ih = more (test e) (rank (has_id a) test xs) (rank (has_id b) test xs) (ih k)
 
 -- where all that have the names pass
-pub leads-filter : (keep : ListElement → Bool) (a b : ElementId) (xs : List ListElement) → list_all (λ e. not (has_id a e) || keep e) xs ≡ true → list_all (λ e. not (has_id b e) || keep e) xs ≡ true
+pub leads-filter : (keep : ListElement → Bool) (a b : ElementId) (xs : List ListElement) → list_all (λ e. not (has_id a e) || keep e) xs ≡ true
+    → list_all (λ e. not (has_id b e) || keep e) xs ≡ true
     → leads a b (filter keep xs) ≡ leads a b xs
 leads-filter keep a b [] f g = refl
 leads-filter keep a b (e ∷ xs) f g =
@@ -200,21 +207,25 @@ pub at-named : (test : ListElement → Bool) (i : ℕ) (xs : List ListElement) (
 at-named test i [] e h = (cc)
 at-named test zero (x ∷ xs) e h = by (at-named test zero xs e) (test x) h
   where
-    by : (at test zero xs ≡ Some e → list_any (has_id (id e)) xs ≡ true) → (t : Bool) → cond t (Some x) (at test zero xs) ≡ Some e → has_id (id e) x || list_any (has_id (id e)) xs ≡ true
+    by : (at test zero xs ≡ Some e → list_any (has_id (id e)) xs ≡ true) → (t : Bool) → cond t (Some x) (at test zero xs) ≡ Some e → has_id (id e) x
+        || list_any (has_id (id e)) xs ≡ true
     by ih true g =
         let same : x ≡ e = (cc) in
         ap (λ t. t || list_any (has_id (id e)) xs) (ap (λ (d : ListElement). same_id (id e) (id d)) same ∙ same_id-refl (id e))
     by ih false g = or_right (has_id (id e) x) (list_any (has_id (id e)) xs) (ih g)
 at-named test (suc i) (x ∷ xs) e h = or_right (has_id (id e) x) (list_any (has_id (id e)) xs) (at-named test (cond (test x) i (suc i)) xs e h)
 
-pub at-leads : (test : ListElement → Bool) (i j : ℕ) (xs : List ListElement) (d e : ListElement) → i ≤ j → are_distinct xs ≡ true → at test i xs ≡ Some d → at test j xs ≡ Some e → leads (id d) (id e) xs ≡ true
+pub at-leads : (test : ListElement → Bool) (i j : ℕ) (xs : List ListElement) (d e : ListElement) → i ≤ j → are_distinct xs ≡ true → at test i xs ≡ Some d
+    → at test j xs ≡ Some e → leads (id d) (id e) xs ≡ true
 at-leads test i j [] d e l s h g = (cc)
 at-leads test i j (x ∷ xs) d e l s h g = by (λ m n k p q. at-leads test m n xs d e k (both (not (list_any (has_id (id x)) xs)) (are_distinct xs) s).1 p q) (test x) refl i j l h g
   where
-    later : ((m n : ℕ) → m ≤ n → at test m xs ≡ Some d → at test n xs ≡ Some e → leads (id d) (id e) xs ≡ true) → (m n : ℕ) → m ≤ n → at test m xs ≡ Some d → at test n xs ≡ Some e → leads (id d) (id e) (x ∷ xs) ≡ true
+    later : ((m n : ℕ) → m ≤ n → at test m xs ≡ Some d → at test n xs ≡ Some e → leads (id d) (id e) xs ≡ true) → (m n : ℕ) → m ≤ n → at test m xs ≡ Some d
+        → at test n xs ≡ Some e → leads (id d) (id e) (x ∷ xs) ≡ true
     later ih m n k p q = leads-behind (id d) (id e) x xs (other-name (id e) x xs s (at-named test n xs e q)) (ih m n k p q)
 
-    by : ((m n : ℕ) → m ≤ n → at test m xs ≡ Some d → at test n xs ≡ Some e → leads (id d) (id e) xs ≡ true) → (t : Bool) → test x ≡ t → (m n : ℕ) → m ≤ n → at test m (x ∷ xs) ≡ Some d → at test n (x ∷ xs) ≡ Some e → leads (id d) (id e) (x ∷ xs) ≡ true
+    by : ((m n : ℕ) → m ≤ n → at test m xs ≡ Some d → at test n xs ≡ Some e → leads (id d) (id e) xs ≡ true) → (t : Bool) → test x ≡ t → (m n : ℕ) → m ≤ n
+        → at test m (x ∷ xs) ≡ Some d → at test n (x ∷ xs) ≡ Some e → leads (id d) (id e) (x ∷ xs) ≡ true
     by ih true p zero n k u v =
         let first : Some x ≡ Some d = sym (ap (λ b. cond b (Some x) (at test zero xs)) p) ∙ u in
         let same : x ≡ d = (cc) in
@@ -254,15 +265,18 @@ first-or : (o p : Option ListElement) (q : Option ListElement) → (o ≡ None �
 first-or None p q f = sym (f refl)
 first-or (Some x) p q f = refl
 
-settled-at : (is ok : ListElement → Bool) (last : Option ListElement) (xs : List ListElement) → list_any is xs ≡ true → settled_after is ok last xs ≡ option_or (at ok (rank is ok xs) xs) (last_ok ok last xs)
+settled-at : (is ok : ListElement → Bool) (last : Option ListElement) (xs : List ListElement) → list_any is xs ≡ true → settled_after is ok last xs
+    ≡ option_or (at ok (rank is ok xs) xs) (last_ok ok last xs)
 settled-at is ok last [] h = (cc)
 settled-at is ok last (x ∷ xs) h = by (is x) (ok x) refl h (λ l g. settled-at is ok l xs g)
   where
     found : (t : Bool) → find ok (x ∷ xs) ≡ None → last_ok ok last (x ∷ xs) ≡ last
     found t g = none-last ok last (x ∷ xs) g
 
-    by : (s t : Bool) → ok x ≡ t → s || list_any is xs ≡ true → ((l : Option ListElement) → list_any is xs ≡ true → settled_after is ok l xs ≡ option_or (at ok (rank is ok xs) xs) (last_ok ok l xs))
-        → cond s (option_or (find ok (x ∷ xs)) last) (settled_after is ok (cond (ok x) (Some x) last) xs) ≡ option_or (at ok (cond s 0 (one_more_if t (rank is ok xs))) (x ∷ xs)) (last_ok ok last (x ∷ xs))
+    by : (s t : Bool) → ok x ≡ t → s || list_any is xs ≡ true → ((l : Option ListElement) → list_any is xs ≡ true → settled_after is ok l xs
+        ≡ option_or (at ok (rank is ok xs) xs) (last_ok ok l xs))
+        → cond s (option_or (find ok (x ∷ xs)) last) (settled_after is ok (cond (ok x) (Some x) last) xs)
+        ≡ option_or (at ok (cond s 0 (one_more_if t (rank is ok xs))) (x ∷ xs)) (last_ok ok last (x ∷ xs))
     by true t e g ih =
         first-or (find ok (x ∷ xs)) last (last_ok ok last (x ∷ xs)) (λ n. found true n)
         ∙ ap (λ o. option_or o (last_ok ok last (x ∷ xs))) (find-at ok (x ∷ xs))
@@ -310,7 +324,8 @@ last-at ok last m (x ∷ xs) h = by (ok x) refl h m refl (λ l n g. last-at ok l
         step true k ih = absurd (omega (arith, k))
         step false k ih = ih k
 
-    by : (t : Bool) → ok x ≡ t → one_more_if t (len ok xs) ≡ suc m → (n : ℕ) → n ≡ m → ((l : Option ListElement) (n : ℕ) → len ok xs ≡ suc n → last_ok ok l xs ≡ at ok n xs) → last_ok ok (cond t (Some x) last) xs ≡ at ok n (x ∷ xs)
+    by : (t : Bool) → ok x ≡ t → one_more_if t (len ok xs) ≡ suc m → (n : ℕ) → n ≡ m
+        → ((l : Option ListElement) (n : ℕ) → len ok xs ≡ suc n → last_ok ok l xs ≡ at ok n xs) → last_ok ok (cond t (Some x) last) xs ≡ at ok n (x ∷ xs)
     by true e g zero q ih = none-last ok (Some x) xs (none xs (omega (arith, g, q))) ∙ sym (ap (λ b. cond b (Some x) (at ok zero xs)) e)
     by true e g (suc n) q ih = ih (Some x) n (omega (arith, g, q)) ∙ sym (ap (λ b. at ok (cond b n (suc n)) xs) e)
     by false e g n q ih = ih last n (omega (arith, g, q)) ∙ sym (at-behind ok x xs n false e)
@@ -340,5 +355,6 @@ pub leads-settled : (k : ℕ) (a b : ElementId) (xs : List ListElement) → are_
     → AreInOrder xs (settle xs k (Some a)) (settle xs k (Some b))
 leads-settled k a b xs s f g l =
     subst (λ o. AreInOrder xs (option_map id o) (settle xs k (Some b))) (sym (settled-at (has_id a) (seen k) None xs f))
-    (subst (λ o. AreInOrder xs (option_map id (option_or (at (seen k) (rank (has_id a) (seen k) xs) xs) (last_ok (seen k) None xs))) (option_map id o)) (sym (settled-at (has_id b) (seen k) None xs g))
+    (subst (λ o. AreInOrder xs (option_map id (option_or (at (seen k) (rank (has_id a) (seen k) xs) xs) (last_ok (seen k) None xs))) (option_map id o))
+    (sym (settled-at (has_id b) (seen k) None xs g))
     (ordered-at (seen k) (rank (has_id a) (seen k) xs) (rank (has_id b) (seen k) xs) xs (rank-leads (seen k) a b xs l) s))

@@ -115,7 +115,8 @@ pub record IsNumbered (more : ℕ) (joined : List JoinedConnection) (q : NaiveSe
   pub told : AreUpTo (q.number + 1) entry
   pub sent : Each (λ j. j.client_seq ≤ q.number + 1) joined
 
-pub numbered-follows : (more : ℕ) (joined : List JoinedConnection) (q : NaiveSequencer) (entry : Entry) → q.minimum ≤ q.number → IsNumbered more joined q entry → Follows q.number q.minimum entry
+pub numbered-follows : (more : ℕ) (joined : List JoinedConnection) (q : NaiveSequencer) (entry : Entry) → q.minimum ≤ q.number → IsNumbered more joined q entry
+    → Follows q.number q.minimum entry
 numbered-follows more joined q entry w h =
     let m = moved q.minimum q.number more joined w h.bounded in
     let low = m.later in
@@ -124,11 +125,13 @@ numbered-follows more joined q entry w h =
     let t = h.min in
     record { seq = s; later = omega (arith, low, t); below = omega (arith, high, s, t); refers = h.refers; body = h.body; sender = h.sender; kind = h.kind }
 
-pub numbered-base : (count more : ℕ) (joined : List JoinedConnection) (q : NaiveSequencer) (log : List Entry) (entry : Entry) → count ≤ more → IsBase count q log → IsNumbered more joined q entry → IsBase more (next joined q) (log ++ (entry ∷ []))
+pub numbered-base : (count more : ℕ) (joined : List JoinedConnection) (q : NaiveSequencer) (log : List Entry) (entry : Entry) → count ≤ more
+    → IsBase count q log → IsNumbered more joined q entry → IsBase more (next joined q) (log ++ (entry ∷ []))
 numbered-base count more joined q log entry c b h =
     let m = moved q.minimum q.number more joined b.within h.bounded in
     record {
-      order = subst (λ l. Leads 0 0 (log ++ (entry ∷ [])) (q.number + 1) l) h.min (leads-more log 0 0 q.number q.minimum entry b.order (numbered-follows more joined q entry b.within h));
+      order = subst (λ l. Leads 0 0 (log ++ (entry ∷ [])) (q.number + 1) l) h.min
+          (leads-more log 0 0 q.number q.minimum entry b.order (numbered-follows more joined q entry b.within h));
       within = m.below;
       joined = m.bounded;
       origins = each-more (λ e. e.origin ≤ more) log entry (each-weaker (λ e. e.origin ≤ count) (λ e. e.origin ≤ more) (λ e o. omega (arith, o, c)) log b.origins) h.origin;
@@ -147,12 +150,14 @@ new_connection q conn name = record { conn = conn; name = name; ref_seq = q.mini
 sent-later : (q : NaiveSequencer) → Each (λ j. j.client_seq ≤ q.number) q.joined → Each (λ j. j.client_seq ≤ q.number + 1) q.joined
 sent-later q h = each-weaker (λ (j : JoinedConnection). j.client_seq ≤ q.number) (λ (j : JoinedConnection). j.client_seq ≤ q.number + 1) (λ j l. omega (arith, l)) q.joined h
 
-pub join-numbered : (count : ℕ) (q : NaiveSequencer) (log : List Entry) (name : Characters) → IsBase count q log → IsNumbered (count + 1) (q.joined ++ (new_connection q (count + 1) name ∷ [])) q (join q (count + 1) name).1
+pub join-numbered : (count : ℕ) (q : NaiveSequencer) (log : List Entry) (name : Characters) → IsBase count q log
+    → IsNumbered (count + 1) (q.joined ++ (new_connection q (count + 1) name ∷ [])) q (join q (count + 1) name).1
 join-numbered count q log name b =
     let w = b.within in
     record {
       bounded = each-more (IsBounded q.minimum q.number (count + 1)) q.joined (new_connection q (count + 1) name)
-          (each-weaker (IsBounded q.minimum q.number count) (IsBounded q.minimum q.number (count + 1)) (λ j h. widen q.minimum q.number count (count + 1) j (omega arith) h) q.joined b.joined)
+          (each-weaker (IsBounded q.minimum q.number count) (IsBounded q.minimum q.number (count + 1))
+          (λ j h. widen q.minimum q.number count (count + 1) j (omega arith) h) q.joined b.joined)
           (record { above = omega arith; below = w; known = omega arith });
       seq = refl;
       min = refl;
@@ -176,7 +181,8 @@ gone q conn j = (next (others conn q) q, notice (next (others conn q) q) conn j.
 pub leave-found : (q : NaiveSequencer) (conn : ℕ) (j : JoinedConnection) → find (is_joined conn) q.joined ≡ Some j → leave q conn ≡ Some (gone q conn j)
 leave-found q conn j f = ap (λ (o : Option JoinedConnection). option_map (gone q conn) o) f
 
-pub leave-numbered : (count : ℕ) (q : NaiveSequencer) (log : List Entry) (conn : ℕ) (j : JoinedConnection) → IsBase count q log → conn ≤ count → IsNumbered count (others conn q) q (gone q conn j).1
+pub leave-numbered : (count : ℕ) (q : NaiveSequencer) (log : List Entry) (conn : ℕ) (j : JoinedConnection) → IsBase count q log → conn ≤ count
+    → IsNumbered count (others conn q) q (gone q conn j).1
 leave-numbered count q log conn j b k = record {
   bounded = each-filtered (IsBounded q.minimum q.number count) (λ i. not (is_joined conn i)) q.joined b.joined;
   seq = refl;
@@ -214,11 +220,13 @@ known_kind (Elsewhere address) = tt
 abbrev pub after_draft : JoinedConnection → Draft → NaiveSequencer → List JoinedConnection
 after_draft j d q = map (λ i. cond (is_joined j.conn i) (submitted d i) i) q.joined
 
-draft-bounded : (m n count : ℕ) (b : Bool) (d : Draft) (i : JoinedConnection) → m ≤ d.ref_seq → d.ref_seq ≤ n → IsBounded m n count i → IsBounded m n count (cond b (submitted d i) i)
+draft-bounded : (m n count : ℕ) (b : Bool) (d : Draft) (i : JoinedConnection) → m ≤ d.ref_seq → d.ref_seq ≤ n → IsBounded m n count i
+    → IsBounded m n count (cond b (submitted d i) i)
 draft-bounded m n count true d i l h b = record { above = l; below = h; known = b.known }
 draft-bounded m n count false d i l h b = b
 
-pub draft-numbered : (count : ℕ) (q : NaiveSequencer) (log : List Entry) (j : JoinedConnection) (d : Draft) → IsBase count q log → j.conn ≤ count → IsAccepted q j d → d.client_seq ≤ q.number + 1 → IsNumbered count (after_draft j d q) q (sequence q j d).1
+pub draft-numbered : (count : ℕ) (q : NaiveSequencer) (log : List Entry) (j : JoinedConnection) (d : Draft) → IsBase count q log → j.conn ≤ count
+    → IsAccepted q j d → d.client_seq ≤ q.number + 1 → IsNumbered count (after_draft j d q) q (sequence q j d).1
 draft-numbered count q log j d b k a u = record {
   bounded = each-mapped (IsBounded q.minimum q.number count) (IsBounded q.minimum q.number count) (λ i. cond (is_joined j.conn i) (submitted d i) i)
       (λ i h. draft-bounded q.minimum q.number count (is_joined j.conn i) d i a.above a.below h) q.joined b.joined;
@@ -230,7 +238,8 @@ draft-numbered count q log j d b k a u = record {
   kind = known_kind d.body;
   origin = k;
   told = (u, let l = a.below in omega (arith, l));
-  sent = each-mapped (λ i. i.client_seq ≤ q.number + 1) (λ i. i.client_seq ≤ q.number + 1) (λ i. cond (is_joined j.conn i) (submitted d i) i) (λ i h. sent-draft (is_joined j.conn i) i h) q.joined (sent-later q b.sent);
+  sent = each-mapped (λ i. i.client_seq ≤ q.number + 1) (λ i. i.client_seq ≤ q.number + 1) (λ i. cond (is_joined j.conn i) (submitted d i) i)
+      (λ i h. sent-draft (is_joined j.conn i) i h) q.joined (sent-later q b.sent);
 }
   where
     sent-draft : (t : Bool) (i : JoinedConnection) → i.client_seq ≤ q.number + 1 → (cond t (submitted d i) i).client_seq ≤ q.number + 1
@@ -256,7 +265,13 @@ unnacked q j d h =
     let t1 : nat_lt d.ref_seq q.minimum ≡ false = b.0 in
     let t2 : nat_lt d.ref_seq j.ref_seq ≡ false = c.0 in
     let t3 : nat_lt q.number d.ref_seq ≡ false = e.0 in
-    record { next = same-of (nat_eq d.client_seq (j.client_seq + 1)) refl t0; above = grind (arith, nat_tests); rising = grind (arith, nat_tests); below = grind (arith, nat_tests) }
+    record {
+      next = same-of (nat_eq d.client_seq (j.client_seq + 1)) refl t0;
+      above = grind (arith, nat_tests);
+      rising = grind (arith, nat_tests);
+      below =
+          grind (arith, nat_tests);
+    }
   where
     same-of : (b : Bool) → nat_eq d.client_seq (j.client_seq + 1) ≡ b → not b ≡ false → d.client_seq ≡ j.client_seq + 1
     same-of true e n = same_number d.client_seq (j.client_seq + 1) e
@@ -282,7 +297,8 @@ abbrev submitted_to : NaiveSequencer → Draft → Option JoinedConnection → R
 submitted_to q d None = Err NotJoined
 submitted_to q d (Some j) = nacked q j d (nack_of q j d)
 
-pub submit-accepted : (q : NaiveSequencer) (conn : ℕ) (j : JoinedConnection) (d : Draft) → find (is_joined conn) q.joined ≡ Some j → IsAccepted q j d → submit q conn d ≡ Ok (sequence q j d)
+pub submit-accepted : (q : NaiveSequencer) (conn : ℕ) (j : JoinedConnection) (d : Draft) → find (is_joined conn) q.joined ≡ Some j → IsAccepted q j d
+    → submit q conn d ≡ Ok (sequence q j d)
 submit-accepted q conn j d f a =
     let here : submit q conn d ≡ submitted_to q d (Some j) = ap (submitted_to q d) f in
     here ∙ ap (nacked q j d) (accepted-none q j d a)

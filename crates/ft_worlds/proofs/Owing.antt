@@ -164,7 +164,8 @@ body-loaded (Elsewhere address) = omega arith
 stages-renamed : (f : ElementId → ElementId) (e : PendingEdit) → edit_cost (renamed_edit f e) ≡ edit_cost e
 stages-renamed f e = ap (λ n. 1 + n) (total-map stage_inserts (renamed_stage f) stage_inserts (λ t. refl) e.stages)
 
-pub renamed-cost : {A : Type 0} (f : ElementId → ElementId) (es : List A) (edits : List PendingEdit) → total edit_cost (behind es (map (renamed_edit f) edits)) ≡ total edit_cost (behind es edits)
+pub renamed-cost : {A : Type 0} (f : ElementId → ElementId) (es : List A) (edits : List PendingEdit) → total edit_cost (behind es (map (renamed_edit f) edits))
+    ≡ total edit_cost (behind es edits)
 renamed-cost f es edits = ap (total edit_cost) (behind-map (renamed_edit f) es edits) ∙ total-map edit_cost (renamed_edit f) edit_cost (stages-renamed f) (behind es edits)
 
 -- ---- what is sent again costs no more
@@ -198,7 +199,8 @@ resubmitted-cost doc conn n (edit ∷ edits) = by (regenerated_edit doc edit) (r
     again None = resubmitted_edits doc conn n edits
     again (Some op) = resubmitted_edit doc conn n edit op ∷ resubmitted_edits doc conn (n + 1) edits
 
-    by : (o : Option ChannelOp) → total edit_cost (resubmitted_edits doc conn n edits) ≤ total edit_cost edits → total edit_cost (resubmitted_edits doc conn (n + 1) edits) ≤ total edit_cost edits
+    by : (o : Option ChannelOp) → total edit_cost (resubmitted_edits doc conn n edits) ≤ total edit_cost edits
+        → total edit_cost (resubmitted_edits doc conn (n + 1) edits) ≤ total edit_cost edits
         → total edit_cost (again o) ≤ edit_cost edit + total edit_cost edits
     by None same more = omega (arith, same)
     by (Some op) same more = let carried = stages-carried doc edit.stages in omega (arith, more, carried)
@@ -211,23 +213,27 @@ resubmitted-noops doc conn n r (edit ∷ edits) = by (regenerated_edit doc edit)
     again None = resubmitted_edits doc conn n edits
     again (Some op) = resubmitted_edit doc conn n edit op ∷ resubmitted_edits doc conn (n + 1) edits
 
-    by : (o : Option ChannelOp) → total noops (flat_map (draft_of r) (resubmitted_edits doc conn n edits)) ≡ 0 → total noops (flat_map (draft_of r) (resubmitted_edits doc conn (n + 1) edits)) ≡ 0
+    by : (o : Option ChannelOp) → total noops (flat_map (draft_of r) (resubmitted_edits doc conn n edits)) ≡ 0
+        → total noops (flat_map (draft_of r) (resubmitted_edits doc conn (n + 1) edits)) ≡ 0
         → total noops (flat_map (draft_of r) (again o)) ≡ 0
     by None same more = same
     by (Some op) same more = omega (arith, more)
 
 -- ---- what is owed after each step
 
-pub owing-foreign : (conns : List ℕ) (rest : List Entry) (e : Entry) (pending : List PendingEdit) (queue : List Draft) → is_owed conns e ≡ false → owing conns rest pending queue ≡ owing conns (e ∷ rest) pending queue
+pub owing-foreign : (conns : List ℕ) (rest : List Entry) (e : Entry) (pending : List PendingEdit) (queue : List Draft) → is_owed conns e ≡ false
+    → owing conns rest pending queue ≡ owing conns (e ∷ rest) pending queue
 owing-foreign conns rest e pending queue h = sym (ap (λ b. total edit_cost (behind (cond b (e ∷ owed conns rest) (owed conns rest)) pending) + total noops queue) h)
 
-pub owing-own : (conns : List ℕ) (rest : List Entry) (e : Entry) (edit : PendingEdit) (edits : List PendingEdit) (f : ElementId → ElementId) (queue : List Draft) → is_owed conns e ≡ true
+pub owing-own : (conns : List ℕ) (rest : List Entry) (e : Entry) (edit : PendingEdit) (edits : List PendingEdit) (f : ElementId → ElementId)
+    (queue : List Draft) → is_owed conns e ≡ true
     → owing conns rest (map (renamed_edit f) edits) queue ≡ owing conns (e ∷ rest) (edit ∷ edits) queue
 owing-own conns rest e edit edits f queue h =
     ap (λ n. n + total noops queue) (renamed-cost f (owed conns rest) edits)
     ∙ sym (ap (λ b. total edit_cost (behind (cond b (e ∷ owed conns rest) (owed conns rest)) (edit ∷ edits)) + total noops queue) h)
 
-pub owing-join : (conns : List ℕ) (rest : List Entry) (e : Entry) (doc : Document) (pending : List PendingEdit) (queue : List Draft) → is_owed conns e ≡ false → owed conns rest ≡ []
+pub owing-join : (conns : List ℕ) (rest : List Entry) (e : Entry) (doc : Document) (pending : List PendingEdit) (queue : List Draft) → is_owed conns e ≡ false
+    → owed conns rest ≡ []
     → owing conns rest (resubmitted_edits doc e.origin 1 pending) (flat_map (draft_of doc.number) (resubmitted_edits doc e.origin 1 pending)) ≤ owing conns (e ∷ rest) pending queue
 owing-join conns rest e doc pending queue h none =
     let edits = resubmitted_edits doc e.origin 1 pending in
@@ -238,10 +244,12 @@ owing-join conns rest e doc pending queue h none =
     let zero = resubmitted-noops doc e.origin 1 doc.number pending in
     omega (arith, after, before, same, less, zero)
 
-pub owing-more : (conns : List ℕ) (rest : List Entry) (e : Entry) (pending : List PendingEdit) (queue : List Draft) → is_owed conns e ≡ false → owing conns (rest ++ (e ∷ [])) pending queue ≡ owing conns rest pending queue
+pub owing-more : (conns : List ℕ) (rest : List Entry) (e : Entry) (pending : List PendingEdit) (queue : List Draft) → is_owed conns e ≡ false
+    → owing conns (rest ++ (e ∷ [])) pending queue ≡ owing conns rest pending queue
 owing-more conns rest e pending queue h = ap (λ es. total edit_cost (behind es pending) + total noops queue) (owed-more conns rest e h)
 
-pub owing-edited : (conns : List ℕ) (rest : List Entry) (pending : List PendingEdit) (edit : PendingEdit) (queue : List Draft) → owing conns rest (pending ++ (edit ∷ [])) queue ≤ owing conns rest pending queue + edit_cost edit
+pub owing-edited : (conns : List ℕ) (rest : List Entry) (pending : List PendingEdit) (edit : PendingEdit) (queue : List Draft)
+    → owing conns rest (pending ++ (edit ∷ [])) queue ≤ owing conns rest pending queue + edit_cost edit
 owing-edited conns rest pending edit queue = let h = behind-more edit_cost (owed conns rest) pending edit in omega (arith, h)
 
 -- as an edit was sent, it inserts what its stages do
@@ -264,8 +272,10 @@ behind-one x y [] = refl
 behind-one x y (z ∷ zs) = refl
 
 -- the first draft of the queue was numbered
-pub owing-sent : (conn : ℕ) (conns : List ℕ) (rest : List Entry) (e : Entry) (pending : List PendingEdit) (d : Draft) (ds : List Draft) → e.msg.body ≡ d.body → is_owed conns e ≡ has_body d.body
-    → IsAnswered (owed conns rest) pending (λ ys. IsQueued conn (d ∷ ds) ys) → Each IsPriced pending → owing conns (rest ++ (e ∷ [])) pending ds + entry_cost e ≤ owing conns rest pending (d ∷ ds)
+pub owing-sent : (conn : ℕ) (conns : List ℕ) (rest : List Entry) (e : Entry) (pending : List PendingEdit) (d : Draft) (ds : List Draft) → e.msg.body ≡ d.body
+    → is_owed conns e ≡ has_body d.body
+    → IsAnswered (owed conns rest) pending (λ ys. IsQueued conn (d ∷ ds) ys) → Each IsPriced pending
+    → owing conns (rest ++ (e ∷ [])) pending ds + entry_cost e ≤ owing conns rest pending (d ∷ ds)
 owing-sent conn conns rest e pending d ds same o a p = by d.body refl
   where
     cost : (b : Body) → d.body ≡ b → entry_cost e ≡ 1 + body_inserts b
@@ -287,11 +297,13 @@ owing-sent conn conns rest e pending d ds same o a p = by d.body refl
         let n = count Nothing h in
         omega (arith, none, c, n)
     by (Op op) h =
-        let more : owed conns (rest ++ (e ∷ [])) ≡ owed conns rest ++ (e ∷ []) = filter-more (is_owed conns) rest e ∙ ap (λ b. owed conns rest ++ (cond b (e ∷ []) [])) (o ∙ ap has_body h) in
+        let more : owed conns (rest ++ (e ∷ [])) ≡ owed conns rest ++ (e ∷ []) = filter-more (is_owed conns) rest e
+        ∙ ap (λ b. owed conns rest ++ (cond b (e ∷ []) [])) (o ∙ ap has_body h) in
         let moved : behind (owed conns (rest ++ (e ∷ []))) pending ≡ behind (op ∷ []) last =
         ap (λ es. behind es pending) more ∙ (behind-append (owed conns rest) (e ∷ []) pending ∙ behind-one e op last) in
         let sum : total edit_cost (behind (owed conns (rest ++ (e ∷ []))) pending) ≡ total edit_cost (behind (op ∷ []) last) = ap (total edit_cost) moved in
-        let less = first-priced conn d op last (λ es. IsQueued conn ds es) (subst (λ b. IsFirstQueued conn d b last (λ es. IsQueued conn ds es)) h first) (each-behind_some IsPriced (owed conns rest) pending p) in
+        let less = first-priced conn d op last (λ es. IsQueued conn ds es) (subst (λ b. IsFirstQueued conn d b last (λ es. IsQueued conn ds es)) h first)
+        (each-behind_some IsPriced (owed conns rest) pending p) in
         let c = cost (Op op) h in
         let n = count (Op op) h in
         omega (arith, sum, less, c, n)
@@ -308,19 +320,22 @@ AreDistinct (c ∷ cs) = (list_any (is_client c.name) cs ≡ false) × AreDistin
 abbrev pub OthersSame : Characters → (NamedClient → ℕ) → (NamedClient → ℕ) → List NamedClient → Type 0
 OthersSame name f g cs = Each (λ c. is_client name c ≡ false → g c ≡ f c) cs
 
-none-placed : (f g : NamedClient → ℕ) (d : NamedClient) (cs : List NamedClient) → list_any (is_client d.name) cs ≡ false → OthersSame d.name f g cs → total g (map (in_place d) cs) ≡ total f cs
+none-placed : (f g : NamedClient → ℕ) (d : NamedClient) (cs : List NamedClient) → list_any (is_client d.name) cs ≡ false → OthersSame d.name f g cs
+    → total g (map (in_place d) cs) ≡ total f cs
 none-placed f g d [] h o = refl
 none-placed f g d (c ∷ cs) h o = by (is_client d.name c) refl h (λ k. none-placed f g d cs k o.1)
   where
     rest : Bool
     rest = list_any (is_client d.name) cs
 
-    by : (b : Bool) → is_client d.name c ≡ b → b || rest ≡ false → (rest ≡ false → total g (map (in_place d) cs) ≡ total f cs) → g (cond b d c) + total g (map (in_place d) cs) ≡ f c + total f cs
+    by : (b : Bool) → is_client d.name c ≡ b → b || rest ≡ false → (rest ≡ false → total g (map (in_place d) cs) ≡ total f cs)
+        → g (cond b d c) + total g (map (in_place d) cs) ≡ f c + total f cs
     by true e k ih = (cc)
     by false e k ih = let i = ih k in let same = o.0 e in omega (arith, i, same)
 
 -- a client in the place of the one that was found
-pub total-placed : (f g : NamedClient → ℕ) (name : Characters) (c d : NamedClient) (cs : List NamedClient) → AreDistinct cs → find (is_client name) cs ≡ Some c → d.name ≡ name → OthersSame name f g cs
+pub total-placed : (f g : NamedClient → ℕ) (name : Characters) (c d : NamedClient) (cs : List NamedClient) → AreDistinct cs → find (is_client name) cs ≡ Some c
+    → d.name ≡ name → OthersSame name f g cs
     → total g (map (in_place d) cs) + f c ≡ total f cs + g d
 total-placed f g name c d [] a h s o = (cc)
 total-placed f g name c d (x ∷ cs) a h s o = by (is_client name x) refl h (λ k. total-placed f g name c d cs a.1 k s o.1)
@@ -372,7 +387,8 @@ distinct-more (c ∷ cs) d h n = (by (is_client d.name c) refl n, distinct-more 
     last [] e k = ap (λ b. b || false) e
     last (x ∷ xs) e k = first (is_client c.name x) k (λ g. last xs e g)
       where
-        first : (b : Bool) → b || list_any (is_client c.name) xs ≡ false → (list_any (is_client c.name) xs ≡ false → list_any (is_client c.name) (xs ++ (d ∷ [])) ≡ false) → b || list_any (is_client c.name) (xs ++ (d ∷ [])) ≡ false
+        first : (b : Bool) → b || list_any (is_client c.name) xs ≡ false → (list_any (is_client c.name) xs ≡ false
+            → list_any (is_client c.name) (xs ++ (d ∷ [])) ≡ false) → b || list_any (is_client c.name) (xs ++ (d ∷ [])) ≡ false
         first true g ih = (cc)
         first false g ih = ih g
 

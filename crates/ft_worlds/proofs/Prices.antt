@@ -38,7 +38,8 @@ told-front : (m : ℕ) (gs ts : List ToldStage) → AreTold m (gs ++ ts) → Are
 told-front m [] ts h = (tt, h)
 told-front m (g ∷ gs) ts h = let r = told-front m gs ts h.3 in ((h.0, h.1, h.2, r.0), r.1)
 
-stages-insert : (m : ℕ) (gs : List ToldStage) → AreTold m gs → total inserted (flat_map (λ (g : ToldStage). told_as g.sent) gs) ≡ total stage_inserts (map (λ (g : ToldStage). g.stage) gs)
+stages-insert : (m : ℕ) (gs : List ToldStage) → AreTold m gs → total inserted (flat_map (λ (g : ToldStage). told_as g.sent) gs)
+    ≡ total stage_inserts (map (λ (g : ToldStage). g.stage) gs)
 stages-insert m [] h = refl
 stages-insert m (g ∷ gs) h =
     let one = told-insert g.stage.sub_operation g.sent h.1.place in
@@ -46,7 +47,8 @@ stages-insert m (g ∷ gs) h =
     let sum = total-append inserted (told_as g.sent) (flat_map (λ (g : ToldStage). told_as g.sent) gs) in
     omega (arith, one, ih, sum)
 
-sent-priced : (c m : ℕ) (gs : List ToldStage) (edit : PendingEdit) → AreTold m gs → edit.stages ≡ map (λ g. g.stage) gs → (sent : Option SentAs) → SentTold c gs sent → IsPricedAs (edit_inserts edit) sent
+sent-priced : (c m : ℕ) (gs : List ToldStage) (edit : PendingEdit) → AreTold m gs → edit.stages ≡ map (λ g. g.stage) gs → (sent : Option SentAs)
+    → SentTold c gs sent → IsPricedAs (edit_inserts edit) sent
 sent-priced c m gs edit told e None h = tt
 sent-priced c m gs edit told e (Some sent) h = ap (total inserted) h.1 ∙ (stages-insert m gs told ∙ sym (ap (total stage_inserts) e))
 

@@ -28,20 +28,23 @@ reading-one w (Ok e) r = answer-one w e (step w e) r (steps-turn ⊥ w r e (λ f
 line-one : (w : NaiveWorld) (line : List ℕ) → IsReachedWorld ⊥ 0 w → IsOne (step_of (take_line as_shown) w line) (step_of (take_line as_applied) w line)
 line-one w line r = by (nat_lt line_limit (length line)) (is_blank line)
   where
-    by : (long blank : Bool) → IsOne (cond long (refuses w LineTooLong) (cond blank (passes w) (take_line as_shown w line))) (cond long (refuses w LineTooLong) (cond blank (passes w) (take_line as_applied w line)))
+    by : (long blank : Bool) → IsOne (cond long (refuses w LineTooLong) (cond blank (passes w) (take_line as_shown w line)))
+        (cond long (refuses w LineTooLong) (cond blank (passes w) (take_line as_applied w line)))
     by true blank = record { same = refl; reached = r }
     by false true = record { same = refl; reached = r }
     by false false = reading-one w (event line) r
 
 -- ---- all lines
 
-lines-after : (lines : List (List ℕ)) (at : Progress NaiveWorld) → IsReachedWorld ⊥ 0 at.made → after_lines (take_line as_shown) at lines ≡ after_lines (take_line as_applied) at lines
+lines-after : (lines : List (List ℕ)) (at : Progress NaiveWorld) → IsReachedWorld ⊥ 0 at.made → after_lines (take_line as_shown) at lines
+    ≡ after_lines (take_line as_applied) at lines
 lines-after [] at r = refl
 lines-after (line ∷ lines) at r =
     let h = line-one at.made line r in
     lines-after lines (after_line (take_line as_shown) at line) h.reached ∙ ap (λ s. after_lines (take_line as_applied) (after_step at s) lines) h.same
 
-lines-written : (lines : List (List ℕ)) (at : Progress NaiveWorld) → IsReachedWorld ⊥ 0 at.made → written_by (take_line as_shown) at lines ≡ written_by (take_line as_applied) at lines
+lines-written : (lines : List (List ℕ)) (at : Progress NaiveWorld) → IsReachedWorld ⊥ 0 at.made → written_by (take_line as_shown) at lines
+    ≡ written_by (take_line as_applied) at lines
 lines-written [] at r = refl
 lines-written (line ∷ lines) at r =
     let h = line-one at.made line r in

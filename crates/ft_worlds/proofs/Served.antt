@@ -38,7 +38,8 @@ after-none : (o : Option NaiveClient) → after_steps o [] ≡ o
 after-none None = refl
 after-none (Some x) = refl
 
-steps-more : (steps : List ClientStep) (o : Option NaiveClient) (x : NaiveClient) (s : ClientStep) → after_steps o steps ≡ Some x → after_steps o (steps ++ (s ∷ [])) ≡ after_step x s
+steps-more : (steps : List ClientStep) (o : Option NaiveClient) (x : NaiveClient) (s : ClientStep) → after_steps o steps ≡ Some x
+    → after_steps o (steps ++ (s ∷ [])) ≡ after_step x s
 steps-more steps None x s h = (cc)
 steps-more [] (Some z) x s h = let same : z ≡ x = (cc) in after-none (after_step z s) ∙ ap (λ y. after_step y s) same
 steps-more (t ∷ steps) (Some z) x s h = steps-more steps (after_step z t) x s h
@@ -57,7 +58,8 @@ taken-more (Sends ∷ steps) s = taken-more steps s
 taken-more (Restarts ∷ steps) s = taken-more steps s
 taken-more (Takes e ∷ steps) s = ap (λ es. e ∷ es) (taken-more steps s)
 
-pub run-more : (steps : List ClientStep) (x y : NaiveClient) (s : ClientStep) → IsRun steps x → after_step x s ≡ Some y → list_all has_fitting_body (entry_of s) ≡ true → IsRun (steps ++ (s ∷ [])) y
+pub run-more : (steps : List ClientStep) (x y : NaiveClient) (s : ClientStep) → IsRun steps x → after_step x s ≡ Some y
+    → list_all has_fitting_body (entry_of s) ≡ true → IsRun (steps ++ (s ∷ [])) y
 run-more steps x y s r h b = record {
   made = steps-more steps (Some (client_over empty)) x s r.made ∙ h;
   bodies = ap (list_all has_fitting_body) (taken-more steps s) ∙ all-append has_fitting_body (taken_entries steps) (entry_of s) r.bodies b;
@@ -80,19 +82,22 @@ pub record IsServed (owner : ℕ → Option Characters) (count : ℕ) (q : Naive
   pub link : IsLinked x.conns x.doc.number x.next_client_seq x.queue x.pending rest q x.link
 
 -- connections more
-pub served-known : (owner other : ℕ → Option Characters) (count more : ℕ) (q : NaiveSequencer) (log : List Entry) (name : Characters) (rest : List Entry) (x : NaiveClient) → count ≤ more
+pub served-known : (owner other : ℕ → Option Characters) (count more : ℕ) (q : NaiveSequencer) (log : List Entry) (name : Characters) (rest : List Entry)
+    (x : NaiveClient) → count ≤ more
     → ((conn : ℕ) → conn ≤ count → other conn ≡ owner conn) → IsServed owner count q log name rest x → IsServed other more q log name rest x
 served-known owner other count more q log name rest x l k s = record {
   steps = s.steps;
   run = s.run;
   entries = s.entries;
   order = s.order;
-  conns = each-weaker (IsOwned owner count name) (IsOwned other more name) (λ conn o. record { by = k conn o.known ∙ o.by; known = let h = o.known in omega (arith, h, l) }) x.conns s.conns;
+  conns = each-weaker (IsOwned owner count name) (IsOwned other more name)
+      (λ conn o. record { by = k conn o.known ∙ o.by; known = let h = o.known in omega (arith, h, l) }) x.conns s.conns;
   link = s.link;
 }
 
 -- another's message is numbered
-pub served-more : (owner : ℕ → Option Characters) (count : ℕ) (q p : NaiveSequencer) (log : List Entry) (name : Characters) (rest : List Entry) (x : NaiveClient) (e : Entry) → Follows q.number q.minimum e
+pub served-more : (owner : ℕ → Option Characters) (count : ℕ) (q p : NaiveSequencer) (log : List Entry) (name : Characters) (rest : List Entry)
+    (x : NaiveClient) (e : Entry) → Follows q.number q.minimum e
     → p.number ≡ q.number + 1 → p.minimum ≡ e.msg.min → is_owed x.conns e ≡ false
     → ((conn : ℕ) → IsOwned owner count name conn → find (is_joined conn) p.joined ≡ find (is_joined conn) q.joined)
     → IsServed owner count q log name rest x → IsServed owner count p (log ++ (e ∷ [])) name (rest ++ (e ∷ [])) x
@@ -103,7 +108,8 @@ served-more owner count q p log name rest x e f n m o k s = record {
   order = subst (λ i. Leads x.doc.number x.doc.minimum (rest ++ (e ∷ [])) i p.minimum) (sym n)
       (subst (λ i. Leads x.doc.number x.doc.minimum (rest ++ (e ∷ [])) (q.number + 1) i) (sym m) (leads-more rest x.doc.number x.doc.minimum q.number q.minimum e s.order f));
   conns = s.conns;
-  link = linked-more x.conns x.doc.number x.next_client_seq x.queue x.pending rest q p e x.link o (λ conn h. k conn (each-any (IsOwned owner count name) conn x.conns h s.conns)) s.link;
+  link = linked-more x.conns x.doc.number x.next_client_seq x.queue x.pending rest q p e x.link o
+      (λ conn h. k conn (each-any (IsOwned owner count name) conn x.conns h s.conns)) s.link;
 }
 
 -- ---- the next entry is taken
@@ -179,8 +185,10 @@ sent-is-op e (edit ∷ edits) h = by edit.sent refl
         let t : is_sent_as e (record edit { sent = Some sent }) ≡ true = subst (λ i. is_sent_as e (record edit { sent = i }) ≡ true) s h in
         body-is-op sent.op e.msg.body (both _ (is_body sent.op e.msg.body) t).1
 
-taken-own : (x : NaiveClient) (e : Entry) (edits : List PendingEdit) (rest : List Entry) (q : NaiveSequencer) → x.doc.number ≤ e.msg.seq → is_owed x.conns e ≡ true → is_own_join x.link e.msg.kind e.origin ≡ false
-    → is_oldest e edits ≡ true → IsLinked x.conns x.doc.number x.next_client_seq x.queue edits (e ∷ rest) q x.link → IsTaken (record x { pending = edits }) e rest q (after_own_message (record x { pending = edits }) e)
+taken-own : (x : NaiveClient) (e : Entry) (edits : List PendingEdit) (rest : List Entry) (q : NaiveSequencer) → x.doc.number ≤ e.msg.seq → is_owed x.conns e
+    ≡ true → is_own_join x.link e.msg.kind e.origin ≡ false
+    → is_oldest e edits ≡ true → IsLinked x.conns x.doc.number x.next_client_seq x.queue edits (e ∷ rest) q x.link
+    → IsTaken (record x { pending = edits }) e rest q (after_own_message (record x { pending = edits }) e)
 taken-own x e [] rest q u h o s l = (cc)
 taken-own x e (edit ∷ edits) rest q u h o s l = record {
   number = refl;
@@ -207,7 +215,8 @@ taken-join x e rest q (Joining conn) o l = record {
   minimum = refl;
   conns = refl;
   link = linked-join x.conns x.queue x.pending rest q e conn (record x.doc { number = e.msg.seq; minimum = e.msg.min }) refl o l;
-  owes = owing-join x.conns rest e (record x.doc { number = e.msg.seq; minimum = e.msg.min }) x.pending x.queue (join-unowed e.msg.kind conn e.origin (list_any (nat_eq e.origin) x.conns) o) (joined-none x.conns conn l.j.ref_seq rest e o l.awaits);
+  owes = owing-join x.conns rest e (record x.doc { number = e.msg.seq; minimum = e.msg.min }) x.pending x.queue
+      (join-unowed e.msg.kind conn e.origin (list_any (nat_eq e.origin) x.conns) o) (joined-none x.conns conn l.j.ref_seq rest e o l.awaits);
 }
 
 fitting-op : (k : MsgKind) (b : Body) → cond (is_op_kind k) (has_body b) (not (has_body b)) ≡ true → is_op b ≡ true → is_op_kind k ≡ true
@@ -229,7 +238,8 @@ fitting-op (kind.Other word) (Elsewhere address) h o = (cc)
 abbrev answer : NaiveClient → Entry → Bool → Bool → NaiveClient
 answer x e own_join own = cond own_join (come_online x e) (cond own (after_own_message x e) (after_foreign_message x e))
 
-taken : (x : NaiveClient) (e : Entry) (rest : List Entry) (q : NaiveSequencer) → Follows x.doc.number x.doc.minimum e → IsLinked x.conns x.doc.number x.next_client_seq x.queue x.pending (e ∷ rest) q x.link
+taken : (x : NaiveClient) (e : Entry) (rest : List Entry) (q : NaiveSequencer) → Follows x.doc.number x.doc.minimum e
+    → IsLinked x.conns x.doc.number x.next_client_seq x.queue x.pending (e ∷ rest) q x.link
     → (a b c : Bool) → is_own_join x.link e.msg.kind e.origin ≡ a → is_op e.msg.body && is_own x e ≡ b → is_owed x.conns e ≡ c → IsTaken x e rest q (answer x e a b)
 taken x e rest q f l true b c ha hb hc = taken-join x e rest q x.link ha l
 taken x e rest q f l false true true ha hb hc =
@@ -256,18 +266,21 @@ taken x e rest q f l false false false ha hb hc =
     }
 
 -- a client that took the log but for these takes the first of them
-pub record TakesNext (owner : ℕ → Option Characters) (count : ℕ) (q : NaiveSequencer) (log : List Entry) (name : Characters) (rest : List Entry) (x : NaiveClient) (e : Entry) : Type 0 where
+pub record TakesNext (owner : ℕ → Option Characters) (count : ℕ) (q : NaiveSequencer) (log : List Entry) (name : Characters) (rest : List Entry)
+    (x : NaiveClient) (e : Entry) : Type 0 where
   pub y : NaiveClient
   pub processed : process x e ≡ Ok y
   pub served : IsServed owner count q log name rest y
   pub owes : owing y.conns rest y.pending y.queue ≤ owing x.conns (e ∷ rest) x.pending x.queue
 
-pub served-takes : (owner : ℕ → Option Characters) (count : ℕ) (q : NaiveSequencer) (log : List Entry) (name : Characters) (rest : List Entry) (x : NaiveClient) (e : Entry) → IsServed owner count q log name (e ∷ rest) x
+pub served-takes : (owner : ℕ → Option Characters) (count : ℕ) (q : NaiveSequencer) (log : List Entry) (name : Characters) (rest : List Entry)
+    (x : NaiveClient) (e : Entry) → IsServed owner count q log name (e ∷ rest) x
     → TakesNext owner count q log name rest x e
 served-takes owner count q log name rest x e s =
     let f : Follows x.doc.number x.doc.minimum e = s.order.0 in
     let ok = process-ok x e (fault-none x e f (λ h. linked-oldest x.conns x.doc.number x.next_client_seq x.queue x.pending rest q e x.link h s.link)) in
-    let t : IsTaken x e rest q (after_entry x e) = taken x e rest q f s.link (is_own_join x.link e.msg.kind e.origin) (is_op e.msg.body && is_own x e) (is_owed x.conns e) refl refl refl in
+    let t : IsTaken x e rest q (after_entry x e) = taken x e rest q f s.link (is_own_join x.link e.msg.kind e.origin) (is_op e.msg.body && is_own x e)
+    (is_owed x.conns e) refl refl refl in
     let y = after_entry x e in
     let one : y.doc.number ≡ x.doc.number + 1 = t.number ∙ f.seq in
     let b = f.body in

@@ -29,12 +29,14 @@ body-inserts n op Nothing e h = (cc)
 body-inserts n op (Op other) e h = sym e ∙ ap op_inserts ((same_op-Decides op other).0 h)
 body-inserts n op (Elsewhere address) e h = (cc)
 
-sent-inserts : (e : Entry) (edit : PendingEdit) (sent : Option SentAs) → IsPricedAs (edit_inserts edit) sent → is_sent_as e (record edit { sent = sent }) ≡ true → edit_inserts edit ≡ entry_inserts e
+sent-inserts : (e : Entry) (edit : PendingEdit) (sent : Option SentAs) → IsPricedAs (edit_inserts edit) sent → is_sent_as e (record edit { sent = sent })
+    ≡ true → edit_inserts edit ≡ entry_inserts e
 sent-inserts e edit None p h = (cc)
 sent-inserts e edit (Some sent) p h = body-inserts (edit_inserts edit) sent.op e.msg.body p (both _ (is_body sent.op e.msg.body) h).1
 
 -- the edits insert what the messages do that answer them, and what is behind these
-answered-insert : (es : List Entry) (edits : List PendingEdit) → Each IsPriced edits → IsAnswered es edits AnyEdits → total edit_inserts edits ≤ total entry_inserts es + total edit_cost (behind es edits)
+answered-insert : (es : List Entry) (edits : List PendingEdit) → Each IsPriced edits → IsAnswered es edits AnyEdits
+    → total edit_inserts edits ≤ total entry_inserts es + total edit_cost (behind es edits)
 answered-insert [] edits p h = let less = total-less edit_cost edit_inserts (λ e. omega arith) edits in omega (arith, less)
 answered-insert (e ∷ es) [] p h = absurd h
 answered-insert (e ∷ es) (edit ∷ edits) p h =
@@ -42,31 +44,37 @@ answered-insert (e ∷ es) (edit ∷ edits) p h =
     let here = sent-inserts e edit edit.sent p.0 h.0 in
     omega (arith, ih, here)
 
-linked-answered : (conns : List ℕ) (number next : ℕ) (queue : List Draft) (pending : List PendingEdit) (rest : List Entry) (q : NaiveSequencer) (link : Link) → IsLinked conns number next queue pending rest q link
+linked-answered : (conns : List ℕ) (number next : ℕ) (queue : List Draft) (pending : List PendingEdit) (rest : List Entry) (q : NaiveSequencer) (link : Link)
+    → IsLinked conns number next queue pending rest q link
     → IsAnswered (owed conns rest) pending AnyEdits
 linked-answered conns number next queue pending rest q Offline l = l.answered
 linked-answered conns number next queue pending rest q (Joining conn) l = l.answered
-linked-answered conns number next queue pending rest q (Online conn) l = answered-weaker (owed conns rest) pending (λ edits. IsQueued conn queue edits) AnyEdits (λ ys g. tt) l.answered
+linked-answered conns number next queue pending rest q (Online conn) l = answered-weaker (owed conns rest) pending (λ edits. IsQueued conn queue edits)
+    AnyEdits (λ ys g. tt) l.answered
 
 -- what the taken entries and the pending edits insert is within what the log costs and the client owes
-pub served-inserts : (owner : ℕ → Option Characters) (count : ℕ) (q : NaiveSequencer) (log : List Entry) (name : Characters) (rest : List Entry) (x : NaiveClient) → (s : IsServed owner count q log name rest x)
+pub served-inserts : (owner : ℕ → Option Characters) (count : ℕ) (q : NaiveSequencer) (log : List Entry) (name : Characters) (rest : List Entry)
+    (x : NaiveClient) → (s : IsServed owner count q log name rest x)
     → total entry_inserts (taken_entries s.steps) + total edit_inserts x.pending ≤ total entry_cost log + owing_of x rest
 served-inserts owner count q log name rest x v =
-    let answered = answered-insert (owed x.conns rest) x.pending (client-priced v.steps x v.run) (linked-answered x.conns x.doc.number x.next_client_seq x.queue x.pending rest q x.link v.link) in
+    let answered = answered-insert (owed x.conns rest) x.pending (client-priced v.steps x v.run)
+    (linked-answered x.conns x.doc.number x.next_client_seq x.queue x.pending rest q x.link v.link) in
     let some = total-filter entry_inserts (is_owed x.conns) rest in
     let sum = total-append entry_inserts (taken_entries v.steps) rest in
     let all : total entry_inserts (taken_entries v.steps ++ rest) ≡ total entry_inserts log = ap (total entry_inserts) v.entries in
     let costs = total-less entry_cost entry_inserts (λ e. omega arith) log in
     omega (arith, answered, some, sum, all, costs)
 
-pub served-sized : (owner : ℕ → Option Characters) (count : ℕ) (q : NaiveSequencer) (log : List Entry) (name : Characters) (rest : List Entry) (x : NaiveClient) → IsServed owner count q log name rest x
+pub served-sized : (owner : ℕ → Option Characters) (count : ℕ) (q : NaiveSequencer) (log : List Entry) (name : Characters) (rest : List Entry)
+    (x : NaiveClient) → IsServed owner count q log name rest x
     → IsSizedWithin (total entry_cost log + owing_of x rest) x.doc
 served-sized owner count q log name rest x v =
     let less = served-inserts owner count q log name rest x v in
     let sized = sized-within v.steps x v.run in
     record { text = let a = sized.text in omega (arith, less, a); rows = let a = sized.rows in omega (arith, less, a); cols = let a = sized.cols in omega (arith, less, a) }
 
-pub served-held : (owner : ℕ → Option Characters) (count : ℕ) (q : NaiveSequencer) (log : List Entry) (name : Characters) (rest : List Entry) (x : NaiveClient) → IsServed owner count q log name rest x
+pub served-held : (owner : ℕ → Option Characters) (count : ℕ) (q : NaiveSequencer) (log : List Entry) (name : Characters) (rest : List Entry) (x : NaiveClient)
+    → IsServed owner count q log name rest x
     → IsHeldWithin (total entry_cost log + owing_of x rest) x.doc
 served-held owner count q log name rest x v =
     let less = served-inserts owner count q log name rest x v in

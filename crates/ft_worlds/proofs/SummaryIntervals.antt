@@ -38,17 +38,20 @@ at-map : {A B : Type 0} (test : B → Bool) (f : A → B) (p : ℕ) (xs : List A
 at-map test f p [] = refl
 at-map test f zero (x ∷ xs) = by (test (f x)) (at-map test f zero xs)
   where
-    by : (b : Bool) → at test zero (map f xs) ≡ option_map f (at (λ x. test (f x)) zero xs) → cond b (Some (f x)) (at test zero (map f xs)) ≡ option_map f (cond b (Some x) (at (λ x. test (f x)) zero xs))
+    by : (b : Bool) → at test zero (map f xs) ≡ option_map f (at (λ x. test (f x)) zero xs) → cond b (Some (f x)) (at test zero (map f xs))
+        ≡ option_map f (cond b (Some x) (at (λ x. test (f x)) zero xs))
     by true h = refl
     by false h = h
 at-map test f (suc p) (x ∷ xs) = at-map test f (cond (test (f x)) p (suc p)) xs
 
 -- the place of the p-th element that passes
-at-place : (test : ListElement → Bool) (p : ℕ) (xs : List ListElement) (e : ListElement) → are_distinct xs ≡ true → at test p xs ≡ Some e → rank (has_id (id e)) (λ d. true) xs ≡ before test p xs
+at-place : (test : ListElement → Bool) (p : ℕ) (xs : List ListElement) (e : ListElement) → are_distinct xs ≡ true → at test p xs ≡ Some e
+    → rank (has_id (id e)) (λ d. true) xs ≡ before test p xs
 at-place test p [] e d h = refl
 at-place test p (x ∷ xs) e d h = by (test x) refl p h (λ q g. at-place test q xs e (both (not (list_any (has_id (id x)) xs)) (are_distinct xs) d).1 g)
   where
-    later : (q : ℕ) → at test q xs ≡ Some e → rank (has_id (id e)) (λ d. true) xs ≡ before test q xs → cond (has_id (id e) x) 0 (suc (rank (has_id (id e)) (λ d. true) xs)) ≡ suc (before test q xs)
+    later : (q : ℕ) → at test q xs ≡ Some e → rank (has_id (id e)) (λ d. true) xs ≡ before test q xs
+        → cond (has_id (id e) x) 0 (suc (rank (has_id (id e)) (λ d. true) xs)) ≡ suc (before test q xs)
     later q g ih = ap (λ b. cond b 0 (suc (rank (has_id (id e)) (λ d. true) xs))) (other-name (id e) x xs d (at-named test q xs e g)) ∙ ap suc ih
 
     by : (t : Bool) → test x ≡ t → (q : ℕ) → at test q (x ∷ xs) ≡ Some e → ((n : ℕ) → at test n xs ≡ Some e → rank (has_id (id e)) (λ d. true) xs ≡ before test n xs)
@@ -69,7 +72,8 @@ at-place test p (x ∷ xs) e d h = by (test x) refl p h (λ q g. at-place test q
         later (suc q) n (ih (suc q) n) ∙ sym (ap (λ b. suc (before test (cond b q (suc q)) xs)) c)
 
 -- two lists with the same elements but for names, each with distinct names: the p-th unremoved one stands at the same place
-same-place : (p : ℕ) (xs ys : List ListElement) (e : ListElement) → map nameless ys ≡ map nameless xs → are_distinct xs ≡ true → are_distinct ys ≡ true → at is_unremoved p xs ≡ Some e
+same-place : (p : ℕ) (xs ys : List ListElement) (e : ListElement) → map nameless ys ≡ map nameless xs → are_distinct xs ≡ true → are_distinct ys ≡ true
+    → at is_unremoved p xs ≡ Some e
     → place_in_list ys (option_map id (at is_unremoved p ys)) ≡ place_in_list xs (Some (id e))
 same-place p xs ys e same d f h = by (at is_unremoved p ys) refl
   where
@@ -77,10 +81,13 @@ same-place p xs ys e same d f h = by (at is_unremoved p ys) refl
     u n = is_present is_acked n.stamps
 
     there : option_map nameless (at is_unremoved p ys) ≡ Some (nameless e)
-    there = sym (at-map (λ (n : NamelessElement). is_present is_acked n.stamps) nameless p ys) ∙ (ap (at (λ (n : NamelessElement). is_present is_acked n.stamps) p) same ∙ (at-map (λ (n : NamelessElement). is_present is_acked n.stamps) nameless p xs ∙ ap (option_map nameless) h))
+    there = sym (at-map (λ (n : NamelessElement). is_present is_acked n.stamps) nameless p ys)
+        ∙ (ap (at (λ (n : NamelessElement). is_present is_acked n.stamps) p) same
+        ∙ (at-map (λ (n : NamelessElement). is_present is_acked n.stamps) nameless p xs ∙ ap (option_map nameless) h))
 
     count : before is_unremoved p ys ≡ before is_unremoved p xs
-    count = sym (before-map (λ (n : NamelessElement). is_present is_acked n.stamps) nameless p ys) ∙ (ap (before (λ (n : NamelessElement). is_present is_acked n.stamps) p) same ∙ before-map (λ (n : NamelessElement). is_present is_acked n.stamps) nameless p xs)
+    count = sym (before-map (λ (n : NamelessElement). is_present is_acked n.stamps) nameless p ys)
+        ∙ (ap (before (λ (n : NamelessElement). is_present is_acked n.stamps) p) same ∙ before-map (λ (n : NamelessElement). is_present is_acked n.stamps) nameless p xs)
 
     by : (o : Option ListElement) → at is_unremoved p ys ≡ o → place_in_list ys (option_map id o) ≡ place_in_list xs (Some (id e))
     by None g = let wrong : None ≡ Some (nameless e) = sym (ap (option_map nameless) g) ∙ there in (cc)
@@ -106,7 +113,8 @@ new-numbered : (n s c : ℕ) (dels : List Stamp) (by : Option Stamp) (props : Pr
 new-numbered n s c dels by props [] = tt
 new-numbered n s c dels by props (b ∷ bs) = (refl, new-numbered (n + 1) s c dels by props bs)
 
-new-length : (n s c : ℕ) (dels : List Stamp) (by : Option Stamp) (props : PropertyList) (bs : List ElementContent) → length (new_elements n (Acked s c) dels by props bs) ≡ length bs
+new-length : (n s c : ℕ) (dels : List Stamp) (by : Option Stamp) (props : PropertyList) (bs : List ElementContent)
+    → length (new_elements n (Acked s c) dels by props bs) ≡ length bs
 new-length n s c dels by props [] = refl
 new-length n s c dels by props (b ∷ bs) = ap suc (new-length (n + 1) s c dels by props bs)
 
@@ -114,9 +122,11 @@ segments-numbered : (n : ℕ) (segs : List SegRec) → AreNumbered n (segment_it
 segments-numbered n [] = tt
 segments-numbered n (s ∷ segs) =
     let new = new_elements n (stamp_of s.ins) (map stamp_of s.dels) (Some (stamp_of s.by)) s.props (segment_bodies s.body) in
-    numbered-more n (new_elements n (stamp_of s.ins) (map stamp_of s.dels) (Some (stamp_of s.by)) s.props (segment_bodies s.body)) (segment_items (n + length (segment_bodies s.body)) segs)
+    numbered-more n (new_elements n (stamp_of s.ins) (map stamp_of s.dels) (Some (stamp_of s.by)) s.props (segment_bodies s.body))
+    (segment_items (n + length (segment_bodies s.body)) segs)
     (new-numbered n s.ins.seq s.ins.conn (map stamp_of s.dels) (Some (stamp_of s.by)) s.props (segment_bodies s.body))
-    (subst (λ i. AreNumbered (n + i) (segment_items (n + length (segment_bodies s.body)) segs)) (sym (new-length n s.ins.seq s.ins.conn (map stamp_of s.dels) (Some (stamp_of s.by)) s.props (segment_bodies s.body)))
+    (subst (λ i. AreNumbered (n + i) (segment_items (n + length (segment_bodies s.body)) segs))
+    (sym (new-length n s.ins.seq s.ins.conn (map stamp_of s.dels) (Some (stamp_of s.by)) s.props (segment_bodies s.body)))
     (segments-numbered (n + length (segment_bodies s.body)) segs))
 
 none-below : (m n : ℕ) (xs : List ListElement) → m < n → AreNumbered n xs → list_any (has_id (SequencedId m)) xs ≡ false
@@ -194,7 +204,8 @@ module _ (xs ys : List ListElement) (same : map nameless ys ≡ map nameless xs)
           same-place (rank (has_id a) is_unremoved xs) xs ys e same d f g ∙ ap (λ b. place_in_list xs (Some b)) named
 
   -- intervals by the places of their ends
-  pub intervals-back : (is : List Interval) → list_all (has_ends_on xs) is ≡ true → map (indexed_interval ys) (map (interval_of ys) (map (interval_record 0 xs) is)) ≡ map (indexed_interval xs) is
+  pub intervals-back : (is : List Interval) → list_all (has_ends_on xs) is ≡ true
+      → map (indexed_interval ys) (map (interval_of ys) (map (interval_record 0 xs) is)) ≡ map (indexed_interval xs) is
   intervals-back [] h = refl
   intervals-back (i ∷ is) h =
       let p = both (has_ends_on xs i) (list_all (has_ends_on xs) is) h in

@@ -63,7 +63,8 @@ all-but-cells conns doc h d =
       text = text;
       rows = runs-back (trim doc).rows.items t.rows;
       cols = runs-back (trim doc).cols.items t.cols;
-      intervals = intervals-back (trim doc).text.items (segment_items 0 (segments_from 0 (trim doc).text.items)) text e.text.distinct (segments-distinct (segments_from 0 (trim doc).text.items)) t.text (trim doc).intervals e.ends;
+      intervals = intervals-back (trim doc).text.items (segment_items 0 (segments_from 0 (trim doc).text.items)) text e.text.distinct
+          (segments-distinct (segments_from 0 (trim doc).text.items)) t.text (trim doc).intervals e.ends;
       skipped = refl;
       other = refl;
       number = refl;

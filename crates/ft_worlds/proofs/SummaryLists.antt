@@ -46,7 +46,8 @@ use Rattle.ft_msg.specs.SummaryOf.{author_of, body_of, extended_runs, extended_s
 abbrev pub bare : Stamp → List Stamp → Option Stamp → PropertyList → ElementContent → NamelessElement
 bare ins dels by props b = record { content = b; stamps = record { ins = ins; dels = dels ++ [] }; by = by; props = props; pending = [] }
 
-new-bare : (n : ℕ) (ins : Stamp) (dels : List Stamp) (by : Option Stamp) (props : PropertyList) (bs : List ElementContent) → map nameless (new_elements n ins dels by props bs) ≡ map (bare ins dels by props) bs
+new-bare : (n : ℕ) (ins : Stamp) (dels : List Stamp) (by : Option Stamp) (props : PropertyList) (bs : List ElementContent)
+    → map nameless (new_elements n ins dels by props bs) ≡ map (bare ins dels by props) bs
 new-bare n ins dels by props [] = refl
 new-bare n ins dels by props (b ∷ bs) = ap (λ es. bare ins dels by props b ∷ es) (new-bare (n + 1) ins dels by props bs)
 
@@ -57,8 +58,10 @@ held_by s = map (bare (stamp_of s.ins) (map stamp_of s.dels) (Some (stamp_of s.b
 segments-hold : (n : ℕ) (segs : List SegRec) → map nameless (segment_items n segs) ≡ flat_map held_by segs
 segments-hold n [] = refl
 segments-hold n (s ∷ segs) =
-    map-append nameless (new_elements n (stamp_of s.ins) (map stamp_of s.dels) (Some (stamp_of s.by)) s.props (segment_bodies s.body)) (segment_items (n + length (segment_bodies s.body)) segs)
-    ∙ (ap (λ es. es ++ map nameless (segment_items (n + length (segment_bodies s.body)) segs)) (new-bare n (stamp_of s.ins) (map stamp_of s.dels) (Some (stamp_of s.by)) s.props (segment_bodies s.body))
+    map-append nameless (new_elements n (stamp_of s.ins) (map stamp_of s.dels) (Some (stamp_of s.by)) s.props (segment_bodies s.body))
+    (segment_items (n + length (segment_bodies s.body)) segs)
+    ∙ (ap (λ es. es ++ map nameless (segment_items (n + length (segment_bodies s.body)) segs))
+    (new-bare n (stamp_of s.ins) (map stamp_of s.dels) (Some (stamp_of s.by)) s.props (segment_bodies s.body))
     ∙ ap (λ es. held_by s ++ es) (segments-hold (n + length (segment_bodies s.body)) segs))
 
 -- equal marks and properties
@@ -87,7 +90,8 @@ props-same (p ∷ ps) [] h = (cc)
 props-same ((k, v) ∷ ps) ((l, w) ∷ qs) h =
     let p = both (bytes_eq k l && bytes_eq v w) (same_props ps qs) h in
     let e = both (bytes_eq k l) (bytes_eq v w) p.0 in
-    ap (λ (i : List ℕ). (i, v) ∷ ps) ((bytes_eq-Decides k l).0 e.0) ∙ (ap (λ (i : List ℕ). (l, i) ∷ ps) ((bytes_eq-Decides v w).0 e.1) ∙ ap (λ rest. (l, w) ∷ rest) (props-same ps qs p.1))
+    ap (λ (i : List ℕ). (i, v) ∷ ps) ((bytes_eq-Decides k l).0 e.0) ∙ (ap (λ (i : List ℕ). (l, i) ∷ ps) ((bytes_eq-Decides v w).0 e.1)
+    ∙ ap (λ rest. (l, w) ∷ rest) (props-same ps qs p.1))
 
 -- whether two segments differ in nothing but what they hold
 abbrev alike_beside : SegRec → SegRec → Bool
@@ -112,7 +116,8 @@ extended-hold : (ends : Bool) (s : SegRec) (segs : List SegRec) → flat_map hel
 extended-hold ends s [] = refl
 extended-hold ends s (next ∷ segs) = by ends s.body next.body
   where
-    text-joined : (front text : List ℕ) → alike_beside s next ≡ true → held_by (record next { body = Chars (front ++ text) }) ≡ held_by (record s { body = Chars front }) ++ held_by (record next { body = Chars text })
+    text-joined : (front text : List ℕ) → alike_beside s next ≡ true → held_by (record next { body = Chars (front ++ text) })
+        ≡ held_by (record s { body = Chars front }) ++ held_by (record next { body = Chars text })
     text-joined front text h =
         let make = bare (stamp_of next.ins) (map stamp_of next.dels) (Some (stamp_of next.by)) next.props in
         ap (map (bare (stamp_of next.ins) (map stamp_of next.dels) (Some (stamp_of next.by)) next.props)) (map-append (λ c. Character c) front text)
@@ -128,7 +133,8 @@ extended-hold ends s (next ∷ segs) = by ends s.body next.body
         ∙ append_assoc (held_by (record s { body = Chars front })) (held_by (record next { body = Chars text })) (flat_map held_by segs)
 
     by : (e : Bool) (b c : Seg)
-        → flat_map held_by (extended_segments e (record s { body = b }) (record next { body = c } ∷ segs)) ≡ held_by (record s { body = b }) ++ (held_by (record next { body = c }) ++ flat_map held_by segs)
+        → flat_map held_by (extended_segments e (record s { body = b }) (record next { body = c } ∷ segs))
+        ≡ held_by (record s { body = b }) ++ (held_by (record next { body = c }) ++ flat_map held_by segs)
     by true b c = refl
     by false (Marker r) c = refl
     by false (Chars front) (Marker r) = refl
@@ -233,7 +239,8 @@ extended-units ins dels [] = refl
 extended-units ins dels (r ∷ runs) = by (same_stamps ins dels r.ins r.dels) refl
   where
     by : (t : Bool) → same_stamps ins dels r.ins r.dels ≡ t
-        → flat_map units_of (cond t (record r { count = r.count + 1 } ∷ runs) (record { count = 1; ins = ins; dels = dels } ∷ r ∷ runs)) ≡ unit ins dels ∷ (units_of r ++ flat_map units_of runs)
+        → flat_map units_of (cond t (record r { count = r.count + 1 } ∷ runs) (record { count = 1; ins = ins; dels = dels } ∷ r ∷ runs))
+        ≡ unit ins dels ∷ (units_of r ++ flat_map units_of runs)
     by false e = refl
     by true e =
         let p = both (same_mark ins r.ins) (same_list same_mark dels r.dels) e in
@@ -250,7 +257,8 @@ plain-unit e h =
     ∙ (ap (λ (ts : List Stamp). bare e.ins ts None [] GridUnit) (stamps-back e.dels q.1)
     ∙ parts e.by r.0 e.props r.1 e.content r.2 e.removal_stage q.2 e.pending q.3)
   where
-    parts : (o : Option Stamp) → is_none o ≡ true → (ps : PropertyList) → is_empty ps ≡ true → (c : ElementContent) → not (is_of_text c) ≡ true → (m : Option ℕ) → is_none m ≡ true → (qs : List (ℕ × Changes)) → is_empty qs ≡ true
+    parts : (o : Option Stamp) → is_none o ≡ true → (ps : PropertyList) → is_empty ps ≡ true → (c : ElementContent) → not (is_of_text c) ≡ true
+        → (m : Option ℕ) → is_none m ≡ true → (qs : List (ℕ × Changes)) → is_empty qs ≡ true
         → bare e.ins e.dels None [] GridUnit ≡ nameless (record e { by = o; props = ps; content = c; removal_stage = m; pending = qs })
     parts None o [] p GridUnit c None m [] q = refl
     parts (Some t) o ps p c g m n qs q = (cc)
@@ -279,7 +287,8 @@ pub record IsPlain (doc : Document) : Type 0 where
   pub rows : list_all is_plain_unit doc.rows.items ≡ true
   pub cols : list_all is_plain_unit doc.cols.items ≡ true
 
-new-plain : (n s c : ℕ) (props : PropertyList) (bs : List ElementContent) → list_all is_of_text bs ≡ true → list_all is_plain (new_elements n (Acked s c) [] (Some (Acked s c)) props bs) ≡ true
+new-plain : (n s c : ℕ) (props : PropertyList) (bs : List ElementContent) → list_all is_of_text bs ≡ true
+    → list_all is_plain (new_elements n (Acked s c) [] (Some (Acked s c)) props bs) ≡ true
 new-plain n s c props [] h = refl
 new-plain n s c props (b ∷ bs) h =
     let p = both (is_of_text b) (list_all is_of_text bs) h in
@@ -329,7 +338,12 @@ module _ (s c r : ℕ) where
   effect-plain : (doc : Document) (o : SubOperation) → IsPlain doc → IsPlain (effect doc s c r o)
   effect-plain doc (OnText (Insert p seg props)) h =
       plain-choice (nat_le p (len (seen_by r c) doc.text.items)) _ _
-      (record { text = all-put is_plain (seen_by r c) is_pending p _ doc.text.items (new-plain doc.text.made s c (apply [] props) (segment_contents seg) (contents-of-text seg)) h.text; rows = h.rows; cols = h.cols }) (skip-plain doc h)
+      (record {
+        text = all-put is_plain (seen_by r c) is_pending p _ doc.text.items
+            (new-plain doc.text.made s c (apply [] props) (segment_contents seg) (contents-of-text seg)) h.text;
+        rows = h.rows;
+        cols = h.cols;
+      }) (skip-plain doc h)
   effect-plain doc (OnText (Remove p q)) h =
       plain-choice (nat_le q (len (seen_by r c) doc.text.items)) _ _
       (record { text = all-range is_plain (seen_by r c) (with_removal s c) (removal-plain s c) 0 p q doc.text.items h.text; rows = h.rows; cols = h.cols }) (skip-plain doc h)
@@ -340,10 +354,20 @@ module _ (s c r : ℕ) where
       plain-choice (given_ends_fit (len (seen_by r c) doc.text.items) (ends_of op)) _ _ (record { text = h.text; rows = h.rows; cols = h.cols }) (skip-plain doc h)
   effect-plain doc (OnGrid (SpliceIn Rows p count)) h =
       plain-choice (nat_le p (len (seen_by r c) doc.rows.items)) _ _
-      (record { text = h.text; rows = all-put is_plain_unit (seen_by r c) is_pending p _ doc.rows.items (new-units doc.rows.made s c (replicate count GridUnit) (all-units count)) h.rows; cols = h.cols }) (skip-plain doc h)
+      (record {
+        text = h.text;
+        rows = all-put is_plain_unit (seen_by r c) is_pending p _ doc.rows.items
+            (new-units doc.rows.made s c (replicate count GridUnit) (all-units count)) h.rows;
+        cols = h.cols;
+      }) (skip-plain doc h)
   effect-plain doc (OnGrid (SpliceIn Cols p count)) h =
       plain-choice (nat_le p (len (seen_by r c) doc.cols.items)) _ _
-      (record { text = h.text; rows = h.rows; cols = all-put is_plain_unit (seen_by r c) is_pending p _ doc.cols.items (new-units doc.cols.made s c (replicate count GridUnit) (all-units count)) h.cols }) (skip-plain doc h)
+      (record {
+        text = h.text;
+        rows = h.rows;
+        cols = all-put is_plain_unit (seen_by r c) is_pending p _ doc.cols.items
+            (new-units doc.cols.made s c (replicate count GridUnit) (all-units count)) h.cols;
+      }) (skip-plain doc h)
   effect-plain doc (OnGrid (SpliceOut Rows p q)) h =
       plain-choice (nat_le q (len (seen_by r c) doc.rows.items)) _ _
       (record { text = h.text; rows = all-range is_plain_unit (seen_by r c) (with_removal s c) (removal-unit s c) 0 p q doc.rows.items h.rows; cols = h.cols }) (skip-plain doc h)
@@ -392,7 +416,8 @@ trim-all is min k (e ∷ xs) h =
     element false g = g
 
     by : (s t : Bool) → is e ≡ true → list_all is (retain_map (λ e. not (is_collectable min e)) (trim_element min) xs) ≡ true
-        → list_all is (cond s (cond t (with_universal_insertion e) e ∷ retain_map (λ e. not (is_collectable min e)) (trim_element min) xs) (retain_map (λ e. not (is_collectable min e)) (trim_element min) xs)) ≡ true
+        → list_all is (cond s (cond t (with_universal_insertion e) e ∷ retain_map (λ e. not (is_collectable min e)) (trim_element min) xs)
+        (retain_map (λ e. not (is_collectable min e)) (trim_element min) xs)) ≡ true
     by true t g ih = rw (element t g, ih) refl
     by false t g ih = ih
 

@@ -116,7 +116,17 @@ module _ (F : Type 0) where
   quiet-turn more w r = record { reached = r; same = refl }
 
   reached-more : (m n : ℕ) (w : NaiveWorld) → m ≤ n → (F → w.load + n < 2 ^ 53) → IsReachedWorld m w → IsReachedWorld n w
-  reached-more m n w l b r = record { bodies = r.bodies; bound = b; owner = r.owner; base = r.base; clients = r.clients; guests = r.guests; named = r.named; distinct = r.distinct; paid = let p = r.paid in omega (arith, p, l) }
+  reached-more m n w l b r = record {
+    bodies = r.bodies;
+    bound = b;
+    owner = r.owner;
+    base = r.base;
+    clients = r.clients;
+    guests = r.guests;
+    named = r.named;
+    distinct = r.distinct;
+    paid = let p = r.paid in omega (arith, p, l);
+  }
 
   -- an event that writes JSON values
   texts-turn : (more : ℕ) (w : NaiveWorld) (values : List Data) → (F → w.load + more < 2 ^ 53) → IsReachedWorld 0 w → IsTurned more w (Texts values)
@@ -141,10 +151,12 @@ module _ (F : Type 0) where
 
   -- the world with the client in its place
   -- a client that keeps its name and its connections
-  same-named : (count : ℕ) (clients : List NamedClient) (guests : List NamedGuest) (names : List Characters) (c : NamedClient) (x : NaiveClient) → IsFound clients c → IsNamed count clients guests names
+  same-named : (count : ℕ) (clients : List NamedClient) (guests : List NamedGuest) (names : List Characters) (c : NamedClient) (x : NaiveClient)
+      → IsFound clients c → IsNamed count clients guests names
       → IsNamed count (map (in_place (record c { client = x })) clients) guests names
   same-named count clients guests names c x i h =
-      named-placed count clients guests names c (record c { client = x }) i refl (omega arith) (each-found (λ (a : NamedClient). a.connects ≤ count) (is_client i.name) clients c i.found h.counted).0 h
+      named-placed count clients guests names c (record c { client = x }) i refl (omega arith)
+      (each-found (λ (a : NamedClient). a.connects ≤ count) (is_client i.name) clients c i.found h.counted).0 h
 
   -- the name under which a client is found is its own
   found-name : (clients : List NamedClient) (c : NamedClient) (i : IsFound clients c) → i.name ≡ c.name
@@ -155,7 +167,8 @@ module _ (F : Type 0) where
       units (a ∷ cs) = (tt, units cs)
 
   -- what a client that took the log but for the rest owes
-  pub debt-is : (owner : ℕ → Option Characters) (count : ℕ) (q : NaiveSequencer) (log : List Entry) (name : Characters) (rest : List Entry) (x : NaiveClient) → IsServed owner count q log name rest x
+  pub debt-is : (owner : ℕ → Option Characters) (count : ℕ) (q : NaiveSequencer) (log : List Entry) (name : Characters) (rest : List Entry) (x : NaiveClient)
+      → IsServed owner count q log name rest x
       → owing_of x (drop x.doc.number log) ≡ owing_of x rest
   debt-is owner count q log name rest x s = ap (owing_of x) (ap (drop x.doc.number) (sym s.entries) ∙ drop_at _ rest x.doc.number (sym (entries-counted s.steps x s.run.made)))
 
@@ -163,18 +176,21 @@ module _ (F : Type 0) where
   same-debts name f [] = tt
   same-debts name f (c ∷ cs) = (λ e. refl, same-debts name f cs)
 
-  pub own-step : (w : NaiveWorld) (r : IsReachedWorld 0 w) (c : NamedClient) (x : NaiveClient) (m : Meets w r c) (s : Serves r.owner (length w.names) w.sequencer w.log (record c { client = x })) (k : ℕ)
+  pub own-step : (w : NaiveWorld) (r : IsReachedWorld 0 w) (c : NamedClient) (x : NaiveClient) (m : Meets w r c)
+      (s : Serves r.owner (length w.names) w.sequencer w.log (record c { client = x })) (k : ℕ)
       → owing_of x s.rest ≤ owing_of c.client m.rest + k → (F → w.load + k < 2 ^ 53) → IsReachedWorld k (with_client (record c { client = x }) w)
   own-step w r c x m s k h b =
       let d : NamedClient = record c { client = x } in
-      let placed_sum = total-placed (debt w.log) (debt w.log) m.found.name c d w.clients r.distinct m.found.found (sym (found-name w.clients c m.found)) (same-debts m.found.name (debt w.log) w.clients) in
+      let placed_sum = total-placed (debt w.log) (debt w.log) m.found.name c d w.clients r.distinct m.found.found (sym (found-name w.clients c m.found))
+      (same-debts m.found.name (debt w.log) w.clients) in
       let before : debt w.log c ≡ owing_of c.client m.rest = debt-is r.owner (length w.names) w.sequencer w.log c.name m.rest c.client m.served in
       let after : debt w.log d ≡ owing_of x s.rest = debt-is r.owner (length w.names) w.sequencer w.log c.name s.rest x s.served in
       let p = r.paid in
       record {
         owner = r.owner;
         base = r.base;
-        clients = placed (Serves r.owner (length w.names) w.sequencer w.log) d w.clients (others-all d.name (Serves r.owner (length w.names) w.sequencer w.log) w.clients r.clients) s;
+        clients = placed (Serves r.owner (length w.names) w.sequencer w.log) d w.clients
+            (others-all d.name (Serves r.owner (length w.names) w.sequencer w.log) w.clients r.clients) s;
         guests = r.guests;
         named = same-named (length w.names) w.clients w.guests w.names c x m.found r.named;
         distinct = distinct-placed d w.clients r.distinct;
@@ -189,7 +205,8 @@ module _ (F : Type 0) where
   abbrev pub IsApart : (ℕ → Option Characters) → ℕ → Characters → Type 0
   IsApart owner conn name = owner conn ≡ Some name → ⊥
 
-  not-any : (owner : ℕ → Option Characters) (count : ℕ) (name : Characters) (conn : ℕ) (conns : List ℕ) → IsApart owner conn name → Each (IsOwned owner count name) conns → list_any (nat_eq conn) conns ≡ false
+  not-any : (owner : ℕ → Option Characters) (count : ℕ) (name : Characters) (conn : ℕ) (conns : List ℕ) → IsApart owner conn name
+      → Each (IsOwned owner count name) conns → list_any (nat_eq conn) conns ≡ false
   not-any owner count name conn conns a h = by (list_any (nat_eq conn) conns) refl
     where
       by : (b : Bool) → list_any (nat_eq conn) conns ≡ b → b ≡ false
@@ -208,14 +225,16 @@ module _ (F : Type 0) where
   and-none false = refl
 
   -- the message is none of the client's own
-  unowed : (owner : ℕ → Option Characters) (count : ℕ) (q : NaiveSequencer) (log : List Entry) (conn : ℕ) (p : NaiveSequencer × Entry) (name : Characters) (conns : List ℕ) → IsApart owner conn name → IsLogged count q log conn p
+  unowed : (owner : ℕ → Option Characters) (count : ℕ) (q : NaiveSequencer) (log : List Entry) (conn : ℕ) (p : NaiveSequencer × Entry) (name : Characters)
+      (conns : List ℕ) → IsApart owner conn name → IsLogged count q log conn p
       → Each (IsOwned owner count name) conns → is_owed conns p.1 ≡ false
   unowed owner count q log conn p name conns a g h =
       ap (λ o. is_op_kind p.1.msg.kind && list_any (nat_eq o) conns) g.origin
       ∙ (ap (λ b. is_op_kind p.1.msg.kind && b) (not-any owner count name conn conns a h) ∙ and-none (is_op_kind p.1.msg.kind))
 
   -- a client that has not the connection stays served
-  serves-logged : (owner other : ℕ → Option Characters) (count more : ℕ) (q : NaiveSequencer) (log : List Entry) (conn : ℕ) (p : NaiveSequencer × Entry) (c : NamedClient) → count ≤ more → ((k : ℕ) → k ≤ count → other k ≡ owner k)
+  serves-logged : (owner other : ℕ → Option Characters) (count more : ℕ) (q : NaiveSequencer) (log : List Entry) (conn : ℕ) (p : NaiveSequencer × Entry)
+      (c : NamedClient) → count ≤ more → ((k : ℕ) → k ≤ count → other k ≡ owner k)
       → IsApart other conn c.name → IsLogged more q log conn p → Serves owner count q log c → Serves other more p.0 (log ++ (p.1 ∷ [])) c
   serves-logged owner other count more q log conn p c l k a g s =
       let v = served-known owner other count more q log c.name s.rest c.client l k s.served in
@@ -227,7 +246,8 @@ module _ (F : Type 0) where
       }
 
   -- and owes as much as before
-  logged-debt : (owner other : ℕ → Option Characters) (count more : ℕ) (q : NaiveSequencer) (log : List Entry) (conn : ℕ) (p : NaiveSequencer × Entry) (c : NamedClient) → count ≤ more → ((k : ℕ) → k ≤ count → other k ≡ owner k)
+  logged-debt : (owner other : ℕ → Option Characters) (count more : ℕ) (q : NaiveSequencer) (log : List Entry) (conn : ℕ) (p : NaiveSequencer × Entry)
+      (c : NamedClient) → count ≤ more → ((k : ℕ) → k ≤ count → other k ≡ owner k)
       → IsApart other conn c.name → IsLogged more q log conn p → Serves owner count q log c → debt (log ++ (p.1 ∷ [])) c ≡ debt log c
   logged-debt owner other count more q log conn p c l k a g s =
       let v = served-known owner other count more q log c.name s.rest c.client l k s.served in
@@ -237,42 +257,52 @@ module _ (F : Type 0) where
       ∙ (owing-more c.client.conns s.rest p.1 c.client.pending c.client.queue none ∙ sym (debt-is owner count q log c.name s.rest c.client s.served))
 
   -- so do all but those of one name
-  others-logged : (owner other : ℕ → Option Characters) (count more : ℕ) (q : NaiveSequencer) (log : List Entry) (conn : ℕ) (p : NaiveSequencer × Entry) (name : Characters) (cs : List NamedClient) → count ≤ more
-      → ((k : ℕ) → k ≤ count → other k ≡ owner k) → ((c : NamedClient) → is_client name c ≡ false → IsApart other conn c.name) → IsLogged more q log conn p → Others name (Serves owner count q log) cs
+  others-logged : (owner other : ℕ → Option Characters) (count more : ℕ) (q : NaiveSequencer) (log : List Entry) (conn : ℕ) (p : NaiveSequencer × Entry)
+      (name : Characters) (cs : List NamedClient) → count ≤ more
+      → ((k : ℕ) → k ≤ count → other k ≡ owner k) → ((c : NamedClient) → is_client name c ≡ false → IsApart other conn c.name) → IsLogged more q log conn p
+      → Others name (Serves owner count q log) cs
       → Others name (Serves other more p.0 (log ++ (p.1 ∷ []))) cs
   others-logged owner other count more q log conn p name cs l k a g h =
       each-weaker (λ c. is_client name c ≡ false → Serves owner count q log c) (λ c. is_client name c ≡ false → Serves other more p.0 (log ++ (p.1 ∷ [])) c)
       (λ c s e. serves-logged owner other count more q log conn p c l k (a c e) g (s e)) cs h
 
   -- so do all where the connection is no client's
-  all-logged : (owner other : ℕ → Option Characters) (count more : ℕ) (q : NaiveSequencer) (log : List Entry) (conn : ℕ) (p : NaiveSequencer × Entry) (cs : List NamedClient) → count ≤ more
-      → ((k : ℕ) → k ≤ count → other k ≡ owner k) → other conn ≡ None → IsLogged more q log conn p → Each (Serves owner count q log) cs → Each (Serves other more p.0 (log ++ (p.1 ∷ []))) cs
+  all-logged : (owner other : ℕ → Option Characters) (count more : ℕ) (q : NaiveSequencer) (log : List Entry) (conn : ℕ) (p : NaiveSequencer × Entry)
+      (cs : List NamedClient) → count ≤ more
+      → ((k : ℕ) → k ≤ count → other k ≡ owner k) → other conn ≡ None → IsLogged more q log conn p → Each (Serves owner count q log) cs
+      → Each (Serves other more p.0 (log ++ (p.1 ∷ []))) cs
   all-logged owner other count more q log conn p cs l k n g h =
       each-weaker (Serves owner count q log) (Serves other more p.0 (log ++ (p.1 ∷ [])))
       (λ c s. serves-logged owner other count more q log conn p c l k (λ e. let wrong : None ≡ Some c.name = sym n ∙ e in (cc)) g s) cs h
 
   -- all but those of one name owe as much as before
-  others-debts : (owner other : ℕ → Option Characters) (count more : ℕ) (q : NaiveSequencer) (log : List Entry) (conn : ℕ) (p : NaiveSequencer × Entry) (name : Characters) (cs : List NamedClient) → count ≤ more
-      → ((k : ℕ) → k ≤ count → other k ≡ owner k) → ((c : NamedClient) → is_client name c ≡ false → IsApart other conn c.name) → IsLogged more q log conn p → Others name (Serves owner count q log) cs
+  others-debts : (owner other : ℕ → Option Characters) (count more : ℕ) (q : NaiveSequencer) (log : List Entry) (conn : ℕ) (p : NaiveSequencer × Entry)
+      (name : Characters) (cs : List NamedClient) → count ≤ more
+      → ((k : ℕ) → k ≤ count → other k ≡ owner k) → ((c : NamedClient) → is_client name c ≡ false → IsApart other conn c.name) → IsLogged more q log conn p
+      → Others name (Serves owner count q log) cs
       → OthersSame name (debt log) (debt (log ++ (p.1 ∷ []))) cs
   others-debts owner other count more q log conn p name cs l k a g h =
       each-weaker (λ c. is_client name c ≡ false → Serves owner count q log c) (λ c. is_client name c ≡ false → debt (log ++ (p.1 ∷ [])) c ≡ debt log c)
       (λ c s e. logged-debt owner other count more q log conn p c l k (a c e) g (s e)) cs h
 
   -- so do all where the connection is no client's
-  all-debts : (owner other : ℕ → Option Characters) (count more : ℕ) (q : NaiveSequencer) (log : List Entry) (conn : ℕ) (p : NaiveSequencer × Entry) (cs : List NamedClient) → count ≤ more
-      → ((k : ℕ) → k ≤ count → other k ≡ owner k) → other conn ≡ None → IsLogged more q log conn p → Each (Serves owner count q log) cs → total (debt (log ++ (p.1 ∷ []))) cs ≡ total (debt log) cs
+  all-debts : (owner other : ℕ → Option Characters) (count more : ℕ) (q : NaiveSequencer) (log : List Entry) (conn : ℕ) (p : NaiveSequencer × Entry)
+      (cs : List NamedClient) → count ≤ more
+      → ((k : ℕ) → k ≤ count → other k ≡ owner k) → other conn ≡ None → IsLogged more q log conn p → Each (Serves owner count q log) cs
+      → total (debt (log ++ (p.1 ∷ []))) cs ≡ total (debt log) cs
   all-debts owner other count more q log conn p cs l k n g h =
       total-same (debt log) (debt (log ++ (p.1 ∷ []))) cs
       (each-weaker (Serves owner count q log) (λ c. debt (log ++ (p.1 ∷ [])) c ≡ debt log c)
       (λ c s. logged-debt owner other count more q log conn p c l k (λ e. let wrong : None ≡ Some c.name = sym n ∙ e in (cc)) g s) cs h)
 
   -- a client in the place of the one that was found, where a message was numbered that it owed or that is paid for
-  placed-paid : (n k : ℕ) (log : List Entry) (e : Entry) (c d : NamedClient) (cs : List NamedClient) (i : IsFound cs c) → AreDistinct cs → d.name ≡ c.name → OthersSame c.name (debt log) (debt (log ++ (e ∷ []))) cs
+  placed-paid : (n k : ℕ) (log : List Entry) (e : Entry) (c d : NamedClient) (cs : List NamedClient) (i : IsFound cs c) → AreDistinct cs → d.name ≡ c.name
+      → OthersSame c.name (debt log) (debt (log ++ (e ∷ []))) cs
       → debt (log ++ (e ∷ [])) d + entry_cost e ≤ debt log c + k → IsPaid n log cs → IsPaid (n + k) (log ++ (e ∷ [])) (map (in_place d) cs)
   placed-paid n k log e c d cs i a s o h p =
       let name = found-name cs c i in
-      let sum = total-placed (debt log) (debt (log ++ (e ∷ []))) i.name c d cs a i.found (s ∙ sym name) (subst (λ m. OthersSame m (debt log) (debt (log ++ (e ∷ []))) cs) (sym name) o) in
+      let sum = total-placed (debt log) (debt (log ++ (e ∷ []))) i.name c d cs a i.found (s ∙ sym name)
+      (subst (λ m. OthersSame m (debt log) (debt (log ++ (e ∷ []))) cs) (sym name) o) in
       let cost = total-append entry_cost log (e ∷ []) in
       omega (arith, sum, cost, h, p)
 
@@ -285,7 +315,8 @@ module _ (F : Type 0) where
       let wrong : true ≡ false = sym t ∙ e in
       (cc)
 
-  guests-known : (owner other : ℕ → Option Characters) (count more : ℕ) (gs : List NamedGuest) → count ≤ more → ((k : ℕ) → k ≤ count → other k ≡ owner k) → Each (IsGuest owner count) gs → Each (IsGuest other more) gs
+  guests-known : (owner other : ℕ → Option Characters) (count more : ℕ) (gs : List NamedGuest) → count ≤ more → ((k : ℕ) → k ≤ count → other k ≡ owner k)
+      → Each (IsGuest owner count) gs → Each (IsGuest other more) gs
   guests-known owner other count more gs l k h =
       each-weaker (IsGuest owner count) (IsGuest other more) (λ g i. record { by = k g.conn i.known ∙ i.by; known = let b = i.known in omega (arith, b, l) }) gs h
 
@@ -302,7 +333,8 @@ module _ (F : Type 0) where
   chosen f (Some c) = f c
 
   -- an event of a client
-  of-client : (w : NaiveWorld) (name : Characters) (e : Event) (f : NamedClient → Stepped) → list_any (nat_eq 2) (refusals_of e) ≡ true → ((c : NamedClient) → find (is_client name) w.clients ≡ Some c → Goes e (f c)) → Goes e (of_client w name f)
+  of-client : (w : NaiveWorld) (name : Characters) (e : Event) (f : NamedClient → Stepped) → list_any (nat_eq 2) (refusals_of e) ≡ true
+      → ((c : NamedClient) → find (is_client name) w.clients ≡ Some c → Goes e (f c)) → Goes e (of_client w name f)
   of-client w name e f t g = by (find (is_client name) w.clients) refl
     where
       by : (o : Option NamedClient) → find (is_client name) w.clients ≡ o → Goes e (chosen f o)
@@ -314,7 +346,8 @@ module _ (F : Type 0) where
   chosen_guest f (Some g) = f g
 
   -- an event of a guest
-  of-guest : (w : NaiveWorld) (name : Characters) (e : Event) (f : NamedGuest → Stepped) → list_any (nat_eq 2) (refusals_of e) ≡ true → ((g : NamedGuest) → find (is_guest name) w.guests ≡ Some g → Goes e (f g)) → Goes e (of_guest w name f)
+  of-guest : (w : NaiveWorld) (name : Characters) (e : Event) (f : NamedGuest → Stepped) → list_any (nat_eq 2) (refusals_of e) ≡ true
+      → ((g : NamedGuest) → find (is_guest name) w.guests ≡ Some g → Goes e (f g)) → Goes e (of_guest w name f)
   of-guest w name e f t k = by (find (is_guest name) w.guests) refl
     where
       by : (o : Option NamedGuest) → find (is_guest name) w.guests ≡ o → Goes e (chosen_guest f o)
@@ -328,10 +361,12 @@ module _ (F : Type 0) where
   named taken None = taken
 
   -- a name's fault is one of two
-  with-name : (w : NaiveWorld) (name : Characters) (e : Event) (taken : Stepped) → list_any (nat_eq 3) (refusals_of e) ≡ true → list_any (nat_eq 12) (refusals_of e) ≡ true → (IsUnused w.clients w.guests name → Goes e taken) → Goes e (with_name w name taken)
+  with-name : (w : NaiveWorld) (name : Characters) (e : Event) (taken : Stepped) → list_any (nat_eq 3) (refusals_of e) ≡ true
+      → list_any (nat_eq 12) (refusals_of e) ≡ true → (IsUnused w.clients w.guests name → Goes e taken) → Goes e (with_name w name taken)
   with-name w name e taken t u h = by (list_any (is_client name) w.clients || list_any (is_guest name) w.guests) (nat_le 16 (length w.clients + length w.guests)) refl
     where
-      by : (a b : Bool) → list_any (is_client name) w.clients || list_any (is_guest name) w.guests ≡ a → Goes e (named taken (cond a (Some NameInUse) (cond b (Some ClientLimit) None)))
+      by : (a b : Bool) → list_any (is_client name) w.clients || list_any (is_guest name) w.guests ≡ a
+          → Goes e (named taken (cond a (Some NameInUse) (cond b (Some ClientLimit) None)))
       by true b k = t
       by false true k = u
       by false false k = h k
@@ -344,7 +379,9 @@ module _ (F : Type 0) where
   new-debt : (doc : Document) (es : List Entry) → total edit_cost (behind es (client_over doc).pending) ≡ 0
   new-debt doc es = ap (total edit_cost) (behind-none {B = PendingEdit} es)
 
-  started-reached : (w : NaiveWorld) (r : IsReachedWorld 0 w) (name : Characters) (doc : Document) → IsUnused w.clients w.guests name → Serves r.owner (length w.names) w.sequencer w.log (record { name = name; connects = 0; client = client_over doc }) → (F → w.load + 1 < 2 ^ 53) → IsReachedWorld 1 (started w name doc)
+  started-reached : (w : NaiveWorld) (r : IsReachedWorld 0 w) (name : Characters) (doc : Document) → IsUnused w.clients w.guests name
+      → Serves r.owner (length w.names) w.sequencer w.log (record { name = name; connects = 0; client = client_over doc }) → (F → w.load + 1 < 2 ^ 53)
+      → IsReachedWorld 1 (started w name doc)
   started-reached w r name doc u s b =
       let d : NamedClient = record { name = name; connects = 0; client = client_over doc } in
       record {
@@ -367,13 +404,20 @@ module _ (F : Type 0) where
       by [] p = h p
       by (edit ∷ edits) p = t
 
-  start-turns : (w : NaiveWorld) (r : IsReachedWorld 0 w) (name : Characters) (from : Option Characters) → IsUnused w.clients w.guests name → (F → w.load + 1 < 2 ^ 53) → Goes (event.Start name from) (start_client w name from)
-  start-turns w r name None u b = quiet-turn _ _ (started-reached w r name empty u (record { rest = w.log; served = served-new r.owner (length w.names) w.sequencer w.log name r.base; formed = λ f. tt }) b)
+  start-turns : (w : NaiveWorld) (r : IsReachedWorld 0 w) (name : Characters) (from : Option Characters) → IsUnused w.clients w.guests name
+      → (F → w.load + 1 < 2 ^ 53) → Goes (event.Start name from) (start_client w name from)
+  start-turns w r name None u b = quiet-turn _ _ (started-reached w r name empty u
+      (record { rest = w.log; served = served-new r.owner (length w.names) w.sequencer w.log name r.base; formed = λ f. tt }) b)
   start-turns w r name (Some from) u b =
       of-client w from (event.Start name (Some from)) (λ c. unless_pending c.client (quietly (started w name c.client.doc))) refl
       (λ c f. unless-pending c.client (event.Start name (Some from)) (quietly (started w name c.client.doc)) refl
       (λ none. let s = found-serves w r from c f in
-      quiet-turn _ _ (started-reached w r name c.client.doc u (record { rest = s.rest; served = served-restarts r.owner (length w.names) w.sequencer w.log c.name name s.rest c.client none s.served; formed = λ g. tt }) b)))
+      quiet-turn _ _ (started-reached w r name c.client.doc u (record {
+        rest = s.rest;
+        served = served-restarts r.owner (length w.names) w.sequencer w.log
+            c.name name s.rest c.client none s.served;
+        formed = λ g. tt;
+      }) b)))
 
   -- ---- connects
 
@@ -396,10 +440,16 @@ module _ (F : Type 0) where
   noop-same x y (Joining conn) h = (cc)
   noop-same x y (Online conn) h = (ap (λ (z : NaiveClient). z.doc) (sym same), ap (λ (z : NaiveClient). z.pending) (sym same))
     where
-      same : record x { link = Online conn; next_client_seq = x.next_client_seq + 1; queue = x.queue ++ (record { client_seq = x.next_client_seq; ref_seq = x.doc.number; body = bodies.Nothing } ∷ []) } ≡ y
+      same : record x {
+        link = Online conn;
+        next_client_seq = x.next_client_seq + 1;
+        queue = x.queue ++
+            (record { client_seq = x.next_client_seq; ref_seq = x.doc.number; body = bodies.Nothing } ∷ []);
+      } ≡ y
       same = (cc)
 
-  connected-reached : (w : NaiveWorld) (r : IsReachedWorld 0 w) (c : NamedClient) (x : NaiveClient) → Meets w r c → connect c.client (next_conn w) ≡ Ok x → (F → w.load + 1 < 2 ^ 53)
+  connected-reached : (w : NaiveWorld) (r : IsReachedWorld 0 w) (c : NamedClient) (x : NaiveClient) → Meets w r c → connect c.client (next_conn w) ≡ Ok x
+      → (F → w.load + 1 < 2 ^ 53)
       → IsReachedWorld 1 (with_client (record c { client = x; connects = c.connects + 1 }) (joined (connection_name c.name (c.connects + 1)) w))
   connected-reached w r c x s h b =
       let n = length w.names in
@@ -410,12 +460,20 @@ module _ (F : Type 0) where
       let g = join-logged n w.sequencer w.log label r.base in
       let d : NamedClient = record c { client = x; connects = c.connects + 1 } in
       let e = sym (new-count w.names label) in
-      let apart : (a : NamedClient) → is_client c.name a ≡ false → IsApart other (n + 1) a.name = λ a b. apart-name other (n + 1) c.name a.name (owner-new r.owner (n + 1) (Some c.name)) b in
+      let apart : (a : NamedClient) → is_client c.name a ≡ false → IsApart other (n + 1) a.name = λ a b. apart-name other (n + 1) c.name a.name
+      (owner-new r.owner (n + 1) (Some c.name)) b in
       let cs : Others c.name (Serves other (n + 1) p.0 (w.log ++ (p.1 ∷ []))) w.clients =
-      others-logged r.owner other n (n + 1) w.sequencer w.log (n + 1) p c.name w.clients (omega arith) old apart g (others-all c.name (Serves r.owner n w.sequencer w.log) w.clients r.clients) in
+      others-logged r.owner other n (n + 1) w.sequencer w.log (n + 1) p c.name w.clients (omega arith) old apart g
+      (others-all c.name (Serves r.owner n w.sequencer w.log) w.clients r.clients) in
       let now = served-connects r.owner n w.sequencer w.log c.name label s.rest c.client x r.base h s.served in
-      let own : Serves other (n + 1) p.0 (w.log ++ (p.1 ∷ [])) d = record { rest = s.rest ++ (p.1 ∷ []); served = now; formed = λ f. same-formed c.client x (connect-same c.client x (n + 1) c.client.link h) (s.formed f) } in
-      let others = others-debts r.owner other n (n + 1) w.sequencer w.log (n + 1) p c.name w.clients (omega arith) old apart g (others-all c.name (Serves r.owner n w.sequencer w.log) w.clients r.clients) in
+      let own : Serves other (n + 1) p.0 (w.log ++ (p.1 ∷ [])) d = record {
+        rest = s.rest ++ (p.1 ∷ []);
+        served = now;
+        formed = λ f. same-formed c.client x
+            (connect-same c.client x (n + 1) c.client.link h) (s.formed f);
+      } in
+      let others = others-debts r.owner other n (n + 1) w.sequencer w.log (n + 1) p c.name w.clients (omega arith) old apart g
+      (others-all c.name (Serves r.owner n w.sequencer w.log) w.clients r.clients) in
       let owes : debt (w.log ++ (p.1 ∷ [])) d ≡ debt w.log c =
       debt-is other (n + 1) p.0 (w.log ++ (p.1 ∷ [])) c.name (s.rest ++ (p.1 ∷ [])) x now
       ∙ (connect-owes n w.sequencer w.log label s.rest c.client x h (rest-known r.owner n w.sequencer w.log c.name s.rest c.client r.base s.served)
@@ -423,9 +481,11 @@ module _ (F : Type 0) where
       record {
         owner = other;
         base = subst (λ m. IsBase m p.0 (w.log ++ (p.1 ∷ []))) e g.base;
-        clients = subst (λ m. Each (Serves other m p.0 (w.log ++ (p.1 ∷ []))) (map (in_place d) w.clients)) e (placed (Serves other (n + 1) p.0 (w.log ++ (p.1 ∷ []))) d w.clients cs own);
+        clients = subst (λ m. Each (Serves other m p.0 (w.log ++ (p.1 ∷ []))) (map (in_place d) w.clients)) e
+            (placed (Serves other (n + 1) p.0 (w.log ++ (p.1 ∷ []))) d w.clients cs own);
         guests = subst (λ m. Each (IsGuest other m) w.guests) e (guests-known r.owner other n (n + 1) w.guests (omega arith) old r.guests);
-        named = subst (λ m. IsNamed m (map (in_place d) w.clients) w.guests (w.names ++ (label ∷ []))) e (named-connected n w.clients w.guests w.names c d s.found refl refl r.named);
+        named = subst (λ m. IsNamed m (map (in_place d) w.clients) w.guests (w.names ++ (label ∷ []))) e
+            (named-connected n w.clients w.guests w.names c d s.found refl refl r.named);
         distinct = distinct-placed d w.clients r.distinct;
         paid = let p = placed-paid (w.load + 0) 1 w.log p.1 c d w.clients s.found r.distinct refl others (omega (arith, owes)) r.paid in omega (arith, p);
         bodies = λ f. each-more (λ e. IsWellFormedBody e.msg.body) w.log p.1 (r.bodies f) tt;
@@ -441,11 +501,13 @@ module _ (F : Type 0) where
   connect-fault x conn (Joining other) fault h = (cc)
   connect-fault x conn (Online other) fault h = (cc)
 
-  connect-turns : (w : NaiveWorld) (r : IsReachedWorld 0 w) (name : Characters) → (F → MayBeTaken w (event.Connect name)) → Goes (event.Connect name) (of_client w name (connect_client w))
+  connect-turns : (w : NaiveWorld) (r : IsReachedWorld 0 w) (name : Characters) → (F → MayBeTaken w (event.Connect name))
+      → Goes (event.Connect name) (of_client w name (connect_client w))
   connect-turns w r name may = of-client w name (event.Connect name) (connect_client w) refl one
     where
       by : (c : NamedClient) → Meets w r c → (a : Result NaiveClient LinkFault) → connect c.client (next_conn w) ≡ a → Goes (event.Connect name) (connected w c a)
-      by c s (Err fault) h = subst (λ f. list_any (nat_eq (refusal_number (refusal_of_link f))) (2 ∷ 4 ∷ []) ≡ true) (sym (connect-fault c.client (next_conn w) c.client.link fault h)) refl
+      by c s (Err fault) h = subst (λ f. list_any (nat_eq (refusal_number (refusal_of_link f))) (2 ∷ 4 ∷ []) ≡ true)
+          (sym (connect-fault c.client (next_conn w) c.client.link fault h)) refl
       by c s (Ok x) h = quiet-turn _ _ (connected-reached w r c x s h (λ f. (may f).load))
 
       one : (c : NamedClient) → find (is_client name) w.clients ≡ Some c → Goes (event.Connect name) (connect_client w c)
@@ -469,7 +531,8 @@ module _ (F : Type 0) where
   left-found w conn j f = ap (λ (o : Option (NaiveSequencer × Entry)). elim o [ None ↦ None | Some p ↦ Some (logged p w) ]) (leave-found w.sequencer conn j f)
 
   -- the world after a message of a client's connection, with the client in its place
-  logged-reached : (w : NaiveWorld) (r : IsReachedWorld 0 w) (c : NamedClient) (x : NaiveClient) (conn : ℕ) (p : NaiveSequencer × Entry) (m : Meets w r c) → r.owner conn ≡ Some c.name → IsLogged (length w.names) w.sequencer w.log conn p
+  logged-reached : (w : NaiveWorld) (r : IsReachedWorld 0 w) (c : NamedClient) (x : NaiveClient) (conn : ℕ) (p : NaiveSequencer × Entry) (m : Meets w r c)
+      → r.owner conn ≡ Some c.name → IsLogged (length w.names) w.sequencer w.log conn p
       → (own : Serves r.owner (length w.names) p.0 (w.log ++ (p.1 ∷ [])) (record c { client = x })) → owing_of x own.rest + entry_cost p.1 ≤ owing_of c.client m.rest + 1
       → (F → IsWellFormedBody p.1.msg.body) → (F → w.load + 1 < 2 ^ 53) → IsReachedWorld 1 (with_client (record c { client = x }) (logged p w))
   logged-reached w r c x conn p m o g own h body b =
@@ -477,8 +540,10 @@ module _ (F : Type 0) where
       let d : NamedClient = record c { client = x } in
       let apart : (a : NamedClient) → is_client c.name a ≡ false → IsApart r.owner conn a.name = λ a b. apart-name r.owner conn c.name a.name o b in
       let cs : Others c.name (Serves r.owner n p.0 (w.log ++ (p.1 ∷ []))) w.clients =
-      others-logged r.owner r.owner n n w.sequencer w.log conn p c.name w.clients (omega arith) (λ k l. refl) apart g (others-all c.name (Serves r.owner n w.sequencer w.log) w.clients r.clients) in
-      let others = others-debts r.owner r.owner n n w.sequencer w.log conn p c.name w.clients (omega arith) (λ k l. refl) apart g (others-all c.name (Serves r.owner n w.sequencer w.log) w.clients r.clients) in
+      others-logged r.owner r.owner n n w.sequencer w.log conn p c.name w.clients (omega arith) (λ k l. refl) apart g
+      (others-all c.name (Serves r.owner n w.sequencer w.log) w.clients r.clients) in
+      let others = others-debts r.owner r.owner n n w.sequencer w.log conn p c.name w.clients (omega arith) (λ k l. refl) apart g
+      (others-all c.name (Serves r.owner n w.sequencer w.log) w.clients r.clients) in
       let before : debt w.log c ≡ owing_of c.client m.rest = debt-is r.owner n w.sequencer w.log c.name m.rest c.client m.served in
       let after : debt (w.log ++ (p.1 ∷ [])) d ≡ owing_of x own.rest = debt-is r.owner n p.0 (w.log ++ (p.1 ∷ [])) c.name own.rest x own.served in
       record {
@@ -507,9 +572,15 @@ module _ (F : Type 0) where
           let p = gone q conn l.j in
           let d : NamedClient = record c { client = record x { link = Offline; queue = [] } } in
           let g : IsLogged n q w.log conn p = leave-logged n q w.log conn l.j r.base o.known in
-          let own : Serves r.owner n p.0 (w.log ++ (p.1 ∷ [])) d = record { rest = s.rest ++ (p.1 ∷ []); served = served-drops r.owner n q w.log c.name s.rest x conn l.j r.base o.known h s.served; formed = s.formed } in
+          let own : Serves r.owner n p.0 (w.log ++ (p.1 ∷ [])) d = record {
+            rest = s.rest ++ (p.1 ∷ []);
+            served = served-drops r.owner n q w.log c.name s.rest
+                x conn l.j r.base o.known h s.served;
+            formed = s.formed;
+          } in
           let owes = owing-more x.conns s.rest p.1 x.pending x.queue refl in
-          let here : IsReachedWorld 1 (with_client d (logged p w)) = logged-reached w r c (record x { link = Offline; queue = [] }) conn p s o.by g own (omega (arith, owes)) (λ f. tt) (λ f. (may f).load) in
+          let here : IsReachedWorld 1 (with_client d (logged p w)) = logged-reached w r c (record x { link = Offline; queue = [] }) conn p s o.by g own
+          (omega (arith, owes)) (λ f. tt) (λ f. (may f).load) in
           subst (λ v. Goes (event.Drop name) (dropped_left c v)) (sym (left-found w conn l.j l.has.joined))
           (subst (λ a. Goes (event.Drop name) (dropped_link (logged p w) c a)) (sym (drop-made x conn x.link h)) (quiet-turn _ _ here))
 
@@ -529,7 +600,8 @@ module _ (F : Type 0) where
   edit-number edit.OutOfMemory h = (cc)
   edit-number (edit.Stopped seq) h = (cc)
 
-  edit-turns : (w : NaiveWorld) (r : IsReachedWorld 0 w) (name : Characters) (op : ChannelOp) → (F → MayBeTaken w (event.Edit name op)) → Goes (event.Edit name op) (of_client w name (λ c. edit_client w c op))
+  edit-turns : (w : NaiveWorld) (r : IsReachedWorld 0 w) (name : Characters) (op : ChannelOp) → (F → MayBeTaken w (event.Edit name op))
+      → Goes (event.Edit name op) (of_client w name (λ c. edit_client w c op))
   edit-turns w r name op may = of-client w name (event.Edit name op) (λ c. edit_client w c op) refl one
     where
       by : (c : NamedClient) → Meets w r c → (a : Result NaiveClient EditFault) → local_edit c.client op ≡ a → Goes (event.Edit name op) (edited w c a)
@@ -538,7 +610,8 @@ module _ (F : Type 0) where
           let v = served-edits r.owner (length w.names) w.sequencer w.log c.name s.rest c.client x op h s.served in
           let own : Serves r.owner (length w.names) w.sequencer w.log (record c { client = x }) =
           record { rest = s.rest; served = v; formed = λ f. edit-formed c.client x op (every-client-ready v.steps x v.run.made v.run.bodies) (may f).event h (s.formed f) } in
-          quiet-turn _ _ (own-step w r c x s own (1 + op_load op) (let owes = edit-owes c.client x op s.rest h in let less = inserts-loaded op in omega (arith, owes, less)) (λ f. (may f).load))
+          quiet-turn _ _ (own-step w r c x s own (1 + op_load op) (let owes = edit-owes c.client x op s.rest h in let less = inserts-loaded op in omega
+          (arith, owes, less)) (λ f. (may f).load))
 
       one : (c : NamedClient) → find (is_client name) w.clients ≡ Some c → Goes (event.Edit name op) (edit_client w c op)
       one c f = by c (found-serves w r name c f) (local_edit c.client op) refl
@@ -559,7 +632,12 @@ module _ (F : Type 0) where
       by c s (Err fault) h = subst (λ f. list_any (nat_eq (refusal_number (refusal_of_link f))) (2 ∷ 5 ∷ []) ≡ true) (sym (noop-fault c.client c.client.link fault h)) refl
       by c s (Ok x) h =
           let own : Serves r.owner (length w.names) w.sequencer w.log (record c { client = x }) =
-          record { rest = s.rest; served = served-idles r.owner (length w.names) w.sequencer w.log c.name s.rest c.client x h s.served; formed = λ f. same-formed c.client x (noop-same c.client x c.client.link h) (s.formed f) } in
+          record {
+            rest = s.rest;
+            served = served-idles r.owner (length w.names) w.sequencer w.log c.name s.rest c.client x h s.served;
+            formed = λ f.
+                same-formed c.client x (noop-same c.client x c.client.link h) (s.formed f);
+          } in
           quiet-turn _ _ (own-step w r c x s own 1 (noop-owes c.client x s.rest h) (λ f. (may f).load))
 
       one : (c : NamedClient) → find (is_client name) w.clients ≡ Some c → Goes (event.Noop name) (noop_client w c)
@@ -592,19 +670,23 @@ module _ (F : Type 0) where
   submitted_on w conn ds (Ok p) = submitted (logged p w) conn ds
 
   -- a client whose first draft was numbered, in the place of the client as it was before
-  sent-paid : (n : ℕ) (log : List Entry) (e : Entry) (c b d : NamedClient) (cs : List NamedClient) (i : IsFound cs c) → AreDistinct cs → b.name ≡ c.name → d.name ≡ c.name → OthersSame c.name (debt log) (debt (log ++ (e ∷ []))) cs
+  sent-paid : (n : ℕ) (log : List Entry) (e : Entry) (c b d : NamedClient) (cs : List NamedClient) (i : IsFound cs c) → AreDistinct cs → b.name ≡ c.name
+      → d.name ≡ c.name → OthersSame c.name (debt log) (debt (log ++ (e ∷ []))) cs
       → debt (log ++ (e ∷ [])) d + entry_cost e ≤ debt log b → IsPaid n log (map (in_place b) cs) → IsPaid n (log ++ (e ∷ [])) (map (in_place d) cs)
   sent-paid n log e c b d cs i a sb sd o h p =
       let name = found-name cs c i in
       let first = total-placed (debt log) (debt log) i.name c b cs a i.found (sb ∙ sym name) (same-debts i.name (debt log) cs) in
-      let then = total-placed (debt log) (debt (log ++ (e ∷ []))) i.name c d cs a i.found (sd ∙ sym name) (subst (λ m. OthersSame m (debt log) (debt (log ++ (e ∷ []))) cs) (sym name) o) in
+      let then = total-placed (debt log) (debt (log ++ (e ∷ []))) i.name c d cs a i.found (sd ∙ sym name)
+      (subst (λ m. OthersSame m (debt log) (debt (log ++ (e ∷ []))) cs) (sym name) o) in
       let cost = total-append entry_cost log (e ∷ []) in
       omega (arith, first, then, cost, h, p)
 
-  then-submitted : (w : NaiveWorld) (conn : ℕ) (d : Draft) (ds : List Draft) (p : NaiveSequencer × Entry) (v : NaiveWorld) → submit w.sequencer conn d ≡ Ok p → submitted (logged p w) conn ds ≡ Ok v → submitted w conn (d ∷ ds) ≡ Ok v
+  then-submitted : (w : NaiveWorld) (conn : ℕ) (d : Draft) (ds : List Draft) (p : NaiveSequencer × Entry) (v : NaiveWorld) → submit w.sequencer conn d ≡ Ok p
+      → submitted (logged p w) conn ds ≡ Ok v → submitted w conn (d ∷ ds) ≡ Ok v
   then-submitted w conn d ds p v h g = ap (submitted_on w conn ds) h ∙ g
 
-  submits-all : (owner : ℕ → Option Characters) (c : NamedClient) (ds later : List Draft) (w : NaiveWorld) (conn : ℕ) (x : NaiveClient) (rest : List Entry) → IsBetween owner c w → conn_of x.link ≡ Some conn → x.queue ≡ ds ++ later
+  submits-all : (owner : ℕ → Option Characters) (c : NamedClient) (ds later : List Draft) (w : NaiveWorld) (conn : ℕ) (x : NaiveClient) (rest : List Entry)
+      → IsBetween owner c w → conn_of x.link ≡ Some conn → x.queue ≡ ds ++ later
       → IsServed owner (length w.names) w.sequencer w.log c.name rest x → IsPaid w.load w.log (map (in_place (record c { client = x })) w.clients)
       → (F → IsFormed x) → (F → Each (λ e. IsWellFormedBody e.msg.body) w.log) → IsSubmitted owner c w conn ds later x
   submits-all owner c [] later w conn x rest b k u s paid formed bodies = record {
@@ -638,8 +720,18 @@ module _ (F : Type 0) where
       let owes = t.owes in
       omega (arith, before, after, queued, owes)
       ) paid in
-      let m = submits-all owner c ds later (logged t.p w) conn (record x { queue = ds ++ later }) (rest ++ (t.p.1 ∷ [])) next k refl t.served more formed (λ f. each-more (λ e. IsWellFormedBody e.msg.body) w.log t.p.1 (bodies f) (t.formed (formed f))) in
-      record { v = m.v; submits = then-submitted w conn d ds t.p m.v t.submits m.submits; between = m.between; rest = m.rest; served = m.served; load = m.load; paid = m.paid; bodies = m.bodies }
+      let m = submits-all owner c ds later (logged t.p w) conn (record x { queue = ds ++ later }) (rest ++ (t.p.1 ∷ [])) next k refl t.served more formed
+      (λ f. each-more (λ e. IsWellFormedBody e.msg.body) w.log t.p.1 (bodies f) (t.formed (formed f))) in
+      record {
+        v = m.v;
+        submits = then-submitted w conn d ds t.p m.v t.submits m.submits;
+        between = m.between;
+        rest = m.rest;
+        served = m.served;
+        load = m.load;
+        paid = m.paid;
+        bodies = m.bodies;
+      }
 
   abbrev ticketed_so : NamedClient → ℕ → Result NaiveWorld Refusal → Stepped
   ticketed_so c n (Err refusal) = Err refusal
@@ -653,22 +745,33 @@ module _ (F : Type 0) where
   ticketing w c many None = Err Parted
   ticketing w c many (Some conn) = ticketed w c conn (counted many (length c.client.queue))
 
-  ticket-turns : (w : NaiveWorld) (r : IsReachedWorld 0 w) (name : Characters) (many : HowMany) → (F → MayBeTaken w (event.Ticket name many)) → Goes (event.Ticket name many) (of_client w name (λ c. ticket_client w c many))
+  ticket-turns : (w : NaiveWorld) (r : IsReachedWorld 0 w) (name : Characters) (many : HowMany) → (F → MayBeTaken w (event.Ticket name many))
+      → Goes (event.Ticket name many) (of_client w name (λ c. ticket_client w c many))
   ticket-turns w r name many may = of-client w name (event.Ticket name many) (λ c. ticket_client w c many) refl one
     where
       some : (c : NamedClient) → Meets w r c → (conn : ℕ) → conn_of c.client.link ≡ Some conn → (o : Option ℕ) → Goes (event.Ticket name many) (ticketed w c conn o)
       some c s conn h None = refl
       some c s conn h (Some n) =
           let x = c.client in
-          let b : IsBetween r.owner c w = record { base = r.base; others = others-all c.name (Serves r.owner (length w.names) w.sequencer w.log) w.clients r.clients; guests = r.guests; named = r.named; found = s.found; distinct = r.distinct } in
-          let same = total-placed (debt w.log) (debt w.log) s.found.name c c w.clients r.distinct s.found.found (sym (found-name w.clients c s.found)) (same-debts s.found.name (debt w.log) w.clients) in
+          let b : IsBetween r.owner c w = record {
+            base = r.base;
+            others = others-all c.name (Serves r.owner (length w.names) w.sequencer w.log) w.clients
+                r.clients;
+            guests = r.guests;
+            named = r.named;
+            found = s.found;
+            distinct = r.distinct;
+          } in
+          let same = total-placed (debt w.log) (debt w.log) s.found.name c c w.clients r.distinct s.found.found (sym (found-name w.clients c s.found))
+          (same-debts s.found.name (debt w.log) w.clients) in
           let first : IsPaid w.load w.log (map (in_place (record c { client = x })) w.clients) = let p = r.paid in omega (arith, same, p) in
           let m = submits-all r.owner c (take n x.queue) (drop n x.queue) w conn x s.rest b h (sym (take-append-drop n x.queue)) s.served first s.formed r.bodies in
           let d : NamedClient = record c { client = record x { queue = drop n x.queue } } in
           let here : IsReachedWorld 1 (with_client d m.v) = record {
             owner = r.owner;
             base = m.between.base;
-            clients = placed (Serves r.owner (length m.v.names) m.v.sequencer m.v.log) d m.v.clients m.between.others (record { rest = m.rest; served = m.served; formed = s.formed });
+            clients = placed (Serves r.owner (length m.v.names) m.v.sequencer m.v.log) d m.v.clients m.between.others
+                (record { rest = m.rest; served = m.served; formed = s.formed });
             guests = m.between.guests;
             named = same-named (length m.v.names) m.v.clients m.v.guests m.v.names c (record x { queue = drop n x.queue }) m.between.found m.between.named;
             distinct = distinct-placed d m.v.clients m.between.distinct;
@@ -688,11 +791,13 @@ module _ (F : Type 0) where
   -- ---- deliveries and offers
 
   -- the messages ahead of a client are the rest of the log
-  pub ahead-is : (owner : ℕ → Option Characters) (w : NaiveWorld) (c : NamedClient) (rest : List Entry) → IsServed owner (length w.names) w.sequencer w.log c.name rest c.client → ahead_of w c.client ≡ rest
+  pub ahead-is : (owner : ℕ → Option Characters) (w : NaiveWorld) (c : NamedClient) (rest : List Entry)
+      → IsServed owner (length w.names) w.sequencer w.log c.name rest c.client → ahead_of w c.client ≡ rest
   ahead-is owner w c rest s = ap (drop c.client.doc.number) (sym s.entries) ∙ drop_at _ rest c.client.doc.number (sym (entries-counted s.steps c.client s.run.made))
 
   -- the client processes entries one after another
-  pub record IsProcessed (owner : ℕ → Option Characters) (count : ℕ) (q : NaiveSequencer) (log : List Entry) (name : Characters) (x : NaiveClient) (es later : List Entry) : Type 0 where
+  pub record IsProcessed (owner : ℕ → Option Characters) (count : ℕ) (q : NaiveSequencer) (log : List Entry) (name : Characters) (x : NaiveClient)
+      (es later : List Entry) : Type 0 where
     pub y : NaiveClient
     pub takes : processed x es ≡ Ok y
     pub served : IsServed owner count q log name later y
@@ -709,7 +814,8 @@ module _ (F : Type 0) where
   answer_of x e None = Ok (after_entry x e)
 
   -- a client keeps what is pending well formed, where its lists have fewer elements than 2^53
-  takes-formed : (owner : ℕ → Option Characters) (count : ℕ) (q : NaiveSequencer) (log : List Entry) (name : Characters) (rest : List Entry) (x y : NaiveClient) (e : Entry) → IsServed owner count q log name (e ∷ rest) x → IsServed owner count q log name rest y
+  takes-formed : (owner : ℕ → Option Characters) (count : ℕ) (q : NaiveSequencer) (log : List Entry) (name : Characters) (rest : List Entry)
+      (x y : NaiveClient) (e : Entry) → IsServed owner count q log name (e ∷ rest) x → IsServed owner count q log name rest y
       → process x e ≡ Ok y → total entry_cost log + owing_of x (e ∷ rest) < 2 ^ 53 → IsFormed x → IsFormed y
   takes-formed owner count q log name rest x y e s v h b f = by (process_fault x e) h
     where
@@ -723,7 +829,8 @@ module _ (F : Type 0) where
       taken true c g =
           let z = served-sized owner count q log name (e ∷ rest) x s in
           subst IsFormed g
-          (join-formed (total entry_cost log + owing_of x (e ∷ rest)) x e b z.text z.rows z.cols before (subst IsReady (sym g) after) (λ k l. (reconnection-keeps-views s.steps x e k s.run.made s.run.bodies l).text) f)
+          (join-formed (total entry_cost log + owing_of x (e ∷ rest)) x e b z.text z.rows z.cols before (subst IsReady (sym g) after)
+          (λ k l. (reconnection-keeps-views s.steps x e k s.run.made s.run.bodies l).text) f)
       taken false true g = subst IsFormed g (own-formed x e before (subst IsReady (sym g) after) f)
       taken false false g = subst IsFormed g (foreign-formed x e (subst IsReady (sym g) after) f)
 
@@ -731,30 +838,43 @@ module _ (F : Type 0) where
       by (Some fault) g = (cc)
       by None g = let same : after_entry x e ≡ y = (cc) in taken (is_own_join x.link e.msg.kind e.origin) (is_op e.msg.body && is_own x e) same
 
-  pub processes-all : (owner : ℕ → Option Characters) (count : ℕ) (q : NaiveSequencer) (log : List Entry) (name : Characters) (es later : List Entry) (x : NaiveClient) → IsServed owner count q log name (es ++ later) x
+  pub processes-all : (owner : ℕ → Option Characters) (count : ℕ) (q : NaiveSequencer) (log : List Entry) (name : Characters) (es later : List Entry)
+      (x : NaiveClient) → IsServed owner count q log name (es ++ later) x
       → (F → IsFormed x) → (F → total entry_cost log + owing_of x (es ++ later) < 2 ^ 53) → IsProcessed owner count q log name x es later
   processes-all owner count q log name [] later x s formed bound = record { y = x; takes = refl; served = s; owes = omega arith; formed = formed }
   processes-all owner count q log name (e ∷ es) later x s formed bound =
       let t = served-takes owner count q log name (es ++ later) x e s in
-      let m = processes-all owner count q log name es later t.y t.served (λ f. takes-formed owner count q log name (es ++ later) x t.y e s t.served t.processed (bound f) (formed f)) (λ f. let b = bound f in let o = t.owes in omega (arith, b, o)) in
-      record { y = m.y; takes = ap (processed_on e es) t.processed ∙ m.takes; served = m.served; owes = let first = t.owes in let later = m.owes in omega (arith, first, later); formed = m.formed }
+      let m = processes-all owner count q log name es later t.y t.served (λ f. takes-formed owner count q log name (es ++ later) x t.y e s t.served t.processed
+      (bound f) (formed f)) (λ f. let b = bound f in let o = t.owes in omega (arith, b, o)) in
+      record {
+        y = m.y;
+        takes = ap (processed_on e es) t.processed ∙ m.takes;
+        served = m.served;
+        owes = let first = t.owes in let later = m.owes in omega
+            (arith, first, later);
+        formed = m.formed;
+      }
 
   -- what a client that was found owes is paid for
-  found-bound : (w : NaiveWorld) (r : IsReachedWorld 0 w) (c : NamedClient) (rest : List Entry) → IsFound w.clients c → IsServed r.owner (length w.names) w.sequencer w.log c.name rest c.client → w.load < 2 ^ 53
+  found-bound : (w : NaiveWorld) (r : IsReachedWorld 0 w) (c : NamedClient) (rest : List Entry) → IsFound w.clients c
+      → IsServed r.owner (length w.names) w.sequencer w.log c.name rest c.client → w.load < 2 ^ 53
       → total entry_cost w.log + owing_of c.client rest < 2 ^ 53
   found-bound w r c rest i s b =
-      let one = (each-found (λ (a : NamedClient). debt w.log a ≤ total (debt w.log) w.clients) (is_client i.name) w.clients c i.found (each-within (debt w.log) w.clients (total (debt w.log) w.clients) (omega arith))).0 in
+      let one = (each-found (λ (a : NamedClient). debt w.log a ≤ total (debt w.log) w.clients) (is_client i.name) w.clients c i.found
+      (each-within (debt w.log) w.clients (total (debt w.log) w.clients) (omega arith))).0 in
       let owes : debt w.log c ≡ owing_of c.client rest = debt-is r.owner (length w.names) w.sequencer w.log c.name rest c.client s in
       let p = r.paid in
       omega (arith, one, owes, p, b)
 
-  now-turns : (w : NaiveWorld) (r : IsReachedWorld 0 w) (e : Event) (c : NamedClient) (es later : List Entry) → IsFound w.clients c → IsServed r.owner (length w.names) w.sequencer w.log c.name (es ++ later) c.client → (F → IsFormed c.client)
+  now-turns : (w : NaiveWorld) (r : IsReachedWorld 0 w) (e : Event) (c : NamedClient) (es later : List Entry) → IsFound w.clients c
+      → IsServed r.owner (length w.names) w.sequencer w.log c.name (es ++ later) c.client → (F → IsFormed c.client)
       → (F → w.load + (1 + text_load e) < 2 ^ 53) → Goes e (now w c (processed c.client es))
   now-turns w r e c es later i s formed b =
       let low : F → w.load < 2 ^ 53 = λ f. (let h = b f in omega (arith, h)) in
       let m = processes-all r.owner (length w.names) w.sequencer w.log c.name es later c.client s formed (λ f. found-bound w r c (es ++ later) i s (low f)) in
       subst (λ a. Goes e (now w c a)) (sym m.takes)
-      (quiet-turn _ _ (own-step w r c m.y (record { rest = es ++ later; served = s; formed = formed; found = i }) (record { rest = later; served = m.served; formed = m.formed }) (1 + text_load e) (let less = m.owes in omega (arith, less)) b))
+      (quiet-turn _ _ (own-step w r c m.y (record { rest = es ++ later; served = s; formed = formed; found = i })
+      (record { rest = later; served = m.served; formed = m.formed }) (1 + text_load e) (let less = m.owes in omega (arith, less)) b))
 
   abbrev delivered : NaiveWorld → NamedClient → Option ℕ → Stepped
   delivered w c None = Err (NothingToDeliver (length (ahead_of w c.client)))
@@ -764,7 +884,8 @@ module _ (F : Type 0) where
   delivering w c many None = Err Parted
   delivering w c many (Some conn) = delivered w c (counted many (length (ahead_of w c.client)))
 
-  deliver-turns : (w : NaiveWorld) (r : IsReachedWorld 0 w) (name : Characters) (many : HowMany) → (F → MayBeTaken w (event.Deliver name many)) → Goes (event.Deliver name many) (of_client w name (λ c. deliver_client w c many))
+  deliver-turns : (w : NaiveWorld) (r : IsReachedWorld 0 w) (name : Characters) (many : HowMany) → (F → MayBeTaken w (event.Deliver name many))
+      → Goes (event.Deliver name many) (of_client w name (λ c. deliver_client w c many))
   deliver-turns w r name many may = of-client w name (event.Deliver name many) (λ c. deliver_client w c many) refl one
     where
       some : (c : NamedClient) → Meets w r c → (o : Option ℕ) → Goes (event.Deliver name many) (delivered w c o)
@@ -783,7 +904,8 @@ module _ (F : Type 0) where
       one c f = by c (found-serves w r name c f) (conn_of c.client.link)
 
   -- a text without a reading has one of two refusals
-  cause-number : (e : Event) (fault : Cause) → list_any (nat_eq 1) (refusals_of e) ≡ true → list_any (nat_eq 15) (refusals_of e) ≡ true → list_any (nat_eq (refusal_number (refusal_of_cause fault))) (refusals_of e) ≡ true
+  cause-number : (e : Event) (fault : Cause) → list_any (nat_eq 1) (refusals_of e) ≡ true → list_any (nat_eq 15) (refusals_of e) ≡ true
+      → list_any (nat_eq (refusal_number (refusal_of_cause fault))) (refusals_of e) ≡ true
   cause-number e cause.CountLimit a b = b
   cause-number e cause.NotUtf8 a b = a
   cause-number e cause.NotJson a b = a
@@ -805,15 +927,18 @@ module _ (F : Type 0) where
   offering w c text None = Err Parted
   offering w c text (Some conn) = offered w c (message (encode_utf8_all text))
 
-  offer-turns : (w : NaiveWorld) (r : IsReachedWorld 0 w) (name text : Characters) → (F → MayBeTaken w (event.Offer name text)) → Goes (event.Offer name text) (of_client w name (λ c. offer_client w c text))
+  offer-turns : (w : NaiveWorld) (r : IsReachedWorld 0 w) (name text : Characters) → (F → MayBeTaken w (event.Offer name text))
+      → Goes (event.Offer name text) (of_client w name (λ c. offer_client w c text))
   offer-turns w r name text may = of-client w name (event.Offer name text) (λ c. offer_client w c text) refl one
     where
-      same : (c : NamedClient) (m : Message) (entry : Entry) (es : List Entry) → IsFound w.clients c → IsServed r.owner (length w.names) w.sequencer w.log c.name (entry ∷ es) c.client → (F → IsFormed c.client) → (b : Bool)
+      same : (c : NamedClient) (m : Message) (entry : Entry) (es : List Entry) → IsFound w.clients c
+          → IsServed r.owner (length w.names) w.sequencer w.log c.name (entry ∷ es) c.client → (F → IsFormed c.client) → (b : Bool)
           → Goes (event.Offer name text) (cond b (now w c (processed c.client (entry ∷ []))) (Err (Foreign m.seq)))
       same c m entry es i s g true = now-turns w r (event.Offer name text) c (entry ∷ []) es i s g (λ f. (may f).load)
       same c m entry es i s g false = refl
 
-      next : (c : NamedClient) (m : Message) (es : List Entry) → IsFound w.clients c → IsServed r.owner (length w.names) w.sequencer w.log c.name es c.client → (F → IsFormed c.client) → Goes (event.Offer name text) (offer_next w c m es)
+      next : (c : NamedClient) (m : Message) (es : List Entry) → IsFound w.clients c → IsServed r.owner (length w.names) w.sequencer w.log c.name es c.client
+          → (F → IsFormed c.client) → Goes (event.Offer name text) (offer_next w c m es)
       next c m [] i s g = refl
       next c m (entry ∷ es) i s g = same c m entry es i s g (same_message m entry.msg)
 
@@ -835,7 +960,8 @@ module _ (F : Type 0) where
 
   -- ---- guests
 
-  entered-reached : (w : NaiveWorld) (r : IsReachedWorld 0 w) (name : Characters) → IsUnused w.clients w.guests name → (F → w.load + 1 < 2 ^ 53) → IsReachedWorld 1 (enter_guest w name)
+  entered-reached : (w : NaiveWorld) (r : IsReachedWorld 0 w) (name : Characters) → IsUnused w.clients w.guests name → (F → w.load + 1 < 2 ^ 53)
+      → IsReachedWorld 1 (enter_guest w name)
   entered-reached w r name u b =
       let n = length w.names in
       let label = connection_name name 1 in
@@ -849,18 +975,22 @@ module _ (F : Type 0) where
       record {
         owner = other;
         base = subst (λ m. IsBase m p.0 (w.log ++ (p.1 ∷ []))) e g.base;
-        clients = subst (λ m. Each (Serves other m p.0 (w.log ++ (p.1 ∷ []))) w.clients) e (all-logged r.owner other n (n + 1) w.sequencer w.log (n + 1) p w.clients (omega arith) old fresh g r.clients);
+        clients = subst (λ m. Each (Serves other m p.0 (w.log ++ (p.1 ∷ []))) w.clients) e
+            (all-logged r.owner other n (n + 1) w.sequencer w.log (n + 1) p w.clients (omega arith) old fresh g r.clients);
         guests = subst (λ m. Each (IsGuest other m) (w.guests ++ (guest ∷ []))) e
-            (each-more (IsGuest other (n + 1)) w.guests guest (guests-known r.owner other n (n + 1) w.guests (omega arith) old r.guests) (record { by = fresh; known = omega arith }));
+            (each-more (IsGuest other (n + 1)) w.guests guest (guests-known r.owner other n (n + 1) w.guests (omega arith) old r.guests)
+            (record { by = fresh; known = omega arith }));
         named = subst (λ m. IsNamed m w.clients (w.guests ++ (guest ∷ [])) (w.names ++ (label ∷ []))) e (named-entered n w.clients w.guests w.names guest u r.named);
         distinct = r.distinct;
-        paid = let sum = all-debts r.owner other n (n + 1) w.sequencer w.log (n + 1) p w.clients (omega arith) old fresh g r.clients in let cost = total-append entry_cost w.log (p.1 ∷ []) in let p = r.paid in omega (arith, sum, cost, p);
+        paid = let sum = all-debts r.owner other n (n + 1) w.sequencer w.log (n + 1) p w.clients (omega arith) old fresh g r.clients in let cost = total-append
+            entry_cost w.log (p.1 ∷ []) in let p = r.paid in omega (arith, sum, cost, p);
         bodies = λ f. each-more (λ e. IsWellFormedBody e.msg.body) w.log p.1 (r.bodies f) tt;
         bound = b;
       }
 
   -- the world after a message of a guest's connection
-  guest-reached : (w : NaiveWorld) (r : IsReachedWorld 0 w) (conn : ℕ) (p : NaiveSequencer × Entry) (k : ℕ) → r.owner conn ≡ None → IsLogged (length w.names) w.sequencer w.log conn p → entry_cost p.1 ≤ k → (F → IsWellFormedBody p.1.msg.body) → (F → w.load + k < 2 ^ 53) → IsReachedWorld k (logged p w)
+  guest-reached : (w : NaiveWorld) (r : IsReachedWorld 0 w) (conn : ℕ) (p : NaiveSequencer × Entry) (k : ℕ) → r.owner conn ≡ None
+      → IsLogged (length w.names) w.sequencer w.log conn p → entry_cost p.1 ≤ k → (F → IsWellFormedBody p.1.msg.body) → (F → w.load + k < 2 ^ 53) → IsReachedWorld k (logged p w)
   guest-reached w r conn p k o g h body b = record {
     bodies = λ f. each-more (λ e. IsWellFormedBody e.msg.body) w.log p.1 (r.bodies f) (body f);
     bound = b;
@@ -885,14 +1015,16 @@ module _ (F : Type 0) where
   drafted w g (Err fault) = Err (refusal_of_cause fault)
   drafted w g (Ok d) = submit_draft w g d
 
-  submit-turns : (w : NaiveWorld) (r : IsReachedWorld 0 w) (name text : Characters) → (F → MayBeTaken w (event.Submit name text)) → Goes (event.Submit name text) (of_guest w name (λ g. submit_guest w g text))
+  submit-turns : (w : NaiveWorld) (r : IsReachedWorld 0 w) (name text : Characters) → (F → MayBeTaken w (event.Submit name text))
+      → Goes (event.Submit name text) (of_guest w name (λ g. submit_guest w g text))
   submit-turns w r name text may = of-guest w name (event.Submit name text) (λ g. submit_guest w g text) refl one
     where
       load_of : Result Draft Cause → ℕ
       load_of (Ok d) = body_load d.body
       load_of (Err fault) = 0
 
-      sent : (g : NamedGuest) (d : Draft) → IsGuest r.owner (length w.names) g → (F → IsWellFormedBody d.body) → (F → w.load + (1 + body_load d.body) < 2 ^ 53) → (a : Result (NaiveSequencer × Entry) Nack) → submit w.sequencer g.conn d ≡ a
+      sent : (g : NamedGuest) (d : Draft) → IsGuest r.owner (length w.names) g → (F → IsWellFormedBody d.body) → (F → w.load + (1 + body_load d.body) < 2 ^ 53)
+          → (a : Result (NaiveSequencer × Entry) Nack) → submit w.sequencer g.conn d ≡ a
           → Turns (1 + body_load d.body) (event.Submit name text) (quiet (submitted_on w g.conn [] a))
       sent g d i body b (Err nack) h = refl
       sent g d i body b (Ok p) h =
@@ -904,7 +1036,8 @@ module _ (F : Type 0) where
           let same : p.1.msg.body ≡ d.body = ap (λ (z : NaiveSequencer × Entry). z.1.msg.body) t.same in
           quiet-turn _ _ (guest-reached w r g.conn p (1 + body_load d.body) i.by l (omega (arith, cost, less)) (λ f. subst IsWellFormedBody (sym same) (body f)) b)
 
-      read : (g : NamedGuest) → IsGuest r.owner (length w.names) g → (a : Result Draft Cause) → draft (encode_utf8_all text) ≡ a → (F → w.load + (1 + load_of a) < 2 ^ 53) → Turns (1 + load_of a) (event.Submit name text) (drafted w g a)
+      read : (g : NamedGuest) → IsGuest r.owner (length w.names) g → (a : Result Draft Cause) → draft (encode_utf8_all text) ≡ a
+          → (F → w.load + (1 + load_of a) < 2 ^ 53) → Turns (1 + load_of a) (event.Submit name text) (drafted w g a)
       read g i (Err fault) e b = cause-number (event.Submit name text) fault refl refl
       read g i (Ok d) e b = sent g d i (λ f. ((may f).text d e).body) b (submit w.sequencer g.conn d) refl
 
@@ -916,23 +1049,27 @@ module _ (F : Type 0) where
   parted (Some v) = quietly v
 
   left-none : (w : NaiveWorld) (conn : ℕ) → find (is_joined conn) w.sequencer.joined ≡ None → left conn w ≡ None
-  left-none w conn f = ap (λ (o : Option (NaiveSequencer × Entry)). elim o [ None ↦ None | Some p ↦ Some (logged p w) ]) (ap (λ (o : Option JoinedConnection). option_map (gone w.sequencer conn) o) f)
+  left-none w conn f = ap (λ (o : Option (NaiveSequencer × Entry)). elim o [ None ↦ None | Some p ↦ Some (logged p w) ])
+      (ap (λ (o : Option JoinedConnection). option_map (gone w.sequencer conn) o) f)
 
   part-turns : (w : NaiveWorld) (r : IsReachedWorld 0 w) (name : Characters) → (F → MayBeTaken w (event.Part name)) → Goes (event.Part name) (of_guest w name (part_guest w))
   part-turns w r name may = of-guest w name (event.Part name) (part_guest w) refl one
     where
-      by : (g : NamedGuest) → IsGuest r.owner (length w.names) g → (o : Option JoinedConnection) → find (is_joined g.conn) w.sequencer.joined ≡ o → Goes (event.Part name) (parted (left g.conn w))
+      by : (g : NamedGuest) → IsGuest r.owner (length w.names) g → (o : Option JoinedConnection) → find (is_joined g.conn) w.sequencer.joined ≡ o
+          → Goes (event.Part name) (parted (left g.conn w))
       by g i None f = subst (λ v. Goes (event.Part name) (parted v)) (sym (left-none w g.conn f)) refl
       by g i (Some j) f =
           subst (λ v. Goes (event.Part name) (parted v)) (sym (left-found w g.conn j f))
-          (quiet-turn _ _ (guest-reached w r g.conn (gone w.sequencer g.conn j) 1 i.by (leave-logged (length w.names) w.sequencer w.log g.conn j r.base i.known) (omega arith) (λ f. tt) (λ f. (may f).load)))
+          (quiet-turn _ _ (guest-reached w r g.conn (gone w.sequencer g.conn j) 1 i.by
+          (leave-logged (length w.names) w.sequencer w.log g.conn j r.base i.known) (omega arith) (λ f. tt) (λ f. (may f).load)))
 
       one : (g : NamedGuest) → find (is_guest name) w.guests ≡ Some g → Goes (event.Part name) (part_guest w g)
       one g f = by g (each-found (IsGuest r.owner (length w.names)) (is_guest name) w.guests g f r.guests).0 (find (is_joined g.conn) w.sequencer.joined) refl
 
   -- ---- all events
 
-  blame-turns : (w : NaiveWorld) (r : IsReachedWorld 0 w) (name : Characters) (a b : ℕ) (x : NaiveClient) → (F → w.load + 1 < 2 ^ 53) → Goes (event.Blame name a b) (blame_client w x a b)
+  blame-turns : (w : NaiveWorld) (r : IsReachedWorld 0 w) (name : Characters) (a b : ℕ) (x : NaiveClient) → (F → w.load + 1 < 2 ^ 53)
+      → Goes (event.Blame name a b) (blame_client w x a b)
   blame-turns w r name a b x low = by _ (nat_lt (length (blame x)) b)
     where
       by : (values : List Data) (t : Bool) → Goes (event.Blame name a b) (cond t (Err (OutOfRange (length (blame x)))) (Ok (w, Texts values)))
@@ -947,12 +1084,14 @@ module _ (F : Type 0) where
       one c f =
           let s = found-serves w r name c f in
           let top : content c.client ≡ applied c.client w.log (next_conn w) =
-          pending-stays-on_top s.served.steps c.client s.rest (next_conn w) s.served.run.made s.served.run.bodies ∙ ap (λ log. applied c.client log (next_conn w)) s.served.entries in
+          pending-stays-on_top s.served.steps c.client s.rest (next_conn w) s.served.run.made s.served.run.bodies
+          ∙ ap (λ log. applied c.client log (next_conn w)) s.served.entries in
           record { reached = reached-more 0 1 w (omega arith) low r; same = ap (λ v. head_line c ∷ content_lines v) top }
 
   happens : (w : NaiveWorld) (r : IsReachedWorld 0 w) (e : Event) → (F → MayBeTaken w e) → Goes e (happen w e)
   happens w r (event.Start name None) may = with-name w name (event.Start name None) (start_client w name None) refl refl (λ u. start-turns w r name None u (λ f. (may f).load))
-  happens w r (event.Start name (Some from)) may = with-name w name (event.Start name (Some from)) (start_client w name (Some from)) refl refl (λ u. start-turns w r name (Some from) u (λ f. (may f).load))
+  happens w r (event.Start name (Some from)) may = with-name w name (event.Start name (Some from)) (start_client w name (Some from)) refl refl
+      (λ u. start-turns w r name (Some from) u (λ f. (may f).load))
   happens w r (event.Connect name) may = connect-turns w r name may
   happens w r (event.Drop name) may = drop-turns w r name may
   happens w r (event.Edit name op) may = edit-turns w r name op may
@@ -962,10 +1101,12 @@ module _ (F : Type 0) where
   happens w r (event.Show name) may = show-turns w r name (λ f. (may f).load)
   happens w r (event.Queue name) may = of-client w name (event.Queue name) _ refl (λ c f. texts-turn _ w _ (λ g. (may g).load) r)
   happens w r (event.Compact name) may = of-client w name (event.Compact name) _ refl (λ c f. quiet-turn _ w (reached-more 0 1 w (omega arith) (λ g. (may g).load) r))
-  happens w r (event.Summary name) may = of-client w name (event.Summary name) _ refl (λ c f. unless-pending c.client (event.Summary name) _ refl (λ none. texts-turn _ w _ (λ g. (may g).load) r))
+  happens w r (event.Summary name) may = of-client w name (event.Summary name) _ refl
+      (λ c f. unless-pending c.client (event.Summary name) _ refl (λ none. texts-turn _ w _ (λ g. (may g).load) r))
   happens w r (event.Offer name text) may = offer-turns w r name text may
   happens w r event.History may = texts-turn _ w _ (λ g. (may g).load) r
-  happens w r (event.Guest name) may = with-name w name (event.Guest name) (quietly (enter_guest w name)) refl refl (λ u. quiet-turn _ _ (entered-reached w r name u (λ f. (may f).load)))
+  happens w r (event.Guest name) may = with-name w name (event.Guest name) (quietly (enter_guest w name)) refl refl
+      (λ u. quiet-turn _ _ (entered-reached w r name u (λ f. (may f).load)))
   happens w r (event.Submit name text) may = submit-turns w r name text may
   happens w r (event.Part name) may = part-turns w r name may
   happens w r (event.Overlap name label a b) may = of-client w name (event.Overlap name label a b) _ refl (λ c f. texts-turn _ w _ (λ g. (may g).load) r)
@@ -973,13 +1114,24 @@ module _ (F : Type 0) where
   happens w r (event.Authors name) may = of-client w name (event.Authors name) _ refl (λ c f. texts-turn _ w _ (λ g. (may g).load) r)
 
   -- the load changes nothing that is known
-  loaded-lines : (w : NaiveWorld) (n : ℕ) (o : Output) → output_lines as_shown w o ≡ output_lines as_applied w o → output_lines as_shown (record w { load = n }) o ≡ output_lines as_applied (record w { load = n }) o
+  loaded-lines : (w : NaiveWorld) (n : ℕ) (o : Output) → output_lines as_shown w o ≡ output_lines as_applied w o
+      → output_lines as_shown (record w { load = n }) o ≡ output_lines as_applied (record w { load = n }) o
   loaded-lines w n Nothing h = h
   loaded-lines w n (View c) h = h
   loaded-lines w n (Texts values) h = h
 
   loaded-reached : (w : NaiveWorld) (n : ℕ) → IsReachedWorld n w → IsReachedWorld 0 (record w { load = w.load + n })
-  loaded-reached w n r = record { bodies = r.bodies; bound = λ f. (let b = r.bound f in omega (arith, b)); owner = r.owner; base = r.base; clients = r.clients; guests = r.guests; named = r.named; distinct = r.distinct; paid = let p = r.paid in omega (arith, p) }
+  loaded-reached w n r = record {
+    bodies = r.bodies;
+    bound = λ f. (let b = r.bound f in omega (arith, b));
+    owner = r.owner;
+    base = r.base;
+    clients = r.clients;
+    guests = r.guests;
+    named = r.named;
+    distinct = r.distinct;
+    paid = let p = r.paid in omega (arith, p);
+  }
 
   loaded-turns : (e : Event) (n : ℕ) (s : Stepped) → Turns n e s → Turns 0 e (loaded n s)
   loaded-turns e n (Err refusal) h = h

@@ -32,7 +32,8 @@ pub of-log : (w : NaiveWorld) (r : IsReachedWorld ⊥ 0 w) (c : NamedClient) →
 of-log w r c s = record {
   steps = s.served.steps;
   run = s.served.run;
-  entries = sym (ap (take c.client.doc.number) (sym s.served.entries) ∙ take_at (taken_entries s.served.steps) s.rest c.client.doc.number (sym (entries-counted s.served.steps c.client s.served.run.made)));
+  entries = sym (ap (take c.client.doc.number) (sym s.served.entries) ∙ take_at (taken_entries s.served.steps) s.rest c.client.doc.number
+      (sym (entries-counted s.served.steps c.client s.served.run.made)));
 }
 
 pub clients-of-log : ClientsAreOfLog
@@ -47,7 +48,8 @@ refused e s refusal h g = subst (Turns ⊥ 0 e) g h
 pub events-have-their_refusals : EventsHaveTheirRefusals
 events-have-their_refusals events e refusal h = refused e (step (reached events) e) refusal (steps-turn ⊥ (reached events) (world-reached events) e (λ f. absurd f)) h
 
-on-top : (w : NaiveWorld) (r : IsReachedWorld ⊥ 0 w) (conn : ℕ) (c : NamedClient) → Serves ⊥ r.owner (length w.names) w.sequencer w.log c → content c.client ≡ applied c.client w.log conn
+on-top : (w : NaiveWorld) (r : IsReachedWorld ⊥ 0 w) (conn : ℕ) (c : NamedClient) → Serves ⊥ r.owner (length w.names) w.sequencer w.log c → content c.client
+    ≡ applied c.client w.log conn
 on-top w r conn c s =
     pending-stays-on_top s.served.steps c.client s.rest conn s.served.run.made s.served.run.bodies ∙ ap (λ log. applied c.client log conn) s.served.entries
 
@@ -55,7 +57,8 @@ pub views-are-applied : ViewsAreApplied
 views-are-applied events conn =
     let r = world-reached events in
     let w = reached events in
-    each-weaker (Serves ⊥ r.owner (length w.names) w.sequencer w.log) (λ (c : NamedClient). content c.client ≡ applied c.client w.log conn) (λ c s. on-top w r conn c s) w.clients r.clients
+    each-weaker (Serves ⊥ r.owner (length w.names) w.sequencer w.log) (λ (c : NamedClient). content c.client ≡ applied c.client w.log conn)
+    (λ c s. on-top w r conn c s) w.clients r.clients
 
 -- what a client with nothing pending shows
 idle-shows : (log : List Entry) (x : NaiveClient) → IsOfLog log x → is_without_edits x ≡ true → content x ≡ shown (agreed (take x.doc.number log))
@@ -77,7 +80,8 @@ counts-of log x o =
 pub counts-are-agreed : CountsAreAgreed
 counts-are-agreed events =
     let w = reached events in
-    each-weaker (λ (c : NamedClient). IsOfLog w.log c.client) (λ (c : NamedClient). HasCountsOf (agreed (take c.client.doc.number w.log)) c.client.doc) (λ c o. counts-of w.log c.client o) w.clients (clients-of-log events)
+    each-weaker (λ (c : NamedClient). IsOfLog w.log c.client) (λ (c : NamedClient). HasCountsOf (agreed (take c.client.doc.number w.log)) c.client.doc)
+    (λ c o. counts-of w.log c.client o) w.clients (clients-of-log events)
 
 blame-of : (log : List Entry) (x : NaiveClient) → IsOfLog log x → is_without_edits x ≡ true → blame x ≡ blame (client_over (agreed (take x.doc.number log)))
 blame-of log x o none =

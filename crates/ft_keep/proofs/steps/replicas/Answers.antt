@@ -12,13 +12,16 @@ use Rattle.ft_keep.proofs.SoundlyKept.{soundly-kept}
 use Rattle.ft_keep.proofs.steps.replicas.Goals as goal
 
 pub returns-clause-edits : goal.returns-clause-edits
-returns-clause-edits c = λ start old new op result does x r e s. replica-answers EditFault edit_fault_kind old new (λ y. local_edit y op) result start x r e (λ kept k. edits-answer r.steps x kept op (reached-sound x r) k) does s
+returns-clause-edits c = λ start old new op result does x r e s. replica-answers EditFault edit_fault_kind old new (λ y. local_edit y op) result start x r e
+    (λ kept k. edits-answer r.steps x kept op (reached-sound x r) k) does s
 
 pub returns-clause-entries : goal.returns-clause-entries
-returns-clause-entries c = λ start old new entry result w does x r e s. replica-answers ProcessFault process_fault_kind old new (λ y. process y entry) result start x r e (λ kept k. entries-answer r.steps x kept entry (reached-sound x r) k (well-formed-fits entry w)) does s
+returns-clause-entries c = λ start old new entry result w does x r e s. replica-answers ProcessFault process_fault_kind old new (λ y. process y entry) result
+    start x r e (λ kept k. entries-answer r.steps x kept entry (reached-sound x r) k (well-formed-fits entry w)) does s
 
 pub returns-clause-connects : goal.returns-clause-connects
-returns-clause-connects c = λ start old new conn result does x r e s. replica-answers LinkFault link_fault_kind old new (λ y. connect y conn) result start x r e (λ kept k. connects-alike x kept conn k) does s
+returns-clause-connects c = λ start old new conn result does x r e s. replica-answers LinkFault link_fault_kind old new (λ y. connect y conn) result start x r
+    e (λ kept k. connects-alike x kept conn k) does s
 
 pub returns-clause-drops : goal.returns-clause-drops
 returns-clause-drops c = λ start old new result does x r e s. replica-answers LinkFault link_fault_kind old new drop_link result start x r e (λ kept k. drops-alike x kept k) does s

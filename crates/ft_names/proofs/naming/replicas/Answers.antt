@@ -18,20 +18,24 @@ returns-clause-edits c = λ start old new op result p named shows does x r e s.
 
 pub returns-clause-entries : goal.returns-clause-entries
 returns-clause-entries c = λ start old new entry result p fits named shows does x r e s.
-    one-for-all _ process_fault_kind old new (λ y. process y entry) result p named shows does (λ q h. entries-of p q entry h) (λ q k t. entries-count q k entry t) x (reached-named x r)
+    one-for-all _ process_fault_kind old new (λ y. process y entry) result p named shows does (λ q h. entries-of p q entry h)
+    (λ q k t. entries-count q k entry t) x (reached-named x r)
     (λ kept k. keep.entries-answer r.steps x kept entry (reached-sound x r) k (well-formed-fits entry fits)) s
 
 pub returns-clause-connects : goal.returns-clause-connects
 returns-clause-connects c = λ start old new conn result p named shows does x r e s.
-    one-for-all _ link_fault_kind old new (λ y. connect y conn) result p named shows does (λ q h. connects-of p q conn h) (λ q k t. connects-count q k conn t) x (reached-named x r) (λ kept k. keep.connects-alike x kept conn k) s
+    one-for-all _ link_fault_kind old new (λ y. connect y conn) result p named shows does (λ q h. connects-of p q conn h) (λ q k t. connects-count q k conn t)
+    x (reached-named x r) (λ kept k. keep.connects-alike x kept conn k) s
 
 pub returns-clause-drops : goal.returns-clause-drops
 returns-clause-drops c = λ start old new result p named shows does x r e s.
-    one-for-all _ link_fault_kind old new drop_link result p named shows does (λ q h. drops-of p q h) (λ q k t. drops-count q k t) x (reached-named x r) (λ kept k. keep.drops-alike x kept k) s
+    one-for-all _ link_fault_kind old new drop_link result p named shows does (λ q h. drops-of p q h) (λ q k t. drops-count q k t) x (reached-named x r)
+    (λ kept k. keep.drops-alike x kept k) s
 
 pub returns-clause-idles : goal.returns-clause-idles
 returns-clause-idles c = λ start old new result p named shows does x r e s.
-    one-for-all _ link_fault_kind old new noop result p named shows does (λ q h. idles-of p q h) (λ q k t. idles-count q k t) x (reached-named x r) (λ kept k. keep.idles-alike x kept k) s
+    one-for-all _ link_fault_kind old new noop result p named shows does (λ q h. idles-of p q h) (λ q k t. idles-count q k t) x (reached-named x r)
+    (λ kept k. keep.idles-alike x kept k) s
 
 pub returns-clause-shows : goal.returns-clause-shows
 returns-clause-shows c = λ state p named shows x r s. one-shows state p named shows x r s
