@@ -8,6 +8,7 @@ mod OrderedEnds
 mod FormedClients
 mod SummaryLists
 mod SummaryIntervals
+mod SummaryCells
 mod Served
 mod ClientEvents
 mod ConnectionNames

@@ -1,5 +1,5 @@
 -- The intervals that the summary of an idle client gives are those of its trimmed document, by the places of their ends.
-use Rattle.std.proofs.Common.{◌≡◌, ℕ, zero, suc, ◌+◌, ◌≤◌, ◌<◌, Bool, true, false, cond, not, ◌&&◌, ◌||◌, nat_eq, List, [], ◌∷◌, ◌++◌, map, length, Option, Some, None, option_map, refl, sym, ◌∙◌, ap, subst, arith}
+use Rattle.std.proofs.Common.{◌≡◌, ℕ, zero, suc, ◌+◌, ◌≤◌, ◌<◌, Bool, true, false, cond, not, ◌&&◌, ◌||◌, nat_eq, List, [], ◌∷◌, ◌++◌, map, length, replicate, Option, Some, None, option_map, refl, sym, ◌∙◌, ap, subst, arith}
 use Rattle.std.specs.List.{list_all, list_any}
 use Rattle.std.proofs.lemmas.Bool.Decides.{nat_tests}
 use Rattle.ft_base.proofs.Booleans.{all_four, both}
@@ -7,14 +7,15 @@ use Rattle.ft_base.specs.declared.stamps.Stamp.{Stamp}
 use Rattle.ft_base.specs.declared.stamps.Stamp.TheVariants.{Acked, Local}
 use Rattle.ft_base.specs.Scan.{at, len, one_more_if, rank}
 use Rattle.ft_base.specs.Visibility.{has_occurred_at_stage, is_acked, is_present}
+use Rattle.ft_sumdoc.specs.declared.summary.RunRec.{RunRec}
 use Rattle.ft_sumdoc.specs.declared.summary.SegRec.{SegRec}
 use Rattle.ft_props.specs.Properties.{PropertyList}
-use Rattle.ft_props.specs.Element.{ElementContent, ElementId, ListElement, NamelessElement, SequencedId, has_id, id, is_unremoved, nameless, new_elements, same_id, seen}
+use Rattle.ft_props.specs.Element.{ElementContent, ElementId, GridUnit, ListElement, NamelessElement, SequencedId, has_id, id, is_unremoved, nameless, new_elements, same_id, seen}
 use Rattle.ft_props.specs.Slide.{end_number}
 use Rattle.ft_op.specs.Intervals.{Interval, element_at_end}
 use Rattle.ft_msg.specs.Content.{interval_record}
 use Rattle.ft_msg.specs.Indexed.{indexed_interval, place_in_list}
-use Rattle.ft_msg.specs.Summary.{interval_of, segment_bodies, segment_items, stamp_of}
+use Rattle.ft_msg.specs.Summary.{interval_of, run_items, segment_bodies, segment_items, stamp_of}
 use Rattle.ft_laws.specs.Trimming.{are_distinct, has_ends_on, is_end_on}
 use Rattle.ft_laws.proofs.SettledNames.{at-rank}
 use Rattle.ft_laws.proofs.SlidEnds.{same_id-eq, same_id-refl}
@@ -129,6 +130,19 @@ segments-numbered n (s ∷ segs) =
     (sym (new-length n s.ins.seq s.ins.conn (map stamp_of s.dels) (Some (stamp_of s.by)) s.props (segment_bodies s.body)))
     (segments-numbered (n + length (segment_bodies s.body)) segs))
 
+pub runs-numbered : (n : ℕ) (runs : List RunRec) → AreNumbered n (run_items n runs)
+runs-numbered n [] = tt
+runs-numbered n (r ∷ runs) =
+    numbered-more n (new_elements n (stamp_of r.ins) (map stamp_of r.dels) None [] (replicate r.count GridUnit)) (run_items (n + r.count) runs)
+    (new-numbered n r.ins.seq r.ins.conn (map stamp_of r.dels) None [] (replicate r.count GridUnit))
+    (subst (λ i. AreNumbered (n + i) (run_items (n + r.count) runs))
+    (sym (new-length n r.ins.seq r.ins.conn (map stamp_of r.dels) None [] (replicate r.count GridUnit) ∙ length-replicate r.count))
+    (runs-numbered (n + r.count) runs))
+  where
+    length-replicate : (k : ℕ) → length (replicate k GridUnit) ≡ k
+    length-replicate zero = refl
+    length-replicate (suc k) = ap suc (length-replicate k)
+
 none-below : (m n : ℕ) (xs : List ListElement) → m < n → AreNumbered n xs → list_any (has_id (SequencedId m)) xs ≡ false
 none-below m n [] l h = refl
 none-below m n (x ∷ xs) l h = rw (ap (same_id (SequencedId m)) h.0 ∙ other m n l, none-below m (n + 1) xs (omega (arith, l)) h.1) refl
@@ -143,10 +157,9 @@ numbered-distinct n (x ∷ xs) h = rw (ap (λ a. list_any (has_id a) xs) h.0 ∙
 -- ---- ends
 
 -- what is sequenced is seen where it is unremoved
-plain-seen : (e : ListElement) → is_plain e ≡ true → seen 0 e ≡ is_unremoved e
-plain-seen e h =
-    let p = both (is_settled e) (is_authored e.by && is_of_text e.content) h in
-    let q = all_four (is_acked e.ins) (list_all is_acked e.dels) (is_none e.removal_stage) (is_empty e.pending) p.0 in
+pub settled-seen : (e : ListElement) → is_settled e ≡ true → seen 0 e ≡ is_unremoved e
+settled-seen e h =
+    let q = all_four (is_acked e.ins) (list_all is_acked e.dels) (is_none e.removal_stage) (is_empty e.pending) h in
     by e.removal_stage q.2 (stamp e.ins q.0) (stamps e.dels q.1)
   where
     stamp : (t : Stamp) → is_acked t ≡ true → has_occurred_at_stage 0 t ≡ is_acked t
@@ -162,6 +175,9 @@ plain-seen e h =
         → seen 0 (record e { removal_stage = m }) ≡ is_unremoved (record e { removal_stage = m })
     by (Some k) n a b = (cc)
     by None n a b = rw (a, b) refl
+
+plain-seen : (e : ListElement) → is_plain e ≡ true → seen 0 e ≡ is_unremoved e
+plain-seen e h = settled-seen e (both (is_settled e) (is_authored e.by && is_of_text e.content) h).0
 
 plain-rank : (is : ListElement → Bool) (xs : List ListElement) → list_all is_plain xs ≡ true → rank is (seen 0) xs ≡ rank is is_unremoved xs
 plain-rank is [] h = refl

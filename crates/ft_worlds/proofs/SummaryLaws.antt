@@ -5,7 +5,7 @@ use Rattle.ft_op.specs.Document.{Document}
 use Rattle.ft_props.specs.Properties.{Characters}
 use Rattle.ft_msg.specs.Agreed.{agreed, reference_number, take_entries, take_entry}
 use Rattle.ft_msg.specs.Content.{shown}
-use Rattle.ft_msg.specs.Summary.{segment_items, trim}
+use Rattle.ft_msg.specs.Summary.{GivesDocument, segment_items, trim}
 use Rattle.ft_msg.specs.Process.{is_op, is_op_kind}
 use Rattle.ft_laws.specs.Trimming.{AreFrom, IsConsistent}
 use Rattle.ft_laws.proofs.ClientsAgree.{idle-clients-agree, op-kind}
@@ -13,8 +13,9 @@ use Rattle.ft_laws.proofs.ConsistentDocument.{agreed-consistent, trim-consistent
 use Rattle.ft_laws.proofs.TrimmedFromNow.{trim-shows}
 use Rattle.ft_seqr.specs.World.{known_names}
 use Rattle.ft_worlds.specs.LogOrder.{Follows, RefersWithin}
-use Rattle.ft_worlds.specs.Summaries.{GivesAllButCells, SummariesGiveAllButCells, SummariesGoOn}
+use Rattle.ft_worlds.specs.Summaries.{SummariesGiveDocuments, SummariesGoOn}
 use Rattle.ft_worlds.proofs.SummaryLists.{IsPlain, agreed-plain, runs-back, text-back, trim-plain}
+use Rattle.ft_worlds.proofs.SummaryCells.{cells-back}
 use Rattle.ft_worlds.proofs.SummaryIntervals.{intervals-back, segments-distinct}
 use Rattle.ft_msg.specs.SummaryOf.{segments_from, summary_of}
 use Rattle.ft_worlds.specs.Worlds.{reached}
@@ -54,25 +55,22 @@ summaries-go-on events name c next rest f none ahead =
     ∙ (ap (λ d. shown (take_entries d next)) doc ∙ ap shown (sym (take-more entries next _)))
 
 -- what the summary of a document of messages gives
-all-but-cells : (conns : List Characters) (doc : Document) → IsPlain doc → IsConsistent doc → GivesAllButCells (summary_of conns doc) doc
-all-but-cells conns doc h d =
+document-given : (conns : List Characters) (doc : Document) → IsPlain doc → IsConsistent doc → GivesDocument (summary_of conns doc) doc
+document-given conns doc h d =
     let t = trim-plain doc h in
     let e = trim-consistent doc d in
     let text = text-back (trim doc).text.items t.text in
-    record {
-      text = text;
-      rows = runs-back (trim doc).rows.items t.rows;
-      cols = runs-back (trim doc).cols.items t.cols;
-      intervals = intervals-back (trim doc).text.items (segment_items 0 (segments_from 0 (trim doc).text.items)) text e.text.distinct
-          (segments-distinct (segments_from 0 (trim doc).text.items)) t.text (trim doc).intervals e.ends;
-      skipped = refl;
-      other = refl;
-      number = refl;
-      minimum = refl;
-    }
+    rw (
+      text,
+      runs-back (trim doc).rows.items t.rows,
+      runs-back (trim doc).cols.items t.cols,
+      intervals-back (trim doc).text.items (segment_items 0 (segments_from 0 (trim doc).text.items)) text e.text.distinct
+          (segments-distinct (segments_from 0 (trim doc).text.items)) t.text (trim doc).intervals e.ends,
+      cells-back doc t.rows t.cols,
+    ) refl
 
-pub summaries-give-all_but_cells : SummariesGiveAllButCells
-summaries-give-all_but_cells events name c f none =
+pub summaries-give-documents : SummariesGiveDocuments
+summaries-give-documents events name c f none =
     let w = reached events in
     let r = world-reached events in
     let s = found-serves ⊥ w r name c f in
@@ -80,4 +78,4 @@ summaries-give-all_but_cells events name c f none =
     let entries = take x.doc.number w.log in
     let o = of-log w r c (record { rest = s.rest; served = s.served; formed = s.formed }) in
     let doc : x.doc ≡ agreed entries = idle-clients-agree o.steps x o.run.made o.run.bodies none ∙ ap agreed o.entries in
-    all-but-cells (known_names w x) x.doc (subst IsPlain (sym doc) (agreed-plain entries)) (subst IsConsistent (sym doc) (agreed-consistent entries))
+    document-given (known_names w x) x.doc (subst IsPlain (sym doc) (agreed-plain entries)) (subst IsConsistent (sym doc) (agreed-consistent entries))

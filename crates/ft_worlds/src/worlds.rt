@@ -5,7 +5,7 @@ ghost use Rattle.ft_worlds.specs.FormedLogs.{EntriesAreWellFormed};
 ghost use Rattle.ft_worlds.specs.Load.{ElementsAreWithinLoad, NumberIsWithinLoad};
 ghost use Rattle.ft_worlds.specs.NewNames.{ConnectionsHaveNewNames, GuestsHaveNewNames};
 ghost use Rattle.ft_worlds.specs.Offers.{OffersAreOfTheLog};
-ghost use Rattle.ft_worlds.specs.Summaries.{SummariesGiveAllButCells, SummariesGoOn};
+ghost use Rattle.ft_worlds.specs.Summaries.{SummariesGiveDocuments, SummariesGoOn};
 ghost use Rattle.ft_worlds.specs.Reports.{OpenedReportsAreOne, ReportsAreOne};
 
 /// The log's messages follow one another: their numbers are 1, 2, 3 and so on, minimums never fall,
@@ -80,9 +80,8 @@ pub fn summaries_go_on()
     ensures { SummariesGoOn }
 {}
 
-/// The summary of a client with nothing pending gives what a summary keeps of its document: the text,
-/// the rows, the columns, the intervals by the places of their ends, the counts and the numbers. Of
-/// the cells nothing is said here.
-pub fn summaries_give_all_but_cells()
-    ensures { SummariesGiveAllButCells }
+/// The summary of a client with nothing pending gives what a summary keeps of its document, but for the
+/// names of elements.
+pub fn summaries_give_documents()
+    ensures { SummariesGiveDocuments }
 {}
