@@ -1,6 +1,9 @@
-//! Who inserted what is shown.
+//! Who inserted what is shown: a list of origins, kept as its maximal pieces.
+//!
+//! A call that can't answer `OutOfMemory` takes no memory.
 #![tactic(auto)]
 
 pub mod attribution;
+mod pieces;
 
-pub use attribution::Origin;
+pub use attribution::{AttrRun, Attribution, Origin, Total};

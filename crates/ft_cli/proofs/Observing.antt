@@ -8,11 +8,12 @@ use Rattle.ft_msg.specs.Client.{client_over}
 use Rattle.ft_msg.specs.Content.{ViewContent, shown}
 use Rattle.ft_msg.specs.NameTable.{names_after}
 use Rattle.ft_msg.specs.Process.{process}
-use Rattle.ft_plain.specs.Observer.{Observer, numbers_of, stop_number}
+use Rattle.ft_document.specs.Observed.{ObservedState, observer_numbers, stop_number}
 use Rattle.ft_cli.specs.Report.{bytes_of, view_lines}
-use Rattle.ft_seqr.specs.ViewLines.{content_lines, content_of, numbers_line}
+use Rattle.ft_msg.specs.Answers.{view_content}
+use Rattle.ft_seqr.specs.ViewLines.{content_lines, numbers_line}
 use Rattle.ft_seqr.specs.Walk.{Step}
-use Rattle.ft_cli.specs.Observation.{Observation, entry_of, names_with, observe_answer, observe_message}
+use Rattle.ft_cli.specs.Observation.{Observation, numbered_entry, names_with, observe_answer, observe_message}
 
 -- a name adds at most one
 length-names_after : (names : List (List ℕ)) (name : List ℕ) → length (names_after names name) ≤ length names + 1
@@ -26,30 +27,30 @@ length-names_with names (Some name) = length-names_after names name
 
 -- the step of a message, from the entry that it makes and the names after it
 pub observe_message-entry : (seen inside : Observation) (m : Message) (entry : Entry) (names : List (List ℕ)) {step : Step Observation} → inside ≡ seen
-    → entry ≡ entry_of inside.names m → names ≡ names_with inside.names m.client_id
+    → entry ≡ numbered_entry inside.names m → names ≡ names_with inside.names m.client_id
     → observe_answer (record { names = names; doc = inside.doc }) (process (client_over inside.doc) entry) ≡ step → observe_message seen m ≡ step
 unfolding observe_message
 observe_message-entry seen inside m entry names same is_entry is_names is =
     let given : Entry → List (List ℕ) → Step Observation = λ e ns. observe_answer (record { names = ns; doc = inside.doc }) (process (client_over inside.doc) e) in
-    sym (ap (λ s. observe_message s m) same) ∙ sym (ap (λ ns. given (entry_of inside.names m) ns) is_names) ∙ sym (ap (λ e. given e names) is_entry) ∙ is
+    sym (ap (λ s. observe_message s m) same) ∙ sym (ap (λ ns. given (numbered_entry inside.names m) ns) is_names) ∙ sym (ap (λ e. given e names) is_entry) ∙ is
 
 absurd_none : {n : ℕ} → None ≡ Some n → ⊥
 absurd_none e = cc
 
 -- a replica that has not stopped tells no number at which it did
-pub running-stopped : (x : Observer) (seq : ℕ) → x.stop ≡ None → stop_number x ≡ Some seq → ⊥
+pub running-stopped : (x : ObservedState) (seq : ℕ) → x.stop ≡ None → stop_number x ≡ Some seq → ⊥
 running-stopped x seq running stopped = absurd_none (sym (ap (λ stop. option_map (λ numbers. numbers.seq) stop) running) ∙ stopped)
 
 -- a view with these parts shows this content
 same_content : (v : View) (w : ViewContent) → v.text ≡ w.text → v.markers ≡ w.markers → v.runs ≡ w.runs → v.intervals ≡ w.intervals → v.rows ≡ w.rows → v.cols ≡ w.cols → v.cells ≡ w.cells
-    → content_of v ≡ w
+    → view_content v ≡ w
 same_content v w text markers runs intervals rows cols cells = rw (text, markers, runs, intervals, rows, cols, cells) refl
 
 -- the lines of a view that shows what a document shows
-pub lines-shown : (v : View) (doc : Document) → v.numbers ≡ numbers_of doc → v.text ≡ (shown doc).text → v.markers ≡ (shown doc).markers → v.runs ≡ (shown doc).runs
+pub lines-shown : (v : View) (doc : Document) → v.numbers ≡ observer_numbers doc → v.text ≡ (shown doc).text → v.markers ≡ (shown doc).markers → v.runs ≡ (shown doc).runs
     → v.intervals ≡ (shown doc).intervals → v.rows ≡ (shown doc).rows → v.cols ≡ (shown doc).cols → v.cells ≡ (shown doc).cells
-    → bytes_of (numbers_line v.numbers ∷ content_lines (content_of v)) ≡ bytes_of (view_lines doc)
+    → bytes_of (numbers_line v.numbers ∷ content_lines (view_content v)) ≡ bytes_of (view_lines doc)
 unfolding view_lines
 lines-shown v doc numbers text markers runs intervals rows cols cells =
-    ap (λ n. bytes_of (numbers_line n ∷ content_lines (content_of v))) numbers
-    ∙ ap (λ w. bytes_of (numbers_line (numbers_of doc) ∷ content_lines w)) (same_content v (shown doc) text markers runs intervals rows cols cells)
+    ap (λ n. bytes_of (numbers_line n ∷ content_lines (view_content v))) numbers
+    ∙ ap (λ w. bytes_of (numbers_line (observer_numbers doc) ∷ content_lines w)) (same_content v (shown doc) text markers runs intervals rows cols cells)

@@ -22,8 +22,8 @@ use Rattle.ft_cli.specs.Statuses.{fault_of_line}
 use Rattle.ft_seqr.specs.Walk.{Progress, after_line, begin, line_limit, written_by, written_by_line}
 use Rattle.ft_cli.specs.Observation.{Observation, nothing_observed, observe}
 use Rattle.ft_cli.specs.Report.{bytes_of, log_after, log_end, log_lines, log_status, opened_of, report_of}
-use Rattle.ft_cli.specs.Writing.{Begins, Writes}
-use Rattle.ft_cli.specs.Run.{IsWhole, Moves, Says, SaysForWords, SaysOfLines, end_status}
+use Rattle.ft_cli.specs.Writing.{Begins, WritesBytes}
+use Rattle.ft_cli.specs.Run.{IsWholeRun, Moves, Says, SaysForWords, SaysOfLines, end_status}
 use Rattle.ft_cli.proofs.Walking.{after_lines-append, written_by-append}
 use Rattle.ft_cli.proofs.Written.{begins_append, begins_more, begins_nil, begins_trans}
 
@@ -171,7 +171,7 @@ module _ {first next left held holds : Option (List ℕ)} {old new : Reader} {at
   module _ {given : List ℕ} {line : Line} (next_is : NextLine first left old new given stands.handed line) (taken : Option (List ℕ)) where
     -- its step is done
     pub stands_next : (after : Progress Observation) (sink_before sink_now : ℕ) → after ≡ after_line observe at next_is.text
-        → Writes {T = Progress Observation} holds taken sink_before sink_now (bytes_of (written_by_line observe at next_is.text)) (Ok after) → Stands first left new held taken after
+        → WritesBytes {T = Progress Observation} holds taken sink_before sink_now (bytes_of (written_by_line observe at next_is.text)) (Ok after) → Stands first left new held taken after
     stands_next after sink_before sink_now is writes =
         let text = next_is.text in
         let all : bytes_of (log_lines stands.handed) ++ writes.written ≡ bytes_of (log_lines (stands.handed ++ text ∷ [])) =
@@ -199,7 +199,7 @@ module _ {first next left held holds : Option (List ℕ)} {old new : Reader} {at
 
     -- the run ends with a fault in its step
     pub moves_step : (f : Fault) (sink_start sink_before sink_now : ℕ) (source_rose : Type 0) → sink_start ≤ sink_before
-        → Writes {T = Progress Observation} holds taken sink_before sink_now (bytes_of (written_by_line observe at next_is.text)) (Err f)
+        → WritesBytes {T = Progress Observation} holds taken sink_before sink_now (bytes_of (written_by_line observe at next_is.text)) (Err f)
         → Moves first left held taken (SaysOfLines left source_rose (Rose sink_start sink_now) (Err f))
     moves_step fault.Read sink_start sink_before sink_now source_rose later writes = absurd writes.says
     moves_step fault.InputLimit sink_start sink_before sink_now source_rose later writes = absurd writes.says
@@ -220,11 +220,11 @@ module _ {first next left held holds : Option (List ℕ)} {old new : Reader} {at
 
 -- a whole report ends with one of two statuses
 says_whole : (b : Bool) (status : Status) (left : Option (List ℕ)) (source_rose sink_rose : Type 0) (given written : List ℕ) → status ≡ (if b then Done else SomeRefused)
-    → IsWhole Log left status given written → Says Log left source_rose sink_rose status given written
+    → IsWholeRun Log left status given written → Says Log left source_rose sink_rose status given written
 says_whole true status left source_rose sink_rose given written is whole =
-    subst (λ s. Says Log left source_rose sink_rose s given written) (sym is) (subst (λ s. IsWhole Log left s given written) is whole)
+    subst (λ s. Says Log left source_rose sink_rose s given written) (sym is) (subst (λ s. IsWholeRun Log left s given written) is whole)
 says_whole false status left source_rose sink_rose given written is whole =
-    subst (λ s. Says Log left source_rose sink_rose s given written) (sym is) (subst (λ s. IsWhole Log left s given written) is whole)
+    subst (λ s. Says Log left source_rose sink_rose s given written) (sym is) (subst (λ s. IsWholeRun Log left s given written) is whole)
 
 module _ (first left held holds taken : Option (List ℕ)) (at : Progress Observation) (source_rose before_rose : Type 0) (sink_start sink_before sink_now : ℕ)
     (lines_moved : Moves first left held holds (SaysOfLines left source_rose before_rose (Ok at))) (later : sink_start ≤ sink_before) where
@@ -240,7 +240,7 @@ module _ (first left held holds taken : Option (List ℕ)) (at : Progress Observ
   begins_close {front} b = subst (Begins (lines_moved.written ++ front)) (written_whole (bytes_of (log_end at)) refl) (begins_append lines_moved.written b)
 
   -- all lines were read, and what stands behind them was written, or not
-  pub moves_close : (result : Result Status Fault) → IfOk result (λ status. status ≡ log_status at) → Writes {T = Status} holds taken sink_before sink_now (bytes_of (log_end at)) result
+  pub moves_close : (result : Result Status Fault) → IfOk result (λ status. status ≡ log_status at) → WritesBytes {T = Status} holds taken sink_before sink_now (bytes_of (log_end at)) result
       → Moves first left held taken (Says Log left source_rose (Rose sink_start sink_now) (end_status result))
   moves_close (Ok status) is writes =
       let whole = written_whole writes.written writes.says in

@@ -6,7 +6,7 @@ use Rattle.ft_io.specs.Streams.{Rose}
 use Rattle.ft_io.proofs.TakenAndLeft.{Appends-nil}
 use Rattle.ft_cli.specs.declared.statuses.Fault.{Fault}
 use Rattle.ft_cli.specs.declared.statuses.Fault.TheVariants.{Read, Write, OutOfMemory, InputLimit}
-use Rattle.ft_cli.specs.Writing.{Begins, SaysOfWritten, Writes}
+use Rattle.ft_cli.specs.Writing.{Begins, SaysOfWritten, WritesBytes}
 
 -- the first n bytes
 pub begins_take : (n : ℕ) (bytes : List ℕ) → Begins (take n bytes) bytes
@@ -18,9 +18,9 @@ begins_nil bytes = record { later = bytes; place = refl }
 
 -- the sink failed and took the first n bytes
 pub writes_failed : {T : Type 0} (held holds : Option (List ℕ)) (before now n : ℕ) (bytes : List ℕ) (result : Result T Fault) → result ≡ Err Write
-    → Appends held holds (take n bytes) → before ≤ now → Rose before now → Writes held holds before now bytes result
+    → Appends held holds (take n bytes) → before ≤ now → Rose before now → WritesBytes held holds before now bytes result
 writes_failed {T} held holds before now n bytes result is takes later rose =
-    subst (Writes {T = T} held holds before now bytes) (sym is) (record { written = take n bytes; takes = takes; later = later; says = (rose, begins_take n bytes) })
+    subst (WritesBytes {T = T} held holds before now bytes) (sym is) (record { written = take n bytes; takes = takes; later = later; says = (rose, begins_take n bytes) })
 
 -- what a fault says of the bytes written doesn't know what is answered where there is none
 said_of_fault : (T U : Type 0) (rose : Type 0) (bytes written : List ℕ) (fault : Fault)
@@ -32,15 +32,15 @@ said_of_fault T U rose bytes written InputLimit h = h
 
 -- no memory was found before anything was written
 pub writes_nothing : {T : Type 0} (held : Option (List ℕ)) (now : ℕ) (bytes : List ℕ) (result : Result T Fault) → result ≡ Err OutOfMemory → now ≤ now
-    → Writes held held now now bytes result
+    → WritesBytes held held now now bytes result
 writes_nothing {T} held now bytes result is same =
-    subst (Writes {T = T} held held now now bytes) (sym is) (record { written = []; takes = Appends-nil held; later = same; says = begins_nil bytes })
+    subst (WritesBytes {T = T} held held now now bytes) (sym is) (record { written = []; takes = Appends-nil held; later = same; says = begins_nil bytes })
 
 -- a fault says the same of the bytes written, whatever is answered where there is none
 pub writes_fault : (T U : Type 0) (held holds : Option (List ℕ)) (before now : ℕ) (bytes other : List ℕ) (fault : Fault) (result : Result U Fault)
-    → result ≡ Err fault → bytes ≡ other → Writes {T = T} held holds before now bytes (Err fault) → Writes {T = U} held holds before now other result
+    → result ≡ Err fault → bytes ≡ other → WritesBytes {T = T} held holds before now bytes (Err fault) → WritesBytes {T = U} held holds before now other result
 writes_fault T U held holds before now bytes other fault result is same h =
-    subst (Writes {T = U} held holds before now other) (sym is) (subst (λ bs. Writes {T = U} held holds before now bs (Err fault)) same
+    subst (WritesBytes {T = U} held holds before now other) (sym is) (subst (λ bs. WritesBytes {T = U} held holds before now bs (Err fault)) same
     (record { written = h.written; takes = h.takes; later = h.later; says = said_of_fault T U (Rose before now) bytes h.written fault h.says }))
 
 -- behind what was written before

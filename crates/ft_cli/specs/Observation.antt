@@ -23,9 +23,9 @@ abbrev pub nothing_observed : Observation
 nothing_observed = record { names = []; doc = empty }
 
 -- the number of the connection that sent a message, 0 where it has no name
-abbrev pub origin_of : List (List ℕ) → Option (List ℕ) → ℕ
-origin_of names None = 0
-origin_of names (Some name) = number_of names name
+abbrev pub sender_number : List (List ℕ) → Option (List ℕ) → ℕ
+sender_number names None = 0
+sender_number names (Some name) = number_of names name
 
 -- the names after a message: one that reads gives its connection a number, whether it is taken or not
 abbrev pub names_with : List (List ℕ) → Option (List ℕ) → List (List ℕ)
@@ -33,8 +33,8 @@ names_with names None = names
 names_with names (Some name) = names_after names name
 
 -- the message as the observer is given it
-abbrev pub entry_of : List (List ℕ) → Message → Entry
-entry_of names m = record { msg = m; origin = origin_of names m.client_id }
+abbrev pub numbered_entry : List (List ℕ) → Message → Entry
+numbered_entry names m = record { msg = m; origin = sender_number names m.client_id }
 
 -- what the observer makes of a client's answer to a message: the client's document, or the refusal
 abbrev pub observe_answer : Observation → Result NaiveClient ProcessFault → Step Observation
@@ -44,7 +44,7 @@ observe_answer seen (Err fault) = answers seen (refusal_of_fault fault)
 -- what the observer makes of a message: what a client over its document does with it
 unfoldable pub observe_message : Observation → Message → Step Observation
 observe_message seen m =
-    observe_answer (record seen { names = names_with seen.names m.client_id }) (process (client_over seen.doc) (entry_of seen.names m))
+    observe_answer (record seen { names = names_with seen.names m.client_id }) (process (client_over seen.doc) (numbered_entry seen.names m))
 
 -- what the observer makes of a text that is a message, or is none
 abbrev pub observe_reading : Observation → Result Message Cause → Step Observation

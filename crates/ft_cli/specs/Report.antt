@@ -5,7 +5,7 @@ use Rattle.ft_io.specs.Lines.{lines, ended_lines, with_lf}
 use Rattle.ft_op.specs.Document.{Document, empty}
 use Rattle.ft_msg.specs.declared.views.Numbers.{Numbers}
 use Rattle.ft_msg.specs.Content.{shown}
-use Rattle.ft_plain.specs.Observer.{numbers_of}
+use Rattle.ft_document.specs.Observed.{observer_numbers}
 use Rattle.ft_seqr.specs.SessionReport.{closing_lines}
 use Rattle.ft_cli.specs.declared.statuses.Status.{Status}
 use Rattle.ft_cli.specs.declared.statuses.Status.TheVariants.{Done, SomeRefused}
@@ -18,15 +18,15 @@ use Rattle.ft_cli.specs.Observation.{Observation, nothing_observed, observe}
 
 -- the lines of an observer's view
 unfoldable pub view_lines : Document → List (List ℕ)
-view_lines doc = numbers_line (numbers_of doc) ∷ content_lines (shown doc)
+view_lines doc = numbers_line (observer_numbers doc) ∷ content_lines (shown doc)
 
 -- the bytes of lines, each with its LF
 abbrev pub bytes_of : List (List ℕ) → List ℕ
 bytes_of texts = flat_map with_lf texts
 
 -- a document with the counts of these numbers
-abbrev pub counted : Numbers → Document
-counted numbers = record empty { skipped = numbers.skipped; other = numbers.other }
+abbrev pub document_counting : Numbers → Document
+document_counting numbers = record empty { skipped = numbers.skipped; other = numbers.other }
 
 -- an observer after the lines of a log
 abbrev pub log_after : List (List ℕ) → Progress Observation

@@ -25,7 +25,7 @@ pub record Moves (first left held holds : Option (List ℕ)) (Said : List ℕ �
   pub says : Said given written
 
 -- the input was read to its end, and its whole report written
-pub record IsWhole (form : Form) (left : Option (List ℕ)) (status : Status) (given written : List ℕ) : Type 0 where
+pub record IsWholeRun (form : Form) (left : Option (List ℕ)) (status : Status) (given written : List ℕ) : Type 0 where
   pub at_end : IsAtEnd left
   pub within : length given ≤ input_limit
   pub report : written ≡ report_of form given
@@ -44,7 +44,7 @@ Says form left source_rose sink_rose ReadFault given written =
 Says form left source_rose sink_rose WriteFault given written = sink_rose × IsPart form given written
 Says form left source_rose sink_rose OutOfMemory given written = IsPart form given written
 Says form left source_rose sink_rose InputLimit given written = (length given ≡ input_limit + 1) × (written ≡ opened_of form given)
-Says form left source_rose sink_rose status given written = IsWhole form left status given written
+Says form left source_rose sink_rose status given written = IsWholeRun form left status given written
 
 -- the same, where the words may be of no form: then nothing is read or written
 abbrev pub SaysForWords : Option Form → Option (List ℕ) → Type 0 → Type 0 → Status → List ℕ → List ℕ → Type 0

@@ -18,7 +18,7 @@ SaysOfWritten rose bytes written (Err OutOfMemory) = Begins written bytes
 SaysOfWritten rose bytes written (Err _) = ⊥
 
 -- a call that is to write these bytes: what the sink took in it, and what its answer says of that
-pub record Writes {T : Type 0} (held holds : Option (List ℕ)) (before now : ℕ) (bytes : List ℕ) (result : Result T Fault) : Type 0 where
+pub record WritesBytes {T : Type 0} (held holds : Option (List ℕ)) (before now : ℕ) (bytes : List ℕ) (result : Result T Fault) : Type 0 where
   pub written : List ℕ
   pub takes : Appends held holds written
   pub later : before ≤ now

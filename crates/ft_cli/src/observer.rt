@@ -4,15 +4,15 @@ ghost use Rattle.std.specs.Prelude.{◌≡◌, ℕ, ◌+◌, ◌-◌, ◌<◌, �
 ghost use Rattle.ft_msg.specs.Client.{client_over};
 ghost use Rattle.ft_msg.specs.Process.{process};
 ghost use Rattle.ft_msg.specs.WellFormed.{HasNumbersInRange};
-ghost use Rattle.ft_plain.specs.Observer.{numbers_of};
+ghost use Rattle.ft_document.specs.Observed.{observer_numbers};
 ghost use Rattle.ft_seqr.specs.Walk.{answers};
 ghost use Rattle.ft_cli.specs.Report.{bytes_of, view_lines};
-ghost use Rattle.ft_cli.specs.Observation.{entry_of, names_with, nothing_observed, observe, observe_answer, observe_message};
+ghost use Rattle.ft_cli.specs.Observation.{numbered_entry, names_with, nothing_observed, observe, observe_answer, observe_message};
 
 use crate::view_lines::view_text;
 use ft_base::OutOfMemory;
+use ft_document::ObservedDocument;
 use ft_msg::{Cause, Entry, Message, Names, Numbers, ProcessFault, ViewFault, read_message};
-use ft_plain::Plain;
 use ft_seqr::Refusal;
 use std::alloc::Global;
 use std::marker::Model;
@@ -24,7 +24,7 @@ use std::marker::Model;
 pub struct Observer {
     alloc: Global,
     names: Names,
-    replica: Plain,
+    replica: ObservedDocument,
 }
 
 impl Model for Observer {
@@ -48,7 +48,7 @@ impl Observer {
         Ok(Observer {
             alloc,
             names: Names::new(alloc),
-            replica: Plain::start(alloc)?,
+            replica: ObservedDocument::start(alloc)?,
         })
     }
 
@@ -69,7 +69,7 @@ impl Observer {
 
     /// The numbers of its replica.
     pub fn numbers(&self) -> Numbers
-        ensures { result ≡ numbers_of self.now.doc }
+        ensures { result ≡ observer_numbers self.now.doc }
     {
         self.replica.numbers()
     }
@@ -113,7 +113,7 @@ impl Observer {
 // The message with the number of the connection that sent it, a new one where its name has none yet.
 fn number_sender(names: &mut Names, msg: Message) -> Result<Entry, OutOfMemory>
     requires { length names.old < 2 ^ 32 - 1 }
-    ensures ok { IfOk result (λ entry. entry ≡ entry_of names.old msg) }
+    ensures ok { IfOk result (λ entry. entry ≡ numbered_entry names.old msg) }
     ensures names { OnOk result (names.new ≡ names_with names.old msg.client_id) }
     ensures err { OnErr result (names.new ≡ names.old) }
 {
@@ -125,7 +125,7 @@ fn number_sender(names: &mut Names, msg: Message) -> Result<Entry, OutOfMemory>
 }
 
 // Gives the replica a message, and answers why it is refused, if it is.
-fn give(replica: &mut Plain, entry: &Entry) -> Result<Option<Refusal>, OutOfMemory>
+fn give(replica: &mut ObservedDocument, entry: &Entry) -> Result<Option<Refusal>, OutOfMemory>
     requires in_range { HasNumbersInRange entry.now.msg }
     requires running { replica.old.stop ≡ None }
     ensures step { IfOk result (λ refusal. (names : List (List ℕ)) → observe_answer (record { names = names; doc = replica.old.doc })

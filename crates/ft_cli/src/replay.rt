@@ -5,7 +5,7 @@ ghost use Rattle.ft_io.specs.Reader.{handed_out};
 ghost use Rattle.ft_seqr.specs.Walk.{after_line, answers, begin, is_blank, line_limit, refusal_lines, step_of, written_by_line};
 ghost use Rattle.ft_cli.specs.Observation.{nothing_observed, observe};
 ghost use Rattle.ft_cli.specs.Report.{bytes_of, log_end, log_status};
-ghost use Rattle.ft_cli.specs.Writing.{Writes};
+ghost use Rattle.ft_cli.specs.Writing.{WritesBytes};
 
 use crate::observer::Observer;
 use crate::refusals::refused_line;
@@ -87,7 +87,7 @@ impl Replay {
         ensures after { (text : List ℕ) → line ≡ handed_out line_limit text
             → IfOk result (λ replay. replay ≡ after_line observe self text) }
         ensures writes { (text : List ℕ) → line ≡ handed_out line_limit text
-            → Writes (K.contents out.old) (K.contents out.new) (K.faults out.old) (K.faults out.new) (bytes_of (written_by_line observe self text)) result }
+            → WritesBytes (K.contents out.old) (K.contents out.new) (K.faults out.old) (K.faults out.new) (bytes_of (written_by_line observe self text)) result }
     {
         let (replay, refusal) = self.take(line)?;
         write_refusal(alloc, replay.lines, refusal, out)?;
@@ -101,7 +101,7 @@ impl Replay {
     /// room for the view.
     pub fn close<K: Sink>(&self, alloc: Global, out: &mut K) -> Result<Status, Fault>
         ensures status { IfOk result (λ status. status ≡ log_status self.now) }
-        ensures writes { Writes (K.contents out.old) (K.contents out.new) (K.faults out.old) (K.faults out.new) (bytes_of (log_end self.now)) result }
+        ensures writes { WritesBytes (K.contents out.old) (K.contents out.new) (K.faults out.old) (K.faults out.new) (bytes_of (log_end self.now)) result }
     {
         let text = self.end_text(alloc)?;
         put(out, text.as_bytes())?;
@@ -154,7 +154,7 @@ fn write_refusal<K: Sink>(
     refusal: Option<Refusal>,
     out: &mut K,
 ) -> Result<(), Fault>
-    ensures { Writes (K.contents out.old) (K.contents out.new) (K.faults out.old) (K.faults out.new) (bytes_of (refusal_lines line refusal)) result }
+    ensures { WritesBytes (K.contents out.old) (K.contents out.new) (K.faults out.old) (K.faults out.new) (bytes_of (refusal_lines line refusal)) result }
 {
     if let Some(refusal) = refusal {
         let text = refused_line(alloc, line, refusal)?;

@@ -2,7 +2,7 @@
 
 ghost use Rattle.std.specs.Prelude.{◌≡◌, IfOk, string_bytes};
 ghost use Rattle.ft_seqr.specs.SessionReport.{closing_lines};
-ghost use Rattle.ft_cli.specs.Report.{bytes_of, counted};
+ghost use Rattle.ft_cli.specs.Report.{bytes_of, document_counting};
 
 use ft_base::OutOfMemory;
 use ft_msg::Numbers;
@@ -14,7 +14,7 @@ use std::alloc::Global;
 /// Answers `OutOfMemory` where there is no room for them.
 #[tactic(auto, unfolding(ft_seqr::specs::SessionReport::closing_lines))]
 pub fn closing_text(alloc: Global, refused: u64, numbers: &Numbers) -> Result<String, OutOfMemory>
-    ensures { IfOk result (λ text. string_bytes text ≡ bytes_of (closing_lines refused (counted numbers.now))) }
+    ensures { IfOk result (λ text. string_bytes text ≡ bytes_of (closing_lines refused (document_counting numbers.now))) }
 {
     let skipped = numbers.skipped;
     let other = numbers.other;

@@ -4,7 +4,8 @@ ghost use Rattle.std.specs.Prelude.{◌≡◌, ◌∷◌, ◌++◌, [], IfOk, On
 ghost use Rattle.std.specs.List.{flat_map};
 ghost use Rattle.ft_io.specs.Lines.{with_lf};
 ghost use Rattle.ft_cli.specs.Report.{bytes_of};
-ghost use Rattle.ft_seqr.specs.ViewLines.{cell_line, content_lines, content_of, interval_line, interval_name, later_members, marker_line, member_text, numbers_line, object_text, run_line, table_lines, text_line};
+ghost use Rattle.ft_msg.specs.Answers.{view_content};
+ghost use Rattle.ft_seqr.specs.ViewLines.{cell_line, content_lines, interval_line, interval_name, later_members, marker_line, member_text, numbers_line, object_text, run_line, table_lines, text_line};
 
 use ft_base::{OutOfMemory, Text};
 use ft_json::{ValText, quote};
@@ -19,7 +20,7 @@ use std::alloc::Global;
 /// Answers `OutOfMemory` where there is no room for them.
 #[tactic(auto, unfolding(ft_seqr::specs::ViewLines::content_lines))]
 pub fn view_text(alloc: Global, view: &View) -> Result<String, OutOfMemory>
-    ensures { IfOk result (λ text. string_bytes text ≡ bytes_of (numbers_line view.now.numbers ∷ content_lines (content_of view.now))) }
+    ensures { IfOk result (λ text. string_bytes text ≡ bytes_of (numbers_line view.now.numbers ∷ content_lines (view_content view.now))) }
 {
     let mut text = head_text(alloc, view)?;
     push_markers(alloc, &mut text, view.markers.as_slice())?;

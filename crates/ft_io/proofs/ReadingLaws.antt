@@ -7,7 +7,7 @@ use Rattle.std.proofs.lemmas.Bool.Decides.{nat_tests}
 use Rattle.std.proofs.lemmas.Grind.{flat_map-append}
 use Rattle.std.proofs.lemmas.List.Elements.{All-nil, All-push}
 use Rattle.ft_io.specs.Lines.{lf, IsUnbroken, lines, ended_lines, with_lf}
-use Rattle.ft_io.specs.Reader.{Reader, input_limit, new_reader, to_come, handed_out, Call, AnswersLine, HandsOut, HasLf, EndsInput, IsSplit, IsWhole, Reading}
+use Rattle.ft_io.specs.Reader.{Reader, input_limit, new_reader, to_come, handed_out, Call, AnswersLine, HandsOut, HasLf, EndsInput, IsSplit, AreWholeLines, Reading}
 use Rattle.ft_io.specs.declared.reader.Line.{Line}
 use Rattle.ft_io.specs.declared.reader.Line.TheVariants.{Full, TooLong, End}
 use Rattle.ft_io.specs.declared.reader.LineFault.{LineFault}
@@ -141,14 +141,14 @@ module _ {first next left : Option (List ℕ)} {old new : Reader} {before now : 
       let step = reading_line call (λ e. cc) in (step.0, too_long_line old.limit step.0 step.1, step.2, step.3)
 
   -- the end: the lines handed out are those of the whole input
-  pub reading_end : (call : Call old new next left before now (Ok End)) → IsWhole (given ++ call.got) handed left
+  pub reading_end : (call : Call old new next left before now (Ok End)) → AreWholeLines (given ++ call.got) handed left
   reading_end call =
       ⊎_elim
       (λ (ended : old.ended ≡ true).
       let after = call.after_end ended in
       let whole = reading.ended ended in
       let same : given ++ call.got ≡ given = ap (λ bytes. given ++ bytes) after.1 ∙ append-nil given in
-      subst (λ bytes. IsWhole bytes handed left) (sym same) (subst (λ rest. IsWhole given handed rest) (sym after.2) whole))
+      subst (λ bytes. AreWholeLines bytes handed left) (sym same) (subst (λ rest. AreWholeLines given handed rest) (sym after.2) whole))
       (λ (open_still : old.ended ≡ false).
       let split = reading.goes_on open_still in
       let end = call.answers.at_end open_still in

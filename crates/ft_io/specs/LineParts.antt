@@ -8,9 +8,9 @@ use Rattle.ft_io.specs.declared.intake.Part.{Part}
 use Rattle.ft_io.specs.declared.intake.Part.TheVariants.{Last, More}
 
 -- what a piece has of a line that has these bytes so far: the last of it and its LF, before what is left, or more of it and no LF
-abbrev pub Cuts : ℕ → List ℕ → List ℕ → List ℕ → Part → Type 0
-Cuts limit so_far piece left (Last line) = (front : List ℕ) × (piece ≡ front ++ lf ∷ left) × IsUnbroken front × (line ≡ handed_out limit (so_far ++ front))
-Cuts limit so_far piece left (More line) = IsUnbroken piece × (line ≡ handed_out limit (so_far ++ piece))
+abbrev pub CutsLine : ℕ → List ℕ → List ℕ → List ℕ → Part → Type 0
+CutsLine limit so_far piece left (Last line) = (front : List ℕ) × (piece ≡ front ++ lf ∷ left) × IsUnbroken front × (line ≡ handed_out limit (so_far ++ front))
+CutsLine limit so_far piece left (More line) = IsUnbroken piece × (line ≡ handed_out limit (so_far ++ piece))
 
 -- what is answered where the input ends behind these bytes of a line
 abbrev pub answer_at_end : ℕ → List ℕ → Line

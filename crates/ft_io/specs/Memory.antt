@@ -45,8 +45,8 @@ abbrev pub after_failed_read : Supply → Supply
 after_failed_read s = record s { calls = one_more s.calls; faults = one_more s.faults }
 
 -- What a read does: it fails exactly where the list names its call, and else gives the next piece and leaves the rest of the buffer.
-abbrev pub Reads : {E : Type 0} → Supply → Supply → List ℕ → List ℕ → Result ℕ E → Type 0
-Reads old new before after result =
+abbrev pub ReadsPiece : {E : Type 0} → Supply → Supply → List ℕ → List ℕ → Result ℕ E → Type 0
+ReadsPiece old new before after result =
     MatchResult result
     (λ n. (is_named old.fails old.calls ≡ false) × (n ≡ read_len old (length before)) × (new ≡ after_read old n) × (after ≡ take n old.left ++ drop n before))
     (λ _. (is_named old.fails old.calls ≡ true) × (new ≡ after_failed_read old) × (after ≡ before))
@@ -68,8 +68,8 @@ abbrev pub after_failed_write : Store → Store
 after_failed_write s = record s { calls = one_more s.calls; faults = one_more s.faults }
 
 -- What a write does: it fails exactly where the list names its call or there are bytes and no room for them, and else takes the next piece.
-abbrev pub Writes : {E : Type 0} → Store → Store → List ℕ → Result ℕ E → Type 0
-Writes old new bytes result =
+abbrev pub WritesPiece : {E : Type 0} → Store → Store → List ℕ → Result ℕ E → Type 0
+WritesPiece old new bytes result =
     MatchResult result
     (λ n. ((is_named old.fails old.calls || is_full_for old bytes) ≡ false) × (n ≡ write_len old bytes) × (new ≡ after_write old (take n bytes)))
     (λ _. ((is_named old.fails old.calls || is_full_for old bytes) ≡ true) × (new ≡ after_failed_write old))

@@ -76,9 +76,9 @@ Stops rose waiting new InputLimit = (new.fault ≡ Some InputLimit) × IsUnbroke
 Stops rose waiting new OutOfMemory = new.fault ≡ Some OutOfMemory
 
 -- the answer to a call after which these bytes waited, those that waited before it and those that were given in it
-abbrev pub Answers : Reader → List ℕ → Option (List ℕ) → Type 0 → Reader → Result Line LineFault → Type 0
-Answers old waiting left rose new (Ok line) = AnswersLine old waiting left new line
-Answers old waiting left rose new (Err fault) = Stops rose waiting new fault
+abbrev pub AnswersNextLine : Reader → List ℕ → Option (List ℕ) → Type 0 → Reader → Result Line LineFault → Type 0
+AnswersNextLine old waiting left rose new (Ok line) = AnswersLine old waiting left new line
+AnswersNextLine old waiting left rose new (Err fault) = Stops rose waiting new fault
 
 -- What one call of a reader that has not stopped does: the source gave some bytes in it, and the answer is that to those
 -- that waited and these. After the end nothing is given, and the answer is the end.
@@ -90,7 +90,7 @@ pub record Call (old new : Reader) (first left : Option (List ℕ)) (before now 
   pub within : new.given ≤ input_limit + 1
   pub later : before ≤ now
   pub after_end : old.ended ≡ true → (answer ≡ Ok End) × (got ≡ []) × (left ≡ first)
-  pub answers : Answers old (old.pending ++ got) left (Rose before now) new answer
+  pub answers : AnswersNextLine old (old.pending ++ got) left (Rose before now) new answer
 
 -- the bytes given are the lines handed out, each with its LF, and those that wait
 pub record IsSplit (given : List ℕ) (handed : List (List ℕ)) (pending : List ℕ) : Type 0 where
@@ -98,7 +98,7 @@ pub record IsSplit (given : List ℕ) (handed : List (List ℕ)) (pending : List
   pub unbroken : All IsUnbroken handed
 
 -- the lines handed out are those of the whole input
-pub record IsWhole (given : List ℕ) (handed : List (List ℕ)) (left : Option (List ℕ)) : Type 0 where
+pub record AreWholeLines (given : List ℕ) (handed : List (List ℕ)) (left : Option (List ℕ)) : Type 0 where
   pub lines : lines given ≡ handed
   pub at_end : IsAtEnd left
   pub within : length given ≤ input_limit
@@ -110,4 +110,4 @@ pub record Reading (first left : Option (List ℕ)) (reader : Reader) (given : L
   pub count : reader.given ≡ length given
   pub runs : reader.fault ≡ None
   pub goes_on : reader.ended ≡ false → IsSplit given handed reader.pending
-  pub ended : reader.ended ≡ true → IsWhole given handed left
+  pub ended : reader.ended ≡ true → AreWholeLines given handed left

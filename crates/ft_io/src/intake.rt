@@ -5,7 +5,7 @@ ghost use Rattle.std.specs.Result.{result_err};
 ghost use Rattle.std.specs.Io.KnownBytes.{Consumes, IsAtEnd, Keeps};
 ghost use Rattle.ft_io.specs.Streams.{Rose};
 ghost use Rattle.ft_io.specs.Reader.{handed_out, input_limit, Call};
-ghost use Rattle.ft_io.specs.LineParts.{Cuts, answer_at_end};
+ghost use Rattle.ft_io.specs.LineParts.{CutsLine, answer_at_end};
 
 use crate::byte_lists::Bytes;
 use crate::pieces::Piece;
@@ -94,7 +94,7 @@ impl Intake {
 // Moves the bytes of the piece up to its first LF to the line.
 fn cut(piece: &mut Piece, line: Line, limit: usize) -> Result<Part, OutOfMemory>
     ensures { (so_far : List ℕ) → line ≡ handed_out limit so_far
-        → IfOk result (Cuts limit so_far piece.old piece.new) }
+        → IfOk result (CutsLine limit so_far piece.old piece.new) }
 {
     let bytes = piece.bytes();
     match memchr(b'\n', bytes) {

@@ -3,7 +3,7 @@
 ghost use Rattle.std.specs.Prelude.{◌≡◌, [], ◌<◌, ◌≤◌, Some, length, IfOk};
 ghost use Rattle.std.specs.Io.KnownBytes.{ReadConsumes, WriteAppends};
 ghost use Rattle.ft_io.specs.Streams.{HasCause};
-ghost use Rattle.ft_io.specs.Memory.{new_supply, new_store, Reads, Writes};
+ghost use Rattle.ft_io.specs.Memory.{new_supply, new_store, ReadsPiece, WritesPiece};
 
 use crate::streams::{Failed, Sink, Source};
 use ft_base::OutOfMemory;
@@ -67,7 +67,7 @@ impl Source for MemSource {
         ensures count { IfOk result (λ n. n ≤ length buf.new) }
         ensures bytes { ReadConsumes (Some self.old.left) (Some self.new.left) result buf.new }
         ensures cause { HasCause self.old.faults self.new.faults result }
-        ensures exact { Reads self.old self.new buf.old buf.new result }
+        ensures exact { ReadsPiece self.old self.new buf.old buf.new result }
     {
         self.calls = self.calls.saturating_add(1);
         if self.fails.contains(&self.calls) {
@@ -155,7 +155,7 @@ impl Sink for MemSink {
         ensures some { 0 < length buf.now → IfOk result (λ n. 0 < n) }
         ensures bytes { WriteAppends (Some self.old.taken) (Some self.new.taken) result buf.now }
         ensures cause { HasCause self.old.faults self.new.faults result }
-        ensures exact { Writes self.old self.new buf.now result }
+        ensures exact { WritesPiece self.old self.new buf.now result }
     {
         self.calls = self.calls.saturating_add(1);
         let free = self.room - self.bytes.len();

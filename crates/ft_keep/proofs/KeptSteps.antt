@@ -24,7 +24,7 @@ use Rattle.ft_msg.specs.Agreed.{reference_number, take_entry, with_numbers}
 use Rattle.ft_msg.specs.Client.{NaiveClient, PendingEdit, SentAs, after_edit, client_over, connect, drop_link, floor, local_edit, local_sub_operations, noop, sent_as, stages_of, with_draft}
 use Rattle.ft_msg.specs.Compacted.{IsCompacted, KeepsCells, KeepsDocument}
 use Rattle.ft_msg.specs.Process.{after_entry, after_foreign_message, come_online, is_oldest, is_sent_as, is_op, is_op_kind, is_own, is_own_join, process, process_fault}
-use Rattle.ft_msg.specs.Reconnection.{draft_of, rebuilt_document, resubmitted_edits}
+use Rattle.ft_msg.specs.Reconnection.{sent_draft, rebuilt_document, resubmitted_edits}
 use Rattle.ft_laws.specs.Starts.{IsRunFrom, IsSoundRun}
 use Rattle.ft_msg.specs.ClientSteps.{ClientStep, Edits, Takes, after_step, has_fitting_body, is_none_pending, is_without_edits, unless_refused}
 use Rattle.ft_laws.proofs.ClientHolds.{EditsTold, draft-doc, flat, sent-facts, told-unrenamed}
@@ -272,7 +272,7 @@ module _ (steps : List ClientStep) (x : NaiveClient) (run : IsSoundRun steps x) 
         doc = rebuilt_document stages (with_numbers entry start);
         link = Online entry.origin;
         next_client_seq = length es + 1;
-        queue = flat_map (draft_of entry.msg.seq) es;
+        queue = flat_map (sent_draft entry.msg.seq) es;
         pending = es;
       }) edits)
       (document-keeps z (rebuilt_document stages (with_numbers entry start))

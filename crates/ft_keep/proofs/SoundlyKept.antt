@@ -10,7 +10,7 @@ use Rattle.ft_msg.specs.Client.{NaiveClient}
 use Rattle.ft_msg.specs.Compacted.{IsCompacted}
 use Rattle.ft_laws.specs.Starts.{IsSoundRun}
 use Rattle.ft_msg.specs.ClientSteps.{ClientStep}
-use Rattle.ft_laws.specs.Trimming.{are_distinct, has_ends_on, is_end_on}
+use Rattle.ft_laws.specs.Trimming.{are_distinct_elements, has_ends_on, is_end_on}
 use Rattle.ft_laws.proofs.Booleans.{hidden, never}
 use Rattle.ft_laws.proofs.CompactedScans.{Alike, id-universal, unremoved-alike}
 use Rattle.ft_laws.proofs.OwnNames.{all-weaker}
@@ -23,13 +23,13 @@ module _ {low : ℕ} {held : ElementId → Bool} where
   absent-kept : (a : ElementId) {ks xs : List ListElement} → Keeps low held ks xs → not (list_any (has_id a) xs) ≡ true → not (list_any (has_id a) ks) ≡ true
   absent-kept a {ks} {xs} k h = ap not (none-kept (has_id a) (λ e f. ap (same_id a) (id-universal low e f)) k (hidden (list_any (has_id a) xs) h))
 
-  distinct-kept : {ks xs : List ListElement} → Keeps low held ks xs → are_distinct xs ≡ true → are_distinct ks ≡ true
+  distinct-kept : {ks xs : List ListElement} → Keeps low held ks xs → are_distinct_elements xs ≡ true → are_distinct_elements ks ≡ true
   distinct-kept none h = refl
-  distinct-kept (same {e = e} {xs = xs} k) h = let p = both (not (list_any (has_id (id e)) xs)) (are_distinct xs) h in rw (absent-kept (id e) k p.0, distinct-kept k p.1) refl
+  distinct-kept (same {e = e} {xs = xs} k) h = let p = both (not (list_any (has_id (id e)) xs)) (are_distinct_elements xs) h in rw (absent-kept (id e) k p.0, distinct-kept k p.1) refl
   distinct-kept (universal {e = e} {ks = ks} {xs = xs} f k) h =
-      let p = both (not (list_any (has_id (id e)) xs)) (are_distinct xs) h in
-      ap (λ i. not (list_any (has_id i) ks) && are_distinct ks) (id-universal low e f) ∙ rw (absent-kept (id e) k p.0, distinct-kept k p.1) refl
-  distinct-kept (collected {e = e} {xs = xs} g u n k) h = distinct-kept k (both (not (list_any (has_id (id e)) xs)) (are_distinct xs) h).1
+      let p = both (not (list_any (has_id (id e)) xs)) (are_distinct_elements xs) h in
+      ap (λ i. not (list_any (has_id i) ks) && are_distinct_elements ks) (id-universal low e f) ∙ rw (absent-kept (id e) k p.0, distinct-kept k p.1) refl
+  distinct-kept (collected {e = e} {xs = xs} g u n k) h = distinct-kept k (both (not (list_any (has_id (id e)) xs)) (are_distinct_elements xs) h).1
 
   unremoved-named : (a : ElementId) → Alike low held (λ e. has_id a e && is_unremoved e)
   unremoved-named a = record {

@@ -29,7 +29,7 @@ use Rattle.ft_msg.specs.Summary.{GivesDocument, trim}
 use Rattle.ft_msg.specs.WellFormed.{IsWellFormedMessage}
 use Rattle.ft_laws.specs.Starts.{IsRunFrom, IsSoundRun, IsSoundStart}
 use Rattle.ft_msg.specs.ClientSteps.{ClientStep, after_step, after_steps, has_fitting_body, is_without_edits, taken_entries}
-use Rattle.ft_laws.specs.Trimming.{are_distinct, has_ends_on}
+use Rattle.ft_laws.specs.Trimming.{are_distinct_elements, has_ends_on}
 use Rattle.ft_keep.specs.Free.{HasFreeTombstones}
 
 -- ---- steps
@@ -156,7 +156,7 @@ CompactedStepsAlike =
 -- ---- replicas
 
 -- a client that steps made from that document on, or one that keeps it
-pub record IsKept (start : Document) (kept : NaiveClient) : Type 0 where
+pub record IsMadeOrKept (start : Document) (kept : NaiveClient) : Type 0 where
   pub whole : NaiveClient
   pub reached : IsReached whole
   pub starts : reached.start ≡ start
@@ -165,15 +165,15 @@ pub record IsKept (start : Document) (kept : NaiveClient) : Type 0 where
 -- what is known of each such client: its elements have names of their own, each end of an acknowledged interval is detached or
 -- on an unremoved element, its minimum is at most its number, and what may be left out is free
 pub record IsSoundlyKept (kept : NaiveClient) : Type 0 where
-  pub text : are_distinct kept.doc.text.items ≡ true
-  pub rows : are_distinct kept.doc.rows.items ≡ true
-  pub cols : are_distinct kept.doc.cols.items ≡ true
+  pub text : are_distinct_elements kept.doc.text.items ≡ true
+  pub rows : are_distinct_elements kept.doc.rows.items ≡ true
+  pub cols : are_distinct_elements kept.doc.cols.items ≡ true
   pub ends : list_all (has_ends_on kept.doc.text.items) kept.doc.intervals ≡ true
   pub numbers : kept.doc.minimum ≤ kept.doc.number
   pub tombstones : HasFreeTombstones kept
 
 abbrev pub KeptIsSound : Type 0
-KeptIsSound = (start : Document) (kept : NaiveClient) → IsKept start kept → IsSoundlyKept kept
+KeptIsSound = (start : Document) (kept : NaiveClient) → IsMadeOrKept start kept → IsSoundlyKept kept
 
 -- what a replica does on a client that it shows: it takes the step, shows the client after it, and its counts rise alike; or it
 -- refuses with the client's fault; of want of memory and of a stop nothing is asked
@@ -183,7 +183,7 @@ DoesStep kind old new kept step (Err fault) = MeansRefusal (kind fault) (step �
 
 -- it does a step on each client that it shows
 abbrev pub DoesStepOnEach : {E : Type 0} → Document → (E → FaultKind) → ReplicaState → ReplicaState → (NaiveClient → Result NaiveClient E) → Result (Unit {0}) E → Type 0
-DoesStepOnEach start kind old new step result = (kept : NaiveClient) → IsKept start kept → indexed_client kept ≡ old.client → DoesStep kind old new kept (step kept) result
+DoesStepOnEach start kind old new step result = (kept : NaiveClient) → IsMadeOrKept start kept → indexed_client kept ≡ old.client → DoesStep kind old new kept (step kept) result
 
 -- and so answers it for each client for which it stands, as is promised of a replica
 abbrev pub AnswersEach : {E : Type 0} → Document → (E → FaultKind) → ReplicaState → ReplicaState → (NaiveClient → Result NaiveClient E) → Result (Unit {0}) E → Type 0
@@ -213,7 +213,7 @@ ReplicaIdles = (start : Document) (old new : ReplicaState) (result : Result (Uni
 -- it compacts each client that it shows, where it finds the memory
 abbrev pub CompactsEach : Document → ReplicaState → ReplicaState → Result (Unit {0}) ViewFault → Type 0
 CompactsEach start old new (Ok _) =
-    (new.held ≡ old.held) × ((kept : NaiveClient) → IsKept start kept → indexed_client kept ≡ old.client → (fewer : NaiveClient) × (IsCompacted fewer kept) × (indexed_client fewer ≡ new.client))
+    (new.held ≡ old.held) × ((kept : NaiveClient) → IsMadeOrKept start kept → indexed_client kept ≡ old.client → (fewer : NaiveClient) × (IsCompacted fewer kept) × (indexed_client fewer ≡ new.client))
 CompactsEach start old new (Err fault) = Unit {0}
 
 -- and so stands for the same clients
@@ -224,17 +224,17 @@ ReplicaCompacts = (start : Document) (old new : ReplicaState) (result : Result (
 -- document of a summary
 abbrev pub ReplicaShows : Type 0
 ReplicaShows =
-    (start : Document) (r : ReplicaState) (view : View) → ((kept : NaiveClient) → IsKept start kept → indexed_client kept ≡ r.client → view_content view ≡ content kept)
+    (start : Document) (r : ReplicaState) (view : View) → ((kept : NaiveClient) → IsMadeOrKept start kept → indexed_client kept ≡ r.client → view_content view ≡ content kept)
     → (x : NaiveClient) (reached : IsReached x) → reached.start ≡ start → StandsFor r.client x → view_content view ≡ content x
 
 abbrev pub ReplicaOverlaps : Type 0
 ReplicaOverlaps =
-    (start : Document) (r : ReplicaState) (label : Characters) (a b : ℕ) (found : List IntervalRec) → ((kept : NaiveClient) → IsKept start kept → indexed_client kept ≡ r.client → found ≡ overlap kept label a b)
+    (start : Document) (r : ReplicaState) (label : Characters) (a b : ℕ) (found : List IntervalRec) → ((kept : NaiveClient) → IsMadeOrKept start kept → indexed_client kept ≡ r.client → found ≡ overlap kept label a b)
     → (x : NaiveClient) (reached : IsReached x) → reached.start ≡ start → StandsFor r.client x → found ≡ overlap x label a b
 
 abbrev pub ReplicaSums : Type 0
 ReplicaSums =
-    (start : Document) (r : ReplicaState) (sum : SumDoc) → ((kept : NaiveClient) → IsKept start kept → indexed_client kept ≡ r.client → GivesDocument sum kept.doc)
+    (start : Document) (r : ReplicaState) (sum : SumDoc) → ((kept : NaiveClient) → IsMadeOrKept start kept → indexed_client kept ≡ r.client → GivesDocument sum kept.doc)
     → (x : NaiveClient) (reached : IsReached x) → reached.start ≡ start → StandsFor r.client x → GivesDocument sum x.doc
 
 -- ---- clients that start from a summary of another

@@ -17,7 +17,7 @@ use Rattle.ft_op.specs.Pieces.{grid_pieces, op_of, pieces, text_pieces}
 use Rattle.ft_op.specs.Stages.{Stage}
 use Rattle.ft_msg.specs.Agreed.{with_numbers}
 use Rattle.ft_msg.specs.Client.{PendingEdit}
-use Rattle.ft_msg.specs.Reconnection.{carried_stage, draft_of, regenerated_edit, resubmitted_edit, resubmitted_edits}
+use Rattle.ft_msg.specs.Reconnection.{carried_stage, sent_draft, regenerated_edit, resubmitted_edit, resubmitted_edits}
 use Rattle.ft_laws.specs.Reconnecting.{drafts_from}
 
 -- pieces make an operation unless there are none
@@ -71,9 +71,9 @@ module _ (doc : Document) where
     stages-here (Some op) h rest p q = ap (λ us. flat_map (carried_stage doc) edit.stages ++ us) q
 
     queue-here : (r : ℕ) (o : Option ChannelOp) (ops : List ChannelOp)
-        → flat_map (draft_of r) (resubmitted_edits doc conn n edits) ≡ drafts_from n r ops → flat_map (draft_of r) (resubmitted_edits doc conn (n + 1) edits)
+        → flat_map (sent_draft r) (resubmitted_edits doc conn n edits) ≡ drafts_from n r ops → flat_map (sent_draft r) (resubmitted_edits doc conn (n + 1) edits)
         ≡ drafts_from (n + 1) r ops
-        → flat_map (draft_of r) (elim o [ None ↦ resubmitted_edits doc conn n edits | Some op ↦ resubmitted_edit doc conn n edit op ∷ resubmitted_edits doc conn (n + 1) edits ])
+        → flat_map (sent_draft r) (elim o [ None ↦ resubmitted_edits doc conn n edits | Some op ↦ resubmitted_edit doc conn n edit op ∷ resubmitted_edits doc conn (n + 1) edits ])
         ≡ drafts_from n r (cons_option o ops)
     queue-here r None ops p q = p
     queue-here r (Some op) ops p q = ap (λ ds. record { client_seq = n; ref_seq = r; body = Op op } ∷ ds) q
@@ -88,7 +88,7 @@ module _ (doc : Document) where
       ∙ sym (flat_map-append (carried_stage doc) edit.stages (flat_map (λ e. e.stages) edits))
 
   -- each edit that goes on is queued
-  pub queue-resubmitted : (conn n r : ℕ) (edits : List PendingEdit) → flat_map (draft_of r) (resubmitted_edits doc conn n edits)
+  pub queue-resubmitted : (conn n r : ℕ) (edits : List PendingEdit) → flat_map (sent_draft r) (resubmitted_edits doc conn n edits)
       ≡ drafts_from n r (filter_map (regenerated_edit doc) edits)
   queue-resubmitted conn n r [] = refl
   queue-resubmitted conn n r (edit ∷ edits) =

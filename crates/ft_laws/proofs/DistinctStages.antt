@@ -10,7 +10,7 @@ use Rattle.ft_base.proofs.Booleans.{both}
 use Rattle.ft_base.proofs.ScanLaws.{put_past-no_run}
 use Rattle.ft_props.specs.Element.{ListElement, ElementId, has_id, id, id_of_stamp, is_sequenced, same_id, seen}
 use Rattle.ft_props.specs.Steps.{carried_element, is_inserted_by, stage_position}
-use Rattle.ft_laws.specs.Trimming.{are_distinct}
+use Rattle.ft_laws.specs.Trimming.{are_distinct_elements}
 use Rattle.ft_laws.proofs.OwnNames.{any-put, same_id-apart}
 use Rattle.ft_laws.proofs.StageViews.{carried-id, later-absent, stage_list}
 use Rattle.ft_laws.proofs.Booleans.{hidden}
@@ -19,14 +19,14 @@ absent-filter : (x : ElementId) (test : ListElement → Bool) (xs : List ListEle
 absent-filter x test [] h = refl
 absent-filter x test (e ∷ xs) h = grind (arith, absent-filter x test xs)
 
-distinct-filter : (test : ListElement → Bool) (xs : List ListElement) → are_distinct xs ≡ true → are_distinct (filter test xs) ≡ true
+distinct-filter : (test : ListElement → Bool) (xs : List ListElement) → are_distinct_elements xs ≡ true → are_distinct_elements (filter test xs) ≡ true
 distinct-filter test [] h = refl
 distinct-filter test (e ∷ xs) h =
-    let p = both (not (list_any (has_id (id e)) xs)) (are_distinct xs) h in
+    let p = both (not (list_any (has_id (id e)) xs)) (are_distinct_elements xs) h in
     step (test e) (absent-filter (id e) test xs (hidden _ p.0)) (distinct-filter test xs p.1)
   where
-    step : (b : Bool) → list_any (has_id (id e)) (filter test xs) ≡ false → are_distinct (filter test xs) ≡ true
-        → are_distinct (cond b (e ∷ filter test xs) (filter test xs)) ≡ true
+    step : (b : Bool) → list_any (has_id (id e)) (filter test xs) ≡ false → are_distinct_elements (filter test xs) ≡ true
+        → are_distinct_elements (cond b (e ∷ filter test xs) (filter test xs)) ≡ true
     step true a d = rw (a, d) refl
     step false a d = d
 
@@ -42,16 +42,16 @@ absent-carried x (e ∷ xs) h = step (is_sequenced e) (same_id x (id e)) refl h 
         ∙ ap (λ b. b || list_any (has_id x) (retain_map is_sequenced carried_element xs)) q ∙ g h
     step false false q h g = g h
 
-distinct-carried : (xs : List ListElement) → are_distinct xs ≡ true → are_distinct (retain_map is_sequenced carried_element xs) ≡ true
+distinct-carried : (xs : List ListElement) → are_distinct_elements xs ≡ true → are_distinct_elements (retain_map is_sequenced carried_element xs) ≡ true
 distinct-carried [] h = refl
 distinct-carried (e ∷ xs) h =
-    let p = both (not (list_any (has_id (id e)) xs)) (are_distinct xs) h in
+    let p = both (not (list_any (has_id (id e)) xs)) (are_distinct_elements xs) h in
     step (is_sequenced e) (absent-carried (id e) xs (hidden _ p.0)) (distinct-carried xs p.1)
   where
-    step : (b : Bool) → list_any (has_id (id e)) (retain_map is_sequenced carried_element xs) ≡ false → are_distinct (retain_map is_sequenced carried_element xs) ≡ true
-        → are_distinct (cond b (carried_element e ∷ retain_map is_sequenced carried_element xs) (retain_map is_sequenced carried_element xs)) ≡ true
+    step : (b : Bool) → list_any (has_id (id e)) (retain_map is_sequenced carried_element xs) ≡ false → are_distinct_elements (retain_map is_sequenced carried_element xs) ≡ true
+        → are_distinct_elements (cond b (carried_element e ∷ retain_map is_sequenced carried_element xs) (retain_map is_sequenced carried_element xs)) ≡ true
     step true a d = ap (λ i. not (list_any (has_id i) (retain_map is_sequenced carried_element xs))
-        && are_distinct (retain_map is_sequenced carried_element xs)) (carried-id e) ∙ rw (a, d) refl
+        && are_distinct_elements (retain_map is_sequenced carried_element xs)) (carried-id e) ∙ rw (a, d) refl
     step false a d = d
 
 -- elements of a stage have other names than those of no stage or another
@@ -86,25 +86,25 @@ module _ (k : ℕ) where
   none-both x [] xs g h = h
   none-both x (e ∷ new) xs g h = grind (arith, none-both x new xs)
 
-  distinct-append : (new xs : List ListElement) → are_distinct new ≡ true → list_all (is_inserted_by k) new ≡ true → are_distinct xs ≡ true
-      → list_any (is_inserted_by k) xs ≡ false → are_distinct (new ++ xs) ≡ true
+  distinct-append : (new xs : List ListElement) → are_distinct_elements new ≡ true → list_all (is_inserted_by k) new ≡ true → are_distinct_elements xs ≡ true
+      → list_any (is_inserted_by k) xs ≡ false → are_distinct_elements (new ++ xs) ≡ true
   distinct-append [] xs d a e n = e
   distinct-append (y ∷ new) xs d a e n =
-      let p = both (not (list_any (has_id (id y)) new)) (are_distinct new) d in
+      let p = both (not (list_any (has_id (id y)) new)) (are_distinct_elements new) d in
       let q = both (is_inserted_by k y) (list_all (is_inserted_by k) new) a in
       rw (none-both (id y) new xs (hidden _ p.0) (apart-from y xs q.0 n), distinct-append new xs p.1 q.1 e n) refl
 
-  distinct-put : (see : ListElement → Bool) (p : ℕ) (new xs : List ListElement) → are_distinct new ≡ true → list_all (is_inserted_by k) new ≡ true
-      → are_distinct xs ≡ true → list_any (is_inserted_by k) xs ≡ false → are_distinct (put see no_run p new xs) ≡ true
-  distinct-put see zero new xs d a e n = ap are_distinct (put_past-no_run new xs) ∙ distinct-append new xs d a e n
+  distinct-put : (see : ListElement → Bool) (p : ℕ) (new xs : List ListElement) → are_distinct_elements new ≡ true → list_all (is_inserted_by k) new ≡ true
+      → are_distinct_elements xs ≡ true → list_any (is_inserted_by k) xs ≡ false → are_distinct_elements (put see no_run p new xs) ≡ true
+  distinct-put see zero new xs d a e n = ap are_distinct_elements (put_past-no_run new xs) ∙ distinct-append new xs d a e n
   distinct-put see (suc p) new [] d a e n = d
   distinct-put see (suc p) new (x ∷ xs) d a e n =
-      let q = both (not (list_any (has_id (id x)) xs)) (are_distinct xs) e in
+      let q = both (not (list_any (has_id (id x)) xs)) (are_distinct_elements xs) e in
       step (is_inserted_by k x) refl n q.0 (distinct-put see (cond (see x) p (suc p)) new xs d a q.1)
     where
       step : (b : Bool) → is_inserted_by k x ≡ b → b || list_any (is_inserted_by k) xs ≡ false → not (list_any (has_id (id x)) xs) ≡ true
-          → (list_any (is_inserted_by k) xs ≡ false → are_distinct (put see no_run (cond (see x) p (suc p)) new xs) ≡ true)
-          → are_distinct (x ∷ put see no_run (cond (see x) p (suc p)) new xs) ≡ true
+          → (list_any (is_inserted_by k) xs ≡ false → are_distinct_elements (put see no_run (cond (see x) p (suc p)) new xs) ≡ true)
+          → are_distinct_elements (x ∷ put see no_run (cond (see x) p (suc p)) new xs) ≡ true
       step true i n q r = absurd cc
       step false i n q r = rw (any-put (has_id (id x)) see no_run (cond (see x) p (suc p)) new xs (apart-block x new i a) (hidden _ q), r n) refl
 
@@ -117,7 +117,7 @@ all-inserted k (e ∷ xs) = step (is_inserted_by k e) refl (all-inserted k xs)
     step true h g = rw (h, g) refl
     step false h g = g
 
-pub stage_list-distinct : (xs : List ListElement) → are_distinct xs ≡ true → (k : ℕ) → are_distinct (stage_list xs k) ≡ true
+pub stage_list-distinct : (xs : List ListElement) → are_distinct_elements xs ≡ true → (k : ℕ) → are_distinct_elements (stage_list xs k) ≡ true
 stage_list-distinct xs d zero = distinct-carried xs d
 stage_list-distinct xs d (suc k) =
     distinct-put (suc k) (seen (suc k - 1)) (stage_position (suc k) xs) (filter (is_inserted_by (suc k)) xs) (stage_list xs k)

@@ -23,7 +23,7 @@ use Rattle.ft_laws.specs.Reconnecting.{StagesRiseTo, inserts_text, removes_text,
 use Rattle.ft_laws.proofs.SentStages.{SentStage, StageStands, cols_edit, rows_edit, text_edit}
 use Rattle.ft_laws.proofs.StageEdits.{IsStanding, StageEdit}
 use Rattle.ft_laws.specs.Sequencing.{Each, IsReady, IsReadyList, IsTyped, annotates_text, inserts_in, is_grid_stage, is_interval_edit, is_interval_operation, is_known, is_marked_later, is_one_operation, is_text_stage, no_kind, removes_in}
-use Rattle.ft_laws.specs.Trimming.{are_distinct, has_ends_on, is_end_on}
+use Rattle.ft_laws.specs.Trimming.{are_distinct_elements, has_ends_on, is_end_on}
 use Rattle.ft_laws.proofs.AgreedStage.{EndsStand}
 use Rattle.ft_laws.proofs.AfterOwnJoin.{join-changes_nothing}
 use Rattle.ft_laws.specs.Starts.{IsRunFrom, shown_with_pending}
@@ -61,7 +61,7 @@ none-left : (b : Bool) (n : ℕ) → b ≡ true → one_more_if b n ≤ 1 → n 
 none-left true n h l = omega arith
 none-left false n h l = (cc)
 
-once-distinct : (xs : List ListElement) → Once xs → are_distinct xs ≡ true
+once-distinct : (xs : List ListElement) → Once xs → are_distinct_elements xs ≡ true
 once-distinct [] h = refl
 once-distinct (e ∷ xs) h =
     let alone : len (has_id (id e)) xs ≡ 0 = none-left (has_id (id e) e) (len (has_id (id e)) xs) (same_id-refl (id e)) (h (id e)) in

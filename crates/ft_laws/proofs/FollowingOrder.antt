@@ -30,7 +30,7 @@ use Rattle.ft_msg.specs.Client.{NaiveClient, stages_of}
 use Rattle.ft_msg.specs.Content.{cell_after_stage}
 use Rattle.ft_laws.specs.Reconnecting.{StagesRiseTo, has_some, inserts_text, removes_text, writes_known_units}
 use Rattle.ft_laws.specs.Sequencing.{Each, IsBlockOf, are_ends_in, IsReady, IsTyped, IsTypedText, annotates_text, inserts_in, no_kind, removes_in}
-use Rattle.ft_laws.specs.Trimming.{IsConsistent, are_distinct}
+use Rattle.ft_laws.specs.Trimming.{IsConsistent, are_distinct_elements}
 use Rattle.ft_laws.proofs.AfterOwnJoin.{stage-views}
 use Rattle.ft_laws.proofs.ConsistentDocument.{cell_effect-consistent, effect-consistent, effects-consistent}
 use Rattle.ft_laws.proofs.DistinctStages.{stage_list-distinct}
@@ -110,11 +110,11 @@ rank-same is see other [] h = refl
 rank-same is see other (e ∷ xs) h = rw (h.0, rank-same is see other xs h.1) refl
 
 -- the unit at the number of one that is named
-unit-pair : (n conn made k : ℕ) (xs ds : List ListElement) → SameViews k xs (stage_list xs k) → are_distinct xs ≡ true
+unit-pair : (n conn made k : ℕ) (xs ds : List ListElement) → SameViews k xs (stage_list xs k) → are_distinct_elements xs ≡ true
     → (b : Beside n conn made k (stage_list xs k) ds) → Each (λ e. seen (k - 1) e ≡ seen k e) xs
     → (y : ElementId) → has_named (seen k) xs y ≡ true → IsEndPair b.pairs (Some y) (option_map id (at (seen_by n conn) (rank (has_id y) (seen (k - 1)) xs) ds))
 unit-pair n conn made k xs ds v d b same y h =
-    let left : are_distinct (lefts b.pairs) ≡ true = subst (λ us. are_distinct us ≡ true) (sym b.left) (stage_list-distinct xs d k) in
+    let left : are_distinct_elements (lefts b.pairs) ≡ true = subst (λ us. are_distinct_elements us ≡ true) (sym b.left) (stage_list-distinct xs d k) in
     let there : list_any (λ e. has_id y e && seen k e) (lefts b.pairs) ≡ true =
     subst (λ us. has_named (seen k) us y ≡ true) (sym b.left) (named-filter (seen k) y (stage_list xs k) ∙ ap (list_any (has_id y)) (v.view k (omega arith))
     ∙ sym (named-filter (seen k) y xs) ∙ h) in
@@ -343,8 +343,8 @@ module _ (x : NaiveClient) (conn : ℕ) (ready : IsReady x) where
           ap (λ us. settle_ends us k is) text.next.left ∙ ends-same (text-views k) ready.text.place.distinct k (let l = above in omega arith) (omega arith) is before in
           let slid : slide_ends (rights ps) d.intervals ≡ d1.intervals = ap (λ us. slide_ends us d.intervals) (text.next.right ∙ e) ∙ sym r.ends in
           let pairs : IntervalPairs ps (settle_ends (lefts ps) k is) (slide_ends (rights ps) d.intervals) =
-          pairs-settled k ps (subst (λ us. are_distinct us ≡ true) (sym text.next.left) (stage_list-distinct x.doc.text.items ready.text.place.distinct k))
-          (subst (λ us. are_distinct us ≡ true) (sym text.next.right) sound.text.distinct)
+          pairs-settled k ps (subst (λ us. are_distinct_elements us ≡ true) (sym text.next.left) (stage_list-distinct x.doc.text.items ready.text.place.distinct k))
+          (subst (λ us. are_distinct_elements us ≡ true) (sym text.next.right) sound.text.distinct)
           (each-with (Image n conn x.doc.text.made k) (λ p. is_unremoved p.1 ≡ seen k p.0) (λ p i. i.unremoved) ps text.next.images)
           (each-with (Image n conn x.doc.text.made k) (λ p. is_sequenced p.1 ≡ true) (λ p i. i.sequenced) ps text.next.images)
           is d.intervals (pairs-stay f.text.pairs ps text.stays is d.intervals f.intervals) in
@@ -503,11 +503,11 @@ module _ (x : NaiveClient) (conn : ℕ) (ready : IsReady x) where
         text-now : Onward n conn x.doc.text.made j t.stage f.text (stage_list x.doc.text.items t.stage) d.text.items
         text-now = text-untouched (ap inserts_text o) (ap removes_text o) (ap annotates_text o)
 
-        left-distinct : are_distinct (lefts text-now.next.pairs) ≡ true
-        left-distinct = subst (λ us. are_distinct us ≡ true) (sym text-now.next.left) (stage_list-distinct x.doc.text.items ready.text.place.distinct t.stage)
+        left-distinct : are_distinct_elements (lefts text-now.next.pairs) ≡ true
+        left-distinct = subst (λ us. are_distinct_elements us ≡ true) (sym text-now.next.left) (stage_list-distinct x.doc.text.items ready.text.place.distinct t.stage)
 
-        right-distinct : are_distinct (rights text-now.next.pairs) ≡ true
-        right-distinct = subst (λ us. are_distinct us ≡ true) (sym text-now.next.right) f.sound.text.distinct
+        right-distinct : are_distinct_elements (rights text-now.next.pairs) ≡ true
+        right-distinct = subst (λ us. are_distinct_elements us ≡ true) (sym text-now.next.right) f.sound.text.distinct
 
         positive : 0 < t.stage
         positive = (let l = above in omega arith)

@@ -10,7 +10,7 @@ use Rattle.ft_base.proofs.Booleans.{both}
 use Rattle.ft_props.specs.Properties.{PropertyList}
 use Rattle.ft_props.specs.Element.{ListElement, ElementId, ElementContent, SequencedId, same_id, id, id_of_stamp, has_id, is_sequenced, is_pending, seen_by, new_elements}
 use Rattle.ft_props.specs.Steps.{Sequence, after_insertion}
-use Rattle.ft_laws.specs.Trimming.{IsNumbered, are_distinct, is_numbered_below}
+use Rattle.ft_laws.specs.Trimming.{IsNumbered, are_distinct_elements, is_numbered_below}
 use Rattle.ft_laws.proofs.HeldNames.{all-put, all-range}
 use Rattle.ft_laws.proofs.SlidEnds.{same_id-refl, same_id-eq}
 use Rattle.ft_props.proofs.RebuiltList.{or_right, any-both}
@@ -81,10 +81,10 @@ own-named test (y ∷ xs) =
     later false b c h = or_right b c h
 
 -- where names are distinct, one that doesn't pass has no name of one that does
-pub other-named : (test : ListElement → Bool) (xs : List ListElement) → are_distinct xs ≡ true → list_all (λ e. test e || not (has_named test xs (id e))) xs ≡ true
+pub other-named : (test : ListElement → Bool) (xs : List ListElement) → are_distinct_elements xs ≡ true → list_all (λ e. test e || not (has_named test xs (id e))) xs ≡ true
 other-named test [] h = refl
 other-named test (y ∷ xs) h =
-    let p = both (not (list_any (has_id (id y)) xs)) (are_distinct xs) h in
+    let p = both (not (list_any (has_id (id y)) xs)) (are_distinct_elements xs) h in
     let q : list_any (has_id (id y)) xs ≡ false = negated (list_any (has_id (id y)) xs) p.0 in
     rw (
       here (test y) (has_named test xs (id y)) (any-less (λ e. has_id (id y) e && test e) (has_id (id y)) (λ e k. ap (λ b. b && test e) k) xs q),
@@ -174,7 +174,7 @@ old-apart n e new h k = none-passes (is_numbered_from n) (has_id (id e)) (λ d l
 new-apart : (n : ℕ) (d : ListElement) (xs : List ListElement) → is_numbered_from n d ≡ true → list_all (is_numbered_below n) xs ≡ true → list_any (has_id (id d)) xs ≡ false
 new-apart n d xs h k = none-passes (is_numbered_below n) (has_id (id d)) (λ e l. same_id-apart (id e) (id d) (names-apart n e d l h)) xs k
 
-new-distinct : (n s c : ℕ) (by : Option Stamp) (props : PropertyList) (bs : List ElementContent) → are_distinct (new_elements n (Acked s c) [] by props bs) ≡ true
+new-distinct : (n s c : ℕ) (by : Option Stamp) (props : PropertyList) (bs : List ElementContent) → are_distinct_elements (new_elements n (Acked s c) [] by props bs) ≡ true
 new-distinct n s c by props [] = refl
 new-distinct n s c by props (b ∷ bs) =
     let e : ListElement = record { nth = n; content = b; ins = Acked s c; dels = []; removal_stage = None; by = by; props = props; pending = [] } in
@@ -193,11 +193,11 @@ any-put is seen past (suc p) new [] g h = g
 any-put is seen past (suc p) new (x ∷ xs) g h = grind (arith, any-put is seen past p new xs, any-put is seen past (suc p) new xs)
 
 module _ (n : ℕ) where
-  distinct-append : (new xs : List ListElement) → are_distinct new ≡ true → list_all (is_numbered_from n) new ≡ true → are_distinct xs ≡ true
-      → list_all (is_numbered_below n) xs ≡ true → are_distinct (new ++ xs) ≡ true
+  distinct-append : (new xs : List ListElement) → are_distinct_elements new ≡ true → list_all (is_numbered_from n) new ≡ true → are_distinct_elements xs ≡ true
+      → list_all (is_numbered_below n) xs ≡ true → are_distinct_elements (new ++ xs) ≡ true
   distinct-append [] xs d f e b = e
   distinct-append (y ∷ new) xs d f e b =
-      let p = both (not (list_any (has_id (id y)) new)) (are_distinct new) d in
+      let p = both (not (list_any (has_id (id y)) new)) (are_distinct_elements new) d in
       let q = both (is_numbered_from n y) (list_all (is_numbered_from n) new) f in
       rw (any-both (has_id (id y)) new xs (negated (list_any (has_id (id y)) new) p.0) (new-apart n y xs q.0 b), distinct-append new xs p.1 q.1 e b) refl
     where
@@ -205,31 +205,31 @@ module _ (n : ℕ) where
       negated true h = (cc)
       negated false h = refl
 
-  module _ (past : ListElement → Bool) (new : List ListElement) (d : are_distinct new ≡ true) (f : list_all (is_numbered_from n) new ≡ true) where
+  module _ (past : ListElement → Bool) (new : List ListElement) (d : are_distinct_elements new ≡ true) (f : list_all (is_numbered_from n) new ≡ true) where
     negated : (b : Bool) → not b ≡ true → b ≡ false
     negated true h = (cc)
     negated false h = refl
 
-    distinct-put_past : (xs : List ListElement) → are_distinct xs ≡ true → list_all (is_numbered_below n) xs ≡ true → are_distinct (put_past past new xs) ≡ true
+    distinct-put_past : (xs : List ListElement) → are_distinct_elements xs ≡ true → list_all (is_numbered_below n) xs ≡ true → are_distinct_elements (put_past past new xs) ≡ true
     distinct-put_past [] e b = d
     distinct-put_past (x ∷ xs) e b =
-        let p = both (not (list_any (has_id (id x)) xs)) (are_distinct xs) e in
+        let p = both (not (list_any (has_id (id x)) xs)) (are_distinct_elements xs) e in
         let q = both (is_numbered_below n x) (list_all (is_numbered_below n) xs) b in
         chosen (past x)
         (rw (any-put_past (has_id (id x)) past new xs (old-apart n x new q.0 f) (negated (list_any (has_id (id x)) xs) p.0), distinct-put_past xs p.1 q.1) refl)
         (distinct-append new (x ∷ xs) d f e b)
       where
-        chosen : (c : Bool) → are_distinct (x ∷ put_past past new xs) ≡ true → are_distinct (new ++ (x ∷ xs)) ≡ true
-            → are_distinct (cond c (x ∷ put_past past new xs) (new ++ (x ∷ xs))) ≡ true
+        chosen : (c : Bool) → are_distinct_elements (x ∷ put_past past new xs) ≡ true → are_distinct_elements (new ++ (x ∷ xs)) ≡ true
+            → are_distinct_elements (cond c (x ∷ put_past past new xs) (new ++ (x ∷ xs))) ≡ true
         chosen true g h = g
         chosen false g h = h
 
-    distinct-put : (seen : ListElement → Bool) (p : ℕ) (xs : List ListElement) → are_distinct xs ≡ true → list_all (is_numbered_below n) xs ≡ true
-        → are_distinct (put seen past p new xs) ≡ true
+    distinct-put : (seen : ListElement → Bool) (p : ℕ) (xs : List ListElement) → are_distinct_elements xs ≡ true → list_all (is_numbered_below n) xs ≡ true
+        → are_distinct_elements (put seen past p new xs) ≡ true
     distinct-put seen zero xs e b = distinct-put_past xs e b
     distinct-put seen (suc p) [] e b = d
     distinct-put seen (suc p) (x ∷ xs) e b =
-        let r = both (not (list_any (has_id (id x)) xs)) (are_distinct xs) e in
+        let r = both (not (list_any (has_id (id x)) xs)) (are_distinct_elements xs) e in
         let q = both (is_numbered_below n x) (list_all (is_numbered_below n) xs) b in
         rw (
           any-put (has_id (id x)) seen past (cond (seen x) p (suc p)) new xs (old-apart n x new q.0 f) (negated (list_any (has_id (id x)) xs) r.0),
@@ -260,7 +260,7 @@ module _ (test : ListElement → Bool) (f : ListElement → ListElement) (name :
   range-named x i p q [] = refl
   range-named x i p q (e ∷ xs) = rw (changed-id (test e && within p q i) e, range-named x (one_more_if (test e) i) p q xs) refl
 
-  range-distinct : (i p q : ℕ) (xs : List ListElement) → are_distinct (change_range_from i test p q f xs) ≡ are_distinct xs
+  range-distinct : (i p q : ℕ) (xs : List ListElement) → are_distinct_elements (change_range_from i test p q f xs) ≡ are_distinct_elements xs
   range-distinct i p q [] = refl
   range-distinct i p q (e ∷ xs) = rw (
     changed-id (test e && within p q i) e,
@@ -309,13 +309,13 @@ retain_map-numbered keep f name n kept list e h = record {
         step true false e h g = rw (name y, e) (g h)
         step false false e h g = g h
 
-    distinct : (xs : List ListElement) → are_distinct xs ≡ true → are_distinct (retain_map keep f xs) ≡ true
+    distinct : (xs : List ListElement) → are_distinct_elements xs ≡ true → are_distinct_elements (retain_map keep f xs) ≡ true
     distinct [] h = refl
     distinct (y ∷ xs) h =
-        let p = both (not (list_any (has_id (id y)) xs)) (are_distinct xs) h in
+        let p = both (not (list_any (has_id (id y)) xs)) (are_distinct_elements xs) h in
         step (keep y) (absent (id y) xs (negated (list_any (has_id (id y)) xs) p.0)) (distinct xs p.1)
       where
-        step : (b : Bool) → list_any (has_id (id y)) (retain_map keep f xs) ≡ false → are_distinct (retain_map keep f xs) ≡ true
-            → are_distinct (cond b (f y ∷ retain_map keep f xs) (retain_map keep f xs)) ≡ true
+        step : (b : Bool) → list_any (has_id (id y)) (retain_map keep f xs) ≡ false → are_distinct_elements (retain_map keep f xs) ≡ true
+            → are_distinct_elements (cond b (f y ∷ retain_map keep f xs) (retain_map keep f xs)) ≡ true
         step true g k = rw (name y, g, k) refl
         step false g k = k

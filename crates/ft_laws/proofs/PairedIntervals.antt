@@ -9,7 +9,7 @@ use Rattle.ft_props.specs.Element.{ElementId, ListElement, is_sequenced, is_unre
 use Rattle.ft_op.specs.Intervals.{Interval, NamedElements, after_interval_operation, has_interval, interval_cmp, is_interval, settle_ends, slide_ends, with_changed_interval}
 use Rattle.ft_op.specs.Pieces.{interval_piece}
 use Rattle.ft_msg.specs.Content.{interval_record}
-use Rattle.ft_laws.specs.Trimming.{are_distinct}
+use Rattle.ft_laws.specs.Trimming.{are_distinct_elements}
 use Rattle.ft_laws.proofs.RunsOfMarks.{Each}
 use Rattle.ft_laws.proofs.PairedLists.{IsEndPair, Pair, end-changed, has_pair, lefts, number-pair, rights, settled-pair}
 
@@ -48,7 +48,7 @@ pairs-stay ps qs f (i ∷ is) (d ∷ ds) h = (
 pairs-stay ps qs f [] (d ∷ ds) h = h
 pairs-stay ps qs f (i ∷ is) [] h = h
 
-module _ (k : ℕ) (ps : List Pair) (d : are_distinct (lefts ps) ≡ true) (f : are_distinct (rights ps) ≡ true) where
+module _ (k : ℕ) (ps : List Pair) (d : are_distinct_elements (lefts ps) ≡ true) (f : are_distinct_elements (rights ps) ≡ true) where
   -- ends settle on one side as they slide on the other
   pub pairs-settled : Each (λ p. is_unremoved p.1 ≡ seen k p.0) ps → Each (λ p. is_sequenced p.1 ≡ true) ps → (is ds : List Interval) → IntervalPairs ps is ds
       → IntervalPairs ps (settle_ends (lefts ps) k is) (slide_ends (rights ps) ds)

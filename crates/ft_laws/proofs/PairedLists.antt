@@ -7,7 +7,7 @@ use Rattle.ft_base.proofs.Booleans.{both}
 use Rattle.ft_base.proofs.ScanLaws.{put_past-no_run}
 use Rattle.ft_props.specs.Element.{ElementId, ListElement, has_id, id, is_sequenced, is_unremoved, same_id, seen}
 use Rattle.ft_props.specs.Slide.{end_number, settle, slide}
-use Rattle.ft_laws.specs.Trimming.{are_distinct}
+use Rattle.ft_laws.specs.Trimming.{are_distinct_elements}
 use Rattle.ft_laws.proofs.ConsistentDocument.{any-put-stays}
 use Rattle.ft_laws.proofs.SettledEnds.{only-named}
 use Rattle.ft_laws.proofs.RunsOfMarks.{Each, change_run, change_runs}
@@ -203,12 +203,12 @@ other-than x e xs h k = step (same_id x (id e)) refl
     step false g = refl
 
 -- where names are distinct on both sides, the two names of a pair mean the same pair
-pub agree : (ps : List Pair) → are_distinct (lefts ps) ≡ true → are_distinct (rights ps) ≡ true → (x y : ElementId) → has_pair ps x y ≡ true
+pub agree : (ps : List Pair) → are_distinct_elements (lefts ps) ≡ true → are_distinct_elements (rights ps) ≡ true → (x y : ElementId) → has_pair ps x y ≡ true
     → Each (λ p. has_id x p.0 ≡ has_id y p.1) ps
 agree [] d f x y h = tt
 agree (p ∷ ps) d f x y h =
-    let u = both (not (list_any (has_id (id p.0)) (lefts ps))) (are_distinct (lefts ps)) d in
-    let v = both (not (list_any (has_id (id p.1)) (rights ps))) (are_distinct (rights ps)) f in
+    let u = both (not (list_any (has_id (id p.0)) (lefts ps))) (are_distinct_elements (lefts ps)) d in
+    let v = both (not (list_any (has_id (id p.1)) (rights ps))) (are_distinct_elements (rights ps)) f in
     step (same_id x (id p.0)) (same_id y (id p.1)) refl refl h (hidden _ u.0) (hidden _ v.0) (agree ps u.1 v.1 x y)
   where
     rest : has_pair ps x y ≡ true → list_any (has_id (id p.0)) (lefts ps) ≡ false → list_any (has_id (id p.1)) (rights ps) ≡ false
@@ -280,7 +280,7 @@ module _ (all : List Pair) (is ok : Pair → Bool) where
       (found-or (find ok (p ∷ ps)) last (found-find (p ∷ ps) h) l)
       (found-settled (cond (ok p) (Some p) last) ps (found-choice (ok p) (Some p) last h.0 l) h.1)
 
-module _ (k : ℕ) (ps : List Pair) (d : are_distinct (lefts ps) ≡ true) (f : are_distinct (rights ps) ≡ true) where
+module _ (k : ℕ) (ps : List Pair) (d : are_distinct_elements (lefts ps) ≡ true) (f : are_distinct_elements (rights ps) ≡ true) where
   -- an end settles on one side as its pair slides on the other
   pub settled-pair : Each (λ p. is_unremoved p.1 ≡ seen k p.0) ps → Each (λ p. is_sequenced p.1 ≡ true) ps → (x y : Option ElementId) → IsEndPair ps x y
       → IsEndPair ps (settle (lefts ps) k x) (slide (rights ps) y)
@@ -371,7 +371,7 @@ all-left test [] h = refl
 all-left test (p ∷ ps) h = let q = both (test p.0) (list_all test (lefts ps)) h in rw (q.0, all-left test ps q.1) refl
 
 -- what stands on the other side at a seen element's number is its pair
-pub at-pair : (k : ℕ) (see : ListElement → Bool) (ps : List Pair) → are_distinct (lefts ps) ≡ true → Each (λ p. see p.1 ≡ seen k p.0) ps → (x : ElementId)
+pub at-pair : (k : ℕ) (see : ListElement → Bool) (ps : List Pair) → are_distinct_elements (lefts ps) ≡ true → Each (λ p. see p.1 ≡ seen k p.0) ps → (x : ElementId)
     → list_any (λ e. has_id x e && seen k e) (lefts ps) ≡ true
     → IsEndPair ps (Some x) (option_map id (at see (rank (has_id x) (seen k) (lefts ps)) (rights ps)))
 at-pair k see ps d u x h =

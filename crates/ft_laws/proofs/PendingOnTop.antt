@@ -25,7 +25,7 @@ use Rattle.ft_msg.specs.Content.{all_cells, cell_after_stage, cell_record, conte
 use Rattle.ft_laws.specs.Reconnecting.{inserts_text, removes_text}
 use Rattle.ft_laws.specs.Sequencing.{Each, IsReady, annotates_text, inserts_in, is_cell_below, is_name_below, removes_in}
 use Rattle.ft_laws.specs.Starts.{shown_with_pending}
-use Rattle.ft_laws.specs.Trimming.{IsConsistent, are_distinct}
+use Rattle.ft_laws.specs.Trimming.{IsConsistent, are_distinct_elements}
 use Rattle.ft_laws.proofs.CellValues.{value-write}
 use Rattle.ft_laws.proofs.ConsistentDocument.{agreed-consistent}
 use Rattle.ft_laws.proofs.DistinctStages.{stage_list-distinct}
@@ -103,7 +103,7 @@ each-pair S (p ∷ ps) b z G h k f = step (same_id b (id p.0)) (same_id z (id p.
     step false v i j k g = g k f
 
 -- names of pairs are equal on one side where they are on the other
-pair-agree : (ps : List Pair) → are_distinct (lefts ps) ≡ true → are_distinct (rights ps) ≡ true → (a y b z : ElementId) → has_pair ps a y ≡ true
+pair-agree : (ps : List Pair) → are_distinct_elements (lefts ps) ≡ true → are_distinct_elements (rights ps) ≡ true → (a y b z : ElementId) → has_pair ps a y ≡ true
     → has_pair ps b z ≡ true → same_id a b ≡ same_id y z
 pair-agree ps d f a y b z h k =
     each-pair (λ p. has_id a p.0 ≡ has_id y p.1) ps b z (same_id a b ≡ same_id y z) (agree ps d f a y h) k (λ p s i j. ap (same_id a) i ∙ s ∙ sym (ap (same_id y) j))
@@ -202,8 +202,8 @@ right-view n conn made j ls ds b =
 
 module _ (x : NaiveClient) (conn : ℕ) (ready : IsReady x) where
   -- the cells that the stages wrote are those that they show
-  module _ (rows cols : List Pair) (dr : are_distinct (lefts rows) ≡ true) (fr : are_distinct (rights rows) ≡ true) (dc : are_distinct (lefts cols) ≡ true)
-      (fc : are_distinct (rights cols) ≡ true)
+  module _ (rows cols : List Pair) (dr : are_distinct_elements (lefts rows) ≡ true) (fr : are_distinct_elements (rights rows) ≡ true) (dc : are_distinct_elements (lefts cols) ≡ true)
+      (fc : are_distinct_elements (rights cols) ≡ true)
       (a y b z : ElementId) (row : has_pair rows a y ≡ true) (col : has_pair cols b z ≡ true) (ha : has_named (seen x.last_stage) x.doc.rows.items a ≡ true)
       (hb : has_named (seen x.last_stage) x.doc.cols.items b ≡ true) where
     written-value : (t : Stage) (w : Cell) → IsWritten rows cols t w → (cells : List Cell) (v : Option ValueBytes) → cell_value y z cells ≡ v
@@ -297,17 +297,17 @@ module _ (x : NaiveClient) (conn : ℕ) (ready : IsReady x) where
     col-right : filter (seen 0) d.cols.items ≡ rights (filter (λ p. seen j p.0) f.cols.pairs)
     col-right = right-view x.doc.number conn x.doc.cols.made j (stage_list x.doc.cols.items j) d.cols.items f.cols
 
-    dr : are_distinct (lefts f.rows.pairs) ≡ true
-    dr = subst (λ us. are_distinct us ≡ true) (sym f.rows.left) (stage_list-distinct x.doc.rows.items ready.rows.place.distinct j)
+    dr : are_distinct_elements (lefts f.rows.pairs) ≡ true
+    dr = subst (λ us. are_distinct_elements us ≡ true) (sym f.rows.left) (stage_list-distinct x.doc.rows.items ready.rows.place.distinct j)
 
-    dc : are_distinct (lefts f.cols.pairs) ≡ true
-    dc = subst (λ us. are_distinct us ≡ true) (sym f.cols.left) (stage_list-distinct x.doc.cols.items ready.cols.place.distinct j)
+    dc : are_distinct_elements (lefts f.cols.pairs) ≡ true
+    dc = subst (λ us. are_distinct_elements us ≡ true) (sym f.cols.left) (stage_list-distinct x.doc.cols.items ready.cols.place.distinct j)
 
-    fr : are_distinct (rights f.rows.pairs) ≡ true
-    fr = subst (λ us. are_distinct us ≡ true) (sym f.rows.right) f.sound.rows.distinct
+    fr : are_distinct_elements (rights f.rows.pairs) ≡ true
+    fr = subst (λ us. are_distinct_elements us ≡ true) (sym f.rows.right) f.sound.rows.distinct
 
-    fc : are_distinct (rights f.cols.pairs) ≡ true
-    fc = subst (λ us. are_distinct us ≡ true) (sym f.cols.right) f.sound.cols.distinct
+    fc : are_distinct_elements (rights f.cols.pairs) ≡ true
+    fc = subst (λ us. are_distinct_elements us ≡ true) (sym f.cols.right) f.sound.cols.distinct
 
     row-units : Each (IsUnit x.doc.number conn x.doc.rows.made j x.last_stage x.doc.rows.items f.rows.pairs) (filter (λ p. seen j p.0) f.rows.pairs)
     row-units = units x.doc.number conn x.doc.rows.made j x.last_stage x.doc.rows.items d.rows.items ((row-views x conn ready j).view j (omega arith)) last-rows f.rows
@@ -353,8 +353,8 @@ module _ (x : NaiveClient) (conn : ℕ) (ready : IsReady x) where
     intervals-same : map (interval_record 0 d.text.items) d.intervals ≡ map (interval_record x.last_stage x.doc.text.items) is
     intervals-same =
         ap (λ us. map (interval_record 0 us) d.intervals) (sym f.text.right)
-        ∙ pairs-shown j f.text.pairs (subst (λ us. are_distinct us ≡ true) (sym f.text.left)
-        (stage_list-distinct x.doc.text.items ready.text.place.distinct j)) (subst (λ us. are_distinct us ≡ true) (sym f.text.right) f.sound.text.distinct)
+        ∙ pairs-shown j f.text.pairs (subst (λ us. are_distinct_elements us ≡ true) (sym f.text.left)
+        (stage_list-distinct x.doc.text.items ready.text.place.distinct j)) (subst (λ us. are_distinct_elements us ≡ true) (sym f.text.right) f.sound.text.distinct)
         (each-with (Image x.doc.number conn x.doc.text.made j) (λ p. seen 0 p.1 ≡ seen j p.0) (λ p i. i.at_last) f.text.pairs f.text.images) is d.intervals f.intervals
         ∙ ap (λ us. map (interval_record j us) is) f.text.left
         ∙ records-same (text-views x conn ready j) ready.text.place.distinct is f.ends

@@ -15,7 +15,7 @@ use Rattle.ft_props.specs.Slide.{slide}
 use Rattle.ft_op.specs.Operation.{OnGrid, OnText}
 use Rattle.ft_op.specs.Intervals.{Interval, slide_ends}
 use Rattle.ft_op.specs.Document.{Document, effects, rows_or_cols, text_effect, grid_effect, with_skip, with_slid_ends}
-use Rattle.ft_laws.specs.Trimming.{IsConsistent, are_distinct, has_ends_on, is_end_on, is_numbered_below}
+use Rattle.ft_laws.specs.Trimming.{IsConsistent, are_distinct_elements, has_ends_on, is_end_on, is_numbered_below}
 use Rattle.ft_laws.proofs.ConsistentDocument.{effect-consistent}
 use Rattle.ft_laws.proofs.OwnNames.{all-weaker}
 use Rattle.ft_laws.proofs.PairedLists.{Pair, each-with, lefts, rights, settled-map}
@@ -98,9 +98,9 @@ module _ where
   zip-each [] (y ∷ ys) h k = tt
   zip-each (x ∷ xs) [] h k = tt
 
-distinct-apart : (xs : List ListElement) → are_distinct xs ≡ true → Apart id xs
+distinct-apart : (xs : List ListElement) → are_distinct_elements xs ≡ true → Apart id xs
 distinct-apart [] h = tt
-distinct-apart (x ∷ xs) h = let p = both (not (list_any (has_id (id x)) xs)) (are_distinct xs) h in (negated _ p.0, distinct-apart xs p.1)
+distinct-apart (x ∷ xs) h = let p = both (not (list_any (has_id (id x)) xs)) (are_distinct_elements xs) h in (negated _ p.0, distinct-apart xs p.1)
   where
     negated : (b : Bool) → not b ≡ true → b ≡ false
     negated true h = (cc)
@@ -139,7 +139,7 @@ module _ (ps : List Pair) (h : Each (λ p. IsFewer p.0 p.1 × (is_sequenced p.0 
       (each-with (λ p. IsFewer p.0 p.1 × (is_sequenced p.0 ≡ true)) (λ p. is_unremoved p.1 ≡ is_unremoved p.1 && is_unremoved p.0) (λ p k. both-unremoved p k.0) ps h))
 
 -- an end that slid before slides on as it would slide at once
-again-pairs : (ps : List Pair) → Each (λ p. IsFewer p.0 p.1 × (is_sequenced p.0 ≡ true)) ps → are_distinct (lefts ps) ≡ true → (x : ElementId)
+again-pairs : (ps : List Pair) → Each (λ p. IsFewer p.0 p.1 × (is_sequenced p.0 ≡ true)) ps → are_distinct_elements (lefts ps) ≡ true → (x : ElementId)
     → slide (rights ps) (slide (lefts ps) (Some x)) ≡ slide (rights ps) (Some x)
 again-pairs ps h d x =
     ap (slide (rights ps)) (left-slide ps h x)
@@ -159,23 +159,23 @@ again-pairs ps h d x =
     step None u = ap (λ o. option_map id (option_map (λ (p : Pair). p.1) o)) u
     step (Some y) u = right-slide ps h (id y.0) ∙ ap (λ o. option_map id (option_map (λ (p : Pair). p.1) o)) u
 
-slide-again : (xs ys : List ListElement) → Fewer xs ys → list_all is_sequenced xs ≡ true → are_distinct xs ≡ true → (x : Option ElementId) → slide ys (slide xs x) ≡ slide ys x
+slide-again : (xs ys : List ListElement) → Fewer xs ys → list_all is_sequenced xs ≡ true → are_distinct_elements xs ≡ true → (x : Option ElementId) → slide ys (slide xs x) ≡ slide ys x
 slide-again xs ys f s d None = refl
 slide-again xs ys f s d (Some x) =
     let left = zip-left xs ys f in
     let right = zip-right xs ys f in
     subst (λ us. slide ys (slide us (Some x)) ≡ slide ys (Some x)) left
     (subst (λ us. slide us (slide (lefts (zipped xs ys)) (Some x)) ≡ slide us (Some x)) right
-    (again-pairs (zipped xs ys) (zip-each xs ys f s) (subst (λ us. are_distinct us ≡ true) (sym left) d) x))
+    (again-pairs (zipped xs ys) (zip-each xs ys f s) (subst (λ us. are_distinct_elements us ≡ true) (sym left) d) x))
 
-pub slide_ends-again : (xs ys : List ListElement) → Fewer xs ys → list_all is_sequenced xs ≡ true → are_distinct xs ≡ true → (is : List Interval)
+pub slide_ends-again : (xs ys : List ListElement) → Fewer xs ys → list_all is_sequenced xs ≡ true → are_distinct_elements xs ≡ true → (is : List Interval)
     → slide_ends ys (slide_ends xs is) ≡ slide_ends ys is
 slide_ends-again xs ys f s d [] = refl
 slide_ends-again xs ys f s d (i ∷ is) = rw (slide-again xs ys f s d i.start, slide-again xs ys f s d i.end, slide_ends-again xs ys f s d is) refl
 
 -- ---- ends that stand on unremoved elements don't slide
 
-slide-stays : (xs : List ListElement) → list_all is_sequenced xs ≡ true → are_distinct xs ≡ true → (x : Option ElementId) → is_end_on xs x ≡ true → slide xs x ≡ x
+slide-stays : (xs : List ListElement) → list_all is_sequenced xs ≡ true → are_distinct_elements xs ≡ true → (x : Option ElementId) → is_end_on xs x ≡ true → slide xs x ≡ x
 slide-stays xs s d None h = refl
 slide-stays xs s d (Some x) h = ap (option_map id) (same None xs s) ∙ stays is_unremoved x None xs (only-named is_unremoved xs d x h) h
   where
@@ -187,7 +187,7 @@ slide-stays xs s d (Some x) h = ap (option_map id) (same None xs s) ∙ stays is
         (settled_after (λ e. is_sequenced e && has_id x e) is_unremoved (cond (is_unremoved e) (Some e) last) xs)) p.0
         ∙ ap (cond (has_id x e) (option_or (find is_unremoved (e ∷ xs)) last)) (same (cond (is_unremoved e) (Some e) last) xs p.1)
 
-pub slide_ends-stay : (xs : List ListElement) → list_all is_sequenced xs ≡ true → are_distinct xs ≡ true → (is : List Interval) → list_all (has_ends_on xs) is
+pub slide_ends-stay : (xs : List ListElement) → list_all is_sequenced xs ≡ true → are_distinct_elements xs ≡ true → (is : List Interval) → list_all (has_ends_on xs) is
     ≡ true → slide_ends xs is ≡ is
 slide_ends-stay xs s d [] h = refl
 slide_ends-stay xs s d (i ∷ is) h =

@@ -24,7 +24,7 @@ use Rattle.ft_op.specs.Stages.{Stage, intervals_after_stage, shown_intervals}
 use Rattle.ft_msg.specs.Content.{interval_record}
 use Rattle.ft_msg.specs.Reconnection.{carried_stage}
 use Rattle.ft_laws.specs.Reconnecting.{StagesRiseTo, has_insertion_of, has_marks_of, has_removal_of, has_some, inserts_text, is_seen_or_next, is_stage_of, removes_text}
-use Rattle.ft_laws.specs.Trimming.{are_distinct}
+use Rattle.ft_laws.specs.Trimming.{are_distinct_elements}
 use Rattle.ft_laws.proofs.CompactedScans.{is_held_end}
 use Rattle.ft_laws.proofs.HeldNames.{settled-held}
 use Rattle.ft_laws.proofs.OwnNames.{all-weaker, has_named, named-passes, other-named, own-named}
@@ -86,7 +86,7 @@ de_morgan test x (e ∷ xs) h = step (same_id x (id e)) (test e) h (de_morgan te
     step false b h g = g h
 
 -- where names are distinct, all that a name means pass if one does
-pub only-named : (test : ListElement → Bool) (xs : List ListElement) → are_distinct xs ≡ true → (x : ElementId) → has_named test xs x ≡ true
+pub only-named : (test : ListElement → Bool) (xs : List ListElement) → are_distinct_elements xs ≡ true → (x : ElementId) → has_named test xs x ≡ true
     → list_all (λ e. not (has_id x e) || test e) xs ≡ true
 only-named test xs d x h =
     de_morgan test x xs
@@ -127,7 +127,7 @@ stays ok x last (e ∷ xs) h k =
     step true false a h k g = (cc)
     step false b a h k g = g k
 
-pub settle-stays : (k : ℕ) (xs : List ListElement) → are_distinct xs ≡ true → (x : Option ElementId) → is_end_at k xs x ≡ true → settle xs k x ≡ x
+pub settle-stays : (k : ℕ) (xs : List ListElement) → are_distinct_elements xs ≡ true → (x : Option ElementId) → is_end_at k xs x ≡ true → settle xs k x ≡ x
 settle-stays k xs d None h = refl
 settle-stays k xs d (Some x) h = stays (seen k) x None xs (only-named (seen k) xs d x h) h
 
@@ -135,7 +135,7 @@ wider : (a b c : Bool) → (b ≡ true → c ≡ true) → not a || b ≡ true �
 wider false b c f h = refl
 wider true b c f h = f h
 
-module _ {m : ℕ} {xs ys : List ListElement} (v : SameViews m xs ys) (d : are_distinct xs ≡ true) where
+module _ {m : ℕ} {xs ys : List ListElement} (v : SameViews m xs ys) (d : are_distinct_elements xs ≡ true) where
   carried-next : (x : ElementId) (k : ℕ) (e : ListElement) → not (has_id x e) || is_seen_or_next k e ≡ true → not (has_id x (carried_element e))
       || is_seen_or_next k (carried_element e) ≡ true
   carried-next x k e h = rw (carried-id e, carried-seen k e, carried_element-ins e) h
@@ -215,7 +215,7 @@ pub ends-at : (k : ℕ) (xs : List ListElement) (is : List Interval) → list_al
 ends-at k xs [] = refl
 ends-at k xs (i ∷ is) = rw (settle-at k xs i.start, settle-at k xs i.end, ends-at k xs is) refl
 
-pub ends-stay : (k : ℕ) (xs : List ListElement) → are_distinct xs ≡ true → (is : List Interval) → list_all (has_ends_at k xs) is ≡ true → settle_ends xs k is ≡ is
+pub ends-stay : (k : ℕ) (xs : List ListElement) → are_distinct_elements xs ≡ true → (is : List Interval) → list_all (has_ends_at k xs) is ≡ true → settle_ends xs k is ≡ is
 ends-stay k xs d [] h = refl
 ends-stay k xs d (i ∷ is) h =
     let q = both (has_ends_at k xs i) (list_all (has_ends_at k xs) is) h in
@@ -446,7 +446,7 @@ module _ (doc : Document) (t : Stage) (stages : List Stage) (j m : ℕ) (l : j <
   still-seen-grid : inserts_text t.sub_operation ≡ false → removes_text t.sub_operation ≡ false → StillSeen j t.stage doc.text.items
   still-seen-grid a b = still-seen-other inserts_text removes_text t stages j m l rise a b doc.text.items left
 
-module _ (doc : Document) (ys : List ListElement) (m : ℕ) (v : SameViews m doc.text.items ys) (d : are_distinct doc.text.items ≡ true) where
+module _ (doc : Document) (ys : List ListElement) (m : ℕ) (v : SameViews m doc.text.items ys) (d : are_distinct_elements doc.text.items ≡ true) where
   abbrev xs : List ListElement
   xs = doc.text.items
 
@@ -626,7 +626,7 @@ any-has_id test x (e ∷ xs) h = step (same_id x (id e)) h (any-has_id test x xs
     step true h g = refl
     step false h g = g h
 
-end-place : (k : ℕ) (xs : List ListElement) → are_distinct xs ≡ true → (x : ElementId) → has_named (seen k) xs x ≡ true
+end-place : (k : ℕ) (xs : List ListElement) → are_distinct_elements xs ≡ true → (x : ElementId) → has_named (seen k) xs x ≡ true
     → nat_lt (rank (has_id x) (seen k) xs) (len (seen k) xs) ≡ true
 end-place k xs d x h = below (rank (has_id x) (seen k) xs) (len (seen k) xs) (rank-below (has_id x) (seen k) xs (only-named (seen k) xs d x h) (any-has_id (seen k) x xs h))
   where
@@ -634,7 +634,7 @@ end-place k xs d x h = below (rank (has_id x) (seen k) xs) (len (seen k) xs) (ra
     below p q l = grind (arith, nat_tests)
 
 -- both ends of an operation fit where they settled
-pub ends-fit : (k : ℕ) (xs : List ListElement) → are_distinct xs ≡ true → (x y : Option ElementId) → are_ends_in xs x y ≡ true
+pub ends-fit : (k : ℕ) (xs : List ListElement) → are_distinct_elements xs ≡ true → (x y : Option ElementId) → are_ends_in xs x y ≡ true
     → ends_fit (len (seen k) xs) (record { start = end_number k xs (settle xs k x); end = end_number k xs (settle xs k y) }) ≡ true
 ends-fit k xs d None None h = refl
 ends-fit k xs d None (Some y) h = absurd cc

@@ -12,7 +12,7 @@ use Rattle.ft_op.specs.Document.{Document, empty, sequenced_part}
 use Rattle.ft_op.specs.Intervals.{Interval}
 use Rattle.ft_msg.specs.Client.{client_over}
 use Rattle.ft_laws.specs.Starts.{IsSoundStart, has_no_items, is_nothing, is_sequenced_up_to, is_settled}
-use Rattle.ft_laws.specs.Trimming.{IsConsistent, IsNumbered, are_distinct, has_ends_on, is_end_on, is_numbered_below}
+use Rattle.ft_laws.specs.Trimming.{IsConsistent, IsNumbered, are_distinct_elements, has_ends_on, is_end_on, is_numbered_below}
 use Rattle.ft_laws.proofs.AgreedStage.{EndsStand, IsFresh, IsNamed, IsSound}
 use Rattle.ft_laws.proofs.BareLists.{lists-bare}
 use Rattle.ft_laws.proofs.ClientHolds.{ClientHolds}
@@ -64,10 +64,10 @@ not-there a b (x ∷ xs) e h = rw (ap (λ i. has_id i x) (same_id-eq a b e)) (no
     not-first true r n f g = (cc)
     not-first false r n f g = f g
 
-pub distinct-once : (xs : List ListElement) → are_distinct xs ≡ true → Once xs
+pub distinct-once : (xs : List ListElement) → are_distinct_elements xs ≡ true → Once xs
 distinct-once [] h a = omega arith
 distinct-once (e ∷ xs) h a =
-    let p = both (not (list_any (has_id (id e)) xs)) (are_distinct xs) h in
+    let p = both (not (list_any (has_id (id e)) xs)) (are_distinct_elements xs) h in
     step (has_id a e) refl (distinct-once xs p.1 a) p.0
   where
     hidden-any : (b : Bool) → not b ≡ true → b ≡ false

@@ -25,7 +25,7 @@ use Rattle.ft_sumdoc.specs.Stamps.{Bounds, are_removals, is_recent, is_universal
 use Rattle.ft_sumdoc.specs.Valid.{AreRuns, IsCell, IsSegment, IsValidSummary, IsValue, are_stamps, bounds, is_run}
 use Rattle.ft_laws.specs.Sequencing.{is_cell_below, is_name_below}
 use Rattle.ft_laws.specs.Starts.{IsRunFrom, IsSoundStart, is_sequenced_up_to, is_settled}
-use Rattle.ft_laws.specs.Trimming.{IsNumbered, are_distinct, has_ends_on, has_value, is_end_on, is_numbered_below}
+use Rattle.ft_laws.specs.Trimming.{IsNumbered, are_distinct_elements, has_ends_on, has_value, is_end_on, is_numbered_below}
 use Rattle.ft_laws.proofs.AnyAndAll.{all-append}
 use Rattle.ft_laws.proofs.OwnNames.{all-weaker}
 use Rattle.ft_laws.proofs.SoundStarts.{empty-sound}
@@ -100,7 +100,7 @@ none-later k n d (e ∷ xs) l h g =
     let p = both (is_sequenced e && nat_eq e.nth n) (count_from (n + 1) xs) g in
     rw (other-name k n d e l h p.0) (none-later k (n + 1) d xs (omega arith) h p.1)
 
-counted-distinct : (n : ℕ) (xs : List ListElement) → count_from n xs ≡ true → are_distinct xs ≡ true
+counted-distinct : (n : ℕ) (xs : List ListElement) → count_from n xs ≡ true → are_distinct_elements xs ≡ true
 counted-distinct n [] h = refl
 counted-distinct n (e ∷ xs) h =
     let p = both (is_sequenced e && nat_eq e.nth n) (count_from (n + 1) xs) h in

@@ -19,7 +19,7 @@ use Rattle.ft_msg.specs.Client.{NaiveClient, stages_of}
 use Rattle.ft_msg.specs.Content.{content}
 use Rattle.ft_msg.specs.Process.{come_online}
 use Rattle.ft_msg.specs.Reconnection.{regenerated}
-use Rattle.ft_laws.specs.Trimming.{are_distinct, has_ends_on}
+use Rattle.ft_laws.specs.Trimming.{are_distinct_elements, has_ends_on}
 
 -- whether the list has an element
 abbrev pub has_some : {A : Type 0} → List A → Bool
@@ -72,7 +72,7 @@ StandSideBySide k xs =
 pub record IsInPlace (inserts removes : SubOperation → Bool) (stages : List Stage) (list : Sequence) : Type 0 where
   pub marks : list_all (has_marks_of inserts removes stages) list.items ≡ true
   pub side_by_side : (k : ℕ) → is_stage_of inserts stages (suc k) ≡ true → StandSideBySide k list.items
-  pub distinct : are_distinct list.items ≡ true
+  pub distinct : are_distinct_elements list.items ≡ true
 
 -- the stages rise from above j to at most k
 abbrev pub StagesRiseTo : ℕ → List Stage → ℕ → Type 0

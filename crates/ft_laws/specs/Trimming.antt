@@ -13,9 +13,9 @@ use Rattle.ft_msg.specs.Process.{is_op}
 use Rattle.ft_msg.specs.Summary.{trim}
 
 -- whether no two elements have one name
-abbrev pub are_distinct : List ListElement → Bool
-are_distinct [] = true
-are_distinct (e ∷ xs) = not (list_any (has_id (id e)) xs) && are_distinct xs
+abbrev pub are_distinct_elements : List ListElement → Bool
+are_distinct_elements [] = true
+are_distinct_elements (e ∷ xs) = not (list_any (has_id (id e)) xs) && are_distinct_elements xs
 
 -- whether the element is sequenced, with a number below n
 abbrev pub is_numbered_below : ℕ → ListElement → Bool
@@ -24,7 +24,7 @@ is_numbered_below n e = is_sequenced e && nat_lt e.nth n
 -- each element is sequenced and has a number of its own, below that of the next one
 pub record IsNumbered (list : Sequence) : Type 0 where
   pub below : list_all (is_numbered_below list.made) list.items ≡ true
-  pub distinct : are_distinct list.items ≡ true
+  pub distinct : are_distinct_elements list.items ≡ true
 
 -- whether the end is detached or on an unremoved element
 abbrev pub is_end_on : List ListElement → Option ElementId → Bool

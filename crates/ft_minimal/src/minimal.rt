@@ -2,13 +2,14 @@
 
 ghost use Rattle.std.specs.Prelude.{◌≡◌, ℕ, Bool, false};
 
-use ft_base::{OutOfMemory, Text};
+use ft_attrib::Attribution;
+use ft_base::OutOfMemory;
 use ft_msg::{
     Body, Draft, EditFault, Entry, Link, LinkFault, Names, Numbers, ProcessFault, Replica,
     SummaryFault, View, ViewFault,
 };
 use ft_op::ChannelOp;
-use ft_sumdoc::{IntervalRec, SumDoc};
+use ft_sumdoc::SumDoc;
 use std::alloc::Global;
 use std::collections::VecDeque;
 use std::marker::Model;
@@ -168,7 +169,7 @@ impl Replica for Minimal {
         Ok(())
     }
 
-    fn overlapping(&self, _label: &Text, _a: u64, _b: u64) -> Result<Vec<IntervalRec>, ViewFault> {
+    fn attribution(&self) -> Result<Attribution, ViewFault> {
         if let Some(seq) = self.stop {
             return Err(ViewFault::Stopped { seq });
         }

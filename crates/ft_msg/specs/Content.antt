@@ -1,9 +1,10 @@
 -- What a client shows: the view of its last stage, with its pending changes and writes on top of the acknowledged ones.
-use Rattle.std.specs.Prelude.{ℕ, ◌+◌, Bool, true, false, cond, ◌&&◌, nat_eq, List, [], ◌∷◌, ◌++◌, Option, Some, None, map, filter, length, bytes_eq, flat_map}
+use Rattle.std.specs.Prelude.{ℕ, ◌+◌, Bool, true, false, cond, ◌&&◌, nat_eq, List, [], ◌∷◌, ◌++◌, Option, Some, None, map, filter, length, flat_map}
 use Rattle.ft_msg.specs.declared.views.Spot.{Spot}
 use Rattle.ft_msg.specs.declared.views.Run.{Run}
 use Rattle.ft_sumdoc.specs.declared.summary.IntervalRec.{IntervalRec}
 use Rattle.ft_sumdoc.specs.declared.summary.CellRec.{CellRec}
+use Rattle.ft_sumdoc.specs.WellFormed.{same_props}
 use Rattle.ft_op.specs.declared.operations.CellOp.TheVariants.{Set}
 use Rattle.ft_props.specs.Properties.{PropertyList, ValueBytes, shown_props}
 use Rattle.ft_props.specs.Element.{Character, ListElement, ElementId, ElementContent, MarkerOf, id, is_named_by, seen}
@@ -47,12 +48,6 @@ content_markers i _ = []
 abbrev pub markers_from : ℕ → List ListElement → List Spot
 markers_from i [] = []
 markers_from i (e ∷ xs) = content_markers i e.content ++ markers_from (i + 1) xs
-
--- whether two property lists are equal
-abbrev pub same_props : PropertyList → PropertyList → Bool
-same_props [] [] = true
-same_props ((k, v) ∷ ps) ((l, w) ∷ qs) = bytes_eq k l && bytes_eq v w && same_props ps qs
-same_props _ _ = false
 
 -- runs of properties with the element at place i before them: joined to the first run where that begins next to it with
 -- equal properties; an element without properties is in no run

@@ -50,8 +50,8 @@ resubmitted_edits doc conn n (edit ∷ edits) = elim (regenerated_edit doc edit)
 ]
 
 -- the draft of a sent edit
-abbrev pub draft_of : ℕ → PendingEdit → List Draft
-draft_of ref_seq edit = elim edit.sent [ None ↦ [] | Some sent ↦ record { client_seq = sent.client_seq; ref_seq = ref_seq; body = Op sent.op } ∷ [] ]
+abbrev pub sent_draft : ℕ → PendingEdit → List Draft
+sent_draft ref_seq edit = elim edit.sent [ None ↦ [] | Some sent ↦ record { client_seq = sent.client_seq; ref_seq = ref_seq; body = Op sent.op } ∷ [] ]
 
 -- the client when it comes online under the connection
 abbrev pub rebuilt : ℕ → NaiveClient → NaiveClient
@@ -61,6 +61,6 @@ rebuilt conn x =
       doc = rebuilt_document (map (λ t. t.stage) (stages_of x)) x.doc;
       link = Online conn;
       next_client_seq = length edits + 1;
-      queue = flat_map (draft_of x.doc.number) edits;
+      queue = flat_map (sent_draft x.doc.number) edits;
       pending = edits;
     }

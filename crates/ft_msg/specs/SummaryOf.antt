@@ -23,19 +23,19 @@ mark_of (Acked s c) = record { seq = s; conn = c }
 mark_of (Local k) = universal
 
 -- the author of an element, (0, 0) where it isn't known
-abbrev pub author_of : Option Stamp → Mark
-author_of None = universal
-author_of (Some stamp) = mark_of stamp
+abbrev pub author_mark : Option Stamp → Mark
+author_mark None = universal
+author_mark (Some stamp) = mark_of stamp
 
 -- the content of an element as a segment
-abbrev pub body_of : ElementContent → Seg
-body_of (Character c) = Chars (c ∷ [])
-body_of (MarkerOf ref_type) = Marker ref_type
-body_of GridUnit = Chars []
+abbrev pub element_body : ElementContent → Seg
+element_body (Character c) = Chars (c ∷ [])
+element_body (MarkerOf ref_type) = Marker ref_type
+element_body GridUnit = Chars []
 
 -- an element as a segment of its own
 abbrev pub segment_of : ListElement → SegRec
-segment_of e = record { body = body_of e.content; props = e.props; by = author_of e.by; ins = mark_of e.ins; dels = map mark_of e.dels }
+segment_of e = record { body = element_body e.content; props = e.props; by = author_mark e.by; ins = mark_of e.ins; dels = map mark_of e.dels }
 
 -- the characters of both
 abbrev pub joined_bodies : Seg → Seg → Seg
@@ -54,15 +54,15 @@ segments_from i [] = []
 segments_from i (e ∷ xs) = extended_segments ((i + 1) % chunk_length == 0) (segment_of e) (segments_from (i + 1) xs)
 
 -- runs with a unit before them, joined to the first one where their stamps are equal
-abbrev pub extended_runs : Mark → List Mark → List RunRec → List RunRec
-extended_runs ins dels [] = record { count = 1; ins = ins; dels = dels } ∷ []
-extended_runs ins dels (run ∷ runs) =
+abbrev pub extended_unit_runs : Mark → List Mark → List RunRec → List RunRec
+extended_unit_runs ins dels [] = record { count = 1; ins = ins; dels = dels } ∷ []
+extended_unit_runs ins dels (run ∷ runs) =
     cond (same_stamps ins dels run.ins run.dels) (record run { count = run.count + 1 } ∷ runs) (record { count = 1; ins = ins; dels = dels } ∷ run ∷ runs)
 
 -- the runs of units
 abbrev pub unit_runs : List ListElement → List RunRec
 unit_runs [] = []
-unit_runs (e ∷ xs) = extended_runs (mark_of e.ins) (map mark_of e.dels) (unit_runs xs)
+unit_runs (e ∷ xs) = extended_unit_runs (mark_of e.ins) (map mark_of e.dels) (unit_runs xs)
 
 -- the summary of a document of messages alone, with the names of the connections that it knows
 abbrev pub summary_of : List Characters → Document → SumDoc

@@ -267,6 +267,17 @@ impl fmt::Display for ViewFault {
 
 impl Error for ViewFault {}
 
+impl From<OutOfMemory> for ViewFault {
+    ghost use Rattle.std.specs.Prelude.{◌≡◌};
+    ghost use Rattle.ft_msg.specs.declared.faults.ViewFault.TheVariants.{OutOfMemory as WantOfMemory};
+
+    ghost from_gives = { λ _ fault. fault ≡ WantOfMemory };
+
+    fn from(_error: OutOfMemory) -> ViewFault {
+        ViewFault::OutOfMemory
+    }
+}
+
 impl fmt::Display for SummaryFault {
     ghost use Rattle.std.specs.Prelude.{Some};
     ghost use Rattle.ft_msg.specs.FaultTexts.{no_summary_text};

@@ -1,9 +1,10 @@
 //! The numbers of connections.
 
-ghost use Rattle.std.specs.Prelude.{◌≡◌, ◌↔◌, ◌-◌, ◌<◌, ◌^◌, IsOk, IsTrue, IfOk, OnOk, OnErr, [], Contains, length, option_copied};
+ghost use Rattle.std.specs.Prelude.{◌≡◌, ◌↔◌, ◌-◌, ◌<◌, ◌^◌, IsOk, IsTrue, IfOk, OnOk, OnErr, [], Contains, length, option_copied, take};
 ghost use Rattle.ft_msg.specs.NameTable.{AreDistinct, name_at, names_after, number_of};
 
 use ft_base::{OutOfMemory, Text};
+use ft_sumdoc::Texts;
 use indexmap::IndexMap;
 use std::alloc::Global;
 use std::marker::Model;
@@ -68,6 +69,19 @@ impl Names {
             Some((_, name)) => Some(name),
             None => None,
         }
+    }
+
+    /// The first names, so many of them, or all where there are fewer.
+    ///
+    /// Answers `OutOfMemory` where there is no room for them.
+    pub fn first(&self, count: u32) -> Result<Texts, OutOfMemory>
+        ensures { IfOk result (λ names. names ≡ take count self.now) }
+    {
+        let mut names = Texts::new(*self.table.allocator());
+        for name in self.table.values().take(count as usize) {
+            names.push(name.copy()?)?;
+        }
+        Ok(names)
     }
 
     /// An equal table.

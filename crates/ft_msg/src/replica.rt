@@ -1,9 +1,11 @@
 //! What every implementation of a client promises.
 
 use crate::faults::{EditFault, LinkFault, ProcessFault, SummaryFault, ViewFault};
+use crate::meeting::meeting;
 use crate::messages::{Draft, Entry};
 use crate::names::Names;
 use crate::views::{Numbers, View};
+use ft_attrib::Attribution;
 use ft_base::{OutOfMemory, Text};
 use ft_op::ChannelOp;
 use ft_sumdoc::{IntervalRec, SumDoc};
@@ -22,6 +24,7 @@ pub trait Replica: Sized {
     ghost use Rattle.ft_op.specs.Document.{Document, empty};
     ghost use Rattle.ft_op.specs.WellFormed.{IsWellFormed};
     ghost use Rattle.ft_msg.specs.Answers.{Answers, AnswersRead, AnswersSummary, IsFullyCompacted, ReplicaState, RunsFor, StandsForSome, StartsOver, edit_fault_kind, link_fault_kind, numbers_of, process_fault_kind, view_content, view_fault_kind, with_queue};
+    ghost use Rattle.ft_msg.specs.Blame.{blame};
     ghost use Rattle.ft_msg.specs.Client.{NaiveClient, client_over, connect, drop_link, local_edit, noop};
     ghost use Rattle.ft_msg.specs.Content.{content};
     ghost use Rattle.ft_msg.specs.Overlap.{overlap};
@@ -139,11 +142,23 @@ pub trait Replica: Sized {
         ensures answers { Answers view_fault_kind 0 (λ x. Ok x) (state self.old) (state self.new) result }
         ensures full { IsTrue COMPACTS → OnOk result (IsFullyCompacted (state self.new).client) };
 
+    /// Who inserted each visible character of the text and each visible marker, in order.
+    ///
+    /// Answers `Stopped` exactly where the client has stopped, and `OutOfMemory` where there is no room
+    /// for them.
+    fn attribution(&self) -> Result<Attribution, ViewFault>
+        ensures { AnswersRead (λ origins x. origins ≡ blame x) (state self.now) result };
+
     /// The shown intervals of the label that meet the places from `a` to `b`, by rising id.
     ///
     /// Answers `Stopped` exactly where the client has stopped, and `OutOfMemory` where there is no room
     /// for them.
     fn overlapping(&self, label: &Text, a: u64, b: u64) -> Result<Vec<IntervalRec>, ViewFault>
         requires { a ≤ b }
-        ensures { AnswersRead (λ found x. found.items ≡ overlap x label.now a b) (state self.now) result };
+        ensures { AnswersRead (λ found x. found.items ≡ overlap x label.now a b) (state self.now) result }
+    {
+        let view = self.view()?;
+        let alloc = view.intervals.allocator();
+        Ok(meeting(alloc, view.intervals.as_slice(), label, a, b)?)
+    }
 }

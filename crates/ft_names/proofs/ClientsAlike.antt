@@ -21,7 +21,7 @@ use Rattle.ft_msg.specs.Acknowledgement.{ack_stages, acknowledge, renamed, renam
 use Rattle.ft_msg.specs.Agreed.{take_entry, with_numbers}
 use Rattle.ft_msg.specs.Client.{NaiveClient, PendingEdit, SentAs, after_edit, connect, drop_link, local_edit, noop, sent_as, stages_of, with_draft}
 use Rattle.ft_msg.specs.Process.{after_entry, after_foreign_message, come_online, is_body, is_oldest, is_op, is_op_kind, is_own, is_own_join, is_sent_as, numbers_fault, process, process_fault}
-use Rattle.ft_msg.specs.Reconnection.{draft_of, rebuilt_document, resubmitted_edits}
+use Rattle.ft_msg.specs.Reconnection.{sent_draft, rebuilt_document, resubmitted_edits}
 use Rattle.ft_names.specs.WellNamed.{HasItsStages, RiseTo}
 use Rattle.ft_names.proofs.Beside.{beside-append, beside-length, beside-more, ends, next, same-flat}
 use Rattle.ft_names.proofs.DocumentsAlike.{DocsAlike, DocsStep, NamesStay}
@@ -197,7 +197,7 @@ module _ (x : NaiveClient) (d : Document) (es : List PendingEdit) (h : DocsAlike
         doc = rebuilt_document ks (with_numbers entry d);
         link = Online entry.origin;
         next_client_seq = length edits + 1;
-        queue = flat_map (draft_of entry.msg.seq) edits;
+        queue = flat_map (sent_draft entry.msg.seq) edits;
         pending = edits;
       }
 
@@ -212,8 +212,8 @@ module _ (x : NaiveClient) (d : Document) (es : List PendingEdit) (h : DocsAlike
       alike entry r =
           rw (
             sym (beside-length r),
-            sym (same-flat (draft_of entry.msg.seq) (draft_of entry.msg.seq)
-                (λ e f s. ap (λ (o : Option SentAs). draft_of entry.msg.seq (record { stages = []; ref_seq = 0; sent = o })) s.sent) r),
+            sym (same-flat (sent_draft entry.msg.seq) (sent_draft entry.msg.seq)
+                (λ e f s. ap (λ (o : Option SentAs). sent_draft entry.msg.seq (record { stages = []; ref_seq = 0; sent = o })) s.sent) r),
           ) refl
 
 -- ---- its own message

@@ -18,6 +18,7 @@ pub mod NamedStarts
 pub mod NamedSteps
 pub mod KeptNames
 pub mod CountedSteps
+pub mod OneAnswersAll
 pub mod OneForAll
 pub mod MirroredCompaction
 pub mod NamedLists

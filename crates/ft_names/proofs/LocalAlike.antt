@@ -24,7 +24,7 @@ use Rattle.ft_op.specs.Stages.{Stage, shown_intervals}
 use Rattle.ft_msg.specs.Client.{EditResult, id_fault, if_in_range, local_grid, local_interval, local_set, local_sub_operation, local_sub_operations, local_text, unless_fault}
 use Rattle.ft_laws.proofs.AgreedStage.{len-put-add}
 use Rattle.ft_laws.proofs.RangesOfLists.{len-range}
-use Rattle.ft_names.specs.WellNamed.{AreNamedBefore, ArePutIn, HasItsStages, IsNamedBefore, IsWellNumbered, RiseTo, inserts_cols, inserts_rows, inserts_text}
+use Rattle.ft_names.specs.WellNamed.{AreNamedBefore, ArePutIn, HasItsStages, IsNamedBefore, IsWellNumbered, RiseTo, inserts_cols, inserts_rows, puts_text_in}
 use Rattle.ft_names.proofs.Beside.{Beside, Both, beside-append, beside-more, both-at, each, ends, next}
 use Rattle.ft_names.proofs.DocumentsAlike.{DocsAlike, DocsStep, NamesStay, cols-step, later-lists, names-twice, places, rows-step, same-docs, text-step}
 use Rattle.ft_names.proofs.ForeignAlike.{given-names, ranged-lists, self-le}
@@ -216,7 +216,7 @@ module _ (last : ℕ) where
 
     same-stages : (o : SubOperation) (a : NamedElements) → HasItsStages (stages ++ (record { stage = last + 1; sub_operation = o; names = a } ∷ [])) p
     same-stages o a = record {
-      text = put-in-same inserts_text stages (record { stage = last + 1; sub_operation = o; names = a }) p.text.items p.text.items (λ k. refl) put.text;
+      text = put-in-same puts_text_in stages (record { stage = last + 1; sub_operation = o; names = a }) p.text.items p.text.items (λ k. refl) put.text;
       rows = put-in-same inserts_rows stages (record { stage = last + 1; sub_operation = o; names = a }) p.rows.items p.rows.items (λ k. refl) put.rows;
       cols = put-in-same inserts_cols stages (record { stage = last + 1; sub_operation = o; names = a }) p.cols.items p.cols.items (λ k. refl) put.cols;
     }
@@ -228,7 +228,7 @@ module _ (last : ℕ) where
         (took (text-step last (last + 1) (next-le last) p q h _ _ (local-lists i (apply [] props) (segment_contents seg) p.text q.text h.parts.text)
         (inserts i (apply [] props) (segment_contents seg) p.text q.text)) (refl, refl) tt tt
         (record {
-          text = put-in-new inserts_text stages (record { stage = last + 1; sub_operation = OnText (Insert i seg props); names = no_elements })
+          text = put-in-new puts_text_in stages (record { stage = last + 1; sub_operation = OnText (Insert i seg props); names = no_elements })
               (seen (last + 1 - 1)) no_run i (apply [] props) (segment_contents seg) p.text.items refl put.text;
           rows = rest.rows;
           cols = rest.cols;
@@ -239,7 +239,7 @@ module _ (last : ℕ) where
         (took (text-step last (last + 1) (next-le last) p q h _ _ (marked-lists i j (with_pending_removal (last + 1)) removal-keeps p.text q.text h.parts.text)
         (marks i j (with_pending_removal (last + 1)) removal-keeps p.text q.text)) (refl, refl) tt tt
         (record {
-          text = put-in-same inserts_text stages (record { stage = last + 1; sub_operation = OnText (Remove i j); names = no_elements }) p.text.items
+          text = put-in-same puts_text_in stages (record { stage = last + 1; sub_operation = OnText (Remove i j); names = no_elements }) p.text.items
               (change_range (seen (last + 1 - 1)) i j (with_pending_removal (last + 1)) p.text.items)
               (λ k. marked-count i j k (with_pending_removal (last + 1)) removal-keeps p.text.items) put.text;
           rows = rest.rows;
@@ -251,7 +251,7 @@ module _ (last : ℕ) where
         (took (text-step last (last + 1) (next-le last) p q h _ _ (marked-lists i j (with_pending_annotation (last + 1) changes) (annotation-keeps changes)
         p.text q.text h.parts.text) (marks i j (with_pending_annotation (last + 1) changes) (annotation-keeps changes) p.text q.text)) (refl, refl) tt tt
         (record {
-          text = put-in-same inserts_text stages (record { stage = last + 1; sub_operation = OnText (Annotate i j changes); names = no_elements })
+          text = put-in-same puts_text_in stages (record { stage = last + 1; sub_operation = OnText (Annotate i j changes); names = no_elements })
               p.text.items (change_range (seen (last + 1 - 1)) i j (with_pending_annotation (last + 1) changes) p.text.items)
               (λ k. marked-count i j k (with_pending_annotation (last + 1) changes) (annotation-keeps changes) p.text.items) put.text;
           rows = rest.rows;

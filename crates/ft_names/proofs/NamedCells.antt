@@ -10,7 +10,7 @@ use Rattle.ft_props.specs.Element.{ElementId, ListElement, has_id, id, same_id}
 use Rattle.ft_op.specs.Cells.{Cell, cell_value, is_cell}
 use Rattle.ft_msg.specs.Content.{all_cells, cell_record, row_cells}
 use Rattle.ft_laws.proofs.SlidEnds.{Once, once-tail, same_id-eq, same_id-refl, true-false}
-use Rattle.ft_names.specs.Naming.{name_at, named_cell, named_cells}
+use Rattle.ft_names.specs.Naming.{name_at_place, named_cell, named_cells}
 use Rattle.ft_names.proofs.Indexing.{cols-miss, rows-miss}
 
 -- the place of a name
@@ -22,7 +22,7 @@ only-there true n l h = absurd (omega arith)
 only-there false n l h = refl
 
 -- what stands at a place has that place
-pub rank-at : (ys : List ListElement) → Once ys → (k : ℕ) (b : ElementId) → name_at ys k ≡ Some b → (rank (has_id b) (λ _. true) ys ≡ k) × (1 ≤ len (has_id b) ys)
+pub rank-at : (ys : List ListElement) → Once ys → (k : ℕ) (b : ElementId) → name_at_place ys k ≡ Some b → (rank (has_id b) (λ _. true) ys ≡ k) × (1 ≤ len (has_id b) ys)
 rank-at [] o k b e = (cc)
 rank-at (y ∷ ys) o zero b e =
     let same : id y ≡ b = (cc) in
@@ -37,12 +37,12 @@ rank-at (y ∷ ys) o (suc k) b e =
     (ap (λ c. cond c 0 (suc (rank (has_id b) (λ _. true) ys))) away ∙ ap suc r.0, subst (λ c. 1 ≤ one_more_if c (len (has_id b) ys)) (sym away) r.1)
 
 -- and a name that stands is at its place
-at-rank : (ys : List ListElement) (a : ElementId) → 1 ≤ len (has_id a) ys → name_at ys (rank (has_id a) (λ _. true) ys) ≡ Some a
+at-rank : (ys : List ListElement) (a : ElementId) → 1 ≤ len (has_id a) ys → name_at_place ys (rank (has_id a) (λ _. true) ys) ≡ Some a
 at-rank [] a l = absurd (omega arith)
 at-rank (y ∷ ys) a l = step (has_id a y) refl l (λ g. at-rank ys a g)
   where
-    step : (b : Bool) → has_id a y ≡ b → 1 ≤ one_more_if b (len (has_id a) ys) → (1 ≤ len (has_id a) ys → name_at ys (rank (has_id a) (λ _. true) ys) ≡ Some a)
-        → name_at (y ∷ ys) (cond b 0 (suc (rank (has_id a) (λ _. true) ys))) ≡ Some a
+    step : (b : Bool) → has_id a y ≡ b → 1 ≤ one_more_if b (len (has_id a) ys) → (1 ≤ len (has_id a) ys → name_at_place ys (rank (has_id a) (λ _. true) ys) ≡ Some a)
+        → name_at_place (y ∷ ys) (cond b 0 (suc (rank (has_id a) (λ _. true) ys))) ≡ Some a
     step true e g ih = ap Some (sym (same_id-eq a (id y) e))
     step false e g ih = ih g
 
@@ -50,7 +50,7 @@ same-number : (n : ℕ) → nat_eq n n ≡ true
 same-number n = grind (arith, nat_tests)
 
 module _ (ys : List ListElement) (once : Once ys) (a : ElementId) (there : 1 ≤ len (has_id a) ys) where
-  match-some : (k : ℕ) (b : ElementId) → name_at ys k ≡ Some b → same_id a b ≡ nat_eq k (rank (has_id a) (λ _. true) ys)
+  match-some : (k : ℕ) (b : ElementId) → name_at_place ys k ≡ Some b → same_id a b ≡ nat_eq k (rank (has_id a) (λ _. true) ys)
   match-some k b e = step (same_id a b) refl (nat_eq k (rank (has_id a) (λ _. true) ys)) refl
     where
       step : (c : Bool) → same_id a b ≡ c → (d : Bool) → nat_eq k (rank (has_id a) (λ _. true) ys) ≡ d → c ≡ d
@@ -61,18 +61,18 @@ module _ (ys : List ListElement) (once : Once ys) (a : ElementId) (there : 1 ≤
           absurd (true-false (sym (same-number k) ∙ ap (nat_eq k) (sym place) ∙ g))
       step false f true g =
           let place : k ≡ rank (has_id a) (λ _. true) ys = grind (arith, nat_tests) in
-          let both : Some b ≡ Some a = sym e ∙ ap (name_at ys) place ∙ at-rank ys a there in
+          let both : Some b ≡ Some a = sym e ∙ ap (name_at_place ys) place ∙ at-rank ys a there in
           let same : b ≡ a = (cc) in
           absurd (true-false (sym (same_id-refl a) ∙ ap (same_id a) (sym same) ∙ f))
 
-  match-none : (k : ℕ) → name_at ys k ≡ None → nat_eq k (rank (has_id a) (λ _. true) ys) ≡ false
+  match-none : (k : ℕ) → name_at_place ys k ≡ None → nat_eq k (rank (has_id a) (λ _. true) ys) ≡ false
   match-none k e = step (nat_eq k (rank (has_id a) (λ _. true) ys)) refl
     where
       step : (d : Bool) → nat_eq k (rank (has_id a) (λ _. true) ys) ≡ d → d ≡ false
       step false g = refl
       step true g =
           let place : k ≡ rank (has_id a) (λ _. true) ys = grind (arith, nat_tests) in
-          let both : None ≡ Some a = sym e ∙ ap (name_at ys) place ∙ at-rank ys a there in
+          let both : None ≡ Some a = sym e ∙ ap (name_at_place ys) place ∙ at-rank ys a there in
           (cc)
 
 -- the value that the records tell of two places
@@ -88,7 +88,7 @@ never false = refl
 pub value-named : (ys vs : List ListElement) → Once ys → Once vs → (a c : ElementId) → 1 ≤ len (has_id a) ys → 1 ≤ len (has_id c) vs → (cs : List CellRec)
     → cell_value a c (named_cells ys vs cs) ≡ lookup (rank (has_id a) (λ _. true) ys) (rank (has_id c) (λ _. true) vs) cs
 value-named ys vs o w a c l m [] = refl
-value-named ys vs o w a c l m (r ∷ cs) = step (name_at ys r.row) refl (name_at vs r.col) refl (value-named ys vs o w a c l m cs)
+value-named ys vs o w a c l m (r ∷ cs) = step (name_at_place ys r.row) refl (name_at_place vs r.col) refl (value-named ys vs o w a c l m cs)
   where
     i : ℕ
     i = rank (has_id a) (λ _. true) ys
@@ -101,7 +101,7 @@ value-named ys vs o w a c l m (r ∷ cs) = step (name_at ys r.row) refl (name_at
     chosen true cell rest ih = refl
     chosen false cell rest ih = ih
 
-    step : (p : Option ElementId) → name_at ys r.row ≡ p → (q : Option ElementId) → name_at vs r.col ≡ q → cell_value a c (named_cells ys vs cs) ≡ lookup i j cs
+    step : (p : Option ElementId) → name_at_place ys r.row ≡ p → (q : Option ElementId) → name_at_place vs r.col ≡ q → cell_value a c (named_cells ys vs cs) ≡ lookup i j cs
         → cell_value a c (named_cell p q r.value ++ named_cells ys vs cs) ≡ cond (nat_eq r.row i && nat_eq r.col j) (Some r.value) (lookup i j cs)
     step None e q f ih = ih ∙ sym (ap (λ b. cond (b && nat_eq r.col j) (Some r.value) (lookup i j cs)) (match-none ys o a l r.row e))
     step (Some b) e None f ih = ih ∙ sym (ap (λ x. cond x (Some r.value) (lookup i j cs)) (ap (λ x. nat_eq r.row i && x) (match-none vs w c m r.col f) ∙ never (nat_eq r.row i)))

@@ -19,8 +19,8 @@ use Rattle.ft_msg.specs.Content.{all_cells}
 use Rattle.ft_msg.specs.Indexed.{indexed, indexed_client, indexed_edit, indexed_interval, indexed_stage, place_in_list, places_of}
 use Rattle.ft_laws.proofs.SlidEnds.{Once, same_id-eq}
 use Rattle.ft_names.proofs.OwnAlike.{put-in-twins}
-use Rattle.ft_names.specs.Naming.{end_at, name_at, named, named_cell, named_cells, named_document, named_edit, named_interval, named_stage, names_at}
-use Rattle.ft_names.specs.WellNamed.{AreNamedBefore, AreSettledIn, AreStagesNamed, AreThere, IsNamedBefore, IsSettledIn, IsWellNamed, StandsIn, IsAhead, ArePutIn, RiseTo, inserts_text, inserts_rows, inserts_cols}
+use Rattle.ft_names.specs.Naming.{end_at, name_at_place, named, named_cell, named_cells, named_document, named_edit, named_interval, named_stage, names_at}
+use Rattle.ft_names.specs.WellNamed.{AreNamedBefore, AreSettledIn, AreStagesNamed, AreThere, IsNamedBefore, IsSettledIn, IsWellNamed, StandsIn, IsAhead, ArePutIn, RiseTo, puts_text_in, inserts_rows, inserts_cols}
 use Rattle.ft_names.proofs.Beside.{beside-more, beside-rank, ends, next, beside-any}
 use Rattle.ft_names.proofs.DocumentsAlike.{DocsAlike, places}
 use Rattle.ft_names.proofs.IntervalsAlike.{IntervalsBeside, SettledAlike, away, on_sequenced}
@@ -135,9 +135,9 @@ pending-twin k n x y t e = of x.ins (e ∙ ap id t)
 -- no named cell has a name that doesn't stand
 absent-row : (ys vs : List ListElement) → Once ys → (a c : ElementId) → len (has_id a) ys ≡ 0 → (cs : List CellRec) → cell_value a c (named_cells ys vs cs) ≡ None
 absent-row ys vs o a c z [] = refl
-absent-row ys vs o a c z (r ∷ cs) = step (name_at ys r.row) refl (name_at vs r.col) (absent-row ys vs o a c z cs)
+absent-row ys vs o a c z (r ∷ cs) = step (name_at_place ys r.row) refl (name_at_place vs r.col) (absent-row ys vs o a c z cs)
   where
-    apart : (b : ElementId) → name_at ys r.row ≡ Some b → (d : Bool) → same_id a b ≡ d → same_id a b ≡ false
+    apart : (b : ElementId) → name_at_place ys r.row ≡ Some b → (d : Bool) → same_id a b ≡ d → same_id a b ≡ false
     apart b e false f = f
     apart b e true f =
         let there = (rank-at ys o r.row b e).1 in
@@ -145,7 +145,7 @@ absent-row ys vs o a c z (r ∷ cs) = step (name_at ys r.row) refl (name_at vs r
         let none : len (has_id b) ys ≡ 0 = subst (λ i. len (has_id i) ys ≡ 0) same z in
         absurd (omega arith)
 
-    step : (p : Option ElementId) → name_at ys r.row ≡ p → (q : Option ElementId) → cell_value a c (named_cells ys vs cs) ≡ None
+    step : (p : Option ElementId) → name_at_place ys r.row ≡ p → (q : Option ElementId) → cell_value a c (named_cells ys vs cs) ≡ None
         → cell_value a c (named_cell p q r.value ++ named_cells ys vs cs) ≡ None
     step None e q ih = ih
     step (Some b) e None ih = ih
@@ -154,9 +154,9 @@ absent-row ys vs o a c z (r ∷ cs) = step (name_at ys r.row) refl (name_at vs r
 
 absent-col : (ys vs : List ListElement) → Once vs → (a c : ElementId) → len (has_id c) vs ≡ 0 → (cs : List CellRec) → cell_value a c (named_cells ys vs cs) ≡ None
 absent-col ys vs o a c z [] = refl
-absent-col ys vs o a c z (r ∷ cs) = step (name_at ys r.row) (name_at vs r.col) refl (absent-col ys vs o a c z cs)
+absent-col ys vs o a c z (r ∷ cs) = step (name_at_place ys r.row) (name_at_place vs r.col) refl (absent-col ys vs o a c z cs)
   where
-    apart : (d : ElementId) → name_at vs r.col ≡ Some d → (i : Bool) → same_id c d ≡ i → same_id c d ≡ false
+    apart : (d : ElementId) → name_at_place vs r.col ≡ Some d → (i : Bool) → same_id c d ≡ i → same_id c d ≡ false
     apart d e false f = f
     apart d e true f =
         let there = (rank-at vs o r.col d e).1 in
@@ -168,7 +168,7 @@ absent-col ys vs o a c z (r ∷ cs) = step (name_at ys r.row) (name_at vs r.col)
     never true = refl
     never false = refl
 
-    step : (p : Option ElementId) (q : Option ElementId) → name_at vs r.col ≡ q → cell_value a c (named_cells ys vs cs) ≡ None
+    step : (p : Option ElementId) (q : Option ElementId) → name_at_place vs r.col ≡ q → cell_value a c (named_cells ys vs cs) ≡ None
         → cell_value a c (named_cell p q r.value ++ named_cells ys vs cs) ≡ None
     step None q e ih = ih
     step (Some b) None e ih = ih
@@ -338,7 +338,7 @@ other-well-named x y h =
       cells = h.doc.parts.right;
       stages = stages-right x.doc y.doc s;
       own = record {
-        text = put-in-right inserts_text x.doc y.doc s h.doc.parts.text.twins h.own.text;
+        text = put-in-right puts_text_in x.doc y.doc s h.doc.parts.text.twins h.own.text;
         rows = put-in-right inserts_rows x.doc y.doc s h.doc.parts.rows.twins h.own.rows;
         cols = put-in-right inserts_cols x.doc y.doc s h.doc.parts.cols.twins h.own.cols;
       };

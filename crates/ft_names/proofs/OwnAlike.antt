@@ -14,7 +14,7 @@ use Rattle.ft_op.specs.Cells.{cell_value}
 use Rattle.ft_op.specs.Document.{Document, with_slid_ends}
 use Rattle.ft_op.specs.Stages.{Stage, intervals_after_stage}
 use Rattle.ft_msg.specs.Acknowledgement.{ack_stage, ack_stages, cells_after_stage, made_before, renamed, renamed_names, renamed_stage, write_named_cell}
-use Rattle.ft_names.specs.WellNamed.{AreNamedBefore, ArePutIn, HasItsStages, HasNoCellsAhead, IsNamedBefore, IsSequencedName, IsWellNumbered, RiseTo, inserts_cols, inserts_rows, inserts_text}
+use Rattle.ft_names.specs.WellNamed.{AreNamedBefore, ArePutIn, HasItsStages, HasNoCellsAhead, IsNamedBefore, IsSequencedName, IsWellNumbered, RiseTo, inserts_cols, inserts_rows, puts_text_in}
 use Rattle.ft_names.proofs.AckedLists.{acked-alike, acked-carries, acked-stands, stage-count, unstaged}
 use Rattle.ft_names.proofs.Beside.{beside-map, next}
 use Rattle.ft_names.proofs.DocumentsAlike.{DocsAlike, RowsAlike, cells-written, less-ahead, parts-intervals, slid-docs}
@@ -83,11 +83,11 @@ module _ (last s c low : ℕ) (t : Stage) (others : NamedElements) (ts : List St
       let none = not-own inserts low last t ts list.items e rise put in
       unstaged last t.stage list.made list a w none l ∙ sym (unstaged last t.stage n list a w none l)
 
-  text-name : (doc : Document) → IsWellNumbered last doc.text → ArePutIn inserts_text (t ∷ ts) doc.text.items → (o : SubOperation) → t.sub_operation ≡ o
+  text-name : (doc : Document) → IsWellNumbered last doc.text → ArePutIn puts_text_in (t ∷ ts) doc.text.items → (o : SubOperation) → t.sub_operation ≡ o
       → (a : ElementId) → 1 ≤ len (has_id a) doc.text.items → acked_id t.stage doc.text.made a ≡ acked_id t.stage (made_before doc o) a
   text-name doc w put (OnText op) e a l = refl
-  text-name doc w put (OnIntervals op) e a l = list-name inserts_text doc.text _ a w put (ap inserts_text e) l
-  text-name doc w put (OnGrid op) e a l = list-name inserts_text doc.text _ a w put (ap inserts_text e) l
+  text-name doc w put (OnIntervals op) e a l = list-name puts_text_in doc.text _ a w put (ap puts_text_in e) l
+  text-name doc w put (OnGrid op) e a l = list-name puts_text_in doc.text _ a w put (ap puts_text_in e) l
 
   rows-name : (doc : Document) → IsWellNumbered last doc.rows → ArePutIn inserts_rows (t ∷ ts) doc.rows.items → (o : SubOperation) → t.sub_operation ≡ o
       → (a : ElementId) → 1 ≤ len (has_id a) doc.rows.items → acked_id t.stage doc.rows.made a ≡ acked_id t.stage (made_before doc o) a
@@ -109,7 +109,7 @@ module _ (last s c low : ℕ) (t : Stage) (others : NamedElements) (ts : List St
 
   other-put : HasItsStages (t ∷ ts) q
   other-put = record {
-    text = put-in-twins inserts_text (t ∷ ts) h.parts.text.twins own.text;
+    text = put-in-twins puts_text_in (t ∷ ts) h.parts.text.twins own.text;
     rows = put-in-twins inserts_rows (t ∷ ts) h.parts.rows.twins
         own.rows;
     cols = put-in-twins inserts_cols (t ∷ ts) h.parts.cols.twins own.cols;
@@ -219,8 +219,8 @@ module _ (last s c low : ℕ) (t : Stage) (others : NamedElements) (ts : List St
       end : {o i : Option ElementId} → EndsAlike p.text.items q.text.items o i → EndsAlike (lists p).text.items (lists q).text.items o i
       end detached = detached
       end (on {a = a} {b = b} g) =
-          let none = not-own inserts_text low last t ts p.text.items (ap inserts_text e) rise own.text in
-          let none' = not-own inserts_text low last t ts q.text.items (ap inserts_text e) rise other-put.text in
+          let none = not-own puts_text_in low last t ts p.text.items (ap puts_text_in e) rise own.text in
+          let none' = not-own puts_text_in low last t ts q.text.items (ap puts_text_in e) rise other-put.text in
           on (subst (λ i. StandAlike (lists p).text.items (lists q).text.items i b) (unstaged last t.stage p.text.made p.text a h.parts.text.left none g.there)
           (subst (λ i. StandAlike (lists p).text.items (lists q).text.items (acked_id t.stage p.text.made a) i)
           (unstaged last t.stage q.text.made q.text b h.parts.text.right none' (there-other g)) (text-stands a b g)))
@@ -315,14 +315,14 @@ any-renamed inserts k f (t ∷ ts) = ap (λ b. nat_eq k t.stage && inserts t.sub
 
 pub put-in-renamed : (f : ElementId → ElementId) (ts : List Stage) (doc : Document) → HasItsStages ts doc → HasItsStages (map (renamed_stage f) ts) doc
 put-in-renamed f ts doc h = record {
-  text = λ k g. h.text k (sym (any-renamed inserts_text k f ts) ∙ g);
+  text = λ k g. h.text k (sym (any-renamed puts_text_in k f ts) ∙ g);
   rows = λ k g. h.rows k (sym (any-renamed inserts_rows k f ts) ∙ g);
   cols = λ k g. h.cols k (sym (any-renamed inserts_cols k f ts) ∙ g);
 }
 
 put-in-back : (f : ElementId → ElementId) (ts : List Stage) (doc : Document) → HasItsStages (map (renamed_stage f) ts) doc → HasItsStages ts doc
 put-in-back f ts doc h = record {
-  text = λ k g. h.text k (any-renamed inserts_text k f ts ∙ g);
+  text = λ k g. h.text k (any-renamed puts_text_in k f ts ∙ g);
   rows = λ k g. h.rows k (any-renamed inserts_rows k f ts ∙ g);
   cols = λ k g. h.cols k (any-renamed inserts_cols k f ts ∙ g);
 }
@@ -366,7 +366,7 @@ edit-alike last s c low rest behind f g (t ∷ ts) (u ∷ us) p q l h (next r rs
     (stages-renamed last t.stage (made_before p t.sub_operation) (made_before q t.sub_operation) p q (ack_stage s c f t p)
     (ack_stage s c g (record t { names = u.names }) q) st rs)))
     (record {
-      text = put-in-after inserts_text last s c t (ts ++ rest) p.text h.parts.text.left own.text;
+      text = put-in-after puts_text_in last s c t (ts ++ rest) p.text h.parts.text.left own.text;
       rows = put-in-after inserts_rows last s c t (ts ++ rest) p.rows h.parts.rows.left own.rows;
       cols = put-in-after inserts_cols last s c t (ts ++ rest) p.cols h.parts.cols.left own.cols;
     })

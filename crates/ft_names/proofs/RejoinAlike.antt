@@ -18,7 +18,7 @@ use Rattle.ft_op.specs.Pieces.{ends_in, interval_piece, is_named_and_seen, op_of
 use Rattle.ft_op.specs.Stages.{Stage}
 use Rattle.ft_msg.specs.Client.{PendingEdit}
 use Rattle.ft_msg.specs.Reconnection.{carried_stage, rebuilt_document, regenerated_edit, resubmitted_edit, resubmitted_edits}
-use Rattle.ft_names.specs.WellNamed.{AreNamedBefore, ArePutIn, HasItsStages, RiseTo, inserts_cols, inserts_rows, inserts_text}
+use Rattle.ft_names.specs.WellNamed.{AreNamedBefore, ArePutIn, HasItsStages, RiseTo, inserts_cols, inserts_rows, puts_text_in}
 use Rattle.ft_names.proofs.Beside.{Beside, beside-any, beside-flat, beside-rank, ends, next, same-flat, same-map}
 use Rattle.ft_names.proofs.DocumentsAlike.{DocsAlike, DocsStep, NamesStay, cols-step, places, rows-step, text-step}
 use Rattle.ft_names.proofs.ForeignAlike.{self-le}
@@ -154,14 +154,14 @@ pub record HavePieces (inserts : SubOperation → Bool) : Type 0 where
   pub piece : (p : Document) (k : ℕ) (o : SubOperation) (a : NamedElements) → pieces p (record { stage = k; sub_operation = o; names = a }) ≡ [] → inserts o ≡ false
   pub others : (op : TextOp) → inserts (OnIntervals op) ≡ false
 
-text-pieces : HavePieces inserts_text
+text-pieces : HavePieces puts_text_in
 text-pieces = record { piece = piece; others = λ op. refl }
   where
     inserted : (cs : List ElementContent) (o : SubOperation) → unless_empty cs o ≡ [] → not (nat_eq (length cs) 0) ≡ false
     inserted [] o g = refl
     inserted (c ∷ cs) o g = (cc)
 
-    piece : (p : Document) (k : ℕ) (o : SubOperation) (a : NamedElements) → pieces p (record { stage = k; sub_operation = o; names = a }) ≡ [] → inserts_text o ≡ false
+    piece : (p : Document) (k : ℕ) (o : SubOperation) (a : NamedElements) → pieces p (record { stage = k; sub_operation = o; names = a }) ≡ [] → puts_text_in o ≡ false
     piece p k (OnText (Insert i seg props)) a g = inserted (segment_contents seg) _ g
     piece p k (OnText (Remove i j)) a g = refl
     piece p k (OnText (Annotate i j changes)) a g = refl
@@ -349,7 +349,7 @@ module _ (last : ℕ) (ts : List Stage) (rise : RiseTo 0 last ts) (p q : Documen
       let ks = map (λ (t : Stage). t.stage) ts in
       let r = rises-to 0 last ts rise in
       let text = text-step last last (self-le last) p q h _ _ (rebuilt-alike last ks r p.text q.text h.parts.text
-      (staged-among inserts_text ts p.text.items own.text)) (rebuilt-step last ks r p.text q.text h.parts.text (staged-among inserts_text ts p.text.items own.text)) in
+      (staged-among puts_text_in ts p.text.items own.text)) (rebuilt-step last ks r p.text q.text h.parts.text (staged-among puts_text_in ts p.text.items own.text)) in
       let p1 = record p { text = rebuilt_list ks p.text } in
       let q1 = record q { text = rebuilt_list ks q.text } in
       let rows = rows-step last last (self-le last) p1 q1 text.alike _ _ (rebuilt-alike last ks r p.rows q.rows h.parts.rows
@@ -372,8 +372,8 @@ resubmitted-own last conn n es p q h rise own =
     let ks = map (λ (t : Stage). t.stage) ts in
     let r = rises-to 0 last ts rise in
     record {
-      text = λ k g. stages-rebuilt last ks r p.text h.parts.text.left (staged-among inserts_text ts p.text.items own.text) k
-          ∙ own.text k (sym (resubmitted-here inserts_text text-pieces k p conn n es) ∙ g);
+      text = λ k g. stages-rebuilt last ks r p.text h.parts.text.left (staged-among puts_text_in ts p.text.items own.text) k
+          ∙ own.text k (sym (resubmitted-here puts_text_in text-pieces k p conn n es) ∙ g);
       rows = λ k g. stages-rebuilt last ks r p.rows h.parts.rows.left (staged-among inserts_rows ts p.rows.items own.rows) k
           ∙ own.rows k (sym (resubmitted-here inserts_rows rows-pieces k p conn n es) ∙ g);
       cols = λ k g. stages-rebuilt last ks r p.cols h.parts.cols.left (staged-among inserts_cols ts p.cols.items own.cols) k

@@ -21,7 +21,7 @@ use Rattle.ft_msg.specs.Compacted.{IsCompacted, KeepsDocument}
 use Rattle.ft_msg.specs.Content.{interval_record, stage_view}
 use Rattle.ft_msg.specs.Indexed.{IndexedDocument, indexed, indexed_interval}
 use Rattle.ft_msg.specs.Summary.{trim}
-use Rattle.ft_msg.specs.SummaryOf.{extended_runs, extended_segments, mark_of, segment_of, segments_from, summary_of, unit_runs}
+use Rattle.ft_msg.specs.SummaryOf.{extended_unit_runs, extended_segments, mark_of, segment_of, segments_from, summary_of, unit_runs}
 use Rattle.ft_laws.proofs.CompactedScans.{id-universal}
 use Rattle.ft_laws.proofs.OwnNames.{other-named}
 use Rattle.ft_laws.proofs.TrimmedDocument.{is_removed}
@@ -85,9 +85,9 @@ segments-alike i (next {x = x} {y = y} {xs = xs} t ts) =
 units-alike : {xs ys : List ListElement} → BesideList IsTwin xs ys → unit_runs xs ≡ unit_runs ys
 units-alike ends = refl
 units-alike (next {x = x} {y = y} {xs = xs} t ts) =
-    ap (λ ins. extended_runs ins (map mark_of x.dels) (unit_runs xs)) (same-of (λ (e : ListElement). mark_of e.ins) (λ e n. refl) x y t)
-    ∙ ap (λ dels. extended_runs (mark_of y.ins) dels (unit_runs xs)) (same-of (λ (e : ListElement). map mark_of e.dels) (λ e n. refl) x y t)
-    ∙ ap (extended_runs (mark_of y.ins) (map mark_of y.dels)) (units-alike ts)
+    ap (λ ins. extended_unit_runs ins (map mark_of x.dels) (unit_runs xs)) (same-of (λ (e : ListElement). mark_of e.ins) (λ e n. refl) x y t)
+    ∙ ap (λ dels. extended_unit_runs (mark_of y.ins) dels (unit_runs xs)) (same-of (λ (e : ListElement). map mark_of e.dels) (λ e n. refl) x y t)
+    ∙ ap (extended_unit_runs (mark_of y.ins) (map mark_of y.dels)) (units-alike ts)
 
 -- ---- documents of which the summaries are equal
 

@@ -57,13 +57,13 @@ ListsCanBeNamed = (last : ℕ) (list : Sequence) → IsWellNumbered last list �
 -- ---- clients
 
 -- the name of the element at a place
-abbrev pub name_at : List ListElement → ℕ → Option ElementId
-name_at xs i = option_map id (at (λ _. true) i xs)
+abbrev pub name_at_place : List ListElement → ℕ → Option ElementId
+name_at_place xs i = option_map id (at (λ _. true) i xs)
 
 -- the end at a place, if it isn't detached
 abbrev pub end_at : List ListElement → Option ℕ → Option ElementId
 end_at xs None = None
-end_at xs (Some i) = name_at xs i
+end_at xs (Some i) = name_at_place xs i
 
 -- an interval with names
 abbrev pub named_interval : List ListElement → IndexedInterval → Interval
@@ -77,7 +77,7 @@ named_cell _ _ value = []
 -- the cells on the units at their places
 abbrev pub named_cells : List ListElement → List ListElement → List CellRec → List Cell
 named_cells rows cols [] = []
-named_cells rows cols (c ∷ cs) = named_cell (name_at rows c.row) (name_at cols c.col) c.value ++ named_cells rows cols cs
+named_cells rows cols (c ∷ cs) = named_cell (name_at_place rows c.row) (name_at_place cols c.col) c.value ++ named_cells rows cols cs
 
 -- a document with names
 abbrev pub named_document : IndexedDocument → Document

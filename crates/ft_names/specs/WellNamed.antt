@@ -51,9 +51,9 @@ IsSequencedName (PendingId k n) = ⊥
 -- ---- pending stages
 
 -- whether a sub-operation puts elements into the text
-abbrev pub inserts_text : SubOperation → Bool
-inserts_text (OnText (Insert p seg props)) = not (nat_eq (length (segment_contents seg)) 0)
-inserts_text _ = false
+abbrev pub puts_text_in : SubOperation → Bool
+puts_text_in (OnText (Insert p seg props)) = not (nat_eq (length (segment_contents seg)) 0)
+puts_text_in _ = false
 
 -- whether it puts rows in
 abbrev pub inserts_rows : SubOperation → Bool
@@ -71,7 +71,7 @@ ArePutIn inserts stages xs = (k : ℕ) → list_any (λ t. nat_eq k t.stage && i
 
 -- so have all three lists
 pub record HasItsStages (stages : List Stage) (doc : Document) : Type 0 where
-  pub text : ArePutIn inserts_text stages doc.text.items
+  pub text : ArePutIn puts_text_in stages doc.text.items
   pub rows : ArePutIn inserts_rows stages doc.rows.items
   pub cols : ArePutIn inserts_cols stages doc.cols.items
 

@@ -1,17 +1,2 @@
-pub mod BackwardRuns
-pub mod CountedOthers
-pub mod IntervalTaken
-pub mod KeptNumbers
-pub mod PlacedCell
-pub mod PlacedList
-pub mod PlacedRuns
-pub mod PushedCharacter
 pub mod RefusedEdits
-pub mod RenamedNames
-pub mod RisingPlace
-pub mod SettledName
-pub mod ShownCells
-pub mod ShownStages
-pub mod Tested
-pub mod WrittenStages
 pub mod WrittenValues

@@ -1,19 +1,12 @@
 -- What a client answers that can want memory.
 use Rattle.std.specs.Prelude.{◌≡◌, length, Result, Ok, Err}
-use Rattle.ft_op.specs.Document.{Document}
+use Rattle.ft_document.specs.KeptNumbers.{KeepsNumbers}
 use Rattle.ft_msg.specs.declared.faults.EditFault.{EditFault}
 use Rattle.ft_msg.specs.declared.faults.LinkFault.{LinkFault}
 use Rattle.ft_msg.specs.declared.faults.LinkFault.TheVariants as link
 use Rattle.ft_msg.specs.Client.{NaiveClient}
-use Rattle.ft_plain.specs.declared.documents.own_edits.NotTaken.{NotTaken}
-use Rattle.ft_plain.specs.declared.documents.own_edits.NotTaken.TheVariants.{OutOfMemory, Refused}
-
--- the numbers of the second document are those of the first
-pub record KeepsNumbers (old new : Document) : Type 0 where
-  pub number : new.number ≡ old.number
-  pub minimum : new.minimum ≡ old.minimum
-  pub skipped : new.skipped ≡ old.skipped
-  pub other : new.other ≡ old.other
+use Rattle.ft_document.specs.declared.documents.own_edits.NotTaken.{NotTaken}
+use Rattle.ft_document.specs.declared.documents.own_edits.NotTaken.TheVariants.{OutOfMemory, Refused}
 
 -- after want of memory: the numbers, the link, the connections and the queue are as they were, and as many edits are pending
 pub record KeepsLinkAndQueue (old new : NaiveClient) : Type 0 where

@@ -1,15 +1,3 @@
 pub mod ClientAnswers
-pub mod Contents
-pub mod LastNumbers
-pub mod NamedBack
-pub mod Names
-pub mod Observer
-pub mod OwnEdits
-pub mod PlacedRuns
-pub mod PropertyRuns
-pub mod Renamed
-pub mod Rising
 pub mod Stopping
-pub mod SubOperations
 pub mod Unsent
-pub mod WrittenCells

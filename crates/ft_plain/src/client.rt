@@ -1,6 +1,6 @@
 //! A client over plain lists: what its own edits, the messages of all, and its link make of it.
 
-ghost use Rattle.std.specs.Prelude.{◌≡◌};
+ghost use Rattle.std.specs.Prelude.{◌≡◌, ◌<◌, ◌^◌};
 ghost use Rattle.ft_op.specs.Document.{empty};
 ghost use Rattle.ft_msg.specs.Client.{client_over};
 
@@ -9,15 +9,13 @@ mod links;
 pub mod outbox;
 mod processing;
 mod reconnections;
-pub mod renamings;
 mod resent;
-pub mod stages;
 pub mod stopping;
 mod views;
 
 use crate::client::outbox::Outbox;
-use crate::client::stages::PlainEdit;
-use crate::documents::PlainDocument;
+use ft_document::documents::PlainDocument;
+use ft_document::stages::PlainEdit;
 use ft_msg::Link;
 use std::alloc::Global;
 use std::marker::Model;
@@ -34,7 +32,7 @@ pub struct PlainClient {
 }
 
 impl Model for PlainClient {
-    ghost use Rattle.std.specs.Prelude.{◌≤◌};
+    ghost use Rattle.std.specs.Prelude.{◌≤◌, ◌+◌, ◌^◌};
     ghost use Rattle.ft_msg.specs.Client.{NaiveClient};
 
     ghost Value = { NaiveClient };
@@ -49,7 +47,7 @@ impl Model for PlainClient {
       pending = a.pending.items;
     } };
 
-    ghost invariant = { λ a. a.doc.other ≤ a.doc.number };
+    ghost invariant = { λ a. a.doc.other ≤ a.doc.number + 2 ^ 53 };
 }
 
 impl PlainClient {
@@ -57,8 +55,17 @@ impl PlainClient {
     pub fn new(alloc: Global) -> PlainClient
         ensures { result ≡ client_over empty }
     {
+        PlainClient::over(PlainDocument::new(alloc))
+    }
+
+    /// An offline client over a document of messages alone.
+    pub fn over(doc: PlainDocument) -> PlainClient
+        requires { doc.other < 2 ^ 53 }
+        ensures { result ≡ client_over doc }
+    {
+        let alloc = doc.alloc();
         PlainClient {
-            doc: PlainDocument::new(alloc),
+            doc,
             link: Link::Offline,
             conns: Vec::new(alloc),
             last_stage: 0,

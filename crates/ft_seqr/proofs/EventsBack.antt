@@ -35,7 +35,7 @@ use Rattle.ft_seqr.specs.declared.events.HowMany.{HowMany}
 use Rattle.ft_seqr.specs.declared.events.HowMany.TheVariants.{Num, All}
 use Rattle.ft_seqr.specs.declared.events.Event.{Event}
 use Rattle.ft_seqr.specs.declared.events.Event.TheVariants.{Start, Connect, Drop, Edit, Ticket, Deliver, Noop, Show, Queue, Compact, Summary, Offer, History, Guest, Submit, Part, Overlap, Blame, Authors}
-use Rattle.ft_seqr.specs.EventGrammar.{blame_event, client_event, client_of, counted_event, edit_event, edit_op, event, event_for, event_of, given_count, given_from, guest_event, is_known_address, offer_event, overlap_event, places, start_event, submit_event}
+use Rattle.ft_seqr.specs.EventGrammar.{blame_event, event_of_client, client_name_field, counted_event, edit_event, edit_op, event, event_for, event_of, given_count, given_from, guest_event, is_known_address, offer_event, overlap_event, places, start_event, submit_event}
 use Rattle.ft_seqr.specs.WellFormedEvent.{IsGivenText, IsRepresentableEvent, IsWellFormedCount, IsWellFormedEvent}
 use Rattle.ft_seqr.specs.WrittenEvent.{written_event, written_how_many}
 
@@ -90,8 +90,8 @@ counted_word : (word : List ℕ) (client : Characters) (n : HowMany) → found (
 unfolding field_name
 counted_word word client n = refl
 
-client_is : (fs : Given) (client : Characters) → found (field_name Client) fs ≡ Some (written_text client) → IsText client → client_of (object (fields fs)) ≡ Ok client
-unfolding client_of
+client_is : (fs : Given) (client : Characters) → found (field_name Client) fs ≡ Some (written_text client) → IsText client → client_name_field (object (fields fs)) ≡ Ok client
+unfolding client_name_field
 client_is fs client h r = rw (text_is fs Client client h r)
 
 from_back : (from : Option Characters) → IsGivenText from → given_from (option_map written_text from) ≡ Ok from
@@ -123,8 +123,8 @@ places_back fs a b h g e =
 
 -- ---- each form
 
-client_event_back : (made : Characters → Event) (fs : Given) (client : Characters) → found (field_name Client) fs ≡ Some (written_text client) → IsText client → client_event made (object (fields fs)) ≡ Ok (made client)
-unfolding client_event
+client_event_back : (made : Characters → Event) (fs : Given) (client : Characters) → found (field_name Client) fs ≡ Some (written_text client) → IsText client → event_of_client made (object (fields fs)) ≡ Ok (made client)
+unfolding event_of_client
 client_event_back made fs client h r = rw (client_is fs client h r)
 
 counted_back : (made : Characters → HowMany → Event) (word : List ℕ) (client : Characters) (n : HowMany) → IsText client → IsWellFormedCount n → counted_event made (object (fields (counted_fields word client n))) ≡ Ok (made client n)

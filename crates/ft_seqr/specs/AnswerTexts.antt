@@ -1,11 +1,12 @@
 -- The JSON lines that a session writes of a client: its intervals that meet a range, and who inserted its visible text.
 use Rattle.std.specs.Prelude.{ℕ, ◌+◌, Bool, true, false, cond, ◌&&◌, nat_eq, List, [], ◌∷◌, ◌++◌, Option, Some, None, codes}
-use Rattle.std.specs.List.{filter}
-use Rattle.std.specs.Prelude.{length}
 use Rattle.serde_json.specs.Data.{Data, null, boolean, array, object, no_members, member}
 use Rattle.serde_json.specs.View.{items_of}
+use Rattle.ft_attrib.specs.declared.attribution.AttrRun.{AttrRun}
 use Rattle.ft_attrib.specs.declared.attribution.Origin.{Origin}
 use Rattle.ft_attrib.specs.declared.attribution.Origin.TheVariants.{Known, Unknown, Pending}
+use Rattle.ft_attrib.specs.Runs.{how_many, same_origin}
+use Rattle.ft_attrib.specs.Totals.{is_by}
 use Rattle.ft_sumdoc.specs.declared.summary.IntervalRec.{IntervalRec}
 use Rattle.ft_props.specs.Properties.{Characters}
 use Rattle.ft_op.specs.Written.{written_count, written_number, written_text}
@@ -21,29 +22,6 @@ abbrev pub written_name : Option Characters → Data
 written_name None = null
 written_name (Some name) = written_text name
 
--- whether two origins are equal
-abbrev pub same_origin : Origin → Origin → Bool
-same_origin (Known s c) (Known t d) = nat_eq s t && nat_eq c d
-same_origin Unknown Unknown = true
-same_origin Pending Pending = true
-same_origin _ _ = false
-
--- a run of visible elements with one origin
-pub record OriginRun : Type 0 where
-  pub start : ℕ
-  pub end : ℕ
-  pub origin : Origin
-
--- runs with an element at place i before them
-abbrev pub extended_origins : ℕ → Origin → List OriginRun → List OriginRun
-extended_origins i o [] = record { start = i; end = i + 1; origin = o } ∷ []
-extended_origins i o (run ∷ runs) = cond (same_origin o run.origin) (record run { start = i } ∷ runs) (record { start = i; end = i + 1; origin = o } ∷ run ∷ runs)
-
--- the maximal runs of equal origins, the first of them at place i
-abbrev pub origin_runs : ℕ → List Origin → List OriginRun
-origin_runs i [] = []
-origin_runs i (o ∷ os) = extended_origins i o (origin_runs (i + 1) os)
-
 -- the name of an origin's connection
 abbrev pub origin_name : List Characters → Origin → Data
 origin_name names (Known s c) = written_name (name_at names c)
@@ -57,22 +35,13 @@ origin_number Unknown = written_count 0
 origin_number Pending = null
 
 -- a run of origins as it is written
-abbrev pub written_run : List Characters → OriginRun → Data
-written_run names run =
+abbrev pub written_origin_run : List Characters → AttrRun → Data
+written_origin_run names run =
     object
-    (member (codes "by") (origin_name names run.origin)
+    (member (codes "by") (origin_name names run.who)
     (member (codes "end") (written_count run.end)
-    (member (codes "seq") (origin_number run.origin)
+    (member (codes "seq") (origin_number run.who)
     (member (codes "start") (written_count run.start) no_members))))
-
--- whether the origin is of that connection
-abbrev pub is_by : ℕ → Origin → Bool
-is_by conn (Known s c) = nat_eq conn c
-is_by conn _ = false
-
--- how many origins pass the test
-abbrev pub how_many : (Origin → Bool) → List Origin → ℕ
-how_many test os = length (filter test os)
 
 -- the count of a connection's elements, unless it has none
 abbrev pub counted_author : Characters → ℕ → List Data

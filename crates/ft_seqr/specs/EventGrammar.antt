@@ -38,14 +38,14 @@ count_word None = Err (cause.WrongKind Count)
 count_word (Some word) = if bytes_eq word (codes "all") then Ok All else Err (cause.WrongKind Count)
 
 -- how many a value says: a count, or the string "all"
-abbrev pub how_many : Option ℕ → Data → Result HowMany Cause
-how_many (Some n) d = Ok (Num n)
-how_many None d = count_word (as_str d)
+abbrev pub count_or_all : Option ℕ → Data → Result HowMany Cause
+count_or_all (Some n) d = Ok (Num n)
+count_or_all None d = count_word (as_str d)
 
 -- how many; 1 without the field
 abbrev pub given_count : Option Data → Result HowMany Cause
 given_count None = Ok (Num 1)
-given_count (Some d) = how_many (count d) d
+given_count (Some d) = count_or_all (count d) d
 
 -- the operation for the address of these characters
 abbrev pub op_for : Characters → Data → Result ChannelOp Cause
@@ -69,32 +69,32 @@ is_known_address address =
     else (if bytes_eq address (codes "grid") then Ok address else Err (cause.WrongKind Address))
 
 -- a range whose end isn't before its start
-abbrev pub range_of : ℕ → ℕ → Result (ℕ × ℕ) Cause
-range_of a b = if nat_lt b a then Err (cause.Reversed (pos a) (pos b)) else Ok (a, b)
+abbrev pub checked_range : ℕ → ℕ → Result (ℕ × ℕ) Cause
+checked_range a b = if nat_lt b a then Err (cause.Reversed (pos a) (pos b)) else Ok (a, b)
 
 -- the range from `start` to `end`
 unfoldable pub places : Data → Result (ℕ × ℕ) Cause
 places d = do
   a ← with_fault cause_of_field (count_field d StartPlace)
   b ← with_fault cause_of_field (count_field d End)
-  range_of a b
+  checked_range a b
 
 -- the client of an event
-unfoldable pub client_of : Data → Result Characters Cause
-client_of d = with_fault cause_of_field (text_field d Client)
+unfoldable pub client_name_field : Data → Result Characters Cause
+client_name_field d = with_fault cause_of_field (text_field d Client)
 
 -- ---- events
 
 -- an event that has a client alone
-unfoldable pub client_event : (Characters → Event) → Data → Result Event Cause
-client_event made d = do
-  client ← client_of d
+unfoldable pub event_of_client : (Characters → Event) → Data → Result Event Cause
+event_of_client made d = do
+  client ← client_name_field d
   Ok (made client)
 
 -- an event that has a client and a count
 unfoldable pub counted_event : (Characters → HowMany → Event) → Data → Result Event Cause
 counted_event made d = do
-  client ← client_of d
+  client ← client_name_field d
   n ← given_count (field d Count)
   Ok (made client n)
 
@@ -106,13 +106,13 @@ guest_event made d = do
 
 unfoldable pub start_event : Data → Result Event Cause
 start_event d = do
-  client ← client_of d
+  client ← client_name_field d
   from ← given_from (field d From)
   Ok (Start client from)
 
 unfoldable pub edit_event : Data → Result Event Cause
 edit_event d = do
-  client ← client_of d
+  client ← client_name_field d
   word ← with_fault cause_of_field (text_field d Address)
   address ← is_known_address word
   op ← edit_op address (field d Op)
@@ -120,7 +120,7 @@ edit_event d = do
 
 unfoldable pub offer_event : Data → Result Event Cause
 offer_event d = do
-  client ← client_of d
+  client ← client_name_field d
   text ← with_fault cause_of_field (text_field d MessageText)
   Ok (Offer client text)
 
@@ -132,14 +132,14 @@ submit_event d = do
 
 unfoldable pub overlap_event : Data → Result Event Cause
 overlap_event d = do
-  client ← client_of d
+  client ← client_name_field d
   label ← with_fault cause_of_field (text_field d Label)
   range ← places d
   Ok (Overlap client label range.0 range.1)
 
 unfoldable pub blame_event : Data → Result Event Cause
 blame_event d = do
-  client ← client_of d
+  client ← client_name_field d
   range ← places d
   Ok (Blame client range.0 range.1)
 
@@ -153,22 +153,22 @@ later_event word d =
     else (if bytes_eq word (codes "part") then guest_event Part d
     else (if bytes_eq word (codes "overlap") then overlap_event d
     else (if bytes_eq word (codes "blame") then blame_event d
-    else (if bytes_eq word (codes "authors") then client_event Authors d else Err cause.UnknownWord)))))))
+    else (if bytes_eq word (codes "authors") then event_of_client Authors d else Err cause.UnknownWord)))))))
 
 -- the event of this word
 abbrev pub event_for : List ℕ → Data → Result Event Cause
 event_for word d =
     if bytes_eq word (codes "start") then start_event d
-    else (if bytes_eq word (codes "connect") then client_event Connect d
-    else (if bytes_eq word (codes "drop") then client_event Drop d
+    else (if bytes_eq word (codes "connect") then event_of_client Connect d
+    else (if bytes_eq word (codes "drop") then event_of_client Drop d
     else (if bytes_eq word (codes "edit") then edit_event d
     else (if bytes_eq word (codes "ticket") then counted_event Ticket d
     else (if bytes_eq word (codes "deliver") then counted_event Deliver d
-    else (if bytes_eq word (codes "noop") then client_event Noop d
-    else (if bytes_eq word (codes "show") then client_event Show d
-    else (if bytes_eq word (codes "queue") then client_event Queue d
-    else (if bytes_eq word (codes "compact") then client_event Compact d
-    else (if bytes_eq word (codes "summary") then client_event Summary d else later_event word d))))))))))
+    else (if bytes_eq word (codes "noop") then event_of_client Noop d
+    else (if bytes_eq word (codes "show") then event_of_client Show d
+    else (if bytes_eq word (codes "queue") then event_of_client Queue d
+    else (if bytes_eq word (codes "compact") then event_of_client Compact d
+    else (if bytes_eq word (codes "summary") then event_of_client Summary d else later_event word d))))))))))
 
 -- the event that a value is
 unfoldable pub event_of : Data → Result Event Cause

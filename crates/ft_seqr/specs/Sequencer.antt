@@ -63,9 +63,9 @@ leave q conn = elim (find (is_joined conn) q.joined) [
 ]
 
 -- the kind of a draft's message: a draft without operation is a noop
-abbrev pub kind_of : Body → MsgKind
-kind_of Nothing = kind.Noop
-kind_of _ = kind.Op
+abbrev pub draft_kind : Body → MsgKind
+draft_kind Nothing = kind.Noop
+draft_kind _ = kind.Op
 
 -- the first of four reasons to refuse the draft of a joined connection
 abbrev pub nack_of : NaiveSequencer → JoinedConnection → Draft → Option Nack
@@ -85,7 +85,7 @@ sequence q j d =
     let p = next (map (λ i. cond (is_joined j.conn i) (submitted d i) i) q.joined) q in (
       p,
       record {
-        msg = record { client_id = Some j.name; seq = p.number; min = p.minimum; client_seq = pos d.client_seq; ref_seq = pos d.ref_seq; kind = kind_of d.body; body = d.body };
+        msg = record { client_id = Some j.name; seq = p.number; min = p.minimum; client_seq = pos d.client_seq; ref_seq = pos d.ref_seq; kind = draft_kind d.body; body = d.body };
         origin = j.conn;
       },
     )

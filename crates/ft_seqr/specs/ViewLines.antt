@@ -9,7 +9,6 @@ use Rattle.ft_sumdoc.specs.declared.summary.IntervalRec.{IntervalRec}
 use Rattle.ft_msg.specs.declared.views.Numbers.{Numbers}
 use Rattle.ft_msg.specs.declared.views.Run.{Run}
 use Rattle.ft_msg.specs.declared.views.Spot.{Spot}
-use Rattle.ft_msg.specs.declared.views.View.{View}
 use Rattle.ft_msg.specs.Content.{ViewContent}
 
 -- the characters as a JSON string
@@ -58,18 +57,6 @@ table_lines rows cols =
 -- the line of a cell: its row, its column, its value
 abbrev pub cell_line : CellRec → List ℕ
 cell_line cell = codes "cell " ++ (decimal cell.row ++ (codes " " ++ (decimal cell.col ++ (codes " " ++ cell.value))))
-
--- what is shown by a view
-abbrev pub content_of : View → ViewContent
-content_of v = record {
-  text = v.text;
-  markers = v.markers;
-  runs = v.runs;
-  intervals = v.intervals;
-  rows = v.rows;
-  cols = v.cols;
-  cells = v.cells;
-}
 
 -- the lines of what is shown
 unfoldable pub content_lines : ViewContent → List (List ℕ)

@@ -61,12 +61,12 @@ refused_after n None = n
 refused_after n (Some refusal) = n + 1
 
 -- how far it is after a step
-abbrev pub after_step : {S : Type 0} → Progress S → Step S → Progress S
-after_step at step = record { lines = at.lines + 1; refused = refused_after at.refused step.refusal; made = step.made }
+abbrev pub progress_after : {S : Type 0} → Progress S → Step S → Progress S
+progress_after at step = record { lines = at.lines + 1; refused = refused_after at.refused step.refusal; made = step.made }
 
 -- how far it is after a line
 abbrev pub after_line : {S : Type 0} → (S → List ℕ → Step S) → Progress S → List ℕ → Progress S
-after_line read at line = after_step at (step_of read at.made line)
+after_line read at line = progress_after at (step_of read at.made line)
 
 -- how far it is after these lines
 abbrev pub after_lines : {S : Type 0} → (S → List ℕ → Step S) → Progress S → List (List ℕ) → Progress S

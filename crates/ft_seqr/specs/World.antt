@@ -31,7 +31,8 @@ use Rattle.ft_msg.specs.Written.{written_draft, written_message}
 use Rattle.ft_seqr.specs.Sequencer.{NaiveSequencer, join, leave, new_sequencer, submit}
 use Rattle.ft_seqr.specs.Refusals.{refusal_of_cause, refusal_of_edit, refusal_of_link, refusal_of_process}
 use Rattle.ft_seqr.specs.SameMessage.{same_message}
-use Rattle.ft_seqr.specs.AnswerTexts.{origin_runs, written_authors, written_overlap, written_run}
+use Rattle.ft_attrib.specs.Runs.{origin_runs}
+use Rattle.ft_seqr.specs.AnswerTexts.{written_authors, written_overlap, written_origin_run}
 use Rattle.ft_sumdoc.specs.Written.{written_summary}
 use Rattle.ft_msg.specs.SummaryOf.{summary_of}
 
@@ -135,16 +136,16 @@ abbrev pub left : ℕ → NaiveWorld → Option NaiveWorld
 left conn w = elim (leave w.sequencer conn) [ None ↦ None | Some p ↦ Some (logged p w) ]
 
 -- the world after drafts of a connection were submitted in order, or the first nack
-abbrev pub submitted : NaiveWorld → ℕ → List Draft → Result NaiveWorld Refusal
-submitted w conn [] = Ok w
-submitted w conn (d ∷ ds) = elim (submit w.sequencer conn d) [ Err nack ↦ Err (Nacked nack) | Ok p ↦ submitted (logged p w) conn ds ]
+abbrev pub submit_all : NaiveWorld → ℕ → List Draft → Result NaiveWorld Refusal
+submit_all w conn [] = Ok w
+submit_all w conn (d ∷ ds) = elim (submit w.sequencer conn d) [ Err nack ↦ Err (Nacked nack) | Ok p ↦ submit_all (logged p w) conn ds ]
 
 -- ---- clients
 
 -- how many, where there are so many
-abbrev pub counted : HowMany → ℕ → Option ℕ
-counted All have = Some have
-counted (Num n) have = cond (nat_le n have) (Some n) None
+abbrev pub wanted_count : HowMany → ℕ → Option ℕ
+wanted_count All have = Some have
+wanted_count (Num n) have = cond (nat_le n have) (Some n) None
 
 -- the connection of a link
 abbrev pub conn_of : Link → Option ℕ
@@ -214,7 +215,7 @@ noop_client w c = elim (noop c.client) [
 
 -- so many of the client's unsent messages are submitted
 abbrev pub ticket_sent : NaiveWorld → NamedClient → ℕ → ℕ → Stepped
-ticket_sent w c conn n = elim (submitted w conn (take n c.client.queue)) [
+ticket_sent w c conn n = elim (submit_all w conn (take n c.client.queue)) [
   | Err refusal ↦ Err refusal
   | Ok v ↦ quietly (with_client (record c { client = record c.client { queue = drop n c.client.queue } }) v)
 ]
@@ -223,7 +224,7 @@ ticket_sent w c conn n = elim (submitted w conn (take n c.client.queue)) [
 abbrev pub ticket_client : NaiveWorld → NamedClient → HowMany → Stepped
 ticket_client w c many = elim (conn_of c.client.link) [
   | None ↦ Err NotConnected
-  | Some conn ↦ elim (counted many (length c.client.queue)) [ None ↦ Err (NothingToTicket (length c.client.queue)) | Some n ↦ ticket_sent w c conn n ]
+  | Some conn ↦ elim (wanted_count many (length c.client.queue)) [ None ↦ Err (NothingToTicket (length c.client.queue)) | Some n ↦ ticket_sent w c conn n ]
 ]
 
 -- the messages of the log beyond the client's number
@@ -234,7 +235,7 @@ ahead_of w x = drop x.doc.number w.log
 abbrev pub deliver_client : NaiveWorld → NamedClient → HowMany → Stepped
 deliver_client w c many = elim (conn_of c.client.link) [
   | None ↦ Err NotConnected
-  | Some conn ↦ elim (counted many (length (ahead_of w c.client))) [
+  | Some conn ↦ elim (wanted_count many (length (ahead_of w c.client))) [
     | None ↦ Err (NothingToDeliver (length (ahead_of w c.client)))
     | Some n ↦ now w c (processed c.client (take n (ahead_of w c.client)))
   ]
@@ -272,7 +273,7 @@ summary_texts w x = written_summary (summary_of (known_names w x) x.doc) ∷ []
 -- who inserted the visible elements of a range
 abbrev pub blame_client : NaiveWorld → NaiveClient → ℕ → ℕ → Stepped
 blame_client w x a b =
-    cond (nat_lt (length (blame x)) b) (Err (OutOfRange (length (blame x)))) (Ok (w, Texts (map (written_run w.names) (origin_runs a (take (b - a) (drop a (blame x)))))))
+    cond (nat_lt (length (blame x)) b) (Err (OutOfRange (length (blame x)))) (Ok (w, Texts (map (written_origin_run w.names) (origin_runs a (take (b - a) (drop a (blame x)))))))
 
 -- a new guest, whose connection joins
 abbrev pub enter_guest : NaiveWorld → Characters → NaiveWorld
@@ -280,7 +281,7 @@ enter_guest w name = joined (connection_name name 1) (record w { guests = w.gues
 
 -- a draft of the guest is submitted
 abbrev pub submit_draft : NaiveWorld → NamedGuest → Draft → Stepped
-submit_draft w g d = elim (submitted w g.conn (d ∷ [])) [ Err refusal ↦ Err refusal | Ok v ↦ quietly v ]
+submit_draft w g d = elim (submit_all w g.conn (d ∷ [])) [ Err refusal ↦ Err refusal | Ok v ↦ quietly v ]
 
 -- the draft of a text is submitted for the guest
 abbrev pub submit_guest : NaiveWorld → NamedGuest → Characters → Stepped
@@ -315,14 +316,14 @@ happen w (event.Authors name) = of_client w name (λ c. Ok (w, Texts (written_au
 -- ---- the load
 
 -- how many elements a sub-operation inserts
-abbrev pub inserted : SubOperation → ℕ
-inserted (OnText (Insert p seg props)) = length (segment_contents seg)
-inserted (OnGrid (SpliceIn target p count)) = count
-inserted _ = 0
+abbrev pub inserted_count : SubOperation → ℕ
+inserted_count (OnText (Insert p seg props)) = length (segment_contents seg)
+inserted_count (OnGrid (SpliceIn target p count)) = count
+inserted_count _ = 0
 
 -- what an operation adds to the load: one for each sub-operation, and one for each inserted element
 abbrev pub op_load : ChannelOp → ℕ
-op_load op = fold (λ n o. n + (1 + inserted o)) 0 (sub_operations op)
+op_load op = fold (λ n o. n + (1 + inserted_count o)) 0 (sub_operations op)
 
 -- what a body adds
 abbrev pub body_load : Body → ℕ

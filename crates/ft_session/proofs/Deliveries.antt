@@ -11,7 +11,7 @@ use Rattle.ft_seqr.specs.declared.events.HowMany.TheVariants.{Num}
 use Rattle.ft_seqr.specs.declared.refusals.Refusal.{Refusal}
 use Rattle.ft_seqr.specs.declared.refusals.Refusal.TheVariants.{NothingToDeliver, NotConnected, UnknownClient}
 use Rattle.ft_seqr.specs.Refusals.{refusal_of_process}
-use Rattle.ft_seqr.specs.World.{NaiveWorld, NamedClient, Stepped, ahead_of, conn_of, counted, deliver_client, in_place, is_client, now, processed}
+use Rattle.ft_seqr.specs.World.{NaiveWorld, NamedClient, Stepped, ahead_of, conn_of, wanted_count, deliver_client, in_place, is_client, now, processed}
 use Rattle.ft_session.specs.ClientEvents.{ActsAlike, DeliveriesActAlike, NaiveClients, as_event, deliver_step}
 use Rattle.ft_session.proofs.OneStep.{with_link, with_next}
 
@@ -48,7 +48,7 @@ module _ (w : NaiveWorld) where
     of_many ahead many = elim many [ None ↦ Err (NothingToDeliver (length ahead)) | Some n ↦ now w c (processed c.client (take n ahead)) ]
 
     abbrev of_link : List Entry → Link → Stepped
-    of_link ahead link = elim (conn_of link) [ None ↦ Err NotConnected | Some conn ↦ of_many ahead (counted (Num 1) (length ahead)) ]
+    of_link ahead link = elim (conn_of link) [ None ↦ Err NotConnected | Some conn ↦ of_many ahead (wanted_count (Num 1) (length ahead)) ]
 
     taken : (entry : Entry) (r : Result NaiveClient ProcessFault)
         → ActsAlike (now w c (elim r as (λ _. Result NaiveClient Refusal) [ Err fault ↦ Err (refusal_of_process entry.msg.seq fault) | Ok y ↦ Ok y ])) (of_step c (as_event (refusal_of_process entry.msg.seq) r))
@@ -58,14 +58,14 @@ module _ (w : NaiveWorld) where
     one-ahead : (n : ℕ) → nat_le 1 (suc n) ≡ true
     one-ahead n = grind (arith, nat_tests)
 
-    next : (ahead : List Entry) → ActsAlike (of_many ahead (counted (Num 1) (length ahead))) (of_step c (with_next c.client (first ahead)))
+    next : (ahead : List Entry) → ActsAlike (of_many ahead (wanted_count (Num 1) (length ahead))) (of_step c (with_next c.client (first ahead)))
     next [] = refl
     next (entry ∷ entries) = subst (λ b. ActsAlike (of_many (entry ∷ entries) (cond b (Some 1) None)) (of_step c (with_next c.client (Some entry)))) (sym (one-ahead (length entries))) (taken entry (process c.client entry))
 
     linked : (link : Link) → ActsAlike (of_link (ahead_of w c.client) link) (of_step c (with_link w.log c.client link))
     linked Offline = refl
-    linked (Joining conn) = subst (λ o. ActsAlike (of_many (ahead_of w c.client) (counted (Num 1) (length (ahead_of w c.client)))) (of_step c (with_next c.client o))) (sym (next-first w.log c.client.doc.number)) (next (ahead_of w c.client))
-    linked (Online conn) = subst (λ o. ActsAlike (of_many (ahead_of w c.client) (counted (Num 1) (length (ahead_of w c.client)))) (of_step c (with_next c.client o))) (sym (next-first w.log c.client.doc.number)) (next (ahead_of w c.client))
+    linked (Joining conn) = subst (λ o. ActsAlike (of_many (ahead_of w c.client) (wanted_count (Num 1) (length (ahead_of w c.client)))) (of_step c (with_next c.client o))) (sym (next-first w.log c.client.doc.number)) (next (ahead_of w c.client))
+    linked (Online conn) = subst (λ o. ActsAlike (of_many (ahead_of w c.client) (wanted_count (Num 1) (length (ahead_of w c.client)))) (of_step c (with_next c.client o))) (sym (next-first w.log c.client.doc.number)) (next (ahead_of w c.client))
 
   found : (o : Option NamedClient) → ActsAlike (elim o [ None ↦ Err UnknownClient | Some c ↦ deliver_client w c (Num 1) ]) (of_found o)
   found None = refl

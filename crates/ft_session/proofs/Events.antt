@@ -14,15 +14,15 @@ use Rattle.ft_msg.specs.Client.{NaiveClient}
 use Rattle.ft_msg.specs.Reached.{IsReached}
 use Rattle.ft_seqr.specs.declared.refusals.Refusal.{Refusal}
 use Rattle.ft_seqr.specs.declared.refusals.Refusal.TheVariants as refusal
-use Rattle.ft_sumdoc.specs.Counts.{are_distinct}
+use Rattle.ft_sumdoc.specs.Counts.{are_distinct_names}
 use Rattle.ft_seqr.specs.World.{NamedClient, in_place, is_client}
-use Rattle.ft_session.specs.ClientEvents.{NaiveClients, client_event}
+use Rattle.ft_session.specs.ClientEvents.{NaiveClients, client_step_event}
 use Rattle.ft_session.specs.Worlds.{AnswersEvent, AnswersMember, MembersStand, MemberStands, MemberState, WorldStands, WorldState, has_name, is_want, made_by, names_of}
 use Rattle.ft_session.proofs.NamedMember.{Found, found, names-placed, not_found}
 
 -- the place of a member among members of any type that show themselves so
 place_found : {A : Type 0} (view : A → MemberState) (name : Characters) (i : ℕ) (xs : List A) (ns : List NamedClient)
-    → MembersStand (map view xs) ns → are_distinct (names_of ns) ≡ true → position (λ x. has_name name (view x)) xs ≡ Some i → Found name (map view xs) i ns
+    → MembersStand (map view xs) ns → are_distinct_names (names_of ns) ≡ true → position (λ x. has_name name (view x)) xs ≡ Some i → Found name (map view xs) i ns
 place_found view name i xs ns s d h =
     let (j, e, f) = found view name 0 i xs ns s d (sym (position_from-zero (λ x. has_name name (view x)) xs) ∙ h) in
     let q : j ≡ i = omega arith in
@@ -58,7 +58,7 @@ module _ (name : Characters) (step : List Entry → ℕ → NaiveClient → Resu
     | Ok x ↦ Ok (map (in_place (record { name = m.name; connects = m.connects + more; client = x })) w.clients)
   ]) [ Err why ↦ Err why | Ok cs ↦ Ok (record { clients = cs; log = w.log; conns = w.conns + more }) ]
 
-  event_found : (n : NaiveClients) (m : NamedClient) (r : Result NaiveClient Refusal) → find (is_client name) n.clients ≡ Some m → step n.log n.conns m.client ≡ r → client_event name step more n ≡ with_step n m r
+  event_found : (n : NaiveClients) (m : NamedClient) (r : Result NaiveClient Refusal) → find (is_client name) n.clients ≡ Some m → step n.log n.conns m.client ≡ r → client_step_event name step more n ≡ with_step n m r
   event_found n m r h k = ap (with_found n) h ∙ ap (with_step n m) k
 
   -- the session of members of any type
@@ -70,8 +70,8 @@ module _ (name : Characters) (step : List Entry → ℕ → NaiveClient → Resu
     was_running h = let e : true ≡ false = sym h ∙ running in (cc)
 
     -- nobody has the name
-    pub unknown : position (λ x. has_name name (view x)) xs ≡ None → AnswersEvent (client_event name step more) old old (Err refusal.UnknownClient)
-    unknown none = subst (λ w. AnswersEvent (client_event name step more) w w (Err refusal.UnknownClient)) opened (record {
+    pub unknown : position (λ x. has_name name (view x)) xs ≡ None → AnswersEvent (client_step_event name step more) old old (Err refusal.UnknownClient)
+    unknown none = subst (λ w. AnswersEvent (client_step_event name step more) w w (Err refusal.UnknownClient)) opened (record {
       runs = λ n s. (refl, ap (with_found n) (not_found view name 0 xs n.clients s.members (sym (position_from-zero (λ x. has_name name (view x)) xs) ∙ none)));
       stopped = λ h. was_running h;
     })
@@ -94,7 +94,7 @@ module _ (name : Characters) (step : List Entry → ℕ → NaiveClient → Resu
 
       -- the step is taken
       taken : AnswersMember (step log conns) (view x).replica (view y).replica (Ok tt) → view y ≡ record { name = (view x).name; replica = (view y).replica; connects = (view x).connects + more }
-          → AnswersEvent (client_event name step more) (session view xs log conns stopped) (session view (set xs i y) log (conns + more) false) (Ok tt)
+          → AnswersEvent (client_step_event name step more) (session view xs log conns stopped) (session view (set xs i y) log (conns + more) false) (Ok tt)
       taken answers e = record {
         runs = λ n s.
             let f = here n s in
@@ -107,7 +107,7 @@ module _ (name : Characters) (step : List Entry → ℕ → NaiveClient → Resu
               record {
                 running = refl;
                 members = subst (λ ms. MembersStand ms (map (in_place after) n.clients)) (sym (map-set view xs i y)) (f.put (view y) after f.named stands);
-                distinct = ap are_distinct (names-placed after n.clients) ∙ s.distinct;
+                distinct = ap are_distinct_names (names-placed after n.clients) ∙ s.distinct;
                 log = s.log;
                 conns = ap (λ c. c + more) s.conns;
               },
@@ -118,7 +118,7 @@ module _ (name : Characters) (step : List Entry → ℕ → NaiveClient → Resu
       -- the step is refused
       refused : (why : Refusal) → view y ≡ record { name = (view x).name; replica = (view y).replica; connects = (view x).connects }
           → (n : NaiveClients) (s : WorldStands (session view xs log conns stopped) n) → ((view y).replica ≡ (view x).replica) × (step log conns (here n s).member.client ≡ Err why)
-          → (session view (set xs i y) log conns false ≡ session view xs log conns stopped) × (client_event name step more n ≡ Err why)
+          → (session view (set xs i y) log conns false ≡ session view xs log conns stopped) × (client_step_event name step more n ≡ Err why)
       refused why e n s (q, k) =
           let f = here n s in
           let alike : view y ≡ view x = e ∙ ap (λ r. record { name = (view x).name; replica = r; connects = (view x).connects }) q in
@@ -130,7 +130,7 @@ module _ (name : Characters) (step : List Entry → ℕ → NaiveClient → Resu
       -- so a world answers as its replica does
       answered : (result : Result (Unit {0}) Refusal) → AnswersMember (step log conns) (view x).replica (view y).replica result
           → view y ≡ record { name = (view x).name; replica = (view y).replica; connects = counted result more (view x).connects }
-          → AnswersEvent (client_event name step more) (session view xs log conns stopped) (session view (set xs i y) log (counted result more conns) (is_want result)) result
+          → AnswersEvent (client_step_event name step more) (session view xs log conns stopped) (session view (set xs i y) log (counted result more conns) (is_want result)) result
       answered (Ok u) answers e = taken answers e
       answered (Err refusal.OutOfMemory) answers e = record { runs = λ n s. refl; stopped = λ h. was_running h }
       answered (Err refusal.Stopped) answers e = record {
@@ -141,8 +141,8 @@ module _ (name : Characters) (step : List Entry → ℕ → NaiveClient → Resu
 
       pub member-answers : (result : Result (Unit {0}) Refusal) (made : ℕ) (want : Bool) → AnswersMember (step log conns) (view x).replica (view y).replica result
           → view y ≡ record { name = (view x).name; replica = (view y).replica; connects = counted result more (view x).connects } → made ≡ counted result more conns → want ≡ is_want result
-          → AnswersEvent (client_event name step more) old (session view (set xs i y) log made want) result
+          → AnswersEvent (client_step_event name step more) old (session view (set xs i y) log made want) result
       member-answers result made want answers e k w =
-          subst (λ m. AnswersEvent (client_event name step more) old (session view (set xs i y) log m want) result) (sym k) (
-          subst (λ b. AnswersEvent (client_event name step more) old (session view (set xs i y) log (counted result more conns) b) result) (sym w) (
-          subst (λ from. AnswersEvent (client_event name step more) from (session view (set xs i y) log (counted result more conns) (is_want result)) result) opened (answered result answers e)))
+          subst (λ m. AnswersEvent (client_step_event name step more) old (session view (set xs i y) log m want) result) (sym k) (
+          subst (λ b. AnswersEvent (client_step_event name step more) old (session view (set xs i y) log (counted result more conns) b) result) (sym w) (
+          subst (λ from. AnswersEvent (client_step_event name step more) from (session view (set xs i y) log (counted result more conns) (is_want result)) result) opened (answered result answers e)))

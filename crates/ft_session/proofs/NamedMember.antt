@@ -5,7 +5,7 @@ use Rattle.std.specs.List.{find, list_any, position_from, slice_get}
 use Rattle.std.specs.Str.{bytes_eq}
 use Rattle.std.proofs.lemmas.Slice.Eq.{bytes_eq-Decides}
 use Rattle.ft_base.proofs.Booleans.{both}
-use Rattle.ft_sumdoc.specs.Counts.{are_distinct}
+use Rattle.ft_sumdoc.specs.Counts.{are_distinct_names}
 use Rattle.ft_seqr.specs.World.{NamedClient, in_place, is_client}
 use Rattle.ft_session.specs.Worlds.{MembersStand, MemberStands, MemberState, has_name, names_of}
 
@@ -76,10 +76,10 @@ found_later name m n ms i ns h s f =
 
 -- the place that a search over members finds
 pub found : {A : Type 0} (view : A → MemberState) (name : List ℕ) (k i : ℕ) (xs : List A) (ns : List NamedClient)
-    → MembersStand (map view xs) ns → are_distinct (names_of ns) ≡ true → position_from (λ x. has_name name (view x)) k xs ≡ Some i → (j : ℕ) × (i ≡ k + j) × Found name (map view xs) j ns
+    → MembersStand (map view xs) ns → are_distinct_names (names_of ns) ≡ true → position_from (λ x. has_name name (view x)) k xs ≡ Some i → (j : ℕ) × (i ≡ k + j) × Found name (map view xs) j ns
 found view name k i [] ns s d h = (cc)
 found view name k i (x ∷ xs) [] s d h = elim s [ ]
-found view name k i (x ∷ xs) (n ∷ ns) s d h = let b = both (not (list_any (bytes_eq n.name) (names_of ns))) (are_distinct (names_of ns)) d in step (has_name name (view x)) refl (hidden (list_any (bytes_eq n.name) (names_of ns)) b.0) h (λ p. found view name (k + 1) i xs ns s.1 b.1 p)
+found view name k i (x ∷ xs) (n ∷ ns) s d h = let b = both (not (list_any (bytes_eq n.name) (names_of ns))) (are_distinct_names (names_of ns)) d in step (has_name name (view x)) refl (hidden (list_any (bytes_eq n.name) (names_of ns)) b.0) h (λ p. found view name (k + 1) i xs ns s.1 b.1 p)
   where
     later : (j : ℕ) × (i ≡ k + 1 + j) × Found name (map view xs) j ns → has_name name (view x) ≡ false → (j : ℕ) × (i ≡ k + j) × Found name (map view (x ∷ xs)) j (n ∷ ns)
     later (j, q, f) e = (suc j, omega arith, found_later name (view x) n (map view xs) j ns e s.0 f)

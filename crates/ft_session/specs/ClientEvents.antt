@@ -46,8 +46,8 @@ change_client name step more cs = elim (find (is_client name) cs) [
 ]
 
 -- the clients after a step of the one of that name, by the log and the number of connections before
-abbrev pub client_event : Characters → (List Entry → ℕ → NaiveClient → Result NaiveClient Refusal) → ℕ → NaiveClients → Result NaiveClients Refusal
-client_event name step more n = elim (change_client name (step n.log n.conns) more n.clients) [
+abbrev pub client_step_event : Characters → (List Entry → ℕ → NaiveClient → Result NaiveClient Refusal) → ℕ → NaiveClients → Result NaiveClients Refusal
+client_step_event name step more n = elim (change_client name (step n.log n.conns) more n.clients) [
   | Err why ↦ Err why
   | Ok cs ↦ Ok (record { clients = cs; log = n.log; conns = n.conns + more })
 ]
@@ -56,15 +56,15 @@ client_event name step more n = elim (change_client name (step n.log n.conns) mo
 
 -- the client of that name connects
 abbrev pub connect_event : Characters → NaiveClients → Result NaiveClients Refusal
-connect_event name = client_event name (λ log conns x. as_event refusal_of_link (connect x (conns + 1))) 1
+connect_event name = client_step_event name (λ log conns x. as_event refusal_of_link (connect x (conns + 1))) 1
 
 -- the client of that name goes offline
 abbrev pub drop_event : Characters → NaiveClients → Result NaiveClients Refusal
-drop_event name = client_event name (λ log conns x. as_event refusal_of_link (drop_link x)) 0
+drop_event name = client_step_event name (λ log conns x. as_event refusal_of_link (drop_link x)) 0
 
 -- the client of that name processes the next message
 abbrev pub deliver_event : Characters → NaiveClients → Result NaiveClients Refusal
-deliver_event name = client_event name (λ log conns x. deliver_step log x) 0
+deliver_event name = client_step_event name (λ log conns x. deliver_step log x) 0
 
 -- an event of a naive world is refused as that of its clients is, or makes of them what that makes
 abbrev pub ActsAlike : Stepped → Result NaiveClients Refusal → Type 0

@@ -7,7 +7,7 @@ use Rattle.ft_session.specs.declared.outputs.Out.TheVariants as out
 use Rattle.ft_session.specs.declared.outputs.Counts.{Counts}
 use Rattle.ft_props.specs.Properties.{Characters}
 use Rattle.ft_msg.specs.Content.{content}
-use Rattle.ft_seqr.specs.ViewLines.{content_of}
+use Rattle.ft_msg.specs.Answers.{view_content}
 use Rattle.ft_seqr.specs.World.{NamedClient, NaiveWorld, Nothing, Output, Texts, View, furthest}
 
 -- the view is the client's: its numbers, but how many elements its replica held, and what it shows
@@ -19,7 +19,7 @@ pub record IsViewOf (c : NamedClient) (name : Characters) (view : ClientView) : 
   pub skipped : view.numbers.skipped ≡ c.client.doc.skipped
   pub other : view.numbers.other ≡ c.client.doc.other
   pub link : view.numbers.link ≡ c.client.link
-  pub shows : content_of view ≡ content c.client
+  pub shows : view_content view ≡ content c.client
 
 -- the answer is that output
 abbrev pub Tells : Output → Out → Type 0

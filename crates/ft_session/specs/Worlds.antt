@@ -5,7 +5,7 @@ use Rattle.ft_msg.specs.declared.messages.Entry.{Entry}
 use Rattle.ft_msg.specs.Answers.{ReplicaState, RunsFor}
 use Rattle.ft_msg.specs.Client.{NaiveClient}
 use Rattle.ft_msg.specs.Reached.{IsReached}
-use Rattle.ft_sumdoc.specs.Counts.{are_distinct}
+use Rattle.ft_sumdoc.specs.Counts.{are_distinct_names}
 use Rattle.ft_msg.specs.WellFormed.{IsWellFormedMessage}
 use Rattle.ft_seqr.specs.declared.refusals.Refusal.{Refusal}
 use Rattle.ft_seqr.specs.declared.refusals.Refusal.TheVariants.{OutOfMemory, Stopped}
@@ -50,7 +50,7 @@ names_of cs = map (λ c. c.name) cs
 pub record WorldStands (w : WorldState) (n : NaiveClients) : Type 0 where
   pub running : w.stopped ≡ false
   pub members : MembersStand w.members n.clients
-  pub distinct : are_distinct (names_of n.clients) ≡ true
+  pub distinct : are_distinct_names (names_of n.clients) ≡ true
   pub log : w.log ≡ n.log
   pub conns : w.conns ≡ n.conns
 

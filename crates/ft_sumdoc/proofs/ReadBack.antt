@@ -17,16 +17,16 @@ use Rattle.ft_sumdoc.specs.declared.summary.SegRec.{SegRec}
 use Rattle.ft_sumdoc.specs.declared.summary.SumDoc.{SumDoc}
 use Rattle.ft_sumdoc.specs.Cells.{cells_form}
 use Rattle.ft_sumdoc.specs.Chunks.{chunks_from}
-use Rattle.ft_sumdoc.specs.Counts.{Head, are_distinct, head, names_form}
+use Rattle.ft_sumdoc.specs.Counts.{Head, are_distinct_names, head, names_form}
 use Rattle.ft_sumdoc.specs.Forms.{characters}
 use Rattle.ft_sumdoc.specs.Intervals.{intervals_form}
 use Rattle.ft_sumdoc.specs.Runs.{runs_form, unremoved_units}
 use Rattle.ft_sumdoc.specs.Segments.{GivenSegment, text_form, text_length, unremoved_text}
 use Rattle.ft_sumdoc.specs.Stamps.{Bounds, are_good_stamps}
-use Rattle.ft_sumdoc.specs.Summary.{Lists, element_count, given_length, lists, lists_with, run_stamps, segment_stamps, summary, summary_of}
+use Rattle.ft_sumdoc.specs.Summary.{Lists, element_count, given_length, lists, lists_with, run_stamps, segment_stamps, summary, summary_of_object}
 use Rattle.ft_sumdoc.specs.Valid.{IsCell, bounds}
 use Rattle.ft_sumdoc.specs.Values.{kept_cell, kept_each, kept_interval, kept_segment}
-use Rattle.ft_sumdoc.specs.Written.{summary_text, written_cell, written_chunk, written_interval, written_run, written_summary}
+use Rattle.ft_sumdoc.specs.Written.{summary_text, written_cell_record, written_chunk, written_interval_record, written_unit_run, written_summary}
 use Rattle.ft_sumdoc.proofs.ReadChunks.{all_stamps, chunk_lengths_back, flat, flat-chunks, flat-map, segment_gives, text_back}
 use Rattle.ft_sumdoc.proofs.ReadForms.{each_of_back, read_each_back}
 use Rattle.ft_sumdoc.proofs.ReadRuns.{given_run, good_runs, kept_runs_back, runs_back}
@@ -48,7 +48,7 @@ names_same : (names : List Characters) → map (λ name. name) names ≡ names
 names_same [] = refl
 names_same (name ∷ names) = ap (λ rest. name ∷ rest) (names_same names)
 
-names_back : (names : List Characters) → AllByRecursion IsText names → are_distinct names ≡ true → names_form (array (written_items written_text names)) ≡ Some names
+names_back : (names : List Characters) → AllByRecursion IsText names → are_distinct_names names ≡ true → names_form (array (written_items written_text names)) ≡ Some names
 names_back names h distinct =
     rw (items_written written_text names, each_of_back characters written_text (λ name. name) IsText name_back names h, names_same names, distinct)
 
@@ -111,8 +111,8 @@ lists_back sum h =
     rw (
       needed_is (text_form 2) fs Text (array (written_items written_chunk (chunks_from 0 sum.text))) (given_chunks sum) refl (text_back b c sum.text (sound_text sum h)),
       kept_text_back sum h,
-      needed_is runs_form fs Rows (array (written_items written_run sum.rows)) (map given_run sum.rows) refl (runs_back b c sum.rows h.valid.rows),
-      needed_is runs_form fs Cols (array (written_items written_run sum.cols)) (map given_run sum.cols) refl (runs_back b c sum.cols h.valid.cols),
+      needed_is runs_form fs Rows (array (written_items written_unit_run sum.rows)) (map given_run sum.rows) refl (runs_back b c sum.rows h.valid.rows),
+      needed_is runs_form fs Cols (array (written_items written_unit_run sum.cols)) (map given_run sum.cols) refl (runs_back b c sum.cols h.valid.cols),
       lists_with_back sum h,
     )
 
@@ -135,8 +135,8 @@ kept_cells_back sum h =
     let cols = unremoved_units sum.cols in
     rw (read_each_back kept_cell given_cell (IsCell rows cols) (kept_cell_back rows cols) sum.cells h.valid.cells)
 
-summary_of_back : (sum : SumDoc) → IsSoundSummary sum → summary_of (written_summary sum) ≡ Ok sum
-unfolding summary_of field_name
+summary_of_back : (sum : SumDoc) → IsSoundSummary sum → summary_of_object (written_summary sum) ≡ Ok sum
+unfolding summary_of_object field_name
 summary_of_back sum h =
     let fs = summary_fields sum in
     let b = bounds sum in
@@ -147,9 +147,9 @@ summary_of_back sum h =
       head_back sum h,
       lists_back sum h,
       element_count_back sum h,
-      needed_is (intervals_form n) fs Intervals (array (written_items written_interval sum.intervals)) (map given_interval sum.intervals) refl (intervals_back n (few_elements sum h) sum.intervals (sound_intervals sum h) h.valid.names),
+      needed_is (intervals_form n) fs Intervals (array (written_items written_interval_record sum.intervals)) (map given_interval sum.intervals) refl (intervals_back n (few_elements sum h) sum.intervals (sound_intervals sum h) h.valid.names),
       kept_intervals_back sum h,
-      needed_is (cells_form rows cols) fs Cells (array (written_items written_cell sum.cells)) (map given_cell sum.cells) refl
+      needed_is (cells_form rows cols) fs Cells (array (written_items written_cell_record sum.cells)) (map given_cell sum.cells) refl
           (cells_back rows cols (few_units b sum.rows h.valid.rows) (few_units b sum.cols h.valid.cols) sum.cells h.valid.cells h.valid.places),
       kept_cells_back sum h,
     )

@@ -13,7 +13,7 @@ use Rattle.ft_sumdoc.specs.Segments.{GivenSegment, body_length, chunk_form, not_
 use Rattle.ft_sumdoc.specs.Stamps.{Bounds, GivenStamps}
 use Rattle.ft_sumdoc.specs.Summary.{given_length, segment_stamps, within_chunk}
 use Rattle.ft_sumdoc.specs.WellFormed.{are_cut_from, ends_before}
-use Rattle.ft_sumdoc.specs.Written.{written_chunk, written_segment}
+use Rattle.ft_sumdoc.specs.Written.{written_chunk, written_segment_record}
 use Rattle.ft_sumdoc.proofs.ReadForms.{each_of_back}
 use Rattle.ft_sumdoc.proofs.ReadStamps.{AreCounts}
 use Rattle.ft_sumdoc.proofs.ReadSegments.{IsSound, given_segment, segment_back}
@@ -78,7 +78,7 @@ not_empty-map (seg ∷ segs) h = refl
 
 chunk_back : (b : Bounds) → AreCounts b → (chunk : List SegRec) → IsChunk b chunk → chunk_form 2 (written_chunk chunk) ≡ Some (map given_segment chunk)
 chunk_back b c chunk h =
-    rw (items_written written_segment chunk, each_of_back (segment_form 2) written_segment given_segment (IsSound b) (segment_back b c) chunk h.1, not_empty-map chunk h.0)
+    rw (items_written written_segment_record chunk, each_of_back (segment_form 2) written_segment_record given_segment (IsSound b) (segment_back b c) chunk h.1, not_empty-map chunk h.0)
 
 pub text_back : (b : Bounds) → AreCounts b → (segs : List SegRec) → AllByRecursion (IsSound b) segs
     → text_form 2 (array (written_items written_chunk (chunks_from 0 segs))) ≡ Some (map (map given_segment) (chunks_from 0 segs))

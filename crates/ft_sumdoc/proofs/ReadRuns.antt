@@ -16,7 +16,7 @@ use Rattle.ft_sumdoc.specs.Segments.{unless_removed}
 use Rattle.ft_sumdoc.specs.Stamps.{Bounds, are_good_stamps, unless_universal}
 use Rattle.ft_sumdoc.specs.Summary.{run_stamps}
 use Rattle.ft_sumdoc.specs.Valid.{AreRuns, are_stamps, is_run}
-use Rattle.ft_sumdoc.specs.Written.{given_mark, given_marks, written_run}
+use Rattle.ft_sumdoc.specs.Written.{given_mark, given_marks, written_unit_run}
 use Rattle.ft_sumdoc.proofs.ReadForms.{each_of_back}
 use Rattle.ft_sumdoc.proofs.ReadStamps.{AreCounts, AreGood, good_run_stamps, insertion_back, stamps_back, stamps_counts, stamps_of}
 
@@ -33,7 +33,7 @@ pub record IsSoundRun (b : Bounds) (run : RunRec) : Type 0 where
   pub valid : is_run b run ≡ true
   pub units : run.count ≤ 2 ^ 52
 
-run_back : (b : Bounds) → AreCounts b → (run : RunRec) → IsSoundRun b run → run_form (written_run run) ≡ Some (given_run run)
+run_back : (b : Bounds) → AreCounts b → (run : RunRec) → IsSoundRun b run → run_form (written_unit_run run) ≡ Some (given_run run)
 unfolding field_name
 run_back b c run h =
     let fs = run_fields run in
@@ -60,9 +60,9 @@ units_same : (runs : List RunRec) → given_units (map given_run runs) ≡ unit_
 units_same [] = refl
 units_same (run ∷ runs) = ap (λ n. run.count + n) (units_same runs)
 
-pub runs_back : (b : Bounds) → AreCounts b → (runs : List RunRec) → AreRuns b runs → runs_form (array (written_items written_run runs)) ≡ Some (map given_run runs)
+pub runs_back : (b : Bounds) → AreCounts b → (runs : List RunRec) → AreRuns b runs → runs_form (array (written_items written_unit_run runs)) ≡ Some (map given_run runs)
 runs_back b c runs h =
-    rw (items_written written_run runs, each_of_back run_form written_run given_run (IsSoundRun b) (run_back b c) runs (sound_runs b runs h), units_same runs, h.units)
+    rw (items_written written_unit_run runs, each_of_back run_form written_unit_run given_run (IsSoundRun b) (run_back b c) runs (sound_runs b runs h), units_same runs, h.units)
 
 pub kept_runs_back : (runs : List RunRec) → map kept_run (map given_run runs) ≡ runs
 kept_runs_back [] = refl

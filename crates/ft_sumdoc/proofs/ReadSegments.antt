@@ -13,12 +13,12 @@ use Rattle.ft_op.proofs.ReadProperties.{named}
 use Rattle.ft_sumdoc.specs.declared.summary.Seg.{Seg}
 use Rattle.ft_sumdoc.specs.declared.summary.Seg.TheVariants.{Chars, Marker}
 use Rattle.ft_sumdoc.specs.declared.summary.SegRec.{SegRec}
-use Rattle.ft_sumdoc.specs.Representable.{IsRepresentableBody, IsRepresentableSegment}
-use Rattle.ft_sumdoc.specs.Segments.{GivenSegment, body_of, segment_form, segment_props, some_characters}
+use Rattle.ft_sumdoc.specs.Representable.{IsRepresentableContent, IsRepresentableSegmentRecord}
+use Rattle.ft_sumdoc.specs.Segments.{GivenSegment, given_body, segment_form, segment_props, some_characters}
 use Rattle.ft_sumdoc.specs.Stamps.{Bounds, unless_universal}
-use Rattle.ft_sumdoc.specs.Valid.{HasValues, IsSegment, is_body}
+use Rattle.ft_sumdoc.specs.Valid.{HasValues, IsSegment, is_segment_body}
 use Rattle.ft_sumdoc.specs.Values.{kept_segment}
-use Rattle.ft_sumdoc.specs.Written.{author_beside, given_characters, given_mark, given_marks, given_props, given_ref_type, written_segment}
+use Rattle.ft_sumdoc.specs.Written.{author_beside, given_characters, given_mark, given_marks, given_props, given_ref_type, written_segment_record}
 use Rattle.ft_sumdoc.proofs.ReadForms.{kept_props_back, props_form_back}
 use Rattle.ft_sumdoc.proofs.ReadStamps.{AreCounts, author_back, author_counts, author_of_back, insertion_back, stamps_back, stamps_counts, stamps_of}
 
@@ -41,10 +41,10 @@ given_segment seg = record { body = seg.body; props = map (named value_of) seg.p
 
 -- a segment that is valid and of texts
 pub record IsSound (b : Bounds) (seg : SegRec) : Type 0 where
-  pub texts : IsRepresentableSegment seg
+  pub texts : IsRepresentableSegmentRecord seg
   pub valid : IsSegment b seg
 
-body_back : (body : Seg) → IsRepresentableBody body → IsTrue (is_body body) → body_of (given_characters body) (given_ref_type body) ≡ Some body
+body_back : (body : Seg) → IsRepresentableContent body → IsTrue (is_segment_body body) → given_body (given_characters body) (given_ref_type body) ≡ Some body
 body_back (Chars []) r h = (cc)
 body_back (Chars (c ∷ cs)) r h = ap some_characters (chars-encodes (c ∷ cs) r)
 body_back (Marker ref_type) r h = rw (count_written ref_type h)
@@ -53,7 +53,7 @@ given_props_back : (props : PropertyList) → KeysAreTexts props → HasValues p
 given_props_back [] texts h = refl
 given_props_back (p ∷ props) texts h = props_form_back (p ∷ props) texts h
 
-pub segment_back : (b : Bounds) → AreCounts b → (seg : SegRec) → IsSound b seg → segment_form 2 (written_segment seg) ≡ Some (given_segment seg)
+pub segment_back : (b : Bounds) → AreCounts b → (seg : SegRec) → IsSound b seg → segment_form 2 (written_segment_record seg) ≡ Some (given_segment seg)
 unfolding field_name
 segment_back b c seg h =
     let fs = segment_fields seg in

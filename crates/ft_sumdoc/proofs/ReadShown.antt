@@ -24,7 +24,7 @@ use Rattle.ft_sumdoc.specs.Intervals as given_intervals
 use Rattle.ft_sumdoc.specs.Representable.{IsRepresentableInterval}
 use Rattle.ft_sumdoc.specs.Valid.{IsCell, IsInterval, is_cell_before, is_interval_before}
 use Rattle.ft_sumdoc.specs.Values.{kept_cell, kept_interval}
-use Rattle.ft_sumdoc.specs.Written.{written_cell, written_interval}
+use Rattle.ft_sumdoc.specs.Written.{written_cell_record, written_interval_record}
 use Rattle.ft_sumdoc.proofs.ReadForms.{canonical_again, each_of_back, kept_props_back, props_form_back, value_not_null}
 
 -- what is in order is in order as it is given
@@ -74,7 +74,7 @@ pub record IsSoundInterval (n : ℕ) (i : IntervalRec) : Type 0 where
   pub texts : IsRepresentableInterval i
   pub valid : IsInterval n i
 
-interval_back : (n : ℕ) → n ≤ 2 ^ 53 → (i : IntervalRec) → IsSoundInterval n i → interval_form n (written_interval i) ≡ Some (given_interval i)
+interval_back : (n : ℕ) → n ≤ 2 ^ 53 → (i : IntervalRec) → IsSoundInterval n i → interval_form n (written_interval_record i) ≡ Some (given_interval i)
 unfolding items
 interval_back n small i h =
     let numbers = are_numbers n i.ends small h.valid.0 in
@@ -88,12 +88,12 @@ interval_back n small i h =
     )
 
 pub intervals_back : (n : ℕ) → n ≤ 2 ^ 53 → (is : List IntervalRec) → AllByRecursion (IsSoundInterval n) is → rises is_interval_before is ≡ true
-    → intervals_form n (array (written_items written_interval is)) ≡ Some (map given_interval is)
+    → intervals_form n (array (written_items written_interval_record is)) ≡ Some (map given_interval is)
 intervals_back n small is h order =
     rw (
-      items_written written_interval is,
-      each_of_back (interval_form n) written_interval given_interval (IsSoundInterval n) (interval_back n small) is h,
-      rises-map given_intervals.is_interval_before given_interval is,
+      items_written written_interval_record is,
+      each_of_back (interval_form n) written_interval_record given_interval (IsSoundInterval n) (interval_back n small) is h,
+      rises-map given_intervals.is_given_interval_before given_interval is,
       order,
     )
 
@@ -109,7 +109,7 @@ given_cell c = record { row = c.row; col = c.col; value = value_of c.value }
 pub below_is_count : (i n : ℕ) → nat_lt i n ≡ true → n ≤ 2 ^ 52 → IsTrue (is_count i)
 below_is_count i n h k = lt-ltb i (2 ^ 53) (omega (arith, ltb-true i n h, k))
 
-cell_back : (rows cols : ℕ) → rows ≤ 2 ^ 52 → cols ≤ 2 ^ 52 → (c : CellRec) → IsCell rows cols c → cell_form rows cols (written_cell c) ≡ Some (given_cell c)
+cell_back : (rows cols : ℕ) → rows ≤ 2 ^ 52 → cols ≤ 2 ^ 52 → (c : CellRec) → IsCell rows cols c → cell_form rows cols (written_cell_record c) ≡ Some (given_cell c)
 unfolding items
 cell_back rows cols few_rows few_cols c h =
     let parts = both (nat_lt c.row rows) (nat_lt c.col cols) h.0 in
@@ -122,12 +122,12 @@ cell_back rows cols few_rows few_cols c h =
     )
 
 pub cells_back : (rows cols : ℕ) → rows ≤ 2 ^ 52 → cols ≤ 2 ^ 52 → (cs : List CellRec) → AllByRecursion (IsCell rows cols) cs → rises is_cell_before cs ≡ true
-    → cells_form rows cols (array (written_items written_cell cs)) ≡ Some (map given_cell cs)
+    → cells_form rows cols (array (written_items written_cell_record cs)) ≡ Some (map given_cell cs)
 cells_back rows cols few_rows few_cols cs h order =
     rw (
-      items_written written_cell cs,
-      each_of_back (cell_form rows cols) written_cell given_cell (IsCell rows cols) (cell_back rows cols few_rows few_cols) cs h,
-      rises-map given_cells.is_cell_before given_cell cs,
+      items_written written_cell_record cs,
+      each_of_back (cell_form rows cols) written_cell_record given_cell (IsCell rows cols) (cell_back rows cols few_rows few_cols) cs h,
+      rises-map given_cells.is_given_cell_before given_cell cs,
       order,
     )
 

@@ -18,10 +18,10 @@ use Rattle.ft_sumdoc.specs.declared.summary.Seg.TheVariants.{Chars, Marker}
 use Rattle.ft_sumdoc.specs.declared.summary.SegRec.{SegRec}
 use Rattle.ft_sumdoc.specs.Forms.{characters, each_of}
 use Rattle.ft_sumdoc.specs.Runs.{GivenRun, given_units, kept_run, run_form, runs_form, unit_count, units_in_range}
-use Rattle.ft_sumdoc.specs.Segments.{GivenSegment, body_of, chunk_form, not_empty, segment_form, segment_props, some_characters, text_form}
-use Rattle.ft_sumdoc.specs.Stamps.{Bounds, GivenStamps, are_good_stamps, are_removals, author_form, author_of, insertion_of, is_good_author, is_good_insertion, is_old, is_recent, is_universal, is_within_bounds, places_behind, same_mark, stamps_with, universal}
+use Rattle.ft_sumdoc.specs.Segments.{GivenSegment, given_body, chunk_form, not_empty, segment_form, segment_props, some_characters, text_form}
+use Rattle.ft_sumdoc.specs.Stamps.{Bounds, GivenStamps, are_good_stamps, are_removals, author_form, given_author, given_insertion, is_good_author, is_good_insertion, is_old, is_recent, is_universal, is_within_bounds, places_behind, same_mark, stamps_with, universal}
 use Rattle.ft_sumdoc.specs.Summary.{run_stamps, segment_stamps}
-use Rattle.ft_sumdoc.specs.Valid.{AreRuns, HasValues, IsSegment, are_stamps, is_author, is_body, is_run}
+use Rattle.ft_sumdoc.specs.Valid.{AreRuns, HasValues, IsSegment, are_stamps, is_author, is_segment_body, is_run}
 use Rattle.ft_sumdoc.specs.Values.{kept_props, kept_segment}
 use Rattle.ft_sumdoc.proofs.ReadChunks.{flat, map-both}
 use Rattle.ft_sumdoc.proofs.ReadStamps.{AreGood}
@@ -56,9 +56,9 @@ valid_insertion : (b : Bounds) (o : Option Mark) → is_good_insertion b o ≡ t
 valid_insertion b None h = refl
 valid_insertion b (Some m) h = or_right (is_universal m) (is_recent b m) h
 
-pub valid_stamps : (b : Bounds) (s : GivenStamps) → are_good_stamps b s ≡ true → IsTrue (are_stamps b (insertion_of s) s.removals)
+pub valid_stamps : (b : Bounds) (s : GivenStamps) → are_good_stamps b s ≡ true → IsTrue (are_stamps b (given_insertion s) s.removals)
 valid_stamps b s h =
-    let parts = all_three (is_good_author b s.author s.insertion) (is_good_insertion b s.insertion) (are_removals b (insertion_of s).seq s.removals) h in
+    let parts = all_three (is_good_author b s.author s.insertion) (is_good_insertion b s.insertion) (are_removals b (given_insertion s).seq s.removals) h in
     rw (valid_insertion b s.insertion parts.1, parts.2)
 
 same_itself : (m : Mark) → same_mark m m ≡ true
@@ -78,9 +78,9 @@ valid_author_of b None (Some m) h k = rw (not_universal b.min b.seq b m k, same_
 valid_author_of b (Some a) None h k = or_right (is_universal a) (is_old b a) h
 valid_author_of b (Some a) (Some m) h k = (cc)
 
-pub valid_author : (b : Bounds) (s : GivenStamps) → are_good_stamps b s ≡ true → IsTrue (is_author b (insertion_of s) (author_of s))
+pub valid_author : (b : Bounds) (s : GivenStamps) → are_good_stamps b s ≡ true → IsTrue (is_author b (given_insertion s) (given_author s))
 valid_author b s h =
-    let parts = all_three (is_good_author b s.author s.insertion) (is_good_insertion b s.insertion) (are_removals b (insertion_of s).seq s.removals) h in
+    let parts = all_three (is_good_author b s.author s.insertion) (is_good_insertion b s.insertion) (are_removals b (given_insertion s).seq s.removals) h in
     valid_author_of b s.author s.insertion parts.0 parts.1
 
 -- ---- forms
@@ -92,26 +92,26 @@ all_of Q form f (x ∷ xs) ys e =
     let rest = some_step _ (each_of form xs) ys first.2 in
     subst (AllByRecursion Q) (same_Some (first.0 ∷ rest.0) ys rest.2) (f x first.0 first.1, all_of Q form f xs rest.0 rest.1)
 
-some_characters-body : (cs : Characters) (body : Seg) → some_characters cs ≡ Some body → is_body body ≡ true
+some_characters-body : (cs : Characters) (body : Seg) → some_characters cs ≡ Some body → is_segment_body body ≡ true
 some_characters-body [] body e = (cc)
-some_characters-body (c ∷ cs) body e = subst (λ x. is_body x ≡ true) (same_Some (Chars (c ∷ cs)) body e) refl
+some_characters-body (c ∷ cs) body e = subst (λ x. is_segment_body x ≡ true) (same_Some (Chars (c ∷ cs)) body e) refl
 
-marker-body : (d : Data) (o : Option ℕ) (body : Seg) → count d ≡ o → option_map (λ ref_type. Marker ref_type) o ≡ Some body → is_body body ≡ true
+marker-body : (d : Data) (o : Option ℕ) (body : Seg) → count d ≡ o → option_map (λ ref_type. Marker ref_type) o ≡ Some body → is_segment_body body ≡ true
 marker-body d None body h e = (cc)
-marker-body d (Some n) body h e = subst (λ x. is_body x ≡ true) (same_Some (Marker n) body e) (lt-ltb n (2 ^ 53) (count-below d n h))
+marker-body d (Some n) body h e = subst (λ x. is_segment_body x ≡ true) (same_Some (Marker n) body e) (lt-ltb n (2 ^ 53) (count-below d n h))
 
-body_of-body : (text marker : Option Data) (body : Seg) → body_of text marker ≡ Some body → is_body body ≡ true
+body_of-body : (text marker : Option Data) (body : Seg) → given_body text marker ≡ Some body → is_segment_body body ≡ true
 body_of-body (Some text) None body e = let cs = some_step some_characters (characters text) body e in some_characters-body cs.0 body cs.2
 body_of-body None (Some marker) body e = marker-body marker (count marker) body refl e
 body_of-body None None body e = (cc)
 body_of-body (Some text) (Some marker) body e = (cc)
 
 abbrev HasBody : GivenSegment → Type 0
-HasBody g = is_body g.body ≡ true
+HasBody g = is_segment_body g.body ≡ true
 
 segment_form-body : (version : ℕ) (d : Data) (g : GivenSegment) → segment_form version d ≡ Some g → HasBody g
 segment_form-body version d g e =
-    let body = some_step _ (body_of (field d SegmentText) (field d SegmentMarker)) g e in
+    let body = some_step _ (given_body (field d SegmentText) (field d SegmentMarker)) g e in
     let props = some_step _ (segment_props (field d SegmentProps)) g body.2 in
     let author = some_step _ (author_form version d) g props.2 in
     let stamps = some_step _ (stamps_with author.0 d) g author.2 in
@@ -151,7 +151,7 @@ gives seg = seg.stamps
 kept-valid : (b : Bounds) (g : GivenSegment) (seg : SegRec) → kept_segment g ≡ Ok seg → HasBody g → are_good_stamps b g.stamps ≡ true → HasValues seg.props → IsSegment b seg
 kept-valid b g seg e body good values =
     let props = read_step (kept_props g.props) _ seg e in
-    let made : SegRec = record { body = g.body; props = props.0; by = author_of g.stamps; ins = insertion_of g.stamps; dels = g.stamps.removals } in
+    let made : SegRec = record { body = g.body; props = props.0; by = given_author g.stamps; ins = given_insertion g.stamps; dels = g.stamps.removals } in
     let same : made ≡ seg = same_value made seg _ refl props.2 in
     subst (IsSegment b) same (record {
       body = body;

@@ -22,7 +22,7 @@ use Rattle.ft_sumdoc.specs.declared.summary.SegRec.{SegRec}
 use Rattle.ft_sumdoc.specs.declared.summary.SumDoc.{SumDoc}
 use Rattle.ft_sumdoc.specs.Cells.{GivenCell, cell_form, cell_of_three, cells_form, is_place_before}
 use Rattle.ft_sumdoc.specs.Cells as given_cells
-use Rattle.ft_sumdoc.specs.Counts.{Head, are_distinct, bounds_of, distinct_names, head, known_version, names_form}
+use Rattle.ft_sumdoc.specs.Counts.{Head, are_distinct_names, bounds_of, distinct_names, head, known_version, names_form}
 use Rattle.ft_sumdoc.specs.Faults.{fault_of_field, fault_of_json}
 use Rattle.ft_sumdoc.specs.Forms.{characters, each_of, place_number, props_form, rises}
 use Rattle.ft_sumdoc.specs.Intervals.{GivenInterval, are_shown_ends, interval_form, interval_of_five, intervals_form, is_name_before}
@@ -30,7 +30,7 @@ use Rattle.ft_sumdoc.specs.Intervals as given_intervals
 use Rattle.ft_sumdoc.specs.Runs.{kept_run, runs_form, unremoved_units}
 use Rattle.ft_sumdoc.specs.Segments.{text_form, text_length, unremoved_text}
 use Rattle.ft_sumdoc.specs.Stamps.{Bounds, places_behind}
-use Rattle.ft_sumdoc.specs.Summary.{Lists, counted, element_count, given_length, lists, run_stamps, segment_stamps, summary, summary_of}
+use Rattle.ft_sumdoc.specs.Summary.{Lists, agreed_count, element_count, given_length, lists, run_stamps, segment_stamps, summary, summary_of_object}
 use Rattle.ft_sumdoc.specs.Valid.{AreRuns, HasOnlyValues, HasValues, IsCell, IsInterval, IsSegment, IsValidSummary, IsValue, is_cell_before, is_interval_before}
 use Rattle.ft_sumdoc.specs.Values.{kept_cell, kept_each, kept_interval, kept_props, kept_segment}
 use Rattle.ft_sumdoc.proofs.ReadChunks.{flat}
@@ -47,14 +47,14 @@ pub record IsValidHead (h : Head) : Type 0 where
   pub min : IsTrue (nat_le h.min h.seq)
   pub skipped : IsTrue (is_count h.skipped)
   pub other : IsTrue (is_count h.other)
-  pub conns : IsTrue (are_distinct h.conns)
+  pub conns : IsTrue (are_distinct_names h.conns)
 
-distinct : (d : Data) (names : List Characters) → names_form d ≡ Some names → are_distinct names ≡ true
+distinct : (d : Data) (names : List Characters) → names_form d ≡ Some names → are_distinct_names names ≡ true
 distinct d names e =
     let ds = some_step distinct_names (items d) names e in
     let all = some_step _ (each_of characters ds.0) names ds.2 in
-    let kept = where_held (are_distinct all.0) all.0 names all.2 in
-    subst (λ ns. are_distinct ns ≡ true) kept.1 kept.0
+    let kept = where_held (are_distinct_names all.0) all.0 names all.2 in
+    subst (λ ns. are_distinct_names ns ≡ true) kept.1 kept.0
 
 at_most : (m n : ℕ) → nat_lt n m ≡ false → nat_le m n ≡ true
 at_most m n h = grind (arith, nat_tests)
@@ -104,13 +104,13 @@ interval_of_five-ends n (l ∷ i ∷ s ∷ e ∷ p ∷ q ∷ ds) g h = (cc)
 interval_form-ends : (n : ℕ) (d : Data) (g : GivenInterval) → interval_form n d ≡ Some g → AreEndsOf n g
 interval_form-ends n d g e = let ds = some_step _ (items d) g e in interval_of_five-ends n ds.0 g ds.2
 
-intervals_form-valid : (n : ℕ) (d : Data) (gs : List GivenInterval) → intervals_form n d ≡ Some gs → AllByRecursion (AreEndsOf n) gs × (rises given_intervals.is_interval_before gs ≡ true)
+intervals_form-valid : (n : ℕ) (d : Data) (gs : List GivenInterval) → intervals_form n d ≡ Some gs → AllByRecursion (AreEndsOf n) gs × (rises given_intervals.is_given_interval_before gs ≡ true)
 intervals_form-valid n d gs e =
     let ds = some_step _ (items d) gs e in
     let all = some_step _ (each_of (interval_form n) ds.0) gs ds.2 in
-    let kept = where_held (rises given_intervals.is_interval_before all.0) all.0 gs all.2 in (
+    let kept = where_held (rises given_intervals.is_given_interval_before all.0) all.0 gs all.2 in (
       subst (AllByRecursion (AreEndsOf n)) kept.1 (all_of (AreEndsOf n) (interval_form n) (interval_form-ends n) ds.0 all.0 all.1),
-      subst (λ xs. rises given_intervals.is_interval_before xs ≡ true) kept.1 kept.0,
+      subst (λ xs. rises given_intervals.is_given_interval_before xs ≡ true) kept.1 kept.0,
     )
 
 abbrev Name : Type 0
@@ -147,7 +147,7 @@ kept_intervals-valid n (g ∷ gs) is e ends values =
     let more = kept_intervals-valid n gs rest.0 rest.1 ends.1 has.1 in
     (subst (AllByRecursion (IsInterval n)) same (one.0, more.0), ap₂ (λ (x : Name) (xs : List Name). x ∷ xs) one.1 more.1 ∙ ap (map kept_name) same)
 
-in_order : (gs : List GivenInterval) (is : List IntervalRec) → map given_name gs ≡ map kept_name is → rises given_intervals.is_interval_before gs ≡ true → rises is_interval_before is ≡ true
+in_order : (gs : List GivenInterval) (is : List IntervalRec) → map given_name gs ≡ map kept_name is → rises given_intervals.is_given_interval_before gs ≡ true → rises is_interval_before is ≡ true
 in_order gs is same h = sym (rises-map comes_before kept_name is) ∙ ap (rises comes_before) (sym same) ∙ rises-map comes_before given_name gs ∙ h
 
 -- ---- cells
@@ -173,13 +173,13 @@ cell_of_three-placed rows cols (r ∷ c ∷ value ∷ d ∷ ds) g h = (cc)
 cell_form-placed : (rows cols : ℕ) (d : Data) (g : GivenCell) → cell_form rows cols d ≡ Some g → IsPlaced rows cols g
 cell_form-placed rows cols d g e = let ds = some_step _ (items d) g e in cell_of_three-placed rows cols ds.0 g ds.2
 
-cells_form-valid : (rows cols : ℕ) (d : Data) (gs : List GivenCell) → cells_form rows cols d ≡ Some gs → AllByRecursion (IsPlaced rows cols) gs × (rises given_cells.is_cell_before gs ≡ true)
+cells_form-valid : (rows cols : ℕ) (d : Data) (gs : List GivenCell) → cells_form rows cols d ≡ Some gs → AllByRecursion (IsPlaced rows cols) gs × (rises given_cells.is_given_cell_before gs ≡ true)
 cells_form-valid rows cols d gs e =
     let ds = some_step _ (items d) gs e in
     let all = some_step _ (each_of (cell_form rows cols) ds.0) gs ds.2 in
-    let kept = where_held (rises given_cells.is_cell_before all.0) all.0 gs all.2 in (
+    let kept = where_held (rises given_cells.is_given_cell_before all.0) all.0 gs all.2 in (
       subst (AllByRecursion (IsPlaced rows cols)) kept.1 (all_of (IsPlaced rows cols) (cell_form rows cols) (cell_form-placed rows cols) ds.0 all.0 all.1),
-      subst (λ xs. rises given_cells.is_cell_before xs ≡ true) kept.1 kept.0,
+      subst (λ xs. rises given_cells.is_given_cell_before xs ≡ true) kept.1 kept.0,
     )
 
 abbrev Place : Type 0
@@ -216,7 +216,7 @@ kept_cells-valid rows cols (g ∷ gs) cs e placed values =
     let more = kept_cells-valid rows cols gs rest.0 rest.1 placed.1 has.1 in
     (subst (AllByRecursion (IsCell rows cols)) same (one.0, more.0), ap₂ (λ (x : Place) (xs : List Place). x ∷ xs) one.1 more.1 ∙ ap (map kept_place) same)
 
-cells_in_order : (gs : List GivenCell) (cs : List CellRec) → map given_place gs ≡ map kept_place cs → rises given_cells.is_cell_before gs ≡ true → rises is_cell_before cs ≡ true
+cells_in_order : (gs : List GivenCell) (cs : List CellRec) → map given_place gs ≡ map kept_place cs → rises given_cells.is_given_cell_before gs ≡ true → rises is_cell_before cs ≡ true
 cells_in_order gs cs same h = sym (rises-map stands_before kept_place cs) ∙ ap (rises stands_before) (sym same) ∙ rises-map stands_before given_place gs ∙ h
 
 -- ---- the lists of elements
@@ -264,14 +264,14 @@ element_count-valid : (ls : Lists) (d : Data) (n : ℕ) → element_count ls d �
 unfolding element_count
 element_count-valid ls d n e =
     let said = fault_step fault_of_field (count_field d Count) _ n e in
-    let found = read_step (counted said.0 (text_length ls.text)) _ n said.2 in
+    let found = read_step (agreed_count said.0 (text_length ls.text)) _ n said.2 in
     let same = test_held (nat_eq said.0 (text_length ls.text)) (Ok said.0) _ found.0 found.1 in
     subst (λ k. IsTrue (is_count k)) (eqb-true said.0 (text_length ls.text) same.0) (count_field-is_count d Count said.0 said.1)
 
 -- ---- summaries
 
-summary_of-valid : (d : Data) (sum : SumDoc) → summary_of d ≡ Ok sum → HasOnlyValues sum → IsValidSummary sum
-unfolding summary_of
+summary_of-valid : (d : Data) (sum : SumDoc) → summary_of_object d ≡ Ok sum → HasOnlyValues sum → IsValidSummary sum
+unfolding summary_of_object
 summary_of-valid d sum e values =
     let h = read_step (head d) _ sum e in
     let ls = read_step (lists h.0 d) _ sum h.2 in
@@ -325,5 +325,5 @@ pub read_summary-valid : (bytes : List ℕ) (sum : SumDoc) → summary bytes ≡
 unfolding summary
 read_summary-valid bytes sum e values =
     let d = fault_step fault_of_json (read_line bytes) _ sum e in
-    let tested = test_held (is_object d.0) (summary_of d.0) _ sum d.2 in
+    let tested = test_held (is_object d.0) (summary_of_object d.0) _ sum d.2 in
     summary_of-valid d.0 sum tested.1 values

@@ -23,13 +23,13 @@ use Rattle.ft_sumdoc.specs.declared.summary.Seg.TheVariants.{Chars, Marker}
 use Rattle.ft_sumdoc.specs.declared.summary.SegRec.{SegRec}
 use Rattle.ft_sumdoc.specs.declared.summary.SumDoc.{SumDoc}
 use Rattle.ft_sumdoc.specs.Chunks.{chunks_from}
-use Rattle.ft_sumdoc.specs.Representable.{IsRepresentable, IsRepresentableBody, IsRepresentableInterval, IsRepresentableSegment}
+use Rattle.ft_sumdoc.specs.Representable.{IsRepresentableSummary, IsRepresentableContent, IsRepresentableInterval, IsRepresentableSegmentRecord}
 use Rattle.ft_sumdoc.specs.Runs.{unit_count, unremoved_units}
 use Rattle.ft_sumdoc.specs.Segments.{body_length, text_length, unremoved_text}
 use Rattle.ft_sumdoc.specs.Stamps.{Bounds, unless_universal}
-use Rattle.ft_sumdoc.specs.Valid.{AreRuns, HasValues, IsCell, IsInterval, IsSegment, IsValidSummary, are_stamps, bounds, is_body}
+use Rattle.ft_sumdoc.specs.Valid.{AreRuns, HasValues, IsCell, IsInterval, IsSegment, IsValidSummary, are_stamps, bounds, is_segment_body}
 use Rattle.ft_sumdoc.specs.WellFormed.{IsWellCut}
-use Rattle.ft_sumdoc.specs.Written.{author_beside, given_characters, given_mark, given_marks, given_props, given_ref_type, written_cell, written_chunk, written_interval, written_mark, written_props, written_run, written_segment, written_summary}
+use Rattle.ft_sumdoc.specs.Written.{author_beside, given_characters, given_mark, given_marks, given_props, given_ref_type, written_cell_record, written_chunk, written_interval_record, written_mark, written_props, written_unit_run, written_segment_record, written_summary}
 use Rattle.ft_sumdoc.proofs.ReadChunks.{IsChunk, are_chunks}
 use Rattle.ft_sumdoc.proofs.ReadRuns.{IsSoundRun, run_fields, sound_runs, unless_removed-most, unremoved-most}
 use Rattle.ft_sumdoc.proofs.ReadSegments.{IsSound, segment_fields}
@@ -39,14 +39,14 @@ use Rattle.ft_sumdoc.proofs.ReadStamps.{AreCounts, HasCounts, HasCountsIfGiven, 
 -- the fields of a summary
 abbrev pub summary_fields : SumDoc → List (List ℕ × Option Data)
 summary_fields sum =
-    (codes "cells", Some (array (written_items written_cell sum.cells)))
-    ∷ (codes "cols", Some (array (written_items written_run sum.cols)))
+    (codes "cells", Some (array (written_items written_cell_record sum.cells)))
+    ∷ (codes "cols", Some (array (written_items written_unit_run sum.cols)))
     ∷ (codes "conns", Some (array (written_items written_text sum.conns)))
     ∷ (codes "count", Some (written_count (text_length sum.text)))
-    ∷ (codes "intervals", Some (array (written_items written_interval sum.intervals)))
+    ∷ (codes "intervals", Some (array (written_items written_interval_record sum.intervals)))
     ∷ (codes "min", Some (written_count sum.min))
     ∷ (codes "other", Some (written_count sum.other))
-    ∷ (codes "rows", Some (array (written_items written_run sum.rows)))
+    ∷ (codes "rows", Some (array (written_items written_unit_run sum.rows)))
     ∷ (codes "seq", Some (written_count sum.seq))
     ∷ (codes "skipped", Some (written_count sum.skipped))
     ∷ (codes "text", Some (array (written_items written_chunk (chunks_from 0 sum.text))))
@@ -73,15 +73,15 @@ canonical_given_props : (props : PropertyList) → IsKeyed props → HasValues p
 canonical_given_props [] keyed h = tt
 canonical_given_props (p ∷ props) keyed h = canonical_props (p ∷ props) keyed h
 
-canonical_characters : (body : Seg) → IsRepresentableBody body → IsCanonicalIfGiven (given_characters body)
+canonical_characters : (body : Seg) → IsRepresentableContent body → IsCanonicalIfGiven (given_characters body)
 canonical_characters (Chars text) h = canonical_text text h
 canonical_characters (Marker ref_type) h = tt
 
-canonical_ref_type : (body : Seg) → IsTrue (is_body body) → IsCanonicalIfGiven (given_ref_type body)
+canonical_ref_type : (body : Seg) → IsTrue (is_segment_body body) → IsCanonicalIfGiven (given_ref_type body)
 canonical_ref_type (Chars text) h = tt
 canonical_ref_type (Marker ref_type) h = canonical_count ref_type h
 
-canonical_segment : (b : Bounds) → AreCounts b → (seg : SegRec) → IsSound b seg → IsCanonical (written_segment seg)
+canonical_segment : (b : Bounds) → AreCounts b → (seg : SegRec) → IsSound b seg → IsCanonical (written_segment_record seg)
 canonical_segment b c seg h =
     let counts = stamps_counts b seg.ins seg.dels c h.valid.stamps in
     canonical_fields (segment_fields seg) refl (
@@ -102,9 +102,9 @@ canonical_segment b c seg h =
     )
 
 canonical_chunk : (b : Bounds) → AreCounts b → (chunk : List SegRec) → IsChunk b chunk → IsCanonical (written_chunk chunk)
-canonical_chunk b c chunk h = canonical_items written_segment chunk (each (IsSound b) _ (canonical_segment b c) chunk h.1)
+canonical_chunk b c chunk h = canonical_items written_segment_record chunk (each (IsSound b) _ (canonical_segment b c) chunk h.1)
 
-canonical_run : (b : Bounds) → AreCounts b → (run : RunRec) → IsSoundRun b run → IsCanonical (written_run run)
+canonical_run : (b : Bounds) → AreCounts b → (run : RunRec) → IsSoundRun b run → IsCanonical (written_unit_run run)
 canonical_run b c run h =
     let counts = stamps_counts b run.ins run.dels c (both _ (are_stamps b run.ins run.dels) h.valid).1 in
     canonical_fields (run_fields run) refl (
@@ -121,7 +121,7 @@ safe_number (negsuc n) h =
     let parts = both (not (int_lt (negsuc n) (negsuc 0))) (not (int_lt (pos (2 ^ 53 - 1)) (negsuc n))) h in
     rw (below_one n parts.0)
 
-canonical_interval : (n : ℕ) → n ≤ 2 ^ 53 → (i : IntervalRec) → IsSoundInterval n i → IsCanonical (written_interval i)
+canonical_interval : (n : ℕ) → n ≤ 2 ^ 53 → (i : IntervalRec) → IsSoundInterval n i → IsCanonical (written_interval_record i)
 canonical_interval n small i h =
     let numbers = are_numbers n i.ends small h.valid.0 in (
       canonical_text i.label h.texts.0,
@@ -158,7 +158,7 @@ body_levels : (body : Seg) → HasAtMost 101 (given_ref_type body) × HasAtMost 
 body_levels (Chars text) = (tt, omega arith)
 body_levels (Marker ref_type) = (omega arith, tt)
 
-segment_levels : (b : Bounds) → AreCounts b → (seg : SegRec) → IsSound b seg → depth (written_segment seg) ≤ 102
+segment_levels : (b : Bounds) → AreCounts b → (seg : SegRec) → IsSound b seg → depth (written_segment_record seg) ≤ 102
 segment_levels b c seg h =
     let counts = stamps_counts b seg.ins seg.dels c h.valid.stamps in
     let body = body_levels seg.body in
@@ -169,25 +169,25 @@ segment_levels b c seg h =
     omega (arith, within)
 
 chunk_levels : (b : Bounds) → AreCounts b → (chunk : List SegRec) → IsChunk b chunk → depth (written_chunk chunk) ≤ 103
-chunk_levels b c chunk h = omega (arith, items_levels (IsSound b) written_segment 102 (segment_levels b c) chunk h.1)
+chunk_levels b c chunk h = omega (arith, items_levels (IsSound b) written_segment_record 102 (segment_levels b c) chunk h.1)
 
-run_levels : (b : Bounds) → AreCounts b → (run : RunRec) → IsSoundRun b run → depth (written_run run) ≤ 102
+run_levels : (b : Bounds) → AreCounts b → (run : RunRec) → IsSoundRun b run → depth (written_unit_run run) ≤ 102
 run_levels b c run h =
     let counts = stamps_counts b run.ins run.dels c (both _ (are_stamps b run.ins run.dels) h.valid).1 in
     let within = fields_within 101 (run_fields run) (mark_levels (unless_universal run.ins), (omega arith, (marks_levels run.dels counts.1, tt))) in
     omega (arith, within)
 
-interval_levels : (n : ℕ) (i : IntervalRec) → IsSoundInterval n i → depth (written_interval i) ≤ 102
+interval_levels : (n : ℕ) (i : IntervalRec) → IsSoundInterval n i → depth (written_interval_record i) ≤ 102
 interval_levels n i h = omega (arith, props_levels i.props h.valid.1)
 
 -- ---- cells
 
-canonical_cell : (rows cols : ℕ) → rows ≤ 2 ^ 52 → cols ≤ 2 ^ 52 → (c : CellRec) → IsCell rows cols c → IsCanonical (written_cell c)
+canonical_cell : (rows cols : ℕ) → rows ≤ 2 ^ 52 → cols ≤ 2 ^ 52 → (c : CellRec) → IsCell rows cols c → IsCanonical (written_cell_record c)
 canonical_cell rows cols few_rows few_cols c h =
     let parts = both (nat_lt c.row rows) (nat_lt c.col cols) h.0 in
     (canonical_count c.row (below_is_count c.row rows parts.0 few_rows), (canonical_count c.col (below_is_count c.col cols parts.1 few_cols), (canonical_value_of c.value h.1.0, tt)))
 
-cell_levels : (rows cols : ℕ) (c : CellRec) → IsCell rows cols c → depth (written_cell c) ≤ 102
+cell_levels : (rows cols : ℕ) (c : CellRec) → IsCell rows cols c → depth (written_cell_record c) ≤ 102
 cell_levels rows cols c h = omega (arith, value_levels c.value h.1.0)
 
 text_level : (text : Characters) → IsText text → depth (written_text text) ≤ 102
@@ -197,14 +197,14 @@ text_level text h = omega arith
 
 -- a summary that is valid, of texts, and cut as what is written
 pub record IsSoundSummary (sum : SumDoc) : Type 0 where
-  pub texts : IsRepresentable sum
+  pub texts : IsRepresentableSummary sum
   pub valid : IsValidSummary sum
   pub formed : IsWellCut sum
 
 pub counts_of : (sum : SumDoc) → IsSoundSummary sum → AreCounts (bounds sum)
 counts_of sum h = record { seq = h.valid.seq; conns = h.formed.conns; min = leb-true sum.min sum.seq h.valid.min }
 
-sound_segments : (b : Bounds) (segs : List SegRec) → AllByRecursion IsRepresentableSegment segs → AllByRecursion (IsSegment b) segs → AllByRecursion (IsSound b) segs
+sound_segments : (b : Bounds) (segs : List SegRec) → AllByRecursion IsRepresentableSegmentRecord segs → AllByRecursion (IsSegment b) segs → AllByRecursion (IsSound b) segs
 sound_segments b [] h k = tt
 sound_segments b (seg ∷ segs) h k = (record { texts = h.0; valid = k.0 }, sound_segments b segs h.1 k.1)
 
@@ -228,8 +228,8 @@ few_elements sum h = omega (arith, length_most sum.text, ltb-true (text_length s
 pub few_units : (b : Bounds) (runs : List RunRec) → AreRuns b runs → unremoved_units runs ≤ 2 ^ 52
 few_units b runs h = omega (arith, unremoved-most runs, leb-true (unit_count runs) (2 ^ 52) h.units)
 
-canonical_runs : (b : Bounds) → AreCounts b → (runs : List RunRec) → AreRuns b runs → IsCanonical (array (written_items written_run runs))
-canonical_runs b c runs h = canonical_items written_run runs (each (IsSoundRun b) _ (canonical_run b c) runs (sound_runs b runs h))
+canonical_runs : (b : Bounds) → AreCounts b → (runs : List RunRec) → AreRuns b runs → IsCanonical (array (written_items written_unit_run runs))
+canonical_runs b c runs h = canonical_items written_unit_run runs (each (IsSoundRun b) _ (canonical_run b c) runs (sound_runs b runs h))
 
 pub canonical_summary : (sum : SumDoc) → IsSoundSummary sum → IsCanonical (written_summary sum)
 canonical_summary sum h =
@@ -241,7 +241,7 @@ canonical_summary sum h =
     let interval = canonical_interval (unremoved_text sum.text) (few_elements sum h) in
     let min_count : IsTrue (is_count sum.min) = lt-ltb sum.min (2 ^ 53) (omega (arith, c.min, ltb-true sum.seq (2 ^ 53) h.valid.seq)) in
     canonical_fields (summary_fields sum) refl (
-      canonical_items written_cell sum.cells (each (IsCell rows cols) _ cell sum.cells h.valid.cells),
+      canonical_items written_cell_record sum.cells (each (IsCell rows cols) _ cell sum.cells h.valid.cells),
       (
         canonical_runs b c sum.cols h.valid.cols,
         (
@@ -249,7 +249,7 @@ canonical_summary sum h =
           (
             canonical_count (text_length sum.text) h.valid.elements,
             (
-              canonical_items written_interval sum.intervals (each (IsSoundInterval (unremoved_text sum.text)) _ interval sum.intervals (sound_intervals sum h)),
+              canonical_items written_interval_record sum.intervals (each (IsSoundInterval (unremoved_text sum.text)) _ interval sum.intervals (sound_intervals sum h)),
               (
                 canonical_count sum.min min_count,
                 (
@@ -281,11 +281,11 @@ summary_levels sum h =
     let c = counts_of sum h in
     let rows = unremoved_units sum.rows in
     let cols = unremoved_units sum.cols in
-    let cells = items_levels (IsCell rows cols) written_cell 102 (cell_levels rows cols) sum.cells h.valid.cells in
-    let row_runs = items_levels (IsSoundRun b) written_run 102 (run_levels b c) sum.rows (sound_runs b sum.rows h.valid.rows) in
-    let col_runs = items_levels (IsSoundRun b) written_run 102 (run_levels b c) sum.cols (sound_runs b sum.cols h.valid.cols) in
+    let cells = items_levels (IsCell rows cols) written_cell_record 102 (cell_levels rows cols) sum.cells h.valid.cells in
+    let row_runs = items_levels (IsSoundRun b) written_unit_run 102 (run_levels b c) sum.rows (sound_runs b sum.rows h.valid.rows) in
+    let col_runs = items_levels (IsSoundRun b) written_unit_run 102 (run_levels b c) sum.cols (sound_runs b sum.cols h.valid.cols) in
     let names = items_levels IsText written_text 102 text_level sum.conns h.texts.conns in
-    let intervals = items_levels (IsSoundInterval (unremoved_text sum.text)) written_interval 102 (interval_levels (unremoved_text sum.text)) sum.intervals (sound_intervals sum h) in
+    let intervals = items_levels (IsSoundInterval (unremoved_text sum.text)) written_interval_record 102 (interval_levels (unremoved_text sum.text)) sum.intervals (sound_intervals sum h) in
     let chunks = items_levels (IsChunk b) written_chunk 103 (chunk_levels b c) (chunks_from 0 sum.text) (are_chunks b 0 sum.text (sound_text sum h)) in
     let within = fields_within 104 (summary_fields sum) (
       omega (arith, cells),

@@ -15,8 +15,8 @@ pub record GivenCell : Type 0 where
 abbrev pub is_place_before : ℕ → ℕ → ℕ → ℕ → Bool
 is_place_before row col other_row other_col = nat_lt row other_row || (nat_eq row other_row && nat_lt col other_col)
 
-abbrev pub is_cell_before : GivenCell → GivenCell → Bool
-is_cell_before c d = is_place_before c.row c.col d.row d.col
+abbrev pub is_given_cell_before : GivenCell → GivenCell → Bool
+is_given_cell_before c d = is_place_before c.row c.col d.row d.col
 
 -- the cell of three values: row, column, a value that isn't null
 abbrev pub cell_of_three : ℕ → ℕ → List Data → Option GivenCell
@@ -35,4 +35,4 @@ abbrev pub cells_form : ℕ → ℕ → Data → Option (List GivenCell)
 cells_form rows cols d = do
   ds ← items d
   cs ← each_of (cell_form rows cols) ds
-  where_true (rises is_cell_before cs) cs
+  where_true (rises is_given_cell_before cs) cs

@@ -9,7 +9,7 @@ use Rattle.ft_op.specs.Reading.{◌>>=◌}
 use Rattle.ft_sumdoc.specs.declared.summary.SumCause.TheVariants.{WrongKind}
 use Rattle.ft_sumdoc.specs.declared.summary.SumFault.{SumFault}
 use Rattle.ft_sumdoc.specs.declared.summary.SumFault.TheVariants.{Malformed, Version}
-use Rattle.ft_sumdoc.specs.Faults.{needed}
+use Rattle.ft_sumdoc.specs.Faults.{field_of_summary}
 use Rattle.ft_sumdoc.specs.Forms.{characters, each_of, where_true}
 use Rattle.ft_sumdoc.specs.Stamps.{Bounds}
 
@@ -31,13 +31,13 @@ abbrev pub known_version : ℕ → Result ℕ SumFault
 known_version n = if nat_eq n 1 || nat_eq n 2 then Ok n else Err (Version n)
 
 -- whether no name stands twice
-abbrev pub are_distinct : List Characters → Bool
-are_distinct [] = true
-are_distinct (name ∷ names) = not (list_any (bytes_eq name) names) && are_distinct names
+abbrev pub are_distinct_names : List Characters → Bool
+are_distinct_names [] = true
+are_distinct_names (name ∷ names) = not (list_any (bytes_eq name) names) && are_distinct_names names
 
 -- the names that a list of strings is, none twice
 abbrev pub distinct_names : List Data → Option (List Characters)
-distinct_names ds = option_and_then (λ names. where_true (are_distinct names) names) (each_of characters ds)
+distinct_names ds = option_and_then (λ names. where_true (are_distinct_names names) names) (each_of characters ds)
 
 -- the names of connections that an array of strings is
 abbrev pub names_form : Data → Option (List Characters)
@@ -48,16 +48,16 @@ abbrev pub head_with : ℕ → ℕ → ℕ → ℕ → ℕ → Data → Result H
 head_with version seq min skipped other d =
     if nat_lt seq min then Err (Malformed (WrongKind Min))
     else (do
-      conns ← needed (needed_field names_form d Conns)
+      conns ← field_of_summary (needed_field names_form d Conns)
       Ok (record { version = version; seq = seq; min = min; skipped = skipped; other = other; conns = conns }))
 
 -- what stands before the lists of the summary that an object is
 unfoldable pub head : Data → Result Head SumFault
 head d = do
-  n ← needed (count_field d VersionField)
+  n ← field_of_summary (count_field d VersionField)
   version ← known_version n
-  seq ← needed (count_field d Seq)
-  min ← needed (count_field d Min)
-  skipped ← needed (count_field d Skipped)
-  other ← needed (count_field d Other)
+  seq ← field_of_summary (count_field d Seq)
+  min ← field_of_summary (count_field d Min)
+  skipped ← field_of_summary (count_field d Skipped)
+  other ← field_of_summary (count_field d Other)
   head_with version seq min skipped other d

@@ -24,5 +24,5 @@ fault_of_field (field_fault.WrongKind f) = Malformed (WrongKind f)
 fault_of_field field_fault.OutOfMemory = OutOfMemory
 
 -- what a field gives, or its fault as one of a summary
-abbrev pub needed : {A : Type 0} → Result A FieldFault → Result A SumFault
-needed r = with_fault fault_of_field r
+abbrev pub field_of_summary : {A : Type 0} → Result A FieldFault → Result A SumFault
+field_of_summary r = with_fault fault_of_field r

@@ -23,8 +23,8 @@ abbrev pub is_name_before : Characters → Characters → Characters → Charact
 is_name_before label id other_label other_id =
     is_lt (text_cmp label other_label) || (bytes_eq label other_label && is_lt (text_cmp id other_id))
 
-abbrev pub is_interval_before : GivenInterval → GivenInterval → Bool
-is_interval_before i j = is_name_before i.label i.id j.label j.id
+abbrev pub is_given_interval_before : GivenInterval → GivenInterval → Bool
+is_given_interval_before i j = is_name_before i.label i.id j.label j.id
 
 -- the interval of these ends, if they are allowed on so many elements
 abbrev pub interval_with : ℕ → Characters → Characters → Ends2 → GivenProps → Option GivenInterval
@@ -50,4 +50,4 @@ abbrev pub intervals_form : ℕ → Data → Option (List GivenInterval)
 intervals_form n d = do
   ds ← items d
   is ← each_of (interval_form n) ds
-  where_true (rises is_interval_before is) is
+  where_true (rises is_given_interval_before is) is

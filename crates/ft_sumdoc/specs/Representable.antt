@@ -8,17 +8,17 @@ use Rattle.ft_sumdoc.specs.declared.summary.Seg.TheVariants.{Chars, Marker}
 use Rattle.ft_sumdoc.specs.declared.summary.SegRec.{SegRec}
 use Rattle.ft_sumdoc.specs.declared.summary.SumDoc.{SumDoc}
 
-abbrev pub IsRepresentableBody : Seg → Type 0
-IsRepresentableBody (Chars text) = IsText text
-IsRepresentableBody (Marker ref_type) = ⊤
+abbrev pub IsRepresentableContent : Seg → Type 0
+IsRepresentableContent (Chars text) = IsText text
+IsRepresentableContent (Marker ref_type) = ⊤
 
-abbrev pub IsRepresentableSegment : SegRec → Type 0
-IsRepresentableSegment seg = IsRepresentableBody seg.body × IsKeyed seg.props
+abbrev pub IsRepresentableSegmentRecord : SegRec → Type 0
+IsRepresentableSegmentRecord seg = IsRepresentableContent seg.body × IsKeyed seg.props
 
 abbrev pub IsRepresentableInterval : IntervalRec → Type 0
 IsRepresentableInterval i = IsText i.label × IsText i.id × IsKeyed i.props
 
-pub record IsRepresentable (sum : SumDoc) : Type 0 where
+pub record IsRepresentableSummary (sum : SumDoc) : Type 0 where
   pub conns : AllByRecursion IsText sum.conns
-  pub text : AllByRecursion IsRepresentableSegment sum.text
+  pub text : AllByRecursion IsRepresentableSegmentRecord sum.text
   pub intervals : AllByRecursion IsRepresentableInterval sum.intervals

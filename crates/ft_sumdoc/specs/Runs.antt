@@ -6,7 +6,7 @@ use Rattle.ft_json.specs.Reading.{count, field, items}
 use Rattle.ft_sumdoc.specs.declared.summary.RunRec.{RunRec}
 use Rattle.ft_sumdoc.specs.Forms.{◌>>=◌, each_of, where_true}
 use Rattle.ft_sumdoc.specs.Segments.{unless_removed}
-use Rattle.ft_sumdoc.specs.Stamps.{GivenStamps, insertion_of, stamps_with}
+use Rattle.ft_sumdoc.specs.Stamps.{GivenStamps, given_insertion, stamps_with}
 
 -- ---- form
 
@@ -40,7 +40,7 @@ runs_form d = do
 
 -- a run as it is kept
 abbrev pub kept_run : GivenRun → RunRec
-kept_run run = record { count = run.units; ins = insertion_of run.stamps; dels = run.stamps.removals }
+kept_run run = record { count = run.units; ins = given_insertion run.stamps; dels = run.stamps.removals }
 
 -- ---- units
 

@@ -25,10 +25,10 @@ some_characters [] = None
 some_characters (c ∷ cs) = Some (Chars (c ∷ cs))
 
 -- what a segment holds whose fields for characters and for a marker are these, just one of which is there
-abbrev pub body_of : Option Data → Option Data → Option Seg
-body_of (Some text) None = characters text >>= some_characters
-body_of None (Some marker) = option_map (λ ref_type. Marker ref_type) (count marker)
-body_of _ _ = None
+abbrev pub given_body : Option Data → Option Data → Option Seg
+given_body (Some text) None = characters text >>= some_characters
+given_body None (Some marker) = option_map (λ ref_type. Marker ref_type) (count marker)
+given_body _ _ = None
 
 -- the properties of a segment whose field for them is this
 abbrev pub segment_props : Option Data → Option GivenProps
@@ -38,7 +38,7 @@ segment_props (Some d) = props_form d
 -- the segment that a value is, in a summary of this version
 abbrev pub segment_form : ℕ → Data → Option GivenSegment
 segment_form version d = do
-  body ← body_of (field d SegmentText) (field d SegmentMarker)
+  body ← given_body (field d SegmentText) (field d SegmentMarker)
   props ← segment_props (field d SegmentProps)
   author ← author_form version d
   stamps ← stamps_with author d

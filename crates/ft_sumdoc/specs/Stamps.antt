@@ -100,16 +100,16 @@ is_good_insertion b None = true
 is_good_insertion b (Some m) = is_recent b m
 
 -- the insertion that is given, or the universal one
-abbrev pub insertion_of : GivenStamps → Mark
-insertion_of s = unwrap_or s.insertion universal
+abbrev pub given_insertion : GivenStamps → Mark
+given_insertion s = unwrap_or s.insertion universal
 
 -- the author that is given, or that of the insertion
-abbrev pub author_of : GivenStamps → Mark
-author_of s = unwrap_or s.author (insertion_of s)
+abbrev pub given_author : GivenStamps → Mark
+given_author s = unwrap_or s.author (given_insertion s)
 
 -- whether the stamps of a segment or a run are in range and in order
 abbrev pub are_good_stamps : Bounds → GivenStamps → Bool
-are_good_stamps b s = is_good_author b s.author s.insertion && is_good_insertion b s.insertion && are_removals b (insertion_of s).seq s.removals
+are_good_stamps b s = is_good_author b s.author s.insertion && is_good_insertion b s.insertion && are_removals b (given_insertion s).seq s.removals
 
 -- the place behind these stamps, the first of which have place n; or the first place with bad ones
 abbrev pub places_behind : Bounds → ℕ → List GivenStamps → Result ℕ SumFault

@@ -13,7 +13,7 @@ use Rattle.ft_sumdoc.specs.declared.summary.SumFault.TheVariants.{BadCount, Malf
 use Rattle.ft_sumdoc.specs.Cells.{cells_form}
 use Rattle.ft_sumdoc.specs.Chunks.{chunk_length}
 use Rattle.ft_sumdoc.specs.Counts.{Head, bounds_of, head}
-use Rattle.ft_sumdoc.specs.Faults.{fault_of_json, needed}
+use Rattle.ft_sumdoc.specs.Faults.{fault_of_json, field_of_summary}
 use Rattle.ft_sumdoc.specs.Intervals.{intervals_form}
 use Rattle.ft_sumdoc.specs.Runs.{GivenRun, kept_run, runs_form, unremoved_units}
 use Rattle.ft_sumdoc.specs.Segments.{GivenSegment, body_length, text_form, text_length, unremoved_text}
@@ -50,17 +50,17 @@ lists_with b chunks text rows cols = do
 -- the lists of elements that an object gives
 unfoldable pub lists : Head → Data → Result Lists SumFault
 lists h d = do
-  chunks ← needed (needed_field (text_form h.version) d Text)
+  chunks ← field_of_summary (needed_field (text_form h.version) d Text)
   text ← kept_each kept_segment (flat_map (λ chunk. chunk) chunks)
-  rows ← needed (needed_field runs_form d Rows)
-  cols ← needed (needed_field runs_form d Cols)
+  rows ← field_of_summary (needed_field runs_form d Rows)
+  cols ← field_of_summary (needed_field runs_form d Cols)
   lists_with (bounds_of h) chunks text rows cols
 
 -- ---- counts of elements
 
 -- the count of elements, if it is what was found
-abbrev pub counted : ℕ → ℕ → Result ℕ SumFault
-counted said found = if nat_eq said found then Ok said else Err (BadCount said found)
+abbrev pub agreed_count : ℕ → ℕ → Result ℕ SumFault
+agreed_count said found = if nat_eq said found then Ok said else Err (BadCount said found)
 
 -- the length of a chunk, if it isn't too great
 abbrev pub within_chunk : ℕ → Result ℕ SumFault
@@ -69,22 +69,22 @@ within_chunk n = if nat_lt chunk_length n then Err (BadCount chunk_length n) els
 -- the count of elements that an object gives beside these lists; then no chunk is too long
 unfoldable pub element_count : Lists → Data → Result ℕ SumFault
 element_count ls d = do
-  said ← needed (count_field d Count)
-  found ← counted said (text_length ls.text)
+  said ← field_of_summary (count_field d Count)
+  found ← agreed_count said (text_length ls.text)
   lengths ← read_each within_chunk ls.chunk_lengths
   Ok found
 
 -- ---- summaries
 
 -- the summary that an object is
-unfoldable pub summary_of : Data → Result SumDoc SumFault
-summary_of d = do
+unfoldable pub summary_of_object : Data → Result SumDoc SumFault
+summary_of_object d = do
   h ← head d
   ls ← lists h d
   elements ← element_count ls d
-  given_intervals ← needed (needed_field (intervals_form (unremoved_text ls.text)) d Intervals)
+  given_intervals ← field_of_summary (needed_field (intervals_form (unremoved_text ls.text)) d Intervals)
   intervals ← kept_each kept_interval given_intervals
-  given_cells ← needed (needed_field (cells_form (unremoved_units ls.rows) (unremoved_units ls.cols)) d Cells)
+  given_cells ← field_of_summary (needed_field (cells_form (unremoved_units ls.rows) (unremoved_units ls.cols)) d Cells)
   cells ← kept_each kept_cell given_cells
   Ok (record { seq = h.seq; min = h.min; skipped = h.skipped; other = h.other; conns = h.conns; text = ls.text; rows = ls.rows; cols = ls.cols; intervals = intervals; cells = cells })
 
@@ -92,4 +92,4 @@ summary_of d = do
 unfoldable pub summary : List ℕ → Result SumDoc SumFault
 summary bytes = do
   d ← with_fault fault_of_json (read_line bytes)
-  if is_object d then summary_of d else Err (Malformed (WrongKind Summary))
+  if is_object d then summary_of_object d else Err (Malformed (WrongKind Summary))

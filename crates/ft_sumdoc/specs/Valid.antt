@@ -16,7 +16,7 @@ use Rattle.ft_sumdoc.specs.declared.summary.Seg.TheVariants.{Chars, Marker}
 use Rattle.ft_sumdoc.specs.declared.summary.SegRec.{SegRec}
 use Rattle.ft_sumdoc.specs.declared.summary.SumDoc.{SumDoc}
 use Rattle.ft_sumdoc.specs.Cells.{is_place_before}
-use Rattle.ft_sumdoc.specs.Counts.{are_distinct}
+use Rattle.ft_sumdoc.specs.Counts.{are_distinct_names}
 use Rattle.ft_sumdoc.specs.Forms.{rises}
 use Rattle.ft_sumdoc.specs.Intervals.{are_shown_ends, is_name_before}
 use Rattle.ft_sumdoc.specs.Runs.{unit_count, unremoved_units}
@@ -50,13 +50,13 @@ HasValues props = AllByRecursion (λ p. IsValue p.1) props
 -- ---- segments, runs, intervals, cells
 
 -- whether it is characters, at least one, or a marker whose reference type is a count
-abbrev pub is_body : Seg → Bool
-is_body (Chars []) = false
-is_body (Chars (c ∷ cs)) = true
-is_body (Marker ref_type) = is_count ref_type
+abbrev pub is_segment_body : Seg → Bool
+is_segment_body (Chars []) = false
+is_segment_body (Chars (c ∷ cs)) = true
+is_segment_body (Marker ref_type) = is_count ref_type
 
 pub record IsSegment (b : Bounds) (seg : SegRec) : Type 0 where
-  pub body : IsTrue (is_body seg.body)
+  pub body : IsTrue (is_segment_body seg.body)
   pub props : HasValues seg.props
   pub stamps : IsTrue (are_stamps b seg.ins seg.dels)
   pub author : IsTrue (is_author b seg.ins seg.by)
@@ -96,7 +96,7 @@ pub record IsValidSummary (sum : SumDoc) : Type 0 where
   pub min : IsTrue (nat_le sum.min sum.seq)
   pub skipped : IsTrue (is_count sum.skipped)
   pub other : IsTrue (is_count sum.other)
-  pub conns : IsTrue (are_distinct sum.conns)
+  pub conns : IsTrue (are_distinct_names sum.conns)
   pub text : AllByRecursion (IsSegment (bounds sum)) sum.text
   pub elements : IsTrue (is_count (text_length sum.text))
   pub rows : AreRuns (bounds sum) sum.rows

@@ -13,7 +13,7 @@ use Rattle.ft_sumdoc.specs.Faults.{fault_of_json}
 use Rattle.ft_sumdoc.specs.Forms.{GivenProps}
 use Rattle.ft_sumdoc.specs.Intervals.{GivenInterval}
 use Rattle.ft_sumdoc.specs.Segments.{GivenSegment}
-use Rattle.ft_sumdoc.specs.Stamps.{author_of, insertion_of}
+use Rattle.ft_sumdoc.specs.Stamps.{given_author, given_insertion}
 
 -- the properties, which rise by their names in a value that was read
 abbrev pub kept_props : GivenProps → Result PropertyList JsonFault
@@ -22,7 +22,7 @@ kept_props ps = read_each (read_named (λ _ d. canonical d)) ps
 abbrev pub kept_segment : GivenSegment → Result SegRec JsonFault
 kept_segment seg = do
   props ← kept_props seg.props
-  Ok (record { body = seg.body; props = props; by = author_of seg.stamps; ins = insertion_of seg.stamps; dels = seg.stamps.removals })
+  Ok (record { body = seg.body; props = props; by = given_author seg.stamps; ins = given_insertion seg.stamps; dels = seg.stamps.removals })
 
 abbrev pub kept_interval : GivenInterval → Result IntervalRec JsonFault
 kept_interval i = do

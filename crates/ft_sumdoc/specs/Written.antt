@@ -57,8 +57,8 @@ abbrev pub given_ref_type : Seg → Option Data
 given_ref_type (Chars text) = None
 given_ref_type (Marker ref_type) = Some (written_count ref_type)
 
-abbrev pub written_segment : SegRec → Data
-written_segment seg =
+abbrev pub written_segment_record : SegRec → Data
+written_segment_record seg =
     object
     (with_given (codes "a") (given_mark (author_beside seg.ins seg.by))
     (with_given (codes "i") (given_mark (unless_universal seg.ins))
@@ -68,10 +68,10 @@ written_segment seg =
     (with_given (codes "t") (given_characters seg.body) no_members))))))
 
 abbrev pub written_chunk : List SegRec → Data
-written_chunk segs = array (written_items written_segment segs)
+written_chunk segs = array (written_items written_segment_record segs)
 
-abbrev pub written_run : RunRec → Data
-written_run run =
+abbrev pub written_unit_run : RunRec → Data
+written_unit_run run =
     object
     (with_given (codes "i") (given_mark (unless_universal run.ins))
     (member (codes "n") (written_count run.count)
@@ -79,26 +79,26 @@ written_run run =
 
 -- ---- intervals and cells
 
-abbrev pub written_interval : IntervalRec → Data
-written_interval i =
+abbrev pub written_interval_record : IntervalRec → Data
+written_interval_record i =
     array (items_of (written_text i.label ∷ written_text i.id ∷ written_number i.ends.start ∷ written_number i.ends.end ∷ written_props i.props ∷ []))
 
-abbrev pub written_cell : CellRec → Data
-written_cell c = array (items_of (written_count c.row ∷ written_count c.col ∷ value_of c.value ∷ []))
+abbrev pub written_cell_record : CellRec → Data
+written_cell_record c = array (items_of (written_count c.row ∷ written_count c.col ∷ value_of c.value ∷ []))
 
 -- ---- summaries
 
 abbrev pub written_summary : SumDoc → Data
 written_summary sum =
     object
-    (member (codes "cells") (array (written_items written_cell sum.cells))
-    (member (codes "cols") (array (written_items written_run sum.cols))
+    (member (codes "cells") (array (written_items written_cell_record sum.cells))
+    (member (codes "cols") (array (written_items written_unit_run sum.cols))
     (member (codes "conns") (array (written_items written_text sum.conns))
     (member (codes "count") (written_count (text_length sum.text))
-    (member (codes "intervals") (array (written_items written_interval sum.intervals))
+    (member (codes "intervals") (array (written_items written_interval_record sum.intervals))
     (member (codes "min") (written_count sum.min)
     (member (codes "other") (written_count sum.other)
-    (member (codes "rows") (array (written_items written_run sum.rows))
+    (member (codes "rows") (array (written_items written_unit_run sum.rows))
     (member (codes "seq") (written_count sum.seq)
     (member (codes "skipped") (written_count sum.skipped)
     (member (codes "text") (array (written_items written_chunk (chunks sum.text)))

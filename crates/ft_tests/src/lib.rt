@@ -4,11 +4,15 @@
 #![tactic(auto)]
 
 #[cfg(test)]
+mod attribution;
+#[cfg(test)]
 mod base;
 #[cfg(test)]
 mod json_values;
 #[cfg(test)]
 mod messages;
+#[cfg(test)]
+mod plain_summaries;
 #[cfg(test)]
 mod properties;
 #[cfg(test)]

@@ -4,8 +4,8 @@ ghost use Rattle.std.specs.Prelude.{◌≡◌, [], IfOk};
 ghost use Rattle.ft_msg.specs.WellFormed.{HasNumbersInRange};
 
 use ft_base::{OutOfMemory, Text};
+use ft_document::ObservedDocument;
 use ft_msg::{Cause, Entry, Names, Numbers, read_message};
-use ft_plain::Plain;
 use std::alloc::Global;
 use std::test::Fail;
 
@@ -101,7 +101,7 @@ fn an_entry_is_copied(rt: HostRuntime) -> Result<(), Fail> {
 }
 
 /// Gives a message to a replica, and nothing where it is none.
-fn give(alloc: Global, plain: &mut Plain, text: &str) {
+fn give(alloc: Global, plain: &mut ObservedDocument, text: &str) {
     if let Ok(entry) = entry(alloc, text) {
         let _ = plain.process(&entry);
     }
@@ -109,7 +109,7 @@ fn give(alloc: Global, plain: &mut Plain, text: &str) {
 
 /// The numbers of a replica that was given both messages.
 fn numbers_of_two(alloc: Global) -> Result<Numbers, OutOfMemory> {
-    let mut plain = Plain::start(alloc)?;
+    let mut plain = ObservedDocument::start(alloc)?;
     give(alloc, &mut plain, TWO[0]);
     give(alloc, &mut plain, TWO[1]);
     Ok(plain.numbers())

@@ -19,8 +19,8 @@ use Rattle.ft_msg.specs.Client.{EditResult, NaiveClient, PendingEdit, after_edit
 use Rattle.ft_msg.specs.Process.{is_body, is_op_kind, is_sent_as}
 use Rattle.ft_op.specs.Same.{same_int}
 use Rattle.ft_op.proofs.SameOperations.{same_op-Decides}
-use Rattle.ft_seqr.specs.Sequencer.{JoinedConnection, NaiveSequencer, is_joined, join, kind_of, next, sequence, submit, submitted}
-use Rattle.ft_seqr.specs.World.{conn_of, inserted}
+use Rattle.ft_seqr.specs.Sequencer.{JoinedConnection, NaiveSequencer, is_joined, join, draft_kind, next, sequence, submit, submitted}
+use Rattle.ft_seqr.specs.World.{conn_of, inserted_count}
 use Rattle.ft_laws.specs.Agreement.{IsRun}
 use Rattle.ft_msg.specs.ClientSteps.{ClientStep, Edits, Connects, Drops, Idles, Sends, Restarts, after_step, has_fitting_body, is_none_pending, taken_entries, unless_refused}
 use Rattle.ft_laws.specs.Sequencing.{Each}
@@ -30,7 +30,7 @@ use Rattle.ft_laws.proofs.ClientsAgree.{clients-agree}
 use Rattle.ft_laws.proofs.CountedEntries.{after_first, with_first}
 use Rattle.ft_laws.proofs.NumberTests.{same_number}
 use Rattle.ft_msg.specs.WellFormed.{IsWellFormedBody, has_body}
-use Rattle.ft_worlds.specs.LogOrder.{Follows}
+use Rattle.ft_worlds.specs.LogOrder.{StandsNext}
 use Rattle.ft_worlds.proofs.Lists.{each-any, each-found, each-more, each-weaker, filter-more, find-changed, find-filtered, find-mapped, find-more, find-new}
 use Rattle.ft_worlds.proofs.Orders.{IsAccepted, IsBase, IsBounded, Leads, after_draft, draft-numbered, gone, join-numbered, leads-more, leads-up, leave-numbered, new_connection, numbered-base, numbered-follows, others, submit-accepted}
 use Rattle.ft_worlds.proofs.Links.{AnyEdits, HasJoined, IsAnswered, IsDraftOf, IsFirstQueued, IsLinked, IsOffline, IsOnline, IsQueue, IsQueued, answered-more, answered-next, answered-weaker, awaits-new, is_owed, owed, owed-more, queue-more, queue-up, queued-more, queued-noop}
@@ -38,6 +38,8 @@ use Rattle.ft_worlds.proofs.Owing.{answered-behind, behind, each-behind_some, ed
 use Rattle.ft_worlds.proofs.Prices.{client-priced}
 use Rattle.ft_worlds.proofs.FormedClients.{IsFormed, IsFormedEdit, IsFormedSent}
 use Rattle.ft_props.specs.Element.{ListElement}
+use Rattle.ft_msg.specs.Agreed.{agreed}
+use Rattle.ft_worlds.proofs.SkippedEntries.{own-entry-skips}
 use Rattle.ft_worlds.proofs.Served.{IsOwned, IsServed, entry_of, run-more, taken-more}
 
 -- ---- numbers of clients that took the same
@@ -81,7 +83,7 @@ rest-insert n here (Ok rest) taken f h =
     ap (λ (z : Document × List Stage). total stage_inserts z.1) (sym same) ∙ ap (λ m. stage_inserts here + m) (f rest refl)
 
 all-insert : (os : List SubOperation) (doc : Document) (stages : List Stage) (k : ℕ) (taken : Document × List Stage) → local_sub_operations doc stages k os
-    ≡ Ok taken → total stage_inserts taken.1 ≡ total inserted os
+    ≡ Ok taken → total stage_inserts taken.1 ≡ total inserted_count os
 all-insert [] doc stages k taken h =
     let bare : List Stage = [] in
     let same : (doc, bare) ≡ taken = (cc) in
@@ -90,12 +92,12 @@ all-insert (o ∷ os) doc stages k taken h =
     first (λ d ss rest. all-insert os d ss (k + 1) rest) (local_sub_operation doc stages k o) h
   where
     first : ((d : Document) (ss : List Stage) (rest : Document × List Stage) → local_sub_operations d ss (k + 1) os ≡ Ok rest → total stage_inserts rest.1
-        ≡ total inserted os) → (r : EditResult)
-        → after_first stages k o os r ≡ Ok taken → total stage_inserts taken.1 ≡ inserted o + total inserted os
+        ≡ total inserted_count os) → (r : EditResult)
+        → after_first stages k o os r ≡ Ok taken → total stage_inserts taken.1 ≡ inserted_count o + total inserted_count os
     first ih (Err fault) g = (cc)
     first ih (Ok one) g =
         let here : Stage = record { stage = k; sub_operation = o; names = one.1 } in
-        rest-insert (total inserted os) here (local_sub_operations one.0 (stages ++ (here ∷ [])) (k + 1) os) taken (λ rest f. ih one.0 (stages ++ (here ∷ [])) rest f) g
+        rest-insert (total inserted_count os) here (local_sub_operations one.0 (stages ++ (here ∷ [])) (k + 1) os) taken (λ rest f. ih one.0 (stages ++ (here ∷ [])) rest f) g
 
 -- what an accepted edit makes
 pub record IsEdited (x : NaiveClient) (op : ChannelOp) (y : NaiveClient) : Type 0 where
@@ -276,8 +278,8 @@ sent-answered conns rest pending q j d ds o a = by d.body refl
     R : List PendingEdit → Type 0
     R ys = IsQueued j.conn ds ys
 
-    kind-is : (b : Body) → d.body ≡ b → is_owed conns e ≡ is_op_kind (kind_of b) && true
-    kind-is b h = ap (λ t. is_op_kind (kind_of d.body) && t) o ∙ ap (λ t. is_op_kind (kind_of t) && true) h
+    kind-is : (b : Body) → d.body ≡ b → is_owed conns e ≡ is_op_kind (draft_kind b) && true
+    kind-is b h = ap (λ t. is_op_kind (draft_kind d.body) && t) o ∙ ap (λ t. is_op_kind (draft_kind t) && true) h
 
     owing : is_owed conns e ≡ true → owed conns (rest ++ (e ∷ [])) ≡ owed conns rest ++ (e ∷ [])
     owing h = filter-more (is_owed conns) rest e ∙ ap (λ b. owed conns rest ++ (cond b (e ∷ []) [])) h
@@ -331,7 +333,7 @@ join-kept q conn name other h = find-more (is_joined other) q.joined (new_connec
 -- the sequencer numbered a message of the connection
 pub record IsLogged (count : ℕ) (q : NaiveSequencer) (log : List Entry) (conn : ℕ) (p : NaiveSequencer × Entry) : Type 0 where
   pub base : IsBase count p.0 (log ++ (p.1 ∷ []))
-  pub follows : Follows q.number q.minimum p.1
+  pub follows : StandsNext q.number q.minimum p.1
   pub number : p.0.number ≡ q.number + 1
   pub minimum : p.0.minimum ≡ p.1.msg.min
   pub origin : p.1.origin ≡ conn
@@ -344,9 +346,9 @@ sequence-logged count q log conn j d b f a =
     let same : conn ≡ j.conn = same_number conn j.conn here.1 in
     let last = (each-found (λ (i : JoinedConnection). i.client_seq ≤ q.number) (is_joined conn) q.joined j f b.sent).0 in
     let next = a.next in
-    let n = draft-numbered count q log j d b here.0.known a (omega (arith, last, next)) in
+    let n = draft-numbered count q log j d b here.0.first here.0.known a (omega (arith, last, next)) in
     record {
-      base = numbered-base count count (after_draft j d q) q log (sequence q j d).1 (omega arith) b n;
+      base = numbered-base count count (after_draft j d q) q log (sequence q j d).1 (omega arith) (omega arith) b n;
       follows = numbered-follows count (after_draft j d q) q (sequence q j d).1 b.within n;
       number = refl;
       minimum = refl;
@@ -363,6 +365,7 @@ pub record IsSent (owner : ℕ → Option Characters) (count : ℕ) (q : NaiveSe
   pub owned : owner conn ≡ Some name
   pub served : IsServed owner count p.0 (log ++ (p.1 ∷ [])) name (rest ++ (p.1 ∷ [])) (record x { queue = ds })
   pub owes : owing x.conns (rest ++ (p.1 ∷ [])) x.pending ds + entry_cost p.1 ≤ owing x.conns rest x.pending (d ∷ ds)
+  pub skips : (agreed (log ++ (p.1 ∷ []))).skipped ≤ (agreed log).skipped
   pub formed : IsFormed x → IsWellFormedBody p.1.msg.body
 
 -- a client's draft is accepted
@@ -387,7 +390,7 @@ queued-formed conn xs es pending d ds a f =
     by (Op op) (edit ∷ edits) h g = subst IsFormedSent h.0.0 g.0.sent
     by (Elsewhere address) edits h g = absurd h
 
-owed-body : (b : Body) (t : Bool) → t ≡ true → is_op_kind (kind_of b) && t ≡ has_body b
+owed-body : (b : Body) (t : Bool) → t ≡ true → is_op_kind (draft_kind b) && t ≡ has_body b
 owed-body Nothing t h = refl
 owed-body (Op op) t h = h
 owed-body (Elsewhere address) t h = h
@@ -415,20 +418,22 @@ sent-online owner count q log name rest x conn d ds b k u l v =
       numbers = subst (λ c. IsQueue c d.ref_seq ds x.doc.number x.next_client_seq) (sym l.numbers.0) l.numbers.2;
       answered = sent-answered x.conns rest x.pending q j d ds own (subst (λ c. IsAnswered (owed x.conns rest) x.pending (λ ys. IsQueued c (d ∷ ds) ys)) same l.answered);
     } in
+    let now : IsServed owner count (sequence q j d).0 (log ++ (e ∷ [])) name (rest ++ (e ∷ [])) y = record {
+      steps = v.steps ++ (Sends ∷ []);
+      run = run-more v.steps x y Sends v.run (ap (λ ys. Some (record x { queue = drop 1 ys })) u) refl;
+      entries = ap (λ es. es ++ (rest ++ (e ∷ []))) (taken-more v.steps Sends ∙ append-nil (taken_entries v.steps))
+          ∙ (sym (append_assoc (taken_entries v.steps) rest (e ∷ [])) ∙ ap (λ es. es ++ (e ∷ [])) v.entries);
+      order = leads-more rest x.doc.number x.doc.minimum q.number q.minimum e v.order g.follows;
+      conns = v.conns;
+      link = subst (λ t. IsLinked x.conns x.doc.number x.next_client_seq ds x.pending (rest ++ (e ∷ [])) (sequence q j d).0 t) (sym (k ∙ ap Online same)) online;
+    } in
     record {
       p = sequence q j d;
       submits = submit-accepted q conn j d f a;
       logged = g;
       owned = (each-any (IsOwned owner count name) conn x.conns l.has.own v.conns).by;
-      served = record {
-        steps = v.steps ++ (Sends ∷ []);
-        run = run-more v.steps x y Sends v.run (ap (λ ys. Some (record x { queue = drop 1 ys })) u) refl;
-        entries = ap (λ es. es ++ (rest ++ (e ∷ []))) (taken-more v.steps Sends ∙ append-nil (taken_entries v.steps))
-            ∙ (sym (append_assoc (taken_entries v.steps) rest (e ∷ [])) ∙ ap (λ es. es ++ (e ∷ [])) v.entries);
-        order = leads-more rest x.doc.number x.doc.minimum q.number q.minimum e v.order g.follows;
-        conns = v.conns;
-        link = subst (λ t. IsLinked x.conns x.doc.number x.next_client_seq ds x.pending (rest ++ (e ∷ [])) (sequence q j d).0 t) (sym (k ∙ ap Online same)) online;
-      };
+      served = now;
+      skips = own-entry-skips owner count (sequence q j d).0 log name rest y e own now;
       owes = owing-sent conn x.conns rest e x.pending d ds refl (owed-body d.body (list_any (nat_eq j.conn) x.conns) own) l.answered (client-priced v.steps x v.run);
       formed = λ f. queued-formed conn x.doc.text.items (owed x.conns rest) x.pending d ds l.answered f;
     }
@@ -464,7 +469,7 @@ pub join-logged : (count : ℕ) (q : NaiveSequencer) (log : List Entry) (name : 
 join-logged count q log name b =
     let n = join-numbered count q log name b in
     record {
-      base = numbered-base count (count + 1) (q.joined ++ (new_connection q (count + 1) name ∷ [])) q log (join q (count + 1) name).1 (omega arith) b n;
+      base = numbered-base count (count + 1) (q.joined ++ (new_connection q (count + 1) name ∷ [])) q log (join q (count + 1) name).1 (omega arith) (omega arith) b n;
       follows = numbered-follows (count + 1) (q.joined ++ (new_connection q (count + 1) name ∷ [])) q (join q (count + 1) name).1 b.within n;
       number = refl;
       minimum = refl;
@@ -588,12 +593,12 @@ drop-made x conn Offline h = (cc)
 drop-made x conn (Joining other) h = refl
 drop-made x conn (Online other) h = refl
 
-pub leave-logged : (count : ℕ) (q : NaiveSequencer) (log : List Entry) (conn : ℕ) (j : JoinedConnection) → IsBase count q log → conn ≤ count
-    → IsLogged count q log conn (gone q conn j)
-leave-logged count q log conn j b k =
-    let n = leave-numbered count q log conn j b k in
+pub leave-logged : (count : ℕ) (q : NaiveSequencer) (log : List Entry) (conn : ℕ) (j : JoinedConnection) → IsBase count q log
+    → find (is_joined conn) q.joined ≡ Some j → IsLogged count q log conn (gone q conn j)
+leave-logged count q log conn j b f =
+    let n = leave-numbered count q log conn j b f in
     record {
-      base = numbered-base count count (others conn q) q log (gone q conn j).1 (omega arith) b n;
+      base = numbered-base count count (others conn q) q log (gone q conn j).1 (omega arith) (omega arith) b n;
       follows = numbered-follows count (others conn q) q (gone q conn j).1 b.within n;
       number = refl;
       minimum = refl;
@@ -603,11 +608,11 @@ leave-logged count q log conn j b k =
 
 pub served-drops : (owner : ℕ → Option Characters) (count : ℕ) (q : NaiveSequencer) (log : List Entry) (name : Characters) (rest : List Entry)
     (x : NaiveClient) (conn : ℕ) (j : JoinedConnection) → IsBase count q log
-    → conn ≤ count → conn_of x.link ≡ Some conn → IsServed owner count q log name rest x
+    → find (is_joined conn) q.joined ≡ Some j → conn_of x.link ≡ Some conn → IsServed owner count q log name rest x
     → IsServed owner count (gone q conn j).0 (log ++ ((gone q conn j).1 ∷ [])) name (rest ++ ((gone q conn j).1 ∷ [])) (record x { link = Offline; queue = [] })
-served-drops owner count q log name rest x conn j b k c v =
+served-drops owner count q log name rest x conn j b f c v =
     let p = gone q conn j in
-    let g = leave-logged count q log conn j b k in
+    let g = leave-logged count q log conn j b f in
     let y : NaiveClient = record x { link = Offline; queue = [] } in
     let a = (linked-joined x.conns x.doc.number x.next_client_seq x.queue x.pending rest q conn x.link c v.link).1 in
     record {

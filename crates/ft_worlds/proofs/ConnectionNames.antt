@@ -1,10 +1,12 @@
 -- The names of connections: each is of a client or a guest, with a number that the client reached, so a new one is none of
 -- those before.
-use Rattle.std.proofs.Common.{◌≡◌, ℕ, ◌+◌, ◌≤◌, ◌<◌, ◌^◌, Bool, true, false, cond, ◌||◌, bytes_eq, decimal, List, [], ◌∷◌, ◌++◌, map, Some, find, refl, sym, ◌∙◌, ap, subst, arith}
+use Rattle.std.proofs.Common.{◌≡◌, ℕ, ◌+◌, ◌≤◌, ◌<◌, ◌^◌, Bool, true, false, cond, ◌||◌, bytes_eq, decimal, not, List, [], ◌∷◌, ◌++◌, map, Some, find, refl, sym, ◌∙◌, ap, subst, arith}
 use Rattle.std.specs.List.{list_any}
 use Rattle.std.proofs.lemmas.Fmt.{decimal-digits_of, decimal_injective}
 use Rattle.std.proofs.lemmas.Slice.Eq.{bytes_eq-Decides}
+use Rattle.ft_base.proofs.Booleans.{both}
 use Rattle.ft_props.specs.Properties.{Characters}
+use Rattle.ft_sumdoc.specs.Counts.{are_distinct_names}
 use Rattle.ft_seqr.specs.World.{NamedClient, NamedGuest, connection_name, in_place, is_client, is_guest}
 use Rattle.ft_laws.specs.Sequencing.{Each}
 use Rattle.ft_worlds.proofs.Lists.{each-found, each-more, each-weaker}
@@ -51,10 +53,11 @@ pub record IsTaken (count : ℕ) (clients : List NamedClient) (guests : List Nam
   pub used : list_any (is_client owner) clients || list_any (is_guest owner) guests ≡ true
   pub below : Each (λ c. is_client owner c ≡ true → k ≤ c.connects) clients
 
--- so is each name, and no client had more connections than there are names
+-- so is each name, no client had more connections than there are names, and no name stands twice
 pub record IsNamed (count : ℕ) (clients : List NamedClient) (guests : List NamedGuest) (names : List Characters) : Type 0 where
   pub taken : Each (IsTaken count clients guests) names
   pub counted : Each (λ c. c.connects ≤ count) clients
+  pub apart : count < 2 ^ 64 → are_distinct_names names ≡ true
 
 -- the client is the one of a name
 pub record IsFound (clients : List NamedClient) (c : NamedClient) : Type 0 where
@@ -97,6 +100,7 @@ pub named-placed : (count : ℕ) (clients : List NamedClient) (guests : List Nam
 named-placed count clients guests names c d i same more l h = record {
   taken = each-weaker (IsTaken count clients guests) (IsTaken count (map (in_place d) clients) guests) (λ label t. again label t) names h.taken;
   counted = each-placed (λ a. a.connects ≤ count) d clients l h.counted;
+  apart = h.apart;
 }
   where
     again : (label : Characters) → IsTaken count clients guests label → IsTaken count (map (in_place d) clients) guests label
@@ -144,6 +148,77 @@ any-found name (a ∷ cs) c h = by (λ g. any-found name cs c g) (is_client name
 itself : (name : Characters) → bytes_eq name name ≡ true
 itself name = (bytes_eq-Decides name name).1 refl
 
+-- ---- the next name is new
+
+any-none : (label : Characters) (names : List Characters) → Each (λ n. label ≡ n → ⊥) names → list_any (bytes_eq label) names ≡ false
+any-none label [] h = refl
+any-none label (n ∷ names) h = by (bytes_eq label n) refl (any-none label names h.1)
+  where
+    by : (b : Bool) → bytes_eq label n ≡ b → list_any (bytes_eq label) names ≡ false → b || list_any (bytes_eq label) names ≡ false
+    by true e g = absurd (h.0 ((bytes_eq-Decides label n).0 e))
+    by false e g = g
+
+pub next-is-new : (count : ℕ) (clients : List NamedClient) (guests : List NamedGuest) (names : List Characters) (c : NamedClient) → count + 1 < 2 ^ 64
+    → IsFound clients c → IsNamed count clients guests names
+    → list_any (bytes_eq (connection_name c.name (c.connects + 1))) names ≡ false
+next-is-new count clients guests names c l i h =
+    any-none (connection_name c.name (c.connects + 1)) names
+    (each-weaker (IsTaken count clients guests) (λ n. connection_name c.name (c.connects + 1) ≡ n → ⊥) (λ n t e. no-more n t e) names h.taken)
+  where
+    no-more : (n : Characters) → IsTaken count clients guests n → connection_name c.name (c.connects + 1) ≡ n → ⊥
+    no-more n t e =
+        let old = (each-found (λ (a : NamedClient). a.connects ≤ count) (is_client i.name) clients c i.found h.counted).0 in
+        let s = t.small in
+        let r = names-apart c.name t.owner (c.connects + 1) t.k (omega arith) t.first (omega (arith, old, l)) (omega (arith, s, l)) (e ∙ t.is) in
+        let below = (each-found (λ (a : NamedClient). is_client t.owner a ≡ true → t.k ≤ a.connects) (is_client i.name) clients c i.found t.below).0
+        (ap (λ o. bytes_eq o c.name) (sym r.0) ∙ itself c.name) in
+        let k = r.1 in
+        absurd (omega (arith, below, k))
+
+pub guest-is-new : (count : ℕ) (clients : List NamedClient) (guests : List NamedGuest) (names : List Characters) (name : Characters) → count + 1 < 2 ^ 64
+    → IsUnused clients guests name → IsNamed count clients guests names
+    → list_any (bytes_eq (connection_name name 1)) names ≡ false
+guest-is-new count clients guests names name l free h =
+    any-none (connection_name name 1) names (each-weaker (IsTaken count clients guests) (λ n. connection_name name 1 ≡ n → ⊥) (λ n t e. no-more n t e) names h.taken)
+  where
+    no-more : (n : Characters) → IsTaken count clients guests n → connection_name name 1 ≡ n → ⊥
+    no-more n t e =
+        let s = t.small in
+        let r = names-apart name t.owner 1 t.k (omega arith) t.first (omega arith) (omega (arith, s, l)) (e ∙ t.is) in
+        let wrong : true ≡ false = sym (subst (λ o. list_any (is_client o) clients || list_any (is_guest o) guests ≡ true) (sym r.0) t.used) ∙ free in
+        (cc)
+
+pub other-way : (a b : Characters) → bytes_eq a b ≡ false → bytes_eq b a ≡ false
+other-way a b h = by (bytes_eq b a) refl
+  where
+    by : (t : Bool) → bytes_eq b a ≡ t → t ≡ false
+    by true e = let wrong : true ≡ false = sym ((bytes_eq-Decides a b).1 (sym ((bytes_eq-Decides b a).0 e))) ∙ h in (cc)
+    by false e = refl
+
+pub none-of : (a b : Bool) → a || b ≡ false → (a ≡ false) × (b ≡ false)
+none-of true b h = (cc)
+none-of false b h = (refl, h)
+
+-- names with a new one behind them
+distinct-more : (names : List Characters) (name : Characters) → are_distinct_names names ≡ true → list_any (bytes_eq name) names ≡ false → are_distinct_names (names ++ (name ∷ [])) ≡ true
+distinct-more [] name d h = refl
+distinct-more (first ∷ names) name d h =
+    let p = both (not (list_any (bytes_eq first) names)) (are_distinct_names names) d in
+    let q = none-of (bytes_eq name first) (list_any (bytes_eq name) names) h in
+    rw (still names p.0 (other-way name first q.0), distinct-more names name p.1 q.1) refl
+  where
+    still : (ns : List Characters) → not (list_any (bytes_eq first) ns) ≡ true → bytes_eq first name ≡ false → list_any (bytes_eq first) (ns ++ (name ∷ [])) ≡ false
+    still [] g e = rw e refl
+    still (n ∷ ns) g e = by (bytes_eq first n) g (λ k. still ns k e)
+      where
+        by : (b : Bool) → not (b || list_any (bytes_eq first) ns) ≡ true
+            → (not (list_any (bytes_eq first) ns) ≡ true → list_any (bytes_eq first) (ns ++ (name ∷ [])) ≡ false)
+            → b || list_any (bytes_eq first) (ns ++ (name ∷ [])) ≡ false
+        by true k ih = (cc)
+        by false k ih = ih k
+
+-- ---- names of clients and guests that come
+
 -- a client joins under its next connection
 pub named-connected : (count : ℕ) (clients : List NamedClient) (guests : List NamedGuest) (names : List Characters) (c d : NamedClient) → IsFound clients c
     → d.name ≡ c.name → d.connects ≡ c.connects + 1
@@ -154,6 +229,7 @@ named-connected count clients guests names c d i same next h =
       taken = each-weaker (IsTaken count clients guests) (IsTaken (count + 1) clients guests)
           (λ label t. widen count (count + 1) clients guests label (omega arith) t) names h.taken;
       counted = each-weaker (λ (a : NamedClient). a.connects ≤ count) (λ (a : NamedClient). a.connects ≤ count + 1) (λ a l. omega (arith, l)) clients h.counted;
+      apart = λ l. h.apart (omega (arith, l));
     } in
     let placed = named-placed (count + 1) clients guests names c d i same (omega (arith, next)) (omega (arith, next, old)) wide in
     let named : i.name ≡ c.name = (bytes_eq-Decides i.name c.name).0 (each-found (λ (a : NamedClient). Unit {0}) (is_client i.name) clients c i.found (units clients)).1 in
@@ -169,6 +245,7 @@ named-connected count clients guests names c d i same next h =
         below = only clients;
       });
       counted = placed.counted;
+      apart = λ l. distinct-more names (connection_name c.name (c.connects + 1)) (h.apart (omega (arith, l))) (next-is-new count clients guests names c l i h);
     }
   where
     units : (cs : List NamedClient) → Each (λ (a : NamedClient). Unit {0}) cs
@@ -190,6 +267,7 @@ pub named-started : (count : ℕ) (clients : List NamedClient) (guests : List Na
 named-started count clients guests names d none free h = record {
   taken = each-weaker (IsTaken count clients guests) (IsTaken count (clients ++ (d ∷ [])) guests) (λ label t. again label t) names h.taken;
   counted = each-more (λ (a : NamedClient). a.connects ≤ count) clients d h.counted (omega (arith, none));
+  apart = h.apart;
 }
   where
     front : (owner : Characters) (cs : List NamedClient) (g : Bool) → list_any (is_client owner) cs || g ≡ true → list_any (is_client owner) (cs ++ (d ∷ [])) || g ≡ true
@@ -236,6 +314,7 @@ named-entered count clients guests names g free h = record {
         below = nobody clients (left-false (list_any (is_client g.name) clients) (list_any (is_guest g.name) guests) free);
       });
   counted = each-weaker (λ (a : NamedClient). a.connects ≤ count) (λ (a : NamedClient). a.connects ≤ count + 1) (λ a l. omega (arith, l)) clients h.counted;
+  apart = λ l. distinct-more names (connection_name g.name 1) (h.apart (omega (arith, l))) (guest-is-new count clients guests names g.name l free h);
 }
   where
     right : (a b : Bool) → b ≡ true → a || b ≡ true
@@ -281,43 +360,3 @@ named-entered count clients guests names g free h = record {
       used = both-more t.owner (list_any (is_client t.owner) clients) t.used;
       below = t.below;
     }
-
--- ---- the next name is new
-
-any-none : (label : Characters) (names : List Characters) → Each (λ n. label ≡ n → ⊥) names → list_any (bytes_eq label) names ≡ false
-any-none label [] h = refl
-any-none label (n ∷ names) h = by (bytes_eq label n) refl (any-none label names h.1)
-  where
-    by : (b : Bool) → bytes_eq label n ≡ b → list_any (bytes_eq label) names ≡ false → b || list_any (bytes_eq label) names ≡ false
-    by true e g = absurd (h.0 ((bytes_eq-Decides label n).0 e))
-    by false e g = g
-
-pub next-is-new : (count : ℕ) (clients : List NamedClient) (guests : List NamedGuest) (names : List Characters) (c : NamedClient) → count + 1 < 2 ^ 64
-    → IsFound clients c → IsNamed count clients guests names
-    → list_any (bytes_eq (connection_name c.name (c.connects + 1))) names ≡ false
-next-is-new count clients guests names c l i h =
-    any-none (connection_name c.name (c.connects + 1)) names
-    (each-weaker (IsTaken count clients guests) (λ n. connection_name c.name (c.connects + 1) ≡ n → ⊥) (λ n t e. no-more n t e) names h.taken)
-  where
-    no-more : (n : Characters) → IsTaken count clients guests n → connection_name c.name (c.connects + 1) ≡ n → ⊥
-    no-more n t e =
-        let old = (each-found (λ (a : NamedClient). a.connects ≤ count) (is_client i.name) clients c i.found h.counted).0 in
-        let s = t.small in
-        let r = names-apart c.name t.owner (c.connects + 1) t.k (omega arith) t.first (omega (arith, old, l)) (omega (arith, s, l)) (e ∙ t.is) in
-        let below = (each-found (λ (a : NamedClient). is_client t.owner a ≡ true → t.k ≤ a.connects) (is_client i.name) clients c i.found t.below).0
-        (ap (λ o. bytes_eq o c.name) (sym r.0) ∙ itself c.name) in
-        let k = r.1 in
-        absurd (omega (arith, below, k))
-
-pub guest-is-new : (count : ℕ) (clients : List NamedClient) (guests : List NamedGuest) (names : List Characters) (name : Characters) → count + 1 < 2 ^ 64
-    → IsUnused clients guests name → IsNamed count clients guests names
-    → list_any (bytes_eq (connection_name name 1)) names ≡ false
-guest-is-new count clients guests names name l free h =
-    any-none (connection_name name 1) names (each-weaker (IsTaken count clients guests) (λ n. connection_name name 1 ≡ n → ⊥) (λ n t e. no-more n t e) names h.taken)
-  where
-    no-more : (n : Characters) → IsTaken count clients guests n → connection_name name 1 ≡ n → ⊥
-    no-more n t e =
-        let s = t.small in
-        let r = names-apart name t.owner 1 t.k (omega arith) t.first (omega arith) (omega (arith, s, l)) (e ∙ t.is) in
-        let wrong : true ≡ false = sym (subst (λ o. list_any (is_client o) clients || list_any (is_guest o) guests ≡ true) (sym r.0) t.used) ∙ free in
-        (cc)

@@ -45,7 +45,7 @@ use Rattle.ft_msg.specs.declared.views.Link.{Link}
 use Rattle.ft_msg.specs.declared.views.Link.TheVariants.{Offline, Joining, Online}
 use Rattle.ft_laws.specs.Reconnecting.{StagesRiseTo, has_insertion_of, has_marks_of, has_removal_of, inserts_text, is_stage_of, removes_text}
 use Rattle.ft_laws.specs.Sequencing.{Each, IsReady, are_ends_in}
-use Rattle.ft_laws.specs.Trimming.{are_distinct}
+use Rattle.ft_laws.specs.Trimming.{are_distinct_elements}
 use Rattle.ft_laws.proofs.CountedEntries.{after_first, edited, with_first}
 use Rattle.ft_laws.proofs.NamedByPlace.{names-not_renamed}
 use Rattle.ft_laws.proofs.OwnSubOperations.{ok-choice}
@@ -96,29 +96,29 @@ IsFormed x = Each (IsFormedEdit x.doc.text.items) x.pending
 
 -- ---- the text carries what it had
 
-distinct-tail : (x : ListElement) (xs : List ListElement) → are_distinct (x ∷ xs) ≡ true → are_distinct xs ≡ true
-distinct-tail x xs h = (both (not (list_any (has_id (id x)) xs)) (are_distinct xs) h).1
+distinct-tail : (x : ListElement) (xs : List ListElement) → are_distinct_elements (x ∷ xs) ≡ true → are_distinct_elements xs ≡ true
+distinct-tail x xs h = (both (not (list_any (has_id (id x)) xs)) (are_distinct_elements xs) h).1
 
 -- so its names were distinct
-pub distinct-carried : (h : ElementId → ElementId) (xs ys : List ListElement) → Carries h xs ys → are_distinct ys ≡ true → are_distinct xs ≡ true
+pub distinct-carried : (h : ElementId → ElementId) (xs ys : List ListElement) → Carries h xs ys → are_distinct_elements ys ≡ true → are_distinct_elements xs ≡ true
 distinct-carried h [] ys c d = refl
 distinct-carried h (x ∷ xs) ys c d = by (λ us e f. distinct-carried h xs us e f) ys c d
   where
-    none : (y : ListElement) (us : List ListElement) → id y ≡ h (id x) → Carries h xs us → are_distinct (y ∷ us) ≡ true → (t : Bool)
+    none : (y : ListElement) (us : List ListElement) → id y ≡ h (id x) → Carries h xs us → are_distinct_elements (y ∷ us) ≡ true → (t : Bool)
         → list_any (has_id (id x)) xs ≡ t → not t ≡ true
     none y us e c f false g = refl
     none y us e c f true g =
         let there : list_any (has_id (id y)) us ≡ true = ap (λ a. list_any (has_id a) us) e ∙ any-carried h (id x) xs us c g in
-        sym (ap not there) ∙ (both (not (list_any (has_id (id y)) us)) (are_distinct us) f).0
+        sym (ap not there) ∙ (both (not (list_any (has_id (id y)) us)) (are_distinct_elements us) f).0
 
-    by : ((us : List ListElement) → Carries h xs us → are_distinct us ≡ true → are_distinct xs ≡ true) → (us : List ListElement)
-        → Next (h (id x)) us (λ zs. Carries h xs zs) → are_distinct us ≡ true
-        → not (list_any (has_id (id x)) xs) && are_distinct xs ≡ true
+    by : ((us : List ListElement) → Carries h xs us → are_distinct_elements us ≡ true → are_distinct_elements xs ≡ true) → (us : List ListElement)
+        → Next (h (id x)) us (λ zs. Carries h xs zs) → are_distinct_elements us ≡ true
+        → not (list_any (has_id (id x)) xs) && are_distinct_elements xs ≡ true
     by ih [] n f = absurd n
     by ih (u ∷ us) (inl e) f = rw (none u us e.0 e.1 f (list_any (has_id (id x)) xs) refl, ih us e.1 (distinct-tail u us f)) refl
     by ih (u ∷ us) (inr n) f = by ih us n (distinct-tail u us f)
 
-ends-carried : (h : ElementId → ElementId) (xs ys : List ListElement) (names : NamedElements) → Carries h xs ys → are_ends_in xs names.first names.second ≡ true
+pub ends-carried : (h : ElementId → ElementId) (xs ys : List ListElement) (names : NamedElements) → Carries h xs ys → are_ends_in xs names.first names.second ≡ true
     → are_ends_in ys (renamed_names h names).first (renamed_names h names).second ≡ true
 ends-carried h xs ys names c t = by names.first names.second t
   where
@@ -131,7 +131,7 @@ ends-carried h xs ys names c t = by names.first names.second t
     by None (Some b) g = (cc)
     by (Some a) None g = (cc)
 
-order-carried : (h : ElementId → ElementId) (xs ys : List ListElement) (names : NamedElements) → Carries h xs ys → are_distinct ys ≡ true
+pub order-carried : (h : ElementId → ElementId) (xs ys : List ListElement) (names : NamedElements) → Carries h xs ys → are_distinct_elements ys ≡ true
     → are_ends_in xs names.first names.second ≡ true → AreInOrder xs names.first names.second
     → AreInOrder ys (renamed_names h names).first (renamed_names h names).second
 order-carried h xs ys names c d t o = by names.first names.second t o
@@ -143,7 +143,7 @@ order-carried h xs ys names c d t o = by names.first names.second t o
     by None (Some b) g k = tt
     by (Some a) None g k = tt
 
-pub stage-renamed : (h : ElementId → ElementId) (xs ys : List ListElement) → Carries h xs ys → are_distinct ys ≡ true → (t : Stage) → IsFormedStage xs t
+pub stage-renamed : (h : ElementId → ElementId) (xs ys : List ListElement) → Carries h xs ys → are_distinct_elements ys ≡ true → (t : Stage) → IsFormedStage xs t
     → IsFormedStage ys (renamed_stage h t)
 stage-renamed h xs ys c d t f = record { sub = f.sub; there = there t.sub_operation f.there; order = order t.sub_operation f.there f.order }
   where
@@ -157,20 +157,20 @@ stage-renamed h xs ys c d t f = record { sub = f.sub; there = there t.sub_operat
     order (OnIntervals op) g k = order-carried h xs ys t.names c d g k
     order (OnGrid op) g k = tt
 
-pub stage-moved : (xs ys : List ListElement) → Carries (λ a. a) xs ys → are_distinct ys ≡ true → (t : Stage) → IsFormedStage xs t → IsFormedStage ys t
+pub stage-moved : (xs ys : List ListElement) → Carries (λ a. a) xs ys → are_distinct_elements ys ≡ true → (t : Stage) → IsFormedStage xs t → IsFormedStage ys t
 stage-moved xs ys c d t f = subst (λ names. IsFormedStage ys (record t { names = names })) (names-not_renamed t.names) (stage-renamed (λ a. a) xs ys c d t f)
 
-stages-renamed : (h : ElementId → ElementId) (xs ys : List ListElement) → Carries h xs ys → are_distinct ys ≡ true → (ts : List Stage)
+stages-renamed : (h : ElementId → ElementId) (xs ys : List ListElement) → Carries h xs ys → are_distinct_elements ys ≡ true → (ts : List Stage)
     → Each (IsFormedStage xs) ts → Each (IsFormedStage ys) (map (renamed_stage h) ts)
 stages-renamed h xs ys c d [] f = tt
 stages-renamed h xs ys c d (t ∷ ts) f = (stage-renamed h xs ys c d t f.0, stages-renamed h xs ys c d ts f.1)
 
-pub edits-renamed : (h : ElementId → ElementId) (xs ys : List ListElement) → Carries h xs ys → are_distinct ys ≡ true → (es : List PendingEdit)
+pub edits-renamed : (h : ElementId → ElementId) (xs ys : List ListElement) → Carries h xs ys → are_distinct_elements ys ≡ true → (es : List PendingEdit)
     → Each (IsFormedEdit xs) es → Each (IsFormedEdit ys) (map (renamed_edit h) es)
 edits-renamed h xs ys c d [] f = tt
 edits-renamed h xs ys c d (e ∷ es) f = (record { stages = stages-renamed h xs ys c d e.stages f.0.stages; sent = f.0.sent }, edits-renamed h xs ys c d es f.1)
 
-pub edits-moved : (xs ys : List ListElement) → Carries (λ a. a) xs ys → are_distinct ys ≡ true → (es : List PendingEdit) → Each (IsFormedEdit xs) es → Each (IsFormedEdit ys) es
+pub edits-moved : (xs ys : List ListElement) → Carries (λ a. a) xs ys → are_distinct_elements ys ≡ true → (es : List PendingEdit) → Each (IsFormedEdit xs) es → Each (IsFormedEdit ys) es
 edits-moved xs ys c d es f =
     each-weaker (IsFormedEdit xs) (IsFormedEdit ys) (λ e g. record {
       stages = each-weaker (IsFormedStage xs) (IsFormedStage ys)
@@ -227,8 +227,8 @@ foreign-carries doc e = body-carries e.msg.seq e.origin (reference_number e.msg.
 -- what a sub-operation makes of the text, and of the elements that it names
 pub record IsOneTaken (doc : Document) (o : SubOperation) (taken : Document × NamedElements) : Type 0 where
   pub carries : Carries (λ a. a) doc.text.items taken.0.text.items
-  pub there : IsFormedSub o → are_distinct taken.0.text.items ≡ true → AreThereFor taken.0.text.items o taken.1
-  pub order : IsFormedSub o → are_distinct taken.0.text.items ≡ true → AreOrderedFor taken.0.text.items o taken.1
+  pub there : IsFormedSub o → are_distinct_elements taken.0.text.items ≡ true → AreThereFor taken.0.text.items o taken.1
+  pub order : IsFormedSub o → are_distinct_elements taken.0.text.items ≡ true → AreOrderedFor taken.0.text.items o taken.1
 
 text-taken : (doc after : Document) (op : BaseOp) (p n : ℕ) (taken : Document × NamedElements) → Carries (λ a. a) doc.text.items after.text.items
     → cond (nat_le p n) (Ok (after, no_elements)) (Err (OutOfRange n)) ≡ Ok taken → IsOneTaken doc (OnText op) taken
@@ -277,7 +277,7 @@ local-grid-taken doc k (SpliceOut Cols p q) taken h = grid-taken doc _ (SpliceOu
 local-grid-taken doc k (Set i j value) taken h = set-taken doc k i j value (at (seen (k - 1)) i doc.rows.items) (at (seen (k - 1)) j doc.cols.items) taken h
 
 -- both ends are places in order
-places-ordered : (test : ListElement → Bool) (xs : List ListElement) (p q : ℕ) → p ≤ q → nat_lt q (len test xs) ≡ true → are_distinct xs ≡ true
+places-ordered : (test : ListElement → Bool) (xs : List ListElement) (p q : ℕ) → p ≤ q → nat_lt q (len test xs) ≡ true → are_distinct_elements xs ≡ true
     → (are_ends_in xs (option_map id (at test p xs)) (option_map id (at test q xs)) ≡ true) × AreInOrder xs (option_map id (at test p xs)) (option_map id (at test q xs))
 places-ordered test xs p q l g d = by (at test p xs) (at test q xs) refl refl
   where
@@ -290,7 +290,7 @@ places-ordered test xs p q l g d = by (at test p xs) (at test q xs) refl refl
     by None u e f = let a = at-above test p xs e in let b = low g in absurd (omega (arith, a, b, l))
     by (Some a) None e f = let b = low g in let c = at-above test q xs f in absurd (omega (arith, b, c))
 
-ends-ordered : (test : ListElement → Bool) (xs : List ListElement) (ends : Ends) → IsWellFormedEnds ends → given_ends_fit (len test xs) (Some ends) ≡ true → are_distinct xs ≡ true
+ends-ordered : (test : ListElement → Bool) (xs : List ListElement) (ends : Ends) → IsWellFormedEnds ends → given_ends_fit (len test xs) (Some ends) ≡ true → are_distinct_elements xs ≡ true
     → (are_ends_in xs (elements_at_ends test xs ends).first (elements_at_ends test xs ends).second ≡ true)
     × AreInOrder xs (elements_at_ends test xs ends).first (elements_at_ends test xs ends).second
 ends-ordered test xs ends f g d = by ends.start ends.end f g
@@ -306,8 +306,8 @@ ends-ordered test xs ends f g d = by ends.start ends.end f g
     by (pos p) (negsuc q) e k = (cc)
     by (negsuc p) (pos q) e k = (cc)
 
-interval-ordered : (test : ListElement → Bool) (xs : List ListElement) (op : TextOp) → IsWellFormedText op → given_ends_fit (len test xs) (ends_of op) ≡ true
-    → are_distinct xs ≡ true
+pub interval-ordered : (test : ListElement → Bool) (xs : List ListElement) (op : TextOp) → IsWellFormedText op → given_ends_fit (len test xs) (ends_of op) ≡ true
+    → are_distinct_elements xs ≡ true
     → (are_ends_in xs (elements_at_given_ends test xs (ends_of op)).first (elements_at_given_ends test xs (ends_of op)).second ≡ true)
     × AreInOrder xs (elements_at_given_ends test xs (ends_of op)).first (elements_at_given_ends test xs (ends_of op)).second
 interval-ordered test xs (One op) f g d = (refl, tt)
@@ -345,7 +345,7 @@ one-taken doc stages k (OnGrid op) taken h = local-grid-taken doc k op taken h
 -- what all of them make
 pub record AreTaken (doc : Document) (taken : Document × List Stage) : Type 0 where
   pub carries : Carries (λ a. a) doc.text.items taken.0.text.items
-  pub formed : are_distinct taken.0.text.items ≡ true → Each (IsFormedStage taken.0.text.items) taken.1
+  pub formed : are_distinct_elements taken.0.text.items ≡ true → Each (IsFormedStage taken.0.text.items) taken.1
 
 rest-taken : (doc : Document) (here : Stage) (one : Document × NamedElements) (r : Result (Document × List Stage) EditFault) (taken : Document × List Stage)
     → IsFormedSub here.sub_operation → here.names ≡ one.1 → IsOneTaken doc here.sub_operation one
@@ -582,7 +582,7 @@ no-place true h = h
 no-place false h = h
 
 -- the ends of an interval operation that settled
-settled-ends : (k n : ℕ) (xs : List ListElement) (names : NamedElements) → are_distinct xs ≡ true → size xs ≤ n → n < 2 ^ 53
+settled-ends : (k n : ℕ) (xs : List ListElement) (names : NamedElements) → are_distinct_elements xs ≡ true → size xs ≤ n → n < 2 ^ 53
     → are_ends_in xs names.first names.second ≡ true → AreInOrder xs names.first names.second
     → IsWellFormedEnds (ends_in k xs (settle_elements xs k names))
 settled-ends k n xs names d l s t o = by (settle xs k names.first) (settle xs k names.second) (ends-fit k xs d names.first names.second t) (settled names.first names.second t o)
@@ -611,7 +611,7 @@ interval-formed k xs names (IntervalChange label name (Some ends) props) f e = (
 interval-formed k xs names (IntervalDelete label name) f e = f
 
 module _ (n : ℕ) (small : n < 2 ^ 53) (doc : Document) (text : size doc.text.items ≤ n) (rows : size doc.rows.items ≤ n) (cols : size doc.cols.items ≤ n)
-    (distinct : are_distinct doc.text.items ≡ true) where
+    (distinct : are_distinct_elements doc.text.items ≡ true) where
   place-formed : (k : ℕ) (xs : List ListElement) → size xs ≤ n → IsTrue (is_count (stage_position k xs))
   place-formed k xs l = small-count (stage_position k xs) n (let r = rank-size (is_inserted_by k) (seen (k - 1)) xs in omega (arith, r, l)) small
 
@@ -704,7 +704,7 @@ named-any test a (e ∷ xs) h = by (same_id a (id e)) h (named-any test a xs)
     by true g ih = refl
     by false g ih = ih g
 
-module _ (k : ℕ) (xs ys : List ListElement) (view : filter (seen k) ys ≡ filter (seen k) xs) (d : are_distinct xs ≡ true) (f : are_distinct ys ≡ true) where
+module _ (k : ℕ) (xs ys : List ListElement) (view : filter (seen k) ys ≡ filter (seen k) xs) (d : are_distinct_elements xs ≡ true) (f : are_distinct_elements ys ≡ true) where
   -- what is seen at the stage is seen in the other list too
   named-there : (a : ElementId) → has_named (seen k) xs a ≡ true → has_named (seen k) ys a ≡ true
   named-there a h = named-filter (seen k) a ys ∙ (ap (list_any (has_id a)) view ∙ (sym (named-filter (seen k) a xs) ∙ h))
@@ -715,7 +715,7 @@ module _ (k : ℕ) (xs ys : List ListElement) (view : filter (seen k) ys ≡ fil
       sym (leads-filter (seen k) a b ys (only-named (seen k) ys f a (named-there a g)) (only-named (seen k) ys f b (named-there b h)))
       ∙ (ap (leads a b) view ∙ (leads-filter (seen k) a b xs (only-named (seen k) xs d a g) (only-named (seen k) xs d b h) ∙ l))
 
-  settled-there : (names : NamedElements) → are_ends_in xs names.first names.second ≡ true → AreInOrder xs names.first names.second
+  pub settled-there : (names : NamedElements) → are_ends_in xs names.first names.second ≡ true → AreInOrder xs names.first names.second
       → (are_ends_in ys (settle xs k names.first) (settle xs k names.second) ≡ true) × AreInOrder ys (settle xs k names.first) (settle xs k names.second)
   settled-there names t o =
       by (settle xs k names.first) (settle xs k names.second) (settle-at k xs names.first) (settle-at k xs names.second)
@@ -737,7 +737,7 @@ module _ (k : ℕ) (xs ys : List ListElement) (view : filter (seen k) ys ≡ fil
 
 -- a stage that goes on is well formed in the rebuilt text
 stage-goes : (doc : Document) (ys : List ListElement) (t : Stage) → filter (seen t.stage) ys ≡ filter (seen t.stage) doc.text.items
-    → are_distinct doc.text.items ≡ true → are_distinct ys ≡ true → IsFormedStage doc.text.items t
+    → are_distinct_elements doc.text.items ≡ true → are_distinct_elements ys ≡ true → IsFormedStage doc.text.items t
     → Each (IsFormedStage ys) (carried_stage doc t)
 stage-goes doc ys t view d f h = by t.sub_operation h.sub h.there h.order
   where
@@ -757,14 +757,14 @@ abbrev pub StagesAreUpTo : ℕ → List Stage → Type 0
 StagesAreUpTo m ts = Each (λ (t : Stage). t.stage ≤ m) ts
 
 stages-go : (m : ℕ) (doc : Document) (ys : List ListElement) → ((k : ℕ) → k ≤ m → filter (seen k) ys ≡ filter (seen k) doc.text.items)
-    → are_distinct doc.text.items ≡ true → are_distinct ys ≡ true → (ts : List Stage) → StagesAreUpTo m ts
+    → are_distinct_elements doc.text.items ≡ true → are_distinct_elements ys ≡ true → (ts : List Stage) → StagesAreUpTo m ts
     → Each (IsFormedStage doc.text.items) ts → Each (IsFormedStage ys) (flat_map (carried_stage doc) ts)
 stages-go m doc ys view d f [] u h = tt
 stages-go m doc ys view d f (t ∷ ts) u h =
     each-joined (IsFormedStage ys) (carried_stage doc t) (flat_map (carried_stage doc) ts) (stage-goes doc ys t (view t.stage u.0) d f h.0) (stages-go m doc ys view d f ts u.1 h.1)
 
 module _ (n m : ℕ) (small : n < 2 ^ 53) (doc : Document) (ys : List ListElement) (text : size doc.text.items ≤ n) (rows : size doc.rows.items ≤ n) (cols : size doc.cols.items ≤ n)
-    (view : (k : ℕ) → k ≤ m → filter (seen k) ys ≡ filter (seen k) doc.text.items) (d : are_distinct doc.text.items ≡ true) (f : are_distinct ys ≡ true) where
+    (view : (k : ℕ) → k ≤ m → filter (seen k) ys ≡ filter (seen k) doc.text.items) (d : are_distinct_elements doc.text.items ≡ true) (f : are_distinct_elements ys ≡ true) where
   -- so are the edits that are sent again
   pub edits-again : (conn i : ℕ) (es : List PendingEdit) → Each (λ (e : PendingEdit). StagesAreUpTo m e.stages) es → Each (IsFormedEdit doc.text.items) es
       → Each (IsFormedEdit ys) (resubmitted_edits doc conn i es)
@@ -828,7 +828,7 @@ edit-formed x y op ready f h v = by (local_sub_operations x.doc (stages_of x) (x
         let p = parts went x.doc.number z in
         let doc : y.doc ≡ taken.0 = ap (λ (w : NaiveClient). w.doc) (sym s) ∙ p.0 in
         let pending : y.pending ≡ x.pending ++ (edit ∷ []) = ap (λ (w : NaiveClient). w.pending) (sym s) ∙ p.1 in
-        let d : are_distinct taken.0.text.items ≡ true = ap (λ (w : Document). are_distinct w.text.items) (sym doc) ∙ ready.text.place.distinct in
+        let d : are_distinct_elements taken.0.text.items ≡ true = ap (λ (w : Document). are_distinct_elements w.text.items) (sym doc) ∙ ready.text.place.distinct in
         subst (λ (w : Document). Each (IsFormedEdit w.text.items) y.pending) (sym doc)
         (subst (Each (IsFormedEdit taken.0.text.items)) (sym pending)
         (each-joined (IsFormedEdit taken.0.text.items) x.pending (edit ∷ []) (edits-moved x.doc.text.items taken.0.text.items a.carries d x.pending v)

@@ -23,7 +23,7 @@ use Rattle.ft_op.specs.Document.{Document, cell_effect, effect, effects, empty, 
 use Rattle.ft_op.specs.Stages.{Stage}
 use Rattle.ft_msg.specs.Agreed.{agreed, body_effect, reference_number, take_entries, take_entry}
 use Rattle.ft_msg.specs.Client.{NaiveClient, PendingEdit, stages_of}
-use Rattle.ft_seqr.specs.World.{inserted}
+use Rattle.ft_seqr.specs.World.{inserted_count}
 use Rattle.ft_laws.specs.Agreement.{IsRun}
 use Rattle.ft_msg.specs.ClientSteps.{ClientStep, taken_entries}
 use Rattle.ft_laws.specs.Reconnecting.{has_insertion_of, has_marks_of, has_removal_of, inserts_text, is_stage_of, removes_text}
@@ -64,7 +64,7 @@ replicated : (n : ℕ) → length (replicate n GridUnit) ≡ n
 replicated n = length-replicate n GridUnit
 
 module _ (s c r : ℕ) where
-  effect-made : (doc : Document) (o : SubOperation) → IsMadeWithin (inserted o) doc (effect doc s c r o)
+  effect-made : (doc : Document) (o : SubOperation) → IsMadeWithin (inserted_count o) doc (effect doc s c r o)
   effect-made doc (OnText (Insert p seg props)) = made-choice _ doc (nat_le p (len (seen_by r c) doc.text.items)) _ _
       (record { text = omega arith; rows = omega arith; cols = omega arith }) (made-skipped _ doc)
   effect-made doc (OnText (Remove p q)) = made-choice _ doc (nat_le q (len (seen_by r c) doc.text.items)) _ _
@@ -88,9 +88,9 @@ module _ (s c r : ℕ) where
       by (Some x) None = record { text = omega arith; rows = omega arith; cols = omega arith }
       by None p = record { text = omega arith; rows = omega arith; cols = omega arith }
 
-  effects-made : (os : List SubOperation) (doc : Document) → IsMadeWithin (total inserted os) doc (effects doc s c r os)
+  effects-made : (os : List SubOperation) (doc : Document) → IsMadeWithin (total inserted_count os) doc (effects doc s c r os)
   effects-made [] doc = made-itself 0 doc
-  effects-made (o ∷ os) doc = made-then (inserted o) (total inserted os) doc (effect doc s c r o) _ (effect-made doc o) (effects-made os (effect doc s c r o))
+  effects-made (o ∷ os) doc = made-then (inserted_count o) (total inserted_count os) doc (effect doc s c r o) _ (effect-made doc o) (effects-made os (effect doc s c r o))
 
   body-made : (b : Body) (doc : Document) → IsMadeWithin (body_inserts b) doc (body_effect doc s c r b)
   body-made Nothing doc = made-itself 0 doc
@@ -152,7 +152,7 @@ grown-then m n doc p q f g = record {
 }
 
 module _ (s c r : ℕ) where
-  effect-grown : (doc : Document) (o : SubOperation) → IsGrownWithin (inserted o) doc (effect doc s c r o)
+  effect-grown : (doc : Document) (o : SubOperation) → IsGrownWithin (inserted_count o) doc (effect doc s c r o)
   effect-grown doc (OnText (Insert p seg props)) =
       let e = put-size s c r p doc.text.made (Some (Acked s c)) (apply [] props) (segment_contents seg) doc.text.items in
       grown-choice _ doc (nat_le p (len (seen_by r c) doc.text.items)) _ _ (record { text = omega (arith, e); rows = omega arith; cols = omega arith }) (grown-skipped _ doc)
@@ -185,9 +185,9 @@ module _ (s c r : ℕ) where
       by (Some x) None = record { text = omega arith; rows = omega arith; cols = omega arith }
       by None p = record { text = omega arith; rows = omega arith; cols = omega arith }
 
-  effects-grown : (os : List SubOperation) (doc : Document) → IsGrownWithin (total inserted os) doc (effects doc s c r os)
+  effects-grown : (os : List SubOperation) (doc : Document) → IsGrownWithin (total inserted_count os) doc (effects doc s c r os)
   effects-grown [] doc = record { text = omega arith; rows = omega arith; cols = omega arith }
-  effects-grown (o ∷ os) doc = grown-then (inserted o) (total inserted os) doc (effect doc s c r o) _ (effect-grown doc o) (effects-grown os (effect doc s c r o))
+  effects-grown (o ∷ os) doc = grown-then (inserted_count o) (total inserted_count os) doc (effect doc s c r o) _ (effect-grown doc o) (effects-grown os (effect doc s c r o))
 
   body-grown : (b : Body) (doc : Document) → IsGrownWithin (body_inserts b) doc (body_effect doc s c r b)
   body-grown Nothing doc = record { text = omega arith; rows = omega arith; cols = omega arith }
@@ -290,7 +290,7 @@ chosen-less true m n h = h
 chosen-less false m n h = omega arith
 
 -- each stage inserted so many
-text-stage : (doc : Document) (t : Stage) (o : SubOperation) → IsTyped t.stage doc t.names o → counted_of inserts_text doc.text.items (record t { sub_operation = o }) ≤ inserted o
+text-stage : (doc : Document) (t : Stage) (o : SubOperation) → IsTyped t.stage doc t.names o → counted_of inserts_text doc.text.items (record t { sub_operation = o }) ≤ inserted_count o
 text-stage doc t (OnText (Insert p seg props)) h = let e = block-counted _ (segment_contents seg) t.stage doc.text.items h in chosen-less
     (inserts_text (OnText (Insert p seg props))) _ _ (omega (arith, e))
 text-stage doc t (OnText (Remove p q)) h = omega arith
@@ -299,7 +299,7 @@ text-stage doc t (OnIntervals op) h = omega arith
 text-stage doc t (OnGrid op) h = omega arith
 
 rows-stage : (doc : Document) (t : Stage) (o : SubOperation) → IsTyped t.stage doc t.names o
-    → counted_of (inserts_in Rows) doc.rows.items (record t { sub_operation = o }) ≤ inserted o
+    → counted_of (inserts_in Rows) doc.rows.items (record t { sub_operation = o }) ≤ inserted_count o
 rows-stage doc t (OnText (Insert p seg props)) h = omega arith
 rows-stage doc t (OnText (Remove p q)) h = omega arith
 rows-stage doc t (OnText (Annotate p q changes)) h = omega arith
@@ -311,7 +311,7 @@ rows-stage doc t (OnGrid (SpliceOut target p q)) h = omega arith
 rows-stage doc t (OnGrid (Set i j value)) h = omega arith
 
 cols-stage : (doc : Document) (t : Stage) (o : SubOperation) → IsTyped t.stage doc t.names o
-    → counted_of (inserts_in Cols) doc.cols.items (record t { sub_operation = o }) ≤ inserted o
+    → counted_of (inserts_in Cols) doc.cols.items (record t { sub_operation = o }) ≤ inserted_count o
 cols-stage doc t (OnText (Insert p seg props)) h = omega arith
 cols-stage doc t (OnText (Remove p q)) h = omega arith
 cols-stage doc t (OnText (Annotate p q changes)) h = omega arith

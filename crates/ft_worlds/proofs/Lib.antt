@@ -9,7 +9,17 @@ mod FormedClients
 mod SummaryLists
 mod SummaryIntervals
 mod SummaryCells
+mod SummaryCuts
+mod ValidValues
+mod ValidIntervals
+mod ValidElements
+mod ValidDocuments
+mod ValidSegments
+mod ValidViews
+mod ValidSummaries
 mod Served
+mod SkippedEntries
+mod CountedOthers
 mod ClientEvents
 mod ConnectionNames
 mod EditFaults
@@ -22,3 +32,4 @@ pub mod NameLaws
 pub mod LoadLaws
 pub mod FormedLaws
 pub mod SummaryLaws
+pub mod ValidLaws

@@ -17,7 +17,7 @@ use Rattle.ft_op.specs.Document.{Document}
 use Rattle.ft_msg.specs.Acknowledgement.{renamed_edit}
 use Rattle.ft_msg.specs.Client.{PendingEdit}
 use Rattle.ft_msg.specs.Process.{is_oldest, is_op_kind, is_own_join, is_sent_as}
-use Rattle.ft_msg.specs.Reconnection.{draft_of, regenerated_edit, resubmitted_edit, resubmitted_edits}
+use Rattle.ft_msg.specs.Reconnection.{sent_draft, regenerated_edit, resubmitted_edit, resubmitted_edits}
 use Rattle.ft_seqr.specs.Sequencer.{JoinedConnection, NaiveSequencer, is_joined}
 use Rattle.ft_laws.specs.Sequencing.{Each}
 use Rattle.ft_worlds.proofs.Lists.{filter-more}
@@ -328,7 +328,7 @@ linked-own conns number later next queue edit edits rest q e f (Online conn) u h
 
 -- what is sent again has its drafts
 pub again-queued : (doc : Document) (conn k : ℕ) (pending : List PendingEdit)
-    → IsQueued conn (flat_map (draft_of doc.number) (resubmitted_edits doc conn k pending)) (resubmitted_edits doc conn k pending)
+    → IsQueued conn (flat_map (sent_draft doc.number) (resubmitted_edits doc conn k pending)) (resubmitted_edits doc conn k pending)
 again-queued doc conn k [] = tt
 again-queued doc conn k (edit ∷ pending) = by (again-queued doc conn k pending) (again-queued doc conn (k + 1) pending) (regenerated_edit doc edit)
   where
@@ -336,15 +336,15 @@ again-queued doc conn k (edit ∷ pending) = by (again-queued doc conn k pending
     again None = resubmitted_edits doc conn k pending
     again (Some op) = resubmitted_edit doc conn k edit op ∷ resubmitted_edits doc conn (k + 1) pending
 
-    by : IsQueued conn (flat_map (draft_of doc.number) (resubmitted_edits doc conn k pending)) (resubmitted_edits doc conn k pending)
-        → IsQueued conn (flat_map (draft_of doc.number) (resubmitted_edits doc conn (k + 1) pending)) (resubmitted_edits doc conn (k + 1) pending)
-        → (o : Option ChannelOp) → IsQueued conn (flat_map (draft_of doc.number) (again o)) (again o)
+    by : IsQueued conn (flat_map (sent_draft doc.number) (resubmitted_edits doc conn k pending)) (resubmitted_edits doc conn k pending)
+        → IsQueued conn (flat_map (sent_draft doc.number) (resubmitted_edits doc conn (k + 1) pending)) (resubmitted_edits doc conn (k + 1) pending)
+        → (o : Option ChannelOp) → IsQueued conn (flat_map (sent_draft doc.number) (again o)) (again o)
     by same more None = same
     by same more (Some op) = ((refl, refl), more)
 
 -- numbered from the first on
 pub again-numbers : (doc : Document) (conn k r : ℕ) (pending : List PendingEdit) (next : ℕ) → r ≤ doc.number → next ≡ length (resubmitted_edits doc conn (k + 1) pending) + (k + 1)
-    → IsQueue k r (flat_map (draft_of doc.number) (resubmitted_edits doc conn (k + 1) pending)) doc.number next
+    → IsQueue k r (flat_map (sent_draft doc.number) (resubmitted_edits doc conn (k + 1) pending)) doc.number next
 again-numbers doc conn k r [] next l e = (omega (arith, e), l)
 again-numbers doc conn k r (edit ∷ pending) next l e =
     by (λ g. again-numbers doc conn k r pending next l g) (λ g. again-numbers doc conn (k + 1) doc.number pending next (omega arith) g) (regenerated_edit doc edit) e
@@ -354,10 +354,10 @@ again-numbers doc conn k r (edit ∷ pending) next l e =
     again (Some op) = resubmitted_edit doc conn (k + 1) edit op ∷ resubmitted_edits doc conn (k + 1 + 1) pending
 
     by : (next ≡ length (resubmitted_edits doc conn (k + 1) pending) + (k + 1)
-        → IsQueue k r (flat_map (draft_of doc.number) (resubmitted_edits doc conn (k + 1) pending)) doc.number next)
+        → IsQueue k r (flat_map (sent_draft doc.number) (resubmitted_edits doc conn (k + 1) pending)) doc.number next)
         → (next ≡ length (resubmitted_edits doc conn (k + 1 + 1) pending) + (k + 1 + 1)
-        → IsQueue (k + 1) doc.number (flat_map (draft_of doc.number) (resubmitted_edits doc conn (k + 1 + 1) pending)) doc.number next)
-        → (o : Option ChannelOp) → next ≡ length (again o) + (k + 1) → IsQueue k r (flat_map (draft_of doc.number) (again o)) doc.number next
+        → IsQueue (k + 1) doc.number (flat_map (sent_draft doc.number) (resubmitted_edits doc conn (k + 1 + 1) pending)) doc.number next)
+        → (o : Option ChannelOp) → next ≡ length (again o) + (k + 1) → IsQueue k r (flat_map (sent_draft doc.number) (again o)) doc.number next
     by same more None g = same g
     by same more (Some op) g = (refl, l, more (omega (arith, g)))
 
@@ -378,7 +378,7 @@ pub linked-join : (conns : List ℕ) (queue : List Draft) (pending : List Pendin
     (doc : Document) → doc.number ≡ e.msg.seq
     → is_own_join (Joining conn) e.msg.kind e.origin ≡ true → IsJoining conns queue pending (e ∷ rest) q conn
     → IsOnline conns doc.number (length (resubmitted_edits doc e.origin 1 pending) + 1)
-    (flat_map (draft_of doc.number) (resubmitted_edits doc e.origin 1 pending)) (resubmitted_edits doc e.origin 1 pending) rest q e.origin
+    (flat_map (sent_draft doc.number) (resubmitted_edits doc e.origin 1 pending)) (resubmitted_edits doc e.origin 1 pending) rest q e.origin
 linked-join conns queue pending rest q e conn doc n o l =
     let same : conn ≡ e.origin = own-join e.msg.kind conn e.origin o in
     let here : (owed conns rest ≡ []) × (l.j.ref_seq ≤ e.msg.seq) = subst (λ b. AwaitsHere b ((owed conns rest ≡ []) × (l.j.ref_seq ≤ e.msg.seq))
@@ -387,7 +387,7 @@ linked-join conns queue pending rest q e conn doc n o l =
     record {
       j = l.j;
       has = subst (λ c. HasJoined conns q c l.j) same l.has;
-      numbers = subst (λ c. IsQueue c l.j.ref_seq (flat_map (draft_of doc.number) edits) doc.number (length edits + 1)) (sym l.first)
+      numbers = subst (λ c. IsQueue c l.j.ref_seq (flat_map (sent_draft doc.number) edits) doc.number (length edits + 1)) (sym l.first)
           (again-numbers doc e.origin 0 l.j.ref_seq pending (length edits + 1) (let b = here.1 in omega (arith, b, n)) refl);
-      answered = subst (λ es. IsAnswered es edits (λ ys. IsQueued e.origin (flat_map (draft_of doc.number) edits) ys)) (sym here.0) (again-queued doc e.origin 1 pending);
+      answered = subst (λ es. IsAnswered es edits (λ ys. IsQueued e.origin (flat_map (sent_draft doc.number) edits) ys)) (sym here.0) (again-queued doc e.origin 1 pending);
     }

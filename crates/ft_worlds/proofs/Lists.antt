@@ -1,7 +1,8 @@
 -- Lists: a fact of each element, look-ups and filters of lists that grow or change.
-use Rattle.std.proofs.Common.{◌≡◌, ℕ, Bool, true, false, cond, ◌||◌, nat_eq, List, [], ◌∷◌, ◌++◌, Some, map, filter, find, refl, sym, ◌∙◌, ap, subst, arith}
+use Rattle.std.proofs.Common.{◌≡◌, ℕ, zero, suc, Bool, true, false, cond, ◌&&◌, ◌||◌, nat_eq, List, [], ◌∷◌, ◌++◌, Some, map, filter, take, find, refl, sym, ◌∙◌, ap, subst, arith}
 use Rattle.std.specs.List.{list_any}
 use Rattle.std.proofs.lemmas.Bool.Decides.{nat_tests}
+use Rattle.ft_base.specs.Scan.{change_range_from, one_more_if, put, put_past, within}
 use Rattle.ft_laws.specs.Sequencing.{Each}
 
 -- ---- a fact of each element
@@ -29,6 +30,35 @@ each-filtered P test (x ∷ xs) h = by (each-filtered P test xs h.1) (test x)
     by : Each P (filter test xs) → (b : Bool) → Each P (cond b (x ∷ filter test xs) (filter test xs))
     by ih true = (h.0, ih)
     by ih false = ih
+
+pub each-taken : {A : Type 0} (P : A → Type 0) (n : ℕ) (xs : List A) → Each P xs → Each P (take n xs)
+each-taken P zero xs h = tt
+each-taken P (suc n) [] h = tt
+each-taken P (suc n) (x ∷ xs) h = (h.0, each-taken P n xs h.1)
+
+-- an insertion of elements that have it, and a change of seen ones that keeps it
+each-put_past : {A : Type 0} (P : A → Type 0) (past : A → Bool) (new xs : List A) → Each P new → Each P xs → Each P (put_past past new xs)
+each-put_past P past new [] g h = g
+each-put_past P past new (x ∷ xs) g h = by (each-put_past P past new xs g h.1) (past x)
+  where
+    by : Each P (put_past past new xs) → (b : Bool) → Each P (cond b (x ∷ put_past past new xs) (new ++ (x ∷ xs)))
+    by ih true = (h.0, ih)
+    by ih false = each-joined P new (x ∷ xs) g h
+
+pub each-put : {A : Type 0} (P : A → Type 0) (seen past : A → Bool) (p : ℕ) (new xs : List A) → Each P new → Each P xs → Each P (put seen past p new xs)
+each-put P seen past zero new xs g h = each-put_past P past new xs g h
+each-put P seen past (suc p) new [] g h = g
+each-put P seen past (suc p) new (x ∷ xs) g h = (h.0, each-put P seen past (cond (seen x) p (suc p)) new xs g h.1)
+
+pub each-range : {A : Type 0} (P : A → Type 0) (test : A → Bool) (f : A → A) → ((x : A) → P x → test x ≡ true → P (f x)) → (i p q : ℕ) (xs : List A) → Each P xs
+    → Each P (change_range_from i test p q f xs)
+each-range P test f k i p q [] h = tt
+each-range P test f k i p q (x ∷ xs) h = (by (test x) (within p q i) refl, each-range P test f k (one_more_if (test x) i) p q xs h.1)
+  where
+    by : (s t : Bool) → test x ≡ s → P (cond (s && t) (f x) x)
+    by true true e = k x h.0 e
+    by true false e = h.0
+    by false t e = h.0
 
 -- what is found in a list has what each of its elements has, and passes the test
 pub each-found : {A : Type 0} (P : A → Type 0) (test : A → Bool) (xs : List A) (x : A) → find test xs ≡ Some x → Each P xs → P x × (test x ≡ true)

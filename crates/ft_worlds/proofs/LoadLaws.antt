@@ -1,15 +1,24 @@
 -- The load bounds the number of the sequencer and the elements that clients ever held.
-use Rattle.std.proofs.Common.{◌≡◌, ℕ, ◌+◌, ◌≤◌, List, [], ◌∷◌, length, arith}
+use Rattle.std.proofs.Common.{◌≡◌, ℕ, ◌+◌, ◌≤◌, List, [], ◌∷◌, length, take, ◌∙◌, ap, arith}
 use Rattle.ft_msg.specs.declared.messages.Entry.{Entry}
+use Rattle.ft_op.specs.Document.{Document, empty}
+use Rattle.ft_msg.specs.Agreed.{agreed}
+use Rattle.ft_laws.proofs.ClientsAgree.{clients-agree}
+use Rattle.std.proofs.lemmas.List.{length-take}
+use Rattle.ft_worlds.proofs.CountedOthers.{entries-other}
+use Rattle.ft_worlds.proofs.Lists.{each-weaker}
+use Rattle.ft_worlds.proofs.SkippedEntries.{first-skip}
+use Rattle.ft_seqr.specs.declared.events.Event.{Event}
 use Rattle.ft_seqr.specs.World.{NamedClient, NaiveWorld}
 use Rattle.ft_laws.specs.Sequencing.{Each}
-use Rattle.ft_worlds.specs.Load.{ElementsAreWithinLoad, IsHeldWithin, NumberIsWithinLoad}
+use Rattle.ft_worlds.specs.Load.{CountsAreWithinLoad, ElementsAreWithinLoad, IsCountedWithin, IsHeldWithin, NumberIsWithinLoad}
 use Rattle.ft_worlds.specs.Worlds.{reached}
 use Rattle.ft_worlds.proofs.Orders.{Leads}
 use Rattle.ft_worlds.proofs.Owing.{debt, entry_cost, owing_of, total}
-use Rattle.ft_worlds.proofs.Sizes.{served-held}
+use Rattle.ft_worlds.proofs.HeldElements.{IsSizedWithin}
+use Rattle.ft_worlds.proofs.Sizes.{served-held, served-sized}
 use Rattle.ft_worlds.proofs.WorldEvents.{IsReachedWorld, Serves, debt-is}
-use Rattle.ft_worlds.proofs.WorldLaws.{world-reached}
+use Rattle.ft_worlds.proofs.WorldLaws.{of-log, world-reached}
 
 -- ---- numbers
 
@@ -46,6 +55,19 @@ client-held w r c s less =
           in omega (arith, a, owes, p, less);
     }
 
+-- and have as many elements at most
+client-sized : (w : NaiveWorld) (r : IsReachedWorld ⊥ 0 w) (c : NamedClient) → Serves ⊥ r.owner (length w.names) w.sequencer w.log c
+    → debt w.log c ≤ total (debt w.log) w.clients → IsSizedWithin w.load c.client.doc
+client-sized w r c s less =
+    let sized = served-sized r.owner (length w.names) w.sequencer w.log c.name s.rest c.client s.served in
+    let owes : debt w.log c ≡ owing_of c.client s.rest = debt-is ⊥ r.owner (length w.names) w.sequencer w.log c.name s.rest c.client s.served in
+    let p = r.paid in
+    record {
+      text = let a = sized.text in omega (arith, a, owes, p, less);
+      rows = let a = sized.rows in omega (arith, a, owes, p, less);
+      cols = let a = sized.cols in omega (arith, a, owes, p, less);
+    }
+
 -- what holds of each that costs at most what all cost
 each-below : {A : Type 0} (f : A → ℕ) (P Q : A → Type 0) (n : ℕ) → ((x : A) → P x → f x ≤ n → Q x) → (xs : List A) → total f xs ≤ n → Each P xs → Each Q xs
 each-below f P Q n h [] l e = e
@@ -57,3 +79,28 @@ elements-within-load events =
     let r = world-reached events in
     each-below (debt w.log) (Serves ⊥ r.owner (length w.names) w.sequencer w.log) (λ (c : NamedClient). IsHeldWithin w.load c.client.doc)
     (total (debt w.log) w.clients) (λ c s l. client-held w r c s l) w.clients (omega arith) r.clients
+
+pub sizes-within-load : (events : List Event) → Each (λ c. IsSizedWithin (reached events).load c.client.doc) (reached events).clients
+sizes-within-load events =
+    let w = reached events in
+    let r = world-reached events in
+    each-below (debt w.log) (Serves ⊥ r.owner (length w.names) w.sequencer w.log) (λ (c : NamedClient). IsSizedWithin w.load c.client.doc)
+    (total (debt w.log) w.clients) (λ c s l. client-sized w r c s l) w.clients (omega arith) r.clients
+
+-- ---- counts
+
+pub counts-within-load : CountsAreWithinLoad
+counts-within-load events =
+    let w = reached events in
+    let r = world-reached events in
+    each-weaker (Serves ⊥ r.owner (length w.names) w.sequencer w.log) (λ (c : NamedClient). IsCountedWithin w.load c.client.doc) (λ c s.
+    let o = of-log w r c s in
+    let agrees = clients-agree o.steps c.client o.run.made o.run.bodies ∙ ap agreed o.entries in
+    let skipped : c.client.doc.skipped ≡ (agreed (take c.client.doc.number w.log)).skipped = ap (λ (d : Document). d.skipped) agrees in
+    let other : c.client.doc.other ≡ (agreed (take c.client.doc.number w.log)).other = ap (λ (d : Document). d.other) agrees in
+    let first = first-skip c.client.doc.number w.log empty in
+    let many = entries-other (take c.client.doc.number w.log) empty in
+    let taken : length (take c.client.doc.number w.log) ≤ length w.log = simp length-take (omega arith) in
+    let cost = each-costs w.log in
+    let p = r.paid in
+    record { skipped = omega (arith, skipped, first, p); other = omega (arith, other, many, taken, cost, p) }) w.clients r.clients

@@ -1,31 +1,19 @@
 -- The name of each new connection is a new one.
-use Rattle.std.proofs.Common.{◌≡◌, suc, ◌+◌, Bool, true, false, cond, ◌||◌, bytes_eq, nat_le, List, [], ◌∷◌, length, Some, None, refl, sym, ◌∙◌, ap, arith}
+use Rattle.std.proofs.Common.{◌≡◌, suc, ◌+◌, Bool, true, false, cond, ◌||◌, bytes_eq, nat_le, List, [], ◌∷◌, length, Some, None, refl, ◌∙◌, ap, arith}
 use Rattle.std.specs.List.{list_any}
-use Rattle.std.proofs.lemmas.Slice.Eq.{bytes_eq-Decides}
 use Rattle.ft_seqr.specs.declared.refusals.Refusal.TheVariants.{ClientLimit, NameInUse}
 use Rattle.ft_props.specs.Properties.{Characters}
 use Rattle.ft_msg.specs.NameTable.{names_after, number_of}
 use Rattle.ft_seqr.specs.World.{NaiveWorld, connection_name, is_client, is_guest, name_fault}
 use Rattle.ft_worlds.specs.NewNames.{ConnectionsHaveNewNames, GuestsHaveNewNames, IsNewName}
 use Rattle.ft_worlds.specs.Worlds.{reached}
-use Rattle.ft_worlds.proofs.ConnectionNames.{IsUnused, guest-is-new, next-is-new}
+use Rattle.ft_worlds.proofs.ConnectionNames.{IsUnused, guest-is-new, next-is-new, none-of, other-way}
 use Rattle.ft_worlds.proofs.WorldLaws.{world-reached}
-
-other-way : (a b : Characters) → bytes_eq a b ≡ false → bytes_eq b a ≡ false
-other-way a b h = by (bytes_eq b a) refl
-  where
-    by : (t : Bool) → bytes_eq b a ≡ t → t ≡ false
-    by true e = let wrong : true ≡ false = sym ((bytes_eq-Decides a b).1 (sym ((bytes_eq-Decides b a).0 e))) ∙ h in (cc)
-    by false e = refl
-
-parts : (a b : Bool) → a || b ≡ false → (a ≡ false) × (b ≡ false)
-parts true b h = (cc)
-parts false b h = (refl, h)
 
 new-name : (names : List Characters) (name : Characters) → list_any (bytes_eq name) names ≡ false → IsNewName names name
 new-name [] name h = record { number = refl; after = refl }
 new-name (first ∷ names) name h =
-    let p = parts (bytes_eq name first) (list_any (bytes_eq name) names) h in
+    let p = none-of (bytes_eq name first) (list_any (bytes_eq name) names) h in
     let f = other-way name first p.0 in
     let r = new-name names name p.1 in
     let n = r.number in

@@ -8,7 +8,7 @@ use Rattle.ft_base.proofs.Booleans.{both}
 use Rattle.ft_props.specs.Element.{ElementId, ListElement, has_id, id, same_id, seen}
 use Rattle.ft_props.specs.Slide.{settle}
 use Rattle.ft_props.proofs.RebuiltList.{or_right}
-use Rattle.ft_laws.specs.Trimming.{are_distinct}
+use Rattle.ft_laws.specs.Trimming.{are_distinct_elements}
 use Rattle.ft_laws.proofs.SlidEnds.{same_id-eq, same_id-refl}
 
 -- ---- the order of two names
@@ -127,13 +127,13 @@ any-carried h b (x ∷ xs) ys c g = by (λ us d f. any-carried h b xs us d f) ys
     by ih (u ∷ us) (inr n) = or_right (has_id (h b) u) (list_any (has_id (h b)) us) (by ih us n)
 
 -- an element with the name of a later one isn't there
-pub other-name : (b : ElementId) (y : ListElement) (ys : List ListElement) → are_distinct (y ∷ ys) ≡ true → list_any (has_id b) ys ≡ true → has_id b y ≡ false
+pub other-name : (b : ElementId) (y : ListElement) (ys : List ListElement) → are_distinct_elements (y ∷ ys) ≡ true → list_any (has_id b) ys ≡ true → has_id b y ≡ false
 other-name b y ys d g = by (has_id b y) refl
   where
     by : (t : Bool) → has_id b y ≡ t → t ≡ false
     by false e = refl
     by true e =
-        let p = both (not (list_any (has_id (id y)) ys)) (are_distinct ys) d in
+        let p = both (not (list_any (has_id (id y)) ys)) (are_distinct_elements ys) d in
         let there : list_any (has_id (id y)) ys ≡ true = ap (λ a. list_any (has_id a) ys) (sym (same_id-eq b (id y) e)) ∙ g in
         let wrong : not true ≡ true = ap not (sym there) ∙ p.0 in
         (cc)
@@ -145,23 +145,23 @@ leads-behind a b y ys n l = by (has_id a y) (ap (λ t. not t && leads a b ys) n 
     by true k = refl
     by false k = k
 
-pub leads-carried : (h : ElementId → ElementId) (a b : ElementId) (xs ys : List ListElement) → Carries h xs ys → are_distinct ys ≡ true
+pub leads-carried : (h : ElementId → ElementId) (a b : ElementId) (xs ys : List ListElement) → Carries h xs ys → are_distinct_elements ys ≡ true
     → list_any (has_id b) xs ≡ true → leads a b xs ≡ true → leads (h a) (h b) ys ≡ true
 leads-carried h a b [] ys c d g l = (cc)
 leads-carried h a b (x ∷ xs) ys c d g l = by (λ us e f m k. leads-carried h a b xs us e f m k) ys c d
   where
-    tail : (u : ListElement) (us : List ListElement) → are_distinct (u ∷ us) ≡ true → are_distinct us ≡ true
-    tail u us f = (both (not (list_any (has_id (id u)) us)) (are_distinct us) f).1
+    tail : (u : ListElement) (us : List ListElement) → are_distinct_elements (u ∷ us) ≡ true → are_distinct_elements us ≡ true
+    tail u us f = (both (not (list_any (has_id (id u)) us)) (are_distinct_elements us) f).1
 
-    here : (u : ListElement) (us : List ListElement) → id u ≡ h (id x) → Carries h xs us → are_distinct (u ∷ us) ≡ true
-        → (are_distinct us ≡ true → list_any (has_id b) xs ≡ true → leads a b xs ≡ true → leads (h a) (h b) us ≡ true)
+    here : (u : ListElement) (us : List ListElement) → id u ≡ h (id x) → Carries h xs us → are_distinct_elements (u ∷ us) ≡ true
+        → (are_distinct_elements us ≡ true → list_any (has_id b) xs ≡ true → leads a b xs ≡ true → leads (h a) (h b) us ≡ true)
         → (s t : Bool) → has_id a x ≡ s → has_id b x ≡ t → t || list_any (has_id b) xs ≡ true → s || (not t && leads a b xs) ≡ true → leads (h a) (h b) (u ∷ us) ≡ true
     here u us e c f ih true t p q m k = ap (λ v. v || (not (has_id (h b) u) && leads (h a) (h b) us)) (named-as h a x u e p)
     here u us e c f ih false true p q m k = (cc)
     here u us e c f ih false false p q m k = leads-behind (h a) (h b) u us (other-name (h b) u us f (any-carried h b xs us c m)) (ih (tail u us f) m k)
 
-    by : ((us : List ListElement) → Carries h xs us → are_distinct us ≡ true → list_any (has_id b) xs ≡ true → leads a b xs ≡ true → leads (h a) (h b) us ≡ true)
-        → (us : List ListElement) → Next (h (id x)) us (λ zs. Carries h xs zs) → are_distinct us ≡ true → leads (h a) (h b) us ≡ true
+    by : ((us : List ListElement) → Carries h xs us → are_distinct_elements us ≡ true → list_any (has_id b) xs ≡ true → leads a b xs ≡ true → leads (h a) (h b) us ≡ true)
+        → (us : List ListElement) → Next (h (id x)) us (λ zs. Carries h xs zs) → are_distinct_elements us ≡ true → leads (h a) (h b) us ≡ true
     by ih [] n f = absurd n
     by ih (u ∷ us) (inl e) f = here u us e.0 e.1 f (λ f m k. ih us e.1 f m k) (has_id a x) (has_id b x) refl refl g l
     by ih (u ∷ us) (inr n) f =
@@ -215,10 +215,10 @@ at-named test zero (x ∷ xs) e h = by (at-named test zero xs e) (test x) h
     by ih false g = or_right (has_id (id e) x) (list_any (has_id (id e)) xs) (ih g)
 at-named test (suc i) (x ∷ xs) e h = or_right (has_id (id e) x) (list_any (has_id (id e)) xs) (at-named test (cond (test x) i (suc i)) xs e h)
 
-pub at-leads : (test : ListElement → Bool) (i j : ℕ) (xs : List ListElement) (d e : ListElement) → i ≤ j → are_distinct xs ≡ true → at test i xs ≡ Some d
+pub at-leads : (test : ListElement → Bool) (i j : ℕ) (xs : List ListElement) (d e : ListElement) → i ≤ j → are_distinct_elements xs ≡ true → at test i xs ≡ Some d
     → at test j xs ≡ Some e → leads (id d) (id e) xs ≡ true
 at-leads test i j [] d e l s h g = (cc)
-at-leads test i j (x ∷ xs) d e l s h g = by (λ m n k p q. at-leads test m n xs d e k (both (not (list_any (has_id (id x)) xs)) (are_distinct xs) s).1 p q) (test x) refl i j l h g
+at-leads test i j (x ∷ xs) d e l s h g = by (λ m n k p q. at-leads test m n xs d e k (both (not (list_any (has_id (id x)) xs)) (are_distinct_elements xs) s).1 p q) (test x) refl i j l h g
   where
     later : ((m n : ℕ) → m ≤ n → at test m xs ≡ Some d → at test n xs ≡ Some e → leads (id d) (id e) xs ≡ true) → (m n : ℕ) → m ≤ n → at test m xs ≡ Some d
         → at test n xs ≡ Some e → leads (id d) (id e) (x ∷ xs) ≡ true
@@ -285,7 +285,7 @@ settled-at is ok last (x ∷ xs) h = by (is x) (ok x) refl h (λ l g. settled-at
         ∙ ap (λ o. option_or o (last_ok ok last (x ∷ xs))) (sym (at-behind ok x xs (rank is ok xs) t e))
 
 -- an element stands at each number below the count, and at no other
-at-below : (ok : ListElement → Bool) (i : ℕ) (xs : List ListElement) (e : ListElement) → at ok i xs ≡ Some e → i < len ok xs
+pub at-below : (ok : ListElement → Bool) (i : ℕ) (xs : List ListElement) (e : ListElement) → at ok i xs ≡ Some e → i < len ok xs
 at-below ok i [] e h = (cc)
 at-below ok zero (x ∷ xs) e h = by (ok x) h (at-below ok zero xs e)
   where
@@ -331,7 +331,7 @@ last-at ok last m (x ∷ xs) h = by (ok x) refl h m refl (λ l n g. last-at ok l
     by false e g n q ih = ih last n (omega (arith, g, q)) ∙ sym (at-behind ok x xs n false e)
 
 -- the element at a number, or the last one, stands in order with that at a later number
-ordered-at : (ok : ListElement → Bool) (i j : ℕ) (xs : List ListElement) → i ≤ j → are_distinct xs ≡ true
+ordered-at : (ok : ListElement → Bool) (i j : ℕ) (xs : List ListElement) → i ≤ j → are_distinct_elements xs ≡ true
     → AreInOrder xs (option_map id (option_or (at ok i xs) (last_ok ok None xs))) (option_map id (option_or (at ok j xs) (last_ok ok None xs)))
 ordered-at ok i j xs l s = by (at ok i xs) (at ok j xs) (last_ok ok None xs) refl refl refl
   where
@@ -351,7 +351,7 @@ ordered-at ok i j xs l s = by (at ok i xs) (at ok j xs) (last_ok ok None xs) ref
     by None (Some e) o p q r = let a = at-above ok i xs p in let b = at-below ok j xs e q in absurd (omega (arith, a, b, l))
 
 -- two names in order settle in order
-pub leads-settled : (k : ℕ) (a b : ElementId) (xs : List ListElement) → are_distinct xs ≡ true → list_any (has_id a) xs ≡ true → list_any (has_id b) xs ≡ true → leads a b xs ≡ true
+pub leads-settled : (k : ℕ) (a b : ElementId) (xs : List ListElement) → are_distinct_elements xs ≡ true → list_any (has_id a) xs ≡ true → list_any (has_id b) xs ≡ true → leads a b xs ≡ true
     → AreInOrder xs (settle xs k (Some a)) (settle xs k (Some b))
 leads-settled k a b xs s f g l =
     subst (λ o. AreInOrder xs (option_map id o) (settle xs k (Some b))) (sym (settled-at (has_id a) (seen k) None xs f))

@@ -11,21 +11,21 @@ use Rattle.ft_seqr.specs.declared.nacks.Nack.TheVariants.{NotJoined, ClientSeq, 
 use Rattle.ft_props.specs.Properties.{Characters}
 use Rattle.ft_msg.specs.Process.{is_op_kind}
 use Rattle.ft_msg.specs.WellFormed.{IsWellFormedKind, has_body}
-use Rattle.ft_seqr.specs.Sequencer.{JoinedConnection, NaiveSequencer, is_joined, join, kind_of, leave, least_ref, nack_of, next, notice, sequence, submit, submitted}
+use Rattle.ft_seqr.specs.Sequencer.{JoinedConnection, NaiveSequencer, is_joined, join, draft_kind, leave, least_ref, nack_of, next, notice, sequence, submit, submitted}
 use Rattle.ft_msg.specs.ClientSteps.{has_fitting_body}
 use Rattle.ft_laws.specs.Sequencing.{Each}
 use Rattle.ft_laws.proofs.NumberTests.{same_number}
-use Rattle.ft_worlds.specs.LogOrder.{Follows, IsOrder, RefersWithin}
-use Rattle.ft_worlds.proofs.Lists.{each-filtered, each-mapped, each-more, each-weaker}
+use Rattle.ft_worlds.specs.LogOrder.{StandsNext, IsOrder, RefersWithin}
+use Rattle.ft_worlds.proofs.Lists.{each-filtered, each-found, each-mapped, each-more, each-weaker}
 
 -- ---- entries that lead from one number and minimum to others
 
 abbrev pub Leads : ℕ → ℕ → List Entry → ℕ → ℕ → Type 0
 Leads n m [] k l = (n ≡ k) × (m ≡ l)
-Leads n m (e ∷ es) k l = Follows n m e × Leads (n + 1) e.msg.min es k l
+Leads n m (e ∷ es) k l = StandsNext n m e × Leads (n + 1) e.msg.min es k l
 
-pub leads-more : (es : List Entry) (n m k l : ℕ) (e : Entry) → Leads n m es k l → Follows k l e → Leads n m (es ++ (e ∷ [])) (k + 1) e.msg.min
-leads-more [] n m k l e h f = (subst (λ i. Follows i m e) (sym h.0) (subst (λ i. Follows k i e) (sym h.1) f), (ap (λ i. i + 1) h.0, refl))
+pub leads-more : (es : List Entry) (n m k l : ℕ) (e : Entry) → Leads n m es k l → StandsNext k l e → Leads n m (es ++ (e ∷ [])) (k + 1) e.msg.min
+leads-more [] n m k l e h f = (subst (λ i. StandsNext i m e) (sym h.0) (subst (λ i. StandsNext k i e) (sym h.1) f), (ap (λ i. i + 1) h.0, refl))
 leads-more (x ∷ es) n m k l e h f = (h.0, leads-more es (n + 1) x.msg.min k l e h.1 f)
 
 pub leads-up : (es : List Entry) (n m k l : ℕ) → Leads n m es k l → n ≤ k
@@ -59,6 +59,7 @@ least-each (j ∷ joined) a = let r = least-high joined (min a j.ref_seq) in (om
 pub record IsBounded (m n count : ℕ) (j : JoinedConnection) : Type 0 where
   pub above : m ≤ j.ref_seq
   pub below : j.ref_seq ≤ n
+  pub first : 1 ≤ j.conn
   pub known : j.conn ≤ count
 
 pub record IsMoved (m n count : ℕ) (joined : List JoinedConnection) : Type 0 where
@@ -69,7 +70,7 @@ pub record IsMoved (m n count : ℕ) (joined : List JoinedConnection) : Type 0 w
 join-bounds : (m n count l : ℕ) (joined : List JoinedConnection) → Each (IsBounded m n count) joined → Each (λ j. l ≤ j.ref_seq) joined → Each (IsBounded l (n + 1) count) joined
 join-bounds m n count l [] b e = tt
 join-bounds m n count l (j ∷ joined) b e =
-    (record { above = e.0; below = let h = b.0.below in omega (arith, h); known = b.0.known }, join-bounds m n count l joined b.1 e.1)
+    (record { above = e.0; below = let h = b.0.below in omega (arith, h); first = b.0.first; known = b.0.known }, join-bounds m n count l joined b.1 e.1)
 
 moved : (m n count : ℕ) (joined : List JoinedConnection) → m ≤ n → Each (IsBounded m n count) joined → IsMoved m n count joined
 moved m n count [] w b = record { later = omega arith; below = omega arith; bounded = tt }
@@ -99,6 +100,8 @@ pub record IsBase (count : ℕ) (q : NaiveSequencer) (log : List Entry) : Type 0
   pub within : q.minimum ≤ q.number
   pub joined : Each (IsBounded q.minimum q.number count) q.joined
   pub origins : Each (λ e. e.origin ≤ count) log
+  pub sources : Each (λ e. 1 ≤ e.origin) log
+  pub counted : count ≤ q.number
   pub told : Each (λ e. AreUpTo e.msg.seq e) log
   pub sent : Each (λ j. j.client_seq ≤ q.number) q.joined
 
@@ -112,11 +115,12 @@ pub record IsNumbered (more : ℕ) (joined : List JoinedConnection) (q : NaiveSe
   pub sender : is_some entry.msg.client_id ≡ true
   pub kind : IsWellFormedKind entry.msg.kind
   pub origin : entry.origin ≤ more
+  pub source : 1 ≤ entry.origin
   pub told : AreUpTo (q.number + 1) entry
   pub sent : Each (λ j. j.client_seq ≤ q.number + 1) joined
 
 pub numbered-follows : (more : ℕ) (joined : List JoinedConnection) (q : NaiveSequencer) (entry : Entry) → q.minimum ≤ q.number → IsNumbered more joined q entry
-    → Follows q.number q.minimum entry
+    → StandsNext q.number q.minimum entry
 numbered-follows more joined q entry w h =
     let m = moved q.minimum q.number more joined w h.bounded in
     let low = m.later in
@@ -126,8 +130,8 @@ numbered-follows more joined q entry w h =
     record { seq = s; later = omega (arith, low, t); below = omega (arith, high, s, t); refers = h.refers; body = h.body; sender = h.sender; kind = h.kind }
 
 pub numbered-base : (count more : ℕ) (joined : List JoinedConnection) (q : NaiveSequencer) (log : List Entry) (entry : Entry) → count ≤ more
-    → IsBase count q log → IsNumbered more joined q entry → IsBase more (next joined q) (log ++ (entry ∷ []))
-numbered-base count more joined q log entry c b h =
+    → more ≤ count + 1 → IsBase count q log → IsNumbered more joined q entry → IsBase more (next joined q) (log ++ (entry ∷ []))
+numbered-base count more joined q log entry c d b h =
     let m = moved q.minimum q.number more joined b.within h.bounded in
     record {
       order = subst (λ l. Leads 0 0 (log ++ (entry ∷ [])) (q.number + 1) l) h.min
@@ -135,6 +139,8 @@ numbered-base count more joined q log entry c b h =
       within = m.below;
       joined = m.bounded;
       origins = each-more (λ e. e.origin ≤ more) log entry (each-weaker (λ e. e.origin ≤ count) (λ e. e.origin ≤ more) (λ e o. omega (arith, o, c)) log b.origins) h.origin;
+      sources = each-more (λ e. 1 ≤ e.origin) log entry b.sources h.source;
+      counted = let k = b.counted in omega (arith, d, k);
       told = each-more (λ e. AreUpTo e.msg.seq e) log entry b.told (subst (λ n. AreUpTo n entry) (sym h.seq) h.told);
       sent = h.sent;
     }
@@ -142,7 +148,7 @@ numbered-base count more joined q log entry c b h =
 -- ---- joins and leaves
 
 widen : (m n count more : ℕ) (j : JoinedConnection) → count ≤ more → IsBounded m n count j → IsBounded m n more j
-widen m n count more j c h = record { above = h.above; below = h.below; known = let k = h.known in omega (arith, k, c) }
+widen m n count more j c h = record { above = h.above; below = h.below; first = h.first; known = let k = h.known in omega (arith, k, c) }
 
 abbrev pub new_connection : NaiveSequencer → ℕ → Characters → JoinedConnection
 new_connection q conn name = record { conn = conn; name = name; ref_seq = q.minimum; client_seq = 0 }
@@ -158,7 +164,7 @@ join-numbered count q log name b =
       bounded = each-more (IsBounded q.minimum q.number (count + 1)) q.joined (new_connection q (count + 1) name)
           (each-weaker (IsBounded q.minimum q.number count) (IsBounded q.minimum q.number (count + 1))
           (λ j h. widen q.minimum q.number count (count + 1) j (omega arith) h) q.joined b.joined)
-          (record { above = omega arith; below = w; known = omega arith });
+          (record { above = omega arith; below = w; first = omega arith; known = omega arith });
       seq = refl;
       min = refl;
       refers = λ h. (cc);
@@ -166,6 +172,7 @@ join-numbered count q log name b =
       sender = refl;
       kind = tt;
       origin = omega arith;
+      source = omega arith;
       told = (refl, refl);
       sent = each-more (λ j. j.client_seq ≤ q.number + 1) q.joined (new_connection q (count + 1) name) (sent-later q b.sent) (omega arith);
     }
@@ -181,9 +188,9 @@ gone q conn j = (next (others conn q) q, notice (next (others conn q) q) conn j.
 pub leave-found : (q : NaiveSequencer) (conn : ℕ) (j : JoinedConnection) → find (is_joined conn) q.joined ≡ Some j → leave q conn ≡ Some (gone q conn j)
 leave-found q conn j f = ap (λ (o : Option JoinedConnection). option_map (gone q conn) o) f
 
-pub leave-numbered : (count : ℕ) (q : NaiveSequencer) (log : List Entry) (conn : ℕ) (j : JoinedConnection) → IsBase count q log → conn ≤ count
-    → IsNumbered count (others conn q) q (gone q conn j).1
-leave-numbered count q log conn j b k = record {
+pub leave-numbered : (count : ℕ) (q : NaiveSequencer) (log : List Entry) (conn : ℕ) (j : JoinedConnection) → IsBase count q log
+    → find (is_joined conn) q.joined ≡ Some j → IsNumbered count (others conn q) q (gone q conn j).1
+leave-numbered count q log conn j b f = record {
   bounded = each-filtered (IsBounded q.minimum q.number count) (λ i. not (is_joined conn i)) q.joined b.joined;
   seq = refl;
   min = refl;
@@ -191,10 +198,17 @@ leave-numbered count q log conn j b k = record {
   body = refl;
   sender = refl;
   kind = tt;
-  origin = k;
+  origin = subst (λ i. i ≤ count) (sym named) here.0.known;
+  source = subst (λ i. 1 ≤ i) (sym named) here.0.first;
   told = (refl, refl);
   sent = each-filtered (λ j. j.client_seq ≤ q.number + 1) (λ i. not (is_joined conn i)) q.joined (sent-later q b.sent);
 }
+  where
+    here : IsBounded q.minimum q.number count j × (is_joined conn j ≡ true)
+    here = each-found (IsBounded q.minimum q.number count) (is_joined conn) q.joined j f b.joined
+
+    named : conn ≡ j.conn
+    named = same_number conn j.conn (each-found (IsBounded q.minimum q.number count) (is_joined conn) q.joined j f b.joined).1
 
 -- ---- drafts
 
@@ -206,12 +220,12 @@ pub record IsAccepted (q : NaiveSequencer) (j : JoinedConnection) (d : Draft) : 
   pub rising : j.ref_seq ≤ d.ref_seq
   pub below : d.ref_seq ≤ q.number
 
-fits : (b : Body) → cond (is_op_kind (kind_of b)) (has_body b) (not (has_body b)) ≡ true
+fits : (b : Body) → cond (is_op_kind (draft_kind b)) (has_body b) (not (has_body b)) ≡ true
 fits Nothing = refl
 fits (Op op) = refl
 fits (Elsewhere address) = refl
 
-known_kind : (b : Body) → IsWellFormedKind (kind_of b)
+known_kind : (b : Body) → IsWellFormedKind (draft_kind b)
 known_kind Nothing = tt
 known_kind (Op op) = tt
 known_kind (Elsewhere address) = tt
@@ -222,12 +236,12 @@ after_draft j d q = map (λ i. cond (is_joined j.conn i) (submitted d i) i) q.jo
 
 draft-bounded : (m n count : ℕ) (b : Bool) (d : Draft) (i : JoinedConnection) → m ≤ d.ref_seq → d.ref_seq ≤ n → IsBounded m n count i
     → IsBounded m n count (cond b (submitted d i) i)
-draft-bounded m n count true d i l h b = record { above = l; below = h; known = b.known }
+draft-bounded m n count true d i l h b = record { above = l; below = h; first = b.first; known = b.known }
 draft-bounded m n count false d i l h b = b
 
-pub draft-numbered : (count : ℕ) (q : NaiveSequencer) (log : List Entry) (j : JoinedConnection) (d : Draft) → IsBase count q log → j.conn ≤ count
+pub draft-numbered : (count : ℕ) (q : NaiveSequencer) (log : List Entry) (j : JoinedConnection) (d : Draft) → IsBase count q log → 1 ≤ j.conn → j.conn ≤ count
     → IsAccepted q j d → d.client_seq ≤ q.number + 1 → IsNumbered count (after_draft j d q) q (sequence q j d).1
-draft-numbered count q log j d b k a u = record {
+draft-numbered count q log j d b o k a u = record {
   bounded = each-mapped (IsBounded q.minimum q.number count) (IsBounded q.minimum q.number count) (λ i. cond (is_joined j.conn i) (submitted d i) i)
       (λ i h. draft-bounded q.minimum q.number count (is_joined j.conn i) d i a.above a.below h) q.joined b.joined;
   seq = refl;
@@ -237,6 +251,7 @@ draft-numbered count q log j d b k a u = record {
   sender = refl;
   kind = known_kind d.body;
   origin = k;
+  source = o;
   told = (u, let l = a.below in omega (arith, l));
   sent = each-mapped (λ i. i.client_seq ≤ q.number + 1) (λ i. i.client_seq ≤ q.number + 1) (λ i. cond (is_joined j.conn i) (submitted d i) i)
       (λ i h. sent-draft (is_joined j.conn i) i h) q.joined (sent-later q b.sent);

@@ -1,6 +1,6 @@
 -- What the log and the clients have cost: one for each message, one for each edit and noop that is still to be numbered, and
 -- one for each element that these insert.
-use Rattle.std.proofs.Common.{◌≡◌, ℕ, ◌+◌, ◌≤◌, Bool, true, false, cond, ◌||◌, List, [], ◌∷◌, ◌++◌, Option, Some, None, map, filter, flat_map, fold, drop, find, refl, sym, ◌∙◌, ap, subst, arith}
+use Rattle.std.proofs.Common.{◌≡◌, ℕ, ◌+◌, ◌≤◌, Bool, true, false, cond, ◌||◌, List, [], ◌∷◌, ◌++◌, Option, Some, None, map, filter, flat_map, fold, drop, find, refl, sym, ◌∙◌, ap, subst, arith, length}
 use Rattle.std.specs.List.{list_any}
 use Rattle.std.proofs.lemmas.Slice.Eq.{bytes_eq-Decides}
 use Rattle.ft_op.specs.declared.operations.ChannelOp.{ChannelOp}
@@ -16,9 +16,9 @@ use Rattle.ft_op.specs.Pieces.{pieces}
 use Rattle.ft_op.specs.Stages.{Stage}
 use Rattle.ft_msg.specs.Acknowledgement.{renamed_edit, renamed_stage}
 use Rattle.ft_msg.specs.Client.{NaiveClient, PendingEdit, SentAs}
-use Rattle.ft_msg.specs.Reconnection.{carried_stage, draft_of, regenerated_edit, resubmitted_edit, resubmitted_edits}
+use Rattle.ft_msg.specs.Reconnection.{carried_stage, sent_draft, regenerated_edit, resubmitted_edit, resubmitted_edits}
 use Rattle.ft_msg.specs.WellFormed.{has_body}
-use Rattle.ft_seqr.specs.World.{NamedClient, body_load, in_place, inserted, is_client, op_load}
+use Rattle.ft_seqr.specs.World.{NamedClient, body_load, in_place, inserted_count, is_client, op_load}
 use Rattle.ft_laws.specs.Sequencing.{Each}
 use Rattle.ft_worlds.proofs.Lists.{filter-more}
 use Rattle.ft_worlds.proofs.ConnectionNames.{any-placed}
@@ -104,7 +104,7 @@ answered-behind (e ∷ es) (edit ∷ edits) R h = answered-behind es edits R h.1
 
 -- how many elements an operation inserts
 abbrev pub op_inserts : ChannelOp → ℕ
-op_inserts op = total inserted (sub_operations op)
+op_inserts op = total inserted_count (sub_operations op)
 
 abbrev pub body_inserts : Body → ℕ
 body_inserts Nothing = 0
@@ -113,7 +113,7 @@ body_inserts (Elsewhere address) = 0
 
 -- how many elements a stage inserts
 abbrev pub stage_inserts : Stage → ℕ
-stage_inserts t = inserted t.sub_operation
+stage_inserts t = inserted_count t.sub_operation
 
 -- how many elements an edit inserts
 abbrev pub edit_inserts : PendingEdit → ℕ
@@ -147,16 +147,21 @@ owing_of x rest = owing x.conns rest x.pending x.queue
 abbrev pub debt : List Entry → NamedClient → ℕ
 debt log c = owing_of c.client (drop c.client.doc.number log)
 
-fold-total : (os : List SubOperation) (n : ℕ) → n + total inserted os ≤ fold (λ n o. n + (1 + inserted o)) n os
+fold-total : (os : List SubOperation) (n : ℕ) → n + length os + total inserted_count os ≤ fold (λ n o. n + (1 + inserted_count o)) n os
 fold-total [] n = omega arith
-fold-total (o ∷ os) n = let ih = fold-total os (n + (1 + inserted o)) in omega (arith, ih)
+fold-total (o ∷ os) n = let ih = fold-total os (n + (1 + inserted_count o)) in omega (arith, ih)
 
 pub inserts-loaded : (op : ChannelOp) → op_inserts op ≤ op_load op
 inserts-loaded op = let h = fold-total (sub_operations op) 0 in omega (arith, h)
 
-pub body-loaded : (b : Body) → body_inserts b ≤ body_load b
+-- how many sub-operations a body has
+abbrev pub body_count : Body → ℕ
+body_count (Op op) = length (sub_operations op)
+body_count _ = 0
+
+pub body-loaded : (b : Body) → body_inserts b + body_count b ≤ body_load b
 body-loaded Nothing = omega arith
-body-loaded (Op op) = inserts-loaded op
+body-loaded (Op op) = let h = fold-total (sub_operations op) 0 in omega (arith, h)
 body-loaded (Elsewhere address) = omega arith
 
 -- ---- a renaming costs nothing
@@ -170,16 +175,16 @@ renamed-cost f es edits = ap (total edit_cost) (behind-map (renamed_edit f) es e
 
 -- ---- what is sent again costs no more
 
-stage-carried : (doc : Document) (t : Stage) (o : SubOperation) → total stage_inserts (carried_stage doc (record t { sub_operation = o })) ≤ inserted o
+stage-carried : (doc : Document) (t : Stage) (o : SubOperation) → total stage_inserts (carried_stage doc (record t { sub_operation = o })) ≤ inserted_count o
 stage-carried doc t (OnIntervals op) = omega arith
 stage-carried doc t (OnText op) = by (pieces doc (record t { sub_operation = OnText op }))
   where
-    by : (ps : List SubOperation) → total stage_inserts (elim ps [ [] ↦ [] | _ ∷ _ ↦ record t { sub_operation = OnText op } ∷ [] ]) ≤ inserted (OnText op)
+    by : (ps : List SubOperation) → total stage_inserts (elim ps [ [] ↦ [] | _ ∷ _ ↦ record t { sub_operation = OnText op } ∷ [] ]) ≤ inserted_count (OnText op)
     by [] = omega arith
     by (p ∷ ps) = omega arith
 stage-carried doc t (OnGrid op) = by (pieces doc (record t { sub_operation = OnGrid op }))
   where
-    by : (ps : List SubOperation) → total stage_inserts (elim ps [ [] ↦ [] | _ ∷ _ ↦ record t { sub_operation = OnGrid op } ∷ [] ]) ≤ inserted (OnGrid op)
+    by : (ps : List SubOperation) → total stage_inserts (elim ps [ [] ↦ [] | _ ∷ _ ↦ record t { sub_operation = OnGrid op } ∷ [] ]) ≤ inserted_count (OnGrid op)
     by [] = omega arith
     by (p ∷ ps) = omega arith
 
@@ -205,7 +210,7 @@ resubmitted-cost doc conn n (edit ∷ edits) = by (regenerated_edit doc edit) (r
     by None same more = omega (arith, same)
     by (Some op) same more = let carried = stages-carried doc edit.stages in omega (arith, more, carried)
 
-pub resubmitted-noops : (doc : Document) (conn n r : ℕ) (edits : List PendingEdit) → total noops (flat_map (draft_of r) (resubmitted_edits doc conn n edits)) ≡ 0
+pub resubmitted-noops : (doc : Document) (conn n r : ℕ) (edits : List PendingEdit) → total noops (flat_map (sent_draft r) (resubmitted_edits doc conn n edits)) ≡ 0
 resubmitted-noops doc conn n r [] = refl
 resubmitted-noops doc conn n r (edit ∷ edits) = by (regenerated_edit doc edit) (resubmitted-noops doc conn n r edits) (resubmitted-noops doc conn (n + 1) r edits)
   where
@@ -213,9 +218,9 @@ resubmitted-noops doc conn n r (edit ∷ edits) = by (regenerated_edit doc edit)
     again None = resubmitted_edits doc conn n edits
     again (Some op) = resubmitted_edit doc conn n edit op ∷ resubmitted_edits doc conn (n + 1) edits
 
-    by : (o : Option ChannelOp) → total noops (flat_map (draft_of r) (resubmitted_edits doc conn n edits)) ≡ 0
-        → total noops (flat_map (draft_of r) (resubmitted_edits doc conn (n + 1) edits)) ≡ 0
-        → total noops (flat_map (draft_of r) (again o)) ≡ 0
+    by : (o : Option ChannelOp) → total noops (flat_map (sent_draft r) (resubmitted_edits doc conn n edits)) ≡ 0
+        → total noops (flat_map (sent_draft r) (resubmitted_edits doc conn (n + 1) edits)) ≡ 0
+        → total noops (flat_map (sent_draft r) (again o)) ≡ 0
     by None same more = same
     by (Some op) same more = omega (arith, more)
 
@@ -234,7 +239,7 @@ owing-own conns rest e edit edits f queue h =
 
 pub owing-join : (conns : List ℕ) (rest : List Entry) (e : Entry) (doc : Document) (pending : List PendingEdit) (queue : List Draft) → is_owed conns e ≡ false
     → owed conns rest ≡ []
-    → owing conns rest (resubmitted_edits doc e.origin 1 pending) (flat_map (draft_of doc.number) (resubmitted_edits doc e.origin 1 pending)) ≤ owing conns (e ∷ rest) pending queue
+    → owing conns rest (resubmitted_edits doc e.origin 1 pending) (flat_map (sent_draft doc.number) (resubmitted_edits doc e.origin 1 pending)) ≤ owing conns (e ∷ rest) pending queue
 owing-join conns rest e doc pending queue h none =
     let edits = resubmitted_edits doc e.origin 1 pending in
     let after : total edit_cost (behind (owed conns rest) edits) ≡ total edit_cost edits = ap (λ es. total edit_cost (behind es edits)) none in

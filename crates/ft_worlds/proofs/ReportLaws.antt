@@ -5,7 +5,7 @@ use Rattle.ft_seqr.specs.declared.events.Event.{Event}
 use Rattle.ft_seqr.specs.declared.refusals.Refusal.TheVariants.{LineTooLong}
 use Rattle.ft_seqr.specs.EventGrammar.{event}
 use Rattle.ft_seqr.specs.SessionReport.{answer, answer_reading, as_applied, as_shown, session_after, session_end, session_lines, take_line}
-use Rattle.ft_seqr.specs.Walk.{Progress, Step, after_line, after_lines, after_step, begin, is_blank, line_limit, passes, refuses, step_of, tells, written_by, written_by_line, written_by_step}
+use Rattle.ft_seqr.specs.Walk.{Progress, Step, after_line, after_lines, progress_after, begin, is_blank, line_limit, passes, refuses, step_of, tells, written_by, written_by_line, written_by_step}
 use Rattle.ft_seqr.specs.World.{NaiveWorld, Stepped, new_world, step}
 use Rattle.ft_worlds.specs.Reports.{OpenedReportsAreOne, ReportsAreOne}
 use Rattle.ft_worlds.proofs.WorldEvents.{IsReachedWorld, Turns, first-reached, steps-turn}
@@ -41,7 +41,7 @@ lines-after : (lines : List (List ℕ)) (at : Progress NaiveWorld) → IsReached
 lines-after [] at r = refl
 lines-after (line ∷ lines) at r =
     let h = line-one at.made line r in
-    lines-after lines (after_line (take_line as_shown) at line) h.reached ∙ ap (λ s. after_lines (take_line as_applied) (after_step at s) lines) h.same
+    lines-after lines (after_line (take_line as_shown) at line) h.reached ∙ ap (λ s. after_lines (take_line as_applied) (progress_after at s) lines) h.same
 
 lines-written : (lines : List (List ℕ)) (at : Progress NaiveWorld) → IsReachedWorld ⊥ 0 at.made → written_by (take_line as_shown) at lines
     ≡ written_by (take_line as_applied) at lines
@@ -49,7 +49,7 @@ lines-written [] at r = refl
 lines-written (line ∷ lines) at r =
     let h = line-one at.made line r in
     ap (λ texts. written_by_line (take_line as_shown) at line ++ texts) (lines-written lines (after_line (take_line as_shown) at line) h.reached)
-    ∙ ap (λ s. written_by_step (at.lines + 1) s ++ written_by (take_line as_applied) (after_step at s) lines) h.same
+    ∙ ap (λ s. written_by_step (at.lines + 1) s ++ written_by (take_line as_applied) (progress_after at s) lines) h.same
 
 pub opened-reports-are_one : OpenedReportsAreOne
 opened-reports-are_one lines = lines-written lines (begin new_world) (first-reached ⊥)

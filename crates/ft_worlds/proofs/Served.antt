@@ -26,7 +26,7 @@ use Rattle.ft_laws.specs.Agreement.{IsRun}
 use Rattle.ft_msg.specs.ClientSteps.{ClientStep, Edits, Connects, Drops, Idles, Sends, Restarts, Takes, after_step, after_steps, has_fitting_body, taken_entries, unless_refused}
 use Rattle.ft_laws.specs.Sequencing.{Each}
 use Rattle.ft_laws.proofs.AnyAndAll.{all-append}
-use Rattle.ft_worlds.specs.LogOrder.{Follows, RefersWithin}
+use Rattle.ft_worlds.specs.LogOrder.{StandsNext, RefersWithin}
 use Rattle.ft_worlds.proofs.Lists.{each-any, each-weaker}
 use Rattle.ft_worlds.proofs.Orders.{Leads, leads-more}
 use Rattle.ft_worlds.proofs.Links.{IsLinked, is_owed, joined-none, linked-foreign, linked-join, linked-more, linked-oldest, linked-own}
@@ -97,7 +97,7 @@ served-known owner other count more q log name rest x l k s = record {
 
 -- another's message is numbered
 pub served-more : (owner : ℕ → Option Characters) (count : ℕ) (q p : NaiveSequencer) (log : List Entry) (name : Characters) (rest : List Entry)
-    (x : NaiveClient) (e : Entry) → Follows q.number q.minimum e
+    (x : NaiveClient) (e : Entry) → StandsNext q.number q.minimum e
     → p.number ≡ q.number + 1 → p.minimum ≡ e.msg.min → is_owed x.conns e ≡ false
     → ((conn : ℕ) → IsOwned owner count name conn → find (is_joined conn) p.joined ≡ find (is_joined conn) q.joined)
     → IsServed owner count q log name rest x → IsServed owner count p (log ++ (e ∷ [])) name (rest ++ (e ∷ [])) x
@@ -126,7 +126,7 @@ skips : (b : Bool) (x : ProcessFault) (o : Option ProcessFault) → b ≡ false 
 skips true x o h = (cc)
 skips false x o h = refl
 
-numbers-none : (x : NaiveClient) (e : Entry) → Follows x.doc.number x.doc.minimum e → numbers_fault x e ≡ None
+numbers-none : (x : NaiveClient) (e : Entry) → StandsNext x.doc.number x.doc.minimum e → numbers_fault x e ≡ None
 numbers-none x e f =
     let m = e.msg in
     let low = f.later in
@@ -148,7 +148,7 @@ own-false true true h = refl
 own-false true false h = let wrong : false ≡ true = h refl in (cc)
 own-false false t h = refl
 
-fault-none : (x : NaiveClient) (e : Entry) → Follows x.doc.number x.doc.minimum e → (is_owed x.conns e ≡ true → is_oldest e x.pending ≡ true) → process_fault x e ≡ None
+fault-none : (x : NaiveClient) (e : Entry) → StandsNext x.doc.number x.doc.minimum e → (is_owed x.conns e ≡ true → is_oldest e x.pending ≡ true) → process_fault x e ≡ None
 fault-none x e f h =
     let s = f.seq in
     skips (not (nat_eq e.msg.seq (x.doc.number + 1))) (OutOfOrder (x.doc.number + 1) e.msg.seq) (sent_fault x e (numbers_fault x e)) (grind (arith, nat_tests))
@@ -219,7 +219,7 @@ taken-join x e rest q (Joining conn) o l = record {
       (join-unowed e.msg.kind conn e.origin (list_any (nat_eq e.origin) x.conns) o) (joined-none x.conns conn l.j.ref_seq rest e o l.awaits);
 }
 
-fitting-op : (k : MsgKind) (b : Body) → cond (is_op_kind k) (has_body b) (not (has_body b)) ≡ true → is_op b ≡ true → is_op_kind k ≡ true
+pub fitting-op : (k : MsgKind) (b : Body) → cond (is_op_kind k) (has_body b) (not (has_body b)) ≡ true → is_op b ≡ true → is_op_kind k ≡ true
 fitting-op kind.Op b h o = refl
 fitting-op kind.Join (Op op) h o = (cc)
 fitting-op kind.Leave (Op op) h o = (cc)
@@ -238,7 +238,7 @@ fitting-op (kind.Other word) (Elsewhere address) h o = (cc)
 abbrev answer : NaiveClient → Entry → Bool → Bool → NaiveClient
 answer x e own_join own = cond own_join (come_online x e) (cond own (after_own_message x e) (after_foreign_message x e))
 
-taken : (x : NaiveClient) (e : Entry) (rest : List Entry) (q : NaiveSequencer) → Follows x.doc.number x.doc.minimum e
+taken : (x : NaiveClient) (e : Entry) (rest : List Entry) (q : NaiveSequencer) → StandsNext x.doc.number x.doc.minimum e
     → IsLinked x.conns x.doc.number x.next_client_seq x.queue x.pending (e ∷ rest) q x.link
     → (a b c : Bool) → is_own_join x.link e.msg.kind e.origin ≡ a → is_op e.msg.body && is_own x e ≡ b → is_owed x.conns e ≡ c → IsTaken x e rest q (answer x e a b)
 taken x e rest q f l true b c ha hb hc = taken-join x e rest q x.link ha l
@@ -270,6 +270,8 @@ pub record TakesNext (owner : ℕ → Option Characters) (count : ℕ) (q : Naiv
     (x : NaiveClient) (e : Entry) : Type 0 where
   pub y : NaiveClient
   pub processed : process x e ≡ Ok y
+  pub is : y ≡ after_entry x e
+  pub conns : y.conns ≡ x.conns
   pub served : IsServed owner count q log name rest y
   pub owes : owing y.conns rest y.pending y.queue ≤ owing x.conns (e ∷ rest) x.pending x.queue
 
@@ -277,7 +279,7 @@ pub served-takes : (owner : ℕ → Option Characters) (count : ℕ) (q : NaiveS
     (x : NaiveClient) (e : Entry) → IsServed owner count q log name (e ∷ rest) x
     → TakesNext owner count q log name rest x e
 served-takes owner count q log name rest x e s =
-    let f : Follows x.doc.number x.doc.minimum e = s.order.0 in
+    let f : StandsNext x.doc.number x.doc.minimum e = s.order.0 in
     let ok = process-ok x e (fault-none x e f (λ h. linked-oldest x.conns x.doc.number x.next_client_seq x.queue x.pending rest q e x.link h s.link)) in
     let t : IsTaken x e rest q (after_entry x e) = taken x e rest q f s.link (is_own_join x.link e.msg.kind e.origin) (is_op e.msg.body && is_own x e)
     (is_owed x.conns e) refl refl refl in
@@ -287,6 +289,8 @@ served-takes owner count q log name rest x e s =
     record {
       y = y;
       processed = ok;
+      is = refl;
+      conns = t.conns;
       served = record {
         steps = s.steps ++ (Takes e ∷ []);
         run = run-more s.steps x y (Takes e) s.run (ap unless_refused ok) (rw b refl);

@@ -16,7 +16,7 @@ use Rattle.ft_op.specs.Intervals.{Interval, element_at_end}
 use Rattle.ft_msg.specs.Content.{interval_record}
 use Rattle.ft_msg.specs.Indexed.{indexed_interval, place_in_list}
 use Rattle.ft_msg.specs.Summary.{interval_of, run_items, segment_bodies, segment_items, stamp_of}
-use Rattle.ft_laws.specs.Trimming.{are_distinct, has_ends_on, is_end_on}
+use Rattle.ft_laws.specs.Trimming.{are_distinct_elements, has_ends_on, is_end_on}
 use Rattle.ft_laws.proofs.SettledNames.{at-rank}
 use Rattle.ft_laws.proofs.SlidEnds.{same_id-eq, same_id-refl}
 use Rattle.ft_worlds.proofs.OrderedEnds.{at-named, other-name}
@@ -46,10 +46,10 @@ at-map test f zero (x ∷ xs) = by (test (f x)) (at-map test f zero xs)
 at-map test f (suc p) (x ∷ xs) = at-map test f (cond (test (f x)) p (suc p)) xs
 
 -- the place of the p-th element that passes
-at-place : (test : ListElement → Bool) (p : ℕ) (xs : List ListElement) (e : ListElement) → are_distinct xs ≡ true → at test p xs ≡ Some e
+at-place : (test : ListElement → Bool) (p : ℕ) (xs : List ListElement) (e : ListElement) → are_distinct_elements xs ≡ true → at test p xs ≡ Some e
     → rank (has_id (id e)) (λ d. true) xs ≡ before test p xs
 at-place test p [] e d h = refl
-at-place test p (x ∷ xs) e d h = by (test x) refl p h (λ q g. at-place test q xs e (both (not (list_any (has_id (id x)) xs)) (are_distinct xs) d).1 g)
+at-place test p (x ∷ xs) e d h = by (test x) refl p h (λ q g. at-place test q xs e (both (not (list_any (has_id (id x)) xs)) (are_distinct_elements xs) d).1 g)
   where
     later : (q : ℕ) → at test q xs ≡ Some e → rank (has_id (id e)) (λ d. true) xs ≡ before test q xs
         → cond (has_id (id e) x) 0 (suc (rank (has_id (id e)) (λ d. true) xs)) ≡ suc (before test q xs)
@@ -73,7 +73,7 @@ at-place test p (x ∷ xs) e d h = by (test x) refl p h (λ q g. at-place test q
         later (suc q) n (ih (suc q) n) ∙ sym (ap (λ b. suc (before test (cond b q (suc q)) xs)) c)
 
 -- two lists with the same elements but for names, each with distinct names: the p-th unremoved one stands at the same place
-same-place : (p : ℕ) (xs ys : List ListElement) (e : ListElement) → map nameless ys ≡ map nameless xs → are_distinct xs ≡ true → are_distinct ys ≡ true
+same-place : (p : ℕ) (xs ys : List ListElement) (e : ListElement) → map nameless ys ≡ map nameless xs → are_distinct_elements xs ≡ true → are_distinct_elements ys ≡ true
     → at is_unremoved p xs ≡ Some e
     → place_in_list ys (option_map id (at is_unremoved p ys)) ≡ place_in_list xs (Some (id e))
 same-place p xs ys e same d f h = by (at is_unremoved p ys) refl
@@ -150,7 +150,7 @@ none-below m n (x ∷ xs) l h = rw (ap (same_id (SequencedId m)) h.0 ∙ other m
     other : (i j : ℕ) → i < j → nat_eq i j ≡ false
     other i j k = grind (arith, nat_tests)
 
-numbered-distinct : (n : ℕ) (xs : List ListElement) → AreNumbered n xs → are_distinct xs ≡ true
+numbered-distinct : (n : ℕ) (xs : List ListElement) → AreNumbered n xs → are_distinct_elements xs ≡ true
 numbered-distinct n [] h = refl
 numbered-distinct n (x ∷ xs) h = rw (ap (λ a. list_any (has_id a) xs) h.0 ∙ none-below n (n + 1) xs (omega arith) h.1, numbered-distinct (n + 1) xs h.1) refl
 
@@ -176,19 +176,19 @@ settled-seen e h =
     by (Some k) n a b = (cc)
     by None n a b = rw (a, b) refl
 
-plain-seen : (e : ListElement) → is_plain e ≡ true → seen 0 e ≡ is_unremoved e
+pub plain-seen : (e : ListElement) → is_plain e ≡ true → seen 0 e ≡ is_unremoved e
 plain-seen e h = settled-seen e (both (is_settled e) (is_authored e.by && is_of_text e.content) h).0
 
-plain-rank : (is : ListElement → Bool) (xs : List ListElement) → list_all is_plain xs ≡ true → rank is (seen 0) xs ≡ rank is is_unremoved xs
+pub plain-rank : (is : ListElement → Bool) (xs : List ListElement) → list_all is_plain xs ≡ true → rank is (seen 0) xs ≡ rank is is_unremoved xs
 plain-rank is [] h = refl
 plain-rank is (e ∷ xs) h =
     let p = both (is_plain e) (list_all is_plain xs) h in
     ap (λ n. cond (is e) 0 (one_more_if (seen 0 e) n)) (plain-rank is xs p.1) ∙ ap (λ b. cond (is e) 0 (one_more_if b (rank is is_unremoved xs))) (plain-seen e p.0)
 
-distinct-once : (xs : List ListElement) (a : ElementId) → are_distinct xs ≡ true → len (has_id a) xs ≤ 1
+pub distinct-once : (xs : List ListElement) (a : ElementId) → are_distinct_elements xs ≡ true → len (has_id a) xs ≤ 1
 distinct-once [] a h = omega arith
 distinct-once (e ∷ xs) a h =
-    let p = both (not (list_any (has_id (id e)) xs)) (are_distinct xs) h in
+    let p = both (not (list_any (has_id (id e)) xs)) (are_distinct_elements xs) h in
     by (has_id a e) refl p.0 (distinct-once xs a p.1)
   where
     none : (b : ElementId) (ys : List ListElement) → not (list_any (has_id b) ys) ≡ true → len (has_id b) ys ≡ 0
@@ -203,7 +203,7 @@ distinct-once (e ∷ xs) a h =
     by true g n ih = let z : len (has_id a) xs ≡ 0 = ap (λ b. len (has_id b) xs) (same_id-eq a (id e) g) ∙ none (id e) xs n in omega (arith, z)
     by false g n ih = ih
 
-module _ (xs ys : List ListElement) (same : map nameless ys ≡ map nameless xs) (d : are_distinct xs ≡ true) (f : are_distinct ys ≡ true) (plain : list_all is_plain xs ≡ true) where
+module _ (xs ys : List ListElement) (same : map nameless ys ≡ map nameless xs) (d : are_distinct_elements xs ≡ true) (f : are_distinct_elements ys ≡ true) (plain : list_all is_plain xs ≡ true) where
   end-back : (o : Option ElementId) → is_end_on xs o ≡ true → place_in_list ys (element_at_end is_unremoved ys (end_number 0 xs o)) ≡ place_in_list xs o
   end-back None h = refl
   end-back (Some a) h =
@@ -228,5 +228,5 @@ module _ (xs ys : List ListElement) (same : map nameless ys ≡ map nameless xs)
       let q = both (is_end_on xs i.start) (is_end_on xs i.end) p.0 in
       rw (end-back i.start q.0, end-back i.end q.1, intervals-back is p.1) refl
 
-pub segments-distinct : (segs : List SegRec) → are_distinct (segment_items 0 segs) ≡ true
+pub segments-distinct : (segs : List SegRec) → are_distinct_elements (segment_items 0 segs) ≡ true
 segments-distinct segs = numbered-distinct 0 (segment_items 0 segs) (segments-numbered 0 segs)

@@ -12,7 +12,7 @@ use Rattle.ft_laws.proofs.ClientsAgree.{idle-clients-agree, op-kind}
 use Rattle.ft_laws.proofs.ConsistentDocument.{agreed-consistent, trim-consistent}
 use Rattle.ft_laws.proofs.TrimmedFromNow.{trim-shows}
 use Rattle.ft_seqr.specs.World.{known_names}
-use Rattle.ft_worlds.specs.LogOrder.{Follows, RefersWithin}
+use Rattle.ft_worlds.specs.LogOrder.{StandsNext, RefersWithin}
 use Rattle.ft_worlds.specs.Summaries.{SummariesGiveDocuments, SummariesGoOn}
 use Rattle.ft_worlds.proofs.SummaryLists.{IsPlain, agreed-plain, runs-back, text-back, trim-plain}
 use Rattle.ft_worlds.proofs.SummaryCells.{cells-back}
@@ -28,7 +28,7 @@ refers-from : (m n : ℕ) (z : ℤ) → RefersWithin m n z → m ≤ reference_n
 refers-from m n (pos r) h = h.0
 refers-from m n (negsuc r) h = absurd h
 
-follows-from : (n m : ℕ) (e : Entry) → Follows n m e → is_op e.msg.body ≡ true → m ≤ reference_number e.msg.ref_seq
+follows-from : (n m : ℕ) (e : Entry) → StandsNext n m e → is_op e.msg.body ≡ true → m ≤ reference_number e.msg.ref_seq
 follows-from n m e f h = refers-from m n e.msg.ref_seq (f.refers (op-kind (is_op_kind e.msg.kind) e.msg.body f.body h))
 
 leads-from : (next rest : List Entry) (n m k l : ℕ) → Leads n m (next ++ rest) k l → AreFrom m next

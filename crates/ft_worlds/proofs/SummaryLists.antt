@@ -38,7 +38,7 @@ use Rattle.ft_msg.specs.Summary.{run_items, segment_bodies, segment_items, stamp
 use Rattle.ft_sumdoc.specs.Chunks.{chunk_length}
 use Rattle.ft_sumdoc.specs.Stamps.{same_mark}
 use Rattle.ft_sumdoc.specs.WellFormed.{same_props, same_stamps}
-use Rattle.ft_msg.specs.SummaryOf.{author_of, body_of, extended_runs, extended_segments, mark_of, segment_of, segments_from, unit_runs}
+use Rattle.ft_msg.specs.SummaryOf.{author_mark, element_body, extended_unit_runs, extended_segments, mark_of, segment_of, segments_from, unit_runs}
 
 -- ---- what segments hold
 
@@ -75,7 +75,7 @@ marks-same a b h =
     number : (m n : ℕ) → nat_eq m n ≡ true → m ≡ n
     number m n e = grind (arith, nat_tests)
 
-all-marks-same : (us vs : List Mark) → same_list same_mark us vs ≡ true → us ≡ vs
+pub all-marks-same : (us vs : List Mark) → same_list same_mark us vs ≡ true → us ≡ vs
 all-marks-same [] [] h = refl
 all-marks-same [] (b ∷ vs) h = (cc)
 all-marks-same (a ∷ us) [] h = (cc)
@@ -181,7 +181,7 @@ stamps-back (t ∷ ts) h =
     let p = both (is_acked t) (list_all is_acked ts) h in
     ap (λ u. u ∷ map stamp_of (map mark_of ts)) (stamp-back t p.0) ∙ ap (λ us. t ∷ us) (stamps-back ts p.1)
 
-author-back : (o : Option Stamp) → is_authored o ≡ true → Some (stamp_of (author_of o)) ≡ o
+author-back : (o : Option Stamp) → is_authored o ≡ true → Some (stamp_of (author_mark o)) ≡ o
 author-back None h = (cc)
 author-back (Some t) h = ap Some (stamp-back t h)
 
@@ -191,13 +191,13 @@ plain-held e h =
     let p = both (is_settled e) (is_authored e.by && is_of_text e.content) h in
     let q = all_four (is_acked e.ins) (list_all is_acked e.dels) (is_none e.removal_stage) (is_empty e.pending) p.0 in
     let r = both (is_authored e.by) (is_of_text e.content) p.1 in
-    ap (λ (t : Stamp). map (bare t (map stamp_of (map mark_of e.dels)) (Some (stamp_of (author_of e.by))) e.props) (segment_bodies (body_of e.content))) (stamp-back e.ins q.0)
-    ∙ (ap (λ (ts : List Stamp). map (bare e.ins ts (Some (stamp_of (author_of e.by))) e.props) (segment_bodies (body_of e.content))) (stamps-back e.dels q.1)
-    ∙ (ap (λ (o : Option Stamp). map (bare e.ins e.dels o e.props) (segment_bodies (body_of e.content))) (author-back e.by r.0)
+    ap (λ (t : Stamp). map (bare t (map stamp_of (map mark_of e.dels)) (Some (stamp_of (author_mark e.by))) e.props) (segment_bodies (element_body e.content))) (stamp-back e.ins q.0)
+    ∙ (ap (λ (ts : List Stamp). map (bare e.ins ts (Some (stamp_of (author_mark e.by))) e.props) (segment_bodies (element_body e.content))) (stamps-back e.dels q.1)
+    ∙ (ap (λ (o : Option Stamp). map (bare e.ins e.dels o e.props) (segment_bodies (element_body e.content))) (author-back e.by r.0)
     ∙ content e.content r.1 e.removal_stage q.2 e.pending q.3))
   where
     content : (c : ElementContent) → is_of_text c ≡ true → (m : Option ℕ) → is_none m ≡ true → (ps : List (ℕ × Changes)) → is_empty ps ≡ true
-        → map (bare e.ins e.dels e.by e.props) (segment_bodies (body_of c)) ≡ nameless (record e { content = c; removal_stage = m; pending = ps }) ∷ []
+        → map (bare e.ins e.dels e.by e.props) (segment_bodies (element_body c)) ≡ nameless (record e { content = c; removal_stage = m; pending = ps }) ∷ []
     content (Character c) g None m [] p = refl
     content (MarkerOf c) g None m [] p = refl
     content GridUnit g m n ps p = (cc)
@@ -234,7 +234,7 @@ unit ins dels = bare (stamp_of ins) (map stamp_of dels) None [] GridUnit
 more-units : (r : RunRec) → units_of (record r { count = r.count + 1 }) ≡ unit r.ins r.dels ∷ units_of r
 more-units r = ap (λ n. units_of (record r { count = n })) (add-one r.count)
 
-extended-units : (ins : Mark) (dels : List Mark) (runs : List RunRec) → flat_map units_of (extended_runs ins dels runs) ≡ unit ins dels ∷ flat_map units_of runs
+extended-units : (ins : Mark) (dels : List Mark) (runs : List RunRec) → flat_map units_of (extended_unit_runs ins dels runs) ≡ unit ins dels ∷ flat_map units_of runs
 extended-units ins dels [] = refl
 extended-units ins dels (r ∷ runs) = by (same_stamps ins dels r.ins r.dels) refl
   where
@@ -317,7 +317,7 @@ removal-settled s c e h =
     let q = all_four (is_acked e.ins) (list_all is_acked e.dels) (is_none e.removal_stage) (is_empty e.pending) h in
     rw (q.0, all-append is_acked e.dels (Acked s c ∷ []) q.1 refl, q.2, q.3) refl
 
-removal-plain : (s c : ℕ) (e : ListElement) → is_plain e ≡ true → is_plain (with_removal s c e) ≡ true
+pub removal-plain : (s c : ℕ) (e : ListElement) → is_plain e ≡ true → is_plain (with_removal s c e) ≡ true
 removal-plain s c e h =
     let p = both (is_settled e) (is_authored e.by && is_of_text e.content) h in
     rw (removal-settled s c e p.0, p.1) refl
@@ -335,7 +335,7 @@ skip-plain : (doc : Document) → IsPlain doc → IsPlain (with_skip doc)
 skip-plain doc h = record { text = h.text; rows = h.rows; cols = h.cols }
 
 module _ (s c r : ℕ) where
-  effect-plain : (doc : Document) (o : SubOperation) → IsPlain doc → IsPlain (effect doc s c r o)
+  pub effect-plain : (doc : Document) (o : SubOperation) → IsPlain doc → IsPlain (effect doc s c r o)
   effect-plain doc (OnText (Insert p seg props)) h =
       plain-choice (nat_le p (len (seen_by r c) doc.text.items)) _ _
       (record {
@@ -385,7 +385,7 @@ module _ (s c r : ℕ) where
   effects-plain [] doc h = h
   effects-plain (o ∷ os) doc h = effects-plain os (effect doc s c r o) (effect-plain doc o h)
 
-  body-plain : (b : Body) (doc : Document) → IsPlain doc → IsPlain (body_effect doc s c r b)
+  pub body-plain : (b : Body) (doc : Document) → IsPlain doc → IsPlain (body_effect doc s c r b)
   body-plain Nothing doc h = h
   body-plain (Op op) doc h = effects-plain (sub_operations op) doc h
   body-plain (Elsewhere address) doc h = record { text = h.text; rows = h.rows; cols = h.cols }

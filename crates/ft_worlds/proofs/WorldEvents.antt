@@ -37,7 +37,7 @@ use Rattle.ft_seqr.specs.SameMessage.{same_message}
 use Rattle.ft_seqr.specs.Sequencer.{JoinedConnection, NaiveSequencer, is_joined, join, submit}
 use Rattle.ft_seqr.specs.SessionReport.{as_applied, as_shown, head_line, output_lines}
 use Rattle.ft_seqr.specs.ViewLines.{content_lines}
-use Rattle.ft_seqr.specs.World.{Nothing, Texts, View, NamedClient, NamedGuest, NaiveWorld, Output, Stepped, ahead_of, blame_client, body_load, conn_of, connect_client, connection_name, counted, deliver_client, drop_client, edit_client, enter_guest, happen, in_place, is_client, is_guest, joined, left, loaded, logged, new_world, next_conn, noop_client, now, of_client, of_guest, offer_client, offer_message, offer_next, op_load, part_guest, processed, quietly, start_client, started, step, submit_draft, submit_guest, submitted, text_load, ticket_client, unless_pending, with_client, with_name, world_after, world_of}
+use Rattle.ft_seqr.specs.World.{Nothing, Texts, View, NamedClient, NamedGuest, NaiveWorld, Output, Stepped, ahead_of, blame_client, body_load, conn_of, connect_client, connection_name, wanted_count, deliver_client, drop_client, edit_client, enter_guest, happen, in_place, is_client, is_guest, joined, left, loaded, logged, new_world, next_conn, noop_client, now, of_client, of_guest, offer_client, offer_message, offer_next, op_load, part_guest, processed, quietly, start_client, started, step, submit_draft, submit_guest, submit_all, text_load, ticket_client, unless_pending, with_client, with_name, world_after, world_of}
 use Rattle.ft_laws.specs.Sequencing.{Each}
 use Rattle.ft_laws.proofs.CountedEntries.{entries-counted}
 use Rattle.ft_laws.proofs.EveryClientReady.{pending-stays-on_top}
@@ -46,7 +46,9 @@ use Rattle.ft_worlds.specs.Worlds.{refusals_of}
 use Rattle.ft_worlds.proofs.Lists.{each-any, each-found, each-more, each-weaker}
 use Rattle.ft_worlds.proofs.Orders.{IsBase, gone, leave-found, submit-sequenced}
 use Rattle.ft_worlds.proofs.Links.{is_owed, owed}
-use Rattle.ft_worlds.proofs.Owing.{AreDistinct, OthersSame, behind, behind-none, body-loaded, body_inserts, debt, distinct-more, distinct-placed, each-within, edit_cost, entry_cost, inserts-loaded, owing, owing-more, owing_of, total, total-append, total-placed, total-same}
+use Rattle.ft_worlds.proofs.Owing.{AreDistinct, OthersSame, behind, behind-none, body-loaded, body_count, body_inserts, debt, distinct-more, distinct-placed, each-within, edit_cost, entry_cost, inserts-loaded, owing, owing-more, owing_of, total, total-append, total-placed, total-same}
+use Rattle.ft_msg.specs.Agreed.{agreed}
+use Rattle.ft_worlds.proofs.SkippedEntries.{entry-skips}
 use Rattle.ft_worlds.proofs.Served.{IsOwned, IsServed, served-known, served-more, served-takes}
 use Rattle.ft_worlds.proofs.ConnectionNames.{IsFound, IsNamed, IsUnused, named-connected, named-entered, named-placed, named-started}
 use Rattle.ft_worlds.proofs.EditFaults.{edit-fault, is_edit_fault}
@@ -75,9 +77,9 @@ module _ (F : Type 0) where
     pub by : owner g.conn ≡ None
     pub known : g.conn ≤ count
 
-  -- what the log and the clients have cost is at most the load and so much more
+  -- what the log and the clients have cost, and what was skipped, is at most the load and so much more
   abbrev pub IsPaid : ℕ → List Entry → List NamedClient → Type 0
-  IsPaid n log clients = total entry_cost log + total (debt log) clients ≤ n
+  IsPaid n log clients = total entry_cost log + total (debt log) clients + (agreed log).skipped ≤ n
 
   pub record IsReachedWorld (more : ℕ) (w : NaiveWorld) : Type 0 where
     pub owner : ℕ → Option Characters
@@ -298,13 +300,15 @@ module _ (F : Type 0) where
   -- a client in the place of the one that was found, where a message was numbered that it owed or that is paid for
   placed-paid : (n k : ℕ) (log : List Entry) (e : Entry) (c d : NamedClient) (cs : List NamedClient) (i : IsFound cs c) → AreDistinct cs → d.name ≡ c.name
       → OthersSame c.name (debt log) (debt (log ++ (e ∷ []))) cs
-      → debt (log ++ (e ∷ [])) d + entry_cost e ≤ debt log c + k → IsPaid n log cs → IsPaid (n + k) (log ++ (e ∷ [])) (map (in_place d) cs)
-  placed-paid n k log e c d cs i a s o h p =
+      → debt (log ++ (e ∷ [])) d + entry_cost e ≤ debt log c + k → body_count e.msg.body ≡ 0 → IsPaid n log cs
+      → IsPaid (n + k) (log ++ (e ∷ [])) (map (in_place d) cs)
+  placed-paid n k log e c d cs i a s o h z p =
       let name = found-name cs c i in
       let sum = total-placed (debt log) (debt (log ++ (e ∷ []))) i.name c d cs a i.found (s ∙ sym name)
       (subst (λ m. OthersSame m (debt log) (debt (log ++ (e ∷ []))) cs) (sym name) o) in
       let cost = total-append entry_cost log (e ∷ []) in
-      omega (arith, sum, cost, h, p)
+      let skips = entry-skips log e in
+      omega (arith, sum, cost, h, p, skips, z)
 
   -- one name's connections are not another's
   apart-name : (owner : ℕ → Option Characters) (conn : ℕ) (name other : Characters) → owner conn ≡ Some name → bytes_eq name other ≡ false → IsApart owner conn other
@@ -487,7 +491,7 @@ module _ (F : Type 0) where
         named = subst (λ m. IsNamed m (map (in_place d) w.clients) w.guests (w.names ++ (label ∷ []))) e
             (named-connected n w.clients w.guests w.names c d s.found refl refl r.named);
         distinct = distinct-placed d w.clients r.distinct;
-        paid = let p = placed-paid (w.load + 0) 1 w.log p.1 c d w.clients s.found r.distinct refl others (omega (arith, owes)) r.paid in omega (arith, p);
+        paid = let p = placed-paid (w.load + 0) 1 w.log p.1 c d w.clients s.found r.distinct refl others (omega (arith, owes)) refl r.paid in omega (arith, p);
         bodies = λ f. each-more (λ e. IsWellFormedBody e.msg.body) w.log p.1 (r.bodies f) tt;
         bound = b;
       }
@@ -534,8 +538,8 @@ module _ (F : Type 0) where
   logged-reached : (w : NaiveWorld) (r : IsReachedWorld 0 w) (c : NamedClient) (x : NaiveClient) (conn : ℕ) (p : NaiveSequencer × Entry) (m : Meets w r c)
       → r.owner conn ≡ Some c.name → IsLogged (length w.names) w.sequencer w.log conn p
       → (own : Serves r.owner (length w.names) p.0 (w.log ++ (p.1 ∷ [])) (record c { client = x })) → owing_of x own.rest + entry_cost p.1 ≤ owing_of c.client m.rest + 1
-      → (F → IsWellFormedBody p.1.msg.body) → (F → w.load + 1 < 2 ^ 53) → IsReachedWorld 1 (with_client (record c { client = x }) (logged p w))
-  logged-reached w r c x conn p m o g own h body b =
+      → body_count p.1.msg.body ≡ 0 → (F → IsWellFormedBody p.1.msg.body) → (F → w.load + 1 < 2 ^ 53) → IsReachedWorld 1 (with_client (record c { client = x }) (logged p w))
+  logged-reached w r c x conn p m o g own h z body b =
       let n = length w.names in
       let d : NamedClient = record c { client = x } in
       let apart : (a : NamedClient) → is_client c.name a ≡ false → IsApart r.owner conn a.name = λ a b. apart-name r.owner conn c.name a.name o b in
@@ -553,7 +557,7 @@ module _ (F : Type 0) where
         guests = r.guests;
         named = same-named n w.clients w.guests w.names c x m.found r.named;
         distinct = distinct-placed d w.clients r.distinct;
-        paid = let p = placed-paid (w.load + 0) 1 w.log p.1 c d w.clients m.found r.distinct refl others (omega (arith, before, after, h)) r.paid in omega (arith, p);
+        paid = let p = placed-paid (w.load + 0) 1 w.log p.1 c d w.clients m.found r.distinct refl others (omega (arith, before, after, h)) z r.paid in omega (arith, p);
         bodies = λ f. each-more (λ e. IsWellFormedBody e.msg.body) w.log p.1 (r.bodies f) (body f);
         bound = b;
       }
@@ -571,16 +575,16 @@ module _ (F : Type 0) where
           let o = each-any (IsOwned r.owner n c.name) conn x.conns l.has.own s.served.conns in
           let p = gone q conn l.j in
           let d : NamedClient = record c { client = record x { link = Offline; queue = [] } } in
-          let g : IsLogged n q w.log conn p = leave-logged n q w.log conn l.j r.base o.known in
+          let g : IsLogged n q w.log conn p = leave-logged n q w.log conn l.j r.base l.has.joined in
           let own : Serves r.owner n p.0 (w.log ++ (p.1 ∷ [])) d = record {
             rest = s.rest ++ (p.1 ∷ []);
             served = served-drops r.owner n q w.log c.name s.rest
-                x conn l.j r.base o.known h s.served;
+                x conn l.j r.base l.has.joined h s.served;
             formed = s.formed;
           } in
           let owes = owing-more x.conns s.rest p.1 x.pending x.queue refl in
           let here : IsReachedWorld 1 (with_client d (logged p w)) = logged-reached w r c (record x { link = Offline; queue = [] }) conn p s o.by g own
-          (omega (arith, owes)) (λ f. tt) (λ f. (may f).load) in
+          (omega (arith, owes)) refl (λ f. tt) (λ f. (may f).load) in
           subst (λ v. Goes (event.Drop name) (dropped_left c v)) (sym (left-found w conn l.j l.has.joined))
           (subst (λ a. Goes (event.Drop name) (dropped_link (logged p w) c a)) (sym (drop-made x conn x.link h)) (quiet-turn _ _ here))
 
@@ -657,7 +661,7 @@ module _ (F : Type 0) where
   -- drafts of the client are accepted one after another
   pub record IsSubmitted (owner : ℕ → Option Characters) (c : NamedClient) (w : NaiveWorld) (conn : ℕ) (ds later : List Draft) (x : NaiveClient) : Type 0 where
     pub v : NaiveWorld
-    pub submits : submitted w conn ds ≡ Ok v
+    pub submits : submit_all w conn ds ≡ Ok v
     pub between : IsBetween owner c v
     pub rest : List Entry
     pub served : IsServed owner (length v.names) v.sequencer v.log c.name rest (record x { queue = later })
@@ -667,22 +671,23 @@ module _ (F : Type 0) where
 
   abbrev submitted_on : NaiveWorld → ℕ → List Draft → Result (NaiveSequencer × Entry) Nack → Result NaiveWorld Refusal
   submitted_on w conn ds (Err nack) = Err (Nacked nack)
-  submitted_on w conn ds (Ok p) = submitted (logged p w) conn ds
+  submitted_on w conn ds (Ok p) = submit_all (logged p w) conn ds
 
   -- a client whose first draft was numbered, in the place of the client as it was before
   sent-paid : (n : ℕ) (log : List Entry) (e : Entry) (c b d : NamedClient) (cs : List NamedClient) (i : IsFound cs c) → AreDistinct cs → b.name ≡ c.name
       → d.name ≡ c.name → OthersSame c.name (debt log) (debt (log ++ (e ∷ []))) cs
-      → debt (log ++ (e ∷ [])) d + entry_cost e ≤ debt log b → IsPaid n log (map (in_place b) cs) → IsPaid n (log ++ (e ∷ [])) (map (in_place d) cs)
-  sent-paid n log e c b d cs i a sb sd o h p =
+      → debt (log ++ (e ∷ [])) d + entry_cost e ≤ debt log b → (agreed (log ++ (e ∷ []))).skipped ≤ (agreed log).skipped → IsPaid n log (map (in_place b) cs)
+      → IsPaid n (log ++ (e ∷ [])) (map (in_place d) cs)
+  sent-paid n log e c b d cs i a sb sd o h z p =
       let name = found-name cs c i in
       let first = total-placed (debt log) (debt log) i.name c b cs a i.found (sb ∙ sym name) (same-debts i.name (debt log) cs) in
       let then = total-placed (debt log) (debt (log ++ (e ∷ []))) i.name c d cs a i.found (sd ∙ sym name)
       (subst (λ m. OthersSame m (debt log) (debt (log ++ (e ∷ []))) cs) (sym name) o) in
       let cost = total-append entry_cost log (e ∷ []) in
-      omega (arith, first, then, cost, h, p)
+      omega (arith, first, then, cost, h, p, z)
 
   then-submitted : (w : NaiveWorld) (conn : ℕ) (d : Draft) (ds : List Draft) (p : NaiveSequencer × Entry) (v : NaiveWorld) → submit w.sequencer conn d ≡ Ok p
-      → submitted (logged p w) conn ds ≡ Ok v → submitted w conn (d ∷ ds) ≡ Ok v
+      → submit_all (logged p w) conn ds ≡ Ok v → submit_all w conn (d ∷ ds) ≡ Ok v
   then-submitted w conn d ds p v h g = ap (submitted_on w conn ds) h ∙ g
 
   submits-all : (owner : ℕ → Option Characters) (c : NamedClient) (ds later : List Draft) (w : NaiveWorld) (conn : ℕ) (x : NaiveClient) (rest : List Entry)
@@ -719,7 +724,7 @@ module _ (F : Type 0) where
       let queued : owing_of x rest ≡ owing x.conns rest x.pending (d ∷ (ds ++ later)) = ap (owing x.conns rest x.pending) u in
       let owes = t.owes in
       omega (arith, before, after, queued, owes)
-      ) paid in
+      ) t.skips paid in
       let m = submits-all owner c ds later (logged t.p w) conn (record x { queue = ds ++ later }) (rest ++ (t.p.1 ∷ [])) next k refl t.served more formed
       (λ f. each-more (λ e. IsWellFormedBody e.msg.body) w.log t.p.1 (bodies f) (t.formed (formed f))) in
       record {
@@ -739,11 +744,11 @@ module _ (F : Type 0) where
 
   abbrev ticketed : NaiveWorld → NamedClient → ℕ → Option ℕ → Stepped
   ticketed w c conn None = Err (NothingToTicket (length c.client.queue))
-  ticketed w c conn (Some n) = ticketed_so c n (submitted w conn (take n c.client.queue))
+  ticketed w c conn (Some n) = ticketed_so c n (submit_all w conn (take n c.client.queue))
 
   abbrev ticketing : NaiveWorld → NamedClient → HowMany → Option ℕ → Stepped
   ticketing w c many None = Err Parted
-  ticketing w c many (Some conn) = ticketed w c conn (counted many (length c.client.queue))
+  ticketing w c many (Some conn) = ticketed w c conn (wanted_count many (length c.client.queue))
 
   ticket-turns : (w : NaiveWorld) (r : IsReachedWorld 0 w) (name : Characters) (many : HowMany) → (F → MayBeTaken w (event.Ticket name many))
       → Goes (event.Ticket name many) (of_client w name (λ c. ticket_client w c many))
@@ -783,7 +788,7 @@ module _ (F : Type 0) where
 
       by : (c : NamedClient) → Meets w r c → (o : Option ℕ) → conn_of c.client.link ≡ o → Goes (event.Ticket name many) (ticketing w c many o)
       by c s None h = refl
-      by c s (Some conn) h = some c s conn h (counted many (length c.client.queue))
+      by c s (Some conn) h = some c s conn h (wanted_count many (length c.client.queue))
 
       one : (c : NamedClient) → find (is_client name) w.clients ≡ Some c → Goes (event.Ticket name many) (ticket_client w c many)
       one c f = by c (found-serves w r name c f) (conn_of c.client.link) refl
@@ -882,7 +887,7 @@ module _ (F : Type 0) where
 
   abbrev delivering : NaiveWorld → NamedClient → HowMany → Option ℕ → Stepped
   delivering w c many None = Err Parted
-  delivering w c many (Some conn) = delivered w c (counted many (length (ahead_of w c.client)))
+  delivering w c many (Some conn) = delivered w c (wanted_count many (length (ahead_of w c.client)))
 
   deliver-turns : (w : NaiveWorld) (r : IsReachedWorld 0 w) (name : Characters) (many : HowMany) → (F → MayBeTaken w (event.Deliver name many))
       → Goes (event.Deliver name many) (of_client w name (λ c. deliver_client w c many))
@@ -898,7 +903,7 @@ module _ (F : Type 0) where
 
       by : (c : NamedClient) → Meets w r c → (o : Option ℕ) → Goes (event.Deliver name many) (delivering w c many o)
       by c s None = refl
-      by c s (Some conn) = some c s (counted many (length (ahead_of w c.client)))
+      by c s (Some conn) = some c s (wanted_count many (length (ahead_of w c.client)))
 
       one : (c : NamedClient) → find (is_client name) w.clients ≡ Some c → Goes (event.Deliver name many) (deliver_client w c many)
       one c f = by c (found-serves w r name c f) (conn_of c.client.link)
@@ -983,14 +988,15 @@ module _ (F : Type 0) where
         named = subst (λ m. IsNamed m w.clients (w.guests ++ (guest ∷ [])) (w.names ++ (label ∷ []))) e (named-entered n w.clients w.guests w.names guest u r.named);
         distinct = r.distinct;
         paid = let sum = all-debts r.owner other n (n + 1) w.sequencer w.log (n + 1) p w.clients (omega arith) old fresh g r.clients in let cost = total-append
-            entry_cost w.log (p.1 ∷ []) in let p = r.paid in omega (arith, sum, cost, p);
+            entry_cost w.log (p.1 ∷ []) in let skips = entry-skips w.log p.1 in let p = r.paid in omega (arith, sum, cost, p, skips);
         bodies = λ f. each-more (λ e. IsWellFormedBody e.msg.body) w.log p.1 (r.bodies f) tt;
         bound = b;
       }
 
   -- the world after a message of a guest's connection
   guest-reached : (w : NaiveWorld) (r : IsReachedWorld 0 w) (conn : ℕ) (p : NaiveSequencer × Entry) (k : ℕ) → r.owner conn ≡ None
-      → IsLogged (length w.names) w.sequencer w.log conn p → entry_cost p.1 ≤ k → (F → IsWellFormedBody p.1.msg.body) → (F → w.load + k < 2 ^ 53) → IsReachedWorld k (logged p w)
+      → IsLogged (length w.names) w.sequencer w.log conn p → entry_cost p.1 + body_count p.1.msg.body ≤ k
+      → (F → IsWellFormedBody p.1.msg.body) → (F → w.load + k < 2 ^ 53) → IsReachedWorld k (logged p w)
   guest-reached w r conn p k o g h body b = record {
     bodies = λ f. each-more (λ e. IsWellFormedBody e.msg.body) w.log p.1 (r.bodies f) (body f);
     bound = b;
@@ -1004,7 +1010,8 @@ module _ (F : Type 0) where
         let sum = all-debts r.owner r.owner (length w.names) (length w.names) w.sequencer w.log conn p w.clients (omega arith) (λ k l. refl) o g r.clients in
         let cost = total-append entry_cost w.log (p.1 ∷ []) in
         let paid = r.paid in
-        omega (arith, sum, cost, paid, h);
+        let skips = entry-skips w.log p.1 in
+        omega (arith, sum, cost, paid, h, skips);
   }
 
   abbrev quiet : Result NaiveWorld Refusal → Stepped
@@ -1034,7 +1041,8 @@ module _ (F : Type 0) where
           let cost : entry_cost p.1 ≡ 1 + body_inserts d.body = ap (λ (z : NaiveSequencer × Entry). entry_cost z.1) t.same in
           let less = body-loaded d.body in
           let same : p.1.msg.body ≡ d.body = ap (λ (z : NaiveSequencer × Entry). z.1.msg.body) t.same in
-          quiet-turn _ _ (guest-reached w r g.conn p (1 + body_load d.body) i.by l (omega (arith, cost, less)) (λ f. subst IsWellFormedBody (sym same) (body f)) b)
+          let subs : body_count p.1.msg.body ≡ body_count d.body = ap body_count same in
+          quiet-turn _ _ (guest-reached w r g.conn p (1 + body_load d.body) i.by l (omega (arith, cost, less, subs)) (λ f. subst IsWellFormedBody (sym same) (body f)) b)
 
       read : (g : NamedGuest) → IsGuest r.owner (length w.names) g → (a : Result Draft Cause) → draft (encode_utf8_all text) ≡ a
           → (F → w.load + (1 + load_of a) < 2 ^ 53) → Turns (1 + load_of a) (event.Submit name text) (drafted w g a)
@@ -1061,7 +1069,7 @@ module _ (F : Type 0) where
       by g i (Some j) f =
           subst (λ v. Goes (event.Part name) (parted v)) (sym (left-found w g.conn j f))
           (quiet-turn _ _ (guest-reached w r g.conn (gone w.sequencer g.conn j) 1 i.by
-          (leave-logged (length w.names) w.sequencer w.log g.conn j r.base i.known) (omega arith) (λ f. tt) (λ f. (may f).load)))
+          (leave-logged (length w.names) w.sequencer w.log g.conn j r.base f) (omega arith) (λ f. tt) (λ f. (may f).load)))
 
       one : (g : NamedGuest) → find (is_guest name) w.guests ≡ Some g → Goes (event.Part name) (part_guest w g)
       one g f = by g (each-found (IsGuest r.owner (length w.names)) (is_guest name) w.guests g f r.guests).0 (find (is_joined g.conn) w.sequencer.joined) refl
@@ -1155,10 +1163,10 @@ module _ (F : Type 0) where
   pub first-reached : IsReachedWorld 0 new_world
   first-reached = record {
     owner = λ conn. None;
-    base = record { order = (refl, refl); within = omega arith; joined = tt; origins = tt; told = tt; sent = tt };
+    base = record { order = (refl, refl); within = omega arith; joined = tt; origins = tt; sources = tt; wanted_count = omega arith; told = tt; sent = tt };
     clients = tt;
     guests = tt;
-    named = record { taken = tt; counted = tt };
+    named = record { taken = tt; wanted_count = tt; apart = λ l. refl };
     distinct = tt;
     paid = omega arith;
     bodies = λ f. tt;

@@ -19,3 +19,12 @@ pub record IsHeldWithin (n : ℕ) (doc : Document) : Type 0 where
 -- the elements that each list of each client ever held are at most the load
 abbrev pub ElementsAreWithinLoad : Type 0
 ElementsAreWithinLoad = (events : List Event) → Each (λ c. IsHeldWithin (reached events).load c.client.doc) (reached events).clients
+
+-- the counts of a document are at most n
+pub record IsCountedWithin (n : ℕ) (doc : Document) : Type 0 where
+  pub skipped : doc.skipped ≤ n
+  pub other : doc.other ≤ n
+
+-- how many sub-operations each client skipped, and how many messages it counted that were for others, is at most the load
+abbrev pub CountsAreWithinLoad : Type 0
+CountsAreWithinLoad = (events : List Event) → Each (λ c. IsCountedWithin (reached events).load c.client.doc) (reached events).clients

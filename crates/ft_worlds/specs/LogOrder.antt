@@ -12,7 +12,7 @@ RefersWithin m n (negsuc r) = ⊥
 
 -- the entry may stand behind number n and minimum m: it has the next number, a minimum from m up to its own number, if it is
 -- of type op a reference number from m to n, a body just where it is of type op, a sender, and one of the four types
-pub record Follows (n m : ℕ) (entry : Entry) : Type 0 where
+pub record StandsNext (n m : ℕ) (entry : Entry) : Type 0 where
   pub seq : entry.msg.seq ≡ n + 1
   pub later : m ≤ entry.msg.min
   pub below : entry.msg.min ≤ entry.msg.seq
@@ -24,4 +24,4 @@ pub record Follows (n m : ℕ) (entry : Entry) : Type 0 where
 -- each entry may stand behind the ones before it, the first behind number n and minimum m
 abbrev pub IsOrder : ℕ → ℕ → List Entry → Type 0
 IsOrder n m [] = ⊤
-IsOrder n m (entry ∷ entries) = Follows n m entry × IsOrder (n + 1) entry.msg.min entries
+IsOrder n m (entry ∷ entries) = StandsNext n m entry × IsOrder (n + 1) entry.msg.min entries

@@ -1,5 +1,5 @@
 -- What a summary of a client of a world stands for.
-use Rattle.std.specs.Prelude.{◌≡◌, true, List, ◌++◌, Some, find, take}
+use Rattle.std.specs.Prelude.{◌≡◌, ◌<◌, ◌≤◌, ◌^◌, true, List, ◌++◌, Some, find, take}
 use Rattle.ft_msg.specs.declared.messages.Entry.{Entry}
 use Rattle.ft_seqr.specs.declared.events.Event.{Event}
 use Rattle.ft_props.specs.Properties.{Characters}
@@ -7,8 +7,11 @@ use Rattle.ft_msg.specs.Agreed.{agreed, take_entries}
 use Rattle.ft_msg.specs.ClientSteps.{is_without_edits}
 use Rattle.ft_msg.specs.Content.{shown}
 use Rattle.ft_msg.specs.Summary.{GivesDocument, trim}
+use Rattle.ft_sumdoc.specs.Valid.{IsValidSummary}
+use Rattle.ft_sumdoc.specs.WellFormed.{IsWellCut}
 use Rattle.ft_msg.specs.SummaryOf.{summary_of}
-use Rattle.ft_seqr.specs.World.{NamedClient, ahead_of, is_client, known_names}
+use Rattle.ft_seqr.specs.World.{NamedClient, ahead_of, is_client, known_names, new_world}
+use Rattle.ft_worlds.specs.FormedLogs.{AllMayBeTaken}
 use Rattle.ft_worlds.specs.Worlds.{reached}
 
 -- whoever begins with the document of a client with nothing pending, as a summary keeps it, shows after the next messages of
@@ -24,3 +27,16 @@ abbrev pub SummariesGiveDocuments : Type 0
 SummariesGiveDocuments =
     (events : List Event) (name : Characters) (c : NamedClient) → find (is_client name) (reached events).clients ≡ Some c → is_without_edits c.client ≡ true
     → GivesDocument (summary_of (known_names (reached events) c.client) c.client.doc) c.client.doc
+
+-- the summary of a client with nothing pending is cut as what is written
+abbrev pub SummariesAreWellCut : Type 0
+SummariesAreWellCut =
+    (events : List Event) (name : Characters) (c : NamedClient) → find (is_client name) (reached events).clients ≡ Some c → is_without_edits c.client ≡ true
+    → (reached events).load < 2 ^ 53 → IsWellCut (summary_of (known_names (reached events) c.client) c.client.doc)
+
+-- where the events were well formed and the load is at most 2^52, the summary of a client with nothing pending is valid
+abbrev pub SummariesAreValid : Type 0
+SummariesAreValid =
+    (events : List Event) (name : Characters) (c : NamedClient) → AllMayBeTaken new_world events → find (is_client name) (reached events).clients ≡ Some c
+    → is_without_edits c.client ≡ true → (reached events).load ≤ 2 ^ 52
+    → IsValidSummary (summary_of (known_names (reached events) c.client) c.client.doc)

@@ -2,10 +2,10 @@
 
 ghost use Rattle.ft_worlds.specs.Worlds.{AttributionsAgree, ClientsAreOfLog, ClientsAttributeTheSame, ClientsShowTheSame, CountsAreAgreed, EventsHaveTheirRefusals, LogIsInOrder, ViewsAreApplied};
 ghost use Rattle.ft_worlds.specs.FormedLogs.{EntriesAreWellFormed};
-ghost use Rattle.ft_worlds.specs.Load.{ElementsAreWithinLoad, NumberIsWithinLoad};
+ghost use Rattle.ft_worlds.specs.Load.{CountsAreWithinLoad, ElementsAreWithinLoad, NumberIsWithinLoad};
 ghost use Rattle.ft_worlds.specs.NewNames.{ConnectionsHaveNewNames, GuestsHaveNewNames};
 ghost use Rattle.ft_worlds.specs.Offers.{OffersAreOfTheLog};
-ghost use Rattle.ft_worlds.specs.Summaries.{SummariesGiveDocuments, SummariesGoOn};
+ghost use Rattle.ft_worlds.specs.Summaries.{SummariesAreValid, SummariesAreWellCut, SummariesGiveDocuments, SummariesGoOn};
 ghost use Rattle.ft_worlds.specs.Reports.{OpenedReportsAreOne, ReportsAreOne};
 
 /// The log's messages follow one another: their numbers are 1, 2, 3 and so on, minimums never fall,
@@ -61,11 +61,13 @@ pub fn connections_have_new_names()
     ensures guests { GuestsHaveNewNames }
 {}
 
-/// The load of a world bounds what it counts: the number of its sequencer, and the elements that each
-/// list of each client ever held. So each is below 2^53 where the load is.
+/// The load of a world bounds what it counts: the number of its sequencer, the elements that each list
+/// of each client ever held, the sub-operations that a client skipped and the messages for others. So
+/// each is below 2^53 where the load is.
 pub fn loads_bound()
     ensures number { NumberIsWithinLoad }
     ensures elements { ElementsAreWithinLoad }
+    ensures counts { CountsAreWithinLoad }
 {}
 
 /// Each message of a log is well formed, where each event was when it was taken, and the load with
@@ -84,4 +86,16 @@ pub fn summaries_go_on()
 /// names of elements.
 pub fn summaries_give_documents()
     ensures { SummariesGiveDocuments }
+{}
+
+/// The summary of a client with nothing pending is cut as what is written, where the load is below 2^53:
+/// its text into chunks, and these, rows and columns into segments and runs as long as they can be.
+pub fn summaries_are_well_cut()
+    ensures { SummariesAreWellCut }
+{}
+
+/// The summary of a client with nothing pending is valid, where each event was well formed when it was
+/// taken and the load is at most 2^52.
+pub fn summaries_are_valid()
+    ensures { SummariesAreValid }
 {}

@@ -5,9 +5,9 @@ ghost use Rattle.ft_msg.specs.Client.{local_edit, sent_as, with_draft};
 ghost use Rattle.ft_plain.specs.ClientAnswers.{AnswersEdit};
 
 use crate::client::PlainClient;
-use crate::client::stages::{PlainEdit, PlainSent, PlainStages};
-use crate::documents::own_edits::NotTaken;
 use ft_base::OutOfMemory;
+use ft_document::documents::own_edits::NotTaken;
+use ft_document::stages::{PlainEdit, PlainSent, PlainStages};
 use ft_msg::Link;
 use ft_op::ChannelOp;
 

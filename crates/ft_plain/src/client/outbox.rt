@@ -3,8 +3,8 @@
 ghost use Rattle.std.specs.Prelude.{◌≡◌, ◌+◌, [], ◌∷◌, ◌++◌, OnOk, OnErr, drop, length, slice_get, option_copied};
 ghost use Rattle.ft_plain.specs.Unsent.{with_sent};
 
-use crate::client::stages::PlainSent;
 use ft_base::OutOfMemory;
+use ft_document::stages::PlainSent;
 use ft_msg::{Body, Draft};
 use std::alloc::Global;
 use std::collections::VecDeque;

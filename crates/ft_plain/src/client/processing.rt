@@ -5,13 +5,14 @@ ghost use Rattle.ft_op.specs.Same.{same_int};
 ghost use Rattle.ft_msg.specs.Acknowledgement.{acknowledge, after_own_message, renamed_edit};
 ghost use Rattle.ft_msg.specs.Process.{after_entry, is_body, is_oldest, is_own, is_sent_as, process_fault};
 ghost use Rattle.ft_msg.specs.WellFormed.{HasNumbersInRange};
-ghost use Rattle.ft_plain.specs.ClientAnswers.{KeepsLinkAndQueue, KeepsNumbers};
-ghost use Rattle.ft_plain.specs.Renamed.{renaming_of};
+ghost use Rattle.ft_document.specs.KeptNumbers.{KeepsNumbers};
+ghost use Rattle.ft_plain.specs.ClientAnswers.{KeepsLinkAndQueue};
+ghost use Rattle.ft_document.specs.Renamed.{renaming_of};
 
 use crate::client::PlainClient;
-use crate::client::renamings::Renaming;
-use crate::client::stages::PlainEdit;
 use ft_base::OutOfMemory;
+use ft_document::renamings::Renaming;
+use ft_document::stages::PlainEdit;
 use ft_msg::{Body, Entry, MsgKind, ProcessFault};
 use ft_op::ChannelOp;
 

@@ -9,8 +9,8 @@ ghost use Rattle.ft_plain.specs.ClientAnswers.{KeepsLinkAndQueue};
 use crate::client::PlainClient;
 use crate::client::outbox::Outbox;
 use crate::client::resent::resubmit;
-use crate::client::stages::{PlainEdit, PlainStage};
 use ft_base::OutOfMemory;
+use ft_document::stages::{PlainEdit, PlainStage};
 use ft_msg::{Entry, Link, MsgKind};
 use std::alloc::Global;
 

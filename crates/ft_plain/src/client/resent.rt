@@ -4,14 +4,14 @@ ghost use Rattle.std.specs.Prelude.{◌≡◌, ◌+◌, [], ◌∷◌, ◌++◌,
 ghost use Rattle.ft_op.specs.declared.operations.ChannelOp.TheVariants.{Grid, Text};
 ghost use Rattle.ft_op.specs.Operation.{OnGrid, OnText};
 ghost use Rattle.ft_op.specs.Pieces.{base_op_of, cell_op_of, op_of, pieces};
-ghost use Rattle.ft_msg.specs.Reconnection.{carried_stage, draft_of, regenerated_edit, resubmitted_edit, resubmitted_edits};
-ghost use Rattle.ft_plain.specs.SubOperations.{sub_operation_of};
+ghost use Rattle.ft_msg.specs.Reconnection.{carried_stage, sent_draft, regenerated_edit, resubmitted_edit, resubmitted_edits};
+ghost use Rattle.ft_document.specs.SubOperations.{sub_operation_of};
 ghost use Rattle.ft_plain.specs.Unsent.{with_sent};
 
 use crate::client::outbox::Outbox;
-use crate::client::stages::{PlainEdit, PlainSent, PlainStage, PlainStages, SubOp};
-use crate::documents::PlainDocument;
 use ft_base::OutOfMemory;
+use ft_document::documents::PlainDocument;
+use ft_document::stages::{PlainEdit, PlainSent, PlainStage, PlainStages, SubOp};
 use ft_op::{BaseOp, BaseOps, CellOp, CellOps, ChannelOp, GridOp, TextOp};
 use std::alloc::Global;
 use std::collections::VecDeque;
@@ -28,7 +28,7 @@ pub fn resubmit(
 ) -> Result<Vec<PlainEdit>, OutOfMemory>
     ensures edits { IfOk result (λ v. v.items ≡ resubmitted_edits doc.now conn outbox.old.next edits.now) }
     ensures outbox { let resubmitted = resubmitted_edits doc.now conn outbox.old.next edits.now in
-        OnOk result (outbox.new ≡ record { next = outbox.old.next + length resubmitted; drafts = outbox.old.drafts ++ flat_map (draft_of doc.now.number) resubmitted }) }
+        OnOk result (outbox.new ≡ record { next = outbox.old.next + length resubmitted; drafts = outbox.old.drafts ++ flat_map (sent_draft doc.now.number) resubmitted }) }
 {
     let mut resubmitted = Vec::new(doc.alloc());
     for edit in edits {

@@ -1,6 +1,6 @@
 //! The client as a replica: it stops for good at the first call that changes it and finds no memory.
 
-ghost use Rattle.std.specs.Prelude.{◌≡◌, Err, None, length, drop, slice_get, option_copied};
+ghost use Rattle.std.specs.Prelude.{◌≡◌, ◌<◌, ◌^◌, Err, None, length, drop, slice_get, option_copied};
 ghost use Rattle.ft_op.specs.Document.{empty};
 ghost use Rattle.ft_msg.specs.Answers.{edit_fault_kind, link_fault_kind, process_fault_kind, view_fault_kind};
 ghost use Rattle.ft_msg.specs.Client.{client_over, connect, drop_link, local_edit, noop};
@@ -9,7 +9,8 @@ ghost use Rattle.ft_msg.specs.WellFormed.{HasNumbersInRange};
 ghost use Rattle.ft_plain.specs.Stopping.{AnswersOwn};
 
 use crate::client::PlainClient;
-use crate::documents::own_edits::NotTaken;
+use ft_document::documents::PlainDocument;
+use ft_document::documents::own_edits::NotTaken;
 use ft_msg::{Draft, EditFault, Entry, LinkFault, ProcessFault, ViewFault};
 use ft_op::ChannelOp;
 use std::alloc::Global;
@@ -40,6 +41,18 @@ impl StoppingClient {
         StoppingClient {
             client: PlainClient::new(alloc),
             origin: 0,
+            stop: None,
+        }
+    }
+
+    /// A client over a document of messages alone, which knows the connections up to `origin`.
+    pub fn over(doc: PlainDocument, origin: u32) -> StoppingClient
+        requires { doc.other < 2 ^ 53 }
+        ensures { result ≡ record { client = client_over doc; origin = origin; stop = None } }
+    {
+        StoppingClient {
+            client: PlainClient::over(doc),
+            origin,
             stop: None,
         }
     }

@@ -1,17 +1,40 @@
 //! What a client shows.
 
 ghost use Rattle.std.specs.Prelude.{◌≡◌, IfOk};
+ghost use Rattle.ft_msg.specs.Answers.{view_content};
+ghost use Rattle.ft_msg.specs.Blame.{blame};
 ghost use Rattle.ft_msg.specs.Content.{content};
 
 use crate::client::PlainClient;
-use crate::shown::{shown_markers, shown_runs, shown_text};
-use crate::shown_grid::{shown_cells, shown_count};
-use crate::shown_intervals::shown_intervals;
+use ft_attrib::Attribution;
 use ft_base::{OutOfMemory, Text};
-use ft_msg::{Runs, Spots};
+use ft_elements::shown::{shown_markers, shown_runs, shown_text};
+use ft_elements::shown_grid::{shown_cells, shown_count};
+use ft_elements::shown_intervals::shown_intervals;
+use ft_elements::shown_origins::shown_origins;
+use ft_msg::{Numbers, Runs, Spots, View};
 use ft_sumdoc::{CellRecs, IntervalRecs};
 
 impl PlainClient {
+    /// All that it shows, with these numbers.
+    ///
+    /// Answers `OutOfMemory` where there is no room for it.
+    pub fn view(&self, numbers: Numbers) -> Result<View, OutOfMemory>
+        ensures numbers { IfOk result (λ v. v.numbers ≡ numbers) }
+        ensures content { IfOk result (λ v. view_content v ≡ content self.now) }
+    {
+        Ok(View {
+            numbers,
+            text: self.shown_text()?,
+            markers: self.shown_markers()?,
+            runs: self.shown_runs()?,
+            intervals: self.shown_intervals()?,
+            rows: self.shown_rows() as u64,
+            cols: self.shown_cols() as u64,
+            cells: self.shown_cells()?,
+        })
+    }
+
     /// The characters of the text, without the markers.
     ///
     /// Answers `OutOfMemory` where there is no room for them.
@@ -37,6 +60,15 @@ impl PlainClient {
         ensures { IfOk result (λ runs. runs ≡ (content self.now).runs) }
     {
         shown_runs(self.doc.alloc(), self.doc.text(), self.last_stage)
+    }
+
+    /// Who inserted each visible element of the text.
+    ///
+    /// Answers `OutOfMemory` where there is no room for that.
+    pub fn origins(&self) -> Result<Attribution, OutOfMemory>
+        ensures { IfOk result (λ origins. origins ≡ blame self.now) }
+    {
+        shown_origins(self.doc.alloc(), self.doc.text(), self.last_stage)
     }
 
     /// The intervals after all pending edits, by rising label and id.

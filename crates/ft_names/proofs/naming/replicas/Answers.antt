@@ -1,47 +1,26 @@
--- Each is a law on names and one on compaction.
-use Rattle.ft_msg.specs.Client.{connect, drop_link, local_edit, noop}
-use Rattle.ft_msg.specs.Process.{process}
-use Rattle.ft_msg.specs.Answers.{edit_fault_kind, link_fault_kind, process_fault_kind}
-use Rattle.ft_msg.proofs.ReachedSteps.{well-formed-fits}
-use Rattle.ft_keep.proofs.AllSteps.{reached-sound}
-use Rattle.ft_keep.proofs.KeptSteps as keep
-use Rattle.ft_names.proofs.CountedSteps.{connects-count, drops-count, edits-count, entries-count, idles-count}
-use Rattle.ft_names.proofs.MirroredCompaction.{one-compacts}
-use Rattle.ft_names.proofs.NamedSteps.{connects-of, drops-of, edits-of, entries-of, idles-of, reached-named}
-use Rattle.ft_names.proofs.OneForAll.{one-for-all, one-shows, one-sums}
+use Rattle.ft_names.proofs.OneAnswersAll.{one-compaction-serves-all, one-connect-answers-all, one-drop-answers-all, one-edit-answers-all, one-entry-answers-all, one-idle-answers-all, one-summary-answers-all, one-view-answers-all}
 use Rattle.ft_names.proofs.naming.replicas.Goals as goal
 
 pub returns-clause-edits : goal.returns-clause-edits
-returns-clause-edits c = λ start old new op result p named shows does x r e s.
-    one-for-all _ edit_fault_kind old new (λ y. local_edit y op) result p named shows does (λ q h. edits-of p q op h) (λ q k t. edits-count q k op t) x (reached-named x r)
-    (λ kept k. keep.edits-answer r.steps x kept op (reached-sound x r) k) s
+returns-clause-edits c = one-edit-answers-all
 
 pub returns-clause-entries : goal.returns-clause-entries
-returns-clause-entries c = λ start old new entry result p fits named shows does x r e s.
-    one-for-all _ process_fault_kind old new (λ y. process y entry) result p named shows does (λ q h. entries-of p q entry h)
-    (λ q k t. entries-count q k entry t) x (reached-named x r)
-    (λ kept k. keep.entries-answer r.steps x kept entry (reached-sound x r) k (well-formed-fits entry fits)) s
+returns-clause-entries c = one-entry-answers-all
 
 pub returns-clause-connects : goal.returns-clause-connects
-returns-clause-connects c = λ start old new conn result p named shows does x r e s.
-    one-for-all _ link_fault_kind old new (λ y. connect y conn) result p named shows does (λ q h. connects-of p q conn h) (λ q k t. connects-count q k conn t)
-    x (reached-named x r) (λ kept k. keep.connects-alike x kept conn k) s
+returns-clause-connects c = one-connect-answers-all
 
 pub returns-clause-drops : goal.returns-clause-drops
-returns-clause-drops c = λ start old new result p named shows does x r e s.
-    one-for-all _ link_fault_kind old new drop_link result p named shows does (λ q h. drops-of p q h) (λ q k t. drops-count q k t) x (reached-named x r)
-    (λ kept k. keep.drops-alike x kept k) s
+returns-clause-drops c = one-drop-answers-all
 
 pub returns-clause-idles : goal.returns-clause-idles
-returns-clause-idles c = λ start old new result p named shows does x r e s.
-    one-for-all _ link_fault_kind old new noop result p named shows does (λ q h. idles-of p q h) (λ q k t. idles-count q k t) x (reached-named x r)
-    (λ kept k. keep.idles-alike x kept k) s
+returns-clause-idles c = one-idle-answers-all
 
 pub returns-clause-shows : goal.returns-clause-shows
-returns-clause-shows c = λ state p named shows x r s. one-shows state p named shows x r s
+returns-clause-shows c = one-view-answers-all
 
 pub returns-clause-sums : goal.returns-clause-sums
-returns-clause-sums c = λ state sum names origin p named shows m x r s. one-sums state sum names origin p named shows m x r s
+returns-clause-sums c = one-summary-answers-all
 
 pub returns-clause-compacts : goal.returns-clause-compacts
-returns-clause-compacts c = λ start old new result p named shows does x r e s. one-compacts start old new result p named shows does x r e s
+returns-clause-compacts c = one-compaction-serves-all

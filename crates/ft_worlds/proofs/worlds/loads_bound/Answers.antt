@@ -1,4 +1,4 @@
-use Rattle.ft_worlds.proofs.LoadLaws.{elements-within-load, number-within-load}
+use Rattle.ft_worlds.proofs.LoadLaws.{counts-within-load, elements-within-load, number-within-load}
 use Rattle.ft_worlds.proofs.worlds.loads_bound.Goals as goal
 
 pub returns-clause-number : goal.returns-clause-number
@@ -6,3 +6,6 @@ returns-clause-number c = number-within-load
 
 pub returns-clause-elements : goal.returns-clause-elements
 returns-clause-elements c = elements-within-load
+
+pub returns-clause-counts : goal.returns-clause-counts
+returns-clause-counts c = counts-within-load

@@ -2,7 +2,7 @@ use Rattle.std.proofs.Common.{length, None, Some, Err, refl, sym, ◌∙◌, ap,
 use Rattle.std.specs.Result.{result_err}
 use Rattle.std.proofs.lemmas.Result.{err_from_is_err_and}
 use Rattle.ft_io.specs.Reader.{Reader, Call}
-use Rattle.ft_io.specs.LineParts.{Cuts}
+use Rattle.ft_io.specs.LineParts.{CutsLine}
 use Rattle.ft_io.specs.Intake.{as_reader}
 use Rattle.ft_io.proofs.Gathering.{gathers_more, call_whole, call_last, call_fault}
 use Rattle.ft_io.proofs.intake.Intake.next_line.Goals as goal
@@ -13,7 +13,7 @@ returns-in-Last g c =
     let faults = g.S.Source.faults in
     let now = c.loop-whole in
     let h = now.invariant.gathers in
-    let cuts = subst (Cuts c.args.limit h.so_far now.self.piece c.cut.new.piece) c.in-Last.is (c.in_ok-whole.ensures h.so_far h.is_line) in
+    let cuts = subst (CutsLine c.args.limit h.so_far now.self.piece c.cut.new.piece) c.in-Last.is (c.in_ok-whole.ensures h.so_far h.is_line) in
     let old = as_reader c.args.self.now c.args.limit None in
     let new : Reader = record { pending = c.cut.new.piece; given = now.self.given; limit = c.args.limit; ended = now.self.ended; fault = None } in
     call_whole old (left c.args.src.now) (faults c.args.src.now) now.self.piece now.self.given now.line (left now.src) (faults now.src) h
@@ -25,7 +25,7 @@ returns-in_err-fill g c =
     let faults = g.S.Source.faults in
     let now = c.loop-whole in
     let h = now.invariant.gathers in
-    let cuts = subst (Cuts c.args.limit h.so_far now.self.piece c.cut.new.piece) c.in-More.is (c.in_ok-whole.ensures h.so_far h.is_line) in
+    let cuts = subst (CutsLine c.args.limit h.so_far now.self.piece c.cut.new.piece) c.in-More.is (c.in_ok-whole.ensures h.so_far h.is_line) in
     let old = as_reader c.args.self.now c.args.limit None in
     let told = c.in_err-fill.ensures in
     let fault = c.in_err-fill.field-0.0 in
@@ -42,7 +42,7 @@ returns-then-self g c =
     let faults = g.S.Source.faults in
     let now = c.loop-whole in
     let h = now.invariant.gathers in
-    let cuts = subst (Cuts c.args.limit h.so_far now.self.piece c.cut.new.piece) c.in-More.is (c.in_ok-whole.ensures h.so_far h.is_line) in
+    let cuts = subst (CutsLine c.args.limit h.so_far now.self.piece c.cut.new.piece) c.in-More.is (c.in_ok-whole.ensures h.so_far h.is_line) in
     let old = as_reader c.args.self.now c.args.limit None in
     let told = c.in_ok-fill.ensures in
     let ended = told.ended c.if-self.true in
@@ -58,7 +58,7 @@ loop-whole-preserved g c =
     let faults = g.S.Source.faults in
     let now = c.loop-whole in
     let h = now.invariant.gathers in
-    let cuts = subst (Cuts c.args.limit h.so_far now.self.piece c.cut.new.piece) c.in-More.is (c.in_ok-whole.ensures h.so_far h.is_line) in
+    let cuts = subst (CutsLine c.args.limit h.so_far now.self.piece c.cut.new.piece) c.in-More.is (c.in_ok-whole.ensures h.so_far h.is_line) in
     let old = as_reader c.args.self.now c.args.limit None in
     let told = c.in_ok-fill.ensures in
     record {

@@ -5,7 +5,7 @@ use Rattle.ft_props.specs.Element.{ListElement}
 use Rattle.ft_op.specs.Cells.{Cell}
 use Rattle.ft_msg.specs.Client.{NaiveClient, PendingEdit, stages_of}
 use Rattle.ft_msg.specs.Content.{all_cells, content, stage_view}
-use Rattle.ft_plain.specs.WrittenCells.{cells_after_stages}
+use Rattle.ft_document.specs.WrittenCells.{cells_after_stages}
 use Rattle.ft_plain.proofs.WrittenValues.{all-written}
 use Rattle.ft_plain.proofs.client.PlainClient.shown_cells.Goals as goal
 

@@ -1,6 +1,6 @@
 use Rattle.std.proofs.Common.{◌∙◌, ap, sym}
 use Rattle.ft_msg.specs.Process.{is_body}
-use Rattle.ft_plain.proofs.Tested.{same_op-is}
+use Rattle.ft_elements.proofs.Tested.{same_op-is}
 use Rattle.ft_plain.proofs.client.processing.is_body.Goals as goal
 
 pub returns-in-Op : goal.returns-in-Op

@@ -1,6 +1,6 @@
 use Rattle.std.proofs.Common.{◌≡◌, ◌++◌, drop, map, take}
 use Rattle.ft_msg.specs.Acknowledgement.{renamed_edit}
-use Rattle.ft_plain.specs.Renamed.{renaming_of}
+use Rattle.ft_document.specs.Renamed.{renaming_of}
 use Rattle.ft_plain.proofs.client.processing.rename_edits.Given as goal
 
 -- the edits so far are renamed; the rest is as it was, and completes the whole once it is renamed

@@ -1,7 +1,7 @@
 use Rattle.std.proofs.Common.{◌≡◌, ℕ, ◌+◌, List, ◌++◌, drop, length}
 use Rattle.std.specs.Prelude.{flat_map}
 use Rattle.ft_msg.specs.Client.{PendingEdit}
-use Rattle.ft_msg.specs.Reconnection.{draft_of, resubmitted_edits}
+use Rattle.ft_msg.specs.Reconnection.{sent_draft, resubmitted_edits}
 use Rattle.ft_plain.proofs.client.resent.resubmit.Given as goal
 
 -- the edits and messages so far, and those of the rest of the edits, are all
@@ -13,5 +13,5 @@ invariant-loop-edit l =
     record {
       edits : l.resubmitted.items ++ rest ≡ all;
       next : l.outbox.next + length rest ≡ l.initial.outbox.next + length all;
-      drafts : l.outbox.drafts ++ flat_map (draft_of l.doc.number) rest ≡ l.initial.outbox.drafts ++ flat_map (draft_of l.doc.number) all;
+      drafts : l.outbox.drafts ++ flat_map (sent_draft l.doc.number) rest ≡ l.initial.outbox.drafts ++ flat_map (sent_draft l.doc.number) all;
     }

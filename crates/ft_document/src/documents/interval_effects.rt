@@ -1,0 +1,69 @@
+//! What operations of intervals make of a document.
+
+ghost use Rattle.std.specs.Prelude.{◌≡◌, ℕ, OnOk};
+ghost use Rattle.ft_op.specs.declared.operations.TextOp.TheVariants.{IntervalAdd, IntervalChange, IntervalDelete};
+ghost use Rattle.ft_op.specs.Document.{interval_effect, with_slid_ends};
+
+use crate::documents::PlainDocument;
+use ft_base::{OutOfMemory, Perspective, Text};
+use ft_elements::ends::{elements_at_ends, elements_at_given_ends, ends_fit, given_ends_fit};
+use ft_op::Ends;
+use ft_props::PropSet;
+
+impl PlainDocument {
+    /// Adds an interval, unless its id is in use in the label.
+    pub(crate) fn add_interval(
+        &mut self,
+        label: &Text,
+        id: &Text,
+        ends: Ends,
+        props: &PropSet,
+        at: Perspective,
+    ) -> Result<(), OutOfMemory>
+        ensures { OnOk result (self.new ≡ interval_effect self.old at.c at.r (IntervalAdd label.now id.now ends props.now)) }
+    {
+        if !ends_fit(&self.text, ends, at) {
+            return self.skip();
+        }
+        let named = elements_at_ends(&self.text, ends, at);
+        self.intervals.add(label, id, &named, props)?;
+        self.slide_ends();
+        Ok(())
+    }
+
+    /// Gives an interval the ends, if some are given, and sets properties of it. Nothing is done where
+    /// the id isn't in the label.
+    pub(crate) fn change_interval(
+        &mut self,
+        label: &Text,
+        id: &Text,
+        ends: Option<Ends>,
+        props: &PropSet,
+        at: Perspective,
+    ) -> Result<(), OutOfMemory>
+        ensures { OnOk result (self.new ≡ interval_effect self.old at.c at.r (IntervalChange label.now id.now ends props.now)) }
+    {
+        if !given_ends_fit(&self.text, ends, at) {
+            return self.skip();
+        }
+        let named = elements_at_given_ends(&self.text, ends, at);
+        self.intervals.change(label, id, ends, &named, props)?;
+        self.slide_ends();
+        Ok(())
+    }
+
+    /// Takes an interval away, if it is there.
+    pub(crate) fn delete_interval(&mut self, label: &Text, id: &Text)
+        ensures { (c r : ℕ) → self.new ≡ interval_effect self.old c r (IntervalDelete label.now id.now) }
+    {
+        self.intervals.delete(label, id);
+        self.slide_ends();
+    }
+
+    /// Slides each end of an interval.
+    pub(crate) fn slide_ends(&mut self)
+        ensures { self.new ≡ with_slid_ends self.old }
+    {
+        self.intervals.slide_ends(self.text.as_slice());
+    }
+}

@@ -1,0 +1,10 @@
+pub mod BackwardRuns
+pub mod HeldElements
+pub mod PlacedCell
+pub mod PlacedList
+pub mod PlacedRuns
+pub mod PushedCharacter
+pub mod RisingPlace
+pub mod SettledName
+pub mod ShownCells
+pub mod Tested

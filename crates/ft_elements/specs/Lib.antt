@@ -1,0 +1,6 @@
+pub mod Contents
+pub mod NamedBack
+pub mod Names
+pub mod PlacedRuns
+pub mod PropertyRuns
+pub mod Rising

@@ -1,0 +1,148 @@
+//! The cells of a plain replica.
+
+ghost use Rattle.std.specs.Prelude.{◌≡◌, [], OnOk, OnErr, filter, not, option_copied, position};
+ghost use Rattle.std.specs.List.{list_any};
+ghost use Rattle.ft_props.specs.Element.{same_id};
+ghost use Rattle.ft_op.specs.Cells.{cell_value, is_cell, is_null, put_cell, write_cell};
+
+mod building;
+mod copies;
+mod trimming;
+
+use crate::names::ElementName;
+use ft_base::OutOfMemory;
+use ft_json::ValText;
+use std::alloc::Global;
+use std::marker::Model;
+
+/// A cell that has a value. It belongs to a row unit and a column unit.
+#[derive(Drop)]
+pub struct PlainCell {
+    row: ElementName,
+    col: ElementName,
+    value: ValText,
+}
+
+impl Model for PlainCell {
+    ghost use Rattle.ft_op.specs.Cells.{Cell};
+
+    ghost Value = { Cell };
+
+    ghost view = { λ a. record { row = a.row; col = a.col; value = a.value } };
+}
+
+impl PlainCell {
+    /// Whether it is the cell of that row and column.
+    fn is_at(&self, row: ElementName, col: ElementName) -> bool
+        ensures { result ≡ is_cell row col self.now }
+    {
+        row.same(&self.row) && col.same(&self.col)
+    }
+
+    /// Whether it belongs to that row.
+    fn is_in_row(&self, row: ElementName) -> bool
+        ensures { result ≡ same_id row self.now.row }
+    {
+        row.same(&self.row)
+    }
+}
+
+/// Cells in the order of their first write.
+#[derive(Drop)]
+pub struct PlainCells {
+    items: Vec<PlainCell>,
+}
+
+impl Model for PlainCells {
+    ghost use Rattle.std.specs.Prelude.{List};
+    ghost use Rattle.ft_op.specs.Cells.{Cell};
+
+    ghost Value = { List Cell };
+
+    ghost view = { λ a. a.items.items };
+}
+
+impl PlainCells {
+    /// No cells.
+    pub fn new(alloc: Global) -> PlainCells
+        ensures { result ≡ [] }
+    {
+        PlainCells {
+            items: Vec::new(alloc),
+        }
+    }
+
+    /// Writes the value to the cell of that row and column; null takes the cell out.
+    ///
+    /// Answers `OutOfMemory` where there is no room for it, and then nothing changed.
+    pub fn write(
+        &mut self,
+        row: ElementName,
+        col: ElementName,
+        value: &ValText,
+    ) -> Result<(), OutOfMemory>
+        ensures ok { OnOk result (self.new ≡ write_cell (record { row = row; col = col; value = value.now }) self.old) }
+        ensures err { OnErr result (self.new ≡ self.old) }
+    {
+        if is_null(value) {
+            self.take_out(row, col);
+            return Ok(());
+        }
+        let value = value.copy()?;
+        self.put(PlainCell { row, col, value })
+    }
+
+    /// Takes the cell of that row and column out, if it is there.
+    fn take_out(&mut self, row: ElementName, col: ElementName)
+        ensures { self.new ≡ filter (λ other. not (is_cell row col other)) self.old }
+    {
+        self.items.retain(|other| !other.is_at(row, col));
+    }
+
+    /// Puts the cell in place of the one of its row and column, or behind all.
+    ///
+    /// Answers `OutOfMemory` where there is no room for it, and then nothing changed.
+    fn put(&mut self, cell: PlainCell) -> Result<(), OutOfMemory>
+        ensures ok { OnOk result (self.new ≡ put_cell cell self.old) }
+        ensures err { OnErr result (self.new ≡ self.old) }
+    {
+        match self.place_of(cell.row, cell.col) {
+            Some(i) => {
+                self.items[i] = cell;
+                Ok(())
+            }
+            None => Ok(self.items.push(cell)?),
+        }
+    }
+
+    /// The place of the cell of that row and column, if it is there.
+    fn place_of(&self, row: ElementName, col: ElementName) -> Option<usize>
+        ensures { result ≡ position (is_cell row col) self.now }
+    {
+        self.items.iter().position(|cell| cell.is_at(row, col))
+    }
+
+    /// The value of the cell of that row and column: None exactly where it has none.
+    pub fn value(&self, row: ElementName, col: ElementName) -> Option<&ValText>
+        ensures { option_copied result ≡ cell_value row col self.now }
+    {
+        match self.place_of(row, col) {
+            Some(i) => Some(&self.items[i].value),
+            None => None,
+        }
+    }
+
+    /// Whether a cell belongs to that row.
+    pub fn has_row(&self, row: ElementName) -> bool
+        ensures { result ≡ list_any (λ cell. same_id row cell.row) self.now }
+    {
+        self.items.iter().any(|cell| cell.is_in_row(row))
+    }
+}
+
+/// Whether the value is null.
+fn is_null(value: &ValText) -> bool
+    ensures { result ≡ is_null value.now }
+{
+    value.as_str() == "null"
+}

@@ -1,0 +1,79 @@
+//! What a summary writes of an element, and what it keeps of one.
+
+ghost use Rattle.std.specs.Prelude.{◌≡◌, IfOk};
+ghost use Rattle.ft_props.specs.Compaction.{has_collectable_removal, is_collectable, is_insertion_at_or_below, trim_element};
+
+use crate::elements::PlainElement;
+use ft_base::{OutOfMemory, Stamp};
+use ft_props::Props;
+
+impl PlainElement {
+    /// Its insertion.
+    pub fn ins(&self) -> Stamp
+        ensures { result ≡ self.now.ins }
+    {
+        self.ins
+    }
+
+    /// Its sequenced removals, by rising number.
+    pub fn dels(&self) -> &[Stamp]
+        ensures { result.now ≡ self.now.dels }
+    {
+        self.dels.as_slice()
+    }
+
+    /// The message that inserted it, where that is known.
+    pub fn by(&self) -> Option<Stamp>
+        ensures { result ≡ self.now.by }
+    {
+        self.by
+    }
+
+    /// Its acknowledged properties.
+    pub fn props(&self) -> &Props
+        ensures { result.now ≡ self.now.props }
+    {
+        &self.props
+    }
+
+    /// Whether it is sequenced and its first removal is at or below the minimum.
+    pub fn is_collectable(&self, min: u64) -> bool
+        ensures { result ≡ is_collectable min self.now }
+    {
+        self.is_sequenced() && has_collectable_removal(self.dels.as_slice(), min)
+    }
+
+    /// The element as a summary has it: an insertion at or below the minimum is written as the universal
+    /// one.
+    ///
+    /// Answers `OutOfMemory` where there is no room for it.
+    pub fn trimmed(&self, min: u64) -> Result<PlainElement, OutOfMemory>
+        ensures { IfOk result (λ e. e ≡ trim_element min self.now) }
+    {
+        let mut e = self.copy()?;
+        if is_at_or_below(&self.ins, min) {
+            e.ins = Stamp::Acked { seq: 0, conn: 0 };
+        }
+        Ok(e)
+    }
+}
+
+/// Whether the first removal is at or below the minimum.
+fn has_collectable_removal(dels: &[Stamp], min: u64) -> bool
+    ensures { result ≡ has_collectable_removal min dels.now }
+{
+    match dels {
+        [] => false,
+        [first, ..] => is_at_or_below(first, min),
+    }
+}
+
+/// Whether the stamp is sequenced, at or below the minimum.
+fn is_at_or_below(stamp: &Stamp, min: u64) -> bool
+    ensures { result ≡ is_insertion_at_or_below min stamp.now }
+{
+    match stamp {
+        Stamp::Acked { seq, .. } => *seq <= min,
+        Stamp::Local { .. } => false,
+    }
+}

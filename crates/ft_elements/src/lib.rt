@@ -1,0 +1,21 @@
+//! One list of elements in one `Vec`, removed elements included; intervals and cells over such lists, and
+//! what is shown of them.
+//!
+//! A call that can't answer `OutOfMemory` takes no memory.
+#![tactic(auto)]
+
+pub mod cells;
+pub mod element_tests;
+pub mod elements;
+pub mod ends;
+pub mod intervals;
+pub mod lists;
+mod marks;
+pub mod names;
+pub mod runs;
+pub mod scans;
+pub mod shown;
+pub mod shown_grid;
+pub mod shown_intervals;
+pub mod shown_origins;
+mod slides;

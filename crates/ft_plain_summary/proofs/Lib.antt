@@ -1,0 +1,6 @@
+pub mod AlikeSegments
+pub mod FrontRuns
+pub mod FrontSegments
+pub mod MadeSegments
+pub mod NamedAtPlaces
+pub mod NumberedItems

@@ -1,0 +1,3 @@
+pub mod NamedPlaces
+pub mod OpenRuns
+pub mod OpenSegments

@@ -1,0 +1,15 @@
+//! The summary of a document over plain lists, and the document that a summary gives.
+//!
+//! A call that can't answer `OutOfMemory` takes no memory.
+#![tactic(auto)]
+
+mod lists;
+mod marks;
+mod named;
+pub mod reading;
+mod segments;
+mod units;
+pub mod writing;
+
+pub use reading::document_of;
+pub use writing::summary_of;

@@ -1,0 +1,160 @@
+-- The summary of an idle client of a world is valid and well cut.
+use Rattle.std.proofs.Common.{◌≡◌, ℕ, zero, suc, ◌+◌, ◌≤◌, ◌^◌, max, Bool, true, false, not, ◌||◌, bytes_eq, List, [], ◌∷◌, fold, length, take, Some, find, refl, sym, ◌∙◌, ap, subst, arith, lt-ltb}
+use Rattle.std.specs.List.{list_any}
+use Rattle.std.proofs.lemmas.List.{length-take}
+use Rattle.ft_base.proofs.Booleans.{both}
+use Rattle.ft_msg.specs.declared.messages.Entry.{Entry}
+use Rattle.ft_msg.specs.WellFormed.{IsWellFormedBody}
+use Rattle.ft_op.specs.Document.{Document, empty}
+use Rattle.ft_props.specs.Element.{ListElement}
+use Rattle.ft_sumdoc.specs.Counts.{are_distinct_names}
+use Rattle.ft_laws.specs.Sequencing.{Each}
+use Rattle.ft_worlds.specs.FormedLogs.{AllMayBeTaken}
+use Rattle.ft_worlds.specs.LogOrder.{IsOrder}
+use Rattle.ft_worlds.specs.Load.{IsCountedWithin}
+use Rattle.ft_worlds.proofs.HeldElements.{IsSizedWithin, size}
+use Rattle.ft_worlds.proofs.Lists.{each-found, each-taken}
+use Rattle.ft_worlds.proofs.Orders.{Leads, leads-up}
+use Rattle.ft_worlds.proofs.ValidDocuments.{IsMadeBy, empty-made, entries-made}
+use Rattle.ft_worlds.proofs.ValidSummaries.{IsSmall, summary-valid}
+use Rattle.ft_seqr.specs.declared.events.Event.{Event}
+use Rattle.ft_props.specs.Properties.{Characters}
+use Rattle.ft_msg.specs.Agreed.{agreed}
+use Rattle.ft_msg.specs.ClientSteps.{is_without_edits}
+use Rattle.ft_msg.specs.Summary.{trim}
+use Rattle.ft_laws.proofs.ClientsAgree.{idle-clients-agree}
+use Rattle.ft_seqr.specs.World.{NamedClient, greatest_origin, is_client, known_names, new_world}
+use Rattle.ft_worlds.specs.Summaries.{SummariesAreValid, SummariesAreWellCut}
+use Rattle.ft_worlds.specs.Worlds.{reached}
+use Rattle.ft_worlds.proofs.LoadLaws.{counts-within-load, number-within-load, sizes-within-load}
+use Rattle.ft_worlds.proofs.SummaryCuts.{text-cut, units-differ}
+use Rattle.ft_worlds.proofs.SummaryLists.{IsPlain, agreed-plain, trim-plain}
+use Rattle.ft_worlds.proofs.WorldEvents.{IsReachedWorld, first-reached, found-serves, reaches}
+use Rattle.ft_worlds.proofs.WorldLaws.{of-log, world-reached}
+
+-- the document of an idle client is that of the messages that it took
+idle-agreed : (events : List Event) (name : Characters) (c : NamedClient) → find (is_client name) (reached events).clients ≡ Some c → is_without_edits c.client ≡ true
+    → c.client.doc ≡ agreed (take c.client.doc.number (reached events).log)
+idle-agreed events name c f none =
+    let w = reached events in
+    let r = world-reached events in
+    let s = found-serves ⊥ w r name c f in
+    let o = of-log w r c (record { rest = s.rest; served = s.served; formed = s.formed }) in
+    idle-clients-agree o.steps c.client o.run.made o.run.bodies none ∙ ap agreed o.entries
+
+-- there are no more names than the load
+names-within-load : (events : List Event) → length (reached events).names ≤ (reached events).load
+names-within-load events =
+    let n = number-within-load events in
+    let k = (world-reached events).base.counted in
+    omega (arith, n, k)
+
+pub summaries-are-well_cut : SummariesAreWellCut
+summaries-are-well_cut events name c f none small =
+    let w = reached events in
+    let doc = c.client.doc in
+    let plain : IsPlain doc = subst IsPlain (sym (idle-agreed events name c f none)) (agreed-plain (take doc.number w.log)) in
+    let names = names-within-load events in
+    let t = trim-plain doc plain in
+    record {
+      conns = lt-ltb (length (known_names w c.client)) (2 ^ 53) (simp length-take (omega arith));
+      text = text-cut (trim doc).text.items t.text;
+      rows = units-differ (trim doc).rows.items;
+      cols = units-differ (trim doc).cols.items;
+    }
+
+-- ---- names
+
+greatest-high : (es : List Entry) (a : ℕ) → a ≤ fold (λ n e. max n e.origin) a es
+greatest-high [] a = omega arith
+greatest-high (e ∷ es) a = let ih = greatest-high es (max a e.origin) in omega (arith, ih)
+
+greatest-each : (es : List Entry) (a : ℕ) → Each (λ e. e.origin ≤ fold (λ n e. max n e.origin) a es) es
+greatest-each [] a = tt
+greatest-each (e ∷ es) a = (let h = greatest-high es (max a e.origin) in omega (arith, h), greatest-each es (max a e.origin))
+
+greatest-low : (es : List Entry) (a m : ℕ) → a ≤ m → Each (λ e. e.origin ≤ m) es → fold (λ n e. max n e.origin) a es ≤ m
+greatest-low [] a m l h = l
+greatest-low (e ∷ es) a m l h = greatest-low es (max a e.origin) m (let o = h.0 in omega (arith, l, o)) h.1
+
+none-taken : (name : Characters) (n : ℕ) (names : List Characters) → not (list_any (bytes_eq name) names) ≡ true → not (list_any (bytes_eq name) (take n names)) ≡ true
+none-taken name zero names h = refl
+none-taken name (suc n) [] h = refl
+none-taken name (suc n) (first ∷ names) h = by (bytes_eq name first) h (λ g. none-taken name n names g)
+  where
+    by : (b : Bool) → not (b || list_any (bytes_eq name) names) ≡ true
+        → (not (list_any (bytes_eq name) names) ≡ true → not (list_any (bytes_eq name) (take n names)) ≡ true)
+        → not (b || list_any (bytes_eq name) (take n names)) ≡ true
+    by true g ih = (cc)
+    by false g ih = ih g
+
+distinct-taken : (n : ℕ) (names : List Characters) → are_distinct_names names ≡ true → are_distinct_names (take n names) ≡ true
+distinct-taken zero names h = refl
+distinct-taken (suc n) [] h = refl
+distinct-taken (suc n) (first ∷ names) h =
+    let p = both (not (list_any (bytes_eq first) names)) (are_distinct_names names) h in
+    rw (none-taken first n names p.0, distinct-taken n names p.1) refl
+
+-- ---- the messages that a client took
+
+order-taken : (j : ℕ) (es : List Entry) (n m k l : ℕ) → Leads n m es k l → IsOrder n m (take j es)
+order-taken zero es n m k l h = tt
+order-taken (suc j) [] n m k l h = tt
+order-taken (suc j) (e ∷ es) n m k l h = (h.0, order-taken j es (n + 1) e.msg.min k l h.1)
+
+-- the document of an idle client is made of them
+idle-made : (events : List Event) (name : Characters) (c : NamedClient) → AllMayBeTaken new_world events → find (is_client name) (reached events).clients ≡ Some c
+    → is_without_edits c.client ≡ true → IsMadeBy (length (known_names (reached events) c.client)) c.client.doc
+idle-made events name c may f none =
+    let w = reached events in
+    let n = c.client.doc.number in
+    let r : IsReachedWorld (Unit {0}) 0 (reached events) = reaches (Unit {0}) events new_world (first-reached (Unit {0})) (λ f. may) in
+    let es = take n w.log in
+    let origins = each-taken (λ e. e.origin ≤ length w.names) n w.log r.base.origins in
+    let fits : greatest_origin (take n w.log) ≤ length w.names = greatest-low (take n w.log) 0 (length w.names) (omega arith) origins in
+    let known : length (known_names w c.client) ≡ greatest_origin (take n w.log) = simp length-take (omega (arith, fits)) in
+    subst (λ (d : Document). IsMadeBy (length (known_names w c.client)) d) (sym (idle-agreed events name c f none))
+    (subst (λ k. IsMadeBy k (agreed (take n w.log))) (sym known)
+    (entries-made (greatest_origin (take n w.log)) (take n w.log) empty (order-taken n w.log 0 0 w.sequencer.number w.sequencer.minimum r.base.order)
+    (each-taken (λ e. IsWellFormedBody e.msg.body) n w.log (r.bodies tt)) (each-taken (λ e. 1 ≤ e.origin) n w.log r.base.sources)
+    (greatest-each (take n w.log) 0) (empty-made (greatest_origin (take n w.log)))))
+
+sized-length : (xs : List ListElement) → size xs ≡ length xs
+sized-length [] = refl
+sized-length (x ∷ xs) = ap suc (sized-length xs)
+
+-- the numbers of a client are small
+client-small : (events : List Event) (name : Characters) (c : NamedClient) → find (is_client name) (reached events).clients ≡ Some c → (reached events).load ≤ 2 ^ 52
+    → IsSmall c.client.doc
+client-small events name c f low =
+    let w = reached events in
+    let r = world-reached events in
+    let s = found-serves ⊥ w r name c f in
+    let number = leads-up s.rest c.client.doc.number c.client.doc.minimum w.sequencer.number w.sequencer.minimum s.served.order in
+    let load = number-within-load events in
+    let sized = (each-found (λ (d : NamedClient). IsSizedWithin w.load d.client.doc) (is_client name) w.clients c f (sizes-within-load events)).0 in
+    let counted = (each-found (λ (d : NamedClient). IsCountedWithin w.load d.client.doc) (is_client name) w.clients c f (counts-within-load events)).0 in
+    let skipped = counted.skipped in
+    let other = counted.other in
+    let text = sized.text in
+    let rows = sized.rows in
+    let cols = sized.cols in
+    let text_length = sized-length c.client.doc.text.items in
+    let rows_length = sized-length c.client.doc.rows.items in
+    let cols_length = sized-length c.client.doc.cols.items in
+    record {
+      number = omega (arith, number, load, low);
+      skipped = omega (arith, skipped, low);
+      other = omega (arith, other, low);
+      text = omega (arith, text, text_length, low);
+      rows = omega (arith, rows, rows_length, low);
+      cols = omega (arith, cols, cols_length, low);
+    }
+
+pub summaries-are-valid : SummariesAreValid
+summaries-are-valid events name c may f none low =
+    let w = reached events in
+    let names = names-within-load events in
+    summary-valid (known_names w c.client) c.client.doc (idle-made events name c may f none)
+    (distinct-taken (greatest_origin (take c.client.doc.number w.log)) w.names ((world-reached events).named.apart (omega (arith, names, low))))
+    (client-small events name c f low)
