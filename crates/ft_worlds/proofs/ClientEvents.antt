@@ -31,12 +31,12 @@ use Rattle.ft_laws.proofs.CountedEntries.{after_first, with_first}
 use Rattle.ft_laws.proofs.NumberTests.{same_number}
 use Rattle.ft_msg.specs.WellFormed.{IsWellFormedBody, has_body}
 use Rattle.ft_worlds.specs.LogOrder.{StandsNext}
-use Rattle.ft_worlds.proofs.Lists.{each-any, each-found, each-more, each-weaker, filter-more, find-changed, find-filtered, find-mapped, find-more, find-new}
+use Rattle.ft_summaries.proofs.Lists.{each-any, each-found, each-more, each-weaker, filter-more, find-changed, find-filtered, find-mapped, find-more, find-new}
 use Rattle.ft_worlds.proofs.Orders.{IsAccepted, IsBase, IsBounded, Leads, after_draft, draft-numbered, gone, join-numbered, leads-more, leads-up, leave-numbered, new_connection, numbered-base, numbered-follows, others, submit-accepted}
 use Rattle.ft_worlds.proofs.Links.{AnyEdits, HasJoined, IsAnswered, IsDraftOf, IsFirstQueued, IsLinked, IsOffline, IsOnline, IsQueue, IsQueued, answered-more, answered-next, answered-weaker, awaits-new, is_owed, owed, owed-more, queue-more, queue-up, queued-more, queued-noop}
 use Rattle.ft_worlds.proofs.Owing.{answered-behind, behind, each-behind_some, edit_cost, entry_cost, noops, op_inserts, owing, owing-edited, owing-sent, owing_of, stage_inserts, total, total-append}
 use Rattle.ft_worlds.proofs.Prices.{client-priced}
-use Rattle.ft_worlds.proofs.FormedClients.{IsFormed, IsFormedEdit, IsFormedSent}
+use Rattle.ft_summaries.proofs.FormedClients.{IsFormed, IsFormedEdit, IsFormedSent}
 use Rattle.ft_props.specs.Element.{ListElement}
 use Rattle.ft_msg.specs.Agreed.{agreed}
 use Rattle.ft_worlds.proofs.SkippedEntries.{own-entry-skips}

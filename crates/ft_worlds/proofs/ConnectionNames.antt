@@ -9,7 +9,7 @@ use Rattle.ft_props.specs.Properties.{Characters}
 use Rattle.ft_sumdoc.specs.Counts.{are_distinct_names}
 use Rattle.ft_seqr.specs.World.{NamedClient, NamedGuest, connection_name, in_place, is_client, is_guest}
 use Rattle.ft_laws.specs.Sequencing.{Each}
-use Rattle.ft_worlds.proofs.Lists.{each-found, each-more, each-weaker}
+use Rattle.ft_summaries.proofs.Lists.{each-found, each-more, each-weaker}
 
 -- ---- a name tells its owner and its number
 

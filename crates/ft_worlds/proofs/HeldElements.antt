@@ -32,6 +32,7 @@ use Rattle.ft_laws.proofs.AgreedStage.{len-put-add}
 use Rattle.ft_laws.proofs.ClientsAgree.{clients-agree}
 use Rattle.ft_laws.proofs.EveryClientReady.{every-client-ready}
 use Rattle.ft_laws.proofs.RangesOfLists.{len-range}
+use Rattle.ft_summaries.proofs.Lists.{size}
 use Rattle.ft_worlds.specs.Load.{IsHeldWithin}
 use Rattle.ft_worlds.proofs.Owing.{body_inserts, edit_inserts, stage_inserts, total, total-append}
 
@@ -111,10 +112,6 @@ entries-made [] doc = made-itself 0 doc
 entries-made (e ∷ es) doc = made-then (entry_inserts e) (total entry_inserts es) doc (take_entry doc e) _ (entry-made doc e) (entries-made es (take_entry doc e))
 
 -- ---- how many elements there are
-
--- how many elements a list has, seen or not
-abbrev pub size : List ListElement → ℕ
-size xs = len (λ e. true) xs
 
 new-size : (n : ℕ) (ins : Stamp) (dels : List Stamp) (by : Option Stamp) (props : PropertyList) (bs : List ElementContent) → size (new_elements n ins dels by props bs) ≡ length bs
 new-size n ins dels by props [] = refl

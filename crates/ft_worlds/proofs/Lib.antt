@@ -1,22 +1,13 @@
-mod Lists
+mod RegularValues
+mod FormedOperations
+mod FormedReadings
+mod QuotedTexts
+mod RegularTexts
 mod Orders
 mod Links
 mod Owing
 mod Prices
 mod HeldElements
-mod OrderedEnds
-mod FormedClients
-mod SummaryLists
-mod SummaryIntervals
-mod SummaryCells
-mod SummaryCuts
-mod ValidValues
-mod ValidIntervals
-mod ValidElements
-mod ValidDocuments
-mod ValidSegments
-mod ValidViews
-mod ValidSummaries
 mod Served
 mod SkippedEntries
 mod CountedOthers
@@ -31,5 +22,6 @@ pub mod OfferLaws
 pub mod NameLaws
 pub mod LoadLaws
 pub mod FormedLaws
+pub mod FormedReads
 pub mod SummaryLaws
 pub mod ValidLaws

@@ -20,7 +20,7 @@ use Rattle.ft_msg.specs.Process.{is_oldest, is_op_kind, is_own_join, is_sent_as}
 use Rattle.ft_msg.specs.Reconnection.{sent_draft, regenerated_edit, resubmitted_edit, resubmitted_edits}
 use Rattle.ft_seqr.specs.Sequencer.{JoinedConnection, NaiveSequencer, is_joined}
 use Rattle.ft_laws.specs.Sequencing.{Each}
-use Rattle.ft_worlds.proofs.Lists.{filter-more}
+use Rattle.ft_summaries.proofs.Lists.{filter-more}
 
 -- ---- the client's own messages in the rest of the log
 

@@ -6,7 +6,7 @@ use Rattle.ft_msg.specs.Agreed.{agreed}
 use Rattle.ft_laws.proofs.ClientsAgree.{clients-agree}
 use Rattle.std.proofs.lemmas.List.{length-take}
 use Rattle.ft_worlds.proofs.CountedOthers.{entries-other}
-use Rattle.ft_worlds.proofs.Lists.{each-weaker}
+use Rattle.ft_summaries.proofs.Lists.{each-weaker}
 use Rattle.ft_worlds.proofs.SkippedEntries.{first-skip}
 use Rattle.ft_seqr.specs.declared.events.Event.{Event}
 use Rattle.ft_seqr.specs.World.{NamedClient, NaiveWorld}

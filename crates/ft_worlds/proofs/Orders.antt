@@ -16,7 +16,7 @@ use Rattle.ft_msg.specs.ClientSteps.{has_fitting_body}
 use Rattle.ft_laws.specs.Sequencing.{Each}
 use Rattle.ft_laws.proofs.NumberTests.{same_number}
 use Rattle.ft_worlds.specs.LogOrder.{StandsNext, IsOrder, RefersWithin}
-use Rattle.ft_worlds.proofs.Lists.{each-filtered, each-found, each-mapped, each-more, each-weaker}
+use Rattle.ft_summaries.proofs.Lists.{each-filtered, each-found, each-mapped, each-more, each-weaker}
 
 -- ---- entries that lead from one number and minimum to others
 

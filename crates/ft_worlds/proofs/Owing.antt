@@ -20,7 +20,7 @@ use Rattle.ft_msg.specs.Reconnection.{carried_stage, sent_draft, regenerated_edi
 use Rattle.ft_msg.specs.WellFormed.{has_body}
 use Rattle.ft_seqr.specs.World.{NamedClient, body_load, in_place, inserted_count, is_client, op_load}
 use Rattle.ft_laws.specs.Sequencing.{Each}
-use Rattle.ft_worlds.proofs.Lists.{filter-more}
+use Rattle.ft_summaries.proofs.Lists.{filter-more}
 use Rattle.ft_worlds.proofs.ConnectionNames.{any-placed}
 use Rattle.ft_worlds.proofs.Links.{IsAnswered, IsFirstQueued, IsQueued, is_owed, owed, owed-more}
 

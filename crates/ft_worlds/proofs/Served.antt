@@ -27,7 +27,7 @@ use Rattle.ft_msg.specs.ClientSteps.{ClientStep, Edits, Connects, Drops, Idles, 
 use Rattle.ft_laws.specs.Sequencing.{Each}
 use Rattle.ft_laws.proofs.AnyAndAll.{all-append}
 use Rattle.ft_worlds.specs.LogOrder.{StandsNext, RefersWithin}
-use Rattle.ft_worlds.proofs.Lists.{each-any, each-weaker}
+use Rattle.ft_summaries.proofs.Lists.{each-any, each-weaker}
 use Rattle.ft_worlds.proofs.Orders.{Leads, leads-more}
 use Rattle.ft_worlds.proofs.Links.{IsLinked, is_owed, joined-none, linked-foreign, linked-join, linked-more, linked-oldest, linked-own}
 use Rattle.ft_worlds.proofs.Owing.{owing, owing-foreign, owing-join, owing-own}

@@ -2,22 +2,18 @@
 use Rattle.std.proofs.Common.{◌≡◌, ℕ, ◌+◌, ◌≤◌, true, ℤ, pos, negsuc, List, [], ◌∷◌, ◌++◌, take, refl, sym, ◌∙◌, ap, subst}
 use Rattle.ft_msg.specs.declared.messages.Entry.{Entry}
 use Rattle.ft_op.specs.Document.{Document}
-use Rattle.ft_props.specs.Properties.{Characters}
 use Rattle.ft_msg.specs.Agreed.{agreed, reference_number, take_entries, take_entry}
 use Rattle.ft_msg.specs.Content.{shown}
-use Rattle.ft_msg.specs.Summary.{GivesDocument, segment_items, trim}
 use Rattle.ft_msg.specs.Process.{is_op, is_op_kind}
 use Rattle.ft_laws.specs.Trimming.{AreFrom, IsConsistent}
 use Rattle.ft_laws.proofs.ClientsAgree.{idle-clients-agree, op-kind}
-use Rattle.ft_laws.proofs.ConsistentDocument.{agreed-consistent, trim-consistent}
+use Rattle.ft_laws.proofs.ConsistentDocument.{agreed-consistent}
 use Rattle.ft_laws.proofs.TrimmedFromNow.{trim-shows}
 use Rattle.ft_seqr.specs.World.{known_names}
 use Rattle.ft_worlds.specs.LogOrder.{StandsNext, RefersWithin}
 use Rattle.ft_worlds.specs.Summaries.{SummariesGiveDocuments, SummariesGoOn}
-use Rattle.ft_worlds.proofs.SummaryLists.{IsPlain, agreed-plain, runs-back, text-back, trim-plain}
-use Rattle.ft_worlds.proofs.SummaryCells.{cells-back}
-use Rattle.ft_worlds.proofs.SummaryIntervals.{intervals-back, segments-distinct}
-use Rattle.ft_msg.specs.SummaryOf.{segments_from, summary_of}
+use Rattle.ft_summaries.proofs.RunSummaries.{document-given}
+use Rattle.ft_summaries.proofs.SummaryLists.{IsPlain, agreed-plain}
 use Rattle.ft_worlds.specs.Worlds.{reached}
 use Rattle.ft_worlds.proofs.Orders.{Leads}
 use Rattle.ft_worlds.proofs.WorldEvents.{ahead-is, found-serves}
@@ -53,21 +49,6 @@ summaries-go-on events name c next rest f none ahead =
     (subst (λ es. Leads x.doc.number x.doc.minimum es w.sequencer.number w.sequencer.minimum) (sym (ahead-is ⊥ r.owner w c s.rest s.served) ∙ ahead) s.served.order) in
     trim-shows x.doc next (subst IsConsistent (sym doc) (agreed-consistent entries)) order
     ∙ (ap (λ d. shown (take_entries d next)) doc ∙ ap shown (sym (take-more entries next _)))
-
--- what the summary of a document of messages gives
-document-given : (conns : List Characters) (doc : Document) → IsPlain doc → IsConsistent doc → GivesDocument (summary_of conns doc) doc
-document-given conns doc h d =
-    let t = trim-plain doc h in
-    let e = trim-consistent doc d in
-    let text = text-back (trim doc).text.items t.text in
-    rw (
-      text,
-      runs-back (trim doc).rows.items t.rows,
-      runs-back (trim doc).cols.items t.cols,
-      intervals-back (trim doc).text.items (segment_items 0 (segments_from 0 (trim doc).text.items)) text e.text.distinct
-          (segments-distinct (segments_from 0 (trim doc).text.items)) t.text (trim doc).intervals e.ends,
-      cells-back doc t.rows t.cols,
-    ) refl
 
 pub summaries-give-documents : SummariesGiveDocuments
 summaries-give-documents events name c f none =

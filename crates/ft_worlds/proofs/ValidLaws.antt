@@ -1,5 +1,5 @@
 -- The summary of an idle client of a world is valid and well cut.
-use Rattle.std.proofs.Common.{◌≡◌, ℕ, zero, suc, ◌+◌, ◌≤◌, ◌^◌, max, Bool, true, false, not, ◌||◌, bytes_eq, List, [], ◌∷◌, fold, length, take, Some, find, refl, sym, ◌∙◌, ap, subst, arith, lt-ltb}
+use Rattle.std.proofs.Common.{◌≡◌, ℕ, zero, suc, ◌+◌, ◌≤◌, ◌^◌, max, Bool, true, false, not, ◌||◌, bytes_eq, List, [], ◌∷◌, fold, length, take, Some, find, refl, sym, ◌∙◌, ap, subst, arith}
 use Rattle.std.specs.List.{list_any}
 use Rattle.std.proofs.lemmas.List.{length-take}
 use Rattle.ft_base.proofs.Booleans.{both}
@@ -12,23 +12,23 @@ use Rattle.ft_laws.specs.Sequencing.{Each}
 use Rattle.ft_worlds.specs.FormedLogs.{AllMayBeTaken}
 use Rattle.ft_worlds.specs.LogOrder.{IsOrder}
 use Rattle.ft_worlds.specs.Load.{IsCountedWithin}
-use Rattle.ft_worlds.proofs.HeldElements.{IsSizedWithin, size}
-use Rattle.ft_worlds.proofs.Lists.{each-found, each-taken}
+use Rattle.ft_worlds.proofs.HeldElements.{IsSizedWithin}
+use Rattle.ft_summaries.proofs.Lists.{each-found, each-taken, size}
 use Rattle.ft_worlds.proofs.Orders.{Leads, leads-up}
-use Rattle.ft_worlds.proofs.ValidDocuments.{IsMadeBy, empty-made, entries-made}
-use Rattle.ft_worlds.proofs.ValidSummaries.{IsSmall, summary-valid}
+use Rattle.ft_summaries.proofs.ValidDocuments.{AreNext, IsFrom, IsMadeBy, empty-made, entries-made}
+use Rattle.ft_summaries.specs.Summaries.{IsSmall}
+use Rattle.ft_summaries.proofs.ValidSummaries.{summary-valid}
 use Rattle.ft_seqr.specs.declared.events.Event.{Event}
 use Rattle.ft_props.specs.Properties.{Characters}
 use Rattle.ft_msg.specs.Agreed.{agreed}
 use Rattle.ft_msg.specs.ClientSteps.{is_without_edits}
-use Rattle.ft_msg.specs.Summary.{trim}
 use Rattle.ft_laws.proofs.ClientsAgree.{idle-clients-agree}
 use Rattle.ft_seqr.specs.World.{NamedClient, greatest_origin, is_client, known_names, new_world}
 use Rattle.ft_worlds.specs.Summaries.{SummariesAreValid, SummariesAreWellCut}
 use Rattle.ft_worlds.specs.Worlds.{reached}
 use Rattle.ft_worlds.proofs.LoadLaws.{counts-within-load, number-within-load, sizes-within-load}
-use Rattle.ft_worlds.proofs.SummaryCuts.{text-cut, units-differ}
-use Rattle.ft_worlds.proofs.SummaryLists.{IsPlain, agreed-plain, trim-plain}
+use Rattle.ft_summaries.proofs.RunSummaries.{document-cut}
+use Rattle.ft_summaries.proofs.SummaryLists.{IsPlain, agreed-plain}
 use Rattle.ft_worlds.proofs.WorldEvents.{IsReachedWorld, first-reached, found-serves, reaches}
 use Rattle.ft_worlds.proofs.WorldLaws.{of-log, world-reached}
 
@@ -55,13 +55,7 @@ summaries-are-well_cut events name c f none small =
     let doc = c.client.doc in
     let plain : IsPlain doc = subst IsPlain (sym (idle-agreed events name c f none)) (agreed-plain (take doc.number w.log)) in
     let names = names-within-load events in
-    let t = trim-plain doc plain in
-    record {
-      conns = lt-ltb (length (known_names w c.client)) (2 ^ 53) (simp length-take (omega arith));
-      text = text-cut (trim doc).text.items t.text;
-      rows = units-differ (trim doc).rows.items;
-      cols = units-differ (trim doc).cols.items;
-    }
+    document-cut (known_names w c.client) doc plain (simp length-take (omega arith))
 
 -- ---- names
 
@@ -102,6 +96,14 @@ order-taken zero es n m k l h = tt
 order-taken (suc j) [] n m k l h = tt
 order-taken (suc j) (e ∷ es) n m k l h = (h.0, order-taken j es (n + 1) e.msg.min k l h.1)
 
+order-next : (n m : ℕ) (es : List Entry) → IsOrder n m es → AreNext n m es
+order-next n m [] h = tt
+order-next n m (e ∷ es) h = (record { seq = h.0.seq; later = h.0.later; below = h.0.below }, order-next (n + 1) e.msg.min es h.1)
+
+all-from : (n : ℕ) (es : List Entry) → Each (λ e. IsWellFormedBody e.msg.body) es → Each (λ e. 1 ≤ e.origin) es → Each (λ e. e.origin ≤ n) es → Each (IsFrom n) es
+all-from n [] b s o = tt
+all-from n (e ∷ es) b s o = (record { body = b.0; known = λ op. s.0; within = o.0 }, all-from n es b.1 s.1 o.1)
+
 -- the document of an idle client is made of them
 idle-made : (events : List Event) (name : Characters) (c : NamedClient) → AllMayBeTaken new_world events → find (is_client name) (reached events).clients ≡ Some c
     → is_without_edits c.client ≡ true → IsMadeBy (length (known_names (reached events) c.client)) c.client.doc
@@ -115,9 +117,9 @@ idle-made events name c may f none =
     let known : length (known_names w c.client) ≡ greatest_origin (take n w.log) = simp length-take (omega (arith, fits)) in
     subst (λ (d : Document). IsMadeBy (length (known_names w c.client)) d) (sym (idle-agreed events name c f none))
     (subst (λ k. IsMadeBy k (agreed (take n w.log))) (sym known)
-    (entries-made (greatest_origin (take n w.log)) (take n w.log) empty (order-taken n w.log 0 0 w.sequencer.number w.sequencer.minimum r.base.order)
-    (each-taken (λ e. IsWellFormedBody e.msg.body) n w.log (r.bodies tt)) (each-taken (λ e. 1 ≤ e.origin) n w.log r.base.sources)
-    (greatest-each (take n w.log) 0) (empty-made (greatest_origin (take n w.log)))))
+    (entries-made (greatest_origin es) es empty (order-next 0 0 es (order-taken n w.log 0 0 w.sequencer.number w.sequencer.minimum r.base.order))
+    (all-from (greatest_origin es) es (each-taken (λ e. IsWellFormedBody e.msg.body) n w.log (r.bodies tt))
+    (each-taken (λ e. 1 ≤ e.origin) n w.log r.base.sources) (greatest-each es 0)) (empty-made (greatest_origin es))))
 
 sized-length : (xs : List ListElement) → size xs ≡ length xs
 sized-length [] = refl

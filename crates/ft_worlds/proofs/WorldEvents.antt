@@ -43,7 +43,7 @@ use Rattle.ft_laws.proofs.CountedEntries.{entries-counted}
 use Rattle.ft_laws.proofs.EveryClientReady.{pending-stays-on_top}
 use Rattle.ft_laws.proofs.NumberTests.{same_number}
 use Rattle.ft_worlds.specs.Worlds.{refusals_of}
-use Rattle.ft_worlds.proofs.Lists.{each-any, each-found, each-more, each-weaker}
+use Rattle.ft_summaries.proofs.Lists.{each-any, each-found, each-more, each-weaker}
 use Rattle.ft_worlds.proofs.Orders.{IsBase, gone, leave-found, submit-sequenced}
 use Rattle.ft_worlds.proofs.Links.{is_owed, owed}
 use Rattle.ft_worlds.proofs.Owing.{AreDistinct, OthersSame, behind, behind-none, body-loaded, body_count, body_inserts, debt, distinct-more, distinct-placed, each-within, edit_cost, entry_cost, inserts-loaded, owing, owing-more, owing_of, total, total-append, total-placed, total-same}
@@ -60,7 +60,7 @@ use Rattle.ft_laws.specs.Sequencing.{IsReady}
 use Rattle.ft_laws.proofs.EveryClientReady.{every-client-ready}
 use Rattle.ft_laws.proofs.ReconnectedClient.{reconnection-keeps-views}
 use Rattle.ft_worlds.specs.FormedLogs.{AllMayBeTaken, MayBeTaken}
-use Rattle.ft_worlds.proofs.FormedClients.{IsFormed, IsFormedEdit, edit-formed, foreign-formed, join-formed, own-formed}
+use Rattle.ft_summaries.proofs.FormedClients.{IsFormed, IsFormedEdit, edit-formed, foreign-formed, join-formed, own-formed}
 use Rattle.ft_worlds.proofs.Sizes.{served-sized}
 
 module _ (F : Type 0) where
@@ -1163,10 +1163,10 @@ module _ (F : Type 0) where
   pub first-reached : IsReachedWorld 0 new_world
   first-reached = record {
     owner = λ conn. None;
-    base = record { order = (refl, refl); within = omega arith; joined = tt; origins = tt; sources = tt; wanted_count = omega arith; told = tt; sent = tt };
+    base = record { order = (refl, refl); within = omega arith; joined = tt; origins = tt; sources = tt; counted = omega arith; told = tt; sent = tt };
     clients = tt;
     guests = tt;
-    named = record { taken = tt; wanted_count = tt; apart = λ l. refl };
+    named = record { taken = tt; counted = tt; apart = λ l. refl };
     distinct = tt;
     paid = omega arith;
     bodies = λ f. tt;

@@ -17,7 +17,7 @@ use Rattle.ft_laws.proofs.ClientsAgree.{clients-agree, idle-clients-show, idle-v
 use Rattle.ft_laws.proofs.CountedEntries.{entries-counted}
 use Rattle.ft_laws.proofs.EveryClientReady.{pending-stays-on_top}
 use Rattle.ft_worlds.specs.Worlds.{AttributionsAgree, ClientsAreOfLog, ClientsAttributeTheSame, CountsAreAgreed, HasCountsOf, ClientsShowTheSame, EventsHaveTheirRefusals, IsOfLog, LogIsInOrder, ViewsAreApplied, reached}
-use Rattle.ft_worlds.proofs.Lists.{each-found, each-weaker}
+use Rattle.ft_summaries.proofs.Lists.{each-found, each-weaker}
 use Rattle.ft_worlds.proofs.Orders.{leads-order}
 use Rattle.ft_worlds.proofs.WorldEvents.{IsReachedWorld, Serves, Turns, first-reached, reaches, steps-turn}
 

@@ -2,6 +2,7 @@ pub mod LogOrder
 pub mod Load
 pub mod Summaries
 pub mod FormedLogs
+pub mod FormedReads
 pub mod Worlds
 pub mod Reports
 pub mod Offers

@@ -25,12 +25,12 @@ use Rattle.ft_sumdoc.specs.Valid.{HasValues}
 use Rattle.ft_laws.specs.Sequencing.{Each, are_ends_in}
 use Rattle.ft_laws.specs.Trimming.{are_distinct_elements}
 use Rattle.ft_laws.proofs.NamedByPlace.{names-not_renamed}
-use Rattle.ft_worlds.proofs.FormedClients.{ends-carried, order-carried, settled-there}
-use Rattle.ft_worlds.proofs.Lists.{each-filtered, each-mapped, each-weaker}
-use Rattle.ft_worlds.proofs.OrderedEnds.{AreInOrder, Carries}
-use Rattle.ft_worlds.proofs.SummaryIntervals.{plain-seen}
-use Rattle.ft_worlds.proofs.SummaryLists.{is_authored, is_empty, is_none, is_of_text, is_plain, is_settled}
-use Rattle.ft_worlds.proofs.ValidValues.{apply-values}
+use Rattle.ft_summaries.proofs.FormedClients.{ends-carried, order-carried, settled-there}
+use Rattle.ft_summaries.proofs.Lists.{each-filtered, each-mapped, each-weaker}
+use Rattle.ft_summaries.proofs.OrderedEnds.{AreInOrder, Carries}
+use Rattle.ft_summaries.proofs.SummaryIntervals.{plain-seen}
+use Rattle.ft_summaries.proofs.SummaryLists.{is_authored, is_empty, is_none, is_of_text, is_plain, is_settled}
+use Rattle.ft_summaries.proofs.ValidValues.{apply-values}
 
 -- ---- rising lists
 

@@ -218,7 +218,8 @@ at-named test (suc i) (x ∷ xs) e h = or_right (has_id (id e) x) (list_any (has
 pub at-leads : (test : ListElement → Bool) (i j : ℕ) (xs : List ListElement) (d e : ListElement) → i ≤ j → are_distinct_elements xs ≡ true → at test i xs ≡ Some d
     → at test j xs ≡ Some e → leads (id d) (id e) xs ≡ true
 at-leads test i j [] d e l s h g = (cc)
-at-leads test i j (x ∷ xs) d e l s h g = by (λ m n k p q. at-leads test m n xs d e k (both (not (list_any (has_id (id x)) xs)) (are_distinct_elements xs) s).1 p q) (test x) refl i j l h g
+at-leads test i j (x ∷ xs) d e l s h g = by (λ m n k p q. at-leads test m n xs d e k (both (not (list_any (has_id (id x)) xs)) (are_distinct_elements xs) s).1 p q) (test x) refl
+    i j l h g
   where
     later : ((m n : ℕ) → m ≤ n → at test m xs ≡ Some d → at test n xs ≡ Some e → leads (id d) (id e) xs ≡ true) → (m n : ℕ) → m ≤ n → at test m xs ≡ Some d
         → at test n xs ≡ Some e → leads (id d) (id e) (x ∷ xs) ≡ true
@@ -351,7 +352,8 @@ ordered-at ok i j xs l s = by (at ok i xs) (at ok j xs) (last_ok ok None xs) ref
     by None (Some e) o p q r = let a = at-above ok i xs p in let b = at-below ok j xs e q in absurd (omega (arith, a, b, l))
 
 -- two names in order settle in order
-pub leads-settled : (k : ℕ) (a b : ElementId) (xs : List ListElement) → are_distinct_elements xs ≡ true → list_any (has_id a) xs ≡ true → list_any (has_id b) xs ≡ true → leads a b xs ≡ true
+pub leads-settled : (k : ℕ) (a b : ElementId) (xs : List ListElement) → are_distinct_elements xs ≡ true → list_any (has_id a) xs ≡ true → list_any (has_id b) xs ≡ true
+    → leads a b xs ≡ true
     → AreInOrder xs (settle xs k (Some a)) (settle xs k (Some b))
 leads-settled k a b xs s f g l =
     subst (λ o. AreInOrder xs (option_map id o) (settle xs k (Some b))) (sym (settled-at (has_id a) (seen k) None xs f))

@@ -20,8 +20,8 @@ use Rattle.ft_msg.specs.Summary.{cell_at, cells_of, run_items, trim}
 use Rattle.ft_msg.specs.SummaryOf.{unit_runs}
 use Rattle.ft_laws.proofs.CompactedScans.{id-universal}
 use Rattle.ft_laws.proofs.SlidEnds.{same_id-eq, same_id-refl}
-use Rattle.ft_worlds.proofs.SummaryLists.{is_empty, is_none, is_of_text, is_plain_unit, is_settled, runs-back}
-use Rattle.ft_worlds.proofs.SummaryIntervals.{AreNumbered, runs-numbered, settled-seen}
+use Rattle.ft_summaries.proofs.SummaryLists.{is_empty, is_none, is_of_text, is_plain_unit, is_settled, runs-back}
+use Rattle.ft_summaries.proofs.SummaryIntervals.{AreNumbered, runs-numbered, settled-seen}
 
 -- ---- what is shown of cells goes by the names of rows and columns
 

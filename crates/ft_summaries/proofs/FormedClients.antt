@@ -52,9 +52,8 @@ use Rattle.ft_laws.proofs.OwnSubOperations.{ok-choice}
 use Rattle.ft_laws.proofs.SlidEnds.{true-false}
 use Rattle.ft_laws.proofs.OwnNames.{has_named}
 use Rattle.ft_laws.proofs.SettledEnds.{ends-fit, is_end_at, named-filter, only-named, settle-at}
-use Rattle.ft_worlds.proofs.Lists.{each-joined, each-weaker}
-use Rattle.ft_worlds.proofs.HeldElements.{size}
-use Rattle.ft_worlds.proofs.OrderedEnds.{AreInOrder, Carries, Next, any-carried, at-above, at-leads, at-named, carries-itself, carries-map, carries-put, carries-range, carries-then, leads, leads-carried, leads-filter, leads-settled, rank-leads}
+use Rattle.ft_summaries.proofs.Lists.{each-joined, each-weaker, size}
+use Rattle.ft_summaries.proofs.OrderedEnds.{AreInOrder, Carries, Next, any-carried, at-above, at-leads, at-named, carries-itself, carries-map, carries-put, carries-range, carries-then, leads, leads-carried, leads-filter, leads-settled, rank-leads}
 
 -- ---- what is well formed
 
@@ -170,7 +169,8 @@ pub edits-renamed : (h : ElementId → ElementId) (xs ys : List ListElement) →
 edits-renamed h xs ys c d [] f = tt
 edits-renamed h xs ys c d (e ∷ es) f = (record { stages = stages-renamed h xs ys c d e.stages f.0.stages; sent = f.0.sent }, edits-renamed h xs ys c d es f.1)
 
-pub edits-moved : (xs ys : List ListElement) → Carries (λ a. a) xs ys → are_distinct_elements ys ≡ true → (es : List PendingEdit) → Each (IsFormedEdit xs) es → Each (IsFormedEdit ys) es
+pub edits-moved : (xs ys : List ListElement) → Carries (λ a. a) xs ys → are_distinct_elements ys ≡ true → (es : List PendingEdit) → Each (IsFormedEdit xs) es
+    → Each (IsFormedEdit ys) es
 edits-moved xs ys c d es f =
     each-weaker (IsFormedEdit xs) (IsFormedEdit ys) (λ e g. record {
       stages = each-weaker (IsFormedStage xs) (IsFormedStage ys)
@@ -277,7 +277,7 @@ local-grid-taken doc k (SpliceOut Cols p q) taken h = grid-taken doc _ (SpliceOu
 local-grid-taken doc k (Set i j value) taken h = set-taken doc k i j value (at (seen (k - 1)) i doc.rows.items) (at (seen (k - 1)) j doc.cols.items) taken h
 
 -- both ends are places in order
-places-ordered : (test : ListElement → Bool) (xs : List ListElement) (p q : ℕ) → p ≤ q → nat_lt q (len test xs) ≡ true → are_distinct_elements xs ≡ true
+pub places-ordered : (test : ListElement → Bool) (xs : List ListElement) (p q : ℕ) → p ≤ q → nat_lt q (len test xs) ≡ true → are_distinct_elements xs ≡ true
     → (are_ends_in xs (option_map id (at test p xs)) (option_map id (at test q xs)) ≡ true) × AreInOrder xs (option_map id (at test p xs)) (option_map id (at test q xs))
 places-ordered test xs p q l g d = by (at test p xs) (at test q xs) refl refl
   where
@@ -290,7 +290,8 @@ places-ordered test xs p q l g d = by (at test p xs) (at test q xs) refl refl
     by None u e f = let a = at-above test p xs e in let b = low g in absurd (omega (arith, a, b, l))
     by (Some a) None e f = let b = low g in let c = at-above test q xs f in absurd (omega (arith, b, c))
 
-ends-ordered : (test : ListElement → Bool) (xs : List ListElement) (ends : Ends) → IsWellFormedEnds ends → given_ends_fit (len test xs) (Some ends) ≡ true → are_distinct_elements xs ≡ true
+ends-ordered : (test : ListElement → Bool) (xs : List ListElement) (ends : Ends) → IsWellFormedEnds ends → given_ends_fit (len test xs) (Some ends) ≡ true
+    → are_distinct_elements xs ≡ true
     → (are_ends_in xs (elements_at_ends test xs ends).first (elements_at_ends test xs ends).second ≡ true)
     × AreInOrder xs (elements_at_ends test xs ends).first (elements_at_ends test xs ends).second
 ends-ordered test xs ends f g d = by ends.start ends.end f g

@@ -24,10 +24,10 @@ use Rattle.ft_sumdoc.specs.Valid.{HasValues, IsSegment, are_stamps, is_author, i
 use Rattle.ft_sumdoc.specs.WellFormed.{are_alike, are_characters, same_props, same_stamps}
 use Rattle.ft_msg.specs.SummaryOf.{author_mark, element_body, extended_unit_runs, extended_segments, joined_bodies, mark_of, segment_of, segments_from, unit_runs}
 use Rattle.ft_laws.specs.Sequencing.{Each}
-use Rattle.ft_worlds.proofs.SummaryCuts.{one-element}
-use Rattle.ft_worlds.proofs.SummaryLists.{all-marks-same, is_authored, is_empty, is_none, is_of_text, is_plain, is_plain_unit, is_settled}
-use Rattle.ft_worlds.proofs.ValidDocuments.{IsValidText}
-use Rattle.ft_worlds.proofs.ValidElements.{IsDated, is_dated}
+use Rattle.ft_summaries.proofs.SummaryCuts.{one-element}
+use Rattle.ft_summaries.proofs.SummaryLists.{all-marks-same, is_authored, is_empty, is_none, is_of_text, is_plain, is_plain_unit, is_settled}
+use Rattle.ft_summaries.proofs.ValidDocuments.{HasAuthor, IsValidText, is_old_author, old, own}
+use Rattle.ft_summaries.proofs.ValidElements.{IsDated, is_dated, is_dated_insertion}
 
 -- ---- trimmed elements
 
@@ -95,7 +95,11 @@ module _ (min seq conns : ℕ) where
       by true false e f = refl
       by false t e f = (cc)
 
-  dated-acked : (t : Stamp) → is_dated (seq + 1) 0 conns t ≡ true → is_acked t ≡ true
+  -- an insertion above the minimum isn't the universal one
+  dated-insertion : (t d : ℕ) → min < t → is_dated_insertion (seq + 1) 0 conns (Acked t d) ≡ true → is_dated (seq + 1) 0 conns (Acked t d) ≡ true
+  dated-insertion t d l h = grind (arith, nat_tests)
+
+  dated-acked : (t : Stamp) → is_dated_insertion (seq + 1) 0 conns t ≡ true → is_acked t ≡ true
   dated-acked (Acked s c) h = refl
   dated-acked (Local k) h = (cc)
 
@@ -118,7 +122,7 @@ module _ (min seq conns : ℕ) where
 
       by : (t : Stamp) (b : Bool) → e.ins ≡ t → is_insertion_at_or_below min e.ins ≡ b
           → are_stamps tested (mark_of (cond b (with_universal_insertion e) e).ins) (map mark_of (cond b (with_universal_insertion e) e).dels) ≡ true
-      by (Local j) b i l = absurd (pending (subst (λ u. is_dated (seq + 1) 0 conns u ≡ true) i h.ins))
+      by (Local j) b i l = absurd (pending (subst (λ u. is_dated_insertion (seq + 1) 0 conns u ≡ true) i h.ins))
         where
           pending : false ≡ true → ⊥
           pending g = (cc)
@@ -126,13 +130,26 @@ module _ (min seq conns : ℕ) where
       by (Acked t d) false i l =
           let low = above t d (subst (λ u. is_insertion_at_or_below min u ≡ false) i l) in
           let ins : is_recent tested (mark_of e.ins) ≡ true = ap (λ u. is_recent tested (mark_of u)) i
-          ∙ dated-recent t d low (subst (λ u. is_dated (seq + 1) 0 conns u ≡ true) i h.ins) in
+          ∙ dated-recent t d low (dated-insertion t d low (subst (λ u. is_dated_insertion (seq + 1) 0 conns u ≡ true) i h.ins)) in
           rw (either (is_universal (mark_of e.ins)) (is_recent tested (mark_of e.ins)) ins, recent e.dels refl, h.rising) refl
 
+  -- an author that is old or not known
+  old-author : (u : Stamp) → is_old_author min conns u ≡ true → is_universal (mark_of u) || is_old tested (mark_of u) ≡ true
+  old-author (Acked t d) h = grind (arith, nat_tests)
+  old-author (Local k) h = (cc)
+
   -- its author
-  author-valid : (e : ListElement) → IsDated (seq + 1) 0 conns e → e.by ≡ Some e.ins
+  author-valid : (e : ListElement) → HasAuthor (seq + 1) 0 conns min e.ins e.by
       → is_author tested (mark_of (trim_element min e).ins) (author_mark (trim_element min e).by) ≡ true
-  author-valid e h a = by e.ins (is_insertion_at_or_below min e.ins) refl refl
+  author-valid e (old author i q o) = by (is_insertion_at_or_below min e.ins)
+    where
+      either : is_universal (author_mark e.by) || is_old tested (author_mark e.by) ≡ true
+      either = ap (λ b. is_universal (author_mark b) || is_old tested (author_mark b)) q ∙ old-author author o
+
+      by : (b : Bool) → is_author tested (mark_of (cond b (with_universal_insertion e) e).ins) (author_mark (cond b (with_universal_insertion e) e).by) ≡ true
+      by true = either
+      by false = ap (λ u. is_author tested (mark_of u) (author_mark e.by)) i ∙ either
+  author-valid e (own a h) = by e.ins (is_insertion_at_or_below min e.ins) refl refl
     where
       known : (o : Option Stamp) → o ≡ Some e.ins → author_mark o ≡ mark_of e.ins
       known o q = ap author_mark q
@@ -143,18 +160,18 @@ module _ (min seq conns : ℕ) where
       mark-same : (m : Mark) → same_mark m m ≡ true
       mark-same m = rw (number-same m.seq, number-same m.conn) refl
 
-      own : (m : Mark) (u : Bool) → is_universal m ≡ u → cond u (is_universal m || is_old tested m) (same_mark m m) ≡ true
-      own m true q = ap (λ b. b || is_old tested m) q
-      own m false q = mark-same m
+      itself : (m : Mark) (u : Bool) → is_universal m ≡ u → cond u (is_universal m || is_old tested m) (same_mark m m) ≡ true
+      itself m true q = ap (λ b. b || is_old tested m) q
+      itself m false q = mark-same m
 
       either : (b c : Bool) → c ≡ true → b || c ≡ true
       either true c g = refl
       either false c g = g
 
-      old : (t d : ℕ) → e.ins ≡ Acked t d → is_insertion_at_or_below min e.ins ≡ true → is_old tested (mark_of e.ins) ≡ true
-      old t d i l =
+      below : (t d : ℕ) → e.ins ≡ Acked t d → is_insertion_at_or_below min e.ins ≡ true → is_old tested (mark_of e.ins) ≡ true
+      below t d i l =
           ap (λ u. is_old tested (mark_of u)) i
-          ∙ dated-old t d (subst (λ u. is_insertion_at_or_below min u ≡ true) i l) (subst (λ u. is_dated (seq + 1) 0 conns u ≡ true) i h.ins)
+          ∙ dated-old t d (subst (λ u. is_insertion_at_or_below min u ≡ true) i l) (subst (λ u. is_dated (seq + 1) 0 conns u ≡ true) i h)
 
       by : (t : Stamp) (b : Bool) → e.ins ≡ t → is_insertion_at_or_below min e.ins ≡ b
           → is_author tested (mark_of (cond b (with_universal_insertion e) e).ins) (author_mark (cond b (with_universal_insertion e) e).by) ≡ true
@@ -163,16 +180,16 @@ module _ (min seq conns : ℕ) where
           pending : false ≡ true → ⊥
           pending g = (cc)
       by (Acked t d) true i l =
-          ap (λ m. is_universal m || is_old tested m) (known e.by a) ∙ either (is_universal (mark_of e.ins)) (is_old tested (mark_of e.ins)) (old t d i l)
-      by t false i l = ap (is_author tested (mark_of e.ins)) (known e.by a) ∙ own (mark_of e.ins) (is_universal (mark_of e.ins)) refl
+          ap (λ m. is_universal m || is_old tested m) (known e.by a) ∙ either (is_universal (mark_of e.ins)) (is_old tested (mark_of e.ins)) (below t d i l)
+      by t false i l = ap (is_author tested (mark_of e.ins)) (known e.by a) ∙ itself (mark_of e.ins) (is_universal (mark_of e.ins)) refl
 
   -- its segment
-  pub segment-valid : (e : ListElement) → IsValidText (seq + 1) 0 conns e → not (is_collectable min e) ≡ true → IsSegment tested (segment_of (trim_element min e))
+  pub segment-valid : (e : ListElement) → IsValidText (seq + 1) 0 conns min e → not (is_collectable min e) ≡ true → IsSegment tested (segment_of (trim_element min e))
   segment-valid e h k = record {
     body = same-content (is_insertion_at_or_below min e.ins);
     props = same-props (is_insertion_at_or_below min e.ins);
     stamps = stamps-valid e h.dated k;
-    author = author-valid e h.dated h.by;
+    author = author-valid e h.by;
   }
     where
       same-content : (b : Bool) → is_segment_body (element_body (cond b (with_universal_insertion e) e).content) ≡ true

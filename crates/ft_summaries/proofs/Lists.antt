@@ -2,8 +2,13 @@
 use Rattle.std.proofs.Common.{◌≡◌, ℕ, zero, suc, Bool, true, false, cond, ◌&&◌, ◌||◌, nat_eq, List, [], ◌∷◌, ◌++◌, Some, map, filter, take, find, refl, sym, ◌∙◌, ap, subst, arith}
 use Rattle.std.specs.List.{list_any}
 use Rattle.std.proofs.lemmas.Bool.Decides.{nat_tests}
-use Rattle.ft_base.specs.Scan.{change_range_from, one_more_if, put, put_past, within}
+use Rattle.ft_base.specs.Scan.{change_range_from, len, one_more_if, put, put_past, within}
+use Rattle.ft_props.specs.Element.{ListElement}
 use Rattle.ft_laws.specs.Sequencing.{Each}
+
+-- how many elements a list has, seen or not
+abbrev pub size : List ListElement → ℕ
+size xs = len (λ e. true) xs
 
 -- ---- a fact of each element
 

@@ -17,7 +17,7 @@ use Rattle.ft_sumdoc.specs.WellFormed.{are_alike, are_characters, are_cut_from, 
 use Rattle.ft_sumdoc.specs.Stamps.{same_mark}
 use Rattle.ft_props.specs.Element.{Character, ElementContent, GridUnit, ListElement, MarkerOf}
 use Rattle.ft_msg.specs.SummaryOf.{element_body, extended_unit_runs, extended_segments, joined_bodies, mark_of, segment_of, segments_from, unit_runs}
-use Rattle.ft_worlds.proofs.SummaryLists.{is_authored, is_of_text, is_plain, is_settled}
+use Rattle.ft_summaries.proofs.SummaryLists.{is_authored, is_of_text, is_plain, is_settled}
 
 -- ---- places in chunks
 

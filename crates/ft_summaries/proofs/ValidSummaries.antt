@@ -1,5 +1,5 @@
 -- The summary of a document that well-formed messages make is valid, where its numbers, counts and lengths are small enough.
-use Rattle.std.proofs.Common.{◌≡◌, ℕ, ◌+◌, ◌≤◌, ◌<◌, ◌^◌, true, not, ◌&&◌, nat_le, List, [], ◌∷◌, length, map, refl, sym, ◌∙◌, ap, subst, arith, lt-ltb}
+use Rattle.std.proofs.Common.{◌≡◌, ℕ, ◌+◌, ◌≤◌, ◌^◌, true, not, ◌&&◌, nat_le, List, [], ◌∷◌, length, map, refl, sym, ◌∙◌, ap, subst, arith, lt-ltb}
 use Rattle.std.specs.List.{AllByRecursion, list_all}
 use Rattle.std.proofs.lemmas.Bool.Decides.{nat_tests}
 use Rattle.ft_base.proofs.Booleans.{both}
@@ -19,12 +19,13 @@ use Rattle.ft_msg.specs.Summary.{trim}
 use Rattle.ft_msg.specs.SummaryOf.{mark_of, segment_of, segments_from, summary_of, unit_runs}
 use Rattle.ft_laws.specs.Sequencing.{Each}
 use Rattle.ft_laws.proofs.TrimmedFromNow.{trim-shows}
-use Rattle.ft_worlds.proofs.SummaryIntervals.{settled-seen}
-use Rattle.ft_worlds.proofs.SummaryLists.{is_empty, is_none, is_of_text, is_plain_unit, is_settled, trim-plain}
-use Rattle.ft_worlds.proofs.ValidDocuments.{IsMadeBy, IsValidText}
-use Rattle.ft_worlds.proofs.ValidElements.{IsDated}
-use Rattle.ft_worlds.proofs.ValidSegments.{each-retained, runs-count, runs-unremoved, runs-valid, segment-valid, segments-length, segments-unremoved, segments-valid, stamps-valid, tested, trimmed-length, trimmed-unremoved}
-use Rattle.ft_worlds.proofs.ValidViews.{cells-rise, cells-valid, intervals-rise, intervals-shown}
+use Rattle.ft_summaries.specs.Summaries.{IsSmall}
+use Rattle.ft_summaries.proofs.SummaryIntervals.{settled-seen}
+use Rattle.ft_summaries.proofs.SummaryLists.{is_empty, is_none, is_of_text, is_plain_unit, is_settled, trim-plain}
+use Rattle.ft_summaries.proofs.ValidDocuments.{IsMadeBy, IsValidText}
+use Rattle.ft_summaries.proofs.ValidElements.{IsDated}
+use Rattle.ft_summaries.proofs.ValidSegments.{each-retained, runs-count, runs-unremoved, runs-valid, segment-valid, segments-length, segments-unremoved, segments-valid, stamps-valid, tested, trimmed-length, trimmed-unremoved}
+use Rattle.ft_summaries.proofs.ValidViews.{cells-rise, cells-valid, intervals-rise, intervals-shown}
 
 -- ---- rows and columns
 
@@ -42,15 +43,6 @@ units-seen xs h = length-filter_seen (seen 0) xs ∙ same xs h
         ap (λ b. one_more_if b (len (seen 0) ys)) (unit-seen e p.0) ∙ ap (one_more_if (is_unremoved e)) (same ys p.1)
 
 -- ---- summaries
-
--- what is asked of the numbers of a document
-pub record IsSmall (doc : Document) : Type 0 where
-  pub number : doc.number < 2 ^ 53
-  pub skipped : doc.skipped < 2 ^ 53
-  pub other : doc.other < 2 ^ 53
-  pub text : length doc.text.items < 2 ^ 53
-  pub rows : length doc.rows.items ≤ 2 ^ 52
-  pub cols : length doc.cols.items ≤ 2 ^ 52
 
 low-enough : (m n : ℕ) → m ≤ n → nat_le m n ≡ true
 low-enough m n l = grind (arith, nat_tests)
@@ -111,7 +103,7 @@ module _ (conns : List Characters) (doc : Document) (made : IsMadeBy (length con
         other = lt-ltb doc.other (2 ^ 53) little.other;
         conns = distinct;
         text = segments-valid b 0 (trim doc).text.items
-            (each-retained (IsValidText (doc.number + 1) 0 (length conns)) (λ e. IsSegment (tested doc.minimum doc.number (length conns)) (segment_of e))
+            (each-retained (IsValidText (doc.number + 1) 0 (length conns) doc.minimum) (λ e. IsSegment (tested doc.minimum doc.number (length conns)) (segment_of e))
             (λ e. not (is_collectable doc.minimum e)) (trim_element doc.minimum)
             (λ e v k. segment-valid doc.minimum doc.number (length conns) e v k) doc.text.items made.valid.text);
         elements = lt-ltb (text_length (segments_from 0 (trim doc).text.items)) (2 ^ 53) (omega (arith, less, long, text));

@@ -6,10 +6,10 @@ use Rattle.std.proofs.lemmas.Bool.Decides.{nat_tests}
 use Rattle.ft_base.proofs.Booleans.{all_three, both}
 use Rattle.ft_base.specs.declared.stamps.Stamp.{Stamp}
 use Rattle.ft_base.specs.declared.stamps.Stamp.TheVariants.{Acked, Local}
-use Rattle.ft_base.specs.Visibility.{has_occurred}
+use Rattle.ft_base.specs.Visibility.{has_occurred, is_acked}
 use Rattle.ft_props.specs.Properties.{PropertyList}
 use Rattle.ft_props.specs.Element.{ElementContent, ListElement, new_elements, removal_stamp, seen_by, with_removal}
-use Rattle.ft_sumdoc.specs.Stamps.{removals_rise}
+use Rattle.ft_sumdoc.specs.Stamps.{is_universal, removals_rise}
 use Rattle.ft_msg.specs.SummaryOf.{mark_of}
 use Rattle.ft_laws.specs.Sequencing.{Each}
 use Rattle.ft_laws.proofs.Booleans.{hidden}
@@ -21,9 +21,13 @@ abbrev pub is_dated : ℕ → ℕ → ℕ → Stamp → Bool
 is_dated s c n (Acked t d) = (nat_lt t s || (nat_eq t s && nat_eq d c)) && nat_lt 0 t && nat_lt 0 d && nat_le d n
 is_dated s c n (Local k) = false
 
+-- whether the insertion is, or the universal one
+abbrev pub is_dated_insertion : ℕ → ℕ → ℕ → Stamp → Bool
+is_dated_insertion s c n t = is_universal (mark_of t) && is_acked t || is_dated s c n t
+
 -- each stamp of the element is, its removals rise from its insertion on, and no connection removed it twice
 pub record IsDated (s c n : ℕ) (e : ListElement) : Type 0 where
-  pub ins : is_dated s c n e.ins ≡ true
+  pub ins : is_dated_insertion s c n e.ins ≡ true
   pub dels : list_all (is_dated s c n) e.dels ≡ true
   pub rising : removals_rise (mark_of e.ins).seq (map mark_of e.dels) ≡ true
 
@@ -33,17 +37,21 @@ pub record IsDate (s c n : ℕ) : Type 0 where
   pub conn : 0 < c
   pub known : c ≤ n
 
-date-dated : (s c n : ℕ) → IsDate s c n → is_dated s c n (Acked s c) ≡ true
+pub date-dated : (s c n : ℕ) → IsDate s c n → is_dated s c n (Acked s c) ≡ true
 date-dated s c n h =
     let a = h.seq in
     let b = h.conn in
     let k = h.known in
     grind (arith, nat_tests)
 
+either : (a : Bool) {b : Bool} → b ≡ true → a || b ≡ true
+either true h = refl
+either false h = h
+
 pub new-dated : (s c n m : ℕ) (by : Option Stamp) (props : PropertyList) (bs : List ElementContent) → IsDate s c n
     → Each (IsDated s c n) (new_elements m (Acked s c) [] by props bs)
 new-dated s c n m by props [] h = tt
-new-dated s c n m by props (b ∷ bs) h = (record { ins = date-dated s c n h; dels = refl; rising = refl }, new-dated s c n (m + 1) by props bs h)
+new-dated s c n m by props (b ∷ bs) h = (record { ins = either _ (date-dated s c n h); dels = refl; rising = refl }, new-dated s c n (m + 1) by props bs h)
 
 -- ---- a removal more
 
@@ -59,7 +67,7 @@ any-front test (t ∷ ts) us h = by (test t) h (λ g. any-front test ts us g)
 earlier : (s c n r t d : ℕ) → is_dated s c n (Acked t d) ≡ true → nat_le t r || nat_eq d c ≡ false → (t < s) × (nat_eq d c ≡ false)
 earlier s c n r t d h g = (grind (arith, nat_tests), grind (arith, nat_tests))
 
-up-to : (s c n : ℕ) (t : Stamp) → is_dated s c n t ≡ true → (mark_of t).seq ≤ s
+up-to : (s c n : ℕ) (t : Stamp) → is_dated_insertion s c n t ≡ true → (mark_of t).seq ≤ s
 up-to s c n (Acked t d) h = grind (arith, nat_tests)
 up-to s c n (Local k) h = (cc)
 
@@ -108,21 +116,24 @@ removal-dated s c n r e d h g =
 
 -- ---- from message to message
 
-dated-weaker : (s c t d n : ℕ) → ((u : Stamp) → is_dated s c n u ≡ true → is_dated t d n u ≡ true) → (e : ListElement) → IsDated s c n e → IsDated t d n e
-dated-weaker s c t d n f e h = record { ins = f e.ins h.ins; dels = all-weaker (is_dated s c n) (is_dated t d n) f e.dels h.dels; rising = h.rising }
+-- an insertion of a wider range
+pub insertion-weaker : (s c t d n : ℕ) → ((u : Stamp) → is_dated s c n u ≡ true → is_dated t d n u ≡ true) → (u : Stamp) → is_dated_insertion s c n u ≡ true
+    → is_dated_insertion t d n u ≡ true
+insertion-weaker s c t d n f u h = by (is_universal (mark_of u) && is_acked u) h
+  where
+    by : (a : Bool) → a || is_dated s c n u ≡ true → a || is_dated t d n u ≡ true
+    by true g = refl
+    by false g = f u g
+
+pub dated-weaker : (s c t d n : ℕ) → ((u : Stamp) → is_dated s c n u ≡ true → is_dated t d n u ≡ true) → (e : ListElement) → IsDated s c n e → IsDated t d n e
+dated-weaker s c t d n f e h = record { ins = insertion-weaker s c t d n f e.ins h.ins; dels = all-weaker (is_dated s c n) (is_dated t d n) f e.dels h.dels; rising = h.rising }
 
 -- before a message
-pub dated-begins : (s c n : ℕ) (e : ListElement) → IsDated s 0 n e → IsDated s c n e
-dated-begins s c n e h = dated-weaker s 0 s c n before e h
-  where
-    before : (u : Stamp) → is_dated s 0 n u ≡ true → is_dated s c n u ≡ true
-    before (Acked i j) g = grind (arith, nat_tests)
-    before (Local k) g = (cc)
+pub stamp-begins : (s c n : ℕ) (u : Stamp) → is_dated s 0 n u ≡ true → is_dated s c n u ≡ true
+stamp-begins s c n (Acked i j) g = grind (arith, nat_tests)
+stamp-begins s c n (Local k) g = (cc)
 
 -- and behind it
-pub dated-ends : (s c n : ℕ) (e : ListElement) → IsDated s c n e → IsDated (s + 1) 0 n e
-dated-ends s c n e h = dated-weaker s c (s + 1) 0 n behind e h
-  where
-    behind : (u : Stamp) → is_dated s c n u ≡ true → is_dated (s + 1) 0 n u ≡ true
-    behind (Acked i j) g = grind (arith, nat_tests)
-    behind (Local k) g = (cc)
+pub stamp-ends : (s c n : ℕ) (u : Stamp) → is_dated s c n u ≡ true → is_dated (s + 1) 0 n u ≡ true
+stamp-ends s c n (Acked i j) g = grind (arith, nat_tests)
+stamp-ends s c n (Local k) g = (cc)

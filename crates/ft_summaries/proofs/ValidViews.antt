@@ -19,11 +19,11 @@ use Rattle.ft_msg.specs.Content.{all_cells, cell_record, interval_record, row_ce
 use Rattle.ft_laws.specs.Sequencing.{Each, are_ends_in}
 use Rattle.ft_laws.specs.Trimming.{are_distinct_elements, has_ends_on, is_end_on}
 use Rattle.ft_laws.proofs.SettledNames.{at-rank}
-use Rattle.ft_worlds.proofs.Lists.{each-found}
-use Rattle.ft_worlds.proofs.OrderedEnds.{AreInOrder, at-below, rank-leads}
-use Rattle.ft_worlds.proofs.SummaryIntervals.{distinct-once, plain-rank}
-use Rattle.ft_worlds.proofs.SummaryLists.{is_plain}
-use Rattle.ft_worlds.proofs.ValidIntervals.{IsValidInterval, is_before, rises-map}
+use Rattle.ft_summaries.proofs.Lists.{each-found}
+use Rattle.ft_summaries.proofs.OrderedEnds.{AreInOrder, at-below, rank-leads}
+use Rattle.ft_summaries.proofs.SummaryIntervals.{distinct-once, plain-rank}
+use Rattle.ft_summaries.proofs.SummaryLists.{is_plain}
+use Rattle.ft_summaries.proofs.ValidIntervals.{IsValidInterval, is_before, rises-map}
 
 -- ---- intervals
 

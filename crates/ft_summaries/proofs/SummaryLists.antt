@@ -191,7 +191,8 @@ plain-held e h =
     let p = both (is_settled e) (is_authored e.by && is_of_text e.content) h in
     let q = all_four (is_acked e.ins) (list_all is_acked e.dels) (is_none e.removal_stage) (is_empty e.pending) p.0 in
     let r = both (is_authored e.by) (is_of_text e.content) p.1 in
-    ap (λ (t : Stamp). map (bare t (map stamp_of (map mark_of e.dels)) (Some (stamp_of (author_mark e.by))) e.props) (segment_bodies (element_body e.content))) (stamp-back e.ins q.0)
+    ap (λ (t : Stamp). map (bare t (map stamp_of (map mark_of e.dels)) (Some (stamp_of (author_mark e.by))) e.props) (segment_bodies (element_body e.content))) (stamp-back e.ins
+    q.0)
     ∙ (ap (λ (ts : List Stamp). map (bare e.ins ts (Some (stamp_of (author_mark e.by))) e.props) (segment_bodies (element_body e.content))) (stamps-back e.dels q.1)
     ∙ (ap (λ (o : Option Stamp). map (bare e.ins e.dels o e.props) (segment_bodies (element_body e.content))) (author-back e.by r.0)
     ∙ content e.content r.1 e.removal_stage q.2 e.pending q.3))

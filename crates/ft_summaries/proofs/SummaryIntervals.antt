@@ -19,8 +19,8 @@ use Rattle.ft_msg.specs.Summary.{interval_of, run_items, segment_bodies, segment
 use Rattle.ft_laws.specs.Trimming.{are_distinct_elements, has_ends_on, is_end_on}
 use Rattle.ft_laws.proofs.SettledNames.{at-rank}
 use Rattle.ft_laws.proofs.SlidEnds.{same_id-eq, same_id-refl}
-use Rattle.ft_worlds.proofs.OrderedEnds.{at-named, other-name}
-use Rattle.ft_worlds.proofs.SummaryLists.{is_authored, is_empty, is_none, is_of_text, is_plain, is_settled}
+use Rattle.ft_summaries.proofs.OrderedEnds.{at-named, other-name}
+use Rattle.ft_summaries.proofs.SummaryLists.{is_authored, is_empty, is_none, is_of_text, is_plain, is_settled}
 
 -- ---- places
 
@@ -203,7 +203,8 @@ distinct-once (e ∷ xs) a h =
     by true g n ih = let z : len (has_id a) xs ≡ 0 = ap (λ b. len (has_id b) xs) (same_id-eq a (id e) g) ∙ none (id e) xs n in omega (arith, z)
     by false g n ih = ih
 
-module _ (xs ys : List ListElement) (same : map nameless ys ≡ map nameless xs) (d : are_distinct_elements xs ≡ true) (f : are_distinct_elements ys ≡ true) (plain : list_all is_plain xs ≡ true) where
+module _ (xs ys : List ListElement) (same : map nameless ys ≡ map nameless xs) (d : are_distinct_elements xs ≡ true) (f : are_distinct_elements ys ≡ true) (plain : list_all
+    is_plain xs ≡ true) where
   end-back : (o : Option ElementId) → is_end_on xs o ≡ true → place_in_list ys (element_at_end is_unremoved ys (end_number 0 xs o)) ≡ place_in_list xs o
   end-back None h = refl
   end-back (Some a) h =

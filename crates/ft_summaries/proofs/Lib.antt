@@ -1,0 +1,17 @@
+pub mod Lists
+pub mod OrderedEnds
+pub mod FormedClients
+pub mod SummaryLists
+pub mod SummaryIntervals
+pub mod SummaryCells
+pub mod SummaryCuts
+pub mod ValidValues
+pub mod ValidIntervals
+pub mod ValidElements
+pub mod ValidDocuments
+pub mod ValidSegments
+pub mod ValidViews
+pub mod ValidSummaries
+pub mod SummaryDocuments
+pub mod FormedRuns
+pub mod RunSummaries
