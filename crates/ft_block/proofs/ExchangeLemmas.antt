@@ -9,8 +9,8 @@ use Rattle.ft_arena.proofs.IdLemmas.{same_other}
 use Rattle.std.proofs.lemmas.Bool.{cases_eq}
 use Rattle.ft_partial.specs.StepFunctions.{amount}
 use Rattle.ft_block.specs.declared.summaries.Summary.{Summary}
-use Rattle.ft_block.specs.declared.leaves.LenView.{LenView}
-use Rattle.ft_block.specs.Leaves.{sees_in, seen_length}
+use Rattle.ft_block.specs.declared.leaves.View.{View}
+use Rattle.ft_block.specs.Tree.{shows, shown_length}
 use Rattle.ft_block.specs.Tree.{total, Measure, length_of, length_of_entry, length_of_node, height_of, by_view, by_size, kept_length, HasRange, IsShape, IsTree}
 use Rattle.ft_block.specs.Tree.{IsPartTree, SumsBut, OwesAt, OwesAbove}
 use Rattle.ft_block.specs.Steps.{SameShape, Resums}
@@ -63,7 +63,7 @@ module _ {L : Type 0} (size : L → ℕ) (element : L → Element) (floor : ℕ)
   pub ex_shape : SameShape s (with_block s b w)
   ex_shape = refreshed_shape s b v w found height t.shape.forest
 
-  module _ (view : LenView) (sums : SumsBut (by_view size element view) s (Some b)) where
+  module _ (view : View) (sums : SumsBut (by_view size element view) s (Some b)) where
     ex_fits : total (length_of (by_view size element view) s) (kids_of s b) < 2 ^ 64
     ex_fits =
         let high = t.shape.high b ex_block in
@@ -123,34 +123,34 @@ pub none_gone : (b : Bool) → amount b 0 ≡ 0
 none_gone true = refl
 none_gone false = refl
 
-module _ {L : Type 0} (size : L → ℕ) (element : L → Element) (view : LenView) where
-  pub leaf_amount : (leaf : L) (e : Element) (n : ℕ) → e ≡ element leaf → n ≡ size leaf → amount (sees_in view e) n ≡ seen_length size element view leaf
-  leaf_amount leaf e n is many = ap (λ z. amount (sees_in view z) n) is ∙ ap (λ (k : ℕ). amount (sees_in view (element leaf)) k) many
+module _ {L : Type 0} (size : L → ℕ) (element : L → Element) (view : View) where
+  pub leaf_amount : (leaf : L) (e : Element) (n : ℕ) → e ≡ element leaf → n ≡ size leaf → amount (shows view e) n ≡ shown_length size element view leaf
+  leaf_amount leaf e n is many = ap (λ z. amount (shows view z) n) is ∙ ap (λ (k : ℕ). amount (shows view (element leaf)) k) many
 
   -- a leaf is put in where there was none
   pub comes : (s : Forest L Summary) (at : ℕ) (ed : List ℕ → List ℕ) (leaf : L) (e : Element) (n : ℕ) → e ≡ element leaf → n ≡ size leaf
-      → OwesAbove (by_view size element view) s at ed (0 + seen_length size element view leaf) 0
-      → OwesAbove (by_view size element view) s at ed (amount (sees_in view e) n) (amount (sees_in view e) 0)
+      → OwesAbove (by_view size element view) s at ed (0 + shown_length size element view leaf) 0
+      → OwesAbove (by_view size element view) s at ed (amount (shows view e) n) (amount (shows view e) 0)
   comes s at ed leaf e n is many owes =
-      let a : 0 + seen_length size element view leaf ≡ amount (sees_in view e) n = omega (arith, leaf_amount leaf e n is many) in
-      let b : 0 ≡ amount (sees_in view e) 0 = sym (none_gone (sees_in view e)) in
-      subst (λ (k : ℕ). OwesAbove (by_view size element view) s at ed (amount (sees_in view e) n) k) b (subst (λ (k : ℕ). OwesAbove (by_view size element view) s at ed k 0) a owes)
+      let a : 0 + shown_length size element view leaf ≡ amount (shows view e) n = omega (arith, leaf_amount leaf e n is many) in
+      let b : 0 ≡ amount (shows view e) 0 = sym (none_gone (shows view e)) in
+      subst (λ (k : ℕ). OwesAbove (by_view size element view) s at ed (amount (shows view e) n) k) b (subst (λ (k : ℕ). OwesAbove (by_view size element view) s at ed k 0) a owes)
 
   -- a leaf is taken out
   pub goes : (s : Forest L Summary) (stale : Option ℕ) (leaf : L) (e : Element) (n : ℕ) → e ≡ element leaf → n ≡ size leaf
-      → OwesAt (by_view size element view) s stale 0 (seen_length size element view leaf)
-      → OwesAt (by_view size element view) s stale (amount (sees_in view e) 0) (amount (sees_in view e) n)
+      → OwesAt (by_view size element view) s stale 0 (shown_length size element view leaf)
+      → OwesAt (by_view size element view) s stale (amount (shows view e) 0) (amount (shows view e) n)
   goes s stale leaf e n is many owes =
-      subst (λ (k : ℕ). OwesAt (by_view size element view) s stale (amount (sees_in view e) 0) k) (sym (leaf_amount leaf e n is many))
-      (subst (λ (k : ℕ). OwesAt (by_view size element view) s stale k (seen_length size element view leaf)) (sym (none_gone (sees_in view e))) owes)
+      subst (λ (k : ℕ). OwesAt (by_view size element view) s stale (amount (shows view e) 0) k) (sym (leaf_amount leaf e n is many))
+      (subst (λ (k : ℕ). OwesAt (by_view size element view) s stale k (shown_length size element view leaf)) (sym (none_gone (shows view e))) owes)
 
   -- a leaf changes
   pub turns : (s : Forest L Summary) (stale : Option ℕ) (v w : L) (e f : Element) (n m : ℕ) → e ≡ element v → n ≡ size v → f ≡ element w → m ≡ size w
-      → OwesAt (by_view size element view) s stale (seen_length size element view w) (seen_length size element view v)
-      → OwesAt (by_view size element view) s stale (amount (sees_in view f) m) (amount (sees_in view e) n)
+      → OwesAt (by_view size element view) s stale (shown_length size element view w) (shown_length size element view v)
+      → OwesAt (by_view size element view) s stale (amount (shows view f) m) (amount (shows view e) n)
   turns s stale v w e f n m ev nv fw mw owes =
-      subst (λ (k : ℕ). OwesAt (by_view size element view) s stale (amount (sees_in view f) m) k) (sym (leaf_amount v e n ev nv))
-      (subst (λ (k : ℕ). OwesAt (by_view size element view) s stale k (seen_length size element view v)) (sym (leaf_amount w f m fw mw)) owes)
+      subst (λ (k : ℕ). OwesAt (by_view size element view) s stale (amount (shows view f) m) k) (sym (leaf_amount v e n ev nv))
+      (subst (λ (k : ℕ). OwesAt (by_view size element view) s stale k (shown_length size element view v)) (sym (leaf_amount w f m fw mw)) owes)
 
 -- who is a parent in a tree is a block
 pub parent_block : {L : Type 0} (s : Forest L Summary) (root : ℕ) → IsTree s root → (at b : ℕ) → parent_of s at ≡ Some b → IsSome (block_value s b)

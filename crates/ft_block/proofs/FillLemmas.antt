@@ -8,7 +8,7 @@ use Rattle.ft_arena.specs.Ids.{same, times, without}
 use Rattle.ft_arena.specs.Forest.{Forest, entry, kids_of, parent_of, block_value, leaf_value}
 use Rattle.ft_arena.proofs.IdLemmas.{same_refl, same_other, times-append, times-without_other}
 use Rattle.ft_block.specs.declared.summaries.Summary.{Summary}
-use Rattle.ft_block.specs.declared.leaves.LenView.{LenView}
+use Rattle.ft_block.specs.declared.leaves.View.{View}
 use Rattle.ft_block.specs.Tree.{total, height_of, kind_of, Measure, by_view, by_size, length_of, below, IsApart, SumsBut}
 use Rattle.ft_block.specs.Steps.{DropsRoot, IsPair}
 use Rattle.ft_block.proofs.Lists.{times_at, drop_at}
@@ -161,7 +161,7 @@ module _ {L : Type 0} (s : Forest L Summary) (root id block : ℕ) (a : IsApart 
               | inr d ↦ omega (arith, a.shape.half_full front (kid_block front f) (not_root front f) (λ q. d (cc q)))
             ]
 
-        module _ (size : L → ℕ) (element : L → Element) (view : LenView) (sums : SumsBut (by_view size element view) s None)
+        module _ (size : L → ℕ) (element : L → Element) (view : View) (sums : SumsBut (by_view size element view) s None)
             (fits : total (length_of (by_size size) s) s.leaves < 2 ^ 64) where
           -- the two fit, as all children of the block do
           pub fl_fits : length_of (by_view size element view) s front + length_of (by_view size element view) s rear < 2 ^ 64

@@ -9,10 +9,11 @@ use Rattle.ft_arena.proofs.ArenaLemmas.{count_some_le}
 use Rattle.ft_block.specs.declared.summaries.Summary.{Summary}
 use Rattle.ft_block.specs.declared.blocks.Blocks.TheInside.{Inside}
 use Rattle.ft_block.specs.declared.leaves.LenView.{LenView}
+use Rattle.ft_block.specs.declared.leaves.View.{View}
 use Rattle.ft_block.specs.Leaves.{LeafList, IsFromFloor, IsLeafIn, IsPlaceIn, ids, times_leaf, value_at, length_by, place_from, place_by, left_of, put_leaf, change_leaf}
 use Rattle.ft_block.specs.Leaves.{split_leaf, without_leaf, move_leaf}
 use Rattle.ft_block.specs.Inside.{pair_of, pairs_of, depth_of, view_of, IsRooted, IsSound, IsSoundIfUsable}
-use Rattle.ft_block.specs.Tree.{Measure, IsTree, IsKept, length_of, total, seek, before, by_size}
+use Rattle.ft_block.specs.Tree.{Measure, IsTree, KeepsLengths, length_of, total, seek, numbers_before, by_size}
 use Rattle.ft_block.specs.Steps.{InsertsLeaf, SplitsLeaf, ChangesLeaf, TakesLeaf, MovesLeaf}
 use Rattle.ft_block.proofs.FitLemmas.{AllLeaves, leaves_live}
 use Rattle.ft_block.proofs.Levels.{depth_bound}
@@ -48,8 +49,8 @@ module _ {L Change : Type 0} (size : L → ℕ) (element : L → Element) (a : I
   in_floor = ap (λ (w : LeafList L). w.floor) (sym is)
 
   -- the floor that callers see is the one that is kept
-  pub in_kept : (view : LenView) → IsKept v.floor view → IsKept a.floor view
-  in_kept view k = subst (λ (n : ℕ). IsKept n view) in_floor k
+  pub in_kept : (view : View) → KeepsLengths v.floor view → KeepsLengths a.floor view
+  in_kept view k = subst (λ (n : ℕ). KeepsLengths n view) in_floor k
 
   pub in_from : (view : LenView) → IsFromFloor v.floor view → IsFromFloor a.floor view
   in_from view k = subst (λ (n : ℕ). IsFromFloor n view) in_floor k
@@ -96,10 +97,10 @@ module _ {L Change : Type 0} (size : L → ℕ) (element : L → Element) (a : I
   pub in_length : (measure : Measure L) → length_by measure.leaf v.leaves ≡ total (length_of measure a.arena) a.arena.leaves
   in_length measure = ap (length_by measure.leaf) in_leaves ∙ length_by-pairs measure a.arena a.arena.leaves in_live
 
-  pub in_position : (measure : Measure L) (id : ℕ) → length_by measure.leaf (left_of v.leaves id) ≡ total (length_of measure a.arena) (before a.arena.leaves id)
+  pub in_position : (measure : Measure L) (id : ℕ) → length_by measure.leaf (left_of v.leaves id) ≡ total (length_of measure a.arena) (numbers_before a.arena.leaves id)
   in_position measure id =
       ap (λ ps. length_by measure.leaf (left_of ps id)) in_leaves ∙ ap (length_by measure.leaf) (left_of-pairs a.arena a.arena.leaves id in_live)
-      ∙ length_by-pairs measure a.arena (before a.arena.leaves id) (λ x m. in_live x (omega (arith, m, times-before_le a.arena.leaves id x)))
+      ∙ length_by-pairs measure a.arena (numbers_before a.arena.leaves id) (λ x m. in_live x (omega (arith, m, times-before_le a.arena.leaves id x)))
 
   pub in_found : (measure : Measure L) (p x q : ℕ) → 1 ≤ p → seek (length_of measure a.arena) a.arena.leaves p ≡ Some (x, q)
       → place_by measure.leaf v.leaves p ≡ Some record { leaf = Some x; offset = q }

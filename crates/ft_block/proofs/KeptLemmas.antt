@@ -8,42 +8,50 @@ use Rattle.ft_arena.specs.Forest.{Forest, Changes, entry, block_value, block_of_
 use Rattle.ft_partial.specs.StepFunctions.{amount}
 use Rattle.ft_partial.specs.Tables.{Lengths, length_at, SameFrom, Exchanges}
 use Rattle.ft_block.specs.declared.summaries.Summary.{Summary}
-use Rattle.ft_block.specs.declared.leaves.LenView.{LenView}
+use Rattle.ft_block.specs.declared.leaves.View.{View}
+use Rattle.ft_block.specs.declared.leaves.View.TheVariants.{Of, Pending}
 use Rattle.ft_block.specs.declared.leaves.LenView.TheVariants.{At, Stage, All}
-use Rattle.ft_block.specs.Leaves.{sees_in, last_stage, seen_length}
-use Rattle.ft_block.specs.Tree.{AreFromFloor, IsNodeFrom, kept_length, HasRange, KeepsExchange, KeepsNode}
+use Rattle.ft_block.specs.Leaves.{last_stage}
+use Rattle.ft_block.specs.Tree.{shows, shown_length, AreFromFloor, IsNodeFrom, kept_length, HasRange, KeepsExchange, KeepsNode}
 
 exchanged_local : (local gone come : ℕ) → gone < 2 ^ 64
     → ((((local + (18446744073709551616 - gone)) % 18446744073709551616) + come) % 18446744073709551616 + gone) % 2 ^ 64 ≡ (local + come) % 2 ^ 64
 exchanged_local local gone come h = omega arith
 
 -- the local length and the table after elements were exchanged
-pub exchange_keeps : (floor : ℕ) (old : Summary) (mid new : Lengths) (gone come n m : ℕ) (e f : Element) → n < 2 ^ 64 → gone < 2 ^ 64
-    → gone ≡ amount (sees_in last_stage e) n → come ≡ amount (sees_in last_stage f) m → SameFrom floor old.table mid → mid.floor ≡ floor → Exchanges mid new e n f m
+pub exchange_keeps : (floor : ℕ) (old : Summary) (mid new : Lengths) (gone come settled pending n m : ℕ) (e f : Element) → n < 2 ^ 64 → gone < 2 ^ 64 → settled < 2 ^ 64
+    → gone ≡ amount (shows (Of last_stage) e) n → come ≡ amount (shows (Of last_stage) f) m → settled ≡ amount (shows Pending e) n → pending ≡ amount (shows Pending f) m
+    → SameFrom floor old.table mid → mid.floor ≡ floor → Exchanges mid new e n f m
     → KeepsExchange floor old (record {
       height = old.height;
       whole = ((old.whole + (18446744073709551616 - n)) % 18446744073709551616 + m) % 18446744073709551616;
       local =
           ((old.local + (18446744073709551616 - gone)) % 18446744073709551616 + come) % 18446744073709551616;
+      pending =
+          ((old.pending + (18446744073709551616 - settled)) % 18446744073709551616 + pending) % 18446744073709551616;
       table = new;
     }) e n f m
-exchange_keeps floor old mid new gone come n m e f few l g k same from ex (At at) (low, high, conn) =
-    ex at.r at.c (omega (arith, from, low)) high conn ∙ ap (λ (x : ℕ). (x + amount (sees_in (At at) f) m) % 2 ^ 64) (same at.r at.c low high conn)
-exchange_keeps floor old mid new gone come n m e f few l g k same from ex (Stage s) is =
-    let by_gone : amount (sees_in (Stage s) e) n ≡ gone = ap (λ v. amount (sees_in v e) n) is ∙ sym g in
-    let by_come : amount (sees_in (Stage s) f) m ≡ come = ap (λ v. amount (sees_in v f) m) is ∙ sym k in
+exchange_keeps floor old mid new gone come settled pending n m e f few l sl g k gs ks same from ex (Of (At at)) (low, high, conn) =
+    ex at.r at.c (omega (arith, from, low)) high conn ∙ ap (λ (x : ℕ). (x + amount (shows (Of (At at)) f) m) % 2 ^ 64) (same at.r at.c low high conn)
+exchange_keeps floor old mid new gone come settled pending n m e f few l sl g k gs ks same from ex (Of (Stage s)) is =
+    let by_gone : amount (shows (Of (Stage s)) e) n ≡ gone = ap (λ v. amount (shows (Of v) e) n) is ∙ sym g in
+    let by_come : amount (shows (Of (Stage s)) f) m ≡ come = ap (λ v. amount (shows (Of v) f) m) is ∙ sym k in
     ap (λ (x : ℕ). ((((old.local + (18446744073709551616 - gone)) % 18446744073709551616) + come) % 18446744073709551616 + x) % 2 ^ 64) by_gone
     ∙ exchanged_local old.local gone come l ∙ ap (λ (x : ℕ). (old.local + x) % 2 ^ 64) (sym by_come)
-exchange_keeps floor old mid new gone come n m e f few l g k same from ex All h = exchanged_local old.whole n m few
+exchange_keeps floor old mid new gone come settled pending n m e f few l sl g k gs ks same from ex (Of All) h = exchanged_local old.whole n m few
+exchange_keeps floor old mid new gone come settled pending n m e f few l sl g k gs ks same from ex Pending h =
+    ap (λ (x : ℕ). ((((old.pending + (18446744073709551616 - settled)) % 18446744073709551616) + pending) % 18446744073709551616 + x) % 2 ^ 64) (sym gs)
+    ∙ exchanged_local old.pending settled pending sl ∙ ap (λ (x : ℕ). (old.pending + x) % 2 ^ 64) ks
 
 small : (x : ℕ) → x < 2 ^ 64 → x % 2 ^ 64 ≡ x
 small x h = omega arith
 
-pub kept_low : (v : Summary) → HasRange v → (view : LenView) → kept_length view v < 2 ^ 64
+pub kept_low : (v : Summary) → HasRange v → (view : View) → kept_length view v < 2 ^ 64
 unfolding length_at
-kept_low v h (At at) = omega arith
-kept_low v h (Stage k) = h.0
-kept_low v h All = h.1
+kept_low v h (Of (At at)) = omega arith
+kept_low v h (Of (Stage k)) = h.0
+kept_low v h (Of All) = h.1
+kept_low v h Pending = h.2
 
 amount_none : (b : Bool) → amount b 0 ≡ 0
 amount_none true = refl
@@ -53,9 +61,9 @@ amount_none false = refl
 pub exchange_adds : {L : Type 0} (size : L → ℕ) (element : L → Element) (floor : ℕ) (old new : Summary) (leaf : L) (e : Element) (n : ℕ) → e ≡ element leaf
     → n ≡ size leaf → HasRange new → KeepsExchange floor old new e 0 e n → KeepsNode size element floor old (Leaf leaf) new
 exchange_adds size element floor old new leaf e n is many low ex view kept =
-    let here : amount (sees_in view e) n ≡ seen_length size element view leaf =
-    ap (λ z. amount (sees_in view z) n) is ∙ ap (λ (k : ℕ). cond (sees_in view (element leaf)) k 0) many in
-    let z : kept_length view new + amount (sees_in view e) 0 ≡ kept_length view new = omega (arith, amount_none (sees_in view e)) in
+    let here : amount (shows view e) n ≡ shown_length size element view leaf =
+    ap (λ z. amount (shows view z) n) is ∙ ap (λ (k : ℕ). cond (shows view (element leaf)) k 0) many in
+    let z : kept_length view new + amount (shows view e) 0 ≡ kept_length view new = omega (arith, amount_none (shows view e)) in
     sym (small (kept_length view new) (kept_low new low view)) ∙ sym (ap (λ (x : ℕ). x % 2 ^ 64) z) ∙ ex view kept ∙ ap (λ (x : ℕ). (kept_length view old + x) % 2 ^ 64) here
 
 -- what is kept has one more node's length, where the sum of all is small

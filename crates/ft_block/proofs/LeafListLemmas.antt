@@ -11,7 +11,7 @@ use Rattle.ft_block.specs.declared.blocks.Found.{Found}
 use Rattle.ft_block.specs.Leaves.{ids, times_leaf, value_at, length_by, place_from, left_of, put_leaf_after, put_leaf, change_leaf, split_leaf, without_leaf, first_value}
 use Rattle.ft_block.specs.Leaves.{value_after, join_first, join_leaf}
 use Rattle.ft_block.specs.Inside.{pair_of, pairs_of}
-use Rattle.ft_block.specs.Tree.{Measure, length_of, total, seek, before}
+use Rattle.ft_block.specs.Tree.{Measure, length_of, total, seek, numbers_before}
 use Rattle.ft_block.proofs.EditLemmas.{some_of, insert_after_head}
 use Rattle.ft_block.proofs.FitLemmas.{AllLeaves, leaf_length}
 use Rattle.ft_block.proofs.PositionLemmas.{before_here, before_later}
@@ -111,15 +111,15 @@ module _ {L : Type 0} where
   left_later : (y : ℕ) (v : L) (ps : List (ℕ × L)) (x : ℕ) → y ≢ x → left_of ((y, v) ∷ ps) x ≡ (y, v) ∷ left_of ps x
   left_later y v ps x d = cond-false (eqb y x) _ _ (ne_eqb y x d)
 
-  pub left_of-pairs : (s : Forest L Summary) (xs : List ℕ) (x : ℕ) → AllLeaves s xs → left_of (pairs_of s xs) x ≡ pairs_of s (before xs x)
+  pub left_of-pairs : (s : Forest L Summary) (xs : List ℕ) (x : ℕ) → AllLeaves s xs → left_of (pairs_of s xs) x ≡ pairs_of s (numbers_before xs x)
   left_of-pairs s [] x a = refl
   left_of-pairs s (y ∷ ys) x a =
       let v = head_value s y ys a in
       ap (λ zs. left_of zs x) (pairs_cons s y ys v.0 v.1) ∙ elim (cases_eq y x) [
-        | inl e ↦ subst (λ (z : ℕ). left_of ((y, v.0) ∷ pairs_of s ys) z ≡ pairs_of s (before (y ∷ ys) z)) e (left_here y v.0 (pairs_of s ys)
+        | inl e ↦ subst (λ (z : ℕ). left_of ((y, v.0) ∷ pairs_of s ys) z ≡ pairs_of s (numbers_before (y ∷ ys) z)) e (left_here y v.0 (pairs_of s ys)
             ∙ sym (ap (pairs_of s) (before_here y ys)))
         | inr d ↦ left_later y v.0 (pairs_of s ys) x d ∙ ap (λ (zs : List (ℕ × L)). (y, v.0) ∷ zs) (left_of-pairs s ys x (λ z m. a z (omega arith)))
-            ∙ sym (pairs_cons s y (before ys x) v.0 v.1) ∙ sym (ap (pairs_of s) (before_later y ys x d))
+            ∙ sym (pairs_cons s y (numbers_before ys x) v.0 v.1) ∙ sym (ap (pairs_of s) (before_later y ys x d))
       ]
 
   put_leaf_here : (v : L) (ps : List (ℕ × L)) (at : ℕ) (new : ℕ × L) → put_leaf_after ((at, v) ∷ ps) at new ≡ (at, v) ∷ new ∷ put_leaf_after ps at new

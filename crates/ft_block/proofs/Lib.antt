@@ -8,6 +8,7 @@ pub mod RefreshLemmas
 pub mod FitLemmas
 pub mod PutLemmas
 pub mod SplitLemmas
+pub mod StageLemmas
 pub mod InsertLemmas
 pub mod FirstLemmas
 pub mod ViewLemmas

@@ -5,9 +5,10 @@ use Rattle.ft_base.specs.declared.elements.Element.{Element}
 use Rattle.ft_arena.specs.Ids.{times, insert_after, put_after, without}
 use Rattle.ft_arena.specs.Forest.{Forest, IsForest, IsPlace, entry, leaf_value, leaf_of_entry, count_some, with_leaf}
 use Rattle.ft_block.specs.declared.summaries.Summary.{Summary}
-use Rattle.ft_block.specs.declared.leaves.LenView.{LenView}
+use Rattle.ft_block.specs.declared.leaves.View.{View}
+use Rattle.ft_block.specs.declared.leaves.View.TheVariants.{Of, Pending}
 use Rattle.ft_block.specs.declared.leaves.LenView.TheVariants.{At, Stage, All}
-use Rattle.ft_block.specs.Tree.{Measure, IsTree, SumsKeptBut, AreFromFloor, IsKept, total, length_of, by_view, by_size}
+use Rattle.ft_block.specs.Tree.{Measure, IsTree, SumsKeptBut, AreFromFloor, KeepsLengths, total, length_of, by_view, by_size}
 use Rattle.ft_block.specs.Steps.{InsertsLeaf, SplitsLeaf, ChangesLeaf, TakesLeaf, MovesLeaf}
 use Rattle.ft_block.specs.Inside.{IsRooted, IsSound}
 use Rattle.ft_arena.proofs.IdLemmas.{times-without_same, times-without_other}
@@ -234,7 +235,8 @@ module _ {L : Type 0} (size : L → ℕ) (element : L → Element) (floor : ℕ)
         fits = f.fits;
       }
     where
-      kept_lower : (view : LenView) → IsKept higher view → IsKept floor view
-      kept_lower (At at) k = (omega (arith, k.0, h), k.1, k.2)
-      kept_lower (Stage k) e = e
-      kept_lower All e = e
+      kept_lower : (view : View) → KeepsLengths higher view → KeepsLengths floor view
+      kept_lower (Of (At at)) k = (omega (arith, k.0, h), k.1, k.2)
+      kept_lower (Of (Stage k)) e = e
+      kept_lower (Of All) e = e
+      kept_lower Pending e = e

@@ -4,8 +4,8 @@ use Rattle.ft_base.specs.declared.elements.Element.{Element}
 use Rattle.ft_arena.specs.Forest.{Forest, IsForest, entry, leaf_value}
 use Rattle.ft_arena.proofs.IdLemmas.{same_refl}
 use Rattle.ft_block.specs.declared.summaries.Summary.{Summary}
-use Rattle.ft_block.specs.declared.leaves.LenView.{LenView}
-use Rattle.ft_block.specs.Leaves.{sees_in, seen_length}
+use Rattle.ft_block.specs.declared.leaves.View.{View}
+use Rattle.ft_block.specs.Tree.{shows, shown_length}
 use Rattle.ft_block.specs.Tree.{total, length_of, by_view, by_size}
 use Rattle.ft_block.proofs.EditLemmas.{some_of}
 use Rattle.ft_block.proofs.FitLemmas.{AllLeaves, leaves_live, leaf_length}
@@ -18,20 +18,20 @@ cond_le : (b : Bool) (x : ℕ) → cond b x 0 ≤ x
 cond_le true x = omega arith
 cond_le false x = omega arith
 
-module _ {L : Type 0} (size : L → ℕ) (element : L → Element) (view : LenView) where
+module _ {L : Type 0} (size : L → ℕ) (element : L → Element) (view : View) where
   -- two parts with the stamps of the whole
   pub seen_parts : (x y z : L) → element y ≡ element x → element z ≡ element x → size y + size z ≡ size x
-      → seen_length size element view y + seen_length size element view z ≡ seen_length size element view x
+      → shown_length size element view y + shown_length size element view z ≡ shown_length size element view x
   seen_parts x y z ey ez parts =
-      let by : seen_length size element view y ≡ cond (sees_in view (element x)) (size y) 0 = ap (λ (e : Element). cond (sees_in view e) (size y) 0) ey in
-      let bz : seen_length size element view z ≡ cond (sees_in view (element x)) (size z) 0 = ap (λ (e : Element). cond (sees_in view e) (size z) 0) ez in
-      omega (arith, by, bz, cond_parts (sees_in view (element x)) (size y) (size z) (size x) parts)
+      let by : shown_length size element view y ≡ cond (shows view (element x)) (size y) 0 = ap (λ (e : Element). cond (shows view e) (size y) 0) ey in
+      let bz : shown_length size element view z ≡ cond (shows view (element x)) (size z) 0 = ap (λ (e : Element). cond (shows view e) (size z) 0) ez in
+      omega (arith, by, bz, cond_parts (shows view (element x)) (size y) (size z) (size x) parts)
 
-  pub seen_same : (x y : L) → element y ≡ element x → size y ≡ size x → seen_length size element view y ≡ seen_length size element view x
-  seen_same x y e n = ap (λ (z : Element). cond (sees_in view z) (size y) 0) e ∙ ap (λ (m : ℕ). cond (sees_in view (element x)) m 0) n
+  pub seen_same : (x y : L) → element y ≡ element x → size y ≡ size x → shown_length size element view y ≡ shown_length size element view x
+  seen_same x y e n = ap (λ (z : Element). cond (shows view z) (size y) 0) e ∙ ap (λ (m : ℕ). cond (shows view (element x)) m 0) n
 
-  pub seen_le : (x : L) → seen_length size element view x ≤ size x
-  seen_le x = cond_le (sees_in view (element x)) (size x)
+  pub seen_le : (x : L) → shown_length size element view x ≤ size x
+  seen_le x = cond_le (shows view (element x)) (size x)
 
   -- a view sees no more of leaves than there is
   pub view_fits : (s : Forest L Summary) (xs : List ℕ) → AllLeaves s xs → total (length_of (by_view size element view) s) xs ≤ total (length_of (by_size size) s) xs

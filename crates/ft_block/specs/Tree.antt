@@ -1,19 +1,22 @@
 -- A balanced tree over an arena. The height of a block stands in its value, so that what makes a tree is said node by
 -- node, and the leaves are read level by level from the root. No public clause cites this module.
 use Rattle.std.specs.Prelude.{◌≡◌, ◌≢◌, ℕ, zero, suc, ◌+◌, ◌-◌, ◌%◌, ◌^◌, ◌<◌, ◌≤◌, List, [], ◌∷◌, ◌++◌, length, insert, slice_get, Option, Some, None, IsSome}
-use Rattle.std.specs.Prelude.{if◌then◌else◌, nat_le, ◌==◌}
-use Rattle.std.specs.List.{flat_map}
+use Rattle.std.specs.Prelude.{Bool, true, false, ◌||◌, if◌then◌else◌, nat_le, ◌==◌}
+use Rattle.std.specs.List.{flat_map, list_any}
+use Rattle.ft_base.specs.declared.stamps.Stamp.{Stamp}
+use Rattle.ft_base.specs.declared.stamps.Stamp.TheVariants.{Acked, Local}
 use Rattle.ft_base.specs.declared.elements.Element.{Element}
 use Rattle.ft_arena.specs.declared.nodes.Node.{Node}
 use Rattle.ft_arena.specs.declared.nodes.Node.TheVariants.{Leaf, Block}
 use Rattle.ft_arena.specs.Forest.{Forest, Entry, IsForest, entry, kids_of, parent_of, block_value, leaf_value}
 use Rattle.ft_arena.specs.Ids.{times, without}
 use Rattle.ft_block.specs.declared.summaries.Summary.{Summary}
-use Rattle.ft_block.specs.declared.leaves.LenView.{LenView}
 use Rattle.ft_block.specs.declared.leaves.LenView.TheVariants.{At, Stage, All}
 use Rattle.ft_partial.specs.StepFunctions.{amount}
 use Rattle.ft_partial.specs.Tables.{length_at}
-use Rattle.ft_block.specs.Leaves.{sees_in, seen_length, last_stage}
+use Rattle.ft_block.specs.declared.leaves.View.{View}
+use Rattle.ft_block.specs.declared.leaves.View.TheVariants.{Of, Pending}
+use Rattle.ft_block.specs.Leaves.{sees_in, IsFromFloor, last_stage}
 
 -- the sum of f over the list
 abbrev pub total : (ℕ → ℕ) → List ℕ → ℕ
@@ -26,14 +29,14 @@ seek f [] p = None
 seek f (x ∷ xs) p = if nat_le p (f x) then Some (x, p) else seek f xs (p - f x)
 
 -- the numbers before x
-abbrev pub before : List ℕ → ℕ → List ℕ
-before [] x = []
-before (y ∷ ys) x = if y == x then [] else y ∷ before ys x
+abbrev pub numbers_before : List ℕ → ℕ → List ℕ
+numbers_before [] x = []
+numbers_before (y ∷ ys) x = if y == x then [] else y ∷ numbers_before ys x
 
 -- the same, or all where no number is given
 abbrev pub up_to : List ℕ → Option ℕ → List ℕ
 up_to ys None = ys
-up_to ys (Some x) = before ys x
+up_to ys (Some x) = numbers_before ys x
 
 -- the list with new put directly before each at
 abbrev pub insert_before : List ℕ → ℕ → ℕ → List ℕ
@@ -57,39 +60,66 @@ pub record Measure (L : Type 0) : Type 0 where
   pub leaf : L → ℕ
   pub block : Summary → ℕ
 
--- what a block keeps of a view: its table's answer to a perspective, one length for stages, and its size
-abbrev pub kept_length : LenView → Summary → ℕ
-kept_length (At at) v = length_at v.table at.r at.c
-kept_length (Stage k) v = v.local
-kept_length All v = v.whole
+-- the stamp is pending
+abbrev pub is_pending : Stamp → Bool
+is_pending (Acked seq conn) = false
+is_pending (Local stage) = true
 
--- the blocks keep the lengths of this view: it sees all, or is that at the last stage, or of a perspective from the floor up
-abbrev pub IsKept : ℕ → LenView → Type 0
-IsKept floor (At at) = (floor ≤ at.r) × (at.r < 2 ^ 64) × (at.c < 2 ^ 32)
-IsKept floor (Stage k) = Stage k ≡ last_stage
-IsKept floor All = Unit {0}
+-- one of the element's stamps is pending
+abbrev pub has_pending : Element → Bool
+has_pending e = is_pending e.ins || list_any is_pending e.dels
 
--- the two lengths that are kept as numbers are below 2 ^ 64
+-- whether the view counts the element
+abbrev pub shows : View → Element → Bool
+shows (Of view) e = sees_in view e
+shows Pending e = has_pending e
+
+-- what a block keeps of a view: its table's answer to a perspective, one length for stages, its size, and how many of its
+-- elements have a pending stamp
+abbrev pub kept_length : View → Summary → ℕ
+kept_length (Of (At at)) v = length_at v.table at.r at.c
+kept_length (Of (Stage k)) v = v.local
+kept_length (Of All) v = v.whole
+kept_length Pending v = v.pending
+
+-- the view is no perspective with a reference number below the floor
+abbrev pub IsFrom : ℕ → View → Type 0
+IsFrom floor (Of view) = IsFromFloor floor view
+IsFrom floor Pending = Unit {0}
+
+-- the blocks keep the lengths of this view: it counts all or what is pending, or is that at the last stage, or of a
+-- perspective from the floor up
+abbrev pub KeepsLengths : ℕ → View → Type 0
+KeepsLengths floor (Of (At at)) = (floor ≤ at.r) × (at.r < 2 ^ 64) × (at.c < 2 ^ 32)
+KeepsLengths floor (Of (Stage k)) = Stage k ≡ last_stage
+KeepsLengths floor (Of All) = Unit {0}
+KeepsLengths floor Pending = Unit {0}
+
+-- the lengths that are kept as numbers are below 2 ^ 64
 abbrev pub HasRange : Summary → Type 0
-HasRange v = (v.local < 2 ^ 64) × (v.whole < 2 ^ 64)
+HasRange v = (v.local < 2 ^ 64) × (v.whole < 2 ^ 64) × (v.pending < 2 ^ 64)
 
 -- nothing is seen in any view
 abbrev pub KeepsNothing : ℕ → Summary → Type 0
-KeepsNothing floor v = (view : LenView) → IsKept floor view → kept_length view v ≡ 0
+KeepsNothing floor v = (view : View) → KeepsLengths floor view → kept_length view v ≡ 0
 
 -- each view sees m elements f more and n elements e less
 abbrev pub KeepsExchange : ℕ → Summary → Summary → Element → ℕ → Element → ℕ → Type 0
-KeepsExchange floor old new e n f m = (view : LenView) → IsKept floor view
-    → (kept_length view new + amount (sees_in view e) n) % 2 ^ 64 ≡ (kept_length view old + amount (sees_in view f) m) % 2 ^ 64
+KeepsExchange floor old new e n f m = (view : View) → KeepsLengths floor view
+    → (kept_length view new + amount (shows view e) n) % 2 ^ 64 ≡ (kept_length view old + amount (shows view f) m) % 2 ^ 64
 
 -- each view sees what it sees of both
 abbrev pub KeepsSum : ℕ → Summary → Summary → Summary → Type 0
-KeepsSum floor old other new = (view : LenView) → IsKept floor view → kept_length view new ≡ (kept_length view old + kept_length view other) % 2 ^ 64
+KeepsSum floor old other new = (view : View) → KeepsLengths floor view → kept_length view new ≡ (kept_length view old + kept_length view other) % 2 ^ 64
 
 module _ {L : Type 0} where
-  -- by what a view sees of a leaf, and what a block keeps of that view
-  abbrev pub by_view : (L → ℕ) → (L → Element) → LenView → Measure L
-  by_view size element view = record { leaf = seen_length size element view; block = kept_length view }
+  -- how many of a leaf's elements the view counts
+  abbrev pub shown_length : (L → ℕ) → (L → Element) → View → L → ℕ
+  shown_length size element view leaf = if shows view (element leaf) then size leaf else 0
+
+  -- by what a view counts of a leaf, and what a block keeps of that view
+  abbrev pub by_view : (L → ℕ) → (L → Element) → View → Measure L
+  by_view size element view = record { leaf = shown_length size element view; block = kept_length view }
 
   -- by the size of a leaf
   abbrev pub by_size : (L → ℕ) → Measure L
@@ -114,7 +144,7 @@ module _ {L : Type 0} where
 
   -- each view sees what it sees of the node more
   abbrev pub KeepsNode : (L → ℕ) → (L → Element) → ℕ → Summary → Node L Summary → Summary → Type 0
-  KeepsNode size element floor old node new = (view : LenView) → IsKept floor view
+  KeepsNode size element floor old node new = (view : View) → KeepsLengths floor view
       → kept_length view new ≡ (kept_length view old + length_of_node (by_view size element view) node) % 2 ^ 64
 
   -- nothing for a leaf, the height for a block
@@ -176,7 +206,7 @@ module _ {L : Type 0} where
 
   -- the same in each view that the blocks keep
   abbrev pub SumsKeptBut : (L → ℕ) → (L → Element) → ℕ → Forest L Summary → Option ℕ → Type 0
-  SumsKeptBut size element floor s stale = (view : LenView) → IsKept floor view → SumsBut (by_view size element view) s stale
+  SumsKeptBut size element floor s stale = (view : View) → KeepsLengths floor view → SumsBut (by_view size element view) s stale
 
   -- what the block keeps is too little by `more` and too much by `less` for these children
   abbrev pub Owes : Measure L → Forest L Summary → ℕ → List ℕ → ℕ → ℕ → Type 0
@@ -192,16 +222,16 @@ module _ {L : Type 0} where
 
   -- in each view that the blocks keep, two nodes together are below 2 ^ 64
   abbrev pub PairFits : (L → ℕ) → (L → Element) → ℕ → Forest L Summary → ℕ → ℕ → Type 0
-  PairFits size element floor s x y = (view : LenView) → IsKept floor view → length_of (by_view size element view) s x + length_of (by_view size element view) s y < 2 ^ 64
+  PairFits size element floor s x y = (view : View) → KeepsLengths floor view → length_of (by_view size element view) s x + length_of (by_view size element view) s y < 2 ^ 64
 
   -- in each view that the blocks keep, the block owes m elements f more and n elements e less
   abbrev pub OwesExchange : (L → ℕ) → (L → Element) → ℕ → Forest L Summary → Option ℕ → Element → ℕ → Element → ℕ → Type 0
-  OwesExchange size element floor s stale e n f m = (view : LenView) → IsKept floor view
-      → OwesAt (by_view size element view) s stale (amount (sees_in view f) m) (amount (sees_in view e) n)
+  OwesExchange size element floor s stale e n f m = (view : View) → KeepsLengths floor view
+      → OwesAt (by_view size element view) s stale (amount (shows view f) m) (amount (shows view e) n)
 
   -- in each view that the blocks keep, the stale block owes what the parent of a node did, once its children are edited
   abbrev pub OwesAsAbove : (L → ℕ) → (L → Element) → ℕ → Forest L Summary → ℕ → (List ℕ → List ℕ) → Forest L Summary → Option ℕ → Type 0
-  OwesAsAbove size element floor old at e new stale = (view : LenView) (more less : ℕ) → IsKept floor view
+  OwesAsAbove size element floor old at e new stale = (view : View) (more less : ℕ) → KeepsLengths floor view
       → OwesAbove (by_view size element view) old at e more less → OwesAt (by_view size element view) new stale more less
 
   -- a balanced tree of some of the leaves, but for a lower node beside it and a block that has too few children

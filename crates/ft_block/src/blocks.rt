@@ -33,7 +33,7 @@ use crate::counted::{
     insert_in, join_in, leaf_in, length_in, move_in, position_in, set_stamps_in, split_in, take_in,
 };
 use crate::find::find_from;
-use crate::leaves::{Leaf, LenView};
+use crate::leaves::{Leaf, LenView, View};
 use crate::summaries::Summary;
 use ft_arena::{Arena, NodeId};
 use ft_base::{Element, OutOfMemory, Perspective, Steps};
@@ -105,7 +105,7 @@ impl<L: Leaf> Blocks<L> {
       seen_length,
       IsFromFloor,
     };
-    ghost use Rattle.ft_block.specs.Tree.{IsKept};
+    ghost use Rattle.ft_block.specs.Tree.{KeepsLengths, shown_length};
     ghost use Rattle.ft_block.specs.declared.leaves.LenView.TheVariants.{At};
 
     /// No leaves.
@@ -181,7 +181,7 @@ impl<L: Leaf> Blocks<L> {
         ensures cost { steps.new ≤ steps.old + 9 * (self.now.depth + 1) }
         ensures depth { 4 ^ self.now.depth ≤ length self.now.leaves + 1 }
     {
-        self.find_in(p, LenView::Stage(u64::MAX), steps)
+        self.find_in(p, View::Of(LenView::Stage(u64::MAX)), steps)
     }
 
     /// The leaf that holds the `p`-th element that the perspective sees, and how many of its
@@ -203,20 +203,20 @@ impl<L: Leaf> Blocks<L> {
         ensures cost { steps.new ≤ steps.old + 9 * (self.now.depth + 1) }
         ensures depth { 4 ^ self.now.depth ≤ length self.now.leaves + 1 }
     {
-        self.find_in(p, LenView::At(at), steps)
+        self.find_in(p, View::Of(LenView::At(at)), steps)
     }
 
     // The same in any view that the blocks keep.
     fn find_in<G: Ledger>(
         &self,
         p: u64,
-        view: LenView,
+        view: View,
         steps: &mut Steps<G>,
     ) -> Result<Found, OutOfRange>
         requires usable { IsTrue self.now.usable }
-        requires kept { IsKept self.now.floor view }
-        ensures found { IfOk result (λ found. place_by (seen_length L.size L.element view) self.now.leaves p ≡ Some found) }
-        ensures length { IfErr result (λ e. e.length ≡ length_by (seen_length L.size L.element view) self.now.leaves) }
+        requires kept { KeepsLengths self.now.floor view }
+        ensures found { IfOk result (λ found. place_by (shown_length L.size L.element view) self.now.leaves p ≡ Some found) }
+        ensures length { IfErr result (λ e. e.length ≡ length_by (shown_length L.size L.element view) self.now.leaves) }
         ensures beyond { IfErr result (λ e. e.length < p) }
         ensures cost { steps.new ≤ steps.old + 9 * (self.now.depth + 1) }
         ensures depth { 4 ^ self.now.depth ≤ length self.now.leaves + 1 }
@@ -244,8 +244,8 @@ impl<L: Leaf> Blocks<L> {
 
     /// How many elements the view sees left of the leaf.
     ///
-    /// The reference number of a perspective isn't below the floor. At a stage other than `u64::MAX` it
-    /// goes along the leaves, and in every other view up from the leaf.
+    /// The reference number of a perspective isn't below the floor. It goes up from the leaf; at a stage
+    /// other than `u64::MAX` it also looks for each leaf left of this one that has a pending stamp.
     pub fn position_of(&self, leaf: NodeId, view: LenView) -> u64
         requires usable { IsTrue self.now.usable }
         requires floor { IsFromFloor self.now.floor view }
@@ -264,8 +264,8 @@ impl<L: Leaf> Blocks<L> {
 
     /// How many elements the view sees.
     ///
-    /// The reference number of a perspective isn't below the floor. At a stage other than `u64::MAX` it
-    /// goes along the leaves, and in every other view it is kept.
+    /// The reference number of a perspective isn't below the floor. It is kept; at a stage other than
+    /// `u64::MAX` it looks for each leaf that has a pending stamp.
     pub fn length(&self, view: LenView) -> u64
         requires usable { IsTrue self.now.usable }
         requires floor { IsFromFloor self.now.floor view }

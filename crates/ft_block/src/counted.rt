@@ -3,15 +3,16 @@
 ghost use Rattle.std.specs.Prelude.{◌≡◌, ◌≢◌, ◌+◌, ◌^◌, ◌<◌, ◌≤◌, Some, None, IsSome, IsSomeAnd, IsTrue, IfOk, OnOk};
 ghost use Rattle.ft_arena.specs.Forest.{IsPlace, leaf_value};
 ghost use Rattle.ft_arena.specs.Ids.{put_after};
-ghost use Rattle.ft_block.specs.Tree.{by_size, by_view, length_of, total, before};
+ghost use Rattle.ft_block.specs.Tree.{by_size, by_view, length_of, total, numbers_before};
 ghost use Rattle.ft_block.specs.Steps.{InsertsLeaf, SplitsLeaf, ChangesLeaf, TakesLeaf, MovesLeaf};
+ghost use Rattle.ft_block.specs.declared.leaves.View.TheVariants.{Of};
 ghost use Rattle.ft_block.specs.Leaves.{IsFromFloor};
 ghost use Rattle.ft_block.specs.Inside.{IsSound};
 
 use crate::change::{join_at, set_stamps_at, split_at};
 use crate::grow::{insert_at, insert_first, insert_front};
-use crate::leaves::{Leaf, LenView, is_kept};
-use crate::position::{kept_before, kept_in_all, leaf_at, seen_up_to};
+use crate::leaves::{Leaf, LenView, View, unkept_stage};
+use crate::position::{kept_before, kept_in_all, leaf_at, seen_at_stage};
 use crate::shrink::{move_at, stands_there, take_at};
 use crate::summaries::Summary;
 use ft_arena::{Arena, NodeId};
@@ -50,15 +51,29 @@ pub(crate) fn position_in<L: Leaf, G: Ledger>(
     requires sound { IsSound L.size L.element floor arena.now root }
     requires floor { IsFromFloor floor view }
     requires live { IsSome (leaf_value arena.now leaf) }
-    ensures { result ≡ total (length_of (by_view L.size L.element view) arena.now) (before arena.now.leaves leaf) }
+    ensures { result ≡ total (length_of (by_view L.size L.element (Of view)) arena.now) (numbers_before arena.now.leaves leaf) }
 {
     let mut steps = Steps::<G>::new(blank);
-    match root {
-        Some(root) if is_kept(view, floor) => {
-            kept_before(arena, NodeId(root), leaf, floor, view, &mut steps)
-        }
-        _ => seen_up_to(arena, Some(leaf.0), view, &mut steps),
-    }
+    let Some(root) = root else {
+        unreachable!();
+    };
+    let root = NodeId(root);
+    let Some(stage) = unkept_stage(view, floor) else {
+        return kept_before(arena, root, leaf, floor, View::Of(view), &mut steps);
+    };
+    let last = View::Of(LenView::Stage(u64::MAX));
+    let local = kept_before(arena, root, leaf, floor, last, &mut steps);
+    let pending = kept_before(arena, root, leaf, floor, View::Pending, &mut steps);
+    seen_at_stage(
+        arena,
+        root,
+        Some(leaf),
+        floor,
+        stage,
+        local,
+        pending,
+        &mut steps,
+    )
 }
 
 // The length of all leaves in a view.
@@ -74,15 +89,20 @@ pub(crate) fn length_in<L: Leaf, G: Ledger>(
     requires one { 0 < blank.parts }
     requires sound { IsSound L.size L.element floor arena.now root }
     requires floor { IsFromFloor floor view }
-    ensures { result ≡ total (length_of (by_view L.size L.element view) arena.now) arena.now.leaves }
+    ensures { result ≡ total (length_of (by_view L.size L.element (Of view)) arena.now) arena.now.leaves }
 {
     let mut steps = Steps::<G>::new(blank);
-    match root {
-        Some(root) if is_kept(view, floor) => {
-            kept_in_all(arena, NodeId(root), floor, view, &mut steps)
-        }
-        _ => seen_up_to(arena, None, view, &mut steps),
-    }
+    let Some(root) = root else {
+        return 0;
+    };
+    let root = NodeId(root);
+    let Some(stage) = unkept_stage(view, floor) else {
+        return kept_in_all(arena, root, floor, View::Of(view), &mut steps);
+    };
+    let last = View::Of(LenView::Stage(u64::MAX));
+    let local = kept_in_all(arena, root, floor, last, &mut steps);
+    let pending = kept_in_all(arena, root, floor, View::Pending, &mut steps);
+    seen_at_stage(arena, root, None, floor, stage, local, pending, &mut steps)
 }
 
 // Puts a new leaf directly after another, or first. Tells the root and the new leaf.

@@ -3,22 +3,22 @@
 ghost use Rattle.std.specs.Prelude.{◌≡◌, ℕ, ◌+◌, ◌*◌, ◌<◌, ◌≤◌, Some, None, IsSome, IfOk, IfErr};
 ghost use Rattle.ft_arena.specs.Forest.{entry};
 ghost use Rattle.ft_arena.specs.Ids.{times};
-ghost use Rattle.ft_block.specs.Tree.{IsTree, SumsBut, AreFromFloor, IsNodeFrom, IsKept, by_view, height_of, length_of, length_of_node, seek, total};
+ghost use Rattle.ft_block.specs.Tree.{IsTree, SumsBut, AreFromFloor, IsNodeFrom, KeepsLengths, by_view, height_of, length_of, length_of_node, seek, total};
 
-use crate::leaves::{Leaf, LenView, seen_length};
+use crate::leaves::{Leaf, View, shown_length};
 use crate::summaries::Summary;
 use ft_arena::{Arena, Kids, Node, NodeId};
 use ft_base::Steps;
 use std::sync::ledger::Ledger;
 
 // The length of a node in a view.
-pub(crate) fn length_at<L: Leaf>(node: &Node<L, Summary>, _floor: u64, view: LenView) -> u64
-    requires kept { IsKept _floor view }
+pub(crate) fn length_at<L: Leaf>(node: &Node<L, Summary>, _floor: u64, view: View) -> u64
+    requires kept { KeepsLengths _floor view }
     requires node { IsNodeFrom _floor node.now }
     ensures { result ≡ length_of_node (by_view L.size L.element view) node.now }
 {
     match node {
-        Node::Leaf { value } => seen_length(value, view),
+        Node::Leaf { value } => shown_length(value, view),
         Node::Block { value, .. } => value.kept(view),
     }
 }
@@ -28,11 +28,11 @@ fn child_at<L: Leaf, G: Ledger>(
     arena: &Arena<L, Summary>,
     kids: &Kids,
     floor: u64,
-    view: LenView,
+    view: View,
     p: u64,
     steps: &mut Steps<G>,
 ) -> (NodeId, u64)
-    requires kept { IsKept floor view }
+    requires kept { KeepsLengths floor view }
     requires floors { AreFromFloor floor arena.now }
     requires live { (id : ℕ) → 1 ≤ times kids.now id → IsSome (entry arena.now id) }
     requires low { 1 ≤ p }
@@ -59,12 +59,12 @@ pub(crate) fn find_from<L: Leaf, G: Ledger>(
     arena: &Arena<L, Summary>,
     root: NodeId,
     floor: u64,
-    view: LenView,
+    view: View,
     p: u64,
     steps: &mut Steps<G>,
 ) -> Result<(NodeId, u64), u64>
     requires tree { IsTree arena.now root }
-    requires kept { IsKept floor view }
+    requires kept { KeepsLengths floor view }
     requires floors { AreFromFloor floor arena.now }
     requires sums { SumsBut (by_view L.size L.element view) arena.now None }
     requires low { 1 ≤ p }
@@ -79,9 +79,8 @@ pub(crate) fn find_from<L: Leaf, G: Ledger>(
         let Node::Block { kids, value } = arena.read(at, steps) else {
             unreachable!();
         };
-        let length = value.kept(view);
-        if length < rest {
-            return Err(length);
+        if at == root && value.kept(view) < rest {
+            return Err(value.kept(view));
         }
         let (child, further) = child_at(arena, kids, floor, view, rest, steps);
         if value.height == 1 {

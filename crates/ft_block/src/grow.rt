@@ -3,7 +3,7 @@
 ghost use Rattle.std.specs.Prelude.{◌≡◌, ◌≢◌, ℕ, ◌+◌, ◌-◌, ◌^◌, ◌<◌, ◌≤◌, Option, Some, None, IsSome, IfOk, OnOk, length, slice_get, insert, [], ◌∷◌};
 ghost use Rattle.ft_arena.specs.Forest.{IsForest, entry, block_value, kids_of, parent_of, leaf_value};
 ghost use Rattle.ft_arena.specs.Ids.{times, insert_after};
-ghost use Rattle.ft_block.specs.declared.leaves.LenView.{LenView};
+ghost use Rattle.ft_block.specs.declared.leaves.View.{View};
 ghost use Rattle.ft_block.specs.Tree.{
   IsTree,
   IsGrowing,
@@ -12,7 +12,7 @@ ghost use Rattle.ft_block.specs.Tree.{
   OwesAsAbove,
   PairFits,
   AreFromFloor,
-  IsKept,
+  KeepsLengths,
   by_view,
   by_size,
   height_of,
@@ -79,7 +79,7 @@ fn root_over<L: Leaf, G: Ledger>(
     requires fits { PairFits L.size L.element floor arena.old root id }
     ensures roots { IfOk result (λ top. RootsOver arena.old arena.new root id top) }
     ensures floors { OnOk result (AreFromFloor floor arena.new) }
-    ensures sums { IfOk result (λ top. (view : LenView) → IsKept floor view → Resums (by_view L.size L.element view) arena.old arena.new top) }
+    ensures sums { IfOk result (λ top. (view : View) → KeepsLengths floor view → Resums (by_view L.size L.element view) arena.old arena.new top) }
 {
     let top = arena.add_block(Summary::new(alloc, height, floor));
     arena.put_child(top, 0, root);
@@ -168,10 +168,10 @@ fn split_put<L: Leaf, G: Ledger>(
     requires apart { times (kids_of arena.old block) block ≡ 0 }
     requires differ { id ≢ block }
     requires floors { AreFromFloor floor arena.old }
-    requires fits { (view : LenView) → IsKept floor view → total (length_of (by_view L.size L.element view) arena.old) (insert (kids_of arena.old block) place id) < 2 ^ 64 }
+    requires fits { (view : View) → KeepsLengths floor view → total (length_of (by_view L.size L.element view) arena.old) (insert (kids_of arena.old block) place id) < 2 ^ 64 }
     ensures splits { IfOk result (λ rear. SplitsAt arena.old arena.new block place id rear) }
     ensures floors { OnOk result (AreFromFloor floor arena.new) }
-    ensures sums { IfOk result (λ rear. (view : LenView) → IsKept floor view → ResumsBoth (by_view L.size L.element view) arena.old arena.new block rear) }
+    ensures sums { IfOk result (λ rear. (view : View) → KeepsLengths floor view → ResumsBoth (by_view L.size L.element view) arena.old arena.new block rear) }
 {
     let height = height_at(arena, block, steps);
     let rear = arena.add_block(Summary::new(alloc, height, floor));

@@ -1,12 +1,16 @@
 //! What a leaf of the tree has to offer, and what a view sees of it.
 
-ghost use Rattle.std.specs.Prelude.{◌≡◌, ℕ, ◌+◌, ◌<◌, ◌≤◌, Bool, IsTrue, IfOk, IfErr, OnOk, OnErr};
+ghost use Rattle.std.specs.Prelude.{◌≡◌, ℕ, ◌+◌, ◌<◌, ◌≤◌, Bool, IsTrue, IfOk, IfErr, OnOk, OnErr, MatchOption, not};
+ghost use Rattle.std.specs.List.{list_any};
+ghost use Rattle.ft_base.specs.Visibility.{is_acked};
 ghost use Rattle.ft_base.specs.declared.elements.Element.{Element};
 ghost use Rattle.ft_partial.specs.StepFunctions.{amount};
-ghost use Rattle.ft_block.specs.Leaves.{sees_in, seen_length, IsFromFloor};
-ghost use Rattle.ft_block.specs.Tree.{IsKept};
+ghost use Rattle.ft_block.specs.Leaves.{sees_in, IsFromFloor};
+ghost use Rattle.ft_block.specs.Tree.{KeepsLengths, is_pending, has_pending, shows, shown_length};
+ghost use Rattle.ft_block.specs.declared.leaves.LenView.TheVariants.{Stage};
+ghost use Rattle.ft_block.specs.declared.leaves.View.TheVariants.{Of};
 
-use ft_base::{Element, OutOfMemory, Perspective, seen_at, sees};
+use ft_base::{Element, OutOfMemory, Perspective, Stamp, seen_at, sees};
 
 /// A leaf: at least one element, all with the same stamps.
 pub trait Leaf: Sized {
@@ -109,8 +113,17 @@ pub enum LenView {
     All,
 }
 
+/// What is counted of leaves: the elements that a view sees, or those with a pending stamp.
+#[derive(Clone, Copy)]
+pub(crate) enum View {
+    /// The elements that this view sees.
+    Of(LenView),
+    /// The elements with a pending stamp, seen or not.
+    Pending,
+}
+
 /// Whether the view sees the element.
-pub(crate) fn sees_in(e: &Element, view: LenView) -> bool
+fn sees_in(e: &Element, view: LenView) -> bool
     ensures { result ≡ sees_in view e.now }
 {
     match view {
@@ -120,28 +133,62 @@ pub(crate) fn sees_in(e: &Element, view: LenView) -> bool
     }
 }
 
-/// How many of `len` elements of these stamps the view sees: all or none.
-pub(crate) fn seen_in(e: &Element, len: u64, view: LenView) -> u64
-    ensures { result ≡ amount (sees_in view e.now) len }
+/// Whether the stamp is pending.
+fn is_pending(stamp: &Stamp) -> bool
+    ensures { result ≡ is_pending stamp.now }
 {
-    if sees_in(e, view) { len } else { 0 }
+    match stamp {
+        Stamp::Acked { .. } => false,
+        Stamp::Local { .. } => true,
+    }
 }
 
-/// How many of the leaf's elements the view sees: all or none.
-pub(crate) fn seen_length<L: Leaf>(leaf: &L, view: LenView) -> u64
-    ensures { result ≡ seen_length L.size L.element view leaf.now }
+/// Whether one of the stamps is pending.
+fn is_any_pending(stamps: &[Stamp]) -> bool
+    ensures { result ≡ list_any is_pending stamps.now }
 {
-    seen_in(leaf.element(), leaf.len(), view)
+    stamps.iter().any(|stamp| is_pending(stamp))
 }
 
-/// Whether blocks keep the lengths of the view, whose reference number, if it has one, isn't below
-/// the floor.
-pub(crate) fn is_kept(view: LenView, floor: u64) -> bool
+/// Whether one of the element's stamps is pending.
+fn has_pending(e: &Element) -> bool
+    ensures { result ≡ has_pending e.now }
+{
+    is_pending(&e.ins) || is_any_pending(e.dels.as_slice())
+}
+
+/// Whether the view counts the element.
+fn shows(e: &Element, view: View) -> bool
+    ensures { result ≡ shows view e.now }
+{
+    match view {
+        View::Of(view) => sees_in(e, view),
+        View::Pending => has_pending(e),
+    }
+}
+
+/// How many of `len` elements of these stamps the view counts: all or none.
+pub(crate) fn shown_in(e: &Element, len: u64, view: View) -> u64
+    ensures { result ≡ amount (shows view e.now) len }
+{
+    if shows(e, view) { len } else { 0 }
+}
+
+/// How many of the leaf's elements the view counts: all or none.
+pub(crate) fn shown_length<L: Leaf>(leaf: &L, view: View) -> u64
+    ensures { result ≡ shown_length L.size L.element view leaf.now }
+{
+    shown_in(leaf.element(), leaf.len(), view)
+}
+
+/// The stage whose lengths blocks don't keep: None for the view of one that they do, whose reference
+/// number, if it has one, isn't below the floor.
+pub(crate) fn unkept_stage(view: LenView, floor: u64) -> Option<u64>
     requires { IsFromFloor floor view }
-    ensures { IsTrue result → IsKept floor view }
+    ensures { MatchOption result (KeepsLengths floor (Of view)) (λ stage. view ≡ Stage stage) }
 {
-    matches!(
-        view,
-        LenView::At(_) | LenView::Stage(u64::MAX) | LenView::All
-    )
+    match view {
+        LenView::Stage(stage) if stage != u64::MAX => Some(stage),
+        LenView::At(_) | LenView::Stage(_) | LenView::All => None,
+    }
 }

@@ -3,10 +3,13 @@
 ghost use Rattle.std.specs.Prelude.{◌≡◌, ℕ, ◌+◌, ◌^◌, ◌<◌, ◌≤◌, Some, None, IsSome};
 ghost use Rattle.ft_arena.specs.Forest.{IsForest, entry, block_value, kids_of, leaf_value};
 ghost use Rattle.ft_arena.specs.Ids.{times};
-ghost use Rattle.ft_block.specs.Tree.{IsTree, SumsBut, AreFromFloor, IsKept, by_size, by_view, length_of, total, before, up_to};
+ghost use Rattle.ft_block.specs.declared.leaves.LenView.TheVariants.{Stage};
+ghost use Rattle.ft_block.specs.declared.leaves.View.TheVariants.{Of, Pending};
+ghost use Rattle.ft_block.specs.Leaves.{last_stage};
+ghost use Rattle.ft_block.specs.Tree.{IsTree, SumsBut, AreFromFloor, KeepsLengths, by_size, by_view, length_of, total, numbers_before, up_to};
 
-use crate::find::length_at;
-use crate::leaves::{Leaf, LenView, seen_length};
+use crate::find::{find_from, length_at};
+use crate::leaves::{Leaf, LenView, View, shown_length};
 use crate::summaries::Summary;
 use ft_arena::{Arena, Node, NodeId};
 use ft_base::Steps;
@@ -18,16 +21,16 @@ fn length_before<L: Leaf, G: Ledger>(
     block: NodeId,
     child: NodeId,
     floor: u64,
-    view: LenView,
+    view: View,
     steps: &mut Steps<G>,
 ) -> u64
     requires forest { IsForest arena.now }
     requires block { IsSome (block_value arena.now block) }
-    requires kept { IsKept floor view }
+    requires kept { KeepsLengths floor view }
     requires floors { AreFromFloor floor arena.now }
     requires child { 1 ≤ times (kids_of arena.now block) child }
     requires fits { total (length_of (by_view L.size L.element view) arena.now) (kids_of arena.now block) < 2 ^ 64 }
-    ensures { result ≡ total (length_of (by_view L.size L.element view) arena.now) (before (kids_of arena.now block) child) }
+    ensures { result ≡ total (length_of (by_view L.size L.element view) arena.now) (numbers_before (kids_of arena.now block) child) }
 {
     let Node::Block { kids, .. } = arena.read(block, steps) else {
         unreachable!();
@@ -52,16 +55,16 @@ pub(crate) fn kept_before<L: Leaf, G: Ledger>(
     _root: NodeId,
     leaf: NodeId,
     floor: u64,
-    view: LenView,
+    view: View,
     steps: &mut Steps<G>,
 ) -> u64
     requires tree { IsTree arena.now _root }
-    requires kept { IsKept floor view }
+    requires kept { KeepsLengths floor view }
     requires floors { AreFromFloor floor arena.now }
     requires sums { SumsBut (by_view L.size L.element view) arena.now None }
     requires leaf { IsSome (leaf_value arena.now leaf) }
     requires fits { total (length_of (by_view L.size L.element view) arena.now) arena.now.leaves < 2 ^ 64 }
-    ensures { result ≡ total (length_of (by_view L.size L.element view) arena.now) (before arena.now.leaves leaf) }
+    ensures { result ≡ total (length_of (by_view L.size L.element view) arena.now) (numbers_before arena.now.leaves leaf) }
 {
     let mut sum = 0;
     let mut at = leaf;
@@ -77,11 +80,11 @@ pub(crate) fn kept_in_all<L: Leaf, G: Ledger>(
     arena: &Arena<L, Summary>,
     root: NodeId,
     floor: u64,
-    view: LenView,
+    view: View,
     steps: &mut Steps<G>,
 ) -> u64
     requires tree { IsTree arena.now root }
-    requires kept { IsKept floor view }
+    requires kept { KeepsLengths floor view }
     requires floors { AreFromFloor floor arena.now }
     requires sums { SumsBut (by_view L.size L.element view) arena.now None }
     ensures { result ≡ total (length_of (by_view L.size L.element view) arena.now) arena.now.leaves }
@@ -104,25 +107,38 @@ pub(crate) fn leaf_at<'a, L: Leaf, G: Ledger>(
     }
 }
 
-// The lengths, in a view, of the leaves before this one, or of all where none is given: leaf by leaf.
-pub(crate) fn seen_up_to<L: Leaf, G: Ledger>(
+// How many elements a stage sees of the leaves before the given one, or of all where none is given, of
+// which the local view sees `local` and `pending` have a pending stamp: these alone are looked at.
+pub(crate) fn seen_at_stage<L: Leaf, G: Ledger>(
     arena: &Arena<L, Summary>,
-    end: Option<usize>,
-    view: LenView,
+    root: NodeId,
+    _end: Option<NodeId>,
+    floor: u64,
+    stage: u64,
+    local: u64,
+    pending: u64,
     steps: &mut Steps<G>,
 ) -> u64
-    requires forest { IsForest arena.now }
+    requires tree { IsTree arena.now root }
+    requires floors { AreFromFloor floor arena.now }
+    requires sums { SumsBut (by_view L.size L.element Pending) arena.now None }
     requires fits { total (length_of (by_size L.size) arena.now) arena.now.leaves < 2 ^ 64 }
-    ensures { result ≡ total (length_of (by_view L.size L.element view) arena.now) (up_to arena.now.leaves end) }
+    requires local { local ≡ total (length_of (by_view L.size L.element (Of last_stage)) arena.now) (up_to arena.now.leaves _end) }
+    requires pending { pending ≡ total (length_of (by_view L.size L.element Pending) arena.now) (up_to arena.now.leaves _end) }
+    ensures { result ≡ total (length_of (by_view L.size L.element (Of (Stage stage))) arena.now) (up_to arena.now.leaves _end) }
 {
-    let mut sum = 0;
-    let mut at = arena.first();
-    'leaves: while let Some(id) = at {
-        if end == Some(id.0) {
-            return sum;
-        }
-        sum += seen_length(leaf_at(arena, id, steps), view);
-        at = arena.next(id);
+    let last = View::Of(LenView::Stage(u64::MAX));
+    let now = View::Of(LenView::Stage(stage));
+    let mut sum = local;
+    let mut passed = 0;
+    'leaves: while passed < pending {
+        let Ok((id, further)) = find_from(arena, root, floor, View::Pending, passed + 1, steps)
+        else {
+            unreachable!();
+        };
+        let leaf = leaf_at(arena, id, steps);
+        sum = sum - shown_length(leaf, last) + shown_length(leaf, now);
+        passed = passed + 1 - further + shown_length(leaf, View::Pending);
     }
     sum
 }

@@ -3,8 +3,8 @@
 ghost use Rattle.std.specs.Prelude.{◌≡◌, ℕ, ◌+◌, ◌^◌, ◌<◌, ◌≤◌, [], ◌∷◌, None, Some, IsSome, IfOk, OnOk};
 ghost use Rattle.ft_arena.specs.Forest.{IsForest, entry, block_value, kids_of, parent_of, leaf_value};
 ghost use Rattle.ft_arena.specs.Ids.{times};
-ghost use Rattle.ft_block.specs.declared.leaves.LenView.{LenView};
-ghost use Rattle.ft_block.specs.Tree.{IsPartTree, SumsKeptBut, OwesExchange, AreFromFloor, IsKept, by_view, by_size, kept_length, length_of, total};
+ghost use Rattle.ft_block.specs.declared.leaves.View.{View};
+ghost use Rattle.ft_block.specs.Tree.{IsPartTree, SumsKeptBut, OwesExchange, AreFromFloor, KeepsLengths, by_view, by_size, kept_length, length_of, total};
 ghost use Rattle.ft_block.specs.Steps.{SameShape, Resums};
 
 use crate::leaves::Leaf;
@@ -26,10 +26,10 @@ fn sum_of<L: Leaf, G: Ledger>(
 ) -> Result<Summary, OutOfMemory>
     requires live { (id : ℕ) → 1 ≤ times kids.now id → IsSome (entry arena.now id) }
     requires floors { AreFromFloor floor arena.now }
-    requires fits { (view : LenView) → IsKept floor view → total (length_of (by_view L.size L.element view) arena.now) kids.now < 2 ^ 64 }
+    requires fits { (view : View) → KeepsLengths floor view → total (length_of (by_view L.size L.element view) arena.now) kids.now < 2 ^ 64 }
     ensures height { IfOk result (λ sum. sum.height ≡ height) }
     ensures floor { IfOk result (λ sum. sum.table.floor ≡ floor) }
-    ensures sum { IfOk result (λ sum. (view : LenView) → IsKept floor view → kept_length view sum ≡ total (length_of (by_view L.size L.element view) arena.now) kids.now) }
+    ensures sum { IfOk result (λ sum. (view : View) → KeepsLengths floor view → kept_length view sum ≡ total (length_of (by_view L.size L.element view) arena.now) kids.now) }
 {
     let _few = kids.len();
     let mut sum = Summary::new(alloc, height, floor);
@@ -53,10 +53,10 @@ pub(crate) fn rebuild<L: Leaf, G: Ledger>(
     requires forest { IsForest arena.old }
     requires apart { times (kids_of arena.old block) block ≡ 0 }
     requires floors { AreFromFloor floor arena.old }
-    requires fits { (view : LenView) → IsKept floor view → total (length_of (by_view L.size L.element view) arena.old) (kids_of arena.old block) < 2 ^ 64 }
+    requires fits { (view : View) → KeepsLengths floor view → total (length_of (by_view L.size L.element view) arena.old) (kids_of arena.old block) < 2 ^ 64 }
     ensures shape { OnOk result (SameShape arena.old arena.new) }
     ensures floors { OnOk result (AreFromFloor floor arena.new) }
-    ensures sums { OnOk result ((view : LenView) → IsKept floor view → Resums (by_view L.size L.element view) arena.old arena.new block) }
+    ensures sums { OnOk result ((view : View) → KeepsLengths floor view → Resums (by_view L.size L.element view) arena.old arena.new block) }
 {
     let Node::Block { kids, value } = arena.read(block, steps) else {
         unreachable!();

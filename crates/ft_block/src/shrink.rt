@@ -4,8 +4,8 @@
 ghost use Rattle.std.specs.Prelude.{◌≡◌, ◌≢◌, IsTrue, false, ℕ, ◌+◌, ◌^◌, ◌<◌, ◌≤◌, ◌++◌, Some, None, IsSome, IfOk, OnOk, length, slice_get, [], ◌∷◌};
 ghost use Rattle.ft_arena.specs.Forest.{IsForest, IsPlace, block_value, kids_of, leaf_value, parent_of};
 ghost use Rattle.ft_arena.specs.Ids.{times, put_after, without};
-ghost use Rattle.ft_block.specs.declared.leaves.LenView.{LenView};
-ghost use Rattle.ft_block.specs.Tree.{IsTree, IsApart, SumsBut, SumsKeptBut, AreFromFloor, IsKept, PairFits, IsBare, by_view, by_size, height_of, length_of, total};
+ghost use Rattle.ft_block.specs.declared.leaves.View.{View};
+ghost use Rattle.ft_block.specs.Tree.{IsTree, IsApart, SumsBut, SumsKeptBut, AreFromFloor, KeepsLengths, PairFits, IsBare, by_view, by_size, height_of, length_of, total};
 ghost use Rattle.ft_block.specs.Inside.{IsRooted};
 ghost use Rattle.ft_block.specs.Steps.{Regroups, Shares, ResumsPair, DropsRoot, IsPair, TakesLeaf, MovesLeaf};
 
@@ -116,11 +116,11 @@ fn balance<L: Leaf, G: Ledger>(
     requires pair { IsPair arena.old up front rear }
     requires many { 9 ≤ length (kids_of arena.old front) + length (kids_of arena.old rear) }
     requires floors { AreFromFloor floor arena.old }
-    requires sums { (view : LenView) → IsKept floor view → SumsBut (by_view L.size L.element view) arena.old None }
+    requires sums { (view : View) → KeepsLengths floor view → SumsBut (by_view L.size L.element view) arena.old None }
     requires fits { PairFits L.size L.element floor arena.old front rear }
     ensures shares { OnOk result (Shares arena.old arena.new up front rear) }
     ensures up_kids { OnOk result (kids_of arena.new up ≡ kids_of arena.old up) }
-    ensures sums { OnOk result ((view : LenView) → IsKept floor view → ResumsPair (by_view L.size L.element view) arena.old arena.new up front rear) }
+    ensures sums { OnOk result ((view : View) → KeepsLengths floor view → ResumsPair (by_view L.size L.element view) arena.old arena.new up front rear) }
     ensures floors { OnOk result (AreFromFloor floor arena.new) }
 {
     let many = count_of(arena, front, steps) + count_of(arena, rear, steps);
@@ -147,10 +147,10 @@ fn merge<L: Leaf, G: Ledger>(
     requires few { length (kids_of arena.old front) + length (kids_of arena.old rear) ≤ 8 }
     requires many { 4 ≤ length (kids_of arena.old front) + length (kids_of arena.old rear) }
     requires floors { AreFromFloor floor arena.old }
-    requires sums { (view : LenView) → IsKept floor view → SumsBut (by_view L.size L.element view) arena.old None }
+    requires sums { (view : View) → KeepsLengths floor view → SumsBut (by_view L.size L.element view) arena.old None }
     requires fits { PairFits L.size L.element floor arena.old front rear }
     ensures shares { OnOk result (Shares arena.old arena.new up front rear) }
-    ensures sums { OnOk result ((view : LenView) → IsKept floor view → ResumsPair (by_view L.size L.element view) arena.old arena.new up front rear) }
+    ensures sums { OnOk result ((view : View) → KeepsLengths floor view → ResumsPair (by_view L.size L.element view) arena.old arena.new up front rear) }
     ensures floors { OnOk result (AreFromFloor floor arena.new) }
 {
     let many = count_of(arena, front, steps) + count_of(arena, rear, steps);

@@ -2,22 +2,23 @@
 
 ghost use Rattle.std.specs.Prelude.{◌≡◌, ◌≤◌, ◌<◌, ◌^◌, OnOk};
 ghost use Rattle.ft_partial.specs.Rows.{Covers};
-ghost use Rattle.ft_block.specs.Leaves.{IsFromFloor};
-ghost use Rattle.ft_block.specs.Tree.{kept_length, length_of_node, by_view, KeepsNothing, KeepsExchange, KeepsSum, KeepsNode, IsNodeFrom, HasRange};
+ghost use Rattle.ft_block.specs.Tree.{IsFrom, kept_length, length_of_node, by_view, KeepsNothing, KeepsExchange, KeepsSum, KeepsNode, IsNodeFrom, HasRange};
 
-use crate::leaves::{Leaf, LenView, seen_in};
+use crate::leaves::{Leaf, LenView, View, shown_in};
 use ft_arena::Node;
 use ft_base::{Element, OutOfMemory, Stamp};
 use ft_partial::{Table, stamps_of};
 use std::alloc::Global;
 
 /// What a block keeps: how many levels of blocks it heads, how many elements its leaves have, how many
-/// of them the local view sees, and a table of how many each perspective sees.
+/// of them the local view sees, how many have a pending stamp, and a table of how many each
+/// perspective sees.
 #[derive(Drop)]
 pub(crate) struct Summary {
     pub(crate) height: u64,
     pub(crate) whole: u64,
     pub(crate) local: u64,
+    pub(crate) pending: u64,
     pub(crate) table: Table,
 }
 
@@ -34,19 +35,21 @@ impl Summary {
             height,
             whole: 0,
             local: 0,
+            pending: 0,
             table,
         }
     }
 
     // What is kept of a view.
-    pub(crate) fn kept(&self, view: LenView) -> u64
-        requires { IsFromFloor self.now.table.floor view }
+    pub(crate) fn kept(&self, view: View) -> u64
+        requires { IsFrom self.now.table.floor view }
         ensures { result ≡ kept_length view self.now }
     {
         match view {
-            LenView::At(at) => self.table.length(at),
-            LenView::Stage(_) => self.local,
-            LenView::All => self.whole,
+            View::Of(LenView::At(at)) => self.table.length(at),
+            View::Of(LenView::Stage(_)) => self.local,
+            View::Of(LenView::All) => self.whole,
+            View::Pending => self.pending,
         }
     }
 
@@ -69,11 +72,14 @@ impl Summary {
         ensures low { HasRange self.new }
         ensures exchanges { OnOk result (KeepsExchange floor self.old self.new e.now len new.now new_len) }
     {
-        let last = LenView::Stage(u64::MAX);
-        let gone = seen_in(e, len, last);
-        let come = seen_in(new, new_len, last);
+        let last = View::Of(LenView::Stage(u64::MAX));
+        let gone = shown_in(e, len, last);
+        let come = shown_in(new, new_len, last);
+        let settled = shown_in(e, len, View::Pending);
+        let pending = shown_in(new, new_len, View::Pending);
         self.whole = self.whole.wrapping_sub(len).wrapping_add(new_len);
         self.local = self.local.wrapping_sub(gone).wrapping_add(come);
+        self.pending = self.pending.wrapping_sub(settled).wrapping_add(pending);
         self.table.fold_to(floor);
         self.table.exchange(stamps, e, len, new, new_len)
     }
@@ -89,6 +95,7 @@ impl Summary {
     {
         self.whole = self.whole.wrapping_add(other.whole);
         self.local = self.local.wrapping_add(other.local);
+        self.pending = self.pending.wrapping_add(other.pending);
         self.table.add_all(&other.table)
     }
 }

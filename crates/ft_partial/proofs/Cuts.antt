@@ -5,7 +5,7 @@ use Rattle.std.proofs.lemmas.Bool.{cases_lt}
 use Rattle.std.proofs.lemmas.Bool.Decides.{nat_tests}
 use Rattle.std.proofs.lemmas.List.Edits.{length-insert, get_or-insert_below, get_or-insert_at, get_or-insert_above}
 use Rattle.ft_partial.specs.StepFunctions.{value_from}
-use Rattle.ft_partial.specs.Steps.{IsRising, IsPlace, IsStepAt, value_before, Cuts}
+use Rattle.ft_partial.specs.Steps.{IsRising, IsPlace, IsStepAt, value_before, CutsStep}
 use Rattle.ft_partial.specs.declared.step_functions.Step.{Step}
 use Rattle.ft_partial.proofs.Places.{from_at, from_at-default, rising_le}
 
@@ -100,9 +100,9 @@ kept_at xs i y inside q j s =
 
 -- the step that was missing
 pub cut_new : (old new : List Step) (k h i : ℕ) (e : Step) → IsRising old → IsPlace old k i → ((d : Step) (j : ℕ) → j < i → from_at old j d < k)
-    → h ≡ value_before 0 old i e → new ≡ insert old i record { from = k; value = h } → Cuts old new k i
+    → h ≡ value_before 0 old i e → new ≡ insert old i record { from = k; value = h } → CutsStep old new k i
 cut_new old new k h i e rising place low eh en =
-    let C : List Step → Type 0 = λ xs. Cuts old xs k i in
+    let C : List Step → Type 0 = λ xs. CutsStep old xs k i in
     let made : new ≡ insert old i record { from = k; value = value_before 0 old i e } = en ∙ ap (λ n. insert old i record { from = k; value = n }) eh in
     let y : Step = record { from = k; value = value_before 0 old i e } in
     subst C (sym made) record {
@@ -118,7 +118,7 @@ last_is v xs zero d h = absurd (h refl)
 last_is v xs (suc i) d h = let down : suc i - 1 ≡ i = omega arith in ap (λ n. (get_or xs n d).value) down
 
 pub cut_later : (old new : List Step) (k i : ℕ) (last : Step) → IsRising old → IsPlace old k i → i ≢ 0 → last ≡ get_or old (i - 1) last → last.from ≢ k
-    → new ≡ insert old i record { from = k; value = last.value } → Cuts old new k i
+    → new ≡ insert old i record { from = k; value = last.value } → CutsStep old new k i
 cut_later old new k i last rising place some is other en =
     let inside : i - 1 < length old = omega (arith, place.inside) in
     let strict : last.from < k = omega (arith, place.below last (i - 1) (omega arith), ap (λ s. s.from) is) in

@@ -6,7 +6,7 @@ use Rattle.std.proofs.lemmas.Bool.Decides.{nat_tests}
 use Rattle.std.proofs.lemmas.List.{get_or_default, get_or-set_same, get_or-set_other, length-set}
 use Rattle.ft_base.specs.Scan.{within}
 use Rattle.ft_partial.specs.StepFunctions.{amount, value_from}
-use Rattle.ft_partial.specs.Steps.{IsRising, IsPlace, IsStepAt, value_before, Cuts, lifted, LiftsBelow, RaisesSteps}
+use Rattle.ft_partial.specs.Steps.{IsRising, IsPlace, IsStepAt, value_before, CutsStep, lifted, LiftsBelow, RaisesSteps}
 use Rattle.ft_partial.specs.declared.step_functions.Step.{Step}
 use Rattle.ft_partial.specs.declared.step_functions.Span.{Span}
 use Rattle.ft_partial.proofs.Values.{no_step, value_from-place}
@@ -123,7 +123,7 @@ lifted_rising xs ys span rising lifts d i j h l =
     omega (arith, rising d i j h inside, ap (λ s. s.from) (lifts.below d i before before), ap (λ s. s.from) (lifts.below d j inside inside))
 
 -- cut twice and lift between
-pub steps_raised : (old mid xs ys : List Step) (span : Span) (a b : ℕ) → Cuts old mid span.to b → Cuts mid xs span.from a → LiftsBelow xs ys span (length xs)
+pub steps_raised : (old mid xs ys : List Step) (span : Span) (a b : ℕ) → CutsStep old mid span.to b → CutsStep mid xs span.from a → LiftsBelow xs ys span (length xs)
     → RaisesSteps old ys span
 steps_raised old mid xs ys span a b first second lifts =
     let end = second.kept span.to b first.step in

@@ -6,7 +6,7 @@ use Rattle.ft_base.specs.declared.stamps.Stamp.{Stamp}
 use Rattle.ft_base.specs.declared.stamps.Stamp.TheVariants.{Acked, Local}
 use Rattle.ft_base.specs.declared.elements.Element.{Element}
 use Rattle.ft_partial.specs.Items.{Item, length_where}
-use Rattle.ft_partial.specs.SameStamps.{same_stamp, same_stamps, same_element, length_of, SameByStamps}
+use Rattle.ft_partial.specs.SameStamps.{same_stamp, have_same_stamps, same_element, length_of, SameByStamps}
 
 -- whatever test is made of stamps, the items that pass it have the same sum of lengths
 abbrev pub SameSums : List Item → List Item → Type 0
@@ -16,7 +16,7 @@ stamp-refl : (s : Stamp) → same_stamp s s ≡ true
 stamp-refl (Acked s c) = grind (arith, nat_tests)
 stamp-refl (Local k) = grind (arith, nat_tests)
 
-stamps-refl : (xs : List Stamp) → same_stamps xs xs ≡ true
+stamps-refl : (xs : List Stamp) → have_same_stamps xs xs ≡ true
 stamps-refl [] = refl
 stamps-refl (x ∷ xs) = grind (arith, stamp-refl x, stamps-refl xs)
 
@@ -40,18 +40,18 @@ and_right : (a b : Bool) → (a && b) ≡ true → b ≡ true
 and_right true b h = h
 and_right false b h = cc
 
-stamps-is : (xs ys : List Stamp) → same_stamps xs ys ≡ true → xs ≡ ys
+stamps-is : (xs ys : List Stamp) → have_same_stamps xs ys ≡ true → xs ≡ ys
 stamps-is [] [] h = refl
 stamps-is [] (y ∷ ys) h = cc
 stamps-is (x ∷ xs) [] h = cc
 stamps-is (x ∷ xs) (y ∷ ys) h =
-    ap (λ z. z ∷ xs) (stamp-is x y (and_left (same_stamp x y) (same_stamps xs ys) h))
-    ∙ ap (λ zs. y ∷ zs) (stamps-is xs ys (and_right (same_stamp x y) (same_stamps xs ys) h))
+    ap (λ z. z ∷ xs) (stamp-is x y (and_left (same_stamp x y) (have_same_stamps xs ys) h))
+    ∙ ap (λ zs. y ∷ zs) (stamps-is xs ys (and_right (same_stamp x y) (have_same_stamps xs ys) h))
 
 element-is : (e f : Element) → same_element e f ≡ true → e ≡ f
 element-is e f h =
-    let a : e.ins ≡ f.ins = stamp-is e.ins f.ins (and_left (same_stamp e.ins f.ins) (same_stamps e.dels f.dels) h) in
-    let b : e.dels ≡ f.dels = stamps-is e.dels f.dels (and_right (same_stamp e.ins f.ins) (same_stamps e.dels f.dels) h) in
+    let a : e.ins ≡ f.ins = stamp-is e.ins f.ins (and_left (same_stamp e.ins f.ins) (have_same_stamps e.dels f.dels) h) in
+    let b : e.dels ≡ f.dels = stamps-is e.dels f.dels (and_right (same_stamp e.ins f.ins) (have_same_stamps e.dels f.dels) h) in
     let P : Stamp → List Stamp → Element = λ x y. record { ins = x; dels = y } in
     ap (λ x. P x e.dels) a ∙ ap (λ y. P f.ins y) b
 

@@ -7,10 +7,10 @@ use Rattle.ft_base.specs.declared.stamps.Stamp.TheVariants.{Acked, Local}
 use Rattle.ft_base.specs.declared.elements.Element.{Element}
 use Rattle.ft_base.specs.Visibility.{has_occurred, sees}
 use Rattle.ft_partial.specs.StepFunctions.{amount, value_at, span_value, ExchangesSpan}
-use Rattle.ft_partial.specs.Rows.{place_of, common_span, row_value, ExchangesRows, Covers}
-use Rattle.ft_partial.specs.Items.{Item, item_of, length_where, seen, is_at_most, folded_stamp, folded_item, folded_items}
+use Rattle.ft_partial.specs.Rows.{row_place, common_span, row_value, ExchangesRows, Covers}
+use Rattle.ft_partial.specs.Items.{Item, item_of, length_where, length_seen, is_at_most, folded_stamp, folded_item, folded_items}
 use Rattle.ft_partial.specs.SameStamps.{ExchangesItem, SameByStamps}
-use Rattle.ft_partial.specs.Tables.{Lengths, length_at, StandsFor, Adds, Exchanges, AddsAll, SameFrom}
+use Rattle.ft_partial.specs.Tables.{Lengths, length_at, CountsItems, Adds, Exchanges, AddsAll, SameFrom}
 use Rattle.ft_partial.specs.declared.step_functions.Step.{Step}
 use Rattle.ft_partial.specs.declared.step_functions.Span.{Span}
 use Rattle.ft_partial.proofs.Values.{value_at-none}
@@ -22,7 +22,7 @@ unfolding length_at
 length_at-fits t r c = omega arith
 
 -- the two values make up the length
-pub length_at_is : (t : Lengths) (common own : List Step) (r c place v w : ℕ) → common ≡ t.common → own ≡ t.own → place ≡ place_of c r
+pub length_at_is : (t : Lengths) (common own : List Step) (r c place v w : ℕ) → common ≡ t.common → own ≡ t.own → place ≡ row_place c r
     → v ≡ value_at common r → w ≡ value_at own place → (v + w) % 2 ^ 64 ≡ length_at t r c
 unfolding length_at
 length_at_is t common own r c place v w ec eo ep ev ew =
@@ -31,22 +31,22 @@ length_at_is t common own r c place v w ec eo ep ev ew =
     ap (λ n. (n + w) % 2 ^ 64) first ∙ ap (λ n. (value_at t.common r + n) % 2 ^ 64) second
 
 -- no list is seen to be longer than it is
-pub seen-le : (r c : ℕ) (xs : List Item) → seen r c xs ≤ length_where (λ e. true) xs
+pub seen-le : (r c : ℕ) (xs : List Item) → length_seen r c xs ≤ length_where (λ e. true) xs
 seen-le r c [] = omega arith
 seen-le r c (x ∷ xs) = go (sees x.element r c) (seen-le r c xs)
   where
-    go : (b : Bool) → seen r c xs ≤ length_where (λ e. true) xs → cond b x.len 0 + seen r c xs ≤ x.len + length_where (λ e. true) xs
+    go : (b : Bool) → length_seen r c xs ≤ length_where (λ e. true) xs → cond b x.len 0 + length_seen r c xs ≤ x.len + length_where (λ e. true) xs
     go true h = omega arith
     go false h = omega arith
 
 -- so where a list has less than 2 ^ 64 elements, each perspective from the floor up has the exact number
-pub length_at-exact : (t : Lengths) (xs : List Item) → StandsFor t xs → length_where (λ e. true) xs < 2 ^ 64
-    → (r c : ℕ) → t.floor ≤ r → r < 2 ^ 64 → c < 2 ^ 32 → length_at t r c ≡ seen r c xs
+pub length_at-exact : (t : Lengths) (xs : List Item) → CountsItems t xs → length_where (λ e. true) xs < 2 ^ 64
+    → (r c : ℕ) → t.floor ≤ r → r < 2 ^ 64 → c < 2 ^ 32 → length_at t r c ≡ length_seen r c xs
 length_at-exact t xs stands fits r c hf hr hc = omega (arith, stands r c hf hr hc, seen-le r c xs)
 
-pub stands-none : (t : Lengths) → t.common ≡ [] → t.own ≡ [] → StandsFor t []
+pub stands-none : (t : Lengths) → t.common ≡ [] → t.own ≡ [] → CountsItems t []
 unfolding length_at
-stands-none t common own r c hf hr hc = omega (arith, value_at-none t.common r common, value_at-none t.own (place_of c r) own)
+stands-none t common own r c hf hr hc = omega (arith, value_at-none t.common r common, value_at-none t.own (row_place c r) own)
 
 exchanged : (vn wn vo wo a b x y s t : ℕ) → (vn + a) % 2 ^ 64 ≡ (vo + b) % 2 ^ 64 → (wn + x) % 2 ^ 64 ≡ (wo + y) % 2 ^ 64
     → (a + x) % 2 ^ 64 ≡ s % 2 ^ 64 → (b + y) % 2 ^ 64 ≡ t % 2 ^ 64 → ((vn + wn) % 2 ^ 64 + s) % 2 ^ 64 ≡ ((vo + wo) % 2 ^ 64 + t) % 2 ^ 64
@@ -61,7 +61,7 @@ exchanges_item old new stamps e f n m hn hm ce cf common own r c hf hr hc =
     let out = covered old.floor stamps e n r c ce in
     let into = covered old.floor stamps f m r c cf in
     let rows = own r c hr hc in
-    exchanged (value_at new.common r) (value_at new.own (place_of c r)) (value_at old.common r) (value_at old.own (place_of c r))
+    exchanged (value_at new.common r) (value_at new.own (row_place c r)) (value_at old.common r) (value_at old.own (row_place c r))
     (span_value (common_span old.floor e n) r) (span_value (common_span old.floor f m) r) (row_value old.floor e n c r) (row_value old.floor f m c r)
     (amount (sees e r c) n) (amount (sees f r c) m)
     (common r) (omega (arith, rows, out, into)) (parts old.floor e n r c hf hn hr) (parts old.floor f m r c hf hm hr)
@@ -95,7 +95,7 @@ adds_item old new e n exchanges r c hf hr hc =
 pub adds_all : (old other new : Lengths) → ((k : ℕ) → value_at new.common k ≡ (value_at old.common k + value_at other.common k) % 2 ^ 64)
     → ((k : ℕ) → value_at new.own k ≡ (value_at old.own k + value_at other.own k) % 2 ^ 64) → AddsAll old other new
 unfolding length_at
-adds_all old other new common own r c hr hc = omega (arith, common r, own (place_of c r))
+adds_all old other new common own r c hr hc = omega (arith, common r, own (row_place c r))
 
 -- the same in the words of the code
 pub adds_all_at : (old other new : Lengths) (common own more_common more_own : List Step) → common ≡ old.common → own ≡ old.own → more_common ≡ other.common → more_own ≡ other.own
@@ -110,7 +110,7 @@ pub same_from : (old new : Lengths) (floor : ℕ)
     → ((k : ℕ) → floor ≤ k % 2 ^ 64 → value_at new.common k ≡ value_at old.common k)
     → ((k : ℕ) → floor ≤ k % 2 ^ 64 → value_at new.own k ≡ value_at old.own k) → SameFrom floor old new
 unfolding length_at
-same_from old new floor common own r c hf hr hc = omega (arith, common r (omega arith), own (place_of c r) (omega arith))
+same_from old new floor common own r c hf hr hc = omega (arith, common r (omega arith), own (row_place c r) (omega arith))
 
 pub same_kept : (old new : Lengths) (floor : ℕ) → new.common ≡ old.common → new.own ≡ old.own → SameFrom floor old new
 same_kept old new floor common own =
@@ -121,20 +121,20 @@ more wn wo l s e1 e2 = omega arith
 
 -- an item more
 pub stands-add : (old new : Lengths) (e : Element) (n : ℕ) → Adds old new e n → new.floor ≡ old.floor
-    → (xs : List Item) → StandsFor old xs → StandsFor new (item_of e n ∷ xs)
+    → (xs : List Item) → CountsItems old xs → CountsItems new (item_of e n ∷ xs)
 stands-add old new e n adds floor xs stands r c hf hr hc =
     let above : old.floor ≤ r = omega arith in
-    more (length_at new r c) (length_at old r c) (amount (sees e r c) n) (seen r c xs) (adds r c above hr hc) (stands r c above hr hc)
+    more (length_at new r c) (length_at old r c) (amount (sees e r c) n) (length_seen r c xs) (adds r c above hr hc) (stands r c above hr hc)
 
 shifted : (wn wo a b x y : ℕ) → (wn + a) % 2 ^ 64 ≡ (wo + b) % 2 ^ 64 → wo ≡ x % 2 ^ 64 → a + y ≡ b + x → wn < 2 ^ 64 → wn ≡ y % 2 ^ 64
 shifted wn wo a b x y e1 e2 e3 h = omega arith
 
 -- one item in the place of another
 pub stands-exchange : (old new : Lengths) (e f : Element) (n m : ℕ) → Exchanges old new e n f m → new.floor ≡ old.floor
-    → (xs ys : List Item) → StandsFor old xs → ExchangesItem xs ys e n f m → StandsFor new ys
+    → (xs ys : List Item) → CountsItems old xs → ExchangesItem xs ys e n f m → CountsItems new ys
 stands-exchange old new e f n m exchanges floor xs ys stands same r c hf hr hc =
     let above : old.floor ≤ r = omega arith in
-    shifted (length_at new r c) (length_at old r c) (amount (sees e r c) n) (amount (sees f r c) m) (seen r c xs) (seen r c ys)
+    shifted (length_at new r c) (length_at old r c) (amount (sees e r c) n) (amount (sees f r c) m) (length_seen r c xs) (length_seen r c ys)
     (exchanges r c above hr hc) (stands r c above hr hc) (same_sums (item_of e n ∷ ys) (item_of f m ∷ xs) same (λ g. sees g r c)) (length_at-fits new r c)
 
 length_where-append : (p : Element → Bool) (xs ys : List Item) → length_where p (xs ++ ys) ≡ length_where p xs + length_where p ys
@@ -143,14 +143,14 @@ length_where-append p (x ∷ xs) ys = omega (arith, length_where-append p xs ys)
 
 -- all items of two tables
 pub stands-all : (old other new : Lengths) → AddsAll old other new → other.floor ≤ old.floor → new.floor ≡ old.floor
-    → (xs ys : List Item) → StandsFor old xs → StandsFor other ys → StandsFor new (ys ++ xs)
+    → (xs ys : List Item) → CountsItems old xs → CountsItems other ys → CountsItems new (ys ++ xs)
 stands-all old other new adds h floor xs ys sx sy r c hf hr hc =
     let above : old.floor ≤ r = omega arith in
     let others : other.floor ≤ r = omega arith in
     rw (length_where-append (λ e. sees e r c) ys xs) (omega (arith, adds r c hr hc, sx r c above hr hc, sy r c others hr hc))
 
 -- a higher floor
-pub stands-higher : (old new : Lengths) → SameFrom new.floor old new → old.floor ≤ new.floor → (xs : List Item) → StandsFor old xs → StandsFor new xs
+pub stands-higher : (old new : Lengths) → SameFrom new.floor old new → old.floor ≤ new.floor → (xs : List Item) → CountsItems old xs → CountsItems new xs
 stands-higher old new same h xs stands r c hf hr hc =
     let above : old.floor ≤ r = omega arith in
     same r c hf hr hc ∙ stands r c above hr hc
@@ -171,19 +171,19 @@ folded-occurred f r c (Acked s d) h = folded_case f r c s d (nat_le s f) h refl
 folded-occurred f r c (Local k) h = refl
 
 seen_case : (f r c : ℕ) (x : Item) (ys : List Item) (b : Bool) → f ≤ r → list_any (is_at_most f) x.element.dels ≡ b
-    → seen r c (cond (not b) (folded_item f x ∷ ys) ys) ≡ amount (sees x.element r c) x.len + seen r c ys
+    → length_seen r c (cond (not b) (folded_item f x ∷ ys) ys) ≡ amount (sees x.element r c) x.len + length_seen r c ys
 seen_case f r c x ys true h e = grind (arith, nat_tests, removed-occurred f r c x.element.dels h e)
 seen_case f r c x ys false h e = grind (arith, nat_tests, folded-occurred f r c x.element.ins h)
 
-seen-folded : (f r c : ℕ) (xs : List Item) → f ≤ r → seen r c (folded_items f xs) ≡ seen r c xs
+seen-folded : (f r c : ℕ) (xs : List Item) → f ≤ r → length_seen r c (folded_items f xs) ≡ length_seen r c xs
 seen-folded f r c [] h = refl
 seen-folded f r c (x ∷ xs) h =
     seen_case f r c x (folded_items f xs) (list_any (is_at_most f) x.element.dels) h refl ∙ ap (λ n. amount (sees x.element r c) x.len + n) (seen-folded f r c xs h)
 
 -- the items as they are written at the floor
-pub stands-folded : (t : Lengths) (xs : List Item) → StandsFor t xs → StandsFor t (folded_items t.floor xs)
+pub stands-folded : (t : Lengths) (xs : List Item) → CountsItems t xs → CountsItems t (folded_items t.floor xs)
 stands-folded t xs stands r c hf hr hc = stands r c hf hr hc ∙ ap (λ n. n % 2 ^ 64) (sym (seen-folded t.floor r c xs hf))
 
 -- lists with the same sums for all stamps
-pub stands-same : (t : Lengths) (xs ys : List Item) → StandsFor t xs → SameByStamps xs ys → StandsFor t ys
+pub stands-same : (t : Lengths) (xs ys : List Item) → CountsItems t xs → SameByStamps xs ys → CountsItems t ys
 stands-same t xs ys stands same r c hf hr hc = stands r c hf hr hc ∙ ap (λ n. n % 2 ^ 64) (same_sums xs ys same (λ e. sees e r c))

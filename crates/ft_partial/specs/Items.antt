@@ -19,8 +19,8 @@ abbrev pub item_of : Element → ℕ → Item
 item_of e n = record { element = e; len = n }
 
 -- the stamps of an insertion that nobody removed
-abbrev pub inserted : ℕ → ℕ → Element
-inserted seq conn = record { ins = Acked seq conn; dels = [] }
+abbrev pub inserted_element : ℕ → ℕ → Element
+inserted_element seq conn = record { ins = Acked seq conn; dels = [] }
 
 -- the stamps with one more removal
 abbrev pub removed : ℕ → ℕ → Element → Element
@@ -32,8 +32,8 @@ length_where p [] = 0
 length_where p (x ∷ xs) = cond (p x.element) x.len 0 + length_where p xs
 
 -- the lengths of the items that the perspective (r, c) sees
-abbrev pub seen : ℕ → ℕ → List Item → ℕ
-seen r c xs = length_where (λ e. sees e r c) xs
+abbrev pub length_seen : ℕ → ℕ → List Item → ℕ
+length_seen r c xs = length_where (λ e. sees e r c) xs
 
 -- an insertion as it is written at a floor: (0, 0) where it is at or below it
 abbrev pub folded_stamp : ℕ → Stamp → Stamp

@@ -15,15 +15,15 @@ same_stamp (Local k) (Acked s c) = false
 same_stamp (Local j) (Local k) = nat_eq j k
 
 -- the lists have equal stamps in the same order
-abbrev pub same_stamps : List Stamp → List Stamp → Bool
-same_stamps [] [] = true
-same_stamps [] (y ∷ ys) = false
-same_stamps (x ∷ xs) [] = false
-same_stamps (x ∷ xs) (y ∷ ys) = same_stamp x y && same_stamps xs ys
+abbrev pub have_same_stamps : List Stamp → List Stamp → Bool
+have_same_stamps [] [] = true
+have_same_stamps [] (y ∷ ys) = false
+have_same_stamps (x ∷ xs) [] = false
+have_same_stamps (x ∷ xs) (y ∷ ys) = same_stamp x y && have_same_stamps xs ys
 
 -- the elements have equal stamps
 abbrev pub same_element : Element → Element → Bool
-same_element e f = same_stamp e.ins f.ins && same_stamps e.dels f.dels
+same_element e f = same_stamp e.ins f.ins && have_same_stamps e.dels f.dels
 
 -- the lengths of the items whose stamps are e
 abbrev pub length_of : Element → List Item → ℕ

@@ -26,7 +26,7 @@ pub record IsStepAt (xs : List Step) (k i : ℕ) : Type 0 where
   pub here : (d : Step) → (slice_index_or xs i d).from ≡ k
 
 -- a step more at k, or none, with the same values
-pub record Cuts (old new : List Step) (k i : ℕ) : Type 0 where
+pub record CutsStep (old new : List Step) (k i : ℕ) : Type 0 where
   pub rising : IsRising new
   pub values : (q : ℕ) → value_from 0 new q ≡ value_from 0 old q
   pub step : IsStepAt new k i

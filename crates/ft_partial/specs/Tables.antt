@@ -6,8 +6,8 @@ use Rattle.ft_base.specs.declared.elements.Element.{Element}
 use Rattle.ft_base.specs.Visibility.{sees}
 use Rattle.ft_partial.specs.declared.step_functions.Step.{Step}
 use Rattle.ft_partial.specs.StepFunctions.{value_at, amount}
-use Rattle.ft_partial.specs.Rows.{place_of}
-use Rattle.ft_partial.specs.Items.{Item, seen}
+use Rattle.ft_partial.specs.Rows.{row_place}
+use Rattle.ft_partial.specs.Items.{Item, length_seen}
 
 -- a table: its floor, what those see who made none of the stamps, and how far each connection's own stamps change that
 pub record Lengths : Type 0 where
@@ -17,11 +17,11 @@ pub record Lengths : Type 0 where
 
 -- the length for the perspective (r, c)
 unfoldable pub length_at : Lengths → ℕ → ℕ → ℕ
-length_at t r c = (value_at t.common r + value_at t.own (place_of c r)) % 2 ^ 64
+length_at t r c = (value_at t.common r + value_at t.own (row_place c r)) % 2 ^ 64
 
 -- from the floor up each perspective sees that much of the items, round 2 ^ 64
-abbrev pub StandsFor : Lengths → List Item → Type 0
-StandsFor t xs = (r c : ℕ) → t.floor ≤ r → r < 2 ^ 64 → c < 2 ^ 32 → length_at t r c ≡ seen r c xs % 2 ^ 64
+abbrev pub CountsItems : Lengths → List Item → Type 0
+CountsItems t xs = (r c : ℕ) → t.floor ≤ r → r < 2 ^ 64 → c < 2 ^ 32 → length_at t r c ≡ length_seen r c xs % 2 ^ 64
 
 -- from the floor up each length is higher by n where the element is seen
 abbrev pub Adds : Lengths → Lengths → Element → ℕ → Type 0

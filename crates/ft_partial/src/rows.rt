@@ -8,7 +8,7 @@
 
 ghost use Rattle.std.specs.Prelude.{◌≡◌, ◌+◌, ◌*◌, ◌≤◌, ◌^◌, length};
 ghost use Rattle.std.specs.List.{list_any};
-ghost use Rattle.ft_partial.specs.Rows.{number_of, first_removal, is_by, place_of, at_floor, common_span, row_span, ExchangesRow, ExchangesRows};
+ghost use Rattle.ft_partial.specs.Rows.{stamp_number, first_removal, is_stamp_by, row_place, at_floor, common_span, row_span, ExchangesRow, ExchangesRows};
 
 use crate::step_functions::{CHANGES, Span, StepFunction};
 use ft_base::{Element, Stamp};
@@ -18,7 +18,7 @@ const ROW: u128 = 18446744073709551616;
 
 /// The sequence number of a stamp, or 2^64 where it is pending.
 fn number_of(stamp: &Stamp) -> u128
-    ensures number { result ≡ number_of stamp.now }
+    ensures number { result ≡ stamp_number stamp.now }
     ensures fits { result ≤ 2 ^ 64 }
 {
     match stamp {
@@ -41,7 +41,7 @@ fn first_removal(dels: &[Stamp]) -> u128
 
 /// Whether the stamp is sequenced, and by this connection.
 fn is_by(stamp: &Stamp, conn: u32) -> bool
-    ensures { result ≡ is_by conn stamp.now }
+    ensures { result ≡ is_stamp_by conn stamp.now }
 {
     match stamp {
         Stamp::Acked { conn: maker, .. } => *maker == conn,
@@ -51,7 +51,7 @@ fn is_by(stamp: &Stamp, conn: u32) -> bool
 
 /// Whether one of the stamps is by the connection.
 fn is_any_by(stamps: &[Stamp], conn: u32) -> bool
-    ensures { result ≡ list_any (is_by conn) stamps.now }
+    ensures { result ≡ list_any (is_stamp_by conn) stamps.now }
 {
     stamps.iter().any(|stamp| is_by(stamp, conn))
 }
@@ -59,7 +59,7 @@ fn is_any_by(stamps: &[Stamp], conn: u32) -> bool
 /// Where the row of a connection has its value for a sequence number.
 pub fn place_of(conn: u32, number: u128) -> u128
     requires { number ≤ 2 ^ 64 }
-    ensures { result ≡ place_of conn number }
+    ensures { result ≡ row_place conn number }
 {
     conn as u128 * ROW + number
 }
@@ -87,7 +87,7 @@ pub fn common_span(e: &Element, len: u64, floor: u64) -> Span
 #[tactic(auto, using(crate::proofs::RowLemmas::removal_bounds))]
 fn row_span(e: &Element, len: u64, conn: u32, floor: u64) -> Span
     ensures span { result ≡ row_span floor e.now len conn }
-    ensures fits { number_of e.now.ins ≤ 2 ^ 64 }
+    ensures fits { stamp_number e.now.ins ≤ 2 ^ 64 }
 {
     let dels = e.dels.as_slice();
     let inserted = at_floor(number_of(&e.ins), floor);

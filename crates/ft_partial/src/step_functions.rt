@@ -29,7 +29,7 @@ ghost use Rattle.ft_partial.specs.Steps.{
   IsPlace,
   IsStepAt,
   value_before,
-  Cuts,
+  CutsStep,
   LiftsBelow,
   RaisesSteps,
   is_covered,
@@ -139,8 +139,10 @@ impl StepFunction {
         ensures exchanges { ExchangesSpan self.old.steps self.new.steps old new }
         ensures room { self.old.room ≤ self.new.room + CHANGES }
     {
-        self.move_rise(old.from.min(old.to), new.from.min(new.to), old.by);
-        self.move_rise(old.to, new.to, 0u64.wrapping_sub(old.by));
+        if old.by != 0 {
+            self.move_rise(old.from.min(old.to), new.from.min(new.to), old.by);
+            self.move_rise(old.to, new.to, 0u64.wrapping_sub(old.by));
+        }
         self.raise(Span {
             from: new.from,
             to: new.to,
@@ -243,7 +245,7 @@ fn put(steps: &mut Vec<Step>, i: usize, step: Step)
 fn cut(steps: &mut Vec<Step>, place: u128) -> usize
     requires rising { IsRising steps.old.items }
     requires room { vec_len steps.old < vec_capacity steps.old }
-    ensures cuts { Cuts steps.old.items steps.new.items place result }
+    ensures cuts { CutsStep steps.old.items steps.new.items place result }
     ensures capacity { vec_capacity steps.old ≤ vec_capacity steps.new }
 {
     let i = count_up_to(steps.as_slice(), place);
@@ -329,7 +331,8 @@ fn sum_of(alloc: Global, a: &[Step], b: &[Step]) -> Result<Vec<Step>, OutOfMemor
     requires b { IsRising b.now }
     ensures { IfOk result (λ sum. IsSum a.now b.now sum.items) }
 {
-    let mut sum = Vec::new(alloc);
+    let room = a.len().saturating_add(b.len());
+    let mut sum = Vec::with_capacity(alloc, room)?;
     let mut i = 0;
     let mut j = 0;
     while let Some(place) = next_place(a, i, b, j) {

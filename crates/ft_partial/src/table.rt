@@ -1,9 +1,9 @@
 //! A table of partial lengths.
 
 ghost use Rattle.std.specs.Prelude.{◌≡◌, ◌+◌, ◌≤◌, ◌<◌, ◌^◌, ℕ, List, [], ◌∷◌, ◌++◌, IfOk, OnOk, OnErr};
-ghost use Rattle.ft_partial.specs.Items.{Item, item_of, inserted, removed, seen, folded_items};
+ghost use Rattle.ft_partial.specs.Items.{Item, item_of, inserted_element, removed, length_seen, folded_items};
 ghost use Rattle.ft_partial.specs.SameStamps.{SameByStamps, ExchangesItem};
-ghost use Rattle.ft_partial.specs.Tables.{length_at, StandsFor, Adds, Exchanges, AddsAll, SameFrom};
+ghost use Rattle.ft_partial.specs.Tables.{length_at, CountsItems, Adds, Exchanges, AddsAll, SameFrom};
 ghost use Rattle.ft_partial.specs.Rows.{Covers, late};
 
 use crate::rows::{common_span, exchange_rows, place_of};
@@ -13,7 +13,7 @@ use std::alloc::Global;
 use std::marker::Model;
 
 /// Below this number of steps nothing is folded.
-const FEW: usize = 16;
+const FEW: usize = 8;
 
 /// How much each perspective sees of a list of items, each the stamps of some elements with their
 /// number.
@@ -48,7 +48,7 @@ impl Model for Table {
 
     ghost view = { λ a. record { floor = a.floor; common = a.common.steps; own = a.own.steps } };
 
-    ghost invariant = { λ a. 16 ≤ a.fold_at };
+    ghost invariant = { λ a. 8 ≤ a.fold_at };
 }
 
 /// Adds the stamp at the end, if it is sequenced above the floor.
@@ -97,7 +97,7 @@ fn reserve(
 impl Table {
     /// The table of no items, with floor 0.
     pub fn new(alloc: Global) -> Table
-        ensures stands { StandsFor result [] }
+        ensures stands { CountsItems result [] }
         ensures floor { result.floor ≡ 0 }
     {
         Table {
@@ -115,7 +115,7 @@ impl Table {
     /// else it is taken round 2^64.
     pub fn length(&self, at: Perspective) -> u64
         requires { self.now.floor ≤ at.r }
-        ensures sum { (xs : List Item) → StandsFor self.now xs → seen at.r at.c xs < 2 ^ 64 → result ≡ seen at.r at.c xs }
+        ensures sum { (xs : List Item) → CountsItems self.now xs → length_seen at.r at.c xs < 2 ^ 64 → result ≡ length_seen at.r at.c xs }
         ensures at { result ≡ length_at self.now at.r at.c }
     {
         let common = self.common.at(at.r as u128);
@@ -128,8 +128,8 @@ impl Table {
     ///
     /// Answers `OutOfMemory` where there is no room, and then the table is as it was.
     pub fn insert(&mut self, seq: u64, conn: u32, len: u64) -> Result<(), OutOfMemory>
-        ensures ok { OnOk result ((xs : List Item) → StandsFor self.old xs → StandsFor self.new (item_of (inserted seq conn) len ∷ xs)) }
-        ensures adds { OnOk result (Adds self.old self.new (inserted seq conn) len) }
+        ensures ok { OnOk result ((xs : List Item) → CountsItems self.old xs → CountsItems self.new (item_of (inserted_element seq conn) len ∷ xs)) }
+        ensures adds { OnOk result (Adds self.old self.new (inserted_element seq conn) len) }
         ensures floor { self.new.floor ≡ self.old.floor }
         ensures err { OnErr result (self.new ≡ self.old) }
     {
@@ -144,7 +144,7 @@ impl Table {
     ///
     /// Answers `OutOfMemory` where there is no room, and then the table is as it was.
     pub fn add(&mut self, e: &Element, len: u64) -> Result<(), OutOfMemory>
-        ensures ok { OnOk result ((xs : List Item) → StandsFor self.old xs → StandsFor self.new (item_of e.now len ∷ xs)) }
+        ensures ok { OnOk result ((xs : List Item) → CountsItems self.old xs → CountsItems self.new (item_of e.now len ∷ xs)) }
         ensures adds { OnOk result (Adds self.old self.new e.now len) }
         ensures floor { self.new.floor ≡ self.old.floor }
         ensures err { OnErr result (self.new ≡ self.old) }
@@ -160,7 +160,7 @@ impl Table {
     ///
     /// Answers `OutOfMemory` where there is no room, and then the table is as it was.
     pub fn remove(&mut self, e: &Element, seq: u64, conn: u32, len: u64) -> Result<(), OutOfMemory>
-        ensures ok { OnOk result ((xs ys : List Item) → StandsFor self.old xs → ExchangesItem xs ys e.now len (removed seq conn e.now) len → StandsFor self.new ys) }
+        ensures ok { OnOk result ((xs ys : List Item) → CountsItems self.old xs → ExchangesItem xs ys e.now len (removed seq conn e.now) len → CountsItems self.new ys) }
         ensures exchanges { OnOk result (Exchanges self.old self.new e.now len (removed seq conn e.now) len) }
         ensures floor { self.new.floor ≡ self.old.floor }
         ensures err { OnErr result (self.new ≡ self.old) }
@@ -181,7 +181,7 @@ impl Table {
         new: &Element,
         new_len: u64,
     ) -> Result<(), OutOfMemory>
-        ensures ok { OnOk result ((xs ys : List Item) → StandsFor self.old xs → ExchangesItem xs ys e.now len new.now new_len → StandsFor self.new ys) }
+        ensures ok { OnOk result ((xs ys : List Item) → CountsItems self.old xs → ExchangesItem xs ys e.now len new.now new_len → CountsItems self.new ys) }
         ensures exchanges { OnOk result (Exchanges self.old self.new e.now len new.now new_len) }
         ensures floor { self.new.floor ≡ self.old.floor }
         ensures err { OnErr result (self.new ≡ self.old) }
@@ -222,7 +222,7 @@ impl Table {
     /// Answers `OutOfMemory` where there is no room, and then the table is as it was.
     pub fn add_all(&mut self, other: &Table) -> Result<(), OutOfMemory>
         requires { other.now.floor ≤ self.old.floor }
-        ensures ok { OnOk result ((xs ys : List Item) → StandsFor self.old xs → StandsFor other.now ys → StandsFor self.new (ys ++ xs)) }
+        ensures ok { OnOk result ((xs ys : List Item) → CountsItems self.old xs → CountsItems other.now ys → CountsItems self.new (ys ++ xs)) }
         ensures adds { OnOk result (AddsAll self.old other.now self.new) }
         ensures floor { self.new.floor ≡ self.old.floor }
         ensures err { OnErr result (self.new ≡ self.old) }
@@ -242,8 +242,8 @@ impl Table {
     /// all others, at most one step is left at or below the floor.
     pub fn fold_to(&mut self, floor: u64)
         requires { self.old.floor ≤ floor }
-        ensures items { (xs : List Item) → StandsFor self.old xs → StandsFor self.new (folded_items floor xs) }
-        ensures same { (xs : List Item) → StandsFor self.old xs → StandsFor self.new xs }
+        ensures items { (xs : List Item) → CountsItems self.old xs → CountsItems self.new (folded_items floor xs) }
+        ensures same { (xs : List Item) → CountsItems self.old xs → CountsItems self.new xs }
         ensures lengths { SameFrom floor self.old self.new }
         ensures floor { self.new.floor ≡ floor }
     {
@@ -260,7 +260,7 @@ impl Table {
 /// The law of what a table stands for: with a list it stands for each other one in which, for all
 /// stamps, the items with these stamps have the same sum of lengths. It does nothing.
 pub fn same_by_stamps(table: &Table)
-    ensures { (xs ys : List Item) → StandsFor table.now xs → SameByStamps xs ys → StandsFor table.now ys }
+    ensures { (xs ys : List Item) → CountsItems table.now xs → SameByStamps xs ys → CountsItems table.now ys }
 {
     let _floor = table.floor;
 }

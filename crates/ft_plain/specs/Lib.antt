@@ -1,3 +1,4 @@
 pub mod ClientAnswers
+pub mod Own
 pub mod Stopping
 pub mod Unsent

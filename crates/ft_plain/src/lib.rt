@@ -4,3 +4,6 @@
 #![tactic(auto)]
 
 pub mod client;
+pub mod plain;
+
+pub use plain::Plain;

@@ -10,17 +10,17 @@ use Rattle.ft_arena.proofs.KidLemmas.{points_other}
 use Rattle.ft_arena.proofs.HookLemmas.{IsLinked, unhooked, next_apart}
 use Rattle.ft_refs.specs.declared.numbers.Slot.{Slot}
 use Rattle.ft_refs.specs.declared.numbers.Ends.{Ends}
-use Rattle.ft_refs.specs.RefLists.{entry, list_of, place_of_entry, owner_of_place, ChangesOne}
+use Rattle.ft_refs.specs.RefLists.{entry, references_of, place_of_entry, owner_of_place, ChangesOne}
 use Rattle.ft_refs.specs.RefLists as seen
-use Rattle.ft_refs.specs.Links.{next_of_slot, prev_of_slot, next_of, prev_of, entry_of, entries_of, owner_at, with_offset, refs_from, list_from, live_on, no_ends, ends_at, AreLinks, AreLists, shown, SetsNext, SetsPrev, HasPlace}
+use Rattle.ft_refs.specs.Links.{next_of_slot, prev_of_slot, next_slot, prev_of, place_of_slot, entries_of, owner_at, with_offset, refs_from, list_from, live_on, no_ends, ends_at, AreLinks, AreLists, shown_lists, SetsNext, SetsPrev, HasPlace}
 use Rattle.ft_refs.proofs.ListLemmas.{linked_from, refs_is, links_from, links_kept, list_at, offsets_kept, live_has_slot, entries_other, entries_here, nexts_other, prevs_other, entries_at, without-map, without_none}
 
 module _ (s0 s1 s2 s3 : Slab Slot) (es : List Ends) (e : Ends) (f2 l3 : Option ℕ) (r o off : ℕ) (before after : Option ℕ) (f : AreLists s0 es) (is : ends_at es o ≡ e) (found : get s0 r ≡ Some record { place = Some record { owner = o; offset = off }; prev = before; next = after }) (u : Updates s0 s1 r (Some record { place = None; prev = None; next = None })) where
-  g : IsLinked (live_on s0 o) (next_of s0 e.first) (prev_of s0 e.last) (refs_from s0 e.first)
+  g : IsLinked (live_on s0 o) (next_slot s0 e.first) (prev_of s0 e.last) (refs_from s0 e.first)
   g = linked_from s0 o e (subst (λ (z : Ends). AreLinks s0 o z) is (f.links o))
 
   was : get_or (entries_of s0) r None ≡ Some (Some record { owner = o; offset = off })
-  was = entries_at s0 r ∙ ap (option_map entry_of) found
+  was = entries_at s0 r ∙ ap (option_map place_of_slot) found
 
   here : live_on s0 o (Some r) ≡ 1
   here = ap (λ q. points (owner_of_place (place_of_entry q)) o) was ∙ same_refl o
@@ -28,17 +28,17 @@ module _ (s0 s1 s2 s3 : Slab Slot) (es : List Ends) (e : Ends) (f2 l3 : Option �
   within : o < length es
   within = f.held o r (ap (λ q. owner_of_place (place_of_entry q)) was)
 
-  next0 : next_of s0 e.first (Some r) ≡ after
+  next0 : next_slot s0 e.first (Some r) ≡ after
   next0 = ap next_of_slot found
 
   prev0 : prev_of s0 e.last (Some r) ≡ before
   prev0 = ap prev_of_slot found
 
-  apart : next_of s0 e.first (Some r) ≢ Some r
-  apart = next_apart (live_on s0 o) (next_of s0 e.first) (prev_of s0 e.last) (refs_from s0 e.first) r g here
+  apart : next_slot s0 e.first (Some r) ≢ Some r
+  apart = next_apart (live_on s0 o) (next_slot s0 e.first) (prev_of s0 e.last) (refs_from s0 e.first) r g here
 
   apart' : prev_of s0 e.last (Some r) ≢ Some r
-  apart' = λ q. apart (ap (next_of s0 e.first) (sym q) ∙ g.ring.forth (Some r) here)
+  apart' = λ q. apart (ap (next_slot s0 e.first) (sym q) ∙ g.ring.forth (Some r) here)
 
   before_live : live_on s0 o before ≡ 1
   before_live = ap (live_on s0 o) (sym prev0) ∙ g.ring.prev_live (Some r) here
@@ -72,18 +72,18 @@ module _ (s0 s1 s2 s3 : Slab Slot) (es : List Ends) (e : Ends) (f2 l3 : Option �
       this_entry : get_or (entries_of s3) r None ≡ Some None
       this_entry = ap (λ zs. get_or zs r None) entries3 ∙ entries_here s0 s1 r _ u
 
-      linked : IsLinked (live_on s3 o) (next_of s3 f2) (prev_of s3 l3) (without (refs_from s0 e.first) r)
+      linked : IsLinked (live_on s3 o) (next_slot s3 f2) (prev_of s3 l3) (without (refs_from s0 e.first) r)
       linked =
-          unhooked (live_on s0 o) (next_of s0 e.first) (prev_of s0 e.last) (live_on s3 o) (next_of s3 f2) (prev_of s3 l3) (refs_from s0 e.first) r g here (ap (λ q. points (owner_of_place (place_of_entry q)) o) this_entry) (lives1 s3 entries3 o) (ap (next_of s3 f2) prev0 ∙ pv.nexts f2 before ∙ nx.changed ∙ sym next0) (λ p a d. pv.nexts f2 p ∙ nx.others p (λ q. a (q ∙ sym prev0)) ∙ nexts_other s0 s1 r _ e.first u p d) (ap (prev_of s3 l3) next0 ∙ pv.changed ∙ sym prev0) (λ p a d. pv.others p (λ q. a (q ∙ sym next0)) ∙ nx.prevs e.last p ∙ prevs_other s0 s1 r _ e.last u p d)
+          unhooked (live_on s0 o) (next_slot s0 e.first) (prev_of s0 e.last) (live_on s3 o) (next_slot s3 f2) (prev_of s3 l3) (refs_from s0 e.first) r g here (ap (λ q. points (owner_of_place (place_of_entry q)) o) this_entry) (lives1 s3 entries3 o) (ap (next_slot s3 f2) prev0 ∙ pv.nexts f2 before ∙ nx.changed ∙ sym next0) (λ p a d. pv.nexts f2 p ∙ nx.others p (λ q. a (q ∙ sym prev0)) ∙ nexts_other s0 s1 r _ e.first u p d) (ap (prev_of s3 l3) next0 ∙ pv.changed ∙ sym prev0) (λ p a d. pv.others p (λ q. a (q ∙ sym next0)) ∙ nx.prevs e.last p ∙ prevs_other s0 s1 r _ e.last u p d)
 
       -- a reference of another owner is none of those whose links change
       elsewhere : (o' : ℕ) → o' ≢ o → (x : ℕ) → live_on s0 o' (Some x) ≡ 1 → (p : Option ℕ) → live_on s0 o p ≡ 1 → Some x ≢ p
       elsewhere o' n x h p v = λ q. omega (arith, ap (live_on s0 o) q, v, points_other o' o (owner_at s0 x) n h)
 
-      other : (o' : ℕ) → o' ≢ o → IsLinked (live_on s3 o') (next_of s3 (ends_at es o').first) (prev_of s3 (ends_at es o').last) (refs_from s0 (ends_at es o').first)
+      other : (o' : ℕ) → o' ≢ o → IsLinked (live_on s3 o') (next_slot s3 (ends_at es o').first) (prev_of s3 (ends_at es o').last) (refs_from s0 (ends_at es o').first)
       other o' n = links_kept s0 s3 o' (ends_at es o') nexts prevs lives' (f.links o')
         where
-          nexts : (p : Option ℕ) → live_on s0 o' p ≡ 1 → next_of s3 (ends_at es o').first p ≡ next_of s0 (ends_at es o').first p
+          nexts : (p : Option ℕ) → live_on s0 o' p ≡ 1 → next_slot s3 (ends_at es o').first p ≡ next_slot s0 (ends_at es o').first p
           nexts None h = refl
           nexts (Some x) h = pv.nexts e.first (Some x) ∙ nx.others (Some x) (elsewhere o' n x h before before_live) ∙ nexts_other s0 s1 r _ e.first u (Some x) (elsewhere o' n x h (Some r) here)
 
@@ -127,17 +127,17 @@ module _ (s0 s1 s2 s3 : Slab Slot) (es : List Ends) (e : Ends) (f2 l3 : Option �
       not_on : (o' : ℕ) → o' ≢ o → times (refs_from s0 (ends_at es o').first) r ≡ 0
       not_on o' n = (f.links o').once r ∙ ap (λ z. points (owner_of_place (place_of_entry z)) o') was ∙ same_other o o' (λ z. n (sym z))
 
-      pub detached_list : (o' : ℕ) → list_of (shown s3 (set es o record { first = f2; last = l3 })) o' ≡ seen.without (list_of (shown s0 es) o') r
+      pub detached_list : (o' : ℕ) → references_of (shown_lists s3 (set es o record { first = f2; last = l3 })) o' ≡ seen.without_reference (references_of (shown_lists s0 es) o') r
       detached_list o' = elim (cases_eq o' o) [
-        | inl q ↦ subst (λ (z : ℕ). list_of (shown s3 (set es o e3)) z ≡ seen.without (list_of (shown s0 es) z) r) (sym q) (
+        | inl q ↦ subst (λ (z : ℕ). references_of (shown_lists s3 (set es o e3)) z ≡ seen.without_reference (references_of (shown_lists s0 es) z) r) (sym q) (
             list_at s3 (set es o e3) o ∙ ap (λ (z : Ends). list_from s3 z.first) ends_here ∙ ap (map (with_offset s3)) (refs_is s3 o e3 _ linked)
             ∙ offsets_kept s0 s3 (without (refs_from s0 e.first) r) (λ x i. other_entry x (absent _ (times-without_same (refs_from s0 e.first) r) x i))
-            ∙ without-map s0 (refs_from s0 e.first) r ∙ ap (λ zs. seen.without zs r) (ap (λ (z : Ends). list_from s0 z.first) (sym is) ∙ sym (list_at s0 es o)))
+            ∙ without-map s0 (refs_from s0 e.first) r ∙ ap (λ zs. seen.without_reference zs r) (ap (λ (z : Ends). list_from s0 z.first) (sym is) ∙ sym (list_at s0 es o)))
         | inr n ↦
             list_at s3 (set es o e3) o' ∙ ap (λ (z : Ends). list_from s3 z.first) (ends_other o' n) ∙ ap (map (with_offset s3)) (refs_is s3 o' (ends_at es o') _ (other o' n))
             ∙ offsets_kept s0 s3 (refs_from s0 (ends_at es o').first) (λ x i. other_entry x (absent _ (not_on o' n) x i))
-            ∙ sym (without_none s0 (refs_from s0 (ends_at es o').first) r (not_on o' n)) ∙ ap (λ zs. seen.without zs r) (sym (list_at s0 es o'))
+            ∙ sym (without_none s0 (refs_from s0 (ends_at es o').first) r (not_on o' n)) ∙ ap (λ zs. seen.without_reference zs r) (sym (list_at s0 es o'))
       ]
 
-      pub detached_changes : ChangesOne (shown s0 es) (shown s3 (set es o record { first = f2; last = l3 })) r (Some None)
+      pub detached_changes : ChangesOne (shown_lists s0 es) (shown_lists s3 (set es o record { first = f2; last = l3 })) r (Some None)
       detached_changes = record { changed = this_entry; others = other_entry }

@@ -7,7 +7,7 @@ use Rattle.std.specs.Option.{option_map, option_and_then}
 use Rattle.ft_arena.specs.Ids.{same, times, points, first, after}
 use Rattle.ft_arena.proofs.IdLemmas.{same_refl, same_other}
 use Rattle.ft_refs.specs.declared.numbers.Place.{Place}
-use Rattle.ft_refs.specs.RefLists.{RefLists, entry, list_of, ids, ids_of, place_of_entry, owner_of_place, owner_of, offset_of, next_of, without, AreOn, IsRefs, ChangesOne, below, from_on, raised, split_place, raised_place, AllBelow}
+use Rattle.ft_refs.specs.RefLists.{RefLists, entry, references_of, ids, ids_of, place_of_entry, owner_of_place, owner_of, offset_of, next_of, without_reference, AreOn, IsRefs, ChangesOne, below, from_on, raised, split_place, raised_place, AllBelow}
 use Rattle.ft_refs.proofs.ListLemmas.{without_absent}
 
 pub times-ids : (xs ys : List (ℕ × ℕ)) (r : ℕ) → times (ids (xs ++ ys)) r ≡ times (ids xs) r + times (ids ys) r
@@ -26,7 +26,7 @@ pub record Standing (v : RefLists) (from r off : ℕ) (done rest : List (ℕ × 
   pub not_done : times (ids done) r ≡ 0
   pub not_behind : times (ids behind) r ≡ 0
 
-pub standing : (v : RefLists) (from r : ℕ) (done rest : List (ℕ × ℕ)) → IsRefs v → list_of v from ≡ done ++ rest → first (ids rest) ≡ Some r → (off : ℕ) × Standing v from r off done rest
+pub standing : (v : RefLists) (from r : ℕ) (done rest : List (ℕ × ℕ)) → IsRefs v → references_of v from ≡ done ++ rest → first (ids rest) ≡ Some r → (off : ℕ) × Standing v from r off done rest
 standing v from r done [] f l h = cc
 standing v from r done (x ∷ xs) f l h =
     let e : x.0 ≡ r = cc in
@@ -38,21 +38,21 @@ standing v from r done (x ∷ xs) f l h =
       record { behind = xs; is = ap (λ z. (z, x.1) ∷ xs) e; stands = here; not_done = omega (arith, times-ids done (x ∷ xs) r, one, s); not_behind = omega (arith, times-ids done (x ∷ xs) r, one, s) },
     )
 
-pub offset_some : (v : RefLists) (from r : ℕ) (done rest : List (ℕ × ℕ)) → IsRefs v → list_of v from ≡ done ++ rest → first (ids rest) ≡ Some r → IsSome (offset_of v r)
+pub offset_some : (v : RefLists) (from r : ℕ) (done rest : List (ℕ × ℕ)) → IsRefs v → references_of v from ≡ done ++ rest → first (ids rest) ≡ Some r → IsSome (offset_of v r)
 offset_some v from r done rest f l h = let s = standing v from r done rest f l h in rw s.1.stands refl
 
-pub live_at : (v : RefLists) (from r : ℕ) (done rest : List (ℕ × ℕ)) → IsRefs v → list_of v from ≡ done ++ rest → first (ids rest) ≡ Some r → IsSome (entry v r)
+pub live_at : (v : RefLists) (from r : ℕ) (done rest : List (ℕ × ℕ)) → IsRefs v → references_of v from ≡ done ++ rest → first (ids rest) ≡ Some r → IsSome (entry v r)
 live_at v from r done rest f l h = let s = standing v from r done rest f l h in rw s.1.stands refl
 
 -- the same with the offset that was read
-pub standing_at : (v : RefLists) (from r off : ℕ) (done rest : List (ℕ × ℕ)) → IsRefs v → list_of v from ≡ done ++ rest → first (ids rest) ≡ Some r → offset_of v r ≡ Some off → Standing v from r off done rest
+pub standing_at : (v : RefLists) (from r off : ℕ) (done rest : List (ℕ × ℕ)) → IsRefs v → references_of v from ≡ done ++ rest → first (ids rest) ≡ Some r → offset_of v r ≡ Some off → Standing v from r off done rest
 standing_at v from r off done rest f l h o =
     let s = standing v from r done rest f l h in
     let q : Some s.0 ≡ Some off = sym (rw s.1.stands refl) ∙ o in
     let e : s.0 ≡ off = cc in
     subst (λ (z : ℕ). Standing v from r z done rest) e s.1
 
-without-append : (done behind : List (ℕ × ℕ)) (r off : ℕ) → times (ids done) r ≡ 0 → times (ids behind) r ≡ 0 → without (done ++ (r, off) ∷ behind) r ≡ done ++ behind
+without-append : (done behind : List (ℕ × ℕ)) (r off : ℕ) → times (ids done) r ≡ 0 → times (ids behind) r ≡ 0 → without_reference (done ++ (r, off) ∷ behind) r ≡ done ++ behind
 without-append [] behind r off d b = grind (arith, common_steps, without_absent behind r b)
 without-append (x ∷ xs) behind r off d b = elim (cases_eq x.0 r) [
   | inl e ↦ absurd (omega (arith, same_refl x.0, ap (same x.0) e))
@@ -66,15 +66,15 @@ after-append (x ∷ xs) behind r off d = elim (cases_eq x.0 r) [
   | inr n ↦ grind (arith, common_steps, after-append xs behind r off)
 ]
 
-module _ (v : RefLists) (from r off : ℕ) (done rest : List (ℕ × ℕ)) (f : IsRefs v) (l : list_of v from ≡ done ++ rest) (s : Standing v from r off done rest) where
-  whole : list_of v from ≡ done ++ (r, off) ∷ s.behind
+module _ (v : RefLists) (from r off : ℕ) (done rest : List (ℕ × ℕ)) (f : IsRefs v) (l : references_of v from ≡ done ++ rest) (s : Standing v from r off done rest) where
+  whole : references_of v from ≡ done ++ (r, off) ∷ s.behind
   whole = l ∙ ap (λ zs. done ++ zs) s.is
 
-  pub taken : without (list_of v from) r ≡ done ++ s.behind
-  taken = ap (λ zs. without zs r) whole ∙ without-append done s.behind r off s.not_done s.not_behind
+  pub taken : without_reference (references_of v from) r ≡ done ++ s.behind
+  taken = ap (λ zs. without_reference zs r) whole ∙ without-append done s.behind r off s.not_done s.not_behind
 
-  pub elsewhere : (o : ℕ) → o ≢ from → without (list_of v o) r ≡ list_of v o
-  elsewhere o d = without_absent (list_of v o) r (f.once o r ∙ ap (λ q. points (owner_of_place (place_of_entry q)) o) s.stands ∙ same_other from o (λ e. d (sym e)))
+  pub elsewhere : (o : ℕ) → o ≢ from → without_reference (references_of v o) r ≡ references_of v o
+  elsewhere o d = without_absent (references_of v o) r (f.once o r ∙ ap (λ q. points (owner_of_place (place_of_entry q)) o) s.stands ∙ same_other from o (λ e. d (sym e)))
 
   pub next_behind : next_of v r ≡ first (ids s.behind)
   next_behind = ap (λ q. option_and_then (λ o. after (ids_of v o) r) (owner_of_place (place_of_entry q))) s.stands ∙ ap (λ zs. after (ids zs) r) whole ∙ after-append done s.behind r off s.not_done
@@ -107,35 +107,35 @@ split_to from at to off d = grind (arith, common_steps)
 -- so far some references went over, and the rest stands ahead
 pub record Splices (old v : RefLists) (from to add : ℕ) : Type 0 where
   pub same_held : length v.lists ≡ length old.lists
-  pub lists : list_of v to ++ raised add (list_of v from) ≡ list_of old to ++ raised add (list_of old from)
-  pub others : (o : ℕ) → o ≢ from → o ≢ to → list_of v o ≡ list_of old o
+  pub lists : references_of v to ++ raised add (references_of v from) ≡ references_of old to ++ raised add (references_of old from)
+  pub others : (o : ℕ) → o ≢ from → o ≢ to → references_of v o ≡ references_of old o
   pub refs : (r : ℕ) → each_place (raised_place from to add) (entry v r) ≡ each_place (raised_place from to add) (entry old r)
-  pub fits : AllBelow add (2 ^ 64) (list_of v from)
+  pub fits : AllBelow add (2 ^ 64) (references_of v from)
 
 module _ (old v new : RefLists) (from to add r off : ℕ) (f : IsRefs v) (h : first (ids_of v from) ≡ Some r) (o : offset_of v r ≡ Some off) (differ : to ≢ from) (k : Splices old v from to add) where
-  s : Standing v from r off [] (list_of v from)
-  s = standing_at v from r off [] (list_of v from) f refl h o
+  s : Standing v from r off [] (references_of v from)
+  s = standing_at v from r off [] (references_of v from) f refl h o
 
   pub splice_fits : off + add < 2 ^ 64
   splice_fits = (subst (λ (zs : List (ℕ × ℕ)). AllBelow add (2 ^ 64) zs) s.is k.fits).0
 
-  module _ (list : list_of new to ≡ without (list_of v to) r ++ (r, off + add) ∷ []) (others : (o : ℕ) → o ≢ to → list_of new o ≡ without (list_of v o) r) (changes : ChangesOne v new r (Some (Some record { owner = to; offset = off + add }))) (same_held : length new.lists ≡ length v.lists) where
-    from_new : list_of new from ≡ s.behind
-    from_new = others from (λ e. differ (sym e)) ∙ taken v from r off [] (list_of v from) f refl s
+  module _ (list : references_of new to ≡ without_reference (references_of v to) r ++ (r, off + add) ∷ []) (others : (o : ℕ) → o ≢ to → references_of new o ≡ without_reference (references_of v o) r) (changes : ChangesOne v new r (Some (Some record { owner = to; offset = off + add }))) (same_held : length new.lists ≡ length v.lists) where
+    from_new : references_of new from ≡ s.behind
+    from_new = others from (λ e. differ (sym e)) ∙ taken v from r off [] (references_of v from) f refl s
 
-    pub splice_shorter : length (list_of new from) < length (list_of v from)
-    splice_shorter = let a : length (list_of v from) ≡ length ((r, off) ∷ s.behind) = ap length s.is in let b : length (list_of new from) ≡ length s.behind = ap length from_new in omega (arith, a, b)
+    pub splice_shorter : length (references_of new from) < length (references_of v from)
+    splice_shorter = let a : length (references_of v from) ≡ length ((r, off) ∷ s.behind) = ap length s.is in let b : length (references_of new from) ≡ length s.behind = ap length from_new in omega (arith, a, b)
 
     pub splice_step : Splices old new from to add
     splice_step =
         record {
           same_held = same_held ∙ k.same_held;
           lists =
-              ap (λ zs. zs ++ raised add (list_of new from)) list ∙ ap (λ zs. (without (list_of v to) r ++ (r, off + add) ∷ []) ++ raised add zs) from_new
-              ∙ append_assoc (without (list_of v to) r) ((r, off + add) ∷ []) (raised add s.behind)
-              ∙ ap (λ zs. zs ++ raised add ((r, off) ∷ s.behind)) (elsewhere v from r off [] (list_of v from) f refl s to differ)
-              ∙ ap (λ zs. list_of v to ++ raised add zs) (sym s.is) ∙ k.lists;
-          others = λ o a b. others o b ∙ elsewhere v from r off [] (list_of v from) f refl s o a ∙ k.others o a b;
+              ap (λ zs. zs ++ raised add (references_of new from)) list ∙ ap (λ zs. (without_reference (references_of v to) r ++ (r, off + add) ∷ []) ++ raised add zs) from_new
+              ∙ append_assoc (without_reference (references_of v to) r) ((r, off + add) ∷ []) (raised add s.behind)
+              ∙ ap (λ zs. zs ++ raised add ((r, off) ∷ s.behind)) (elsewhere v from r off [] (references_of v from) f refl s to differ)
+              ∙ ap (λ zs. references_of v to ++ raised add zs) (sym s.is) ∙ k.lists;
+          others = λ o a b. others o b ∙ elsewhere v from r off [] (references_of v from) f refl s o a ∙ k.others o a b;
           refs = refs_step (raised_place from to add) old v new r _ _ s.stands changes (raised_from from to add off) (raised_to from to add (off + add) differ) k.refs;
           fits = subst (λ (zs : List (ℕ × ℕ)). AllBelow add (2 ^ 64) zs) (sym from_new) (subst (λ (zs : List (ℕ × ℕ)). AllBelow add (2 ^ 64) zs) s.is k.fits).1;
         }
@@ -144,7 +144,7 @@ empty : (xs : List (ℕ × ℕ)) → ((r : ℕ) → first (ids xs) ≢ Some r) �
 empty [] h = refl
 empty (x ∷ xs) h = absurd (h x.0 refl)
 
-not_on : (v : RefLists) (from r : ℕ) → IsRefs v → list_of v from ≡ [] → owner_of v r ≢ Some from
+not_on : (v : RefLists) (from r : ℕ) → IsRefs v → references_of v from ≡ [] → owner_of v r ≢ Some from
 not_on v from r f l h = omega (arith, ap (λ zs. times (ids zs) r) l, f.once from r, ap (λ q. points q from) h, same_refl from)
 
 raised_stays : (from to add : ℕ) (q : Option (Option Place)) → owner_of_place (place_of_entry q) ≢ Some from → each_place (raised_place from to add) q ≡ q
@@ -156,11 +156,11 @@ raised_stays from to add (Some (Some p)) h = elim (cases_eq p.owner from) [
 ]
 
 module _ (old v : RefLists) (from to add : ℕ) (f : IsRefs v) (h : (r : ℕ) → first (ids_of v from) ≢ Some r) (k : Splices old v from to add) where
-  pub splice_from : list_of v from ≡ []
-  splice_from = empty (list_of v from) h
+  pub splice_from : references_of v from ≡ []
+  splice_from = empty (references_of v from) h
 
-  pub splice_to : list_of v to ≡ list_of old to ++ raised add (list_of old from)
-  splice_to = sym (append-nil (list_of v to)) ∙ ap (λ zs. list_of v to ++ raised add zs) (sym splice_from) ∙ k.lists
+  pub splice_to : references_of v to ≡ references_of old to ++ raised add (references_of old from)
+  splice_to = sym (append-nil (references_of v to)) ∙ ap (λ zs. references_of v to ++ raised add zs) (sym splice_from) ∙ k.lists
 
   pub splice_refs : (r : ℕ) → entry v r ≡ each_place (raised_place from to add) (entry old r)
   splice_refs r = sym (raised_stays from to add (entry v r) (not_on v from r f splice_from)) ∙ k.refs r
@@ -174,13 +174,13 @@ AllLow at (x ∷ xs) = (x.1 < at) × AllLow at xs
 pub record Splits (old v : RefLists) (from at to : ℕ) (ahead : Option ℕ) : Type 0 where
   pub done : List (ℕ × ℕ)
   pub rest : List (ℕ × ℕ)
-  pub list : list_of v from ≡ done ++ rest
+  pub list : references_of v from ≡ done ++ rest
   pub starts : first (ids rest) ≡ ahead
   pub low : AllLow at done
   pub same_held : length v.lists ≡ length old.lists
-  pub kept : done ++ below at rest ≡ below at (list_of old from)
-  pub moved : list_of v to ++ from_on at rest ≡ list_of old to ++ from_on at (list_of old from)
-  pub others : (o : ℕ) → o ≢ from → o ≢ to → list_of v o ≡ list_of old o
+  pub kept : done ++ below at rest ≡ below at (references_of old from)
+  pub moved : references_of v to ++ from_on at rest ≡ references_of old to ++ from_on at (references_of old from)
+  pub others : (o : ℕ) → o ≢ from → o ≢ to → references_of v o ≡ references_of old o
   pub refs : (r : ℕ) → each_place (split_place from at to) (entry v r) ≡ each_place (split_place from at to) (entry old r)
   pub sound : IsRefs v
 
@@ -218,10 +218,10 @@ count_at (x ∷ xs) behind r off h = elim (cases_eq x.0 r) [
 ]
 
 -- that is the rest
-pub count_is : (old v : RefLists) (from at to : ℕ) (ahead : Option ℕ) (k : Splits old v from at to ahead) → count_from ahead (list_of v from) ≡ length k.rest
+pub count_is : (old v : RefLists) (from at to : ℕ) (ahead : Option ℕ) (k : Splits old v from at to ahead) → count_from ahead (references_of v from) ≡ length k.rest
 count_is old v from at to None k =
     let e : k.rest ≡ [] = empty k.rest (λ r q. let z : None ≡ Some r = sym k.starts ∙ q in cc) in
-    count_none (list_of v from) ∙ sym (ap length e)
+    count_none (references_of v from) ∙ sym (ap length e)
 count_is old v from at to (Some r) k =
     let s = standing v from r k.done k.rest k.sound k.list k.starts in
     ap (count_from (Some r)) (k.list ∙ ap (λ zs. k.done ++ zs) s.1.is) ∙ count_at k.done s.1.behind r s.0 s.1.not_done ∙ sym (ap length s.1.is)
@@ -244,18 +244,18 @@ module _ (old v : RefLists) (from at to r off : ℕ) (o : offset_of v r ≡ Some
         low = low-append at k.done ((r, off) ∷ []) k.low (h, tt);
         same_held = k.same_held;
         kept = append_assoc k.done ((r, off) ∷ []) (below at t.behind) ∙ ap (λ zs. k.done ++ zs) (sym (below_low at r off t.behind h) ∙ ap (below at) (sym t.is)) ∙ k.kept;
-        moved = ap (λ zs. list_of v to ++ zs) (sym (from_low at r off t.behind h) ∙ ap (from_on at) (sym t.is)) ∙ k.moved;
+        moved = ap (λ zs. references_of v to ++ zs) (sym (from_low at r off t.behind h) ∙ ap (from_on at) (sym t.is)) ∙ k.moved;
         others = k.others;
         refs = k.refs;
         sound = k.sound;
       }
 
-  pub stays_shorter : off < at → count_from ahead (list_of v from) < count_from (Some r) (list_of v from)
+  pub stays_shorter : off < at → count_from ahead (references_of v from) < count_from (Some r) (references_of v from)
   unfolding split_stays
   stays_shorter h = let e : length k.rest ≡ length ((r, off) ∷ t.behind) = ap length t.is in omega (arith, count_is old v from at to (Some r) k, count_is old v from at to ahead (split_stays h), e)
 
   -- one at or above it goes over
-  module _ (new : RefLists) (differ : to ≢ from) (h : at ≤ off) (f : IsRefs new) (list : list_of new to ≡ without (list_of v to) r ++ (r, off - at) ∷ []) (others : (o : ℕ) → o ≢ to → list_of new o ≡ without (list_of v o) r) (changes : ChangesOne v new r (Some (Some record { owner = to; offset = off - at }))) (same_held : length new.lists ≡ length v.lists) where
+  module _ (new : RefLists) (differ : to ≢ from) (h : at ≤ off) (f : IsRefs new) (list : references_of new to ≡ without_reference (references_of v to) r ++ (r, off - at) ∷ []) (others : (o : ℕ) → o ≢ to → references_of new o ≡ without_reference (references_of v o) r) (changes : ChangesOne v new r (Some (Some record { owner = to; offset = off - at }))) (same_held : length new.lists ≡ length v.lists) where
     pub split_goes : Splits old new from at to ahead
     split_goes =
         record {
@@ -267,15 +267,15 @@ module _ (old v : RefLists) (from at to r off : ℕ) (o : offset_of v r ≡ Some
           same_held = same_held ∙ k.same_held;
           kept = ap (λ zs. k.done ++ zs) (sym (below_high at r off t.behind h) ∙ ap (below at) (sym t.is)) ∙ k.kept;
           moved =
-              ap (λ zs. zs ++ from_on at t.behind) list ∙ append_assoc (without (list_of v to) r) ((r, off - at) ∷ []) (from_on at t.behind)
+              ap (λ zs. zs ++ from_on at t.behind) list ∙ append_assoc (without_reference (references_of v to) r) ((r, off - at) ∷ []) (from_on at t.behind)
               ∙ ap (λ zs. zs ++ (r, off - at) ∷ from_on at t.behind) (elsewhere v from r off k.done k.rest k.sound k.list t to differ)
-              ∙ ap (λ zs. list_of v to ++ zs) (sym (from_high at r off t.behind h) ∙ ap (from_on at) (sym t.is)) ∙ k.moved;
+              ∙ ap (λ zs. references_of v to ++ zs) (sym (from_high at r off t.behind h) ∙ ap (from_on at) (sym t.is)) ∙ k.moved;
           others = λ o a b. others o b ∙ elsewhere v from r off k.done k.rest k.sound k.list t o a ∙ k.others o a b;
           refs = refs_step (split_place from at to) old v new r _ _ t.stands changes (split_from from at to off h) (split_to from at to (off - at) differ) k.refs;
           sound = f;
         }
 
-    pub goes_shorter : count_from ahead (list_of new from) < count_from (Some r) (list_of v from)
+    pub goes_shorter : count_from ahead (references_of new from) < count_from (Some r) (references_of v from)
     unfolding split_goes
     goes_shorter = let e : length k.rest ≡ length ((r, off) ∷ t.behind) = ap length t.is in omega (arith, count_is old v from at to (Some r) k, count_is old new from at to ahead split_goes, e)
 
@@ -306,14 +306,14 @@ module _ (old v : RefLists) (from at to : ℕ) (k : Splits old v from at to None
   nothing : k.rest ≡ []
   nothing = empty k.rest (λ r q. let z : None ≡ Some r = sym k.starts ∙ q in cc)
 
-  whole_done : list_of v from ≡ k.done
+  whole_done : references_of v from ≡ k.done
   whole_done = k.list ∙ ap (λ zs. k.done ++ zs) nothing ∙ append-nil k.done
 
-  pub split_from_list : list_of v from ≡ below at (list_of old from)
+  pub split_from_list : references_of v from ≡ below at (references_of old from)
   split_from_list = k.list ∙ ap (λ zs. k.done ++ zs) (nothing ∙ sym (ap (below at) nothing)) ∙ k.kept
 
-  pub split_to_list : list_of v to ≡ list_of old to ++ from_on at (list_of old from)
-  split_to_list = sym (append-nil (list_of v to)) ∙ ap (λ zs. list_of v to ++ zs) (sym (ap (from_on at) nothing)) ∙ k.moved
+  pub split_to_list : references_of v to ≡ references_of old to ++ from_on at (references_of old from)
+  split_to_list = sym (append-nil (references_of v to)) ∙ ap (λ zs. references_of v to ++ zs) (sym (ap (from_on at) nothing)) ∙ k.moved
 
   pub split_refs : (r : ℕ) → entry v r ≡ each_place (split_place from at to) (entry old r)
   split_refs r =

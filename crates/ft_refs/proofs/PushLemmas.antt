@@ -11,8 +11,8 @@ use Rattle.ft_arena.proofs.KidLemmas.{points_other}
 use Rattle.ft_arena.proofs.HookLemmas.{IsLinked, hooked}
 use Rattle.ft_refs.specs.declared.numbers.Slot.{Slot}
 use Rattle.ft_refs.specs.declared.numbers.Ends.{Ends}
-use Rattle.ft_refs.specs.RefLists.{list_of, place_of_entry, owner_of_place, ChangesOne}
-use Rattle.ft_refs.specs.Links.{next_of_slot, prev_of_slot, next_of, prev_of, entries_of, owner_at, offset_or, with_offset, refs_from, list_from, live_on, no_ends, ends_at, AreLinks, AreLists, shown, SetsNext, HasPlace}
+use Rattle.ft_refs.specs.RefLists.{references_of, place_of_entry, owner_of_place, ChangesOne}
+use Rattle.ft_refs.specs.Links.{next_of_slot, prev_of_slot, next_slot, prev_of, entries_of, owner_at, offset_or, with_offset, refs_from, list_from, live_on, no_ends, ends_at, AreLinks, AreLists, shown_lists, SetsNext, HasPlace}
 use Rattle.ft_refs.proofs.ListLemmas.{linked_from, refs_is, links_from, links_kept, list_at, offsets_kept, live_has_slot, entries_other, entries_here, nexts_other, prevs_other}
 
 -- what is put after the last reference stands at the end
@@ -37,7 +37,7 @@ map-last f [] x = refl
 map-last f (y ∷ ys) x = ap (λ t. f y ∷ t) (map-last f ys x)
 
 module _ (s0 s1 s2 : Slab Slot) (es : List Ends) (e : Ends) (f2 : Option ℕ) (r o off : ℕ) (f : AreLists s0 es) (is : ends_at es o ≡ e) (within : o < length es) (idle : owner_at s0 r ≡ None) (u : Updates s0 s1 r (Some record { place = Some record { owner = o; offset = off }; prev = e.last; next = None })) where
-  g : IsLinked (live_on s0 o) (next_of s0 e.first) (prev_of s0 e.last) (refs_from s0 e.first)
+  g : IsLinked (live_on s0 o) (next_slot s0 e.first) (prev_of s0 e.last) (refs_from s0 e.first)
   g = linked_from s0 o e (subst (λ (z : Ends). AreLinks s0 o z) is (f.links o))
 
   off_r : (o' : ℕ) → live_on s0 o' (Some r) ≡ 0
@@ -71,20 +71,20 @@ module _ (s0 s1 s2 : Slab Slot) (es : List Ends) (e : Ends) (f2 : Option ℕ) (r
     lives o' None d = refl
     lives o' (Some x) d = ap (λ q. points (owner_of_place (place_of_entry q)) o') (push_other x (λ q. d (ap Some q)))
 
-    at_end : next_of s0 e.first e.last ≡ None
+    at_end : next_slot s0 e.first e.last ≡ None
     at_end = g.ring.forth None refl
 
     in_list : (p : Option ℕ) → live_on s0 o p ≡ 1 → IsIn (refs_from s0 e.first) p
     in_list None h = tt
     in_list (Some x) h = g.once x ∙ h
 
-    hooked_prevs : (p : Option ℕ) → p ≢ next_of s0 e.first e.last → p ≢ Some r → prev_of s2 (Some r) p ≡ prev_of s0 e.last p
+    hooked_prevs : (p : Option ℕ) → p ≢ next_slot s0 e.first e.last → p ≢ Some r → prev_of s2 (Some r) p ≡ prev_of s0 e.last p
     hooked_prevs None a d = absurd (a (sym at_end))
     hooked_prevs (Some x) a d = nx.prevs e.last (Some x) ∙ prevs_other s0 s1 r _ e.last u (Some x) d
 
-    linked : IsLinked (live_on s2 o) (next_of s2 f2) (prev_of s2 (Some r)) (refs_from s0 e.first ++ r ∷ [])
+    linked : IsLinked (live_on s2 o) (next_slot s2 f2) (prev_of s2 (Some r)) (refs_from s0 e.first ++ r ∷ [])
     linked =
-        subst (λ (xs : List ℕ). IsLinked (live_on s2 o) (next_of s2 f2) (prev_of s2 (Some r)) xs) (put_last (next_of s0 e.first) (refs_from s0 e.first) e.last r g.walks at_end (in_list e.last last_live)) (hooked (live_on s0 o) (next_of s0 e.first) (prev_of s0 e.last) (live_on s2 o) (next_of s2 f2) (prev_of s2 (Some r)) (refs_from s0 e.first) r g e.last last_live (off_r o) (ap (λ q. points (owner_of_place (place_of_entry q)) o) push_here ∙ same_refl o) (lives o) nx.changed (nx.others (Some r) (λ q. apart o e.last last_live (sym q)) ∙ ap next_of_slot u.changed ∙ sym at_end) (λ p a d. nx.others p a ∙ nexts_other s0 s1 r _ e.first u p d) (ap (prev_of s2 (Some r)) at_end) (nx.prevs (Some r) (Some r) ∙ ap prev_of_slot u.changed) hooked_prevs)
+        subst (λ (xs : List ℕ). IsLinked (live_on s2 o) (next_slot s2 f2) (prev_of s2 (Some r)) xs) (put_last (next_slot s0 e.first) (refs_from s0 e.first) e.last r g.walks at_end (in_list e.last last_live)) (hooked (live_on s0 o) (next_slot s0 e.first) (prev_of s0 e.last) (live_on s2 o) (next_slot s2 f2) (prev_of s2 (Some r)) (refs_from s0 e.first) r g e.last last_live (off_r o) (ap (λ q. points (owner_of_place (place_of_entry q)) o) push_here ∙ same_refl o) (lives o) nx.changed (nx.others (Some r) (λ q. apart o e.last last_live (sym q)) ∙ ap next_of_slot u.changed ∙ sym at_end) (λ p a d. nx.others p a ∙ nexts_other s0 s1 r _ e.first u p d) (ap (prev_of s2 (Some r)) at_end) (nx.prevs (Some r) (Some r) ∙ ap prev_of_slot u.changed) hooked_prevs)
 
     off_other : (o' : ℕ) → o' ≢ o → (x : ℕ) → points (owner_at s2 x) o' ≡ points (owner_at s0 x) o'
     off_other o' n x = elim (cases_eq x r) [
@@ -92,10 +92,10 @@ module _ (s0 s1 s2 : Slab Slot) (es : List Ends) (e : Ends) (f2 : Option ℕ) (r
       | inr d ↦ ap (λ q. points (owner_of_place (place_of_entry q)) o') (push_other x d)
     ]
 
-    other : (o' : ℕ) → o' ≢ o → IsLinked (live_on s2 o') (next_of s2 (ends_at es o').first) (prev_of s2 (ends_at es o').last) (refs_from s0 (ends_at es o').first)
+    other : (o' : ℕ) → o' ≢ o → IsLinked (live_on s2 o') (next_slot s2 (ends_at es o').first) (prev_of s2 (ends_at es o').last) (refs_from s0 (ends_at es o').first)
     other o' n = links_kept s0 s2 o' (ends_at es o') nexts prevs lives' (f.links o')
       where
-        nexts : (p : Option ℕ) → live_on s0 o' p ≡ 1 → next_of s2 (ends_at es o').first p ≡ next_of s0 (ends_at es o').first p
+        nexts : (p : Option ℕ) → live_on s0 o' p ≡ 1 → next_slot s2 (ends_at es o').first p ≡ next_slot s0 (ends_at es o').first p
         nexts None h = refl
         nexts (Some x) h = nx.others (Some x) (λ q. omega (arith, ap (live_on s0 o) q, last_live, points_other o' o (owner_at s0 x) n h)) ∙ nexts_other s0 s1 r _ e.first u (Some x) (apart o' (Some x) h)
 
@@ -131,16 +131,16 @@ module _ (s0 s1 s2 : Slab Slot) (es : List Ends) (e : Ends) (f2 : Option ℕ) (r
     absent : (o' x : ℕ) → 1 ≤ times (refs_from s0 (ends_at es o').first) x → x ≢ r
     absent o' x i = λ q. omega (arith, i, (f.links o').once x, ap (λ z. points (owner_at s0 z) o') q, off_r o')
 
-    pub pushed_list : list_of (shown s2 (set es o record { first = f2; last = Some r })) o ≡ list_of (shown s0 es) o ++ (r, off) ∷ []
+    pub pushed_list : references_of (shown_lists s2 (set es o record { first = f2; last = Some r })) o ≡ references_of (shown_lists s0 es) o ++ (r, off) ∷ []
     pushed_list =
         list_at s2 (set es o e2) o ∙ ap (λ (z : Ends). list_from s2 z.first) ends_here ∙ ap (map (with_offset s2)) (refs_is s2 o e2 _ linked) ∙ map-last (with_offset s2) (refs_from s0 e.first) r
         ∙ ap (λ z. map (with_offset s2) (refs_from s0 e.first) ++ (r, z) ∷ []) (ap (λ q. offset_or (place_of_entry q)) push_here)
         ∙ ap (λ zs. zs ++ (r, off) ∷ []) (ap (λ (z : Ends). map (with_offset s2) (refs_from s0 z.first)) (sym is) ∙ offsets_kept s0 s2 (refs_from s0 (ends_at es o).first) (λ x i. push_other x (absent o x i)) ∙ sym (list_at s0 es o))
 
-    pub pushed_other : (o' : ℕ) → o' ≢ o → list_of (shown s2 (set es o record { first = f2; last = Some r })) o' ≡ list_of (shown s0 es) o'
+    pub pushed_other : (o' : ℕ) → o' ≢ o → references_of (shown_lists s2 (set es o record { first = f2; last = Some r })) o' ≡ references_of (shown_lists s0 es) o'
     pushed_other o' n =
         list_at s2 (set es o e2) o' ∙ ap (λ (z : Ends). list_from s2 z.first) (ends_other o' n) ∙ ap (map (with_offset s2)) (refs_is s2 o' (ends_at es o') _ (other o' n))
         ∙ offsets_kept s0 s2 (refs_from s0 (ends_at es o').first) (λ x i. push_other x (absent o' x i)) ∙ sym (list_at s0 es o')
 
-    pub pushed_changes : ChangesOne (shown s0 es) (shown s2 (set es o record { first = f2; last = Some r })) r (Some (Some record { owner = o; offset = off }))
+    pub pushed_changes : ChangesOne (shown_lists s0 es) (shown_lists s2 (set es o record { first = f2; last = Some r })) r (Some (Some record { owner = o; offset = off }))
     pushed_changes = record { changed = push_here; others = push_other }

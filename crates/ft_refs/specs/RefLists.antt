@@ -14,8 +14,8 @@ abbrev pub entry : RefLists → ℕ → Option (Option Place)
 entry s r = slice_index_or s.refs r None
 
 -- the references of an owner in order, each with its offset
-abbrev pub list_of : RefLists → ℕ → List (ℕ × ℕ)
-list_of s owner = slice_index_or s.lists owner []
+abbrev pub references_of : RefLists → ℕ → List (ℕ × ℕ)
+references_of s owner = slice_index_or s.lists owner []
 
 -- the references of a list without their offsets
 abbrev pub ids : List (ℕ × ℕ) → List ℕ
@@ -23,7 +23,7 @@ ids xs = map (λ x. x.0) xs
 
 -- the references of an owner in order
 abbrev pub ids_of : RefLists → ℕ → List ℕ
-ids_of s owner = ids (list_of s owner)
+ids_of s owner = ids (references_of s owner)
 
 -- there is room for a list of this owner
 abbrev pub IsHeld : RefLists → ℕ → Type 0
@@ -35,8 +35,8 @@ place_of_entry None = None
 place_of_entry (Some p) = p
 
 -- where a reference stands, if it is attached
-abbrev pub place_of : RefLists → ℕ → Option Place
-place_of s r = place_of_entry (entry s r)
+abbrev pub place_of_reference : RefLists → ℕ → Option Place
+place_of_reference s r = place_of_entry (entry s r)
 
 abbrev pub owner_of_place : Option Place → Option ℕ
 owner_of_place None = None
@@ -48,19 +48,19 @@ offset_of_place (Some p) = Some p.offset
 
 -- the owner and the offset of an attached reference
 abbrev pub owner_of : RefLists → ℕ → Option ℕ
-owner_of s r = owner_of_place (place_of s r)
+owner_of s r = owner_of_place (place_of_reference s r)
 
 abbrev pub offset_of : RefLists → ℕ → Option ℕ
-offset_of s r = offset_of_place (place_of s r)
+offset_of s r = offset_of_place (place_of_reference s r)
 
 -- the reference after this one in the list of its owner
 abbrev pub next_of : RefLists → ℕ → Option ℕ
 next_of s r = option_and_then (λ owner. after (ids_of s owner) r) (owner_of s r)
 
 -- the list without a reference
-abbrev pub without : List (ℕ × ℕ) → ℕ → List (ℕ × ℕ)
-without [] r = []
-without (x ∷ xs) r = cond (nat_eq x.0 r) (without xs r) (x ∷ without xs r)
+abbrev pub without_reference : List (ℕ × ℕ) → ℕ → List (ℕ × ℕ)
+without_reference [] r = []
+without_reference (x ∷ xs) r = cond (nat_eq x.0 r) (without_reference xs r) (x ∷ without_reference xs r)
 
 -- each reference of the list stands on this owner at its offset
 abbrev pub AreOn : RefLists → ℕ → List (ℕ × ℕ) → Type 0
@@ -70,7 +70,7 @@ AreOn s owner (x ∷ xs) = (entry s x.0 ≡ Some (Some record { owner = owner; o
 -- an attached reference stands once in the list of its owner, at its offset, and in no other list; its owner is held
 pub record IsRefs (s : RefLists) : Type 0 where
   pub once : (owner r : ℕ) → times (ids_of s owner) r ≡ points (owner_of s r) owner
-  pub on : (owner : ℕ) → AreOn s owner (list_of s owner)
+  pub on : (owner : ℕ) → AreOn s owner (references_of s owner)
   pub held : (owner r : ℕ) → owner_of s r ≡ Some owner → IsHeld s owner
 
 -- this reference has this entry, and every other keeps what it had
@@ -82,7 +82,7 @@ pub record ChangesOne (old new : RefLists) (r : ℕ) (now : Option (Option Place
 pub record Holds (old new : RefLists) (owner : ℕ) : Type 0 where
   pub held : IsHeld new owner
   pub still : (o : ℕ) → IsHeld old o → IsHeld new o
-  pub lists : (o : ℕ) → list_of new o ≡ list_of old o
+  pub lists : (o : ℕ) → references_of new o ≡ references_of old o
   pub refs : new.refs ≡ old.refs
 
 -- the references of a list below an offset

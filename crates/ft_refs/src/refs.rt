@@ -2,7 +2,7 @@
 
 ghost use Rattle.std.specs.Prelude.{◌≡◌, ◌≢◌, ℕ, ◌+◌, ◌++◌, ◌<◌, ◌^◌, [], ◌∷◌, Some, None, length, IsSome, IfOk, OnErr, option_map};
 ghost use Rattle.ft_arena.specs.Ids.{first};
-ghost use Rattle.ft_refs.specs.RefLists.{IsRefs, IsHeld, entry, list_of, ids_of, owner_of, offset_of, next_of, without, ChangesOne, Holds, below, from_on, raised, split_place, raised_place, AllBelow};
+ghost use Rattle.ft_refs.specs.RefLists.{IsRefs, IsHeld, entry, references_of, ids_of, owner_of, offset_of, next_of, without_reference, ChangesOne, Holds, below, from_on, raised, split_place, raised_place, AllBelow};
 
 use crate::links::{make_room, set_next, set_prev, wrap};
 use crate::numbers::{Ends, Place, RefId, Slot};
@@ -63,8 +63,8 @@ impl Refs {
     /// Answers `OutOfMemory` where there is no room for it, and then nothing changed.
     pub fn attach(&mut self, owner: NodeId, offset: u64) -> Result<RefId, OutOfMemory>
         ensures fresh { IfOk result (λ r. entry self.old r ≡ None) }
-        ensures list { IfOk result (λ r. list_of self.new owner ≡ list_of self.old owner ++ (r, offset) ∷ []) }
-        ensures others { IfOk result (λ r. (o : ℕ) → o ≢ owner → list_of self.new o ≡ list_of self.old o) }
+        ensures list { IfOk result (λ r. references_of self.new owner ≡ references_of self.old owner ++ (r, offset) ∷ []) }
+        ensures others { IfOk result (λ r. (o : ℕ) → o ≢ owner → references_of self.new o ≡ references_of self.old o) }
         ensures changes { IfOk result (λ r. ChangesOne self.old self.new r (Some (Some record { owner = owner; offset = offset }))) }
         ensures held { IfOk result (λ r. IsHeld self.new owner × ((o : ℕ) → IsHeld self.old o → IsHeld self.new o)) }
         ensures refused { OnErr result (self.new ≡ self.old) }
@@ -86,8 +86,8 @@ impl Refs {
     fn push(&mut self, r: RefId, owner: NodeId, offset: u64)
         requires detached { entry self.old r ≡ Some None }
         requires held { IsHeld self.old owner }
-        ensures list { list_of self.new owner ≡ list_of self.old owner ++ (r, offset) ∷ [] }
-        ensures others { (o : ℕ) → o ≢ owner → list_of self.new o ≡ list_of self.old o }
+        ensures list { references_of self.new owner ≡ references_of self.old owner ++ (r, offset) ∷ [] }
+        ensures others { (o : ℕ) → o ≢ owner → references_of self.new o ≡ references_of self.old o }
         ensures changes { ChangesOne self.old self.new r (Some (Some record { owner = owner; offset = offset })) }
         ensures same_held { length self.new.lists ≡ length self.old.lists }
         ensures sound { IsRefs self.new }
@@ -108,8 +108,8 @@ impl Refs {
     pub fn put(&mut self, r: RefId, owner: NodeId, offset: u64)
         requires live { IsSome (entry self.old r) }
         requires held { IsHeld self.old owner }
-        ensures list { list_of self.new owner ≡ without (list_of self.old owner) r ++ (r, offset) ∷ [] }
-        ensures others { (o : ℕ) → o ≢ owner → list_of self.new o ≡ without (list_of self.old o) r }
+        ensures list { references_of self.new owner ≡ without_reference (references_of self.old owner) r ++ (r, offset) ∷ [] }
+        ensures others { (o : ℕ) → o ≢ owner → references_of self.new o ≡ without_reference (references_of self.old o) r }
         ensures changes { ChangesOne self.old self.new r (Some (Some record { owner = owner; offset = offset })) }
         ensures same_held { length self.new.lists ≡ length self.old.lists }
         ensures sound { IsRefs self.new }
@@ -121,7 +121,7 @@ impl Refs {
     /// Takes a reference out of the list that it stands in. It stays live, without an owner.
     pub fn detach(&mut self, r: RefId)
         requires live { IsSome (entry self.old r) }
-        ensures lists { (o : ℕ) → list_of self.new o ≡ without (list_of self.old o) r }
+        ensures lists { (o : ℕ) → references_of self.new o ≡ without_reference (references_of self.old o) r }
         ensures changes { ChangesOne self.old self.new r (Some None) }
         ensures same_held { length self.new.lists ≡ length self.old.lists }
         ensures sound { IsRefs self.new }
@@ -145,7 +145,7 @@ impl Refs {
     /// Takes a reference out of the list that it stands in, and ends it.
     pub fn release(&mut self, r: RefId)
         requires live { IsSome (entry self.old r) }
-        ensures lists { (o : ℕ) → list_of self.new o ≡ without (list_of self.old o) r }
+        ensures lists { (o : ℕ) → references_of self.new o ≡ without_reference (references_of self.old o) r }
         ensures changes { ChangesOne self.old self.new r None }
         ensures same_held { length self.new.lists ≡ length self.old.lists }
         ensures sound { IsRefs self.new }
@@ -213,9 +213,9 @@ impl Refs {
     pub fn split_list(&mut self, from: NodeId, at: u64, to: NodeId)
         requires held { IsHeld self.old to }
         requires differ { to ≢ from }
-        ensures from { list_of self.new from ≡ below at (list_of self.old from) }
-        ensures to { list_of self.new to ≡ list_of self.old to ++ from_on at (list_of self.old from) }
-        ensures others { (o : ℕ) → o ≢ from → o ≢ to → list_of self.new o ≡ list_of self.old o }
+        ensures from { references_of self.new from ≡ below at (references_of self.old from) }
+        ensures to { references_of self.new to ≡ references_of self.old to ++ from_on at (references_of self.old from) }
+        ensures others { (o : ℕ) → o ≢ from → o ≢ to → references_of self.new o ≡ references_of self.old o }
         ensures refs { (r : ℕ) → entry self.new r ≡ option_map (option_map (split_place from at to)) (entry self.old r) }
         ensures same_held { length self.new.lists ≡ length self.old.lists }
         ensures sound { IsRefs self.new }
@@ -234,10 +234,10 @@ impl Refs {
     pub fn splice(&mut self, from: NodeId, to: NodeId, add: u64)
         requires held { IsHeld self.old to }
         requires differ { to ≢ from }
-        requires fits { AllBelow add (2 ^ 64) (list_of self.old from) }
-        ensures from { list_of self.new from ≡ [] }
-        ensures to { list_of self.new to ≡ list_of self.old to ++ raised add (list_of self.old from) }
-        ensures others { (o : ℕ) → o ≢ from → o ≢ to → list_of self.new o ≡ list_of self.old o }
+        requires fits { AllBelow add (2 ^ 64) (references_of self.old from) }
+        ensures from { references_of self.new from ≡ [] }
+        ensures to { references_of self.new to ≡ references_of self.old to ++ raised add (references_of self.old from) }
+        ensures others { (o : ℕ) → o ≢ from → o ≢ to → references_of self.new o ≡ references_of self.old o }
         ensures refs { (r : ℕ) → entry self.new r ≡ option_map (option_map (raised_place from to add)) (entry self.old r) }
         ensures same_held { length self.new.lists ≡ length self.old.lists }
         ensures sound { IsRefs self.new }

@@ -1,4 +1,5 @@
 pub mod Lists
+pub mod DistinctNames
 pub mod OrderedEnds
 pub mod FormedClients
 pub mod SummaryLists

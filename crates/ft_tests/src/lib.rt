@@ -12,6 +12,8 @@ mod json_values;
 #[cfg(test)]
 mod messages;
 #[cfg(test)]
+mod plain_client;
+#[cfg(test)]
 mod plain_summaries;
 #[cfg(test)]
 mod properties;

@@ -2,13 +2,13 @@
 
 use ft_base::Text;
 use ft_json::{ValText, whole_text};
-use ft_minimal::Minimal;
+use ft_plain::Plain;
 use ft_session::{Refusal, Values, World};
 use std::test::Fail;
 
 #[test]
 fn a_world_without_replicas_knows_no_client(rt: HostRuntime) -> Result<(), Fail> {
-    let mut world = World::<Minimal>::new(rt.alloc());
+    let mut world = World::<Plain>::new(rt.alloc());
     let name = Text::new(rt.alloc(), "A")?;
     assert_eq!(rt; world.connect(&name), Err(Refusal::UnknownClient));
     assert_eq!(rt; world.drop_link(&name), Err(Refusal::UnknownClient));

@@ -13,6 +13,7 @@ use Rattle.ft_worlds.specs.FormedLogs.{AllMayBeTaken}
 use Rattle.ft_worlds.specs.LogOrder.{IsOrder}
 use Rattle.ft_worlds.specs.Load.{IsCountedWithin}
 use Rattle.ft_worlds.proofs.HeldElements.{IsSizedWithin}
+use Rattle.ft_summaries.proofs.DistinctNames.{distinct-taken}
 use Rattle.ft_summaries.proofs.Lists.{each-found, each-taken, size}
 use Rattle.ft_worlds.proofs.Orders.{Leads, leads-up}
 use Rattle.ft_summaries.proofs.ValidDocuments.{AreNext, IsFrom, IsMadeBy, empty-made, entries-made}
@@ -70,24 +71,6 @@ greatest-each (e ∷ es) a = (let h = greatest-high es (max a e.origin) in omega
 greatest-low : (es : List Entry) (a m : ℕ) → a ≤ m → Each (λ e. e.origin ≤ m) es → fold (λ n e. max n e.origin) a es ≤ m
 greatest-low [] a m l h = l
 greatest-low (e ∷ es) a m l h = greatest-low es (max a e.origin) m (let o = h.0 in omega (arith, l, o)) h.1
-
-none-taken : (name : Characters) (n : ℕ) (names : List Characters) → not (list_any (bytes_eq name) names) ≡ true → not (list_any (bytes_eq name) (take n names)) ≡ true
-none-taken name zero names h = refl
-none-taken name (suc n) [] h = refl
-none-taken name (suc n) (first ∷ names) h = by (bytes_eq name first) h (λ g. none-taken name n names g)
-  where
-    by : (b : Bool) → not (b || list_any (bytes_eq name) names) ≡ true
-        → (not (list_any (bytes_eq name) names) ≡ true → not (list_any (bytes_eq name) (take n names)) ≡ true)
-        → not (b || list_any (bytes_eq name) (take n names)) ≡ true
-    by true g ih = (cc)
-    by false g ih = ih g
-
-distinct-taken : (n : ℕ) (names : List Characters) → are_distinct_names names ≡ true → are_distinct_names (take n names) ≡ true
-distinct-taken zero names h = refl
-distinct-taken (suc n) [] h = refl
-distinct-taken (suc n) (first ∷ names) h =
-    let p = both (not (list_any (bytes_eq first) names)) (are_distinct_names names) h in
-    rw (none-taken first n names p.0, distinct-taken n names p.1) refl
 
 -- ---- the messages that a client took
 

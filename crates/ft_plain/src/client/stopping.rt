@@ -64,6 +64,13 @@ impl StoppingClient {
         &self.client
     }
 
+    /// The greatest number of a connection in what it processed.
+    pub fn origin(&self) -> u32
+        ensures { result ≡ self.now.origin }
+    {
+        self.origin
+    }
+
     /// The number at which it stopped, if it did.
     pub fn stop(&self) -> Option<u64>
         ensures { result ≡ self.now.stop }

@@ -2,7 +2,7 @@ use Rattle.std.proofs.Common.{IsSomeAnd, Option, subst, ◌≡◌, ◌<◌, ◌+
 use Rattle.ft_arena.specs.Ids.{insert_after}
 use Rattle.ft_arena.specs.Forest.{Forest}
 use Rattle.ft_block.specs.declared.summaries.Summary.{Summary}
-use Rattle.ft_block.specs.Leaves.{seen_length}
+use Rattle.ft_block.specs.Tree.{shown_length}
 use Rattle.ft_block.specs.Tree.{by_view, by_size, height_of}
 use Rattle.ft_block.proofs.InsertLemmas.{room_tree, room_sums, room_floors, room_values, room_leaves, cut_grows, cut_heights, cut_sums, cut_owes, cut_floors, cut_total}
 use Rattle.ft_block.proofs.InsertLemmas.{cut_splits, all_settled}
@@ -75,15 +75,15 @@ returns-clause-sums g c = λ view k.
     let met = g.met.L.Leaf in
     let whole : g.L.Leaf.size (g.L.Leaf.front c.leaf_mut.result.now c.args.at) + g.L.Leaf.size (g.L.Leaf.rear c.leaf_mut.result.now c.args.at) ≡ g.L.Leaf.size
     c.leaf_mut.result.now = omega (arith, met.front_size c.leaf_mut.result.now c.args.at low high, met.rear_size c.leaf_mut.result.now c.args.at low high) in
-    let real = ap (λ (x : g.row.L.Denot). (seen_length g.L.Leaf.size g.L.Leaf.element view) x + (seen_length g.L.Leaf.size g.L.Leaf.element view) c.in_ok-rest.rest)
-    c.in_ok-rest.ensures.front ∙ ap (λ (x : g.row.L.Denot). (seen_length g.L.Leaf.size g.L.Leaf.element view) (g.L.Leaf.front c.leaf_mut.result.now c.args.at) +
-    (seen_length g.L.Leaf.size g.L.Leaf.element view) x) c.in_ok-rest.ensures.rear
+    let real = ap (λ (x : g.row.L.Denot). (shown_length g.L.Leaf.size g.L.Leaf.element view) x + (shown_length g.L.Leaf.size g.L.Leaf.element view) c.in_ok-rest.rest)
+    c.in_ok-rest.ensures.front ∙ ap (λ (x : g.row.L.Denot). (shown_length g.L.Leaf.size g.L.Leaf.element view) (g.L.Leaf.front c.leaf_mut.result.now c.args.at) +
+    (shown_length g.L.Leaf.size g.L.Leaf.element view) x) c.in_ok-rest.ensures.rear
     ∙ seen_parts g.L.Leaf.size g.L.Leaf.element view c.leaf_mut.result.now (g.L.Leaf.front c.leaf_mut.result.now c.args.at)
     (g.L.Leaf.rear c.leaf_mut.result.now c.args.at) (met.front_element c.leaf_mut.result.now c.args.at low high)
     (met.rear_element c.leaf_mut.result.now c.args.at low high) whole in
-    all_settled (by_view g.L.Leaf.size g.L.Leaf.element view) c.grow.new.arena _ (seen_length g.L.Leaf.size g.L.Leaf.element view c.leaf_mut.result.now)
-    (c.in_ok-top.ensures.sums view k) (c.in_ok-top.ensures.owes view (seen_length g.L.Leaf.size g.L.Leaf.element view c.leaf_mut.result.now)
-    (seen_length g.L.Leaf.size g.L.Leaf.element view c.leaf_mut.result.now) k
+    all_settled (by_view g.L.Leaf.size g.L.Leaf.element view) c.grow.new.arena _ (shown_length g.L.Leaf.size g.L.Leaf.element view c.leaf_mut.result.now)
+    (c.in_ok-top.ensures.sums view k) (c.in_ok-top.ensures.owes view (shown_length g.L.Leaf.size g.L.Leaf.element view c.leaf_mut.result.now)
+    (shown_length g.L.Leaf.size g.L.Leaf.element view c.leaf_mut.result.now) k
     (cut_owes c.reserve.new.self c.link_after-id.new.self c.args.root c.args.leaf c.link_after-id.result c.leaf_mut.result.now c.split_off.new.self c.in_ok-rest.rest
     (room_tree c.args.arena.now c.reserve.new.self c.reserve.ensures.kept c.args.root c.requires.tree) c.leaf_mut.ensures.value c.link_after-id.ensures.fresh
     c.link_after-id.ensures.changes c.link_after-id.ensures.leaves c.link_after-id.ensures.sound (by_view g.L.Leaf.size g.L.Leaf.element view)

@@ -1,4 +1,4 @@
-use Rattle.std.proofs.Common.{◌≡◌, ◌≤◌, ℕ, List, ap, sym, ◌∙◌, arith}
+use Rattle.std.proofs.Common.{◌≡◌, ◌≤◌, ℕ, List, refl, ap, sym, ◌∙◌, arith}
 use Rattle.ft_arena.specs.Forest.{entry, kids_of, kids_of_entry, kids_of_node}
 use Rattle.ft_block.specs.Tree.{seek, length_of, by_view, height_of, height_of_entry, height_of_node}
 use Rattle.ft_block.proofs.Levels.{descends, total_leaves, block_from_height}
@@ -11,6 +11,7 @@ levels-init g c =
       block = t.shape.root_is_block;
       high = omega arith;
       low = c.requires.low;
+      within = λ d. absurd (d refl);
       same = ap (λ (zs : List ℕ). seek (length_of (by_view g.L.Leaf.size g.L.Leaf.element c.args.view) c.args.arena.now) zs c.args.p) t.leaves;
       past = λ h. let e = total_leaves (by_view g.L.Leaf.size g.L.Leaf.element c.args.view) c.args.arena.now c.args.root t c.requires.sums in (sym e, omega (arith, h, e));
       cost = omega arith;
@@ -38,6 +39,7 @@ levels-preserved g c =
       block = block_from_height (entry c.args.arena.now c.child_at-child.result.0) (omega (arith, d.high, h, c.if-value-eq1.false, more));
       high = omega (arith, d.high, c.levels.invariant.high);
       low = d.low;
+      within = λ _. d.within;
       same = c.levels.invariant.same ∙ d.same;
       past = λ q. absurd (omega (arith, q, d.within));
       cost = omega (arith, d.high, c.child_at-child.ensures.cost, c.read.ensures.tick, c.levels.invariant.cost, c.levels.invariant.high);

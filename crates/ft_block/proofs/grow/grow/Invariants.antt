@@ -1,8 +1,8 @@
 use Rattle.std.proofs.Common.{◌≡◌, ◌≤◌, ◌<◌, ◌+◌, ◌-◌, ◌^◌, ℕ}
 use Rattle.ft_arena.specs.Forest.{leaf_value, parent_of}
 use Rattle.ft_arena.specs.Ids.{insert_after}
-use Rattle.ft_block.specs.declared.leaves.LenView.{LenView}
-use Rattle.ft_block.specs.Tree.{IsGrowing, SumsKeptBut, OwesAbove, AreFromFloor, IsKept, height_of, length_of, by_view, by_size, total}
+use Rattle.ft_block.specs.declared.leaves.View.{View}
+use Rattle.ft_block.specs.Tree.{IsGrowing, SumsKeptBut, OwesAbove, AreFromFloor, KeepsLengths, height_of, length_of, by_view, by_size, total}
 use Rattle.ft_block.proofs.grow.grow.Given as goal
 
 abbrev pub invariant-up : goal.invariant-up
@@ -10,7 +10,7 @@ invariant-up g l =
     record {
       growing : IsGrowing l.arena l.fn.root l.at l.id (λ xs. insert_after xs l.at l.id);
       sums : SumsKeptBut g.L.Leaf.size g.L.Leaf.element l.floor l.arena (parent_of l.arena l.at);
-      owes : (view : LenView) (more less : ℕ) → IsKept l.floor view
+      owes : (view : View) (more less : ℕ) → KeepsLengths l.floor view
           → OwesAbove (by_view g.L.Leaf.size g.L.Leaf.element view) l.initial.arena l.fn.at (λ xs. insert_after xs l.fn.at l.fn.id) more less
           → OwesAbove (by_view g.L.Leaf.size g.L.Leaf.element view) l.arena l.at (λ xs. insert_after xs l.at l.id) more less;
       floors : AreFromFloor l.floor l.arena;

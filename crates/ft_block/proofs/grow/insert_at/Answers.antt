@@ -3,7 +3,7 @@ use Rattle.ft_arena.specs.Ids.{insert_after}
 use Rattle.ft_block.specs.Tree.{by_view, by_size}
 use Rattle.ft_block.proofs.EditLemmas.{after_is_edit}
 use Rattle.ft_partial.specs.StepFunctions.{amount}
-use Rattle.ft_block.specs.Leaves.{sees_in}
+use Rattle.ft_block.specs.Tree.{shows}
 use Rattle.ft_block.proofs.FitLemmas.{leaf_total}
 use Rattle.ft_block.proofs.ExchangeLemmas.{tree_part, comes}
 use Rattle.ft_block.proofs.RefreshLemmas.{SameShape-tree}
@@ -121,7 +121,7 @@ exchange_up-requires-clause-owes g c = λ view k.
     c.link_after-id.ensures.leaves ∙ ap (λ (zs : List ℕ). insert_after zs c.args.at c.link_after-id.result)
     (room_leaves c.args.arena.now c.reserve.new.self c.reserve.ensures.kept) in
     let e_is : c.in_ok-e.e ≡ g.L.Leaf.element c.args.leaf = c.in_ok-e.ensures ∙ c.element.ensures in
-    c.in_ok-top.ensures.owes view (amount (sees_in view c.in_ok-e.e) c.len-len.result) (amount (sees_in view c.in_ok-e.e) 0) k
+    c.in_ok-top.ensures.owes view (amount (shows view c.in_ok-e.e) c.len-len.result) (amount (shows view c.in_ok-e.e) 0) k
     (comes g.L.Leaf.size g.L.Leaf.element view c.link_after-id.new.self c.args.at (λ xs. insert_after xs c.args.at c.link_after-id.result) c.args.leaf c.in_ok-e.e
     c.len-len.result e_is c.len-len.ensures.value (leaf_owes c.args.arena.now c.link_after-id.new.self c.args.root c.args.at c.link_after-id.result 1
     (λ xs. insert_after xs c.args.at c.link_after-id.result) (after_is_edit c.args.at c.link_after-id.result) c.args.leaf c.requires.tree c.requires.at

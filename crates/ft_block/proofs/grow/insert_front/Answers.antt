@@ -6,7 +6,7 @@ use Rattle.ft_block.specs.Tree.{insert_before, height_of, by_view, by_size}
 use Rattle.ft_block.proofs.EditLemmas.{before_is_edit, front_is}
 use Rattle.ft_block.proofs.Levels.{some_leaf}
 use Rattle.ft_partial.specs.StepFunctions.{amount}
-use Rattle.ft_block.specs.Leaves.{sees_in}
+use Rattle.ft_block.specs.Tree.{shows}
 use Rattle.ft_block.proofs.FitLemmas.{leaf_total, leaves_live}
 use Rattle.ft_block.proofs.ExchangeLemmas.{tree_part, comes}
 use Rattle.ft_block.proofs.RefreshLemmas.{SameShape-tree}
@@ -195,7 +195,7 @@ exchange_up-requires-clause-owes g c = λ view k.
     c.link_after-id.ensures.leaves ∙ ap (λ (zs : List ℕ). c.link_after-id.result ∷ zs) (room_leaves c.args.arena.now c.reserve.new.self c.reserve.ensures.kept)
     ∙ front.0 in
     let e_is : c.in_ok-e.e ≡ g.L.Leaf.element c.args.leaf = c.in_ok-e.ensures ∙ c.element.ensures in
-    c.in_ok-top.ensures.owes view (amount (sees_in view c.in_ok-e.e) c.len-len.result) (amount (sees_in view c.in_ok-e.e) 0) k
+    c.in_ok-top.ensures.owes view (amount (shows view c.in_ok-e.e) c.len-len.result) (amount (shows view c.in_ok-e.e) 0) k
     (comes g.L.Leaf.size g.L.Leaf.element view c.link_after-id.new.self c.in-Some.first (λ xs. insert_before xs c.in-Some.first c.link_after-id.result) c.args.leaf
     c.in_ok-e.e c.len-len.result e_is c.len-len.ensures.value (leaf_owes c.args.arena.now c.link_after-id.new.self c.args.root c.in-Some.first c.link_after-id.result
     0 (λ xs. insert_before xs c.in-Some.first c.link_after-id.result) (before_is_edit c.in-Some.first c.link_after-id.result) c.args.leaf c.requires.tree live

@@ -1,6 +1,6 @@
 use Rattle.std.proofs.Common.{◌≡◌, ◌-◌, ℕ, [], ◌∷◌, Some, None, ap, sym, ◌∙◌, arith}
 use Rattle.ft_arena.specs.Forest.{entry, parent_of}
-use Rattle.ft_block.specs.Tree.{total, length_of, by_view, before, below, height_of}
+use Rattle.ft_block.specs.Tree.{total, length_of, by_view, numbers_before, below, height_of}
 use Rattle.ft_block.proofs.KindLemmas.{block_live}
 use Rattle.ft_block.proofs.FitLemmas.{kids_fit}
 use Rattle.ft_block.proofs.InsertLemmas.{leaf_height, leaf_live}
@@ -17,7 +17,7 @@ up-init g c =
     record {
       live = leaf_live (entry c.args.arena.now c.args.leaf) c.requires.leaf;
       so_far =
-          omega (arith, ap (λ zs. total (length_of (by_view g.L.Leaf.size g.L.Leaf.element c.args.view) c.args.arena.now) (before zs c.args.leaf)) all);
+          omega (arith, ap (λ zs. total (length_of (by_view g.L.Leaf.size g.L.Leaf.element c.args.view) c.args.arena.now) (numbers_before zs c.args.leaf)) all);
     }
 
 pub length_before-sum-requires-clause-fits : goal.length_before-sum-requires-clause-fits
@@ -65,6 +65,6 @@ pub returns : goal.returns
 returns g c =
     let top : parent_of c.args.arena.now c.up.at ≡ None = sym c.parent.ensures ∙ c.in_default.is in
     let none : total (length_of (by_view g.L.Leaf.size g.L.Leaf.element c.args.view) c.args.arena.now)
-    (before (below c.args.arena.now (height_of c.args.arena.now c.args._root - height_of c.args.arena.now c.up.at) (c.args._root ∷ [])) c.up.at) ≡ 0 =
+    (numbers_before (below c.args.arena.now (height_of c.args.arena.now c.args._root - height_of c.args.arena.now c.up.at) (c.args._root ∷ [])) c.up.at) ≡ 0 =
     before_top (by_view g.L.Leaf.size g.L.Leaf.element c.args.view) c.args.arena.now c.args._root c.requires.tree c.up.at c.up.invariant.live top in
     omega (arith, none, c.up.invariant.so_far)

@@ -1,6 +1,6 @@
 use Rattle.std.proofs.Common.{◌≡◌, ◌+◌, ◌-◌, [], ◌∷◌, IsSome}
 use Rattle.ft_arena.specs.Forest.{entry}
-use Rattle.ft_block.specs.Tree.{total, length_of, by_view, before, below, height_of}
+use Rattle.ft_block.specs.Tree.{total, length_of, by_view, numbers_before, below, height_of}
 use Rattle.ft_block.proofs.position.kept_before.Given as goal
 
 abbrev pub invariant-up : goal.invariant-up
@@ -8,8 +8,8 @@ invariant-up g l =
     record {
       live : IsSome (entry l.arena l.at);
       so_far : l.sum + total (length_of (by_view g.L.Leaf.size g.L.Leaf.element l.view) l.arena)
-          (before (below l.arena (height_of l.arena l.fn._root - height_of l.arena l.at) (l.fn._root ∷ [])) l.at) ≡ total
-          (length_of (by_view g.L.Leaf.size g.L.Leaf.element l.view) l.arena) (before l.arena.leaves l.fn.leaf);
+          (numbers_before (below l.arena (height_of l.arena l.fn._root - height_of l.arena l.at) (l.fn._root ∷ [])) l.at) ≡ total
+          (length_of (by_view g.L.Leaf.size g.L.Leaf.element l.view) l.arena) (numbers_before l.arena.leaves l.fn.leaf);
     }
 
 abbrev pub decreases-up : goal.decreases-up

@@ -3,7 +3,7 @@ use Rattle.std.proofs.lemmas.Bool.{eqb-false, eqb-true}
 use Rattle.ft_arena.specs.Ids.{times}
 use Rattle.ft_arena.specs.Forest.{kids_of, kids_of_entry, kids_of_node}
 use Rattle.ft_arena.proofs.IdLemmas.{same_other}
-use Rattle.ft_block.specs.Tree.{total, length_of, length_of_entry, by_view, before}
+use Rattle.ft_block.specs.Tree.{total, length_of, length_of_entry, by_view, numbers_before}
 use Rattle.ft_block.proofs.Lists.{times_at, drop_at, drop_none}
 use Rattle.ft_block.proofs.PositionLemmas.{before_here, before_later, total-before_le, forest_kid_live}
 use Rattle.ft_block.proofs.KeptLemmas.{node_from}
@@ -18,8 +18,8 @@ returns-then-eq g c =
     drop_at (kids_of c.args.arena.now c.args.block) c.loop-kid.i c.in-Some.kid there in
     let f : ℕ → ℕ = length_of (by_view g.L.Leaf.size g.L.Leaf.element c.args.view) c.args.arena.now in
     let q : c.in-Some.kid ≡ c.args.child = eqb-true c.in-Some.kid c.args.child (sym c.eq.ensures ∙ c.if-eq.true) in
-    let none : before (drop c.loop-kid.i (kids_of c.args.arena.now c.args.block)) c.args.child ≡ [] =
-    ap (λ zs. before zs c.args.child) e ∙ subst (λ (z : ℕ). before (c.in-Some.kid ∷ drop (c.loop-kid.i + 1) (kids_of c.args.arena.now c.args.block)) z ≡ []) q
+    let none : numbers_before (drop c.loop-kid.i (kids_of c.args.arena.now c.args.block)) c.args.child ≡ [] =
+    ap (λ zs. numbers_before zs c.args.child) e ∙ subst (λ (z : ℕ). numbers_before (c.in-Some.kid ∷ drop (c.loop-kid.i + 1) (kids_of c.args.arena.now c.args.block)) z ≡ []) q
     (before_here c.in-Some.kid (drop (c.loop-kid.i + 1) (kids_of c.args.arena.now c.args.block))) in
     omega (arith, ap (total f) none, c.loop-kid.invariant.so_far)
 
@@ -39,9 +39,9 @@ overflow_add-sum g c =
     drop_at (kids_of c.args.arena.now c.args.block) c.loop-kid.i c.in-Some.kid there in
     let f : ℕ → ℕ = length_of (by_view g.L.Leaf.size g.L.Leaf.element c.args.view) c.args.arena.now in
     let d : c.in-Some.kid ≢ c.args.child = eqb-false c.in-Some.kid c.args.child (sym c.eq.ensures ∙ c.if-eq.false) in
-    let step : total f (before (drop c.loop-kid.i (kids_of c.args.arena.now c.args.block)) c.args.child) ≡ f c.in-Some.kid + total f
-    (before (drop (c.loop-kid.i + 1) (kids_of c.args.arena.now c.args.block)) c.args.child) =
-    ap (λ zs. total f (before zs c.args.child)) e
+    let step : total f (numbers_before (drop c.loop-kid.i (kids_of c.args.arena.now c.args.block)) c.args.child) ≡ f c.in-Some.kid + total f
+    (numbers_before (drop (c.loop-kid.i + 1) (kids_of c.args.arena.now c.args.block)) c.args.child) =
+    ap (λ zs. total f (numbers_before zs c.args.child)) e
     ∙ ap (total f) (before_later c.in-Some.kid (drop (c.loop-kid.i + 1) (kids_of c.args.arena.now c.args.block)) c.args.child d) in
     let n : f c.in-Some.kid ≡ c.length_at-sum.result = ap (length_of_entry (by_view g.L.Leaf.size g.L.Leaf.element c.args.view)) c.read-in-Some.ensures.node
     ∙ sym c.length_at-sum.ensures in
@@ -56,9 +56,9 @@ loop-kid-preserved g c =
     drop_at (kids_of c.args.arena.now c.args.block) c.loop-kid.i c.in-Some.kid there in
     let f : ℕ → ℕ = length_of (by_view g.L.Leaf.size g.L.Leaf.element c.args.view) c.args.arena.now in
     let d : c.in-Some.kid ≢ c.args.child = eqb-false c.in-Some.kid c.args.child (sym c.eq.ensures ∙ c.if-eq.false) in
-    let step : total f (before (drop c.loop-kid.i (kids_of c.args.arena.now c.args.block)) c.args.child) ≡ f c.in-Some.kid + total f
-    (before (drop (c.loop-kid.i + 1) (kids_of c.args.arena.now c.args.block)) c.args.child) =
-    ap (λ zs. total f (before zs c.args.child)) e
+    let step : total f (numbers_before (drop c.loop-kid.i (kids_of c.args.arena.now c.args.block)) c.args.child) ≡ f c.in-Some.kid + total f
+    (numbers_before (drop (c.loop-kid.i + 1) (kids_of c.args.arena.now c.args.block)) c.args.child) =
+    ap (λ zs. total f (numbers_before zs c.args.child)) e
     ∙ ap (total f) (before_later c.in-Some.kid (drop (c.loop-kid.i + 1) (kids_of c.args.arena.now c.args.block)) c.args.child d) in
     let n : f c.in-Some.kid ≡ c.length_at-sum.result = ap (length_of_entry (by_view g.L.Leaf.size g.L.Leaf.element c.args.view)) c.read-in-Some.ensures.node
     ∙ sym c.length_at-sum.ensures in

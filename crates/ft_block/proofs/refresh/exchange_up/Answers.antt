@@ -2,7 +2,7 @@ use Rattle.std.proofs.Common.{ℕ, Option, sym, subst, arith}
 use Rattle.ft_arena.specs.Forest.{with_block}
 use Rattle.ft_partial.specs.StepFunctions.{amount}
 use Rattle.ft_partial.specs.Rows.{Covers}
-use Rattle.ft_block.specs.Leaves.{sees_in}
+use Rattle.ft_block.specs.Tree.{shows}
 use Rattle.ft_block.specs.Tree.{SumsBut, OwesAt, by_view, by_size}
 use Rattle.ft_block.proofs.FitLemmas.{leaf_total}
 use Rattle.ft_block.proofs.RefreshLemmas.{written_floors, SameShape-refl, SameShape-then, SameShape-part}
@@ -48,16 +48,16 @@ up-preserved g c =
       sums = λ view k. subst (λ (o : Option ℕ). SumsBut (by_view g.L.Leaf.size g.L.Leaf.element view) (with_block s b w) o) (sym c.parent-stale.ensures)
           (ex_sums g.L.Leaf.size g.L.Leaf.element c.args.floor s c.args._root c.args._apart c.args._short i.tree i.fits b v w c.block_mut.ensures.value
           c.exchange.ensures.height view (subst (λ (o : Option ℕ). SumsBut (by_view g.L.Leaf.size g.L.Leaf.element view) s o) c.in-Some.is (i.sums view k))
-          (amount (sees_in view c.args.new.now) c.args.new_len) (amount (sees_in view c.args.e.now) c.args.len) c.exchange.ensures.low
+          (amount (shows view c.args.new.now) c.args.new_len) (amount (shows view c.args.e.now) c.args.len) c.exchange.ensures.low
           (c.in_ok-exchange.ensures.exchanges view k)
-          (subst (λ (o : Option ℕ). OwesAt (by_view g.L.Leaf.size g.L.Leaf.element view) s o (amount (sees_in view c.args.new.now) c.args.new_len)
-          (amount (sees_in view c.args.e.now) c.args.len)) c.in-Some.is (i.owes view k)));
+          (subst (λ (o : Option ℕ). OwesAt (by_view g.L.Leaf.size g.L.Leaf.element view) s o (amount (shows view c.args.new.now) c.args.new_len)
+          (amount (shows view c.args.e.now) c.args.len)) c.in-Some.is (i.owes view k)));
       owes = λ view k. subst (λ (o : Option ℕ). OwesAt (by_view g.L.Leaf.size g.L.Leaf.element view) (with_block s b w) o
-          (amount (sees_in view c.args.new.now) c.args.new_len) (amount (sees_in view c.args.e.now) c.args.len)) (sym c.parent-stale.ensures)
+          (amount (shows view c.args.new.now) c.args.new_len) (amount (shows view c.args.e.now) c.args.len)) (sym c.parent-stale.ensures)
           (ex_owes g.L.Leaf.size g.L.Leaf.element c.args.floor s c.args._root c.args._apart c.args._short i.tree i.fits b v w c.block_mut.ensures.value
           c.exchange.ensures.height view (subst (λ (o : Option ℕ). SumsBut (by_view g.L.Leaf.size g.L.Leaf.element view) s o) c.in-Some.is (i.sums view k))
-          (amount (sees_in view c.args.new.now) c.args.new_len) (amount (sees_in view c.args.e.now) c.args.len) c.exchange.ensures.low
+          (amount (shows view c.args.new.now) c.args.new_len) (amount (shows view c.args.e.now) c.args.len) c.exchange.ensures.low
           (c.in_ok-exchange.ensures.exchanges view k)
-          (subst (λ (o : Option ℕ). OwesAt (by_view g.L.Leaf.size g.L.Leaf.element view) s o (amount (sees_in view c.args.new.now) c.args.new_len)
-          (amount (sees_in view c.args.e.now) c.args.len)) c.in-Some.is (i.owes view k)));
+          (subst (λ (o : Option ℕ). OwesAt (by_view g.L.Leaf.size g.L.Leaf.element view) s o (amount (shows view c.args.new.now) c.args.new_len)
+          (amount (shows view c.args.e.now) c.args.len)) c.in-Some.is (i.owes view k)));
     }

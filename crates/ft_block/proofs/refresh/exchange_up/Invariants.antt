@@ -2,9 +2,9 @@ use Rattle.std.proofs.Common.{◌≡◌, ◌<◌, ◌^◌, ℕ, Some, IsSome}
 use Rattle.ft_arena.specs.Forest.{block_value}
 use Rattle.ft_partial.specs.StepFunctions.{amount}
 use Rattle.ft_partial.specs.Rows.{Covers}
-use Rattle.ft_block.specs.declared.leaves.LenView.{LenView}
-use Rattle.ft_block.specs.Leaves.{sees_in}
-use Rattle.ft_block.specs.Tree.{IsPartTree, SumsKeptBut, OwesAt, AreFromFloor, IsKept, length_of, by_view, by_size, total}
+use Rattle.ft_block.specs.declared.leaves.View.{View}
+use Rattle.ft_block.specs.Tree.{shows}
+use Rattle.ft_block.specs.Tree.{IsPartTree, SumsKeptBut, OwesAt, AreFromFloor, KeepsLengths, length_of, by_view, by_size, total}
 use Rattle.ft_block.specs.Steps.{SameShape}
 use Rattle.ft_block.proofs.ExchangeLemmas.{levels_left}
 use Rattle.ft_block.proofs.refresh.exchange_up.Given as goal
@@ -20,8 +20,8 @@ invariant-up g l =
       block : (b : ℕ) → l.stale ≡ Some b → IsSome (block_value l.arena b);
       floors : AreFromFloor l.floor l.arena;
       sums : SumsKeptBut g.L.Leaf.size g.L.Leaf.element l.floor l.arena l.stale;
-      owes : (view : LenView) → IsKept l.floor view
-          → OwesAt (by_view g.L.Leaf.size g.L.Leaf.element view) l.arena l.stale (amount (sees_in view l.new) l.new_len) (amount (sees_in view l.e) l.len);
+      owes : (view : View) → KeepsLengths l.floor view
+          → OwesAt (by_view g.L.Leaf.size g.L.Leaf.element view) l.arena l.stale (amount (shows view l.new) l.new_len) (amount (shows view l.e) l.len);
     }
 
 abbrev pub decreases-up : goal.decreases-up

@@ -1,6 +1,6 @@
-use Rattle.std.proofs.Common.{◌≡◌, ◌≤◌, ◌<◌, ◌+◌, ◌-◌, ◌^◌, length, drop}
-use Rattle.ft_block.specs.declared.leaves.LenView.{LenView}
-use Rattle.ft_block.specs.Tree.{total, length_of, by_view, kept_length, IsKept, HasRange}
+use Rattle.std.proofs.Common.{◌≡◌, ◌≤◌, ◌+◌, ◌-◌, length, drop}
+use Rattle.ft_block.specs.declared.leaves.View.{View}
+use Rattle.ft_block.specs.Tree.{total, length_of, by_view, kept_length, KeepsLengths, HasRange}
 use Rattle.ft_block.proofs.refresh.sum_of.Given as goal
 
 abbrev pub invariant-loop-kid : goal.invariant-loop-kid
@@ -10,7 +10,7 @@ invariant-loop-kid g l =
       height : l.sum.height ≡ l.height;
       floor : l.sum.table.floor ≡ l.floor;
       low : HasRange l.sum;
-      so_far : (view : LenView) → IsKept l.floor view
+      so_far : (view : View) → KeepsLengths l.floor view
           → kept_length view l.sum + total (length_of (by_view g.L.Leaf.size g.L.Leaf.element view) l.arena) (drop l.i l.kids) ≡ total
           (length_of (by_view g.L.Leaf.size g.L.Leaf.element view) l.arena) l.kids;
     }

@@ -4,7 +4,7 @@ use Rattle.ft_arena.specs.Forest.{Forest, IsPlace, leaf_value, parent_of}
 use Rattle.ft_arena.proofs.IdLemmas.{times-without_same}
 use Rattle.ft_partial.specs.StepFunctions.{amount}
 use Rattle.ft_block.specs.declared.summaries.Summary.{Summary}
-use Rattle.ft_block.specs.Leaves.{sees_in}
+use Rattle.ft_block.specs.Tree.{shows}
 use Rattle.ft_block.specs.Tree.{by_view, by_size, insert_before}
 use Rattle.ft_block.proofs.EditLemmas.{after_is_edit, before_is_edit, front_is}
 use Rattle.ft_block.proofs.FitLemmas.{leaf_total, leaves_live}
@@ -197,7 +197,7 @@ exchange_up-requires-clause-owes g c = λ view k.
     let at_leaf : IsSome (leaf_value c.detach.new.arena c.in-Some.at) =
     subst (λ (o : Option g.row.L.Denot). IsSome o) (sym (c.in_ok-root.ensures.leaf_values c.in-Some.at)) there in
     let differ : c.in-Some.at ≢ c.args.id = (λ e. c.requires.differ (c.in-Some.is ∙ ap Some e)) in
-    c.in_ok-top-in-Some.ensures.owes view (amount (sees_in view c.in_ok-e.e) c.len-len.result) (amount (sees_in view c.in_ok-e.e) 0) k
+    c.in_ok-top-in-Some.ensures.owes view (amount (shows view c.in_ok-e.e) c.len-len.result) (amount (shows view c.in_ok-e.e) 0) k
     (comes g.L.Leaf.size g.L.Leaf.element view c.move_after.new.self c.in-Some.at (λ xs. insert_after xs c.in-Some.at c.args.id) c.leaf_at-leaf.result.now c.in_ok-e.e
     c.len-len.result (c.in_ok-e.ensures ∙ c.element.ensures) c.len-len.ensures.value
     (moved_owes c.detach.new.arena c.move_after.new.self c.in_ok-root.root c.args.id c.in-Some.at 1 (λ xs. insert_after xs c.in-Some.at c.args.id)
@@ -421,7 +421,7 @@ exchange_up-requires-in-None-clause-owes g c = λ view k.
     (omega (arith, front.1, times-without_le c.detach.new.arena.leaves c.args.id c.in-Some-next.first)) in
     let differ : c.in-Some-next.first ≢ c.args.id =
     (λ e. omega (arith, front.1, ap (times (without c.detach.new.arena.leaves c.args.id)) e, times-without_same c.detach.new.arena.leaves c.args.id)) in
-    c.in_ok-top-in-None.ensures.owes view (amount (sees_in view c.in_ok-e.e) c.len-len.result) (amount (sees_in view c.in_ok-e.e) 0) k
+    c.in_ok-top-in-None.ensures.owes view (amount (shows view c.in_ok-e.e) c.len-len.result) (amount (shows view c.in_ok-e.e) 0) k
     (comes g.L.Leaf.size g.L.Leaf.element view c.move_after-in-None.new.self c.in-Some-next.first (λ xs. insert_before xs c.in-Some-next.first c.args.id)
     c.leaf_at-leaf.result.now c.in_ok-e.e c.len-len.result (c.in_ok-e.ensures ∙ c.element.ensures) c.len-len.ensures.value
     (moved_owes c.detach.new.arena c.move_after-in-None.new.self c.in_ok-root.root c.args.id c.in-Some-next.first 0

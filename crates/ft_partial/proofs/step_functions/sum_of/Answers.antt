@@ -7,7 +7,7 @@ use Rattle.ft_partial.proofs.step_functions.sum_of.Goals as goal
 pub loop-place-init : goal.loop-place-init
 loop-place-init c =
     let M : List Step → Type 0 = λ xs. Merges c.args.a.now c.args.b.now xs 0 0 in
-    subst M (sym c.new-sum.ensures.items) (merges_none c.args.a.now c.args.b.now c.requires.a c.requires.b)
+    subst M (sym c.in_ok-sum.ensures.items) (merges_none c.args.a.now c.args.b.now c.requires.a c.requires.b)
 
 pub loop-place-smaller : goal.loop-place-smaller
 loop-place-smaller c =

@@ -2,7 +2,7 @@ use Rattle.std.proofs.Common.{◌≡◌, ◌≢◌, ℕ, get_or, Option, Some, N
 use Rattle.slab.proofs.SlabLemmas.{Updates-with_value}
 use Rattle.std.specs.Option.{option_map}
 use Rattle.ft_refs.specs.declared.numbers.Place.{Place}
-use Rattle.ft_refs.specs.Links.{entry_of}
+use Rattle.ft_refs.specs.Links.{place_of_slot}
 use Rattle.ft_refs.specs.RefLists.{place_of_entry, owner_of_place}
 use Rattle.ft_refs.proofs.ListLemmas.{read_at, seen_sound, owner_in, slot_at, idle_without, entries_at}
 use Rattle.ft_refs.proofs.DetachLemmas.{before_place, after_place, detached_lists, detached_list, detached_changes}
@@ -17,7 +17,7 @@ no_place (Some p) h = absurd (h p refl)
 
 pub returns-in_default-clause-lists : goal.returns-in_default-clause-lists
 returns-in_default-clause-lists c =
-    rw (← c.self.view_is, ← c.r.view_is) (idle_without _ c.r.inside.0 (seen_sound c.self.inside.slots c.self.inside.ends.items c.self.invariant) (ap (λ z. owner_of_place (place_of_entry z)) (entries_at c.self.inside.slots c.r.inside.0 ∙ ap (option_map entry_of) c.index-slot.ensures) ∙ no_place _ c.in_default.not-Some))
+    rw (← c.self.view_is, ← c.r.view_is) (idle_without _ c.r.inside.0 (seen_sound c.self.inside.slots c.self.inside.ends.items c.self.invariant) (ap (λ z. owner_of_place (place_of_entry z)) (entries_at c.self.inside.slots c.r.inside.0 ∙ ap (option_map place_of_slot) c.index-slot.ensures) ∙ no_place _ c.in_default.not-Some))
 
 pub index-requires : goal.index-requires
 index-requires c = let e = ap (λ (p : Place). p.owner) c.place.view_is in let w = (owner_in c.self.inside.slots c.self.inside.ends.items c.r.inside.0 c.index-slot.result.now c.in-Some.place c.self.invariant c.index-slot.ensures c.in-Some.is) in omega (arith, e, w, c.self.inside.ends.ok.0)

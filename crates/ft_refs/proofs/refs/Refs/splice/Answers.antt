@@ -1,13 +1,13 @@
 use Rattle.std.proofs.Common.{[], refl, sym, ◌∙◌, arith}
-use Rattle.ft_refs.specs.RefLists.{list_of}
+use Rattle.ft_refs.specs.RefLists.{references_of}
 use Rattle.ft_refs.proofs.LoopLemmas.{offset_some, live_at, splice_fits, splice_step, splice_shorter, splice_from, splice_to, splice_refs}
 use Rattle.ft_refs.proofs.refs.Refs.splice.Goals as goal
 
 pub offset-requires : goal.offset-requires
-offset-requires c = live_at c.refs.self c.args.from c.in-Some.r [] (list_of c.refs.self c.args.from) c.first.ensures.sound refl (sym c.first.ensures.value ∙ c.in-Some.is)
+offset-requires c = live_at c.refs.self c.args.from c.in-Some.r [] (references_of c.refs.self c.args.from) c.first.ensures.sound refl (sym c.first.ensures.value ∙ c.in-Some.is)
 
 pub unwrap-offset-requires : goal.unwrap-offset-requires
-unwrap-offset-requires c = rw c.offset.ensures (offset_some c.refs.self c.args.from c.in-Some.r [] (list_of c.refs.self c.args.from) c.first.ensures.sound refl (sym c.first.ensures.value ∙ c.in-Some.is))
+unwrap-offset-requires c = rw c.offset.ensures (offset_some c.refs.self c.args.from c.in-Some.r [] (references_of c.refs.self c.args.from) c.first.ensures.sound refl (sym c.first.ensures.value ∙ c.in-Some.is))
 
 pub overflow_add-offset : goal.overflow_add-offset
 overflow_add-offset c = omega (arith, splice_fits c.args.self.now c.refs.self c.refs.self c.args.from c.args.to c.args.add c.in-Some.r c.unwrap-offset.result c.first.ensures.sound (sym c.first.ensures.value ∙ c.in-Some.is) (sym c.offset.ensures ∙ c.unwrap-offset.ensures) c.requires.differ c.refs.invariant)

@@ -1,4 +1,4 @@
-use Rattle.ft_refs.specs.RefLists.{list_of}
+use Rattle.ft_refs.specs.RefLists.{references_of}
 use Rattle.ft_refs.proofs.LoopLemmas.{Splits, count_from}
 use Rattle.ft_refs.proofs.refs.Refs.split_list.Given as goal
 
@@ -6,4 +6,4 @@ abbrev pub invariant-refs : goal.invariant-refs
 invariant-refs l = Splits l.fn.self l.self l.fn.from l.at l.to l.ahead
 
 abbrev pub decreases-refs : goal.decreases-refs
-decreases-refs l = count_from l.ahead (list_of l.self l.fn.from)
+decreases-refs l = count_from l.ahead (references_of l.self l.fn.from)
