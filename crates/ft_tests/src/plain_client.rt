@@ -6,7 +6,7 @@ ghost use Rattle.ft_op.specs.WellFormed.{IsWellFormed};
 ghost use Rattle.ft_msg.specs.WellFormed.{IsWellFormedMessage};
 
 use ft_base::{OutOfMemory, Text};
-use ft_msg::{Cause, Draft, Entry, Link, Replica, read_message};
+use ft_msg::{Cause, Draft, Entry, Link, Names, Replica, read_message};
 use ft_op::{BaseOp, ChannelOp, Seg, TextOp};
 use ft_plain::Plain;
 use ft_props::PropSet;
@@ -112,6 +112,43 @@ fn what_is_pending_is_sent_again(rt: HostRuntime) -> Result<(), Fail> {
         (Some((1, 4)), None)
     );
     assert!(rt; client.compact().is_ok() && shows(&client, "oh hi"));
+    Ok(())
+}
+
+/// How many elements are visible, and how many of them are pending, if the client tells.
+fn count_origins(client: &Plain) -> Option<(u64, u64)> {
+    let origins = client.attribution().ok()?;
+    Some((origins.len(), origins.pending()))
+}
+
+#[test]
+fn a_client_tells_whose_its_text_is(rt: HostRuntime) -> Result<(), Fail> {
+    let alloc = rt.alloc();
+    let mut client = Plain::start(alloc)?;
+    assert!(rt; client.connect(1).is_ok() && takes(&mut client, alloc, JOINED, 1));
+    assert!(rt; types(&mut client, alloc, "hi"));
+    assert_eq!(rt; count_origins(&client), Some((2, 2)));
+    assert!(rt; takes(&mut client, alloc, TYPED, 1) && types(&mut client, alloc, "!"));
+    assert_eq!(rt; count_origins(&client), Some((3, 1)));
+    Ok(())
+}
+
+/// The client that starts from the summary of an empty one.
+fn successor(alloc: Global) -> Result<Plain, OutOfMemory> {
+    let client = Plain::start(alloc)?;
+    let names = Names::new(alloc);
+    match client.summary(&names) {
+        Ok(sum) => Plain::from_summary(alloc, &sum),
+        Err(_) => Err(OutOfMemory),
+    }
+}
+
+#[test]
+fn a_client_starts_from_a_summary(rt: HostRuntime) -> Result<(), Fail> {
+    let alloc = rt.alloc();
+    let mut client = successor(alloc)?;
+    assert!(rt; shows(&client, "") && types(&mut client, alloc, "hi"));
+    assert!(rt; shows(&client, "hi"));
     Ok(())
 }
 
