@@ -1,9 +1,10 @@
 //! What is written of a line.
 
-use crate::forms::{draft, grid, message, numbers, string, text, value};
+use crate::forms::{draft, grid, message, numbers, string, summary, text, value};
 use ft_base::OutOfMemory;
 use ft_msg::Cause;
 use ft_seqr::Refusal;
+use ft_sumdoc::SumFault;
 use memchr::memchr;
 use std::alloc::Global;
 
@@ -28,11 +29,23 @@ fn push_answer(alloc: Global, output: &mut Vec<u8>, line: &[u8]) -> Result<(), O
     }
     let place = memchr(b' ', line).unwrap_or(line.len());
     let form = str::from_utf8(&line[..place]).unwrap_or("");
-    match read(alloc, form, &line[(place + 1).min(line.len())..]) {
-        Ok(told) => output.extend_from_slice(told.as_bytes())?,
-        Err(cause) => output.extend_from_slice(refused(alloc, cause)?.as_bytes())?,
-    }
+    let told = answer(alloc, form, &line[(place + 1).min(line.len())..])?;
+    output.extend_from_slice(told.as_bytes())?;
     Ok(())
+}
+
+// What the text is, in its one spelling, or why it is refused.
+fn answer(alloc: Global, form: &str, bytes: &[u8]) -> Result<String, OutOfMemory> {
+    if form == "summary" {
+        return match summary(alloc, bytes) {
+            Ok(told) => Ok(told),
+            Err(fault) => summary_refused(alloc, fault),
+        };
+    }
+    match read(alloc, form, bytes) {
+        Ok(told) => Ok(told),
+        Err(cause) => refused(alloc, cause),
+    }
 }
 
 // What the text is, in its one spelling.
@@ -54,4 +67,16 @@ fn refused(alloc: Global, cause: Cause) -> Result<String, OutOfMemory> {
     let refusal = Refusal::of_cause(cause);
     let number = refusal.number();
     Ok(format!(in alloc; "refused {number} {refusal}")?)
+}
+
+// Why a summary is refused, with the refusal's number.
+fn summary_refused(alloc: Global, fault: SumFault) -> Result<String, OutOfMemory> {
+    let number = match fault {
+        SumFault::Malformed(_) => 1,
+        SumFault::Version(_) => 2,
+        SumFault::BadStamp(_) => 3,
+        SumFault::BadCount { .. } => 4,
+        SumFault::OutOfMemory => return Err(OutOfMemory),
+    };
+    Ok(format!(in alloc; "refused {number} {fault}")?)
 }

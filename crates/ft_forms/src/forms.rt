@@ -1,7 +1,9 @@
 //! The forms: each reads a text and writes what it read.
 
-ghost use Rattle.ft_op.specs.WellFormed.{IsWellFormed};
+ghost use Rattle.std.specs.Prelude.{IsTrue, length};
+ghost use Rattle.ft_op.specs.WellFormed.{IsWellFormed, is_count};
 ghost use Rattle.ft_msg.specs.WellFormed.{IsWellFormedDraft, IsWellFormedMessage};
+ghost use Rattle.ft_sumdoc.specs.Valid.{IsValidSummary};
 
 use ft_base::OutOfMemory;
 use ft_json::{
@@ -10,6 +12,7 @@ use ft_json::{
 use ft_msg::{Cause, Draft, Message, read_draft, read_message, write_draft, write_message};
 use ft_op::{ChannelOp, read_grid_op, read_text_op, write_op};
 use ft_seqr::Refusal;
+use ft_sumdoc::{SumDoc, SumFault, read_summary, write_summary};
 use std::alloc::Global;
 
 /// What stands where a copy isn't the same as what it was made of.
@@ -64,6 +67,12 @@ pub fn draft(alloc: Global, bytes: &[u8]) -> Result<String, Cause> {
     draft_text(alloc, &draft)
 }
 
+/// A summary.
+pub fn summary(alloc: Global, bytes: &[u8]) -> Result<String, SumFault> {
+    let sum = read_summary(alloc, bytes)?;
+    summary_text(alloc, &sum)
+}
+
 // An operation.
 fn operation(alloc: Global, op: &ChannelOp) -> Result<String, Cause>
     requires { IsWellFormed op.now }
@@ -95,6 +104,32 @@ fn draft_text(alloc: Global, draft: &Draft) -> Result<String, Cause>
     }
     let written = write_draft(alloc, draft)?;
     owned(alloc, written.as_str())
+}
+
+// The text of a summary.
+fn summary_text(alloc: Global, sum: &SumDoc) -> Result<String, SumFault>
+    requires valid { IsValidSummary sum.now }
+    requires conns { IsTrue (is_count (length sum.now.conns)) }
+{
+    if !summary_is_copied(sum)? {
+        return summary_owned(alloc, OTHER_COPY);
+    }
+    let written = write_summary(alloc, sum)?;
+    summary_owned(alloc, written.as_str())
+}
+
+// Whether a copy is the same.
+fn summary_is_copied(sum: &SumDoc) -> Result<bool, OutOfMemory> {
+    let copy = sum.copy()?;
+    Ok(copy.same(sum))
+}
+
+// The text as a string of its own.
+fn summary_owned(alloc: Global, text: &str) -> Result<String, SumFault> {
+    match String::from_str(alloc, text) {
+        Ok(owned) => Ok(owned),
+        Err(_) => Err(SumFault::OutOfMemory),
+    }
 }
 
 // Whether a copy is the same.

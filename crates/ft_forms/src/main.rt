@@ -2,7 +2,7 @@
 //!
 //! Each line of standard input is a form, a space and a text, and the line of the same number on standard
 //! output is what came of it. A line that is empty or begins with `#` is written as it is. The forms are
-//! `value`, `numbers`, `string`, `text`, `grid`, `message` and `draft`.
+//! `value`, `numbers`, `string`, `text`, `grid`, `message`, `draft` and `summary`.
 #![tactic(auto)]
 
 mod answers;

@@ -8,3 +8,12 @@ pub mod WrittenSummaries
 pub mod ReadBack
 pub mod ReadValid
 pub mod ValidSummaries
+pub mod CutText
+pub mod ReadOptions
+pub mod NarrowStamps
+pub mod NarrowForms
+pub mod NarrowSummaries
+pub mod NoNulls
+pub mod ReadObjects
+pub mod DistinctNames
+pub mod RisingRemovals

@@ -26,6 +26,7 @@ use Rattle.ft_sumdoc.specs.Stamps.{Bounds, are_good_stamps}
 use Rattle.ft_sumdoc.specs.Summary.{Lists, element_count, given_length, lists, lists_with, run_stamps, segment_stamps, summary, summary_of_object}
 use Rattle.ft_sumdoc.specs.Valid.{IsCell, bounds}
 use Rattle.ft_sumdoc.specs.Values.{kept_cell, kept_each, kept_interval, kept_segment}
+use Rattle.ft_sumdoc.specs.WellFormed.{are_cut_from}
 use Rattle.ft_sumdoc.specs.Written.{summary_text, written_cell_record, written_chunk, written_interval_record, written_unit_run, written_summary}
 use Rattle.ft_sumdoc.proofs.ReadChunks.{all_stamps, chunk_lengths_back, flat, flat-chunks, flat-map, segment_gives, text_back}
 use Rattle.ft_sumdoc.proofs.ReadForms.{each_of_back, read_each_back}
@@ -116,11 +117,11 @@ lists_back sum h =
       lists_with_back sum h,
     )
 
-element_count_back : (sum : SumDoc) → IsSoundSummary sum → element_count (lists_of sum) (written_summary sum) ≡ Ok (text_length sum.text)
+element_count_back : (sum : SumDoc) → IsSoundSummary sum → IsTrue (are_cut_from 0 sum.text) → element_count (lists_of sum) (written_summary sum) ≡ Ok (text_length sum.text)
 unfolding element_count field_name
-element_count_back sum h =
+element_count_back sum h cut =
     let n = text_length sum.text in
-    rw (count_is (summary_fields sum) Count n refl h.valid.elements, eq-eqb n n refl, chunk_lengths_back sum.text h.formed.text)
+    rw (count_is (summary_fields sum) Count n refl h.valid.elements, eq-eqb n n refl, chunk_lengths_back sum.text cut)
 
 -- ---- summaries
 
@@ -135,9 +136,9 @@ kept_cells_back sum h =
     let cols = unremoved_units sum.cols in
     rw (read_each_back kept_cell given_cell (IsCell rows cols) (kept_cell_back rows cols) sum.cells h.valid.cells)
 
-summary_of_back : (sum : SumDoc) → IsSoundSummary sum → summary_of_object (written_summary sum) ≡ Ok sum
+summary_of_back : (sum : SumDoc) → IsSoundSummary sum → IsTrue (are_cut_from 0 sum.text) → summary_of_object (written_summary sum) ≡ Ok sum
 unfolding summary_of_object field_name
-summary_of_back sum h =
+summary_of_back sum h cut =
     let fs = summary_fields sum in
     let b = bounds sum in
     let n = unremoved_text sum.text in
@@ -146,7 +147,7 @@ summary_of_back sum h =
     rw (
       head_back sum h,
       lists_back sum h,
-      element_count_back sum h,
+      element_count_back sum h cut,
       needed_is (intervals_form n) fs Intervals (array (written_items written_interval_record sum.intervals)) (map given_interval sum.intervals) refl (intervals_back n (few_elements sum h) sum.intervals (sound_intervals sum h) h.valid.names),
       kept_intervals_back sum h,
       needed_is (cells_form rows cols) fs Cells (array (written_items written_cell_record sum.cells)) (map given_cell sum.cells) refl
@@ -154,8 +155,8 @@ summary_of_back sum h =
       kept_cells_back sum h,
     )
 
-pub summary_back : (sum : SumDoc) → IsSoundSummary sum → summary (summary_text sum) ≡ Ok sum
+pub summary_back : (sum : SumDoc) → IsSoundSummary sum → IsTrue (are_cut_from 0 sum.text) → summary (summary_text sum) ≡ Ok sum
 unfolding summary
-summary_back sum h =
+summary_back sum h cut =
     let shallow : depth (written_summary sum) ≤ 127 = omega (arith, summary_levels sum h) in
-    rw (read_line-compact_text (written_summary sum) (canonical_summary sum h) shallow, summary_of_back sum h)
+    rw (read_line-compact_text (written_summary sum) (canonical_summary sum h) shallow, summary_of_back sum h cut)

@@ -145,7 +145,7 @@ text_form-bodies version d chunks e =
 abbrev HasValidProps : SegRec → Type 0
 HasValidProps seg = HasValues seg.props
 
-abbrev gives : GivenSegment → GivenStamps
+abbrev pub gives : GivenSegment → GivenStamps
 gives seg = seg.stamps
 
 kept-valid : (b : Bounds) (g : GivenSegment) (seg : SegRec) → kept_segment g ≡ Ok seg → HasBody g → are_good_stamps b g.stamps ≡ true → HasValues seg.props → IsSegment b seg

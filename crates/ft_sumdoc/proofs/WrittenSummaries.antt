@@ -1,5 +1,5 @@
 -- The value that a summary is written as is canonical, and has few enough levels to be read again.
-use Rattle.std.proofs.Common.{◌≡◌, ℕ, ◌-◌, ◌^◌, ◌≤◌, ℤ, pos, negsuc, true, not, List, [], ◌∷◌, Option, Some, None, codes, refl, arith, nat_lt, leb-true, lt-ltb, ltb-true}
+use Rattle.std.proofs.Common.{◌≡◌, ℕ, ◌-◌, ◌^◌, ◌≤◌, ℤ, pos, negsuc, true, not, List, [], ◌∷◌, length, Option, Some, None, codes, refl, arith, nat_lt, leb-true, lt-ltb, ltb-true}
 use Rattle.std.specs.Prelude.{IsTrue, int_lt}
 use Rattle.std.specs.List.{AllByRecursion}
 use Rattle.std.proofs.lemmas.Bool.Decides.{nat_tests}
@@ -28,7 +28,6 @@ use Rattle.ft_sumdoc.specs.Runs.{unit_count, unremoved_units}
 use Rattle.ft_sumdoc.specs.Segments.{body_length, text_length, unremoved_text}
 use Rattle.ft_sumdoc.specs.Stamps.{Bounds, unless_universal}
 use Rattle.ft_sumdoc.specs.Valid.{AreRuns, HasValues, IsCell, IsInterval, IsSegment, IsValidSummary, are_stamps, bounds, is_segment_body}
-use Rattle.ft_sumdoc.specs.WellFormed.{IsWellCut}
 use Rattle.ft_sumdoc.specs.Written.{author_beside, given_characters, given_mark, given_marks, given_props, given_ref_type, written_cell_record, written_chunk, written_interval_record, written_mark, written_props, written_unit_run, written_segment_record, written_summary}
 use Rattle.ft_sumdoc.proofs.ReadChunks.{IsChunk, are_chunks}
 use Rattle.ft_sumdoc.proofs.ReadRuns.{IsSoundRun, run_fields, sound_runs, unless_removed-most, unremoved-most}
@@ -195,14 +194,14 @@ text_level text h = omega arith
 
 -- ---- summaries
 
--- a summary that is valid, of texts, and cut as what is written
+-- a summary that is valid, of texts, and of so many connections that their numbers are counts
 pub record IsSoundSummary (sum : SumDoc) : Type 0 where
   pub texts : IsRepresentableSummary sum
   pub valid : IsValidSummary sum
-  pub formed : IsWellCut sum
+  pub conns : IsTrue (is_count (length sum.conns))
 
 pub counts_of : (sum : SumDoc) → IsSoundSummary sum → AreCounts (bounds sum)
-counts_of sum h = record { seq = h.valid.seq; conns = h.formed.conns; min = leb-true sum.min sum.seq h.valid.min }
+counts_of sum h = record { seq = h.valid.seq; conns = h.conns; min = leb-true sum.min sum.seq h.valid.min }
 
 sound_segments : (b : Bounds) (segs : List SegRec) → AllByRecursion IsRepresentableSegmentRecord segs → AllByRecursion (IsSegment b) segs → AllByRecursion (IsSound b) segs
 sound_segments b [] h k = tt

@@ -3,11 +3,24 @@
 //! A call that can't answer `OutOfMemory` takes no memory.
 #![tactic(auto)]
 
+mod chunks;
 mod copies;
+mod fault_steps;
+mod head_reading;
+mod items;
 pub mod laws;
+mod run_reading;
+mod segment_reading;
+mod shown_reading;
+mod stamp_reading;
+mod stamp_tests;
 pub mod summary;
+pub mod summary_reading;
+pub mod writing;
 
 pub use summary::{
     CellRec, CellRecs, Ends2, IntervalRec, IntervalRecs, Mark, Marks, RunRec, RunRecs, Seg, SegRec,
     SegRecs, SumCause, SumDoc, SumFault, Texts,
 };
+pub use summary_reading::read_summary;
+pub use writing::write_summary;

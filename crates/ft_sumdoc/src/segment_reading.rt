@@ -1,0 +1,277 @@
+//! Reading the segments of a text and the properties of elements and intervals.
+
+ghost use Rattle.std.specs.Prelude.{◌≡◌, ◌≢◌, Ok, Err, true, IsTrue, IfOk, IfErr, chars, map, option_map};
+ghost use Rattle.std.specs.List.{AllByRecursion};
+ghost use Rattle.serde_json.specs.View.{view};
+ghost use Rattle.ft_json.specs.Objects.{entry_pairs};
+ghost use Rattle.ft_op.specs.Reading.{read_each};
+ghost use Rattle.ft_sumdoc.specs.Forms.{each_of, has_no_null, props_form};
+ghost use Rattle.ft_sumdoc.specs.Items.{body_of, given_pairs, segment_of, text_of};
+ghost use Rattle.ft_sumdoc.specs.Narrow.{narrow_chunk, narrow_chunks, narrow_segment, narrow_text};
+ghost use Rattle.ft_sumdoc.specs.Segments.{body_length, given_body, segment_props, some_characters};
+ghost use Rattle.ft_sumdoc.specs.Summary.{given_length};
+ghost use Rattle.ft_sumdoc.specs.Valid.{HasValues};
+ghost use Rattle.ft_sumdoc.specs.Values.{kept_props, kept_segment};
+
+use crate::chunks::char_count;
+use crate::items::{BodyItem, SegItem, TextItem};
+use crate::stamp_reading::{author, stamp_item};
+use crate::stamp_tests::{given_author, given_insertion};
+use crate::summary::{Seg, SegRec, SegRecs};
+use ft_base::{OutOfMemory, Text};
+use ft_json::{Field, JsonFault, canonical, count, field, items, pairs};
+use ft_props::Props;
+use serde_json::{Map, Value};
+use std::alloc::Global;
+
+/// What a segment holds that has these fields for characters and for a marker: None where not just
+/// one of them is there, or it has not the form.
+fn body_item<'a>(text: Option<&'a Value>, marker: Option<&'a Value>) -> Option<BodyItem<'a>>
+    ensures { option_map body_of result
+        ≡ given_body (option_map (λ d. view d.now) text.entry) (option_map (λ d. view d.now) marker.entry) }
+{
+    match (text, marker) {
+        (Some(text), None) => letters(text.as_str()?),
+        (None, Some(marker)) => Some(BodyItem::Sign(count(marker)?)),
+        (Some(_), Some(_)) | (None, None) => None,
+    }
+}
+
+/// The characters, at least one.
+fn letters(text: &str) -> Option<BodyItem<'_>>
+    ensures { option_map body_of result ≡ some_characters (chars text.now) }
+{
+    if text.is_empty() {
+        None
+    } else {
+        Some(BodyItem::Letters(text))
+    }
+}
+
+/// Whether no value is null.
+fn has_no_null(entries: &Map<String, Value>) -> bool
+    ensures { result ≡ has_no_null (entry_pairs entries.now.entries) }
+{
+    for (_, value) in entries.iter() {
+        if value.is_null() {
+            return false;
+        }
+    }
+    true
+}
+
+/// The entries of the object that the value is: None where it is no object, or a value is null.
+pub(crate) fn props_item(value: &Value) -> Option<&Map<String, Value>>
+    ensures { option_map (λ m. entry_pairs m.now.entries) result ≡ props_form (view value.now) }
+{
+    let entries = pairs(value)?;
+    if has_no_null(entries) {
+        Some(entries)
+    } else {
+        None
+    }
+}
+
+/// The entries of a field for properties that may be absent: None where it is there and has not the
+/// form.
+fn optional_props(value: Option<&Value>) -> Option<Option<&Map<String, Value>>>
+    ensures { option_map given_pairs result ≡ segment_props (option_map (λ d. view d.now) value.entry) }
+{
+    match value {
+        Some(value) => Some(Some(props_item(value)?)),
+        None => Some(None),
+    }
+}
+
+/// The segment that the value is in a summary of this version: None where it has not the form.
+fn segment_item(
+    alloc: Global,
+    version: u64,
+    value: &Value,
+) -> Result<Option<SegItem<'_>>, OutOfMemory>
+    ensures { IfOk result (λ item. option_map segment_of item ≡ narrow_segment version (view value.now)) }
+{
+    let text = field(value, Field::SegmentText);
+    let Some(body) = body_item(text, field(value, Field::SegmentMarker)) else {
+        return Ok(None);
+    };
+    let Some(props) = optional_props(field(value, Field::SegmentProps)) else {
+        return Ok(None);
+    };
+    let Some(author) = author(version, value) else {
+        return Ok(None);
+    };
+    let Some(stamps) = stamp_item(alloc, author, value)? else {
+        return Ok(None);
+    };
+    Ok(Some(SegItem {
+        body,
+        props,
+        stamps,
+    }))
+}
+
+/// The segments that the values are: None where one has not the form.
+fn segment_items(
+    alloc: Global,
+    version: u64,
+    values: &[Value],
+) -> Result<Option<Vec<SegItem<'_>>>, OutOfMemory>
+    ensures { IfOk result (λ segs. option_map (λ found. map segment_of found.items) segs
+        ≡ each_of (narrow_segment version) (map view values.now)) }
+{
+    let mut segs = Vec::new(alloc);
+    for value in values {
+        let Some(seg) = segment_item(alloc, version, value)? else {
+            return Ok(None);
+        };
+        segs.push(seg)?;
+    }
+    Ok(Some(segs))
+}
+
+/// The chunk of segments that the value is: None where it has not the form.
+fn chunk_items(
+    alloc: Global,
+    version: u64,
+    value: &Value,
+) -> Result<Option<Vec<SegItem<'_>>>, OutOfMemory>
+    ensures { IfOk result (λ segs. option_map (λ found. map segment_of found.items) segs
+        ≡ narrow_chunk version (view value.now)) }
+{
+    let Some(values) = items(value) else {
+        return Ok(None);
+    };
+    match segment_items(alloc, version, values)? {
+        Some(segs) if !segs.is_empty() => Ok(Some(segs)),
+        _ => Ok(None),
+    }
+}
+
+/// How many elements the segments have.
+///
+/// Answers `OutOfMemory` where they are more than a `u64` holds, which no memory has room for.
+fn items_len(segs: &[SegItem]) -> Result<u64, OutOfMemory>
+    ensures { IfOk result (λ n. n ≡ given_length (map segment_of segs.now)) }
+{
+    let mut elements: u64 = 0;
+    for seg in segs {
+        elements = elements.checked_add(item_len(seg.body)).ok_or(OutOfMemory)?;
+    }
+    Ok(elements)
+}
+
+/// How many elements a segment has that holds this.
+fn item_len(body: BodyItem<'_>) -> u64
+    ensures { result ≡ body_length (body_of body.entry) }
+{
+    match body {
+        BodyItem::Letters(text) => char_count(text) as u64,
+        BodyItem::Sign(_) => 1,
+    }
+}
+
+/// The segments of the chunks that the values are: None where one has not the form.
+fn text_items(
+    alloc: Global,
+    version: u64,
+    values: &[Value],
+) -> Result<Option<TextItem<'_>>, OutOfMemory>
+    ensures { IfOk result (λ text. option_map text_of text ≡ narrow_chunks version (map view values.now)) }
+{
+    let mut segs = Vec::new(alloc);
+    let mut lengths = Vec::new(alloc);
+    for value in values {
+        let Some(mut chunk) = chunk_items(alloc, version, value)? else {
+            return Ok(None);
+        };
+        lengths.push(items_len(&chunk)?)?;
+        segs.append(&mut chunk)?;
+    }
+    Ok(Some(TextItem { segs, lengths }))
+}
+
+/// The text that the value is: None where it has not the form.
+pub(crate) fn text_item(
+    alloc: Global,
+    version: u64,
+    value: &Value,
+) -> Result<Option<TextItem<'_>>, OutOfMemory>
+    ensures { IfOk result (λ text. option_map text_of text ≡ narrow_text version (view value.now)) }
+{
+    let Some(values) = items(value) else {
+        return Ok(None);
+    };
+    text_items(alloc, version, values)
+}
+
+/// The properties of the entries of an object.
+pub(crate) fn keep_props(alloc: Global, entries: &Map<String, Value>) -> Result<Props, JsonFault>
+    requires { IsTrue (has_no_null (entry_pairs entries.now.entries)) }
+    ensures ok { IfOk result (λ props. kept_props (entry_pairs entries.now.entries) ≡ Ok props) }
+    ensures err { IfErr result (λ fault. fault ≢ JsonFault.OutOfMemory → kept_props (entry_pairs entries.now.entries) ≡ Err fault) }
+    ensures values { IfOk result HasValues }
+{
+    let mut props = Props::new(alloc);
+    for (key, value) in entries.iter() {
+        let value = canonical(alloc, value)?;
+        props.put(Text::new(alloc, key.as_str())?, value)?;
+    }
+    Ok(props)
+}
+
+/// The properties of a segment, none where it gives none.
+fn keep_given(alloc: Global, entries: Option<&Map<String, Value>>) -> Result<Props, JsonFault>
+    requires { IsTrue (has_no_null (given_pairs entries)) }
+    ensures ok { IfOk result (λ props. kept_props (given_pairs entries.entry) ≡ Ok props) }
+    ensures err { IfErr result (λ fault. fault ≢ JsonFault.OutOfMemory → kept_props (given_pairs entries.entry) ≡ Err fault) }
+    ensures values { IfOk result HasValues }
+{
+    match entries {
+        Some(entries) => keep_props(alloc, entries),
+        None => Ok(Props::new(alloc)),
+    }
+}
+
+/// What a segment holds, as it is kept.
+fn keep_body(alloc: Global, body: BodyItem<'_>) -> Result<Seg, OutOfMemory>
+    ensures { IfOk result (λ seg. seg ≡ body_of body.entry) }
+{
+    match body {
+        BodyItem::Letters(text) => Ok(Seg::Chars {
+            text: Text::new(alloc, text)?,
+        }),
+        BodyItem::Sign(ref_type) => Ok(Seg::Marker { ref_type }),
+    }
+}
+
+/// The segment, as it is kept.
+fn keep_segment(alloc: Global, item: &SegItem) -> Result<SegRec, JsonFault>
+    requires { IsTrue (has_no_null (segment_of item.now).props) }
+    ensures ok { IfOk result (λ seg. kept_segment (segment_of item.now) ≡ Ok seg) }
+    ensures err { IfErr result (λ fault. fault ≢ JsonFault.OutOfMemory → kept_segment (segment_of item.now) ≡ Err fault) }
+    ensures values { IfOk result (λ seg. HasValues seg.props) }
+{
+    let props = keep_given(alloc, item.props)?;
+    Ok(SegRec {
+        body: keep_body(alloc, item.body)?,
+        props,
+        by: given_author(&item.stamps),
+        ins: given_insertion(&item.stamps),
+        dels: item.stamps.removals.copy()?,
+    })
+}
+
+/// The segments, as they are kept.
+pub(crate) fn keep_segments(alloc: Global, items: &[SegItem]) -> Result<SegRecs, JsonFault>
+    requires { AllByRecursion (λ seg. has_no_null seg.props ≡ true) (map segment_of items.now) }
+    ensures ok { IfOk result (λ segs. read_each kept_segment (map segment_of items.now) ≡ Ok segs) }
+    ensures err { IfErr result (λ fault. fault ≢ JsonFault.OutOfMemory → read_each kept_segment (map segment_of items.now) ≡ Err fault) }
+    ensures values { IfOk result (AllByRecursion (λ seg. HasValues seg.props)) }
+{
+    let mut segs = SegRecs::new(alloc);
+    for item in items {
+        segs.push(keep_segment(alloc, item)?)?;
+    }
+    Ok(segs)
+}
