@@ -1,5 +1,8 @@
 pub mod BackwardRuns
+pub mod CellPlaces
+pub mod FilledRows
 pub mod HeldElements
+pub mod NotedAnswers
 pub mod PlacedCell
 pub mod PlacedList
 pub mod PlacedRuns

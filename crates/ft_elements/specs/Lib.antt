@@ -1,5 +1,6 @@
 pub mod Contents
 pub mod NamedBack
+pub mod NameTables
 pub mod Names
 pub mod PlacedRuns
 pub mod PropertyRuns

@@ -16,3 +16,8 @@ stage_of_name (PendingId k n) = Some k
 abbrev pub number_of_name : ElementId → ℕ
 number_of_name (SequencedId n) = n
 number_of_name (PendingId k n) = n
+
+-- the number of a name, if it is one of a sequenced element
+abbrev pub sequenced_number : ElementId → Option ℕ
+sequenced_number (SequencedId n) = Some n
+sequenced_number (PendingId k n) = None

@@ -6,7 +6,9 @@ ghost use Rattle.ft_props.specs.Element.{same_id};
 ghost use Rattle.ft_op.specs.Cells.{cell_value, is_cell, is_null, put_cell, write_cell};
 
 mod building;
+mod columns;
 mod copies;
+mod rows;
 mod trimming;
 
 use crate::names::ElementName;

@@ -1,18 +1,23 @@
 //! The intervals of a plain replica.
 
-ghost use Rattle.std.specs.Prelude.{◌≡◌, [], OnOk, OnErr, filter, not};
+ghost use Rattle.std.specs.Prelude.{◌≡◌, [], OnOk, OnErr, filter, not, option_map};
 ghost use Rattle.std.specs.Ordering.{is_eq};
+ghost use Rattle.ft_base.specs.Scan.{settled};
+ghost use Rattle.ft_props.specs.Element.{has_id, id as name_of_element, is_unremoved};
 ghost use Rattle.ft_props.specs.Keys.{put_rising, text_cmp};
 ghost use Rattle.ft_props.specs.Properties.{apply};
 ghost use Rattle.ft_op.specs.Intervals.{has_interval, interval_cmp, is_interval, slide_ends, slide_interval, with_changed_interval, with_ends};
+ghost use Rattle.ft_elements.specs.NameTables.{HasAnswers};
 ghost use Rattle.ft_elements.specs.Rising.{rising_place};
 
 mod building;
 mod pending;
 
+use crate::element_tests::Unremoved;
 use crate::elements::PlainElement;
+use crate::name_tables::settled_names;
 use crate::names::{ElementName, ElementNames};
-use crate::slides::slide;
+use crate::slides::slide_by;
 use ft_base::{OutOfMemory, Text};
 use ft_op::Ends;
 use ft_props::keys::compare;
@@ -126,12 +131,13 @@ impl PlainInterval {
         Ok(())
     }
 
-    /// Slides both ends.
-    fn slide(&mut self, items: &[PlainElement])
+    /// Slides both ends, by a table of where the ends on sequenced elements go.
+    fn slide(&mut self, names: &[Option<ElementName>], items: &[PlainElement])
+        requires { HasAnswers (λ x. option_map name_of_element (settled (has_id x) is_unremoved items.now)) names.now }
         ensures { self.new ≡ slide_interval items.now self.old }
     {
-        self.start = slide(items, self.start);
-        self.end = slide(items, self.end);
+        self.start = slide_by(names, items, self.start);
+        self.end = slide_by(names, items, self.end);
     }
 }
 
@@ -228,12 +234,28 @@ impl PlainIntervals {
     }
 
     /// Slides all ends.
-    pub fn slide_ends(&mut self, items: &[PlainElement])
-        ensures { self.new ≡ slide_ends items.now self.old }
+    ///
+    /// Answers `OutOfMemory` where there is no room for a table of the elements, and then nothing changed.
+    pub fn slide_ends(&mut self, items: &[PlainElement]) -> Result<(), OutOfMemory>
+        ensures ok { OnOk result (self.new ≡ slide_ends items.now self.old) }
+        ensures err { OnErr result (self.new ≡ self.old) }
     {
-        for i in self.items.iter_mut() {
-            i.slide(items);
+        if self.items.is_empty() {
+            return Ok(());
         }
+        let names = settled_names(*self.items.allocator(), items, Unremoved)?;
+        slide_all(self.items.as_mut_slice(), names.as_slice(), items);
+        Ok(())
+    }
+}
+
+/// Slides the ends of the intervals, by a table of where the ends on sequenced elements go.
+fn slide_all(intervals: &mut [PlainInterval], names: &[Option<ElementName>], items: &[PlainElement])
+    requires { HasAnswers (λ x. option_map name_of_element (settled (has_id x) is_unremoved items.now)) names.now }
+    ensures { intervals.new ≡ slide_ends items.now intervals.old }
+{
+    for i in intervals.iter_mut() {
+        i.slide(names, items);
     }
 }
 

@@ -11,6 +11,7 @@ pub mod ends;
 pub mod intervals;
 pub mod lists;
 mod marks;
+mod name_tables;
 pub mod names;
 pub mod runs;
 pub mod scans;

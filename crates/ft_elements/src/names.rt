@@ -4,6 +4,7 @@ ghost use Rattle.std.specs.Prelude.{◌≡◌, IfOk};
 ghost use Rattle.ft_props.specs.Element.{id_of_stamp, same_id};
 ghost use Rattle.ft_props.specs.Steps.{acked_id};
 ghost use Rattle.ft_op.specs.Intervals.{no_elements, settle_elements};
+ghost use Rattle.ft_elements.specs.Names.{sequenced_number};
 
 use crate::elements::PlainElement;
 use crate::slides::settle;
@@ -60,6 +61,16 @@ impl ElementName {
                 nth: made.checked_add(self.nth).ok_or(OutOfMemory)?,
             }),
             Some(_) | None => Ok(self),
+        }
+    }
+
+    /// The number, if it is the name of a sequenced element.
+    pub fn sequenced_number(&self) -> Option<u64>
+        ensures { result ≡ sequenced_number self.now }
+    {
+        match self.stage {
+            Some(_) => None,
+            None => Some(self.nth),
         }
     }
 

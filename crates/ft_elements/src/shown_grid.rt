@@ -1,7 +1,10 @@
 //! The cells that are shown.
 
 ghost use Rattle.std.specs.Prelude.{◌≡◌, ◌++◌, [], IfOk, OnOk, length, option_copied};
+ghost use Rattle.std.specs.List.{list_any};
+ghost use Rattle.ft_props.specs.Element.{same_id};
 ghost use Rattle.ft_msg.specs.Content.{all_cells, cell_record, row_cells, stage_view};
+ghost use Rattle.ft_elements.specs.NameTables.{HasAnswers};
 
 use crate::cells::PlainCells;
 use crate::elements::PlainElement;
@@ -31,29 +34,34 @@ pub fn shown_cells(
 ) -> Result<CellRecs, OutOfMemory>
     ensures { IfOk result (λ shown. shown ≡ all_cells cells.now [] (stage_view stage cols.now) 0 (stage_view stage rows.now)) }
 {
+    let filled_rows = cells.filled_rows(rows)?;
+    let filled = filled_rows.as_slice();
     let mut shown = CellRecs::new(alloc);
     let mut place: u64 = 0;
     for row in rows {
         if row.is_seen_at(stage) {
-            push_row(&mut shown, cells, place, row.name(), cols, stage)?;
+            push_row(&mut shown, cells, filled, place, row.name(), cols, stage)?;
             place += 1;
         }
     }
     Ok(shown)
 }
 
-/// Adds the cells of the row, which is shown at this place. A row without a cell isn't gone through.
+/// Adds the cells of the row, which is shown at this place. A row without a cell, by the table of those that have one,
+/// isn't gone through.
 fn push_row(
     shown: &mut CellRecs,
     cells: &PlainCells,
+    filled: &[bool],
     place: u64,
     row: ElementName,
     cols: &[PlainElement],
     stage: u64,
 ) -> Result<(), OutOfMemory>
+    requires { HasAnswers (λ x. list_any (λ cell. same_id x cell.row) cells.now) filled.now }
     ensures { OnOk result (shown.new ≡ shown.old ++ row_cells cells.now [] place row 0 (stage_view stage cols.now)) }
 {
-    if cells.has_row(row) {
+    if cells.has_row_by(filled, row) {
         return push_columns(shown, cells, place, row, cols, stage);
     }
     Ok(())
@@ -70,10 +78,12 @@ fn push_columns(
 ) -> Result<(), OutOfMemory>
     ensures { OnOk result (shown.new ≡ shown.old ++ row_cells cells.now [] place row 0 (stage_view stage cols.now)) }
 {
+    let places = cells.places_in_row(row, cols)?;
+    let places = places.as_slice();
     let mut j: u64 = 0;
     for col in cols {
         if col.is_seen_at(stage) {
-            push_cell(shown, place, j, cells.value(row, col.name()))?;
+            push_cell(shown, place, j, cells.value_by(places, row, col.name()))?;
             j += 1;
         }
     }

@@ -1,12 +1,14 @@
 //! Where an end goes whose element isn't seen any more.
 
-ghost use Rattle.std.specs.Prelude.{◌≡◌, find, option_map};
+ghost use Rattle.std.specs.Prelude.{◌≡◌, Some, find, option_map};
 ghost use Rattle.ft_base.specs.Scan.{settled};
-ghost use Rattle.ft_props.specs.Element.{id};
+ghost use Rattle.ft_props.specs.Element.{has_id, id, is_unremoved, seen};
 ghost use Rattle.ft_props.specs.Slide.{settle, slide};
+ghost use Rattle.ft_elements.specs.NameTables.{HasAnswers};
 
 use crate::element_tests::{AtStage, ElementTest, Sequenced, Unremoved};
 use crate::elements::PlainElement;
+use crate::name_tables::noted_at;
 use crate::names::ElementName;
 
 /// The element of the end if no removal of it is sequenced, else the next one of which none is,
@@ -23,6 +25,68 @@ pub fn settle(items: &[PlainElement], stage: u64, end: Option<ElementName>) -> O
     ensures { result ≡ settle items.now stage end }
 {
     settled(items, end?, AtStage(stage))
+}
+
+/// The same as `slide`, by a table of where the ends on sequenced elements go.
+pub fn slide_by(
+    names: &[Option<ElementName>],
+    items: &[PlainElement],
+    end: Option<ElementName>,
+) -> Option<ElementName>
+    requires { HasAnswers (λ x. option_map id (settled (has_id x) is_unremoved items.now)) names.now }
+    ensures { result ≡ slide items.now end }
+{
+    match end {
+        Some(name) => noted_slide(names, items, name),
+        None => None,
+    }
+}
+
+/// Where an end on the element of that name slides, by the same table.
+fn noted_slide(
+    names: &[Option<ElementName>],
+    items: &[PlainElement],
+    name: ElementName,
+) -> Option<ElementName>
+    requires { HasAnswers (λ x. option_map id (settled (has_id x) is_unremoved items.now)) names.now }
+    ensures { result ≡ slide items.now (Some name) }
+{
+    match noted_at(names, name) {
+        Some(to) => to,
+        None => slide(items, Some(name)),
+    }
+}
+
+/// The same as `settle`, by a table of where the ends on sequenced elements go.
+pub fn settle_by(
+    names: &[Option<ElementName>],
+    items: &[PlainElement],
+    stage: u64,
+    end: Option<ElementName>,
+) -> Option<ElementName>
+    requires { HasAnswers (λ x. option_map id (settled (has_id x) (seen stage) items.now)) names.now }
+    ensures { result ≡ settle items.now stage end }
+{
+    match end {
+        Some(name) => noted_settle(names, items, stage, name),
+        None => None,
+    }
+}
+
+/// Where an end on the element of that name settles, by the same table.
+fn noted_settle(
+    names: &[Option<ElementName>],
+    items: &[PlainElement],
+    stage: u64,
+    name: ElementName,
+) -> Option<ElementName>
+    requires { HasAnswers (λ x. option_map id (settled (has_id x) (seen stage) items.now)) names.now }
+    ensures { result ≡ settle items.now stage (Some name) }
+{
+    match noted_at(names, name) {
+        Some(to) => to,
+        None => settle(items, stage, Some(name)),
+    }
 }
 
 /// The element that is meant if it is seen, else the next one that is, else the last one before it, else

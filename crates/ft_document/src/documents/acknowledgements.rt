@@ -58,8 +58,7 @@ impl PlainDocument {
         self.cols.acknowledge(stage.stage(), seq, conn)?;
         apply_to_intervals(&mut self.intervals, stage.sub_operation(), &names)?;
         write_to_cells(&mut self.cells, stage.sub_operation(), &names)?;
-        self.slide_ends();
-        Ok(())
+        self.slide_ends()
     }
 
     /// How many elements were ever sequenced in the list into which the sub-operation inserts.

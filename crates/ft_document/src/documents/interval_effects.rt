@@ -1,6 +1,6 @@
 //! What operations of intervals make of a document.
 
-ghost use Rattle.std.specs.Prelude.{◌≡◌, ℕ, OnOk};
+ghost use Rattle.std.specs.Prelude.{◌≡◌, ℕ, OnOk, OnErr};
 ghost use Rattle.ft_op.specs.declared.operations.TextOp.TheVariants.{IntervalAdd, IntervalChange, IntervalDelete};
 ghost use Rattle.ft_op.specs.Document.{interval_effect, with_slid_ends};
 
@@ -27,8 +27,7 @@ impl PlainDocument {
         }
         let named = elements_at_ends(&self.text, ends, at);
         self.intervals.add(label, id, &named, props)?;
-        self.slide_ends();
-        Ok(())
+        self.slide_ends()
     }
 
     /// Gives an interval the ends, if some are given, and sets properties of it. Nothing is done where
@@ -48,22 +47,26 @@ impl PlainDocument {
         }
         let named = elements_at_given_ends(&self.text, ends, at);
         self.intervals.change(label, id, ends, &named, props)?;
-        self.slide_ends();
-        Ok(())
+        self.slide_ends()
     }
 
     /// Takes an interval away, if it is there.
-    pub(crate) fn delete_interval(&mut self, label: &Text, id: &Text)
-        ensures { (c r : ℕ) → self.new ≡ interval_effect self.old c r (IntervalDelete label.now id.now) }
+    ///
+    /// Answers `OutOfMemory` where there is no room to slide the ends of the others.
+    pub(crate) fn delete_interval(&mut self, label: &Text, id: &Text) -> Result<(), OutOfMemory>
+        ensures { (c r : ℕ) → OnOk result (self.new ≡ interval_effect self.old c r (IntervalDelete label.now id.now)) }
     {
         self.intervals.delete(label, id);
-        self.slide_ends();
+        self.slide_ends()
     }
 
     /// Slides each end of an interval.
-    pub(crate) fn slide_ends(&mut self)
-        ensures { self.new ≡ with_slid_ends self.old }
+    ///
+    /// Answers `OutOfMemory` where there is no room for a table of the elements, and then nothing changed.
+    pub(crate) fn slide_ends(&mut self) -> Result<(), OutOfMemory>
+        ensures ok { OnOk result (self.new ≡ with_slid_ends self.old) }
+        ensures err { OnErr result (self.new ≡ self.old) }
     {
-        self.intervals.slide_ends(self.text.as_slice());
+        self.intervals.slide_ends(self.text.as_slice())
     }
 }

@@ -99,7 +99,7 @@ fn settle_stage(
     ensures { OnOk result (shown.new ≡ intervals_after_stage stage.now.sub_operation (settle_elements items.now stage.now.stage stage.now.names)
         (settle_ends items.now stage.now.stage shown.old)) }
 {
-    shown.settle_ends(items, stage.stage());
+    shown.settle_ends(items, stage.stage())?;
     let names = stage.names().settled(items, stage.stage());
     apply_to_intervals(shown, stage.sub_operation(), &names)
 }

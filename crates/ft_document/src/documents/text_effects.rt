@@ -37,10 +37,7 @@ impl PlainDocument {
                 ends,
                 props,
             } => self.change_interval(label, id, *ends, props, at),
-            TextOp::IntervalDelete { label, id } => {
-                self.delete_interval(label, id);
-                Ok(())
-            }
+            TextOp::IntervalDelete { label, id } => self.delete_interval(label, id),
         }
     }
 
@@ -103,8 +100,7 @@ impl PlainDocument {
             return self.skip();
         }
         self.text.remove(p, q, seq, at)?;
-        self.slide_ends();
-        Ok(())
+        self.slide_ends()
     }
 
     /// Changes the properties of the elements of the text from `p` up to before `q`.

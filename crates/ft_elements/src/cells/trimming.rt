@@ -3,9 +3,11 @@
 ghost use Rattle.std.specs.Prelude.{◌≡◌, ◌&&◌, IfOk, filter, not};
 ghost use Rattle.ft_props.specs.Element.{has_sequenced_removal};
 ghost use Rattle.ft_op.specs.Cells.{is_null};
+ghost use Rattle.ft_elements.specs.NameTables.{HasAnswers};
 
 use crate::cells::{PlainCell, PlainCells, is_null};
 use crate::elements::PlainElement;
+use crate::name_tables::{noted_at, removals};
 use crate::names::ElementName;
 use ft_base::OutOfMemory;
 
@@ -20,9 +22,12 @@ impl PlainCells {
     ) -> Result<PlainCells, OutOfMemory>
         ensures { IfOk result (λ kept. kept ≡ filter (λ c. not (is_null c.value) && not (has_sequenced_removal rows.now c.row) && not (has_sequenced_removal cols.now c.col)) self.now) }
     {
-        let mut items = Vec::new(*self.items.allocator());
+        let alloc = *self.items.allocator();
+        let gone_rows = removals(alloc, rows)?;
+        let gone_cols = removals(alloc, cols)?;
+        let mut items = Vec::new(alloc);
         for cell in &self.items {
-            if cell.is_kept(rows, cols) {
+            if cell.is_kept(rows, gone_rows.as_slice(), cols, gone_cols.as_slice()) {
                 items.push(cell.copy()?)?;
             }
         }
@@ -31,11 +36,32 @@ impl PlainCells {
 }
 
 impl PlainCell {
-    /// Whether its value isn't null and its row and its column aren't removed.
-    fn is_kept(&self, rows: &[PlainElement], cols: &[PlainElement]) -> bool
+    /// Whether its value isn't null and its row and its column aren't removed, by tables of which sequenced ones are.
+    fn is_kept(
+        &self,
+        rows: &[PlainElement],
+        gone_rows: &[bool],
+        cols: &[PlainElement],
+        gone_cols: &[bool],
+    ) -> bool
+        requires rows { HasAnswers (has_sequenced_removal rows.now) gone_rows.now }
+        requires cols { HasAnswers (has_sequenced_removal cols.now) gone_cols.now }
         ensures { result ≡ (not (is_null self.now.value) && not (has_sequenced_removal rows.now self.now.row) && not (has_sequenced_removal cols.now self.now.col)) }
     {
-        !is_null(&self.value) && !is_removed(rows, self.row) && !is_removed(cols, self.col)
+        !is_null(&self.value)
+            && !is_gone(rows, gone_rows, self.row)
+            && !is_gone(cols, gone_cols, self.col)
+    }
+}
+
+/// Whether a removal of the element of that name is sequenced, by a table of that for the sequenced ones.
+fn is_gone(items: &[PlainElement], gone: &[bool], name: ElementName) -> bool
+    requires { HasAnswers (has_sequenced_removal items.now) gone.now }
+    ensures { result ≡ has_sequenced_removal items.now name }
+{
+    match noted_at(gone, name) {
+        Some(is_gone) => is_gone,
+        None => is_removed(items, name),
     }
 }
 

@@ -1,14 +1,19 @@
 //! Intervals with what is pending on them.
 
-ghost use Rattle.std.specs.Prelude.{◌≡◌, [], IfOk, OnOk, cond};
+ghost use Rattle.std.specs.Prelude.{◌≡◌, [], IfOk, OnOk, OnErr, cond, option_map};
+ghost use Rattle.ft_base.specs.Scan.{settled};
+ghost use Rattle.ft_props.specs.Element.{has_id, id as name_of_element, seen};
 ghost use Rattle.ft_props.specs.Keys.{put_rising};
 ghost use Rattle.ft_props.specs.Properties.{apply};
 ghost use Rattle.ft_op.specs.Intervals.{after_interval_operation, has_interval, interval_cmp, settle_ends, settle_interval};
+ghost use Rattle.ft_elements.specs.NameTables.{HasAnswers};
 
+use crate::element_tests::AtStage;
 use crate::elements::PlainElement;
 use crate::intervals::{PlainInterval, PlainIntervals};
-use crate::names::ElementNames;
-use crate::slides::settle;
+use crate::name_tables::settled_names;
+use crate::names::{ElementName, ElementNames};
+use crate::slides::settle_by;
 use ft_base::{OutOfMemory, Text};
 use ft_op::TextOp;
 use ft_props::{PropSet, Props};
@@ -29,12 +34,13 @@ impl PlainInterval {
         })
     }
 
-    /// Settles both ends at the pending stage.
-    fn settle(&mut self, items: &[PlainElement], stage: u64)
+    /// Settles both ends at the pending stage, by a table of where the ends on sequenced elements go.
+    fn settle(&mut self, names: &[Option<ElementName>], items: &[PlainElement], stage: u64)
+        requires { HasAnswers (λ x. option_map name_of_element (settled (has_id x) (seen stage) items.now)) names.now }
         ensures { self.new ≡ settle_interval items.now stage self.old }
     {
-        self.start = settle(items, stage, self.start);
-        self.end = settle(items, stage, self.end);
+        self.start = settle_by(names, items, stage, self.start);
+        self.end = settle_by(names, items, stage, self.end);
     }
 }
 
@@ -53,12 +59,18 @@ impl PlainIntervals {
     }
 
     /// Settles all ends at the pending stage.
-    pub fn settle_ends(&mut self, items: &[PlainElement], stage: u64)
-        ensures { self.new ≡ settle_ends items.now stage self.old }
+    ///
+    /// Answers `OutOfMemory` where there is no room for a table of the elements, and then nothing changed.
+    pub fn settle_ends(&mut self, items: &[PlainElement], stage: u64) -> Result<(), OutOfMemory>
+        ensures ok { OnOk result (self.new ≡ settle_ends items.now stage self.old) }
+        ensures err { OnErr result (self.new ≡ self.old) }
     {
-        for i in self.items.iter_mut() {
-            i.settle(items, stage);
+        if self.items.is_empty() {
+            return Ok(());
         }
+        let names = settled_names(*self.items.allocator(), items, AtStage(stage))?;
+        settle_all(self.items.as_mut_slice(), names.as_slice(), items, stage);
+        Ok(())
     }
 
     /// Applies an interval operation that names these elements.
@@ -106,5 +118,20 @@ impl PlainIntervals {
         }
         let props = Props::new(*self.items.allocator()).applied(props)?;
         self.put(PlainInterval::new(label.copy()?, id.copy()?, names, props))
+    }
+}
+
+/// Settles the ends of the intervals at the pending stage, by a table of where the ends on sequenced elements go.
+fn settle_all(
+    intervals: &mut [PlainInterval],
+    names: &[Option<ElementName>],
+    items: &[PlainElement],
+    stage: u64,
+)
+    requires { HasAnswers (λ x. option_map name_of_element (settled (has_id x) (seen stage) items.now)) names.now }
+    ensures { intervals.new ≡ settle_ends items.now stage intervals.old }
+{
+    for i in intervals.iter_mut() {
+        i.settle(names, items, stage);
     }
 }

@@ -1,0 +1,37 @@
+use Rattle.std.proofs.Common.{◌≡◌, ◌-◌, None, sym, ap, ◌∙◌, arith, drop, length}
+use Rattle.std.proofs.lemmas.List.{drop_all}
+use Rattle.ft_elements.proofs.NotedAnswers.{HasAnswers-none, HasSettled, front, next-passed, next-taken, next_or_last, settled-more}
+use Rattle.ft_elements.proofs.name_tables.settled_names.Goals as goal
+use Rattle.ft_elements.proofs.name_tables.settled_names.Goals.{then-passes, else-passes}
+
+pub loop-i-init : goal.loop-i-init
+loop-i-init g c =
+    let seen = g.T.ElementTest.test c.args.seen in
+    let xs = c.args.items.now in
+    let none = drop_all (length xs) xs (omega arith) in
+    record {
+      inside = omega arith;
+      sent = c.last_seen-next.ensures ∙ sym (ap (next_or_last seen xs) none);
+      right = HasAnswers-none (next_or_last seen xs) None c.in_ok-table_length.field-0 (drop (length xs) xs) c.in_ok-table.table.items none
+          c.in_ok-table.ensures;
+    }
+
+pub loop-i-preserved : goal.loop-i-preserved
+loop-i-preserved g c =
+    let seen = g.T.ElementTest.test c.args.seen in
+    let xs = c.args.items.now in
+    let i = c.loop-i.i in
+    let e = c.index-items-i.result in
+    let at_front = front xs i e c.loop-i-test.true c.loop-i.invariant.inside c.index-items-i.is in
+    let sent : c.if-passes.next ≡ next_or_last seen xs (drop (i - 1) xs) = elim c.if-passes.branch [
+      | then-passes w ↦ next-taken seen xs i e at_front c.if-passes.next w.name.result w.if-passes.ensures w.next-is w.name.ensures
+      | else-passes w ↦ next-passed seen xs i e at_front c.loop-i.next c.if-passes.next w.if-passes.ensures w.next-is c.loop-i.invariant.sent
+    ] in
+    record {
+      inside = omega arith;
+      sent = sent;
+      right = settled-more seen xs i e at_front c.if-passes.next c.loop-i.table.items c.note.new.table.items sent c.note.ensures c.loop-i.invariant.right;
+    }
+
+pub returns : goal.returns
+returns g c = HasSettled (g.T.ElementTest.test c.args.seen) c.args.items.now c.loop-i.i c.loop-i.table.items c.loop-i-test.false c.loop-i.invariant.right
