@@ -359,6 +359,9 @@ given (Authors client) r h = client_given _ (codes "authors") client refl refl r
 event_canonical : (e : Event) → AreGiven e → IsCanonical (written_event e)
 event_canonical e g = subst IsCanonical (sym g.same) (canonical_fields g.fs g.rise g.canonical)
 
+pub canonical_event : (e : Event) → IsRepresentableEvent e → IsWellFormedEvent e → IsCanonical (written_event e)
+canonical_event e r h = event_canonical e (given e r h)
+
 event_levels : (e : Event) → AreGiven e → depth (written_event e) ≤ 127
 event_levels e g = subst (λ d. depth d ≤ 127) (sym g.same) (let within = fields_within 126 g.fs g.within in omega (arith, within))
 

@@ -1,5 +1,5 @@
 -- The JSON lines that a session writes of a client: its intervals that meet a range, and who inserted its visible text.
-use Rattle.std.specs.Prelude.{ℕ, ◌+◌, Bool, true, false, cond, ◌&&◌, nat_eq, List, [], ◌∷◌, ◌++◌, Option, Some, None, codes}
+use Rattle.std.specs.Prelude.{ℕ, ◌+◌, Bool, true, false, cond, nat_eq, List, [], ◌∷◌, ◌++◌, Option, Some, None, codes}
 use Rattle.serde_json.specs.Data.{Data, null, boolean, array, object, no_members, member}
 use Rattle.serde_json.specs.View.{items_of}
 use Rattle.ft_attrib.specs.declared.attribution.AttrRun.{AttrRun}
@@ -43,19 +43,27 @@ written_origin_run names run =
     (member (codes "seq") (origin_number run.who)
     (member (codes "start") (written_count run.start) no_members))))
 
+-- the count of a connection's elements
+abbrev pub written_author : Characters → ℕ → Data
+written_author name n = object (member (codes "by") (written_text name) (member (codes "count") (written_count n) no_members))
+
 -- the count of a connection's elements, unless it has none
 abbrev pub counted_author : Characters → ℕ → List Data
-counted_author name n = cond (nat_eq n 0) [] (object (member (codes "by") (written_text name) (member (codes "count") (written_count n) no_members)) ∷ [])
+counted_author name n = cond (nat_eq n 0) [] (written_author name n ∷ [])
 
 -- the counts of the connections of these names, the first of which has the number conn
 abbrev pub known_authors : ℕ → List Characters → List Origin → List Data
 known_authors conn [] os = []
 known_authors conn (name ∷ names) os = counted_author name (how_many (is_by conn) os) ++ known_authors (conn + 1) names os
 
+-- the count of elements without a name, pending or not
+abbrev pub written_nameless : Bool → ℕ → Data
+written_nameless pending n =
+    object (member (codes "by") null (member (codes "count") (written_count n) (member (codes "pending") (boolean pending) no_members)))
+
 -- the count of elements without a name, pending or not, unless there are none
 abbrev pub counted_nameless : Bool → ℕ → List Data
-counted_nameless pending n =
-    cond (nat_eq n 0) [] (object (member (codes "by") null (member (codes "count") (written_count n) (member (codes "pending") (boolean pending) no_members))) ∷ [])
+counted_nameless pending n = cond (nat_eq n 0) [] (written_nameless pending n ∷ [])
 
 -- how many visible elements each connection inserted, then how many nobody known, then how many are pending
 abbrev pub written_authors : List Characters → List Origin → List Data

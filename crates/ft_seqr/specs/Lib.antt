@@ -1,7 +1,9 @@
 pub mod Sequencer
+pub mod SequencerCalls
 pub mod Refusals
 pub mod SameMessage
 pub mod EventGrammar
+pub mod EventReader
 pub mod WrittenEvent
 pub mod WellFormedEvent
 pub mod EventLaws

@@ -6,10 +6,18 @@ use Rattle.ft_msg.specs.declared.faults.EditFault.{EditFault}
 use Rattle.ft_msg.specs.declared.faults.EditFault.TheVariants as edit
 use Rattle.ft_msg.specs.declared.faults.LinkFault.{LinkFault}
 use Rattle.ft_msg.specs.declared.faults.LinkFault.TheVariants as link
+use Rattle.ft_msg.specs.declared.faults.SummaryFault.{SummaryFault}
+use Rattle.ft_msg.specs.declared.faults.SummaryFault.TheVariants as summing
+use Rattle.ft_msg.specs.declared.faults.ViewFault.{ViewFault}
+use Rattle.ft_msg.specs.declared.faults.ViewFault.TheVariants as viewing
 use Rattle.ft_msg.specs.declared.faults.ProcessFault.{ProcessFault}
 use Rattle.ft_msg.specs.declared.faults.ProcessFault.TheVariants as processing
 pub use Rattle.ft_msg.specs.FaultTexts.{bad_numbers_text, cause_text}
 pub use Rattle.ft_sumdoc.specs.FaultTexts.{summary_cause_text, summary_fault_text}
+use Rattle.ft_seqr.specs.declared.nacks.LeaveFault.{LeaveFault}
+use Rattle.ft_seqr.specs.declared.nacks.LeaveFault.TheVariants as leaving
+use Rattle.ft_seqr.specs.declared.nacks.SubmitFault.{SubmitFault}
+use Rattle.ft_seqr.specs.declared.nacks.SubmitFault.TheVariants as submitting
 use Rattle.ft_seqr.specs.declared.nacks.Nack.{Nack}
 use Rattle.ft_seqr.specs.declared.nacks.Nack.TheVariants as nack
 use Rattle.ft_seqr.specs.declared.refusals.Refusal.{Refusal}
@@ -44,6 +52,27 @@ refusal_of_process number (processing.Stopped seq) = Stopped
 refusal_of_process number (processing.OutOfOrder expected got) = OutOfOrder expected got
 refusal_of_process number (processing.BadNumbers field kept got) = BadNumbers field kept got
 refusal_of_process number processing.NotSent = Foreign number
+
+-- the refusal to show something
+abbrev pub refusal_of_view : ViewFault → Refusal
+refusal_of_view viewing.OutOfMemory = OutOfMemory
+refusal_of_view (viewing.Stopped seq) = Stopped
+
+-- the refusal of a summary
+abbrev pub refusal_of_summary : SummaryFault → Refusal
+refusal_of_summary summing.OutOfMemory = OutOfMemory
+refusal_of_summary (summing.Stopped seq) = Stopped
+refusal_of_summary (summing.Pending count) = Pending count
+
+-- the refusal of a connection that can't leave
+abbrev pub refusal_of_leaving : LeaveFault → Refusal
+refusal_of_leaving leaving.NotJoined = NotConnected
+refusal_of_leaving leaving.OutOfMemory = OutOfMemory
+
+-- the refusal of a draft
+abbrev pub refusal_of_submission : SubmitFault → Refusal
+refusal_of_submission (submitting.Nack nack) = Nacked nack
+refusal_of_submission submitting.OutOfMemory = OutOfMemory
 
 -- ---- numbers and texts
 

@@ -1,11 +1,21 @@
 //! The sequencer, which gives messages their numbers, and the events of a session.
 #![tactic(auto)]
 
+pub mod answer_texts;
 pub mod events;
+mod faults;
 pub mod laws;
 pub mod nacks;
+pub mod reading;
 pub mod refusals;
+pub mod same_message;
+pub mod sequencer;
+pub mod writing;
 
+pub use answer_texts::{author_texts, origin_run_text, overlap_text};
 pub use events::{Event, HowMany};
 pub use nacks::{LeaveFault, Nack, SubmitFault};
+pub use reading::read_event;
 pub use refusals::Refusal;
+pub use sequencer::Sequencer;
+pub use writing::write_event;

@@ -1,5 +1,7 @@
 //! What the sequencer refuses.
 
+use ft_base::OutOfMemory;
+
 /// Why a draft is refused: the first of these that holds.
 #[derive(Clone, Copy, Debug, PartialEq, Eq)]
 pub enum Nack {
@@ -24,6 +26,17 @@ pub enum LeaveFault {
     OutOfMemory,
 }
 
+impl From<OutOfMemory> for LeaveFault {
+    ghost use Rattle.std.specs.Prelude.{◌≡◌};
+    ghost use Rattle.ft_seqr.specs.declared.nacks.LeaveFault.TheVariants.{OutOfMemory as WantOfMemory};
+
+    ghost from_gives = { λ _ fault. fault ≡ WantOfMemory };
+
+    fn from(_error: OutOfMemory) -> LeaveFault {
+        LeaveFault::OutOfMemory
+    }
+}
+
 /// Why a draft isn't sequenced.
 #[derive(Clone, Copy, Debug, PartialEq, Eq)]
 pub enum SubmitFault {
@@ -31,4 +44,15 @@ pub enum SubmitFault {
     Nack(Nack),
     /// There was no memory.
     OutOfMemory,
+}
+
+impl From<OutOfMemory> for SubmitFault {
+    ghost use Rattle.std.specs.Prelude.{◌≡◌};
+    ghost use Rattle.ft_seqr.specs.declared.nacks.SubmitFault.TheVariants.{OutOfMemory as WantOfMemory};
+
+    ghost from_gives = { λ _ fault. fault ≡ WantOfMemory };
+
+    fn from(_error: OutOfMemory) -> SubmitFault {
+        SubmitFault::OutOfMemory
+    }
 }

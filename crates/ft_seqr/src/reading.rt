@@ -1,0 +1,417 @@
+//! Reading events.
+
+ghost use Rattle.std.specs.Prelude.{◌≡◌, ◌≢◌, ◌<◌, ◌^◌, pos, Ok, Err, IfOk, IfErr, bytes_eq, chars, codes, option_map};
+ghost use Rattle.serde_json.specs.View.{view};
+ghost use Rattle.ft_json.specs.Reading.{count};
+ghost use Rattle.ft_seqr.specs.declared.events.Event.TheVariants.{Connect, Drop, Noop, Show, Queue, Compact, Summary, Guest as Enter, Part, Authors, Ticket, Deliver};
+ghost use Rattle.ft_seqr.specs.EventGrammar.{blame_event, client_name_field, count_or_all, counted_event, edit_event, edit_op, event, event_for, event_of, event_of_client, given_count, given_from, guest_event, is_known_address, later_event, offer_event, op_for, overlap_event, places, start_event, submit_event};
+ghost use Rattle.ft_seqr.specs.EventReader.{ReadsEvent};
+
+use crate::events::{Event, HowMany};
+use crate::refusals::Refusal;
+use ft_base::Text;
+use ft_json::{Field, count, count_field, field, read_line, str_field, text_field};
+use ft_msg::Cause;
+use ft_op::{ChannelOp, is_object, read_grid_op, read_text_op};
+use serde_json::Value;
+use std::alloc::Global;
+
+/// The event that the line is.
+///
+/// Answers `Malformed` with the first fault in the order in which its fields are tested, `CountLimit`
+/// where that is too great a count, and `OutOfMemory` where there is no room for it.
+pub fn read_event(alloc: Global, line: &[u8]) -> Result<Event, Refusal>
+    ensures { ReadsEvent line.now result }
+{
+    match read_event_text(alloc, line) {
+        Ok(event) => Ok(event),
+        Err(Cause::OutOfMemory) => Err(Refusal::OutOfMemory),
+        Err(cause) => Err(Refusal::of_cause(cause)),
+    }
+}
+
+/// The event that the line is, or the cause why it is none.
+#[tactic(auto, unfolding(crate::specs::EventGrammar::event))]
+fn read_event_text(alloc: Global, line: &[u8]) -> Result<Event, Cause>
+    ensures ok { IfOk result (λ e. event line.now ≡ Ok e) }
+    ensures err { IfErr result (λ cause. cause ≢ Cause.OutOfMemory → event line.now ≡ Err cause) }
+{
+    let value = read_line(alloc, line)?;
+    read_event_value(alloc, &value)
+}
+
+/// The event that the value is.
+#[tactic(auto, unfolding(crate::specs::EventGrammar::event_of))]
+fn read_event_value(alloc: Global, value: &Value) -> Result<Event, Cause>
+    ensures ok { IfOk result (λ e. event_of (view value.now) ≡ Ok e) }
+    ensures err { IfErr result (λ cause. cause ≢ Cause.OutOfMemory → event_of (view value.now) ≡ Err cause) }
+{
+    if !is_object(value) {
+        return Err(Cause::WrongKind(Field::Line));
+    }
+    read_event_for(alloc, value, str_field(value, Field::Do)?)
+}
+
+/// The event of this word.
+fn read_event_for(alloc: Global, value: &Value, word: &str) -> Result<Event, Cause>
+    ensures ok { IfOk result (λ e. event_for (chars word.now) (view value.now) ≡ Ok e) }
+    ensures err { IfErr result (λ cause. cause ≢ Cause.OutOfMemory → event_for (chars word.now) (view value.now) ≡ Err cause) }
+{
+    read_spelled_event(alloc, value, word)
+}
+
+/// The event of the word that these bytes spell.
+fn read_spelled_event(alloc: Global, value: &Value, word: &str) -> Result<Event, Cause>
+    ensures ok { IfOk result (λ e. event_for word.now (view value.now) ≡ Ok e) }
+    ensures err { IfErr result (λ cause. cause ≢ Cause.OutOfMemory → event_for word.now (view value.now) ≡ Err cause) }
+{
+    match word {
+        "start" => read_start(alloc, value),
+        "connect" => read_connect(alloc, value),
+        "drop" => read_drop(alloc, value),
+        "edit" => read_edit(alloc, value),
+        "ticket" => read_ticket(alloc, value),
+        "deliver" => read_deliver(alloc, value),
+        "noop" => read_noop(alloc, value),
+        "show" => read_show(alloc, value),
+        "queue" => read_queue(alloc, value),
+        "compact" => read_compact(alloc, value),
+        "summary" => read_summary(alloc, value),
+        _ => read_later_event(alloc, value, word),
+    }
+}
+
+/// The event of this word, of those that have guests, or ask who inserted what and which intervals
+/// meet a range.
+fn read_later_event(alloc: Global, value: &Value, word: &str) -> Result<Event, Cause>
+    ensures ok { IfOk result (λ e. later_event word.now (view value.now) ≡ Ok e) }
+    ensures err { IfErr result (λ cause. cause ≢ Cause.OutOfMemory → later_event word.now (view value.now) ≡ Err cause) }
+{
+    match word {
+        "offer" => read_offer(alloc, value),
+        "history" => Ok(Event::History),
+        "guest" => read_guest(alloc, value),
+        "submit" => read_submit(alloc, value),
+        "part" => read_part(alloc, value),
+        "overlap" => read_overlap(alloc, value),
+        "blame" => read_blame(alloc, value),
+        "authors" => read_authors(alloc, value),
+        _ => Err(Cause::UnknownWord),
+    }
+}
+
+/// The client of an event.
+#[tactic(auto, unfolding(crate::specs::EventGrammar::client_name_field))]
+fn read_client(alloc: Global, value: &Value) -> Result<Text, Cause>
+    ensures ok { IfOk result (λ client. client_name_field (view value.now) ≡ Ok client) }
+    ensures err { IfErr result (λ cause. cause ≢ Cause.OutOfMemory → client_name_field (view value.now) ≡ Err cause) }
+{
+    Ok(text_field(alloc, value, Field::Client)?)
+}
+
+/// A connection for the client.
+#[tactic(auto, unfolding(crate::specs::EventGrammar::event_of_client))]
+fn read_connect(alloc: Global, value: &Value) -> Result<Event, Cause>
+    ensures ok { IfOk result (λ e. event_of_client Connect (view value.now) ≡ Ok e) }
+    ensures err { IfErr result (λ cause. cause ≢ Cause.OutOfMemory → event_of_client Connect (view value.now) ≡ Err cause) }
+{
+    let client = read_client(alloc, value)?;
+    Ok(Event::Connect { client })
+}
+
+/// The loss of the client's connection.
+#[tactic(auto, unfolding(crate::specs::EventGrammar::event_of_client))]
+fn read_drop(alloc: Global, value: &Value) -> Result<Event, Cause>
+    ensures ok { IfOk result (λ e. event_of_client Drop (view value.now) ≡ Ok e) }
+    ensures err { IfErr result (λ cause. cause ≢ Cause.OutOfMemory → event_of_client Drop (view value.now) ≡ Err cause) }
+{
+    let client = read_client(alloc, value)?;
+    Ok(Event::Drop { client })
+}
+
+/// A noop of the client.
+#[tactic(auto, unfolding(crate::specs::EventGrammar::event_of_client))]
+fn read_noop(alloc: Global, value: &Value) -> Result<Event, Cause>
+    ensures ok { IfOk result (λ e. event_of_client Noop (view value.now) ≡ Ok e) }
+    ensures err { IfErr result (λ cause. cause ≢ Cause.OutOfMemory → event_of_client Noop (view value.now) ≡ Err cause) }
+{
+    let client = read_client(alloc, value)?;
+    Ok(Event::Noop { client })
+}
+
+/// The view of the client.
+#[tactic(auto, unfolding(crate::specs::EventGrammar::event_of_client))]
+fn read_show(alloc: Global, value: &Value) -> Result<Event, Cause>
+    ensures ok { IfOk result (λ e. event_of_client Show (view value.now) ≡ Ok e) }
+    ensures err { IfErr result (λ cause. cause ≢ Cause.OutOfMemory → event_of_client Show (view value.now) ≡ Err cause) }
+{
+    let client = read_client(alloc, value)?;
+    Ok(Event::Show { client })
+}
+
+/// The unsent messages of the client.
+#[tactic(auto, unfolding(crate::specs::EventGrammar::event_of_client))]
+fn read_queue(alloc: Global, value: &Value) -> Result<Event, Cause>
+    ensures ok { IfOk result (λ e. event_of_client Queue (view value.now) ≡ Ok e) }
+    ensures err { IfErr result (λ cause. cause ≢ Cause.OutOfMemory → event_of_client Queue (view value.now) ≡ Err cause) }
+{
+    let client = read_client(alloc, value)?;
+    Ok(Event::Queue { client })
+}
+
+/// The client lets go of what no message can refer to.
+#[tactic(auto, unfolding(crate::specs::EventGrammar::event_of_client))]
+fn read_compact(alloc: Global, value: &Value) -> Result<Event, Cause>
+    ensures ok { IfOk result (λ e. event_of_client Compact (view value.now) ≡ Ok e) }
+    ensures err { IfErr result (λ cause. cause ≢ Cause.OutOfMemory → event_of_client Compact (view value.now) ≡ Err cause) }
+{
+    let client = read_client(alloc, value)?;
+    Ok(Event::Compact { client })
+}
+
+/// The summary of the client.
+#[tactic(auto, unfolding(crate::specs::EventGrammar::event_of_client))]
+fn read_summary(alloc: Global, value: &Value) -> Result<Event, Cause>
+    ensures ok { IfOk result (λ e. event_of_client Summary (view value.now) ≡ Ok e) }
+    ensures err { IfErr result (λ cause. cause ≢ Cause.OutOfMemory → event_of_client Summary (view value.now) ≡ Err cause) }
+{
+    let client = read_client(alloc, value)?;
+    Ok(Event::Summary { client })
+}
+
+/// How many visible elements each connection inserted.
+#[tactic(auto, unfolding(crate::specs::EventGrammar::event_of_client))]
+fn read_authors(alloc: Global, value: &Value) -> Result<Event, Cause>
+    ensures ok { IfOk result (λ e. event_of_client Authors (view value.now) ≡ Ok e) }
+    ensures err { IfErr result (λ cause. cause ≢ Cause.OutOfMemory → event_of_client Authors (view value.now) ≡ Err cause) }
+{
+    let client = read_client(alloc, value)?;
+    Ok(Event::Authors { client })
+}
+
+/// A new guest.
+#[tactic(auto, unfolding(crate::specs::EventGrammar::guest_event))]
+fn read_guest(alloc: Global, value: &Value) -> Result<Event, Cause>
+    ensures ok { IfOk result (λ e. guest_event Enter (view value.now) ≡ Ok e) }
+    ensures err { IfErr result (λ cause. cause ≢ Cause.OutOfMemory → guest_event Enter (view value.now) ≡ Err cause) }
+{
+    let guest = text_field(alloc, value, Field::Guest)?;
+    Ok(Event::Guest { guest })
+}
+
+/// A guest's connection leaves.
+#[tactic(auto, unfolding(crate::specs::EventGrammar::guest_event))]
+fn read_part(alloc: Global, value: &Value) -> Result<Event, Cause>
+    ensures ok { IfOk result (λ e. guest_event Part (view value.now) ≡ Ok e) }
+    ensures err { IfErr result (λ cause. cause ≢ Cause.OutOfMemory → guest_event Part (view value.now) ≡ Err cause) }
+{
+    let guest = text_field(alloc, value, Field::Guest)?;
+    Ok(Event::Part { guest })
+}
+
+/// So many of the client's oldest unsent messages are submitted.
+#[tactic(auto, unfolding(crate::specs::EventGrammar::counted_event))]
+fn read_ticket(alloc: Global, value: &Value) -> Result<Event, Cause>
+    ensures ok { IfOk result (λ e. counted_event Ticket (view value.now) ≡ Ok e) }
+    ensures err { IfErr result (λ cause. cause ≢ Cause.OutOfMemory → counted_event Ticket (view value.now) ≡ Err cause) }
+{
+    let client = read_client(alloc, value)?;
+    let count = read_count(field(value, Field::Count))?;
+    Ok(Event::Ticket { client, count })
+}
+
+/// The client processes so many of the next messages.
+#[tactic(auto, unfolding(crate::specs::EventGrammar::counted_event))]
+fn read_deliver(alloc: Global, value: &Value) -> Result<Event, Cause>
+    ensures ok { IfOk result (λ e. counted_event Deliver (view value.now) ≡ Ok e) }
+    ensures err { IfErr result (λ cause. cause ≢ Cause.OutOfMemory → counted_event Deliver (view value.now) ≡ Err cause) }
+{
+    let client = read_client(alloc, value)?;
+    let count = read_count(field(value, Field::Count))?;
+    Ok(Event::Deliver { client, count })
+}
+
+/// How many; 1 without the field.
+fn read_count(value: Option<&Value>) -> Result<HowMany, Cause>
+    ensures { result ≡ given_count (option_map (λ d. view d.now) value.entry) }
+{
+    match value {
+        None => Ok(HowMany::Num(1)),
+        Some(value) => read_count_or_all(value),
+    }
+}
+
+/// How many the value says: a count, or the string "all".
+fn read_count_or_all(value: &Value) -> Result<HowMany, Cause>
+    ensures { result ≡ count_or_all (count (view value.now)) (view value.now) }
+{
+    if let Some(n) = count(value) {
+        return Ok(HowMany::Num(n));
+    }
+    match value.as_str() {
+        Some("all") => Ok(HowMany::All),
+        _ => Err(Cause::WrongKind(Field::Count)),
+    }
+}
+
+/// A new client.
+#[tactic(auto, unfolding(crate::specs::EventGrammar::start_event))]
+fn read_start(alloc: Global, value: &Value) -> Result<Event, Cause>
+    ensures ok { IfOk result (λ e. start_event (view value.now) ≡ Ok e) }
+    ensures err { IfErr result (λ cause. cause ≢ Cause.OutOfMemory → start_event (view value.now) ≡ Err cause) }
+{
+    let client = read_client(alloc, value)?;
+    let from = read_from(alloc, field(value, Field::From))?;
+    Ok(Event::Start { client, from })
+}
+
+/// The client whose summary a new client starts from, if one is named.
+fn read_from(alloc: Global, value: Option<&Value>) -> Result<Option<Text>, Cause>
+    ensures ok { IfOk result (λ from. given_from (option_map (λ d. view d.now) value.entry) ≡ Ok from) }
+    ensures err { IfErr result (λ cause. cause ≢ Cause.OutOfMemory → given_from (option_map (λ d. view d.now) value.entry) ≡ Err cause) }
+{
+    match value {
+        None => Ok(None),
+        Some(value) => {
+            let name = value.as_str().ok_or(Cause::WrongKind(Field::From))?;
+            Ok(Some(Text::new(alloc, name)?))
+        }
+    }
+}
+
+/// An edit of the client's own.
+#[tactic(auto, unfolding(crate::specs::EventGrammar::edit_event))]
+fn read_edit(alloc: Global, value: &Value) -> Result<Event, Cause>
+    ensures ok { IfOk result (λ e. edit_event (view value.now) ≡ Ok e) }
+    ensures err { IfErr result (λ cause. cause ≢ Cause.OutOfMemory → edit_event (view value.now) ≡ Err cause) }
+{
+    let client = read_client(alloc, value)?;
+    let address = known_address(text_field(alloc, value, Field::Address)?)?;
+    let op = read_edit_op(alloc, &address, field(value, Field::Op))?;
+    Ok(Event::Edit { client, op })
+}
+
+/// The address, where it is that of the text or of the grid.
+fn known_address(address: Text) -> Result<Text, Cause>
+    ensures { result ≡ is_known_address address }
+{
+    if is_text(&address) {
+        return Ok(address);
+    }
+    if is_grid(&address) {
+        return Ok(address);
+    }
+    Err(Cause::WrongKind(Field::Address))
+}
+
+/// Whether it is the address of the text.
+fn is_text(address: &Text) -> bool
+    ensures { result ≡ bytes_eq address.now (codes "text") }
+{
+    address.as_str() == "text"
+}
+
+/// Whether it is the address of the grid.
+fn is_grid(address: &Text) -> bool
+    ensures { result ≡ bytes_eq address.now (codes "grid") }
+{
+    address.as_str() == "grid"
+}
+
+/// The operation of an edit for the address, which has to be there, and an object.
+fn read_edit_op(alloc: Global, address: &Text, value: Option<&Value>) -> Result<ChannelOp, Cause>
+    ensures ok { IfOk result (λ op. edit_op address.now (option_map (λ d. view d.now) value.entry) ≡ Ok op) }
+    ensures err { IfErr result (λ cause. cause ≢ Cause.OutOfMemory → edit_op address.now (option_map (λ d. view d.now) value.entry) ≡ Err cause) }
+{
+    let value = value.ok_or(Cause::Missing(Field::Op))?;
+    if !is_object(value) {
+        return Err(Cause::WrongKind(Field::Op));
+    }
+    read_op_for(alloc, address, value)
+}
+
+/// The operation for the address.
+fn read_op_for(alloc: Global, address: &Text, value: &Value) -> Result<ChannelOp, Cause>
+    ensures ok { IfOk result (λ op. op_for address.now (view value.now) ≡ Ok op) }
+    ensures err { IfErr result (λ cause. cause ≢ Cause.OutOfMemory → op_for address.now (view value.now) ≡ Err cause) }
+{
+    if is_text(address) {
+        return Ok(ChannelOp::Text(read_text_op(alloc, value)?));
+    }
+    Ok(ChannelOp::Grid(read_grid_op(alloc, value)?))
+}
+
+/// The client processes the message of a text.
+#[tactic(auto, unfolding(crate::specs::EventGrammar::offer_event))]
+fn read_offer(alloc: Global, value: &Value) -> Result<Event, Cause>
+    ensures ok { IfOk result (λ e. offer_event (view value.now) ≡ Ok e) }
+    ensures err { IfErr result (λ cause. cause ≢ Cause.OutOfMemory → offer_event (view value.now) ≡ Err cause) }
+{
+    let client = read_client(alloc, value)?;
+    let message = text_field(alloc, value, Field::Message)?;
+    Ok(Event::Offer { client, message })
+}
+
+/// The draft of a text is submitted for the guest.
+#[tactic(auto, unfolding(crate::specs::EventGrammar::submit_event))]
+fn read_submit(alloc: Global, value: &Value) -> Result<Event, Cause>
+    ensures ok { IfOk result (λ e. submit_event (view value.now) ≡ Ok e) }
+    ensures err { IfErr result (λ cause. cause ≢ Cause.OutOfMemory → submit_event (view value.now) ≡ Err cause) }
+{
+    let guest = text_field(alloc, value, Field::Guest)?;
+    let message = text_field(alloc, value, Field::Message)?;
+    Ok(Event::Submit { guest, message })
+}
+
+/// The intervals of a label that meet a range.
+#[tactic(auto, unfolding(crate::specs::EventGrammar::overlap_event))]
+fn read_overlap(alloc: Global, value: &Value) -> Result<Event, Cause>
+    ensures ok { IfOk result (λ e. overlap_event (view value.now) ≡ Ok e) }
+    ensures err { IfErr result (λ cause. cause ≢ Cause.OutOfMemory → overlap_event (view value.now) ≡ Err cause) }
+{
+    let client = read_client(alloc, value)?;
+    let label = text_field(alloc, value, Field::Label)?;
+    let (start, end) = read_places(value)?;
+    Ok(Event::Overlap {
+        client,
+        label,
+        start,
+        end,
+    })
+}
+
+/// Who inserted the visible elements of a range.
+#[tactic(auto, unfolding(crate::specs::EventGrammar::blame_event))]
+fn read_blame(alloc: Global, value: &Value) -> Result<Event, Cause>
+    ensures ok { IfOk result (λ e. blame_event (view value.now) ≡ Ok e) }
+    ensures err { IfErr result (λ cause. cause ≢ Cause.OutOfMemory → blame_event (view value.now) ≡ Err cause) }
+{
+    let client = read_client(alloc, value)?;
+    let (start, end) = read_places(value)?;
+    Ok(Event::Blame { client, start, end })
+}
+
+/// The range from `start` to `end`.
+#[tactic(auto, unfolding(crate::specs::EventGrammar::places))]
+fn read_places(value: &Value) -> Result<(u64, u64), Cause>
+    ensures { result ≡ places (view value.now) }
+{
+    let start = count_field(value, Field::Start)?;
+    let end = count_field(value, Field::End)?;
+    if end < start {
+        return Err(reversed(start, end));
+    }
+    Ok((start, end))
+}
+
+/// The cause of two counts of which the second is less.
+fn reversed(first: u64, second: u64) -> Cause
+    requires first { first < 2 ^ 53 }
+    requires second { second < 2 ^ 53 }
+    ensures { result ≡ Cause.Reversed (pos first) (pos second) }
+{
+    Cause::Reversed {
+        pos1: first as i64,
+        pos2: second as i64,
+    }
+}

@@ -1,0 +1,286 @@
+//! The sequencer: it numbers messages 1, 2, 3 and so on, and tells with each the minimum below which no
+//! joined connection will refer any more.
+
+ghost use Rattle.std.specs.Prelude.{◌≡◌, ◌+◌, pos, cond, Some, Ok, IfOk, IfErr, OnErr, map, find, option_copied};
+ghost use Rattle.ft_seqr.specs.Sequencer.{draft_kind, is_joined, join, least_ref, leave, nack_of, new_sequencer, next, notice, submit, submitted};
+ghost use Rattle.ft_seqr.specs.SequencerCalls.{IsLeaveFault, IsSubmitFault};
+
+use crate::nacks::{LeaveFault, Nack, SubmitFault};
+use ft_base::{OutOfMemory, Text};
+use ft_msg::{Body, Draft, Entry, Message, MsgKind};
+use std::alloc::Global;
+use std::marker::Model;
+
+/// A joined connection: its number, its name, its last reference number, and the client sequence
+/// number of its last message.
+#[derive(Drop)]
+struct Joined {
+    conn: u32,
+    name: Text,
+    ref_seq: u64,
+    client_seq: u64,
+}
+
+impl Model for Joined {
+    ghost use Rattle.ft_seqr.specs.Sequencer.{JoinedConnection};
+
+    ghost Value = { JoinedConnection };
+
+    ghost view = { λ a. record { conn = a.conn; name = a.name; ref_seq = a.ref_seq; client_seq = a.client_seq } };
+}
+
+impl Joined {
+    /// Whether it is that connection.
+    fn is(&self, conn: u32) -> bool
+        ensures { result ≡ is_joined conn self.now }
+    {
+        conn == self.conn
+    }
+
+    /// Takes the numbers of the draft, if it is that connection.
+    fn take_draft(&mut self, conn: u32, draft: &Draft)
+        ensures { self.new ≡ cond (is_joined conn self.old) (submitted draft.now self.old) self.old }
+    {
+        if self.is(conn) {
+            self.ref_seq = draft.ref_seq;
+            self.client_seq = draft.client_seq;
+        }
+    }
+
+    /// The message of its draft under that number, with 0 as its minimum.
+    ///
+    /// Answers `OutOfMemory` where there is no room for it, or a number of the draft is above 2^63 - 1.
+    fn entry(&self, number: u64, draft: &Draft) -> Result<Entry, OutOfMemory>
+        ensures { IfOk result (λ entry. entry ≡ record {
+          msg = record { client_id = Some self.now.name; seq = number; min = 0; client_seq = pos draft.now.client_seq; ref_seq = pos draft.now.ref_seq; kind = draft_kind draft.now.body; body = draft.now.body };
+          origin = self.now.conn;
+        }) }
+    {
+        Ok(Entry {
+            msg: Message {
+                client_id: Some(self.name.copy()?),
+                seq: number,
+                min: 0,
+                client_seq: signed(draft.client_seq)?,
+                ref_seq: signed(draft.ref_seq)?,
+                kind: draft_kind(&draft.body),
+                body: draft.body.copy()?,
+            },
+            origin: self.conn,
+        })
+    }
+}
+
+/// The number as a signed one.
+///
+/// Answers `OutOfMemory` where it is above 2^63 - 1.
+fn signed(number: u64) -> Result<i64, OutOfMemory>
+    ensures { IfOk result (λ z. z ≡ pos number) }
+{
+    if number > i64::MAX as u64 {
+        return Err(OutOfMemory);
+    }
+    Ok(number as i64)
+}
+
+/// The kind of the message of a draft with this body.
+fn draft_kind(body: &Body) -> MsgKind
+    ensures { result ≡ draft_kind body.now }
+{
+    match body {
+        Body::Nothing => MsgKind::Noop,
+        Body::Op(_) | Body::Elsewhere(_) => MsgKind::Op,
+    }
+}
+
+/// The joined connection of that number.
+fn find_joined(joined: &[Joined], conn: u32) -> Option<&Joined>
+    ensures { option_copied result ≡ find (is_joined conn) joined.now }
+{
+    for other in joined {
+        if other.is(conn) {
+            return Some(other);
+        }
+    }
+    None
+}
+
+/// The least last reference number of the joined connections, or the message's own number where none
+/// is joined.
+fn least_ref(number: u64, joined: &[Joined]) -> u64
+    ensures { result ≡ least_ref number joined.now }
+{
+    let [first, others @ ..] = joined else {
+        return number;
+    };
+    let mut least = first.ref_seq;
+    for other in others {
+        least = least.min(other.ref_seq);
+    }
+    least
+}
+
+/// Gives the connection of that number the numbers of its draft.
+fn take_draft(joined: &mut [Joined], conn: u32, draft: &Draft)
+    ensures { joined.new ≡ map (λ i. cond (is_joined conn i) (submitted draft.now i) i) joined.old }
+{
+    for other in joined.iter_mut() {
+        other.take_draft(conn, draft);
+    }
+}
+
+/// A sequencer: the number of the last message, its minimum, and the joined connections.
+#[derive(Drop)]
+pub struct Sequencer {
+    number: u64,
+    minimum: u64,
+    joined: Vec<Joined>,
+}
+
+impl Model for Sequencer {
+    ghost use Rattle.ft_seqr.specs.Sequencer.{NaiveSequencer};
+
+    ghost Value = { NaiveSequencer };
+
+    ghost view = { λ a. record { number = a.number; minimum = a.minimum; joined = a.joined.items } };
+}
+
+impl Sequencer {
+    /// The sequencer before the first message.
+    pub fn new(alloc: Global) -> Sequencer
+        ensures { result ≡ new_sequencer }
+    {
+        Sequencer {
+            number: 0,
+            minimum: 0,
+            joined: Vec::new(alloc),
+        }
+    }
+
+    /// Joins a connection, and gives the message that tells of it.
+    ///
+    /// Answers `OutOfMemory` where there is no room for them, or the number of the message would pass
+    /// 2^64 - 1, and then nothing changed.
+    pub fn join(&mut self, conn: u32, name: &Text) -> Result<Entry, OutOfMemory>
+        ensures ok { IfOk result (λ entry. join self.old conn name.now ≡ (self.new, entry)) }
+        ensures err { OnErr result (self.new ≡ self.old) }
+    {
+        let number = self.next_number()?;
+        let sender = name.copy()?;
+        self.joined.push(Joined {
+            conn,
+            name: name.copy()?,
+            ref_seq: self.minimum,
+            client_seq: 0,
+        })?;
+        self.advance(number);
+        Ok(self.notice(conn, sender, MsgKind::Join))
+    }
+
+    /// Takes the connection out, and gives the message that tells of it.
+    ///
+    /// Answers `NotJoined` exactly where it isn't joined, and `OutOfMemory` where there is no room for
+    /// the message, or its number would pass 2^64 - 1. Nothing changed then.
+    pub fn leave(&mut self, conn: u32) -> Result<Entry, LeaveFault>
+        ensures ok { IfOk result (λ entry. leave self.old conn ≡ Some (self.new, entry)) }
+        ensures fault { IfErr result (IsLeaveFault self.old conn) }
+        ensures err { OnErr result (self.new ≡ self.old) }
+    {
+        let Some(joined) = find_joined(self.joined.as_slice(), conn) else {
+            return Err(LeaveFault::NotJoined);
+        };
+        let sender = joined.name.copy()?;
+        let number = self.next_number()?;
+        self.joined.retain(|other| !other.is(conn));
+        self.advance(number);
+        Ok(self.notice(conn, sender, MsgKind::Leave))
+    }
+
+    /// Gives the draft of the connection its number, and gives its message.
+    ///
+    /// Answers `Nack` with the first reason that holds against the draft, and `OutOfMemory` where there
+    /// is no room for the message, or a number of it would pass 2^64 - 1, or one of the draft 2^63 - 1.
+    /// Nothing changed then.
+    pub fn submit(&mut self, conn: u32, draft: &Draft) -> Result<Entry, SubmitFault>
+        ensures ok { IfOk result (λ entry. submit self.old conn draft.now ≡ Ok (self.new, entry)) }
+        ensures fault { IfErr result (IsSubmitFault self.old conn draft.now) }
+        ensures err { OnErr result (self.new ≡ self.old) }
+    {
+        let Some(joined) = find_joined(self.joined.as_slice(), conn) else {
+            return Err(SubmitFault::Nack(Nack::NotJoined));
+        };
+        if let Some(nack) = self.nack(joined, draft)? {
+            return Err(SubmitFault::Nack(nack));
+        }
+        let number = self.next_number()?;
+        let sender = joined.conn;
+        let mut entry = joined.entry(number, draft)?;
+        take_draft(self.joined.as_mut_slice(), sender, draft);
+        self.advance(number);
+        entry.msg.min = self.minimum;
+        Ok(entry)
+    }
+
+    /// The first of four reasons to refuse the draft of the joined connection.
+    ///
+    /// Answers `OutOfMemory` where the number that it is to have would pass 2^64 - 1.
+    fn nack(&self, joined: &Joined, draft: &Draft) -> Result<Option<Nack>, OutOfMemory>
+        ensures { IfOk result (λ nack. nack ≡ nack_of self.now joined.now draft.now) }
+    {
+        let expected = joined.client_seq.checked_add(1).ok_or(OutOfMemory)?;
+        let got = draft.ref_seq;
+        if draft.client_seq != expected {
+            let got = draft.client_seq;
+            return Ok(Some(Nack::ClientSeq { expected, got }));
+        }
+        if got < self.minimum {
+            let min = self.minimum;
+            return Ok(Some(Nack::RefBelow { min, got }));
+        }
+        if got < joined.ref_seq {
+            let last = joined.ref_seq;
+            return Ok(Some(Nack::RefBack { last, got }));
+        }
+        if self.number < got {
+            let seq = self.number;
+            return Ok(Some(Nack::RefAhead { seq, got }));
+        }
+        Ok(None)
+    }
+
+    /// The number of the next message.
+    ///
+    /// Answers `OutOfMemory` where it would pass 2^64 - 1.
+    fn next_number(&self) -> Result<u64, OutOfMemory>
+        ensures { IfOk result (λ number. number ≡ self.now.number + 1) }
+    {
+        self.number.checked_add(1).ok_or(OutOfMemory)
+    }
+
+    /// Goes on to the next message, of that number, with the connections that are joined now.
+    fn advance(&mut self, number: u64)
+        requires { number ≡ self.old.number + 1 }
+        ensures { self.new ≡ next self.old.joined self.old }
+    {
+        self.number = number;
+        self.minimum = least_ref(number, self.joined.as_slice());
+    }
+
+    /// The message that tells of a connection that comes or goes.
+    fn notice(&self, conn: u32, name: Text, word: MsgKind) -> Entry
+        ensures { result ≡ notice self.now conn name word }
+    {
+        Entry {
+            msg: Message {
+                client_id: Some(name),
+                seq: self.number,
+                min: self.minimum,
+                client_seq: -1,
+                ref_seq: -1,
+                kind: word,
+                body: Body::Nothing,
+            },
+            origin: conn,
+        }
+    }
+}
