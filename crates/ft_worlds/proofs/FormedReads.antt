@@ -43,7 +43,7 @@ events-are-formed bytes ev e = let v = fault_step cause_of_json (read_line bytes
 text-formed : (text : Characters) → IsFormedText text
 text-formed text d e = drafts-are-formed (encode_utf8_all text) d e
 
-submission-formed : (e : Event) → IsFormedSubmission e
+pub submission-formed : (e : Event) → IsFormedSubmission e
 submission-formed (events.Start client from) = tt
 submission-formed (events.Connect client) = tt
 submission-formed (events.Drop client) = tt

@@ -23,5 +23,7 @@ pub mod NameLaws
 pub mod LoadLaws
 pub mod FormedLaws
 pub mod FormedReads
+mod KeptLoad
 pub mod SummaryLaws
 pub mod ValidLaws
+pub mod MadeWorlds

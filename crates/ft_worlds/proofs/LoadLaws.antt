@@ -22,11 +22,11 @@ use Rattle.ft_worlds.proofs.WorldLaws.{of-log, world-reached}
 
 -- ---- numbers
 
-leads-count : (es : List Entry) (n m k l : ℕ) → Leads n m es k l → k ≡ n + length es
+pub leads-count : (es : List Entry) (n m k l : ℕ) → Leads n m es k l → k ≡ n + length es
 leads-count [] n m k l h = let e = h.0 in omega (arith, e)
 leads-count (e ∷ es) n m k l h = let ih = leads-count es (n + 1) e.msg.min k l h.1 in omega (arith, ih)
 
-each-costs : (es : List Entry) → length es ≤ total entry_cost es
+pub each-costs : (es : List Entry) → length es ≤ total entry_cost es
 each-costs [] = omega arith
 each-costs (e ∷ es) = let ih = each-costs es in omega (arith, ih)
 
@@ -69,7 +69,7 @@ client-sized w r c s less =
     }
 
 -- what holds of each that costs at most what all cost
-each-below : {A : Type 0} (f : A → ℕ) (P Q : A → Type 0) (n : ℕ) → ((x : A) → P x → f x ≤ n → Q x) → (xs : List A) → total f xs ≤ n → Each P xs → Each Q xs
+pub each-below : {A : Type 0} (f : A → ℕ) (P Q : A → Type 0) (n : ℕ) → ((x : A) → P x → f x ≤ n → Q x) → (xs : List A) → total f xs ≤ n → Each P xs → Each Q xs
 each-below f P Q n h [] l e = e
 each-below f P Q n h (x ∷ xs) l e = (h x e.0 (omega (arith, l)), each-below f P Q n h xs (omega (arith, l)) e.1)
 

@@ -1,13 +1,10 @@
 -- The summary of an idle client of a world is valid and well cut.
-use Rattle.std.proofs.Common.{◌≡◌, ℕ, zero, suc, ◌+◌, ◌≤◌, ◌^◌, max, Bool, true, false, not, ◌||◌, bytes_eq, List, [], ◌∷◌, fold, length, take, Some, find, refl, sym, ◌∙◌, ap, subst, arith}
-use Rattle.std.specs.List.{list_any}
+use Rattle.std.proofs.Common.{◌≡◌, ℕ, zero, suc, ◌+◌, ◌≤◌, ◌^◌, max, true, List, [], ◌∷◌, fold, length, take, Some, find, refl, sym, ◌∙◌, ap, subst, arith}
 use Rattle.std.proofs.lemmas.List.{length-take}
-use Rattle.ft_base.proofs.Booleans.{both}
 use Rattle.ft_msg.specs.declared.messages.Entry.{Entry}
 use Rattle.ft_msg.specs.WellFormed.{IsWellFormedBody}
 use Rattle.ft_op.specs.Document.{Document, empty}
 use Rattle.ft_props.specs.Element.{ListElement}
-use Rattle.ft_sumdoc.specs.Counts.{are_distinct_names}
 use Rattle.ft_laws.specs.Sequencing.{Each}
 use Rattle.ft_worlds.specs.FormedLogs.{AllMayBeTaken}
 use Rattle.ft_worlds.specs.LogOrder.{IsOrder}
@@ -68,7 +65,7 @@ greatest-each : (es : List Entry) (a : ℕ) → Each (λ e. e.origin ≤ fold (�
 greatest-each [] a = tt
 greatest-each (e ∷ es) a = (let h = greatest-high es (max a e.origin) in omega (arith, h), greatest-each es (max a e.origin))
 
-greatest-low : (es : List Entry) (a m : ℕ) → a ≤ m → Each (λ e. e.origin ≤ m) es → fold (λ n e. max n e.origin) a es ≤ m
+pub greatest-low : (es : List Entry) (a m : ℕ) → a ≤ m → Each (λ e. e.origin ≤ m) es → fold (λ n e. max n e.origin) a es ≤ m
 greatest-low [] a m l h = l
 greatest-low (e ∷ es) a m l h = greatest-low es (max a e.origin) m (let o = h.0 in omega (arith, l, o)) h.1
 

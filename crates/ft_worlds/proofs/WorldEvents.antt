@@ -161,7 +161,7 @@ module _ (F : Type 0) where
       (each-found (λ (a : NamedClient). a.connects ≤ count) (is_client i.name) clients c i.found h.counted).0 h
 
   -- the name under which a client is found is its own
-  found-name : (clients : List NamedClient) (c : NamedClient) (i : IsFound clients c) → i.name ≡ c.name
+  pub found-name : (clients : List NamedClient) (c : NamedClient) (i : IsFound clients c) → i.name ≡ c.name
   found-name clients c i = (bytes_eq-Decides i.name c.name).0 (each-found (λ (a : NamedClient). Unit {0}) (is_client i.name) clients c i.found (units clients)).1
     where
       units : (cs : List NamedClient) → Each (λ (a : NamedClient). Unit {0}) cs
@@ -531,7 +531,7 @@ module _ (F : Type 0) where
   dropped w c None = Err Parted
   dropped w c (Some conn) = dropped_left c (left conn w)
 
-  left-found : (w : NaiveWorld) (conn : ℕ) (j : JoinedConnection) → find (is_joined conn) w.sequencer.joined ≡ Some j → left conn w ≡ Some (logged (gone w.sequencer conn j) w)
+  pub left-found : (w : NaiveWorld) (conn : ℕ) (j : JoinedConnection) → find (is_joined conn) w.sequencer.joined ≡ Some j → left conn w ≡ Some (logged (gone w.sequencer conn j) w)
   left-found w conn j f = ap (λ (o : Option (NaiveSequencer × Entry)). elim o [ None ↦ None | Some p ↦ Some (logged p w) ]) (leave-found w.sequencer conn j f)
 
   -- the world after a message of a client's connection, with the client in its place
@@ -750,6 +750,25 @@ module _ (F : Type 0) where
   ticketing w c many None = Err Parted
   ticketing w c many (Some conn) = ticketed w c conn (wanted_count many (length c.client.queue))
 
+  -- the first drafts of a client that was found are accepted
+  pub found-submits : (w : NaiveWorld) (r : IsReachedWorld 0 w) (c : NamedClient) → Meets w r c → (conn : ℕ) → conn_of c.client.link ≡ Some conn → (n : ℕ)
+      → IsSubmitted r.owner c w conn (take n c.client.queue) (drop n c.client.queue) c.client
+  found-submits w r c s conn h n =
+      let x = c.client in
+      let b : IsBetween r.owner c w = record {
+        base = r.base;
+        others = others-all c.name (Serves r.owner (length w.names) w.sequencer w.log) w.clients
+            r.clients;
+        guests = r.guests;
+        named = r.named;
+        found = s.found;
+        distinct = r.distinct;
+      } in
+      let same = total-placed (debt w.log) (debt w.log) s.found.name c c w.clients r.distinct s.found.found (sym (found-name w.clients c s.found))
+      (same-debts s.found.name (debt w.log) w.clients) in
+      let first : IsPaid w.load w.log (map (in_place (record c { client = x })) w.clients) = let p = r.paid in omega (arith, same, p) in
+      submits-all r.owner c (take n x.queue) (drop n x.queue) w conn x s.rest b h (sym (take-append-drop n x.queue)) s.served first s.formed r.bodies
+
   ticket-turns : (w : NaiveWorld) (r : IsReachedWorld 0 w) (name : Characters) (many : HowMany) → (F → MayBeTaken w (event.Ticket name many))
       → Goes (event.Ticket name many) (of_client w name (λ c. ticket_client w c many))
   ticket-turns w r name many may = of-client w name (event.Ticket name many) (λ c. ticket_client w c many) refl one
@@ -758,19 +777,7 @@ module _ (F : Type 0) where
       some c s conn h None = refl
       some c s conn h (Some n) =
           let x = c.client in
-          let b : IsBetween r.owner c w = record {
-            base = r.base;
-            others = others-all c.name (Serves r.owner (length w.names) w.sequencer w.log) w.clients
-                r.clients;
-            guests = r.guests;
-            named = r.named;
-            found = s.found;
-            distinct = r.distinct;
-          } in
-          let same = total-placed (debt w.log) (debt w.log) s.found.name c c w.clients r.distinct s.found.found (sym (found-name w.clients c s.found))
-          (same-debts s.found.name (debt w.log) w.clients) in
-          let first : IsPaid w.load w.log (map (in_place (record c { client = x })) w.clients) = let p = r.paid in omega (arith, same, p) in
-          let m = submits-all r.owner c (take n x.queue) (drop n x.queue) w conn x s.rest b h (sym (take-append-drop n x.queue)) s.served first s.formed r.bodies in
+          let m = found-submits w r c s conn h n in
           let d : NamedClient = record c { client = record x { queue = drop n x.queue } } in
           let here : IsReachedWorld 1 (with_client d m.v) = record {
             owner = r.owner;

@@ -7,3 +7,4 @@ pub mod Worlds
 pub mod Reports
 pub mod Offers
 pub mod NewNames
+pub mod MadeWorlds
