@@ -1,6 +1,17 @@
-pub mod NamedMember
-pub mod ConnectionCounts
-pub mod OneStep
-pub mod Keeps
-pub mod Events
-pub mod Deliveries
+mod RefusalKinds
+mod Placing
+mod Numbers
+mod OwnEvents
+mod ServiceSteps
+mod ConnectionNames
+mod LinkEvents
+mod Submissions
+mod Processed
+mod Happenings
+mod Naming
+mod Entering
+mod SessionAnswers
+mod GuestEvents
+mod Asking
+mod Stepping
+mod Counting

@@ -1,3 +1,9 @@
 pub mod Outputs
-pub mod ClientEvents
 pub mod Worlds
+pub mod Services
+pub mod Readings
+pub mod Deliveries
+pub mod Asked
+pub mod Entrances
+pub mod Loads
+pub mod Steps

@@ -1,16 +1,16 @@
--- Worlds of replicas as contracts see them, and for which clients they stand.
-use Rattle.std.specs.Prelude.{◌≡◌, ℕ, ◌≤◌, Bool, true, false, bytes_eq, map, List, [], ◌∷◌, Result, Ok, Err, ⊤}
+-- Worlds of replicas as contracts see them, for which naive worlds they stand, and what they answer.
+use Rattle.std.specs.Prelude.{◌≡◌, ℕ, Bool, true, false, bytes_eq, find, map, take, List, [], ◌∷◌, ◌++◌, Some, Result, Ok, Err, ⊤}
 use Rattle.ft_props.specs.Properties.{Characters}
 use Rattle.ft_msg.specs.declared.messages.Entry.{Entry}
 use Rattle.ft_msg.specs.Answers.{ReplicaState, RunsFor}
-use Rattle.ft_msg.specs.Client.{NaiveClient}
-use Rattle.ft_msg.specs.Reached.{IsReached}
-use Rattle.ft_sumdoc.specs.Counts.{are_distinct_names}
-use Rattle.ft_msg.specs.WellFormed.{IsWellFormedMessage}
+use Rattle.ft_seqr.specs.declared.events.Event.{Event}
 use Rattle.ft_seqr.specs.declared.refusals.Refusal.{Refusal}
 use Rattle.ft_seqr.specs.declared.refusals.Refusal.TheVariants.{OutOfMemory, Stopped}
-use Rattle.ft_seqr.specs.World.{NamedClient}
-use Rattle.ft_session.specs.ClientEvents.{NaiveClients}
+use Rattle.ft_seqr.specs.Sequencer.{NaiveSequencer}
+use Rattle.ft_seqr.specs.World.{NaiveWorld, NamedClient, NamedGuest, Output, Stepped, greatest_origin, in_place, is_client, step}
+use Rattle.ft_worlds.specs.MadeWorlds.{IsMade}
+use Rattle.ft_session.specs.declared.outputs.Out.{Out}
+use Rattle.ft_session.specs.Outputs.{Tells}
 
 -- a replica in a world: its name, its state, and how often it connected
 pub record MemberState : Type 0 where
@@ -18,43 +18,76 @@ pub record MemberState : Type 0 where
   pub replica : ReplicaState
   pub connects : ℕ
 
--- a world: its replicas, its log, how many connections were made, and whether it stopped
-pub record WorldState : Type 0 where
-  pub members : List MemberState
+-- what orders the messages: the sequencer, the names of the connections by number, and all messages
+pub record ServiceState : Type 0 where
+  pub sequencer : NaiveSequencer
+  pub names : List Characters
   pub log : List Entry
-  pub conns : ℕ
+
+-- a session: its replicas, its guests, and what orders their messages
+pub record SessionState : Type 0 where
+  pub members : List MemberState
+  pub guests : List NamedGuest
+  pub service : ServiceState
+
+-- a world: its session, its load, and whether it stopped
+pub record WorldState : Type 0 where
+  pub session : SessionState
+  pub load : ℕ
   pub stopped : Bool
 
 -- whether it is the replica of that name
 abbrev pub has_name : Characters → MemberState → Bool
 has_name name m = bytes_eq name m.name
 
--- the replica stands for the client, which steps made
-pub record MemberStands (m : MemberState) (n : NamedClient) : Type 0 where
-  pub name : m.name ≡ n.name
-  pub replica : RunsFor m.replica n.client
-  pub reached : IsReached n.client
-  pub connects : m.connects ≡ n.connects
+-- what orders the messages of a naive world
+abbrev pub service_of : NaiveWorld → ServiceState
+service_of w = record { sequencer = w.sequencer; names = w.names; log = w.log }
+
+-- ---- for what they stand
+
+-- the replica stands for the client, and knows the connections in the first messages of the log, which the client processed
+pub record MemberStands (log : List Entry) (m : MemberState) (c : NamedClient) : Type 0 where
+  pub name : m.name ≡ c.name
+  pub replica : RunsFor m.replica c.client
+  pub connects : m.connects ≡ c.connects
+  pub origin : m.replica.origin ≡ greatest_origin (take c.client.doc.number log)
 
 -- each replica stands for the client at its place
-abbrev pub MembersStand : List MemberState → List NamedClient → Type 0
-MembersStand [] [] = ⊤
-MembersStand (m ∷ ms) (n ∷ ns) = MemberStands m n × MembersStand ms ns
-MembersStand _ _ = ⊥
+abbrev pub MembersStand : List Entry → List MemberState → List NamedClient → Type 0
+MembersStand log [] [] = ⊤
+MembersStand log (m ∷ ms) (c ∷ cs) = MemberStands log m c × MembersStand log ms cs
+MembersStand log _ _ = ⊥
 
--- the names of clients
-abbrev pub names_of : List NamedClient → List Characters
-names_of cs = map (λ c. c.name) cs
+-- the session stands for the naive world
+pub record SessionStands (s : SessionState) (w : NaiveWorld) : Type 0 where
+  pub members : MembersStand w.log s.members w.clients
+  pub guests : s.guests ≡ w.guests
+  pub service : s.service ≡ service_of w
 
--- the world runs and stands for the clients, which have names of their own, their log and their connections
-pub record WorldStands (w : WorldState) (n : NaiveClients) : Type 0 where
+-- the world runs and stands for the naive world, which well-formed events made of the empty one
+pub record WorldStands (w : WorldState) (n : NaiveWorld) : Type 0 where
   pub running : w.stopped ≡ false
-  pub members : MembersStand w.members n.clients
-  pub distinct : are_distinct_names (names_of n.clients) ≡ true
-  pub log : w.log ≡ n.log
-  pub conns : w.conns ≡ n.conns
+  pub session : SessionStands w.session n
+  pub made : IsMade n
+  pub load : w.load ≡ n.load
 
--- what a refusal says: want of memory, a stop before, or that the clients refuse
+-- a replica and what orders the messages stand for a client of a naive world, which well-formed events made
+pub record Meets (w : NaiveWorld) (c : NamedClient) (m : MemberState) (s : ServiceState) : Type 0 where
+  pub made : IsMade w
+  pub found : find (is_client c.name) w.clients ≡ Some c
+  pub member : MemberStands w.log m c
+  pub service : s ≡ service_of w
+
+-- they do for some client
+pub record MeetsSome (m : MemberState) (s : ServiceState) : Type 0 where
+  pub world : NaiveWorld
+  pub client : NamedClient
+  pub meets : Meets world client m s
+
+-- ---- what they answer
+
+-- what a refusal says: want of memory, a stop before, or that the naive world refuses
 pub data RefusalKind : Type 0 where
   WantsMemory : RefusalKind
   HadStopped : RefusalKind
@@ -66,49 +99,73 @@ refusal_kind OutOfMemory = WantsMemory
 refusal_kind Stopped = HadStopped
 refusal_kind _ = Refused
 
--- what it means where nothing had stopped: the first, or where the clients refuse the second
+-- what it means where nothing had stopped: the first, or where the naive world refuses the second
 abbrev pub MeansOf : RefusalKind → Type 0 → Type 0 → Type 0
 MeansOf WantsMemory wants refuses = wants
 MeansOf HadStopped wants refuses = ⊥
 MeansOf Refused wants refuses = refuses
 
--- the answer of a replica in a world to a step of its client, as that of the event
-abbrev pub AnswersOne : ReplicaState → ReplicaState → Result NaiveClient Refusal → Result (Unit {0}) Refusal → Type 0
-AnswersOne old new step (Ok _) = (y : NaiveClient) × (step ≡ Ok y) × RunsFor new y
-AnswersOne old new step (Err why) = MeansOf (refusal_kind why) ⊤ ((new ≡ old) × (step ≡ Err why))
+-- what an event of one client left behind: the client in its place, and its messages at the end of the log
+pub record LeavesClient (w : NaiveWorld) (c : NamedClient) (m : MemberState) (s : ServiceState) (v : NaiveWorld) : Type 0 where
+  pub client : NamedClient
+  pub name : client.name ≡ c.name
+  pub member : MemberStands v.log m client
+  pub clients : v.clients ≡ map (in_place client) w.clients
+  pub guests : v.guests ≡ w.guests
+  pub service : s ≡ service_of v
+  pub later : List Entry
+  pub log : v.log ≡ w.log ++ later
+  pub load : v.load ≡ w.load
+
+-- the answer of one replica, and of what orders the messages, to an event of its client that becomes this
+abbrev pub AnswersStepped : NaiveWorld → NamedClient → MemberState → MemberState → ServiceState → ServiceState → Stepped → Result Out Refusal → Type 0
+AnswersStepped w c old new before after stepped (Ok out) = (p : NaiveWorld × Output) × (stepped ≡ Ok p) × LeavesClient w c new after p.0 × Tells p.1 out
+AnswersStepped w c old new before after stepped (Err why) = MeansOf (refusal_kind why) ⊤ ((new ≡ old) × (after ≡ before) × (stepped ≡ Err why))
+
+-- the same for each client for which they stand
+pub record AnswersClient (event : NaiveWorld → NamedClient → Stepped) (old new : MemberState) (before after : ServiceState) (result : Result Out Refusal) : Type 0 where
+  pub client : (w : NaiveWorld) (c : NamedClient) → Meets w c old before → AnswersStepped w c old new before after (event w c) result
+
+-- the answer to an event that changes nothing and becomes this
+abbrev pub AnswersAsked : NaiveWorld → Stepped → Result Out Refusal → Type 0
+AnswersAsked w stepped (Ok out) = (output : Output) × (stepped ≡ Ok (w, output)) × Tells output out
+AnswersAsked w stepped (Err why) = MeansOf (refusal_kind why) ⊤ (stepped ≡ Err why)
 
 -- the same for each client for which the replica stands
-pub record AnswersMember (step : NaiveClient → Result NaiveClient Refusal) (old new : ReplicaState) (result : Result (Unit {0}) Refusal) : Type 0 where
-  pub client : (x : NaiveClient) → IsReached x → RunsFor old x → AnswersOne old new (step x) result
+pub record AnswersReading (event : NaiveWorld → NamedClient → Stepped) (m : MemberState) (s : ServiceState) (result : Result Out Refusal) : Type 0 where
+  pub client : (w : NaiveWorld) (c : NamedClient) → Meets w c m s → AnswersAsked w (event w c) result
 
--- the answer of a world that stood for clients to an event: Ok where they take it, and then the world stands for the clients
--- after it; their refusal, and then nothing changed; or want of memory, and then it has stopped
-abbrev pub AnswersRunning : WorldState → WorldState → Result NaiveClients Refusal → Result (Unit {0}) Refusal → Type 0
-AnswersRunning old new step (Ok _) = (n : NaiveClients) × (step ≡ Ok n) × WorldStands new n
-AnswersRunning old new step (Err why) = MeansOf (refusal_kind why) (new.stopped ≡ true) ((new ≡ old) × (step ≡ Err why))
+-- the session stands for some naive world, which well-formed events made
+pub record StandsForSome (s : SessionState) : Type 0 where
+  pub world : NaiveWorld
+  pub made : IsMade world
+  pub stands : SessionStands s world
 
--- the answer of any world: as all clients answer for which it stands, or that it had stopped
-pub record AnswersEvent (event : NaiveClients → Result NaiveClients Refusal) (old new : WorldState) (result : Result (Unit {0}) Refusal) : Type 0 where
-  pub runs : (n : NaiveClients) → WorldStands old n → AnswersRunning old new (event n) result
+-- the answer of a session that stood for a naive world to an event that becomes this
+abbrev pub AnswersSession : SessionState → SessionState → NaiveWorld → Stepped → Result Out Refusal → Type 0
+AnswersSession old new w stepped (Ok out) = (p : NaiveWorld × Output) × (stepped ≡ Ok p) × SessionStands new p.0 × (p.0.load ≡ w.load) × Tells p.1 out
+AnswersSession old new w stepped (Err why) = MeansOf (refusal_kind why) ⊤ ((new ≡ old) × (stepped ≡ Err why))
+
+-- the same for each naive world for which it stands
+pub record AnswersHappening (event : NaiveWorld → Stepped) (old new : SessionState) (result : Result Out Refusal) : Type 0 where
+  pub world : (w : NaiveWorld) → IsMade w → SessionStands old w → AnswersSession old new w (event w) result
+
+-- the answer of a world that stood for a naive one to an event: what the naive world writes, and then the world stands for the
+-- naive one after it; its refusal, and then nothing changed; or want of memory, and then the world has stopped
+abbrev pub AnswersRunning : WorldState → WorldState → Stepped → Result Out Refusal → Type 0
+AnswersRunning old new stepped (Ok out) = (p : NaiveWorld × Output) × (stepped ≡ Ok p) × WorldStands new p.0 × Tells p.1 out
+AnswersRunning old new stepped (Err why) = MeansOf (refusal_kind why) (new.stopped ≡ true) ((new ≡ old) × (stepped ≡ Err why))
+
+-- the answer of any world: as each naive world answers for which it stands, or that it had stopped
+pub record AnswersEvent (e : Event) (old new : WorldState) (result : Result Out Refusal) : Type 0 where
+  pub runs : (w : NaiveWorld) → WorldStands old w → AnswersRunning old new (step w e) result
   pub stopped : old.stopped ≡ true → (result ≡ Err Stopped) × (new ≡ old)
 
+-- the world stands for some naive world unless it stopped
+abbrev pub RunsForSome : WorldState → Type 0
+RunsForSome w = w.stopped ≡ false → (n : NaiveWorld) × WorldStands w n
+
 -- whether it is want of memory
-abbrev pub is_want : Result (Unit {0}) Refusal → Bool
-is_want (Ok _) = false
-is_want (Err OutOfMemory) = true
-is_want (Err _) = false
-
--- how many connections an event made that makes so many where it is taken
-abbrev pub made_by : Result (Unit {0}) Refusal → ℕ → ℕ
-made_by (Ok _) more = more
-made_by (Err _) more = 0
-
--- each message is well formed
-abbrev pub AreWellFormed : List Entry → Type 0
-AreWellFormed [] = ⊤
-AreWellFormed (entry ∷ entries) = IsWellFormedMessage entry.msg × AreWellFormed entries
-
--- each number is at most n
-abbrev pub AllWithin : ℕ → List ℕ → Type 0
-AllWithin n [] = ⊤
-AllWithin n (k ∷ ks) = (k ≤ n) × AllWithin n ks
+abbrev pub is_want : Refusal → Bool
+is_want OutOfMemory = true
+is_want _ = false

@@ -1,11 +1,17 @@
-//! Sessions: worlds of clients and guests over one sequencer. So far what an event writes, and worlds
-//! of clients that connect, go offline and process messages.
+//! Sessions: worlds of clients and guests over one sequencer, and what their events write.
 #![tactic(auto)]
 
-mod answers;
-pub mod laws;
+mod asked;
+mod deliveries;
+mod edits;
+mod entrances;
+mod guests;
+mod links;
+mod loads;
 mod members;
 pub mod outputs;
+mod service;
+mod session;
 pub mod world;
 
 pub use ft_seqr::{Event, HowMany, Refusal};

@@ -1,44 +1,63 @@
-//! Steps of one replica of a world.
+//! The replicas of a session.
 
-ghost use Rattle.std.specs.Prelude.{◌≡◌, ◌+◌};
-ghost use Rattle.ft_msg.specs.Client.{connect, drop_link};
-ghost use Rattle.ft_seqr.specs.Refusals.{refusal_of_link};
-ghost use Rattle.ft_session.specs.ClientEvents.{as_event, deliver_step};
-ghost use Rattle.ft_session.specs.Worlds.{AnswersMember, AreWellFormed};
+ghost use Rattle.std.specs.Prelude.{◌≡◌, ◌++◌, Some, IfOk, OnErr, bytes_eq, codes, decimal, option_copied};
+ghost use Rattle.std.specs.List.{list_any, position};
+ghost use Rattle.ft_seqr.specs.World.{conn_of, connection_name};
+ghost use Rattle.ft_session.specs.Worlds.{has_name};
 
-use ft_msg::{Entry, Link, Replica};
-use ft_seqr::Refusal;
+use ft_base::{OutOfMemory, Text};
+use ft_msg::{Link, Replica};
+use std::alloc::Global;
+use std::marker::Model;
 
-// Connects.
-pub(crate) fn connect_one<R: Replica>(replica: &mut R, conn: u32) -> Result<(), Refusal>
-    ensures { AnswersMember (λ x. as_event refusal_of_link (connect x conn)) (R.state replica.old) (R.state replica.new) result }
-{
-    replica.connect(conn)?;
-    Ok(())
+/// A replica of a session.
+#[derive(Drop)]
+pub(crate) struct Member<R: Replica> {
+    pub(crate) name: Text,
+    pub(crate) replica: R,
+    /// How often it connected.
+    pub(crate) connects: u64,
 }
 
-// Goes offline.
-pub(crate) fn drop_one<R: Replica>(replica: &mut R) -> Result<(), Refusal>
-    ensures { AnswersMember (λ x. as_event refusal_of_link (drop_link x)) (R.state replica.old) (R.state replica.new) result }
-{
-    replica.drop_link()?;
-    Ok(())
+impl<R: Replica> Model for Member<R> {
+    ghost use Rattle.ft_session.specs.Worlds.{MemberState};
+
+    ghost Value = { MemberState };
+
+    ghost view = { λ m. record { name = m.name; replica = R.state m.replica; connects = m.connects } };
 }
 
-// Processes the next message of the log.
-pub(crate) fn deliver_one<R: Replica>(replica: &mut R, log: &[Entry]) -> Result<(), Refusal>
-    requires { AreWellFormed log.now }
-    ensures { AnswersMember (deliver_step log.now) (R.state replica.old) (R.state replica.new) result }
+/// Whether a replica has the name.
+pub(crate) fn has_member<R: Replica>(members: &[Member<R>], name: &Text) -> bool
+    ensures { result ≡ list_any (has_name name.now) members.now }
 {
-    let numbers = replica.numbers();
-    if let Link::Offline = numbers.link {
-        return Err(Refusal::NotConnected);
+    members.iter().any(|member| name.same(&member.name))
+}
+
+/// The place of the replica of that name.
+pub(crate) fn place_of<R: Replica>(members: &[Member<R>], name: &Text) -> Option<usize>
+    ensures { result ≡ position (has_name name.now) members.now }
+{
+    members.iter().position(|member| name.same(&member.name))
+}
+
+/// The connection of a link.
+pub(crate) fn conn_of(link: Link) -> Option<u32>
+    ensures { result ≡ conn_of link }
+{
+    match link {
+        Link::Offline => None,
+        Link::Joining { conn } | Link::Online { conn } => Some(conn),
     }
-    let Some(entry) = log.get(numbers.seq as usize) else {
-        return Err(Refusal::NothingToDeliver { have: 0 });
-    };
-    if let Err(fault) = replica.process(entry) {
-        return Err(Refusal::of_process(entry.msg.seq, fault));
-    }
-    Ok(())
+}
+
+/// The name of the k-th connection of a client or guest.
+///
+/// Answers `OutOfMemory` where there is no room for it.
+pub(crate) fn connection_name(alloc: Global, name: &Text, k: u64) -> Result<Text, OutOfMemory>
+    ensures { IfOk result (λ text. text ≡ connection_name name.now k) }
+{
+    let name = name.as_str();
+    let text = format!(in alloc; "{name}/{k}")?;
+    Text::new(alloc, text.as_str())
 }

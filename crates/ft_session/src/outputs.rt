@@ -32,6 +32,13 @@ impl Values {
         }
     }
 
+    /// These values. It takes no memory.
+    pub fn of(items: Vec<ValText>) -> Values
+        ensures { result ≡ items.items }
+    {
+        Values { items }
+    }
+
     /// Adds one at the end.
     ///
     /// Answers `OutOfMemory` where there is no room for it, and then the list is as it was.

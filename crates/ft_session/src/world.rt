@@ -1,120 +1,161 @@
 //! Worlds.
 
-ghost use Rattle.std.specs.Prelude.{◌≡◌, ◌+◌, ◌-◌, ◌^◌, ◌<◌, false, [], bytes_eq};
-ghost use Rattle.std.specs.List.{position};
-ghost use Rattle.ft_session.specs.ClientEvents.{connect_event, deliver_event, drop_event};
-ghost use Rattle.ft_session.specs.Worlds.{AnswersEvent};
+ghost use Rattle.std.specs.Prelude.{◌≡◌, ◌+◌, ◌≤◌, ◌^◌, IfOk};
+ghost use Rattle.ft_seqr.specs.WellFormedEvent.{IsWellFormedEvent};
+ghost use Rattle.ft_seqr.specs.World.{NaiveWorld, new_world};
+ghost use Rattle.ft_session.specs.Outputs.{counts_of};
+ghost use Rattle.ft_session.specs.Steps.{AnswersStep, StandsAtLoad, further_numbers};
+ghost use Rattle.ft_session.specs.Worlds.{AnswersEvent, WorldStands, is_want};
 
-use crate::answers::{connections_made, is_want};
-use crate::members::{connect_one, deliver_one, drop_one};
-use ft_base::Text;
-use ft_msg::{Entry, Replica};
-use ft_seqr::Refusal;
+use crate::loads::event_load;
+use crate::outputs::{Counts, Out};
+use crate::session::Session;
+use ft_base::OutOfMemory;
+use ft_msg::{Numbers, Replica};
+use ft_seqr::{Event, Refusal};
 use std::alloc::Global;
 use std::marker::Model;
 
-// A replica of a world.
-#[derive(Drop)]
-struct Member<R> {
-    name: Text,
-    replica: R,
-    connects: u32,
-}
+/// The greatest load of a world.
+const LOAD_LIMIT: u64 = 4_503_599_627_370_496;
 
-/// Replicas that edit one document over one log. Contracts see it as the states of its replicas.
+/// Clients and guests that edit one document over one log, which a sequencer orders. Contracts see it
+/// as its replicas, its guests, its sequencer with the names and the log, its load, and whether it
+/// stopped; it stands for a naive world, in which each client is the one for which its replica stands.
 #[derive(Drop)]
 pub struct World<R: Replica> {
-    members: Vec<Member<R>>,
-    log: Vec<Entry>,
-    conns: u32,
+    session: Session<R>,
+    load: u64,
     stopped: bool,
 }
 
 impl<R: Replica> Model for World<R> {
-    ghost use Rattle.std.specs.Prelude.{map};
-    ghost use Rattle.ft_session.specs.Worlds.{AllWithin, AreWellFormed, WorldState};
+    ghost use Rattle.ft_session.specs.Worlds.{RunsForSome, WorldState};
 
     ghost Value = { WorldState };
 
-    ghost view = { λ w. record {
-      members = map (λ m. record { name = m.name; replica = R.state m.replica; connects = m.connects }) w.members.items;
-      log = w.log.items;
-      conns = w.conns;
-      stopped = w.stopped;
-    } };
+    ghost view = { λ w. record { session = w.session; load = w.load; stopped = w.stopped } };
 
-    ghost invariant = { λ w. AllWithin w.conns (map (λ m. m.connects) w.members.items) × AreWellFormed w.log.items };
+    ghost invariant = { λ w. RunsForSome (record { session = w.session; load = w.load; stopped = w.stopped }) };
 }
 
-impl<R: Replica> World<R> {
-    /// A world without replicas. It takes no memory.
+/// What an event that was taken wrote, and the load after it.
+#[derive(Drop)]
+pub(crate) struct Taken {
+    out: Out,
+    load: u64,
+}
+
+impl<R: Replica + Drop> World<R> {
+    /// A world before the first event. It takes no memory.
     pub fn new(alloc: Global) -> World<R>
-        ensures { result ≡ record { members = []; log = []; conns = 0; stopped = false } }
+        ensures { WorldStands result new_world }
     {
         World {
-            members: Vec::new(alloc),
-            log: Vec::new(alloc),
-            conns: 0,
+            session: Session::new(alloc),
+            load: 0,
             stopped: false,
         }
     }
 
-    /// The client of that name connects.
-    pub fn connect(&mut self, name: &Text) -> Result<(), Refusal>
-        requires { self.old.conns < 2 ^ 32 - 1 }
-        ensures { AnswersEvent (connect_event name.now) self.old self.new result }
+    /// An event happens. What it writes is what the naive world writes.
+    ///
+    /// Answers `Stopped` exactly where an earlier event found no memory; then the refusal of the naive
+    /// world, and nothing changed; and `OutOfMemory` where there is no room, or the load would pass
+    /// 2^52, after which the world has stopped.
+    pub fn step(&mut self, event: &Event) -> Result<Out, Refusal>
+        requires { IsWellFormedEvent event.now }
+        ensures { AnswersEvent event.now self.old self.new result }
     {
         if self.stopped {
             return Err(Refusal::Stopped);
         }
-        let Some(place) = place_of(self.members.as_slice(), name) else {
-            return Err(Refusal::UnknownClient);
-        };
-        let member = &mut self.members[place];
-        let answer = connect_one(&mut member.replica, self.conns + 1);
-        let made = connections_made(&answer);
-        member.connects += made;
-        self.conns += made;
-        self.stopped = is_want(&answer);
-        answer
+        match take(&mut self.session, self.load, event) {
+            Ok(taken) => {
+                self.load = taken.load;
+                Ok(taken.out)
+            }
+            Err(why) => {
+                self.stopped = is_want(why);
+                Err(why)
+            }
+        }
     }
 
-    /// The client of that name goes offline.
-    pub fn drop_link(&mut self, name: &Text) -> Result<(), Refusal>
-        ensures { AnswersEvent (drop_event name.now) self.old self.new result }
+    /// The counts of the client with the greatest number, 0 without clients. It takes no memory.
+    pub fn counts(&self) -> Counts
+        ensures { (w : NaiveWorld) → WorldStands self.now w → result ≡ counts_of w }
     {
-        if self.stopped {
-            return Err(Refusal::Stopped);
-        }
-        let Some(place) = place_of(self.members.as_slice(), name) else {
-            return Err(Refusal::UnknownClient);
+        let mut furthest = Furthest {
+            seq: 0,
+            counts: Counts {
+                skipped: 0,
+                other: 0,
+            },
         };
-        let member = &mut self.members[place];
-        let answer = drop_one(&mut member.replica);
-        self.stopped = is_want(&answer);
-        answer
-    }
-
-    /// The client of that name processes the next message of the log.
-    pub fn deliver(&mut self, name: &Text) -> Result<(), Refusal>
-        ensures { AnswersEvent (deliver_event name.now) self.old self.new result }
-    {
-        if self.stopped {
-            return Err(Refusal::Stopped);
+        for member in &self.session.members {
+            furthest = furthest_of(furthest, member.replica.numbers());
         }
-        let Some(place) = place_of(self.members.as_slice(), name) else {
-            return Err(Refusal::UnknownClient);
-        };
-        let member = &mut self.members[place];
-        let answer = deliver_one(&mut member.replica, self.log.as_slice());
-        self.stopped = is_want(&answer);
-        answer
+        furthest.counts
     }
 }
 
-// The place of the client of that name.
-fn place_of<R>(members: &[Member<R>], name: &Text) -> Option<usize>
-    ensures { result ≡ position (λ m. bytes_eq name.now m.name) members.now }
+// The greatest number of a client, and the counts of the first client that has it.
+#[derive(Clone, Copy)]
+struct Furthest {
+    seq: u64,
+    counts: Counts,
+}
+
+// The first, unless these numbers are further.
+fn furthest_of(furthest: Furthest, numbers: Numbers) -> Furthest
+    ensures { result ≡ further_numbers furthest numbers }
 {
-    members.iter().position(|member| name.same(&member.name))
+    if furthest.seq < numbers.seq {
+        Furthest {
+            seq: numbers.seq,
+            counts: Counts {
+                skipped: numbers.skipped,
+                other: numbers.other,
+            },
+        }
+    } else {
+        furthest
+    }
+}
+
+// An event happens, and its load is added.
+fn take<R: Replica + Drop>(
+    session: &mut Session<R>,
+    load: u64,
+    event: &Event,
+) -> Result<Taken, Refusal>
+    requires formed { IsWellFormedEvent event.now }
+    requires stands { StandsAtLoad session.old load }
+    ensures { AnswersStep event.now session.old session.new load result }
+{
+    let more = event_load(session.service.alloc, event)?;
+    let load = raised(load, more)?;
+    let out = session.happen(event)?;
+    Ok(Taken { out, load })
+}
+
+// A load with so much more.
+//
+// Answers `OutOfMemory` where it would pass the greatest one.
+fn raised(load: u64, more: u64) -> Result<u64, OutOfMemory>
+    ensures sum { IfOk result (λ sum. sum ≡ load + more) }
+    ensures low { IfOk result (λ sum. sum ≤ 2 ^ 52) }
+{
+    match load.checked_add(more) {
+        Some(sum) if sum <= LOAD_LIMIT => Ok(sum),
+        _ => Err(OutOfMemory),
+    }
+}
+
+// Whether it is want of memory.
+fn is_want(why: Refusal) -> bool
+    ensures { result ≡ is_want why }
+{
+    matches!(why, Refusal::OutOfMemory)
 }

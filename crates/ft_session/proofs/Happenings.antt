@@ -1,0 +1,187 @@
+-- What one client answers to its event, its session answers.
+use Rattle.std.proofs.Common.{◌≡◌, ◌≤◌, ℕ, zero, suc, nat_le, true, List, [], ◌∷◌, ◌++◌, Some, None, Result, Ok, Err, find, length, map, refl, sym, ◌∙◌, ap, subst, arith, append-nil, slice_get}
+use Rattle.std.proofs.lemmas.Iterator.Adapters.{position_from-zero}
+use Rattle.std.specs.List.{position}
+use Rattle.std.specs.Prelude.{IsTrue}
+use Rattle.std.proofs.Math.ListN.{get_or, set}
+use Rattle.std.proofs.lemmas.Bool.Decides.{nat_tests}
+use Rattle.std.proofs.lemmas.List.Quantifiers.{position-Some}
+use Rattle.std.proofs.lemmas.Option.{slice_get_read}
+use Rattle.std.proofs.lemmas.Slice.Eq.{bytes_eq-Decides}
+use Rattle.ft_base.proofs.Booleans.{both}
+use Rattle.ft_op.specs.WellFormed.{is_count, is_range}
+use Rattle.ft_props.specs.Properties.{Characters}
+use Rattle.ft_seqr.specs.declared.events.Event.{Event}
+use Rattle.ft_seqr.specs.declared.events.Event.TheVariants as event
+use Rattle.ft_seqr.specs.declared.refusals.Refusal.{Refusal}
+use Rattle.ft_seqr.specs.declared.refusals.Refusal.TheVariants.{UnknownClient}
+use Rattle.ft_seqr.specs.World.{NaiveWorld, NamedClient, NamedGuest, Stepped, happen, in_place, is_client, of_client}
+use Rattle.ft_worlds.specs.MadeWorlds.{IsMade}
+use Rattle.ft_worlds.proofs.MadeWorlds.{made-distinct, made-within, placed-same}
+use Rattle.ft_session.specs.declared.outputs.Out.{Out}
+use Rattle.ft_session.specs.Entrances.{client_of}
+use Rattle.ft_session.specs.Worlds.{AnswersAsked, AnswersClient, AnswersHappening, AnswersReading, AnswersSession, AnswersStepped, LeavesClient, Meets, MeetsSome, MembersStand, MemberStands, MemberState, ServiceState, SessionState, SessionStands, StandsForSome, has_name, refusal_kind}
+use Rattle.ft_session.proofs.RefusalKinds.{means-weaker}
+use Rattle.ft_session.proofs.Placing.{Found, found, not_found, stand-grown}
+
+-- ---- what is asked
+
+-- nothing changes
+pub leaves-same : (w : NaiveWorld) (c : NamedClient) (m : MemberState) (s : ServiceState) → Meets w c m s → LeavesClient w c m s w
+leaves-same w c m s meets = record {
+  client = c;
+  name = refl;
+  member = meets.member;
+  clients = sym (placed-same w meets.made c.name c meets.found);
+  guests = refl;
+  service = meets.service;
+  later = [];
+  log = sym (append-nil w.log);
+  load = refl;
+}
+
+asked-stepped : (w : NaiveWorld) (c : NamedClient) (m : MemberState) (s : ServiceState) (stepped : Stepped) (result : Result Out Refusal) → Meets w c m s
+    → AnswersAsked w stepped result → AnswersStepped w c m m s s stepped result
+asked-stepped w c m s stepped (Ok out) meets (output, e, t) = ((w, output), e, leaves-same w c m s meets, t)
+asked-stepped w c m s stepped (Err why) meets h = means-weaker (refusal_kind why) (λ q. (refl, refl, q)) h
+
+pub reading-answers : (f : NaiveWorld → NamedClient → Stepped) (m : MemberState) (s : ServiceState) (result : Result Out Refusal) → AnswersReading f m s result
+    → AnswersClient f m m s s result
+reading-answers f m s result a = record { client = λ w c meets. asked-stepped w c m s (f w c) result meets (a.client w c meets) }
+
+-- ---- the event of a client
+
+-- what becomes of an event of a client that is found
+pub of-found : (w : NaiveWorld) (n : Characters) (c : NamedClient) (f : NamedClient → Stepped) → n ≡ c.name → find (is_client c.name) w.clients ≡ Some c → of_client w n f ≡ f c
+of-found w n c f e h = ap (λ o. elim o [ None ↦ Err UnknownClient | Some d ↦ f d ]) (ap (λ k. find (is_client k) w.clients) e ∙ h)
+
+some-same : {A : Type 0} (x y : A) → Some x ≡ Some y → x ≡ y
+some-same x y h = (cc)
+
+-- what a client answers to its step, it answers to its event
+pub as_event : (e : Event) (n : Characters) (f : NaiveWorld → NamedClient → Stepped) (m new : MemberState) (before after : ServiceState) (result : Result Out Refusal)
+    → ((w : NaiveWorld) → happen w e ≡ of_client w n (f w)) → Some n ≡ Some m.name → AnswersClient f m new before after result
+    → AnswersClient (λ w c. happen w e) m new before after result
+as_event e n f m new before after result same named a = record {
+  client = λ w c meets.
+      subst (λ stepped. AnswersStepped w c m new before after stepped result) (sym (same w ∙ of-found w n c (f w) (some-same n m.name named ∙ meets.member.name) meets.found)) (a.client w c meets);
+}
+
+-- nobody has the name of the event's client
+of-unknown : (w : NaiveWorld) (n name : Characters) (f : NamedClient → Stepped) → Some n ≡ Some name → find (is_client name) w.clients ≡ None → of_client w n f ≡ Err UnknownClient
+of-unknown w n name f e h = ap (λ o. elim o [ None ↦ Err UnknownClient | Some d ↦ f d ]) (ap (λ k. find (is_client k) w.clients) (some-same n name e) ∙ h)
+
+pub happen-unknown : (w : NaiveWorld) (e : Event) (name : Characters) → client_of e ≡ Some name → find (is_client name) w.clients ≡ None → happen w e ≡ Err UnknownClient
+happen-unknown w (event.Connect n) name q h = of-unknown w n name _ q h
+happen-unknown w (event.Drop n) name q h = of-unknown w n name _ q h
+happen-unknown w (event.Edit n op) name q h = of-unknown w n name _ q h
+happen-unknown w (event.Ticket n many) name q h = of-unknown w n name _ q h
+happen-unknown w (event.Deliver n many) name q h = of-unknown w n name _ q h
+happen-unknown w (event.Noop n) name q h = of-unknown w n name _ q h
+happen-unknown w (event.Show n) name q h = of-unknown w n name _ q h
+happen-unknown w (event.Queue n) name q h = of-unknown w n name _ q h
+happen-unknown w (event.Compact n) name q h = of-unknown w n name _ q h
+happen-unknown w (event.Summary n) name q h = of-unknown w n name _ q h
+happen-unknown w (event.Offer n text) name q h = of-unknown w n name _ q h
+happen-unknown w (event.Overlap n label a b) name q h = of-unknown w n name _ q h
+happen-unknown w (event.Blame n a b) name q h = of-unknown w n name _ q h
+happen-unknown w (event.Authors n) name q h = of-unknown w n name _ q h
+happen-unknown w (event.Start n from) name q h = (cc)
+happen-unknown w event.History name q h = (cc)
+happen-unknown w (event.Guest n) name q h = (cc)
+happen-unknown w (event.Submit n text) name q h = (cc)
+happen-unknown w (event.Part n) name q h = (cc)
+
+-- ---- the session
+
+module _ (e : Event) (name : Characters) (ms : List MemberState) (guests : List NamedGuest) (before : ServiceState) where
+  abbrev pub whole : List MemberState → ServiceState → SessionState
+  whole members service = record { members = members; guests = guests; service = service }
+
+  pub happened-to_none : client_of e ≡ Some name → position (has_name name) ms ≡ None → AnswersHappening (λ w. happen w e) (whole ms before) (whole ms before) (Err UnknownClient)
+  happened-to_none q h = record {
+    world = λ w made s. (refl, happen-unknown w e name q (not_found w.log name 0 ms w.clients s.members (sym (position_from-zero (has_name name) ms) ∙ h)));
+  }
+
+  module _ (i : ℕ) (m : MemberState) (place : position (has_name name) ms ≡ Some i) (at : slice_get ms i ≡ Some m) where
+    -- the client of that name
+    here : (w : NaiveWorld) → IsMade w → SessionStands (whole ms before) w → Found w.log name ms i w.clients
+    here w made s =
+        let (j, q, f) = found w.log name 0 i ms w.clients s.members (made-distinct w made) (sym (position_from-zero (has_name name) ms) ∙ place) in
+        let k : j ≡ i = omega (arith, q) in
+        subst (λ l. Found w.log name ms l w.clients) k f
+
+    same-state : (a b : MemberState) → slice_get ms i ≡ Some a → slice_get ms i ≡ Some b → a ≡ b
+    same-state a b h k = (cc)
+
+    meets-here : (w : NaiveWorld) (made : IsMade w) (s : SessionStands (whole ms before) w) → Meets w (here w made s).member m before
+    meets-here w made s =
+        let f = here w made s in
+        record {
+          made = made;
+          found = subst (λ n. find (is_client n) w.clients ≡ Some f.member) (sym f.named) f.found;
+          member = subst (λ a. MemberStands w.log a f.member) (same-state f.state m f.at at) f.stands;
+          service = s.service;
+        }
+
+    pub meets-some : StandsForSome (whole ms before) → MeetsSome m before
+    meets-some s = record { world = s.world; client = (here s.world s.made s.stands).member; meets = meets-here s.world s.made s.stands }
+
+    module _ (new : MemberState) (after : ServiceState) where
+      -- the session after it
+      stands-after : (w v : NaiveWorld) (made : IsMade w) (s : SessionStands (whole ms before) w) → LeavesClient w (here w made s).member new after v
+          → SessionStands (whole (set ms i new) after) v
+      stands-after w v made s l =
+          let grown : MembersStand (w.log ++ l.later) ms w.clients = stand-grown w.log l.later ms w.clients (made-within w made) s.members in
+          let later : MembersStand v.log ms w.clients = subst (λ log. MembersStand log ms w.clients) (sym l.log) grown in
+          let (j, q, f) = found v.log name 0 i ms w.clients later (made-distinct w made) (sym (position_from-zero (has_name name) ms) ∙ place) in
+          let k : j ≡ i = omega (arith, q) in
+          record {
+            members = subst (λ cs. MembersStand v.log (set ms i new) cs) (sym l.clients)
+                (subst (λ n. MembersStand v.log (set ms n new) (map (in_place l.client) w.clients)) k (f.put new l.client (l.name ∙ (here w made s).named) l.member));
+            guests = s.guests ∙ sym l.guests;
+            service = l.service;
+          }
+
+      set-same : new ≡ m → whole (set ms i new) before ≡ whole ms before
+      set-same h = ap (λ l. whole l before) (ap (λ a. set ms i a) h ∙ put-back i ms at)
+        where
+          put-back : (k : ℕ) (xs : List MemberState) → slice_get xs k ≡ Some m → set xs k m ≡ xs
+          put-back k [] g = refl
+          put-back zero (x ∷ xs) g = let p : x ≡ m = (cc) in ap (λ a. a ∷ xs) (sym p)
+          put-back (suc k) (x ∷ xs) g = ap (λ l. x ∷ l) (put-back k xs g)
+
+      stepped : (w : NaiveWorld) (made : IsMade w) (s : SessionStands (whole ms before) w) (result : Result Out Refusal)
+          → AnswersStepped w (here w made s).member m new before after (happen w e) result
+          → AnswersSession (whole ms before) (whole (set ms i new) after) w (happen w e) result
+      stepped w made s (Ok out) (p, q, l, t) = (p, q, stands-after w p.0 made s l, l.load, t)
+      stepped w made s (Err why) h = means-weaker (refusal_kind why)
+          (λ p. (ap (λ a. whole (set ms i new) a) p.1 ∙ set-same p.0, p.2)) h
+
+      pub happened-to : (result : Result Out Refusal) → AnswersClient (λ w c. happen w e) m new before after result
+          → AnswersHappening (λ w. happen w e) (whole ms before) (whole (set ms i new) after) result
+      happened-to result a = record { world = λ w made s. stepped w made s result (a.client w (here w made s).member (meets-here w made s)) }
+
+-- ---- ranges
+
+pub in-range : (a b : ℕ) → IsTrue (is_range a b) → a ≤ b
+in-range a b h = let p : nat_le a b ≡ true = (both (nat_le a b) (is_count b) h).0 in grind (arith, nat_tests, p)
+
+-- the member at the place of a name has it
+module _ (name : Characters) (i : ℕ) (ms : List MemberState) (m : MemberState) (h : position (has_name name) ms ≡ Some i) (k : m ≡ get_or ms i m) where
+  pub at-place : slice_get ms i ≡ Some m
+  at-place = slice_get_read ms (length ms) i m refl (position-Some (has_name name) ms i m h).0 k
+
+  pub placed-name : name ≡ m.name
+  placed-name = (bytes_eq-Decides name m.name).0 (ap (has_name name) k ∙ (position-Some (has_name name) ms i m h).1)
+
+-- what a session answers, by its view
+pub by-session : {event : NaiveWorld → Stepped} {s old new : SessionState} {result : Result Out Refusal} → s ≡ old → AnswersHappening event s new result → AnswersHappening event old new result
+by-session {event} {s} {old} {new} {result} e a = subst (λ o. AnswersHappening event o new result) e a
+
+-- what a session answers that doesn't change
+pub unchanged-session : {event : NaiveWorld → Stepped} {s old : SessionState} {result : Result Out Refusal} → s ≡ old → AnswersHappening event s s result → AnswersHappening event old old result
+unchanged-session {event} {s} {old} {result} e a = subst (λ o. AnswersHappening event o o result) e a
+
+pub stands-session : {s old : SessionState} → s ≡ old → StandsForSome old → StandsForSome s
+stands-session {s} {old} e h = subst StandsForSome (sym e) h

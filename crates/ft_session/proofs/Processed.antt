@@ -1,0 +1,472 @@
+-- A client processes the next messages of the log.
+use Rattle.std.proofs.Common.{◌≡◌, ◌≤◌, ◌<◌, ℕ, zero, suc, ◌+◌, max, cond, nat_eq, nat_le, true, false, Bool, List, [], ◌∷◌, ◌++◌, drop, fold, length, take, Option, Some, None, Result, Ok, Err, is_some, not, refl, sym, ◌∙◌, ap, subst, arith, append-nil}
+use Rattle.std.specs.Prelude.{encode_utf8_all, ⊤}
+use Rattle.std.proofs.lemmas.Bool.Decides.{nat_tests}
+use Rattle.ft_laws.proofs.NumberTests.{same_number}
+use Rattle.std.proofs.Math.ListN.{drop_of_length-le, get_or}
+use Rattle.std.proofs.Math.Seq.{drop-cons}
+use Rattle.ft_laws.specs.Sequencing.{Each}
+use Rattle.ft_summaries.proofs.Lists.{each-found}
+use Rattle.ft_props.specs.Properties.{Characters}
+use Rattle.ft_msg.specs.declared.faults.ProcessFault.{ProcessFault}
+use Rattle.ft_msg.specs.declared.faults.ProcessFault.TheVariants as processing
+use Rattle.ft_msg.specs.declared.faults.Cause.{Cause}
+use Rattle.ft_msg.specs.declared.messages.Entry.{Entry}
+use Rattle.ft_msg.specs.declared.messages.Message.{Message}
+use Rattle.ft_msg.specs.MessageGrammar.{message}
+use Rattle.ft_msg.specs.declared.views.Numbers.{Numbers}
+use Rattle.ft_msg.specs.Answers.{Answers, ReplicaState, RunsFor, numbers_of, process_fault_kind}
+use Rattle.ft_msg.specs.Client.{NaiveClient}
+use Rattle.ft_msg.specs.Compacted.{StandsFor}
+use Rattle.ft_msg.specs.Process.{process}
+use Rattle.ft_msg.specs.WellFormed.{IsWellFormedMessage}
+use Rattle.ft_msg.proofs.LinkSteps.{stands-link}
+use Rattle.ft_msg.proofs.ReachedSteps.{reached-process}
+use Rattle.ft_seqr.specs.declared.events.HowMany.{HowMany}
+use Rattle.ft_seqr.specs.declared.events.HowMany.TheVariants.{All, Num}
+use Rattle.ft_seqr.specs.declared.refusals.Refusal.{Refusal}
+use Rattle.ft_seqr.specs.declared.refusals.Refusal.TheVariants.{Foreign, NotConnected, NothingToDeliver, OutOfMemory, OutOfOrder}
+use Rattle.ft_seqr.specs.Refusals.{refusal_of_cause, refusal_of_process}
+use Rattle.ft_seqr.specs.SameMessage.{same_message}
+use Rattle.ft_seqr.specs.World.{NaiveWorld, NamedClient, Nothing, Stepped, ahead_of, conn_of, deliver_client, greatest_origin, is_client, now, offer_client, offer_message, offer_next, processed, wanted_count, with_client}
+use Rattle.ft_worlds.proofs.MadeWorlds.{made-formed, made-takes, made-within}
+use Rattle.ft_session.specs.declared.outputs.Out.{Out}
+use Rattle.ft_session.specs.declared.outputs.Out.TheVariants as out
+use Rattle.ft_session.specs.Deliveries.{CanProcess, HasProcessed, Processes, offered_entry}
+use Rattle.ft_session.specs.Readings.{read_or_refused}
+use Rattle.ft_session.specs.Worlds.{AnswersClient, AnswersStepped, LeavesClient, MeansOf, Meets, MeetsSome, MemberStands, MemberState, ServiceState, refusal_kind}
+use Rattle.ft_session.proofs.Numbers.{process-number}
+use Rattle.ft_session.proofs.RefusalKinds.{means-weaker, some-none}
+use Rattle.ft_session.proofs.OwnEvents.{meets-reached, with_replica}
+
+-- ---- entries in order
+
+-- one entry, and then the others
+pub processed-first : (x y : NaiveClient) (entry : Entry) (entries : List Entry) → processed x (entry ∷ entries) ≡ Ok y
+    → (z : NaiveClient) × (process x entry ≡ Ok z) × (processed z entries ≡ Ok y)
+processed-first x y entry entries h = by (process x entry) h
+  where
+    by : (r : Result NaiveClient ProcessFault) → elim r as (λ _. Result NaiveClient Refusal) [ Err fault ↦ Err (refusal_of_process entry.msg.seq fault) | Ok z ↦ processed z entries ] ≡ Ok y
+        → (z : NaiveClient) × (r ≡ Ok z) × (processed z entries ≡ Ok y)
+    by (Err fault) g = (cc)
+    by (Ok z) g = (z, refl, g)
+
+pub processed-number : (entries : List Entry) (x y : NaiveClient) → processed x entries ≡ Ok y → y.doc.number ≡ x.doc.number + length entries
+processed-number [] x y h = let e : x ≡ y = (cc) in let n = ap (λ (z : NaiveClient). z.doc.number) e in omega (arith, n)
+processed-number (entry ∷ entries) x y h =
+    let (z, e, f) = processed-first x y entry entries h in
+    let one = process-number entry x z e in
+    let rest = processed-number entries z y f in
+    omega (arith, one, rest)
+
+-- ---- a replica
+
+-- one message
+module _ (entry : Entry) (old new : ReplicaState) where
+  first-ok : (x y : NaiveClient) → processed x (entry ∷ []) ≡ Ok y → process x entry ≡ Ok y
+  first-ok x y h =
+      let (z, e, f) = processed-first x y entry [] h in
+      let k : z ≡ y = same-ok z y (Ok z) refl f in
+      e ∙ ap Ok k
+    where
+      same-ok : (z y : NaiveClient) (r : Result NaiveClient Refusal) → r ≡ Ok z → r ≡ Ok y → z ≡ y
+      same-ok z y r h k = (cc)
+
+  process-same : (r : Result NaiveClient ProcessFault) (z y : NaiveClient) → r ≡ Ok z → r ≡ Ok y → z ≡ y
+  process-same r z y h k = (cc)
+
+  never-faults : {A : Type 0} (r : Result NaiveClient ProcessFault) (y : NaiveClient) (fault : ProcessFault) → r ≡ Ok y → r ≡ Err fault → A
+  never-faults r y fault h k = (cc)
+
+  pub one-processed : Answers process_fault_kind entry.origin (λ x. process x entry) old new (Ok tt) → (x y : NaiveClient) → Processes old (entry ∷ []) x y
+      → HasProcessed old new (entry ∷ []) y
+  one-processed a x y p =
+      let (z, e, f) = a.client x p.reached p.runs.client in
+      let k : z ≡ y = process-same (process x entry) z y e (first-ok x y p.takes) in
+      record { runs = record { running = a.state.runs; client = subst (StandsFor new.client) k f.client }; origin = a.state.origin }
+
+  -- its client takes it, so the replica wants memory where it doesn't
+  pub one-wanting : CanProcess old (entry ∷ []) → (fault : ProcessFault) → Answers process_fault_kind entry.origin (λ x. process x entry) old new (Err fault)
+      → (n : ℕ) → refusal_of_process n fault ≡ OutOfMemory
+  one-wanting can processing.OutOfMemory a n = refl
+  one-wanting can (processing.Stopped seq) a n = some-none old.stop seq can.processes.runs.running a.state.0
+  one-wanting can (processing.OutOfOrder expected got) a n =
+      never-faults (process can.before entry) can.after (processing.OutOfOrder expected got) (first-ok can.before can.after can.processes.takes)
+      (a.client can.before can.processes.reached can.processes.runs.client)
+  one-wanting can (processing.BadNumbers field kept got) a n =
+      never-faults (process can.before entry) can.after (processing.BadNumbers field kept got) (first-ok can.before can.after can.processes.takes)
+      (a.client can.before can.processes.reached can.processes.runs.client)
+  one-wanting can processing.NotSent a n =
+      never-faults (process can.before entry) can.after processing.NotSent (first-ok can.before can.after can.processes.takes)
+      (a.client can.before can.processes.reached can.processes.runs.client)
+
+abbrev one_processed : Entry → Result NaiveClient ProcessFault → Result NaiveClient Refusal
+one_processed entry o = elim o as (λ _. Result NaiveClient Refusal) [ Err fault ↦ Err (refusal_of_process entry.msg.seq fault) | Ok z ↦ Ok z ]
+
+-- one message, and then the others
+pub processes-next : (r : ReplicaState) (entry : Entry) (entries : List Entry) (x y : NaiveClient) → IsWellFormedMessage entry.msg → Processes r (entry ∷ entries) x y
+    → (z : NaiveClient) × (Processes r (entry ∷ []) x z × ((new : ReplicaState) → RunsFor new z → Processes new entries z y))
+processes-next r entry entries x y formed p =
+    let (z, e, f) = processed-first x y entry entries p.takes in (
+      z,
+      (
+        record { reached = p.reached; runs = p.runs; takes = ap (one_processed entry) e },
+        λ new runs. record { reached = reached-process x z entry formed p.reached e; runs = runs; takes = f },
+      ),
+    )
+
+-- the rest of a list at a place in it, and behind its end
+pub rest-at : {A : Type 0} (es : List A) (i : ℕ) (e : A) → i < length es → e ≡ get_or es i e → drop i es ≡ e ∷ drop (i + 1) es
+rest-at es i e l h = drop-cons es i e l ∙ (ap (λ x. x ∷ drop (suc i) es) (sym h) ∙ (let k : suc i ≡ i + 1 = omega arith in ap (λ n. e ∷ drop n es) k))
+
+pub none-left : {A : Type 0} (es : List A) (i : ℕ) → length es ≤ i → drop i es ≡ []
+none-left es i l = drop_of_length-le es l
+
+-- the loop over entries: what is known before one of them
+pub record StillProcesses (old now : ReplicaState) (entries rest : List Entry) : Type 0 where
+  pub client : (x y : NaiveClient) → Processes old entries x y → (z : NaiveClient) × Processes now rest z y
+  pub origin : fold (λ n (e : Entry). max n e.origin) now.origin rest ≡ fold (λ n (e : Entry). max n e.origin) old.origin entries
+  pub formed : Each (λ (e : Entry). IsWellFormedMessage e.msg) rest
+
+module _ (old now : ReplicaState) (entries : List Entry) (entry : Entry) (rest : List Entry) (s : StillProcesses old now entries (entry ∷ rest)) where
+  pub still-can : CanProcess old entries → CanProcess now (entry ∷ [])
+  still-can can =
+      let (z, p) = s.client can.before can.after can.processes in
+      let (v, q) = processes-next now entry rest z can.after s.formed.0 p in
+      record { before = z; after = v; processes = q.0; formed = (s.formed.0, tt) }
+
+  pub still-processes : (new : ReplicaState) → ((x y : NaiveClient) → Processes now (entry ∷ []) x y → HasProcessed now new (entry ∷ []) y) → CanProcess old entries
+      → StillProcesses old new entries rest
+  still-processes new f can = record {
+    client = λ x y p.
+        let (z, q) = s.client x y p in
+        let (v, k) = processes-next now entry rest z y s.formed.0 q in
+        (v, k.1 new (f z v k.0).runs);
+    origin =
+        let (z, q) = s.client can.before can.after can.processes in
+        let (v, k) = processes-next now entry rest z can.after s.formed.0 q in
+        ap (λ n. fold (λ n (e : Entry). max n e.origin) n rest) (f z v k.0).origin ∙ s.origin;
+    formed = s.formed.1;
+  }
+
+pub all-processed : (old now : ReplicaState) (entries : List Entry) → StillProcesses old now entries [] → (x y : NaiveClient) → Processes old entries x y → HasProcessed old now entries y
+all-processed old now entries s x y p =
+    let (z, q) = s.client x y p in
+    let k : z ≡ y = same-client z y (Ok z) refl q.takes in
+    record { runs = subst (RunsFor now) k q.runs; origin = s.origin }
+  where
+    same-client : (z y : NaiveClient) (r : Result NaiveClient Refusal) → r ≡ Ok z → r ≡ Ok y → z ≡ y
+    same-client z y r h k = (cc)
+
+-- ---- the log
+
+take-none : {A : Type 0} (n : ℕ) → take {A = A} n [] ≡ []
+take-none zero = refl
+take-none (suc n) = refl
+
+take-more : {A : Type 0} (k n : ℕ) (xs : List A) → take (k + n) xs ≡ take k xs ++ take n (drop k xs)
+take-more zero n xs = let e : 0 + n ≡ n = omega arith in ap (λ i. take i xs) e
+take-more (suc k) n [] = take-none (suc k + n) ∙ sym (take-none n)
+take-more (suc k) n (x ∷ xs) = let e : suc k + n ≡ suc (k + n) = omega arith in ap (λ i. take i (x ∷ xs)) e ∙ ap (λ l. x ∷ l) (take-more k n xs)
+
+fold-more : (n : ℕ) (xs ys : List Entry) → fold (λ n (e : Entry). max n e.origin) n (xs ++ ys) ≡ fold (λ n (e : Entry). max n e.origin) (fold (λ n (e : Entry). max n e.origin) n xs) ys
+fold-more n [] ys = refl
+fold-more n (x ∷ xs) ys = fold-more (max n x.origin) xs ys
+
+module _ (P : Entry → Type 0) where
+  each-taken : (n : ℕ) (es : List Entry) → Each P es → Each P (take n es)
+  each-taken zero es h = tt
+  each-taken (suc n) [] h = tt
+  each-taken (suc n) (e ∷ es) h = (h.0, each-taken n es h.1)
+
+  each-dropped : (k : ℕ) (es : List Entry) → Each P es → Each P (drop k es)
+  each-dropped zero es h = h
+  each-dropped (suc k) [] h = tt
+  each-dropped (suc k) (e ∷ es) h = each-dropped k es h.1
+
+take-length : {A : Type 0} (n : ℕ) (xs : List A) → n ≤ length xs → length (take n xs) ≡ n
+take-length zero xs h = refl
+take-length (suc n) [] h = absurd (omega (arith, h))
+take-length (suc n) (x ∷ xs) h = ap suc (take-length n xs (omega (arith, h)))
+
+-- ---- the event
+
+module _ (m : MemberState) (s : ServiceState) where
+  -- the log beyond the replica's number
+  abbrev pub rest_of : List Entry
+  rest_of = drop m.replica.client.doc.number s.log
+
+  same-rest : (w : NaiveWorld) (c : NamedClient) → Meets w c m s → rest_of ≡ ahead_of w c.client
+  same-rest w c meets =
+      ap (λ k. drop k s.log) (stands-link m.replica.client c.client meets.member.replica.client).number ∙ ap (λ (a : ServiceState). drop c.client.doc.number a.log) meets.service
+
+  pub same-link : (w : NaiveWorld) (c : NamedClient) → Meets w c m s → m.replica.client.link ≡ c.client.link
+  same-link w c meets = (stands-link m.replica.client c.client meets.member.replica.client).link
+
+  -- a replica's number is within the log
+  pub number-within : MeetsSome m s → m.replica.client.doc.number ≤ length s.log
+  number-within some =
+      let w = some.world in
+      let c = some.client in
+      let meets = some.meets in
+      let within = (each-found (λ (b : NamedClient). b.client.doc.number ≤ length w.log) (is_client c.name) w.clients c meets.found (made-within w meets.made)).0 in
+      let number = (stands-link m.replica.client c.client meets.member.replica.client).number in
+      let log = ap (λ (a : ServiceState). length a.log) meets.service in
+      omega (arith, within, number, log)
+
+  module _ (conn n : ℕ) (h : conn_of m.replica.client.link ≡ Some conn) (fits : n ≤ length rest_of) where
+    -- what a client has next is what it takes
+    takes : (w : NaiveWorld) (c : NamedClient) → Meets w c m s → (y : NaiveClient) × Processes m.replica (take n rest_of) c.client y
+    takes w c meets =
+        let q = same-rest w c meets in
+        let (y, e) = made-takes w meets.made c.name c conn n meets.found (ap conn_of (sym (same-link w c meets)) ∙ h) (subst (λ (es : List Entry). n ≤ length es) q fits) in
+        (y, record { reached = meets-reached w c m s meets; runs = meets.member.replica; takes = ap (λ (es : List Entry). processed c.client (take n es)) q ∙ e })
+
+    pub can-process : MeetsSome m s → CanProcess m.replica (take n rest_of)
+    can-process some =
+        let (y, p) = takes some.world some.client some.meets in
+        record {
+          before = some.client.client;
+          after = y;
+          processes = p;
+          formed = each-taken (λ (e : Entry). IsWellFormedMessage e.msg) n rest_of (each-dropped (λ (e : Entry). IsWellFormedMessage e.msg) m.replica.client.doc.number s.log
+              (subst (Each (λ (e : Entry). IsWellFormedMessage e.msg)) (sym (ap (λ (a : ServiceState). a.log) some.meets.service)) (made-formed some.world some.meets.made)));
+        }
+
+    -- a client after it
+    pub member-processed : (w : NaiveWorld) (c : NamedClient) (y : NaiveClient) (new : ReplicaState) → Meets w c m s → processed c.client (take n rest_of) ≡ Ok y
+        → HasProcessed m.replica new (take n rest_of) y → MemberStands w.log (with_replica m new) (record c { client = y })
+    member-processed w c y new meets e p =
+        let k = c.client.doc.number in
+        let q = same-rest w c meets in
+        let count : y.doc.number ≡ k + n = processed-number (take n rest_of) c.client y e ∙ ap (λ i. k + i) (take-length n rest_of fits) in
+        record {
+          name = meets.member.name;
+          replica = p.runs;
+          connects = meets.member.connects;
+          origin = p.origin ∙ ap (λ i. fold (λ n (e : Entry). max n e.origin) i (take n rest_of)) meets.member.origin
+              ∙ ap (λ (es : List Entry). fold (λ n (e : Entry). max n e.origin) (greatest_origin (take k w.log)) (take n es)) q
+              ∙ sym (fold-more 0 (take k w.log) (take n (drop k w.log))) ∙ ap greatest_origin (sym (take-more k n w.log)) ∙ ap (λ i. greatest_origin (take i w.log)) (sym count);
+        }
+
+    -- so it changes alone
+    pub leaves-processed : (w : NaiveWorld) (c : NamedClient) (y : NaiveClient) (new : ReplicaState) → Meets w c m s → processed c.client (take n rest_of) ≡ Ok y
+        → HasProcessed m.replica new (take n rest_of) y → LeavesClient w c (with_replica m new) s (with_client (record c { client = y }) w)
+    leaves-processed w c y new meets e p = record {
+      client = record c { client = y };
+      name = refl;
+      member = member-processed w c y new meets e p;
+      clients = refl;
+      guests = refl;
+      service = meets.service;
+      later = [];
+      log = sym (append-nil w.log);
+      load = refl;
+    }
+
+    pub process-all : (w : NaiveWorld) (c : NamedClient) (new : ReplicaState) → Meets w c m s
+        → ((x y : NaiveClient) → Processes m.replica (take n rest_of) x y → HasProcessed m.replica new (take n rest_of) y)
+        → (y : NaiveClient) × (processed c.client (take n (ahead_of w c.client)) ≡ Ok y) × LeavesClient w c (with_replica m new) s (with_client (record c { client = y }) w)
+    process-all w c new meets f =
+        let (y, p) = takes w c meets in
+        (y, ap (λ (es : List Entry). processed c.client (take n es)) (sym (same-rest w c meets)) ∙ p.takes, leaves-processed w c y new meets p.takes (f c.client y p))
+
+  module _ (many : HowMany) where
+    abbrev wanted : NaiveWorld → NamedClient → Option ℕ → Stepped
+    wanted w c o = elim o [ None ↦ Err (NothingToDeliver (length (ahead_of w c.client))) | Some n ↦ now w c (processed c.client (take n (ahead_of w c.client))) ]
+
+    abbrev linked : NaiveWorld → NamedClient → Option ℕ → Stepped
+    linked w c o = elim o [ None ↦ Err NotConnected | Some conn ↦ wanted w c (wanted_count many (length (ahead_of w c.client))) ]
+
+    pub deliver-offline : conn_of m.replica.client.link ≡ None → AnswersClient (λ w c. deliver_client w c many) m m s s (Err NotConnected)
+    deliver-offline h = record { client = λ w c meets. (refl, refl, ap (linked w c) (ap conn_of (sym (same-link w c meets)) ∙ h)) }
+
+    pub deliver-none : (conn : ℕ) → conn_of m.replica.client.link ≡ Some conn → wanted_count many (length rest_of) ≡ None
+        → AnswersClient (λ w c. deliver_client w c many) m m s s (Err (NothingToDeliver (length rest_of)))
+    deliver-none conn h none = record {
+      client = λ w c meets.
+          let q = same-rest w c meets in (
+            refl,
+            refl,
+            ap (linked w c) (ap conn_of (sym (same-link w c meets)) ∙ h) ∙ ap (wanted w c) (ap (λ (es : List Entry). wanted_count many (length es)) (sym q) ∙ none)
+                ∙ ap (λ (es : List Entry). Err (NothingToDeliver (length es))) (sym q),
+          );
+    }
+
+    pub deliver-taken : (conn n : ℕ) → conn_of m.replica.client.link ≡ Some conn → n ≤ length rest_of → wanted_count many (length rest_of) ≡ Some n → (new : ReplicaState)
+        → ((x y : NaiveClient) → Processes m.replica (take n rest_of) x y → HasProcessed m.replica new (take n rest_of) y)
+        → AnswersClient (λ w c. deliver_client w c many) m (with_replica m new) s s (Ok out.Nothing)
+    deliver-taken conn n h fits some new f = record {
+      client = λ w c meets.
+          let (y, e, l) = process-all conn n h fits w c new meets f in (
+            (with_client (record c { client = y }) w, Nothing),
+            ap (linked w c) (ap conn_of (sym (same-link w c meets)) ∙ h)
+                ∙ ap (wanted w c) (ap (λ (es : List Entry). wanted_count many (length es)) (sym (same-rest w c meets)) ∙ some) ∙ ap (now w c) e,
+            l,
+            tt,
+          );
+    }
+
+  -- ---- offers
+
+  abbrev offered_by : NaiveWorld → NamedClient → Message → Option Entry → Stepped
+  offered_by w c m o = elim o [ None ↦ Err (Foreign m.seq) | Some e ↦ now w c (processed c.client (e ∷ [])) ]
+
+  offer-by : (w : NaiveWorld) (c : NamedClient) (msg : Message) (es : List Entry) → offer_next w c msg es ≡ offered_by w c msg (offered_entry msg es)
+  offer-by w c msg [] = refl
+  offer-by w c msg (e ∷ es) = by (same_message msg e.msg)
+    where
+      by : (b : Bool) → cond b (now w c (processed c.client (e ∷ []))) (Err (Foreign msg.seq)) ≡ offered_by w c msg (cond b (Some e) None)
+      by true = refl
+      by false = refl
+
+  -- the message that is offered is the next one
+  pub offered-first : (msg : Message) (es : List Entry) (e : Entry) → offered_entry msg es ≡ Some e → (take 1 es ≡ e ∷ []) × (1 ≤ length es)
+  offered-first msg [] e h = (cc)
+  offered-first msg (x ∷ es) e h = by (same_message msg x.msg) h
+    where
+      by : (b : Bool) → cond b (Some x) None ≡ Some e → (x ∷ [] ≡ e ∷ []) × (1 ≤ length (x ∷ es))
+      by true k = let q : x ≡ e = (cc) in (ap (λ a. a ∷ []) q, omega arith)
+      by false k = (cc)
+
+  module _ (text : Characters) where
+    abbrev offer_linked : NaiveWorld → NamedClient → Option ℕ → Stepped
+    offer_linked w c o = elim o [
+      | None ↦ Err NotConnected
+      | Some conn ↦ elim (message (encode_utf8_all text)) [ Err fault ↦ Err (refusal_of_cause fault) | Ok msg ↦ offer_message w c msg ]
+    ]
+
+    pub offer-offline : conn_of m.replica.client.link ≡ None → AnswersClient (λ w c. offer_client w c text) m m s s (Err NotConnected)
+    offer-offline h = record { client = λ w c meets. (refl, refl, ap (offer_linked w c) (ap conn_of (sym (same-link w c meets)) ∙ h)) }
+
+    module _ (conn : ℕ) (h : conn_of m.replica.client.link ≡ Some conn) where
+      abbrev read_by : NaiveWorld → NamedClient → Result Message Cause → Stepped
+      read_by w c r = elim r [ Err fault ↦ Err (refusal_of_cause fault) | Ok msg ↦ offer_message w c msg ]
+
+      offer-online : (w : NaiveWorld) (c : NamedClient) → Meets w c m s → offer_client w c text ≡ read_by w c (message (encode_utf8_all text))
+      offer-online w c meets = ap (offer_linked w c) (ap conn_of (sym (same-link w c meets)) ∙ h)
+
+      unread : (w : NaiveWorld) (c : NamedClient) (r : Result Message Cause) (why : Refusal) → read_or_refused r ≡ Err why → read_by w c r ≡ Err why
+      unread w c (Err fault) why e = let q : refusal_of_cause fault ≡ why = (cc) in ap Err q
+      unread w c (Ok msg) why e = (cc)
+
+      -- the text isn't a message
+      pub offer-unread : (why : Refusal) → MeansOf (refusal_kind why) ⊤ (read_or_refused (message (encode_utf8_all text)) ≡ Err why)
+          → AnswersClient (λ w c. offer_client w c text) m m s s (Err why)
+      offer-unread why e = record {
+        client = λ w c meets. means-weaker (refusal_kind why) (λ k. (refl, refl, offer-online w c meets ∙ unread w c (message (encode_utf8_all text)) why k)) e;
+      }
+
+      -- what becomes of the message becomes of the offer
+      pub offer-read : (msg : Message) → message (encode_utf8_all text) ≡ Ok msg → (new : MemberState) (result : Result Out Refusal)
+          → AnswersClient (λ w c. offer_message w c msg) m new s s result → AnswersClient (λ w c. offer_client w c text) m new s s result
+      offer-read msg reads new result a = record {
+        client = λ w c meets.
+            subst (λ stepped. AnswersStepped w c m new s s stepped result) (sym (offer-online w c meets ∙ ap (read_by w c) reads)) (a.client w c meets);
+      }
+
+  module _ (conn : ℕ) (h : conn_of m.replica.client.link ≡ Some conn) (msg : Message) (expected : ℕ) (next : expected ≡ m.replica.client.doc.number + 1) where
+    abbrev in_order : NaiveWorld → NamedClient → ℕ → Bool → Stepped
+    in_order w c n b = cond b (offer_next w c msg (ahead_of w c.client)) (Err (OutOfOrder n msg.seq))
+
+    same-next : (w : NaiveWorld) (c : NamedClient) → Meets w c m s → c.client.doc.number + 1 ≡ expected
+    same-next w c meets = ap (λ n. n + 1) (sym (stands-link m.replica.client c.client meets.member.replica.client).number) ∙ sym next
+
+    offer-next : (w : NaiveWorld) (c : NamedClient) → Meets w c m s → offer_message w c msg ≡ in_order w c expected (nat_eq msg.seq expected)
+    offer-next w c meets = ap (λ n. in_order w c n (nat_eq msg.seq n)) (same-next w c meets)
+
+    -- it isn't the next one
+    pub offer-out_of_order : ¬ (msg.seq ≡ expected) → AnswersClient (λ w c. offer_message w c msg) m m s s (Err (OutOfOrder expected msg.seq))
+    offer-out_of_order other = record {
+      client = λ w c meets. (refl, refl, offer-next w c meets ∙ ap (in_order w c expected) (differs (nat_eq msg.seq expected) refl));
+    }
+      where
+        differs : (b : Bool) → nat_eq msg.seq expected ≡ b → b ≡ false
+        differs true e = absurd (other (same_number msg.seq expected e))
+        differs false e = refl
+
+    module _ (is-next : msg.seq ≡ expected) where
+      offer-at : (w : NaiveWorld) (c : NamedClient) → Meets w c m s → offer_message w c msg ≡ offered_by w c msg (offered_entry msg rest_of)
+      offer-at w c meets =
+          offer-next w c meets
+          ∙ (ap (in_order w c expected) (let t : nat_eq msg.seq expected ≡ true = grind (arith, nat_tests, is-next) in t)
+          ∙ (offer-by w c msg (ahead_of w c.client) ∙ ap (λ (es : List Entry). offered_by w c msg (offered_entry msg es)) (sym (same-rest w c meets))))
+
+      -- the log has another one, or none
+      pub offer-foreign : offered_entry msg rest_of ≡ None → AnswersClient (λ w c. offer_message w c msg) m m s s (Err (Foreign msg.seq))
+      offer-foreign none = record { client = λ w c meets. (refl, refl, offer-at w c meets ∙ ap (offered_by w c msg) none) }
+
+      module _ (entry : Entry) (some : offered_entry msg rest_of ≡ Some entry) where
+        one : take 1 rest_of ≡ entry ∷ []
+        one = (offered-first msg rest_of entry some).0
+
+        fits : 1 ≤ length rest_of
+        fits = (offered-first msg rest_of entry some).1
+
+        pub can-process_offer : MeetsSome m s → CanProcess m.replica (entry ∷ [])
+        can-process_offer met = subst (CanProcess m.replica) one (can-process conn 1 h fits met)
+
+        pub offer-taken : (new : ReplicaState) → ((x y : NaiveClient) → Processes m.replica (entry ∷ []) x y → HasProcessed m.replica new (entry ∷ []) y)
+            → AnswersClient (λ w c. offer_message w c msg) m (with_replica m new) s s (Ok out.Nothing)
+        offer-taken new f = record {
+          client = λ w c meets.
+              let g = subst (λ (es : List Entry). (x y : NaiveClient) → Processes m.replica es x y → HasProcessed m.replica new es y) (sym one) f in
+              let (y, e, l) = process-all conn 1 h fits w c new meets g in
+              let k : processed c.client (entry ∷ []) ≡ Ok y = ap (processed c.client) (sym (ap (take 1) (sym (same-rest w c meets)) ∙ one)) ∙ e in (
+                (with_client (record c { client = y }) w, Nothing),
+                offer-at w c meets ∙ ap (offered_by w c msg) some ∙ ap (now w c) k,
+                l,
+                tt,
+              );
+        }
+
+-- ---- as the code has them
+
+pub has-conn : (o : Option ℕ) (b : Bool) → is_some o ≡ not b → b ≡ false → (conn : ℕ) × (o ≡ Some conn)
+has-conn None b e f = (cc)
+has-conn (Some conn) b e f = (conn, refl)
+
+pub has-none : (o : Option ℕ) (b : Bool) → is_some o ≡ not b → b ≡ true → o ≡ None
+has-none None b e f = refl
+has-none (Some conn) b e f = (cc)
+
+pub wanted-fits : (many : HowMany) (have n : ℕ) → wanted_count many have ≡ Some n → n ≤ have
+wanted-fits All have n e = let q : have ≡ n = (cc) in omega (arith, q)
+wanted-fits (Num k) have n e = by (nat_le k have) refl e
+  where
+    by : (b : Bool) → nat_le k have ≡ b → cond b (Some k) None ≡ Some n → n ≤ have
+    by true t g = let q : k ≡ n = (cc) in grind (arith, nat_tests, t, q)
+    by false t g = (cc)
+
+-- a replica's numbers, what it asks the log for, and what a client then does
+module _ (m : MemberState) (s : ServiceState) (numbers : Numbers) (told : numbers ≡ numbers_of m.replica) (link : Option ℕ) (of : link ≡ conn_of numbers.link) where
+  pub its-link : conn_of m.replica.client.link ≡ link
+  its-link = ap (λ (n : Numbers). conn_of n.link) (sym told) ∙ sym of
+
+  pub its-number : numbers.seq ≡ m.replica.client.doc.number
+  its-number = ap (λ (n : Numbers). n.seq) told
+
+  pub seq-within : MeetsSome m s → numbers.seq ≤ length s.log
+  seq-within met = let n = number-within m s met in let k = its-number in omega (arith, n, k)
+
+  module _ (ahead : List Entry) (is-ahead : ahead ≡ drop numbers.seq s.log) where
+    pub its-rest : ahead ≡ rest_of m s
+    its-rest = is-ahead ∙ ap (λ n. drop n s.log) its-number
+
+    module _ (some : (conn : ℕ) × (link ≡ Some conn)) (many : HowMany) where
+      pub told-none : wanted_count many (length ahead) ≡ None → AnswersClient (λ w c. deliver_client w c many) m m s s (Err (NothingToDeliver (length ahead)))
+      told-none none =
+          subst (λ (es : List Entry). wanted_count many (length es) ≡ None → AnswersClient (λ w c. deliver_client w c many) m m s s (Err (NothingToDeliver (length es)))) (sym its-rest)
+          (λ k. deliver-none m s many some.0 (its-link ∙ some.1) k) none
+
+      module _ (n : ℕ) (chosen : wanted_count many (length ahead) ≡ Some n) where
+        its-fits : n ≤ length (rest_of m s)
+        its-fits = let h = wanted-fits many (length ahead) n chosen in subst (λ (es : List Entry). n ≤ length es) its-rest h
+
+        pub told-can : MeetsSome m s → CanProcess m.replica (take n ahead)
+        told-can met = subst (λ (es : List Entry). CanProcess m.replica (take n es)) (sym its-rest) (can-process m s some.0 n (its-link ∙ some.1) its-fits met)
+
+        pub told-taken : (new : ReplicaState) → ((x y : NaiveClient) → Processes m.replica (take n ahead) x y → HasProcessed m.replica new (take n ahead) y)
+            → AnswersClient (λ w c. deliver_client w c many) m (with_replica m new) s s (Ok out.Nothing)
+        told-taken new f = deliver-taken m s many some.0 n (its-link ∙ some.1) its-fits (ap (λ (es : List Entry). wanted_count many (length es)) (sym its-rest) ∙ chosen) new
+            (subst (λ (es : List Entry). (x y : NaiveClient) → Processes m.replica (take n es) x y → HasProcessed m.replica new (take n es) y) its-rest f)

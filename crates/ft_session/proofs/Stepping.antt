@@ -1,0 +1,143 @@
+-- A world takes an event with its load.
+use Rattle.std.proofs.Common.{◌≡◌, ◌≤◌, ◌^◌, ℕ, ◌+◌, [], Bool, true, false, Result, Ok, Err, refl, sym, ◌∙◌, ap, subst}
+use Rattle.std.specs.Prelude.{⊤}
+use Rattle.std.specs.Result.{IsErr, IsErrAnd}
+use Rattle.ft_seqr.specs.declared.events.Event.{Event}
+use Rattle.ft_seqr.specs.declared.refusals.Refusal.{Refusal}
+use Rattle.ft_seqr.specs.declared.refusals.Refusal.TheVariants.{OutOfMemory, Stopped}
+use Rattle.ft_seqr.specs.WellFormedEvent.{IsWellFormedEvent}
+use Rattle.ft_seqr.specs.World.{NaiveWorld, happen, loaded, new_world, step, text_load}
+use Rattle.ft_seqr.specs.Sequencer.{new_sequencer}
+use Rattle.ft_worlds.proofs.MadeWorlds.{made-first, made-next}
+use Rattle.ft_session.specs.declared.outputs.Out.{Out}
+use Rattle.ft_session.specs.declared.world.Taken.{Taken}
+use Rattle.ft_session.specs.Steps.{AnswersStep, StandsAtLoad, StandsFor}
+use Rattle.ft_session.specs.Worlds.{AnswersEvent, AnswersHappening, MeansOf, RefusalKind, HadStopped, Refused, RunsForSome, SessionState, StandsForSome, WantsMemory, WorldStands, WorldState, is_want, refusal_kind}
+use Rattle.ft_session.proofs.OwnEvents.{handed-on}
+use Rattle.ft_session.proofs.RefusalKinds.{means-weaker}
+
+pub stands-some : (s : SessionState) (load : ℕ) → StandsAtLoad s load → StandsForSome s
+stands-some s load h = record { world = h.world; made = h.stands.made; stands = h.stands.stands }
+
+module _ (e : Event) (formed : IsWellFormedEvent e) (old new : SessionState) (load : ℕ) where
+  -- it is taken
+  pub step-taken : (out : Out) (after : ℕ) → AnswersHappening (λ w. happen w e) old new (Ok out) → after ≡ load + (1 + text_load e) → after ≤ 2 ^ 52
+      → AnswersStep e old new load (Ok (record { out = out; load = after }))
+  step-taken out after a sum low = record {
+    world = λ w s.
+        let (p, k, t, l, told) = a.world w s.made s.stands in
+        let n = 1 + text_load e in
+        let v : NaiveWorld = record p.0 { load = p.0.load + n } in
+        let stepped : step w e ≡ Ok (v, p.1) = ap (loaded n) k in
+        let same : after ≡ p.0.load + n = sum ∙ ap (λ i. i + n) (s.loaded ∙ sym l) in
+        let small : v.load ≤ 2 ^ 52 = subst (λ i. i ≤ 2 ^ 52) same low in (
+          (v, p.1),
+          stepped,
+          record {
+            made = made-next w s.made e formed (v, p.1) stepped small;
+            stands = record { members = t.members; guests = t.guests; service = t.service };
+            loaded = same;
+          },
+          told,
+        );
+  }
+
+  -- it is refused
+  pub step-refused : (why : Refusal) → AnswersHappening (λ w. happen w e) old new (Err why) → AnswersStep e old new load (Err why)
+  step-refused why a = record {
+    world = λ w s. means-weaker (refusal_kind why) (λ p. (p.0, ap (loaded (1 + text_load e)) p.1)) (a.world w s.made s.stands);
+  }
+
+  pub step-handed : (why : Refusal) (result : Result Taken Refusal) → IsErr result × IsErrAnd result (λ w. w ≡ why) → AnswersHappening (λ w. happen w e) old new (Err why)
+      → AnswersStep e old new load result
+  step-handed why result h a = handed-on (λ r. AnswersStep e old new load r) why result h (step-refused why a)
+
+-- ---- the world
+
+abbrev pub world_with : SessionState → ℕ → Bool → WorldState
+world_with s load stopped = record { session = s; load = load; stopped = stopped }
+
+false-true : {A : Type 0} (b : Bool) → b ≡ false → b ≡ true → A
+false-true b h k = (cc)
+
+-- a stopped world says so
+pub stopped-answers : (e : Event) (w : WorldState) → w.stopped ≡ true → AnswersEvent e w w (Err Stopped)
+stopped-answers e w h = record { runs = λ n s. false-true w.stopped s.running h; stopped = λ k. (refl, refl) }
+
+module _ (s : SessionState) (load : ℕ) (stopped : Bool) (running : stopped ≡ false) where
+  pub at-load : RunsForSome (world_with s load stopped) → StandsAtLoad s load
+  at-load h =
+      let (n, t) = h running in
+      record { world = n; stands = record { made = t.made; stands = t.session; loaded = t.load } }
+
+  stands-world : (w : NaiveWorld) → WorldStands (world_with s load stopped) w → StandsFor w s load
+  stands-world w t = record { made = t.made; stands = t.session; loaded = t.load }
+
+  module _ (e : Event) (new : SessionState) where
+    pub world-taken : (taken : Taken) → AnswersStep e s new load (Ok taken) → AnswersEvent e (world_with s load stopped) (world_with new taken.load stopped) (Ok taken.out)
+    world-taken taken a = record {
+      runs = λ w t.
+          let (p, k, q, told) = a.world w (stands-world w t) in
+          (p, k, record { running = running; session = q.stands; made = q.made; load = q.loaded }, told);
+      stopped = λ h. false-true stopped running h;
+    }
+
+    pub world-kept : (taken : Taken) → AnswersStep e s new load (Ok taken) → RunsForSome (world_with s load stopped) → RunsForSome (world_with new taken.load stopped)
+    world-kept taken a h k =
+        let (n, t) = h k in
+        let (p, q, r, told) = a.world n (stands-world n t) in
+        (p.0, record { running = k; session = r.stands; made = r.made; load = r.loaded })
+
+    by-kind : (why : Refusal) (k : RefusalKind) (w : NaiveWorld) → refusal_kind why ≡ k → MeansOf k ⊤ ((new ≡ s) × (step w e ≡ Err why))
+        → MeansOf k (is_want why ≡ true) ((world_with new load (is_want why) ≡ world_with s load stopped) × (step w e ≡ Err why))
+    by-kind why WantsMemory w q h = want why q
+      where
+        want : (why : Refusal) → refusal_kind why ≡ WantsMemory → is_want why ≡ true
+        want OutOfMemory q = refl
+        want Stopped q = (cc)
+        want _ q = (cc)
+    by-kind why HadStopped w q h = absurd h
+    by-kind why Refused w q h = (ap (λ a. world_with a load (is_want why)) h.0 ∙ ap (world_with s load) (other why q ∙ sym running), h.1)
+      where
+        other : (why : Refusal) → refusal_kind why ≡ Refused → is_want why ≡ false
+        other OutOfMemory q = (cc)
+        other Stopped q = (cc)
+        other _ q = refl
+
+    pub world-refused : (why : Refusal) (now : Bool) → now ≡ is_want why → AnswersStep e s new load (Err why)
+        → AnswersEvent e (world_with s load stopped) (world_with new load now) (Err why)
+    world-refused why now h a = subst (λ b. AnswersEvent e (world_with s load stopped) (world_with new load b) (Err why)) (sym h) (record {
+      runs = λ w t. by-kind why (refusal_kind why) w refl (a.world w (stands-world w t));
+      stopped = λ k. false-true stopped running k;
+    })
+
+    pub world-refused_kept : (why : Refusal) (now : Bool) → now ≡ is_want why → AnswersStep e s new load (Err why) → RunsForSome (world_with s load stopped)
+        → RunsForSome (world_with new load now)
+    world-refused_kept why now same a h = subst (λ b. RunsForSome (world_with new load b)) (sym same) (again (refusal_kind why) refl (λ w t. a.world w t))
+      where
+        again : (k : RefusalKind) → refusal_kind why ≡ k → ((w : NaiveWorld) → StandsFor w s load → MeansOf k ⊤ ((new ≡ s) × (step w e ≡ Err why)))
+            → is_want why ≡ false → (n : NaiveWorld) × WorldStands (world_with new load (is_want why)) n
+        again WantsMemory q f g = wants why q g
+          where
+            wants : {A : Type 0} (why : Refusal) → refusal_kind why ≡ WantsMemory → is_want why ≡ false → A
+            wants OutOfMemory q g = (cc)
+            wants Stopped q g = (cc)
+            wants _ q g = (cc)
+        again HadStopped q f g = let (n, t) = h running in absurd (f n (stands-world n t))
+        again Refused q f g =
+            let (n, t) = h running in
+            let p = f n (stands-world n t) in
+            (n, subst (λ a. WorldStands (world_with a load (is_want why)) n) (sym p.0) (record { running = g; session = t.session; made = t.made; load = t.load }))
+
+-- what a world answers, by its view
+pub by-world : {e : Event} {w old new : WorldState} {result : Result Out Refusal} → w ≡ old → AnswersEvent e w new result → AnswersEvent e old new result
+by-world {e} {w} {old} {new} {result} h a = subst (λ o. AnswersEvent e o new result) h a
+
+-- a world before the first event
+pub new-stands : (s : SessionState) → s ≡ record { members = []; guests = []; service = record { sequencer = new_sequencer; names = []; log = [] } } → WorldStands (world_with s 0 false) new_world
+new-stands s h = subst (λ a. WorldStands (world_with a 0 false) new_world) (sym h) (record {
+  running = refl;
+  session = record { members = tt; guests = refl; service = refl };
+  made = made-first;
+  load = refl;
+})

@@ -1,0 +1,11 @@
+-- The unsent messages of a replica.
+use Rattle.std.proofs.Common.{sym, subst}
+use Rattle.ft_session.specs.Worlds.{MeetsSome, MemberState}
+use Rattle.ft_session.proofs.Asking.{queue-formed, queue-told, reading-view}
+use Rattle.ft_session.proofs.asked.queue.Goals as goal
+
+pub queue_texts-requires : goal.queue_texts-requires
+queue_texts-requires g c = queue-formed _ c.args.service.now (subst (λ (m : MemberState). MeetsSome m c.args.service.now) (sym c.member.view_is) c.requires)
+
+pub returns : goal.returns
+returns g c = reading-view c.member.view_is (queue-told _ c.args.service.now c.in_ok-values.values c.in_ok-values.ensures)

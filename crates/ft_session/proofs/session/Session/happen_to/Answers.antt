@@ -1,0 +1,28 @@
+-- What the client of that name answers, the session does.
+use Rattle.std.proofs.Common.{◌∙◌, Some, ap, sym}
+use Rattle.std.specs.List.{position}
+use Rattle.ft_session.specs.Worlds.{has_name}
+use Rattle.ft_session.proofs.Happenings.{at-place, by-session, happened-to, happened-to_none, meets-some, placed-name, stands-session, unchanged-session}
+use Rattle.ft_session.proofs.session.Session.happen_to.Goals as goal
+
+pub returns-in_default : goal.returns-in_default
+returns-in_default g c = unchanged-session c.self.view_is
+    (happened-to_none c.args.event.now c.args.name.now c.self.inside.members.items c.self.inside.guests.items c.self.inside.service c.requires.named
+    (sym (c.place_of.ensures ∙ ap (position (has_name c.args.name.now)) c.as_slice.ensures.value) ∙ c.in_default.is))
+
+pub happen_to_member-requires-clause-named : goal.happen_to_member-requires-clause-named
+happen_to_member-requires-clause-named g c = c.requires.named ∙ ap Some (placed-name c.args.name.now c.in-Some.place c.self.inside.members.items c.index_mut.result.now
+    (sym (c.place_of.ensures ∙ ap (position (has_name c.args.name.now)) c.as_slice.ensures.value) ∙ c.in-Some.is) c.index_mut.ensures.value)
+
+pub happen_to_member-requires-clause-meets : goal.happen_to_member-requires-clause-meets
+happen_to_member-requires-clause-meets g c = meets-some c.args.event.now c.args.name.now c.self.inside.members.items c.self.inside.guests.items c.self.inside.service c.in-Some.place c.index_mut.result.now
+    (sym (c.place_of.ensures ∙ ap (position (has_name c.args.name.now)) c.as_slice.ensures.value) ∙ c.in-Some.is)
+    (at-place c.args.name.now c.in-Some.place c.self.inside.members.items c.index_mut.result.now (sym (c.place_of.ensures ∙ ap (position (has_name c.args.name.now)) c.as_slice.ensures.value) ∙ c.in-Some.is) c.index_mut.ensures.value)
+    (stands-session c.self.view_is c.requires.stands)
+
+pub returns : goal.returns
+returns g c = by-session c.self.view_is
+    (happened-to c.args.event.now c.args.name.now c.self.inside.members.items c.self.inside.guests.items c.self.inside.service c.in-Some.place c.index_mut.result.now
+    (sym (c.place_of.ensures ∙ ap (position (has_name c.args.name.now)) c.as_slice.ensures.value) ∙ c.in-Some.is)
+    (at-place c.args.name.now c.in-Some.place c.self.inside.members.items c.index_mut.result.now (sym (c.place_of.ensures ∙ ap (position (has_name c.args.name.now)) c.as_slice.ensures.value) ∙ c.in-Some.is) c.index_mut.ensures.value)
+    c.happen_to_member.new.member c.happen_to_member.new.service c.happen_to_member.result c.happen_to_member.ensures)

@@ -1,0 +1,24 @@
+-- One client more, and those of all at the end.
+use Rattle.std.proofs.Common.{◌+◌, ◌∙◌, ap, drop, subst, sym}
+use Rattle.ft_msg.specs.Answers.{numbers_of}
+use Rattle.ft_session.specs.Steps.{further_numbers}
+use Rattle.ft_session.specs.Worlds.{MembersStand, MemberState, WorldState}
+use Rattle.ft_session.proofs.Counting.{StillCounts, counts-first, counts-last, counts-next}
+use Rattle.ft_session.proofs.Processed.{none-left, rest-at}
+use Rattle.ft_session.proofs.world.World.counts.Goals as goal
+
+pub loop-member-init : goal.loop-member-init
+loop-member-init g c = counts-first _
+
+pub loop-member-preserved : goal.loop-member-preserved
+loop-member-preserved g c = subst (StillCounts c.deref-member-items.result.now (drop (c.loop-member.member-index + 1) c.deref-member-items.result.now))
+    (sym (c.furthest_of-furthest.ensures ∙ ap (further_numbers c.loop-member.furthest) (c.numbers.ensures.numbers ∙ ap (λ (m : MemberState). numbers_of m.replica) c.member.view_is)))
+    (counts-next c.deref-member-items.result.now c.member-item.result (drop (c.loop-member.member-index + 1) c.deref-member-items.result.now) c.loop-member.furthest
+    (subst (λ ms. StillCounts c.deref-member-items.result.now ms c.loop-member.furthest)
+    (rest-at c.deref-member-items.result.now c.loop-member.member-index c.member-item.result c.loop-member-test.true c.member-item.is) c.loop-member.invariant))
+
+pub returns : goal.returns
+returns g c w s = counts-last c.deref-member-items.result.now c.loop-member.furthest
+    (subst (λ ms. StillCounts c.deref-member-items.result.now ms c.loop-member.furthest) (none-left c.deref-member-items.result.now c.loop-member.member-index c.loop-member-test.false) c.loop-member.invariant)
+    w (subst (λ ms. MembersStand w.log ms w.clients)
+    (sym (c.deref-member-items.ensures.value ∙ ap (λ t. t.session.members) c.self-inside.view_is ∙ ap (λ (t : WorldState). t.session.members) c.self.view_is)) s.session.members)

@@ -1,0 +1,142 @@
+//! How clients process messages.
+
+ghost use Rattle.std.specs.Prelude.{◌≡◌, ◌≤◌, ◌∷◌, [], Err, OnOk, OnErr, drop, encode_utf8_all, length, option_copied};
+ghost use Rattle.ft_msg.specs.Client.{NaiveClient};
+ghost use Rattle.ft_msg.specs.MessageGrammar.{message};
+ghost use Rattle.ft_seqr.specs.World.{deliver_client, offer_client, offer_message};
+ghost use Rattle.ft_session.specs.Deliveries.{CanProcess, HasConnection, HasProcessed, Processes, offered_entry};
+ghost use Rattle.ft_session.specs.Readings.{ReadsOr};
+ghost use Rattle.ft_session.specs.Worlds.{AnswersClient, MeetsSome};
+
+use crate::edits::wanted_count;
+use crate::links::next_count;
+use crate::members::{Member, conn_of};
+use crate::outputs::Out;
+use crate::service::Service;
+use ft_base::Text;
+use ft_msg::{Cause, Entry, Message, Replica, read_message};
+use ft_seqr::same_message::same_message;
+use ft_seqr::{HowMany, Refusal};
+use std::alloc::Global;
+
+/// The client processes so many of the next messages of the log.
+pub(crate) fn deliver<R: Replica>(
+    member: &mut Member<R>,
+    service: &Service,
+    count: HowMany,
+) -> Result<Out, Refusal>
+    requires { MeetsSome member.old service.now }
+    ensures { AnswersClient (λ w c. deliver_client w c count) member.old member.new service.now service.now result }
+{
+    let numbers = member.replica.numbers();
+    if conn_of(numbers.link).is_none() {
+        return Err(Refusal::NotConnected);
+    }
+    let ahead = ahead_of(service, numbers.seq);
+    let have = ahead.len() as u64;
+    let Some(wanted) = wanted_count(count, have) else {
+        return Err(Refusal::NothingToDeliver { have });
+    };
+    process_all(&mut member.replica, &ahead[..wanted as usize])?;
+    Ok(Out::Nothing)
+}
+
+/// The client processes the message of a text, if it is the next one and the log has it so.
+pub(crate) fn offer<R: Replica>(
+    member: &mut Member<R>,
+    service: &Service,
+    text: &Text,
+) -> Result<Out, Refusal>
+    requires { MeetsSome member.old service.now }
+    ensures { AnswersClient (λ w c. offer_client w c text.now) member.old member.new service.now service.now result }
+{
+    if conn_of(member.replica.numbers().link).is_none() {
+        return Err(Refusal::NotConnected);
+    }
+    let message = read_offer(service.alloc, text)?;
+    offer_message(member, service, &message)
+}
+
+/// The client processes an offered message, if it is the next one and the log has it so.
+fn offer_message<R: Replica>(
+    member: &mut Member<R>,
+    service: &Service,
+    message: &Message,
+) -> Result<Out, Refusal>
+    requires meets { MeetsSome member.old service.now }
+    requires linked { HasConnection member.old }
+    ensures { AnswersClient (λ w c. offer_message w c message.now) member.old member.new service.now service.now result }
+{
+    let number = member.replica.numbers().seq;
+    let expected = next_count(number)?;
+    if message.seq != expected {
+        return Err(Refusal::OutOfOrder {
+            expected,
+            got: message.seq,
+        });
+    }
+    let Some(entry) = offered_entry(ahead_of(service, number), message) else {
+        return Err(Refusal::Foreign {
+            number: message.seq,
+        });
+    };
+    process_one(&mut member.replica, entry)?;
+    Ok(Out::Nothing)
+}
+
+/// The next of the messages, if it is the one offered.
+fn offered_entry<'a>(ahead: &'a [Entry], message: &Message) -> Option<&'a Entry>
+    ensures { option_copied result ≡ offered_entry message.now ahead.now }
+{
+    match ahead {
+        [entry, ..] if same_message(message, &entry.msg) => Some(entry),
+        _ => None,
+    }
+}
+
+/// The messages of the log beyond this number.
+fn ahead_of(service: &Service, number: u64) -> &[Entry]
+    requires { number ≤ length service.now.log }
+    ensures { result.now ≡ drop number service.now.log }
+{
+    &service.log[number as usize..]
+}
+
+/// The message of an offered text.
+fn read_offer(alloc: Global, text: &Text) -> Result<Message, Refusal>
+    ensures { ReadsOr (message (encode_utf8_all text.now)) result }
+{
+    match read_message(alloc, text.as_str().as_bytes()) {
+        Ok(message) => Ok(message),
+        Err(Cause::OutOfMemory) => Err(Refusal::OutOfMemory),
+        Err(cause) => Err(Refusal::of_cause(cause)),
+    }
+}
+
+/// The replica processes entries of the log.
+///
+/// Answers `OutOfMemory` where there is no room for one.
+fn process_all<R: Replica>(replica: &mut R, entries: &[Entry]) -> Result<(), Refusal>
+    requires { CanProcess (R.state replica.old) entries.now }
+    ensures ok { (x y : NaiveClient) → Processes (R.state replica.old) entries.now x y → OnOk result (HasProcessed (R.state replica.old) (R.state replica.new) entries.now y) }
+    ensures memory { OnErr result (result ≡ Err Refusal.OutOfMemory) }
+{
+    for entry in entries {
+        process_one(replica, entry)?;
+    }
+    Ok(())
+}
+
+/// The replica processes an entry of the log.
+///
+/// Answers `OutOfMemory` where there is no room for it.
+fn process_one<R: Replica>(replica: &mut R, entry: &Entry) -> Result<(), Refusal>
+    requires { CanProcess (R.state replica.old) (entry.now ∷ []) }
+    ensures ok { (x y : NaiveClient) → Processes (R.state replica.old) (entry.now ∷ []) x y → OnOk result (HasProcessed (R.state replica.old) (R.state replica.new) (entry.now ∷ []) y) }
+    ensures memory { OnErr result (result ≡ Err Refusal.OutOfMemory) }
+{
+    match replica.process(entry) {
+        Ok(()) => Ok(()),
+        Err(fault) => Err(Refusal::of_process(entry.msg.seq, fault)),
+    }
+}

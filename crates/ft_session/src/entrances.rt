@@ -1,0 +1,99 @@
+//! How clients come into a session.
+
+ghost use Rattle.std.specs.Prelude.{◌≡◌, ◌∷◌, ◌++◌, [], None, Some, Err, ⊤, IfOk, IfErr, OnOk, OnErr};
+ghost use Rattle.ft_props.specs.Properties.{Characters};
+ghost use Rattle.ft_seqr.specs.World.{NaiveWorld, happen, name_fault, start_client};
+ghost use Rattle.ft_seqr.specs.declared.events.Event.TheVariants as event;
+ghost use Rattle.ft_worlds.specs.MadeWorlds.{IsMade};
+ghost use Rattle.ft_session.specs.Entrances.{AnswersName, IsCopyOf, new_member};
+ghost use Rattle.ft_session.specs.Worlds.{AnswersHappening, MeansOf, SessionStands, StandsForSome, refusal_kind};
+
+use crate::asked::summary_of;
+use crate::guests::has_guest;
+use crate::members::{Member, has_member, place_of};
+use crate::outputs::Out;
+use crate::session::Session;
+use ft_base::{OutOfMemory, Text};
+use ft_msg::Replica;
+use ft_seqr::Refusal;
+
+/// The greatest number of clients and guests.
+const NAME_LIMIT: usize = 16;
+
+impl<R: Replica + Drop> Session<R> {
+    /// A new client, empty, or over the document of the client of the second name.
+    pub(crate) fn begin(&mut self, name: &Text, from: &Option<Text>) -> Result<Out, Refusal>
+        requires { StandsForSome self.old }
+        ensures { AnswersHappening (λ w. happen w (event.Start name.now from.now)) self.old self.new result }
+    {
+        match from {
+            Some(from) => self.start_from(name, from),
+            None => self.start(name),
+        }
+    }
+
+    // A new client, which is empty.
+    fn start(&mut self, name: &Text) -> Result<Out, Refusal>
+        requires { StandsForSome self.old }
+        ensures { AnswersHappening (λ w. happen w (event.Start name.now None)) self.old self.new result }
+    {
+        self.free_name(name)?;
+        let replica = R::start(self.service.alloc)?;
+        self.admit(name, replica)?;
+        Ok(Out::Nothing)
+    }
+
+    // A new client over the document of the client of that name.
+    fn start_from(&mut self, name: &Text, from: &Text) -> Result<Out, Refusal>
+        requires { StandsForSome self.old }
+        ensures { AnswersHappening (λ w. happen w (event.Start name.now (Some from.now))) self.old self.new result }
+    {
+        self.free_name(name)?;
+        let replica = self.copy_of(from)?;
+        self.admit(name, replica)?;
+        Ok(Out::Nothing)
+    }
+
+    /// Whether the name can be given.
+    ///
+    /// Answers `NameInUse` exactly where a client or a guest has it, and `ClientLimit` exactly where there
+    /// are 16 of these.
+    pub(crate) fn free_name(&self, name: &Text) -> Result<(), Refusal>
+        ensures { (w : NaiveWorld) → SessionStands self.now w → AnswersName (name_fault w name.now) result }
+    {
+        if has_member(self.members.as_slice(), name) || has_guest(self.guests.as_slice(), name) {
+            return Err(Refusal::NameInUse);
+        }
+        if NAME_LIMIT <= self.members.len() + self.guests.len() {
+            return Err(Refusal::ClientLimit);
+        }
+        Ok(())
+    }
+
+    // A replica over the document of the client of that name.
+    fn copy_of(&self, from: &Text) -> Result<R, Refusal>
+        requires { StandsForSome self.now }
+        ensures ok { IfOk result (λ r. (w : NaiveWorld) → IsMade w → SessionStands self.now w → (name : Characters) → name_fault w name ≡ None → IsCopyOf w name from.now (R.state r)) }
+        ensures err { IfErr result (λ why. (w : NaiveWorld) → IsMade w → SessionStands self.now w → (name : Characters) → MeansOf (refusal_kind why) ⊤ (start_client w name (Some from.now) ≡ Err why)) }
+    {
+        let Some(place) = place_of(self.members.as_slice(), from) else {
+            return Err(Refusal::UnknownClient);
+        };
+        let summary = summary_of(&self.members[place], &self.service)?;
+        let replica = R::from_summary(self.service.alloc, &summary)?;
+        Ok(replica)
+    }
+
+    // A replica comes in under a new name.
+    fn admit(&mut self, name: &Text, replica: R) -> Result<(), OutOfMemory>
+        ensures { OnOk result (self.new ≡ record self.old { members = self.old.members ++ new_member name.now (R.state replica) ∷ [] }) }
+    {
+        let name = name.copy()?;
+        self.members.push(Member {
+            name,
+            replica,
+            connects: 0,
+        })?;
+        Ok(())
+    }
+}

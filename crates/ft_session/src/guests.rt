@@ -1,0 +1,149 @@
+//! Guests: names without a client, each with a connection.
+
+ghost use Rattle.std.specs.Prelude.{◌≡◌, ◌∷◌, ◌++◌, [], IfOk, OnOk, encode_utf8_all, map};
+ghost use Rattle.serde_json.specs.Written.{compact_text};
+ghost use Rattle.std.specs.List.{list_any, position};
+ghost use Rattle.ft_laws.specs.Sequencing.{Each};
+ghost use Rattle.ft_msg.specs.MessageGrammar.{draft};
+ghost use Rattle.ft_msg.specs.WellFormed.{IsWellFormedMessage};
+ghost use Rattle.ft_msg.specs.Written.{written_message};
+ghost use Rattle.ft_seqr.specs.World.{NaiveWorld, happen, is_guest};
+ghost use Rattle.ft_seqr.specs.declared.events.Event.TheVariants as event;
+ghost use Rattle.ft_session.specs.Readings.{ReadsOr, submitted_text};
+ghost use Rattle.ft_session.specs.Services.{AnswersService};
+ghost use Rattle.ft_session.specs.Worlds.{AnswersHappening, StandsForSome, service_of};
+
+use crate::members::connection_name;
+use crate::outputs::{Out, Values};
+use crate::service::Service;
+use crate::session::Session;
+use ft_base::{OutOfMemory, Text};
+use ft_msg::{Cause, Draft, Entry, Replica, read_draft, write_message};
+use ft_seqr::Refusal;
+use std::alloc::Global;
+use std::marker::Model;
+
+/// A guest.
+#[derive(Drop)]
+pub(crate) struct Guest {
+    name: Text,
+    conn: u32,
+}
+
+impl Model for Guest {
+    ghost use Rattle.ft_seqr.specs.World.{NamedGuest};
+
+    ghost Value = { NamedGuest };
+
+    ghost view = { λ g. record { name = g.name; conn = g.conn } };
+}
+
+impl<R: Replica + Drop> Session<R> {
+    /// A new name without a client, with a connection, which joins.
+    pub(crate) fn enter(&mut self, name: &Text) -> Result<Out, Refusal>
+        requires { StandsForSome self.old }
+        ensures { AnswersHappening (λ w. happen w (event.Guest name.now)) self.old self.new result }
+    {
+        self.free_name(name)?;
+        let conn = self.service.next_conn()?;
+        let label = connection_name(self.service.alloc, name, 1)?;
+        self.service.join(&label)?;
+        self.add_guest(name, conn)?;
+        Ok(Out::Nothing)
+    }
+
+    /// The draft of a text is submitted for the guest.
+    pub(crate) fn submit(&mut self, name: &Text, text: &Text) -> Result<Out, Refusal>
+        requires { StandsForSome self.old }
+        ensures { AnswersHappening (λ w. happen w (event.Submit name.now text.now)) self.old self.new result }
+    {
+        let Some(place) = place_of_guest(self.guests.as_slice(), name) else {
+            return Err(Refusal::UnknownClient);
+        };
+        submit_text(&mut self.service, self.guests[place].conn, text)?;
+        Ok(Out::Nothing)
+    }
+
+    /// The guest's connection leaves.
+    pub(crate) fn part(&mut self, name: &Text) -> Result<Out, Refusal>
+        requires { StandsForSome self.old }
+        ensures { AnswersHappening (λ w. happen w (event.Part name.now)) self.old self.new result }
+    {
+        let Some(place) = place_of_guest(self.guests.as_slice(), name) else {
+            return Err(Refusal::UnknownClient);
+        };
+        self.service.leave(self.guests[place].conn)?;
+        Ok(Out::Nothing)
+    }
+
+    // A guest comes in with this connection.
+    fn add_guest(&mut self, name: &Text, conn: u32) -> Result<(), OutOfMemory>
+        ensures { OnOk result (self.new ≡ record self.old { guests = self.old.guests ++ record { name = name.now; conn = conn } ∷ [] }) }
+    {
+        let name = name.copy()?;
+        self.guests.push(Guest { name, conn })?;
+        Ok(())
+    }
+
+    /// The messages of the log.
+    pub(crate) fn history(&self) -> Result<Out, Refusal>
+        requires { StandsForSome self.now }
+        ensures { AnswersHappening (λ w. happen w event.History) self.now self.now result }
+    {
+        let values = log_texts(&self.service)?;
+        Ok(Out::Texts(values))
+    }
+}
+
+/// Whether a guest has the name.
+pub(crate) fn has_guest(guests: &[Guest], name: &Text) -> bool
+    ensures { result ≡ list_any (is_guest name.now) guests.now }
+{
+    guests.iter().any(|guest| name.same(&guest.name))
+}
+
+/// The place of the guest of that name.
+pub(crate) fn place_of_guest(guests: &[Guest], name: &Text) -> Option<usize>
+    ensures { result ≡ position (is_guest name.now) guests.now }
+{
+    guests.iter().position(|guest| name.same(&guest.name))
+}
+
+// The texts of the messages of the log.
+fn log_texts(service: &Service) -> Result<Values, OutOfMemory>
+    requires { Each (λ entry. IsWellFormedMessage entry.msg) service.now.log }
+    ensures { IfOk result (λ values. values ≡ map compact_text (map (λ entry. written_message entry.msg) service.now.log)) }
+{
+    message_texts(service.alloc, service.log.as_slice())
+}
+
+// The texts of messages.
+fn message_texts(alloc: Global, entries: &[Entry]) -> Result<Values, OutOfMemory>
+    requires { Each (λ entry. IsWellFormedMessage entry.msg) entries.now }
+    ensures { IfOk result (λ values. values ≡ map compact_text (map (λ entry. written_message entry.msg) entries.now)) }
+{
+    let mut values = Values::new(alloc);
+    for entry in entries {
+        values.push(write_message(alloc, &entry.msg)?)?;
+    }
+    Ok(values)
+}
+
+// The draft of a text is submitted for the connection.
+fn submit_text(service: &mut Service, conn: u32, text: &Text) -> Result<(), Refusal>
+    ensures { (w : NaiveWorld) → service.old ≡ service_of w → AnswersService service.old service.new (submitted_text w conn text.now) result }
+{
+    let draft = read_submission(service.alloc, text)?;
+    service.submit(conn, &draft)
+}
+
+// The draft of a submitted text.
+fn read_submission(alloc: Global, text: &Text) -> Result<Draft, Refusal>
+    ensures { ReadsOr (draft (encode_utf8_all text.now)) result }
+{
+    match read_draft(alloc, text.as_str().as_bytes()) {
+        Ok(draft) => Ok(draft),
+        Err(Cause::OutOfMemory) => Err(Refusal::OutOfMemory),
+        Err(cause) => Err(Refusal::of_cause(cause)),
+    }
+}

@@ -1,0 +1,63 @@
+//! How clients connect and go offline.
+
+ghost use Rattle.std.specs.Prelude.{◌≡◌, ◌+◌, IfOk};
+ghost use Rattle.ft_seqr.specs.World.{connect_client, drop_client, noop_client};
+ghost use Rattle.ft_session.specs.Worlds.{AnswersClient, MeetsSome};
+
+use crate::members::{Member, conn_of, connection_name};
+use crate::outputs::Out;
+use crate::service::Service;
+use ft_base::OutOfMemory;
+use ft_msg::Replica;
+use ft_seqr::Refusal;
+
+/// The client gets a connection, which joins.
+pub(crate) fn connect<R: Replica>(
+    member: &mut Member<R>,
+    service: &mut Service,
+) -> Result<Out, Refusal>
+    requires { MeetsSome member.old service.old }
+    ensures { AnswersClient connect_client member.old member.new service.old service.new result }
+{
+    let conn = service.next_conn()?;
+    let connects = next_count(member.connects)?;
+    let name = connection_name(service.alloc, &member.name, connects)?;
+    member.replica.connect(conn)?;
+    service.join(&name)?;
+    member.connects = connects;
+    Ok(Out::Nothing)
+}
+
+/// The client's connection leaves, and its unsent messages are gone.
+pub(crate) fn drop_link<R: Replica>(
+    member: &mut Member<R>,
+    service: &mut Service,
+) -> Result<Out, Refusal>
+    requires { MeetsSome member.old service.old }
+    ensures { AnswersClient drop_client member.old member.new service.old service.new result }
+{
+    let Some(conn) = conn_of(member.replica.numbers().link) else {
+        return Err(Refusal::NotConnected);
+    };
+    service.leave(conn)?;
+    member.replica.drop_link()?;
+    Ok(Out::Nothing)
+}
+
+/// The client queues a noop.
+pub(crate) fn noop<R: Replica>(member: &mut Member<R>, service: &Service) -> Result<Out, Refusal>
+    requires { MeetsSome member.old service.now }
+    ensures { AnswersClient noop_client member.old member.new service.now service.now result }
+{
+    member.replica.noop()?;
+    Ok(Out::Nothing)
+}
+
+/// A count, after one more.
+///
+/// Answers `OutOfMemory` where it would pass 2^64 - 1.
+pub(crate) fn next_count(count: u64) -> Result<u64, OutOfMemory>
+    ensures { IfOk result (λ next. next ≡ count + 1) }
+{
+    count.checked_add(1).ok_or(OutOfMemory)
+}

@@ -1,0 +1,141 @@
+//! What an event adds to the load of a world.
+
+ghost use Rattle.std.specs.Prelude.{◌≡◌, ◌+◌, IfOk, fold, length, map};
+ghost use Rattle.ft_op.specs.Operation.{OnGrid, OnText};
+ghost use Rattle.ft_seqr.specs.World.{body_load, inserted_count, op_load, text_load};
+ghost use Rattle.ft_session.specs.Loads.{draft_load, message_load};
+
+use ft_base::{OutOfMemory, Text};
+use ft_msg::{Body, Cause, read_draft, read_message};
+use ft_op::{BaseOp, CellOp, ChannelOp, GridOp, Seg, TextOp};
+use ft_seqr::Event;
+use std::alloc::Global;
+
+/// What an event adds: one, and for its operation, or that of the text in it, one for each
+/// sub-operation and for each inserted element.
+///
+/// Answers `OutOfMemory` where there is no room to read the text, or the sum would pass 2^64 - 1.
+pub(crate) fn event_load(alloc: Global, event: &Event) -> Result<u64, OutOfMemory>
+    ensures { IfOk result (λ n. n ≡ 1 + text_load event.now) }
+{
+    let load = match event {
+        Event::Edit { op, .. } => op_load(op)?,
+        Event::Offer { message, .. } => offer_load(alloc, message)?,
+        Event::Submit { message, .. } => submission_load(alloc, message)?,
+        _ => 0,
+    };
+    load.checked_add(1).ok_or(OutOfMemory)
+}
+
+// What the operation adds.
+fn op_load(op: &ChannelOp) -> Result<u64, OutOfMemory>
+    ensures { IfOk result (λ n. n ≡ op_load op.now) }
+{
+    match op {
+        ChannelOp::Text(TextOp::One(op)) => added(0, inserted_by_base(op)),
+        ChannelOp::Text(TextOp::Group(ops)) => base_loads(ops.as_slice()),
+        ChannelOp::Text(
+            TextOp::IntervalAdd { .. }
+            | TextOp::IntervalChange { .. }
+            | TextOp::IntervalDelete { .. },
+        ) => Ok(1),
+        ChannelOp::Grid(GridOp::One(op)) => added(0, inserted_by_cell(op)),
+        ChannelOp::Grid(GridOp::Group(ops)) => cell_loads(ops.as_slice()),
+    }
+}
+
+// A load with that of a further sub-operation that inserts so many elements.
+fn added(load: u64, inserted: u64) -> Result<u64, OutOfMemory>
+    ensures { IfOk result (λ n. n ≡ load + (1 + inserted)) }
+{
+    let more = inserted.checked_add(1).ok_or(OutOfMemory)?;
+    load.checked_add(more).ok_or(OutOfMemory)
+}
+
+// What sub-operations of the text add.
+fn base_loads(ops: &[BaseOp]) -> Result<u64, OutOfMemory>
+    ensures { IfOk result (λ n. n ≡ fold (λ n o. n + (1 + inserted_count o)) 0 (map (λ op. OnText op) ops.now)) }
+{
+    let mut load = 0;
+    for op in ops {
+        load = added(load, inserted_by_base(op))?;
+    }
+    Ok(load)
+}
+
+// What sub-operations of the grid add.
+fn cell_loads(ops: &[CellOp]) -> Result<u64, OutOfMemory>
+    ensures { IfOk result (λ n. n ≡ fold (λ n o. n + (1 + inserted_count o)) 0 (map (λ op. OnGrid op) ops.now)) }
+{
+    let mut load = 0;
+    for op in ops {
+        load = added(load, inserted_by_cell(op))?;
+    }
+    Ok(load)
+}
+
+// How many elements a sub-operation of the text inserts.
+fn inserted_by_base(op: &BaseOp) -> u64
+    ensures { result ≡ inserted_count (OnText op.now) }
+{
+    match op {
+        BaseOp::Insert {
+            seg: Seg::Chars { text },
+            ..
+        } => length_of(text),
+        BaseOp::Insert {
+            seg: Seg::Marker { .. },
+            ..
+        } => 1,
+        BaseOp::Remove { .. } | BaseOp::Annotate { .. } => 0,
+    }
+}
+
+// How many characters the text has.
+fn length_of(text: &Text) -> u64
+    ensures { result ≡ length text.now }
+{
+    text.as_str().chars().count() as u64
+}
+
+// How many units a sub-operation of the grid inserts.
+fn inserted_by_cell(op: &CellOp) -> u64
+    ensures { result ≡ inserted_count (OnGrid op.now) }
+{
+    match op {
+        CellOp::SpliceIn { count, .. } => *count,
+        CellOp::SpliceOut { .. } | CellOp::Set { .. } => 0,
+    }
+}
+
+// What the body of a message adds.
+fn body_load(body: &Body) -> Result<u64, OutOfMemory>
+    ensures { IfOk result (λ n. n ≡ body_load body.now) }
+{
+    match body {
+        Body::Op(op) => op_load(op),
+        Body::Nothing | Body::Elsewhere(_) => Ok(0),
+    }
+}
+
+// What the operation of an offered message adds.
+fn offer_load(alloc: Global, text: &Text) -> Result<u64, OutOfMemory>
+    ensures { IfOk result (λ n. n ≡ message_load text.now) }
+{
+    match read_message(alloc, text.as_str().as_bytes()) {
+        Ok(message) => body_load(&message.body),
+        Err(Cause::OutOfMemory) => Err(OutOfMemory),
+        Err(_) => Ok(0),
+    }
+}
+
+// What the operation of a submitted draft adds.
+fn submission_load(alloc: Global, text: &Text) -> Result<u64, OutOfMemory>
+    ensures { IfOk result (λ n. n ≡ draft_load text.now) }
+{
+    match read_draft(alloc, text.as_str().as_bytes()) {
+        Ok(draft) => body_load(&draft.body),
+        Err(Cause::OutOfMemory) => Err(OutOfMemory),
+        Err(_) => Ok(0),
+    }
+}
