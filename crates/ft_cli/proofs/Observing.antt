@@ -9,7 +9,8 @@ use Rattle.ft_msg.specs.Content.{ViewContent, shown}
 use Rattle.ft_msg.specs.NameTable.{names_after}
 use Rattle.ft_msg.specs.Process.{process}
 use Rattle.ft_document.specs.Observed.{ObservedState, observer_numbers, stop_number}
-use Rattle.ft_cli.specs.Report.{bytes_of, view_lines}
+use Rattle.ft_cli.specs.LineForm.{bytes_of}
+use Rattle.ft_cli.specs.Report.{view_lines}
 use Rattle.ft_msg.specs.Answers.{view_content}
 use Rattle.ft_seqr.specs.ViewLines.{content_lines, numbers_line}
 use Rattle.ft_seqr.specs.Walk.{Step}

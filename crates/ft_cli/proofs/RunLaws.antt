@@ -1,4 +1,4 @@
--- Where a run over the lines of a log stands, how it goes on, and how each of its ends is what the definition of a run says.
+-- Where a run over the lines of a form stands, how it goes on, and how each of its ends is what the definition of a run says.
 use Rattle.std.proofs.Common.{◌≡◌, ℕ, ◌+◌, ◌-◌, ◌<◌, ◌≤◌, ◌^◌, List, [], ◌∷◌, ◌++◌, Option, None, Result, Ok, Err, length, refl, sym, ◌∙◌, ap, subst, arith, append-nil, inl, inr, Bool, true, false, if◌then◌else◌, IfOk}
 use Rattle.std.specs.Io.KnownBytes.{Appends}
 use Rattle.std.proofs.lemmas.Grind.{flat_map-append}
@@ -17,77 +17,84 @@ use Rattle.ft_cli.specs.declared.statuses.Fault.TheVariants as fault
 use Rattle.ft_cli.specs.declared.statuses.Status.{Status}
 use Rattle.ft_cli.specs.declared.statuses.Status.TheVariants.{Done, SomeRefused, Usage}
 use Rattle.ft_cli.specs.declared.words.Form.{Form}
-use Rattle.ft_cli.specs.declared.words.Form.TheVariants.{Log}
-use Rattle.ft_cli.specs.Statuses.{fault_of_line}
+use Rattle.ft_cli.specs.Statuses.{fault_of_line, fault_status}
 use Rattle.ft_seqr.specs.Walk.{Progress, after_line, begin, line_limit, written_by, written_by_line}
-use Rattle.ft_cli.specs.Observation.{Observation, nothing_observed, observe}
-use Rattle.ft_cli.specs.Report.{bytes_of, log_after, log_end, log_lines, log_status, opened_of, report_of}
+use Rattle.ft_cli.specs.LineForm.{Account, LineForm, account_by, bytes_of, form_after, form_end, form_lines, form_status}
 use Rattle.ft_cli.specs.Writing.{Begins, WritesBytes}
-use Rattle.ft_cli.specs.Run.{IsWholeRun, Moves, Says, SaysForWords, SaysOfLines, end_status}
+use Rattle.ft_cli.specs.Run.{AllRead, IsWholeRun, Moves, Says, SaysForWords, SaysOfLines, end_status}
 use Rattle.ft_cli.proofs.Walking.{after_lines-append, written_by-append}
 use Rattle.ft_cli.proofs.Written.{begins_append, begins_more, begins_nil, begins_trans}
 
 -- a line more
-pub log_after-push : (handed : List (List ℕ)) (text : List ℕ) → log_after (handed ++ text ∷ []) ≡ after_line observe (log_after handed) text
-log_after-push handed text = after_lines-append observe (begin nothing_observed) handed (text ∷ [])
+pub after-push : {S : Type 0} (form : LineForm S) (handed : List (List ℕ)) (text : List ℕ)
+    → form_after form (handed ++ text ∷ []) ≡ after_line form.read (form_after form handed) text
+after-push form handed text = after_lines-append form.read (begin form.first) handed (text ∷ [])
 
-pub log_lines-push : (handed : List (List ℕ)) (text : List ℕ)
-    → bytes_of (log_lines (handed ++ text ∷ [])) ≡ bytes_of (log_lines handed) ++ bytes_of (written_by_line observe (log_after handed) text)
-log_lines-push handed text =
-    ap bytes_of (written_by-append observe (begin nothing_observed) handed (text ∷ [])) ∙ flat_map-append with_lf (log_lines handed) (written_by observe (log_after handed) (text ∷ []))
-    ∙ ap (λ bytes. bytes_of (log_lines handed) ++ bytes) (ap bytes_of (append-nil (written_by_line observe (log_after handed) text)))
+pub lines-push : {S : Type 0} (form : LineForm S) (handed : List (List ℕ)) (text : List ℕ)
+    → bytes_of (form_lines form (handed ++ text ∷ [])) ≡ bytes_of (form_lines form handed) ++ bytes_of (written_by_line form.read (form_after form handed) text)
+lines-push form handed text =
+    ap bytes_of (written_by-append form.read (begin form.first) handed (text ∷ []))
+    ∙ flat_map-append with_lf (form_lines form handed) (written_by form.read (form_after form handed) (text ∷ []))
+    ∙ ap (λ bytes. bytes_of (form_lines form handed) ++ bytes) (ap bytes_of (append-nil (written_by_line form.read (form_after form handed) text)))
 
 -- what the first lines write is the first of what all of them write
-begins_lines : (handed later : List (List ℕ)) → Begins (bytes_of (log_lines handed)) (bytes_of (log_lines (handed ++ later)))
-begins_lines handed later = record {
-  later = bytes_of (written_by observe (log_after handed) later);
-  place = ap bytes_of (written_by-append observe (begin nothing_observed) handed later) ∙ flat_map-append with_lf (log_lines handed) (written_by observe (log_after handed) later);
+begins_lines : {S : Type 0} (form : LineForm S) (handed later : List (List ℕ)) → Begins (bytes_of (form_lines form handed)) (bytes_of (form_lines form (handed ++ later)))
+begins_lines form handed later = record {
+  later = bytes_of (written_by form.read (form_after form handed) later);
+  place = ap bytes_of (written_by-append form.read (begin form.first) handed later)
+      ∙ flat_map-append with_lf (form_lines form handed) (written_by form.read (form_after form handed) later);
 }
 
 -- .. and of the report
-pub begins_report : (given : List ℕ) (handed later : List (List ℕ)) → lines given ≡ handed ++ later → Begins (bytes_of (log_lines handed)) (report_of Log given)
-begins_report given handed later is =
+pub begins_report : {S : Type 0} (form : LineForm S) (given : List ℕ) (handed later : List (List ℕ)) → lines given ≡ handed ++ later
+    → Begins (bytes_of (form_lines form handed)) ((account_by form).report given)
+begins_report form given handed later is =
     let all = lines given in
-    subst (Begins (bytes_of (log_lines handed))) (sym (flat_map-append with_lf (log_lines all) (log_end (log_after all))))
-    (begins_more (bytes_of (log_end (log_after all))) (subst (λ ls. Begins (bytes_of (log_lines handed)) (bytes_of (log_lines ls))) (sym is) (begins_lines handed later)))
+    subst (Begins (bytes_of (form_lines form handed))) (sym (flat_map-append with_lf (form_lines form all) (form_end form (form_after form all))))
+    (begins_more (bytes_of (form_end form (form_after form all)))
+    (subst (λ ls. Begins (bytes_of (form_lines form handed)) (bytes_of (form_lines form ls))) (sym is) (begins_lines form handed later)))
 
 -- .. and of what the ended lines write
-pub begins_opened : (given : List ℕ) (handed later : List (List ℕ)) → ended_lines given ≡ handed ++ later → Begins (bytes_of (log_lines handed)) (opened_of Log given)
-begins_opened given handed later is = subst (λ ls. Begins (bytes_of (log_lines handed)) (bytes_of (log_lines ls))) (sym is) (begins_lines handed later)
+pub begins_opened : {S : Type 0} (form : LineForm S) (given : List ℕ) (handed later : List (List ℕ)) → ended_lines given ≡ handed ++ later
+    → Begins (bytes_of (form_lines form handed)) ((account_by form).opened given)
+begins_opened form given handed later is =
+    subst (λ ls. Begins (bytes_of (form_lines form handed)) (bytes_of (form_lines form ls))) (sym is) (begins_lines form handed later)
 
--- Where a run stands: these lines were handed out, their effect is known, and what they write was written.
-pub record Stands (first left : Option (List ℕ)) (reader : Reader) (held holds : Option (List ℕ)) (at : Progress Observation) : Type 0 where
+-- Where a run stands: these lines were handed out, what holds after them is known, and what they write was written.
+pub record Stands {S : Type 0} (form : LineForm S) (IsAfter : Progress S → Type 0) (first left : Option (List ℕ)) (reader : Reader) (held holds : Option (List ℕ)) : Type 0 where
   pub given : List ℕ
   pub handed : List (List ℕ)
   pub reading : Reading first left reader given handed
   pub limit : reader.limit ≡ line_limit
-  pub progress : at ≡ log_after handed
-  pub takes : Appends held holds (bytes_of (log_lines handed))
-  pub near : at.lines + to_come reader ≤ input_limit + 1
+  pub after : IsAfter (form_after form handed)
+  pub takes : Appends held holds (bytes_of (form_lines form handed))
+  pub near : (form_after form handed).lines + to_come reader ≤ input_limit + 1
 
 -- before the first line
-pub stands_start : (first held : Option (List ℕ)) (reader : Reader) (at : Progress Observation) → reader ≡ new_reader line_limit → at ≡ begin nothing_observed
-    → Stands first first reader held held at
-stands_start first held reader at new_is begin_is = subst (λ r. Stands first first r held held at) (sym new_is) (record {
+pub stands_start : {S : Type 0} (form : LineForm S) (IsAfter : Progress S → Type 0) (first held : Option (List ℕ)) (reader : Reader) → reader ≡ new_reader line_limit
+    → IsAfter (begin form.first) → Stands form IsAfter first first reader held held
+stands_start form IsAfter first held reader new_is after = subst (λ r. Stands form IsAfter first first r held held) (sym new_is) (record {
   given = [];
   handed = [];
   reading = reading_start first line_limit;
   limit = refl;
-  progress = begin_is;
+  after = after;
   takes = Appends-nil held;
-  near = omega (arith, ap (λ p. p.lines) begin_is);
+  near = omega arith;
 })
 
--- the same said of an equal answer
-pub with_answer : (first left held holds : Option (List ℕ)) (source_rose sink_rose : Type 0) {result answer : Result (Progress Observation) Fault} → result ≡ answer
-    → Moves first left held holds (SaysOfLines left source_rose sink_rose answer) → Moves first left held holds (SaysOfLines left source_rose sink_rose result)
-with_answer first left held holds source_rose sink_rose is moves = subst (λ r. Moves first left held holds (SaysOfLines left source_rose sink_rose r)) (sym is) moves
+-- the same said of the answer that a fault is
+pub with_fault : {S T : Type 0} (form : LineForm S) (IsAfter : T → Progress S → Type 0) (first left held holds : Option (List ℕ)) (source_rose sink_rose : Type 0)
+    {result : Result T Fault} {why : Fault} → result ≡ Err why → Moves first left held holds (Says (account_by form) left source_rose sink_rose (fault_status why))
+    → Moves first left held holds (SaysOfLines form IsAfter left source_rose sink_rose result)
+with_fault form IsAfter first left held holds source_rose sink_rose is moves =
+    subst (λ r. Moves first left held holds (SaysOfLines form IsAfter left source_rose sink_rose r)) (sym is) moves
 
 -- nothing was read or written, for want of memory
-pub moves_nothing : (first held : Option (List ℕ)) (source_rose sink_rose : Type 0)
-    → Moves first first held held (SaysOfLines first source_rose sink_rose (Err fault.OutOfMemory))
-moves_nothing first held source_rose sink_rose =
-    record { given = []; gives = Consumes-nil first; written = []; takes = Appends-nil held; says = inl (begins_nil (report_of Log [])) }
+pub moves_nothing : {S : Type 0} (form : LineForm S) (first held : Option (List ℕ)) (source_rose sink_rose : Type 0)
+    → Moves first first held held (Says (account_by form) first source_rose sink_rose (fault_status fault.OutOfMemory))
+moves_nothing form first held source_rose sink_rose =
+    record { given = []; gives = Consumes-nil first; written = []; takes = Appends-nil held; says = inl (begins_nil ((account_by form).report [])) }
 
 -- a line was handed out, the bytes given being these
 pub record NextLine (first left : Option (List ℕ)) (old new : Reader) (given : List ℕ) (handed : List (List ℕ)) (line : Line) : Type 0 where
@@ -104,54 +111,55 @@ is_full text within = grind (arith, nat_tests)
 is_too_long : (text : List ℕ) → line_limit < length text → TooLong ≡ handed_out line_limit text
 is_too_long text long = grind (arith, nat_tests)
 
-module _ {first next left held holds : Option (List ℕ)} {old new : Reader} {at : Progress Observation} (stands : Stands first next old held holds at) where
+module _ {S : Type 0} {form : LineForm S} {IsAfter : Progress S → Type 0} {first next left held holds : Option (List ℕ)} {old new : Reader}
+    (stands : Stands form IsAfter first next old held holds) where
   -- the run ends with the input
-  pub moves_end : {before now : ℕ} {line : Line} (line_call : Call old new next left before now (Ok line)) → line ≡ End → (source_rose sink_rose : Type 0) → Moves first left held holds (SaysOfLines left source_rose sink_rose (Ok at))
-  moves_end {before} {now} line_call is source_rose sink_rose =
+  pub moves_end : {before now : ℕ} {line : Line} (line_call : Call old new next left before now (Ok line)) → line ≡ End → Moves first left held holds (AllRead form IsAfter left)
+  moves_end {before} {now} line_call is =
       let call = subst (λ l. Call old new next left before now (Ok l)) is line_call in
       let whole = reading_end stands.reading call in
       record {
         given = stands.given ++ call.got;
         gives = reading_gives stands.reading call;
-        written = bytes_of (log_lines stands.handed);
+        written = bytes_of (form_lines form stands.handed);
         takes = stands.takes;
         says = record {
           at_end = whole.at_end;
           within = whole.within;
-          progress = stands.progress ∙ ap log_after (sym whole.lines);
-          report = ap (λ ls. bytes_of (log_lines ls)) (sym whole.lines);
+          after = subst (λ ls. IsAfter (form_after form ls)) (sym whole.lines) stands.after;
+          report = ap (λ ls. bytes_of (form_lines form ls)) (sym whole.lines);
         };
       }
 
   -- the run ends with a fault of the reader of lines
   pub moves_fault : {before now : ℕ} (reader_fault : LineFault) (call : Call old new next left before now (Err reader_fault)) (start : ℕ) (sink_rose : Type 0) → start ≤ before
-      → Moves first left held holds (SaysOfLines left (Rose start now) sink_rose (Err (fault_of_line reader_fault)))
+      → Moves first left held holds (Says (account_by form) left (Rose start now) sink_rose (fault_status (fault_of_line reader_fault)))
   moves_fault Read call start sink_rose later =
       let read = reading_read stands.reading call in
       record {
         given = stands.given ++ call.got;
         gives = reading_gives stands.reading call;
-        written = bytes_of (log_lines stands.handed);
+        written = bytes_of (form_lines form stands.handed);
         takes = stands.takes;
-        says = (omega (arith, call.answers.2, later), read.1, ap (λ ls. bytes_of (log_lines ls)) (sym read.0));
+        says = (omega (arith, call.answers.2, later), read.1, ap (λ ls. bytes_of (form_lines form ls)) (sym read.0));
       }
   moves_fault InputLimit call start sink_rose later =
       let limit = reading_limit stands.reading call in
       record {
         given = stands.given ++ call.got;
         gives = reading_gives stands.reading call;
-        written = bytes_of (log_lines stands.handed);
+        written = bytes_of (form_lines form stands.handed);
         takes = stands.takes;
-        says = (limit.1, ap (λ ls. bytes_of (log_lines ls)) (sym limit.0));
+        says = (limit.1, ap (λ ls. bytes_of (form_lines form ls)) (sym limit.0));
       }
   moves_fault OutOfMemory call start sink_rose later =
       let memory = reading_memory stands.reading call in
       record {
         given = stands.given ++ call.got;
         gives = reading_gives stands.reading call;
-        written = bytes_of (log_lines stands.handed);
+        written = bytes_of (form_lines form stands.handed);
         takes = stands.takes;
-        says = inr (begins_opened (stands.given ++ call.got) stands.handed memory.0 memory.1);
+        says = inr (begins_opened form (stands.given ++ call.got) stands.handed memory.0 memory.1);
       }
 
   pub next_line : {before now : ℕ} (line : Line) (call : Call old new next left before now (Ok line)) → (line ≡ End → ⊥)
@@ -165,104 +173,107 @@ module _ {first next left held holds : Option (List ℕ)} {old new : Reader} {at
       record { text = long.0; is_text = is_too_long long.0 (subst (λ limit. limit < length long.0) stands.limit long.1); reading = long.2; limit = call.limit ∙ stands.limit; nearer = long.3 }
 
   -- it is early enough for one more line
-  pub few_lines : {given : List ℕ} {line : Line} → NextLine first left old new given stands.handed line → at.lines < 2 ^ 32 - 1
+  pub few_lines : {given : List ℕ} {line : Line} → NextLine first left old new given stands.handed line → (form_after form stands.handed).lines < 2 ^ 32 - 1
   few_lines next = omega (arith, stands.near, next.nearer)
 
   module _ {given : List ℕ} {line : Line} (next_is : NextLine first left old new given stands.handed line) (taken : Option (List ℕ)) where
     -- its step is done
-    pub stands_next : (after : Progress Observation) (sink_before sink_now : ℕ) → after ≡ after_line observe at next_is.text
-        → WritesBytes {T = Progress Observation} holds taken sink_before sink_now (bytes_of (written_by_line observe at next_is.text)) (Ok after) → Stands first left new held taken after
-    stands_next after sink_before sink_now is writes =
+    pub stands_next : {T : Type 0} (done : T) (IsThen : Progress S → Type 0) (sink_before sink_now : ℕ)
+        → IsThen (after_line form.read (form_after form stands.handed) next_is.text)
+        → WritesBytes {T = T} holds taken sink_before sink_now (bytes_of (written_by_line form.read (form_after form stands.handed) next_is.text)) (Ok done)
+        → Stands form IsThen first left new held taken
+    stands_next done IsThen sink_before sink_now is writes =
+        let handed = stands.handed in
         let text = next_is.text in
-        let all : bytes_of (log_lines stands.handed) ++ writes.written ≡ bytes_of (log_lines (stands.handed ++ text ∷ [])) =
-        ap (λ bytes. bytes_of (log_lines stands.handed) ++ bytes) (writes.says ∙ ap (λ p. bytes_of (written_by_line observe p text)) stands.progress) ∙ sym (log_lines-push stands.handed text) in
+        let all : bytes_of (form_lines form handed) ++ writes.written ≡ bytes_of (form_lines form (handed ++ text ∷ [])) =
+        ap (λ bytes. bytes_of (form_lines form handed) ++ bytes) writes.says ∙ sym (lines-push form handed text) in
         record {
           given = given;
-          handed = stands.handed ++ text ∷ [];
+          handed = handed ++ text ∷ [];
           reading = next_is.reading;
           limit = next_is.limit;
-          progress = is ∙ ap (λ p. after_line observe p text) stands.progress ∙ sym (log_after-push stands.handed text);
-          takes = subst (Appends held taken) all (Appends-append held holds taken (bytes_of (log_lines stands.handed)) writes.written stands.takes writes.takes);
-          near = omega (arith, stands.near, next_is.nearer, ap (λ p. p.lines) is);
+          after = subst IsThen (sym (after-push form handed text)) is;
+          takes = subst (Appends held taken) all (Appends-append held holds taken (bytes_of (form_lines form handed)) writes.written stands.takes writes.takes);
+          near = omega (arith, stands.near, next_is.nearer, ap (λ p. p.lines) (after-push form handed text));
         }
 
     -- what a step wrote in part is the first of the report
-    begins_step : {front : List ℕ} → Begins front (bytes_of (written_by_line observe at next_is.text)) → Begins (bytes_of (log_lines stands.handed) ++ front) (report_of Log given)
+    begins_step : {front : List ℕ} → Begins front (bytes_of (written_by_line form.read (form_after form stands.handed) next_is.text))
+        → Begins (bytes_of (form_lines form stands.handed) ++ front) ((account_by form).report given)
     begins_step {front} b =
         let so_far = reading_so_far next_is.reading in
         let text = next_is.text in
         begins_trans
-        (subst (Begins (bytes_of (log_lines stands.handed) ++ front))
-        (ap (λ p. bytes_of (log_lines stands.handed) ++ bytes_of (written_by_line observe p text)) stands.progress ∙ sym (log_lines-push stands.handed text))
-        (begins_append (bytes_of (log_lines stands.handed)) b))
-        (begins_report given (stands.handed ++ text ∷ []) so_far.0 so_far.1)
+        (subst (Begins (bytes_of (form_lines form stands.handed) ++ front)) (sym (lines-push form stands.handed text)) (begins_append (bytes_of (form_lines form stands.handed)) b))
+        (begins_report form given (stands.handed ++ text ∷ []) so_far.0 so_far.1)
 
     -- the run ends with a fault in its step
-    pub moves_step : (f : Fault) (sink_start sink_before sink_now : ℕ) (source_rose : Type 0) → sink_start ≤ sink_before
-        → WritesBytes {T = Progress Observation} holds taken sink_before sink_now (bytes_of (written_by_line observe at next_is.text)) (Err f)
-        → Moves first left held taken (SaysOfLines left source_rose (Rose sink_start sink_now) (Err f))
+    pub moves_step : {T : Type 0} (f : Fault) (sink_start sink_before sink_now : ℕ) (source_rose : Type 0) → sink_start ≤ sink_before
+        → WritesBytes {T = T} holds taken sink_before sink_now (bytes_of (written_by_line form.read (form_after form stands.handed) next_is.text)) (Err f)
+        → Moves first left held taken (Says (account_by form) left source_rose (Rose sink_start sink_now) (fault_status f))
     moves_step fault.Read sink_start sink_before sink_now source_rose later writes = absurd writes.says
     moves_step fault.InputLimit sink_start sink_before sink_now source_rose later writes = absurd writes.says
     moves_step fault.Write sink_start sink_before sink_now source_rose later writes = record {
       given = given;
       gives = next_is.reading.gives;
-      written = bytes_of (log_lines stands.handed) ++ writes.written;
-      takes = Appends-append held holds taken (bytes_of (log_lines stands.handed)) writes.written stands.takes writes.takes;
+      written = bytes_of (form_lines form stands.handed) ++ writes.written;
+      takes = Appends-append held holds taken (bytes_of (form_lines form stands.handed)) writes.written stands.takes writes.takes;
       says = (omega (arith, writes.says.0, later), inl (begins_step writes.says.1));
     }
     moves_step fault.OutOfMemory sink_start sink_before sink_now source_rose later writes = record {
       given = given;
       gives = next_is.reading.gives;
-      written = bytes_of (log_lines stands.handed) ++ writes.written;
-      takes = Appends-append held holds taken (bytes_of (log_lines stands.handed)) writes.written stands.takes writes.takes;
+      written = bytes_of (form_lines form stands.handed) ++ writes.written;
+      takes = Appends-append held holds taken (bytes_of (form_lines form stands.handed)) writes.written stands.takes writes.takes;
       says = inl (begins_step writes.says);
     }
 
 -- a whole report ends with one of two statuses
-says_whole : (b : Bool) (status : Status) (left : Option (List ℕ)) (source_rose sink_rose : Type 0) (given written : List ℕ) → status ≡ (if b then Done else SomeRefused)
-    → IsWholeRun Log left status given written → Says Log left source_rose sink_rose status given written
-says_whole true status left source_rose sink_rose given written is whole =
-    subst (λ s. Says Log left source_rose sink_rose s given written) (sym is) (subst (λ s. IsWholeRun Log left s given written) is whole)
-says_whole false status left source_rose sink_rose given written is whole =
-    subst (λ s. Says Log left source_rose sink_rose s given written) (sym is) (subst (λ s. IsWholeRun Log left s given written) is whole)
+says_whole : (b : Bool) (account : Account) (status : Status) (left : Option (List ℕ)) (source_rose sink_rose : Type 0) (given written : List ℕ)
+    → status ≡ (if b then Done else SomeRefused) → IsWholeRun account left status given written → Says account left source_rose sink_rose status given written
+says_whole true account status left source_rose sink_rose given written is whole =
+    subst (λ s. Says account left source_rose sink_rose s given written) (sym is) (subst (λ s. IsWholeRun account left s given written) is whole)
+says_whole false account status left source_rose sink_rose given written is whole =
+    subst (λ s. Says account left source_rose sink_rose s given written) (sym is) (subst (λ s. IsWholeRun account left s given written) is whole)
 
-module _ (first left held holds taken : Option (List ℕ)) (at : Progress Observation) (source_rose before_rose : Type 0) (sink_start sink_before sink_now : ℕ)
-    (lines_moved : Moves first left held holds (SaysOfLines left source_rose before_rose (Ok at))) (later : sink_start ≤ sink_before) where
+module _ {S : Type 0} {form : LineForm S} {IsAfter : Progress S → Type 0} {first left held holds : Option (List ℕ)} (taken : Option (List ℕ)) (source_rose : Type 0) (sink_start sink_before sink_now : ℕ)
+    (lines_moved : Moves first left held holds (AllRead form IsAfter left)) (later : sink_start ≤ sink_before) where
   -- what was written before, and the whole of what stands behind it, are the report
-  written_whole : (written : List ℕ) → written ≡ bytes_of (log_end at) → lines_moved.written ++ written ≡ report_of Log lines_moved.given
+  written_whole : (written : List ℕ) → written ≡ bytes_of (form_end form (form_after form (lines lines_moved.given))) → lines_moved.written ++ written ≡ (account_by form).report lines_moved.given
   written_whole written is =
       let all = lines lines_moved.given in
-      ap (λ bytes. lines_moved.written ++ bytes) (is ∙ ap (λ p. bytes_of (log_end p)) lines_moved.says.progress)
-      ∙ ap (λ bytes. bytes ++ bytes_of (log_end (log_after all))) lines_moved.says.report ∙ sym (flat_map-append with_lf (log_lines all) (log_end (log_after all)))
+      ap (λ bytes. lines_moved.written ++ bytes) is ∙ ap (λ bytes. bytes ++ bytes_of (form_end form (form_after form all))) lines_moved.says.report
+      ∙ sym (flat_map-append with_lf (form_lines form all) (form_end form (form_after form all)))
 
   -- .. and a part of it is the first of the report
-  begins_close : {front : List ℕ} → Begins front (bytes_of (log_end at)) → Begins (lines_moved.written ++ front) (report_of Log lines_moved.given)
-  begins_close {front} b = subst (Begins (lines_moved.written ++ front)) (written_whole (bytes_of (log_end at)) refl) (begins_append lines_moved.written b)
+  begins_close : {front : List ℕ} → Begins front (bytes_of (form_end form (form_after form (lines lines_moved.given)))) → Begins (lines_moved.written ++ front) ((account_by form).report lines_moved.given)
+  begins_close {front} b =
+      subst (Begins (lines_moved.written ++ front)) (written_whole (bytes_of (form_end form (form_after form (lines lines_moved.given)))) refl) (begins_append lines_moved.written b)
 
   -- all lines were read, and what stands behind them was written, or not
-  pub moves_close : (result : Result Status Fault) → IfOk result (λ status. status ≡ log_status at) → WritesBytes {T = Status} holds taken sink_before sink_now (bytes_of (log_end at)) result
-      → Moves first left held taken (Says Log left source_rose (Rose sink_start sink_now) (end_status result))
-  moves_close (Ok status) is writes =
+  pub moves_close : (result : Result Status Fault) → IfOk result (λ status. status ≡ form_status form (form_after form (lines lines_moved.given)))
+      → WritesBytes {T = Status} holds taken sink_before sink_now (bytes_of (form_end form (form_after form (lines lines_moved.given)))) result
+      → Moves first left held taken (Says (account_by form) left source_rose (Rose sink_start sink_now) (end_status result))
+  moves_close (Ok status) ends writes =
       let whole = written_whole writes.written writes.says in
-      let ends : status ≡ log_status (log_after (lines lines_moved.given)) = is ∙ ap log_status lines_moved.says.progress in
       record {
         given = lines_moved.given;
         gives = lines_moved.gives;
         written = lines_moved.written ++ writes.written;
         takes = Appends-append held holds taken lines_moved.written writes.written lines_moved.takes writes.takes;
-        says = says_whole _ status left source_rose (Rose sink_start sink_now) lines_moved.given (lines_moved.written ++ writes.written) ends
+        says = says_whole _ (account_by form) status left source_rose (Rose sink_start sink_now) lines_moved.given (lines_moved.written ++ writes.written) ends
             (record { at_end = lines_moved.says.at_end; within = lines_moved.says.within; report = whole; ends = ends });
       }
-  moves_close (Err fault.Read) is writes = absurd writes.says
-  moves_close (Err fault.InputLimit) is writes = absurd writes.says
-  moves_close (Err fault.Write) is writes = record {
+  moves_close (Err fault.Read) ends writes = absurd writes.says
+  moves_close (Err fault.InputLimit) ends writes = absurd writes.says
+  moves_close (Err fault.Write) ends writes = record {
     given = lines_moved.given;
     gives = lines_moved.gives;
     written = lines_moved.written ++ writes.written;
     takes = Appends-append held holds taken lines_moved.written writes.written lines_moved.takes writes.takes;
     says = (omega (arith, writes.says.0, later), inl (begins_close writes.says.1));
   }
-  moves_close (Err fault.OutOfMemory) is writes = record {
+  moves_close (Err fault.OutOfMemory) ends writes = record {
     given = lines_moved.given;
     gives = lines_moved.gives;
     written = lines_moved.written ++ writes.written;

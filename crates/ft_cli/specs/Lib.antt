@@ -2,6 +2,8 @@ pub mod Words
 pub mod Refusals
 pub mod Observation
 pub mod Statuses
+pub mod LineForm
+pub mod Listening
 pub mod Report
 pub mod Writing
 pub mod Run

@@ -1,60 +1,51 @@
 -- The report: what is written of an input. Every line of it ends with LF.
-use Rattle.std.specs.Prelude.{ℕ, ◌&&◌, ◌==◌, List, [], ◌∷◌, ◌++◌, Option, Some, None, if◌then◌else◌}
-use Rattle.std.specs.List.{flat_map}
-use Rattle.ft_io.specs.Lines.{lines, ended_lines, with_lf}
-use Rattle.ft_op.specs.Document.{Document, empty}
-use Rattle.ft_msg.specs.declared.views.Numbers.{Numbers}
+use Rattle.std.specs.Prelude.{ℕ, List, [], ◌∷◌, Option, Some, None}
+use Rattle.ft_io.specs.Lines.{lines, ended_lines}
+use Rattle.ft_op.specs.Document.{Document}
 use Rattle.ft_msg.specs.Content.{shown}
 use Rattle.ft_document.specs.Observed.{observer_numbers}
-use Rattle.ft_seqr.specs.SessionReport.{closing_lines}
-use Rattle.ft_cli.specs.declared.statuses.Status.{Status}
-use Rattle.ft_cli.specs.declared.statuses.Status.TheVariants.{Done, SomeRefused}
-use Rattle.ft_cli.specs.declared.words.Form.{Form}
-use Rattle.ft_cli.specs.declared.words.Form.TheVariants.{Log}
-use Rattle.ft_cli.specs.Words.{form_of}
+use Rattle.ft_seqr.specs.SessionReport.{Shows, as_applied, session_after, session_lines, session_report, take_line}
 use Rattle.ft_seqr.specs.ViewLines.{content_lines, numbers_line}
-use Rattle.ft_seqr.specs.Walk.{Progress, begin, after_lines, written_by}
+use Rattle.ft_seqr.specs.World.{NaiveWorld, furthest, new_world}
+use Rattle.ft_cli.specs.declared.statuses.Status.{Status}
+use Rattle.ft_cli.specs.declared.words.Form.{Form}
+use Rattle.ft_cli.specs.declared.words.Form.TheVariants.{Log, Session}
+use Rattle.ft_cli.specs.LineForm.{Account, LineForm, bytes_of, form_after, form_lines, form_report, form_status}
 use Rattle.ft_cli.specs.Observation.{Observation, nothing_observed, observe}
+use Rattle.ft_cli.specs.Words.{form_of}
 
 -- the lines of an observer's view
 unfoldable pub view_lines : Document → List (List ℕ)
 view_lines doc = numbers_line (observer_numbers doc) ∷ content_lines (shown doc)
 
--- the bytes of lines, each with its LF
-abbrev pub bytes_of : List (List ℕ) → List ℕ
-bytes_of texts = flat_map with_lf texts
+-- `log`: an observer takes the messages, and its view stands behind the refusals of the lines
+abbrev pub log_form : LineForm Observation
+log_form =
+    record { first = nothing_observed; read = observe; shown = λ seen. view_lines seen.doc; counted = λ seen. seen.doc }
 
--- a document with the counts of these numbers
-abbrev pub document_counting : Numbers → Document
-document_counting numbers = record empty { skipped = numbers.skipped; other = numbers.other }
-
--- an observer after the lines of a log
-abbrev pub log_after : List (List ℕ) → Progress Observation
-log_after lines = after_lines observe (begin nothing_observed) lines
-
--- what the lines of a log write: their refusals
-abbrev pub log_lines : List (List ℕ) → List (List ℕ)
-log_lines lines = written_by observe (begin nothing_observed) lines
-
--- what is written behind the lines of a log: the observer's view, and the last lines
-abbrev pub log_end : Progress Observation → List (List ℕ)
-log_end at = view_lines at.made.doc ++ closing_lines at.refused at.made.doc
-
--- the status behind a whole report: whether no line was refused and no sub-operation skipped
-abbrev pub log_status : Progress Observation → Status
-log_status at = if at.refused == 0 && at.made.doc.skipped == 0 then Done else SomeRefused
+-- `session`: a session takes the events, and what each of them writes stands in its place. The counts are those of the client with
+-- the greatest number
+abbrev pub session_form : Shows → LineForm NaiveWorld
+session_form shows = record { first = new_world; read = take_line shows; shown = λ w. []; counted = furthest }
 
 -- the report of a form
 abbrev pub report_of : Form → List ℕ → List ℕ
-report_of Log bytes = bytes_of (log_lines (lines bytes) ++ log_end (log_after (lines bytes)))
+report_of Log bytes = bytes_of (form_report log_form (lines bytes))
+report_of Session bytes = bytes_of (session_report as_applied (lines bytes))
 
 -- what the lines of the bytes that end with LF write, without what is written behind them
 abbrev pub opened_of : Form → List ℕ → List ℕ
-opened_of Log bytes = bytes_of (log_lines (ended_lines bytes))
+opened_of Log bytes = bytes_of (form_lines log_form (ended_lines bytes))
+opened_of Session bytes = bytes_of (session_lines as_applied (ended_lines bytes))
 
 -- the status behind the whole report of a form
 abbrev pub status_of : Form → List ℕ → Status
-status_of Log bytes = log_status (log_after (lines bytes))
+status_of Log bytes = form_status log_form (form_after log_form (lines bytes))
+status_of Session bytes = form_status (session_form as_applied) (session_after as_applied (lines bytes))
+
+-- what a form comes to
+abbrev pub account_of : Form → Account
+account_of form = record { report = report_of form; opened = opened_of form; status = status_of form }
 
 -- what is written for an input, nothing where there is no form
 abbrev pub report_for : Option Form → List ℕ → List ℕ

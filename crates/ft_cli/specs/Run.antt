@@ -7,12 +7,11 @@ use Rattle.ft_cli.specs.declared.statuses.Status.{Status}
 use Rattle.ft_cli.specs.declared.statuses.Status.TheVariants.{Done, SomeRefused, Usage, ReadFault, WriteFault, OutOfMemory, InputLimit}
 use Rattle.ft_cli.specs.declared.statuses.Fault.{Fault}
 use Rattle.ft_cli.specs.declared.words.Form.{Form}
-use Rattle.ft_cli.specs.declared.words.Form.TheVariants.{Log}
 use Rattle.ft_cli.specs.Statuses.{fault_status}
 use Rattle.ft_cli.specs.Words.{form_of}
 use Rattle.ft_seqr.specs.Walk.{Progress}
-use Rattle.ft_cli.specs.Observation.{Observation}
-use Rattle.ft_cli.specs.Report.{bytes_of, log_after, log_lines, opened_of, report_of, status_of}
+use Rattle.ft_cli.specs.LineForm.{Account, LineForm, account_by, bytes_of, form_after, form_lines}
+use Rattle.ft_cli.specs.Report.{account_of}
 use Rattle.ft_cli.specs.Writing.{Begins}
 
 -- The bytes that moved in a call: the source, which had first and has left, gave some, and the sink, which held these and holds
@@ -25,31 +24,31 @@ pub record Moves (first left held holds : Option (List ℕ)) (Said : List ℕ �
   pub says : Said given written
 
 -- the input was read to its end, and its whole report written
-pub record IsWholeRun (form : Form) (left : Option (List ℕ)) (status : Status) (given written : List ℕ) : Type 0 where
+pub record IsWholeRun (account : Account) (left : Option (List ℕ)) (status : Status) (given written : List ℕ) : Type 0 where
   pub at_end : IsAtEnd left
   pub within : length given ≤ input_limit
-  pub report : written ≡ report_of form given
-  pub ends : status ≡ status_of form given
+  pub report : written ≡ account.report given
+  pub ends : status ≡ account.status given
 
 -- the bytes written are the first of the report of the bytes given, or of what their ended lines write
-abbrev pub IsPart : Form → List ℕ → List ℕ → Type 0
-IsPart form given written = Begins written (report_of form given) ⊎ Begins written (opened_of form given)
+abbrev pub IsPart : Account → List ℕ → List ℕ → Type 0
+IsPart account given written = Begins written (account.report given) ⊎ Begins written (account.opened given)
 
--- What a status says of the bytes given and written, where the words are of a form. A fault of the source or the sink comes only
--- where its count rose.
-abbrev pub Says : Form → Option (List ℕ) → Type 0 → Type 0 → Status → List ℕ → List ℕ → Type 0
-Says form left source_rose sink_rose Usage given written = ⊥
-Says form left source_rose sink_rose ReadFault given written =
-    source_rose × (length given ≤ input_limit) × (written ≡ opened_of form given)
-Says form left source_rose sink_rose WriteFault given written = sink_rose × IsPart form given written
-Says form left source_rose sink_rose OutOfMemory given written = IsPart form given written
-Says form left source_rose sink_rose InputLimit given written = (length given ≡ input_limit + 1) × (written ≡ opened_of form given)
-Says form left source_rose sink_rose status given written = IsWholeRun form left status given written
+-- What a status says of the bytes given and written, by what the form comes to. A fault of the source or the sink comes only where
+-- its count rose.
+abbrev pub Says : Account → Option (List ℕ) → Type 0 → Type 0 → Status → List ℕ → List ℕ → Type 0
+Says account left source_rose sink_rose Usage given written = ⊥
+Says account left source_rose sink_rose ReadFault given written =
+    source_rose × (length given ≤ input_limit) × (written ≡ account.opened given)
+Says account left source_rose sink_rose WriteFault given written = sink_rose × IsPart account given written
+Says account left source_rose sink_rose OutOfMemory given written = IsPart account given written
+Says account left source_rose sink_rose InputLimit given written = (length given ≡ input_limit + 1) × (written ≡ account.opened given)
+Says account left source_rose sink_rose status given written = IsWholeRun account left status given written
 
 -- the same, where the words may be of no form: then nothing is read or written
 abbrev pub SaysForWords : Option Form → Option (List ℕ) → Type 0 → Type 0 → Status → List ℕ → List ℕ → Type 0
 SaysForWords None left source_rose sink_rose status given written = (status ≡ Usage) × (given ≡ []) × (written ≡ [])
-SaysForWords (Some form) left source_rose sink_rose status given written = Says form left source_rose sink_rose status given written
+SaysForWords (Some form) left source_rose sink_rose status given written = Says (account_of form) left source_rose sink_rose status given written
 
 -- a status behind a whole report
 abbrev pub EndsWhole : Status → Type 0
@@ -75,14 +74,17 @@ abbrev pub end_status : Result Status Fault → Status
 end_status (Ok status) = status
 end_status (Err fault) = fault_status fault
 
--- all lines of a log were read, and what they write was written
-pub record AllRead (left : Option (List ℕ)) (at : Progress Observation) (given written : List ℕ) : Type 0 where
+-- all lines were read, what they write was written, and this holds of how far the form is
+pub record AllRead {S : Type 0} (form : LineForm S) (IsAfter : Progress S → Type 0) (left : Option (List ℕ)) (given written : List ℕ)
+    : Type 0 where
   pub at_end : IsAtEnd left
   pub within : length given ≤ input_limit
-  pub progress : at ≡ log_after (lines given)
-  pub report : written ≡ bytes_of (log_lines (lines given))
+  pub after : IsAfter (form_after form (lines given))
+  pub report : written ≡ bytes_of (form_lines form (lines given))
 
--- what is said of the bytes given and written where the lines of a log are read
-abbrev pub SaysOfLines : Option (List ℕ) → Type 0 → Type 0 → Result (Progress Observation) Fault → List ℕ → List ℕ → Type 0
-SaysOfLines left source_rose sink_rose (Ok at) given written = AllRead left at given written
-SaysOfLines left source_rose sink_rose (Err fault) given written = Says Log left source_rose sink_rose (fault_status fault) given written
+-- what is said of the bytes given and written where the lines of a form are read, and an answer is given of which this holds
+abbrev pub SaysOfLines : {S T : Type 0} → LineForm S → (T → Progress S → Type 0) → Option (List ℕ) → Type 0 → Type 0 → Result T Fault
+    → List ℕ → List ℕ → Type 0
+SaysOfLines form IsAfter left source_rose sink_rose (Ok a) given written = AllRead form (IsAfter a) left given written
+SaysOfLines form IsAfter left source_rose sink_rose (Err fault) given written =
+    Says (account_by form) left source_rose sink_rose (fault_status fault) given written

@@ -1,17 +1,22 @@
 //! Runs of Vemiktag's program: what it reads, what it writes, and how it ends.
 //!
-//! `log` reads sequenced messages from a source, one a line, and writes to a sink what an observer of
-//! them shows at the end, and which lines were refused. A status says how the run ended, and its code is
-//! what a program ends with.
+//! A form reads lines from a source and writes to a sink what each of them writes, which of them are
+//! refused, and what stands behind them. What hears the lines is a `Listener`: the walk over them is one
+//! for all forms. `log` reads sequenced messages, and shows at the end what an observer of them shows.
+//! `session` reads the events of clients and guests, and shows a client where one asks for it. A status
+//! says how the run ended, and its code is what a program ends with.
 //!
 //! Only a call that can answer `OutOfMemory` takes memory.
 #![tactic(auto)]
 
+pub mod event_lines;
+pub mod listener;
 pub mod observer;
 pub mod refusals;
 pub mod replay;
 pub mod report;
 pub mod running;
+pub mod session;
 pub mod statuses;
 pub mod view_lines;
 pub mod words;

@@ -1,19 +1,20 @@
 //! The observer of a log.
 
-ghost use Rattle.std.specs.Prelude.{◌≡◌, ℕ, ◌+◌, ◌-◌, ◌<◌, ◌≤◌, ◌^◌, List, None, Ok, IfOk, OnOk, OnErr, length, string_bytes};
+ghost use Rattle.std.specs.Prelude.{◌≡◌, ℕ, ◌+◌, ◌-◌, ◌<◌, ◌≤◌, ◌^◌, List, [], None, IfOk, OnOk, OnErr, length};
 ghost use Rattle.ft_msg.specs.Client.{client_over};
 ghost use Rattle.ft_msg.specs.Process.{process};
 ghost use Rattle.ft_msg.specs.WellFormed.{HasNumbersInRange};
-ghost use Rattle.ft_document.specs.Observed.{observer_numbers};
 ghost use Rattle.ft_seqr.specs.Walk.{answers};
-ghost use Rattle.ft_cli.specs.Report.{bytes_of, view_lines};
-ghost use Rattle.ft_cli.specs.Observation.{numbered_entry, names_with, nothing_observed, observe, observe_answer, observe_message};
+ghost use Rattle.ft_cli.specs.Listening.{told_refusal, told_text};
+ghost use Rattle.ft_cli.specs.Observation.{numbered_entry, names_with, observe, observe_answer, observe_message};
 
+use crate::listener::{Listener, Told};
 use crate::view_lines::view_text;
 use ft_base::OutOfMemory;
 use ft_document::ObservedDocument;
-use ft_msg::{Cause, Entry, Message, Names, Numbers, ProcessFault, ViewFault, read_message};
+use ft_msg::{Cause, Entry, Message, Names, ProcessFault, ViewFault, read_message};
 use ft_seqr::Refusal;
+use ft_session::Counts;
 use std::alloc::Global;
 use std::marker::Model;
 
@@ -38,13 +39,20 @@ impl Model for Observer {
     ghost invariant = { λ a. a.replica.stop ≡ None };
 }
 
-impl Observer {
-    /// An observer before the first message.
-    ///
-    /// So far it always succeeds.
-    pub fn new(alloc: Global) -> Result<Observer, OutOfMemory>
-        ensures { result ≡ Ok nothing_observed }
-    {
+impl Listener for Observer {
+    ghost use Rattle.std.specs.Prelude.{◌≡◌, length};
+    ghost use Rattle.ft_cli.specs.Observation.{Observation};
+    ghost use Rattle.ft_cli.specs.Report.{log_form};
+
+    ghost Made = { Observation };
+
+    ghost form = { log_form };
+
+    ghost holds = { λ a seen. a ≡ seen };
+
+    ghost size = { λ a. length a.names };
+
+    fn start(alloc: Global) -> Result<Observer, OutOfMemory> {
         Ok(Observer {
             alloc,
             names: Names::new(alloc),
@@ -52,10 +60,31 @@ impl Observer {
         })
     }
 
-    /// The observer after the message that the line is, and why the line is refused, if it is.
-    ///
-    /// Answers `OutOfMemory` where there is no room for the message, and then the observer is gone.
-    pub fn take(self, line: &[u8]) -> Result<(Observer, Option<Refusal>), OutOfMemory>
+    fn take(self, line: &[u8]) -> Result<(Observer, Told), OutOfMemory> {
+        let (observer, refusal) = self.take_line(line)?;
+        Ok((observer, told(refusal)))
+    }
+
+    fn view_text(&self) -> Result<String, OutOfMemory> {
+        match self.replica.view() {
+            Ok(view) => view_text(self.alloc, &view),
+            Err(ViewFault::OutOfMemory) => Err(OutOfMemory),
+            Err(ViewFault::Stopped { .. }) => unreachable!(),
+        }
+    }
+
+    fn counts(&self) -> Counts {
+        let numbers = self.replica.numbers();
+        Counts {
+            skipped: numbers.skipped,
+            other: numbers.other,
+        }
+    }
+}
+
+impl Observer {
+    // The observer after the message that the line is, and why the line is refused, if it is.
+    fn take_line(self, line: &[u8]) -> Result<(Observer, Option<Refusal>), OutOfMemory>
         requires { length self.names < 2 ^ 32 - 1 }
         ensures step { IfOk result (λ p. observe self line.now ≡ answers p.0 p.1) }
         ensures names { IfOk result (λ p. length p.0.names ≤ length self.names + 1) }
@@ -64,26 +93,6 @@ impl Observer {
             Ok(message) => self.take_message(message),
             Err(Cause::OutOfMemory) => Err(OutOfMemory),
             Err(cause) => Ok((self, Some(Refusal::of_cause(cause)))),
-        }
-    }
-
-    /// The numbers of its replica.
-    pub fn numbers(&self) -> Numbers
-        ensures { result ≡ observer_numbers self.now.doc }
-    {
-        self.replica.numbers()
-    }
-
-    /// The lines of its view, each with its LF.
-    ///
-    /// Answers `OutOfMemory` where there is no room for them.
-    pub fn view_text(&self) -> Result<String, OutOfMemory>
-        ensures { IfOk result (λ text. string_bytes text ≡ bytes_of (view_lines self.now.doc)) }
-    {
-        match self.replica.view() {
-            Ok(view) => view_text(self.alloc, &view),
-            Err(ViewFault::OutOfMemory) => Err(OutOfMemory),
-            Err(ViewFault::Stopped { .. }) => unreachable!(),
         }
     }
 
@@ -142,5 +151,16 @@ fn give(replica: &mut ObservedDocument, entry: &Entry) -> Result<Option<Refusal>
         }
         Err(ProcessFault::OutOfMemory) => Err(OutOfMemory),
         Err(ProcessFault::NotSent | ProcessFault::Stopped { .. }) => unreachable!(),
+    }
+}
+
+// What is told of a line that writes nothing but its refusal, if it is refused.
+fn told(refusal: Option<Refusal>) -> Told
+    ensures refusal { told_refusal result ≡ refusal }
+    ensures silent { told_text result ≡ [] }
+{
+    match refusal {
+        Some(refusal) => Told::Refused(refusal),
+        None => Told::Nothing,
     }
 }

@@ -1,13 +1,13 @@
-//! A log as far as it was read.
+//! An input as far as it was read.
 
-ghost use Rattle.std.specs.Prelude.{◌≡◌, ℕ, ◌+◌, ◌-◌, ◌<◌, ◌≤◌, ◌^◌, List, Ok, IfOk, length, string_bytes};
+ghost use Rattle.std.specs.Prelude.{◌≡◌, ℕ, ◌+◌, ◌-◌, ◌<◌, ◌≤◌, ◌^◌, List, IfOk, string_bytes};
 ghost use Rattle.ft_io.specs.Reader.{handed_out};
-ghost use Rattle.ft_seqr.specs.Walk.{after_line, answers, begin, is_blank, line_limit, refusal_lines, step_of, written_by_line};
-ghost use Rattle.ft_cli.specs.Observation.{nothing_observed, observe};
-ghost use Rattle.ft_cli.specs.Report.{bytes_of, log_end, log_status};
+ghost use Rattle.ft_seqr.specs.Walk.{Progress, after_line, begin, is_blank, line_limit, refused_after, step_of, written_by_line};
+ghost use Rattle.ft_cli.specs.LineForm.{bytes_of, form_end, form_status};
+ghost use Rattle.ft_cli.specs.Listening.{Follows, IsStep, told_bytes, told_refusal};
 ghost use Rattle.ft_cli.specs.Writing.{WritesBytes};
 
-use crate::observer::Observer;
+use crate::listener::{Listener, Told};
 use crate::refusals::refused_line;
 use crate::report::closing_text;
 use crate::statuses::{Fault, Status};
@@ -16,114 +16,103 @@ use ft_base::OutOfMemory;
 use ft_io::{Line, Sink};
 use ft_seqr::Refusal;
 use std::alloc::Global;
-use std::marker::Model;
 
 /// The greatest length of a line, without its LF.
 pub const LINE_LIMIT: usize = 1_048_576;
 
-/// A log as far as it was read: how many lines, how many of them were refused, and its observer.
+/// An input as far as it was read: how many lines, how many of them were refused, and what heard them.
 #[derive(Drop)]
-pub struct Replay {
+pub struct Replay<L: Listener> {
     lines: u64,
     refused: u64,
-    observer: Observer,
+    listener: L,
+    ghost counted: { refused ≤ lines },
+    ghost sized: { L.size listener ≤ lines },
 }
 
-impl Model for Replay {
-    ghost use Rattle.std.specs.Prelude.{◌≤◌, length};
-    ghost use Rattle.ft_seqr.specs.Walk.{Progress};
-    ghost use Rattle.ft_cli.specs.Observation.{Observation};
-
-    ghost Value = { Progress Observation };
-
-    ghost view = { λ a. record { lines = a.lines; refused = a.refused; made = a.observer } };
-
-    ghost invariant = { λ a. (a.refused ≤ a.lines) × (length a.observer.names ≤ a.lines) };
-}
-
-impl Replay {
-    /// A log before its first line.
+impl<L: Listener> Replay<L> {
+    /// An input before its first line.
     ///
-    /// So far it always succeeds.
-    pub fn new(alloc: Global) -> Result<Replay, OutOfMemory>
-        ensures { result ≡ Ok (begin nothing_observed) }
+    /// Answers `OutOfMemory` where there is no room for its listener.
+    pub fn new(alloc: Global) -> Result<Replay<L>, OutOfMemory>
+        ensures { IfOk result (λ replay. Follows (L.holds replay.listener) replay.lines replay.refused (begin L.form.first)) }
     {
         Ok(Replay {
             lines: 0,
             refused: 0,
-            observer: Observer::new(alloc)?,
+            listener: L::start(alloc)?,
         })
     }
 
-    /// The log with one more line, as a reader of lines hands it out, and why the line is refused, if
-    /// it is.
-    ///
-    /// Answers `OutOfMemory` where there is no room for its message, and then the log is gone.
-    pub fn take(self, line: Line) -> Result<(Replay, Option<Refusal>), OutOfMemory>
-        requires few { self.lines < 2 ^ 32 - 1 }
-        requires handed { (text : List ℕ) × (line ≡ handed_out line_limit text) }
-        ensures after { (text : List ℕ) → line ≡ handed_out line_limit text
-            → IfOk result (λ p. p.0 ≡ after_line observe self text) }
-        ensures written { (text : List ℕ) → line ≡ handed_out line_limit text
-            → IfOk result (λ p. written_by_line observe self text ≡ refusal_lines (self.lines + 1) p.1) }
-    {
-        let (observer, refusal) = step(self.observer, &line)?;
-        let replay = Replay {
-            lines: self.lines + 1,
-            refused: self.refused + u64::from(refusal.is_some()),
-            observer,
-        };
-        Ok((replay, refusal))
-    }
-
-    /// The log with one more line, as a reader of lines hands it out, whose refusal is written, if it
-    /// is refused.
+    /// The input with one more line, as a reader of lines hands it out, of which is written what is
+    /// told of it.
     ///
     /// Answers `Write` only where the sink's count of faults rose, and `OutOfMemory` where there is no
-    /// room for the message or the refusal; then the log is gone.
-    pub fn step<K: Sink>(self, alloc: Global, line: Line, out: &mut K) -> Result<Replay, Fault>
+    /// room for what the line makes or for the refusal; then the input is gone.
+    pub fn step<K: Sink>(self, alloc: Global, line: Line, out: &mut K) -> Result<Replay<L>, Fault>
         requires few { self.lines < 2 ^ 32 - 1 }
         requires handed { (text : List ℕ) × (line ≡ handed_out line_limit text) }
-        ensures after { (text : List ℕ) → line ≡ handed_out line_limit text
-            → IfOk result (λ replay. replay ≡ after_line observe self text) }
-        ensures writes { (text : List ℕ) → line ≡ handed_out line_limit text
-            → WritesBytes (K.contents out.old) (K.contents out.new) (K.faults out.old) (K.faults out.new) (bytes_of (written_by_line observe self text)) result }
+        ensures after { (text : List ℕ) (at : Progress L.Made) → line ≡ handed_out line_limit text → Follows (L.holds self.listener) self.lines self.refused at
+            → IfOk result (λ replay. Follows (L.holds replay.listener) replay.lines replay.refused (after_line L.form.read at text)) }
+        ensures writes { (text : List ℕ) (at : Progress L.Made) → line ≡ handed_out line_limit text → Follows (L.holds self.listener) self.lines self.refused at
+            → WritesBytes (K.contents out.old) (K.contents out.new) (K.faults out.old) (K.faults out.new) (bytes_of (written_by_line L.form.read at text)) result }
     {
-        let (replay, refusal) = self.take(line)?;
-        write_refusal(alloc, replay.lines, refusal, out)?;
+        let (replay, told) = self.take(line)?;
+        write_told(alloc, replay.lines, told, out)?;
         Ok(replay)
     }
 
-    /// Writes what stands behind the lines of a log: the observer's view and the last lines. Answers
+    /// Writes what stands behind the lines: what shows what was made, and the last lines. Answers
     /// whether no line was refused and no sub-operation skipped.
     ///
     /// Answers `Write` only where the sink's count of faults rose, and `OutOfMemory` where there is no
-    /// room for the view.
+    /// room for the lines.
     pub fn close<K: Sink>(&self, alloc: Global, out: &mut K) -> Result<Status, Fault>
-        ensures status { IfOk result (λ status. status ≡ log_status self.now) }
-        ensures writes { WritesBytes (K.contents out.old) (K.contents out.new) (K.faults out.old) (K.faults out.new) (bytes_of (log_end self.now)) result }
+        ensures status { (at : Progress L.Made) → Follows (L.holds self.now.listener) self.now.lines self.now.refused at
+            → IfOk result (λ status. status ≡ form_status L.form at) }
+        ensures writes { (at : Progress L.Made) → Follows (L.holds self.now.listener) self.now.lines self.now.refused at
+            → WritesBytes (K.contents out.old) (K.contents out.new) (K.faults out.old) (K.faults out.new) (bytes_of (form_end L.form at)) result }
     {
         let text = self.end_text(alloc)?;
         put(out, text.as_bytes())?;
         Ok(self.status())
     }
 
-    // What stands behind the lines of a log.
-    #[tactic(auto, unfolding(ft_seqr::specs::SessionReport::closing_lines))]
-    fn end_text(&self, alloc: Global) -> Result<String, OutOfMemory>
-        ensures { IfOk result (λ text. string_bytes text ≡ bytes_of (log_end self.now)) }
+    // The input with one more line, and what is told of it.
+    fn take(self, line: Line) -> Result<(Replay<L>, Told), OutOfMemory>
+        requires few { self.lines < 2 ^ 32 - 1 }
+        requires handed { (text : List ℕ) × (line ≡ handed_out line_limit text) }
+        ensures after { (text : List ℕ) (at : Progress L.Made) → line ≡ handed_out line_limit text → Follows (L.holds self.listener) self.lines self.refused at
+            → IfOk result (λ p. Follows (L.holds p.0.listener) p.0.lines p.0.refused (after_line L.form.read at text)) }
+        ensures told { (text : List ℕ) (at : Progress L.Made) → line ≡ handed_out line_limit text → Follows (L.holds self.listener) self.lines self.refused at
+            → IfOk result (λ p. bytes_of (written_by_line L.form.read at text) ≡ told_bytes p.0.lines p.1) }
     {
-        let mut text = self.observer.view_text()?;
-        let last = closing_text(alloc, self.refused, &self.observer.numbers())?;
+        let (listener, told) = hear(self.listener, &line)?;
+        let replay = Replay {
+            lines: self.lines + 1,
+            refused: self.refused + refusals(&told),
+            listener,
+        };
+        Ok((replay, told))
+    }
+
+    // What stands behind the lines.
+    fn end_text(&self, alloc: Global) -> Result<String, OutOfMemory>
+        ensures { (at : Progress L.Made) → Follows (L.holds self.now.listener) self.now.lines self.now.refused at
+            → IfOk result (λ text. string_bytes text ≡ bytes_of (form_end L.form at)) }
+    {
+        let mut text = self.listener.view_text()?;
+        let last = closing_text(alloc, self.refused, self.listener.counts())?;
         text.push_str(last.as_str())?;
         Ok(text)
     }
 
     // The status behind a whole report.
     fn status(&self) -> Status
-        ensures { result ≡ log_status self.now }
+        ensures { (at : Progress L.Made) → Follows (L.holds self.now.listener) self.now.lines self.now.refused at
+            → result ≡ form_status L.form at }
     {
-        if self.refused == 0 && self.observer.numbers().skipped == 0 {
+        if self.refused == 0 && self.listener.counts().skipped == 0 {
             Status::Done
         } else {
             Status::SomeRefused
@@ -131,36 +120,45 @@ impl Replay {
     }
 }
 
-// The observer after a line, and why the line is refused, if it is.
-fn step(observer: Observer, line: &Line) -> Result<(Observer, Option<Refusal>), OutOfMemory>
-    requires few { length observer.names < 2 ^ 32 - 1 }
+// The listener after a line, and what is told of it.
+fn hear<L: Listener>(listener: L, line: &Line) -> Result<(L, Told), OutOfMemory>
+    requires few { L.size listener < 2 ^ 32 - 1 }
     requires handed { (text : List ℕ) × (line.now ≡ handed_out line_limit text) }
-    ensures step { (text : List ℕ) → line.now ≡ handed_out line_limit text
-        → IfOk result (λ p. step_of observe observer text ≡ answers p.0 p.1) }
-    ensures names { IfOk result (λ p. length p.0.names ≤ length observer.names + 1) }
+    ensures step { (text : List ℕ) (made : L.Made) → line.now ≡ handed_out line_limit text → L.holds listener made
+        → IfOk result (λ p. IsStep (L.holds p.0) p.1 (step_of L.form.read made text)) }
+    ensures size { IfOk result (λ p. L.size p.0 ≤ L.size listener + 1) }
 {
     match line {
-        Line::Full(text) if is_blank(text.as_slice()) => Ok((observer, None)),
-        Line::Full(text) => observer.take(text.as_slice()),
-        Line::TooLong => Ok((observer, Some(Refusal::LineTooLong))),
+        Line::Full(text) if is_blank(text.as_slice()) => Ok((listener, Told::Nothing)),
+        Line::Full(text) => listener.take(text.as_slice()),
+        Line::TooLong => Ok((listener, Told::Refused(Refusal::LineTooLong))),
         Line::End => unreachable!(),
     }
 }
 
-// Writes why the line with this number is refused, if it is.
-fn write_refusal<K: Sink>(
-    alloc: Global,
-    line: u64,
-    refusal: Option<Refusal>,
-    out: &mut K,
-) -> Result<(), Fault>
-    ensures { WritesBytes (K.contents out.old) (K.contents out.new) (K.faults out.old) (K.faults out.new) (bytes_of (refusal_lines line refusal)) result }
+// How many lines more are refused with one of which this is told.
+fn refusals(told: &Told) -> u64
+    ensures after { (n : ℕ) → n + result ≡ refused_after n (told_refusal told.now) }
+    ensures one { result ≤ 1 }
 {
-    if let Some(refusal) = refusal {
-        let text = refused_line(alloc, line, refusal)?;
-        put(out, text.as_bytes())?;
+    match told {
+        Told::Refused(_) => 1,
+        Told::Nothing | Told::Text(_) => 0,
     }
-    Ok(())
+}
+
+// Writes what is told of the line with this number.
+fn write_told<K: Sink>(alloc: Global, line: u64, told: Told, out: &mut K) -> Result<(), Fault>
+    ensures { WritesBytes (K.contents out.old) (K.contents out.new) (K.faults out.old) (K.faults out.new) (told_bytes line told) result }
+{
+    match told {
+        Told::Nothing => Ok(()),
+        Told::Text(text) => put(out, text.as_bytes()),
+        Told::Refused(refusal) => {
+            let text = refused_line(alloc, line, refusal)?;
+            put(out, text.as_bytes())
+        }
+    }
 }
 
 // Whether the line has only spaces, tabs and CR.

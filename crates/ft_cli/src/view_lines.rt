@@ -3,43 +3,62 @@
 ghost use Rattle.std.specs.Prelude.{◌≡◌, ◌∷◌, ◌++◌, [], IfOk, OnOk, map, string_bytes};
 ghost use Rattle.std.specs.List.{flat_map};
 ghost use Rattle.ft_io.specs.Lines.{with_lf};
-ghost use Rattle.ft_cli.specs.Report.{bytes_of};
+ghost use Rattle.ft_cli.specs.LineForm.{bytes_of};
 ghost use Rattle.ft_msg.specs.Answers.{view_content};
 ghost use Rattle.ft_seqr.specs.ViewLines.{cell_line, content_lines, interval_line, interval_name, later_members, marker_line, member_text, numbers_line, object_text, run_line, table_lines, text_line};
 
 use ft_base::{OutOfMemory, Text};
 use ft_json::{ValText, quote};
-use ft_msg::{Run, Spot, View};
+use ft_msg::{Numbers, Run, Spot, View};
 use ft_props::Props;
 use ft_sumdoc::{CellRec, IntervalRec};
 use std::alloc::Global;
 
-/// The lines of a view: its numbers, its text, its markers, the runs of properties, the intervals, the
-/// counts of rows and columns where there are any, and the cells. Each has its LF.
+/// The lines of a view: its numbers, and what it shows. Each has its LF.
 ///
 /// Answers `OutOfMemory` where there is no room for them.
-#[tactic(auto, unfolding(ft_seqr::specs::ViewLines::content_lines))]
 pub fn view_text(alloc: Global, view: &View) -> Result<String, OutOfMemory>
     ensures { IfOk result (λ text. string_bytes text ≡ bytes_of (numbers_line view.now.numbers ∷ content_lines (view_content view.now))) }
 {
-    let mut text = head_text(alloc, view)?;
-    push_markers(alloc, &mut text, view.markers.as_slice())?;
-    push_runs(alloc, &mut text, view.runs.as_slice())?;
-    push_intervals(alloc, &mut text, view.intervals.as_slice())?;
-    push_table(alloc, &mut text, view.rows, view.cols)?;
-    push_cells(alloc, &mut text, view.cells.as_slice())?;
+    let mut text = numbers_text(alloc, view.numbers)?;
+    push_content(alloc, &mut text, view)?;
     Ok(text)
 }
 
-// The lines of the numbers and of the text.
-fn head_text(alloc: Global, view: &View) -> Result<String, OutOfMemory>
-    ensures { IfOk result (λ text. string_bytes text ≡ bytes_of (numbers_line view.now.numbers ∷ text_line view.now.text ∷ [])) }
+/// Adds the lines of what a view shows: its text, its markers, the runs of properties, the intervals,
+/// the counts of rows and columns where there are any, and the cells. Each has its LF.
+///
+/// Answers `OutOfMemory` where there is no room for them.
+#[tactic(auto, unfolding(ft_seqr::specs::ViewLines::content_lines))]
+pub fn push_content(alloc: Global, text: &mut String, view: &View) -> Result<(), OutOfMemory>
+    ensures { OnOk result (string_bytes text.new ≡ string_bytes text.old ++ bytes_of (content_lines (view_content view.now))) }
 {
-    let string = quote(alloc, &view.text)?;
+    push_text_line(alloc, text, &view.text)?;
+    push_markers(alloc, text, view.markers.as_slice())?;
+    push_runs(alloc, text, view.runs.as_slice())?;
+    push_intervals(alloc, text, view.intervals.as_slice())?;
+    push_table(alloc, text, view.rows, view.cols)?;
+    push_cells(alloc, text, view.cells.as_slice())
+}
+
+// The line of the numbers, with its LF.
+fn numbers_text(alloc: Global, numbers: Numbers) -> Result<String, OutOfMemory>
+    ensures { IfOk result (λ line. string_bytes line ≡ with_lf (numbers_line numbers)) }
+{
+    let seq = numbers.seq;
+    let min = numbers.min;
+    Ok(format!(in alloc; "seq {seq} min {min}\n")?)
+}
+
+// Adds the line of the text.
+fn push_text_line(alloc: Global, text: &mut String, shown: &Text) -> Result<(), OutOfMemory>
+    ensures { OnOk result (string_bytes text.new ≡ string_bytes text.old ++ with_lf (text_line shown.now)) }
+{
+    let string = quote(alloc, shown)?;
     let quoted = string.as_str();
-    let seq = view.numbers.seq;
-    let min = view.numbers.min;
-    Ok(format!(in alloc; "seq {seq} min {min}\ntext {quoted}\n")?)
+    let line = format!(in alloc; "text {quoted}\n")?;
+    text.push_str(line.as_str())?;
+    Ok(())
 }
 
 // Adds the lines of the markers.

@@ -1,9 +1,9 @@
-use Rattle.std.proofs.Common.{◌≡◌, ◌∙◌, Err, IfOk, ap, arith, refl, subst, sym}
+use Rattle.std.proofs.Common.{◌∙◌, Err, ap, arith}
 use Rattle.std.proofs.lemmas.Result.{err_from_is_err_and}
 use Rattle.ft_io.specs.Streams.{Rose}
-use Rattle.ft_seqr.specs.Walk.{begin}
-use Rattle.ft_cli.specs.Observation.{nothing_observed}
-use Rattle.ft_cli.proofs.RunLaws.{stands_start, with_answer, moves_nothing, moves_end, moves_fault, next_line, few_lines, stands_next, moves_step}
+use Rattle.ft_cli.specs.Listening.{Follows}
+use Rattle.ft_cli.specs.LineForm.{form_after}
+use Rattle.ft_cli.proofs.RunLaws.{stands_start, with_fault, moves_nothing, moves_end, moves_fault, next_line, few_lines, stands_next, moves_step}
 use Rattle.ft_cli.proofs.running.read_lines.Goals as goal
 
 pub returns-in_err-lines-clause-run : goal.returns-in_err-lines-clause-run
@@ -13,12 +13,21 @@ returns-in_err-lines-clause-run g c =
     let p = err_from_is_err_and c.from_residual.result c.from_residual.ensures.1 in
     let source_rose = Rose (g.S.Source.faults c.args.src.now) (g.S.Source.faults c.args.src.now) in
     let sink_rose = Rose (g.K.Sink.faults c.args.out.now) (g.K.Sink.faults c.args.out.now) in
-    with_answer left left holds holds source_rose sink_rose (p.1 ∙ ap Err p.2) (moves_nothing left holds source_rose sink_rose)
+    with_fault g.L.Listener.form _ left left holds holds source_rose sink_rose (p.1 ∙ ap Err p.2) (moves_nothing g.L.Listener.form left holds source_rose sink_rose)
+
+pub returns-in_err-replay-clause-run : goal.returns-in_err-replay-clause-run
+returns-in_err-replay-clause-run g c =
+    let left = g.S.Source.remaining c.args.src.now in
+    let holds = g.K.Sink.contents c.args.out.now in
+    let r = c.from_residual-in_err-replay in
+    let p = err_from_is_err_and r.result r.ensures.1 in
+    let source_rose = Rose (g.S.Source.faults c.args.src.now) (g.S.Source.faults c.args.src.now) in
+    let sink_rose = Rose (g.K.Sink.faults c.args.out.now) (g.K.Sink.faults c.args.out.now) in
+    with_fault g.L.Listener.form _ left left holds holds source_rose sink_rose (p.1 ∙ ap Err p.2) (moves_nothing g.L.Listener.form left holds source_rose sink_rose)
 
 pub loop-replay-init : goal.loop-replay-init
 loop-replay-init g c = record {
-  stands = stands_start (g.S.Source.remaining c.args.src.now) (g.K.Sink.contents c.args.out.now) c.in_ok-lines.lines c.in_ok-replay.replay c.in_ok-lines.ensures
-      (subst (λ made. IfOk made (λ at. at ≡ begin nothing_observed)) (sym c.in_ok-replay.ensures) refl);
+  stands = stands_start g.L.Listener.form _ (g.S.Source.remaining c.args.src.now) (g.K.Sink.contents c.args.out.now) c.in_ok-lines.lines c.in_ok-lines.ensures c.in_ok-replay.ensures;
   source_later = omega arith;
   sink_later = omega arith;
 }
@@ -29,21 +38,20 @@ returns-in_err-line-clause-run g c =
     let h = now.invariant in
     let call = c.in_err-line.ensures.call h.stands.reading.runs in
     let p = err_from_is_err_and c.from_residual-in_err-line.result c.from_residual-in_err-line.ensures.1 in
-    with_answer (g.S.Source.remaining c.args.src.now) (g.S.Source.remaining c.next.new.src) (g.K.Sink.contents c.args.out.now) (g.K.Sink.contents now.out) _ _ (p.1 ∙ ap Err p.2)
+    with_fault g.L.Listener.form _ (g.S.Source.remaining c.args.src.now) (g.S.Source.remaining c.next.new.src) (g.K.Sink.contents c.args.out.now) (g.K.Sink.contents now.out) _ _ (p.1 ∙ ap Err p.2)
     (moves_fault h.stands c.in_err-line.field-0.0 call (g.S.Source.faults c.args.src.now) _ h.source_later)
 
 pub returns-in-End-clause-run : goal.returns-in-End-clause-run
 returns-in-End-clause-run g c =
     let h = c.loop-replay.invariant in
     moves_end h.stands (c.in_ok-line.ensures.call h.stands.reading.runs) c.in-End.is
-    (Rose (g.S.Source.faults c.args.src.now) (g.S.Source.faults c.next.new.src)) (Rose (g.K.Sink.faults c.args.out.now) (g.K.Sink.faults c.loop-replay.out))
 
 pub step-requires : goal.step-requires
 step-requires g c =
     let h = c.loop-replay.invariant in
     let call = c.in_ok-line.ensures.call h.stands.reading.runs in
     let next = next_line h.stands c.in_ok-line.line call c.in_default.not-End in
-    record { few = few_lines h.stands next; handed = (next.text, next.is_text) }
+    record { few = omega (arith, few_lines h.stands next, h.stands.after.lines); handed = (next.text, next.is_text) }
 
 pub returns-in_err-replay-in_default : goal.returns-in_err-replay-in_default
 returns-in_err-replay-in_default g c =
@@ -51,11 +59,11 @@ returns-in_err-replay-in_default g c =
     let h = now.invariant in
     let call = c.in_ok-line.ensures.call h.stands.reading.runs in
     let next = next_line h.stands c.in_ok-line.line call c.in_default.not-End in
-    let writes = c.in_err-replay-in_default.ensures.writes next.text next.is_text in
+    let writes = c.in_err-replay-in_default.ensures.writes next.text (form_after g.L.Listener.form h.stands.handed) next.is_text h.stands.after in
     let r = c.from_residual-in_err-replay-in_default in
     let p = err_from_is_err_and r.result r.ensures.1 in
     record {
-      run = with_answer (g.S.Source.remaining c.args.src.now) (g.S.Source.remaining c.next.new.src) (g.K.Sink.contents c.args.out.now) (g.K.Sink.contents c.step.new.out) _ _ (p.1 ∙ ap Err p.2)
+      run = with_fault g.L.Listener.form _ (g.S.Source.remaining c.args.src.now) (g.S.Source.remaining c.next.new.src) (g.K.Sink.contents c.args.out.now) (g.K.Sink.contents c.step.new.out) _ _ (p.1 ∙ ap Err p.2)
           (moves_step h.stands next (g.K.Sink.contents c.step.new.out) c.in_err-replay-in_default.field-0.0 (g.K.Sink.faults c.args.out.now) (g.K.Sink.faults now.out) (g.K.Sink.faults c.step.new.out) _ h.sink_later writes);
       source_later = omega (arith, h.source_later, call.later);
       sink_later = omega (arith, h.sink_later, writes.later);
@@ -71,12 +79,15 @@ pub loop-replay-preserved : goal.loop-replay-preserved
 loop-replay-preserved g c =
     let now = c.loop-replay in
     let h = now.invariant in
+    let at = form_after g.L.Listener.form h.stands.handed in
     let call = c.in_ok-line.ensures.call h.stands.reading.runs in
     let next = next_line h.stands c.in_ok-line.line call c.in_default.not-End in
     let told = c.in_ok-replay-in_default.ensures in
-    let writes = told.writes next.text next.is_text in
+    let replay = c.in_ok-replay-in_default.replay in
+    let writes = told.writes next.text at next.is_text h.stands.after in
     record {
-      stands = stands_next h.stands next (g.K.Sink.contents c.step.new.out) c.in_ok-replay-in_default.replay (g.K.Sink.faults now.out) (g.K.Sink.faults c.step.new.out) (told.after next.text next.is_text) writes;
+      stands = stands_next h.stands next (g.K.Sink.contents c.step.new.out) replay (λ p. Follows (g.L.Listener.holds replay.listener) replay.lines replay.refused p)
+          (g.K.Sink.faults now.out) (g.K.Sink.faults c.step.new.out) (told.after next.text at next.is_text h.stands.after) writes;
       source_later = omega (arith, h.source_later, call.later);
       sink_later = omega (arith, h.sink_later, writes.later);
     }

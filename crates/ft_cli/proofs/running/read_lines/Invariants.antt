@@ -1,12 +1,14 @@
 use Rattle.std.proofs.Common.{◌≤◌}
 use Rattle.ft_io.specs.Reader.{to_come}
+use Rattle.ft_cli.specs.Listening.{Follows}
 use Rattle.ft_cli.proofs.RunLaws.{Stands}
 use Rattle.ft_cli.proofs.running.read_lines.Given as goal
 
 -- where the run stands, and that counts of faults don't fall
 abbrev pub invariant-loop-replay : goal.invariant-loop-replay
 invariant-loop-replay g l = record {
-  stands : Stands (g.S.Source.remaining l.initial.src) (g.S.Source.remaining l.src) l.lines (g.K.Sink.contents l.initial.out) (g.K.Sink.contents l.out) l.replay;
+  stands : Stands g.L.Listener.form (λ at. Follows (g.L.Listener.holds l.replay.listener) l.replay.lines l.replay.refused at)
+      (g.S.Source.remaining l.initial.src) (g.S.Source.remaining l.src) l.lines (g.K.Sink.contents l.initial.out) (g.K.Sink.contents l.out);
   source_later : g.S.Source.faults l.initial.src ≤ g.S.Source.faults l.src;
   sink_later : g.K.Sink.faults l.initial.out ≤ g.K.Sink.faults l.out;
 }

@@ -1,5 +1,5 @@
 use Rattle.std.proofs.Common.{◌≡◌, ◌++◌, drop, map, string_bytes}
-use Rattle.ft_cli.specs.Report.{bytes_of}
+use Rattle.ft_cli.specs.LineForm.{bytes_of}
 use Rattle.ft_seqr.specs.ViewLines.{run_line}
 use Rattle.ft_cli.proofs.view_lines.push_runs.Given as goal
 

@@ -1,0 +1,57 @@
+-- A form that reads lines: what its lines make and write, what stands behind them, and how its run ends. Every line that it writes
+-- ends with LF.
+use Rattle.std.specs.Prelude.{ℕ, ◌&&◌, ◌==◌, List, ◌++◌, if◌then◌else◌}
+use Rattle.std.specs.List.{flat_map}
+use Rattle.ft_io.specs.Lines.{lines, ended_lines, with_lf}
+use Rattle.ft_op.specs.Document.{Document}
+use Rattle.ft_seqr.specs.SessionReport.{closing_lines}
+use Rattle.ft_seqr.specs.Walk.{Progress, Step, after_lines, begin, written_by}
+use Rattle.ft_cli.specs.declared.statuses.Status.{Status}
+use Rattle.ft_cli.specs.declared.statuses.Status.TheVariants.{Done, SomeRefused}
+
+-- the bytes of lines, each with its LF
+abbrev pub bytes_of : List (List ℕ) → List ℕ
+bytes_of texts = flat_map with_lf texts
+
+-- a form whose lines make an S: what there is before the first line, what a line that is read does, the lines that show at the end
+-- what was made, and the document whose counts are told last
+pub record LineForm (S : Type 0) : Type 0 where
+  pub first : S
+  pub read : S → List ℕ → Step S
+  pub shown : S → List (List ℕ)
+  pub counted : S → Document
+
+-- how far a form is after lines
+abbrev pub form_after : {S : Type 0} → LineForm S → List (List ℕ) → Progress S
+form_after form texts = after_lines form.read (begin form.first) texts
+
+-- what lines write
+abbrev pub form_lines : {S : Type 0} → LineForm S → List (List ℕ) → List (List ℕ)
+form_lines form texts = written_by form.read (begin form.first) texts
+
+-- what is written behind the lines
+abbrev pub form_end : {S : Type 0} → LineForm S → Progress S → List (List ℕ)
+form_end form at = form.shown at.made ++ closing_lines at.refused (form.counted at.made)
+
+-- what lines write, with what is written behind them
+abbrev pub form_report : {S : Type 0} → LineForm S → List (List ℕ) → List (List ℕ)
+form_report form texts = form_lines form texts ++ form_end form (form_after form texts)
+
+-- the status behind a whole report: whether no line was refused and no sub-operation skipped
+abbrev pub form_status : {S : Type 0} → LineForm S → Progress S → Status
+form_status form at = if at.refused == 0 && (form.counted at.made).skipped == 0 then Done else SomeRefused
+
+-- what a form comes to for the bytes of an input: its report, what the lines write that end with LF without what is written behind
+-- them, and the status behind the whole report
+pub record Account : Type 0 where
+  pub report : List ℕ → List ℕ
+  pub opened : List ℕ → List ℕ
+  pub status : List ℕ → Status
+
+-- what a form that reads lines comes to
+abbrev pub account_by : {S : Type 0} → LineForm S → Account
+account_by form = record {
+  report = λ bytes. bytes_of (form_report form (lines bytes));
+  opened = λ bytes. bytes_of (form_lines form (ended_lines bytes));
+  status = λ bytes. form_status form (form_after form (lines bytes));
+}

@@ -1,0 +1,63 @@
+//! What a run reads lines for.
+
+use ft_base::OutOfMemory;
+use ft_seqr::Refusal;
+use ft_session::Counts;
+use std::alloc::Global;
+
+/// What is told of a line that is read.
+#[derive(Drop)]
+pub enum Told {
+    /// Nothing is written of it.
+    Nothing,
+    /// It writes this: whole lines, each with its LF.
+    Text(String),
+    /// It is refused.
+    Refused(Refusal),
+}
+
+/// What hears the lines of a form. Contracts see for which states of the form's definition it stands: it
+/// holds what the definition makes of the lines so far.
+pub trait Listener: Sized + Drop {
+    ghost use Rattle.std.specs.Prelude.{◌≡◌, ℕ, ◌+◌, ◌-◌, ◌<◌, ◌≤◌, ◌^◌, IfOk, string_bytes};
+    ghost use Rattle.ft_cli.specs.LineForm.{LineForm, bytes_of};
+    ghost use Rattle.ft_cli.specs.Listening.{IsStep, counts_in};
+
+    /// What lines make.
+    ghost Made: { Type 0 };
+
+    /// The form's definition.
+    ghost form: { LineForm Made };
+
+    /// It holds what was made.
+    ghost holds: { Self → Made → Type 0 };
+
+    /// How many connections it has numbered, at most one for each line: a number has 32 bits.
+    ghost size: { Self → ℕ };
+
+    /// A listener before the first line.
+    ///
+    /// Answers `OutOfMemory` where there is no room for it.
+    fn start(alloc: Global) -> Result<Self, OutOfMemory>
+        ensures first { IfOk result (λ a. holds a form.first) }
+        ensures size { IfOk result (λ a. size a ≡ 0) };
+
+    /// The listener after a line that is neither blank nor too long, and what is told of it.
+    ///
+    /// Answers `OutOfMemory` where there is no room for what the line makes, and then the listener is
+    /// gone.
+    fn take(self, line: &[u8]) -> Result<(Self, Told), OutOfMemory>
+        requires { size self < 2 ^ 32 - 1 }
+        ensures step { (made : Made) → holds self made → IfOk result (λ p. IsStep (holds p.0) p.1 (form.read made line.now)) }
+        ensures size { IfOk result (λ p. size p.0 ≤ size self + 1) };
+
+    /// The lines that show at the end what was made, each with its LF.
+    ///
+    /// Answers `OutOfMemory` where there is no room for them.
+    fn view_text(&self) -> Result<String, OutOfMemory>
+        ensures { (made : Made) → holds self.now made → IfOk result (λ text. string_bytes text ≡ bytes_of (form.shown made)) };
+
+    /// How many sub-operations were skipped, and how many messages were for others.
+    fn counts(&self) -> Counts
+        ensures { (made : Made) → holds self.now made → result ≡ counts_in (form.counted made) };
+}
