@@ -3,16 +3,22 @@
 use ft_base::Text;
 use ft_json::{ValText, whole_text};
 use ft_plain::Plain;
-use ft_session::{Refusal, Values, World};
+use ft_session::{Counts, Event, Refusal, Values, World};
 use std::test::Fail;
 
 #[test]
-fn a_world_without_replicas_knows_no_client(rt: HostRuntime) -> Result<(), Fail> {
+fn a_world_without_clients_knows_none(rt: HostRuntime) -> Result<(), Fail> {
     let mut world = World::<Plain>::new(rt.alloc());
-    let name = Text::new(rt.alloc(), "A")?;
-    assert_eq!(rt; world.connect(&name), Err(Refusal::UnknownClient));
-    assert_eq!(rt; world.drop_link(&name), Err(Refusal::UnknownClient));
-    assert_eq!(rt; world.deliver(&name), Err(Refusal::UnknownClient));
+    let client = Text::new(rt.alloc(), "A")?;
+    let answer = world.step(&Event::Connect { client });
+    assert_eq!(rt; matches!(&answer, Err(Refusal::UnknownClient)), true);
+    assert_eq!(rt;
+        world.counts(),
+        Counts {
+            skipped: 0,
+            other: 0
+        }
+    );
     Ok(())
 }
 
