@@ -1,13 +1,12 @@
 pub mod BackwardRuns
-pub mod CellPlaces
-pub mod FilledRows
 pub mod HeldElements
+pub mod NamedLists
 pub mod NotedAnswers
 pub mod PlacedCell
+pub mod PlacedCells
 pub mod PlacedList
 pub mod PlacedRuns
 pub mod PushedCharacter
 pub mod RisingPlace
 pub mod SettledName
-pub mod ShownCells
 pub mod Tested

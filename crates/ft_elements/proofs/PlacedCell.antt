@@ -1,5 +1,5 @@
 -- The cells as a loop over the list of them sees them.
-use Rattle.std.proofs.Common.{◌≡◌, ℕ, ◌<◌, ◌≤◌, Bool, List, [], ◌∷◌, ◌++◌, Some, None, refl, ◌∙◌, ap, arith, length, set, get_or, find}
+use Rattle.std.proofs.Common.{◌≡◌, ℕ, ◌<◌, ◌≤◌, Bool, List, [], ◌∷◌, ◌++◌, Some, None, refl, ◌∙◌, ap, arith, length, set}
 use Rattle.std.specs.List.{position, position_or_len}
 use Rattle.std.proofs.lemmas.Bool.Decides.{nat_tests}
 use Rattle.ft_op.specs.Cells.{Cell, is_cell, put_cell}
@@ -28,22 +28,5 @@ put_cell-found cell xs i h =
 
 pub put_cell-missing : (cell : Cell) (xs : List Cell) → position (is_cell cell.row cell.col) xs ≡ None → put_cell cell xs ≡ xs ++ cell ∷ []
 put_cell-missing cell xs h = put-none cell xs (first-None (is_cell cell.row cell.col) xs h)
-
-find-first : {A : Type 0} (p : A → Bool) (d : A) (xs : List A) → position_or_len p xs < length xs → find p xs ≡ Some (get_or xs (position_or_len p xs) d)
-find-first p d [] h = absurd (omega arith)
-find-first p d (x ∷ xs) h = grind (arith, find-first p d xs)
-
-find-none : {A : Type 0} (p : A → Bool) (xs : List A) → length xs ≤ position_or_len p xs → find p xs ≡ None
-find-none p [] h = refl
-find-none p (x ∷ xs) h = grind (arith, find-none p xs)
-
--- the first element that passes stands at its place
-pub find-found : {A : Type 0} (p : A → Bool) (d : A) (xs : List A) (i : ℕ) → position p xs ≡ Some i → find p xs ≡ Some (get_or xs i d)
-find-found p d xs i h =
-    let at = first-Some p xs i h in
-    find-first p d xs (omega (arith, at.0, at.1)) ∙ ap (λ n. Some (get_or xs n d)) at.0
-
-pub find-missing : {A : Type 0} (p : A → Bool) (xs : List A) → position p xs ≡ None → find p xs ≡ None
-find-missing p xs h = find-none p xs (first-None p xs h)
 
 pub ruleset placed_cell = (put_cell-found, put_cell-missing)

@@ -1,7 +1,10 @@
 pub mod Contents
 pub mod NamedBack
+pub mod NamedLists
 pub mod NameTables
 pub mod Names
+pub mod PlacedCells
 pub mod PlacedRuns
+pub mod PlacedValues
 pub mod PropertyRuns
 pub mod Rising

@@ -1,14 +1,11 @@
 //! The cells of a plain replica.
 
-ghost use Rattle.std.specs.Prelude.{◌≡◌, [], OnOk, OnErr, filter, not, option_copied, position};
-ghost use Rattle.std.specs.List.{list_any};
-ghost use Rattle.ft_props.specs.Element.{same_id};
-ghost use Rattle.ft_op.specs.Cells.{cell_value, is_cell, is_null, put_cell, write_cell};
+ghost use Rattle.std.specs.Prelude.{◌≡◌, [], OnOk, OnErr, filter, not, position};
+ghost use Rattle.ft_op.specs.Cells.{is_cell, is_null, put_cell, write_cell};
 
 mod building;
-mod columns;
 mod copies;
-mod rows;
+pub(crate) mod placed;
 mod trimming;
 
 use crate::names::ElementName;
@@ -39,13 +36,6 @@ impl PlainCell {
         ensures { result ≡ is_cell row col self.now }
     {
         row.same(&self.row) && col.same(&self.col)
-    }
-
-    /// Whether it belongs to that row.
-    fn is_in_row(&self, row: ElementName) -> bool
-        ensures { result ≡ same_id row self.now.row }
-    {
-        row.same(&self.row)
     }
 }
 
@@ -122,23 +112,6 @@ impl PlainCells {
         ensures { result ≡ position (is_cell row col) self.now }
     {
         self.items.iter().position(|cell| cell.is_at(row, col))
-    }
-
-    /// The value of the cell of that row and column: None exactly where it has none.
-    pub fn value(&self, row: ElementName, col: ElementName) -> Option<&ValText>
-        ensures { option_copied result ≡ cell_value row col self.now }
-    {
-        match self.place_of(row, col) {
-            Some(i) => Some(&self.items[i].value),
-            None => None,
-        }
-    }
-
-    /// Whether a cell belongs to that row.
-    pub fn has_row(&self, row: ElementName) -> bool
-        ensures { result ≡ list_any (λ cell. same_id row cell.row) self.now }
-    {
-        self.items.iter().any(|cell| cell.is_in_row(row))
     }
 }
 

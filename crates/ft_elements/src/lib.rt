@@ -12,6 +12,7 @@ pub mod intervals;
 pub mod lists;
 mod marks;
 mod name_tables;
+mod named_lists;
 pub mod names;
 pub mod runs;
 pub mod scans;

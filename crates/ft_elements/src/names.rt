@@ -13,7 +13,7 @@ use std::marker::Model;
 
 /// The name of an element in its list: its number among the elements that were ever sequenced there,
 /// or its number in a pending stage.
-#[derive(Clone, Copy)]
+#[derive(Clone, Copy, PartialEq, Eq, PartialOrd, Ord)]
 pub struct ElementName {
     /// The stage of its insertion, while that is pending.
     stage: Option<u64>,

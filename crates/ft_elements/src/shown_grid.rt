@@ -1,16 +1,14 @@
 //! The cells that are shown.
 
-ghost use Rattle.std.specs.Prelude.{◌≡◌, ◌++◌, [], IfOk, OnOk, length, option_copied};
-ghost use Rattle.std.specs.List.{list_any};
-ghost use Rattle.ft_props.specs.Element.{same_id};
-ghost use Rattle.ft_msg.specs.Content.{all_cells, cell_record, row_cells, stage_view};
-ghost use Rattle.ft_elements.specs.NameTables.{HasAnswers};
+ghost use Rattle.std.specs.Prelude.{◌≡◌, ◌++◌, [], None, IfOk, OnOk, length, map};
+ghost use Rattle.ft_msg.specs.Content.{all_cells, stage_view};
+ghost use Rattle.ft_elements.specs.PlacedCells.{first_records, is_last};
+ghost use Rattle.ft_elements.specs.PlacedValues.{placed_value};
 
 use crate::cells::PlainCells;
+use crate::cells::placed::PlacedValue;
 use crate::elements::PlainElement;
-use crate::names::ElementName;
 use ft_base::OutOfMemory;
-use ft_json::ValText;
 use ft_sumdoc::{CellRec, CellRecs};
 use std::alloc::Global;
 
@@ -34,74 +32,37 @@ pub fn shown_cells(
 ) -> Result<CellRecs, OutOfMemory>
     ensures { IfOk result (λ shown. shown ≡ all_cells cells.now [] (stage_view stage cols.now) 0 (stage_view stage rows.now)) }
 {
-    let filled_rows = cells.filled_rows(rows)?;
-    let filled = filled_rows.as_slice();
+    let placed = cells.placed(cols, stage)?;
     let mut shown = CellRecs::new(alloc);
     let mut place: u64 = 0;
     for row in rows {
         if row.is_seen_at(stage) {
-            push_row(&mut shown, cells, filled, place, row.name(), cols, stage)?;
+            push_row(&mut shown, place, placed.of(row.name()))?;
             place += 1;
         }
     }
     Ok(shown)
 }
 
-/// Adds the cells of the row, which is shown at this place. A row without a cell, by the table of those that have one,
-/// isn't gone through.
-fn push_row(
-    shown: &mut CellRecs,
-    cells: &PlainCells,
-    filled: &[bool],
-    place: u64,
-    row: ElementName,
-    cols: &[PlainElement],
-    stage: u64,
-) -> Result<(), OutOfMemory>
-    requires { HasAnswers (λ x. list_any (λ cell. same_id x cell.row) cells.now) filled.now }
-    ensures { OnOk result (shown.new ≡ shown.old ++ row_cells cells.now [] place row 0 (stage_view stage cols.now)) }
+/// Adds the values of the row, of those at one place the first.
+fn push_row(shown: &mut CellRecs, row: u64, values: &[PlacedValue]) -> Result<(), OutOfMemory>
+    ensures { OnOk result (shown.new ≡ shown.old ++ first_records row None (map placed_value values.now)) }
 {
-    if cells.has_row_by(filled, row) {
-        return push_columns(shown, cells, place, row, cols, stage);
-    }
-    Ok(())
-}
-
-/// Adds the cells of the row, column by column.
-fn push_columns(
-    shown: &mut CellRecs,
-    cells: &PlainCells,
-    place: u64,
-    row: ElementName,
-    cols: &[PlainElement],
-    stage: u64,
-) -> Result<(), OutOfMemory>
-    ensures { OnOk result (shown.new ≡ shown.old ++ row_cells cells.now [] place row 0 (stage_view stage cols.now)) }
-{
-    let places = cells.places_in_row(row, cols)?;
-    let places = places.as_slice();
-    let mut j: u64 = 0;
-    for col in cols {
-        if col.is_seen_at(stage) {
-            push_cell(shown, place, j, cells.value_by(places, row, col.name()))?;
-            j += 1;
+    let mut last = None;
+    for placed in values {
+        if !is_last(last, placed.col) {
+            let value = placed.value.copy()?;
+            let col = placed.col;
+            shown.push(CellRec { row, col, value })?;
         }
+        last = Some(placed.col);
     }
     Ok(())
 }
 
-/// Adds the cell, if it has a value.
-fn push_cell(
-    shown: &mut CellRecs,
-    row: u64,
-    col: u64,
-    value: Option<&ValText>,
-) -> Result<(), OutOfMemory>
-    ensures { OnOk result (shown.new ≡ shown.old ++ cell_record row col (option_copied value.entry)) }
+/// Whether this was the last place.
+fn is_last(last: Option<u64>, place: u64) -> bool
+    ensures { result ≡ is_last last place }
 {
-    if let Some(value) = value {
-        let value = value.copy()?;
-        shown.push(CellRec { row, col, value })?;
-    }
-    Ok(())
+    last == Some(place)
 }
