@@ -1,6 +1,6 @@
 //! A document that only observes messages.
 
-ghost use Rattle.std.specs.Prelude.{◌≡◌, ◌↔◌, ℕ, IfOk, None, Ok, OnOk, Some};
+ghost use Rattle.std.specs.Prelude.{◌≡◌, ◌+◌, ◌≤◌, ◌^◌, ◌↔◌, ℕ, IfOk, None, Ok, OnOk, Some};
 ghost use Rattle.ft_msg.specs.WellFormed.{HasNumbersInRange};
 ghost use Rattle.ft_msg.specs.Content.{shown};
 ghost use Rattle.ft_op.specs.Document.{empty};
@@ -24,14 +24,14 @@ pub struct ObservedDocument {
 }
 
 impl Model for ObservedDocument {
-    ghost use Rattle.std.specs.Prelude.{◌≡◌, ◌≤◌, None};
+    ghost use Rattle.std.specs.Prelude.{◌≡◌, ◌+◌, ◌≤◌, ◌^◌, None};
     ghost use Rattle.ft_document.specs.Observed.{ObservedState};
 
     ghost Value = { ObservedState };
 
     ghost view = { λ a. record { doc = a.doc; stop = a.stop } };
 
-    ghost invariant = { λ a. a.stop ≡ None → a.doc.other ≤ a.doc.number };
+    ghost invariant = { λ a. a.stop ≡ None → a.doc.other ≤ a.doc.number + 2 ^ 53 };
 }
 
 impl ObservedDocument {
@@ -45,6 +45,14 @@ impl ObservedDocument {
             doc: PlainDocument::new(alloc),
             stop: None,
         })
+    }
+
+    /// A document that was there before the first message.
+    pub fn over(doc: PlainDocument) -> ObservedDocument
+        requires { doc.other ≤ doc.number + 2 ^ 53 }
+        ensures { result ≡ record { doc = doc; stop = None } }
+    {
+        ObservedDocument { doc, stop: None }
     }
 
     /// Processes the next message.
