@@ -23,7 +23,7 @@ pub(crate) fn length_at<L: Leaf>(node: &Node<L, Summary>, _floor: u64, view: Vie
     }
 }
 
-// The child in whose stretch the place lies, and how far in.
+// The child in whose stretch the place lies, and how far in; or how long all children are.
 fn child_at<L: Leaf, G: Ledger>(
     arena: &Arena<L, Summary>,
     kids: &Kids,
@@ -31,13 +31,14 @@ fn child_at<L: Leaf, G: Ledger>(
     view: View,
     p: u64,
     steps: &mut Steps<G>,
-) -> (NodeId, u64)
+) -> Result<(NodeId, u64), u64>
     requires kept { KeepsLengths floor view }
     requires floors { AreFromFloor floor arena.now }
     requires live { (id : ℕ) → 1 ≤ times kids.now id → IsSome (entry arena.now id) }
     requires low { 1 ≤ p }
-    requires within { p ≤ total (length_of (by_view L.size L.element view) arena.now) kids.now }
-    ensures found { seek (length_of (by_view L.size L.element view) arena.now) kids.now p ≡ Some (result.0, result.1) }
+    ensures found { IfOk result (λ f. seek (length_of (by_view L.size L.element view) arena.now) kids.now p ≡ Some (f.0, f.1)) }
+    ensures past { IfErr result (λ n. n ≡ total (length_of (by_view L.size L.element view) arena.now) kids.now) }
+    ensures beyond { IfErr result (λ n. n < p) }
     ensures cost { steps.new ≤ steps.old + 8 }
 {
     let _few = kids.len();
@@ -46,12 +47,12 @@ fn child_at<L: Leaf, G: Ledger>(
     while let Some(kid) = kids.get(i) {
         let n = length_at(arena.read(kid, steps), floor, view);
         if rest <= n {
-            return (kid, rest);
+            return Ok((kid, rest));
         }
         rest -= n;
         i += 1;
     }
-    unreachable!()
+    Err(p - rest)
 }
 
 // The leaf in whose stretch the place lies, and how far in; or how long all leaves are.
@@ -79,10 +80,7 @@ pub(crate) fn find_from<L: Leaf, G: Ledger>(
         let Node::Block { kids, value } = arena.read(at, steps) else {
             unreachable!();
         };
-        if at == root && value.kept(view) < rest {
-            return Err(value.kept(view));
-        }
-        let (child, further) = child_at(arena, kids, floor, view, rest, steps);
+        let (child, further) = child_at(arena, kids, floor, view, rest, steps)?;
         if value.height == 1 {
             return Ok((child, further));
         }

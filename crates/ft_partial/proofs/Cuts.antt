@@ -5,7 +5,7 @@ use Rattle.std.proofs.lemmas.Bool.{cases_lt}
 use Rattle.std.proofs.lemmas.Bool.Decides.{nat_tests}
 use Rattle.std.proofs.lemmas.List.Edits.{length-insert, get_or-insert_below, get_or-insert_at, get_or-insert_above}
 use Rattle.ft_partial.specs.StepFunctions.{value_from}
-use Rattle.ft_partial.specs.Steps.{IsRising, IsPlace, IsStepAt, value_before, CutsStep}
+use Rattle.ft_partial.specs.Steps.{IsRising, IsPlace, IsStepAt, value_before, CutsStep, CutsBefore}
 use Rattle.ft_partial.specs.declared.step_functions.Step.{Step}
 use Rattle.ft_partial.proofs.Places.{from_at, from_at-default, rising_le}
 
@@ -125,3 +125,14 @@ cut_later old new k i last rising place some is other en =
     cut_new old new k last.value i last rising place
     (λ d j h. omega (arith, rising_le old rising d j (i - 1) (omega arith) inside, from_at-default old (i - 1) d last inside, ap (λ s. s.from) is))
     (ap (λ s. s.value) is ∙ last_is 0 old i last some) en
+
+-- a step at k, whether k stands before the end or not
+pub cut_is_before : (old new : List Step) (k end i : ℕ) → CutsStep old new k i → CutsBefore old new k end i
+cut_is_before old new k end i cuts = record {
+  rising = cuts.rising;
+  values = cuts.values;
+  step = λ h. cuts.step;
+  inside = omega (arith, cuts.step.inside);
+  above = λ d j h l. omega (arith, rising_le new cuts.rising d i j h l, cuts.step.here d);
+  few = cuts.few;
+}

@@ -6,7 +6,7 @@ use Rattle.std.proofs.lemmas.Bool.Decides.{nat_tests}
 use Rattle.std.proofs.lemmas.List.{get_or_default, get_or-set_same, get_or-set_other, length-set}
 use Rattle.ft_base.specs.Scan.{within}
 use Rattle.ft_partial.specs.StepFunctions.{amount, value_from}
-use Rattle.ft_partial.specs.Steps.{IsRising, IsPlace, IsStepAt, value_before, CutsStep, lifted, LiftsBelow, RaisesSteps}
+use Rattle.ft_partial.specs.Steps.{IsRising, IsPlace, IsStepAt, value_before, CutsStep, CutsBefore, lifted, LiftsBelow, RaisesSteps}
 use Rattle.ft_partial.specs.declared.step_functions.Step.{Step}
 use Rattle.ft_partial.specs.declared.step_functions.Span.{Span}
 use Rattle.ft_partial.proofs.Values.{no_step, value_from-place}
@@ -87,6 +87,15 @@ known_side xs rising q k i a j d step p e =
       | inr ia ↦ inr (omega (arith, p.above d a ia step.inside, step.here d), omega (arith, p.above d a ia step.inside, step.here d, p.below d j (omega arith)))
     ]
 
+-- the same where a step is known to be at q only if q stands before the end, as k does
+known_end : (xs : List Step) → IsRising xs → (q end k i j : ℕ) (d : Step) → (q < end → (a : ℕ) × IsStepAt xs q a) → k < end → IsPlace xs k i → i ≡ suc j
+    → ((q ≤ k) × (q ≤ from_at xs j d)) ⊎ ((k < q) × (from_at xs j d < q))
+known_end xs rising q end k i j d step low p e =
+    elim (cases_lt q end) [
+      | inl h ↦ let s = step h in known_side xs rising q k i s.0 j d s.1 p e
+      | inr h ↦ inr (omega arith, omega (arith, p.below d j (omega arith)))
+    ]
+
 same_side : (from to k f : ℕ) → ((from ≤ k) × (from ≤ f)) ⊎ ((k < from) × (f < from)) → ((to ≤ k) × (to ≤ f)) ⊎ ((k < to) × (f < to)) → within from to f ≡ within from to k
 same_side from to k f (inl a) (inl b) = late from to f b.1 ∙ sym (late from to k b.0)
 same_side from to k f (inl a) (inr b) = amid from to f a.1 b.1 ∙ sym (amid from to k a.0 b.0)
@@ -96,24 +105,27 @@ raised_value : (b : Bool) (h by : ℕ) → cond b ((h + by) % 2 ^ 64) h % 2 ^ 64
 raised_value true h by = omega arith
 raised_value false h by = omega arith
 
-lifted_at : (xs ys : List Step) (span : Span) (k i : ℕ) (d : Step) → IsRising xs → (a b : ℕ) → IsStepAt xs span.from a → IsStepAt xs span.to b → LiftsBelow xs ys span (length xs)
-    → IsPlace xs k i → value_before 0 ys i d % 2 ^ 64 ≡ (value_before 0 xs i d + amount (within span.from span.to k) span.by) % 2 ^ 64
-lifted_at xs ys span k zero d rising a b sa sb lifts p =
+lifted_at : (xs ys : List Step) (span : Span) (end k i : ℕ) (d : Step) → IsRising xs → (a : ℕ) → IsStepAt xs span.from a → (span.to < end → (b : ℕ) × IsStepAt xs span.to b)
+    → LiftsBelow xs ys span (length xs) → k < end → IsPlace xs k i
+    → value_before 0 ys i d % 2 ^ 64 ≡ (value_before 0 xs i d + amount (within span.from span.to k) span.by) % 2 ^ 64
+lifted_at xs ys span end k zero d rising a sa sb lifts low p =
     ap (λ v. (0 + amount v span.by) % 2 ^ 64) (sym (early span.from span.to k (omega (arith, p.above d a (omega arith) sa.inside, sa.here d))))
-lifted_at xs ys span k (suc j) d rising a b sa sb lifts p =
+lifted_at xs ys span end k (suc j) d rising a sa sb lifts low p =
     let inside : j < length xs = omega (arith, p.inside) in
-    let side = same_side span.from span.to k (from_at xs j d) (known_side xs rising span.from k (suc j) a j d sa p refl) (known_side xs rising span.to k (suc j) b j d sb p refl) in
+    let from_side = known_side xs rising span.from k (suc j) a j d sa p refl in
+    let side = same_side span.from span.to k (from_at xs j d) from_side (known_end xs rising span.to end k (suc j) j d sb low p refl) in
     ap (λ s. s.value % 2 ^ 64) (lifts.below d j inside inside)
     ∙ raised_value (within span.from span.to (from_at xs j d)) (get_or xs j d).value span.by
     ∙ ap (λ v. ((get_or xs j d).value + amount v span.by) % 2 ^ 64) side
 
--- the values after the lift
-lifted_values : (xs ys : List Step) (span : Span) (a b : ℕ) → IsRising xs → IsStepAt xs span.from a → IsStepAt xs span.to b → LiftsBelow xs ys span (length xs)
-    → (k : ℕ) → value_from 0 ys k % 2 ^ 64 ≡ (value_from 0 xs k + amount (within span.from span.to k) span.by) % 2 ^ 64
-lifted_values xs ys span a b rising sa sb lifts k =
+-- the values below the end, after the lift
+lifted_values : (xs ys : List Step) (span : Span) (end a : ℕ) → IsRising xs → IsStepAt xs span.from a → (span.to < end → (b : ℕ) × IsStepAt xs span.to b)
+    → LiftsBelow xs ys span (length xs) → (k : ℕ) → k < end
+    → value_from 0 ys k % 2 ^ 64 ≡ (value_from 0 xs k + amount (within span.from span.to k) span.by) % 2 ^ 64
+lifted_values xs ys span end a rising sa sb lifts k low =
     let found = place_exists xs rising k in
     ap (λ n. n % 2 ^ 64) (value_from-place 0 k found.0 no_step ys (move_place xs ys span k found.0 lifts found.1))
-    ∙ lifted_at xs ys span k found.0 no_step rising a b sa sb lifts found.1
+    ∙ lifted_at xs ys span end k found.0 no_step rising a sa sb lifts low found.1
     ∙ ap (λ n. (n + amount (within span.from span.to k) span.by) % 2 ^ 64) (sym (value_from-place 0 k found.0 no_step xs found.1))
 
 lifted_rising : (xs ys : List Step) (span : Span) → IsRising xs → LiftsBelow xs ys span (length xs) → IsRising ys
@@ -123,16 +135,14 @@ lifted_rising xs ys span rising lifts d i j h l =
     omega (arith, rising d i j h inside, ap (λ s. s.from) (lifts.below d i before before), ap (λ s. s.from) (lifts.below d j inside inside))
 
 -- cut twice and lift between
-pub steps_raised : (old mid xs ys : List Step) (span : Span) (a b : ℕ) → CutsStep old mid span.to b → CutsStep mid xs span.from a → LiftsBelow xs ys span (length xs)
-    → RaisesSteps old ys span
-steps_raised old mid xs ys span a b first second lifts =
-    let end = second.kept span.to b first.step in
-    record {
-      rising = lifted_rising xs ys span second.rising lifts;
-      values = λ k. lifted_values xs ys span a end.0 second.rising second.step end.1 lifts k
-          ∙ ap (λ n. (n + amount (within span.from span.to k) span.by) % 2 ^ 64) (second.values k ∙ first.values k);
-      few = omega (arith, lifts.len, first.few, second.few);
-    }
+pub steps_raised : (old mid xs ys : List Step) (span : Span) (end a b : ℕ) → CutsBefore old mid span.to end b → CutsStep mid xs span.from a → LiftsBelow xs ys span (length xs)
+    → RaisesSteps old ys span end
+steps_raised old mid xs ys span end a b first second lifts = record {
+  rising = lifted_rising xs ys span second.rising lifts;
+  values = λ k h. lifted_values xs ys span end a second.rising second.step (λ low. second.kept span.to b (first.step low)) lifts k h
+      ∙ ap (λ n. (n + amount (within span.from span.to k) span.by) % 2 ^ 64) (second.values k ∙ first.values k);
+  few = omega (arith, lifts.len, first.few, second.few);
+}
 
 take_front : (ys zs : List Step) → take (length ys) (ys ++ zs) ≡ ys
 take_front [] [] = refl

@@ -4,6 +4,7 @@ use Rattle.std.proofs.Common.{length, refl, sym, ◌∙◌, ap, subst, arith}
 use Rattle.std.specs.List.{list_any}
 use Rattle.std.proofs.lemmas.Bool.Decides.{nat_tests}
 use Rattle.std.proofs.lemmas.Grind.{common_steps}
+use Rattle.std.proofs.lemmas.List.{nil_from_length}
 use Rattle.std.proofs.lemmas.List.Folds.{list_any-append}
 use Rattle.ft_base.specs.declared.stamps.Stamp.{Stamp}
 use Rattle.ft_base.specs.declared.stamps.Stamp.TheVariants.{Acked, Local}
@@ -11,7 +12,7 @@ use Rattle.ft_base.specs.Visibility.{has_occurred, sees}
 use Rattle.ft_base.specs.Scan.{within}
 use Rattle.ft_base.specs.declared.elements.Element.{Element}
 use Rattle.ft_partial.specs.StepFunctions.{amount, value_at, span_value, ExchangesSpan}
-use Rattle.ft_partial.specs.Rows.{stamp_number, first_removal, is_stamp_by, row_place, at_floor, common_span, row_change, row_span, row_value, ExchangesRow, ExchangesRows, late, Covers}
+use Rattle.ft_partial.specs.Rows.{stamp_number, first_removal, is_stamp_by, row_place, at_floor, is_settled, common_span, row_change, row_span, row_value, ExchangesRow, ExchangesRows, late, Covers}
 use Rattle.ft_partial.specs.declared.step_functions.Step.{Step}
 
 pub first_removal-le : (dels : List Stamp) → first_removal dels ≤ 2 ^ 64
@@ -125,20 +126,20 @@ same_by : (d c : ℕ) (stamps : List Stamp) → nat_eq d c ≡ true → list_any
 same_by d c stamps e = let same : d ≡ c = grind (arith, nat_tests) in ap (λ x. list_any (is_stamp_by x) stamps) same
 
 -- one row exchanged
-exchanged_case : (floor : ℕ) (old new : List Step) (before : List Stamp) (s d r c : ℕ) (e f : Element) (n m : ℕ) (t : Bool) → nat_eq d c ≡ t → r < 2 ^ 64
+exchanged_case : (floor : ℕ) (old new : List Step) (before : List Stamp) (s d r c : ℕ) (e f : Element) (n m : ℕ) (t : Bool) → nat_eq d c ≡ t → r < 2 ^ 64 → c < 2 ^ 32
     → stamp_number e.ins ≤ 2 ^ 64 → stamp_number f.ins ≤ 2 ^ 64
-    → list_any (is_stamp_by d) before ≡ false → ExchangesSpan old new (row_span floor e n d) (row_span floor f m d)
+    → list_any (is_stamp_by d) before ≡ false → ExchangesSpan old new (row_span floor e n d) (row_span floor f m d) (2 ^ 96)
     → (value_at new (row_place c r) + amount (not (list_any (is_stamp_by c) before) && t) (row_value floor e n c r)) % 2 ^ 64
     ≡ (value_at old (row_place c r) + amount (not (list_any (is_stamp_by c) before) && t) (row_value floor f m c r)) % 2 ^ 64
-exchanged_case floor old new before s d r c e f n m true h hr he hf none change =
+exchanged_case floor old new before s d r c e f n m true h hr hc he hf none change =
     let same : d ≡ c = grind (arith, nat_tests) in
     let free : list_any (is_stamp_by c) before ≡ false = sym (same_by d c before h) ∙ none in
-    let P : ℕ → Type 0 = λ x. ExchangesSpan old new (row_span floor e n x) (row_span floor f m x) in
-    let here = subst P same change (row_place c r) in
+    let P : ℕ → Type 0 = λ x. ExchangesSpan old new (row_span floor e n x) (row_span floor f m x) (2 ^ 96) in
+    let here = subst P same change (row_place c r) (omega arith) in
     ap (λ b. (value_at new (row_place c r) + amount (not b && true) (row_value floor e n c r)) % 2 ^ 64) free
     ∙ here ∙ ap (λ b. (value_at old (row_place c r) + amount (not b && true) (row_value floor f m c r)) % 2 ^ 64) (sym free)
-exchanged_case floor old new before s d r c e f n m false h hr he hf none change =
-    let away = change (row_place c r) in
+exchanged_case floor old new before s d r c e f n m false h hr hc he hf none change =
+    let away = change (row_place c r) (omega arith) in
     let first = row_apart floor e n d c r he hr h in
     let second = row_apart floor f m d c r hf hr h in
     let never : (not (list_any (is_stamp_by c) before) && false) ≡ false = and_false (not (list_any (is_stamp_by c) before)) in
@@ -150,8 +151,8 @@ exchanged_case floor old new before s d r c e f n m false h hr he hf none change
     and_false false = refl
 
 pub row_exchanged : (floor : ℕ) (old new : List Step) (before : List Stamp) (s d : ℕ) (e f : Element) (n m : ℕ) → stamp_number e.ins ≤ 2 ^ 64 → stamp_number f.ins ≤ 2 ^ 64
-    → list_any (is_stamp_by d) before ≡ false → ExchangesSpan old new (row_span floor e n d) (row_span floor f m d) → ExchangesRow floor old new before (Acked s d) e n f m
-row_exchanged floor old new before s d e f n m he hf none change r c hr hc = exchanged_case floor old new before s d r c e f n m (nat_eq d c) refl hr he hf none change
+    → list_any (is_stamp_by d) before ≡ false → ExchangesSpan old new (row_span floor e n d) (row_span floor f m d) (2 ^ 96) → ExchangesRow floor old new before (Acked s d) e n f m
+row_exchanged floor old new before s d e f n m he hf none change r c hr hc = exchanged_case floor old new before s d r c e f n m (nat_eq d c) refl hr hc he hf none change
 
 -- nothing to be done
 unchanged : (t : Bool) (v x y : ℕ) → t ≡ false → (v + amount t x) % 2 ^ 64 ≡ (v + amount t y) % 2 ^ 64
@@ -230,3 +231,40 @@ or_two false false h = h
 pub cover_one : (floor : ℕ) (e : Element) (stamps : List Stamp) → stamps ≡ e.dels ++ late floor e.ins → Covers floor stamps e
 cover_one floor e stamps es c h =
     ap (list_any (is_stamp_by c)) es ∙ list_any-append (is_stamp_by c) e.dels (late floor e.ins) ∙ or_two (list_any (is_stamp_by c) e.dels) (list_any (is_stamp_by c) (late floor e.ins)) h
+
+or_three : (a b c : Bool) → ((b || a) ≡ true → ((a || b) || c) ≡ true) × ((b || c) ≡ true → ((a || b) || c) ≡ true)
+or_three true b c = (λ h. refl, λ h. refl)
+or_three false true c = (λ h. refl, λ h. refl)
+or_three false false true = (λ h. refl, λ h. refl)
+or_three false false false = (λ h. h, λ h. h)
+
+-- the stamps of two elements with one insertion
+pub cover_same : (floor : ℕ) (e f : Element) (stamps : List Stamp) → f.ins ≡ e.ins → stamps ≡ (e.dels ++ late floor e.ins) ++ f.dels
+    → Covers floor stamps e × Covers floor stamps f
+cover_same floor e f stamps one es = (
+  λ c h. is c ∙ (or_three (list_any (is_stamp_by c) e.dels) (list_any (is_stamp_by c) (late floor e.ins)) (list_any (is_stamp_by c) f.dels)).0 h,
+  λ c h. is c ∙ (or_three (list_any (is_stamp_by c) e.dels) (list_any (is_stamp_by c) (late floor e.ins)) (list_any (is_stamp_by c) f.dels)).1
+      (ap (λ s. list_any (is_stamp_by c) (late floor s) || list_any (is_stamp_by c) f.dels) (sym one) ∙ h),
+)
+  where
+    is : (c : ℕ) → list_any (is_stamp_by c) stamps
+        ≡ ((list_any (is_stamp_by c) e.dels || list_any (is_stamp_by c) (late floor e.ins)) || list_any (is_stamp_by c) f.dels)
+    is c = ap (list_any (is_stamp_by c)) es ∙ list_any-append (is_stamp_by c) (e.dels ++ late floor e.ins) f.dels
+        ∙ ap (λ b. b || list_any (is_stamp_by c) f.dels) (list_any-append (is_stamp_by c) e.dels (late floor e.ins))
+
+settled_case : (r c : ℕ) (s : Stamp) (floor : ℕ) → floor ≤ r → r < 2 ^ 64 → stamp_number s ≤ floor → has_occurred r c s ≡ true
+settled_case r c (Acked k d) floor h low e = grind (arith, nat_tests)
+settled_case r c (Local k) floor h low e = absurd (omega arith)
+
+and_parts : (a b : Bool) → (a && b) ≡ true → (a ≡ true) × (b ≡ true)
+and_parts true b h = (refl, h)
+and_parts false b h = cc
+
+-- all see a settled element from the floor up
+pub settled-seen : (floor r c : ℕ) (e : Element) → is_settled floor e ≡ true → floor ≤ r → r < 2 ^ 64 → sees e r c ≡ true
+settled-seen floor r c e h from low =
+    let both = and_parts (nat_le (stamp_number e.ins) floor) (nat_eq (length e.dels) 0) h in
+    let none : length e.dels ≡ 0 = grind (arith, nat_tests, both.1) in
+    let early : stamp_number e.ins ≤ floor = grind (arith, nat_tests, both.0) in
+    ap (λ b. b && not (list_any (has_occurred r c) e.dels)) (settled_case r c e.ins floor from low early)
+    ∙ ap (λ ds. not (list_any (has_occurred r c) ds)) (nil_from_length e.dels none)

@@ -7,28 +7,28 @@ use Rattle.ft_base.specs.declared.stamps.Stamp.TheVariants.{Acked, Local}
 use Rattle.ft_base.specs.declared.elements.Element.{Element}
 use Rattle.ft_base.specs.Visibility.{has_occurred, sees}
 use Rattle.ft_partial.specs.StepFunctions.{amount, value_at, span_value, ExchangesSpan}
-use Rattle.ft_partial.specs.Rows.{row_place, common_span, row_value, ExchangesRows, Covers}
+use Rattle.ft_partial.specs.Rows.{row_place, is_settled, common_span, row_value, ExchangesRows, Covers}
 use Rattle.ft_partial.specs.Items.{Item, item_of, length_where, length_seen, is_at_most, folded_stamp, folded_item, folded_items}
 use Rattle.ft_partial.specs.SameStamps.{ExchangesItem, SameByStamps}
 use Rattle.ft_partial.specs.Tables.{Lengths, length_at, CountsItems, Adds, Exchanges, AddsAll, SameFrom}
 use Rattle.ft_partial.specs.declared.step_functions.Step.{Step}
 use Rattle.ft_partial.specs.declared.step_functions.Span.{Span}
-use Rattle.ft_partial.proofs.Values.{value_at-none}
-use Rattle.ft_partial.proofs.RowLemmas.{parts, covered}
+use Rattle.ft_partial.proofs.Values.{value_at-none, value_at-fits}
+use Rattle.ft_partial.proofs.RowLemmas.{parts, covered, settled-seen}
 use Rattle.ft_partial.proofs.SumsByStamps.{same_sums}
 
 pub length_at-fits : (t : Lengths) (r c : ℕ) → length_at t r c < 2 ^ 64
 unfolding length_at
 length_at-fits t r c = omega arith
 
--- the two values make up the length
-pub length_at_is : (t : Lengths) (common own : List Step) (r c place v w : ℕ) → common ≡ t.common → own ≡ t.own → place ≡ row_place c r
-    → v ≡ value_at common r → w ≡ value_at own place → (v + w) % 2 ^ 64 ≡ length_at t r c
+-- the three values make up the length
+pub length_at_is : (t : Lengths) (base : ℕ) (common own : List Step) (r c place v w : ℕ) → base ≡ t.base → common ≡ t.common → own ≡ t.own → place ≡ row_place c r
+    → v ≡ value_at common r → w ≡ value_at own place → (base + (v + w) % 2 ^ 64) % 2 ^ 64 ≡ length_at t r c
 unfolding length_at
-length_at_is t common own r c place v w ec eo ep ev ew =
+length_at_is t base common own r c place v w eb ec eo ep ev ew =
     let first = ev ∙ ap (λ xs. value_at xs r) ec in
     let second = ew ∙ ap (λ xs. value_at xs place) eo ∙ ap (λ k. value_at t.own k) ep in
-    ap (λ n. (n + w) % 2 ^ 64) first ∙ ap (λ n. (value_at t.common r + n) % 2 ^ 64) second
+    omega (arith, eb, first, second)
 
 -- no list is seen to be longer than it is
 pub seen-le : (r c : ℕ) (xs : List Item) → length_seen r c xs ≤ length_where (λ e. true) xs
@@ -44,41 +44,52 @@ pub length_at-exact : (t : Lengths) (xs : List Item) → CountsItems t xs → le
     → (r c : ℕ) → t.floor ≤ r → r < 2 ^ 64 → c < 2 ^ 32 → length_at t r c ≡ length_seen r c xs
 length_at-exact t xs stands fits r c hf hr hc = omega (arith, stands r c hf hr hc, seen-le r c xs)
 
-pub stands-none : (t : Lengths) → t.common ≡ [] → t.own ≡ [] → CountsItems t []
+pub stands-none : (t : Lengths) → t.base ≡ 0 → t.common ≡ [] → t.own ≡ [] → CountsItems t []
 unfolding length_at
-stands-none t common own r c hf hr hc = omega (arith, value_at-none t.common r common, value_at-none t.own (row_place c r) own)
+stands-none t base common own r c hf hr hc = omega (arith, base, value_at-none t.common r common, value_at-none t.own (row_place c r) own)
 
-exchanged : (vn wn vo wo a b x y s t : ℕ) → (vn + a) % 2 ^ 64 ≡ (vo + b) % 2 ^ 64 → (wn + x) % 2 ^ 64 ≡ (wo + y) % 2 ^ 64
-    → (a + x) % 2 ^ 64 ≡ s % 2 ^ 64 → (b + y) % 2 ^ 64 ≡ t % 2 ^ 64 → ((vn + wn) % 2 ^ 64 + s) % 2 ^ 64 ≡ ((vo + wo) % 2 ^ 64 + t) % 2 ^ 64
-exchanged vn wn vo wo a b x y s t e1 e2 e3 e4 = omega arith
+exchanged : (base vn wn vo wo a b x y s t : ℕ) → (vn + a) % 2 ^ 64 ≡ (vo + b) % 2 ^ 64 → (wn + x) % 2 ^ 64 ≡ (wo + y) % 2 ^ 64
+    → (a + x) % 2 ^ 64 ≡ s % 2 ^ 64 → (b + y) % 2 ^ 64 ≡ t % 2 ^ 64 → ((base + (vn + wn)) % 2 ^ 64 + s) % 2 ^ 64 ≡ ((base + (vo + wo)) % 2 ^ 64 + t) % 2 ^ 64
+exchanged base vn wn vo wo a b x y s t e1 e2 e3 e4 = omega arith
 
 -- both functions changed
 exchanges_item : (old new : Lengths) (stamps : List Stamp) (e f : Element) (n m : ℕ) → n < 2 ^ 64 → m < 2 ^ 64 → Covers old.floor stamps e → Covers old.floor stamps f
-    → ExchangesSpan old.common new.common (common_span old.floor e n) (common_span old.floor f m) → ExchangesRows old.floor old.own new.own stamps e n f m
-    → Exchanges old new e n f m
+    → new.base ≡ old.base → ExchangesSpan old.common new.common (common_span old.floor e n) (common_span old.floor f m) (2 ^ 64)
+    → ExchangesRows old.floor old.own new.own stamps e n f m → Exchanges old new e n f m
 unfolding length_at
-exchanges_item old new stamps e f n m hn hm ce cf common own r c hf hr hc =
+exchanges_item old new stamps e f n m hn hm ce cf base common own r c hf hr hc =
     let out = covered old.floor stamps e n r c ce in
     let into = covered old.floor stamps f m r c cf in
     let rows = own r c hr hc in
-    exchanged (value_at new.common r) (value_at new.own (row_place c r)) (value_at old.common r) (value_at old.own (row_place c r))
+    let sum = exchanged old.base (value_at new.common r) (value_at new.own (row_place c r)) (value_at old.common r) (value_at old.own (row_place c r))
     (span_value (common_span old.floor e n) r) (span_value (common_span old.floor f m) r) (row_value old.floor e n c r) (row_value old.floor f m c r)
     (amount (sees e r c) n) (amount (sees f r c) m)
-    (common r) (omega (arith, rows, out, into)) (parts old.floor e n r c hf hn hr) (parts old.floor f m r c hf hm hr)
+    (common r hr) (omega (arith, rows, out, into)) (parts old.floor e n r c hf hn hr) (parts old.floor f m r c hf hm hr) in
+    ap (λ b. ((b + (value_at new.common r + value_at new.own (row_place c r))) % 2 ^ 64 + amount (sees e r c) n) % 2 ^ 64) base ∙ sum
 
 -- the same in the words of the code
 pub exchanges_item_at : (old new : Lengths) (floor : ℕ) (stamps : List Stamp) (common own : List Step) (span new_span : Span) (e f : Element) (n m : ℕ)
     → n < 2 ^ 64 → m < 2 ^ 64 → Covers old.floor stamps e → Covers old.floor stamps f
-    → floor ≡ old.floor → common ≡ old.common → own ≡ old.own → span ≡ common_span floor e n → new_span ≡ common_span floor f m
-    → ExchangesSpan common new.common span new_span → ExchangesRows floor own new.own stamps e n f m → Exchanges old new e n f m
-exchanges_item_at old new floor stamps common own span new_span e f n m hn hm ce cf ef ec eo es et exchange rows =
-    let A : List Step → Type 0 = λ xs. ExchangesSpan xs new.common span new_span in
-    let S : Span → Type 0 = λ s. ExchangesSpan old.common new.common s new_span in
-    let T : Span → Type 0 = λ s. ExchangesSpan old.common new.common (common_span floor e n) s in
+    → floor ≡ old.floor → new.base ≡ old.base → common ≡ old.common → own ≡ old.own → span ≡ common_span floor e n → new_span ≡ common_span floor f m
+    → ExchangesSpan common new.common span new_span (2 ^ 64) → ExchangesRows floor own new.own stamps e n f m → Exchanges old new e n f m
+exchanges_item_at old new floor stamps common own span new_span e f n m hn hm ce cf ef eb ec eo es et exchange rows =
+    let A : List Step → Type 0 = λ xs. ExchangesSpan xs new.common span new_span (2 ^ 64) in
+    let S : Span → Type 0 = λ s. ExchangesSpan old.common new.common s new_span (2 ^ 64) in
+    let T : Span → Type 0 = λ s. ExchangesSpan old.common new.common (common_span floor e n) s (2 ^ 64) in
     let O : List Step → Type 0 = λ xs. ExchangesRows floor xs new.own stamps e n f m in
-    let F : ℕ → Type 0 = λ k. ExchangesSpan old.common new.common (common_span k e n) (common_span k f m) in
+    let F : ℕ → Type 0 = λ k. ExchangesSpan old.common new.common (common_span k e n) (common_span k f m) (2 ^ 64) in
     let R : ℕ → Type 0 = λ k. ExchangesRows k old.own new.own stamps e n f m in
-    exchanges_item old new stamps e f n m hn hm ce cf (subst F ef (subst T et (subst S es (subst A ec exchange)))) (subst R ef (subst O eo rows))
+    exchanges_item old new stamps e f n m hn hm ce cf eb (subst F ef (subst T et (subst S es (subst A ec exchange)))) (subst R ef (subst O eo rows))
+
+-- what all see changed alone
+pub exchanges_settled : (old new : Lengths) (floor : ℕ) (e f : Element) (n m : ℕ) → floor ≡ old.floor → true ≡ is_settled floor e → true ≡ is_settled floor f
+    → (new.base + n) % 2 ^ 64 ≡ (old.base + m) % 2 ^ 64 → new.common ≡ old.common → new.own ≡ old.own → Exchanges old new e n f m
+unfolding length_at
+exchanges_settled old new floor e f n m ef se sf base common own r c hf hr hc =
+    let from : floor ≤ r = omega arith in
+    let first = ap (λ b. amount b n) (settled-seen floor r c e (sym se) from hr) in
+    let second = ap (λ b. amount b m) (settled-seen floor r c f (sym sf) from hr) in
+    omega (arith, base, first, second, ap (λ xs. value_at xs r) common, ap (λ xs. value_at xs (row_place c r)) own)
 
 amount-zero : (b : Bool) → amount b 0 ≡ 0
 amount-zero true = refl
@@ -92,29 +103,38 @@ adds_item old new e n exchanges r c hf hr hc =
     let none = amount-zero (sees e r c) in
     omega arith
 
-pub adds_all : (old other new : Lengths) → ((k : ℕ) → value_at new.common k ≡ (value_at old.common k + value_at other.common k) % 2 ^ 64)
+pub adds_all : (old other new : Lengths) → new.base ≡ (old.base + other.base) % 2 ^ 64 → ((k : ℕ) → value_at new.common k ≡ (value_at old.common k + value_at other.common k) % 2 ^ 64)
     → ((k : ℕ) → value_at new.own k ≡ (value_at old.own k + value_at other.own k) % 2 ^ 64) → AddsAll old other new
 unfolding length_at
-adds_all old other new common own r c hr hc = omega (arith, common r, own (row_place c r))
+adds_all old other new base common own r c hr hc = omega (arith, base, common r, own (row_place c r))
 
 -- the same in the words of the code
 pub adds_all_at : (old other new : Lengths) (common own more_common more_own : List Step) → common ≡ old.common → own ≡ old.own → more_common ≡ other.common → more_own ≡ other.own
+    → new.base ≡ (old.base + other.base) % 2 ^ 64
     → ((k : ℕ) → value_at new.common k ≡ (value_at common k + value_at more_common k) % 2 ^ 64)
     → ((k : ℕ) → value_at new.own k ≡ (value_at own k + value_at more_own k) % 2 ^ 64) → AddsAll old other new
-adds_all_at old other new common own more_common more_own ec eo em en sums own_sums =
-    adds_all old other new
+adds_all_at old other new common own more_common more_own ec eo em en base sums own_sums =
+    adds_all old other new base
     (λ k. omega (arith, sums k, ap (λ xs. value_at xs k) ec, ap (λ xs. value_at xs k) em))
     (λ k. omega (arith, own_sums k, ap (λ xs. value_at xs k) eo, ap (λ xs. value_at xs k) en))
 
-pub same_from : (old new : Lengths) (floor : ℕ)
+-- the other table has no steps
+pub adds_base : (old other new : Lengths) → new.base ≡ (old.base + other.base) % 2 ^ 64 → other.common ≡ [] → other.own ≡ [] → new.common ≡ old.common → new.own ≡ old.own
+    → AddsAll old other new
+adds_base old other new base none no_own common own =
+    adds_all old other new base
+    (λ k. omega (arith, value_at-none other.common k none, value_at-fits old.common k, ap (λ xs. value_at xs k) common))
+    (λ k. omega (arith, value_at-none other.own k no_own, value_at-fits old.own k, ap (λ xs. value_at xs k) own))
+
+pub same_from : (old new : Lengths) (floor : ℕ) → new.base ≡ old.base
     → ((k : ℕ) → floor ≤ k % 2 ^ 64 → value_at new.common k ≡ value_at old.common k)
     → ((k : ℕ) → floor ≤ k % 2 ^ 64 → value_at new.own k ≡ value_at old.own k) → SameFrom floor old new
 unfolding length_at
-same_from old new floor common own r c hf hr hc = omega (arith, common r (omega arith), own (row_place c r) (omega arith))
+same_from old new floor base common own r c hf hr hc = omega (arith, base, common r (omega arith), own (row_place c r) (omega arith))
 
-pub same_kept : (old new : Lengths) (floor : ℕ) → new.common ≡ old.common → new.own ≡ old.own → SameFrom floor old new
-same_kept old new floor common own =
-    same_from old new floor (λ k h. ap (λ xs. value_at xs k) common) (λ k h. ap (λ xs. value_at xs k) own)
+pub same_kept : (old new : Lengths) (floor : ℕ) → new.base ≡ old.base → new.common ≡ old.common → new.own ≡ old.own → SameFrom floor old new
+same_kept old new floor base common own =
+    same_from old new floor base (λ k h. ap (λ xs. value_at xs k) common) (λ k h. ap (λ xs. value_at xs k) own)
 
 more : (wn wo l s : ℕ) → wn ≡ (wo + l) % 2 ^ 64 → wo ≡ s % 2 ^ 64 → wn ≡ (l + s) % 2 ^ 64
 more wn wo l s e1 e2 = omega arith

@@ -42,15 +42,15 @@ value_at_is xs k = refl
 pub raised_by_none : (xs : List Step) (k : ℕ) → value_at xs k ≡ (value_at xs k + 0) % 2 ^ 64
 raised_by_none xs k = omega (arith, value_at-fits xs k)
 
-pub raises_from_steps : (old new : List Step) (s : Span) → RaisesSteps old new s → Raises old new s
+pub raises_from_steps : (old new : List Step) (s : Span) (end : ℕ) → RaisesSteps old new s end → Raises old new s end
 unfolding value_at
-raises_from_steps old new s r k =
-    let e = r.values k in
+raises_from_steps old new s end r k low =
+    let e = r.values k low in
     omega arith
 
 -- a change of no place, or by 0
-pub raises_nothing : (xs : List Step) (s : Span) → s.to ≤ s.from → Raises xs xs s
-raises_nothing xs s h k =
+pub raises_nothing : (xs : List Step) (s : Span) (end : ℕ) → s.to ≤ s.from → Raises xs xs s end
+raises_nothing xs s end h k low =
     let e : within s.from s.to k ≡ false = grind (arith, nat_tests) in
     raised_by_none xs k ∙ ap (λ b. (value_at xs k + amount b s.by) % 2 ^ 64) (sym e)
 
@@ -58,8 +58,8 @@ amount-zero : (b : Bool) (n : ℕ) → n ≡ 0 → amount b n ≡ 0
 amount-zero true n e = e
 amount-zero false n e = refl
 
-pub raises_by_zero : (xs : List Step) (s : Span) → s.by ≡ 0 → Raises xs xs s
-raises_by_zero xs s e k = raised_by_none xs k ∙ ap (λ n. (value_at xs k + n) % 2 ^ 64) (sym (amount-zero (within s.from s.to k) s.by e))
+pub raises_by_zero : (xs : List Step) (s : Span) (end : ℕ) → s.by ≡ 0 → Raises xs xs s end
+raises_by_zero xs s end e k low = raised_by_none xs k ∙ ap (λ n. (value_at xs k + n) % 2 ^ 64) (sym (amount-zero (within s.from s.to k) s.by e))
 
 pub folded_values : (old new : List Step) (floor : ℕ) → FoldsSteps old new floor → (k : ℕ) → floor ≤ k % 2 ^ 64 → value_at new k ≡ value_at old k
 unfolding value_at

@@ -3,7 +3,7 @@
 --     place_of c k      where the row of connection c has its value for the sequence number k
 --     common_span floor e n      the change that n elements make, from the floor up, for those who made none of their stamps
 --     row_span floor e n c      the change that they make in the row of connection c
-use Rattle.std.specs.Prelude.{◌≡◌, ℕ, ◌+◌, ◌*◌, ◌-◌, ◌<◌, ◌%◌, ◌^◌, Bool, true, false, ◌&&◌, ◌||◌, not, cond, nat_le, nat_eq, min, List, [], ◌∷◌}
+use Rattle.std.specs.Prelude.{◌≡◌, ℕ, ◌+◌, ◌*◌, ◌-◌, ◌<◌, ◌%◌, ◌^◌, Bool, true, false, ◌&&◌, ◌||◌, not, cond, nat_le, nat_eq, min, List, [], ◌∷◌, length}
 use Rattle.std.specs.List.{list_any}
 use Rattle.ft_base.specs.declared.stamps.Stamp.{Stamp}
 use Rattle.ft_base.specs.declared.stamps.Stamp.TheVariants.{Acked, Local}
@@ -34,6 +34,10 @@ row_place c k = c * 2 ^ 64 + k
 -- a sequence number as it counts from the floor up: 0 where it is at or below it, for then all have seen it
 abbrev pub at_floor : ℕ → ℕ → ℕ
 at_floor floor k = cond (nat_le k floor) 0 k
+
+-- all see the element from the floor up: it was inserted at or below it, and has no removal
+abbrev pub is_settled : ℕ → Element → Bool
+is_settled floor e = nat_le (stamp_number e.ins) floor && nat_eq (length e.dels) 0
 
 -- the change that n elements make, from the floor up, for those who made none of their stamps
 abbrev pub common_span : ℕ → Element → ℕ → Span

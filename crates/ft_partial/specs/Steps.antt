@@ -33,6 +33,15 @@ pub record CutsStep (old new : List Step) (k i : ℕ) : Type 0 where
   pub kept : (q j : ℕ) → IsStepAt old q j → (m : ℕ) × IsStepAt new q m
   pub few : length new ≤ length old + 1
 
+-- the same where k stands before the end; the steps from the i-th on stand at k or above
+pub record CutsBefore (old new : List Step) (k end i : ℕ) : Type 0 where
+  pub rising : IsRising new
+  pub values : (q : ℕ) → value_from 0 new q ≡ value_from 0 old q
+  pub step : k < end → IsStepAt new k i
+  pub inside : i ≤ length new
+  pub above : (d : Step) (j : ℕ) → i ≤ j → j < length new → k ≤ (slice_index_or new j d).from
+  pub few : length new ≤ length old + 1
+
 -- the step, with the change made if it is within
 abbrev pub lifted : Span → Step → Step
 lifted s x = record x { value = cond (within s.from s.to x.from) ((x.value + s.by) % 2 ^ 64) x.value }
@@ -43,10 +52,10 @@ pub record LiftsBelow (old new : List Step) (s : Span) (n : ℕ) : Type 0 where
   pub below : (d : Step) (j : ℕ) → j < n → j < length old → slice_index_or new j d ≡ lifted s (slice_index_or old j d)
   pub above : (d : Step) (j : ℕ) → n ≤ j → j < length old → slice_index_or new j d ≡ slice_index_or old j d
 
--- the change is made to all values, by at most two steps more
-pub record RaisesSteps (old new : List Step) (s : Span) : Type 0 where
+-- the change is made to all values below the end, by at most two steps more
+pub record RaisesSteps (old new : List Step) (s : Span) (end : ℕ) : Type 0 where
   pub rising : IsRising new
-  pub values : (q : ℕ) → value_from 0 new q % 2 ^ 64 ≡ (value_from 0 old q + span_value s q) % 2 ^ 64
+  pub values : (q : ℕ) → q < end → value_from 0 new q % 2 ^ 64 ≡ (value_from 0 old q + span_value s q) % 2 ^ 64
   pub few : length new ≤ length old + 2
 
 -- the first n steps stand before k

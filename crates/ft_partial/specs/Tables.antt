@@ -9,15 +9,17 @@ use Rattle.ft_partial.specs.StepFunctions.{value_at, amount}
 use Rattle.ft_partial.specs.Rows.{row_place}
 use Rattle.ft_partial.specs.Items.{Item, length_seen}
 
--- a table: its floor, what those see who made none of the stamps, and how far each connection's own stamps change that
+-- a table: its floor, a number that all see, what those see besides who made none of the stamps, and how far each
+-- connection's own stamps change that
 pub record Lengths : Type 0 where
   pub floor : ℕ
+  pub base : ℕ
   pub common : List Step
   pub own : List Step
 
 -- the length for the perspective (r, c)
 unfoldable pub length_at : Lengths → ℕ → ℕ → ℕ
-length_at t r c = (value_at t.common r + value_at t.own (row_place c r)) % 2 ^ 64
+length_at t r c = (t.base + (value_at t.common r + value_at t.own (row_place c r))) % 2 ^ 64
 
 -- from the floor up each perspective sees that much of the items, round 2 ^ 64
 abbrev pub CountsItems : Lengths → List Item → Type 0

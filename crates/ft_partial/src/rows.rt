@@ -8,13 +8,16 @@
 
 ghost use Rattle.std.specs.Prelude.{◌≡◌, ◌+◌, ◌*◌, ◌≤◌, ◌^◌, length};
 ghost use Rattle.std.specs.List.{list_any};
-ghost use Rattle.ft_partial.specs.Rows.{stamp_number, first_removal, is_stamp_by, row_place, at_floor, common_span, row_span, ExchangesRow, ExchangesRows};
+ghost use Rattle.ft_partial.specs.Rows.{stamp_number, first_removal, is_stamp_by, row_place, at_floor, is_settled, common_span, row_span, ExchangesRow, ExchangesRows};
 
 use crate::step_functions::{CHANGES, Span, StepFunction};
 use ft_base::{Element, Stamp};
 
 /// How many places a row has, and the number of a pending stamp: more than any sequence number.
-const ROW: u128 = 18446744073709551616;
+pub const ROW: u128 = 18446744073709551616;
+
+/// How many places all rows have: one row for each of 2^32 numbers of connections.
+const ROWS: u128 = 79228162514264337593543950336;
 
 /// The sequence number of a stamp, or 2^64 where it is pending.
 fn number_of(stamp: &Stamp) -> u128
@@ -70,6 +73,13 @@ fn at_floor(number: u128, floor: u64) -> u128
     ensures low { result ≤ number }
 {
     if number <= floor as u128 { 0 } else { number }
+}
+
+/// Whether all see the element from the floor up: it was inserted at or below it, and has no removal.
+pub fn is_settled(e: &Element, floor: u64) -> bool
+    ensures { result ≡ is_settled floor e.now }
+{
+    number_of(&e.ins) <= floor as u128 && e.dels.as_slice().is_empty()
 }
 
 /// The change that `len` elements make, from the floor up, for those who made none of their stamps.
@@ -133,6 +143,7 @@ fn exchange_row(
             own.exchange(
                 row_span(e, len, conn, floor),
                 row_span(new, new_len, conn, floor),
+                ROWS,
             );
         }
     }

@@ -30,6 +30,7 @@ ghost use Rattle.ft_partial.specs.Steps.{
   IsStepAt,
   value_before,
   CutsStep,
+  CutsBefore,
   LiftsBelow,
   RaisesSteps,
   is_covered,
@@ -121,39 +122,41 @@ impl StepFunction {
         value_of(self.steps.as_slice(), place)
     }
 
-    /// Makes one change: it looks at the steps within the span alone.
-    pub fn raise(&mut self, span: Span)
+    /// Makes one change below the end, from which on no value is asked for: it looks at the steps from
+    /// the span on alone.
+    pub fn raise(&mut self, span: Span, end: u128)
         requires { 1 ≤ self.old.room }
-        ensures raises { Raises self.old.steps self.new.steps span }
+        ensures raises { Raises self.old.steps self.new.steps span end }
         ensures room { self.old.room ≤ self.new.room + 1 }
     {
         if span.from < span.to && span.by != 0 {
-            raise_steps(&mut self.steps, span);
+            raise_steps(&mut self.steps, span, end);
         }
     }
 
-    /// Takes one change back and makes another. It looks only at the steps where the two differ, or
-    /// that stand between the two.
-    pub fn exchange(&mut self, old: Span, new: Span)
+    /// Takes one change back and makes another, below the end. It looks only at the steps where the two
+    /// differ, or that stand between the two.
+    pub fn exchange(&mut self, old: Span, new: Span, end: u128)
         requires { CHANGES ≤ self.old.room }
-        ensures exchanges { ExchangesSpan self.old.steps self.new.steps old new }
+        ensures exchanges { ExchangesSpan self.old.steps self.new.steps old new end }
         ensures room { self.old.room ≤ self.new.room + CHANGES }
     {
         if old.by != 0 {
-            self.move_rise(old.from.min(old.to), new.from.min(new.to), old.by);
-            self.move_rise(old.to, new.to, 0u64.wrapping_sub(old.by));
+            self.move_rise(old.from.min(old.to), new.from.min(new.to), old.by, end);
+            self.move_rise(old.to, new.to, 0u64.wrapping_sub(old.by), end);
         }
-        self.raise(Span {
+        let change = Span {
             from: new.from,
             to: new.to,
             by: new.by.wrapping_sub(old.by),
-        });
+        };
+        self.raise(change, end);
     }
 
-    /// Moves the place from which on the values are higher by `by`.
-    fn move_rise(&mut self, old: u128, new: u128, by: u64)
+    /// Moves the place from which on the values below the end are higher by `by`.
+    fn move_rise(&mut self, old: u128, new: u128, by: u64, end: u128)
         requires { 1 ≤ self.old.room }
-        ensures moves { MovesRise self.old.steps self.new.steps old new by }
+        ensures moves { MovesRise self.old.steps self.new.steps old new by end }
         ensures room { self.old.room ≤ self.new.room + 1 }
     {
         let change = if new < old {
@@ -169,7 +172,7 @@ impl StepFunction {
                 by: 0u64.wrapping_sub(by),
             }
         };
-        self.raise(change);
+        self.raise(change, end);
     }
 
     /// The sum of two functions, by one pass over the steps of both.
@@ -194,13 +197,17 @@ impl StepFunction {
     }
 }
 
-/// How many steps stand up to a place.
+/// How many steps stand up to a place. It looks at the last step first.
 fn count_up_to(steps: &[Step], place: u128) -> usize
     requires { IsRising steps.now }
     ensures { IsPlace steps.now place result }
 {
+    let count = steps.len();
+    if count > 0 && steps[count - 1].from <= place {
+        return count;
+    }
     let mut low = 0;
-    let mut high = steps.len();
+    let mut high = count;
     while low < high {
         let middle = low + (high - low) / 2;
         if steps[middle].from <= place {
@@ -210,6 +217,20 @@ fn count_up_to(steps: &[Step], place: u128) -> usize
         }
     }
     low
+}
+
+/// How many steps stand up to a place, where those from the `stop`-th on don't: it looks back from there.
+fn count_back(steps: &[Step], stop: usize, place: u128) -> usize
+    requires rising { IsRising steps.now }
+    requires inside { stop ≤ length steps.now }
+    requires above { (d : Step) (j : ℕ) → stop ≤ j → j < length steps.now → place < (slice_index_or steps.now j d).from }
+    ensures { IsPlace steps.now place result }
+{
+    let mut i = stop;
+    while i > 0 && steps[i - 1].from > place {
+        i -= 1;
+    }
+    i
 }
 
 /// The value before the `i`-th step.
@@ -241,14 +262,14 @@ fn put(steps: &mut Vec<Step>, i: usize, step: Step)
     }
 }
 
-/// Makes a step at a place, if none is there, and answers its index.
-fn cut(steps: &mut Vec<Step>, place: u128) -> usize
+/// Makes a step at a place, if none is there, and answers its index. Up to the place stand `i` steps.
+fn cut_at(steps: &mut Vec<Step>, i: usize, place: u128) -> usize
     requires rising { IsRising steps.old.items }
+    requires place { IsPlace steps.old.items place i }
     requires room { vec_len steps.old < vec_capacity steps.old }
     ensures cuts { CutsStep steps.old.items steps.new.items place result }
     ensures capacity { vec_capacity steps.old ≤ vec_capacity steps.new }
 {
-    let i = count_up_to(steps.as_slice(), place);
     if i == 0 {
         let first = Step {
             from: place,
@@ -269,6 +290,21 @@ fn cut(steps: &mut Vec<Step>, place: u128) -> usize
     i
 }
 
+/// Makes a step at a place that stands before the end, if none is there. Tells the first step from the
+/// place on.
+fn cut_before(steps: &mut Vec<Step>, place: u128, end: u128) -> usize
+    requires rising { IsRising steps.old.items }
+    requires room { vec_len steps.old < vec_capacity steps.old }
+    ensures cuts { CutsBefore steps.old.items steps.new.items place end result }
+    ensures capacity { vec_capacity steps.old ≤ vec_capacity steps.new }
+{
+    if place >= end {
+        return steps.len();
+    }
+    let i = count_up_to(steps.as_slice(), place);
+    cut_at(steps, i, place)
+}
+
 /// Changes the steps within the span, of which `first` is the first.
 fn lift(steps: &mut [Step], first: usize, span: Span)
     requires rising { IsRising steps.old }
@@ -283,16 +319,17 @@ fn lift(steps: &mut [Step], first: usize, span: Span)
     }
 }
 
-/// Changes the values within the span.
-fn raise_steps(steps: &mut Vec<Step>, span: Span)
+/// Changes the values within the span that stand before the end.
+fn raise_steps(steps: &mut Vec<Step>, span: Span, end: u128)
     requires rising { IsRising steps.old.items }
     requires room { vec_len steps.old + 2 ≤ vec_capacity steps.old }
     requires order { span.from < span.to }
-    ensures raises { RaisesSteps steps.old.items steps.new.items span }
+    ensures raises { RaisesSteps steps.old.items steps.new.items span end }
     ensures capacity { vec_capacity steps.old ≤ vec_capacity steps.new }
 {
-    cut(steps, span.to);
-    let first = cut(steps, span.from);
+    let stop = cut_before(steps, span.to, end);
+    let place = count_back(steps.as_slice(), stop, span.from);
+    let first = cut_at(steps, place, span.from);
     lift(steps.as_mut_slice(), first, span);
 }
 

@@ -6,7 +6,7 @@ ghost use Rattle.ft_partial.specs.SameStamps.{SameByStamps, ExchangesItem};
 ghost use Rattle.ft_partial.specs.Tables.{length_at, CountsItems, Adds, Exchanges, AddsAll, SameFrom};
 ghost use Rattle.ft_partial.specs.Rows.{Covers, late};
 
-use crate::rows::{common_span, exchange_rows, place_of};
+use crate::rows::{ROW, common_span, exchange_rows, is_settled, place_of};
 use crate::step_functions::{CHANGES, StepFunction};
 use ft_base::{Element, OutOfMemory, Perspective, Stamp, Stamps};
 use std::alloc::Global;
@@ -23,7 +23,8 @@ const FEW: usize = 8;
 /// stamps, the items with these stamps have the same sum of lengths. Each clause holds for every
 /// list that the table stands for.
 ///
-/// The window is made of the sequence numbers above the floor that occur in the items. `length`
+/// Elements that all see from the floor up are one number, and a change of how many they are takes no
+/// step. The window is made of the sequence numbers above the floor that occur in the other items. `length`
 /// takes two binary searches in it. A change takes some more; it touches the steps of the
 /// connections that made its stamps as far as what they see changes, and those of all others between
 /// the numbers at which its old and its new stamps differ, or from the insertion on where the number
@@ -31,6 +32,8 @@ const FEW: usize = 8;
 #[derive(Drop)]
 pub struct Table {
     floor: u64,
+    // what all see, the more that the functions don't count
+    base: u64,
     // what those see who made none of the stamps, by sequence number
     common: StepFunction,
     // how far each connection's own stamps change that, by rows
@@ -46,7 +49,7 @@ impl Model for Table {
 
     ghost Value = { Lengths };
 
-    ghost view = { λ a. record { floor = a.floor; common = a.common.steps; own = a.own.steps } };
+    ghost view = { λ a. record { floor = a.floor; base = a.base; common = a.common.steps; own = a.own.steps } };
 
     ghost invariant = { λ a. 8 ≤ a.fold_at };
 }
@@ -72,6 +75,9 @@ pub fn stamps_of(e: &Element, new: &Element, floor: u64) -> Result<Stamps, OutOf
     push_late(&mut stamps, e.ins, floor)?;
     for stamp in new.dels.as_slice() {
         stamps.push(*stamp)?;
+    }
+    if new.ins == e.ins {
+        return Ok(stamps);
     }
     push_late(&mut stamps, new.ins, floor)?;
     Ok(stamps)
@@ -102,6 +108,7 @@ impl Table {
     {
         Table {
             floor: 0,
+            base: 0,
             common: StepFunction::new(alloc),
             own: StepFunction::new(alloc),
             fold_at: FEW,
@@ -120,7 +127,7 @@ impl Table {
     {
         let common = self.common.at(at.r as u128);
         let own = self.own.at(place_of(at.c, at.r as u128));
-        common.wrapping_add(own)
+        self.base.wrapping_add(common.wrapping_add(own))
     }
 
     /// Adds `len` elements that connection `conn` inserted at the sequence number `seq`, and nobody
@@ -209,9 +216,15 @@ impl Table {
         ensures err { OnErr result (self.new ≡ self.old) }
     {
         let floor = self.floor;
+        if is_settled(e, floor) && is_settled(new, floor) {
+            self.base = self.base.wrapping_sub(len).wrapping_add(new_len);
+            return Ok(());
+        }
         let changes = stamps.len().checked_mul(CHANGES).ok_or(OutOfMemory)?;
         reserve(&mut self.common, CHANGES, &mut self.own, changes)?;
-        self.common.exchange(common_span(e, len, floor), common_span(new, new_len, floor));
+        let old = common_span(e, len, floor);
+        self.common
+            .exchange(old, common_span(new, new_len, floor), ROW);
         exchange_rows(&mut self.own, floor, stamps, e, len, new, new_len);
         Ok(())
     }
@@ -227,8 +240,14 @@ impl Table {
         ensures floor { self.new.floor ≡ self.old.floor }
         ensures err { OnErr result (self.new ≡ self.old) }
     {
+        let base = self.base.wrapping_add(other.base);
+        if other.common.len() == 0 && other.own.len() == 0 {
+            self.base = base;
+            return Ok(());
+        }
         let common = self.common.plus(self.alloc, &other.common)?;
         let own = self.own.plus(self.alloc, &other.own)?;
+        self.base = base;
         self.common = common;
         self.own = own;
         Ok(())

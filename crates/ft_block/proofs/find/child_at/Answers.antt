@@ -1,4 +1,5 @@
-use Rattle.std.proofs.Common.{◌≡◌, ◌<◌, ◌-◌, ◌+◌, ℕ, List, [], ◌∷◌, drop, ap, sym, ◌∙◌, arith}
+use Rattle.std.proofs.Common.{◌≡◌, ◌<◌, ◌-◌, ◌+◌, ℕ, List, ◌∷◌, drop, ap, sym, ◌∙◌, arith}
+use Rattle.std.proofs.lemmas.Option.{slice_get_within}
 use Rattle.ft_block.specs.Tree.{seek, total, length_of, by_view, length_of_entry}
 use Rattle.ft_block.proofs.Lists.{times_at, drop_at, drop_none, seek_here, seek_later}
 use Rattle.ft_block.proofs.KeptLemmas.{node_from}
@@ -12,29 +13,47 @@ length_at-n-requires-clause-node g c = node_from c.args.floor c.args.arena.now c
 
 pub returns-then-rest-n-clause-found : goal.returns-then-rest-n-clause-found
 returns-then-rest-n-clause-found g c =
-    let f : ℕ → ℕ = length_of (by_view g.L.Leaf.size g.L.Leaf.element c.args.view) c.args.arena.now in
-    let n : f c.in-Some.kid ≡ c.length_at-n.result = ap (length_of_entry (by_view g.L.Leaf.size g.L.Leaf.element c.args.view)) c.read.ensures.node ∙ sym c.length_at-n.ensures in
-    c.loop-kid.invariant.same ∙ ap (λ (zs : List ℕ). seek f zs c.loop-kid.rest) (drop_at c.args.kids.now c.loop-kid.i c.in-Some.kid (sym c.get.ensures ∙ c.in-Some.is))
+    let measure = by_view g.L.Leaf.size g.L.Leaf.element c.args.view in
+    let f = length_of measure c.args.arena.now in
+    let here = sym c.get.ensures ∙ c.in-Some.is in
+    let n : f c.in-Some.kid ≡ c.length_at-n.result = ap (length_of_entry measure) c.read.ensures.node ∙ sym c.length_at-n.ensures in
+    c.loop-kid.invariant.same
+    ∙ ap (λ (zs : List ℕ). seek f zs c.loop-kid.rest) (drop_at c.args.kids.now c.loop-kid.i c.in-Some.kid here)
     ∙ seek_here f c.in-Some.kid _ c.loop-kid.rest (omega (arith, n, c.if-rest-n.true))
 
 pub loop-kid-preserved : goal.loop-kid-preserved
 loop-kid-preserved g c =
-    let f : ℕ → ℕ = length_of (by_view g.L.Leaf.size g.L.Leaf.element c.args.view) c.args.arena.now in
-    let n : f c.in-Some.kid ≡ c.length_at-n.result = ap (length_of_entry (by_view g.L.Leaf.size g.L.Leaf.element c.args.view)) c.read.ensures.node ∙ sym c.length_at-n.ensures in
-    let e : drop c.loop-kid.i c.args.kids.now ≡ c.in-Some.kid ∷ drop (c.loop-kid.i + 1) c.args.kids.now =
-    drop_at c.args.kids.now c.loop-kid.i c.in-Some.kid (sym c.get.ensures ∙ c.in-Some.is) in
-    let t : total f (drop c.loop-kid.i c.args.kids.now) ≡ f c.in-Some.kid + total f (drop (c.loop-kid.i + 1) c.args.kids.now) = ap (total f) e in
+    let measure = by_view g.L.Leaf.size g.L.Leaf.element c.args.view in
+    let f = length_of measure c.args.arena.now in
+    let here = sym c.get.ensures ∙ c.in-Some.is in
+    let n : f c.in-Some.kid ≡ c.length_at-n.result = ap (length_of_entry measure) c.read.ensures.node ∙ sym c.length_at-n.ensures in
+    let after : List ℕ = drop (c.loop-kid.i + 1) c.args.kids.now in
+    let e : drop c.loop-kid.i c.args.kids.now ≡ c.in-Some.kid ∷ after = drop_at c.args.kids.now c.loop-kid.i c.in-Some.kid here in
+    let t : total f (drop c.loop-kid.i c.args.kids.now) ≡ f c.in-Some.kid + total f after = ap (total f) e in
     let more : f c.in-Some.kid < c.loop-kid.rest = omega (arith, n, c.if-rest-n.false) in
     record {
       low = omega (arith, c.if-rest-n.false);
       few = c.loop-kid.invariant.few;
-      within = omega (arith, t, n, c.loop-kid.invariant.within);
-      same = c.loop-kid.invariant.same ∙ ap (λ (zs : List ℕ). seek f zs c.loop-kid.rest) e ∙ seek_later f c.in-Some.kid _ c.loop-kid.rest more
-          ∙ ap (λ (m : ℕ). seek f (drop (c.loop-kid.i + 1) c.args.kids.now) (c.loop-kid.rest - m)) n;
+      inside = omega (arith, slice_get_within c.args.kids.now c.loop-kid.i c.in-Some.kid here);
+      passed = omega (arith, t, n, more, c.loop-kid.invariant.passed);
+      same = c.loop-kid.invariant.same
+          ∙ ap (λ (zs : List ℕ). seek f zs c.loop-kid.rest) e
+          ∙ seek_later f c.in-Some.kid _ c.loop-kid.rest more
+          ∙ ap (λ (m : ℕ). seek f after (c.loop-kid.rest - m)) n;
       cost = omega (arith, c.read.ensures.tick, c.loop-kid.invariant.cost);
     }
 
-pub unreachable-requires : goal.unreachable-requires
-unreachable-requires g c =
-    let e : drop c.loop-kid.i c.args.kids.now ≡ [] = drop_none c.args.kids.now c.loop-kid.i (sym c.get.ensures ∙ c.in_default.is) in
-    omega (arith, ap (total (length_of (by_view g.L.Leaf.size g.L.Leaf.element c.args.view) c.args.arena.now)) e, c.loop-kid.invariant.within, c.loop-kid.invariant.low)
+pub overflow_sub-result : goal.overflow_sub-result
+overflow_sub-result g c =
+    let f = length_of (by_view g.L.Leaf.size g.L.Leaf.element c.args.view) c.args.arena.now in
+    let none = drop_none c.args.kids.now c.loop-kid.i (sym c.get.ensures ∙ c.in_default.is) in
+    omega (arith, ap (total f) none, c.loop-kid.invariant.passed)
+
+pub returns-clause-past : goal.returns-clause-past
+returns-clause-past g c =
+    let f = length_of (by_view g.L.Leaf.size g.L.Leaf.element c.args.view) c.args.arena.now in
+    let none = drop_none c.args.kids.now c.loop-kid.i (sym c.get.ensures ∙ c.in_default.is) in
+    omega (arith, ap (total f) none, c.loop-kid.invariant.passed)
+
+pub returns-clause-cost : goal.returns-clause-cost
+returns-clause-cost g c = omega (arith, c.loop-kid.invariant.cost, c.loop-kid.invariant.inside, c.loop-kid.invariant.few)

@@ -7,7 +7,9 @@ invariant-loop-kid g l =
     record {
       low : 1 ≤ l.rest;
       few : length l.kids ≤ 8;
-      within : l.rest ≤ total (length_of (by_view g.L.Leaf.size g.L.Leaf.element l.view) l.arena) (drop l.i l.kids);
+      inside : l.i ≤ length l.kids;
+      passed : l.p + total (length_of (by_view g.L.Leaf.size g.L.Leaf.element l.view) l.arena) (drop l.i l.kids) ≡ l.rest + total
+          (length_of (by_view g.L.Leaf.size g.L.Leaf.element l.view) l.arena) l.kids;
       same : seek (length_of (by_view g.L.Leaf.size g.L.Leaf.element l.view) l.arena) l.kids l.p ≡ seek
           (length_of (by_view g.L.Leaf.size g.L.Leaf.element l.view) l.arena) (drop l.i l.kids) l.rest;
       cost : l.steps ≤ l.initial.steps + l.i;

@@ -1,4 +1,4 @@
-use Rattle.std.proofs.Common.{◌≡◌, ◌≢◌, ◌≤◌, ◌<◌, ◌+◌, ◌-◌, ◌*◌, IsSome, [], ◌∷◌}
+use Rattle.std.proofs.Common.{◌≡◌, ◌≤◌, ◌<◌, ◌+◌, ◌-◌, ◌*◌, IsSome, [], ◌∷◌}
 use Rattle.ft_arena.specs.Forest.{block_value}
 use Rattle.ft_block.specs.Tree.{seek, total, length_of, by_view, below, height_of}
 use Rattle.ft_block.proofs.find.find_from.Given as goal
@@ -9,7 +9,6 @@ invariant-levels g l =
       block : IsSome (block_value l.arena l.at);
       high : height_of l.arena l.at ≤ height_of l.arena l.fn.root;
       low : 1 ≤ l.rest;
-      within : l.at ≢ l.fn.root → l.rest ≤ length_of (by_view g.L.Leaf.size g.L.Leaf.element l.view) l.arena l.at;
       same : seek (length_of (by_view g.L.Leaf.size g.L.Leaf.element l.view) l.arena) l.arena.leaves l.p ≡ seek
           (length_of (by_view g.L.Leaf.size g.L.Leaf.element l.view) l.arena) (below l.arena (height_of l.arena l.at) (l.at ∷ [])) l.rest;
       past : length_of (by_view g.L.Leaf.size g.L.Leaf.element l.view) l.arena l.at < l.rest

@@ -17,3 +17,10 @@ loop-low-preserved c = record {
   below = c.loop-low.invariant.below;
   above = above_down c.args.steps.now c.requires c.args.place _ _ (omega arith) c.if-steps-middle.false;
 }
+
+pub returns-then-steps-count : goal.returns-then-steps-count
+returns-then-steps-count c = record {
+  inside = omega arith;
+  below = λ d j h. below_up c.args.steps.now c.requires c.args.place _ _ (omega arith) c.if-steps-count.true d j (omega arith);
+  above = λ d j h l. absurd (omega arith);
+}

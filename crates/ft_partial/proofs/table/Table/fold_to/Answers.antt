@@ -5,7 +5,7 @@ use Rattle.ft_partial.proofs.table.Table.fold_to.Goals as goal
 
 pub returns-then-max-self-clause-lengths : goal.returns-then-max-self-clause-lengths
 returns-then-max-self-clause-lengths c =
-    same_from c.args.self.now _ c.args.floor
+    same_from c.args.self.now _ c.args.floor (ap (λ t. t.base) c.self.view_is)
     (λ k h. c.fold_to.ensures.values k h ∙ ap (λ t. value_at t.common k) c.self.view_is)
     (λ k h. c.fold_to-then-max-self.ensures.values k h ∙ ap (λ t. value_at t.own k) c.self.view_is)
 
@@ -17,7 +17,7 @@ returns-then-max-self-clause-items c = λ xs stands. stands-folded _ xs (returns
 
 pub returns-else-max-self-clause-lengths : goal.returns-else-max-self-clause-lengths
 returns-else-max-self-clause-lengths c =
-    same_kept c.args.self.now _ c.args.floor (ap (λ t. t.common) c.self.view_is) (ap (λ t. t.own) c.self.view_is)
+    same_kept c.args.self.now _ c.args.floor (ap (λ t. t.base) c.self.view_is) (ap (λ t. t.common) c.self.view_is) (ap (λ t. t.own) c.self.view_is)
 
 pub returns-else-max-self-clause-same : goal.returns-else-max-self-clause-same
 returns-else-max-self-clause-same c = stands-higher c.args.self.now _ (returns-else-max-self-clause-lengths c) c.requires

@@ -4,7 +4,7 @@ use Rattle.ft_partial.proofs.table.Table.length.Goals as goal
 
 pub returns-clause-at : goal.returns-clause-at
 returns-clause-at c =
-    length_at_is c.args.self.now _ _ c.args.at.r c.args.at.c _ _ _ (ap (λ t. t.common) c.self.view_is) (ap (λ t. t.own) c.self.view_is) c.place_of.ensures
+    length_at_is c.args.self.now _ _ _ c.args.at.r c.args.at.c _ _ _ (ap (λ t. t.base) c.self.view_is) (ap (λ t. t.common) c.self.view_is) (ap (λ t. t.own) c.self.view_is) c.place_of.ensures
     c.at-common.ensures c.at-own.ensures
 
 pub returns-clause-sum : goal.returns-clause-sum

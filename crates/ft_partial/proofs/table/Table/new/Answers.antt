@@ -1,5 +1,6 @@
+use Rattle.std.proofs.Common.{refl}
 use Rattle.ft_partial.proofs.TableLemmas.{stands-none}
 use Rattle.ft_partial.proofs.table.Table.new.Goals as goal
 
 pub returns-clause-stands : goal.returns-clause-stands
-returns-clause-stands c = stands-none _ c.new.ensures c.new-2.ensures
+returns-clause-stands c = stands-none _ refl c.new.ensures c.new-2.ensures
