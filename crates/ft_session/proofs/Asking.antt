@@ -64,12 +64,6 @@ one-more i ds d h = ap (λ k. map compact_text (map written_draft (take k ds))) 
     next zero (e ∷ es) g = ap (λ x. draft_text x ∷ []) (some-equal e d g)
     next (suc i) (e ∷ es) g = ap (λ ts. draft_text e ∷ ts) (next i es g)
 
-pub all-taken : (i : ℕ) (ds : List Draft) → length ds ≤ i → take i ds ≡ ds
-all-taken zero [] h = refl
-all-taken zero (d ∷ ds) h = absurd (omega (arith, h))
-all-taken (suc i) [] h = refl
-all-taken (suc i) (d ∷ ds) h = ap (λ es. d ∷ es) (all-taken i ds (omega (arith, h)))
-
 pub none-left : (i : ℕ) (ds : List Draft) → slice_get ds i ≡ None → take i ds ≡ ds
 none-left zero [] h = refl
 none-left zero (d ∷ ds) h = (cc)

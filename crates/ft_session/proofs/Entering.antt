@@ -1,5 +1,6 @@
 -- Clients and guests come into a session.
 use Rattle.std.proofs.Common.{◌≡◌, ◌≤◌, ℕ, zero, suc, ◌+◌, List, [], ◌∷◌, ◌++◌, length, map, take, get_or, Option, Some, None, Ok, Err, find, refl, sym, ◌∙◌, ap, subst, arith}
+use Rattle.std.proofs.lemmas.List.{length-take-le}
 use Rattle.std.specs.Prelude.{⊤, slice_get}
 use Rattle.std.specs.List.{position}
 use Rattle.std.proofs.lemmas.Iterator.Adapters.{position_from-zero}
@@ -145,11 +146,6 @@ summary-refused names r x taken (summing.Pending count) s a =
     let n = pending-count r.client x s.client in
     unless-refused x taken (λ e. a.2 (none-of r.client.pending (let k = ap length e in omega (arith, n, k)))) ∙ ap (λ k. Err (Pending k)) (sym (a.1 ∙ n))
 
-take-all : {A : Type 0} (n : ℕ) (xs : List A) → n ≤ length xs → length (take n xs) ≡ n
-take-all zero xs h = refl
-take-all (suc n) [] h = absurd (omega (arith, h))
-take-all (suc n) (x ∷ xs) h = ap suc (take-all n xs (omega (arith, h)))
-
 -- the names that a member's replica knows are in the table
 pub member-known : (w : NaiveWorld) (m : MemberState) (c : NamedClient) → IsMade w → MemberStands w.log m c → m.replica.origin ≤ length w.names
 member-known w m c made t = subst (λ n. n ≤ length w.names) (sym t.origin) (made-known w made c.client.doc.number)
@@ -172,7 +168,7 @@ summary-copies w made from name c m sum new found t reached a over stands free =
         name = refl;
         replica = stands c.client.doc (made-start w made name from c free found idle) s.gives;
         connects = refl;
-        origin = over.origin ∙ (ap (λ (d : SumDoc). length d.conns) s.written ∙ (take-all m.replica.origin w.names known ∙ t.origin));
+        origin = over.origin ∙ (ap (λ (d : SumDoc). length d.conns) s.written ∙ (length-take-le m.replica.origin w.names known ∙ t.origin));
       };
     }
 

@@ -1,5 +1,6 @@
 -- A client processes the next messages of the log.
 use Rattle.std.proofs.Common.{◌≡◌, ◌≤◌, ◌<◌, ℕ, zero, suc, ◌+◌, max, cond, nat_eq, nat_le, true, false, Bool, List, [], ◌∷◌, ◌++◌, drop, fold, length, take, Option, Some, None, Result, Ok, Err, is_some, not, refl, sym, ◌∙◌, ap, subst, arith, append-nil}
+use Rattle.std.proofs.lemmas.List.{length-take-le}
 use Rattle.std.specs.Prelude.{encode_utf8_all, ⊤}
 use Rattle.std.proofs.lemmas.Bool.Decides.{nat_tests}
 use Rattle.ft_laws.proofs.NumberTests.{same_number}
@@ -38,6 +39,7 @@ use Rattle.ft_session.specs.Worlds.{AnswersClient, AnswersStepped, LeavesClient,
 use Rattle.ft_session.proofs.Numbers.{process-number}
 use Rattle.ft_session.proofs.RefusalKinds.{means-weaker, some-none}
 use Rattle.ft_session.proofs.OwnEvents.{meets-reached, with_replica}
+use Rattle.ft_session.proofs.Submissions.{wanted-fits}
 
 -- ---- entries in order
 
@@ -184,11 +186,6 @@ module _ (P : Entry → Type 0) where
   each-dropped (suc k) [] h = tt
   each-dropped (suc k) (e ∷ es) h = each-dropped k es h.1
 
-take-length : {A : Type 0} (n : ℕ) (xs : List A) → n ≤ length xs → length (take n xs) ≡ n
-take-length zero xs h = refl
-take-length (suc n) [] h = absurd (omega (arith, h))
-take-length (suc n) (x ∷ xs) h = ap suc (take-length n xs (omega (arith, h)))
-
 -- ---- the event
 
 module _ (m : MemberState) (s : ServiceState) where
@@ -239,7 +236,7 @@ module _ (m : MemberState) (s : ServiceState) where
     member-processed w c y new meets e p =
         let k = c.client.doc.number in
         let q = same-rest w c meets in
-        let count : y.doc.number ≡ k + n = processed-number (take n rest_of) c.client y e ∙ ap (λ i. k + i) (take-length n rest_of fits) in
+        let count : y.doc.number ≡ k + n = processed-number (take n rest_of) c.client y e ∙ ap (λ i. k + i) (length-take-le n rest_of fits) in
         record {
           name = meets.member.name;
           replica = p.runs;
@@ -429,14 +426,6 @@ has-conn (Some conn) b e f = (conn, refl)
 pub has-none : (o : Option ℕ) (b : Bool) → is_some o ≡ not b → b ≡ true → o ≡ None
 has-none None b e f = refl
 has-none (Some conn) b e f = (cc)
-
-pub wanted-fits : (many : HowMany) (have n : ℕ) → wanted_count many have ≡ Some n → n ≤ have
-wanted-fits All have n e = let q : have ≡ n = (cc) in omega (arith, q)
-wanted-fits (Num k) have n e = by (nat_le k have) refl e
-  where
-    by : (b : Bool) → nat_le k have ≡ b → cond b (Some k) None ≡ Some n → n ≤ have
-    by true t g = let q : k ≡ n = (cc) in grind (arith, nat_tests, t, q)
-    by false t g = (cc)
 
 -- a replica's numbers, what it asks the log for, and what a client then does
 module _ (m : MemberState) (s : ServiceState) (numbers : Numbers) (told : numbers ≡ numbers_of m.replica) (link : Option ℕ) (of : link ≡ conn_of numbers.link) where

@@ -93,6 +93,15 @@ only-want OutOfMemory h = refl
 only-want Stopped h = absurd h
 only-want _ h = absurd h
 
+-- how many are wanted, there are
+pub wanted-fits : (many : HowMany) (have n : ℕ) → wanted_count many have ≡ Some n → n ≤ have
+wanted-fits All have n e = let q : have ≡ n = (cc) in omega (arith, q)
+wanted-fits (Num k) have n e = by (nat_le k have) refl e
+  where
+    by : (b : Bool) → nat_le k have ≡ b → cond b (Some k) None ≡ Some n → n ≤ have
+    by true t g = let q : k ≡ n = (cc) in grind (arith, nat_tests, t, q)
+    by false t g = (cc)
+
 module _ (conn : ℕ) (d : Draft) (queue : List Draft) (first : slice_get queue 0 ≡ Some d) (before after : ServiceState) where
   as-first : (w : NaiveWorld) → submit_all w conn (take 1 queue) ≡ submit_all w conn (d ∷ [])
   as-first w = by queue first
@@ -149,14 +158,6 @@ module _ (m : MemberState) (before : ServiceState) (many : HowMany) where
           let q = counted ∙ ap (λ (ds : List Draft). length ds) (has-queue w c meets) in
           (refl, refl, ap (linked w c) (has-link w c meets) ∙ ap (wanted w c conn) (ap (wanted_count many) (sym q) ∙ none) ∙ ap (λ k. Err (NothingToTicket k)) (sym q));
     }
-
-    wanted-fits : (many : HowMany) (have n : ℕ) → wanted_count many have ≡ Some n → n ≤ have
-    wanted-fits All have n e = let q : have ≡ n = (cc) in omega (arith, q)
-    wanted-fits (Num k) have n e = by (nat_le k have) refl e
-      where
-        by : (b : Bool) → nat_le k have ≡ b → cond b (Some k) None ≡ Some n → n ≤ have
-        by true t g = let q : k ≡ n = (cc) in grind (arith, nat_tests, t, q)
-        by false t g = (cc)
 
     module _ (have n : ℕ) (counted : have ≡ length m.replica.client.queue) (chosen : wanted_count many have ≡ Some n) where
       some : wanted_count many (length m.replica.client.queue) ≡ Some n

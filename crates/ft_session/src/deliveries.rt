@@ -8,8 +8,8 @@ ghost use Rattle.ft_session.specs.Deliveries.{CanProcess, HasConnection, HasProc
 ghost use Rattle.ft_session.specs.Readings.{ReadsOr};
 ghost use Rattle.ft_session.specs.Worlds.{AnswersClient, MeetsSome};
 
+use crate::counts::next_count;
 use crate::edits::wanted_count;
-use crate::links::next_count;
 use crate::members::{Member, conn_of};
 use crate::outputs::Out;
 use crate::service::Service;

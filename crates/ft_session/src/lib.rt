@@ -2,6 +2,7 @@
 #![tactic(auto)]
 
 mod asked;
+mod counts;
 mod deliveries;
 mod edits;
 mod entrances;

@@ -1,13 +1,12 @@
 //! How clients connect and go offline.
 
-ghost use Rattle.std.specs.Prelude.{◌≡◌, ◌+◌, IfOk};
 ghost use Rattle.ft_seqr.specs.World.{connect_client, drop_client, noop_client};
 ghost use Rattle.ft_session.specs.Worlds.{AnswersClient, MeetsSome};
 
+use crate::counts::next_count;
 use crate::members::{Member, conn_of, connection_name};
 use crate::outputs::Out;
 use crate::service::Service;
-use ft_base::OutOfMemory;
 use ft_msg::Replica;
 use ft_seqr::Refusal;
 
@@ -51,13 +50,4 @@ pub(crate) fn noop<R: Replica>(member: &mut Member<R>, service: &Service) -> Res
 {
     member.replica.noop()?;
     Ok(Out::Nothing)
-}
-
-/// A count, after one more.
-///
-/// Answers `OutOfMemory` where it would pass 2^64 - 1.
-pub(crate) fn next_count(count: u64) -> Result<u64, OutOfMemory>
-    ensures { IfOk result (λ next. next ≡ count + 1) }
-{
-    count.checked_add(1).ok_or(OutOfMemory)
 }

@@ -3,7 +3,8 @@ use Rattle.std.proofs.Common.{◌∙◌, ◌++◌, ◌∷◌, ℕ, List, [], ap,
 use Rattle.serde_json.specs.Written.{compact_text}
 use Rattle.ft_msg.specs.declared.messages.Draft.{Draft}
 use Rattle.ft_msg.specs.Written.{written_draft}
-use Rattle.ft_session.proofs.Asking.{all-taken, none-left, one-more}
+use Rattle.std.proofs.lemmas.List.{take_all}
+use Rattle.ft_session.proofs.Asking.{none-left, one-more}
 use Rattle.ft_session.proofs.asked.queue_texts.Goals as goal
 use Rattle.ft_session.proofs.asked.queue_texts.Goals.{else-loop-i-test, then-loop-i-test+in_default}
 
@@ -15,7 +16,7 @@ loop-i-preserved g c = c.in_ok-push.ensures.ok ∙ ap (λ (t : List ℕ). c.loop
 pub returns : goal.returns
 returns g c = elim c.loop-i-test.branch [
   | else-loop-i-test w ↦ c.loop-i.invariant ∙ ap (λ (ds : List Draft). map compact_text (map written_draft ds))
-      (all-taken c.loop-i.i (g.R.Replica.state c.args.replica.now).client.queue (let h = w.loop-i-test.false in let e = c.queued-i-end.ensures in omega (arith, h, e)))
+      (take_all c.loop-i.i (g.R.Replica.state c.args.replica.now).client.queue (let h = w.loop-i-test.false in let e = c.queued-i-end.ensures in omega (arith, h, e)))
   | then-loop-i-test+in_default w ↦ c.loop-i.invariant ∙ ap (λ (ds : List Draft). map compact_text (map written_draft ds))
       (none-left c.loop-i.i (g.R.Replica.state c.args.replica.now).client.queue (sym w.in_default.ensures))
 ]
