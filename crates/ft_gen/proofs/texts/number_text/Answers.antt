@@ -1,0 +1,9 @@
+use Rattle.std.proofs.Common.{◌≡◌, sym, subst, rules, arith, decimal}
+use Rattle.ft_json.specs.Canonical.{IsCanonicalText}
+use Rattle.ft_gen.proofs.DrawnTexts.{canonical_decimal}
+use Rattle.ft_gen.proofs.texts.number_text.Goals as goal
+
+pub new-requires : goal.new-requires
+new-requires c =
+    let text : c.as_str.result.now ≡ decimal c.args.number = search rules in
+    subst IsCanonicalText (sym text) (canonical_decimal c.args.number (omega arith))

@@ -1,0 +1,17 @@
+//! The generator of sessions: events drawn from a seed.
+//!
+//! A call that can't answer `OutOfMemory` takes no memory.
+#![tactic(auto)]
+
+mod acts;
+mod course;
+mod draws;
+mod edits;
+mod exchange;
+pub mod generator;
+mod kinds;
+mod opening;
+mod progress;
+mod texts;
+
+pub use generator::Generator;
