@@ -1,19 +1,32 @@
 //! A case: what is run, and what it comes to.
 
-ghost use Rattle.std.specs.Prelude.{◌≤◌};
-
+use crate::runs::Run;
 use ft_base::OutOfMemory;
-use ft_cli::running::run;
-use ft_io::{MemSink, MemSource};
 use std::alloc::Global;
 
 /// How many bytes an output has room for where the case doesn't say it.
 const ROOM: usize = 65_536;
 
-/// How many bytes are read and written at a time where the case doesn't say it.
-static PIECES: [usize; 3] = [1, 16, 65_536];
+/// How many bytes are read and written at a time in a series where the case doesn't say it.
+const PIECE: usize = 65_536;
 
-/// A run of the program over memory.
+/// How many bytes are read and written at a time in turn where the case doesn't say it.
+static PIECES: [usize; 3] = [1, 16, PIECE];
+
+/// What differs from one run of a case to the next.
+#[derive(Clone, Copy)]
+enum Series {
+    /// How many bytes are read and written at a time.
+    Pieces,
+    /// The input: each beginning of it, the shortest first.
+    Cuts,
+    /// Which read fails: each up to this one.
+    Reads(u64),
+    /// Which write fails: each up to this one.
+    Writes(u64),
+}
+
+/// Runs of the program over memory.
 #[derive(Drop)]
 pub struct Case {
     words: Vec<String>,
@@ -22,6 +35,7 @@ pub struct Case {
     failing_writes: Vec<u64>,
     piece: Option<usize>,
     room: usize,
+    series: Series,
 }
 
 impl Case {
@@ -34,6 +48,7 @@ impl Case {
             failing_writes: Vec::new(alloc),
             piece: None,
             room: ROOM,
+            series: Series::Pieces,
         }
     }
 
@@ -61,6 +76,9 @@ impl Case {
             "piece" => self.piece = rest.parse().ok(),
             "room" => self.room = rest.parse().unwrap_or(ROOM),
             "repeat" => push_repeated(&mut self.input, rest)?,
+            "each-cut" => self.series = Series::Cuts,
+            "each-failing-read" => self.series = Series::Reads(rest.parse().unwrap_or(0)),
+            "each-failing-write" => self.series = Series::Writes(rest.parse().unwrap_or(0)),
             _ => return Ok(false),
         }
         Ok(true)
@@ -70,60 +88,91 @@ impl Case {
     ///
     /// Answers `OutOfMemory` where there is no room for it.
     pub fn push_outcome(&self, alloc: Global, output: &mut Vec<u8>) -> Result<(), OutOfMemory> {
-        if let Some(piece) = self.piece {
-            return self.push_run(alloc, piece, output);
+        match self.series {
+            Series::Pieces => self.push_pieces(alloc, output),
+            Series::Cuts => self.push_cuts(alloc, output),
+            Series::Reads(last) => self.push_reads(alloc, last, output),
+            Series::Writes(last) => self.push_writes(alloc, last, output),
         }
-        self.push_run(alloc, PIECES[0], output)?;
+    }
+
+    // Adds what the case comes to in pieces.
+    fn push_pieces(&self, alloc: Global, output: &mut Vec<u8>) -> Result<(), OutOfMemory> {
+        if let Some(piece) = self.piece {
+            return self.run_in(piece).push(alloc, output);
+        }
+        self.run_in(PIECES[0]).push(alloc, output)?;
         for piece in &PIECES[1..] {
-            let mut other = Vec::new(alloc);
-            self.push_run(alloc, *piece, &mut other)?;
-            if !output.ends_with(other.as_slice()) {
-                output.extend_from_slice(other.as_slice())?;
-            }
+            self.run_in(*piece).push_if_other(alloc, "", output)?;
         }
         Ok(())
     }
 
-    // Adds the status and the bytes of a run in such pieces.
-    fn push_run(
+    // Adds what the case comes to with each beginning of its input.
+    fn push_cuts(&self, alloc: Global, output: &mut Vec<u8>) -> Result<(), OutOfMemory> {
+        for end in 0..=self.input.len() {
+            let name = format!(in alloc; "cut {end}\n")?;
+            let run = Run {
+                input: &self.input[..end],
+                ..self.run()
+            };
+            run.push_if_other(alloc, name.as_str(), output)?;
+        }
+        Ok(())
+    }
+
+    // Adds what the case comes to with each read up to this one that fails.
+    fn push_reads(
         &self,
         alloc: Global,
-        piece: usize,
+        last: u64,
         output: &mut Vec<u8>,
     ) -> Result<(), OutOfMemory> {
-        let piece = piece.max(1);
-        let mut src = self.source(alloc, piece)?;
-        let mut out = self.sink(alloc, piece)?;
-        let status = run(alloc, &self.words, &mut src, &mut out).code();
-        push_status(alloc, status, output)?;
-        output.extend_from_slice(out.taken())?;
-        output.push(b'\n')?;
+        for number in 1..=last {
+            let name = format!(in alloc; "read {number}\n")?;
+            let run = Run {
+                failing_reads: &[number],
+                ..self.run()
+            };
+            run.push_if_other(alloc, name.as_str(), output)?;
+        }
         Ok(())
     }
 
-    // The source of a run.
-    fn source(&self, alloc: Global, piece: usize) -> Result<MemSource, OutOfMemory>
-        requires { 1 ≤ piece }
-    {
-        let input = self.input.clone()?;
-        let failing = self.failing_reads.clone()?;
-        Ok(MemSource::new(alloc, input, piece, failing))
+    // Adds what the case comes to with each write up to this one that fails.
+    fn push_writes(
+        &self,
+        alloc: Global,
+        last: u64,
+        output: &mut Vec<u8>,
+    ) -> Result<(), OutOfMemory> {
+        for number in 1..=last {
+            let name = format!(in alloc; "write {number}\n")?;
+            let run = Run {
+                failing_writes: &[number],
+                ..self.run()
+            };
+            run.push_if_other(alloc, name.as_str(), output)?;
+        }
+        Ok(())
     }
 
-    // The sink of a run.
-    fn sink(&self, alloc: Global, piece: usize) -> Result<MemSink, OutOfMemory>
-        requires { 1 ≤ piece }
-    {
-        let failing = self.failing_writes.clone()?;
-        MemSink::new(alloc, piece, failing, self.room)
+    // The run as the case says it.
+    fn run(&self) -> Run<'_> {
+        self.run_in(self.piece.unwrap_or(PIECE))
     }
-}
 
-// Adds the line of a status.
-fn push_status(alloc: Global, status: u8, output: &mut Vec<u8>) -> Result<(), OutOfMemory> {
-    let line = format!(in alloc; "status {status}\n")?;
-    output.extend_from_slice(line.as_bytes())?;
-    Ok(())
+    // The same in such pieces.
+    fn run_in(&self, piece: usize) -> Run<'_> {
+        Run {
+            words: &self.words,
+            input: self.input.as_slice(),
+            failing_reads: self.failing_reads.as_slice(),
+            failing_writes: self.failing_writes.as_slice(),
+            piece,
+            room: self.room,
+        }
+    }
 }
 
 // Adds the words of a line.

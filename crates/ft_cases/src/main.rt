@@ -8,12 +8,18 @@
 //! with a byte and a count, which is input. The line `end-without-lf` ends an input whose last line has no
 //! LF. Lines that are empty or begin with `#` are passed outside of an input.
 //!
+//! One of three lines more makes a case run many times: `each-cut` with each beginning of its input, and
+//! `each-failing-read` and `each-failing-write` with each read or write that fails, up to the one of that
+//! number. Such a run has its name before its status: `cut`, `read` or `write`, and its number.
+//!
 //! Of each case standard output gets its `case` line, the line `status` with the status of the run, and the
-//! bytes written with one LF more; the latter two again where a run in other pieces comes to something else.
+//! bytes written with one LF more; the latter two again where a further run comes to something else than the
+//! one before.
 #![tactic(auto)]
 
 mod cases;
 mod reading;
+mod runs;
 
 use crate::reading::outcomes;
 use std::io;

@@ -1,12 +1,16 @@
 -- What an observer makes of a message, in the steps in which the code comes to it, and the lines of its view.
-use Rattle.std.proofs.Common.{◌≡◌, ℕ, ◌+◌, ◌≤◌, List, [], ◌∷◌, Option, Some, None, length, arith, refl, sym, ◌∙◌, ap, option_map}
+use Rattle.std.proofs.Common.{◌≡◌, ℕ, ◌+◌, ◌<◌, ◌≤◌, Bool, true, false, not, List, [], ◌∷◌, ◌++◌, Option, Some, None, bytes_eq, length, arith, refl, sym, ◌∙◌, ap, subst, option_map, append_assoc, length-append, drop, drop-cons, get_or, suc, add-one}
+use Rattle.std.specs.List.{list_any}
+use Rattle.ft_base.proofs.Booleans.{both}
 use Rattle.ft_op.specs.Document.{Document}
 use Rattle.ft_msg.specs.declared.messages.Entry.{Entry}
 use Rattle.ft_msg.specs.declared.messages.Message.{Message}
 use Rattle.ft_msg.specs.declared.views.View.{View}
 use Rattle.ft_msg.specs.Client.{client_over}
 use Rattle.ft_msg.specs.Content.{ViewContent, shown}
-use Rattle.ft_msg.specs.NameTable.{names_after}
+use Rattle.ft_sumdoc.specs.Counts.{are_distinct_names}
+use Rattle.ft_msg.specs.NameTable.{AreDistinct, names_after}
+use Rattle.ft_msg.proofs.NameLemmas.{names_after-next}
 use Rattle.ft_msg.specs.Process.{process}
 use Rattle.ft_document.specs.Observed.{ObservedState, observer_numbers, stop_number}
 use Rattle.ft_cli.specs.LineForm.{bytes_of}
@@ -55,3 +59,31 @@ unfolding view_lines
 lines-shown v doc numbers text markers runs intervals rows cols cells =
     ap (λ n. bytes_of (numbers_line n ∷ content_lines (view_content v))) numbers
     ∙ ap (λ w. bytes_of (numbers_line (observer_numbers doc) ∷ content_lines w)) (same_content v (shown doc) text markers runs intervals rows cols cells)
+
+-- ---- the names of a summary
+
+negated : (b : Bool) → not b ≡ true → b ≡ false
+negated true h = (cc)
+negated false h = refl
+
+distinct-names : (names : List (List ℕ)) → are_distinct_names names ≡ true → AreDistinct names
+distinct-names [] h = tt
+distinct-names (first ∷ names) h =
+    let h = both (not (list_any (bytes_eq first) names)) (are_distinct_names names) h in
+    (negated (list_any (bytes_eq first) names) h.0, distinct-names names h.1)
+
+-- the next name stands between those before it and those behind it
+pub names-split : (names items done : List (List ℕ)) (i : ℕ) (name : List ℕ) → done ++ drop i items ≡ names → i < length items → name ≡ get_or items i name
+    → done ++ name ∷ drop (i + 1) items ≡ names
+names-split names items done i name before within is =
+    rw add-one (ap (λ first. done ++ first ∷ drop (suc i) items) is ∙ ap (λ xs. done ++ xs) (sym (drop-cons items i name within)) ∙ before)
+
+-- it goes last
+pub names-next : (names done left : List (List ℕ)) (name : List ℕ) → done ++ name ∷ left ≡ names → are_distinct_names names ≡ true → names_after done name ++ left ≡ names
+names-next names done left name split distinct =
+    let next = names_after-next done name left (subst AreDistinct (sym split) (distinct-names names distinct)) in
+    ap (λ front. front ++ left) next ∙ append_assoc done (name ∷ []) left ∙ split
+
+-- there are fewer names before it
+pub names-before : (names done left : List (List ℕ)) (name : List ℕ) → done ++ name ∷ left ≡ names → length done < length names
+names-before names done left name split = omega (arith, ap length split, length-append done (name ∷ left))

@@ -1,48 +1,52 @@
 -- Where a run over the lines of a form stands, how it goes on, and how each of its ends is what the definition of a run says.
-use Rattle.std.proofs.Common.{◌≡◌, ℕ, ◌+◌, ◌-◌, ◌<◌, ◌≤◌, ◌^◌, List, [], ◌∷◌, ◌++◌, Option, None, Result, Ok, Err, length, refl, sym, ◌∙◌, ap, subst, arith, append-nil, inl, inr, Bool, true, false, if◌then◌else◌, IfOk}
-use Rattle.std.specs.Io.KnownBytes.{Appends}
+use Rattle.std.specs.Prelude.{⊤}
+use Rattle.std.proofs.Common.{◌≡◌, ℕ, ◌+◌, ◌<◌, ◌≤◌, List, [], ◌∷◌, ◌++◌, Option, Some, None, Result, Ok, Err, refl, sym, ◌∙◌, ap, subst, arith, append-nil, inl, inr, Bool, true, false, if◌then◌else◌, IfOk}
+use Rattle.std.specs.Io.KnownBytes.{Appends, IsAtEnd}
 use Rattle.std.proofs.lemmas.Grind.{flat_map-append}
 use Rattle.std.proofs.lemmas.Bool.Decides.{nat_tests}
 use Rattle.ft_io.specs.Lines.{lines, ended_lines, with_lf}
 use Rattle.ft_io.specs.Reader.{Reader, Call, Reading, handed_out, input_limit, new_reader, to_come}
 use Rattle.ft_io.specs.Streams.{Rose}
 use Rattle.ft_io.specs.declared.reader.Line.{Line}
-use Rattle.ft_io.specs.declared.reader.Line.TheVariants.{Full, TooLong, End}
+use Rattle.ft_io.specs.declared.reader.Line.TheVariants.{End, Full, TooLong}
 use Rattle.ft_io.specs.declared.reader.LineFault.{LineFault}
 use Rattle.ft_io.specs.declared.reader.LineFault.TheVariants.{Read, InputLimit, OutOfMemory}
 use Rattle.ft_io.proofs.TakenAndLeft.{Appends-nil, Appends-append, Consumes-nil}
-use Rattle.ft_io.proofs.ReadingLaws.{reading_start, reading_gives, reading_full, reading_too_long, reading_end, reading_read, reading_limit, reading_memory, reading_so_far}
+use Rattle.ft_io.proofs.ReadingLaws.{reading_start, reading_gives, reading_line, reading_end, reading_read, reading_limit, reading_memory, reading_so_far}
 use Rattle.ft_cli.specs.declared.statuses.Fault.{Fault}
 use Rattle.ft_cli.specs.declared.statuses.Fault.TheVariants as fault
 use Rattle.ft_cli.specs.declared.statuses.Status.{Status}
 use Rattle.ft_cli.specs.declared.statuses.Status.TheVariants.{Done, SomeRefused, Usage}
 use Rattle.ft_cli.specs.declared.words.Form.{Form}
 use Rattle.ft_cli.specs.Statuses.{fault_of_line, fault_status}
-use Rattle.ft_seqr.specs.Walk.{Progress, after_line, begin, line_limit, written_by, written_by_line}
-use Rattle.ft_cli.specs.LineForm.{Account, LineForm, account_by, bytes_of, form_after, form_end, form_lines, form_status}
+use Rattle.ft_seqr.specs.Walk.{Progress, after_item, begin, written_by_item, written_by_items}
+use Rattle.ft_cli.specs.LineForm.{Account, LineForm, account_by, bytes_of, form_after, form_end, form_lines, form_status, form_step}
+use Rattle.ft_cli.specs.Listening.{IsHandedOut}
+use Rattle.ft_cli.specs.Report.{account_of}
+use Rattle.ft_cli.specs.Words.{reads_input}
 use Rattle.ft_cli.specs.Writing.{Begins, WritesBytes}
-use Rattle.ft_cli.specs.Run.{AllRead, IsWholeRun, Moves, Says, SaysForWords, SaysOfLines, end_status}
-use Rattle.ft_cli.proofs.Walking.{after_lines-append, written_by-append}
+use Rattle.ft_cli.specs.Run.{AllRead, IsWholeRun, Moves, Says, SaysForWords, SaysOfForm, SaysOfLines, end_status}
+use Rattle.ft_cli.proofs.Walking.{after_items-append, written_by_items-append}
 use Rattle.ft_cli.proofs.Written.{begins_append, begins_more, begins_nil, begins_trans}
 
 -- a line more
 pub after-push : {S : Type 0} (form : LineForm S) (handed : List (List ℕ)) (text : List ℕ)
-    → form_after form (handed ++ text ∷ []) ≡ after_line form.read (form_after form handed) text
-after-push form handed text = after_lines-append form.read (begin form.first) handed (text ∷ [])
+    → form_after form (handed ++ text ∷ []) ≡ after_item (form_step form) (form_after form handed) text
+after-push form handed text = after_items-append (form_step form) (begin form.first) handed (text ∷ [])
 
 pub lines-push : {S : Type 0} (form : LineForm S) (handed : List (List ℕ)) (text : List ℕ)
-    → bytes_of (form_lines form (handed ++ text ∷ [])) ≡ bytes_of (form_lines form handed) ++ bytes_of (written_by_line form.read (form_after form handed) text)
+    → bytes_of (form_lines form (handed ++ text ∷ [])) ≡ bytes_of (form_lines form handed) ++ bytes_of (written_by_item (form_step form) (form_after form handed) text)
 lines-push form handed text =
-    ap bytes_of (written_by-append form.read (begin form.first) handed (text ∷ []))
-    ∙ flat_map-append with_lf (form_lines form handed) (written_by form.read (form_after form handed) (text ∷ []))
-    ∙ ap (λ bytes. bytes_of (form_lines form handed) ++ bytes) (ap bytes_of (append-nil (written_by_line form.read (form_after form handed) text)))
+    ap bytes_of (written_by_items-append (form_step form) (begin form.first) handed (text ∷ []))
+    ∙ flat_map-append with_lf (form_lines form handed) (written_by_items (form_step form) (form_after form handed) (text ∷ []))
+    ∙ ap (λ bytes. bytes_of (form_lines form handed) ++ bytes) (ap bytes_of (append-nil (written_by_item (form_step form) (form_after form handed) text)))
 
 -- what the first lines write is the first of what all of them write
 begins_lines : {S : Type 0} (form : LineForm S) (handed later : List (List ℕ)) → Begins (bytes_of (form_lines form handed)) (bytes_of (form_lines form (handed ++ later)))
 begins_lines form handed later = record {
-  later = bytes_of (written_by form.read (form_after form handed) later);
-  place = ap bytes_of (written_by-append form.read (begin form.first) handed later)
-      ∙ flat_map-append with_lf (form_lines form handed) (written_by form.read (form_after form handed) later);
+  later = bytes_of (written_by_items (form_step form) (form_after form handed) later);
+  place = ap bytes_of (written_by_items-append (form_step form) (begin form.first) handed later)
+      ∙ flat_map-append with_lf (form_lines form handed) (written_by_items (form_step form) (form_after form handed) later);
 }
 
 -- .. and of the report
@@ -65,51 +69,65 @@ pub record Stands {S : Type 0} (form : LineForm S) (IsAfter : Progress S → Typ
   pub given : List ℕ
   pub handed : List (List ℕ)
   pub reading : Reading first left reader given handed
-  pub limit : reader.limit ≡ line_limit
   pub after : IsAfter (form_after form handed)
   pub takes : Appends held holds (bytes_of (form_lines form handed))
   pub near : (form_after form handed).lines + to_come reader ≤ input_limit + 1
 
 -- before the first line
-pub stands_start : {S : Type 0} (form : LineForm S) (IsAfter : Progress S → Type 0) (first held : Option (List ℕ)) (reader : Reader) → reader ≡ new_reader line_limit
+pub stands_start : {S : Type 0} (form : LineForm S) (IsAfter : Progress S → Type 0) (first held : Option (List ℕ)) (limit : ℕ) (reader : Reader) → reader ≡ new_reader limit
     → IsAfter (begin form.first) → Stands form IsAfter first first reader held held
-stands_start form IsAfter first held reader new_is after = subst (λ r. Stands form IsAfter first first r held held) (sym new_is) (record {
+stands_start form IsAfter first held limit reader new_is after = subst (λ r. Stands form IsAfter first first r held held) (sym new_is) (record {
   given = [];
   handed = [];
-  reading = reading_start first line_limit;
-  limit = refl;
+  reading = reading_start first limit;
   after = after;
   takes = Appends-nil held;
   near = omega arith;
 })
 
+-- the reader may get another limit
+abbrev pub stands_within : {S : Type 0} {form : LineForm S} {IsAfter : Progress S → Type 0} {first left : Option (List ℕ)} {reader : Reader} {held holds : Option (List ℕ)} (limit : ℕ)
+    → Stands form IsAfter first left reader held holds → Stands form IsAfter first left (record reader { limit = limit }) held holds
+stands_within limit stands = record {
+  given = stands.given;
+  handed = stands.handed;
+  reading = record {
+    gives = stands.reading.gives;
+    count = stands.reading.count;
+    runs = stands.reading.runs;
+    goes_on = stands.reading.goes_on;
+    ended = stands.reading.ended;
+  };
+  after = stands.after;
+  takes = stands.takes;
+  near = stands.near;
+}
+
 -- the same said of the answer that a fault is
 pub with_fault : {S T : Type 0} (form : LineForm S) (IsAfter : T → Progress S → Type 0) (first left held holds : Option (List ℕ)) (source_rose sink_rose : Type 0)
-    {result : Result T Fault} {why : Fault} → result ≡ Err why → Moves first left held holds (Says (account_by form) left source_rose sink_rose (fault_status why))
+    {result : Result T Fault} {why : Fault} → result ≡ Err why → Moves first left held holds (Says (account_by form) (IsAtEnd left) source_rose sink_rose (fault_status why))
     → Moves first left held holds (SaysOfLines form IsAfter left source_rose sink_rose result)
 with_fault form IsAfter first left held holds source_rose sink_rose is moves =
     subst (λ r. Moves first left held holds (SaysOfLines form IsAfter left source_rose sink_rose r)) (sym is) moves
 
 -- nothing was read or written, for want of memory
 pub moves_nothing : {S : Type 0} (form : LineForm S) (first held : Option (List ℕ)) (source_rose sink_rose : Type 0)
-    → Moves first first held held (Says (account_by form) first source_rose sink_rose (fault_status fault.OutOfMemory))
+    → Moves first first held held (Says (account_by form) (IsAtEnd first) source_rose sink_rose (fault_status fault.OutOfMemory))
 moves_nothing form first held source_rose sink_rose =
     record { given = []; gives = Consumes-nil first; written = []; takes = Appends-nil held; says = inl (begins_nil ((account_by form).report [])) }
 
 -- a line was handed out, the bytes given being these
 pub record NextLine (first left : Option (List ℕ)) (old new : Reader) (given : List ℕ) (handed : List (List ℕ)) (line : Line) : Type 0 where
   pub text : List ℕ
-  pub is_text : line ≡ handed_out line_limit text
+  pub is_text : line ≡ handed_out old.limit text
   pub reading : Reading first left new given (handed ++ text ∷ [])
-  pub limit : new.limit ≡ line_limit
   pub nearer : to_come new < to_come old
 
--- a line that was handed out whole, and one that was too long
-is_full : (text : List ℕ) → length text ≤ line_limit → Full text ≡ handed_out line_limit text
-is_full text within = grind (arith, nat_tests)
-
-is_too_long : (text : List ℕ) → line_limit < length text → TooLong ≡ handed_out line_limit text
-is_too_long text long = grind (arith, nat_tests)
+-- a line that was handed out is no longer than the limit
+pub handed-within : (limit : ℕ) (text : List ℕ) (line : Line) → limit ≤ input_limit → line ≡ handed_out limit text → IsHandedOut line
+handed-within limit text (Full found) small is = grind (arith, nat_tests)
+handed-within limit text TooLong small is = tt
+handed-within limit text End small is = grind (arith, nat_tests)
 
 module _ {S : Type 0} {form : LineForm S} {IsAfter : Progress S → Type 0} {first next left held holds : Option (List ℕ)} {old new : Reader}
     (stands : Stands form IsAfter first next old held holds) where
@@ -133,7 +151,7 @@ module _ {S : Type 0} {form : LineForm S} {IsAfter : Progress S → Type 0} {fir
 
   -- the run ends with a fault of the reader of lines
   pub moves_fault : {before now : ℕ} (reader_fault : LineFault) (call : Call old new next left before now (Err reader_fault)) (start : ℕ) (sink_rose : Type 0) → start ≤ before
-      → Moves first left held holds (Says (account_by form) left (Rose start now) sink_rose (fault_status (fault_of_line reader_fault)))
+      → Moves first left held holds (Says (account_by form) (IsAtEnd left) (Rose start now) sink_rose (fault_status (fault_of_line reader_fault)))
   moves_fault Read call start sink_rose later =
       let read = reading_read stands.reading call in
       record {
@@ -162,25 +180,21 @@ module _ {S : Type 0} {form : LineForm S} {IsAfter : Progress S → Type 0} {fir
         says = inr (begins_opened form (stands.given ++ call.got) stands.handed memory.0 memory.1);
       }
 
-  pub next_line : {before now : ℕ} (line : Line) (call : Call old new next left before now (Ok line)) → (line ≡ End → ⊥)
+  pub next_line : {before now : ℕ} {line : Line} (call : Call old new next left before now (Ok line)) → (line ≡ End → ⊥)
       → NextLine first left old new (stands.given ++ call.got) stands.handed line
-  next_line End call other = absurd (other refl)
-  next_line (Full text) call other =
-      let full = reading_full stands.reading call in
-      record { text = text; is_text = is_full text (subst (λ limit. length text ≤ limit) stands.limit full.0); reading = full.1; limit = call.limit ∙ stands.limit; nearer = full.2 }
-  next_line TooLong call other =
-      let long = reading_too_long stands.reading call in
-      record { text = long.0; is_text = is_too_long long.0 (subst (λ limit. limit < length long.0) stands.limit long.1); reading = long.2; limit = call.limit ∙ stands.limit; nearer = long.3 }
+  next_line call other =
+      let found = reading_line stands.reading call other in
+      record { text = found.0; is_text = found.1; reading = found.2; nearer = found.3 }
 
   -- it is early enough for one more line
-  pub few_lines : {given : List ℕ} {line : Line} → NextLine first left old new given stands.handed line → (form_after form stands.handed).lines < 2 ^ 32 - 1
+  pub few_lines : {given : List ℕ} {line : Line} → NextLine first left old new given stands.handed line → (form_after form stands.handed).lines ≤ input_limit
   few_lines next = omega (arith, stands.near, next.nearer)
 
   module _ {given : List ℕ} {line : Line} (next_is : NextLine first left old new given stands.handed line) (taken : Option (List ℕ)) where
     -- its step is done
     pub stands_next : {T : Type 0} (done : T) (IsThen : Progress S → Type 0) (sink_before sink_now : ℕ)
-        → IsThen (after_line form.read (form_after form stands.handed) next_is.text)
-        → WritesBytes {T = T} holds taken sink_before sink_now (bytes_of (written_by_line form.read (form_after form stands.handed) next_is.text)) (Ok done)
+        → IsThen (after_item (form_step form) (form_after form stands.handed) next_is.text)
+        → WritesBytes {T = T} holds taken sink_before sink_now (bytes_of (written_by_item (form_step form) (form_after form stands.handed) next_is.text)) (Ok done)
         → Stands form IsThen first left new held taken
     stands_next done IsThen sink_before sink_now is writes =
         let handed = stands.handed in
@@ -191,14 +205,13 @@ module _ {S : Type 0} {form : LineForm S} {IsAfter : Progress S → Type 0} {fir
           given = given;
           handed = handed ++ text ∷ [];
           reading = next_is.reading;
-          limit = next_is.limit;
           after = subst IsThen (sym (after-push form handed text)) is;
           takes = subst (Appends held taken) all (Appends-append held holds taken (bytes_of (form_lines form handed)) writes.written stands.takes writes.takes);
           near = omega (arith, stands.near, next_is.nearer, ap (λ p. p.lines) (after-push form handed text));
         }
 
     -- what a step wrote in part is the first of the report
-    begins_step : {front : List ℕ} → Begins front (bytes_of (written_by_line form.read (form_after form stands.handed) next_is.text))
+    begins_step : {front : List ℕ} → Begins front (bytes_of (written_by_item (form_step form) (form_after form stands.handed) next_is.text))
         → Begins (bytes_of (form_lines form stands.handed) ++ front) ((account_by form).report given)
     begins_step {front} b =
         let so_far = reading_so_far next_is.reading in
@@ -209,8 +222,8 @@ module _ {S : Type 0} {form : LineForm S} {IsAfter : Progress S → Type 0} {fir
 
     -- the run ends with a fault in its step
     pub moves_step : {T : Type 0} (f : Fault) (sink_start sink_before sink_now : ℕ) (source_rose : Type 0) → sink_start ≤ sink_before
-        → WritesBytes {T = T} holds taken sink_before sink_now (bytes_of (written_by_line form.read (form_after form stands.handed) next_is.text)) (Err f)
-        → Moves first left held taken (Says (account_by form) left source_rose (Rose sink_start sink_now) (fault_status f))
+        → WritesBytes {T = T} holds taken sink_before sink_now (bytes_of (written_by_item (form_step form) (form_after form stands.handed) next_is.text)) (Err f)
+        → Moves first left held taken (Says (account_by form) (IsAtEnd left) source_rose (Rose sink_start sink_now) (fault_status f))
     moves_step fault.Read sink_start sink_before sink_now source_rose later writes = absurd writes.says
     moves_step fault.InputLimit sink_start sink_before sink_now source_rose later writes = absurd writes.says
     moves_step fault.Write sink_start sink_before sink_now source_rose later writes = record {
@@ -229,12 +242,12 @@ module _ {S : Type 0} {form : LineForm S} {IsAfter : Progress S → Type 0} {fir
     }
 
 -- a whole report ends with one of two statuses
-says_whole : (b : Bool) (account : Account) (status : Status) (left : Option (List ℕ)) (source_rose sink_rose : Type 0) (given written : List ℕ)
-    → status ≡ (if b then Done else SomeRefused) → IsWholeRun account left status given written → Says account left source_rose sink_rose status given written
-says_whole true account status left source_rose sink_rose given written is whole =
-    subst (λ s. Says account left source_rose sink_rose s given written) (sym is) (subst (λ s. IsWholeRun account left s given written) is whole)
-says_whole false account status left source_rose sink_rose given written is whole =
-    subst (λ s. Says account left source_rose sink_rose s given written) (sym is) (subst (λ s. IsWholeRun account left s given written) is whole)
+says_whole : (b : Bool) (account : Account) (status : Status) (AtEnd source_rose sink_rose : Type 0) (given written : List ℕ)
+    → status ≡ (if b then Done else SomeRefused) → IsWholeRun account AtEnd status given written → Says account AtEnd source_rose sink_rose status given written
+says_whole true account status AtEnd source_rose sink_rose given written is whole =
+    subst (λ s. Says account AtEnd source_rose sink_rose s given written) (sym is) (subst (λ s. IsWholeRun account AtEnd s given written) is whole)
+says_whole false account status AtEnd source_rose sink_rose given written is whole =
+    subst (λ s. Says account AtEnd source_rose sink_rose s given written) (sym is) (subst (λ s. IsWholeRun account AtEnd s given written) is whole)
 
 module _ {S : Type 0} {form : LineForm S} {IsAfter : Progress S → Type 0} {first left held holds : Option (List ℕ)} (taken : Option (List ℕ)) (source_rose : Type 0) (sink_start sink_before sink_now : ℕ)
     (lines_moved : Moves first left held holds (AllRead form IsAfter left)) (later : sink_start ≤ sink_before) where
@@ -253,7 +266,7 @@ module _ {S : Type 0} {form : LineForm S} {IsAfter : Progress S → Type 0} {fir
   -- all lines were read, and what stands behind them was written, or not
   pub moves_close : (result : Result Status Fault) → IfOk result (λ status. status ≡ form_status form (form_after form (lines lines_moved.given)))
       → WritesBytes {T = Status} holds taken sink_before sink_now (bytes_of (form_end form (form_after form (lines lines_moved.given)))) result
-      → Moves first left held taken (Says (account_by form) left source_rose (Rose sink_start sink_now) (end_status result))
+      → Moves first left held taken (Says (account_by form) (IsAtEnd left) source_rose (Rose sink_start sink_now) (end_status result))
   moves_close (Ok status) ends writes =
       let whole = written_whole writes.written writes.says in
       record {
@@ -261,7 +274,7 @@ module _ {S : Type 0} {form : LineForm S} {IsAfter : Progress S → Type 0} {fir
         gives = lines_moved.gives;
         written = lines_moved.written ++ writes.written;
         takes = Appends-append held holds taken lines_moved.written writes.written lines_moved.takes writes.takes;
-        says = says_whole _ (account_by form) status left source_rose (Rose sink_start sink_now) lines_moved.given (lines_moved.written ++ writes.written) ends
+        says = says_whole _ (account_by form) status (IsAtEnd left) source_rose (Rose sink_start sink_now) lines_moved.given (lines_moved.written ++ writes.written) ends
             (record { at_end = lines_moved.says.at_end; within = lines_moved.says.within; report = whole; ends = ends });
       }
   moves_close (Err fault.Read) ends writes = absurd writes.says
@@ -281,9 +294,44 @@ module _ {S : Type 0} {form : LineForm S} {IsAfter : Progress S → Type 0} {fir
     says = inl (begins_close writes.says);
   }
 
+-- a form that reads nothing wrote its report, or not
+pub moves_unread : (account : Account) (first held holds : Option (List ℕ)) (before now : ℕ) (whole : Bool) → account.status [] ≡ (if whole then Done else SomeRefused)
+    → (result : Result Status Fault) → IfOk result (λ status. status ≡ account.status []) → WritesBytes {T = Status} held holds before now (account.report []) result
+    → Moves first first held holds (λ given written. (given ≡ []) × Says account ⊤ ⊥ (Rose before now) (end_status result) given written)
+moves_unread account first held holds before now whole is (Ok status) ends writes = record {
+  given = [];
+  gives = Consumes-nil first;
+  written = writes.written;
+  takes = writes.takes;
+  says = (
+    refl,
+    says_whole whole account status ⊤ ⊥ (Rose before now) [] writes.written (ends ∙ is)
+        (record { at_end = tt; within = omega arith; report = writes.says; ends = ends }),
+  );
+}
+moves_unread account first held holds before now whole is (Err fault.Read) ends writes = absurd writes.says
+moves_unread account first held holds before now whole is (Err fault.InputLimit) ends writes = absurd writes.says
+moves_unread account first held holds before now whole is (Err fault.Write) ends writes = record {
+  given = [];
+  gives = Consumes-nil first;
+  written = writes.written;
+  takes = writes.takes;
+  says = (refl, (writes.says.0, inl writes.says.1));
+}
+moves_unread account first held holds before now whole is (Err fault.OutOfMemory) ends writes =
+    record { given = []; gives = Consumes-nil first; written = writes.written; takes = writes.takes; says = (refl, inl writes.says) }
+
 -- the words are of no form, and nothing was read or written
 pub moves_usage : (form : Option Form) (first held : Option (List ℕ)) (source_rose sink_rose : Type 0) → form ≡ None
     → Moves first first held held (SaysForWords form first source_rose sink_rose Usage)
 moves_usage form first held source_rose sink_rose is =
     subst (λ f. Moves first first held held (SaysForWords f first source_rose sink_rose Usage)) (sym is)
     (record { given = []; gives = Consumes-nil first; written = []; takes = Appends-nil held; says = (refl, refl, refl) })
+
+-- what is said of a form that reads nothing is said of its words
+pub moves_for_words : (form : Option Form) (it : Form) → form ≡ Some it → reads_input it ≡ false → (first held holds : Option (List ℕ)) (source_rose sink_rose : Type 0) (status : Status)
+    → Moves first first held holds (λ given written. (given ≡ []) × Says (account_of it) ⊤ ⊥ sink_rose status given written)
+    → Moves first first held holds (SaysForWords form first source_rose sink_rose status)
+moves_for_words form it is unread first held holds source_rose sink_rose status moves =
+    subst (λ f. Moves first first held holds (SaysForWords f first source_rose sink_rose status)) (sym is)
+    (subst (λ reads. Moves first first held holds (SaysOfForm reads (account_of it) first source_rose sink_rose status)) (sym unread) moves)

@@ -1,12 +1,13 @@
 -- What a session comes to is the same in both forms of its views.
-use Rattle.std.proofs.Common.{◌≡◌, ℕ, Bool, true, false, cond, nat_lt, List, [], ◌∷◌, length, Option, Result, Ok, Err, refl, ◌∙◌, ap, subst, inl, inr}
+use Rattle.std.proofs.Common.{◌≡◌, ℕ, Bool, true, false, cond, List, [], ◌∷◌, Option, Result, Ok, Err, refl, ◌∙◌, ap, subst, inl, inr}
+use Rattle.std.specs.Io.KnownBytes.{IsAtEnd}
 use Rattle.ft_io.specs.Lines.{lines, ended_lines}
 use Rattle.ft_msg.specs.declared.faults.Cause.{Cause}
 use Rattle.ft_seqr.specs.declared.events.Event.{Event}
 use Rattle.ft_seqr.specs.declared.refusals.Refusal.TheVariants.{LineTooLong}
 use Rattle.ft_seqr.specs.EventGrammar.{event}
 use Rattle.ft_seqr.specs.SessionReport.{Shows, answer, answer_reading, as_applied, as_shown, take_line}
-use Rattle.ft_seqr.specs.Walk.{Progress, after_line, after_lines, begin, is_blank, line_limit, passes, progress_after, refuses}
+use Rattle.ft_seqr.specs.Walk.{Progress, after_item, after_items, begin, is_blank, is_too_long, line_limit, passes, progress_after, refuses, step_of}
 use Rattle.ft_seqr.specs.World.{NaiveWorld, Stepped, new_world, step}
 use Rattle.ft_worlds.specs.Reports.{OpenedReportsAreOne, ReportsAreOne}
 use Rattle.ft_cli.specs.declared.statuses.Status.{Status}
@@ -28,8 +29,8 @@ module _ (shows other : Shows) where
   reading-same at (Err cause) = refl
   reading-same at (Ok e) = answer-same at (step at.made e)
 
-  line-same : (at : Progress NaiveWorld) (line : List ℕ) → after_line (take_line shows) at line ≡ after_line (take_line other) at line
-  line-same at line = by (nat_lt line_limit (length line)) (is_blank line)
+  line-same : (at : Progress NaiveWorld) (line : List ℕ) → after_item (step_of (take_line shows)) at line ≡ after_item (step_of (take_line other)) at line
+  line-same at line = by (is_too_long line_limit line) (is_blank line)
     where
       by : (long blank : Bool) → progress_after at (cond long (refuses at.made LineTooLong) (cond blank (passes at.made) (take_line shows at.made line)))
           ≡ progress_after at (cond long (refuses at.made LineTooLong) (cond blank (passes at.made) (take_line other at.made line)))
@@ -37,9 +38,9 @@ module _ (shows other : Shows) where
       by false true = refl
       by false false = reading-same at (event line)
 
-  lines-same : (at : Progress NaiveWorld) (ls : List (List ℕ)) → after_lines (take_line shows) at ls ≡ after_lines (take_line other) at ls
+  lines-same : (at : Progress NaiveWorld) (ls : List (List ℕ)) → after_items (step_of (take_line shows)) at ls ≡ after_items (step_of (take_line other)) at ls
   lines-same at [] = refl
-  lines-same at (line ∷ ls) = lines-same (after_line (take_line shows) at line) ls ∙ ap (λ p. after_lines (take_line other) p ls) (line-same at line)
+  lines-same at (line ∷ ls) = lines-same (after_item (step_of (take_line shows)) at line) ls ∙ ap (λ p. after_items (step_of (take_line other)) p ls) (line-same at line)
 
 -- ---- accounts that say the same
 
@@ -53,19 +54,19 @@ module _ {a b : Account} (alike : Alike a b) where
   part-alike given written (inl h) = inl (subst (Begins written) (alike.report given) h)
   part-alike given written (inr h) = inr (subst (Begins written) (alike.opened given) h)
 
-  whole-alike : (left : Option (List ℕ)) (status : Status) (given written : List ℕ) → IsWholeRun a left status given written → IsWholeRun b left status given written
-  whole-alike left status given written h =
+  whole-alike : (AtEnd : Type 0) (status : Status) (given written : List ℕ) → IsWholeRun a AtEnd status given written → IsWholeRun b AtEnd status given written
+  whole-alike AtEnd status given written h =
       record { at_end = h.at_end; within = h.within; report = h.report ∙ alike.report given; ends = h.ends ∙ alike.status given }
 
-  says-alike : (left : Option (List ℕ)) (source_rose sink_rose : Type 0) (status : Status) (given written : List ℕ)
-      → Says a left source_rose sink_rose status given written → Says b left source_rose sink_rose status given written
-  says-alike left source_rose sink_rose Usage given written h = h
-  says-alike left source_rose sink_rose ReadFault given written h = (h.0, h.1, h.2 ∙ alike.opened given)
-  says-alike left source_rose sink_rose WriteFault given written h = (h.0, part-alike given written h.1)
-  says-alike left source_rose sink_rose OutOfMemory given written h = part-alike given written h
-  says-alike left source_rose sink_rose InputLimit given written h = (h.0, h.1 ∙ alike.opened given)
-  says-alike left source_rose sink_rose Done given written h = whole-alike left Done given written h
-  says-alike left source_rose sink_rose SomeRefused given written h = whole-alike left SomeRefused given written h
+  says-alike : (AtEnd source_rose sink_rose : Type 0) (status : Status) (given written : List ℕ)
+      → Says a AtEnd source_rose sink_rose status given written → Says b AtEnd source_rose sink_rose status given written
+  says-alike AtEnd source_rose sink_rose Usage given written h = h
+  says-alike AtEnd source_rose sink_rose ReadFault given written h = (h.0, h.1, h.2 ∙ alike.opened given)
+  says-alike AtEnd source_rose sink_rose WriteFault given written h = (h.0, part-alike given written h.1)
+  says-alike AtEnd source_rose sink_rose OutOfMemory given written h = part-alike given written h
+  says-alike AtEnd source_rose sink_rose InputLimit given written h = (h.0, h.1 ∙ alike.opened given)
+  says-alike AtEnd source_rose sink_rose Done given written h = whole-alike AtEnd Done given written h
+  says-alike AtEnd source_rose sink_rose SomeRefused given written h = whole-alike AtEnd SomeRefused given written h
 
 -- ---- a session
 
@@ -78,12 +79,12 @@ session-alike whole opened = record {
 
 -- what a run says of a session as its clients show it, it says of the session
 pub session-moves : ReportsAreOne → OpenedReportsAreOne → (first left held holds : Option (List ℕ)) (source_rose sink_rose : Type 0) (status : Status)
-    → Moves first left held holds (Says (account_by (session_form as_shown)) left source_rose sink_rose status)
-    → Moves first left held holds (Says (account_of Session) left source_rose sink_rose status)
+    → Moves first left held holds (Says (account_by (session_form as_shown)) (IsAtEnd left) source_rose sink_rose status)
+    → Moves first left held holds (Says (account_of Session) (IsAtEnd left) source_rose sink_rose status)
 session-moves whole opened first left held holds source_rose sink_rose status moves = record {
   given = moves.given;
   gives = moves.gives;
   written = moves.written;
   takes = moves.takes;
-  says = says-alike (session-alike whole opened) left source_rose sink_rose status moves.given moves.written moves.says;
+  says = says-alike (session-alike whole opened) (IsAtEnd left) source_rose sink_rose status moves.given moves.written moves.says;
 }

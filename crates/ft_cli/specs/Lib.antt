@@ -1,9 +1,14 @@
 pub mod Words
 pub mod Refusals
 pub mod Observation
+pub mod Loading
 pub mod Statuses
 pub mod LineForm
 pub mod Listening
 pub mod Report
 pub mod Writing
 pub mod Run
+pub mod LoadRuns
+pub mod Generated
+pub mod Play
+pub mod Playing

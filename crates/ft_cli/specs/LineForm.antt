@@ -5,7 +5,7 @@ use Rattle.std.specs.List.{flat_map}
 use Rattle.ft_io.specs.Lines.{lines, ended_lines, with_lf}
 use Rattle.ft_op.specs.Document.{Document}
 use Rattle.ft_seqr.specs.SessionReport.{closing_lines}
-use Rattle.ft_seqr.specs.Walk.{Progress, Step, after_lines, begin, written_by}
+use Rattle.ft_seqr.specs.Walk.{Progress, Step, after_items, begin, step_within, written_by_items}
 use Rattle.ft_cli.specs.declared.statuses.Status.{Status}
 use Rattle.ft_cli.specs.declared.statuses.Status.TheVariants.{Done, SomeRefused}
 
@@ -13,21 +13,26 @@ use Rattle.ft_cli.specs.declared.statuses.Status.TheVariants.{Done, SomeRefused}
 abbrev pub bytes_of : List (List ℕ) → List ℕ
 bytes_of texts = flat_map with_lf texts
 
--- a form whose lines make an S: what there is before the first line, what a line that is read does, the lines that show at the end
--- what was made, and the document whose counts are told last
+-- a form whose lines make an S: what there is before the first line, how long the next line may be that isn't blank, what a line that
+-- is read does, the lines that show at the end what was made, and the document whose counts are told last
 pub record LineForm (S : Type 0) : Type 0 where
   pub first : S
+  pub longest : S → ℕ
   pub read : S → List ℕ → Step S
   pub shown : S → List (List ℕ)
   pub counted : S → Document
 
+-- the step of a line
+abbrev pub form_step : {S : Type 0} → LineForm S → S → List ℕ → Step S
+form_step form made line = step_within (form.longest made) form.read made line
+
 -- how far a form is after lines
 abbrev pub form_after : {S : Type 0} → LineForm S → List (List ℕ) → Progress S
-form_after form texts = after_lines form.read (begin form.first) texts
+form_after form texts = after_items (form_step form) (begin form.first) texts
 
 -- what lines write
 abbrev pub form_lines : {S : Type 0} → LineForm S → List (List ℕ) → List (List ℕ)
-form_lines form texts = written_by form.read (begin form.first) texts
+form_lines form texts = written_by_items (form_step form) (begin form.first) texts
 
 -- what is written behind the lines
 abbrev pub form_end : {S : Type 0} → LineForm S → Progress S → List (List ℕ)
@@ -37,9 +42,13 @@ form_end form at = form.shown at.made ++ closing_lines at.refused (form.counted 
 abbrev pub form_report : {S : Type 0} → LineForm S → List (List ℕ) → List (List ℕ)
 form_report form texts = form_lines form texts ++ form_end form (form_after form texts)
 
--- the status behind a whole report: whether no line was refused and no sub-operation skipped
+-- the status behind a whole report: whether nothing was refused and no sub-operation skipped
+abbrev pub whole_status : ℕ → Document → Status
+whole_status refused doc = if refused == 0 && doc.skipped == 0 then Done else SomeRefused
+
+-- the status behind the whole report of a form
 abbrev pub form_status : {S : Type 0} → LineForm S → Progress S → Status
-form_status form at = if at.refused == 0 && (form.counted at.made).skipped == 0 then Done else SomeRefused
+form_status form at = whole_status at.refused (form.counted at.made)
 
 -- what a form comes to for the bytes of an input: its report, what the lines write that end with LF without what is written behind
 -- them, and the status behind the whole report

@@ -1,13 +1,27 @@
 -- What a listener is told of a line, and how far it follows a form that reads lines.
-use Rattle.std.specs.Prelude.{◌≡◌, ℕ, List, [], ◌∷◌, Option, Some, None, string_bytes}
+use Rattle.std.specs.Prelude.{◌≡◌, ℕ, ◌≤◌, List, [], ◌∷◌, length, Option, Some, None, string_bytes, ⊤}
+use Rattle.ft_io.specs.Reader.{handed_out, input_limit}
+use Rattle.ft_io.specs.declared.reader.Line.{Line}
+use Rattle.ft_io.specs.declared.reader.Line.TheVariants.{End, Full, TooLong}
 use Rattle.ft_op.specs.Document.{Document}
 use Rattle.ft_session.specs.declared.outputs.Counts.{Counts}
 use Rattle.ft_seqr.specs.declared.refusals.Refusal.{Refusal}
 use Rattle.ft_seqr.specs.Refusals.{refused_line}
-use Rattle.ft_seqr.specs.Walk.{Progress, Step}
+use Rattle.ft_seqr.specs.Walk.{Progress, Step, line_limit}
 use Rattle.ft_cli.specs.declared.listener.Told.{Told}
 use Rattle.ft_cli.specs.declared.listener.Told.TheVariants.{Text, Refused}
-use Rattle.ft_cli.specs.LineForm.{bytes_of}
+use Rattle.ft_cli.specs.LineForm.{LineForm, bytes_of}
+
+-- a reader of lines handed this out: no end, and no line longer than an input
+abbrev pub IsHandedOut : Line → Type 0
+IsHandedOut (Full text) = length text ≤ input_limit
+IsHandedOut TooLong = ⊤
+IsHandedOut End = ⊥
+
+-- a reader of lines hands this out for the text behind what was made
+pub record HandsOut {S : Type 0} (form : LineForm S) (made : S) (text : List ℕ) (line : Line) : Type 0 where
+  pub least : line_limit ≤ form.longest made
+  pub is : line ≡ handed_out (form.longest made) text
 
 -- the text that is told
 abbrev pub told_text : Told → List ℕ

@@ -1,5 +1,5 @@
 -- What a run does: which bytes the source gave, which bytes the sink took, and what its status says of both.
-use Rattle.std.specs.Prelude.{◌≡◌, ◌≢◌, ◌⊎◌, ℕ, ◌+◌, ◌≤◌, List, [], length, Option, Some, None, Result, Ok, Err}
+use Rattle.std.specs.Prelude.{◌≡◌, ◌≢◌, ◌⊎◌, ℕ, ◌+◌, ◌≤◌, Bool, true, false, ⊤, List, [], length, Option, Some, None, Result, Ok, Err}
 use Rattle.std.specs.Io.KnownBytes.{Appends, Consumes, IsAtEnd}
 use Rattle.ft_io.specs.Lines.{lines}
 use Rattle.ft_io.specs.Reader.{input_limit}
@@ -8,7 +8,7 @@ use Rattle.ft_cli.specs.declared.statuses.Status.TheVariants.{Done, SomeRefused,
 use Rattle.ft_cli.specs.declared.statuses.Fault.{Fault}
 use Rattle.ft_cli.specs.declared.words.Form.{Form}
 use Rattle.ft_cli.specs.Statuses.{fault_status}
-use Rattle.ft_cli.specs.Words.{form_of}
+use Rattle.ft_cli.specs.Words.{form_of, reads_input}
 use Rattle.ft_seqr.specs.Walk.{Progress}
 use Rattle.ft_cli.specs.LineForm.{Account, LineForm, account_by, bytes_of, form_after, form_lines}
 use Rattle.ft_cli.specs.Report.{account_of}
@@ -24,8 +24,8 @@ pub record Moves (first left held holds : Option (List ℕ)) (Said : List ℕ �
   pub says : Said given written
 
 -- the input was read to its end, and its whole report written
-pub record IsWholeRun (account : Account) (left : Option (List ℕ)) (status : Status) (given written : List ℕ) : Type 0 where
-  pub at_end : IsAtEnd left
+pub record IsWholeRun (account : Account) (AtEnd : Type 0) (status : Status) (given written : List ℕ) : Type 0 where
+  pub at_end : AtEnd
   pub within : length given ≤ input_limit
   pub report : written ≡ account.report given
   pub ends : status ≡ account.status given
@@ -34,21 +34,27 @@ pub record IsWholeRun (account : Account) (left : Option (List ℕ)) (status : S
 abbrev pub IsPart : Account → List ℕ → List ℕ → Type 0
 IsPart account given written = Begins written (account.report given) ⊎ Begins written (account.opened given)
 
--- What a status says of the bytes given and written, by what the form comes to. A fault of the source or the sink comes only where
--- its count rose.
-abbrev pub Says : Account → Option (List ℕ) → Type 0 → Type 0 → Status → List ℕ → List ℕ → Type 0
-Says account left source_rose sink_rose Usage given written = ⊥
-Says account left source_rose sink_rose ReadFault given written =
+-- What a status says of the bytes given and written, by what the form comes to, and what it is that the input is at its end. A fault
+-- of the source or the sink comes only where its count rose.
+abbrev pub Says : Account → Type 0 → Type 0 → Type 0 → Status → List ℕ → List ℕ → Type 0
+Says account AtEnd source_rose sink_rose Usage given written = ⊥
+Says account AtEnd source_rose sink_rose ReadFault given written =
     source_rose × (length given ≤ input_limit) × (written ≡ account.opened given)
-Says account left source_rose sink_rose WriteFault given written = sink_rose × IsPart account given written
-Says account left source_rose sink_rose OutOfMemory given written = IsPart account given written
-Says account left source_rose sink_rose InputLimit given written = (length given ≡ input_limit + 1) × (written ≡ account.opened given)
-Says account left source_rose sink_rose status given written = IsWholeRun account left status given written
+Says account AtEnd source_rose sink_rose WriteFault given written = sink_rose × IsPart account given written
+Says account AtEnd source_rose sink_rose OutOfMemory given written = IsPart account given written
+Says account AtEnd source_rose sink_rose InputLimit given written = (length given ≡ input_limit + 1) × (written ≡ account.opened given)
+Says account AtEnd source_rose sink_rose status given written = IsWholeRun account AtEnd status given written
+
+-- the same of a form that reads its input, or of one that reads nothing, for which the input counts as read to its end
+abbrev pub SaysOfForm : Bool → Account → Option (List ℕ) → Type 0 → Type 0 → Status → List ℕ → List ℕ → Type 0
+SaysOfForm true account left source_rose sink_rose status given written = Says account (IsAtEnd left) source_rose sink_rose status given written
+SaysOfForm false account left source_rose sink_rose status given written = (given ≡ []) × Says account ⊤ ⊥ sink_rose status given written
 
 -- the same, where the words may be of no form: then nothing is read or written
 abbrev pub SaysForWords : Option Form → Option (List ℕ) → Type 0 → Type 0 → Status → List ℕ → List ℕ → Type 0
 SaysForWords None left source_rose sink_rose status given written = (status ≡ Usage) × (given ≡ []) × (written ≡ [])
-SaysForWords (Some form) left source_rose sink_rose status given written = Says (account_of form) left source_rose sink_rose status given written
+SaysForWords (Some form) left source_rose sink_rose status given written =
+    SaysOfForm (reads_input form) (account_of form) left source_rose sink_rose status given written
 
 -- a status behind a whole report
 abbrev pub EndsWhole : Status → Type 0
@@ -87,4 +93,4 @@ abbrev pub SaysOfLines : {S T : Type 0} → LineForm S → (T → Progress S →
     → List ℕ → List ℕ → Type 0
 SaysOfLines form IsAfter left source_rose sink_rose (Ok a) given written = AllRead form (IsAfter a) left given written
 SaysOfLines form IsAfter left source_rose sink_rose (Err fault) given written =
-    Says (account_by form) left source_rose sink_rose (fault_status fault) given written
+    Says (account_by form) (IsAtEnd left) source_rose sink_rose (fault_status fault) given written

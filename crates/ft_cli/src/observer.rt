@@ -1,20 +1,25 @@
 //! The observer of a log.
 
-ghost use Rattle.std.specs.Prelude.{◌≡◌, ℕ, ◌+◌, ◌-◌, ◌<◌, ◌≤◌, ◌^◌, List, [], None, IfOk, OnOk, OnErr, length};
+ghost use Rattle.std.specs.Prelude.{◌≡◌, ℕ, ◌+◌, ◌-◌, ◌<◌, ◌≤◌, ◌^◌, List, [], None, IfOk, IsTrue, OnOk, OnErr, length};
+ghost use Rattle.ft_sumdoc.specs.Counts.{are_distinct_names};
+ghost use Rattle.ft_sumdoc.specs.Valid.{IsValidSummary};
 ghost use Rattle.ft_msg.specs.Client.{client_over};
 ghost use Rattle.ft_msg.specs.Process.{process};
 ghost use Rattle.ft_msg.specs.WellFormed.{HasNumbersInRange};
 ghost use Rattle.ft_seqr.specs.Walk.{answers};
 ghost use Rattle.ft_cli.specs.Listening.{told_refusal, told_text};
+ghost use Rattle.ft_cli.specs.Loading.{observation_of};
 ghost use Rattle.ft_cli.specs.Observation.{numbered_entry, names_with, observe, observe_answer, observe_message};
 
-use crate::listener::{Listener, Told};
+use crate::listener::{LINE_LIMIT, Listener, Told};
 use crate::view_lines::view_text;
 use ft_base::OutOfMemory;
 use ft_document::ObservedDocument;
 use ft_msg::{Cause, Entry, Message, Names, ProcessFault, ViewFault, read_message};
+use ft_plain_summary::reading::document_of;
 use ft_seqr::Refusal;
 use ft_session::Counts;
+use ft_sumdoc::{SumDoc, Texts};
 use std::alloc::Global;
 use std::marker::Model;
 
@@ -60,6 +65,10 @@ impl Listener for Observer {
         })
     }
 
+    fn limit(&self) -> usize {
+        LINE_LIMIT
+    }
+
     fn take(self, line: &[u8]) -> Result<(Observer, Told), OutOfMemory> {
         let (observer, refusal) = self.take_line(line)?;
         Ok((observer, told(refusal)))
@@ -83,6 +92,21 @@ impl Listener for Observer {
 }
 
 impl Observer {
+    /// The observer that starts from a summary.
+    ///
+    /// Answers `OutOfMemory` where there is no room for it.
+    pub fn of_summary(alloc: Global, sum: &SumDoc) -> Result<Observer, OutOfMemory>
+        requires valid { IsValidSummary sum.now }
+        requires few { length sum.now.conns < 2 ^ 32 }
+        ensures { IfOk result (λ a. a ≡ observation_of sum.now) }
+    {
+        Ok(Observer {
+            alloc,
+            names: table_of(alloc, &sum.conns)?,
+            replica: ObservedDocument::over(document_of(alloc, sum)?),
+        })
+    }
+
     // The observer after the message that the line is, and why the line is refused, if it is.
     fn take_line(self, line: &[u8]) -> Result<(Observer, Option<Refusal>), OutOfMemory>
         requires { length self.names < 2 ^ 32 - 1 }
@@ -117,6 +141,19 @@ impl Observer {
         };
         Ok((observer, refusal))
     }
+}
+
+// The table of these names, each with its place as its number, from 1 on.
+fn table_of(alloc: Global, conns: &Texts) -> Result<Names, OutOfMemory>
+    requires distinct { IsTrue (are_distinct_names conns.now) }
+    requires few { length conns.now < 2 ^ 32 }
+    ensures { IfOk result (λ names. names ≡ conns.now) }
+{
+    let mut names = Names::new(alloc);
+    for name in conns.as_slice() {
+        names.number(name)?;
+    }
+    Ok(names)
 }
 
 // The message with the number of the connection that sent it, a new one where its name has none yet.

@@ -1,13 +1,13 @@
 //! An input as far as it was read.
 
-ghost use Rattle.std.specs.Prelude.{◌≡◌, ℕ, ◌+◌, ◌-◌, ◌<◌, ◌≤◌, ◌^◌, List, IfOk, string_bytes};
-ghost use Rattle.ft_io.specs.Reader.{handed_out};
-ghost use Rattle.ft_seqr.specs.Walk.{Progress, after_line, begin, is_blank, line_limit, refused_after, step_of, written_by_line};
-ghost use Rattle.ft_cli.specs.LineForm.{bytes_of, form_end, form_status};
-ghost use Rattle.ft_cli.specs.Listening.{Follows, IsStep, told_bytes, told_refusal};
+ghost use Rattle.std.specs.Prelude.{◌≡◌, ℕ, ◌+◌, ◌-◌, ◌<◌, ◌≤◌, ◌^◌, List, [], IfOk, None, Some, if◌then◌else◌, nat_lt, string_bytes};
+ghost use Rattle.ft_io.specs.Reader.{input_limit};
+ghost use Rattle.ft_seqr.specs.Walk.{Progress, after_item, begin, is_blank, line_limit, refused_after, written_by_item};
+ghost use Rattle.ft_cli.specs.LineForm.{bytes_of, form_end, form_status, form_step};
+ghost use Rattle.ft_cli.specs.Listening.{Follows, HandsOut, IsHandedOut, IsStep, told_bytes, told_refusal, told_text};
 ghost use Rattle.ft_cli.specs.Writing.{WritesBytes};
 
-use crate::listener::{Listener, Told};
+use crate::listener::{LINE_LIMIT, Listener, Told};
 use crate::refusals::refused_line;
 use crate::report::closing_text;
 use crate::statuses::{Fault, Status};
@@ -17,9 +17,6 @@ use ft_io::{Line, Sink};
 use ft_seqr::Refusal;
 use std::alloc::Global;
 
-/// The greatest length of a line, without its LF.
-pub const LINE_LIMIT: usize = 1_048_576;
-
 /// An input as far as it was read: how many lines, how many of them were refused, and what heard them.
 #[derive(Drop)]
 pub struct Replay<L: Listener> {
@@ -27,7 +24,7 @@ pub struct Replay<L: Listener> {
     refused: u64,
     listener: L,
     ghost counted: { refused ≤ lines },
-    ghost sized: { L.size listener ≤ lines },
+    ghost sized: { L.size listener ≤ input_limit + lines },
 }
 
 impl<L: Listener> Replay<L> {
@@ -44,18 +41,27 @@ impl<L: Listener> Replay<L> {
         })
     }
 
+    /// The greatest length of the next line, if it isn't blank.
+    pub fn limit(&self) -> usize
+        ensures longest { (made : L.Made) → L.holds self.now.listener made → result ≡ L.form.longest made }
+        ensures least { line_limit ≤ result }
+        ensures most { result ≤ input_limit }
+    {
+        self.listener.limit()
+    }
+
     /// The input with one more line, as a reader of lines hands it out, of which is written what is
     /// told of it.
     ///
     /// Answers `Write` only where the sink's count of faults rose, and `OutOfMemory` where there is no
     /// room for what the line makes or for the refusal; then the input is gone.
     pub fn step<K: Sink>(self, alloc: Global, line: Line, out: &mut K) -> Result<Replay<L>, Fault>
-        requires few { self.lines < 2 ^ 32 - 1 }
-        requires handed { (text : List ℕ) × (line ≡ handed_out line_limit text) }
-        ensures after { (text : List ℕ) (at : Progress L.Made) → line ≡ handed_out line_limit text → Follows (L.holds self.listener) self.lines self.refused at
-            → IfOk result (λ replay. Follows (L.holds replay.listener) replay.lines replay.refused (after_line L.form.read at text)) }
-        ensures writes { (text : List ℕ) (at : Progress L.Made) → line ≡ handed_out line_limit text → Follows (L.holds self.listener) self.lines self.refused at
-            → WritesBytes (K.contents out.old) (K.contents out.new) (K.faults out.old) (K.faults out.new) (bytes_of (written_by_line L.form.read at text)) result }
+        requires few { self.lines ≤ input_limit }
+        requires handed { IsHandedOut line }
+        ensures after { (text : List ℕ) (at : Progress L.Made) → HandsOut L.form at.made text line → Follows (L.holds self.listener) self.lines self.refused at
+            → IfOk result (λ replay. Follows (L.holds replay.listener) replay.lines replay.refused (after_item (form_step L.form) at text)) }
+        ensures writes { (text : List ℕ) (at : Progress L.Made) → HandsOut L.form at.made text line → Follows (L.holds self.listener) self.lines self.refused at
+            → WritesBytes (K.contents out.old) (K.contents out.new) (K.faults out.old) (K.faults out.new) (bytes_of (written_by_item (form_step L.form) at text)) result }
     {
         let (replay, told) = self.take(line)?;
         write_told(alloc, replay.lines, told, out)?;
@@ -80,12 +86,12 @@ impl<L: Listener> Replay<L> {
 
     // The input with one more line, and what is told of it.
     fn take(self, line: Line) -> Result<(Replay<L>, Told), OutOfMemory>
-        requires few { self.lines < 2 ^ 32 - 1 }
-        requires handed { (text : List ℕ) × (line ≡ handed_out line_limit text) }
-        ensures after { (text : List ℕ) (at : Progress L.Made) → line ≡ handed_out line_limit text → Follows (L.holds self.listener) self.lines self.refused at
-            → IfOk result (λ p. Follows (L.holds p.0.listener) p.0.lines p.0.refused (after_line L.form.read at text)) }
-        ensures told { (text : List ℕ) (at : Progress L.Made) → line ≡ handed_out line_limit text → Follows (L.holds self.listener) self.lines self.refused at
-            → IfOk result (λ p. bytes_of (written_by_line L.form.read at text) ≡ told_bytes p.0.lines p.1) }
+        requires few { self.lines ≤ input_limit }
+        requires handed { IsHandedOut line }
+        ensures after { (text : List ℕ) (at : Progress L.Made) → HandsOut L.form at.made text line → Follows (L.holds self.listener) self.lines self.refused at
+            → IfOk result (λ p. Follows (L.holds p.0.listener) p.0.lines p.0.refused (after_item (form_step L.form) at text)) }
+        ensures told { (text : List ℕ) (at : Progress L.Made) → HandsOut L.form at.made text line → Follows (L.holds self.listener) self.lines self.refused at
+            → IfOk result (λ p. bytes_of (written_by_item (form_step L.form) at text) ≡ told_bytes p.0.lines p.1) }
     {
         let (listener, told) = hear(self.listener, &line)?;
         let replay = Replay {
@@ -123,16 +129,28 @@ impl<L: Listener> Replay<L> {
 // The listener after a line, and what is told of it.
 fn hear<L: Listener>(listener: L, line: &Line) -> Result<(L, Told), OutOfMemory>
     requires few { L.size listener < 2 ^ 32 - 1 }
-    requires handed { (text : List ℕ) × (line.now ≡ handed_out line_limit text) }
-    ensures step { (text : List ℕ) (made : L.Made) → line.now ≡ handed_out line_limit text → L.holds listener made
-        → IfOk result (λ p. IsStep (L.holds p.0) p.1 (step_of L.form.read made text)) }
+    requires handed { IsHandedOut line.now }
+    ensures step { (text : List ℕ) (made : L.Made) → HandsOut L.form made text line.now → L.holds listener made
+        → IfOk result (λ p. IsStep (L.holds p.0) p.1 (form_step L.form made text)) }
     ensures size { IfOk result (λ p. L.size p.0 ≤ L.size listener + 1) }
 {
     match line {
-        Line::Full(text) if is_blank(text.as_slice()) => Ok((listener, Told::Nothing)),
+        Line::Full(text) if is_blank(text.as_slice()) => Ok((listener, pass(text.len()))),
         Line::Full(text) => listener.take(text.as_slice()),
         Line::TooLong => Ok((listener, Told::Refused(Refusal::LineTooLong))),
         Line::End => unreachable!(),
+    }
+}
+
+// What is told of a blank line of this length.
+fn pass(length: usize) -> Told
+    ensures refusal { told_refusal result ≡ (if nat_lt line_limit length then Some Refusal.LineTooLong else None) }
+    ensures silent { told_text result ≡ [] }
+{
+    if length > LINE_LIMIT {
+        Told::Refused(Refusal::LineTooLong)
+    } else {
+        Told::Nothing
     }
 }
 

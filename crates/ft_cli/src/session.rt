@@ -8,7 +8,7 @@ ghost use Rattle.ft_session.specs.Worlds.{WorldStands};
 ghost use Rattle.ft_cli.specs.Listening.{IsStep};
 
 use crate::event_lines::told_output;
-use crate::listener::{Listener, Told};
+use crate::listener::{LINE_LIMIT, Listener, Told};
 use ft_base::OutOfMemory;
 use ft_plain::Plain;
 use ft_seqr::{Event, Refusal, read_event};
@@ -43,6 +43,10 @@ impl Listener for SessionRun {
             alloc,
             world: World::new(alloc),
         })
+    }
+
+    fn limit(&self) -> usize {
+        LINE_LIMIT
     }
 
     fn take(self, line: &[u8]) -> Result<(SessionRun, Told), OutOfMemory> {

@@ -13,7 +13,7 @@ use Rattle.ft_msg.specs.Content.{ViewContent, content}
 use Rattle.ft_seqr.specs.EventGrammar.{event}
 use Rattle.ft_seqr.specs.Refusals.{refusal_of_cause}
 use Rattle.ft_seqr.specs.ViewLines.{content_lines, json_string}
-use Rattle.ft_seqr.specs.Walk.{Progress, Step, after_lines, begin, refuses, tells, written_by}
+use Rattle.ft_seqr.specs.Walk.{Progress, Step, after_items, begin, refuses, step_of, tells, written_by_items}
 use Rattle.ft_seqr.specs.World.{NamedClient, NaiveWorld, Nothing, Output, Stepped, Texts, View, furthest, new_world, next_conn, step}
 
 -- what of a client in a world is written as its view
@@ -65,11 +65,11 @@ take_line shows w line = answer_reading shows w (event line)
 
 -- a session after lines
 abbrev pub session_after : Shows → List (List ℕ) → Progress NaiveWorld
-session_after shows lines = after_lines (take_line shows) (begin new_world) lines
+session_after shows lines = after_items (step_of (take_line shows)) (begin new_world) lines
 
 -- what the lines of a session write
 abbrev pub session_lines : Shows → List (List ℕ) → List (List ℕ)
-session_lines shows lines = written_by (take_line shows) (begin new_world) lines
+session_lines shows lines = written_by_items (step_of (take_line shows)) (begin new_world) lines
 
 -- the last lines: how many lines were refused, how many sub-operations were skipped, and how many messages were for others
 unfoldable pub closing_lines : ℕ → Document → List (List ℕ)

@@ -1,4 +1,5 @@
--- A form that reads lines: what each line does, how far an input was read, and what its lines write. Lines are counted from 1.
+-- A walk over lines, or over other items that have a step: what each of them does, how far the walk is, and what they write. They are
+-- counted from 1.
 use Rattle.std.specs.Prelude.{ℕ, ◌+◌, Bool, ◌||◌, ◌==◌, nat_lt, List, [], ◌∷◌, ◌++◌, length, Option, Some, None, if◌then◌else◌}
 use Rattle.std.specs.List.{list_all}
 use Rattle.ft_seqr.specs.declared.refusals.Refusal.{Refusal}
@@ -39,13 +40,21 @@ passes made = tells made []
 abbrev pub refuses : {S : Type 0} → S → Refusal → Step S
 refuses made refusal = record { made = made; told = []; refusal = Some refusal }
 
+-- whether a line is too long, where the longest one that isn't blank has this length
+abbrev pub is_too_long : ℕ → List ℕ → Bool
+is_too_long longest line = nat_lt (if is_blank line then line_limit else longest) (length line)
+
 -- the step of any line: one that is too long is refused, a blank one is passed over, and the others are read
-abbrev pub step_of : {S : Type 0} → (S → List ℕ → Step S) → S → List ℕ → Step S
-step_of read made line =
-    if nat_lt line_limit (length line) then refuses made LineTooLong
+abbrev pub step_within : {S : Type 0} → ℕ → (S → List ℕ → Step S) → S → List ℕ → Step S
+step_within longest read made line =
+    if is_too_long longest line then refuses made LineTooLong
     else (if is_blank line then passes made else read made line)
 
--- how far an input was read: how many lines, how many of them were refused, and what they made
+-- .. where no line may be longer than the limit of all lines
+abbrev pub step_of : {S : Type 0} → (S → List ℕ → Step S) → S → List ℕ → Step S
+step_of read made line = step_within line_limit read made line
+
+-- how far a walk is: how many lines or items, how many of them were refused, and what they made
 pub record Progress (S : Type 0) : Type 0 where
   pub lines : ℕ
   pub refused : ℕ
@@ -64,14 +73,14 @@ refused_after n (Some refusal) = n + 1
 abbrev pub progress_after : {S : Type 0} → Progress S → Step S → Progress S
 progress_after at step = record { lines = at.lines + 1; refused = refused_after at.refused step.refusal; made = step.made }
 
--- how far it is after a line
-abbrev pub after_line : {S : Type 0} → (S → List ℕ → Step S) → Progress S → List ℕ → Progress S
-after_line read at line = progress_after at (step_of read at.made line)
+-- how far it is after an item, which is a line or what else has a step
+abbrev pub after_item : {S A : Type 0} → (S → A → Step S) → Progress S → A → Progress S
+after_item step at item = progress_after at (step at.made item)
 
--- how far it is after these lines
-abbrev pub after_lines : {S : Type 0} → (S → List ℕ → Step S) → Progress S → List (List ℕ) → Progress S
-after_lines read at [] = at
-after_lines read at (line ∷ later) = after_lines read (after_line read at line) later
+-- how far it is after these items
+abbrev pub after_items : {S A : Type 0} → (S → A → Step S) → Progress S → List A → Progress S
+after_items step at [] = at
+after_items step at (item ∷ later) = after_items step (after_item step at item) later
 
 -- what is written of the line with this number: its refusal, if it has one
 abbrev pub refusal_lines : ℕ → Option Refusal → List (List ℕ)
@@ -82,11 +91,11 @@ refusal_lines number (Some refusal) = refused_line number refusal ∷ []
 abbrev pub written_by_step : {S : Type 0} → ℕ → Step S → List (List ℕ)
 written_by_step number step = step.told ++ refusal_lines number step.refusal
 
--- the lines that a line writes
-abbrev pub written_by_line : {S : Type 0} → (S → List ℕ → Step S) → Progress S → List ℕ → List (List ℕ)
-written_by_line read at line = written_by_step (at.lines + 1) (step_of read at.made line)
+-- the lines that an item writes
+abbrev pub written_by_item : {S A : Type 0} → (S → A → Step S) → Progress S → A → List (List ℕ)
+written_by_item step at item = written_by_step (at.lines + 1) (step at.made item)
 
--- the lines that these lines write
-abbrev pub written_by : {S : Type 0} → (S → List ℕ → Step S) → Progress S → List (List ℕ) → List (List ℕ)
-written_by read at [] = []
-written_by read at (line ∷ later) = written_by_line read at line ++ written_by read (after_line read at line) later
+-- the lines that these items write
+abbrev pub written_by_items : {S A : Type 0} → (S → A → Step S) → Progress S → List A → List (List ℕ)
+written_by_items step at [] = []
+written_by_items step at (item ∷ later) = written_by_item step at item ++ written_by_items step (after_item step at item) later

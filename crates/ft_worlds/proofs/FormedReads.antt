@@ -1,5 +1,5 @@
 -- What the grammars read is well formed, and so each message of the log of a session.
-use Rattle.std.proofs.Common.{◌≡◌, ◌∙◌, ℕ, Bool, true, false, not, ◌&&◌, cond, nat_lt, length, List, [], ◌∷◌, Result, Ok, Err, refl, sym, ap, subst}
+use Rattle.std.proofs.Common.{◌≡◌, ◌∙◌, ℕ, Bool, true, false, not, ◌&&◌, cond, List, [], ◌∷◌, Result, Ok, Err, refl, sym, ap, subst}
 use Rattle.std.specs.Prelude.{encode_utf8_all}
 use Rattle.ft_json.specs.Reading.{read_line}
 use Rattle.ft_props.specs.Properties.{Characters}
@@ -14,7 +14,7 @@ use Rattle.ft_seqr.specs.declared.events.Event.TheVariants as events
 use Rattle.ft_seqr.specs.declared.refusals.Refusal.TheVariants.{LineTooLong}
 use Rattle.ft_seqr.specs.EventGrammar.{event, event_of}
 use Rattle.ft_seqr.specs.SessionReport.{Shows, answer, answer_reading, take_line}
-use Rattle.ft_seqr.specs.Walk.{Progress, after_line, after_lines, begin, is_blank, line_limit, passes, refuses, step_of}
+use Rattle.ft_seqr.specs.Walk.{Progress, after_item, after_items, begin, is_blank, is_too_long, line_limit, passes, refuses, step_of}
 use Rattle.ft_seqr.specs.WellFormedEvent.{IsWellFormedEvent}
 use Rattle.ft_seqr.specs.World.{NaiveWorld, Stepped, new_world, step, world_after, world_of}
 use Rattle.ft_laws.specs.Sequencing.{Each}
@@ -97,7 +97,7 @@ reading-made shows w (Ok e) es = ap (λ v. world_of v es) (made-of shows w (step
 
 line-made : (shows : Shows) (w : NaiveWorld) (line : List ℕ) (es : List Event)
     → world_of (step_of (take_line shows) w line).made es ≡ world_of w (cond (is_read line) (with_event (event line) es) es)
-line-made shows w line es = by (nat_lt line_limit (length line)) (is_blank line)
+line-made shows w line es = by (is_too_long line_limit line) (is_blank line)
   where
     by : (long blank : Bool) → world_of (cond long (refuses w LineTooLong) (cond blank (passes w) (take_line shows w line))).made es
         ≡ world_of w (cond (not long && not blank) (with_event (event line) es) es)
@@ -105,10 +105,10 @@ line-made shows w line es = by (nat_lt line_limit (length line)) (is_blank line)
     by false true = refl
     by false false = reading-made shows w (event line) es
 
-lines-made : (shows : Shows) (lines : List (List ℕ)) (at : Progress NaiveWorld) → (after_lines (take_line shows) at lines).made ≡ world_of at.made (events_of lines)
+lines-made : (shows : Shows) (lines : List (List ℕ)) (at : Progress NaiveWorld) → (after_items (step_of (take_line shows)) at lines).made ≡ world_of at.made (events_of lines)
 lines-made shows [] at = refl
 lines-made shows (line ∷ lines) at =
-    lines-made shows lines (after_line (take_line shows) at line) ∙ line-made shows at.made line (events_of lines)
+    lines-made shows lines (after_item (step_of (take_line shows)) at line) ∙ line-made shows at.made line (events_of lines)
 
 pub session-entries-are-well_formed : SessionEntriesAreWellFormed
 session-entries-are-well_formed shows lines small =

@@ -23,6 +23,8 @@ pub mod NameLaws
 pub mod LoadLaws
 pub mod FormedLaws
 pub mod FormedReads
+mod TextSizes
+pub mod SummaryNames
 mod KeptLoad
 pub mod SummaryLaws
 pub mod ValidLaws

@@ -1,14 +1,17 @@
--- That what the grammars read is well formed, and so each message of the log of a session.
-use Rattle.std.specs.Prelude.{◌≡◌, ℕ, ◌+◌, ◌<◌, ◌^◌, Bool, not, ◌&&◌, cond, nat_lt, length, List, [], ◌∷◌, Result, Ok, Err, ⊤}
+-- That what the grammars read is well formed, and so each message of the log of a session; and that a summary that is read has few
+-- names.
+use Rattle.std.specs.Prelude.{◌≡◌, ℕ, ◌+◌, ◌<◌, ◌^◌, Bool, not, ◌&&◌, cond, length, List, [], ◌∷◌, Result, Ok, Err, ⊤}
 use Rattle.ft_msg.specs.declared.faults.Cause.{Cause}
 use Rattle.ft_msg.specs.declared.messages.Draft.{Draft}
 use Rattle.ft_msg.specs.declared.messages.Message.{Message}
 use Rattle.ft_msg.specs.MessageGrammar.{draft, message}
 use Rattle.ft_msg.specs.WellFormed.{IsWellFormedDraft, IsWellFormedMessage}
+use Rattle.ft_sumdoc.specs.declared.summary.SumDoc.{SumDoc}
+use Rattle.ft_sumdoc.specs.Summary.{summary}
 use Rattle.ft_seqr.specs.declared.events.Event.{Event}
 use Rattle.ft_seqr.specs.EventGrammar.{event}
 use Rattle.ft_seqr.specs.SessionReport.{Shows, session_after}
-use Rattle.ft_seqr.specs.Walk.{is_blank, line_limit}
+use Rattle.ft_seqr.specs.Walk.{is_blank, is_too_long, line_limit}
 use Rattle.ft_seqr.specs.WellFormedEvent.{IsWellFormedEvent}
 use Rattle.ft_seqr.specs.World.{NaiveWorld, new_world, text_load, world_after}
 use Rattle.ft_laws.specs.Sequencing.{Each}
@@ -25,7 +28,7 @@ EventsAreFormed = (bytes : List ℕ) (e : Event) → event bytes ≡ Ok e → Is
 
 -- whether a session reads a line: it isn't too long, nor blank
 abbrev pub is_read : List ℕ → Bool
-is_read line = not (nat_lt line_limit (length line)) && not (is_blank line)
+is_read line = not (is_too_long line_limit line) && not (is_blank line)
 
 -- the events with one before them, if there is one
 abbrev pub with_event : Result Event Cause → List Event → List Event
@@ -47,3 +50,7 @@ abbrev pub SessionEntriesAreWellFormed : Type 0
 SessionEntriesAreWellFormed =
     (shows : Shows) (lines : List (List ℕ)) → LoadIsSmall new_world (events_of lines)
     → Each (λ entry. IsWellFormedMessage entry.msg) (session_after shows lines).made.log
+
+-- a summary that a text is has fewer names than the text has bytes
+abbrev pub SummariesNameFew : Type 0
+SummariesNameFew = (bytes : List ℕ) (sum : SumDoc) → summary bytes ≡ Ok sum → length sum.conns < length bytes

@@ -1,0 +1,74 @@
+//! A run of the program over memory.
+
+ghost use Rattle.std.specs.Prelude.{◌≤◌};
+
+use ft_base::OutOfMemory;
+use ft_cli::running;
+use ft_io::{MemSink, MemSource};
+use std::alloc::Global;
+
+/// What a run is made over.
+#[derive(Clone, Copy)]
+pub struct Run<'a> {
+    pub words: &'a Vec<String>,
+    pub input: &'a [u8],
+    pub failing_reads: &'a [u64],
+    pub failing_writes: &'a [u64],
+    /// How many bytes are read and written at a time, at least one.
+    pub piece: usize,
+    /// How many bytes the output has room for.
+    pub room: usize,
+}
+
+impl<'a> Run<'a> {
+    /// Adds the name of the run and what it comes to, unless the run before it came to the same.
+    ///
+    /// Answers `OutOfMemory` where there is no room for it.
+    pub fn push_if_other(
+        &self,
+        alloc: Global,
+        name: &str,
+        output: &mut Vec<u8>,
+    ) -> Result<(), OutOfMemory> {
+        let mut outcome = Vec::new(alloc);
+        self.push(alloc, &mut outcome)?;
+        if !output.ends_with(outcome.as_slice()) {
+            output.extend_from_slice(name.as_bytes())?;
+            output.extend_from_slice(outcome.as_slice())?;
+        }
+        Ok(())
+    }
+
+    /// Adds the status and the bytes of the run.
+    ///
+    /// Answers `OutOfMemory` where there is no room for them.
+    pub fn push(&self, alloc: Global, output: &mut Vec<u8>) -> Result<(), OutOfMemory> {
+        let mut src = self.source(alloc)?;
+        let mut out = self.sink(alloc)?;
+        let status = running::run(alloc, self.words, &mut src, &mut out).code();
+        push_status(alloc, status, output)?;
+        output.extend_from_slice(out.taken())?;
+        output.push(b'\n')?;
+        Ok(())
+    }
+
+    // The source of the run.
+    fn source(&self, alloc: Global) -> Result<MemSource, OutOfMemory> {
+        let input = self.input.to_vec(alloc)?;
+        let failing = self.failing_reads.to_vec(alloc)?;
+        Ok(MemSource::new(alloc, input, self.piece.max(1), failing))
+    }
+
+    // The sink of the run.
+    fn sink(&self, alloc: Global) -> Result<MemSink, OutOfMemory> {
+        let failing = self.failing_writes.to_vec(alloc)?;
+        MemSink::new(alloc, self.piece.max(1), failing, self.room)
+    }
+}
+
+// Adds the line of a status.
+fn push_status(alloc: Global, status: u8, output: &mut Vec<u8>) -> Result<(), OutOfMemory> {
+    let line = format!(in alloc; "status {status}\n")?;
+    output.extend_from_slice(line.as_bytes())?;
+    Ok(())
+}
