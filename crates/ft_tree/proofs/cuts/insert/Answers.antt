@@ -1,0 +1,18 @@
+use Rattle.std.proofs.Common.{◌≡◌, ℕ, List, map, ap, ◌∙◌}
+use Rattle.ft_tree.specs.declared.references.Reference.{Reference}
+use Rattle.ft_tree.specs.Edits.{with_place}
+use Rattle.ft_tree.specs.Places.{shifted_place}
+use Rattle.ft_tree.proofs.cuts.insert.Goals as goal
+
+shifted : ℕ → ℕ → List (ℕ × Reference) → List (ℕ × Reference)
+shifted i n xs = map (λ x. (x.0, with_place (shifted_place i n) x.1)) xs
+
+moved : (xs ys zs : List (ℕ × Reference)) (i j m n : ℕ) → zs ≡ map (λ x. (x.0, with_place (shifted_place i m) x.1)) xs → xs ≡ ys → i ≡ j → m ≡ n
+    → zs ≡ map (λ x. (x.0, with_place (shifted_place j n) x.1)) ys
+unfolding shifted
+moved xs ys zs i j m n e a b d = e ∙ ap (shifted i m) a ∙ ap (λ k. shifted k m ys) b ∙ ap (λ k. shifted j k ys) d
+
+pub returns-clause-refs : goal.returns-clause-refs
+returns-clause-refs g c =
+    moved c.deref.result.now c.args.refs.now.items _ _ _ _ _ c.in_ok-refs.ensures c.deref.ensures.value c.in_ok-place.ensures.place
+    c.len-count.ensures.value

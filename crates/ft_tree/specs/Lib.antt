@@ -1,0 +1,11 @@
+pub mod Elements
+pub mod Places
+pub mod State
+pub mod Edits
+pub mod Settling
+pub mod Plain
+pub mod Inside
+pub mod TextRuns
+pub mod TextLeaves
+pub mod TextUnits
+pub mod TextLaws

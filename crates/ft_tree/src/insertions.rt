@@ -1,0 +1,166 @@
+//! How elements come into a tree.
+
+ghost use Rattle.std.specs.Prelude.{◌≡◌, ◌+◌, ◌*◌, ◌≤◌, [], IsTrue, IfErr, OnOk, OnErr, false, length};
+ghost use Rattle.ft_base.specs.declared.stamps.Stamp.TheVariants.{Acked, Local};
+ghost use Rattle.ft_base.specs.Scan.{len, no_run, put};
+ghost use Rattle.ft_block.specs.declared.leaves.LenView.TheVariants.{At};
+ghost use Rattle.ft_block.specs.Leaves.{ids, last_stage};
+ghost use Rattle.ft_props.specs.Properties.{apply, max_safe_integer};
+ghost use Rattle.ft_tree.specs.declared.faults.TreeFault.TheVariants as fault;
+ghost use Rattle.ft_tree.specs.Edits.{with_place};
+ghost use Rattle.ft_tree.specs.Elements.{is_pending, new_elements, seen_in};
+ghost use Rattle.ft_tree.specs.Places.{put_place, shifted_place};
+ghost use Rattle.ft_tree.specs.Plain.{Puts, fresh_leaf, passes};
+ghost use Rattle.ft_tree.specs.State.{ChangesReferences, Extends, IsRefused, KeepsRest, elements, pending_leaves};
+
+use crate::content::Content;
+use crate::cuts::insert;
+use crate::faults::TreeFault;
+use crate::scans::{count_reads, seen_count};
+use crate::tree::Tree;
+use ft_base::{Perspective, Stamp, Steps};
+use ft_block::LenView;
+use ft_props::PropSet;
+use std::sync::ledger::Ledger;
+
+impl<C: Content> Tree<C> {
+    /// Puts new elements of a pending stage in, directly after the `p`-th element of the local view, which is
+    /// that with all that is pending.
+    ///
+    /// Answers `OutOfRange` exactly where `p` is above the length of that view, and then nothing changed; and
+    /// `OutOfMemory` where there is no room, and then the tree may be used no more.
+    pub fn insert_local<G: Ledger>(
+        &mut self,
+        p: u64,
+        content: C,
+        props: &PropSet,
+        stage: u64,
+        steps: &mut Steps<G>,
+    ) -> Result<(), TreeFault>
+    where
+        C: Drop,
+        requires usable { IsTrue self.old.usable }
+        requires made { self.old.made + length (C.units content) ≤ max_safe_integer }
+
+        // The elements.
+        ensures elements { let old = elements C.units C.by self.old.leaves in
+            let added = new_elements (Local stage) (C.by content) (apply [] props.now) (C.units content) in
+            OnOk result (elements C.units C.by self.new.leaves ≡ put (seen_in last_stage) no_run p added old) }
+        ensures inside { OnOk result (p ≤ len (seen_in last_stage) (elements C.units C.by self.old.leaves)) }
+        ensures refused { let old = elements C.units C.by self.old.leaves in
+            IfErr result (IsRefused p (len (seen_in last_stage) old) self.old self.new) }
+
+        // References keep their elements, leaves their nodes.
+        ensures refs { let old = elements C.units C.by self.old.leaves in
+            let place = put_place (seen_in last_stage) no_run p old in
+            OnOk result (ChangesReferences (with_place (shifted_place place (length (C.units content)))) self.old.refs self.new.refs) }
+        ensures nodes { OnOk result (Extends (ids self.old.leaves) (ids self.new.leaves)) }
+        ensures rest { OnOk result (KeepsRest self.old self.new) }
+        ensures made { OnOk result (self.new.made ≡ self.old.made + length (C.units content)) }
+        ensures reads { steps.new ≤ steps.old + 9 * (self.old.depth + 1) }
+    {
+        count_reads(&self.leaves, steps);
+        let view = LenView::Stage(u64::MAX);
+        let length = seen_count(&self.leaves, view);
+        if length < p {
+            return Err(TreeFault::OutOfRange { length });
+        }
+        count_reads(&self.leaves, steps);
+        let ins = Stamp::Local { stage };
+        self.put(p, view, false, content, ins, props)
+    }
+
+    /// Puts new elements in under number `seq` by the perspective's connection, directly after the `p`-th
+    /// element that the perspective sees, but past the run of pending elements there.
+    ///
+    /// Answers `OutOfRange` exactly where `p` is above the length seen, and then nothing changed; and
+    /// `OutOfMemory` where there is no room, and then the tree may be used no more.
+    pub fn insert_remote<G: Ledger>(
+        &mut self,
+        p: u64,
+        mut content: C,
+        props: &PropSet,
+        seq: u64,
+        at: Perspective,
+        steps: &mut Steps<G>,
+    ) -> Result<(), TreeFault>
+    where
+        C: Drop,
+        requires usable { IsTrue self.old.usable }
+        requires floor { self.old.floor ≤ at.r }
+        requires made { self.old.made + length (C.units content) ≤ max_safe_integer }
+
+        // The elements.
+        ensures elements { let old = elements C.units C.by self.old.leaves in
+            let added = new_elements (Acked seq at.c) (C.author seq at.c) (apply [] props.now) (C.units content) in
+            OnOk result (elements C.units C.by self.new.leaves ≡ put (seen_in (At at)) is_pending p added old) }
+        ensures inside { OnOk result (p ≤ len (seen_in (At at)) (elements C.units C.by self.old.leaves)) }
+        ensures refused { let old = elements C.units C.by self.old.leaves in
+            IfErr result (IsRefused p (len (seen_in (At at)) old) self.old self.new) }
+
+        // References keep their elements, leaves their nodes.
+        ensures refs { let old = elements C.units C.by self.old.leaves in
+            let place = put_place (seen_in (At at)) is_pending p old in
+            OnOk result (ChangesReferences (with_place (shifted_place place (length (C.units content)))) self.old.refs self.new.refs) }
+        ensures nodes { OnOk result (Extends (ids self.old.leaves) (ids self.new.leaves)) }
+        ensures rest { OnOk result (KeepsRest self.old self.new) }
+        ensures made { OnOk result (self.new.made ≡ self.old.made + length (C.units content)) }
+        ensures reads { steps.new ≤ steps.old + 9 * (self.old.depth + 1) + pending_leaves self.old.leaves + 1 }
+    {
+        count_reads(&self.leaves, steps);
+        let view = LenView::At(at);
+        let length = seen_count(&self.leaves, view);
+        if length < p {
+            return Err(TreeFault::OutOfRange { length });
+        }
+        count_reads(&self.leaves, steps);
+        count_reads(&self.leaves, steps);
+        content.stamped(seq, at.c);
+        let ins = Stamp::Acked { seq, conn: at.c };
+        self.put(p, view, true, content, ins, props)
+    }
+
+    /// Puts new elements in at a place that is there.
+    pub(crate) fn put(
+        &mut self,
+        p: u64,
+        view: LenView,
+        past_pending: bool,
+        content: C,
+        ins: Stamp,
+        props: &PropSet,
+    ) -> Result<(), TreeFault>
+    where
+        C: Drop,
+        requires usable { IsTrue self.old.usable }
+        requires made { self.old.made + length (C.units content) ≤ max_safe_integer }
+        ensures ok { let leaf = fresh_leaf content ins (apply [] props.now) in
+            OnOk result (Puts C.units C.by (seen_in view) (passes past_pending) p leaf self.old self.new) }
+        ensures err { IfErr result (λ e. e ≡ fault.OutOfMemory) }
+        ensures unusable { OnErr result (self.new.usable ≡ false) }
+    {
+        let count = content.len();
+        let next = self.next_node;
+        match insert(
+            &mut self.leaves,
+            &mut self.refs,
+            p,
+            view,
+            past_pending,
+            next,
+            content,
+            ins,
+            props,
+        ) {
+            Ok(after) => {
+                self.next_node = after;
+                self.made += count;
+                Ok(())
+            }
+            Err(_) => {
+                self.usable = false;
+                Err(TreeFault::OutOfMemory)
+            }
+        }
+    }
+}

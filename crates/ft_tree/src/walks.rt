@@ -1,0 +1,89 @@
+//! The leaves of a tree, one after another.
+
+ghost use Rattle.std.specs.Prelude.{◌≡◌, ℕ, ◌<◌, ◌≤◌, ◌^◌, All, Some, IsTrue, length, option_map};
+ghost use Rattle.ft_arena.specs.Ids.{after, first};
+ghost use Rattle.ft_block.specs.Leaves.{IsLeafIn, IsPlaceIn, ids, times_leaf, value_at};
+ghost use Rattle.ft_tree.specs.Edits.{is_marked_by};
+ghost use Rattle.ft_tree.specs.State.{elements};
+
+use crate::content::Content;
+use crate::nodes::{first_of, hold_elements, index_of, node_after};
+use crate::tree::Tree;
+use ft_arena::NodeId;
+use ft_base::Element;
+use ft_props::Overlay;
+
+impl<C: Content> Tree<C> {
+    /// The first leaf: None exactly where there is no leaf.
+    pub fn first_leaf(&self) -> Option<NodeId>
+        requires { IsTrue self.now.usable }
+        ensures value { result ≡ first (ids self.now.leaves) }
+
+        // What holds of the leaves at any time.
+        ensures once { (id : ℕ) → times_leaf self.now.leaves id ≤ 1 }
+        ensures some { All (λ x. 1 ≤ length (C.units x.1.content)) self.now.leaves }
+        ensures few { length (elements C.units C.by self.now.leaves) < 2 ^ 64 }
+        ensures sweep { IsPlaceIn self.now.leaves self.now.sweep }
+    {
+        // What a contract says of each leaf is read off it.
+        hold_elements(&self.leaves);
+        first_of(&self.leaves)
+    }
+
+    /// The leaf after this one: None exactly where it is the last.
+    pub fn next_leaf(&self, id: NodeId) -> Option<NodeId>
+        requires usable { IsTrue self.now.usable }
+        requires live { IsLeafIn self.now.leaves id }
+        ensures { result ≡ after (ids self.now.leaves) id }
+    {
+        node_after(&self.leaves, id)
+    }
+
+    /// The stamps of the elements of a leaf.
+    pub fn leaf_element(&self, id: NodeId) -> &Element
+        requires usable { IsTrue self.now.usable }
+        requires live { IsLeafIn self.now.leaves id }
+        ensures { option_map (λ x. x.stamps) (value_at self.now.leaves id) ≡ Some result.now }
+    {
+        &self.leaves[index_of(&self.leaves, id)].1.stamps
+    }
+
+    /// How many elements a leaf holds, at least one.
+    pub fn leaf_len(&self, id: NodeId) -> u64
+        requires usable { IsTrue self.now.usable }
+        requires live { IsLeafIn self.now.leaves id }
+        ensures value { option_map (λ x. length (C.units x.content)) (value_at self.now.leaves id) ≡ Some result }
+        ensures some { 1 ≤ result }
+    {
+        self.leaves[index_of(&self.leaves, id)].1.content.len()
+    }
+
+    /// The content of a leaf.
+    pub fn leaf_content(&self, id: NodeId) -> &C
+        requires usable { IsTrue self.now.usable }
+        requires live { IsLeafIn self.now.leaves id }
+        ensures { option_map (λ x. x.content) (value_at self.now.leaves id) ≡ Some result.now }
+    {
+        &self.leaves[index_of(&self.leaves, id)].1.content
+    }
+
+    /// The properties of the elements of a leaf.
+    pub fn leaf_overlay(&self, id: NodeId) -> &Overlay
+        requires usable { IsTrue self.now.usable }
+        requires live { IsLeafIn self.now.leaves id }
+        ensures { option_map (λ x. x.overlay) (value_at self.now.leaves id) ≡ Some result.now }
+    {
+        &self.leaves[index_of(&self.leaves, id)].1.overlay
+    }
+
+    /// Whether a removal mark or changes of that stage are pending on the leaf.
+    pub fn marked(&self, id: NodeId, stage: u64) -> bool
+        requires usable { IsTrue self.now.usable }
+        requires live { IsLeafIn self.now.leaves id }
+        ensures { option_map (is_marked_by stage) (value_at self.now.leaves id) ≡ Some result }
+    {
+        self.leaves[index_of(&self.leaves, id)]
+            .1
+            .is_marked_by(stage)
+    }
+}
