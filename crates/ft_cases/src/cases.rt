@@ -7,6 +7,9 @@ use std::alloc::Global;
 /// How many bytes an output has room for where the case doesn't say it.
 const ROOM: usize = 65_536;
 
+/// How many bytes a generated session may have.
+const GENERATED: usize = 1_048_576;
+
 /// How many bytes are read and written at a time in a series where the case doesn't say it.
 const PIECE: usize = 65_536;
 
@@ -36,6 +39,7 @@ pub struct Case {
     piece: Option<usize>,
     room: usize,
     series: Series,
+    views: bool,
 }
 
 impl Case {
@@ -49,6 +53,7 @@ impl Case {
             piece: None,
             room: ROOM,
             series: Series::Pieces,
+            views: false,
         }
     }
 
@@ -76,6 +81,8 @@ impl Case {
             "piece" => self.piece = rest.parse().ok(),
             "room" => self.room = rest.parse().unwrap_or(ROOM),
             "repeat" => push_repeated(&mut self.input, rest)?,
+            "written-by" => push_written(alloc, &mut self.input, rest)?,
+            "views" => self.views = true,
             "each-cut" => self.series = Series::Cuts,
             "each-failing-read" => self.series = Series::Reads(rest.parse().unwrap_or(0)),
             "each-failing-write" => self.series = Series::Writes(rest.parse().unwrap_or(0)),
@@ -171,6 +178,7 @@ impl Case {
             failing_writes: self.failing_writes.as_slice(),
             piece,
             room: self.room,
+            views: self.views,
         }
     }
 }
@@ -181,6 +189,22 @@ fn push_words(alloc: Global, words: &mut Vec<String>, line: &str) -> Result<(), 
         words.push(String::from_str(alloc, word)?)?;
     }
     Ok(())
+}
+
+// Adds what the words of a line write.
+fn push_written(alloc: Global, bytes: &mut Vec<u8>, line: &str) -> Result<(), OutOfMemory> {
+    let mut words = Vec::new(alloc);
+    push_words(alloc, &mut words, line)?;
+    let run = Run {
+        words: &words,
+        input: &[],
+        failing_reads: &[],
+        failing_writes: &[],
+        piece: PIECE,
+        room: GENERATED,
+        views: false,
+    };
+    run.push_written(alloc, bytes)
 }
 
 // Adds the numbers of a line; what is none is passed.

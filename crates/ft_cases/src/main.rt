@@ -8,6 +8,9 @@
 //! with a byte and a count, which is input. The line `end-without-lf` ends an input whose last line has no
 //! LF. Lines that are empty or begin with `#` are passed outside of an input.
 //!
+//! Before the input, `written-by` puts into it what a run of the words behind it writes. With `views` only the
+//! number of views in the report is written, and how many of them show what the first one shows.
+//!
 //! One of three lines more makes a case run many times: `each-cut` with each beginning of its input, and
 //! `each-failing-read` and `each-failing-write` with each read or write that fails, up to the one of that
 //! number. Such a run has its name before its status: `cut`, `read` or `write`, and its number.
@@ -20,6 +23,7 @@
 mod cases;
 mod reading;
 mod runs;
+mod views;
 
 use crate::reading::outcomes;
 use std::io;

@@ -2,6 +2,7 @@
 
 ghost use Rattle.std.specs.Prelude.{◌≤◌};
 
+use crate::views::push_views;
 use ft_base::OutOfMemory;
 use ft_cli::running;
 use ft_io::{MemSink, MemSource};
@@ -18,6 +19,8 @@ pub struct Run<'a> {
     pub piece: usize,
     /// How many bytes the output has room for.
     pub room: usize,
+    /// Whether only the views of the report are looked at.
+    pub views: bool,
 }
 
 impl<'a> Run<'a> {
@@ -39,17 +42,36 @@ impl<'a> Run<'a> {
         Ok(())
     }
 
-    /// Adds the status and the bytes of the run.
+    /// Adds the status of the run and the bytes that it wrote, or what is said of its views.
     ///
     /// Answers `OutOfMemory` where there is no room for them.
     pub fn push(&self, alloc: Global, output: &mut Vec<u8>) -> Result<(), OutOfMemory> {
-        let mut src = self.source(alloc)?;
         let mut out = self.sink(alloc)?;
-        let status = running::run(alloc, self.words, &mut src, &mut out).code();
+        let status = self.written(alloc, &mut out)?;
         push_status(alloc, status, output)?;
-        output.extend_from_slice(out.taken())?;
+        if self.views {
+            push_views(alloc, out.taken(), output)?;
+        } else {
+            output.extend_from_slice(out.taken())?;
+        }
         output.push(b'\n')?;
         Ok(())
+    }
+
+    /// Adds the bytes that the run wrote.
+    ///
+    /// Answers `OutOfMemory` where there is no room for them.
+    pub fn push_written(&self, alloc: Global, bytes: &mut Vec<u8>) -> Result<(), OutOfMemory> {
+        let mut out = self.sink(alloc)?;
+        self.written(alloc, &mut out)?;
+        bytes.extend_from_slice(out.taken())?;
+        Ok(())
+    }
+
+    // Runs it, and answers its status.
+    fn written(&self, alloc: Global, out: &mut MemSink) -> Result<u8, OutOfMemory> {
+        let mut src = self.source(alloc)?;
+        Ok(running::run(alloc, self.words, &mut src, out).code())
     }
 
     // The source of the run.
