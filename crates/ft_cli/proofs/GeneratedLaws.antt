@@ -2,7 +2,7 @@
 use Rattle.std.proofs.Common.{◌≡◌, ℕ, ◌≤◌, List, [], ◌∷◌, ◌++◌, Option, Result, Ok, Err, sym, ◌∙◌, ap, subst, arith, append_assoc, append-nil, map}
 use Rattle.std.specs.Io.KnownBytes.{Appends}
 use Rattle.ft_io.specs.Lines.{with_lf}
-use Rattle.ft_io.proofs.TakenAndLeft.{Appends-nil, Appends-append}
+use Rattle.ft_io.proofs.TakenAndLeft.{Appends-append}
 use Rattle.ft_seqr.specs.declared.events.Event.{Event}
 use Rattle.ft_cli.specs.declared.statuses.Fault.{Fault}
 use Rattle.ft_cli.specs.declared.statuses.Fault.TheVariants.{Read, Write, OutOfMemory, InputLimit}
@@ -16,10 +16,6 @@ pub record IsWriting (all events : List Event) (held holds : Option (List ℕ)) 
   pub written : List ℕ
   pub takes : Appends held holds written
   pub whole : bytes_of (map event_line all) ≡ written ++ bytes_of (map event_line events)
-
-pub writing_start : (all events : List Event) (held : Option (List ℕ)) → events ≡ all → IsWriting all events held held
-writing_start all events held is =
-    record { written = []; takes = Appends-nil held; whole = ap (λ es. bytes_of (map event_line es)) (sym is) }
 
 module _ {all events : List Event} {held holds : Option (List ℕ)} (writing : IsWriting all events held holds) {start before : ℕ} (later : start ≤ before) where
   -- all are written

@@ -10,14 +10,12 @@ use Rattle.std.proofs.lemmas.List.Folds.{list_all-append}
 use Rattle.ft_io.specs.Lines.{with_lf}
 use Rattle.ft_seqr.specs.declared.events.Event.{Event}
 use Rattle.ft_seqr.specs.declared.refusals.Refusal.{Refusal}
-use Rattle.ft_seqr.specs.SessionReport.{closing_lines}
-use Rattle.ft_seqr.specs.World.{NamedClient, NaiveWorld, Output, furthest, step}
+use Rattle.ft_seqr.specs.World.{NamedClient, NaiveWorld, Output, step}
 use Rattle.ft_session.specs.Worlds.{WorldStands}
 use Rattle.ft_cli.specs.declared.play.Play.{Play as PlayState}
 use Rattle.ft_cli.specs.declared.showing.Agreement.{Agreement}
-use Rattle.ft_cli.specs.declared.words.Settings.{Settings}
 use Rattle.ft_cli.specs.LineForm.{bytes_of}
-use Rattle.ft_cli.specs.Play.{Played, after_event, after_events, agreement_line, all_agree, client_line, lines_of_play, played_on, settings_line, shown_client, shown_text}
+use Rattle.ft_cli.specs.Play.{Played, after_event, after_events, client_line, played_on, shown_client, shown_text}
 use Rattle.ft_cli.specs.Playing.{Compares, HasShown, Plays}
 
 -- ---- the clients that were shown
@@ -85,27 +83,7 @@ pub record PlaysToward (whole : Played) (play : PlayState) (events : List Event)
   pub plays : Plays play at
   pub rest : after_events at events ≡ whole
 
-pub toward_start : (play : PlayState) (at : Played) (events all : List Event) → Plays play at → events ≡ all → PlaysToward (after_events at all) play events
-toward_start play at events all plays is = record { at = at; plays = plays; rest = ap (λ es. after_events at es) is }
-
 pub toward_next : {whole : Played} {play : PlayState} {events : List Event} (toward : PlaysToward whole play events) (e : Event) (es : List Event) (next : PlayState)
     → events ≡ e ∷ es → Plays next (after_event toward.at e) → PlaysToward whole next es
 toward_next toward e es next is plays =
     record { at = after_event toward.at e; plays = plays; rest = ap (λ xs. after_events toward.at xs) (sym is) ∙ toward.rest }
-
-pub toward_end : {whole : Played} {play : PlayState} {events : List Event} → PlaysToward whole play events → events ≡ [] → Plays play whole
-toward_end {whole} {play} toward is = subst (Plays play) (ap (λ xs. after_events toward.at xs) (sym is) ∙ toward.rest) toward.plays
-
--- ---- what is written
-
--- the lines of a play, part by part
-pub lines_joined : (settings : Settings) (at : Played) (first lines agreement last : List ℕ) → first ≡ with_lf (settings_line settings)
-    → lines ≡ bytes_of (map client_line at.shown) → agreement ≡ with_lf (agreement_line (all_agree at.shown)) → last ≡ bytes_of (closing_lines at.refused (furthest at.made))
-    → first ++ (lines ++ (agreement ++ last)) ≡ bytes_of (lines_of_play settings at)
-lines_joined settings at first lines agreement last a b c d =
-    ap (λ xs. xs ++ (lines ++ (agreement ++ last))) a
-    ∙ ap (λ xs. with_lf (settings_line settings) ++ (xs ++ (agreement ++ last))) b
-    ∙ ap (λ xs. with_lf (settings_line settings) ++ (bytes_of (map client_line at.shown) ++ (xs ++ last))) c
-    ∙ ap (λ xs. with_lf (settings_line settings) ++ (bytes_of (map client_line at.shown) ++ (with_lf (agreement_line (all_agree at.shown)) ++ xs))) d
-    ∙ ap (λ xs. with_lf (settings_line settings) ++ xs)
-    (sym (flat_map-append with_lf (map client_line at.shown) (agreement_line (all_agree at.shown) ∷ closing_lines at.refused (furthest at.made))))

@@ -1,12 +1,12 @@
 -- The first event of what is still to come once all clients have made their edits.
-use Rattle.std.proofs.Common.{◌≡◌, ℕ, ◌+◌, ◌<◌, ◌≤◌, Bool, true, false, not, eqb, nat_eq, List, [], ◌∷◌, ◌++◌, Option, Some, None, ap, ◌∙◌, refl, subst, arith}
+use Rattle.std.proofs.Common.{◌≡◌, ℕ, ◌+◌, ◌≤◌, Bool, true, false, not, eqb, nat_eq, List, ◌∷◌, ◌++◌, Option, Some, None, ap, ◌∙◌, refl, subst, arith}
 use Rattle.std.specs.Option.{option_eq}
 use Rattle.std.proofs.lemmas.Bool.Decides.{nat_tests}
 use Rattle.ft_gen.specs.declared.exchange.Exchange.{Exchange}
 use Rattle.ft_gen.specs.declared.exchange.Exchange.TheVariants.{Learn, Noop, LearnNoops, Compact}
 use Rattle.ft_gen.specs.Rounds.{compaction, compacts, each, each_both, from, is_told, others, says_nothing, tickets}
 use Rattle.ft_gen.specs.Exchange.{IsExchange, compacts_from, exchange_to_come, lessons_from, noop_lessons_from, noops_from}
-use Rattle.ft_gen.proofs.Numbering.{from-more, from-none}
+use Rattle.ft_gen.proofs.Numbering.{from-more}
 
 pub lessons-first : (count round : ℕ) (o : Exchange) (i : ℕ) → o ≡ Learn i → IsExchange count o → exchange_to_come count round o ≡ is_told i ∷ lessons_from count round (i + 1)
 lessons-first count round o i e s =
@@ -47,10 +47,3 @@ keeps (Some d) i is other = kept d i is (nat_eq i d) refl other
 
 pub others-keep : (d : Option ℕ) (count i : ℕ) → i ≤ count → not (option_eq eqb d (Some i)) ≡ true → others d (from count i) ≡ i ∷ others d (from count (i + 1))
 others-keep d count i h other = ap (others d) (from-more count i h) ∙ keeps d i (from count (i + 1)) other
-
-none : (d : Option ℕ) → others d [] ≡ []
-none None = refl
-none (Some d) = refl
-
-pub others-none : (d : Option ℕ) (count i : ℕ) → count < i → others d (from count i) ≡ []
-others-none d count i h = ap (others d) (from-none count i h) ∙ none d

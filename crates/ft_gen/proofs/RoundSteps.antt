@@ -49,10 +49,6 @@ rounds-enough (suc f) (suc g) count round p false e h a b =
     ∙ ap (λ es. round_events count round p ++ es) (rounds-enough f g count (round + 1) q (nat_eq q.left 0) refl h (omega arith) (omega arith))
     ∙ sym (rounds-some g count round p some)
 
--- from the beginning of a round on, if no edit is left
-pub rounds-over : (count round : ℕ) (p : Progress) → p.left ≡ 0 → rounds_on count round p ≡ each shows (from count 1)
-rounds-over count round p none = ap (λ es. es ++ each shows (clients count)) (rounds-none p.left count round p none)
-
 exact : (left count round : ℕ) (p : Progress) → p.left ≡ suc left → 1 ≤ count → 1 ≤ p.left
     → rounds p.left count round p ≡ round_events count round p ++ rounds (after_round count round p).left count (round + 1) (after_round count round p)
 exact left count round p e h some =
