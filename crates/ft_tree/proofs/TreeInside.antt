@@ -9,19 +9,23 @@ use Rattle.ft_arena.proofs.IdLemmas.{same_refl, same_other}
 use Rattle.ft_block.specs.Leaves.{IsPlaceIn, ids, times_leaf}
 use Rattle.ft_block.proofs.CallerLemmas.{times-ids}
 use Rattle.ft_props.specs.Properties.{PropertyList, max_safe_integer}
-use Rattle.ft_tree.specs.declared.leaves.TreeLeaf.{TreeLeaf}
-use Rattle.ft_tree.specs.declared.references.Reference.{Reference}
+use Rattle.ft_leaves.specs.declared.leaves.TreeLeaf.{TreeLeaf}
+use Rattle.ft_leaves.specs.declared.references.Reference.{Reference}
 use Rattle.ft_tree.specs.declared.tree.Tree.TheInside.{Inside}
-use Rattle.ft_tree.specs.Elements.{TreeElement, new_elements}
-use Rattle.ft_tree.specs.Edits.{sweep_without, with_place}
-use Rattle.ft_tree.specs.Places.{put_place, shifted_place}
-use Rattle.ft_tree.specs.Plain.{ChangesRange, Puts, PutsLeaf, WithoutNode, fresh_leaf}
+use Rattle.ft_leaves.specs.Elements.{TreeElement, new_elements}
+use Rattle.ft_leaves.specs.Edits.{sweep_without, with_place}
+use Rattle.ft_leaves.specs.Places.{put_place, shifted_place}
+use Rattle.ft_leaves.specs.LeafChanges.{fresh_leaf}
+use Rattle.ft_leaves.specs.Plain.{ChangesRange, PutsLeaf, WithoutNode}
+use Rattle.ft_tree.specs.Inside.{Puts}
 use Rattle.ft_tree.specs.Inside.{IsSound, IsSoundIfUsable, view_of}
-use Rattle.ft_tree.specs.State.{Extends, TreeState, elements, leaf_elements, reference_at}
-use Rattle.ft_tree.specs.State.Extends.{kept, added}
-use Rattle.ft_tree.proofs.CutLeaves.{times-append}
-use Rattle.ft_tree.proofs.LeafEdits.{sweep_there, times_le}
-use Rattle.ft_tree.proofs.LeafRuns.{elements-append, elements-one, length-leaf}
+use Rattle.ft_leaves.specs.LeafLists.{Extends, elements, leaf_elements}
+use Rattle.ft_leaves.specs.References.{reference_at}
+use Rattle.ft_tree.specs.State.{TreeState}
+use Rattle.ft_leaves.specs.LeafLists.Extends.{kept, added}
+use Rattle.ft_leaves.proofs.CutLeaves.{times-append}
+use Rattle.ft_leaves.proofs.LeafEdits.{sweep_there, times_le}
+use Rattle.ft_leaves.proofs.LeafRuns.{elements-append, elements-one, length-leaf}
 
 length-put_past : {A : Type 0} (past : A → Bool) (new xs : List A) → length (put_past past new xs) ≡ length new + length xs
 length-put_past past new [] = omega arith

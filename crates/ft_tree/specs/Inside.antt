@@ -1,10 +1,17 @@
--- What a plain tree keeps. No public clause cites this module.
-use Rattle.std.specs.Prelude.{◌≡◌, ℕ, ◌≤◌, IsTrue, List, Option, None, length}
+-- What a plain tree keeps, and what an insertion makes of it. No public clause cites this module.
+use Rattle.std.specs.Prelude.{◌≡◌, ℕ, ◌+◌, ◌≤◌, Bool, IsTrue, List, Option, None, length}
 use Rattle.ft_base.specs.declared.stamps.Stamp.{Stamp}
-use Rattle.ft_block.specs.Leaves.{IsPlaceIn, times_leaf}
+use Rattle.ft_base.specs.Scan.{put}
+use Rattle.ft_block.specs.Leaves.{IsPlaceIn, ids, times_leaf}
 use Rattle.ft_props.specs.Properties.{max_safe_integer}
 use Rattle.ft_tree.specs.declared.tree.Tree.TheInside.{Inside}
-use Rattle.ft_tree.specs.State.{TreeState, elements, reference_at}
+use Rattle.ft_leaves.specs.declared.leaves.TreeLeaf.{TreeLeaf}
+use Rattle.ft_leaves.specs.Edits.{with_place}
+use Rattle.ft_leaves.specs.Elements.{TreeElement}
+use Rattle.ft_leaves.specs.LeafLists.{Extends, elements, leaf_elements}
+use Rattle.ft_leaves.specs.Places.{put_place, shifted_place}
+use Rattle.ft_leaves.specs.References.{ChangesReferences, reference_at}
+use Rattle.ft_tree.specs.State.{KeepsRest, TreeState}
 
 module _ {C U : Type 0} where
   abbrev pub view_of : Inside C U → TreeState C
@@ -31,3 +38,12 @@ module _ {C U : Type 0} where
   -- the same where the tree may still be used
   abbrev pub IsSoundIfUsable : (C → List U) → (C → Option Stamp) → Inside C U → Type 0
   IsSoundIfUsable units by a = IsTrue a.usable → IsSound units by a
+
+module _ {C U : Type 0} (units : C → List U) (by : C → Option Stamp) where
+  -- an insertion of a tree, with its references
+  pub record Puts (seen past : TreeElement U → Bool) (p : ℕ) (leaf : TreeLeaf C) (old now : TreeState C) : Type 0 where
+    pub list : elements units by now.leaves ≡ put seen past p (leaf_elements units by leaf) (elements units by old.leaves)
+    pub refs : ChangesReferences (with_place (shifted_place (put_place seen past p (elements units by old.leaves)) (length (units leaf.content)))) old.refs now.refs
+    pub nodes : Extends (ids old.leaves) (ids now.leaves)
+    pub rest : KeepsRest old now
+    pub made : now.made ≡ old.made + length (units leaf.content)

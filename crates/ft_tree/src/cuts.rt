@@ -4,19 +4,19 @@ ghost use Rattle.std.specs.Prelude.{◌≡◌, ◌+◌, ◌<◌, ◌≤◌, ◌^
 ghost use Rattle.std.specs.List.{prefix_len};
 ghost use Rattle.ft_base.specs.Scan.{place};
 ghost use Rattle.ft_props.specs.Properties.{apply};
-ghost use Rattle.ft_tree.specs.Elements.{is_pending, seen_in};
-ghost use Rattle.ft_tree.specs.State.{elements};
-ghost use Rattle.ft_tree.specs.Edits.{with_place};
-ghost use Rattle.ft_tree.specs.Plain.{CutsFirst, IsCutAt, PutsLeaf, fresh_leaf, passes};
-ghost use Rattle.ft_tree.specs.Places.{put_place, shifted_place};
+ghost use Rattle.ft_leaves.specs.Elements.{is_pending, seen_in};
+ghost use Rattle.ft_leaves.specs.LeafLists.{elements};
+ghost use Rattle.ft_leaves.specs.Edits.{with_place};
+ghost use Rattle.ft_leaves.specs.LeafChanges.{fresh_leaf};
+ghost use Rattle.ft_leaves.specs.Plain.{CutsFirst, IsCutAt, PutsLeaf, passes};
+ghost use Rattle.ft_leaves.specs.Places.{put_place, shifted_place};
 
-use crate::content::Content;
-use crate::leaves::TreeLeaf;
-use crate::references::{Reference, shifted_references};
-use crate::scans::element_count;
 use ft_arena::NodeId;
 use ft_base::{Element, OutOfMemory, Stamp, Stamps};
 use ft_block::LenView;
+use ft_leaves::references::{Reference, shifted_references};
+use ft_leaves::scans::element_count;
+use ft_leaves::{Content, TreeLeaf};
 use ft_props::{Overlay, PropSet, Props};
 use ft_refs::RefId;
 use std::alloc::Global;

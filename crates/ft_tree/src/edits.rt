@@ -2,17 +2,17 @@
 
 ghost use Rattle.std.specs.Prelude.{◌≡◌, ◌↔◌, ℕ, ◌+◌, ◌++◌, ◌∷◌, [], ◌<◌, ◌≤◌, ◌^◌, if◌then◌else◌, IfOk, IsTrue, OnOk, Some, cond, length, map, nat_eq, option_map};
 ghost use Rattle.ft_block.specs.Leaves.{IsLeafIn, IsPlaceIn, join_leaf, left_of, move_leaf, times_leaf, value_at, without_leaf};
-ghost use Rattle.ft_tree.specs.Edits.{MayJoinNext, closed_by, joined_leaf, leaf_at, moved_by, sweep_joined, sweep_without, unmarked_leaf, up_to_place, with_place};
-ghost use Rattle.ft_tree.specs.Plain.{JoinsNext, unmarked_pair};
-ghost use Rattle.ft_tree.specs.State.{elements};
+ghost use Rattle.ft_leaves.specs.Edits.{MayJoinNext, closed_by, joined_leaf, leaf_at, moved_by, sweep_joined, sweep_without, unmarked_leaf, up_to_place, with_place};
+ghost use Rattle.ft_leaves.specs.LeafChanges.{unmarked_pair};
+ghost use Rattle.ft_leaves.specs.Plain.{JoinsNext};
+ghost use Rattle.ft_leaves.specs.LeafLists.{elements};
 
-use crate::content::Content;
-use crate::leaves::TreeLeaf;
 use crate::nodes::{count_at, index_of, node_after, put_node, seen_left, take_node};
-use crate::references::{Reference, closed_references, moved_references};
 use ft_arena::NodeId;
 use ft_base::{Element, OutOfMemory};
 use ft_block::LenView;
+use ft_leaves::references::{Reference, closed_references, moved_references};
+use ft_leaves::{Content, TreeLeaf};
 use ft_props::{Overlay, Props};
 use ft_refs::RefId;
 use std::alloc::Global;

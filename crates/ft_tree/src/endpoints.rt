@@ -4,17 +4,19 @@ ghost use Rattle.std.specs.Prelude.{◌≡◌, ◌≢◌, ℕ, ◌+◌, ◌<◌,
 ghost use Rattle.ft_base.specs.Scan.{len};
 ghost use Rattle.ft_block.specs.declared.leaves.LenView.TheVariants.{Stage};
 ghost use Rattle.ft_block.specs.Leaves.{IsFromFloor};
-ghost use Rattle.ft_tree.specs.Edits.{ChangesReference, next_removal_above};
-ghost use Rattle.ft_tree.specs.Elements.{seen_in};
-ghost use Rattle.ft_tree.specs.Places.{place_at, settled_number};
-ghost use Rattle.ft_tree.specs.State.{IsReferenceIn, IsRefused, elements, place_of, reference_at, slid_reference};
+ghost use Rattle.ft_leaves.specs.Edits.{ChangesReference, next_removal_above};
+ghost use Rattle.ft_leaves.specs.Elements.{seen_in};
+ghost use Rattle.ft_leaves.specs.Places.{place_at, settled_number};
+ghost use Rattle.ft_leaves.specs.LeafLists.{elements};
+ghost use Rattle.ft_leaves.specs.References.{IsReferenceIn, place_of, reference_at, slid_reference};
+ghost use Rattle.ft_tree.specs.State.{IsRefused};
 
-use crate::content::Content;
 use crate::faults::TreeFault;
-use crate::references::{Reference, add_reference, drop_reference, reference_of, settle_in};
-use crate::scans::{next_removal, place_at, seen_count, settled_number};
 use crate::tree::Tree;
 use ft_block::LenView;
+use ft_leaves::Content;
+use ft_leaves::references::{Reference, add_reference, drop_reference, reference_of, settle_in};
+use ft_leaves::scans::{next_removal, place_at, seen_count, settled_number};
 use ft_refs::RefId;
 
 impl<C: Content> Tree<C> {

@@ -3,11 +3,12 @@
 ghost use Rattle.std.specs.Prelude.{◌≡◌, ◌↔◌, ◌+◌, ◌≤◌, ◌++◌, if◌then◌else◌, [], Some, IsTrue, IfOk, OnOk, OnErr, true, false, length, option_map};
 ghost use Rattle.ft_block.specs.Leaves.{IsLeafIn, IsPlaceIn, change_leaf, ids, join_leaf, move_leaf, value_at, without_leaf};
 ghost use Rattle.ft_props.specs.Properties.{max_safe_integer};
-ghost use Rattle.ft_tree.specs.Edits.{IsFreeOf, MayJoinNext, closed_by, joined_leaf, moved_by, sweep_joined, sweep_without, unmarked_leaf, with_place};
-ghost use Rattle.ft_tree.specs.Elements.{elements_with};
-ghost use Rattle.ft_tree.specs.State.{ChangesReferences, Extends, KeepsReferences, KeepsRest, elements};
+ghost use Rattle.ft_leaves.specs.Edits.{IsFreeOf, MayJoinNext, closed_by, joined_leaf, moved_by, sweep_joined, sweep_without, unmarked_leaf, with_place};
+ghost use Rattle.ft_leaves.specs.Elements.{elements_with};
+ghost use Rattle.ft_leaves.specs.LeafLists.{Extends, elements};
+ghost use Rattle.ft_leaves.specs.References.{ChangesReferences, KeepsReferences};
+ghost use Rattle.ft_tree.specs.State.{KeepsRest};
 
-use crate::content::Content;
 use crate::edits::{
     append, join_node, move_with_references, sweep_joined, sweep_without, take_with_references,
     unmark,
@@ -15,6 +16,7 @@ use crate::edits::{
 use crate::tree::Tree;
 use ft_arena::NodeId;
 use ft_base::{Element, OutOfMemory};
+use ft_leaves::Content;
 use ft_props::Props;
 
 impl<C: Content> Tree<C> {

@@ -4,16 +4,15 @@ ghost use Rattle.std.specs.Prelude.{◌≡◌, ℕ, ◌<◌, ◌≤◌, ◌^◌,
 ghost use Rattle.ft_arena.specs.Ids.{after, first};
 ghost use Rattle.ft_base.specs.Scan.{len};
 ghost use Rattle.ft_block.specs.Leaves.{IsLeafIn, IsPlaceIn, ids, left_of, place_by, put_leaf, times_leaf, value_at, without_leaf};
-ghost use Rattle.ft_tree.specs.Edits.{leaf_at, up_to_leaf, up_to_place};
-ghost use Rattle.ft_tree.specs.Elements.{seen_in};
-ghost use Rattle.ft_tree.specs.State.{elements, leaf_length};
+ghost use Rattle.ft_leaves.specs.Edits.{leaf_at, up_to_leaf, up_to_place};
+ghost use Rattle.ft_leaves.specs.Elements.{seen_in};
+ghost use Rattle.ft_leaves.specs.LeafLists.{elements, leaf_length};
 
-use crate::content::Content;
-use crate::leaves::TreeLeaf;
-use crate::scans::element_count;
 use ft_arena::NodeId;
 use ft_base::OutOfMemory;
 use ft_block::{Found, LenView};
+use ft_leaves::scans::element_count;
+use ft_leaves::{Content, TreeLeaf};
 
 /// The first leaf.
 pub(crate) fn first_of<C: Content>(leaves: &[(NodeId, TreeLeaf<C>)]) -> Option<NodeId>

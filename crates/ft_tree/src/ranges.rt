@@ -2,17 +2,18 @@
 
 ghost use Rattle.std.specs.Prelude.{◌≡◌, ◌+◌, ◌<◌, ◌≤◌, ◌^◌, All, IfOk, OnOk, length, map};
 ghost use Rattle.ft_props.specs.Overlay.{after_acked_changes, after_pending_changes};
-ghost use Rattle.ft_tree.specs.Elements.{IsAboveChanges, IsLowestChange, removed_stamps, seen_in, with_overlay, with_stamps};
-ghost use Rattle.ft_tree.specs.State.{elements, leaf_elements, slid_reference};
-ghost use Rattle.ft_tree.specs.Plain.{Acks, ChangesRange, IsCutOut, acked_pair, changed_where_seen, with_leaf_overlay, with_leaf_stamps};
+ghost use Rattle.ft_leaves.specs.Elements.{IsAboveChanges, IsLowestChange, removed_stamps, seen_in, with_overlay, with_stamps};
+ghost use Rattle.ft_leaves.specs.LeafLists.{elements, leaf_elements};
+ghost use Rattle.ft_leaves.specs.References.{slid_reference};
+ghost use Rattle.ft_leaves.specs.LeafChanges.{acked_pair, changed_where_seen, with_leaf_overlay, with_leaf_stamps};
+ghost use Rattle.ft_leaves.specs.Plain.{Acks, ChangesRange, IsCutOut};
 
-use crate::content::Content;
 use crate::cuts::cut_off;
-use crate::leaves::TreeLeaf;
-use crate::references::{Reference, slid_references};
 use ft_arena::NodeId;
 use ft_base::{OutOfMemory, Stamp};
 use ft_block::LenView;
+use ft_leaves::references::{Reference, slid_references};
+use ft_leaves::{Content, TreeLeaf};
 use ft_props::Changes;
 use ft_refs::RefId;
 use std::alloc::Global;

@@ -4,17 +4,16 @@
 ghost use Rattle.std.specs.Prelude.{◌≡◌, ◌≤◌, [], None, IfOk, IsTrue, map, true};
 ghost use Rattle.ft_base.specs.Scan.{len};
 ghost use Rattle.ft_block.specs.Leaves.{IsFromFloor, IsLeafIn, IsPlaceIn, left_of, place_by};
-ghost use Rattle.ft_tree.specs.Elements.{seen_in};
-ghost use Rattle.ft_tree.specs.State.{elements, leaf_length};
+ghost use Rattle.ft_leaves.specs.Elements.{seen_in};
+ghost use Rattle.ft_leaves.specs.LeafLists.{elements, leaf_length};
 
-use crate::content::Content;
-use crate::leaves::TreeLeaf;
 use crate::nodes::{find_leaf, seen_left};
-use crate::references::Reference;
-use crate::scans::{all_stamps, seen_count};
 use ft_arena::NodeId;
 use ft_base::{Element, OutOfMemory};
 use ft_block::{Found, LenView};
+use ft_leaves::references::Reference;
+use ft_leaves::scans::{all_stamps, seen_count};
+use ft_leaves::{Content, TreeLeaf};
 use ft_refs::RefId;
 use std::alloc::Global;
 use std::marker::Model;

@@ -3,14 +3,14 @@
 ghost use Rattle.std.specs.Prelude.{◌≡◌, ℕ, ◌<◌, ◌≤◌, ◌^◌, All, Some, IsTrue, length, option_map};
 ghost use Rattle.ft_arena.specs.Ids.{after, first};
 ghost use Rattle.ft_block.specs.Leaves.{IsLeafIn, IsPlaceIn, ids, times_leaf, value_at};
-ghost use Rattle.ft_tree.specs.Edits.{is_marked_by};
-ghost use Rattle.ft_tree.specs.State.{elements};
+ghost use Rattle.ft_leaves.specs.Edits.{is_marked_by};
+ghost use Rattle.ft_leaves.specs.LeafLists.{elements};
 
-use crate::content::Content;
 use crate::nodes::{first_of, hold_elements, index_of, node_after};
 use crate::tree::Tree;
 use ft_arena::NodeId;
 use ft_base::Element;
+use ft_leaves::Content;
 use ft_props::Overlay;
 
 impl<C: Content> Tree<C> {

@@ -1,6 +1,6 @@
 use Rattle.std.proofs.Common.{◌<◌, [], ◌∷◌, ◌++◌, length, sym, ◌∙◌, ap, arith}
-use Rattle.ft_tree.proofs.CutLeaves.{cuts_first, insert-head, uncons}
-use Rattle.ft_tree.proofs.LeafRuns.{here}
+use Rattle.ft_leaves.proofs.CutLeaves.{cuts_first, insert-head, uncons}
+use Rattle.ft_leaves.proofs.LeafRuns.{here}
 use Rattle.ft_tree.proofs.cuts.cut_first.Goals as goal
 
 pub returns : goal.returns

@@ -1,7 +1,7 @@
 use Rattle.std.proofs.Common.{ℕ, ◌≤◌, ◌<◌, List, length, slice_get, drop, IsSomeAnd, subst, ap, sym, ◌∙◌, arith}
-use Rattle.ft_tree.specs.declared.leaves.TreeLeaf.{TreeLeaf}
-use Rattle.ft_tree.specs.Elements.{seen_in}
-use Rattle.ft_tree.proofs.CutLeaves.{cut_between, cut_within, head_of_rest}
+use Rattle.ft_leaves.specs.declared.leaves.TreeLeaf.{TreeLeaf}
+use Rattle.ft_leaves.specs.Elements.{seen_in}
+use Rattle.ft_leaves.proofs.CutLeaves.{cut_between, cut_within, head_of_rest}
 use Rattle.ft_tree.proofs.cuts.cut_off.Goals as goal
 
 pub returns-then-offset-eq0 : goal.returns-then-offset-eq0

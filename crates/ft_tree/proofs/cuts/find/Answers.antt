@@ -1,8 +1,8 @@
 use Rattle.std.proofs.Common.{ℕ, ◌+◌, ◌-◌, ◌<◌, length, drop, ap, arith}
 use Rattle.ft_base.specs.Scan.{place}
-use Rattle.ft_tree.specs.Elements.{seen_in}
-use Rattle.ft_tree.specs.State.{elements}
-use Rattle.ft_tree.proofs.LeafRuns.{elements-drop, length-elements-take, place-inside, place-passes, there}
+use Rattle.ft_leaves.specs.Elements.{seen_in}
+use Rattle.ft_leaves.specs.LeafLists.{elements}
+use Rattle.ft_leaves.proofs.LeafRuns.{elements-drop, length-elements-take, place-inside, place-passes, there}
 use Rattle.ft_tree.proofs.cuts.find.Goals as goal
 
 pub loop-i-preserved : goal.loop-i-preserved

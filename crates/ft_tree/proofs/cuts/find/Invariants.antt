@@ -1,7 +1,7 @@
 use Rattle.std.proofs.Common.{◌≡◌, ◌+◌, length, take, drop}
 use Rattle.ft_base.specs.Scan.{place}
-use Rattle.ft_tree.specs.Elements.{seen_in}
-use Rattle.ft_tree.specs.State.{elements}
+use Rattle.ft_leaves.specs.Elements.{seen_in}
+use Rattle.ft_leaves.specs.LeafLists.{elements}
 use Rattle.ft_tree.proofs.cuts.find.Given as goal
 
 -- the place of all is as many elements on as were passed

@@ -1,7 +1,7 @@
 use Rattle.std.proofs.Common.{◌≡◌, ℕ, List, map, ap, ◌∙◌}
-use Rattle.ft_tree.specs.declared.references.Reference.{Reference}
-use Rattle.ft_tree.specs.Edits.{with_place}
-use Rattle.ft_tree.specs.Places.{shifted_place}
+use Rattle.ft_leaves.specs.declared.references.Reference.{Reference}
+use Rattle.ft_leaves.specs.Edits.{with_place}
+use Rattle.ft_leaves.specs.Places.{shifted_place}
 use Rattle.ft_tree.proofs.cuts.insert.Goals as goal
 
 shifted : ℕ → ℕ → List (ℕ × Reference) → List (ℕ × Reference)

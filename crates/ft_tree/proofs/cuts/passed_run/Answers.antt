@@ -1,8 +1,8 @@
 use Rattle.std.proofs.Common.{Bool, sym, ◌∙◌, ap}
 use Rattle.std.specs.List.{prefix_len}
-use Rattle.ft_tree.specs.State.{elements}
-use Rattle.ft_tree.specs.Plain.{passes}
-use Rattle.ft_tree.proofs.CutLeaves.{prefix_len-no_run}
+use Rattle.ft_leaves.specs.LeafLists.{elements}
+use Rattle.ft_leaves.specs.Plain.{passes}
+use Rattle.ft_leaves.proofs.CutLeaves.{prefix_len-no_run}
 use Rattle.ft_tree.proofs.cuts.passed_run.Goals as goal
 
 pub returns-else-past_pending-clause-run : goal.returns-else-past_pending-clause-run

@@ -1,9 +1,9 @@
 use Rattle.std.proofs.Common.{◌≡◌, ◌+◌, true, false, not, drop, ap, ◌∙◌, arith}
 use Rattle.std.specs.List.{prefix_len}
 use Rattle.ft_base.specs.Visibility.{is_acked}
-use Rattle.ft_tree.specs.Elements.{is_pending}
-use Rattle.ft_tree.specs.State.{elements}
-use Rattle.ft_tree.proofs.LeafRuns.{elements-drop, length-elements-take, prefix-ends, prefix-pending}
+use Rattle.ft_leaves.specs.Elements.{is_pending}
+use Rattle.ft_leaves.specs.LeafLists.{elements}
+use Rattle.ft_leaves.proofs.LeafRuns.{elements-drop, length-elements-take, prefix-ends, prefix-pending}
 use Rattle.ft_tree.proofs.cuts.pending_run.Goals as goal
 use Rattle.ft_tree.proofs.cuts.pending_run.Goals.{else-not-is_pending-via-then-not-is_pending+else-len-gt0, else-not-is_pending-via-else-not-is_pending}
 

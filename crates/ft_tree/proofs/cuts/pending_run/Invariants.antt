@@ -1,7 +1,7 @@
 use Rattle.std.proofs.Common.{◌≡◌, ◌+◌, length, take, drop}
 use Rattle.std.specs.List.{prefix_len}
-use Rattle.ft_tree.specs.Elements.{is_pending}
-use Rattle.ft_tree.specs.State.{elements}
+use Rattle.ft_leaves.specs.Elements.{is_pending}
+use Rattle.ft_leaves.specs.LeafLists.{elements}
 use Rattle.ft_tree.proofs.cuts.pending_run.Given as goal
 
 -- the run of all is as many elements on as were passed

@@ -1,10 +1,10 @@
 use Rattle.std.proofs.Common.{◌≡◌, ℕ, List, [], ◌∷◌, ◌++◌, length, take, subst, ap, ◌∙◌, arith}
 use Rattle.std.specs.List.{prefix_len}
-use Rattle.ft_tree.specs.declared.leaves.TreeLeaf.{TreeLeaf}
-use Rattle.ft_tree.specs.Elements.{seen_in}
-use Rattle.ft_tree.specs.State.{elements}
-use Rattle.ft_tree.specs.Plain.{passes}
-use Rattle.ft_tree.proofs.CutLeaves.{place_of_leaf, put_place-le, puts_leaf}
+use Rattle.ft_leaves.specs.declared.leaves.TreeLeaf.{TreeLeaf}
+use Rattle.ft_leaves.specs.Elements.{seen_in}
+use Rattle.ft_leaves.specs.LeafLists.{elements}
+use Rattle.ft_leaves.specs.Plain.{passes}
+use Rattle.ft_leaves.proofs.CutLeaves.{place_of_leaf, put_place-le, puts_leaf}
 use Rattle.ft_tree.proofs.cuts.put_leaf.Goals as goal
 
 pub element_count-place-requires : goal.element_count-place-requires

@@ -1,9 +1,9 @@
 use Rattle.std.proofs.Common.{◌≡◌, ℕ, ◌+◌, ◌<◌, true, false, List, length, refl, sym, ◌∙◌, ap, arith, length-append}
 use Rattle.std.specs.Prelude.{insert, remove}
-use Rattle.ft_tree.specs.declared.leaves.TreeLeaf.{TreeLeaf}
-use Rattle.ft_tree.specs.Edits.{MayJoin, joined_leaf}
-use Rattle.ft_tree.proofs.JoinedLeaves.{joined_there, joins_next, may_join_both, may_join_next, no_next, read_before, same_read}
-use Rattle.ft_tree.proofs.Standing.{standing_in, standing_of}
+use Rattle.ft_leaves.specs.declared.leaves.TreeLeaf.{TreeLeaf}
+use Rattle.ft_leaves.specs.Edits.{MayJoin, joined_leaf}
+use Rattle.ft_leaves.proofs.JoinedLeaves.{joined_there, joins_next, may_join_both, may_join_next, no_next, read_before, same_read}
+use Rattle.ft_leaves.proofs.Standing.{standing_in, standing_of}
 use Rattle.ft_tree.proofs.edits.join_node.Goals as goal
 
 pub returns-then-i-len-clause-answer : goal.returns-then-i-len-clause-answer

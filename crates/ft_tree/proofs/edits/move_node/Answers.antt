@@ -1,12 +1,12 @@
 use Rattle.std.proofs.Common.{ℕ, List, Option, length, refl, subst, sym, ◌∙◌, ap, arith}
 use Rattle.ft_block.specs.Leaves.{IsPlaceIn, left_of, move_leaf, put_leaf, times_leaf}
 use Rattle.ft_block.specs.declared.leaves.LenView.TheVariants.{All}
-use Rattle.ft_tree.specs.declared.leaves.TreeLeaf.{TreeLeaf}
-use Rattle.ft_tree.specs.Edits.{leaf_at, up_to_place}
-use Rattle.ft_tree.specs.Elements.{seen_in}
-use Rattle.ft_tree.specs.State.{elements}
-use Rattle.ft_tree.proofs.LeafRuns.{len-all, length-without}
-use Rattle.ft_tree.proofs.Standing.{times-without}
+use Rattle.ft_leaves.specs.declared.leaves.TreeLeaf.{TreeLeaf}
+use Rattle.ft_leaves.specs.Edits.{leaf_at, up_to_place}
+use Rattle.ft_leaves.specs.Elements.{seen_in}
+use Rattle.ft_leaves.specs.LeafLists.{elements}
+use Rattle.ft_leaves.proofs.LeafRuns.{len-all, length-without}
+use Rattle.ft_leaves.proofs.Standing.{times-without}
 use Rattle.ft_tree.proofs.edits.move_node.Goals as goal
 
 pub put_node-requires-clause-live : goal.put_node-requires-clause-live

@@ -1,6 +1,6 @@
 use Rattle.std.proofs.Common.{◌≡◌, ℕ, List, map, ap, ◌∙◌}
-use Rattle.ft_tree.specs.declared.references.Reference.{Reference}
-use Rattle.ft_tree.specs.Edits.{moved_place, with_place}
+use Rattle.ft_leaves.specs.declared.references.Reference.{Reference}
+use Rattle.ft_leaves.specs.Edits.{moved_place, with_place}
 use Rattle.ft_tree.proofs.edits.move_with_references.Goals as goal
 
 moved : ℕ → ℕ → ℕ → List (ℕ × Reference) → List (ℕ × Reference)

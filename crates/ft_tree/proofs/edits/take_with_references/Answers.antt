@@ -1,12 +1,12 @@
 use Rattle.std.proofs.Common.{◌≡◌, ℕ, List, length, map, refl, ◌∙◌, ap}
 use Rattle.ft_block.specs.Leaves.{left_of}
 use Rattle.ft_block.specs.declared.leaves.LenView.TheVariants.{All}
-use Rattle.ft_tree.specs.declared.leaves.TreeLeaf.{TreeLeaf}
-use Rattle.ft_tree.specs.declared.references.Reference.{Reference}
-use Rattle.ft_tree.specs.Edits.{closed_place, leaf_at, with_place}
-use Rattle.ft_tree.specs.Elements.{seen_in}
-use Rattle.ft_tree.specs.State.{elements}
-use Rattle.ft_tree.proofs.LeafRuns.{len-all}
+use Rattle.ft_leaves.specs.declared.leaves.TreeLeaf.{TreeLeaf}
+use Rattle.ft_leaves.specs.declared.references.Reference.{Reference}
+use Rattle.ft_leaves.specs.Edits.{closed_place, leaf_at, with_place}
+use Rattle.ft_leaves.specs.Elements.{seen_in}
+use Rattle.ft_leaves.specs.LeafLists.{elements}
+use Rattle.ft_leaves.proofs.LeafRuns.{len-all}
 use Rattle.ft_tree.proofs.edits.take_with_references.Goals as goal
 
 closed : ℕ → ℕ → List (ℕ × Reference) → List (ℕ × Reference)

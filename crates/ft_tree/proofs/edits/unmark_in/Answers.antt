@@ -1,8 +1,8 @@
 use Rattle.std.proofs.Common.{ℕ, cond, nat_eq, sym, ◌∙◌, ap, arith}
-use Rattle.ft_tree.specs.declared.leaves.TreeLeaf.{TreeLeaf}
-use Rattle.ft_tree.specs.Edits.{unmarked_leaf}
-use Rattle.ft_tree.specs.Plain.{unmarked_pair}
-use Rattle.ft_tree.proofs.Writing.{write_step}
+use Rattle.ft_leaves.specs.declared.leaves.TreeLeaf.{TreeLeaf}
+use Rattle.ft_leaves.specs.Edits.{unmarked_leaf}
+use Rattle.ft_leaves.specs.LeafChanges.{unmarked_pair}
+use Rattle.ft_leaves.proofs.Writing.{write_step}
 use Rattle.ft_tree.proofs.edits.unmark_in.Goals as goal
 
 pub loop-x-preserved : goal.loop-x-preserved

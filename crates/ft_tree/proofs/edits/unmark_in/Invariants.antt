@@ -1,5 +1,5 @@
 use Rattle.std.proofs.Common.{◌≡◌, ◌++◌, drop, map, take}
-use Rattle.ft_tree.specs.Plain.{unmarked_pair}
+use Rattle.ft_leaves.specs.LeafChanges.{unmarked_pair}
 use Rattle.ft_tree.proofs.edits.unmark_in.Given as goal
 
 -- the leaves so far are changed; the rest is as it was

@@ -1,10 +1,10 @@
 use Rattle.std.proofs.Common.{◌≡◌, ℕ, List, Some, length, option_map, refl, sym, ◌∙◌, ap}
 use Rattle.std.proofs.lemmas.Option.{slice_get_read}
 use Rattle.ft_block.specs.Leaves.{value_at}
-use Rattle.ft_tree.specs.declared.leaves.TreeLeaf.{TreeLeaf}
-use Rattle.ft_tree.specs.State.{elements}
-use Rattle.ft_tree.proofs.LeafRuns.{elements-one, length-leaf}
-use Rattle.ft_tree.proofs.Standing.{at-value}
+use Rattle.ft_leaves.specs.declared.leaves.TreeLeaf.{TreeLeaf}
+use Rattle.ft_leaves.specs.LeafLists.{elements}
+use Rattle.ft_leaves.proofs.LeafRuns.{elements-one, length-leaf}
+use Rattle.ft_leaves.proofs.Standing.{at-value}
 use Rattle.ft_tree.proofs.nodes.count_at.Goals as goal
 
 pub returns : goal.returns

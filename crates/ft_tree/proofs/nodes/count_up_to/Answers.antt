@@ -1,8 +1,8 @@
 use Rattle.std.proofs.Common.{ℕ, ◌+◌, List, length, sym, ◌∙◌, ap, arith}
-use Rattle.ft_tree.specs.declared.leaves.TreeLeaf.{TreeLeaf}
-use Rattle.ft_tree.specs.State.{elements}
-use Rattle.ft_tree.proofs.CutLeaves.{length-front}
-use Rattle.ft_tree.proofs.Standing.{standing, up_to-standing}
+use Rattle.ft_leaves.specs.declared.leaves.TreeLeaf.{TreeLeaf}
+use Rattle.ft_leaves.specs.LeafLists.{elements}
+use Rattle.ft_leaves.proofs.CutLeaves.{length-front}
+use Rattle.ft_leaves.proofs.Standing.{standing, up_to-standing}
 use Rattle.ft_tree.proofs.nodes.count_up_to.Goals as goal
 
 pub element_count-requires : goal.element_count-requires

@@ -2,9 +2,9 @@ use Rattle.std.proofs.Common.{◌≢◌, ℕ, ◌+◌, ◌-◌, ◌<◌, ◌≤�
 use Rattle.std.proofs.lemmas.Bool.{cond-false, cond-true, le-leb, lt-leb, ne_eqb}
 use Rattle.std.proofs.lemmas.List.{drop_more}
 use Rattle.ft_block.specs.Leaves.{place_from}
-use Rattle.ft_tree.specs.declared.leaves.TreeLeaf.{TreeLeaf}
-use Rattle.ft_tree.specs.State.{leaf_length}
-use Rattle.ft_tree.proofs.LeafRuns.{leaf-length}
+use Rattle.ft_leaves.specs.declared.leaves.TreeLeaf.{TreeLeaf}
+use Rattle.ft_leaves.specs.LeafLists.{leaf_length}
+use Rattle.ft_leaves.proofs.LeafRuns.{leaf-length}
 use Rattle.ft_tree.proofs.nodes.find_leaf.Goals as goal
 
 pub loop-x-init : goal.loop-x-init

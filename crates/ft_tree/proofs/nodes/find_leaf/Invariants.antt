@@ -1,6 +1,6 @@
 use Rattle.std.proofs.Common.{◌≡◌, drop}
 use Rattle.ft_block.specs.Leaves.{place_by, place_from}
-use Rattle.ft_tree.specs.State.{leaf_length}
+use Rattle.ft_leaves.specs.LeafLists.{leaf_length}
 use Rattle.ft_tree.proofs.nodes.find_leaf.Given as goal
 
 -- what is sought in the rest is what is sought in all

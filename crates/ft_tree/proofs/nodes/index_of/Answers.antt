@@ -3,8 +3,8 @@ use Rattle.std.proofs.lemmas.Bool.{cond-true, eq-eqb}
 use Rattle.std.proofs.lemmas.List.{drop_more}
 use Rattle.std.proofs.lemmas.Option.{slice_get_read}
 use Rattle.ft_block.specs.Leaves.{value_at}
-use Rattle.ft_tree.specs.declared.leaves.TreeLeaf.{TreeLeaf}
-use Rattle.ft_tree.proofs.Standing.{goes_past}
+use Rattle.ft_leaves.specs.declared.leaves.TreeLeaf.{TreeLeaf}
+use Rattle.ft_leaves.proofs.Standing.{goes_past}
 use Rattle.ft_tree.proofs.nodes.index_of.Goals as goal
 
 pub returns-then-x-id-clause-value : goal.returns-then-x-id-clause-value

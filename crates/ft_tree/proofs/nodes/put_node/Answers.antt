@@ -1,9 +1,9 @@
 use Rattle.std.proofs.Common.{ℕ, List, Option, length, sym, ◌∙◌, ap}
 use Rattle.ft_block.specs.Leaves.{put_leaf}
-use Rattle.ft_tree.specs.declared.leaves.TreeLeaf.{TreeLeaf}
-use Rattle.ft_tree.specs.Edits.{up_to_leaf, up_to_place}
-use Rattle.ft_tree.specs.State.{elements}
-use Rattle.ft_tree.proofs.Standing.{put-standing, standing_in}
+use Rattle.ft_leaves.specs.declared.leaves.TreeLeaf.{TreeLeaf}
+use Rattle.ft_leaves.specs.Edits.{up_to_leaf, up_to_place}
+use Rattle.ft_leaves.specs.LeafLists.{elements}
+use Rattle.ft_leaves.proofs.Standing.{put-standing, standing_in}
 use Rattle.ft_tree.proofs.nodes.put_node.Goals as goal
 
 pub returns-clause-leaves : goal.returns-clause-leaves

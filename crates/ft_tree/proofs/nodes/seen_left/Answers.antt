@@ -1,12 +1,12 @@
 use Rattle.std.proofs.Common.{◌≡◌, ◌≢◌, ℕ, ◌+◌, List, drop, sym, ◌∙◌, ap, arith}
 use Rattle.ft_base.specs.Scan.{len}
 use Rattle.ft_block.specs.Leaves.{left_of}
-use Rattle.ft_tree.specs.declared.leaves.TreeLeaf.{TreeLeaf}
-use Rattle.ft_tree.specs.Elements.{seen_in}
-use Rattle.ft_tree.specs.State.{elements, leaf_elements}
-use Rattle.ft_tree.proofs.LeafRuns.{length-left_of}
-use Rattle.ft_tree.proofs.Runs.{len-append, len-le-length}
-use Rattle.ft_tree.proofs.Standing.{left-found, left-past}
+use Rattle.ft_leaves.specs.declared.leaves.TreeLeaf.{TreeLeaf}
+use Rattle.ft_leaves.specs.Elements.{seen_in}
+use Rattle.ft_leaves.specs.LeafLists.{elements, leaf_elements}
+use Rattle.ft_leaves.proofs.LeafRuns.{length-left_of}
+use Rattle.ft_leaves.proofs.Runs.{len-append, len-le-length}
+use Rattle.ft_leaves.proofs.Standing.{left-found, left-past}
 use Rattle.ft_tree.proofs.nodes.seen_left.Goals as goal
 
 pub returns-then-x-id : goal.returns-then-x-id

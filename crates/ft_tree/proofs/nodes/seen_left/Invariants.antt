@@ -1,8 +1,8 @@
 use Rattle.std.proofs.Common.{◌≡◌, ◌+◌, drop}
 use Rattle.ft_base.specs.Scan.{len}
 use Rattle.ft_block.specs.Leaves.{left_of}
-use Rattle.ft_tree.specs.Elements.{seen_in}
-use Rattle.ft_tree.specs.State.{elements}
+use Rattle.ft_leaves.specs.Elements.{seen_in}
+use Rattle.ft_leaves.specs.LeafLists.{elements}
 use Rattle.ft_tree.proofs.nodes.seen_left.Given as goal
 
 -- what is counted and what the rest has left of the leaf are all

@@ -1,5 +1,5 @@
 use Rattle.std.proofs.Common.{sym, ◌∙◌}
-use Rattle.ft_tree.proofs.Standing.{standing_in, without-standing}
+use Rattle.ft_leaves.proofs.Standing.{standing_in, without-standing}
 use Rattle.ft_tree.proofs.nodes.take_node.Goals as goal
 
 pub returns-clause-rest : goal.returns-clause-rest

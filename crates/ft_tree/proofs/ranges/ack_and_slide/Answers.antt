@@ -1,9 +1,9 @@
 use Rattle.std.proofs.Common.{ℕ, List, length, ap, arith}
 use Rattle.std.proofs.lemmas.List.{length-map}
-use Rattle.ft_tree.specs.declared.leaves.TreeLeaf.{TreeLeaf}
-use Rattle.ft_tree.specs.Elements.{IsLowestChange, TreeElement, acked_element}
-use Rattle.ft_tree.specs.State.{elements}
-use Rattle.ft_tree.proofs.RangeLeaves.{acks, each_leaf}
+use Rattle.ft_leaves.specs.declared.leaves.TreeLeaf.{TreeLeaf}
+use Rattle.ft_leaves.specs.Elements.{IsLowestChange, TreeElement, acked_element}
+use Rattle.ft_leaves.specs.LeafLists.{elements}
+use Rattle.ft_leaves.proofs.RangeLeaves.{acks, each_leaf}
 use Rattle.ft_tree.proofs.ranges.ack_and_slide.Goals as goal
 
 pub slid_references-requires : goal.slid_references-requires

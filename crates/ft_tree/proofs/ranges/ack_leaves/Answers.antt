@@ -1,11 +1,11 @@
 use Rattle.std.proofs.Common.{ℕ, List, All, get_or, subst, sym, ◌∙◌, ap, arith}
 use Rattle.std.proofs.lemmas.List.Elements.{All-get_or}
-use Rattle.ft_tree.specs.declared.leaves.TreeLeaf.{TreeLeaf}
-use Rattle.ft_tree.specs.Elements.{IsLowestChange}
-use Rattle.ft_tree.specs.State.{leaf_elements}
-use Rattle.ft_tree.specs.Plain.{acked_leaf, acked_pair}
-use Rattle.ft_tree.proofs.RangeLeaves.{read_rest}
-use Rattle.ft_tree.proofs.Writing.{write_step}
+use Rattle.ft_leaves.specs.declared.leaves.TreeLeaf.{TreeLeaf}
+use Rattle.ft_leaves.specs.Elements.{IsLowestChange}
+use Rattle.ft_leaves.specs.LeafLists.{leaf_elements}
+use Rattle.ft_leaves.specs.LeafChanges.{acked_leaf, acked_pair}
+use Rattle.ft_leaves.proofs.RangeLeaves.{read_rest}
+use Rattle.ft_leaves.proofs.Writing.{write_step}
 use Rattle.ft_tree.proofs.ranges.ack_leaves.Goals as goal
 
 pub ack-requires : goal.ack-requires

@@ -1,5 +1,5 @@
 use Rattle.std.proofs.Common.{◌≡◌, ◌++◌, drop, take, map}
-use Rattle.ft_tree.specs.Plain.{acked_pair}
+use Rattle.ft_leaves.specs.LeafChanges.{acked_pair}
 use Rattle.ft_tree.proofs.ranges.ack_leaves.Given as goal
 
 -- the leaves so far are acknowledged; the rest is as it was

@@ -1,6 +1,6 @@
 use Rattle.std.proofs.Common.{◌+◌}
-use Rattle.ft_tree.specs.Elements.{seen_in}
-use Rattle.ft_tree.proofs.RangeLeaves.{cuts_out}
+use Rattle.ft_leaves.specs.Elements.{seen_in}
+use Rattle.ft_leaves.proofs.RangeLeaves.{cuts_out}
 use Rattle.ft_tree.proofs.ranges.cut_out.Goals as goal
 
 pub returns : goal.returns

@@ -1,9 +1,9 @@
 use Rattle.std.proofs.Common.{ℕ, ◌+◌, List, ◌++◌, ◌∙◌, ap}
 use Rattle.ft_props.specs.Overlay.{after_pending_changes}
-use Rattle.ft_tree.specs.declared.leaves.TreeLeaf.{TreeLeaf}
-use Rattle.ft_tree.specs.Elements.{IsAboveChanges, TreeElement, seen_in, with_overlay}
-use Rattle.ft_tree.specs.Plain.{with_leaf_overlay}
-use Rattle.ft_tree.proofs.RangeLeaves.{between_all, changes_range, each_leaf, leaf-with_overlay}
+use Rattle.ft_leaves.specs.declared.leaves.TreeLeaf.{TreeLeaf}
+use Rattle.ft_leaves.specs.Elements.{IsAboveChanges, TreeElement, seen_in, with_overlay}
+use Rattle.ft_leaves.specs.LeafChanges.{with_leaf_overlay}
+use Rattle.ft_leaves.proofs.RangeLeaves.{between_all, changes_range, each_leaf, leaf-with_overlay}
 use Rattle.ft_tree.proofs.ranges.push_range.Goals as goal
 
 pub returns-clause-range : goal.returns-clause-range

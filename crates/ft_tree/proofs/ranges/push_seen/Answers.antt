@@ -1,12 +1,12 @@
 use Rattle.std.proofs.Common.{ℕ, sym, ◌∙◌, ap, arith, List, All, get_or, subst}
 use Rattle.ft_props.specs.Overlay.{after_pending_changes}
-use Rattle.ft_tree.specs.declared.leaves.TreeLeaf.{TreeLeaf}
-use Rattle.ft_tree.specs.Plain.{changed_in, changed_where_seen, with_leaf_overlay}
+use Rattle.ft_leaves.specs.declared.leaves.TreeLeaf.{TreeLeaf}
+use Rattle.ft_leaves.specs.LeafChanges.{changed_in, changed_where_seen, with_leaf_overlay}
 use Rattle.std.proofs.lemmas.List.Elements.{All-get_or}
-use Rattle.ft_tree.specs.Elements.{IsAboveChanges}
-use Rattle.ft_tree.specs.State.{leaf_elements}
-use Rattle.ft_tree.proofs.RangeLeaves.{read_rest}
-use Rattle.ft_tree.proofs.Writing.{write_step}
+use Rattle.ft_leaves.specs.Elements.{IsAboveChanges}
+use Rattle.ft_leaves.specs.LeafLists.{leaf_elements}
+use Rattle.ft_leaves.proofs.RangeLeaves.{read_rest}
+use Rattle.ft_leaves.proofs.Writing.{write_step}
 use Rattle.ft_tree.proofs.ranges.push_seen.Goals as goal
 
 pub loop-x-preserved : goal.loop-x-preserved

@@ -1,8 +1,8 @@
 use Rattle.std.proofs.Common.{ℕ, ◌+◌, List, ◌++◌, ◌∙◌, ap}
-use Rattle.ft_tree.specs.declared.leaves.TreeLeaf.{TreeLeaf}
-use Rattle.ft_tree.specs.Elements.{removed_stamps, with_stamps}
-use Rattle.ft_tree.specs.Plain.{with_leaf_stamps}
-use Rattle.ft_tree.proofs.RangeLeaves.{changes_range, leaf-with_stamps}
+use Rattle.ft_leaves.specs.declared.leaves.TreeLeaf.{TreeLeaf}
+use Rattle.ft_leaves.specs.Elements.{removed_stamps, with_stamps}
+use Rattle.ft_leaves.specs.LeafChanges.{with_leaf_stamps}
+use Rattle.ft_leaves.proofs.RangeLeaves.{changes_range, leaf-with_stamps}
 use Rattle.ft_tree.proofs.ranges.remove.Goals as goal
 
 pub returns-clause-range : goal.returns-clause-range

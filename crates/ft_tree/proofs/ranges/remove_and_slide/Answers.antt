@@ -1,7 +1,7 @@
 use Rattle.std.proofs.Common.{ℕ, List, length, ap, arith}
-use Rattle.ft_tree.specs.declared.leaves.TreeLeaf.{TreeLeaf}
-use Rattle.ft_tree.specs.Elements.{removed_stamps, seen_in, with_stamps}
-use Rattle.ft_tree.specs.State.{elements}
+use Rattle.ft_leaves.specs.declared.leaves.TreeLeaf.{TreeLeaf}
+use Rattle.ft_leaves.specs.Elements.{removed_stamps, seen_in, with_stamps}
+use Rattle.ft_leaves.specs.LeafLists.{elements}
 use Rattle.ft_tree.proofs.TreeInside.{length-change_range}
 use Rattle.ft_tree.proofs.ranges.remove_and_slide.Goals as goal
 

@@ -1,8 +1,8 @@
 use Rattle.std.proofs.Common.{ℕ, sym, ◌∙◌, ap, arith}
-use Rattle.ft_tree.specs.Elements.{removed_stamps}
-use Rattle.ft_tree.specs.declared.leaves.TreeLeaf.{TreeLeaf}
-use Rattle.ft_tree.specs.Plain.{changed_in, changed_where_seen, with_leaf_stamps}
-use Rattle.ft_tree.proofs.Writing.{write_step}
+use Rattle.ft_leaves.specs.Elements.{removed_stamps}
+use Rattle.ft_leaves.specs.declared.leaves.TreeLeaf.{TreeLeaf}
+use Rattle.ft_leaves.specs.LeafChanges.{changed_in, changed_where_seen, with_leaf_stamps}
+use Rattle.ft_leaves.proofs.Writing.{write_step}
 use Rattle.ft_tree.proofs.ranges.remove_seen.Goals as goal
 
 pub loop-x-preserved : goal.loop-x-preserved

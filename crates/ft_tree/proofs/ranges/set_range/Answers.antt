@@ -1,9 +1,9 @@
 use Rattle.std.proofs.Common.{ℕ, ◌+◌, List, ◌++◌, ◌∙◌, ap}
 use Rattle.ft_props.specs.Overlay.{after_acked_changes}
-use Rattle.ft_tree.specs.declared.leaves.TreeLeaf.{TreeLeaf}
-use Rattle.ft_tree.specs.Elements.{with_overlay}
-use Rattle.ft_tree.specs.Plain.{with_leaf_overlay}
-use Rattle.ft_tree.proofs.RangeLeaves.{changes_range, leaf-with_overlay}
+use Rattle.ft_leaves.specs.declared.leaves.TreeLeaf.{TreeLeaf}
+use Rattle.ft_leaves.specs.Elements.{with_overlay}
+use Rattle.ft_leaves.specs.LeafChanges.{with_leaf_overlay}
+use Rattle.ft_leaves.proofs.RangeLeaves.{changes_range, leaf-with_overlay}
 use Rattle.ft_tree.proofs.ranges.set_range.Goals as goal
 
 pub returns-clause-range : goal.returns-clause-range

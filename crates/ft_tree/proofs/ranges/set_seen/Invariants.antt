@@ -1,6 +1,6 @@
 use Rattle.std.proofs.Common.{◌≡◌, ◌++◌, drop, take, map}
 use Rattle.ft_props.specs.Overlay.{after_acked_changes}
-use Rattle.ft_tree.specs.Plain.{changed_where_seen, with_leaf_overlay}
+use Rattle.ft_leaves.specs.LeafChanges.{changed_where_seen, with_leaf_overlay}
 use Rattle.ft_tree.proofs.ranges.set_seen.Given as goal
 
 -- the leaves so far are changed; the rest is as it was

@@ -1,9 +1,11 @@
 use Rattle.std.proofs.Common.{All, option_map, length, refl, subst, sym, ◌∙◌, ap}
 use Rattle.std.proofs.lemmas.List.{length-map}
-use Rattle.ft_tree.specs.declared.references.Reference.{Reference}
+use Rattle.ft_leaves.specs.declared.references.Reference.{Reference}
 use Rattle.ft_tree.specs.declared.tree.Tree.TheInside.{Inside}
-use Rattle.ft_tree.specs.Elements.{IsLowestChange, acked_element}
-use Rattle.ft_tree.specs.State.{TreeState, elements, reference_at, slid_reference}
+use Rattle.ft_leaves.specs.Elements.{IsLowestChange, acked_element}
+use Rattle.ft_leaves.specs.LeafLists.{elements}
+use Rattle.ft_leaves.specs.References.{reference_at, slid_reference}
+use Rattle.ft_tree.specs.State.{TreeState}
 use Rattle.ft_tree.proofs.TreeInside.{reference_at-map, same_sound}
 use Rattle.ft_tree.proofs.tree.Tree.ack.Goals as goal
 

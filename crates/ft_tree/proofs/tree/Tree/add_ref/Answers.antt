@@ -1,9 +1,10 @@
 use Rattle.std.proofs.Common.{◌≢◌, ℕ, List, Option, Some, false, sym, ◌∙◌, ap, arith}
-use Rattle.ft_tree.specs.declared.references.Reference.{Reference}
-use Rattle.ft_tree.specs.declared.leaves.TreeLeaf.{TreeLeaf}
-use Rattle.ft_tree.specs.Elements.{seen_in}
-use Rattle.ft_tree.specs.Places.{place_at}
-use Rattle.ft_tree.specs.State.{elements, reference_at}
+use Rattle.ft_leaves.specs.declared.references.Reference.{Reference}
+use Rattle.ft_leaves.specs.declared.leaves.TreeLeaf.{TreeLeaf}
+use Rattle.ft_leaves.specs.Elements.{seen_in}
+use Rattle.ft_leaves.specs.Places.{place_at}
+use Rattle.ft_leaves.specs.LeafLists.{elements}
+use Rattle.ft_leaves.specs.References.{reference_at}
 use Rattle.ft_tree.proofs.TreeInside.{in_sound, reference_at-new, reference_at-others}
 use Rattle.ft_tree.proofs.tree.Tree.add_ref.Goals as goal
 

@@ -2,8 +2,9 @@ use Rattle.std.proofs.Common.{All, refl, subst, sym}
 use Rattle.ft_block.specs.Leaves.{last_stage}
 use Rattle.ft_props.specs.Overlay.{after_pending_changes}
 use Rattle.ft_tree.specs.declared.tree.Tree.TheInside.{Inside}
-use Rattle.ft_tree.specs.Elements.{IsAboveChanges, seen_in, with_overlay}
-use Rattle.ft_tree.specs.State.{TreeState, elements}
+use Rattle.ft_leaves.specs.Elements.{IsAboveChanges, seen_in, with_overlay}
+use Rattle.ft_leaves.specs.LeafLists.{elements}
+use Rattle.ft_tree.specs.State.{TreeState}
 use Rattle.ft_tree.proofs.TreeInside.{range_sound}
 use Rattle.ft_tree.proofs.tree.Tree.annotate_local.Goals as goal
 

@@ -2,7 +2,7 @@ use Rattle.std.proofs.Common.{refl}
 use Rattle.ft_block.specs.declared.leaves.LenView.TheVariants.{At}
 use Rattle.ft_props.specs.Overlay.{after_acked_changes}
 use Rattle.ft_tree.specs.declared.tree.Tree.TheInside.{Inside}
-use Rattle.ft_tree.specs.Elements.{seen_in, with_overlay}
+use Rattle.ft_leaves.specs.Elements.{seen_in, with_overlay}
 use Rattle.ft_tree.proofs.TreeInside.{range_sound}
 use Rattle.ft_tree.proofs.tree.Tree.annotate_remote.Goals as goal
 

@@ -1,10 +1,11 @@
 use Rattle.std.proofs.Common.{ℕ, ◌+◌, [], ◌∷◌, ◌++◌, append-nil, refl, subst, sym, ◌∙◌, ap, arith}
 use Rattle.ft_block.specs.Leaves.{ids}
-use Rattle.ft_tree.specs.declared.leaves.TreeLeaf.{TreeLeaf}
+use Rattle.ft_leaves.specs.declared.leaves.TreeLeaf.{TreeLeaf}
 use Rattle.ft_tree.specs.declared.tree.Tree.TheInside.{Inside}
-use Rattle.ft_tree.specs.State.{TreeState, Extends, elements, leaf_elements}
-use Rattle.ft_tree.proofs.CutLeaves.{extends_more, extends_same, ids-append}
-use Rattle.ft_tree.proofs.LeafRuns.{elements-append, elements-one}
+use Rattle.ft_leaves.specs.LeafLists.{Extends, elements, leaf_elements}
+use Rattle.ft_tree.specs.State.{TreeState}
+use Rattle.ft_leaves.proofs.CutLeaves.{extends_more, extends_same, ids-append}
+use Rattle.ft_leaves.proofs.LeafRuns.{elements-append, elements-one}
 use Rattle.ft_tree.proofs.TreeInside.{append_sound}
 use Rattle.ft_tree.proofs.tree.Tree.append.Goals as goal
 

@@ -1,7 +1,8 @@
 use Rattle.std.proofs.Common.{cond, nat_eq, None, option_and_then, ◌∙◌, ap}
-use Rattle.ft_tree.specs.declared.references.Reference.{Reference}
-use Rattle.ft_tree.specs.State.{TreeState, reference_at}
-use Rattle.ft_tree.proofs.ReferenceLists.{none_ended, reference_at-ended}
+use Rattle.ft_leaves.specs.declared.references.Reference.{Reference}
+use Rattle.ft_leaves.specs.References.{reference_at}
+use Rattle.ft_tree.specs.State.{TreeState}
+use Rattle.ft_leaves.proofs.ReferenceLists.{none_ended, reference_at-ended}
 use Rattle.ft_tree.proofs.TreeInside.{in_sound}
 use Rattle.ft_tree.proofs.tree.Tree.drop_ref.Goals as goal
 

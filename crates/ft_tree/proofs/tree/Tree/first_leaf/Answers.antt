@@ -1,5 +1,5 @@
 use Rattle.std.proofs.Common.{length, ap, arith}
-use Rattle.ft_tree.specs.State.{elements}
+use Rattle.ft_leaves.specs.LeafLists.{elements}
 use Rattle.ft_tree.proofs.TreeInside.{in_sound}
 use Rattle.ft_tree.proofs.tree.Tree.first_leaf.Goals as goal
 

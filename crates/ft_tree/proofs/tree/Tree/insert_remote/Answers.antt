@@ -4,8 +4,8 @@ use Rattle.ft_base.specs.declared.stamps.Stamp.TheVariants.{Acked}
 use Rattle.ft_base.specs.Scan.{put}
 use Rattle.ft_block.specs.declared.leaves.LenView.TheVariants.{At}
 use Rattle.ft_props.specs.Properties.{apply}
-use Rattle.ft_tree.specs.Elements.{is_pending, seen_in}
-use Rattle.ft_tree.specs.State.{elements}
+use Rattle.ft_leaves.specs.Elements.{is_pending, seen_in}
+use Rattle.ft_leaves.specs.LeafLists.{elements}
 use Rattle.ft_tree.proofs.TreeInside.{fresh_elements}
 use Rattle.ft_tree.proofs.tree.Tree.insert_remote.Goals as goal
 

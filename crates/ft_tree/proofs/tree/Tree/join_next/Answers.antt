@@ -1,7 +1,7 @@
 use Rattle.std.proofs.Common.{◌≡◌, ℕ, true, List, refl, ◌∙◌, ap}
-use Rattle.ft_tree.specs.declared.leaves.TreeLeaf.{TreeLeaf}
+use Rattle.ft_leaves.specs.declared.leaves.TreeLeaf.{TreeLeaf}
 use Rattle.ft_tree.specs.declared.tree.Tree.TheInside.{Inside}
-use Rattle.ft_tree.specs.Edits.{sweep_behind, sweep_joined}
+use Rattle.ft_leaves.specs.Edits.{sweep_behind, sweep_joined}
 use Rattle.ft_tree.proofs.TreeInside.{without_sound}
 use Rattle.ft_tree.proofs.tree.Tree.join_next.Goals as goal
 

@@ -1,9 +1,10 @@
 use Rattle.std.proofs.Common.{ℕ, ◌+◌, [], refl, ap, arith}
 use Rattle.ft_props.specs.Properties.{apply}
 use Rattle.ft_tree.specs.declared.tree.Tree.TheInside.{Inside}
-use Rattle.ft_tree.specs.Elements.{seen_in}
+use Rattle.ft_leaves.specs.Elements.{seen_in}
 use Rattle.ft_tree.specs.Inside.{view_of}
-use Rattle.ft_tree.specs.Plain.{fresh_leaf, passes}
+use Rattle.ft_leaves.specs.LeafChanges.{fresh_leaf}
+use Rattle.ft_leaves.specs.Plain.{passes}
 use Rattle.ft_tree.proofs.TreeInside.{put_seen, put_sound}
 use Rattle.ft_tree.proofs.tree.Tree.put.Goals as goal
 

@@ -2,7 +2,7 @@ use Rattle.std.proofs.Common.{refl}
 use Rattle.ft_base.specs.declared.stamps.Stamp.TheVariants.{Local}
 use Rattle.ft_block.specs.Leaves.{last_stage}
 use Rattle.ft_tree.specs.declared.tree.Tree.TheInside.{Inside}
-use Rattle.ft_tree.specs.Elements.{removed_stamps, seen_in, with_stamps}
+use Rattle.ft_leaves.specs.Elements.{removed_stamps, seen_in, with_stamps}
 use Rattle.ft_tree.proofs.TreeInside.{range_sound}
 use Rattle.ft_tree.proofs.tree.Tree.remove_local.Goals as goal
 

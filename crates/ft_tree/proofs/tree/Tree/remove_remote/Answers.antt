@@ -1,10 +1,11 @@
 use Rattle.std.proofs.Common.{option_map, refl, ◌∙◌, ap}
 use Rattle.ft_base.specs.declared.stamps.Stamp.TheVariants.{Acked}
 use Rattle.ft_block.specs.declared.leaves.LenView.TheVariants.{At}
-use Rattle.ft_tree.specs.declared.references.Reference.{Reference}
+use Rattle.ft_leaves.specs.declared.references.Reference.{Reference}
 use Rattle.ft_tree.specs.declared.tree.Tree.TheInside.{Inside}
-use Rattle.ft_tree.specs.Elements.{removed_stamps, seen_in, with_stamps}
-use Rattle.ft_tree.specs.State.{elements, reference_at, slid_reference}
+use Rattle.ft_leaves.specs.Elements.{removed_stamps, seen_in, with_stamps}
+use Rattle.ft_leaves.specs.LeafLists.{elements}
+use Rattle.ft_leaves.specs.References.{reference_at, slid_reference}
 use Rattle.ft_tree.proofs.TreeInside.{range_sound, reference_at-map}
 use Rattle.ft_tree.proofs.tree.Tree.remove_remote.Goals as goal
 

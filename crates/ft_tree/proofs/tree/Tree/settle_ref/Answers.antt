@@ -1,8 +1,10 @@
 use Rattle.std.proofs.Common.{ℕ, true, cond, nat_eq, List, Some, option_and_then, ◌∙◌, ap}
-use Rattle.ft_tree.specs.declared.references.Reference.{Reference}
-use Rattle.ft_tree.specs.declared.leaves.TreeLeaf.{TreeLeaf}
-use Rattle.ft_tree.specs.State.{TreeState, elements, reference_at, slid_reference}
-use Rattle.ft_tree.proofs.ReferenceLists.{none_changed, reference_at-changed}
+use Rattle.ft_leaves.specs.declared.references.Reference.{Reference}
+use Rattle.ft_leaves.specs.declared.leaves.TreeLeaf.{TreeLeaf}
+use Rattle.ft_leaves.specs.LeafLists.{elements}
+use Rattle.ft_leaves.specs.References.{reference_at, slid_reference}
+use Rattle.ft_tree.specs.State.{TreeState}
+use Rattle.ft_leaves.proofs.ReferenceLists.{none_changed, reference_at-changed}
 use Rattle.ft_tree.proofs.TreeInside.{in_sound}
 use Rattle.ft_tree.proofs.tree.Tree.settle_ref.Goals as goal
 

@@ -1,13 +1,14 @@
 use Rattle.std.proofs.Common.{ℕ, List, option_map, subst, refl, sym, ◌∙◌, ap}
 use Rattle.ft_block.specs.Leaves.{IsLeafIn}
-use Rattle.ft_tree.specs.declared.leaves.TreeLeaf.{TreeLeaf}
-use Rattle.ft_tree.specs.declared.references.Reference.{Reference}
+use Rattle.ft_leaves.specs.declared.leaves.TreeLeaf.{TreeLeaf}
+use Rattle.ft_leaves.specs.declared.references.Reference.{Reference}
 use Rattle.ft_tree.specs.declared.tree.Tree.TheInside.{Inside}
-use Rattle.ft_tree.specs.Edits.{closed_by, sweep_without, with_place}
-use Rattle.ft_tree.specs.Plain.{WithoutNode}
-use Rattle.ft_tree.specs.State.{TreeState, reference_at}
-use Rattle.ft_tree.proofs.LeafEdits.{without_node}
-use Rattle.ft_tree.proofs.Standing.{live_value}
+use Rattle.ft_leaves.specs.Edits.{closed_by, sweep_without, with_place}
+use Rattle.ft_leaves.specs.Plain.{WithoutNode}
+use Rattle.ft_leaves.specs.References.{reference_at}
+use Rattle.ft_tree.specs.State.{TreeState}
+use Rattle.ft_leaves.proofs.LeafEdits.{without_node}
+use Rattle.ft_leaves.proofs.Standing.{live_value}
 use Rattle.ft_tree.proofs.TreeInside.{in_sound, reference_at-map, without_sound}
 use Rattle.ft_tree.proofs.tree.Tree.take_leaf.Goals as goal
 

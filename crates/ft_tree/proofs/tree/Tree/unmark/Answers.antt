@@ -1,11 +1,12 @@
 use Rattle.std.proofs.Common.{ℕ, List, length, refl, sym, ◌∙◌, ap}
 use Rattle.ft_block.specs.Leaves.{change_leaf, times_leaf}
-use Rattle.ft_tree.specs.declared.leaves.TreeLeaf.{TreeLeaf}
+use Rattle.ft_leaves.specs.declared.leaves.TreeLeaf.{TreeLeaf}
 use Rattle.ft_tree.specs.declared.tree.Tree.TheInside.{Inside}
-use Rattle.ft_tree.specs.Edits.{unmarked_leaf}
-use Rattle.ft_tree.specs.State.{TreeState, elements}
-use Rattle.ft_tree.proofs.Standing.{change-map}
-use Rattle.ft_tree.proofs.LeafEdits.{elements-unmarked, times-unmarked}
+use Rattle.ft_leaves.specs.Edits.{unmarked_leaf}
+use Rattle.ft_leaves.specs.LeafLists.{elements}
+use Rattle.ft_tree.specs.State.{TreeState}
+use Rattle.ft_leaves.proofs.Standing.{change-map}
+use Rattle.ft_leaves.proofs.LeafEdits.{elements-unmarked, times-unmarked}
 use Rattle.ft_tree.proofs.TreeInside.{same_sound}
 use Rattle.ft_tree.proofs.tree.Tree.unmark.Goals as goal
 

@@ -1,0 +1,14 @@
+pub mod Runs
+pub mod LeafRuns
+pub mod CutLeaves
+pub mod RangeSplits
+pub mod RangeLeaves
+pub mod Settling
+pub mod LeastStages
+pub mod Standing
+pub mod LeafEdits
+pub mod JoinedLeaves
+pub mod ReferenceLists
+pub mod Writing
+pub mod Numbered
+pub mod TextCuts

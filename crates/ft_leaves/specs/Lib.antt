@@ -1,0 +1,12 @@
+pub mod Elements
+pub mod LeafLists
+pub mod Places
+pub mod References
+pub mod Edits
+pub mod LeafChanges
+pub mod Settling
+pub mod Plain
+pub mod TextRuns
+pub mod TextLeaves
+pub mod TextUnits
+pub mod TextLaws

@@ -1,0 +1,18 @@
+//! The leaves of the merge tree: what a leaf holds, and plain lists of leaves and references.
+//!
+//! A call that can't answer `OutOfMemory` takes no memory.
+#![tactic(auto)]
+
+pub mod content;
+pub mod leaves;
+pub mod references;
+pub mod scans;
+mod stamps;
+pub mod text;
+pub mod text_runs;
+
+pub use content::Content;
+pub use leaves::TreeLeaf;
+pub use references::Reference;
+pub use text::{TextContent, TextPiece, TextUnit};
+pub use text_runs::{MAX_RUN, TextRun};
