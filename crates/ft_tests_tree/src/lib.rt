@@ -1,11 +1,15 @@
-//! Tests of what a merge tree stands on: each call once where memory is ample, and trees of ten thousand
-//! leaves beside a plain list.
+//! Tests of the merge tree and of what it stands on: each call once where memory is ample, and trees of ten
+//! thousand leaves beside a plain list.
 #![tactic(auto)]
 
 #[cfg(test)]
 mod arenas;
 #[cfg(test)]
+mod followers;
+#[cfg(test)]
 mod large;
+#[cfg(test)]
+mod merges;
 #[cfg(test)]
 mod references;
 #[cfg(test)]
@@ -14,3 +18,7 @@ mod runs;
 mod small;
 #[cfg(test)]
 mod tables;
+#[cfg(test)]
+mod texts;
+#[cfg(test)]
+mod walks;
