@@ -1,5 +1,6 @@
 pub mod Cuts
 pub mod Folds
+pub mod LatestLemmas
 pub mod Lifts
 pub mod Merges
 pub mod Places

@@ -1,4 +1,5 @@
 pub mod Items
+pub mod Latest
 pub mod Rows
 pub mod SameStamps
 pub mod StepFunctions

@@ -8,6 +8,8 @@
 
 ghost use Rattle.std.specs.Prelude.{◌≡◌, ◌+◌, ◌*◌, ◌≤◌, ◌^◌, length};
 ghost use Rattle.std.specs.List.{list_any};
+ghost use Rattle.ft_base.specs.Visibility.{is_acked};
+ghost use Rattle.ft_partial.specs.Latest.{acked_number, latest_among, latest_number, last_length};
 ghost use Rattle.ft_partial.specs.Rows.{stamp_number, first_removal, is_stamp_by, row_place, at_floor, is_settled, common_span, row_span, ExchangesRow, ExchangesRows};
 
 use crate::step_functions::{CHANGES, Span, StepFunction};
@@ -80,6 +82,62 @@ pub fn is_settled(e: &Element, floor: u64) -> bool
     ensures { result ≡ is_settled floor e.now }
 {
     number_of(&e.ins) <= floor as u128 && e.dels.as_slice().is_empty()
+}
+
+/// The sequence number of a stamp, or 0 where it is pending.
+fn acked_number(stamp: &Stamp) -> u64
+    ensures { result ≡ acked_number stamp.now }
+{
+    match stamp {
+        Stamp::Acked { seq, .. } => *seq,
+        Stamp::Local { .. } => 0,
+    }
+}
+
+/// The greatest sequence number of the stamps, or 0 where none is sequenced.
+fn latest_among(stamps: &[Stamp]) -> u64
+    ensures { result ≡ latest_among stamps.now }
+{
+    let mut latest = 0;
+    for stamp in stamps {
+        latest = latest.max(acked_number(stamp));
+    }
+    latest
+}
+
+/// The sequence number from which on all see the same of the element.
+pub fn latest_number(e: &Element) -> u64
+    ensures { result ≡ latest_number e.now }
+{
+    acked_number(&e.ins).max(latest_among(e.dels.as_slice()))
+}
+
+/// Whether the stamp is sequenced.
+fn is_acked(stamp: &Stamp) -> bool
+    ensures { result ≡ is_acked stamp.now }
+{
+    match stamp {
+        Stamp::Acked { .. } => true,
+        Stamp::Local { .. } => false,
+    }
+}
+
+/// Whether one of the stamps is sequenced.
+fn is_any_acked(stamps: &[Stamp]) -> bool
+    ensures { result ≡ list_any is_acked stamps.now }
+{
+    stamps.iter().any(|stamp| is_acked(stamp))
+}
+
+/// How many of `len` elements of these stamps all see from that number on: all or none.
+pub fn last_length(e: &Element, len: u64) -> u64
+    ensures { result ≡ last_length e.now len }
+{
+    if is_acked(&e.ins) && !is_any_acked(e.dels.as_slice()) {
+        len
+    } else {
+        0
+    }
 }
 
 /// The change that `len` elements make, from the floor up, for those who made none of their stamps.

@@ -256,6 +256,11 @@ fn put(steps: &mut Vec<Step>, i: usize, step: Step)
     ensures items { steps.new.items ≡ insert steps.old.items i step }
     ensures capacity { vec_capacity steps.old ≤ vec_capacity steps.new }
 {
+    // A step at the end, where those of new messages go, moves no other.
+    if i == steps.len() {
+        steps.push_reserved(step);
+        return;
+    }
     match steps.insert(i, step) {
         Ok(()) => {}
         Err(_) => unreachable!(),

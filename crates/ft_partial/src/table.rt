@@ -6,7 +6,9 @@ ghost use Rattle.ft_partial.specs.SameStamps.{SameByStamps, ExchangesItem};
 ghost use Rattle.ft_partial.specs.Tables.{length_at, CountsItems, Adds, Exchanges, AddsAll, SameFrom};
 ghost use Rattle.ft_partial.specs.Rows.{Covers, late};
 
-use crate::rows::{ROW, common_span, exchange_rows, is_settled, place_of};
+use crate::rows::{
+    ROW, common_span, exchange_rows, is_settled, last_length, latest_number, place_of,
+};
 use crate::step_functions::{CHANGES, StepFunction};
 use ft_base::{Element, OutOfMemory, Perspective, Stamp, Stamps};
 use std::alloc::Global;
@@ -25,7 +27,7 @@ const FEW: usize = 8;
 ///
 /// Elements that all see from the floor up are one number, and a change of how many they are takes no
 /// step. The window is made of the sequence numbers above the floor that occur in the other items. `length`
-/// takes two binary searches in it. A change takes some more; it touches the steps of the
+/// takes two binary searches in it, or none for who has seen the latest of them. A change takes some more; it touches the steps of the
 /// connections that made its stamps as far as what they see changes, and those of all others between
 /// the numbers at which its old and its new stamps differ, or from the insertion on where the number
 /// of elements differs. The steps behind a new one move up in memory, as one block.
@@ -38,20 +40,23 @@ pub struct Table {
     common: StepFunction,
     // how far each connection's own stamps change that, by rows
     own: StepFunction,
+    // `last` is the length for each perspective whose reference number is `latest` or higher
+    latest: u64,
+    last: u64,
     // with this many steps the next fold looks through them; never fewer than `FEW`
     fold_at: usize,
     alloc: Global,
 }
 
 impl Model for Table {
-    ghost use Rattle.std.specs.Prelude.{◌≤◌};
     ghost use Rattle.ft_partial.specs.Tables.{Lengths};
+    ghost use Rattle.ft_partial.specs.Latest.{IsSoundTable};
 
     ghost Value = { Lengths };
 
     ghost view = { λ a. record { floor = a.floor; base = a.base; common = a.common.steps; own = a.own.steps } };
 
-    ghost invariant = { λ a. 8 ≤ a.fold_at };
+    ghost invariant = { λ a. IsSoundTable (record { floor = a.floor; base = a.base; common = a.common.steps; own = a.own.steps }) a.latest a.last a.fold_at };
 }
 
 /// Adds the stamp at the end, if it is sequenced above the floor.
@@ -111,6 +116,8 @@ impl Table {
             base: 0,
             common: StepFunction::new(alloc),
             own: StepFunction::new(alloc),
+            latest: 0,
+            last: 0,
             fold_at: FEW,
             alloc,
         }
@@ -125,6 +132,10 @@ impl Table {
         ensures sum { (xs : List Item) → CountsItems self.now xs → length_seen at.r at.c xs < 2 ^ 64 → result ≡ length_seen at.r at.c xs }
         ensures at { result ≡ length_at self.now at.r at.c }
     {
+        // Most blocks of a tree hold nothing that is new to the perspective.
+        if self.latest <= at.r {
+            return self.last;
+        }
         let common = self.common.at(at.r as u128);
         let own = self.own.at(place_of(at.c, at.r as u128));
         self.base.wrapping_add(common.wrapping_add(own))
@@ -216,8 +227,17 @@ impl Table {
         ensures err { OnErr result (self.new ≡ self.old) }
     {
         let floor = self.floor;
+        let numbers = latest_number(e).max(latest_number(new));
+        let latest = self.latest.max(floor).max(numbers);
+        let gone = last_length(e, len);
+        let last = self
+            .last
+            .wrapping_sub(gone)
+            .wrapping_add(last_length(new, new_len));
         if is_settled(e, floor) && is_settled(new, floor) {
             self.base = self.base.wrapping_sub(len).wrapping_add(new_len);
+            self.latest = latest;
+            self.last = last;
             return Ok(());
         }
         let changes = stamps.len().checked_mul(CHANGES).ok_or(OutOfMemory)?;
@@ -226,6 +246,8 @@ impl Table {
         self.common
             .exchange(old, common_span(new, new_len, floor), ROW);
         exchange_rows(&mut self.own, floor, stamps, e, len, new, new_len);
+        self.latest = latest;
+        self.last = last;
         Ok(())
     }
 
@@ -241,8 +263,12 @@ impl Table {
         ensures err { OnErr result (self.new ≡ self.old) }
     {
         let base = self.base.wrapping_add(other.base);
+        let latest = self.latest.max(other.latest);
+        let last = self.last.wrapping_add(other.last);
         if other.common.len() == 0 && other.own.len() == 0 {
             self.base = base;
+            self.latest = latest;
+            self.last = last;
             return Ok(());
         }
         let common = self.common.plus(self.alloc, &other.common)?;
@@ -250,6 +276,8 @@ impl Table {
         self.base = base;
         self.common = common;
         self.own = own;
+        self.latest = latest;
+        self.last = last;
         Ok(())
     }
 
@@ -267,6 +295,7 @@ impl Table {
         ensures floor { self.new.floor ≡ floor }
     {
         self.floor = floor;
+        self.latest = self.latest.max(floor);
         if self.common.len().max(self.own.len()) >= self.fold_at {
             self.common.fold_to(floor);
             self.own.fold_to(floor);
