@@ -206,6 +206,21 @@ impl<L: Leaf> Blocks<L> {
         self.find_in(p, View::Of(LenView::At(at)), steps)
     }
 
+    /// The leaf that holds the `p`-th of all elements, the removed ones too, and how many of its elements
+    /// stand up to that one; the head of the list for `p` = 0. Each read of a node is one step.
+    ///
+    /// Answers `OutOfRange` exactly where `p` is above the number of elements.
+    pub fn find_any<G: Ledger>(&self, p: u64, steps: &mut Steps<G>) -> Result<Found, OutOfRange>
+        requires { IsTrue self.now.usable }
+        ensures found { IfOk result (λ found. place_by L.size self.now.leaves p ≡ Some found) }
+        ensures length { IfErr result (λ e. e.length ≡ length_by L.size self.now.leaves) }
+        ensures beyond { IfErr result (λ e. e.length < p) }
+        ensures cost { steps.new ≤ steps.old + 9 * (self.now.depth + 1) }
+        ensures depth { 4 ^ self.now.depth ≤ length self.now.leaves + 1 }
+    {
+        self.find_in(p, View::Of(LenView::All), steps)
+    }
+
     // The same in any view that the blocks keep.
     fn find_in<G: Ledger>(
         &self,
@@ -491,6 +506,13 @@ impl<L: Leaf> Blocks<L> {
                 Err(e)
             }
         }
+    }
+
+    /// The floor.
+    pub fn floor(&self) -> u64
+        ensures { result ≡ self.now.floor }
+    {
+        self.floor
     }
 
     /// Raises the floor, which isn't below the old one.
