@@ -47,7 +47,7 @@ split_past : {A : Type 0} (b : Bool) (n : ℕ) (x : A) (new ys xs : List A) → 
 split_past true n x new ys xs h = let next : 1 + n ≡ suc n = omega arith in rw next (ap (λ zs. x ∷ zs) h)
 split_past false n x new ys xs h = refl
 
-taken : {A : Type 0} (n : ℕ) (xs : List A) → n ≤ length xs → length (take n xs) ≡ n
+pub taken : {A : Type 0} (n : ℕ) (xs : List A) → n ≤ length xs → length (take n xs) ≡ n
 taken zero xs h = refl
 taken (suc n) [] h = absurd (omega arith)
 taken (suc n) (x ∷ xs) h = ap (λ k. suc k) (taken n xs (omega arith))
@@ -97,11 +97,11 @@ module _ {C U : Type 0} (units : C → List U) (by : C → Option Stamp) where
   drop_map f (suc n) [] = refl
   drop_map f (suc n) (x ∷ xs) = drop_map f n xs
 
-  leaf_front : (x : TreeLeaf C) (k : C) (at : ℕ) → units k ≡ take at (units x.content) → by k ≡ by x.content
+  pub leaf_front : (x : TreeLeaf C) (k : C) (at : ℕ) → units k ≡ take at (units x.content) → by k ≡ by x.content
       → leaf_elements units by (with_content x k) ≡ take at (leaf_elements units by x)
   leaf_front x k at e b = leaf_part x k (take at (units x.content)) e b ∙ sym (take-map (element_with x.stamps (by x.content) x.overlay) at (units x.content))
 
-  leaf_rear : (x : TreeLeaf C) (k : C) (at : ℕ) → units k ≡ drop at (units x.content) → by k ≡ by x.content
+  pub leaf_rear : (x : TreeLeaf C) (k : C) (at : ℕ) → units k ≡ drop at (units x.content) → by k ≡ by x.content
       → leaf_elements units by (with_content x k) ≡ drop at (leaf_elements units by x)
   leaf_rear x k at e b = leaf_part x k (drop at (units x.content)) e b ∙ sym (drop_map (element_with x.stamps (by x.content) x.overlay) at (units x.content))
 

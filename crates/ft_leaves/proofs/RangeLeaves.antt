@@ -65,7 +65,7 @@ module _ {C U : Type 0} (units : C → List U) (by : C → Option Stamp) where
 
   module _ (g : TreeLeaf C → TreeLeaf C) (f : TreeElement U → TreeElement U)
       (acts : (x : TreeLeaf C) → leaf_elements units by (g x) ≡ map f (leaf_elements units by x)) (view : LenView) where
-    leaf_changed : (x : TreeLeaf C) → leaf_elements units by (cond (sees_in view x.stamps) (g x) x) ≡ map (where_seen (seen_in view) f) (leaf_elements units by x)
+    pub leaf_changed : (x : TreeLeaf C) → leaf_elements units by (cond (sees_in view x.stamps) (g x) x) ≡ map (where_seen (seen_in view) f) (leaf_elements units by x)
     leaf_changed x =
         leaf_by (sees_in view x.stamps) g x ∙ ap (λ es. cond (sees_in view x.stamps) es (leaf_elements units by x)) (acts x)
         ∙ run_seen (sees_in view x.stamps) view f x.stamps (by x.content) x.overlay (units x.content) refl
@@ -143,10 +143,10 @@ module _ {C U : Type 0} (units : C → List U) (by : C → Option Stamp) where
       let ys = drop (place seen p xs) xs in
       subst (λ es. All P es) (sym parts.middle) (All-take P (place seen (q - p) ys) ys (All-drop P (place seen p xs) xs h))
 
-  front_all : (P : TreeElement U → Type 0) (xs ys : List (TreeElement U)) → All P (xs ++ ys) → All P xs
+  pub front_all : (P : TreeElement U → Type 0) (xs ys : List (TreeElement U)) → All P (xs ++ ys) → All P xs
   front_all P xs ys h = subst (All P) (take-append_seam xs ys) (All-take P (length xs) (xs ++ ys) h)
 
-  rear_all : (P : TreeElement U → Type 0) (xs ys : List (TreeElement U)) → All P (xs ++ ys) → All P ys
+  pub rear_all : (P : TreeElement U → Type 0) (xs ys : List (TreeElement U)) → All P (xs ++ ys) → All P ys
   rear_all P xs ys h = subst (All P) (drop-append_seam xs ys) (All-drop P (length xs) (xs ++ ys) h)
 
   -- and leaf by leaf

@@ -10,3 +10,5 @@ pub mod TextRuns
 pub mod TextLeaves
 pub mod TextUnits
 pub mod TextLaws
+pub mod BlockChanges
+pub mod BlockLaws

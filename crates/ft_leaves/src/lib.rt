@@ -3,6 +3,7 @@
 //! A call that can't answer `OutOfMemory` takes no memory.
 #![tactic(auto)]
 
+pub mod block_leaf;
 pub mod content;
 pub mod leaves;
 pub mod references;
@@ -11,6 +12,7 @@ mod stamps;
 pub mod text;
 pub mod text_runs;
 
+pub use block_leaf::LeafChange;
 pub use content::Content;
 pub use leaves::TreeLeaf;
 pub use references::Reference;
