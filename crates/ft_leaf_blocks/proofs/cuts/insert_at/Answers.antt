@@ -1,0 +1,70 @@
+use Rattle.std.proofs.Common.{◌≡◌, ◌+◌, length, drop, ◌∙◌, ap, arith}
+use Rattle.std.specs.List.{prefix_len}
+use Rattle.ft_leaves.specs.declared.leaves.TreeLeaf.{TreeLeaf}
+use Rattle.ft_leaves.specs.LeafLists.{elements, leaf_elements}
+use Rattle.ft_leaves.specs.Elements.{seen_in}
+use Rattle.ft_leaves.specs.Plain.{passes}
+use Rattle.ft_leaves.proofs.RangeLeaves.{extends_trans}
+use Rattle.ft_base.specs.Scan.{put}
+use Rattle.ft_block.specs.Leaves.{ids}
+use Rattle.ft_leaf_blocks.specs.Walks.{held_place}
+use Rattle.ft_leaf_blocks.proofs.CutPlaces.{puts_elements, puts_old, rest_behind}
+use Rattle.ft_leaf_blocks.proofs.cuts.insert_at.Goals as goal
+
+pub put_past-requires : goal.put_past-requires
+put_past-requires g c = record {
+  usable = c.in_ok-at.ensures.usable;
+  live = c.in_ok-at.ensures.cut.live;
+  fits = omega (
+    arith,
+    ap length c.in_ok-at.ensures.cut.list,
+    ap (λ (l : TreeLeaf g.row.C.Denot). length (g.C.Content.units l.content)) c.in_ok-leaf.ensures,
+    c.requires.fits,
+  );
+}
+
+pub returns-clause-place : goal.returns-clause-place
+returns-clause-place g c = λ view p e.
+    let us = g.C.Content.units in
+    let by = g.C.Content.by in
+    let xs = c.args.blocks.now.leaves in
+    let cut = c.in_ok-at.ensures.cut in
+    let seen = seen_in {U = g.row.C-Unit.Denot} view in
+    omega (
+      arith,
+      c.in_ok-place.ensures.place,
+      cut.place,
+      e,
+      ap (prefix_len (passes c.args.past_pending)) (rest_behind us by _ xs c.cut_at.new.blocks.leaves c.in_ok-at.at c.first-first.ensures.once cut),
+      ap (λ k. prefix_len (passes c.args.past_pending) (drop k (elements us by xs))) e,
+    )
+
+pub returns-clause-list : goal.returns-clause-list
+returns-clause-list g c = λ view p e.
+    let us = g.C.Content.units in
+    let by = g.C.Content.by in
+    let xs = c.args.blocks.now.leaves in
+    let mid = c.cut_at.new.blocks.leaves in
+    let now = c.put_past.new.blocks.leaves in
+    let cut = c.in_ok-at.ensures.cut in
+    let i = c.in_ok-place.place in
+    let n = held_place us by xs c.args.found.now.leaf c.args.found.now.offset in
+    let seen = seen_in {U = g.row.C-Unit.Denot} view in
+    let place : i ≡ n + prefix_len (passes c.args.past_pending) (drop n (elements us by xs)) =
+    omega (
+      arith,
+      c.in_ok-place.ensures.place,
+      cut.place,
+      ap (prefix_len (passes c.args.past_pending)) (rest_behind us by n xs mid c.in_ok-at.at c.first-first.ensures.once cut),
+    ) in
+    puts_elements us by seen (passes c.args.past_pending) p n i c.in_ok-leaf.leaf xs now
+    (puts_old us by n i c.in_ok-leaf.leaf xs mid now c.in_ok-at.at cut c.in_ok-place.ensures.puts) e place
+    ∙ ap (λ (l : TreeLeaf g.row.C.Denot). put seen (passes c.args.past_pending) p (leaf_elements us by l) (elements us by xs)) c.in_ok-leaf.ensures
+
+pub returns-clause-nodes : goal.returns-clause-nodes
+returns-clause-nodes g c =
+    extends_trans (ids c.args.blocks.now.leaves) (ids c.cut_at.new.blocks.leaves) (ids c.put_past.new.blocks.leaves) c.in_ok-at.ensures.cut.nodes
+    c.in_ok-place.ensures.puts.nodes
+
+pub returns-clause-reads : goal.returns-clause-reads
+returns-clause-reads g c = omega (arith, c.in_ok-place.ensures.reads, c.in_ok-at.ensures.cut.pending)

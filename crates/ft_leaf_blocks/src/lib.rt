@@ -1,0 +1,14 @@
+//! Leaves of the merge tree in blocks: how they are cut at a place, get a leaf there, and are changed over a
+//! range, by reading a few blocks to find the place and then only the leaves of the range.
+//!
+//! A call that can't answer `OutOfMemory` takes no memory.
+#![tactic(auto)]
+
+pub mod acks;
+pub mod cuts;
+pub mod edits;
+pub mod joins;
+pub mod places;
+pub mod ranges;
+pub mod references;
+pub mod scans;
