@@ -1,0 +1,4 @@
+pub mod RunCounts
+pub mod SeenRuns
+pub mod StandingRuns
+pub mod ProperVectors
