@@ -1,10 +1,11 @@
 -- Answers that a pass over a list notes from its last element to its first: for a name, what its first element says with
 -- those behind it.
-use Rattle.std.proofs.Common.{◌≡◌, ℕ, zero, suc, ◌+◌, ◌-◌, ◌≤◌, ◌<◌, Bool, true, false, cond, ◌&&◌, ◌||◌, nat_eq, List, [], ◌∷◌, length, drop, get_or, set, replicate}
+use Rattle.std.proofs.Common.{◌≡◌, ℕ, zero, suc, ◌+◌, ◌-◌, ◌≤◌, ◌<◌, Bool, true, false, cond, ◌&&◌, ◌||◌, List, [], ◌∷◌, length, drop, get_or}
 use Rattle.std.proofs.Common.{Option, Some, None, refl, sym, ◌∙◌, ap, arith, find, option_map}
+use Rattle.std.specs.BTreeMap.{get}
 use Rattle.std.specs.List.{list_any, slice_get}
-use Rattle.std.specs.Option.{option_or}
-use Rattle.std.proofs.lemmas.Bool.Decides.{nat_tests}
+use Rattle.std.specs.Ordering.{is_eq}
+use Rattle.std.specs.Option.{is_some, option_or}
 use Rattle.std.proofs.lemmas.List.{drop_more}
 use Rattle.ft_base.specs.declared.stamps.Stamp.{Stamp}
 use Rattle.ft_base.specs.declared.stamps.Stamp.TheVariants.{Acked, Local}
@@ -12,8 +13,11 @@ use Rattle.ft_base.specs.Visibility.{is_acked}
 use Rattle.ft_base.specs.Scan.{len, one_more_if, rank, settled, settled_after}
 use Rattle.ft_props.specs.Element.{ElementId, PendingId, SequencedId, ListElement, has_id, has_sequenced_removal, id, id_of_stamp, is_sequenced, is_unremoved, same_id}
 use Rattle.ft_props.specs.Slide.{slide}
-use Rattle.ft_elements.specs.NameTables.{HasAnswers, last_seen, noted, noted_at}
+use Rattle.ft_elements.specs.declared.name_tables.NameTable.{NameTable}
+use Rattle.ft_elements.specs.NameTables.{HasAnswers, Notes, last_seen, noted_at}
+use Rattle.ft_elements.specs.NamedLists.{name_cmp}
 use Rattle.ft_elements.specs.Names.{sequenced_number}
+use Rattle.ft_elements.proofs.NamedLists.{equal_names, same_name}
 
 -- what the first element that is meant says with those behind it, or d where none is meant
 abbrev pub first_from : {V : Type 0} → (List ListElement → V) → V → (ListElement → Bool) → List ListElement → V
@@ -22,54 +26,71 @@ first_from says d is (e ∷ xs) = cond (is e) (says (e ∷ xs)) (first_from says
 
 -- ---- the table
 
-pub get-replicate : {V : Type 0} (m n : ℕ) (d v : V) → slice_get (replicate m d) n ≡ Some v → v ≡ d
-get-replicate zero n d v h = (cc)
-get-replicate (suc m) zero d v h = (cc)
-get-replicate (suc m) (suc n) d v h = get-replicate m n d v h
+noted-some : {V : Type 0} (o : Option V) (x : V) → true ≡ is_some o → Some x ≡ option_map (λ w. x) o
+noted-some None x h = (cc)
+noted-some (Some w) x h = refl
 
-get-set_same : {V : Type 0} (table : List V) (n : ℕ) (x v : V) → slice_get (set table n x) n ≡ Some v → v ≡ x
-get-set_same [] n x v h = (cc)
-get-set_same (y ∷ ys) zero x v h = (cc)
-get-set_same (y ∷ ys) (suc n) x v h = get-set_same ys n x v h
+-- one name more with the same value
+same-more : {V : Type 0} (b : Bool) (o : Option V) (d v : V) → (o ≡ Some v → v ≡ d) → cond b (Some d) o ≡ Some v → v ≡ d
+same-more true o d v before h = (cc)
+same-more false o d v before h = before h
 
-get-set_other : {V : Type 0} (table : List V) (m n : ℕ) (x : V) → (n ≡ m → ⊥) → slice_get (set table m x) n ≡ slice_get table n
-get-set_other [] m n x h = refl
-get-set_other (y ∷ ys) zero zero x h = absurd (h refl)
-get-set_other (y ∷ ys) zero (suc n) x h = refl
-get-set_other (y ∷ ys) (suc m) zero x h = refl
-get-set_other (y ∷ ys) (suc m) (suc n) x h = get-set_other ys m n x (λ e. h (ap suc e))
+asked : {V : Type 0} (old new : NameTable V) (x : ElementId) (d : V) → new.numbers ≡ old.numbers
+    → ((y : ElementId) → get name_cmp new.pending y ≡ cond (is_eq (name_cmp x y)) (Some d) (get name_cmp old.pending y))
+    → HasAnswers (λ y. d) old → (y : ElementId) (v : V) → noted_at new y ≡ Some v → v ≡ d
+asked old new x d same updated only (SequencedId n) v h = only.right (SequencedId n) v (ap (λ t. slice_get t.items n) (sym same) ∙ h)
+asked old new x d same updated only (PendingId k n) v h =
+    same-more (is_eq (name_cmp x (PendingId k n))) (get name_cmp old.pending (PendingId k n)) d v (only.right (PendingId k n) v) (sym (updated (PendingId k n)) ∙ h)
+
+pub only-asked : {V : Type 0} (old new : NameTable V) (x : ElementId) (d : V) → new.numbers ≡ old.numbers
+    → ((y : ElementId) → get name_cmp new.pending y ≡ cond (is_eq (name_cmp x y)) (Some d) (get name_cmp old.pending y))
+    → HasAnswers (λ y. d) old → HasAnswers (λ y. d) new
+only-asked old new x d same updated only = record { right = asked old new x d same updated only }
+
+-- the value of a pending element that was asked for
+noted-here : {V : Type 0} (old : NameTable V) (x : ElementId) (v : V) → true ≡ is_some (get name_cmp old.pending x) → (y : ElementId) (b : Bool) → same_id y x ≡ b
+    → cond b (Some v) (get name_cmp old.pending y) ≡ cond b (option_map (λ w. v) (get name_cmp old.pending y)) (get name_cmp old.pending y)
+noted-here old x v there y true e = noted-some (get name_cmp old.pending y) v (there ∙ ap (λ z. is_some (get name_cmp old.pending z)) (sym (same_name y x e)))
+noted-here old x v there y false e = refl
+
+note-pending : {V : Type 0} (old new : NameTable V) (x : ElementId) (v : V) → None ≡ sequenced_number x
+    → true ≡ is_some (get name_cmp old.pending x) → new.numbers ≡ old.numbers
+    → ((y : ElementId) → get name_cmp new.pending y ≡ cond (is_eq (name_cmp x y)) (Some v) (get name_cmp old.pending y))
+    → (y : ElementId) → noted_at new y ≡ cond (same_id y x) (option_map (λ w. v) (noted_at old y)) (noted_at old y)
+note-pending old new (SequencedId m) v is there numbers updated y = (cc)
+note-pending old new (PendingId i m) v is there numbers updated (SequencedId j) = ap (λ t. slice_get t.items j) numbers
+note-pending old new (PendingId i m) v is there numbers updated (PendingId k j) =
+    updated (PendingId k j) ∙ ap (λ b. cond b (Some v) (get name_cmp old.pending (PendingId k j))) (equal_names (PendingId i m) (PendingId k j))
+    ∙ noted-here old (PendingId i m) v there (PendingId k j) (same_id (PendingId k j) (PendingId i m)) refl
+
+pub Notes-pending : {V : Type 0} (old new : NameTable V) (x : ElementId) (v : V) → None ≡ sequenced_number x
+    → true ≡ is_some (get name_cmp old.pending x) → new.numbers ≡ old.numbers
+    → ((y : ElementId) → get name_cmp new.pending y ≡ cond (is_eq (name_cmp x y)) (Some v) (get name_cmp old.pending y)) → Notes x v old new
+Notes-pending old new x v is there numbers updated = record { all = note-pending old new x v is there numbers updated }
 
 -- of no elements
-pub HasAnswers-none : {V : Type 0} (says : List ListElement → V) (d : V) (m : ℕ) (xs : List ListElement) (table : List V)
-    → xs ≡ [] → table ≡ replicate m d → HasAnswers (λ x. first_from says d (has_id x) xs) table
-HasAnswers-none says d m xs table none filled = record {
-  right = λ n v h. get-replicate m n d v (ap (λ t. slice_get t n) (sym filled) ∙ h) ∙ ap (first_from says d (has_id (SequencedId n))) (sym none);
+pub HasAnswers-none : {V : Type 0} (says : List ListElement → V) (d : V) (xs : List ListElement) (table : NameTable V)
+    → xs ≡ [] → HasAnswers (λ x. d) table → HasAnswers (λ x. first_from says d (has_id x) xs) table
+HasAnswers-none says d xs table none only = record {
+  right = λ x v h. only.right x v h ∙ ap (first_from says d (has_id x)) (sym none);
 }
 
 -- one more element in front
-pub noted-first : {V : Type 0} (x : ElementId) (n : ℕ) (v : V) (rest : V) (here : V) (table : List V)
-    → (slice_get table n ≡ Some v → v ≡ rest) → slice_get (noted (sequenced_number x) here table) n ≡ Some v → v ≡ cond (same_id (SequencedId n) x) here rest
-noted-first (PendingId k m) n v rest here table before h = before h
-noted-first (SequencedId m) n v rest here table before h = step (nat_eq n m) refl
-  where
-    step : (b : Bool) → nat_eq n m ≡ b → v ≡ cond b here rest
-    step true e = at_place h
-      where
-        at_place : slice_get (set table m here) n ≡ Some v → v ≡ here
-        at_place k = let same : n ≡ m = grind (arith, nat_tests) in get-set_same table m here v (ap (slice_get (set table m here)) (sym same) ∙ k)
-    step false e = before (sym (get-set_other table m n here (λ same. differ same)) ∙ h)
-      where
-        differ : n ≡ m → ⊥
-        differ same = grind (arith, nat_tests)
+noted-first : {V : Type 0} (b : Bool) (old : Option V) (here rest v : V) → (old ≡ Some v → v ≡ rest)
+    → cond b (option_map (λ w. here) old) old ≡ Some v → v ≡ cond b here rest
+noted-first true None here rest v before h = (cc)
+noted-first true (Some w) here rest v before h = (cc)
+noted-first false old here rest v before h = before h
 
-pub HasAnswers-more : {V : Type 0} (says : List ListElement → V) (d : V) (e : ListElement) (xs ys : List ListElement) (here : V) (table new : List V)
-    → ys ≡ e ∷ xs → here ≡ says ys → new ≡ noted (sequenced_number (id e)) here table
+pub HasAnswers-more : {V : Type 0} (says : List ListElement → V) (d : V) (e : ListElement) (xs ys : List ListElement) (here : V) (table new : NameTable V) (name : ElementId)
+    → ys ≡ e ∷ xs → here ≡ says ys → name ≡ id e → Notes name here table new
     → HasAnswers (λ x. first_from says d (has_id x) xs) table → HasAnswers (λ x. first_from says d (has_id x) ys) new
-HasAnswers-more says d e xs ys here table new at_front said made h = record {
-  right = λ n v got.
-      noted-first (id e) n v (first_from says d (has_id (SequencedId n)) xs) here table (h.right n v) (ap (λ t. slice_get t n) (sym made) ∙ got)
-      ∙ ap (λ w. cond (has_id (SequencedId n) e) w (first_from says d (has_id (SequencedId n)) xs)) (said ∙ ap says at_front)
-      ∙ ap (first_from says d (has_id (SequencedId n))) (sym at_front);
+HasAnswers-more says d e xs ys here table new name at_front said named made h = record {
+  right = λ x v got.
+      noted-first (same_id x name) (noted_at table x) here (first_from says d (has_id x) xs) v (h.right x v) (sym (made.all x) ∙ got)
+      ∙ ap (λ y. cond (same_id x y) here (first_from says d (has_id x) xs)) named
+      ∙ ap (λ w. cond (has_id x e) w (first_from says d (has_id x) xs)) (said ∙ ap says at_front)
+      ∙ ap (first_from says d (has_id x)) (sym at_front);
 }
 
 -- ---- ranks
@@ -188,53 +209,47 @@ module _ (seen : ListElement → Bool) (xs : List ListElement) (i : ℕ) (e : Li
       let more : len seen (drop (i - 1) xs) ≡ len seen (drop i xs) = one-more false test in
       omega arith
 
-  pub ranks-more : (left : ℕ) (table new : List ℕ) → left + len seen (drop (i - 1) xs) ≡ len seen xs → new ≡ noted (sequenced_number (id e)) left table
+  pub ranks-more : (left : ℕ) (table new : NameTable ℕ) (name : ElementId) → left + len seen (drop (i - 1) xs) ≡ len seen xs → name ≡ id e → Notes name left table new
       → HasAnswers (λ x. first_from (seen_before seen xs) (len seen xs) (has_id x) (drop i xs)) table
       → HasAnswers (λ x. first_from (seen_before seen xs) (len seen xs) (has_id x) (drop (i - 1) xs)) new
-  ranks-more left table new count made h =
+  ranks-more left table new name count named made h =
       let said : left ≡ seen_before seen xs (drop (i - 1) xs) = omega arith in
-      HasAnswers-more (seen_before seen xs) (len seen xs) e (drop i xs) (drop (i - 1) xs) left table new at_front said made h
+      HasAnswers-more (seen_before seen xs) (len seen xs) e (drop i xs) (drop (i - 1) xs) left table new name at_front said named made h
 
-  pub next-taken : (now : Option ElementId) (x : ElementId) → true ≡ seen e → now ≡ Some x → x ≡ id e → now ≡ next_or_last seen xs (drop (i - 1) xs)
-  next-taken now x test is named =
-      is ∙ ap (λ y. Some y) named ∙ ap (λ b. cond b (Some (id e)) (next_or_last seen xs (drop i xs))) test
-      ∙ sym (next-first seen xs (drop i xs) (drop (i - 1) xs) e at_front)
+  pub next-more : (next now : Option ElementId) → now ≡ cond (seen e) (Some (id e)) next → next ≡ next_or_last seen xs (drop i xs)
+      → now ≡ next_or_last seen xs (drop (i - 1) xs)
+  next-more next now is before =
+      is ∙ ap (cond (seen e) (Some (id e))) before ∙ sym (next-first seen xs (drop i xs) (drop (i - 1) xs) e at_front)
 
-  pub next-passed : (next now : Option ElementId) → false ≡ seen e → now ≡ next → next ≡ next_or_last seen xs (drop i xs) → now ≡ next_or_last seen xs (drop (i - 1) xs)
-  next-passed next now test same before =
-      same ∙ before ∙ ap (λ b. cond b (Some (id e)) (next_or_last seen xs (drop i xs))) test
-      ∙ sym (next-first seen xs (drop i xs) (drop (i - 1) xs) e at_front)
-
-  pub settled-more : (next : Option ElementId) (table new : List (Option ElementId)) → next ≡ next_or_last seen xs (drop (i - 1) xs)
-      → new ≡ noted (sequenced_number (id e)) next table
+  pub settled-more : (next : Option ElementId) (table new : NameTable (Option ElementId)) (name : ElementId) → next ≡ next_or_last seen xs (drop (i - 1) xs)
+      → name ≡ id e → Notes name next table new
       → HasAnswers (λ x. first_from (next_or_last seen xs) None (has_id x) (drop i xs)) table
       → HasAnswers (λ x. first_from (next_or_last seen xs) None (has_id x) (drop (i - 1) xs)) new
-  settled-more next table new sent made h =
-      HasAnswers-more (next_or_last seen xs) None e (drop i xs) (drop (i - 1) xs) next table new at_front sent made h
+  settled-more next table new name sent named made h =
+      HasAnswers-more (next_or_last seen xs) None e (drop i xs) (drop (i - 1) xs) next table new name at_front sent named made h
 
 -- ---- what the passes end with
 
 module _ (seen : ListElement → Bool) (xs : List ListElement) where
-  pub HasRanks : (i : ℕ) (table : List ℕ) → i ≤ 0 → HasAnswers (λ x. first_from (seen_before seen xs) (len seen xs) (has_id x) (drop i xs)) table
+  pub HasRanks : (i : ℕ) (table : NameTable ℕ) → i ≤ 0 → HasAnswers (λ x. first_from (seen_before seen xs) (len seen xs) (has_id x) (drop i xs)) table
       → HasAnswers (λ x. rank (has_id x) seen xs) table
-  HasRanks zero table end h = record { right = λ n v got. h.right n v got ∙ sym (rank-first (has_id (SequencedId n)) seen xs) }
+  HasRanks zero table end h = record { right = λ x v got. h.right x v got ∙ sym (rank-first (has_id x) seen xs) }
   HasRanks (suc i) table end h = absurd (omega arith)
 
-  pub HasSettled : (i : ℕ) (table : List (Option ElementId)) → i ≤ 0
+  pub HasSettled : (i : ℕ) (table : NameTable (Option ElementId)) → i ≤ 0
       → HasAnswers (λ x. first_from (next_or_last seen xs) None (has_id x) (drop i xs)) table
       → HasAnswers (λ x. option_map id (settled (has_id x) seen xs)) table
-  HasSettled zero table end h = record { right = λ n v got. h.right n v got ∙ sym (settled-first (has_id (SequencedId n)) seen xs) }
+  HasSettled zero table end h = record { right = λ x v got. h.right x v got ∙ sym (settled-first (has_id x) seen xs) }
   HasSettled (suc i) table end h = absurd (omega arith)
 
 -- ---- removals
 
 -- one more element in front, noted if it is removed
-pub removals-more : (e : ListElement) (xs ys : List ListElement) (table new : List Bool) → ys ≡ e ∷ xs
-    → new ≡ cond (list_any is_acked e.dels) (noted (sequenced_number (id e)) true table) table
+pub removals-more : (e : ListElement) (xs ys : List ListElement) (table new : NameTable Bool) → ys ≡ e ∷ xs
+    → (list_any is_acked e.dels ≡ true → Notes (id e) true table new) → (list_any is_acked e.dels ≡ false → new ≡ table)
     → HasAnswers (has_sequenced_removal xs) table → HasAnswers (has_sequenced_removal ys) new
-removals-more e xs ys table new at_front made h = record {
-  right = λ n v got.
-      step n v (list_any is_acked e.dels) (ap (λ t. slice_get t n) (sym made) ∙ got) ∙ ap (λ zs. has_sequenced_removal zs (SequencedId n)) (sym at_front);
+removals-more e xs ys table new at_front removed other h = record {
+  right = λ x v got. step x v (list_any is_acked e.dels) refl got ∙ ap (λ zs. has_sequenced_removal zs x) (sym at_front);
 }
   where
     none : (b rest : Bool) → rest ≡ ((b && false) || rest)
@@ -245,19 +260,16 @@ removals-more e xs ys table new at_front made h = record {
     one true rest = refl
     one false rest = refl
 
-    step : (n : ℕ) (v g : Bool) → slice_get (cond g (noted (sequenced_number (id e)) true table) table) n ≡ Some v
-        → v ≡ ((has_id (SequencedId n) e && g) || has_sequenced_removal xs (SequencedId n))
-    step n v true got =
-        noted-first (id e) n v (has_sequenced_removal xs (SequencedId n)) true table (h.right n v) got
-        ∙ one (has_id (SequencedId n) e) (has_sequenced_removal xs (SequencedId n))
-    step n v false got = h.right n v got ∙ none (has_id (SequencedId n) e) (has_sequenced_removal xs (SequencedId n))
+    step : (x : ElementId) (v g : Bool) → list_any is_acked e.dels ≡ g → noted_at new x ≡ Some v → v ≡ ((has_id x e && g) || has_sequenced_removal xs x)
+    step x v true is got =
+        noted-first (same_id x (id e)) (noted_at table x) true (has_sequenced_removal xs x) v (h.right x v) (sym ((removed is).all x) ∙ got)
+        ∙ one (has_id x e) (has_sequenced_removal xs x)
+    step x v false is got = h.right x v (ap (λ t. noted_at t x) (sym (other is)) ∙ got) ∙ none (has_id x e) (has_sequenced_removal xs x)
 
-pub removals-none : (m : ℕ) (xs : List ListElement) (table : List Bool) → xs ≡ [] → table ≡ replicate m false → HasAnswers (has_sequenced_removal xs) table
-removals-none m xs table none filled = record {
-  right = λ n v h. get-replicate m n false v (ap (λ t. slice_get t n) (sym filled) ∙ h) ∙ ap (λ ys. has_sequenced_removal ys (SequencedId n)) (sym none);
-}
+pub removals-none : (xs : List ListElement) (table : NameTable Bool) → xs ≡ [] → HasAnswers (λ x. false) table → HasAnswers (has_sequenced_removal xs) table
+removals-none xs table none only = record { right = λ x v h. only.right x v h ∙ ap (λ ys. has_sequenced_removal ys x) (sym none) }
 
-pub removals-all : (xs : List ListElement) (i : ℕ) (table : List Bool) → i ≤ 0 → HasAnswers (has_sequenced_removal (drop i xs)) table
+pub removals-all : (xs : List ListElement) (i : ℕ) (table : NameTable Bool) → i ≤ 0 → HasAnswers (has_sequenced_removal (drop i xs)) table
     → HasAnswers (has_sequenced_removal xs) table
 removals-all xs zero table end h = h
 removals-all xs (suc i) table end h = absurd (omega arith)
@@ -274,12 +286,6 @@ rank-at-most-length is seen (e ∷ xs) = step (is e) (seen e) (rank-at-most-leng
     step false true h = omega arith
     step false false h = omega arith
 
--- what is noted for a name is its answer
-pub noted-answer : {V : Type 0} (answer : ElementId → V) (table : List V) (x : ElementId) (v : V) → HasAnswers answer table
-    → Some v ≡ noted_at table (sequenced_number x) → v ≡ answer x
-noted-answer answer table (SequencedId n) v h got = h.right n v (sym got)
-noted-answer answer table (PendingId k n) v h got = (cc)
-
 -- a sequenced element is meant by its name alone
 is-sequenced-named : (n : ℕ) (e : ListElement) → (is_sequenced e && has_id (SequencedId n) e) ≡ has_id (SequencedId n) e
 is-sequenced-named n e = step e.ins
@@ -295,10 +301,28 @@ settled_after-same is was ok same last (x ∷ xs) =
     ap (λ b. cond b (option_or (find ok (x ∷ xs)) last) (settled_after is ok (cond (ok x) (Some x) last) xs)) (same x)
     ∙ ap (cond (was x) (option_or (find ok (x ∷ xs)) last)) (settled_after-same is was ok same (cond (ok x) (Some x) last) xs)
 
--- what is noted for a name is where it slides
-pub noted-slide : (xs : List ListElement) (table : List (Option ElementId)) (x : ElementId) (v : Option ElementId)
-    → HasAnswers (λ y. option_map id (settled (has_id y) is_unremoved xs)) table → Some v ≡ noted_at table (sequenced_number x) → v ≡ slide xs (Some x)
-noted-slide xs table (SequencedId n) v h got =
-    h.right n v (sym got)
-    ∙ ap (option_map id) (sym (settled_after-same (λ e. is_sequenced e && has_id (SequencedId n) e) (has_id (SequencedId n)) is_unremoved (is-sequenced-named n) None xs))
-noted-slide xs table (PendingId k n) v h got = (cc)
+-- what is noted for a sequenced element is where an end on it slides
+pub noted-slide : (xs : List ListElement) (table : NameTable (Option ElementId)) (x : ElementId) (v : Option ElementId)
+    → HasAnswers (λ y. option_map id (settled (has_id y) is_unremoved xs)) table → is_some (sequenced_number x) ≡ true → Some v ≡ noted_at table x
+    → v ≡ slide xs (Some x)
+noted-slide xs table (SequencedId m) v h is got =
+    h.right (SequencedId m) v (sym got)
+    ∙ ap (option_map id) (sym (settled_after-same (λ e. is_sequenced e && has_id (SequencedId m) e) (has_id (SequencedId m)) is_unremoved (is-sequenced-named m) None xs))
+noted-slide xs table (PendingId k m) v h is got = (cc)
+
+-- an end on a pending element slides to none
+pub slide-pending : (xs : List ListElement) (x : ElementId) → is_some (sequenced_number x) ≡ false → slide xs (Some x) ≡ None
+slide-pending xs (SequencedId m) is = (cc)
+slide-pending xs (PendingId k m) is = ap (option_map id) (nowhere None xs)
+  where
+    other : (s : Stamp) (n : ℕ) → (is_acked s && same_id (PendingId k m) (id_of_stamp s n)) ≡ false
+    other (Acked q c) n = refl
+    other (Local j) n = refl
+
+    nowhere : (last : Option ListElement) (ys : List ListElement)
+        → settled_after (λ e. is_sequenced e && has_id (PendingId k m) e) is_unremoved last ys ≡ None
+    nowhere last [] = refl
+    nowhere last (e ∷ ys) =
+        ap (λ b. cond b (option_or (find is_unremoved (e ∷ ys)) last)
+        (settled_after (λ e. is_sequenced e && has_id (PendingId k m) e) is_unremoved (cond (is_unremoved e) (Some e) last) ys)) (other e.ins e.nth)
+        ∙ nowhere (cond (is_unremoved e) (Some e) last) ys

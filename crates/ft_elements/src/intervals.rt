@@ -15,7 +15,7 @@ mod pending;
 
 use crate::element_tests::Unremoved;
 use crate::elements::PlainElement;
-use crate::name_tables::settled_names;
+use crate::name_tables::{NameTable, note_settled};
 use crate::names::{ElementName, ElementNames};
 use crate::slides::slide_by;
 use ft_base::{OutOfMemory, Text};
@@ -132,7 +132,7 @@ impl PlainInterval {
     }
 
     /// Slides both ends, by a table of where the ends on sequenced elements go.
-    fn slide(&mut self, names: &[Option<ElementName>], items: &[PlainElement])
+    fn slide(&mut self, names: &NameTable<Option<ElementName>>, items: &[PlainElement])
         requires { HasAnswers (λ x. option_map name_of_element (settled (has_id x) is_unremoved items.now)) names.now }
         ensures { self.new ≡ slide_interval items.now self.old }
     {
@@ -243,14 +243,19 @@ impl PlainIntervals {
         if self.items.is_empty() {
             return Ok(());
         }
-        let names = settled_names(*self.items.allocator(), items, Unremoved)?;
-        slide_all(self.items.as_mut_slice(), names.as_slice(), items);
+        let mut names = NameTable::new(*self.items.allocator(), items, None)?;
+        note_settled(&mut names, items, Unremoved);
+        slide_all(self.items.as_mut_slice(), &names, items);
         Ok(())
     }
 }
 
 /// Slides the ends of the intervals, by a table of where the ends on sequenced elements go.
-fn slide_all(intervals: &mut [PlainInterval], names: &[Option<ElementName>], items: &[PlainElement])
+fn slide_all(
+    intervals: &mut [PlainInterval],
+    names: &NameTable<Option<ElementName>>,
+    items: &[PlainElement],
+)
     requires { HasAnswers (λ x. option_map name_of_element (settled (has_id x) is_unremoved items.now)) names.now }
     ensures { intervals.new ≡ slide_ends items.now intervals.old }
 {

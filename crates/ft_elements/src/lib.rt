@@ -21,3 +21,4 @@ pub mod shown_grid;
 pub mod shown_intervals;
 pub mod shown_origins;
 mod slides;
+mod tables_of_ends;

@@ -10,9 +10,10 @@ ghost use Rattle.ft_elements.specs.NameTables.{HasAnswers};
 use crate::element_tests::AtStage;
 use crate::elements::PlainElement;
 use crate::intervals::PlainInterval;
-use crate::name_tables::{noted_at, ranks};
+use crate::name_tables::{NameTable, note_ranks};
 use crate::names::ElementName;
-use crate::scans::rank;
+use crate::scans::{rank, seen_count};
+use crate::tables_of_ends::table_of_ends;
 use ft_base::OutOfMemory;
 use ft_sumdoc::{Ends2, IntervalRec, IntervalRecs};
 use std::alloc::Global;
@@ -32,14 +33,16 @@ pub fn shown_intervals(
     if intervals.is_empty() {
         return Ok(IntervalRecs::new(alloc));
     }
-    let ranks = ranks(alloc, items, AtStage(stage))?;
-    shown_by(alloc, ranks.as_slice(), items, intervals, stage)
+    let all = seen_count(items, AtStage(stage)) as u64;
+    let mut ranks = table_of_ends(alloc, items, intervals, all)?;
+    note_ranks(&mut ranks, items, AtStage(stage));
+    shown_by(alloc, &ranks, items, intervals, stage)
 }
 
-/// The same, by a table of the ranks of sequenced elements.
+/// The same, by a table of the ranks of elements.
 fn shown_by(
     alloc: Global,
-    ranks: &[u64],
+    ranks: &NameTable<u64>,
     items: &[PlainElement],
     intervals: &[PlainInterval],
     stage: u64,
@@ -55,9 +58,9 @@ fn shown_by(
     Ok(shown)
 }
 
-/// An interval as it is shown, by a table of the ranks of sequenced elements.
+/// An interval as it is shown, by a table of the ranks of elements.
 fn shown_interval(
-    ranks: &[u64],
+    ranks: &NameTable<u64>,
     items: &[PlainElement],
     i: &PlainInterval,
     stage: u64,
@@ -77,8 +80,13 @@ fn shown_interval(
     })
 }
 
-/// The same as `end_number`, by a table of the ranks of sequenced elements.
-fn ranked_number(ranks: &[u64], items: &[PlainElement], end: Option<ElementName>, stage: u64) -> i64
+/// The same as `end_number`, by a table of the ranks of elements.
+fn ranked_number(
+    ranks: &NameTable<u64>,
+    items: &[PlainElement],
+    end: Option<ElementName>,
+    stage: u64,
+) -> i64
     requires countable { length items.now < 2 ^ 53 }
     requires ranks { HasAnswers (λ x. rank (has_id x) (seen stage) items.now) ranks.now }
     ensures { result ≡ end_number stage items.now end }
@@ -89,14 +97,14 @@ fn ranked_number(ranks: &[u64], items: &[PlainElement], end: Option<ElementName>
     }
 }
 
-/// How many elements that a client sees at its pending stage stand left of the element of that name, by a table of that
-/// for the sequenced ones.
-fn noted_rank(ranks: &[u64], items: &[PlainElement], name: ElementName, stage: u64) -> u64
+/// How many elements that a client sees at its pending stage stand left of the element of that name, by a table
+/// of that.
+fn noted_rank(ranks: &NameTable<u64>, items: &[PlainElement], name: ElementName, stage: u64) -> u64
     requires { HasAnswers (λ x. rank (has_id x) (seen stage) items.now) ranks.now }
     ensures rank { result ≡ rank (has_id name) (seen stage) items.now }
     ensures inside { result ≤ length items.now }
 {
-    match noted_at(ranks, name) {
+    match ranks.at(name) {
         Some(rank) => rank,
         None => rank(items, name, AtStage(stage)),
     }

@@ -8,7 +8,7 @@ ghost use Rattle.ft_elements.specs.NameTables.{HasAnswers};
 
 use crate::element_tests::{AtStage, ElementTest, Sequenced, Unremoved};
 use crate::elements::PlainElement;
-use crate::name_tables::noted_at;
+use crate::name_tables::NameTable;
 use crate::names::ElementName;
 
 /// The element of the end if no removal of it is sequenced, else the next one of which none is,
@@ -27,9 +27,9 @@ pub fn settle(items: &[PlainElement], stage: u64, end: Option<ElementName>) -> O
     settled(items, end?, AtStage(stage))
 }
 
-/// The same as `slide`, by a table of where the ends on sequenced elements go.
+/// The same as `slide`, by a table of where the ends go that are on sequenced elements.
 pub fn slide_by(
-    names: &[Option<ElementName>],
+    names: &NameTable<Option<ElementName>>,
     items: &[PlainElement],
     end: Option<ElementName>,
 ) -> Option<ElementName>
@@ -44,22 +44,26 @@ pub fn slide_by(
 
 /// Where an end on the element of that name slides, by the same table.
 fn noted_slide(
-    names: &[Option<ElementName>],
+    names: &NameTable<Option<ElementName>>,
     items: &[PlainElement],
     name: ElementName,
 ) -> Option<ElementName>
     requires { HasAnswers (λ x. option_map id (settled (has_id x) is_unremoved items.now)) names.now }
     ensures { result ≡ slide items.now (Some name) }
 {
-    match noted_at(names, name) {
+    // An end on a pending element slides to none.
+    if name.sequenced_number().is_none() {
+        return None;
+    }
+    match names.at(name) {
         Some(to) => to,
         None => slide(items, Some(name)),
     }
 }
 
-/// The same as `settle`, by a table of where the ends on sequenced elements go.
+/// The same as `settle`, by a table of where the ends go.
 pub fn settle_by(
-    names: &[Option<ElementName>],
+    names: &NameTable<Option<ElementName>>,
     items: &[PlainElement],
     stage: u64,
     end: Option<ElementName>,
@@ -75,7 +79,7 @@ pub fn settle_by(
 
 /// Where an end on the element of that name settles, by the same table.
 fn noted_settle(
-    names: &[Option<ElementName>],
+    names: &NameTable<Option<ElementName>>,
     items: &[PlainElement],
     stage: u64,
     name: ElementName,
@@ -83,7 +87,7 @@ fn noted_settle(
     requires { HasAnswers (λ x. option_map id (settled (has_id x) (seen stage) items.now)) names.now }
     ensures { result ≡ settle items.now stage (Some name) }
 {
-    match noted_at(names, name) {
+    match names.at(name) {
         Some(to) => to,
         None => settle(items, stage, Some(name)),
     }

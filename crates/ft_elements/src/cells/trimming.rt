@@ -7,9 +7,10 @@ ghost use Rattle.ft_elements.specs.NameTables.{HasAnswers};
 
 use crate::cells::{PlainCell, PlainCells, is_null};
 use crate::elements::PlainElement;
-use crate::name_tables::{noted_at, removals};
+use crate::name_tables::{NameTable, note_removals};
 use crate::names::ElementName;
 use ft_base::OutOfMemory;
+use std::alloc::Global;
 
 impl PlainCells {
     /// The cells whose value isn't null and whose row and column aren't removed.
@@ -27,7 +28,7 @@ impl PlainCells {
         let gone_cols = removals(alloc, cols)?;
         let mut items = Vec::new(alloc);
         for cell in &self.items {
-            if cell.is_kept(rows, gone_rows.as_slice(), cols, gone_cols.as_slice()) {
+            if cell.is_kept(rows, &gone_rows, cols, &gone_cols) {
                 items.push(cell.copy()?)?;
             }
         }
@@ -40,9 +41,9 @@ impl PlainCell {
     fn is_kept(
         &self,
         rows: &[PlainElement],
-        gone_rows: &[bool],
+        gone_rows: &NameTable<bool>,
         cols: &[PlainElement],
-        gone_cols: &[bool],
+        gone_cols: &NameTable<bool>,
     ) -> bool
         requires rows { HasAnswers (has_sequenced_removal rows.now) gone_rows.now }
         requires cols { HasAnswers (has_sequenced_removal cols.now) gone_cols.now }
@@ -54,12 +55,23 @@ impl PlainCell {
     }
 }
 
+/// A table of which sequenced elements have a sequenced removal.
+///
+/// Answers `OutOfMemory` where there is no room for it.
+fn removals(alloc: Global, items: &[PlainElement]) -> Result<NameTable<bool>, OutOfMemory>
+    ensures { IfOk result (λ table. HasAnswers (has_sequenced_removal items.now) table) }
+{
+    let mut table = NameTable::new(alloc, items, false)?;
+    note_removals(&mut table, items);
+    Ok(table)
+}
+
 /// Whether a removal of the element of that name is sequenced, by a table of that for the sequenced ones.
-fn is_gone(items: &[PlainElement], gone: &[bool], name: ElementName) -> bool
+fn is_gone(items: &[PlainElement], gone: &NameTable<bool>, name: ElementName) -> bool
     requires { HasAnswers (has_sequenced_removal items.now) gone.now }
     ensures { result ≡ has_sequenced_removal items.now name }
 {
-    match noted_at(gone, name) {
+    match gone.at(name) {
         Some(is_gone) => is_gone,
         None => is_removed(items, name),
     }

@@ -11,9 +11,10 @@ ghost use Rattle.ft_elements.specs.NameTables.{HasAnswers};
 use crate::element_tests::AtStage;
 use crate::elements::PlainElement;
 use crate::intervals::{PlainInterval, PlainIntervals};
-use crate::name_tables::settled_names;
+use crate::name_tables::{NameTable, note_settled};
 use crate::names::{ElementName, ElementNames};
 use crate::slides::settle_by;
+use crate::tables_of_ends::table_of_ends;
 use ft_base::{OutOfMemory, Text};
 use ft_op::TextOp;
 use ft_props::{PropSet, Props};
@@ -34,8 +35,8 @@ impl PlainInterval {
         })
     }
 
-    /// Settles both ends at the pending stage, by a table of where the ends on sequenced elements go.
-    fn settle(&mut self, names: &[Option<ElementName>], items: &[PlainElement], stage: u64)
+    /// Settles both ends at the pending stage, by a table of where the ends go.
+    fn settle(&mut self, names: &NameTable<Option<ElementName>>, items: &[PlainElement], stage: u64)
         requires { HasAnswers (λ x. option_map name_of_element (settled (has_id x) (seen stage) items.now)) names.now }
         ensures { self.new ≡ settle_interval items.now stage self.old }
     {
@@ -68,8 +69,10 @@ impl PlainIntervals {
         if self.items.is_empty() {
             return Ok(());
         }
-        let names = settled_names(*self.items.allocator(), items, AtStage(stage))?;
-        settle_all(self.items.as_mut_slice(), names.as_slice(), items, stage);
+        let alloc = *self.items.allocator();
+        let mut names = table_of_ends(alloc, items, self.items.as_slice(), None)?;
+        note_settled(&mut names, items, AtStage(stage));
+        settle_all(self.items.as_mut_slice(), &names, items, stage);
         Ok(())
     }
 
@@ -121,10 +124,10 @@ impl PlainIntervals {
     }
 }
 
-/// Settles the ends of the intervals at the pending stage, by a table of where the ends on sequenced elements go.
+/// Settles the ends of the intervals at the pending stage, by a table of where the ends go.
 fn settle_all(
     intervals: &mut [PlainInterval],
-    names: &[Option<ElementName>],
+    names: &NameTable<Option<ElementName>>,
     items: &[PlainElement],
     stage: u64,
 )

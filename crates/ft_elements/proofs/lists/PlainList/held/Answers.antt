@@ -1,4 +1,4 @@
-use Rattle.std.proofs.Common.{◌+◌, ◌<◌, ◌^◌, arith}
+use Rattle.std.proofs.Common.{arith}
 use Rattle.ft_props.specs.Element.{is_pending}
 use Rattle.ft_elements.proofs.HeldElements.{len-at-most-length}
 use Rattle.ft_elements.proofs.lists.PlainList.held.Goals as goal

@@ -1,14 +1,14 @@
 use Rattle.std.proofs.Common.{◌-◌, arith, drop, length}
 use Rattle.std.proofs.lemmas.List.{drop_all}
 use Rattle.ft_elements.proofs.NotedAnswers.{front, removals-all, removals-more, removals-none}
-use Rattle.ft_elements.proofs.name_tables.removals.Goals as goal
+use Rattle.ft_elements.proofs.name_tables.note_removals.Goals as goal
 
 pub loop-i-init : goal.loop-i-init
 loop-i-init c =
     let xs = c.args.items.now in
     record {
       inside = omega arith;
-      right = removals-none c.in_ok-table_length.field-0 (drop (length xs) xs) c.in_ok-table.table.items (drop_all (length xs) xs (omega arith)) c.in_ok-table.ensures;
+      right = removals-none (drop (length xs) xs) c.args.table.now (drop_all (length xs) xs (omega arith)) c.requires;
     }
 
 pub loop-i-preserved : goal.loop-i-preserved
@@ -19,8 +19,9 @@ loop-i-preserved c =
     let at_front = front xs i e c.loop-i-test.true c.loop-i.invariant.inside c.index-items-i.is in
     record {
       inside = omega arith;
-      right = removals-more e (drop i xs) (drop (i - 1) xs) c.loop-i.table.items c.note_removal.new.table.items at_front c.note_removal.ensures c.loop-i.invariant.right;
+      right = removals-more e (drop i xs) (drop (i - 1) xs) c.loop-i.table c.note_removal.new.table at_front c.note_removal.ensures.removed
+          c.note_removal.ensures.other c.loop-i.invariant.right;
     }
 
 pub returns : goal.returns
-returns c = removals-all c.args.items.now c.loop-i.i c.loop-i.table.items c.loop-i-test.false c.loop-i.invariant.right
+returns c = removals-all c.args.items.now c.loop-i.i c.loop-i.table c.loop-i-test.false c.loop-i.invariant.right

@@ -1,23 +1,21 @@
-use Rattle.std.proofs.Common.{◌≡◌, ◌+◌, ◌-◌, ap, ◌∙◌, arith, drop, length, replicate}
+use Rattle.std.proofs.Common.{◌≡◌, ◌+◌, ◌-◌, ap, arith, drop, length}
 use Rattle.std.proofs.lemmas.List.{drop_all}
 use Rattle.ft_base.specs.Scan.{len}
 use Rattle.ft_elements.proofs.NotedAnswers.{HasAnswers-none, HasRanks, front, left-above, left-passed, left-taken, ranks-more, seen_before}
-use Rattle.ft_elements.proofs.name_tables.ranks.Goals as goal
-use Rattle.ft_elements.proofs.name_tables.ranks.Goals.{then-passes, else-passes}
+use Rattle.ft_elements.proofs.name_tables.note_ranks.Goals as goal
+use Rattle.ft_elements.proofs.name_tables.note_ranks.Goals.{then-passes, else-passes}
 
 pub loop-i-init : goal.loop-i-init
 loop-i-init g c =
     let seen = g.T.ElementTest.test c.args.seen in
     let xs = c.args.items.now in
     let none = drop_all (length xs) xs (omega arith) in
-    let m = c.in_ok-table_length.field-0 in
     let count : len seen (drop (length xs) xs) ≡ 0 = ap (len seen) none in
-    let all = c.seen_count-left.ensures in
+    let all = c.seen_count.ensures in
     record {
       inside = omega arith;
       counted = omega (arith, count, all);
-      right = HasAnswers-none (seen_before seen xs) (len seen xs) m (drop (length xs) xs) c.in_ok-table.table.items none
-          (◌∙◌ {b = replicate m c.seen_count-left.result} c.in_ok-table.ensures (ap (replicate m) all));
+      right = HasAnswers-none (seen_before seen xs) (len seen xs) (drop (length xs) xs) c.args.table.now none c.requires;
     }
 
 pub overflow_sub-left : goal.overflow_sub-left
@@ -43,8 +41,8 @@ loop-i-preserved g c =
     record {
       inside = omega arith;
       counted = count;
-      right = ranks-more seen xs i e at_front c.if-passes.left c.loop-i.table.items c.note.new.table.items count c.note.ensures c.loop-i.invariant.right;
+      right = ranks-more seen xs i e at_front c.if-passes.left c.loop-i.table c.note.new.self c.name.result count c.name.ensures c.note.ensures c.loop-i.invariant.right;
     }
 
 pub returns : goal.returns
-returns g c = HasRanks (g.T.ElementTest.test c.args.seen) c.args.items.now c.loop-i.i c.loop-i.table.items c.loop-i-test.false c.loop-i.invariant.right
+returns g c = HasRanks (g.T.ElementTest.test c.args.seen) c.args.items.now c.loop-i.i c.loop-i.table c.loop-i-test.false c.loop-i.invariant.right

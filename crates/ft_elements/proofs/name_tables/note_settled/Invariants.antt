@@ -2,7 +2,7 @@ use Rattle.std.proofs.Common.{◌≡◌, ◌≤◌, None, drop, length}
 use Rattle.ft_props.specs.Element.{has_id}
 use Rattle.ft_elements.specs.NameTables.{HasAnswers}
 use Rattle.ft_elements.proofs.NotedAnswers.{first_from, next_or_last}
-use Rattle.ft_elements.proofs.name_tables.settled_names.Given as goal
+use Rattle.ft_elements.proofs.name_tables.note_settled.Given as goal
 
 -- the elements from here on are noted, and `next` is where they send an end before them
 abbrev pub invariant-loop-i : goal.invariant-loop-i
@@ -11,7 +11,7 @@ invariant-loop-i g l =
     record {
       inside : l.i ≤ length l.items;
       sent : l.next ≡ next_or_last seen l.items (drop l.i l.items);
-      right : HasAnswers (λ x. first_from (next_or_last seen l.items) None (has_id x) (drop l.i l.items)) l.table.items;
+      right : HasAnswers (λ x. first_from (next_or_last seen l.items) None (has_id x) (drop l.i l.items)) l.table;
     }
 
 abbrev pub decreases-loop-i : goal.decreases-loop-i

@@ -3,7 +3,7 @@ use Rattle.ft_base.specs.Scan.{len}
 use Rattle.ft_props.specs.Element.{has_id}
 use Rattle.ft_elements.specs.NameTables.{HasAnswers}
 use Rattle.ft_elements.proofs.NotedAnswers.{first_from, seen_before}
-use Rattle.ft_elements.proofs.name_tables.ranks.Given as goal
+use Rattle.ft_elements.proofs.name_tables.note_ranks.Given as goal
 
 -- the elements from here on are noted; so many as are left are seen before them
 abbrev pub invariant-loop-i : goal.invariant-loop-i
@@ -12,7 +12,7 @@ invariant-loop-i g l =
     record {
       inside : l.i ≤ length l.items;
       counted : l.left + len seen (drop l.i l.items) ≡ len seen l.items;
-      right : HasAnswers (λ x. first_from (seen_before seen l.items) (len seen l.items) (has_id x) (drop l.i l.items)) l.table.items;
+      right : HasAnswers (λ x. first_from (seen_before seen l.items) (len seen l.items) (has_id x) (drop l.i l.items)) l.table;
     }
 
 abbrev pub decreases-loop-i : goal.decreases-loop-i
