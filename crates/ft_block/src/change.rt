@@ -1,6 +1,6 @@
 //! How one leaf is cut in two, or has another value.
 
-ghost use Rattle.std.specs.Prelude.{◌≡◌, ℕ, ◌+◌, ◌^◌, ◌<◌, ◌≤◌, None, IsSome, IsSomeAnd, IsTrue, IfOk, OnOk};
+ghost use Rattle.std.specs.Prelude.{◌≡◌, ◌+◌, ◌^◌, ◌<◌, ◌≤◌, None, IsSome, IsSomeAnd, IsTrue, IfOk, OnOk};
 ghost use Rattle.ft_arena.specs.Forest.{leaf_value};
 ghost use Rattle.ft_block.specs.Tree.{IsTree, SumsKeptBut, AreFromFloor, by_size, length_of, total};
 ghost use Rattle.ft_block.specs.Steps.{SplitsLeaf, ChangesLeaf};

@@ -1,7 +1,7 @@
 //! How many elements a view sees left of a leaf, or in all leaves.
 
-ghost use Rattle.std.specs.Prelude.{◌≡◌, ℕ, ◌+◌, ◌^◌, ◌<◌, ◌≤◌, Some, None, IsSome};
-ghost use Rattle.ft_arena.specs.Forest.{IsForest, entry, block_value, kids_of, leaf_value};
+ghost use Rattle.std.specs.Prelude.{◌≡◌, ◌+◌, ◌^◌, ◌<◌, ◌≤◌, Some, None, IsSome};
+ghost use Rattle.ft_arena.specs.Forest.{IsForest, block_value, kids_of, leaf_value};
 ghost use Rattle.ft_arena.specs.Ids.{times};
 ghost use Rattle.ft_block.specs.declared.leaves.LenView.TheVariants.{Stage};
 ghost use Rattle.ft_block.specs.declared.leaves.View.TheVariants.{Of, Pending};

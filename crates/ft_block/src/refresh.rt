@@ -1,7 +1,7 @@
 //! How what blocks keep is made again from their children, or changed on the way up from a leaf.
 
-ghost use Rattle.std.specs.Prelude.{◌≡◌, ℕ, ◌+◌, ◌^◌, ◌<◌, ◌≤◌, [], ◌∷◌, None, Some, IsSome, IfOk, OnOk};
-ghost use Rattle.ft_arena.specs.Forest.{IsForest, entry, block_value, kids_of, parent_of, leaf_value};
+ghost use Rattle.std.specs.Prelude.{◌≡◌, ℕ, ◌+◌, ◌^◌, ◌<◌, ◌≤◌, None, Some, IsSome, IfOk, OnOk};
+ghost use Rattle.ft_arena.specs.Forest.{IsForest, entry, block_value, kids_of};
 ghost use Rattle.ft_arena.specs.Ids.{times};
 ghost use Rattle.ft_block.specs.declared.leaves.View.{View};
 ghost use Rattle.ft_block.specs.Tree.{IsPartTree, SumsKeptBut, OwesExchange, AreFromFloor, KeepsLengths, by_view, by_size, kept_length, length_of, total};

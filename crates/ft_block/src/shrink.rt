@@ -1,7 +1,7 @@
 //! How a leaf is taken out of the tree: blocks that have too few children get some of a neighbour, or
 //! are joined with it.
 
-ghost use Rattle.std.specs.Prelude.{◌≡◌, ◌≢◌, IsTrue, false, ℕ, ◌+◌, ◌^◌, ◌<◌, ◌≤◌, ◌++◌, Some, None, IsSome, IfOk, OnOk, length, slice_get, [], ◌∷◌};
+ghost use Rattle.std.specs.Prelude.{◌≡◌, ◌≢◌, IsTrue, false, ℕ, ◌+◌, ◌^◌, ◌<◌, ◌≤◌, Some, None, IsSome, IfOk, OnOk, length, slice_get, [], ◌∷◌};
 ghost use Rattle.ft_arena.specs.Forest.{IsForest, IsPlace, block_value, kids_of, leaf_value, parent_of};
 ghost use Rattle.ft_arena.specs.Ids.{times, put_after, without};
 ghost use Rattle.ft_block.specs.declared.leaves.View.{View};

@@ -1,8 +1,8 @@
 //! What a block keeps of the leaves below it.
 
-ghost use Rattle.std.specs.Prelude.{◌≡◌, ◌≤◌, ◌<◌, ◌^◌, OnOk};
+ghost use Rattle.std.specs.Prelude.{◌≡◌, ◌≤◌, ◌<◌, OnOk};
 ghost use Rattle.ft_partial.specs.Rows.{Covers};
-ghost use Rattle.ft_block.specs.Tree.{IsFrom, kept_length, length_of_node, by_view, KeepsNothing, KeepsExchange, KeepsSum, KeepsNode, IsNodeFrom, HasRange};
+ghost use Rattle.ft_block.specs.Tree.{IsFrom, kept_length, KeepsNothing, KeepsExchange, KeepsSum, KeepsNode, IsNodeFrom, HasRange};
 
 use crate::leaves::{Leaf, LenView, View, shown_in};
 use ft_arena::Node;

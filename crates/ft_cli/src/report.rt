@@ -1,6 +1,6 @@
 //! The last lines of a report.
 
-ghost use Rattle.std.specs.Prelude.{◌≡◌, ℕ, IfOk, string_bytes};
+ghost use Rattle.std.specs.Prelude.{◌≡◌, IfOk, string_bytes};
 ghost use Rattle.ft_op.specs.Document.{Document};
 ghost use Rattle.ft_seqr.specs.SessionReport.{closing_lines};
 ghost use Rattle.ft_cli.specs.LineForm.{bytes_of};

@@ -3,7 +3,7 @@
 ghost use Rattle.std.specs.Prelude.{◌≡◌, ℕ, ◌+◌, ◌≤◌, ◌∷◌, IfSome, None, Some};
 ghost use Rattle.ft_seqr.specs.WellFormedEvent.{IsWellFormedEvent};
 ghost use Rattle.ft_gen.specs.Acts.{event_of};
-ghost use Rattle.ft_gen.specs.Rounds.{compaction, exchange};
+ghost use Rattle.ft_gen.specs.Rounds.{exchange};
 ghost use Rattle.ft_gen.specs.Exchange.{IsExchange, compacts_from, exchange_left, exchange_to_come, lessons_from, noop_lessons_from, noops_from, submissions_from};
 
 use crate::acts::{Act, Deed};

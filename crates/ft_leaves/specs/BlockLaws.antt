@@ -1,5 +1,5 @@
 -- A leaf that stands in blocks: how long it is, and which stamps it has, after each step.
-use Rattle.std.proofs.Common.{◌≡◌, ℕ, zero, suc, ◌+◌, ◌<◌, ◌≤◌, Bool, true, false, cond, List, [], ◌∷◌, length, take, drop, refl, ap, ◌∙◌, arith}
+use Rattle.std.proofs.Common.{◌≡◌, ℕ, zero, suc, ◌+◌, ◌<◌, Bool, true, false, cond, List, [], ◌∷◌, length, take, drop, refl, ap, ◌∙◌, arith}
 use Rattle.ft_base.specs.Visibility.{is_of_stage}
 use Rattle.ft_leaves.specs.declared.leaves.TreeLeaf.{TreeLeaf}
 use Rattle.ft_leaves.specs.declared.block_leaf.LeafChange.{LeafChange}

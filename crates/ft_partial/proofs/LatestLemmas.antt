@@ -1,12 +1,12 @@
 -- What all see from the greatest sequence number on, through the changes of a table.
-use Rattle.std.proofs.Common.{◌≡◌, ℕ, ◌+◌, ◌<◌, ◌≤◌, ◌%◌, ◌^◌, Bool, true, not, ◌&&◌, ◌||◌, nat_le, List, [], ◌∷◌, refl, ◌∙◌, ap, arith}
+use Rattle.std.proofs.Common.{◌≡◌, ℕ, ◌+◌, ◌<◌, ◌≤◌, ◌%◌, ◌^◌, not, ◌&&◌, ◌||◌, List, [], ◌∷◌, refl, ◌∙◌, ap, arith}
 use Rattle.std.specs.List.{list_any}
 use Rattle.std.proofs.lemmas.Bool.Decides.{nat_tests}
 use Rattle.ft_base.specs.declared.stamps.Stamp.{Stamp}
 use Rattle.ft_base.specs.declared.stamps.Stamp.TheVariants.{Acked, Local}
 use Rattle.ft_base.specs.declared.elements.Element.{Element}
 use Rattle.ft_base.specs.Visibility.{has_occurred, is_acked, is_present, sees}
-use Rattle.ft_partial.specs.StepFunctions.{amount, value_at}
+use Rattle.ft_partial.specs.StepFunctions.{amount}
 use Rattle.ft_partial.specs.Rows.{row_place}
 use Rattle.ft_partial.specs.Tables.{Lengths, length_at, Exchanges, AddsAll, SameFrom}
 use Rattle.ft_partial.specs.Latest.{acked_number, latest_among, latest_number, last_length, IsLastLength}

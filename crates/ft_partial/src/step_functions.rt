@@ -23,7 +23,7 @@ ghost use Rattle.std.specs.Prelude.{
   vec_len,
   vec_capacity,
 };
-ghost use Rattle.ft_partial.specs.StepFunctions.{amount, value_from, value_at, Raises, MovesRise, ExchangesSpan};
+ghost use Rattle.ft_partial.specs.StepFunctions.{value_from, value_at, Raises, MovesRise, ExchangesSpan};
 ghost use Rattle.ft_partial.specs.Steps.{
   IsRising,
   IsPlace,

@@ -1,6 +1,6 @@
 //! Vectors of handles.
 
-ghost use Rattle.std.specs.Prelude.{◌≡◌, ℕ, All, ◌+◌, ◌^◌, ◌<◌, ◌≤◌, ◌&&◌, ◌||◌, [], None, Bool, not, nat_eq, length, true, false};
+ghost use Rattle.std.specs.Prelude.{◌≡◌, ℕ, All, ◌+◌, ◌^◌, ◌<◌, ◌≤◌, ◌&&◌, ◌||◌, [], None, not, nat_eq, length, true, false};
 ghost use Rattle.ft_block.specs.Leaves.{IsFromFloor};
 ghost use Rattle.ft_props.specs.Properties.{max_safe_integer};
 ghost use Rattle.ft_perm.specs.Handles.{in_run};

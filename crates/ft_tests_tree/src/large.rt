@@ -2,7 +2,7 @@
 //! places, and taken out again.
 
 ghost use Rattle.std.specs.Prelude.{◌≡◌, ◌+◌, ◌<◌, ◌≤◌, length, IsTrue, IfOk, IfSome, OnOk};
-ghost use Rattle.ft_block.specs.Leaves.{IsLeafIn, length_by};
+ghost use Rattle.ft_block.specs.Leaves.{IsLeafIn};
 
 use crate::runs::{Run, leaf_with};
 use ft_arena::NodeId;

@@ -1,6 +1,6 @@
 //! A run of equal elements, as a leaf.
 
-ghost use Rattle.std.specs.Prelude.{◌≡◌, ℕ, ◌+◌, ◌-◌, ◌<◌, ◌==◌, ◌&&◌, nat_lt, IsTrue, IfSome, refl};
+ghost use Rattle.std.specs.Prelude.{◌+◌, ◌-◌, ◌<◌, ◌==◌, ◌&&◌, nat_lt, IsTrue, IfSome, refl};
 ghost use Rattle.std.proofs.Common.{arith};
 ghost use Rattle.ft_block.specs.Leaves.{IsLeafIn};
 

@@ -1,4 +1,4 @@
-use Rattle.std.proofs.Common.{◌≤◌, arith, ◌∙◌, ap, subst, sym}
+use Rattle.std.proofs.Common.{arith, ◌∙◌, ap, subst, sym}
 use Rattle.ft_partial.specs.Latest.{IsLastLength}
 use Rattle.ft_partial.specs.Tables.{Lengths}
 use Rattle.ft_partial.proofs.LatestLemmas.{last-exchanged}
