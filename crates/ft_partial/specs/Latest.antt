@@ -31,5 +31,5 @@ IsLastLength latest n t = (r c : ℕ) → latest ≤ r → r < 2 ^ 64 → c < 2 
 
 -- what a table keeps besides: the last length and from where on it holds, and how many steps a fold waits for
 pub record IsSoundTable (t : Lengths) (latest last fold_at : ℕ) : Type 0 where
-  pub few : 8 ≤ fold_at
+  pub few : 4 ≤ fold_at
   pub last_is : IsLastLength latest last t

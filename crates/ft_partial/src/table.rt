@@ -15,7 +15,7 @@ use std::alloc::Global;
 use std::marker::Model;
 
 /// Below this number of steps nothing is folded.
-const FEW: usize = 8;
+const FEW: usize = 4;
 
 /// How much each perspective sees of a list of items, each the stamps of some elements with their
 /// number.
