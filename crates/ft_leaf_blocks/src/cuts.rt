@@ -1,6 +1,6 @@
 //! Leaves in blocks: how they are cut at a place, and get a leaf there.
 
-ghost use Rattle.std.specs.Prelude.{[], ◌≡◌, ◌+◌, ◌<◌, ◌≤◌, ◌^◌, ℕ, IfOk, IsTrue, OnOk, true, length};
+ghost use Rattle.std.specs.Prelude.{[], ◌≡◌, ◌+◌, ◌<◌, ◌≤◌, ◌^◌, ℕ, IfOk, IsTrue, OnOk, true, false, length};
 ghost use Rattle.std.specs.List.{prefix_len};
 ghost use Rattle.ft_base.specs.Scan.{place, put};
 ghost use Rattle.ft_block.specs.declared.leaves.LenView.{LenView};
@@ -75,6 +75,7 @@ pub fn behind_run<C: Content, G: Ledger>(
         length (elements C.units C.by (up_to_place leaves result))
         ≡ length (elements C.units C.by (up_to_place leaves at)) + prefix_len (passes past_pending) (elements C.units C.by (from_place leaves (node_behind leaves at))) }
     ensures reads { steps.new ≤ steps.old + pending_leaves (from_place blocks.now.leaves (node_behind blocks.now.leaves at)) + 1 }
+    ensures no_reads { past_pending ≡ false → steps.new ≡ steps.old }
 {
     if past_pending {
         behind_pending(blocks, at, steps)
@@ -134,6 +135,7 @@ fn put_past<C: Content + Drop, G: Ledger>(
     ensures usable { OnOk result (blocks.new.usable ≡ true) }
     ensures floor { blocks.new.floor ≡ blocks.old.floor }
     ensures reads { steps.new ≤ steps.old + pending_leaves (from_place blocks.old.leaves (node_behind blocks.old.leaves at)) + 1 }
+    ensures no_reads { past_pending ≡ false → steps.new ≡ steps.old }
 {
     let _first = blocks.first();
     let end = behind_run(blocks, at, past_pending, steps);
@@ -189,10 +191,12 @@ pub fn insert_at<C: Content + Drop, G: Ledger>(
     ensures place { (view : LenView) (p : ℕ) → held_place C.units C.by blocks.old.leaves found.now.leaf found.now.offset
         ≡ place (seen_in view) p (elements C.units C.by blocks.old.leaves)
         → IfOk result (λ i. i ≡ put_place (seen_in view) (passes past_pending) p (elements C.units C.by blocks.old.leaves)) }
+    ensures count { OnOk result (length (elements C.units C.by blocks.new.leaves) ≡ length (elements C.units C.by blocks.old.leaves) + length (C.units content)) }
     ensures nodes { OnOk result (Extends (ids blocks.old.leaves) (ids blocks.new.leaves)) }
     ensures usable { OnOk result (blocks.new.usable ≡ true) }
     ensures floor { blocks.new.floor ≡ blocks.old.floor }
     ensures reads { steps.new ≤ steps.old + pending_leaves blocks.old.leaves + 1 }
+    ensures no_reads { past_pending ≡ false → steps.new ≡ steps.old }
 {
     let at = cut_at(blocks, found)?;
     let _first = blocks.first();

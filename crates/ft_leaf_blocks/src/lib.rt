@@ -12,3 +12,4 @@ pub mod places;
 pub mod ranges;
 pub mod references;
 pub mod scans;
+pub mod stamp_lists;

@@ -80,11 +80,6 @@ module _ {L : Type 0} where
         length_without f xs id v once e,
       )
 
-  -- a change of leaves that keeps their nodes
-  pub times-map : (g : ℕ × L → L) (xs : List (ℕ × L)) (z : ℕ) → times_leaf (map (λ x. (x.0, g x)) xs) z ≡ times_leaf xs z
-  times-map g [] z = refl
-  times-map g (x ∷ xs) z = omega (arith, times-map g xs z)
-
   -- and their lengths
   pub length-map_by : (f : L → ℕ) (g : ℕ × L → L) → ((x : ℕ × L) → f (g x) ≡ f x.1) → (xs : List (ℕ × L)) → length_by f (map (λ x. (x.0, g x)) xs) ≡ length_by f xs
   length-map_by f g h [] = refl
@@ -124,12 +119,6 @@ module _ {C U : Type 0} (units : C → List U) (by : C → Option Stamp) where
         );
       }
 
-  pub times_le : (id : ℕ) (old now : List (ℕ × TreeLeaf C)) → WithoutNode units by id old now → (z : ℕ) → times_leaf now z ≤ times_leaf old z
-  times_le id old now w z = elim (cases_eq z id) [
-    | inl e ↦ omega (arith, w.gone, ap (λ k. times_leaf now k) e)
-    | inr d ↦ omega (arith, w.others z d)
-  ]
-
   -- a moved leaf
   pub elements-moved : (xs : List (ℕ × TreeLeaf C)) (id : ℕ) (at : Option ℕ) (v : TreeLeaf C) → ((i : ℕ) → times_leaf xs i ≤ 1) → IsLeafIn xs id
       → value_at xs id ≡ Some v → IsPlaceIn (without_leaf xs id) at
@@ -153,6 +142,3 @@ module _ {C U : Type 0} (units : C → List U) (by : C → Option Stamp) where
       length-elements units by (map (λ x. (x.0, g x)) xs)
       ∙ length-map_by (λ (x : TreeLeaf C). length (units x.content)) g (λ x. unmarked_by (nat_eq x.0 id) k x.1) xs
       ∙ sym (length-elements units by xs)
-
-pub times-unmarked : {C : Type 0} (k : ℕ) (xs : List (ℕ × TreeLeaf C)) (id z : ℕ) → times_leaf (map (unmarked_pair id k) xs) z ≡ times_leaf xs z
-times-unmarked k xs id z = times-map (λ x. cond (nat_eq x.0 id) (unmarked_leaf k x.1) x.1) xs z

@@ -1,18 +1,18 @@
 -- The elements of leaves: how scans of elements go from leaf to leaf.
-use Rattle.std.proofs.Common.{◌≡◌, ℕ, ◌+◌, ◌-◌, ◌<◌, ◌≤◌, Bool, true, false, cond, nat_eq, not, List, [], ◌∷◌, ◌++◌, length, take, drop, get_or, Option, IsSomeAnd, slice_get, subst, refl, sym, ◌∙◌, ap, arith, append-nil, length-append}
+use Rattle.std.proofs.Common.{◌≡◌, ℕ, ◌+◌, ◌-◌, ◌<◌, ◌≤◌, Bool, true, false, cond, not, List, [], ◌∷◌, ◌++◌, length, get_or, Option, IsSomeAnd, slice_get, subst, refl, sym, ◌∙◌, ap, arith, append-nil, length-append}
 use Rattle.std.specs.List.{prefix_len}
-use Rattle.std.proofs.lemmas.List.{drop_more, take_more, length-map}
+use Rattle.std.proofs.lemmas.List.{length-map}
 use Rattle.std.proofs.lemmas.Option.{slice_get_read}
 use Rattle.std.proofs.lemmas.Grind.{flat_map-append}
 use Rattle.ft_base.specs.declared.stamps.Stamp.{Stamp}
 use Rattle.ft_base.specs.Visibility.{is_acked}
 use Rattle.ft_base.specs.Scan.{len, place}
 use Rattle.ft_block.specs.declared.leaves.LenView.{LenView}
-use Rattle.ft_block.specs.Leaves.{left_of, length_by, sees_in, without_leaf}
+use Rattle.ft_block.specs.Leaves.{length_by, sees_in}
 use Rattle.ft_leaves.specs.declared.leaves.TreeLeaf.{TreeLeaf}
 use Rattle.ft_leaves.specs.Elements.{TreeElement, element_with, is_pending, seen_in}
 use Rattle.ft_leaves.specs.LeafLists.{elements, leaf_elements, leaf_length}
-use Rattle.ft_leaves.proofs.Runs.{len-seen, len-unseen, place-past_seen, place-past_unseen, place-within, prefix_len-past, prefix_len-none}
+use Rattle.ft_leaves.proofs.Runs.{len-seen, len-unseen, place-past_seen, place-past_unseen, prefix_len-past, prefix_len-none}
 
 -- what holds of the element at i, and the element there
 pub here : {A : Type 0} (xs : List A) (i : ℕ) (x : A) (P : A → Type 0) → i < length xs → x ≡ get_or xs i x → IsSomeAnd (slice_get xs i) P → P x
@@ -41,19 +41,6 @@ module _ {C U : Type 0} (units : C → List U) (by : C → Option Stamp) where
   pub elements-one : (x : ℕ × TreeLeaf C) → elements units by (x ∷ []) ≡ leaf_elements units by x.1
   elements-one x = append-nil (leaf_elements units by x.1)
 
-  -- the elements from leaf i on
-  pub elements-drop : (xs : List (ℕ × TreeLeaf C)) (i : ℕ) (x : ℕ × TreeLeaf C) → i < length xs → x ≡ get_or xs i x
-      → elements units by (drop i xs) ≡ leaf_elements units by x.1 ++ elements units by (drop (i + 1) xs)
-  elements-drop xs i x h e = ap (elements units by) (drop_more xs i x h ∙ ap (λ y. y ∷ drop (i + 1) xs) (sym e))
-
-  -- one leaf more
-  pub length-elements-take : (xs : List (ℕ × TreeLeaf C)) (i : ℕ) (x : ℕ × TreeLeaf C) → i < length xs → x ≡ get_or xs i x
-      → length (elements units by (take (i + 1) xs)) ≡ length (elements units by (take i xs)) + length (leaf_elements units by x.1)
-  length-elements-take xs i x h e =
-      ap (λ ys. length (elements units by ys)) (take_more xs i x h ∙ ap (λ y. take i xs ++ y ∷ []) (sym e))
-      ∙ ap length (elements-append (take i xs) (x ∷ []) ∙ ap (λ ys. elements units by (take i xs) ++ ys) (elements-one x))
-      ∙ length-append (elements units by (take i xs)) (leaf_elements units by x.1)
-
   place_passes_by : (b : Bool) (view : LenView) (x : TreeLeaf C) (ys : List (TreeElement U)) (left : ℕ) → sees_in view x.stamps ≡ b
       → 0 < left → len (seen_in view) (leaf_elements units by x) ≤ left
       → place (seen_in view) left (leaf_elements units by x ++ ys)
@@ -76,19 +63,6 @@ module _ {C U : Type 0} (units : C → List U) (by : C → Option Stamp) where
       ≡ length (leaf_elements units by x) + place (seen_in view) (left - len (seen_in view) (leaf_elements units by x)) ys
   place-passes view x ys left some le = place_passes_by (sees_in view x.stamps) view x ys left refl some le
 
-  place_inside_by : (b : Bool) (view : LenView) (x : TreeLeaf C) (ys : List (TreeElement U)) (left : ℕ) → sees_in view x.stamps ≡ b
-      → left < len (seen_in view) (leaf_elements units by x)
-      → (place (seen_in view) left (leaf_elements units by x ++ ys) ≡ left) × (left < length (units x.content))
-  place_inside_by true view x ys left h less =
-      let n = leaf_seen view x h in
-      (place-within (seen_in view) (of_leaf x) (λ u. h) (units x.content) left ys (omega (arith, n)), omega (arith, n))
-  place_inside_by false view x ys left h less = let n = leaf_unseen view x h in absurd (omega (arith, n))
-
-  -- a place within a leaf
-  pub place-inside : (view : LenView) (x : TreeLeaf C) (ys : List (TreeElement U)) (left : ℕ) → left < len (seen_in view) (leaf_elements units by x)
-      → (place (seen_in view) left (leaf_elements units by x ++ ys) ≡ left) × (left < length (units x.content))
-  place-inside view x ys left less = place_inside_by (sees_in view x.stamps) view x ys left refl less
-
   -- the run of pending elements goes on behind a pending leaf
   pub prefix-pending : (x : TreeLeaf C) (ys : List (TreeElement U)) → not (is_acked x.stamps.ins) ≡ true
       → prefix_len is_pending (leaf_elements units by x ++ ys) ≡ length (leaf_elements units by x) + prefix_len is_pending ys
@@ -110,11 +84,6 @@ module _ {C U : Type 0} (units : C → List U) (by : C → Option Stamp) where
         h,
       )
 
-  -- those left of a leaf are no more than all
-  pub length-left_of : (xs : List (ℕ × TreeLeaf C)) (leaf : ℕ) → length (elements units by (left_of xs leaf)) ≤ length (elements units by xs)
-  length-left_of [] leaf = omega arith
-  length-left_of (x ∷ xs) leaf = shorter (nat_eq x.0 leaf) x.1 xs (left_of xs leaf) x.0 (length-left_of xs leaf)
-
   fewer : (b : Bool) (x : TreeLeaf C) (xs ys : List (ℕ × TreeLeaf C)) (id : ℕ) → length (elements units by ys) ≤ length (elements units by xs)
       → length (elements units by (cond b ys ((id, x) ∷ ys))) ≤ length (elements units by ((id, x) ∷ xs))
   fewer true x xs ys id h = omega (arith, length-append (leaf_elements units by x) (elements units by xs), h)
@@ -125,11 +94,6 @@ module _ {C U : Type 0} (units : C → List U) (by : C → Option Stamp) where
         length-append (leaf_elements units by x) (elements units by ys),
         h,
       )
-
-  -- without a leaf there are no more
-  pub length-without : (xs : List (ℕ × TreeLeaf C)) (id : ℕ) → length (elements units by (without_leaf xs id)) ≤ length (elements units by xs)
-  length-without [] id = omega arith
-  length-without (x ∷ xs) id = fewer (nat_eq x.0 id) x.1 xs (without_leaf xs id) x.0 (length-without xs id)
 
   -- as many as the leaves are long
   pub length-elements : (xs : List (ℕ × TreeLeaf C)) → length (elements units by xs) ≡ length_by (λ x. length (units x.content)) xs
@@ -143,8 +107,3 @@ module _ {C U : Type 0} (units : C → List U) (by : C → Option Stamp) where
   -- what is seen of a leaf is all or nothing
   pub leaf-length : (view : LenView) (x : TreeLeaf C) → len (seen_in view) (leaf_elements units by x) ≡ leaf_length units view x
   leaf-length view x = seen_by (sees_in view x.stamps) view x refl
-
--- all are seen where each is
-pub len-all : {A : Type 0} (seen : A → Bool) → ((x : A) → seen x ≡ true) → (xs : List A) → len seen xs ≡ length xs
-len-all seen h [] = refl
-len-all seen h (x ∷ xs) = grind (arith, h x, len-all seen h xs)

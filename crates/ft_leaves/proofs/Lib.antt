@@ -7,7 +7,6 @@ pub mod Settling
 pub mod LeastStages
 pub mod Standing
 pub mod LeafEdits
-pub mod JoinedLeaves
 pub mod ReferenceLists
 pub mod Writing
 pub mod Numbered

@@ -1,12 +1,11 @@
 -- A range of a list of leaves, cut out and changed.
-use Rattle.std.proofs.Common.{◌≡◌, ℕ, ◌-◌, ◌<◌, ◌≤◌, suc, zero, length, get_or, Bool, true, false, cond, List, [], ◌∷◌, ◌++◌, map, take, drop, All, Option, subst, refl, sym, ◌∙◌, ap, arith, append_assoc}
+use Rattle.std.proofs.Common.{◌≡◌, ℕ, ◌-◌, ◌≤◌, length, Bool, true, false, cond, List, [], ◌∷◌, ◌++◌, map, All, Option, subst, refl, sym, ◌∙◌, ap, arith}
 use Rattle.std.proofs.lemmas.List.{map-append}
-use Rattle.std.proofs.lemmas.List.Elements.{All-cons, All-drop, All-head, All-take}
+use Rattle.std.proofs.lemmas.List.Elements.{All-drop, All-head, All-take}
 use Rattle.std.proofs.Math.Seq.{drop-append_seam, take-append_seam}
 use Rattle.ft_base.specs.declared.stamps.Stamp.{Stamp}
 use Rattle.ft_base.specs.declared.elements.Element.{Element as ElementStamps}
 use Rattle.ft_base.specs.Visibility.{is_of_stage}
-use Rattle.ft_base.specs.Scan.{place}
 use Rattle.ft_props.specs.Overlay.{OverlayState, after_ack}
 use Rattle.ft_block.specs.declared.leaves.LenView.{LenView}
 use Rattle.ft_block.specs.Leaves.{ids, sees_in, times_leaf}
@@ -14,11 +13,9 @@ use Rattle.ft_leaves.specs.declared.leaves.TreeLeaf.{TreeLeaf}
 use Rattle.ft_leaves.specs.Elements.{TreeElement, acked_element, acked_stamps, element_with, seen_in, with_overlay, with_stamps}
 use Rattle.ft_leaves.specs.LeafLists.{Extends, elements, leaf_elements}
 use Rattle.ft_leaves.specs.LeafLists.Extends.{kept, added}
-use Rattle.ft_leaves.specs.LeafChanges.{acked_leaf, acked_pair, changed_where_seen, with_leaf_overlay, with_leaf_stamps}
-use Rattle.ft_leaves.specs.Plain.{Acks, ChangesRange, IsCutAt, IsCutOut}
-use Rattle.ft_leaves.proofs.CutLeaves.{extends_behind, ids-append, times-append}
-use Rattle.ft_leaves.proofs.LeafRuns.{elements-append}
-use Rattle.ft_leaves.proofs.RangeSplits.{change_range-split, where_seen}
+use Rattle.ft_leaves.specs.LeafChanges.{acked_leaf, acked_pair, with_leaf_overlay, with_leaf_stamps}
+use Rattle.ft_leaves.specs.Plain.{Acks}
+use Rattle.ft_leaves.proofs.RangeSplits.{where_seen}
 
 -- nodes that are added again
 pub extends_trans : (xs ys zs : List ℕ) → Extends xs ys → Extends ys zs → Extends xs zs
@@ -70,91 +67,11 @@ module _ {C U : Type 0} (units : C → List U) (by : C → Option Stamp) where
         leaf_by (sees_in view x.stamps) g x ∙ ap (λ es. cond (sees_in view x.stamps) es (leaf_elements units by x)) (acts x)
         ∙ run_seen (sees_in view x.stamps) view f x.stamps (by x.content) x.overlay (units x.content) refl
 
-    -- the elements of leaves that are changed where they are seen
-    pub elements-changed : (xs : List (ℕ × TreeLeaf C))
-        → elements units by (map (changed_where_seen view g) xs) ≡ map (where_seen (seen_in view) f) (elements units by xs)
-    elements-changed [] = refl
-    elements-changed (x ∷ xs) =
-        ap (λ es. es ++ elements units by (map (changed_where_seen view g) xs)) (leaf_changed x.1)
-        ∙ ap (λ es. map (where_seen (seen_in view) f) (leaf_elements units by x.1) ++ es) (elements-changed xs)
-        ∙ sym (map-append (where_seen (seen_in view) f) (leaf_elements units by x.1) (elements units by xs))
-
-    ids-changed : (xs : List (ℕ × TreeLeaf C)) → ids (map (changed_where_seen view g) xs) ≡ ids xs
-    ids-changed [] = refl
-    ids-changed (x ∷ xs) = ap (λ zs. x.0 ∷ zs) (ids-changed xs)
-
-    times-changed : (xs : List (ℕ × TreeLeaf C)) (id : ℕ) → times_leaf (map (changed_where_seen view g) xs) id ≡ times_leaf xs id
-    times-changed [] id = refl
-    times-changed (x ∷ xs) id = omega (arith, times-changed xs id)
-
-    -- a range that is cut out, changed and put back
-    pub changes_range : (p q cut next_cut : ℕ) (old front between behind changed now : List (ℕ × TreeLeaf C)) → p ≤ q
-        → IsCutOut units by (seen_in view) p q cut next_cut old front between behind
-        → changed ≡ map (changed_where_seen view g) between → now ≡ (front ++ changed) ++ behind
-        → ChangesRange units by (seen_in view) p q f cut next_cut old now
-    changes_range p q cut next_cut old front between behind changed now order parts e_changed e_now =
-        let seen = seen_in {U = U} view in
-        let xs = elements units by old in
-        let ys = drop (place seen p xs) xs in
-        let n = place seen (q - p) ys in
-        let flat : now ≡ front ++ (map (changed_where_seen view g) between ++ behind) = e_now ∙ append_assoc front changed behind
-        ∙ ap (λ zs. front ++ (zs ++ behind)) e_changed in
-        record {
-          list =
-              ap (elements units by) flat ∙ elements-append units by front (map (changed_where_seen view g) between ++ behind)
-              ∙ ap (λ zs. elements units by front ++ zs) (elements-append units by (map (changed_where_seen view g) between) behind
-              ∙ ap (λ zs. zs ++ elements units by behind) (elements-changed between ∙ ap (map (where_seen seen f)) parts.middle)
-              ∙ ap (λ zs. map (where_seen seen f) (take n ys) ++ zs) parts.tail)
-              ∙ ap (λ zs. zs ++ (map (where_seen seen f) (take n ys) ++ drop n ys)) parts.head
-              ∙ sym (change_range-split seen p q f order xs);
-          nodes =
-              subst (λ zs. Extends (ids old) zs)
-              (sym (ap ids flat ∙ ids-append front (map (changed_where_seen view g) between ++ behind)
-              ∙ ap (λ zs. ids front ++ zs) (ids-append (map (changed_where_seen view g) between) behind
-              ∙ ap (λ zs. zs ++ ids behind) (ids-changed between)))) parts.nodes;
-          times = λ id. omega (
-            arith,
-            ap (λ zs. times_leaf zs id) flat,
-            times-append front (map (changed_where_seen view g) between ++ behind) id,
-            times-append (map (changed_where_seen view g) between) behind id,
-            times-changed between id,
-            parts.times id,
-          );
-        }
-
-  -- a range is cut out by two cuts
-  pub cuts_out : (seen : TreeElement U → Bool) (p q cut next_cut : ℕ) (old front rest between behind : List (ℕ × TreeLeaf C))
-      → IsCutAt units by seen p cut old front rest → IsCutAt units by seen (q - p) next_cut rest between behind
-      → IsCutOut units by seen p q cut next_cut old front between behind
-  cuts_out seen p q cut next_cut old front rest between behind first second = record {
-    head = first.front;
-    middle = second.front ∙ ap (λ zs. take (place seen (q - p) zs) zs) first.rear;
-    tail = second.rear ∙ ap (λ zs. drop (place seen (q - p) zs) zs) first.rear;
-    nodes = extends_trans (ids old) (ids front ++ ids rest) (ids front ++ (ids between ++ ids behind)) first.nodes
-        (extends_behind (ids front) (ids rest) (ids between ++ ids behind) second.nodes);
-    times = λ id. omega (arith, first.times id, second.times id);
-  }
-
-  -- what holds of each element holds of those of the range
-  pub between_all : (P : TreeElement U → Type 0) (seen : TreeElement U → Bool) (p q cut next_cut : ℕ) (old front between behind : List (ℕ × TreeLeaf C))
-      → IsCutOut units by seen p q cut next_cut old front between behind → All P (elements units by old) → All P (elements units by between)
-  between_all P seen p q cut next_cut old front between behind parts h =
-      let xs = elements units by old in
-      let ys = drop (place seen p xs) xs in
-      subst (λ es. All P es) (sym parts.middle) (All-take P (place seen (q - p) ys) ys (All-drop P (place seen p xs) xs h))
-
   pub front_all : (P : TreeElement U → Type 0) (xs ys : List (TreeElement U)) → All P (xs ++ ys) → All P xs
   front_all P xs ys h = subst (All P) (take-append_seam xs ys) (All-take P (length xs) (xs ++ ys) h)
 
   pub rear_all : (P : TreeElement U → Type 0) (xs ys : List (TreeElement U)) → All P (xs ++ ys) → All P ys
   rear_all P xs ys h = subst (All P) (drop-append_seam xs ys) (All-drop P (length xs) (xs ++ ys) h)
-
-  -- and leaf by leaf
-  pub each_leaf : (P : TreeElement U → Type 0) (xs : List (ℕ × TreeLeaf C)) → All P (elements units by xs) → All (λ x. All P (leaf_elements units by x.1)) xs
-  each_leaf P [] h = λ k d less. absurd (omega arith)
-  each_leaf P (x ∷ xs) h =
-      All-cons (λ (y : ℕ × TreeLeaf C). All P (leaf_elements units by y.1)) x xs (front_all P (leaf_elements units by x.1) (elements units by xs) h)
-      (each_leaf P xs (rear_all P (leaf_elements units by x.1) (elements units by xs) h))
 
   of_first : (P : OverlayState → Type 0) (s : ElementStamps) (author : Option Stamp) (overlay : OverlayState) (us : List U) → 1 ≤ length us
       → All (λ e. P e.overlay) (map (element_with s author overlay) us) → P overlay
@@ -164,12 +81,6 @@ module _ {C U : Type 0} (units : C → List U) (by : C → Option Stamp) where
   -- what holds of the properties of each element of a leaf holds of the leaf's
   pub leaf_overlay : (P : OverlayState → Type 0) (x : TreeLeaf C) → 1 ≤ length (units x.content) → All (λ e. P e.overlay) (leaf_elements units by x) → P x.overlay
   leaf_overlay P x some h = of_first P x.stamps (by x.content) x.overlay (units x.content) some h
-
--- behind the leaves that were changed the list is as it was
-pub read_rest : {A : Type 0} (f : A → A) (xs : List A) (i : ℕ) (d : A) → i < length xs → get_or (map f (take i xs) ++ drop i xs) i d ≡ get_or xs i d
-read_rest f [] i d h = absurd (omega arith)
-read_rest f (x ∷ xs) zero d h = refl
-read_rest f (x ∷ xs) (suc i) d h = read_rest f xs i d (omega arith)
 
 module _ {C U : Type 0} (units : C → List U) (by : C → Option Stamp) (author : ℕ → ℕ → Option Stamp) (stamped : C → ℕ → ℕ → C)
     (stamped_units : (x : C) (s c : ℕ) → units (stamped x s c) ≡ units x) (stamped_by : (x : C) (s c : ℕ) → by (stamped x s c) ≡ author s c) (k s c : ℕ) where

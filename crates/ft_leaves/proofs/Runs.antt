@@ -7,17 +7,9 @@ one_more_sum : (b : Bool) (m n k : ℕ) → k ≡ m + n → one_more_if b k ≡ 
 one_more_sum true m n k e = omega arith
 one_more_sum false m n k e = e
 
-one_more_le : (b : Bool) (m n : ℕ) → m ≤ n → one_more_if b m ≤ suc n
-one_more_le true m n h = omega arith
-one_more_le false m n h = omega arith
-
 pub len-append : {A : Type 0} (seen : A → Bool) (xs ys : List A) → len seen (xs ++ ys) ≡ len seen xs + len seen ys
 len-append seen [] ys = omega arith
 len-append seen (x ∷ xs) ys = one_more_sum (seen x) (len seen xs) (len seen ys) (len seen (xs ++ ys)) (len-append seen xs ys)
-
-pub len-le-length : {A : Type 0} (seen : A → Bool) (xs : List A) → len seen xs ≤ length xs
-len-le-length seen [] = omega arith
-len-le-length seen (x ∷ xs) = one_more_le (seen x) (len seen xs) (length xs) (len-le-length seen xs)
 
 module _ {A U : Type 0} (seen : A → Bool) (f : U → A) where
   pub len-seen : ((u : U) → seen (f u) ≡ true) → (us : List U) → len seen (map f us) ≡ length us

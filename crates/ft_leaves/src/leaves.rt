@@ -1,25 +1,19 @@
 //! A leaf of a tree.
 
-ghost use Rattle.std.specs.Prelude.{◌≡◌, ◌↔◌, ◌<◌, ◌≤◌, IsTrue, IfOk, OnOk, OnErr, All, length, not};
+ghost use Rattle.std.specs.Prelude.{◌≡◌, ◌↔◌, ◌<◌, ◌≤◌, IsTrue, IfOk, OnOk, OnErr, length, not};
 ghost use Rattle.ft_base.specs.Visibility.{is_acked};
 ghost use Rattle.ft_base.specs.Scan.{len};
 ghost use Rattle.ft_block.specs.Leaves.{sees_in};
 ghost use Rattle.ft_leaves.specs.Settling.{allows};
-ghost use Rattle.ft_props.specs.Overlay.{after_acked_changes, after_pending_changes};
-ghost use Rattle.ft_leaves.specs.Elements.{IsAboveChanges, IsLowestChange, removed_stamps, seen_in};
+ghost use Rattle.ft_leaves.specs.Elements.{seen_in};
 ghost use Rattle.ft_leaves.specs.LeafLists.{leaf_elements};
-ghost use Rattle.ft_leaves.specs.Edits.{IsBare, MayJoin, is_marked_by, joined_leaf, unmarked_leaf};
-ghost use Rattle.ft_leaves.specs.LeafChanges.{acked_leaf, changed_in, with_leaf_overlay, with_leaf_stamps};
+ghost use Rattle.ft_leaves.specs.Edits.{IsBare, MayJoin, is_marked_by};
 
 use crate::content::Content;
-use crate::stamps::{
-    acked, acked_all, has_sequenced, has_stage, is_at_or_below, is_of_stage, with_removal,
-    without_stage,
-};
+use crate::stamps::{has_sequenced, has_stage, is_at_or_below};
 use ft_base::{Element, OutOfMemory, Stamp, seen_at, sees};
 use ft_block::LenView;
-use ft_props::{Changes, Overlay};
-use std::alloc::Global;
+use ft_props::Overlay;
 
 /// A leaf: elements side by side with the same stamps and properties.
 #[derive(Drop)]
@@ -73,81 +67,6 @@ impl<C: Content> TreeLeaf<C> {
         })
     }
 
-    /// Gives it one more removal, if the view sees it.
-    ///
-    /// Answers `OutOfMemory` where there is no room for it, and then the leaf is as it was.
-    pub fn remove_in(&mut self, alloc: Global, view: LenView, t: Stamp) -> Result<(), OutOfMemory>
-        ensures { OnOk result (self.new ≡ changed_in view (with_leaf_stamps (removed_stamps t)) self.old) }
-    {
-        if !self.is_seen_in(view) {
-            return Ok(());
-        }
-        self.stamps = Element {
-            ins: self.stamps.ins,
-            dels: with_removal(alloc, self.stamps.dels.as_slice(), t)?,
-        };
-        Ok(())
-    }
-
-    /// Makes changes of its acknowledged properties, if the view sees it.
-    ///
-    /// Answers `OutOfMemory` where there is no room for them, and then the leaf is as it was.
-    pub fn set_in(&mut self, view: LenView, set: &Changes) -> Result<(), OutOfMemory>
-        ensures { OnOk result (self.new ≡ changed_in view (with_leaf_overlay (after_acked_changes set.now)) self.old) }
-    {
-        if !self.is_seen_in(view) {
-            return Ok(());
-        }
-        self.overlay.set_acked(set)
-    }
-
-    /// Adds changes of a pending stage, which is above all that are pending here, if the view sees it.
-    ///
-    /// Answers `OutOfMemory` where there is no room for them, and then the leaf is as it was.
-    pub fn push_in(&mut self, view: LenView, stage: u64, set: &Changes) -> Result<(), OutOfMemory>
-        requires { All (λ e. IsAboveChanges stage e.overlay) (leaf_elements C.units C.by self.old) }
-        ensures { OnOk result (self.new ≡ changed_in view (with_leaf_overlay (after_pending_changes stage set.now)) self.old) }
-    {
-        let _len = self.content.len();
-        if !self.is_seen_in(view) {
-            return Ok(());
-        }
-        self.overlay.push_pending(stage, set)
-    }
-
-    /// Takes the removal mark and the changes of a stage off it.
-    ///
-    /// Answers `OutOfMemory` where there is no room for what is left, and then the leaf is as it was.
-    pub fn unmark(&mut self, alloc: Global, stage: u64) -> Result<(), OutOfMemory>
-        ensures { OnOk result (self.new ≡ unmarked_leaf stage self.old) }
-    {
-        let dels = without_stage(alloc, self.stamps.dels.as_slice(), stage)?;
-        self.overlay.drop_pending(stage)?;
-        self.stamps = Element {
-            ins: self.stamps.ins,
-            dels,
-        };
-        Ok(())
-    }
-
-    /// Acknowledges a stage under number `seq` of connection `conn`. No lower stage has changes here.
-    ///
-    /// Answers `OutOfMemory` where there is no room for it.
-    pub fn ack(&mut self, alloc: Global, stage: u64, seq: u64, conn: u32) -> Result<(), OutOfMemory>
-        requires { All (λ e. IsLowestChange stage e.overlay) (leaf_elements C.units C.by self.old) }
-        ensures { OnOk result (self.new ≡ acked_leaf C.stamped stage seq conn self.old) }
-    {
-        let _len = self.content.len();
-        let dels = acked_all(alloc, self.stamps.dels.as_slice(), stage, seq, conn)?;
-        self.overlay.ack(stage)?;
-        if is_of_stage(&self.stamps.ins, stage) {
-            self.content.stamped(seq, conn);
-        }
-        let ins = acked(self.stamps.ins, stage, seq, conn);
-        self.stamps = Element { ins, dels };
-        Ok(())
-    }
-
     /// Whether its insertion is pending.
     pub fn is_pending(&self) -> bool
         ensures { result ≡ not (is_acked self.now.stamps.ins) }
@@ -190,24 +109,6 @@ impl<C: Content> TreeLeaf<C> {
             && other.is_bare(floor)
             && self.overlay.acked().same(other.overlay.acked())
             && self.content.can_join(&other.content)
-    }
-
-    /// Adds the other leaf's elements at the end. All of them have the insertion that everybody sees then.
-    ///
-    /// Answers `OutOfMemory` where there is no room for them.
-    pub fn join(&mut self, other: TreeLeaf<C>) -> Result<(), OutOfMemory>
-    where
-        C: Drop,
-        requires { IsTrue (C.joins self.old.content other.content) }
-        ensures { OnOk result (self.new ≡ joined_leaf C.joined self.old other) }
-    {
-        match self.content.join(other.content) {
-            Ok(()) => {
-                self.stamps.ins = Stamp::Acked { seq: 0, conn: 0 };
-                Ok(())
-            }
-            Err(_) => Err(OutOfMemory),
-        }
     }
 
     /// How many elements the view sees: all or none.

@@ -1,4 +1,4 @@
-//! The leaves of the merge tree: what a leaf holds, and plain lists of leaves and references.
+//! The leaves of the merge tree: what a leaf holds, and lists of references.
 //!
 //! A call that can't answer `OutOfMemory` takes no memory.
 #![tactic(auto)]
@@ -7,8 +7,7 @@ pub mod block_leaf;
 pub mod content;
 pub mod leaves;
 pub mod references;
-pub mod scans;
-mod stamps;
+pub mod stamps;
 pub mod text;
 pub mod text_runs;
 

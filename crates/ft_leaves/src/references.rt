@@ -1,16 +1,10 @@
 //! References, each under its number.
 
-ghost use Rattle.std.specs.Prelude.{◌≡◌, ◌+◌, ◌<◌, ◌^◌, ◌++◌, [], ◌∷◌, IfOk, IfSome, OnOk, true, cond, filter, length, map, nat_eq, not};
+ghost use Rattle.std.specs.Prelude.{◌≡◌, ◌+◌, ◌++◌, [], ◌∷◌, IfOk, IfSome, OnOk, filter, map, nat_eq, not};
 ghost use Rattle.ft_leaves.specs.Edits.{closed_place, moved_place, with_place};
-ghost use Rattle.ft_leaves.specs.References.{settled_at};
 ghost use Rattle.ft_leaves.specs.Places.{shifted_place};
-ghost use Rattle.ft_leaves.specs.LeafLists.{elements};
-ghost use Rattle.ft_leaves.specs.References.{reference_at, slid_reference};
+ghost use Rattle.ft_leaves.specs.References.{reference_at};
 
-use crate::content::Content;
-use crate::leaves::{Standing, TreeLeaf};
-use crate::scans::settled;
-use ft_arena::NodeId;
 use ft_base::OutOfMemory;
 use ft_refs::RefId;
 use std::alloc::Global;
@@ -143,73 +137,6 @@ pub fn shifted_references(
     Ok(shifted)
 }
 
-/// The reference after sequenced removals.
-pub fn slid<C: Content>(leaves: &[(NodeId, TreeLeaf<C>)], x: Reference) -> Reference
-    requires { length (elements C.units C.by leaves.now) < 2 ^ 64 }
-    ensures { result ≡ slid_reference (elements C.units C.by leaves.now) x }
-{
-    if !x.acked {
-        return x;
-    }
-    let place = match x.place {
-        Some(i) => settled(leaves, i, Standing::Unremoved),
-        None => None,
-    };
-    Reference { place, acked: true }
-}
-
-/// The references after sequenced removals.
-///
-/// Answers `OutOfMemory` where there is no room for them.
-pub fn slid_references<C: Content>(
-    alloc: Global,
-    leaves: &[(NodeId, TreeLeaf<C>)],
-    refs: &[(RefId, Reference)],
-) -> Result<Vec<(RefId, Reference)>, OutOfMemory>
-    requires { length (elements C.units C.by leaves.now) < 2 ^ 64 }
-    ensures { IfOk result (λ v. v.items ≡ map (λ x. (x.0, slid_reference (elements C.units C.by leaves.now) x.1)) refs.now) }
-{
-    let mut gone = Vec::new(alloc);
-    for x in refs {
-        gone.push((x.0, slid(leaves, x.1)))?;
-    }
-    Ok(gone)
-}
-
-/// The reference of number `id`, made acknowledged and slid if that is `r`.
-fn settled_if<C: Content>(
-    leaves: &[(NodeId, TreeLeaf<C>)],
-    id: RefId,
-    x: Reference,
-    r: RefId,
-) -> Reference
-    requires { length (elements C.units C.by leaves.now) < 2 ^ 64 }
-    ensures { result ≡ cond (nat_eq id r) (slid_reference (elements C.units C.by leaves.now) (record x { acked = true })) x }
-{
-    if id.0 != r.0 {
-        return x;
-    }
-    let settled = Reference {
-        place: x.place,
-        acked: true,
-    };
-    slid(leaves, settled)
-}
-
-/// Makes a reference acknowledged, and slides it.
-fn settle_reference<C: Content>(
-    leaves: &[(NodeId, TreeLeaf<C>)],
-    refs: &mut [(RefId, Reference)],
-    r: RefId,
-)
-    requires { length (elements C.units C.by leaves.now) < 2 ^ 64 }
-    ensures { refs.new ≡ map (settled_at r (elements C.units C.by leaves.now)) refs.old }
-{
-    for x in refs.iter_mut() {
-        x.1 = settled_if(leaves, x.0, x.1, r);
-    }
-}
-
 /// The references after the `n` elements at place `i` were taken out, of which none is on one.
 ///
 /// Answers `OutOfMemory` where there is no room for them.
@@ -252,16 +179,4 @@ pub fn drop_reference(refs: &mut Vec<(RefId, Reference)>, r: RefId)
     ensures { refs.new.items ≡ filter (λ x. not (nat_eq x.0 r)) refs.old.items }
 {
     refs.retain(|x| x.0.0 != r.0);
-}
-
-/// The same as `settle_reference` in a list of references.
-pub fn settle_in<C: Content>(
-    leaves: &[(NodeId, TreeLeaf<C>)],
-    refs: &mut Vec<(RefId, Reference)>,
-    r: RefId,
-)
-    requires { length (elements C.units C.by leaves.now) < 2 ^ 64 }
-    ensures { refs.new.items ≡ map (settled_at r (elements C.units C.by leaves.now)) refs.old.items }
-{
-    settle_reference(leaves, refs.as_mut_slice(), r);
 }

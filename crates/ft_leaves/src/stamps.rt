@@ -146,7 +146,7 @@ fn stage_above(stamp: &Stamp, stage: u64) -> Option<u64>
 }
 
 /// The lesser of two numbers, of those that there are.
-pub(crate) fn lesser_of(a: Option<u64>, b: Option<u64>) -> Option<u64>
+pub fn lesser_of(a: Option<u64>, b: Option<u64>) -> Option<u64>
     ensures { result ≡ least_of a b }
 {
     match (a, b) {
@@ -157,7 +157,7 @@ pub(crate) fn lesser_of(a: Option<u64>, b: Option<u64>) -> Option<u64>
 }
 
 /// The least pending stage among the stamps above this one.
-pub(crate) fn next_stage(stamps: &[Stamp], stage: u64) -> Option<u64>
+pub fn next_stage(stamps: &[Stamp], stage: u64) -> Option<u64>
     ensures { result ≡ least_above stage (filter_map stage_of stamps.now) }
 {
     let mut least = None;

@@ -1,1 +1,3 @@
+pub mod FoundEnds
+pub mod JoinedLeaves
 pub mod TreeInside

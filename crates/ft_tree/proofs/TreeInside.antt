@@ -1,40 +1,35 @@
--- What holds of a tree that may still be used, as its callers see it, and that an insertion keeps it.
-use Rattle.std.proofs.Common.{◌≡◌, ◌≢◌, ℕ, zero, suc, ◌+◌, ◌<◌, ◌≤◌, Bool, true, false, cond, List, [], ◌∷◌, ◌++◌, map, IsTrue, Option, Some, None, option_map, length, subst, refl, sym, ◌∙◌, ap, inl, inr, arith, nat_eq, length-append}
+-- What holds of a tree that may still be used, as its callers see it, and that its steps keep it.
+use Rattle.std.proofs.Common.{◌≡◌, ◌≢◌, ℕ, suc, ◌+◌, ◌≤◌, Bool, true, false, cond, List, [], ◌∷◌, ◌++◌, map, IsTrue, Option, Some, None, option_map, length, subst, refl, sym, ◌∙◌, ap, arith, nat_eq}
 use Rattle.std.specs.Option.{option_or}
-use Rattle.std.proofs.lemmas.Bool.{cases_eq, cases_lt, cond-true, cond-false, eq-eqb, ne_eqb}
+use Rattle.std.proofs.lemmas.Bool.{cond-true, cond-false, eq-eqb, ne_eqb}
 use Rattle.ft_base.specs.declared.stamps.Stamp.{Stamp}
-use Rattle.ft_base.specs.Scan.{change_range, change_range_from, one_more_if, put, put_past}
-use Rattle.ft_arena.specs.Ids.{same, times}
-use Rattle.ft_arena.proofs.IdLemmas.{same_refl, same_other}
+use Rattle.ft_base.specs.Scan.{change_range, change_range_from, one_more_if, place, put}
+use Rattle.ft_base.specs.Visibility.{is_of_stage}
+use Rattle.ft_arena.specs.Ids.{times}
 use Rattle.ft_block.specs.Leaves.{IsPlaceIn, ids, times_leaf}
 use Rattle.ft_block.proofs.CallerLemmas.{times-ids}
-use Rattle.ft_props.specs.Properties.{PropertyList, max_safe_integer}
+use Rattle.ft_leaf_blocks.specs.RangeEdits.{edited_leaf}
+use Rattle.ft_leaf_blocks.specs.Walks.{Acts, held_place}
+use Rattle.ft_leaf_blocks.specs.declared.ranges.RangeEdit.{RangeEdit}
+use Rattle.ft_leaf_blocks.specs.declared.ranges.RangeEdit.TheVariants.{Remove, Change}
+use Rattle.ft_leaves.specs.declared.block_leaf.LeafChange.TheVariants.{SetAcked, PushPending, DropPending, Ack}
 use Rattle.ft_leaves.specs.declared.leaves.TreeLeaf.{TreeLeaf}
 use Rattle.ft_leaves.specs.declared.references.Reference.{Reference}
-use Rattle.ft_tree.specs.declared.tree.Tree.TheInside.{Inside}
-use Rattle.ft_leaves.specs.Elements.{TreeElement, new_elements}
 use Rattle.ft_leaves.specs.Edits.{sweep_without, with_place}
-use Rattle.ft_leaves.specs.Places.{put_place, shifted_place}
+use Rattle.ft_leaves.specs.Elements.{TreeElement, element_with, new_elements, removed_stamps}
 use Rattle.ft_leaves.specs.LeafChanges.{fresh_leaf}
-use Rattle.ft_leaves.specs.Plain.{ChangesRange, PutsLeaf, WithoutNode}
-use Rattle.ft_tree.specs.Inside.{Puts}
-use Rattle.ft_tree.specs.Inside.{IsSound, IsSoundIfUsable, view_of}
 use Rattle.ft_leaves.specs.LeafLists.{Extends, elements, leaf_elements}
-use Rattle.ft_leaves.specs.References.{reference_at}
-use Rattle.ft_tree.specs.State.{TreeState}
 use Rattle.ft_leaves.specs.LeafLists.Extends.{kept, added}
-use Rattle.ft_leaves.proofs.CutLeaves.{times-append}
-use Rattle.ft_leaves.proofs.LeafEdits.{sweep_there, times_le}
-use Rattle.ft_leaves.proofs.LeafRuns.{elements-append, elements-one, length-leaf}
-
-length-put_past : {A : Type 0} (past : A → Bool) (new xs : List A) → length (put_past past new xs) ≡ length new + length xs
-length-put_past past new [] = omega arith
-length-put_past past new (x ∷ xs) = grind (arith, length-put_past past new xs, length-append new (x ∷ xs))
-
-pub length-put : {A : Type 0} (seen past : A → Bool) (p : ℕ) (new xs : List A) → length (put seen past p new xs) ≡ length new + length xs
-length-put seen past zero new xs = length-put_past past new xs
-length-put seen past (suc p) new [] = omega arith
-length-put seen past (suc p) new (x ∷ xs) = omega (arith, length-put seen past (cond (seen x) p (suc p)) new xs)
+use Rattle.ft_leaves.specs.Places.{put_place, shifted_place}
+use Rattle.ft_leaves.specs.Plain.{WithoutNode}
+use Rattle.ft_leaves.specs.References.{reference_at}
+use Rattle.ft_leaves.proofs.LeafEdits.{sweep_there}
+use Rattle.ft_leaves.proofs.RangeLeaves.{leaf-with_overlay, leaf-with_stamps}
+use Rattle.ft_props.specs.Overlay.{after_ack, after_acked_changes, after_drop, after_pending_changes}
+use Rattle.ft_props.specs.Properties.{PropertyList, max_safe_integer}
+use Rattle.ft_tree.specs.declared.tree.Tree.TheInside.{Inside}
+use Rattle.ft_tree.specs.Inside.{IsSound, IsSoundIfUsable, Puts, edited_element, view_of}
+use Rattle.ft_tree.specs.State.{TreeState}
 
 length-range : {A : Type 0} (i : ℕ) (seen : A → Bool) (p q : ℕ) (f : A → A) (xs : List A) → length (change_range_from i seen p q f xs) ≡ length xs
 length-range i seen p q f [] = refl
@@ -49,18 +44,6 @@ extends_times [] ys id h = omega arith
 extends_times (x ∷ xs) [] id h = elim h [ ]
 extends_times (x ∷ xs) (y ∷ ys) id (kept h) = omega (arith, extends_times xs ys id h)
 extends_times (x ∷ xs) (y ∷ ys) id (added h) = omega (arith, extends_times (x ∷ xs) ys id h)
-
--- two new nodes, side by side
-same_two : (n id : ℕ) → (same n id + same (n + 1) id ≤ 1) × (id < n → same n id + same (n + 1) id ≡ 0) × (n + 2 ≤ id → same n id + same (n + 1) id ≡ 0)
-same_two n id = elim (cases_eq n id) [
-  | inl e ↦
-      let d : n + 1 ≢ id = omega arith in
-      (omega (arith, same_other (n + 1) id d, ap (same n) (sym e), same_refl n), λ h. absurd (omega arith), λ h. absurd (omega arith))
-  | inr d ↦ elim (cases_eq (n + 1) id) [
-    | inl f ↦ (omega (arith, same_other n id d, ap (same (n + 1)) (sym f), same_refl (n + 1)), λ h. absurd (omega arith), λ h. absurd (omega arith))
-    | inr f ↦ (omega (arith, same_other n id d, same_other (n + 1) id f), λ h. omega (arith, same_other n id d, same_other (n + 1) id f), λ h. omega (arith, same_other n id d, same_other (n + 1) id f))
-  ]
-]
 
 map_cond : (f : Reference → Reference) (b : Bool) (x : Reference) (o p : Option Reference) → p ≡ option_map f o → cond b (Some (f x)) p ≡ option_map f (cond b (Some x) o)
 map_cond f true x o p e = refl
@@ -106,141 +89,110 @@ module _ {C U : Type 0} (units : C → List U) (by : C → Option Stamp) (a : In
   pub in_sound : IsSound units by a
   in_sound = inv (subst (λ (w : TreeState C). IsTrue w.usable) (sym is) usable)
 
-  module _ (b : Inside C U) (seen past : TreeElement U → Bool) (p : ℕ) (leaf : TreeLeaf C)
-      (puts : PutsLeaf units by seen past p a.next_node (a.next_node + 1) leaf a.leaves.items b.leaves.items)
-      (made : b.made ≡ a.made + length (units leaf.content)) (sweep : b.sweep ≡ a.sweep)
-      (refs : b.refs.items ≡ map
-      (λ x. (x.0, with_place (shifted_place (put_place seen past p (elements units by a.leaves.items)) (length (units leaf.content))) x.1))
-      a.refs.items) where
-    pub put_sound : b.next_node ≡ a.next_node + 2 → b.next_ref ≡ a.next_ref → b.made ≤ max_safe_integer → IsSound units by b
-    put_sound next next_ref small =
-        let moved : Reference → Reference = λ x. with_place (shifted_place (put_place seen past p (elements units by a.leaves.items)) (length (units leaf.content))) x in
-        record {
-          once = λ id. elim (cases_lt id a.next_node) [
-            | inl below ↦ omega (arith, puts.times id, in_sound.once id, (same_two a.next_node id).1 below)
-            | inr above ↦ omega (arith, puts.times id, in_sound.fresh id above, (same_two a.next_node id).0)
-          ];
-          fresh = λ id h. omega (arith, puts.times id, in_sound.fresh id (omega arith), (same_two a.next_node id).2 (omega arith));
-          fits = omega (
-            arith,
-            ap length puts.list,
-            length-put seen past p (leaf_elements units by leaf) (elements units by a.leaves.items),
-            length-leaf units by leaf,
-            in_sound.fits,
-          );
-          small = small;
-          sweep = subst (IsPlaceIn b.leaves.items) (sym sweep) (place_kept a.leaves.items b.leaves.items a.sweep puts.nodes in_sound.sweep);
-          refs = λ r h. ap (λ xs. reference_at xs r) refs ∙ reference_at-map moved a.refs.items r ∙ ap (option_map moved) (in_sound.refs r (omega arith));
-        }
+module _ {C U : Type 0} (units : C → List U) (by : C → Option Stamp) (a : Inside C U) (v : TreeState C) (is : view_of a ≡ v)
+    (at : Option ℕ) (n : ℕ) (seen : TreeElement U → Bool) (p : ℕ) where
+  -- a place that was found among the leaves as callers see them, and as they are kept
+  pub held_inside : held_place units by v.leaves at n ≡ place seen p (elements units by v.leaves)
+      → held_place units by a.blocks.leaves at n ≡ place seen p (elements units by a.blocks.leaves)
+  held_inside h = subst (λ (s : TreeState C). held_place units by s.leaves at n ≡ place seen p (elements units by s.leaves)) (sym is) h
 
-    pub put_seen : (w : TreeState C) → view_of b ≡ w → b.floor ≡ a.floor → b.usable ≡ a.usable → Puts units by seen past p leaf v w
-    put_seen w to floor usable_still =
-        let moved : Reference → Reference = λ x. with_place (shifted_place (put_place seen past p (elements units by a.leaves.items)) (length (units leaf.content))) x in
-        subst (λ (s : TreeState C). Puts units by seen past p leaf s w) is
-        (subst (λ (s : TreeState C). Puts units by seen past p leaf (view_of a) s) to
-        record {
-          list = puts.list;
-          refs = λ r. ap (λ xs. reference_at xs r) refs ∙ reference_at-map moved a.refs.items r;
-          nodes = puts.nodes;
-          rest = record { floor = floor; sweep = sweep; usable = usable_still };
-          made = made;
-        })
+  pub held_outside : held_place units by a.blocks.leaves at n ≡ place seen p (elements units by a.blocks.leaves)
+      → held_place units by v.leaves at n ≡ place seen p (elements units by v.leaves)
+  held_outside h = subst (λ (s : TreeState C). held_place units by s.leaves at n ≡ place seen p (elements units by s.leaves)) is h
+
+module _ {C U : Type 0} (units : C → List U) (by : C → Option Stamp) (a b : Inside C U) (sound : IsSound units by a) (blocks : IsTrue b.blocks.usable)
+    (next_ref : b.next_ref ≡ a.next_ref) (refs : (r : ℕ) → reference_at a.refs.items r ≡ None → reference_at b.refs.items r ≡ None) where
+  -- where leaves may have been cut, and leaves may have come
+  pub extends_sound : Extends (ids a.blocks.leaves) (ids b.blocks.leaves) → b.sweep ≡ a.sweep → length (elements units by b.blocks.leaves) ≤ b.made
+      → b.made ≤ max_safe_integer → IsSound units by b
+  extends_sound nodes sweep fits small = record {
+    blocks = blocks;
+    fits = fits;
+    small = small;
+    sweep = subst (IsPlaceIn b.blocks.leaves) (sym sweep) (place_kept a.blocks.leaves b.blocks.leaves a.sweep nodes sound.sweep);
+    refs = λ r h. refs r (sound.refs r (omega arith));
+  }
+
+  place_same : ((id : ℕ) → times_leaf b.blocks.leaves id ≡ times_leaf a.blocks.leaves id) → (o : Option ℕ) → IsPlaceIn a.blocks.leaves o → IsPlaceIn b.blocks.leaves o
+  place_same times None h = tt
+  place_same times (Some id) h = omega (arith, times id)
+
+  -- where leaves keep their nodes, and are as long together
+  pub same_sound : ((id : ℕ) → times_leaf b.blocks.leaves id ≡ times_leaf a.blocks.leaves id)
+      → length (elements units by b.blocks.leaves) ≡ length (elements units by a.blocks.leaves) → b.sweep ≡ a.sweep → b.made ≡ a.made → IsSound units by b
+  same_sound times count sweep made = record {
+    blocks = blocks;
+    fits = omega (arith, count, sound.fits);
+    small = omega (arith, sound.small);
+    sweep = subst (IsPlaceIn b.blocks.leaves) (sym sweep) (place_same times a.sweep sound.sweep);
+    refs = λ r h. refs r (sound.refs r (omega arith));
+  }
+
+  -- without a leaf
+  pub without_sound : (id : ℕ) → ((z : ℕ) → times_leaf a.blocks.leaves z ≤ 1) → WithoutNode units by id a.blocks.leaves b.blocks.leaves
+      → b.sweep ≡ sweep_without a.blocks.leaves id a.sweep → b.made ≡ a.made → IsSound units by b
+  without_sound id once gone sweep made = record {
+    blocks = blocks;
+    fits = omega (arith, gone.fewer, sound.fits);
+    small = omega (arith, sound.small);
+    sweep = subst (IsPlaceIn b.blocks.leaves) (sym sweep) (sweep_there a.blocks.leaves b.blocks.leaves id a.sweep once gone.others sound.sweep);
+    refs = λ r h. refs r (sound.refs r (omega arith));
+  }
+
+-- no reference comes into being by a change of each
+pub none_mapped : (f : Reference → Reference) (old now : List (ℕ × Reference)) → now ≡ map (λ x. (x.0, f x.1)) old
+    → (r : ℕ) → reference_at old r ≡ None → reference_at now r ≡ None
+none_mapped f old now e r h = ap (λ xs. reference_at xs r) e ∙ reference_at-map f old r ∙ ap (option_map f) h
 
 module _ {C U : Type 0} (units : C → List U) (by : C → Option Stamp) (a : Inside C U) (v : TreeState C) (is : view_of a ≡ v)
-    (inv : IsSoundIfUsable units by a) (usable : IsTrue v.usable)
-    (b : Inside C U) (seen : TreeElement U → Bool) (p q : ℕ) (f : TreeElement U → TreeElement U)
-    (range : ChangesRange units by seen p q f a.next_node (a.next_node + 1) a.leaves.items b.leaves.items) where
-  -- so does a change of a range
-  pub range_sound : b.next_node ≡ a.next_node + 2 → b.next_ref ≡ a.next_ref
-      → ((r : ℕ) → reference_at a.refs.items r ≡ None → reference_at b.refs.items r ≡ None) → b.made ≡ a.made → b.sweep ≡ a.sweep → IsSound units by b
-  range_sound next next_ref refs made sweep =
-      let sound = in_sound units by a v is inv usable in
-      record {
-        once = λ id. elim (cases_lt id a.next_node) [
-          | inl below ↦ omega (arith, range.times id, sound.once id, (same_two a.next_node id).1 below)
-          | inr above ↦ omega (arith, range.times id, sound.fresh id above, (same_two a.next_node id).0)
-        ];
-        fresh = λ id h. omega (arith, range.times id, sound.fresh id (omega arith), (same_two a.next_node id).2 (omega arith));
-        fits = omega (arith, ap length range.list, length-change_range seen p q f (elements units by a.leaves.items), sound.fits);
-        small = omega (arith, sound.small);
-        sweep = subst (IsPlaceIn b.leaves.items) (sym sweep) (place_kept a.leaves.items b.leaves.items a.sweep range.nodes sound.sweep);
-        refs = λ r h. refs r (sound.refs r (omega arith));
-      }
-
-module _ {C U : Type 0} (units : C → List U) (by : C → Option Stamp) (a : Inside C U) (v : TreeState C) (is : view_of a ≡ v)
-    (inv : IsSoundIfUsable units by a) (usable : IsTrue v.usable)
-    (b : Inside C U) (times : (id : ℕ) → times_leaf b.leaves.items id ≡ times_leaf a.leaves.items id)
-    (count : length (elements units by b.leaves.items) ≡ length (elements units by a.leaves.items)) where
-  place_same : (o : Option ℕ) → IsPlaceIn a.leaves.items o → IsPlaceIn b.leaves.items o
-  place_same None h = tt
-  place_same (Some id) h = omega (arith, times id)
-
-  -- so does a change of leaves that keeps their nodes and lengths
-  pub same_sound : b.next_node ≡ a.next_node → b.next_ref ≡ a.next_ref
-      → ((r : ℕ) → reference_at a.refs.items r ≡ None → reference_at b.refs.items r ≡ None) → b.made ≡ a.made → b.sweep ≡ a.sweep → IsSound units by b
-  same_sound next next_ref refs made sweep =
-      let sound = in_sound units by a v is inv usable in
-      record {
-        once = λ id. omega (arith, times id, sound.once id);
-        fresh = λ id h. omega (arith, times id, sound.fresh id (omega arith));
-        fits = omega (arith, count, sound.fits);
-        small = omega (arith, sound.small);
-        sweep = subst (IsPlaceIn b.leaves.items) (sym sweep) (place_same a.sweep sound.sweep);
-        refs = λ r h. refs r (sound.refs r (omega arith));
-      }
-
-module _ {C U : Type 0} (units : C → List U) (by : C → Option Stamp) (a : Inside C U) (v : TreeState C) (is : view_of a ≡ v)
-    (inv : IsSoundIfUsable units by a) (usable : IsTrue v.usable) (b : Inside C U) where
-  -- a list of leaves without one
-  pub without_sound : (id : ℕ) → WithoutNode units by id a.leaves.items b.leaves.items → b.sweep ≡ sweep_without a.leaves.items id a.sweep
-      → b.next_node ≡ a.next_node → b.next_ref ≡ a.next_ref → ((r : ℕ) → reference_at a.refs.items r ≡ None → reference_at b.refs.items r ≡ None)
-      → b.made ≡ a.made → IsSound units by b
-  without_sound id gone sweep next next_ref refs made =
-      let sound = in_sound units by a v is inv usable in
-      record {
-        once = λ z. omega (arith, times_le units by id a.leaves.items b.leaves.items gone z, sound.once z);
-        fresh = λ z h. omega (arith, times_le units by id a.leaves.items b.leaves.items gone z, sound.fresh z (omega arith));
-        fits = omega (arith, gone.fewer, sound.fits);
-        small = omega (arith, sound.small);
-        sweep = subst (IsPlaceIn b.leaves.items) (sym sweep) (sweep_there a.leaves.items b.leaves.items id a.sweep sound.once gone.others sound.sweep);
-        refs = λ r h. refs r (sound.refs r (omega arith));
-      }
-
-  more_place : (o : Option ℕ) (x : ℕ × TreeLeaf C) → b.leaves.items ≡ a.leaves.items ++ x ∷ [] → IsPlaceIn a.leaves.items o → IsPlaceIn b.leaves.items o
-  more_place None x e h = tt
-  more_place (Some id) x e h = omega (arith, ap (λ ys. times_leaf ys id) e, times-append a.leaves.items (x ∷ []) id)
-
-  -- one leaf more behind all
-  pub append_sound : (leaf : TreeLeaf C) → b.leaves.items ≡ a.leaves.items ++ (a.next_node, leaf) ∷ []
-      → b.made ≡ a.made + length (units leaf.content) → b.sweep ≡ a.sweep → b.refs ≡ a.refs → b.next_ref ≡ a.next_ref
-      → b.next_node ≡ a.next_node + 1 → b.made ≤ max_safe_integer → IsSound units by b
-  append_sound leaf e made sweep refs next_ref next small =
-      let sound = in_sound units by a v is inv usable in
-      let x : ℕ × TreeLeaf C = (a.next_node, leaf) in
-      let times : (z : ℕ) → times_leaf b.leaves.items z ≡ times_leaf a.leaves.items z + same a.next_node z =
-      λ z. omega (arith, ap (λ ys. times_leaf ys z) e, times-append a.leaves.items (x ∷ []) z) in
-      record {
-        once = λ z. elim (cases_eq a.next_node z) [
-          | inl q ↦ omega (arith, times z, sound.fresh z (omega arith), ap (λ k. same k z) q, same_refl z)
-          | inr d ↦ omega (arith, times z, sound.once z, same_other a.next_node z d)
-        ];
-        fresh = λ z h. omega (arith, times z, sound.fresh z (omega arith), same_other a.next_node z (omega arith));
-        fits = omega (
-          arith,
-          ap (λ ys. length (elements units by ys)) e,
-          ap length (elements-append units by a.leaves.items (x ∷ [])),
-          length-append (elements units by a.leaves.items) (elements units by (x ∷ [])),
-          ap length (elements-one units by x),
-          length-leaf units by leaf,
-          sound.fits,
-        );
-        small = small;
-        sweep = subst (IsPlaceIn b.leaves.items) (sym sweep) (more_place a.sweep x e sound.sweep);
-        refs = λ r h. ap (λ rs. reference_at rs.items r) refs ∙ sound.refs r (omega arith);
-      }
+    (seen past : TreeElement U → Bool) (p : ℕ) (leaf : TreeLeaf C) (b : Inside C U) (i : ℕ) where
+  -- an insertion, as its callers see it
+  pub put_seen : elements units by b.blocks.leaves ≡ put seen past p (leaf_elements units by leaf) (elements units by a.blocks.leaves)
+      → i ≡ put_place seen past p (elements units by a.blocks.leaves)
+      → b.refs.items ≡ map (λ x. (x.0, with_place (shifted_place i (length (units leaf.content))) x.1)) a.refs.items
+      → Extends (ids a.blocks.leaves) (ids b.blocks.leaves) → b.made ≡ a.made + length (units leaf.content)
+      → b.blocks.floor ≡ a.blocks.floor → b.sweep ≡ a.sweep → b.usable ≡ a.usable → Puts units by seen past p leaf v (view_of b)
+  put_seen list place refs nodes made floor sweep still =
+      let moved : ℕ → Reference → Reference = λ j x. with_place (shifted_place j (length (units leaf.content))) x in
+      subst (λ (s : TreeState C). Puts units by seen past p leaf s (view_of b)) is
+      (record {
+        list = list;
+        refs = λ r. ap (λ xs. reference_at xs r) refs ∙ reference_at-map (moved i) a.refs.items r ∙ ap (λ j. option_map (moved j) (reference_at a.refs.items r)) place;
+        nodes = nodes;
+        rest = record { floor = floor; sweep = sweep; usable = still };
+        made = made;
+      })
 
 module _ {C U : Type 0} (units : C → List U) (by : C → Option Stamp) where
   -- the elements of a content that got its author
   pub fresh_elements : (k l : C) (ins : Stamp) (author : Option Stamp) (props : PropertyList) → units l ≡ units k → by l ≡ author
       → leaf_elements units by (fresh_leaf l ins props) ≡ new_elements ins author props (units k)
   fresh_elements k l ins author props e_units e_by = ap (λ a. new_elements ins a props (units l)) e_by ∙ ap (new_elements ins author props) e_units
+
+module _ {C U : Type 0} (units : C → List U) (by : C → Option Stamp) (author : ℕ → ℕ → Option Stamp) (stamped : C → ℕ → ℕ → C)
+    (stamped_units : (x : C) (s c : ℕ) → units (stamped x s c) ≡ units x) (stamped_by : (x : C) (s c : ℕ) → by (stamped x s c) ≡ author s c) where
+  -- what an edit makes of each element of a leaf
+  acts_ack : (k s c : ℕ) (x : TreeLeaf C) (us : List U)
+      → map (element_with x.stamps (cond (is_of_stage k x.stamps.ins) (author s c) (by x.content)) (after_ack k x.overlay)) us
+      ≡ map (edited_element author (Change (Ack k s c))) (map (element_with x.stamps (by x.content) x.overlay) us)
+  acts_ack k s c x [] = refl
+  acts_ack k s c x (u ∷ us) = ap (λ es. edited_element author (Change (Ack k s c)) (element_with x.stamps (by x.content) x.overlay u) ∷ es) (acts_ack k s c x us)
+
+  by_ack : (b : Bool) (s c : ℕ) (x : C) → by (cond b (stamped x s c) x) ≡ cond b (author s c) (by x)
+  by_ack true s c x = stamped_by x s c
+  by_ack false s c x = refl
+
+  units_ack : (b : Bool) (s c : ℕ) (x : C) → units (cond b (stamped x s c) x) ≡ units x
+  units_ack true s c x = stamped_units x s c
+  units_ack false s c x = refl
+
+  pub acts : (edit : RangeEdit) → Acts units by (edited_leaf stamped edit) (edited_element author edit)
+  acts (Remove t) x = leaf-with_stamps units by (removed_stamps t) x
+  acts (Change (SetAcked set)) x = leaf-with_overlay units by (after_acked_changes set) x
+  acts (Change (PushPending k set)) x = leaf-with_overlay units by (after_pending_changes k set) x
+  acts (Change (DropPending k)) x = leaf-with_overlay units by (after_drop k) x
+  acts (Change (Ack k s c)) x =
+      let test = is_of_stage k x.stamps.ins in
+      ap (λ a. map (element_with x.stamps a (after_ack k x.overlay)) (units (cond test (stamped x.content s c) x.content))) (by_ack test s c x.content)
+      ∙ ap (map (element_with x.stamps (cond test (author s c) (by x.content)) (after_ack k x.overlay))) (units_ack test s c x.content)
+      ∙ acts_ack k s c x (units x.content)

@@ -1,38 +1,42 @@
--- What a plain tree keeps, and what an insertion makes of it. No public clause cites this module.
-use Rattle.std.specs.Prelude.{◌≡◌, ℕ, ◌+◌, ◌≤◌, Bool, IsTrue, List, Option, None, length}
+-- What a tree keeps, and what an insertion and an edit make of it. No public clause cites this module.
+use Rattle.std.specs.Prelude.{◌≡◌, ℕ, ◌+◌, ◌≤◌, Bool, IsTrue, List, Option, None, cond, length}
 use Rattle.ft_base.specs.declared.stamps.Stamp.{Stamp}
 use Rattle.ft_base.specs.Scan.{put}
-use Rattle.ft_block.specs.Leaves.{IsPlaceIn, ids, times_leaf}
-use Rattle.ft_props.specs.Properties.{max_safe_integer}
-use Rattle.ft_tree.specs.declared.tree.Tree.TheInside.{Inside}
+use Rattle.ft_base.specs.Visibility.{is_of_stage}
+use Rattle.ft_block.specs.Leaves.{IsPlaceIn, ids}
+use Rattle.ft_leaf_blocks.specs.declared.ranges.RangeEdit.{RangeEdit}
+use Rattle.ft_leaf_blocks.specs.declared.ranges.RangeEdit.TheVariants.{Remove, Change}
+use Rattle.ft_leaves.specs.declared.block_leaf.LeafChange.TheVariants.{SetAcked, PushPending, DropPending, Ack}
 use Rattle.ft_leaves.specs.declared.leaves.TreeLeaf.{TreeLeaf}
 use Rattle.ft_leaves.specs.Edits.{with_place}
-use Rattle.ft_leaves.specs.Elements.{TreeElement}
+use Rattle.ft_leaves.specs.Elements.{TreeElement, removed_stamps, with_overlay, with_stamps}
 use Rattle.ft_leaves.specs.LeafLists.{Extends, elements, leaf_elements}
 use Rattle.ft_leaves.specs.Places.{put_place, shifted_place}
 use Rattle.ft_leaves.specs.References.{ChangesReferences, reference_at}
+use Rattle.ft_props.specs.Overlay.{after_ack, after_acked_changes, after_drop, after_pending_changes}
+use Rattle.ft_props.specs.Properties.{max_safe_integer}
 use Rattle.ft_tree.specs.State.{KeepsRest, TreeState}
+use Rattle.ft_tree.specs.declared.tree.Tree.TheInside.{Inside}
 
 module _ {C U : Type 0} where
   abbrev pub view_of : Inside C U → TreeState C
   view_of a = record {
-    leaves = a.leaves.items;
+    leaves = a.blocks.leaves;
     refs = a.refs.items;
-    floor = a.floor;
+    floor = a.blocks.floor;
     sweep = a.sweep;
     made = a.made;
-    depth = length a.leaves.items;
+    depth = a.blocks.depth;
     usable = a.usable;
   }
 
-  -- each node stands once, and the next one stands nowhere yet; the elements are no more than were ever made; the sweep
-  -- begins at a leaf; the next reference isn't live yet
+  -- the blocks may be used; the elements are no more than were ever made; the sweep begins at a leaf; the next reference
+  -- isn't live yet
   pub record IsSound (units : C → List U) (by : C → Option Stamp) (a : Inside C U) : Type 0 where
-    pub once : (id : ℕ) → times_leaf a.leaves.items id ≤ 1
-    pub fresh : (id : ℕ) → a.next_node ≤ id → times_leaf a.leaves.items id ≡ 0
-    pub fits : length (elements units by a.leaves.items) ≤ a.made
+    pub blocks : IsTrue a.blocks.usable
+    pub fits : length (elements units by a.blocks.leaves) ≤ a.made
     pub small : a.made ≤ max_safe_integer
-    pub sweep : IsPlaceIn a.leaves.items a.sweep
+    pub sweep : IsPlaceIn a.blocks.leaves a.sweep
     pub refs : (r : ℕ) → a.next_ref ≤ r → reference_at a.refs.items r ≡ None
 
   -- the same where the tree may still be used
@@ -47,3 +51,11 @@ module _ {C U : Type 0} (units : C → List U) (by : C → Option Stamp) where
     pub nodes : Extends (ids old.leaves) (ids now.leaves)
     pub rest : KeepsRest old now
     pub made : now.made ≡ old.made + length (units leaf.content)
+
+-- what an edit of a range makes of an element, where `author` is what an acknowledgement makes of its author
+abbrev pub edited_element : {U : Type 0} → (ℕ → ℕ → Option Stamp) → RangeEdit → TreeElement U → TreeElement U
+edited_element author (Remove t) = with_stamps (removed_stamps t)
+edited_element author (Change (SetAcked set)) = with_overlay (after_acked_changes set)
+edited_element author (Change (PushPending k set)) = with_overlay (after_pending_changes k set)
+edited_element author (Change (DropPending k)) = with_overlay (after_drop k)
+edited_element author (Change (Ack k s c)) = λ e. record e { by = cond (is_of_stage k e.stamps.ins) (author s c) e.by; overlay = after_ack k e.overlay }

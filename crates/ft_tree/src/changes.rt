@@ -12,12 +12,12 @@ ghost use Rattle.ft_leaves.specs.References.{ChangesReferences, KeepsReferences,
 ghost use Rattle.ft_tree.specs.State.{IsRefused, KeepsRest};
 
 use crate::faults::TreeFault;
-use crate::ranges::{ack_and_slide, push_range, remove, remove_and_slide, set_range};
 use crate::tree::Tree;
 use ft_base::{OutOfMemory, Perspective, Stamp, Steps};
 use ft_block::LenView;
-use ft_leaves::Content;
-use ft_leaves::scans::{count_reads, seen_count};
+use ft_leaf_blocks::acks::ack_all;
+use ft_leaf_blocks::ranges::RangeEdit;
+use ft_leaves::{Content, LeafChange};
 use ft_props::Changes;
 use std::sync::ledger::Ledger;
 
@@ -53,22 +53,12 @@ impl<C: Content> Tree<C> {
         ensures rest { OnOk result (KeepsRest self.old self.new) }
         ensures made { OnOk result (self.new.made ≡ self.old.made) }
     {
-        count_reads(&self.leaves, steps);
-        let view = LenView::Stage(u64::MAX);
-        let length = seen_count(&self.leaves, view);
-        if length < q {
-            return Err(TreeFault::OutOfRange { length });
-        }
-        let t = Stamp::Local { stage };
-        match remove(&mut self.leaves, p, q, view, t, self.next_node) {
-            Ok(after) => {
-                self.next_node = after;
-                Ok(())
+        match self.start_local(p, q, steps) {
+            Ok(found) => {
+                let edit = RangeEdit::Remove(Stamp::Local { stage });
+                self.edit(&found, p, q, LenView::Stage(u64::MAX), &edit)
             }
-            Err(_) => {
-                self.usable = false;
-                Err(TreeFault::OutOfMemory)
-            }
+            Err(e) => Err(e),
         }
     }
 
@@ -106,23 +96,12 @@ impl<C: Content> Tree<C> {
         ensures rest { OnOk result (KeepsRest self.old self.new) }
         ensures made { OnOk result (self.new.made ≡ self.old.made) }
     {
-        count_reads(&self.leaves, steps);
-        let view = LenView::At(at);
-        let length = seen_count(&self.leaves, view);
-        if length < q {
-            return Err(TreeFault::OutOfRange { length });
-        }
-        let t = Stamp::Acked { seq, conn: at.c };
-        let next = self.next_node;
-        match remove_and_slide(&mut self.leaves, &mut self.refs, p, q, view, t, next) {
-            Ok(after) => {
-                self.next_node = after;
-                Ok(())
+        match self.start_at(p, q, at, steps) {
+            Ok(found) => {
+                let edit = RangeEdit::Remove(Stamp::Acked { seq, conn: at.c });
+                self.edit_and_slide(&found, p, q, LenView::At(at), &edit)
             }
-            Err(_) => {
-                self.usable = false;
-                Err(TreeFault::OutOfMemory)
-            }
+            Err(e) => Err(e),
         }
     }
 
@@ -159,21 +138,18 @@ impl<C: Content> Tree<C> {
         ensures rest { OnOk result (KeepsRest self.old self.new) }
         ensures made { OnOk result (self.new.made ≡ self.old.made) }
     {
-        count_reads(&self.leaves, steps);
-        let view = LenView::Stage(u64::MAX);
-        let length = seen_count(&self.leaves, view);
-        if length < q {
-            return Err(TreeFault::OutOfRange { length });
-        }
-        match push_range(&mut self.leaves, p, q, view, stage, set, self.next_node) {
-            Ok(after) => {
-                self.next_node = after;
-                Ok(())
-            }
-            Err(_) => {
-                self.usable = false;
-                Err(TreeFault::OutOfMemory)
-            }
+        match self.start_local(p, q, steps) {
+            Ok(found) => match set.copy() {
+                Ok(copy) => {
+                    let edit = RangeEdit::Change(LeafChange::PushPending(stage, copy));
+                    self.edit(&found, p, q, LenView::Stage(u64::MAX), &edit)
+                }
+                Err(_) => {
+                    self.usable = false;
+                    Err(TreeFault::OutOfMemory)
+                }
+            },
+            Err(e) => Err(e),
         }
     }
 
@@ -211,21 +187,18 @@ impl<C: Content> Tree<C> {
         ensures rest { OnOk result (KeepsRest self.old self.new) }
         ensures made { OnOk result (self.new.made ≡ self.old.made) }
     {
-        count_reads(&self.leaves, steps);
-        let view = LenView::At(at);
-        let length = seen_count(&self.leaves, view);
-        if length < q {
-            return Err(TreeFault::OutOfRange { length });
-        }
-        match set_range(&mut self.leaves, p, q, view, set, self.next_node) {
-            Ok(after) => {
-                self.next_node = after;
-                Ok(())
-            }
-            Err(_) => {
-                self.usable = false;
-                Err(TreeFault::OutOfMemory)
-            }
+        match self.start_at(p, q, at, steps) {
+            Ok(found) => match set.copy() {
+                Ok(copy) => {
+                    let edit = RangeEdit::Change(LeafChange::SetAcked(copy));
+                    self.edit(&found, p, q, LenView::At(at), &edit)
+                }
+                Err(_) => {
+                    self.usable = false;
+                    Err(TreeFault::OutOfMemory)
+                }
+            },
+            Err(e) => Err(e),
         }
     }
 
@@ -249,8 +222,9 @@ impl<C: Content> Tree<C> {
         ensures made { OnOk result (self.new.made ≡ self.old.made) }
         ensures err { OnErr result (self.new.usable ≡ false) }
     {
-        match ack_and_slide(&mut self.leaves, &mut self.refs, stage, seq, conn) {
-            Ok(()) => Ok(()),
+        let alloc = *self.refs.allocator();
+        match ack_all(&mut self.blocks, alloc, stage, seq, conn) {
+            Ok(()) => self.slide(),
             Err(e) => {
                 self.usable = false;
                 Err(e)

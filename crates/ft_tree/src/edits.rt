@@ -1,225 +1,155 @@
-//! A plain list of leaves: how a leaf of it is moved, joined, or rid of a stage.
+//! Leaves in blocks with the references to their elements: steps that change both.
 
-ghost use Rattle.std.specs.Prelude.{◌≡◌, ◌↔◌, ℕ, ◌+◌, ◌++◌, ◌∷◌, [], ◌<◌, ◌≤◌, ◌^◌, if◌then◌else◌, IfOk, IsTrue, OnOk, Some, cond, length, map, nat_eq, option_map};
-ghost use Rattle.ft_block.specs.Leaves.{IsLeafIn, IsPlaceIn, join_leaf, left_of, move_leaf, times_leaf, value_at, without_leaf};
-ghost use Rattle.ft_leaves.specs.Edits.{MayJoinNext, closed_by, joined_leaf, leaf_at, moved_by, sweep_joined, sweep_without, unmarked_leaf, up_to_place, with_place};
-ghost use Rattle.ft_leaves.specs.LeafChanges.{unmarked_pair};
-ghost use Rattle.ft_leaves.specs.Plain.{JoinsNext};
-ghost use Rattle.ft_leaves.specs.LeafLists.{elements};
+ghost use Rattle.std.specs.Prelude.{◌≡◌, ℕ, ◌+◌, ◌++◌, ◌<◌, ◌≤◌, ◌^◌, [], IfOk, IsTrue, OnOk, Some, true, false, length, map, option_map};
+ghost use Rattle.ft_base.specs.Scan.{place, put};
+ghost use Rattle.ft_block.specs.declared.leaves.LenView.{LenView};
+ghost use Rattle.ft_block.specs.Leaves.{IsLeafIn, IsPlaceIn, ids, move_leaf, value_at, without_leaf};
+ghost use Rattle.ft_leaf_blocks.specs.Walks.{IsInLeaf, held_place};
+ghost use Rattle.ft_leaves.specs.Edits.{closed_by, moved_by, with_place};
+ghost use Rattle.ft_leaves.specs.Elements.{elements_with, new_elements, seen_in};
+ghost use Rattle.ft_leaves.specs.LeafLists.{Extends, elements, pending_leaves};
+ghost use Rattle.ft_leaves.specs.Places.{put_place, shifted_place};
+ghost use Rattle.ft_leaves.specs.Plain.{passes};
+ghost use Rattle.ft_props.specs.Properties.{apply};
 
-use crate::nodes::{count_at, index_of, node_after, put_node, seen_left, take_node};
+use crate::finds::find_end;
 use ft_arena::NodeId;
-use ft_base::{Element, OutOfMemory};
-use ft_block::LenView;
-use ft_leaves::references::{Reference, closed_references, moved_references};
+use ft_base::{Element, OutOfMemory, Stamp, Steps};
+use ft_block::{Blocks, Found};
+use ft_leaf_blocks::cuts::{cut_at, insert_at};
+use ft_leaf_blocks::edits::{leaf_place, move_at};
+use ft_leaves::references::{Reference, closed_references, moved_references, shifted_references};
 use ft_leaves::{Content, TreeLeaf};
-use ft_props::{Overlay, Props};
+use ft_props::{Overlay, PropSet, Props};
 use ft_refs::RefId;
 use std::alloc::Global;
+use std::marker::Brand;
+use std::sync::ledger::{Blank, Ledger};
 
-/// Takes the removal mark and the changes of a stage off a leaf, which has node `at`, if that is `id`.
+/// Puts new elements in as one leaf directly after a place that was found, or past the leaves with a
+/// pending insertion that stand there, and answers how many elements stand before them. References go with
+/// their elements.
 ///
-/// Answers `OutOfMemory` where there is no room for what is left.
-fn unmark_if<C: Content>(
-    leaf: &mut TreeLeaf<C>,
-    alloc: Global,
-    at: NodeId,
-    id: NodeId,
-    stage: u64,
-) -> Result<(), OutOfMemory>
-    ensures { OnOk result (leaf.new ≡ cond (nat_eq at id) (unmarked_leaf stage leaf.old) leaf.old) }
-{
-    if at.0 != id.0 {
-        return Ok(());
-    }
-    leaf.unmark(alloc, stage)
-}
+/// Answers `OutOfMemory` where there is no room for them.
+pub(crate) fn insert<C: Content + Drop, G: Ledger>(
+    blocks: &mut Blocks<TreeLeaf<C>>,
+    refs: &mut Vec<(RefId, Reference)>,
+    found: &Found,
+    past_pending: bool,
+    content: C,
+    ins: Stamp,
+    props: &PropSet,
+    steps: &mut Steps<G>,
+) -> Result<u64, OutOfMemory>
+    requires usable { IsTrue blocks.old.usable }
+    requires held { IsInLeaf C.units blocks.old.leaves found.now.leaf found.now.offset }
+    requires fits { length (elements C.units C.by blocks.old.leaves) + length (C.units content) < 2 ^ 64 }
 
-/// Takes the removal mark and the changes of a stage off the leaf of a node.
-///
-/// Answers `OutOfMemory` where there is no room for what is left.
-fn unmark_in<C: Content>(
-    leaves: &mut [(NodeId, TreeLeaf<C>)],
-    alloc: Global,
-    id: NodeId,
-    stage: u64,
-) -> Result<(), OutOfMemory>
-    ensures { OnOk result (leaves.new ≡ map (unmarked_pair id stage) leaves.old) }
+    // The place is that of p seen elements.
+    ensures list { (view : LenView) (p : ℕ) → held_place C.units C.by blocks.old.leaves found.now.leaf found.now.offset
+        ≡ place (seen_in view) p (elements C.units C.by blocks.old.leaves)
+        → OnOk result (elements C.units C.by blocks.new.leaves
+        ≡ put (seen_in view) (passes past_pending) p (new_elements ins (C.by content) (apply [] props.now) (C.units content)) (elements C.units C.by blocks.old.leaves)) }
+    ensures place { (view : LenView) (p : ℕ) → held_place C.units C.by blocks.old.leaves found.now.leaf found.now.offset
+        ≡ place (seen_in view) p (elements C.units C.by blocks.old.leaves)
+        → IfOk result (λ i. i ≡ put_place (seen_in view) (passes past_pending) p (elements C.units C.by blocks.old.leaves)) }
+    ensures count { OnOk result (length (elements C.units C.by blocks.new.leaves) ≡ length (elements C.units C.by blocks.old.leaves) + length (C.units content)) }
+    ensures nodes { OnOk result (Extends (ids blocks.old.leaves) (ids blocks.new.leaves)) }
+    ensures refs { IfOk result (λ i. refs.new.items ≡ map (λ x. (x.0, with_place (shifted_place i (length (C.units content))) x.1)) refs.old.items) }
+    ensures usable { OnOk result (blocks.new.usable ≡ true) }
+    ensures floor { blocks.new.floor ≡ blocks.old.floor }
+    ensures reads { steps.new ≤ steps.old + pending_leaves blocks.old.leaves + 1 }
+    ensures no_reads { past_pending ≡ false → steps.new ≡ steps.old }
 {
-    for x in leaves.iter_mut() {
-        unmark_if(&mut x.1, alloc, x.0, id, stage)?;
-    }
-    Ok(())
-}
-
-/// The same in a list of leaves.
-pub(crate) fn unmark<C: Content>(
-    leaves: &mut Vec<(NodeId, TreeLeaf<C>)>,
-    id: NodeId,
-    stage: u64,
-) -> Result<(), OutOfMemory>
-    ensures { OnOk result (leaves.new.items ≡ map (unmarked_pair id stage) leaves.old.items) }
-{
-    let alloc = *leaves.allocator();
-    unmark_in(leaves.as_mut_slice(), alloc, id, stage)
-}
-
-/// Where elements stood that were moved, how many there are, and how many of the others stand before them
-/// now.
-#[derive(Clone, Copy, Drop)]
-pub(crate) struct Move {
-    pub(crate) from: u64,
-    pub(crate) count: u64,
-    pub(crate) to: u64,
-}
-
-/// Moves the leaf of a node directly after another, or to the head.
-///
-/// Answers `OutOfMemory` where there is no room for it.
-pub(crate) fn move_node<C: Content + Drop>(
-    leaves: &mut Vec<(NodeId, TreeLeaf<C>)>,
-    id: NodeId,
-    at: Option<NodeId>,
-) -> Result<Move, OutOfMemory>
-    requires live { IsLeafIn leaves.old.items id }
-    requires place { IsPlaceIn (without_leaf leaves.old.items id) at }
-    requires once { (i : ℕ) → times_leaf leaves.old.items i ≤ 1 }
-    requires fits { length (elements C.units C.by leaves.old.items) < 2 ^ 64 }
-    ensures leaves { OnOk result (leaves.new.items ≡ move_leaf leaves.old.items id at (value_at leaves.old.items id)) }
-    ensures from { IfOk result (λ m. m.from ≡ length (elements C.units C.by (left_of leaves.old.items id))) }
-    ensures count { IfOk result (λ m. m.count ≡ length (elements C.units C.by (leaf_at leaves.old.items id))) }
-    ensures to { IfOk result (λ m. m.to ≡ length (elements C.units C.by (up_to_place (without_leaf leaves.old.items id) at))) }
-{
-    let from = seen_left(leaves, id, LenView::All);
-    let count = count_at(leaves, id);
-    let leaf = take_node(leaves, id);
-    let to = put_node(leaves, at, id, leaf)?;
-    Ok(Move { from, count, to })
-}
-
-/// Joins the leaf after that of a node to it, if the two may be joined at the floor. Tells whether they may.
-///
-/// Answers `OutOfMemory` where there is no room for both in one.
-pub(crate) fn join_node<C: Content + Drop>(
-    leaves: &mut Vec<(NodeId, TreeLeaf<C>)>,
-    id: NodeId,
-    floor: u64,
-) -> Result<bool, OutOfMemory>
-    requires live { IsLeafIn leaves.old.items id }
-    requires once { (i : ℕ) → times_leaf leaves.old.items i ≤ 1 }
-    ensures answer { IfOk result (λ joined. IsTrue joined ↔ MayJoinNext C.joins floor leaves.old.items id) }
-    ensures next { IfOk result (λ joined. IsTrue joined → JoinsNext C.units C.by id leaves.old.items leaves.new.items) }
-    ensures leaves { IfOk result (λ joined. leaves.new.items ≡ (if joined then join_leaf (joined_leaf C.joined) leaves.old.items id else leaves.old.items)) }
-{
-    let i = index_of(leaves, id);
-    if i + 1 == leaves.len() {
-        return Ok(false);
-    }
-    if !leaves[i].1.may_join(&leaves[i + 1].1, floor) {
-        return Ok(false);
-    }
-    let rear = leaves.remove(i + 1).1;
-    let mut front = leaves.remove(i).1;
-    front.join(rear)?;
-    leaves.insert(i, (id, front))?;
-    Ok(true)
-}
-
-/// Where the next sweep begins after the leaf of a node is gone, where `sweep` is the place before.
-pub(crate) fn sweep_without<C: Content>(
-    leaves: &[(NodeId, TreeLeaf<C>)],
-    id: NodeId,
-    sweep: Option<NodeId>,
-) -> Option<NodeId>
-    ensures { result ≡ sweep_without leaves.now id sweep }
-{
-    let Some(s) = sweep else {
-        return None;
-    };
-    if s.0 == id.0 {
-        return node_after(leaves, id);
-    }
-    Some(s)
-}
-
-/// The same after the leaf behind that of a node is gone.
-pub(crate) fn sweep_joined<C: Content>(
-    leaves: &[(NodeId, TreeLeaf<C>)],
-    id: NodeId,
-    sweep: Option<NodeId>,
-) -> Option<NodeId>
-    ensures { result ≡ sweep_joined leaves.now id sweep }
-{
-    match node_after(leaves, id) {
-        Some(next) => sweep_without(leaves, next, sweep),
-        None => sweep,
-    }
+    let count = content.len();
+    let alloc = *refs.allocator();
+    let place = insert_at(
+        blocks,
+        alloc,
+        found,
+        past_pending,
+        content,
+        ins,
+        props,
+        steps,
+    )?;
+    *refs = shifted_references(alloc, refs, place, count)?;
+    Ok(place)
 }
 
 /// Moves the leaf of a node directly after another, or to the head. References go with their elements.
 ///
 /// Answers `OutOfMemory` where there is no room for it.
-pub(crate) fn move_with_references<C: Content + Drop>(
-    leaves: &mut Vec<(NodeId, TreeLeaf<C>)>,
+pub(crate) fn move_with_references<C: Content>(
+    blocks: &mut Blocks<TreeLeaf<C>>,
     refs: &mut Vec<(RefId, Reference)>,
     id: NodeId,
     at: Option<NodeId>,
 ) -> Result<(), OutOfMemory>
-    requires live { IsLeafIn leaves.old.items id }
-    requires place { IsPlaceIn (without_leaf leaves.old.items id) at }
-    requires once { (i : ℕ) → times_leaf leaves.old.items i ≤ 1 }
-    requires fits { length (elements C.units C.by leaves.old.items) < 2 ^ 64 }
-    ensures leaves { OnOk result (leaves.new.items ≡ move_leaf leaves.old.items id at (value_at leaves.old.items id)) }
-    ensures refs { OnOk result (refs.new.items ≡ map (λ x. (x.0, with_place (moved_by C.units C.by leaves.old.items id at) x.1)) refs.old.items) }
+    requires usable { IsTrue blocks.old.usable }
+    requires live { IsLeafIn blocks.old.leaves id }
+    requires place { IsPlaceIn (without_leaf blocks.old.leaves id) at }
+    ensures leaves { OnOk result (blocks.new.leaves ≡ move_leaf blocks.old.leaves id at (value_at blocks.old.leaves id)) }
+    ensures refs { OnOk result (refs.new.items ≡ map (λ x. (x.0, with_place (moved_by C.units C.by blocks.old.leaves id at) x.1)) refs.old.items) }
+    ensures usable { OnOk result (blocks.new.usable ≡ true) }
+    ensures floor { blocks.new.floor ≡ blocks.old.floor }
 {
-    let moved = move_node(leaves, id, at)?;
+    let moved = move_at(blocks, id, at)?;
     let alloc = *refs.allocator();
-    *refs = moved_references(alloc, refs, moved.from, moved.count, moved.to)?;
+    *refs = moved_references(alloc, refs, moved.place.from, moved.place.count, moved.to)?;
     Ok(())
 }
 
 /// Takes the leaf of a node out, on which no reference is, and answers its content.
 ///
-/// Answers `OutOfMemory` where there is no room for the other references.
+/// Answers `OutOfMemory` where there is no room for what is kept.
 pub(crate) fn take_with_references<C: Content + Drop>(
-    leaves: &mut Vec<(NodeId, TreeLeaf<C>)>,
+    blocks: &mut Blocks<TreeLeaf<C>>,
     refs: &mut Vec<(RefId, Reference)>,
     id: NodeId,
 ) -> Result<C, OutOfMemory>
-    requires live { IsLeafIn leaves.old.items id }
-    requires once { (i : ℕ) → times_leaf leaves.old.items i ≤ 1 }
-    requires fits { length (elements C.units C.by leaves.old.items) < 2 ^ 64 }
-    ensures content { IfOk result (λ content. option_map (λ x. x.content) (value_at leaves.old.items id) ≡ Some content) }
-    ensures leaves { OnOk result (leaves.new.items ≡ without_leaf leaves.old.items id) }
-    ensures refs { OnOk result (refs.new.items ≡ map (λ x. (x.0, with_place (closed_by C.units C.by leaves.old.items id) x.1)) refs.old.items) }
+    requires usable { IsTrue blocks.old.usable }
+    requires live { IsLeafIn blocks.old.leaves id }
+    ensures content { IfOk result (λ content. option_map (λ x. x.content) (value_at blocks.old.leaves id) ≡ Some content) }
+    ensures leaves { OnOk result (blocks.new.leaves ≡ without_leaf blocks.old.leaves id) }
+    ensures refs { OnOk result (refs.new.items ≡ map (λ x. (x.0, with_place (closed_by C.units C.by blocks.old.leaves id) x.1)) refs.old.items) }
+    ensures usable { OnOk result (blocks.new.usable ≡ true) }
+    ensures floor { blocks.new.floor ≡ blocks.old.floor }
 {
-    let from = seen_left(leaves, id, LenView::All);
-    let count = count_at(leaves, id);
-    let content = take_node(leaves, id).content;
-    *refs = closed_references(*refs.allocator(), refs, from, count)?;
+    let place = leaf_place(blocks, id);
+    let content = blocks.take(id)?.content;
+    let alloc = *refs.allocator();
+    *refs = closed_references(alloc, refs, place.from, place.count)?;
     Ok(content)
 }
 
-/// Puts a leaf of elements with these stamps and acknowledged properties at the end, and answers the next
-/// number of a node.
+/// Puts a leaf of elements with these stamps and acknowledged properties at the end.
 ///
 /// Answers `OutOfMemory` where there is no room for it.
 pub(crate) fn append<C: Content + Drop>(
-    leaves: &mut Vec<(NodeId, TreeLeaf<C>)>,
-    next: usize,
+    blocks: &mut Blocks<TreeLeaf<C>>,
+    alloc: Global,
     content: C,
     props: &Props,
     e: Element,
-) -> Result<usize, OutOfMemory>
-    ensures next { IfOk result (λ after. after ≡ next + 1) }
-    ensures leaves { OnOk result (leaves.new.items ≡ leaves.old.items ++ (next, record { content = content; stamps = e; overlay = record { acked = props.now; pending = [] } }) ∷ []) }
+) -> Result<(), OutOfMemory>
+    requires usable { IsTrue blocks.old.usable }
+    requires fits { length (elements C.units C.by blocks.old.leaves) + length (C.units content) < 2 ^ 64 }
+    ensures list { let added = elements_with e (C.by content) (record { acked = props.now; pending = [] }) (C.units content) in
+        OnOk result (elements C.units C.by blocks.new.leaves ≡ elements C.units C.by blocks.old.leaves ++ added) }
+    ensures nodes { OnOk result (Extends (ids blocks.old.leaves) (ids blocks.new.leaves)) }
+    ensures usable { OnOk result (blocks.new.usable ≡ true) }
+    ensures floor { blocks.new.floor ≡ blocks.old.floor }
 {
-    let after = next.checked_add(1).ok_or(OutOfMemory)?;
+    let overlay = Overlay::of(alloc, props.copy()?);
     let leaf = TreeLeaf {
         content,
         stamps: e,
-        overlay: Overlay::of(*leaves.allocator(), props.copy()?),
+        overlay,
     };
-    leaves.push((NodeId(next), leaf))?;
-    Ok(after)
+    let end = find_end::<C, Brand>(blocks, Blank::new(1));
+    let at = cut_at(blocks, &end)?;
+    let _first = blocks.first();
+    let _id = blocks.insert_after(at, leaf)?;
+    Ok(())
 }

@@ -1,6 +1,6 @@
 //! The references of a tree, and where they go.
 
-ghost use Rattle.std.specs.Prelude.{◌≡◌, ◌≢◌, ℕ, ◌+◌, ◌<◌, Some, None, IsTrue, IfOk, IfErr, OnOk, true, false, option_and_then};
+ghost use Rattle.std.specs.Prelude.{◌≡◌, ◌≢◌, ℕ, ◌+◌, ◌<◌, Some, None, IsTrue, IfOk, IfErr, OnOk, OnErr, true, false, option_and_then};
 ghost use Rattle.ft_base.specs.Scan.{len};
 ghost use Rattle.ft_block.specs.declared.leaves.LenView.TheVariants.{Stage};
 ghost use Rattle.ft_block.specs.Leaves.{IsFromFloor};
@@ -8,15 +8,19 @@ ghost use Rattle.ft_leaves.specs.Edits.{ChangesReference, next_removal_above};
 ghost use Rattle.ft_leaves.specs.Elements.{seen_in};
 ghost use Rattle.ft_leaves.specs.Places.{place_at, settled_number};
 ghost use Rattle.ft_leaves.specs.LeafLists.{elements};
-ghost use Rattle.ft_leaves.specs.References.{IsReferenceIn, place_of, reference_at, slid_reference};
+ghost use Rattle.ft_leaves.specs.References.{ChangesReferences, IsReferenceIn, place_of, reference_at, slid_reference};
 ghost use Rattle.ft_tree.specs.State.{IsRefused};
 
 use crate::faults::TreeFault;
 use crate::tree::Tree;
+use ft_base::OutOfMemory;
 use ft_block::LenView;
+use ft_leaf_blocks::places::seen_count;
+use ft_leaf_blocks::references::{settle_in, slid_references};
+use ft_leaf_blocks::scans::{place_at, settled_number};
+use ft_leaf_blocks::stamp_lists::next_removal;
 use ft_leaves::Content;
-use ft_leaves::references::{Reference, add_reference, drop_reference, reference_of, settle_in};
-use ft_leaves::scans::{next_removal, place_at, seen_count, settled_number};
+use ft_leaves::references::{Reference, add_reference, drop_reference, reference_of};
 use ft_refs::RefId;
 
 impl<C: Content> Tree<C> {
@@ -36,12 +40,12 @@ impl<C: Content> Tree<C> {
         ensures refused { let old = elements C.units C.by self.old.leaves in
             IfErr result (IsRefused (p + 1) (len (seen_in view) old) self.old self.new) }
     {
-        let length = seen_count(&self.leaves, view);
+        let length = seen_count(&self.blocks, view);
         if length <= p {
             return Err(TreeFault::OutOfRange { length });
         }
         let x = Reference {
-            place: place_at(&self.leaves, p, view),
+            place: place_at(&self.blocks, p, view),
             acked: false,
         };
         let r = self.next_ref;
@@ -75,7 +79,7 @@ impl<C: Content> Tree<C> {
             result ≡ option_and_then (settled_number (seen_in (Stage stage)) list) (place_of self.now.refs r) }
     {
         let i = reference_of(&self.refs, r)?.place?;
-        settled_number(&self.leaves, i, LenView::Stage(stage))
+        settled_number(&self.blocks, i, LenView::Stage(stage))
     }
 
     /// The number, among the elements seen at the stage, of the element that stage `from` sees with `p` seen
@@ -86,8 +90,8 @@ impl<C: Content> Tree<C> {
         ensures { let list = elements C.units C.by self.now.leaves in
             result ≡ option_and_then (settled_number (seen_in (Stage stage)) list) (place_at (seen_in (Stage from)) p list) }
     {
-        let i = place_at(&self.leaves, p, LenView::Stage(from))?;
-        settled_number(&self.leaves, i, LenView::Stage(stage))
+        let i = place_at(&self.blocks, p, LenView::Stage(from))?;
+        settled_number(&self.blocks, i, LenView::Stage(stage))
     }
 
     /// Makes a reference acknowledged, and slides it.
@@ -98,7 +102,30 @@ impl<C: Content> Tree<C> {
             ChangesReference r (λ x. Some (slid_reference old (record x { acked = true }))) self.old.refs self.new.refs }
         ensures rest { self.new ≡ record self.old { refs = self.new.refs } }
     {
-        settle_in(&self.leaves, &mut self.refs, r);
+        settle_in(&self.blocks, &mut self.refs, r);
+    }
+
+    /// Lets acknowledged references slide, after sequenced removals.
+    ///
+    /// Answers `OutOfMemory` where there is no room for them, and then the tree may be used no more.
+    pub(crate) fn slide(&mut self) -> Result<(), OutOfMemory>
+        requires { IsTrue self.old.usable }
+        ensures refs { let list = elements C.units C.by self.old.leaves in
+            OnOk result (ChangesReferences (slid_reference list) self.old.refs self.new.refs) }
+        ensures rest { OnOk result (self.new ≡ record self.old { refs = self.new.refs }) }
+        ensures err { OnErr result (self.new.usable ≡ false) }
+    {
+        let alloc = *self.refs.allocator();
+        match slid_references(alloc, &self.blocks, &self.refs) {
+            Ok(refs) => {
+                self.refs = refs;
+                Ok(())
+            }
+            Err(e) => {
+                self.usable = false;
+                Err(e)
+            }
+        }
     }
 
     /// Ends a reference.
@@ -116,6 +143,6 @@ impl<C: Content> Tree<C> {
         requires { IsTrue self.now.usable }
         ensures { result ≡ next_removal_above stage (elements C.units C.by self.now.leaves) }
     {
-        next_removal(&self.leaves, stage)
+        next_removal(&self.blocks, stage)
     }
 }

@@ -1,9 +1,11 @@
 //! How elements come into a tree.
 
-ghost use Rattle.std.specs.Prelude.{◌≡◌, ◌+◌, ◌*◌, ◌≤◌, [], IsTrue, IfErr, OnOk, OnErr, false, length};
+ghost use Rattle.std.specs.Prelude.{◌≡◌, ℕ, ◌+◌, ◌*◌, ◌≤◌, [], IsTrue, IfErr, OnOk, OnErr, false, length};
 ghost use Rattle.ft_base.specs.declared.stamps.Stamp.TheVariants.{Acked, Local};
-ghost use Rattle.ft_base.specs.Scan.{len, no_run, put};
+ghost use Rattle.ft_base.specs.Scan.{len, no_run, place, put};
+ghost use Rattle.ft_block.specs.declared.leaves.LenView.{LenView};
 ghost use Rattle.ft_block.specs.declared.leaves.LenView.TheVariants.{At};
+ghost use Rattle.ft_leaf_blocks.specs.Walks.{IsInLeaf, held_place};
 ghost use Rattle.ft_block.specs.Leaves.{ids, last_stage};
 ghost use Rattle.ft_props.specs.Properties.{apply, max_safe_integer};
 ghost use Rattle.ft_tree.specs.declared.faults.TreeFault.TheVariants as fault;
@@ -17,13 +19,13 @@ ghost use Rattle.ft_leaves.specs.LeafLists.{Extends, elements, pending_leaves};
 ghost use Rattle.ft_leaves.specs.References.{ChangesReferences};
 ghost use Rattle.ft_tree.specs.State.{IsRefused, KeepsRest};
 
-use crate::cuts::insert;
+use crate::edits::insert;
 use crate::faults::TreeFault;
 use crate::tree::Tree;
 use ft_base::{Perspective, Stamp, Steps};
-use ft_block::LenView;
+use ft_block::Found;
+use ft_leaf_blocks::places::{find_local, find_seen_at};
 use ft_leaves::Content;
-use ft_leaves::scans::{count_reads, seen_count};
 use ft_props::PropSet;
 use std::sync::ledger::Ledger;
 
@@ -63,15 +65,13 @@ impl<C: Content> Tree<C> {
         ensures made { OnOk result (self.new.made ≡ self.old.made + length (C.units content)) }
         ensures reads { steps.new ≤ steps.old + 9 * (self.old.depth + 1) }
     {
-        count_reads(&self.leaves, steps);
-        let view = LenView::Stage(u64::MAX);
-        let length = seen_count(&self.leaves, view);
-        if length < p {
-            return Err(TreeFault::OutOfRange { length });
+        match find_local(&self.blocks, p, steps) {
+            Ok(found) => {
+                let ins = Stamp::Local { stage };
+                self.put(&found, false, content, ins, props, steps)
+            }
+            Err(e) => Err(TreeFault::OutOfRange { length: e.length }),
         }
-        count_reads(&self.leaves, steps);
-        let ins = Stamp::Local { stage };
-        self.put(p, view, false, content, ins, props)
     }
 
     /// Puts new elements in under number `seq` by the perspective's connection, directly after the `p`-th
@@ -111,53 +111,54 @@ impl<C: Content> Tree<C> {
         ensures made { OnOk result (self.new.made ≡ self.old.made + length (C.units content)) }
         ensures reads { steps.new ≤ steps.old + 9 * (self.old.depth + 1) + pending_leaves self.old.leaves + 1 }
     {
-        count_reads(&self.leaves, steps);
-        let view = LenView::At(at);
-        let length = seen_count(&self.leaves, view);
-        if length < p {
-            return Err(TreeFault::OutOfRange { length });
+        match find_seen_at(&self.blocks, p, at, steps) {
+            Ok(found) => {
+                content.stamped(seq, at.c);
+                let ins = Stamp::Acked { seq, conn: at.c };
+                self.put(&found, true, content, ins, props, steps)
+            }
+            Err(e) => Err(TreeFault::OutOfRange { length: e.length }),
         }
-        count_reads(&self.leaves, steps);
-        count_reads(&self.leaves, steps);
-        content.stamped(seq, at.c);
-        let ins = Stamp::Acked { seq, conn: at.c };
-        self.put(p, view, true, content, ins, props)
     }
 
-    /// Puts new elements in at a place that is there.
-    pub(crate) fn put(
+    /// Puts new elements in at a place that was found, or past the pending ones there.
+    fn put<G: Ledger>(
         &mut self,
-        p: u64,
-        view: LenView,
+        found: &Found,
         past_pending: bool,
         content: C,
         ins: Stamp,
         props: &PropSet,
+        steps: &mut Steps<G>,
     ) -> Result<(), TreeFault>
     where
         C: Drop,
         requires usable { IsTrue self.old.usable }
+        requires held { IsInLeaf C.units self.old.leaves found.now.leaf found.now.offset }
         requires made { self.old.made + length (C.units content) ≤ max_safe_integer }
+
+        // The place is that of p seen elements.
         ensures ok { let leaf = fresh_leaf content ins (apply [] props.now) in
-            OnOk result (Puts C.units C.by (seen_in view) (passes past_pending) p leaf self.old self.new) }
+            (view : LenView) (p : ℕ) → held_place C.units C.by self.old.leaves found.now.leaf found.now.offset
+            ≡ place (seen_in view) p (elements C.units C.by self.old.leaves)
+            → OnOk result (Puts C.units C.by (seen_in view) (passes past_pending) p leaf self.old self.new) }
         ensures err { IfErr result (λ e. e ≡ fault.OutOfMemory) }
         ensures unusable { OnErr result (self.new.usable ≡ false) }
+        ensures reads { steps.new ≤ steps.old + pending_leaves self.old.leaves + 1 }
+        ensures no_reads { past_pending ≡ false → steps.new ≡ steps.old }
     {
         let count = content.len();
-        let next = self.next_node;
         match insert(
-            &mut self.leaves,
+            &mut self.blocks,
             &mut self.refs,
-            p,
-            view,
+            found,
             past_pending,
-            next,
             content,
             ins,
             props,
+            steps,
         ) {
-            Ok(after) => {
-                self.next_node = after;
+            Ok(_place) => {
                 self.made += count;
                 Ok(())
             }

@@ -4,13 +4,12 @@
 #![tactic(auto)]
 
 pub mod changes;
-mod cuts;
 mod edits;
 pub mod endpoints;
 pub mod faults;
+mod finds;
 pub mod insertions;
 pub mod moves;
-mod nodes;
 mod ranges;
 pub mod tree;
 pub mod walks;

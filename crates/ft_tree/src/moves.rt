@@ -9,13 +9,12 @@ ghost use Rattle.ft_leaves.specs.LeafLists.{Extends, elements};
 ghost use Rattle.ft_leaves.specs.References.{ChangesReferences, KeepsReferences};
 ghost use Rattle.ft_tree.specs.State.{KeepsRest};
 
-use crate::edits::{
-    append, join_node, move_with_references, sweep_joined, sweep_without, take_with_references,
-    unmark,
-};
+use crate::edits::{append, move_with_references, take_with_references};
 use crate::tree::Tree;
 use ft_arena::NodeId;
 use ft_base::{Element, OutOfMemory};
+use ft_leaf_blocks::acks::unmark_at;
+use ft_leaf_blocks::joins::{join_at, sweep_joined, sweep_without};
 use ft_leaves::Content;
 use ft_props::Props;
 
@@ -36,9 +35,9 @@ impl<C: Content> Tree<C> {
         ensures err { OnErr result (self.new.usable ≡ false) }
     {
         let count = content.len();
-        match append(&mut self.leaves, self.next_node, content, props, e) {
-            Ok(after) => {
-                self.next_node = after;
+        let alloc = *self.refs.allocator();
+        match append(&mut self.blocks, alloc, content, props, e) {
+            Ok(()) => {
                 self.made += count;
                 Ok(())
             }
@@ -64,7 +63,8 @@ impl<C: Content> Tree<C> {
         ensures made { OnOk result (self.new.made ≡ self.old.made) }
         ensures err { OnErr result (self.new.usable ≡ false) }
     {
-        match move_with_references(&mut self.leaves, &mut self.refs, id, at) {
+        let _first = self.blocks.first();
+        match move_with_references(&mut self.blocks, &mut self.refs, id, at) {
             Ok(()) => Ok(()),
             Err(e) => {
                 self.usable = false;
@@ -85,7 +85,8 @@ impl<C: Content> Tree<C> {
         ensures made { OnOk result (self.new.made ≡ self.old.made) }
         ensures err { OnErr result (self.new.usable ≡ false) }
     {
-        match unmark(&mut self.leaves, id, stage) {
+        let alloc = *self.refs.allocator();
+        match unmark_at(&mut self.blocks, alloc, id, stage) {
             Ok(()) => Ok(()),
             Err(e) => {
                 self.usable = false;
@@ -113,8 +114,9 @@ impl<C: Content> Tree<C> {
         ensures usable { OnOk result (self.new.usable ≡ true) }
         ensures err { OnErr result (self.new.usable ≡ false) }
     {
-        let sweep = sweep_without(&self.leaves, id, self.sweep);
-        match take_with_references(&mut self.leaves, &mut self.refs, id) {
+        let _first = self.blocks.first();
+        let sweep = sweep_without(&self.blocks, id, self.sweep);
+        match take_with_references(&mut self.blocks, &mut self.refs, id) {
             Ok(content) => {
                 self.sweep = sweep;
                 Ok(content)
@@ -144,8 +146,11 @@ impl<C: Content> Tree<C> {
         ensures usable { OnOk result (self.new.usable ≡ true) }
         ensures err { OnErr result (self.new.usable ≡ false) }
     {
-        let sweep = sweep_joined(&self.leaves, id, self.sweep);
-        match join_node(&mut self.leaves, id, self.floor) {
+        let _first = self.blocks.first();
+        let sweep = sweep_joined(&self.blocks, id, self.sweep);
+        let alloc = *self.refs.allocator();
+        let floor = self.blocks.floor();
+        match join_at(&mut self.blocks, alloc, id, floor) {
             Ok(true) => {
                 self.sweep = sweep;
                 Ok(true)

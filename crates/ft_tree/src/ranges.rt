@@ -1,283 +1,156 @@
-//! A plain list of leaves: how a range of it, or all of it, is changed.
+//! A range of the elements of a tree: where it begins, and how it is changed.
 
-ghost use Rattle.std.specs.Prelude.{◌≡◌, ◌+◌, ◌<◌, ◌≤◌, ◌^◌, All, IfOk, OnOk, length, map};
-ghost use Rattle.ft_props.specs.Overlay.{after_acked_changes, after_pending_changes};
-ghost use Rattle.ft_leaves.specs.Elements.{IsAboveChanges, IsLowestChange, removed_stamps, seen_in, with_overlay, with_stamps};
-ghost use Rattle.ft_leaves.specs.LeafLists.{elements, leaf_elements};
-ghost use Rattle.ft_leaves.specs.References.{slid_reference};
-ghost use Rattle.ft_leaves.specs.LeafChanges.{acked_pair, changed_where_seen, with_leaf_overlay, with_leaf_stamps};
-ghost use Rattle.ft_leaves.specs.Plain.{Acks, ChangesRange, IsCutOut};
+ghost use Rattle.std.specs.Prelude.{◌≡◌, ◌≤◌, All, IfErr, IfOk, IsTrue, OnErr, OnOk, false};
+ghost use Rattle.ft_base.specs.Scan.{change_range, len, place};
+ghost use Rattle.ft_block.specs.declared.leaves.LenView.TheVariants.{At};
+ghost use Rattle.ft_block.specs.Leaves.{ids, last_stage};
+ghost use Rattle.ft_leaf_blocks.specs.RangeEdits.{MayEdit};
+ghost use Rattle.ft_leaf_blocks.specs.Walks.{IsInLeaf, held_place};
+ghost use Rattle.ft_leaves.specs.Elements.{seen_in};
+ghost use Rattle.ft_leaves.specs.LeafLists.{Extends, elements};
+ghost use Rattle.ft_leaves.specs.References.{ChangesReferences, slid_reference};
+ghost use Rattle.ft_tree.specs.Inside.{edited_element};
+ghost use Rattle.ft_tree.specs.State.{IsRefused, KeepsRest};
+ghost use Rattle.ft_tree.specs.declared.faults.TreeFault.TheVariants as fault;
 
-use crate::cuts::cut_off;
-use ft_arena::NodeId;
-use ft_base::{OutOfMemory, Stamp};
-use ft_block::LenView;
-use ft_leaves::references::{Reference, slid_references};
-use ft_leaves::{Content, TreeLeaf};
-use ft_props::Changes;
-use ft_refs::RefId;
-use std::alloc::Global;
+use crate::faults::TreeFault;
+use crate::tree::Tree;
+use ft_base::{Perspective, Steps};
+use ft_block::{Found, LenView};
+use ft_leaf_blocks::places::{find_local, find_seen_at, seen_count};
+use ft_leaf_blocks::ranges::{RangeEdit, edit_behind};
+use ft_leaves::Content;
+use std::sync::ledger::Ledger;
 
-/// Gives the removal to each leaf that the view sees.
-///
-/// Answers `OutOfMemory` where there is no room for one, and then some may have theirs.
-fn remove_seen<C: Content>(
-    leaves: &mut [(NodeId, TreeLeaf<C>)],
-    alloc: Global,
-    view: LenView,
-    t: Stamp,
-) -> Result<(), OutOfMemory>
-    ensures { OnOk result (leaves.new ≡ map (changed_where_seen view (with_leaf_stamps (removed_stamps t))) leaves.old) }
-{
-    for x in leaves.iter_mut() {
-        x.1.remove_in(alloc, view, t)?;
+impl<C: Content> Tree<C> {
+    /// The place of `p` elements that the local view sees, where `p` isn't above `q`.
+    ///
+    /// Answers `OutOfRange` exactly where `q` is above the length of that view.
+    pub(crate) fn start_local<G: Ledger>(
+        &self,
+        p: u64,
+        q: u64,
+        steps: &mut Steps<G>,
+    ) -> Result<Found, TreeFault>
+        requires usable { IsTrue self.now.usable }
+        requires order { p ≤ q }
+        ensures held { IfOk result (λ found. IsInLeaf C.units self.now.leaves found.leaf found.offset) }
+        ensures place { let list = elements C.units C.by self.now.leaves in
+            IfOk result (λ found. held_place C.units C.by self.now.leaves found.leaf found.offset ≡ place (seen_in last_stage) p list) }
+        ensures inside { OnOk result (q ≤ len (seen_in last_stage) (elements C.units C.by self.now.leaves)) }
+        ensures refused { let list = elements C.units C.by self.now.leaves in
+            IfErr result (IsRefused q (len (seen_in last_stage) list) self.now self.now) }
+    {
+        let length = seen_count(&self.blocks, LenView::Stage(u64::MAX));
+        if length < q {
+            return Err(TreeFault::OutOfRange { length });
+        }
+        match find_local(&self.blocks, p, steps) {
+            Ok(found) => Ok(found),
+            Err(e) => Err(TreeFault::OutOfRange { length: e.length }),
+        }
     }
-    Ok(())
-}
 
-/// Makes changes of the acknowledged properties of each leaf that the view sees.
-///
-/// Answers `OutOfMemory` where there is no room for one, and then some may have theirs.
-fn set_seen<C: Content>(
-    leaves: &mut [(NodeId, TreeLeaf<C>)],
-    view: LenView,
-    set: &Changes,
-) -> Result<(), OutOfMemory>
-    ensures { OnOk result (leaves.new ≡ map (changed_where_seen view (with_leaf_overlay (after_acked_changes set.now))) leaves.old) }
-{
-    for x in leaves.iter_mut() {
-        x.1.set_in(view, set)?;
+    /// The place of `p` elements that the perspective sees, where `p` isn't above `q`.
+    ///
+    /// Answers `OutOfRange` exactly where `q` is above the length seen.
+    pub(crate) fn start_at<G: Ledger>(
+        &self,
+        p: u64,
+        q: u64,
+        at: Perspective,
+        steps: &mut Steps<G>,
+    ) -> Result<Found, TreeFault>
+        requires usable { IsTrue self.now.usable }
+        requires order { p ≤ q }
+        requires floor { self.now.floor ≤ at.r }
+        ensures held { IfOk result (λ found. IsInLeaf C.units self.now.leaves found.leaf found.offset) }
+        ensures place { let list = elements C.units C.by self.now.leaves in
+            IfOk result (λ found. held_place C.units C.by self.now.leaves found.leaf found.offset ≡ place (seen_in (At at)) p list) }
+        ensures inside { OnOk result (q ≤ len (seen_in (At at)) (elements C.units C.by self.now.leaves)) }
+        ensures refused { let list = elements C.units C.by self.now.leaves in
+            IfErr result (IsRefused q (len (seen_in (At at)) list) self.now self.now) }
+    {
+        let length = seen_count(&self.blocks, LenView::At(at));
+        if length < q {
+            return Err(TreeFault::OutOfRange { length });
+        }
+        match find_seen_at(&self.blocks, p, at, steps) {
+            Ok(found) => Ok(found),
+            Err(e) => Err(TreeFault::OutOfRange { length: e.length }),
+        }
     }
-    Ok(())
-}
 
-/// Adds changes of a pending stage, which is above all that are pending there, to each leaf that the view
-/// sees.
-///
-/// Answers `OutOfMemory` where there is no room for one, and then some may have theirs.
-fn push_seen<C: Content>(
-    leaves: &mut [(NodeId, TreeLeaf<C>)],
-    view: LenView,
-    stage: u64,
-    set: &Changes,
-) -> Result<(), OutOfMemory>
-    requires { All (λ x. All (λ e. IsAboveChanges stage e.overlay) (leaf_elements C.units C.by x.1)) leaves.old }
-    ensures { OnOk result (leaves.new ≡ map (changed_where_seen view (with_leaf_overlay (after_pending_changes stage set.now))) leaves.old) }
-{
-    for x in leaves.iter_mut() {
-        x.1.push_in(view, stage, set)?;
+    /// Makes the edit of each element that the view sees from the `p`-th, whose place was found, up to before
+    /// the `q`-th.
+    ///
+    /// Answers `OutOfMemory` where there is no room for it, and then the tree may be used no more.
+    pub(crate) fn edit(
+        &mut self,
+        found: &Found,
+        p: u64,
+        q: u64,
+        view: LenView,
+        edit: &RangeEdit,
+    ) -> Result<(), TreeFault>
+        requires usable { IsTrue self.old.usable }
+        requires order { p ≤ q }
+        requires held { IsInLeaf C.units self.old.leaves found.now.leaf found.now.offset }
+        requires place { let list = elements C.units C.by self.old.leaves in
+            held_place C.units C.by self.old.leaves found.now.leaf found.now.offset ≡ place (seen_in view) p list }
+        requires may { All (λ e. MayEdit edit.now e.overlay) (elements C.units C.by self.old.leaves) }
+        ensures elements { let old = elements C.units C.by self.old.leaves in
+            OnOk result (elements C.units C.by self.new.leaves ≡ change_range (seen_in view) p q (edited_element C.author edit.now) old) }
+        ensures refs { OnOk result (self.new.refs ≡ self.old.refs) }
+        ensures nodes { OnOk result (Extends (ids self.old.leaves) (ids self.new.leaves)) }
+        ensures rest { OnOk result (KeepsRest self.old self.new) }
+        ensures made { OnOk result (self.new.made ≡ self.old.made) }
+        ensures err { IfErr result (λ e. e ≡ fault.OutOfMemory) }
+        ensures unusable { OnErr result (self.new.usable ≡ false) }
+    {
+        let alloc = *self.refs.allocator();
+        match edit_behind(&mut self.blocks, alloc, found, q - p, view, edit) {
+            Ok(()) => Ok(()),
+            Err(_) => {
+                self.usable = false;
+                Err(TreeFault::OutOfMemory)
+            }
+        }
     }
-    Ok(())
-}
 
-/// The same as `remove_seen` for all leaves of a list.
-fn remove_all_seen<C: Content>(
-    leaves: &mut Vec<(NodeId, TreeLeaf<C>)>,
-    view: LenView,
-    t: Stamp,
-) -> Result<(), OutOfMemory>
-    ensures { OnOk result (leaves.new.items ≡ map (changed_where_seen view (with_leaf_stamps (removed_stamps t))) leaves.old.items) }
-{
-    let alloc = *leaves.allocator();
-    remove_seen(leaves.as_mut_slice(), alloc, view, t)
-}
-
-/// The same as `set_seen` for all leaves of a list.
-fn set_all_seen<C: Content>(
-    leaves: &mut Vec<(NodeId, TreeLeaf<C>)>,
-    view: LenView,
-    set: &Changes,
-) -> Result<(), OutOfMemory>
-    ensures { OnOk result (leaves.new.items ≡ map (changed_where_seen view (with_leaf_overlay (after_acked_changes set.now))) leaves.old.items) }
-{
-    set_seen(leaves.as_mut_slice(), view, set)
-}
-
-/// The same as `push_seen` for all leaves of a list.
-fn push_all_seen<C: Content>(
-    leaves: &mut Vec<(NodeId, TreeLeaf<C>)>,
-    view: LenView,
-    stage: u64,
-    set: &Changes,
-) -> Result<(), OutOfMemory>
-    requires { All (λ x. All (λ e. IsAboveChanges stage e.overlay) (leaf_elements C.units C.by x.1)) leaves.old.items }
-    ensures { OnOk result (leaves.new.items ≡ map (changed_where_seen view (with_leaf_overlay (after_pending_changes stage set.now))) leaves.old.items) }
-{
-    push_seen(leaves.as_mut_slice(), view, stage, set)
-}
-
-/// Cuts the leaves at both ends of the range of elements that the view sees from the `p`-th up to before the
-/// `q`-th. Keeps those before it, and answers those of the range and those behind it.
-///
-/// Answers `OutOfMemory` where there is no room for them.
-fn cut_out<C: Content + Drop>(
-    leaves: &mut Vec<(NodeId, TreeLeaf<C>)>,
-    p: u64,
-    q: u64,
-    view: LenView,
-    next: usize,
-) -> Result<(Vec<(NodeId, TreeLeaf<C>)>, Vec<(NodeId, TreeLeaf<C>)>), OutOfMemory>
-    requires order { p ≤ q }
-    requires room { next < 18446744073709551615 }
-    ensures { IfOk result (λ r. IsCutOut C.units C.by (seen_in view) p q next (next + 1) leaves.old.items leaves.new.items r.0.items r.1.items) }
-{
-    let mut between = cut_off(leaves, p, view, NodeId(next))?;
-    let behind = cut_off(&mut between, q - p, view, NodeId(next + 1))?;
-    Ok((between, behind))
-}
-
-/// Gives the removal to each element that the view sees from the `p`-th up to before the `q`-th, and answers
-/// the next number of a node.
-///
-/// Answers `OutOfMemory` where there is no room for it.
-pub(crate) fn remove<C: Content + Drop>(
-    leaves: &mut Vec<(NodeId, TreeLeaf<C>)>,
-    p: u64,
-    q: u64,
-    view: LenView,
-    t: Stamp,
-    next: usize,
-) -> Result<usize, OutOfMemory>
-    requires { p ≤ q }
-    ensures next { IfOk result (λ after. after ≡ next + 2) }
-    ensures range { let change = with_stamps (removed_stamps t) in
-        OnOk result (ChangesRange C.units C.by (seen_in view) p q change next (next + 1) leaves.old.items leaves.new.items) }
-{
-    let after = next.checked_add(2).ok_or(OutOfMemory)?;
-    let (mut between, mut behind) = cut_out(leaves, p, q, view, next)?;
-    remove_all_seen(&mut between, view, t)?;
-    leaves.append(&mut between)?;
-    leaves.append(&mut behind)?;
-    Ok(after)
-}
-
-/// Makes changes of the acknowledged properties of each element that the view sees from the `p`-th up to
-/// before the `q`-th, and answers the next number of a node.
-///
-/// Answers `OutOfMemory` where there is no room for it.
-pub(crate) fn set_range<C: Content + Drop>(
-    leaves: &mut Vec<(NodeId, TreeLeaf<C>)>,
-    p: u64,
-    q: u64,
-    view: LenView,
-    set: &Changes,
-    next: usize,
-) -> Result<usize, OutOfMemory>
-    requires { p ≤ q }
-    ensures next { IfOk result (λ after. after ≡ next + 2) }
-    ensures range { let change = with_overlay (after_acked_changes set.now) in
-        OnOk result (ChangesRange C.units C.by (seen_in view) p q change next (next + 1) leaves.old.items leaves.new.items) }
-{
-    let after = next.checked_add(2).ok_or(OutOfMemory)?;
-    let (mut between, mut behind) = cut_out(leaves, p, q, view, next)?;
-    set_all_seen(&mut between, view, set)?;
-    leaves.append(&mut between)?;
-    leaves.append(&mut behind)?;
-    Ok(after)
-}
-
-/// Adds changes of a pending stage to each element that the view sees from the `p`-th up to before the
-/// `q`-th, and answers the next number of a node.
-///
-/// Answers `OutOfMemory` where there is no room for it.
-pub(crate) fn push_range<C: Content + Drop>(
-    leaves: &mut Vec<(NodeId, TreeLeaf<C>)>,
-    p: u64,
-    q: u64,
-    view: LenView,
-    stage: u64,
-    set: &Changes,
-    next: usize,
-) -> Result<usize, OutOfMemory>
-    requires order { p ≤ q }
-    requires stage { All (λ e. IsAboveChanges stage e.overlay) (elements C.units C.by leaves.old.items) }
-    ensures next { IfOk result (λ after. after ≡ next + 2) }
-    ensures range { let change = with_overlay (after_pending_changes stage set.now) in
-        OnOk result (ChangesRange C.units C.by (seen_in view) p q change next (next + 1) leaves.old.items leaves.new.items) }
-{
-    let after = next.checked_add(2).ok_or(OutOfMemory)?;
-    let (mut between, mut behind) = cut_out(leaves, p, q, view, next)?;
-    push_all_seen(&mut between, view, stage, set)?;
-    leaves.append(&mut between)?;
-    leaves.append(&mut behind)?;
-    Ok(after)
-}
-
-/// The same as `remove`, after which acknowledged references slide.
-///
-/// Answers `OutOfMemory` where there is no room for it.
-pub(crate) fn remove_and_slide<C: Content + Drop>(
-    leaves: &mut Vec<(NodeId, TreeLeaf<C>)>,
-    refs: &mut Vec<(RefId, Reference)>,
-    p: u64,
-    q: u64,
-    view: LenView,
-    t: Stamp,
-    next: usize,
-) -> Result<usize, OutOfMemory>
-    requires order { p ≤ q }
-    requires fits { length (elements C.units C.by leaves.old.items) < 2 ^ 64 }
-    ensures next { IfOk result (λ after. after ≡ next + 2) }
-    ensures range { let change = with_stamps (removed_stamps t) in
-        OnOk result (ChangesRange C.units C.by (seen_in view) p q change next (next + 1) leaves.old.items leaves.new.items) }
-    ensures refs { let new = elements C.units C.by leaves.new.items in
-        OnOk result (refs.new.items ≡ map (λ x. (x.0, slid_reference new x.1)) refs.old.items) }
-{
-    let after = remove(leaves, p, q, view, t, next)?;
-    *refs = slid_references(*refs.allocator(), leaves, refs)?;
-    Ok(after)
-}
-
-/// Acknowledges a stage in each leaf.
-///
-/// Answers `OutOfMemory` where there is no room for it, and then some may have it.
-fn ack_leaves<C: Content>(
-    leaves: &mut [(NodeId, TreeLeaf<C>)],
-    alloc: Global,
-    stage: u64,
-    seq: u64,
-    conn: u32,
-) -> Result<(), OutOfMemory>
-    requires { All (λ x. All (λ e. IsLowestChange stage e.overlay) (leaf_elements C.units C.by x.1)) leaves.old }
-    ensures { OnOk result (leaves.new ≡ map (acked_pair C.stamped stage seq conn) leaves.old) }
-{
-    for x in leaves.iter_mut() {
-        x.1.ack(alloc, stage, seq, conn)?;
+    /// The same, after which acknowledged references slide.
+    ///
+    /// Answers `OutOfMemory` where there is no room for it, and then the tree may be used no more.
+    pub(crate) fn edit_and_slide(
+        &mut self,
+        found: &Found,
+        p: u64,
+        q: u64,
+        view: LenView,
+        edit: &RangeEdit,
+    ) -> Result<(), TreeFault>
+        requires usable { IsTrue self.old.usable }
+        requires order { p ≤ q }
+        requires held { IsInLeaf C.units self.old.leaves found.now.leaf found.now.offset }
+        requires place { let list = elements C.units C.by self.old.leaves in
+            held_place C.units C.by self.old.leaves found.now.leaf found.now.offset ≡ place (seen_in view) p list }
+        requires may { All (λ e. MayEdit edit.now e.overlay) (elements C.units C.by self.old.leaves) }
+        ensures elements { let old = elements C.units C.by self.old.leaves in
+            OnOk result (elements C.units C.by self.new.leaves ≡ change_range (seen_in view) p q (edited_element C.author edit.now) old) }
+        ensures refs { let new = elements C.units C.by self.new.leaves in
+            OnOk result (ChangesReferences (slid_reference new) self.old.refs self.new.refs) }
+        ensures nodes { OnOk result (Extends (ids self.old.leaves) (ids self.new.leaves)) }
+        ensures rest { OnOk result (KeepsRest self.old self.new) }
+        ensures made { OnOk result (self.new.made ≡ self.old.made) }
+        ensures err { IfErr result (λ e. e ≡ fault.OutOfMemory) }
+        ensures unusable { OnErr result (self.new.usable ≡ false) }
+    {
+        match self.edit(found, p, q, view, edit) {
+            Ok(()) => match self.slide() {
+                Ok(()) => Ok(()),
+                Err(_) => Err(TreeFault::OutOfMemory),
+            },
+            Err(e) => Err(e),
+        }
     }
-    Ok(())
-}
-
-/// The same for all leaves of a list.
-fn ack_all<C: Content>(
-    leaves: &mut Vec<(NodeId, TreeLeaf<C>)>,
-    stage: u64,
-    seq: u64,
-    conn: u32,
-) -> Result<(), OutOfMemory>
-    requires { All (λ x. All (λ e. IsLowestChange stage e.overlay) (leaf_elements C.units C.by x.1)) leaves.old.items }
-    ensures { OnOk result (leaves.new.items ≡ map (acked_pair C.stamped stage seq conn) leaves.old.items) }
-{
-    let alloc = *leaves.allocator();
-    ack_leaves(leaves.as_mut_slice(), alloc, stage, seq, conn)
-}
-
-/// Acknowledges a stage in all leaves, after which acknowledged references slide.
-///
-/// Answers `OutOfMemory` where there is no room for it.
-pub(crate) fn ack_and_slide<C: Content>(
-    leaves: &mut Vec<(NodeId, TreeLeaf<C>)>,
-    refs: &mut Vec<(RefId, Reference)>,
-    stage: u64,
-    seq: u64,
-    conn: u32,
-) -> Result<(), OutOfMemory>
-    requires lowest { All (λ e. IsLowestChange stage e.overlay) (elements C.units C.by leaves.old.items) }
-    requires fits { length (elements C.units C.by leaves.old.items) < 2 ^ 64 }
-    ensures acked { OnOk result (Acks C.units C.by stage seq conn (C.author seq conn) leaves.old.items leaves.new.items) }
-    ensures refs { let new = elements C.units C.by leaves.new.items in
-        OnOk result (refs.new.items ≡ map (λ x. (x.0, slid_reference new x.1)) refs.old.items) }
-{
-    ack_all(leaves, stage, seq, conn)?;
-    *refs = slid_references(*refs.allocator(), leaves, refs)?;
-    Ok(())
 }

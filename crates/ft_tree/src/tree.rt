@@ -1,5 +1,5 @@
-//! The merge tree as its callers see it. This body is plain: a list of leaves that is scanned from the
-//! front.
+//! The merge tree as its callers see it. Its leaves stand in blocks, which find a place by reading a few of
+//! them; its references stand in a list.
 
 ghost use Rattle.std.specs.Prelude.{◌≡◌, ◌≤◌, [], None, IfOk, IsTrue, map, true};
 ghost use Rattle.ft_base.specs.Scan.{len};
@@ -7,16 +7,18 @@ ghost use Rattle.ft_block.specs.Leaves.{IsFromFloor, IsLeafIn, IsPlaceIn, left_o
 ghost use Rattle.ft_leaves.specs.Elements.{seen_in};
 ghost use Rattle.ft_leaves.specs.LeafLists.{elements, leaf_length};
 
-use crate::nodes::{find_leaf, seen_left};
+use crate::finds::find_leaf;
 use ft_arena::NodeId;
 use ft_base::{Element, OutOfMemory};
-use ft_block::{Found, LenView};
+use ft_block::{Blocks, Found, LenView};
+use ft_leaf_blocks::places::{seen_count, seen_left};
+use ft_leaf_blocks::stamp_lists::all_stamps;
 use ft_leaves::references::Reference;
-use ft_leaves::scans::{all_stamps, seen_count};
 use ft_leaves::{Content, TreeLeaf};
 use ft_refs::RefId;
 use std::alloc::Global;
-use std::marker::Model;
+use std::marker::{Brand, Model};
+use std::sync::ledger::Blank;
 
 /// A list of elements in leaves, with references to elements. A contract sees the leaves from first to
 /// last, each with its node; the references; the floor; the leaf at which the next sweep begins; how many
@@ -25,11 +27,9 @@ use std::marker::Model;
 /// most clauses speak of.
 #[derive(Drop)]
 pub struct Tree<C: Content> {
-    pub(crate) leaves: Vec<(NodeId, TreeLeaf<C>)>,
+    pub(crate) blocks: Blocks<TreeLeaf<C>>,
     pub(crate) refs: Vec<(RefId, Reference)>,
-    pub(crate) next_node: usize,
     pub(crate) next_ref: usize,
-    pub(crate) floor: u64,
     pub(crate) sweep: Option<NodeId>,
     pub(crate) made: u64,
     pub(crate) usable: bool,
@@ -53,11 +53,9 @@ impl<C: Content> Tree<C> {
         ensures { result ≡ record { leaves = []; refs = []; floor = 0; sweep = None; made = 0; depth = 0; usable = true } }
     {
         Tree {
-            leaves: Vec::new(alloc),
+            blocks: Blocks::new(alloc),
             refs: Vec::new(alloc),
-            next_node: 0,
             next_ref: 0,
-            floor: 0,
             sweep: None,
             made: 0,
             usable: true,
@@ -75,7 +73,7 @@ impl<C: Content> Tree<C> {
     pub fn floor(&self) -> u64
         ensures { result ≡ self.now.floor }
     {
-        self.floor
+        self.blocks.floor()
     }
 
     /// Raises the floor.
@@ -84,7 +82,7 @@ impl<C: Content> Tree<C> {
         requires rising { self.old.floor ≤ floor }
         ensures { self.new ≡ record self.old { floor = floor } }
     {
-        self.floor = floor;
+        self.blocks.raise_floor(floor);
     }
 
     /// The leaf at which the next sweep begins: None where that is the first.
@@ -109,7 +107,7 @@ impl<C: Content> Tree<C> {
         requires floor { IsFromFloor self.now.floor view }
         ensures { result ≡ len (seen_in view) (elements C.units C.by self.now.leaves) }
     {
-        seen_count(&self.leaves, view)
+        seen_count(&self.blocks, view)
     }
 
     /// The leaf that holds the `p`-th element that the view sees, and how many of its elements stand up to
@@ -119,7 +117,7 @@ impl<C: Content> Tree<C> {
         requires floor { IsFromFloor self.now.floor view }
         ensures { result ≡ place_by (leaf_length C.units view) self.now.leaves p }
     {
-        find_leaf(&self.leaves, p, view)
+        find_leaf::<C, Brand>(&self.blocks, p, view, Blank::new(1))
     }
 
     /// How many elements that the view sees stand left of a leaf.
@@ -129,7 +127,7 @@ impl<C: Content> Tree<C> {
         requires live { IsLeafIn self.now.leaves leaf }
         ensures { result ≡ len (seen_in view) (elements C.units C.by (left_of self.now.leaves leaf)) }
     {
-        seen_left(&self.leaves, leaf, view)
+        seen_left(&self.blocks, leaf, view)
     }
 
     /// The stamps of the elements in order.
@@ -139,6 +137,6 @@ impl<C: Content> Tree<C> {
         requires { IsTrue self.now.usable }
         ensures { IfOk result (λ v. v.items ≡ map (λ e. e.stamps) (elements C.units C.by self.now.leaves)) }
     {
-        all_stamps(*self.leaves.allocator(), &self.leaves)
+        all_stamps(*self.refs.allocator(), &self.blocks)
     }
 }

@@ -6,7 +6,6 @@ ghost use Rattle.ft_block.specs.Leaves.{IsLeafIn, IsPlaceIn, ids, times_leaf, va
 ghost use Rattle.ft_leaves.specs.Edits.{is_marked_by};
 ghost use Rattle.ft_leaves.specs.LeafLists.{elements};
 
-use crate::nodes::{first_of, hold_elements, index_of, node_after};
 use crate::tree::Tree;
 use ft_arena::NodeId;
 use ft_base::Element;
@@ -25,9 +24,7 @@ impl<C: Content> Tree<C> {
         ensures few { length (elements C.units C.by self.now.leaves) < 2 ^ 64 }
         ensures sweep { IsPlaceIn self.now.leaves self.now.sweep }
     {
-        // What a contract says of each leaf is read off it.
-        hold_elements(&self.leaves);
-        first_of(&self.leaves)
+        self.blocks.first()
     }
 
     /// The leaf after this one: None exactly where it is the last.
@@ -36,7 +33,7 @@ impl<C: Content> Tree<C> {
         requires live { IsLeafIn self.now.leaves id }
         ensures { result ≡ after (ids self.now.leaves) id }
     {
-        node_after(&self.leaves, id)
+        self.blocks.next(id)
     }
 
     /// The stamps of the elements of a leaf.
@@ -45,7 +42,7 @@ impl<C: Content> Tree<C> {
         requires live { IsLeafIn self.now.leaves id }
         ensures { option_map (λ x. x.stamps) (value_at self.now.leaves id) ≡ Some result.now }
     {
-        &self.leaves[index_of(&self.leaves, id)].1.stamps
+        &self.blocks.leaf(id).stamps
     }
 
     /// How many elements a leaf holds, at least one.
@@ -55,7 +52,7 @@ impl<C: Content> Tree<C> {
         ensures value { option_map (λ x. length (C.units x.content)) (value_at self.now.leaves id) ≡ Some result }
         ensures some { 1 ≤ result }
     {
-        self.leaves[index_of(&self.leaves, id)].1.content.len()
+        self.blocks.leaf(id).content.len()
     }
 
     /// The content of a leaf.
@@ -64,7 +61,7 @@ impl<C: Content> Tree<C> {
         requires live { IsLeafIn self.now.leaves id }
         ensures { option_map (λ x. x.content) (value_at self.now.leaves id) ≡ Some result.now }
     {
-        &self.leaves[index_of(&self.leaves, id)].1.content
+        &self.blocks.leaf(id).content
     }
 
     /// The properties of the elements of a leaf.
@@ -73,7 +70,7 @@ impl<C: Content> Tree<C> {
         requires live { IsLeafIn self.now.leaves id }
         ensures { option_map (λ x. x.overlay) (value_at self.now.leaves id) ≡ Some result.now }
     {
-        &self.leaves[index_of(&self.leaves, id)].1.overlay
+        &self.blocks.leaf(id).overlay
     }
 
     /// Whether a removal mark or changes of that stage are pending on the leaf.
@@ -82,8 +79,6 @@ impl<C: Content> Tree<C> {
         requires live { IsLeafIn self.now.leaves id }
         ensures { option_map (is_marked_by stage) (value_at self.now.leaves id) ≡ Some result }
     {
-        self.leaves[index_of(&self.leaves, id)]
-            .1
-            .is_marked_by(stage)
+        self.blocks.leaf(id).is_marked_by(stage)
     }
 }

@@ -1,9 +1,11 @@
-use Rattle.std.proofs.Common.{◌≡◌, ◌+◌, length, drop, ◌∙◌, ap, arith}
+use Rattle.std.proofs.Common.{◌≡◌, ◌+◌, ◌++◌, length, take, drop, ◌∙◌, ap, arith, length-append}
+use Rattle.std.proofs.lemmas.List.{take-append-drop}
 use Rattle.std.specs.List.{prefix_len}
 use Rattle.ft_leaves.specs.declared.leaves.TreeLeaf.{TreeLeaf}
 use Rattle.ft_leaves.specs.LeafLists.{elements, leaf_elements}
 use Rattle.ft_leaves.specs.Elements.{seen_in}
 use Rattle.ft_leaves.specs.Plain.{passes}
+use Rattle.ft_leaves.proofs.LeafRuns.{length-leaf}
 use Rattle.ft_leaves.proofs.RangeLeaves.{extends_trans}
 use Rattle.ft_base.specs.Scan.{put}
 use Rattle.ft_block.specs.Leaves.{ids}
@@ -68,3 +70,23 @@ returns-clause-nodes g c =
 
 pub returns-clause-reads : goal.returns-clause-reads
 returns-clause-reads g c = omega (arith, c.in_ok-place.ensures.reads, c.in_ok-at.ensures.cut.pending)
+
+pub returns-clause-count : goal.returns-clause-count
+returns-clause-count g c =
+    let us = g.C.Content.units in
+    let by = g.C.Content.by in
+    let xs = c.args.blocks.now.leaves in
+    let es = elements us by c.cut_at.new.blocks.leaves in
+    let i = c.in_ok-place.place in
+    let leaf = c.in_ok-leaf.leaf in
+    omega (
+      arith,
+      ap length c.in_ok-place.ensures.puts.list,
+      length-append (take i es) (leaf_elements us by leaf ++ drop i es),
+      length-append (leaf_elements us by leaf) (drop i es),
+      length-leaf us by leaf,
+      ap (λ (l : TreeLeaf g.row.C.Denot). length (us l.content)) c.in_ok-leaf.ensures,
+      length-append (take i es) (drop i es),
+      ap length (take-append-drop i es),
+      ap length c.in_ok-at.ensures.cut.list,
+    )

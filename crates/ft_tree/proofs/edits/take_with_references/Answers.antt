@@ -1,12 +1,6 @@
-use Rattle.std.proofs.Common.{◌≡◌, ℕ, List, length, map, refl, ◌∙◌, ap}
-use Rattle.ft_block.specs.Leaves.{left_of}
-use Rattle.ft_block.specs.declared.leaves.LenView.TheVariants.{All}
-use Rattle.ft_leaves.specs.declared.leaves.TreeLeaf.{TreeLeaf}
+use Rattle.std.proofs.Common.{◌≡◌, ℕ, List, map, ◌∙◌, ap}
 use Rattle.ft_leaves.specs.declared.references.Reference.{Reference}
-use Rattle.ft_leaves.specs.Edits.{closed_place, leaf_at, with_place}
-use Rattle.ft_leaves.specs.Elements.{seen_in}
-use Rattle.ft_leaves.specs.LeafLists.{elements}
-use Rattle.ft_leaves.proofs.LeafRuns.{len-all}
+use Rattle.ft_leaves.specs.Edits.{closed_place, with_place}
 use Rattle.ft_tree.proofs.edits.take_with_references.Goals as goal
 
 closed : ℕ → ℕ → List (ℕ × Reference) → List (ℕ × Reference)
@@ -19,10 +13,5 @@ all_closed xs ys zs i j m n e a b d = e ∙ ap (closed i m) a ∙ ap (λ k. clos
 
 pub returns-clause-refs : goal.returns-clause-refs
 returns-clause-refs g c =
-    let us = g.C.Content.units in
-    let by = g.C.Content.by in
-    let from =
-    c.seen_left-from.ensures ∙ len-all (seen_in {U = g.row.C-Unit.Denot} All) (λ e. refl) (elements us by (left_of c.deref.result.now c.args.id))
-    ∙ ap (λ (ys : List (ℕ × TreeLeaf g.row.C.Denot)). length (elements us by (left_of ys c.args.id))) c.deref.ensures.value in
-    let count = c.count_at-count.ensures ∙ ap (λ (ys : List (ℕ × TreeLeaf g.row.C.Denot)). length (elements us by (leaf_at ys c.args.id))) c.deref-2.ensures.value in
-    all_closed c.deref-3.result.now c.args.refs.now.items _ _ _ _ _ c.in_ok-refs.ensures c.deref-3.ensures.value from count
+    all_closed c.deref.result.now c.args.refs.now.items _ _ _ _ _ c.in_ok-refs.ensures c.deref.ensures.value c.leaf_place-place.ensures.from
+    c.leaf_place-place.ensures.count

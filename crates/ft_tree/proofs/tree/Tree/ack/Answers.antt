@@ -1,42 +1,65 @@
-use Rattle.std.proofs.Common.{All, option_map, length, refl, subst, sym, ◌∙◌, ap}
+use Rattle.std.proofs.Common.{All, length, map, refl, subst, sym, ◌∙◌, ap}
 use Rattle.std.proofs.lemmas.List.{length-map}
-use Rattle.ft_leaves.specs.declared.references.Reference.{Reference}
-use Rattle.ft_tree.specs.declared.tree.Tree.TheInside.{Inside}
-use Rattle.ft_leaves.specs.Elements.{IsLowestChange, acked_element}
+use Rattle.std.proofs.lemmas.Result.{on_ok_weaker}
+use Rattle.ft_block.specs.Leaves.{ids}
+use Rattle.ft_leaves.specs.Elements.{IsLowestChange, TreeElement, acked_element}
 use Rattle.ft_leaves.specs.LeafLists.{elements}
-use Rattle.ft_leaves.specs.References.{reference_at, slid_reference}
+use Rattle.ft_leaves.proofs.RangeLeaves.{acks}
 use Rattle.ft_tree.specs.State.{TreeState}
-use Rattle.ft_tree.proofs.TreeInside.{reference_at-map, same_sound}
+use Rattle.ft_tree.specs.declared.tree.Tree.TheInside.{Inside}
+use Rattle.ft_tree.proofs.TreeInside.{in_sound, same_sound}
 use Rattle.ft_tree.proofs.tree.Tree.ack.Goals as goal
+
+pub ack_all-requires : goal.ack_all-requires
+ack_all-requires g c =
+    let us = g.C.Content.units in
+    let by = g.C.Content.by in
+    let sound = in_sound us by c.self.inside c.args.self.now c.self.view_is c.self.invariant c.requires.usable in
+    record {
+      usable = sound.blocks;
+      lowest = subst (λ (s : TreeState g.row.C.Denot). All (λ e. IsLowestChange c.args.stage e.overlay) (elements us by s.leaves)) (sym c.self.view_is) c.requires.lowest;
+    }
 
 pub invariant_of-self : goal.invariant_of-self
 invariant_of-self g c = λ usable.
     let us = g.C.Content.units in
     let by = g.C.Content.by in
+    let laws = g.met.C.Content in
+    let sound = in_sound us by c.self.inside c.args.self.now c.self.view_is c.self.invariant c.requires.usable in
     let b : Inside g.row.C.Denot g.row.C-Unit.Denot = record {
-      leaves = c.ack_and_slide.new.leaves;
-      refs = c.ack_and_slide.new.refs;
-      next_node = c.self.inside.next_node;
+      blocks = c.ack_all.new.blocks;
+      refs = c.self.inside.refs;
       next_ref = c.self.inside.next_ref;
-      floor = c.self.inside.floor;
       sweep = c.self.inside.sweep;
       made = c.self.inside.made;
       usable = c.self.inside.usable;
     } in
-    let slides : Reference → Reference = λ x. slid_reference (elements us by c.ack_and_slide.new.leaves.items) x in
-    same_sound us by c.self.inside c.args.self.now c.self.view_is c.self.invariant c.requires.usable b c.in-Ok.ensures.acked.times
-    (ap length c.in-Ok.ensures.acked.list
-    ∙ length-map (elements us by c.self.inside.leaves.items)
-    (acked_element c.args.stage c.args.seq c.args.conn (g.C.Content.author c.args.seq c.args.conn)))
-    refl refl (λ r h. ap (λ xs. reference_at xs r) c.in-Ok.ensures.refs ∙ reference_at-map slides c.self.inside.refs.items r ∙ ap (option_map slides) h) refl refl
+    let xs = c.self.inside.blocks.leaves in
+    let acked = acks us by g.C.Content.author g.C.Content.stamped laws.stamped_units laws.stamped_by c.args.stage c.args.seq c.args.conn xs
+    c.ack_all.new.blocks.leaves c.in-Ok.ensures.leaves in
+    same_sound us by c.self.inside b sound c.in-Ok.ensures.usable refl (λ r h. h) acked.times
+    (ap length acked.list
+    ∙ length-map (elements us by xs) (acked_element c.args.stage c.args.seq c.args.conn (g.C.Content.author c.args.seq c.args.conn)))
+    refl refl
 
-pub returns-in-Ok-clause-refs : goal.returns-in-Ok-clause-refs
-returns-in-Ok-clause-refs g c = λ r.
-    let slides : Reference → Reference = λ x. slid_reference (elements g.C.Content.units g.C.Content.by c.ack_and_slide.new.leaves.items) x in
-    ap (λ xs. reference_at xs r) c.in-Ok.ensures.refs ∙ reference_at-map slides c.self.inside.refs.items r
-    ∙ ap (λ s. option_map slides (reference_at s.refs r)) c.self.view_is
+pub returns-in-Ok-clause-elements : goal.returns-in-Ok-clause-elements
+returns-in-Ok-clause-elements g c =
+    let us = g.C.Content.units in
+    let by = g.C.Content.by in
+    let laws = g.met.C.Content in
+    let f : TreeElement g.row.C-Unit.Denot → TreeElement g.row.C-Unit.Denot =
+    λ e. acked_element c.args.stage c.args.seq c.args.conn (g.C.Content.author c.args.seq c.args.conn) e in
+    let acked = acks us by g.C.Content.author g.C.Content.stamped laws.stamped_units laws.stamped_by c.args.stage c.args.seq c.args.conn
+    c.self.inside.blocks.leaves c.ack_all.new.blocks.leaves c.in-Ok.ensures.leaves in
+    on_ok_weaker c.slide.result (λ e. ap (λ (s : TreeState g.row.C.Denot). elements us by s.leaves) e ∙ acked.list
+    ∙ ap (λ (s : TreeState g.row.C.Denot). map f (elements us by s.leaves)) c.self.view_is) c.slide.ensures.rest
 
-pub ack_and_slide-requires-clause-lowest : goal.ack_and_slide-requires-clause-lowest
-ack_and_slide-requires-clause-lowest g c =
-    subst (λ (s : TreeState g.row.C.Denot). All (λ e. IsLowestChange c.args.stage e.overlay) (elements g.C.Content.units g.C.Content.by s.leaves))
-    (sym c.self.view_is) c.requires.lowest
+pub returns-in-Ok-clause-nodes : goal.returns-in-Ok-clause-nodes
+returns-in-Ok-clause-nodes g c =
+    let us = g.C.Content.units in
+    let by = g.C.Content.by in
+    let laws = g.met.C.Content in
+    let acked = acks us by g.C.Content.author g.C.Content.stamped laws.stamped_units laws.stamped_by c.args.stage c.args.seq c.args.conn
+    c.self.inside.blocks.leaves c.ack_all.new.blocks.leaves c.in-Ok.ensures.leaves in
+    on_ok_weaker c.slide.result (λ e. ap (λ (s : TreeState g.row.C.Denot). ids s.leaves) e ∙ acked.nodes
+    ∙ ap (λ (s : TreeState g.row.C.Denot). ids s.leaves) c.self.view_is) c.slide.ensures.rest

@@ -1,6 +1,5 @@
-use Rattle.std.proofs.Common.{◌≢◌, ℕ, List, Option, Some, false, sym, ◌∙◌, ap, arith}
+use Rattle.std.proofs.Common.{◌≢◌, ℕ, Option, Some, false, sym, ◌∙◌, ap, arith}
 use Rattle.ft_leaves.specs.declared.references.Reference.{Reference}
-use Rattle.ft_leaves.specs.declared.leaves.TreeLeaf.{TreeLeaf}
 use Rattle.ft_leaves.specs.Elements.{seen_in}
 use Rattle.ft_leaves.specs.Places.{place_at}
 use Rattle.ft_leaves.specs.LeafLists.{elements}
@@ -16,8 +15,7 @@ pub invariant_of-self : goal.invariant_of-self
 invariant_of-self g c = λ usable.
     let sound = in_sound g.C.Content.units g.C.Content.by c.self.inside c.args.self.now c.self.view_is c.self.invariant c.requires.usable in
     record {
-      once = sound.once;
-      fresh = sound.fresh;
+      blocks = sound.blocks;
       fits = sound.fits;
       small = sound.small;
       sweep = sound.sweep;
@@ -36,7 +34,6 @@ returns-in-Ok-clause-added g c =
     let n = c.self.inside.next_ref in
     let sound = in_sound us by c.self.inside c.args.self.now c.self.view_is c.self.invariant c.requires.usable in
     let place = c.place_at.ensures
-    ∙ ap (λ (zs : List (ℕ × TreeLeaf g.row.C.Denot)). place_at seen c.args.p (elements us by zs)) c.deref-2.ensures.value
     ∙ ap (λ s. place_at seen c.args.p (elements us by s.leaves)) c.self.view_is in
     ap (λ xs. reference_at xs n) c.in-Ok.ensures.added
     ∙ reference_at-new c.self.inside.refs.items n (pending_at c.place_at.result) (sound.refs n (omega arith))

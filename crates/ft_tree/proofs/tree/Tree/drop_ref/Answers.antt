@@ -10,8 +10,7 @@ pub invariant_of-self : goal.invariant_of-self
 invariant_of-self g c = λ usable.
     let sound = in_sound g.C.Content.units g.C.Content.by c.self.inside c.args.self.now c.self.view_is c.self.invariant c.requires.usable in
     record {
-      once = sound.once;
-      fresh = sound.fresh;
+      blocks = sound.blocks;
       fits = sound.fits;
       small = sound.small;
       sweep = sound.sweep;

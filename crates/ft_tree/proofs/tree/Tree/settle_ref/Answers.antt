@@ -13,10 +13,9 @@ invariant_of-self g c = λ usable.
     let us = g.C.Content.units in
     let by = g.C.Content.by in
     let sound = in_sound us by c.self.inside c.args.self.now c.self.view_is c.self.invariant c.requires.usable in
-    let slides : Reference → Reference = λ x. slid_reference (elements us by c.deref.result.now) (record x { acked = true }) in
+    let slides : Reference → Reference = λ x. slid_reference (elements us by c.self.inside.blocks.leaves) (record x { acked = true }) in
     record {
-      once = sound.once;
-      fresh = sound.fresh;
+      blocks = sound.blocks;
       fits = sound.fits;
       small = sound.small;
       sweep = sound.sweep;
@@ -28,9 +27,6 @@ returns-clause-refs g c = λ x.
     let us = g.C.Content.units in
     let by = g.C.Content.by in
     let slides : List (ℕ × TreeLeaf g.row.C.Denot) → Reference → Reference = λ xs y. slid_reference (elements us by xs) (record y { acked = true }) in
-    ap (λ xs. reference_at xs x) c.settle_in.ensures ∙ reference_at-changed (slides c.deref.result.now) c.self.inside.refs.items c.args.r x
-    ∙ ap (λ (xs : List (ℕ × TreeLeaf g.row.C.Denot)). cond (nat_eq x c.args.r)
-    (option_and_then (λ z. Some (slides xs z)) (reference_at c.self.inside.refs.items x)) (reference_at c.self.inside.refs.items x))
-    c.deref.ensures.value
+    ap (λ xs. reference_at xs x) c.settle_in.ensures ∙ reference_at-changed (slides c.self.inside.blocks.leaves) c.self.inside.refs.items c.args.r x
     ∙ ap (λ (s : TreeState g.row.C.Denot). cond (nat_eq x c.args.r) (option_and_then (λ z. Some (slides s.leaves z)) (reference_at s.refs x))
     (reference_at s.refs x)) c.self.view_is

@@ -1,36 +1,32 @@
-use Rattle.std.proofs.Common.{ℕ, List, length, refl, sym, ◌∙◌, ap}
-use Rattle.ft_block.specs.Leaves.{change_leaf, times_leaf}
+use Rattle.std.proofs.Common.{ℕ, List, length, refl, ◌∙◌, ap}
+use Rattle.ft_block.specs.Leaves.{times_leaf}
 use Rattle.ft_leaves.specs.declared.leaves.TreeLeaf.{TreeLeaf}
 use Rattle.ft_tree.specs.declared.tree.Tree.TheInside.{Inside}
 use Rattle.ft_leaves.specs.Edits.{unmarked_leaf}
 use Rattle.ft_leaves.specs.LeafLists.{elements}
-use Rattle.ft_tree.specs.State.{TreeState}
 use Rattle.ft_leaves.proofs.Standing.{change-map}
-use Rattle.ft_leaves.proofs.LeafEdits.{elements-unmarked, times-unmarked}
-use Rattle.ft_tree.proofs.TreeInside.{same_sound}
+use Rattle.ft_leaves.proofs.LeafEdits.{elements-unmarked}
+use Rattle.ft_leaf_blocks.proofs.WalkEdits.{times-change}
+use Rattle.ft_tree.proofs.TreeInside.{in_sound, same_sound}
 use Rattle.ft_tree.proofs.tree.Tree.unmark.Goals as goal
 
 pub invariant_of-self : goal.invariant_of-self
 invariant_of-self g c = λ usable.
     let us = g.C.Content.units in
     let by = g.C.Content.by in
+    let sound = in_sound us by c.self.inside c.args.self.now c.self.view_is c.self.invariant c.requires.usable in
     let b : Inside g.row.C.Denot g.row.C-Unit.Denot = record {
-      leaves = c.unmark.new.leaves;
+      blocks = c.unmark_at.new.blocks;
       refs = c.self.inside.refs;
-      next_node = c.self.inside.next_node;
       next_ref = c.self.inside.next_ref;
-      floor = c.self.inside.floor;
       sweep = c.self.inside.sweep;
       made = c.self.inside.made;
       usable = c.self.inside.usable;
     } in
-    let xs = c.self.inside.leaves.items in
-    same_sound us by c.self.inside c.args.self.now c.self.view_is c.self.invariant c.requires.usable b
-    (λ z. ap (λ (ys : List (ℕ × TreeLeaf g.row.C.Denot)). times_leaf ys z) c.in-Ok.ensures ∙ times-unmarked c.args.stage xs c.args.id z)
-    (ap (λ (ys : List (ℕ × TreeLeaf g.row.C.Denot)). length (elements us by ys)) c.in-Ok.ensures ∙ elements-unmarked us by c.args.stage xs c.args.id)
-    refl refl (λ r h. h) refl refl
-
-pub returns-in-Ok-clause-leaves : goal.returns-in-Ok-clause-leaves
-returns-in-Ok-clause-leaves g c =
-    c.in-Ok.ensures ∙ sym (change-map (unmarked_leaf c.args.stage) c.self.inside.leaves.items c.args.id)
-    ∙ ap (λ (s : TreeState g.row.C.Denot). change_leaf (unmarked_leaf c.args.stage) s.leaves c.args.id) c.self.view_is
+    let xs = c.self.inside.blocks.leaves in
+    let f : TreeLeaf g.row.C.Denot → TreeLeaf g.row.C.Denot = unmarked_leaf c.args.stage in
+    same_sound us by c.self.inside b sound c.in-Ok.ensures.usable refl (λ r h. h)
+    (λ z. ap (λ (ys : List (ℕ × TreeLeaf g.row.C.Denot)). times_leaf ys z) c.in-Ok.ensures.leaves ∙ times-change f xs c.args.id z)
+    (ap (λ (ys : List (ℕ × TreeLeaf g.row.C.Denot)). length (elements us by ys)) (c.in-Ok.ensures.leaves ∙ change-map f xs c.args.id)
+    ∙ elements-unmarked us by c.args.stage xs c.args.id)
+    refl refl
