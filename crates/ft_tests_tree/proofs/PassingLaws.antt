@@ -1,15 +1,16 @@
 -- What a call makes of a tree of text that the tests go on with.
-use Rattle.std.proofs.Common.{◌≡◌, ℕ, zero, suc, Bool, true, false, cond, ◌&&◌, List, [], ◌∷◌, ◌++◌, Option, Some, None, IsSome, option_map, subst, refl, sym}
+use Rattle.std.proofs.Common.{◌≡◌, ℕ, zero, suc, Bool, true, false, cond, ◌&&◌, List, [], ◌∷◌, ◌++◌, Option, Some, None, IsSome, option_map, map, ap, subst, refl, sym}
 use Rattle.std.specs.List.{AllByRecursion}
 use Rattle.ft_base.specs.Scan.{change_range, change_range_from, one_more_if, put, put_past, within}
 use Rattle.ft_base.specs.declared.stamps.Stamp.{Stamp}
 use Rattle.ft_leaves.specs.declared.references.Reference.{Reference}
 use Rattle.ft_leaves.specs.declared.text.TextContent.{TextContent}
-use Rattle.ft_leaves.specs.Elements.{TreeElement, new_elements, removed_stamps, with_stamps}
+use Rattle.ft_leaves.specs.Elements.{TreeElement, acked_element, new_elements, removed_stamps, with_stamps}
 use Rattle.ft_leaves.specs.LeafLists.{elements}
 use Rattle.ft_leaves.specs.References.{ChangesReferences, KeepsReferences, reference_at}
 use Rattle.ft_leaves.specs.TextLeaves.{text_units}
 use Rattle.ft_props.specs.Element.{ElementContent}
+use Rattle.ft_props.specs.Overlay.{without_stage}
 use Rattle.ft_props.specs.Properties.{PropertyList}
 use Rattle.ft_tests_tree.specs.Passing.{Passes}
 use Rattle.ft_tree.specs.State.{KeepsRest, TreeState}
@@ -45,6 +46,11 @@ module _ {A : Type 0} (P : A → Type 0) where
   all_changed f keeps seen p q i (x ∷ xs) h =
       (either (seen x && within p q i) (f x) x (keeps x h.0) h.0, all_changed f keeps seen p q (one_more_if (seen x) i) xs h.1)
 
+  -- what a step keeps of each element holds of all after it
+  all_mapped : (f : A → A) → ((x : A) → P x → P (f x)) → (xs : List A) → AllByRecursion P xs → AllByRecursion P (map f xs)
+  all_mapped f keeps [] h = h
+  all_mapped f keeps (x ∷ xs) h = (keeps x h.0, all_mapped f keeps xs h.1)
+
 -- no changes are pending on new elements
 new_calm : {U : Type 0} (ins : Stamp) (by : Option Stamp) (props : PropertyList) (us : List U)
     → AllByRecursion (λ (e : TreeElement U). e.overlay.pending ≡ []) (new_elements ins by props us)
@@ -79,4 +85,28 @@ passes_removal seen p q t old now list refs rest = record {
       (all_changed (λ e. e.overlay.pending ≡ []) (with_stamps (removed_stamps t)) (λ e k. k) seen p q 0
       (elements text_units (λ x. x.by) old.leaves) h);
   live = λ r h. subst IsSome (sym (refs r)) h;
+}
+
+-- a removal after which references slide
+pub passes_slide : (seen : TreeElement ElementContent → Bool) (p q : ℕ) (t : Stamp) (f : Reference → Reference) (old now : TreeState TextContent)
+    → elements text_units (λ x. x.by) now.leaves ≡ change_range seen p q (with_stamps (removed_stamps t)) (elements text_units (λ x. x.by) old.leaves)
+    → ChangesReferences f old.refs now.refs → KeepsRest old now → Passes old now
+passes_slide seen p q t f old now list refs rest = record {
+  rest = rest;
+  calm = λ h. subst (AllByRecursion (λ e. e.overlay.pending ≡ [])) (sym list)
+      (all_changed (λ e. e.overlay.pending ≡ []) (with_stamps (removed_stamps t)) (λ e k. k) seen p q 0
+      (elements text_units (λ x. x.by) old.leaves) h);
+  live = λ r h. subst IsSome (sym (refs r)) (goes_on f (reference_at old.refs r) h);
+}
+
+-- an acknowledgement, after which references slide
+pub passes_ack : (k s c : ℕ) (author : Option Stamp) (f : Reference → Reference) (old now : TreeState TextContent)
+    → elements text_units (λ x. x.by) now.leaves ≡ map (acked_element k s c author) (elements text_units (λ x. x.by) old.leaves)
+    → ChangesReferences f old.refs now.refs → KeepsRest old now → Passes old now
+passes_ack k s c author f old now list refs rest = record {
+  rest = rest;
+  calm = λ h. subst (AllByRecursion (λ e. e.overlay.pending ≡ [])) (sym list)
+      (all_mapped (λ e. e.overlay.pending ≡ []) (acked_element k s c author) (λ e g. ap (without_stage k) g)
+      (elements text_units (λ x. x.by) old.leaves) h);
+  live = λ r h. subst IsSome (sym (refs r)) (goes_on f (reference_at old.refs r) h);
 }

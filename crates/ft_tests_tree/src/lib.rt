@@ -5,6 +5,8 @@
 #[cfg(test)]
 mod arenas;
 #[cfg(test)]
+mod beside;
+#[cfg(test)]
 mod followers;
 #[cfg(test)]
 mod large;

@@ -2,7 +2,7 @@
 
 ghost use Rattle.std.specs.Prelude.{◌≡◌, IsTrue, IfSome, OnOk};
 ghost use Rattle.ft_block.specs.Leaves.{IsLeafIn};
-ghost use Rattle.ft_tests_tree.specs.Passing.{Passes};
+ghost use Rattle.ft_tests_tree.specs.Passing.{HasNoChanges, Passes};
 
 use ft_arena::NodeId;
 use ft_base::{Perspective, Steps, seen_at};
@@ -34,7 +34,7 @@ pub(crate) fn write<G: Ledger>(
     ensures { OnOk result (Passes tree.old tree.new) }
 {
     let content = run(alloc, text)?;
-    if tree.made() > 1000 || content.len() > 1000 {
+    if tree.made() > 100000 || content.len() > 1000 {
         return Err(Fail::new("too much"));
     }
     let props = PropSet::new(alloc);
@@ -57,7 +57,7 @@ pub(crate) fn hear<G: Ledger>(
     ensures { OnOk result (Passes tree.old tree.new) }
 {
     let content = run(alloc, text)?;
-    if tree.made() > 1000 || content.len() > 1000 {
+    if tree.made() > 100000 || content.len() > 1000 {
         return Err(Fail::new("too much"));
     }
     let props = PropSet::new(alloc);
@@ -79,13 +79,39 @@ pub(crate) fn erase<G: Ledger>(
     Ok(())
 }
 
+// Removes under number `seq` the character that the perspective sees after the `p`-th.
+pub(crate) fn strike<G: Ledger>(
+    tree: &mut Tree<TextContent>,
+    p: u64,
+    seq: u64,
+    at: Perspective,
+    steps: &mut Steps<G>,
+) -> Result<(), Fail>
+    requires usable { IsTrue tree.old.usable }
+    requires floor { tree.old.floor ≡ 0 }
+    ensures { OnOk result (Passes tree.old tree.new) }
+{
+    tree.remove_remote(p, p.checked_add(1).ok_or("too far")?, seq, at, steps)?;
+    Ok(())
+}
+
+// Acknowledges a stage under number `seq` of connection 1.
+pub(crate) fn acknowledge(tree: &mut Tree<TextContent>, stage: u64, seq: u64) -> Result<(), Fail>
+    requires usable { IsTrue tree.old.usable }
+    requires calm { HasNoChanges tree.old }
+    ensures { OnOk result (Passes tree.old tree.new) }
+{
+    tree.ack(stage, seq, 1)?;
+    Ok(())
+}
+
 // The characters that the stage sees.
 pub(crate) fn shown(alloc: Global, tree: &Tree<TextContent>, stage: u64) -> Result<String, Fail>
     requires { IsTrue tree.now.usable }
 {
     let mut text = String::new(alloc);
     let mut at = tree.first_leaf();
-    for _i in 0..100 {
+    for _i in 0..100000 {
         let Some(id) = at else {
             return Ok(text);
         };
