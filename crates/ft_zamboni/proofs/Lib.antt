@@ -1,0 +1,10 @@
+pub mod Marks
+pub mod Writing
+pub mod PassedReferences
+pub mod LookedLists
+pub mod SweptLeaves
+pub mod SweepSteps
+pub mod BothSweeps
+pub mod WholeSweeps
+pub mod LookedLeaves
+pub mod SweptElements

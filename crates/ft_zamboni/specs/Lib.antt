@@ -1,0 +1,2 @@
+pub mod Scours
+pub mod Sweeps

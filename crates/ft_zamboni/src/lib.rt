@@ -1,0 +1,7 @@
+//! Compaction of a tree: what was removed at or below its floor is taken out, and leaves that nobody can tell apart are joined.
+#![tactic(auto)]
+
+pub mod compaction;
+mod sweeps;
+
+pub use compaction::{scour, scour_all};
