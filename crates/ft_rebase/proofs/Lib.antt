@@ -1,0 +1,4 @@
+pub mod MarkedRunLemmas
+pub mod AlikeElements
+pub mod LeafPieces
+pub mod LeafWalks

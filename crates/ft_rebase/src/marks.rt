@@ -1,0 +1,80 @@
+//! The marks of a pending stage on the leaves of a tree.
+
+ghost use Rattle.std.specs.Prelude.{◌≡◌, Some, IsTrue, IfOk, option_map};
+ghost use Rattle.std.specs.List.{list_any};
+ghost use Rattle.ft_base.specs.Visibility.{is_of_stage};
+ghost use Rattle.ft_block.specs.Leaves.{IsLeafIn, value_at};
+ghost use Rattle.ft_leaves.specs.LeafLists.{elements};
+ghost use Rattle.ft_rebase.specs.Pieces.{leaf_has_mark, marked_runs};
+ghost use Rattle.ft_rebase.specs.MarkedRuns.{RunsRise};
+
+use crate::runs::MarkedRuns;
+use ft_arena::NodeId;
+use ft_base::{OutOfMemory, Stamp, seen_at};
+use ft_leaves::Content;
+use ft_tree::Tree;
+use std::alloc::Global;
+
+/// What a pending stage may have on an element that it didn't insert.
+#[derive(Clone, Copy, Debug, PartialEq, Eq)]
+pub enum Mark {
+    /// A removal.
+    Removal,
+    /// Changes of its properties.
+    Changes,
+}
+
+/// Whether the stamp is pending, of that stage.
+pub(crate) fn is_of_stage(stamp: &Stamp, stage: u64) -> bool
+    ensures { result ≡ is_of_stage stage stamp.now }
+{
+    match stamp {
+        Stamp::Acked { .. } => false,
+        Stamp::Local { stage: own } => *own == stage,
+    }
+}
+
+/// Whether one of the stamps is pending, of that stage.
+fn has_stage(stamps: &[Stamp], stage: u64) -> bool
+    ensures { result ≡ list_any (is_of_stage stage) stamps.now }
+{
+    stamps.iter().any(|stamp| is_of_stage(stamp, stage))
+}
+
+/// Whether the stage has this mark on the elements of a leaf.
+fn has_mark<C: Content>(tree: &Tree<C>, leaf: NodeId, stage: u64, mark: Mark) -> bool
+    requires usable { IsTrue tree.now.usable }
+    requires live { IsLeafIn tree.now.leaves leaf }
+    ensures { option_map (leaf_has_mark mark stage) (value_at tree.now.leaves leaf) ≡ Some result }
+{
+    match mark {
+        Mark::Removal => has_stage(tree.leaf_element(leaf).dels.as_slice(), stage),
+        Mark::Changes => tree.leaf_overlay(leaf).has(stage),
+    }
+}
+
+/// The maximal runs of elements with this mark of the stage among those that the stage before sees.
+///
+/// Answers `OutOfMemory` where there is no room for them.
+pub(crate) fn marked_runs<C: Content>(
+    alloc: Global,
+    tree: &Tree<C>,
+    stage: u64,
+    mark: Mark,
+) -> Result<Vec<(u64, u64)>, OutOfMemory>
+    requires { IsTrue tree.now.usable }
+    ensures runs { IfOk result (λ runs. runs.items ≡ marked_runs stage mark (elements C.units C.by tree.now.leaves)) }
+    ensures rise { IfOk result (λ runs. RunsRise 0 runs.items) }
+{
+    let before = stage.saturating_sub(1);
+    let mut found = MarkedRuns::new(alloc);
+    let _first = tree.first_leaf();
+    let mut at = tree.first_leaf();
+    while let Some(leaf) = at {
+        if seen_at(tree.leaf_element(leaf), before) {
+            found.pass(tree.leaf_len(leaf), has_mark(tree, leaf, stage, mark))?;
+        }
+        at = tree.next_leaf(leaf);
+    }
+    Ok(found.runs)
+}
