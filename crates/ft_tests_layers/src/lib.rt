@@ -1,7 +1,9 @@
-//! Tests of what stands on the merge tree: compaction of trees of text.
+//! Tests of what stands on the merge tree: compaction and regeneration of trees of text.
 #![tactic(auto)]
 
 #[cfg(test)]
 mod compaction;
+#[cfg(test)]
+mod regeneration;
 #[cfg(test)]
 mod texts;
