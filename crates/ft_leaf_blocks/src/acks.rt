@@ -3,7 +3,7 @@
 ghost use Rattle.std.specs.Prelude.{◌≡◌, ◌||◌, All, IsSomeAnd, IsTrue, OnOk, map, true};
 ghost use Rattle.ft_base.specs.Visibility.{is_of_stage};
 ghost use Rattle.ft_block.specs.Leaves.{IsLeafIn, change_leaf, value_at};
-ghost use Rattle.ft_leaves.specs.Edits.{is_marked_by, unmarked_leaf};
+ghost use Rattle.ft_leaves.specs.Edits.{is_marked_by, sequenced_leaf, unmarked_leaf};
 ghost use Rattle.ft_leaves.specs.Elements.{IsLowestChange};
 ghost use Rattle.ft_leaves.specs.LeafChanges.{acked_leaf, acked_pair};
 ghost use Rattle.ft_leaves.specs.LeafLists.{elements};
@@ -11,7 +11,7 @@ ghost use Rattle.ft_leaves.specs.LeafLists.{elements};
 use ft_arena::NodeId;
 use ft_base::{Element, OutOfMemory, Stamp};
 use ft_block::Blocks;
-use ft_leaves::block_leaf::{acked_stamps, unmarked_stamps};
+use ft_leaves::block_leaf::{acked_stamps, sequenced_stamps, unmarked_stamps};
 use ft_leaves::{Content, LeafChange, TreeLeaf};
 use std::alloc::Global;
 
@@ -33,6 +33,27 @@ pub fn unmark_at<C: Content>(
     let _first = blocks.first();
     let e = unmarked_stamps(alloc, &blocks.leaf(id).stamps, stage)?;
     blocks.change(id, &LeafChange::DropPending(stage))?;
+    blocks.set_stamps(id, e)?;
+    Ok(())
+}
+
+/// Takes every pending removal mark and all pending changes off the leaf of a node.
+///
+/// Answers `OutOfMemory` where there is no room for what is left.
+pub fn unmark_all_at<C: Content>(
+    blocks: &mut Blocks<TreeLeaf<C>>,
+    alloc: Global,
+    id: NodeId,
+) -> Result<(), OutOfMemory>
+    requires usable { IsTrue blocks.old.usable }
+    requires live { IsLeafIn blocks.old.leaves id }
+    ensures leaves { OnOk result (blocks.new.leaves ≡ change_leaf sequenced_leaf blocks.old.leaves id) }
+    ensures usable { OnOk result (blocks.new.usable ≡ true) }
+    ensures floor { blocks.new.floor ≡ blocks.old.floor }
+{
+    let _first = blocks.first();
+    let e = sequenced_stamps(alloc, &blocks.leaf(id).stamps)?;
+    blocks.change(id, &LeafChange::DropAll)?;
     blocks.set_stamps(id, e)?;
     Ok(())
 }

@@ -8,8 +8,8 @@ use Rattle.ft_block.specs.Leaves.{IsLeafIn, IsPlaceIn, ids, length_by, move_leaf
 use Rattle.ft_block.proofs.CallerLemmas.{after_is_in, length_by-put_leaf}
 use Rattle.ft_block.proofs.LeafListLemmas.{after_other, length_without}
 use Rattle.ft_leaves.specs.declared.leaves.TreeLeaf.{TreeLeaf}
-use Rattle.ft_leaves.specs.Edits.{sweep_without, unmarked_leaf}
-use Rattle.ft_leaves.specs.LeafChanges.{unmarked_pair}
+use Rattle.ft_leaves.specs.Edits.{sequenced_leaf, sweep_without, unmarked_leaf}
+use Rattle.ft_leaves.specs.LeafChanges.{sequenced_pair, unmarked_pair}
 use Rattle.ft_leaves.specs.Plain.{WithoutNode}
 use Rattle.ft_leaves.specs.LeafLists.{elements}
 use Rattle.ft_leaves.proofs.LeafRuns.{length-elements}
@@ -141,4 +141,16 @@ module _ {C U : Type 0} (units : C → List U) (by : C → Option Stamp) where
       let g : ℕ × TreeLeaf C → TreeLeaf C = λ x. cond (nat_eq x.0 id) (unmarked_leaf k x.1) x.1 in
       length-elements units by (map (λ x. (x.0, g x)) xs)
       ∙ length-map_by (λ (x : TreeLeaf C). length (units x.content)) g (λ x. unmarked_by (nat_eq x.0 id) k x.1) xs
+      ∙ sym (length-elements units by xs)
+
+  sequenced_by : (b : Bool) (x : TreeLeaf C) → length (units (cond b (sequenced_leaf x) x).content) ≡ length (units x.content)
+  sequenced_by true x = refl
+  sequenced_by false x = refl
+
+  -- a leaf with nothing pending on it
+  pub elements-sequenced : (xs : List (ℕ × TreeLeaf C)) (id : ℕ) → length (elements units by (map (sequenced_pair id) xs)) ≡ length (elements units by xs)
+  elements-sequenced xs id =
+      let g : ℕ × TreeLeaf C → TreeLeaf C = λ x. cond (nat_eq x.0 id) (sequenced_leaf x.1) x.1 in
+      length-elements units by (map (λ x. (x.0, g x)) xs)
+      ∙ length-map_by (λ (x : TreeLeaf C). length (units x.content)) g (λ x. sequenced_by (nat_eq x.0 id) x.1) xs
       ∙ sym (length-elements units by xs)

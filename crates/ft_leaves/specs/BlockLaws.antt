@@ -3,7 +3,7 @@ use Rattle.std.proofs.Common.{◌≡◌, ℕ, zero, suc, ◌+◌, ◌<◌, Bool,
 use Rattle.ft_base.specs.Visibility.{is_of_stage}
 use Rattle.ft_leaves.specs.declared.leaves.TreeLeaf.{TreeLeaf}
 use Rattle.ft_leaves.specs.declared.block_leaf.LeafChange.{LeafChange}
-use Rattle.ft_leaves.specs.declared.block_leaf.LeafChange.TheVariants.{SetAcked, PushPending, DropPending, Ack}
+use Rattle.ft_leaves.specs.declared.block_leaf.LeafChange.TheVariants.{SetAcked, PushPending, DropPending, DropAll, Ack}
 use Rattle.ft_leaves.specs.BlockChanges.{changed_leaf}
 
 taken : {A : Type 0} (n : ℕ) (xs : List A) → n < length xs → length (take n xs) ≡ n
@@ -34,10 +34,12 @@ module _ {C U : Type 0} (units : C → List U) where
     changed_length h x (SetAcked set) = refl
     changed_length h x (PushPending k set) = refl
     changed_length h x (DropPending k) = refl
+    changed_length h x DropAll = refl
     changed_length h x (Ack k s c) = stamped_by h (is_of_stage k x.stamps.ins) x.content s c
 
 pub changed_stamps : {C : Type 0} (stamped : C → ℕ → ℕ → C) (x : TreeLeaf C) (c : LeafChange) → (changed_leaf stamped x c).stamps ≡ x.stamps
 changed_stamps stamped x (SetAcked set) = refl
 changed_stamps stamped x (PushPending k set) = refl
 changed_stamps stamped x (DropPending k) = refl
+changed_stamps stamped x DropAll = refl
 changed_stamps stamped x (Ack k s c) = refl

@@ -11,7 +11,7 @@ use Rattle.ft_props.specs.Compaction.{is_insertion_at_or_below}
 use Rattle.ft_props.specs.Overlay.{after_drop}
 use Rattle.ft_leaves.specs.declared.leaves.TreeLeaf.{TreeLeaf}
 use Rattle.ft_leaves.specs.declared.references.Reference.{Reference}
-use Rattle.ft_leaves.specs.Elements.{TreeElement, unmarked_stamps, universal_stamps}
+use Rattle.ft_leaves.specs.Elements.{TreeElement, sequenced_overlay, sequenced_stamps, universal_stamps, unmarked_stamps}
 use Rattle.ft_leaves.specs.Places.{shifted_place}
 use Rattle.ft_leaves.specs.LeafLists.{elements}
 use Rattle.ft_leaves.specs.References.{place_of, reference_at}
@@ -73,6 +73,10 @@ with_place f x = record x { place = option_map f x.place }
 -- a leaf without its removal mark and its changes of stage k
 abbrev pub unmarked_leaf : {C : Type 0} → ℕ → TreeLeaf C → TreeLeaf C
 unmarked_leaf k x = record x { stamps = unmarked_stamps k x.stamps; overlay = after_drop k x.overlay }
+
+-- a leaf without pending removal marks and pending changes
+abbrev pub sequenced_leaf : {C : Type 0} → TreeLeaf C → TreeLeaf C
+sequenced_leaf x = record x { stamps = sequenced_stamps x.stamps; overlay = sequenced_overlay x.overlay }
 
 -- whether stage k marks the leaf as removed or has changes of it
 abbrev pub is_marked_by : {C : Type 0} → ℕ → TreeLeaf C → Bool

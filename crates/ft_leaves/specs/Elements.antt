@@ -32,6 +32,14 @@ acked_stamps k s c e = record { ins = acked_stamp k s c e.ins; dels = map (acked
 abbrev pub unmarked_stamps : ℕ → ElementStamps → ElementStamps
 unmarked_stamps k e = record { ins = e.ins; dels = filter (λ t. not (is_of_stage k t)) e.dels }
 
+-- the stamps with the removals that are sequenced alone
+abbrev pub sequenced_stamps : ElementStamps → ElementStamps
+sequenced_stamps e = record { ins = e.ins; dels = filter is_acked e.dels }
+
+-- the properties without pending changes
+abbrev pub sequenced_overlay : OverlayState → OverlayState
+sequenced_overlay o = record { acked = o.acked; pending = [] }
+
 -- the stamps with the insertion that everybody sees
 abbrev pub universal_stamps : ElementStamps → ElementStamps
 universal_stamps e = record { ins = Acked 0 0; dels = e.dels }

@@ -8,7 +8,7 @@ use Rattle.ft_block.specs.Leaves.{sees_in}
 use Rattle.ft_props.specs.Overlay.{OverlayState, after_ack}
 use Rattle.ft_props.specs.Properties.{PropertyList}
 use Rattle.ft_leaves.specs.declared.leaves.TreeLeaf.{TreeLeaf}
-use Rattle.ft_leaves.specs.Edits.{unmarked_leaf}
+use Rattle.ft_leaves.specs.Edits.{sequenced_leaf, unmarked_leaf}
 use Rattle.ft_leaves.specs.Elements.{acked_stamps}
 
 -- a leaf with this change of its stamps
@@ -46,3 +46,7 @@ fresh_leaf content ins props = record { content = content; stamps = record { ins
 -- the leaf of a node without its removal mark and its changes of stage k, and any other as it is
 abbrev pub unmarked_pair : {C : Type 0} → ℕ → ℕ → ℕ × TreeLeaf C → ℕ × TreeLeaf C
 unmarked_pair id k x = (x.0, cond (nat_eq x.0 id) (unmarked_leaf k x.1) x.1)
+
+-- the leaf of a node without pending removal marks and pending changes, and any other as it is
+abbrev pub sequenced_pair : {C : Type 0} → ℕ → ℕ × TreeLeaf C → ℕ × TreeLeaf C
+sequenced_pair id x = (x.0, cond (nat_eq x.0 id) (sequenced_leaf x.1) x.1)

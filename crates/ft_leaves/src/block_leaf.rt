@@ -1,17 +1,17 @@
 //! A leaf of a tree as a leaf of blocks.
 
 ghost use Rattle.std.specs.Prelude.{◌≡◌, IfOk, length, refl};
-ghost use Rattle.ft_leaves.specs.Elements.{acked_stamps, removed_stamps, unmarked_stamps};
+ghost use Rattle.ft_leaves.specs.Elements.{acked_stamps, removed_stamps, sequenced_stamps, unmarked_stamps};
 ghost use Rattle.std.proofs.Common.{ap, ◌∙◌, length-append};
 ghost use Rattle.ft_leaves.specs.BlockChanges.{MayChange, changed_leaf};
 ghost use Rattle.ft_leaves.specs.BlockLaws.{changed_length, changed_stamps, front_length, rear_length};
 
 use crate::content::Content;
 use crate::leaves::TreeLeaf;
-use crate::stamps::{acked, acked_all, is_of_stage, with_removal, without_stage};
+use crate::stamps::{acked, acked_all, is_of_stage, sequenced_only, with_removal, without_stage};
 use ft_base::{Element, OutOfMemory, Stamp};
 use ft_block::Leaf;
-use ft_props::Changes;
+use ft_props::{Changes, Overlay};
 use std::alloc::Global;
 
 /// What a call of a tree changes in a leaf beside its stamps.
@@ -23,6 +23,8 @@ pub enum LeafChange {
     PushPending(u64, Changes),
     /// The changes of that stage go.
     DropPending(u64),
+    /// All pending changes go.
+    DropAll,
     /// The stage is acknowledged under that number of that connection.
     Ack(u64, u64, u32),
 }
@@ -89,6 +91,11 @@ impl<C: Content> Leaf for TreeLeaf<C> {
             LeafChange::SetAcked(set) => self.overlay.set_acked(set),
             LeafChange::PushPending(stage, set) => self.overlay.push_pending(*stage, set),
             LeafChange::DropPending(stage) => self.overlay.drop_pending(*stage),
+            LeafChange::DropAll => {
+                let alloc = self.stamps.dels.allocator();
+                self.overlay = Overlay::of(alloc, self.overlay.acked().copy()?);
+                Ok(())
+            }
             LeafChange::Ack(stage, seq, conn) => {
                 self.overlay.ack(*stage)?;
                 if is_of_stage(&self.stamps.ins, *stage) {
@@ -141,6 +148,18 @@ pub fn unmarked_stamps(alloc: Global, e: &Element, stage: u64) -> Result<Element
     Ok(Element {
         ins: e.ins,
         dels: without_stage(alloc, e.dels.as_slice(), stage)?,
+    })
+}
+
+/// The stamps with the removals that are sequenced alone.
+///
+/// Answers `OutOfMemory` where there is no room for them.
+pub fn sequenced_stamps(alloc: Global, e: &Element) -> Result<Element, OutOfMemory>
+    ensures { IfOk result (λ x. x ≡ sequenced_stamps e.now) }
+{
+    Ok(Element {
+        ins: e.ins,
+        dels: sequenced_only(alloc, e.dels.as_slice())?,
     })
 }
 

@@ -86,6 +86,21 @@ pub(crate) fn without_stage(
     Ok(others)
 }
 
+/// The stamps that are sequenced.
+///
+/// Answers `OutOfMemory` where there is no room for them.
+pub(crate) fn sequenced_only(alloc: Global, stamps: &[Stamp]) -> Result<Stamps, OutOfMemory>
+    ensures { IfOk result (λ v. v ≡ filter is_acked stamps.now) }
+{
+    let mut sequenced = Stamps::new(alloc);
+    for t in stamps {
+        if matches!(t, Stamp::Acked { .. }) {
+            sequenced.push(*t)?;
+        }
+    }
+    Ok(sequenced)
+}
+
 /// How many sequenced stamps stand at the front.
 fn sequenced_count(stamps: &[Stamp]) -> usize
     ensures count { result ≡ prefix_len is_acked stamps.now }

@@ -12,11 +12,11 @@ use Rattle.ft_leaf_blocks.specs.RangeEdits.{edited_leaf}
 use Rattle.ft_leaf_blocks.specs.Walks.{Acts, held_place}
 use Rattle.ft_leaf_blocks.specs.declared.ranges.RangeEdit.{RangeEdit}
 use Rattle.ft_leaf_blocks.specs.declared.ranges.RangeEdit.TheVariants.{Remove, Change}
-use Rattle.ft_leaves.specs.declared.block_leaf.LeafChange.TheVariants.{SetAcked, PushPending, DropPending, Ack}
+use Rattle.ft_leaves.specs.declared.block_leaf.LeafChange.TheVariants.{SetAcked, PushPending, DropPending, DropAll, Ack}
 use Rattle.ft_leaves.specs.declared.leaves.TreeLeaf.{TreeLeaf}
 use Rattle.ft_leaves.specs.declared.references.Reference.{Reference}
 use Rattle.ft_leaves.specs.Edits.{sweep_without, with_place}
-use Rattle.ft_leaves.specs.Elements.{TreeElement, element_with, new_elements, removed_stamps}
+use Rattle.ft_leaves.specs.Elements.{TreeElement, element_with, new_elements, removed_stamps, sequenced_overlay}
 use Rattle.ft_leaves.specs.LeafChanges.{fresh_leaf}
 use Rattle.ft_leaves.specs.LeafLists.{Extends, elements, leaf_elements}
 use Rattle.ft_leaves.specs.LeafLists.Extends.{kept, added}
@@ -191,6 +191,7 @@ module _ {C U : Type 0} (units : C → List U) (by : C → Option Stamp) (author
   acts (Change (SetAcked set)) x = leaf-with_overlay units by (after_acked_changes set) x
   acts (Change (PushPending k set)) x = leaf-with_overlay units by (after_pending_changes k set) x
   acts (Change (DropPending k)) x = leaf-with_overlay units by (after_drop k) x
+  acts (Change DropAll) x = leaf-with_overlay units by sequenced_overlay x
   acts (Change (Ack k s c)) x =
       let test = is_of_stage k x.stamps.ins in
       ap (λ a. map (element_with x.stamps a (after_ack k x.overlay)) (units (cond test (stamped x.content s c) x.content))) (by_ack test s c x.content)

@@ -6,10 +6,10 @@ use Rattle.ft_base.specs.Visibility.{is_of_stage}
 use Rattle.ft_block.specs.Leaves.{IsPlaceIn, ids}
 use Rattle.ft_leaf_blocks.specs.declared.ranges.RangeEdit.{RangeEdit}
 use Rattle.ft_leaf_blocks.specs.declared.ranges.RangeEdit.TheVariants.{Remove, Change}
-use Rattle.ft_leaves.specs.declared.block_leaf.LeafChange.TheVariants.{SetAcked, PushPending, DropPending, Ack}
+use Rattle.ft_leaves.specs.declared.block_leaf.LeafChange.TheVariants.{SetAcked, PushPending, DropPending, DropAll, Ack}
 use Rattle.ft_leaves.specs.declared.leaves.TreeLeaf.{TreeLeaf}
 use Rattle.ft_leaves.specs.Edits.{with_place}
-use Rattle.ft_leaves.specs.Elements.{TreeElement, removed_stamps, with_overlay, with_stamps}
+use Rattle.ft_leaves.specs.Elements.{TreeElement, removed_stamps, sequenced_overlay, with_overlay, with_stamps}
 use Rattle.ft_leaves.specs.LeafLists.{Extends, elements, leaf_elements}
 use Rattle.ft_leaves.specs.Places.{put_place, shifted_place}
 use Rattle.ft_leaves.specs.References.{ChangesReferences, reference_at}
@@ -58,4 +58,5 @@ edited_element author (Remove t) = with_stamps (removed_stamps t)
 edited_element author (Change (SetAcked set)) = with_overlay (after_acked_changes set)
 edited_element author (Change (PushPending k set)) = with_overlay (after_pending_changes k set)
 edited_element author (Change (DropPending k)) = with_overlay (after_drop k)
+edited_element author (Change DropAll) = with_overlay sequenced_overlay
 edited_element author (Change (Ack k s c)) = λ e. record e { by = cond (is_of_stage k e.stamps.ins) (author s c) e.by; overlay = after_ack k e.overlay }

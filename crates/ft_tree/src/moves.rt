@@ -3,7 +3,7 @@
 ghost use Rattle.std.specs.Prelude.{◌≡◌, ◌↔◌, ◌+◌, ◌≤◌, ◌++◌, if◌then◌else◌, [], Some, IsTrue, IfOk, OnOk, OnErr, true, false, length, option_map};
 ghost use Rattle.ft_block.specs.Leaves.{IsLeafIn, IsPlaceIn, change_leaf, ids, join_leaf, move_leaf, value_at, without_leaf};
 ghost use Rattle.ft_props.specs.Properties.{max_safe_integer};
-ghost use Rattle.ft_leaves.specs.Edits.{IsFreeOf, MayJoinNext, closed_by, joined_leaf, moved_by, sweep_joined, sweep_without, unmarked_leaf, with_place};
+ghost use Rattle.ft_leaves.specs.Edits.{IsFreeOf, MayJoinNext, closed_by, joined_leaf, moved_by, sequenced_leaf, sweep_joined, sweep_without, unmarked_leaf, with_place};
 ghost use Rattle.ft_leaves.specs.Elements.{elements_with};
 ghost use Rattle.ft_leaves.specs.LeafLists.{Extends, elements};
 ghost use Rattle.ft_leaves.specs.References.{ChangesReferences, KeepsReferences};
@@ -13,7 +13,7 @@ use crate::edits::{append, move_with_references, take_with_references};
 use crate::tree::Tree;
 use ft_arena::NodeId;
 use ft_base::{Element, OutOfMemory};
-use ft_leaf_blocks::acks::unmark_at;
+use ft_leaf_blocks::acks::{unmark_all_at, unmark_at};
 use ft_leaf_blocks::joins::{join_at, sweep_joined, sweep_without};
 use ft_leaves::Content;
 use ft_props::Props;
@@ -87,6 +87,28 @@ impl<C: Content> Tree<C> {
     {
         let alloc = *self.refs.allocator();
         match unmark_at(&mut self.blocks, alloc, id, stage) {
+            Ok(()) => Ok(()),
+            Err(e) => {
+                self.usable = false;
+                Err(e)
+            }
+        }
+    }
+
+    /// Takes every pending removal mark and all pending changes off a leaf.
+    ///
+    /// Answers `OutOfMemory` where there is no room for what is left, and then the tree may be used no more.
+    pub fn unmark_all(&mut self, id: NodeId) -> Result<(), OutOfMemory>
+        requires usable { IsTrue self.old.usable }
+        requires live { IsLeafIn self.old.leaves id }
+        ensures leaves { OnOk result (self.new.leaves ≡ change_leaf sequenced_leaf self.old.leaves id) }
+        ensures refs { OnOk result (KeepsReferences self.old.refs self.new.refs) }
+        ensures rest { OnOk result (KeepsRest self.old self.new) }
+        ensures made { OnOk result (self.new.made ≡ self.old.made) }
+        ensures err { OnErr result (self.new.usable ≡ false) }
+    {
+        let alloc = *self.refs.allocator();
+        match unmark_all_at(&mut self.blocks, alloc, id) {
             Ok(()) => Ok(()),
             Err(e) => {
                 self.usable = false;
