@@ -18,7 +18,7 @@ use Rattle.ft_rebase.specs.declared.marks.Mark.{Mark}
 use Rattle.ft_rebase.specs.declared.marks.Mark.TheVariants.{Removal, Changes}
 use Rattle.ft_rebase.specs.MarkedRuns.{marked_runs_from, with_run}
 use Rattle.ft_rebase.specs.Pieces.{first_inserted, has_mark, is_inserted_by, leaf_has_mark}
-use Rattle.ft_rebase.proofs.AlikeElements.{any-none, any-some, rank-here, rank-seen, rank-unseen}
+use Rattle.ft_rebase.proofs.Expanded.{any-none, any-some, rank-here, rank-seen, rank-unseen}
 use Rattle.ft_rebase.proofs.MarkedRunLemmas.{runs-past_marked, runs-past_seen, runs-past_unseen}
 
 differs : (m n : ℕ) → (m ≡ n → ⊥) → nat_eq m n ≡ false

@@ -1,4 +1,12 @@
 pub mod MarkedRunLemmas
-pub mod AlikeElements
+pub mod StageListLemmas
+pub mod Expanded
+pub mod MovedBlocks
 pub mod LeafPieces
 pub mod LeafWalks
+pub mod StageMoves
+pub mod NextStages
+pub mod AllStages
+pub mod UnmarkedLists
+pub mod MovedSpots
+pub mod CarriedLeaves

@@ -1,13 +1,16 @@
-//! What a client reads off its merge trees when it comes back under a new connection: each pending stage is sent again
-//! as pieces whose positions are those of now.
+//! What a client does with its merge trees when it comes back under a new connection: each pending stage is sent again
+//! as pieces whose positions are those of now, and the pending leaves move to where the order will put them.
 //!
 //! A call that can't answer `OutOfMemory` takes no memory.
 #![tactic(auto)]
 
 mod marks;
+mod moves;
+mod normalisation;
 pub mod pieces;
 pub mod positions;
 mod runs;
 
+pub use normalisation::normalise;
 pub use pieces::{Piece, regenerate};
 pub use positions::stage_position;

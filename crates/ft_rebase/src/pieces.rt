@@ -48,7 +48,7 @@ pub fn regenerate<C: Content>(tree: &Tree<C>, stage: u64) -> Result<Vec<Piece>, 
 /// Where the tree takes its memory.
 ///
 /// Answers `OutOfMemory` for nothing else than that.
-fn allocator_of<C: Content>(tree: &Tree<C>) -> Result<Global, OutOfMemory>
+pub(crate) fn allocator_of<C: Content>(tree: &Tree<C>) -> Result<Global, OutOfMemory>
     requires { IsTrue tree.now.usable }
 {
     match tree.first_leaf() {

@@ -1,0 +1,59 @@
+use Rattle.std.proofs.Common.{◌+◌, List, drop, get_or, subst}
+use Rattle.std.proofs.lemmas.List.{drop_all}
+use Rattle.ft_rebase.specs.declared.moves.StageMove.{StageMove}
+use Rattle.ft_rebase.proofs.AllStages.{MovesLeft, elements_moved, leaves_side, move_next, next_move, nodes_kept}
+use Rattle.ft_rebase.proofs.MovedSpots.{rest_more, spots_more}
+use Rattle.ft_rebase.proofs.moves.move_stages.Goals as goal
+
+pub put_stage-requires-clause-ends : goal.put_stage-requires-clause-ends
+put_stage-requires-clause-ends g c =
+    let us = g.C.Content.units in
+    let xs = c.args.tree.now.leaves in
+    let ms = c.deref-next-items.result.now in
+    let i = c.loop-next.next-index in
+    let none : StageMove = record { stage = 0; position = 0 } in
+    let now = c.loop-next.tree.leaves in
+    let side = leaves_side us g.C.Content.by xs c.first_leaf-first.ensures.some c.requires.side in
+    let left = subst (λ (ls : List StageMove). MovesLeft us xs ls now) (next_move ms i none c.loop-next-test.true)
+    c.loop-next.invariant.left in
+    let next = move_next us xs side (get_or ms i none) (drop (i + 1) ms) now left in
+    next.ends
+
+pub loop-next-preserved : goal.loop-next-preserved
+loop-next-preserved g c =
+    let us = g.C.Content.units in
+    let xs = c.args.tree.now.leaves in
+    let ms = c.deref-next-items.result.now in
+    let i = c.loop-next.next-index in
+    let none : StageMove = record { stage = 0; position = 0 } in
+    let now = c.loop-next.tree.leaves in
+    let side = leaves_side us g.C.Content.by xs c.first_leaf-first.ensures.some c.requires.side in
+    let left = subst (λ (ls : List StageMove). MovesLeft us xs ls now) (next_move ms i none c.loop-next-test.true)
+    c.loop-next.invariant.left in
+    let next = move_next us xs side (get_or ms i none) (drop (i + 1) ms) now left in
+    record {
+      left = next.after c.put_stage.new.tree.leaves (c.in_ok-put_stage.ensures.leaves next.ends.count next.ends.fits next.ends.is);
+      refs = spots_more c.loop-next.invariant.refs c.in_ok-put_stage.ensures.refs;
+      rest = rest_more c.loop-next.invariant.rest c.in_ok-put_stage.ensures.rest;
+      usable = c.in_ok-put_stage.ensures.usable;
+    }
+
+pub returns-clause-elements : goal.returns-clause-elements
+returns-clause-elements g c last h =
+    let us = g.C.Content.units in
+    let by = g.C.Content.by in
+    let xs = c.args.tree.now.leaves in
+    let now = c.loop-next.tree.leaves in
+    let some = c.first_leaf-first.ensures.some in
+    let done = drop_all c.loop-next.next-index c.deref-next-items.result.now c.loop-next-test.false in
+    let left = subst (λ (ls : List StageMove). MovesLeft us xs ls now) done c.loop-next.invariant.left in
+    elements_moved us xs now left by some (leaves_side us by xs some c.requires.side) last h
+
+pub returns-clause-nodes : goal.returns-clause-nodes
+returns-clause-nodes g c =
+    let us = g.C.Content.units in
+    let xs = c.args.tree.now.leaves in
+    let now = c.loop-next.tree.leaves in
+    let done = drop_all c.loop-next.next-index c.deref-next-items.result.now c.loop-next-test.false in
+    let left = subst (λ (ls : List StageMove). MovesLeft us xs ls now) done c.loop-next.invariant.left in
+    nodes_kept us xs now left

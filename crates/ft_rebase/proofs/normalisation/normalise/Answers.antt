@@ -1,0 +1,45 @@
+use Rattle.std.proofs.Common.{List, filter, subst, sym, ◌∙◌, ap}
+use Rattle.ft_leaves.specs.Elements.{TreeElement}
+use Rattle.ft_leaves.specs.LeafLists.{elements}
+use Rattle.ft_rebase.specs.Moves.{leaf_stamps}
+use Rattle.ft_rebase.specs.StageLists.{StagesUpTo, StandSideBySide, sequenced, with_stages}
+use Rattle.ft_rebase.proofs.CarriedLeaves.{elements-carried, sequenced-carried, spots_carried}
+use Rattle.ft_rebase.proofs.MovedSpots.{rest_more, spots_more}
+use Rattle.ft_rebase.proofs.UnmarkedLists.{unmarked-rebuilt, unmarked-side, unmarked-up_to}
+use Rattle.ft_rebase.proofs.normalisation.normalise.Goals as goal
+
+pub move_stages-requires-clause-side : goal.move_stages-requires-clause-side
+move_stages-requires-clause-side g c =
+    let us = g.C.Content.units in
+    let by = g.C.Content.by in
+    let xs = c.args.tree.now.leaves in
+    let list = ap (elements us by) c.in_ok-carry_leaves.ensures.leaves ∙ elements-carried us by xs in
+    subst (λ (es : List (TreeElement g.row.C-Unit.Denot)). StandSideBySide (λ e. e.stamps) es) (sym list)
+    (unmarked-side (elements us by xs) c.requires.side)
+
+pub returns-clause-elements : goal.returns-clause-elements
+returns-clause-elements g c last h =
+    let us = g.C.Content.units in
+    let by = g.C.Content.by in
+    let xs = c.args.tree.now.leaves in
+    let list = ap (elements us by) c.in_ok-carry_leaves.ensures.leaves ∙ elements-carried us by xs in
+    let stages = subst (λ (es : List (TreeElement g.row.C-Unit.Denot)). StagesUpTo (λ e. e.stamps) last es) (sym list)
+    (unmarked-up_to (elements us by xs) last h) in
+    c.in_ok-move_stages.ensures.elements last stages
+    ∙ ap (λ (es : List (TreeElement g.row.C-Unit.Denot)). with_stages (λ e. e.stamps) es (filter (sequenced (λ e. e.stamps)) es) last) list
+    ∙ unmarked-rebuilt (elements us by xs) last
+
+pub returns-clause-nodes : goal.returns-clause-nodes
+returns-clause-nodes g c =
+    c.in_ok-move_stages.ensures.nodes
+    ∙ ap (filter (sequenced leaf_stamps)) c.in_ok-carry_leaves.ensures.leaves
+    ∙ sequenced-carried c.args.tree.now.leaves
+
+pub returns-clause-refs : goal.returns-clause-refs
+returns-clause-refs g c =
+    spots_more
+    (spots_carried g.C.Content.units c.args.tree.now c.carry_leaves.new.tree c.in_ok-carry_leaves.ensures.leaves c.in_ok-carry_leaves.ensures.refs)
+    c.in_ok-move_stages.ensures.refs
+
+pub returns-clause-rest : goal.returns-clause-rest
+returns-clause-rest g c = rest_more c.in_ok-carry_leaves.ensures.rest c.in_ok-move_stages.ensures.rest

@@ -1,0 +1,198 @@
+//! How the leaves of pending insertions are moved in place, stage after stage.
+
+ghost use Rattle.std.specs.Prelude.{◌≡◌, ℕ, ◌-◌, ◌≤◌, None, IsTrue, IfOk, OnOk, filter, true};
+ghost use Rattle.ft_base.specs.Scan.{len};
+ghost use Rattle.std.specs.Option.{option_to_list};
+ghost use Rattle.ft_block.specs.Leaves.{IsLeafIn, IsPlaceIn, ids, move_leaf, value_at, without_leaf};
+ghost use Rattle.ft_leaves.specs.Edits.{least_above, stage_of};
+ghost use Rattle.ft_rebase.specs.Moves.{AreMoves, EndsLeaf, leaf_stamps, moved_stage, next_insertion, seen_node, seen_size};
+ghost use Rattle.ft_rebase.specs.Spots.{KeepsSpots};
+ghost use Rattle.ft_rebase.specs.StageLists.{StagesUpTo, StandSideBySide, inserted_by, seen_by, sequenced, with_stages};
+ghost use Rattle.ft_leaves.specs.LeafLists.{elements};
+ghost use Rattle.ft_tree.specs.State.{KeepsRest};
+
+use crate::marks::is_of_stage;
+use crate::positions::insertion_position;
+use ft_arena::NodeId;
+use ft_base::{OutOfMemory, Stamp};
+use ft_block::LenView;
+use ft_leaves::Content;
+use ft_leaves::stamps::lesser_of;
+use ft_tree::Tree;
+use std::alloc::Global;
+
+/// A pending insertion stage, and how many elements that the stage before sees stand left of its own.
+#[derive(Clone, Copy, Debug, PartialEq, Eq, Drop)]
+pub struct StageMove {
+    pub stage: u64,
+    pub position: u64,
+}
+
+/// Moves the leaves of pending insertions to where the order will put them: stage after stage, each behind as many
+/// elements that the stage before sees as stood left of it before any move. The elements of each stage stand side by side
+/// in its view. Every leaf keeps its node.
+///
+/// Answers `OutOfMemory` where there is no room for it.
+pub(crate) fn move_stages<C: Content>(alloc: Global, tree: &mut Tree<C>) -> Result<(), OutOfMemory>
+where
+    C: Drop,
+    requires usable { IsTrue tree.old.usable }
+    requires side { StandSideBySide (λ e. e.stamps) (elements C.units C.by tree.old.leaves) }
+    ensures elements { let old = elements C.units C.by tree.old.leaves in
+        (last : ℕ) → StagesUpTo (λ e. e.stamps) last old
+        → OnOk result (elements C.units C.by tree.new.leaves
+        ≡ with_stages (λ e. e.stamps) old (filter (sequenced (λ e. e.stamps)) old) last) }
+    ensures nodes { OnOk result (filter (sequenced leaf_stamps) tree.new.leaves ≡ filter (sequenced leaf_stamps) tree.old.leaves) }
+    ensures refs { OnOk result (KeepsSpots C.units tree.old tree.new) }
+    ensures rest { OnOk result (KeepsRest tree.old tree.new) }
+    ensures usable { OnOk result (tree.new.usable ≡ true) }
+{
+    let _first = tree.first_leaf();
+    let moves = stage_moves(alloc, tree)?;
+    for next in &moves {
+        put_stage(alloc, tree, next.stage, next.position)?;
+    }
+    Ok(())
+}
+
+/// The stage of a stamp, if it is pending and above this one.
+fn stage_above(stamp: &Stamp, stage: u64) -> Option<u64>
+    ensures { result ≡ least_above stage (option_to_list (stage_of stamp.now)) }
+{
+    match stamp {
+        Stamp::Acked { .. } => None,
+        Stamp::Local { stage: own } => { if stage < *own { Some(*own) } else { None } }
+    }
+}
+
+/// The least pending insertion stage above this one.
+fn next_insertion<C: Content>(tree: &Tree<C>, stage: u64) -> Option<u64>
+    requires { IsTrue tree.now.usable }
+    ensures { result ≡ next_insertion stage tree.now.leaves }
+{
+    let _first = tree.first_leaf();
+    let mut least = None;
+    let mut at = tree.first_leaf();
+    while let Some(leaf) = at {
+        least = lesser_of(least, stage_above(&tree.leaf_element(leaf).ins, stage));
+        at = tree.next_leaf(leaf);
+    }
+    least
+}
+
+/// The moves of all pending insertion stages in rising order. Their positions are those before any of them is made.
+///
+/// Answers `OutOfMemory` where there is no room for them.
+pub(crate) fn stage_moves<C: Content>(
+    alloc: Global,
+    tree: &Tree<C>,
+) -> Result<Vec<StageMove>, OutOfMemory>
+    requires { IsTrue tree.now.usable }
+    ensures { IfOk result (λ v. AreMoves C.units 0 v.items tree.now.leaves) }
+{
+    let mut moves = Vec::new(alloc);
+    let mut stage = 0;
+    let _first = tree.first_leaf();
+    while let Some(next) = next_insertion(tree, stage) {
+        if let Some(position) = insertion_position(tree, next) {
+            moves.push(StageMove {
+                stage: next,
+                position,
+            })?;
+        }
+        stage = next;
+    }
+    Ok(moves)
+}
+
+/// The leaves that the stage inserted, in order.
+///
+/// Answers `OutOfMemory` where there is no room for them.
+fn stage_leaves<C: Content>(
+    alloc: Global,
+    tree: &Tree<C>,
+    stage: u64,
+) -> Result<Vec<NodeId>, OutOfMemory>
+    requires { IsTrue tree.now.usable }
+    ensures { IfOk result (λ v. v.items ≡ ids (filter (inserted_by leaf_stamps stage) tree.now.leaves)) }
+{
+    let mut leaves = Vec::new(alloc);
+    let _first = tree.first_leaf();
+    let mut at = tree.first_leaf();
+    while let Some(leaf) = at {
+        if is_of_stage(&tree.leaf_element(leaf).ins, stage) {
+            leaves.push(leaf)?;
+        }
+        at = tree.next_leaf(leaf);
+    }
+    Ok(leaves)
+}
+
+/// The leaf that ends behind the first `position` elements that the stage sees: None where that is the head.
+fn leaf_before<C: Content>(tree: &Tree<C>, position: u64, stage: u64) -> Option<NodeId>
+    requires { IsTrue tree.now.usable }
+    ensures { (q : ℕ) → q ≤ len (seen_by leaf_stamps stage) tree.now.leaves → position ≡ seen_size C.units stage q tree.now.leaves
+        → result ≡ seen_node (seen_by leaf_stamps stage) q None tree.now.leaves }
+{
+    let _first = tree.first_leaf();
+    match tree.find(position, LenView::Stage(stage)) {
+        Some(found) => found.leaf,
+        None => None,
+    }
+}
+
+/// Moves the leaves that the stage inserted, side by side, behind the first `position` elements that the stage before
+/// sees, which end a leaf.
+///
+/// Answers `OutOfMemory` where there is no room for it.
+pub(crate) fn put_stage<C: Content>(
+    alloc: Global,
+    tree: &mut Tree<C>,
+    stage: u64,
+    position: u64,
+) -> Result<(), OutOfMemory>
+where
+    C: Drop,
+    requires usable { IsTrue tree.old.usable }
+    requires stage { 1 ≤ stage }
+    requires ends { EndsLeaf C.units position (stage - 1) tree.old.leaves }
+    ensures leaves { (q : ℕ) → q ≤ len (seen_by leaf_stamps (stage - 1)) tree.old.leaves
+        → position ≡ seen_size C.units (stage - 1) q tree.old.leaves
+        → OnOk result (tree.new.leaves ≡ moved_stage leaf_stamps (stage - 1) q tree.old.leaves) }
+    ensures refs { OnOk result (KeepsSpots C.units tree.old tree.new) }
+    ensures rest { OnOk result (KeepsRest tree.old tree.new) }
+    ensures usable { OnOk result (tree.new.usable ≡ true) }
+{
+    let _first = tree.first_leaf();
+    let mut leaves = stage_leaves(alloc, tree, stage)?;
+    let at = leaf_before(tree, position, stage - 1);
+    while let Some(leaf) = leaves.pop() {
+        move_behind(tree, leaf, &at)?;
+    }
+    Ok(())
+}
+
+/// Moves a leaf directly after another, or to the head.
+///
+/// Answers `OutOfMemory` where there is no room for it.
+fn move_behind<C: Content>(
+    tree: &mut Tree<C>,
+    leaf: NodeId,
+    at: &Option<NodeId>,
+) -> Result<(), OutOfMemory>
+where
+    C: Drop,
+    requires usable { IsTrue tree.old.usable }
+    requires live { IsLeafIn tree.old.leaves leaf }
+    requires place { IsPlaceIn (without_leaf tree.old.leaves leaf) at.now }
+    ensures leaves { OnOk result (tree.new.leaves ≡ move_leaf tree.old.leaves leaf at.now (value_at tree.old.leaves leaf)) }
+    ensures refs { OnOk result (KeepsSpots C.units tree.old tree.new) }
+    ensures rest { OnOk result (KeepsRest tree.old tree.new) }
+    ensures usable { OnOk result (tree.new.usable ≡ true) }
+{
+    let _first = tree.first_leaf();
+    match at {
+        Some(other) => tree.move_leaf(leaf, Some(*other)),
+        None => tree.move_leaf(leaf, None),
+    }
+}

@@ -1,0 +1,120 @@
+//! What normalisation makes of a merge tree.
+
+ghost use Rattle.std.specs.Prelude.{◌≡◌, ℕ, IsFalse, IsTrue, OnOk, Some, filter, map, not, true};
+ghost use Rattle.std.specs.List.{list_any};
+ghost use Rattle.ft_base.specs.Visibility.{is_acked};
+ghost use Rattle.ft_block.specs.Leaves.{IsLeafIn, change_leaf, value_at};
+ghost use Rattle.ft_leaves.specs.declared.leaves.TreeLeaf.{TreeLeaf};
+ghost use Rattle.ft_leaves.specs.Edits.{sequenced_leaf};
+ghost use Rattle.ft_leaves.specs.LeafLists.{elements};
+ghost use Rattle.ft_leaves.specs.References.{KeepsReferences};
+ghost use Rattle.ft_rebase.specs.Moves.{leaf_stamps};
+ghost use Rattle.ft_rebase.specs.Normalised.{carried_leaf, carried_pair, is_gone, rebuilt_list};
+ghost use Rattle.ft_rebase.specs.Spots.{KeepsSpots};
+ghost use Rattle.ft_rebase.specs.StageLists.{StagesUpTo, StandSideBySide, sequenced};
+ghost use Rattle.ft_tree.specs.State.{KeepsRest};
+
+use crate::moves::move_stages;
+use crate::pieces::allocator_of;
+use ft_arena::NodeId;
+use ft_base::{Element, OutOfMemory, Stamp};
+use ft_leaves::Content;
+use ft_tree::Tree;
+
+/// Brings a merge tree in order after its pending stages were regenerated, so that it is as if they had been made afresh:
+/// what is pending on elements with a sequenced removal goes, and the leaves of pending insertions move to where the order
+/// will put them. The elements of each stage stand side by side in its view. Every leaf keeps its node.
+///
+/// Answers `OutOfMemory` where there is no room for it, and then the tree may be used no more.
+pub fn normalise<C: Content>(tree: &mut Tree<C>) -> Result<(), OutOfMemory>
+where
+    C: Drop,
+    requires usable { IsTrue tree.old.usable }
+    requires side { StandSideBySide (λ e. e.stamps) (elements C.units C.by tree.old.leaves) }
+    ensures elements { let old = elements C.units C.by tree.old.leaves in
+        (last : ℕ) → StagesUpTo (λ e. e.stamps) last old
+        → OnOk result (elements C.units C.by tree.new.leaves ≡ rebuilt_list last old) }
+    ensures nodes { OnOk result (filter (sequenced leaf_stamps) tree.new.leaves
+        ≡ map carried_pair (filter (sequenced leaf_stamps) tree.old.leaves)) }
+    ensures refs { OnOk result (KeepsSpots C.units tree.old tree.new) }
+    ensures rest { OnOk result (KeepsRest tree.old tree.new) }
+    ensures usable { OnOk result (tree.new.usable ≡ true) }
+{
+    let alloc = allocator_of(tree)?;
+    carry_leaves(tree)?;
+    move_stages(alloc, tree)?;
+    Ok(())
+}
+
+/// Whether the insertion and a removal are sequenced.
+fn is_gone(e: &Element) -> bool
+    ensures { result ≡ is_gone e.now }
+{
+    matches!(e.ins, Stamp::Acked { .. }) && has_sequenced(e.dels.as_slice())
+}
+
+/// Whether one of the stamps is sequenced.
+fn has_sequenced(stamps: &[Stamp]) -> bool
+    ensures { result ≡ list_any is_acked stamps.now }
+{
+    stamps
+        .iter()
+        .any(|stamp| matches!(stamp, Stamp::Acked { .. }))
+}
+
+/// Whether one of the stamps is pending.
+fn has_local(stamps: &[Stamp]) -> bool
+    ensures { result ≡ list_any (λ t. not (is_acked t)) stamps.now }
+{
+    stamps
+        .iter()
+        .any(|stamp| matches!(stamp, Stamp::Local { .. }))
+}
+
+/// Whether a removal or changes are pending on a leaf.
+fn has_pending<C: Content>(tree: &Tree<C>, leaf: NodeId) -> bool
+    requires usable { IsTrue tree.now.usable }
+    requires live { IsLeafIn tree.now.leaves leaf }
+    ensures { IsFalse result → (v : TreeLeaf C) → value_at tree.now.leaves leaf ≡ Some v → sequenced_leaf v ≡ v }
+{
+    let marked = has_local(tree.leaf_element(leaf).dels.as_slice());
+    marked || tree.leaf_overlay(leaf).has_pending()
+}
+
+/// Takes what is pending off a leaf whose insertion and a removal of it are sequenced.
+///
+/// Answers `OutOfMemory` where there is no room for what is left.
+fn carry_leaf<C: Content>(tree: &mut Tree<C>, leaf: NodeId) -> Result<(), OutOfMemory>
+    requires usable { IsTrue tree.old.usable }
+    requires live { IsLeafIn tree.old.leaves leaf }
+    ensures leaves { OnOk result (tree.new.leaves ≡ change_leaf carried_leaf tree.old.leaves leaf) }
+    ensures refs { OnOk result (KeepsReferences tree.old.refs tree.new.refs) }
+    ensures rest { OnOk result (KeepsRest tree.old tree.new) }
+    ensures usable { OnOk result (tree.new.usable ≡ true) }
+{
+    let _first = tree.first_leaf();
+    if !is_gone(tree.leaf_element(leaf)) || !has_pending(tree, leaf) {
+        return Ok(());
+    }
+    tree.unmark_all(leaf)?;
+    Ok(())
+}
+
+/// Takes what is pending off all leaves whose insertion and a removal of it are sequenced.
+///
+/// Answers `OutOfMemory` where there is no room for what is left.
+fn carry_leaves<C: Content>(tree: &mut Tree<C>) -> Result<(), OutOfMemory>
+    requires { IsTrue tree.old.usable }
+    ensures leaves { OnOk result (tree.new.leaves ≡ map carried_pair tree.old.leaves) }
+    ensures refs { OnOk result (KeepsReferences tree.old.refs tree.new.refs) }
+    ensures rest { OnOk result (KeepsRest tree.old tree.new) }
+    ensures usable { OnOk result (tree.new.usable ≡ true) }
+{
+    let mut at = tree.first_leaf();
+    while let Some(leaf) = at {
+        let _first = tree.first_leaf();
+        carry_leaf(tree, leaf)?;
+        at = tree.next_leaf(leaf);
+    }
+    Ok(())
+}
