@@ -1,1 +1,2 @@
 pub mod ReferenceLaws
+pub mod MarkerLists

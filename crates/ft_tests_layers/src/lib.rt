@@ -4,6 +4,8 @@
 #[cfg(test)]
 mod compaction;
 #[cfg(test)]
+mod normalising;
+#[cfg(test)]
 mod regeneration;
 #[cfg(test)]
 mod texts;

@@ -1,0 +1,36 @@
+-- Trees whose leaves are markers.
+use Rattle.std.specs.Prelude.{ℕ, List, [], ◌∷◌, None}
+use Rattle.ft_base.specs.declared.stamps.Stamp.TheVariants.{Acked, Local}
+use Rattle.ft_base.specs.declared.elements.Element.{Element as ElementStamps}
+use Rattle.ft_leaves.specs.declared.text.TextContent.{TextContent}
+use Rattle.ft_leaves.specs.Elements.{TreeElement}
+use Rattle.ft_leaves.specs.LeafLists.{elements}
+use Rattle.ft_leaves.specs.TextLeaves.{text_units}
+use Rattle.ft_props.specs.Element.{ElementContent, MarkerOf}
+use Rattle.ft_tree.specs.State.{TreeState}
+
+-- the elements of a tree of text
+abbrev pub elements_of : TreeState TextContent → List (TreeElement ElementContent)
+elements_of t = elements text_units (λ x. x.by) t.leaves
+
+-- a marker with this reference type, these stamps and no properties
+abbrev pub marker_element : ℕ → ElementStamps → TreeElement ElementContent
+marker_element r e = record { unit = MarkerOf r; stamps = e; by = None; overlay = record { acked = []; pending = [] } }
+
+-- what message 1 inserted, the same after message 6 removed it, and what a stage inserted
+abbrev inserted : ElementStamps
+inserted = record { ins = Acked 1 2; dels = [] }
+
+abbrev removed : ElementStamps
+removed = record { ins = Acked 1 2; dels = Acked 6 2 ∷ [] }
+
+abbrev pending : ℕ → ElementStamps
+pending k = record { ins = Local k; dels = [] }
+
+-- an element of stage 1 behind a removed one
+abbrev pub behind_removed : List (TreeElement ElementContent)
+behind_removed = marker_element 1 inserted ∷ marker_element 2 removed ∷ marker_element 3 (pending 1) ∷ []
+
+-- elements of stages 2 and 1 behind a removed one
+abbrev pub two_stages : List (TreeElement ElementContent)
+two_stages = marker_element 1 inserted ∷ marker_element 2 removed ∷ marker_element 3 (pending 2) ∷ marker_element 4 (pending 1) ∷ []
