@@ -1,21 +1,18 @@
 -- The list of a tree after a reconnection.
-use Rattle.std.specs.Prelude.{ℕ, Bool, cond, ◌&&◌, List, [], filter}
+use Rattle.std.specs.Prelude.{ℕ, Bool, cond, ◌&&◌, List}
 use Rattle.std.specs.List.{list_any}
 use Rattle.ft_base.specs.declared.elements.Element.{Element as ElementStamps}
 use Rattle.ft_base.specs.Scan.{retain_map}
 use Rattle.ft_base.specs.Visibility.{is_acked}
 use Rattle.ft_leaves.specs.declared.leaves.TreeLeaf.{TreeLeaf}
 use Rattle.ft_leaves.specs.Edits.{sequenced_leaf}
-use Rattle.ft_leaves.specs.Elements.{TreeElement}
+use Rattle.ft_leaves.specs.Elements.{TreeElement, sequenced_overlay, sequenced_stamps}
 use Rattle.ft_rebase.specs.StageLists.{sequenced, with_stages}
 
 module _ {U : Type 0} where
   -- the element without its pending removal and pending changes
   abbrev pub without_pending : TreeElement U → TreeElement U
-  without_pending e = record e {
-    stamps = record { ins = e.stamps.ins; dels = filter is_acked e.stamps.dels };
-    overlay = record { acked = e.overlay.acked; pending = [] };
-  }
+  without_pending e = record e { stamps = sequenced_stamps e.stamps; overlay = sequenced_overlay e.overlay }
 
   -- an element as it goes through a reconnection: what is pending on it goes where a removal of it is sequenced
   abbrev pub carried_element : TreeElement U → TreeElement U
