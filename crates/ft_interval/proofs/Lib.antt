@@ -1,0 +1,16 @@
+pub mod RisingNames
+pub mod OneInterval
+pub mod ShownOne
+pub mod KeptEnds
+pub mod SettledEnds
+pub mod Removals
+pub mod TakenEffect
+pub mod Spares
+pub mod MappedEnds
+pub mod HandedOn
+pub mod ShownSteps
+pub mod AppliedEffect
+pub mod WrittenNumbers
+pub mod SettledOperation
+pub mod LocalEdits
+pub mod ShownAll
