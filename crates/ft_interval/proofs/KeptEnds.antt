@@ -30,7 +30,7 @@ right true b h = refl
 right false b h = h
 
 -- the places of ends whose references stay
-place-same : (refs now : References) (e : Option ℕ) → ((r : ℕ) → is_reference r e ≡ true → reference_at now r ≡ reference_at refs r)
+pub place-same : (refs now : References) (e : Option ℕ) → ((r : ℕ) → is_reference r e ≡ true → reference_at now r ≡ reference_at refs r)
     → place_of_end now e ≡ place_of_end refs e
 place-same refs now None h = refl
 place-same refs now (Some r) h = ap (option_and_then (λ (x : Reference). x.place)) (h r (same r))
