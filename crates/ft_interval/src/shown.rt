@@ -225,19 +225,35 @@ pub fn with_numbers(op: &TextOp, numbers: EndPair<u64>) -> Result<TextOp, OutOfM
     ensures { (xs : List (TreeElement ElementContent)) → (k : ℕ) → (ends : EndPair ℕ) → AreNumbers xs k ends numbers
         → IfOk result (λ again. again ≡ regenerated xs k ends op.now) }
 {
-    let mut again = op.copy()?;
-    match &mut again {
-        TextOp::IntervalAdd { ends, .. } => *ends = ends_of_numbers(numbers),
-        TextOp::IntervalChange {
-            ends: Some(ends),
+    let ends = ends_of_numbers(numbers);
+    match op {
+        TextOp::IntervalAdd {
+            label,
+            id,
+            props,
             ..
-        } => *ends = ends_of_numbers(numbers),
+        } => Ok(TextOp::IntervalAdd {
+            label: label.copy()?,
+            id: id.copy()?,
+            ends,
+            props: props.copy()?,
+        }),
+        TextOp::IntervalChange {
+            label,
+            id,
+            ends: Some(_),
+            props,
+        } => Ok(TextOp::IntervalChange {
+            label: label.copy()?,
+            id: id.copy()?,
+            ends: Some(ends),
+            props: props.copy()?,
+        }),
         TextOp::IntervalChange { ends: None, .. }
         | TextOp::IntervalDelete { .. }
         | TextOp::One(_)
-        | TextOp::Group(_) => {}
+        | TextOp::Group(_) => op.copy(),
     }
-    Ok(again)
 }
 
 /// Puts pending references on the elements that the stage sees at these numbers.

@@ -19,8 +19,8 @@ take_effect-requires-clause-kept c =
     let places = places_of_given (seen_in (At c.args.at)) (text_elements c.args.tree.now) c.given_ends-given.result in
     applied-kept_once places old c.in_ok-ends.ends before c.add_ends.new.tree.refs live c.in_ok-ends.ensures.ends c.self.invariant
 
-pub invariant_of-self : goal.invariant_of-self
-invariant_of-self c =
+pub invariant_of-self-2 : goal.invariant_of-self-2
+invariant_of-self-2 c =
     let old : CollectionsState = record { acked = c.self.inside.acked; pending = c.self.inside.pending.items } in
     let before = c.args.tree.now.refs in
     let live : IsLive before old = subst (λ x. IsLive before x) (sym c.self.view_is) c.requires.live in
@@ -65,7 +65,7 @@ returns-clause-refs c = λ _.
     (applied-references places old c.in_ok-ends.ends before c.add_ends.new.tree.refs live c.in_ok-ends.ensures.ends
     c.take_effect.new.intervals after c.self.invariant c.in_ok-take_effect.ensures.refs)
 
-pub invariant_of-self-in_err-take_effect : goal.invariant_of-self-in_err-take_effect
-invariant_of-self-in_err-take_effect c =
+pub invariant_of-self : goal.invariant_of-self
+invariant_of-self c =
     subst (λ (is : List (Interval ℕ)). let x : CollectionsState = record { acked = is; pending = c.self.inside.pending.items } in IsInOrder x)
     (sym c.in_err-take_effect.ensures.err) c.self.invariant
