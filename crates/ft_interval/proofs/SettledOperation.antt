@@ -1,7 +1,8 @@
 -- One pending operation gets new references as its ends, and those that it had end.
 use Rattle.std.proofs.Common.{◌≡◌, ◌≢◌, ℕ, ◌+◌, ◌<◌, ◌≤◌, Bool, true, false, cond, ◌||◌, nat_eq, List, [], ◌∷◌, ◌++◌, map, length, get_or, set, take, drop, suc, not, nat_lt, Option, Some, None, IsSome, option_map, refl, sym, ◌∙◌, ap, subst, arith, true≢false}
+use Rattle.std.specs.Prelude.{IfOk, OnOk, Result, Ok, Err}
 use Rattle.std.specs.List.{list_any, position, position_or_len}
-use Rattle.std.proofs.lemmas.List.{drop_more, set_split, take-append-drop}
+use Rattle.std.proofs.lemmas.List.{drop_more, get_or-set_same, get_or_read, set_split, take-append-drop}
 use Rattle.std.proofs.lemmas.Bool.Decides.{nat_tests}
 use Rattle.std.proofs.lemmas.Grind.{flat_map-append}
 use Rattle.ft_base.specs.Scan.{len}
@@ -284,6 +285,10 @@ place-at k i ts d h = by (nat_lt (position_or_len (is_at_stage k) ts) (length ts
         (subst (λ n. n < length ts) same l, sym (ap (λ n. (get_or ts n d).stage) same) ∙ stage-at k ts d l)
     by false e h = absurd cc
 
+pub place-within : (k i : ℕ) (ts : List Operation) → position (is_at_stage k) ts ≡ Some i → i < length ts
+place-within k i [] h = absurd cc
+place-within k i (t ∷ ts) h = (place-at k i (t ∷ ts) t h).0
+
 -- a list around one place
 pub around : (ts : List Operation) (i : ℕ) (d : Operation) → i < length ts → ts ≡ take i ts ++ get_or ts i d ∷ drop (i + 1) ts
 around ts i d l = sym (take-append-drop i ts) ∙ ap (λ us. take i ts ++ us) (drop_more ts i d l)
@@ -318,6 +323,13 @@ module _ (is : List (Interval ℕ)) (ps : List Operation) (i : ℕ) (d : Operati
 
   cut-live : IsLive before (was is front own back no_ends no_ends before before)
   cut-live = subst (λ x. IsLive before x) (sym cut-now) live
+
+  pub settle-within : i < length ps
+  settle-within = within
+
+  -- what is read at its place
+  pub settle-own : (x : Operation) → x ≡ get_or ps i x → x ≡ own
+  settle-own x e = get_or_read ps i x within e d
 
   pub settle-live : AreLiveEnds before own.ends
   settle-live = own-live is front own back no_ends no_ends before before cut-order cut-live
@@ -356,3 +368,14 @@ module _ (is : List (Interval ℕ)) (ps : List Operation) (i : ℕ) (d : Operati
           sym (ap (λ x. placed after x) new-is)
           ∙ settled-places is front own back places again before mid cut-order cut-live added after dropped k f at-stage-k p
           ∙ ap (λ x. with_ends_at k f (placed before x)) cut-now
+
+-- what holds whatever a call answers
+pub whatever : {T E : Type 0} (r : Result T E) (P : Type 0) → P → OnOk r P
+whatever (Ok x) P h = h
+whatever (Err e) P h = tt
+
+-- what was found is what stands there, and is so again
+pub some-again : {T E B : Type 0} (r : Result T E) (f : B → T) (o : Option B) (t u : B) → o ≡ Some u → f t ≡ f u → IfOk r (λ x. x ≡ f t)
+    → IfOk r (λ x. Some x ≡ option_map f o)
+some-again (Ok x) f o t u h same e = ap (λ y. Some y) (e ∙ same) ∙ sym (ap (option_map f) h)
+some-again (Err e) f o t u h same k = tt

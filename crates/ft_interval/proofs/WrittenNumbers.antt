@@ -1,6 +1,7 @@
 -- Numbers as an operation has them, and new references at such numbers.
 use Rattle.std.proofs.Common.{◌≡◌, ◌≢◌, ℕ, ◌≤◌, Bool, true, false, cond, ◌||◌, nat_eq, List, [], ◌∷◌, Option, Some, None, IsSome, option_and_then, option_map, refl, sym, ◌∙◌, ap, subst, arith, true≢false}
 use Rattle.std.proofs.lemmas.Bool.Decides.{nat_tests}
+use Rattle.std.specs.Option.{option_and}
 use Rattle.ft_base.specs.Scan.{len, one_more_if}
 use Rattle.ft_block.specs.declared.leaves.LenView.TheVariants.{Stage}
 use Rattle.ft_leaves.specs.declared.references.Reference.{Reference}
@@ -8,10 +9,13 @@ use Rattle.ft_leaves.specs.Elements.{TreeElement, seen_in}
 use Rattle.ft_leaves.specs.Places.{place_at}
 use Rattle.ft_leaves.specs.References.{reference_at}
 use Rattle.ft_op.specs.declared.operations.Ends.{Ends}
+use Rattle.ft_op.specs.declared.operations.TextOp.TheVariants.{IntervalChange}
+use Rattle.ft_props.specs.Keys.{Characters}
+use Rattle.ft_props.specs.Properties.{PropertySet}
 use Rattle.ft_interval.specs.declared.intervals.EndPair.{EndPair}
 use Rattle.ft_interval.specs.Ends.{AreAddedEnds, IsAddedEnd, IsLiveEnd, References, both_ends, holds_end, is_reference, place_of_end, places_of_ends}
 use Rattle.ft_interval.specs.Numbers.{AreNumbers, IsNumber, number_or_none}
-use Rattle.ft_interval.specs.Shown.{number_at, numbers_at}
+use Rattle.ft_interval.specs.Shown.{number_at, numbers_at, regenerated}
 use Rattle.ft_interval.proofs.AppliedEffect.{there}
 use Rattle.ft_interval.proofs.KeptEnds.{live-ends, place-same}
 use Rattle.ft_interval.proofs.Removals.{number-none, place-end}
@@ -28,6 +32,12 @@ module _ {U : Type 0} (xs : List (TreeElement U)) (k : ℕ) where
       let first = number-at ends.start numbers.start n.start in
       let second = number-at ends.end numbers.end n.end in
       λ j. record { start = first j; end = second j }
+
+  -- a change gets these ends where it has some
+  pub changed-again : (ends : EndPair ℕ) (given : Option Ends) (label id : Characters) (props : PropertySet)
+      → IntervalChange label id (option_and given (Some (numbers_at xs k ends))) props ≡ regenerated xs k ends (IntervalChange label id given props)
+  changed-again ends None label id props = refl
+  changed-again ends (Some g) label id props = refl
 
   -- the place at a number is the end
   pub place-of-number : (end number : Option ℕ) → IsNumber xs k end number → option_and_then (λ p. place_at (seen_in (Stage k)) p xs) number ≡ end

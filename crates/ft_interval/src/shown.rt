@@ -241,18 +241,15 @@ pub fn with_numbers(op: &TextOp, numbers: EndPair<u64>) -> Result<TextOp, OutOfM
         TextOp::IntervalChange {
             label,
             id,
-            ends: Some(_),
+            ends: given,
             props,
         } => Ok(TextOp::IntervalChange {
             label: label.copy()?,
             id: id.copy()?,
-            ends: Some(ends),
+            ends: given.and(Some(ends)),
             props: props.copy()?,
         }),
-        TextOp::IntervalChange { ends: None, .. }
-        | TextOp::IntervalDelete { .. }
-        | TextOp::One(_)
-        | TextOp::Group(_) => op.copy(),
+        TextOp::IntervalDelete { .. } | TextOp::One(_) | TextOp::Group(_) => op.copy(),
     }
 }
 
