@@ -1,6 +1,8 @@
 use Rattle.std.proofs.Common.{◌≡◌, ℕ, refl, cond, None, get_or, set, List, sym, ◌∙◌, ap, subst, arith}
 use Rattle.std.specs.List.{position}
+use Rattle.std.proofs.lemmas.List.{get_or-set_same}
 use Rattle.ft_leaves.specs.References.{reference_at}
+use Rattle.ft_op.specs.declared.operations.TextOp.{TextOp}
 use Rattle.ft_interval.specs.declared.pending.Operation.{Operation}
 use Rattle.ft_interval.specs.Ends.{AreDistinctEnds, AreLiveEnds, holds_end, map_ends, places_of_ends}
 use Rattle.ft_interval.specs.Numbers.{AreNumbers}
@@ -75,7 +77,30 @@ invariant_of-self c =
     c.args.tree.now.refs c.requires.live places c.in_ok-again.again mid added)
 
 pub returns-clause-op : goal.returns-clause-op
-returns-clause-op c = ?
+returns-clause-op c =
+    let ps = c.self.inside.pending.items in
+    let found = ap (λ (us : List Operation). position (is_at_stage c.args.stage) us) (sym c.deref.ensures.value) ∙ sym c.place_of_stage.ensures ∙ c.in-Some.is in
+    let before = c.args.tree.now.refs in
+    let xs = text_elements c.args.tree.now in
+    let k = c.args.stage in
+    let f = map_ends (settled_end xs k) in
+    let own = get_or ps c.in-Some.i c.index.result.now in
+    let places = f (places_of_ends before own.ends) in
+    let numbers = subst (λ (t : Operation). AreNumbers xs k (f (places_of_ends before t.ends)) c.settled-numbers.result) c.index.ensures c.settled-numbers.ensures in
+    let was = settle-own c.self.inside.acked ps c.in-Some.i c.index.result.now c.args.stage found c.args.self.now c.self.view_is c.self.invariant
+    c.args.tree.now.refs c.requires.live c.index_mut.result.now c.index_mut.ensures.value in
+    let m = c.index_mut.result.now in
+    let kept = c.index-3.result.now in
+    let there = c.index-3.ensures ∙ get_or-set_same ps c.in-Some.i (record m { ends = c.in_ok-again.again }) kept
+    (settle-within c.self.inside.acked ps c.in-Some.i c.index.result.now c.args.stage found c.args.self.now c.self.view_is c.self.invariant
+    c.args.tree.now.refs c.requires.live) in
+    let op = ap (λ (t : Operation). t.op) there ∙ ap (λ (t : Operation). t.op) was in
+    some-again c.with_numbers.result (λ (t : Operation). regenerated xs k (f t.ends) t.op)
+    (operation_at k (placed_operations before c.args.self.now.pending)) (record kept { ends = places_of_ends before own.ends })
+    (record own { ends = places_of_ends before own.ends })
+    (settle-operation c.self.inside.acked ps c.in-Some.i c.index.result.now c.args.stage found c.args.self.now c.self.view_is c.self.invariant
+    c.args.tree.now.refs c.requires.live)
+    (ap (λ (o : TextOp). regenerated xs k places o) op) (c.with_numbers.ensures xs k places numbers)
 
 pub returns-clause-settled : goal.returns-clause-settled
 returns-clause-settled c =
