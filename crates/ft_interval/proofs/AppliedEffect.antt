@@ -1,8 +1,7 @@
 -- An operation whose ends are new references takes effect on the acknowledged intervals, beside pending operations.
-use Rattle.std.proofs.Common.{◌≡◌, ℕ, ◌+◌, ◌≤◌, Bool, true, false, cond, ◌||◌, List, [], ◌∷◌, ◌++◌, length, get_or, ◌<◌, Result, Ok, Err, Option, Some, None, IsSome, option_map, refl, sym, ◌∙◌, ap, subst, arith, true≢false}
+use Rattle.std.proofs.Common.{◌≡◌, ℕ, ◌+◌, ◌≤◌, Bool, true, false, cond, List, [], ◌∷◌, ◌++◌, length, get_or, ◌<◌, Result, Ok, Err, Option, Some, None, IsSome, option_map, refl, sym, ◌∙◌, ap, subst, arith, true≢false}
 use Rattle.std.specs.Prelude.{OnErr, OnOk}
 use Rattle.std.specs.List.{list_any, remove}
-use Rattle.std.proofs.lemmas.List.Folds.{list_any-append}
 use Rattle.std.proofs.lemmas.Result.{on_err_weaker, on_ok_weaker}
 use Rattle.ft_base.specs.Scan.{len}
 use Rattle.ft_leaves.proofs.Runs.{len-append}
@@ -15,7 +14,7 @@ use Rattle.ft_interval.specs.declared.intervals.Interval.{Interval}
 use Rattle.ft_interval.specs.declared.pending.Operation.{Operation}
 use Rattle.ft_interval.specs.Ends.{AreAddedEnds, References, both_ends, holds_end, is_reference, map_ends, places_of_ends, slid_end}
 use Rattle.ft_interval.specs.Intervals.{after_operation}
-use Rattle.ft_interval.specs.State.{AreKeptOnce, CollectionsState, HandsOn, IsFirst, IsInOrder, IsLive, IsMarked, KeepsReferences, ends_of_intervals, ends_of_operations, ends_with, is_acknowledged, keeps, placed, placed_intervals, placed_operations, times_kept, with_effect, with_first_acked}
+use Rattle.ft_interval.specs.State.{AreKeptOnce, CollectionsState, HandsOn, IsFirst, IsInOrder, IsLive, IsMarked, KeepsReferences, ends_of_intervals, ends_of_operations, ends_with, keeps, placed, placed_intervals, times_kept, with_effect, with_first_acked}
 use Rattle.ft_interval.proofs.HandedOn.{held, no-times, none-there, one-there, some-times}
 use Rattle.ft_interval.proofs.KeptEnds.{any_intervals, any_operations, intervals-same, operations-same}
 use Rattle.ft_interval.proofs.TakenEffect.{effect-in_order, effect-live, effect-marked, effect-others, first-in_order, first-kept_once, first-references, first-stays, others-stay, rise-below}

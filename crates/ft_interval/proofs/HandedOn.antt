@@ -1,29 +1,20 @@
 -- What an operation makes of the references: those of its ends become acknowledged and slide, and those that no interval
 -- keeps any more end.
-use Rattle.std.proofs.Common.{◌≡◌, ℕ, ◌+◌, ◌≤◌, Bool, true, false, cond, ◌||◌, is_some, nat_eq, List, [], ◌∷◌, ◌++◌, map, Option, Some, None, IsSome, option_and_then, option_map, refl, sym, ◌∙◌, ap, subst, arith}
+use Rattle.std.proofs.Common.{◌≡◌, ℕ, ◌+◌, ◌≤◌, Bool, true, false, cond, ◌||◌, nat_eq, List, [], ◌∷◌, Option, Some, None, IsSome, option_and_then, option_map, refl, sym, ◌∙◌, ap, subst, arith}
 use Rattle.std.specs.List.{list_any}
-use Rattle.std.specs.declared.cmp.Ordering.{Ordering}
-use Rattle.std.specs.declared.cmp.Ordering.TheVariants.{Less, Equal, Greater}
-use Rattle.std.proofs.lemmas.List.Folds.{list_any-append}
 use Rattle.ft_base.specs.Scan.{len, one_more_if}
 use Rattle.ft_leaves.proofs.Runs.{len-append}
 use Rattle.std.proofs.lemmas.Bool.Decides.{nat_tests}
 use Rattle.ft_leaves.specs.declared.references.Reference.{Reference}
 use Rattle.ft_leaves.specs.Elements.{TreeElement}
 use Rattle.ft_leaves.specs.References.{reference_at, slid_reference}
-use Rattle.ft_op.specs.declared.operations.Ends.{Ends}
 use Rattle.ft_op.specs.declared.operations.TextOp.{TextOp}
-use Rattle.ft_op.specs.declared.operations.TextOp.TheVariants.{One, Group, IntervalAdd, IntervalChange, IntervalDelete}
-use Rattle.ft_props.specs.Keys.{put_rising}
-use Rattle.ft_props.specs.Properties.{PropertySet, apply}
 use Rattle.ft_interval.specs.declared.intervals.EndPair.{EndPair}
 use Rattle.ft_interval.specs.declared.intervals.Interval.{Interval}
 use Rattle.ft_interval.specs.Ends.{AreDistinctEnds, AreLiveEnds, References, both_ends, holds_end, is_reference, map_ends, place_of_end, places_of_ends, slid_end}
-use Rattle.ft_interval.specs.Intervals.{Name, after_operation, changed_interval, interval_cmp, interval_of, name_cmp, name_of, with_changed, without_name}
-use Rattle.ft_interval.specs.State.{AreKeptOnce, HandsOn, ends_of_intervals, ends_with, is_acknowledged, lost_ends, placed_intervals, unused_ends, with_mapped_ends}
+use Rattle.ft_interval.specs.Intervals.{after_operation}
+use Rattle.ft_interval.specs.State.{AreKeptOnce, HandsOn, ends_of_intervals, ends_with, is_acknowledged, lost_ends, placed_intervals, unused_ends}
 use Rattle.ft_interval.proofs.KeptEnds.{intervals-same, live-ends}
-use Rattle.ft_interval.proofs.OneInterval.{interval_of-map}
-use Rattle.ft_interval.proofs.RisingNames.{by_order}
 use Rattle.ft_interval.proofs.MappedEnds.{after-mapped}
 use Rattle.ft_interval.proofs.Spares.{spared}
 

@@ -1,5 +1,5 @@
 -- The references that collections keep, and the places of their ends.
-use Rattle.std.proofs.Common.{◌≡◌, ℕ, zero, suc, ◌+◌, ◌<◌, ◌≤◌, Bool, true, false, cond, ◌||◌, nat_eq, List, [], ◌∷◌, ◌++◌, map, flat_map, All, Option, Some, None, IsSome, option_and_then, option_map, true≢false, refl, sym, ◌∙◌, ap, subst, arith}
+use Rattle.std.proofs.Common.{◌≡◌, ℕ, ◌+◌, ◌<◌, ◌≤◌, Bool, true, false, cond, ◌||◌, nat_eq, List, [], ◌∷◌, ◌++◌, All, Option, Some, None, IsSome, option_and_then, option_map, true≢false, refl, sym, ◌∙◌, ap, subst, arith}
 use Rattle.std.specs.List.{list_any}
 use Rattle.std.proofs.lemmas.Bool.Decides.{nat_tests}
 use Rattle.std.proofs.lemmas.List.Folds.{list_any-append}
@@ -8,11 +8,11 @@ use Rattle.std.proofs.lemmas.Grind.{flat_map-append}
 use Rattle.ft_base.specs.Scan.{len, one_more_if}
 use Rattle.ft_leaves.proofs.Runs.{len-append}
 use Rattle.ft_leaves.specs.declared.references.Reference.{Reference}
-use Rattle.ft_leaves.specs.References.{place_of, reference_at}
+use Rattle.ft_leaves.specs.References.{reference_at}
 use Rattle.ft_interval.specs.declared.intervals.EndPair.{EndPair}
 use Rattle.ft_interval.specs.declared.intervals.Interval.{Interval}
 use Rattle.ft_interval.specs.declared.pending.Operation.{Operation}
-use Rattle.ft_interval.specs.Ends.{AreAddedEnds, AreDistinctEnds, IsLiveEnd, AreLiveEnds, References, both_ends, holds_end, is_reference, place_of_end, places_of_ends}
+use Rattle.ft_interval.specs.Ends.{AreAddedEnds, IsLiveEnd, AreLiveEnds, References, both_ends, holds_end, is_reference, place_of_end, places_of_ends}
 use Rattle.ft_interval.specs.Intervals.{Name, interval_of, name_cmp, name_of}
 use Rattle.std.specs.declared.cmp.Ordering.{Ordering}
 use Rattle.std.specs.declared.cmp.Ordering.TheVariants.{Less, Equal, Greater}

@@ -1,5 +1,5 @@
 -- Why a local edit is refused, once it is known whether the view has its name.
-use Rattle.std.proofs.Common.{◌≡◌, ℕ, Bool, true, false, not, Result, sym, ◌∙◌, ap, subst}
+use Rattle.std.proofs.Common.{◌≡◌, ℕ, Bool, not, Result, sym, subst}
 use Rattle.std.specs.Prelude.{IfErr}
 use Rattle.std.proofs.lemmas.Result.{IfErr-weaker}
 use Rattle.ft_op.specs.declared.operations.TextOp.{TextOp}

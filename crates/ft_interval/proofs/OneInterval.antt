@@ -1,8 +1,7 @@
 -- The interval of one name, where others are put, changed or taken out beside it.
 use Rattle.std.proofs.Common.{◌≡◌, ℕ, Bool, true, false, cond, is_some, List, [], ◌∷◌, map, Option, Some, None, option_map, refl, sym, ◌∙◌, ap, subst, arith}
 use Rattle.std.specs.Ordering.{is_eq}
-use Rattle.std.specs.declared.cmp.Ordering.{Ordering}
-use Rattle.std.specs.declared.cmp.Ordering.TheVariants.{Less, Equal, Greater}
+use Rattle.std.specs.declared.cmp.Ordering.TheVariants.{Less, Equal}
 use Rattle.ft_op.specs.declared.operations.Ends.{Ends}
 use Rattle.ft_op.specs.declared.operations.TextOp.{TextOp}
 use Rattle.ft_op.specs.declared.operations.TextOp.TheVariants.{One, Group, IntervalAdd, IntervalChange, IntervalDelete}
@@ -10,8 +9,8 @@ use Rattle.ft_props.specs.Keys.{put_rising}
 use Rattle.ft_props.specs.Properties.{PropertySet, apply}
 use Rattle.ft_interval.specs.declared.intervals.EndPair.{EndPair}
 use Rattle.ft_interval.specs.declared.intervals.Interval.{Interval}
-use Rattle.ft_interval.specs.Intervals.{Name, IsBeforeNames, NamesRise, after_operation, after_own, changed_interval, interval_cmp, interval_of, is_on, name_cmp, name_of, one_after, with_changed, without_name}
-use Rattle.ft_interval.proofs.RisingNames.{IsBeforeNames-trans, NamesRise-changed, NamesRise-put, NamesRise-without, by_order, name_cmp-back, name_cmp-same, name_cmp-trans, name_cmp-turned, same_from_name_cmp}
+use Rattle.ft_interval.specs.Intervals.{Name, IsBeforeNames, NamesRise, after_operation, after_own, changed_interval, interval_cmp, interval_of, name_cmp, name_of, one_after, with_changed, without_name}
+use Rattle.ft_interval.proofs.RisingNames.{IsBeforeNames-trans, NamesRise-changed, NamesRise-put, NamesRise-without, by_order, name_cmp-trans, name_cmp-turned, same_from_name_cmp}
 
 -- equal names stand alike to a third
 alike : (m n k : Name) → name_cmp m n ≡ Equal → name_cmp k m ≡ name_cmp k n

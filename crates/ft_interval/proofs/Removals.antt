@@ -1,16 +1,16 @@
 -- What a stage sees stays seen up to the next stage that removes elements, and so do ends that stand there.
-use Rattle.std.proofs.Common.{◌≡◌, ℕ, zero, suc, ◌+◌, ◌-◌, ◌<◌, ◌≤◌, Bool, true, false, cond, not, ◌&&◌, ◌||◌, nat_le, nat_lt, List, [], ◌∷◌, ◌++◌, flat_map, take, Option, Some, None, option_map, option_and_then, refl, sym, ◌∙◌, ap, subst, arith}
+use Rattle.std.proofs.Common.{◌≡◌, ℕ, zero, suc, ◌+◌, ◌-◌, ◌<◌, ◌≤◌, Bool, true, false, cond, not, ◌&&◌, ◌||◌, nat_le, nat_lt, List, [], ◌∷◌, ◌++◌, flat_map, Option, Some, None, option_map, option_and_then, refl, sym, ◌∙◌, ap, subst, arith}
 use Rattle.std.specs.Prelude.{⊤}
 use Rattle.std.specs.List.{enumerate_from, filter_map, list_any}
 use Rattle.std.proofs.lemmas.Bool.Decides.{nat_tests}
 use Rattle.ft_base.specs.declared.stamps.Stamp.{Stamp}
 use Rattle.ft_base.specs.declared.stamps.Stamp.TheVariants.{Acked, Local}
-use Rattle.ft_base.specs.Scan.{at, len, one_more_if}
+use Rattle.ft_base.specs.Scan.{at, one_more_if}
 use Rattle.ft_base.specs.Visibility.{has_occurred_at_stage}
 use Rattle.ft_block.specs.declared.leaves.LenView.TheVariants.{Stage}
 use Rattle.ft_leaves.specs.Edits.{least_above, lesser, next_removal_above, stage_of}
 use Rattle.ft_leaves.specs.Elements.{TreeElement, seen_in}
-use Rattle.ft_leaves.specs.Places.{place_at, seen_before, settled_number, settled_place}
+use Rattle.ft_leaves.specs.Places.{place_at, seen_before, settled_number}
 use Rattle.ft_interval.specs.Numbers.{IsNumber, number_of, until}
 use Rattle.ft_interval.specs.Shown.{carried_end, settled_end}
 use Rattle.ft_interval.proofs.SettledEnds.{is_ok_at, settled-number, settled-ok, settled-stays}

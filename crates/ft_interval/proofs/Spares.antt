@@ -1,7 +1,5 @@
 -- Which references an operation leaves in its interval, and which it doesn't: each is counted once.
-use Rattle.std.proofs.Common.{◌≡◌, ℕ, ◌+◌, ◌≤◌, Bool, true, false, cond, is_some, List, [], ◌∷◌, Option, Some, None, refl, sym, ◌∙◌, ap, subst, arith}
-use Rattle.std.specs.declared.cmp.Ordering.{Ordering}
-use Rattle.std.specs.declared.cmp.Ordering.TheVariants.{Less, Equal, Greater}
+use Rattle.std.proofs.Common.{◌≡◌, ℕ, ◌+◌, cond, is_some, List, [], ◌∷◌, Option, Some, None, refl, ◌∙◌, ap, subst, arith}
 use Rattle.ft_base.specs.Scan.{len}
 use Rattle.ft_leaves.proofs.Runs.{len-append}
 use Rattle.ft_op.specs.declared.operations.TextOp.{TextOp}
@@ -12,7 +10,7 @@ use Rattle.ft_interval.specs.declared.intervals.EndPair.{EndPair}
 use Rattle.ft_interval.specs.declared.intervals.Interval.{Interval}
 use Rattle.ft_interval.specs.Ends.{both_ends, is_reference, no_ends}
 use Rattle.ft_interval.specs.Intervals.{Name, after_operation, changed_interval, interval_cmp, interval_of, name_cmp, name_of, with_changed, without_name}
-use Rattle.ft_interval.specs.State.{ends_of_intervals, ends_of_name, ends_with, lost_ends, unused_ends}
+use Rattle.ft_interval.specs.State.{ends_of_intervals, ends_of_name, lost_ends, unused_ends}
 use Rattle.ft_interval.proofs.RisingNames.{by_order}
 
 module _ (r : ℕ) where

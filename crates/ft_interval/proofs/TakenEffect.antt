@@ -1,5 +1,5 @@
 -- An operation takes effect on the acknowledged intervals, beside other pending ones.
-use Rattle.std.proofs.Common.{◌≡◌, ℕ, ◌+◌, ◌<◌, ◌≤◌, Bool, true, false, cond, ◌||◌, List, [], ◌∷◌, ◌++◌, All, Option, Some, None, IsSome, option_map, refl, sym, ◌∙◌, ap, subst, arith}
+use Rattle.std.proofs.Common.{◌≡◌, ℕ, ◌+◌, ◌≤◌, Bool, true, false, cond, ◌||◌, List, [], ◌∷◌, ◌++◌, Option, None, IsSome, option_map, refl, sym, ◌∙◌, ap, subst, arith}
 use Rattle.std.specs.List.{list_any}
 use Rattle.std.proofs.lemmas.List.Folds.{list_any-append}
 use Rattle.ft_base.specs.Scan.{len, one_more_if}
@@ -10,7 +10,7 @@ use Rattle.ft_interval.specs.declared.intervals.EndPair.{EndPair}
 use Rattle.ft_interval.specs.declared.intervals.Interval.{Interval}
 use Rattle.ft_interval.specs.declared.pending.Operation.{Operation}
 use Rattle.ft_interval.specs.Ends.{References, both_ends, is_reference}
-use Rattle.ft_interval.specs.State.{AreKeptOnce, CollectionsState, HandsOn, IsInOrder, IsLive, IsMarked, KeepsReferences, StagesRise, ends_of_intervals, ends_of_operations, ends_with, is_acknowledged, keeps, times_kept}
+use Rattle.ft_interval.specs.State.{AreKeptOnce, CollectionsState, HandsOn, IsInOrder, IsLive, IsMarked, KeepsReferences, StagesRise, ends_of_intervals, ends_of_operations, ends_with, keeps, times_kept}
 
 pub rise-below : (j k : ℕ) (ts : List Operation) → j ≤ k → StagesRise k ts → StagesRise j ts
 rise-below j k [] l r = tt

@@ -1,8 +1,8 @@
 -- Numbers as an operation has them, and new references at such numbers.
-use Rattle.std.proofs.Common.{◌≡◌, ◌≢◌, ℕ, ◌≤◌, Bool, true, false, cond, ◌||◌, nat_eq, List, [], ◌∷◌, Option, Some, None, IsSome, option_and_then, option_map, refl, sym, ◌∙◌, ap, subst, arith, true≢false}
+use Rattle.std.proofs.Common.{◌≡◌, ◌≢◌, ℕ, ◌≤◌, Bool, true, false, ◌||◌, List, Option, Some, None, option_and_then, option_map, refl, sym, ◌∙◌, ap, subst, arith, true≢false}
 use Rattle.std.proofs.lemmas.Bool.Decides.{nat_tests}
 use Rattle.std.specs.Option.{option_and}
-use Rattle.ft_base.specs.Scan.{len, one_more_if}
+use Rattle.ft_base.specs.Scan.{one_more_if}
 use Rattle.ft_block.specs.declared.leaves.LenView.TheVariants.{Stage}
 use Rattle.ft_leaves.specs.declared.references.Reference.{Reference}
 use Rattle.ft_leaves.specs.Elements.{TreeElement, seen_in}
@@ -13,7 +13,7 @@ use Rattle.ft_op.specs.declared.operations.TextOp.TheVariants.{IntervalChange}
 use Rattle.ft_props.specs.Keys.{Characters}
 use Rattle.ft_props.specs.Properties.{PropertySet}
 use Rattle.ft_interval.specs.declared.intervals.EndPair.{EndPair}
-use Rattle.ft_interval.specs.Ends.{AreAddedEnds, IsAddedEnd, IsLiveEnd, References, both_ends, holds_end, is_reference, place_of_end, places_of_ends}
+use Rattle.ft_interval.specs.Ends.{AreAddedEnds, IsAddedEnd, References, is_reference, place_of_end}
 use Rattle.ft_interval.specs.Numbers.{AreNumbers, IsNumber, number_or_none}
 use Rattle.ft_interval.specs.Shown.{number_at, numbers_at, regenerated}
 use Rattle.ft_interval.proofs.AppliedEffect.{there}

@@ -1,5 +1,5 @@
 -- The ends of intervals as references of a tree, and the places where these stand.
-use Rattle.std.specs.Prelude.{◌≡◌, ◌≢◌, ℕ, ◌≤◌, Bool, true, false, cond, ◌||◌, nat_eq, List, [], ◌∷◌, ◌++◌, Option, Some, None, All, ⊤, flat_map, map, option_and_then, option_map, ℤ, pos, negsuc}
+use Rattle.std.specs.Prelude.{◌≡◌, ◌≢◌, ℕ, ◌≤◌, Bool, true, false, ◌||◌, nat_eq, List, [], ◌∷◌, Option, Some, None, ⊤, option_and_then, option_map, ℤ, pos, negsuc}
 use Rattle.ft_base.specs.Scan.{len}
 use Rattle.ft_op.specs.declared.operations.Ends.{Ends}
 use Rattle.ft_leaves.specs.declared.references.Reference.{Reference}

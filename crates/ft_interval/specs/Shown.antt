@@ -1,6 +1,6 @@
 -- The intervals as they are shown. Ends are places in the list of elements: at each pending stage in order they are settled
 -- among what that stage sees, and then the stage's operation is applied.
-use Rattle.std.specs.Prelude.{ℕ, zero, suc, ◌+◌, ◌-◌, ◌^◌, min, List, [], ◌∷◌, Option, Some, None, map, option_and_then, option_map, ℤ, pos, negsuc}
+use Rattle.std.specs.Prelude.{ℕ, zero, suc, ◌-◌, min, List, [], ◌∷◌, Option, Some, None, map, option_and_then, option_map, ℤ, pos, negsuc}
 use Rattle.ft_block.specs.declared.leaves.LenView.TheVariants.{Stage}
 use Rattle.ft_op.specs.declared.operations.Ends.{Ends}
 use Rattle.ft_op.specs.declared.operations.TextOp.{TextOp}

@@ -20,7 +20,7 @@ use Rattle.ft_interval.specs.declared.faults.IntervalFault.TheVariants.{IdInUse,
 use Rattle.ft_interval.specs.declared.intervals.EndPair.{EndPair}
 use Rattle.ft_interval.specs.declared.intervals.Interval.{Interval}
 use Rattle.ft_interval.specs.declared.pending.Operation.{Operation}
-use Rattle.ft_interval.specs.Intervals.{Name, after_operation, interval_of, name_in}
+use Rattle.ft_interval.specs.Intervals.{Name, after_operation, interval_of}
 use Rattle.ft_interval.specs.Shown.{shown_intervals}
 use Rattle.ft_interval.specs.Ends.{AreLiveEnds, References, both_ends, no_ends, is_reference, places_of_ends, places_of_given}
 

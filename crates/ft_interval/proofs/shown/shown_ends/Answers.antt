@@ -1,9 +1,9 @@
-use Rattle.std.proofs.Common.{◌≡◌, [], drop, option_map, refl, sym, ◌∙◌, ap, subst, arith}
+use Rattle.std.proofs.Common.{◌≡◌, [], drop, option_map, refl, sym, ◌∙◌, subst, arith}
 use Rattle.std.proofs.Math.ListN.{drop_of_length-le}
 use Rattle.ft_interval.specs.Ends.{places_of_ends}
 use Rattle.ft_interval.specs.Intervals.{Name, interval_of}
 use Rattle.ft_interval.specs.Numbers.{ShowsEnds}
-use Rattle.ft_interval.specs.Shown.{carried_interval, last, settled_interval, shown_one_from}
+use Rattle.ft_interval.specs.Shown.{last, settled_interval, shown_one_from}
 use Rattle.ft_interval.specs.State.{placed_operations, text_elements, with_mapped_ends}
 use Rattle.ft_interval.proofs.ShownOne.{interval_of-shown}
 use Rattle.ft_interval.proofs.ShownSteps.{last-shown, next-le, next-live, next-shows, rest-live, rest-rises, shows-inside}

@@ -8,7 +8,7 @@ use Rattle.ft_op.specs.Document.{ends_of, given_ends_fit}
 use Rattle.ft_interval.specs.declared.pending.Operation.{Operation}
 use Rattle.ft_interval.specs.Ends.{places_of_given}
 use Rattle.ft_interval.specs.State.{CollectionsState, IsAboveAll, IsInOrder, IsLive, KeepsReferences, placed, placed_operations, text_elements, with_operation}
-use Rattle.ft_interval.proofs.KeptEnds.{pushed, pushed-in_order, pushed-places, pushed-references}
+use Rattle.ft_interval.proofs.KeptEnds.{pushed-in_order, pushed-places, pushed-references}
 use Rattle.ft_interval.proofs.collections.Collections.push.Goals as goal
 
 pub invariant_of-self-2 : goal.invariant_of-self-2
