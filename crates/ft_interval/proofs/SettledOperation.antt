@@ -296,10 +296,16 @@ around ts i d l = sym (take-append-drop i ts) ∙ ap (λ us. take i ts ++ us) (d
 pub set-around : (ts : List Operation) (i : ℕ) (t : Operation) → i < length ts → set ts i t ≡ take i ts ++ t ∷ drop (i + 1) ts
 set-around ts i t l = (let next : suc i ≡ i + 1 = omega arith in set_split ts i t l ∙ ap (λ n. take i ts ++ t ∷ drop n ts) next)
 
--- the operation of stage k, which stands at place i, in the state `now`
-module _ (is : List (Interval ℕ)) (ps : List Operation) (i : ℕ) (d : Operation) (k : ℕ) (found : position (is_at_stage k) ps ≡ Some i) (now : CollectionsState)
-    (view : (let x : CollectionsState = record { acked = is; pending = ps } in x ≡ now))
-    (order : (let x : CollectionsState = record { acked = is; pending = ps } in IsInOrder x)) (before : References) (live : IsLive before now) where
+-- the operation of stage k stands at place i of the pending ones; the state with all of them is `now`
+pub record StandsPending (is : List (Interval ℕ)) (ps : List Operation) (i : ℕ) (d : Operation) (k : ℕ) (now : CollectionsState)
+    (before : References) : Type 0 where
+  pub found : position (is_at_stage k) ps ≡ Some i
+  pub view : (let x : CollectionsState = record { acked = is; pending = ps } in x ≡ now)
+  pub order : (let x : CollectionsState = record { acked = is; pending = ps } in IsInOrder x)
+  pub live : IsLive before now
+
+module _ {is : List (Interval ℕ)} {ps : List Operation} {i : ℕ} {d : Operation} {k : ℕ} {now : CollectionsState} {before : References}
+    (s : StandsPending is ps i d k now before) where
   abbrev own : Operation
   own = get_or ps i d
 
@@ -310,19 +316,19 @@ module _ (is : List (Interval ℕ)) (ps : List Operation) (i : ℕ) (d : Operati
   back = drop (i + 1) ps
 
   within : i < length ps
-  within = (place-at k i ps d found).0
+  within = (place-at k i ps d s.found).0
 
   at-stage-k : own.stage ≡ k
-  at-stage-k = (place-at k i ps d found).1
+  at-stage-k = (place-at k i ps d s.found).1
 
   cut-now : was is front own back no_ends no_ends before before ≡ now
-  cut-now = ap (λ (us : List Operation). let x : CollectionsState = record { acked = is; pending = us } in x) (sym (around ps i d within)) ∙ view
+  cut-now = ap (λ (us : List Operation). let x : CollectionsState = record { acked = is; pending = us } in x) (sym (around ps i d within)) ∙ s.view
 
   cut-order : IsInOrder (was is front own back no_ends no_ends before before)
-  cut-order = subst (λ (us : List Operation). let x : CollectionsState = record { acked = is; pending = us } in IsInOrder x) (around ps i d within) order
+  cut-order = subst (λ (us : List Operation). let x : CollectionsState = record { acked = is; pending = us } in IsInOrder x) (around ps i d within) s.order
 
   cut-live : IsLive before (was is front own back no_ends no_ends before before)
-  cut-live = subst (λ x. IsLive before x) (sym cut-now) live
+  cut-live = subst (λ x. IsLive before x) (sym cut-now) s.live
 
   pub settle-within : i < length ps
   settle-within = within

@@ -151,7 +151,8 @@ module _ (is now : List (Interval ℕ)) (t : Operation) (ts : List Operation) (b
   unmark : IsMarked before whole → IsMarked before (record { acked = is; pending = ts })
   unmark m = record {
     acked = m.acked;
-    pending = λ r h. m.pending r (list_any-append (is_reference r) (both_ends t.ends) (ends_of_operations ts) ∙ or_right (list_any (is_reference r) (both_ends t.ends)) (list_any (is_reference r) (ends_of_operations ts)) h);
+    pending = λ r h. m.pending r (list_any-append (is_reference r) (both_ends t.ends) (ends_of_operations ts)
+        ∙ or_right (list_any (is_reference r) (both_ends t.ends)) (list_any (is_reference r) (ends_of_operations ts)) h);
   }
     where
       or_right : (a b : Bool) → b ≡ true → (a || b) ≡ true
@@ -161,7 +162,8 @@ module _ (is now : List (Interval ℕ)) (t : Operation) (ts : List Operation) (b
   pub first-references : IsInOrder whole → IsLive before whole → HandsOn t.ends is now before after → KeepsReferences whole left before after
   first-references o live hands = record {
     live = effect-live t.ends is now ts before after (once_with o) hands
-        (λ r h. live r (kept_any r ∙ behind_any (list_any (is_reference r) (ends_of_intervals is)) (list_any (is_reference r) (both_ends t.ends)) (list_any (is_reference r) (ends_of_operations ts)) h));
+        (λ r h. live r (kept_any r
+        ∙ behind_any (list_any (is_reference r) (ends_of_intervals is)) (list_any (is_reference r) (both_ends t.ends)) (list_any (is_reference r) (ends_of_operations ts)) h));
     marked = λ m. effect-marked t.ends is now ts before after (once_with o) hands (unmark m);
     others = λ r h. gone r h;
   }
@@ -177,7 +179,8 @@ module _ (is now : List (Interval ℕ)) (t : Operation) (ts : List Operation) (b
           let no = neither (list_any (is_reference r) (ends_of_intervals now)) (list_any (is_reference r) (ends_of_operations ts))
           (sym (list_any-append (is_reference r) (ends_of_intervals now) (ends_of_operations ts)) ∙ h) in
           let alike : keeps r whole ≡ list_any (is_reference r) (ends_with t.ends is) =
-          kept_any r ∙ regroup (list_any (is_reference r) (ends_of_intervals is)) (list_any (is_reference r) (both_ends t.ends)) (list_any (is_reference r) (ends_of_operations ts)) no.1
+          kept_any r
+          ∙ regroup (list_any (is_reference r) (ends_of_intervals is)) (list_any (is_reference r) (both_ends t.ends)) (list_any (is_reference r) (ends_of_operations ts)) no.1
           ∙ sym (with_any r) in
           effect-others t.ends is now ts before after hands r h ∙ ap (λ b. cond b None (reference_at before r)) (sym alike)
 

@@ -98,7 +98,8 @@ fn settle_end(tree: &mut Tree<TextContent>, end: Option<RefId>)
     requires usable { IsTrue tree.old.usable }
     requires live { IsLiveEnd tree.old.refs end }
     ensures refs { let xs = text_elements tree.old in
-        (r : ℕ) → reference_at tree.new.refs r ≡ cond (is_reference r end) (option_map (λ x. slid_reference xs (record x { acked = true })) (reference_at tree.old.refs r)) (reference_at tree.old.refs r) }
+        (r : ℕ) → reference_at tree.new.refs r
+        ≡ cond (is_reference r end) (option_map (λ x. slid_reference xs (record x { acked = true })) (reference_at tree.old.refs r)) (reference_at tree.old.refs r) }
     ensures rest { tree.new ≡ record tree.old { refs = tree.new.refs } }
 {
     if let Some(r) = end {
@@ -112,7 +113,8 @@ pub fn settle_ends(tree: &mut Tree<TextContent>, ends: EndPair<RefId>)
     requires live { AreLiveEnds tree.old.refs ends }
     requires once { AreDistinctEnds ends }
     ensures refs { let xs = text_elements tree.old in
-        (r : ℕ) → reference_at tree.new.refs r ≡ cond (holds_end r ends) (option_map (λ x. slid_reference xs (record x { acked = true })) (reference_at tree.old.refs r)) (reference_at tree.old.refs r) }
+        (r : ℕ) → reference_at tree.new.refs r
+        ≡ cond (holds_end r ends) (option_map (λ x. slid_reference xs (record x { acked = true })) (reference_at tree.old.refs r)) (reference_at tree.old.refs r) }
     ensures rest { tree.new ≡ record tree.old { refs = tree.new.refs } }
 {
     settle_end(tree, ends.start);

@@ -8,7 +8,7 @@ use Rattle.ft_interval.specs.Ends.{AreDistinctEnds, AreLiveEnds, holds_end, map_
 use Rattle.ft_interval.specs.Numbers.{AreNumbers}
 use Rattle.ft_interval.specs.Shown.{regenerated, settled_end}
 use Rattle.ft_interval.specs.State.{CollectionsState, IsInOrder, KeepsReferences, is_at_stage, placed, placed_operations, operation_at, text_elements, with_ends_at}
-use Rattle.ft_interval.proofs.SettledOperation.{place-within, settle-distinct, settle-in_order, settle-live, settle-live-mid, settle-operation, settle-own, settle-places, settle-references, settle-within, some-again, whatever}
+use Rattle.ft_interval.proofs.SettledOperation.{StandsPending, place-within, settle-distinct, settle-in_order, settle-live, settle-live-mid, settle-operation, settle-own, settle-places, settle-references, settle-within, some-again, whatever}
 use Rattle.ft_interval.proofs.collections.Collections.settle_op.Goals as goal
 
 pub index-requires : goal.index-requires
@@ -21,65 +21,64 @@ pub settled-numbers-requires-clause-live : goal.settled-numbers-requires-clause-
 settled-numbers-requires-clause-live c =
     let ps = c.self.inside.pending.items in
     let found = ap (λ (us : List Operation). position (is_at_stage c.args.stage) us) (sym c.deref.ensures.value) ∙ sym c.place_of_stage.ensures ∙ c.in-Some.is in
-    subst (λ (t : Operation). AreLiveEnds c.args.tree.now.refs t.ends) (sym c.index.ensures)
-    (settle-live c.self.inside.acked ps c.in-Some.i c.index.result.now c.args.stage found c.args.self.now c.self.view_is c.self.invariant
-    c.args.tree.now.refs c.requires.live)
+    let stands : StandsPending c.self.inside.acked ps c.in-Some.i c.index.result.now c.args.stage c.args.self.now c.args.tree.now.refs =
+    record { found = found; view = c.self.view_is; order = c.self.invariant; live = c.requires.live } in
+    subst (λ (t : Operation). AreLiveEnds c.args.tree.now.refs t.ends) (sym c.index.ensures) (settle-live stands)
 
 pub drop_ends-requires-clause-live : goal.drop_ends-requires-clause-live
 drop_ends-requires-clause-live c =
     let ps = c.self.inside.pending.items in
     let found = ap (λ (us : List Operation). position (is_at_stage c.args.stage) us) (sym c.deref.ensures.value) ∙ sym c.place_of_stage.ensures ∙ c.in-Some.is in
+    let stands : StandsPending c.self.inside.acked ps c.in-Some.i c.index.result.now c.args.stage c.args.self.now c.args.tree.now.refs =
+    record { found = found; view = c.self.view_is; order = c.self.invariant; live = c.requires.live } in
     let before = c.args.tree.now.refs in
-    let mid = c.add_numbers.new.tree.refs in
     let xs = text_elements c.args.tree.now in
     let k = c.args.stage in
     let f = map_ends (settled_end xs k) in
     let own = get_or ps c.in-Some.i c.index.result.now in
     let places = f (places_of_ends before own.ends) in
     let numbers = subst (λ (t : Operation). AreNumbers xs k (f (places_of_ends before t.ends)) c.settled-numbers.result) c.index.ensures c.settled-numbers.ensures in
+    let again = c.in_ok-again.again in
+    let mid = c.add_numbers.new.tree.refs in
     let added = c.in_ok-again.ensures.ends places numbers in
-    subst (λ (t : Operation). AreLiveEnds mid t.ends) (sym (settle-own c.self.inside.acked ps c.in-Some.i c.index.result.now c.args.stage found c.args.self.now c.self.view_is c.self.invariant
-    c.args.tree.now.refs c.requires.live c.index-2.result.now c.index-2.ensures))
-    (settle-live-mid c.self.inside.acked ps c.in-Some.i c.index.result.now c.args.stage found c.args.self.now c.self.view_is c.self.invariant
-    c.args.tree.now.refs c.requires.live places c.in_ok-again.again mid added)
+    subst (λ (t : Operation). AreLiveEnds mid t.ends) (sym (settle-own stands c.index-2.result.now c.index-2.ensures))
+    (settle-live-mid stands places again mid added)
 
 pub drop_ends-requires-clause-once : goal.drop_ends-requires-clause-once
 drop_ends-requires-clause-once c =
     let ps = c.self.inside.pending.items in
     let found = ap (λ (us : List Operation). position (is_at_stage c.args.stage) us) (sym c.deref.ensures.value) ∙ sym c.place_of_stage.ensures ∙ c.in-Some.is in
-    subst (λ (t : Operation). AreDistinctEnds t.ends) (sym (settle-own c.self.inside.acked ps c.in-Some.i c.index.result.now c.args.stage found c.args.self.now c.self.view_is c.self.invariant
-    c.args.tree.now.refs c.requires.live c.index-2.result.now c.index-2.ensures))
-    (settle-distinct c.self.inside.acked ps c.in-Some.i c.index.result.now c.args.stage found c.args.self.now c.self.view_is c.self.invariant
-    c.args.tree.now.refs c.requires.live)
+    let stands : StandsPending c.self.inside.acked ps c.in-Some.i c.index.result.now c.args.stage c.args.self.now c.args.tree.now.refs =
+    record { found = found; view = c.self.view_is; order = c.self.invariant; live = c.requires.live } in
+    subst (λ (t : Operation). AreDistinctEnds t.ends) (sym (settle-own stands c.index-2.result.now c.index-2.ensures)) (settle-distinct stands)
 
 pub invariant_of-self : goal.invariant_of-self
 invariant_of-self c =
     let ps = c.self.inside.pending.items in
     let found = ap (λ (us : List Operation). position (is_at_stage c.args.stage) us) (sym c.deref.ensures.value) ∙ sym c.place_of_stage.ensures ∙ c.in-Some.is in
+    let stands : StandsPending c.self.inside.acked ps c.in-Some.i c.index.result.now c.args.stage c.args.self.now c.args.tree.now.refs =
+    record { found = found; view = c.self.view_is; order = c.self.invariant; live = c.requires.live } in
     let before = c.args.tree.now.refs in
-    let mid = c.add_numbers.new.tree.refs in
     let xs = text_elements c.args.tree.now in
     let k = c.args.stage in
     let f = map_ends (settled_end xs k) in
     let own = get_or ps c.in-Some.i c.index.result.now in
     let places = f (places_of_ends before own.ends) in
     let numbers = subst (λ (t : Operation). AreNumbers xs k (f (places_of_ends before t.ends)) c.settled-numbers.result) c.index.ensures c.settled-numbers.ensures in
+    let again = c.in_ok-again.again in
+    let mid = c.add_numbers.new.tree.refs in
     let added = c.in_ok-again.ensures.ends places numbers in
-    let after = c.drop_ends.new.tree.refs in
-    let dropped = λ (r : ℕ). c.drop_ends.ensures.refs r ∙ ap (λ (t : Operation). cond (holds_end r t.ends) None (reference_at mid r))
-    (settle-own c.self.inside.acked ps c.in-Some.i c.index.result.now c.args.stage found c.args.self.now c.self.view_is c.self.invariant
-    c.args.tree.now.refs c.requires.live c.index-2.result.now c.index-2.ensures) in
-    let was = settle-own c.self.inside.acked ps c.in-Some.i c.index.result.now c.args.stage found c.args.self.now c.self.view_is c.self.invariant
-    c.args.tree.now.refs c.requires.live c.index_mut.result.now c.index_mut.ensures.value in
-    let with = λ (t : Operation). (let x : CollectionsState = record { acked = c.self.inside.acked; pending = set ps c.in-Some.i (record t { ends = c.in_ok-again.again }) } in x) in
-    subst (λ (t : Operation). IsInOrder (with t)) (sym was)
-    (settle-in_order c.self.inside.acked ps c.in-Some.i c.index.result.now c.args.stage found c.args.self.now c.self.view_is c.self.invariant
-    c.args.tree.now.refs c.requires.live places c.in_ok-again.again mid added)
+    let was = settle-own stands c.index_mut.result.now c.index_mut.ensures.value in
+    let with = λ (t : Operation).
+    (let x : CollectionsState = record { acked = c.self.inside.acked; pending = set ps c.in-Some.i (record t { ends = again }) } in x) in
+    subst (λ (t : Operation). IsInOrder (with t)) (sym was) (settle-in_order stands places again mid added)
 
 pub returns-clause-op : goal.returns-clause-op
 returns-clause-op c =
     let ps = c.self.inside.pending.items in
     let found = ap (λ (us : List Operation). position (is_at_stage c.args.stage) us) (sym c.deref.ensures.value) ∙ sym c.place_of_stage.ensures ∙ c.in-Some.is in
+    let stands : StandsPending c.self.inside.acked ps c.in-Some.i c.index.result.now c.args.stage c.args.self.now c.args.tree.now.refs =
+    record { found = found; view = c.self.view_is; order = c.self.invariant; live = c.requires.live } in
     let before = c.args.tree.now.refs in
     let xs = text_elements c.args.tree.now in
     let k = c.args.stage in
@@ -87,67 +86,63 @@ returns-clause-op c =
     let own = get_or ps c.in-Some.i c.index.result.now in
     let places = f (places_of_ends before own.ends) in
     let numbers = subst (λ (t : Operation). AreNumbers xs k (f (places_of_ends before t.ends)) c.settled-numbers.result) c.index.ensures c.settled-numbers.ensures in
-    let was = settle-own c.self.inside.acked ps c.in-Some.i c.index.result.now c.args.stage found c.args.self.now c.self.view_is c.self.invariant
-    c.args.tree.now.refs c.requires.live c.index_mut.result.now c.index_mut.ensures.value in
-    let m = c.index_mut.result.now in
+    let was = settle-own stands c.index_mut.result.now c.index_mut.ensures.value in
+    let written : Operation = record c.index_mut.result.now { ends = c.in_ok-again.again } in
     let kept = c.index-3.result.now in
-    let there = c.index-3.ensures ∙ get_or-set_same ps c.in-Some.i (record m { ends = c.in_ok-again.again }) kept
-    (settle-within c.self.inside.acked ps c.in-Some.i c.index.result.now c.args.stage found c.args.self.now c.self.view_is c.self.invariant
-    c.args.tree.now.refs c.requires.live) in
+    let there = c.index-3.ensures ∙ get_or-set_same ps c.in-Some.i written kept (settle-within stands) in
     let op = ap (λ (t : Operation). t.op) there ∙ ap (λ (t : Operation). t.op) was in
-    some-again c.with_numbers.result (λ (t : Operation). regenerated xs k (f t.ends) t.op)
-    (operation_at k (placed_operations before c.args.self.now.pending)) (record kept { ends = places_of_ends before own.ends })
-    (record own { ends = places_of_ends before own.ends })
-    (settle-operation c.self.inside.acked ps c.in-Some.i c.index.result.now c.args.stage found c.args.self.now c.self.view_is c.self.invariant
-    c.args.tree.now.refs c.requires.live)
-    (ap (λ (o : TextOp). regenerated xs k places o) op) (c.with_numbers.ensures xs k places numbers)
+    let own_places = places_of_ends before own.ends in
+    some-again c.with_numbers.result (λ (t : Operation). regenerated xs k (f t.ends) t.op) (operation_at k (placed_operations before c.args.self.now.pending))
+    (record kept { ends = own_places }) (record own { ends = own_places }) (settle-operation stands) (ap (λ (o : TextOp). regenerated xs k places o) op)
+    (c.with_numbers.ensures xs k places numbers)
 
 pub returns-clause-settled : goal.returns-clause-settled
 returns-clause-settled c =
     let ps = c.self.inside.pending.items in
     let found = ap (λ (us : List Operation). position (is_at_stage c.args.stage) us) (sym c.deref.ensures.value) ∙ sym c.place_of_stage.ensures ∙ c.in-Some.is in
+    let stands : StandsPending c.self.inside.acked ps c.in-Some.i c.index.result.now c.args.stage c.args.self.now c.args.tree.now.refs =
+    record { found = found; view = c.self.view_is; order = c.self.invariant; live = c.requires.live } in
     let before = c.args.tree.now.refs in
-    let mid = c.add_numbers.new.tree.refs in
     let xs = text_elements c.args.tree.now in
     let k = c.args.stage in
     let f = map_ends (settled_end xs k) in
     let own = get_or ps c.in-Some.i c.index.result.now in
     let places = f (places_of_ends before own.ends) in
     let numbers = subst (λ (t : Operation). AreNumbers xs k (f (places_of_ends before t.ends)) c.settled-numbers.result) c.index.ensures c.settled-numbers.ensures in
+    let again = c.in_ok-again.again in
+    let mid = c.add_numbers.new.tree.refs in
     let added = c.in_ok-again.ensures.ends places numbers in
     let after = c.drop_ends.new.tree.refs in
-    let dropped = λ (r : ℕ). c.drop_ends.ensures.refs r ∙ ap (λ (t : Operation). cond (holds_end r t.ends) None (reference_at mid r))
-    (settle-own c.self.inside.acked ps c.in-Some.i c.index.result.now c.args.stage found c.args.self.now c.self.view_is c.self.invariant
-    c.args.tree.now.refs c.requires.live c.index-2.result.now c.index-2.ensures) in
-    let was = settle-own c.self.inside.acked ps c.in-Some.i c.index.result.now c.args.stage found c.args.self.now c.self.view_is c.self.invariant
-    c.args.tree.now.refs c.requires.live c.index_mut.result.now c.index_mut.ensures.value in
-    let with = λ (t : Operation). (let x : CollectionsState = record { acked = c.self.inside.acked; pending = set ps c.in-Some.i (record t { ends = c.in_ok-again.again }) } in x) in
+    let dropped = λ (r : ℕ). c.drop_ends.ensures.refs r
+    ∙ ap (λ (t : Operation). cond (holds_end r t.ends) None (reference_at mid r)) (settle-own stands c.index-2.result.now c.index-2.ensures) in
+    let was = settle-own stands c.index_mut.result.now c.index_mut.ensures.value in
+    let with = λ (t : Operation).
+    (let x : CollectionsState = record { acked = c.self.inside.acked; pending = set ps c.in-Some.i (record t { ends = again }) } in x) in
     whatever c.with_numbers.result (placed after (with c.index_mut.result.now) ≡ with_ends_at k f (placed before c.args.self.now))
-    (ap (λ (t : Operation). placed after (with t)) was
-    ∙ settle-places c.self.inside.acked ps c.in-Some.i c.index.result.now c.args.stage found c.args.self.now c.self.view_is c.self.invariant
-    c.args.tree.now.refs c.requires.live places c.in_ok-again.again mid added after dropped f refl)
+    (ap (λ (t : Operation). placed after (with t)) was ∙ settle-places stands places again mid added after dropped f refl)
 
 pub returns-clause-refs : goal.returns-clause-refs
 returns-clause-refs c =
     let ps = c.self.inside.pending.items in
     let found = ap (λ (us : List Operation). position (is_at_stage c.args.stage) us) (sym c.deref.ensures.value) ∙ sym c.place_of_stage.ensures ∙ c.in-Some.is in
+    let stands : StandsPending c.self.inside.acked ps c.in-Some.i c.index.result.now c.args.stage c.args.self.now c.args.tree.now.refs =
+    record { found = found; view = c.self.view_is; order = c.self.invariant; live = c.requires.live } in
     let before = c.args.tree.now.refs in
-    let mid = c.add_numbers.new.tree.refs in
     let xs = text_elements c.args.tree.now in
     let k = c.args.stage in
     let f = map_ends (settled_end xs k) in
     let own = get_or ps c.in-Some.i c.index.result.now in
     let places = f (places_of_ends before own.ends) in
     let numbers = subst (λ (t : Operation). AreNumbers xs k (f (places_of_ends before t.ends)) c.settled-numbers.result) c.index.ensures c.settled-numbers.ensures in
+    let again = c.in_ok-again.again in
+    let mid = c.add_numbers.new.tree.refs in
     let added = c.in_ok-again.ensures.ends places numbers in
     let after = c.drop_ends.new.tree.refs in
-    let dropped = λ (r : ℕ). c.drop_ends.ensures.refs r ∙ ap (λ (t : Operation). cond (holds_end r t.ends) None (reference_at mid r))
-    (settle-own c.self.inside.acked ps c.in-Some.i c.index.result.now c.args.stage found c.args.self.now c.self.view_is c.self.invariant
-    c.args.tree.now.refs c.requires.live c.index-2.result.now c.index-2.ensures) in
-    let was = settle-own c.self.inside.acked ps c.in-Some.i c.index.result.now c.args.stage found c.args.self.now c.self.view_is c.self.invariant
-    c.args.tree.now.refs c.requires.live c.index_mut.result.now c.index_mut.ensures.value in
-    let with = λ (t : Operation). (let x : CollectionsState = record { acked = c.self.inside.acked; pending = set ps c.in-Some.i (record t { ends = c.in_ok-again.again }) } in x) in
+    let dropped = λ (r : ℕ). c.drop_ends.ensures.refs r
+    ∙ ap (λ (t : Operation). cond (holds_end r t.ends) None (reference_at mid r)) (settle-own stands c.index-2.result.now c.index-2.ensures) in
+    let was = settle-own stands c.index_mut.result.now c.index_mut.ensures.value in
+    let with = λ (t : Operation).
+    (let x : CollectionsState = record { acked = c.self.inside.acked; pending = set ps c.in-Some.i (record t { ends = again }) } in x) in
     whatever c.with_numbers.result (KeepsReferences c.args.self.now (with c.index_mut.result.now) before after)
     (subst (λ (t : Operation). KeepsReferences c.args.self.now (with t) before after) (sym was)
-    (settle-references c.self.inside.acked ps c.in-Some.i c.index.result.now c.args.stage found c.args.self.now c.self.view_is c.self.invariant
-    c.args.tree.now.refs c.requires.live places c.in_ok-again.again mid added after dropped))
+    (settle-references stands places again mid added after dropped))
