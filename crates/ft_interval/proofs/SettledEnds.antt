@@ -1,0 +1,121 @@
+-- Ends that are settled at a stage: they stand on an element that it sees, and stay there.
+use Rattle.std.proofs.Common.{◌≡◌, ℕ, zero, suc, ◌+◌, ◌<◌, Bool, true, false, cond, nat_eq, List, [], ◌∷◌, take, Option, Some, None, is_some, option_map, option_and_then, refl, sym, ◌∙◌, ap, arith}
+use Rattle.std.specs.Option.{option_or}
+use Rattle.std.proofs.lemmas.Bool.Decides.{nat_tests}
+use Rattle.ft_base.specs.Scan.{len, one_more_if}
+use Rattle.ft_block.specs.declared.leaves.LenView.TheVariants.{Stage}
+use Rattle.ft_leaves.specs.Elements.{TreeElement, seen_in}
+use Rattle.ft_leaves.specs.Places.{seen_before, settled_number, settled_place}
+use Rattle.ft_leaves.specs.Settling.{first_from, settled_from}
+use Rattle.ft_leaves.proofs.Settling.{settled_place-from}
+use Rattle.ft_interval.specs.Numbers.{IsInside, IsNumber, ShowsEnds}
+use Rattle.ft_interval.specs.declared.intervals.EndPair.{EndPair}
+use Rattle.ft_interval.specs.declared.intervals.Interval.{Interval}
+use Rattle.ft_interval.specs.Shown.{settled_end}
+
+module _ {A : Type 0} (ok : A → Bool) where
+  -- whether an element that is ok stands at place i
+  abbrev pub is_ok_at : ℕ → List A → Bool
+  is_ok_at i [] = false
+  is_ok_at zero (x ∷ xs) = ok x
+  is_ok_at (suc i) (x ∷ xs) = is_ok_at i xs
+
+  -- one that is ok stays
+  stays_from : (j n : ℕ) (prev : Option ℕ) (xs : List A) → is_ok_at j xs ≡ true → settled_from ok (n + j) prev n xs ≡ Some (n + j)
+  stays_from j n prev [] h = absurd cc
+  stays_from zero n prev (x ∷ xs) h = grind (arith, nat_tests)
+  stays_from (suc j) n prev (x ∷ xs) h =
+      let here : nat_eq n (n + suc j) ≡ false = grind (arith, nat_tests) in
+      let next : (n + 1) + j ≡ n + suc j = omega arith in
+      let last : Option ℕ = cond (ok x) (Some n) prev in
+      ap (λ b. cond b (option_or (first_from ok n (x ∷ xs)) prev) (settled_from ok (n + suc j) last (n + 1) xs)) here
+      ∙ ap (λ i. settled_from ok i last (n + 1) xs) (sym next) ∙ stays_from j (n + 1) last xs h ∙ ap (λ i. Some i) next
+
+  pub settled-stays : (i : ℕ) (xs : List A) → is_ok_at i xs ≡ true → settled_place ok xs i ≡ Some i
+  settled-stays i xs h =
+      let e : 0 + i ≡ i = omega arith in
+      settled_place-from ok i xs ∙ ap (λ a. settled_from ok a None 0 xs) (sym e) ∙ stays_from i 0 None xs h ∙ ap (λ a. Some a) e
+
+  first-ok : (zs : List A) (n j : ℕ) (xs : List A) → ((m : ℕ) → is_ok_at m xs ≡ is_ok_at (n + m) zs) → first_from ok n xs ≡ Some j → is_ok_at j zs ≡ true
+  first-ok zs n j [] same h = absurd cc
+  first-ok zs n j (x ∷ xs) same h =
+      step (ok x) refl h (λ k. first-ok zs (n + 1) j xs (λ m. (let next : n + suc m ≡ (n + 1) + m = omega arith in same (suc m) ∙ ap (λ i. is_ok_at i zs) next)) k)
+    where
+      step : (b : Bool) → ok x ≡ b → cond b (Some n) (first_from ok (n + 1) xs) ≡ Some j → (first_from ok (n + 1) xs ≡ Some j → is_ok_at j zs ≡ true)
+          → is_ok_at j zs ≡ true
+      step true e k f =
+          let here : n ≡ j = cc in
+          let at : n + 0 ≡ j = omega (arith, here) in
+          sym (ap (λ i. is_ok_at i zs) at) ∙ sym (same 0) ∙ e
+      step false e k f = f k
+
+  -- where an end settles, an element is ok
+  ok_from : (zs : List A) (i n : ℕ) (prev : Option ℕ) (xs : List A) → ((p : ℕ) → prev ≡ Some p → is_ok_at p zs ≡ true)
+      → ((m : ℕ) → is_ok_at m xs ≡ is_ok_at (n + m) zs) → (j : ℕ) → settled_from ok i prev n xs ≡ Some j → is_ok_at j zs ≡ true
+  ok_from zs i n prev [] before same j h = absurd cc
+  ok_from zs i n prev (x ∷ xs) before same j h =
+      step (nat_eq n i) h
+      (λ k. ok_from zs i (n + 1) (cond (ok x) (Some n) prev) xs (λ p e. last (ok x) refl p e)
+      (λ m. (let next : n + suc m ≡ (n + 1) + m = omega arith in same (suc m) ∙ ap (λ a. is_ok_at a zs) next)) j k)
+    where
+      last : (b : Bool) → ok x ≡ b → (p : ℕ) → cond b (Some n) prev ≡ Some p → is_ok_at p zs ≡ true
+      last true e p k =
+          let here : n ≡ p = cc in
+          let at : n + 0 ≡ p = omega (arith, here) in
+          sym (ap (λ a. is_ok_at a zs) at) ∙ sym (same 0) ∙ e
+      last false e p k = before p k
+
+      either : (o : Option ℕ) → first_from ok n (x ∷ xs) ≡ o → option_or o prev ≡ Some j → is_ok_at j zs ≡ true
+      either None e k = before j k
+      either (Some q) e k = first-ok zs n j (x ∷ xs) same (e ∙ k)
+
+      step : (b : Bool) → cond b (option_or (first_from ok n (x ∷ xs)) prev) (settled_from ok i (cond (ok x) (Some n) prev) (n + 1) xs) ≡ Some j
+          → (settled_from ok i (cond (ok x) (Some n) prev) (n + 1) xs ≡ Some j → is_ok_at j zs ≡ true) → is_ok_at j zs ≡ true
+      step true k f = either (first_from ok n (x ∷ xs)) refl k
+      step false k f = f k
+
+  pub settled-ok : (i j : ℕ) (xs : List A) → settled_place ok xs i ≡ Some j → is_ok_at j xs ≡ true
+  settled-ok i j xs h = ok_from xs i 0 None xs (λ p e. absurd cc) (λ m. (let e : m ≡ 0 + m = omega arith in ap (λ a. is_ok_at a xs) e)) j (sym (settled_place-from ok i xs) ∙ h)
+
+  -- fewer are ok before it than in all
+  pub before-inside : (i : ℕ) (xs : List A) → is_ok_at i xs ≡ true → seen_before ok xs i < len ok xs
+  before-inside i [] h = absurd cc
+  before-inside zero (x ∷ xs) h = grind arith
+  before-inside (suc i) (x ∷ xs) h = step (ok x) (before-inside i xs h)
+    where
+      step : (b : Bool) → len ok (take i xs) < len ok xs → one_more_if b (len ok (take i xs)) < one_more_if b (len ok xs)
+      step true l = omega arith
+      step false l = l
+
+module _ {U : Type 0} (xs : List (TreeElement U)) (k : ℕ) where
+  inside_by : (number : Option ℕ) (p : ℕ) → number ≡ Some p → p < len (seen_in (Stage k)) xs → IsInside xs k number
+  inside_by None p e l = absurd cc
+  inside_by (Some q) p e l = let same : q ≡ p = cc in omega (arith, same)
+
+  none_by : (number : Option ℕ) → number ≡ None → IsInside xs k number
+  none_by None e = tt
+  none_by (Some p) e = absurd cc
+
+  by_place : (o result : Option ℕ) (i : ℕ) → settled_place (seen_in (Stage k)) xs i ≡ o → result ≡ option_map (seen_before (seen_in (Stage k)) xs) o
+      → IsNumber xs k o result
+  by_place None result i e h = record { seen = refl; is = h; inside = none_by result h }
+  by_place (Some j) result i e h =
+      let there = settled-ok (seen_in (Stage k)) i j xs e in
+      record {
+        seen = settled-stays (seen_in (Stage k)) j xs there;
+        is = h;
+        inside = inside_by result (seen_before (seen_in (Stage k)) xs j) h (before-inside (seen_in (Stage k)) j xs there);
+      }
+
+-- the end of a reference, settled at a stage, with its number there
+pub settled-number : {U : Type 0} (xs : List (TreeElement U)) (k : ℕ) (end result : Option ℕ)
+    → result ≡ option_and_then (settled_number (seen_in (Stage k)) xs) end → IsNumber xs k (settled_end xs k end) result
+settled-number xs k None result h = record { seen = refl; is = h; inside = none_by xs k result h }
+settled-number xs k (Some i) result h = by_place xs k (settled_place (seen_in (Stage k)) xs i) result i refl h
+
+-- the ends of an interval are shown just where it is there
+pub shows-some : {U : Type 0} (xs : List (TreeElement U)) (k : ℕ) (i : Option (Interval ℕ)) (e : Option (EndPair ℕ)) → ShowsEnds xs k i e → is_some e ≡ is_some i
+shows-some xs k None None h = refl
+shows-some xs k None (Some e) h = absurd h
+shows-some xs k (Some i) None h = absurd h
+shows-some xs k (Some i) (Some e) h = refl

@@ -1,0 +1,5 @@
+pub mod Intervals
+pub mod Ends
+pub mod Shown
+pub mod State
+pub mod Numbers

@@ -1,0 +1,27 @@
+//! Why a local edit of an interval is refused.
+
+use ft_base::OutOfMemory;
+
+/// Why a local edit of an interval is refused.
+#[derive(Clone, Copy, Debug, PartialEq, Eq)]
+pub enum IntervalFault {
+    /// The label has the id already.
+    IdInUse,
+    /// The label doesn't have the id.
+    NoSuchInterval,
+    /// An end isn't below the length seen, and they don't both stand for a detached interval.
+    OutOfRange { length: u64 },
+    /// There is no memory.
+    OutOfMemory,
+}
+
+impl From<OutOfMemory> for IntervalFault {
+    ghost use Rattle.std.specs.Prelude.{◌≡◌};
+    ghost use Rattle.ft_interval.specs.declared.faults.IntervalFault.TheVariants.{OutOfMemory as WantOfMemory};
+
+    ghost from_gives = { λ _ fault. fault ≡ WantOfMemory };
+
+    fn from(_error: OutOfMemory) -> IntervalFault {
+        IntervalFault::OutOfMemory
+    }
+}

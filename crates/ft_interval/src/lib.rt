@@ -1,0 +1,16 @@
+//! Interval collections over the text of a tree: intervals by label and id, whose ends stay with their elements.
+//!
+//! A call that can't answer `OutOfMemory` takes no memory.
+#![tactic(auto)]
+
+mod all;
+pub mod collections;
+mod effects;
+mod ends;
+pub mod faults;
+mod intervals;
+mod pending;
+mod shown;
+
+pub use collections::Collections;
+pub use faults::IntervalFault;

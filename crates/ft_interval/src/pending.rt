@@ -1,0 +1,69 @@
+//! Pending operations on intervals.
+
+ghost use Rattle.std.specs.Prelude.{◌≡◌, ◌++◌, [], ◌∷◌, OnOk, OnErr, position};
+ghost use Rattle.ft_op.specs.Document.{ends_of};
+ghost use Rattle.ft_interval.specs.Intervals.{is_on};
+ghost use Rattle.ft_interval.specs.State.{is_at_stage};
+
+use crate::intervals::{EndPair, is_same_name};
+use ft_base::{OutOfMemory, Text};
+use ft_op::{Ends, TextOp};
+use ft_refs::RefId;
+
+/// A pending operation on an interval: its stage, the operation as it was made, and references on the elements at its
+/// ends.
+#[derive(Drop)]
+pub struct Operation {
+    pub stage: u64,
+    pub op: TextOp,
+    pub ends: EndPair<RefId>,
+}
+
+/// Adds an operation behind all others.
+///
+/// Answers `OutOfMemory` where there is no room for it, and then nothing changed.
+pub fn push(pending: &mut Vec<Operation>, operation: Operation) -> Result<(), OutOfMemory>
+    ensures ok { OnOk result (pending.new.items ≡ pending.old.items ++ operation ∷ []) }
+    ensures err { OnErr result (pending.new.items ≡ pending.old.items) }
+{
+    pending.push(operation)?;
+    Ok(())
+}
+
+/// The place of the operation of that stage, if it is pending.
+pub fn place_of_stage(pending: &[Operation], stage: u64) -> Option<usize>
+    ensures { result ≡ position (is_at_stage stage) pending.now }
+{
+    pending.iter().position(|t| t.stage == stage)
+}
+
+/// The ends that an operation gives, if it gives some.
+pub fn given_ends(op: &TextOp) -> Option<Ends>
+    ensures { result ≡ ends_of op.now }
+{
+    match op {
+        TextOp::IntervalAdd { ends, .. } => Some(*ends),
+        TextOp::IntervalChange { ends, .. } => *ends,
+        TextOp::IntervalDelete { .. } | TextOp::One(_) | TextOp::Group(_) => None,
+    }
+}
+
+/// Whether the operation is on the interval of that label and id.
+pub fn is_on(label: &Text, id: &Text, op: &TextOp) -> bool
+    ensures { result ≡ is_on (label.now, id.now) op.now }
+{
+    match op {
+        TextOp::IntervalAdd {
+            label: to,
+            id: of,
+            ..
+        } => is_same_name(label, id, to, of),
+        TextOp::IntervalChange {
+            label: to,
+            id: of,
+            ..
+        } => is_same_name(label, id, to, of),
+        TextOp::IntervalDelete { label: to, id: of } => is_same_name(label, id, to, of),
+        TextOp::One(_) | TextOp::Group(_) => false,
+    }
+}
