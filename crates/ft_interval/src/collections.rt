@@ -1,6 +1,6 @@
 //! Collections of intervals.
 
-ghost use Rattle.std.specs.Prelude.{◌≡◌, ◌≤◌, [], Some, IsSome, not, is_some, IsTrue, IfOk, IfErr, OnOk, true, false, map, option_map};
+ghost use Rattle.std.specs.Prelude.{◌≡◌, ◌≤◌, [], Some, IsSome, not, IsTrue, IfOk, IfErr, OnOk, true, false, map, option_map};
 ghost use Rattle.ft_base.specs.Scan.{len};
 ghost use Rattle.ft_block.specs.declared.leaves.LenView.TheVariants.{At, Stage};
 ghost use Rattle.ft_leaves.specs.Elements.{seen_in};
@@ -8,7 +8,7 @@ ghost use Rattle.ft_op.specs.Document.{ends_of, given_ends_fit};
 ghost use Rattle.ft_interval.specs.Ends.{map_ends, places_of_given, slid_end};
 ghost use Rattle.ft_interval.specs.Intervals.{interval_of, name_in};
 ghost use Rattle.ft_interval.specs.Shown.{last, numbers_at, regenerated, settled_end, shown_intervals, shown_record};
-ghost use Rattle.ft_interval.specs.State.{IsAboveAll, IsFirst, IsLive, IsAsBefore, IsOutOfRange, IsRefusedEdit, KeepsReferences, Pushes, is_add, is_change, is_delete, is_interval_operation, is_shown, operation_at, placed, text_elements, with_effect, with_ends_at, with_first_acked, with_operation};
+ghost use Rattle.ft_interval.specs.State.{IsAboveAll, IsFirst, IsLive, IsAsBefore, IsOutOfRange, IsRefusedEdit, KeepsReferences, Pushes, is_add, is_change, is_delete, is_interval_operation, is_shown, operation_at, placed, text_elements, with_effect, with_ends_at, with_first_acked};
 
 use crate::all::all_shown;
 use crate::effects::take_effect;
