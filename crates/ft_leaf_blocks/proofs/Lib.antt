@@ -7,3 +7,4 @@ pub mod Acknowledged
 pub mod PlacedLeaves
 pub mod MovedLeaves
 pub mod JoinedPairs
+mod TouchedLists

@@ -8,8 +8,14 @@ pub mod acks;
 pub mod cuts;
 pub mod edits;
 pub mod joins;
+pub mod leaf_blocks;
 pub mod places;
 pub mod ranges;
 pub mod references;
 pub mod scans;
+mod stage_nodes;
 pub mod stamp_lists;
+mod touched;
+mod tracked;
+
+pub use leaf_blocks::LeafBlocks;
