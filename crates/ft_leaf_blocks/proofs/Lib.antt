@@ -8,3 +8,7 @@ pub mod PlacedLeaves
 pub mod MovedLeaves
 pub mod JoinedPairs
 mod TouchedLists
+mod StepValues
+mod TrackedSteps
+mod AckedNodes
+mod LeastRemovals

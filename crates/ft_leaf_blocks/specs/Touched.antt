@@ -1,5 +1,5 @@
 -- Which leaves each pending stage touched: lists of nodes by rising stage. They may list a leaf that has nothing of the stage.
-use Rattle.std.specs.Prelude.{◌≡◌, ℕ, ◌<◌, Bool, true, false, cond, not, ◌&&◌, ◌||◌, nat_eq, nat_lt, List, [], ◌∷◌, ◌++◌, Option, Some, None, IsSome, filter, ⊤, ◌⊎◌}
+use Rattle.std.specs.Prelude.{◌≡◌, ℕ, ◌<◌, Bool, true, false, cond, not, ◌&&◌, ◌||◌, nat_eq, nat_lt, List, [], ◌∷◌, ◌++◌, Option, Some, None, IsSome, filter, map, ⊤, ◌⊎◌}
 use Rattle.std.specs.List.{AllByRecursion, list_any, prefix_len}
 use Rattle.ft_base.specs.declared.elements.Element.{Element}
 use Rattle.ft_base.specs.Visibility.{is_of_stage}
@@ -44,6 +44,11 @@ with_heir front rear s = cond (holds s.nodes front) (record s { nodes = s.nodes 
 -- without the node
 abbrev pub purged : ℕ → NodesOfStage → NodesOfStage
 purged id s = record s { nodes = filter (λ n. not (nat_eq n id)) s.nodes }
+
+-- the lists without the node, if one is given
+abbrev pub purged_at : Option ℕ → List NodesOfStage → List NodesOfStage
+purged_at None ss = ss
+purged_at (Some id) ss = map (purged id) ss
 
 -- this node alone is listed for more stages than before
 pub record Notes (id : ℕ) (old new : List NodesOfStage) : Type 0 where

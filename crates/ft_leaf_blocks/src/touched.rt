@@ -142,6 +142,17 @@ pub(crate) fn note_stamps(
 ///
 /// Answers `OutOfMemory` where there is no room for it.
 pub(crate) fn note_heir(
+    touched: &mut Vec<StageNodes>,
+    front: NodeId,
+    rear: NodeId,
+) -> Result<(), OutOfMemory>
+    ensures { OnOk result (touched.new.items ≡ map (with_heir front rear) touched.old.items) }
+{
+    add_heirs(touched.as_mut_slice(), front, rear)
+}
+
+/// The same in a slice.
+fn add_heirs(
     touched: &mut [StageNodes],
     front: NodeId,
     rear: NodeId,
@@ -155,7 +166,14 @@ pub(crate) fn note_heir(
 }
 
 /// Takes a node off all lists.
-pub(crate) fn purge(touched: &mut [StageNodes], id: NodeId)
+pub(crate) fn purge(touched: &mut Vec<StageNodes>, id: NodeId)
+    ensures { touched.new.items ≡ map (purged id) touched.old.items }
+{
+    purge_each(touched.as_mut_slice(), id);
+}
+
+/// The same in a slice.
+fn purge_each(touched: &mut [StageNodes], id: NodeId)
     ensures { touched.new ≡ map (purged id) touched.old }
 {
     for list in touched.iter_mut() {

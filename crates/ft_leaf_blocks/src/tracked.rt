@@ -1,9 +1,11 @@
 //! Steps on leaves in blocks that keep the lists of what each pending stage touched right.
 
-ghost use Rattle.std.specs.Prelude.{[], ◌≡◌, ◌≢◌, ◌+◌, ◌<◌, ◌^◌, ℕ, ◌≤◌, IfOk, IsSomeAnd, IsTrue, OnOk, Some, false, length, true};
+ghost use Rattle.std.specs.Prelude.{[], ◌≡◌, ◌≢◌, ◌+◌, ◌<◌, ◌^◌, ℕ, ◌≤◌, IfOk, IsSomeAnd, IsTrue, OnOk, Some, false, length, not, true};
+ghost use Rattle.std.specs.List.{list_any};
+ghost use Rattle.ft_base.specs.Visibility.{is_acked};
 ghost use Rattle.ft_block.specs.Leaves.{IsLeafIn, IsPlaceIn, change_leaf, join_leaf, length_by, move_leaf, put_leaf, split_leaf, times_leaf, value_after, value_at, without_leaf};
 ghost use Rattle.ft_leaves.specs.BlockChanges.{MayChange, changed_leaf};
-ghost use Rattle.ft_leaf_blocks.specs.Touched.{AreRising, Notes, Tracks, added_stage, is_listed, is_touched_by};
+ghost use Rattle.ft_leaf_blocks.specs.Touched.{AreRising, Notes, Tracks, added_stage, is_listed, is_touched_by, purged_at};
 
 use crate::joins::universal;
 use crate::stage_nodes::StageNodes;
@@ -58,9 +60,30 @@ fn is_any_pending(stamps: &[Stamp]) -> bool
 fn has_pending<C: Content>(leaf: &TreeLeaf<C>) -> bool
     ensures { result ≡ false → (k : ℕ) → is_touched_by k leaf.now ≡ false }
 {
-    leaf.is_pending()
-        || is_any_pending(leaf.stamps.dels.as_slice())
-        || leaf.overlay.has_pending()
+    if leaf.is_pending() || is_any_pending(leaf.stamps.dels.as_slice()) {
+        return true;
+    }
+    leaf.overlay.has_pending()
+}
+
+/// Lists the rear of a leaf that was cut for each stage for which its front is listed, if anything is pending
+/// on it.
+///
+/// Answers `OutOfMemory` where there is no room for it.
+fn note_rear<C: Content>(
+    touched: &mut Vec<StageNodes>,
+    leaf: &TreeLeaf<C>,
+    front: NodeId,
+    rear: NodeId,
+) -> Result<(), OutOfMemory>
+    requires { AreRising touched.old.items }
+    ensures notes { OnOk result (Notes rear touched.old.items touched.new.items) }
+    ensures listed { OnOk result ((k : ℕ) → is_touched_by k leaf.now ≡ true → is_listed touched.old.items k front ≡ true → is_listed touched.new.items k rear ≡ true) }
+{
+    if !has_pending(leaf) {
+        return Ok(());
+    }
+    note_heir(touched, front, rear)
 }
 
 /// Cuts a leaf in two, as `Blocks::split` does.
@@ -84,9 +107,7 @@ pub(crate) fn split_in<C: Content>(
 {
     let _first = blocks.first();
     let rear = blocks.split(leaf, at)?;
-    if has_pending(blocks.leaf(rear)) {
-        note_heir(touched.as_mut_slice(), leaf, rear)?;
-    }
+    note_rear(touched, blocks.leaf(rear), leaf, rear)?;
     Ok(rear)
 }
 
@@ -170,8 +191,18 @@ pub(crate) fn take_in<C: Content>(
     ensures usable { OnOk result (blocks.new.usable ≡ true) }
     ensures floor { blocks.new.floor ≡ blocks.old.floor }
 {
-    purge(touched.as_mut_slice(), id);
+    purge(touched, id);
     blocks.take(id)
+}
+
+/// Takes a node off all lists, if one is given.
+fn purge_given(touched: &mut Vec<StageNodes>, id: Option<NodeId>)
+    ensures { touched.new.items ≡ purged_at id touched.old.items }
+{
+    match id {
+        Some(id) => purge(touched, id),
+        None => {}
+    }
 }
 
 /// Joins the next leaf to a leaf, as `Blocks::join_next` does.
@@ -191,9 +222,7 @@ pub(crate) fn join_in<C: Content + Drop>(
     ensures floor { blocks.new.floor ≡ blocks.old.floor }
 {
     let _first = blocks.first();
-    if let Some(next) = blocks.next(id) {
-        purge(touched.as_mut_slice(), next);
-    }
+    purge_given(touched, blocks.next(id));
     blocks.join_next(id)
 }
 

@@ -1,6 +1,6 @@
 use Rattle.std.proofs.Common.{◌≡◌, ◌++◌, drop, map, take}
 use Rattle.ft_leaf_blocks.specs.Touched.{purged}
-use Rattle.ft_leaf_blocks.proofs.touched.purge.Given as goal
+use Rattle.ft_leaf_blocks.proofs.touched.purge_each.Given as goal
 
 -- the lists so far lack the node; the rest is as it was, and completes the whole once it lacks it
 abbrev pub invariant-loop-list : goal.invariant-loop-list

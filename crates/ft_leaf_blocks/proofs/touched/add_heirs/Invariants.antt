@@ -1,6 +1,6 @@
 use Rattle.std.proofs.Common.{◌≡◌, ◌++◌, drop, map, take}
 use Rattle.ft_leaf_blocks.specs.Touched.{with_heir}
-use Rattle.ft_leaf_blocks.proofs.touched.note_heir.Given as goal
+use Rattle.ft_leaf_blocks.proofs.touched.add_heirs.Given as goal
 
 -- the lists so far have the heir; the rest is as it was, and completes the whole once it has it
 abbrev pub invariant-loop-list : goal.invariant-loop-list
