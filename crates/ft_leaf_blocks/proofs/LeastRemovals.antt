@@ -1,5 +1,5 @@
 -- The least stage above a number that has a removal mark on a leaf: bounds on it, and what reaches them.
-use Rattle.std.proofs.Common.{◌≡◌, ◌≢◌, ℕ, ◌<◌, ◌≤◌, All, Bool, true, false, cond, ◌||◌, ◌&&◌, List, [], ◌∷◌, ◌++◌, ◌⊎◌, inl, inr, flat_map, length, Option, Some, None, refl, subst, sym, ◌∙◌, ap, arith, nat_eq, nat_lt, nat_le}
+use Rattle.std.proofs.Common.{◌≡◌, ◌≢◌, ℕ, zero, suc, ◌<◌, ◌≤◌, All, Bool, true, false, cond, ◌||◌, ◌&&◌, List, [], ◌∷◌, ◌++◌, inl, inr, drop, get_or, length, Option, Some, None, refl, subst, sym, ◌∙◌, ap, arith, nat_eq, nat_lt, nat_le}
 use Rattle.std.specs.Prelude.{⊤}
 use Rattle.std.specs.List.{AllByRecursion, filter_map, list_any}
 use Rattle.std.proofs.lemmas.Bool.{cases_eq, eq-eqb, ne_eqb}
@@ -11,7 +11,7 @@ use Rattle.ft_base.specs.Visibility.{is_of_stage}
 use Rattle.ft_block.specs.Leaves.{times_leaf, value_at}
 use Rattle.ft_leaves.specs.declared.leaves.TreeLeaf.{TreeLeaf}
 use Rattle.ft_leaves.specs.Edits.{least_above, least_of, lesser, next_removal_above, stage_of}
-use Rattle.ft_leaves.specs.LeafLists.{elements, leaf_elements}
+use Rattle.ft_leaves.specs.LeafLists.{elements}
 use Rattle.ft_leaves.proofs.LeastStages.{leaf_more}
 use Rattle.ft_leaf_blocks.specs.Touched.{NodesOfStage, holds, is_listed, is_removed_at, is_removed_by}
 use Rattle.ft_leaf_blocks.proofs.AckedNodes.{of_first, of_rest}
@@ -80,15 +80,15 @@ stamps_reach m k (Local j ∷ ts) lt low t =
     ]
 
 -- of the elements of all leaves
-module _ {C U : Type 0} (units : C → List U) (by : C → Option Stamp) (m k : ℕ) where
-  -- no leaf has a mark of a stage above k and below m
-  abbrev pub IsLow : List (ℕ × TreeLeaf C) → Type 0
-  IsLow xs = (z : ℕ) (v : TreeLeaf C) → value_at xs z ≡ Some v → (j : ℕ) → k < j → list_any (is_of_stage j) v.stamps.dels ≡ true → m ≤ j
+-- no leaf has a mark of a stage above k and below m
+abbrev pub IsLow : {C : Type 0} → ℕ → ℕ → List (ℕ × TreeLeaf C) → Type 0
+IsLow {C} m k xs = (z : ℕ) (v : TreeLeaf C) → value_at xs z ≡ Some v → (j : ℕ) → k < j → list_any (is_of_stage j) v.stamps.dels ≡ true → m ≤ j
 
-  low_rest : (x : ℕ × TreeLeaf C) (xs : List (ℕ × TreeLeaf C)) → ((i : ℕ) → times_leaf (x ∷ xs) i ≤ 1) → IsLow (x ∷ xs) → IsLow xs
+module _ {C U : Type 0} (units : C → List U) (by : C → Option Stamp) (m k : ℕ) where
+  low_rest : (x : ℕ × TreeLeaf C) (xs : List (ℕ × TreeLeaf C)) → ((i : ℕ) → times_leaf (x ∷ xs) i ≤ 1) → IsLow m k (x ∷ xs) → IsLow m k xs
   low_rest x xs once low z v e = low z v (of_rest x xs z v (once x.0) e)
 
-  pub all_from : (xs : List (ℕ × TreeLeaf C)) → ((i : ℕ) → times_leaf xs i ≤ 1) → All (λ x. 1 ≤ length (units x.1.content)) xs → IsLow xs
+  pub all_from : (xs : List (ℕ × TreeLeaf C)) → ((i : ℕ) → times_leaf xs i ≤ 1) → All (λ x. 1 ≤ length (units x.1.content)) xs → IsLow m k xs
       → IsFrom m (next_removal_above k (elements units by xs))
   all_from [] once some low = tt
   all_from (x ∷ xs) once some low =
@@ -97,7 +97,7 @@ module _ {C U : Type 0} (units : C → List U) (by : C → Option Stamp) (m k : 
       (stamps_from m k x.1.stamps.dels (low x.0 x.1 (of_first x xs)))
       (all_from xs (λ i. omega (arith, once i)) (All-tail (λ (y : ℕ × TreeLeaf C). 1 ≤ length (units y.1.content)) x xs some) (low_rest x xs once low)))
 
-  pub all_reach : (xs : List (ℕ × TreeLeaf C)) → ((i : ℕ) → times_leaf xs i ≤ 1) → All (λ x. 1 ≤ length (units x.1.content)) xs → IsLow xs → k < m
+  pub all_reach : (xs : List (ℕ × TreeLeaf C)) → ((i : ℕ) → times_leaf xs i ≤ 1) → All (λ x. 1 ≤ length (units x.1.content)) xs → IsLow m k xs → k < m
       → (z : ℕ) (v : TreeLeaf C) → value_at xs z ≡ Some v → list_any (is_of_stage m) v.stamps.dels ≡ true
       → next_removal_above k (elements units by xs) ≡ Some m
   all_reach [] once some low lt z v e t = (cc)
@@ -169,3 +169,59 @@ listed_above n (x ∷ xs) j z h l = elim (or_either (nat_eq x.stage j && holds x
   | inl here ↦ omega (arith, eq_from x.stage j (and_both (nat_eq x.stage j) (holds x.nodes z) here).0, h.0)
   | inr rest ↦ listed_above n xs j z h.1 rest
 ]
+
+true_false : false ≡ true → ⊥
+true_false e = (cc)
+
+-- a node of a list that stands among others
+pub listed_at : (xs : List NodesOfStage) (i : ℕ) (s : NodesOfStage) (z : ℕ) → i < length xs → s ≡ get_or xs i s → holds s.nodes z ≡ true → is_listed xs s.stage z ≡ true
+listed_at [] i s z lt e h = absurd (omega arith)
+listed_at (x ∷ xs) zero s z lt e h =
+    or_left (nat_eq x.stage s.stage && holds x.nodes z) (is_listed xs s.stage z)
+    (both_and (nat_eq x.stage s.stage) (holds x.nodes z) (eq-eqb x.stage s.stage (ap (λ (y : NodesOfStage). y.stage) (sym e)))
+    (ap (λ (y : NodesOfStage). holds y.nodes z) (sym e) ∙ h))
+listed_at (x ∷ xs) (suc i) s z lt e h = or_right (nat_eq x.stage s.stage && holds x.nodes z) (is_listed xs s.stage z) (listed_at xs i s z (omega arith) e h)
+
+pub listed_drop : (n : ℕ) (xs : List NodesOfStage) (j z : ℕ) → is_listed (drop n xs) j z ≡ true → is_listed xs j z ≡ true
+listed_drop zero xs j z l = l
+listed_drop (suc n) [] j z l = l
+listed_drop (suc n) (x ∷ xs) j z l = or_right (nat_eq x.stage j && holds x.nodes z) (is_listed xs j z) (listed_drop n xs j z l)
+
+module _ {C : Type 0} (xs : List (ℕ × TreeLeaf C)) (k : ℕ) (s : NodesOfStage) (rest : List NodesOfStage)
+    (listed : (j z : ℕ) → k < j → is_removed_at xs j z ≡ true → is_listed (s ∷ rest) j z ≡ true) where
+  -- a list without such a mark
+  pub passed : (nat_lt k s.stage && list_any (is_removed_at xs s.stage) s.nodes) ≡ false → (j z : ℕ) → k < j → is_removed_at xs j z ≡ true → is_listed rest j z ≡ true
+  passed test j z lt t = elim (or_either (nat_eq s.stage j && holds s.nodes z) (is_listed rest j z) (listed j z lt t)) [
+    | inl here ↦
+        let both = and_both (nat_eq s.stage j) (holds s.nodes z) here in
+        let same : s.stage ≡ j = eq_from s.stage j both.0 in
+        let mark : is_removed_at xs s.stage z ≡ true = ap (λ i. is_removed_at xs i z) same ∙ t in
+        let higher : nat_lt k s.stage ≡ true = grind (arith, nat_tests, same, lt) in
+        let found : (nat_lt k s.stage && list_any (is_removed_at xs s.stage) s.nodes) ≡ true =
+            both_and (nat_lt k s.stage) (list_any (is_removed_at xs s.stage) s.nodes) higher (held_passes (is_removed_at xs s.stage) s.nodes z both.1 mark) in
+        (cc)
+    | inr more ↦ more
+  ]
+
+  -- the first list with one
+  pub reached : {U : Type 0} (units : C → List U) (by : C → Option Stamp) → AllByRecursion (λ t. s.stage < t.stage) rest → ((i : ℕ) → times_leaf xs i ≤ 1)
+      → All (λ x. 1 ≤ length (units x.1.content)) xs → (nat_lt k s.stage && list_any (is_removed_at xs s.stage) s.nodes) ≡ true
+      → Some s.stage ≡ next_removal_above k (elements units by xs)
+  reached units by above once some test =
+      let both = and_both (nat_lt k s.stage) (list_any (is_removed_at xs s.stage) s.nodes) test in
+      let up : k < s.stage = grind (arith, nat_tests, both.0) in
+      let node = passing (is_removed_at xs s.stage) s.nodes both.1 in
+      let leaf = marked s.stage (value_at xs node.0) node.1 in
+      let low : IsLow s.stage k xs = λ z v e j lt t.
+          elim (or_either (nat_eq s.stage j && holds s.nodes z) (is_listed rest j z) (listed j z lt (marks j (value_at xs z) v e t))) [
+            | inl here ↦ omega (arith, eq_from s.stage j (and_both (nat_eq s.stage j) (holds s.nodes z) here).0)
+            | inr more ↦ omega (arith, listed_above s.stage rest j z above more)
+          ] in
+      sym (all_reach units by s.stage k xs once some low up node.0 leaf.0 leaf.1 leaf.2)
+
+-- no list is left
+pub unreached : {C U : Type 0} (units : C → List U) (by : C → Option Stamp) (k : ℕ) (xs : List (ℕ × TreeLeaf C)) → ((i : ℕ) → times_leaf xs i ≤ 1)
+    → All (λ x. 1 ≤ length (units x.1.content)) xs → ((j z : ℕ) → k < j → is_removed_at xs j z ≡ true → is_listed [] j z ≡ true)
+    → None ≡ next_removal_above k (elements units by xs)
+unreached units by k xs once some listed =
+    sym (all_none units by k xs once some (λ z v e j lt t. true_false (listed j z lt (marks j (value_at xs z) v e t))))

@@ -36,6 +36,10 @@ unless z id x y d = ap (λ t. cond t x y) (ne_eqb z id d)
 pub tracks-is : {C : Type 0} (xs ys : List (ℕ × TreeLeaf C)) (ss ts : List NodesOfStage) → ys ≡ xs → ts ≡ ss → Tracks xs ss → Tracks ys ts
 tracks-is xs ys ss ts e h tracks = subst (Tracks ys) (sym h) (subst (λ zs. Tracks zs ss) (sym e) tracks)
 
+-- no leaves
+pub tracks-none : {C : Type 0} → Tracks {C = C} [] []
+tracks-none = record { covers = λ k id x e t. (cc); live = λ k id l. (cc); rising = tt }
+
 module _ {C : Type 0} (xs : List (ℕ × TreeLeaf C)) (ss : List NodesOfStage) (tracks : Tracks xs ss) where
   -- leaves of the same values
   pub tracks-same : (ys : List (ℕ × TreeLeaf C)) → ((z : ℕ) → value_at ys z ≡ value_at xs z) → Tracks ys ss
@@ -219,6 +223,9 @@ by_stamps k x h =
       | inl a ↦ or_left ins (dels || pending) a
       | inr d ↦ or_right ins (dels || pending) (or_left dels pending d)
     ]
+
+pub by_removals : {C : Type 0} (k : ℕ) (x : TreeLeaf C) → list_any (is_of_stage k) x.stamps.dels ≡ true → is_touched_by k x ≡ true
+by_removals k x h = by_stamps k x (or_right (is_of_stage k x.stamps.ins) (list_any (is_of_stage k) x.stamps.dels) h)
 
 pub by_changes : {C : Type 0} (k : ℕ) (x : TreeLeaf C) → list_any (λ p. nat_eq p.0 k) x.overlay.pending ≡ true → is_touched_by k x ≡ true
 by_changes k x h =

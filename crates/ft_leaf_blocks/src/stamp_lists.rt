@@ -1,6 +1,6 @@
 //! Leaves in blocks: what is read off the stamps of all of them.
 
-ghost use Rattle.std.specs.Prelude.{◌≡◌, ◌++◌, All, IfOk, IsTrue, OnOk, map, replicate};
+ghost use Rattle.std.specs.Prelude.{◌≡◌, ◌++◌, ◌&&◌, All, IfOk, IsTrue, OnOk, map, nat_lt, replicate};
 ghost use Rattle.std.specs.List.{list_any};
 ghost use Rattle.ft_block.specs.Leaves.{IsLeafIn};
 ghost use Rattle.ft_leaves.specs.Edits.{next_removal_above};
@@ -62,6 +62,19 @@ fn is_any_removed<C: Content>(blocks: &Blocks<TreeLeaf<C>>, nodes: &[NodeId], st
     false
 }
 
+/// Whether the list is of a higher stage, and one of its leaves has a removal mark of it.
+fn is_removal_above<C: Content>(
+    blocks: &Blocks<TreeLeaf<C>>,
+    list: &StageNodes,
+    stage: u64,
+) -> bool
+    requires usable { IsTrue blocks.now.usable }
+    requires live { All (λ id. IsLeafIn blocks.now.leaves id) list.now.nodes }
+    ensures { result ≡ (nat_lt stage list.now.stage && list_any (is_removed_at blocks.now.leaves list.now.stage) list.now.nodes) }
+{
+    stage < list.stage() && is_any_removed(blocks, list.nodes(), list.stage())
+}
+
 /// The least pending stage above this one that marks an element as removed.
 pub(crate) fn next_removal_in<C: Content>(
     blocks: &Blocks<TreeLeaf<C>>,
@@ -74,7 +87,7 @@ pub(crate) fn next_removal_in<C: Content>(
 {
     let _first = blocks.first();
     for list in from_stage(touched, stage) {
-        if stage < list.stage() && is_any_removed(blocks, list.nodes(), list.stage()) {
+        if is_removal_above(blocks, list, stage) {
             return Some(list.stage());
         }
     }
