@@ -1,17 +1,14 @@
 -- The acknowledgement of a stage node by node: what is done, and what is to be done.
-use Rattle.std.proofs.Common.{◌≡◌, ◌≢◌, ℕ, zero, suc, ◌+◌, ◌<◌, ◌≤◌, All, Bool, true, false, cond, not, ◌||◌, List, [], ◌∷◌, ◌++◌, inl, inr, map, length, IsSomeAnd, get_or, Option, Some, None, refl, subst, sym, ◌∙◌, ap, arith, nat_eq, drop}
-use Rattle.std.specs.List.{list_any}
-use Rattle.std.specs.Option.{IsSome}
+use Rattle.std.proofs.Common.{◌≡◌, ◌≢◌, ℕ, zero, suc, ◌+◌, ◌<◌, ◌≤◌, All, Bool, true, false, cond, not, ◌||◌, List, [], ◌∷◌, inl, inr, map, length, IsSomeAnd, get_or, Option, Some, refl, subst, sym, ◌∙◌, ap, arith, nat_eq}
 use Rattle.std.proofs.lemmas.Bool.{cases_eq, cond-false, eq-eqb, ne_eqb}
 use Rattle.std.proofs.lemmas.List.Elements.{All-filter, All-head, All-tail}
-use Rattle.ft_arena.proofs.IdLemmas.{same_refl, same_other}
+use Rattle.ft_arena.proofs.IdLemmas.{same_refl}
 use Rattle.ft_base.specs.declared.stamps.Stamp.{Stamp}
 use Rattle.ft_base.specs.Visibility.{is_of_stage}
-use Rattle.ft_block.specs.Leaves.{IsLeafIn, change_leaf, times_leaf, value_at}
-use Rattle.ft_props.specs.declared.properties.Changes.{Changes}
+use Rattle.ft_block.specs.Leaves.{change_leaf, times_leaf, value_at}
 use Rattle.ft_leaves.specs.declared.leaves.TreeLeaf.{TreeLeaf}
 use Rattle.ft_leaves.specs.Edits.{is_marked_by}
-use Rattle.ft_leaves.specs.Elements.{IsLowestChange, TreeElement}
+use Rattle.ft_leaves.specs.Elements.{IsLowestChange}
 use Rattle.ft_leaves.specs.LeafChanges.{acked_leaf, acked_pair}
 use Rattle.ft_leaves.specs.LeafLists.{elements, leaf_elements}
 use Rattle.ft_leaves.proofs.RangeLeaves.{front_all, leaf_overlay, rear_all}
@@ -19,7 +16,6 @@ use Rattle.ft_leaf_blocks.specs.Touched.{HaveAllOf, holds, is_touched_by}
 use Rattle.ft_leaf_blocks.proofs.Acknowledged.{acked_stays, neither}
 use Rattle.ft_leaf_blocks.proofs.StepValues.{is_live, is_some, mapped, value-change}
 use Rattle.ft_leaf_blocks.proofs.TrackedSteps.{acked_untouched}
-use Rattle.ft_leaf_blocks.proofs.Walks.{live_value}
 
 module _ {L : Type 0} where
   -- a leaf of the rest has the value there that it has in the whole list

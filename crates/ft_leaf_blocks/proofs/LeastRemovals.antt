@@ -1,5 +1,5 @@
 -- The least stage above a number that has a removal mark on a leaf: bounds on it, and what reaches them.
-use Rattle.std.proofs.Common.{◌≡◌, ◌≢◌, ℕ, zero, suc, ◌<◌, ◌≤◌, All, Bool, true, false, cond, ◌||◌, ◌&&◌, List, [], ◌∷◌, ◌++◌, inl, inr, drop, get_or, length, Option, Some, None, refl, subst, sym, ◌∙◌, ap, arith, nat_eq, nat_lt, nat_le}
+use Rattle.std.proofs.Common.{◌≡◌, ℕ, zero, suc, ◌<◌, ◌≤◌, All, Bool, true, false, cond, ◌&&◌, List, [], ◌∷◌, inl, inr, drop, get_or, length, Option, Some, None, refl, subst, sym, ◌∙◌, ap, arith, nat_eq, nat_lt}
 use Rattle.std.specs.Prelude.{⊤}
 use Rattle.std.specs.List.{AllByRecursion, filter_map, list_any}
 use Rattle.std.proofs.lemmas.Bool.{cases_eq, eq-eqb, ne_eqb}
@@ -198,7 +198,7 @@ module _ {C : Type 0} (xs : List (ℕ × TreeLeaf C)) (k : ℕ) (s : NodesOfStag
         let mark : is_removed_at xs s.stage z ≡ true = ap (λ i. is_removed_at xs i z) same ∙ t in
         let higher : nat_lt k s.stage ≡ true = grind (arith, nat_tests, same, lt) in
         let found : (nat_lt k s.stage && list_any (is_removed_at xs s.stage) s.nodes) ≡ true =
-            both_and (nat_lt k s.stage) (list_any (is_removed_at xs s.stage) s.nodes) higher (held_passes (is_removed_at xs s.stage) s.nodes z both.1 mark) in
+        both_and (nat_lt k s.stage) (list_any (is_removed_at xs s.stage) s.nodes) higher (held_passes (is_removed_at xs s.stage) s.nodes z both.1 mark) in
         (cc)
     | inr more ↦ more
   ]
@@ -213,10 +213,10 @@ module _ {C : Type 0} (xs : List (ℕ × TreeLeaf C)) (k : ℕ) (s : NodesOfStag
       let node = passing (is_removed_at xs s.stage) s.nodes both.1 in
       let leaf = marked s.stage (value_at xs node.0) node.1 in
       let low : IsLow s.stage k xs = λ z v e j lt t.
-          elim (or_either (nat_eq s.stage j && holds s.nodes z) (is_listed rest j z) (listed j z lt (marks j (value_at xs z) v e t))) [
-            | inl here ↦ omega (arith, eq_from s.stage j (and_both (nat_eq s.stage j) (holds s.nodes z) here).0)
-            | inr more ↦ omega (arith, listed_above s.stage rest j z above more)
-          ] in
+      elim (or_either (nat_eq s.stage j && holds s.nodes z) (is_listed rest j z) (listed j z lt (marks j (value_at xs z) v e t))) [
+        | inl here ↦ omega (arith, eq_from s.stage j (and_both (nat_eq s.stage j) (holds s.nodes z) here).0)
+        | inr more ↦ omega (arith, listed_above s.stage rest j z above more)
+      ] in
       sym (all_reach units by s.stage k xs once some low up node.0 leaf.0 leaf.1 leaf.2)
 
 -- no list is left

@@ -1,12 +1,11 @@
 -- The value of each leaf after a step on the list of leaves.
-use Rattle.std.proofs.Common.{◌≡◌, ◌≢◌, ℕ, ◌≤◌, Bool, true, false, cond, List, [], ◌∷◌, ◌⊎◌, inl, inr, IsSomeAnd, Option, Some, None, option_map, refl, subst, sym, ◌∙◌, ap, arith, nat_eq}
+use Rattle.std.proofs.Common.{◌≡◌, ◌≢◌, ℕ, ◌≤◌, cond, List, [], ◌∷◌, inl, inr, IsSomeAnd, Option, Some, None, option_map, refl, sym, ◌∙◌, ap, arith, nat_eq}
 use Rattle.std.specs.Option.{IsSome}
 use Rattle.std.proofs.lemmas.Bool.{cases_eq, cond-true, cond-false, eq-eqb, ne_eqb}
 use Rattle.std.proofs.lemmas.Bool.Decides.{nat_tests}
-use Rattle.ft_arena.specs.Ids.{after}
-use Rattle.ft_arena.proofs.IdLemmas.{same_refl, same_other}
-use Rattle.ft_block.specs.Leaves.{IsLeafIn, IsPlaceIn, change_leaf, ids, join_leaf, move_leaf, put_leaf, put_leaf_after, split_leaf, times_leaf, value_after, value_at, without_leaf}
-use Rattle.ft_block.proofs.LeafListLemmas.{after_other, join_from, value_after_none, value_at_in, value_without}
+use Rattle.ft_arena.proofs.IdLemmas.{same_other}
+use Rattle.ft_block.specs.Leaves.{IsLeafIn, IsPlaceIn, change_leaf, move_leaf, put_leaf, put_leaf_after, split_leaf, times_leaf, value_at, without_leaf}
+use Rattle.ft_block.proofs.LeafListLemmas.{value_at_in, value_without}
 use Rattle.ft_leaves.proofs.LeafEdits.{times-without-one}
 use Rattle.ft_leaf_blocks.proofs.MovedLeaves.{gone, once_rest}
 use Rattle.ft_leaf_blocks.proofs.WalkEdits.{live-put}

@@ -1,6 +1,6 @@
 -- What a note, an heir, a purge and the taking of a stage make of the lists of nodes by stage.
-use Rattle.std.proofs.Common.{◌≡◌, ◌≢◌, ℕ, suc, ◌+◌, ◌<◌, ◌≤◌, zero, Bool, true, false, cond, not, ◌&&◌, ◌||◌, nat_eq, nat_lt, List, [], ◌∷◌, ◌++◌, Option, Some, None, drop, filter, length, map, take, get_or, insert, refl, sym, subst, ◌∙◌, ◌⊎◌, inl, inr, ap, arith}
-use Rattle.std.specs.List.{AllByRecursion, AllWithin, list_any, prefix_len, remove, slice_get}
+use Rattle.std.proofs.Common.{◌≡◌, ◌≢◌, ℕ, suc, ◌+◌, ◌<◌, ◌≤◌, zero, Bool, true, false, cond, not, ◌&&◌, ◌||◌, nat_eq, nat_lt, List, [], ◌∷◌, ◌++◌, Option, Some, None, drop, filter, length, map, get_or, insert, refl, sym, subst, ◌∙◌, ◌⊎◌, inl, inr, ap, arith}
+use Rattle.std.specs.List.{AllByRecursion, prefix_len, remove, slice_get}
 use Rattle.std.specs.List.Sorted.{IsPartitionedBy, IsPartitionPoint}
 use Rattle.std.specs.Prelude.{slice_set}
 use Rattle.std.proofs.lemmas.Bool.{cases_eq, eq-eqb, ne_eqb}

@@ -275,13 +275,7 @@ impl<C: Content> LeafBlocks<C> {
     /// stage touched. No lower stage has changes.
     ///
     /// Answers `OutOfMemory` where there is no room for it, and then the blocks may be used no more.
-    pub fn ack(
-        &mut self,
-        alloc: Global,
-        stage: u64,
-        seq: u64,
-        conn: u32,
-    ) -> Result<(), OutOfMemory>
+    pub fn ack(&mut self, alloc: Global, stage: u64, seq: u64, conn: u32) -> Result<(), OutOfMemory>
         requires usable { IsTrue self.old.usable }
         requires lowest { All (λ e. IsLowestChange stage e.overlay) (elements C.units C.by self.old.leaves) }
         ensures leaves { OnOk result (self.new.leaves ≡ map (acked_pair C.stamped stage seq conn) self.old.leaves) }

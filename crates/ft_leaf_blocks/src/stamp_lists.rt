@@ -63,11 +63,7 @@ fn is_any_removed<C: Content>(blocks: &Blocks<TreeLeaf<C>>, nodes: &[NodeId], st
 }
 
 /// Whether the list is of a higher stage, and one of its leaves has a removal mark of it.
-fn is_removal_above<C: Content>(
-    blocks: &Blocks<TreeLeaf<C>>,
-    list: &StageNodes,
-    stage: u64,
-) -> bool
+fn is_removal_above<C: Content>(blocks: &Blocks<TreeLeaf<C>>, list: &StageNodes, stage: u64) -> bool
     requires usable { IsTrue blocks.now.usable }
     requires live { All (λ id. IsLeafIn blocks.now.leaves id) list.now.nodes }
     ensures { result ≡ (nat_lt stage list.now.stage && list_any (is_removed_at blocks.now.leaves list.now.stage) list.now.nodes) }

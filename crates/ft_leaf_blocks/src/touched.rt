@@ -40,11 +40,7 @@ pub(crate) fn from_stage(touched: &[StageNodes], stage: u64) -> &[StageNodes]
 /// Lists a node for a stage.
 ///
 /// Answers `OutOfMemory` where there is no room for it.
-pub(crate) fn note(
-    touched: &mut Vec<StageNodes>,
-    stage: u64,
-    id: NodeId,
-) -> Result<(), OutOfMemory>
+pub(crate) fn note(touched: &mut Vec<StageNodes>, stage: u64, id: NodeId) -> Result<(), OutOfMemory>
     requires { AreRising touched.old.items }
     ensures notes { OnOk result (Notes id touched.old.items touched.new.items) }
     ensures listed { OnOk result (is_listed touched.new.items stage id ≡ true) }
@@ -152,11 +148,7 @@ pub(crate) fn note_heir(
 }
 
 /// The same in a slice.
-fn add_heirs(
-    touched: &mut [StageNodes],
-    front: NodeId,
-    rear: NodeId,
-) -> Result<(), OutOfMemory>
+fn add_heirs(touched: &mut [StageNodes], front: NodeId, rear: NodeId) -> Result<(), OutOfMemory>
     ensures { OnOk result (touched.new ≡ map (with_heir front rear) touched.old) }
 {
     for list in touched.iter_mut() {

@@ -135,11 +135,7 @@ pub(crate) fn set_stamps_in<C: Content>(
 /// Lists a node for the stage of the changes that it gets, if it gets any.
 ///
 /// Answers `OutOfMemory` where there is no room for it.
-fn note_change(
-    touched: &mut Vec<StageNodes>,
-    c: &LeafChange,
-    id: NodeId,
-) -> Result<(), OutOfMemory>
+fn note_change(touched: &mut Vec<StageNodes>, c: &LeafChange, id: NodeId) -> Result<(), OutOfMemory>
     requires { AreRising touched.old.items }
     ensures notes { OnOk result (Notes id touched.old.items touched.new.items) }
     ensures listed { OnOk result ((k : ℕ) → added_stage c.now ≡ Some k → is_listed touched.new.items k id ≡ true) }

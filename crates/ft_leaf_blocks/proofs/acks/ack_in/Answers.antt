@@ -1,4 +1,4 @@
-use Rattle.std.proofs.Common.{◌≡◌, ℕ, List, true, map, refl, sym, ◌∙◌, ap}
+use Rattle.std.proofs.Common.{◌≡◌, ℕ, List, map, refl, sym, ◌∙◌, ap}
 use Rattle.std.proofs.lemmas.Result.{on_ok_weaker}
 use Rattle.ft_block.specs.Leaves.{IsLeafIn}
 use Rattle.ft_leaves.specs.LeafChanges.{acked_pair}
@@ -15,7 +15,7 @@ ack_nodes-requires g c =
     let ss = c.args.touched.now.items in
     let k = c.args.stage in
     let same : (z : ℕ) → holds c.as_slice.result.now z ≡ is_listed ss k z = λ z.
-        ap (λ (ns : List ℕ). holds ns z) c.as_slice.ensures.value ∙ c.take_stage-nodes.ensures.nodes z in
+    ap (λ (ns : List ℕ). holds ns z) c.as_slice.ensures.value ∙ c.take_stage-nodes.ensures.nodes z in
     record {
       usable = c.requires.usable;
       lowest = c.requires.lowest;

@@ -50,7 +50,7 @@ ack_at-requires g c =
     let id = c.id-item.result in
     let k = c.args.stage in
     let was : IsLeafIn old id = subst (IsLeafIn old) (sym c.id-item.is)
-        (All-get_or (λ z. IsLeafIn old z) ids c.loop-id.id-index id c.loop-id-test.true c.requires.live) in
+    (All-get_or (λ z. IsLeafIn old z) ids c.loop-id.id-index id c.loop-id-test.true c.requires.live) in
     let live : IsLeafIn xs id = omega (arith, was, same_times g.C.Content.stamped k c.args.seq c.args.conn xs old id c.loop-id.invariant.acked) in
     let v = live_value xs id live in
     record {

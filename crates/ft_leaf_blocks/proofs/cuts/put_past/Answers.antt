@@ -17,7 +17,7 @@ insert_after-requires-clause-fits g c = omega (arith, length-elements g.C.Conten
 pub position_of-requires : goal.position_of-requires
 position_of-requires g c =
     let live : IsPlaceIn c.args.blocks.now.leaves c.behind_run-end.result =
-        subst (λ (l : LeafList (TreeLeaf g.row.C.Denot)). IsPlaceIn l.leaves c.behind_run-end.result) c.list.ensures c.behind_run-end.ensures.live in
+    subst (λ (l : LeafList (TreeLeaf g.row.C.Denot)). IsPlaceIn l.leaves c.behind_run-end.result) c.list.ensures c.behind_run-end.ensures.live in
     record {
       usable = c.in_ok-id.ensures.usable;
       floor = tt;
@@ -32,7 +32,7 @@ returns-clause-place g c =
     let xs = c.args.blocks.now.leaves in
     let id = c.in_ok-id.id in
     let live : IsPlaceIn xs c.behind_run-end.result =
-        subst (λ (l : LeafList (TreeLeaf g.row.C.Denot)). IsPlaceIn l.leaves c.behind_run-end.result) c.list.ensures c.behind_run-end.ensures.live in
+    subst (λ (l : LeafList (TreeLeaf g.row.C.Denot)). IsPlaceIn l.leaves c.behind_run-end.result) c.list.ensures c.behind_run-end.ensures.live in
     let left = ap (λ (zs : List (ℕ × TreeLeaf g.row.C.Denot)). left_of zs id) c.in_ok-id.ensures.ok
     ∙ left-put xs c.behind_run-end.result id c.args.leaf c.first-first.ensures.once live c.in_ok-id.ensures.fresh in
     let place : c.position_of.result ≡ length (elements us by (up_to_place xs c.behind_run-end.result)) =
@@ -50,7 +50,7 @@ returns-clause-puts g c =
     let xs = c.args.blocks.now.leaves in
     let id = c.in_ok-id.id in
     let live : IsPlaceIn xs c.behind_run-end.result =
-        subst (λ (l : LeafList (TreeLeaf g.row.C.Denot)). IsPlaceIn l.leaves c.behind_run-end.result) c.list.ensures c.behind_run-end.ensures.live in
+    subst (λ (l : LeafList (TreeLeaf g.row.C.Denot)). IsPlaceIn l.leaves c.behind_run-end.result) c.list.ensures c.behind_run-end.ensures.live in
     let left = ap (λ (zs : List (ℕ × TreeLeaf g.row.C.Denot)). left_of zs id) c.in_ok-id.ensures.ok
     ∙ left-put xs c.behind_run-end.result id c.args.leaf c.first-first.ensures.once live c.in_ok-id.ensures.fresh in
     let place : c.position_of.result ≡ length (elements us by (up_to_place xs c.behind_run-end.result)) =

@@ -42,7 +42,7 @@ returns-then-is_removal_above g c =
     let rest = drop (i + 1) items in
     let next : drop i items ≡ s ∷ rest = drop_more items i s c.loop-list-test.true ∙ ap (λ t. t ∷ rest) (sym c.list-item.is) in
     let rising : AreRising (s ∷ rest) = subst AreRising next
-        (rising-drop i items (subst AreRising (sym c.from_stage-list-items.ensures) (rising-drop (stages_below k c.args.touched.now) c.args.touched.now c.requires.tracks.rising))) in
+    (rising-drop i items (subst AreRising (sym c.from_stage-list-items.ensures) (rising-drop (stages_below k c.args.touched.now) c.args.touched.now c.requires.tracks.rising))) in
     ap (λ n. Some n) c.stage.ensures
     ∙ reached xs k s rest (subst (λ (ts : List NodesOfStage). (j z : ℕ) → k < j → is_removed_at xs j z ≡ true → is_listed ts j z ≡ true) next c.loop-list.invariant)
     g.C.Content.units g.C.Content.by rising.0 c.first-first.ensures.once c.first-first.ensures.some

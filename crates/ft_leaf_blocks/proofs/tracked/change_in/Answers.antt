@@ -16,10 +16,10 @@ returns-clause-tracks g c =
     let ts = c.note_change.new.touched.items in
     let f : TreeLeaf g.row.C.Denot → TreeLeaf g.row.C.Denot = λ v. changed_leaf g.C.Content.stamped v d in
     let own : (k : ℕ) (v : TreeLeaf g.row.C.Denot) → value_at xs id ≡ Some v → is_touched_by k (f v) ≡ true → (is_touched_by k v ≡ true) ⊎ (is_listed ts k id ≡ true) =
-        λ k v at t. elim (touched-changed g.C.Content.stamped d v k t) [
-          | inl old ↦ inl old
-          | inr new ↦ inr (c.in_ok-note_change.ensures.listed k new)
-        ] in
+    λ k v at t. elim (touched-changed g.C.Content.stamped d v k t) [
+      | inl old ↦ inl old
+      | inr new ↦ inr (c.in_ok-note_change.ensures.listed k new)
+    ] in
     on_ok_weaker c.change.result
     (λ h. tracks-is (change_leaf f xs id) c.change.new.self.leaves ts ts h refl
     (tracks-change xs c.args.touched.now.items c.requires.tracks f id ts c.in_ok-note_change.ensures.notes own

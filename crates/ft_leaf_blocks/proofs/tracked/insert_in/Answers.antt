@@ -1,5 +1,4 @@
-use Rattle.std.proofs.Common.{◌≡◌, true, ℕ, List, Some, subst, sym, ◌∙◌, ap, refl}
-use Rattle.std.proofs.lemmas.Result.{on_ok_weaker}
+use Rattle.std.proofs.Common.{◌≡◌, ℕ, List, subst, sym, ◌∙◌, ap, refl}
 use Rattle.ft_base.specs.declared.elements.Element.{Element}
 use Rattle.ft_block.specs.Leaves.{IsLeafIn, put_leaf, value_at}
 use Rattle.ft_leaves.specs.declared.leaves.TreeLeaf.{TreeLeaf}

@@ -1,4 +1,4 @@
-use Rattle.std.proofs.Common.{◌≡◌, true, false, Bool, ◌⊎◌, inl, inr, ℕ, List, Some, refl, sym, ◌∙◌, ap}
+use Rattle.std.proofs.Common.{◌≡◌, true, false, Bool, ◌⊎◌, inl, inr, ℕ, Some, refl, sym, ◌∙◌, ap}
 use Rattle.std.proofs.lemmas.Result.{on_ok_weaker}
 use Rattle.ft_block.specs.Leaves.{change_leaf, value_at}
 use Rattle.ft_leaves.specs.declared.leaves.TreeLeaf.{TreeLeaf}
@@ -20,14 +20,14 @@ returns-clause-tracks g c =
     let ts = c.note_stamps.new.touched.items in
     let f : TreeLeaf g.row.C.Denot → TreeLeaf g.row.C.Denot = λ v. record v { stamps = e } in
     let own : (k : ℕ) (v : TreeLeaf g.row.C.Denot) → value_at xs id ≡ Some v → is_touched_by k (f v) ≡ true → (is_touched_by k v ≡ true) ⊎ (is_listed ts k id ≡ true) =
-        λ k v at t. elim (touched-stamped e v k t) [
-          | inl old ↦ inl old
-          | inr new ↦
-              let same : v ≡ c.leaf.result.now = (let both : Some v ≡ Some c.leaf.result.now = sym at ∙ c.leaf.ensures in (cc)) in
-              known_or_listed (is_stamped_by k v.stamps) (is_touched_by k v ≡ true) (is_listed ts k id ≡ true) (is_stamped_by k v.stamps) refl
-              (λ h. by_stamps k v h)
-              (λ h. c.in_ok-note_stamps.ensures.listed k new (ap (λ (x : TreeLeaf g.row.C.Denot). is_stamped_by k x.stamps) (sym same) ∙ h))
-        ] in
+    λ k v at t. elim (touched-stamped e v k t) [
+      | inl old ↦ inl old
+      | inr new ↦
+          let same : v ≡ c.leaf.result.now = (let both : Some v ≡ Some c.leaf.result.now = sym at ∙ c.leaf.ensures in (cc)) in
+          known_or_listed (is_stamped_by k v.stamps) (is_touched_by k v ≡ true) (is_listed ts k id ≡ true) (is_stamped_by k v.stamps) refl
+          (λ h. by_stamps k v h)
+          (λ h. c.in_ok-note_stamps.ensures.listed k new (ap (λ (x : TreeLeaf g.row.C.Denot). is_stamped_by k x.stamps) (sym same) ∙ h))
+    ] in
     on_ok_weaker c.set_stamps.result
     (λ h. tracks-is (change_leaf f xs id) c.set_stamps.new.self.leaves ts ts h refl
     (tracks-change xs c.args.touched.now.items c.requires.tracks f id ts c.in_ok-note_stamps.ensures.notes own

@@ -1,4 +1,4 @@
-use Rattle.std.proofs.Common.{[], IsTrue, List, ap, subst, sym}
+use Rattle.std.proofs.Common.{[], IsTrue, ap, subst, sym}
 use Rattle.ft_block.specs.Leaves.{LeafList}
 use Rattle.ft_leaves.specs.declared.leaves.TreeLeaf.{TreeLeaf}
 use Rattle.ft_leaf_blocks.proofs.TrackedSteps.{tracks-is, tracks-none}
