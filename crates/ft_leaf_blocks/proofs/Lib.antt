@@ -7,3 +7,8 @@ pub mod Acknowledged
 pub mod PlacedLeaves
 pub mod MovedLeaves
 pub mod JoinedPairs
+mod TouchedLists
+mod StepValues
+mod TrackedSteps
+mod AckedNodes
+mod LeastRemovals

@@ -1,2 +1,5 @@
 pub mod Walks
 pub mod RangeEdits
+pub mod Touched
+pub mod State
+pub mod Inside
