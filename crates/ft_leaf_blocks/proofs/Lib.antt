@@ -1,9 +1,9 @@
 pub mod Walks
 pub mod WalkEdits
 pub mod FoundPlaces
+pub mod FoundOffsets
 pub mod CutPlaces
 pub mod RangeWalks
 pub mod Acknowledged
-pub mod PlacedLeaves
 pub mod MovedLeaves
 pub mod JoinedPairs

@@ -7,9 +7,12 @@
 pub mod acks;
 pub mod cuts;
 pub mod edits;
+pub mod finds;
 pub mod joins;
+pub mod offsets;
 pub mod places;
 pub mod ranges;
 pub mod references;
 pub mod scans;
+pub mod settling;
 pub mod stamp_lists;
