@@ -1,7 +1,7 @@
 -- Places that are found, as elements on leaves.
 use Rattle.std.proofs.Common.{◌≡◌, ℕ, zero, suc, ◌+◌, ◌-◌, ◌<◌, ◌≤◌, Bool, true, false, cond, List, [], ◌∷◌, ◌++◌, map, length, take, Option, Some, None, IsSomeAnd, option_map, nat_eq, nat_le, subst, refl, sym, ◌∙◌, ap, inl, inr, arith, length-append}
-use Rattle.std.specs.List.{enumerate_from}
-use Rattle.std.proofs.lemmas.Bool.{cases_lt, cond-false, lt-leb, ne_eqb}
+use Rattle.std.specs.Option.{SomeIff}
+use Rattle.std.proofs.lemmas.Bool.{cases_lt, cond-false, cond-true, le-leb, lt-leb, ne_eqb}
 use Rattle.ft_base.specs.declared.stamps.Stamp.{Stamp}
 use Rattle.ft_base.specs.Scan.{at, len, one_more_if, place}
 use Rattle.ft_block.specs.declared.blocks.Found.{Found}
@@ -34,7 +34,12 @@ module _ {L : Type 0} (f : L → ℕ) where
     | inl later ↦
         let rest : place_from f xs (p - f x.1) ≡ None = sym (cond-false (nat_le p (f x.1)) _ _ (lt-leb p (f x.1) later)) ∙ e in
         omega (arith, beyond_from xs (p - f x.1) (omega arith) rest)
-    | inr here ↦ omega arith
+    | inr here ↦
+        let found : Found = record { leaf = Some x.0; offset = p } in
+        let first : Some found ≡ None =
+        sym (cond-true (nat_le p (f x.1)) (Some found) (place_from f xs (p - f x.1)) (le-leb p (f x.1) here)) ∙ e in
+        let no : ⊥ = (cc) in
+        absurd no
   ]
 
   -- and where there is none, no more is seen
@@ -48,12 +53,22 @@ module _ {A : Type 0} (seen : A → Bool) where
   at-place n zero k (x ∷ xs) less e = grind (arith, at-place (n + 1) zero k xs)
   at-place n (suc p) k (x ∷ xs) less e = grind (arith, at-place (n + 1) p k xs, at-place (n + 1) (suc p) k xs)
 
+  -- where more are seen, the place isn't the head
+  place-some : (p : ℕ) (xs : List A) → p < len seen xs → 0 < place seen (suc p) xs
+  place-some p [] less = absurd (omega arith)
+  place-some p (x ∷ xs) less = omega arith
+
   -- there is none where no more are seen
   pub at-none : (n p : ℕ) (xs : List A) → len seen xs ≤ p → place_from_number seen n p xs ≡ None
   at-none n zero [] le = refl
   at-none n (suc p) [] le = refl
   at-none n zero (x ∷ xs) le = grind (arith, at-none (n + 1) zero xs)
   at-none n (suc p) (x ∷ xs) le = grind (arith, at-none (n + 1) p xs, at-none (n + 1) (suc p) xs)
+
+  -- no more are seen than there are
+  pub len-most : (xs : List A) → len seen xs ≤ length xs
+  len-most [] = omega arith
+  len-most (x ∷ xs) = grind (arith, len-most xs)
 
   -- where all are seen, it is at p
   pub at-all : ((x : A) → seen x ≡ true) → (xs : List A) (n p : ℕ) → p < length xs → place_from_number seen n p xs ≡ Some (n + p)
@@ -68,6 +83,10 @@ some_and (Some v) f h = f v h
 of_some : {A : Type 0} {P : A → Type 0} {Q : Type 0} (o : Option A) → ((v : A) → P v → Q) → IsSomeAnd o P → Q
 of_some None f h = absurd h
 of_some (Some v) f h = f v h
+
+-- what was searched for is the next number
+pub next_number : (p q n : ℕ) (o : Option ℕ) → SomeIff o (p + 1 < n) (p + 1) → o ≡ Some q → q ≡ suc p
+next_number p q n o h e = let both : (p + 1 < n) × (q ≡ p + 1) = subst (λ r. SomeIff r (p + 1 < n) (p + 1)) e h in omega (arith, both.1)
 
 module _ {C U : Type 0} (units : C → List U) (by : C → Option Stamp) (view : LenView) (xs : List (ℕ × TreeLeaf C)) where
   -- the element that was found is the seen one with p seen ones before it
@@ -90,6 +109,15 @@ module _ {C U : Type 0} (units : C → List U) (by : C → Option Stamp) (view :
         place = at-place (seen_in view) 0 p (offset_place units by xs (record { leaf = id; offset = found.offset - 1 })) (elements units by xs)
         (omega (arith, found_inside units by view xs (suc p) found e)) (omega (arith, there, some));
       }
+
+  -- nothing is found at the head
+  pub seen_head : (p : ℕ) (found : Found) → ((i : ℕ) → times_leaf xs i ≤ 1) → place_by (leaf_length units view) xs (suc p) ≡ Some found
+      → found.leaf ≡ None → ⊥
+  seen_head p found once e is =
+      let r = found_at units by view xs (suc p) found once e in
+      let none : found.offset ≡ 0 = subst (λ o. IsInLeaf units xs o found.offset) is r.held in
+      let there : place (seen_in view) (suc p) (elements units by xs) ≡ 0 = r.place ∙ ap (λ o. held_place units by xs o found.offset) is in
+      omega (arith, place-some (seen_in view) p (elements units by xs), there, found_inside units by view xs (suc p) found e)
 
   -- no more are seen where none was found
   pub seen_none : (p : ℕ) → place_by (leaf_length units view) xs (suc p) ≡ None → place_at (seen_in {U = U} view) p (elements units by xs) ≡ None

@@ -2,6 +2,7 @@ pub mod Walks
 pub mod WalkEdits
 pub mod FoundPlaces
 pub mod FoundOffsets
+pub mod SettledLeaves
 pub mod CutPlaces
 pub mod RangeWalks
 pub mod Acknowledged
