@@ -2,6 +2,7 @@ pub mod Walks
 pub mod WalkEdits
 pub mod FoundPlaces
 pub mod FoundOffsets
+pub mod OffsetCounts
 pub mod SettledLeaves
 pub mod CutPlaces
 pub mod RangeWalks
