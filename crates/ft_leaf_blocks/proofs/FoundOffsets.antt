@@ -1,18 +1,17 @@
 -- Places that are found, as elements on leaves.
-use Rattle.std.proofs.Common.{◌≡◌, ℕ, zero, suc, ◌+◌, ◌-◌, ◌<◌, ◌≤◌, Bool, true, false, cond, List, [], ◌∷◌, ◌++◌, map, length, take, Option, Some, None, IsSomeAnd, option_map, nat_eq, nat_le, subst, refl, sym, ◌∙◌, ap, inl, inr, arith, length-append}
+use Rattle.std.proofs.Common.{◌≡◌, ℕ, zero, suc, ◌+◌, ◌-◌, ◌<◌, ◌≤◌, Bool, true, List, [], ◌∷◌, length, Option, Some, None, IsSomeAnd, nat_eq, nat_le, subst, refl, sym, ◌∙◌, ap, inl, inr, arith}
 use Rattle.std.specs.Option.{SomeIff}
 use Rattle.std.proofs.lemmas.Bool.{cases_lt, cond-false, cond-true, le-leb, lt-leb, ne_eqb}
 use Rattle.ft_base.specs.declared.stamps.Stamp.{Stamp}
-use Rattle.ft_base.specs.Scan.{at, len, one_more_if, place}
+use Rattle.ft_base.specs.Scan.{len, place}
 use Rattle.ft_block.specs.declared.blocks.Found.{Found}
 use Rattle.ft_block.specs.declared.leaves.LenView.{LenView}
 use Rattle.ft_block.specs.Leaves.{length_by, place_by, place_from, times_leaf, value_at}
 use Rattle.ft_leaves.specs.declared.leaves.TreeLeaf.{TreeLeaf}
-use Rattle.ft_leaves.specs.Elements.{TreeElement, seen_in}
+use Rattle.ft_leaves.specs.Elements.{seen_in}
 use Rattle.ft_leaves.specs.LeafLists.{elements, leaf_length}
 use Rattle.ft_leaves.specs.Places.{place_at}
 use Rattle.ft_leaves.proofs.Numbered.{place_from as place_from_number}
-use Rattle.ft_leaf_blocks.specs.declared.offsets.LeafOffset.{LeafOffset}
 use Rattle.ft_leaf_blocks.specs.LeafOffsets.{IsOnLeaf, offset_place}
 use Rattle.ft_leaf_blocks.specs.Walks.{IsInLeaf, held_place}
 use Rattle.ft_leaf_blocks.proofs.FoundPlaces.{found_at, found_inside, len_elements}
@@ -107,7 +106,7 @@ module _ {C U : Type 0} (units : C → List U) (by : C → Option Stamp) (view :
         some = some;
         on_leaf = some_and (value_at xs id) (λ v h. omega (arith, h.0, h.1)) held;
         place = at-place (seen_in view) 0 p (offset_place units by xs (record { leaf = id; offset = found.offset - 1 })) (elements units by xs)
-        (omega (arith, found_inside units by view xs (suc p) found e)) (omega (arith, there, some));
+            (omega (arith, found_inside units by view xs (suc p) found e)) (omega (arith, there, some));
       }
 
   -- nothing is found at the head

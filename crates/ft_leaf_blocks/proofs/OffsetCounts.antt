@@ -1,5 +1,5 @@
 -- What stands before an element on a leaf.
-use Rattle.std.proofs.Common.{◌≡◌, ℕ, zero, suc, ◌+◌, ◌<◌, ◌≤◌, Bool, true, false, List, ◌∷◌, ◌++◌, length, take, Option, Some, None, IsSomeAnd, MatchOption, option_map, refl, subst, sym, ◌∙◌, ap, inl, inr, arith, length-append}
+use Rattle.std.proofs.Common.{◌≡◌, ℕ, ◌+◌, ◌<◌, ◌≤◌, Bool, true, false, List, ◌∷◌, ◌++◌, length, take, Option, Some, None, IsSomeAnd, MatchOption, option_map, refl, subst, ◌∙◌, ap, inl, inr, arith, length-append}
 use Rattle.std.proofs.lemmas.Bool.{cases_lt}
 use Rattle.ft_arena.specs.Ids.{after}
 use Rattle.ft_base.specs.declared.stamps.Stamp.{Stamp}

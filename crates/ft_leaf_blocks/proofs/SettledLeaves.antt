@@ -1,5 +1,5 @@
 -- Where a reference on a leaf goes: there, behind it, or before it.
-use Rattle.std.proofs.Common.{◌≡◌, ◌≢◌, ℕ, suc, ◌+◌, ◌-◌, ◌<◌, ◌≤◌, Bool, true, false, cond, nat_eq, List, [], ◌∷◌, ◌++◌, map, length, All, Option, Some, None, IsSomeAnd, MatchOption, option_map, subst, refl, sym, ◌∙◌, ap, inl, inr, arith, append-nil, append_assoc, length-append}
+use Rattle.std.proofs.Common.{◌≡◌, ◌≢◌, ℕ, suc, ◌+◌, ◌<◌, ◌≤◌, Bool, true, false, cond, nat_eq, List, [], ◌∷◌, ◌++◌, map, length, All, Option, Some, None, IsSomeAnd, MatchOption, subst, refl, sym, ◌∙◌, ap, inl, inr, arith, append-nil, length-append}
 use Rattle.std.specs.Option.{option_or}
 use Rattle.std.proofs.lemmas.List.Elements.{All-head, All-tail}
 use Rattle.std.proofs.lemmas.Bool.{cases_eq, cond-false, cond-true, eq-eqb, ne_eqb}
@@ -16,9 +16,8 @@ use Rattle.ft_leaves.specs.Places.{settled_place}
 use Rattle.ft_leaves.specs.Settling.{allows, first_from, settled_from, stands}
 use Rattle.ft_leaves.proofs.LeafRuns.{elements-append, elements-one, length-leaf}
 use Rattle.ft_leaves.proofs.Settling.{first-here, first-past, settled-beside, settled-here, settled_place-from}
-use Rattle.ft_leaf_blocks.specs.declared.offsets.LeafOffset.{LeafOffset}
 use Rattle.ft_leaf_blocks.specs.LastStanding.{last_from}
-use Rattle.ft_leaf_blocks.specs.LeafOffsets.{IsOnLeaf, leaf_end, leaf_start, offset_place}
+use Rattle.ft_leaf_blocks.specs.LeafOffsets.{IsOnLeaf, leaf_end, leaf_start}
 use Rattle.ft_leaf_blocks.specs.Walks.{before_place, from_place, node_behind}
 use Rattle.ft_leaf_blocks.proofs.Walks.{before-after, stands as stands_once, up_to-before, up_to-stands}
 
@@ -106,141 +105,141 @@ module _ {L : Type 0} where
   up_to-prev xs id o once h = up_to-before xs o once (prev_live xs id o h) ∙ ap (before_place xs) (prev_behind xs id o h)
 
 module _ {C U : Type 0} (units : C → List U) (by : C → Option Stamp) (test : Standing) (xs : List (ℕ × TreeLeaf C)) where
- abbrev ok : TreeElement U → Bool
- ok = stands test
+  abbrev ok : TreeElement U → Bool
+  ok = stands test
 
- abbrev before : Option ℕ → ℕ
- before at = length (elements units by (before_place xs at))
+  abbrev before : Option ℕ → ℕ
+  before at = length (elements units by (before_place xs at))
 
- abbrev rest : Option ℕ → List (TreeElement U)
- rest at = elements units by (from_place xs at)
+  abbrev rest : Option ℕ → List (TreeElement U)
+  rest at = elements units by (from_place xs at)
 
- -- the place of the first element from a node on on which a reference may stand
- abbrev pub first_behind : Option ℕ → Option ℕ
- first_behind at = first_from ok (before at) (rest at)
+  -- the place of the first element from a node on on which a reference may stand
+  abbrev pub first_behind : Option ℕ → Option ℕ
+  first_behind at = first_from ok (before at) (rest at)
 
- -- the place of the last one up to a node
- abbrev pub last_before : Option ℕ → Option ℕ
- last_before at = last_from ok 0 (elements units by (up_to_place xs at))
+  -- the place of the last one up to a node
+  abbrev pub last_before : Option ℕ → Option ℕ
+  last_before at = last_from ok 0 (elements units by (up_to_place xs at))
 
- module _ (id : ℕ) (v : TreeLeaf C) (once : (i : ℕ) → times_leaf xs i ≤ 1) (is : value_at xs id ≡ Some v) where
-  abbrev of_leaf : U → TreeElement U
-  of_leaf u = element_with v.stamps (by v.content) v.overlay u
+  module _ (id : ℕ) (v : TreeLeaf C) (once : (i : ℕ) → times_leaf xs i ≤ 1) (is : value_at xs id ≡ Some v) where
+    abbrev of_leaf : U → TreeElement U
+    of_leaf u = element_with v.stamps (by v.content) v.overlay u
 
-  abbrev next : Option ℕ
-  next = after (ids xs) id
+    abbrev next : Option ℕ
+    next = after (ids xs) id
 
-  split_from : rest (Some id) ≡ leaf_elements units by v ++ rest next
-  split_from = ap (elements units by) (stands_once xs id v once is).from
+    split_from : rest (Some id) ≡ leaf_elements units by v ++ rest next
+    split_from = ap (elements units by) (stands_once xs id v once is).from
 
-  with_leaf : elements units by (left_of xs id ++ (id, v) ∷ []) ≡ elements units by (left_of xs id) ++ leaf_elements units by v
-  with_leaf =
-      elements-append units by (left_of xs id) ((id, v) ∷ []) ∙ ap (λ es. elements units by (left_of xs id) ++ es) (elements-one units by (id, v))
+    with_leaf : elements units by (left_of xs id ++ (id, v) ∷ []) ≡ elements units by (left_of xs id) ++ leaf_elements units by v
+    with_leaf =
+        elements-append units by (left_of xs id) ((id, v) ∷ []) ∙ ap (λ es. elements units by (left_of xs id) ++ es) (elements-one units by (id, v))
 
-  before_next : before next ≡ before (Some id) + length (units v.content)
-  before_next =
-      omega (
-        arith,
-        ap (λ ys. length (elements units by ys)) (before-after xs id v (stands_once xs id v once is)),
-        ap length with_leaf,
-        length-append (elements units by (left_of xs id)) (leaf_elements units by v),
-        length-leaf units by v,
-      )
+    before_next : before next ≡ before (Some id) + length (units v.content)
+    before_next =
+        omega (
+          arith,
+          ap (λ ys. length (elements units by ys)) (before-after xs id v (stands_once xs id v once is)),
+          ap length with_leaf,
+          length-append (elements units by (left_of xs id)) (leaf_elements units by v),
+          length-leaf units by v,
+        )
 
-  -- the first one is on this leaf, or on those behind it
-  pub first_on : (at : Option ℕ) → at ≡ Some id → allows test v.stamps ≡ true → 0 < length (units v.content) → first_behind at ≡ Some (leaf_start units by xs id)
-  first_on at here h some =
-      ap first_behind here ∙ ap (first_from ok (before (Some id))) split_from
-      ∙ first-here ok of_leaf (λ u. h) (units v.content) (before (Some id)) (rest next) some
+    -- the first one is on this leaf, or on those behind it
+    pub first_on : (at : Option ℕ) → at ≡ Some id → allows test v.stamps ≡ true → 0 < length (units v.content) → first_behind at ≡ Some (leaf_start units by xs id)
+    first_on at here h some =
+        ap first_behind here ∙ ap (first_from ok (before (Some id))) split_from
+        ∙ first-here ok of_leaf (λ u. h) (units v.content) (before (Some id)) (rest next) some
 
-  pub first_past : (at to : Option ℕ) → at ≡ Some id → to ≡ next → allows test v.stamps ≡ false → first_behind to ≡ first_behind at
-  first_past at to here there h =
-      ap first_behind there
-      ∙ sym (ap first_behind here ∙ ap (first_from ok (before (Some id))) split_from
-      ∙ first-past ok of_leaf (λ u. h) (units v.content) (before (Some id)) (before next) (rest next) before_next)
+    pub first_past : (at to : Option ℕ) → at ≡ Some id → to ≡ next → allows test v.stamps ≡ false → first_behind to ≡ first_behind at
+    first_past at to here there h =
+        ap first_behind there
+        ∙ sym (ap first_behind here ∙ ap (first_from ok (before (Some id))) split_from
+        ∙ first-past ok of_leaf (λ u. h) (units v.content) (before (Some id)) (before next) (rest next) before_next)
 
-  up_to_here : elements units by (up_to_leaf xs id) ≡ elements units by (left_of xs id) ++ leaf_elements units by v
-  up_to_here = ap (elements units by) (up_to-stands xs id v (stands_once xs id v once is)) ∙ with_leaf
+    up_to_here : elements units by (up_to_leaf xs id) ≡ elements units by (left_of xs id) ++ leaf_elements units by v
+    up_to_here = ap (elements units by) (up_to-stands xs id v (stands_once xs id v once is)) ∙ with_leaf
 
-  up_to_count : length (elements units by (up_to_leaf xs id)) ≡ length (elements units by (left_of xs id)) + length (units v.content)
-  up_to_count =
-      omega (arith, ap length up_to_here, length-append (elements units by (left_of xs id)) (leaf_elements units by v), length-leaf units by v)
+    up_to_count : length (elements units by (up_to_leaf xs id)) ≡ length (elements units by (left_of xs id)) + length (units v.content)
+    up_to_count =
+        omega (arith, ap length up_to_here, length-append (elements units by (left_of xs id)) (leaf_elements units by v), length-leaf units by v)
 
-  -- the last one is on this leaf, or on those before it
-  pub last_on : (at : Option ℕ) → at ≡ Some id → allows test v.stamps ≡ true → 0 < length (units v.content) → last_before at ≡ Some (leaf_end units by xs id)
-  last_on at here h some =
-      let ls = elements units by (left_of xs id) in
-      ap last_before here ∙ ap (last_from ok 0) up_to_here ∙ last-append ok 0 ls (leaf_elements units by v)
-      ∙ ap (λ o. option_or o (last_from ok 0 ls))
-      (last-run ok of_leaf (λ u. h) (units v.content) (0 + length ls) (leaf_end units by xs id) some (omega (arith, up_to_count, some)))
+    -- the last one is on this leaf, or on those before it
+    pub last_on : (at : Option ℕ) → at ≡ Some id → allows test v.stamps ≡ true → 0 < length (units v.content) → last_before at ≡ Some (leaf_end units by xs id)
+    last_on at here h some =
+        let ls = elements units by (left_of xs id) in
+        ap last_before here ∙ ap (last_from ok 0) up_to_here ∙ last-append ok 0 ls (leaf_elements units by v)
+        ∙ ap (λ o. option_or o (last_from ok 0 ls))
+        (last-run ok of_leaf (λ u. h) (units v.content) (0 + length ls) (leaf_end units by xs id) some (omega (arith, up_to_count, some)))
 
-  pub last_past : (at to : Option ℕ) → at ≡ Some id → IsBefore xs id to → allows test v.stamps ≡ false → last_before to ≡ last_before at
-  last_past at to here prev h =
-      let ls = elements units by (left_of xs id) in
-      ap (λ ys. last_from ok 0 (elements units by ys)) (up_to-prev xs id to once prev)
-      ∙ sym (ap last_before here ∙ ap (last_from ok 0) up_to_here ∙ last-append ok 0 ls (leaf_elements units by v)
-      ∙ ap (λ p. option_or p (last_from ok 0 ls)) (last-none ok of_leaf (λ u. h) (units v.content) (0 + length ls)))
+    pub last_past : (at to : Option ℕ) → at ≡ Some id → IsBefore xs id to → allows test v.stamps ≡ false → last_before to ≡ last_before at
+    last_past at to here prev h =
+        let ls = elements units by (left_of xs id) in
+        ap (λ ys. last_from ok 0 (elements units by ys)) (up_to-prev xs id to once prev)
+        ∙ sym (ap last_before here ∙ ap (last_from ok 0) up_to_here ∙ last-append ok 0 ls (leaf_elements units by v)
+        ∙ ap (λ p. option_or p (last_from ok 0 ls)) (last-none ok of_leaf (λ u. h) (units v.content) (0 + length ls)))
 
-  pub last_fewer : (at to : Option ℕ) → at ≡ Some id → IsBefore xs id to → length (up_to_place xs to) < length (up_to_place xs at)
-  last_fewer at to here prev =
-      omega (
-        arith,
-        ap (λ o. length (up_to_place xs o)) here,
-        ap length (up_to-prev xs id to once prev),
-        ap length (up_to-stands xs id v (stands_once xs id v once is)),
-        length-append (left_of xs id) ((id, v) ∷ []),
-      )
+    pub last_fewer : (at to : Option ℕ) → at ≡ Some id → IsBefore xs id to → length (up_to_place xs to) < length (up_to_place xs at)
+    last_fewer at to here prev =
+        omega (
+          arith,
+          ap (λ o. length (up_to_place xs o)) here,
+          ap length (up_to-prev xs id to once prev),
+          ap length (up_to-stands xs id v (stands_once xs id v once is)),
+          length-append (left_of xs id) ((id, v) ∷ []),
+        )
 
-  whole : elements units by xs ≡ elements units by (left_of xs id) ++ (leaf_elements units by v ++ rest next)
-  whole =
-      ap (elements units by) (stands_once xs id v once is).whole ∙ elements-append units by (left_of xs id) ((id, v) ∷ from_place xs next)
+    whole : elements units by xs ≡ elements units by (left_of xs id) ++ (leaf_elements units by v ++ rest next)
+    whole =
+        ap (elements units by) (stands_once xs id v once is).whole ∙ elements-append units by (left_of xs id) ((id, v) ∷ from_place xs next)
 
-  settled_at : (i : ℕ) → length (elements units by (left_of xs id)) ≤ i
-      → settled_place ok (elements units by xs) i
-      ≡ settled_from ok i (last_from ok 0 (elements units by (left_of xs id))) (before (Some id)) (leaf_elements units by v ++ rest next)
-  settled_at i le =
-      let ls = elements units by (left_of xs id) in
-      let es = leaf_elements units by v ++ rest next in
-      let last = last_from ok 0 ls in
-      let same : 0 + length ls ≡ length ls = omega arith in
-      settled_place-from ok i (elements units by xs) ∙ ap (settled_from ok i None 0) whole ∙ settled-append ok i 0 None ls es (omega arith)
-      ∙ ap (λ o. settled_from ok i o (0 + length ls) es) (or_none last) ∙ ap (λ k. settled_from ok i last k es) same
+    settled_at : (i : ℕ) → length (elements units by (left_of xs id)) ≤ i
+        → settled_place ok (elements units by xs) i
+        ≡ settled_from ok i (last_from ok 0 (elements units by (left_of xs id))) (before (Some id)) (leaf_elements units by v ++ rest next)
+    settled_at i le =
+        let ls = elements units by (left_of xs id) in
+        let es = leaf_elements units by v ++ rest next in
+        let last = last_from ok 0 ls in
+        let same : 0 + length ls ≡ length ls = omega arith in
+        settled_place-from ok i (elements units by xs) ∙ ap (settled_from ok i None 0) whole ∙ settled-append ok i 0 None ls es (omega arith)
+        ∙ ap (λ o. settled_from ok i o (0 + length ls) es) (or_none last) ∙ ap (λ k. settled_from ok i last k es) same
 
-  less : (i : ℕ) → IsSomeAnd (value_at xs id) (λ w. i < length (units w.content)) → i < length (units v.content)
-  less i h = subst (λ o. IsSomeAnd o (λ w. i < length (units w.content))) is h
+    less : (i : ℕ) → IsSomeAnd (value_at xs id) (λ w. i < length (units w.content)) → i < length (units v.content)
+    less i h = subst (λ o. IsSomeAnd o (λ w. i < length (units w.content))) is h
 
-  -- a reference stays on a leaf on which it may stand
-  pub settled_here : (i : ℕ) → IsSomeAnd (value_at xs id) (λ w. i < length (units w.content)) → allows test v.stamps ≡ true
-      → settled_place ok (elements units by xs) (leaf_start units by xs id + i) ≡ Some (leaf_start units by xs id + i)
-  settled_here i on h =
-      let start = leaf_start units by xs id in
-      settled_at (start + i) (omega arith)
-      ∙ settled-here ok of_leaf (λ u. h) (units v.content) (start + i) start (last_from ok 0 (elements units by (left_of xs id))) (rest next)
-      (omega arith) (omega (arith, less i on))
+    -- a reference stays on a leaf on which it may stand
+    pub settled_here : (i : ℕ) → IsSomeAnd (value_at xs id) (λ w. i < length (units w.content)) → allows test v.stamps ≡ true
+        → settled_place ok (elements units by xs) (leaf_start units by xs id + i) ≡ Some (leaf_start units by xs id + i)
+    settled_here i on h =
+        let start = leaf_start units by xs id in
+        settled_at (start + i) (omega arith)
+        ∙ settled-here ok of_leaf (λ u. h) (units v.content) (start + i) start (last_from ok 0 (elements units by (left_of xs id))) (rest next)
+        (omega arith) (omega (arith, less i on))
 
-  settled_off : (i : ℕ) → IsSomeAnd (value_at xs id) (λ w. i < length (units w.content)) → allows test v.stamps ≡ false
-      → settled_place ok (elements units by xs) (leaf_start units by xs id + i)
-      ≡ option_or (first_behind next) (last_from ok 0 (elements units by (left_of xs id)))
-  settled_off i on h =
-      let start = leaf_start units by xs id in
-      settled_at (start + i) (omega arith)
-      ∙ settled-beside ok of_leaf (λ u. h) (units v.content) (start + i) start (before next) (last_from ok 0 (elements units by (left_of xs id))) (rest next)
-      before_next (omega arith) (omega (arith, before_next, less i on))
+    settled_off : (i : ℕ) → IsSomeAnd (value_at xs id) (λ w. i < length (units w.content)) → allows test v.stamps ≡ false
+        → settled_place ok (elements units by xs) (leaf_start units by xs id + i)
+        ≡ option_or (first_behind next) (last_from ok 0 (elements units by (left_of xs id)))
+    settled_off i on h =
+        let start = leaf_start units by xs id in
+        settled_at (start + i) (omega arith)
+        ∙ settled-beside ok of_leaf (λ u. h) (units v.content) (start + i) start (before next) (last_from ok 0 (elements units by (left_of xs id))) (rest next)
+        before_next (omega arith) (omega (arith, before_next, less i on))
 
-  -- else it goes to the first one behind
-  pub settled_behind : (i : ℕ) (to : Option ℕ) (place : ℕ) → IsSomeAnd (value_at xs id) (λ w. i < length (units w.content)) → allows test v.stamps ≡ false
-      → to ≡ next → Some place ≡ first_behind to → Some (place + 0) ≡ settled_place ok (elements units by xs) (leaf_start units by xs id + i)
-  settled_behind i to place on h there found =
-      let same : place + 0 ≡ place = omega arith in
-      ap (λ k. Some k) same ∙ ap (λ o. option_or o (last_from ok 0 (elements units by (left_of xs id)))) (found ∙ ap first_behind there) ∙ sym (settled_off i on h)
+    -- else it goes to the first one behind
+    pub settled_behind : (i : ℕ) (to : Option ℕ) (place : ℕ) → IsSomeAnd (value_at xs id) (λ w. i < length (units w.content)) → allows test v.stamps ≡ false
+        → to ≡ next → Some place ≡ first_behind to → Some (place + 0) ≡ settled_place ok (elements units by xs) (leaf_start units by xs id + i)
+    settled_behind i to place on h there found =
+        let same : place + 0 ≡ place = omega arith in
+        ap (λ k. Some k) same ∙ ap (λ o. option_or o (last_from ok 0 (elements units by (left_of xs id)))) (found ∙ ap first_behind there) ∙ sym (settled_off i on h)
 
-  -- else to the last one before, if there is one
-  pub settled_before : (i : ℕ) (to from : Option ℕ) (last : Option ℕ) → IsSomeAnd (value_at xs id) (λ w. i < length (units w.content)) → allows test v.stamps ≡ false
-      → to ≡ next → None ≡ first_behind to → IsBefore xs id from → last ≡ last_before from
-      → last ≡ settled_place ok (elements units by xs) (leaf_start units by xs id + i)
-  settled_before i to from last on h there none prev is_last =
-      is_last ∙ ap (λ ys. last_from ok 0 (elements units by ys)) (up_to-prev xs id from once prev)
-      ∙ ap (λ o. option_or o (last_from ok 0 (elements units by (left_of xs id)))) (none ∙ ap first_behind there) ∙ sym (settled_off i on h)
+    -- else to the last one before, if there is one
+    pub settled_before : (i : ℕ) (to from : Option ℕ) (last : Option ℕ) → IsSomeAnd (value_at xs id) (λ w. i < length (units w.content)) → allows test v.stamps ≡ false
+        → to ≡ next → None ≡ first_behind to → IsBefore xs id from → last ≡ last_before from
+        → last ≡ settled_place ok (elements units by xs) (leaf_start units by xs id + i)
+    settled_before i to from last on h there none prev is_last =
+        is_last ∙ ap (λ ys. last_from ok 0 (elements units by ys)) (up_to-prev xs id from once prev)
+        ∙ ap (λ o. option_or o (last_from ok 0 (elements units by (left_of xs id)))) (none ∙ ap first_behind there) ∙ sym (settled_off i on h)
 
 -- a leaf that stands there has a first element
 pub first_of_leaf : {C U : Type 0} (units : C → List U) (xs : List (ℕ × TreeLeaf C)) (id : ℕ) → All (λ x. 1 ≤ length (units x.1.content)) xs → IsLeafIn xs id

@@ -1,4 +1,4 @@
-use Rattle.std.proofs.Common.{ℕ, ◌+◌, sym, ◌∙◌, ap, arith}
+use Rattle.std.proofs.Common.{arith}
 use Rattle.ft_block.specs.Leaves.{left_of}
 use Rattle.ft_leaves.proofs.LeafRuns.{length-elements}
 use Rattle.ft_leaf_blocks.proofs.OffsetCounts.{live_leaf, offset_within}

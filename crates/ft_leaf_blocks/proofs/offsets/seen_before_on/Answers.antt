@@ -1,4 +1,4 @@
-use Rattle.std.proofs.Common.{sym, ◌∙◌, ap, arith}
+use Rattle.std.proofs.Common.{sym, ◌∙◌, arith}
 use Rattle.ft_block.specs.Leaves.{left_of}
 use Rattle.ft_leaves.proofs.LeafRuns.{length-elements}
 use Rattle.ft_leaf_blocks.proofs.FoundPlaces.{len_elements}
@@ -35,7 +35,7 @@ returns-then-is_seen_in g c =
       c.position_of-before.ensures,
       len_elements us by c.args.view (left_of xs c.args.at.now.leaf),
       before_seen us by xs c.args.at.now c.leaf.result.now c.first-first.ensures.once c.leaf.ensures c.requires.on_leaf c.args.view
-      (sym c.is_seen_in.ensures ∙ c.if-is_seen_in.true),
+          (sym c.is_seen_in.ensures ∙ c.if-is_seen_in.true),
     )
 
 pub returns-else-is_seen_in : goal.returns-else-is_seen_in
@@ -48,5 +48,5 @@ returns-else-is_seen_in g c =
       c.position_of-before.ensures,
       len_elements us by c.args.view (left_of xs c.args.at.now.leaf),
       before_unseen us by xs c.args.at.now c.leaf.result.now c.first-first.ensures.once c.leaf.ensures c.requires.on_leaf c.args.view
-      (sym c.is_seen_in.ensures ∙ c.if-is_seen_in.false),
+          (sym c.is_seen_in.ensures ∙ c.if-is_seen_in.false),
     )

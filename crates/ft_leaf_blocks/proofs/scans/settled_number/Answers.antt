@@ -1,4 +1,4 @@
-use Rattle.std.proofs.Common.{ℕ, Option, option_map, sym, ◌∙◌, ap}
+use Rattle.std.proofs.Common.{option_map, sym, ◌∙◌, ap}
 use Rattle.ft_leaves.specs.Elements.{seen_in}
 use Rattle.ft_leaves.specs.LeafLists.{elements}
 use Rattle.ft_leaves.specs.Places.{seen_before}

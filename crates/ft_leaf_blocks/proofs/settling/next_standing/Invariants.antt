@@ -9,9 +9,9 @@ use Rattle.ft_leaf_blocks.proofs.settling.next_standing.Given as goal
 abbrev pub invariant-loop-at : goal.invariant-loop-at
 invariant-loop-at g l = record {
   first : first_from (stands l.test) (length (elements g.C.Content.units g.C.Content.by (before_place l.blocks.leaves l.at)))
-          (elements g.C.Content.units g.C.Content.by (from_place l.blocks.leaves l.at))
+      (elements g.C.Content.units g.C.Content.by (from_place l.blocks.leaves l.at))
       ≡ first_from (stands l.test) (length (elements g.C.Content.units g.C.Content.by (before_place l.blocks.leaves l.fn.from)))
-          (elements g.C.Content.units g.C.Content.by (from_place l.blocks.leaves l.fn.from));
+      (elements g.C.Content.units g.C.Content.by (from_place l.blocks.leaves l.fn.from));
   live : IsPlaceIn l.blocks.leaves l.at;
 }
 

@@ -1,4 +1,4 @@
-use Rattle.std.proofs.Common.{ℕ, ◌<◌, Option, Some, None, length, option_map, subst, sym, ◌∙◌, ap, arith}
+use Rattle.std.proofs.Common.{ℕ, ◌<◌, Some, None, length, option_map, subst, sym, ◌∙◌, ap}
 use Rattle.ft_block.specs.Leaves.{IsPlaceIn}
 use Rattle.ft_block.proofs.LeafListLemmas.{value_at_in}
 use Rattle.ft_leaf_blocks.specs.LeafOffsets.{leaf_end, leaf_start, offset_place}
