@@ -246,7 +246,9 @@ pub first_of_leaf : {C U : Type 0} (units : C → List U) (xs : List (ℕ × Tre
     → IsOnLeaf units xs (record { leaf = id; offset = 0 })
 first_of_leaf {C} units [] id all live = absurd (omega arith)
 first_of_leaf {C} units (x ∷ xs) id all live = elim (cases_eq x.0 id) [
-  | inl e ↦ subst (λ o. IsSomeAnd o (λ v. 0 < length (units v.content))) (sym (cond-true (nat_eq x.0 id) (Some x.1) (value_at xs id) (eq-eqb x.0 id e))) (All-head (λ (y : ℕ × TreeLeaf C). 1 ≤ length (units y.1.content)) x xs all)
+  | inl e ↦
+      subst (λ o. IsSomeAnd o (λ v. 0 < length (units v.content))) (sym (cond-true (nat_eq x.0 id) (Some x.1) (value_at xs id) (eq-eqb x.0 id e)))
+      (All-head (λ (y : ℕ × TreeLeaf C). 1 ≤ length (units y.1.content)) x xs all)
   | inr d ↦
       subst (λ o. IsSomeAnd o (λ v. 0 < length (units v.content))) (sym (cond-false (nat_eq x.0 id) (Some x.1) (value_at xs id) (ne_eqb x.0 id d)))
       (first_of_leaf units xs id (All-tail (λ (y : ℕ × TreeLeaf C). 1 ≤ length (units y.1.content)) x xs all) (omega (arith, live, same_other x.0 id d)))

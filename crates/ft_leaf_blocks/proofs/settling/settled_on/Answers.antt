@@ -32,7 +32,8 @@ returns-then-stands-clause-place g c =
     let us = g.C.Content.units in
     let by = g.C.Content.by in
     let xs = c.args.blocks.now.leaves in
-    sym (settled_here us by c.args.test xs c.args.at.now.leaf c.leaf.result.now c.first-first.ensures.once c.leaf.ensures c.args.at.now.offset c.requires.on_leaf (sym c.stands.ensures ∙ c.if-stands.true))
+    sym (settled_here us by c.args.test xs c.args.at.now.leaf c.leaf.result.now c.first-first.ensures.once c.leaf.ensures c.args.at.now.offset
+    c.requires.on_leaf (sym c.stands.ensures ∙ c.if-stands.true))
 
 pub returns-in-Some-clause-on_leaf : goal.returns-in-Some-clause-on_leaf
 returns-in-Some-clause-on_leaf g c =
@@ -56,7 +57,8 @@ returns-in_err-leaf-in-None-clause-place g c =
     let xs = c.args.blocks.now.leaves in
     ap (option_map (offset_place us by xs)) c.from_residual.ensures
     ∙ settled_before us by c.args.test xs c.args.at.now.leaf c.leaf.result.now c.first-first.ensures.once c.leaf.ensures c.args.at.now.offset
-    c.next.result c.prev.result None c.requires.on_leaf (sym c.stands.ensures ∙ c.if-stands.false) c.next.ensures c.in-None.ensures.first c.prev.ensures c.in_err-leaf-in-None.ensures.last
+    c.next.result c.prev.result None c.requires.on_leaf (sym c.stands.ensures ∙ c.if-stands.false) c.next.ensures
+    c.in-None.ensures.first c.prev.ensures c.in_err-leaf-in-None.ensures.last
 
 pub returns-in_ok-leaf-in-None-clause-place : goal.returns-in_ok-leaf-in-None-clause-place
 returns-in_ok-leaf-in-None-clause-place g c =
