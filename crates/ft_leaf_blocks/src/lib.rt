@@ -1,5 +1,7 @@
 //! Leaves of the merge tree in blocks: how they are cut at a place, get a leaf there, and are changed over a
-//! range, by reading a few blocks to find the place and then only the leaves of the range.
+//! range, by reading a few blocks to find the place and then only the leaves of the range; and where references
+//! go, from leaf to leaf. For each pending stage the leaves that it touched are kept, so that its acknowledgement
+//! goes to these alone.
 //!
 //! A call that can't answer `OutOfMemory` takes no memory.
 #![tactic(auto)]
@@ -7,9 +9,18 @@
 pub mod acks;
 pub mod cuts;
 pub mod edits;
+pub mod finds;
 pub mod joins;
+pub mod leaf_blocks;
+pub mod offsets;
 pub mod places;
 pub mod ranges;
 pub mod references;
 pub mod scans;
+mod stage_nodes;
+pub mod settling;
 pub mod stamp_lists;
+mod touched;
+mod tracked;
+
+pub use leaf_blocks::LeafBlocks;
