@@ -1,4 +1,4 @@
-use Rattle.std.proofs.Common.{◌≡◌, ℕ, ◌+◌, ◌++◌, [], List, length, take, drop, append-nil, refl, subst, sym, ◌∙◌, ap, arith}
+use Rattle.std.proofs.Common.{◌≡◌, ℕ, ◌++◌, [], List, length, take, drop, append-nil, refl, subst, sym, ◌∙◌, ap, arith}
 use Rattle.std.proofs.Math.Seq.{drop-append_seam, take-append_seam}
 use Rattle.ft_block.specs.Leaves.{LeafList, ids}
 use Rattle.ft_leaves.specs.declared.leaves.TreeLeaf.{TreeLeaf}
@@ -42,7 +42,8 @@ returns-clause-list g c =
     let overlay : c.of-overlay.result ≡ record { acked = c.args.props.now; pending = [] } =
     c.of-overlay.ensures ∙ ap (λ (ps : PropertyList). record { acked = ps; pending = [] }) c.in_ok-copy.ensures in
     let n : ℕ = length (elements us by xs) in
-    let ended = subst (λ (l : LeafList (TreeLeaf g.row.C.Denot)). held_place us by l.leaves c.find_end-end.result.leaf c.find_end-end.result.offset ≡ length (elements us by l.leaves))
+    let ended = subst (λ (l : LeafList (TreeLeaf g.row.C.Denot)). held_place us by l.leaves c.find_end-end.result.leaf c.find_end-end.result.offset
+    ≡ length (elements us by l.leaves))
     c.list.ensures c.find_end-end.ensures.place in
     let place : n ≡ _ = sym (cut.place ∙ ended) in
     let puts = puts_behind us by mid c.insert_after.new.self.leaves c.in_ok-at.at c.in_ok-_id._id n leaf c.first-first.ensures.once cut.live c.in_ok-_id.ensures.ok place in
@@ -55,7 +56,8 @@ returns-clause-nodes g c =
     let by = g.C.Content.by in
     let cut = c.in_ok-at.ensures.cut in
     let leaf : TreeLeaf g.row.C.Denot = record { content = c.args.content; stamps = c.args.e; overlay = c.of-overlay.result } in
-    let ended = subst (λ (l : LeafList (TreeLeaf g.row.C.Denot)). held_place us by l.leaves c.find_end-end.result.leaf c.find_end-end.result.offset ≡ length (elements us by l.leaves))
+    let ended = subst (λ (l : LeafList (TreeLeaf g.row.C.Denot)). held_place us by l.leaves c.find_end-end.result.leaf c.find_end-end.result.offset
+    ≡ length (elements us by l.leaves))
     c.list.ensures c.find_end-end.ensures.place in
     let puts = puts_behind us by c.cut_at.new.blocks.leaves c.insert_after.new.self.leaves c.in_ok-at.at c.in_ok-_id._id
     (length (elements us by c.args.blocks.now.leaves)) leaf c.first-first.ensures.once cut.live c.in_ok-_id.ensures.ok

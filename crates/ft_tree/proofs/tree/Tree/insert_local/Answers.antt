@@ -1,5 +1,4 @@
 use Rattle.std.proofs.lemmas.Result.{on_ok_weaker}
-use Rattle.ft_base.specs.Scan.{place}
 use Rattle.ft_block.specs.Leaves.{last_stage}
 use Rattle.ft_leaves.specs.Elements.{seen_in}
 use Rattle.ft_tree.proofs.TreeInside.{held_listed}

@@ -1,7 +1,7 @@
 use Rattle.std.proofs.Common.{◌≡◌, ◌+◌, [], length, option_map, ap, ◌∙◌}
 use Rattle.std.proofs.lemmas.Result.{on_ok_weaker}
 use Rattle.ft_base.specs.declared.stamps.Stamp.TheVariants.{Acked}
-use Rattle.ft_base.specs.Scan.{place, put}
+use Rattle.ft_base.specs.Scan.{put}
 use Rattle.ft_block.specs.declared.leaves.LenView.TheVariants.{At}
 use Rattle.ft_leaves.specs.Elements.{is_pending, seen_in}
 use Rattle.ft_leaves.specs.Edits.{with_place}

@@ -21,7 +21,8 @@ invariant_of-self g c = λ usable.
       small = sound.small;
       sweep = sound.sweep;
       refs = λ r h. ap (λ xs. reference_at xs r) (c.settle_in.ensures
-          ∙ ap (λ (l : LeafList (TreeLeaf g.row.C.Denot)). map (settled_at c.args.r (elements us by l.leaves)) c.self.inside.refs.items) c.list.ensures) ∙ none_changed slides c.self.inside.refs.items c.args.r r (sound.refs r h);
+          ∙ ap (λ (l : LeafList (TreeLeaf g.row.C.Denot)). map (settled_at c.args.r (elements us by l.leaves)) c.self.inside.refs.items) c.list.ensures)
+          ∙ none_changed slides c.self.inside.refs.items c.args.r r (sound.refs r h);
     }
 
 pub returns-clause-refs : goal.returns-clause-refs
@@ -30,6 +31,7 @@ returns-clause-refs g c = λ x.
     let by = g.C.Content.by in
     let slides : List (ℕ × TreeLeaf g.row.C.Denot) → Reference → Reference = λ xs y. slid_reference (elements us by xs) (record y { acked = true }) in
     ap (λ xs. reference_at xs x) (c.settle_in.ensures
-    ∙ ap (λ (l : LeafList (TreeLeaf g.row.C.Denot)). map (settled_at c.args.r (elements us by l.leaves)) c.self.inside.refs.items) c.list.ensures) ∙ reference_at-changed (slides c.self.inside.blocks.leaves) c.self.inside.refs.items c.args.r x
+    ∙ ap (λ (l : LeafList (TreeLeaf g.row.C.Denot)). map (settled_at c.args.r (elements us by l.leaves)) c.self.inside.refs.items) c.list.ensures)
+    ∙ reference_at-changed (slides c.self.inside.blocks.leaves) c.self.inside.refs.items c.args.r x
     ∙ ap (λ (s : TreeState g.row.C.Denot). cond (nat_eq x c.args.r) (option_and_then (λ z. Some (slides s.leaves z)) (reference_at s.refs x))
     (reference_at s.refs x)) c.self.view_is
