@@ -7,3 +7,6 @@ pub mod Acknowledged
 pub mod PlacedLeaves
 pub mod MovedLeaves
 pub mod JoinedPairs
+pub mod LeafPlaces
+pub mod AnchoredLeaves
+pub mod SentReferences

@@ -1,9 +1,9 @@
 //! References on leaves: each stands on an element of a leaf, or is detached, and is pending or acknowledged.
 
-ghost use Rattle.std.specs.Prelude.{◌≡◌, ◌≢◌, ℕ, ◌+◌, ◌<◌, ◌^◌, Bool, true, false, Some, None, IsSome, IsTrue, IfOk, OnOk, length, option_map};
+ghost use Rattle.std.specs.Prelude.{◌≡◌, ◌≢◌, ℕ, ◌+◌, ◌<◌, ◌≤◌, ◌^◌, true, false, Some, None, IsSome, IfOk, OnErr, OnOk, length, option_map, slice_index_or};
 ghost use Rattle.std.specs.Option.{ForSome};
 ghost use Rattle.ft_arena.specs.Ids.{first};
-ghost use Rattle.ft_refs.specs.RefLists.{Holds, IsHeld, IsRefs, entry, ids_of, next_of, place_of_reference, raised_place, split_place};
+ghost use Rattle.ft_refs.specs.RefLists.{ChangesOne, Holds, IsHeld, IsRefs, entry, ids_of, next_of, place_of_reference, raised_place, references_of, split_place, without_reference};
 ghost use Rattle.ft_leaf_blocks.specs.Anchors.{ChangesAnchor, MovesAnchors, is_acked_at, sent_place};
 
 use ft_arena::NodeId;
@@ -64,7 +64,10 @@ impl Anchors {
         ensures added { IfOk result (λ r. ChangesAnchor r (Some (Some record { owner = id; offset = offset })) false self.old self.new) }
     {
         let r = self.refs.attach(id, offset)?;
-        set_flag(&mut self.acked, r.0)?;
+        if let Err(e) = make_pending(&mut self.acked, r.0) {
+            self.refs.release(r);
+            return Err(e);
+        }
         Ok(r)
     }
 
@@ -163,6 +166,59 @@ impl Anchors {
         ensures acked { self.new.acked ≡ self.old.acked }
         ensures held { length self.new.refs.lists ≡ length self.old.refs.lists }
     {
-        send_acked(&mut self.refs, &self.acked, from, to);
+        send_acked(&mut self.refs, &self.acked, from, &to);
+    }
+}
+
+/// Makes the flag of this number false, and room for the flags up to it.
+///
+/// Answers `OutOfMemory` where there is no room for them, and then no flag changed.
+fn make_pending(acked: &mut Vec<bool>, at: usize) -> Result<(), OutOfMemory>
+    ensures flag { slice_index_or acked.new.items at false ≡ false }
+    ensures others { (r : ℕ) → r ≢ at → slice_index_or acked.new.items r false ≡ slice_index_or acked.old.items r false }
+    ensures longer { length acked.old.items ≤ length acked.new.items }
+    ensures room { OnOk result (at < length acked.new.items) }
+{
+    if at < acked.len() {
+        acked[at] = false;
+        return Ok(());
+    }
+    let Some(len) = at.checked_add(1) else {
+        return Err(OutOfMemory);
+    };
+    acked.resize(len, false)?;
+    Ok(())
+}
+
+/// Puts a reference at this place, or detaches it where none is given.
+fn send(refs: &mut Refs, r: RefId, to: &Option<Place>)
+    requires live { IsSome (entry refs.old r) }
+    requires held { ForSome to.now (λ p. IsHeld refs.old p.owner) }
+    ensures others { (o : ℕ) → ForSome to.now (λ p. p.owner ≢ o) → references_of refs.new o ≡ without_reference (references_of refs.old o) r }
+    ensures changes { ChangesOne refs.old refs.new r (Some to.now) }
+    ensures same_held { length refs.new.lists ≡ length refs.old.lists }
+    ensures sound { IsRefs refs.new }
+{
+    match to {
+        Some(p) => refs.put(r, p.owner, p.offset),
+        None => refs.detach(r),
+    }
+}
+
+/// The references of `from` whose flags are set go to this place, or are detached where none is given.
+fn send_acked(refs: &mut Refs, acked: &[bool], from: NodeId, to: &Option<Place>)
+    requires flags { (r : ℕ) → IsSome (entry refs.old r) → r < length acked.now }
+    requires held { ForSome to.now (λ p. IsHeld refs.old p.owner) }
+    requires differ { ForSome to.now (λ p. p.owner ≢ from) }
+    ensures places { (r : ℕ) → entry refs.new r ≡ option_map (sent_place (slice_index_or acked.now r false) from to.now) (entry refs.old r) }
+    ensures same_held { length refs.new.lists ≡ length refs.old.lists }
+    ensures sound { IsRefs refs.new }
+{
+    let mut ahead = refs.first(from);
+    while let Some(r) = ahead {
+        ahead = refs.next(r);
+        if acked[r.0] {
+            send(refs, r, to);
+        }
     }
 }

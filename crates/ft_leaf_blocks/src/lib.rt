@@ -5,6 +5,7 @@
 #![tactic(auto)]
 
 pub mod acks;
+pub mod anchors;
 pub mod cuts;
 pub mod edits;
 pub mod joins;
