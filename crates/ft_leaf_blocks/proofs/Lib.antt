@@ -10,3 +10,4 @@ pub mod JoinedPairs
 pub mod LeafPlaces
 pub mod AnchoredLeaves
 pub mod SentReferences
+pub mod SlidReferences

@@ -13,4 +13,5 @@ pub mod places;
 pub mod ranges;
 pub mod references;
 pub mod scans;
+pub mod slides;
 pub mod stamp_lists;
