@@ -11,3 +11,4 @@ pub mod LeafPlaces
 pub mod AnchoredLeaves
 pub mod SentReferences
 pub mod SlidReferences
+pub mod UnremovedWalks

@@ -100,7 +100,7 @@ module _ {C U : Type 0} (units : C → List U) (by : C → Option Stamp) where
         ∙ settled-beside unremoved (of_leaf v) (λ u. h) (units v.content) (count_left xs id + offset) (count_left xs id) (count_left xs id + length (units v.content))
         (last_from unremoved 0 None (elements units by (left_of xs id))) (elements units by (from_place xs (after (ids xs) id))) refl (omega arith) (omega arith)
 
-  unremoved_of : (xs : List (ℕ × TreeLeaf C)) (id : ℕ) (v : TreeLeaf C) → value_at xs id ≡ Some v → is_unremoved_at xs id ≡ is_present is_acked v.stamps
+  pub unremoved_of : (xs : List (ℕ × TreeLeaf C)) (id : ℕ) (v : TreeLeaf C) → value_at xs id ≡ Some v → is_unremoved_at xs id ≡ is_present is_acked v.stamps
   unremoved_of xs id v e = ap (λ (o : Option (TreeLeaf C)). option_map_or (λ w. is_present is_acked w.stamps) o false) e
 
   module _ (xs : List (ℕ × TreeLeaf C)) (once : (i : ℕ) → times_leaf xs i ≤ 1) where
@@ -286,3 +286,10 @@ module _ {C U : Type 0} (units : C → List U) (by : C → Option Stamp) where
           ≡ option_map (slid_reference (elements units by xs)) (reference_at (references_on units by xs a) r)
       sent_once r =
           once_by r (is_on a id r) refl (sent_references r)
+
+  -- an offset on the leaf of a node
+  pub within_at : (xs : List (ℕ × TreeLeaf C)) (id : ℕ) (v : TreeLeaf C) (offset : ℕ) → value_at xs id ≡ Some v → offset < length (units v.content)
+      → ForSome (value_at xs id) (λ w. offset < length (units w.content))
+  within_at xs id v offset e less w f =
+      let same_leaf : w ≡ v = let both : Some w ≡ Some v = sym f ∙ e in (cc) in
+      omega (arith, less, ap (λ (z : TreeLeaf C). length (units z.content)) same_leaf)

@@ -86,7 +86,9 @@ fn slid_place<C: Content>(blocks: &Blocks<TreeLeaf<C>>, id: NodeId) -> Option<Pl
         let _len = blocks.leaf(owner).content.len();
         return Some(Place { owner, offset: 0 });
     }
-    let owner = unremoved_before(blocks, id)?;
+    let Some(owner) = unremoved_before(blocks, id) else {
+        return None;
+    };
     let len = blocks.leaf(owner).content.len();
     Some(Place {
         owner,
