@@ -60,7 +60,7 @@ same_entry (Some (Some p)) = refl
 
 -- references that stay where they are
 pub anchors_stay : (a : AnchorLists) → MovesAnchors (λ p. p) a a
-anchors_stay a = record { places = λ r. same_entry (entry a.refs r); acked = refl; held = refl }
+anchors_stay a = record { places = λ r. same_entry (entry a.refs r); acked = refl; held = λ z h. h }
 
 module _ {C U : Type 0} (units : C → List U) (by : C → Option Stamp) where
   -- how many elements a leaf holds
@@ -120,7 +120,7 @@ module _ {C U : Type 0} (units : C → List U) (by : C → Option Stamp) where
         let same : g was ≡ p = (cc) in
         subst (IsOnLeaf units now) same (is_on_leaf now (g was) (goes r was (ap place_of_entry e)).on)
 
-    pub goes_on : ((id : ℕ) → IsLeafIn now id → IsHeld a.refs id) → GoesOn f old now a b
+    pub goes_on : ((id : ℕ) → IsLeafIn now id → IsHeld b.refs id) → GoesOn f old now a b
     goes_on held = record {
       references = λ r.
           reference_at-on now b r
@@ -130,7 +130,7 @@ module _ {C U : Type 0} (units : C → List U) (by : C → Option Stamp) where
           ∙ ap (option_map (with_place f)) (sym (reference_at-on old a r));
       anchored = record {
         on = λ r p e. stands_on r p (entry a.refs r) refl (sym (ap place_of_entry (moves.places r)) ∙ e);
-        held = λ id live. omega (arith, held id live, moves.held);
+        held = held;
       };
     }
 
@@ -148,19 +148,20 @@ module _ {C U : Type 0} (units : C → List U) (by : C → Option Stamp) where
     elsewhere id p fresh on e = omega (arith, owner_live xs p on, fresh, ap (times_leaf xs) e)
 
     -- a new leaf
-    module _ (at : Option ℕ) (id : ℕ) (x : TreeLeaf C) (live : IsPlaceIn xs at) (fresh : times_leaf xs id ≡ 0) (held : IsHeld a.refs id) where
+    module _ (at : Option ℕ) (id : ℕ) (x : TreeLeaf C) (b : AnchorLists) (live : IsPlaceIn xs at) (fresh : times_leaf xs id ≡ 0) (held : IsHeld b.refs id)
+        (moves : MovesAnchors (λ p. p) a b) where
       up : List (ℕ × TreeLeaf C)
       up = up_to_place xs at
 
       rest : List (ℕ × TreeLeaf C)
       rest = from_place xs (node_behind xs at)
 
-      put_held : (z : ℕ) → IsLeafIn (put_leaf xs at (id, x)) z → IsHeld a.refs z
+      put_held : (z : ℕ) → IsLeafIn (put_leaf xs at (id, x)) z → IsHeld b.refs z
       unfolding up rest
       put_held z h = elim (cases_eq id z) [
-        | inl e ↦ subst (IsHeld a.refs) e held
+        | inl e ↦ subst (IsHeld b.refs) e held
         | inr d ↦
-            anchored.held z (omega (
+            moves.held z (anchored.held z (omega (
               arith,
               h,
               ap (λ (ys : List (ℕ × TreeLeaf C)). times_leaf ys z) (put-behind xs at (id, x) once live),
@@ -168,15 +169,15 @@ module _ {C U : Type 0} (units : C → List U) (by : C → Option Stamp) where
               same_other id z d,
               ap (λ (ys : List (ℕ × TreeLeaf C)). times_leaf ys z) (up_to-from xs at once live),
               times-append up rest z,
-            ))
+            )))
       ]
 
-      pub put_goes : GoesOn (shifted_place (length (elements units by (up_to_place xs at))) (length (units x.content))) xs (put_leaf xs at (id, x)) a a
+      pub put_goes : GoesOn (shifted_place (length (elements units by (up_to_place xs at))) (length (units x.content))) xs (put_leaf xs at (id, x)) a b
       unfolding up rest
       put_goes =
           let n = length (units x.content) in
           let f = λ (j : ℕ). shifted_place (length (elements units by up)) n j in
-          goes_on (λ p. p) f xs (put_leaf xs at (id, x)) a a (anchors_stay a)
+          goes_on (λ p. p) f xs (put_leaf xs at (id, x)) a b moves
           (λ r p e. goes_between xs (up ++ rest) (put_leaf xs at (id, x)) (up ++ (id, x) ∷ rest) p p f (sym (up_to-from xs at once live)) (put-behind xs at (id, x) once live)
           (λ on. goes_as size (up ++ (id, x) ∷ rest) p _ _ (goes_put size up rest (id, x) p (elsewhere id p fresh (there r p e)) on)
           (ap (λ (i : ℕ). shifted_place i n (place_in size (up ++ rest) p)) (sym (length-elements units by up)))) (there r p e))
@@ -191,18 +192,18 @@ module _ {C U : Type 0} (units : C → List U) (by : C → Option Stamp) where
 
       -- a leaf that is cut in two
       module _ (front rear : TreeLeaf C → TreeLeaf C) (at new : ℕ) (b : AnchorLists) (low : size (front v) ≡ at) (high : at + size (rear v) ≡ size v)
-          (fresh : times_leaf xs new ≡ 0) (held : IsHeld a.refs new) (moves : MovesAnchors (split_place id at new) a b) where
+          (fresh : times_leaf xs new ≡ 0) (held : IsHeld b.refs new) (moves : MovesAnchors (split_place id at new) a b) where
         whole : split_leaf front rear xs id new ≡ left ++ (id, front v) ∷ (new, rear v) ∷ right
         unfolding left right
         whole = let s = stands xs id v once value in ap (λ ys. split_leaf front rear ys id new) s.whole ∙ split-split front rear id new v right left s.right s.left
 
-        split_held : (z : ℕ) → IsLeafIn (split_leaf front rear xs id new) z → IsHeld a.refs z
+        split_held : (z : ℕ) → IsLeafIn (split_leaf front rear xs id new) z → IsHeld b.refs z
         unfolding left right
         split_held z h = elim (cases_eq new z) [
-          | inl e ↦ subst (IsHeld a.refs) e held
+          | inl e ↦ subst (IsHeld b.refs) e held
           | inr d ↦
               let s = stands xs id v once value in
-              anchored.held z (omega (
+              moves.held z (anchored.held z (omega (
                 arith,
                 h,
                 ap (λ (ys : List (ℕ × TreeLeaf C)). times_leaf ys z) whole,
@@ -210,7 +211,7 @@ module _ {C U : Type 0} (units : C → List U) (by : C → Option Stamp) where
                 same_other new z d,
                 ap (λ (ys : List (ℕ × TreeLeaf C)). times_leaf ys z) s.whole,
                 times-append left ((id, v) ∷ right) z,
-              ))
+              )))
         ]
 
         pub split_goes : GoesOn (λ j. j) xs (split_leaf front rear xs id new) a b
@@ -240,14 +241,14 @@ module _ {C U : Type 0} (units : C → List U) (by : C → Option Stamp) where
             goes_on (raised_place next id (size v)) (λ j. j) xs (join_leaf join xs id) a b moves
             (λ r p e. goes_between xs (left ++ (id, v) ∷ (next, w) ∷ t.rest) (join_leaf join xs id) (left ++ (id, join v w) ∷ t.rest) p (raised_place next id (size v) p) (λ j. j) t.whole
             joined (goes_joined size left t.rest id next v w (join v w) both t.apart apart differ p) (there r p e))
-            (λ z h. anchored.held z (omega (
+            (λ z h. moves.held z (anchored.held z (omega (
               arith,
               h,
               ap (λ (ys : List (ℕ × TreeLeaf C)). times_leaf ys z) joined,
               times-append left ((id, join v w) ∷ t.rest) z,
               ap (λ (ys : List (ℕ × TreeLeaf C)). times_leaf ys z) t.whole,
               times-append left ((id, v) ∷ (next, w) ∷ t.rest) z,
-            )))
+            ))))
 
       out : without_leaf xs id ≡ left ++ right
       unfolding left right

@@ -32,19 +32,19 @@ moved_behind i n d j h = grind (arith, nat_tests)
 moved_among : (i n d j : ℕ) → i ≤ j → j < i + n → moved_place i n d j ≡ d + (j - i)
 moved_among i n d j low high = grind (arith, nat_tests)
 
-split_low : (from at to : ℕ) (p : Place) → p.owner ≡ from → p.offset < at → split_place from at to p ≡ p
+pub split_low : (from at to : ℕ) (p : Place) → p.owner ≡ from → p.offset < at → split_place from at to p ≡ p
 split_low from at to p e h = grind (arith, common_steps)
 
-split_high : (from at to : ℕ) (p : Place) → p.owner ≡ from → at ≤ p.offset → split_place from at to p ≡ record { owner = to; offset = p.offset - at }
+pub split_high : (from at to : ℕ) (p : Place) → p.owner ≡ from → at ≤ p.offset → split_place from at to p ≡ record { owner = to; offset = p.offset - at }
 split_high from at to p e h = grind (arith, common_steps)
 
-split_other : (from at to : ℕ) (p : Place) → p.owner ≢ from → split_place from at to p ≡ p
+pub split_other : (from at to : ℕ) (p : Place) → p.owner ≢ from → split_place from at to p ≡ p
 split_other from at to p d = grind (arith, common_steps)
 
-raised_here : (from to add : ℕ) (p : Place) → p.owner ≡ from → raised_place from to add p ≡ record { owner = to; offset = p.offset + add }
+pub raised_here : (from to add : ℕ) (p : Place) → p.owner ≡ from → raised_place from to add p ≡ record { owner = to; offset = p.offset + add }
 raised_here from to add p e = grind (arith, common_steps)
 
-raised_other : (from to add : ℕ) (p : Place) → p.owner ≢ from → raised_place from to add p ≡ p
+pub raised_other : (from to add : ℕ) (p : Place) → p.owner ≢ from → raised_place from to add p ≡ p
 raised_other from to add p d = grind (arith, common_steps)
 
 some_or_none : (n : ℕ) → (n ≡ 0) ⊎ (1 ≤ n)

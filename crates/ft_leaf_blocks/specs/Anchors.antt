@@ -49,7 +49,7 @@ pub record AreAnchored {C U : Type 0} (units : C → List U) (leaves : List (ℕ
 pub record MovesAnchors (g : Place → Place) (old new : AnchorLists) : Type 0 where
   pub places : (r : ℕ) → entry new.refs r ≡ option_map (option_map g) (entry old.refs r)
   pub acked : new.acked ≡ old.acked
-  pub held : length new.refs.lists ≡ length old.refs.lists
+  pub held : (owner : ℕ) → IsHeld old.refs owner → IsHeld new.refs owner
 
 -- the reference of this number has this entry and this flag, and each other stays
 pub record ChangesAnchor (r : ℕ) (now : Option (Option Place)) (acked : Bool) (old new : AnchorLists) : Type 0 where
