@@ -3,3 +3,4 @@ pub mod RangeEdits
 pub mod Anchors
 pub mod AnchorsInside
 pub mod Slides
+pub mod Unsettled

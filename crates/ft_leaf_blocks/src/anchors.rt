@@ -3,7 +3,7 @@
 ghost use Rattle.std.specs.Prelude.{◌≡◌, ◌≢◌, ℕ, ◌+◌, ◌<◌, ◌≤◌, ◌^◌, true, false, Some, None, IsSome, IfOk, OnErr, OnOk, length, option_map, slice_index_or};
 ghost use Rattle.std.specs.Option.{ForSome};
 ghost use Rattle.ft_arena.specs.Ids.{first};
-ghost use Rattle.ft_refs.specs.RefLists.{ChangesOne, Holds, IsHeld, IsRefs, entry, ids_of, next_of, place_of_reference, raised_place, references_of, split_place, without_reference};
+ghost use Rattle.ft_refs.specs.RefLists.{ChangesOne, IsHeld, IsRefs, entry, ids_of, next_of, place_of_reference, raised_place, references_of, split_place, without_reference};
 ghost use Rattle.ft_leaf_blocks.specs.Anchors.{ChangesAnchor, MovesAnchors, is_acked_at, sent_place};
 
 use ft_arena::NodeId;
@@ -49,8 +49,8 @@ impl Anchors {
     ///
     /// Answers `OutOfMemory` where there is no room for it, and then nothing changed.
     pub fn hold(&mut self, id: NodeId) -> Result<(), OutOfMemory>
-        ensures held { OnOk result (Holds self.old.refs self.new.refs id) }
-        ensures acked { self.new.acked ≡ self.old.acked }
+        ensures held { OnOk result (IsHeld self.new.refs id) }
+        ensures moves { OnOk result (MovesAnchors (λ p. p) self.old self.new) }
         ensures refused { OnErr result (self.new ≡ self.old) }
     {
         self.refs.hold(id)

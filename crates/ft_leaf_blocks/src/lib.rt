@@ -9,6 +9,7 @@ pub mod anchors;
 pub mod cuts;
 pub mod edits;
 pub mod joins;
+mod leaf_refs;
 pub mod places;
 pub mod ranges;
 pub mod references;

@@ -96,11 +96,10 @@ fn slid_place<C: Content>(blocks: &Blocks<TreeLeaf<C>>, id: NodeId) -> Option<Pl
     })
 }
 
-/// Lets the acknowledged references on the leaf of a node slide, where its elements are removed: to the first
-/// unremoved element behind it, else to the last before it, else they are detached.
+/// Lets the acknowledged references on the leaf of a node slide, where it has some and its elements are removed:
+/// to the first unremoved element behind it, else to the last before it, else they are detached.
 pub fn slide_leaf<C: Content>(blocks: &Blocks<TreeLeaf<C>>, anchors: &mut Anchors, id: NodeId)
     requires usable { IsTrue blocks.now.usable }
-    requires live { IsLeafIn blocks.now.leaves id }
     requires anchored { AreAnchored C.units blocks.now.leaves anchors.old }
     ensures anchored { AreAnchored C.units blocks.now.leaves anchors.new }
     ensures references { let leaves = blocks.now.leaves in
@@ -114,6 +113,9 @@ pub fn slide_leaf<C: Content>(blocks: &Blocks<TreeLeaf<C>>, anchors: &mut Anchor
         ≡ option_map (slid_reference (elements C.units C.by leaves)) (reference_at (references_on C.units C.by leaves anchors.old) r) }
     ensures settled { (nodes : List ℕ) → AreSettledBut blocks.now.leaves (id ∷ nodes) anchors.old → AreSettledBut blocks.now.leaves nodes anchors.new }
 {
+    if anchors.first(id).is_none() {
+        return;
+    }
     let _first = blocks.first();
     if blocks.leaf(id).stands(Standing::Unremoved) {
         return;
@@ -130,7 +132,6 @@ pub fn slide_leaves<C: Content>(
     nodes: &[NodeId],
 )
     requires usable { IsTrue blocks.now.usable }
-    requires live { All (IsLeafIn blocks.now.leaves) nodes.now }
     requires anchored { AreAnchored C.units blocks.now.leaves anchors.old }
     requires settled { AreSettledBut blocks.now.leaves nodes.now anchors.old }
     ensures anchored { AreAnchored C.units blocks.now.leaves anchors.new }

@@ -1,6 +1,7 @@
-use Rattle.std.proofs.Common.{◌≡◌, ℕ, suc, ◌+◌, List, [], ◌∷◌, drop, drop-cons, subst, sym, ◌∙◌, ap, arith, add-one}
+use Rattle.std.proofs.Common.{◌≡◌, ℕ, ◌+◌, List, [], drop, subst, sym, ◌∙◌, arith}
 use Rattle.std.proofs.lemmas.List.{drop_all}
 use Rattle.ft_leaf_blocks.specs.Slides.{AreSettledBut}
+use Rattle.ft_leaf_blocks.proofs.NotedLeaves.{drop_next}
 use Rattle.ft_leaf_blocks.proofs.SlidReferences.{slid_all_stay}
 use Rattle.ft_leaf_blocks.proofs.slides.slide_leaves.Goals as goal
 
@@ -8,9 +9,7 @@ pub loop-id-preserved : goal.loop-id-preserved
 loop-id-preserved g c =
     let nodes = c.args.nodes.now in
     let i = c.loop-id.id-index in
-    let next : drop i nodes ≡ c.id-item.result ∷ drop (i + 1) nodes =
-    drop-cons nodes i c.id-item.result c.loop-id-test.true
-    ∙ ap (λ (x : ℕ). x ∷ drop (suc i) nodes) (sym c.id-item.is) ∙ ap (λ (k : ℕ). c.id-item.result ∷ drop k nodes) (sym (add-one i)) in
+    let next = drop_next nodes i c.id-item.result c.loop-id-test.true c.id-item.is in
     record {
       anchored = c.slide_leaf.ensures.anchored;
       settled = c.slide_leaf.ensures.settled (drop (i + 1) nodes)
