@@ -15,3 +15,8 @@ pub mod UnremovedWalks
 pub mod UnsettledLeaves
 pub mod AnchorChanges
 pub mod NotedLeaves
+mod TouchedLists
+mod StepValues
+mod TrackedSteps
+mod AckedNodes
+mod LeastRemovals

@@ -12,10 +12,10 @@ use Rattle.ft_leaves.proofs.Standing.{at-value}
 use Rattle.ft_leaf_blocks.proofs.WalkEdits.{left-put}
 
 module _ {L : Type 0} (xs : List (ℕ × L)) (id : ℕ) (one : times_leaf xs id ≡ 1) where
-  gone : times_leaf (without_leaf xs id) id ≡ 0
+  pub gone : times_leaf (without_leaf xs id) id ≡ 0
   gone = omega (arith, times-without-one xs id id one, same_refl id, one)
 
-  once_rest : ((i : ℕ) → times_leaf xs i ≤ 1) → (i : ℕ) → times_leaf (without_leaf xs id) i ≤ 1
+  pub once_rest : ((i : ℕ) → times_leaf xs i ≤ 1) → (i : ℕ) → times_leaf (without_leaf xs id) i ≤ 1
   once_rest once i = omega (arith, times-without-one xs id i one, once i)
 
   -- a place among the others is a place among all

@@ -4,3 +4,6 @@ pub mod Anchors
 pub mod AnchorsInside
 pub mod Slides
 pub mod Unsettled
+pub mod Touched
+pub mod State
+pub mod Inside

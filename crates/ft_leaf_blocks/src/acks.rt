@@ -7,7 +7,11 @@ ghost use Rattle.ft_leaves.specs.Edits.{is_marked_by, sequenced_leaf, unmarked_l
 ghost use Rattle.ft_leaves.specs.Elements.{IsLowestChange};
 ghost use Rattle.ft_leaves.specs.LeafChanges.{acked_leaf, acked_pair};
 ghost use Rattle.ft_leaves.specs.LeafLists.{elements};
+ghost use Rattle.ft_leaf_blocks.specs.Touched.{HaveAllOf, Tracks};
 
+use crate::leaf_blocks::LeafBlocks;
+use crate::stage_nodes::StageNodes;
+use crate::touched::take_stage;
 use ft_arena::NodeId;
 use ft_base::{Element, OutOfMemory, Stamp};
 use ft_block::Blocks;
@@ -19,7 +23,7 @@ use std::alloc::Global;
 ///
 /// Answers `OutOfMemory` where there is no room for what is left.
 pub fn unmark_at<C: Content>(
-    blocks: &mut Blocks<TreeLeaf<C>>,
+    blocks: &mut LeafBlocks<C>,
     alloc: Global,
     id: NodeId,
     stage: u64,
@@ -41,7 +45,7 @@ pub fn unmark_at<C: Content>(
 ///
 /// Answers `OutOfMemory` where there is no room for what is left.
 pub fn unmark_all_at<C: Content>(
-    blocks: &mut Blocks<TreeLeaf<C>>,
+    blocks: &mut LeafBlocks<C>,
     alloc: Global,
     id: NodeId,
 ) -> Result<(), OutOfMemory>
@@ -105,28 +109,53 @@ fn ack_at<C: Content>(
     Ok(())
 }
 
-/// Acknowledges a stage in all leaves under number `seq` of connection `conn`. No lower stage has changes.
+/// Acknowledges a stage in the leaves of these nodes under number `seq` of connection `conn`. No other leaf has
+/// anything of that stage, and no lower stage has changes.
 ///
 /// Answers `OutOfMemory` where there is no room for it.
-pub fn ack_all<C: Content>(
+fn ack_nodes<C: Content>(
     blocks: &mut Blocks<TreeLeaf<C>>,
     alloc: Global,
+    nodes: &[NodeId],
     stage: u64,
     seq: u64,
     conn: u32,
 ) -> Result<(), OutOfMemory>
     requires usable { IsTrue blocks.old.usable }
     requires lowest { All (λ e. IsLowestChange stage e.overlay) (elements C.units C.by blocks.old.leaves) }
+    requires live { All (λ id. IsLeafIn blocks.old.leaves id) nodes.now }
+    requires covers { HaveAllOf stage blocks.old.leaves nodes.now }
     ensures leaves { OnOk result (blocks.new.leaves ≡ map (acked_pair C.stamped stage seq conn) blocks.old.leaves) }
     ensures usable { OnOk result (blocks.new.usable ≡ true) }
     ensures floor { blocks.new.floor ≡ blocks.old.floor }
 {
-    let mut at = blocks.first();
-    while let Some(id) = at {
-        let _first = blocks.first();
-        let _len = blocks.leaf(id).content.len();
-        ack_at(blocks, alloc, id, stage, seq, conn)?;
-        at = blocks.next(id);
+    let _first = blocks.first();
+    for id in nodes {
+        ack_at(blocks, alloc, *id, stage, seq, conn)?;
     }
     Ok(())
+}
+
+/// Acknowledges a stage in all leaves under number `seq` of connection `conn`: in those that it touched. No
+/// lower stage has changes.
+///
+/// Answers `OutOfMemory` where there is no room for it.
+pub(crate) fn ack_in<C: Content>(
+    blocks: &mut Blocks<TreeLeaf<C>>,
+    touched: &mut Vec<StageNodes>,
+    alloc: Global,
+    stage: u64,
+    seq: u64,
+    conn: u32,
+) -> Result<(), OutOfMemory>
+    requires usable { IsTrue blocks.old.usable }
+    requires tracks { Tracks blocks.old.leaves touched.old.items }
+    requires lowest { All (λ e. IsLowestChange stage e.overlay) (elements C.units C.by blocks.old.leaves) }
+    ensures leaves { OnOk result (blocks.new.leaves ≡ map (acked_pair C.stamped stage seq conn) blocks.old.leaves) }
+    ensures tracks { OnOk result (Tracks blocks.new.leaves touched.new.items) }
+    ensures usable { OnOk result (blocks.new.usable ≡ true) }
+    ensures floor { blocks.new.floor ≡ blocks.old.floor }
+{
+    let nodes = take_stage(touched, stage);
+    ack_nodes(blocks, alloc, nodes.as_slice(), stage, seq, conn)
 }

@@ -14,6 +14,7 @@ ghost use Rattle.ft_leaves.specs.LeafChanges.{fresh_leaf};
 ghost use Rattle.ft_props.specs.Properties.{apply};
 ghost use Rattle.ft_leaf_blocks.specs.Walks.{CutsBehind, IsInLeaf, PutsBehind, from_place, held_place, node_behind};
 
+use crate::leaf_blocks::LeafBlocks;
 use ft_arena::NodeId;
 use ft_base::{Element, OutOfMemory, Stamp, Stamps, Steps};
 use ft_block::{Blocks, Found, LenView};
@@ -27,7 +28,7 @@ use std::sync::ledger::Ledger;
 ///
 /// Answers `OutOfMemory` where there is no room for the rear.
 pub fn cut_at<C: Content>(
-    blocks: &mut Blocks<TreeLeaf<C>>,
+    blocks: &mut LeafBlocks<C>,
     found: &Found,
 ) -> Result<Option<NodeId>, OutOfMemory>
     requires usable { IsTrue blocks.old.usable }
@@ -119,7 +120,7 @@ fn behind_pending<C: Content, G: Ledger>(
 ///
 /// Answers `OutOfMemory` where there is no room for it.
 fn put_past<C: Content + Drop, G: Ledger>(
-    blocks: &mut Blocks<TreeLeaf<C>>,
+    blocks: &mut LeafBlocks<C>,
     at: Option<NodeId>,
     past_pending: bool,
     leaf: TreeLeaf<C>,
@@ -128,6 +129,7 @@ fn put_past<C: Content + Drop, G: Ledger>(
     requires usable { IsTrue blocks.old.usable }
     requires live { IsPlaceIn blocks.old.leaves at }
     requires fits { length (elements C.units C.by blocks.old.leaves) + length (C.units leaf.content) < 2 ^ 64 }
+    requires settled { leaf.overlay.pending ≡ [] }
     ensures place { let leaves = blocks.old.leaves in
         let run = prefix_len (passes past_pending) (elements C.units C.by (from_place leaves (node_behind leaves at))) in
         IfOk result (λ i. i ≡ length (elements C.units C.by (up_to_place leaves at)) + run) }
@@ -138,7 +140,7 @@ fn put_past<C: Content + Drop, G: Ledger>(
     ensures no_reads { past_pending ≡ false → steps.new ≡ steps.old }
 {
     let _first = blocks.first();
-    let end = behind_run(blocks, at, past_pending, steps);
+    let end = behind_run(blocks.list(), at, past_pending, steps);
     let id = blocks.insert_after(end, leaf)?;
     Ok(blocks.position_of(id, LenView::All))
 }
@@ -170,7 +172,7 @@ fn new_leaf<C: Content + Drop>(
 ///
 /// Answers `OutOfMemory` where there is no room for them.
 pub fn insert_at<C: Content + Drop, G: Ledger>(
-    blocks: &mut Blocks<TreeLeaf<C>>,
+    blocks: &mut LeafBlocks<C>,
     alloc: Global,
     found: &Found,
     past_pending: bool,

@@ -5,6 +5,7 @@ ghost use Rattle.ft_block.specs.Leaves.{IsLeafIn, IsPlaceIn, left_of, move_leaf,
 ghost use Rattle.ft_leaves.specs.Edits.{leaf_at, up_to_place};
 ghost use Rattle.ft_leaves.specs.LeafLists.{elements};
 
+use crate::leaf_blocks::LeafBlocks;
 use ft_arena::NodeId;
 use ft_base::OutOfMemory;
 use ft_block::{Blocks, LenView};
@@ -42,7 +43,7 @@ pub fn leaf_place<C: Content>(blocks: &Blocks<TreeLeaf<C>>, id: NodeId) -> LeafP
 ///
 /// Answers `OutOfMemory` where there is no room for what blocks keep.
 pub fn move_at<C: Content>(
-    blocks: &mut Blocks<TreeLeaf<C>>,
+    blocks: &mut LeafBlocks<C>,
     id: NodeId,
     at: Option<NodeId>,
 ) -> Result<Moved, OutOfMemory>
@@ -57,7 +58,7 @@ pub fn move_at<C: Content>(
     ensures floor { blocks.new.floor ≡ blocks.old.floor }
 {
     let _first = blocks.first();
-    let place = leaf_place(blocks, id);
+    let place = leaf_place(blocks.list(), id);
     blocks.move_after(id, at)?;
     let to = blocks.position_of(id, LenView::All);
     Ok(Moved { place, to })

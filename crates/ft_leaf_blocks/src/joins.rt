@@ -5,6 +5,7 @@ ghost use Rattle.ft_base.specs.declared.stamps.Stamp.TheVariants.{Acked};
 ghost use Rattle.ft_block.specs.Leaves.{IsLeafIn, join_leaf};
 ghost use Rattle.ft_leaves.specs.Edits.{MayJoinNext, joined_leaf, sweep_joined, sweep_without};
 
+use crate::leaf_blocks::LeafBlocks;
 use ft_arena::NodeId;
 use ft_base::{Element, OutOfMemory, Stamp, Stamps};
 use ft_block::Blocks;
@@ -12,7 +13,7 @@ use ft_leaves::{Content, TreeLeaf};
 use std::alloc::Global;
 
 /// The stamps of elements whose insertion everybody sees, and which nobody has removed.
-fn universal(alloc: Global) -> Element
+pub(crate) fn universal(alloc: Global) -> Element
     ensures { result ≡ record { ins = Acked 0 0; dels = [] } }
 {
     Element {
@@ -25,7 +26,7 @@ fn universal(alloc: Global) -> Element
 ///
 /// Answers `OutOfMemory` where there is no room for both in one.
 pub fn join_at<C: Content + Drop>(
-    blocks: &mut Blocks<TreeLeaf<C>>,
+    blocks: &mut LeafBlocks<C>,
     alloc: Global,
     id: NodeId,
     floor: u64,

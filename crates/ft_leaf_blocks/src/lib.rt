@@ -10,9 +10,15 @@ pub mod cuts;
 pub mod edits;
 pub mod joins;
 mod leaf_refs;
+pub mod leaf_blocks;
 pub mod places;
 pub mod ranges;
 pub mod references;
 pub mod scans;
 pub mod slides;
+mod stage_nodes;
 pub mod stamp_lists;
+mod touched;
+mod tracked;
+
+pub use leaf_blocks::LeafBlocks;

@@ -11,6 +11,7 @@ ghost use Rattle.ft_leaves.specs.LeafChanges.{changed_in};
 ghost use Rattle.ft_leaf_blocks.specs.Walks.{Acts, CutsSeen, GoesBehind, IsInLeaf, changed_behind, from_leaf, from_place, held_place};
 
 use crate::cuts::{cut_at, leaf_behind};
+use crate::leaf_blocks::LeafBlocks;
 use ft_arena::NodeId;
 use ft_base::{OutOfMemory, Stamp};
 use ft_block::{Blocks, Found, LenView};
@@ -31,7 +32,7 @@ pub enum RangeEdit {
 ///
 /// Answers `OutOfMemory` where there is no room for it.
 fn edit_seen<C: Content>(
-    blocks: &mut Blocks<TreeLeaf<C>>,
+    blocks: &mut LeafBlocks<C>,
     alloc: Global,
     id: NodeId,
     view: LenView,
@@ -63,7 +64,7 @@ fn edit_seen<C: Content>(
 ///
 /// Answers `OutOfMemory` where there is no room for the rear.
 fn cut_seen<C: Content>(
-    blocks: &mut Blocks<TreeLeaf<C>>,
+    blocks: &mut LeafBlocks<C>,
     id: NodeId,
     left: u64,
     view: LenView,
@@ -89,7 +90,7 @@ fn cut_seen<C: Content>(
 ///
 /// Answers `OutOfMemory` where there is no room for it.
 fn edit_first<C: Content>(
-    blocks: &mut Blocks<TreeLeaf<C>>,
+    blocks: &mut LeafBlocks<C>,
     alloc: Global,
     id: NodeId,
     left: u64,
@@ -119,7 +120,7 @@ fn edit_first<C: Content>(
 ///
 /// Answers `OutOfMemory` where there is no room for it.
 pub fn edit_range<C: Content>(
-    blocks: &mut Blocks<TreeLeaf<C>>,
+    blocks: &mut LeafBlocks<C>,
     alloc: Global,
     start: Option<NodeId>,
     count: u64,
@@ -151,7 +152,7 @@ pub fn edit_range<C: Content>(
 ///
 /// Answers `OutOfMemory` where there is no room for it.
 pub fn edit_behind<C: Content>(
-    blocks: &mut Blocks<TreeLeaf<C>>,
+    blocks: &mut LeafBlocks<C>,
     alloc: Global,
     found: &Found,
     count: u64,
@@ -172,7 +173,7 @@ pub fn edit_behind<C: Content>(
 {
     let at = cut_at(blocks, found)?;
     let _first = blocks.first();
-    let start = leaf_behind(blocks, at);
+    let start = leaf_behind(blocks.list(), at);
     edit_range(blocks, alloc, start, count, view, edit)?;
     Ok(())
 }

@@ -1,12 +1,17 @@
 //! Leaves in blocks: what is read off the stamps of all of them.
 
-ghost use Rattle.std.specs.Prelude.{◌≡◌, ◌++◌, IfOk, IsTrue, OnOk, map, replicate};
+ghost use Rattle.std.specs.Prelude.{◌≡◌, ◌++◌, ◌&&◌, All, IfOk, IsTrue, OnOk, map, nat_lt, replicate};
+ghost use Rattle.std.specs.List.{list_any};
+ghost use Rattle.ft_block.specs.Leaves.{IsLeafIn};
 ghost use Rattle.ft_leaves.specs.Edits.{next_removal_above};
 ghost use Rattle.ft_leaves.specs.LeafLists.{elements};
+ghost use Rattle.ft_leaf_blocks.specs.Touched.{Tracks, is_removed_at};
 
+use crate::stage_nodes::StageNodes;
+use crate::touched::{from_stage, is_any_of_stage};
+use ft_arena::NodeId;
 use ft_base::{Element, OutOfMemory};
 use ft_block::Blocks;
-use ft_leaves::stamps::{lesser_of, next_stage};
 use ft_leaves::{Content, TreeLeaf};
 use std::alloc::Global;
 
@@ -43,19 +48,44 @@ pub fn all_stamps<C: Content>(
     Ok(items)
 }
 
+/// Whether the leaf of one of these nodes has a removal mark of that stage.
+fn is_any_removed<C: Content>(blocks: &Blocks<TreeLeaf<C>>, nodes: &[NodeId], stage: u64) -> bool
+    requires usable { IsTrue blocks.now.usable }
+    requires live { All (λ id. IsLeafIn blocks.now.leaves id) nodes.now }
+    ensures { result ≡ list_any (is_removed_at blocks.now.leaves stage) nodes.now }
+{
+    for id in nodes {
+        if is_any_of_stage(blocks.leaf(*id).stamps.dels.as_slice(), stage) {
+            return true;
+        }
+    }
+    false
+}
+
+/// Whether the list is of a higher stage, and one of its leaves has a removal mark of it.
+fn is_removal_above<C: Content>(blocks: &Blocks<TreeLeaf<C>>, list: &StageNodes, stage: u64) -> bool
+    requires usable { IsTrue blocks.now.usable }
+    requires live { All (λ id. IsLeafIn blocks.now.leaves id) list.now.nodes }
+    ensures { result ≡ (nat_lt stage list.now.stage && list_any (is_removed_at blocks.now.leaves list.now.stage) list.now.nodes) }
+{
+    stage < list.stage() && is_any_removed(blocks, list.nodes(), list.stage())
+}
+
 /// The least pending stage above this one that marks an element as removed.
-pub fn next_removal<C: Content>(blocks: &Blocks<TreeLeaf<C>>, stage: u64) -> Option<u64>
-    requires { IsTrue blocks.now.usable }
+pub(crate) fn next_removal_in<C: Content>(
+    blocks: &Blocks<TreeLeaf<C>>,
+    touched: &[StageNodes],
+    stage: u64,
+) -> Option<u64>
+    requires usable { IsTrue blocks.now.usable }
+    requires tracks { Tracks blocks.now.leaves touched.now }
     ensures { result ≡ next_removal_above stage (elements C.units C.by blocks.now.leaves) }
 {
     let _first = blocks.first();
-    let mut least = None;
-    let mut at = blocks.first();
-    while let Some(id) = at {
-        let leaf = blocks.leaf(id);
-        let _len = leaf.content.len();
-        least = lesser_of(least, next_stage(leaf.stamps.dels.as_slice(), stage));
-        at = blocks.next(id);
+    for list in from_stage(touched, stage) {
+        if is_removal_above(blocks, list, stage) {
+            return Some(list.stage());
+        }
     }
-    least
+    None
 }

@@ -15,7 +15,6 @@ use crate::faults::TreeFault;
 use crate::tree::Tree;
 use ft_base::{OutOfMemory, Perspective, Stamp, Steps};
 use ft_block::LenView;
-use ft_leaf_blocks::acks::ack_all;
 use ft_leaf_blocks::ranges::RangeEdit;
 use ft_leaves::{Content, LeafChange};
 use ft_props::Changes;
@@ -223,7 +222,7 @@ impl<C: Content> Tree<C> {
         ensures err { OnErr result (self.new.usable ≡ false) }
     {
         let alloc = *self.refs.allocator();
-        match ack_all(&mut self.blocks, alloc, stage, seq, conn) {
+        match self.blocks.ack(alloc, stage, seq, conn) {
             Ok(()) => self.slide(),
             Err(e) => {
                 self.usable = false;

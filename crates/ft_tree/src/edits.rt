@@ -15,7 +15,8 @@ ghost use Rattle.ft_props.specs.Properties.{apply};
 use crate::finds::find_end;
 use ft_arena::NodeId;
 use ft_base::{Element, OutOfMemory, Stamp, Steps};
-use ft_block::{Blocks, Found};
+use ft_block::Found;
+use ft_leaf_blocks::LeafBlocks;
 use ft_leaf_blocks::cuts::{cut_at, insert_at};
 use ft_leaf_blocks::edits::{leaf_place, move_at};
 use ft_leaves::references::{Reference, closed_references, moved_references, shifted_references};
@@ -32,7 +33,7 @@ use std::sync::ledger::{Blank, Ledger};
 ///
 /// Answers `OutOfMemory` where there is no room for them.
 pub(crate) fn insert<C: Content + Drop, G: Ledger>(
-    blocks: &mut Blocks<TreeLeaf<C>>,
+    blocks: &mut LeafBlocks<C>,
     refs: &mut Vec<(RefId, Reference)>,
     found: &Found,
     past_pending: bool,
@@ -81,7 +82,7 @@ pub(crate) fn insert<C: Content + Drop, G: Ledger>(
 ///
 /// Answers `OutOfMemory` where there is no room for it.
 pub(crate) fn move_with_references<C: Content>(
-    blocks: &mut Blocks<TreeLeaf<C>>,
+    blocks: &mut LeafBlocks<C>,
     refs: &mut Vec<(RefId, Reference)>,
     id: NodeId,
     at: Option<NodeId>,
@@ -104,7 +105,7 @@ pub(crate) fn move_with_references<C: Content>(
 ///
 /// Answers `OutOfMemory` where there is no room for what is kept.
 pub(crate) fn take_with_references<C: Content + Drop>(
-    blocks: &mut Blocks<TreeLeaf<C>>,
+    blocks: &mut LeafBlocks<C>,
     refs: &mut Vec<(RefId, Reference)>,
     id: NodeId,
 ) -> Result<C, OutOfMemory>
@@ -116,7 +117,7 @@ pub(crate) fn take_with_references<C: Content + Drop>(
     ensures usable { OnOk result (blocks.new.usable ≡ true) }
     ensures floor { blocks.new.floor ≡ blocks.old.floor }
 {
-    let place = leaf_place(blocks, id);
+    let place = leaf_place(blocks.list(), id);
     let content = blocks.take(id)?.content;
     let alloc = *refs.allocator();
     *refs = closed_references(alloc, refs, place.from, place.count)?;
@@ -127,7 +128,7 @@ pub(crate) fn take_with_references<C: Content + Drop>(
 ///
 /// Answers `OutOfMemory` where there is no room for it.
 pub(crate) fn append<C: Content + Drop>(
-    blocks: &mut Blocks<TreeLeaf<C>>,
+    blocks: &mut LeafBlocks<C>,
     alloc: Global,
     content: C,
     props: &Props,
@@ -147,7 +148,7 @@ pub(crate) fn append<C: Content + Drop>(
         stamps: e,
         overlay,
     };
-    let end = find_end::<C, Brand>(blocks, Blank::new(1));
+    let end = find_end::<C, Brand>(blocks.list(), Blank::new(1));
     let at = cut_at(blocks, &end)?;
     let _first = blocks.first();
     let _id = blocks.insert_after(at, leaf)?;

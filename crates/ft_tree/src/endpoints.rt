@@ -18,7 +18,6 @@ use ft_block::LenView;
 use ft_leaf_blocks::places::seen_count;
 use ft_leaf_blocks::references::{settle_in, slid_references};
 use ft_leaf_blocks::scans::{place_at, settled_number};
-use ft_leaf_blocks::stamp_lists::next_removal;
 use ft_leaves::Content;
 use ft_leaves::references::{Reference, add_reference, drop_reference, reference_of};
 use ft_refs::RefId;
@@ -40,12 +39,12 @@ impl<C: Content> Tree<C> {
         ensures refused { let old = elements C.units C.by self.old.leaves in
             IfErr result (IsRefused (p + 1) (len (seen_in view) old) self.old self.new) }
     {
-        let length = seen_count(&self.blocks, view);
+        let length = seen_count(self.blocks.list(), view);
         if length <= p {
             return Err(TreeFault::OutOfRange { length });
         }
         let x = Reference {
-            place: place_at(&self.blocks, p, view),
+            place: place_at(self.blocks.list(), p, view),
             acked: false,
         };
         let r = self.next_ref;
@@ -79,7 +78,7 @@ impl<C: Content> Tree<C> {
             result ≡ option_and_then (settled_number (seen_in (Stage stage)) list) (place_of self.now.refs r) }
     {
         let i = reference_of(&self.refs, r)?.place?;
-        settled_number(&self.blocks, i, LenView::Stage(stage))
+        settled_number(self.blocks.list(), i, LenView::Stage(stage))
     }
 
     /// The number, among the elements seen at the stage, of the element that stage `from` sees with `p` seen
@@ -90,8 +89,8 @@ impl<C: Content> Tree<C> {
         ensures { let list = elements C.units C.by self.now.leaves in
             result ≡ option_and_then (settled_number (seen_in (Stage stage)) list) (place_at (seen_in (Stage from)) p list) }
     {
-        let i = place_at(&self.blocks, p, LenView::Stage(from))?;
-        settled_number(&self.blocks, i, LenView::Stage(stage))
+        let i = place_at(self.blocks.list(), p, LenView::Stage(from))?;
+        settled_number(self.blocks.list(), i, LenView::Stage(stage))
     }
 
     /// Makes a reference acknowledged, and slides it.
@@ -102,7 +101,7 @@ impl<C: Content> Tree<C> {
             ChangesReference r (λ x. Some (slid_reference old (record x { acked = true }))) self.old.refs self.new.refs }
         ensures rest { self.new ≡ record self.old { refs = self.new.refs } }
     {
-        settle_in(&self.blocks, &mut self.refs, r);
+        settle_in(self.blocks.list(), &mut self.refs, r);
     }
 
     /// Lets acknowledged references slide, after sequenced removals.
@@ -116,7 +115,7 @@ impl<C: Content> Tree<C> {
         ensures err { OnErr result (self.new.usable ≡ false) }
     {
         let alloc = *self.refs.allocator();
-        match slid_references(alloc, &self.blocks, &self.refs) {
+        match slid_references(alloc, self.blocks.list(), &self.refs) {
             Ok(refs) => {
                 self.refs = refs;
                 Ok(())
@@ -143,6 +142,6 @@ impl<C: Content> Tree<C> {
         requires { IsTrue self.now.usable }
         ensures { result ≡ next_removal_above stage (elements C.units C.by self.now.leaves) }
     {
-        next_removal(&self.blocks, stage)
+        self.blocks.next_removal(stage)
     }
 }

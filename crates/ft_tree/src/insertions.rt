@@ -65,7 +65,7 @@ impl<C: Content> Tree<C> {
         ensures made { OnOk result (self.new.made ≡ self.old.made + length (C.units content)) }
         ensures reads { steps.new ≤ steps.old + 9 * (self.old.depth + 1) }
     {
-        match find_local(&self.blocks, p, steps) {
+        match find_local(self.blocks.list(), p, steps) {
             Ok(found) => {
                 let ins = Stamp::Local { stage };
                 self.put(&found, false, content, ins, props, steps)
@@ -111,7 +111,7 @@ impl<C: Content> Tree<C> {
         ensures made { OnOk result (self.new.made ≡ self.old.made + length (C.units content)) }
         ensures reads { steps.new ≤ steps.old + 9 * (self.old.depth + 1) + pending_leaves self.old.leaves + 1 }
     {
-        match find_seen_at(&self.blocks, p, at, steps) {
+        match find_seen_at(self.blocks.list(), p, at, steps) {
             Ok(found) => {
                 content.stamped(seq, at.c);
                 let ins = Stamp::Acked { seq, conn: at.c };

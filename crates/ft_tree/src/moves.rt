@@ -137,7 +137,7 @@ impl<C: Content> Tree<C> {
         ensures err { OnErr result (self.new.usable ≡ false) }
     {
         let _first = self.blocks.first();
-        let sweep = sweep_without(&self.blocks, id, self.sweep);
+        let sweep = sweep_without(self.blocks.list(), id, self.sweep);
         match take_with_references(&mut self.blocks, &mut self.refs, id) {
             Ok(content) => {
                 self.sweep = sweep;
@@ -169,7 +169,7 @@ impl<C: Content> Tree<C> {
         ensures err { OnErr result (self.new.usable ≡ false) }
     {
         let _first = self.blocks.first();
-        let sweep = sweep_joined(&self.blocks, id, self.sweep);
+        let sweep = sweep_joined(self.blocks.list(), id, self.sweep);
         let alloc = *self.refs.allocator();
         let floor = self.blocks.floor();
         match join_at(&mut self.blocks, alloc, id, floor) {

@@ -41,11 +41,11 @@ impl<C: Content> Tree<C> {
         ensures refused { let list = elements C.units C.by self.now.leaves in
             IfErr result (IsRefused q (len (seen_in last_stage) list) self.now self.now) }
     {
-        let length = seen_count(&self.blocks, LenView::Stage(u64::MAX));
+        let length = seen_count(self.blocks.list(), LenView::Stage(u64::MAX));
         if length < q {
             return Err(TreeFault::OutOfRange { length });
         }
-        match find_local(&self.blocks, p, steps) {
+        match find_local(self.blocks.list(), p, steps) {
             Ok(found) => Ok(found),
             Err(e) => Err(TreeFault::OutOfRange { length: e.length }),
         }
@@ -71,11 +71,11 @@ impl<C: Content> Tree<C> {
         ensures refused { let list = elements C.units C.by self.now.leaves in
             IfErr result (IsRefused q (len (seen_in (At at)) list) self.now self.now) }
     {
-        let length = seen_count(&self.blocks, LenView::At(at));
+        let length = seen_count(self.blocks.list(), LenView::At(at));
         if length < q {
             return Err(TreeFault::OutOfRange { length });
         }
-        match find_seen_at(&self.blocks, p, at, steps) {
+        match find_seen_at(self.blocks.list(), p, at, steps) {
             Ok(found) => Ok(found),
             Err(e) => Err(TreeFault::OutOfRange { length: e.length }),
         }

@@ -10,11 +10,12 @@ ghost use Rattle.ft_leaves.specs.LeafLists.{elements, leaf_length};
 use crate::finds::find_leaf;
 use ft_arena::NodeId;
 use ft_base::{Element, OutOfMemory};
-use ft_block::{Blocks, Found, LenView};
+use ft_block::{Found, LenView};
+use ft_leaf_blocks::LeafBlocks;
 use ft_leaf_blocks::places::{seen_count, seen_left};
 use ft_leaf_blocks::stamp_lists::all_stamps;
 use ft_leaves::references::Reference;
-use ft_leaves::{Content, TreeLeaf};
+use ft_leaves::Content;
 use ft_refs::RefId;
 use std::alloc::Global;
 use std::marker::{Brand, Model};
@@ -27,7 +28,7 @@ use std::sync::ledger::Blank;
 /// most clauses speak of.
 #[derive(Drop)]
 pub struct Tree<C: Content> {
-    pub(crate) blocks: Blocks<TreeLeaf<C>>,
+    pub(crate) blocks: LeafBlocks<C>,
     pub(crate) refs: Vec<(RefId, Reference)>,
     pub(crate) next_ref: usize,
     pub(crate) sweep: Option<NodeId>,
@@ -53,7 +54,7 @@ impl<C: Content> Tree<C> {
         ensures { result ≡ record { leaves = []; refs = []; floor = 0; sweep = None; made = 0; depth = 0; usable = true } }
     {
         Tree {
-            blocks: Blocks::new(alloc),
+            blocks: LeafBlocks::new(alloc),
             refs: Vec::new(alloc),
             next_ref: 0,
             sweep: None,
@@ -107,7 +108,7 @@ impl<C: Content> Tree<C> {
         requires floor { IsFromFloor self.now.floor view }
         ensures { result ≡ len (seen_in view) (elements C.units C.by self.now.leaves) }
     {
-        seen_count(&self.blocks, view)
+        seen_count(self.blocks.list(), view)
     }
 
     /// The leaf that holds the `p`-th element that the view sees, and how many of its elements stand up to
@@ -117,7 +118,7 @@ impl<C: Content> Tree<C> {
         requires floor { IsFromFloor self.now.floor view }
         ensures { result ≡ place_by (leaf_length C.units view) self.now.leaves p }
     {
-        find_leaf::<C, Brand>(&self.blocks, p, view, Blank::new(1))
+        find_leaf::<C, Brand>(self.blocks.list(), p, view, Blank::new(1))
     }
 
     /// How many elements that the view sees stand left of a leaf.
@@ -127,7 +128,7 @@ impl<C: Content> Tree<C> {
         requires live { IsLeafIn self.now.leaves leaf }
         ensures { result ≡ len (seen_in view) (elements C.units C.by (left_of self.now.leaves leaf)) }
     {
-        seen_left(&self.blocks, leaf, view)
+        seen_left(self.blocks.list(), leaf, view)
     }
 
     /// The stamps of the elements in order.
@@ -137,6 +138,6 @@ impl<C: Content> Tree<C> {
         requires { IsTrue self.now.usable }
         ensures { IfOk result (λ v. v.items ≡ map (λ e. e.stamps) (elements C.units C.by self.now.leaves)) }
     {
-        all_stamps(*self.refs.allocator(), &self.blocks)
+        all_stamps(*self.refs.allocator(), self.blocks.list())
     }
 }

@@ -23,6 +23,7 @@ put_past-requires g c = record {
     ap (λ (l : TreeLeaf g.row.C.Denot). length (g.C.Content.units l.content)) c.in_ok-leaf.ensures,
     c.requires.fits,
   );
+  settled = ap (λ (l : TreeLeaf g.row.C.Denot). l.overlay.pending) c.in_ok-leaf.ensures;
 }
 
 pub returns-clause-place : goal.returns-clause-place

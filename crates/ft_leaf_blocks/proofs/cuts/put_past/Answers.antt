@@ -1,9 +1,12 @@
-use Rattle.std.proofs.Common.{◌≡◌, ℕ, List, length, subst, sym, ◌∙◌, ap, arith}
-use Rattle.ft_block.specs.Leaves.{IsLeafIn, left_of}
+use Rattle.std.proofs.Common.{◌≡◌, ℕ, ◌+◌, List, length, subst, sym, ◌∙◌, ap, arith}
+use Rattle.std.specs.List.{prefix_len}
+use Rattle.ft_block.specs.Leaves.{IsLeafIn, IsPlaceIn, LeafList, left_of}
 use Rattle.ft_leaves.specs.declared.leaves.TreeLeaf.{TreeLeaf}
 use Rattle.ft_leaves.specs.Edits.{up_to_place}
 use Rattle.ft_leaves.specs.LeafLists.{elements}
+use Rattle.ft_leaves.specs.Plain.{passes}
 use Rattle.ft_leaves.proofs.LeafRuns.{length-elements}
+use Rattle.ft_leaf_blocks.specs.Walks.{from_place, node_behind}
 use Rattle.ft_leaf_blocks.proofs.CutPlaces.{puts_behind}
 use Rattle.ft_leaf_blocks.proofs.WalkEdits.{left-put, live-put}
 use Rattle.ft_leaf_blocks.proofs.cuts.put_past.Goals as goal
@@ -12,12 +15,15 @@ pub insert_after-requires-clause-fits : goal.insert_after-requires-clause-fits
 insert_after-requires-clause-fits g c = omega (arith, length-elements g.C.Content.units g.C.Content.by c.args.blocks.now.leaves, c.requires.fits)
 
 pub position_of-requires : goal.position_of-requires
-position_of-requires g c = record {
-  usable = c.in_ok-id.ensures.usable;
-  floor = tt;
-  live = subst (λ (zs : List (ℕ × TreeLeaf g.row.C.Denot)). IsLeafIn zs c.in_ok-id.id) (sym c.in_ok-id.ensures.ok)
-      (live-put c.args.blocks.now.leaves c.behind_run-end.result c.in_ok-id.id c.args.leaf c.first-first.ensures.once c.behind_run-end.ensures.live);
-}
+position_of-requires g c =
+    let live : IsPlaceIn c.args.blocks.now.leaves c.behind_run-end.result =
+    subst (λ (l : LeafList (TreeLeaf g.row.C.Denot)). IsPlaceIn l.leaves c.behind_run-end.result) c.list.ensures c.behind_run-end.ensures.live in
+    record {
+      usable = c.in_ok-id.ensures.usable;
+      floor = tt;
+      live = subst (λ (zs : List (ℕ × TreeLeaf g.row.C.Denot)). IsLeafIn zs c.in_ok-id.id) (sym c.in_ok-id.ensures.ok)
+          (live-put c.args.blocks.now.leaves c.behind_run-end.result c.in_ok-id.id c.args.leaf c.first-first.ensures.once live);
+    }
 
 pub returns-clause-place : goal.returns-clause-place
 returns-clause-place g c =
@@ -25,11 +31,17 @@ returns-clause-place g c =
     let by = g.C.Content.by in
     let xs = c.args.blocks.now.leaves in
     let id = c.in_ok-id.id in
+    let live : IsPlaceIn xs c.behind_run-end.result =
+    subst (λ (l : LeafList (TreeLeaf g.row.C.Denot)). IsPlaceIn l.leaves c.behind_run-end.result) c.list.ensures c.behind_run-end.ensures.live in
     let left = ap (λ (zs : List (ℕ × TreeLeaf g.row.C.Denot)). left_of zs id) c.in_ok-id.ensures.ok
-    ∙ left-put xs c.behind_run-end.result id c.args.leaf c.first-first.ensures.once c.behind_run-end.ensures.live c.in_ok-id.ensures.fresh in
+    ∙ left-put xs c.behind_run-end.result id c.args.leaf c.first-first.ensures.once live c.in_ok-id.ensures.fresh in
     let place : c.position_of.result ≡ length (elements us by (up_to_place xs c.behind_run-end.result)) =
     c.position_of.ensures ∙ sym (length-elements us by (left_of c.insert_after.new.self.leaves id)) ∙ ap (λ zs. length (elements us by zs)) left in
-    omega (arith, place, c.behind_run-end.ensures.run)
+    let run = ap (λ (l : LeafList (TreeLeaf g.row.C.Denot)). length (elements us by (up_to_place l.leaves c.behind_run-end.result))) (sym c.list.ensures)
+    ∙ c.behind_run-end.ensures.run
+    ∙ ap (λ (l : LeafList (TreeLeaf g.row.C.Denot)). length (elements us by (up_to_place l.leaves c.args.at))
+    + prefix_len (passes c.args.past_pending) (elements us by (from_place l.leaves (node_behind l.leaves c.args.at)))) c.list.ensures in
+    omega (arith, place, run)
 
 pub returns-clause-puts : goal.returns-clause-puts
 returns-clause-puts g c =
@@ -37,9 +49,11 @@ returns-clause-puts g c =
     let by = g.C.Content.by in
     let xs = c.args.blocks.now.leaves in
     let id = c.in_ok-id.id in
+    let live : IsPlaceIn xs c.behind_run-end.result =
+    subst (λ (l : LeafList (TreeLeaf g.row.C.Denot)). IsPlaceIn l.leaves c.behind_run-end.result) c.list.ensures c.behind_run-end.ensures.live in
     let left = ap (λ (zs : List (ℕ × TreeLeaf g.row.C.Denot)). left_of zs id) c.in_ok-id.ensures.ok
-    ∙ left-put xs c.behind_run-end.result id c.args.leaf c.first-first.ensures.once c.behind_run-end.ensures.live c.in_ok-id.ensures.fresh in
+    ∙ left-put xs c.behind_run-end.result id c.args.leaf c.first-first.ensures.once live c.in_ok-id.ensures.fresh in
     let place : c.position_of.result ≡ length (elements us by (up_to_place xs c.behind_run-end.result)) =
     c.position_of.ensures ∙ sym (length-elements us by (left_of c.insert_after.new.self.leaves id)) ∙ ap (λ zs. length (elements us by zs)) left in
     puts_behind us by xs c.insert_after.new.self.leaves c.behind_run-end.result id c.position_of.result c.args.leaf
-    c.first-first.ensures.once c.behind_run-end.ensures.live c.in_ok-id.ensures.ok place
+    c.first-first.ensures.once live c.in_ok-id.ensures.ok place

@@ -1,0 +1,318 @@
+//! Leaves in blocks, with the lists of what each pending stage touched.
+
+ghost use Rattle.std.specs.Prelude.{[], ◌≡◌, ◌≢◌, ◌+◌, ◌<◌, ◌^◌, ℕ, ◌≤◌, All, IfOk, IsSomeAnd, IsTrue, OnErr, OnOk, Some, false, length, map, true};
+ghost use Rattle.ft_arena.specs.Ids.{after, first};
+ghost use Rattle.ft_block.specs.Leaves.{IsFromFloor, IsLeafIn, IsPlaceIn, change_leaf, ids, join_leaf, left_of, length_by, move_leaf, put_leaf, split_leaf, times_leaf, value_after, value_at, without_leaf};
+ghost use Rattle.ft_leaves.specs.BlockChanges.{MayChange, changed_leaf};
+ghost use Rattle.ft_leaves.specs.Edits.{next_removal_above};
+ghost use Rattle.ft_leaves.specs.Elements.{IsLowestChange, seen_in};
+ghost use Rattle.ft_leaves.specs.LeafChanges.{acked_pair};
+ghost use Rattle.ft_leaves.specs.LeafLists.{elements, leaf_length};
+ghost use Rattle.ft_leaf_blocks.specs.State.{list_of};
+
+use crate::acks::ack_in;
+use crate::stage_nodes::StageNodes;
+use crate::stamp_lists::next_removal_in;
+use crate::tracked::{change_in, insert_in, join_in, move_in, set_stamps_in, split_in, take_in};
+use ft_arena::NodeId;
+use ft_base::{Element, OutOfMemory};
+use ft_block::{Blocks, LenView};
+use ft_leaves::{Content, LeafChange, TreeLeaf};
+use std::alloc::Global;
+use std::marker::Model;
+
+/// Leaves in blocks, and for each pending stage the nodes of the leaves that it touched, so that its
+/// acknowledgement goes to these alone. A leaf that stands in the list of a stage may have nothing of it any
+/// more. A contract sees the leaves from first to last, each with its node, how deep a search goes, the floor,
+/// and whether they may still be used: after want of memory in a call that changes them they may not, for good.
+#[derive(Drop)]
+pub struct LeafBlocks<C: Content> {
+    blocks: Blocks<TreeLeaf<C>>,
+    touched: Vec<StageNodes>,
+    usable: bool,
+}
+
+impl<C: Content> Model for LeafBlocks<C> {
+    ghost use Rattle.ft_leaf_blocks.specs.State.{TrackedLeaves};
+
+    ghost Value = { TrackedLeaves C };
+
+    ghost use Rattle.ft_leaf_blocks.specs.Inside.{view_of, IsSoundIfUsable};
+
+    ghost view = { view_of };
+
+    ghost invariant = { IsSoundIfUsable };
+}
+
+impl<C: Content> LeafBlocks<C> {
+    /// No leaves.
+    pub fn new(alloc: Global) -> LeafBlocks<C>
+        ensures { result ≡ record { leaves = []; depth = 0; floor = 0; usable = true } }
+    {
+        LeafBlocks {
+            blocks: Blocks::new(alloc),
+            touched: Vec::new(alloc),
+            usable: true,
+        }
+    }
+
+    /// The leaves in blocks, to be read.
+    pub fn list(&self) -> &Blocks<TreeLeaf<C>>
+        requires { IsTrue self.now.usable }
+        ensures { result.now ≡ list_of self.now }
+    {
+        let _ = &self.touched;
+        &self.blocks
+    }
+
+    /// The first leaf: None exactly where there is no leaf.
+    pub fn first(&self) -> Option<NodeId>
+        requires { IsTrue self.now.usable }
+        ensures value { result ≡ first (ids self.now.leaves) }
+
+        // What holds of the leaves at any time.
+        ensures once { (id : ℕ) → times_leaf self.now.leaves id ≤ 1 }
+        ensures some { All (λ x. 1 ≤ length (C.units x.1.content)) self.now.leaves }
+        ensures few { length_by (λ x. length (C.units x.content)) self.now.leaves < 2 ^ 64 }
+    {
+        self.blocks.first()
+    }
+
+    /// The leaf after this one: None exactly where it is the last.
+    pub fn next(&self, id: NodeId) -> Option<NodeId>
+        requires usable { IsTrue self.now.usable }
+        requires live { IsLeafIn self.now.leaves id }
+        ensures { result ≡ after (ids self.now.leaves) id }
+    {
+        self.blocks.next(id)
+    }
+
+    /// The value of a leaf.
+    pub fn leaf(&self, id: NodeId) -> &TreeLeaf<C>
+        requires usable { IsTrue self.now.usable }
+        requires live { IsLeafIn self.now.leaves id }
+        ensures { value_at self.now.leaves id ≡ Some result.now }
+    {
+        self.blocks.leaf(id)
+    }
+
+    /// How many elements the view sees left of the leaf. The reference number of a perspective isn't below the
+    /// floor.
+    pub fn position_of(&self, leaf: NodeId, view: LenView) -> u64
+        requires usable { IsTrue self.now.usable }
+        requires floor { IsFromFloor self.now.floor view }
+        requires live { IsLeafIn self.now.leaves leaf }
+        ensures { result ≡ length_by (leaf_length C.units view) (left_of self.now.leaves leaf) }
+    {
+        self.blocks.position_of(leaf, view)
+    }
+
+    /// Puts a new leaf, in whose properties nothing is pending, directly after the given one, or first where
+    /// none is given.
+    ///
+    /// Answers `OutOfMemory` where there is no room for it, and then the blocks may be used no more.
+    pub fn insert_after(
+        &mut self,
+        at: Option<NodeId>,
+        leaf: TreeLeaf<C>,
+    ) -> Result<NodeId, OutOfMemory>
+    where
+        C: Drop,
+        requires usable { IsTrue self.old.usable }
+        requires place { IsPlaceIn self.old.leaves at }
+        requires fits { length_by (λ x. length (C.units x.content)) self.old.leaves + length (C.units leaf.content) < 2 ^ 64 }
+        requires settled { leaf.overlay.pending ≡ [] }
+        ensures ok { IfOk result (λ id. self.new.leaves ≡ put_leaf self.old.leaves at (id, leaf)) }
+        ensures fresh { IfOk result (λ id. times_leaf self.old.leaves id ≡ 0) }
+        ensures usable { OnOk result (self.new.usable ≡ true) }
+        ensures floor { self.new.floor ≡ self.old.floor }
+        ensures err { OnErr result (self.new.usable ≡ false) }
+    {
+        match insert_in(&mut self.blocks, &mut self.touched, at, leaf) {
+            Ok(id) => Ok(id),
+            Err(e) => {
+                self.usable = false;
+                Err(e)
+            }
+        }
+    }
+
+    /// Cuts a leaf in two: its first `at` elements keep the node, the rest gets a new one directly after
+    /// it, which is answered. Where something is pending on the leaf, the lists of all stages are looked
+    /// through, since a leaf doesn't tell all stages of which it has something.
+    ///
+    /// Answers `OutOfMemory` where there is no room for it, and then the blocks may be used no more.
+    pub fn split(&mut self, leaf: NodeId, at: u64) -> Result<NodeId, OutOfMemory>
+        requires usable { IsTrue self.old.usable }
+        requires low { 1 ≤ at }
+        requires high { IsSomeAnd (value_at self.old.leaves leaf) (λ v. at < length (C.units v.content)) }
+        ensures ok { IfOk result (λ id. self.new.leaves ≡ split_leaf (λ v. record v { content = C.front v.content at }) (λ v. record v { content = C.rear v.content at }) self.old.leaves leaf id) }
+        ensures fresh { IfOk result (λ id. times_leaf self.old.leaves id ≡ 0) }
+        ensures usable { OnOk result (self.new.usable ≡ true) }
+        ensures floor { self.new.floor ≡ self.old.floor }
+        ensures err { OnErr result (self.new.usable ≡ false) }
+    {
+        match split_in(&mut self.blocks, &mut self.touched, leaf, at) {
+            Ok(rear) => Ok(rear),
+            Err(e) => {
+                self.usable = false;
+                Err(e)
+            }
+        }
+    }
+
+    /// Replaces the stamps of all elements of a leaf. No other leaf changes.
+    ///
+    /// Answers `OutOfMemory` where there is no room for it, and then the blocks may be used no more.
+    pub fn set_stamps(&mut self, id: NodeId, e: Element) -> Result<(), OutOfMemory>
+        requires usable { IsTrue self.old.usable }
+        requires live { IsLeafIn self.old.leaves id }
+        ensures ok { OnOk result (self.new.leaves ≡ change_leaf (λ v. record v { stamps = e }) self.old.leaves id) }
+        ensures usable { OnOk result (self.new.usable ≡ true) }
+        ensures floor { self.new.floor ≡ self.old.floor }
+        ensures err { OnErr result (self.new.usable ≡ false) }
+    {
+        match set_stamps_in(&mut self.blocks, &mut self.touched, id, e) {
+            Ok(()) => Ok(()),
+            Err(e) => {
+                self.usable = false;
+                Err(e)
+            }
+        }
+    }
+
+    /// Makes this change of all elements of a leaf. No other leaf changes.
+    ///
+    /// Answers `OutOfMemory` where there is no room for it, and then the blocks may be used no more.
+    pub fn change(&mut self, id: NodeId, c: &LeafChange) -> Result<(), OutOfMemory>
+        requires usable { IsTrue self.old.usable }
+        requires can { IsSomeAnd (value_at self.old.leaves id) (λ v. MayChange c.now v.overlay) }
+        ensures ok { OnOk result (self.new.leaves ≡ change_leaf (λ v. changed_leaf C.stamped v c.now) self.old.leaves id) }
+        ensures usable { OnOk result (self.new.usable ≡ true) }
+        ensures floor { self.new.floor ≡ self.old.floor }
+        ensures err { OnErr result (self.new.usable ≡ false) }
+    {
+        match change_in(&mut self.blocks, &mut self.touched, id, c) {
+            Ok(()) => Ok(()),
+            Err(e) => {
+                self.usable = false;
+                Err(e)
+            }
+        }
+    }
+
+    /// Takes a leaf out, and answers its value. No other leaf changes. The lists of all stages are looked
+    /// through.
+    ///
+    /// Answers `OutOfMemory` where there is no room for what blocks keep, and then the blocks may be used
+    /// no more.
+    pub fn take(&mut self, id: NodeId) -> Result<TreeLeaf<C>, OutOfMemory>
+        requires usable { IsTrue self.old.usable }
+        requires live { IsLeafIn self.old.leaves id }
+        ensures value { IfOk result (λ v. value_at self.old.leaves id ≡ Some v) }
+        ensures ok { OnOk result (self.new.leaves ≡ without_leaf self.old.leaves id) }
+        ensures usable { OnOk result (self.new.usable ≡ true) }
+        ensures floor { self.new.floor ≡ self.old.floor }
+        ensures err { OnErr result (self.new.usable ≡ false) }
+    {
+        match take_in(&mut self.blocks, &mut self.touched, id) {
+            Ok(leaf) => Ok(leaf),
+            Err(e) => {
+                self.usable = false;
+                Err(e)
+            }
+        }
+    }
+
+    /// Joins the next leaf's elements, which have the same stamps, to this leaf, and takes the next leaf
+    /// out. No other leaf changes. The lists of all stages are looked through.
+    ///
+    /// Answers `OutOfMemory` where there is no room for them, and then the blocks may be used no more.
+    pub fn join_next(&mut self, id: NodeId) -> Result<(), OutOfMemory>
+    where
+        C: Drop,
+        requires usable { IsTrue self.old.usable }
+        requires can { IsSomeAnd (value_at self.old.leaves id) (λ v. IsSomeAnd (value_after self.old.leaves id) (λ w. IsTrue (C.joins v.content w.content) × (v.stamps ≡ w.stamps))) }
+        ensures ok { OnOk result (self.new.leaves ≡ join_leaf (λ v w. record v { content = C.joined v.content w.content }) self.old.leaves id) }
+        ensures usable { OnOk result (self.new.usable ≡ true) }
+        ensures floor { self.new.floor ≡ self.old.floor }
+        ensures err { OnErr result (self.new.usable ≡ false) }
+    {
+        match join_in(&mut self.blocks, &mut self.touched, id) {
+            Ok(()) => Ok(()),
+            Err(e) => {
+                self.usable = false;
+                Err(e)
+            }
+        }
+    }
+
+    /// Moves a leaf directly after the given one, or first where none is given. It keeps its node, and
+    /// all other leaves keep theirs and their order.
+    ///
+    /// Answers `OutOfMemory` where there is no room for what blocks keep, and then the blocks may be used
+    /// no more.
+    pub fn move_after(&mut self, id: NodeId, at: Option<NodeId>) -> Result<(), OutOfMemory>
+        requires usable { IsTrue self.old.usable }
+        requires live { IsLeafIn self.old.leaves id }
+        requires place { IsPlaceIn self.old.leaves at }
+        requires differ { at ≢ Some id }
+        ensures ok { OnOk result (self.new.leaves ≡ move_leaf self.old.leaves id at (value_at self.old.leaves id)) }
+        ensures usable { OnOk result (self.new.usable ≡ true) }
+        ensures floor { self.new.floor ≡ self.old.floor }
+        ensures err { OnErr result (self.new.usable ≡ false) }
+    {
+        match move_in(&mut self.blocks, &self.touched, id, at) {
+            Ok(()) => Ok(()),
+            Err(e) => {
+                self.usable = false;
+                Err(e)
+            }
+        }
+    }
+
+    /// Acknowledges a stage in all leaves under number `seq` of connection `conn`, by going to those that the
+    /// stage touched. No lower stage has changes.
+    ///
+    /// Answers `OutOfMemory` where there is no room for it, and then the blocks may be used no more.
+    pub fn ack(&mut self, alloc: Global, stage: u64, seq: u64, conn: u32) -> Result<(), OutOfMemory>
+        requires usable { IsTrue self.old.usable }
+        requires lowest { All (λ e. IsLowestChange stage e.overlay) (elements C.units C.by self.old.leaves) }
+        ensures leaves { OnOk result (self.new.leaves ≡ map (acked_pair C.stamped stage seq conn) self.old.leaves) }
+        ensures usable { OnOk result (self.new.usable ≡ true) }
+        ensures floor { self.new.floor ≡ self.old.floor }
+        ensures err { OnErr result (self.new.usable ≡ false) }
+    {
+        match ack_in(&mut self.blocks, &mut self.touched, alloc, stage, seq, conn) {
+            Ok(()) => Ok(()),
+            Err(e) => {
+                self.usable = false;
+                Err(e)
+            }
+        }
+    }
+
+    /// The least pending stage above this one that marks an element as removed. It goes to the leaves that the
+    /// stages above this one touched, up to the first with a mark.
+    pub fn next_removal(&self, stage: u64) -> Option<u64>
+        requires { IsTrue self.now.usable }
+        ensures { result ≡ next_removal_above stage (elements C.units C.by self.now.leaves) }
+    {
+        next_removal_in(&self.blocks, self.touched.as_slice(), stage)
+    }
+
+    /// The floor.
+    pub fn floor(&self) -> u64
+        ensures { result ≡ self.now.floor }
+    {
+        self.blocks.floor()
+    }
+
+    /// Raises the floor, which isn't below the old one.
+    pub fn raise_floor(&mut self, floor: u64)
+        requires { self.old.floor ≤ floor }
+        ensures { self.new ≡ record self.old { floor = floor } }
+    {
+        self.blocks.raise_floor(floor);
+    }
+}

@@ -1,0 +1,189 @@
+//! Which leaves each pending stage touched: lists of nodes by rising stage.
+
+ghost use Rattle.std.specs.Prelude.{◌≡◌, ◌≢◌, ◌≤◌, ℕ, OnOk, drop, false, length, map, slice_get, true};
+ghost use Rattle.std.specs.List.{list_any};
+ghost use Rattle.ft_base.specs.Visibility.{is_of_stage};
+ghost use Rattle.ft_leaf_blocks.specs.Touched.{AreRising, Notes, holds, is_list_of, is_listed, is_stamped_by, purged, stages_below, with_heir};
+
+use crate::stage_nodes::StageNodes;
+use ft_arena::NodeId;
+use ft_base::{Element, OutOfMemory, Stamp};
+
+/// How many lists are of lower stages.
+fn place_of(touched: &[StageNodes], stage: u64) -> usize
+    requires { AreRising touched.now }
+    ensures place { result ≡ stages_below stage touched.now }
+    ensures bound { result ≤ length touched.now }
+{
+    touched.partition_point(|list| list.stage() < stage)
+}
+
+/// Whether the list at a place is of this stage.
+fn is_at(touched: &[StageNodes], i: usize, stage: u64) -> bool
+    ensures { result ≡ is_list_of stage (slice_get touched.now i) }
+{
+    match touched.get(i) {
+        Some(list) => list.stage() == stage,
+        None => false,
+    }
+}
+
+/// The lists of this stage and those above it.
+pub(crate) fn from_stage(touched: &[StageNodes], stage: u64) -> &[StageNodes]
+    requires { AreRising touched.now }
+    ensures { result.now ≡ drop (stages_below stage touched.now) touched.now }
+{
+    let place = place_of(touched, stage);
+    &touched[place..]
+}
+
+/// Lists a node for a stage.
+///
+/// Answers `OutOfMemory` where there is no room for it.
+pub(crate) fn note(touched: &mut Vec<StageNodes>, stage: u64, id: NodeId) -> Result<(), OutOfMemory>
+    requires { AreRising touched.old.items }
+    ensures notes { OnOk result (Notes id touched.old.items touched.new.items) }
+    ensures listed { OnOk result (is_listed touched.new.items stage id ≡ true) }
+{
+    let i = place_of(touched.as_slice(), stage);
+    if is_at(touched.as_slice(), i, stage) {
+        return touched[i].add(id);
+    }
+    let list = StageNodes::of(*touched.allocator(), stage, id)?;
+    touched.insert(i, list)?;
+    Ok(())
+}
+
+/// Whether one of the stamps is pending, of that stage.
+pub(crate) fn is_any_of_stage(stamps: &[Stamp], stage: u64) -> bool
+    ensures { result ≡ list_any (is_of_stage stage) stamps.now }
+{
+    stamps.iter().any(|stamp| is_of_stage(stamp, stage))
+}
+
+/// Whether the stamp is pending, of that stage.
+fn is_of_stage(stamp: &Stamp, stage: u64) -> bool
+    ensures { result ≡ is_of_stage stage stamp.now }
+{
+    match stamp {
+        Stamp::Acked { .. } => false,
+        Stamp::Local { stage: own } => *own == stage,
+    }
+}
+
+/// Whether the insertion or a removal is pending, of that stage.
+fn is_stamped_by(e: &Element, stage: u64) -> bool
+    ensures { result ≡ is_stamped_by stage e.now }
+{
+    is_of_stage(&e.ins, stage) || is_any_of_stage(e.dels.as_slice(), stage)
+}
+
+/// Lists a node for the stage of a stamp, if that is pending and the old stamps have none of that stage.
+///
+/// Answers `OutOfMemory` where there is no room for it.
+fn note_stamp(
+    touched: &mut Vec<StageNodes>,
+    old: &Element,
+    stamp: &Stamp,
+    id: NodeId,
+) -> Result<(), OutOfMemory>
+    requires { AreRising touched.old.items }
+    ensures notes { OnOk result (Notes id touched.old.items touched.new.items) }
+    ensures listed { OnOk result ((k : ℕ) → is_of_stage k stamp.now ≡ true → is_stamped_by k old.now ≡ false → is_listed touched.new.items k id ≡ true) }
+{
+    let Stamp::Local { stage } = stamp else {
+        return Ok(());
+    };
+    if is_stamped_by(old, *stage) {
+        return Ok(());
+    }
+    note(touched, *stage, id)
+}
+
+/// The same for each of some stamps.
+fn note_each(
+    touched: &mut Vec<StageNodes>,
+    old: &Element,
+    stamps: &[Stamp],
+    id: NodeId,
+) -> Result<(), OutOfMemory>
+    requires { AreRising touched.old.items }
+    ensures notes { OnOk result (Notes id touched.old.items touched.new.items) }
+    ensures listed { OnOk result ((k : ℕ) → list_any (is_of_stage k) stamps.now ≡ true → is_stamped_by k old.now ≡ false → is_listed touched.new.items k id ≡ true) }
+{
+    for stamp in stamps {
+        note_stamp(touched, old, stamp, id)?;
+    }
+    Ok(())
+}
+
+/// Lists a node for each pending stage of its new stamps that the old ones have not.
+///
+/// Answers `OutOfMemory` where there is no room for it.
+pub(crate) fn note_stamps(
+    touched: &mut Vec<StageNodes>,
+    old: &Element,
+    new: &Element,
+    id: NodeId,
+) -> Result<(), OutOfMemory>
+    requires { AreRising touched.old.items }
+    ensures notes { OnOk result (Notes id touched.old.items touched.new.items) }
+    ensures listed { OnOk result ((k : ℕ) → is_stamped_by k new.now ≡ true → is_stamped_by k old.now ≡ false → is_listed touched.new.items k id ≡ true) }
+{
+    note_stamp(touched, old, &new.ins, id)?;
+    note_each(touched, old, new.dels.as_slice(), id)
+}
+
+/// Lists the second node for each stage for which the first one is listed.
+///
+/// Answers `OutOfMemory` where there is no room for it.
+pub(crate) fn note_heir(
+    touched: &mut Vec<StageNodes>,
+    front: NodeId,
+    rear: NodeId,
+) -> Result<(), OutOfMemory>
+    ensures { OnOk result (touched.new.items ≡ map (with_heir front rear) touched.old.items) }
+{
+    add_heirs(touched.as_mut_slice(), front, rear)
+}
+
+/// The same in a slice.
+fn add_heirs(touched: &mut [StageNodes], front: NodeId, rear: NodeId) -> Result<(), OutOfMemory>
+    ensures { OnOk result (touched.new ≡ map (with_heir front rear) touched.old) }
+{
+    for list in touched.iter_mut() {
+        list.add_heir(front, rear)?;
+    }
+    Ok(())
+}
+
+/// Takes a node off all lists.
+pub(crate) fn purge(touched: &mut Vec<StageNodes>, id: NodeId)
+    ensures { touched.new.items ≡ map (purged id) touched.old.items }
+{
+    purge_each(touched.as_mut_slice(), id);
+}
+
+/// The same in a slice.
+fn purge_each(touched: &mut [StageNodes], id: NodeId)
+    ensures { touched.new ≡ map (purged id) touched.old }
+{
+    for list in touched.iter_mut() {
+        list.purge(id);
+    }
+}
+
+/// Takes the list of a stage out, and answers its nodes: none where there is no list.
+pub(crate) fn take_stage(touched: &mut Vec<StageNodes>, stage: u64) -> Vec<NodeId>
+    requires { AreRising touched.old.items }
+    ensures nodes { (id : ℕ) → holds result.items id ≡ is_listed touched.old.items stage id }
+    ensures gone { (id : ℕ) → is_listed touched.new.items stage id ≡ false }
+    ensures others { (k id : ℕ) → k ≢ stage → is_listed touched.new.items k id ≡ is_listed touched.old.items k id }
+    ensures rising { AreRising touched.new.items }
+{
+    let i = place_of(touched.as_slice(), stage);
+    if is_at(touched.as_slice(), i, stage) {
+        return touched.remove(i).into_nodes();
+    }
+    Vec::new(*touched.allocator())
+}
