@@ -1,10 +1,12 @@
 pub mod Walks
 pub mod WalkEdits
 pub mod FoundPlaces
+pub mod FoundOffsets
+pub mod OffsetCounts
+pub mod SettledLeaves
 pub mod CutPlaces
 pub mod RangeWalks
 pub mod Acknowledged
-pub mod PlacedLeaves
 pub mod MovedLeaves
 pub mod JoinedPairs
 pub mod LeafPlaces

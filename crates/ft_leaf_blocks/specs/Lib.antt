@@ -7,3 +7,5 @@ pub mod Unsettled
 pub mod Touched
 pub mod State
 pub mod Inside
+pub mod LeafOffsets
+pub mod LastStanding

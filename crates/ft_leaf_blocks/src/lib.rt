@@ -1,5 +1,6 @@
 //! Leaves of the merge tree in blocks: how they are cut at a place, get a leaf there, and are changed over a
-//! range, by reading a few blocks to find the place and then only the leaves of the range.
+//! range, by reading a few blocks to find the place and then only the leaves of the range; and where references
+//! go, from leaf to leaf.
 //!
 //! A call that can't answer `OutOfMemory` takes no memory.
 #![tactic(auto)]
@@ -8,15 +9,18 @@ pub mod acks;
 pub mod anchors;
 pub mod cuts;
 pub mod edits;
+pub mod finds;
 pub mod joins;
 mod leaf_refs;
 pub mod leaf_blocks;
+pub mod offsets;
 pub mod places;
 pub mod ranges;
 pub mod references;
 pub mod scans;
 pub mod slides;
 mod stage_nodes;
+pub mod settling;
 pub mod stamp_lists;
 mod touched;
 mod tracked;

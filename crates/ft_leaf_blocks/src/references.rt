@@ -1,6 +1,6 @@
 //! References to elements of leaves in blocks: where they go after removals.
 
-ghost use Rattle.std.specs.Prelude.{◌≡◌, ◌<◌, ◌^◌, IfOk, IsTrue, cond, length, map, nat_eq, true};
+ghost use Rattle.std.specs.Prelude.{◌≡◌, IfOk, IsTrue, cond, map, nat_eq, true};
 ghost use Rattle.ft_leaves.specs.LeafLists.{elements};
 ghost use Rattle.ft_leaves.specs.References.{settled_at, slid_reference};
 
@@ -14,8 +14,7 @@ use std::alloc::Global;
 
 /// The reference after sequenced removals.
 fn slid<C: Content>(blocks: &Blocks<TreeLeaf<C>>, x: Reference) -> Reference
-    requires usable { IsTrue blocks.now.usable }
-    requires fits { length (elements C.units C.by blocks.now.leaves) < 2 ^ 64 }
+    requires { IsTrue blocks.now.usable }
     ensures { result ≡ slid_reference (elements C.units C.by blocks.now.leaves) x }
 {
     if !x.acked {
@@ -36,8 +35,7 @@ pub fn slid_references<C: Content>(
     blocks: &Blocks<TreeLeaf<C>>,
     refs: &[(RefId, Reference)],
 ) -> Result<Vec<(RefId, Reference)>, OutOfMemory>
-    requires usable { IsTrue blocks.now.usable }
-    requires fits { length (elements C.units C.by blocks.now.leaves) < 2 ^ 64 }
+    requires { IsTrue blocks.now.usable }
     ensures { IfOk result (λ v. v.items ≡ map (λ x. (x.0, slid_reference (elements C.units C.by blocks.now.leaves) x.1)) refs.now) }
 {
     let mut gone = Vec::new(alloc);
@@ -54,8 +52,7 @@ fn settled_if<C: Content>(
     x: Reference,
     r: RefId,
 ) -> Reference
-    requires usable { IsTrue blocks.now.usable }
-    requires fits { length (elements C.units C.by blocks.now.leaves) < 2 ^ 64 }
+    requires { IsTrue blocks.now.usable }
     ensures { result ≡ cond (nat_eq id r) (slid_reference (elements C.units C.by blocks.now.leaves) (record x { acked = true })) x }
 {
     if id.0 != r.0 {
@@ -74,8 +71,7 @@ fn settle_reference<C: Content>(
     refs: &mut [(RefId, Reference)],
     r: RefId,
 )
-    requires usable { IsTrue blocks.now.usable }
-    requires fits { length (elements C.units C.by blocks.now.leaves) < 2 ^ 64 }
+    requires { IsTrue blocks.now.usable }
     ensures { refs.new ≡ map (settled_at r (elements C.units C.by blocks.now.leaves)) refs.old }
 {
     for x in refs.iter_mut() {
@@ -89,8 +85,7 @@ pub fn settle_in<C: Content>(
     refs: &mut Vec<(RefId, Reference)>,
     r: RefId,
 )
-    requires usable { IsTrue blocks.now.usable }
-    requires fits { length (elements C.units C.by blocks.now.leaves) < 2 ^ 64 }
+    requires { IsTrue blocks.now.usable }
     ensures { refs.new.items ≡ map (settled_at r (elements C.units C.by blocks.now.leaves)) refs.old.items }
 {
     settle_reference(blocks, refs.as_mut_slice(), r);

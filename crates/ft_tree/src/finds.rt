@@ -1,92 +1,13 @@
-//! Leaves in blocks: where a place is, for calls that are given no counter of steps.
+//! Leaves in blocks: the place behind all, for calls that are given no counter of steps.
 
-ghost use Rattle.std.specs.Prelude.{◌≡◌, ◌<◌, ◌≤◌, IsTrue, length};
-ghost use Rattle.ft_block.specs.declared.leaves.LenView.TheVariants.{All, At};
-ghost use Rattle.ft_block.specs.Leaves.{IsFromFloor, last_stage, place_by};
+ghost use Rattle.std.specs.Prelude.{◌≡◌, ◌<◌, IsTrue, length};
 ghost use Rattle.ft_leaf_blocks.specs.Walks.{IsInLeaf, held_place};
-ghost use Rattle.ft_leaves.specs.LeafLists.{elements, leaf_length};
+ghost use Rattle.ft_leaves.specs.LeafLists.{elements};
 
-use ft_base::{Perspective, Steps};
+use ft_base::Steps;
 use ft_block::{Blocks, Found, LenView};
-use ft_leaf_blocks::scans::find_seen;
 use ft_leaves::{Content, TreeLeaf};
 use std::sync::ledger::{Blank, Ledger};
-
-/// The place of the `p`-th element that the perspective sees.
-fn find_at<C: Content, G: Ledger>(
-    blocks: &Blocks<TreeLeaf<C>>,
-    p: u64,
-    at: Perspective,
-    steps: &mut Steps<G>,
-) -> Option<Found>
-    requires usable { IsTrue blocks.now.usable }
-    requires floor { blocks.now.floor ≤ at.r }
-    ensures { result ≡ place_by (leaf_length C.units (At at)) blocks.now.leaves p }
-{
-    match blocks.find(p, at, steps) {
-        Ok(found) => Some(found),
-        Err(_) => None,
-    }
-}
-
-/// The place of the `p`-th element of the local view.
-fn find_last<C: Content, G: Ledger>(
-    blocks: &Blocks<TreeLeaf<C>>,
-    p: u64,
-    steps: &mut Steps<G>,
-) -> Option<Found>
-    requires { IsTrue blocks.now.usable }
-    ensures { result ≡ place_by (leaf_length C.units last_stage) blocks.now.leaves p }
-{
-    match blocks.find_local(p, steps) {
-        Ok(found) => Some(found),
-        Err(_) => None,
-    }
-}
-
-/// The place of the `p`-th of all elements.
-fn find_of_all<C: Content, G: Ledger>(
-    blocks: &Blocks<TreeLeaf<C>>,
-    p: u64,
-    steps: &mut Steps<G>,
-) -> Option<Found>
-    requires { IsTrue blocks.now.usable }
-    ensures { result ≡ place_by (leaf_length C.units All) blocks.now.leaves p }
-{
-    match blocks.find_any(p, steps) {
-        Ok(found) => Some(found),
-        Err(_) => None,
-    }
-}
-
-/// The leaf that holds the `p`-th element that the view sees, and how many of its elements stand up to that
-/// one: None exactly where `p` is above the length seen.
-pub(crate) fn find_leaf<C: Content, G: Ledger>(
-    blocks: &Blocks<TreeLeaf<C>>,
-    p: u64,
-    view: LenView,
-    blank: Blank,
-) -> Option<Found>
-    requires name { blank.name ≡ G.name }
-    requires parts { blank.parts ≡ G.parts }
-    requires one { 0 < blank.parts }
-    requires usable { IsTrue blocks.now.usable }
-    requires floor { IsFromFloor blocks.now.floor view }
-    ensures { result ≡ place_by (leaf_length C.units view) blocks.now.leaves p }
-{
-    let mut steps = Steps::<G>::new(blank);
-    match view {
-        LenView::At(at) => find_at(blocks, p, at, &mut steps),
-        LenView::Stage(stage) => {
-            if stage == u64::MAX {
-                find_last(blocks, p, &mut steps)
-            } else {
-                find_seen(blocks, p, view)
-            }
-        }
-        LenView::All => find_of_all(blocks, p, &mut steps),
-    }
-}
 
 /// The place behind all elements.
 pub(crate) fn find_end<C: Content, G: Ledger>(blocks: &Blocks<TreeLeaf<C>>, blank: Blank) -> Found

@@ -7,11 +7,11 @@ ghost use Rattle.ft_block.specs.Leaves.{IsFromFloor, IsLeafIn, IsPlaceIn, left_o
 ghost use Rattle.ft_leaves.specs.Elements.{seen_in};
 ghost use Rattle.ft_leaves.specs.LeafLists.{elements, leaf_length};
 
-use crate::finds::find_leaf;
 use ft_arena::NodeId;
 use ft_base::{Element, OutOfMemory};
 use ft_block::{Found, LenView};
 use ft_leaf_blocks::LeafBlocks;
+use ft_leaf_blocks::finds::find_leaf;
 use ft_leaf_blocks::places::{seen_count, seen_left};
 use ft_leaf_blocks::stamp_lists::all_stamps;
 use ft_leaves::references::Reference;

@@ -7,7 +7,7 @@ use Rattle.ft_leaves.specs.LeafLists.{leaf_length}
 use Rattle.ft_leaves.proofs.LeafRuns.{leaf-length}
 use Rattle.ft_leaf_blocks.specs.Walks.{from_place}
 use Rattle.ft_leaf_blocks.proofs.Walks.{after_in_place, first_in_place, from_first, stands}
-use Rattle.ft_leaf_blocks.proofs.scans.find_seen.Goals as goal
+use Rattle.ft_leaf_blocks.proofs.finds.find_seen.Goals as goal
 
 pub loop-at-init : goal.loop-at-init
 loop-at-init g c =

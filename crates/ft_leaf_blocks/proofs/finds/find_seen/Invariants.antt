@@ -2,7 +2,7 @@ use Rattle.std.proofs.Common.{◌≡◌, ◌<◌, length}
 use Rattle.ft_block.specs.Leaves.{IsPlaceIn, place_by, place_from}
 use Rattle.ft_leaves.specs.LeafLists.{leaf_length}
 use Rattle.ft_leaf_blocks.specs.Walks.{from_place}
-use Rattle.ft_leaf_blocks.proofs.scans.find_seen.Given as goal
+use Rattle.ft_leaf_blocks.proofs.finds.find_seen.Given as goal
 
 -- the place that is sought is that in the rest, behind as many as are left to pass
 abbrev pub invariant-loop-at : goal.invariant-loop-at

@@ -1,8 +1,8 @@
 use Rattle.std.proofs.Common.{◌<◌, subst, sym}
 use Rattle.ft_block.specs.declared.leaves.LenView.TheVariants.{At}
 use Rattle.ft_leaves.specs.LeafLists.{leaf_length}
-use Rattle.ft_tree.proofs.FoundEnds.{none_beyond}
-use Rattle.ft_tree.proofs.finds.find_at.Goals as goal
+use Rattle.ft_leaf_blocks.proofs.FoundOffsets.{none_beyond}
+use Rattle.ft_leaf_blocks.proofs.finds.find_at.Goals as goal
 
 pub returns-in-Err : goal.returns-in-Err
 returns-in-Err g c =
