@@ -11,7 +11,8 @@ use Rattle.ft_leaves.specs.declared.references.Reference.{Reference}
 use Rattle.ft_leaves.specs.References.{reference_at}
 use Rattle.ft_refs.specs.declared.numbers.Place.{Place}
 use Rattle.ft_refs.specs.RefLists.{IsRefs, RefLists, entry, ids_of, owner_of, owner_of_place, place_of_entry, place_of_reference}
-use Rattle.ft_leaf_blocks.specs.Anchors.{AnchorLists, AreAnchored, ChangesAnchor, IsOnLeaf, is_acked_at, reference_on, references_on}
+use Rattle.ft_leaf_blocks.specs.Anchors.{AnchorLists, AreAnchored, ChangesAnchor, is_acked_at, reference_on, references_on}
+use Rattle.ft_leaf_blocks.specs.LeafPlaces.{IsOnLeaf}
 use Rattle.ft_leaf_blocks.specs.Slides.{AreSettledBut, is_on, is_unremoved_at}
 use Rattle.ft_leaf_blocks.proofs.AnchoredLeaves.{on_leaf, owner_live, reference_at-on}
 

@@ -20,10 +20,11 @@ use Rattle.ft_leaves.proofs.LeafRuns.{length-elements}
 use Rattle.ft_leaves.proofs.Standing.{change-map, join-split}
 use Rattle.ft_refs.specs.declared.numbers.Place.{Place}
 use Rattle.ft_refs.specs.RefLists.{IsHeld, entry, place_of_entry, place_of_reference, raised_place, split_place}
-use Rattle.ft_leaf_blocks.specs.Anchors.{AnchorLists, AreAnchored, IsOnLeaf, MovesAnchors, is_acked_at, numbered, place_on, reference_on, references_on}
+use Rattle.ft_leaf_blocks.specs.Anchors.{AnchorLists, AreAnchored, MovesAnchors, is_acked_at, numbered, reference_on, references_on}
+use Rattle.ft_leaf_blocks.specs.LeafPlaces.{IsOnLeaf, place_in}
 use Rattle.ft_leaf_blocks.specs.Walks.{from_place, node_behind}
 use Rattle.ft_leaf_blocks.proofs.JoinedPairs.{beside}
-use Rattle.ft_leaf_blocks.proofs.LeafPlaces.{Goes, OnLeaf, goes_as, goes_joined, goes_map, goes_moved, goes_put, goes_split, goes_without, place_in, without-split}
+use Rattle.ft_leaf_blocks.proofs.LeafPlaces.{Goes, OnLeaf, goes_as, goes_joined, goes_map, goes_moved, goes_put, goes_split, goes_without, count_before, without-split}
 use Rattle.ft_leaf_blocks.proofs.MovedLeaves.{count_alone}
 use Rattle.ft_leaf_blocks.proofs.Walks.{stands, up_to-from}
 use Rattle.ft_leaf_blocks.proofs.WalkEdits.{put-behind, split-split, times-change}
@@ -80,8 +81,8 @@ module _ {C U : Type 0} (units : C → List U) (by : C → Option Stamp) where
   pub is_on_leaf : (xs : List (ℕ × TreeLeaf C)) (p : Place) → OnLeaf size xs p → IsOnLeaf units xs p
   is_on_leaf xs p on = subst (λ o. IsSomeAnd o (λ v. p.offset < length (units v.content))) (sym on.is) on.within
 
-  pub place_on-in : (xs : List (ℕ × TreeLeaf C)) (p : Place) → place_on units by xs p ≡ place_in size xs p
-  place_on-in xs p = ap (λ k. k + p.offset) (length-elements units by (left_of xs p.owner))
+  pub place_in-count : (xs : List (ℕ × TreeLeaf C)) (p : Place) → place_in units by xs p ≡ count_before size xs p
+  place_in-count xs p = ap (λ k. k + p.offset) (length-elements units by (left_of xs p.owner))
 
   pub owner_live : (xs : List (ℕ × TreeLeaf C)) (p : Place) → OnLeaf size xs p → IsLeafIn xs p.owner
   owner_live xs p on = value_at_in xs p.owner (λ v. p.offset < length (units v.content)) (is_on_leaf xs p on)
@@ -103,9 +104,9 @@ module _ {C U : Type 0} (units : C → List U) (by : C → Option Stamp) where
   keeps old now a b g r = g.references r ∙ same_reference (reference_at (references_on units by old a) r)
 
   module _ (g : Place → Place) (f : ℕ → ℕ) (old now : List (ℕ × TreeLeaf C)) (a b : AnchorLists) (moves : MovesAnchors g a b)
-      (goes : (r : ℕ) (p : Place) → place_of_reference a.refs r ≡ Some p → Goes size now (g p) (f (place_in size old p))) where
-    place_goes : (r : ℕ) (p : Place) → place_of_reference a.refs r ≡ Some p → place_on units by now (g p) ≡ f (place_on units by old p)
-    place_goes r p e = place_on-in now (g p) ∙ (goes r p e).place ∙ ap f (sym (place_on-in old p))
+      (goes : (r : ℕ) (p : Place) → place_of_reference a.refs r ≡ Some p → Goes size now (g p) (f (count_before size old p))) where
+    place_goes : (r : ℕ) (p : Place) → place_of_reference a.refs r ≡ Some p → place_in units by now (g p) ≡ f (place_in units by old p)
+    place_goes r p e = place_in-count now (g p) ∙ (goes r p e).place ∙ ap f (sym (place_in-count old p))
 
     entry_goes : (r : ℕ) (flag : Bool) (q : Option (Option Place)) → entry a.refs r ≡ q
         → option_map (reference_on units by now flag) (option_map (option_map g) q) ≡ option_map (with_place f) (option_map (reference_on units by old flag) q)
@@ -134,11 +135,11 @@ module _ {C U : Type 0} (units : C → List U) (by : C → Option Stamp) where
       };
     }
 
-  goes_between : (xs ys now zs : List (ℕ × TreeLeaf C)) (p q : Place) (f : ℕ → ℕ) → xs ≡ ys → now ≡ zs → (OnLeaf size ys p → Goes size zs q (f (place_in size ys p)))
-      → OnLeaf size xs p → Goes size now q (f (place_in size xs p))
+  goes_between : (xs ys now zs : List (ℕ × TreeLeaf C)) (p q : Place) (f : ℕ → ℕ) → xs ≡ ys → now ≡ zs → (OnLeaf size ys p → Goes size zs q (f (count_before size ys p)))
+      → OnLeaf size xs p → Goes size now q (f (count_before size xs p))
   goes_between xs ys now zs p q f e d h on =
-      subst (λ (ws : List (ℕ × TreeLeaf C)). Goes size ws q (f (place_in size xs p))) (sym d)
-      (subst (λ (ws : List (ℕ × TreeLeaf C)). OnLeaf size ws p → Goes size zs q (f (place_in size ws p))) (sym e) h on)
+      subst (λ (ws : List (ℕ × TreeLeaf C)). Goes size ws q (f (count_before size xs p))) (sym d)
+      (subst (λ (ws : List (ℕ × TreeLeaf C)). OnLeaf size ws p → Goes size zs q (f (count_before size ws p))) (sym e) h on)
 
   module _ (xs : List (ℕ × TreeLeaf C)) (once : (i : ℕ) → times_leaf xs i ≤ 1) (a : AnchorLists) (anchored : AreAnchored units xs a) where
     there : (r : ℕ) (p : Place) → place_of_reference a.refs r ≡ Some p → OnLeaf size xs p
@@ -180,7 +181,7 @@ module _ {C U : Type 0} (units : C → List U) (by : C → Option Stamp) where
           goes_on (λ p. p) f xs (put_leaf xs at (id, x)) a b moves
           (λ r p e. goes_between xs (up ++ rest) (put_leaf xs at (id, x)) (up ++ (id, x) ∷ rest) p p f (sym (up_to-from xs at once live)) (put-behind xs at (id, x) once live)
           (λ on. goes_as size (up ++ (id, x) ∷ rest) p _ _ (goes_put size up rest (id, x) p (elsewhere id p fresh (there r p e)) on)
-          (ap (λ (i : ℕ). shifted_place i n (place_in size (up ++ rest) p)) (sym (length-elements units by up)))) (there r p e))
+          (ap (λ (i : ℕ). shifted_place i n (count_before size (up ++ rest) p)) (sym (length-elements units by up)))) (there r p e))
           put_held
 
     module _ (id : ℕ) (v : TreeLeaf C) (value : value_at xs id ≡ Some v) where
@@ -275,8 +276,8 @@ module _ {C U : Type 0} (units : C → List U) (by : C → Option Stamp) where
           (λ r p e. goes_as size (without_leaf xs id) p _ _ (goes_between xs (left ++ (id, v) ∷ right) (without_leaf xs id) (left ++ right) p p
           (λ j. closed_place (length_by size left) (size v) j) s.whole out
           (goes_without size left right (id, v) p (λ q. free r p e (sym q))) (there r p e))
-          (ap (λ (i : ℕ). closed_place i (size v) (place_in size xs p)) (sym (length-elements units by left))
-          ∙ ap (λ (n : ℕ). closed_place (length (elements units by left)) n (place_in size xs p)) (sym (count_alone units by xs id v (once id) value))))
+          (ap (λ (i : ℕ). closed_place i (size v) (count_before size xs p)) (sym (length-elements units by left))
+          ∙ ap (λ (n : ℕ). closed_place (length (elements units by left)) n (count_before size xs p)) (sym (count_alone units by xs id v (once id) value))))
           (λ z h. anchored.held z (omega (arith, h, times-without-one xs id z one)))
 
       -- a leaf that is moved
@@ -296,9 +297,9 @@ module _ {C U : Type 0} (units : C → List U) (by : C → Option Stamp) where
           (λ r p e. goes_as size (move_leaf xs id at (value_at xs id)) p _ _ (goes_between xs (left ++ (id, v) ∷ right) (move_leaf xs id at (value_at xs id)) (k ++ (id, v) ∷ m) p p
           (λ j. moved_place (length_by size left) (size v) (length_by size k) j) s.whole moved
           (goes_moved size left right k m (id, v) p (sym out ∙ sym cut) s.left apart) (there r p e))
-          (ap (λ (i : ℕ). moved_place i (size v) (length_by size k) (place_in size xs p)) (sym (length-elements units by left))
-          ∙ ap (λ (n : ℕ). moved_place (length (elements units by left)) n (length_by size k) (place_in size xs p)) (sym (count_alone units by xs id v (once id) value))
-          ∙ ap (λ (d : ℕ). moved_place (length (elements units by left)) (length (elements units by (leaf_at xs id))) d (place_in size xs p)) (sym (length-elements units by k))))
+          (ap (λ (i : ℕ). moved_place i (size v) (length_by size k) (count_before size xs p)) (sym (length-elements units by left))
+          ∙ ap (λ (n : ℕ). moved_place (length (elements units by left)) n (length_by size k) (count_before size xs p)) (sym (count_alone units by xs id v (once id) value))
+          ∙ ap (λ (d : ℕ). moved_place (length (elements units by left)) (length (elements units by (leaf_at xs id))) d (count_before size xs p)) (sym (length-elements units by k))))
           (λ z h. anchored.held z (omega (
             arith,
             h,

@@ -89,8 +89,8 @@ module _ {L : Type 0} where
 
 module _ {L : Type 0} (size : L → ℕ) where
   -- how many elements stand before that of a place on a leaf
-  abbrev pub place_in : List (ℕ × L) → Place → ℕ
-  place_in xs p = length_by size (left_of xs p.owner) + p.offset
+  abbrev pub count_before : List (ℕ × L) → Place → ℕ
+  count_before xs p = length_by size (left_of xs p.owner) + p.offset
 
   -- the place is that of an element of a leaf
   pub record OnLeaf (xs : List (ℕ × L)) (p : Place) : Type 0 where
@@ -101,7 +101,7 @@ module _ {L : Type 0} (size : L → ℕ) where
   -- and j elements stand before that one
   pub record Goes (now : List (ℕ × L)) (p : Place) (j : ℕ) : Type 0 where
     pub on : OnLeaf now p
-    pub place : place_in now p ≡ j
+    pub place : count_before now p ≡ j
 
   pub goes_as : (now : List (ℕ × L)) (p : Place) (j k : ℕ) → Goes now p j → j ≡ k → Goes now p k
   goes_as now p j k g e = record { on = g.on; place = g.place ∙ e }
@@ -110,7 +110,7 @@ module _ {L : Type 0} (size : L → ℕ) where
   length_by-append [] ys = omega arith
   length_by-append (x ∷ xs) ys = omega (arith, length_by-append xs ys)
 
-  below_first : (l : List (ℕ × L)) (p : Place) → OnLeaf l p → place_in l p < length_by size l
+  below_first : (l : List (ℕ × L)) (p : Place) → OnLeaf l p → count_before l p < length_by size l
   below_first [] p on = let e = on.is in (cc)
   below_first (x ∷ l) p on = elim (cases_eq x.0 p.owner) [
     | inl e ↦
@@ -125,19 +125,19 @@ module _ {L : Type 0} (size : L → ℕ) where
   ]
 
   -- a place on the first of two lists
-  pub goes_first : (l m k : List (ℕ × L)) (p : Place) → 1 ≤ times_leaf l p.owner → OnLeaf (l ++ m) p → Goes (l ++ k) p (place_in (l ++ m) p)
+  pub goes_first : (l m k : List (ℕ × L)) (p : Place) → 1 ≤ times_leaf l p.owner → OnLeaf (l ++ m) p → Goes (l ++ k) p (count_before (l ++ m) p)
   goes_first l m k p h on = record {
     on = record { value = on.value; is = value-in l k p.owner h ∙ sym (value-in l m p.owner h) ∙ on.is; within = on.within };
     place = omega (arith, ap (length_by size) (left-in l k p.owner h), ap (length_by size) (left-in l m p.owner h));
   }
 
-  pub first_below : (l m : List (ℕ × L)) (p : Place) → 1 ≤ times_leaf l p.owner → OnLeaf (l ++ m) p → place_in (l ++ m) p < length_by size l
+  pub first_below : (l m : List (ℕ × L)) (p : Place) → 1 ≤ times_leaf l p.owner → OnLeaf (l ++ m) p → count_before (l ++ m) p < length_by size l
   first_below l m p h on =
       let here : OnLeaf l p = record { value = on.value; is = sym (value-in l m p.owner h) ∙ on.is; within = on.within } in
       omega (arith, ap (length_by size) (left-in l m p.owner h), below_first l p here)
 
   -- a place on the second
-  pub goes_past : (l m : List (ℕ × L)) (p : Place) → times_leaf l p.owner ≡ 0 → OnLeaf m p → Goes (l ++ m) p (length_by size l + place_in m p)
+  pub goes_past : (l m : List (ℕ × L)) (p : Place) → times_leaf l p.owner ≡ 0 → OnLeaf m p → Goes (l ++ m) p (length_by size l + count_before m p)
   goes_past l m p h on = record {
     on = record { value = on.value; is = value-past l m p.owner h ∙ on.is; within = on.within };
     place = omega (arith, ap (length_by size) (left-past l m p.owner h), length_by-append l (left_of m p.owner));
@@ -150,9 +150,9 @@ module _ {L : Type 0} (size : L → ℕ) where
   alone x z d = omega (arith, same_other x.0 z d)
 
   -- behind a leaf
-  pub goes_later : (x : ℕ × L) (m : List (ℕ × L)) (p : Place) → x.0 ≢ p.owner → OnLeaf m p → Goes (x ∷ m) p (size x.1 + place_in m p)
+  pub goes_later : (x : ℕ × L) (m : List (ℕ × L)) (p : Place) → x.0 ≢ p.owner → OnLeaf m p → Goes (x ∷ m) p (size x.1 + count_before m p)
   goes_later x m p d on =
-      goes_as (x ∷ m) p (length_by size (x ∷ []) + place_in m p) (size x.1 + place_in m p) (goes_past (x ∷ []) m p (alone x p.owner d) on) (omega arith)
+      goes_as (x ∷ m) p (length_by size (x ∷ []) + count_before m p) (size x.1 + count_before m p) (goes_past (x ∷ []) m p (alone x p.owner d) on) (omega arith)
 
   pub on_later : (x : ℕ × L) (m : List (ℕ × L)) (p : Place) → x.0 ≢ p.owner → OnLeaf (x ∷ m) p → OnLeaf m p
   on_later x m p d on = on_past (x ∷ []) m p (alone x p.owner d) on
@@ -174,56 +174,56 @@ module _ {L : Type 0} (size : L → ℕ) where
 
   -- a new leaf behind some of them
   pub goes_put : (l m : List (ℕ × L)) (new : ℕ × L) (p : Place) → new.0 ≢ p.owner → OnLeaf (l ++ m) p
-      → Goes (l ++ new ∷ m) p (shifted_place (length_by size l) (size new.1) (place_in (l ++ m) p))
+      → Goes (l ++ new ∷ m) p (shifted_place (length_by size l) (size new.1) (count_before (l ++ m) p))
   goes_put l m new p d on = elim (some_or_none (times_leaf l p.owner)) [
     | inl none ↦
         let rest = on_past l m p none on in
         let was = (goes_past l m p none rest).place in
         let later = goes_later new m p d rest in
-        goes_as (l ++ new ∷ m) p (length_by size l + place_in (new ∷ m) p) _ (goes_past l (new ∷ m) p none later.on)
-        (omega (arith, later.place, was, shifted_behind (length_by size l) (size new.1) (place_in (l ++ m) p) (omega (arith, was))))
+        goes_as (l ++ new ∷ m) p (length_by size l + count_before (new ∷ m) p) _ (goes_past l (new ∷ m) p none later.on)
+        (omega (arith, later.place, was, shifted_behind (length_by size l) (size new.1) (count_before (l ++ m) p) (omega (arith, was))))
     | inr some ↦
-        goes_as (l ++ new ∷ m) p (place_in (l ++ m) p) _ (goes_first l m (new ∷ m) p some on)
-        (sym (shifted_before (length_by size l) (size new.1) (place_in (l ++ m) p) (first_below l m p some on)))
+        goes_as (l ++ new ∷ m) p (count_before (l ++ m) p) _ (goes_first l m (new ∷ m) p some on)
+        (sym (shifted_before (length_by size l) (size new.1) (count_before (l ++ m) p) (first_below l m p some on)))
   ]
 
   -- a leaf between others is taken out, where the place is on another one
   pub goes_without : (l m : List (ℕ × L)) (x : ℕ × L) (p : Place) → x.0 ≢ p.owner → OnLeaf (l ++ x ∷ m) p
-      → Goes (l ++ m) p (closed_place (length_by size l) (size x.1) (place_in (l ++ x ∷ m) p))
+      → Goes (l ++ m) p (closed_place (length_by size l) (size x.1) (count_before (l ++ x ∷ m) p))
   goes_without l m x p d on = elim (some_or_none (times_leaf l p.owner)) [
     | inl none ↦
         let rest = on_later x m p d (on_past l (x ∷ m) p none on) in
         let later = goes_later x m p d rest in
         let was = (goes_past l (x ∷ m) p none later.on).place in
-        goes_as (l ++ m) p (length_by size l + place_in m p) _ (goes_past l m p none rest)
-        (omega (arith, later.place, was, closed_behind (length_by size l) (size x.1) (place_in (l ++ x ∷ m) p) (omega (arith, later.place, was))))
+        goes_as (l ++ m) p (length_by size l + count_before m p) _ (goes_past l m p none rest)
+        (omega (arith, later.place, was, closed_behind (length_by size l) (size x.1) (count_before (l ++ x ∷ m) p) (omega (arith, later.place, was))))
     | inr some ↦
-        goes_as (l ++ m) p (place_in (l ++ x ∷ m) p) _ (goes_first l (x ∷ m) m p some on)
-        (sym (closed_before (length_by size l) (size x.1) (place_in (l ++ x ∷ m) p) (first_below l (x ∷ m) p some on)))
+        goes_as (l ++ m) p (count_before (l ++ x ∷ m) p) _ (goes_first l (x ∷ m) m p some on)
+        (sym (closed_before (length_by size l) (size x.1) (count_before (l ++ x ∷ m) p) (first_below l (x ∷ m) p some on)))
   ]
 
   moved_by_both : (l m : List (ℕ × L)) (x : ℕ × L) (d : ℕ) (p : Place) → x.0 ≢ p.owner → OnLeaf (l ++ x ∷ m) p
-      → moved_place (length_by size l) (size x.1) d (place_in (l ++ x ∷ m) p)
-      ≡ shifted_place d (size x.1) (closed_place (length_by size l) (size x.1) (place_in (l ++ x ∷ m) p))
+      → moved_place (length_by size l) (size x.1) d (count_before (l ++ x ∷ m) p)
+      ≡ shifted_place d (size x.1) (closed_place (length_by size l) (size x.1) (count_before (l ++ x ∷ m) p))
   moved_by_both l m x d p differ on = elim (some_or_none (times_leaf l p.owner)) [
     | inl none ↦
         let rest = on_later x m p differ (on_past l (x ∷ m) p none on) in
         let later = goes_later x m p differ rest in
         let was = (goes_past l (x ∷ m) p none later.on).place in
         let i = length_by size l in
-        let j = place_in (l ++ x ∷ m) p in
+        let j = count_before (l ++ x ∷ m) p in
         moved_behind i (size x.1) d j (omega (arith, later.place, was))
         ∙ ap (shifted_place d (size x.1)) (sym (closed_behind i (size x.1) j (omega (arith, later.place, was))))
     | inr some ↦
         let i = length_by size l in
-        let j = place_in (l ++ x ∷ m) p in
+        let j = count_before (l ++ x ∷ m) p in
         moved_before i (size x.1) d j (first_below l (x ∷ m) p some on)
         ∙ ap (shifted_place d (size x.1)) (sym (closed_before i (size x.1) j (first_below l (x ∷ m) p some on)))
   ]
 
   -- a leaf goes behind some of the others
   pub goes_moved : (l m k r : List (ℕ × L)) (x : ℕ × L) (p : Place) → l ++ m ≡ k ++ r → times_leaf l x.0 ≡ 0 → times_leaf k x.0 ≡ 0 → OnLeaf (l ++ x ∷ m) p
-      → Goes (k ++ x ∷ r) p (moved_place (length_by size l) (size x.1) (length_by size k) (place_in (l ++ x ∷ m) p))
+      → Goes (k ++ x ∷ r) p (moved_place (length_by size l) (size x.1) (length_by size k) (count_before (l ++ x ∷ m) p))
   goes_moved l m k r x p same apart_l apart_k on = elim (cases_eq p.owner x.0) [
     | inl e ↦
         let none_l : times_leaf l p.owner ≡ 0 = ap (times_leaf l) e ∙ apart_l in
@@ -232,13 +232,13 @@ module _ {L : Type 0} (size : L → ℕ) where
         let here_m = goes_here x m p e within in
         let here_r = goes_here x r p e within in
         let was = (goes_past l (x ∷ m) p none_l here_m.on).place in
-        goes_as (k ++ x ∷ r) p (length_by size k + place_in (x ∷ r) p) _ (goes_past k (x ∷ r) p none_k here_r.on)
+        goes_as (k ++ x ∷ r) p (length_by size k + count_before (x ∷ r) p) _ (goes_past k (x ∷ r) p none_k here_r.on)
         (omega (
           arith,
           here_m.place,
           here_r.place,
           was,
-          moved_among (length_by size l) (size x.1) (length_by size k) (place_in (l ++ x ∷ m) p) (omega (arith, here_m.place, was)) (omega (arith, here_m.place, was, within)),
+          moved_among (length_by size l) (size x.1) (length_by size k) (count_before (l ++ x ∷ m) p) (omega (arith, here_m.place, was)) (omega (arith, here_m.place, was, within)),
         ))
     | inr d ↦
         let other : x.0 ≢ p.owner = λ q. d (sym q) in
@@ -246,7 +246,7 @@ module _ {L : Type 0} (size : L → ℕ) where
         let there : OnLeaf (k ++ r) p = record { value = out.on.value; is = ap (λ zs. value_at zs p.owner) (sym same) ∙ out.on.is; within = out.on.within } in
         let back = goes_put k r x p other there in
         goes_as (k ++ x ∷ r) p _ _ back
-        (ap (shifted_place (length_by size k) (size x.1)) (ap (λ zs. place_in zs p) (sym same) ∙ out.place)
+        (ap (shifted_place (length_by size k) (size x.1)) (ap (λ zs. count_before zs p) (sym same) ∙ out.place)
         ∙ sym (moved_by_both l m x (length_by size k) p other on))
   ]
 
@@ -256,7 +256,7 @@ module _ {L : Type 0} (size : L → ℕ) where
   -- a leaf is cut in two
   module _ (l m : List (ℕ × L)) (id new at : ℕ) (v a b : L) (front : size a ≡ at) (rear : at + size b ≡ size v) (apart : times_leaf l id ≡ 0) (fresh : times_leaf l new ≡ 0)
       (differ : id ≢ new) (p : Place) where
-    cut_here : p.owner ≡ id → OnLeaf (l ++ (id, v) ∷ m) p → Goes (l ++ (id, a) ∷ (new, b) ∷ m) (split_place id at new p) (place_in (l ++ (id, v) ∷ m) p)
+    cut_here : p.owner ≡ id → OnLeaf (l ++ (id, v) ∷ m) p → Goes (l ++ (id, a) ∷ (new, b) ∷ m) (split_place id at new p) (count_before (l ++ (id, v) ∷ m) p)
     cut_here e on =
         let none : times_leaf l p.owner ≡ 0 = ap (times_leaf l) e ∙ apart in
         let within = within_here (id, v) m p e (on_past l ((id, v) ∷ m) p none on) in
@@ -275,7 +275,7 @@ module _ {L : Type 0} (size : L → ℕ) where
               (goes_as _ q _ _ (goes_past l ((id, a) ∷ (new, b) ∷ m) q fresh later.on) (omega (arith, here.place, later.place, old.place, was)))
         ]
 
-    cut_elsewhere : id ≢ p.owner → new ≢ p.owner → OnLeaf (l ++ (id, v) ∷ m) p → Goes (l ++ (id, a) ∷ (new, b) ∷ m) p (place_in (l ++ (id, v) ∷ m) p)
+    cut_elsewhere : id ≢ p.owner → new ≢ p.owner → OnLeaf (l ++ (id, v) ∷ m) p → Goes (l ++ (id, a) ∷ (new, b) ∷ m) p (count_before (l ++ (id, v) ∷ m) p)
     cut_elsewhere d e on = elim (some_or_none (times_leaf l p.owner)) [
       | inl none ↦
           let rest = on_later (id, v) m p d (on_past l ((id, v) ∷ m) p none on) in
@@ -287,7 +287,7 @@ module _ {L : Type 0} (size : L → ℕ) where
       | inr some ↦ goes_first l ((id, v) ∷ m) ((id, a) ∷ (new, b) ∷ m) p some on
     ]
 
-    pub goes_split : new ≢ p.owner → OnLeaf (l ++ (id, v) ∷ m) p → Goes (l ++ (id, a) ∷ (new, b) ∷ m) (split_place id at new p) (place_in (l ++ (id, v) ∷ m) p)
+    pub goes_split : new ≢ p.owner → OnLeaf (l ++ (id, v) ∷ m) p → Goes (l ++ (id, a) ∷ (new, b) ∷ m) (split_place id at new p) (count_before (l ++ (id, v) ∷ m) p)
     goes_split e on = elim (cases_eq p.owner id) [
       | inl q ↦ cut_here q on
       | inr d ↦ goes_at _ (split_place id at new p) p _ (split_other id at new p d) (cut_elsewhere (λ q. d (sym q)) e on)
@@ -297,7 +297,7 @@ module _ {L : Type 0} (size : L → ℕ) where
   module _ (l m : List (ℕ × L)) (id next : ℕ) (v w a : L) (both : size a ≡ size v + size w) (apart : times_leaf l id ≡ 0) (other : times_leaf l next ≡ 0) (differ : id ≢ next)
       (p : Place) where
     join_rear : p.owner ≡ next → OnLeaf (l ++ (id, v) ∷ (next, w) ∷ m) p
-        → Goes (l ++ (id, a) ∷ m) (raised_place next id (size v) p) (place_in (l ++ (id, v) ∷ (next, w) ∷ m) p)
+        → Goes (l ++ (id, a) ∷ m) (raised_place next id (size v) p) (count_before (l ++ (id, v) ∷ (next, w) ∷ m) p)
     join_rear e on =
         let none : times_leaf l p.owner ≡ 0 = ap (times_leaf l) e ∙ other in
         let d : id ≢ p.owner = λ q. differ (q ∙ e) in
@@ -310,7 +310,7 @@ module _ {L : Type 0} (size : L → ℕ) where
         goes_at _ (raised_place next id (size v) p) q _ (raised_here next id (size v) p e)
         (goes_as _ q _ _ (goes_past l ((id, a) ∷ m) q apart here.on) (omega (arith, here.place, later.place, old.place, was)))
 
-    join_front : p.owner ≡ id → OnLeaf (l ++ (id, v) ∷ (next, w) ∷ m) p → Goes (l ++ (id, a) ∷ m) p (place_in (l ++ (id, v) ∷ (next, w) ∷ m) p)
+    join_front : p.owner ≡ id → OnLeaf (l ++ (id, v) ∷ (next, w) ∷ m) p → Goes (l ++ (id, a) ∷ m) p (count_before (l ++ (id, v) ∷ (next, w) ∷ m) p)
     join_front e on =
         let none : times_leaf l p.owner ≡ 0 = ap (times_leaf l) e ∙ apart in
         let within = within_here (id, v) ((next, w) ∷ m) p e (on_past l ((id, v) ∷ (next, w) ∷ m) p none on) in
@@ -320,7 +320,7 @@ module _ {L : Type 0} (size : L → ℕ) where
         goes_as _ p _ _ (goes_past l ((id, a) ∷ m) p none here.on) (omega (arith, here.place, old.place, was))
 
     join_elsewhere : id ≢ p.owner → next ≢ p.owner → OnLeaf (l ++ (id, v) ∷ (next, w) ∷ m) p
-        → Goes (l ++ (id, a) ∷ m) p (place_in (l ++ (id, v) ∷ (next, w) ∷ m) p)
+        → Goes (l ++ (id, a) ∷ m) p (count_before (l ++ (id, v) ∷ (next, w) ∷ m) p)
     join_elsewhere d e on = elim (some_or_none (times_leaf l p.owner)) [
       | inl none ↦
           let rest = on_later (next, w) m p e (on_later (id, v) ((next, w) ∷ m) p d (on_past l ((id, v) ∷ (next, w) ∷ m) p none on)) in
@@ -333,7 +333,7 @@ module _ {L : Type 0} (size : L → ℕ) where
     ]
 
     pub goes_joined : OnLeaf (l ++ (id, v) ∷ (next, w) ∷ m) p
-        → Goes (l ++ (id, a) ∷ m) (raised_place next id (size v) p) (place_in (l ++ (id, v) ∷ (next, w) ∷ m) p)
+        → Goes (l ++ (id, a) ∷ m) (raised_place next id (size v) p) (count_before (l ++ (id, v) ∷ (next, w) ∷ m) p)
     goes_joined on = elim (cases_eq p.owner next) [
       | inl e ↦ join_rear e on
       | inr d ↦
@@ -345,7 +345,7 @@ module _ {L : Type 0} (size : L → ℕ) where
 
   -- leaves change and keep their lengths
   pub goes_map : (g : ℕ × L → L) → ((x : ℕ × L) → size (g x) ≡ size x.1) → (xs : List (ℕ × L)) (p : Place) → OnLeaf xs p
-      → Goes (map (λ x. (x.0, g x)) xs) p (place_in xs p)
+      → Goes (map (λ x. (x.0, g x)) xs) p (count_before xs p)
   goes_map g same [] p on = let e = on.is in (cc)
   goes_map g same (x ∷ xs) p on = elim (cases_eq p.owner x.0) [
     | inl e ↦

@@ -13,7 +13,6 @@ pub mod LeafPlaces
 pub mod AnchoredLeaves
 pub mod SentReferences
 pub mod SlidReferences
-pub mod UnremovedWalks
 pub mod UnsettledLeaves
 pub mod AnchorChanges
 pub mod NotedLeaves

@@ -1,63 +1,26 @@
 -- Where references on leaves go after sequenced removals: by the elements, and by the leaves.
-use Rattle.std.proofs.Common.{◌≡◌, ◌≢◌, ℕ, suc, ◌+◌, ◌-◌, ◌<◌, ◌≤◌, ◌⊎◌, Bool, true, false, cond, ◌&&◌, nat_eq, List, [], ◌∷◌, ◌++◌, map, length, get_or, Option, Some, None, option_map, subst, refl, sym, ◌∙◌, ap, inl, inr, arith}
-use Rattle.std.specs.Option.{ForSome, option_map_or, option_or}
+use Rattle.std.proofs.Common.{◌≡◌, ◌≢◌, ℕ, suc, ◌+◌, ◌-◌, ◌<◌, ◌≤◌, ◌⊎◌, Bool, true, false, cond, ◌&&◌, nat_eq, List, [], ◌∷◌, ◌++◌, map, length, get_or, Option, Some, None, IsSomeAnd, option_map, subst, refl, sym, ◌∙◌, ap, inl, inr, arith}
+use Rattle.std.specs.Option.{ForSome, option_map_or}
 use Rattle.std.proofs.lemmas.Bool.{cases_eq, cond-false, eq-eqb, ne_eqb}
 use Rattle.ft_arena.specs.Ids.{after, same, times}
 use Rattle.ft_arena.proofs.IdLemmas.{same_other}
 use Rattle.ft_base.specs.declared.stamps.Stamp.{Stamp}
 use Rattle.ft_base.specs.Visibility.{is_acked, is_present}
 use Rattle.ft_block.specs.Leaves.{ids, left_of, times_leaf, value_at}
+use Rattle.ft_leaves.specs.declared.leaves.Standing.TheVariants.{Unremoved}
 use Rattle.ft_leaves.specs.declared.leaves.TreeLeaf.{TreeLeaf}
 use Rattle.ft_leaves.specs.declared.references.Reference.{Reference}
 use Rattle.ft_leaves.specs.Elements.{TreeElement, element_with, is_unremoved}
 use Rattle.ft_leaves.specs.LeafLists.{elements, leaf_elements}
 use Rattle.ft_leaves.specs.Places.{settled_place}
 use Rattle.ft_leaves.specs.References.{ChangesReferences, reference_at, slid_reference}
-use Rattle.ft_leaves.specs.Settling.{first_from, settled_from}
-use Rattle.ft_leaves.proofs.LeafRuns.{elements-append, length-leaf}
-use Rattle.ft_leaves.proofs.Settling.{settled-beside, settled-here, settled_place-from}
 use Rattle.ft_refs.specs.declared.numbers.Place.{Place}
 use Rattle.ft_refs.specs.RefLists.{entry, owner_of, owner_of_place, place_of_entry, place_of_reference}
-use Rattle.ft_leaf_blocks.specs.Anchors.{AnchorLists, AreAnchored, IsOnLeaf, is_acked_at, place_on, reference_on, references_on, sent_place}
-use Rattle.ft_leaf_blocks.specs.Slides.{AreSettledBut, IsOnUnremoved, is_on, is_unremoved_at, last_from}
-use Rattle.ft_leaf_blocks.specs.Walks.{from_place}
+use Rattle.ft_leaf_blocks.specs.Anchors.{AnchorLists, AreAnchored, is_acked_at, reference_on, references_on, sent_place}
+use Rattle.ft_leaf_blocks.specs.LeafPlaces.{IsOnLeaf, place_in}
+use Rattle.ft_leaf_blocks.specs.Slides.{AreSettledBut, IsOnUnremoved, is_on, is_unremoved_at}
 use Rattle.ft_leaf_blocks.proofs.AnchoredLeaves.{on_leaf, reference_at-on}
-use Rattle.ft_leaf_blocks.proofs.LeafPlaces.{OnLeaf}
-use Rattle.ft_leaf_blocks.proofs.Walks.{Stands, stands}
-
-module _ {A : Type 0} (ok : A → Bool) where
-  -- the last one of two lists
-  pub last_from-append : (n : ℕ) (last : Option ℕ) (xs ys : List A) → last_from ok n last (xs ++ ys) ≡ last_from ok (n + length xs) (last_from ok n last xs) ys
-  last_from-append n last [] ys = let same : n ≡ n + 0 = omega arith in ap (λ k. last_from ok k last ys) same
-  last_from-append n last (x ∷ xs) ys =
-      let next = cond (ok x) (Some n) last in
-      let same : (n + 1) + length xs ≡ n + suc (length xs) = omega arith in
-      last_from-append (n + 1) next xs ys ∙ ap (λ k. last_from ok k (last_from ok (n + 1) next xs) ys) same
-
-  -- elements before the place
-  pub settled-past_all : (i n m : ℕ) (last : Option ℕ) (xs ys : List A) → m ≡ n + length xs → m ≤ i
-      → settled_from ok i last n (xs ++ ys) ≡ settled_from ok i (last_from ok n last xs) m ys
-  settled-past_all i n m last [] ys e le = let same : n ≡ m = omega arith in ap (λ k. settled_from ok i last k ys) same
-  settled-past_all i n m last (x ∷ xs) ys e le =
-      let d : n ≢ i = omega arith in
-      cond-false (nat_eq n i) (option_or (first_from ok n (x ∷ (xs ++ ys))) last) (settled_from ok i (cond (ok x) (Some n) last) (n + 1) (xs ++ ys)) (ne_eqb n i d)
-      ∙ settled-past_all i (n + 1) m (cond (ok x) (Some n) last) xs ys (omega arith) le
-
-  module _ {U : Type 0} (f : U → A) where
-    -- a run of which none is ok
-    pub last-past : ((u : U) → ok (f u) ≡ false) → (us : List U) (n : ℕ) (last : Option ℕ) → last_from ok n last (map f us) ≡ last
-    last-past h [] n last = refl
-    last-past h (u ∷ us) n last = ap (λ b. last_from ok (n + 1) (cond b (Some n) last) (map f us)) (h u) ∙ last-past h us (n + 1) last
-
-    -- and one of which all are
-    pub last-here : ((u : U) → ok (f u) ≡ true) → (us : List U) (n : ℕ) (last : Option ℕ) → 0 < length us → last_from ok n last (map f us) ≡ Some (n + length us - 1)
-    last-here h [] n last some = absurd (omega arith)
-    last-here h (u ∷ []) n last some =
-        let same : n ≡ n + 1 - 1 = omega arith in
-        ap (λ b. cond b (Some n) last) (h u) ∙ ap Some same
-    last-here h (u ∷ w ∷ us) n last some =
-        let same : (n + 1) + suc (length us) - 1 ≡ n + suc (suc (length us)) - 1 = omega arith in
-        last-here h (w ∷ us) (n + 1) (cond (ok (f u)) (Some n) last) (omega arith) ∙ ap Some same
+use Rattle.ft_leaf_blocks.proofs.SettledLeaves.{settled_here, settled_off}
 
 module _ {C U : Type 0} (units : C → List U) (by : C → Option Stamp) where
   abbrev unremoved : TreeElement U → Bool
@@ -70,46 +33,29 @@ module _ {C U : Type 0} (units : C → List U) (by : C → Option Stamp) where
   abbrev count_left : List (ℕ × TreeLeaf C) → ℕ → ℕ
   count_left xs id = length (elements units by (left_of xs id))
 
-  module _ (xs : List (ℕ × TreeLeaf C)) (id : ℕ) (v : TreeLeaf C) (s : Stands xs id v) (offset : ℕ) (within : offset < length (units v.content)) where
-    around : elements units by xs ≡ elements units by (left_of xs id) ++ (leaf_elements units by v ++ elements units by (from_place xs (after (ids xs) id)))
-    around = ap (elements units by) s.whole ∙ elements-append units by (left_of xs id) ((id, v) ∷ from_place xs (after (ids xs) id))
-
-    reached : settled_place unremoved (elements units by xs) (count_left xs id + offset)
-        ≡ settled_from unremoved (count_left xs id + offset) (last_from unremoved 0 None (elements units by (left_of xs id))) (count_left xs id)
-        (leaf_elements units by v ++ elements units by (from_place xs (after (ids xs) id)))
-    reached =
-        let i = count_left xs id + offset in
-        settled_place-from unremoved i (elements units by xs) ∙ ap (settled_from unremoved i None 0) around
-        ∙ settled-past_all unremoved i 0 (count_left xs id) None (elements units by (left_of xs id))
-        (leaf_elements units by v ++ elements units by (from_place xs (after (ids xs) id))) (omega arith) (omega arith)
-
-    -- a place on an unremoved leaf
-    pub settled-on : is_present is_acked v.stamps ≡ true → settled_place unremoved (elements units by xs) (count_left xs id + offset) ≡ Some (count_left xs id + offset)
-    settled-on h =
-        reached
-        ∙ settled-here unremoved (of_leaf v) (λ u. h) (units v.content) (count_left xs id + offset) (count_left xs id)
-        (last_from unremoved 0 None (elements units by (left_of xs id))) (elements units by (from_place xs (after (ids xs) id))) (omega arith) (omega arith)
-
-    -- and on another
-    pub settled-off : is_present is_acked v.stamps ≡ false
-        → settled_place unremoved (elements units by xs) (count_left xs id + offset)
-        ≡ option_or (first_from unremoved (count_left xs id + length (units v.content)) (elements units by (from_place xs (after (ids xs) id))))
-        (last_from unremoved 0 None (elements units by (left_of xs id)))
-    settled-off h =
-        reached
-        ∙ settled-beside unremoved (of_leaf v) (λ u. h) (units v.content) (count_left xs id + offset) (count_left xs id) (count_left xs id + length (units v.content))
-        (last_from unremoved 0 None (elements units by (left_of xs id))) (elements units by (from_place xs (after (ids xs) id))) refl (omega arith) (omega arith)
-
   pub unremoved_of : (xs : List (ℕ × TreeLeaf C)) (id : ℕ) (v : TreeLeaf C) → value_at xs id ≡ Some v → is_unremoved_at xs id ≡ is_present is_acked v.stamps
   unremoved_of xs id v e = ap (λ (o : Option (TreeLeaf C)). option_map_or (λ w. is_present is_acked w.stamps) o false) e
 
   module _ (xs : List (ℕ × TreeLeaf C)) (once : (i : ℕ) → times_leaf xs i ≤ 1) where
+    there : (id : ℕ) (v : TreeLeaf C) → value_at xs id ≡ Some v → (offset : ℕ) → offset < length (units v.content)
+        → IsSomeAnd (value_at xs id) (λ w. offset < length (units w.content))
+    there id v value offset h = subst (λ o. IsSomeAnd o (λ w. offset < length (units w.content))) (sym value) h
+
     -- a reference on an unremoved element stays
     pub settled-at : (p : Place) → IsOnLeaf units xs p → is_unremoved_at xs p.owner ≡ true
-        → settled_place unremoved (elements units by xs) (place_on units by xs p) ≡ Some (place_on units by xs p)
+        → settled_place unremoved (elements units by xs) (place_in units by xs p) ≡ Some (place_in units by xs p)
     settled-at p h up =
         let on = on_leaf units by xs p h in
-        settled-on xs p.owner on.value (stands xs p.owner on.value once on.is) p.offset on.within (sym (unremoved_of xs p.owner on.value on.is) ∙ up)
+        settled_here units by Unremoved xs p.owner on.value once on.is p.offset h (sym (unremoved_of xs p.owner on.value on.is) ∙ up)
+
+    -- from a removed leaf all go where the first goes
+    pub settled-alike : (id : ℕ) (v : TreeLeaf C) (offset : ℕ) → value_at xs id ≡ Some v → is_unremoved_at xs id ≡ false → 0 < length (units v.content)
+        → offset < length (units v.content)
+        → settled_place unremoved (elements units by xs) (count_left xs id + offset) ≡ settled_place unremoved (elements units by xs) (count_left xs id + 0)
+    settled-alike id v offset value down some within =
+        let removed : is_present is_acked v.stamps ≡ false = sym (unremoved_of xs id v value) ∙ down in
+        settled_off units by Unremoved xs id v once value offset (there id v value offset within) removed
+        ∙ sym (settled_off units by Unremoved xs id v once value 0 (there id v value 0 some) removed)
 
     slid_by : (flag : Bool) (p : Place) → IsOnLeaf units xs p → (flag ≡ true → is_unremoved_at xs p.owner ≡ true)
         → slid_reference (elements units by xs) (reference_on units by xs flag (Some p)) ≡ reference_on units by xs flag (Some p)
@@ -198,7 +144,7 @@ module _ {C U : Type 0} (units : C → List U) (by : C → Option Stamp) where
 
     -- of another the acknowledged ones went where they go
     module _ (v : TreeLeaf C) (value : value_at xs id ≡ Some v) (to : Option Place) (on : ForSome to (IsOnUnremoved units xs))
-        (goes : (offset : ℕ) → offset < length (units v.content) → settled_place unremoved (elements units by xs) (count_left xs id + offset) ≡ option_map (place_on units by xs) to)
+        (goes : (offset : ℕ) → offset < length (units v.content) → settled_place unremoved (elements units by xs) (count_left xs id + offset) ≡ option_map (place_in units by xs) to)
         (b : AnchorLists) (places : (r : ℕ) → entry b.refs r ≡ option_map (sent_place (is_acked_at a r) id to) (entry a.refs r)) (acked : b.acked ≡ a.acked)
         (held : length b.refs.lists ≡ length a.refs.lists) where
       went : (r : ℕ) (p : Place) → place_of_reference b.refs r ≡ Some p
@@ -224,7 +170,7 @@ module _ {C U : Type 0} (units : C → List U) (by : C → Option Stamp) where
       ]
 
       sent_case : (flag c : Bool) (p : Place)
-          → (c ≡ true → settled_place unremoved (elements units by xs) (place_on units by xs p) ≡ option_map (place_on units by xs) to)
+          → (c ≡ true → settled_place unremoved (elements units by xs) (place_in units by xs p) ≡ option_map (place_in units by xs) to)
           → Some (reference_on units by xs flag (cond (flag && c) to (Some p)))
           ≡ cond c (Some (slid_reference (elements units by xs) (reference_on units by xs flag (Some p)))) (Some (reference_on units by xs flag (Some p)))
       sent_case true true p h = ap (λ (o : Option ℕ). Some record { place = o; acked = true }) (sym (h refl))
@@ -233,7 +179,7 @@ module _ {C U : Type 0} (units : C → List U) (by : C → Option Stamp) where
       sent_case false false p h = refl
 
       goes_from : (p : Place) → IsOnLeaf units xs p → nat_eq p.owner id ≡ true
-          → settled_place unremoved (elements units by xs) (place_on units by xs p) ≡ option_map (place_on units by xs) to
+          → settled_place unremoved (elements units by xs) (place_in units by xs p) ≡ option_map (place_in units by xs) to
       goes_from p h c = elim (cases_eq p.owner id) [
         | inl e ↦
             let there = on_leaf units by xs p h in
@@ -287,9 +233,3 @@ module _ {C U : Type 0} (units : C → List U) (by : C → Option Stamp) where
       sent_once r =
           once_by r (is_on a id r) refl (sent_references r)
 
-  -- an offset on the leaf of a node
-  pub within_at : (xs : List (ℕ × TreeLeaf C)) (id : ℕ) (v : TreeLeaf C) (offset : ℕ) → value_at xs id ≡ Some v → offset < length (units v.content)
-      → ForSome (value_at xs id) (λ w. offset < length (units w.content))
-  within_at xs id v offset e less w f =
-      let same_leaf : w ≡ v = let both : Some w ≡ Some v = sym f ∙ e in (cc) in
-      omega (arith, less, ap (λ (z : TreeLeaf C). length (units z.content)) same_leaf)

@@ -5,6 +5,7 @@ use Rattle.ft_block.specs.Leaves.{IsLeafIn, left_of, value_at}
 use Rattle.ft_leaves.specs.declared.leaves.TreeLeaf.{TreeLeaf}
 use Rattle.ft_leaves.specs.declared.references.Reference.{Reference}
 use Rattle.ft_leaves.specs.LeafLists.{elements}
+use Rattle.ft_leaf_blocks.specs.LeafPlaces.{IsOnLeaf, place_in}
 use Rattle.ft_refs.specs.declared.numbers.Place.{Place}
 use Rattle.ft_refs.specs.RefLists.{ChangesOne, IsHeld, RefLists, entry, place_of_reference}
 
@@ -24,21 +25,13 @@ numbered f n (None ∷ ps) = numbered f (n + 1) ps
 numbered f n (Some p ∷ ps) = (n, f n p) ∷ numbered f (n + 1) ps
 
 module _ {C U : Type 0} (units : C → List U) (by : C → Option Stamp) where
-  -- how many elements stand before that of a place on a leaf
-  abbrev pub place_on : List (ℕ × TreeLeaf C) → Place → ℕ
-  place_on leaves p = length (elements units by (left_of leaves p.owner)) + p.offset
-
   -- a reference as a tree shows it
   abbrev pub reference_on : List (ℕ × TreeLeaf C) → Bool → Option Place → Reference
-  reference_on leaves acked p = record { place = option_map (place_on leaves) p; acked = acked }
+  reference_on leaves acked p = record { place = option_map (place_in units by leaves) p; acked = acked }
 
   -- the references as a tree shows them, each under its number
   abbrev pub references_on : List (ℕ × TreeLeaf C) → AnchorLists → List (ℕ × Reference)
   references_on leaves a = numbered (λ r p. reference_on leaves (is_acked_at a r) p) 0 a.refs.refs
-
--- the place is that of an element of a leaf
-abbrev pub IsOnLeaf : {C U : Type 0} → (C → List U) → List (ℕ × TreeLeaf C) → Place → Type 0
-IsOnLeaf units leaves p = IsSomeAnd (value_at leaves p.owner) (λ v. p.offset < length (units v.content))
 
 -- each attached reference stands on an element of a leaf, and there is room for the references of each leaf
 pub record AreAnchored {C U : Type 0} (units : C → List U) (leaves : List (ℕ × TreeLeaf C)) (a : AnchorLists) : Type 0 where

@@ -7,5 +7,5 @@ pub mod Unsettled
 pub mod Touched
 pub mod State
 pub mod Inside
-pub mod LeafOffsets
+pub mod LeafPlaces
 pub mod LastStanding

@@ -1,100 +1,18 @@
 //! Where references on leaves go after sequenced removals: an acknowledged one whose element is removed slides.
 
-ghost use Rattle.std.specs.Prelude.{[], ◌∷◌, ◌≡◌, ℕ, ◌+◌, ◌-◌, ◌<◌, All, IsTrue, List, None, cond, false, length, option_map, true};
-ghost use Rattle.std.specs.Option.{ForSome};
-ghost use Rattle.ft_block.specs.Leaves.{IsLeafIn, IsPlaceIn, left_of, value_at};
-ghost use Rattle.ft_leaves.specs.Edits.{up_to_leaf};
-ghost use Rattle.ft_leaves.specs.Elements.{is_unremoved};
+ghost use Rattle.std.specs.Prelude.{[], ◌∷◌, ◌≡◌, ℕ, IsTrue, List, cond, option_map};
 ghost use Rattle.ft_leaves.specs.LeafLists.{elements};
-ghost use Rattle.ft_leaves.specs.Places.{settled_place};
 ghost use Rattle.ft_leaves.specs.References.{ChangesReferences, reference_at, slid_reference};
-ghost use Rattle.ft_leaves.specs.Settling.{first_from};
-ghost use Rattle.ft_leaf_blocks.specs.Anchors.{AreAnchored, place_on, references_on};
-ghost use Rattle.ft_leaf_blocks.specs.Slides.{AreSettledBut, IsOnUnremoved, is_on, is_unremoved_at, last_from};
-ghost use Rattle.ft_leaf_blocks.specs.Walks.{before_place, from_place};
+ghost use Rattle.ft_leaf_blocks.specs.Anchors.{AreAnchored, references_on};
+ghost use Rattle.ft_leaf_blocks.specs.Slides.{AreSettledBut, is_on};
 
 use crate::anchors::Anchors;
+use crate::settling::settled_on;
 use ft_arena::NodeId;
 use ft_block::Blocks;
 use ft_leaves::leaves::Standing;
 use ft_leaves::{Content, TreeLeaf};
 use ft_refs::Place;
-
-/// The first leaf of unremoved elements from that of this node on.
-fn unremoved_from<C: Content>(
-    blocks: &Blocks<TreeLeaf<C>>,
-    from: Option<NodeId>,
-) -> Option<NodeId>
-    requires usable { IsTrue blocks.now.usable }
-    requires place { IsPlaceIn blocks.now.leaves from }
-    ensures live { IsPlaceIn blocks.now.leaves result }
-    ensures unremoved { ForSome result (λ id. is_unremoved_at blocks.now.leaves id ≡ true) }
-    ensures first { let leaves = blocks.now.leaves in
-        option_map (λ id. length (elements C.units C.by (left_of leaves id))) result
-        ≡ first_from is_unremoved (length (elements C.units C.by (before_place leaves from))) (elements C.units C.by (from_place leaves from)) }
-{
-    let _first = blocks.first();
-    let mut at = from;
-    while let Some(id) = at {
-        let leaf = blocks.leaf(id);
-        let _len = leaf.content.len();
-        if leaf.stands(Standing::Unremoved) {
-            return at;
-        }
-        at = blocks.next(id);
-    }
-    None
-}
-
-/// The last leaf of unremoved elements before that of this node.
-fn unremoved_before<C: Content>(blocks: &Blocks<TreeLeaf<C>>, id: NodeId) -> Option<NodeId>
-    requires usable { IsTrue blocks.now.usable }
-    requires live { IsLeafIn blocks.now.leaves id }
-    ensures live { IsPlaceIn blocks.now.leaves result }
-    ensures unremoved { ForSome result (λ z. is_unremoved_at blocks.now.leaves z ≡ true) }
-    ensures last { let leaves = blocks.now.leaves in
-        option_map (λ z. length (elements C.units C.by (up_to_leaf leaves z)) - 1) result
-        ≡ last_from is_unremoved 0 None (elements C.units C.by (left_of leaves id)) }
-{
-    let _first = blocks.first();
-    let mut at = blocks.prev(id);
-    while let Some(before) = at {
-        let leaf = blocks.leaf(before);
-        let _len = leaf.content.len();
-        if leaf.stands(Standing::Unremoved) {
-            return at;
-        }
-        at = blocks.prev(before);
-    }
-    None
-}
-
-/// Where acknowledged references go from the leaf of a node whose elements aren't unremoved: to the first
-/// unremoved element behind it, else to the last before it, else nowhere.
-fn slid_place<C: Content>(blocks: &Blocks<TreeLeaf<C>>, id: NodeId) -> Option<Place>
-    requires usable { IsTrue blocks.now.usable }
-    requires live { IsLeafIn blocks.now.leaves id }
-    requires removed { is_unremoved_at blocks.now.leaves id ≡ false }
-    ensures on { ForSome result (IsOnUnremoved C.units blocks.now.leaves) }
-    ensures settled { let leaves = blocks.now.leaves in
-        (offset : ℕ) → ForSome (value_at leaves id) (λ v. offset < length (C.units v.content))
-        → settled_place is_unremoved (elements C.units C.by leaves) (length (elements C.units C.by (left_of leaves id)) + offset)
-        ≡ option_map (place_on C.units C.by leaves) result }
-{
-    let _first = blocks.first();
-    if let Some(owner) = unremoved_from(blocks, blocks.next(id)) {
-        let _len = blocks.leaf(owner).content.len();
-        return Some(Place { owner, offset: 0 });
-    }
-    let Some(owner) = unremoved_before(blocks, id) else {
-        return None;
-    };
-    let len = blocks.leaf(owner).content.len();
-    Some(Place {
-        owner,
-        offset: len - 1,
-    })
-}
 
 /// Lets the acknowledged references on the leaf of a node slide, where it has some and its elements are removed:
 /// to the first unremoved element behind it, else to the last before it, else they are detached.
@@ -117,10 +35,16 @@ pub fn slide_leaf<C: Content>(blocks: &Blocks<TreeLeaf<C>>, anchors: &mut Anchor
         return;
     }
     let _first = blocks.first();
-    if blocks.leaf(id).stands(Standing::Unremoved) {
+    let leaf = blocks.leaf(id);
+    let _len = leaf.content.len();
+    if leaf.stands(Standing::Unremoved) {
         return;
     }
-    let to = slid_place(blocks, id);
+    let place = Place {
+        owner: id,
+        offset: 0,
+    };
+    let to = settled_on(blocks, &place, Standing::Unremoved);
     anchors.send_acked(id, to);
 }
 

@@ -15,7 +15,7 @@ overflow_add-result g c =
     omega (
       arith,
       c.position_of.ensures,
-      length-elements us by (left_of xs c.args.at.now.leaf),
+      length-elements us by (left_of xs c.args.at.now.owner),
       offset_within us by xs c.args.at.now c.first-first.ensures.once c.requires.on_leaf,
       length-elements us by xs,
       c.first-first.ensures.few,
@@ -26,4 +26,4 @@ returns g c =
     let us = g.C.Content.units in
     let by = g.C.Content.by in
     let xs = c.args.blocks.now.leaves in
-    omega (arith, c.position_of.ensures, length-elements us by (left_of xs c.args.at.now.leaf))
+    omega (arith, c.position_of.ensures, length-elements us by (left_of xs c.args.at.now.owner))
