@@ -6,6 +6,7 @@
 #![tactic(auto)]
 
 pub mod acks;
+mod anchored;
 pub mod anchors;
 pub mod cuts;
 pub mod edits;

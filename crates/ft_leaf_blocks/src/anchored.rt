@@ -1,0 +1,145 @@
+//! Steps on leaves in blocks that keep the references on them right, beside the lists of what each pending stage
+//! touched.
+
+ghost use Rattle.std.specs.Prelude.{[], ◌≡◌, ◌+◌, ◌<◌, ◌^◌, ℕ, ◌≤◌, All, IfOk, IsSomeAnd, IsTrue, OnOk, length, map, true};
+ghost use Rattle.ft_block.specs.Leaves.{IsLeafIn, IsPlaceIn, change_leaf, join_leaf, length_by, put_leaf, split_leaf, times_leaf, value_after, value_at};
+ghost use Rattle.ft_leaves.specs.Edits.{up_to_place, with_place};
+ghost use Rattle.ft_leaves.specs.Elements.{IsLowestChange};
+ghost use Rattle.ft_leaves.specs.LeafChanges.{acked_pair};
+ghost use Rattle.ft_leaves.specs.LeafLists.{elements};
+ghost use Rattle.ft_leaves.specs.Places.{shifted_place};
+ghost use Rattle.ft_leaves.specs.References.{ChangesReferences, KeepsReferences};
+ghost use Rattle.ft_leaf_blocks.specs.Anchors.{references_on};
+ghost use Rattle.ft_leaf_blocks.specs.Touched.{Tracks};
+ghost use Rattle.ft_leaf_blocks.specs.Unsettled.{IsSoundOn};
+
+use crate::leaf_refs::LeafRefs;
+use crate::stage_nodes::StageNodes;
+use crate::tracked::{insert_in, join_in, set_stamps_in, split_in};
+use ft_arena::NodeId;
+use ft_base::{Element, OutOfMemory};
+use ft_block::Blocks;
+use ft_leaves::leaves::Standing;
+use ft_leaves::{Content, TreeLeaf};
+
+/// Puts a new leaf in, as `insert_in` does. References go with their elements.
+///
+/// Answers `OutOfMemory` where there is no room for it.
+pub(crate) fn insert_anchored<C: Content + Drop>(
+    blocks: &mut Blocks<TreeLeaf<C>>,
+    touched: &mut Vec<StageNodes>,
+    refs: &mut LeafRefs,
+    at: Option<NodeId>,
+    leaf: TreeLeaf<C>,
+) -> Result<NodeId, OutOfMemory>
+    requires usable { IsTrue blocks.old.usable }
+    requires tracks { Tracks blocks.old.leaves touched.old.items }
+    requires sound { IsSoundOn C.units blocks.old.leaves refs.old.anchors refs.old.unsettled.items }
+    requires place { IsPlaceIn blocks.old.leaves at }
+    requires fits { length_by (λ x. length (C.units x.content)) blocks.old.leaves + length (C.units leaf.content) < 2 ^ 64 }
+    requires settled { leaf.overlay.pending ≡ [] }
+    ensures ok { IfOk result (λ id. blocks.new.leaves ≡ put_leaf blocks.old.leaves at (id, leaf)) }
+    ensures fresh { IfOk result (λ id. times_leaf blocks.old.leaves id ≡ 0) }
+    ensures tracks { OnOk result (Tracks blocks.new.leaves touched.new.items) }
+    ensures refs { let i = length (elements C.units C.by (up_to_place blocks.old.leaves at)) in
+        OnOk result (ChangesReferences (with_place (shifted_place i (length (C.units leaf.content))))
+        (references_on C.units C.by blocks.old.leaves refs.old.anchors) (references_on C.units C.by blocks.new.leaves refs.new.anchors)) }
+    ensures sound { OnOk result (IsSoundOn C.units blocks.new.leaves refs.new.anchors refs.new.unsettled.items) }
+    ensures usable { OnOk result (blocks.new.usable ≡ true) }
+    ensures floor { blocks.new.floor ≡ blocks.old.floor }
+{
+    let _first = blocks.first();
+    let id = insert_in(blocks, touched, at, leaf)?;
+    refs.hold(id)?;
+    Ok(id)
+}
+
+/// Cuts a leaf in two, as `split_in` does. References stay on their elements.
+///
+/// Answers `OutOfMemory` where there is no room for the rear.
+pub(crate) fn split_anchored<C: Content>(
+    blocks: &mut Blocks<TreeLeaf<C>>,
+    touched: &mut Vec<StageNodes>,
+    refs: &mut LeafRefs,
+    leaf: NodeId,
+    at: u64,
+) -> Result<NodeId, OutOfMemory>
+    requires usable { IsTrue blocks.old.usable }
+    requires tracks { Tracks blocks.old.leaves touched.old.items }
+    requires sound { IsSoundOn C.units blocks.old.leaves refs.old.anchors refs.old.unsettled.items }
+    requires low { 1 ≤ at }
+    requires high { IsSomeAnd (value_at blocks.old.leaves leaf) (λ v. at < length (C.units v.content)) }
+    ensures ok { IfOk result (λ id. blocks.new.leaves ≡ split_leaf (λ v. record v { content = C.front v.content at }) (λ v. record v { content = C.rear v.content at }) blocks.old.leaves leaf id) }
+    ensures fresh { IfOk result (λ id. times_leaf blocks.old.leaves id ≡ 0) }
+    ensures tracks { OnOk result (Tracks blocks.new.leaves touched.new.items) }
+    ensures refs { OnOk result (KeepsReferences (references_on C.units C.by blocks.old.leaves refs.old.anchors) (references_on C.units C.by blocks.new.leaves refs.new.anchors)) }
+    ensures sound { OnOk result (IsSoundOn C.units blocks.new.leaves refs.new.anchors refs.new.unsettled.items) }
+    ensures usable { OnOk result (blocks.new.usable ≡ true) }
+    ensures floor { blocks.new.floor ≡ blocks.old.floor }
+{
+    let _first = blocks.first();
+    let stands = blocks.leaf(leaf).stands(Standing::Unremoved);
+    let rear = split_in(blocks, touched, leaf, at)?;
+    refs.cut(leaf, at, rear, stands)?;
+    Ok(rear)
+}
+
+/// Replaces the stamps of a leaf, as `set_stamps_in` does. References stay on their elements; acknowledged ones
+/// may have to slide then.
+///
+/// Answers `OutOfMemory` where there is no room for it.
+pub(crate) fn set_stamps_anchored<C: Content>(
+    blocks: &mut Blocks<TreeLeaf<C>>,
+    touched: &mut Vec<StageNodes>,
+    refs: &mut LeafRefs,
+    id: NodeId,
+    e: Element,
+) -> Result<(), OutOfMemory>
+    requires usable { IsTrue blocks.old.usable }
+    requires tracks { Tracks blocks.old.leaves touched.old.items }
+    requires sound { IsSoundOn C.units blocks.old.leaves refs.old.anchors refs.old.unsettled.items }
+    requires live { IsLeafIn blocks.old.leaves id }
+    ensures ok { OnOk result (blocks.new.leaves ≡ change_leaf (λ v. record v { stamps = e }) blocks.old.leaves id) }
+    ensures tracks { OnOk result (Tracks blocks.new.leaves touched.new.items) }
+    ensures refs { OnOk result (KeepsReferences (references_on C.units C.by blocks.old.leaves refs.old.anchors) (references_on C.units C.by blocks.new.leaves refs.new.anchors)) }
+    ensures sound { OnOk result (IsSoundOn C.units blocks.new.leaves refs.new.anchors refs.new.unsettled.items) }
+    ensures usable { OnOk result (blocks.new.usable ≡ true) }
+    ensures floor { blocks.new.floor ≡ blocks.old.floor }
+{
+    let _first = blocks.first();
+    set_stamps_in(blocks, touched, id, e)?;
+    let stands = blocks.leaf(id).stands(Standing::Unremoved);
+    refs.unsettle(id, stands)
+}
+
+/// Joins the next leaf to a leaf, as `join_in` does. References stay on their elements.
+///
+/// Answers `OutOfMemory` where there is no room for both in one.
+pub(crate) fn join_anchored<C: Content + Drop>(
+    blocks: &mut Blocks<TreeLeaf<C>>,
+    touched: &mut Vec<StageNodes>,
+    refs: &mut LeafRefs,
+    id: NodeId,
+) -> Result<(), OutOfMemory>
+    requires usable { IsTrue blocks.old.usable }
+    requires tracks { Tracks blocks.old.leaves touched.old.items }
+    requires sound { IsSoundOn C.units blocks.old.leaves refs.old.anchors refs.old.unsettled.items }
+    requires can { IsSomeAnd (value_at blocks.old.leaves id) (λ v. IsSomeAnd (value_after blocks.old.leaves id) (λ w. IsTrue (C.joins v.content w.content) × (v.stamps ≡ w.stamps))) }
+    ensures ok { OnOk result (blocks.new.leaves ≡ join_leaf (λ v w. record v { content = C.joined v.content w.content }) blocks.old.leaves id) }
+    ensures tracks { OnOk result (Tracks blocks.new.leaves touched.new.items) }
+    ensures refs { OnOk result (KeepsReferences (references_on C.units C.by blocks.old.leaves refs.old.anchors) (references_on C.units C.by blocks.new.leaves refs.new.anchors)) }
+    ensures sound { OnOk result (IsSoundOn C.units blocks.new.leaves refs.new.anchors refs.new.unsettled.items) }
+    ensures usable { OnOk result (blocks.new.usable ≡ true) }
+    ensures floor { blocks.new.floor ≡ blocks.old.floor }
+{
+    let _first = blocks.first();
+    let leaf = blocks.leaf(id);
+    let count = leaf.content.len();
+    let stands = leaf.stands(Standing::Unremoved);
+    let Some(next) = blocks.next(id) else {
+        unreachable!();
+    };
+    let _next = blocks.leaf(next);
+    join_in(blocks, touched, id)?;
+    refs.join(next, id, count, stands)
+}
