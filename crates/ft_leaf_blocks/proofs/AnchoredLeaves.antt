@@ -21,7 +21,7 @@ use Rattle.ft_leaves.proofs.Standing.{change-map, join-split}
 use Rattle.ft_refs.specs.declared.numbers.Place.{Place}
 use Rattle.ft_refs.specs.RefLists.{IsHeld, entry, place_of_entry, place_of_reference, raised_place, split_place}
 use Rattle.ft_leaf_blocks.specs.Anchors.{AnchorLists, AreAnchored, MovesAnchors, is_acked_at, numbered, reference_on, references_on}
-use Rattle.ft_leaf_blocks.specs.LeafPlaces.{IsOnLeaf, place_in}
+use Rattle.ft_leaf_blocks.specs.LeafPlaces.{IsOnLeaf, place_on}
 use Rattle.ft_leaf_blocks.specs.Walks.{from_place, node_behind}
 use Rattle.ft_leaf_blocks.proofs.JoinedPairs.{beside}
 use Rattle.ft_leaf_blocks.proofs.LeafPlaces.{Goes, OnLeaf, goes_as, goes_joined, goes_map, goes_moved, goes_put, goes_split, goes_without, count_before, without-split}
@@ -81,8 +81,8 @@ module _ {C U : Type 0} (units : C → List U) (by : C → Option Stamp) where
   pub is_on_leaf : (xs : List (ℕ × TreeLeaf C)) (p : Place) → OnLeaf size xs p → IsOnLeaf units xs p
   is_on_leaf xs p on = subst (λ o. IsSomeAnd o (λ v. p.offset < length (units v.content))) (sym on.is) on.within
 
-  pub place_in-count : (xs : List (ℕ × TreeLeaf C)) (p : Place) → place_in units by xs p ≡ count_before size xs p
-  place_in-count xs p = ap (λ k. k + p.offset) (length-elements units by (left_of xs p.owner))
+  pub place_on-count : (xs : List (ℕ × TreeLeaf C)) (p : Place) → place_on units by xs p ≡ count_before size xs p
+  place_on-count xs p = ap (λ k. k + p.offset) (length-elements units by (left_of xs p.owner))
 
   pub owner_live : (xs : List (ℕ × TreeLeaf C)) (p : Place) → OnLeaf size xs p → IsLeafIn xs p.owner
   owner_live xs p on = value_at_in xs p.owner (λ v. p.offset < length (units v.content)) (is_on_leaf xs p on)
@@ -105,8 +105,8 @@ module _ {C U : Type 0} (units : C → List U) (by : C → Option Stamp) where
 
   module _ (g : Place → Place) (f : ℕ → ℕ) (old now : List (ℕ × TreeLeaf C)) (a b : AnchorLists) (moves : MovesAnchors g a b)
       (goes : (r : ℕ) (p : Place) → place_of_reference a.refs r ≡ Some p → Goes size now (g p) (f (count_before size old p))) where
-    place_goes : (r : ℕ) (p : Place) → place_of_reference a.refs r ≡ Some p → place_in units by now (g p) ≡ f (place_in units by old p)
-    place_goes r p e = place_in-count now (g p) ∙ (goes r p e).place ∙ ap f (sym (place_in-count old p))
+    place_goes : (r : ℕ) (p : Place) → place_of_reference a.refs r ≡ Some p → place_on units by now (g p) ≡ f (place_on units by old p)
+    place_goes r p e = place_on-count now (g p) ∙ (goes r p e).place ∙ ap f (sym (place_on-count old p))
 
     entry_goes : (r : ℕ) (flag : Bool) (q : Option (Option Place)) → entry a.refs r ≡ q
         → option_map (reference_on units by now flag) (option_map (option_map g) q) ≡ option_map (with_place f) (option_map (reference_on units by old flag) q)

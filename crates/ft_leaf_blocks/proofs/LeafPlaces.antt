@@ -106,7 +106,7 @@ module _ {L : Type 0} (size : L → ℕ) where
   pub goes_as : (now : List (ℕ × L)) (p : Place) (j k : ℕ) → Goes now p j → j ≡ k → Goes now p k
   goes_as now p j k g e = record { on = g.on; place = g.place ∙ e }
 
-  length_by-append : (xs ys : List (ℕ × L)) → length_by size (xs ++ ys) ≡ length_by size xs + length_by size ys
+  pub length_by-append : (xs ys : List (ℕ × L)) → length_by size (xs ++ ys) ≡ length_by size xs + length_by size ys
   length_by-append [] ys = omega arith
   length_by-append (x ∷ xs) ys = omega (arith, length_by-append xs ys)
 

@@ -21,3 +21,4 @@ mod StepValues
 mod TrackedSteps
 mod AckedNodes
 mod LeastRemovals
+pub mod KeptRefs

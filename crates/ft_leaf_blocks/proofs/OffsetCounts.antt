@@ -15,7 +15,7 @@ use Rattle.ft_leaves.specs.Places.{place_at, seen_before}
 use Rattle.ft_leaves.proofs.LeafRuns.{elements-append, length-leaf}
 use Rattle.ft_leaves.proofs.Numbered.{taken_past, taken_seen, taken_unseen}
 use Rattle.ft_refs.specs.declared.numbers.Place.{Place}
-use Rattle.ft_leaf_blocks.specs.LeafPlaces.{IsOnLeaf, place_in}
+use Rattle.ft_leaf_blocks.specs.LeafPlaces.{IsOnLeaf, place_on}
 use Rattle.ft_leaf_blocks.specs.Walks.{from_place}
 use Rattle.ft_leaf_blocks.proofs.FoundOffsets.{at-all, at-none, len-most}
 use Rattle.ft_leaf_blocks.proofs.Walks.{live_value, stands}
@@ -43,7 +43,7 @@ module _ {C U : Type 0} (units : C → List U) (by : C → Option Stamp) (xs : L
     less : at.offset < length (units v.content)
     less = subst (λ o. IsSomeAnd o (λ w. at.offset < length (units w.content))) is on
 
-    offset_below : place_in units by xs at < length (elements units by xs)
+    offset_below : place_on units by xs at < length (elements units by xs)
     offset_below =
         omega (
           arith,
@@ -54,7 +54,7 @@ module _ {C U : Type 0} (units : C → List U) (by : C → Option Stamp) (xs : L
           length-leaf units by v,
         )
 
-    before_by : (seen : TreeElement U → Bool) → seen_before seen (elements units by xs) (place_in units by xs at)
+    before_by : (seen : TreeElement U → Bool) → seen_before seen (elements units by xs) (place_on units by xs at)
         ≡ len seen left + len seen (take at.offset (leaf_elements units by v ++ rest))
     before_by seen =
         ap (λ es. len seen (take (length left + at.offset) es)) whole
@@ -62,18 +62,18 @@ module _ {C U : Type 0} (units : C → List U) (by : C → Option Stamp) (xs : L
 
     -- the seen ones before it are those left of its leaf, and those before it there
     pub before_seen : (view : LenView) → sees_in view v.stamps ≡ true
-        → len (seen_in view) left + at.offset ≡ seen_before (seen_in view) (elements units by xs) (place_in units by xs at)
+        → len (seen_in view) left + at.offset ≡ seen_before (seen_in view) (elements units by xs) (place_on units by xs at)
     before_seen view h =
         omega (arith, before_by (seen_in view), taken_seen (seen_in view) of_leaf (λ u. h) (units v.content) at.offset rest (omega (arith, less)))
 
     -- if its leaf is seen
     pub before_unseen : (view : LenView) → sees_in view v.stamps ≡ false
-        → len (seen_in view) left ≡ seen_before (seen_in view) (elements units by xs) (place_in units by xs at)
+        → len (seen_in view) left ≡ seen_before (seen_in view) (elements units by xs) (place_on units by xs at)
     before_unseen view h =
         omega (arith, before_by (seen_in view), taken_unseen (seen_in view) of_leaf (λ u. h) (units v.content) at.offset rest (omega (arith, less)))
 
   -- no more stand before it than there are
-  pub offset_within : ((i : ℕ) → times_leaf xs i ≤ 1) → IsOnLeaf units xs at → place_in units by xs at < length (elements units by xs)
+  pub offset_within : ((i : ℕ) → times_leaf xs i ≤ 1) → IsOnLeaf units xs at → place_on units by xs at < length (elements units by xs)
   offset_within once on = let v = live_value xs at.owner (live_leaf on) in offset_below v.0 once v.1 on
 
   -- and no more seen ones

@@ -17,7 +17,7 @@ use Rattle.ft_leaves.specs.References.{ChangesReferences, reference_at, slid_ref
 use Rattle.ft_refs.specs.declared.numbers.Place.{Place}
 use Rattle.ft_refs.specs.RefLists.{entry, owner_of, owner_of_place, place_of_entry, place_of_reference}
 use Rattle.ft_leaf_blocks.specs.Anchors.{AnchorLists, AreAnchored, is_acked_at, reference_on, references_on, sent_place}
-use Rattle.ft_leaf_blocks.specs.LeafPlaces.{IsOnLeaf, place_in}
+use Rattle.ft_leaf_blocks.specs.LeafPlaces.{IsOnLeaf, place_on}
 use Rattle.ft_leaf_blocks.specs.Slides.{AreSettledBut, IsOnUnremoved, is_on, is_unremoved_at}
 use Rattle.ft_leaf_blocks.proofs.AnchoredLeaves.{on_leaf, reference_at-on}
 use Rattle.ft_leaf_blocks.proofs.SettledLeaves.{settled_here, settled_off}
@@ -43,7 +43,7 @@ module _ {C U : Type 0} (units : C → List U) (by : C → Option Stamp) where
 
     -- a reference on an unremoved element stays
     pub settled-at : (p : Place) → IsOnLeaf units xs p → is_unremoved_at xs p.owner ≡ true
-        → settled_place unremoved (elements units by xs) (place_in units by xs p) ≡ Some (place_in units by xs p)
+        → settled_place unremoved (elements units by xs) (place_on units by xs p) ≡ Some (place_on units by xs p)
     settled-at p h up =
         let on = on_leaf units by xs p h in
         settled_here units by Unremoved xs p.owner on.value once on.is p.offset h (sym (unremoved_of xs p.owner on.value on.is) ∙ up)
@@ -144,7 +144,7 @@ module _ {C U : Type 0} (units : C → List U) (by : C → Option Stamp) where
 
     -- of another the acknowledged ones went where they go
     module _ (v : TreeLeaf C) (value : value_at xs id ≡ Some v) (to : Option Place) (on : ForSome to (IsOnUnremoved units xs))
-        (goes : (offset : ℕ) → offset < length (units v.content) → settled_place unremoved (elements units by xs) (count_left xs id + offset) ≡ option_map (place_in units by xs) to)
+        (goes : (offset : ℕ) → offset < length (units v.content) → settled_place unremoved (elements units by xs) (count_left xs id + offset) ≡ option_map (place_on units by xs) to)
         (b : AnchorLists) (places : (r : ℕ) → entry b.refs r ≡ option_map (sent_place (is_acked_at a r) id to) (entry a.refs r)) (acked : b.acked ≡ a.acked)
         (held : length b.refs.lists ≡ length a.refs.lists) where
       went : (r : ℕ) (p : Place) → place_of_reference b.refs r ≡ Some p
@@ -170,7 +170,7 @@ module _ {C U : Type 0} (units : C → List U) (by : C → Option Stamp) where
       ]
 
       sent_case : (flag c : Bool) (p : Place)
-          → (c ≡ true → settled_place unremoved (elements units by xs) (place_in units by xs p) ≡ option_map (place_in units by xs) to)
+          → (c ≡ true → settled_place unremoved (elements units by xs) (place_on units by xs p) ≡ option_map (place_on units by xs) to)
           → Some (reference_on units by xs flag (cond (flag && c) to (Some p)))
           ≡ cond c (Some (slid_reference (elements units by xs) (reference_on units by xs flag (Some p)))) (Some (reference_on units by xs flag (Some p)))
       sent_case true true p h = ap (λ (o : Option ℕ). Some record { place = o; acked = true }) (sym (h refl))
@@ -179,7 +179,7 @@ module _ {C U : Type 0} (units : C → List U) (by : C → Option Stamp) where
       sent_case false false p h = refl
 
       goes_from : (p : Place) → IsOnLeaf units xs p → nat_eq p.owner id ≡ true
-          → settled_place unremoved (elements units by xs) (place_in units by xs p) ≡ option_map (place_in units by xs) to
+          → settled_place unremoved (elements units by xs) (place_on units by xs p) ≡ option_map (place_on units by xs) to
       goes_from p h c = elim (cases_eq p.owner id) [
         | inl e ↦
             let there = on_leaf units by xs p h in

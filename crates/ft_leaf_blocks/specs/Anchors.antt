@@ -5,7 +5,7 @@ use Rattle.ft_block.specs.Leaves.{IsLeafIn, left_of, value_at}
 use Rattle.ft_leaves.specs.declared.leaves.TreeLeaf.{TreeLeaf}
 use Rattle.ft_leaves.specs.declared.references.Reference.{Reference}
 use Rattle.ft_leaves.specs.LeafLists.{elements}
-use Rattle.ft_leaf_blocks.specs.LeafPlaces.{IsOnLeaf, place_in}
+use Rattle.ft_leaf_blocks.specs.LeafPlaces.{IsOnLeaf, place_on}
 use Rattle.ft_refs.specs.declared.numbers.Place.{Place}
 use Rattle.ft_refs.specs.RefLists.{ChangesOne, IsHeld, RefLists, entry, place_of_reference}
 
@@ -27,7 +27,7 @@ numbered f n (Some p ∷ ps) = (n, f n p) ∷ numbered f (n + 1) ps
 module _ {C U : Type 0} (units : C → List U) (by : C → Option Stamp) where
   -- a reference as a tree shows it
   abbrev pub reference_on : List (ℕ × TreeLeaf C) → Bool → Option Place → Reference
-  reference_on leaves acked p = record { place = option_map (place_in units by leaves) p; acked = acked }
+  reference_on leaves acked p = record { place = option_map (place_on units by leaves) p; acked = acked }
 
   -- the references as a tree shows them, each under its number
   abbrev pub references_on : List (ℕ × TreeLeaf C) → AnchorLists → List (ℕ × Reference)

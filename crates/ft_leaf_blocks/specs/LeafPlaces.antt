@@ -20,8 +20,8 @@ stands_at test xs id = option_map_or (λ v. allows test v.stamps) (value_at xs i
 
 module _ {C U : Type 0} (units : C → List U) (by : C → Option Stamp) where
   -- the place of that element
-  abbrev pub place_in : List (ℕ × TreeLeaf C) → Place → ℕ
-  place_in xs at = length (elements units by (left_of xs at.owner)) + at.offset
+  abbrev pub place_on : List (ℕ × TreeLeaf C) → Place → ℕ
+  place_on xs at = length (elements units by (left_of xs at.owner)) + at.offset
 
   -- the place of the first element of the leaf of this node
   abbrev pub leaf_start : List (ℕ × TreeLeaf C) → ℕ → ℕ

@@ -6,7 +6,7 @@ ghost use Rattle.ft_block.specs.Leaves.{IsFromFloor};
 ghost use Rattle.ft_leaves.specs.Elements.{seen_in};
 ghost use Rattle.ft_leaves.specs.LeafLists.{elements};
 ghost use Rattle.ft_leaves.specs.Places.{place_at, seen_before};
-ghost use Rattle.ft_leaf_blocks.specs.LeafPlaces.{IsOnLeaf, place_in};
+ghost use Rattle.ft_leaf_blocks.specs.LeafPlaces.{IsOnLeaf, place_on};
 
 use crate::finds::find_leaf;
 use ft_arena::NodeId;
@@ -28,7 +28,7 @@ pub fn seen_offset<C: Content>(
     requires floor { IsFromFloor blocks.now.floor view }
     ensures on_leaf { IfSome result (IsOnLeaf C.units blocks.now.leaves) }
     ensures place { let leaves = blocks.now.leaves in
-        option_map (place_in C.units C.by leaves) result ≡ place_at (seen_in view) p (elements C.units C.by leaves) }
+        option_map (place_on C.units C.by leaves) result ≡ place_at (seen_in view) p (elements C.units C.by leaves) }
 {
     let _first = blocks.first();
     let found = find_leaf::<C, Brand>(blocks, p.checked_add(1)?, view, Blank::new(1))?;
@@ -44,16 +44,16 @@ pub fn offset_at<C: Content>(blocks: &Blocks<TreeLeaf<C>>, i: u64) -> Option<Pla
     requires { IsTrue blocks.now.usable }
     ensures on_leaf { IfSome result (IsOnLeaf C.units blocks.now.leaves) }
     ensures place { let leaves = blocks.now.leaves in
-        MatchOption result (length (elements C.units C.by leaves) ≤ i) (λ at. place_in C.units C.by leaves at ≡ i) }
+        MatchOption result (length (elements C.units C.by leaves) ≤ i) (λ at. place_on C.units C.by leaves at ≡ i) }
 {
     seen_offset(blocks, i, LenView::All)
 }
 
 /// The place of the element: how many stand before it. It goes up from the leaf.
-pub fn place_on<C: Content>(blocks: &Blocks<TreeLeaf<C>>, at: &Place) -> u64
+pub fn elements_before<C: Content>(blocks: &Blocks<TreeLeaf<C>>, at: &Place) -> u64
     requires usable { IsTrue blocks.now.usable }
     requires on_leaf { IsOnLeaf C.units blocks.now.leaves at.now }
-    ensures { result ≡ place_in C.units C.by blocks.now.leaves at.now }
+    ensures { result ≡ place_on C.units C.by blocks.now.leaves at.now }
 {
     let _first = blocks.first();
     blocks.position_of(at.owner, LenView::All) + at.offset
@@ -72,7 +72,7 @@ pub fn seen_before_on<C: Content>(
     requires floor { IsFromFloor blocks.now.floor view }
     requires on_leaf { IsOnLeaf C.units blocks.now.leaves at.now }
     ensures { let leaves = blocks.now.leaves in
-        result ≡ seen_before (seen_in view) (elements C.units C.by leaves) (place_in C.units C.by leaves at.now) }
+        result ≡ seen_before (seen_in view) (elements C.units C.by leaves) (place_on C.units C.by leaves at.now) }
 {
     let _first = blocks.first();
     let before = blocks.position_of(at.owner, view);

@@ -7,7 +7,7 @@ ghost use Rattle.ft_leaves.specs.LeafLists.{elements};
 ghost use Rattle.ft_leaves.specs.Places.{place_at, seen_before, settled_number, settled_place};
 ghost use Rattle.ft_leaves.specs.Settling.{stands};
 
-use crate::offsets::{offset_at, place_on, seen_before_on, seen_offset};
+use crate::offsets::{offset_at, elements_before, seen_before_on, seen_offset};
 use crate::places::seen_count;
 use crate::settling::settled_on;
 use ft_block::{Blocks, LenView};
@@ -38,7 +38,7 @@ pub fn place_at<C: Content>(blocks: &Blocks<TreeLeaf<C>>, p: u64, view: LenView)
     ensures { result ≡ place_at (seen_in view) p (elements C.units C.by blocks.now.leaves) }
 {
     let at = seen_offset(blocks, p, view)?;
-    Some(place_on(blocks, &at))
+    Some(elements_before(blocks, &at))
 }
 
 /// Where a reference at place `i` goes: there if it may stand there, else to the next element on which it
@@ -49,7 +49,7 @@ pub fn settled<C: Content>(blocks: &Blocks<TreeLeaf<C>>, i: u64, test: Standing)
 {
     let at = offset_at(blocks, i)?;
     let to = settled_on(blocks, &at, test)?;
-    Some(place_on(blocks, &to))
+    Some(elements_before(blocks, &to))
 }
 
 /// The number, among the elements that the view sees, of the one at place `i` as it is settled there: None

@@ -7,7 +7,7 @@ ghost use Rattle.ft_leaves.specs.Edits.{up_to_place};
 ghost use Rattle.ft_leaves.specs.LeafLists.{elements};
 ghost use Rattle.ft_leaves.specs.Places.{settled_place};
 ghost use Rattle.ft_leaves.specs.Settling.{first_from, stands};
-ghost use Rattle.ft_leaf_blocks.specs.LeafPlaces.{IsOnLeaf, leaf_end, leaf_start, place_in, stands_at};
+ghost use Rattle.ft_leaf_blocks.specs.LeafPlaces.{IsOnLeaf, leaf_end, leaf_start, place_on, stands_at};
 ghost use Rattle.ft_leaf_blocks.specs.LastStanding.{last_from};
 ghost use Rattle.ft_leaf_blocks.specs.Walks.{before_place, from_place};
 
@@ -78,7 +78,7 @@ fn last_of<C: Content>(blocks: &Blocks<TreeLeaf<C>>, leaf: NodeId) -> Place
     requires live { IsLeafIn blocks.now.leaves leaf }
     ensures owner { result.owner ≡ leaf }
     ensures on_leaf { IsOnLeaf C.units blocks.now.leaves result }
-    ensures place { place_in C.units C.by blocks.now.leaves result ≡ leaf_end C.units C.by blocks.now.leaves leaf }
+    ensures place { place_on C.units C.by blocks.now.leaves result ≡ leaf_end C.units C.by blocks.now.leaves leaf }
 {
     let _first = blocks.first();
     Place {
@@ -102,8 +102,8 @@ pub fn settled_on<C: Content>(
     ensures on_leaf { IfSome result (IsOnLeaf C.units blocks.now.leaves) }
     ensures stands { ForSome result (λ p. stands_at test blocks.now.leaves p.owner ≡ true) }
     ensures place { let leaves = blocks.now.leaves in
-        option_map (place_in C.units C.by leaves) result
-        ≡ settled_place (stands test) (elements C.units C.by leaves) (place_in C.units C.by leaves at.now) }
+        option_map (place_on C.units C.by leaves) result
+        ≡ settled_place (stands test) (elements C.units C.by leaves) (place_on C.units C.by leaves at.now) }
 {
     let _first = blocks.first();
     if blocks.leaf(at.owner).stands(test) {

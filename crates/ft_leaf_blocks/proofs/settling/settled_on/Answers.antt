@@ -1,7 +1,7 @@
 use Rattle.std.proofs.Common.{ℕ, ◌<◌, Some, None, length, option_map, subst, sym, ◌∙◌, ap}
 use Rattle.ft_block.specs.Leaves.{IsPlaceIn}
 use Rattle.ft_block.proofs.LeafListLemmas.{value_at_in}
-use Rattle.ft_leaf_blocks.specs.LeafPlaces.{leaf_end, leaf_start, place_in}
+use Rattle.ft_leaf_blocks.specs.LeafPlaces.{leaf_end, leaf_start, place_on}
 use Rattle.ft_leaf_blocks.proofs.Walks.{after_in_place}
 use Rattle.ft_leaf_blocks.proofs.SettledLeaves.{first_of_leaf, prev_live, settled_before, settled_behind, settled_here}
 use Rattle.ft_leaf_blocks.proofs.settling.settled_on.Goals as goal
@@ -55,7 +55,7 @@ returns-in_err-leaf-in-None-clause-place g c =
     let us = g.C.Content.units in
     let by = g.C.Content.by in
     let xs = c.args.blocks.now.leaves in
-    ap (option_map (place_in us by xs)) c.from_residual.ensures
+    ap (option_map (place_on us by xs)) c.from_residual.ensures
     ∙ settled_before us by c.args.test xs c.args.at.now.owner c.leaf.result.now c.first-first.ensures.once c.leaf.ensures c.args.at.now.offset
     c.next.result c.prev.result None c.requires.on_leaf (sym c.stands.ensures ∙ c.if-stands.false) c.next.ensures
     c.in-None.ensures.first c.prev.ensures c.in_err-leaf-in-None.ensures.last

@@ -2,7 +2,7 @@ use Rattle.std.proofs.Common.{arith}
 use Rattle.ft_block.specs.Leaves.{left_of}
 use Rattle.ft_leaves.proofs.LeafRuns.{length-elements}
 use Rattle.ft_leaf_blocks.proofs.OffsetCounts.{live_leaf, offset_within}
-use Rattle.ft_leaf_blocks.proofs.offsets.place_on.Goals as goal
+use Rattle.ft_leaf_blocks.proofs.offsets.elements_before.Goals as goal
 
 pub position_of-requires-clause-live : goal.position_of-requires-clause-live
 position_of-requires-clause-live g c = live_leaf g.C.Content.units g.C.Content.by c.args.blocks.now.leaves c.args.at.now c.requires.on_leaf
