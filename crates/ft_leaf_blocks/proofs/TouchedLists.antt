@@ -313,7 +313,7 @@ lower n k h = grind (arith, nat_tests)
 skipped : (k z : ℕ) (x : NodesOfStage) (xs : List NodesOfStage) → nat_eq x.stage k ≡ false → is_listed (x ∷ xs) k z ≡ is_listed xs k z
 skipped k z x xs e = ap (λ a. (a && holds x.nodes z) || is_listed xs k z) e
 
--- what is known where the list of stage k, if it stands there, stands at this place
+-- the nodes that were listed for stage k, and the lists without them
 pub record Takes (k : ℕ) (xs ys : List NodesOfStage) (ns : List ℕ) : Type 0 where
   pub nodes : (z : ℕ) → holds ns z ≡ is_listed xs k z
   pub gone : (z : ℕ) → is_listed ys k z ≡ false

@@ -1,4 +1,5 @@
--- Which leaves each pending stage touched: lists of nodes by rising stage. They may list a leaf that has nothing of the stage.
+-- Which leaves each pending stage touched: lists of nodes by rising stage. They may list a leaf that has nothing of the stage. No
+-- public clause cites this module.
 use Rattle.std.specs.Prelude.{◌≡◌, ℕ, ◌<◌, Bool, true, false, cond, not, ◌&&◌, ◌||◌, nat_eq, nat_lt, List, [], ◌∷◌, ◌++◌, Option, Some, None, IsSome, filter, map, ⊤, ◌⊎◌}
 use Rattle.std.specs.List.{AllByRecursion, list_any, prefix_len}
 use Rattle.ft_base.specs.declared.elements.Element.{Element}

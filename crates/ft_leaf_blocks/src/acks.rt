@@ -11,9 +11,9 @@ ghost use Rattle.ft_leaf_blocks.specs.Touched.{HaveAllOf, Tracks};
 
 use crate::leaf_blocks::LeafBlocks;
 use crate::stage_nodes::StageNodes;
-use crate::touched::take_stage;
+use crate::touched::{is_of_stage, take_stage};
 use ft_arena::NodeId;
-use ft_base::{Element, OutOfMemory, Stamp};
+use ft_base::OutOfMemory;
 use ft_block::Blocks;
 use ft_leaves::block_leaf::{acked_stamps, sequenced_stamps, unmarked_stamps};
 use ft_leaves::{Content, LeafChange, TreeLeaf};
@@ -62,21 +62,11 @@ pub fn unmark_all_at<C: Content>(
     Ok(())
 }
 
-/// Whether the insertion is pending, of that stage.
-fn is_inserted_at(e: &Element, stage: u64) -> bool
-    ensures { result ≡ is_of_stage stage e.now.ins }
-{
-    match e.ins {
-        Stamp::Acked { .. } => false,
-        Stamp::Local { stage: own } => own == stage,
-    }
-}
-
 /// Whether the leaf has something of that stage: its insertion, a removal mark or changes.
 fn has_any_of<C: Content>(leaf: &TreeLeaf<C>, stage: u64) -> bool
     ensures { result ≡ (is_of_stage stage leaf.now.stamps.ins || is_marked_by stage leaf.now) }
 {
-    is_inserted_at(&leaf.stamps, stage) || leaf.is_marked_by(stage)
+    is_of_stage(&leaf.stamps.ins, stage) || leaf.is_marked_by(stage)
 }
 
 /// Acknowledges a stage in the leaf of a node under number `seq` of connection `conn`, if it has something

@@ -2,7 +2,23 @@
 
 ghost use Rattle.std.specs.Prelude.{[], ◌≡◌, ◌≢◌, ◌+◌, ◌<◌, ◌^◌, ℕ, ◌≤◌, All, IfOk, IsSomeAnd, IsTrue, OnErr, OnOk, Some, false, length, map, true};
 ghost use Rattle.ft_arena.specs.Ids.{after, first};
-ghost use Rattle.ft_block.specs.Leaves.{IsFromFloor, IsLeafIn, IsPlaceIn, change_leaf, ids, join_leaf, left_of, length_by, move_leaf, put_leaf, split_leaf, times_leaf, value_after, value_at, without_leaf};
+ghost use Rattle.ft_block.specs.Leaves.{
+  IsFromFloor,
+  IsLeafIn,
+  IsPlaceIn,
+  change_leaf,
+  ids,
+  join_leaf,
+  left_of,
+  length_by,
+  move_leaf,
+  put_leaf,
+  split_leaf,
+  times_leaf,
+  value_after,
+  value_at,
+  without_leaf,
+};
 ghost use Rattle.ft_leaves.specs.BlockChanges.{MayChange, changed_leaf};
 ghost use Rattle.ft_leaves.specs.Edits.{next_removal_above};
 ghost use Rattle.ft_leaves.specs.Elements.{IsLowestChange, seen_in};
@@ -146,7 +162,8 @@ impl<C: Content> LeafBlocks<C> {
         requires usable { IsTrue self.old.usable }
         requires low { 1 ≤ at }
         requires high { IsSomeAnd (value_at self.old.leaves leaf) (λ v. at < length (C.units v.content)) }
-        ensures ok { IfOk result (λ id. self.new.leaves ≡ split_leaf (λ v. record v { content = C.front v.content at }) (λ v. record v { content = C.rear v.content at }) self.old.leaves leaf id) }
+        ensures ok { IfOk result (λ id. self.new.leaves
+            ≡ split_leaf (λ v. record v { content = C.front v.content at }) (λ v. record v { content = C.rear v.content at }) self.old.leaves leaf id) }
         ensures fresh { IfOk result (λ id. times_leaf self.old.leaves id ≡ 0) }
         ensures usable { OnOk result (self.new.usable ≡ true) }
         ensures floor { self.new.floor ≡ self.old.floor }
@@ -232,7 +249,8 @@ impl<C: Content> LeafBlocks<C> {
     where
         C: Drop,
         requires usable { IsTrue self.old.usable }
-        requires can { IsSomeAnd (value_at self.old.leaves id) (λ v. IsSomeAnd (value_after self.old.leaves id) (λ w. IsTrue (C.joins v.content w.content) × (v.stamps ≡ w.stamps))) }
+        requires can { IsSomeAnd (value_at self.old.leaves id) (λ v.
+            IsSomeAnd (value_after self.old.leaves id) (λ w. IsTrue (C.joins v.content w.content) × (v.stamps ≡ w.stamps))) }
         ensures ok { OnOk result (self.new.leaves ≡ join_leaf (λ v w. record v { content = C.joined v.content w.content }) self.old.leaves id) }
         ensures usable { OnOk result (self.new.usable ≡ true) }
         ensures floor { self.new.floor ≡ self.old.floor }

@@ -1,6 +1,8 @@
 //! Leaves of the merge tree in blocks: how they are cut at a place, get a leaf there, and are changed over a
 //! range, by reading a few blocks to find the place and then only the leaves of the range; and where references
 //! go, from leaf to leaf.
+//! range, by reading a few blocks to find the place and then only the leaves of the range. For each pending stage
+//! the leaves that it touched are kept, so that its acknowledgement goes to these alone.
 //!
 //! A call that can't answer `OutOfMemory` takes no memory.
 #![tactic(auto)]

@@ -62,7 +62,7 @@ pub(crate) fn is_any_of_stage(stamps: &[Stamp], stage: u64) -> bool
 }
 
 /// Whether the stamp is pending, of that stage.
-fn is_of_stage(stamp: &Stamp, stage: u64) -> bool
+pub(crate) fn is_of_stage(stamp: &Stamp, stage: u64) -> bool
     ensures { result ≡ is_of_stage stage stamp.now }
 {
     match stamp {

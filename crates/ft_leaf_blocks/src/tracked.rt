@@ -78,7 +78,8 @@ fn note_rear<C: Content>(
 ) -> Result<(), OutOfMemory>
     requires { AreRising touched.old.items }
     ensures notes { OnOk result (Notes rear touched.old.items touched.new.items) }
-    ensures listed { OnOk result ((k : ℕ) → is_touched_by k leaf.now ≡ true → is_listed touched.old.items k front ≡ true → is_listed touched.new.items k rear ≡ true) }
+    ensures listed { OnOk result ((k : ℕ) → is_touched_by k leaf.now ≡ true
+        → is_listed touched.old.items k front ≡ true → is_listed touched.new.items k rear ≡ true) }
 {
     if !has_pending(leaf) {
         return Ok(());
@@ -99,7 +100,8 @@ pub(crate) fn split_in<C: Content>(
     requires tracks { Tracks blocks.old.leaves touched.old.items }
     requires low { 1 ≤ at }
     requires high { IsSomeAnd (value_at blocks.old.leaves leaf) (λ v. at < length (C.units v.content)) }
-    ensures ok { IfOk result (λ id. blocks.new.leaves ≡ split_leaf (λ v. record v { content = C.front v.content at }) (λ v. record v { content = C.rear v.content at }) blocks.old.leaves leaf id) }
+    ensures ok { IfOk result (λ id. blocks.new.leaves
+        ≡ split_leaf (λ v. record v { content = C.front v.content at }) (λ v. record v { content = C.rear v.content at }) blocks.old.leaves leaf id) }
     ensures fresh { IfOk result (λ id. times_leaf blocks.old.leaves id ≡ 0) }
     ensures tracks { OnOk result (Tracks blocks.new.leaves touched.new.items) }
     ensures usable { OnOk result (blocks.new.usable ≡ true) }
@@ -211,7 +213,8 @@ pub(crate) fn join_in<C: Content + Drop>(
 ) -> Result<(), OutOfMemory>
     requires usable { IsTrue blocks.old.usable }
     requires tracks { Tracks blocks.old.leaves touched.old.items }
-    requires can { IsSomeAnd (value_at blocks.old.leaves id) (λ v. IsSomeAnd (value_after blocks.old.leaves id) (λ w. IsTrue (C.joins v.content w.content) × (v.stamps ≡ w.stamps))) }
+    requires can { IsSomeAnd (value_at blocks.old.leaves id) (λ v.
+        IsSomeAnd (value_after blocks.old.leaves id) (λ w. IsTrue (C.joins v.content w.content) × (v.stamps ≡ w.stamps))) }
     ensures ok { OnOk result (blocks.new.leaves ≡ join_leaf (λ v w. record v { content = C.joined v.content w.content }) blocks.old.leaves id) }
     ensures tracks { OnOk result (Tracks blocks.new.leaves touched.new.items) }
     ensures usable { OnOk result (blocks.new.usable ≡ true) }

@@ -6,9 +6,10 @@ use Rattle.ft_base.specs.declared.stamps.Stamp.{Stamp}
 use Rattle.ft_base.specs.Scan.{change_range, change_range_from, one_more_if, place, put}
 use Rattle.ft_base.specs.Visibility.{is_of_stage}
 use Rattle.ft_arena.specs.Ids.{times}
-use Rattle.ft_block.specs.Leaves.{IsPlaceIn, ids, times_leaf}
+use Rattle.ft_block.specs.Leaves.{IsPlaceIn, LeafList, ids, times_leaf}
 use Rattle.ft_block.proofs.CallerLemmas.{times-ids}
 use Rattle.ft_leaf_blocks.specs.RangeEdits.{edited_leaf}
+use Rattle.ft_leaf_blocks.specs.State.{list_of}
 use Rattle.ft_leaf_blocks.specs.Walks.{Acts, held_place}
 use Rattle.ft_leaf_blocks.specs.declared.ranges.RangeEdit.{RangeEdit}
 use Rattle.ft_leaf_blocks.specs.declared.ranges.RangeEdit.TheVariants.{Remove, Change}
@@ -99,6 +100,11 @@ module _ {C U : Type 0} (units : C → List U) (by : C → Option Stamp) (a : In
   pub held_outside : held_place units by a.blocks.leaves at n ≡ place seen p (elements units by a.blocks.leaves)
       → held_place units by v.leaves at n ≡ place seen p (elements units by v.leaves)
   held_outside h = subst (λ (s : TreeState C). held_place units by s.leaves at n ≡ place seen p (elements units by s.leaves)) is h
+
+  -- the same of one that was found in the list of blocks
+  pub held_listed : (l : LeafList (TreeLeaf C)) → l ≡ list_of a.blocks → held_place units by l.leaves at n ≡ place seen p (elements units by l.leaves)
+      → held_place units by v.leaves at n ≡ place seen p (elements units by v.leaves)
+  held_listed l e h = held_outside (subst (λ (m : LeafList (TreeLeaf C)). held_place units by m.leaves at n ≡ place seen p (elements units by m.leaves)) e h)
 
 module _ {C U : Type 0} (units : C → List U) (by : C → Option Stamp) (a b : Inside C U) (sound : IsSound units by a) (blocks : IsTrue b.blocks.usable)
     (next_ref : b.next_ref ≡ a.next_ref) (refs : (r : ℕ) → reference_at a.refs.items r ≡ None → reference_at b.refs.items r ≡ None) where

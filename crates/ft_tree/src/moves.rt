@@ -27,7 +27,8 @@ impl<C: Content> Tree<C> {
         C: Drop,
         requires usable { IsTrue self.old.usable }
         requires made { self.old.made + length (C.units content) ≤ max_safe_integer }
-        ensures elements { OnOk result (elements C.units C.by self.new.leaves ≡ elements C.units C.by self.old.leaves ++ elements_with e (C.by content) (record { acked = props.now; pending = [] }) (C.units content)) }
+        ensures elements { OnOk result (elements C.units C.by self.new.leaves
+            ≡ elements C.units C.by self.old.leaves ++ elements_with e (C.by content) (record { acked = props.now; pending = [] }) (C.units content)) }
         ensures refs { OnOk result (KeepsReferences self.old.refs self.new.refs) }
         ensures nodes { OnOk result (Extends (ids self.old.leaves) (ids self.new.leaves)) }
         ensures rest { OnOk result (KeepsRest self.old self.new) }

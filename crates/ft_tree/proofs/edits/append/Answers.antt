@@ -1,11 +1,12 @@
-use Rattle.std.proofs.Common.{◌≡◌, ℕ, ◌+◌, ◌++◌, [], List, length, take, drop, append-nil, refl, sym, ◌∙◌, ap, arith}
+use Rattle.std.proofs.Common.{◌≡◌, ℕ, ◌++◌, [], List, length, take, drop, append-nil, refl, subst, sym, ◌∙◌, ap, arith}
 use Rattle.std.proofs.Math.Seq.{drop-append_seam, take-append_seam}
-use Rattle.ft_block.specs.Leaves.{ids}
+use Rattle.ft_block.specs.Leaves.{LeafList, ids}
 use Rattle.ft_leaves.specs.declared.leaves.TreeLeaf.{TreeLeaf}
 use Rattle.ft_leaves.specs.LeafLists.{elements, leaf_elements}
 use Rattle.ft_leaves.specs.Elements.{elements_with}
 use Rattle.ft_leaves.proofs.LeafRuns.{length-elements}
 use Rattle.ft_leaves.proofs.RangeLeaves.{extends_trans}
+use Rattle.ft_leaf_blocks.specs.Walks.{held_place}
 use Rattle.ft_leaf_blocks.proofs.CutPlaces.{puts_behind}
 use Rattle.ft_props.specs.Overlay.{OverlayState}
 use Rattle.ft_props.specs.Properties.{PropertyList}
@@ -27,6 +28,7 @@ insert_after-requires g c =
       usable = c.in_ok-at.ensures.usable;
       place = cut.live;
       fits = omega (arith, length-elements us by c.cut_at.new.blocks.leaves, ap length cut.list, c.requires.fits);
+      settled = ap (λ (o : OverlayState). o.pending) c.of-overlay.ensures;
     }
 
 pub returns-clause-list : goal.returns-clause-list
@@ -40,7 +42,10 @@ returns-clause-list g c =
     let overlay : c.of-overlay.result ≡ record { acked = c.args.props.now; pending = [] } =
     c.of-overlay.ensures ∙ ap (λ (ps : PropertyList). record { acked = ps; pending = [] }) c.in_ok-copy.ensures in
     let n : ℕ = length (elements us by xs) in
-    let place : n ≡ _ = sym (cut.place ∙ c.find_end-end.ensures.place) in
+    let ended = subst (λ (l : LeafList (TreeLeaf g.row.C.Denot)). held_place us by l.leaves c.find_end-end.result.leaf c.find_end-end.result.offset
+    ≡ length (elements us by l.leaves))
+    c.list.ensures c.find_end-end.ensures.place in
+    let place : n ≡ _ = sym (cut.place ∙ ended) in
     let puts = puts_behind us by mid c.insert_after.new.self.leaves c.in_ok-at.at c.in_ok-_id._id n leaf c.first-first.ensures.once cut.live c.in_ok-_id.ensures.ok place in
     puts.list ∙ ap (λ es. take n es ++ (leaf_elements us by leaf ++ drop n es)) cut.list ∙ behind_all n (leaf_elements us by leaf) (elements us by xs) refl
     ∙ ap (λ (o : OverlayState). elements us by xs ++ elements_with c.args.e (by c.args.content) o (us c.args.content)) overlay
@@ -51,7 +56,10 @@ returns-clause-nodes g c =
     let by = g.C.Content.by in
     let cut = c.in_ok-at.ensures.cut in
     let leaf : TreeLeaf g.row.C.Denot = record { content = c.args.content; stamps = c.args.e; overlay = c.of-overlay.result } in
+    let ended = subst (λ (l : LeafList (TreeLeaf g.row.C.Denot)). held_place us by l.leaves c.find_end-end.result.leaf c.find_end-end.result.offset
+    ≡ length (elements us by l.leaves))
+    c.list.ensures c.find_end-end.ensures.place in
     let puts = puts_behind us by c.cut_at.new.blocks.leaves c.insert_after.new.self.leaves c.in_ok-at.at c.in_ok-_id._id
     (length (elements us by c.args.blocks.now.leaves)) leaf c.first-first.ensures.once cut.live c.in_ok-_id.ensures.ok
-    (sym (cut.place ∙ c.find_end-end.ensures.place)) in
+    (sym (cut.place ∙ ended)) in
     extends_trans (ids c.args.blocks.now.leaves) (ids c.cut_at.new.blocks.leaves) (ids c.insert_after.new.self.leaves) cut.nodes puts.nodes

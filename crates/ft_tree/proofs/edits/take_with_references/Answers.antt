@@ -1,6 +1,9 @@
-use Rattle.std.proofs.Common.{◌≡◌, ℕ, List, map, ◌∙◌, ap}
+use Rattle.std.proofs.Common.{◌≡◌, ℕ, List, length, map, ◌∙◌, ap}
+use Rattle.ft_block.specs.Leaves.{LeafList, left_of}
+use Rattle.ft_leaves.specs.declared.leaves.TreeLeaf.{TreeLeaf}
 use Rattle.ft_leaves.specs.declared.references.Reference.{Reference}
-use Rattle.ft_leaves.specs.Edits.{closed_place, with_place}
+use Rattle.ft_leaves.specs.Edits.{closed_place, leaf_at, with_place}
+use Rattle.ft_leaves.specs.LeafLists.{elements}
 use Rattle.ft_tree.proofs.edits.take_with_references.Goals as goal
 
 closed : ℕ → ℕ → List (ℕ × Reference) → List (ℕ × Reference)
@@ -13,5 +16,8 @@ all_closed xs ys zs i j m n e a b d = e ∙ ap (closed i m) a ∙ ap (λ k. clos
 
 pub returns-clause-refs : goal.returns-clause-refs
 returns-clause-refs g c =
-    all_closed c.deref.result.now c.args.refs.now.items _ _ _ _ _ c.in_ok-refs.ensures c.deref.ensures.value c.leaf_place-place.ensures.from
-    c.leaf_place-place.ensures.count
+    let us = g.C.Content.units in
+    let by = g.C.Content.by in
+    all_closed c.deref.result.now c.args.refs.now.items _ _ _ _ _ c.in_ok-refs.ensures c.deref.ensures.value
+    (c.leaf_place-place.ensures.from ∙ ap (λ (l : LeafList (TreeLeaf g.row.C.Denot)). length (elements us by (left_of l.leaves c.args.id))) c.list.ensures)
+    (c.leaf_place-place.ensures.count ∙ ap (λ (l : LeafList (TreeLeaf g.row.C.Denot)). length (elements us by (leaf_at l.leaves c.args.id))) c.list.ensures)

@@ -10,8 +10,8 @@ use Rattle.ft_tree.specs.declared.tree.Tree.TheInside.{Inside}
 use Rattle.ft_tree.proofs.TreeInside.{in_sound, same_sound}
 use Rattle.ft_tree.proofs.tree.Tree.ack.Goals as goal
 
-pub ack_all-requires : goal.ack_all-requires
-ack_all-requires g c =
+pub ack-requires : goal.ack-requires
+ack-requires g c =
     let us = g.C.Content.units in
     let by = g.C.Content.by in
     let sound = in_sound us by c.self.inside c.args.self.now c.self.view_is c.self.invariant c.requires.usable in
@@ -27,7 +27,7 @@ invariant_of-self g c = λ usable.
     let laws = g.met.C.Content in
     let sound = in_sound us by c.self.inside c.args.self.now c.self.view_is c.self.invariant c.requires.usable in
     let b : Inside g.row.C.Denot g.row.C-Unit.Denot = record {
-      blocks = c.ack_all.new.blocks;
+      blocks = c.ack.new.self;
       refs = c.self.inside.refs;
       next_ref = c.self.inside.next_ref;
       sweep = c.self.inside.sweep;
@@ -36,7 +36,7 @@ invariant_of-self g c = λ usable.
     } in
     let xs = c.self.inside.blocks.leaves in
     let acked = acks us by g.C.Content.author g.C.Content.stamped laws.stamped_units laws.stamped_by c.args.stage c.args.seq c.args.conn xs
-    c.ack_all.new.blocks.leaves c.in-Ok.ensures.leaves in
+    c.ack.new.self.leaves c.in-Ok.ensures.leaves in
     same_sound us by c.self.inside b sound c.in-Ok.ensures.usable refl (λ r h. h) acked.times
     (ap length acked.list
     ∙ length-map (elements us by xs) (acked_element c.args.stage c.args.seq c.args.conn (g.C.Content.author c.args.seq c.args.conn)))
@@ -50,7 +50,7 @@ returns-in-Ok-clause-elements g c =
     let f : TreeElement g.row.C-Unit.Denot → TreeElement g.row.C-Unit.Denot =
     λ e. acked_element c.args.stage c.args.seq c.args.conn (g.C.Content.author c.args.seq c.args.conn) e in
     let acked = acks us by g.C.Content.author g.C.Content.stamped laws.stamped_units laws.stamped_by c.args.stage c.args.seq c.args.conn
-    c.self.inside.blocks.leaves c.ack_all.new.blocks.leaves c.in-Ok.ensures.leaves in
+    c.self.inside.blocks.leaves c.ack.new.self.leaves c.in-Ok.ensures.leaves in
     on_ok_weaker c.slide.result (λ e. ap (λ (s : TreeState g.row.C.Denot). elements us by s.leaves) e ∙ acked.list
     ∙ ap (λ (s : TreeState g.row.C.Denot). map f (elements us by s.leaves)) c.self.view_is) c.slide.ensures.rest
 
@@ -60,6 +60,6 @@ returns-in-Ok-clause-nodes g c =
     let by = g.C.Content.by in
     let laws = g.met.C.Content in
     let acked = acks us by g.C.Content.author g.C.Content.stamped laws.stamped_units laws.stamped_by c.args.stage c.args.seq c.args.conn
-    c.self.inside.blocks.leaves c.ack_all.new.blocks.leaves c.in-Ok.ensures.leaves in
+    c.self.inside.blocks.leaves c.ack.new.self.leaves c.in-Ok.ensures.leaves in
     on_ok_weaker c.slide.result (λ e. ap (λ (s : TreeState g.row.C.Denot). ids s.leaves) e ∙ acked.nodes
     ∙ ap (λ (s : TreeState g.row.C.Denot). ids s.leaves) c.self.view_is) c.slide.ensures.rest

@@ -1,4 +1,6 @@
 use Rattle.std.proofs.Common.{◌≢◌, ℕ, Option, Some, false, sym, ◌∙◌, ap, arith}
+use Rattle.ft_block.specs.Leaves.{LeafList}
+use Rattle.ft_leaves.specs.declared.leaves.TreeLeaf.{TreeLeaf}
 use Rattle.ft_leaves.specs.declared.references.Reference.{Reference}
 use Rattle.ft_leaves.specs.Elements.{seen_in}
 use Rattle.ft_leaves.specs.Places.{place_at}
@@ -34,6 +36,7 @@ returns-in-Ok-clause-added g c =
     let n = c.self.inside.next_ref in
     let sound = in_sound us by c.self.inside c.args.self.now c.self.view_is c.self.invariant c.requires.usable in
     let place = c.place_at.ensures
+    ∙ ap (λ (l : LeafList (TreeLeaf g.row.C.Denot)). place_at seen c.args.p (elements us by l.leaves)) c.list-2.ensures
     ∙ ap (λ s. place_at seen c.args.p (elements us by s.leaves)) c.self.view_is in
     ap (λ xs. reference_at xs n) c.in-Ok.ensures.added
     ∙ reference_at-new c.self.inside.refs.items n (pending_at c.place_at.result) (sound.refs n (omega arith))

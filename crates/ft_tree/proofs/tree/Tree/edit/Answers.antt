@@ -1,5 +1,5 @@
 use Rattle.std.proofs.Common.{◌≡◌, ◌+◌, ◌-◌, length, refl, ◌∙◌, ap, arith}
-use Rattle.ft_base.specs.Scan.{change_range, place}
+use Rattle.ft_base.specs.Scan.{change_range}
 use Rattle.ft_leaves.specs.Elements.{seen_in}
 use Rattle.ft_leaves.specs.LeafLists.{elements}
 use Rattle.ft_tree.specs.Inside.{edited_element}

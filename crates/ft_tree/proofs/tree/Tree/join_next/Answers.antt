@@ -1,7 +1,8 @@
 use Rattle.std.proofs.Common.{◌≡◌, Bool, true, if◌then◌else◌, length, refl, ◌∙◌, ap, length-append}
 use Rattle.ft_tree.specs.declared.tree.Tree.TheInside.{Inside}
-use Rattle.ft_block.specs.Leaves.{join_leaf}
-use Rattle.ft_leaves.specs.Edits.{joined_leaf, sweep_behind}
+use Rattle.ft_block.specs.Leaves.{LeafList, join_leaf}
+use Rattle.ft_leaves.specs.declared.leaves.TreeLeaf.{TreeLeaf}
+use Rattle.ft_leaves.specs.Edits.{joined_leaf, sweep_behind, sweep_joined}
 use Rattle.ft_tree.proofs.JoinedLeaves.{joins_without, pair_next}
 use Rattle.ft_tree.proofs.TreeInside.{in_sound, without_sound}
 use Rattle.ft_tree.proofs.tree.Tree.join_next.Goals as goal
@@ -33,4 +34,5 @@ invariant_of-self g c = λ usable.
     let sizes = ap length (laws.joined_units v w j.may.contents) ∙ length-append (us v) (us w) in
     let gone = joins_without us by joined xs c.join_at.new.blocks.leaves id j.next j.front j.rear j.beside is_now sizes once in
     without_sound us by c.self.inside b sound c.in-Ok-true.ensures.usable refl (λ r h. h) j.next once gone
-    (c.sweep_joined-sweep.ensures ∙ ap (sweep_behind xs c.self.inside.sweep) j.is_next) refl
+    (c.sweep_joined-sweep.ensures ∙ ap (λ (l : LeafList (TreeLeaf g.row.C.Denot)). sweep_joined l.leaves id c.self.inside.sweep) c.list.ensures
+    ∙ ap (sweep_behind xs c.self.inside.sweep) j.is_next) refl

@@ -1,5 +1,4 @@
 use Rattle.std.proofs.Common.{ℕ, ◌+◌, [], length, refl, ap, arith}
-use Rattle.ft_base.specs.Scan.{place}
 use Rattle.ft_leaves.specs.declared.references.Reference.{Reference}
 use Rattle.ft_leaves.specs.Edits.{with_place}
 use Rattle.ft_leaves.specs.Places.{shifted_place}

@@ -1,9 +1,9 @@
 use Rattle.std.proofs.Common.{ℕ, List, option_map, subst, refl, sym, ◌∙◌, ap}
-use Rattle.ft_block.specs.Leaves.{IsLeafIn}
+use Rattle.ft_block.specs.Leaves.{IsLeafIn, LeafList}
 use Rattle.ft_leaves.specs.declared.leaves.TreeLeaf.{TreeLeaf}
 use Rattle.ft_leaves.specs.declared.references.Reference.{Reference}
 use Rattle.ft_tree.specs.declared.tree.Tree.TheInside.{Inside}
-use Rattle.ft_leaves.specs.Edits.{closed_by, with_place}
+use Rattle.ft_leaves.specs.Edits.{closed_by, sweep_without, with_place}
 use Rattle.ft_leaves.specs.Plain.{WithoutNode}
 use Rattle.ft_leaves.specs.References.{reference_at}
 use Rattle.ft_tree.specs.State.{TreeState}
@@ -34,7 +34,8 @@ invariant_of-self g c = λ usable.
     let gone = subst (λ (ys : List (ℕ × TreeLeaf g.row.C.Denot)). WithoutNode us by id xs ys) (sym c.in-Ok.ensures.leaves)
     (without_node us by xs id v.0 once live v.1) in
     without_sound us by c.self.inside b sound c.in-Ok.ensures.usable refl
-    (none_mapped closed c.self.inside.refs.items c.take_with_references.new.refs.items c.in-Ok.ensures.refs) id once gone c.sweep_without-sweep.ensures refl
+    (none_mapped closed c.self.inside.refs.items c.take_with_references.new.refs.items c.in-Ok.ensures.refs) id once gone
+    (c.sweep_without-sweep.ensures ∙ ap (λ (l : LeafList (TreeLeaf g.row.C.Denot)). sweep_without l.leaves id c.self.inside.sweep) c.list.ensures) refl
 
 pub returns-in-Ok-clause-refs : goal.returns-in-Ok-clause-refs
 returns-in-Ok-clause-refs g c = λ r.
