@@ -87,7 +87,10 @@ fn find_of_all<C: Content, G: Ledger>(
 }
 
 /// The leaf that holds the `p`-th element that the view sees, and how many of its elements stand up to that
-/// one: None exactly where `p` is above the length seen.
+/// one; the head of the list for `p` = 0. None exactly where `p` is above the length seen.
+///
+/// The reference number of a perspective isn't below the floor. It reads a few nodes; at a stage other than
+/// `u64::MAX` it goes from leaf to leaf.
 pub fn find_leaf<C: Content, G: Ledger>(
     blocks: &Blocks<TreeLeaf<C>>,
     p: u64,

@@ -18,7 +18,8 @@ use std::sync::ledger::Blank;
 
 /// The element that the view sees with `p` seen ones before it: None exactly where it sees no more than `p`.
 ///
-/// It reads a few nodes; at a stage other than `u64::MAX` it goes from leaf to leaf.
+/// The reference number of a perspective isn't below the floor. It reads a few nodes; at a stage other than
+/// `u64::MAX` it goes from leaf to leaf.
 pub fn seen_offset<C: Content>(
     blocks: &Blocks<TreeLeaf<C>>,
     p: u64,
@@ -61,8 +62,8 @@ pub fn elements_before<C: Content>(blocks: &Blocks<TreeLeaf<C>>, at: &Place) -> 
 
 /// How many elements that the view sees stand before the element.
 ///
-/// It goes up from the leaf; at a stage other than `u64::MAX` it also looks for each leaf left of it that has
-/// a pending stamp.
+/// The reference number of a perspective isn't below the floor. It goes up from the leaf; at a stage other than
+/// `u64::MAX` it also looks for each leaf left of it that has a pending stamp.
 pub fn seen_before_on<C: Content>(
     blocks: &Blocks<TreeLeaf<C>>,
     at: &Place,
