@@ -1,11 +1,10 @@
 //! Steps on leaves in blocks that keep the references on them right, beside the lists of what each pending stage
 //! touched.
 
-ghost use Rattle.std.specs.Prelude.{[], ◌≡◌, ◌+◌, ◌<◌, ◌^◌, ℕ, ◌≤◌, All, IfOk, IsSomeAnd, IsTrue, OnOk, length, map, true};
-ghost use Rattle.ft_block.specs.Leaves.{IsLeafIn, IsPlaceIn, change_leaf, join_leaf, length_by, put_leaf, split_leaf, times_leaf, value_after, value_at};
-ghost use Rattle.ft_leaves.specs.Edits.{up_to_place, with_place};
-ghost use Rattle.ft_leaves.specs.Elements.{IsLowestChange};
-ghost use Rattle.ft_leaves.specs.LeafChanges.{acked_pair};
+ghost use Rattle.std.specs.Prelude.{[], ◌≡◌, ◌≢◌, ◌+◌, ◌<◌, ◌^◌, ◌≤◌, IfOk, IsSomeAnd, IsTrue, OnOk, Some, length, true};
+ghost use Rattle.ft_block.specs.Leaves.{IsLeafIn, IsPlaceIn, change_leaf, join_leaf, length_by, move_leaf, put_leaf, split_leaf, times_leaf, value_after, value_at, without_leaf};
+ghost use Rattle.ft_leaves.specs.BlockChanges.{MayChange, changed_leaf};
+ghost use Rattle.ft_leaves.specs.Edits.{IsFreeOf, closed_by, moved_by, up_to_place, with_place};
 ghost use Rattle.ft_leaves.specs.LeafLists.{elements};
 ghost use Rattle.ft_leaves.specs.Places.{shifted_place};
 ghost use Rattle.ft_leaves.specs.References.{ChangesReferences, KeepsReferences};
@@ -15,12 +14,12 @@ ghost use Rattle.ft_leaf_blocks.specs.Unsettled.{IsSoundOn};
 
 use crate::leaf_refs::LeafRefs;
 use crate::stage_nodes::StageNodes;
-use crate::tracked::{insert_in, join_in, set_stamps_in, split_in};
+use crate::tracked::{change_in, insert_in, join_in, move_in, set_stamps_in, split_in, take_in};
 use ft_arena::NodeId;
 use ft_base::{Element, OutOfMemory};
 use ft_block::Blocks;
 use ft_leaves::leaves::Standing;
-use ft_leaves::{Content, TreeLeaf};
+use ft_leaves::{Content, LeafChange, TreeLeaf};
 
 /// Puts a new leaf in, as `insert_in` does. References go with their elements.
 ///
@@ -142,4 +141,84 @@ pub(crate) fn join_anchored<C: Content + Drop>(
     let _next = blocks.leaf(next);
     join_in(blocks, touched, id)?;
     refs.join(next, id, count, stands)
+}
+
+/// Makes a change of a leaf, as `change_in` does. References stay on their elements.
+///
+/// Answers `OutOfMemory` where there is no room for it.
+pub(crate) fn change_anchored<C: Content>(
+    blocks: &mut Blocks<TreeLeaf<C>>,
+    touched: &mut Vec<StageNodes>,
+    _refs: &LeafRefs,
+    id: NodeId,
+    c: &LeafChange,
+) -> Result<(), OutOfMemory>
+    requires usable { IsTrue blocks.old.usable }
+    requires tracks { Tracks blocks.old.leaves touched.old.items }
+    requires sound { IsSoundOn C.units blocks.old.leaves _refs.now.anchors _refs.now.unsettled.items }
+    requires can { IsSomeAnd (value_at blocks.old.leaves id) (λ v. MayChange c.now v.overlay) }
+    ensures ok { OnOk result (blocks.new.leaves ≡ change_leaf (λ v. changed_leaf C.stamped v c.now) blocks.old.leaves id) }
+    ensures tracks { OnOk result (Tracks blocks.new.leaves touched.new.items) }
+    ensures refs { OnOk result (KeepsReferences (references_on C.units C.by blocks.old.leaves _refs.now.anchors) (references_on C.units C.by blocks.new.leaves _refs.now.anchors)) }
+    ensures sound { OnOk result (IsSoundOn C.units blocks.new.leaves _refs.now.anchors _refs.now.unsettled.items) }
+    ensures usable { OnOk result (blocks.new.usable ≡ true) }
+    ensures floor { blocks.new.floor ≡ blocks.old.floor }
+{
+    let _first = blocks.first();
+    change_in(blocks, touched, id, c)
+}
+
+/// Takes a leaf out on which no reference is, as `take_in` does. References go with their elements.
+///
+/// Answers `OutOfMemory` where there is no room for what is kept.
+pub(crate) fn take_anchored<C: Content>(
+    blocks: &mut Blocks<TreeLeaf<C>>,
+    touched: &mut Vec<StageNodes>,
+    _refs: &LeafRefs,
+    id: NodeId,
+) -> Result<TreeLeaf<C>, OutOfMemory>
+    requires usable { IsTrue blocks.old.usable }
+    requires tracks { Tracks blocks.old.leaves touched.old.items }
+    requires sound { IsSoundOn C.units blocks.old.leaves _refs.now.anchors _refs.now.unsettled.items }
+    requires live { IsLeafIn blocks.old.leaves id }
+    requires free { IsFreeOf C.units C.by blocks.old.leaves id (references_on C.units C.by blocks.old.leaves _refs.now.anchors) }
+    ensures value { IfOk result (λ v. value_at blocks.old.leaves id ≡ Some v) }
+    ensures ok { OnOk result (blocks.new.leaves ≡ without_leaf blocks.old.leaves id) }
+    ensures tracks { OnOk result (Tracks blocks.new.leaves touched.new.items) }
+    ensures refs { OnOk result (ChangesReferences (with_place (closed_by C.units C.by blocks.old.leaves id))
+        (references_on C.units C.by blocks.old.leaves _refs.now.anchors) (references_on C.units C.by blocks.new.leaves _refs.now.anchors)) }
+    ensures sound { OnOk result (IsSoundOn C.units blocks.new.leaves _refs.now.anchors _refs.now.unsettled.items) }
+    ensures usable { OnOk result (blocks.new.usable ≡ true) }
+    ensures floor { blocks.new.floor ≡ blocks.old.floor }
+{
+    let _first = blocks.first();
+    take_in(blocks, touched, id)
+}
+
+/// Moves a leaf, as `move_in` does. References go with their elements.
+///
+/// Answers `OutOfMemory` where there is no room for what is kept.
+pub(crate) fn move_anchored<C: Content>(
+    blocks: &mut Blocks<TreeLeaf<C>>,
+    touched: &Vec<StageNodes>,
+    _refs: &LeafRefs,
+    id: NodeId,
+    at: Option<NodeId>,
+) -> Result<(), OutOfMemory>
+    requires usable { IsTrue blocks.old.usable }
+    requires tracks { Tracks blocks.old.leaves touched.now.items }
+    requires sound { IsSoundOn C.units blocks.old.leaves _refs.now.anchors _refs.now.unsettled.items }
+    requires live { IsLeafIn blocks.old.leaves id }
+    requires place { IsPlaceIn blocks.old.leaves at }
+    requires differ { at ≢ Some id }
+    ensures ok { OnOk result (blocks.new.leaves ≡ move_leaf blocks.old.leaves id at (value_at blocks.old.leaves id)) }
+    ensures tracks { OnOk result (Tracks blocks.new.leaves touched.now.items) }
+    ensures refs { OnOk result (ChangesReferences (with_place (moved_by C.units C.by blocks.old.leaves id at))
+        (references_on C.units C.by blocks.old.leaves _refs.now.anchors) (references_on C.units C.by blocks.new.leaves _refs.now.anchors)) }
+    ensures sound { OnOk result (IsSoundOn C.units blocks.new.leaves _refs.now.anchors _refs.now.unsettled.items) }
+    ensures usable { OnOk result (blocks.new.usable ≡ true) }
+    ensures floor { blocks.new.floor ≡ blocks.old.floor }
+{
+    let _first = blocks.first();
+    move_in(blocks, touched, id, at)
 }

@@ -20,16 +20,21 @@ ghost use Rattle.ft_block.specs.Leaves.{
   without_leaf,
 };
 ghost use Rattle.ft_leaves.specs.BlockChanges.{MayChange, changed_leaf};
-ghost use Rattle.ft_leaves.specs.Edits.{next_removal_above};
+ghost use Rattle.ft_leaves.specs.Edits.{IsFreeOf, closed_by, moved_by, next_removal_above, up_to_place, with_place};
 ghost use Rattle.ft_leaves.specs.Elements.{IsLowestChange, seen_in};
 ghost use Rattle.ft_leaves.specs.LeafChanges.{acked_pair};
 ghost use Rattle.ft_leaves.specs.LeafLists.{elements, leaf_length};
+ghost use Rattle.ft_leaves.specs.Places.{shifted_place};
+ghost use Rattle.ft_leaves.specs.References.{ChangesReferences, KeepsReferences};
 ghost use Rattle.ft_leaf_blocks.specs.State.{list_of};
 
 use crate::acks::ack_in;
+use crate::anchored::{
+    change_anchored, insert_anchored, join_anchored, move_anchored, set_stamps_anchored, split_anchored, take_anchored,
+};
+use crate::leaf_refs::LeafRefs;
 use crate::stage_nodes::StageNodes;
 use crate::stamp_lists::next_removal_in;
-use crate::tracked::{change_in, insert_in, join_in, move_in, set_stamps_in, split_in, take_in};
 use ft_arena::NodeId;
 use ft_base::{Element, OutOfMemory};
 use ft_block::{Blocks, LenView};
@@ -45,6 +50,7 @@ use std::marker::Model;
 pub struct LeafBlocks<C: Content> {
     blocks: Blocks<TreeLeaf<C>>,
     touched: Vec<StageNodes>,
+    refs: LeafRefs,
     usable: bool,
 }
 
@@ -55,19 +61,20 @@ impl<C: Content> Model for LeafBlocks<C> {
 
     ghost use Rattle.ft_leaf_blocks.specs.Inside.{view_of, IsSoundIfUsable};
 
-    ghost view = { view_of };
+    ghost view = { view_of C.units C.by };
 
-    ghost invariant = { IsSoundIfUsable };
+    ghost invariant = { IsSoundIfUsable C.units };
 }
 
 impl<C: Content> LeafBlocks<C> {
-    /// No leaves.
+    /// No leaves, and no references.
     pub fn new(alloc: Global) -> LeafBlocks<C>
-        ensures { result ≡ record { leaves = []; depth = 0; floor = 0; usable = true } }
+        ensures { result ≡ record { leaves = []; depth = 0; floor = 0; refs = []; usable = true } }
     {
         LeafBlocks {
             blocks: Blocks::new(alloc),
             touched: Vec::new(alloc),
+            refs: LeafRefs::new(alloc),
             usable: true,
         }
     }
@@ -140,11 +147,19 @@ impl<C: Content> LeafBlocks<C> {
         requires settled { leaf.overlay.pending ≡ [] }
         ensures ok { IfOk result (λ id. self.new.leaves ≡ put_leaf self.old.leaves at (id, leaf)) }
         ensures fresh { IfOk result (λ id. times_leaf self.old.leaves id ≡ 0) }
+        ensures refs { let i = length (elements C.units C.by (up_to_place self.old.leaves at)) in
+            OnOk result (ChangesReferences (with_place (shifted_place i (length (C.units leaf.content)))) self.old.refs self.new.refs) }
         ensures usable { OnOk result (self.new.usable ≡ true) }
         ensures floor { self.new.floor ≡ self.old.floor }
         ensures err { OnErr result (self.new.usable ≡ false) }
     {
-        match insert_in(&mut self.blocks, &mut self.touched, at, leaf) {
+        match insert_anchored(
+            &mut self.blocks,
+            &mut self.touched,
+            &mut self.refs,
+            at,
+            leaf,
+        ) {
             Ok(id) => Ok(id),
             Err(e) => {
                 self.usable = false;
@@ -165,11 +180,18 @@ impl<C: Content> LeafBlocks<C> {
         ensures ok { IfOk result (λ id. self.new.leaves
             ≡ split_leaf (λ v. record v { content = C.front v.content at }) (λ v. record v { content = C.rear v.content at }) self.old.leaves leaf id) }
         ensures fresh { IfOk result (λ id. times_leaf self.old.leaves id ≡ 0) }
+        ensures refs { OnOk result (KeepsReferences self.old.refs self.new.refs) }
         ensures usable { OnOk result (self.new.usable ≡ true) }
         ensures floor { self.new.floor ≡ self.old.floor }
         ensures err { OnErr result (self.new.usable ≡ false) }
     {
-        match split_in(&mut self.blocks, &mut self.touched, leaf, at) {
+        match split_anchored(
+            &mut self.blocks,
+            &mut self.touched,
+            &mut self.refs,
+            leaf,
+            at,
+        ) {
             Ok(rear) => Ok(rear),
             Err(e) => {
                 self.usable = false;
@@ -185,11 +207,18 @@ impl<C: Content> LeafBlocks<C> {
         requires usable { IsTrue self.old.usable }
         requires live { IsLeafIn self.old.leaves id }
         ensures ok { OnOk result (self.new.leaves ≡ change_leaf (λ v. record v { stamps = e }) self.old.leaves id) }
+        ensures refs { OnOk result (KeepsReferences self.old.refs self.new.refs) }
         ensures usable { OnOk result (self.new.usable ≡ true) }
         ensures floor { self.new.floor ≡ self.old.floor }
         ensures err { OnErr result (self.new.usable ≡ false) }
     {
-        match set_stamps_in(&mut self.blocks, &mut self.touched, id, e) {
+        match set_stamps_anchored(
+            &mut self.blocks,
+            &mut self.touched,
+            &mut self.refs,
+            id,
+            e,
+        ) {
             Ok(()) => Ok(()),
             Err(e) => {
                 self.usable = false;
@@ -205,11 +234,12 @@ impl<C: Content> LeafBlocks<C> {
         requires usable { IsTrue self.old.usable }
         requires can { IsSomeAnd (value_at self.old.leaves id) (λ v. MayChange c.now v.overlay) }
         ensures ok { OnOk result (self.new.leaves ≡ change_leaf (λ v. changed_leaf C.stamped v c.now) self.old.leaves id) }
+        ensures refs { OnOk result (KeepsReferences self.old.refs self.new.refs) }
         ensures usable { OnOk result (self.new.usable ≡ true) }
         ensures floor { self.new.floor ≡ self.old.floor }
         ensures err { OnErr result (self.new.usable ≡ false) }
     {
-        match change_in(&mut self.blocks, &mut self.touched, id, c) {
+        match change_anchored(&mut self.blocks, &mut self.touched, &self.refs, id, c) {
             Ok(()) => Ok(()),
             Err(e) => {
                 self.usable = false;
@@ -218,7 +248,7 @@ impl<C: Content> LeafBlocks<C> {
         }
     }
 
-    /// Takes a leaf out, and answers its value. No other leaf changes. The lists of all stages are looked
+    /// Takes a leaf out on which no reference is, and answers its value. No other leaf changes. The lists of all stages are looked
     /// through.
     ///
     /// Answers `OutOfMemory` where there is no room for what blocks keep, and then the blocks may be used
@@ -226,13 +256,15 @@ impl<C: Content> LeafBlocks<C> {
     pub fn take(&mut self, id: NodeId) -> Result<TreeLeaf<C>, OutOfMemory>
         requires usable { IsTrue self.old.usable }
         requires live { IsLeafIn self.old.leaves id }
+        requires free { IsFreeOf C.units C.by self.old.leaves id self.old.refs }
         ensures value { IfOk result (λ v. value_at self.old.leaves id ≡ Some v) }
         ensures ok { OnOk result (self.new.leaves ≡ without_leaf self.old.leaves id) }
+        ensures refs { OnOk result (ChangesReferences (with_place (closed_by C.units C.by self.old.leaves id)) self.old.refs self.new.refs) }
         ensures usable { OnOk result (self.new.usable ≡ true) }
         ensures floor { self.new.floor ≡ self.old.floor }
         ensures err { OnErr result (self.new.usable ≡ false) }
     {
-        match take_in(&mut self.blocks, &mut self.touched, id) {
+        match take_anchored(&mut self.blocks, &mut self.touched, &self.refs, id) {
             Ok(leaf) => Ok(leaf),
             Err(e) => {
                 self.usable = false;
@@ -252,11 +284,12 @@ impl<C: Content> LeafBlocks<C> {
         requires can { IsSomeAnd (value_at self.old.leaves id) (λ v.
             IsSomeAnd (value_after self.old.leaves id) (λ w. IsTrue (C.joins v.content w.content) × (v.stamps ≡ w.stamps))) }
         ensures ok { OnOk result (self.new.leaves ≡ join_leaf (λ v w. record v { content = C.joined v.content w.content }) self.old.leaves id) }
+        ensures refs { OnOk result (KeepsReferences self.old.refs self.new.refs) }
         ensures usable { OnOk result (self.new.usable ≡ true) }
         ensures floor { self.new.floor ≡ self.old.floor }
         ensures err { OnErr result (self.new.usable ≡ false) }
     {
-        match join_in(&mut self.blocks, &mut self.touched, id) {
+        match join_anchored(&mut self.blocks, &mut self.touched, &mut self.refs, id) {
             Ok(()) => Ok(()),
             Err(e) => {
                 self.usable = false;
@@ -276,11 +309,12 @@ impl<C: Content> LeafBlocks<C> {
         requires place { IsPlaceIn self.old.leaves at }
         requires differ { at ≢ Some id }
         ensures ok { OnOk result (self.new.leaves ≡ move_leaf self.old.leaves id at (value_at self.old.leaves id)) }
+        ensures refs { OnOk result (ChangesReferences (with_place (moved_by C.units C.by self.old.leaves id at)) self.old.refs self.new.refs) }
         ensures usable { OnOk result (self.new.usable ≡ true) }
         ensures floor { self.new.floor ≡ self.old.floor }
         ensures err { OnErr result (self.new.usable ≡ false) }
     {
-        match move_in(&mut self.blocks, &self.touched, id, at) {
+        match move_anchored(&mut self.blocks, &self.touched, &self.refs, id, at) {
             Ok(()) => Ok(()),
             Err(e) => {
                 self.usable = false;
@@ -297,11 +331,20 @@ impl<C: Content> LeafBlocks<C> {
         requires usable { IsTrue self.old.usable }
         requires lowest { All (λ e. IsLowestChange stage e.overlay) (elements C.units C.by self.old.leaves) }
         ensures leaves { OnOk result (self.new.leaves ≡ map (acked_pair C.stamped stage seq conn) self.old.leaves) }
+        ensures refs { OnOk result (KeepsReferences self.old.refs self.new.refs) }
         ensures usable { OnOk result (self.new.usable ≡ true) }
         ensures floor { self.new.floor ≡ self.old.floor }
         ensures err { OnErr result (self.new.usable ≡ false) }
     {
-        match ack_in(&mut self.blocks, &mut self.touched, alloc, stage, seq, conn) {
+        match ack_in(
+            &mut self.blocks,
+            &mut self.touched,
+            &mut self.refs,
+            alloc,
+            stage,
+            seq,
+            conn,
+        ) {
             Ok(()) => Ok(()),
             Err(e) => {
                 self.usable = false;
