@@ -35,6 +35,7 @@ pub fn unmark_at<C: Content>(
     requires usable { IsTrue blocks.old.usable }
     requires live { IsLeafIn blocks.old.leaves id }
     ensures leaves { OnOk result (blocks.new.leaves ≡ change_leaf (unmarked_leaf stage) blocks.old.leaves id) }
+    ensures refs { OnOk result (KeepsReferences blocks.old.refs blocks.new.refs) }
     ensures usable { OnOk result (blocks.new.usable ≡ true) }
     ensures floor { blocks.new.floor ≡ blocks.old.floor }
 {
@@ -56,6 +57,7 @@ pub fn unmark_all_at<C: Content>(
     requires usable { IsTrue blocks.old.usable }
     requires live { IsLeafIn blocks.old.leaves id }
     ensures leaves { OnOk result (blocks.new.leaves ≡ change_leaf sequenced_leaf blocks.old.leaves id) }
+    ensures refs { OnOk result (KeepsReferences blocks.old.refs blocks.new.refs) }
     ensures usable { OnOk result (blocks.new.usable ≡ true) }
     ensures floor { blocks.new.floor ≡ blocks.old.floor }
 {

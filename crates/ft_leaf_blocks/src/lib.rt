@@ -18,7 +18,6 @@ mod leaf_refs;
 pub mod offsets;
 pub mod places;
 pub mod ranges;
-pub mod references;
 pub mod scans;
 pub mod settling;
 pub mod slides;
