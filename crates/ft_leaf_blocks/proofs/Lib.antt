@@ -22,3 +22,4 @@ mod TrackedSteps
 mod AckedNodes
 mod LeastRemovals
 pub mod KeptRefs
+pub mod RefSteps

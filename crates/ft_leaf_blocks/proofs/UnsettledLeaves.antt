@@ -134,7 +134,7 @@ module _ {L : Type 0} where
   ]
 
 module _ {C U : Type 0} (units : C → List U) (by : C → Option Stamp) where
-  abbrev unremoved_leaf : TreeLeaf C → Bool
+  abbrev pub unremoved_leaf : TreeLeaf C → Bool
   unremoved_leaf v = is_present is_acked v.stamps
 
   unremoved_as : (xs ys : List (ℕ × TreeLeaf C)) (y z : ℕ) → value_at xs y ≡ value_at ys z → is_unremoved_at xs y ≡ is_unremoved_at ys z

@@ -156,7 +156,9 @@ pub(crate) fn ack_in<C: Content>(
     ensures usable { OnOk result (blocks.new.usable ≡ true) }
     ensures floor { blocks.new.floor ≡ blocks.old.floor }
 {
-    let nodes = take_stage(touched, stage);
-    refs.unsettle_all(nodes.as_slice())?;
-    ack_nodes(blocks, alloc, nodes.as_slice(), stage, seq, conn)
+    let _first = blocks.first();
+    let taken = take_stage(touched, stage);
+    let nodes = taken.as_slice();
+    refs.unsettle_all(nodes)?;
+    ack_nodes(blocks, alloc, nodes, stage, seq, conn)
 }

@@ -1,18 +1,21 @@
 //! Steps on leaves in blocks that keep the references on them right, beside the lists of what each pending stage
 //! touched.
 
-ghost use Rattle.std.specs.Prelude.{[], ◌≡◌, ◌≢◌, ◌+◌, ◌<◌, ◌^◌, ◌≤◌, IfOk, IsSomeAnd, IsTrue, OnOk, Some, length, true};
+ghost use Rattle.std.specs.Prelude.{[], ◌≡◌, ◌≢◌, ℕ, ◌+◌, ◌<◌, ◌^◌, ◌≤◌, IfOk, IfSome, IsSomeAnd, IsTrue, None, OnOk, Some, false, length, option_map, true};
 ghost use Rattle.ft_block.specs.Leaves.{IsLeafIn, IsPlaceIn, change_leaf, join_leaf, length_by, move_leaf, put_leaf, split_leaf, times_leaf, value_after, value_at, without_leaf};
 ghost use Rattle.ft_leaves.specs.BlockChanges.{MayChange, changed_leaf};
-ghost use Rattle.ft_leaves.specs.Edits.{IsFreeOf, closed_by, moved_by, up_to_place, with_place};
+ghost use Rattle.ft_leaves.specs.Edits.{ChangesReference, IsFreeOf, closed_by, moved_by, up_to_place, with_place};
 ghost use Rattle.ft_leaves.specs.LeafLists.{elements};
 ghost use Rattle.ft_leaves.specs.Places.{shifted_place};
-ghost use Rattle.ft_leaves.specs.References.{ChangesReferences, KeepsReferences};
+ghost use Rattle.ft_leaves.specs.References.{ChangesReferences, IsReferenceIn, KeepsReferences, place_of, reference_at, slid_reference};
 ghost use Rattle.ft_leaf_blocks.specs.Anchors.{references_on};
+ghost use Rattle.ft_leaf_blocks.specs.LeafPlaces.{IsOnLeaf, place_on};
 ghost use Rattle.ft_leaf_blocks.specs.Touched.{Tracks};
 ghost use Rattle.ft_leaf_blocks.specs.Unsettled.{IsSoundOn};
 
 use crate::leaf_refs::LeafRefs;
+use crate::settling::settled_on;
+use crate::slides::slide_leaves;
 use crate::stage_nodes::StageNodes;
 use crate::tracked::{change_in, insert_in, join_in, move_in, set_stamps_in, split_in, take_in};
 use ft_arena::NodeId;
@@ -20,6 +23,7 @@ use ft_base::{Element, OutOfMemory};
 use ft_block::Blocks;
 use ft_leaves::leaves::Standing;
 use ft_leaves::{Content, LeafChange, TreeLeaf};
+use ft_refs::{Place, RefId};
 
 /// Puts a new leaf in, as `insert_in` does. References go with their elements.
 ///
@@ -221,4 +225,98 @@ pub(crate) fn move_anchored<C: Content>(
 {
     let _first = blocks.first();
     move_in(blocks, touched, id, at)
+}
+
+/// Puts a new pending reference on an element.
+///
+/// Answers `OutOfMemory` where there is no room for it.
+pub(crate) fn add_anchored<C: Content>(
+    blocks: &Blocks<TreeLeaf<C>>,
+    refs: &mut LeafRefs,
+    at: &Place,
+) -> Result<RefId, OutOfMemory>
+    requires usable { IsTrue blocks.now.usable }
+    requires sound { IsSoundOn C.units blocks.now.leaves refs.old.anchors refs.old.unsettled.items }
+    requires on { IsOnLeaf C.units blocks.now.leaves at.now }
+    ensures fresh { IfOk result (λ r. reference_at (references_on C.units C.by blocks.now.leaves refs.old.anchors) r ≡ None) }
+    ensures added { let leaves = blocks.now.leaves in
+        IfOk result (λ r. reference_at (references_on C.units C.by leaves refs.new.anchors) r ≡ Some record { place = Some (place_on C.units C.by leaves at.now); acked = false }) }
+    ensures others { let leaves = blocks.now.leaves in
+        IfOk result (λ r. (x : ℕ) → x ≢ r → reference_at (references_on C.units C.by leaves refs.new.anchors) x ≡ reference_at (references_on C.units C.by leaves refs.old.anchors) x) }
+    ensures sound { OnOk result (IsSoundOn C.units blocks.now.leaves refs.new.anchors refs.new.unsettled.items) }
+{
+    let _first = blocks.first();
+    refs.anchors.add(at.owner, at.offset)
+}
+
+/// Where a reference stands: None exactly where it is detached.
+pub(crate) fn place_anchored<C: Content>(
+    blocks: &Blocks<TreeLeaf<C>>,
+    refs: &LeafRefs,
+    r: RefId,
+) -> Option<Place>
+    requires usable { IsTrue blocks.now.usable }
+    requires sound { IsSoundOn C.units blocks.now.leaves refs.now.anchors refs.now.unsettled.items }
+    requires live { IsReferenceIn (references_on C.units C.by blocks.now.leaves refs.now.anchors) r }
+    ensures on { IfSome result (IsOnLeaf C.units blocks.now.leaves) }
+    ensures place { let leaves = blocks.now.leaves in
+        option_map (place_on C.units C.by leaves) result ≡ place_of (references_on C.units C.by leaves refs.now.anchors) r }
+{
+    let _first = blocks.first();
+    refs.anchors.place(r)
+}
+
+/// Makes a reference acknowledged, and slides it.
+pub(crate) fn settle_anchored<C: Content>(
+    blocks: &Blocks<TreeLeaf<C>>,
+    refs: &mut LeafRefs,
+    r: RefId,
+)
+    requires usable { IsTrue blocks.now.usable }
+    requires sound { IsSoundOn C.units blocks.now.leaves refs.old.anchors refs.old.unsettled.items }
+    requires live { IsReferenceIn (references_on C.units C.by blocks.now.leaves refs.old.anchors) r }
+    ensures refs { let leaves = blocks.now.leaves in
+        ChangesReference r (λ x. Some (slid_reference (elements C.units C.by leaves) (record x { acked = true })))
+        (references_on C.units C.by leaves refs.old.anchors) (references_on C.units C.by leaves refs.new.anchors) }
+    ensures sound { IsSoundOn C.units blocks.now.leaves refs.new.anchors refs.new.unsettled.items }
+{
+    let _first = blocks.first();
+    refs.anchors.acknowledge(r);
+    let Some(place) = refs.anchors.place(r) else {
+        return;
+    };
+    match settled_on(blocks, &place, Standing::Unremoved) {
+        Some(to) => refs.anchors.put(r, to.owner, to.offset),
+        None => refs.anchors.detach(r),
+    }
+}
+
+/// Ends a reference.
+pub(crate) fn drop_anchored<C: Content>(
+    blocks: &Blocks<TreeLeaf<C>>,
+    refs: &mut LeafRefs,
+    r: RefId,
+)
+    requires usable { IsTrue blocks.now.usable }
+    requires sound { IsSoundOn C.units blocks.now.leaves refs.old.anchors refs.old.unsettled.items }
+    requires live { IsReferenceIn (references_on C.units C.by blocks.now.leaves refs.old.anchors) r }
+    ensures refs { let leaves = blocks.now.leaves in
+        ChangesReference r (λ x. None) (references_on C.units C.by leaves refs.old.anchors) (references_on C.units C.by leaves refs.new.anchors) }
+    ensures sound { IsSoundOn C.units blocks.now.leaves refs.new.anchors refs.new.unsettled.items }
+{
+    let _first = blocks.first();
+    refs.anchors.release(r);
+}
+
+/// Lets all acknowledged references slide after sequenced removals, by going to those leaves on which they may
+/// have to.
+pub(crate) fn slide_anchored<C: Content>(blocks: &Blocks<TreeLeaf<C>>, refs: &mut LeafRefs)
+    requires usable { IsTrue blocks.now.usable }
+    requires sound { IsSoundOn C.units blocks.now.leaves refs.old.anchors refs.old.unsettled.items }
+    ensures refs { let leaves = blocks.now.leaves in
+        ChangesReferences (slid_reference (elements C.units C.by leaves)) (references_on C.units C.by leaves refs.old.anchors) (references_on C.units C.by leaves refs.new.anchors) }
+    ensures sound { IsSoundOn C.units blocks.now.leaves refs.new.anchors refs.new.unsettled.items }
+{
+    slide_leaves(blocks, &mut refs.anchors, refs.unsettled.as_slice());
+    refs.unsettled.clear();
 }
