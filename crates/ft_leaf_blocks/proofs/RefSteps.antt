@@ -1,7 +1,7 @@
 -- References on leaves beside single steps: a change, a leaf that goes or moves, an acknowledgement, and none at first.
-use Rattle.std.proofs.Common.{◌≡◌, ◌≢◌, ℕ, suc, ◌+◌, ◌<◌, ◌≤◌, ◌⊎◌, Bool, true, false, cond, ◌&&◌, ◌||◌, nat_eq, nat_le, nat_lt, List, [], ◌∷◌, map, length, get_or, Option, Some, None, option_and_then, option_map, subst, refl, sym, ◌∙◌, ap, inl, inr, arith}
+use Rattle.std.proofs.Common.{◌≡◌, ◌≢◌, ℕ, suc, ◌+◌, ◌<◌, ◌≤◌, ◌⊎◌, Bool, true, false, cond, ◌&&◌, ◌||◌, nat_eq, nat_le, nat_lt, List, [], ◌∷◌, map, length, get_or, Option, Some, None, IsSome, option_and_then, option_map, subst, refl, sym, ◌∙◌, ap, inl, inr, arith}
 use Rattle.std.specs.Option.{option_map_or}
-use Rattle.std.proofs.lemmas.Bool.{cases_eq, eq-eqb}
+use Rattle.std.proofs.lemmas.Bool.{cases_eq, ne_eqb}
 use Rattle.std.proofs.lemmas.Bool.Decides.{nat_tests}
 use Rattle.ft_arena.specs.Ids.{same, times}
 use Rattle.ft_arena.proofs.IdLemmas.{same_other, same_refl}
@@ -13,20 +13,23 @@ use Rattle.ft_leaves.specs.declared.leaves.TreeLeaf.{TreeLeaf}
 use Rattle.ft_leaves.specs.declared.references.Reference.{Reference}
 use Rattle.ft_leaves.specs.BlockChanges.{changed_leaf}
 use Rattle.ft_leaves.specs.BlockLaws.{changed_length, changed_stamps}
-use Rattle.ft_leaves.specs.Edits.{IsFreeOf, leaf_at}
+use Rattle.ft_leaves.specs.Edits.{ChangesReference, IsFreeOf, leaf_at}
 use Rattle.ft_leaves.specs.LeafChanges.{acked_leaf, acked_pair}
 use Rattle.ft_leaves.specs.LeafLists.{elements}
-use Rattle.ft_leaves.specs.References.{place_of, reference_at}
+use Rattle.ft_leaves.specs.Elements.{is_unremoved}
+use Rattle.ft_leaves.specs.Places.{settled_place}
+use Rattle.ft_leaves.specs.References.{IsReferenceIn, place_of, reference_at, slid_reference}
 use Rattle.ft_leaves.proofs.LeafEdits.{times-without-one}
 use Rattle.ft_leaves.proofs.Standing.{change-map}
 use Rattle.ft_refs.specs.declared.numbers.Place.{Place}
 use Rattle.ft_refs.specs.RefLists.{entry, place_of_entry, place_of_reference}
-use Rattle.ft_leaf_blocks.specs.Anchors.{AnchorLists, AreAnchored, is_acked_at, numbered, reference_on, references_on}
+use Rattle.ft_leaf_blocks.specs.Anchors.{AnchorLists, AreAnchored, ChangesAnchor, is_acked_at, numbered, reference_on, references_on}
 use Rattle.ft_leaf_blocks.specs.LeafPlaces.{place_on}
 use Rattle.ft_leaf_blocks.specs.Slides.{is_unremoved_at}
 use Rattle.ft_leaf_blocks.specs.Touched.{holds, is_touched_by}
 use Rattle.ft_leaf_blocks.specs.Unsettled.{IsSoundOn, NotesAll}
 use Rattle.ft_leaf_blocks.proofs.AckedNodes.{untouched_stays}
+use Rattle.ft_leaf_blocks.proofs.AnchorChanges.{changed_references}
 use Rattle.ft_leaf_blocks.proofs.AnchoredLeaves.{on_leaf, reference_at-on}
 use Rattle.ft_leaf_blocks.proofs.KeptRefs.{Keeps, kept_mapped, kept_noted}
 use Rattle.ft_leaf_blocks.proofs.MovedLeaves.{count_alone}
@@ -150,3 +153,85 @@ module _ {C U : Type 0} (units : C → List U) (by : C → Option Stamp) where
 
         apart : (i n j o : ℕ) → j ≡ i + o → o < n → (nat_le i j && nat_lt j (i + n)) ≡ false → ⊥
         apart i n j o e less test = grind (arith, nat_tests)
+
+module _ {C U : Type 0} (units : C → List U) (by : C → Option Stamp) (xs : List (ℕ × TreeLeaf C)) (a : AnchorLists) (r : ℕ) where
+  live_by : (q : Option (Option Place)) (flag : Bool) → IsSome (option_map (reference_on units by xs flag) q) → IsSome q
+  live_by None flag h = h
+  live_by (Some p) flag h = refl
+
+  -- a live reference of a tree is live
+  pub live_entry : IsReferenceIn (references_on units by xs a) r → IsSome (entry a.refs r)
+  live_entry h = live_by (entry a.refs r) (is_acked_at a r) (subst IsSome (reference_at-on units by xs a r) h)
+
+  shown_by : (q : Option (Option Place)) (flag : Bool)
+      → option_and_then (λ (x : Reference). x.place) (option_map (reference_on units by xs flag) q) ≡ option_map (place_on units by xs) (place_of_entry q)
+  shown_by None flag = refl
+  shown_by (Some None) flag = refl
+  shown_by (Some (Some p)) flag = refl
+
+  -- its place among the elements
+  pub place_of-on : place_of (references_on units by xs a) r ≡ option_map (place_on units by xs) (place_of_reference a.refs r)
+  place_of-on = ap (option_and_then (λ (x : Reference). x.place)) (reference_at-on units by xs a r) ∙ shown_by (entry a.refs r) (is_acked_at a r)
+
+  pub changed_twice : (q p : Option (Option Place)) (f h : Bool) (b c : AnchorLists) → ChangesAnchor r q f a b → ChangesAnchor r p h b c → ChangesAnchor r p h a c
+  changed_twice q p f h b c first then = record {
+    places = record { changed = then.places.changed; others = λ x d. then.places.others x d ∙ first.places.others x d };
+    flag = then.flag;
+    flags = λ x d. then.flags x d ∙ first.flags x d;
+    held = λ z k. then.held z (first.held z k);
+  }
+
+  module _ (anchored : AreAnchored units xs a) (b : AnchorLists) where
+    changes_by : (q : Option (Option Place)) (flag : Bool) (f : Reference → Option Reference) → ChangesAnchor r q flag a b
+        → option_map (reference_on units by xs flag) q ≡ option_and_then f (reference_at (references_on units by xs a) r)
+        → ChangesReference r f (references_on units by xs a) (references_on units by xs b)
+    changes_by q flag f changes e x = changed_references units by xs a anchored r q flag b changes x ∙ elim (cases_eq x r) [
+      | inl same_number ↦ ap (λ (o : Option Reference). cond (nat_eq x r) o (reference_at (references_on units by xs a) x))
+          (e ∙ ap (λ (z : ℕ). option_and_then f (reference_at (references_on units by xs a) z)) (sym same_number))
+      | inr d ↦ unless (nat_eq x r) (ne_eqb x r d) _ _ _
+    ]
+      where
+        unless : (c : Bool) → c ≡ false → (o p n : Option Reference) → cond c o n ≡ cond c p n
+        unless c h o p n = ap (λ (t : Bool). cond t o n) h ∙ sym (ap (λ (t : Bool). cond t p n) h)
+
+    nothing : (o : Option Reference) → None ≡ option_and_then {U = Reference} (λ (z : Reference). None) o
+    nothing None = refl
+    nothing (Some z) = refl
+
+    -- a reference that ends
+    pub ends : (flag : Bool) → ChangesAnchor r None flag a b → ChangesReference r (λ z. None) (references_on units by xs a) (references_on units by xs b)
+    ends flag changes = changes_by None flag (λ z. None) changes (nothing (reference_at (references_on units by xs a) r))
+
+    abbrev settled : Reference → Option Reference
+    settled z = Some (slid_reference (elements units by xs) (record z { acked = true }))
+
+    to_by : (to : Option Place) (p : Place) (q : Option (Option Place)) (flag : Bool) → place_of_entry q ≡ Some p
+        → option_map (place_on units by xs) to ≡ settled_place is_unremoved (elements units by xs) (place_on units by xs p)
+        → Some (reference_on units by xs true to) ≡ option_and_then settled (option_map (reference_on units by xs flag) q)
+    to_by to p None flag h e = (cc)
+    to_by to p (Some None) flag h e = (cc)
+    to_by to p (Some (Some was)) flag h e =
+        let same_place : was ≡ p = (cc) in
+        ap (λ (o : Option ℕ). Some record { place = o; acked = true })
+        (e ∙ ap (λ (z : Place). settled_place is_unremoved (elements units by xs) (place_on units by xs z)) (sym same_place))
+
+    -- one that is acknowledged, and goes where it slides to
+    pub settles_to : (p : Place) (to : Option Place) → place_of_reference a.refs r ≡ Some p
+        → option_map (place_on units by xs) to ≡ settled_place is_unremoved (elements units by xs) (place_on units by xs p) → ChangesAnchor r (Some to) true a b
+        → ChangesReference r (λ z. Some (slid_reference (elements units by xs) (record z { acked = true }))) (references_on units by xs a) (references_on units by xs b)
+    settles_to p to h e changes =
+        changes_by (Some to) true settled changes
+        (to_by to p (entry a.refs r) (is_acked_at a r) h e ∙ ap (option_and_then settled) (sym (reference_at-on units by xs a r)))
+
+    none_by : (q : Option (Option Place)) (flag : Bool) → IsSome q → place_of_entry q ≡ None
+        → option_map (reference_on units by xs true) q ≡ option_and_then settled (option_map (reference_on units by xs flag) q)
+    none_by None flag h e = (cc)
+    none_by (Some None) flag h e = refl
+    none_by (Some (Some p)) flag h e = (cc)
+
+    -- one that is detached
+    pub settles_none : IsSome (entry a.refs r) → place_of_reference a.refs r ≡ None → ChangesAnchor r (entry a.refs r) true a b
+        → ChangesReference r (λ z. Some (slid_reference (elements units by xs) (record z { acked = true }))) (references_on units by xs a) (references_on units by xs b)
+    settles_none live h changes =
+        changes_by (entry a.refs r) true settled changes
+        (none_by (entry a.refs r) (is_acked_at a r) live h ∙ ap (option_and_then settled) (sym (reference_at-on units by xs a r)))

@@ -246,7 +246,8 @@ pub(crate) fn add_anchored<C: Content>(
     ensures sound { OnOk result (IsSoundOn C.units blocks.now.leaves refs.new.anchors refs.new.unsettled.items) }
 {
     let _first = blocks.first();
-    refs.anchors.add(at.owner, at.offset)
+    let r = refs.anchors.add(at.owner, at.offset)?;
+    Ok(r)
 }
 
 /// Where a reference stands: None exactly where it is detached.

@@ -1,6 +1,6 @@
 //! Leaves in blocks, with the lists of what each pending stage touched.
 
-ghost use Rattle.std.specs.Prelude.{[], ◌≡◌, ◌≢◌, ◌+◌, ◌<◌, ◌^◌, ℕ, ◌≤◌, All, IfOk, IsSomeAnd, IsTrue, OnErr, OnOk, Some, false, length, map, true};
+ghost use Rattle.std.specs.Prelude.{[], ◌≡◌, ◌≢◌, ◌+◌, ◌<◌, ◌^◌, ℕ, ◌≤◌, All, IfOk, IfSome, IsSomeAnd, IsTrue, None, OnErr, OnOk, Some, false, length, map, option_map, true};
 ghost use Rattle.ft_arena.specs.Ids.{after, first};
 ghost use Rattle.ft_block.specs.Leaves.{
   IsFromFloor,
@@ -20,17 +20,19 @@ ghost use Rattle.ft_block.specs.Leaves.{
   without_leaf,
 };
 ghost use Rattle.ft_leaves.specs.BlockChanges.{MayChange, changed_leaf};
-ghost use Rattle.ft_leaves.specs.Edits.{IsFreeOf, closed_by, moved_by, next_removal_above, up_to_place, with_place};
+ghost use Rattle.ft_leaves.specs.Edits.{ChangesReference, IsFreeOf, closed_by, moved_by, next_removal_above, up_to_place, with_place};
 ghost use Rattle.ft_leaves.specs.Elements.{IsLowestChange, seen_in};
 ghost use Rattle.ft_leaves.specs.LeafChanges.{acked_pair};
 ghost use Rattle.ft_leaves.specs.LeafLists.{elements, leaf_length};
 ghost use Rattle.ft_leaves.specs.Places.{shifted_place};
-ghost use Rattle.ft_leaves.specs.References.{ChangesReferences, KeepsReferences};
+ghost use Rattle.ft_leaves.specs.References.{ChangesReferences, IsReferenceIn, KeepsReferences, place_of, reference_at, slid_reference};
+ghost use Rattle.ft_leaf_blocks.specs.LeafPlaces.{IsOnLeaf, place_on};
 ghost use Rattle.ft_leaf_blocks.specs.State.{list_of};
 
 use crate::acks::ack_in;
 use crate::anchored::{
-    change_anchored, insert_anchored, join_anchored, move_anchored, set_stamps_anchored, split_anchored, take_anchored,
+    add_anchored, change_anchored, drop_anchored, insert_anchored, join_anchored, move_anchored, place_anchored,
+    set_stamps_anchored, settle_anchored, slide_anchored, split_anchored, take_anchored,
 };
 use crate::leaf_refs::LeafRefs;
 use crate::stage_nodes::StageNodes;
@@ -39,13 +41,15 @@ use ft_arena::NodeId;
 use ft_base::{Element, OutOfMemory};
 use ft_block::{Blocks, LenView};
 use ft_leaves::{Content, LeafChange, TreeLeaf};
+use ft_refs::{Place, RefId};
 use std::alloc::Global;
 use std::marker::Model;
 
 /// Leaves in blocks, and for each pending stage the nodes of the leaves that it touched, so that its
 /// acknowledgement goes to these alone. A leaf that stands in the list of a stage may have nothing of it any
-/// more. A contract sees the leaves from first to last, each with its node, how deep a search goes, the floor,
-/// and whether they may still be used: after want of memory in a call that changes them they may not, for good.
+/// more. References to elements stand on their leaves. A contract sees the leaves from first to last, each with
+/// its node, how deep a search goes, the floor, the references, each under its number, and whether they may still
+/// be used: after want of memory in a call that changes them they may not, for good.
 #[derive(Drop)]
 pub struct LeafBlocks<C: Content> {
     blocks: Blocks<TreeLeaf<C>>,
@@ -351,6 +355,68 @@ impl<C: Content> LeafBlocks<C> {
                 Err(e)
             }
         }
+    }
+
+    /// Puts a new pending reference on an element, and answers its number.
+    ///
+    /// Answers `OutOfMemory` where there is no room for it, and then the blocks may be used no more.
+    pub fn add_ref(&mut self, at: &Place) -> Result<RefId, OutOfMemory>
+        requires usable { IsTrue self.old.usable }
+        requires on { IsOnLeaf C.units self.old.leaves at.now }
+        ensures fresh { IfOk result (λ r. reference_at self.old.refs r ≡ None) }
+        ensures added { IfOk result (λ r. reference_at self.new.refs r ≡ Some record { place = Some (place_on C.units C.by self.old.leaves at.now); acked = false }) }
+        ensures others { IfOk result (λ r. (x : ℕ) → x ≢ r → reference_at self.new.refs x ≡ reference_at self.old.refs x) }
+        ensures rest { OnOk result (self.new ≡ record self.old { refs = self.new.refs }) }
+        ensures err { OnErr result (self.new.usable ≡ false) }
+    {
+        match add_anchored(&self.blocks, &mut self.refs, at) {
+            Ok(r) => Ok(r),
+            Err(e) => {
+                self.usable = false;
+                Err(e)
+            }
+        }
+    }
+
+    /// Where a reference stands: None exactly where it is detached.
+    pub fn place_of(&self, r: RefId) -> Option<Place>
+        requires usable { IsTrue self.now.usable }
+        requires live { IsReferenceIn self.now.refs r }
+        ensures on { IfSome result (IsOnLeaf C.units self.now.leaves) }
+        ensures place { option_map (place_on C.units C.by self.now.leaves) result ≡ place_of self.now.refs r }
+    {
+        place_anchored(&self.blocks, &self.refs, r)
+    }
+
+    /// Makes a reference acknowledged, and slides it.
+    pub fn settle_ref(&mut self, r: RefId)
+        requires usable { IsTrue self.old.usable }
+        requires live { IsReferenceIn self.old.refs r }
+        ensures refs { let old = elements C.units C.by self.old.leaves in
+            ChangesReference r (λ x. Some (slid_reference old (record x { acked = true }))) self.old.refs self.new.refs }
+        ensures rest { self.new ≡ record self.old { refs = self.new.refs } }
+    {
+        settle_anchored(&self.blocks, &mut self.refs, r);
+    }
+
+    /// Ends a reference.
+    pub fn drop_ref(&mut self, r: RefId)
+        requires usable { IsTrue self.old.usable }
+        requires live { IsReferenceIn self.old.refs r }
+        ensures refs { ChangesReference r (λ x. None) self.old.refs self.new.refs }
+        ensures rest { self.new ≡ record self.old { refs = self.new.refs } }
+    {
+        drop_anchored(&self.blocks, &mut self.refs, r);
+    }
+
+    /// Lets acknowledged references slide, after sequenced removals. It goes to the leaves with references whose
+    /// stamps changed since the last time.
+    pub fn slide(&mut self)
+        requires { IsTrue self.old.usable }
+        ensures refs { ChangesReferences (slid_reference (elements C.units C.by self.old.leaves)) self.old.refs self.new.refs }
+        ensures rest { self.new ≡ record self.old { refs = self.new.refs } }
+    {
+        slide_anchored(&self.blocks, &mut self.refs);
     }
 
     /// The least pending stage above this one that marks an element as removed. It goes to the leaves that the
