@@ -23,3 +23,4 @@ mod AckedNodes
 mod LeastRemovals
 pub mod KeptRefs
 pub mod RefSteps
+pub mod ShownPlaces

@@ -101,6 +101,9 @@ impl<C: Content> LeafBlocks<C> {
         ensures once { (id : ℕ) → times_leaf self.now.leaves id ≤ 1 }
         ensures some { All (λ x. 1 ≤ length (C.units x.1.content)) self.now.leaves }
         ensures few { length_by (λ x. length (C.units x.content)) self.now.leaves < 2 ^ 64 }
+
+        // And each reference stands on an element.
+        ensures inside { (r j : ℕ) → place_of self.now.refs r ≡ Some j → j < length (elements C.units C.by self.now.leaves) }
     {
         self.blocks.first()
     }
