@@ -12,7 +12,7 @@ use Rattle.ft_leaves.specs.Elements.{seen_in}
 use Rattle.ft_leaves.specs.LeafLists.{elements, leaf_length}
 use Rattle.ft_leaves.specs.Places.{place_at}
 use Rattle.ft_leaves.proofs.Numbered.{place_from as place_from_number}
-use Rattle.ft_leaf_blocks.specs.LeafOffsets.{IsOnLeaf, offset_place}
+use Rattle.ft_leaf_blocks.specs.LeafPlaces.{IsOnLeaf, place_on}
 use Rattle.ft_leaf_blocks.specs.Walks.{IsInLeaf, held_place}
 use Rattle.ft_leaf_blocks.proofs.FoundPlaces.{found_at, found_inside, len_elements}
 
@@ -91,8 +91,8 @@ module _ {C U : Type 0} (units : C → List U) (by : C → Option Stamp) (view :
   -- the element that was found is the seen one with p seen ones before it
   pub record SeenOn (p : ℕ) (found : Found) (id : ℕ) : Type 0 where
     pub some : 1 ≤ found.offset
-    pub on_leaf : IsOnLeaf units xs (record { leaf = id; offset = found.offset - 1 })
-    pub place : place_at (seen_in view) p (elements units by xs) ≡ Some (offset_place units by xs (record { leaf = id; offset = found.offset - 1 }))
+    pub on_leaf : IsOnLeaf units xs (record { owner = id; offset = found.offset - 1 })
+    pub place : place_at (seen_in view) p (elements units by xs) ≡ Some (place_on units by xs (record { owner = id; offset = found.offset - 1 }))
 
   pub seen_on : (p : ℕ) (found : Found) (id : ℕ) → ((i : ℕ) → times_leaf xs i ≤ 1) → place_by (leaf_length units view) xs (suc p) ≡ Some found
       → found.leaf ≡ Some id → SeenOn p found id
@@ -105,7 +105,7 @@ module _ {C U : Type 0} (units : C → List U) (by : C → Option Stamp) (view :
       record {
         some = some;
         on_leaf = some_and (value_at xs id) (λ v h. omega (arith, h.0, h.1)) held;
-        place = at-place (seen_in view) 0 p (offset_place units by xs (record { leaf = id; offset = found.offset - 1 })) (elements units by xs)
+        place = at-place (seen_in view) 0 p (place_on units by xs (record { owner = id; offset = found.offset - 1 })) (elements units by xs)
             (omega (arith, found_inside units by view xs (suc p) found e)) (omega (arith, there, some));
       }
 

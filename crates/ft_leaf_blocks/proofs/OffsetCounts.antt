@@ -14,36 +14,36 @@ use Rattle.ft_leaves.specs.LeafLists.{elements, leaf_elements}
 use Rattle.ft_leaves.specs.Places.{place_at, seen_before}
 use Rattle.ft_leaves.proofs.LeafRuns.{elements-append, length-leaf}
 use Rattle.ft_leaves.proofs.Numbered.{taken_past, taken_seen, taken_unseen}
-use Rattle.ft_leaf_blocks.specs.declared.offsets.LeafOffset.{LeafOffset}
-use Rattle.ft_leaf_blocks.specs.LeafOffsets.{IsOnLeaf, offset_place}
+use Rattle.ft_refs.specs.declared.numbers.Place.{Place}
+use Rattle.ft_leaf_blocks.specs.LeafPlaces.{IsOnLeaf, place_on}
 use Rattle.ft_leaf_blocks.specs.Walks.{from_place}
 use Rattle.ft_leaf_blocks.proofs.FoundOffsets.{at-all, at-none, len-most}
 use Rattle.ft_leaf_blocks.proofs.Walks.{live_value, stands}
 
-module _ {C U : Type 0} (units : C → List U) (by : C → Option Stamp) (xs : List (ℕ × TreeLeaf C)) (at : LeafOffset) where
+module _ {C U : Type 0} (units : C → List U) (by : C → Option Stamp) (xs : List (ℕ × TreeLeaf C)) (at : Place) where
   -- the leaf of an element stands there
-  pub live_leaf : IsOnLeaf units xs at → IsLeafIn xs at.leaf
-  live_leaf on = value_at_in xs at.leaf (λ v. at.offset < length (units v.content)) on
+  pub live_leaf : IsOnLeaf units xs at → IsLeafIn xs at.owner
+  live_leaf on = value_at_in xs at.owner (λ v. at.offset < length (units v.content)) on
 
-  module _ (v : TreeLeaf C) (once : (i : ℕ) → times_leaf xs i ≤ 1) (is : value_at xs at.leaf ≡ Some v) (on : IsOnLeaf units xs at) where
+  module _ (v : TreeLeaf C) (once : (i : ℕ) → times_leaf xs i ≤ 1) (is : value_at xs at.owner ≡ Some v) (on : IsOnLeaf units xs at) where
     abbrev left : List (TreeElement U)
-    left = elements units by (left_of xs at.leaf)
+    left = elements units by (left_of xs at.owner)
 
     abbrev rest : List (TreeElement U)
-    rest = elements units by (from_place xs (after (ids xs) at.leaf))
+    rest = elements units by (from_place xs (after (ids xs) at.owner))
 
     abbrev of_leaf : U → TreeElement U
     of_leaf u = element_with v.stamps (by v.content) v.overlay u
 
     whole : elements units by xs ≡ left ++ (leaf_elements units by v ++ rest)
     whole =
-        ap (elements units by) (stands xs at.leaf v once is).whole
-        ∙ elements-append units by (left_of xs at.leaf) ((at.leaf, v) ∷ from_place xs (after (ids xs) at.leaf))
+        ap (elements units by) (stands xs at.owner v once is).whole
+        ∙ elements-append units by (left_of xs at.owner) ((at.owner, v) ∷ from_place xs (after (ids xs) at.owner))
 
     less : at.offset < length (units v.content)
     less = subst (λ o. IsSomeAnd o (λ w. at.offset < length (units w.content))) is on
 
-    offset_below : offset_place units by xs at < length (elements units by xs)
+    offset_below : place_on units by xs at < length (elements units by xs)
     offset_below =
         omega (
           arith,
@@ -54,7 +54,7 @@ module _ {C U : Type 0} (units : C → List U) (by : C → Option Stamp) (xs : L
           length-leaf units by v,
         )
 
-    before_by : (seen : TreeElement U → Bool) → seen_before seen (elements units by xs) (offset_place units by xs at)
+    before_by : (seen : TreeElement U → Bool) → seen_before seen (elements units by xs) (place_on units by xs at)
         ≡ len seen left + len seen (take at.offset (leaf_elements units by v ++ rest))
     before_by seen =
         ap (λ es. len seen (take (length left + at.offset) es)) whole
@@ -62,27 +62,27 @@ module _ {C U : Type 0} (units : C → List U) (by : C → Option Stamp) (xs : L
 
     -- the seen ones before it are those left of its leaf, and those before it there
     pub before_seen : (view : LenView) → sees_in view v.stamps ≡ true
-        → len (seen_in view) left + at.offset ≡ seen_before (seen_in view) (elements units by xs) (offset_place units by xs at)
+        → len (seen_in view) left + at.offset ≡ seen_before (seen_in view) (elements units by xs) (place_on units by xs at)
     before_seen view h =
         omega (arith, before_by (seen_in view), taken_seen (seen_in view) of_leaf (λ u. h) (units v.content) at.offset rest (omega (arith, less)))
 
     -- if its leaf is seen
     pub before_unseen : (view : LenView) → sees_in view v.stamps ≡ false
-        → len (seen_in view) left ≡ seen_before (seen_in view) (elements units by xs) (offset_place units by xs at)
+        → len (seen_in view) left ≡ seen_before (seen_in view) (elements units by xs) (place_on units by xs at)
     before_unseen view h =
         omega (arith, before_by (seen_in view), taken_unseen (seen_in view) of_leaf (λ u. h) (units v.content) at.offset rest (omega (arith, less)))
 
   -- no more stand before it than there are
-  pub offset_within : ((i : ℕ) → times_leaf xs i ≤ 1) → IsOnLeaf units xs at → offset_place units by xs at < length (elements units by xs)
-  offset_within once on = let v = live_value xs at.leaf (live_leaf on) in offset_below v.0 once v.1 on
+  pub offset_within : ((i : ℕ) → times_leaf xs i ≤ 1) → IsOnLeaf units xs at → place_on units by xs at < length (elements units by xs)
+  offset_within once on = let v = live_value xs at.owner (live_leaf on) in offset_below v.0 once v.1 on
 
   -- and no more seen ones
   pub seen_within : (view : LenView) → ((i : ℕ) → times_leaf xs i ≤ 1) → IsOnLeaf units xs at
-      → len (seen_in {U = U} view) (elements units by (left_of xs at.leaf)) + at.offset < length (elements units by xs)
-  seen_within view once on = omega (arith, offset_within once on, len-most (seen_in {U = U} view) (elements units by (left_of xs at.leaf)))
+      → len (seen_in {U = U} view) (elements units by (left_of xs at.owner)) + at.offset < length (elements units by xs)
+  seen_within view once on = omega (arith, offset_within once on, len-most (seen_in {U = U} view) (elements units by (left_of xs at.owner)))
 
 -- the element at place i is the one with i of all elements before it
-pub placed_at : {U : Type 0} (place : LeafOffset → ℕ) (o : Option LeafOffset) (es : List (TreeElement U)) (i : ℕ)
+pub placed_at : {U : Type 0} (place : Place → ℕ) (o : Option Place) (es : List (TreeElement U)) (i : ℕ)
     → option_map place o ≡ place_at (seen_in All) i es → MatchOption o (length es ≤ i) (λ at. place at ≡ i)
 placed_at place None es i e = elim (cases_lt i (length es)) [
   | inl less ↦ let no : None ≡ Some (0 + i) = e ∙ at-all (seen_in All) (λ x. refl) es 0 i less in let never : ⊥ = (cc) in absurd never

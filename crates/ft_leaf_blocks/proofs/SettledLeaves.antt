@@ -17,7 +17,7 @@ use Rattle.ft_leaves.specs.Settling.{allows, first_from, settled_from, stands}
 use Rattle.ft_leaves.proofs.LeafRuns.{elements-append, elements-one, length-leaf}
 use Rattle.ft_leaves.proofs.Settling.{first-here, first-past, settled-beside, settled-here, settled_place-from}
 use Rattle.ft_leaf_blocks.specs.LastStanding.{last_from}
-use Rattle.ft_leaf_blocks.specs.LeafOffsets.{IsOnLeaf, leaf_end, leaf_start}
+use Rattle.ft_leaf_blocks.specs.LeafPlaces.{IsOnLeaf, leaf_end, leaf_start}
 use Rattle.ft_leaf_blocks.specs.Walks.{before_place, from_place, node_behind}
 use Rattle.ft_leaf_blocks.proofs.Walks.{before-after, stands as stands_once, up_to-before, up_to-stands}
 
@@ -217,7 +217,7 @@ module _ {C U : Type 0} (units : C → List U) (by : C → Option Stamp) (test :
         ∙ settled-here ok of_leaf (λ u. h) (units v.content) (start + i) start (last_from ok 0 (elements units by (left_of xs id))) (rest next)
         (omega arith) (omega (arith, less i on))
 
-    settled_off : (i : ℕ) → IsSomeAnd (value_at xs id) (λ w. i < length (units w.content)) → allows test v.stamps ≡ false
+    pub settled_off : (i : ℕ) → IsSomeAnd (value_at xs id) (λ w. i < length (units w.content)) → allows test v.stamps ≡ false
         → settled_place ok (elements units by xs) (leaf_start units by xs id + i)
         ≡ option_or (first_behind next) (last_from ok 0 (elements units by (left_of xs id)))
     settled_off i on h =
@@ -243,7 +243,7 @@ module _ {C U : Type 0} (units : C → List U) (by : C → Option Stamp) (test :
 
 -- a leaf that stands there has a first element
 pub first_of_leaf : {C U : Type 0} (units : C → List U) (xs : List (ℕ × TreeLeaf C)) (id : ℕ) → All (λ x. 1 ≤ length (units x.1.content)) xs → IsLeafIn xs id
-    → IsOnLeaf units xs (record { leaf = id; offset = 0 })
+    → IsOnLeaf units xs (record { owner = id; offset = 0 })
 first_of_leaf {C} units [] id all live = absurd (omega arith)
 first_of_leaf {C} units (x ∷ xs) id all live = elim (cases_eq x.0 id) [
   | inl e ↦

@@ -1,7 +1,11 @@
 pub mod Walks
 pub mod RangeEdits
+pub mod Anchors
+pub mod AnchorsInside
+pub mod Slides
+pub mod Unsettled
 pub mod Touched
 pub mod State
 pub mod Inside
-pub mod LeafOffsets
+pub mod LeafPlaces
 pub mod LastStanding

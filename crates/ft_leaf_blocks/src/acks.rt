@@ -7,9 +7,13 @@ ghost use Rattle.ft_leaves.specs.Edits.{is_marked_by, sequenced_leaf, unmarked_l
 ghost use Rattle.ft_leaves.specs.Elements.{IsLowestChange};
 ghost use Rattle.ft_leaves.specs.LeafChanges.{acked_leaf, acked_pair};
 ghost use Rattle.ft_leaves.specs.LeafLists.{elements};
+ghost use Rattle.ft_leaves.specs.References.{KeepsReferences};
+ghost use Rattle.ft_leaf_blocks.specs.Anchors.{references_on};
 ghost use Rattle.ft_leaf_blocks.specs.Touched.{HaveAllOf, Tracks};
+ghost use Rattle.ft_leaf_blocks.specs.Unsettled.{IsSoundOn};
 
 use crate::leaf_blocks::LeafBlocks;
+use crate::leaf_refs::LeafRefs;
 use crate::stage_nodes::StageNodes;
 use crate::touched::{is_of_stage, take_stage};
 use ft_arena::NodeId;
@@ -31,6 +35,7 @@ pub fn unmark_at<C: Content>(
     requires usable { IsTrue blocks.old.usable }
     requires live { IsLeafIn blocks.old.leaves id }
     ensures leaves { OnOk result (blocks.new.leaves ≡ change_leaf (unmarked_leaf stage) blocks.old.leaves id) }
+    ensures refs { OnOk result (KeepsReferences blocks.old.refs blocks.new.refs) }
     ensures usable { OnOk result (blocks.new.usable ≡ true) }
     ensures floor { blocks.new.floor ≡ blocks.old.floor }
 {
@@ -52,6 +57,7 @@ pub fn unmark_all_at<C: Content>(
     requires usable { IsTrue blocks.old.usable }
     requires live { IsLeafIn blocks.old.leaves id }
     ensures leaves { OnOk result (blocks.new.leaves ≡ change_leaf sequenced_leaf blocks.old.leaves id) }
+    ensures refs { OnOk result (KeepsReferences blocks.old.refs blocks.new.refs) }
     ensures usable { OnOk result (blocks.new.usable ≡ true) }
     ensures floor { blocks.new.floor ≡ blocks.old.floor }
 {
@@ -127,12 +133,13 @@ fn ack_nodes<C: Content>(
 }
 
 /// Acknowledges a stage in all leaves under number `seq` of connection `conn`: in those that it touched. No
-/// lower stage has changes.
+/// lower stage has changes. References stay on their elements; acknowledged ones may have to slide then.
 ///
 /// Answers `OutOfMemory` where there is no room for it.
 pub(crate) fn ack_in<C: Content>(
     blocks: &mut Blocks<TreeLeaf<C>>,
     touched: &mut Vec<StageNodes>,
+    refs: &mut LeafRefs,
     alloc: Global,
     stage: u64,
     seq: u64,
@@ -140,12 +147,18 @@ pub(crate) fn ack_in<C: Content>(
 ) -> Result<(), OutOfMemory>
     requires usable { IsTrue blocks.old.usable }
     requires tracks { Tracks blocks.old.leaves touched.old.items }
+    requires sound { IsSoundOn C.units blocks.old.leaves refs.old.anchors refs.old.unsettled.items }
     requires lowest { All (λ e. IsLowestChange stage e.overlay) (elements C.units C.by blocks.old.leaves) }
     ensures leaves { OnOk result (blocks.new.leaves ≡ map (acked_pair C.stamped stage seq conn) blocks.old.leaves) }
     ensures tracks { OnOk result (Tracks blocks.new.leaves touched.new.items) }
+    ensures refs { OnOk result (KeepsReferences (references_on C.units C.by blocks.old.leaves refs.old.anchors) (references_on C.units C.by blocks.new.leaves refs.new.anchors)) }
+    ensures sound { OnOk result (IsSoundOn C.units blocks.new.leaves refs.new.anchors refs.new.unsettled.items) }
     ensures usable { OnOk result (blocks.new.usable ≡ true) }
     ensures floor { blocks.new.floor ≡ blocks.old.floor }
 {
-    let nodes = take_stage(touched, stage);
-    ack_nodes(blocks, alloc, nodes.as_slice(), stage, seq, conn)
+    let _first = blocks.first();
+    let taken = take_stage(touched, stage);
+    let nodes = taken.as_slice();
+    refs.unsettle_all(nodes)?;
+    ack_nodes(blocks, alloc, nodes, stage, seq, conn)
 }

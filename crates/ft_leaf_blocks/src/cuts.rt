@@ -5,11 +5,12 @@ ghost use Rattle.std.specs.List.{prefix_len};
 ghost use Rattle.ft_base.specs.Scan.{place, put};
 ghost use Rattle.ft_block.specs.declared.leaves.LenView.{LenView};
 ghost use Rattle.ft_block.specs.Leaves.{IsPlaceIn, ids};
-ghost use Rattle.ft_leaves.specs.Edits.{up_to_place};
+ghost use Rattle.ft_leaves.specs.Edits.{up_to_place, with_place};
 ghost use Rattle.ft_leaves.specs.Elements.{is_pending, new_elements, seen_in};
 ghost use Rattle.ft_leaves.specs.LeafLists.{Extends, elements, pending_leaves};
-ghost use Rattle.ft_leaves.specs.Places.{put_place};
+ghost use Rattle.ft_leaves.specs.Places.{put_place, shifted_place};
 ghost use Rattle.ft_leaves.specs.Plain.{passes};
+ghost use Rattle.ft_leaves.specs.References.{ChangesReferences, KeepsReferences};
 ghost use Rattle.ft_leaves.specs.LeafChanges.{fresh_leaf};
 ghost use Rattle.ft_props.specs.Properties.{apply};
 ghost use Rattle.ft_leaf_blocks.specs.Walks.{CutsBehind, IsInLeaf, PutsBehind, from_place, held_place, node_behind};
@@ -24,7 +25,7 @@ use std::alloc::Global;
 use std::sync::ledger::Ledger;
 
 /// Cuts the leaf that was found behind the place, unless it ends there. Answers the leaf that ends there
-/// then: none for the head.
+/// then: none for the head. References keep their elements.
 ///
 /// Answers `OutOfMemory` where there is no room for the rear.
 pub fn cut_at<C: Content>(
@@ -35,6 +36,7 @@ pub fn cut_at<C: Content>(
     requires held { IsInLeaf C.units blocks.old.leaves found.now.leaf found.now.offset }
     ensures cut { let n = held_place C.units C.by blocks.old.leaves found.now.leaf found.now.offset in
         IfOk result (λ at. CutsBehind C.units C.by n blocks.old.leaves blocks.new.leaves at) }
+    ensures refs { OnOk result (KeepsReferences blocks.old.refs blocks.new.refs) }
     ensures usable { OnOk result (blocks.new.usable ≡ true) }
     ensures floor { blocks.new.floor ≡ blocks.old.floor }
 {
@@ -134,6 +136,7 @@ fn put_past<C: Content + Drop, G: Ledger>(
         let run = prefix_len (passes past_pending) (elements C.units C.by (from_place leaves (node_behind leaves at))) in
         IfOk result (λ i. i ≡ length (elements C.units C.by (up_to_place leaves at)) + run) }
     ensures puts { IfOk result (λ i. PutsBehind C.units C.by i leaf blocks.old.leaves blocks.new.leaves) }
+    ensures refs { IfOk result (λ i. ChangesReferences (with_place (shifted_place i (length (C.units leaf.content)))) blocks.old.refs blocks.new.refs) }
     ensures usable { OnOk result (blocks.new.usable ≡ true) }
     ensures floor { blocks.new.floor ≡ blocks.old.floor }
     ensures reads { steps.new ≤ steps.old + pending_leaves (from_place blocks.old.leaves (node_behind blocks.old.leaves at)) + 1 }
@@ -195,6 +198,7 @@ pub fn insert_at<C: Content + Drop, G: Ledger>(
         → IfOk result (λ i. i ≡ put_place (seen_in view) (passes past_pending) p (elements C.units C.by blocks.old.leaves)) }
     ensures count { OnOk result (length (elements C.units C.by blocks.new.leaves) ≡ length (elements C.units C.by blocks.old.leaves) + length (C.units content)) }
     ensures nodes { OnOk result (Extends (ids blocks.old.leaves) (ids blocks.new.leaves)) }
+    ensures refs { IfOk result (λ i. ChangesReferences (with_place (shifted_place i (length (C.units content)))) blocks.old.refs blocks.new.refs) }
     ensures usable { OnOk result (blocks.new.usable ≡ true) }
     ensures floor { blocks.new.floor ≡ blocks.old.floor }
     ensures reads { steps.new ≤ steps.old + pending_leaves blocks.old.leaves + 1 }

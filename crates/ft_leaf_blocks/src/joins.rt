@@ -4,6 +4,7 @@ ghost use Rattle.std.specs.Prelude.{◌≡◌, ◌↔◌, [], if◌then◌else�
 ghost use Rattle.ft_base.specs.declared.stamps.Stamp.TheVariants.{Acked};
 ghost use Rattle.ft_block.specs.Leaves.{IsLeafIn, join_leaf};
 ghost use Rattle.ft_leaves.specs.Edits.{MayJoinNext, joined_leaf, sweep_joined, sweep_without};
+ghost use Rattle.ft_leaves.specs.References.{KeepsReferences};
 
 use crate::leaf_blocks::LeafBlocks;
 use ft_arena::NodeId;
@@ -35,6 +36,7 @@ pub fn join_at<C: Content + Drop>(
     requires live { IsLeafIn blocks.old.leaves id }
     ensures answer { IfOk result (λ joined. IsTrue joined ↔ MayJoinNext C.joins floor blocks.old.leaves id) }
     ensures leaves { IfOk result (λ joined. blocks.new.leaves ≡ (if joined then join_leaf (joined_leaf C.joined) blocks.old.leaves id else blocks.old.leaves)) }
+    ensures refs { OnOk result (KeepsReferences blocks.old.refs blocks.new.refs) }
     ensures usable { OnOk result (blocks.new.usable ≡ true) }
     ensures floor { blocks.new.floor ≡ blocks.old.floor }
 {

@@ -1,6 +1,6 @@
 //! Leaves in blocks, with the lists of what each pending stage touched.
 
-ghost use Rattle.std.specs.Prelude.{[], ◌≡◌, ◌≢◌, ◌+◌, ◌<◌, ◌^◌, ℕ, ◌≤◌, All, IfOk, IsSomeAnd, IsTrue, OnErr, OnOk, Some, false, length, map, true};
+ghost use Rattle.std.specs.Prelude.{[], ◌≡◌, ◌≢◌, ◌+◌, ◌<◌, ◌^◌, ℕ, ◌≤◌, All, IfOk, IfSome, IsSomeAnd, IsTrue, None, OnErr, OnOk, Some, false, length, map, option_map, true};
 ghost use Rattle.ft_arena.specs.Ids.{after, first};
 ghost use Rattle.ft_block.specs.Leaves.{
   IsFromFloor,
@@ -20,31 +20,41 @@ ghost use Rattle.ft_block.specs.Leaves.{
   without_leaf,
 };
 ghost use Rattle.ft_leaves.specs.BlockChanges.{MayChange, changed_leaf};
-ghost use Rattle.ft_leaves.specs.Edits.{next_removal_above};
+ghost use Rattle.ft_leaves.specs.Edits.{ChangesReference, IsFreeOf, closed_by, moved_by, next_removal_above, up_to_place, with_place};
 ghost use Rattle.ft_leaves.specs.Elements.{IsLowestChange, seen_in};
 ghost use Rattle.ft_leaves.specs.LeafChanges.{acked_pair};
 ghost use Rattle.ft_leaves.specs.LeafLists.{elements, leaf_length};
+ghost use Rattle.ft_leaves.specs.Places.{shifted_place};
+ghost use Rattle.ft_leaves.specs.References.{ChangesReferences, IsReferenceIn, KeepsReferences, place_of, reference_at, slid_reference};
+ghost use Rattle.ft_leaf_blocks.specs.LeafPlaces.{IsOnLeaf, place_on};
 ghost use Rattle.ft_leaf_blocks.specs.State.{list_of};
 
 use crate::acks::ack_in;
+use crate::anchored::{
+    add_anchored, change_anchored, drop_anchored, insert_anchored, join_anchored, move_anchored, place_anchored,
+    set_stamps_anchored, settle_anchored, slide_anchored, split_anchored, take_anchored,
+};
+use crate::leaf_refs::LeafRefs;
 use crate::stage_nodes::StageNodes;
 use crate::stamp_lists::next_removal_in;
-use crate::tracked::{change_in, insert_in, join_in, move_in, set_stamps_in, split_in, take_in};
 use ft_arena::NodeId;
 use ft_base::{Element, OutOfMemory};
 use ft_block::{Blocks, LenView};
 use ft_leaves::{Content, LeafChange, TreeLeaf};
+use ft_refs::{Place, RefId};
 use std::alloc::Global;
 use std::marker::Model;
 
 /// Leaves in blocks, and for each pending stage the nodes of the leaves that it touched, so that its
 /// acknowledgement goes to these alone. A leaf that stands in the list of a stage may have nothing of it any
-/// more. A contract sees the leaves from first to last, each with its node, how deep a search goes, the floor,
-/// and whether they may still be used: after want of memory in a call that changes them they may not, for good.
+/// more. References to elements stand on their leaves. A contract sees the leaves from first to last, each with
+/// its node, how deep a search goes, the floor, the references, each under its number, and whether they may still
+/// be used: after want of memory in a call that changes them they may not, for good.
 #[derive(Drop)]
 pub struct LeafBlocks<C: Content> {
     blocks: Blocks<TreeLeaf<C>>,
     touched: Vec<StageNodes>,
+    refs: LeafRefs,
     usable: bool,
 }
 
@@ -55,19 +65,20 @@ impl<C: Content> Model for LeafBlocks<C> {
 
     ghost use Rattle.ft_leaf_blocks.specs.Inside.{view_of, IsSoundIfUsable};
 
-    ghost view = { view_of };
+    ghost view = { view_of C.units C.by };
 
-    ghost invariant = { IsSoundIfUsable };
+    ghost invariant = { IsSoundIfUsable C.units };
 }
 
 impl<C: Content> LeafBlocks<C> {
-    /// No leaves.
+    /// No leaves, and no references.
     pub fn new(alloc: Global) -> LeafBlocks<C>
-        ensures { result ≡ record { leaves = []; depth = 0; floor = 0; usable = true } }
+        ensures { result ≡ record { leaves = []; depth = 0; floor = 0; refs = []; usable = true } }
     {
         LeafBlocks {
             blocks: Blocks::new(alloc),
             touched: Vec::new(alloc),
+            refs: LeafRefs::new(alloc),
             usable: true,
         }
     }
@@ -90,6 +101,9 @@ impl<C: Content> LeafBlocks<C> {
         ensures once { (id : ℕ) → times_leaf self.now.leaves id ≤ 1 }
         ensures some { All (λ x. 1 ≤ length (C.units x.1.content)) self.now.leaves }
         ensures few { length_by (λ x. length (C.units x.content)) self.now.leaves < 2 ^ 64 }
+
+        // And each reference stands on an element.
+        ensures inside { (r j : ℕ) → place_of self.now.refs r ≡ Some j → j < length (elements C.units C.by self.now.leaves) }
     {
         self.blocks.first()
     }
@@ -140,11 +154,19 @@ impl<C: Content> LeafBlocks<C> {
         requires settled { leaf.overlay.pending ≡ [] }
         ensures ok { IfOk result (λ id. self.new.leaves ≡ put_leaf self.old.leaves at (id, leaf)) }
         ensures fresh { IfOk result (λ id. times_leaf self.old.leaves id ≡ 0) }
+        ensures refs { let i = length (elements C.units C.by (up_to_place self.old.leaves at)) in
+            OnOk result (ChangesReferences (with_place (shifted_place i (length (C.units leaf.content)))) self.old.refs self.new.refs) }
         ensures usable { OnOk result (self.new.usable ≡ true) }
         ensures floor { self.new.floor ≡ self.old.floor }
         ensures err { OnErr result (self.new.usable ≡ false) }
     {
-        match insert_in(&mut self.blocks, &mut self.touched, at, leaf) {
+        match insert_anchored(
+            &mut self.blocks,
+            &mut self.touched,
+            &mut self.refs,
+            at,
+            leaf,
+        ) {
             Ok(id) => Ok(id),
             Err(e) => {
                 self.usable = false;
@@ -165,11 +187,18 @@ impl<C: Content> LeafBlocks<C> {
         ensures ok { IfOk result (λ id. self.new.leaves
             ≡ split_leaf (λ v. record v { content = C.front v.content at }) (λ v. record v { content = C.rear v.content at }) self.old.leaves leaf id) }
         ensures fresh { IfOk result (λ id. times_leaf self.old.leaves id ≡ 0) }
+        ensures refs { OnOk result (KeepsReferences self.old.refs self.new.refs) }
         ensures usable { OnOk result (self.new.usable ≡ true) }
         ensures floor { self.new.floor ≡ self.old.floor }
         ensures err { OnErr result (self.new.usable ≡ false) }
     {
-        match split_in(&mut self.blocks, &mut self.touched, leaf, at) {
+        match split_anchored(
+            &mut self.blocks,
+            &mut self.touched,
+            &mut self.refs,
+            leaf,
+            at,
+        ) {
             Ok(rear) => Ok(rear),
             Err(e) => {
                 self.usable = false;
@@ -185,11 +214,18 @@ impl<C: Content> LeafBlocks<C> {
         requires usable { IsTrue self.old.usable }
         requires live { IsLeafIn self.old.leaves id }
         ensures ok { OnOk result (self.new.leaves ≡ change_leaf (λ v. record v { stamps = e }) self.old.leaves id) }
+        ensures refs { OnOk result (KeepsReferences self.old.refs self.new.refs) }
         ensures usable { OnOk result (self.new.usable ≡ true) }
         ensures floor { self.new.floor ≡ self.old.floor }
         ensures err { OnErr result (self.new.usable ≡ false) }
     {
-        match set_stamps_in(&mut self.blocks, &mut self.touched, id, e) {
+        match set_stamps_anchored(
+            &mut self.blocks,
+            &mut self.touched,
+            &mut self.refs,
+            id,
+            e,
+        ) {
             Ok(()) => Ok(()),
             Err(e) => {
                 self.usable = false;
@@ -205,11 +241,12 @@ impl<C: Content> LeafBlocks<C> {
         requires usable { IsTrue self.old.usable }
         requires can { IsSomeAnd (value_at self.old.leaves id) (λ v. MayChange c.now v.overlay) }
         ensures ok { OnOk result (self.new.leaves ≡ change_leaf (λ v. changed_leaf C.stamped v c.now) self.old.leaves id) }
+        ensures refs { OnOk result (KeepsReferences self.old.refs self.new.refs) }
         ensures usable { OnOk result (self.new.usable ≡ true) }
         ensures floor { self.new.floor ≡ self.old.floor }
         ensures err { OnErr result (self.new.usable ≡ false) }
     {
-        match change_in(&mut self.blocks, &mut self.touched, id, c) {
+        match change_anchored(&mut self.blocks, &mut self.touched, &self.refs, id, c) {
             Ok(()) => Ok(()),
             Err(e) => {
                 self.usable = false;
@@ -218,7 +255,7 @@ impl<C: Content> LeafBlocks<C> {
         }
     }
 
-    /// Takes a leaf out, and answers its value. No other leaf changes. The lists of all stages are looked
+    /// Takes a leaf out on which no reference is, and answers its value. No other leaf changes. The lists of all stages are looked
     /// through.
     ///
     /// Answers `OutOfMemory` where there is no room for what blocks keep, and then the blocks may be used
@@ -226,13 +263,15 @@ impl<C: Content> LeafBlocks<C> {
     pub fn take(&mut self, id: NodeId) -> Result<TreeLeaf<C>, OutOfMemory>
         requires usable { IsTrue self.old.usable }
         requires live { IsLeafIn self.old.leaves id }
+        requires free { IsFreeOf C.units C.by self.old.leaves id self.old.refs }
         ensures value { IfOk result (λ v. value_at self.old.leaves id ≡ Some v) }
         ensures ok { OnOk result (self.new.leaves ≡ without_leaf self.old.leaves id) }
+        ensures refs { OnOk result (ChangesReferences (with_place (closed_by C.units C.by self.old.leaves id)) self.old.refs self.new.refs) }
         ensures usable { OnOk result (self.new.usable ≡ true) }
         ensures floor { self.new.floor ≡ self.old.floor }
         ensures err { OnErr result (self.new.usable ≡ false) }
     {
-        match take_in(&mut self.blocks, &mut self.touched, id) {
+        match take_anchored(&mut self.blocks, &mut self.touched, &self.refs, id) {
             Ok(leaf) => Ok(leaf),
             Err(e) => {
                 self.usable = false;
@@ -252,11 +291,12 @@ impl<C: Content> LeafBlocks<C> {
         requires can { IsSomeAnd (value_at self.old.leaves id) (λ v.
             IsSomeAnd (value_after self.old.leaves id) (λ w. IsTrue (C.joins v.content w.content) × (v.stamps ≡ w.stamps))) }
         ensures ok { OnOk result (self.new.leaves ≡ join_leaf (λ v w. record v { content = C.joined v.content w.content }) self.old.leaves id) }
+        ensures refs { OnOk result (KeepsReferences self.old.refs self.new.refs) }
         ensures usable { OnOk result (self.new.usable ≡ true) }
         ensures floor { self.new.floor ≡ self.old.floor }
         ensures err { OnErr result (self.new.usable ≡ false) }
     {
-        match join_in(&mut self.blocks, &mut self.touched, id) {
+        match join_anchored(&mut self.blocks, &mut self.touched, &mut self.refs, id) {
             Ok(()) => Ok(()),
             Err(e) => {
                 self.usable = false;
@@ -276,11 +316,12 @@ impl<C: Content> LeafBlocks<C> {
         requires place { IsPlaceIn self.old.leaves at }
         requires differ { at ≢ Some id }
         ensures ok { OnOk result (self.new.leaves ≡ move_leaf self.old.leaves id at (value_at self.old.leaves id)) }
+        ensures refs { OnOk result (ChangesReferences (with_place (moved_by C.units C.by self.old.leaves id at)) self.old.refs self.new.refs) }
         ensures usable { OnOk result (self.new.usable ≡ true) }
         ensures floor { self.new.floor ≡ self.old.floor }
         ensures err { OnErr result (self.new.usable ≡ false) }
     {
-        match move_in(&mut self.blocks, &self.touched, id, at) {
+        match move_anchored(&mut self.blocks, &self.touched, &self.refs, id, at) {
             Ok(()) => Ok(()),
             Err(e) => {
                 self.usable = false;
@@ -297,17 +338,88 @@ impl<C: Content> LeafBlocks<C> {
         requires usable { IsTrue self.old.usable }
         requires lowest { All (λ e. IsLowestChange stage e.overlay) (elements C.units C.by self.old.leaves) }
         ensures leaves { OnOk result (self.new.leaves ≡ map (acked_pair C.stamped stage seq conn) self.old.leaves) }
+        ensures refs { OnOk result (KeepsReferences self.old.refs self.new.refs) }
         ensures usable { OnOk result (self.new.usable ≡ true) }
         ensures floor { self.new.floor ≡ self.old.floor }
         ensures err { OnErr result (self.new.usable ≡ false) }
     {
-        match ack_in(&mut self.blocks, &mut self.touched, alloc, stage, seq, conn) {
+        match ack_in(
+            &mut self.blocks,
+            &mut self.touched,
+            &mut self.refs,
+            alloc,
+            stage,
+            seq,
+            conn,
+        ) {
             Ok(()) => Ok(()),
             Err(e) => {
                 self.usable = false;
                 Err(e)
             }
         }
+    }
+
+    /// Puts a new pending reference on an element, and answers its number.
+    ///
+    /// Answers `OutOfMemory` where there is no room for it, and then the blocks may be used no more.
+    pub fn add_ref(&mut self, at: &Place) -> Result<RefId, OutOfMemory>
+        requires usable { IsTrue self.old.usable }
+        requires on { IsOnLeaf C.units self.old.leaves at.now }
+        ensures fresh { IfOk result (λ r. reference_at self.old.refs r ≡ None) }
+        ensures added { IfOk result (λ r. reference_at self.new.refs r ≡ Some record { place = Some (place_on C.units C.by self.old.leaves at.now); acked = false }) }
+        ensures others { IfOk result (λ r. (x : ℕ) → x ≢ r → reference_at self.new.refs x ≡ reference_at self.old.refs x) }
+        ensures rest { OnOk result (self.new ≡ record self.old { refs = self.new.refs }) }
+        ensures err { OnErr result (self.new.usable ≡ false) }
+    {
+        match add_anchored(&self.blocks, &mut self.refs, at) {
+            Ok(r) => Ok(r),
+            Err(e) => {
+                self.usable = false;
+                Err(e)
+            }
+        }
+    }
+
+    /// Where a reference stands: None exactly where it is detached.
+    pub fn place_of(&self, r: RefId) -> Option<Place>
+        requires usable { IsTrue self.now.usable }
+        requires live { IsReferenceIn self.now.refs r }
+        ensures on { IfSome result (IsOnLeaf C.units self.now.leaves) }
+        ensures place { option_map (place_on C.units C.by self.now.leaves) result ≡ place_of self.now.refs r }
+    {
+        place_anchored(&self.blocks, &self.refs, r)
+    }
+
+    /// Makes a reference acknowledged, and slides it.
+    pub fn settle_ref(&mut self, r: RefId)
+        requires usable { IsTrue self.old.usable }
+        requires live { IsReferenceIn self.old.refs r }
+        ensures refs { let old = elements C.units C.by self.old.leaves in
+            ChangesReference r (λ x. Some (slid_reference old (record x { acked = true }))) self.old.refs self.new.refs }
+        ensures rest { self.new ≡ record self.old { refs = self.new.refs } }
+    {
+        settle_anchored(&self.blocks, &mut self.refs, r);
+    }
+
+    /// Ends a reference.
+    pub fn drop_ref(&mut self, r: RefId)
+        requires usable { IsTrue self.old.usable }
+        requires live { IsReferenceIn self.old.refs r }
+        ensures refs { ChangesReference r (λ x. None) self.old.refs self.new.refs }
+        ensures rest { self.new ≡ record self.old { refs = self.new.refs } }
+    {
+        drop_anchored(&self.blocks, &mut self.refs, r);
+    }
+
+    /// Lets acknowledged references slide, after sequenced removals. It goes to the leaves with references whose
+    /// stamps changed since the last time.
+    pub fn slide(&mut self)
+        requires { IsTrue self.old.usable }
+        ensures refs { ChangesReferences (slid_reference (elements C.units C.by self.old.leaves)) self.old.refs self.new.refs }
+        ensures rest { self.new ≡ record self.old { refs = self.new.refs } }
+    {
+        slide_anchored(&self.blocks, &mut self.refs);
     }
 
     /// The least pending stage above this one that marks an element as removed. It goes to the leaves that the

@@ -6,23 +6,15 @@ ghost use Rattle.ft_block.specs.Leaves.{IsFromFloor};
 ghost use Rattle.ft_leaves.specs.Elements.{seen_in};
 ghost use Rattle.ft_leaves.specs.LeafLists.{elements};
 ghost use Rattle.ft_leaves.specs.Places.{place_at, seen_before};
-ghost use Rattle.ft_leaf_blocks.specs.LeafOffsets.{IsOnLeaf, offset_place};
+ghost use Rattle.ft_leaf_blocks.specs.LeafPlaces.{IsOnLeaf, place_on};
 
 use crate::finds::find_leaf;
 use ft_arena::NodeId;
 use ft_block::{Blocks, LenView};
 use ft_leaves::{Content, TreeLeaf};
+use ft_refs::Place;
 use std::marker::Brand;
 use std::sync::ledger::Blank;
-
-/// An element as it stands on a leaf.
-#[derive(Clone, Copy)]
-pub struct LeafOffset {
-    /// The leaf.
-    pub leaf: NodeId,
-    /// How many of its elements stand before this one.
-    pub offset: u64,
-}
 
 /// The element that the view sees with `p` seen ones before it: None exactly where it sees no more than `p`.
 ///
@@ -32,40 +24,40 @@ pub fn seen_offset<C: Content>(
     blocks: &Blocks<TreeLeaf<C>>,
     p: u64,
     view: LenView,
-) -> Option<LeafOffset>
+) -> Option<Place>
     requires usable { IsTrue blocks.now.usable }
     requires floor { IsFromFloor blocks.now.floor view }
     ensures on_leaf { IfSome result (IsOnLeaf C.units blocks.now.leaves) }
     ensures place { let leaves = blocks.now.leaves in
-        option_map (offset_place C.units C.by leaves) result ≡ place_at (seen_in view) p (elements C.units C.by leaves) }
+        option_map (place_on C.units C.by leaves) result ≡ place_at (seen_in view) p (elements C.units C.by leaves) }
 {
     let _first = blocks.first();
     let found = find_leaf::<C, Brand>(blocks, p.checked_add(1)?, view, Blank::new(1))?;
     let leaf = found.leaf?;
-    Some(LeafOffset {
-        leaf,
+    Some(Place {
+        owner: leaf,
         offset: found.offset - 1,
     })
 }
 
 /// The element at place `i`: None exactly where there are no more than `i`. It reads a few nodes.
-pub fn offset_at<C: Content>(blocks: &Blocks<TreeLeaf<C>>, i: u64) -> Option<LeafOffset>
+pub fn offset_at<C: Content>(blocks: &Blocks<TreeLeaf<C>>, i: u64) -> Option<Place>
     requires { IsTrue blocks.now.usable }
     ensures on_leaf { IfSome result (IsOnLeaf C.units blocks.now.leaves) }
     ensures place { let leaves = blocks.now.leaves in
-        MatchOption result (length (elements C.units C.by leaves) ≤ i) (λ at. offset_place C.units C.by leaves at ≡ i) }
+        MatchOption result (length (elements C.units C.by leaves) ≤ i) (λ at. place_on C.units C.by leaves at ≡ i) }
 {
     seen_offset(blocks, i, LenView::All)
 }
 
 /// The place of the element: how many stand before it. It goes up from the leaf.
-pub fn place_on<C: Content>(blocks: &Blocks<TreeLeaf<C>>, at: &LeafOffset) -> u64
+pub fn elements_before<C: Content>(blocks: &Blocks<TreeLeaf<C>>, at: &Place) -> u64
     requires usable { IsTrue blocks.now.usable }
     requires on_leaf { IsOnLeaf C.units blocks.now.leaves at.now }
-    ensures { result ≡ offset_place C.units C.by blocks.now.leaves at.now }
+    ensures { result ≡ place_on C.units C.by blocks.now.leaves at.now }
 {
     let _first = blocks.first();
-    blocks.position_of(at.leaf, LenView::All) + at.offset
+    blocks.position_of(at.owner, LenView::All) + at.offset
 }
 
 /// How many elements that the view sees stand before the element.
@@ -74,18 +66,18 @@ pub fn place_on<C: Content>(blocks: &Blocks<TreeLeaf<C>>, at: &LeafOffset) -> u6
 /// `u64::MAX` it also looks for each leaf left of it that has a pending stamp.
 pub fn seen_before_on<C: Content>(
     blocks: &Blocks<TreeLeaf<C>>,
-    at: &LeafOffset,
+    at: &Place,
     view: LenView,
 ) -> u64
     requires usable { IsTrue blocks.now.usable }
     requires floor { IsFromFloor blocks.now.floor view }
     requires on_leaf { IsOnLeaf C.units blocks.now.leaves at.now }
     ensures { let leaves = blocks.now.leaves in
-        result ≡ seen_before (seen_in view) (elements C.units C.by leaves) (offset_place C.units C.by leaves at.now) }
+        result ≡ seen_before (seen_in view) (elements C.units C.by leaves) (place_on C.units C.by leaves at.now) }
 {
     let _first = blocks.first();
-    let before = blocks.position_of(at.leaf, view);
-    if blocks.leaf(at.leaf).is_seen_in(view) {
+    let before = blocks.position_of(at.owner, view);
+    if blocks.leaf(at.owner).is_seen_in(view) {
         before + at.offset
     } else {
         before

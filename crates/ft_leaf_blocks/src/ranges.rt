@@ -8,6 +8,7 @@ ghost use Rattle.ft_leaf_blocks.specs.RangeEdits.{MayEdit, edited_leaf};
 ghost use Rattle.ft_leaves.specs.Elements.{TreeElement, seen_in};
 ghost use Rattle.ft_leaves.specs.LeafLists.{Extends, elements};
 ghost use Rattle.ft_leaves.specs.LeafChanges.{changed_in};
+ghost use Rattle.ft_leaves.specs.References.{KeepsReferences};
 ghost use Rattle.ft_leaf_blocks.specs.Walks.{Acts, CutsSeen, GoesBehind, IsInLeaf, changed_behind, from_leaf, from_place, held_place};
 
 use crate::cuts::{cut_at, leaf_behind};
@@ -42,6 +43,7 @@ fn edit_seen<C: Content>(
     requires live { IsLeafIn blocks.old.leaves id }
     requires may { IsSomeAnd (value_at blocks.old.leaves id) (λ v. MayEdit edit.now v.overlay) }
     ensures leaves { OnOk result (blocks.new.leaves ≡ change_leaf (changed_in view (edited_leaf C.stamped edit.now)) blocks.old.leaves id) }
+    ensures refs { OnOk result (KeepsReferences blocks.old.refs blocks.new.refs) }
     ensures usable { OnOk result (blocks.new.usable ≡ true) }
     ensures floor { blocks.new.floor ≡ blocks.old.floor }
 {
@@ -73,6 +75,7 @@ fn cut_seen<C: Content>(
     requires live { IsLeafIn blocks.old.leaves id }
     requires some { 1 ≤ left }
     ensures cut { IfOk result (λ n. CutsSeen C.units C.by (seen_in view) left n blocks.old.leaves blocks.new.leaves id) }
+    ensures refs { OnOk result (KeepsReferences blocks.old.refs blocks.new.refs) }
     ensures usable { OnOk result (blocks.new.usable ≡ true) }
     ensures floor { blocks.new.floor ≡ blocks.old.floor }
 {
@@ -106,6 +109,7 @@ fn edit_first<C: Content>(
         ≡ changed_behind C.units C.by (seen_in view) f blocks.old.leaves (Some id) left) }
     ensures few { IfOk result (λ n. n ≤ left) }
     ensures goes { OnOk result (GoesBehind C.units C.by blocks.old.leaves blocks.new.leaves id) }
+    ensures refs { OnOk result (KeepsReferences blocks.old.refs blocks.new.refs) }
     ensures usable { OnOk result (blocks.new.usable ≡ true) }
     ensures floor { blocks.new.floor ≡ blocks.old.floor }
 {
@@ -133,6 +137,7 @@ pub fn edit_range<C: Content>(
     ensures list { (f : TreeElement C.Unit → TreeElement C.Unit) → Acts C.units C.by (edited_leaf C.stamped edit.now) f
         → OnOk result (elements C.units C.by blocks.new.leaves ≡ changed_behind C.units C.by (seen_in view) f blocks.old.leaves start count) }
     ensures nodes { OnOk result (Extends (ids blocks.old.leaves) (ids blocks.new.leaves)) }
+    ensures refs { OnOk result (KeepsReferences blocks.old.refs blocks.new.refs) }
     ensures usable { OnOk result (blocks.new.usable ≡ true) }
     ensures floor { blocks.new.floor ≡ blocks.old.floor }
 {
@@ -168,6 +173,7 @@ pub fn edit_behind<C: Content>(
         → held_place C.units C.by blocks.old.leaves found.now.leaf found.now.offset ≡ place (seen_in view) p (elements C.units C.by blocks.old.leaves)
         → OnOk result (elements C.units C.by blocks.new.leaves ≡ change_range (seen_in view) p (p + count) f (elements C.units C.by blocks.old.leaves)) }
     ensures nodes { OnOk result (Extends (ids blocks.old.leaves) (ids blocks.new.leaves)) }
+    ensures refs { OnOk result (KeepsReferences blocks.old.refs blocks.new.refs) }
     ensures usable { OnOk result (blocks.new.usable ≡ true) }
     ensures floor { blocks.new.floor ≡ blocks.old.floor }
 {

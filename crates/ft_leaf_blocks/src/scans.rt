@@ -1,71 +1,34 @@
-//! Leaves in blocks: places in the whole list, found and counted by the blocks' own order.
+//! Leaves in blocks: the number of an element among those that a view sees, as it is settled there.
 
 ghost use Rattle.std.specs.Prelude.{◌≡◌, IsTrue};
 ghost use Rattle.ft_block.specs.Leaves.{IsFromFloor};
 ghost use Rattle.ft_leaves.specs.Elements.{seen_in};
 ghost use Rattle.ft_leaves.specs.LeafLists.{elements};
-ghost use Rattle.ft_leaves.specs.Places.{place_at, seen_before, settled_number, settled_place};
-ghost use Rattle.ft_leaves.specs.Settling.{stands};
+ghost use Rattle.ft_leaves.specs.Places.{settled_number};
+ghost use Rattle.ft_leaf_blocks.specs.LeafPlaces.{IsOnLeaf, place_on};
 
-use crate::offsets::{offset_at, place_on, seen_before_on, seen_offset};
-use crate::places::seen_count;
+use crate::offsets::seen_before_on;
 use crate::settling::settled_on;
 use ft_block::{Blocks, LenView};
 use ft_leaves::leaves::Standing;
 use ft_leaves::{Content, TreeLeaf};
+use ft_refs::Place;
 
-/// How many seen elements stand before place `i`.
-///
-/// The reference number of a perspective isn't below the floor.
-pub fn seen_before<C: Content>(blocks: &Blocks<TreeLeaf<C>>, i: u64, view: LenView) -> u64
-    requires usable { IsTrue blocks.now.usable }
-    requires floor { IsFromFloor blocks.now.floor view }
-    ensures { result ≡ seen_before (seen_in view) (elements C.units C.by blocks.now.leaves) i }
-{
-    match offset_at(blocks, i) {
-        Some(at) => seen_before_on(blocks, &at, view),
-        None => seen_count(blocks, view),
-    }
-}
-
-/// The place of the element that the view sees with `p` seen ones before it: None exactly where it sees no
-/// more than `p`.
-///
-/// The reference number of a perspective isn't below the floor.
-pub fn place_at<C: Content>(blocks: &Blocks<TreeLeaf<C>>, p: u64, view: LenView) -> Option<u64>
-    requires usable { IsTrue blocks.now.usable }
-    requires floor { IsFromFloor blocks.now.floor view }
-    ensures { result ≡ place_at (seen_in view) p (elements C.units C.by blocks.now.leaves) }
-{
-    let at = seen_offset(blocks, p, view)?;
-    Some(place_on(blocks, &at))
-}
-
-/// Where a reference at place `i` goes: there if it may stand there, else to the next element on which it
-/// may, else to the last before, else nowhere.
-pub fn settled<C: Content>(blocks: &Blocks<TreeLeaf<C>>, i: u64, test: Standing) -> Option<u64>
-    requires { IsTrue blocks.now.usable }
-    ensures { result ≡ settled_place (stands test) (elements C.units C.by blocks.now.leaves) i }
-{
-    let at = offset_at(blocks, i)?;
-    let to = settled_on(blocks, &at, test)?;
-    Some(place_on(blocks, &to))
-}
-
-/// The number, among the elements that the view sees, of the one at place `i` as it is settled there: None
-/// exactly where the view sees none.
+/// The number, among the elements that the view sees, of this one as it is settled there: None exactly where
+/// the view sees none.
 ///
 /// The reference number of a perspective isn't below the floor.
 pub fn settled_number<C: Content>(
     blocks: &Blocks<TreeLeaf<C>>,
-    i: u64,
+    at: &Place,
     view: LenView,
 ) -> Option<u64>
     requires usable { IsTrue blocks.now.usable }
     requires floor { IsFromFloor blocks.now.floor view }
-    ensures { result ≡ settled_number (seen_in view) (elements C.units C.by blocks.now.leaves) i }
+    requires on_leaf { IsOnLeaf C.units blocks.now.leaves at.now }
+    ensures { let leaves = blocks.now.leaves in
+        result ≡ settled_number (seen_in view) (elements C.units C.by leaves) (place_on C.units C.by leaves at.now) }
 {
-    let at = offset_at(blocks, i)?;
-    let to = settled_on(blocks, &at, Standing::SeenIn(view))?;
+    let to = settled_on(blocks, at, Standing::SeenIn(view))?;
     Some(seen_before_on(blocks, &to, view))
 }

@@ -1,20 +1,21 @@
 //! Leaves in blocks: where a reference on an element goes, from leaf to leaf.
 
-ghost use Rattle.std.specs.Prelude.{◌≡◌, IfSome, IsTrue, length, option_map};
+ghost use Rattle.std.specs.Prelude.{◌≡◌, IfSome, IsTrue, length, option_map, true};
+ghost use Rattle.std.specs.Option.{ForSome};
 ghost use Rattle.ft_block.specs.Leaves.{IsLeafIn, IsPlaceIn};
 ghost use Rattle.ft_leaves.specs.Edits.{up_to_place};
 ghost use Rattle.ft_leaves.specs.LeafLists.{elements};
 ghost use Rattle.ft_leaves.specs.Places.{settled_place};
 ghost use Rattle.ft_leaves.specs.Settling.{first_from, stands};
-ghost use Rattle.ft_leaf_blocks.specs.LeafOffsets.{IsOnLeaf, leaf_end, leaf_start, offset_place};
+ghost use Rattle.ft_leaf_blocks.specs.LeafPlaces.{IsOnLeaf, leaf_end, leaf_start, place_on, stands_at};
 ghost use Rattle.ft_leaf_blocks.specs.LastStanding.{last_from};
 ghost use Rattle.ft_leaf_blocks.specs.Walks.{before_place, from_place};
 
-use crate::offsets::LeafOffset;
 use ft_arena::NodeId;
 use ft_block::Blocks;
 use ft_leaves::leaves::Standing;
 use ft_leaves::{Content, TreeLeaf};
+use ft_refs::Place;
 
 /// The first leaf from that of this node on on whose elements a reference may stand: None where there is none,
 /// or no node is given. It reads the leaves up to that one.
@@ -26,6 +27,7 @@ pub fn next_standing<C: Content>(
     requires usable { IsTrue blocks.now.usable }
     requires place { IsPlaceIn blocks.now.leaves from }
     ensures live { IsPlaceIn blocks.now.leaves result }
+    ensures stands { ForSome result (λ id. stands_at test blocks.now.leaves id ≡ true) }
     ensures first { let leaves = blocks.now.leaves in
         option_map (leaf_start C.units C.by leaves) result
         ≡ first_from (stands test) (length (elements C.units C.by (before_place leaves from))) (elements C.units C.by (from_place leaves from)) }
@@ -53,6 +55,7 @@ pub fn last_standing<C: Content>(
     requires usable { IsTrue blocks.now.usable }
     requires place { IsPlaceIn blocks.now.leaves from }
     ensures live { IsPlaceIn blocks.now.leaves result }
+    ensures stands { ForSome result (λ id. stands_at test blocks.now.leaves id ≡ true) }
     ensures last { let leaves = blocks.now.leaves in
         option_map (leaf_end C.units C.by leaves) result ≡ last_from (stands test) 0 (elements C.units C.by (up_to_place leaves from)) }
 {
@@ -70,15 +73,16 @@ pub fn last_standing<C: Content>(
 }
 
 /// The last element of a leaf.
-fn last_of<C: Content>(blocks: &Blocks<TreeLeaf<C>>, leaf: NodeId) -> LeafOffset
+fn last_of<C: Content>(blocks: &Blocks<TreeLeaf<C>>, leaf: NodeId) -> Place
     requires usable { IsTrue blocks.now.usable }
     requires live { IsLeafIn blocks.now.leaves leaf }
+    ensures owner { result.owner ≡ leaf }
     ensures on_leaf { IsOnLeaf C.units blocks.now.leaves result }
-    ensures place { offset_place C.units C.by blocks.now.leaves result ≡ leaf_end C.units C.by blocks.now.leaves leaf }
+    ensures place { place_on C.units C.by blocks.now.leaves result ≡ leaf_end C.units C.by blocks.now.leaves leaf }
 {
     let _first = blocks.first();
-    LeafOffset {
-        leaf,
+    Place {
+        owner: leaf,
         offset: blocks.leaf(leaf).content.len() - 1,
     }
 }
@@ -90,24 +94,25 @@ fn last_of<C: Content>(blocks: &Blocks<TreeLeaf<C>>, leaf: NodeId) -> LeafOffset
 /// the last that will.
 pub fn settled_on<C: Content>(
     blocks: &Blocks<TreeLeaf<C>>,
-    at: &LeafOffset,
+    at: &Place,
     test: Standing,
-) -> Option<LeafOffset>
+) -> Option<Place>
     requires usable { IsTrue blocks.now.usable }
     requires on_leaf { IsOnLeaf C.units blocks.now.leaves at.now }
     ensures on_leaf { IfSome result (IsOnLeaf C.units blocks.now.leaves) }
+    ensures stands { ForSome result (λ p. stands_at test blocks.now.leaves p.owner ≡ true) }
     ensures place { let leaves = blocks.now.leaves in
-        option_map (offset_place C.units C.by leaves) result
-        ≡ settled_place (stands test) (elements C.units C.by leaves) (offset_place C.units C.by leaves at.now) }
+        option_map (place_on C.units C.by leaves) result
+        ≡ settled_place (stands test) (elements C.units C.by leaves) (place_on C.units C.by leaves at.now) }
 {
     let _first = blocks.first();
-    if blocks.leaf(at.leaf).stands(test) {
+    if blocks.leaf(at.owner).stands(test) {
         return Some(*at);
     }
-    match next_standing(blocks, blocks.next(at.leaf), test) {
-        Some(leaf) => Some(LeafOffset { leaf, offset: 0 }),
+    match next_standing(blocks, blocks.next(at.owner), test) {
+        Some(leaf) => Some(Place { owner: leaf, offset: 0 }),
         None => {
-            let leaf = last_standing(blocks, blocks.prev(at.leaf), test)?;
+            let leaf = last_standing(blocks, blocks.prev(at.owner), test)?;
             Some(last_of(blocks, leaf))
         }
     }

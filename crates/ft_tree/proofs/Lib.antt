@@ -1,3 +1,4 @@
 pub mod FoundEnds
 pub mod JoinedLeaves
+pub mod RefPlaces
 pub mod TreeInside

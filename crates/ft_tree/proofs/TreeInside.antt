@@ -9,7 +9,7 @@ use Rattle.ft_arena.specs.Ids.{times}
 use Rattle.ft_block.specs.Leaves.{IsPlaceIn, LeafList, ids, times_leaf}
 use Rattle.ft_block.proofs.CallerLemmas.{times-ids}
 use Rattle.ft_leaf_blocks.specs.RangeEdits.{edited_leaf}
-use Rattle.ft_leaf_blocks.specs.State.{list_of}
+use Rattle.ft_leaf_blocks.specs.State.{TrackedLeaves, list_of}
 use Rattle.ft_leaf_blocks.specs.Walks.{Acts, held_place}
 use Rattle.ft_leaf_blocks.specs.declared.ranges.RangeEdit.{RangeEdit}
 use Rattle.ft_leaf_blocks.specs.declared.ranges.RangeEdit.TheVariants.{Remove, Change}
@@ -23,7 +23,7 @@ use Rattle.ft_leaves.specs.LeafLists.{Extends, elements, leaf_elements}
 use Rattle.ft_leaves.specs.LeafLists.Extends.{kept, added}
 use Rattle.ft_leaves.specs.Places.{put_place, shifted_place}
 use Rattle.ft_leaves.specs.Plain.{WithoutNode}
-use Rattle.ft_leaves.specs.References.{reference_at}
+use Rattle.ft_leaves.specs.References.{ChangesReferences, reference_at}
 use Rattle.ft_leaves.proofs.LeafEdits.{sweep_there}
 use Rattle.ft_leaves.proofs.RangeLeaves.{leaf-with_overlay, leaf-with_stamps}
 use Rattle.ft_props.specs.Overlay.{after_ack, after_acked_changes, after_drop, after_pending_changes}
@@ -45,39 +45,6 @@ extends_times [] ys id h = omega arith
 extends_times (x ∷ xs) [] id h = elim h [ ]
 extends_times (x ∷ xs) (y ∷ ys) id (kept h) = omega (arith, extends_times xs ys id h)
 extends_times (x ∷ xs) (y ∷ ys) id (added h) = omega (arith, extends_times (x ∷ xs) ys id h)
-
-map_cond : (f : Reference → Reference) (b : Bool) (x : Reference) (o p : Option Reference) → p ≡ option_map f o → cond b (Some (f x)) p ≡ option_map f (cond b (Some x) o)
-map_cond f true x o p e = refl
-map_cond f false x o p e = e
-
-pub reference_at-map : (f : Reference → Reference) (refs : List (ℕ × Reference)) (r : ℕ)
-    → reference_at (map (λ x. (x.0, f x.1)) refs) r ≡ option_map f (reference_at refs r)
-reference_at-map f [] r = refl
-reference_at-map f (x ∷ refs) r = map_cond f (nat_eq x.0 r) x.1 (reference_at refs r) (reference_at (map (λ x. (x.0, f x.1)) refs) r) (reference_at-map f refs r)
-
-added_by : (b : Bool) (x : Reference) (o p q : Option Reference) → q ≡ option_or o p → cond b (Some x) q ≡ option_or (cond b (Some x) o) p
-added_by true x o p q e = refl
-added_by false x o p q e = e
-
--- a list with one more reference behind all
-pub reference_at-added : (refs : List (ℕ × Reference)) (n : ℕ) (y : Reference) (r : ℕ)
-    → reference_at (refs ++ (n, y) ∷ []) r ≡ option_or (reference_at refs r) (cond (nat_eq n r) (Some y) None)
-reference_at-added [] n y r = refl
-reference_at-added (x ∷ refs) n y r =
-    added_by (nat_eq x.0 r) x.1 (reference_at refs r) (cond (nat_eq n r) (Some y) None) (reference_at (refs ++ (n, y) ∷ []) r)
-    (reference_at-added refs n y r)
-
-or_right : (o : Option Reference) → option_or o None ≡ o
-or_right None = refl
-or_right (Some x) = refl
-
--- the new one, and the others
-pub reference_at-new : (refs : List (ℕ × Reference)) (n : ℕ) (y : Reference) → reference_at refs n ≡ None → reference_at (refs ++ (n, y) ∷ []) n ≡ Some y
-reference_at-new refs n y h = reference_at-added refs n y n ∙ ap (λ o. option_or o (cond (nat_eq n n) (Some y) None)) h ∙ cond-true (nat_eq n n) _ _ (eq-eqb n n refl)
-
-pub reference_at-others : (refs : List (ℕ × Reference)) (n : ℕ) (y : Reference) (r : ℕ) → n ≢ r → reference_at (refs ++ (n, y) ∷ []) r ≡ reference_at refs r
-reference_at-others refs n y r d = reference_at-added refs n y r
-    ∙ ap (λ o. option_or (reference_at refs r) o) (cond-false (nat_eq n r) (Some y) None (ne_eqb n r d)) ∙ or_right (reference_at refs r)
 
 module _ {L : Type 0} where
   -- a leaf of before is one of now
@@ -106,8 +73,7 @@ module _ {C U : Type 0} (units : C → List U) (by : C → Option Stamp) (a : In
       → held_place units by v.leaves at n ≡ place seen p (elements units by v.leaves)
   held_listed l e h = held_outside (subst (λ (m : LeafList (TreeLeaf C)). held_place units by m.leaves at n ≡ place seen p (elements units by m.leaves)) e h)
 
-module _ {C U : Type 0} (units : C → List U) (by : C → Option Stamp) (a b : Inside C U) (sound : IsSound units by a) (blocks : IsTrue b.blocks.usable)
-    (next_ref : b.next_ref ≡ a.next_ref) (refs : (r : ℕ) → reference_at a.refs.items r ≡ None → reference_at b.refs.items r ≡ None) where
+module _ {C U : Type 0} (units : C → List U) (by : C → Option Stamp) (a b : Inside C U) (sound : IsSound units by a) (blocks : IsTrue b.blocks.usable) where
   -- where leaves may have been cut, and leaves may have come
   pub extends_sound : Extends (ids a.blocks.leaves) (ids b.blocks.leaves) → b.sweep ≡ a.sweep → length (elements units by b.blocks.leaves) ≤ b.made
       → b.made ≤ max_safe_integer → IsSound units by b
@@ -116,7 +82,6 @@ module _ {C U : Type 0} (units : C → List U) (by : C → Option Stamp) (a b : 
     fits = fits;
     small = small;
     sweep = subst (IsPlaceIn b.blocks.leaves) (sym sweep) (place_kept a.blocks.leaves b.blocks.leaves a.sweep nodes sound.sweep);
-    refs = λ r h. refs r (sound.refs r (omega arith));
   }
 
   place_same : ((id : ℕ) → times_leaf b.blocks.leaves id ≡ times_leaf a.blocks.leaves id) → (o : Option ℕ) → IsPlaceIn a.blocks.leaves o → IsPlaceIn b.blocks.leaves o
@@ -131,7 +96,6 @@ module _ {C U : Type 0} (units : C → List U) (by : C → Option Stamp) (a b : 
     fits = omega (arith, count, sound.fits);
     small = omega (arith, sound.small);
     sweep = subst (IsPlaceIn b.blocks.leaves) (sym sweep) (place_same times a.sweep sound.sweep);
-    refs = λ r h. refs r (sound.refs r (omega arith));
   }
 
   -- without a leaf
@@ -142,20 +106,27 @@ module _ {C U : Type 0} (units : C → List U) (by : C → Option Stamp) (a b : 
     fits = omega (arith, gone.fewer, sound.fits);
     small = omega (arith, sound.small);
     sweep = subst (IsPlaceIn b.blocks.leaves) (sym sweep) (sweep_there a.blocks.leaves b.blocks.leaves id a.sweep once gone.others sound.sweep);
-    refs = λ r h. refs r (sound.refs r (omega arith));
   }
 
--- no reference comes into being by a change of each
-pub none_mapped : (f : Reference → Reference) (old now : List (ℕ × Reference)) → now ≡ map (λ x. (x.0, f x.1)) old
-    → (r : ℕ) → reference_at old r ≡ None → reference_at now r ≡ None
-none_mapped f old now e r h = ap (λ xs. reference_at xs r) e ∙ reference_at-map f old r ∙ ap (option_map f) h
+module _ {C U : Type 0} (units : C → List U) (by : C → Option Stamp) (a : Inside C U) (now : TrackedLeaves C) (rest : now ≡ record a.blocks { refs = now.refs }) where
+  -- where nothing but references changed
+  pub refs_sound : IsSound units by a → IsSound units by (record a { blocks = now })
+  refs_sound sound = record {
+    blocks = subst (λ (s : TrackedLeaves C). IsTrue s.usable) (sym rest) sound.blocks;
+    fits = omega (arith, ap (λ (s : TrackedLeaves C). length (elements units by s.leaves)) rest, sound.fits);
+    small = sound.small;
+    sweep = subst (λ (s : TrackedLeaves C). IsPlaceIn s.leaves a.sweep) (sym rest) sound.sweep;
+  }
+
+  pub refs_rest : (v : TreeState C) → view_of a ≡ v → view_of (record a { blocks = now }) ≡ record v { refs = now.refs }
+  refs_rest v is = ap (λ (s : TrackedLeaves C). view_of (record a { blocks = s })) rest ∙ ap (λ (w : TreeState C). record w { refs = now.refs }) is
 
 module _ {C U : Type 0} (units : C → List U) (by : C → Option Stamp) (a : Inside C U) (v : TreeState C) (is : view_of a ≡ v)
     (seen past : TreeElement U → Bool) (p : ℕ) (leaf : TreeLeaf C) (b : Inside C U) (i : ℕ) where
   -- an insertion, as its callers see it
   pub put_seen : elements units by b.blocks.leaves ≡ put seen past p (leaf_elements units by leaf) (elements units by a.blocks.leaves)
       → i ≡ put_place seen past p (elements units by a.blocks.leaves)
-      → b.refs.items ≡ map (λ x. (x.0, with_place (shifted_place i (length (units leaf.content))) x.1)) a.refs.items
+      → ChangesReferences (with_place (shifted_place i (length (units leaf.content)))) a.blocks.refs b.blocks.refs
       → Extends (ids a.blocks.leaves) (ids b.blocks.leaves) → b.made ≡ a.made + length (units leaf.content)
       → b.blocks.floor ≡ a.blocks.floor → b.sweep ≡ a.sweep → b.usable ≡ a.usable → Puts units by seen past p leaf v (view_of b)
   put_seen list place refs nodes made floor sweep still =
@@ -163,7 +134,7 @@ module _ {C U : Type 0} (units : C → List U) (by : C → Option Stamp) (a : In
       subst (λ (s : TreeState C). Puts units by seen past p leaf s (view_of b)) is
       (record {
         list = list;
-        refs = λ r. ap (λ xs. reference_at xs r) refs ∙ reference_at-map (moved i) a.refs.items r ∙ ap (λ j. option_map (moved j) (reference_at a.refs.items r)) place;
+        refs = λ r. refs r ∙ ap (λ j. option_map (moved j) (reference_at a.blocks.refs r)) place;
         nodes = nodes;
         rest = record { floor = floor; sweep = sweep; usable = still };
         made = made;

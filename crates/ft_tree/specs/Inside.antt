@@ -12,7 +12,7 @@ use Rattle.ft_leaves.specs.Edits.{with_place}
 use Rattle.ft_leaves.specs.Elements.{TreeElement, removed_stamps, sequenced_overlay, with_overlay, with_stamps}
 use Rattle.ft_leaves.specs.LeafLists.{Extends, elements, leaf_elements}
 use Rattle.ft_leaves.specs.Places.{put_place, shifted_place}
-use Rattle.ft_leaves.specs.References.{ChangesReferences, reference_at}
+use Rattle.ft_leaves.specs.References.{ChangesReferences}
 use Rattle.ft_props.specs.Overlay.{after_ack, after_acked_changes, after_drop, after_pending_changes}
 use Rattle.ft_props.specs.Properties.{max_safe_integer}
 use Rattle.ft_tree.specs.State.{KeepsRest, TreeState}
@@ -22,7 +22,7 @@ module _ {C U : Type 0} where
   abbrev pub view_of : Inside C U → TreeState C
   view_of a = record {
     leaves = a.blocks.leaves;
-    refs = a.refs.items;
+    refs = a.blocks.refs;
     floor = a.blocks.floor;
     sweep = a.sweep;
     made = a.made;
@@ -30,14 +30,12 @@ module _ {C U : Type 0} where
     usable = a.usable;
   }
 
-  -- the blocks may be used; the elements are no more than were ever made; the sweep begins at a leaf; the next reference
-  -- isn't live yet
+  -- the blocks may be used; the elements are no more than were ever made; the sweep begins at a leaf
   pub record IsSound (units : C → List U) (by : C → Option Stamp) (a : Inside C U) : Type 0 where
     pub blocks : IsTrue a.blocks.usable
     pub fits : length (elements units by a.blocks.leaves) ≤ a.made
     pub small : a.made ≤ max_safe_integer
     pub sweep : IsPlaceIn a.blocks.leaves a.sweep
-    pub refs : (r : ℕ) → a.next_ref ≤ r → reference_at a.refs.items r ≡ None
 
   -- the same where the tree may still be used
   abbrev pub IsSoundIfUsable : (C → List U) → (C → Option Stamp) → Inside C U → Type 0

@@ -221,9 +221,11 @@ impl<C: Content> Tree<C> {
         ensures made { OnOk result (self.new.made ≡ self.old.made) }
         ensures err { OnErr result (self.new.usable ≡ false) }
     {
-        let alloc = *self.refs.allocator();
-        match self.blocks.ack(alloc, stage, seq, conn) {
-            Ok(()) => self.slide(),
+        match self.blocks.ack(self.alloc, stage, seq, conn) {
+            Ok(()) => {
+                self.slide();
+                Ok(())
+            }
             Err(e) => {
                 self.usable = false;
                 Err(e)

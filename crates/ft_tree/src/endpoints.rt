@@ -13,13 +13,11 @@ ghost use Rattle.ft_tree.specs.State.{IsRefused};
 
 use crate::faults::TreeFault;
 use crate::tree::Tree;
-use ft_base::OutOfMemory;
 use ft_block::LenView;
+use ft_leaf_blocks::offsets::{elements_before, seen_offset};
 use ft_leaf_blocks::places::seen_count;
-use ft_leaf_blocks::references::{settle_in, slid_references};
-use ft_leaf_blocks::scans::{place_at, settled_number};
+use ft_leaf_blocks::scans::settled_number;
 use ft_leaves::Content;
-use ft_leaves::references::{Reference, add_reference, drop_reference, reference_of};
 use ft_refs::RefId;
 
 impl<C: Content> Tree<C> {
@@ -39,20 +37,12 @@ impl<C: Content> Tree<C> {
         ensures refused { let old = elements C.units C.by self.old.leaves in
             IfErr result (IsRefused (p + 1) (len (seen_in view) old) self.old self.new) }
     {
-        let length = seen_count(self.blocks.list(), view);
-        if length <= p {
+        let Some(at) = seen_offset(self.blocks.list(), p, view) else {
+            let length = seen_count(self.blocks.list(), view);
             return Err(TreeFault::OutOfRange { length });
-        }
-        let x = Reference {
-            place: place_at(self.blocks.list(), p, view),
-            acked: false,
         };
-        let r = self.next_ref;
-        match add_reference(&mut self.refs, r, x) {
-            Ok(after) => {
-                self.next_ref = after;
-                Ok(RefId(r))
-            }
+        match self.blocks.add_ref(&at) {
+            Ok(r) => Ok(r),
             Err(_) => {
                 self.usable = false;
                 Err(TreeFault::OutOfMemory)
@@ -66,7 +56,8 @@ impl<C: Content> Tree<C> {
         requires live { IsReferenceIn self.now.refs r }
         ensures { result ≡ place_of self.now.refs r }
     {
-        reference_of(&self.refs, r)?.place
+        let at = self.blocks.place_of(r)?;
+        Some(elements_before(self.blocks.list(), &at))
     }
 
     /// The number, among the elements seen at the stage, of the reference's element as it is settled there:
@@ -77,8 +68,8 @@ impl<C: Content> Tree<C> {
         ensures { let list = elements C.units C.by self.now.leaves in
             result ≡ option_and_then (settled_number (seen_in (Stage stage)) list) (place_of self.now.refs r) }
     {
-        let i = reference_of(&self.refs, r)?.place?;
-        settled_number(self.blocks.list(), i, LenView::Stage(stage))
+        let at = self.blocks.place_of(r)?;
+        settled_number(self.blocks.list(), &at, LenView::Stage(stage))
     }
 
     /// The number, among the elements seen at the stage, of the element that stage `from` sees with `p` seen
@@ -89,8 +80,8 @@ impl<C: Content> Tree<C> {
         ensures { let list = elements C.units C.by self.now.leaves in
             result ≡ option_and_then (settled_number (seen_in (Stage stage)) list) (place_at (seen_in (Stage from)) p list) }
     {
-        let i = place_at(self.blocks.list(), p, LenView::Stage(from))?;
-        settled_number(self.blocks.list(), i, LenView::Stage(stage))
+        let at = seen_offset(self.blocks.list(), p, LenView::Stage(from))?;
+        settled_number(self.blocks.list(), &at, LenView::Stage(stage))
     }
 
     /// Makes a reference acknowledged, and slides it.
@@ -101,30 +92,17 @@ impl<C: Content> Tree<C> {
             ChangesReference r (λ x. Some (slid_reference old (record x { acked = true }))) self.old.refs self.new.refs }
         ensures rest { self.new ≡ record self.old { refs = self.new.refs } }
     {
-        settle_in(self.blocks.list(), &mut self.refs, r);
+        self.blocks.settle_ref(r);
     }
 
-    /// Lets acknowledged references slide, after sequenced removals.
-    ///
-    /// Answers `OutOfMemory` where there is no room for them, and then the tree may be used no more.
-    pub(crate) fn slide(&mut self) -> Result<(), OutOfMemory>
+    /// Lets acknowledged references slide, after sequenced removals. It goes to the leaves with references whose
+    /// stamps changed since the last time.
+    pub(crate) fn slide(&mut self)
         requires { IsTrue self.old.usable }
-        ensures refs { let list = elements C.units C.by self.old.leaves in
-            OnOk result (ChangesReferences (slid_reference list) self.old.refs self.new.refs) }
-        ensures rest { OnOk result (self.new ≡ record self.old { refs = self.new.refs }) }
-        ensures err { OnErr result (self.new.usable ≡ false) }
+        ensures refs { ChangesReferences (slid_reference (elements C.units C.by self.old.leaves)) self.old.refs self.new.refs }
+        ensures rest { self.new ≡ record self.old { refs = self.new.refs } }
     {
-        let alloc = *self.refs.allocator();
-        match slid_references(alloc, self.blocks.list(), &self.refs) {
-            Ok(refs) => {
-                self.refs = refs;
-                Ok(())
-            }
-            Err(e) => {
-                self.usable = false;
-                Err(e)
-            }
-        }
+        self.blocks.slide();
     }
 
     /// Ends a reference.
@@ -134,7 +112,7 @@ impl<C: Content> Tree<C> {
         ensures refs { ChangesReference r (λ x. None) self.old.refs self.new.refs }
         ensures rest { self.new ≡ record self.old { refs = self.new.refs } }
     {
-        drop_reference(&mut self.refs, r);
+        self.blocks.drop_ref(r);
     }
 
     /// The least pending stage above this one that marks an element as removed.

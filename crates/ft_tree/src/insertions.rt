@@ -19,11 +19,11 @@ ghost use Rattle.ft_leaves.specs.LeafLists.{Extends, elements, pending_leaves};
 ghost use Rattle.ft_leaves.specs.References.{ChangesReferences};
 ghost use Rattle.ft_tree.specs.State.{IsRefused, KeepsRest};
 
-use crate::edits::insert;
 use crate::faults::TreeFault;
 use crate::tree::Tree;
 use ft_base::{Perspective, Stamp, Steps};
 use ft_block::Found;
+use ft_leaf_blocks::cuts::insert_at;
 use ft_leaf_blocks::places::{find_local, find_seen_at};
 use ft_leaves::Content;
 use ft_props::PropSet;
@@ -148,9 +148,9 @@ impl<C: Content> Tree<C> {
         ensures no_reads { past_pending ≡ false → steps.new ≡ steps.old }
     {
         let count = content.len();
-        match insert(
+        match insert_at(
             &mut self.blocks,
-            &mut self.refs,
+            self.alloc,
             found,
             past_pending,
             content,

@@ -9,11 +9,12 @@ ghost use Rattle.ft_leaves.specs.LeafLists.{Extends, elements};
 ghost use Rattle.ft_leaves.specs.References.{ChangesReferences, KeepsReferences};
 ghost use Rattle.ft_tree.specs.State.{KeepsRest};
 
-use crate::edits::{append, move_with_references, take_with_references};
+use crate::edits::{append, take_content};
 use crate::tree::Tree;
 use ft_arena::NodeId;
 use ft_base::{Element, OutOfMemory};
 use ft_leaf_blocks::acks::{unmark_all_at, unmark_at};
+use ft_leaf_blocks::edits::move_at;
 use ft_leaf_blocks::joins::{join_at, sweep_joined, sweep_without};
 use ft_leaves::Content;
 use ft_props::Props;
@@ -36,8 +37,7 @@ impl<C: Content> Tree<C> {
         ensures err { OnErr result (self.new.usable ≡ false) }
     {
         let count = content.len();
-        let alloc = *self.refs.allocator();
-        match append(&mut self.blocks, alloc, content, props, e) {
+        match append(&mut self.blocks, self.alloc, content, props, e) {
             Ok(()) => {
                 self.made += count;
                 Ok(())
@@ -65,7 +65,7 @@ impl<C: Content> Tree<C> {
         ensures err { OnErr result (self.new.usable ≡ false) }
     {
         let _first = self.blocks.first();
-        match move_with_references(&mut self.blocks, &mut self.refs, id, at) {
+        match move_at(&mut self.blocks, id, at) {
             Ok(()) => Ok(()),
             Err(e) => {
                 self.usable = false;
@@ -86,8 +86,7 @@ impl<C: Content> Tree<C> {
         ensures made { OnOk result (self.new.made ≡ self.old.made) }
         ensures err { OnErr result (self.new.usable ≡ false) }
     {
-        let alloc = *self.refs.allocator();
-        match unmark_at(&mut self.blocks, alloc, id, stage) {
+        match unmark_at(&mut self.blocks, self.alloc, id, stage) {
             Ok(()) => Ok(()),
             Err(e) => {
                 self.usable = false;
@@ -108,8 +107,7 @@ impl<C: Content> Tree<C> {
         ensures made { OnOk result (self.new.made ≡ self.old.made) }
         ensures err { OnErr result (self.new.usable ≡ false) }
     {
-        let alloc = *self.refs.allocator();
-        match unmark_all_at(&mut self.blocks, alloc, id) {
+        match unmark_all_at(&mut self.blocks, self.alloc, id) {
             Ok(()) => Ok(()),
             Err(e) => {
                 self.usable = false;
@@ -139,7 +137,7 @@ impl<C: Content> Tree<C> {
     {
         let _first = self.blocks.first();
         let sweep = sweep_without(self.blocks.list(), id, self.sweep);
-        match take_with_references(&mut self.blocks, &mut self.refs, id) {
+        match take_content(&mut self.blocks, id) {
             Ok(content) => {
                 self.sweep = sweep;
                 Ok(content)
@@ -171,9 +169,8 @@ impl<C: Content> Tree<C> {
     {
         let _first = self.blocks.first();
         let sweep = sweep_joined(self.blocks.list(), id, self.sweep);
-        let alloc = *self.refs.allocator();
         let floor = self.blocks.floor();
-        match join_at(&mut self.blocks, alloc, id, floor) {
+        match join_at(&mut self.blocks, self.alloc, id, floor) {
             Ok(true) => {
                 self.sweep = sweep;
                 Ok(true)

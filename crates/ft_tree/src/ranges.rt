@@ -8,7 +8,7 @@ ghost use Rattle.ft_leaf_blocks.specs.RangeEdits.{MayEdit};
 ghost use Rattle.ft_leaf_blocks.specs.Walks.{IsInLeaf, held_place};
 ghost use Rattle.ft_leaves.specs.Elements.{seen_in};
 ghost use Rattle.ft_leaves.specs.LeafLists.{Extends, elements};
-ghost use Rattle.ft_leaves.specs.References.{ChangesReferences, slid_reference};
+ghost use Rattle.ft_leaves.specs.References.{ChangesReferences, KeepsReferences, slid_reference};
 ghost use Rattle.ft_tree.specs.Inside.{edited_element};
 ghost use Rattle.ft_tree.specs.State.{IsRefused, KeepsRest};
 ghost use Rattle.ft_tree.specs.declared.faults.TreeFault.TheVariants as fault;
@@ -101,15 +101,14 @@ impl<C: Content> Tree<C> {
         requires may { All (λ e. MayEdit edit.now e.overlay) (elements C.units C.by self.old.leaves) }
         ensures elements { let old = elements C.units C.by self.old.leaves in
             OnOk result (elements C.units C.by self.new.leaves ≡ change_range (seen_in view) p q (edited_element C.author edit.now) old) }
-        ensures refs { OnOk result (self.new.refs ≡ self.old.refs) }
+        ensures refs { OnOk result (KeepsReferences self.old.refs self.new.refs) }
         ensures nodes { OnOk result (Extends (ids self.old.leaves) (ids self.new.leaves)) }
         ensures rest { OnOk result (KeepsRest self.old self.new) }
         ensures made { OnOk result (self.new.made ≡ self.old.made) }
         ensures err { IfErr result (λ e. e ≡ fault.OutOfMemory) }
         ensures unusable { OnErr result (self.new.usable ≡ false) }
     {
-        let alloc = *self.refs.allocator();
-        match edit_behind(&mut self.blocks, alloc, found, q - p, view, edit) {
+        match edit_behind(&mut self.blocks, self.alloc, found, q - p, view, edit) {
             Ok(()) => Ok(()),
             Err(_) => {
                 self.usable = false;
@@ -146,10 +145,10 @@ impl<C: Content> Tree<C> {
         ensures unusable { OnErr result (self.new.usable ≡ false) }
     {
         match self.edit(found, p, q, view, edit) {
-            Ok(()) => match self.slide() {
-                Ok(()) => Ok(()),
-                Err(_) => Err(TreeFault::OutOfMemory),
-            },
+            Ok(()) => {
+                self.slide();
+                Ok(())
+            }
             Err(e) => Err(e),
         }
     }

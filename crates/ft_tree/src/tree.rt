@@ -1,5 +1,5 @@
 //! The merge tree as its callers see it. Its leaves stand in blocks, which find a place by reading a few of
-//! them; its references stand in a list.
+//! them; its references stand on leaves.
 
 ghost use Rattle.std.specs.Prelude.{◌≡◌, ◌≤◌, [], None, IfOk, IsTrue, map, true};
 ghost use Rattle.ft_base.specs.Scan.{len};
@@ -15,8 +15,6 @@ use ft_leaf_blocks::finds::find_leaf;
 use ft_leaf_blocks::places::{seen_count, seen_left};
 use ft_leaf_blocks::stamp_lists::all_stamps;
 use ft_leaves::Content;
-use ft_leaves::references::Reference;
-use ft_refs::RefId;
 use std::alloc::Global;
 use std::marker::{Brand, Model};
 use std::sync::ledger::Blank;
@@ -29,8 +27,7 @@ use std::sync::ledger::Blank;
 #[derive(Drop)]
 pub struct Tree<C: Content> {
     pub(crate) blocks: LeafBlocks<C>,
-    pub(crate) refs: Vec<(RefId, Reference)>,
-    pub(crate) next_ref: usize,
+    pub(crate) alloc: Global,
     pub(crate) sweep: Option<NodeId>,
     pub(crate) made: u64,
     pub(crate) usable: bool,
@@ -55,8 +52,7 @@ impl<C: Content> Tree<C> {
     {
         Tree {
             blocks: LeafBlocks::new(alloc),
-            refs: Vec::new(alloc),
-            next_ref: 0,
+            alloc,
             sweep: None,
             made: 0,
             usable: true,
@@ -138,6 +134,6 @@ impl<C: Content> Tree<C> {
         requires { IsTrue self.now.usable }
         ensures { IfOk result (λ v. v.items ≡ map (λ e. e.stamps) (elements C.units C.by self.now.leaves)) }
     {
-        all_stamps(*self.refs.allocator(), self.blocks.list())
+        all_stamps(self.alloc, self.blocks.list())
     }
 }

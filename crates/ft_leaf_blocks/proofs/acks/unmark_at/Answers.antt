@@ -41,3 +41,6 @@ returns-clause-leaves g c =
     c.in_ok-set_stamps.ensures.ok ∙ ap (λ (zs : List (ℕ × TreeLeaf g.row.C.Denot)). change_leaf h zs id) c.in_ok-change.ensures.ok ∙ change-twice h f xs id
     ∙ change-here (λ x. h (f x)) (unmarked_leaf c.args.stage) xs id v c.first-first.ensures.once c.leaf.ensures
     (ap (λ (s : ElementStamps). with_leaf_stamps (λ t. s) (f v)) c.in_ok-e.ensures)
+
+pub returns-clause-refs : goal.returns-clause-refs
+returns-clause-refs g c = λ r. c.in_ok-set_stamps.ensures.refs r ∙ c.in_ok-change.ensures.refs r

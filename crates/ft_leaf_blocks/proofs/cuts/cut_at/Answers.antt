@@ -50,3 +50,9 @@ returns-clause-cut g c =
     (splits_here us by xs now id c.in_ok-_rear._rear v n front rear s (omega arith)
     (g.met.C.Content.front_units v.content n here.0 less) (g.met.C.Content.front_by v.content n here.0 less)
     (g.met.C.Content.rear_units v.content n here.0 less) (g.met.C.Content.rear_by v.content n here.0 less) _ _ refl refl c.in_ok-_rear.ensures.ok))
+
+pub returns-in_default-clause-refs : goal.returns-in_default-clause-refs
+returns-in_default-clause-refs g c = λ r. refl
+
+pub returns-then-len-found-clause-refs : goal.returns-then-len-found-clause-refs
+returns-then-len-found-clause-refs g c = λ r. refl

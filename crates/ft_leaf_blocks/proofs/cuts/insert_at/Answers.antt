@@ -1,10 +1,13 @@
-use Rattle.std.proofs.Common.{◌≡◌, ◌+◌, ◌++◌, length, take, drop, ◌∙◌, ap, arith, length-append}
+use Rattle.std.proofs.Common.{◌≡◌, ℕ, ◌+◌, ◌++◌, length, option_map, take, drop, ◌∙◌, ap, arith, length-append}
 use Rattle.std.proofs.lemmas.List.{take-append-drop}
 use Rattle.std.specs.List.{prefix_len}
 use Rattle.ft_leaves.specs.declared.leaves.TreeLeaf.{TreeLeaf}
 use Rattle.ft_leaves.specs.LeafLists.{elements, leaf_elements}
+use Rattle.ft_leaves.specs.Edits.{with_place}
 use Rattle.ft_leaves.specs.Elements.{seen_in}
+use Rattle.ft_leaves.specs.Places.{shifted_place}
 use Rattle.ft_leaves.specs.Plain.{passes}
+use Rattle.ft_leaves.specs.References.{reference_at}
 use Rattle.ft_leaves.proofs.LeafRuns.{length-leaf}
 use Rattle.ft_leaves.proofs.RangeLeaves.{extends_trans}
 use Rattle.ft_base.specs.Scan.{put}
@@ -91,3 +94,12 @@ returns-clause-count g c =
       ap length (take-append-drop i es),
       ap length c.in_ok-at.ensures.cut.list,
     )
+
+pub returns-clause-refs : goal.returns-clause-refs
+returns-clause-refs g c = λ r.
+    let us = g.C.Content.units in
+    let i = c.in_ok-place.place in
+    let count = ap (λ (l : TreeLeaf g.row.C.Denot). length (us l.content)) c.in_ok-leaf.ensures in
+    c.in_ok-place.ensures.refs r
+    ∙ ap (option_map (with_place (shifted_place i (length (us c.in_ok-leaf.leaf.content))))) (c.in_ok-at.ensures.refs r)
+    ∙ ap (λ (n : ℕ). option_map (with_place (shifted_place i n)) (reference_at c.args.blocks.now.refs r)) count

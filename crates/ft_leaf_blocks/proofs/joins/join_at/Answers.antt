@@ -96,3 +96,12 @@ returns-clause-leaves g c =
 
 pub leaf-requires-2-clause-live : goal.leaf-requires-2-clause-live
 leaf-requires-2-clause-live g c = after_is_in c.args.blocks.now.leaves c.args.id c.in-Some.next (sym c.next.ensures ∙ c.in-Some.is)
+
+pub returns-in_default-clause-refs : goal.returns-in_default-clause-refs
+returns-in_default-clause-refs g c = λ r. refl
+
+pub returns-then-not-may_join-clause-refs : goal.returns-then-not-may_join-clause-refs
+returns-then-not-may_join-clause-refs g c = λ r. refl
+
+pub returns-clause-refs : goal.returns-clause-refs
+returns-clause-refs g c = λ r. c.in_ok-join_next.ensures.refs r ∙ c.in_ok-set_stamps-2.ensures.refs r ∙ c.in_ok-set_stamps.ensures.refs r

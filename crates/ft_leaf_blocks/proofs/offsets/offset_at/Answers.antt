@@ -1,5 +1,5 @@
 use Rattle.ft_leaves.specs.LeafLists.{elements}
-use Rattle.ft_leaf_blocks.specs.LeafOffsets.{offset_place}
+use Rattle.ft_leaf_blocks.specs.LeafPlaces.{place_on}
 use Rattle.ft_leaf_blocks.proofs.OffsetCounts.{placed_at}
 use Rattle.ft_leaf_blocks.proofs.offsets.offset_at.Goals as goal
 
@@ -8,4 +8,4 @@ returns-clause-place g c =
     let us = g.C.Content.units in
     let by = g.C.Content.by in
     let xs = c.args.blocks.now.leaves in
-    placed_at (offset_place us by xs) c.seen_offset.result (elements us by xs) c.args.i c.seen_offset.ensures.place
+    placed_at (place_on us by xs) c.seen_offset.result (elements us by xs) c.args.i c.seen_offset.ensures.place

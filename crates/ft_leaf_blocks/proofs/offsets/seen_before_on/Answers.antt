@@ -19,7 +19,7 @@ overflow_add-result g c =
     omega (
       arith,
       c.position_of-before.ensures,
-      len_elements us by c.args.view (left_of xs c.args.at.now.leaf),
+      len_elements us by c.args.view (left_of xs c.args.at.now.owner),
       seen_within us by xs c.args.at.now c.args.view c.first-first.ensures.once c.requires.on_leaf,
       length-elements us by xs,
       c.first-first.ensures.few,
@@ -33,7 +33,7 @@ returns-then-is_seen_in g c =
     omega (
       arith,
       c.position_of-before.ensures,
-      len_elements us by c.args.view (left_of xs c.args.at.now.leaf),
+      len_elements us by c.args.view (left_of xs c.args.at.now.owner),
       before_seen us by xs c.args.at.now c.leaf.result.now c.first-first.ensures.once c.leaf.ensures c.requires.on_leaf c.args.view
           (sym c.is_seen_in.ensures ∙ c.if-is_seen_in.true),
     )
@@ -46,7 +46,7 @@ returns-else-is_seen_in g c =
     omega (
       arith,
       c.position_of-before.ensures,
-      len_elements us by c.args.view (left_of xs c.args.at.now.leaf),
+      len_elements us by c.args.view (left_of xs c.args.at.now.owner),
       before_unseen us by xs c.args.at.now c.leaf.result.now c.first-first.ensures.once c.leaf.ensures c.requires.on_leaf c.args.view
           (sym c.is_seen_in.ensures ∙ c.if-is_seen_in.false),
     )

@@ -4,7 +4,7 @@ use Rattle.ft_block.specs.Leaves.{place_by}
 use Rattle.ft_leaves.specs.Elements.{seen_in}
 use Rattle.ft_leaves.specs.LeafLists.{elements, leaf_length}
 use Rattle.ft_leaves.proofs.LeafRuns.{length-elements}
-use Rattle.ft_leaf_blocks.specs.LeafOffsets.{offset_place}
+use Rattle.ft_leaf_blocks.specs.LeafPlaces.{place_on}
 use Rattle.ft_leaf_blocks.proofs.FoundOffsets.{at-none, len-most, next_number, seen_head, seen_none, seen_on}
 use Rattle.ft_leaf_blocks.proofs.offsets.seen_offset.Goals as goal
 
@@ -14,7 +14,7 @@ returns-in_err-checked_add-clause-place g c =
     let by = g.C.Content.by in
     let es = elements us by c.args.blocks.now.leaves in
     let none = subst (λ (r : Option ℕ). SomeIff r (c.args.p + 1 < 18446744073709551616) (c.args.p + 1)) c.in_err-checked_add.was c.checked_add.ensures in
-    ap (option_map (offset_place us by c.args.blocks.now.leaves)) c.from_residual.ensures
+    ap (option_map (place_on us by c.args.blocks.now.leaves)) c.from_residual.ensures
     ∙ sym (at-none (seen_in c.args.view) 0 c.args.p es
     (omega (arith, none, len-most (seen_in c.args.view) es, length-elements us by c.args.blocks.now.leaves, c.first-first.ensures.few)))
 
@@ -26,7 +26,7 @@ returns-in_err-found-clause-place g c =
     let f = leaf_length us c.args.view in
     let next = next_number c.args.p c.in_ok-checked_add.field-0 18446744073709551616 c.checked_add.result c.checked_add.ensures c.in_ok-checked_add.was in
     let found : place_by f xs (suc c.args.p) ≡ None = ap (place_by f xs) (sym next) ∙ sym c.find_leaf.ensures ∙ c.in_err-found.was in
-    ap (option_map (offset_place us by xs)) c.from_residual-in_err-found.ensures ∙ sym (seen_none us by c.args.view xs c.args.p found)
+    ap (option_map (place_on us by xs)) c.from_residual-in_err-found.ensures ∙ sym (seen_none us by c.args.view xs c.args.p found)
 
 pub returns-in_err-leaf-clause-place : goal.returns-in_err-leaf-clause-place
 returns-in_err-leaf-clause-place g c =

@@ -25,3 +25,6 @@ returns-clause-cut g c =
     (splits_here us by xs c.split.new.self.leaves c.args.id new v n (g.C.Content.front v.content n) (g.C.Content.rear v.content n) s (omega arith)
     (laws.front_units v.content n low less) (laws.front_by v.content n low less)
     (laws.rear_units v.content n low less) (laws.rear_by v.content n low less) _ _ refl refl c.in_ok-_rear.ensures.ok)
+
+pub returns-then-n-left-clause-refs : goal.returns-then-n-left-clause-refs
+returns-then-n-left-clause-refs g c = λ r. refl

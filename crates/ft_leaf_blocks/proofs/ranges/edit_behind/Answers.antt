@@ -54,3 +54,6 @@ pub returns-clause-nodes : goal.returns-clause-nodes
 returns-clause-nodes g c =
     extends_trans (ids c.args.blocks.now.leaves) (ids c.cut_at.new.blocks.leaves) (ids c.edit_range.new.blocks.leaves) c.in_ok-at.ensures.cut.nodes
     c.in_ok-edit_range.ensures.nodes
+
+pub returns-clause-refs : goal.returns-clause-refs
+returns-clause-refs g c = λ r. c.in_ok-edit_range.ensures.refs r ∙ c.in_ok-at.ensures.refs r

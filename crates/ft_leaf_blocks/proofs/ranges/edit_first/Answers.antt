@@ -1,3 +1,4 @@
+use Rattle.std.proofs.Common.{◌∙◌}
 use Rattle.ft_leaf_blocks.specs.RangeEdits.{MayEdit, edited_leaf}
 use Rattle.ft_leaf_blocks.proofs.RangeWalks.{cut_live, cut_may, cut_value, edits_first, goes_behind}
 use Rattle.ft_leaf_blocks.proofs.ranges.edit_first.Goals as goal
@@ -37,3 +38,6 @@ returns-clause-goes g c =
     mid c.edit_seen.new.blocks.leaves c.args.id c.first-first.ensures.once c.requires.some cut c.in_ok-edit_seen.ensures.leaves
     (cut_value us by c.args.view c.args.left c.in_ok-n.n c.args.blocks.now.leaves mid c.args.id cut c.leaf.result.now c.len-len.result c.leaf.ensures c.len-len.ensures.value
     c.len-len.ensures.some)
+
+pub returns-clause-refs : goal.returns-clause-refs
+returns-clause-refs g c = λ r. c.in_ok-edit_seen.ensures.refs r ∙ c.in_ok-n.ensures.refs r

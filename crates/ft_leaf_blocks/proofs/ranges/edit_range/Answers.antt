@@ -16,6 +16,7 @@ loop-at-init g c = record {
   may = c.requires.may;
   nodes = extends_same (ids c.args.blocks.now.leaves);
   live = c.requires.place;
+  refs = λ r. refl;
   usable = c.requires.usable;
   floor = refl;
 }
@@ -42,6 +43,7 @@ loop-at-preserved g c =
           (rear_all us by P goes.es _ (subst (λ (es : List (TreeElement g.row.C-Unit.Denot)). All P es) (sym goes.whole) may));
       nodes = extends_trans (ids c.args.blocks.now.leaves) (ids mid) (ids now) c.loop-at.invariant.nodes goes.nodes;
       live = subst (IsPlaceIn now) (sym c.next-at.ensures) (after_in_place now id);
+      refs = λ r. c.in_ok-left.ensures.refs r ∙ c.loop-at.invariant.refs r;
       usable = c.in_ok-left.ensures.usable;
       floor = c.in_ok-left.ensures.floor ∙ c.loop-at.invariant.floor;
     }
@@ -75,6 +77,7 @@ returns-then-left-eq0 g c =
           ∙ ap (changed_behind us by seen f mid c.loop-at.at) (sym c.if-left-eq0.true)
           ∙ c.loop-at.invariant.list f acts;
       nodes = c.loop-at.invariant.nodes;
+      refs = c.loop-at.invariant.refs;
       usable = c.loop-at.invariant.usable;
       floor = c.loop-at.invariant.floor;
     }
@@ -104,6 +107,7 @@ returns g c =
           ∙ ap (λ (o : Option ℕ). changed_behind us by seen f mid o c.loop-at.left) (sym c.in_default.is)
           ∙ c.loop-at.invariant.list f acts;
       nodes = c.loop-at.invariant.nodes;
+      refs = c.loop-at.invariant.refs;
       usable = c.loop-at.invariant.usable;
       floor = c.loop-at.invariant.floor;
     }

@@ -3,6 +3,7 @@ use Rattle.ft_block.specs.Leaves.{IsPlaceIn, ids}
 use Rattle.ft_leaf_blocks.specs.RangeEdits.{MayEdit, edited_leaf}
 use Rattle.ft_leaves.specs.Elements.{TreeElement, seen_in}
 use Rattle.ft_leaves.specs.LeafLists.{Extends, elements}
+use Rattle.ft_leaves.specs.References.{KeepsReferences}
 use Rattle.ft_leaf_blocks.specs.Walks.{Acts, changed_behind, from_place}
 use Rattle.ft_leaf_blocks.proofs.ranges.edit_range.Given as goal
 
@@ -17,6 +18,7 @@ invariant-loop-at g l =
       may : All (λ e. MayEdit l.edit e.overlay) (elements us by (from_place l.blocks.leaves l.at));
       nodes : Extends (ids l.initial.blocks.leaves) (ids l.blocks.leaves);
       live : IsPlaceIn l.blocks.leaves l.at;
+      refs : KeepsReferences l.initial.blocks.refs l.blocks.refs;
       usable : IsTrue l.blocks.usable;
       floor : l.blocks.floor ≡ l.initial.blocks.floor;
     }

@@ -1,4 +1,4 @@
-use Rattle.std.proofs.Common.{◌≡◌, cond, sym, ◌∙◌, ap}
+use Rattle.std.proofs.Common.{◌≡◌, cond, refl, sym, ◌∙◌, ap}
 use Rattle.std.proofs.lemmas.Result.{on_ok_weaker}
 use Rattle.ft_base.specs.declared.elements.Element.{Element as ElementStamps}
 use Rattle.ft_leaf_blocks.specs.declared.ranges.RangeEdit.{RangeEdit}
@@ -42,3 +42,6 @@ returns-in-Change-clause-leaves g c =
     on_ok_weaker c.change.result
     (λ p. p ∙ change-here k (changed_in c.args.view f) c.args.blocks.now.leaves c.args.id v c.first-first.ensures.once c.leaf-leaf.ensures same)
     c.change.ensures.ok
+
+pub returns-then-not-is_seen_in-clause-refs : goal.returns-then-not-is_seen_in-clause-refs
+returns-then-not-is_seen_in-clause-refs g c = λ r. refl

@@ -1,15 +1,18 @@
-use Rattle.std.proofs.Common.{◌≡◌, ℕ, ◌++◌, [], List, length, take, drop, append-nil, refl, subst, sym, ◌∙◌, ap, arith}
+use Rattle.std.proofs.Common.{◌≡◌, ℕ, ◌<◌, ◌++◌, [], List, Some, length, take, drop, append-nil, refl, subst, sym, ◌∙◌, ap, arith}
 use Rattle.std.proofs.Math.Seq.{drop-append_seam, take-append_seam}
 use Rattle.ft_block.specs.Leaves.{LeafList, ids}
 use Rattle.ft_leaves.specs.declared.leaves.TreeLeaf.{TreeLeaf}
 use Rattle.ft_leaves.specs.LeafLists.{elements, leaf_elements}
+use Rattle.ft_leaves.specs.Edits.{up_to_place}
 use Rattle.ft_leaves.specs.Elements.{elements_with}
+use Rattle.ft_leaves.specs.References.{KeepsReferences, place_of}
 use Rattle.ft_leaves.proofs.LeafRuns.{length-elements}
 use Rattle.ft_leaves.proofs.RangeLeaves.{extends_trans}
 use Rattle.ft_leaf_blocks.specs.Walks.{held_place}
 use Rattle.ft_leaf_blocks.proofs.CutPlaces.{puts_behind}
 use Rattle.ft_props.specs.Overlay.{OverlayState}
 use Rattle.ft_props.specs.Properties.{PropertyList}
+use Rattle.ft_tree.proofs.RefPlaces.{kept_before}
 use Rattle.ft_tree.proofs.edits.append.Goals as goal
 
 -- behind the whole list
@@ -63,3 +66,20 @@ returns-clause-nodes g c =
     (length (elements us by c.args.blocks.now.leaves)) leaf c.first-first.ensures.once cut.live c.in_ok-_id.ensures.ok
     (sym (cut.place ∙ ended)) in
     extends_trans (ids c.args.blocks.now.leaves) (ids c.cut_at.new.blocks.leaves) (ids c.insert_after.new.self.leaves) cut.nodes puts.nodes
+
+pub returns-clause-refs : goal.returns-clause-refs
+returns-clause-refs g c =
+    let us = g.C.Content.units in
+    let by = g.C.Content.by in
+    let cut = c.in_ok-at.ensures.cut in
+    let mid = c.cut_at.new.blocks in
+    let now = c.insert_after.new.self in
+    let leaf : TreeLeaf g.row.C.Denot = record { content = c.args.content; stamps = c.args.e; overlay = c.of-overlay.result } in
+    let ended = subst (λ (l : LeafList (TreeLeaf g.row.C.Denot)). held_place us by l.leaves c.find_end-end.result.leaf c.find_end-end.result.offset
+    ≡ length (elements us by l.leaves))
+    c.list.ensures c.find_end-end.ensures.place in
+    let i : ℕ = length (elements us by (up_to_place mid.leaves c.in_ok-at.at)) in
+    let place : i ≡ length (elements us by mid.leaves) = cut.place ∙ ended ∙ ap length (sym cut.list) in
+    let before : (r j : ℕ) → place_of mid.refs r ≡ Some j → j < i = λ r j h. omega (arith, place, c.first-first.ensures.inside r j h) in
+    let keeps : KeepsReferences mid.refs now.refs = kept_before i (length (us leaf.content)) mid.refs now.refs before c.in_ok-_id.ensures.refs in
+    λ r. keeps r ∙ c.in_ok-at.ensures.refs r

@@ -1,9 +1,9 @@
-use Rattle.std.proofs.Common.{All, length, map, refl, subst, sym, ◌∙◌, ap}
+use Rattle.std.proofs.Common.{All, length, map, option_map, refl, subst, sym, ◌∙◌, ap}
 use Rattle.std.proofs.lemmas.List.{length-map}
-use Rattle.std.proofs.lemmas.Result.{on_ok_weaker}
 use Rattle.ft_block.specs.Leaves.{ids}
 use Rattle.ft_leaves.specs.Elements.{IsLowestChange, TreeElement, acked_element}
 use Rattle.ft_leaves.specs.LeafLists.{elements}
+use Rattle.ft_leaves.specs.References.{reference_at, slid_reference}
 use Rattle.ft_leaves.proofs.RangeLeaves.{acks}
 use Rattle.ft_tree.specs.State.{TreeState}
 use Rattle.ft_tree.specs.declared.tree.Tree.TheInside.{Inside}
@@ -28,8 +28,7 @@ invariant_of-self g c = λ usable.
     let sound = in_sound us by c.self.inside c.args.self.now c.self.view_is c.self.invariant c.requires.usable in
     let b : Inside g.row.C.Denot g.row.C-Unit.Denot = record {
       blocks = c.ack.new.self;
-      refs = c.self.inside.refs;
-      next_ref = c.self.inside.next_ref;
+      alloc = c.self.inside.alloc;
       sweep = c.self.inside.sweep;
       made = c.self.inside.made;
       usable = c.self.inside.usable;
@@ -37,7 +36,7 @@ invariant_of-self g c = λ usable.
     let xs = c.self.inside.blocks.leaves in
     let acked = acks us by g.C.Content.author g.C.Content.stamped laws.stamped_units laws.stamped_by c.args.stage c.args.seq c.args.conn xs
     c.ack.new.self.leaves c.in-Ok.ensures.leaves in
-    same_sound us by c.self.inside b sound c.in-Ok.ensures.usable refl (λ r h. h) acked.times
+    same_sound us by c.self.inside b sound c.in-Ok.ensures.usable acked.times
     (ap length acked.list
     ∙ length-map (elements us by xs) (acked_element c.args.stage c.args.seq c.args.conn (g.C.Content.author c.args.seq c.args.conn)))
     refl refl
@@ -51,8 +50,8 @@ returns-in-Ok-clause-elements g c =
     λ e. acked_element c.args.stage c.args.seq c.args.conn (g.C.Content.author c.args.seq c.args.conn) e in
     let acked = acks us by g.C.Content.author g.C.Content.stamped laws.stamped_units laws.stamped_by c.args.stage c.args.seq c.args.conn
     c.self.inside.blocks.leaves c.ack.new.self.leaves c.in-Ok.ensures.leaves in
-    on_ok_weaker c.slide.result (λ e. ap (λ (s : TreeState g.row.C.Denot). elements us by s.leaves) e ∙ acked.list
-    ∙ ap (λ (s : TreeState g.row.C.Denot). map f (elements us by s.leaves)) c.self.view_is) c.slide.ensures.rest
+    ap (λ (s : TreeState g.row.C.Denot). elements us by s.leaves) c.slide.ensures.rest ∙ acked.list
+    ∙ ap (λ (s : TreeState g.row.C.Denot). map f (elements us by s.leaves)) c.self.view_is
 
 pub returns-in-Ok-clause-nodes : goal.returns-in-Ok-clause-nodes
 returns-in-Ok-clause-nodes g c =
@@ -61,5 +60,14 @@ returns-in-Ok-clause-nodes g c =
     let laws = g.met.C.Content in
     let acked = acks us by g.C.Content.author g.C.Content.stamped laws.stamped_units laws.stamped_by c.args.stage c.args.seq c.args.conn
     c.self.inside.blocks.leaves c.ack.new.self.leaves c.in-Ok.ensures.leaves in
-    on_ok_weaker c.slide.result (λ e. ap (λ (s : TreeState g.row.C.Denot). ids s.leaves) e ∙ acked.nodes
-    ∙ ap (λ (s : TreeState g.row.C.Denot). ids s.leaves) c.self.view_is) c.slide.ensures.rest
+    ap (λ (s : TreeState g.row.C.Denot). ids s.leaves) c.slide.ensures.rest ∙ acked.nodes
+    ∙ ap (λ (s : TreeState g.row.C.Denot). ids s.leaves) c.self.view_is
+
+pub returns-in-Ok-clause-refs : goal.returns-in-Ok-clause-refs
+returns-in-Ok-clause-refs g c = λ r.
+    let us = g.C.Content.units in
+    let by = g.C.Content.by in
+    let es = elements us by c.ack.new.self.leaves in
+    c.slide.ensures.refs r
+    ∙ ap (option_map (slid_reference es)) (c.in-Ok.ensures.refs r ∙ ap (λ (s : TreeState g.row.C.Denot). reference_at s.refs r) c.self.view_is)
+    ∙ ap (λ (s : TreeState g.row.C.Denot). option_map (slid_reference (elements us by s.leaves)) (reference_at c.args.self.now.refs r)) (sym c.slide.ensures.rest)

@@ -1,8 +1,10 @@
-use Rattle.std.proofs.Common.{◌+◌, [], length, refl, ap, arith, length-append}
+use Rattle.std.proofs.Common.{◌+◌, [], length, refl, ◌∙◌, ap, arith, length-append}
 use Rattle.std.proofs.lemmas.List.{length-map}
 use Rattle.ft_leaves.specs.Elements.{element_with, elements_with}
 use Rattle.ft_leaves.specs.LeafLists.{elements}
 use Rattle.ft_tree.specs.declared.tree.Tree.TheInside.{Inside}
+use Rattle.ft_leaves.specs.References.{reference_at}
+use Rattle.ft_tree.specs.State.{TreeState}
 use Rattle.ft_tree.proofs.TreeInside.{extends_sound, in_sound}
 use Rattle.ft_tree.proofs.tree.Tree.append.Goals as goal
 
@@ -13,14 +15,13 @@ invariant_of-self g c = λ usable.
     let sound = in_sound us by c.self.inside c.args.self.now c.self.view_is c.self.invariant c.requires.usable in
     let b : Inside g.row.C.Denot g.row.C-Unit.Denot = record {
       blocks = c.append.new.blocks;
-      refs = c.self.inside.refs;
-      next_ref = c.self.inside.next_ref;
+      alloc = c.self.inside.alloc;
       sweep = c.self.inside.sweep;
       made = c.self.inside.made + c.len-count.result;
       usable = c.self.inside.usable;
     } in
     let new = elements_with c.args.e (by c.args.content) (record { acked = c.args.props.now; pending = [] }) (us c.args.content) in
-    extends_sound us by c.self.inside b sound c.in-Ok.ensures.usable refl (λ r h. h) c.in-Ok.ensures.nodes refl
+    extends_sound us by c.self.inside b sound c.in-Ok.ensures.usable c.in-Ok.ensures.nodes refl
     (omega (
       arith,
       ap length c.in-Ok.ensures.list,
@@ -30,3 +31,6 @@ invariant_of-self g c = λ usable.
       sound.fits,
     ))
     (omega (arith, c.requires.made, ap (λ v. v.made) c.self.view_is, c.len-count.ensures.value))
+
+pub returns-in-Ok-clause-refs : goal.returns-in-Ok-clause-refs
+returns-in-Ok-clause-refs g c = λ r. c.in-Ok.ensures.refs r ∙ ap (λ (s : TreeState g.row.C.Denot). reference_at s.refs r) c.self.view_is

@@ -1,9 +1,6 @@
-use Rattle.std.proofs.Common.{ℕ, ◌+◌, [], length, refl, ap, arith}
-use Rattle.ft_leaves.specs.declared.references.Reference.{Reference}
-use Rattle.ft_leaves.specs.Edits.{with_place}
-use Rattle.ft_leaves.specs.Places.{shifted_place}
+use Rattle.std.proofs.Common.{ℕ, ◌+◌, [], refl, ap, arith}
 use Rattle.ft_tree.specs.declared.tree.Tree.TheInside.{Inside}
-use Rattle.ft_tree.proofs.TreeInside.{extends_sound, held_inside, in_sound, none_mapped, put_seen}
+use Rattle.ft_tree.proofs.TreeInside.{extends_sound, held_inside, in_sound, put_seen}
 use Rattle.ft_leaves.specs.LeafChanges.{fresh_leaf}
 use Rattle.ft_leaves.specs.Elements.{seen_in}
 use Rattle.ft_leaves.specs.Plain.{passes}
@@ -16,16 +13,13 @@ invariant_of-self g c = λ usable.
     let by = g.C.Content.by in
     let sound = in_sound us by c.self.inside c.args.self.now c.self.view_is c.self.invariant c.requires.usable in
     let b : Inside g.row.C.Denot g.row.C-Unit.Denot = record {
-      blocks = c.insert.new.blocks;
-      refs = c.insert.new.refs;
-      next_ref = c.self.inside.next_ref;
+      blocks = c.insert_at.new.blocks;
+      alloc = c.self.inside.alloc;
       sweep = c.self.inside.sweep;
       made = c.self.inside.made + c.len-count.result;
       usable = c.self.inside.usable;
     } in
-    let moved : Reference → Reference = λ x. with_place (shifted_place c.in-Ok._place (length (us c.args.content))) x in
-    extends_sound us by c.self.inside b sound c.in-Ok.ensures.usable refl (none_mapped moved c.self.inside.refs.items c.insert.new.refs.items c.in-Ok.ensures.refs)
-    c.in-Ok.ensures.nodes refl (omega (arith, c.in-Ok.ensures.count, c.len-count.ensures.value, sound.fits))
+    extends_sound us by c.self.inside b sound c.in-Ok.ensures.usable c.in-Ok.ensures.nodes refl (omega (arith, c.in-Ok.ensures.count, c.len-count.ensures.value, sound.fits))
     (omega (arith, c.requires.made, ap (λ v. v.made) c.self.view_is, c.len-count.ensures.value))
 
 pub returns-in-Ok-clause-ok : goal.returns-in-Ok-clause-ok
@@ -37,12 +31,11 @@ returns-in-Ok-clause-ok g c = λ view p e.
     put_seen g.C.Content.units g.C.Content.by c.self.inside c.args.self.now c.self.view_is (seen_in view) (passes c.args.past_pending) p
     (fresh_leaf c.args.content c.args.ins (apply [] c.args.props.now))
     (record {
-      blocks = c.insert.new.blocks;
-      refs = c.insert.new.refs;
-      next_ref = c.self.inside.next_ref;
+      blocks = c.insert_at.new.blocks;
+      alloc = c.self.inside.alloc;
       sweep = c.self.inside.sweep;
       made = c.self.inside.made + c.len-count.result;
       usable = c.self.inside.usable;
     })
     c.in-Ok._place (c.in-Ok.ensures.list view p at) (c.in-Ok.ensures.place view p at) c.in-Ok.ensures.refs c.in-Ok.ensures.nodes
-    (ap (λ (n : ℕ). c.self.inside.made + n) c.len-count.ensures.value) c.insert.ensures.floor refl refl
+    (ap (λ (n : ℕ). c.self.inside.made + n) c.len-count.ensures.value) c.insert_at.ensures.floor refl refl

@@ -1,15 +1,14 @@
 use Rattle.std.proofs.Common.{ℕ, List, option_map, subst, refl, sym, ◌∙◌, ap}
 use Rattle.ft_block.specs.Leaves.{IsLeafIn, LeafList}
 use Rattle.ft_leaves.specs.declared.leaves.TreeLeaf.{TreeLeaf}
-use Rattle.ft_leaves.specs.declared.references.Reference.{Reference}
 use Rattle.ft_tree.specs.declared.tree.Tree.TheInside.{Inside}
-use Rattle.ft_leaves.specs.Edits.{closed_by, sweep_without, with_place}
+use Rattle.ft_leaves.specs.Edits.{IsFreeOf, closed_by, sweep_without, with_place}
 use Rattle.ft_leaves.specs.Plain.{WithoutNode}
 use Rattle.ft_leaves.specs.References.{reference_at}
 use Rattle.ft_tree.specs.State.{TreeState}
 use Rattle.ft_leaves.proofs.LeafEdits.{without_node}
 use Rattle.ft_leaf_blocks.proofs.Walks.{live_value}
-use Rattle.ft_tree.proofs.TreeInside.{in_sound, none_mapped, reference_at-map, without_sound}
+use Rattle.ft_tree.proofs.TreeInside.{in_sound, without_sound}
 use Rattle.ft_tree.proofs.tree.Tree.take_leaf.Goals as goal
 
 pub invariant_of-self : goal.invariant_of-self
@@ -18,9 +17,8 @@ invariant_of-self g c = λ usable.
     let by = g.C.Content.by in
     let sound = in_sound us by c.self.inside c.args.self.now c.self.view_is c.self.invariant c.requires.usable in
     let b : Inside g.row.C.Denot g.row.C-Unit.Denot = record {
-      blocks = c.take_with_references.new.blocks;
-      refs = c.take_with_references.new.refs;
-      next_ref = c.self.inside.next_ref;
+      blocks = c.take_content.new.blocks;
+      alloc = c.self.inside.alloc;
       sweep = c.sweep_without-sweep.result;
       made = c.self.inside.made;
       usable = c.self.inside.usable;
@@ -30,18 +28,18 @@ invariant_of-self g c = λ usable.
     let live = subst (λ (s : TreeState g.row.C.Denot). IsLeafIn s.leaves id) (sym c.self.view_is) c.requires.live in
     let v = live_value xs id live in
     let once = c.first-first.ensures.once in
-    let closed : Reference → Reference = λ x. with_place (closed_by us by xs id) x in
     let gone = subst (λ (ys : List (ℕ × TreeLeaf g.row.C.Denot)). WithoutNode us by id xs ys) (sym c.in-Ok.ensures.leaves)
     (without_node us by xs id v.0 once live v.1) in
-    without_sound us by c.self.inside b sound c.in-Ok.ensures.usable refl
-    (none_mapped closed c.self.inside.refs.items c.take_with_references.new.refs.items c.in-Ok.ensures.refs) id once gone
+    without_sound us by c.self.inside b sound c.in-Ok.ensures.usable id once gone
     (c.sweep_without-sweep.ensures ∙ ap (λ (l : LeafList (TreeLeaf g.row.C.Denot)). sweep_without l.leaves id c.self.inside.sweep) c.list.ensures) refl
+
+pub take_content-requires-clause-free : goal.take_content-requires-clause-free
+take_content-requires-clause-free g c =
+    subst (λ (s : TreeState g.row.C.Denot). IsFreeOf g.C.Content.units g.C.Content.by s.leaves c.args.id s.refs) (sym c.self.view_is) c.requires.free
 
 pub returns-in-Ok-clause-refs : goal.returns-in-Ok-clause-refs
 returns-in-Ok-clause-refs g c = λ r.
     let us = g.C.Content.units in
     let by = g.C.Content.by in
-    let xs = c.self.inside.blocks.leaves in
-    let closed : Reference → Reference = λ x. with_place (closed_by us by xs c.args.id) x in
-    ap (λ zs. reference_at zs r) c.in-Ok.ensures.refs ∙ reference_at-map closed c.self.inside.refs.items r
+    c.in-Ok.ensures.refs r
     ∙ ap (λ (s : TreeState g.row.C.Denot). option_map (with_place (closed_by us by s.leaves c.args.id)) (reference_at s.refs r)) c.self.view_is

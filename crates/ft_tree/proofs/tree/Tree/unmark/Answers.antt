@@ -7,6 +7,8 @@ use Rattle.ft_leaves.specs.LeafLists.{elements}
 use Rattle.ft_leaves.proofs.Standing.{change-map}
 use Rattle.ft_leaves.proofs.LeafEdits.{elements-unmarked}
 use Rattle.ft_leaf_blocks.proofs.WalkEdits.{times-change}
+use Rattle.ft_leaves.specs.References.{reference_at}
+use Rattle.ft_tree.specs.State.{TreeState}
 use Rattle.ft_tree.proofs.TreeInside.{in_sound, same_sound}
 use Rattle.ft_tree.proofs.tree.Tree.unmark.Goals as goal
 
@@ -17,16 +19,18 @@ invariant_of-self g c = λ usable.
     let sound = in_sound us by c.self.inside c.args.self.now c.self.view_is c.self.invariant c.requires.usable in
     let b : Inside g.row.C.Denot g.row.C-Unit.Denot = record {
       blocks = c.unmark_at.new.blocks;
-      refs = c.self.inside.refs;
-      next_ref = c.self.inside.next_ref;
+      alloc = c.self.inside.alloc;
       sweep = c.self.inside.sweep;
       made = c.self.inside.made;
       usable = c.self.inside.usable;
     } in
     let xs = c.self.inside.blocks.leaves in
     let f : TreeLeaf g.row.C.Denot → TreeLeaf g.row.C.Denot = unmarked_leaf c.args.stage in
-    same_sound us by c.self.inside b sound c.in-Ok.ensures.usable refl (λ r h. h)
+    same_sound us by c.self.inside b sound c.in-Ok.ensures.usable
     (λ z. ap (λ (ys : List (ℕ × TreeLeaf g.row.C.Denot)). times_leaf ys z) c.in-Ok.ensures.leaves ∙ times-change f xs c.args.id z)
     (ap (λ (ys : List (ℕ × TreeLeaf g.row.C.Denot)). length (elements us by ys)) (c.in-Ok.ensures.leaves ∙ change-map f xs c.args.id)
     ∙ elements-unmarked us by c.args.stage xs c.args.id)
     refl refl
+
+pub returns-in-Ok-clause-refs : goal.returns-in-Ok-clause-refs
+returns-in-Ok-clause-refs g c = λ r. c.in-Ok.ensures.refs r ∙ ap (λ (s : TreeState g.row.C.Denot). reference_at s.refs r) c.self.view_is
