@@ -232,4 +232,3 @@ module _ {C U : Type 0} (units : C → List U) (by : C → Option Stamp) where
           ≡ option_map (slid_reference (elements units by xs)) (reference_at (references_on units by xs a) r)
       sent_once r =
           once_by r (is_on a id r) refl (sent_references r)
-

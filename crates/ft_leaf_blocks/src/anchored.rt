@@ -293,11 +293,7 @@ pub(crate) fn settle_anchored<C: Content>(
 }
 
 /// Ends a reference.
-pub(crate) fn drop_anchored<C: Content>(
-    blocks: &Blocks<TreeLeaf<C>>,
-    refs: &mut LeafRefs,
-    r: RefId,
-)
+pub(crate) fn drop_anchored<C: Content>(blocks: &Blocks<TreeLeaf<C>>, refs: &mut LeafRefs, r: RefId)
     requires usable { IsTrue blocks.now.usable }
     requires sound { IsSoundOn C.units blocks.now.leaves refs.old.anchors refs.old.unsettled.items }
     requires live { IsReferenceIn (references_on C.units C.by blocks.now.leaves refs.old.anchors) r }

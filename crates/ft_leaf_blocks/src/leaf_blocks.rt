@@ -31,8 +31,9 @@ ghost use Rattle.ft_leaf_blocks.specs.State.{list_of};
 
 use crate::acks::ack_in;
 use crate::anchored::{
-    add_anchored, change_anchored, drop_anchored, insert_anchored, join_anchored, move_anchored, place_anchored,
-    set_stamps_anchored, settle_anchored, slide_anchored, split_anchored, take_anchored,
+    add_anchored, change_anchored, drop_anchored, insert_anchored, join_anchored, move_anchored,
+    place_anchored, set_stamps_anchored, settle_anchored, slide_anchored, split_anchored,
+    take_anchored,
 };
 use crate::leaf_refs::LeafRefs;
 use crate::stage_nodes::StageNodes;
@@ -219,13 +220,7 @@ impl<C: Content> LeafBlocks<C> {
         ensures floor { self.new.floor ≡ self.old.floor }
         ensures err { OnErr result (self.new.usable ≡ false) }
     {
-        match set_stamps_anchored(
-            &mut self.blocks,
-            &mut self.touched,
-            &mut self.refs,
-            id,
-            e,
-        ) {
+        match set_stamps_anchored(&mut self.blocks, &mut self.touched, &mut self.refs, id, e) {
             Ok(()) => Ok(()),
             Err(e) => {
                 self.usable = false;

@@ -21,11 +21,7 @@ pub(crate) struct LeafRefs {
 /// Lists a leaf, if it has references.
 ///
 /// Answers `OutOfMemory` where there is no room for it.
-fn note(
-    anchors: &Anchors,
-    unsettled: &mut Vec<NodeId>,
-    id: NodeId,
-) -> Result<(), OutOfMemory>
+fn note(anchors: &Anchors, unsettled: &mut Vec<NodeId>, id: NodeId) -> Result<(), OutOfMemory>
     ensures { OnOk result (Notes anchors.now id unsettled.old.items unsettled.new.items) }
 {
     if anchors.first(id).is_some() {

@@ -20,11 +20,7 @@ use std::sync::ledger::Blank;
 ///
 /// The reference number of a perspective isn't below the floor. It reads a few nodes; at a stage other than
 /// `u64::MAX` it goes from leaf to leaf.
-pub fn seen_offset<C: Content>(
-    blocks: &Blocks<TreeLeaf<C>>,
-    p: u64,
-    view: LenView,
-) -> Option<Place>
+pub fn seen_offset<C: Content>(blocks: &Blocks<TreeLeaf<C>>, p: u64, view: LenView) -> Option<Place>
     requires usable { IsTrue blocks.now.usable }
     requires floor { IsFromFloor blocks.now.floor view }
     ensures on_leaf { IfSome result (IsOnLeaf C.units blocks.now.leaves) }
@@ -64,11 +60,7 @@ pub fn elements_before<C: Content>(blocks: &Blocks<TreeLeaf<C>>, at: &Place) -> 
 ///
 /// The reference number of a perspective isn't below the floor. It goes up from the leaf; at a stage other than
 /// `u64::MAX` it also looks for each leaf left of it that has a pending stamp.
-pub fn seen_before_on<C: Content>(
-    blocks: &Blocks<TreeLeaf<C>>,
-    at: &Place,
-    view: LenView,
-) -> u64
+pub fn seen_before_on<C: Content>(blocks: &Blocks<TreeLeaf<C>>, at: &Place, view: LenView) -> u64
     requires usable { IsTrue blocks.now.usable }
     requires floor { IsFromFloor blocks.now.floor view }
     requires on_leaf { IsOnLeaf C.units blocks.now.leaves at.now }

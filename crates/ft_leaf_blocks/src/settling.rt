@@ -110,7 +110,10 @@ pub fn settled_on<C: Content>(
         return Some(*at);
     }
     match next_standing(blocks, blocks.next(at.owner), test) {
-        Some(leaf) => Some(Place { owner: leaf, offset: 0 }),
+        Some(leaf) => Some(Place {
+            owner: leaf,
+            offset: 0,
+        }),
         None => {
             let leaf = last_standing(blocks, blocks.prev(at.owner), test)?;
             Some(last_of(blocks, leaf))

@@ -55,7 +55,7 @@ join-requires-clause-fits g c =
     λ r offset e. omega (
       arith,
       join_fits us by xs once a ns c.requires.sound xs c.args.id c.leaf-leaf.result.now c.leaf-leaf.ensures c.in-Some.next c.leaf-next.result.now 18446744073709551616
-      (sym c.next.ensures ∙ c.in-Some.is) c.leaf-next.ensures c.first-first.ensures.few r offset e,
+          (sym c.next.ensures ∙ c.in-Some.is) c.leaf-next.ensures c.first-first.ensures.few r offset e,
       c.len-count.ensures.value,
     )
 
