@@ -9,7 +9,7 @@ ghost use Rattle.ft_leaves.specs.LeafLists.{Extends, elements};
 ghost use Rattle.ft_leaves.specs.References.{ChangesReferences, KeepsReferences};
 ghost use Rattle.ft_tree.specs.State.{KeepsRest};
 
-use crate::edits::append;
+use crate::edits::{append, take_content};
 use crate::tree::Tree;
 use ft_arena::NodeId;
 use ft_base::{Element, OutOfMemory};
@@ -137,10 +137,10 @@ impl<C: Content> Tree<C> {
     {
         let _first = self.blocks.first();
         let sweep = sweep_without(self.blocks.list(), id, self.sweep);
-        match self.blocks.take(id) {
-            Ok(leaf) => {
+        match take_content(&mut self.blocks, id) {
+            Ok(content) => {
                 self.sweep = sweep;
-                Ok(leaf.content)
+                Ok(content)
             }
             Err(e) => {
                 self.usable = false;

@@ -26,7 +26,7 @@ invariant_of-self g c = λ usable.
     } in
     let xs = c.self.inside.blocks.leaves in
     let f : TreeLeaf g.row.C.Denot → TreeLeaf g.row.C.Denot = sequenced_leaf in
-    same_sound us by c.self.inside b sound c.in-Ok.ensures.usable refl (λ r h. h)
+    same_sound us by c.self.inside b sound c.in-Ok.ensures.usable
     (λ z. ap (λ (ys : List (ℕ × TreeLeaf g.row.C.Denot)). times_leaf ys z) c.in-Ok.ensures.leaves ∙ times-change f xs c.args.id z)
     (ap (λ (ys : List (ℕ × TreeLeaf g.row.C.Denot)). length (elements us by ys)) (c.in-Ok.ensures.leaves ∙ change-map f xs c.args.id)
     ∙ elements-sequenced us by xs c.args.id)
