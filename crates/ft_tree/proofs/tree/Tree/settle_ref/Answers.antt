@@ -23,5 +23,5 @@ returns-clause-rest g c = refs_rest g.C.Content.units g.C.Content.by c.self.insi
 pub returns-clause-refs : goal.returns-clause-refs
 returns-clause-refs g c =
     subst (λ (s : TreeState g.row.C.Denot).
-        ChangesReference c.args.r (λ x. Some (slid_reference (elements g.C.Content.units g.C.Content.by s.leaves) (record x { acked = true }))) s.refs c.settle_ref.new.self.refs)
+    ChangesReference c.args.r (λ x. Some (slid_reference (elements g.C.Content.units g.C.Content.by s.leaves) (record x { acked = true }))) s.refs c.settle_ref.new.self.refs)
     c.self.view_is c.settle_ref.ensures.refs

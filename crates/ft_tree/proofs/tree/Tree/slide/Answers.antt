@@ -19,4 +19,4 @@ returns-clause-rest g c = refs_rest g.C.Content.units g.C.Content.by c.self.insi
 pub returns-clause-refs : goal.returns-clause-refs
 returns-clause-refs g c =
     subst (λ (s : TreeState g.row.C.Denot).
-        ChangesReferences (slid_reference (elements g.C.Content.units g.C.Content.by s.leaves)) s.refs c.slide.new.self.refs) c.self.view_is c.slide.ensures.refs
+    ChangesReferences (slid_reference (elements g.C.Content.units g.C.Content.by s.leaves)) s.refs c.slide.new.self.refs) c.self.view_is c.slide.ensures.refs
