@@ -1,7 +1,5 @@
 -- What holds of a tree that may still be used, as its callers see it, and that its steps keep it.
-use Rattle.std.proofs.Common.{◌≡◌, ◌≢◌, ℕ, suc, ◌+◌, ◌≤◌, Bool, true, false, cond, List, [], ◌∷◌, ◌++◌, map, IsTrue, Option, Some, None, option_map, length, subst, refl, sym, ◌∙◌, ap, arith, nat_eq}
-use Rattle.std.specs.Option.{option_or}
-use Rattle.std.proofs.lemmas.Bool.{cond-true, cond-false, eq-eqb, ne_eqb}
+use Rattle.std.proofs.Common.{◌≡◌, ℕ, suc, ◌+◌, ◌≤◌, Bool, true, false, cond, List, [], ◌∷◌, map, IsTrue, Option, Some, None, option_map, length, subst, refl, sym, ◌∙◌, ap, arith}
 use Rattle.ft_base.specs.declared.stamps.Stamp.{Stamp}
 use Rattle.ft_base.specs.Scan.{change_range, change_range_from, one_more_if, place, put}
 use Rattle.ft_base.specs.Visibility.{is_of_stage}
