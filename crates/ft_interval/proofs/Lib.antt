@@ -14,3 +14,5 @@ pub mod WrittenNumbers
 pub mod SettledOperation
 pub mod LocalEdits
 pub mod ShownAll
+pub mod WrittenLists
+pub mod ShownEnds

@@ -1,8 +1,9 @@
 -- All intervals with numbers as ends, beside the same intervals with places.
-use Rattle.std.proofs.Common.{◌≡◌, ℕ, ◌-◌, Bool, true, false, cond, is_some, List, [], ◌∷◌, ◌++◌, map, All, Option, Some, None, option_map, refl, sym, ◌∙◌, ap, subst}
+use Rattle.std.proofs.Common.{◌≡◌, ℕ, ◌+◌, ◌<◌, Bool, true, false, cond, is_some, List, [], ◌∷◌, ◌++◌, drop, get_or, length, map, take, All, Option, Some, None, refl, sym, ◌∙◌, ap, subst}
 use Rattle.std.specs.List.{AllZip}
 use Rattle.std.specs.declared.cmp.Ordering.{Ordering}
 use Rattle.std.specs.declared.cmp.Ordering.TheVariants.{Less, Equal, Greater}
+use Rattle.std.proofs.lemmas.List.{drop_more, map-append, take_more}
 use Rattle.std.proofs.lemmas.List.Elements.{All-cons, All-nil}
 use Rattle.ft_leaves.specs.Elements.{TreeElement}
 use Rattle.ft_op.specs.declared.operations.Ends.{Ends}
@@ -12,10 +13,28 @@ use Rattle.ft_props.specs.Keys.{put_rising}
 use Rattle.ft_props.specs.Properties.{PropertySet, apply}
 use Rattle.ft_interval.specs.declared.intervals.EndPair.{EndPair}
 use Rattle.ft_interval.specs.declared.intervals.Interval.{Interval}
+use Rattle.ft_interval.specs.declared.pending.Operation.{Operation}
+use Rattle.ft_interval.specs.Ends.{References, map_ends, places_of_ends}
 use Rattle.ft_interval.specs.Intervals.{IsBeforeNames, Name, NamesRise, after_operation, changed_interval, interval_cmp, interval_of, name_cmp, name_of, with_changed, without_name}
-use Rattle.ft_interval.specs.Numbers.{AreNumbers, HasInside, IsCarried, ShowsAll, ShowsInterval, record_of}
-use Rattle.ft_interval.specs.Shown.{carried, carried_interval, last, shown_record}
+use Rattle.ft_interval.specs.Numbers.{AreNumbers, HasInside, IsCarriedInterval, ShowsAll, ShowsInterval, record_of}
+use Rattle.ft_interval.specs.Shown.{carried, carried_interval, last, settled_end, shown_from, shown_record}
+use Rattle.ft_interval.specs.State.{placed_operations}
 use Rattle.ft_interval.proofs.WrittenNumbers.{number-at}
+
+-- two lists of intervals side by side, with one name at each place
+module _ (R : Interval ℕ → Interval ℕ → Type 0) (same : (i j : Interval ℕ) → R i j → name_of j ≡ name_of i) where
+  before-alike : (n : Name) (is js : List (Interval ℕ)) → AllZip R is js → IsBeforeNames n is → IsBeforeNames n js
+  before-alike n [] [] h b = tt
+  before-alike n [] (j ∷ js) h b = absurd h
+  before-alike n (i ∷ is) [] h b = absurd h
+  before-alike n (i ∷ is) (j ∷ js) h b = (ap (λ m. name_cmp n m) (same i j h.0) ∙ b.0, before-alike n is js h.1 b.1)
+
+  pub rise-alike : (is js : List (Interval ℕ)) → AllZip R is js → NamesRise is → NamesRise js
+  rise-alike [] [] h r = tt
+  rise-alike [] (j ∷ js) h r = absurd h
+  rise-alike (i ∷ is) [] h r = absurd h
+  rise-alike (i ∷ is) (j ∷ js) h r =
+      (subst (λ n. IsBeforeNames n js) (sym (same i j h.0)) (before-alike (name_of i) is js h.1 r.0), rise-alike is js h.1 r.1)
 
 module _ {U : Type 0} (xs : List (TreeElement U)) (k : ℕ) where
   same-name : (i j : Interval ℕ) → ShowsInterval xs k i j → name_of j ≡ name_of i
@@ -24,24 +43,22 @@ module _ {U : Type 0} (xs : List (TreeElement U)) (k : ℕ) where
   same-order : (n : Name) (i j : Interval ℕ) → ShowsInterval xs k i j → name_cmp n (name_of j) ≡ name_cmp n (name_of i)
   same-order n i j h = ap (λ m. name_cmp n m) (same-name i j h)
 
-  before-shown : (n : Name) (is js : List (Interval ℕ)) → ShowsAll xs k is js → IsBeforeNames n is → IsBeforeNames n js
-  before-shown n [] [] h b = tt
-  before-shown n [] (j ∷ js) h b = absurd h
-  before-shown n (i ∷ is) [] h b = absurd h
-  before-shown n (i ∷ is) (j ∷ js) h b = (same-order n i j h.0 ∙ b.0, before-shown n is js h.1 b.1)
-
   pub rise-shown : (is js : List (Interval ℕ)) → ShowsAll xs k is js → NamesRise is → NamesRise js
-  rise-shown [] [] h r = tt
-  rise-shown [] (j ∷ js) h r = absurd h
-  rise-shown (i ∷ is) [] h r = absurd h
-  rise-shown (i ∷ is) (j ∷ js) h r =
-      (subst (λ n. IsBeforeNames n js) (sym (same-name i j h.0)) (before-shown (name_of i) is js h.1 r.0), rise-shown is js h.1 r.1)
+  rise-shown is js h r = rise-alike (ShowsInterval xs k) same-name is js h r
 
   pub push-shown : (is js : List (Interval ℕ)) (i j : Interval ℕ) → ShowsAll xs k is js → ShowsInterval xs k i j → ShowsAll xs k (is ++ i ∷ []) (js ++ j ∷ [])
   push-shown [] [] i j h s = (s, tt)
   push-shown [] (y ∷ js) i j h s = absurd h
   push-shown (x ∷ is) [] i j h s = absurd h
   push-shown (x ∷ is) (y ∷ js) i j h s = (h.0, push-shown is js i j h.1 s)
+
+  -- one more
+  pub next-shown : (f g : Interval ℕ → Interval ℕ) (is js : List (Interval ℕ)) (n : ℕ) (i j : Interval ℕ) → n < length is → i ≡ get_or is n i
+      → ShowsAll xs k (map f (map g (take n is))) js → ShowsInterval xs k (f (g i)) j → ShowsAll xs k (map f (map g (take (n + 1) is))) (js ++ j ∷ [])
+  next-shown f g is js n i j within at h s =
+      let front : take (n + 1) is ≡ take n is ++ i ∷ [] = take_more is n i within ∙ ap (λ x. take n is ++ x ∷ []) (sym at) in
+      let all = ap (λ us. map f (map g us)) front ∙ ap (λ us. map f us) (map-append g (take n is) (i ∷ [])) ∙ map-append f (map g (take n is)) (g i ∷ []) in
+      subst (λ us. ShowsAll xs k us (js ++ j ∷ [])) (sym all) (push-shown (map f (map g (take n is))) js (f (g i)) j h s)
 
   pub inside-shown : (is js : List (Interval ℕ)) → ShowsAll xs k is js → All (HasInside xs k) js
   inside-shown [] [] h = All-nil (HasInside xs k)
@@ -148,3 +165,43 @@ module _ {U : Type 0} (xs : List (TreeElement U)) where
       let first = number-at xs last i.ends.start j.ends.start h.0.ends.start in
       let second = number-at xs last i.ends.end j.ends.end h.0.ends.end in
       λ t. record { label = label t; id = id t; ends = record { start = first t; end = second t }; props = props t } ∷ rest t
+
+-- ---- from stage to stage
+
+module _ {U : Type 0} (xs : List (TreeElement U)) (k m : ℕ) where
+  carried-name : (i j : Interval ℕ) → IsCarriedInterval xs k m i j → name_of j ≡ name_of i
+  carried-name i j h = (let a = h.label in let b = h.id in λ t. (a t, b t))
+
+  pub rise-carried : (is js : List (Interval ℕ)) → AllZip (IsCarriedInterval xs k m) is js → NamesRise is → NamesRise js
+  rise-carried is js h r = rise-alike (IsCarriedInterval xs k m) carried-name is js h r
+
+  carried-one : (i j x : Interval ℕ) → ShowsInterval xs k i j → IsCarriedInterval xs k m j x → ShowsInterval xs m (carried_interval xs k m i) x
+  carried-one i j x s c = record {
+    label = c.label ∙ s.label;
+    id = c.id ∙ s.id;
+    props = c.props ∙ s.props;
+    ends = record { start = c.start i.ends.start s.ends.start; end = c.end i.ends.end s.ends.end };
+  }
+
+  -- the numbers of all, carried on, show all carried on
+  pub carried-all : (is js us : List (Interval ℕ)) → ShowsAll xs k is js → AllZip (IsCarriedInterval xs k m) js us
+      → ShowsAll xs m (carried xs k m is) us
+  carried-all [] [] [] h c = tt
+  carried-all [] [] (u ∷ us) h c = absurd c
+  carried-all [] (j ∷ js) us h c = absurd h
+  carried-all (i ∷ is) [] us h c = absurd h
+  carried-all (i ∷ is) (j ∷ js) [] h c = absurd c
+  carried-all (i ∷ is) (j ∷ js) (u ∷ us) h c = (carried-one i j u h.0 c.0, carried-all is js us h.1 c.1)
+
+module _ {U : Type 0} (xs : List (TreeElement U)) (refs : References) (k i : ℕ) (ts : List Operation) (is all : List (Interval ℕ))
+    (shows : shown_from xs k (placed_operations refs (drop i ts)) is ≡ all) where
+  -- one operation on
+  pub next-all : (t : Operation) → i < length ts → t ≡ get_or ts i t
+      → shown_from xs t.stage (placed_operations refs (drop (i + 1) ts))
+      (after_operation t.op (map_ends (settled_end xs t.stage) (places_of_ends refs t.ends)) (carried xs k t.stage is)) ≡ all
+  next-all t within at =
+      sym (ap (λ us. shown_from xs k (placed_operations refs us) is) (drop_more ts i t within ∙ ap (λ u. u ∷ drop (i + 1) ts) (sym at))) ∙ shows
+
+  -- behind the last one
+  pub last-all : drop i ts ≡ [] → carried xs k last is ≡ all
+  last-all none = sym (ap (λ us. shown_from xs k (placed_operations refs us) is) none) ∙ shows

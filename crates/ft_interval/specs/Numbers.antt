@@ -83,3 +83,11 @@ module _ {U : Type 0} (xs : List (TreeElement U)) where
   -- where one number is behind the stages up to m
   abbrev pub IsCarried : ℕ → ℕ → Option ℕ → Option ℕ → Type 0
   IsCarried k m before after = (end : Option ℕ) → IsNumber k end before → IsNumber m (carried_end xs k (m - k) end) after
+
+  -- an interval with numbers of stage k, and with where these are behind the stages up to m
+  pub record IsCarriedInterval (k m : ℕ) (i j : Interval ℕ) : Type 0 where
+    pub label : j.label ≡ i.label
+    pub id : j.id ≡ i.id
+    pub props : j.props ≡ i.props
+    pub start : IsCarried k m i.ends.start j.ends.start
+    pub end : IsCarried k m i.ends.end j.ends.end
