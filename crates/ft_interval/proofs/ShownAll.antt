@@ -105,7 +105,7 @@ module _ {U : Type 0} (xs : List (TreeElement U)) (k : ℕ) where
       made-shown (name_cmp (name_of x) (name_of i)) (name_cmp (name_of y) (name_of j)) (x ∷ i ∷ is) (x ∷ is) (i ∷ put_rising interval_cmp x is)
       (y ∷ j ∷ js) (y ∷ js) (j ∷ put_rising interval_cmp y js)
       (ap (λ n. name_cmp n (name_of j)) (same-name x y s) ∙ same-order (name_of x) i j h.0)
-      (s, h.0, h.1) (s, h.1) (h.0, put-shown x y is js s h.1)
+      (s, h) (s, h.1) (h.0, put-shown x y is js s h.1)
 
   changed-shown : (n : Name) (f g : Interval ℕ → Interval ℕ) → ((i j : Interval ℕ) → ShowsInterval xs k i j → ShowsInterval xs k (f i) (g j))
       → (is js : List (Interval ℕ)) → ShowsAll xs k is js → ShowsAll xs k (with_changed n f is) (with_changed n g js)
@@ -115,7 +115,7 @@ module _ {U : Type 0} (xs : List (TreeElement U)) (k : ℕ) where
   changed-shown n f g s (i ∷ is) (j ∷ js) h =
       made-shown (name_cmp n (name_of i)) (name_cmp n (name_of j)) (i ∷ is) (f i ∷ is) (i ∷ with_changed n f is)
       (j ∷ js) (g j ∷ js) (j ∷ with_changed n g js) (same-order n i j h.0)
-      (h.0, h.1) (s i j h.0, h.1) (h.0, changed-shown n f g s is js h.1)
+      h (s i j h.0, h.1) (h.0, changed-shown n f g s is js h.1)
 
   without-shown : (n : Name) (is js : List (Interval ℕ)) → ShowsAll xs k is js → ShowsAll xs k (without_name n is) (without_name n js)
   without-shown n [] [] h = tt
@@ -124,7 +124,7 @@ module _ {U : Type 0} (xs : List (TreeElement U)) (k : ℕ) where
   without-shown n (i ∷ is) (j ∷ js) h =
       made-shown (name_cmp n (name_of i)) (name_cmp n (name_of j)) (i ∷ is) is (i ∷ without_name n is)
       (j ∷ js) js (j ∷ without_name n js) (same-order n i j h.0)
-      (h.0, h.1) h.1 (h.0, without-shown n is js h.1)
+      h h.1 (h.0, without-shown n is js h.1)
 
   given-shown : (given : Option Ends) (e d : EndPair ℕ) (props : PropertySet) → AreNumbers xs k e d → (i j : Interval ℕ) → ShowsInterval xs k i j
       → ShowsInterval xs k (changed_interval given e props i) (changed_interval given d props j)

@@ -12,8 +12,10 @@ abbrev pub as_ends : EndPair ℕ → Ends
 as_ends e = record { start = number_or_none e.start; end = number_or_none e.end }
 
 module _ {U : Type 0} (xs : List (TreeElement U)) (k : ℕ) where
-  pub shows-numbers : (i : Option (Interval ℕ)) (e : Option (EndPair ℕ)) → ShowsEnds xs k i e
-      → option_map as_ends e ≡ option_map (λ (j : Interval ℕ). numbers_at xs k j.ends) i
+  abbrev pub shown_numbers : Option (Interval ℕ) → Option Ends
+  shown_numbers i = option_map (λ (j : Interval ℕ). numbers_at xs k j.ends) i
+
+  pub shows-numbers : (i : Option (Interval ℕ)) (e : Option (EndPair ℕ)) → ShowsEnds xs k i e → option_map as_ends e ≡ shown_numbers i
   shows-numbers None None h = refl
   shows-numbers None (Some e) h = absurd h
   shows-numbers (Some i) None h = absurd h

@@ -1,16 +1,23 @@
-use Rattle.std.proofs.Common.{◌≡◌, [], drop, map, refl, sym, ◌∙◌, subst, arith}
+use Rattle.std.proofs.Common.{◌≡◌, [], drop, map, refl, ◌∙◌, ap, arith}
 use Rattle.std.proofs.Math.ListN.{drop_of_length-le}
+use Rattle.std.proofs.lemmas.Result.{IfOk-weaker}
 use Rattle.ft_interval.specs.Ends.{map_ends, places_of_ends}
 use Rattle.ft_interval.specs.Intervals.{after_operation}
-use Rattle.ft_interval.specs.Numbers.{ShowsAll}
-use Rattle.ft_interval.specs.Shown.{carried, last, settled_end, settled_interval, shown_from}
+use Rattle.ft_interval.specs.Shown.{carried, last, settled_end, settled_interval, shown_from, shown_record}
 use Rattle.ft_interval.specs.State.{placed_intervals, placed_operations, text_elements}
 use Rattle.ft_interval.proofs.ShownAll.{carried-all, inside-shown, last-all, next-all, records-shown}
 use Rattle.ft_interval.proofs.ShownSteps.{next-le, next-live, rest-live, rest-rises}
 use Rattle.ft_interval.proofs.all.all_shown.Goals as goal
 
 pub loop-t-init : goal.loop-t-init
-loop-t-init c = ?
+loop-t-init c =
+    let xs = text_elements c.args.tree.now in
+    record {
+      rising = c.requires.rising;
+      fits = omega arith;
+      live = c.requires.pending;
+      shows = (map (settled_interval xs 0) (placed_intervals c.args.tree.now.refs c.args.acked.now), c.in_ok-all.ensures, refl);
+    }
 
 pub take_next-requires-clause-live : goal.take_next-requires-clause-live
 take_next-requires-clause-live c =
@@ -25,11 +32,40 @@ take_next-requires-clause-rises c =
     next-le c.args.pending.now c.loop-t.t-index c.t-item.result c.loop-t-test.true c.t-item.is c.loop-t.stage c.loop-t.invariant.rising
 
 pub loop-t-preserved : goal.loop-t-preserved
-loop-t-preserved c = ?
+loop-t-preserved c =
+    let xs = text_elements c.args.tree.now in
+    let refs = c.args.tree.now.refs in
+    let ts = c.args.pending.now in
+    let i = c.loop-t.t-index in
+    let t = c.t-item.result in
+    let w = c.loop-t.invariant.shows in
+    let ends = map_ends (settled_end xs t.stage) (places_of_ends refs t.ends) in
+    let all = shown_from xs 0 (placed_operations refs ts) (map (settled_interval xs 0) (placed_intervals refs c.args.acked.now)) in
+    record {
+      rising = rest-rises ts i t c.loop-t-test.true c.t-item.is c.loop-t.stage c.loop-t.invariant.rising;
+      fits = c.take_next.ensures.fits;
+      live = rest-live ts i t c.loop-t-test.true c.t-item.is refs c.loop-t.invariant.live;
+      shows = (
+        after_operation t.op ends (carried xs c.loop-t.stage t.stage w.0),
+        c.in_ok-take_next.ensures.shown w.0 w.1,
+        next-all xs refs c.loop-t.stage i ts w.0 all w.2 t c.loop-t-test.true c.t-item.is,
+      );
+    }
 
 pub carry_all-requires-clause-inside : goal.carry_all-requires-clause-inside
 carry_all-requires-clause-inside c =
     inside-shown (text_elements c.args.tree.now) c.loop-t.stage c.loop-t.invariant.shows.0 c.loop-t.all c.loop-t.invariant.shows.1
 
 pub returns : goal.returns
-returns c = ?
+returns c =
+    let xs = text_elements c.args.tree.now in
+    let refs = c.args.tree.now.refs in
+    let ts = c.args.pending.now in
+    let k = c.loop-t.stage in
+    let w = c.loop-t.invariant.shows in
+    let new = c.carry_all.new.all in
+    let all = shown_from xs 0 (placed_operations refs ts) (map (settled_interval xs 0) (placed_intervals refs c.args.acked.now)) in
+    let none : drop c.loop-t.t-index ts ≡ [] = drop_of_length-le ts c.loop-t-test.false in
+    let shows = carried-all xs k last w.0 c.loop-t.all new w.1 c.carry_all.ensures in
+    let same = records-shown xs (carried xs k last w.0) new shows ∙ ap (λ is. map (shown_record xs) is) (last-all xs refs k c.loop-t.t-index ts w.0 all w.2 none) in
+    IfOk-weaker c.records.result _ _ (λ records e. e ∙ same) c.records.ensures
