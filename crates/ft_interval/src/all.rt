@@ -20,10 +20,7 @@ use ft_tree::{TextContent, Tree};
 /// The interval at stage 0, with its ends as numbers of that.
 ///
 /// Answers `OutOfMemory` where there is no room for it.
-fn numbered(
-    tree: &Tree<TextContent>,
-    i: &Interval<RefId>,
-) -> Result<Interval<u64>, OutOfMemory>
+fn numbered(tree: &Tree<TextContent>, i: &Interval<RefId>) -> Result<Interval<u64>, OutOfMemory>
     requires usable { IsTrue tree.now.usable }
     requires live { AreLiveEnds tree.now.refs i.now.ends }
     ensures { let xs = text_elements tree.now in

@@ -1,7 +1,5 @@
-use Rattle.std.proofs.Common.{List, sym, subst}
+use Rattle.std.proofs.Common.{sym, subst}
 use Rattle.std.proofs.lemmas.Result.{on_ok_weaker}
-use Rattle.ft_interval.specs.declared.intervals.EndPair.{EndPair}
-use Rattle.ft_interval.specs.declared.intervals.Interval.{Interval}
 use Rattle.ft_interval.specs.Ends.{map_ends, places_of_ends}
 use Rattle.ft_interval.specs.Intervals.{after_operation}
 use Rattle.ft_interval.specs.Numbers.{ShowsAll}
