@@ -42,14 +42,7 @@ fn removed_by_5<G: Ledger>(alloc: Global, blank: Blank) -> Result<Tree<TextConte
         &mut steps,
     )?;
     write(alloc, &mut tree, 2, "e", 2, &mut steps)?;
-    strike(
-        &mut tree,
-        1,
-        2,
-        5,
-        Perspective { r: 2, c: 2 },
-        &mut steps,
-    )?;
+    strike(&mut tree, 1, 5, Perspective { r: 2, c: 2 }, &mut steps)?;
     Ok(tree)
 }
 

@@ -63,21 +63,19 @@ pub(crate) fn write<G: Ledger>(
     Ok(())
 }
 
-// Removes under number `seq` the characters that the perspective sees from the `p`-th up to before the `q`-th.
+// Removes under number `seq` the character that the perspective sees after the `p`-th.
 pub(crate) fn strike<G: Ledger>(
     tree: &mut Tree<TextContent>,
     p: u64,
-    q: u64,
     seq: u64,
     at: Perspective,
     steps: &mut Steps<G>,
 ) -> Result<(), Fail>
     requires usable { IsTrue tree.old.usable }
     requires floor { tree.old.floor ≡ 0 }
-    requires order { p ≤ q }
     ensures { OnOk result (GoesOn tree.old tree.new) }
 {
-    tree.remove_remote(p, q, seq, at, steps)?;
+    tree.remove_remote(p, p.checked_add(1).ok_or("too far")?, seq, at, steps)?;
     Ok(())
 }
 
