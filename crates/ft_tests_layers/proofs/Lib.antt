@@ -1,2 +1,1 @@
-pub mod ReferenceLaws
 pub mod MarkerLists

@@ -1,10 +1,10 @@
 //! Compaction of trees of text.
 
 ghost use Rattle.std.specs.Prelude.{◌≡◌, ◌<◌, IsTrue, IfOk};
-ghost use Rattle.ft_tests_layers.specs.References.{HasNoReferences};
+ghost use Rattle.ft_text_steps.specs.Passing.{HasNoReferences};
 
-use crate::texts::{hear, strike, write};
 use ft_base::{Perspective, Steps};
+use ft_text_steps::texts::{hear, strike, write};
 use ft_tree::{TextContent, Tree};
 use ft_zamboni::{scour, scour_all};
 use std::alloc::Global;
@@ -42,7 +42,7 @@ fn removed_by_5<G: Ledger>(alloc: Global, blank: Blank) -> Result<Tree<TextConte
         &mut steps,
     )?;
     write(alloc, &mut tree, 2, "e", 2, &mut steps)?;
-    strike(&mut tree, 1, 5, Perspective { r: 2, c: 2 }, &mut steps)?;
+    strike(&mut tree, 1, 2, 5, Perspective { r: 2, c: 2 }, &mut steps)?;
     Ok(tree)
 }
 

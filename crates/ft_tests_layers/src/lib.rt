@@ -7,5 +7,3 @@ mod compaction;
 mod normalising;
 #[cfg(test)]
 mod regeneration;
-#[cfg(test)]
-mod texts;

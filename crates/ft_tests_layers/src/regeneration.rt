@@ -2,9 +2,9 @@
 
 ghost use Rattle.std.specs.Prelude.{◌≡◌, ◌<◌};
 
-use crate::texts::{erase, hear, write};
 use ft_base::{Perspective, Steps};
 use ft_rebase::{Piece, regenerate, stage_position};
+use ft_text_steps::texts::{erase, hear, write};
 use ft_tree::Tree;
 use std::alloc::Global;
 use std::marker::Brand;

@@ -1,39 +1,21 @@
 //! 20,000 pseudo-random edits, each of a tree of text and of a plain list, which show the same on the way.
 
 ghost use Rattle.std.specs.Prelude.{◌≡◌, ◌<◌, IsTrue, OnOk};
-ghost use Rattle.ft_tests_tree.specs.Passing.{HasNoChanges, Passes};
+ghost use Rattle.ft_text_steps.specs.Passing.{HasNoChanges, Passes};
 
-use crate::texts::{acknowledge, erase, hear, shown, strike, write};
 use ft_base::{Perspective, Steps};
 use ft_block::LenView;
 use ft_elements::element_tests::Before;
 use ft_elements::elements::Content;
 use ft_elements::lists::PlainList;
 use ft_props::Props;
+use ft_text_steps::Numbers;
+use ft_text_steps::texts::{acknowledge, erase, hear, shown, strike, write};
 use ft_tree::{TextContent, Tree};
 use std::alloc::Global;
 use std::marker::Brand;
 use std::sync::ledger::{Blank, Ledger};
 use std::test::Fail;
-
-// The numbers of Lehmer's generator with the factor 48,271, one after another.
-#[derive(Drop)]
-struct Numbers {
-    last: u64,
-    ghost small: { last < 2147483647 },
-}
-
-impl Numbers {
-    fn next(&mut self) -> u64 {
-        self.last = self.last * 48271 % 2147483647;
-        self.last
-    }
-
-    // The next as a number that isn't above this one.
-    fn next_up_to(&mut self, most: usize) -> u64 {
-        self.next() % (most as u64).saturating_add(1)
-    }
-}
 
 // How far the edits are: the last sequence number, the last stage, and the last acknowledged stage.
 #[derive(Clone, Copy)]
@@ -101,10 +83,11 @@ fn hear_both<G: Ledger>(
 {
     let at = sender(seq, numbers.next());
     let word = word(numbers.next());
-    let p = numbers.next_up_to(list.seen_count(at));
+    let p = numbers.next_up_to(list.seen_count(at) as u64);
     let contents = contents_of(alloc, word)?;
     list.insert(p, seq, at, None, &Props::new(alloc), contents.as_slice())?;
-    hear(alloc, tree, p, word, seq, at, steps)
+    hear(alloc, tree, p, word, seq, at, steps)?;
+    Ok(())
 }
 
 // A word of a new stage.
@@ -120,10 +103,11 @@ fn write_both<G: Ledger>(
     ensures { OnOk result (Passes tree.old tree.new) }
 {
     let word = word(numbers.next());
-    let p = numbers.next_up_to(list.seen_count(Before(stage)));
+    let p = numbers.next_up_to(list.seen_count(Before(stage)) as u64);
     let contents = contents_of(alloc, word)?;
     list.insert_at_stage(stage, p, &Props::new(alloc), contents.as_slice())?;
-    write(alloc, tree, p, word, stage, steps)
+    write(alloc, tree, p, word, stage, steps)?;
+    Ok(())
 }
 
 // The removal of a character under the next sequence number.
@@ -142,7 +126,8 @@ fn strike_both<G: Ledger>(
     let count = list.seen_count(at) as u64;
     let p = numbers.next() % count.max(1);
     list.remove(p, p + 1, seq, at)?;
-    strike(tree, p, seq, at, steps)
+    strike(tree, p, p + 1, seq, at, steps)?;
+    Ok(())
 }
 
 // The removal of a character by a new stage.
@@ -159,7 +144,8 @@ fn erase_both<G: Ledger>(
     let count = list.seen_count(Before(stage)) as u64;
     let p = numbers.next() % count.max(1);
     list.remove_at_stage(stage, p, p + 1)?;
-    erase(tree, p, stage, steps)
+    erase(tree, p, p + 1, stage, steps)?;
+    Ok(())
 }
 
 // The acknowledgement of a stage.
@@ -174,7 +160,8 @@ fn acknowledge_both(
     ensures { OnOk result (Passes tree.old tree.new) }
 {
     list.acknowledge(stage, seq, 1)?;
-    acknowledge(tree, stage, seq)
+    acknowledge(tree, stage, seq)?;
+    Ok(())
 }
 
 // What the `n`-th edit is, where stages that aren't acknowledged are left or not.
@@ -266,7 +253,7 @@ fn agrees_throughout<G: Ledger>(alloc: Global, seed: u64, blank: Blank) -> Resul
     let mut steps = Steps::<G>::new(blank);
     let mut tree = Tree::new(alloc);
     let mut list = PlainList::new(alloc);
-    let mut numbers = Numbers { last: seed };
+    let mut numbers = Numbers::after(seed);
     let mut progress = Progress {
         seq: 0,
         stage: 0,

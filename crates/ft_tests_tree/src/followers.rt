@@ -2,9 +2,9 @@
 
 ghost use Rattle.std.specs.Prelude.{◌≡◌, ◌<◌};
 
-use crate::texts::{erase, hear, write};
 use ft_base::{Perspective, Steps};
 use ft_block::LenView;
+use ft_text_steps::texts::{erase, hear, write};
 use ft_tree::Tree;
 use std::alloc::Global;
 use std::marker::Brand;
@@ -27,7 +27,7 @@ fn followed<G: Ledger>(alloc: Global, blank: Blank) -> Result<[Option<u64>; 5], 
     let first = tree.ref_index(r);
     write(alloc, &mut tree, 1, "x", 1, &mut steps)?;
     let kept = tree.ref_index(r);
-    erase(&mut tree, 3, 2, &mut steps)?;
+    erase(&mut tree, 3, 4, 2, &mut steps)?;
     let stayed = tree.ref_index(r);
     tree.ack(2, 5, 1)?;
     let slid = tree.ref_index(r);

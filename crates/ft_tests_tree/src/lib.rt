@@ -21,6 +21,4 @@ mod small;
 #[cfg(test)]
 mod tables;
 #[cfg(test)]
-mod texts;
-#[cfg(test)]
 mod walks;

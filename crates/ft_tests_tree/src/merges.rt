@@ -2,10 +2,10 @@
 
 ghost use Rattle.std.specs.Prelude.{◌≡◌, ◌<◌};
 
-use crate::texts::{erase, hear, shown, write};
 use ft_base::{Perspective, Steps};
 use ft_block::LenView;
 use ft_props::PropSet;
+use ft_text_steps::texts::{erase, hear, shown, write};
 use ft_tree::{TextContent, Tree};
 use std::alloc::Global;
 use std::marker::Brand;
@@ -25,7 +25,7 @@ fn past_pending<G: Ledger>(alloc: Global, blank: Blank) -> Result<String, Fail>
     write(alloc, &mut tree, 1, "b", 1, &mut steps)?;
     let after = Perspective { r: 1, c: 2 };
     hear(alloc, &mut tree, 1, "c", 2, after, &mut steps)?;
-    shown(alloc, &tree, u64::MAX)
+    Ok(shown(alloc, &tree, u64::MAX)?)
 }
 
 #[test]
@@ -70,7 +70,7 @@ fn removed<G: Ledger>(alloc: Global, blank: Blank) -> Result<[u64; 4], Fail>
     let mut tree = Tree::new(alloc);
     let before = Perspective { r: 0, c: 2 };
     hear(alloc, &mut tree, 0, "abc", 1, before, &mut steps)?;
-    erase(&mut tree, 1, 1, &mut steps)?;
+    erase(&mut tree, 1, 2, 1, &mut steps)?;
     Ok([
         tree.length(LenView::Stage(u64::MAX)),
         tree.length(LenView::Stage(0)),

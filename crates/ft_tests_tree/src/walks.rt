@@ -3,13 +3,13 @@
 ghost use Rattle.std.specs.Prelude.{◌≡◌, ◌<◌, ℕ, IsTrue, IfOk, None, OnOk};
 ghost use Rattle.ft_block.specs.Leaves.{IsLeafIn};
 ghost use Rattle.ft_leaves.specs.References.{reference_at};
-ghost use Rattle.ft_tests_tree.specs.Passing.{Appends};
+ghost use Rattle.ft_tests_tree.specs.Appending.{Appends};
 
-use crate::texts::{erase, first_marked, hear, run, shown};
 use ft_arena::NodeId;
 use ft_base::{Element, Perspective, Stamp, Stamps, Steps};
 use ft_block::LenView;
 use ft_props::{AdjSet, Changes, PropSet, Props};
+use ft_text_steps::texts::{erase, first_marked, hear, run, shown};
 use ft_tree::{Content, TextContent, Tree};
 use std::alloc::Global;
 use std::marker::Brand;
@@ -74,7 +74,7 @@ fn moved(alloc: Global) -> Result<String, Fail> {
     let first = head(&tree)?;
     let second = behind(&tree, first)?;
     tree.move_leaf(second, None)?;
-    shown(alloc, &tree, 0)
+    Ok(shown(alloc, &tree, 0)?)
 }
 
 // The first leaf's text after the second was joined to it.
@@ -117,7 +117,7 @@ fn unmarked<G: Ledger>(alloc: Global, blank: Blank) -> Result<[u64; 4], Fail>
     let mut tree = Tree::new(alloc);
     let before = Perspective { r: 0, c: 2 };
     hear(alloc, &mut tree, 0, "abcd", 1, before, &mut steps)?;
-    erase(&mut tree, 2, 1, &mut steps)?;
+    erase(&mut tree, 2, 3, 1, &mut steps)?;
     let id = first_marked(&tree, 1).ok_or("a mark")?;
     let place = tree.position_of(id, LenView::Stage(0));
     let len = tree.leaf_len(id);

@@ -1,5 +1,5 @@
 use Rattle.std.specs.Prelude.{◌≡◌, IsTrue}
-use Rattle.ft_tests_tree.specs.Passing.{HasNoChanges}
+use Rattle.ft_text_steps.specs.Passing.{HasNoChanges}
 use Rattle.ft_tests_tree.proofs.beside.agrees_throughout.Given as goal
 
 abbrev pub invariant-loop-n : goal.invariant-loop-n

@@ -1,0 +1,41 @@
+#!/usr/bin/env bash
+# How many remote insertions, removals and local insertions a tree of text makes in a second of processor
+# time, how many stages it acknowledges, and how many removals it makes where references stand on it, with
+# 10,000 and 100,000 elements, each in a leaf of its own, and a window of 100 sequence numbers above the
+# floor. Each edit is at a pseudo-random place; a sender lags behind within the window. Each figure but the
+# first is the time of a run with many such edits less that of a run with none. Build the program first:
+# rt run, in crates/ft_bench_tree.
+program="$(dirname "$0")/../crates/ft_bench_tree/out/ft_bench_tree"
+program="${1:-$program}"
+TIMEFORMAT='%U'
+
+# the processor time of a run in milliseconds: the least of three
+run_time() {
+    local best= took
+    for _ in 1 2 3; do
+        took=$( { time "$program" "$@" >/dev/null; } 2>&1)
+        took=$((10#${took/./}))
+        if [ -z "$best" ] || [ "$took" -lt "$best" ]; then
+            best=$took
+        fi
+    done
+    echo "$best"
+}
+
+# so many edits in so many milliseconds, per second
+rate() {
+    echo $(($1 * 1000 / ($2 > 0 ? $2 : 1)))
+}
+
+edits=5000
+for elements in 10000 100000; do
+    filled=$(run_time "$elements" 100 0 0 0 0)
+    removed=$(($(run_time "$elements" 100 0 "$edits" 0 0) - filled))
+    written=$(run_time "$elements" 100 0 0 "$edits" 0)
+    acknowledged=$(($(run_time "$elements" 100 0 0 "$edits" "$edits") - written))
+    referred=$(run_time "$elements" 100 1000 0 0 0)
+    slid=$(($(run_time "$elements" 100 1000 "$edits" 0 0) - referred))
+    echo "$elements elements: $(rate "$elements" "$filled") remote insertions/s," \
+        "$(rate "$edits" "$removed") removals/s, $(rate "$edits" $((written - filled))) local insertions/s," \
+        "$(rate "$edits" "$acknowledged") acknowledgements/s, $(rate "$edits" "$slid") removals/s beside 1,000 references"
+done

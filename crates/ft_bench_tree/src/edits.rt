@@ -1,0 +1,214 @@
+//! Edits of a tree of text.
+
+ghost use Rattle.std.specs.Prelude.{◌≡◌, ◌+◌, ◌-◌, ◌<◌, ◌≤◌, IsTrue, IfOk, OnOk};
+ghost use Rattle.ft_text_steps.specs.Passing.{HasNoChanges};
+
+use ft_base::{Perspective, Steps};
+use ft_block::LenView;
+use ft_text_steps::texts::{acknowledge, hear, strike, write};
+use ft_text_steps::{Numbers, StepFault};
+use ft_tree::{TextContent, Tree};
+use std::alloc::Global;
+use std::marker::Brand;
+use std::sync::ledger::{Blank, Ledger};
+
+/// How many edits there are of each kind.
+#[derive(Clone, Copy)]
+pub struct Counts {
+    /// Elements put in by others.
+    pub elements: u32,
+    /// Sequence numbers above the floor, at least one.
+    pub window: u32,
+    /// References.
+    pub references: u32,
+    /// Removals by others.
+    pub removals: u32,
+    /// Insertions of the client, each of a stage of its own.
+    pub insertions: u32,
+    /// Stages that are acknowledged.
+    pub acknowledgements: u32,
+}
+
+/// What is left at the end.
+#[derive(Clone, Copy)]
+pub struct Answer {
+    /// How many elements the client sees.
+    pub length: u64,
+    /// How many elements were ever made.
+    pub made: u64,
+}
+
+/// How many connections take turns.
+const CONNECTIONS: u64 = 8;
+
+// The view of the client.
+const LOCAL: LenView = LenView::Stage(u64::MAX);
+
+// The perspective of the n-th message's sender, who had seen all before it but some of the window.
+fn sender(n: u64, window: u32) -> Perspective
+    requires { 1 ≤ window }
+    ensures { n ≤ result.r + window }
+{
+    Perspective {
+        r: n.saturating_sub(n % u64::from(window)),
+        c: (n % CONNECTIONS) as u32 + 2,
+    }
+}
+
+// So many elements, each put in at a pseudo-random place.
+fn filled<G: Ledger>(
+    alloc: Global,
+    elements: u32,
+    window: u32,
+    numbers: &mut Numbers,
+    steps: &mut Steps<G>,
+) -> Result<Tree<TextContent>, StepFault>
+    requires { 1 ≤ window }
+    ensures usable { IfOk result (λ tree. IsTrue tree.usable) }
+    ensures floor { IfOk result (λ tree. tree.floor ≤ elements - window) }
+    ensures calm { IfOk result HasNoChanges }
+{
+    let mut tree = Tree::new(alloc);
+    for n in 0..elements {
+        let n = u64::from(n);
+        let at = sender(n, window);
+        let p = numbers.next_up_to(tree.length(LenView::At(at)));
+        hear(alloc, &mut tree, p, "x", n + 1, at, steps)?;
+        tree.raise_floor((n + 1).saturating_sub(u64::from(window)));
+    }
+    Ok(tree)
+}
+
+// Puts so many references on elements that the client sees, and settles them.
+fn refer(
+    tree: &mut Tree<TextContent>,
+    references: u32,
+    numbers: &mut Numbers,
+) -> Result<(), StepFault>
+    requires { IsTrue tree.old.usable }
+    ensures { OnOk result (tree.new ≡ record tree.old { refs = tree.new.refs }) }
+{
+    for _i in 0..references {
+        let p = numbers.next() % tree.length(LOCAL).max(1);
+        let r = tree.add_ref(p, LOCAL)?;
+        tree.settle_ref(r);
+    }
+    Ok(())
+}
+
+// Removes so many elements, under the numbers after that of the last insertion.
+fn removed<G: Ledger>(
+    tree: &mut Tree<TextContent>,
+    elements: u32,
+    removals: u32,
+    numbers: &mut Numbers,
+    steps: &mut Steps<G>,
+) -> Result<(), StepFault>
+    requires usable { IsTrue tree.old.usable }
+    requires floor { tree.old.floor ≤ elements }
+    requires calm { HasNoChanges tree.old }
+    ensures usable { OnOk result (IsTrue tree.new.usable) }
+    ensures calm { OnOk result (HasNoChanges tree.new) }
+{
+    let at = Perspective {
+        r: u64::from(elements),
+        c: 2,
+    };
+    for i in 0..removals {
+        let p = numbers.next() % tree.length(LenView::At(at)).max(1);
+        strike(
+            tree,
+            p,
+            p + 1,
+            u64::from(elements) + u64::from(i) + 1,
+            at,
+            steps,
+        )?;
+    }
+    Ok(())
+}
+
+// Puts so many elements of the client in, each of a stage of its own.
+fn written<G: Ledger>(
+    alloc: Global,
+    tree: &mut Tree<TextContent>,
+    insertions: u32,
+    numbers: &mut Numbers,
+    steps: &mut Steps<G>,
+) -> Result<(), StepFault>
+    requires usable { IsTrue tree.old.usable }
+    requires calm { HasNoChanges tree.old }
+    ensures usable { OnOk result (IsTrue tree.new.usable) }
+    ensures calm { OnOk result (HasNoChanges tree.new) }
+{
+    for i in 0..insertions {
+        let p = numbers.next_up_to(tree.length(LOCAL));
+        write(alloc, tree, p, "y", u64::from(i) + 1, steps)?;
+    }
+    Ok(())
+}
+
+// Acknowledges so many stages, the first of them under this number.
+fn acknowledged(
+    tree: &mut Tree<TextContent>,
+    acknowledgements: u32,
+    seq: u32,
+) -> Result<(), StepFault>
+    requires usable { IsTrue tree.old.usable }
+    requires calm { HasNoChanges tree.old }
+    ensures { OnOk result (IsTrue tree.new.usable) }
+{
+    for i in 0..acknowledgements {
+        let stage = u64::from(i) + 1;
+        acknowledge(tree, stage, u64::from(seq) + stage)?;
+    }
+    Ok(())
+}
+
+// The same as `run`, on a counter of its own.
+fn run_on<G: Ledger>(alloc: Global, counts: &Counts, blank: Blank) -> Result<Answer, StepFault>
+    requires window { 1 ≤ counts.now.window }
+    requires name { blank.name ≡ G.name }
+    requires parts { blank.parts ≡ G.parts }
+    requires some { 0 < blank.parts }
+{
+    let mut steps = Steps::<G>::new(blank);
+    let mut numbers = Numbers::after(1);
+    let mut tree = filled(
+        alloc,
+        counts.elements,
+        counts.window,
+        &mut numbers,
+        &mut steps,
+    )?;
+    refer(&mut tree, counts.references, &mut numbers)?;
+    removed(
+        &mut tree,
+        counts.elements,
+        counts.removals,
+        &mut numbers,
+        &mut steps,
+    )?;
+    written(
+        alloc,
+        &mut tree,
+        counts.insertions,
+        &mut numbers,
+        &mut steps,
+    )?;
+    acknowledged(&mut tree, counts.acknowledgements, counts.elements)?;
+    Ok(Answer {
+        length: tree.length(LOCAL),
+        made: tree.made(),
+    })
+}
+
+/// Makes so many edits of each kind, one kind after another.
+///
+/// Answers `OutOfMemory` where there is no room for them, `TooLarge` where there are more than a thousand
+/// million elements, and `OutOfRange` where nothing is left to be removed.
+pub fn run(alloc: Global, counts: &Counts) -> Result<Answer, StepFault>
+    requires { 1 ≤ counts.now.window }
+{
+    run_on::<Brand>(alloc, counts, Blank::new(1))
+}

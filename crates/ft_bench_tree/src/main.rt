@@ -1,0 +1,35 @@
+//! Edits a tree of text at pseudo-random places, for a script that times it.
+//!
+//! The words are the number of elements put in by senders who lag behind, of sequence numbers above the
+//! floor, of references, of removals by other connections, of insertions of the client, each of a stage of
+//! its own, and of these stages that are acknowledged. Written are the number of elements that the client
+//! sees at the end and of those that were ever made.
+#![tactic(auto)]
+
+mod edits;
+
+use crate::edits::Counts;
+use anyhow::{Context, Error};
+use std::env;
+
+// The number that the word is.
+fn number(word: Option<String>) -> Result<u32, Error> {
+    let word = word.context("too few numbers")?;
+    let number = word.parse().context("a word is no number")?;
+    Ok(number)
+}
+
+fn main(rt: HostRuntime) -> Result<(), Error> {
+    let mut words = env::args(&rt)?.skip(1);
+    let counts = Counts {
+        elements: number(words.next())?,
+        window: number(words.next())?.max(1),
+        references: number(words.next())?,
+        removals: number(words.next())?,
+        insertions: number(words.next())?,
+        acknowledgements: number(words.next())?,
+    };
+    let answer = edits::run(rt.alloc(), &counts)?;
+    println!(rt; "{} {}", answer.length, answer.made)?;
+    Ok(())
+}

@@ -1,5 +1,0 @@
-use Rattle.ft_tests_layers.proofs.ReferenceLaws.{goes_changed}
-use Rattle.ft_tests_layers.proofs.texts.hear.Goals as goal
-
-pub returns : goal.returns
-returns g c = goes_changed _ c.args.tree.now c.insert_remote.new.self c.in_ok-insert_remote.ensures.refs c.in_ok-insert_remote.ensures.rest
