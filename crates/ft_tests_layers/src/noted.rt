@@ -8,7 +8,7 @@ ghost use Rattle.ft_interval.specs.State.{IsAboveAll, IsLive, Pushes, is_interva
 ghost use Rattle.ft_leaves.specs.Elements.{seen_in};
 ghost use Rattle.ft_text_steps.specs.Passing.{HasNoChanges};
 
-use ft_base::{Perspective, Steps, Text};
+use ft_base::{OutOfMemory, Perspective, Steps, Text};
 use ft_interval::{Collections, IntervalFault};
 use ft_op::{Ends, TextOp};
 use ft_props::PropSet;
@@ -80,7 +80,7 @@ impl Noted {
     }
 
     // Takes a message about an interval, which is in range.
-    pub(crate) fn apply(self, op: &TextOp, at: Perspective) -> Result<Noted, Fail>
+    fn apply(self, op: &TextOp, at: Perspective) -> Result<Noted, Fail>
         requires { is_interval_operation op.now ≡ true }
     {
         let Noted {
@@ -99,6 +99,18 @@ impl Noted {
             stage,
             stages,
         })
+    }
+
+    // The same, where the message adds an interval.
+    pub(crate) fn hear_add(
+        self,
+        label: &str,
+        id: &str,
+        ends: Ends,
+        at: Perspective,
+    ) -> Result<Noted, Fail> {
+        let op = add(*self.stages.allocator(), label, id, ends)?;
+        self.apply(&op, at)
     }
 
     // Puts characters in, as this client's own edit.
@@ -135,14 +147,14 @@ impl Noted {
     }
 
     // Makes an edit of an interval, this client's own.
-    pub(crate) fn edit(self, op: &TextOp) -> Result<Noted, IntervalFault> {
+    fn edit(self, op: &TextOp) -> Result<Noted, IntervalFault> {
         let Noted {
             mut tree,
             mut intervals,
             stage,
             mut stages,
         } = self;
-        edit(&mut intervals, &mut tree, op, stage)?;
+        make_edit(&mut intervals, &mut tree, op, stage)?;
         let Some(next) = stage.checked_add(1) else {
             return Err(IntervalFault::OutOfMemory);
         };
@@ -155,6 +167,29 @@ impl Noted {
             }),
             Err(_) => Err(IntervalFault::OutOfMemory),
         }
+    }
+
+    // Adds an interval, without properties.
+    pub(crate) fn add(self, label: &str, id: &str, ends: Ends) -> Result<Noted, IntervalFault> {
+        let op = add(*self.stages.allocator(), label, id, ends)?;
+        self.edit(&op)
+    }
+
+    // Gives an interval other ends, if some are given.
+    pub(crate) fn change(
+        self,
+        label: &str,
+        id: &str,
+        ends: Option<Ends>,
+    ) -> Result<Noted, IntervalFault> {
+        let op = change(*self.stages.allocator(), label, id, ends)?;
+        self.edit(&op)
+    }
+
+    // Takes an interval away.
+    pub(crate) fn delete(self, label: &str, id: &str) -> Result<Noted, IntervalFault> {
+        let op = delete(*self.stages.allocator(), label, id)?;
+        self.edit(&op)
     }
 
     // Acknowledges a stage of the text.
@@ -184,8 +219,8 @@ impl Noted {
         })
     }
 
-    // The first pending operation on an interval, as it is sent again, and the ends that are shown of an interval then.
-    pub(crate) fn sent_again(self, label: &str, id: &str) -> Result<(TextOp, Option<Ends>), Fail> {
+    // The ends of the first pending operation on an interval, as it is sent again, and those that are shown of an interval then.
+    pub(crate) fn sent_again(self, label: &str, id: &str) -> Result<[Option<Ends>; 2], Fail> {
         let alloc = *self.stages.allocator();
         let (label, id) = (Text::new(alloc, label)?, Text::new(alloc, id)?);
         let Noted {
@@ -198,7 +233,7 @@ impl Noted {
             return Err(Fail::new("nothing is pending"));
         }
         let op = intervals.settle_op(&mut tree, stages[0])?;
-        Ok((op, intervals.shown(&tree, &label, &id)))
+        Ok([given_ends(&op), intervals.shown(&tree, &label, &id)])
     }
 
     // The ends that are shown of an interval.
@@ -215,7 +250,7 @@ impl Noted {
 }
 
 // Makes an edit of an interval.
-fn edit(
+fn make_edit(
     intervals: &mut Collections,
     tree: &mut Tree<TextContent>,
     op: &TextOp,
@@ -235,8 +270,17 @@ fn edit(
     }
 }
 
+// The ends that an operation gives.
+fn given_ends(op: &TextOp) -> Option<Ends> {
+    match op {
+        TextOp::IntervalAdd { ends, .. } => Some(*ends),
+        TextOp::IntervalChange { ends, .. } => *ends,
+        TextOp::IntervalDelete { .. } | TextOp::One(_) | TextOp::Group(_) => None,
+    }
+}
+
 // An interval is added, without properties.
-pub(crate) fn add(alloc: Global, label: &str, id: &str, ends: Ends) -> Result<TextOp, Fail>
+fn add(alloc: Global, label: &str, id: &str, ends: Ends) -> Result<TextOp, OutOfMemory>
     ensures { IfOk result (λ op. is_interval_operation op ≡ true) }
 {
     Ok(TextOp::IntervalAdd {
@@ -248,12 +292,12 @@ pub(crate) fn add(alloc: Global, label: &str, id: &str, ends: Ends) -> Result<Te
 }
 
 // An interval gets other ends, if some are given.
-pub(crate) fn change(
+fn change(
     alloc: Global,
     label: &str,
     id: &str,
     ends: Option<Ends>,
-) -> Result<TextOp, Fail> {
+) -> Result<TextOp, OutOfMemory> {
     Ok(TextOp::IntervalChange {
         label: Text::new(alloc, label)?,
         id: Text::new(alloc, id)?,
@@ -263,7 +307,7 @@ pub(crate) fn change(
 }
 
 // An interval is taken away.
-pub(crate) fn delete(alloc: Global, label: &str, id: &str) -> Result<TextOp, Fail> {
+fn delete(alloc: Global, label: &str, id: &str) -> Result<TextOp, OutOfMemory> {
     Ok(TextOp::IntervalDelete {
         label: Text::new(alloc, label)?,
         id: Text::new(alloc, id)?,

@@ -1,4 +1,0 @@
-use Rattle.ft_tests_layers.proofs.intervals.an_end_behind_the_text_is_refused.Given as goal
-
-abbrev pub ghosts-of_two : goal.ghosts-of_two
-ghosts-of_two g a = record { name = a.blank.name; parts = a.blank.parts }
