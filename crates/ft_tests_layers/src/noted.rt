@@ -292,12 +292,7 @@ fn add(alloc: Global, label: &str, id: &str, ends: Ends) -> Result<TextOp, OutOf
 }
 
 // An interval gets other ends, if some are given.
-fn change(
-    alloc: Global,
-    label: &str,
-    id: &str,
-    ends: Option<Ends>,
-) -> Result<TextOp, OutOfMemory> {
+fn change(alloc: Global, label: &str, id: &str, ends: Option<Ends>) -> Result<TextOp, OutOfMemory> {
     Ok(TextOp::IntervalChange {
         label: Text::new(alloc, label)?,
         id: Text::new(alloc, id)?,
