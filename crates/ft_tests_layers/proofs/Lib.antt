@@ -1,1 +1,2 @@
 pub mod MarkerLists
+pub mod NotedLaws
