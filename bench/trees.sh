@@ -27,15 +27,16 @@ rate() {
     echo $(($1 * 1000 / ($2 > 0 ? $2 : 1)))
 }
 
-edits=5000
+removals=5000
+writes=10000
 for elements in 10000 100000; do
     filled=$(run_time "$elements" 100 0 0 0 0)
-    removed=$(($(run_time "$elements" 100 0 "$edits" 0 0) - filled))
-    written=$(run_time "$elements" 100 0 0 "$edits" 0)
-    acknowledged=$(($(run_time "$elements" 100 0 0 "$edits" "$edits") - written))
+    removed=$(($(run_time "$elements" 100 0 "$removals" 0 0) - filled))
+    written=$(run_time "$elements" 100 0 0 "$writes" 0)
+    acknowledged=$(($(run_time "$elements" 100 0 0 "$writes" "$writes") - written))
     referred=$(run_time "$elements" 100 1000 0 0 0)
-    slid=$(($(run_time "$elements" 100 1000 "$edits" 0 0) - referred))
+    slid=$(($(run_time "$elements" 100 1000 "$removals" 0 0) - referred))
     echo "$elements elements: $(rate "$elements" "$filled") remote insertions/s," \
-        "$(rate "$edits" "$removed") removals/s, $(rate "$edits" $((written - filled))) local insertions/s," \
-        "$(rate "$edits" "$acknowledged") acknowledgements/s, $(rate "$edits" "$slid") removals/s beside 1,000 references"
+        "$(rate "$removals" "$removed") removals/s, $(rate "$writes" $((written - filled))) local insertions/s," \
+        "$(rate "$writes" "$acknowledged") acknowledgements/s, $(rate "$removals" "$slid") removals/s beside 1,000 references"
 done
