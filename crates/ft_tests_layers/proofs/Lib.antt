@@ -1,2 +1,1 @@
 pub mod MarkerLists
-pub mod NotedLaws
