@@ -15,11 +15,12 @@ ghost use Rattle.ft_leaf_blocks.specs.Unsettled.{IsSoundOn};
 use crate::leaf_blocks::LeafBlocks;
 use crate::leaf_refs::LeafRefs;
 use crate::stage_nodes::StageNodes;
-use crate::touched::{is_of_stage, take_stage};
+use crate::touched::take_stage;
 use ft_arena::NodeId;
 use ft_base::OutOfMemory;
 use ft_block::Blocks;
 use ft_leaves::block_leaf::{acked_stamps, sequenced_stamps, unmarked_stamps};
+use ft_leaves::stamps::is_of_stage;
 use ft_leaves::{Content, LeafChange, TreeLeaf};
 use std::alloc::Global;
 

@@ -21,7 +21,7 @@ ghost use Rattle.ft_block.specs.Leaves.{
 };
 ghost use Rattle.ft_leaves.specs.BlockChanges.{MayChange, changed_leaf};
 ghost use Rattle.ft_leaves.specs.Edits.{ChangesReference, IsFreeOf, closed_by, moved_by, next_removal_above, up_to_place, with_place};
-ghost use Rattle.ft_leaves.specs.Elements.{IsLowestChange, seen_in};
+ghost use Rattle.ft_leaves.specs.Elements.{IsLowestChange};
 ghost use Rattle.ft_leaves.specs.LeafChanges.{acked_pair};
 ghost use Rattle.ft_leaves.specs.LeafLists.{elements, leaf_length};
 ghost use Rattle.ft_leaves.specs.Places.{shifted_place};

@@ -8,10 +8,11 @@ ghost use Rattle.ft_leaves.specs.LeafLists.{elements};
 ghost use Rattle.ft_leaf_blocks.specs.Touched.{Tracks, is_removed_at};
 
 use crate::stage_nodes::StageNodes;
-use crate::touched::{from_stage, is_any_of_stage};
+use crate::touched::from_stage;
 use ft_arena::NodeId;
 use ft_base::{Element, OutOfMemory};
 use ft_block::Blocks;
+use ft_leaves::stamps::has_stage;
 use ft_leaves::{Content, TreeLeaf};
 use std::alloc::Global;
 
@@ -55,7 +56,7 @@ fn is_any_removed<C: Content>(blocks: &Blocks<TreeLeaf<C>>, nodes: &[NodeId], st
     ensures { result ≡ list_any (is_removed_at blocks.now.leaves stage) nodes.now }
 {
     for id in nodes {
-        if is_any_of_stage(blocks.leaf(*id).stamps.dels.as_slice(), stage) {
+        if has_stage(blocks.leaf(*id).stamps.dels.as_slice(), stage) {
             return true;
         }
     }

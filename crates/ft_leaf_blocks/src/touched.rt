@@ -8,6 +8,7 @@ ghost use Rattle.ft_leaf_blocks.specs.Touched.{AreRising, Notes, holds, is_list_
 use crate::stage_nodes::StageNodes;
 use ft_arena::NodeId;
 use ft_base::{Element, OutOfMemory, Stamp};
+use ft_leaves::stamps::{has_stage, is_of_stage};
 
 /// How many lists are of lower stages.
 fn place_of(touched: &[StageNodes], stage: u64) -> usize
@@ -54,28 +55,11 @@ pub(crate) fn note(touched: &mut Vec<StageNodes>, stage: u64, id: NodeId) -> Res
     Ok(())
 }
 
-/// Whether one of the stamps is pending, of that stage.
-pub(crate) fn is_any_of_stage(stamps: &[Stamp], stage: u64) -> bool
-    ensures { result ≡ list_any (is_of_stage stage) stamps.now }
-{
-    stamps.iter().any(|stamp| is_of_stage(stamp, stage))
-}
-
-/// Whether the stamp is pending, of that stage.
-pub(crate) fn is_of_stage(stamp: &Stamp, stage: u64) -> bool
-    ensures { result ≡ is_of_stage stage stamp.now }
-{
-    match stamp {
-        Stamp::Acked { .. } => false,
-        Stamp::Local { stage: own } => *own == stage,
-    }
-}
-
 /// Whether the insertion or a removal is pending, of that stage.
 fn is_stamped_by(e: &Element, stage: u64) -> bool
     ensures { result ≡ is_stamped_by stage e.now }
 {
-    is_of_stage(&e.ins, stage) || is_any_of_stage(e.dels.as_slice(), stage)
+    is_of_stage(&e.ins, stage) || has_stage(e.dels.as_slice(), stage)
 }
 
 /// Lists a node for the stage of a stamp, if that is pending and the old stamps have none of that stage.

@@ -7,7 +7,5 @@ pub mod Settling
 pub mod LeastStages
 pub mod Standing
 pub mod LeafEdits
-pub mod ReferenceLists
-pub mod Writing
 pub mod Numbered
 pub mod TextCuts

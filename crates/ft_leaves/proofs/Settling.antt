@@ -1,5 +1,5 @@
 -- Where a reference goes: by places, and leaf by leaf.
-use Rattle.std.proofs.Common.{◌≡◌, ◌≢◌, ℕ, suc, ◌+◌, ◌-◌, ◌<◌, ◌≤◌, Bool, true, false, cond, nat_eq, List, [], ◌∷◌, ◌++◌, map, length, Option, Some, None, option_map, find, refl, ◌∙◌, ap, inl, inr, arith}
+use Rattle.std.proofs.Common.{◌≡◌, ◌≢◌, ℕ, ◌+◌, ◌<◌, ◌≤◌, Bool, true, false, cond, nat_eq, List, [], ◌∷◌, ◌++◌, map, length, Option, Some, None, option_map, find, refl, ◌∙◌, ap, inl, inr, arith}
 use Rattle.std.specs.List.{enumerate_from}
 use Rattle.std.specs.Option.{option_or}
 use Rattle.std.proofs.lemmas.Bool.{cases_eq, cond-true, cond-false, eq-eqb, ne_eqb}
@@ -59,35 +59,6 @@ module _ {A : Type 0} (ok : A → Bool) where
     pub first-here : ((u : U) → ok (f u) ≡ true) → (us : List U) (n : ℕ) (ys : List A) → 0 < length us → first_from ok n (map f us ++ ys) ≡ Some n
     first-here h [] n ys some = absurd (omega arith)
     first-here h (u ∷ us) n ys some = ap (λ b. cond b (Some n) (first_from ok (n + 1) (map f us ++ ys))) (h u)
-
-    -- a run before the place, which isn't ok
-    pub settled-past_none : ((u : U) → ok (f u) ≡ false) → (us : List U) (i n m : ℕ) (last : Option ℕ) (ys : List A) → m ≡ n + length us → m ≤ i
-        → settled_from ok i last n (map f us ++ ys) ≡ settled_from ok i last m ys
-    settled-past_none h [] i n m last ys e le = let same : n ≡ m = omega arith in ap (λ k. settled_from ok i last k ys) same
-    settled-past_none h (u ∷ us) i n m last ys e le =
-        let d : n ≢ i = omega arith in
-        later n i (option_or (first_from ok n (map f (u ∷ us) ++ ys)) last) (settled_from ok i (cond (ok (f u)) (Some n) last) (n + 1) (map f us ++ ys)) d
-        ∙ ap (λ b. settled_from ok i (cond b (Some n) last) (n + 1) (map f us ++ ys)) (h u) ∙ settled-past_none h us i (n + 1) m last ys (omega arith) le
-
-    -- a run before the place, which is
-    pub settled-past : ((u : U) → ok (f u) ≡ true) → (u : U) (us : List U) (i n m : ℕ) (last : Option ℕ) (ys : List A) → m ≡ n + suc (length us) → m ≤ i
-        → settled_from ok i last n (map f (u ∷ us) ++ ys) ≡ settled_from ok i (Some (m - 1)) m ys
-    settled-past h u [] i n m last ys e le =
-        let d : n ≢ i = omega arith in
-        let next : n + 1 ≡ m = omega arith in
-        let at : n ≡ m - 1 = omega arith in
-        later n i (option_or (first_from ok n (map f (u ∷ []) ++ ys)) last) (settled_from ok i (cond (ok (f u)) (Some n) last) (n + 1) ys) d
-        ∙ ap (λ b. settled_from ok i (cond b (Some n) last) (n + 1) ys) (h u) ∙ ap (λ k. settled_from ok i (Some n) k ys) next
-        ∙ ap (λ k. settled_from ok i (Some k) m ys) at
-    settled-past h u (v ∷ us) i n m last ys e le =
-        let d : n ≢ i = omega arith in
-        later n i (option_or (first_from ok n (map f (u ∷ v ∷ us) ++ ys)) last) (settled_from ok i (cond (ok (f u)) (Some n) last) (n + 1) (map f (v ∷ us) ++ ys)) d
-        ∙ ap (λ b. settled_from ok i (cond b (Some n) last) (n + 1) (map f (v ∷ us) ++ ys)) (h u) ∙ settled-past h v us i (n + 1) m (Some n) ys (omega arith) le
-
-    pub settled-past_some : ((u : U) → ok (f u) ≡ true) → (us : List U) (i n m : ℕ) (last : Option ℕ) (ys : List A) → 0 < length us → m ≡ n + length us → m ≤ i
-        → settled_from ok i last n (map f us ++ ys) ≡ settled_from ok i (Some (m - 1)) m ys
-    settled-past_some h [] i n m last ys some e le = absurd (omega arith)
-    settled-past_some h (u ∷ us) i n m last ys some e le = settled-past h u us i n m last ys e le
 
     -- the place is in a run that is ok
     pub settled-here : ((u : U) → ok (f u) ≡ true) → (us : List U) (i n : ℕ) (last : Option ℕ) (ys : List A) → n ≤ i → i < n + length us

@@ -23,10 +23,6 @@ with_leaf_overlay f x = record x { overlay = f x.overlay }
 abbrev pub changed_in : {C : Type 0} → LenView → (TreeLeaf C → TreeLeaf C) → TreeLeaf C → TreeLeaf C
 changed_in view g x = cond (sees_in view x.stamps) (g x) x
 
--- the same with its node
-abbrev pub changed_where_seen : {C : Type 0} → LenView → (TreeLeaf C → TreeLeaf C) → ℕ × TreeLeaf C → ℕ × TreeLeaf C
-changed_where_seen view g x = (x.0, changed_in view g x.1)
-
 -- a leaf after stage k was acknowledged under number s of connection c
 abbrev pub acked_leaf : {C : Type 0} → (C → ℕ → ℕ → C) → ℕ → ℕ → ℕ → TreeLeaf C → TreeLeaf C
 acked_leaf stamped k s c x = record {

@@ -1,5 +1,5 @@
 -- References, each under its number, and where each change of the elements takes them.
-use Rattle.std.specs.Prelude.{◌≡◌, ℕ, true, cond, nat_eq, List, [], ◌∷◌, Option, Some, None, IsSome, option_map, option_and_then}
+use Rattle.std.specs.Prelude.{◌≡◌, ℕ, cond, nat_eq, List, [], ◌∷◌, Option, Some, None, IsSome, option_map, option_and_then}
 use Rattle.ft_leaves.specs.declared.references.Reference.{Reference}
 use Rattle.ft_leaves.specs.Elements.{TreeElement, is_unremoved}
 use Rattle.ft_leaves.specs.Places.{settled_place}
@@ -28,7 +28,3 @@ ChangesReferences f old new = (r : ℕ) → reference_at new r ≡ option_map f 
 -- the references stay as they are
 abbrev pub KeepsReferences : List (ℕ × Reference) → List (ℕ × Reference) → Type 0
 KeepsReferences old new = (r : ℕ) → reference_at new r ≡ reference_at old r
-
--- a reference, made acknowledged and slid if it has this number
-abbrev pub settled_at : {U : Type 0} → ℕ → List (TreeElement U) → ℕ × Reference → ℕ × Reference
-settled_at r xs x = (x.0, cond (nat_eq x.0 r) (slid_reference xs (record x.1 { acked = true })) x.1)

@@ -1,4 +1,4 @@
-//! The leaves of the merge tree: what a leaf holds, and lists of references.
+//! The leaves of the merge tree: what a leaf holds.
 //!
 //! A call that can't answer `OutOfMemory` takes no memory.
 #![tactic(auto)]

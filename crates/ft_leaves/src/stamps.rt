@@ -115,7 +115,7 @@ fn sequenced_count(stamps: &[Stamp]) -> usize
 }
 
 /// Whether one of the stamps is sequenced.
-pub(crate) fn has_sequenced(stamps: &[Stamp]) -> bool
+pub fn has_sequenced(stamps: &[Stamp]) -> bool
     ensures { result ≡ list_any is_acked stamps.now }
 {
     stamps
@@ -124,14 +124,14 @@ pub(crate) fn has_sequenced(stamps: &[Stamp]) -> bool
 }
 
 /// Whether one of the stamps is pending, of that stage.
-pub(crate) fn has_stage(stamps: &[Stamp], stage: u64) -> bool
+pub fn has_stage(stamps: &[Stamp], stage: u64) -> bool
     ensures { result ≡ list_any (is_of_stage stage) stamps.now }
 {
     stamps.iter().any(|stamp| is_of_stage(stamp, stage))
 }
 
 /// Whether the stamp is pending, of that stage.
-pub(crate) fn is_of_stage(stamp: &Stamp, stage: u64) -> bool
+pub fn is_of_stage(stamp: &Stamp, stage: u64) -> bool
     ensures { result ≡ is_of_stage stage stamp.now }
 {
     match stamp {
@@ -151,7 +151,7 @@ pub(crate) fn is_at_or_below(stamp: &Stamp, floor: u64) -> bool
 }
 
 /// The stage of the stamp, if it is pending and above this one.
-fn stage_above(stamp: &Stamp, stage: u64) -> Option<u64>
+pub fn stage_above(stamp: &Stamp, stage: u64) -> Option<u64>
     ensures { result ≡ least_above stage (filter_map stage_of (stamp.now ∷ [])) }
 {
     match stamp {

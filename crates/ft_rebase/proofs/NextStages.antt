@@ -1,7 +1,6 @@
 -- The next pending insertion stage, and the moves of all of them.
 use Rattle.std.proofs.Common.{◌≡◌, ℕ, suc, ◌-◌, ◌<◌, ◌≤◌, Bool, true, false, cond, ◌||◌, nat_le, nat_lt, nat_eq, All, List, [], ◌∷◌, Option, Some, None, length, refl, sym, ◌∙◌, ap, subst, arith}
 use Rattle.std.specs.List.{cons_option, filter_map, list_any}
-use Rattle.std.specs.Option.{option_to_list}
 use Rattle.std.proofs.lemmas.Bool.Decides.{nat_tests}
 use Rattle.ft_arena.specs.Ids.{after}
 use Rattle.ft_base.specs.declared.stamps.Stamp.{Stamp}
@@ -25,7 +24,7 @@ use Rattle.ft_rebase.proofs.LeafWalks.{StandsAt}
 -- ---- the next stage
 
 one_more : (k : ℕ) (t : Stamp) (ns : List ℕ) → least_above k (cons_option (stage_of t) ns)
-    ≡ least_of (least_above k (option_to_list (stage_of t))) (least_above k ns)
+    ≡ least_of (least_above k (filter_map stage_of (t ∷ []))) (least_above k ns)
 one_more k (Acked s c) ns = refl
 one_more k (Local j) ns = step (nat_lt k j)
   where
@@ -50,12 +49,12 @@ below-rest j n (Some m) h = step (nat_le n m) refl h
 module _ {C : Type 0} where
   pub insertion_here : (k : ℕ) (xs : List (ℕ × TreeLeaf C)) (at : Option ℕ) (id : ℕ) (next : Option ℕ) (s : StandsAt xs at id) → next
       ≡ after (ids xs) id
-      → next_insertion k (from_place xs at) ≡ least_of (least_above k (option_to_list (stage_of s.value.stamps.ins)))
+      → next_insertion k (from_place xs at) ≡ least_of (least_above k (filter_map stage_of (s.value.stamps.ins ∷ [])))
       (next_insertion k (from_place xs next))
   insertion_here k xs at id next s n =
       ap (next_insertion k) s.from
       ∙ one_more k s.value.stamps.ins (filter_map (λ x. stage_of x.1.stamps.ins) (from_place xs (after (ids xs) id)))
-      ∙ ap (λ o. least_of (least_above k (option_to_list (stage_of s.value.stamps.ins))) (next_insertion k (from_place xs o))) (sym n)
+      ∙ ap (λ o. least_of (least_above k (filter_map stage_of (s.value.stamps.ins ∷ []))) (next_insertion k (from_place xs o))) (sym n)
 
   -- none is of a stage between k and the next one
   pub none_between : (k j : ℕ) (xs : List (ℕ × TreeLeaf C)) → k < j → IsBelow j (next_insertion k xs) → NoneOf j xs

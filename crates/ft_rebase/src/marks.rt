@@ -1,8 +1,6 @@
 //! The marks of a pending stage on the leaves of a tree.
 
 ghost use Rattle.std.specs.Prelude.{◌≡◌, Some, IsTrue, IfOk, option_map};
-ghost use Rattle.std.specs.List.{list_any};
-ghost use Rattle.ft_base.specs.Visibility.{is_of_stage};
 ghost use Rattle.ft_block.specs.Leaves.{IsLeafIn, value_at};
 ghost use Rattle.ft_leaves.specs.LeafLists.{elements};
 ghost use Rattle.ft_rebase.specs.Pieces.{leaf_has_mark, marked_runs};
@@ -10,8 +8,9 @@ ghost use Rattle.ft_rebase.specs.MarkedRuns.{RunsRise};
 
 use crate::runs::MarkedRuns;
 use ft_arena::NodeId;
-use ft_base::{OutOfMemory, Stamp, seen_at};
+use ft_base::{OutOfMemory, seen_at};
 use ft_leaves::Content;
+use ft_leaves::stamps::has_stage;
 use ft_tree::Tree;
 use std::alloc::Global;
 
@@ -22,23 +21,6 @@ pub enum Mark {
     Removal,
     /// Changes of its properties.
     Changes,
-}
-
-/// Whether the stamp is pending, of that stage.
-pub(crate) fn is_of_stage(stamp: &Stamp, stage: u64) -> bool
-    ensures { result ≡ is_of_stage stage stamp.now }
-{
-    match stamp {
-        Stamp::Acked { .. } => false,
-        Stamp::Local { stage: own } => *own == stage,
-    }
-}
-
-/// Whether one of the stamps is pending, of that stage.
-fn has_stage(stamps: &[Stamp], stage: u64) -> bool
-    ensures { result ≡ list_any (is_of_stage stage) stamps.now }
-{
-    stamps.iter().any(|stamp| is_of_stage(stamp, stage))
 }
 
 /// Whether the stage has this mark on the elements of a leaf.

@@ -2,22 +2,19 @@
 
 ghost use Rattle.std.specs.Prelude.{◌≡◌, ℕ, ◌-◌, ◌≤◌, None, IsTrue, IfOk, OnOk, filter, true};
 ghost use Rattle.ft_base.specs.Scan.{len};
-ghost use Rattle.std.specs.Option.{option_to_list};
 ghost use Rattle.ft_block.specs.Leaves.{IsLeafIn, IsPlaceIn, ids, move_leaf, value_at, without_leaf};
-ghost use Rattle.ft_leaves.specs.Edits.{least_above, stage_of};
 ghost use Rattle.ft_rebase.specs.Moves.{AreMoves, EndsLeaf, leaf_stamps, moved_stage, next_insertion, seen_node, seen_size};
 ghost use Rattle.ft_rebase.specs.Spots.{KeepsSpots};
 ghost use Rattle.ft_rebase.specs.StageLists.{StagesUpTo, StandSideBySide, inserted_by, seen_by, sequenced, with_stages};
 ghost use Rattle.ft_leaves.specs.LeafLists.{elements};
 ghost use Rattle.ft_tree.specs.State.{KeepsRest};
 
-use crate::marks::is_of_stage;
 use crate::positions::insertion_position;
 use ft_arena::NodeId;
-use ft_base::{OutOfMemory, Stamp};
+use ft_base::OutOfMemory;
 use ft_block::LenView;
 use ft_leaves::Content;
-use ft_leaves::stamps::lesser_of;
+use ft_leaves::stamps::{is_of_stage, lesser_of, stage_above};
 use ft_tree::Tree;
 use std::alloc::Global;
 
@@ -53,16 +50,6 @@ where
         put_stage(alloc, tree, next.stage, next.position)?;
     }
     Ok(())
-}
-
-/// The stage of a stamp, if it is pending and above this one.
-fn stage_above(stamp: &Stamp, stage: u64) -> Option<u64>
-    ensures { result ≡ least_above stage (option_to_list (stage_of stamp.now)) }
-{
-    match stamp {
-        Stamp::Acked { .. } => None,
-        Stamp::Local { stage: own } => { if stage < *own { Some(*own) } else { None } }
-    }
 }
 
 /// The least pending insertion stage above this one.

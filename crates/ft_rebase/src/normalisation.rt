@@ -19,6 +19,7 @@ use crate::pieces::allocator_of;
 use ft_arena::NodeId;
 use ft_base::{Element, OutOfMemory, Stamp};
 use ft_leaves::Content;
+use ft_leaves::stamps::has_sequenced;
 use ft_tree::Tree;
 
 /// Brings a merge tree in order after its pending stages were regenerated, so that it is as if they had been made afresh:
@@ -51,15 +52,6 @@ fn is_gone(e: &Element) -> bool
     ensures { result ≡ is_gone e.now }
 {
     matches!(e.ins, Stamp::Acked { .. }) && has_sequenced(e.dels.as_slice())
-}
-
-/// Whether one of the stamps is sequenced.
-fn has_sequenced(stamps: &[Stamp]) -> bool
-    ensures { result ≡ list_any is_acked stamps.now }
-{
-    stamps
-        .iter()
-        .any(|stamp| matches!(stamp, Stamp::Acked { .. }))
 }
 
 /// Whether one of the stamps is pending.

@@ -8,10 +8,10 @@ ghost use Rattle.ft_leaves.specs.Elements.{seen_in};
 ghost use Rattle.ft_leaves.specs.LeafLists.{elements};
 ghost use Rattle.ft_rebase.specs.Pieces.{first_inserted, insertion_position};
 
-use crate::marks::is_of_stage;
 use ft_arena::NodeId;
 use ft_block::LenView;
 use ft_leaves::Content;
+use ft_leaves::stamps::is_of_stage;
 use ft_tree::Tree;
 
 /// How many elements that the stage sees stand left of a leaf.

@@ -1,5 +1,5 @@
-use Rattle.std.proofs.Common.{ℕ, Option, ap, sym, ◌∙◌}
-use Rattle.std.specs.Option.{option_to_list}
+use Rattle.std.proofs.Common.{ℕ, [], ◌∷◌, Option, ap, sym, ◌∙◌}
+use Rattle.std.specs.List.{filter_map}
 use Rattle.ft_leaves.specs.Edits.{least_above, least_of, stage_of}
 use Rattle.ft_leaves.proofs.LeastStages.{least_of-assoc, least_of-none}
 use Rattle.ft_leaf_blocks.specs.Walks.{from_place}
@@ -32,7 +32,7 @@ loop-at-preserved g c =
     let s = stands_at xs c.loop-at.at c.in-Some.leaf c.first_leaf-first.ensures.once c.in-Some.is c.loop-at.invariant.live in
     let stamps = mapped (λ x. x.stamps) _ _ _ s.is c.leaf_element.ensures in
     let rest = next_insertion k (from_place xs next) in
-    let own = c.stage_above.ensures ∙ ap (λ e. least_above k (option_to_list (stage_of e.ins))) (sym stamps) in
+    let own = c.stage_above.ensures ∙ ap (λ e. least_above k (filter_map stage_of (e.ins ∷ []))) (sym stamps) in
     record {
       least =
           ap (λ (o : Option ℕ). least_of o rest) c.lesser_of-least.ensures
