@@ -10,10 +10,9 @@ use Rattle.ft_leaves.specs.declared.leaves.TreeLeaf.{TreeLeaf}
 use Rattle.ft_leaves.specs.declared.references.Reference.{Reference}
 use Rattle.ft_leaves.specs.References.{reference_at}
 use Rattle.ft_refs.specs.declared.numbers.Place.{Place}
-use Rattle.ft_refs.specs.RefLists.{IsRefs, RefLists, entry, ids_of, owner_of, owner_of_place, place_of_entry, place_of_reference}
+use Rattle.ft_refs.specs.RefLists.{IsRefs, RefLists, entry, ids_of, owner_of_place, place_of_reference}
 use Rattle.ft_leaf_blocks.specs.Anchors.{AnchorLists, AreAnchored, ChangesAnchor, is_acked_at, reference_on, references_on}
-use Rattle.ft_leaf_blocks.specs.LeafPlaces.{IsOnLeaf}
-use Rattle.ft_leaf_blocks.specs.Slides.{AreSettledBut, is_on, is_unremoved_at}
+use Rattle.ft_leaf_blocks.specs.Slides.{AreSettledBut, is_on}
 use Rattle.ft_leaf_blocks.proofs.AnchoredLeaves.{on_leaf, owner_live, reference_at-on}
 
 first_in : (xs : List ℕ) (r : ℕ) → first xs ≡ Some r → 1 ≤ times xs r
@@ -68,24 +67,7 @@ module _ {C U : Type 0} (units : C → List U) (by : C → Option Stamp) (xs : L
           ∙ sym (cond-false (nat_eq x r) _ _ (ne_eqb x r d))
     ]
 
-    pub changed_anchored : ((p : Place) → place_of_entry q ≡ Some p → IsOnLeaf units xs p) → AreAnchored units xs b
-    changed_anchored on = record {
-      on = λ x p e. elim (cases_eq x r) [
-        | inl same_number ↦ on p (sym (ap place_of_entry (ap (entry b.refs) same_number ∙ changes.places.changed)) ∙ e)
-        | inr d ↦ anchored.on x p (sym (ap place_of_entry (changes.places.others x d)) ∙ e)
-      ];
-      held = λ id live. changes.held id (anchored.held id live);
     }
-
-    pub changed_settled : (nodes : List ℕ) → (flag ≡ true → (p : Place) → place_of_entry q ≡ Some p → is_unremoved_at xs p.owner ≡ true) → AreSettledBut xs nodes a
-        → AreSettledBut xs nodes b
-    changed_settled nodes up settled x p e f gone = elim (cases_eq x r) [
-      | inl same_number ↦
-          let is_acked : flag ≡ true = sym changes.flag ∙ ap (is_acked_at b) (sym same_number) ∙ f in
-          let yes : is_unremoved_at xs p.owner ≡ true = up is_acked p (sym (ap place_of_entry (ap (entry b.refs) same_number ∙ changes.places.changed)) ∙ e) in
-          absurd (cc)
-      | inr d ↦ settled x p (sym (ap place_of_entry (changes.places.others x d)) ∙ e) (sym (changes.flags x d) ∙ f) gone
-    ]
 
   none_by : (id r : ℕ) (o : Option Place) → ((p : Place) → o ≡ Some p → p.owner ≢ id) → option_map_or (λ owner. nat_eq owner id) (owner_of_place o) false ≡ false
   none_by id r None h = refl

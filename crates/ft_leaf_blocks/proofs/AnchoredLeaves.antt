@@ -2,7 +2,6 @@
 -- stand on leaves.
 use Rattle.std.proofs.Common.{◌≡◌, ◌≢◌, ℕ, zero, suc, ◌+◌, ◌<◌, ◌≤◌, Bool, true, false, cond, nat_eq, List, [], ◌∷◌, ◌++◌, map, length, get_or, Option, Some, None, IsSomeAnd, option_map, subst, refl, sym, ◌∙◌, ap, inl, inr, arith}
 use Rattle.std.proofs.lemmas.Bool.{cases_eq, cond-true, cond-false, eq-eqb, ne_eqb}
-use Rattle.std.proofs.lemmas.Bool.Decides.{nat_tests}
 use Rattle.ft_arena.specs.Ids.{after, same}
 use Rattle.ft_arena.proofs.IdLemmas.{same_other, same_refl}
 use Rattle.ft_base.specs.declared.stamps.Stamp.{Stamp}
@@ -10,10 +9,10 @@ use Rattle.ft_block.specs.Leaves.{IsLeafIn, IsPlaceIn, change_leaf, ids, join_le
 use Rattle.ft_block.proofs.LeafListLemmas.{value_at_in}
 use Rattle.ft_leaves.specs.declared.leaves.TreeLeaf.{TreeLeaf}
 use Rattle.ft_leaves.specs.declared.references.Reference.{Reference}
-use Rattle.ft_leaves.specs.Edits.{IsFreeOf, closed_by, closed_place, leaf_at, moved_by, moved_place, up_to_place, with_place}
+use Rattle.ft_leaves.specs.Edits.{closed_by, closed_place, leaf_at, moved_by, moved_place, up_to_place, with_place}
 use Rattle.ft_leaves.specs.LeafLists.{elements}
 use Rattle.ft_leaves.specs.Places.{shifted_place}
-use Rattle.ft_leaves.specs.References.{ChangesReferences, KeepsReferences, place_of, reference_at}
+use Rattle.ft_leaves.specs.References.{ChangesReferences, KeepsReferences, reference_at}
 use Rattle.ft_leaves.proofs.CutLeaves.{times-append}
 use Rattle.ft_leaves.proofs.LeafEdits.{times-without-one}
 use Rattle.ft_leaves.proofs.LeafRuns.{length-elements}
@@ -27,7 +26,7 @@ use Rattle.ft_leaf_blocks.proofs.JoinedPairs.{beside}
 use Rattle.ft_leaf_blocks.proofs.LeafPlaces.{Goes, OnLeaf, goes_as, goes_joined, goes_map, goes_moved, goes_put, goes_split, goes_without, count_before, without-split}
 use Rattle.ft_leaf_blocks.proofs.MovedLeaves.{count_alone}
 use Rattle.ft_leaf_blocks.proofs.Walks.{stands, up_to-from}
-use Rattle.ft_leaf_blocks.proofs.WalkEdits.{put-behind, split-split, times-change}
+use Rattle.ft_leaf_blocks.proofs.WalkEdits.{put-behind, split-split}
 
 -- no number below the first
 numbered_below : (f : ℕ → Option Place → Reference) (n r : ℕ) (ps : List (Option (Option Place))) → r < n → reference_at (numbered f n ps) r ≡ None

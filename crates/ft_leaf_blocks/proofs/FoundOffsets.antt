@@ -1,5 +1,5 @@
 -- Places that are found, as elements on leaves.
-use Rattle.std.proofs.Common.{◌≡◌, ℕ, zero, suc, ◌+◌, ◌-◌, ◌<◌, ◌≤◌, Bool, true, List, [], ◌∷◌, length, Option, Some, None, IsSomeAnd, nat_eq, nat_le, subst, refl, sym, ◌∙◌, ap, inl, inr, arith}
+use Rattle.std.proofs.Common.{◌≡◌, ℕ, zero, suc, ◌+◌, ◌-◌, ◌<◌, ◌≤◌, Bool, List, [], ◌∷◌, length, Option, Some, None, IsSomeAnd, nat_eq, nat_le, subst, refl, sym, ◌∙◌, ap, inl, inr, arith}
 use Rattle.std.specs.Option.{SomeIff}
 use Rattle.std.proofs.lemmas.Bool.{cases_lt, cond-false, cond-true, le-leb, lt-leb, ne_eqb}
 use Rattle.ft_base.specs.declared.stamps.Stamp.{Stamp}
@@ -68,12 +68,6 @@ module _ {A : Type 0} (seen : A → Bool) where
   pub len-most : (xs : List A) → len seen xs ≤ length xs
   len-most [] = omega arith
   len-most (x ∷ xs) = grind (arith, len-most xs)
-
-  -- where all are seen, it is at p
-  pub at-all : ((x : A) → seen x ≡ true) → (xs : List A) (n p : ℕ) → p < length xs → place_from_number seen n p xs ≡ Some (n + p)
-  at-all all [] n p less = absurd (omega arith)
-  at-all all (x ∷ xs) n zero less = grind (arith, all x)
-  at-all all (x ∷ xs) n (suc p) less = grind (arith, all x, at-all all xs (n + 1) p)
 
 some_and : {A : Type 0} {P Q : A → Type 0} (o : Option A) → ((v : A) → P v → Q v) → IsSomeAnd o P → IsSomeAnd o Q
 some_and None f h = h

@@ -1,22 +1,21 @@
 -- References on leaves stay right through each step on the leaves.
-use Rattle.std.proofs.Common.{◌≡◌, ◌≢◌, ℕ, ◌+◌, ◌<◌, ◌≤◌, ◌⊎◌, Bool, false, List, ◌∷◌, map, length, Option, Some, IsSomeAnd, subst, refl, sym, ◌∙◌, ap, inl, inr, arith}
+use Rattle.std.proofs.Common.{◌≡◌, ◌≢◌, ℕ, ◌+◌, ◌<◌, ◌≤◌, ◌⊎◌, Bool, false, List, ◌∷◌, map, length, Option, Some, IsSomeAnd, subst, sym, ◌∙◌, ap, arith}
 use Rattle.std.specs.Option.{option_map_or}
 use Rattle.ft_arena.specs.Ids.{after, times}
-use Rattle.ft_arena.proofs.IdLemmas.{same_refl}
 use Rattle.ft_base.specs.declared.stamps.Stamp.{Stamp}
 use Rattle.ft_base.specs.Visibility.{is_acked, is_present}
 use Rattle.ft_block.specs.Leaves.{IsLeafIn, IsPlaceIn, change_leaf, ids, join_leaf, left_of, length_by, move_leaf, put_leaf, split_leaf, times_leaf, value_after, value_at, without_leaf}
 use Rattle.ft_block.proofs.LeafListLemmas.{after_other, value_after_is}
 use Rattle.ft_leaves.specs.declared.leaves.TreeLeaf.{TreeLeaf}
-use Rattle.ft_leaves.specs.Edits.{IsFreeOf, closed_by, leaf_at, moved_by, up_to_place, with_place}
+use Rattle.ft_leaves.specs.Edits.{closed_by, moved_by, up_to_place, with_place}
 use Rattle.ft_leaves.specs.LeafLists.{elements}
 use Rattle.ft_leaves.specs.Places.{shifted_place}
-use Rattle.ft_leaves.specs.References.{ChangesReferences, KeepsReferences, place_of, reference_at}
+use Rattle.ft_leaves.specs.References.{ChangesReferences, KeepsReferences}
 use Rattle.ft_refs.specs.declared.numbers.Place.{Place}
 use Rattle.ft_refs.specs.RefLists.{IsHeld, place_of_reference, raised_place, split_place}
-use Rattle.ft_leaf_blocks.specs.Anchors.{AnchorLists, AreAnchored, MovesAnchors, references_on}
+use Rattle.ft_leaf_blocks.specs.Anchors.{AnchorLists, MovesAnchors, references_on}
 use Rattle.ft_leaf_blocks.specs.Slides.{AreSettledBut, is_unremoved_at}
-use Rattle.ft_leaf_blocks.specs.Unsettled.{IsSoundOn, NotesAll, NotesUnless}
+use Rattle.ft_leaf_blocks.specs.Unsettled.{IsSoundOn, NotesUnless}
 use Rattle.ft_leaf_blocks.proofs.AnchoredLeaves.{GoesOn, change_goes, join_goes, keeps, map_goes, move_goes, on_leaf, put_goes, size, split_goes, without_goes}
 use Rattle.ft_leaf_blocks.proofs.JoinedPairs.{beside}
 use Rattle.ft_leaf_blocks.proofs.LeafPlaces.{length_by-append}

@@ -1,8 +1,8 @@
 -- Where elements on leaves stand after each change of the list of leaves, where a leaf has this size.
-use Rattle.std.proofs.Common.{◌≡◌, ◌≢◌, ℕ, zero, suc, ◌+◌, ◌-◌, ◌<◌, ◌≤◌, ◌⊎◌, Bool, true, false, cond, nat_eq, List, [], ◌∷◌, ◌++◌, map, Option, Some, None, subst, refl, sym, ◌∙◌, ap, inl, inr, arith}
+use Rattle.std.proofs.Common.{◌≡◌, ◌≢◌, ℕ, zero, suc, ◌+◌, ◌-◌, ◌<◌, ◌≤◌, ◌⊎◌, Bool, true, false, cond, nat_eq, List, [], ◌∷◌, ◌++◌, map, Option, Some, subst, refl, sym, ◌∙◌, ap, inl, inr, arith}
 use Rattle.std.proofs.lemmas.Bool.{cases_eq, cases_lt, cond-true, cond-false, eq-eqb, ne_eqb}
 use Rattle.std.proofs.lemmas.Bool.Decides.{nat_tests}
-use Rattle.ft_arena.proofs.IdLemmas.{same_other, same_refl}
+use Rattle.ft_arena.proofs.IdLemmas.{same_other}
 use Rattle.ft_block.specs.Leaves.{left_of, length_by, times_leaf, value_at, without_leaf}
 use Rattle.ft_leaves.specs.Edits.{closed_place, moved_place}
 use Rattle.ft_leaves.specs.Places.{shifted_place}

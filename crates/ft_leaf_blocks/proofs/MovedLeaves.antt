@@ -1,15 +1,14 @@
--- A leaf that is moved directly after another one.
-use Rattle.std.proofs.Common.{◌≡◌, ◌≢◌, ℕ, ◌≤◌, List, length, Option, Some, None, ◌∙◌, ap, arith}
-use Rattle.ft_arena.proofs.IdLemmas.{same_refl}
+-- The other leaves where one is taken out or moved.
+use Rattle.std.proofs.Common.{◌≡◌, ◌≢◌, ℕ, ◌≤◌, List, length, Option, Some, None, sym, ap, arith}
+use Rattle.ft_arena.proofs.IdLemmas.{same_other, same_refl}
 use Rattle.ft_base.specs.declared.stamps.Stamp.{Stamp}
-use Rattle.ft_block.specs.Leaves.{IsPlaceIn, left_of, move_leaf, times_leaf, value_at, without_leaf}
+use Rattle.ft_block.specs.Leaves.{IsPlaceIn, times_leaf, value_at, without_leaf}
 use Rattle.ft_leaves.specs.declared.leaves.TreeLeaf.{TreeLeaf}
-use Rattle.ft_leaves.specs.Edits.{leaf_at, up_to_place}
+use Rattle.ft_leaves.specs.Edits.{leaf_at}
 use Rattle.ft_leaves.specs.LeafLists.{elements}
 use Rattle.ft_leaves.proofs.LeafEdits.{times-without-one}
 use Rattle.ft_leaves.proofs.LeafRuns.{elements-one, length-leaf}
 use Rattle.ft_leaves.proofs.Standing.{at-value}
-use Rattle.ft_leaf_blocks.proofs.WalkEdits.{left-put}
 
 module _ {L : Type 0} (xs : List (ℕ × L)) (id : ℕ) (one : times_leaf xs id ≡ 1) where
   pub gone : times_leaf (without_leaf xs id) id ≡ 0
@@ -28,11 +27,10 @@ module _ {L : Type 0} (xs : List (ℕ × L)) (id : ℕ) (one : times_leaf xs id 
   place_apart None live e = (cc)
   place_apart (Some z) live e = let same : z ≡ id = (cc) in omega (arith, gone, live, ap (times_leaf (without_leaf xs id)) same)
 
-  -- what stands left of the leaf after the move
-  pub left_moved : (at : Option ℕ) (v : L) → ((i : ℕ) → times_leaf xs i ≤ 1) → IsPlaceIn (without_leaf xs id) at → value_at xs id ≡ Some v
-      → left_of (move_leaf xs id at (value_at xs id)) id ≡ up_to_place (without_leaf xs id) at
-  left_moved at v once live e =
-      ap (λ o. left_of (move_leaf xs id at o) id) e ∙ left-put (without_leaf xs id) at id v (once_rest once) live gone
+  -- a place among all but itself is one among the others
+  pub place_left : (at : Option ℕ) → IsPlaceIn xs at → at ≢ Some id → IsPlaceIn (without_leaf xs id) at
+  place_left None live d = tt
+  place_left (Some z) live d = omega (arith, times-without-one xs id z one, same_other id z (λ e. d (ap Some (sym e))), live)
 
 module _ {C U : Type 0} (units : C → List U) (by : C → Option Stamp) where
   -- the elements of the leaf of a node alone

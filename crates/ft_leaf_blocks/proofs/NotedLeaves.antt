@@ -1,7 +1,7 @@
 -- Lists of leaves that are noted, one after another.
-use Rattle.std.proofs.Common.{◌≡◌, ◌≢◌, ℕ, suc, ◌+◌, ◌<◌, ◌≤◌, true, false, List, [], ◌∷◌, ◌++◌, length, drop, get_or, Option, Some, None, is_some, subst, refl, sym, ◌∙◌, ap, inl, inr, arith, zero, add-one, drop-cons}
+use Rattle.std.proofs.Common.{◌≡◌, ℕ, suc, ◌+◌, ◌<◌, ◌≤◌, false, List, [], ◌∷◌, ◌++◌, length, drop, get_or, Option, Some, None, is_some, refl, sym, ◌∙◌, ap, inl, inr, arith, zero, add-one, drop-cons}
 use Rattle.std.proofs.lemmas.Bool.{cases_eq}
-use Rattle.ft_arena.specs.Ids.{first, same, times}
+use Rattle.ft_arena.specs.Ids.{first, times}
 use Rattle.ft_arena.proofs.IdLemmas.{same_other, same_refl, times-append}
 use Rattle.ft_refs.specs.declared.numbers.Place.{Place}
 use Rattle.ft_refs.specs.RefLists.{IsRefs, ids_of, place_of_reference}

@@ -1,23 +1,21 @@
 -- What stands before an element on a leaf.
-use Rattle.std.proofs.Common.{◌≡◌, ℕ, ◌+◌, ◌<◌, ◌≤◌, Bool, true, false, List, ◌∷◌, ◌++◌, length, take, Option, Some, None, IsSomeAnd, MatchOption, option_map, refl, subst, ◌∙◌, ap, inl, inr, arith, length-append}
-use Rattle.std.proofs.lemmas.Bool.{cases_lt}
+use Rattle.std.proofs.Common.{◌≡◌, ℕ, ◌+◌, ◌<◌, ◌≤◌, Bool, true, false, List, ◌∷◌, ◌++◌, length, take, Option, Some, IsSomeAnd, subst, ◌∙◌, ap, arith, length-append}
 use Rattle.ft_arena.specs.Ids.{after}
 use Rattle.ft_base.specs.declared.stamps.Stamp.{Stamp}
 use Rattle.ft_base.specs.Scan.{len}
 use Rattle.ft_block.specs.declared.leaves.LenView.{LenView}
-use Rattle.ft_block.specs.declared.leaves.LenView.TheVariants.{All}
 use Rattle.ft_block.specs.Leaves.{IsLeafIn, ids, left_of, sees_in, times_leaf, value_at}
 use Rattle.ft_block.proofs.LeafListLemmas.{value_at_in}
 use Rattle.ft_leaves.specs.declared.leaves.TreeLeaf.{TreeLeaf}
 use Rattle.ft_leaves.specs.Elements.{TreeElement, element_with, seen_in}
 use Rattle.ft_leaves.specs.LeafLists.{elements, leaf_elements}
-use Rattle.ft_leaves.specs.Places.{place_at, seen_before}
+use Rattle.ft_leaves.specs.Places.{seen_before}
 use Rattle.ft_leaves.proofs.LeafRuns.{elements-append, length-leaf}
 use Rattle.ft_leaves.proofs.Numbered.{taken_past, taken_seen, taken_unseen}
 use Rattle.ft_refs.specs.declared.numbers.Place.{Place}
 use Rattle.ft_leaf_blocks.specs.LeafPlaces.{IsOnLeaf, place_on}
 use Rattle.ft_leaf_blocks.specs.Walks.{from_place}
-use Rattle.ft_leaf_blocks.proofs.FoundOffsets.{at-all, at-none, len-most}
+use Rattle.ft_leaf_blocks.proofs.FoundOffsets.{len-most}
 use Rattle.ft_leaf_blocks.proofs.Walks.{live_value, stands}
 
 module _ {C U : Type 0} (units : C → List U) (by : C → Option Stamp) (xs : List (ℕ × TreeLeaf C)) (at : Place) where
@@ -80,15 +78,3 @@ module _ {C U : Type 0} (units : C → List U) (by : C → Option Stamp) (xs : L
   pub seen_within : (view : LenView) → ((i : ℕ) → times_leaf xs i ≤ 1) → IsOnLeaf units xs at
       → len (seen_in {U = U} view) (elements units by (left_of xs at.owner)) + at.offset < length (elements units by xs)
   seen_within view once on = omega (arith, offset_within once on, len-most (seen_in {U = U} view) (elements units by (left_of xs at.owner)))
-
--- the element at place i is the one with i of all elements before it
-pub placed_at : {U : Type 0} (place : Place → ℕ) (o : Option Place) (es : List (TreeElement U)) (i : ℕ)
-    → option_map place o ≡ place_at (seen_in All) i es → MatchOption o (length es ≤ i) (λ at. place at ≡ i)
-placed_at place None es i e = elim (cases_lt i (length es)) [
-  | inl less ↦ let no : None ≡ Some (0 + i) = e ∙ at-all (seen_in All) (λ x. refl) es 0 i less in let never : ⊥ = (cc) in absurd never
-  | inr le ↦ le
-]
-placed_at place (Some at) es i e = elim (cases_lt i (length es)) [
-  | inl less ↦ let yes : Some (place at) ≡ Some (0 + i) = e ∙ at-all (seen_in All) (λ x. refl) es 0 i less in let same : place at ≡ 0 + i = (cc) in omega (arith, same)
-  | inr le ↦ let no : Some (place at) ≡ None = e ∙ at-none (seen_in All) 0 i es (omega (arith, len-most (seen_in All) es)) in let never : ⊥ = (cc) in absurd never
-]

@@ -4,10 +4,10 @@ use Rattle.std.specs.Option.{option_map_or}
 use Rattle.std.proofs.lemmas.Bool.{cases_eq, ne_eqb}
 use Rattle.std.proofs.lemmas.Bool.Decides.{nat_tests}
 use Rattle.ft_arena.specs.Ids.{same, times}
-use Rattle.ft_arena.proofs.IdLemmas.{same_other, same_refl}
+use Rattle.ft_arena.proofs.IdLemmas.{same_refl}
 use Rattle.ft_base.specs.declared.stamps.Stamp.{Stamp}
 use Rattle.ft_base.specs.Visibility.{is_of_stage}
-use Rattle.ft_block.specs.Leaves.{IsLeafIn, IsPlaceIn, change_leaf, left_of, times_leaf, value_at, without_leaf}
+use Rattle.ft_block.specs.Leaves.{change_leaf, left_of, times_leaf, value_at}
 use Rattle.ft_leaves.specs.declared.block_leaf.LeafChange.{LeafChange}
 use Rattle.ft_leaves.specs.declared.leaves.TreeLeaf.{TreeLeaf}
 use Rattle.ft_leaves.specs.declared.references.Reference.{Reference}
@@ -19,7 +19,6 @@ use Rattle.ft_leaves.specs.LeafLists.{elements}
 use Rattle.ft_leaves.specs.Elements.{is_unremoved}
 use Rattle.ft_leaves.specs.Places.{settled_place}
 use Rattle.ft_leaves.specs.References.{IsReferenceIn, place_of, reference_at, slid_reference}
-use Rattle.ft_leaves.proofs.LeafEdits.{times-without-one}
 use Rattle.ft_leaves.proofs.Standing.{change-map}
 use Rattle.ft_refs.specs.declared.numbers.Place.{Place}
 use Rattle.ft_refs.specs.RefLists.{entry, place_of_entry, place_of_reference}
@@ -33,6 +32,7 @@ use Rattle.ft_leaf_blocks.proofs.AnchorChanges.{changed_references}
 use Rattle.ft_leaf_blocks.proofs.AnchoredLeaves.{on_leaf, reference_at-on}
 use Rattle.ft_leaf_blocks.proofs.KeptRefs.{Keeps, kept_mapped, kept_noted}
 use Rattle.ft_leaf_blocks.proofs.MovedLeaves.{count_alone}
+use Rattle.ft_leaf_blocks.proofs.StepValues.{value-map}
 use Rattle.ft_leaf_blocks.proofs.UnsettledLeaves.{unremoved_leaf}
 use Rattle.ft_leaf_blocks.proofs.Walks.{live_value}
 
@@ -55,22 +55,6 @@ pub numbered_none : (f : ℕ → Option Place → Reference) (n : ℕ) (ps : Lis
 numbered_none f n [] h = refl
 numbered_none f n (None ∷ ps) h = numbered_none f (n + 1) ps (λ r. h (suc r))
 numbered_none f n (Some p ∷ ps) h = let here : Some p ≡ None = h 0 in (cc)
-
-value_by : {L : Type 0} (f : L → L) (b : Bool) (v : L) (o p : Option L) → o ≡ option_map f p → cond b (Some (f v)) o ≡ option_map f (cond b (Some v) p)
-value_by f true v o p e = refl
-value_by f false v o p e = e
-
--- the values of leaves that change
-pub value-map : {L : Type 0} (f : L → L) (xs : List (ℕ × L)) (z : ℕ) → value_at (map (λ x. (x.0, f x.1)) xs) z ≡ option_map f (value_at xs z)
-value-map f [] z = refl
-value-map f (x ∷ xs) z = value_by f (nat_eq x.0 z) x.1 (value_at (map (λ y. (y.0, f y.1)) xs) z) (value_at xs z) (value-map f xs z)
-
--- a place among the leaves but one
-pub place_left : {L : Type 0} (xs : List (ℕ × L)) (id : ℕ) (at : Option ℕ) → times_leaf xs id ≡ 1 → IsPlaceIn xs at → at ≢ Some id → IsPlaceIn (without_leaf xs id) at
-place_left xs id None one live d = tt
-place_left xs id (Some z) one live d =
-    let apart : id ≢ z = λ e. d (ap Some (sym e)) in
-    omega (arith, live, times-without-one xs id z one, same_other id z apart)
 
 module _ {C U : Type 0} (units : C → List U) (by : C → Option Stamp) where
   pub none_sound : (a : AnchorLists) (nodes : List ℕ) → ((r : ℕ) → entry a.refs r ≡ None) → IsSoundOn units [] a nodes

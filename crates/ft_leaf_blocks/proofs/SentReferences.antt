@@ -6,7 +6,7 @@ use Rattle.std.proofs.lemmas.Grind.{common_steps}
 use Rattle.ft_arena.specs.Ids.{first, points, same, times}
 use Rattle.ft_arena.proofs.IdLemmas.{same_other, same_refl}
 use Rattle.ft_refs.specs.declared.numbers.Place.{Place}
-use Rattle.ft_refs.specs.RefLists.{AllBelow, AreOn, ChangesOne, IsRefs, RefLists, entry, ids, ids_of, next_of, owner_of_place, place_of_entry, place_of_reference, references_of, without_reference}
+use Rattle.ft_refs.specs.RefLists.{AllBelow, AreOn, ChangesOne, IsRefs, RefLists, entry, ids, next_of, owner_of_place, place_of_entry, place_of_reference, references_of, without_reference}
 use Rattle.ft_refs.proofs.LoopLemmas.{Standing, count_from, live_at, next_behind, standing, taken}
 use Rattle.ft_leaf_blocks.specs.Anchors.{sent_place}
 
@@ -78,18 +78,6 @@ module _ (acked : List Bool) (from : ℕ) (to : Option Place) (old : RefLists) w
       let s = standing v from r k.done k.rest k.sound k.list k.starts in
       ap (count_from (Some r)) (k.list ∙ ap (λ zs. k.done ++ zs) s.1.is) ∙ count_at k.done s.1.behind r s.0 s.1.not_done ∙ sym (ap length s.1.is)
 
-  -- none are sent at first
-  pub sends_none : (ahead : Option ℕ) → IsRefs old → ahead ≡ first (ids_of old from) → Sends acked from to old old ahead
-  sends_none ahead sound e = record {
-    done = [];
-    rest = references_of old from;
-    list = refl;
-    starts = sym e;
-    pending = tt;
-    same_held = refl;
-    live = λ r h. h;
-    places = λ r. refl;
-    sound = sound;
   }
 
   pub ahead_live : (v : RefLists) (r : ℕ) → Sends acked from to old v (Some r) → IsSome (entry v r)

@@ -1,5 +1,5 @@
 -- Where a reference on a leaf goes: there, behind it, or before it.
-use Rattle.std.proofs.Common.{◌≡◌, ◌≢◌, ℕ, suc, ◌+◌, ◌<◌, ◌≤◌, Bool, true, false, cond, nat_eq, List, [], ◌∷◌, ◌++◌, map, length, All, Option, Some, None, IsSomeAnd, MatchOption, subst, refl, sym, ◌∙◌, ap, inl, inr, arith, append-nil, length-append}
+use Rattle.std.proofs.Common.{◌≡◌, ◌≢◌, ℕ, suc, ◌+◌, ◌<◌, ◌≤◌, Bool, true, false, cond, nat_eq, List, [], ◌∷◌, ◌++◌, map, length, All, Option, Some, None, IsSomeAnd, MatchOption, subst, refl, sym, ◌∙◌, ap, inl, inr, arith, length-append}
 use Rattle.std.specs.Option.{option_or}
 use Rattle.std.proofs.lemmas.List.Elements.{All-head, All-tail}
 use Rattle.std.proofs.lemmas.Bool.{cases_eq, cond-false, cond-true, eq-eqb, ne_eqb}
@@ -58,11 +58,6 @@ module _ {A : Type 0} (ok : A → Bool) where
       ∙ settled-append i (n + 1) next xs ys (omega arith)
       ∙ ap (λ k. settled_from ok i (option_or (last_from ok (n + 1) xs) next) k ys) same
       ∙ ap (λ o. settled_from ok i o (n + suc (length xs)) ys) (sym kept)
-
-  -- at a place beyond the list it goes nowhere
-  pub settled-beyond : (i : ℕ) (xs : List A) → length xs ≤ i → settled_place ok xs i ≡ None
-  settled-beyond i xs le =
-      settled_place-from ok i xs ∙ ap (settled_from ok i None 0) (sym (append-nil xs)) ∙ settled-append i 0 None xs [] (omega arith)
 
   module _ {U : Type 0} (f : U → A) where
     -- in a run that isn't ok there is no last one

@@ -1,19 +1,19 @@
 -- Where references on leaves go after sequenced removals: by the elements, and by the leaves.
-use Rattle.std.proofs.Common.{◌≡◌, ◌≢◌, ℕ, suc, ◌+◌, ◌-◌, ◌<◌, ◌≤◌, ◌⊎◌, Bool, true, false, cond, ◌&&◌, nat_eq, List, [], ◌∷◌, ◌++◌, map, length, get_or, Option, Some, None, IsSomeAnd, option_map, subst, refl, sym, ◌∙◌, ap, inl, inr, arith}
+use Rattle.std.proofs.Common.{◌≡◌, ◌≢◌, ℕ, ◌+◌, ◌<◌, ◌≤◌, ◌⊎◌, Bool, true, false, cond, ◌&&◌, nat_eq, List, [], ◌∷◌, length, get_or, Option, Some, None, IsSomeAnd, option_map, subst, refl, sym, ◌∙◌, ap, inl, inr, arith}
 use Rattle.std.specs.Option.{ForSome, option_map_or}
-use Rattle.std.proofs.lemmas.Bool.{cases_eq, cond-false, eq-eqb, ne_eqb}
-use Rattle.ft_arena.specs.Ids.{after, same, times}
+use Rattle.std.proofs.lemmas.Bool.{cases_eq, eq-eqb, ne_eqb}
+use Rattle.ft_arena.specs.Ids.{same}
 use Rattle.ft_arena.proofs.IdLemmas.{same_other}
 use Rattle.ft_base.specs.declared.stamps.Stamp.{Stamp}
 use Rattle.ft_base.specs.Visibility.{is_acked, is_present}
-use Rattle.ft_block.specs.Leaves.{ids, left_of, times_leaf, value_at}
+use Rattle.ft_block.specs.Leaves.{left_of, times_leaf, value_at}
 use Rattle.ft_leaves.specs.declared.leaves.Standing.TheVariants.{Unremoved}
 use Rattle.ft_leaves.specs.declared.leaves.TreeLeaf.{TreeLeaf}
 use Rattle.ft_leaves.specs.declared.references.Reference.{Reference}
 use Rattle.ft_leaves.specs.Elements.{TreeElement, element_with, is_unremoved}
-use Rattle.ft_leaves.specs.LeafLists.{elements, leaf_elements}
+use Rattle.ft_leaves.specs.LeafLists.{elements}
 use Rattle.ft_leaves.specs.Places.{settled_place}
-use Rattle.ft_leaves.specs.References.{ChangesReferences, reference_at, slid_reference}
+use Rattle.ft_leaves.specs.References.{reference_at, slid_reference}
 use Rattle.ft_refs.specs.declared.numbers.Place.{Place}
 use Rattle.ft_refs.specs.RefLists.{entry, owner_of, owner_of_place, place_of_entry, place_of_reference}
 use Rattle.ft_leaf_blocks.specs.Anchors.{AnchorLists, AreAnchored, is_acked_at, reference_on, references_on, sent_place}

@@ -188,11 +188,6 @@ set-noted k id s (x ∷ xs) of test =
 pub notes-none : (id : ℕ) (xs : List NodesOfStage) → AreRising xs → Notes id xs xs
 notes-none id xs h = record { kept = λ k z l. l; only = λ k z l. inl l; rising = h }
 
-pub notes-more : (id : ℕ) (xs ys zs : List NodesOfStage) → Notes id xs ys → Notes id ys zs → Notes id xs zs
-notes-more id xs ys zs g h = record {
-  kept = λ k z l. h.kept k z (g.kept k z l);
-  only = λ k z l. elim (h.only k z l) [ inl mid ↦ g.only k z mid | inr e ↦ inr e ];
-  rising = h.rising;
 }
 
 -- the lists with one node fewer

@@ -1,5 +1,5 @@
 -- The lists of what each stage touched are right after each step.
-use Rattle.std.proofs.Common.{◌≡◌, ◌≢◌, ℕ, ◌≤◌, Bool, true, false, cond, not, ◌||◌, List, [], ◌∷◌, ◌++◌, ◌⊎◌, inl, inr, filter, map, IsSomeAnd, Option, Some, None, option_map, refl, subst, sym, ◌∙◌, ap, nat_eq}
+use Rattle.std.proofs.Common.{◌≡◌, ◌≢◌, ℕ, ◌≤◌, Bool, true, false, cond, not, ◌||◌, List, [], ◌∷◌, ◌++◌, ◌⊎◌, inl, inr, filter, map, IsSomeAnd, Option, Some, None, refl, subst, sym, ◌∙◌, ap, nat_eq}
 use Rattle.std.specs.List.{list_any}
 use Rattle.std.specs.Option.{IsSome}
 use Rattle.std.proofs.lemmas.Bool.{cases_eq, eq-eqb, ne_eqb}
@@ -19,7 +19,7 @@ use Rattle.ft_leaves.specs.declared.leaves.TreeLeaf.{TreeLeaf}
 use Rattle.ft_leaves.specs.BlockChanges.{changed_leaf}
 use Rattle.ft_leaves.specs.LeafChanges.{acked_leaf, acked_pair}
 use Rattle.ft_leaf_blocks.specs.Touched.{NodesOfStage, Notes, Tracks, added_stage, is_listed, is_stamped_by, is_touched_by, purged, purged_at}
-use Rattle.ft_leaf_blocks.proofs.StepValues.{gone-without, is_some, is_valued, mapped, mapped_some, new_put, rear-split, value-change, value-put, value-split}
+use Rattle.ft_leaf_blocks.proofs.StepValues.{gone-without, is_some, is_valued, mapped, mapped_some, new_put, rear-split, value-change, value-map, value-put, value-split}
 use Rattle.ft_leaf_blocks.proofs.TouchedLists.{Takes, and_both, both_and, eq_from, notes-none, or_either, or_left, or_right, purged-listed, rising_mapped}
 use Rattle.ft_leaf_blocks.proofs.WalkEdits.{live-put}
 
@@ -333,24 +333,15 @@ module _ {C : Type 0} (stamped : C → ℕ → ℕ → C) (k s c : ℕ) where
       ]))
       (λ h. by_changes j x (fewer (λ q. nat_eq q.0 j) (λ q. not (nat_eq q.0 k)) x.overlay.pending h))
 
-  value_acked_by : (b : Bool) (x : ℕ × TreeLeaf C) (o p : Option (TreeLeaf C)) → o ≡ option_map (acked_leaf stamped k s c) p
-      → cond b (Some (acked_leaf stamped k s c x.1)) o ≡ option_map (acked_leaf stamped k s c) (cond b (Some x.1) p)
-  value_acked_by true x o p h = refl
-  value_acked_by false x o p h = h
-
-  pub value-acked : (xs : List (ℕ × TreeLeaf C)) (z : ℕ) → value_at (map (acked_pair stamped k s c) xs) z ≡ option_map (acked_leaf stamped k s c) (value_at xs z)
-  value-acked [] z = refl
-  value-acked (x ∷ xs) z = value_acked_by (nat_eq x.0 z) x (value_at (map (acked_pair stamped k s c) xs) z) (value_at xs z) (value-acked xs z)
-
   pub tracks-acked : (xs : List (ℕ × TreeLeaf C)) (ss ts : List NodesOfStage) (ns : List ℕ) → Tracks xs ss → Takes k ss ts ns
       → Tracks (map (acked_pair stamped k s c) xs) ts
   tracks-acked xs ss ts ns tracks takes = record {
     covers = λ j z x e t.
-        let v = mapped (acked_leaf stamped k s c) (value_at xs z) x (sym (value-acked xs z) ∙ e) in
+        let v = mapped (acked_leaf stamped k s c) (value_at xs z) x (sym (value-map (acked_leaf stamped k s c) xs z) ∙ e) in
         let now : is_touched_by j (acked_leaf stamped k s c v.0) ≡ true = ap (is_touched_by j) v.2 ∙ t in
         takes.others j z (λ same. absurd_both (ap (λ n. is_touched_by n (acked_leaf stamped k s c v.0)) (sym same) ∙ now) (acked_untouched v.0))
         ∙ tracks.covers j z v.0 v.1 (acked_touched j v.0 now);
-    live = λ j z l. subst IsSome (sym (value-acked xs z)) (mapped_some (acked_leaf stamped k s c) (value_at xs z)
+    live = λ j z l. subst IsSome (sym (value-map (acked_leaf stamped k s c) xs z)) (mapped_some (acked_leaf stamped k s c) (value_at xs z)
         (tracks.live j z (sym (takes.others j z (λ same. absurd_both l (ap (λ n. is_listed ts n z) same ∙ takes.gone z))) ∙ l)));
     rising = takes.rising;
   }

@@ -1,122 +1,26 @@
 -- On which leaves acknowledged references may have to slide, after each change of the list of leaves.
-use Rattle.std.proofs.Common.{◌≡◌, ◌≢◌, ℕ, ◌≤◌, ◌⊎◌, Bool, true, false, cond, nat_eq, List, [], ◌∷◌, ◌++◌, map, get_or, Option, Some, None, option_map, subst, refl, sym, ◌∙◌, ap, inl, inr, arith}
+use Rattle.std.proofs.Common.{◌≡◌, ◌≢◌, ℕ, ◌≤◌, ◌⊎◌, Bool, true, false, cond, nat_eq, List, [], ◌∷◌, map, get_or, Option, Some, None, option_map, subst, refl, sym, ◌∙◌, ap, inl, inr, arith}
 use Rattle.std.specs.Option.{option_map_or}
 use Rattle.std.proofs.lemmas.Bool.{cases_eq, cond-true, cond-false, eq-eqb, ne_eqb}
-use Rattle.ft_arena.specs.Ids.{after, same, times}
-use Rattle.ft_arena.proofs.IdLemmas.{same_other, same_refl}
+use Rattle.ft_arena.specs.Ids.{after, times}
 use Rattle.ft_base.specs.declared.stamps.Stamp.{Stamp}
 use Rattle.ft_base.specs.Visibility.{is_acked, is_present}
-use Rattle.ft_block.specs.Leaves.{IsLeafIn, IsPlaceIn, change_leaf, ids, join_leaf, left_of, move_leaf, put_leaf, split_leaf, times_leaf, value_at, without_leaf}
+use Rattle.ft_block.specs.Leaves.{IsLeafIn, IsPlaceIn, change_leaf, ids, join_leaf, move_leaf, put_leaf, split_leaf, times_leaf, value_at, without_leaf}
+use Rattle.ft_block.proofs.LeafListLemmas.{value_without}
 use Rattle.ft_leaves.specs.declared.leaves.TreeLeaf.{TreeLeaf}
-use Rattle.ft_leaves.specs.Edits.{up_to_place}
-use Rattle.ft_leaves.proofs.CutLeaves.{times-append}
-use Rattle.ft_leaves.proofs.LeafEdits.{times-without-one}
-use Rattle.ft_leaves.proofs.Standing.{change-map, join-split, value-split}
+use Rattle.ft_leaves.proofs.Standing.{change-map}
 use Rattle.ft_refs.specs.declared.numbers.Place.{Place}
 use Rattle.ft_refs.specs.RefLists.{entry, place_of_entry, place_of_reference, raised_place, split_place}
 use Rattle.ft_leaf_blocks.specs.Anchors.{AnchorLists, AreAnchored, MovesAnchors, is_acked_at}
 use Rattle.ft_leaf_blocks.specs.Slides.{AreSettledBut, is_unremoved_at}
-use Rattle.ft_leaf_blocks.specs.Walks.{from_place, node_behind}
 use Rattle.ft_leaf_blocks.proofs.AnchoredLeaves.{anchors_stay, on_leaf, owner_live}
-use Rattle.ft_leaf_blocks.proofs.JoinedPairs.{beside}
-use Rattle.ft_leaf_blocks.proofs.LeafPlaces.{raised_here, raised_other, split_high, split_low, split_other, without-split}
-use Rattle.ft_leaf_blocks.proofs.Walks.{stands, up_to-from}
-use Rattle.ft_leaf_blocks.proofs.WalkEdits.{put-behind, split-split}
+use Rattle.ft_leaf_blocks.proofs.MovedLeaves.{place_among, place_apart}
+use Rattle.ft_leaf_blocks.proofs.LeafPlaces.{raised_here, raised_other, split_high, split_low, split_other}
+use Rattle.ft_leaf_blocks.proofs.StepValues.{is_live, is_some, other_value, own_value, rear-split, value-join, value-move, value-put, value-split}
 use Rattle.std.proofs.lemmas.Bool.{cases_lt}
 
 module _ {L : Type 0} where
-  -- a leaf more or less is no other leaf's value
-  pub value-beside : (l m : List (ℕ × L)) (x : ℕ × L) (z : ℕ) → x.0 ≢ z → value_at (l ++ x ∷ m) z ≡ value_at (l ++ m) z
-  value-beside [] m x z d = cond-false (nat_eq x.0 z) (Some x.1) (value_at m z) (ne_eqb x.0 z d)
-  value-beside (y ∷ l) m x z d = ap (cond (nat_eq y.0 z) (Some y.1)) (value-beside l m x z d)
-
-  pub value-put : (xs : List (ℕ × L)) (at : Option ℕ) (new : ℕ × L) (z : ℕ) → ((i : ℕ) → times_leaf xs i ≤ 1) → IsPlaceIn xs at → new.0 ≢ z
-      → value_at (put_leaf xs at new) z ≡ value_at xs z
-  value-put xs at new z once live d =
-      ap (λ (ys : List (ℕ × L)). value_at ys z) (put-behind xs at new once live)
-      ∙ value-beside (up_to_place xs at) (from_place xs (node_behind xs at)) new z d
-      ∙ ap (λ (ys : List (ℕ × L)). value_at ys z) (up_to-from xs at once live)
-
   module _ (xs : List (ℕ × L)) (id : ℕ) (v : L) (once : (i : ℕ) → times_leaf xs i ≤ 1) (value : value_at xs id ≡ Some v) where
-    rest : List (ℕ × L)
-    rest = from_place xs (after (ids xs) id)
-
-    pub value-without : (z : ℕ) → id ≢ z → value_at (without_leaf xs id) z ≡ value_at xs z
-    unfolding rest
-    value-without z d =
-        let s = stands xs id v once value in
-        ap (λ (ys : List (ℕ × L)). value_at ys z) (ap (λ ys. without_leaf ys id) s.whole ∙ without-split id v rest (left_of xs id) s.right s.left)
-        ∙ sym (ap (λ (ys : List (ℕ × L)). value_at ys z) s.whole ∙ value-beside (left_of xs id) rest (id, v) z d)
-
-    one : times_leaf xs id ≡ 1
-    one =
-        let s = stands xs id v once value in
-        omega (
-          arith,
-          once id,
-          ap (λ (ys : List (ℕ × L)). times_leaf ys id) s.whole,
-          times-append (left_of xs id) ((id, v) ∷ from_place xs (after (ids xs) id)) id,
-          same_refl id,
-        )
-
-    pub value-move : (at : Option ℕ) (z : ℕ) → IsPlaceIn (without_leaf xs id) at → value_at (move_leaf xs id at (value_at xs id)) z ≡ value_at xs z
-    value-move at z live =
-        let others = without_leaf xs id in
-        let once_there : (i : ℕ) → times_leaf others i ≤ 1 = λ i. omega (arith, times-without-one xs id i one, once i) in
-        let none : times_leaf others id ≡ 0 = omega (arith, times-without-one xs id id one, same_refl id, one) in
-        let k = up_to_place others at in
-        let m = from_place others (node_behind others at) in
-        let apart : times_leaf k id ≡ 0 = omega (arith, none, ap (λ (ys : List (ℕ × L)). times_leaf ys id) (up_to-from others at once_there live), times-append k m id) in
-        ap (λ (o : Option L). value_at (move_leaf xs id at o) z) value ∙ elim (cases_eq id z) [
-          | inl e ↦
-              ap (value_at (put_leaf others at (id, v))) (sym e) ∙ ap (λ (ys : List (ℕ × L)). value_at ys id) (put-behind others at (id, v) once_there live)
-              ∙ value-split id v m k apart ∙ sym value ∙ ap (value_at xs) e
-          | inr d ↦ value-put others at (id, v) z once_there live d ∙ value-without z d
-        ]
-
-    pub value-cut : (front rear : L → L) (new z : ℕ) → id ≢ z → new ≢ z → value_at (split_leaf front rear xs id new) z ≡ value_at xs z
-    unfolding rest
-    value-cut front rear new z d f =
-        let s = stands xs id v once value in
-        let l = left_of xs id in
-        ap (λ (ys : List (ℕ × L)). value_at ys z) (ap (λ ys. split_leaf front rear ys id new) s.whole ∙ split-split front rear id new v rest l s.right s.left)
-        ∙ value-beside l ((new, rear v) ∷ rest) (id, front v) z d ∙ value-beside l rest (new, rear v) z f
-        ∙ sym (ap (λ (ys : List (ℕ × L)). value_at ys z) s.whole ∙ value-beside l rest (id, v) z d)
-
-    pub value-front : (front rear : L → L) (new : ℕ) → value_at (split_leaf front rear xs id new) id ≡ Some (front v)
-    unfolding rest
-    value-front front rear new =
-        let s = stands xs id v once value in
-        let l = left_of xs id in
-        ap (λ (ys : List (ℕ × L)). value_at ys id) (ap (λ ys. split_leaf front rear ys id new) s.whole ∙ split-split front rear id new v rest l s.right s.left)
-        ∙ value-split id (front v) ((new, rear v) ∷ rest) l s.left
-
-    pub value-rear : (front rear : L → L) (new : ℕ) → times_leaf xs new ≡ 0 → id ≢ new → value_at (split_leaf front rear xs id new) new ≡ Some (rear v)
-    unfolding rest
-    value-rear front rear new fresh d =
-        let s = stands xs id v once value in
-        let l = left_of xs id in
-        let none : times_leaf l new ≡ 0 = omega (arith, fresh, ap (λ (ys : List (ℕ × L)). times_leaf ys new) s.whole, times-append l ((id, v) ∷ rest) new) in
-        ap (λ (ys : List (ℕ × L)). value_at ys new) (ap (λ ys. split_leaf front rear ys id new) s.whole ∙ split-split front rear id new v rest l s.right s.left)
-        ∙ value-beside l ((new, rear v) ∷ rest) (id, front v) new d
-        ∙ value-split new (rear v) rest l none
-
-    pub value-joined : (join : L → L → L) (next : ℕ) (w : L) → after (ids xs) id ≡ Some next → value_at xs next ≡ Some w
-        → value_at (join_leaf join xs id) id ≡ Some (join v w)
-    value-joined join next w follows there =
-        let t = beside xs id next v w once value follows there in
-        let l = left_of xs id in
-        ap (λ (ys : List (ℕ × L)). value_at ys id) (ap (λ ys. join_leaf join ys id) t.whole ∙ join-split id v ((next, w) ∷ t.rest) join l t.apart)
-        ∙ value-split id (join v w) t.rest l t.apart
-
-    pub value-join : (join : L → L → L) (next z : ℕ) (w : L) → after (ids xs) id ≡ Some next → value_at xs next ≡ Some w → id ≢ z → next ≢ z
-        → value_at (join_leaf join xs id) z ≡ value_at xs z
-    value-join join next z w follows there d f =
-        let t = beside xs id next v w once value follows there in
-        let l = left_of xs id in
-        ap (λ (ys : List (ℕ × L)). value_at ys z) (ap (λ ys. join_leaf join ys id) t.whole ∙ join-split id v ((next, w) ∷ t.rest) join l t.apart)
-        ∙ value-beside l t.rest (id, join v w) z d
-        ∙ sym (ap (λ (ys : List (ℕ × L)). value_at ys z) t.whole ∙ value-beside l ((next, w) ∷ t.rest) (id, v) z d ∙ value-beside l t.rest (next, w) z f)
 
   -- what a test tells of the leaf of a node, where it tells the same of the leaf after a change
   pub told-map : (test : L → Bool) (g : ℕ × L → L) (z : ℕ) → ((x : ℕ × L) → x.0 ≡ z → test (g x) ≡ test x.1) → (xs : List (ℕ × L))
@@ -185,7 +89,7 @@ module _ {C U : Type 0} (units : C → List U) (by : C → Option Stamp) where
     settled_put at id x b place fresh moves =
         settled_by xs (put_leaf xs at (id, x)) a b anchored (λ p. p) moves nodes nodes settled (λ r was e live there gone.
         let d : id ≢ was.owner = λ q. omega (arith, live, fresh, ap (times_leaf xs) q) in
-        let same_there = unremoved_as (put_leaf xs at (id, x)) xs was.owner was.owner (value-put xs at (id, x) was.owner once place d) in
+        let same_there = unremoved_as (put_leaf xs at (id, x)) xs was.owner was.owner (value-put xs at id was.owner x (λ q. d (sym q))) in
         inl (sym same_there ∙ gone, λ k. k))
 
     -- a leaf that is changed
@@ -212,13 +116,16 @@ module _ {C U : Type 0} (units : C → List U) (by : C → Option Stamp) where
       pub settled_without : ((r : ℕ) (p : Place) → place_of_reference a.refs r ≡ Some p → p.owner ≢ id) → AreSettledBut (without_leaf xs id) nodes a
       settled_without free =
           settled_noted (without_leaf xs id) nodes (λ z k. k)
-          (λ r p e live gone. inl (unremoved_as (without_leaf xs id) xs p.owner p.owner (value-without xs id v once value p.owner (λ q. free r p e (sym q)))))
+          (λ r p e live gone. inl (unremoved_as (without_leaf xs id) xs p.owner p.owner (value_without xs p.owner id (free r p e))))
 
       -- a leaf that is moved
       pub settled_moved : (at : Option ℕ) → IsPlaceIn (without_leaf xs id) at → AreSettledBut (move_leaf xs id at (value_at xs id)) nodes a
       settled_moved at place =
+          let live_here : IsLeafIn xs id = is_live xs id (is_some (value_at xs id) v value) in
+          let one : times_leaf xs id ≡ 1 = omega (arith, once id, live_here) in
           settled_same (move_leaf xs id at (value_at xs id))
-          (λ z live. unremoved_as (move_leaf xs id at (value_at xs id)) xs z z (value-move xs id v once value at z place))
+          (λ z live. unremoved_as (move_leaf xs id at (value_at xs id)) xs z z
+          (value-move xs id at z once live_here (place_among xs id one at place) (place_apart xs id one at place)))
 
       here : (ys : List (ℕ × TreeLeaf C)) (z : ℕ) (w : TreeLeaf C) → value_at ys z ≡ Some w → is_unremoved_at ys z ≡ unremoved_leaf w
       here ys z w e = ap (λ (o : Option (TreeLeaf C)). option_map_or unremoved_leaf o false) e
@@ -231,13 +138,14 @@ module _ {C U : Type 0} (units : C → List U) (by : C → Option Stamp) where
       settled_cut front rear at new b more fresh front_stamps rear_stamps moves kept noted =
           let now = split_leaf front rear xs id new in
           let apart : (z : ℕ) → IsLeafIn xs z → new ≢ z = λ z live q. omega (arith, live, fresh, ap (times_leaf xs) q) in
-          let live_here : IsLeafIn xs id = omega (arith, one xs id v once value) in
+          let live_here : IsLeafIn xs id = is_live xs id (is_some (value_at xs id) v value) in
           settled_by xs now a b anchored (split_place id at new) moves nodes more settled (λ r was e live there gone. elim (cases_eq was.owner id) [
             | inl q ↦ elim (cases_lt was.offset at) [
               | inl low ↦
                   let stays = split_low id at new was q low in
                   let same_there : is_unremoved_at now was.owner ≡ is_unremoved_at xs was.owner =
-                  ap (is_unremoved_at now) q ∙ here now id (front v) (value-front xs id v once value front rear new) ∙ ap (is_present is_acked) front_stamps
+                  ap (is_unremoved_at now) q ∙ here now id (front v)
+                  (value-split front rear xs id new id (λ k. apart id live_here (sym k)) ∙ own_value front (value_at xs id) id v value) ∙ ap (is_present is_acked) front_stamps
                   ∙ sym (here xs id v value) ∙ ap (is_unremoved_at xs) (sym q) in
                   inl (
                     sym same_there ∙ ap (λ (p : Place). is_unremoved_at now p.owner) (sym stays) ∙ gone,
@@ -246,13 +154,14 @@ module _ {C U : Type 0} (units : C → List U) (by : C → Option Stamp) where
               | inr high ↦
                   let goes : (split_place id at new was).owner ≡ new = ap (λ (p : Place). p.owner) (split_high id at new was q high) in
                   let of_rear : unremoved_leaf v ≡ false =
-                  sym (here now new (rear v) (value-rear xs id v once value front rear new fresh (λ k. apart id live_here (sym k))) ∙ ap (is_present is_acked) rear_stamps)
+                  sym (here now new (rear v) (rear-split front rear xs id new fresh ∙ ap (option_map rear) value) ∙ ap (is_present is_acked) rear_stamps)
                   ∙ ap (is_unremoved_at now) (sym goes) ∙ gone in
                   inr (subst (λ (z : ℕ). 1 ≤ times more z) (sym goes) (noted of_rear r (split_place id at new was) there goes))
             ]
             | inr d ↦
                 let stays = split_other id at new was d in
-                let same_there = unremoved_as now xs was.owner was.owner (value-cut xs id v once value front rear new was.owner (λ k. d (sym k)) (apart was.owner live)) in
+                let same_there = unremoved_as now xs was.owner was.owner
+                (value-split front rear xs id new was.owner (λ k. apart was.owner live (sym k)) ∙ other_value front (value_at xs was.owner) id was.owner d) in
                 inl (
                   sym same_there ∙ ap (λ (p : Place). is_unremoved_at now p.owner) (sym stays) ∙ gone,
                   λ k. subst (λ (p : Place). 1 ≤ times more p.owner) (sym stays) (kept was.owner k),
@@ -267,7 +176,8 @@ module _ {C U : Type 0} (units : C → List U) (by : C → Option Stamp) where
           → AreSettledBut (join_leaf join xs id) more b
       settled_joined next w join count b more follows value_next differ moves kept noted =
           let now = join_leaf join xs id in
-          let here_now = here now id (join v w) (value-joined xs id v once value join next w follows value_next) in
+          let here_now = here now id (join v w)
+          (value-join join xs id next id w once follows value_next differ ∙ own_value (λ u. join u w) (value_at xs id) id v value) in
           settled_by xs now a b anchored (raised_place next id count) moves nodes more settled (λ r was e live there gone. elim (cases_eq was.owner next) [
             | inl q ↦
                 let goes : (raised_place next id count was).owner ≡ id = ap (λ (p : Place). p.owner) (raised_here next id count was q) in
@@ -282,7 +192,7 @@ module _ {C U : Type 0} (units : C → List U) (by : C → Option Stamp) where
                       (noted (sym here_now ∙ ap (is_unremoved_at now) (sym goes) ∙ gone) r (raised_place next id count was) there goes))
                   | inr f ↦
                       let same_there = unremoved_as now xs was.owner was.owner
-                      (value-join xs id v once value join next was.owner w follows value_next (λ k. f (sym k)) (λ k. d (sym k))) in
+                      (value-join join xs id next was.owner w once follows value_next d ∙ other_value (λ u. join u w) (value_at xs was.owner) id was.owner f) in
                       inl (
                         sym same_there ∙ ap (λ (p : Place). is_unremoved_at now p.owner) (sym stays) ∙ gone,
                         λ k. subst (λ (p : Place). 1 ≤ times more p.owner) (sym stays) (kept was.owner k),

@@ -152,7 +152,9 @@ pub(crate) fn ack_in<C: Content>(
     requires lowest { All (λ e. IsLowestChange stage e.overlay) (elements C.units C.by blocks.old.leaves) }
     ensures leaves { OnOk result (blocks.new.leaves ≡ map (acked_pair C.stamped stage seq conn) blocks.old.leaves) }
     ensures tracks { OnOk result (Tracks blocks.new.leaves touched.new.items) }
-    ensures refs { OnOk result (KeepsReferences (references_on C.units C.by blocks.old.leaves refs.old.anchors) (references_on C.units C.by blocks.new.leaves refs.new.anchors)) }
+    ensures refs { OnOk result
+        (KeepsReferences (references_on C.units C.by blocks.old.leaves refs.old.anchors)
+        (references_on C.units C.by blocks.new.leaves refs.new.anchors)) }
     ensures sound { OnOk result (IsSoundOn C.units blocks.new.leaves refs.new.anchors refs.new.unsettled.items) }
     ensures usable { OnOk result (blocks.new.usable ≡ true) }
     ensures floor { blocks.new.floor ≡ blocks.old.floor }

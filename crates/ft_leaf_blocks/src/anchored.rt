@@ -72,10 +72,13 @@ pub(crate) fn split_anchored<C: Content>(
     requires sound { IsSoundOn C.units blocks.old.leaves refs.old.anchors refs.old.unsettled.items }
     requires low { 1 ≤ at }
     requires high { IsSomeAnd (value_at blocks.old.leaves leaf) (λ v. at < length (C.units v.content)) }
-    ensures ok { IfOk result (λ id. blocks.new.leaves ≡ split_leaf (λ v. record v { content = C.front v.content at }) (λ v. record v { content = C.rear v.content at }) blocks.old.leaves leaf id) }
+    ensures ok { IfOk result (λ id. blocks.new.leaves
+        ≡ split_leaf (λ v. record v { content = C.front v.content at }) (λ v. record v { content = C.rear v.content at }) blocks.old.leaves leaf id) }
     ensures fresh { IfOk result (λ id. times_leaf blocks.old.leaves id ≡ 0) }
     ensures tracks { OnOk result (Tracks blocks.new.leaves touched.new.items) }
-    ensures refs { OnOk result (KeepsReferences (references_on C.units C.by blocks.old.leaves refs.old.anchors) (references_on C.units C.by blocks.new.leaves refs.new.anchors)) }
+    ensures refs { OnOk result
+        (KeepsReferences (references_on C.units C.by blocks.old.leaves refs.old.anchors)
+        (references_on C.units C.by blocks.new.leaves refs.new.anchors)) }
     ensures sound { OnOk result (IsSoundOn C.units blocks.new.leaves refs.new.anchors refs.new.unsettled.items) }
     ensures usable { OnOk result (blocks.new.usable ≡ true) }
     ensures floor { blocks.new.floor ≡ blocks.old.floor }
@@ -104,7 +107,9 @@ pub(crate) fn set_stamps_anchored<C: Content>(
     requires live { IsLeafIn blocks.old.leaves id }
     ensures ok { OnOk result (blocks.new.leaves ≡ change_leaf (λ v. record v { stamps = e }) blocks.old.leaves id) }
     ensures tracks { OnOk result (Tracks blocks.new.leaves touched.new.items) }
-    ensures refs { OnOk result (KeepsReferences (references_on C.units C.by blocks.old.leaves refs.old.anchors) (references_on C.units C.by blocks.new.leaves refs.new.anchors)) }
+    ensures refs { OnOk result
+        (KeepsReferences (references_on C.units C.by blocks.old.leaves refs.old.anchors)
+        (references_on C.units C.by blocks.new.leaves refs.new.anchors)) }
     ensures sound { OnOk result (IsSoundOn C.units blocks.new.leaves refs.new.anchors refs.new.unsettled.items) }
     ensures usable { OnOk result (blocks.new.usable ≡ true) }
     ensures floor { blocks.new.floor ≡ blocks.old.floor }
@@ -127,10 +132,13 @@ pub(crate) fn join_anchored<C: Content + Drop>(
     requires usable { IsTrue blocks.old.usable }
     requires tracks { Tracks blocks.old.leaves touched.old.items }
     requires sound { IsSoundOn C.units blocks.old.leaves refs.old.anchors refs.old.unsettled.items }
-    requires can { IsSomeAnd (value_at blocks.old.leaves id) (λ v. IsSomeAnd (value_after blocks.old.leaves id) (λ w. IsTrue (C.joins v.content w.content) × (v.stamps ≡ w.stamps))) }
+    requires can { IsSomeAnd (value_at blocks.old.leaves id) (λ v.
+        IsSomeAnd (value_after blocks.old.leaves id) (λ w. IsTrue (C.joins v.content w.content) × (v.stamps ≡ w.stamps))) }
     ensures ok { OnOk result (blocks.new.leaves ≡ join_leaf (λ v w. record v { content = C.joined v.content w.content }) blocks.old.leaves id) }
     ensures tracks { OnOk result (Tracks blocks.new.leaves touched.new.items) }
-    ensures refs { OnOk result (KeepsReferences (references_on C.units C.by blocks.old.leaves refs.old.anchors) (references_on C.units C.by blocks.new.leaves refs.new.anchors)) }
+    ensures refs { OnOk result
+        (KeepsReferences (references_on C.units C.by blocks.old.leaves refs.old.anchors)
+        (references_on C.units C.by blocks.new.leaves refs.new.anchors)) }
     ensures sound { OnOk result (IsSoundOn C.units blocks.new.leaves refs.new.anchors refs.new.unsettled.items) }
     ensures usable { OnOk result (blocks.new.usable ≡ true) }
     ensures floor { blocks.new.floor ≡ blocks.old.floor }
@@ -163,7 +171,9 @@ pub(crate) fn change_anchored<C: Content>(
     requires can { IsSomeAnd (value_at blocks.old.leaves id) (λ v. MayChange c.now v.overlay) }
     ensures ok { OnOk result (blocks.new.leaves ≡ change_leaf (λ v. changed_leaf C.stamped v c.now) blocks.old.leaves id) }
     ensures tracks { OnOk result (Tracks blocks.new.leaves touched.new.items) }
-    ensures refs { OnOk result (KeepsReferences (references_on C.units C.by blocks.old.leaves _refs.now.anchors) (references_on C.units C.by blocks.new.leaves _refs.now.anchors)) }
+    ensures refs { OnOk result
+        (KeepsReferences (references_on C.units C.by blocks.old.leaves _refs.now.anchors)
+        (references_on C.units C.by blocks.new.leaves _refs.now.anchors)) }
     ensures sound { OnOk result (IsSoundOn C.units blocks.new.leaves _refs.now.anchors _refs.now.unsettled.items) }
     ensures usable { OnOk result (blocks.new.usable ≡ true) }
     ensures floor { blocks.new.floor ≡ blocks.old.floor }
@@ -240,9 +250,11 @@ pub(crate) fn add_anchored<C: Content>(
     requires on { IsOnLeaf C.units blocks.now.leaves at.now }
     ensures fresh { IfOk result (λ r. reference_at (references_on C.units C.by blocks.now.leaves refs.old.anchors) r ≡ None) }
     ensures added { let leaves = blocks.now.leaves in
-        IfOk result (λ r. reference_at (references_on C.units C.by leaves refs.new.anchors) r ≡ Some record { place = Some (place_on C.units C.by leaves at.now); acked = false }) }
+        IfOk result (λ r. reference_at (references_on C.units C.by leaves refs.new.anchors) r
+        ≡ Some record { place = Some (place_on C.units C.by leaves at.now); acked = false }) }
     ensures others { let leaves = blocks.now.leaves in
-        IfOk result (λ r. (x : ℕ) → x ≢ r → reference_at (references_on C.units C.by leaves refs.new.anchors) x ≡ reference_at (references_on C.units C.by leaves refs.old.anchors) x) }
+        IfOk result (λ r. (x : ℕ) → x ≢ r → reference_at (references_on C.units C.by leaves refs.new.anchors) x
+        ≡ reference_at (references_on C.units C.by leaves refs.old.anchors) x) }
     ensures sound { OnOk result (IsSoundOn C.units blocks.now.leaves refs.new.anchors refs.new.unsettled.items) }
 {
     let _first = blocks.first();
@@ -311,7 +323,8 @@ pub(crate) fn slide_anchored<C: Content>(blocks: &Blocks<TreeLeaf<C>>, refs: &mu
     requires usable { IsTrue blocks.now.usable }
     requires sound { IsSoundOn C.units blocks.now.leaves refs.old.anchors refs.old.unsettled.items }
     ensures refs { let leaves = blocks.now.leaves in
-        ChangesReferences (slid_reference (elements C.units C.by leaves)) (references_on C.units C.by leaves refs.old.anchors) (references_on C.units C.by leaves refs.new.anchors) }
+        ChangesReferences (slid_reference (elements C.units C.by leaves))
+        (references_on C.units C.by leaves refs.old.anchors) (references_on C.units C.by leaves refs.new.anchors) }
     ensures sound { IsSoundOn C.units blocks.now.leaves refs.new.anchors refs.new.unsettled.items }
 {
     slide_leaves(blocks, &mut refs.anchors, refs.unsettled.as_slice());

@@ -1,7 +1,7 @@
 //! Leaves in blocks: elements by their leaf and how many of its elements stand before, and their places in the
 //! whole list.
 
-ghost use Rattle.std.specs.Prelude.{◌≡◌, ◌≤◌, IfSome, IsTrue, MatchOption, length, option_map};
+ghost use Rattle.std.specs.Prelude.{◌≡◌, IfSome, IsTrue, option_map};
 ghost use Rattle.ft_block.specs.Leaves.{IsFromFloor};
 ghost use Rattle.ft_leaves.specs.Elements.{seen_in};
 ghost use Rattle.ft_leaves.specs.LeafLists.{elements};
@@ -34,16 +34,6 @@ pub fn seen_offset<C: Content>(blocks: &Blocks<TreeLeaf<C>>, p: u64, view: LenVi
         owner: leaf,
         offset: found.offset - 1,
     })
-}
-
-/// The element at place `i`: None exactly where there are no more than `i`. It reads a few nodes.
-pub fn offset_at<C: Content>(blocks: &Blocks<TreeLeaf<C>>, i: u64) -> Option<Place>
-    requires { IsTrue blocks.now.usable }
-    ensures on_leaf { IfSome result (IsOnLeaf C.units blocks.now.leaves) }
-    ensures place { let leaves = blocks.now.leaves in
-        MatchOption result (length (elements C.units C.by leaves) ≤ i) (λ at. place_on C.units C.by leaves at ≡ i) }
-{
-    seen_offset(blocks, i, LenView::All)
 }
 
 /// The place of the element: how many stand before it. It goes up from the leaf.

@@ -60,7 +60,8 @@ pub fn slide_leaves<C: Content>(
     requires settled { AreSettledBut blocks.now.leaves nodes.now anchors.old }
     ensures anchored { AreAnchored C.units blocks.now.leaves anchors.new }
     ensures references { let leaves = blocks.now.leaves in
-        ChangesReferences (slid_reference (elements C.units C.by leaves)) (references_on C.units C.by leaves anchors.old) (references_on C.units C.by leaves anchors.new) }
+        ChangesReferences (slid_reference (elements C.units C.by leaves))
+        (references_on C.units C.by leaves anchors.old) (references_on C.units C.by leaves anchors.new) }
     ensures settled { AreSettledBut blocks.now.leaves [] anchors.new }
 {
     for id in nodes {

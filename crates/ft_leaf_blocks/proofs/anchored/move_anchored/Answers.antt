@@ -1,7 +1,7 @@
 use Rattle.std.proofs.Common.{arith}
 use Rattle.std.proofs.lemmas.Result.{on_ok_weaker}
 use Rattle.ft_leaf_blocks.proofs.KeptRefs.{kept_move}
-use Rattle.ft_leaf_blocks.proofs.RefSteps.{place_left}
+use Rattle.ft_leaf_blocks.proofs.MovedLeaves.{place_left}
 use Rattle.ft_leaf_blocks.proofs.Walks.{live_value}
 use Rattle.ft_leaf_blocks.proofs.anchored.move_anchored.Goals as goal
 
@@ -16,7 +16,7 @@ returns-clause-refs g c =
     let v = live_value xs c.args.id c.requires.live in
     on_ok_weaker c.move_in.result
     (λ e. (kept_move us by xs once a ns c.requires.sound c.move_in.new.blocks.leaves c.args.id v.0 v.1 c.args.at e
-    (place_left xs c.args.id c.args.at (omega (arith, once c.args.id, c.requires.live)) c.requires.place c.requires.differ)).references)
+    (place_left xs c.args.id (omega (arith, once c.args.id, c.requires.live)) c.args.at c.requires.place c.requires.differ)).references)
     c.move_in.ensures.ok
 
 pub returns-clause-sound : goal.returns-clause-sound
@@ -30,5 +30,5 @@ returns-clause-sound g c =
     let v = live_value xs c.args.id c.requires.live in
     on_ok_weaker c.move_in.result
     (λ e. (kept_move us by xs once a ns c.requires.sound c.move_in.new.blocks.leaves c.args.id v.0 v.1 c.args.at e
-    (place_left xs c.args.id c.args.at (omega (arith, once c.args.id, c.requires.live)) c.requires.place c.requires.differ)).sound)
+    (place_left xs c.args.id (omega (arith, once c.args.id, c.requires.live)) c.args.at c.requires.place c.requires.differ)).sound)
     c.move_in.ensures.ok

@@ -1,7 +1,7 @@
 use Rattle.std.proofs.Common.{◌≡◌, ℕ, ◌<◌, Option, true, false, get_or, subst, sym, ◌∙◌, ap, arith}
 use Rattle.ft_refs.specs.RefLists.{references_of}
 use Rattle.ft_refs.proofs.LoopLemmas.{count_from}
-use Rattle.ft_leaf_blocks.proofs.SentReferences.{Sends, ahead_live, past_shorter, sends_all, sends_none, sends_one, sends_past, sent_shorter}
+use Rattle.ft_leaf_blocks.proofs.SentReferences.{Sends, ahead_live, past_shorter, sends_all, sends_one, sends_past, sent_shorter}
 use Rattle.ft_leaf_blocks.proofs.anchors.send_acked.Goals as goal
 
 pub next-ahead-requires : goal.next-ahead-requires
