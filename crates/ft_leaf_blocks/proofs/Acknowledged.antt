@@ -1,10 +1,9 @@
--- A leaf that has nothing of a stage is as it was after the acknowledgement of that stage, and two changes of a leaf are one.
+-- A leaf that has nothing of a stage is as it was after the acknowledgement of that stage.
 use Rattle.std.proofs.Common.{◌≡◌, ℕ, Bool, true, false, cond, nat_eq, not, ◌||◌, List, [], ◌∷◌, map, refl, ◌∙◌, ap}
 use Rattle.std.specs.List.{list_any}
 use Rattle.ft_base.specs.declared.stamps.Stamp.{Stamp}
 use Rattle.ft_base.specs.declared.stamps.Stamp.TheVariants.{Acked}
 use Rattle.ft_base.specs.Visibility.{is_of_stage}
-use Rattle.ft_block.specs.Leaves.{change_leaf}
 use Rattle.ft_props.specs.declared.properties.Changes.{Changes}
 use Rattle.ft_props.specs.Overlay.{without_stage}
 use Rattle.ft_props.specs.Properties.{PropertyList, change}
@@ -56,16 +55,3 @@ acked_stays {C} stamped k s c x ins marked =
     ∙ ap (λ a. leaf x.content x.stamps.ins a (acked_props k x.overlay.acked x.overlay.pending) (without_stage k x.overlay.pending)) (stamps_stay k s c x.stamps.dels n.0)
     ∙ ap (λ a. leaf x.content x.stamps.ins x.stamps.dels a (without_stage k x.overlay.pending)) (props_stay k x.overlay.acked x.overlay.pending n.1)
     ∙ ap (leaf x.content x.stamps.ins x.stamps.dels x.overlay.acked) (pending_stay k x.overlay.pending n.1)
-
-module _ {L : Type 0} where
-  twice_by : (b : Bool) (f g : L → L) (x : ℕ × L) (id : ℕ) (ys zs : List (ℕ × L)) → nat_eq x.0 id ≡ b → change_leaf f ys id ≡ zs
-      → change_leaf f (cond b ((x.0, g x.1) ∷ ys) (x ∷ ys)) id ≡ cond b ((x.0, f (g x.1)) ∷ zs) (x ∷ zs)
-  twice_by true f g x id ys zs e h =
-      ap (λ c. cond c ((x.0, f (g x.1)) ∷ change_leaf f ys id) ((x.0, g x.1) ∷ change_leaf f ys id)) e ∙ ap (λ us. (x.0, f (g x.1)) ∷ us) h
-  twice_by false f g x id ys zs e h = ap (λ c. cond c ((x.0, f x.1) ∷ change_leaf f ys id) (x ∷ change_leaf f ys id)) e ∙ ap (λ us. x ∷ us) h
-
-  -- two changes of a leaf in turn
-  pub change-twice : (f g : L → L) (xs : List (ℕ × L)) (id : ℕ) → change_leaf f (change_leaf g xs id) id ≡ change_leaf (λ v. f (g v)) xs id
-  change-twice f g [] id = refl
-  change-twice f g (x ∷ xs) id =
-      twice_by (nat_eq x.0 id) f g x id (change_leaf g xs id) (change_leaf (λ v. f (g v)) xs id) refl (change-twice f g xs id)

@@ -67,8 +67,6 @@ module _ {C U : Type 0} (units : C → List U) (by : C → Option Stamp) (xs : L
           ∙ sym (cond-false (nat_eq x r) _ _ (ne_eqb x r d))
     ]
 
-    }
-
   none_by : (id r : ℕ) (o : Option Place) → ((p : Place) → o ≡ Some p → p.owner ≢ id) → option_map_or (λ owner. nat_eq owner id) (owner_of_place o) false ≡ false
   none_by id r None h = refl
   none_by id r (Some p) h = ne_eqb p.owner id (h p refl)

@@ -22,8 +22,8 @@ use Rattle.ft_refs.specs.RefLists.{IsHeld, entry, place_of_entry, place_of_refer
 use Rattle.ft_leaf_blocks.specs.Anchors.{AnchorLists, AreAnchored, MovesAnchors, is_acked_at, numbered, reference_on, references_on}
 use Rattle.ft_leaf_blocks.specs.LeafPlaces.{IsOnLeaf, place_on}
 use Rattle.ft_leaf_blocks.specs.Walks.{from_place, node_behind}
-use Rattle.ft_leaf_blocks.proofs.JoinedPairs.{beside}
-use Rattle.ft_leaf_blocks.proofs.LeafPlaces.{Goes, OnLeaf, goes_as, goes_joined, goes_map, goes_moved, goes_put, goes_split, goes_without, count_before, without-split}
+use Rattle.ft_leaf_blocks.proofs.Neighbours.{beside}
+use Rattle.ft_leaf_blocks.proofs.LeafPlaces.{Goes, OnLeaf, count_before, goes_as, goes_joined, goes_map, goes_moved, goes_put, goes_split, goes_without, without-split}
 use Rattle.ft_leaf_blocks.proofs.MovedLeaves.{count_alone}
 use Rattle.ft_leaf_blocks.proofs.Walks.{stands, up_to-from}
 use Rattle.ft_leaf_blocks.proofs.WalkEdits.{put-behind, split-split}

@@ -17,7 +17,7 @@ use Rattle.ft_leaf_blocks.specs.Anchors.{AnchorLists, MovesAnchors, references_o
 use Rattle.ft_leaf_blocks.specs.Slides.{AreSettledBut, is_unremoved_at}
 use Rattle.ft_leaf_blocks.specs.Unsettled.{IsSoundOn, NotesUnless}
 use Rattle.ft_leaf_blocks.proofs.AnchoredLeaves.{GoesOn, change_goes, join_goes, keeps, map_goes, move_goes, on_leaf, put_goes, size, split_goes, without_goes}
-use Rattle.ft_leaf_blocks.proofs.JoinedPairs.{beside}
+use Rattle.ft_leaf_blocks.proofs.Neighbours.{beside}
 use Rattle.ft_leaf_blocks.proofs.LeafPlaces.{length_by-append}
 use Rattle.ft_leaf_blocks.proofs.UnsettledLeaves.{settled_changed, settled_cut, settled_joined, settled_mapped, settled_moved, settled_noted, settled_put, settled_without}
 

@@ -78,8 +78,6 @@ module _ (acked : List Bool) (from : ℕ) (to : Option Place) (old : RefLists) w
       let s = standing v from r k.done k.rest k.sound k.list k.starts in
       ap (count_from (Some r)) (k.list ∙ ap (λ zs. k.done ++ zs) s.1.is) ∙ count_at k.done s.1.behind r s.0 s.1.not_done ∙ sym (ap length s.1.is)
 
-  }
-
   pub ahead_live : (v : RefLists) (r : ℕ) → Sends acked from to old v (Some r) → IsSome (entry v r)
   ahead_live v r k = live_at v from r k.done k.rest k.sound k.list k.starts
 

@@ -11,7 +11,7 @@ use Rattle.ft_refs.specs.RefLists.{entry, place_of_entry}
 use Rattle.ft_leaf_blocks.specs.Anchors.{AnchorLists, AreAnchored, is_acked_at, reference_on, references_on}
 use Rattle.ft_leaf_blocks.specs.LeafPlaces.{place_on}
 use Rattle.ft_leaf_blocks.proofs.AnchoredLeaves.{reference_at-on}
-use Rattle.ft_leaf_blocks.proofs.OffsetCounts.{offset_within}
+use Rattle.ft_leaf_blocks.proofs.CountedWalks.{offset_within}
 
 module _ {C U : Type 0} (units : C → List U) (by : C → Option Stamp) (xs : List (ℕ × TreeLeaf C)) (a : AnchorLists) (once : (i : ℕ) → times_leaf xs i ≤ 1)
     (anchored : AreAnchored units xs a) where

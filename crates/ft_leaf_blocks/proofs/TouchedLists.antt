@@ -188,8 +188,6 @@ set-noted k id s (x ∷ xs) of test =
 pub notes-none : (id : ℕ) (xs : List NodesOfStage) → AreRising xs → Notes id xs xs
 notes-none id xs h = record { kept = λ k z l. l; only = λ k z l. inl l; rising = h }
 
-}
-
 -- the lists with one node fewer
 table2 : (a h p : Bool) → (a && (h && p)) ≡ ((a && h) && p)
 table2 true h p = refl

@@ -20,8 +20,6 @@ use Rattle.ft_leaf_blocks.proofs.StepValues.{is_live, is_some, other_value, own_
 use Rattle.std.proofs.lemmas.Bool.{cases_lt}
 
 module _ {L : Type 0} where
-  module _ (xs : List (ℕ × L)) (id : ℕ) (v : L) (once : (i : ℕ) → times_leaf xs i ≤ 1) (value : value_at xs id ≡ Some v) where
-
   -- what a test tells of the leaf of a node, where it tells the same of the leaf after a change
   pub told-map : (test : L → Bool) (g : ℕ × L → L) (z : ℕ) → ((x : ℕ × L) → x.0 ≡ z → test (g x) ≡ test x.1) → (xs : List (ℕ × L))
       → option_map_or test (value_at (map (λ x. (x.0, g x)) xs) z) false ≡ option_map_or test (value_at xs z) false

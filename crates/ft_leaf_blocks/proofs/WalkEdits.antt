@@ -1,14 +1,14 @@
 -- What edits at the leaf where a walk stands make of the list of leaves.
-use Rattle.std.proofs.Common.{◌≡◌, ℕ, ◌≤◌, Bool, true, false, cond, List, [], ◌∷◌, ◌++◌, map, Option, Some, None, subst, refl, sym, ◌∙◌, ap, arith, nat_eq, append-nil, append_assoc}
-use Rattle.ft_arena.specs.Ids.{after, first, times}
+use Rattle.std.proofs.Common.{◌≡◌, ℕ, ◌≤◌, Bool, true, false, cond, List, [], ◌∷◌, ◌++◌, Option, Some, None, refl, sym, ◌∙◌, ap, arith, nat_eq, append_assoc}
+use Rattle.ft_arena.specs.Ids.{after, times}
 use Rattle.ft_arena.proofs.IdLemmas.{same_refl}
 use Rattle.ft_block.specs.Leaves.{IsLeafIn, IsPlaceIn, change_leaf, ids, left_of, put_leaf, put_leaf_after, split_leaf, times_leaf, value_at}
 use Rattle.ft_block.proofs.CallerLemmas.{times-ids}
 use Rattle.ft_leaves.specs.Edits.{up_to_place}
-use Rattle.ft_leaf_blocks.specs.Walks.{before_place, change_from, from_leaf, from_place, node_behind}
+use Rattle.ft_leaf_blocks.specs.Walks.{before_place, from_leaf, from_place, node_behind}
 use Rattle.ft_leaves.proofs.CutLeaves.{times-append}
 use Rattle.ft_leaves.proofs.Standing.{left-split, put-split, skip, value-split}
-use Rattle.ft_leaf_blocks.proofs.Walks.{Stands, after_in_place, before-after, before_first, from_first, itself, live_value, stands, up_to-from, up_to-stands}
+use Rattle.ft_leaf_blocks.proofs.Walks.{Stands, before-after, from_first, itself, live_value, stands, up_to-stands}
 
 module _ {L : Type 0} where
   -- a new leaf behind a place
@@ -23,15 +23,6 @@ module _ {L : Type 0} where
       ∙ put-split id v.0 rest s.right new (left_of xs id) s.left
       ∙ sym (append_assoc (left_of xs id) ((id, v.0) ∷ []) (new ∷ rest))
       ∙ ap (λ zs. zs ++ new ∷ rest) (sym (up_to-stands xs id v.0 s))
-
-  -- and what stands left of it then
-  pub left-put : (xs : List (ℕ × L)) (at : Option ℕ) (id : ℕ) (v : L) → ((i : ℕ) → times_leaf xs i ≤ 1) → IsPlaceIn xs at → times_leaf xs id ≡ 0
-      → left_of (put_leaf xs at (id, v)) id ≡ up_to_place xs at
-  left-put xs at id v once live fresh =
-      let front = up_to_place xs at in
-      let rest = from_place xs (node_behind xs at) in
-      let apart : times_leaf front id ≡ 0 = omega (arith, fresh, ap (λ zs. times_leaf zs id) (up_to-from xs at once live), times-append front rest id) in
-      ap (λ zs. left_of zs id) (put-behind xs at (id, v) once live) ∙ left-split id v rest front apart
 
   pub live-put : (xs : List (ℕ × L)) (at : Option ℕ) (id : ℕ) (v : L) → ((i : ℕ) → times_leaf xs i ≤ 1) → IsPlaceIn xs at → IsLeafIn (put_leaf xs at (id, v)) id
   live-put xs at id v once live =
@@ -132,48 +123,14 @@ module _ {L : Type 0} where
       let s = stands xs id v once e in
       (changed f xs id v once s).whole ∙ ap (λ w. left_of xs id ++ (id, w) ∷ from_place xs (after (ids xs) id)) same ∙ sym s.whole
 
-  -- a walk that changes one leaf goes on with the next
-  pub change-step : (f : ℕ × L → ℕ × L) (xs now : List (ℕ × L)) (id : ℕ) (v w : L) → Stands xs id v → Changed xs now id w → f (id, v) ≡ (id, w)
-      → change_from f now (after (ids xs) id) ≡ change_from f xs (Some id)
-  change-step f xs now id v w s c acts =
-      let l = left_of xs id in
-      let r = from_place xs (after (ids xs) id) in
-      ap (λ zs. zs ++ map f (from_place now (after (ids xs) id))) c.before
-      ∙ ap (λ zs. (l ++ (id, w) ∷ []) ++ map f zs) c.behind
-      ∙ append_assoc l ((id, w) ∷ []) (map f r)
-      ∙ ap (λ zs. l ++ zs) (ap (λ y. y ∷ map f r) (sym acts) ∙ ap (map f) (sym s.from))
+  twice_by : (b : Bool) (f g : L → L) (x : ℕ × L) (id : ℕ) (ys zs : List (ℕ × L)) → nat_eq x.0 id ≡ b → change_leaf f ys id ≡ zs
+      → change_leaf f (cond b ((x.0, g x.1) ∷ ys) (x ∷ ys)) id ≡ cond b ((x.0, f (g x.1)) ∷ zs) (x ∷ zs)
+  twice_by true f g x id ys zs e h =
+      ap (λ c. cond c ((x.0, f (g x.1)) ∷ change_leaf f ys id) ((x.0, g x.1) ∷ change_leaf f ys id)) e ∙ ap (λ us. (x.0, f (g x.1)) ∷ us) h
+  twice_by false f g x id ys zs e h = ap (λ c. cond c ((x.0, f x.1) ∷ change_leaf f ys id) (x ∷ change_leaf f ys id)) e ∙ ap (λ us. x ∷ us) h
 
-  -- a walk that changes the leaf it stands at
-  pub record WalksChange (g : L → L) (xs now : List (ℕ × L)) (at : Option ℕ) (id : ℕ) (v : L) (next : Option ℕ) : Type 0 where
-    pub from : from_place xs at ≡ (id, v) ∷ from_place xs (after (ids xs) id)
-    pub rest : from_place now next ≡ from_place xs (after (ids xs) id)
-    pub list : (f : ℕ × L → ℕ × L) → f (id, v) ≡ (id, g v) → change_from f now next ≡ change_from f xs at
-    pub here : IsLeafIn now id
-    pub live : IsPlaceIn now next
-
-  pub walk_change : (g : L → L) (xs now : List (ℕ × L)) (at : Option ℕ) (id : ℕ) (v : L) (next : Option ℕ) → ((i : ℕ) → times_leaf xs i ≤ 1)
-      → at ≡ Some id → value_at xs id ≡ Some v → now ≡ change_leaf g xs id → next ≡ after (ids now) id → WalksChange g xs now at id v next
-  walk_change g xs now at id v next once is e is_now is_next =
-      let s = stands xs id v once e in
-      let c : Changed xs now id (g v) = subst (λ zs. Changed xs zs id (g v)) (sym is_now) (changed g xs id v once s) in
-      let same : next ≡ after (ids xs) id = is_next ∙ ap (λ zs. after (ids zs) id) is_now ∙ ap (λ us. after us id) (ids-change g xs id) in
-      record {
-        from = ap (from_place xs) is ∙ s.from;
-        rest = ap (from_place now) same ∙ c.behind;
-        list = λ f acts. ap (change_from f now) same ∙ change-step f xs now id v (g v) s c acts ∙ ap (change_from f xs) (sym is);
-        here = omega (
-          arith,
-          ap (λ zs. times_leaf zs id) c.whole,
-          times-append (left_of xs id) ((id, g v) ∷ from_place xs (after (ids xs) id)) id,
-          same_refl id,
-        );
-        live = subst (IsPlaceIn now) (sym is_next) (after_in_place now id);
-      }
-
-  -- it ends at the end of the list
-  pub change-none : (f : ℕ × L → ℕ × L) (xs : List (ℕ × L)) → change_from f xs None ≡ xs
-  change-none f xs = append-nil xs
-
-  -- and has changed all of them if it began at the first
-  pub change-all : (f : ℕ × L → ℕ × L) (xs : List (ℕ × L)) → change_from f xs (first (ids xs)) ≡ map f xs
-  change-all f xs = ap (λ zs. zs ++ map f (from_place xs (first (ids xs)))) (before_first xs) ∙ ap (map f) (from_first xs)
+  -- two changes of a leaf in turn
+  pub change-twice : (f g : L → L) (xs : List (ℕ × L)) (id : ℕ) → change_leaf f (change_leaf g xs id) id ≡ change_leaf (λ v. f (g v)) xs id
+  change-twice f g [] id = refl
+  change-twice f g (x ∷ xs) id =
+      twice_by (nat_eq x.0 id) f g x id (change_leaf g xs id) (change_leaf (λ v. f (g v)) xs id) refl (change-twice f g xs id)

@@ -1,5 +1,4 @@
 pub mod Walks
-pub mod RangeEdits
 pub mod Anchors
 pub mod AnchorsInside
 pub mod Slides

@@ -1,5 +1,5 @@
 -- Where references on leaves go after sequenced removals.
-use Rattle.std.specs.Prelude.{◌≡◌, ℕ, ◌≤◌, Bool, true, false, nat_eq, List, Some, length}
+use Rattle.std.specs.Prelude.{◌≡◌, ℕ, ◌≤◌, Bool, true, false, nat_eq, List, Some}
 use Rattle.std.specs.Option.{option_map_or}
 use Rattle.ft_arena.specs.Ids.{times}
 use Rattle.ft_leaves.specs.declared.leaves.Standing.TheVariants.{Unremoved}

@@ -1,9 +1,9 @@
-//! Leaves in blocks: how a stage is acknowledged in them, or taken off one.
+//! Leaves in blocks: how a stage is acknowledged in them.
 
 ghost use Rattle.std.specs.Prelude.{◌≡◌, ◌||◌, All, IsSomeAnd, IsTrue, OnOk, map, true};
 ghost use Rattle.ft_base.specs.Visibility.{is_of_stage};
 ghost use Rattle.ft_block.specs.Leaves.{IsLeafIn, change_leaf, value_at};
-ghost use Rattle.ft_leaves.specs.Edits.{is_marked_by, sequenced_leaf, unmarked_leaf};
+ghost use Rattle.ft_leaves.specs.Edits.{is_marked_by};
 ghost use Rattle.ft_leaves.specs.Elements.{IsLowestChange};
 ghost use Rattle.ft_leaves.specs.LeafChanges.{acked_leaf, acked_pair};
 ghost use Rattle.ft_leaves.specs.LeafLists.{elements};
@@ -12,62 +12,16 @@ ghost use Rattle.ft_leaf_blocks.specs.Anchors.{references_on};
 ghost use Rattle.ft_leaf_blocks.specs.Touched.{HaveAllOf, Tracks};
 ghost use Rattle.ft_leaf_blocks.specs.Unsettled.{IsSoundOn};
 
-use crate::leaf_blocks::LeafBlocks;
 use crate::leaf_refs::LeafRefs;
 use crate::stage_nodes::StageNodes;
 use crate::touched::take_stage;
 use ft_arena::NodeId;
 use ft_base::OutOfMemory;
 use ft_block::Blocks;
-use ft_leaves::block_leaf::{acked_stamps, sequenced_stamps, unmarked_stamps};
+use ft_leaves::block_leaf::acked_stamps;
 use ft_leaves::stamps::is_of_stage;
 use ft_leaves::{Content, LeafChange, TreeLeaf};
 use std::alloc::Global;
-
-/// Takes the removal mark and the changes of a stage off the leaf of a node.
-///
-/// Answers `OutOfMemory` where there is no room for what is left.
-pub fn unmark_at<C: Content>(
-    blocks: &mut LeafBlocks<C>,
-    alloc: Global,
-    id: NodeId,
-    stage: u64,
-) -> Result<(), OutOfMemory>
-    requires usable { IsTrue blocks.old.usable }
-    requires live { IsLeafIn blocks.old.leaves id }
-    ensures leaves { OnOk result (blocks.new.leaves ≡ change_leaf (unmarked_leaf stage) blocks.old.leaves id) }
-    ensures refs { OnOk result (KeepsReferences blocks.old.refs blocks.new.refs) }
-    ensures usable { OnOk result (blocks.new.usable ≡ true) }
-    ensures floor { blocks.new.floor ≡ blocks.old.floor }
-{
-    let _first = blocks.first();
-    let e = unmarked_stamps(alloc, &blocks.leaf(id).stamps, stage)?;
-    blocks.change(id, &LeafChange::DropPending(stage))?;
-    blocks.set_stamps(id, e)?;
-    Ok(())
-}
-
-/// Takes every pending removal mark and all pending changes off the leaf of a node.
-///
-/// Answers `OutOfMemory` where there is no room for what is left.
-pub fn unmark_all_at<C: Content>(
-    blocks: &mut LeafBlocks<C>,
-    alloc: Global,
-    id: NodeId,
-) -> Result<(), OutOfMemory>
-    requires usable { IsTrue blocks.old.usable }
-    requires live { IsLeafIn blocks.old.leaves id }
-    ensures leaves { OnOk result (blocks.new.leaves ≡ change_leaf sequenced_leaf blocks.old.leaves id) }
-    ensures refs { OnOk result (KeepsReferences blocks.old.refs blocks.new.refs) }
-    ensures usable { OnOk result (blocks.new.usable ≡ true) }
-    ensures floor { blocks.new.floor ≡ blocks.old.floor }
-{
-    let _first = blocks.first();
-    let e = sequenced_stamps(alloc, &blocks.leaf(id).stamps)?;
-    blocks.change(id, &LeafChange::DropAll)?;
-    blocks.set_stamps(id, e)?;
-    Ok(())
-}
 
 /// Whether the leaf has something of that stage: its insertion, a removal mark or changes.
 fn has_any_of<C: Content>(leaf: &TreeLeaf<C>, stage: u64) -> bool

@@ -36,8 +36,8 @@ use crate::anchored::{
     take_anchored,
 };
 use crate::leaf_refs::LeafRefs;
+use crate::removals::next_removal_in;
 use crate::stage_nodes::StageNodes;
-use crate::stamp_lists::next_removal_in;
 use ft_arena::NodeId;
 use ft_base::{Element, OutOfMemory};
 use ft_block::{Blocks, LenView};

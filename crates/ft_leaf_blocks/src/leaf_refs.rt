@@ -1,6 +1,6 @@
 //! The references on leaves in blocks, and on which leaves acknowledged ones may have to slide.
 
-ghost use Rattle.std.specs.Prelude.{[], ◌≡◌, ◌≢◌, ℕ, ◌+◌, ◌<◌, ◌≤◌, ◌^◌, OnOk, None, Some};
+ghost use Rattle.std.specs.Prelude.{[], ◌≡◌, ◌≢◌, ℕ, ◌+◌, ◌<◌, ◌^◌, OnOk, None, Some};
 ghost use Rattle.ft_refs.specs.RefLists.{IsHeld, entry, place_of_reference, raised_place, split_place};
 ghost use Rattle.ft_leaf_blocks.specs.Anchors.{MovesAnchors};
 ghost use Rattle.ft_leaf_blocks.specs.Unsettled.{Notes, NotesAll, NotesUnless};

@@ -7,12 +7,12 @@ ghost use Rattle.ft_block.specs.Leaves.{IsLeafIn, IsPlaceIn, change_leaf, join_l
 ghost use Rattle.ft_leaves.specs.BlockChanges.{MayChange, changed_leaf};
 ghost use Rattle.ft_leaf_blocks.specs.Touched.{AreRising, Notes, Tracks, added_stage, is_listed, is_touched_by, purged_at};
 
-use crate::joins::universal;
 use crate::stage_nodes::StageNodes;
 use crate::touched::{note, note_heir, note_stamps, purge};
 use ft_arena::NodeId;
 use ft_base::{Element, OutOfMemory, Stamp};
 use ft_block::Blocks;
+use ft_leaves::block_leaf::universal;
 use ft_leaves::{Content, LeafChange, TreeLeaf};
 
 /// Puts a new leaf in, as `Blocks::insert_after` does. Nothing is pending in its properties.

@@ -1,6 +1,7 @@
 //! A leaf of a tree as a leaf of blocks.
 
-ghost use Rattle.std.specs.Prelude.{◌≡◌, IfOk, length, refl};
+ghost use Rattle.std.specs.Prelude.{[], ◌≡◌, IfOk, length, refl};
+ghost use Rattle.ft_base.specs.declared.stamps.Stamp.TheVariants.{Acked};
 ghost use Rattle.ft_leaves.specs.Elements.{acked_stamps, removed_stamps, sequenced_stamps, unmarked_stamps};
 ghost use Rattle.std.proofs.Common.{ap, ◌∙◌, length-append};
 ghost use Rattle.ft_leaves.specs.BlockChanges.{MayChange, changed_leaf};
@@ -9,7 +10,7 @@ ghost use Rattle.ft_leaves.specs.BlockLaws.{changed_length, changed_stamps, fron
 use crate::content::Content;
 use crate::leaves::TreeLeaf;
 use crate::stamps::{acked, acked_all, is_of_stage, sequenced_only, with_removal, without_stage};
-use ft_base::{Element, OutOfMemory, Stamp};
+use ft_base::{Element, OutOfMemory, Stamp, Stamps};
 use ft_block::Leaf;
 use ft_props::{Changes, Overlay};
 use std::alloc::Global;
@@ -179,4 +180,14 @@ pub fn acked_stamps(
         ins: acked(e.ins, stage, seq, conn),
         dels: acked_all(alloc, e.dels.as_slice(), stage, seq, conn)?,
     })
+}
+
+/// The stamps of elements whose insertion everybody sees, and which nobody has removed.
+pub fn universal(alloc: Global) -> Element
+    ensures { result ≡ record { ins = Acked 0 0; dels = [] } }
+{
+    Element {
+        ins: Stamp::Acked { seq: 0, conn: 0 },
+        dels: Stamps::new(alloc),
+    }
 }

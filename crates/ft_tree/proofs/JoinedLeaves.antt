@@ -5,7 +5,7 @@ use Rattle.ft_arena.proofs.IdLemmas.{same_other, same_refl}
 use Rattle.ft_base.specs.declared.stamps.Stamp.{Stamp}
 use Rattle.ft_block.specs.Leaves.{ids, join_leaf, left_of, times_leaf, value_after, value_at}
 use Rattle.ft_block.proofs.LeafListLemmas.{value_after_is, value_after_none}
-use Rattle.ft_leaf_blocks.proofs.JoinedPairs.{Beside, beside}
+use Rattle.ft_leaf_blocks.proofs.Neighbours.{Beside, beside}
 use Rattle.ft_leaves.specs.declared.leaves.TreeLeaf.{TreeLeaf}
 use Rattle.ft_leaves.specs.Edits.{MayJoin, MayJoinGiven, MayJoinNext, joined_leaf}
 use Rattle.ft_leaves.specs.LeafLists.{elements, leaf_elements}

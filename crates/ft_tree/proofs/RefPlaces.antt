@@ -7,7 +7,7 @@ use Rattle.ft_leaves.specs.Edits.{with_place}
 use Rattle.ft_leaves.specs.Places.{shifted_place}
 use Rattle.ft_leaves.specs.References.{KeepsReferences, ChangesReferences, place_of, reference_at}
 use Rattle.ft_leaves.proofs.Numbered.{place_from}
-use Rattle.ft_leaf_blocks.proofs.FoundOffsets.{at-none}
+use Rattle.ft_leaf_steps.proofs.FoundOffsets.{at-none}
 
 module _ {A : Type 0} (seen : A → Bool) where
   -- where there is no place, no more are seen

@@ -6,11 +6,11 @@ use Rattle.ft_base.specs.Visibility.{is_of_stage}
 use Rattle.ft_arena.specs.Ids.{times}
 use Rattle.ft_block.specs.Leaves.{IsPlaceIn, LeafList, ids, times_leaf}
 use Rattle.ft_block.proofs.CallerLemmas.{times-ids}
-use Rattle.ft_leaf_blocks.specs.RangeEdits.{edited_leaf}
+use Rattle.ft_leaf_steps.specs.RangeEdits.{edited_leaf}
 use Rattle.ft_leaf_blocks.specs.State.{TrackedLeaves, list_of}
-use Rattle.ft_leaf_blocks.specs.Walks.{Acts, held_place}
-use Rattle.ft_leaf_blocks.specs.declared.ranges.RangeEdit.{RangeEdit}
-use Rattle.ft_leaf_blocks.specs.declared.ranges.RangeEdit.TheVariants.{Remove, Change}
+use Rattle.ft_leaf_steps.specs.LeafSteps.{Acts, held_place}
+use Rattle.ft_leaf_steps.specs.declared.ranges.RangeEdit.{RangeEdit}
+use Rattle.ft_leaf_steps.specs.declared.ranges.RangeEdit.TheVariants.{Change, Remove}
 use Rattle.ft_leaves.specs.declared.block_leaf.LeafChange.TheVariants.{SetAcked, PushPending, DropPending, DropAll, Ack}
 use Rattle.ft_leaves.specs.declared.leaves.TreeLeaf.{TreeLeaf}
 use Rattle.ft_leaves.specs.declared.references.Reference.{Reference}

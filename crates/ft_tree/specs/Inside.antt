@@ -4,8 +4,8 @@ use Rattle.ft_base.specs.declared.stamps.Stamp.{Stamp}
 use Rattle.ft_base.specs.Scan.{put}
 use Rattle.ft_base.specs.Visibility.{is_of_stage}
 use Rattle.ft_block.specs.Leaves.{IsPlaceIn, ids}
-use Rattle.ft_leaf_blocks.specs.declared.ranges.RangeEdit.{RangeEdit}
-use Rattle.ft_leaf_blocks.specs.declared.ranges.RangeEdit.TheVariants.{Remove, Change}
+use Rattle.ft_leaf_steps.specs.declared.ranges.RangeEdit.{RangeEdit}
+use Rattle.ft_leaf_steps.specs.declared.ranges.RangeEdit.TheVariants.{Change, Remove}
 use Rattle.ft_leaves.specs.declared.block_leaf.LeafChange.TheVariants.{SetAcked, PushPending, DropPending, DropAll, Ack}
 use Rattle.ft_leaves.specs.declared.leaves.TreeLeaf.{TreeLeaf}
 use Rattle.ft_leaves.specs.Edits.{with_place}

@@ -15,7 +15,7 @@ use crate::faults::TreeFault;
 use crate::tree::Tree;
 use ft_base::{OutOfMemory, Perspective, Stamp, Steps};
 use ft_block::LenView;
-use ft_leaf_blocks::ranges::RangeEdit;
+use ft_leaf_steps::ranges::RangeEdit;
 use ft_leaves::{Content, LeafChange};
 use ft_props::Changes;
 use std::sync::ledger::Ledger;

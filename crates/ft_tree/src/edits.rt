@@ -11,7 +11,7 @@ use crate::finds::find_end;
 use ft_arena::NodeId;
 use ft_base::{Element, OutOfMemory};
 use ft_leaf_blocks::LeafBlocks;
-use ft_leaf_blocks::cuts::cut_at;
+use ft_leaf_steps::cuts::cut_at;
 use ft_leaves::{Content, TreeLeaf};
 use ft_props::{Overlay, Props};
 use std::alloc::Global;

@@ -14,9 +14,9 @@ ghost use Rattle.ft_tree.specs.State.{IsRefused};
 use crate::faults::TreeFault;
 use crate::tree::Tree;
 use ft_block::LenView;
-use ft_leaf_blocks::offsets::{elements_before, seen_offset};
-use ft_leaf_blocks::places::seen_count;
-use ft_leaf_blocks::scans::settled_number;
+use ft_leaf_steps::offsets::{elements_before, seen_offset};
+use ft_leaf_steps::places::seen_count;
+use ft_leaf_steps::scans::settled_number;
 use ft_leaves::Content;
 use ft_refs::RefId;
 

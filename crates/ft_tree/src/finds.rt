@@ -1,7 +1,7 @@
 //! Leaves in blocks: the place behind all, for calls that are given no counter of steps.
 
 ghost use Rattle.std.specs.Prelude.{◌≡◌, ◌<◌, IsTrue, length};
-ghost use Rattle.ft_leaf_blocks.specs.Walks.{IsInLeaf, held_place};
+ghost use Rattle.ft_leaf_steps.specs.LeafSteps.{IsInLeaf, held_place};
 ghost use Rattle.ft_leaves.specs.LeafLists.{elements};
 
 use ft_base::Steps;

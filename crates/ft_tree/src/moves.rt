@@ -13,9 +13,9 @@ use crate::edits::{append, take_content};
 use crate::tree::Tree;
 use ft_arena::NodeId;
 use ft_base::{Element, OutOfMemory};
-use ft_leaf_blocks::acks::{unmark_all_at, unmark_at};
-use ft_leaf_blocks::edits::move_at;
-use ft_leaf_blocks::joins::{join_at, sweep_joined, sweep_without};
+use ft_leaf_steps::edits::move_at;
+use ft_leaf_steps::joins::{join_at, sweep_joined, sweep_without};
+use ft_leaf_steps::unmarks::{unmark_all_at, unmark_at};
 use ft_leaves::Content;
 use ft_props::Props;
 

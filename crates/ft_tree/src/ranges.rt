@@ -4,8 +4,8 @@ ghost use Rattle.std.specs.Prelude.{◌≡◌, ◌≤◌, All, IfErr, IfOk, IsTr
 ghost use Rattle.ft_base.specs.Scan.{change_range, len, place};
 ghost use Rattle.ft_block.specs.declared.leaves.LenView.TheVariants.{At};
 ghost use Rattle.ft_block.specs.Leaves.{ids, last_stage};
-ghost use Rattle.ft_leaf_blocks.specs.RangeEdits.{MayEdit};
-ghost use Rattle.ft_leaf_blocks.specs.Walks.{IsInLeaf, held_place};
+ghost use Rattle.ft_leaf_steps.specs.RangeEdits.{MayEdit};
+ghost use Rattle.ft_leaf_steps.specs.LeafSteps.{IsInLeaf, held_place};
 ghost use Rattle.ft_leaves.specs.Elements.{seen_in};
 ghost use Rattle.ft_leaves.specs.LeafLists.{Extends, elements};
 ghost use Rattle.ft_leaves.specs.References.{ChangesReferences, KeepsReferences, slid_reference};
@@ -17,8 +17,8 @@ use crate::faults::TreeFault;
 use crate::tree::Tree;
 use ft_base::{Perspective, Steps};
 use ft_block::{Found, LenView};
-use ft_leaf_blocks::places::{find_local, find_seen_at, seen_count};
-use ft_leaf_blocks::ranges::{RangeEdit, edit_behind};
+use ft_leaf_steps::places::{find_local, find_seen_at, seen_count};
+use ft_leaf_steps::ranges::{RangeEdit, edit_behind};
 use ft_leaves::Content;
 use std::sync::ledger::Ledger;
 

@@ -7,8 +7,8 @@ use Rattle.ft_leaves.specs.declared.block_leaf.LeafChange.TheVariants.{Ack}
 use Rattle.ft_leaves.specs.BlockChanges.{changed_leaf}
 use Rattle.ft_leaves.specs.Edits.{is_marked_by}
 use Rattle.ft_leaves.specs.LeafChanges.{acked_leaf, with_leaf_stamps}
-use Rattle.ft_leaf_blocks.proofs.Acknowledged.{acked_stays, change-twice, neither}
-use Rattle.ft_leaf_blocks.proofs.WalkEdits.{change-here, change-nothing, times-change}
+use Rattle.ft_leaf_blocks.proofs.Acknowledged.{acked_stays, neither}
+use Rattle.ft_leaf_blocks.proofs.WalkEdits.{change-here, change-nothing, change-twice, times-change}
 use Rattle.ft_leaf_blocks.proofs.acks.ack_at.Goals as goal
 
 pub change-requires : goal.change-requires

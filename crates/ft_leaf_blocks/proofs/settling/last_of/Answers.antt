@@ -1,5 +1,5 @@
 use Rattle.std.proofs.Common.{arith}
-use Rattle.ft_leaf_blocks.proofs.FoundPlaces.{count_up_to}
+use Rattle.ft_leaf_blocks.proofs.CountedWalks.{count_up_to}
 use Rattle.ft_leaf_blocks.proofs.settling.last_of.Goals as goal
 
 pub returns-clause-place : goal.returns-clause-place

@@ -1,5 +1,5 @@
 use Rattle.std.proofs.Common.{sym, ◌∙◌, arith}
-use Rattle.ft_leaf_blocks.proofs.FoundPlaces.{walks_on}
+use Rattle.ft_leaf_blocks.proofs.CountedWalks.{walks_on}
 use Rattle.ft_leaf_blocks.proofs.SettledLeaves.{first_on, first_past}
 use Rattle.ft_leaf_blocks.proofs.settling.next_standing.Goals as goal
 

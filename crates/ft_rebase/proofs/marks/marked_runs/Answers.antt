@@ -6,7 +6,7 @@ use Rattle.ft_block.specs.Leaves.{ids}
 use Rattle.ft_leaves.specs.Elements.{seen_in}
 use Rattle.ft_leaves.specs.LeafLists.{elements}
 use Rattle.ft_leaf_blocks.specs.Walks.{from_place}
-use Rattle.ft_leaf_blocks.proofs.FoundPlaces.{walks_first, walks_live}
+use Rattle.ft_leaf_steps.proofs.FoundPlaces.{walks_first, walks_live}
 use Rattle.ft_rebase.specs.MarkedRuns.{RunsRise, continued, marked_runs_from}
 use Rattle.ft_rebase.specs.Pieces.{has_mark, leaf_has_mark, marked_runs}
 use Rattle.ft_rebase.specs.declared.runs.MarkedRuns.{MarkedRuns}

@@ -3,7 +3,7 @@ use Rattle.std.specs.List.{filter_map}
 use Rattle.ft_leaves.specs.Edits.{least_above, least_of, stage_of}
 use Rattle.ft_leaves.proofs.LeastStages.{least_of-assoc, least_of-none}
 use Rattle.ft_leaf_blocks.specs.Walks.{from_place}
-use Rattle.ft_leaf_blocks.proofs.FoundPlaces.{walks_live}
+use Rattle.ft_leaf_steps.proofs.FoundPlaces.{walks_live}
 use Rattle.ft_leaf_blocks.proofs.Walks.{from_first}
 use Rattle.ft_rebase.specs.Moves.{next_insertion}
 use Rattle.ft_rebase.proofs.LeafWalks.{fewer_left, live_next, mapped, stands_at}

@@ -2,7 +2,7 @@ use Rattle.std.proofs.Common.{◌++◌, filter, ap, sym, ◌∙◌}
 use Rattle.ft_base.specs.Visibility.{is_of_stage}
 use Rattle.ft_block.specs.Leaves.{ids}
 use Rattle.ft_leaf_blocks.specs.Walks.{from_place}
-use Rattle.ft_leaf_blocks.proofs.FoundPlaces.{walks_live}
+use Rattle.ft_leaf_steps.proofs.FoundPlaces.{walks_live}
 use Rattle.ft_leaf_blocks.proofs.Walks.{from_first}
 use Rattle.ft_rebase.specs.Moves.{leaf_stamps}
 use Rattle.ft_rebase.specs.StageLists.{inserted_by}

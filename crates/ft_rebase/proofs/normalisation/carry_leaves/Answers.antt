@@ -1,8 +1,8 @@
 use Rattle.std.proofs.Common.{length, refl, subst, sym, ◌∙◌, ap, arith}
 use Rattle.ft_block.specs.Leaves.{IsPlaceIn}
-use Rattle.ft_leaf_blocks.specs.Walks.{change_from}
-use Rattle.ft_leaf_blocks.proofs.FoundPlaces.{walks_live}
-use Rattle.ft_leaf_blocks.proofs.WalkEdits.{change-all, change-none, walk_change}
+use Rattle.ft_leaf_steps.specs.LeafSteps.{change_from}
+use Rattle.ft_leaf_steps.proofs.FoundPlaces.{walks_live}
+use Rattle.ft_leaf_steps.proofs.ChangedWalks.{change-all, change-none, walk_change}
 use Rattle.ft_leaf_blocks.proofs.Walks.{live_value}
 use Rattle.ft_rebase.specs.Normalised.{carried_leaf, carried_pair}
 use Rattle.ft_rebase.proofs.MovedSpots.{rest_more, rest_same}

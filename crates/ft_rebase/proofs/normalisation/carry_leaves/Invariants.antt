@@ -1,7 +1,8 @@
 use Rattle.std.proofs.Common.{◌≡◌, IsTrue, length, map}
 use Rattle.ft_block.specs.Leaves.{IsPlaceIn}
 use Rattle.ft_leaves.specs.References.{KeepsReferences}
-use Rattle.ft_leaf_blocks.specs.Walks.{change_from, from_place}
+use Rattle.ft_leaf_steps.specs.LeafSteps.{change_from}
+use Rattle.ft_leaf_blocks.specs.Walks.{from_place}
 use Rattle.ft_rebase.specs.Normalised.{carried_pair}
 use Rattle.ft_tree.specs.State.{KeepsRest}
 use Rattle.ft_rebase.proofs.normalisation.carry_leaves.Given as goal

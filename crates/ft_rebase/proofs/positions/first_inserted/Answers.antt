@@ -1,7 +1,7 @@
 use Rattle.std.proofs.Common.{ap, sym, ◌∙◌}
 use Rattle.ft_base.specs.Visibility.{is_of_stage}
 use Rattle.ft_leaf_blocks.specs.Walks.{from_place}
-use Rattle.ft_leaf_blocks.proofs.FoundPlaces.{walks_live}
+use Rattle.ft_leaf_steps.proofs.FoundPlaces.{walks_live}
 use Rattle.ft_leaf_blocks.proofs.Walks.{from_first}
 use Rattle.ft_rebase.specs.Pieces.{first_inserted}
 use Rattle.ft_rebase.proofs.LeafWalks.{fewer_left, first_here, first_later, live_next, mapped, stands_at}

@@ -8,8 +8,8 @@ use Rattle.ft_leaves.specs.Elements.{elements_with}
 use Rattle.ft_leaves.specs.References.{KeepsReferences, place_of}
 use Rattle.ft_leaves.proofs.LeafRuns.{length-elements}
 use Rattle.ft_leaves.proofs.RangeLeaves.{extends_trans}
-use Rattle.ft_leaf_blocks.specs.Walks.{held_place}
-use Rattle.ft_leaf_blocks.proofs.CutPlaces.{puts_behind}
+use Rattle.ft_leaf_steps.specs.LeafSteps.{held_place}
+use Rattle.ft_leaf_steps.proofs.CutPlaces.{puts_behind}
 use Rattle.ft_props.specs.Overlay.{OverlayState}
 use Rattle.ft_props.specs.Properties.{PropertyList}
 use Rattle.ft_tree.proofs.RefPlaces.{kept_before}

@@ -1,0 +1,7 @@
+pub mod ChangedWalks
+pub mod FoundPlaces
+pub mod FoundOffsets
+pub mod OffsetCounts
+pub mod CutPlaces
+pub mod RangeWalks
+pub mod JoinedPairs

@@ -1,0 +1,17 @@
+//! Steps over the leaves of the merge tree in blocks: how they are cut at a place, get a leaf there, and are
+//! changed over a range, by reading a few blocks to find the place and then only the leaves of the range; and
+//! where a place is among them.
+//!
+//! A call that can't answer `OutOfMemory` takes no memory.
+#![tactic(auto)]
+
+pub mod cuts;
+pub mod edits;
+pub mod finds;
+pub mod joins;
+pub mod offsets;
+pub mod places;
+pub mod ranges;
+pub mod scans;
+pub mod stamp_lists;
+pub mod unmarks;
