@@ -1,5 +1,5 @@
 -- The least stage above a number that has a removal mark on a leaf: bounds on it, and what reaches them.
-use Rattle.std.proofs.Common.{◌≡◌, ℕ, zero, suc, ◌<◌, ◌≤◌, All, Bool, true, false, cond, ◌&&◌, List, [], ◌∷◌, inl, inr, drop, get_or, length, Option, Some, None, refl, subst, sym, ◌∙◌, ap, arith, nat_eq, nat_lt}
+use Rattle.std.proofs.Common.{◌≡◌, ℕ, zero, suc, ◌<◌, ◌≤◌, All, Bool, true, false, cond, ◌&&◌, List, [], ◌∷◌, inl, inr, drop, length, Option, Some, None, refl, subst, sym, ◌∙◌, ap, arith, nat_eq, nat_lt}
 use Rattle.std.specs.Prelude.{⊤}
 use Rattle.std.specs.List.{AllByRecursion, filter_map, list_any}
 use Rattle.std.proofs.lemmas.Bool.{cases_eq, eq-eqb, ne_eqb}
@@ -13,9 +13,11 @@ use Rattle.ft_leaves.specs.declared.leaves.TreeLeaf.{TreeLeaf}
 use Rattle.ft_leaves.specs.Edits.{least_above, least_of, lesser, next_removal_above, stage_of}
 use Rattle.ft_leaves.specs.LeafLists.{elements}
 use Rattle.ft_leaves.proofs.LeastStages.{leaf_more}
-use Rattle.ft_leaf_blocks.specs.Touched.{NodesOfStage, holds, is_listed, is_removed_at, is_removed_by}
+use Rattle.std.specs.Option.{IsSome}
+use Rattle.ft_leaf_blocks.specs.Touched.{AreRising, NodesOfStage, Tracks, holds, is_listed, is_removed_at, is_removed_by, stages_below}
 use Rattle.ft_leaf_blocks.proofs.AckedNodes.{of_first, of_rest}
-use Rattle.ft_leaf_blocks.proofs.TouchedLists.{and_both, both_and, eq_from, or_either, or_left, or_right}
+use Rattle.ft_leaf_blocks.proofs.TouchedLists.{and_both, both_and, eq_from, from-listed, or_either, or_left, or_right, rising-drop}
+use Rattle.ft_leaf_blocks.proofs.TrackedSteps.{by_removals}
 
 -- the number, if there is one, isn't below m
 abbrev pub IsFrom : ℕ → Option ℕ → Type 0
@@ -143,7 +145,7 @@ all_none {C} units by k (x ∷ xs) once some low =
     (λ z v e. low z v (of_rest x xs z v (once x.0) e))
 
 -- a leaf with a mark
-pub marked : {C : Type 0} (j : ℕ) (o : Option (TreeLeaf C)) → is_removed_by j o ≡ true → (v : TreeLeaf C) × (o ≡ Some v) × (list_any (is_of_stage j) v.stamps.dels ≡ true)
+marked : {C : Type 0} (j : ℕ) (o : Option (TreeLeaf C)) → is_removed_by j o ≡ true → (v : TreeLeaf C) × (o ≡ Some v) × (list_any (is_of_stage j) v.stamps.dels ≡ true)
 marked j None h = (cc)
 marked j (Some v) h = (v, refl, h)
 
@@ -173,16 +175,13 @@ listed_above n (x ∷ xs) j z h l = elim (or_either (nat_eq x.stage j && holds x
 true_false : false ≡ true → ⊥
 true_false e = (cc)
 
--- a node of a list that stands among others
-pub listed_at : (xs : List NodesOfStage) (i : ℕ) (s : NodesOfStage) (z : ℕ) → i < length xs → s ≡ get_or xs i s → holds s.nodes z ≡ true → is_listed xs s.stage z ≡ true
-listed_at [] i s z lt e h = absurd (omega arith)
-listed_at (x ∷ xs) zero s z lt e h =
-    or_left (nat_eq x.stage s.stage && holds x.nodes z) (is_listed xs s.stage z)
-    (both_and (nat_eq x.stage s.stage) (holds x.nodes z) (eq-eqb x.stage s.stage (ap (λ (y : NodesOfStage). y.stage) (sym e)))
-    (ap (λ (y : NodesOfStage). holds y.nodes z) (sym e) ∙ h))
-listed_at (x ∷ xs) (suc i) s z lt e h = or_right (nat_eq x.stage s.stage && holds x.nodes z) (is_listed xs s.stage z) (listed_at xs i s z (omega arith) e h)
+-- a node of the first list
+pub listed_first : (s : NodesOfStage) (xs : List NodesOfStage) (z : ℕ) → holds s.nodes z ≡ true → is_listed (s ∷ xs) s.stage z ≡ true
+listed_first s xs z h =
+    or_left (nat_eq s.stage s.stage && holds s.nodes z) (is_listed xs s.stage z)
+    (both_and (nat_eq s.stage s.stage) (holds s.nodes z) (eq-eqb s.stage s.stage refl) h)
 
-pub listed_drop : (n : ℕ) (xs : List NodesOfStage) (j z : ℕ) → is_listed (drop n xs) j z ≡ true → is_listed xs j z ≡ true
+listed_drop : (n : ℕ) (xs : List NodesOfStage) (j z : ℕ) → is_listed (drop n xs) j z ≡ true → is_listed xs j z ≡ true
 listed_drop zero xs j z l = l
 listed_drop (suc n) [] j z l = l
 listed_drop (suc n) (x ∷ xs) j z l = or_right (nat_eq x.stage j && holds x.nodes z) (is_listed xs j z) (listed_drop n xs j z l)
@@ -218,6 +217,31 @@ module _ {C : Type 0} (xs : List (ℕ × TreeLeaf C)) (k : ℕ) (s : NodesOfStag
         | inr more ↦ omega (arith, listed_above s.stage rest j z above more)
       ] in
       sym (all_reach units by s.stage k xs once some low up node.0 leaf.0 leaf.1 leaf.2)
+
+-- a search for a removal above stage k goes on in these lists
+pub record Searches {C : Type 0} (k : ℕ) (xs : List (ℕ × TreeLeaf C)) (ss : List NodesOfStage) : Type 0 where
+  pub covers : (j z : ℕ) → k < j → is_removed_at xs j z ≡ true → is_listed ss j z ≡ true
+  pub live : (j z : ℕ) → is_listed ss j z ≡ true → IsSome (value_at xs z)
+  pub rising : AreRising ss
+
+-- it begins at the lists of this stage and above
+pub searches-from : {C : Type 0} (k n : ℕ) (xs : List (ℕ × TreeLeaf C)) (ss : List NodesOfStage) → n ≡ stages_below k ss → Tracks xs ss → Searches k xs (drop n ss)
+searches-from k n xs ss e tracks = record {
+  covers = λ j z lt t.
+      let v = marked j (value_at xs z) t in
+      ap (λ i. is_listed (drop i ss) j z) e ∙ from-listed k j z ss (omega arith) ∙ tracks.covers j z v.0 v.1 (by_removals j v.0 v.2);
+  live = λ j z l. tracks.live j z (listed_drop n ss j z l);
+  rising = rising-drop n ss tracks.rising;
+}
+
+-- and passes a list without such a mark
+pub searches-on : {C : Type 0} (k : ℕ) (xs : List (ℕ × TreeLeaf C)) (s : NodesOfStage) (rest : List NodesOfStage) → Searches k xs (s ∷ rest)
+    → (nat_lt k s.stage && list_any (is_removed_at xs s.stage) s.nodes) ≡ false → Searches k xs rest
+searches-on k xs s rest h test = record {
+  covers = passed xs k s rest h.covers test;
+  live = λ j z l. h.live j z (or_right (nat_eq s.stage j && holds s.nodes z) (is_listed rest j z) l);
+  rising = h.rising.1;
+}
 
 -- no list is left
 pub unreached : {C U : Type 0} (units : C → List U) (by : C → Option Stamp) (k : ℕ) (xs : List (ℕ × TreeLeaf C)) → ((i : ℕ) → times_leaf xs i ≤ 1)

@@ -22,6 +22,7 @@ use ft_leaves::block_leaf::acked_stamps;
 use ft_leaves::stamps::is_of_stage;
 use ft_leaves::{Content, LeafChange, TreeLeaf};
 use std::alloc::Global;
+use std::collections::VecDeque;
 
 /// Whether the leaf has something of that stage: its insertion, a removal mark or changes.
 fn has_any_of<C: Content>(leaf: &TreeLeaf<C>, stage: u64) -> bool
@@ -93,7 +94,7 @@ fn ack_nodes<C: Content>(
 /// Answers `OutOfMemory` where there is no room for it.
 pub(crate) fn ack_in<C: Content>(
     blocks: &mut Blocks<TreeLeaf<C>>,
-    touched: &mut Vec<StageNodes>,
+    touched: &mut VecDeque<StageNodes>,
     refs: &mut LeafRefs,
     alloc: Global,
     stage: u64,

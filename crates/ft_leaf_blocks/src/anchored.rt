@@ -24,13 +24,14 @@ use ft_block::Blocks;
 use ft_leaves::leaves::Standing;
 use ft_leaves::{Content, LeafChange, TreeLeaf};
 use ft_refs::{Place, RefId};
+use std::collections::VecDeque;
 
 /// Puts a new leaf in, as `insert_in` does. References go with their elements.
 ///
 /// Answers `OutOfMemory` where there is no room for it.
 pub(crate) fn insert_anchored<C: Content + Drop>(
     blocks: &mut Blocks<TreeLeaf<C>>,
-    touched: &mut Vec<StageNodes>,
+    touched: &mut VecDeque<StageNodes>,
     refs: &mut LeafRefs,
     at: Option<NodeId>,
     leaf: TreeLeaf<C>,
@@ -62,7 +63,7 @@ pub(crate) fn insert_anchored<C: Content + Drop>(
 /// Answers `OutOfMemory` where there is no room for the rear.
 pub(crate) fn split_anchored<C: Content>(
     blocks: &mut Blocks<TreeLeaf<C>>,
-    touched: &mut Vec<StageNodes>,
+    touched: &mut VecDeque<StageNodes>,
     refs: &mut LeafRefs,
     leaf: NodeId,
     at: u64,
@@ -96,7 +97,7 @@ pub(crate) fn split_anchored<C: Content>(
 /// Answers `OutOfMemory` where there is no room for it.
 pub(crate) fn set_stamps_anchored<C: Content>(
     blocks: &mut Blocks<TreeLeaf<C>>,
-    touched: &mut Vec<StageNodes>,
+    touched: &mut VecDeque<StageNodes>,
     refs: &mut LeafRefs,
     id: NodeId,
     e: Element,
@@ -125,7 +126,7 @@ pub(crate) fn set_stamps_anchored<C: Content>(
 /// Answers `OutOfMemory` where there is no room for both in one.
 pub(crate) fn join_anchored<C: Content + Drop>(
     blocks: &mut Blocks<TreeLeaf<C>>,
-    touched: &mut Vec<StageNodes>,
+    touched: &mut VecDeque<StageNodes>,
     refs: &mut LeafRefs,
     id: NodeId,
 ) -> Result<(), OutOfMemory>
@@ -160,7 +161,7 @@ pub(crate) fn join_anchored<C: Content + Drop>(
 /// Answers `OutOfMemory` where there is no room for it.
 pub(crate) fn change_anchored<C: Content>(
     blocks: &mut Blocks<TreeLeaf<C>>,
-    touched: &mut Vec<StageNodes>,
+    touched: &mut VecDeque<StageNodes>,
     _refs: &LeafRefs,
     id: NodeId,
     c: &LeafChange,
@@ -187,7 +188,7 @@ pub(crate) fn change_anchored<C: Content>(
 /// Answers `OutOfMemory` where there is no room for what is kept.
 pub(crate) fn take_anchored<C: Content>(
     blocks: &mut Blocks<TreeLeaf<C>>,
-    touched: &mut Vec<StageNodes>,
+    touched: &mut VecDeque<StageNodes>,
     _refs: &LeafRefs,
     id: NodeId,
 ) -> Result<TreeLeaf<C>, OutOfMemory>
@@ -214,7 +215,7 @@ pub(crate) fn take_anchored<C: Content>(
 /// Answers `OutOfMemory` where there is no room for what is kept.
 pub(crate) fn move_anchored<C: Content>(
     blocks: &mut Blocks<TreeLeaf<C>>,
-    touched: &Vec<StageNodes>,
+    touched: &VecDeque<StageNodes>,
     _refs: &LeafRefs,
     id: NodeId,
     at: Option<NodeId>,

@@ -44,6 +44,7 @@ use ft_block::{Blocks, LenView};
 use ft_leaves::{Content, LeafChange, TreeLeaf};
 use ft_refs::{Place, RefId};
 use std::alloc::Global;
+use std::collections::VecDeque;
 use std::marker::Model;
 
 /// Leaves in blocks, and for each pending stage the nodes of the leaves that it touched, so that its
@@ -54,7 +55,7 @@ use std::marker::Model;
 #[derive(Drop)]
 pub struct LeafBlocks<C: Content> {
     blocks: Blocks<TreeLeaf<C>>,
-    touched: Vec<StageNodes>,
+    touched: VecDeque<StageNodes>,
     refs: LeafRefs,
     usable: bool,
 }
@@ -78,7 +79,7 @@ impl<C: Content> LeafBlocks<C> {
     {
         LeafBlocks {
             blocks: Blocks::new(alloc),
-            touched: Vec::new(alloc),
+            touched: VecDeque::new(alloc),
             refs: LeafRefs::new(alloc),
             usable: true,
         }
@@ -423,7 +424,7 @@ impl<C: Content> LeafBlocks<C> {
         requires { IsTrue self.now.usable }
         ensures { result ≡ next_removal_above stage (elements C.units C.by self.now.leaves) }
     {
-        next_removal_in(&self.blocks, self.touched.as_slice(), stage)
+        next_removal_in(&self.blocks, &self.touched, stage)
     }
 
     /// The floor.

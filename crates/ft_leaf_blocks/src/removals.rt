@@ -8,11 +8,12 @@ ghost use Rattle.ft_leaves.specs.LeafLists.{elements};
 ghost use Rattle.ft_leaf_blocks.specs.Touched.{Tracks, is_removed_at};
 
 use crate::stage_nodes::StageNodes;
-use crate::touched::from_stage;
+use crate::touched::place_of;
 use ft_arena::NodeId;
 use ft_block::Blocks;
 use ft_leaves::stamps::has_stage;
 use ft_leaves::{Content, TreeLeaf};
+use std::collections::VecDeque;
 
 /// Whether the leaf of one of these nodes has a removal mark of that stage.
 fn is_any_removed<C: Content>(blocks: &Blocks<TreeLeaf<C>>, nodes: &[NodeId], stage: u64) -> bool
@@ -40,15 +41,15 @@ fn is_removal_above<C: Content>(blocks: &Blocks<TreeLeaf<C>>, list: &StageNodes,
 /// The least pending stage above this one that marks an element as removed.
 pub(crate) fn next_removal_in<C: Content>(
     blocks: &Blocks<TreeLeaf<C>>,
-    touched: &[StageNodes],
+    touched: &VecDeque<StageNodes>,
     stage: u64,
 ) -> Option<u64>
     requires usable { IsTrue blocks.now.usable }
-    requires tracks { Tracks blocks.now.leaves touched.now }
+    requires tracks { Tracks blocks.now.leaves touched.now.items }
     ensures { result ≡ next_removal_above stage (elements C.units C.by blocks.now.leaves) }
 {
     let _first = blocks.first();
-    for list in from_stage(touched, stage) {
+    for list in touched.range(place_of(touched, stage)..) {
         if is_removal_above(blocks, list, stage) {
             return Some(list.stage());
         }

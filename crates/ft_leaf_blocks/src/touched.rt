@@ -1,6 +1,6 @@
 //! Which leaves each pending stage touched: lists of nodes by rising stage.
 
-ghost use Rattle.std.specs.Prelude.{◌≡◌, ◌≢◌, ◌≤◌, ℕ, OnOk, drop, false, length, map, slice_get, true};
+ghost use Rattle.std.specs.Prelude.{◌≡◌, ◌≢◌, ◌≤◌, ℕ, OnOk, false, length, map, slice_get, true};
 ghost use Rattle.std.specs.List.{list_any};
 ghost use Rattle.ft_base.specs.Visibility.{is_of_stage};
 ghost use Rattle.ft_leaf_blocks.specs.Touched.{AreRising, Notes, holds, is_list_of, is_listed, is_stamped_by, purged, stages_below, with_heir};
@@ -9,19 +9,20 @@ use crate::stage_nodes::StageNodes;
 use ft_arena::NodeId;
 use ft_base::{Element, OutOfMemory, Stamp};
 use ft_leaves::stamps::{has_stage, is_of_stage};
+use std::collections::VecDeque;
 
 /// How many lists are of lower stages.
-fn place_of(touched: &[StageNodes], stage: u64) -> usize
-    requires { AreRising touched.now }
-    ensures place { result ≡ stages_below stage touched.now }
-    ensures bound { result ≤ length touched.now }
+pub(crate) fn place_of(touched: &VecDeque<StageNodes>, stage: u64) -> usize
+    requires { AreRising touched.now.items }
+    ensures place { result ≡ stages_below stage touched.now.items }
+    ensures bound { result ≤ length touched.now.items }
 {
     touched.partition_point(|list| list.stage() < stage)
 }
 
 /// Whether the list at a place is of this stage.
-fn is_at(touched: &[StageNodes], i: usize, stage: u64) -> bool
-    ensures { result ≡ is_list_of stage (slice_get touched.now i) }
+fn is_at(touched: &VecDeque<StageNodes>, i: usize, stage: u64) -> bool
+    ensures { result ≡ is_list_of stage (slice_get touched.now.items i) }
 {
     match touched.get(i) {
         Some(list) => list.stage() == stage,
@@ -29,25 +30,20 @@ fn is_at(touched: &[StageNodes], i: usize, stage: u64) -> bool
     }
 }
 
-/// The lists of this stage and those above it.
-pub(crate) fn from_stage(touched: &[StageNodes], stage: u64) -> &[StageNodes]
-    requires { AreRising touched.now }
-    ensures { result.now ≡ drop (stages_below stage touched.now) touched.now }
-{
-    let place = place_of(touched, stage);
-    &touched[place..]
-}
-
 /// Lists a node for a stage.
 ///
 /// Answers `OutOfMemory` where there is no room for it.
-pub(crate) fn note(touched: &mut Vec<StageNodes>, stage: u64, id: NodeId) -> Result<(), OutOfMemory>
+pub(crate) fn note(
+    touched: &mut VecDeque<StageNodes>,
+    stage: u64,
+    id: NodeId,
+) -> Result<(), OutOfMemory>
     requires { AreRising touched.old.items }
     ensures notes { OnOk result (Notes id touched.old.items touched.new.items) }
     ensures listed { OnOk result (is_listed touched.new.items stage id ≡ true) }
 {
-    let i = place_of(touched.as_slice(), stage);
-    if is_at(touched.as_slice(), i, stage) {
+    let i = place_of(touched, stage);
+    if is_at(touched, i, stage) {
         return touched[i].add(id);
     }
     let list = StageNodes::of(*touched.allocator(), stage, id)?;
@@ -66,7 +62,7 @@ fn is_stamped_by(e: &Element, stage: u64) -> bool
 ///
 /// Answers `OutOfMemory` where there is no room for it.
 fn note_stamp(
-    touched: &mut Vec<StageNodes>,
+    touched: &mut VecDeque<StageNodes>,
     old: &Element,
     stamp: &Stamp,
     id: NodeId,
@@ -86,7 +82,7 @@ fn note_stamp(
 
 /// The same for each of some stamps.
 fn note_each(
-    touched: &mut Vec<StageNodes>,
+    touched: &mut VecDeque<StageNodes>,
     old: &Element,
     stamps: &[Stamp],
     id: NodeId,
@@ -105,7 +101,7 @@ fn note_each(
 ///
 /// Answers `OutOfMemory` where there is no room for it.
 pub(crate) fn note_stamps(
-    touched: &mut Vec<StageNodes>,
+    touched: &mut VecDeque<StageNodes>,
     old: &Element,
     new: &Element,
     id: NodeId,
@@ -122,13 +118,13 @@ pub(crate) fn note_stamps(
 ///
 /// Answers `OutOfMemory` where there is no room for it.
 pub(crate) fn note_heir(
-    touched: &mut Vec<StageNodes>,
+    touched: &mut VecDeque<StageNodes>,
     front: NodeId,
     rear: NodeId,
 ) -> Result<(), OutOfMemory>
     ensures { OnOk result (touched.new.items ≡ map (with_heir front rear) touched.old.items) }
 {
-    add_heirs(touched.as_mut_slice(), front, rear)
+    add_heirs(touched.make_contiguous(), front, rear)
 }
 
 /// The same in a slice.
@@ -142,10 +138,10 @@ fn add_heirs(touched: &mut [StageNodes], front: NodeId, rear: NodeId) -> Result<
 }
 
 /// Takes a node off all lists.
-pub(crate) fn purge(touched: &mut Vec<StageNodes>, id: NodeId)
+pub(crate) fn purge(touched: &mut VecDeque<StageNodes>, id: NodeId)
     ensures { touched.new.items ≡ map (purged id) touched.old.items }
 {
-    purge_each(touched.as_mut_slice(), id);
+    purge_each(touched.make_contiguous(), id);
 }
 
 /// The same in a slice.
@@ -158,16 +154,20 @@ fn purge_each(touched: &mut [StageNodes], id: NodeId)
 }
 
 /// Takes the list of a stage out, and answers its nodes: none where there is no list.
-pub(crate) fn take_stage(touched: &mut Vec<StageNodes>, stage: u64) -> Vec<NodeId>
+pub(crate) fn take_stage(touched: &mut VecDeque<StageNodes>, stage: u64) -> Vec<NodeId>
     requires { AreRising touched.old.items }
     ensures nodes { (id : ℕ) → holds result.items id ≡ is_listed touched.old.items stage id }
     ensures gone { (id : ℕ) → is_listed touched.new.items stage id ≡ false }
     ensures others { (k id : ℕ) → k ≢ stage → is_listed touched.new.items k id ≡ is_listed touched.old.items k id }
     ensures rising { AreRising touched.new.items }
 {
-    let i = place_of(touched.as_slice(), stage);
-    if is_at(touched.as_slice(), i, stage) {
-        return touched.remove(i).into_nodes();
+    let alloc = *touched.allocator();
+    let i = place_of(touched, stage);
+    if !is_at(touched, i, stage) {
+        return Vec::new(alloc);
     }
-    Vec::new(*touched.allocator())
+    match touched.remove(i) {
+        Some(list) => list.into_nodes(),
+        None => Vec::new(alloc),
+    }
 }

@@ -14,13 +14,14 @@ use ft_base::{Element, OutOfMemory, Stamp};
 use ft_block::Blocks;
 use ft_leaves::block_leaf::universal;
 use ft_leaves::{Content, LeafChange, TreeLeaf};
+use std::collections::VecDeque;
 
 /// Puts a new leaf in, as `Blocks::insert_after` does. Nothing is pending in its properties.
 ///
 /// Answers `OutOfMemory` where there is no room for it.
 pub(crate) fn insert_in<C: Content + Drop>(
     blocks: &mut Blocks<TreeLeaf<C>>,
-    touched: &mut Vec<StageNodes>,
+    touched: &mut VecDeque<StageNodes>,
     at: Option<NodeId>,
     leaf: TreeLeaf<C>,
 ) -> Result<NodeId, OutOfMemory>
@@ -71,7 +72,7 @@ fn has_pending<C: Content>(leaf: &TreeLeaf<C>) -> bool
 ///
 /// Answers `OutOfMemory` where there is no room for it.
 fn note_rear<C: Content>(
-    touched: &mut Vec<StageNodes>,
+    touched: &mut VecDeque<StageNodes>,
     leaf: &TreeLeaf<C>,
     front: NodeId,
     rear: NodeId,
@@ -92,7 +93,7 @@ fn note_rear<C: Content>(
 /// Answers `OutOfMemory` where there is no room for the rear.
 pub(crate) fn split_in<C: Content>(
     blocks: &mut Blocks<TreeLeaf<C>>,
-    touched: &mut Vec<StageNodes>,
+    touched: &mut VecDeque<StageNodes>,
     leaf: NodeId,
     at: u64,
 ) -> Result<NodeId, OutOfMemory>
@@ -118,7 +119,7 @@ pub(crate) fn split_in<C: Content>(
 /// Answers `OutOfMemory` where there is no room for it.
 pub(crate) fn set_stamps_in<C: Content>(
     blocks: &mut Blocks<TreeLeaf<C>>,
-    touched: &mut Vec<StageNodes>,
+    touched: &mut VecDeque<StageNodes>,
     id: NodeId,
     e: Element,
 ) -> Result<(), OutOfMemory>
@@ -137,7 +138,11 @@ pub(crate) fn set_stamps_in<C: Content>(
 /// Lists a node for the stage of the changes that it gets, if it gets any.
 ///
 /// Answers `OutOfMemory` where there is no room for it.
-fn note_change(touched: &mut Vec<StageNodes>, c: &LeafChange, id: NodeId) -> Result<(), OutOfMemory>
+fn note_change(
+    touched: &mut VecDeque<StageNodes>,
+    c: &LeafChange,
+    id: NodeId,
+) -> Result<(), OutOfMemory>
     requires { AreRising touched.old.items }
     ensures notes { OnOk result (Notes id touched.old.items touched.new.items) }
     ensures listed { OnOk result ((k : ℕ) → added_stage c.now ≡ Some k → is_listed touched.new.items k id ≡ true) }
@@ -156,7 +161,7 @@ fn note_change(touched: &mut Vec<StageNodes>, c: &LeafChange, id: NodeId) -> Res
 /// Answers `OutOfMemory` where there is no room for it.
 pub(crate) fn change_in<C: Content>(
     blocks: &mut Blocks<TreeLeaf<C>>,
-    touched: &mut Vec<StageNodes>,
+    touched: &mut VecDeque<StageNodes>,
     id: NodeId,
     c: &LeafChange,
 ) -> Result<(), OutOfMemory>
@@ -177,7 +182,7 @@ pub(crate) fn change_in<C: Content>(
 /// Answers `OutOfMemory` where there is no room for what is kept.
 pub(crate) fn take_in<C: Content>(
     blocks: &mut Blocks<TreeLeaf<C>>,
-    touched: &mut Vec<StageNodes>,
+    touched: &mut VecDeque<StageNodes>,
     id: NodeId,
 ) -> Result<TreeLeaf<C>, OutOfMemory>
     requires usable { IsTrue blocks.old.usable }
@@ -194,7 +199,7 @@ pub(crate) fn take_in<C: Content>(
 }
 
 /// Takes a node off all lists, if one is given.
-fn purge_given(touched: &mut Vec<StageNodes>, id: Option<NodeId>)
+fn purge_given(touched: &mut VecDeque<StageNodes>, id: Option<NodeId>)
     ensures { touched.new.items ≡ purged_at id touched.old.items }
 {
     match id {
@@ -208,7 +213,7 @@ fn purge_given(touched: &mut Vec<StageNodes>, id: Option<NodeId>)
 /// Answers `OutOfMemory` where there is no room for both in one.
 pub(crate) fn join_in<C: Content + Drop>(
     blocks: &mut Blocks<TreeLeaf<C>>,
-    touched: &mut Vec<StageNodes>,
+    touched: &mut VecDeque<StageNodes>,
     id: NodeId,
 ) -> Result<(), OutOfMemory>
     requires usable { IsTrue blocks.old.usable }
@@ -230,7 +235,7 @@ pub(crate) fn join_in<C: Content + Drop>(
 /// Answers `OutOfMemory` where there is no room for what is kept.
 pub(crate) fn move_in<C: Content>(
     blocks: &mut Blocks<TreeLeaf<C>>,
-    touched: &Vec<StageNodes>,
+    touched: &VecDeque<StageNodes>,
     id: NodeId,
     at: Option<NodeId>,
 ) -> Result<(), OutOfMemory>

@@ -1,4 +1,4 @@
-use Rattle.std.proofs.Common.{◌≡◌, ◌+◌, ℕ, List, length, Option, Some, None, IsTrue, IsSomeAnd, subst, refl, sym, ◌∙◌, ap, arith, length-append}
+use Rattle.std.proofs.Common.{◌≡◌, ◌+◌, length, Option, IsTrue, IsSomeAnd, subst, refl, sym, ◌∙◌, ap, arith, length-append}
 use Rattle.std.proofs.lemmas.Result.{on_ok_weaker}
 use Rattle.ft_block.specs.Leaves.{value_after, value_at}
 use Rattle.ft_block.proofs.CallerLemmas.{after_is_in}

@@ -1,4 +1,4 @@
-use Rattle.std.proofs.Common.{ℕ, List, refl, sym, ap, arith}
+use Rattle.std.proofs.Common.{ℕ, List, refl, ap, arith}
 use Rattle.std.proofs.lemmas.Result.{on_ok_weaker}
 use Rattle.ft_block.specs.Leaves.{times_leaf}
 use Rattle.ft_leaves.specs.declared.leaves.TreeLeaf.{TreeLeaf}

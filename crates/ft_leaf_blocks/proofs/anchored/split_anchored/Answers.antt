@@ -1,4 +1,4 @@
-use Rattle.std.proofs.Common.{◌≡◌, ◌<◌, length, Option, IsSomeAnd, subst, refl, ap, arith}
+use Rattle.std.proofs.Common.{◌<◌, length, Option, IsSomeAnd, subst, refl, ap, arith}
 use Rattle.ft_block.specs.Leaves.{times_leaf, value_at}
 use Rattle.ft_leaves.specs.declared.leaves.TreeLeaf.{TreeLeaf}
 use Rattle.ft_leaves.specs.BlockLaws.{front_length, rear_length}

@@ -1,8 +1,7 @@
-use Rattle.std.proofs.Common.{◌≡◌, ℕ, ◌<◌, true, drop}
-use Rattle.ft_leaf_blocks.specs.Touched.{is_listed, is_removed_at}
+use Rattle.std.specs.VecDeque.Iter.{deque_iter_rest}
+use Rattle.ft_leaf_blocks.proofs.LeastRemovals.{Searches}
 use Rattle.ft_leaf_blocks.proofs.removals.next_removal_in.Given as goal
 
--- each leaf with a mark of a higher stage is listed among the rest
+-- the lists that are left are those that matter
 abbrev pub invariant-loop-list : goal.invariant-loop-list
-invariant-loop-list g l =
-    (j z : ℕ) → l.stage < j → is_removed_at l.blocks.leaves j z ≡ true → is_listed (drop l.list-index l.list-items) j z ≡ true
+invariant-loop-list g l = Searches l.stage l.blocks.leaves (deque_iter_rest l.list-iterator)

@@ -1,4 +1,4 @@
-use Rattle.std.proofs.Common.{◌≡◌, ℕ, ◌<◌, length, true, false, Option, Some, IfSome, IsSomeAnd, subst, sym, ◌∙◌, ap, arith}
+use Rattle.std.proofs.Common.{◌≡◌, ◌<◌, length, true, false, Option, Some, IfSome, IsSomeAnd, subst, sym, ◌∙◌, ap, arith}
 use Rattle.ft_leaves.specs.declared.leaves.TreeLeaf.{TreeLeaf}
 use Rattle.ft_refs.specs.declared.numbers.Place.{Place}
 use Rattle.ft_leaf_blocks.specs.LeafPlaces.{IsOnLeaf}

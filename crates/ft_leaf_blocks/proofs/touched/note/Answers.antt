@@ -11,9 +11,8 @@ returns-then-is_at c =
     let k = c.args.stage in
     let id = c.args.id in
     let i = c.place_of-i.result in
-    let place : i ≡ stages_below k xs = c.place_of-i.ensures.place ∙ ap (stages_below k) c.as_slice.ensures.value in
-    let test : is_list_of k (slice_get xs i) ≡ true =
-    ap (λ (ys : List NodesOfStage). is_list_of k (slice_get ys i)) (sym c.as_slice-2.ensures.value) ∙ sym c.is_at.ensures ∙ c.if-is_at.true in
+    let place : i ≡ stages_below k xs = c.place_of-i.ensures.place in
+    let test : is_list_of k (slice_get xs i) ≡ true = sym c.is_at.ensures ∙ c.if-is_at.true in
     let x = c.index_mut.result.now in
     record {
       notes = on_ok_weaker c.add.result
@@ -30,9 +29,8 @@ returns c =
     let k = c.args.stage in
     let id = c.args.id in
     let i = c.place_of-i.result in
-    let place : i ≡ stages_below k xs = c.place_of-i.ensures.place ∙ ap (stages_below k) c.as_slice.ensures.value in
-    let test : is_list_of k (slice_get xs i) ≡ false =
-    ap (λ (ys : List NodesOfStage). is_list_of k (slice_get ys i)) (sym c.as_slice-2.ensures.value) ∙ sym c.is_at.ensures ∙ c.if-is_at.false in
+    let place : i ≡ stages_below k xs = c.place_of-i.ensures.place in
+    let test : is_list_of k (slice_get xs i) ≡ false = sym c.is_at.ensures ∙ c.if-is_at.false in
     let new = insert-is k id i xs c.insert.new.self.items c.in_ok-list.list place test c.in_ok-list.ensures c.in_ok-insert.ensures.items in
     record {
       notes = subst (Notes id xs) (sym new) (noted-notes k id xs c.requires);
