@@ -87,3 +87,9 @@ pub returns-clause-changes : goal.returns-clause-changes
 returns-clause-changes g c = on_ok_weaker c.exchange_up.result (λ r. changed_leaf c.args.arena.now c.args.root c.args.id c.leaf_mut.result.now c.join_back.new.self
     c.requires.tree c.leaf_mut.ensures.value (λ v. g.L.Leaf.joined v c.args.other) c.in-Ok.ensures.ok c.exchange_up.new.arena r.leaves r.leaf_values)
     c.exchange_up.ensures.shape
+
+pub returns-clause-sums : goal.returns-clause-sums
+returns-clause-sums g c = c.exchange_up.ensures.sums
+
+pub returns-clause-floors : goal.returns-clause-floors
+returns-clause-floors g c = c.exchange_up.ensures.floors

@@ -106,3 +106,9 @@ returns-clause-splits g c =
       value = i.value;
       others = λ x d n. i.others x d n ∙ e x;
     }
+
+pub returns-clause-tree : goal.returns-clause-tree
+returns-clause-tree g c = c.in_ok-top.ensures.tree
+
+pub returns-clause-floors : goal.returns-clause-floors
+returns-clause-floors g c = c.in_ok-top.ensures.floors

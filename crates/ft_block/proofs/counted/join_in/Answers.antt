@@ -1,7 +1,7 @@
-use Rattle.std.proofs.Common.{◌≡◌, Option, Some, None, IsTrue, IsSomeAnd, OnOk, sym, subst, arith}
+use Rattle.std.proofs.Common.{◌≡◌, Option, Some, None, IsTrue, IsSomeAnd, OnOk, sym, subst, arith, ℕ}
 use Rattle.ft_block.specs.Tree.{IsTree, SumsKeptBut, AreFromFloor}
 use Rattle.ft_block.specs.Steps.{ChangesLeaf}
-use Rattle.ft_block.specs.Inside.{IsSound}
+use Rattle.ft_block.specs.Inside.{IsRooted, IsSound}
 use Rattle.ft_block.proofs.SoundLemmas.{changes_sound, on_ok_four}
 use Rattle.ft_block.proofs.counted.join_in.Goals as goal
 
@@ -17,3 +17,21 @@ returns-clause-sound g c =
     subst (λ (o : Option g.row.L.Denot). IsSomeAnd o (λ w. IsTrue (g.L.Leaf.joins w c.args.other) × (g.L.Leaf.element w ≡ g.L.Leaf.element c.args.other))) q
     c.requires.can in let e = g.met.L.Leaf.joined_size v c.args.other can.0 can.1 in (omega (arith, e, was.filled c.args.id v q), omega (arith, e, c.requires.fits))))
     t sums floors i) c.join_at.ensures.tree c.join_at.ensures.sums c.join_at.ensures.floors c.join_at.ensures.changes)
+
+pub join_at-requires-clause-tree : goal.join_at-requires-clause-tree
+join_at-requires-clause-tree g c = subst (λ (o : Option ℕ). IsRooted c.args.arena.now o) c.in-Some.is c.requires.sound.rooted
+
+pub join_at-requires-clause-sums : goal.join_at-requires-clause-sums
+join_at-requires-clause-sums g c = c.requires.sound.sums
+
+pub join_at-requires-clause-floors : goal.join_at-requires-clause-floors
+join_at-requires-clause-floors g c = c.requires.sound.floors
+
+pub join_at-requires-clause-can : goal.join_at-requires-clause-can
+join_at-requires-clause-can g c = c.requires.can
+
+pub join_at-requires-clause-fits : goal.join_at-requires-clause-fits
+join_at-requires-clause-fits g c = c.requires.fits
+
+pub returns-clause-changes : goal.returns-clause-changes
+returns-clause-changes g c = c.join_at.ensures.changes

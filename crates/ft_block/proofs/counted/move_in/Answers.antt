@@ -1,6 +1,6 @@
-use Rattle.std.proofs.Common.{◌≡◌, ℕ, Some, refl, ap, sym, subst, ◌∙◌}
+use Rattle.std.proofs.Common.{◌≡◌, ℕ, Option, Some, refl, ap, sym, subst, ◌∙◌}
 use Rattle.ft_block.specs.Tree.{total}
-use Rattle.ft_block.specs.Inside.{IsSound}
+use Rattle.ft_block.specs.Inside.{IsRooted, IsSound}
 use Rattle.ft_block.proofs.MovedLemmas.{list_total}
 use Rattle.ft_block.proofs.SoundLemmas.{rooted_forest, moves_sound}
 use Rattle.ft_block.proofs.counted.move_in.Goals as goal
@@ -21,3 +21,24 @@ returns-clause-sound g c =
     (moves_sound g.L.Leaf.size g.L.Leaf.element c.args.floor c.args.arena.now c.move_at.new.arena c.args.root c.in_ok-top-in-Some.top c.args.id c.args.at
     c.requires.sound c.requires.live longer c.in_ok-top-in-Some.ensures.tree c.in_ok-top-in-Some.ensures.sums c.in_ok-top-in-Some.ensures.floors
     c.in_ok-top-in-Some.ensures.moves)
+
+pub move_at-requires-clause-tree : goal.move_at-requires-clause-tree
+move_at-requires-clause-tree g c = subst (λ (o : Option ℕ). IsRooted c.args.arena.now o) c.in-Some.is c.requires.sound.rooted
+
+pub move_at-requires-clause-sums : goal.move_at-requires-clause-sums
+move_at-requires-clause-sums g c = c.requires.sound.sums
+
+pub move_at-requires-clause-floors : goal.move_at-requires-clause-floors
+move_at-requires-clause-floors g c = c.requires.sound.floors
+
+pub move_at-requires-clause-fits : goal.move_at-requires-clause-fits
+move_at-requires-clause-fits g c = c.requires.sound.fits
+
+pub move_at-requires-clause-more : goal.move_at-requires-clause-more
+move_at-requires-clause-more g c = c.stands_there.ensures.more c.if-stands_there.false
+
+pub returns-then-stands_there-clause-sound : goal.returns-then-stands_there-clause-sound
+returns-then-stands_there-clause-sound g c = subst (λ r. IsSound g.L.Leaf.size g.L.Leaf.element c.args.floor c.args.arena.now r) c.in-Some.is c.requires.sound
+
+pub returns-clause-moves : goal.returns-clause-moves
+returns-clause-moves g c = c.in_ok-top-in-Some.ensures.moves

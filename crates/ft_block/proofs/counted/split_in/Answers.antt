@@ -1,7 +1,7 @@
-use Rattle.std.proofs.Common.{◌<◌, Option, Some, None, IsSomeAnd, subst, arith}
+use Rattle.std.proofs.Common.{◌<◌, Option, Some, None, IsSomeAnd, subst, arith, ℕ}
 use Rattle.ft_block.specs.Tree.{IsTree, SumsKeptBut, AreFromFloor}
 use Rattle.ft_block.specs.Steps.{SplitsLeaf}
-use Rattle.ft_block.specs.Inside.{IsSound}
+use Rattle.ft_block.specs.Inside.{IsRooted, IsSound}
 use Rattle.ft_block.proofs.SoundLemmas.{splits_sound, if_ok_four}
 use Rattle.ft_block.proofs.counted.split_in.Goals as goal
 
@@ -20,3 +20,21 @@ returns-clause-sound g c =
       omega (arith, g.met.L.Leaf.rear_size v c.args.at c.requires.low high, high),
     ))) t
     sums floors i) c.split_at.ensures.tree c.split_at.ensures.sums c.split_at.ensures.floors c.split_at.ensures.splits
+
+pub split_at-requires-clause-tree : goal.split_at-requires-clause-tree
+split_at-requires-clause-tree g c = subst (λ (o : Option ℕ). IsRooted c.args.arena.now o) c.in-Some.is c.requires.sound.rooted
+
+pub split_at-requires-clause-sums : goal.split_at-requires-clause-sums
+split_at-requires-clause-sums g c = c.requires.sound.sums
+
+pub split_at-requires-clause-floors : goal.split_at-requires-clause-floors
+split_at-requires-clause-floors g c = c.requires.sound.floors
+
+pub split_at-requires-clause-low : goal.split_at-requires-clause-low
+split_at-requires-clause-low g c = c.requires.low
+
+pub split_at-requires-clause-fits : goal.split_at-requires-clause-fits
+split_at-requires-clause-fits g c = c.requires.sound.fits
+
+pub returns-clause-splits : goal.returns-clause-splits
+returns-clause-splits g c = c.split_at.ensures.splits

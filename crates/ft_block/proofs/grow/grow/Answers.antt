@@ -175,3 +175,21 @@ returns-clause-sums g c = λ view k.
 
 pub returns-clause-leaf_values : goal.returns-clause-leaf_values
 returns-clause-leaf_values g c = λ x. c.in_ok-top.ensures.roots.leaf_values x ∙ c.up.invariant.leaf_values x
+
+pub split_put-requires-clause-floors : goal.split_put-requires-clause-floors
+split_put-requires-clause-floors g c = c.up.invariant.floors
+
+pub root_over-requires-clause-floors : goal.root_over-requires-clause-floors
+root_over-requires-clause-floors g c = c.up.invariant.floors
+
+pub returns-clause-floors : goal.returns-clause-floors
+returns-clause-floors g c = c.in_ok-top.ensures.floors
+
+pub returns-clause-leaves : goal.returns-clause-leaves
+returns-clause-leaves g c = c.in_ok-top.ensures.roots.leaves ∙ c.up.invariant.leaves
+
+pub returns-then-count-lt8-clause-leaves : goal.returns-then-count-lt8-clause-leaves
+returns-then-count-lt8-clause-leaves g c = c.put_child.ensures.leaves ∙ c.up.invariant.leaves
+
+pub returns-clause-stale : goal.returns-clause-stale
+returns-clause-stale g c = λ b e. cc

@@ -154,3 +154,24 @@ returns-clause-leaves g c = on_ok_weaker c.grow.result (λ e. e ∙ c.in_ok-rear
 
 pub returns-clause-leaf_values : goal.returns-clause-leaf_values
 returns-clause-leaf_values g c = on_ok_weaker c.grow.result (λ e x. e x ∙ c.in_ok-rear.ensures.splits.leaf_values x) c.grow.ensures.leaf_values
+
+pub split_put-requires-clause-floors : goal.split_put-requires-clause-floors
+split_put-requires-clause-floors g c = c.requires.floors
+
+pub grow-requires-clause-floors : goal.grow-requires-clause-floors
+grow-requires-clause-floors g c = c.in_ok-rear.ensures.floors
+
+pub returns-clause-tree : goal.returns-clause-tree
+returns-clause-tree g c = c.grow.ensures.tree
+
+pub returns-clause-stale : goal.returns-clause-stale
+returns-clause-stale g c = c.grow.ensures.stale
+
+pub returns-clause-sums : goal.returns-clause-sums
+returns-clause-sums g c = c.grow.ensures.sums
+
+pub returns-clause-floors : goal.returns-clause-floors
+returns-clause-floors g c = c.grow.ensures.floors
+
+pub returns-then-count-lt8-clause-leaves : goal.returns-then-count-lt8-clause-leaves
+returns-then-count-lt8-clause-leaves g c = c.put_child.ensures.leaves

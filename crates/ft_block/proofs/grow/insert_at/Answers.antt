@@ -147,3 +147,18 @@ returns-clause-inserts g c =
     c.link_after-id.ensures.changes) l c.link_after-id.ensures.sound c.exchange_up.new.arena (r.leaves ∙ c.in_ok-top.ensures.leaves) (λ x. r.leaf_values x
     ∙ c.in_ok-top.ensures.leaf_values x) in
     i
+
+pub exchange_up-requires-clause-block : goal.exchange_up-requires-clause-block
+exchange_up-requires-clause-block g c = c.in_ok-top.ensures.stale
+
+pub exchange_up-requires-clause-sums : goal.exchange_up-requires-clause-sums
+exchange_up-requires-clause-sums g c = c.in_ok-top.ensures.sums
+
+pub exchange_up-requires-clause-floors : goal.exchange_up-requires-clause-floors
+exchange_up-requires-clause-floors g c = c.in_ok-top.ensures.floors
+
+pub returns-clause-sums : goal.returns-clause-sums
+returns-clause-sums g c = c.in_ok-exchange_up.ensures.sums
+
+pub returns-clause-floors : goal.returns-clause-floors
+returns-clause-floors g c = c.in_ok-exchange_up.ensures.floors

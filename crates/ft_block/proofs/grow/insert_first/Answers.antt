@@ -46,3 +46,6 @@ rebuild-requires-clause-floors g c =
     (added_floors c.args.floor c.link_after-id.new.self c.add_block-top.new.self c.add_block-top.result c.new.result _ c.add_block-top.ensures.changes
     c.new.ensures.floor (linked_floors c.args.floor c.reserve.new.self c.link_after-id.new.self c.link_after-id.result c.args.leaf _ c.link_after-id.ensures.changes
     (bare_floors c.args.floor c.reserve.new.self at0)))
+
+pub returns-clause-floors : goal.returns-clause-floors
+returns-clause-floors g c = c.in_ok-rebuild.ensures.floors

@@ -51,3 +51,12 @@ returns-clause-sums g c = λ view k. split_resums (by_view g.L.Leaf.size g.L.Lea
     c.add_block-rear.ensures.leaves c.add_block-rear.ensures.spare c.add_block-rear.ensures.changes c.move_half.ensures c.put_in_half.ensures c.rebuild.new.arena
     c.in_ok-rebuild.ensures.shape (c.in_ok-rebuild.ensures.sums view k) c.rebuild-2.new.arena c.in_ok-rebuild-2.ensures.shape (c.in_ok-rebuild-2.ensures.sums view k)
     c.height_at-height.ensures
+
+pub rebuild-requires-2-clause-floors : goal.rebuild-requires-2-clause-floors
+rebuild-requires-2-clause-floors g c = c.in_ok-rebuild.ensures.floors
+
+pub rebuild-requires-2-clause-forest : goal.rebuild-requires-2-clause-forest
+rebuild-requires-2-clause-forest g c = c.in_ok-rebuild.ensures.shape.forest
+
+pub returns-clause-floors : goal.returns-clause-floors
+returns-clause-floors g c = c.in_ok-rebuild-2.ensures.floors

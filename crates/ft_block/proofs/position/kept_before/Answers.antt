@@ -68,3 +68,12 @@ returns g c =
     (numbers_before (below c.args.arena.now (height_of c.args.arena.now c.args._root - height_of c.args.arena.now c.up.at) (c.args._root ∷ [])) c.up.at) ≡ 0 =
     before_top (by_view g.L.Leaf.size g.L.Leaf.element c.args.view) c.args.arena.now c.args._root c.requires.tree c.up.at c.up.invariant.live top in
     omega (arith, none, c.up.invariant.so_far)
+
+pub length_before-sum-requires-clause-floors : goal.length_before-sum-requires-clause-floors
+length_before-sum-requires-clause-floors g c = c.requires.floors
+
+pub length_before-sum-requires-clause-kept : goal.length_before-sum-requires-clause-kept
+length_before-sum-requires-clause-kept g c = c.requires.kept
+
+pub length_before-sum-requires-clause-forest : goal.length_before-sum-requires-clause-forest
+length_before-sum-requires-clause-forest g c = c.requires.tree.shape.forest

@@ -77,3 +77,6 @@ unreachable-requires-2 g c =
 
 pub length_at-sum-requires-clause-node : goal.length_at-sum-requires-clause-node
 length_at-sum-requires-clause-node g c = node_from c.args.floor c.args.arena.now c.in-Some.kid c.read-in-Some.result.now _ c.requires.floors c.read-in-Some.ensures.node
+
+pub length_at-sum-requires-clause-kept : goal.length_at-sum-requires-clause-kept
+length_at-sum-requires-clause-kept g c = c.requires.kept

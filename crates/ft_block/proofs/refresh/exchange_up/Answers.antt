@@ -61,3 +61,9 @@ up-preserved g c =
           (subst (λ (o : Option ℕ). OwesAt (by_view g.L.Leaf.size g.L.Leaf.element view) s o (amount (shows view c.args.new.now) c.args.new_len)
           (amount (shows view c.args.e.now) c.args.len)) c.in-Some.is (i.owes view k)));
     }
+
+pub returns-clause-shape : goal.returns-clause-shape
+returns-clause-shape g c = c.up.invariant.same
+
+pub returns-clause-floors : goal.returns-clause-floors
+returns-clause-floors g c = c.up.invariant.floors

@@ -73,3 +73,9 @@ pub returns-clause-sums : goal.returns-clause-sums
 returns-clause-sums g c = on_ok_both c.rebuild-2.result (λ q u view k. balanced_sums c.args.arena.now c.args.up c.args.front c.args.rear c.requires.forest c.requires.pair
     c.regroup.new.arena c.rebuild.new.arena c.rebuild-2.new.arena _ c.regroup.ensures c.in_ok-rebuild.ensures.shape q (by_view g.L.Leaf.size g.L.Leaf.element view)
     (c.requires.sums view k) (c.in_ok-rebuild.ensures.sums view k) (u view k)) c.rebuild-2.ensures.shape c.rebuild-2.ensures.sums
+
+pub rebuild-requires-2-clause-floors : goal.rebuild-requires-2-clause-floors
+rebuild-requires-2-clause-floors g c = c.in_ok-rebuild.ensures.floors
+
+pub returns-clause-floors : goal.returns-clause-floors
+returns-clause-floors g c = c.rebuild-2.ensures.floors

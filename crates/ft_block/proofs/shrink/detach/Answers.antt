@@ -128,3 +128,18 @@ returns-clause-leaves g c = on_ok_weaker c.fill_up.result (λ e. e ∙ c.in_ok-e
 pub returns-clause-leaf_values : goal.returns-clause-leaf_values
 returns-clause-leaf_values g c = on_ok_weaker c.fill_up.result (λ e x. e x ∙ c.in_ok-exchange_up.ensures.shape.leaf_values x ∙ c.take_child.ensures.takes.leaf_values x)
     c.fill_up.ensures.leaf_values
+
+pub fill_up-requires-clause-sums : goal.fill_up-requires-clause-sums
+fill_up-requires-clause-sums g c = c.in_ok-exchange_up.ensures.sums
+
+pub fill_up-requires-clause-floors : goal.fill_up-requires-clause-floors
+fill_up-requires-clause-floors g c = c.in_ok-exchange_up.ensures.floors
+
+pub returns-clause-apart : goal.returns-clause-apart
+returns-clause-apart g c = c.fill_up.ensures.apart
+
+pub returns-clause-sums : goal.returns-clause-sums
+returns-clause-sums g c = c.fill_up.ensures.sums
+
+pub returns-clause-floors : goal.returns-clause-floors
+returns-clause-floors g c = c.fill_up.ensures.floors

@@ -285,3 +285,46 @@ returns-then-many-gt8-clause-low g c =
 
 pub returns-clause-low : goal.returns-clause-low
 returns-clause-low g c = omega (arith, c.up.invariant.high)
+
+pub up-init : goal.up-init
+up-init g c =
+    record {
+      apart = c.requires.apart;
+      block = c.requires.block;
+      sums = c.requires.sums;
+      floors = c.requires.floors;
+      fits = c.requires.fits;
+      high = refl;
+      leaves = refl;
+      leaf_values = λ x. refl;
+    }
+
+pub returns-then-count_of-ge4-clause-sums : goal.returns-then-count_of-ge4-clause-sums
+returns-then-count_of-ge4-clause-sums g c = c.up.invariant.sums
+
+pub returns-then-count_of-ge4-clause-floors : goal.returns-then-count_of-ge4-clause-floors
+returns-then-count_of-ge4-clause-floors g c = c.up.invariant.floors
+
+pub returns-then-count_of-ge4-clause-leaves : goal.returns-then-count_of-ge4-clause-leaves
+returns-then-count_of-ge4-clause-leaves g c = c.up.invariant.leaves
+
+pub returns-then-count_of-ge4-clause-leaf_values : goal.returns-then-count_of-ge4-clause-leaf_values
+returns-then-count_of-ge4-clause-leaf_values g c = c.up.invariant.leaf_values
+
+pub balance-requires-clause-floors : goal.balance-requires-clause-floors
+balance-requires-clause-floors g c = c.up.invariant.floors
+
+pub merge-requires-clause-floors : goal.merge-requires-clause-floors
+merge-requires-clause-floors g c = c.up.invariant.floors
+
+pub returns-clause-sums : goal.returns-clause-sums
+returns-clause-sums g c = c.up.invariant.sums
+
+pub returns-clause-floors : goal.returns-clause-floors
+returns-clause-floors g c = c.up.invariant.floors
+
+pub returns-clause-leaves : goal.returns-clause-leaves
+returns-clause-leaves g c = c.up.invariant.leaves
+
+pub returns-clause-leaf_values : goal.returns-clause-leaf_values
+returns-clause-leaf_values g c = c.up.invariant.leaf_values

@@ -109,3 +109,6 @@ returns-clause-sums g c =
     c.take_child.new.self c.drop_block.new.self c.rebuild.new.arena (c.count_of.result + c.count_of-2.result) c.args.place c.requires.next
     (omega (arith, c.count_of.ensures.value, c.count_of-2.ensures.value)) c.regroup.ensures c.take_child.ensures.leaves takes c.drop_block.ensures.leaves
     c.drop_block.ensures.changes q (by_view g.L.Leaf.size g.L.Leaf.element view) (c.requires.sums view k) (u view k)) c.rebuild.ensures.shape c.rebuild.ensures.sums
+
+pub returns-clause-floors : goal.returns-clause-floors
+returns-clause-floors g c = c.rebuild.ensures.floors

@@ -459,3 +459,51 @@ returns-clause-moves g c =
           (λ xs. insert_before xs c.in-Some-next.first c.args.id) (before_is_edit c.in-Some-next.first c.args.id) c.in_ok-root.ensures.apart nodes
           c.move_after-in-None.ensures.sound leaves at_leaf differ x ∙ c.in_ok-root.ensures.leaf_values x;
     }
+
+pub detach-requires-clause-tree : goal.detach-requires-clause-tree
+detach-requires-clause-tree g c = c.requires.tree
+
+pub detach-requires-clause-sums : goal.detach-requires-clause-sums
+detach-requires-clause-sums g c = c.requires.sums
+
+pub detach-requires-clause-floors : goal.detach-requires-clause-floors
+detach-requires-clause-floors g c = c.requires.floors
+
+pub detach-requires-clause-live : goal.detach-requires-clause-live
+detach-requires-clause-live g c = c.requires.live
+
+pub detach-requires-clause-more : goal.detach-requires-clause-more
+detach-requires-clause-more g c = c.requires.more
+
+pub detach-requires-clause-fits : goal.detach-requires-clause-fits
+detach-requires-clause-fits g c = c.requires.fits
+
+pub returns-in-Some-clause-sums : goal.returns-in-Some-clause-sums
+returns-in-Some-clause-sums g c = c.in_ok-exchange_up-in-Some.ensures.sums
+
+pub returns-in-Some-clause-floors : goal.returns-in-Some-clause-floors
+returns-in-Some-clause-floors g c = c.in_ok-exchange_up-in-Some.ensures.floors
+
+pub returns-clause-sums : goal.returns-clause-sums
+returns-clause-sums g c = c.in_ok-exchange_up-in-None.ensures.sums
+
+pub returns-clause-floors : goal.returns-clause-floors
+returns-clause-floors g c = c.in_ok-exchange_up-in-None.ensures.floors
+
+pub exchange_up-requires-clause-block : goal.exchange_up-requires-clause-block
+exchange_up-requires-clause-block g c = c.in_ok-top-in-Some.ensures.stale
+
+pub exchange_up-requires-clause-floors : goal.exchange_up-requires-clause-floors
+exchange_up-requires-clause-floors g c = c.in_ok-top-in-Some.ensures.floors
+
+pub exchange_up-requires-clause-sums : goal.exchange_up-requires-clause-sums
+exchange_up-requires-clause-sums g c = c.in_ok-top-in-Some.ensures.sums
+
+pub exchange_up-requires-in-None-clause-block : goal.exchange_up-requires-in-None-clause-block
+exchange_up-requires-in-None-clause-block g c = c.in_ok-top-in-None.ensures.stale
+
+pub exchange_up-requires-in-None-clause-floors : goal.exchange_up-requires-in-None-clause-floors
+exchange_up-requires-in-None-clause-floors g c = c.in_ok-top-in-None.ensures.floors
+
+pub exchange_up-requires-in-None-clause-sums : goal.exchange_up-requires-in-None-clause-sums
+exchange_up-requires-in-None-clause-sums g c = c.in_ok-top-in-None.ensures.sums

@@ -1,0 +1,27 @@
+use Rattle.std.proofs.Common.{◌≡◌, ◌+◌, ◌∷◌, List, drop, map, option_map, ap, sym, ◌∙◌}
+use Rattle.serde_json.specs.View.{view}
+use Rattle.ft_sumdoc.specs.Forms.{each_of}
+use Rattle.ft_sumdoc.specs.Items.{interval_of}
+use Rattle.ft_sumdoc.specs.Intervals.{interval_form}
+use Rattle.ft_sumdoc.proofs.ReadOptions.{behind, at_item, item_kept, item_refused, items_read}
+use Rattle.ft_sumdoc.proofs.shown_reading.interval_items.Goals as goal
+
+pub loop-value-preserved : goal.loop-value-preserved
+loop-value-preserved c =
+    let form = interval_form c.args.elements in
+    let here = at_item c.args.values.now c.loop-value.value-index c.value-item.result c.loop-value-test.true c.value-item.is in
+    ap (λ xs. behind (map interval_of xs) (each_of form (map view (drop (c.loop-value.value-index + 1) c.args.values.now)))) c.in_ok-push.ensures.items
+    ∙ item_kept form interval_of view c.loop-value.intervals.items c.value-item.result (drop (c.loop-value.value-index + 1) c.args.values.now) c.in-Some.interval
+    (ap (option_map interval_of) (sym c.in-Some.is) ∙ c.interval_item.ensures)
+    ∙ ap (λ xs. behind (map interval_of c.loop-value.intervals.items) (each_of form (map view xs))) (sym here) ∙ c.loop-value.invariant
+
+pub returns-in_default : goal.returns-in_default
+returns-in_default c =
+    let form = interval_form c.args.elements in
+    let here = at_item c.args.values.now c.loop-value.value-index c.value-item.result c.loop-value-test.true c.value-item.is in
+    sym (item_refused form interval_of view (map interval_of c.loop-value.intervals.items) c.value-item.result (drop (c.loop-value.value-index + 1) c.args.values.now)
+    (sym c.interval_item.ensures ∙ ap (option_map interval_of) c.in_default.is)) ∙ ap (λ xs. behind (map interval_of c.loop-value.intervals.items) (each_of form (map view xs))) (sym here) ∙ c.loop-value.invariant
+
+pub returns : goal.returns
+returns c =
+    sym (items_read (interval_form c.args.elements) interval_of view (map interval_of c.loop-value.intervals.items) c.args.values.now c.loop-value.value-index c.loop-value-test.false) ∙ c.loop-value.invariant
