@@ -3,11 +3,11 @@
 ghost use Rattle.ft_tests_intervals.specs.Keeping.{GoTogether, together-prop};
 ghost use Rattle.std.specs.Prelude.{◌<◌, IfOk};
 
-use crate::operations::{add, change, delete, edit, take};
-use ft_base::{Perspective, Steps, Text};
+use crate::operations::{add, change, delete, edit, name, take};
+use ft_base::{Perspective, Steps};
 use ft_interval::{Collections, IntervalFault};
 use ft_op::{Ends, TextOp};
-use ft_sumdoc::IntervalRec;
+use ft_sumdoc::{Ends2, IntervalRec};
 use ft_text_steps::texts::{acknowledge, erase, hear, shown, strike, write};
 use ft_tree::{TextContent, Tree};
 use std::alloc::Global;
@@ -231,8 +231,7 @@ impl Noted {
 
     // The ends that are shown of an interval.
     pub(crate) fn shown(&self, label: &str, id: &str) -> Result<Option<Ends>, Fail> {
-        let alloc = *self.stages.allocator();
-        let (label, id) = (Text::new(alloc, label)?, Text::new(alloc, id)?);
+        let (label, id) = name(*self.stages.allocator(), label, id)?;
         Ok(self.intervals.shown(&self.tree, &label, &id))
     }
 }
@@ -260,7 +259,14 @@ fn with_intervals(alloc: Global, text: String, all: &[IntervalRec]) -> Result<St
 // An interval in such a line: label, id, ends and properties.
 fn interval_text(alloc: Global, i: &IntervalRec) -> Result<String, Fail> {
     let (label, id) = (i.label.as_str(), i.id.as_str());
-    let (start, end) = (i.ends.start, i.ends.end);
+    let ends = ends_text(alloc, i.ends)?;
+    let shown = ends.as_str();
     let props = if i.props.is_empty() { "{}" } else { "{..}" };
-    Ok(format!(in alloc; " {label} {id} {start} {end} {props}")?)
+    Ok(format!(in alloc; " {label} {id} {shown} {props}")?)
+}
+
+// Both ends.
+fn ends_text(alloc: Global, ends: Ends2) -> Result<String, Fail> {
+    let (start, end) = (ends.start, ends.end);
+    Ok(format!(in alloc; "{start} {end}")?)
 }

@@ -12,13 +12,21 @@ use ft_tree::{TextContent, Tree};
 use std::alloc::Global;
 use std::test::Fail;
 
+// The name of an interval: its label, and its id in that.
+pub(crate) fn name(alloc: Global, label: &str, id: &str) -> Result<(Text, Text), OutOfMemory> {
+    let label = Text::new(alloc, label)?;
+    Ok((label, Text::new(alloc, id)?))
+}
+
 // An interval is added, without properties.
 pub(crate) fn add(alloc: Global, label: &str, id: &str, ends: Ends) -> Result<TextOp, OutOfMemory> {
+    let (label, id) = name(alloc, label, id)?;
+    let props = PropSet::new(alloc);
     Ok(TextOp::IntervalAdd {
-        label: Text::new(alloc, label)?,
-        id: Text::new(alloc, id)?,
+        label,
+        id,
         ends,
-        props: PropSet::new(alloc),
+        props,
     })
 }
 
@@ -29,20 +37,20 @@ pub(crate) fn change(
     id: &str,
     ends: Option<Ends>,
 ) -> Result<TextOp, OutOfMemory> {
+    let (label, id) = name(alloc, label, id)?;
+    let props = PropSet::new(alloc);
     Ok(TextOp::IntervalChange {
-        label: Text::new(alloc, label)?,
-        id: Text::new(alloc, id)?,
+        label,
+        id,
         ends,
-        props: PropSet::new(alloc),
+        props,
     })
 }
 
 // An interval is taken away.
 pub(crate) fn delete(alloc: Global, label: &str, id: &str) -> Result<TextOp, OutOfMemory> {
-    Ok(TextOp::IntervalDelete {
-        label: Text::new(alloc, label)?,
-        id: Text::new(alloc, id)?,
-    })
+    let (label, id) = name(alloc, label, id)?;
+    Ok(TextOp::IntervalDelete { label, id })
 }
 
 // Whether it is an operation on an interval.
