@@ -60,7 +60,7 @@ fn is_on_interval(op: &TextOp) -> bool
     match op {
         TextOp::IntervalAdd { .. }
         | TextOp::IntervalChange { .. }
-        | TextOp::IntervalDelete { .. } => { true }
+        | TextOp::IntervalDelete { .. } => true,
         TextOp::One(_) | TextOp::Group(_) => false,
     }
 }
