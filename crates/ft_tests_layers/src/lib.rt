@@ -1,13 +1,9 @@
-//! Tests of what stands on the merge tree: compaction and regeneration of trees of text, and intervals over them.
+//! Tests of what stands on the merge tree: compaction, regeneration and normalising.
 #![tactic(auto)]
 
 #[cfg(test)]
 mod compaction;
 #[cfg(test)]
-mod intervals;
-#[cfg(test)]
 mod normalising;
-#[cfg(test)]
-mod noted;
 #[cfg(test)]
 mod regeneration;
