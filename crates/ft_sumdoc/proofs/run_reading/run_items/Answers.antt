@@ -1,4 +1,4 @@
-use Rattle.std.proofs.Common.{◌≡◌, ◌+◌, ◌∷◌, List, drop, map, option_map, ap, sym, ◌∙◌}
+use Rattle.std.proofs.Common.{◌+◌, drop, map, option_map, ap, sym, ◌∙◌}
 use Rattle.serde_json.specs.View.{view}
 use Rattle.ft_sumdoc.specs.Forms.{each_of}
 use Rattle.ft_sumdoc.specs.Items.{run_of}

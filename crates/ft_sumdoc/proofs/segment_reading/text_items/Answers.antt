@@ -1,4 +1,4 @@
-use Rattle.std.proofs.Common.{◌≡◌, ◌+◌, ◌∷◌, [], ◌++◌, drop, map, option_map, ap, sym, ◌∙◌}
+use Rattle.std.proofs.Common.{◌+◌, ◌++◌, drop, map, option_map, ap, sym, ◌∙◌}
 use Rattle.serde_json.specs.View.{view}
 use Rattle.ft_sumdoc.specs.Summary.{given_length}
 use Rattle.ft_sumdoc.specs.Items.{segment_of}
