@@ -12,6 +12,11 @@ pub enum TreeFault {
 }
 
 impl From<OutOfMemory> for TreeFault {
+    ghost use Rattle.std.specs.Prelude.{◌≡◌};
+    ghost use Rattle.ft_tree.specs.declared.faults.TreeFault.TheVariants.{OutOfMemory as WantOfMemory};
+
+    ghost from_gives = { λ _ fault. fault ≡ WantOfMemory };
+
     fn from(_error: OutOfMemory) -> TreeFault {
         TreeFault::OutOfMemory
     }
