@@ -23,6 +23,7 @@ pub mod UnlinkLemmas
 pub mod MovedLemmas
 pub mod SoundLemmas
 pub mod PositionLemmas
+pub mod StagePlaces
 pub mod LeafListLemmas
 pub mod InsideLemmas
 pub mod CallerLemmas

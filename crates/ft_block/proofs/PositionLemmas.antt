@@ -42,7 +42,7 @@ before-append_in (z ∷ zs) ys x m = elim (cases_eq z x) [
   | inr d ↦ before_later z (zs ++ ys) x d ∙ ap (λ ws. z ∷ ws) (before-append_in zs ys x (omega (arith, same_other z x d))) ∙ sym (before_later z zs x d)
 ]
 
-before-append_out : (xs ys : List ℕ) (x : ℕ) → times xs x ≡ 0 → numbers_before (xs ++ ys) x ≡ xs ++ numbers_before ys x
+pub before-append_out : (xs ys : List ℕ) (x : ℕ) → times xs x ≡ 0 → numbers_before (xs ++ ys) x ≡ xs ++ numbers_before ys x
 before-append_out [] ys x m = refl
 before-append_out (z ∷ zs) ys x m =
     let d : z ≢ x = (λ e. omega (arith, m, ap (same z) e, same_refl z)) in

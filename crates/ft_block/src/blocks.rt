@@ -30,7 +30,8 @@ ghost use Rattle.ft_arena.specs.Ids.{first, after};
 
 use crate::change::change_in;
 use crate::counted::{
-    insert_in, join_in, leaf_in, length_in, move_in, position_in, set_stamps_in, split_in, take_in,
+    find_in_stage, insert_in, join_in, leaf_in, length_in, move_in, position_in, set_stamps_in,
+    split_in, take_in,
 };
 use crate::find::find_from;
 use crate::leaves::{Leaf, LenView, View};
@@ -106,7 +107,7 @@ impl<L: Leaf> Blocks<L> {
       IsFromFloor,
     };
     ghost use Rattle.ft_block.specs.Tree.{KeepsLengths, shown_length};
-    ghost use Rattle.ft_block.specs.declared.leaves.LenView.TheVariants.{At};
+    ghost use Rattle.ft_block.specs.declared.leaves.LenView.TheVariants.{At, Stage};
 
     /// No leaves.
     pub fn new(alloc: Global) -> Blocks<L>
@@ -219,6 +220,48 @@ impl<L: Leaf> Blocks<L> {
         ensures depth { 4 ^ self.now.depth ≤ length self.now.leaves + 1 }
     {
         self.find_in(p, View::Of(LenView::All), steps)
+    }
+
+    /// The leaf that holds the `p`-th element that a pending stage sees, and how many of its elements stand
+    /// up to that one; the head of the list for `p` = 0.
+    ///
+    /// It reads a few nodes on each level. For each leaf with a pending stamp as far as the place, and for
+    /// the next one, it goes down and up the levels once more; at stage `u64::MAX` `find_local` finds the
+    /// same without these.
+    ///
+    /// Answers `OutOfRange` exactly where `p` is above the length that the stage sees.
+    pub fn find_at_stage(&self, p: u64, stage: u64) -> Result<Found, OutOfRange>
+        requires { IsTrue self.now.usable }
+        ensures found { IfOk result (λ found. place_by (seen_length L.size L.element (Stage stage)) self.now.leaves p ≡ Some found) }
+        ensures length { IfErr result (λ e. e.length ≡ length_by (seen_length L.size L.element (Stage stage)) self.now.leaves) }
+        ensures beyond { IfErr result (λ e. e.length < p) }
+    {
+        let _ = &self.root;
+        if p == 0 {
+            return Ok(Found {
+                leaf: None,
+                offset: 0,
+            });
+        }
+        match self.root {
+            None => Err(OutOfRange { length: 0 }),
+            Some(root) => {
+                match find_in_stage::<L, Brand>(
+                    &self.arena,
+                    NodeId(root),
+                    self.floor,
+                    p,
+                    stage,
+                    Blank::new(1),
+                ) {
+                    Ok((id, offset)) => Ok(Found {
+                        leaf: Some(id),
+                        offset,
+                    }),
+                    Err(length) => Err(OutOfRange { length }),
+                }
+            }
+        }
     }
 
     // The same in any view that the blocks keep.

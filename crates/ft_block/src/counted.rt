@@ -1,10 +1,11 @@
 //! The calls that are given no counter of steps: each makes one of its own.
 
-ghost use Rattle.std.specs.Prelude.{◌≡◌, ◌≢◌, ◌+◌, ◌^◌, ◌<◌, ◌≤◌, Some, None, IsSome, IsSomeAnd, IsTrue, IfOk, OnOk};
+ghost use Rattle.std.specs.Prelude.{◌≡◌, ◌≢◌, ◌+◌, ◌^◌, ◌<◌, ◌≤◌, Some, None, IsSome, IsSomeAnd, IsTrue, IfOk, IfErr, OnOk};
 ghost use Rattle.ft_arena.specs.Forest.{IsPlace, leaf_value};
 ghost use Rattle.ft_arena.specs.Ids.{put_after};
-ghost use Rattle.ft_block.specs.Tree.{by_size, by_view, length_of, total, numbers_before};
+ghost use Rattle.ft_block.specs.Tree.{by_size, by_view, length_of, total, numbers_before, seek};
 ghost use Rattle.ft_block.specs.Steps.{InsertsLeaf, SplitsLeaf, ChangesLeaf, TakesLeaf, MovesLeaf};
+ghost use Rattle.ft_block.specs.declared.leaves.LenView.TheVariants.{Stage};
 ghost use Rattle.ft_block.specs.declared.leaves.View.TheVariants.{Of};
 ghost use Rattle.ft_block.specs.Leaves.{IsFromFloor};
 ghost use Rattle.ft_block.specs.Inside.{IsSound};
@@ -14,6 +15,7 @@ use crate::grow::{insert_at, insert_first, insert_front};
 use crate::leaves::{Leaf, LenView, View, unkept_stage};
 use crate::position::{kept_before, kept_in_all, leaf_at, seen_at_stage};
 use crate::shrink::{move_at, stands_there, take_at};
+use crate::stage_find::find_past_pending;
 use crate::summaries::Summary;
 use ft_arena::{Arena, NodeId};
 use ft_base::{Element, OutOfMemory, Steps};
@@ -103,6 +105,28 @@ pub(crate) fn length_in<L: Leaf, G: Ledger>(
     let local = kept_in_all(arena, root, floor, last, &mut steps);
     let pending = kept_in_all(arena, root, floor, View::Pending, &mut steps);
     seen_at_stage(arena, root, None, floor, stage, local, pending, &mut steps)
+}
+
+// The leaf in whose stretch the place lies that a stage sees, and how far in; or how many the stage sees.
+pub(crate) fn find_in_stage<L: Leaf, G: Ledger>(
+    arena: &Arena<L, Summary>,
+    root: NodeId,
+    floor: u64,
+    p: u64,
+    stage: u64,
+    blank: Blank,
+) -> Result<(NodeId, u64), u64>
+    requires name { blank.name ≡ G.name }
+    requires parts { blank.parts ≡ G.parts }
+    requires one { 0 < blank.parts }
+    requires sound { IsSound L.size L.element floor arena.now (Some root) }
+    requires low { 1 ≤ p }
+    ensures found { IfOk result (λ f. seek (length_of (by_view L.size L.element (Of (Stage stage))) arena.now) arena.now.leaves p ≡ Some (f.0, f.1)) }
+    ensures past { IfErr result (λ n. n ≡ total (length_of (by_view L.size L.element (Of (Stage stage))) arena.now) arena.now.leaves) }
+    ensures beyond { IfErr result (λ n. n < p) }
+{
+    let mut steps = Steps::<G>::new(blank);
+    find_past_pending(arena, root, floor, p, stage, &mut steps)
 }
 
 // Puts a new leaf directly after another, or first. Tells the root and the new leaf.

@@ -14,6 +14,7 @@ pub mod leaves;
 mod position;
 mod refresh;
 mod shrink;
+mod stage_find;
 mod summaries;
 
 pub use blocks::{Blocks, Found, OutOfRange};
