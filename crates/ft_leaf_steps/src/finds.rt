@@ -1,7 +1,7 @@
 //! Leaves in blocks: where a place is, for calls that are given no counter of steps.
 
 ghost use Rattle.std.specs.Prelude.{◌≡◌, ◌<◌, ◌≤◌, IsTrue};
-ghost use Rattle.ft_block.specs.declared.leaves.LenView.TheVariants.{All, At};
+ghost use Rattle.ft_block.specs.declared.leaves.LenView.TheVariants.{All, At, Stage};
 ghost use Rattle.ft_block.specs.Leaves.{IsFromFloor, last_stage, place_by};
 ghost use Rattle.ft_leaves.specs.LeafLists.{leaf_length};
 
@@ -9,35 +9,6 @@ use ft_base::{Perspective, Steps};
 use ft_block::{Blocks, Found, LenView};
 use ft_leaves::{Content, TreeLeaf};
 use std::sync::ledger::{Blank, Ledger};
-
-/// The leaf that holds the `p`-th element that the view sees, and how many of its elements stand up to that
-/// one; the head of the list for `p` = 0. None exactly where `p` is above the length seen.
-fn find_seen<C: Content>(blocks: &Blocks<TreeLeaf<C>>, p: u64, view: LenView) -> Option<Found>
-    requires { IsTrue blocks.now.usable }
-    ensures { result ≡ place_by (leaf_length C.units view) blocks.now.leaves p }
-{
-    if p == 0 {
-        return Some(Found {
-            leaf: None,
-            offset: 0,
-        });
-    }
-    let _first = blocks.first();
-    let mut left = p;
-    let mut at = blocks.first();
-    while let Some(id) = at {
-        let n = blocks.leaf(id).seen_len(view);
-        if left <= n {
-            return Some(Found {
-                leaf: Some(id),
-                offset: left,
-            });
-        }
-        left -= n;
-        at = blocks.next(id);
-    }
-    None
-}
 
 /// The place of the `p`-th element that the perspective sees.
 fn find_at<C: Content, G: Ledger>(
@@ -71,6 +42,17 @@ fn find_last<C: Content, G: Ledger>(
     }
 }
 
+/// The place of the `p`-th element that the pending stage sees.
+fn find_of_stage<C: Content>(blocks: &Blocks<TreeLeaf<C>>, p: u64, stage: u64) -> Option<Found>
+    requires { IsTrue blocks.now.usable }
+    ensures { result ≡ place_by (leaf_length C.units (Stage stage)) blocks.now.leaves p }
+{
+    match blocks.find_at_stage(p, stage) {
+        Ok(found) => Some(found),
+        Err(_) => None,
+    }
+}
+
 /// The place of the `p`-th of all elements.
 fn find_of_all<C: Content, G: Ledger>(
     blocks: &Blocks<TreeLeaf<C>>,
@@ -89,8 +71,8 @@ fn find_of_all<C: Content, G: Ledger>(
 /// The leaf that holds the `p`-th element that the view sees, and how many of its elements stand up to that
 /// one; the head of the list for `p` = 0. None exactly where `p` is above the length seen.
 ///
-/// The reference number of a perspective isn't below the floor. It reads a few nodes; at a stage other than
-/// `u64::MAX` it goes from leaf to leaf.
+/// The reference number of a perspective isn't below the floor. It reads a few nodes, and at a stage other than
+/// `u64::MAX` a few more for each leaf with a pending stamp as far as the place, and for the next one.
 pub fn find_leaf<C: Content, G: Ledger>(
     blocks: &Blocks<TreeLeaf<C>>,
     p: u64,
@@ -111,7 +93,7 @@ pub fn find_leaf<C: Content, G: Ledger>(
             if stage == u64::MAX {
                 find_last(blocks, p, &mut steps)
             } else {
-                find_seen(blocks, p, view)
+                find_of_stage(blocks, p, stage)
             }
         }
         LenView::All => find_of_all(blocks, p, &mut steps),

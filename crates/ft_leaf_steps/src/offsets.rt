@@ -18,8 +18,8 @@ use std::sync::ledger::Blank;
 
 /// The element that the view sees with `p` seen ones before it: None exactly where it sees no more than `p`.
 ///
-/// The reference number of a perspective isn't below the floor. It reads a few nodes; at a stage other than
-/// `u64::MAX` it goes from leaf to leaf.
+/// The reference number of a perspective isn't below the floor. It reads a few nodes, and at a stage other than
+/// `u64::MAX` a few more for each leaf with a pending stamp as far as the element, and for the next one.
 pub fn seen_offset<C: Content>(blocks: &Blocks<TreeLeaf<C>>, p: u64, view: LenView) -> Option<Place>
     requires usable { IsTrue blocks.now.usable }
     requires floor { IsFromFloor blocks.now.floor view }
