@@ -7,12 +7,12 @@ use Rattle.ft_base.specs.declared.stamps.Stamp.{Stamp}
 use Rattle.ft_base.specs.Visibility.{is_of_stage}
 use Rattle.ft_block.specs.Leaves.{change_leaf, times_leaf, value_at}
 use Rattle.ft_leaves.specs.declared.leaves.TreeLeaf.{TreeLeaf}
-use Rattle.ft_leaves.specs.Edits.{is_marked_by}
+use Rattle.ft_leaves.specs.Edits.{is_marked_by, is_touched_by}
 use Rattle.ft_leaves.specs.Elements.{IsLowestChange}
 use Rattle.ft_leaves.specs.LeafChanges.{acked_leaf, acked_pair}
 use Rattle.ft_leaves.specs.LeafLists.{elements, leaf_elements}
 use Rattle.ft_leaves.proofs.RangeLeaves.{front_all, leaf_overlay, rear_all}
-use Rattle.ft_leaf_blocks.specs.Touched.{HaveAllOf, holds, is_touched_by}
+use Rattle.ft_leaf_blocks.specs.Touched.{HaveAllOf, holds}
 use Rattle.ft_leaf_blocks.proofs.Acknowledged.{acked_stays, neither}
 use Rattle.ft_leaf_blocks.proofs.StepValues.{is_live, is_some, mapped, value-change}
 use Rattle.ft_leaf_blocks.proofs.TrackedSteps.{acked_untouched}

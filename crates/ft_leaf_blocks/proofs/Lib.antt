@@ -16,7 +16,9 @@ mod NotedLeaves
 mod TouchedLists
 mod TrackedSteps
 mod AckedNodes
-mod LeastRemovals
+mod LeastAbove
+mod StageSearch
+mod OrderedNodes
 mod KeptRefs
 mod RefSteps
 mod ShownPlaces

@@ -13,7 +13,7 @@ use Rattle.ft_leaves.specs.declared.leaves.TreeLeaf.{TreeLeaf}
 use Rattle.ft_leaves.specs.declared.references.Reference.{Reference}
 use Rattle.ft_leaves.specs.BlockChanges.{changed_leaf}
 use Rattle.ft_leaves.specs.BlockLaws.{changed_length, changed_stamps}
-use Rattle.ft_leaves.specs.Edits.{ChangesReference, IsFreeOf, leaf_at}
+use Rattle.ft_leaves.specs.Edits.{ChangesReference, IsFreeOf, is_touched_by, leaf_at}
 use Rattle.ft_leaves.specs.LeafChanges.{acked_leaf, acked_pair}
 use Rattle.ft_leaves.specs.LeafLists.{elements}
 use Rattle.ft_leaves.specs.Elements.{is_unremoved}
@@ -25,7 +25,7 @@ use Rattle.ft_refs.specs.RefLists.{entry, place_of_entry, place_of_reference}
 use Rattle.ft_leaf_blocks.specs.Anchors.{AnchorLists, AreAnchored, ChangesAnchor, is_acked_at, numbered, reference_on, references_on}
 use Rattle.ft_leaf_blocks.specs.LeafPlaces.{place_on}
 use Rattle.ft_leaf_blocks.specs.Slides.{is_unremoved_at}
-use Rattle.ft_leaf_blocks.specs.Touched.{holds, is_touched_by}
+use Rattle.ft_leaf_blocks.specs.Touched.{holds}
 use Rattle.ft_leaf_blocks.specs.Unsettled.{IsSoundOn, NotesAll}
 use Rattle.ft_leaf_blocks.proofs.AckedNodes.{untouched_stays}
 use Rattle.ft_leaf_blocks.proofs.AnchorChanges.{changed_references}

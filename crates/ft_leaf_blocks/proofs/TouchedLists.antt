@@ -9,7 +9,7 @@ use Rattle.std.proofs.lemmas.Option.{get_or_from_slice_get}
 use Rattle.ft_leaf_blocks.specs.Touched.{AreRising, NodesOfStage, Notes, holds, is_list_of, is_listed, purged, stages_below, with_heir}
 
 -- truth tables
-or_assoc : (a b c : Bool) → (a || (b || c)) ≡ ((a || b) || c)
+pub or_assoc : (a b c : Bool) → (a || (b || c)) ≡ ((a || b) || c)
 or_assoc true b c = refl
 or_assoc false b c = refl
 
@@ -31,6 +31,10 @@ or_left false b h = (cc)
 
 pub or_right : (a b : Bool) → b ≡ true → (a || b) ≡ true
 or_right a b h = ap (λ c. a || c) h ∙ or_true a
+
+pub or_again : (a b : Bool) → (a || (a || b)) ≡ (a || b)
+or_again true b = refl
+or_again false b = refl
 
 pub or_either : (a b : Bool) → (a || b) ≡ true → (a ≡ true) ⊎ (b ≡ true)
 or_either true b h = inl refl
@@ -199,31 +203,30 @@ table3 true true false = refl
 table3 true false false = refl
 table3 false b p = refl
 
-drops_by : (b : Bool) (n id z : ℕ) (ns ms : List ℕ) → nat_eq n id ≡ b → holds ms z ≡ (holds ns z && not (nat_eq z id))
-    → holds (cond (not b) (n ∷ ms) ms) z ≡ (holds (n ∷ ns) z && not (nat_eq z id))
-drops_by true n id z ns ms e h = elim (cases_eq n z) [
+filter_by : (test : ℕ → Bool) (b : Bool) (n z : ℕ) (ns ms : List ℕ) → test n ≡ b → holds ms z ≡ (holds ns z && test z)
+    → holds (cond b (n ∷ ms) ms) z ≡ (holds (n ∷ ns) z && test z)
+filter_by test true n z ns ms e h = elim (cases_eq n z) [
   | inl same ↦
       let yes : nat_eq n z ≡ true = eq-eqb n z same in
-      let no_id : not (nat_eq z id) ≡ false = ap (λ (m : ℕ). not (nat_eq m id)) (sym same) ∙ ap not e in
-      h ∙ ap (λ p. holds ns z && p) no_id ∙ and_none (holds ns z) ∙ sym (ap (λ p. (nat_eq n z || holds ns z) && p) no_id ∙ and_none (nat_eq n z || holds ns z))
-  | inr d ↦ h ∙ ap (λ p. (p || holds ns z) && not (nat_eq z id)) (sym (ne_eqb n z d))
+      let kept : test z ≡ true = ap test (sym same) ∙ e in
+      ap (λ p. p || holds ms z) yes ∙ sym (ap (λ p. (p || holds ns z) && test z) yes ∙ kept)
+  | inr d ↦ ap (λ p. p || holds ms z) (ne_eqb n z d) ∙ h ∙ ap (λ p. (p || holds ns z) && test z) (sym (ne_eqb n z d))
 ]
-drops_by false n id z ns ms e h = elim (cases_eq n z) [
+filter_by test false n z ns ms e h = elim (cases_eq n z) [
   | inl same ↦
-      let yes : nat_eq n z ≡ true = eq-eqb n z same in
-      let other : not (nat_eq z id) ≡ true = ap (λ (m : ℕ). not (nat_eq m id)) (sym same) ∙ ap not e in
-      ap (λ p. p || holds ms z) yes ∙ sym (ap (λ p. (p || holds ns z) && not (nat_eq z id)) yes ∙ other)
-  | inr d ↦ ap (λ p. p || holds ms z) (ne_eqb n z d) ∙ h ∙ ap (λ p. (p || holds ns z) && not (nat_eq z id)) (sym (ne_eqb n z d))
+      let left : test z ≡ false = ap test (sym same) ∙ e in
+      h ∙ ap (λ p. holds ns z && p) left ∙ and_none (holds ns z) ∙ sym (ap (λ p. (nat_eq n z || holds ns z) && p) left ∙ and_none (nat_eq n z || holds ns z))
+  | inr d ↦ h ∙ ap (λ p. (p || holds ns z) && test z) (sym (ne_eqb n z d))
 ]
 
-holds-without : (id z : ℕ) (ns : List ℕ) → holds (filter (λ n. not (nat_eq n id)) ns) z ≡ (holds ns z && not (nat_eq z id))
-holds-without id z [] = refl
-holds-without id z (n ∷ ns) = drops_by (nat_eq n id) n id z ns (filter (λ m. not (nat_eq m id)) ns) refl (holds-without id z ns)
+pub holds-filter : (test : ℕ → Bool) (ns : List ℕ) (z : ℕ) → holds (filter test ns) z ≡ (holds ns z && test z)
+holds-filter test [] z = refl
+holds-filter test (n ∷ ns) z = filter_by test (test n) n z ns (filter test ns) refl (holds-filter test ns z)
 
 pub purged-listed : (id k z : ℕ) (xs : List NodesOfStage) → is_listed (map (purged id) xs) k z ≡ (is_listed xs k z && not (nat_eq z id))
 purged-listed id k z [] = refl
 purged-listed id k z (x ∷ xs) =
-    ap (λ h. (nat_eq x.stage k && h) || is_listed (map (purged id) xs) k z) (holds-without id z x.nodes)
+    ap (λ h. (nat_eq x.stage k && h) || is_listed (map (purged id) xs) k z) (holds-filter (λ n. not (nat_eq n id)) x.nodes z)
     ∙ ap (λ h. h || is_listed (map (purged id) xs) k z) (table2 (nat_eq x.stage k) (holds x.nodes z) (not (nat_eq z id)))
     ∙ ap (λ r. ((nat_eq x.stage k && holds x.nodes z) && not (nat_eq z id)) || r) (purged-listed id k z xs)
     ∙ table3 (nat_eq x.stage k && holds x.nodes z) (is_listed xs k z) (not (nat_eq z id))

@@ -18,7 +18,8 @@ use Rattle.ft_leaves.specs.declared.block_leaf.LeafChange.TheVariants.{SetAcked,
 use Rattle.ft_leaves.specs.declared.leaves.TreeLeaf.{TreeLeaf}
 use Rattle.ft_leaves.specs.BlockChanges.{changed_leaf}
 use Rattle.ft_leaves.specs.LeafChanges.{acked_leaf, acked_pair}
-use Rattle.ft_leaf_blocks.specs.Touched.{NodesOfStage, Notes, Tracks, added_stage, is_listed, is_stamped_by, is_touched_by, purged, purged_at}
+use Rattle.ft_leaves.specs.Edits.{is_touched_by}
+use Rattle.ft_leaf_blocks.specs.Touched.{NodesOfStage, Notes, Tracks, added_stage, is_listed, is_stamped_by, purged, purged_at}
 use Rattle.ft_leaf_blocks.proofs.StepValues.{gone-without, is_some, is_valued, mapped, mapped_some, new_put, rear-split, value-change, value-map, value-put, value-split}
 use Rattle.ft_leaf_blocks.proofs.TouchedLists.{Takes, and_both, both_and, eq_from, notes-none, or_either, or_left, or_right, purged-listed, rising_mapped}
 use Rattle.ft_leaf_blocks.proofs.WalkEdits.{live-put}

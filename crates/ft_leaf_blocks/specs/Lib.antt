@@ -4,6 +4,8 @@ pub mod AnchorsInside
 pub mod Slides
 pub mod Unsettled
 pub mod Touched
+pub mod Wanted
+pub mod StageLeaves
 pub mod State
 pub mod Inside
 pub mod LeafPlaces

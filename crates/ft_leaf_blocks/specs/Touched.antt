@@ -8,7 +8,7 @@ use Rattle.ft_block.specs.Leaves.{value_at}
 use Rattle.ft_leaves.specs.declared.block_leaf.LeafChange.{LeafChange}
 use Rattle.ft_leaves.specs.declared.block_leaf.LeafChange.TheVariants.{SetAcked, PushPending, DropPending, DropAll, Ack}
 use Rattle.ft_leaves.specs.declared.leaves.TreeLeaf.{TreeLeaf}
-use Rattle.ft_leaves.specs.Edits.{is_marked_by}
+use Rattle.ft_leaves.specs.Edits.{is_touched_by}
 
 -- a pending stage, and nodes of leaves that it touched
 pub record NodesOfStage : Type 0 where
@@ -61,10 +61,6 @@ pub record Notes (id : ℕ) (old new : List NodesOfStage) : Type 0 where
 abbrev pub is_stamped_by : ℕ → Element → Bool
 is_stamped_by k e = is_of_stage k e.ins || list_any (is_of_stage k) e.dels
 
--- the leaf has something of stage k: its insertion, a removal mark or changes
-abbrev pub is_touched_by : {C : Type 0} → ℕ → TreeLeaf C → Bool
-is_touched_by k x = is_of_stage k x.stamps.ins || is_marked_by k x
-
 -- the stage of the changes that this change of a leaf adds, if it adds any
 abbrev pub added_stage : LeafChange → Option ℕ
 added_stage (SetAcked set) = None
@@ -72,15 +68,6 @@ added_stage (PushPending k set) = Some k
 added_stage (DropPending k) = None
 added_stage DropAll = None
 added_stage (Ack k s c) = None
-
--- the leaf is one, and has a removal mark of stage k
-abbrev pub is_removed_by : {C : Type 0} → ℕ → Option (TreeLeaf C) → Bool
-is_removed_by k None = false
-is_removed_by k (Some x) = list_any (is_of_stage k) x.stamps.dels
-
--- the same of the leaf of this node
-abbrev pub is_removed_at : {C : Type 0} → List (ℕ × TreeLeaf C) → ℕ → ℕ → Bool
-is_removed_at leaves k id = is_removed_by k (value_at leaves id)
 
 -- each leaf is listed for each stage of which it has something, and each listed node is a leaf's
 pub record Tracks {C : Type 0} (leaves : List (ℕ × TreeLeaf C)) (ss : List NodesOfStage) : Type 0 where

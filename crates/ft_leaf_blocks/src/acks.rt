@@ -1,9 +1,8 @@
 //! Leaves in blocks: how a stage is acknowledged in them.
 
-ghost use Rattle.std.specs.Prelude.{◌≡◌, ◌||◌, All, IsSomeAnd, IsTrue, OnOk, map, true};
-ghost use Rattle.ft_base.specs.Visibility.{is_of_stage};
+ghost use Rattle.std.specs.Prelude.{◌≡◌, All, IsSomeAnd, IsTrue, OnOk, map, true};
 ghost use Rattle.ft_block.specs.Leaves.{IsLeafIn, change_leaf, value_at};
-ghost use Rattle.ft_leaves.specs.Edits.{is_marked_by};
+ghost use Rattle.ft_leaves.specs.Edits.{is_touched_by};
 ghost use Rattle.ft_leaves.specs.Elements.{IsLowestChange};
 ghost use Rattle.ft_leaves.specs.LeafChanges.{acked_leaf, acked_pair};
 ghost use Rattle.ft_leaves.specs.LeafLists.{elements};
@@ -25,8 +24,8 @@ use std::alloc::Global;
 use std::collections::VecDeque;
 
 /// Whether the leaf has something of that stage: its insertion, a removal mark or changes.
-fn has_any_of<C: Content>(leaf: &TreeLeaf<C>, stage: u64) -> bool
-    ensures { result ≡ (is_of_stage stage leaf.now.stamps.ins || is_marked_by stage leaf.now) }
+pub(crate) fn has_any_of<C: Content>(leaf: &TreeLeaf<C>, stage: u64) -> bool
+    ensures { result ≡ is_touched_by stage leaf.now }
 {
     is_of_stage(&leaf.stamps.ins, stage) || leaf.is_marked_by(stage)
 }

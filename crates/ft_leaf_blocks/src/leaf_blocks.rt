@@ -20,7 +20,7 @@ ghost use Rattle.ft_block.specs.Leaves.{
   without_leaf,
 };
 ghost use Rattle.ft_leaves.specs.BlockChanges.{MayChange, changed_leaf};
-ghost use Rattle.ft_leaves.specs.Edits.{ChangesReference, IsFreeOf, closed_by, moved_by, next_removal_above, up_to_place, with_place};
+ghost use Rattle.ft_leaves.specs.Edits.{ChangesReference, IsFreeOf, closed_by, moved_by, next_pending_above, next_removal_above, touched_nodes, up_to_place, with_place};
 ghost use Rattle.ft_leaves.specs.Elements.{IsLowestChange};
 ghost use Rattle.ft_leaves.specs.LeafChanges.{acked_pair};
 ghost use Rattle.ft_leaves.specs.LeafLists.{elements, leaf_length};
@@ -36,7 +36,8 @@ use crate::anchored::{
     take_anchored,
 };
 use crate::leaf_refs::LeafRefs;
-use crate::removals::next_removal_in;
+use crate::next_stages::{next_pending_in, next_removal_in};
+use crate::stage_leaves::stage_leaves_in;
 use crate::stage_nodes::StageNodes;
 use ft_arena::NodeId;
 use ft_base::{Element, OutOfMemory};
@@ -425,6 +426,27 @@ impl<C: Content> LeafBlocks<C> {
         ensures { result ≡ next_removal_above stage (elements C.units C.by self.now.leaves) }
     {
         next_removal_in(&self.blocks, &self.touched, stage)
+    }
+
+    /// The least pending stage above this one of which a leaf has something: None exactly where there is none. It
+    /// goes to the leaves that the stages above this one touched, up to the first that has something of its stage.
+    pub fn next_pending(&self, stage: u64) -> Option<u64>
+        requires { IsTrue self.now.usable }
+        ensures { result ≡ next_pending_above stage self.now.leaves }
+    {
+        next_pending_in(&self.blocks, &self.touched, stage)
+    }
+
+    /// The nodes of the leaves that have something of the stage: its insertion, a removal mark or changes. They
+    /// stand in the order of the list. It goes to the leaves that the stage touched, finds the place of each, and
+    /// sorts them by it.
+    ///
+    /// Answers `OutOfMemory` where there is no room for them.
+    pub fn stage_leaves(&self, stage: u64) -> Result<Vec<NodeId>, OutOfMemory>
+        requires { IsTrue self.now.usable }
+        ensures { IfOk result (λ v. v.items ≡ touched_nodes stage self.now.leaves) }
+    {
+        stage_leaves_in(&self.blocks, &self.touched, stage)
     }
 
     /// The floor.

@@ -153,6 +153,18 @@ fn purge_each(touched: &mut [StageNodes], id: NodeId)
     }
 }
 
+/// The nodes that are listed for a stage.
+pub(crate) fn nodes_of(touched: &VecDeque<StageNodes>, stage: u64) -> &[NodeId]
+    requires { AreRising touched.now.items }
+    ensures { (id : ℕ) → holds result.now id ≡ is_listed touched.now.items stage id }
+{
+    let i = place_of(touched, stage);
+    if !is_at(touched, i, stage) {
+        return &[];
+    }
+    touched[i].nodes()
+}
+
 /// Takes the list of a stage out, and answers its nodes: none where there is no list.
 pub(crate) fn take_stage(touched: &mut VecDeque<StageNodes>, stage: u64) -> Vec<NodeId>
     requires { AreRising touched.old.items }

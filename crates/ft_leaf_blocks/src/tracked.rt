@@ -5,7 +5,8 @@ ghost use Rattle.std.specs.List.{list_any};
 ghost use Rattle.ft_base.specs.Visibility.{is_acked};
 ghost use Rattle.ft_block.specs.Leaves.{IsLeafIn, IsPlaceIn, change_leaf, join_leaf, length_by, move_leaf, put_leaf, split_leaf, times_leaf, value_after, value_at, without_leaf};
 ghost use Rattle.ft_leaves.specs.BlockChanges.{MayChange, changed_leaf};
-ghost use Rattle.ft_leaf_blocks.specs.Touched.{AreRising, Notes, Tracks, added_stage, is_listed, is_touched_by, purged_at};
+ghost use Rattle.ft_leaves.specs.Edits.{is_touched_by};
+ghost use Rattle.ft_leaf_blocks.specs.Touched.{AreRising, Notes, Tracks, added_stage, is_listed, purged_at};
 
 use crate::stage_nodes::StageNodes;
 use crate::touched::{note, note_heir, note_stamps, purge};

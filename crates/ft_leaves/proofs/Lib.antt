@@ -4,7 +4,6 @@ pub mod CutLeaves
 pub mod RangeSplits
 pub mod RangeLeaves
 pub mod Settling
-pub mod LeastStages
 pub mod Standing
 pub mod LeafEdits
 pub mod Numbered

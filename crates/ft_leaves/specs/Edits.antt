@@ -1,6 +1,6 @@
 -- Edits of the leaves of a tree, for those who walk them: what each makes of the list of leaves, and of the places of
 -- references.
-use Rattle.std.specs.Prelude.{◌≡◌, ℕ, ◌+◌, ◌-◌, Bool, true, false, cond, ◌&&◌, ◌||◌, nat_eq, nat_le, nat_lt, List, [], ◌∷◌, Option, Some, None, filter, flat_map, length, option_map, option_and_then}
+use Rattle.std.specs.Prelude.{◌≡◌, ℕ, ◌+◌, ◌-◌, Bool, true, false, cond, ◌&&◌, ◌||◌, nat_eq, nat_le, nat_lt, List, [], ◌∷◌, ◌++◌, Option, Some, None, filter, flat_map, length, map, option_map, option_and_then}
 use Rattle.std.specs.List.{filter_map, list_any}
 use Rattle.ft_arena.specs.Ids.{after}
 use Rattle.ft_base.specs.declared.stamps.Stamp.{Stamp}
@@ -82,6 +82,14 @@ sequenced_leaf x = record x { stamps = sequenced_stamps x.stamps; overlay = sequ
 abbrev pub is_marked_by : {C : Type 0} → ℕ → TreeLeaf C → Bool
 is_marked_by k x = list_any (is_of_stage k) x.stamps.dels || list_any (λ c. nat_eq c.0 k) x.overlay.pending
 
+-- whether the leaf has something of stage k: its insertion, a removal mark or changes
+abbrev pub is_touched_by : {C : Type 0} → ℕ → TreeLeaf C → Bool
+is_touched_by k x = is_of_stage k x.stamps.ins || is_marked_by k x
+
+-- the nodes of the leaves that have something of stage k
+abbrev pub touched_nodes : {C : Type 0} → ℕ → List (ℕ × TreeLeaf C) → List ℕ
+touched_nodes k xs = ids (filter (λ x. is_touched_by k x.1) xs)
+
 -- the insertion is at or below the floor, nobody has removed the leaf, and nothing is pending on it
 pub record IsBare {C : Type 0} (floor : ℕ) (x : TreeLeaf C) : Type 0 where
   pub insertion : is_insertion_at_or_below floor x.stamps.ins ≡ true
@@ -119,11 +127,6 @@ abbrev pub lesser : ℕ → Option ℕ → ℕ
 lesser n None = n
 lesser n (Some m) = cond (nat_le n m) n m
 
--- the lesser of two numbers, of those that there are
-abbrev pub least_of : Option ℕ → Option ℕ → Option ℕ
-least_of None b = b
-least_of (Some n) b = Some (lesser n b)
-
 -- the least of the numbers above k
 abbrev pub least_above : ℕ → List ℕ → Option ℕ
 least_above k [] = None
@@ -132,6 +135,14 @@ least_above k (n ∷ ns) = cond (nat_lt k n) (Some (lesser n (least_above k ns))
 -- the least pending stage above k that marks one of the elements as removed
 abbrev pub next_removal_above : {U : Type 0} → ℕ → List (TreeElement U) → Option ℕ
 next_removal_above k xs = least_above k (flat_map (λ e. filter_map stage_of e.stamps.dels) xs)
+
+-- the pending stages of which a leaf has something
+abbrev pub stages_on : {C : Type 0} → TreeLeaf C → List ℕ
+stages_on x = filter_map stage_of (x.stamps.ins ∷ x.stamps.dels) ++ map (λ c. c.0) x.overlay.pending
+
+-- the least pending stage above k of which a leaf has something
+abbrev pub next_pending_above : {C : Type 0} → ℕ → List (ℕ × TreeLeaf C) → Option ℕ
+next_pending_above k xs = least_above k (flat_map (λ x. stages_on x.1) xs)
 
 -- the reference of this number goes on by this change, and each other one stays
 abbrev pub ChangesReference : ℕ → (Reference → Option Reference) → List (ℕ × Reference) → List (ℕ × Reference) → Type 0

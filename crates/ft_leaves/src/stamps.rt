@@ -1,12 +1,11 @@
 //! Lists of stamps of a leaf.
 
 ghost use Rattle.std.specs.Prelude.{◌≡◌, ◌≤◌, ◌++◌, ◌∷◌, [], IfOk, OnOk, filter, length, map, not};
-ghost use Rattle.std.specs.List.{filter_map, list_any, prefix_len};
+ghost use Rattle.std.specs.List.{list_any, prefix_len};
 ghost use Rattle.ft_base.specs.Scan.{put_past};
 ghost use Rattle.ft_base.specs.Visibility.{is_acked, is_of_stage};
 ghost use Rattle.ft_props.specs.Steps.{acked_stamp};
 ghost use Rattle.ft_props.specs.Compaction.{is_insertion_at_or_below};
-ghost use Rattle.ft_leaves.specs.Edits.{least_above, least_of, stage_of};
 
 use ft_base::{OutOfMemory, Stamp, Stamps};
 use std::alloc::Global;
@@ -148,36 +147,4 @@ pub(crate) fn is_at_or_below(stamp: &Stamp, floor: u64) -> bool
         Stamp::Acked { seq, .. } => *seq <= floor,
         Stamp::Local { .. } => false,
     }
-}
-
-/// The stage of the stamp, if it is pending and above this one.
-pub fn stage_above(stamp: &Stamp, stage: u64) -> Option<u64>
-    ensures { result ≡ least_above stage (filter_map stage_of (stamp.now ∷ [])) }
-{
-    match stamp {
-        Stamp::Acked { .. } => None,
-        Stamp::Local { stage: own } => { if stage < *own { Some(*own) } else { None } }
-    }
-}
-
-/// The lesser of two numbers, of those that there are.
-pub fn lesser_of(a: Option<u64>, b: Option<u64>) -> Option<u64>
-    ensures { result ≡ least_of a b }
-{
-    match (a, b) {
-        (Some(n), Some(m)) => Some(if n <= m { n } else { m }),
-        (Some(n), None) => Some(n),
-        (None, b) => b,
-    }
-}
-
-/// The least pending stage among the stamps above this one.
-pub fn next_stage(stamps: &[Stamp], stage: u64) -> Option<u64>
-    ensures { result ≡ least_above stage (filter_map stage_of stamps.now) }
-{
-    let mut least = None;
-    for stamp in stamps {
-        least = lesser_of(least, stage_above(stamp, stage));
-    }
-    least
 }

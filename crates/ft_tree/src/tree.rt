@@ -59,6 +59,11 @@ impl<C: Content> Tree<C> {
         }
     }
 
+    /// Where the tree takes its memory.
+    pub fn allocator(&self) -> Global {
+        self.alloc
+    }
+
     /// How many elements were ever made in it, those that are gone included.
     pub fn made(&self) -> u64
         ensures { result ≡ self.now.made }

@@ -1,14 +1,14 @@
 //! The leaves of a tree, one after another.
 
-ghost use Rattle.std.specs.Prelude.{◌≡◌, ℕ, ◌<◌, ◌≤◌, ◌^◌, All, Some, IsTrue, length, option_map};
+ghost use Rattle.std.specs.Prelude.{◌≡◌, ℕ, ◌<◌, ◌≤◌, ◌^◌, All, IfOk, Some, IsTrue, length, option_map};
 ghost use Rattle.ft_arena.specs.Ids.{after, first};
 ghost use Rattle.ft_block.specs.Leaves.{IsLeafIn, IsPlaceIn, ids, times_leaf, value_at};
-ghost use Rattle.ft_leaves.specs.Edits.{is_marked_by};
+ghost use Rattle.ft_leaves.specs.Edits.{is_marked_by, next_pending_above, touched_nodes};
 ghost use Rattle.ft_leaves.specs.LeafLists.{elements};
 
 use crate::tree::Tree;
 use ft_arena::NodeId;
-use ft_base::Element;
+use ft_base::{Element, OutOfMemory};
 use ft_leaves::Content;
 use ft_props::Overlay;
 
@@ -80,5 +80,26 @@ impl<C: Content> Tree<C> {
         ensures { option_map (is_marked_by stage) (value_at self.now.leaves id) ≡ Some result }
     {
         self.blocks.leaf(id).is_marked_by(stage)
+    }
+
+    /// The nodes of the leaves that have something of the stage: its insertion, a removal mark or changes. They
+    /// stand in the order of the list. It goes to the leaves that the stage touched, finds the place of each, and
+    /// sorts them by it.
+    ///
+    /// Answers `OutOfMemory` where there is no room for them.
+    pub fn stage_leaves(&self, stage: u64) -> Result<Vec<NodeId>, OutOfMemory>
+        requires { IsTrue self.now.usable }
+        ensures { IfOk result (λ v. v.items ≡ touched_nodes stage self.now.leaves) }
+    {
+        self.blocks.stage_leaves(stage)
+    }
+
+    /// The least pending stage above this one of which a leaf has something: None exactly where there is none. It
+    /// goes to the leaves that the stages above this one touched, up to the first that has something of its stage.
+    pub fn next_pending(&self, stage: u64) -> Option<u64>
+        requires { IsTrue self.now.usable }
+        ensures { result ≡ next_pending_above stage self.now.leaves }
+    {
+        self.blocks.next_pending(stage)
     }
 }

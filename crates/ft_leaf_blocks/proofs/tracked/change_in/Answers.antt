@@ -3,7 +3,8 @@ use Rattle.std.proofs.lemmas.Result.{on_ok_weaker}
 use Rattle.ft_block.specs.Leaves.{change_leaf, value_at}
 use Rattle.ft_leaves.specs.declared.leaves.TreeLeaf.{TreeLeaf}
 use Rattle.ft_leaves.specs.BlockChanges.{MayChange, changed_leaf}
-use Rattle.ft_leaf_blocks.specs.Touched.{is_listed, is_touched_by}
+use Rattle.ft_leaves.specs.Edits.{is_touched_by}
+use Rattle.ft_leaf_blocks.specs.Touched.{is_listed}
 use Rattle.ft_leaf_blocks.proofs.StepValues.{is_given}
 use Rattle.ft_leaf_blocks.proofs.TrackedSteps.{touched-changed, tracks-change, tracks-is}
 use Rattle.ft_leaf_blocks.proofs.tracked.change_in.Goals as goal

@@ -2,7 +2,8 @@ use Rattle.std.proofs.Common.{◌≡◌, true, false, Bool, ◌⊎◌, inl, inr,
 use Rattle.std.proofs.lemmas.Result.{on_ok_weaker}
 use Rattle.ft_block.specs.Leaves.{change_leaf, value_at}
 use Rattle.ft_leaves.specs.declared.leaves.TreeLeaf.{TreeLeaf}
-use Rattle.ft_leaf_blocks.specs.Touched.{is_listed, is_stamped_by, is_touched_by}
+use Rattle.ft_leaves.specs.Edits.{is_touched_by}
+use Rattle.ft_leaf_blocks.specs.Touched.{is_listed, is_stamped_by}
 use Rattle.ft_leaf_blocks.proofs.StepValues.{is_some}
 use Rattle.ft_leaf_blocks.proofs.TrackedSteps.{by_stamps, touched-stamped, tracks-change, tracks-is}
 use Rattle.ft_leaf_blocks.proofs.tracked.set_stamps_in.Goals as goal

@@ -2,7 +2,7 @@ use Rattle.std.proofs.Common.{◌≡◌, ◌<◌, ℕ, List, Some, length, optio
 use Rattle.std.specs.Option.{IsSome}
 use Rattle.ft_block.specs.Leaves.{split_leaf, value_at}
 use Rattle.ft_leaves.specs.declared.leaves.TreeLeaf.{TreeLeaf}
-use Rattle.ft_leaf_blocks.specs.Touched.{is_touched_by}
+use Rattle.ft_leaves.specs.Edits.{is_touched_by}
 use Rattle.ft_leaf_blocks.proofs.StepValues.{is_given, is_live, mapped_some, rear-split}
 use Rattle.ft_leaf_blocks.proofs.TrackedSteps.{tracks-is, tracks-split}
 use Rattle.ft_leaf_blocks.proofs.tracked.split_in.Goals as goal
