@@ -1,14 +1,13 @@
 -- What a leaf adds to the runs of marked elements and to the place of an insertion.
-use Rattle.std.proofs.Common.{◌≡◌, ℕ, ◌+◌, ◌≤◌, Bool, true, false, cond, nat_eq, All, List, [], ◌∷◌, ◌++◌, Option, Some, None, find, length, refl, sym, ◌∙◌, ap, arith}
+use Rattle.std.proofs.Common.{◌≡◌, ℕ, ◌+◌, ◌≤◌, Bool, true, false, cond, nat_eq, All, List, [], ◌∷◌, ◌++◌, Option, filter, length, refl, sym, ◌∙◌, ap, arith}
 use Rattle.std.specs.List.{list_any}
-use Rattle.std.specs.Option.{option_map}
 use Rattle.std.proofs.lemmas.Bool.Decides.{nat_tests}
 use Rattle.std.proofs.lemmas.List.Elements.{All-head, All-tail}
 use Rattle.ft_base.specs.declared.stamps.Stamp.{Stamp}
 use Rattle.ft_base.specs.Scan.{len, rank}
 use Rattle.ft_base.specs.Visibility.{is_of_stage}
 use Rattle.ft_block.specs.declared.leaves.LenView.{LenView}
-use Rattle.ft_block.specs.Leaves.{IsLeafIn, left_of, sees_in, times_leaf}
+use Rattle.ft_block.specs.Leaves.{IsLeafIn, ids, left_of, sees_in, times_leaf}
 use Rattle.ft_leaves.specs.declared.leaves.TreeLeaf.{TreeLeaf}
 use Rattle.ft_leaves.specs.Elements.{TreeElement, element_with, seen_in}
 use Rattle.ft_leaves.specs.LeafLists.{elements, leaf_elements}
@@ -17,7 +16,9 @@ use Rattle.ft_leaves.proofs.Runs.{len-append}
 use Rattle.ft_rebase.specs.declared.marks.Mark.{Mark}
 use Rattle.ft_rebase.specs.declared.marks.Mark.TheVariants.{Removal, Changes}
 use Rattle.ft_rebase.specs.MarkedRuns.{marked_runs_from, with_run}
-use Rattle.ft_rebase.specs.Pieces.{first_inserted, has_mark, is_inserted_by, leaf_has_mark}
+use Rattle.ft_rebase.specs.Moves.{leaf_stamps}
+use Rattle.ft_rebase.specs.Pieces.{has_mark, is_inserted_by, leaf_has_mark}
+use Rattle.ft_rebase.specs.StageLists.{inserted_by}
 use Rattle.ft_rebase.proofs.Expanded.{any-none, any-some, rank-here, rank-seen, rank-unseen}
 use Rattle.ft_rebase.proofs.MarkedRunLemmas.{runs-past_marked, runs-past_seen, runs-past_unseen}
 
@@ -29,14 +30,6 @@ module _ {C U : Type 0} (units : C → List U) (by : C → Option Stamp) where
       → has_mark mark k (element_with x.stamps (by x.content) x.overlay u) ≡ b
   marked_by Removal k x b e u = e
   marked_by Changes k x b e u = e
-
-  -- the runs of a leaf that isn't seen in front of others
-  pub runs-unseen : (view : LenView) (mark : Mark) (k : ℕ) (x : TreeLeaf C) (i : ℕ) (ys : List (TreeElement U)) → sees_in view x.stamps
-      ≡ false
-      → marked_runs_from i (seen_in view) (has_mark mark k) (leaf_elements units by x ++ ys)
-      ≡ marked_runs_from i (seen_in view) (has_mark mark k) ys
-  runs-unseen view mark k x i ys e =
-      runs-past_unseen (seen_in view) (has_mark mark k) (element_with x.stamps (by x.content) x.overlay) (λ u. e) (units x.content) i ys
 
   -- the runs of a leaf in front of others
   pub runs-leaf : (view : LenView) (mark : Mark) (k : ℕ) (x : TreeLeaf C) (i : ℕ) (ys : List (TreeElement U)) (s m : Bool)
@@ -67,13 +60,13 @@ module _ {C U : Type 0} (units : C → List U) (by : C → Option Stamp) where
     pub some : list_any (is_inserted_by k) (elements units by xs) ≡ true
     pub place : len (seen_in view) (elements units by (left_of xs id)) ≡ rank (is_inserted_by k) (seen_in view) (elements units by xs)
 
-  pub stands_first : (k : ℕ) (view : LenView) (xs : Leaves) (id : ℕ) → ((i : ℕ) → times_leaf xs i ≤ 1)
+  pub stands_first : (k : ℕ) (view : LenView) (xs : Leaves) (id : ℕ) (more : List ℕ) → ((i : ℕ) → times_leaf xs i ≤ 1)
       → All (λ x. 1 ≤ length (units x.1.content)) xs
-      → first_inserted k xs ≡ Some id → StandsFirst k view xs id
-  stands_first k view [] id once some e = absurd cc
-  stands_first k view (x ∷ xs) id once some e =
+      → ids (filter (inserted_by leaf_stamps k) xs) ≡ id ∷ more → StandsFirst k view xs id
+  stands_first k view [] id more once some e = absurd cc
+  stands_first k view (x ∷ xs) id more once some e =
       step (is_of_stage k x.1.stamps.ins) (sees_in view x.1.stamps) refl refl e
-      (stands_first k view xs id (λ i. omega (arith, once i)) (All-tail (λ x. 1 ≤ length (units x.1.content)) x xs some))
+      (stands_first k view xs id more (λ i. omega (arith, once i)) (All-tail (λ x. 1 ≤ length (units x.1.content)) x xs some))
     where
       first : 1 ≤ length (units x.1.content)
       first = All-head (λ x. 1 ≤ length (units x.1.content)) x xs some
@@ -85,8 +78,8 @@ module _ {C U : Type 0} (units : C → List U) (by : C → Option Stamp) where
       own = grind (arith, nat_tests)
 
       step : (a b : Bool) → is_of_stage k x.1.stamps.ins ≡ a → sees_in view x.1.stamps ≡ b
-          → option_map (λ x. x.0) (cond a (Some x) (find (λ x. is_of_stage k x.1.stamps.ins) xs)) ≡ Some id
-          → (first_inserted k xs ≡ Some id → StandsFirst k view xs id) → StandsFirst k view (x ∷ xs) id
+          → ids (cond a (x ∷ filter (inserted_by leaf_stamps k) xs) (filter (inserted_by leaf_stamps k) xs)) ≡ id ∷ more
+          → (ids (filter (inserted_by leaf_stamps k) xs) ≡ id ∷ more → StandsFirst k view xs id) → StandsFirst k view (x ∷ xs) id
       step true b a_is b_is e rest =
           let same : x.0 ≡ id = cc in
           let here : nat_eq x.0 id ≡ true = grind (arith, nat_tests) in
@@ -129,13 +122,13 @@ module _ {C U : Type 0} (units : C → List U) (by : C → Option Stamp) where
               )
 
   -- and none where there is none
-  pub none_inserted : (k : ℕ) (xs : Leaves) → first_inserted k xs ≡ None → list_any (is_inserted_by k) (elements units by xs) ≡ false
+  pub none_inserted : (k : ℕ) (xs : Leaves) → ids (filter (inserted_by leaf_stamps k) xs) ≡ [] → list_any (is_inserted_by k) (elements units by xs) ≡ false
   none_inserted k [] e = refl
   none_inserted k (x ∷ xs) e = step (is_of_stage k x.1.stamps.ins) refl e (none_inserted k xs)
     where
-      step : (a : Bool) → is_of_stage k x.1.stamps.ins ≡ a → option_map (λ x. x.0)
-          (cond a (Some x) (find (λ x. is_of_stage k x.1.stamps.ins) xs)) ≡ None
-          → (first_inserted k xs ≡ None → list_any (is_inserted_by k) (elements units by xs) ≡ false)
+      step : (a : Bool) → is_of_stage k x.1.stamps.ins ≡ a
+          → ids (cond a (x ∷ filter (inserted_by leaf_stamps k) xs) (filter (inserted_by leaf_stamps k) xs)) ≡ []
+          → (ids (filter (inserted_by leaf_stamps k) xs) ≡ [] → list_any (is_inserted_by k) (elements units by xs) ≡ false)
           → list_any (is_inserted_by k) (leaf_elements units by x.1 ++ elements units by xs) ≡ false
       step true a_is e rest = absurd cc
       step false a_is e rest =

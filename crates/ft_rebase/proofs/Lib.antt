@@ -3,10 +3,12 @@ pub mod StageListLemmas
 pub mod Expanded
 pub mod MovedBlocks
 pub mod LeafPieces
-pub mod LeafWalks
+pub mod ListedLeaves
+pub mod ListedRuns
 pub mod StageMoves
 pub mod NextStages
 pub mod AllStages
 pub mod UnmarkedLists
 pub mod MovedSpots
 pub mod CarriedLeaves
+pub mod CarriedStages

@@ -1,37 +1,25 @@
--- The next pending insertion stage, and the moves of all of them.
-use Rattle.std.proofs.Common.{◌≡◌, ℕ, suc, ◌-◌, ◌<◌, ◌≤◌, Bool, true, false, cond, ◌||◌, nat_le, nat_lt, nat_eq, All, List, [], ◌∷◌, Option, Some, None, length, refl, sym, ◌∙◌, ap, subst, arith}
-use Rattle.std.specs.List.{cons_option, filter_map, list_any}
+-- The next pending stage, and the moves of all insertions.
+use Rattle.std.proofs.Common.{◌≡◌, ℕ, suc, ◌-◌, ◌<◌, ◌≤◌, Bool, true, false, cond, ◌||◌, nat_le, nat_lt, nat_eq, All, List, [], ◌∷◌, Option, Some, None, length, map, refl, sym, ◌∙◌, ap, subst, arith}
+use Rattle.std.specs.List.{filter_map, flat_map, list_any}
 use Rattle.std.proofs.lemmas.Bool.Decides.{nat_tests}
-use Rattle.ft_arena.specs.Ids.{after}
+use Rattle.std.proofs.lemmas.List.Folds.{list_any-append}
 use Rattle.ft_base.specs.declared.stamps.Stamp.{Stamp}
 use Rattle.ft_base.specs.declared.stamps.Stamp.TheVariants.{Acked, Local}
 use Rattle.ft_base.specs.Scan.{rank}
 use Rattle.ft_base.specs.Visibility.{is_of_stage, seen_at}
 use Rattle.ft_block.specs.declared.leaves.LenView.TheVariants.{Stage}
-use Rattle.ft_block.specs.Leaves.{ids}
+use Rattle.ft_props.specs.declared.properties.Changes.{Changes}
 use Rattle.ft_leaves.specs.declared.leaves.TreeLeaf.{TreeLeaf}
-use Rattle.ft_leaves.specs.Edits.{least_above, least_of, lesser, stage_of}
+use Rattle.ft_leaves.specs.Edits.{is_marked_by, is_touched_by, least_above, lesser, next_pending_above, stage_of, stages_on}
 use Rattle.ft_leaves.specs.Elements.{TreeElement, element_with, seen_in}
 use Rattle.ft_leaves.specs.LeafLists.{elements}
-use Rattle.ft_leaf_blocks.specs.Walks.{from_place}
 use Rattle.ft_rebase.specs.declared.moves.StageMove.{StageMove}
-use Rattle.ft_rebase.specs.Moves.{AreMoves, NoneOf, leaf_stamps, next_insertion, seen_size}
+use Rattle.ft_rebase.specs.Moves.{AreMoves, NoneOf, leaf_stamps, seen_size}
 use Rattle.ft_rebase.specs.Pieces.{insertion_position, is_inserted_by}
 use Rattle.ft_rebase.specs.StageLists.{inserted_by, next_position}
 use Rattle.ft_rebase.proofs.Expanded.{any-items, rank-items}
-use Rattle.ft_rebase.proofs.LeafWalks.{StandsAt}
 
 -- ---- the next stage
-
-one_more : (k : ℕ) (t : Stamp) (ns : List ℕ) → least_above k (cons_option (stage_of t) ns)
-    ≡ least_of (least_above k (filter_map stage_of (t ∷ []))) (least_above k ns)
-one_more k (Acked s c) ns = refl
-one_more k (Local j) ns = step (nat_lt k j)
-  where
-    step : (b : Bool) → cond b (Some (lesser j (least_above k ns))) (least_above k ns)
-        ≡ least_of (cond b (Some (lesser j None)) None) (least_above k ns)
-    step true = refl
-    step false = refl
 
 -- a stage below the one that is next, if there is one
 abbrev pub IsBelow : ℕ → Option ℕ → Type 0
@@ -46,61 +34,96 @@ below-rest j n (Some m) h = step (nat_le n m) refl h
     step true e h = (h, (let le : n ≤ m = grind (arith, nat_tests) in omega (arith, le)))
     step false e h = ((let lt : m < n = grind (arith, nat_tests) in omega (arith, lt)), h)
 
+-- none of the numbers is between k and the least above it
+none-below : (k j : ℕ) (ns : List ℕ) → k < j → IsBelow j (least_above k ns) → list_any (λ n. nat_eq n j) ns ≡ false
+none-below k j [] h b = refl
+none-below k j (n ∷ ns) h b = step (nat_lt k n) refl b (none-below k j ns h)
+  where
+    step : (c : Bool) → nat_lt k n ≡ c → IsBelow j (cond c (Some (lesser n (least_above k ns))) (least_above k ns))
+        → (IsBelow j (least_above k ns) → list_any (λ n. nat_eq n j) ns ≡ false) → (nat_eq n j || list_any (λ n. nat_eq n j) ns) ≡ false
+    step true e b ih =
+        let p = below-rest j n (least_above k ns) b in
+        let other : nat_eq n j ≡ false = grind (arith, nat_tests, p.0) in
+        ap (λ c. c || list_any (λ n. nat_eq n j) ns) other ∙ ih p.1
+    step false e b ih =
+        let other : nat_eq n j ≡ false = grind (arith, nat_tests) in
+        ap (λ c. c || list_any (λ n. nat_eq n j) ns) other ∙ ih b
+
+-- which is above k
+least-above : (k m : ℕ) (ns : List ℕ) → least_above k ns ≡ Some m → k < m
+least-above k m [] e = absurd cc
+least-above k m (n ∷ ns) e = step (nat_lt k n) refl e (λ i g. least-above k i ns g)
+  where
+    least : (o : Option ℕ) → k < n → ((i : ℕ) → o ≡ Some i → k < i) → k < lesser n o
+    least None h f = h
+    least (Some i) h f = either (nat_le n i)
+      where
+        either : (b : Bool) → k < cond b n i
+        either true = h
+        either false = f i refl
+
+    step : (c : Bool) → nat_lt k n ≡ c → cond c (Some (lesser n (least_above k ns))) (least_above k ns) ≡ Some m
+        → ((i : ℕ) → least_above k ns ≡ Some i → k < i) → k < m
+    step true c e f =
+        let above : k < n = grind (arith, nat_tests) in
+        let is : lesser n (least_above k ns) ≡ m = cc in
+        subst (λ i. k < i) is (least (least_above k ns) above f)
+    step false c e f = f m e
+
+-- ---- the stages that touched a leaf
+
+any-stamps : (j : ℕ) (ts : List Stamp) → list_any (λ n. nat_eq n j) (filter_map stage_of ts) ≡ list_any (is_of_stage j) ts
+any-stamps j [] = refl
+any-stamps j (Acked s c ∷ ts) = any-stamps j ts
+any-stamps j (Local i ∷ ts) = ap (λ b. nat_eq i j || b) (any-stamps j ts)
+
+any-changes : (j : ℕ) (ps : List (ℕ × Changes)) → list_any (λ n. nat_eq n j) (map (λ c. c.0) ps) ≡ list_any (λ c. nat_eq c.0 j) ps
+any-changes j [] = refl
+any-changes j (p ∷ ps) = ap (λ b. nat_eq p.0 j || b) (any-changes j ps)
+
+or_or : (a b c : Bool) → ((a || b) || c) ≡ (a || (b || c))
+or_or true b c = refl
+or_or false b c = refl
+
 module _ {C : Type 0} where
-  pub insertion_here : (k : ℕ) (xs : List (ℕ × TreeLeaf C)) (at : Option ℕ) (id : ℕ) (next : Option ℕ) (s : StandsAt xs at id) → next
-      ≡ after (ids xs) id
-      → next_insertion k (from_place xs at) ≡ least_of (least_above k (filter_map stage_of (s.value.stamps.ins ∷ [])))
-      (next_insertion k (from_place xs next))
-  insertion_here k xs at id next s n =
-      ap (next_insertion k) s.from
-      ∙ one_more k s.value.stamps.ins (filter_map (λ x. stage_of x.1.stamps.ins) (from_place xs (after (ids xs) id)))
-      ∙ ap (λ o. least_of (least_above k (filter_map stage_of (s.value.stamps.ins ∷ []))) (next_insertion k (from_place xs o))) (sym n)
+  pub touched-stages : (j : ℕ) (x : TreeLeaf C) → list_any (λ n. nat_eq n j) (stages_on x) ≡ is_touched_by j x
+  touched-stages j x =
+      list_any-append (λ n. nat_eq n j) (filter_map stage_of (x.stamps.ins ∷ x.stamps.dels)) (map (λ c. c.0) x.overlay.pending)
+      ∙ ap (λ b. b || list_any (λ n. nat_eq n j) (map (λ c. c.0) x.overlay.pending)) (any-stamps j (x.stamps.ins ∷ x.stamps.dels))
+      ∙ ap (λ b. (is_of_stage j x.stamps.ins || list_any (is_of_stage j) x.stamps.dels) || b) (any-changes j x.overlay.pending)
+      ∙ or_or (is_of_stage j x.stamps.ins) (list_any (is_of_stage j) x.stamps.dels) (list_any (λ c. nat_eq c.0 j) x.overlay.pending)
 
-  -- none is of a stage between k and the next one
-  pub none_between : (k j : ℕ) (xs : List (ℕ × TreeLeaf C)) → k < j → IsBelow j (next_insertion k xs) → NoneOf j xs
-  none_between k j [] h b = refl
-  none_between k j (x ∷ xs) h b = step x.1.stamps.ins b (none_between k j xs h)
+  any-touched : (j : ℕ) (xs : List (ℕ × TreeLeaf C)) → list_any (λ x. is_touched_by j x.1) xs
+      ≡ list_any (λ n. nat_eq n j) (flat_map (λ x. stages_on x.1) xs)
+  any-touched j [] = refl
+  any-touched j (x ∷ xs) =
+      ap (λ b. is_touched_by j x.1 || b) (any-touched j xs)
+      ∙ ap (λ b. b || list_any (λ n. nat_eq n j) (flat_map (λ x. stages_on x.1) xs)) (sym (touched-stages j x.1))
+      ∙ sym (list_any-append (λ n. nat_eq n j) (stages_on x.1) (flat_map (λ x. stages_on x.1) xs))
+
+  -- no leaf has something of a stage between k and the next one
+  pub none_touched : (k j : ℕ) (xs : List (ℕ × TreeLeaf C)) → k < j → IsBelow j (next_pending_above k xs)
+      → list_any (λ x. is_touched_by j x.1) xs ≡ false
+  none_touched k j xs h b = any-touched j xs ∙ none-below k j (flat_map (λ x. stages_on x.1) xs) h b
+
+  -- so none is of such a stage
+  pub none_between : (k j : ℕ) (xs : List (ℕ × TreeLeaf C)) → k < j → IsBelow j (next_pending_above k xs) → NoneOf j xs
+  none_between k j xs h b = insertions xs (none_touched k j xs h b)
     where
-      local : (i : ℕ) (c : Bool) → nat_lt k i ≡ c → IsBelow j (cond c (Some (lesser i (next_insertion k xs))) (next_insertion k xs))
-          → (IsBelow j (next_insertion k xs) → NoneOf j xs) → (nat_eq i j || list_any (inserted_by leaf_stamps j) xs) ≡ false
-      local i true e b ih =
-          let p = below-rest j i (next_insertion k xs) b in
-          let other : nat_eq i j ≡ false = grind (arith, nat_tests, p.0) in
-          ap (λ c. c || list_any (inserted_by leaf_stamps j) xs) other ∙ ih p.1
-      local i false e b ih =
-          let other : nat_eq i j ≡ false = grind (arith, nat_tests) in
-          ap (λ c. c || list_any (inserted_by leaf_stamps j) xs) other ∙ ih b
+      both : (a b c : Bool) → ((a || b) || c) ≡ false → (a ≡ false) × (c ≡ false)
+      both false false c h = (refl, h)
+      both false true c h = absurd cc
+      both true b c h = absurd cc
 
-      step : (t : Stamp) → IsBelow j (least_above k (cons_option (stage_of t) (filter_map (λ x. stage_of x.1.stamps.ins) xs)))
-          → (IsBelow j (next_insertion k xs) → NoneOf j xs) → (is_of_stage j t || list_any (inserted_by leaf_stamps j) xs) ≡ false
-      step (Acked s c) b ih = ih b
-      step (Local i) b ih = local i (nat_lt k i) refl b ih
+      insertions : (xs : List (ℕ × TreeLeaf C)) → list_any (λ x. is_touched_by j x.1) xs ≡ false → NoneOf j xs
+      insertions [] h = refl
+      insertions (x ∷ xs) h =
+          let p = both (is_of_stage j x.1.stamps.ins) (is_marked_by j x.1) (list_any (λ x. is_touched_by j x.1) xs) h in
+          ap (λ b. b || list_any (inserted_by leaf_stamps j) xs) p.0 ∙ insertions xs p.1
 
-  -- it is above k
-  pub next_above : (k m : ℕ) (xs : List (ℕ × TreeLeaf C)) → next_insertion k xs ≡ Some m → k < m
-  next_above k m [] e = absurd cc
-  next_above k m (x ∷ xs) e = step x.1.stamps.ins e (λ n g. next_above k n xs g)
-    where
-      least : (i : ℕ) (o : Option ℕ) → k < i → ((n : ℕ) → o ≡ Some n → k < n) → k < lesser i o
-      least i None h f = h
-      least i (Some n) h f = either (nat_le i n)
-        where
-          either : (b : Bool) → k < cond b i n
-          either true = h
-          either false = f n refl
-
-      local : (i : ℕ) (c : Bool) → nat_lt k i ≡ c → cond c (Some (lesser i (next_insertion k xs))) (next_insertion k xs) ≡ Some m
-          → ((n : ℕ) → next_insertion k xs ≡ Some n → k < n) → k < m
-      local i true c e f =
-          let above : k < i = grind (arith, nat_tests) in
-          let is : lesser i (next_insertion k xs) ≡ m = cc in
-          subst (λ n. k < n) is (least i (next_insertion k xs) above f)
-      local i false c e f = f m e
-
-      step : (t : Stamp) → least_above k (cons_option (stage_of t) (filter_map (λ x. stage_of x.1.stamps.ins) xs)) ≡ Some m
-          → ((n : ℕ) → next_insertion k xs ≡ Some n → k < n) → k < m
-      step (Acked s c) e f = f m e
-      step (Local i) e f = local i (nat_lt k i) refl e f
+  -- the next one is above k
+  pub next_above : (k m : ℕ) (xs : List (ℕ × TreeLeaf C)) → next_pending_above k xs ≡ Some m → k < m
+  next_above k m xs e = least-above k m (flat_map (λ x. stages_on x.1) xs) e
 
 -- ---- the moves
 

@@ -16,6 +16,7 @@ use Rattle.ft_leaves.specs.LeafLists.{leaf_length}
 use Rattle.ft_props.proofs.RebuiltList.{filter-twice}
 use Rattle.ft_rebase.specs.Moves.{leaf_stamps, moved_stage, seen_node, seen_size}
 use Rattle.ft_rebase.proofs.Expanded.{len-filter}
+use Rattle.ft_rebase.proofs.ListedLeaves.{value-filtered, value-live}
 use Rattle.ft_rebase.proofs.StageListLemmas.{unseen}
 use Rattle.ft_rebase.specs.StageLists.{inserted_by, seen_by}
 
@@ -69,41 +70,6 @@ module _ {L : Type 0} where
       step true e h ih = absurd (omega arith)
       step false e h ih = value-without (without_all (ids ms) xs) m.0 id
           (λ w. (let here : nat_eq m.0 id ≡ true = grind (arith, nat_tests) in cc)) ∙ ih (omega arith)
-
-  value-live : (xs : List (ℕ × L)) (id : ℕ) (v : L) → value_at xs id ≡ Some v → 1 ≤ times_leaf xs id
-  value-live [] id v e = absurd cc
-  value-live (x ∷ xs) id v e = step (nat_eq x.0 id) e (value-live xs id v)
-    where
-      step : (c : Bool) → cond c (Some x.1) (value_at xs id) ≡ Some v → (value_at xs id ≡ Some v → 1 ≤ times_leaf xs id)
-          → 1 ≤ cond c 1 0 + times_leaf xs id
-      step true e ih = omega arith
-      step false e ih = omega (arith, ih e)
-
-  -- a leaf among those that pass a test has its value in the whole list
-  value-filtered : (t : ℕ × L → Bool) (xs fs gs : List (ℕ × L)) (b : ℕ) (v : L) → ((i : ℕ) → times_leaf xs i ≤ 1) → filter t xs
-      ≡ fs ++ (b, v) ∷ gs → value_at xs b ≡ Some v
-  value-filtered t [] [] gs b v once e = absurd cc
-  value-filtered t [] (f ∷ fs) gs b v once e = absurd cc
-  value-filtered t (x ∷ xs) fs gs b v once e = step (t x) fs e (λ hs g. value-filtered t xs hs gs b v (λ i. omega (arith, once i)) g)
-    where
-      later : value_at xs b ≡ Some v → cond (nat_eq x.0 b) (Some x.1) (value_at xs b) ≡ Some v
-      later found =
-          let live = value-live xs b v found in
-          let own : cond (nat_eq x.0 x.0) 1 0 ≡ 1 = ap {B = ℕ} (λ c. cond c 1 0) (own-node x) in
-          let other : nat_eq x.0 b ≡ false = differs x.0 b (λ w. (let n = ap (times_leaf xs) w in omega (arith, once x.0, n, live, own))) in
-          ap (λ c. cond c (Some x.1) (value_at xs b)) other ∙ found
-
-      step : (c : Bool) (fs : List (ℕ × L)) → cond c (x ∷ filter t xs) (filter t xs) ≡ fs ++ (b, v) ∷ gs
-          → ((hs : List (ℕ × L)) → filter t xs ≡ hs ++ (b, v) ∷ gs → value_at xs b ≡ Some v)
-          → cond (nat_eq x.0 b) (Some x.1) (value_at xs b) ≡ Some v
-      step false fs e ih = later (ih fs e)
-      step true (f ∷ fs) e ih = later (ih fs (cc))
-      step true [] e ih =
-          let here : x ≡ (b, v) = cc in
-          let node : x.0 ≡ b = ap (λ (y : ℕ × L). y.0) here in
-          let value : x.1 ≡ v = ap (λ (y : ℕ × L). y.1) here in
-          let test : nat_eq x.0 b ≡ true = grind (arith, nat_tests) in
-          ap (λ c. cond c (Some x.1) (value_at xs b)) test ∙ ap Some value
 
   -- ---- the moves of one stage
 

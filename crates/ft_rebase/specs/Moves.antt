@@ -1,20 +1,15 @@
 -- How the leaves of pending insertions are moved in place, stage after stage.
 use Rattle.std.specs.Prelude.{◌≡◌, ℕ, zero, suc, ◌+◌, ◌-◌, ◌<◌, ◌≤◌, Bool, false, cond, not, List, [], ◌∷◌, Option, Some, None, filter, length}
-use Rattle.std.specs.List.{filter_map, list_any}
+use Rattle.std.specs.List.{list_any}
 use Rattle.ft_base.specs.declared.elements.Element.{Element as ElementStamps}
 use Rattle.ft_base.specs.Scan.{len, no_run, put}
 use Rattle.ft_leaves.specs.declared.leaves.TreeLeaf.{TreeLeaf}
-use Rattle.ft_leaves.specs.Edits.{least_above, stage_of}
 use Rattle.ft_rebase.specs.declared.moves.StageMove.{StageMove}
 use Rattle.ft_rebase.specs.StageLists.{inserted_by, next_position, seen_by}
 
 -- the stamps of a leaf
 abbrev pub leaf_stamps : {C : Type 0} → ℕ × TreeLeaf C → ElementStamps
 leaf_stamps x = x.1.stamps
-
--- the least pending insertion stage above k
-abbrev pub next_insertion : {C : Type 0} → ℕ → List (ℕ × TreeLeaf C) → Option ℕ
-next_insertion k xs = least_above k (filter_map (λ x. stage_of x.1.stamps.ins) xs)
 
 -- no leaf is of stage j
 abbrev pub NoneOf : {C : Type 0} → ℕ → List (ℕ × TreeLeaf C) → Type 0

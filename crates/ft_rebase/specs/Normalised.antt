@@ -5,7 +5,7 @@ use Rattle.ft_base.specs.declared.elements.Element.{Element as ElementStamps}
 use Rattle.ft_base.specs.Scan.{retain_map}
 use Rattle.ft_base.specs.Visibility.{is_acked}
 use Rattle.ft_leaves.specs.declared.leaves.TreeLeaf.{TreeLeaf}
-use Rattle.ft_leaves.specs.Edits.{sequenced_leaf}
+use Rattle.ft_leaves.specs.Edits.{is_touched_by, sequenced_leaf}
 use Rattle.ft_leaves.specs.Elements.{TreeElement, sequenced_overlay, sequenced_stamps}
 use Rattle.ft_rebase.specs.StageLists.{sequenced, with_stages}
 
@@ -37,3 +37,7 @@ carried_leaf x = cond (is_gone x.stamps) (sequenced_leaf x) x
 -- the same with its node
 abbrev pub carried_pair : {C : Type 0} → ℕ × TreeLeaf C → ℕ × TreeLeaf C
 carried_pair x = (x.0, carried_leaf x.1)
+
+-- the same where stage k has something of the leaf, and else the leaf as it is
+abbrev pub carried_by : {C : Type 0} → ℕ → ℕ × TreeLeaf C → ℕ × TreeLeaf C
+carried_by k x = cond (is_touched_by k x.1) (carried_pair x) x

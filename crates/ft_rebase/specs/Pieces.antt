@@ -1,5 +1,5 @@
 -- What is sent again of a pending stage: pieces whose positions are those of now.
-use Rattle.std.specs.Prelude.{ℕ, ◌-◌, Bool, cond, nat_eq, List, ◌++◌, Option, Some, None, map, option_map, find}
+use Rattle.std.specs.Prelude.{ℕ, ◌-◌, Bool, cond, nat_eq, List, ◌++◌, Option, Some, None, map, option_map}
 use Rattle.std.specs.List.{list_any}
 use Rattle.std.specs.Option.{option_to_list}
 use Rattle.ft_base.specs.Scan.{rank}
@@ -47,10 +47,6 @@ module _ {U : Type 0} where
   -- the pieces of stage k, which is an insertion, a removal or an annotation
   abbrev pub pieces : ℕ → List (TreeElement U) → List Piece
   pieces k xs = insertion_pieces k xs ++ removal_pieces k xs ++ annotation_pieces k xs
-
--- the node of the first leaf that stage k inserted
-abbrev pub first_inserted : {C : Type 0} → ℕ → List (ℕ × TreeLeaf C) → Option ℕ
-first_inserted k xs = option_map (λ x. x.0) (find (λ x. is_of_stage k x.1.stamps.ins) xs)
 
 -- whether stage k has this mark on the elements of a leaf
 abbrev pub leaf_has_mark : {C : Type 0} → Mark → ℕ → TreeLeaf C → Bool

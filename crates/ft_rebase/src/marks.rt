@@ -6,13 +6,13 @@ ghost use Rattle.ft_leaves.specs.LeafLists.{elements};
 ghost use Rattle.ft_rebase.specs.Pieces.{leaf_has_mark, marked_runs};
 ghost use Rattle.ft_rebase.specs.MarkedRuns.{RunsRise};
 
-use crate::runs::MarkedRuns;
+use crate::positions::stage_position;
+use crate::runs::push_run;
 use ft_arena::NodeId;
 use ft_base::{OutOfMemory, seen_at};
 use ft_leaves::Content;
 use ft_leaves::stamps::has_stage;
 use ft_tree::Tree;
-use std::alloc::Global;
 
 /// What a pending stage may have on an element that it didn't insert.
 #[derive(Clone, Copy, Debug, PartialEq, Eq)]
@@ -35,11 +35,11 @@ fn has_mark<C: Content>(tree: &Tree<C>, leaf: NodeId, stage: u64, mark: Mark) ->
     }
 }
 
-/// The maximal runs of elements with this mark of the stage among those that the stage before sees.
+/// The maximal runs of elements with this mark of the stage among those that the stage before sees. It goes to the leaves
+/// that the stage touched, and finds the place of each that has seen elements with the mark.
 ///
 /// Answers `OutOfMemory` where there is no room for them.
 pub(crate) fn marked_runs<C: Content>(
-    alloc: Global,
     tree: &Tree<C>,
     stage: u64,
     mark: Mark,
@@ -49,14 +49,14 @@ pub(crate) fn marked_runs<C: Content>(
     ensures rise { IfOk result (λ runs. RunsRise 0 runs.items) }
 {
     let before = stage.saturating_sub(1);
-    let mut found = MarkedRuns::new(alloc);
+    let mut runs = Vec::new(tree.allocator());
     let _first = tree.first_leaf();
-    let mut at = tree.first_leaf();
-    while let Some(leaf) = at {
-        if seen_at(tree.leaf_element(leaf), before) {
-            found.pass(tree.leaf_len(leaf), has_mark(tree, leaf, stage, mark))?;
+    let touched = tree.stage_leaves(stage)?;
+    for leaf in &touched {
+        if seen_at(tree.leaf_element(*leaf), before) && has_mark(tree, *leaf, stage, mark) {
+            let start = stage_position(tree, *leaf, before);
+            push_run(&mut runs, start, start + tree.leaf_len(*leaf))?;
         }
-        at = tree.next_leaf(leaf);
     }
-    Ok(found.runs)
+    Ok(runs)
 }

@@ -2,21 +2,19 @@
 
 ghost use Rattle.std.specs.Prelude.{◌≡◌, ℕ, ◌-◌, ◌≤◌, None, IsTrue, IfOk, OnOk, filter, true};
 ghost use Rattle.ft_base.specs.Scan.{len};
-ghost use Rattle.ft_block.specs.Leaves.{IsLeafIn, IsPlaceIn, ids, move_leaf, value_at, without_leaf};
-ghost use Rattle.ft_rebase.specs.Moves.{AreMoves, EndsLeaf, leaf_stamps, moved_stage, next_insertion, seen_node, seen_size};
+ghost use Rattle.ft_block.specs.Leaves.{IsLeafIn, IsPlaceIn, move_leaf, value_at, without_leaf};
+ghost use Rattle.ft_rebase.specs.Moves.{AreMoves, EndsLeaf, leaf_stamps, moved_stage, seen_node, seen_size};
 ghost use Rattle.ft_rebase.specs.Spots.{KeepsSpots};
-ghost use Rattle.ft_rebase.specs.StageLists.{StagesUpTo, StandSideBySide, inserted_by, seen_by, sequenced, with_stages};
+ghost use Rattle.ft_rebase.specs.StageLists.{StagesUpTo, StandSideBySide, seen_by, sequenced, with_stages};
 ghost use Rattle.ft_leaves.specs.LeafLists.{elements};
 ghost use Rattle.ft_tree.specs.State.{KeepsRest};
 
-use crate::positions::insertion_position;
+use crate::positions::{inserted_leaves, insertion_position};
 use ft_arena::NodeId;
 use ft_base::OutOfMemory;
 use ft_block::LenView;
 use ft_leaves::Content;
-use ft_leaves::stamps::{is_of_stage, lesser_of, stage_above};
 use ft_tree::Tree;
-use std::alloc::Global;
 
 /// A pending insertion stage, and how many elements that the stage before sees stand left of its own.
 #[derive(Clone, Copy, Debug, PartialEq, Eq, Drop)]
@@ -30,7 +28,7 @@ pub struct StageMove {
 /// in its view. Every leaf keeps its node.
 ///
 /// Answers `OutOfMemory` where there is no room for it.
-pub(crate) fn move_stages<C: Content>(alloc: Global, tree: &mut Tree<C>) -> Result<(), OutOfMemory>
+pub(crate) fn move_stages<C: Content>(tree: &mut Tree<C>) -> Result<(), OutOfMemory>
 where
     C: Drop,
     requires usable { IsTrue tree.old.usable }
@@ -45,43 +43,25 @@ where
     ensures usable { OnOk result (tree.new.usable ≡ true) }
 {
     let _first = tree.first_leaf();
-    let moves = stage_moves(alloc, tree)?;
+    let moves = stage_moves(tree)?;
     for next in &moves {
-        put_stage(alloc, tree, next.stage, next.position)?;
+        put_stage(tree, next.stage, next.position)?;
     }
     Ok(())
-}
-
-/// The least pending insertion stage above this one.
-fn next_insertion<C: Content>(tree: &Tree<C>, stage: u64) -> Option<u64>
-    requires { IsTrue tree.now.usable }
-    ensures { result ≡ next_insertion stage tree.now.leaves }
-{
-    let _first = tree.first_leaf();
-    let mut least = None;
-    let mut at = tree.first_leaf();
-    while let Some(leaf) = at {
-        least = lesser_of(least, stage_above(&tree.leaf_element(leaf).ins, stage));
-        at = tree.next_leaf(leaf);
-    }
-    least
 }
 
 /// The moves of all pending insertion stages in rising order. Their positions are those before any of them is made.
 ///
 /// Answers `OutOfMemory` where there is no room for them.
-pub(crate) fn stage_moves<C: Content>(
-    alloc: Global,
-    tree: &Tree<C>,
-) -> Result<Vec<StageMove>, OutOfMemory>
+pub(crate) fn stage_moves<C: Content>(tree: &Tree<C>) -> Result<Vec<StageMove>, OutOfMemory>
     requires { IsTrue tree.now.usable }
     ensures { IfOk result (λ v. AreMoves C.units 0 v.items tree.now.leaves) }
 {
-    let mut moves = Vec::new(alloc);
+    let mut moves = Vec::new(tree.allocator());
     let mut stage = 0;
     let _first = tree.first_leaf();
-    while let Some(next) = next_insertion(tree, stage) {
-        if let Some(position) = insertion_position(tree, next) {
+    while let Some(next) = tree.next_pending(stage) {
+        if let Some(position) = insertion_position(tree, next)? {
             moves.push(StageMove {
                 stage: next,
                 position,
@@ -90,29 +70,6 @@ pub(crate) fn stage_moves<C: Content>(
         stage = next;
     }
     Ok(moves)
-}
-
-/// The leaves that the stage inserted, in order.
-///
-/// Answers `OutOfMemory` where there is no room for them.
-fn stage_leaves<C: Content>(
-    alloc: Global,
-    tree: &Tree<C>,
-    stage: u64,
-) -> Result<Vec<NodeId>, OutOfMemory>
-    requires { IsTrue tree.now.usable }
-    ensures { IfOk result (λ v. v.items ≡ ids (filter (inserted_by leaf_stamps stage) tree.now.leaves)) }
-{
-    let mut leaves = Vec::new(alloc);
-    let _first = tree.first_leaf();
-    let mut at = tree.first_leaf();
-    while let Some(leaf) = at {
-        if is_of_stage(&tree.leaf_element(leaf).ins, stage) {
-            leaves.push(leaf)?;
-        }
-        at = tree.next_leaf(leaf);
-    }
-    Ok(leaves)
 }
 
 /// The leaf that ends behind the first `position` elements that the stage sees: None where that is the head.
@@ -133,7 +90,6 @@ fn leaf_before<C: Content>(tree: &Tree<C>, position: u64, stage: u64) -> Option<
 ///
 /// Answers `OutOfMemory` where there is no room for it.
 pub(crate) fn put_stage<C: Content>(
-    alloc: Global,
     tree: &mut Tree<C>,
     stage: u64,
     position: u64,
@@ -151,7 +107,7 @@ where
     ensures usable { OnOk result (tree.new.usable ≡ true) }
 {
     let _first = tree.first_leaf();
-    let mut leaves = stage_leaves(alloc, tree, stage)?;
+    let mut leaves = inserted_leaves(tree, stage)?;
     let at = leaf_before(tree, position, stage - 1);
     while let Some(leaf) = leaves.pop() {
         move_behind(tree, leaf, &at)?;

@@ -9,13 +9,12 @@ ghost use Rattle.ft_leaves.specs.Edits.{sequenced_leaf};
 ghost use Rattle.ft_leaves.specs.LeafLists.{elements};
 ghost use Rattle.ft_leaves.specs.References.{KeepsReferences};
 ghost use Rattle.ft_rebase.specs.Moves.{leaf_stamps};
-ghost use Rattle.ft_rebase.specs.Normalised.{carried_leaf, carried_pair, is_gone, rebuilt_list};
+ghost use Rattle.ft_rebase.specs.Normalised.{carried_by, carried_leaf, carried_pair, is_gone, rebuilt_list};
 ghost use Rattle.ft_rebase.specs.Spots.{KeepsSpots};
 ghost use Rattle.ft_rebase.specs.StageLists.{StagesUpTo, StandSideBySide, sequenced};
 ghost use Rattle.ft_tree.specs.State.{KeepsRest};
 
 use crate::moves::move_stages;
-use crate::pieces::allocator_of;
 use ft_arena::NodeId;
 use ft_base::{Element, OutOfMemory, Stamp};
 use ft_leaves::Content;
@@ -24,7 +23,8 @@ use ft_tree::Tree;
 
 /// Brings a merge tree in order after its pending stages were regenerated, so that it is as if they had been made afresh:
 /// what is pending on elements with a sequenced removal goes, and the leaves of pending insertions move to where the order
-/// will put them. The elements of each stage stand side by side in its view. Every leaf keeps its node.
+/// will put them. The elements of each stage stand side by side in its view. Every leaf keeps its node. It goes to the leaves
+/// that each pending stage touched, three times for a stage with an insertion, and else twice.
 ///
 /// Answers `OutOfMemory` where there is no room for it, and then the tree may be used no more.
 pub fn normalise<C: Content>(tree: &mut Tree<C>) -> Result<(), OutOfMemory>
@@ -41,9 +41,8 @@ where
     ensures rest { OnOk result (KeepsRest tree.old tree.new) }
     ensures usable { OnOk result (tree.new.usable ≡ true) }
 {
-    let alloc = allocator_of(tree)?;
     carry_leaves(tree)?;
-    move_stages(alloc, tree)?;
+    move_stages(tree)?;
     Ok(())
 }
 
@@ -92,6 +91,25 @@ fn carry_leaf<C: Content>(tree: &mut Tree<C>, leaf: NodeId) -> Result<(), OutOfM
     Ok(())
 }
 
+/// Takes what is pending off the leaves of which the stage has something and whose insertion and a removal of it are
+/// sequenced.
+///
+/// Answers `OutOfMemory` where there is no room for what is left.
+fn carry_stage<C: Content>(tree: &mut Tree<C>, stage: u64) -> Result<(), OutOfMemory>
+    requires { IsTrue tree.old.usable }
+    ensures leaves { OnOk result (tree.new.leaves ≡ map (carried_by stage) tree.old.leaves) }
+    ensures refs { OnOk result (KeepsReferences tree.old.refs tree.new.refs) }
+    ensures rest { OnOk result (KeepsRest tree.old tree.new) }
+    ensures usable { OnOk result (tree.new.usable ≡ true) }
+{
+    let _first = tree.first_leaf();
+    let touched = tree.stage_leaves(stage)?;
+    for leaf in &touched {
+        carry_leaf(tree, *leaf)?;
+    }
+    Ok(())
+}
+
 /// Takes what is pending off all leaves whose insertion and a removal of it are sequenced.
 ///
 /// Answers `OutOfMemory` where there is no room for what is left.
@@ -102,11 +120,10 @@ fn carry_leaves<C: Content>(tree: &mut Tree<C>) -> Result<(), OutOfMemory>
     ensures rest { OnOk result (KeepsRest tree.old tree.new) }
     ensures usable { OnOk result (tree.new.usable ≡ true) }
 {
-    let mut at = tree.first_leaf();
-    while let Some(leaf) = at {
-        let _first = tree.first_leaf();
-        carry_leaf(tree, leaf)?;
-        at = tree.next_leaf(leaf);
+    let mut next = Some(0);
+    while let Some(stage) = next {
+        carry_stage(tree, stage)?;
+        next = tree.next_pending(stage);
     }
     Ok(())
 }

@@ -11,7 +11,6 @@ use crate::positions::insertion_position;
 use ft_base::OutOfMemory;
 use ft_leaves::Content;
 use ft_tree::Tree;
-use std::alloc::Global;
 
 /// A part of what is sent again of a pending stage. A position is a number of elements.
 #[derive(Clone, Copy, Debug, PartialEq, Eq)]
@@ -26,35 +25,23 @@ pub enum Piece {
 
 /// The pieces as which a pending stage is sent again: its insertion where its elements stand among those that the stage
 /// before sees, and one piece for each run of elements there that it marks, leftmost first, with positions as after the
-/// earlier pieces. Where nothing of the stage is left there are none.
+/// earlier pieces. Where nothing of the stage is left there are none. It goes to the leaves that the stage touched alone, and
+/// finds the place of each that it marks.
 ///
 /// Answers `OutOfMemory` where there is no room for them.
 pub fn regenerate<C: Content>(tree: &Tree<C>, stage: u64) -> Result<Vec<Piece>, OutOfMemory>
     requires { IsTrue tree.now.usable }
     ensures { IfOk result (λ v. v.items ≡ pieces stage (elements C.units C.by tree.now.leaves)) }
 {
-    let alloc = allocator_of(tree)?;
-    let mut pieces = Vec::new(alloc);
-    if let Some(pos) = insertion_position(tree, stage) {
+    let mut pieces = Vec::new(tree.allocator());
+    if let Some(pos) = insertion_position(tree, stage)? {
         pieces.push(Piece::Insert { pos })?;
     }
-    let removed = marked_runs(alloc, tree, stage, Mark::Removal)?;
+    let removed = marked_runs(tree, stage, Mark::Removal)?;
     push_removals(&mut pieces, &removed)?;
-    let changed = marked_runs(alloc, tree, stage, Mark::Changes)?;
+    let changed = marked_runs(tree, stage, Mark::Changes)?;
     push_annotations(&mut pieces, &changed)?;
     Ok(pieces)
-}
-
-/// Where the tree takes its memory.
-///
-/// Answers `OutOfMemory` for nothing else than that.
-pub(crate) fn allocator_of<C: Content>(tree: &Tree<C>) -> Result<Global, OutOfMemory>
-    requires { IsTrue tree.now.usable }
-{
-    match tree.first_leaf() {
-        Some(leaf) => Ok(tree.leaf_element(leaf).dels.allocator()),
-        None => Ok(*tree.elements()?.allocator()),
-    }
 }
 
 /// Adds a removal of each run, with its position as after those before it.

@@ -1,14 +1,17 @@
 //! Where leaves stand among the elements that a pending stage sees.
 
-ghost use Rattle.std.specs.Prelude.{◌≡◌, IsTrue};
+ghost use Rattle.std.specs.Prelude.{◌≡◌, IsTrue, IfOk, filter};
 ghost use Rattle.ft_base.specs.Scan.{len};
 ghost use Rattle.ft_block.specs.declared.leaves.LenView.TheVariants.{Stage};
-ghost use Rattle.ft_block.specs.Leaves.{IsLeafIn, left_of};
+ghost use Rattle.ft_block.specs.Leaves.{IsLeafIn, ids, left_of};
 ghost use Rattle.ft_leaves.specs.Elements.{seen_in};
 ghost use Rattle.ft_leaves.specs.LeafLists.{elements};
-ghost use Rattle.ft_rebase.specs.Pieces.{first_inserted, insertion_position};
+ghost use Rattle.ft_rebase.specs.Moves.{leaf_stamps};
+ghost use Rattle.ft_rebase.specs.Pieces.{insertion_position};
+ghost use Rattle.ft_rebase.specs.StageLists.{inserted_by};
 
 use ft_arena::NodeId;
+use ft_base::OutOfMemory;
 use ft_block::LenView;
 use ft_leaves::Content;
 use ft_leaves::stamps::is_of_stage;
@@ -23,31 +26,42 @@ pub fn stage_position<C: Content>(tree: &Tree<C>, leaf: NodeId, stage: u64) -> u
     tree.position_of(leaf, LenView::Stage(stage))
 }
 
-/// The first leaf that the stage inserted: None exactly where there is none.
-pub(crate) fn first_inserted<C: Content>(tree: &Tree<C>, stage: u64) -> Option<NodeId>
+/// The leaves that the stage inserted, in order. It goes to those that the stage touched.
+///
+/// Answers `OutOfMemory` where there is no room for them.
+pub(crate) fn inserted_leaves<C: Content>(
+    tree: &Tree<C>,
+    stage: u64,
+) -> Result<Vec<NodeId>, OutOfMemory>
     requires { IsTrue tree.now.usable }
-    ensures { result ≡ first_inserted stage tree.now.leaves }
+    ensures { IfOk result (λ v. v.items ≡ ids (filter (inserted_by leaf_stamps stage) tree.now.leaves)) }
 {
     let _first = tree.first_leaf();
-    let mut at = tree.first_leaf();
-    while let Some(leaf) = at {
-        if is_of_stage(&tree.leaf_element(leaf).ins, stage) {
-            return at;
+    let mut inserted = Vec::new(tree.allocator());
+    let touched = tree.stage_leaves(stage)?;
+    for leaf in &touched {
+        if is_of_stage(&tree.leaf_element(*leaf).ins, stage) {
+            inserted.push(*leaf)?;
         }
-        at = tree.next_leaf(leaf);
     }
-    None
+    Ok(inserted)
 }
 
 /// How many elements that the stage before sees stand left of the first one that the stage inserted: None exactly
 /// where it inserted none that is there.
-pub(crate) fn insertion_position<C: Content>(tree: &Tree<C>, stage: u64) -> Option<u64>
+///
+/// Answers `OutOfMemory` where there is no room for the leaves that it inserted.
+pub(crate) fn insertion_position<C: Content>(
+    tree: &Tree<C>,
+    stage: u64,
+) -> Result<Option<u64>, OutOfMemory>
     requires { IsTrue tree.now.usable }
-    ensures { result ≡ insertion_position stage (elements C.units C.by tree.now.leaves) }
+    ensures { IfOk result (λ p. p ≡ insertion_position stage (elements C.units C.by tree.now.leaves)) }
 {
     let _first = tree.first_leaf();
-    match first_inserted(tree, stage) {
-        Some(leaf) => Some(stage_position(tree, leaf, stage.saturating_sub(1))),
-        None => None,
+    let inserted = inserted_leaves(tree, stage)?;
+    match inserted.first() {
+        Some(leaf) => Ok(Some(stage_position(tree, *leaf, stage.saturating_sub(1)))),
+        None => Ok(None),
     }
 }

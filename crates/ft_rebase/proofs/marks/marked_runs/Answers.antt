@@ -1,113 +1,120 @@
-use Rattle.std.proofs.Common.{◌≡◌, ◌+◌, ◌-◌, ◌≤◌, length, refl, ap, subst, sym, ◌∙◌, arith}
-use Rattle.ft_arena.specs.Ids.{after}
+use Rattle.std.proofs.Common.{◌≡◌, ◌+◌, ◌-◌, drop, false, filter, length, ap, subst, sym, ◌∙◌, arith}
+use Rattle.ft_base.specs.Scan.{len}
 use Rattle.ft_base.specs.Visibility.{seen_at}
 use Rattle.ft_block.specs.declared.leaves.LenView.TheVariants.{Stage}
-use Rattle.ft_block.specs.Leaves.{ids}
+use Rattle.ft_block.specs.Leaves.{left_of}
+use Rattle.ft_leaves.specs.Edits.{is_touched_by}
 use Rattle.ft_leaves.specs.Elements.{seen_in}
 use Rattle.ft_leaves.specs.LeafLists.{elements}
-use Rattle.ft_leaf_blocks.specs.Walks.{from_place}
-use Rattle.ft_leaf_steps.proofs.FoundPlaces.{walks_first, walks_live}
-use Rattle.ft_rebase.specs.MarkedRuns.{RunsRise, continued, marked_runs_from}
-use Rattle.ft_rebase.specs.Pieces.{has_mark, leaf_has_mark, marked_runs}
-use Rattle.ft_rebase.specs.declared.runs.MarkedRuns.{MarkedRuns}
-use Rattle.ft_rebase.proofs.LeafWalks.{fewer_left, length-here, live_next, mapped, runs_left, runs_passed, stands_at}
+use Rattle.ft_rebase.specs.MarkedRuns.{RunsRise, continued}
+use Rattle.ft_rebase.specs.Pieces.{has_mark, leaf_has_mark}
+use Rattle.ft_rebase.proofs.ListedLeaves.{drop_listed, listed_at, mapped}
+use Rattle.ft_rebase.proofs.ListedRuns.{adds_run, both_hold, listed_runs, none_added, not_first, not_second, run_added, run_within, runs-listed}
 use Rattle.ft_rebase.proofs.MarkedRunLemmas.{continued-none, runs-rise}
 use Rattle.ft_rebase.proofs.marks.marked_runs.Goals as goal
-use Rattle.ft_rebase.proofs.marks.marked_runs.Goals.{then-seen_at+in_ok-pass, else-seen_at}
+use Rattle.ft_rebase.proofs.marks.marked_runs.Goals.{then-seen_at+then-has_mark+in_ok-push_run, else-seen_at, else-seen_at-via-then-seen_at+else-has_mark, else-seen_at-via-else-seen_at}
 
-pub loop-at-init : goal.loop-at-init
-loop-at-init g c =
+pub loop-leaf-init : goal.loop-leaf-init
+loop-leaf-init g c =
     let us = g.C.Content.units in
     let by = g.C.Content.by in
-    let xs = c.args.tree.now.leaves in
-    let see = seen_in (Stage (c.args.stage - 1)) in
-    let marked = has_mark c.args.mark c.args.stage in
-    let at = c.first_leaf-at.result in
-    let all = walks_first us by xs at c.first_leaf-at.ensures.value in
-    record {
-      runs =
-          ap (λ rs. continued rs (marked_runs_from c.new-found.result.seen see marked (elements us by (from_place xs at))))
-          c.new-found.ensures.runs
-          ∙ ap (λ n. marked_runs_from n see marked (elements us by (from_place xs at))) c.new-found.ensures.seen
-          ∙ ap (marked_runs_from 0 see marked) all;
-      count = omega (arith, c.new-found.ensures.seen, ap length all);
-      live = walks_live us by xs at c.first_leaf-at.ensures.value;
-    }
-
-pub pass-requires : goal.pass-requires
-pass-requires g c =
-    let us = g.C.Content.units in
-    let by = g.C.Content.by in
-    let xs = c.args.tree.now.leaves in
-    let s = stands_at xs c.loop-at.at c.in-Some.leaf c.first_leaf-first.ensures.once c.in-Some.is c.loop-at.invariant.live in
-    let size = mapped (λ x. length (us x.content)) _ _ _ s.is c.leaf_len.ensures.value in
-    let next = after (ids xs) c.in-Some.leaf in
-    let left = length-here us by xs c.loop-at.at c.in-Some.leaf s next refl in
-    omega (arith, c.loop-at.invariant.count, left, size, c.first_leaf-first.ensures.few)
-
-pub loop-at-smaller : goal.loop-at-smaller
-loop-at-smaller g c =
-    let xs = c.args.tree.now.leaves in
-    let s = stands_at xs c.loop-at.at c.in-Some.leaf c.first_leaf-first.ensures.once c.in-Some.is c.loop-at.invariant.live in
-    fewer_left xs c.loop-at.at c.in-Some.leaf c.next_leaf-at.result s c.next_leaf-at.ensures
-
-pub loop-at-preserved : goal.loop-at-preserved
-loop-at-preserved g c =
-    let us = g.C.Content.units in
-    let by = g.C.Content.by in
-    let xs = c.args.tree.now.leaves in
     let k = c.args.stage in
+    let xs = c.args.tree.now.leaves in
     let view = Stage (k - 1) in
-    let list = elements us by xs in
-    let rest = elements us by (from_place xs c.next_leaf-at.result) in
-    let at = c.loop-at.at in
-    let leaf = c.in-Some.leaf in
-    let next = c.next_leaf-at.result in
-    let was = c.loop-at.found in
-    let s = stands_at xs at leaf c.first_leaf-first.ensures.once c.in-Some.is c.loop-at.invariant.live in
+    ap (λ rs. continued rs (listed_runs us by view c.args.mark k xs (filter (λ x. is_touched_by k x.1) xs))) c.new-runs.ensures.items
+    ∙ runs-listed us by view c.args.mark k xs c.first_leaf-first.ensures.once c.first_leaf-first.ensures.some
+
+pub leaf_element-requires-clause-live : goal.leaf_element-requires-clause-live
+leaf_element-requires-clause-live g c =
+    let s = listed_at (λ x. is_touched_by c.args.stage x.1) c.args.tree.now.leaves c.deref-leaf-items.result.now c.loop-leaf.leaf-index
+    c.leaf-item.result c.first_leaf-first.ensures.once (c.deref-leaf-items.ensures.value ∙ c.in_ok-touched.ensures) c.loop-leaf-test.true
+    c.leaf-item.is in
+    s.live
+
+pub has_mark-requires-clause-live : goal.has_mark-requires-clause-live
+has_mark-requires-clause-live g c =
+    let s = listed_at (λ x. is_touched_by c.args.stage x.1) c.args.tree.now.leaves c.deref-leaf-items.result.now c.loop-leaf.leaf-index
+    c.leaf-item.result c.first_leaf-first.ensures.once (c.deref-leaf-items.ensures.value ∙ c.in_ok-touched.ensures) c.loop-leaf-test.true
+    c.leaf-item.is in
+    s.live
+
+pub stage_position-start-requires-clause-live : goal.stage_position-start-requires-clause-live
+stage_position-start-requires-clause-live g c =
+    let s = listed_at (λ x. is_touched_by c.args.stage x.1) c.args.tree.now.leaves c.deref-leaf-items.result.now c.loop-leaf.leaf-index
+    c.leaf-item.result c.first_leaf-first.ensures.once (c.deref-leaf-items.ensures.value ∙ c.in_ok-touched.ensures) c.loop-leaf-test.true
+    c.leaf-item.is in
+    s.live
+
+pub leaf_len-requires-clause-live : goal.leaf_len-requires-clause-live
+leaf_len-requires-clause-live g c =
+    let s = listed_at (λ x. is_touched_by c.args.stage x.1) c.args.tree.now.leaves c.deref-leaf-items.result.now c.loop-leaf.leaf-index
+    c.leaf-item.result c.first_leaf-first.ensures.once (c.deref-leaf-items.ensures.value ∙ c.in_ok-touched.ensures) c.loop-leaf-test.true
+    c.leaf-item.is in
+    s.live
+
+pub overflow_add-start : goal.overflow_add-start
+overflow_add-start g c =
+    let us = g.C.Content.units in
+    let by = g.C.Content.by in
+    let k = c.args.stage in
+    let xs = c.args.tree.now.leaves in
+    let s = listed_at (λ x. is_touched_by c.args.stage x.1) c.args.tree.now.leaves c.deref-leaf-items.result.now c.loop-leaf.leaf-index
+    c.leaf-item.result c.first_leaf-first.ensures.once (c.deref-leaf-items.ensures.value ∙ c.in_ok-touched.ensures) c.loop-leaf-test.true
+    c.leaf-item.is in
+    let place = c.stage_position-start.ensures
+    ∙ ap (λ n. len (seen_in (Stage n)) (elements us by (left_of xs c.leaf-item.result))) c.saturating_sub-before.ensures in
+    let size = mapped (λ x. length (us x.content)) _ _ _ s.is c.leaf_len.ensures.value in
+    let within = run_within us by (Stage (k - 1)) c.args.mark k xs c.leaf-item.result s.value c.first_leaf-first.ensures.once s.is in
+    omega (arith, place, size, within, c.first_leaf-first.ensures.few)
+
+pub loop-leaf-preserved : goal.loop-leaf-preserved
+loop-leaf-preserved g c =
+    let us = g.C.Content.units in
+    let by = g.C.Content.by in
+    let k = c.args.stage in
+    let mark = c.args.mark in
+    let xs = c.args.tree.now.leaves in
+    let view = Stage (k - 1) in
+    let leaf = c.leaf-item.result in
+    let i = c.loop-leaf.leaf-index in
+    let was = c.loop-leaf.runs.items in
+    let s = listed_at (λ x. is_touched_by c.args.stage x.1) c.args.tree.now.leaves c.deref-leaf-items.result.now c.loop-leaf.leaf-index
+    c.leaf-item.result c.first_leaf-first.ensures.once (c.deref-leaf-items.ensures.value ∙ c.in_ok-touched.ensures) c.loop-leaf-test.true
+    c.leaf-item.is in
     let stamps = mapped (λ x. x.stamps) _ _ _ s.is c.leaf_element.ensures in
-    let left = length-here us by xs at leaf s next c.next_leaf-at.ensures in
-    let see : seen_at s.value.stamps (k - 1) ≡ seen_at c.leaf_element.result.now c.saturating_sub-before.result =
-    ap (λ t. seen_at t (k - 1)) stamps ∙ ap (seen_at c.leaf_element.result.now) (sym c.saturating_sub-before.ensures) in
-    let runs_now : MarkedRuns → Type 0 = λ f. continued f.runs.items
-    (marked_runs_from f.seen (seen_in view) (has_mark c.args.mark k) rest) ≡ marked_runs k c.args.mark list in
-    let count_now : MarkedRuns → Type 0 = λ f. f.seen + length rest ≤ length list in
+    let sees : seen_at s.value.stamps (k - 1) ≡ c.seen_at.result =
+    ap (λ t. seen_at t (k - 1)) stamps ∙ ap (seen_at c.leaf_element.result.now) (sym c.saturating_sub-before.ensures) ∙ sym c.seen_at.ensures in
     elim c.if-seen_at.branch [
-      | then-seen_at+in_ok-pass w ↦
-          (let size = mapped (λ x. length (us x.content)) _ _ _ s.is w.leaf_len.ensures.value in
-          let marked = mapped (leaf_has_mark c.args.mark k) _ _ _ s.is w.has_mark.ensures in
-          record {
-            runs = subst runs_now (sym w.found-is)
-                (runs_passed us by xs at leaf s next c.next_leaf-at.ensures view c.args.mark k was.runs.items
-                (marked_runs k c.args.mark list) was.seen w.leaf_len.result size
-                w.leaf_len.ensures.some c.loop-at.invariant.runs w.has_mark.result w.pass.new.self.runs.items w.pass.new.self.seen
-                (see ∙ sym w.if-seen_at.ensures) marked
-                w.in_ok-pass.ensures.seen w.in_ok-pass.ensures.runs);
-            count = subst count_now (sym w.found-is) (omega (arith, c.loop-at.invariant.count, left, size, w.in_ok-pass.ensures.seen));
-            live = live_next xs leaf next c.next_leaf-at.ensures;
-          })
+      | then-seen_at+then-has_mark+in_ok-push_run w ↦
+          (let marked = mapped (leaf_has_mark mark k) _ _ _ s.is w.has_mark.ensures in
+          let place = w.stage_position-start.ensures ∙ ap (λ n. len (seen_in (Stage n)) (elements us by (left_of xs leaf))) c.saturating_sub-before.ensures in
+          let size = mapped (λ x. length (us x.content)) _ _ _ s.is w.leaf_len.ensures.value in
+          ap (λ v. continued v.items (listed_runs us by view mark k xs (drop (i + 1) (filter (λ x. is_touched_by k x.1) xs)))) w.runs-is
+          ∙ run_added us by view mark k xs i leaf s was _ c.loop-leaf.invariant w.stage_position-start.result w.leaf_len.result
+          w.push_run.new.runs.items (both_hold _ _ (sees ∙ w.if-seen_at.true) (marked ∙ w.if-has_mark.true)) place size
+          w.in_ok-push_run.ensures)
       | else-seen_at w ↦
-          record {
-            runs = subst runs_now (sym w.found-is)
-                (runs_left us by xs at leaf s next c.next_leaf-at.ensures view c.args.mark k was.runs.items
-                (marked_runs k c.args.mark list) was.seen (see ∙ sym w.if-seen_at.ensures)
-                c.loop-at.invariant.runs);
-            count = subst count_now (sym w.found-is) (omega (arith, c.loop-at.invariant.count, left));
-            live = live_next xs leaf next c.next_leaf-at.ensures;
-          }
+          (let none : adds_run us by view mark k xs (leaf, s.value) ≡ false = elim w.else-seen_at.branch [
+            | else-seen_at-via-then-seen_at+else-has_mark u ↦
+                not_second _ _ (mapped (leaf_has_mark mark k) _ _ _ s.is u.has_mark.ensures ∙ u.if-has_mark.false)
+            | else-seen_at-via-else-seen_at u ↦ not_first _ _ (sees ∙ u.if-seen_at.false)
+          ] in
+          ap (λ v. continued v.items (listed_runs us by view mark k xs (drop (i + 1) (filter (λ x. is_touched_by k x.1) xs)))) w.runs-is
+          ∙ none_added us by view mark k xs i leaf s was _ c.loop-leaf.invariant none)
     ]
 
 pub returns-clause-runs : goal.returns-clause-runs
 returns-clause-runs g c =
     let us = g.C.Content.units in
     let by = g.C.Content.by in
+    let k = c.args.stage in
     let xs = c.args.tree.now.leaves in
-    let see = seen_in (Stage (c.args.stage - 1)) in
-    let marked = has_mark c.args.mark c.args.stage in
-    let runs = c.loop-at.found.runs.items in
+    let runs = c.loop-leaf.runs.items in
     sym (continued-none runs)
-    ∙ sym (ap (λ o. continued runs (marked_runs_from c.loop-at.found.seen see marked (elements us by (from_place xs o)))) c.in_default.is)
-    ∙ c.loop-at.invariant.runs
+    ∙ sym (ap (λ ys. continued runs (listed_runs us by (Stage (k - 1)) c.args.mark k xs ys))
+    (drop_listed (λ x. is_touched_by k x.1) xs c.deref-leaf-items.result.now c.loop-leaf.leaf-index
+    (c.deref-leaf-items.ensures.value ∙ c.in_ok-touched.ensures) c.loop-leaf-test.false))
+    ∙ c.loop-leaf.invariant
 
 pub returns-clause-rise : goal.returns-clause-rise
 returns-clause-rise g c =

@@ -18,9 +18,9 @@ loop-next-preserved-in_ok-push g c more h =
     let some = c.first_leaf-first.ensures.some in
     let above = next_above k n xs (sym c.in-Some.ensures) in
     let between : (j : ℕ) → k < j → j < n → NoneOf j xs = λ j l b. none_between k j xs l (subst (IsBelow j) c.in-Some.ensures b) in
-    let position = position_is us by xs some n c.in-Some-insertion_position.position (omega (arith, above))
-    c.in-Some-insertion_position.ensures in
-    let move : StageMove = record { stage = n; position = c.in-Some-insertion_position.position } in
+    let position = position_is us by xs some n c.in-Some-2.position (omega (arith, above))
+    (sym c.in-Some-2.is ∙ c.in_ok-position.ensures) in
+    let move : StageMove = record { stage = n; position = c.in-Some-2.position } in
     subst (λ (ms : List StageMove). AreMoves us 0 ms xs)
     (sym (ap (λ ms. ms ++ more) c.in_ok-push.ensures.items ∙ append_assoc c.loop-next.moves.items (move ∷ []) more))
     (c.loop-next.invariant (move ∷ more) (above, between, position, h))
@@ -40,12 +40,12 @@ loop-next-preserved g c more h =
     let above = next_above k n xs (sym c.in-Some.ensures) in
     let between : (j : ℕ) → k < j → j < n → NoneOf j xs = λ j l b. none_between k j xs l (subst (IsBelow j) c.in-Some.ensures b) in
     c.loop-next.invariant more (lower_moves us by xs some k n more above between
-    (none_is us by xs some n (sym c.in_default-insertion_position.is ∙ c.insertion_position.ensures)) h)
+    (none_is us by xs some n (sym c.in_default-2.is ∙ c.in_ok-position.ensures)) h)
 
 pub returns : goal.returns
 returns g c =
     let us = g.C.Content.units in
     let xs = c.args.tree.now.leaves in
     let none : (j : ℕ) → c.loop-next.stage < j → NoneOf j xs =
-    λ j l. none_between c.loop-next.stage j xs l (subst (IsBelow j) (sym c.in_default.is ∙ c.next_insertion.ensures) tt) in
+    λ j l. none_between c.loop-next.stage j xs l (subst (IsBelow j) (sym c.in_default.is ∙ c.next_pending.ensures) tt) in
     subst (λ (ms : List StageMove). AreMoves us 0 ms xs) (append-nil c.loop-next.moves.items) (c.loop-next.invariant [] none)

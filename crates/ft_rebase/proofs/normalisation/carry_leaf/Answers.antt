@@ -4,7 +4,7 @@ use Rattle.ft_leaf_blocks.proofs.Walks.{live_value}
 use Rattle.ft_leaves.specs.Edits.{sequenced_leaf}
 use Rattle.ft_rebase.specs.Normalised.{carried_leaf, is_gone}
 use Rattle.ft_rebase.proofs.CarriedLeaves.{carried-gone, carried-kept}
-use Rattle.ft_rebase.proofs.LeafWalks.{mapped}
+use Rattle.ft_rebase.proofs.ListedLeaves.{mapped}
 use Rattle.ft_rebase.proofs.normalisation.carry_leaf.Goals as goal
 use Rattle.ft_rebase.proofs.normalisation.carry_leaf.Goals.{then-not-is_gone-via-then-not-is_gone, then-not-is_gone-via-else-not-is_gone+then-not-has_pending}
 

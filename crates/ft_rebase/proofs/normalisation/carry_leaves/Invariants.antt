@@ -1,21 +1,20 @@
-use Rattle.std.proofs.Common.{◌≡◌, IsTrue, length, map}
-use Rattle.ft_block.specs.Leaves.{IsPlaceIn}
+use Rattle.std.proofs.Common.{◌≡◌, ℕ, true, map}
 use Rattle.ft_leaves.specs.References.{KeepsReferences}
-use Rattle.ft_leaf_steps.specs.LeafSteps.{change_from}
-use Rattle.ft_leaf_blocks.specs.Walks.{from_place}
-use Rattle.ft_rebase.specs.Normalised.{carried_pair}
+use Rattle.ft_rebase.specs.Normalised.{carried_by, carried_pair}
+use Rattle.ft_rebase.proofs.CarriedStages.{stages_left}
+use Rattle.ft_rebase.proofs.NextStages.{IsBelow}
 use Rattle.ft_tree.specs.State.{KeepsRest}
 use Rattle.ft_rebase.proofs.normalisation.carry_leaves.Given as goal
 
--- the leaves up to here are carried, and with those from here on they are all
-abbrev pub invariant-loop-at : goal.invariant-loop-at
-invariant-loop-at g l = record {
-  leaves : change_from carried_pair l.tree.leaves l.at ≡ map carried_pair l.initial.tree.leaves;
-  live : IsPlaceIn l.tree.leaves l.at;
-  refs : KeepsReferences l.initial.tree.refs l.tree.refs;
-  rest : KeepsRest l.initial.tree l.tree;
-  usable : IsTrue l.tree.usable;
+-- the leaves are still to become the same, and no stage below the next one changes any of them
+abbrev pub invariant-loop-next : goal.invariant-loop-next
+invariant-loop-next g l = record {
+  leaves : map carried_pair l.tree.leaves ≡ map carried_pair l.fn.tree.leaves;
+  done : (j : ℕ) → IsBelow j l.next → map (carried_by j) l.tree.leaves ≡ l.tree.leaves;
+  refs : KeepsReferences l.fn.tree.refs l.tree.refs;
+  rest : KeepsRest l.fn.tree l.tree;
+  usable : l.tree.usable ≡ true;
 }
 
-abbrev pub decreases-loop-at : goal.decreases-loop-at
-decreases-loop-at g l = length (from_place l.tree.leaves l.at)
+abbrev pub decreases-loop-next : goal.decreases-loop-next
+decreases-loop-next g l = stages_left l.next

@@ -2,7 +2,7 @@ use Rattle.std.proofs.Common.{not, sym, ◌∙◌, ap}
 use Rattle.std.specs.List.{list_any}
 use Rattle.ft_base.specs.Visibility.{is_acked}
 use Rattle.ft_rebase.proofs.CarriedLeaves.{bare-same}
-use Rattle.ft_rebase.proofs.LeafWalks.{mapped}
+use Rattle.ft_rebase.proofs.ListedLeaves.{mapped}
 use Rattle.ft_rebase.proofs.normalisation.has_pending.Goals as goal
 
 pub returns-else-marked : goal.returns-else-marked
