@@ -2,6 +2,7 @@ pub mod RisingNames
 pub mod OneInterval
 pub mod ShownOne
 pub mod KeptEnds
+pub mod BothEnds
 pub mod SettledEnds
 pub mod Removals
 pub mod TakenEffect
