@@ -7,3 +7,5 @@ mod compaction;
 mod normalising;
 #[cfg(test)]
 mod regeneration;
+#[cfg(test)]
+mod stages;

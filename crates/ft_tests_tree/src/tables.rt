@@ -1,6 +1,6 @@
 //! A table of a few items.
 
-ghost use Rattle.std.specs.Prelude.{◌≡◌, IfOk};
+ghost use Rattle.std.specs.Prelude.{◌≡◌};
 
 use ft_base::{Element, OutOfMemory, Perspective, Stamp, Stamps};
 use ft_partial::Table;
@@ -49,25 +49,41 @@ fn element(alloc: Global) -> Element {
     }
 }
 
-// Four such elements, and one of connection 2 at number 3 from another table.
-fn added(alloc: Global) -> Result<Table, OutOfMemory>
-    ensures { IfOk result (λ table. table.floor ≡ 0) }
+// Adds four such elements.
+fn add_four(alloc: Global, table: &mut Table) -> Result<(), OutOfMemory>
+    ensures { table.new.floor ≡ table.old.floor }
 {
-    let mut table = Table::new(alloc);
-    table.add(&element(alloc), 4)?;
-    let mut other = Table::new(alloc);
-    other.insert(3, 2, 1)?;
-    table.add_all(&other)?;
-    Ok(table)
+    let e = element(alloc);
+    table.add(&e, 4)
 }
 
-// What three perspectives see where three elements that connection 2 removed at number 5 are in the place
-// of those four, with the floor at 2.
-fn seen_of_replaced(alloc: Global) -> Result<[u64; 3], OutOfMemory> {
-    let mut table = added(alloc)?;
+// Adds an element of connection 2 at number 3 from another table.
+fn add_other(alloc: Global, table: &mut Table) -> Result<(), OutOfMemory>
+    requires { table.old.floor ≡ 0 }
+    ensures { table.new.floor ≡ table.old.floor }
+{
+    let mut other = Table::new(alloc);
+    other.insert(3, 2, 1)?;
+    table.add_all(&other)
+}
+
+// Puts three elements that connection 2 removed at number 5 in the place of those four.
+fn replace_four(alloc: Global, table: &mut Table) -> Result<(), OutOfMemory>
+    requires { table.old.floor ≡ 0 }
+    ensures { table.new.floor ≡ table.old.floor }
+{
+    let e = element(alloc);
     let mut removed = element(alloc);
     removed.dels.push(Stamp::Acked { seq: 5, conn: 2 })?;
-    table.replace(&element(alloc), 4, &removed, 3)?;
+    table.replace(&e, 4, &removed, 3)
+}
+
+// What three perspectives see of all these with the floor at 2.
+fn seen_of_replaced(alloc: Global) -> Result<[u64; 3], OutOfMemory> {
+    let mut table = Table::new(alloc);
+    add_four(alloc, &mut table)?;
+    add_other(alloc, &mut table)?;
+    replace_four(alloc, &mut table)?;
     table.fold_to(2);
     Ok([
         table.length(Perspective { r: 4, c: 9 }),
