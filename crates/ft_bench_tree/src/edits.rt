@@ -5,6 +5,7 @@ ghost use Rattle.ft_text_steps.specs.Passing.{HasNoChanges};
 
 use ft_base::{Perspective, Steps};
 use ft_block::LenView;
+use ft_rebase::regenerate;
 use ft_text_steps::texts::{acknowledge, hear, strike, write};
 use ft_text_steps::{Numbers, StepFault};
 use ft_tree::{TextContent, Tree};
@@ -25,6 +26,8 @@ pub struct Counts {
     pub removals: u32,
     /// Insertions of the client, each of a stage of its own.
     pub insertions: u32,
+    /// Stages that are regenerated.
+    pub regenerations: u32,
     /// Stages that are acknowledged.
     pub acknowledgements: u32,
 }
@@ -36,6 +39,8 @@ pub struct Answer {
     pub length: u64,
     /// How many elements were ever made.
     pub made: u64,
+    /// How many pieces the regenerated stages had.
+    pub pieces: u64,
 }
 
 /// How many connections take turns.
@@ -148,11 +153,24 @@ fn written<G: Ledger>(
     Ok(())
 }
 
-// Acknowledges so many stages, the first of them under this number.
+// Regenerates so many stages, and tells how many pieces they have.
+fn regenerated(tree: &Tree<TextContent>, regenerations: u32) -> Result<u64, StepFault>
+    requires { IsTrue tree.now.usable }
+{
+    let mut pieces: u64 = 0;
+    for i in 0..regenerations {
+        let found = regenerate(tree, u64::from(i) + 1)?;
+        pieces = pieces.saturating_add(found.len() as u64);
+    }
+    Ok(pieces)
+}
+
+// Acknowledges so many stages, the first of them under the number after this one, and raises the floor behind them.
 fn acknowledged(
     tree: &mut Tree<TextContent>,
     acknowledgements: u32,
-    seq: u32,
+    last: u32,
+    window: u32,
 ) -> Result<(), StepFault>
     requires usable { IsTrue tree.old.usable }
     requires calm { HasNoChanges tree.old }
@@ -160,7 +178,10 @@ fn acknowledged(
 {
     for i in 0..acknowledgements {
         let stage = u64::from(i) + 1;
-        acknowledge(tree, stage, u64::from(seq) + stage)?;
+        let seq = u64::from(last) + stage;
+        acknowledge(tree, stage, seq)?;
+        let floor = seq.saturating_sub(u64::from(window)).max(tree.floor());
+        tree.raise_floor(floor);
     }
     Ok(())
 }
@@ -196,10 +217,17 @@ fn run_on<G: Ledger>(alloc: Global, counts: &Counts, blank: Blank) -> Result<Ans
         &mut numbers,
         &mut steps,
     )?;
-    acknowledged(&mut tree, counts.acknowledgements, counts.elements)?;
+    let pieces = regenerated(&tree, counts.regenerations)?;
+    acknowledged(
+        &mut tree,
+        counts.acknowledgements,
+        counts.elements,
+        counts.window,
+    )?;
     Ok(Answer {
         length: tree.length(LOCAL),
         made: tree.made(),
+        pieces,
     })
 }
 

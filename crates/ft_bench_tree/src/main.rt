@@ -2,8 +2,9 @@
 //!
 //! The words are the number of elements put in by senders who lag behind, of sequence numbers above the
 //! floor, of references, of removals by other connections, of insertions of the client, each of a stage of
-//! its own, and of these stages that are acknowledged. Written are the number of elements that the client
-//! sees at the end and of those that were ever made.
+//! its own, of these stages that are regenerated, and of those that are acknowledged. Written are the number
+//! of elements that the client sees at the end, of those that were ever made, and of the pieces of the
+//! regenerated stages.
 #![tactic(auto)]
 
 mod edits;
@@ -27,9 +28,10 @@ fn main(rt: HostRuntime) -> Result<(), Error> {
         references: number(words.next())?,
         removals: number(words.next())?,
         insertions: number(words.next())?,
+        regenerations: number(words.next())?,
         acknowledgements: number(words.next())?,
     };
     let answer = edits::run(rt.alloc(), &counts)?;
-    println!(rt; "{} {}", answer.length, answer.made)?;
+    println!(rt; "{} {} {}", answer.length, answer.made, answer.pieces)?;
     Ok(())
 }
