@@ -46,9 +46,6 @@ module _ {L : Type 0} where
       at_place None = Unit {0}
       at_place (Some y) = IsPlaceIn xs y.leaf
 
-  put_here : (v : L) (ps : List (ℕ × L)) (at : ℕ) (new : ℕ × L) → put_leaf_after ((at, v) ∷ ps) at new ≡ (at, v) ∷ new ∷ put_leaf_after ps at new
-  put_here v ps at new = cond-true (eqb at at) _ _ (eq-eqb at at refl)
-
   put_later : (y : ℕ) (v : L) (ps : List (ℕ × L)) (at : ℕ) (new : ℕ × L) → y ≢ at → put_leaf_after ((y, v) ∷ ps) at new ≡ (y, v) ∷ put_leaf_after ps at new
   put_later y v ps at new d = cond-false (eqb y at) _ _ (ne_eqb y at d)
 

@@ -30,9 +30,6 @@ module _ {L : Type 0} (a0 a1 a2 a3 s : Forest L Summary) (id top : ℕ) (leaf : 
   o_entry2 : entry a2 id ≡ Some record { node = Leaf leaf; parent = None }
   o_entry2 = c2.others id o_apart ∙ c1.changed
 
-  o_kind_id : kind_of s id ≡ Some None
-  o_kind_id = o_kind id ∙ ap kind_of_entry o_entry2
-
   o_none2 : (x : ℕ) → x ≢ id → x ≢ top → entry a2 x ≡ None
   o_none2 x d n = c2.others x n ∙ c1.others x d ∙ bare x
 

@@ -4,7 +4,7 @@ use Rattle.std.proofs.lemmas.Bool.{cases_eq}
 use Rattle.std.specs.List.{flat_map}
 use Rattle.ft_arena.specs.declared.nodes.Node.{Node}
 use Rattle.ft_arena.specs.declared.nodes.Node.TheVariants.{Leaf, Block}
-use Rattle.ft_arena.specs.Ids.{times, points, insert_after}
+use Rattle.ft_arena.specs.Ids.{times, insert_after}
 use Rattle.ft_arena.specs.Forest.{Forest, Entry, IsForest, entry, kids_of, parent_of, block_value, leaf_value, leaf_of_entry, leaf_of_node}
 use Rattle.ft_arena.proofs.IdLemmas.{same_refl, same_other, times-append}
 use Rattle.ft_block.specs.declared.summaries.Summary.{Summary}
@@ -143,19 +143,6 @@ module _ {L : Type 0} (s : Forest L Summary) (root at new step : ℕ) (ed : List
     -- the place beside a child, found by its number
     pub gr_place : (i : ℕ) → slice_get (kids_of s p) i ≡ Some at → insert (kids_of s p) (i + step) new ≡ ed (kids_of s p)
     gr_place i h = E.places (kids_of s p) i h (omega (arith, gr_child))
-
-    pub gr_apart : times (kids_of s p) p ≡ 0
-    gr_apart = g.shape.forest.child_once p p ∙ none (parent_of s p) refl
-      where
-        none : (o : Option ℕ) → parent_of s p ≡ o → points o p ≡ 0
-        none None e = refl
-        none (Some b) e = elim (cases_eq b p) [
-          | inl c ↦ absurd (omega (arith, g.shape.heights p b e, ap (height_of s) c))
-          | inr d ↦ same_other b p d
-        ]
-
-    pub gr_differ : new ≢ p
-    gr_differ = λ e. omega (arith, ap (height_of s) e, g.level, gr_high)
 
     module _ (measure : Measure L) (sums : SumsBut measure s (parent_of s at)) where
       pub gr_fits : total (length_of measure s) (ed (kids_of s p)) ≤ total (length_of measure s) s.leaves

@@ -269,9 +269,6 @@ module _ {L : Type 0} where
     | inr d ↦ omega (arith, after_is_in ps x n (sym (after_later p.0 (ids ps) x d) ∙ e))
   ]
 
-  value_after_here : (x : ℕ) (v : L) (ps : List (ℕ × L)) → value_after ((x, v) ∷ ps) x ≡ first_value ps
-  value_after_here x v ps = cond-true (eqb x x) _ _ (eq-eqb x x refl)
-
   value_after_later : (y : ℕ) (v : L) (ps : List (ℕ × L)) (x : ℕ) → y ≢ x → value_after ((y, v) ∷ ps) x ≡ value_after ps x
   value_after_later y v ps x d = cond-false (eqb y x) _ _ (ne_eqb y x d)
 

@@ -80,9 +80,6 @@ module _ {L : Type 0} (s : Forest L Summary) (root : ℕ) (extra : Option ℕ) {
   pub kid_parent : (b k : ℕ) → 1 ≤ times (kids_of s b) k → parent_of s k ≡ Some b
   kid_parent b k h = points_some (parent_of s k) b (omega (arith, t.forest.child_once b k))
 
-  pub kid_live : (b k : ℕ) → 1 ≤ times (kids_of s b) k → IsSome (entry s k)
-  kid_live b k h = live_from_parent (entry s k) b (kid_parent b k h)
-
   -- a child is one level below its block
   pub steps_down : (b k : ℕ) → 1 ≤ times (kids_of s b) k → height_of s b ≡ height_of s k + 1
   steps_down b k h = t.heights k b (kid_parent b k h)

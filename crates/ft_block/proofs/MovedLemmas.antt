@@ -83,9 +83,6 @@ two_members (z ∷ []) x y d m n = elim (cases_eq z x) [
 ]
 two_members (z ∷ w ∷ zs) x y d m n = omega arith
 
-pub leaf_in : {L : Type 0} (s : Forest L Summary) → IsForest s → (x : ℕ) → IsSome (leaf_value s x) → 1 ≤ times s.leaves x
-leaf_in s f x h = omega (arith, f.leaf_once x, counted (leaf_value s x) h)
-
 -- a list in which one is moved is as long by any measure
 pub list_total : {L : Type 0} (s : Forest L Summary) → IsForest s → (f : ℕ → ℕ) (id : ℕ) (at : Option ℕ) → IsSome (leaf_value s id) → IsPlace s at → at ≢ Some id
     → total f (put_after (without s.leaves id) at id) ≡ total f s.leaves

@@ -279,9 +279,6 @@ module _ {L : Type 0} (s : Forest L Summary) (up front rear : ℕ) (forest : IsF
     mg_rear_kids1 = no_kids (kids_of s1 rear)
         (omega (arith, ap length r.joined, length-append (kids_of s1 front) (kids_of s1 rear), length-append (kids_of s front) (kids_of s rear), r.count, all))
 
-    pub mg_rear_empty : kids_of s2 rear ≡ []
-    mg_rear_empty = t.other_kids rear (λ e. pr_up_rear (sym e)) ∙ mg_rear_kids1
-
     mg_rear_dead : entry s3 rear ≡ None
     mg_rear_dead = c.changed
 

@@ -30,9 +30,6 @@ module _ {L : Type 0} (s s' : Forest L Summary) (root id up front rear block : �
   sh_low : height_of s up ≤ height_of s root
   sh_low = a.shape.low up sh_up_live
 
-  sh_up_front : up ≢ front
-  sh_up_front = λ e. omega (arith, sh_front_high, ap (height_of s) e)
-
   sh_up_rear : up ≢ rear
   sh_up_rear = λ e. omega (arith, sh_rear_high, ap (height_of s) e)
 
@@ -41,9 +38,6 @@ module _ {L : Type 0} (s s' : Forest L Summary) (root id up front rear block : �
 
   sh_root_front : root ≢ front
   sh_root_front = λ e. cc (ap (parent_of s) e, a.shape.root_is_top, front_up)
-
-  sh_id_rear : id ≢ rear
-  sh_id_rear = λ e. cc (ap (parent_of s) e, a.top, rear_up)
 
   sh_root_live : IsSome (entry s' root)
   sh_root_live = r.live root sh_root_rear (block_live (entry s root) a.shape.root_is_block)

@@ -85,10 +85,6 @@ module _ {L : Type 0} where
         other_kids = λ x _ d. p.other_kids x d;
       }
 
-block_kind : {L : Type 0} (o : Option (Entry L Summary)) (ks : List ℕ) (v : Summary) (p : Option ℕ) → o ≡ Some record { node = Block ks v; parent = p }
-    → kind_of_entry o ≡ Some (Some v.height)
-block_kind {L} o ks v p e = ap kind_of_entry e
-
 module _ {L : Type 0} (measure : Measure L) (a0 a1 a2 a3 : Forest L Summary) (block place id rear height : ℕ) (z : Summary) (is_high : z.height ≡ height)
     (forest : IsForest a0) (is_block : IsSome (block_value a0 block)) (full : length (kids_of a0 block) ≡ 8) (id_live : IsSome (entry a0 id))
     (apart : times (kids_of a0 block) block ≡ 0) (differ : id ≢ block) (fits : total (length_of measure a0) (insert (kids_of a0 block) place id) < 2 ^ 64)

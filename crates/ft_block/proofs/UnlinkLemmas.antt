@@ -4,7 +4,7 @@ use Rattle.std.proofs.Common.{inr, arith, append-nil, eqb}
 use Rattle.std.proofs.lemmas.Bool.{cases_eq, cases_lt, cond-true, cond-false, eq-eqb, ne_eqb}
 use Rattle.std.proofs.Math.Nat.{pow-le-pow_right}
 use Rattle.std.specs.List.{flat_map}
-use Rattle.ft_arena.specs.Ids.{times, without, first, after}
+use Rattle.ft_arena.specs.Ids.{times, without, after}
 use Rattle.ft_arena.specs.Forest.{Forest, Entry, IsForest, Changes, TakesChild, entry, kids_of, parent_of, block_value, leaf_value, leaf_of_entry, block_of_entry}
 use Rattle.ft_arena.specs.Forest.{kids_of_entry, parent_of_entry}
 use Rattle.ft_arena.proofs.IdLemmas.{same_refl, same_other}
@@ -19,21 +19,6 @@ use Rattle.ft_block.proofs.KindLemmas.{block_live, kind_from_values}
 use Rattle.ft_block.proofs.InsertLemmas.{leaf_height, leaf_kids, leaf_block}
 use Rattle.ft_block.proofs.FitLemmas.{leaves_live}
 use Rattle.ft_block.proofs.PairLemmas.{block_no_leaf}
-
--- a list that begins and ends with x
-pub alone : (xs : List ℕ) (x : ℕ) → Some x ≡ first xs → after xs x ≡ None → xs ≡ x ∷ []
-alone [] x e h = cc
-alone (y ∷ ys) x e h =
-    let q : y ≡ x = cc e in
-    let a : first ys ≡ None = sym (after_head y ys) ∙ ap (after (y ∷ ys)) q ∙ h in
-    ap (λ zs. y ∷ zs) (no_first ys a) ∙ ap (λ z. z ∷ []) q
-  where
-    after_head : (y : ℕ) (ys : List ℕ) → after (y ∷ ys) y ≡ first ys
-    after_head y ys = cond-true (eqb y y) _ _ (eq-eqb y y refl)
-
-    no_first : (ys : List ℕ) → first ys ≡ None → ys ≡ []
-    no_first [] h = refl
-    no_first (z ∷ zs) h = cc
 
 -- a list in which something stands after or before another
 pub more_after : (xs : List ℕ) (x y : ℕ) → after xs x ≡ Some y → 2 ≤ length xs
@@ -65,9 +50,6 @@ module _ {L : Type 0} (s0 : Forest L Summary) (root id : ℕ) (t : IsTree s0 roo
   ls_kids =
       let e : height_of s0 root ≡ suc zero = omega (arith, ls_high) in
       sym (append-nil (kids_of s0 root)) ∙ ap (λ (n : ℕ). below s0 n (root ∷ [])) (sym e) ∙ sym t.leaves ∙ only
-
-  ls_parent : parent_of s0 id ≡ Some root
-  ls_parent = points_some (parent_of s0 id) root (omega (arith, t.shape.forest.child_once root id, ap (λ ks. times ks id) ls_kids, same_refl id))
 
   pub ls_differ : root ≢ id
   ls_differ = λ e. omega (arith, ls_high, ap (height_of s0) e, leaf_height (entry s0 id) ls_live)

@@ -1,15 +1,10 @@
 -- The two ends of a pair, one after the other, where they aren't one reference.
-use Rattle.std.proofs.Common.{◌≡◌, ℕ, ◌≤◌, Bool, true, false, cond, ◌||◌, nat_eq, [], ◌∷◌, List, Option, Some, None, IsSome, option_map, refl, sym, ◌∙◌, ap, subst, arith}
+use Rattle.std.proofs.Common.{◌≡◌, ℕ, ◌≤◌, Bool, true, false, cond, ◌||◌, nat_eq, [], ◌∷◌, Option, Some, None, IsSome, refl, sym, ◌∙◌, ap, subst, arith}
 use Rattle.std.proofs.lemmas.Bool.Decides.{nat_tests}
 use Rattle.ft_base.specs.Scan.{len, one_more_if}
 use Rattle.ft_leaves.specs.declared.references.Reference.{Reference}
-use Rattle.ft_leaves.specs.Elements.{TreeElement}
-use Rattle.ft_leaves.specs.References.{reference_at, slid_reference}
+use Rattle.ft_leaves.specs.References.{reference_at}
 use Rattle.ft_interval.specs.Ends.{IsLiveEnd, References, is_reference}
-
--- a reference, if it is live, as acknowledged and where it slides
-abbrev pub settled_one : {U : Type 0} → List (TreeElement U) → Option Reference → Option Reference
-settled_one xs o = option_map (λ x. slid_reference xs (record x { acked = true })) o
 
 -- what two calls make of one reference, each of its own end alone
 pub both-changed : (f : Option Reference → Option Reference) (before mid after : Option Reference) (s t : Bool) → one_more_if s (one_more_if t 0) ≤ 1

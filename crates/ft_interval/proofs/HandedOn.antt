@@ -60,10 +60,6 @@ held r e = by (is_reference r e.start) (is_reference r e.end)
     by false true = refl
     by false false = refl
 
--- the references of three groups of ends, taken out in turn: those of the operation become what f makes of them
-abbrev pub handed : (Reference → Reference) → EndPair ℕ → EndPair ℕ → EndPair ℕ → ℕ → Option Reference → Option Reference
-handed f ends unused lost r o = cond (holds_end r lost) None (cond (holds_end r unused) None (cond (holds_end r ends) (option_map f o) o))
-
 module _ {U : Type 0} (xs : List (TreeElement U)) where
   -- a reference as it is settled
   abbrev pub settled_reference : Reference → Reference

@@ -5,7 +5,7 @@ use Rattle.std.specs.declared.cmp.Ordering.{Ordering}
 use Rattle.std.specs.declared.cmp.Ordering.TheVariants.{Less, Equal, Greater}
 use Rattle.std.specs.List.{insert, remove}
 use Rattle.std.specs.List.Sorted.{IsSearchInRange, IsBinarySearchResult, IsNonDecreasingBy}
-use Rattle.std.proofs.lemmas.Cmp.{nat_list_cmp_total, tied_itself, tied_back, on_total, then_total}
+use Rattle.std.proofs.lemmas.Cmp.{nat_list_cmp_total, tied_back, on_total, then_total}
 use Rattle.std.specs.Cmp.{IsTotalOrder}
 use Rattle.std.proofs.lemmas.Map.Lookups.{exact_bytes}
 use Rattle.ft_props.specs.Keys.{put_rising, text_cmp}
@@ -16,9 +16,6 @@ use Rattle.ft_interval.specs.Intervals.{Name, IsBeforeNames, NamesRise, interval
 
 name_cmp-total : IsTotalOrder name_cmp
 name_cmp-total = then_total (on_total (λ (n : Name). n.0) nat_list_cmp_total) (on_total (λ (n : Name). n.1) nat_list_cmp_total)
-
-pub name_cmp-same : (a : Name) → name_cmp a a ≡ Equal
-name_cmp-same a = tied_itself name_cmp-total a
 
 both_equal : (o p : Ordering) → ordering_then o p ≡ Equal → (o ≡ Equal) × (p ≡ Equal)
 both_equal Less p h = absurd cc

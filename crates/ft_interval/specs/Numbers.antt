@@ -34,10 +34,6 @@ module _ {U : Type 0} (xs : List (TreeElement U)) where
   abbrev pub number_of : ℕ → Option ℕ → Option ℕ
   number_of k end = option_map (seen_before (seen_in (Stage k)) xs) end
 
-  -- an end as it is settled at stage k, as a number
-  abbrev pub settled_number_of : ℕ → Option ℕ → Option ℕ
-  settled_number_of k end = number_of k (settled_end xs k end)
-
   -- a number is below the count of what stage k sees
   abbrev pub IsInside : ℕ → Option ℕ → Type 0
   IsInside k None = ⊤

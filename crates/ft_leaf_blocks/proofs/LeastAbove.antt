@@ -2,7 +2,7 @@
 use Rattle.std.proofs.Common.{◌≡◌, ℕ, ◌<◌, ◌≤◌, All, Bool, true, false, cond, ◌||◌, List, [], ◌∷◌, ◌++◌, flat_map, inl, inr, length, map, Option, Some, None, refl, sym, ◌∙◌, ap, arith, nat_eq, nat_lt}
 use Rattle.std.specs.Prelude.{⊤}
 use Rattle.std.specs.List.{filter_map, list_any}
-use Rattle.std.proofs.lemmas.Bool.{cases_eq, eq-eqb, ne_eqb}
+use Rattle.std.proofs.lemmas.Bool.{cases_eq, eq-eqb, ne_eqb, or_cases, or_left, or_right}
 use Rattle.std.proofs.lemmas.Bool.Decides.{nat_tests}
 use Rattle.std.proofs.lemmas.List.Elements.{All-head, All-tail}
 use Rattle.ft_base.specs.declared.elements.Element.{Element as ElementStamps}
@@ -20,7 +20,7 @@ use Rattle.ft_leaf_blocks.specs.declared.next_stages.Wanted.TheVariants.{Anythin
 use Rattle.ft_leaf_blocks.specs.Touched.{holds}
 use Rattle.ft_leaf_blocks.specs.Wanted.{IsLeastStage, has_wanted, is_wanted_at, is_wanted_by}
 use Rattle.ft_leaf_blocks.proofs.AckedNodes.{of_first, of_rest}
-use Rattle.ft_leaf_blocks.proofs.TouchedLists.{eq_from, eq_to, holds-append, or_again, or_assoc, or_either, or_left, or_right}
+use Rattle.ft_leaf_blocks.proofs.TouchedLists.{eq_from, eq_to, holds-append, or_again, or_assoc}
 
 -- the number, if there is one, isn't below m
 abbrev IsFrom : ℕ → Option ℕ → Type 0
@@ -63,7 +63,7 @@ numbers_reach : (m k : ℕ) (ns : List ℕ) → k < m → ((j : ℕ) → k < j �
 numbers_reach m k [] lt low t = (cc)
 numbers_reach m k (n ∷ ns) lt low t =
     let rest : (i : ℕ) → k < i → holds ns i ≡ true → m ≤ i = λ i up h. low i up (or_right (nat_eq n i) (holds ns i) h) in
-    elim (or_either (nat_eq n m) (holds ns m) t) [
+    elim (or_cases (nat_eq n m) (holds ns m) t) [
       | inl own ↦ here_by m k n (nat_lt k n) (least_above k ns) refl lt (eq_from n m own) (numbers_from m k ns rest)
       | inr more ↦ there_by m k n (nat_lt k n) (least_above k ns) refl
           (λ up. low n up (or_left (nat_eq n n) (holds ns n) (eq_to n))) (numbers_reach m k ns lt rest more)
@@ -92,7 +92,7 @@ module _ {L : Type 0} (test : L → Bool) where
   any-value : (xs : List (ℕ × L)) → ((i : ℕ) → times_leaf xs i ≤ 1) → list_any (λ x. test x.1) xs ≡ true
       → (z : ℕ) × (v : L) × (value_at xs z ≡ Some v) × (test v ≡ true)
   any-value [] once h = (cc)
-  any-value (x ∷ xs) once h = elim (or_either (test x.1) (list_any (λ y. test y.1) xs) h) [
+  any-value (x ∷ xs) once h = elim (or_cases (test x.1) (list_any (λ y. test y.1) xs) h) [
     | inl here ↦ (x.0, x.1, of_first x xs, here)
     | inr more ↦
         let rest = any-value xs (λ i. omega (arith, once i)) more in
@@ -157,7 +157,7 @@ leaf-held j x =
     ∙ ap (λ b. b || changed) (stages-held j (x.stamps.ins ∷ x.stamps.dels))
     ∙ sym (or_assoc (is_of_stage j x.stamps.ins) (list_any (is_of_stage j) x.stamps.dels) changed)
 
-pending-held : {C : Type 0} (j : ℕ) (xs : List (ℕ × TreeLeaf C)) → holds (flat_map (λ x. stages_on x.1) xs) j ≡ list_any (λ x. is_touched_by j x.1) xs
+pub pending-held : {C : Type 0} (j : ℕ) (xs : List (ℕ × TreeLeaf C)) → holds (flat_map (λ x. stages_on x.1) xs) j ≡ list_any (λ x. is_touched_by j x.1) xs
 pending-held j [] = refl
 pending-held {C} j (x ∷ xs) =
     let rest = flat_map (λ (y : ℕ × TreeLeaf C). stages_on y.1) xs in

@@ -16,7 +16,7 @@ mod NotedLeaves
 mod TouchedLists
 mod TrackedSteps
 mod AckedNodes
-mod LeastAbove
+pub mod LeastAbove
 mod StageSearch
 mod OrderedNodes
 mod KeptRefs

@@ -3,7 +3,7 @@ use Rattle.std.proofs.Common.{◌≡◌, ◌≢◌, ℕ, suc, ◌+◌, ◌<◌, 
 use Rattle.std.specs.Prelude.{⊤}
 use Rattle.std.specs.List.{AllByRecursion}
 use Rattle.std.specs.List.Sorted.{IsNonDecreasingBy, IsPermutation}
-use Rattle.std.proofs.lemmas.Bool.{cases_eq, eq-eqb, ne_eqb}
+use Rattle.std.proofs.lemmas.Bool.{and_parts, cases_eq, eq-eqb, ne_eqb, or_cases, or_left, or_right}
 use Rattle.std.proofs.lemmas.List.{drop_more}
 use Rattle.std.proofs.lemmas.List.Elements.{All-from_recursion, All-head, All-tail, recursion_from_All}
 use Rattle.std.proofs.lemmas.List.Sorted.{All-permutation, IsPermutation-map, list_any-IsPermutation}
@@ -14,11 +14,11 @@ use Rattle.ft_leaves.specs.declared.leaves.TreeLeaf.{TreeLeaf}
 use Rattle.ft_leaves.specs.Edits.{is_touched_by, touched_nodes}
 use Rattle.ft_leaves.specs.LeafLists.{leaf_length}
 use Rattle.ft_leaf_blocks.specs.declared.next_stages.Wanted.TheVariants.{Anything}
-use Rattle.ft_leaf_blocks.specs.StageLeaves.{count_left, is_given_node, touched_places, unrepeated}
+use Rattle.ft_leaf_blocks.specs.StageLeaves.{elements_left, is_given_node, touched_places, unrepeated}
 use Rattle.ft_leaf_blocks.specs.Touched.{holds}
 use Rattle.ft_leaf_blocks.specs.Wanted.{is_wanted_at, is_wanted_by}
 use Rattle.ft_leaf_blocks.proofs.AckedNodes.{all-held}
-use Rattle.ft_leaf_blocks.proofs.TouchedLists.{and_both, eq_from, eq_to, holds-filter, or_again, or_either, or_left, or_right}
+use Rattle.ft_leaf_blocks.proofs.TouchedLists.{eq_from, eq_to, holds-filter, or_again}
 
 module _ (f : ℕ → ℕ) where
   -- the numbers of the nodes rise
@@ -33,7 +33,7 @@ module _ (f : ℕ → ℕ) where
 
   above : (n z : ℕ) (ns : List ℕ) → AllByRecursion (λ m. f n < f m) ns → holds ns z ≡ true → f n < f z
   above n z [] h t = (cc)
-  above n z (m ∷ ns) h t = elim (or_either (nat_eq m z) (holds ns z) t) [
+  above n z (m ∷ ns) h t = elim (or_cases (nat_eq m z) (holds ns z) t) [
     | inl here ↦ omega (arith, ap f (eq_from m z here), h.0)
     | inr more ↦ above n z ns h.1 more
   ]
@@ -43,9 +43,9 @@ module _ (f : ℕ → ℕ) where
 
   first_is : (n m : ℕ) (ns ms : List ℕ) → RiseBy (n ∷ ns) → RiseBy (m ∷ ms) → ((z : ℕ) → holds (n ∷ ns) z ≡ holds (m ∷ ms) z) → n ≡ m
   first_is n m ns ms hn hm same =
-      elim (or_either (nat_eq m n) (holds ms n) (sym (same n) ∙ or_left (nat_eq n n) (holds ns n) (eq_to n))) [
+      elim (or_cases (nat_eq m n) (holds ms n) (sym (same n) ∙ or_left (nat_eq n n) (holds ns n) (eq_to n))) [
         | inl e ↦ sym (eq_from m n e)
-        | inr low ↦ elim (or_either (nat_eq n m) (holds ns m) (same m ∙ or_left (nat_eq m m) (holds ms m) (eq_to m))) [
+        | inr low ↦ elim (or_cases (nat_eq n m) (holds ns m) (same m ∙ or_left (nat_eq m m) (holds ms m) (eq_to m))) [
           | inl e ↦ eq_from n m e
           | inr high ↦ absurd (omega (arith, above m n ms hm.0 low, above n m ns hn.0 high))
         ]
@@ -177,14 +177,14 @@ rises-moved f g c (n ∷ ns) same h =
 
 -- the nodes of the leaves that have something of a stage
 module _ {C U : Type 0} (units : C → List U) where
-  left-here : (x : ℕ × TreeLeaf C) (xs : List (ℕ × TreeLeaf C)) (z : ℕ) → x.0 ≡ z → count_left units (x ∷ xs) z ≡ 0
+  left-here : (x : ℕ × TreeLeaf C) (xs : List (ℕ × TreeLeaf C)) (z : ℕ) → x.0 ≡ z → elements_left units (x ∷ xs) z ≡ 0
   left-here x xs z e = ap (λ b. length_by (leaf_length units AllElements) (cond b [] (x ∷ left_of xs z))) (eq-eqb x.0 z e)
 
-  left-later : (x : ℕ × TreeLeaf C) (xs : List (ℕ × TreeLeaf C)) (z : ℕ) → x.0 ≢ z → count_left units (x ∷ xs) z ≡ length (units x.1.content) + count_left units xs z
+  left-later : (x : ℕ × TreeLeaf C) (xs : List (ℕ × TreeLeaf C)) (z : ℕ) → x.0 ≢ z → elements_left units (x ∷ xs) z ≡ length (units x.1.content) + elements_left units xs z
   left-later x xs z d = ap (λ b. length_by (leaf_length units AllElements) (cond b [] (x ∷ left_of xs z))) (ne_eqb x.0 z d)
 
   places-differ : (xs : List (ℕ × TreeLeaf C)) → All (λ x. 1 ≤ length (units x.1.content)) xs → (a b : ℕ) → IsLeafIn xs a → IsLeafIn xs b
-      → count_left units xs a ≡ count_left units xs b → a ≡ b
+      → elements_left units xs a ≡ elements_left units xs b → a ≡ b
   places-differ [] some a b la lb e = absurd (omega arith)
   places-differ (x ∷ xs) some a b la lb e =
       let one = All-head (λ (y : ℕ × TreeLeaf C). 1 ≤ length (units y.1.content)) x xs some in
@@ -204,7 +204,7 @@ module _ {C U : Type 0} (units : C → List U) where
   module _ (k : ℕ) where
     live_by : (b : Bool) (x : ℕ × TreeLeaf C) (xs ys : List (ℕ × TreeLeaf C)) (z : ℕ) → (holds (ids ys) z ≡ true → IsLeafIn xs z)
         → holds (ids (cond b (x ∷ ys) ys)) z ≡ true → IsLeafIn (x ∷ xs) z
-    live_by true x xs ys z live t = elim (or_either (nat_eq x.0 z) (holds (ids ys) z) t) [
+    live_by true x xs ys z live t = elim (or_cases (nat_eq x.0 z) (holds (ids ys) z) t) [
       | inl here ↦ subst (IsLeafIn (x ∷ xs)) (eq_from x.0 z here) (omega (arith, same_refl x.0))
       | inr more ↦ let rest = live more in omega (arith, rest)
     ]
@@ -229,15 +229,15 @@ module _ {C U : Type 0} (units : C → List U) where
     kept_by g false x ys all h = h
 
     touched-rises : (xs : List (ℕ × TreeLeaf C)) → ((i : ℕ) → times_leaf xs i ≤ 1) → All (λ x. 1 ≤ length (units x.1.content)) xs
-        → RiseBy (count_left units xs) (touched_nodes k xs)
+        → RiseBy (elements_left units xs) (touched_nodes k xs)
     touched-rises [] once some = tt
     touched-rises (x ∷ xs) once some =
         let one = All-head (λ (y : ℕ × TreeLeaf C). 1 ≤ length (units y.1.content)) x xs some in
-        let later : (z : ℕ) → holds (touched_nodes k xs) z ≡ true → count_left units (x ∷ xs) z ≡ length (units x.1.content) + count_left units xs z =
+        let later : (z : ℕ) → holds (touched_nodes k xs) z ≡ true → elements_left units (x ∷ xs) z ≡ length (units x.1.content) + elements_left units xs z =
         λ z t. left-later x xs z (other x xs z (once x.0) t) in
-        kept_by (count_left units (x ∷ xs)) (is_touched_by k x.1) x (filter (λ y. is_touched_by k y.1) xs)
-        (all_over (count_left units (x ∷ xs)) x.0 (touched_nodes k xs) (λ z t. omega (arith, one, left-here x xs x.0 refl, later z t)))
-        (rises-moved (count_left units xs) (count_left units (x ∷ xs)) (length (units x.1.content)) (touched_nodes k xs) later
+        kept_by (elements_left units (x ∷ xs)) (is_touched_by k x.1) x (filter (λ y. is_touched_by k y.1) xs)
+        (all_over (elements_left units (x ∷ xs)) x.0 (touched_nodes k xs) (λ z t. omega (arith, one, left-here x xs x.0 refl, later z t)))
+        (rises-moved (elements_left units xs) (elements_left units (x ∷ xs)) (length (units x.1.content)) (touched_nodes k xs) later
         (touched-rises xs (λ i. omega (arith, once i)) (All-tail (λ (y : ℕ × TreeLeaf C). 1 ≤ length (units y.1.content)) x xs some)))
 
     unheld : (b : Bool) → (b ≡ true → ⊥) → b ≡ false
@@ -278,7 +278,7 @@ pub touched-in_order : {C U : Type 0} (units : C → List U) (k : ℕ) (xs : Lis
     → ((z : ℕ) → is_wanted_at Anything xs k z ≡ true → holds ns z ≡ true) → IsPermutation (touched_places units xs k ns) ps → IsNonDecreasingBy (λ (p : ℕ × ℕ). p.0) ps
     → unrepeated None (map (λ (p : ℕ × ℕ). p.1) ps) ≡ touched_nodes k xs
 touched-in_order units k xs ns ps once some live covers moved up =
-    let f : ℕ → ℕ = count_left units xs in
+    let f : ℕ → ℕ = elements_left units xs in
     let P : ℕ → Type 0 = IsLeafIn xs in
     let Q : ℕ × ℕ → Type 0 = λ q. q.0 ≡ f q.1 in
     let test : ℕ → Bool = is_wanted_at Anything xs k in
@@ -286,7 +286,7 @@ touched-in_order units k xs ns ps once some live covers moved up =
     let places : List (ℕ × ℕ) = touched_places units xs k ns in
     let nodes : List ℕ = map (λ (q : ℕ × ℕ). q.1) ps in
     let kept : (z : ℕ) → holds found z ≡ (holds ns z && test z) = holds-filter test ns in
-    let all : AllByRecursion P found = recursion_from_All P found (all-held P found (λ z t. live z (and_both (holds ns z) (test z) (sym (kept z) ∙ t)).0)) in
+    let all : AllByRecursion P found = recursion_from_All P found (all-held P found (λ z t. live z (and_parts (holds ns z) (test z) (sym (kept z) ∙ t)).0)) in
     let both : AllByRecursion (λ (q : ℕ × ℕ). Q q × P q.1) ps =
     recursion_from_All (λ (q : ℕ × ℕ). Q q × P q.1) ps
     (All-permutation (λ (q : ℕ × ℕ). Q q × P q.1) places ps moved (All-from_recursion (λ (q : ℕ × ℕ). Q q × P q.1) places (pairs-all f P found all))) in
@@ -302,19 +302,19 @@ touched-in_order units k xs ns ps once some live covers moved up =
 module _ {C U : Type 0} (units : C → List U) (xs : List (ℕ × TreeLeaf C)) (k : ℕ) (ns : List ℕ) (i n : ℕ) (less : i < length ns) (is_next : n ≡ get_or ns i n) where
   abbrev places_by : Bool → List (ℕ × ℕ)
   places_by b =
-      map (λ m. (count_left units xs m, m))
+      map (λ m. (elements_left units xs m, m))
       (cond b (n ∷ filter (is_wanted_at Anything xs k) (drop (i + 1) ns)) (filter (is_wanted_at Anything xs k) (drop (i + 1) ns)))
 
   places_next : (b : Bool) → is_wanted_at Anything xs k n ≡ b → touched_places units xs k (drop i ns) ≡ places_by b
   places_next b h =
       ap (touched_places units xs k) (drop_more ns i n less ∙ ap (λ m. m ∷ drop (i + 1) ns) (sym is_next)) ∙ ap places_by h
 
-  pub places-with : (ps qs all : List (ℕ × ℕ)) (at : ℕ) → is_wanted_at Anything xs k n ≡ true → at ≡ count_left units xs n → qs ≡ ps ++ (at, n) ∷ []
+  pub places-with : (ps qs all : List (ℕ × ℕ)) (at : ℕ) → is_wanted_at Anything xs k n ≡ true → at ≡ elements_left units xs n → qs ≡ ps ++ (at, n) ∷ []
       → ps ++ touched_places units xs k (drop i ns) ≡ all → qs ++ touched_places units xs k (drop (i + 1) ns) ≡ all
   places-with ps qs all at h e new was =
       let rest = touched_places units xs k (drop (i + 1) ns) in
       ap (λ us. us ++ rest) (new ∙ ap (λ j. ps ++ (j, n) ∷ []) e)
-      ∙ append_assoc ps ((count_left units xs n, n) ∷ []) rest
+      ∙ append_assoc ps ((elements_left units xs n, n) ∷ []) rest
       ∙ ap (λ us. ps ++ us) (sym (places_next true h)) ∙ was
 
   pub places-without : (ps qs all : List (ℕ × ℕ)) → is_wanted_at Anything xs k n ≡ false → qs ≡ ps → ps ++ touched_places units xs k (drop i ns) ≡ all

@@ -2,7 +2,7 @@
 use Rattle.std.proofs.Common.{◌≡◌, ℕ, zero, suc, ◌<◌, true, false, ◌&&◌, Bool, List, [], ◌∷◌, inl, inr, drop, Some, refl, ◌∙◌, ap, arith, nat_eq, nat_lt}
 use Rattle.std.specs.List.{AllByRecursion, list_any}
 use Rattle.std.specs.Option.{IsSome}
-use Rattle.std.proofs.lemmas.Bool.{eq-eqb}
+use Rattle.std.proofs.lemmas.Bool.{and_from, and_parts, eq-eqb, or_cases, or_left, or_right}
 use Rattle.std.proofs.lemmas.Bool.Decides.{nat_tests}
 use Rattle.ft_block.specs.Leaves.{value_at}
 use Rattle.ft_leaves.specs.declared.leaves.TreeLeaf.{TreeLeaf}
@@ -12,7 +12,7 @@ use Rattle.ft_leaf_blocks.specs.declared.next_stages.Wanted.TheVariants.{Anythin
 use Rattle.ft_leaf_blocks.specs.Touched.{AreRising, NodesOfStage, Tracks, holds, is_listed, stages_below}
 use Rattle.ft_leaf_blocks.specs.Wanted.{IsLeastStage, has_wanted, is_wanted_at}
 use Rattle.ft_leaf_blocks.proofs.LeastAbove.{wanted_value}
-use Rattle.ft_leaf_blocks.proofs.TouchedLists.{and_both, both_and, eq_from, from-listed, or_either, or_left, or_right, rising-drop}
+use Rattle.ft_leaf_blocks.proofs.TouchedLists.{eq_from, from-listed, rising-drop}
 use Rattle.ft_leaf_blocks.proofs.TrackedSteps.{by_removals}
 
 wanted-touched : {C : Type 0} (w : Wanted) (k : ℕ) (x : TreeLeaf C) → has_wanted w k x ≡ true → is_touched_by k x ≡ true
@@ -22,11 +22,11 @@ wanted-touched Anything k x h = h
 -- one of the nodes passes a test
 pub passing : (p : ℕ → Bool) (ns : List ℕ) → list_any p ns ≡ true → (z : ℕ) × (p z ≡ true)
 passing p [] h = (cc)
-passing p (n ∷ ns) h = elim (or_either (p n) (list_any p ns) h) [ inl here ↦ (n, here) | inr rest ↦ passing p ns rest ]
+passing p (n ∷ ns) h = elim (or_cases (p n) (list_any p ns) h) [ inl here ↦ (n, here) | inr rest ↦ passing p ns rest ]
 
 pub held_passes : (p : ℕ → Bool) (ns : List ℕ) (z : ℕ) → holds ns z ≡ true → p z ≡ true → list_any p ns ≡ true
 held_passes p [] z h t = (cc)
-held_passes p (n ∷ ns) z h t = elim (or_either (nat_eq n z) (holds ns z) h) [
+held_passes p (n ∷ ns) z h t = elim (or_cases (nat_eq n z) (holds ns z) h) [
   | inl here ↦ or_left (p n) (list_any p ns) (ap p (eq_from n z here) ∙ t)
   | inr rest ↦ or_right (p n) (list_any p ns) (held_passes p ns z rest t)
 ]
@@ -34,8 +34,8 @@ held_passes p (n ∷ ns) z h t = elim (or_either (nat_eq n z) (holds ns z) h) [
 -- what is listed among later lists is of higher stages
 pub listed_above : (n : ℕ) (xs : List NodesOfStage) (j z : ℕ) → AllByRecursion (λ t. n < t.stage) xs → is_listed xs j z ≡ true → n < j
 listed_above n [] j z h l = (cc)
-listed_above n (x ∷ xs) j z h l = elim (or_either (nat_eq x.stage j && holds x.nodes z) (is_listed xs j z) l) [
-  | inl here ↦ omega (arith, eq_from x.stage j (and_both (nat_eq x.stage j) (holds x.nodes z) here).0, h.0)
+listed_above n (x ∷ xs) j z h l = elim (or_cases (nat_eq x.stage j && holds x.nodes z) (is_listed xs j z) l) [
+  | inl here ↦ omega (arith, eq_from x.stage j (and_parts (nat_eq x.stage j) (holds x.nodes z) here).0, h.0)
   | inr rest ↦ listed_above n xs j z h.1 rest
 ]
 
@@ -43,7 +43,7 @@ listed_above n (x ∷ xs) j z h l = elim (or_either (nat_eq x.stage j && holds x
 pub listed_first : (s : NodesOfStage) (xs : List NodesOfStage) (z : ℕ) → holds s.nodes z ≡ true → is_listed (s ∷ xs) s.stage z ≡ true
 listed_first s xs z h =
     or_left (nat_eq s.stage s.stage && holds s.nodes z) (is_listed xs s.stage z)
-    (both_and (nat_eq s.stage s.stage) (holds s.nodes z) (eq-eqb s.stage s.stage refl) h)
+    (and_from (nat_eq s.stage s.stage) (holds s.nodes z) (eq-eqb s.stage s.stage refl) h)
 
 listed_drop : (n : ℕ) (xs : List NodesOfStage) (j z : ℕ) → is_listed (drop n xs) j z ≡ true → is_listed xs j z ≡ true
 listed_drop zero xs j z l = l
@@ -54,14 +54,14 @@ module _ {C : Type 0} (w : Wanted) (xs : List (ℕ × TreeLeaf C)) (k : ℕ) (s 
     (listed : (j z : ℕ) → k < j → is_wanted_at w xs j z ≡ true → is_listed (s ∷ rest) j z ≡ true) where
   -- a list without a leaf that will do
   passed : (nat_lt k s.stage && list_any (is_wanted_at w xs s.stage) s.nodes) ≡ false → (j z : ℕ) → k < j → is_wanted_at w xs j z ≡ true → is_listed rest j z ≡ true
-  passed test j z lt t = elim (or_either (nat_eq s.stage j && holds s.nodes z) (is_listed rest j z) (listed j z lt t)) [
+  passed test j z lt t = elim (or_cases (nat_eq s.stage j && holds s.nodes z) (is_listed rest j z) (listed j z lt t)) [
     | inl here ↦
-        let both = and_both (nat_eq s.stage j) (holds s.nodes z) here in
+        let both = and_parts (nat_eq s.stage j) (holds s.nodes z) here in
         let same : s.stage ≡ j = eq_from s.stage j both.0 in
         let mark : is_wanted_at w xs s.stage z ≡ true = ap (λ i. is_wanted_at w xs i z) same ∙ t in
         let higher : nat_lt k s.stage ≡ true = grind (arith, nat_tests, same, lt) in
         let found : (nat_lt k s.stage && list_any (is_wanted_at w xs s.stage) s.nodes) ≡ true =
-        both_and (nat_lt k s.stage) (list_any (is_wanted_at w xs s.stage) s.nodes) higher (held_passes (is_wanted_at w xs s.stage) s.nodes z both.1 mark) in
+        and_from (nat_lt k s.stage) (list_any (is_wanted_at w xs s.stage) s.nodes) higher (held_passes (is_wanted_at w xs s.stage) s.nodes z both.1 mark) in
         (cc)
     | inr more ↦ more
   ]
@@ -70,11 +70,11 @@ module _ {C : Type 0} (w : Wanted) (xs : List (ℕ × TreeLeaf C)) (k : ℕ) (s 
   pub reached : AllByRecursion (λ t. s.stage < t.stage) rest → (nat_lt k s.stage && list_any (is_wanted_at w xs s.stage) s.nodes) ≡ true
       → IsLeastStage k (is_wanted_at w xs) (Some s.stage)
   reached above test =
-      let both = and_both (nat_lt k s.stage) (list_any (is_wanted_at w xs s.stage) s.nodes) test in (
+      let both = and_parts (nat_lt k s.stage) (list_any (is_wanted_at w xs s.stage) s.nodes) test in (
         grind (arith, nat_tests, both.0),
         passing (is_wanted_at w xs s.stage) s.nodes both.1,
-        λ j z lt t. elim (or_either (nat_eq s.stage j && holds s.nodes z) (is_listed rest j z) (listed j z lt t)) [
-          | inl here ↦ omega (arith, eq_from s.stage j (and_both (nat_eq s.stage j) (holds s.nodes z) here).0)
+        λ j z lt t. elim (or_cases (nat_eq s.stage j && holds s.nodes z) (is_listed rest j z) (listed j z lt t)) [
+          | inl here ↦ omega (arith, eq_from s.stage j (and_parts (nat_eq s.stage j) (holds s.nodes z) here).0)
           | inr more ↦ omega (arith, listed_above s.stage rest j z above more)
         ],
       )

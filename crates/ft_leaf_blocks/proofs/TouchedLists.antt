@@ -1,9 +1,9 @@
 -- What a note, an heir, a purge and the taking of a stage make of the lists of nodes by stage.
-use Rattle.std.proofs.Common.{◌≡◌, ◌≢◌, ℕ, suc, ◌+◌, ◌<◌, ◌≤◌, zero, Bool, true, false, cond, not, ◌&&◌, ◌||◌, nat_eq, nat_lt, List, [], ◌∷◌, ◌++◌, Option, Some, None, drop, filter, length, map, get_or, insert, refl, sym, subst, ◌∙◌, ◌⊎◌, inl, inr, ap, arith}
+use Rattle.std.proofs.Common.{◌≡◌, ◌≢◌, ℕ, suc, ◌+◌, ◌<◌, ◌≤◌, zero, Bool, true, false, cond, not, ◌&&◌, ◌||◌, nat_eq, nat_lt, List, [], ◌∷◌, ◌++◌, Option, Some, None, drop, filter, length, map, get_or, insert, refl, sym, subst, ◌∙◌, inl, inr, ap, arith}
 use Rattle.std.specs.List.{AllByRecursion, prefix_len, remove, slice_get}
 use Rattle.std.specs.List.Sorted.{IsPartitionedBy, IsPartitionPoint}
 use Rattle.std.specs.Prelude.{slice_set}
-use Rattle.std.proofs.lemmas.Bool.{cases_eq, eq-eqb, ne_eqb}
+use Rattle.std.proofs.lemmas.Bool.{and_from, and_parts, cases_eq, eq-eqb, ne_eqb, or_cases, or_left, or_right}
 use Rattle.std.proofs.lemmas.Bool.Decides.{nat_tests}
 use Rattle.std.proofs.lemmas.Option.{get_or_from_slice_get}
 use Rattle.ft_leaf_blocks.specs.Touched.{AreRising, NodesOfStage, Notes, holds, is_list_of, is_listed, purged, stages_below, with_heir}
@@ -25,28 +25,9 @@ or_comm : (a b : Bool) → (a || b) ≡ (b || a)
 or_comm true b = sym (or_true b)
 or_comm false b = sym (or_none b)
 
-pub or_left : (a b : Bool) → a ≡ true → (a || b) ≡ true
-or_left true b h = refl
-or_left false b h = (cc)
-
-pub or_right : (a b : Bool) → b ≡ true → (a || b) ≡ true
-or_right a b h = ap (λ c. a || c) h ∙ or_true a
-
 pub or_again : (a b : Bool) → (a || (a || b)) ≡ (a || b)
 or_again true b = refl
 or_again false b = refl
-
-pub or_either : (a b : Bool) → (a || b) ≡ true → (a ≡ true) ⊎ (b ≡ true)
-or_either true b h = inl refl
-or_either false b h = inr h
-
-pub and_both : (a b : Bool) → (a && b) ≡ true → (a ≡ true) × (b ≡ true)
-and_both true b h = (refl, h)
-and_both false b h = (cc)
-
-pub both_and : (a b : Bool) → a ≡ true → b ≡ true → (a && b) ≡ true
-both_and true b h k = k
-both_and false b h k = (cc)
 
 pub eq_from : (n m : ℕ) → nat_eq n m ≡ true → n ≡ m
 eq_from n m h = grind (arith, nat_tests)
@@ -135,15 +116,15 @@ noted-rising k id (x ∷ xs) h =
 pub noted-notes : (k id : ℕ) (xs : List NodesOfStage) → AreRising xs → Notes id xs (noted k id xs)
 noted-notes k id xs h = record {
   kept = λ j z l. noted-listed k id xs j z ∙ or_left (is_listed xs j z) (nat_eq k j && nat_eq id z) l;
-  only = λ j z l. elim (or_either (is_listed xs j z) (nat_eq k j && nat_eq id z) (sym (noted-listed k id xs j z) ∙ l)) [
+  only = λ j z l. elim (or_cases (is_listed xs j z) (nat_eq k j && nat_eq id z) (sym (noted-listed k id xs j z) ∙ l)) [
     | inl old ↦ inl old
-    | inr new ↦ inr (sym (eq_from id z (and_both (nat_eq k j) (nat_eq id z) new).1))
+    | inr new ↦ inr (sym (eq_from id z (and_parts (nat_eq k j) (nat_eq id z) new).1))
   ];
   rising = noted-rising k id xs h;
 }
 
 pub noted-there : (k id : ℕ) (xs : List NodesOfStage) → is_listed (noted k id xs) k id ≡ true
-noted-there k id xs = noted-listed k id xs k id ∙ or_right (is_listed xs k id) (nat_eq k k && nat_eq id id) (both_and (nat_eq k k) (nat_eq id id) (eq_to k) (eq_to id))
+noted-there k id xs = noted-listed k id xs k id ∙ or_right (is_listed xs k id) (nat_eq k k && nat_eq id id) (and_from (nat_eq k k) (nat_eq id id) (eq_to k) (eq_to id))
 
 insert_by : (b c : Bool) (k id n : ℕ) (x : NodesOfStage) (xs ys : List NodesOfStage) → nat_eq x.stage k ≡ c
     → (is_list_of k (slice_get xs n) ≡ false → insert xs n (record { stage = k; nodes = id ∷ [] }) ≡ ys)
@@ -270,16 +251,16 @@ heir-listed front rear k z (x ∷ xs) =
 pub heir-notes : (front rear : ℕ) (xs : List NodesOfStage) → AreRising xs → Notes rear xs (map (with_heir front rear) xs)
 heir-notes front rear xs h = record {
   kept = λ k z l. heir-listed front rear k z xs ∙ or_left (is_listed xs k z) (is_listed xs k front && nat_eq rear z) l;
-  only = λ k z l. elim (or_either (is_listed xs k z) (is_listed xs k front && nat_eq rear z) (sym (heir-listed front rear k z xs) ∙ l)) [
+  only = λ k z l. elim (or_cases (is_listed xs k z) (is_listed xs k front && nat_eq rear z) (sym (heir-listed front rear k z xs) ∙ l)) [
     | inl old ↦ inl old
-    | inr new ↦ inr (sym (eq_from rear z (and_both (is_listed xs k front) (nat_eq rear z) new).1))
+    | inr new ↦ inr (sym (eq_from rear z (and_parts (is_listed xs k front) (nat_eq rear z) new).1))
   ];
   rising = rising_mapped (with_heir front rear) (λ x. heir-stage front rear (holds x.nodes front) x) xs h;
 }
 
 pub heir-there : (front rear k : ℕ) (xs : List NodesOfStage) → is_listed xs k front ≡ true → is_listed (map (with_heir front rear) xs) k rear ≡ true
 heir-there front rear k xs l =
-    heir-listed front rear k rear xs ∙ or_right (is_listed xs k rear) (is_listed xs k front && nat_eq rear rear) (both_and (is_listed xs k front) (nat_eq rear rear) l (eq_to rear))
+    heir-listed front rear k rear xs ∙ or_right (is_listed xs k rear) (is_listed xs k front && nat_eq rear rear) (and_from (is_listed xs k front) (nat_eq rear rear) l (eq_to rear))
 
 -- the lists without that of a stage
 abbrev pub taken : ℕ → List NodesOfStage → List NodesOfStage

@@ -2,7 +2,7 @@
 use Rattle.std.proofs.Common.{◌≡◌, ◌≢◌, ℕ, ◌≤◌, Bool, true, false, cond, not, ◌||◌, List, [], ◌∷◌, ◌++◌, ◌⊎◌, inl, inr, filter, map, IsSomeAnd, Option, Some, None, refl, subst, sym, ◌∙◌, ap, nat_eq}
 use Rattle.std.specs.List.{list_any}
 use Rattle.std.specs.Option.{IsSome}
-use Rattle.std.proofs.lemmas.Bool.{cases_eq, eq-eqb, ne_eqb}
+use Rattle.std.proofs.lemmas.Bool.{and_from, and_parts, cases_eq, eq-eqb, ne_eqb, or_cases, or_left, or_right}
 use Rattle.ft_arena.specs.Ids.{after}
 use Rattle.ft_base.specs.declared.elements.Element.{Element}
 use Rattle.ft_base.specs.declared.stamps.Stamp.{Stamp}
@@ -21,7 +21,7 @@ use Rattle.ft_leaves.specs.LeafChanges.{acked_leaf, acked_pair}
 use Rattle.ft_leaves.specs.Edits.{is_touched_by}
 use Rattle.ft_leaf_blocks.specs.Touched.{NodesOfStage, Notes, Tracks, added_stage, is_listed, is_stamped_by, purged, purged_at}
 use Rattle.ft_leaf_blocks.proofs.StepValues.{gone-without, is_some, is_valued, mapped, mapped_some, new_put, rear-split, value-change, value-map, value-put, value-split}
-use Rattle.ft_leaf_blocks.proofs.TouchedLists.{Takes, and_both, both_and, eq_from, notes-none, or_either, or_left, or_right, purged-listed, rising_mapped}
+use Rattle.ft_leaf_blocks.proofs.TouchedLists.{Takes, eq_from, notes-none, purged-listed, rising_mapped}
 use Rattle.ft_leaf_blocks.proofs.WalkEdits.{live-put}
 
 absurd_both : {A : Type 0} {b : Bool} → b ≡ true → b ≡ false → A
@@ -143,7 +143,7 @@ module _ {C : Type 0} (xs : List (ℕ × TreeLeaf C)) (ss : List NodesOfStage) (
         (cc)
     | inr d ↦
         purged-listed id k z ss
-        ∙ both_and (is_listed ss k z) (not (nat_eq z id)) (tracks.covers k z x (sym (value_without xs z id d) ∙ e) t) (ap not (ne_eqb z id d))
+        ∙ and_from (is_listed ss k z) (not (nat_eq z id)) (tracks.covers k z x (sym (value_without xs z id d) ∙ e) t) (ap not (ne_eqb z id d))
   ]
 
   other : (z id : ℕ) → not (nat_eq z id) ≡ true → z ≢ id
@@ -153,7 +153,7 @@ module _ {C : Type 0} (xs : List (ℕ × TreeLeaf C)) (ss : List NodesOfStage) (
   tracks-without id = record {
     covers = without_covers id;
     live = λ k z l.
-        let both = and_both (is_listed ss k z) (not (nat_eq z id)) (sym (purged-listed id k z ss) ∙ l) in
+        let both = and_parts (is_listed ss k z) (not (nat_eq z id)) (sym (purged-listed id k z ss) ∙ l) in
         subst IsSome (sym (value_without xs z id (other z id both.1))) (tracks.live k z both.0);
     rising = rising_mapped (purged id) (λ x. refl) ss tracks.rising;
   }
@@ -185,15 +185,15 @@ tracks-join {C} f same xs ss id (Some n) P tracks once e can =
 
 -- what a change of a leaf brings
 any_more : {A : Type 0} (p : A → Bool) (xs : List A) (y : A) → list_any p (xs ++ y ∷ []) ≡ true → (list_any p xs ≡ true) ⊎ (p y ≡ true)
-any_more p [] y h = elim (or_either (p y) false h) [ inl last ↦ inr last | inr none ↦ (cc) ]
-any_more p (x ∷ xs) y h = elim (or_either (p x) (list_any p (xs ++ y ∷ [])) h) [
+any_more p [] y h = elim (or_cases (p y) false h) [ inl last ↦ inr last | inr none ↦ (cc) ]
+any_more p (x ∷ xs) y h = elim (or_cases (p x) (list_any p (xs ++ y ∷ [])) h) [
   | inl here ↦ inl (or_left (p x) (list_any p xs) here)
   | inr rest ↦ elim (any_more p xs y rest) [ inl there ↦ inl (or_right (p x) (list_any p xs) there) | inr last ↦ inr last ]
 ]
 
 fewer_by : {A : Type 0} (b : Bool) (p : A → Bool) (x : A) (xs ys : List A) → (list_any p ys ≡ true → list_any p xs ≡ true)
     → list_any p (cond b (x ∷ ys) ys) ≡ true → list_any p (x ∷ xs) ≡ true
-fewer_by true p x xs ys h t = elim (or_either (p x) (list_any p ys) t) [
+fewer_by true p x xs ys h t = elim (or_cases (p x) (list_any p ys) t) [
   | inl here ↦ or_left (p x) (list_any p xs) here
   | inr rest ↦ or_right (p x) (list_any p xs) (h rest)
 ]
@@ -210,9 +210,9 @@ parts k x P t stamped changed =
     let ins = is_of_stage k x.stamps.ins in
     let dels = list_any (is_of_stage k) x.stamps.dels in
     let pending = list_any (λ p. nat_eq p.0 k) x.overlay.pending in
-    elim (or_either ins (dels || pending) t) [
+    elim (or_cases ins (dels || pending) t) [
       | inl a ↦ stamped (or_left ins dels a)
-      | inr b ↦ elim (or_either dels pending b) [ inl d ↦ stamped (or_right ins dels d) | inr p ↦ changed p ]
+      | inr b ↦ elim (or_cases dels pending b) [ inl d ↦ stamped (or_right ins dels d) | inr p ↦ changed p ]
     ]
 
 pub by_stamps : {C : Type 0} (k : ℕ) (x : TreeLeaf C) → is_stamped_by k x.stamps ≡ true → is_touched_by k x ≡ true
@@ -220,7 +220,7 @@ by_stamps k x h =
     let ins = is_of_stage k x.stamps.ins in
     let dels = list_any (is_of_stage k) x.stamps.dels in
     let pending = list_any (λ p. nat_eq p.0 k) x.overlay.pending in
-    elim (or_either ins dels h) [
+    elim (or_cases ins dels h) [
       | inl a ↦ or_left ins (dels || pending) a
       | inr d ↦ or_right ins (dels || pending) (or_left dels pending d)
     ]
@@ -304,7 +304,7 @@ gone_stamps k s c (t ∷ ts) =
 
 same_stamps : (k s c j : ℕ) (ts : List Stamp) → list_any (is_of_stage j) (map (acked_stamp k s c) ts) ≡ true → list_any (is_of_stage j) ts ≡ true
 same_stamps k s c j [] h = h
-same_stamps k s c j (t ∷ ts) h = elim (or_either (is_of_stage j (acked_stamp k s c t)) (list_any (is_of_stage j) (map (acked_stamp k s c) ts)) h) [
+same_stamps k s c j (t ∷ ts) h = elim (or_cases (is_of_stage j (acked_stamp k s c t)) (list_any (is_of_stage j) (map (acked_stamp k s c) ts)) h) [
   | inl here ↦ or_left (is_of_stage j t) (list_any (is_of_stage j) ts) (same_stamp (is_of_stage k t) j s c t here)
   | inr rest ↦ or_right (is_of_stage j t) (list_any (is_of_stage j) ts) (same_stamps k s c j ts rest)
 ]
@@ -328,7 +328,7 @@ module _ {C : Type 0} (stamped : C → ℕ → ℕ → C) (k s c : ℕ) where
 
   pub acked_touched : (j : ℕ) (x : TreeLeaf C) → is_touched_by j (acked_leaf stamped k s c x) ≡ true → is_touched_by j x ≡ true
   acked_touched j x t = parts j (acked_leaf stamped k s c x) (is_touched_by j x ≡ true) t
-      (λ h. by_stamps j x (elim (or_either (is_of_stage j (acked_stamp k s c x.stamps.ins)) (list_any (is_of_stage j) (map (acked_stamp k s c) x.stamps.dels)) h) [
+      (λ h. by_stamps j x (elim (or_cases (is_of_stage j (acked_stamp k s c x.stamps.ins)) (list_any (is_of_stage j) (map (acked_stamp k s c) x.stamps.dels)) h) [
         | inl a ↦ or_left (is_of_stage j x.stamps.ins) (list_any (is_of_stage j) x.stamps.dels) (same_stamp (is_of_stage k x.stamps.ins) j s c x.stamps.ins a)
         | inr d ↦ or_right (is_of_stage j x.stamps.ins) (list_any (is_of_stage j) x.stamps.dels) (same_stamps k s c j x.stamps.dels d)
       ]))

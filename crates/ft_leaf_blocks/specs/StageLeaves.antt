@@ -8,12 +8,12 @@ use Rattle.ft_leaf_blocks.specs.declared.next_stages.Wanted.TheVariants.{Anythin
 use Rattle.ft_leaf_blocks.specs.Wanted.{is_wanted_at}
 
 -- how many elements stand left of the leaf of this node
-abbrev pub count_left : {C U : Type 0} → (C → List U) → List (ℕ × TreeLeaf C) → ℕ → ℕ
-count_left units xs id = length_by (leaf_length units All) (left_of xs id)
+abbrev pub elements_left : {C U : Type 0} → (C → List U) → List (ℕ × TreeLeaf C) → ℕ → ℕ
+elements_left units xs id = length_by (leaf_length units All) (left_of xs id)
 
 -- those nodes whose leaf has something of stage k, each with how many elements stand left of it
 abbrev pub touched_places : {C U : Type 0} → (C → List U) → List (ℕ × TreeLeaf C) → ℕ → List ℕ → List (ℕ × ℕ)
-touched_places units xs k ns = map (λ n. (count_left units xs n, n)) (filter (is_wanted_at Anything xs k) ns)
+touched_places units xs k ns = map (λ n. (elements_left units xs n, n)) (filter (is_wanted_at Anything xs k) ns)
 
 -- the node is the given one
 abbrev pub is_given_node : Option ℕ → ℕ → Bool

@@ -24,7 +24,7 @@ use std::alloc::Global;
 use std::collections::VecDeque;
 
 /// Whether the leaf has something of that stage: its insertion, a removal mark or changes.
-pub(crate) fn has_any_of<C: Content>(leaf: &TreeLeaf<C>, stage: u64) -> bool
+pub(crate) fn is_touched_by<C: Content>(leaf: &TreeLeaf<C>, stage: u64) -> bool
     ensures { result ≡ is_touched_by stage leaf.now }
 {
     is_of_stage(&leaf.stamps.ins, stage) || leaf.is_marked_by(stage)
@@ -51,7 +51,7 @@ fn ack_at<C: Content>(
 {
     let _first = blocks.first();
     let leaf = blocks.leaf(id);
-    if !has_any_of(leaf, stage) {
+    if !is_touched_by(leaf, stage) {
         return Ok(());
     }
     let e = acked_stamps(alloc, &leaf.stamps, stage, seq, conn)?;

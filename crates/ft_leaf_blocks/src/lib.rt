@@ -1,6 +1,6 @@
 //! Leaves of the merge tree in blocks, with what is kept beside them: for each pending stage the leaves that it
-//! touched, so that its acknowledgement goes to these alone; and the references, which stand on leaves, and where
-//! these go, from leaf to leaf.
+//! touched, so that its acknowledgement and a search for what it has go to these alone; and the references, which
+//! stand on leaves, and where these go, from leaf to leaf.
 //!
 //! A call that can't answer `OutOfMemory` takes no memory.
 #![tactic(auto)]

@@ -1,4 +1,5 @@
-//! Leaves in blocks: the next pending stage of which a leaf has something, by the lists of what each stage touched.
+//! Leaves in blocks: the next pending stage that removes, and the next of which a leaf has anything, by the lists of what each
+//! stage touched.
 
 ghost use Rattle.std.specs.Prelude.{◌≡◌, ◌&&◌, All, IsTrue, nat_lt};
 ghost use Rattle.std.specs.List.{list_any};
@@ -8,7 +9,7 @@ ghost use Rattle.ft_leaves.specs.LeafLists.{elements};
 ghost use Rattle.ft_leaf_blocks.specs.Touched.{Tracks};
 ghost use Rattle.ft_leaf_blocks.specs.Wanted.{IsLeastStage, has_wanted, is_wanted_at};
 
-use crate::acks::has_any_of;
+use crate::acks::is_touched_by;
 use crate::stage_nodes::StageNodes;
 use crate::touched::place_of;
 use ft_arena::NodeId;
@@ -32,7 +33,7 @@ fn has_wanted<C: Content>(leaf: &TreeLeaf<C>, stage: u64, wanted: Wanted) -> boo
 {
     match wanted {
         Wanted::Removal => has_stage(leaf.stamps.dels.as_slice(), stage),
-        Wanted::Anything => has_any_of(leaf, stage),
+        Wanted::Anything => is_touched_by(leaf, stage),
     }
 }
 

@@ -6,7 +6,7 @@ ghost use Rattle.ft_leaves.specs.Edits.{touched_nodes};
 ghost use Rattle.ft_leaf_blocks.specs.StageLeaves.{is_given_node, touched_places, unrepeated};
 ghost use Rattle.ft_leaf_blocks.specs.Touched.{Tracks};
 
-use crate::acks::has_any_of;
+use crate::acks::is_touched_by;
 use crate::stage_nodes::StageNodes;
 use crate::touched::nodes_of;
 use ft_arena::NodeId;
@@ -31,7 +31,7 @@ fn touched_places<C: Content>(
 {
     let mut places = Vec::new(alloc);
     for id in nodes {
-        if has_any_of(blocks.leaf(*id), stage) {
+        if is_touched_by(blocks.leaf(*id), stage) {
             places.push((blocks.position_of(*id, LenView::All), *id))?;
         }
     }

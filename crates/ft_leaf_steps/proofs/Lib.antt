@@ -1,4 +1,3 @@
-pub mod ChangedWalks
 pub mod FoundPlaces
 pub mod FoundOffsets
 pub mod OffsetCounts

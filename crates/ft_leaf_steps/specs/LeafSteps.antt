@@ -10,10 +10,6 @@ use Rattle.ft_leaves.specs.Elements.{TreeElement}
 use Rattle.ft_leaves.specs.LeafLists.{Extends, elements, leaf_elements, pending_leaves}
 use Rattle.ft_leaf_blocks.specs.Walks.{before_place, from_leaf, from_place, node_behind}
 
--- the leaves with this change of those from that of this node on
-abbrev pub change_from : {L : Type 0} → (ℕ × L → ℕ × L) → List (ℕ × L) → Option ℕ → List (ℕ × L)
-change_from f xs at = before_place xs at ++ map f (from_place xs at)
-
 -- f of each seen element up to the n-th seen one; the others as they are
 abbrev pub change_front : {A : Type 0} → (A → Bool) → (A → A) → ℕ → List A → List A
 change_front seen f n xs = map (λ x. cond (seen x) (f x) x) (take (place seen n xs) xs) ++ drop (place seen n xs) xs

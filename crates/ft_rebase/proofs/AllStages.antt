@@ -16,7 +16,7 @@ use Rattle.ft_rebase.specs.declared.moves.StageMove.{StageMove}
 use Rattle.ft_rebase.specs.Moves.{AreMoves, EndsLeaf, amount, leaf_stamps, moved_stage}
 use Rattle.ft_rebase.specs.StageLists.{StagesUpTo, StandSideBySide, inserted_by, inserted_up_to, next_position, seen_by, sequenced, with_stages}
 use Rattle.ft_rebase.proofs.Expanded.{any-items, filter-items, len-filter, rank-len, side-items, stages-items}
-use Rattle.ft_rebase.proofs.StageListLemmas.{MovedUpTo, filter-put_none, moved_all, moved_none, moves_next, moves_none, none-filtered, none-is, none-later, put-nothing, view-moved}
+use Rattle.ft_rebase.proofs.StageListLemmas.{MovedUpTo, filter-put_none, moved_all, moves_next, moves_none, none-filtered, none-is, none-later, put-nothing, view-moved}
 
 amount-seen : {A : Type 0} (size : A → ℕ) (see : A → Bool) (q : ℕ) (xs : List A) → amount size see q (filter see xs) ≡ amount size see q xs
 amount-seen size see zero xs = refl
@@ -148,9 +148,6 @@ module _ {C U : Type 0} (units : C → List U) (xs : List (ℕ × TreeLeaf C)) w
     pub stage : ℕ
     pub moved : MovedUpTo leaf_stamps xs unmoved now stage
     pub rest : AreMoves units stage ms xs
-
-  pub moves_left : (ms : List StageMove) → AreMoves units 0 ms xs → MovesLeft ms xs
-  moves_left ms h = record { stage = 0; moved = moved_none leaf_stamps xs; rest = h }
 
   -- what the next move makes
   pub record MoveNext (m : StageMove) (rest : List StageMove) (now : List (ℕ × TreeLeaf C)) : Type 0 where

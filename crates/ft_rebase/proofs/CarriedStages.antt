@@ -1,6 +1,7 @@
 -- What is pending is taken off the leaves of one stage after another, until no stage is left.
 use Rattle.std.proofs.Common.{◌≡◌, ℕ, ◌+◌, ◌-◌, ◌<◌, ◌≤◌, ◌^◌, Bool, true, false, cond, not, ◌||◌, nat_eq, nat_lt, List, [], ◌∷◌, Option, Some, None, drop, get_or, length, map, filter, refl, sym, ◌∙◌, ap, subst, arith}
 use Rattle.std.specs.List.{list_any}
+use Rattle.std.proofs.lemmas.Bool.{or_left, or_right}
 use Rattle.std.proofs.lemmas.Bool.Decides.{nat_tests}
 use Rattle.std.proofs.lemmas.List.{drop_more}
 use Rattle.ft_arena.specs.Ids.{times}
@@ -76,18 +77,10 @@ stages_left (Some k) = 2 ^ 64 - k
 
 -- ---- a leaf that is carried again
 
-or_first : (a b : Bool) → a ≡ true → (a || b) ≡ true
-or_first true b h = refl
-or_first false b h = absurd cc
-
-or_second : (a b : Bool) → b ≡ true → (a || b) ≡ true
-or_second true b h = refl
-or_second false b h = h
-
 pending_stage : (ts : List Stamp) → list_any (λ t. not (is_acked t)) ts ≡ true → (j : ℕ) × (list_any (is_of_stage j) ts ≡ true)
 pending_stage [] h = absurd cc
 pending_stage (Acked s c ∷ ts) h = pending_stage ts h
-pending_stage (Local j ∷ ts) h = (j, or_first (nat_eq j j) (list_any (is_of_stage j) ts) (grind (arith, nat_tests)))
+pending_stage (Local j ∷ ts) h = (j, or_left (nat_eq j j) (list_any (is_of_stage j) ts) (grind (arith, nat_tests)))
 
 module _ {C : Type 0} where
   bare-carried : (x : TreeLeaf C) → sequenced_leaf x ≡ x → carried_leaf x ≡ x
@@ -160,11 +153,11 @@ module _ {C : Type 0} where
       changes [] e none = ap (λ (y : TreeLeaf C). (x.0, y)) (bare-carried x.1 (bare-same x.1 none e))
       changes (p ∷ ps) e none =
           let own : nat_eq p.0 p.0 ≡ true = grind (arith, nat_tests) in
-          touched p.0 (or_second _ _ (or_second _ _ (ap (list_any (λ c. nat_eq c.0 p.0)) e
-          ∙ or_first (nat_eq p.0 p.0) (list_any (λ c. nat_eq c.0 p.0) ps) own)))
+          touched p.0 (or_right _ _ (or_right _ _ (ap (list_any (λ c. nat_eq c.0 p.0)) e
+          ∙ or_left (nat_eq p.0 p.0) (list_any (λ c. nat_eq c.0 p.0) ps) own)))
 
       marks : (b : Bool) → list_any (λ t. not (is_acked t)) x.1.stamps.dels ≡ b → carried_pair x ≡ x
-      marks true e = let s = pending_stage x.1.stamps.dels e in touched s.0 (or_second _ _ (or_first _ _ s.1))
+      marks true e = let s = pending_stage x.1.stamps.dels e in touched s.0 (or_right _ _ (or_left _ _ s.1))
       marks false e = changes x.1.overlay.pending refl e
 
   -- ---- all leaves

@@ -1,6 +1,7 @@
 -- What a leaf adds to the runs of marked elements and to the place of an insertion.
 use Rattle.std.proofs.Common.{◌≡◌, ℕ, ◌+◌, ◌≤◌, Bool, true, false, cond, nat_eq, All, List, [], ◌∷◌, ◌++◌, Option, filter, length, refl, sym, ◌∙◌, ap, arith}
 use Rattle.std.specs.List.{list_any}
+use Rattle.std.proofs.lemmas.Bool.{ne_eqb}
 use Rattle.std.proofs.lemmas.Bool.Decides.{nat_tests}
 use Rattle.std.proofs.lemmas.List.Elements.{All-head, All-tail}
 use Rattle.ft_base.specs.declared.stamps.Stamp.{Stamp}
@@ -21,9 +22,6 @@ use Rattle.ft_rebase.specs.Pieces.{has_mark, is_inserted_by, leaf_has_mark}
 use Rattle.ft_rebase.specs.StageLists.{inserted_by}
 use Rattle.ft_rebase.proofs.Expanded.{any-none, any-some, rank-here, rank-seen, rank-unseen}
 use Rattle.ft_rebase.proofs.MarkedRunLemmas.{runs-past_marked, runs-past_seen, runs-past_unseen}
-
-differs : (m n : ℕ) → (m ≡ n → ⊥) → nat_eq m n ≡ false
-differs m n h = grind (arith, nat_tests)
 
 module _ {C U : Type 0} (units : C → List U) (by : C → Option Stamp) where
   marked_by : (mark : Mark) (k : ℕ) (x : TreeLeaf C) (b : Bool) → leaf_has_mark mark k x ≡ b → (u : U)
@@ -104,7 +102,7 @@ module _ {C U : Type 0} (units : C → List U) (by : C → Option Stamp) where
           }
         where
           apart : IsLeafIn xs id → nat_eq x.0 id ≡ false
-          apart live = differs x.0 id (λ w. (let n = ap (times_leaf xs) w in let one = ap {B = ℕ} (λ b. cond b 1 0) own in omega
+          apart live = ne_eqb x.0 id (λ w. (let n = ap (times_leaf xs) w in let one = ap {B = ℕ} (λ b. cond b 1 0) own in omega
               (arith, once x.0, n, live, one)))
 
           counted : (b : Bool) → sees_in view x.1.stamps ≡ b → len (seen_in view) (leaf_elements units by x.1) + rank (is_inserted_by k)

@@ -2,6 +2,7 @@
 use Rattle.std.proofs.Common.{◌≡◌, ℕ, ◌+◌, ◌<◌, ◌≤◌, Bool, true, false, cond, ◌||◌, nat_eq, List, [], ◌∷◌, ◌++◌, Option, Some, None, drop, filter, get_or, length, map, take, refl, sym, ◌∙◌, ap, arith, append_assoc}
 use Rattle.std.specs.List.{slice_get}
 use Rattle.std.specs.Option.{option_map}
+use Rattle.std.proofs.lemmas.Bool.{ne_eqb}
 use Rattle.std.proofs.lemmas.Bool.Decides.{nat_tests}
 use Rattle.std.proofs.lemmas.List.{drop_all, drop_more, get_or-map, length-map, take-append-drop}
 use Rattle.ft_block.specs.Leaves.{IsLeafIn, ids, times_leaf, value_at}
@@ -12,13 +13,10 @@ use Rattle.ft_rebase.specs.Moves.{leaf_stamps}
 use Rattle.ft_rebase.specs.StageLists.{inserted_by}
 use Rattle.ft_rebase.proofs.MovedBlocks.{own-node}
 
-differs : (m n : ℕ) → (m ≡ n → ⊥) → nat_eq m n ≡ false
-differs m n h = grind (arith, nat_tests)
-
 -- what is read of a value
-pub mapped : {A B : Type 0} (f : A → B) (o : Option A) (a : A) (b : B) → o ≡ Some a → option_map f o ≡ Some b → f a ≡ b
-mapped f None a b e g = absurd cc
-mapped f (Some x) a b e g = let same : x ≡ a = cc in let value : f x ≡ b = cc in sym (ap f same) ∙ value
+pub mapped_value : {A B : Type 0} (f : A → B) (o : Option A) (a : A) (b : B) → o ≡ Some a → option_map f o ≡ Some b → f a ≡ b
+mapped_value f None a b e g = absurd cc
+mapped_value f (Some x) a b e g = let same : x ≡ a = cc in let value : f x ≡ b = cc in sym (ap f same) ∙ value
 
 module _ {L : Type 0} where
   pub value-live : (xs : List (ℕ × L)) (id : ℕ) (v : L) → value_at xs id ≡ Some v → 1 ≤ times_leaf xs id
@@ -41,7 +39,7 @@ module _ {L : Type 0} where
       later found =
           let live = value-live xs b v found in
           let own : cond (nat_eq x.0 x.0) 1 0 ≡ 1 = ap {B = ℕ} (λ c. cond c 1 0) (own-node x) in
-          let other : nat_eq x.0 b ≡ false = differs x.0 b (λ w. (let n = ap (times_leaf xs) w in omega (arith, once x.0, n, live, own))) in
+          let other : nat_eq x.0 b ≡ false = ne_eqb x.0 b (λ w. (let n = ap (times_leaf xs) w in omega (arith, once x.0, n, live, own))) in
           ap (λ c. cond c (Some x.1) (value_at xs b)) other ∙ found
 
       step : (c : Bool) (fs : List (ℕ × L)) → cond c (x ∷ filter t xs) (filter t xs) ≡ fs ++ (b, v) ∷ gs

@@ -1,5 +1,6 @@
 -- The runs of marked elements, leaf by leaf of those that a stage touched.
 use Rattle.std.proofs.Common.{◌≡◌, ℕ, ◌+◌, ◌≤◌, Bool, true, false, cond, ◌&&◌, ◌||◌, All, List, [], ◌∷◌, ◌++◌, Option, Some, drop, filter, length, refl, sym, ◌∙◌, ap, arith, append_assoc, length-append}
+use Rattle.std.proofs.lemmas.Bool.{and_right}
 use Rattle.std.proofs.lemmas.List.Elements.{All-head, All-tail}
 use Rattle.ft_arena.specs.Ids.{after}
 use Rattle.ft_arena.proofs.IdLemmas.{same_refl}
@@ -24,18 +25,6 @@ use Rattle.ft_rebase.specs.MarkedRuns.{continued, marked_runs_from, with_run}
 use Rattle.ft_rebase.specs.Pieces.{has_mark, leaf_has_mark}
 use Rattle.ft_rebase.proofs.LeafPieces.{runs-leaf}
 use Rattle.ft_rebase.proofs.ListedLeaves.{ListedAt}
-
-pub both_hold : (a b : Bool) → a ≡ true → b ≡ true → (a && b) ≡ true
-both_hold true b h g = g
-both_hold false b h g = absurd cc
-
-pub not_first : (a b : Bool) → a ≡ false → (a && b) ≡ false
-not_first true b h = absurd cc
-not_first false b h = refl
-
-pub not_second : (a b : Bool) → b ≡ false → (a && b) ≡ false
-not_second true b h = h
-not_second false b h = refl
 
 no_mark : (a b c : Bool) → (a || (b || c)) ≡ false → (b ≡ false) × (c ≡ false)
 no_mark false false false h = (refl, refl)
@@ -138,7 +127,7 @@ module _ {C U : Type 0} (units : C → List U) (by : C → Option Stamp) (view :
       listed-filter (λ x. is_touched_by k x.1) none xs ∙ sym (listed-from once [] xs refl some)
     where
       none : (x : ℕ × TreeLeaf C) → is_touched_by k x.1 ≡ false → adds_run x ≡ false
-      none x h = not_second (sees_in view x.1.stamps) (leaf_has_mark mark k x.1) (untouched mark k x.1 h)
+      none x h = and_right (sees_in view x.1.stamps) (leaf_has_mark mark k x.1) (untouched mark k x.1 h)
 
   -- a run ends within the elements
   pub run_within : (id : ℕ) (v : TreeLeaf C) → ((i : ℕ) → times_leaf xs i ≤ 1) → value_at xs id ≡ Some v

@@ -1,5 +1,6 @@
 -- Runs of marked elements as a scan from the first element on makes them.
 use Rattle.std.proofs.Common.{◌≡◌, ℕ, suc, ◌+◌, ◌≤◌, Bool, true, false, cond, ◌&&◌, nat_eq, List, [], ◌∷◌, ◌++◌, map, length, ◌-◌, ◌<◌, drop, get_or, refl, sym, subst, ◌∙◌, ap, arith, append_assoc, add-one, drop-cons}
+use Rattle.std.proofs.lemmas.Bool.{ne_eqb}
 use Rattle.std.proofs.lemmas.Bool.Decides.{nat_tests}
 use Rattle.ft_base.specs.Scan.{one_more_if}
 use Rattle.ft_props.specs.Steps.{extended_runs, lowered_runs}
@@ -7,9 +8,6 @@ use Rattle.ft_rebase.specs.MarkedRuns.{RunsRise, continued, marked_runs_from, wi
 
 itself : (n : ℕ) → nat_eq n n ≡ true
 itself n = grind (arith, nat_tests)
-
-differs : (m n : ℕ) → (m ≡ n → ⊥) → nat_eq m n ≡ false
-differs m n h = grind (arith, nat_tests)
 
 extended-with : (i : ℕ) (runs : List (ℕ × ℕ)) → extended_runs i runs ≡ with_run (i, i + 1) runs
 extended-with i [] = refl
@@ -27,11 +25,11 @@ with_run-joined a b c ((d, e) ∷ runs) = step (nat_eq d c)
 -- two that don't meet are two
 pub with_run-apart : (a b c d : ℕ) (runs : List (ℕ × ℕ)) → (b ≡ c → ⊥) → with_run (a, b) (with_run (c, d) runs)
     ≡ (a, b) ∷ with_run (c, d) runs
-with_run-apart a b c d [] apart = ap (λ t. cond t ((a, d) ∷ []) ((a, b) ∷ (c, d) ∷ [])) (differs c b (λ e. apart (sym e)))
+with_run-apart a b c d [] apart = ap (λ t. cond t ((a, d) ∷ []) ((a, b) ∷ (c, d) ∷ [])) (ne_eqb c b (λ e. apart (sym e)))
 with_run-apart a b c d ((x, y) ∷ runs) apart = step (nat_eq x d)
   where
     test : nat_eq c b ≡ false
-    test = differs c b (λ e. apart (sym e))
+    test = ne_eqb c b (λ e. apart (sym e))
 
     step : (t : Bool) → with_run (a, b) (cond t ((c, y) ∷ runs) ((c, d) ∷ (x, y) ∷ runs))
         ≡ (a, b) ∷ cond t ((c, y) ∷ runs) ((c, d) ∷ (x, y) ∷ runs)
@@ -50,10 +48,6 @@ pub continued-none : (runs : List (ℕ × ℕ)) → continued runs [] ≡ runs
 continued-none [] = refl
 continued-none ((a, b) ∷ []) = refl
 continued-none (r ∷ s ∷ runs) = ap (λ rs. r ∷ rs) (continued-none (s ∷ runs))
-
--- a run behind none
-pub first_run : (a b : ℕ) (new more : List (ℕ × ℕ)) → new ≡ (a, b) ∷ [] → continued new more ≡ with_run (a, b) more
-first_run a b new more e = ap (λ rs. continued rs more) e
 
 -- a run behind a last one that it meets, and one apart from it
 pub joined_run : (runs old new : List (ℕ × ℕ)) (a b c d : ℕ) (more : List (ℕ × ℕ)) → old ≡ runs ++ (a, b) ∷ [] → b ≡ c → new

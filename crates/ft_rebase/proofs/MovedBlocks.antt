@@ -1,13 +1,11 @@
 -- Leaves that are taken out one after another, from the last to the first, and put in behind the same leaf.
 use Rattle.std.proofs.Common.{◌≡◌, ◌≢◌, ℕ, zero, suc, ◌+◌, ◌<◌, ◌≤◌, Bool, true, false, cond, not, nat_eq, List, [], ◌∷◌, ◌++◌, Option, Some, None, filter, refl, sym, ◌∙◌, ap, arith}
+use Rattle.std.proofs.lemmas.Bool.{ne_eqb}
 use Rattle.std.proofs.lemmas.Bool.Decides.{nat_tests}
 use Rattle.ft_base.proofs.ScanLaws.{put_past-no_run}
 use Rattle.ft_base.specs.Scan.{len, no_run, one_more_if, put}
 use Rattle.ft_block.specs.Leaves.{ids, move_leaf, put_leaf, put_leaf_after, times_leaf, without_leaf}
 use Rattle.ft_rebase.specs.Moves.{seen_node}
-
-differs : (m n : ℕ) → m ≢ n → nat_eq m n ≡ false
-differs m n h = grind (arith, nat_tests)
 
 equals : (m n : ℕ) → nat_eq m n ≡ true → m ≡ n
 equals m n h = grind (arith, nat_tests)
@@ -190,7 +188,7 @@ module _ {L : Type 0} where
       step true true s g e ih inside = absurd (let no : see x ≡ false = h x g in cc)
       step true false s g e ih inside = let same : x.0 ≡ id = cc in omega (arith, none, fewer t xs id, ap (times_leaf xs) same)
       step false true s g e ih inside =
-          let other : nat_eq x.0 id ≡ false = differs x.0 id (λ w. (let n = ap (times_leaf xs) w in omega (arith, none, n, inside e))) in
+          let other : nat_eq x.0 id ≡ false = ne_eqb x.0 id (λ w. (let n = ap (times_leaf xs) w in omega (arith, none, n, inside e))) in
           omega (arith, ih e, ap {B = ℕ} (λ b. cond b 1 0) other)
       step false false s g e ih inside = ih e
   node-apart see t h (suc q) last (x ∷ xs) id once e =
@@ -202,7 +200,7 @@ module _ {L : Type 0} where
       none = gone-behind x xs once
 
       other : 1 ≤ times_leaf xs id → nat_eq x.0 id ≡ false
-      other inside = differs x.0 id (λ w. (let n = ap (times_leaf xs) w in omega (arith, none, n, inside)))
+      other inside = ne_eqb x.0 id (λ w. (let n = ap (times_leaf xs) w in omega (arith, none, n, inside)))
 
       both : (b : Bool) → 1 ≤ times_leaf xs id → times_leaf (filter t xs) id ≡ 0 → times_leaf (cond b (x ∷ filter t xs) (filter t xs)) id
           ≡ 0
@@ -257,7 +255,7 @@ module _ {L : Type 0} where
           ∙ ap (λ ys. x ∷ (new ++ ys)) (sym (apart-after id new xs (omega (arith, none, ap (times_leaf xs) same))))
           ∙ sym (ap (λ b. cond b (x ∷ (new ++ put_block_after xs id new)) (x ∷ put_block_after xs id new)) here)
       step false e ih inside =
-          let other : nat_eq x.0 id ≡ false = differs x.0 id (λ w. (let n = ap (times_leaf xs) w in omega (arith, none, n, inside e))) in
+          let other : nat_eq x.0 id ≡ false = ne_eqb x.0 id (λ w. (let n = ap (times_leaf xs) w in omega (arith, none, n, inside e))) in
           ap (λ ys. x ∷ ys) (ih e) ∙ sym (ap (λ b. cond b (x ∷ (new ++ put_block_after xs id new)) (x ∷ put_block_after xs id new)) other)
   block-there see new (suc q) last (x ∷ xs) id once e =
       step (see x) e (block-there see new q (Some x.0) xs id (once-behind x xs once))
@@ -268,7 +266,7 @@ module _ {L : Type 0} where
       none = gone-behind x xs once
 
       other : 1 ≤ times_leaf xs id → nat_eq x.0 id ≡ false
-      other inside = differs x.0 id (λ w. (let n = ap (times_leaf xs) w in omega (arith, none, n, inside)))
+      other inside = ne_eqb x.0 id (λ w. (let n = ap (times_leaf xs) w in omega (arith, none, n, inside)))
 
       both : (ys : List (ℕ × L)) → 1 ≤ times_leaf xs id → ys ≡ put_block_after xs id new
           → x ∷ ys ≡ cond (nat_eq x.0 id) (x ∷ (new ++ put_block_after xs id new)) (x ∷ put_block_after xs id new)
@@ -318,7 +316,7 @@ module _ {L : Type 0} where
   without_all-cons [] x xs h = refl
   without_all-cons (m ∷ ms) x xs h =
       let a = apart_head m ms x.0 h in
-      let other : nat_eq x.0 m.0 ≡ false = differs x.0 m.0 (λ e. (let here : nat_eq m.0 x.0 ≡ true = grind (arith, nat_tests) in cc)) in
+      let other : nat_eq x.0 m.0 ≡ false = ne_eqb x.0 m.0 (λ e. (let here : nat_eq m.0 x.0 ≡ true = grind (arith, nat_tests) in cc)) in
       ap (λ ys. without_leaf ys m.0) (without_all-cons ms x xs a.1)
       ∙ ap (λ b. cond b (without_leaf (without_all (ids ms) xs) m.0) (x ∷ without_leaf (without_all (ids ms) xs) m.0)) other
 

@@ -1,18 +1,16 @@
 -- The next pending stage, and the moves of all insertions.
-use Rattle.std.proofs.Common.{◌≡◌, ℕ, suc, ◌-◌, ◌<◌, ◌≤◌, Bool, true, false, cond, ◌||◌, nat_le, nat_lt, nat_eq, All, List, [], ◌∷◌, Option, Some, None, length, map, refl, sym, ◌∙◌, ap, subst, arith}
-use Rattle.std.specs.List.{filter_map, flat_map, list_any}
+use Rattle.std.proofs.Common.{◌≡◌, ℕ, suc, ◌-◌, ◌<◌, ◌≤◌, Bool, true, false, cond, ◌||◌, nat_le, nat_lt, nat_eq, All, List, [], ◌∷◌, Option, Some, None, length, refl, sym, ◌∙◌, ap, subst, arith}
+use Rattle.std.specs.List.{flat_map, list_any}
 use Rattle.std.proofs.lemmas.Bool.Decides.{nat_tests}
-use Rattle.std.proofs.lemmas.List.Folds.{list_any-append}
 use Rattle.ft_base.specs.declared.stamps.Stamp.{Stamp}
-use Rattle.ft_base.specs.declared.stamps.Stamp.TheVariants.{Acked, Local}
 use Rattle.ft_base.specs.Scan.{rank}
 use Rattle.ft_base.specs.Visibility.{is_of_stage, seen_at}
 use Rattle.ft_block.specs.declared.leaves.LenView.TheVariants.{Stage}
-use Rattle.ft_props.specs.declared.properties.Changes.{Changes}
 use Rattle.ft_leaves.specs.declared.leaves.TreeLeaf.{TreeLeaf}
-use Rattle.ft_leaves.specs.Edits.{is_marked_by, is_touched_by, least_above, lesser, next_pending_above, stage_of, stages_on}
+use Rattle.ft_leaves.specs.Edits.{is_marked_by, is_touched_by, least_above, lesser, next_pending_above, stages_on}
 use Rattle.ft_leaves.specs.Elements.{TreeElement, element_with, seen_in}
 use Rattle.ft_leaves.specs.LeafLists.{elements}
+use Rattle.ft_leaf_blocks.proofs.LeastAbove.{pending-held}
 use Rattle.ft_rebase.specs.declared.moves.StageMove.{StageMove}
 use Rattle.ft_rebase.specs.Moves.{AreMoves, NoneOf, leaf_stamps, seen_size}
 use Rattle.ft_rebase.specs.Pieces.{insertion_position, is_inserted_by}
@@ -72,39 +70,11 @@ least-above k m (n ∷ ns) e = step (nat_lt k n) refl e (λ i g. least-above k i
 
 -- ---- the stages that touched a leaf
 
-any-stamps : (j : ℕ) (ts : List Stamp) → list_any (λ n. nat_eq n j) (filter_map stage_of ts) ≡ list_any (is_of_stage j) ts
-any-stamps j [] = refl
-any-stamps j (Acked s c ∷ ts) = any-stamps j ts
-any-stamps j (Local i ∷ ts) = ap (λ b. nat_eq i j || b) (any-stamps j ts)
-
-any-changes : (j : ℕ) (ps : List (ℕ × Changes)) → list_any (λ n. nat_eq n j) (map (λ c. c.0) ps) ≡ list_any (λ c. nat_eq c.0 j) ps
-any-changes j [] = refl
-any-changes j (p ∷ ps) = ap (λ b. nat_eq p.0 j || b) (any-changes j ps)
-
-or_or : (a b c : Bool) → ((a || b) || c) ≡ (a || (b || c))
-or_or true b c = refl
-or_or false b c = refl
-
 module _ {C : Type 0} where
-  pub touched-stages : (j : ℕ) (x : TreeLeaf C) → list_any (λ n. nat_eq n j) (stages_on x) ≡ is_touched_by j x
-  touched-stages j x =
-      list_any-append (λ n. nat_eq n j) (filter_map stage_of (x.stamps.ins ∷ x.stamps.dels)) (map (λ c. c.0) x.overlay.pending)
-      ∙ ap (λ b. b || list_any (λ n. nat_eq n j) (map (λ c. c.0) x.overlay.pending)) (any-stamps j (x.stamps.ins ∷ x.stamps.dels))
-      ∙ ap (λ b. (is_of_stage j x.stamps.ins || list_any (is_of_stage j) x.stamps.dels) || b) (any-changes j x.overlay.pending)
-      ∙ or_or (is_of_stage j x.stamps.ins) (list_any (is_of_stage j) x.stamps.dels) (list_any (λ c. nat_eq c.0 j) x.overlay.pending)
-
-  any-touched : (j : ℕ) (xs : List (ℕ × TreeLeaf C)) → list_any (λ x. is_touched_by j x.1) xs
-      ≡ list_any (λ n. nat_eq n j) (flat_map (λ x. stages_on x.1) xs)
-  any-touched j [] = refl
-  any-touched j (x ∷ xs) =
-      ap (λ b. is_touched_by j x.1 || b) (any-touched j xs)
-      ∙ ap (λ b. b || list_any (λ n. nat_eq n j) (flat_map (λ x. stages_on x.1) xs)) (sym (touched-stages j x.1))
-      ∙ sym (list_any-append (λ n. nat_eq n j) (stages_on x.1) (flat_map (λ x. stages_on x.1) xs))
-
   -- no leaf has something of a stage between k and the next one
   pub none_touched : (k j : ℕ) (xs : List (ℕ × TreeLeaf C)) → k < j → IsBelow j (next_pending_above k xs)
       → list_any (λ x. is_touched_by j x.1) xs ≡ false
-  none_touched k j xs h b = any-touched j xs ∙ none-below k j (flat_map (λ x. stages_on x.1) xs) h b
+  none_touched k j xs h b = sym (pending-held j xs) ∙ none-below k j (flat_map (λ x. stages_on x.1) xs) h b
 
   -- so none is of such a stage
   pub none_between : (k j : ℕ) (xs : List (ℕ × TreeLeaf C)) → k < j → IsBelow j (next_pending_above k xs) → NoneOf j xs

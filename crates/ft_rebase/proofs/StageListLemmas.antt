@@ -47,10 +47,6 @@ module _ {A : Type 0} (is test : A → Bool) where
   rank-filter wide h g [] = refl
   rank-filter wide h g (x ∷ xs) = grind (arith, rank-filter wide h g xs, h x, g x)
 
-pub any-both_tests : {A : Type 0} (is test : A → Bool) (xs : List A) → list_any is xs ≡ false → list_any is (filter test xs) ≡ false
-any-both_tests is test [] h = refl
-any-both_tests is test (x ∷ xs) h = grind (arith, any-both_tests is test xs)
-
 -- two tests that agree
 pub filter-same : {A : Type 0} (f g : A → Bool) → ((x : A) → f x ≡ g x) → (xs : List A) → filter f xs ≡ filter g xs
 filter-same f g h [] = refl
@@ -232,10 +228,6 @@ filter-whole test [] h = refl
 filter-whole test (x ∷ xs) h = grind (arith, filter-whole test xs)
 
 module _ {A : Type 0} (stamps : A → ElementStamps) (xs : List A) where
-  -- before anything is moved
-  pub moved_none : MovedUpTo stamps xs (filter (inserted_up_to stamps 0) xs) xs 0
-  moved_none = record { stages = refl; later = λ j h. refl }
-
   pub none-later : (j : ℕ) → 0 < j → list_any (inserted_by stamps j) (filter (inserted_up_to stamps 0) xs) ≡ false
   none-later j h = any-filter (inserted_by stamps j) (inserted_up_to stamps 0) (λ x g. zero-other j (stamps x).ins h g) xs
     where

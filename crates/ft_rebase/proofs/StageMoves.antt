@@ -1,6 +1,7 @@
 -- How the leaves of one stage are moved, from the last to the first, behind the leaf that was found for them.
 use Rattle.std.proofs.Common.{◌≡◌, ◌≢◌, ℕ, zero, suc, ◌+◌, ◌-◌, ◌≤◌, Bool, true, false, cond, not, nat_eq, nat_le, All, List, [], ◌∷◌, ◌++◌, Option, Some, None, filter, length, refl, sym, ◌∙◌, ap, subst, arith, append_assoc, append-nil}
 use Rattle.std.specs.Option.{option_and_then}
+use Rattle.std.proofs.lemmas.Bool.{ne_eqb}
 use Rattle.std.proofs.lemmas.Bool.Decides.{nat_tests}
 use Rattle.std.proofs.lemmas.List.Elements.{All-head, All-tail}
 use Rattle.ft_arena.specs.Ids.{same}
@@ -19,9 +20,6 @@ use Rattle.ft_rebase.proofs.Expanded.{len-filter}
 use Rattle.ft_rebase.proofs.ListedLeaves.{value-filtered, value-live}
 use Rattle.ft_rebase.proofs.StageListLemmas.{unseen}
 use Rattle.ft_rebase.specs.StageLists.{inserted_by, seen_by}
-
-differs : (m n : ℕ) → (m ≡ n → ⊥) → nat_eq m n ≡ false
-differs m n h = grind (arith, nat_tests)
 
 module _ {L : Type 0} where
   own-node : (x : ℕ × L) → nat_eq x.0 x.0 ≡ true
@@ -57,7 +55,7 @@ module _ {L : Type 0} where
           → value_at (cond c (without_leaf xs b) (x ∷ without_leaf xs b)) id ≡ cond (nat_eq x.0 id) (Some x.1) (value_at xs id)
       step true e ih =
           let same : x.0 ≡ b = grind (arith, nat_tests) in
-          ih ∙ sym (ap (λ c. cond c (Some x.1) (value_at xs id)) (differs x.0 id (λ w. d (sym same ∙ w))))
+          ih ∙ sym (ap (λ c. cond c (Some x.1) (value_at xs id)) (ne_eqb x.0 id (λ w. d (sym same ∙ w))))
       step false e ih = ap (cond (nat_eq x.0 id) (Some x.1)) ih
 
   value-without_all : (ms xs : List (ℕ × L)) (id : ℕ) → times_leaf ms id ≡ 0 → value_at (without_all (ids ms) xs) id ≡ value_at xs id
@@ -189,7 +187,7 @@ module _ {L : Type 0} where
       stays None there d live = tt
       stays (Some i) there d live =
           let one : times_leaf now b ≡ 1 = omega (arith, live, m.times b, once b) in
-          let apart : same b i ≡ 0 = ap {B = ℕ} (λ c. cond c 1 0) (differs b i (λ e. d (ap Some (sym e)))) in
+          let apart : same b i ≡ 0 = ap {B = ℕ} (λ c. cond c 1 0) (ne_eqb b i (λ e. d (ap Some (sym e)))) in
           omega (arith, times-without-one now b i one, m.times i, there, apart)
 
       apart_back : (o : Option ℕ) → IsApart (filter t xs) o → IsApart m.back o
@@ -302,7 +300,7 @@ module _ {C U : Type 0} (units : C → List U) (k : ℕ) where
   find_node (suc q) p xs some h e =
       let head : Found = record { leaf = None; offset = 0 } in
       let many : 1 ≤ p = omega (arith, e, some-size q xs some h) in
-      let other : nat_eq p 0 ≡ false = differs p 0 (λ z. (omega (arith, z, many))) in
+      let other : nat_eq p 0 ≡ false = ne_eqb p 0 (λ z. (omega (arith, z, many))) in
       ap (λ b. found_leaf (cond b (Some head) (place_from (leaf_length units (Stage k)) xs p))) other ∙ found_node q p None xs some h e
 
 -- ---- one stage

@@ -1,8 +1,8 @@
 //! What a client does with its merge trees when it comes back under a new connection: each pending stage is sent again
 //! as pieces whose positions are those of now, and the pending leaves move to where the order will put them.
 //!
-//! A stage costs what it touched: a call asks the tree for the leaves that have something of a stage, and counts the place of
-//! each. No call walks along all leaves.
+//! A call asks the tree for the leaves of which a stage has something, and for the place of each, which passes the pending
+//! leaves left of it. None walks along all leaves.
 //!
 //! A call that can't answer `OutOfMemory` takes no memory.
 #![tactic(auto)]

@@ -24,7 +24,7 @@ use ft_tree::Tree;
 /// Brings a merge tree in order after its pending stages were regenerated, so that it is as if they had been made afresh:
 /// what is pending on elements with a sequenced removal goes, and the leaves of pending insertions move to where the order
 /// will put them. The elements of each stage stand side by side in its view. Every leaf keeps its node. It goes to the leaves
-/// that each pending stage touched, three times for a stage with an insertion, and else twice.
+/// that each pending stage touched, a few times for each stage.
 ///
 /// Answers `OutOfMemory` where there is no room for it, and then the tree may be used no more.
 pub fn normalise<C: Content>(tree: &mut Tree<C>) -> Result<(), OutOfMemory>

@@ -25,8 +25,8 @@ pub enum Piece {
 
 /// The pieces as which a pending stage is sent again: its insertion where its elements stand among those that the stage
 /// before sees, and one piece for each run of elements there that it marks, leftmost first, with positions as after the
-/// earlier pieces. Where nothing of the stage is left there are none. It goes to the leaves that the stage touched alone, and
-/// finds the place of each that it marks.
+/// earlier pieces. Where nothing of the stage is left there are none. It goes to the leaves that the stage touched, once for each
+/// kind of piece, and finds the place of each.
 ///
 /// Answers `OutOfMemory` where there is no room for them.
 pub fn regenerate<C: Content>(tree: &Tree<C>, stage: u64) -> Result<Vec<Piece>, OutOfMemory>

@@ -1,4 +1,4 @@
-//! Tests of what stands on the merge tree: compaction, regeneration and normalising.
+//! Tests of what stands on the merge tree, compaction, regeneration and normalising, and of what these ask it of pending stages.
 #![tactic(auto)]
 
 #[cfg(test)]

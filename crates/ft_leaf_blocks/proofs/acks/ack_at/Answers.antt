@@ -28,11 +28,11 @@ set_stamps-requires g c =
       );
     }
 
-pub returns-then-not-has_any_of-clause-leaves : goal.returns-then-not-has_any_of-clause-leaves
-returns-then-not-has_any_of-clause-leaves g c =
+pub returns-then-not-is_touched_by-clause-leaves : goal.returns-then-not-is_touched_by-clause-leaves
+returns-then-not-is_touched_by-clause-leaves g c =
     let v = c.leaf-leaf.result.now in
     let k = c.args.stage in
-    let n = neither (is_of_stage k v.stamps.ins) (is_marked_by k v) (sym c.has_any_of.ensures ∙ c.if-not-has_any_of.true) in
+    let n = neither (is_of_stage k v.stamps.ins) (is_marked_by k v) (sym c.is_touched_by.ensures ∙ c.if-not-is_touched_by.true) in
     sym (change-nothing (acked_leaf g.C.Content.stamped k c.args.seq c.args.conn) c.args.blocks.now.leaves c.args.id v c.first-first.ensures.once c.leaf-leaf.ensures
     (acked_stays g.C.Content.stamped k c.args.seq c.args.conn v n.0 n.1))
 

@@ -1,4 +1,5 @@
 use Rattle.std.proofs.Common.{◌≡◌, ◌+◌, ◌-◌, drop, false, filter, length, ap, subst, sym, ◌∙◌, arith}
+use Rattle.std.proofs.lemmas.Bool.{and_from, and_left, and_right}
 use Rattle.ft_base.specs.Scan.{len}
 use Rattle.ft_base.specs.Visibility.{seen_at}
 use Rattle.ft_block.specs.declared.leaves.LenView.TheVariants.{Stage}
@@ -8,8 +9,8 @@ use Rattle.ft_leaves.specs.Elements.{seen_in}
 use Rattle.ft_leaves.specs.LeafLists.{elements}
 use Rattle.ft_rebase.specs.MarkedRuns.{RunsRise, continued}
 use Rattle.ft_rebase.specs.Pieces.{has_mark, leaf_has_mark}
-use Rattle.ft_rebase.proofs.ListedLeaves.{drop_listed, listed_at, mapped}
-use Rattle.ft_rebase.proofs.ListedRuns.{adds_run, both_hold, listed_runs, none_added, not_first, not_second, run_added, run_within, runs-listed}
+use Rattle.ft_rebase.proofs.ListedLeaves.{drop_listed, listed_at, mapped_value}
+use Rattle.ft_rebase.proofs.ListedRuns.{adds_run, listed_runs, none_added, run_added, run_within, runs-listed}
 use Rattle.ft_rebase.proofs.MarkedRunLemmas.{continued-none, runs-rise}
 use Rattle.ft_rebase.proofs.marks.marked_runs.Goals as goal
 use Rattle.ft_rebase.proofs.marks.marked_runs.Goals.{then-seen_at+then-has_mark+in_ok-push_run, else-seen_at, else-seen_at-via-then-seen_at+else-has_mark, else-seen_at-via-else-seen_at}
@@ -63,7 +64,7 @@ overflow_add-start g c =
     c.leaf-item.is in
     let place = c.stage_position-start.ensures
     ∙ ap (λ n. len (seen_in (Stage n)) (elements us by (left_of xs c.leaf-item.result))) c.saturating_sub-before.ensures in
-    let size = mapped (λ x. length (us x.content)) _ _ _ s.is c.leaf_len.ensures.value in
+    let size = mapped_value (λ x. length (us x.content)) _ _ _ s.is c.leaf_len.ensures.value in
     let within = run_within us by (Stage (k - 1)) c.args.mark k xs c.leaf-item.result s.value c.first_leaf-first.ensures.once s.is in
     omega (arith, place, size, within, c.first_leaf-first.ensures.few)
 
@@ -81,23 +82,23 @@ loop-leaf-preserved g c =
     let s = listed_at (λ x. is_touched_by c.args.stage x.1) c.args.tree.now.leaves c.deref-leaf-items.result.now c.loop-leaf.leaf-index
     c.leaf-item.result c.first_leaf-first.ensures.once (c.deref-leaf-items.ensures.value ∙ c.in_ok-touched.ensures) c.loop-leaf-test.true
     c.leaf-item.is in
-    let stamps = mapped (λ x. x.stamps) _ _ _ s.is c.leaf_element.ensures in
+    let stamps = mapped_value (λ x. x.stamps) _ _ _ s.is c.leaf_element.ensures in
     let sees : seen_at s.value.stamps (k - 1) ≡ c.seen_at.result =
     ap (λ t. seen_at t (k - 1)) stamps ∙ ap (seen_at c.leaf_element.result.now) (sym c.saturating_sub-before.ensures) ∙ sym c.seen_at.ensures in
     elim c.if-seen_at.branch [
       | then-seen_at+then-has_mark+in_ok-push_run w ↦
-          (let marked = mapped (leaf_has_mark mark k) _ _ _ s.is w.has_mark.ensures in
+          (let marked = mapped_value (leaf_has_mark mark k) _ _ _ s.is w.has_mark.ensures in
           let place = w.stage_position-start.ensures ∙ ap (λ n. len (seen_in (Stage n)) (elements us by (left_of xs leaf))) c.saturating_sub-before.ensures in
-          let size = mapped (λ x. length (us x.content)) _ _ _ s.is w.leaf_len.ensures.value in
+          let size = mapped_value (λ x. length (us x.content)) _ _ _ s.is w.leaf_len.ensures.value in
           ap (λ v. continued v.items (listed_runs us by view mark k xs (drop (i + 1) (filter (λ x. is_touched_by k x.1) xs)))) w.runs-is
           ∙ run_added us by view mark k xs i leaf s was _ c.loop-leaf.invariant w.stage_position-start.result w.leaf_len.result
-          w.push_run.new.runs.items (both_hold _ _ (sees ∙ w.if-seen_at.true) (marked ∙ w.if-has_mark.true)) place size
+          w.push_run.new.runs.items (and_from _ _ (sees ∙ w.if-seen_at.true) (marked ∙ w.if-has_mark.true)) place size
           w.in_ok-push_run.ensures)
       | else-seen_at w ↦
           (let none : adds_run us by view mark k xs (leaf, s.value) ≡ false = elim w.else-seen_at.branch [
             | else-seen_at-via-then-seen_at+else-has_mark u ↦
-                not_second _ _ (mapped (leaf_has_mark mark k) _ _ _ s.is u.has_mark.ensures ∙ u.if-has_mark.false)
-            | else-seen_at-via-else-seen_at u ↦ not_first _ _ (sees ∙ u.if-seen_at.false)
+                and_right _ _ (mapped_value (leaf_has_mark mark k) _ _ _ s.is u.has_mark.ensures ∙ u.if-has_mark.false)
+            | else-seen_at-via-else-seen_at u ↦ and_left _ _ (sees ∙ u.if-seen_at.false)
           ] in
           ap (λ v. continued v.items (listed_runs us by view mark k xs (drop (i + 1) (filter (λ x. is_touched_by k x.1) xs)))) w.runs-is
           ∙ none_added us by view mark k xs i leaf s was _ c.loop-leaf.invariant none)

@@ -2,13 +2,13 @@ use Rattle.std.proofs.Common.{not, sym, ◌∙◌, ap}
 use Rattle.std.specs.List.{list_any}
 use Rattle.ft_base.specs.Visibility.{is_acked}
 use Rattle.ft_rebase.proofs.CarriedLeaves.{bare-same}
-use Rattle.ft_rebase.proofs.ListedLeaves.{mapped}
+use Rattle.ft_rebase.proofs.ListedLeaves.{mapped_value}
 use Rattle.ft_rebase.proofs.normalisation.has_pending.Goals as goal
 
 pub returns-else-marked : goal.returns-else-marked
 returns-else-marked g c = λ h v e.
-    let stamps = mapped (λ x. x.stamps) _ _ _ e c.leaf_element.ensures in
-    let overlay = mapped (λ x. x.overlay) _ _ _ e c.leaf_overlay.ensures in
+    let stamps = mapped_value (λ x. x.stamps) _ _ _ e c.leaf_element.ensures in
+    let overlay = mapped_value (λ x. x.overlay) _ _ _ e c.leaf_overlay.ensures in
     bare-same v
     (ap (λ s. list_any (λ t. not (is_acked t)) s.dels) stamps ∙ ap (list_any (λ t. not (is_acked t))) (sym c.as_slice.ensures)
     ∙ sym c.has_local-marked.ensures ∙ c.if-marked.false)

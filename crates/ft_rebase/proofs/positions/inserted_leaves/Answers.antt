@@ -4,7 +4,7 @@ use Rattle.ft_block.specs.Leaves.{ids}
 use Rattle.ft_leaves.specs.Edits.{is_touched_by}
 use Rattle.ft_rebase.specs.Moves.{leaf_stamps}
 use Rattle.ft_rebase.specs.StageLists.{inserted_by}
-use Rattle.ft_rebase.proofs.ListedLeaves.{drop_listed, inserted-touched, listed_at, mapped, more_filtered, none_filtered}
+use Rattle.ft_rebase.proofs.ListedLeaves.{drop_listed, inserted-touched, listed_at, mapped_value, more_filtered, none_filtered}
 use Rattle.ft_rebase.proofs.positions.inserted_leaves.Goals as goal
 use Rattle.ft_rebase.proofs.positions.inserted_leaves.Goals.{then-is_of_stage+in_ok-push, else-is_of_stage}
 
@@ -29,7 +29,7 @@ loop-leaf-preserved g c =
     let t = inserted_by leaf_stamps k in
     let s = listed_at (λ x. is_touched_by k x.1) c.args.tree.now.leaves c.deref-leaf-items.result.now i c.leaf-item.result
     c.first_leaf-first.ensures.once (c.deref-leaf-items.ensures.value ∙ c.in_ok-touched.ensures) c.loop-leaf-test.true c.leaf-item.is in
-    let stamps = mapped (λ x. x.stamps) _ _ _ s.is c.leaf_element.ensures in
+    let stamps = mapped_value (λ x. x.stamps) _ _ _ s.is c.leaf_element.ensures in
     let test = ap (λ e. is_of_stage k e.ins) stamps ∙ sym c.is_of_stage.ensures in
     elim c.if-is_of_stage.branch [
       | then-is_of_stage+in_ok-push w ↦
