@@ -2,9 +2,10 @@
 # How many remote insertions, removals and local insertions a tree of text makes in a second of processor time,
 # how many pending stages it acknowledges, how many it regenerates where 1,000 are pending, and how many removals
 # it makes where 1,000 references stand on it. The tree has 10,000 and 100,000 elements, each in a leaf of its own,
-# and a window of 100 sequence numbers above the floor; half as many are removed, and as many written. Each edit is
-# at a pseudo-random place; a sender lags behind within the window. Each figure but the first is the time of a run
-# with these edits less that of a run with none. Build the program first: rt run, in crates/ft_bench_tree.
+# and a window of 100 sequence numbers above the floor; 5,000 are removed, while the floor stays, and as many written
+# as there are. Each edit is at a pseudo-random place; a sender lags behind within the window. Each figure but the
+# first is the time of a run with these edits less that of a run with none. Build the program first: rt run, in
+# crates/ft_bench_tree.
 program="$(dirname "$0")/../crates/ft_bench_tree/out/ft_bench_tree"
 program="${1:-$program}"
 TIMEFORMAT='%U'
@@ -29,8 +30,8 @@ rate() {
 
 pending=1000
 references=1000
+removals=5000
 for elements in 10000 100000; do
-    removals=$((elements / 2))
     filled=$(run_time "$elements" 100 0 0 0 0 0)
     removed=$(($(run_time "$elements" 100 0 "$removals" 0 0 0) - filled))
     written=$(run_time "$elements" 100 0 0 "$elements" 0 0)
