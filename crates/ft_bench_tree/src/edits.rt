@@ -3,6 +3,7 @@
 ghost use Rattle.std.specs.Prelude.{◌≡◌, ◌+◌, ◌-◌, ◌<◌, ◌≤◌, IsTrue, IfOk, OnOk};
 ghost use Rattle.ft_text_steps.specs.Passing.{HasNoChanges};
 
+use crate::comments::{CommentCounts, comment};
 use ft_base::{Perspective, Steps};
 use ft_block::LenView;
 use ft_rebase::regenerate;
@@ -30,6 +31,8 @@ pub struct Counts {
     pub regenerations: u32,
     /// Stages that are acknowledged.
     pub acknowledgements: u32,
+    /// Intervals that are added behind all that.
+    pub comments: CommentCounts,
 }
 
 /// What is left at the end.
@@ -41,6 +44,8 @@ pub struct Answer {
     pub made: u64,
     /// How many pieces the regenerated stages had.
     pub pieces: u64,
+    /// How many intervals were shown.
+    pub shown: u64,
 }
 
 /// How many connections take turns.
@@ -224,10 +229,19 @@ fn run_on<G: Ledger>(alloc: Global, counts: &Counts, blank: Blank) -> Result<Ans
         counts.elements,
         counts.window,
     )?;
+    let shown = comment(
+        alloc,
+        &mut tree,
+        counts.insertions,
+        &counts.comments,
+        &mut numbers,
+        &mut steps,
+    )?;
     Ok(Answer {
         length: tree.length(LOCAL),
         made: tree.made(),
         pieces,
+        shown,
     })
 }
 

@@ -131,6 +131,7 @@ impl<L: Leaf> Blocks<L> {
         ensures once { (id : ℕ) → times_leaf self.now.leaves id ≤ 1 }
         ensures some { All (λ x. 1 ≤ L.size x.1) self.now.leaves }
         ensures few { length_by L.size self.now.leaves < 2 ^ 64 }
+        ensures depth { 4 ^ self.now.depth ≤ length self.now.leaves + 1 }
     {
         let _ = &self.root;
         self.arena.first()

@@ -16,4 +16,4 @@ pub mod SettledOperation
 pub mod LocalEdits
 pub mod ShownAll
 pub mod WrittenLists
-pub mod ShownEnds
+pub mod StandingEnds

@@ -1,5 +1,5 @@
 -- What a stage sees stays seen up to the next stage that removes elements, and so do ends that stand there.
-use Rattle.std.proofs.Common.{◌≡◌, ℕ, zero, suc, ◌+◌, ◌-◌, ◌<◌, ◌≤◌, Bool, true, false, cond, not, ◌&&◌, ◌||◌, nat_le, nat_lt, List, [], ◌∷◌, ◌++◌, flat_map, Option, Some, None, option_map, option_and_then, refl, sym, ◌∙◌, ap, subst, arith}
+use Rattle.std.proofs.Common.{◌≡◌, ℕ, zero, suc, ◌+◌, ◌-◌, ◌<◌, ◌≤◌, Bool, true, false, cond, not, ◌&&◌, ◌||◌, nat_le, nat_lt, List, [], ◌∷◌, ◌++◌, flat_map, Option, Some, None, option_map, refl, sym, ◌∙◌, ap, subst, arith}
 use Rattle.std.specs.Prelude.{⊤}
 use Rattle.std.specs.List.{enumerate_from, filter_map, list_any}
 use Rattle.std.proofs.lemmas.Bool.Decides.{nat_tests}
@@ -10,10 +10,16 @@ use Rattle.ft_base.specs.Visibility.{has_occurred_at_stage}
 use Rattle.ft_block.specs.declared.leaves.LenView.TheVariants.{Stage}
 use Rattle.ft_leaves.specs.Edits.{least_above, lesser, next_removal_above, stage_of}
 use Rattle.ft_leaves.specs.Elements.{TreeElement, seen_in}
-use Rattle.ft_leaves.specs.Places.{place_at, seen_before, settled_number}
+use Rattle.ft_leaves.specs.declared.text.TextContent.{TextContent}
+use Rattle.ft_leaves.specs.Places.{place_at, seen_before}
+use Rattle.ft_props.specs.Element.{ElementContent}
+use Rattle.ft_refs.specs.declared.numbers.Place.{Place}
+use Rattle.ft_tree.specs.State.{TreeState}
 use Rattle.ft_interval.specs.Numbers.{IsNumber, number_of, until}
 use Rattle.ft_interval.specs.Shown.{carried_end, settled_end}
-use Rattle.ft_interval.proofs.SettledEnds.{is_ok_at, settled-number, settled-ok, settled-stays}
+use Rattle.ft_interval.specs.Standing.{StandsAt, end_place}
+use Rattle.ft_interval.specs.State.{text_elements}
+use Rattle.ft_interval.proofs.SettledEnds.{is_ok_at, settled-ok, settled-stays}
 
 -- ---- the least number above another one
 
@@ -27,7 +33,7 @@ abbrev pub AreFree : ℕ → ℕ → List ℕ → Type 0
 AreFree a m [] = ⊤
 AreFree a m (n ∷ ns) = (a < n → m < n) × AreFree a m ns
 
-beyond-lesser : (m n : ℕ) (o : Option ℕ) → m < n → IsBeyond m o → m < lesser n o
+pub beyond-lesser : (m n : ℕ) (o : Option ℕ) → m < n → IsBeyond m o → m < lesser n o
 beyond-lesser m n None l b = l
 beyond-lesser m n (Some q) l b = by (nat_le n q)
   where
@@ -65,7 +71,7 @@ free-within a m b k [] l h f = tt
 free-within a m b k (n ∷ ns) l h f =
     ((λ g. (let above : a < n = omega (arith, l, g) in omega (arith, h, f.0 above))), free-within a m b k ns l h f.1)
 
-free-append : (a m : ℕ) (xs ys : List ℕ) → AreFree a m (xs ++ ys) → AreFree a m xs × AreFree a m ys
+pub free-append : (a m : ℕ) (xs ys : List ℕ) → AreFree a m (xs ++ ys) → AreFree a m xs × AreFree a m ys
 free-append a m [] ys f = (tt, f)
 free-append a m (x ∷ xs) ys f = (let rest = free-append a m xs ys f.1 in ((f.0, rest.0), rest.1))
 
@@ -224,12 +230,6 @@ place-end xs k p (Some i) n =
     ap (λ q. place_at (seen_in (Stage k)) q xs) (same-number p (seen_before (seen_in (Stage k)) xs i) n.is)
     ∙ place-number (seen_in (Stage k)) i xs (settled-ok (seen_in (Stage k)) i i xs n.seen)
 
--- the end settled at another stage, by its number there
-pub number-after : {U : Type 0} (xs : List (TreeElement U)) (k m p : ℕ) (end result : Option ℕ) → IsNumber xs k end (Some p)
-    → result ≡ option_and_then (settled_number (seen_in (Stage m)) xs) (place_at (seen_in (Stage k)) p xs) → IsNumber xs m (settled_end xs m end) result
-number-after xs k m p end result n h =
-    settled-number xs m end result (h ∙ ap (λ e. option_and_then (settled_number (seen_in (Stage m)) xs) e) (place-end xs k p end n))
-
 pub number-none : {U : Type 0} (xs : List (TreeElement U)) (k : ℕ) (end : Option ℕ) → IsNumber xs k end None → end ≡ None
 number-none xs k None n = refl
 number-none xs k (Some i) n = absurd (none-some (seen_before (seen_in (Stage k)) xs i) (number_of xs k (Some i)) n.is refl)
@@ -254,41 +254,27 @@ until-none m (Some j) h = by (nat_le j m) refl h
 
 -- ---- the steps of the loop
 
-module _ {U : Type 0} (xs : List (TreeElement U)) where
+module _ (tree : TreeState TextContent) where
+  abbrev all : List (TreeElement ElementContent)
+  all = text_elements tree
+
   -- one stage that removes elements
-  pub step-number : (a k m p : ℕ) (end result : Option ℕ) → until m (next_removal_above a xs) ≡ Some k → IsNumber xs a end (Some p)
-      → result ≡ option_and_then (settled_number (seen_in (Stage k)) xs) (place_at (seen_in (Stage a)) p xs)
-      → IsNumber xs k (settled_end xs k end) result × (carried_end xs k (m - k) (settled_end xs k end) ≡ carried_end xs a (m - a) end)
-  step-number a k m p end result u n h =
-      let both = until-some m k (next_removal_above a xs) u in
-      (number-after xs a k p end result n h, carried-next xs a k m end both.1 both.0 n.seen)
+  pub step-stands : (a k m : ℕ) (end : Option ℕ) (at now : Option Place) → until m (next_removal_above a all) ≡ Some k → StandsAt tree a end at
+      → StandsAt tree k (settled_end all k (end_place tree at)) now
+      → StandsAt tree k (settled_end all k end) now × (carried_end all k (m - k) (settled_end all k end) ≡ carried_end all a (m - a) end)
+  step-stands a k m end at now u s h =
+      let both = until-some m k (next_removal_above a all) u in
+      (subst (λ e. StandsAt tree k (settled_end all k e) now) s.is h, carried-next all a k m end both.1 both.0 s.seen)
 
-  -- where that stage sees nothing
-  pub step-none : (a k m p : ℕ) (end : Option ℕ) → until m (next_removal_above a xs) ≡ Some k → IsNumber xs a end (Some p)
-      → None ≡ option_and_then (settled_number (seen_in (Stage k)) xs) (place_at (seen_in (Stage a)) p xs) → carried_end xs a (m - a) end ≡ None
-  step-none a k m p end u n h =
-      let both = step-number a k m p end None u n h in
-      sym both.1 ∙ ap (λ e. carried_end xs k (m - k) e) (number-none xs k (settled_end xs k end) both.0) ∙ carried-none xs k (m - k)
+  -- where no further stage does
+  pub last-stands : (a m : ℕ) (end : Option ℕ) (at : Option Place) → a ≤ m → until m (next_removal_above a all) ≡ None → StandsAt tree a end at
+      → StandsAt tree m (carried_end all a (m - a) end) at
+  last-stands a m end at le u s =
+      let both = carried-last all a m end le (until-none m (next_removal_above a all) u) s.seen in
+      subst (λ e. StandsAt tree m e at) (sym both.0) (record { on_leaf = s.on_leaf; is = s.is; seen = both.1 })
 
-  pub none-number : (m : ℕ) (end : Option ℕ) → end ≡ None → IsNumber xs m end None
-  none-number m None h = record { seen = refl; is = refl; inside = tt }
-  none-number m (Some i) h = absurd cc
-
-  -- the last stretch
-  pub last-number : (a m p : ℕ) (end result : Option ℕ) → a ≤ m → until m (next_removal_above a xs) ≡ None → IsNumber xs a end (Some p)
-      → result ≡ option_and_then (settled_number (seen_in (Stage m)) xs) (place_at (seen_in (Stage a)) p xs)
-      → IsNumber xs m (carried_end xs a (m - a) end) result
-  last-number a m p end result le u n h =
-      let both = carried-last xs a m end le (until-none m (next_removal_above a xs) u) n.seen in
-      subst (λ e. IsNumber xs m e result) (both.1 ∙ sym both.0) (number-after xs a m p end result n h)
-
-  -- nothing to carry
-  pub carried-nothing : (a m : ℕ) (end : Option ℕ) → IsNumber xs a end None → IsNumber xs m (carried_end xs a (m - a) end) None
-  carried-nothing a m end n =
-      none-number m (carried_end xs a (m - a) end) (ap (λ e. carried_end xs a (m - a) e) (number-none xs a end n) ∙ carried-none xs a (m - a))
-
-  -- up to the next stage the number is above
-  pub removal-above : (a k m : ℕ) → until m (next_removal_above a xs) ≡ Some k → (a < k) × (k ≤ m)
+  -- the next stage is above
+  pub removal-above : (a k m : ℕ) → until m (next_removal_above a all) ≡ Some k → (a < k) × (k ≤ m)
   removal-above a k m u =
-      let both = until-some m k (next_removal_above a xs) u in
-      (subst (λ o. IsBeyond a o) both.0 (least-beyond a (stages xs)), both.1)
+      let both = until-some m k (next_removal_above a all) u in
+      (subst (λ o. IsBeyond a o) both.0 (least-beyond a (stages all)), both.1)

@@ -1,5 +1,5 @@
 -- Ends that are settled at a stage: they stand on an element that it sees, and stay there.
-use Rattle.std.proofs.Common.{◌≡◌, ℕ, zero, suc, ◌+◌, ◌<◌, Bool, true, false, cond, nat_eq, List, [], ◌∷◌, take, Option, Some, None, is_some, option_map, option_and_then, refl, sym, ◌∙◌, ap, arith}
+use Rattle.std.proofs.Common.{◌≡◌, ℕ, zero, suc, ◌+◌, ◌<◌, ◌≤◌, Bool, true, false, cond, nat_eq, List, [], ◌∷◌, length, Option, Some, None, is_some, option_map, option_and_then, refl, sym, ◌∙◌, ap, subst, arith}
 use Rattle.std.specs.Option.{option_or}
 use Rattle.std.proofs.lemmas.Bool.Decides.{nat_tests}
 use Rattle.ft_base.specs.Scan.{len, one_more_if}
@@ -8,9 +8,7 @@ use Rattle.ft_leaves.specs.Elements.{TreeElement, seen_in}
 use Rattle.ft_leaves.specs.Places.{seen_before, settled_number, settled_place}
 use Rattle.ft_leaves.specs.Settling.{first_from, settled_from}
 use Rattle.ft_leaves.proofs.Settling.{settled_place-from}
-use Rattle.ft_interval.specs.Numbers.{IsInside, IsNumber, ShowsEnds}
-use Rattle.ft_interval.specs.declared.intervals.EndPair.{EndPair}
-use Rattle.ft_interval.specs.declared.intervals.Interval.{Interval}
+use Rattle.ft_interval.specs.Numbers.{IsNumber}
 use Rattle.ft_interval.specs.Shown.{settled_end}
 
 module _ {A : Type 0} (ok : A → Bool) where
@@ -77,45 +75,72 @@ module _ {A : Type 0} (ok : A → Bool) where
   pub settled-ok : (i j : ℕ) (xs : List A) → settled_place ok xs i ≡ Some j → is_ok_at j xs ≡ true
   settled-ok i j xs h = ok_from xs i 0 None xs (λ p e. absurd cc) (λ m. (let e : m ≡ 0 + m = omega arith in ap (λ a. is_ok_at a xs) e)) j (sym (settled_place-from ok i xs) ∙ h)
 
-  -- fewer are ok before it than in all
-  pub before-inside : (i : ℕ) (xs : List A) → is_ok_at i xs ≡ true → seen_before ok xs i < len ok xs
-  before-inside i [] h = absurd cc
-  before-inside zero (x ∷ xs) h = grind arith
-  before-inside (suc i) (x ∷ xs) h = step (ok x) (before-inside i xs h)
+  -- where one is ok, a place in the list settles
+  some-first : (n : ℕ) (xs : List A) → 1 ≤ len ok xs → is_some (first_from ok n xs) ≡ true
+  some-first n [] h = absurd (omega arith)
+  some-first n (x ∷ xs) h = step (ok x) h (some-first (n + 1) xs)
     where
-      step : (b : Bool) → len ok (take i xs) < len ok xs → one_more_if b (len ok (take i xs)) < one_more_if b (len ok xs)
-      step true l = omega arith
-      step false l = l
+      step : (b : Bool) → 1 ≤ one_more_if b (len ok xs) → (1 ≤ len ok xs → is_some (first_from ok (n + 1) xs) ≡ true)
+          → is_some (cond b (Some n) (first_from ok (n + 1) xs)) ≡ true
+      step true h f = refl
+      step false h f = f h
+
+  some-or : (o last : Option ℕ) → (is_some last ≡ false → is_some o ≡ true) → is_some (option_or o last) ≡ true
+  some-or None None f = f refl
+  some-or None (Some m) f = refl
+  some-or (Some n) last f = refl
+
+  some_from : (i n : ℕ) (last : Option ℕ) (xs : List A) → i < length xs → 1 ≤ one_more_if (is_some last) (len ok xs)
+      → is_some (settled_from ok (n + i) last n xs) ≡ true
+  some_from i n last [] l h = absurd (omega arith)
+  some_from zero n last (x ∷ xs) l h =
+      let here : nat_eq n (n + 0) ≡ true = grind (arith, nat_tests) in
+      let next : Option ℕ = cond (ok x) (Some n) last in
+      ap (λ b. is_some (cond b (option_or (first_from ok n (x ∷ xs)) last) (settled_from ok (n + 0) next (n + 1) xs))) here
+      ∙ some-or (first_from ok n (x ∷ xs)) last (λ e. some-first n (x ∷ xs) (subst (λ b. 1 ≤ one_more_if b (len ok (x ∷ xs))) e h))
+  some_from (suc i) n last (x ∷ xs) l h =
+      let here : nat_eq n (n + suc i) ≡ false = grind (arith, nat_tests) in
+      let behind : (n + 1) + i ≡ n + suc i = omega arith in
+      let next : Option ℕ = cond (ok x) (Some n) last in
+      ap (λ b. is_some (cond b (option_or (first_from ok n (x ∷ xs)) last) (settled_from ok (n + suc i) next (n + 1) xs))) here
+      ∙ ap (λ j. is_some (settled_from ok j next (n + 1) xs)) (sym behind)
+      ∙ some_from i (n + 1) next xs (omega (arith, l)) (more (ok x) h)
+    where
+      more : (b : Bool) → 1 ≤ one_more_if (is_some last) (one_more_if b (len ok xs))
+          → 1 ≤ one_more_if (is_some (cond b (Some n) last)) (len ok xs)
+      more true g = omega arith
+      more false g = g
+
+  pub settled-some : (i : ℕ) (xs : List A) → i < length xs → 1 ≤ len ok xs → is_some (settled_place ok xs i) ≡ true
+  settled-some i xs l h =
+      let e : 0 + i ≡ i = omega arith in
+      ap (λ o. is_some o) (settled_place-from ok i xs) ∙ ap (λ a. is_some (settled_from ok a None 0 xs)) (sym e) ∙ some_from i 0 None xs l h
+
+  -- so the number of a reference's element is none only where it is detached or nothing is seen
+  pub number-some : (i : ℕ) (xs : List A) → i < length xs → 1 ≤ len ok xs → is_some (settled_number ok xs i) ≡ true
+  number-some i xs l h = step (settled_place ok xs i) (settled-some i xs l h)
+    where
+      step : (o : Option ℕ) → is_some o ≡ true → is_some (option_map (seen_before ok xs) o) ≡ true
+      step None e = cc
+      step (Some j) e = refl
 
 module _ {U : Type 0} (xs : List (TreeElement U)) (k : ℕ) where
-  inside_by : (number : Option ℕ) (p : ℕ) → number ≡ Some p → p < len (seen_in (Stage k)) xs → IsInside xs k number
-  inside_by None p e l = absurd cc
-  inside_by (Some q) p e l = let same : q ≡ p = cc in omega (arith, same)
-
-  none_by : (number : Option ℕ) → number ≡ None → IsInside xs k number
-  none_by None e = tt
-  none_by (Some p) e = absurd cc
-
   by_place : (o result : Option ℕ) (i : ℕ) → settled_place (seen_in (Stage k)) xs i ≡ o → result ≡ option_map (seen_before (seen_in (Stage k)) xs) o
       → IsNumber xs k o result
-  by_place None result i e h = record { seen = refl; is = h; inside = none_by result h }
-  by_place (Some j) result i e h =
-      let there = settled-ok (seen_in (Stage k)) i j xs e in
-      record {
-        seen = settled-stays (seen_in (Stage k)) j xs there;
-        is = h;
-        inside = inside_by result (seen_before (seen_in (Stage k)) xs j) h (before-inside (seen_in (Stage k)) j xs there);
-      }
+  by_place None result i e h = record { seen = refl; is = h }
+  by_place (Some j) result i e h = record { seen = settled-stays (seen_in (Stage k)) j xs (settled-ok (seen_in (Stage k)) i j xs e); is = h }
+
+  -- an end that is settled stays where it is
+  pub settled-twice : (end : Option ℕ) → settled_end xs k (settled_end xs k end) ≡ settled_end xs k end
+  settled-twice None = refl
+  settled-twice (Some i) = by (settled_place (seen_in (Stage k)) xs i) refl
+    where
+      by : (o : Option ℕ) → settled_place (seen_in (Stage k)) xs i ≡ o → settled_end xs k o ≡ o
+      by None e = refl
+      by (Some j) e = settled-stays (seen_in (Stage k)) j xs (settled-ok (seen_in (Stage k)) i j xs e)
 
 -- the end of a reference, settled at a stage, with its number there
 pub settled-number : {U : Type 0} (xs : List (TreeElement U)) (k : ℕ) (end result : Option ℕ)
     → result ≡ option_and_then (settled_number (seen_in (Stage k)) xs) end → IsNumber xs k (settled_end xs k end) result
-settled-number xs k None result h = record { seen = refl; is = h; inside = none_by xs k result h }
+settled-number xs k None result h = record { seen = refl; is = h }
 settled-number xs k (Some i) result h = by_place xs k (settled_place (seen_in (Stage k)) xs i) result i refl h
-
--- the ends of an interval are shown just where it is there
-pub shows-some : {U : Type 0} (xs : List (TreeElement U)) (k : ℕ) (i : Option (Interval ℕ)) (e : Option (EndPair ℕ)) → ShowsEnds xs k i e → is_some e ≡ is_some i
-shows-some xs k None None h = refl
-shows-some xs k None (Some e) h = absurd h
-shows-some xs k (Some i) None h = absurd h
-shows-some xs k (Some i) (Some e) h = refl

@@ -1,4 +1,4 @@
--- All intervals with numbers as ends, beside the same intervals with places.
+-- All intervals with their ends on leaves, beside the same intervals with places in the whole list.
 use Rattle.std.proofs.Common.{
   ◌≡◌,
   ℕ,
@@ -37,95 +37,100 @@ use Rattle.ft_leaves.specs.Elements.{TreeElement}
 use Rattle.ft_op.specs.declared.operations.Ends.{Ends}
 use Rattle.ft_op.specs.declared.operations.TextOp.{TextOp}
 use Rattle.ft_op.specs.declared.operations.TextOp.TheVariants.{One, Group, IntervalAdd, IntervalChange, IntervalDelete}
+use Rattle.ft_leaves.specs.declared.text.TextContent.{TextContent}
+use Rattle.ft_props.specs.Element.{ElementContent}
 use Rattle.ft_props.specs.Keys.{put_rising}
+use Rattle.ft_refs.specs.declared.numbers.Place.{Place}
+use Rattle.ft_tree.specs.State.{TreeState}
 use Rattle.ft_props.specs.Properties.{PropertySet, apply}
 use Rattle.ft_interval.specs.declared.intervals.EndPair.{EndPair}
 use Rattle.ft_interval.specs.declared.intervals.Interval.{Interval}
 use Rattle.ft_interval.specs.declared.pending.Operation.{Operation}
 use Rattle.ft_interval.specs.Ends.{References, map_ends, places_of_ends}
 use Rattle.ft_interval.specs.Intervals.{IsBeforeNames, Name, NamesRise, after_operation, changed_interval, interval_cmp, interval_of, name_cmp, name_of, with_changed, without_name}
-use Rattle.ft_interval.specs.Numbers.{AreNumbers, HasInside, IsCarriedInterval, ShowsAll, ShowsInterval, record_of}
-use Rattle.ft_interval.specs.Shown.{carried, carried_interval, last, settled_end, shown_from, shown_record}
-use Rattle.ft_interval.specs.State.{placed_operations}
-use Rattle.ft_interval.proofs.WrittenNumbers.{number-at}
+use Rattle.ft_interval.specs.Shown.{carried, carried_interval, last, number_at, settled_end, shown_from, shown_record}
+use Rattle.ft_interval.specs.Standing.{HasPlaces, IsCarriedInterval, ShowsAll, ShowsInterval, StandAt, record_at}
+use Rattle.ft_interval.specs.State.{placed_operations, text_elements}
 
 -- two lists of intervals side by side, with one name at each place
-module _ (R : Interval ℕ → Interval ℕ → Type 0) (same : (i j : Interval ℕ) → R i j → name_of j ≡ name_of i) where
-  before-alike : (n : Name) (is js : List (Interval ℕ)) → AllZip R is js → IsBeforeNames n is → IsBeforeNames n js
+module _ {S T : Type 0} (R : Interval S → Interval T → Type 0) (same : (i : Interval S) (j : Interval T) → R i j → name_of j ≡ name_of i) where
+  before-alike : (n : Name) (is : List (Interval S)) (js : List (Interval T)) → AllZip R is js → IsBeforeNames n is → IsBeforeNames n js
   before-alike n [] [] h b = tt
   before-alike n [] (j ∷ js) h b = absurd h
   before-alike n (i ∷ is) [] h b = absurd h
   before-alike n (i ∷ is) (j ∷ js) h b = (ap (λ m. name_cmp n m) (same i j h.0) ∙ b.0, before-alike n is js h.1 b.1)
 
-  pub rise-alike : (is js : List (Interval ℕ)) → AllZip R is js → NamesRise is → NamesRise js
+  pub rise-alike : (is : List (Interval S)) (js : List (Interval T)) → AllZip R is js → NamesRise is → NamesRise js
   rise-alike [] [] h r = tt
   rise-alike [] (j ∷ js) h r = absurd h
   rise-alike (i ∷ is) [] h r = absurd h
   rise-alike (i ∷ is) (j ∷ js) h r =
       (subst (λ n. IsBeforeNames n js) (sym (same i j h.0)) (before-alike (name_of i) is js h.1 r.0), rise-alike is js h.1 r.1)
 
-module _ {U : Type 0} (xs : List (TreeElement U)) (k : ℕ) where
-  same-name : (i j : Interval ℕ) → ShowsInterval xs k i j → name_of j ≡ name_of i
+module _ (tree : TreeState TextContent) (k : ℕ) where
+  same-name : (i : Interval ℕ) (j : Interval Place) → ShowsInterval tree k i j → name_of j ≡ name_of i
   same-name i j h = (let a = h.label in let b = h.id in λ t. (a t, b t))
 
-  same-order : (n : Name) (i j : Interval ℕ) → ShowsInterval xs k i j → name_cmp n (name_of j) ≡ name_cmp n (name_of i)
+  same-order : (n : Name) (i : Interval ℕ) (j : Interval Place) → ShowsInterval tree k i j → name_cmp n (name_of j) ≡ name_cmp n (name_of i)
   same-order n i j h = ap (λ m. name_cmp n m) (same-name i j h)
 
-  pub rise-shown : (is js : List (Interval ℕ)) → ShowsAll xs k is js → NamesRise is → NamesRise js
-  rise-shown is js h r = rise-alike (ShowsInterval xs k) same-name is js h r
+  pub rise-shown : (is : List (Interval ℕ)) (js : List (Interval Place)) → ShowsAll tree k is js → NamesRise is → NamesRise js
+  rise-shown is js h r = rise-alike (ShowsInterval tree k) same-name is js h r
 
-  pub push-shown : (is js : List (Interval ℕ)) (i j : Interval ℕ) → ShowsAll xs k is js → ShowsInterval xs k i j → ShowsAll xs k (is ++ i ∷ []) (js ++ j ∷ [])
+  pub push-shown : (is : List (Interval ℕ)) (js : List (Interval Place)) (i : Interval ℕ) (j : Interval Place) → ShowsAll tree k is js
+      → ShowsInterval tree k i j → ShowsAll tree k (is ++ i ∷ []) (js ++ j ∷ [])
   push-shown [] [] i j h s = (s, tt)
   push-shown [] (y ∷ js) i j h s = absurd h
   push-shown (x ∷ is) [] i j h s = absurd h
   push-shown (x ∷ is) (y ∷ js) i j h s = (h.0, push-shown is js i j h.1 s)
 
   -- one more
-  pub next-shown : (f g : Interval ℕ → Interval ℕ) (is js : List (Interval ℕ)) (n : ℕ) (i j : Interval ℕ) → n < length is → i ≡ get_or is n i
-      → ShowsAll xs k (map f (map g (take n is))) js → ShowsInterval xs k (f (g i)) j → ShowsAll xs k (map f (map g (take (n + 1) is))) (js ++ j ∷ [])
+  pub next-shown : (f g : Interval ℕ → Interval ℕ) (is : List (Interval ℕ)) (js : List (Interval Place)) (n : ℕ) (i : Interval ℕ) (j : Interval Place)
+      → n < length is → i ≡ get_or is n i
+      → ShowsAll tree k (map f (map g (take n is))) js → ShowsInterval tree k (f (g i)) j → ShowsAll tree k (map f (map g (take (n + 1) is))) (js ++ j ∷ [])
   next-shown f g is js n i j within at h s =
       let front : take (n + 1) is ≡ take n is ++ i ∷ [] = take_more is n i within ∙ ap (λ x. take n is ++ x ∷ []) (sym at) in
       let all = ap (λ us. map f (map g us)) front ∙ ap (λ us. map f us) (map-append g (take n is) (i ∷ [])) ∙ map-append f (map g (take n is)) (g i ∷ []) in
-      subst (λ us. ShowsAll xs k us (js ++ j ∷ [])) (sym all) (push-shown (map f (map g (take n is))) js (f (g i)) j h s)
+      subst (λ us. ShowsAll tree k us (js ++ j ∷ [])) (sym all) (push-shown (map f (map g (take n is))) js (f (g i)) j h s)
 
-  pub inside-shown : (is js : List (Interval ℕ)) → ShowsAll xs k is js → All (HasInside xs k) js
-  inside-shown [] [] h = All-nil (HasInside xs k)
-  inside-shown [] (j ∷ js) h = absurd h
-  inside-shown (i ∷ is) [] h = absurd h
-  inside-shown (i ∷ is) (j ∷ js) h = All-cons (HasInside xs k) j js (h.0.ends.start.inside, h.0.ends.end.inside) (inside-shown is js h.1)
+  pub places-shown : (is : List (Interval ℕ)) (js : List (Interval Place)) → ShowsAll tree k is js → All (HasPlaces tree) js
+  places-shown [] [] h = All-nil (HasPlaces tree)
+  places-shown [] (j ∷ js) h = absurd h
+  places-shown (i ∷ is) [] h = absurd h
+  places-shown (i ∷ is) (j ∷ js) h = All-cons (HasPlaces tree) j js (h.0.ends.start.on_leaf, h.0.ends.end.on_leaf) (places-shown is js h.1)
 
   -- ---- an operation
 
-  there-shown : (n : Name) (is js : List (Interval ℕ)) → ShowsAll xs k is js → is_some (interval_of n js) ≡ is_some (interval_of n is)
+  there-shown : (n : Name) (is : List (Interval ℕ)) (js : List (Interval Place)) → ShowsAll tree k is js → is_some (interval_of n js) ≡ is_some (interval_of n is)
   there-shown n [] [] h = refl
   there-shown n [] (j ∷ js) h = absurd h
   there-shown n (i ∷ is) [] h = absurd h
   there-shown n (i ∷ is) (j ∷ js) h =
-      ap (λ (o : Ordering). is_some (elim o as (λ _. Option (Interval ℕ)) [ Less ↦ None | Equal ↦ Some j | Greater ↦ interval_of n js ])) (same-order n i j h.0)
+      ap (λ (o : Ordering). is_some (elim o as (λ _. Option (Interval Place)) [ Less ↦ None | Equal ↦ Some j | Greater ↦ interval_of n js ])) (same-order n i j h.0)
       ∙ by (name_cmp n (name_of i)) (there-shown n is js h.1)
     where
       by : (o : Ordering) → is_some (interval_of n js) ≡ is_some (interval_of n is)
-          → is_some (elim o as (λ _. Option (Interval ℕ)) [ Less ↦ None | Equal ↦ Some j | Greater ↦ interval_of n js ])
+          → is_some (elim o as (λ _. Option (Interval Place)) [ Less ↦ None | Equal ↦ Some j | Greater ↦ interval_of n js ])
           ≡ is_some (elim o as (λ _. Option (Interval ℕ)) [ Less ↦ None | Equal ↦ Some i | Greater ↦ interval_of n is ])
       by Less e = refl
       by Equal e = refl
       by Greater e = e
 
   -- what is made at the place of a name, by the order there
-  abbrev made : Ordering → List (Interval ℕ) → List (Interval ℕ) → List (Interval ℕ) → List (Interval ℕ)
-  made o a b c = elim o as (λ _. List (Interval ℕ)) [ Less ↦ a | Equal ↦ b | Greater ↦ c ]
+  abbrev made : {T : Type 0} → Ordering → List (Interval T) → List (Interval T) → List (Interval T) → List (Interval T)
+  made {T} o a b c = elim o as (λ _. List (Interval T)) [ Less ↦ a | Equal ↦ b | Greater ↦ c ]
 
-  made-shown : (o p : Ordering) (a b c d e f : List (Interval ℕ)) → p ≡ o → ShowsAll xs k a d → ShowsAll xs k b e → ShowsAll xs k c f
-      → ShowsAll xs k (made o a b c) (made p d e f)
-  made-shown o p a b c d e f same x y z = subst (λ q. ShowsAll xs k (made o a b c) (made q d e f)) (sym same) (by o)
+  made-shown : (o p : Ordering) (a b c : List (Interval ℕ)) (d e f : List (Interval Place)) → p ≡ o → ShowsAll tree k a d → ShowsAll tree k b e → ShowsAll tree k c f
+      → ShowsAll tree k (made o a b c) (made p d e f)
+  made-shown o p a b c d e f same x y z = subst (λ q. ShowsAll tree k (made o a b c) (made q d e f)) (sym same) (by o)
     where
-      by : (q : Ordering) → ShowsAll xs k (made q a b c) (made q d e f)
+      by : (q : Ordering) → ShowsAll tree k (made q a b c) (made q d e f)
       by Less = x
       by Equal = y
       by Greater = z
 
-  put-shown : (x y : Interval ℕ) (is js : List (Interval ℕ)) → ShowsInterval xs k x y → ShowsAll xs k is js
-      → ShowsAll xs k (put_rising interval_cmp x is) (put_rising interval_cmp y js)
+  put-shown : (x : Interval ℕ) (y : Interval Place) (is : List (Interval ℕ)) (js : List (Interval Place)) → ShowsInterval tree k x y → ShowsAll tree k is js
+      → ShowsAll tree k (put_rising interval_cmp x is) (put_rising interval_cmp y js)
   put-shown x y [] [] s h = (s, tt)
   put-shown x y [] (j ∷ js) s h = absurd h
   put-shown x y (i ∷ is) [] s h = absurd h
@@ -135,8 +140,9 @@ module _ {U : Type 0} (xs : List (TreeElement U)) (k : ℕ) where
       (ap (λ n. name_cmp n (name_of j)) (same-name x y s) ∙ same-order (name_of x) i j h.0)
       (s, h) (s, h.1) (h.0, put-shown x y is js s h.1)
 
-  changed-shown : (n : Name) (f g : Interval ℕ → Interval ℕ) → ((i j : Interval ℕ) → ShowsInterval xs k i j → ShowsInterval xs k (f i) (g j))
-      → (is js : List (Interval ℕ)) → ShowsAll xs k is js → ShowsAll xs k (with_changed n f is) (with_changed n g js)
+  changed-shown : (n : Name) (f : Interval ℕ → Interval ℕ) (g : Interval Place → Interval Place)
+      → ((i : Interval ℕ) (j : Interval Place) → ShowsInterval tree k i j → ShowsInterval tree k (f i) (g j))
+      → (is : List (Interval ℕ)) (js : List (Interval Place)) → ShowsAll tree k is js → ShowsAll tree k (with_changed n f is) (with_changed n g js)
   changed-shown n f g s [] [] h = tt
   changed-shown n f g s [] (j ∷ js) h = absurd h
   changed-shown n f g s (i ∷ is) [] h = absurd h
@@ -145,7 +151,7 @@ module _ {U : Type 0} (xs : List (TreeElement U)) (k : ℕ) where
       (j ∷ js) (g j ∷ js) (j ∷ with_changed n g js) (same-order n i j h.0)
       h (s i j h.0, h.1) (h.0, changed-shown n f g s is js h.1)
 
-  without-shown : (n : Name) (is js : List (Interval ℕ)) → ShowsAll xs k is js → ShowsAll xs k (without_name n is) (without_name n js)
+  without-shown : (n : Name) (is : List (Interval ℕ)) (js : List (Interval Place)) → ShowsAll tree k is js → ShowsAll tree k (without_name n is) (without_name n js)
   without-shown n [] [] h = tt
   without-shown n [] (j ∷ js) h = absurd h
   without-shown n (i ∷ is) [] h = absurd h
@@ -154,56 +160,62 @@ module _ {U : Type 0} (xs : List (TreeElement U)) (k : ℕ) where
       (j ∷ js) js (j ∷ without_name n js) (same-order n i j h.0)
       h h.1 (h.0, without-shown n is js h.1)
 
-  given-shown : (given : Option Ends) (e d : EndPair ℕ) (props : PropertySet) → AreNumbers xs k e d → (i j : Interval ℕ) → ShowsInterval xs k i j
-      → ShowsInterval xs k (changed_interval given e props i) (changed_interval given d props j)
+  given-shown : (given : Option Ends) (e : EndPair ℕ) (d : EndPair Place) (props : PropertySet) → StandAt tree k e d → (i : Interval ℕ) (j : Interval Place)
+      → ShowsInterval tree k i j
+      → ShowsInterval tree k (changed_interval given e props i) (changed_interval given d props j)
   given-shown None e d props n i j s = record { label = s.label; id = s.id; props = ap (λ p. apply p props) s.props; ends = s.ends }
   given-shown (Some g) e d props n i j s = record { label = s.label; id = s.id; props = ap (λ p. apply p props) s.props; ends = n }
 
   -- the same operation keeps them side by side
-  pub after-shown : (op : TextOp) (e d : EndPair ℕ) → AreNumbers xs k e d → (is js : List (Interval ℕ)) → ShowsAll xs k is js
-      → ShowsAll xs k (after_operation op e is) (after_operation op d js)
+  pub after-shown : (op : TextOp) (e : EndPair ℕ) (d : EndPair Place) → StandAt tree k e d → (is : List (Interval ℕ)) (js : List (Interval Place)) → ShowsAll tree k is js
+      → ShowsAll tree k (after_operation op e is) (after_operation op d js)
   after-shown (One o) e d n is js h = h
   after-shown (Group o) e d n is js h = h
   after-shown (IntervalAdd label id given props) e d n is js h =
       let x : Interval ℕ = record { label = label; id = id; ends = e; props = apply [] props } in
-      let y : Interval ℕ = record { label = label; id = id; ends = d; props = apply [] props } in
-      let s : ShowsInterval xs k x y = record { label = refl; id = refl; props = refl; ends = n } in
-      subst (λ b. ShowsAll xs k (cond (is_some (interval_of (label, id) is)) is (put_rising interval_cmp x is)) (cond b js (put_rising interval_cmp y js)))
+      let y : Interval Place = record { label = label; id = id; ends = d; props = apply [] props } in
+      let s : ShowsInterval tree k x y = record { label = refl; id = refl; props = refl; ends = n } in
+      subst (λ b. ShowsAll tree k (cond (is_some (interval_of (label, id) is)) is (put_rising interval_cmp x is)) (cond b js (put_rising interval_cmp y js)))
       (sym (there-shown (label, id) is js h))
       (either (is_some (interval_of (label, id) is)) (put_rising interval_cmp x is) (put_rising interval_cmp y js) (put-shown x y is js s h))
     where
-      either : (b : Bool) (us vs : List (Interval ℕ)) → ShowsAll xs k us vs → ShowsAll xs k (cond b is us) (cond b js vs)
+      either : (b : Bool) (us : List (Interval ℕ)) (vs : List (Interval Place)) → ShowsAll tree k us vs → ShowsAll tree k (cond b is us) (cond b js vs)
       either true us vs s = h
       either false us vs s = s
   after-shown (IntervalChange label id given props) e d n is js h =
       changed-shown (label, id) (changed_interval given e props) (changed_interval given d props) (given-shown given e d props n) is js h
   after-shown (IntervalDelete label id) e d n is js h = without-shown (label, id) is js h
 
-module _ {U : Type 0} (xs : List (TreeElement U)) where
+module _ (tree : TreeState TextContent) where
   -- what is shown at the last stage
-  pub records-shown : (is js : List (Interval ℕ)) → ShowsAll xs last is js → map record_of js ≡ map (shown_record xs) is
+  pub records-shown : (is : List (Interval ℕ)) (js : List (Interval Place)) → ShowsAll tree last is js
+      → map (record_at tree) js ≡ map (shown_record (text_elements tree)) is
   records-shown [] [] h = refl
   records-shown [] (j ∷ js) h = absurd h
   records-shown (i ∷ is) [] h = absurd h
   records-shown (i ∷ is) (j ∷ js) h =
+      let xs = text_elements tree in
       let rest = records-shown is js h.1 in
       let label = h.0.label in
       let id = h.0.id in
       let props = h.0.props in
-      let first = number-at xs last i.ends.start j.ends.start h.0.ends.start in
-      let second = number-at xs last i.ends.end j.ends.end h.0.ends.end in
+      let first = ap (number_at xs last) h.0.ends.start.is in
+      let second = ap (number_at xs last) h.0.ends.end.is in
       λ t. record { label = label t; id = id t; ends = record { start = first t; end = second t }; props = props t } ∷ rest t
 
 -- ---- from stage to stage
 
-module _ {U : Type 0} (xs : List (TreeElement U)) (k m : ℕ) where
-  carried-name : (i j : Interval ℕ) → IsCarriedInterval xs k m i j → name_of j ≡ name_of i
+module _ (tree : TreeState TextContent) (k m : ℕ) where
+  abbrev elements_of : List (TreeElement ElementContent)
+  elements_of = text_elements tree
+
+  carried-name : (i j : Interval Place) → IsCarriedInterval tree k m i j → name_of j ≡ name_of i
   carried-name i j h = (let a = h.label in let b = h.id in λ t. (a t, b t))
 
-  pub rise-carried : (is js : List (Interval ℕ)) → AllZip (IsCarriedInterval xs k m) is js → NamesRise is → NamesRise js
-  rise-carried is js h r = rise-alike (IsCarriedInterval xs k m) carried-name is js h r
+  pub rise-carried : (is js : List (Interval Place)) → AllZip (IsCarriedInterval tree k m) is js → NamesRise is → NamesRise js
+  rise-carried is js h r = rise-alike (IsCarriedInterval tree k m) carried-name is js h r
 
-  carried-one : (i j x : Interval ℕ) → ShowsInterval xs k i j → IsCarriedInterval xs k m j x → ShowsInterval xs m (carried_interval xs k m i) x
+  carried-one : (i : Interval ℕ) (j x : Interval Place) → ShowsInterval tree k i j → IsCarriedInterval tree k m j x → ShowsInterval tree m (carried_interval elements_of k m i) x
   carried-one i j x s c = record {
     label = c.label ∙ s.label;
     id = c.id ∙ s.id;
@@ -212,8 +224,8 @@ module _ {U : Type 0} (xs : List (TreeElement U)) (k m : ℕ) where
   }
 
   -- the numbers of all, carried on, show all carried on
-  pub carried-all : (is js us : List (Interval ℕ)) → ShowsAll xs k is js → AllZip (IsCarriedInterval xs k m) js us
-      → ShowsAll xs m (carried xs k m is) us
+  pub carried-all : (is : List (Interval ℕ)) (js us : List (Interval Place)) → ShowsAll tree k is js → AllZip (IsCarriedInterval tree k m) js us
+      → ShowsAll tree m (carried elements_of k m is) us
   carried-all [] [] [] h c = tt
   carried-all [] [] (u ∷ us) h c = absurd c
   carried-all [] (j ∷ js) us h c = absurd h

@@ -2,15 +2,18 @@
 use Rattle.std.proofs.Common.{◌≡◌, ℕ, ◌+◌, ◌<◌, ◌≤◌, List, [], ◌∷◌, drop, length, get_or, Option, Some, None, option_map, sym, ◌∙◌, ap, subst, arith}
 use Rattle.std.proofs.lemmas.List.{drop_more}
 use Rattle.std.proofs.lemmas.List.Elements.{All-head, All-tail}
+use Rattle.ft_leaves.specs.declared.text.TextContent.{TextContent}
 use Rattle.ft_leaves.specs.Elements.{TreeElement}
+use Rattle.ft_refs.specs.declared.numbers.Place.{Place}
+use Rattle.ft_tree.specs.State.{TreeState}
 use Rattle.ft_interval.specs.declared.intervals.EndPair.{EndPair}
 use Rattle.ft_interval.specs.declared.intervals.Interval.{Interval}
 use Rattle.ft_interval.specs.declared.pending.Operation.{Operation}
 use Rattle.ft_interval.specs.Ends.{AreLiveEnds, References, map_ends, places_of_ends}
 use Rattle.ft_interval.specs.Intervals.{Name, one_after}
-use Rattle.ft_interval.specs.Numbers.{AreInside, AreNumbers, IsCarried, ShowsEnds}
 use Rattle.ft_interval.specs.Shown.{carried_interval, last, settled_end, shown_one_from}
-use Rattle.ft_interval.specs.State.{AreLiveOperations, StagesRise, placed_operations}
+use Rattle.ft_interval.specs.Standing.{IsCarried, ShowsEnds, StandAt}
+use Rattle.ft_interval.specs.State.{AreLiveOperations, StagesRise, placed_operations, text_elements}
 
 module _ (ts : List Operation) (i : ℕ) (t : Operation) (within : i < length ts) (is : t ≡ get_or ts i t) where
   at-front : drop i ts ≡ t ∷ drop (i + 1) ts
@@ -35,34 +38,27 @@ module _ (ts : List Operation) (i : ℕ) (t : Operation) (within : i < length ts
   rest-live refs l = All-tail (λ (x : Operation). AreLiveEnds refs x.ends) t (drop (i + 1) ts) (all-live refs l)
 
   -- what is known of the ends, one step on
-  pub next-shows : {U : Type 0} (xs : List (TreeElement U)) (refs : References) (n : Name) (k : ℕ) (o : Option (Interval ℕ)) (result : Option (EndPair ℕ))
-      (all : Option (Interval ℕ))
-      → ShowsEnds xs t.stage (one_after n t.op (map_ends (settled_end xs t.stage) (places_of_ends refs t.ends)) (option_map (carried_interval xs k t.stage) o)) result
+  pub next-shows : (tree : TreeState TextContent) (refs : References) (n : Name) (k : ℕ) (o : Option (Interval ℕ)) (result : Option (EndPair Place))
+      (all : Option (Interval ℕ)) → (let xs = text_elements tree in ShowsEnds tree t.stage (one_after n t.op (map_ends (settled_end xs t.stage) (places_of_ends refs t.ends)) (option_map (carried_interval xs k t.stage) o)) result
       → shown_one_from xs n k (placed_operations refs (drop i ts)) o ≡ all
-      → (p : Option (Interval ℕ)) × ShowsEnds xs t.stage p result × (shown_one_from xs n t.stage (placed_operations refs (drop (i + 1) ts)) p ≡ all)
-  next-shows xs refs n k o result all s e = (
-    one_after n t.op (map_ends (settled_end xs t.stage) (places_of_ends refs t.ends)) (option_map (carried_interval xs k t.stage) o),
-    s,
-    sym (ap (λ us. shown_one_from xs n k (placed_operations refs us) o) at-front) ∙ e,
-  )
+      → (p : Option (Interval ℕ)) × ShowsEnds tree t.stage p result × (shown_one_from xs n t.stage (placed_operations refs (drop (i + 1) ts)) p ≡ all))
+  next-shows tree refs n k o result all s e =
+      let xs = text_elements tree in (
+        one_after n t.op (map_ends (settled_end xs t.stage) (places_of_ends refs t.ends)) (option_map (carried_interval xs k t.stage) o),
+        s,
+        sym (ap (λ us. shown_one_from xs n k (placed_operations refs us) o) at-front) ∙ e,
+      )
 
 -- behind the last one
 pub last-shown : {U : Type 0} (xs : List (TreeElement U)) (refs : References) (n : Name) (k i : ℕ) (ts : List Operation) (o : Option (Interval ℕ)) → drop i ts ≡ []
     → option_map (carried_interval xs k last) o ≡ shown_one_from xs n k (placed_operations refs (drop i ts)) o
 last-shown xs refs n k i ts o none = sym (ap (λ us. shown_one_from xs n k (placed_operations refs us) o) none)
 
--- numbers that show ends are inside
-pub shows-inside : {U : Type 0} (xs : List (TreeElement U)) (k : ℕ) (i : Option (Interval ℕ)) (e : Option (EndPair ℕ)) → ShowsEnds xs k i e → AreInside xs k e
-shows-inside xs k None None h = tt
-shows-inside xs k None (Some e) h = absurd h
-shows-inside xs k (Some i) None h = absurd h
-shows-inside xs k (Some i) (Some e) h = (h.start.inside, h.end.inside)
-
--- the numbers of the ends, carried on, show the interval carried on
-pub carried-shown : {U : Type 0} (xs : List (TreeElement U)) (k m : ℕ) (i : Option (Interval ℕ)) (shown : Option (EndPair ℕ)) (e after : EndPair ℕ)
-    → shown ≡ Some e → ShowsEnds xs k i shown → IsCarried xs k m e.start after.start → IsCarried xs k m e.end after.end
-    → ShowsEnds xs m (option_map (carried_interval xs k m) i) (Some after)
-carried-shown xs k m None shown e after is s first second = absurd (subst (λ x. ShowsEnds xs k None x) is s)
-carried-shown xs k m (Some i) shown e after is s first second =
-    let n : AreNumbers xs k i.ends e = subst (λ x. ShowsEnds xs k (Some i) x) is s in
+-- the ends, carried on, show the interval carried on
+pub carried-shown : (tree : TreeState TextContent) (k m : ℕ) (i : Option (Interval ℕ)) (shown : Option (EndPair Place)) (e after : EndPair Place)
+    → shown ≡ Some e → ShowsEnds tree k i shown → IsCarried tree k m e.start after.start → IsCarried tree k m e.end after.end
+    → ShowsEnds tree m (option_map (carried_interval (text_elements tree) k m) i) (Some after)
+carried-shown tree k m None shown e after is s first second = absurd (subst (λ x. ShowsEnds tree k None x) is s)
+carried-shown tree k m (Some i) shown e after is s first second =
+    let n : StandAt tree k i.ends e = subst (λ x. ShowsEnds tree k (Some i) x) is s in
     record { start = first i.ends.start n.start; end = second i.ends.end n.end }

@@ -14,16 +14,21 @@ use Rattle.ft_props.specs.Keys.{Characters}
 use Rattle.ft_props.specs.Properties.{PropertySet}
 use Rattle.ft_interval.specs.declared.intervals.EndPair.{EndPair}
 use Rattle.ft_interval.specs.Ends.{AreAddedEnds, IsAddedEnd, References, is_reference, place_of_end}
-use Rattle.ft_interval.specs.Numbers.{AreNumbers, IsNumber, number_or_none}
+use Rattle.ft_interval.specs.Numbers.{AreNumbers, IsNumber, number_of, number_or_none}
 use Rattle.ft_interval.specs.Shown.{number_at, numbers_at, regenerated}
 use Rattle.ft_interval.proofs.AppliedEffect.{there}
 use Rattle.ft_interval.proofs.KeptEnds.{live-ends, place-same}
 use Rattle.ft_interval.proofs.Removals.{number-none, place-end}
 
 module _ {U : Type 0} (xs : List (TreeElement U)) (k : ℕ) where
-  pub number-at : (end number : Option ℕ) → IsNumber xs k end number → number_or_none number ≡ number_at xs k end
+  number-at : (end number : Option ℕ) → IsNumber xs k end number → number_or_none number ≡ number_at xs k end
   number-at None number n = ap number_or_none n.is
   number-at (Some i) number n = ap number_or_none n.is
+
+  -- the same of the number itself
+  pub number-shown : (end : Option ℕ) → number_or_none (number_of xs k end) ≡ number_at xs k end
+  number-shown None = refl
+  number-shown (Some i) = refl
 
   -- the numbers of both ends, as an operation has them
   pub numbers-at : (ends numbers : EndPair ℕ) → AreNumbers xs k ends numbers

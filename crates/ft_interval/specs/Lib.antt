@@ -3,3 +3,4 @@ pub mod Ends
 pub mod Shown
 pub mod State
 pub mod Numbers
+pub mod Standing

@@ -143,6 +143,16 @@ IsAboveAll k c = All (λ t. t.stage < k) c.pending
 abbrev pub is_at_stage : ℕ → Operation → Bool
 is_at_stage k t = nat_eq t.stage k
 
+-- the stage of the first pending operation, if there is one
+abbrev pub first_stage : List Operation → Option ℕ
+first_stage [] = None
+first_stage (t ∷ ts) = Some t.stage
+
+-- whether the first pending operation is of stage k
+abbrev pub is_first : ℕ → List Operation → Bool
+is_first k [] = false
+is_first k (t ∷ ts) = is_at_stage k t
+
 -- the operation of stage k is the first pending one
 abbrev pub IsFirst : ℕ → CollectionsState → Type 0
 IsFirst k c = elim c.pending as (λ _. Type 0) [ [] ↦ ⊥ | t ∷ ts ↦ t.stage ≡ k ]

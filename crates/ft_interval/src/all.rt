@@ -5,26 +5,26 @@ ghost use Rattle.std.specs.List.{AllZip};
 ghost use Rattle.ft_interval.specs.declared.intervals.Interval.{Interval};
 ghost use Rattle.ft_interval.specs.Ends.{AreLiveEnds, map_ends, places_of_ends};
 ghost use Rattle.ft_interval.specs.Intervals.{after_operation};
-ghost use Rattle.ft_interval.specs.Numbers.{HasInside, IsCarriedInterval, ShowsAll, ShowsInterval, record_of};
 ghost use Rattle.ft_interval.specs.Shown.{carried, last, settled_end, settled_interval, shown_intervals, shown_record};
+ghost use Rattle.ft_interval.specs.Standing.{AreOnTree, HasPlaces, IsCarriedInterval, ShowsAll, ShowsInterval, record_at};
 ghost use Rattle.ft_interval.specs.State.{AreLiveIntervals, AreLiveOperations, StagesRise, placed_intervals, placed_operations, text_elements, with_mapped_ends};
 
 use crate::intervals::{Interval, Intervals};
 use crate::pending::Operation;
-use crate::shown::{carried, ends_of_numbers, settled};
+use crate::standing::{carried, removal_until, settled, shown_numbers};
 use ft_base::OutOfMemory;
-use ft_refs::RefId;
+use ft_refs::{Place, RefId};
 use ft_sumdoc::{Ends2, IntervalRec};
 use ft_tree::{TextContent, Tree};
 
-/// The interval at stage 0, with its ends as numbers of that.
+/// The interval at stage 0, with its ends as elements that this sees.
 ///
 /// Answers `OutOfMemory` where there is no room for it.
-fn numbered(tree: &Tree<TextContent>, i: &Interval<RefId>) -> Result<Interval<u64>, OutOfMemory>
+fn placed(tree: &Tree<TextContent>, i: &Interval<RefId>) -> Result<Interval<Place>, OutOfMemory>
     requires usable { IsTrue tree.now.usable }
     requires live { AreLiveEnds tree.now.refs i.now.ends }
     ensures { let xs = text_elements tree.now in
-        IfOk result (ShowsInterval xs 0 (settled_interval xs 0 (with_mapped_ends (places_of_ends tree.now.refs) i.now))) }
+        IfOk result (ShowsInterval tree.now 0 (settled_interval xs 0 (with_mapped_ends (places_of_ends tree.now.refs) i.now))) }
 {
     Ok(Interval {
         label: i.label.copy()?,
@@ -34,46 +34,59 @@ fn numbered(tree: &Tree<TextContent>, i: &Interval<RefId>) -> Result<Interval<u6
     })
 }
 
-/// The intervals at stage 0, with their ends as numbers of that.
+/// The intervals at stage 0, with their ends as elements that this sees.
 ///
 /// Answers `OutOfMemory` where there is no room for them.
-fn first_numbers(
+fn first_places(
     tree: &Tree<TextContent>,
     acked: &Intervals<RefId>,
-) -> Result<Intervals<u64>, OutOfMemory>
+) -> Result<Intervals<Place>, OutOfMemory>
     requires usable { IsTrue tree.now.usable }
     requires live { AreLiveIntervals tree.now.refs acked.now }
     ensures { let xs = text_elements tree.now in
-        IfOk result (ShowsAll xs 0 (map (settled_interval xs 0) (placed_intervals tree.now.refs acked.now))) }
+        IfOk result (ShowsAll tree.now 0 (map (settled_interval xs 0) (placed_intervals tree.now.refs acked.now))) }
 {
     let mut items = Vec::new(acked.allocator());
     let intervals = acked.as_slice();
     for i in intervals {
-        items.push(numbered(tree, i)?)?;
+        items.push(placed(tree, i)?)?;
     }
     Ok(Intervals { items })
 }
 
 /// Takes the interval from stage `from` to stage `to`.
-fn carry(tree: &Tree<TextContent>, i: &mut Interval<u64>, from: u64, to: u64)
+fn carry(tree: &Tree<TextContent>, i: &mut Interval<Place>, from: u64, to: u64)
     requires usable { IsTrue tree.now.usable }
-    requires inside { HasInside (text_elements tree.now) from i.old }
+    requires on_leaf { AreOnTree tree.now i.old.ends }
     requires rises { from ≤ to }
-    ensures { IsCarriedInterval (text_elements tree.now) from to i.old i.new }
+    ensures { IsCarriedInterval tree.now from to i.old i.new }
 {
     i.ends = carried(tree, i.ends, from, to);
 }
 
-/// Takes all intervals from stage `from` to stage `to`.
-fn carry_all(tree: &Tree<TextContent>, all: &mut Intervals<u64>, from: u64, to: u64)
+/// Takes all intervals from stage `from` to stage `to`, one after another.
+fn carry_each(tree: &Tree<TextContent>, all: &mut Intervals<Place>, from: u64, to: u64)
     requires usable { IsTrue tree.now.usable }
-    requires inside { All (HasInside (text_elements tree.now) from) all.old }
+    requires on_leaf { All (HasPlaces tree.now) all.old }
     requires rises { from ≤ to }
-    ensures { AllZip (IsCarriedInterval (text_elements tree.now) from to) all.old all.new }
+    ensures { AllZip (IsCarriedInterval tree.now from to) all.old all.new }
 {
     for i in all.items.iter_mut() {
         carry(tree, i, from, to);
     }
+}
+
+/// Takes all intervals from stage `from` to stage `to`. Where no stage between removes elements, they stay as they are.
+fn carry_all(tree: &Tree<TextContent>, all: &mut Intervals<Place>, from: u64, to: u64)
+    requires usable { IsTrue tree.now.usable }
+    requires on_leaf { All (HasPlaces tree.now) all.old }
+    requires rises { from ≤ to }
+    ensures { AllZip (IsCarriedInterval tree.now from to) all.old all.new }
+{
+    if removal_until(tree, from, to).is_none() {
+        return;
+    }
+    carry_each(tree, all, from, to);
 }
 
 /// Takes all intervals from stage `from` to the stage of the operation, and applies that.
@@ -81,29 +94,31 @@ fn carry_all(tree: &Tree<TextContent>, all: &mut Intervals<u64>, from: u64, to: 
 /// Answers `OutOfMemory` where there is no room for what it makes.
 fn take_next(
     tree: &Tree<TextContent>,
-    all: &mut Intervals<u64>,
+    all: &mut Intervals<Place>,
     t: &Operation,
     from: u64,
 ) -> Result<(), OutOfMemory>
     requires usable { IsTrue tree.now.usable }
     requires live { AreLiveEnds tree.now.refs t.now.ends }
-    requires inside { All (HasInside (text_elements tree.now) from) all.old }
+    requires on_leaf { All (HasPlaces tree.now) all.old }
     requires rises { from ≤ t.now.stage }
     ensures fits { t.now.stage ≤ last }
     ensures shown { let xs = text_elements tree.now in
         let ends = map_ends (settled_end xs t.now.stage) (places_of_ends tree.now.refs t.now.ends) in
-        (is : List (Interval ℕ)) → ShowsAll xs from is all.old
-        → OnOk result (ShowsAll xs t.now.stage (after_operation t.now.op ends (carried xs from t.now.stage is)) all.new) }
+        (is : List (Interval ℕ)) → ShowsAll tree.now from is all.old
+        → OnOk result (ShowsAll tree.now t.now.stage (after_operation t.now.op ends (carried xs from t.now.stage is)) all.new) }
 {
     carry_all(tree, all, from, t.stage);
     all.apply(&t.op, settled(tree, t.ends, t.stage))
 }
 
 /// The interval as it is shown.
-fn record_of(i: Interval<u64>) -> IntervalRec
-    ensures { result ≡ record_of i }
+fn record_at(tree: &Tree<TextContent>, i: Interval<Place>) -> IntervalRec
+    requires usable { IsTrue tree.now.usable }
+    requires on_leaf { AreOnTree tree.now i.ends }
+    ensures { result ≡ record_at tree.now i }
 {
-    let ends = ends_of_numbers(i.ends);
+    let ends = shown_numbers(tree, i.ends);
     IntervalRec {
         label: i.label,
         id: i.id,
@@ -118,16 +133,22 @@ fn record_of(i: Interval<u64>) -> IntervalRec
 /// The intervals as they are shown.
 ///
 /// Answers `OutOfMemory` where there is no room for them.
-fn records(all: Intervals<u64>) -> Result<Vec<IntervalRec>, OutOfMemory>
-    ensures { IfOk result (λ records. records.items ≡ map record_of all) }
+fn records(tree: &Tree<TextContent>, all: Intervals<Place>) -> Result<Vec<IntervalRec>, OutOfMemory>
+    requires usable { IsTrue tree.now.usable }
+    requires on_leaf { All (HasPlaces tree.now) all }
+    ensures { IfOk result (λ records. records.items ≡ map (record_at tree.now) all) }
 {
-    let alloc = all.allocator();
-    Ok(all.items.into_iter().map(record_of).collect(alloc)?)
+    let mut records = Vec::new(all.allocator());
+    for i in all.items {
+        records.push(record_at(tree, i))?;
+    }
+    Ok(records)
 }
 
 /// All intervals as they are shown, by rising label and id.
 ///
-/// It goes over all intervals once for each operation.
+/// It goes over all intervals once for each run of operations between which stages remove elements, and looks at the leaves of
+/// their ends at each such stage.
 ///
 /// Answers `OutOfMemory` where there is no room for them.
 pub fn all_shown(
@@ -144,12 +165,12 @@ pub fn all_shown(
         let ts = placed_operations tree.now.refs pending.now in
         IfOk result (λ all. all.items ≡ map (shown_record xs) (shown_intervals xs is ts)) }
 {
-    let mut all = first_numbers(tree, acked)?;
+    let mut all = first_places(tree, acked)?;
     let mut stage = 0;
     for t in pending {
         take_next(tree, &mut all, t, stage)?;
         stage = t.stage;
     }
     carry_all(tree, &mut all, stage, u64::MAX);
-    records(all)
+    records(tree, all)
 }

@@ -1,22 +1,26 @@
 //! Collections of intervals.
 
-ghost use Rattle.std.specs.Prelude.{◌≡◌, ◌≤◌, [], Some, IsSome, not, IsTrue, IfOk, IfErr, OnOk, true, false, map, option_map};
+ghost use Rattle.std.specs.Prelude.{◌≡◌, ◌≤◌, [], Some, IsSome, not, IsTrue, IfOk, IfErr, OnErr, OnOk, true, false, map, option_map};
+ghost use Rattle.std.specs.List.{list_any};
 ghost use Rattle.ft_base.specs.Scan.{len};
 ghost use Rattle.ft_block.specs.declared.leaves.LenView.TheVariants.{At, Stage};
 ghost use Rattle.ft_leaves.specs.Elements.{seen_in};
 ghost use Rattle.ft_op.specs.Document.{ends_of, given_ends_fit};
+ghost use Rattle.ft_interval.specs.declared.faults.IntervalFault.TheVariants as fault;
 ghost use Rattle.ft_interval.specs.Ends.{map_ends, places_of_given, slid_end};
-ghost use Rattle.ft_interval.specs.Intervals.{interval_of, name_in};
+ghost use Rattle.ft_interval.specs.Intervals.{NamesRise, interval_of, name_in};
 ghost use Rattle.ft_interval.specs.Shown.{last, numbers_at, regenerated, settled_end, shown_intervals, shown_record};
-ghost use Rattle.ft_interval.specs.State.{IsAboveAll, IsFirst, IsLive, IsAsBefore, IsOutOfRange, IsRefusedEdit, KeepsReferences, Pushes, is_add, is_change, is_delete, is_interval_operation, is_shown, operation_at, placed, text_elements, with_effect, with_ends_at, with_first_acked};
+ghost use Rattle.ft_interval.specs.State.{IsAboveAll, IsFirst, IsInOrder, IsLive, IsAsBefore, IsOutOfRange, IsRefusedEdit, KeepsReferences, Pushes, first_stage, is_add, is_at_stage, is_change, is_delete, is_interval_operation, is_shown, operation_at, placed, text_elements, with_effect, with_ends_at, with_first_acked};
 
 use crate::all::all_shown;
 use crate::effects::take_effect;
 use crate::ends::{add_ends, drop_ends, given_ends_fit};
 use crate::faults::IntervalFault;
 use crate::intervals::Intervals;
-use crate::pending::{Operation, given_ends, place_of_stage, push};
-use crate::shown::{add_numbers, ends_of_numbers, settled, shown_ends, with_numbers};
+use crate::numbers::{add_numbers, settled_numbers, with_numbers};
+use crate::pending::{Operation, given_ends, has_stage, place_of_stage, push_copy};
+use crate::shown::shown_ends;
+use crate::standing::shown_numbers;
 use ft_base::{OutOfMemory, Perspective, Text};
 use ft_block::LenView;
 use ft_op::{Ends, TextOp};
@@ -81,8 +85,10 @@ impl Collections {
         ensures refused { let shown = is_shown (text_elements tree.old) (name_in op.now) (placed tree.old.refs self.old) in
             let length = len (seen_in (Stage stage)) (text_elements tree.old) in
             IfErr result (IsRefusedEdit shown length op.now (IsAsBefore self.old self.new tree.old tree.new)) }
+        ensures unusable { IfErr result (λ e. e ≡ fault.OutOfMemory → tree.new.usable ≡ false) }
     {
         let TextOp::IntervalAdd { label, id, .. } = op else {
+            tree.spoil();
             return Err(IntervalFault::OutOfMemory);
         };
         if self.is_shown(tree, label, id) {
@@ -113,8 +119,10 @@ impl Collections {
         ensures refused { let shown = is_shown (text_elements tree.old) (name_in op.now) (placed tree.old.refs self.old) in
             let length = len (seen_in (Stage stage)) (text_elements tree.old) in
             IfErr result (IsRefusedEdit shown length op.now (IsAsBefore self.old self.new tree.old tree.new)) }
+        ensures unusable { IfErr result (λ e. e ≡ fault.OutOfMemory → tree.new.usable ≡ false) }
     {
         let TextOp::IntervalChange { label, id, .. } = op else {
+            tree.spoil();
             return Err(IntervalFault::OutOfMemory);
         };
         if !self.is_shown(tree, label, id) {
@@ -143,8 +151,10 @@ impl Collections {
         ensures refused { let shown = is_shown (text_elements tree.old) (name_in op.now) (placed tree.old.refs self.old) in
             let length = len (seen_in (Stage stage)) (text_elements tree.old) in
             IfErr result (IsRefusedEdit shown length op.now (IsAsBefore self.old self.new tree.old tree.new)) }
+        ensures unusable { IfErr result (λ e. e ≡ fault.OutOfMemory → tree.new.usable ≡ false) }
     {
         let TextOp::IntervalDelete { label, id } = op else {
+            tree.spoil();
             return Err(IntervalFault::OutOfMemory);
         };
         if !self.is_shown(tree, label, id) {
@@ -165,7 +175,7 @@ impl Collections {
     /// Adds a pending operation, with references on the elements at its ends that the client sees.
     ///
     /// Answers `OutOfRange` exactly where the ends are given and neither below the length seen nor both detached, and then
-    /// nothing changed; and `OutOfMemory` where there is no room.
+    /// nothing changed; and `OutOfMemory` where there is no room, and then the tree may be used no more.
     fn push(
         &mut self,
         tree: &mut Tree<TextContent>,
@@ -179,6 +189,7 @@ impl Collections {
         ensures taken { OnOk result (Pushes (seen_in (Stage stage)) (text_elements tree.old) stage op.now self.old self.new tree.old tree.new) }
         ensures refused { let length = len (seen_in (Stage stage)) (text_elements tree.old) in
             IfErr result (IsOutOfRange length op.now (IsAsBefore self.old self.new tree.old tree.new)) }
+        ensures unusable { IfErr result (λ e. e ≡ fault.OutOfMemory → tree.new.usable ≡ false) }
     {
         let view = LenView::Stage(stage);
         let given = given_ends(op);
@@ -187,8 +198,7 @@ impl Collections {
             return Err(IntervalFault::OutOfRange { length });
         }
         let ends = add_ends(tree, given, view)?;
-        let op = op.copy()?;
-        push(&mut self.pending, Operation { stage, op, ends })?;
+        push_copy(&mut self.pending, tree, stage, op, ends)?;
         Ok(())
     }
 
@@ -214,6 +224,7 @@ impl Collections {
         ensures refs { IfOk result (λ fits. fits ≡ true → KeepsReferences self.old self.new tree.old.refs tree.new.refs) }
         ensures rest { OnOk result (tree.new ≡ record tree.old { refs = tree.new.refs }) }
         ensures misfit { IfOk result (λ fits. fits ≡ false → (self.new ≡ self.old) × (tree.new ≡ tree.old)) }
+        ensures err { OnErr result (tree.new.usable ≡ false) }
     {
         let view = LenView::At(at);
         let given = given_ends(op);
@@ -237,9 +248,32 @@ impl Collections {
             OnOk result (placed tree.new.refs self.new ≡ with_first_acked (map_ends (slid_end xs)) (placed tree.old.refs self.old)) }
         ensures refs { OnOk result (KeepsReferences self.old self.new tree.old.refs tree.new.refs) }
         ensures rest { OnOk result (tree.new ≡ record tree.old { refs = tree.new.refs }) }
+        ensures err { OnErr result (tree.new.usable ≡ false) }
     {
         let t = self.pending.remove(0);
         take_effect(&mut self.acked, tree, &t.op, &t.ends)
+    }
+
+    /// The stage of the first pending operation: None exactly where nothing is pending.
+    pub fn first_stage(&self) -> Option<u64>
+        ensures value { result ≡ first_stage self.now.pending }
+
+        // What holds of the collections at any time.
+        ensures order { IsInOrder self.now }
+        ensures names { NamesRise self.now.acked }
+    {
+        let _all = self.acked.as_slice();
+        match self.pending.first() {
+            Some(t) => Some(t.stage),
+            None => None,
+        }
+    }
+
+    /// Whether the operation of that stage is pending.
+    pub fn is_pending(&self, stage: u64) -> bool
+        ensures { result ≡ list_any (is_at_stage stage) self.now.pending }
+    {
+        has_stage(&self.pending, stage)
     }
 
     /// The ends that are shown of the interval of that label and id, as numbers among the elements that the client sees, -1 where
@@ -251,7 +285,8 @@ impl Collections {
             let c = placed tree.now.refs self.now in
             result ≡ option_map (λ i. numbers_at xs last i.ends) (interval_of (label.now, id.now) (shown_intervals xs c.acked c.pending)) }
     {
-        Some(ends_of_numbers(shown_ends(tree, &self.acked, &self.pending, label, id)?))
+        let ends = shown_ends(tree, &self.acked, &self.pending, label, id)?;
+        Some(shown_numbers(tree, ends))
     }
 
     /// All intervals as they are shown, by rising label and id.
@@ -286,11 +321,36 @@ impl Collections {
             OnOk result (placed tree.new.refs self.new ≡ with_ends_at stage (map_ends (settled_end xs stage)) (placed tree.old.refs self.old)) }
         ensures refs { OnOk result (KeepsReferences self.old self.new tree.old.refs tree.new.refs) }
         ensures rest { OnOk result (tree.new ≡ record tree.old { refs = tree.new.refs }) }
+        ensures err { OnErr result (tree.new.usable ≡ false) }
+    {
+        match self.settle(tree, stage) {
+            Ok(op) => Ok(op),
+            Err(e) => {
+                tree.spoil();
+                Err(e)
+            }
+        }
+    }
+
+    /// The same, where want of memory says nothing of the tree.
+    ///
+    /// Answers `OutOfMemory` where there is no room.
+    fn settle(&mut self, tree: &mut Tree<TextContent>, stage: u64) -> Result<TextOp, OutOfMemory>
+        requires usable { IsTrue tree.old.usable }
+        requires live { IsLive tree.old.refs self.old }
+        requires pending { IsSome (operation_at stage self.old.pending) }
+        ensures op { let xs = text_elements tree.old in
+            let c = placed tree.old.refs self.old in
+            IfOk result (λ op. Some op ≡ option_map (λ t. regenerated xs stage (map_ends (settled_end xs stage) t.ends) t.op) (operation_at stage c.pending)) }
+        ensures settled { let xs = text_elements tree.old in
+            OnOk result (placed tree.new.refs self.new ≡ with_ends_at stage (map_ends (settled_end xs stage)) (placed tree.old.refs self.old)) }
+        ensures refs { OnOk result (KeepsReferences self.old self.new tree.old.refs tree.new.refs) }
+        ensures rest { OnOk result (tree.new ≡ record tree.old { refs = tree.new.refs }) }
     {
         let Some(i) = place_of_stage(&self.pending, stage) else {
             return Err(OutOfMemory);
         };
-        let numbers = settled(tree, self.pending[i].ends, stage);
+        let numbers = settled_numbers(tree, self.pending[i].ends, stage);
         let again = add_numbers(tree, &numbers, stage)?;
         drop_ends(tree, self.pending[i].ends);
         self.pending[i].ends = again;

@@ -1,6 +1,6 @@
 //! What an operation makes of the acknowledged intervals and of the references of their ends.
 
-ghost use Rattle.std.specs.Prelude.{◌≡◌, IsTrue, OnErr, OnOk};
+ghost use Rattle.std.specs.Prelude.{◌≡◌, IsTrue, OnErr, OnOk, false};
 ghost use Rattle.ft_interval.specs.Ends.{map_ends, places_of_ends, slid_end};
 ghost use Rattle.ft_interval.specs.Intervals.{after_operation};
 ghost use Rattle.ft_interval.specs.State.{AreKeptOnce, HandsOn, ends_of_name, lost_ends, placed_intervals, text_elements, unused_ends};
@@ -73,8 +73,37 @@ fn ends_of(intervals: &Intervals<RefId>, label: &Text, id: &Text) -> EndPair<Ref
 /// Applies an operation with these ends to the acknowledged intervals. The references become acknowledged and slide, and
 /// those that no interval keeps any more end.
 ///
-/// Answers `OutOfMemory` where there is no room for what it makes, and then the intervals are as they were.
+/// Answers `OutOfMemory` where there is no room for what it makes, and then the intervals are as they were, and the tree
+/// may be used no more.
 pub fn take_effect(
+    intervals: &mut Intervals<RefId>,
+    tree: &mut Tree<TextContent>,
+    op: &TextOp,
+    ends: &EndPair<RefId>,
+) -> Result<(), OutOfMemory>
+    requires usable { IsTrue tree.old.usable }
+    requires kept { AreKeptOnce tree.old.refs ends.now intervals.old }
+    ensures placed { let xs = text_elements tree.old in
+        let places = map_ends (slid_end xs) (places_of_ends tree.old.refs ends.now) in
+        OnOk result (placed_intervals tree.new.refs intervals.new ≡ after_operation op.now places (placed_intervals tree.old.refs intervals.old)) }
+    ensures refs { OnOk result (HandsOn ends.now intervals.old intervals.new tree.old.refs tree.new.refs) }
+    ensures rest { OnOk result (tree.new ≡ record tree.old { refs = tree.new.refs }) }
+    ensures err { OnErr result (intervals.new ≡ intervals.old) }
+    ensures unusable { OnErr result (tree.new.usable ≡ false) }
+{
+    match take(intervals, tree, op, ends) {
+        Ok(()) => Ok(()),
+        Err(e) => {
+            tree.spoil();
+            Err(e)
+        }
+    }
+}
+
+/// The same, where want of memory says nothing of the tree.
+///
+/// Answers `OutOfMemory` where there is no room for what it makes, and then the intervals are as they were.
+fn take(
     intervals: &mut Intervals<RefId>,
     tree: &mut Tree<TextContent>,
     op: &TextOp,

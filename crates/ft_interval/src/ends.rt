@@ -1,6 +1,6 @@
 //! The ends of intervals on a tree.
 
-ghost use Rattle.std.specs.Prelude.{◌≡◌, ℕ, None, IsTrue, IfOk, OnOk, cond, option_map, true};
+ghost use Rattle.std.specs.Prelude.{◌≡◌, ℕ, None, IsTrue, IfOk, OnErr, OnOk, cond, false, option_map, true};
 ghost use Rattle.ft_block.specs.Leaves.{IsFromFloor};
 ghost use Rattle.ft_leaves.specs.Elements.{seen_in};
 ghost use Rattle.ft_leaves.specs.References.{reference_at, slid_reference};
@@ -48,7 +48,7 @@ fn is_place(length: u64, position: i64) -> bool
 
 /// Puts a pending reference on the element at that position of the view, none where the position is below 0.
 ///
-/// Answers `OutOfMemory` where there is no room for it, or no element.
+/// Answers `OutOfMemory` where there is no room for it, or no element, and then the tree may be used no more.
 fn add_end(
     tree: &mut Tree<TextContent>,
     position: i64,
@@ -58,19 +58,23 @@ fn add_end(
     requires floor { IsFromFloor tree.old.floor view }
     ensures end { IfOk result (λ end. IsAddedEnd (place_of_position (seen_in view) (text_elements tree.old) position) tree.old.refs tree.new.refs end) }
     ensures rest { OnOk result (tree.new ≡ record tree.old { refs = tree.new.refs }) }
+    ensures err { OnErr result (tree.new.usable ≡ false) }
 {
     let Ok(p) = u64::try_from(position) else {
         return Ok(None);
     };
     match tree.add_ref(p, view) {
         Ok(r) => Ok(Some(r)),
-        Err(_) => Err(OutOfMemory),
+        Err(_) => {
+            tree.spoil();
+            Err(OutOfMemory)
+        }
     }
 }
 
 /// Puts pending references on the elements at the given ends, if some are given.
 ///
-/// Answers `OutOfMemory` where there is no room for them, or no elements.
+/// Answers `OutOfMemory` where there is no room for them, or no elements, and then the tree may be used no more.
 pub fn add_ends(
     tree: &mut Tree<TextContent>,
     given: Option<Ends>,
@@ -80,6 +84,7 @@ pub fn add_ends(
     requires floor { IsFromFloor tree.old.floor view }
     ensures ends { IfOk result (λ ends. AreAddedEnds (places_of_given (seen_in view) (text_elements tree.old) given) tree.old.refs tree.new.refs ends) }
     ensures rest { OnOk result (tree.new ≡ record tree.old { refs = tree.new.refs }) }
+    ensures err { OnErr result (tree.new.usable ≡ false) }
 {
     let Some(ends) = given else {
         return Ok(EndPair {

@@ -9,8 +9,10 @@ mod effects;
 mod ends;
 pub mod faults;
 mod intervals;
+mod numbers;
 mod pending;
 mod shown;
+mod standing;
 
 pub use collections::Collections;
 pub use faults::IntervalFault;

@@ -1,7 +1,9 @@
 //! Pending operations on intervals.
 
-ghost use Rattle.std.specs.Prelude.{◌≡◌, ◌++◌, [], ◌∷◌, OnOk, OnErr, position};
+ghost use Rattle.std.specs.Prelude.{◌≡◌, ◌++◌, [], ◌∷◌, OnOk, OnErr, false, position};
+ghost use Rattle.std.specs.List.{list_any};
 ghost use Rattle.ft_op.specs.Document.{ends_of};
+ghost use Rattle.ft_interval.specs.declared.pending.Operation.{Operation};
 ghost use Rattle.ft_interval.specs.Intervals.{is_on};
 ghost use Rattle.ft_interval.specs.State.{is_at_stage};
 
@@ -9,6 +11,7 @@ use crate::intervals::{EndPair, is_same_name};
 use ft_base::{OutOfMemory, Text};
 use ft_op::{Ends, TextOp};
 use ft_refs::RefId;
+use ft_tree::{TextContent, Tree};
 
 /// A pending operation on an interval: its stage, the operation as it was made, and references on the elements at its
 /// ends.
@@ -22,7 +25,7 @@ pub struct Operation {
 /// Adds an operation behind all others.
 ///
 /// Answers `OutOfMemory` where there is no room for it, and then nothing changed.
-pub fn push(pending: &mut Vec<Operation>, operation: Operation) -> Result<(), OutOfMemory>
+fn push(pending: &mut Vec<Operation>, operation: Operation) -> Result<(), OutOfMemory>
     ensures ok { OnOk result (pending.new.items ≡ pending.old.items ++ operation ∷ []) }
     ensures err { OnErr result (pending.new.items ≡ pending.old.items) }
 {
@@ -30,11 +33,60 @@ pub fn push(pending: &mut Vec<Operation>, operation: Operation) -> Result<(), Ou
     Ok(())
 }
 
+/// Adds a copy of an operation with these ends behind all others.
+///
+/// Answers `OutOfMemory` where there is no room for it, and then nothing changed.
+fn add_copy(
+    pending: &mut Vec<Operation>,
+    stage: u64,
+    op: &TextOp,
+    ends: EndPair<RefId>,
+) -> Result<(), OutOfMemory>
+    ensures ok { let t : Operation = record { stage = stage; op = op.now; ends = ends } in
+        OnOk result (pending.new.items ≡ pending.old.items ++ t ∷ []) }
+    ensures err { OnErr result (pending.new.items ≡ pending.old.items) }
+{
+    let op = op.copy()?;
+    push(pending, Operation { stage, op, ends })
+}
+
+/// The same, where want of memory makes the tree one that may be used no more.
+///
+/// Answers `OutOfMemory` where there is no room for it, and then nothing changed, but the tree may be used no more.
+pub fn push_copy(
+    pending: &mut Vec<Operation>,
+    tree: &mut Tree<TextContent>,
+    stage: u64,
+    op: &TextOp,
+    ends: EndPair<RefId>,
+) -> Result<(), OutOfMemory>
+    ensures ok { let t : Operation = record { stage = stage; op = op.now; ends = ends } in
+        OnOk result (pending.new.items ≡ pending.old.items ++ t ∷ []) }
+    ensures err { OnErr result (pending.new.items ≡ pending.old.items) }
+    ensures kept { OnOk result (tree.new ≡ tree.old) }
+    ensures unusable { OnErr result (tree.new.usable ≡ false) }
+{
+    match add_copy(pending, stage, op, ends) {
+        Ok(()) => Ok(()),
+        Err(e) => {
+            tree.spoil();
+            Err(e)
+        }
+    }
+}
+
 /// The place of the operation of that stage, if it is pending.
 pub fn place_of_stage(pending: &[Operation], stage: u64) -> Option<usize>
     ensures { result ≡ position (is_at_stage stage) pending.now }
 {
     pending.iter().position(|t| t.stage == stage)
+}
+
+/// Whether the operation of that stage is pending.
+pub fn has_stage(pending: &[Operation], stage: u64) -> bool
+    ensures { result ≡ list_any (is_at_stage stage) pending.now }
+{
+    pending.iter().any(|t| t.stage == stage)
 }
 
 /// The ends that an operation gives, if it gives some.

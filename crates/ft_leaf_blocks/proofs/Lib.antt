@@ -19,6 +19,7 @@ mod AckedNodes
 pub mod LeastAbove
 mod StageSearch
 mod OrderedNodes
+mod PrunedLists
 mod KeptRefs
 mod RefSteps
 mod ShownPlaces

@@ -6,7 +6,7 @@ use Rattle.std.specs.Prelude.{slice_set}
 use Rattle.std.proofs.lemmas.Bool.{and_from, and_parts, cases_eq, eq-eqb, ne_eqb, or_cases, or_left, or_right}
 use Rattle.std.proofs.lemmas.Bool.Decides.{nat_tests}
 use Rattle.std.proofs.lemmas.Option.{get_or_from_slice_get}
-use Rattle.ft_leaf_blocks.specs.Touched.{AreRising, NodesOfStage, Notes, holds, is_list_of, is_listed, purged, stages_below, with_heir}
+use Rattle.ft_leaf_blocks.specs.Touched.{AreRising, NodesOfStage, Notes, all_purged, holds, is_list_of, is_listed, is_some_node, purged, stages_below, with_heir}
 
 -- truth tables
 pub or_assoc : (a b c : Bool) → (a || (b || c)) ≡ ((a || b) || c)
@@ -178,7 +178,7 @@ table2 : (a h p : Bool) → (a && (h && p)) ≡ ((a && h) && p)
 table2 true h p = refl
 table2 false h p = refl
 
-table3 : (a b p : Bool) → ((a && p) || (b && p)) ≡ ((a || b) && p)
+pub table3 : (a b p : Bool) → ((a && p) || (b && p)) ≡ ((a || b) && p)
 table3 true b true = refl
 table3 true true false = refl
 table3 true false false = refl
@@ -204,7 +204,7 @@ pub holds-filter : (test : ℕ → Bool) (ns : List ℕ) (z : ℕ) → holds (fi
 holds-filter test [] z = refl
 holds-filter test (n ∷ ns) z = filter_by test (test n) n z ns (filter test ns) refl (holds-filter test ns z)
 
-pub purged-listed : (id k z : ℕ) (xs : List NodesOfStage) → is_listed (map (purged id) xs) k z ≡ (is_listed xs k z && not (nat_eq z id))
+purged-listed : (id k z : ℕ) (xs : List NodesOfStage) → is_listed (map (purged id) xs) k z ≡ (is_listed xs k z && not (nat_eq z id))
 purged-listed id k z [] = refl
 purged-listed id k z (x ∷ xs) =
     ap (λ h. (nat_eq x.stage k && h) || is_listed (map (purged id) xs) k z) (holds-filter (λ n. not (nat_eq n id)) x.nodes z)
@@ -221,6 +221,44 @@ module _ (f : NodesOfStage → NodesOfStage) (same : (x : NodesOfStage) → (f x
   pub rising_mapped : (xs : List NodesOfStage) → AreRising xs → AreRising (map f xs)
   rising_mapped [] h = tt
   rising_mapped (x ∷ xs) h = (subst (λ n. AllByRecursion (λ t. n < t.stage) (map f xs)) (sym (same x)) (all_mapped x.stage xs h.0), rising_mapped xs h.1)
+
+-- lists without any node say nothing
+listed_by : (b : Bool) (k z : ℕ) (x : NodesOfStage) (xs ys : List NodesOfStage) → is_some_node x.nodes ≡ b → is_listed ys k z ≡ is_listed xs k z
+    → is_listed (cond b (x ∷ ys) ys) k z ≡ is_listed (x ∷ xs) k z
+listed_by true k z x xs ys e h = ap (λ r. (nat_eq x.stage k && holds x.nodes z) || r) h
+listed_by false k z x xs ys e h = h ∙ sym (ap (λ b. (nat_eq x.stage k && b) || is_listed xs k z) (nobody x.nodes e)
+    ∙ ap (λ b. b || is_listed xs k z) (and_none (nat_eq x.stage k)))
+  where
+    nobody : (ns : List ℕ) → is_some_node ns ≡ false → holds ns z ≡ false
+    nobody [] e = refl
+    nobody (n ∷ ns) e = (cc)
+
+pub filled-listed : (k z : ℕ) (xs : List NodesOfStage) → is_listed (filter (λ s. is_some_node s.nodes) xs) k z ≡ is_listed xs k z
+filled-listed k z [] = refl
+filled-listed k z (x ∷ xs) = listed_by (is_some_node x.nodes) k z x xs (filter (λ s. is_some_node s.nodes) xs) refl (filled-listed k z xs)
+
+pub all_purged-listed : (id k z : ℕ) (xs : List NodesOfStage) → is_listed (all_purged id xs) k z ≡ (is_listed xs k z && not (nat_eq z id))
+all_purged-listed id k z xs = filled-listed k z (map (purged id) xs) ∙ purged-listed id k z xs
+
+module _ (test : NodesOfStage → Bool) where
+  all_filtered : (m : ℕ) (xs : List NodesOfStage) → AllByRecursion (λ t. m < t.stage) xs → AllByRecursion (λ t. m < t.stage) (filter test xs)
+  all_filtered m [] h = tt
+  all_filtered m (x ∷ xs) h = step (test x) (all_filtered m xs h.1)
+    where
+      step : (b : Bool) → AllByRecursion (λ t. m < t.stage) (filter test xs) → AllByRecursion (λ t. m < t.stage) (cond b (x ∷ filter test xs) (filter test xs))
+      step true rest = (h.0, rest)
+      step false rest = rest
+
+  pub rising_filtered : (xs : List NodesOfStage) → AreRising xs → AreRising (filter test xs)
+  rising_filtered [] h = tt
+  rising_filtered (x ∷ xs) h = step (test x) (rising_filtered xs h.1)
+    where
+      step : (b : Bool) → AreRising (filter test xs) → AreRising (cond b (x ∷ filter test xs) (filter test xs))
+      step true rest = (all_filtered x.stage xs h.0, rest)
+      step false rest = rest
+
+pub rising_purged : (id : ℕ) (xs : List NodesOfStage) → AreRising xs → AreRising (all_purged id xs)
+rising_purged id xs h = rising_filtered (λ s. is_some_node s.nodes) (map (purged id) xs) (rising_mapped (purged id) (λ x. refl) xs h)
 
 -- the lists with an heir
 table4 : (a h f e r q : Bool) → ((a && (h || (f && e))) || (r || (q && e))) ≡ (((a && h) || r) || (((a && f) || q) && e))

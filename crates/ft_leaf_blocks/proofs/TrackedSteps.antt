@@ -19,9 +19,9 @@ use Rattle.ft_leaves.specs.declared.leaves.TreeLeaf.{TreeLeaf}
 use Rattle.ft_leaves.specs.BlockChanges.{changed_leaf}
 use Rattle.ft_leaves.specs.LeafChanges.{acked_leaf, acked_pair}
 use Rattle.ft_leaves.specs.Edits.{is_touched_by}
-use Rattle.ft_leaf_blocks.specs.Touched.{NodesOfStage, Notes, Tracks, added_stage, is_listed, is_stamped_by, purged, purged_at}
+use Rattle.ft_leaf_blocks.specs.Touched.{NodesOfStage, Notes, Tracks, added_stage, is_listed, is_stamped_by, all_purged, purged_at}
 use Rattle.ft_leaf_blocks.proofs.StepValues.{gone-without, is_some, is_valued, mapped, mapped_some, new_put, rear-split, value-change, value-map, value-put, value-split}
-use Rattle.ft_leaf_blocks.proofs.TouchedLists.{Takes, eq_from, notes-none, purged-listed, rising_mapped}
+use Rattle.ft_leaf_blocks.proofs.TouchedLists.{Takes, all_purged-listed, eq_from, notes-none, rising_purged}
 use Rattle.ft_leaf_blocks.proofs.WalkEdits.{live-put}
 
 absurd_both : {A : Type 0} {b : Bool} → b ≡ true → b ≡ false → A
@@ -136,26 +136,26 @@ module _ {C : Type 0} (xs : List (ℕ × TreeLeaf C)) (ss : List NodesOfStage) (
     }
 
   -- a leaf that goes
-  without_covers : (id k z : ℕ) (x : TreeLeaf C) → value_at (without_leaf xs id) z ≡ Some x → is_touched_by k x ≡ true → is_listed (map (purged id) ss) k z ≡ true
+  without_covers : (id k z : ℕ) (x : TreeLeaf C) → value_at (without_leaf xs id) z ≡ Some x → is_touched_by k x ≡ true → is_listed (all_purged id ss) k z ≡ true
   without_covers id k z x e t = elim (cases_eq z id) [
     | inl same ↦
         let none : None ≡ Some x = sym (gone-without xs id) ∙ ap (value_at (without_leaf xs id)) (sym same) ∙ e in
         (cc)
     | inr d ↦
-        purged-listed id k z ss
+        all_purged-listed id k z ss
         ∙ and_from (is_listed ss k z) (not (nat_eq z id)) (tracks.covers k z x (sym (value_without xs z id d) ∙ e) t) (ap not (ne_eqb z id d))
   ]
 
   other : (z id : ℕ) → not (nat_eq z id) ≡ true → z ≢ id
   other z id h e = let same : not (nat_eq z id) ≡ false = ap not (eq-eqb z id e) in (cc)
 
-  pub tracks-without : (id : ℕ) → Tracks (without_leaf xs id) (map (purged id) ss)
+  pub tracks-without : (id : ℕ) → Tracks (without_leaf xs id) (all_purged id ss)
   tracks-without id = record {
     covers = without_covers id;
     live = λ k z l.
-        let both = and_parts (is_listed ss k z) (not (nat_eq z id)) (sym (purged-listed id k z ss) ∙ l) in
+        let both = and_parts (is_listed ss k z) (not (nat_eq z id)) (sym (all_purged-listed id k z ss) ∙ l) in
         subst IsSome (sym (value_without xs z id (other z id both.1))) (tracks.live k z both.0);
-    rising = rising_mapped (purged id) (λ x. refl) ss tracks.rising;
+    rising = rising_purged id ss tracks.rising;
   }
 
 -- the next leaf goes
@@ -179,8 +179,8 @@ tracks-join {C} f same xs ss id (Some n) P tracks once e can =
     let w = present (value_after xs id) (P v.0) v.2 in
     let rest = tracks-without xs ss tracks n in
     let here : value_at (without_leaf xs n) id ≡ Some v.0 = value_without xs id n (after_other xs id n once (sym e)) ∙ v.1 in
-    subst (λ (ys : List (ℕ × TreeLeaf C)). Tracks ys (map (purged n) ss)) (join_from f xs id n w.0 once (sym e) w.1)
-    (tracks-change (without_leaf xs n) (map (purged n) ss) rest (λ u. f u w.0) id (map (purged n) ss) (notes-none id (map (purged n) ss) rest.rising)
+    subst (λ (ys : List (ℕ × TreeLeaf C)). Tracks ys (all_purged n ss)) (join_from f xs id n w.0 once (sym e) w.1)
+    (tracks-change (without_leaf xs n) (all_purged n ss) rest (λ u. f u w.0) id (all_purged n ss) (notes-none id (all_purged n ss) rest.rising)
     (λ k u at t. inl (sym (same k u w.0) ∙ t)) (is_some (value_at (without_leaf xs n) id) v.0 here))
 
 -- what a change of a leaf brings

@@ -5,6 +5,7 @@ pub mod Slides
 pub mod Unsettled
 pub mod Touched
 pub mod Wanted
+pub mod Pruned
 pub mod StageLeaves
 pub mod State
 pub mod Inside

@@ -46,10 +46,19 @@ with_heir front rear s = cond (holds s.nodes front) (record s { nodes = s.nodes 
 abbrev pub purged : ℕ → NodesOfStage → NodesOfStage
 purged id s = record s { nodes = filter (λ n. not (nat_eq n id)) s.nodes }
 
--- the lists without the node, if one is given
+-- there is a node
+abbrev pub is_some_node : List ℕ → Bool
+is_some_node [] = false
+is_some_node (n ∷ ns) = true
+
+-- the lists without the node, of which those without any go
+abbrev pub all_purged : ℕ → List NodesOfStage → List NodesOfStage
+all_purged id ss = filter (λ s. is_some_node s.nodes) (map (purged id) ss)
+
+-- the same, if a node is given
 abbrev pub purged_at : Option ℕ → List NodesOfStage → List NodesOfStage
 purged_at None ss = ss
-purged_at (Some id) ss = map (purged id) ss
+purged_at (Some id) ss = all_purged id ss
 
 -- this node alone is listed for more stages than before
 pub record Notes (id : ℕ) (old new : List NodesOfStage) : Type 0 where

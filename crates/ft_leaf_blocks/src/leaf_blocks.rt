@@ -37,6 +37,7 @@ use crate::anchored::{
 };
 use crate::leaf_refs::LeafRefs;
 use crate::next_stages::{next_pending_in, next_removal_in};
+use crate::pruning::prune_in;
 use crate::stage_leaves::stage_leaves_in;
 use crate::stage_nodes::StageNodes;
 use ft_arena::NodeId;
@@ -50,7 +51,7 @@ use std::marker::Model;
 
 /// Leaves in blocks, and for each pending stage the nodes of the leaves that it touched, so that its
 /// acknowledgement goes to these alone. A leaf that stands in the list of a stage may have nothing of it any
-/// more. References to elements stand on their leaves. A contract sees the leaves from first to last, each with
+/// more, until `prune` takes it off. References to elements stand on their leaves. A contract sees the leaves from first to last, each with
 /// its node, how deep a search goes, the floor, the references, each under its number, and whether they may still
 /// be used: after want of memory in a call that changes them they may not, for good.
 #[derive(Drop)]
@@ -104,6 +105,7 @@ impl<C: Content> LeafBlocks<C> {
         ensures once { (id : ℕ) → times_leaf self.now.leaves id ≤ 1 }
         ensures some { All (λ x. 1 ≤ length (C.units x.1.content)) self.now.leaves }
         ensures few { length_by (λ x. length (C.units x.content)) self.now.leaves < 2 ^ 64 }
+        ensures depth { 4 ^ self.now.depth ≤ length self.now.leaves + 1 }
 
         // And each reference stands on an element.
         ensures inside { (r j : ℕ) → place_of self.now.refs r ≡ Some j → j < length (elements C.units C.by self.now.leaves) }
@@ -447,6 +449,24 @@ impl<C: Content> LeafBlocks<C> {
         ensures { IfOk result (λ v. v.items ≡ touched_nodes stage self.now.leaves) }
     {
         stage_leaves_in(&self.blocks, &self.touched, stage)
+    }
+
+    /// Takes leaves that have nothing of a stage any more off the list of what that touched, and lists without any leaf go. Nothing
+    /// that is seen changes. It looks at each listed leaf once.
+    ///
+    /// Answers `OutOfMemory` where there is no room for what is left, and then the blocks may be used no more.
+    pub fn prune(&mut self) -> Result<(), OutOfMemory>
+        requires { IsTrue self.old.usable }
+        ensures ok { OnOk result (self.new ≡ self.old) }
+        ensures err { OnErr result (self.new.usable ≡ false) }
+    {
+        match prune_in(&self.blocks, &mut self.touched) {
+            Ok(()) => Ok(()),
+            Err(e) => {
+                self.usable = false;
+                Err(e)
+            }
+        }
     }
 
     /// The floor.

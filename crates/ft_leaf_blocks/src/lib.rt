@@ -11,6 +11,7 @@ pub mod anchors;
 pub mod leaf_blocks;
 mod leaf_refs;
 mod next_stages;
+mod pruning;
 pub mod settling;
 pub mod slides;
 mod stage_leaves;

@@ -1,7 +1,7 @@
 //! A pending stage, and which leaves it touched.
 
 ghost use Rattle.std.specs.Prelude.{[], ◌≡◌, ◌∷◌, ◌++◌, IfOk, OnOk};
-ghost use Rattle.ft_leaf_blocks.specs.Touched.{holds, purged, with_heir};
+ghost use Rattle.ft_leaf_blocks.specs.Touched.{holds, is_some_node, purged, with_heir};
 
 use ft_arena::NodeId;
 use ft_base::OutOfMemory;
@@ -56,6 +56,13 @@ impl StageNodes {
         self.nodes
     }
 
+    /// Whether there is a node.
+    pub(crate) fn is_some(&self) -> bool
+        ensures { result ≡ is_some_node self.now.nodes }
+    {
+        !self.nodes.is_empty()
+    }
+
     /// Whether the node is one of them.
     fn holds(&self, id: NodeId) -> bool
         ensures { result ≡ holds self.now.nodes id }
@@ -83,6 +90,13 @@ impl StageNodes {
             return Ok(());
         }
         self.add(rear)
+    }
+
+    /// Gives it these nodes instead of those that it has.
+    pub(crate) fn set_nodes(&mut self, nodes: Vec<NodeId>)
+        ensures { self.new ≡ record self.old { nodes = nodes.items } }
+    {
+        self.nodes = nodes;
     }
 
     /// Takes a node out.

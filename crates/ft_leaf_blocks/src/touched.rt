@@ -3,7 +3,7 @@
 ghost use Rattle.std.specs.Prelude.{◌≡◌, ◌≢◌, ◌≤◌, ℕ, OnOk, false, length, map, slice_get, true};
 ghost use Rattle.std.specs.List.{list_any};
 ghost use Rattle.ft_base.specs.Visibility.{is_of_stage};
-ghost use Rattle.ft_leaf_blocks.specs.Touched.{AreRising, Notes, holds, is_list_of, is_listed, is_stamped_by, purged, stages_below, with_heir};
+ghost use Rattle.ft_leaf_blocks.specs.Touched.{AreRising, Notes, all_purged, holds, is_list_of, is_listed, is_stamped_by, purged, stages_below, with_heir};
 
 use crate::stage_nodes::StageNodes;
 use ft_arena::NodeId;
@@ -137,8 +137,16 @@ fn add_heirs(touched: &mut [StageNodes], front: NodeId, rear: NodeId) -> Result<
     Ok(())
 }
 
-/// Takes a node off all lists.
+/// Takes a node off all lists. Those without any node go.
 pub(crate) fn purge(touched: &mut VecDeque<StageNodes>, id: NodeId)
+    ensures { touched.new.items ≡ all_purged id touched.old.items }
+{
+    purge_all(touched, id);
+    touched.retain(|list| list.is_some());
+}
+
+/// Takes a node off all lists.
+fn purge_all(touched: &mut VecDeque<StageNodes>, id: NodeId)
     ensures { touched.new.items ≡ map (purged id) touched.old.items }
 {
     purge_each(touched.make_contiguous(), id);

@@ -22,6 +22,16 @@ module _ {L : Type 0} (xs : List (ℕ × L)) (id n : ℕ) (v w : L) (b : Beside 
       ∙ change-split f n w b.rest (l ++ (id, g v) ∷ []) b.behind apart
       ∙ append_assoc l ((id, g v) ∷ []) ((n, f w) ∷ b.rest)
 
+  -- the second where the first alone is changed
+  pub other_value : value_at (change_leaf g xs id) n ≡ Some w
+  other_value =
+      let l = left_of xs id in
+      let apart : times_leaf (l ++ (id, g v) ∷ []) n ≡ 0 =
+      omega (arith, b.front, times-append l ((id, v) ∷ []) n, times-append l ((id, g v) ∷ []) n) in
+      ap (λ zs. value_at zs n) (ap (λ zs. change_leaf g zs id) b.whole ∙ change-split g id v ((n, w) ∷ b.rest) l b.once b.apart
+      ∙ sym (append_assoc l ((id, g v) ∷ []) ((n, w) ∷ b.rest)))
+      ∙ value-split n w b.rest (l ++ (id, g v) ∷ []) apart
+
   pub front_value : value_at (change_leaf f (change_leaf g xs id) n) id ≡ Some (g v)
   front_value = ap (λ zs. value_at zs id) both_changed ∙ value-split id (g v) ((n, f w) ∷ b.rest) (left_of xs id) b.apart
 

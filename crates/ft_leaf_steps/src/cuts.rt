@@ -18,7 +18,7 @@ ghost use Rattle.ft_leaf_blocks.specs.Walks.{from_place, node_behind};
 
 use ft_arena::NodeId;
 use ft_base::{Element, OutOfMemory, Stamp, Stamps, Steps};
-use ft_block::{Blocks, Found, LenView};
+use ft_block::{Blocks, Found};
 use ft_leaf_blocks::LeafBlocks;
 use ft_leaves::{Content, TreeLeaf};
 use ft_props::{Overlay, PropSet, Props};
@@ -119,7 +119,7 @@ fn behind_pending<C: Content, G: Ledger>(
 }
 
 /// Puts a leaf in behind a place where a leaf ends, or past the leaves with a pending insertion that stand
-/// there, and answers how many elements stand before it.
+/// there.
 ///
 /// Answers `OutOfMemory` where there is no room for it.
 fn put_past<C: Content + Drop, G: Ledger>(
@@ -128,16 +128,19 @@ fn put_past<C: Content + Drop, G: Ledger>(
     past_pending: bool,
     leaf: TreeLeaf<C>,
     steps: &mut Steps<G>,
-) -> Result<u64, OutOfMemory>
+) -> Result<(), OutOfMemory>
     requires usable { IsTrue blocks.old.usable }
     requires live { IsPlaceIn blocks.old.leaves at }
     requires fits { length (elements C.units C.by blocks.old.leaves) + length (C.units leaf.content) < 2 ^ 64 }
     requires settled { leaf.overlay.pending ≡ [] }
-    ensures place { let leaves = blocks.old.leaves in
+    ensures puts { let leaves = blocks.old.leaves in
         let run = prefix_len (passes past_pending) (elements C.units C.by (from_place leaves (node_behind leaves at))) in
-        IfOk result (λ i. i ≡ length (elements C.units C.by (up_to_place leaves at)) + run) }
-    ensures puts { IfOk result (λ i. PutsBehind C.units C.by i leaf blocks.old.leaves blocks.new.leaves) }
-    ensures refs { IfOk result (λ i. ChangesReferences (with_place (shifted_place i (length (C.units leaf.content)))) blocks.old.refs blocks.new.refs) }
+        let i = length (elements C.units C.by (up_to_place leaves at)) + run in
+        OnOk result (PutsBehind C.units C.by i leaf leaves blocks.new.leaves) }
+    ensures refs { let leaves = blocks.old.leaves in
+        let run = prefix_len (passes past_pending) (elements C.units C.by (from_place leaves (node_behind leaves at))) in
+        let i = length (elements C.units C.by (up_to_place leaves at)) + run in
+        OnOk result (ChangesReferences (with_place (shifted_place i (length (C.units leaf.content)))) blocks.old.refs blocks.new.refs) }
     ensures usable { OnOk result (blocks.new.usable ≡ true) }
     ensures floor { blocks.new.floor ≡ blocks.old.floor }
     ensures reads { steps.new ≤ steps.old + pending_leaves (from_place blocks.old.leaves (node_behind blocks.old.leaves at)) + 1 }
@@ -145,8 +148,8 @@ fn put_past<C: Content + Drop, G: Ledger>(
 {
     let _first = blocks.first();
     let end = behind_run(blocks.list(), at, past_pending, steps);
-    let id = blocks.insert_after(end, leaf)?;
-    Ok(blocks.position_of(id, LenView::All))
+    let _id = blocks.insert_after(end, leaf)?;
+    Ok(())
 }
 
 /// A leaf of new elements, which nobody has removed or changed.
@@ -172,7 +175,7 @@ fn new_leaf<C: Content + Drop>(
 }
 
 /// Puts new elements in as one leaf directly after a place that was found, or past the leaves with a
-/// pending insertion that stand there, and answers how many elements stand before them.
+/// pending insertion that stand there.
 ///
 /// Answers `OutOfMemory` where there is no room for them.
 pub fn insert_at<C: Content + Drop, G: Ledger>(
@@ -184,7 +187,7 @@ pub fn insert_at<C: Content + Drop, G: Ledger>(
     ins: Stamp,
     props: &PropSet,
     steps: &mut Steps<G>,
-) -> Result<u64, OutOfMemory>
+) -> Result<(), OutOfMemory>
     requires usable { IsTrue blocks.old.usable }
     requires held { IsInLeaf C.units blocks.old.leaves found.now.leaf found.now.offset }
     requires fits { length (elements C.units C.by blocks.old.leaves) + length (C.units content) < 2 ^ 64 }
@@ -194,12 +197,12 @@ pub fn insert_at<C: Content + Drop, G: Ledger>(
         ≡ place (seen_in view) p (elements C.units C.by blocks.old.leaves)
         → OnOk result (elements C.units C.by blocks.new.leaves
         ≡ put (seen_in view) (passes past_pending) p (new_elements ins (C.by content) (apply [] props.now) (C.units content)) (elements C.units C.by blocks.old.leaves)) }
-    ensures place { (view : LenView) (p : ℕ) → held_place C.units C.by blocks.old.leaves found.now.leaf found.now.offset
-        ≡ place (seen_in view) p (elements C.units C.by blocks.old.leaves)
-        → IfOk result (λ i. i ≡ put_place (seen_in view) (passes past_pending) p (elements C.units C.by blocks.old.leaves)) }
     ensures count { OnOk result (length (elements C.units C.by blocks.new.leaves) ≡ length (elements C.units C.by blocks.old.leaves) + length (C.units content)) }
     ensures nodes { OnOk result (Extends (ids blocks.old.leaves) (ids blocks.new.leaves)) }
-    ensures refs { IfOk result (λ i. ChangesReferences (with_place (shifted_place i (length (C.units content)))) blocks.old.refs blocks.new.refs) }
+    ensures refs { let old = elements C.units C.by blocks.old.leaves in
+        (view : LenView) (p : ℕ) → held_place C.units C.by blocks.old.leaves found.now.leaf found.now.offset ≡ place (seen_in view) p old
+        → OnOk result (ChangesReferences (with_place (shifted_place (put_place (seen_in view) (passes past_pending) p old) (length (C.units content))))
+        blocks.old.refs blocks.new.refs) }
     ensures usable { OnOk result (blocks.new.usable ≡ true) }
     ensures floor { blocks.new.floor ≡ blocks.old.floor }
     ensures reads { steps.new ≤ steps.old + pending_leaves blocks.old.leaves + 1 }
@@ -208,6 +211,6 @@ pub fn insert_at<C: Content + Drop, G: Ledger>(
     let at = cut_at(blocks, found)?;
     let _first = blocks.first();
     let leaf = new_leaf(alloc, content, ins, props)?;
-    let place = put_past(blocks, at, past_pending, leaf, steps)?;
-    Ok(place)
+    put_past(blocks, at, past_pending, leaf, steps)?;
+    Ok(())
 }

@@ -1,17 +1,48 @@
 //! Leaves in blocks: how two of them are joined, and where a sweep begins then.
 
-ghost use Rattle.std.specs.Prelude.{◌≡◌, ◌↔◌, if◌then◌else◌, IfOk, IsTrue, OnOk, true};
-ghost use Rattle.ft_block.specs.Leaves.{IsLeafIn, join_leaf};
+ghost use Rattle.std.specs.Prelude.{[], ◌≡◌, ◌↔◌, if◌then◌else◌, IfOk, IsSomeAnd, IsTrue, OnOk, true};
+ghost use Rattle.ft_base.specs.declared.stamps.Stamp.TheVariants.{Acked};
+ghost use Rattle.ft_block.specs.Leaves.{IsLeafIn, change_leaf, join_leaf, value_at};
 ghost use Rattle.ft_leaves.specs.Edits.{MayJoinNext, joined_leaf, sweep_joined, sweep_without};
 ghost use Rattle.ft_leaves.specs.References.{KeepsReferences};
 
 use ft_arena::NodeId;
-use ft_base::OutOfMemory;
+use ft_base::{OutOfMemory, Stamp};
 use ft_block::Blocks;
 use ft_leaf_blocks::LeafBlocks;
 use ft_leaves::block_leaf::universal;
 use ft_leaves::{Content, TreeLeaf};
 use std::alloc::Global;
+
+/// Whether the insertion is the one that everybody sees.
+fn is_universal(stamp: &Stamp) -> bool
+    ensures { result ≡ true → stamp.now ≡ Acked 0 0 }
+{
+    matches!(stamp, Stamp::Acked { seq: 0, conn: 0 })
+}
+
+/// Makes the insertion of a leaf that nobody has removed the one that everybody sees. Where it is that already, nothing is
+/// written.
+///
+/// Answers `OutOfMemory` where there is no room for it.
+fn make_universal<C: Content>(
+    blocks: &mut LeafBlocks<C>,
+    alloc: Global,
+    id: NodeId,
+) -> Result<(), OutOfMemory>
+    requires usable { IsTrue blocks.old.usable }
+    requires live { IsSomeAnd (value_at blocks.old.leaves id) (λ v. v.stamps.dels ≡ []) }
+    ensures ok { OnOk result (blocks.new.leaves ≡ change_leaf (λ v. record v { stamps = record { ins = Acked 0 0; dels = [] } }) blocks.old.leaves id) }
+    ensures refs { OnOk result (KeepsReferences blocks.old.refs blocks.new.refs) }
+    ensures usable { OnOk result (blocks.new.usable ≡ true) }
+    ensures floor { blocks.new.floor ≡ blocks.old.floor }
+{
+    let _first = blocks.first();
+    if is_universal(&blocks.leaf(id).stamps.ins) {
+        return Ok(());
+    }
+    blocks.set_stamps(id, universal(alloc))
+}
 
 /// Joins the leaf after that of a node to it, if the two may be joined at the floor. Tells whether they may.
 ///
@@ -37,8 +68,8 @@ pub fn join_at<C: Content + Drop>(
     if !blocks.leaf(id).may_join(blocks.leaf(next), floor) {
         return Ok(false);
     }
-    blocks.set_stamps(id, universal(alloc))?;
-    blocks.set_stamps(next, universal(alloc))?;
+    make_universal(blocks, alloc, id)?;
+    make_universal(blocks, alloc, next)?;
     blocks.join_next(id)?;
     Ok(true)
 }

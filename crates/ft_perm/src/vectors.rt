@@ -86,14 +86,20 @@ impl Vector {
     /// The place of the handle among those that the view sees, the number of elements seen left of its element: None
     /// exactly where the view sees none with it. Where the vector isn't proper, it is the first of them.
     ///
-    /// It looks at the leaves that the view sees one after another, and finds each from the root of the tree.
+    /// It goes from leaf to leaf up to that one.
     pub fn place_of(&self, view: LenView, handle: u64) -> Option<u64>
         requires usable { IsTrue self.now.tree.usable }
         requires floor { IsFromFloor self.now.tree.floor view }
         ensures { result ≡ position (λ h. nat_eq h handle) (seen_handles view self.now.tree) }
     {
         let mut p = 0;
-        while let Some(run) = self.run_at(view, p) {
+        let mut next = self.tree.first_leaf();
+        while let Some(leaf) = next {
+            next = self.tree.next_leaf(leaf);
+            if !self.tree.leaf_is_seen(leaf, view) {
+                continue;
+            }
+            let run = self.tree.leaf_content(leaf);
             if run.holds(handle) {
                 return Some(p + (handle - run.first));
             }

@@ -1,21 +1,26 @@
 -- All pending insertion stages are moved, one after another.
-use Rattle.std.proofs.Common.{◌≡◌, ℕ, Option, zero, suc, ◌+◌, ◌-◌, ◌<◌, ◌≤◌, Bool, true, false, cond, ◌||◌, ◌&&◌, nat_le, nat_eq, All, List, [], ◌∷◌, filter, length, drop, get_or, drop-cons, add-one, refl, sym, ◌∙◌, ap, subst, arith}
-use Rattle.std.specs.List.{list_all, list_any}
+use Rattle.std.proofs.Common.{◌≡◌, ℕ, Option, Some, zero, suc, ◌+◌, ◌-◌, ◌<◌, ◌≤◌, Bool, true, false, cond, ◌||◌, ◌&&◌, nat_le, nat_eq, All, List, [], ◌∷◌, filter, length, map, drop, get_or, drop-cons, add-one, refl, sym, ◌∙◌, ap, subst, arith}
+use Rattle.std.specs.List.{flat_map, list_all, list_any}
 use Rattle.std.proofs.lemmas.Bool.Decides.{nat_tests}
-use Rattle.std.proofs.lemmas.List.Elements.{All-filter}
+use Rattle.std.proofs.lemmas.List.Elements.{All-filter, All-weaker}
 use Rattle.ft_base.specs.declared.stamps.Stamp.{Stamp}
 use Rattle.ft_base.specs.declared.stamps.Stamp.TheVariants.{Acked, Local}
 use Rattle.ft_base.specs.declared.elements.Element.{Element as ElementStamps}
-use Rattle.ft_base.specs.Scan.{no_run, put}
+use Rattle.ft_base.specs.Scan.{no_run, put, rank}
 use Rattle.ft_base.specs.Visibility.{has_occurred_at_stage, is_acked, is_of_stage}
+use Rattle.ft_block.specs.Leaves.{times_leaf}
 use Rattle.ft_leaves.specs.declared.leaves.TreeLeaf.{TreeLeaf}
 use Rattle.ft_leaves.specs.Elements.{TreeElement, element_with}
 use Rattle.ft_leaves.specs.LeafLists.{elements}
 use Rattle.ft_props.proofs.RebuiltList.{any-filter, filter-twice}
 use Rattle.ft_rebase.specs.declared.moves.StageMove.{StageMove}
 use Rattle.ft_rebase.specs.Moves.{AreMoves, EndsLeaf, amount, leaf_stamps, moved_stage}
+use Rattle.ft_rebase.specs.RebuiltPlaces.{rebuilt_place}
+use Rattle.ft_rebase.specs.Spots.{spot_at}
 use Rattle.ft_rebase.specs.StageLists.{StagesUpTo, StandSideBySide, inserted_by, inserted_up_to, next_position, seen_by, sequenced, with_stages}
 use Rattle.ft_rebase.proofs.Expanded.{any-items, filter-items, len-filter, rank-len, side-items, stages-items}
+use Rattle.ft_rebase.proofs.KeptPlaces.{place-rebuilt, rebuilt_place-image}
+use Rattle.ft_rebase.proofs.SpotPlaces.{Spotted, is_at_spot, length-enumerate, own, own-elements, spot-stands, spot_units, spots, spotted}
 use Rattle.ft_rebase.proofs.StageListLemmas.{MovedUpTo, filter-put_none, moved_all, moves_next, moves_none, none-filtered, none-is, none-later, put-nothing, view-moved}
 
 amount-seen : {A : Type 0} (size : A → ℕ) (see : A → Bool) (q : ℕ) (xs : List A) → amount size see q (filter see xs) ≡ amount size see q xs
@@ -205,31 +210,69 @@ module _ {C U : Type 0} (units : C → List U) (xs : List (ℕ × TreeLeaf C)) w
     pub nodes_kept : filter (sequenced leaf_stamps) now ≡ filter (sequenced leaf_stamps) xs
     nodes_kept = ap (filter (sequenced leaf_stamps)) moved_last ∙ sequenced-kept leaf_stamps xs l.stage
 
-    module _ (by : C → Option Stamp) (some : All (λ x. 1 ≤ length (units x.1.content)) xs) (side : StandSideBySide leaf_stamps xs) where
-      -- the elements are those that are put in afresh
-      pub elements_moved : (last : ℕ) → StagesUpTo (λ (e : TreeElement U). e.stamps) last (elements units by xs)
-          → elements units by now ≡ with_stages (λ e. e.stamps) (elements units by xs)
-          (filter (sequenced (λ e. e.stamps)) (elements units by xs)) last
-      elements_moved last h =
-          let sb : TreeElement U → ElementStamps = λ e. e.stamps in
-          let us : ℕ × TreeLeaf C → List U = λ x. units x.1.content in
-          let f : ℕ × TreeLeaf C → U → TreeElement U = λ x u. element_with x.1.stamps (by x.1.content) x.1.overlay u in
-          let list = elements units by xs in
+    module _ {B V : Type 0} (sb : B → ElementStamps) (us : ℕ × TreeLeaf C → List V) (f : ℕ × TreeLeaf C → V → B)
+        (same : (x : ℕ × TreeLeaf C) (u : V) → sb (f x u) ≡ leaf_stamps x) (some : All (λ x. 1 ≤ length (us x)) xs)
+        (side : StandSideBySide leaf_stamps xs) where
+      -- what is made of each leaf, one or more things with its stamps, is put in afresh
+      pub items_moved : (last : ℕ) → StagesUpTo leaf_stamps last xs → flat_map (λ x. map (f x) (us x)) now
+          ≡ with_stages sb (flat_map (λ x. map (f x) (us x)) xs) (filter (sequenced sb) (flat_map (λ x. map (f x) (us x)) xs)) last
+      items_moved last h =
+          let list = flat_map (λ x. map (f x) (us x)) xs in
           let zero_test : ElementStamps → Bool = λ s. has_occurred_at_stage 0 s.ins in
-          let some_unmoved = All-filter (inserted_up_to leaf_stamps 0) (λ x. 1 ≤ length (units x.1.content)) xs some in
+          let some_unmoved = All-filter (inserted_up_to leaf_stamps 0) (λ x. 1 ≤ length (us x)) xs some in
           let base : filter (seen_by leaf_stamps 0) unmoved ≡ filter (seen_by leaf_stamps 0) xs =
           filter-twice (seen_by leaf_stamps 0) (inserted_up_to leaf_stamps 0) (λ x e. hidden (inserted_up_to leaf_stamps 0 x) _ e) xs in
-          let above : (j : ℕ) → l.stage < j → list_any (inserted_by sb j) list ≡ false =
-          λ j a. any-items leaf_stamps sb us f (λ x u. refl) (λ s. is_of_stage j s.ins) xs some ∙ l.rest j a in
-          ap (elements units by) moved_last
-          ∙ stages-items leaf_stamps sb us f (λ x u. refl) xs unmoved some some_unmoved side base (none-later leaf_stamps xs) l.stage
-          ∙ ap (λ ys. with_stages sb list ys l.stage) (sym (filter-items leaf_stamps sb us f (λ x u. refl) zero_test xs)
-          ∙ sequenced-first sb list h.first)
-          ∙ stages_same sb list (filter (sequenced sb) list) l.stage last above h.above
+          let any : (j : ℕ) → list_any (inserted_by sb j) list ≡ list_any (inserted_by leaf_stamps j) xs =
+          λ j. any-items leaf_stamps sb us f same (λ s. is_of_stage j s.ins) xs some in
+          ap (λ ys. flat_map (λ x. map (f x) (us x)) ys) moved_last
+          ∙ stages-items leaf_stamps sb us f same xs unmoved some some_unmoved side base (none-later leaf_stamps xs) l.stage
+          ∙ ap (λ ys. with_stages sb list ys l.stage) (sym (filter-items leaf_stamps sb us f same zero_test xs)
+          ∙ sequenced-first sb list (any 0 ∙ h.first))
+          ∙ stages_same sb list (filter (sequenced sb) list) l.stage last (λ j a. any j ∙ l.rest j a) (λ j a. any j ∙ h.above j a)
         where
           hidden : (a b : Bool) → a ≡ false → (a && b) ≡ false
           hidden true b h = cc
           hidden false b h = refl
+
+    module _ (by : C → Option Stamp) (some : All (λ x. 1 ≤ length (units x.1.content)) xs) (side : StandSideBySide leaf_stamps xs) where
+      abbrev stamps_of : TreeElement U → ElementStamps
+      stamps_of e = e.stamps
+
+      abbrev element_of : ℕ × TreeLeaf C → U → TreeElement U
+      element_of x u = element_with x.1.stamps (by x.1.content) x.1.overlay u
+
+      -- the stages of the leaves are those of their elements
+      stages-leaves : (last : ℕ) → StagesUpTo stamps_of last (elements units by xs) → StagesUpTo leaf_stamps last xs
+      stages-leaves last h =
+          let any : (j : ℕ) → list_any (inserted_by stamps_of j) (elements units by xs) ≡ list_any (inserted_by leaf_stamps j) xs =
+          λ j. any-items leaf_stamps stamps_of (λ x. units x.1.content) element_of (λ x u. refl) (λ s. is_of_stage j s.ins) xs some in
+          record { first = sym (any 0) ∙ h.first; above = λ k a. sym (any k) ∙ h.above k a }
+
+      -- the elements are those that are put in afresh
+      pub elements_moved : (last : ℕ) → StagesUpTo (λ (e : TreeElement U). e.stamps) last (elements units by xs)
+          → elements units by now ≡ with_stages (λ e. e.stamps) (elements units by xs)
+          (filter (sequenced (λ e. e.stamps)) (elements units by xs)) last
+      elements_moved last h = items_moved stamps_of (λ x. units x.1.content) element_of (λ x u. refl) some side last (stages-leaves last h)
+
+      -- where an element stands that has kept its spot
+      module _ (once : (i : ℕ) → times_leaf xs i ≤ 1) (once_now : (i : ℕ) → times_leaf now i ≤ 1) (last : ℕ)
+          (h : StagesUpTo (λ (e : TreeElement U). e.stamps) last (elements units by xs)) (i j : ℕ) (s : ℕ × ℕ) where
+        pub spot_moved : spot_at units xs i ≡ Some s → spot_at units now j ≡ Some s → j ≡ rebuilt_place stamps_of last (elements units by xs) i
+        spot_moved before after =
+            let sb : Spotted units by → ElementStamps = λ y. y.1.stamps in
+            let list = spots units by xs in
+            let is = is_at_spot units by s in
+            let then = spot-stands units by s xs i once before in
+            let there = spot-stands units by s now j once_now after in
+            sym there.place
+            ∙ ap (λ ys. rank is (λ y. true) ys) (items_moved sb (spot_units units by) (spotted units by) (λ x u. refl) filled side last (stages-leaves last h))
+            ∙ place-rebuilt sb is last list then.once
+            ∙ ap (rebuilt_place sb last list) then.place
+            ∙ sym (rebuilt_place-image sb stamps_of (own units by) (λ k y. refl) (λ k y. refl) (λ y. refl) last list i)
+            ∙ ap (λ es. rebuilt_place stamps_of last es i) (own-elements units by xs)
+          where
+            filled : All (λ x. 1 ≤ length (spot_units units by x)) xs
+            filled = All-weaker (λ x. 1 ≤ length (units x.1.content)) (λ x. 1 ≤ length (spot_units units by x)) (λ x g. omega (arith, length-enumerate 0 (units x.1.content), g)) xs some
 
 -- leaves whose elements stand side by side stand so
 pub leaves_side : {C U : Type 0} (units : C → List U) (by : C → Option Stamp) (xs : List (ℕ × TreeLeaf C))

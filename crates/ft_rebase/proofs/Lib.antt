@@ -7,7 +7,10 @@ pub mod ListedLeaves
 pub mod ListedRuns
 pub mod StageMoves
 pub mod NextStages
+pub mod KeptPlaces
+pub mod SpotPlaces
 pub mod AllStages
+pub mod NamedLists
 pub mod UnmarkedLists
 pub mod MovedSpots
 pub mod CarriedLeaves

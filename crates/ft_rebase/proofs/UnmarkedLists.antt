@@ -1,14 +1,18 @@
 -- The pending marks of removed elements taken off before the stages are moved: the views stay, and moving gives the rebuilt list.
-use Rattle.std.proofs.Common.{◌≡◌, ℕ, zero, suc, Bool, true, false, cond, not, ◌&&◌, ◌||◌, List, [], ◌∷◌, map, filter, refl, sym, ◌∙◌, ap, arith}
+use Rattle.std.proofs.Common.{◌≡◌, ℕ, zero, suc, Bool, true, false, cond, not, ◌&&◌, ◌||◌, List, [], ◌∷◌, Option, Some, None, map, filter, option_map, refl, sym, ◌∙◌, ap, arith}
 use Rattle.std.specs.List.{list_any}
 use Rattle.ft_base.specs.declared.stamps.Stamp.{Stamp}
 use Rattle.ft_base.specs.declared.stamps.Stamp.TheVariants.{Acked, Local}
 use Rattle.ft_base.specs.declared.elements.Element.{Element as ElementStamps}
 use Rattle.ft_base.specs.Scan.{no_run, put, rank, retain_map}
 use Rattle.ft_base.specs.Visibility.{has_occurred_at_stage, is_acked, is_of_stage}
+use Rattle.ft_leaves.specs.declared.references.Reference.{Reference}
+use Rattle.ft_leaves.specs.Edits.{with_place}
 use Rattle.ft_leaves.specs.Elements.{TreeElement}
 use Rattle.ft_rebase.specs.Normalised.{carried_element, rebuilt_list, unmarked_element, without_pending}
+use Rattle.ft_rebase.specs.RebuiltPlaces.{rebuilt_place}
 use Rattle.ft_rebase.specs.StageLists.{StagesUpTo, StandSideBySide, inserted_by, is_one_run, is_run_at_front, next_position, seen_by, seen_or_next, sequenced, with_stages}
+use Rattle.ft_rebase.proofs.KeptPlaces.{rebuilt_place-image}
 
 -- ---- lists in which each element is changed, and passes each test as before
 
@@ -129,3 +133,16 @@ module _ {U : Type 0} where
     first = any-map unmarked_element (inserted_by st 0) (same-inserted 0) xs ∙ h.first;
     above = λ k a. any-map unmarked_element (inserted_by st k) (same-inserted k) xs ∙ h.above k a;
   }
+
+  -- places don't depend on these marks
+  pub unmarked-place : (xs : List (TreeElement U)) (last j : ℕ) → rebuilt_place st last (map unmarked_element xs) j ≡ rebuilt_place st last xs j
+  unmarked-place xs last j = rebuilt_place-image st st unmarked_element same-inserted same-seen same-sequenced last xs j
+
+-- references that go to the same places
+pub same-places : (f g : ℕ → ℕ) → ((j : ℕ) → f j ≡ g j) → (o : Option Reference) → option_map (with_place f) o ≡ option_map (with_place g) o
+same-places f g same None = refl
+same-places f g same (Some x) = placed x.place
+  where
+    placed : (p : Option ℕ) → Some (with_place f (record x { place = p })) ≡ Some (with_place g (record x { place = p }))
+    placed None = refl
+    placed (Some j) = ap (λ i. Some (record x { place = Some i })) (same j)

@@ -4,3 +4,4 @@ pub mod StageLists
 pub mod Moves
 pub mod Normalised
 pub mod Spots
+pub mod RebuiltPlaces

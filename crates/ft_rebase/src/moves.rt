@@ -4,9 +4,12 @@ ghost use Rattle.std.specs.Prelude.{◌≡◌, ℕ, ◌-◌, ◌≤◌, None, Is
 ghost use Rattle.ft_base.specs.Scan.{len};
 ghost use Rattle.ft_block.specs.Leaves.{IsLeafIn, IsPlaceIn, move_leaf, value_at, without_leaf};
 ghost use Rattle.ft_rebase.specs.Moves.{AreMoves, EndsLeaf, leaf_stamps, moved_stage, seen_node, seen_size};
+ghost use Rattle.ft_rebase.specs.RebuiltPlaces.{rebuilt_place};
 ghost use Rattle.ft_rebase.specs.Spots.{KeepsSpots};
 ghost use Rattle.ft_rebase.specs.StageLists.{StagesUpTo, StandSideBySide, seen_by, sequenced, with_stages};
+ghost use Rattle.ft_leaves.specs.Edits.{with_place};
 ghost use Rattle.ft_leaves.specs.LeafLists.{elements};
+ghost use Rattle.ft_leaves.specs.References.{ChangesReferences};
 ghost use Rattle.ft_tree.specs.State.{KeepsRest};
 
 use crate::positions::{inserted_leaves, insertion_position};
@@ -25,7 +28,7 @@ pub struct StageMove {
 
 /// Moves the leaves of pending insertions to where the order will put them: stage after stage, each behind as many
 /// elements that the stage before sees as stood left of it before any move. The elements of each stage stand side by side
-/// in its view. Every leaf keeps its node.
+/// in its view. Every leaf keeps its node, and every reference its element.
 ///
 /// Answers `OutOfMemory` where there is no room for it.
 pub(crate) fn move_stages<C: Content>(tree: &mut Tree<C>) -> Result<(), OutOfMemory>
@@ -39,7 +42,11 @@ where
         ≡ with_stages (λ e. e.stamps) old (filter (sequenced (λ e. e.stamps)) old) last) }
     ensures nodes { OnOk result (filter (sequenced leaf_stamps) tree.new.leaves ≡ filter (sequenced leaf_stamps) tree.old.leaves) }
     ensures refs { OnOk result (KeepsSpots C.units tree.old tree.new) }
+    ensures places { let old = elements C.units C.by tree.old.leaves in
+        (last : ℕ) → StagesUpTo (λ e. e.stamps) last old
+        → OnOk result (ChangesReferences (with_place (rebuilt_place (λ e. e.stamps) last old)) tree.old.refs tree.new.refs) }
     ensures rest { OnOk result (KeepsRest tree.old tree.new) }
+    ensures made { OnOk result (tree.new.made ≡ tree.old.made) }
     ensures usable { OnOk result (tree.new.usable ≡ true) }
 {
     let _first = tree.first_leaf();
@@ -47,6 +54,8 @@ where
     for next in &moves {
         put_stage(tree, next.stage, next.position)?;
     }
+    // What a contract says of references is read off it.
+    let _moved = tree.first_leaf();
     Ok(())
 }
 
@@ -104,6 +113,7 @@ where
         → OnOk result (tree.new.leaves ≡ moved_stage leaf_stamps (stage - 1) q tree.old.leaves) }
     ensures refs { OnOk result (KeepsSpots C.units tree.old tree.new) }
     ensures rest { OnOk result (KeepsRest tree.old tree.new) }
+    ensures made { OnOk result (tree.new.made ≡ tree.old.made) }
     ensures usable { OnOk result (tree.new.usable ≡ true) }
 {
     let _first = tree.first_leaf();
@@ -131,6 +141,7 @@ where
     ensures leaves { OnOk result (tree.new.leaves ≡ move_leaf tree.old.leaves leaf at.now (value_at tree.old.leaves leaf)) }
     ensures refs { OnOk result (KeepsSpots C.units tree.old tree.new) }
     ensures rest { OnOk result (KeepsRest tree.old tree.new) }
+    ensures made { OnOk result (tree.new.made ≡ tree.old.made) }
     ensures usable { OnOk result (tree.new.usable ≡ true) }
 {
     let _first = tree.first_leaf();

@@ -1,15 +1,16 @@
 //! What normalisation makes of a merge tree.
 
-ghost use Rattle.std.specs.Prelude.{◌≡◌, ℕ, IsFalse, IsTrue, OnOk, Some, filter, map, not, true};
+ghost use Rattle.std.specs.Prelude.{◌≡◌, ℕ, IsFalse, IsTrue, OnErr, OnOk, Some, false, filter, map, not, true};
 ghost use Rattle.std.specs.List.{list_any};
 ghost use Rattle.ft_base.specs.Visibility.{is_acked};
 ghost use Rattle.ft_block.specs.Leaves.{IsLeafIn, change_leaf, value_at};
 ghost use Rattle.ft_leaves.specs.declared.leaves.TreeLeaf.{TreeLeaf};
-ghost use Rattle.ft_leaves.specs.Edits.{sequenced_leaf};
+ghost use Rattle.ft_leaves.specs.Edits.{sequenced_leaf, with_place};
 ghost use Rattle.ft_leaves.specs.LeafLists.{elements};
-ghost use Rattle.ft_leaves.specs.References.{KeepsReferences};
+ghost use Rattle.ft_leaves.specs.References.{ChangesReferences, KeepsReferences};
 ghost use Rattle.ft_rebase.specs.Moves.{leaf_stamps};
 ghost use Rattle.ft_rebase.specs.Normalised.{carried_by, carried_leaf, carried_pair, is_gone, rebuilt_list};
+ghost use Rattle.ft_rebase.specs.RebuiltPlaces.{rebuilt_place};
 ghost use Rattle.ft_rebase.specs.Spots.{KeepsSpots};
 ghost use Rattle.ft_rebase.specs.StageLists.{StagesUpTo, StandSideBySide, sequenced};
 ghost use Rattle.ft_tree.specs.State.{KeepsRest};
@@ -23,8 +24,8 @@ use ft_tree::Tree;
 
 /// Brings a merge tree in order after its pending stages were regenerated, so that it is as if they had been made afresh:
 /// what is pending on elements with a sequenced removal goes, and the leaves of pending insertions move to where the order
-/// will put them. The elements of each stage stand side by side in its view. Every leaf keeps its node. It goes to the leaves
-/// that each pending stage touched, a few times for each stage.
+/// will put them. The elements of each stage stand side by side in its view. Every leaf keeps its node, and every reference
+/// its element; a detached one stays so. It goes to the leaves that each pending stage touched, a few times for each stage.
 ///
 /// Answers `OutOfMemory` where there is no room for it, and then the tree may be used no more.
 pub fn normalise<C: Content>(tree: &mut Tree<C>) -> Result<(), OutOfMemory>
@@ -38,7 +39,42 @@ where
     ensures nodes { OnOk result (filter (sequenced leaf_stamps) tree.new.leaves
         ≡ map carried_pair (filter (sequenced leaf_stamps) tree.old.leaves)) }
     ensures refs { OnOk result (KeepsSpots C.units tree.old tree.new) }
+    ensures places { let old = elements C.units C.by tree.old.leaves in
+        (last : ℕ) → StagesUpTo (λ e. e.stamps) last old
+        → OnOk result (ChangesReferences (with_place (rebuilt_place (λ e. e.stamps) last old)) tree.old.refs tree.new.refs) }
     ensures rest { OnOk result (KeepsRest tree.old tree.new) }
+    ensures made { OnOk result (tree.new.made ≡ tree.old.made) }
+    ensures usable { OnOk result (tree.new.usable ≡ true) }
+    ensures err { OnErr result (tree.new.usable ≡ false) }
+{
+    match carry_and_move(tree) {
+        Ok(()) => Ok(()),
+        Err(e) => {
+            tree.spoil();
+            Err(e)
+        }
+    }
+}
+
+/// Takes what is pending off the leaves that are gone, and moves those of pending insertions.
+///
+/// Answers `OutOfMemory` where there is no room for it.
+fn carry_and_move<C: Content>(tree: &mut Tree<C>) -> Result<(), OutOfMemory>
+where
+    C: Drop,
+    requires usable { IsTrue tree.old.usable }
+    requires side { StandSideBySide (λ e. e.stamps) (elements C.units C.by tree.old.leaves) }
+    ensures elements { let old = elements C.units C.by tree.old.leaves in
+        (last : ℕ) → StagesUpTo (λ e. e.stamps) last old
+        → OnOk result (elements C.units C.by tree.new.leaves ≡ rebuilt_list last old) }
+    ensures nodes { OnOk result (filter (sequenced leaf_stamps) tree.new.leaves
+        ≡ map carried_pair (filter (sequenced leaf_stamps) tree.old.leaves)) }
+    ensures refs { OnOk result (KeepsSpots C.units tree.old tree.new) }
+    ensures places { let old = elements C.units C.by tree.old.leaves in
+        (last : ℕ) → StagesUpTo (λ e. e.stamps) last old
+        → OnOk result (ChangesReferences (with_place (rebuilt_place (λ e. e.stamps) last old)) tree.old.refs tree.new.refs) }
+    ensures rest { OnOk result (KeepsRest tree.old tree.new) }
+    ensures made { OnOk result (tree.new.made ≡ tree.old.made) }
     ensures usable { OnOk result (tree.new.usable ≡ true) }
 {
     carry_leaves(tree)?;
@@ -81,6 +117,7 @@ fn carry_leaf<C: Content>(tree: &mut Tree<C>, leaf: NodeId) -> Result<(), OutOfM
     ensures leaves { OnOk result (tree.new.leaves ≡ change_leaf carried_leaf tree.old.leaves leaf) }
     ensures refs { OnOk result (KeepsReferences tree.old.refs tree.new.refs) }
     ensures rest { OnOk result (KeepsRest tree.old tree.new) }
+    ensures made { OnOk result (tree.new.made ≡ tree.old.made) }
     ensures usable { OnOk result (tree.new.usable ≡ true) }
 {
     let _first = tree.first_leaf();
@@ -100,6 +137,7 @@ fn carry_stage<C: Content>(tree: &mut Tree<C>, stage: u64) -> Result<(), OutOfMe
     ensures leaves { OnOk result (tree.new.leaves ≡ map (carried_by stage) tree.old.leaves) }
     ensures refs { OnOk result (KeepsReferences tree.old.refs tree.new.refs) }
     ensures rest { OnOk result (KeepsRest tree.old tree.new) }
+    ensures made { OnOk result (tree.new.made ≡ tree.old.made) }
     ensures usable { OnOk result (tree.new.usable ≡ true) }
 {
     let _first = tree.first_leaf();
@@ -110,7 +148,8 @@ fn carry_stage<C: Content>(tree: &mut Tree<C>, stage: u64) -> Result<(), OutOfMe
     Ok(())
 }
 
-/// Takes what is pending off all leaves whose insertion and a removal of it are sequenced.
+/// Takes what is pending off all leaves whose insertion and a removal of it are sequenced. Then no stage lists a leaf of which
+/// it has nothing.
 ///
 /// Answers `OutOfMemory` where there is no room for what is left.
 fn carry_leaves<C: Content>(tree: &mut Tree<C>) -> Result<(), OutOfMemory>
@@ -118,6 +157,7 @@ fn carry_leaves<C: Content>(tree: &mut Tree<C>) -> Result<(), OutOfMemory>
     ensures leaves { OnOk result (tree.new.leaves ≡ map carried_pair tree.old.leaves) }
     ensures refs { OnOk result (KeepsReferences tree.old.refs tree.new.refs) }
     ensures rest { OnOk result (KeepsRest tree.old tree.new) }
+    ensures made { OnOk result (tree.new.made ≡ tree.old.made) }
     ensures usable { OnOk result (tree.new.usable ≡ true) }
 {
     let mut next = Some(0);
@@ -125,5 +165,6 @@ fn carry_leaves<C: Content>(tree: &mut Tree<C>) -> Result<(), OutOfMemory>
         carry_stage(tree, stage)?;
         next = tree.next_pending(stage);
     }
+    tree.prune()?;
     Ok(())
 }

@@ -2,12 +2,15 @@
 
 ghost use Rattle.std.specs.Prelude.{◌≡◌, ℕ, ◌++◌, ◌∷◌, [], IfOk, IsTrue, OnOk, true};
 ghost use Rattle.ft_base.specs.declared.stamps.Stamp.TheVariants.{Acked, Local};
-ghost use Rattle.ft_tests_layers.specs.Markers.{behind_removed, elements_of, marker_element, two_stages};
+ghost use Rattle.ft_tests_layers.specs.Markers.{behind_removed, elements_of, marker_element, removed_alone, two_stages};
+ghost use Rattle.ft_leaves.specs.References.{IsReferenceIn};
 ghost use Rattle.ft_rebase.specs.StageLists.{StandSideBySide};
 
 use ft_base::{Element, OutOfMemory, Stamp, Stamps};
+use ft_block::LenView;
 use ft_props::Props;
 use ft_rebase::{Piece, normalise, regenerate};
+use ft_refs::RefId;
 use ft_tree::{TextContent, Tree};
 use std::alloc::Global;
 use std::test::Fail;
@@ -148,5 +151,61 @@ fn normalisation_numbers_first(rt: HostRuntime) -> Result<(), Fail> {
     assert!(rt; after.get(1) == before.get(2));
     assert!(rt; after.get(2) == before.get(3));
     assert!(rt; after.get(3) == before.get(1));
+    Ok(())
+}
+
+// The view of the client.
+const LOCAL: LenView = LenView::Stage(u64::MAX);
+
+// The markers 2, which is removed, and 3 of stage 1.
+fn removed_alone(alloc: Global) -> Result<Tree<TextContent>, Fail>
+    ensures usable { IfOk result (λ tree. IsTrue tree.usable) }
+    ensures elements { IfOk result (λ tree. elements_of tree ≡ removed_alone) }
+{
+    let mut tree = Tree::new(alloc);
+    add(alloc, &mut tree, 2, removed(alloc)?)?;
+    add(alloc, &mut tree, 3, pending(alloc, 1))?;
+    Ok(tree)
+}
+
+// Where a reference stands before and after normalisation.
+fn places(mut tree: Tree<TextContent>, r: RefId) -> Result<[Option<u64>; 2], Fail>
+    requires usable { IsTrue tree.usable }
+    requires side { StandSideBySide (λ e. e.stamps) (elements_of tree) }
+    requires live { IsReferenceIn tree.refs r }
+{
+    let before = tree.ref_index(r);
+    normalise(&mut tree)?;
+    Ok([before, tree.ref_index(r)])
+}
+
+// The places of one on marker 3.
+fn places_on_pending(alloc: Global) -> Result<[Option<u64>; 2], Fail> {
+    let mut tree = removed_alone(alloc)?;
+    let r = tree.add_ref(0, LOCAL)?;
+    places(tree, r)
+}
+
+// The places of one that was on marker 3 and found no element that is sequenced and unremoved.
+fn places_of_detached(alloc: Global) -> Result<[Option<u64>; 2], Fail> {
+    let mut tree = removed_alone(alloc)?;
+    let r = tree.add_ref(0, LOCAL)?;
+    tree.settle_ref(r);
+    places(tree, r)
+}
+
+#[test]
+fn a_reference_goes_with_its_pending_element(rt: HostRuntime) -> Result<(), Fail> {
+    let [before, after] = places_on_pending(rt.alloc())?;
+    assert_eq!(rt; before, Some(1));
+    assert_eq!(rt; after, Some(0));
+    Ok(())
+}
+
+#[test]
+fn a_detached_reference_stays_detached(rt: HostRuntime) -> Result<(), Fail> {
+    let [before, after] = places_of_detached(rt.alloc())?;
+    assert_eq!(rt; before, None);
+    assert_eq!(rt; after, None);
     Ok(())
 }

@@ -1,5 +1,5 @@
 -- What holds of a tree that may still be used, as its callers see it, and that its steps keep it.
-use Rattle.std.proofs.Common.{◌≡◌, ℕ, suc, ◌+◌, ◌≤◌, Bool, true, false, cond, List, [], ◌∷◌, map, IsTrue, Option, Some, None, option_map, length, subst, refl, sym, ◌∙◌, ap, arith}
+use Rattle.std.proofs.Common.{◌≡◌, ℕ, suc, ◌+◌, ◌≤◌, Bool, true, false, cond, List, [], ◌∷◌, map, IsTrue, Option, Some, None, length, subst, refl, sym, ◌∙◌, ap, arith}
 use Rattle.ft_base.specs.declared.stamps.Stamp.{Stamp}
 use Rattle.ft_base.specs.Scan.{change_range, change_range_from, one_more_if, place, put}
 use Rattle.ft_base.specs.Visibility.{is_of_stage}
@@ -13,7 +13,6 @@ use Rattle.ft_leaf_steps.specs.declared.ranges.RangeEdit.{RangeEdit}
 use Rattle.ft_leaf_steps.specs.declared.ranges.RangeEdit.TheVariants.{Change, Remove}
 use Rattle.ft_leaves.specs.declared.block_leaf.LeafChange.TheVariants.{SetAcked, PushPending, DropPending, DropAll, Ack}
 use Rattle.ft_leaves.specs.declared.leaves.TreeLeaf.{TreeLeaf}
-use Rattle.ft_leaves.specs.declared.references.Reference.{Reference}
 use Rattle.ft_leaves.specs.Edits.{sweep_without, with_place}
 use Rattle.ft_leaves.specs.Elements.{TreeElement, element_with, new_elements, removed_stamps, sequenced_overlay}
 use Rattle.ft_leaves.specs.LeafChanges.{fresh_leaf}
@@ -21,7 +20,7 @@ use Rattle.ft_leaves.specs.LeafLists.{Extends, elements, leaf_elements}
 use Rattle.ft_leaves.specs.LeafLists.Extends.{kept, added}
 use Rattle.ft_leaves.specs.Places.{put_place, shifted_place}
 use Rattle.ft_leaves.specs.Plain.{WithoutNode}
-use Rattle.ft_leaves.specs.References.{ChangesReferences, reference_at}
+use Rattle.ft_leaves.specs.References.{ChangesReferences}
 use Rattle.ft_leaves.proofs.LeafEdits.{sweep_there}
 use Rattle.ft_leaves.proofs.RangeLeaves.{leaf-with_overlay, leaf-with_stamps}
 use Rattle.ft_props.specs.Overlay.{after_ack, after_acked_changes, after_drop, after_pending_changes}
@@ -120,19 +119,18 @@ module _ {C U : Type 0} (units : C → List U) (by : C → Option Stamp) (a : In
   refs_rest v is = ap (λ (s : TrackedLeaves C). view_of (record a { blocks = s })) rest ∙ ap (λ (w : TreeState C). record w { refs = now.refs }) is
 
 module _ {C U : Type 0} (units : C → List U) (by : C → Option Stamp) (a : Inside C U) (v : TreeState C) (is : view_of a ≡ v)
-    (seen past : TreeElement U → Bool) (p : ℕ) (leaf : TreeLeaf C) (b : Inside C U) (i : ℕ) where
+    (seen past : TreeElement U → Bool) (p : ℕ) (leaf : TreeLeaf C) (b : Inside C U) where
   -- an insertion, as its callers see it
   pub put_seen : elements units by b.blocks.leaves ≡ put seen past p (leaf_elements units by leaf) (elements units by a.blocks.leaves)
-      → i ≡ put_place seen past p (elements units by a.blocks.leaves)
-      → ChangesReferences (with_place (shifted_place i (length (units leaf.content)))) a.blocks.refs b.blocks.refs
+      → ChangesReferences (with_place (shifted_place (put_place seen past p (elements units by a.blocks.leaves)) (length (units leaf.content))))
+      a.blocks.refs b.blocks.refs
       → Extends (ids a.blocks.leaves) (ids b.blocks.leaves) → b.made ≡ a.made + length (units leaf.content)
       → b.blocks.floor ≡ a.blocks.floor → b.sweep ≡ a.sweep → b.usable ≡ a.usable → Puts units by seen past p leaf v (view_of b)
-  put_seen list place refs nodes made floor sweep still =
-      let moved : ℕ → Reference → Reference = λ j x. with_place (shifted_place j (length (units leaf.content))) x in
+  put_seen list refs nodes made floor sweep still =
       subst (λ (s : TreeState C). Puts units by seen past p leaf s (view_of b)) is
       (record {
         list = list;
-        refs = λ r. refs r ∙ ap (λ j. option_map (moved j) (reference_at a.blocks.refs r)) place;
+        refs = refs;
         nodes = nodes;
         rest = record { floor = floor; sweep = sweep; usable = still };
         made = made;

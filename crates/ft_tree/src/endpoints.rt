@@ -1,24 +1,27 @@
 //! The references of a tree, and where they go.
 
-ghost use Rattle.std.specs.Prelude.{◌≡◌, ◌≢◌, ℕ, ◌+◌, ◌<◌, Some, None, IsTrue, IfOk, IfErr, OnOk, OnErr, true, false, option_and_then};
+ghost use Rattle.std.specs.Prelude.{◌≡◌, ◌≢◌, ℕ, ◌+◌, ◌<◌, Some, None, IsTrue, IfOk, IfErr, IfSome, OnOk, OnErr, true, false, option_and_then, option_map};
 ghost use Rattle.ft_base.specs.Scan.{len};
 ghost use Rattle.ft_block.specs.declared.leaves.LenView.TheVariants.{Stage};
 ghost use Rattle.ft_block.specs.Leaves.{IsFromFloor};
 ghost use Rattle.ft_leaves.specs.Edits.{ChangesReference, next_removal_above};
 ghost use Rattle.ft_leaves.specs.Elements.{seen_in};
-ghost use Rattle.ft_leaves.specs.Places.{place_at, settled_number};
+ghost use Rattle.ft_leaves.specs.Places.{place_at, seen_before, settled_number, settled_place};
 ghost use Rattle.ft_leaves.specs.LeafLists.{elements};
 ghost use Rattle.ft_leaves.specs.References.{ChangesReferences, IsReferenceIn, place_of, reference_at, slid_reference};
+ghost use Rattle.ft_leaf_blocks.specs.LeafPlaces.{IsOnLeaf, place_on};
 ghost use Rattle.ft_tree.specs.State.{IsRefused};
 
 use crate::faults::TreeFault;
 use crate::tree::Tree;
 use ft_block::LenView;
-use ft_leaf_steps::offsets::{elements_before, seen_offset};
+use ft_leaf_blocks::settling::settled_on;
+use ft_leaf_steps::offsets::{elements_before, seen_before_on, seen_offset};
 use ft_leaf_steps::places::seen_count;
 use ft_leaf_steps::scans::settled_number;
 use ft_leaves::Content;
-use ft_refs::RefId;
+use ft_leaves::leaves::Standing;
+use ft_refs::{Place, RefId};
 
 impl<C: Content> Tree<C> {
     /// Puts a pending reference on the element that the view sees with `p` seen ones before it.
@@ -60,6 +63,45 @@ impl<C: Content> Tree<C> {
         Some(elements_before(self.blocks.list(), &at))
     }
 
+    /// The leaf of the reference's element, and how many of the leaf's elements stand before that one: None exactly
+    /// where the reference is detached.
+    pub fn ref_at(&self, r: RefId) -> Option<Place>
+        requires usable { IsTrue self.now.usable }
+        requires live { IsReferenceIn self.now.refs r }
+        ensures on_leaf { IfSome result (IsOnLeaf C.units self.now.leaves) }
+        ensures place { option_map (place_on C.units C.by self.now.leaves) result ≡ place_of self.now.refs r }
+    {
+        self.blocks.place_of(r)
+    }
+
+    /// The element as it is settled at the stage: the same if the stage sees it, else the next one that it sees, else
+    /// the last before it, else none.
+    ///
+    /// It looks at the leaf alone where the stage sees that, else at the leaves up to the one where it is settled; where
+    /// that stands before it, at all behind too.
+    pub fn settled_at(&self, at: &Place, stage: u64) -> Option<Place>
+        requires usable { IsTrue self.now.usable }
+        requires on_leaf { IsOnLeaf C.units self.now.leaves at.now }
+        ensures on_leaf { IfSome result (IsOnLeaf C.units self.now.leaves) }
+        ensures place { let leaves = self.now.leaves in
+            option_map (place_on C.units C.by leaves) result
+            ≡ settled_place (seen_in (Stage stage)) (elements C.units C.by leaves) (place_on C.units C.by leaves at.now) }
+    {
+        let view = LenView::Stage(stage);
+        settled_on(self.blocks.list(), at, Standing::SeenIn(view))
+    }
+
+    /// How many elements that the stage sees stand before the element. It goes up from the leaf; at a stage other than
+    /// `u64::MAX` it also looks at each leaf left of it that has a pending stamp.
+    pub fn number_at(&self, at: &Place, stage: u64) -> u64
+        requires usable { IsTrue self.now.usable }
+        requires on_leaf { IsOnLeaf C.units self.now.leaves at.now }
+        ensures { let leaves = self.now.leaves in
+            result ≡ seen_before (seen_in (Stage stage)) (elements C.units C.by leaves) (place_on C.units C.by leaves at.now) }
+    {
+        seen_before_on(self.blocks.list(), at, LenView::Stage(stage))
+    }
+
     /// The number, among the elements seen at the stage, of the reference's element as it is settled there:
     /// None exactly where the reference is detached or the stage sees nothing.
     pub fn ref_place(&self, r: RefId, stage: u64) -> Option<u64>
@@ -69,18 +111,6 @@ impl<C: Content> Tree<C> {
             result ≡ option_and_then (settled_number (seen_in (Stage stage)) list) (place_of self.now.refs r) }
     {
         let at = self.blocks.place_of(r)?;
-        settled_number(self.blocks.list(), &at, LenView::Stage(stage))
-    }
-
-    /// The number, among the elements seen at the stage, of the element that stage `from` sees with `p` seen
-    /// ones before it, as it is settled at the stage: None exactly where the stage sees nothing.
-    pub fn place_after(&self, p: u64, from: u64, stage: u64) -> Option<u64>
-        requires usable { IsTrue self.now.usable }
-        requires inside { p < len (seen_in (Stage from)) (elements C.units C.by self.now.leaves) }
-        ensures { let list = elements C.units C.by self.now.leaves in
-            result ≡ option_and_then (settled_number (seen_in (Stage stage)) list) (place_at (seen_in (Stage from)) p list) }
-    {
-        let at = seen_offset(self.blocks.list(), p, LenView::Stage(from))?;
         settled_number(self.blocks.list(), &at, LenView::Stage(stage))
     }
 

@@ -158,7 +158,7 @@ impl<C: Content> Tree<C> {
             props,
             steps,
         ) {
-            Ok(_place) => {
+            Ok(()) => {
                 self.made += count;
                 Ok(())
             }

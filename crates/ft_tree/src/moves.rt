@@ -116,6 +116,25 @@ impl<C: Content> Tree<C> {
         }
     }
 
+    /// Takes leaves that have nothing of a pending stage any more off the list of what that touched. Nothing that is
+    /// seen changes: an acknowledgement and a search for the next stage have fewer leaves to look at. It looks at each
+    /// listed leaf once.
+    ///
+    /// Answers `OutOfMemory` where there is no room for what is left, and then the tree may be used no more.
+    pub fn prune(&mut self) -> Result<(), OutOfMemory>
+        requires { IsTrue self.old.usable }
+        ensures ok { OnOk result (self.new ≡ self.old) }
+        ensures err { OnErr result (self.new.usable ≡ false) }
+    {
+        match self.blocks.prune() {
+            Ok(()) => Ok(()),
+            Err(e) => {
+                self.usable = false;
+                Err(e)
+            }
+        }
+    }
+
     /// Takes a leaf out on which no reference is, and answers its content. Where the next sweep was to begin
     /// at it, it begins at the leaf after it.
     ///

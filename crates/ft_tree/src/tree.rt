@@ -1,11 +1,12 @@
 //! The merge tree as its callers see it. Its leaves stand in blocks, which find a place by reading a few of
 //! them; its references stand on leaves.
 
-ghost use Rattle.std.specs.Prelude.{◌≡◌, ◌≤◌, [], None, IfOk, IsTrue, map, true};
+ghost use Rattle.std.specs.Prelude.{false, ◌≡◌, ◌≤◌, [], None, IfOk, IsTrue, length, map, true};
 ghost use Rattle.ft_base.specs.Scan.{len};
 ghost use Rattle.ft_block.specs.Leaves.{IsFromFloor, IsLeafIn, IsPlaceIn, left_of, place_by};
 ghost use Rattle.ft_leaves.specs.Elements.{seen_in};
 ghost use Rattle.ft_leaves.specs.LeafLists.{elements, leaf_length};
+ghost use Rattle.ft_props.specs.Properties.{max_safe_integer};
 
 use ft_arena::NodeId;
 use ft_base::{Element, OutOfMemory};
@@ -66,7 +67,11 @@ impl<C: Content> Tree<C> {
 
     /// How many elements were ever made in it, those that are gone included.
     pub fn made(&self) -> u64
-        ensures { result ≡ self.now.made }
+        ensures value { result ≡ self.now.made }
+
+        // What holds of them while the tree may be used.
+        ensures fits { IsTrue self.now.usable → length (elements C.units C.by self.now.leaves) ≤ self.now.made }
+        ensures small { IsTrue self.now.usable → self.now.made ≤ max_safe_integer }
     {
         self.made
     }
@@ -85,6 +90,13 @@ impl<C: Content> Tree<C> {
         ensures { self.new ≡ record self.old { floor = floor } }
     {
         self.blocks.raise_floor(floor);
+    }
+
+    /// Makes it a tree that may be used no more: a call that found no memory has left undone what goes with it.
+    pub fn spoil(&mut self)
+        ensures { self.new ≡ record self.old { usable = false } }
+    {
+        self.usable = false;
     }
 
     /// The leaf at which the next sweep begins: None where that is the first.

@@ -1,14 +1,16 @@
 //! The leaves of a tree, one after another.
 
-ghost use Rattle.std.specs.Prelude.{◌≡◌, ℕ, ◌<◌, ◌≤◌, ◌^◌, All, IfOk, Some, IsTrue, length, option_map};
+ghost use Rattle.std.specs.Prelude.{◌≡◌, ℕ, ◌+◌, ◌<◌, ◌≤◌, ◌^◌, All, IfOk, Some, IsTrue, length, option_map};
 ghost use Rattle.ft_arena.specs.Ids.{after, first};
-ghost use Rattle.ft_block.specs.Leaves.{IsLeafIn, IsPlaceIn, ids, times_leaf, value_at};
+ghost use Rattle.ft_block.specs.Leaves.{IsLeafIn, IsPlaceIn, ids, sees_in, times_leaf, value_at};
 ghost use Rattle.ft_leaves.specs.Edits.{is_marked_by, next_pending_above, touched_nodes};
 ghost use Rattle.ft_leaves.specs.LeafLists.{elements};
+ghost use Rattle.ft_leaves.specs.References.{place_of};
 
 use crate::tree::Tree;
 use ft_arena::NodeId;
 use ft_base::{Element, OutOfMemory};
+use ft_block::LenView;
 use ft_leaves::Content;
 use ft_props::Overlay;
 
@@ -23,6 +25,10 @@ impl<C: Content> Tree<C> {
         ensures some { All (λ x. 1 ≤ length (C.units x.1.content)) self.now.leaves }
         ensures few { length (elements C.units C.by self.now.leaves) < 2 ^ 64 }
         ensures sweep { IsPlaceIn self.now.leaves self.now.sweep }
+        ensures depth { 4 ^ self.now.depth ≤ length self.now.leaves + 1 }
+
+        // And each reference that isn't detached stands on an element.
+        ensures inside { (r j : ℕ) → place_of self.now.refs r ≡ Some j → j < length (elements C.units C.by self.now.leaves) }
     {
         self.blocks.first()
     }
@@ -43,6 +49,15 @@ impl<C: Content> Tree<C> {
         ensures { option_map (λ x. x.stamps) (value_at self.now.leaves id) ≡ Some result.now }
     {
         &self.blocks.leaf(id).stamps
+    }
+
+    /// Whether the view sees the elements of a leaf.
+    pub fn leaf_is_seen(&self, id: NodeId, view: LenView) -> bool
+        requires usable { IsTrue self.now.usable }
+        requires live { IsLeafIn self.now.leaves id }
+        ensures { option_map (λ x. sees_in view x.stamps) (value_at self.now.leaves id) ≡ Some result }
+    {
+        self.blocks.leaf(id).is_seen_in(view)
     }
 
     /// How many elements a leaf holds, at least one.

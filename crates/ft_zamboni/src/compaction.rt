@@ -1,6 +1,6 @@
 //! How a tree is compacted, leaf by leaf.
 
-ghost use Rattle.std.specs.Prelude.{◌≡◌, ◌≤◌, ◌-◌, ◌++◌, All, None, IfOk, IsTrue, OnOk, false, filter, length, not, true};
+ghost use Rattle.std.specs.Prelude.{◌≡◌, ◌≤◌, ◌-◌, ◌++◌, All, None, IfOk, IsTrue, OnErr, OnOk, false, filter, length, not, true};
 ghost use Rattle.ft_block.specs.Leaves.{IsPlaceIn};
 ghost use Rattle.ft_leaves.specs.Edits.{with_place};
 ghost use Rattle.ft_leaves.specs.LeafLists.{elements};
@@ -44,6 +44,7 @@ pub fn scour<C: Content + Drop>(
     ensures floor { OnOk result (tree.new.floor ≡ floor) }
     ensures made { OnOk result (tree.new.made ≡ tree.old.made) }
     ensures usable { OnOk result (tree.new.usable ≡ true) }
+    ensures err { OnErr result (tree.new.usable ≡ false) }
 {
     tree.raise_floor(floor);
     if budget == 0 {
@@ -58,6 +59,28 @@ pub fn scour<C: Content + Drop>(
 ///
 /// Answers `OutOfMemory` where there is no room for what is kept, and then the tree may be used no more.
 fn sweep_round<C: Content + Drop>(
+    tree: &mut Tree<C>,
+    budget: u64,
+    taken: &mut Vec<C>,
+) -> Result<(), OutOfMemory>
+    requires usable { IsTrue tree.old.usable }
+    requires clear { AreClear tree.old.floor (elements C.units C.by tree.old.leaves) tree.old.refs }
+    ensures round { OnOk result (Rounds C.units C.by budget tree.old tree.new taken.old.items taken.new.items) }
+    ensures err { OnErr result (tree.new.usable ≡ false) }
+{
+    match sweep_ahead_and_around(tree, budget, taken) {
+        Ok(()) => Ok(()),
+        Err(e) => {
+            tree.spoil();
+            Err(e)
+        }
+    }
+}
+
+/// Looks at `budget` leaves or all: at those from the place of the sweep on, and then at those from the head on.
+///
+/// Answers `OutOfMemory` where there is no room for what is kept.
+fn sweep_ahead_and_around<C: Content + Drop>(
     tree: &mut Tree<C>,
     budget: u64,
     taken: &mut Vec<C>,
@@ -125,6 +148,7 @@ pub fn scour_all<C: Content + Drop>(
     ensures floor { OnOk result (tree.new.floor ≡ floor) }
     ensures made { OnOk result (tree.new.made ≡ tree.old.made) }
     ensures usable { OnOk result (tree.new.usable ≡ true) }
+    ensures err { OnErr result (tree.new.usable ≡ false) }
 {
     // How few leaves there are is read off its contract.
     let _first = tree.first_leaf();

@@ -47,7 +47,7 @@ fn short_of(place: Option<NodeId>, end: &Option<NodeId>) -> Option<NodeId>
 /// Looks at a leaf: takes it out if it was removed at or below the floor, and else joins it to the leaf that was kept
 /// last, if the two may be joined. Answers which leaf was kept last now.
 ///
-/// Answers `OutOfMemory` where there is no room for what is kept, and then the tree may be used no more.
+/// Answers `OutOfMemory` where there is no room for what is kept.
 fn look_at<C: Content + Drop>(
     tree: &mut Tree<C>,
     id: NodeId,

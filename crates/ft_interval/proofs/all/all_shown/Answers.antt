@@ -5,7 +5,7 @@ use Rattle.ft_interval.specs.Ends.{map_ends, places_of_ends}
 use Rattle.ft_interval.specs.Intervals.{after_operation}
 use Rattle.ft_interval.specs.Shown.{carried, last, settled_end, settled_interval, shown_from, shown_record}
 use Rattle.ft_interval.specs.State.{placed_intervals, placed_operations, text_elements}
-use Rattle.ft_interval.proofs.ShownAll.{carried-all, inside-shown, last-all, next-all, records-shown}
+use Rattle.ft_interval.proofs.ShownAll.{carried-all, places-shown, last-all, next-all, records-shown}
 use Rattle.ft_interval.proofs.ShownSteps.{next-le, next-live, rest-live, rest-rises}
 use Rattle.ft_interval.proofs.all.all_shown.Goals as goal
 
@@ -23,9 +23,9 @@ pub take_next-requires-clause-live : goal.take_next-requires-clause-live
 take_next-requires-clause-live c =
     next-live c.args.pending.now c.loop-t.t-index c.t-item.result c.loop-t-test.true c.t-item.is c.args.tree.now.refs c.loop-t.invariant.live
 
-pub take_next-requires-clause-inside : goal.take_next-requires-clause-inside
-take_next-requires-clause-inside c =
-    inside-shown (text_elements c.args.tree.now) c.loop-t.stage c.loop-t.invariant.shows.0 c.loop-t.all c.loop-t.invariant.shows.1
+pub take_next-requires-clause-on_leaf : goal.take_next-requires-clause-on_leaf
+take_next-requires-clause-on_leaf c =
+    places-shown c.args.tree.now c.loop-t.stage c.loop-t.invariant.shows.0 c.loop-t.all c.loop-t.invariant.shows.1
 
 pub take_next-requires-clause-rises : goal.take_next-requires-clause-rises
 take_next-requires-clause-rises c =
@@ -52,9 +52,16 @@ loop-t-preserved c =
       );
     }
 
-pub carry_all-requires-clause-inside : goal.carry_all-requires-clause-inside
-carry_all-requires-clause-inside c =
-    inside-shown (text_elements c.args.tree.now) c.loop-t.stage c.loop-t.invariant.shows.0 c.loop-t.all c.loop-t.invariant.shows.1
+pub carry_all-requires-clause-on_leaf : goal.carry_all-requires-clause-on_leaf
+carry_all-requires-clause-on_leaf c =
+    places-shown c.args.tree.now c.loop-t.stage c.loop-t.invariant.shows.0 c.loop-t.all c.loop-t.invariant.shows.1
+
+pub records-requires-clause-on_leaf : goal.records-requires-clause-on_leaf
+records-requires-clause-on_leaf c =
+    let k = c.loop-t.stage in
+    let w = c.loop-t.invariant.shows in
+    let was = carried (text_elements c.args.tree.now) k last w.0 in
+    places-shown c.args.tree.now last was c.carry_all.new.all (carried-all c.args.tree.now k last w.0 c.loop-t.all c.carry_all.new.all w.1 c.carry_all.ensures)
 
 pub returns : goal.returns
 returns c =
@@ -66,6 +73,6 @@ returns c =
     let new = c.carry_all.new.all in
     let all = shown_from xs 0 (placed_operations refs ts) (map (settled_interval xs 0) (placed_intervals refs c.args.acked.now)) in
     let none : drop c.loop-t.t-index ts ≡ [] = drop_of_length-le ts c.loop-t-test.false in
-    let shows = carried-all xs k last w.0 c.loop-t.all new w.1 c.carry_all.ensures in
-    let same = records-shown xs (carried xs k last w.0) new shows ∙ ap (λ is. map (shown_record xs) is) (last-all xs refs k c.loop-t.t-index ts w.0 all w.2 none) in
+    let shows = carried-all c.args.tree.now k last w.0 c.loop-t.all new w.1 c.carry_all.ensures in
+    let same = records-shown c.args.tree.now (carried xs k last w.0) new shows ∙ ap (λ is. map (shown_record xs) is) (last-all xs refs k c.loop-t.t-index ts w.0 all w.2 none) in
     IfOk-weaker c.records.result _ _ (λ records e. e ∙ same) c.records.ensures

@@ -1,7 +1,7 @@
 use Rattle.std.proofs.Common.{◌≡◌, ◌≤◌, ℕ, List, drop, map}
 use Rattle.ft_interval.specs.declared.intervals.Interval.{Interval}
-use Rattle.ft_interval.specs.Numbers.{ShowsAll}
 use Rattle.ft_interval.specs.Shown.{last, settled_interval, shown_from}
+use Rattle.ft_interval.specs.Standing.{ShowsAll}
 use Rattle.ft_interval.specs.State.{AreLiveOperations, StagesRise, placed_intervals, placed_operations, text_elements}
 use Rattle.ft_interval.proofs.all.all_shown.Given as goal
 
@@ -14,7 +14,7 @@ invariant-loop-t l =
       rising : StagesRise l.stage rest;
       fits : l.stage ≤ last;
       live : AreLiveOperations l.tree.refs rest;
-      shows : (is : List (Interval ℕ)) × ShowsAll xs l.stage is l.all
+      shows : (is : List (Interval ℕ)) × ShowsAll l.tree l.stage is l.all
           × (shown_from xs l.stage (placed_operations l.tree.refs rest) is
           ≡ shown_from xs 0 (placed_operations l.tree.refs l.pending) (map (settled_interval xs 0) (placed_intervals l.tree.refs l.acked)));
     }

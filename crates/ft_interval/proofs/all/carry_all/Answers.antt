@@ -1,46 +1,11 @@
-use Rattle.std.proofs.Common.{◌<◌, ◌≤◌, All, length, refl, sym, ◌∙◌, subst, arith}
-use Rattle.std.specs.List.{AllZip}
-use Rattle.std.proofs.lemmas.List.{with_items_is}
-use Rattle.ft_interval.specs.Intervals.{NamesRise}
-use Rattle.ft_interval.specs.Numbers.{HasInside, IsCarriedInterval}
-use Rattle.ft_interval.specs.State.{text_elements}
-use Rattle.ft_interval.proofs.ShownAll.{rise-carried}
-use Rattle.ft_interval.proofs.WrittenLists.{all-written, next-holds, next-written}
+use Rattle.std.proofs.Common.{◌≡◌, ℕ, false, Option, Some, None, is_some, refl, sym, ◌∙◌}
+use Rattle.ft_interval.proofs.StandingEnds.{all-stay}
 use Rattle.ft_interval.proofs.all.carry_all.Goals as goal
 
-pub loop-i-init : goal.loop-i-init
-loop-i-init c = record { rest = refl; done = tt }
+none-there : (o : Option ℕ) → is_some o ≡ false → o ≡ None
+none-there None e = refl
+none-there (Some k) e = (cc)
 
-pub carry-requires-clause-inside : goal.carry-requires-clause-inside
-carry-requires-clause-inside c =
-    let xs = text_elements c.args.tree.now in
-    let old = c.deref_mut-i-items.result.now in
-    let all = subst (λ is. All (HasInside xs c.args.from) is) (sym (c.deref_mut-i-items.ensures.value ∙ c.all.view_is)) c.requires.inside in
-    let within : c.loop-i.i-index < length c.loop-i.i-items = omega (arith, c.loop-i-test.true, c.loop-i.auto.i-items) in
-    next-holds (IsCarriedInterval xs c.args.from c.args.to) c.loop-i.i-index old c.loop-i.i-items c.loop-i.invariant (HasInside xs c.args.from)
-    c.i-item.result within all
-
-pub loop-i-preserved : goal.loop-i-preserved
-loop-i-preserved c =
-    let old = c.deref_mut-i-items.result.now in
-    let within : c.loop-i.i-index < length c.loop-i.i-items = omega (arith, c.loop-i-test.true, c.loop-i.auto.i-items) in
-    next-written (IsCarriedInterval (text_elements c.args.tree.now) c.args.from c.args.to) c.loop-i.i-index old c.loop-i.i-items c.loop-i.invariant
-    c.i-item.result c.carry.new.i within c.carry.ensures
-
-pub invariant_of-all : goal.invariant_of-all
-invariant_of-all c =
-    let xs = text_elements c.args.tree.now in
-    let old = c.deref_mut-i-items.result.now in
-    let past : length c.loop-i.i-items ≤ c.loop-i.i-index = omega (arith, c.loop-i-test.false, c.loop-i.auto.i-items) in
-    let done = all-written (IsCarriedInterval xs c.args.from c.args.to) c.loop-i.i-index old c.loop-i.i-items c.loop-i.invariant c.loop-i-test.false past in
-    subst (λ is. NamesRise is) (sym (with_items_is c.all.inside.items c.loop-i.i-items (c.loop-i.auto.i-items ∙ c.deref_mut-i-items.ensures.len)))
-    (rise-carried xs c.args.from c.args.to old c.loop-i.i-items done (subst (λ is. NamesRise is) (sym c.deref_mut-i-items.ensures.value) c.all.invariant))
-
-pub returns : goal.returns
-returns c =
-    let R = IsCarriedInterval (text_elements c.args.tree.now) c.args.from c.args.to in
-    let old = c.deref_mut-i-items.result.now in
-    let past : length c.loop-i.i-items ≤ c.loop-i.i-index = omega (arith, c.loop-i-test.false, c.loop-i.auto.i-items) in
-    let done = all-written R c.loop-i.i-index old c.loop-i.i-items c.loop-i.invariant c.loop-i-test.false past in
-    subst (λ is. AllZip R c.args.all.now is) (sym (with_items_is c.all.inside.items c.loop-i.i-items (c.loop-i.auto.i-items ∙ c.deref_mut-i-items.ensures.len)))
-    (subst (λ is. AllZip R is c.loop-i.i-items) (c.deref_mut-i-items.ensures.value ∙ c.all.view_is) done)
+pub returns-then-is_none : goal.returns-then-is_none
+returns-then-is_none c =
+    all-stay c.args.tree.now c.args.from c.args.to c.requires.rises (sym c.removal_until.ensures ∙ none-there c.removal_until.result c.if-is_none.ensures) c.args.all.now

@@ -2,8 +2,8 @@ use Rattle.std.proofs.Common.{◌≡◌, ◌≤◌, ℕ, drop, Option, option_ma
 use Rattle.ft_interval.specs.declared.intervals.Interval.{Interval}
 use Rattle.ft_interval.specs.Ends.{places_of_ends}
 use Rattle.ft_interval.specs.Intervals.{Name, interval_of}
-use Rattle.ft_interval.specs.Numbers.{ShowsEnds}
 use Rattle.ft_interval.specs.Shown.{last, settled_interval, shown_one_from}
+use Rattle.ft_interval.specs.Standing.{ShowsEnds}
 use Rattle.ft_interval.specs.State.{AreLiveOperations, StagesRise, placed_operations, text_elements, with_mapped_ends}
 use Rattle.ft_interval.proofs.shown.shown_ends.Given as goal
 
@@ -17,7 +17,7 @@ invariant-loop-t l =
       rising : StagesRise l.stage rest;
       fits : l.stage ≤ last;
       live : AreLiveOperations l.tree.refs rest;
-      shows : (i : Option (Interval ℕ)) × ShowsEnds xs l.stage i l.shown
+      shows : (i : Option (Interval ℕ)) × ShowsEnds l.tree l.stage i l.shown
           × (shown_one_from xs n l.stage (placed_operations l.tree.refs rest) i
           ≡ shown_one_from xs n 0 (placed_operations l.tree.refs l.pending)
           (option_map (settled_interval xs 0) (option_map (with_mapped_ends (places_of_ends l.tree.refs)) (interval_of n l.acked))));

@@ -1,8 +1,13 @@
-use Rattle.std.proofs.Common.{◌+◌, List, drop, get_or, subst}
+use Rattle.std.proofs.Common.{◌+◌, ◌∙◌, List, drop, get_or, subst, arith}
 use Rattle.std.proofs.lemmas.List.{drop_all}
 use Rattle.ft_rebase.specs.declared.moves.StageMove.{StageMove}
-use Rattle.ft_rebase.proofs.AllStages.{MovesLeft, elements_moved, leaves_side, move_next, next_move, nodes_kept}
+use Rattle.ft_leaves.specs.Elements.{TreeElement}
+use Rattle.ft_leaves.specs.LeafLists.{elements}
+use Rattle.ft_leaves.proofs.LeafRuns.{length-elements}
+use Rattle.ft_rebase.specs.RebuiltPlaces.{rebuilt_place}
+use Rattle.ft_rebase.proofs.AllStages.{MovesLeft, elements_moved, leaves_side, move_next, next_move, nodes_kept, spot_moved}
 use Rattle.ft_rebase.proofs.MovedSpots.{rest_more, spots_more}
+use Rattle.ft_rebase.proofs.SpotPlaces.{refs-moved}
 use Rattle.ft_rebase.proofs.moves.move_stages.Goals as goal
 
 pub put_stage-requires-clause-ends : goal.put_stage-requires-clause-ends
@@ -35,6 +40,7 @@ loop-next-preserved g c =
       left = next.after c.put_stage.new.tree.leaves (c.in_ok-put_stage.ensures.leaves next.ends.count next.ends.fits next.ends.is);
       refs = spots_more c.loop-next.invariant.refs c.in_ok-put_stage.ensures.refs;
       rest = rest_more c.loop-next.invariant.rest c.in_ok-put_stage.ensures.rest;
+      made = c.in_ok-put_stage.ensures.made ∙ c.loop-next.invariant.made;
       usable = c.in_ok-put_stage.ensures.usable;
     }
 
@@ -57,3 +63,18 @@ returns-clause-nodes g c =
     let done = drop_all c.loop-next.next-index c.deref-next-items.result.now c.loop-next-test.false in
     let left = subst (λ (ls : List StageMove). MovesLeft us xs ls now) done c.loop-next.invariant.left in
     nodes_kept us xs now left
+
+pub returns-clause-places : goal.returns-clause-places
+returns-clause-places g c last h =
+    let us = g.C.Content.units in
+    let by = g.C.Content.by in
+    let xs = c.args.tree.now.leaves in
+    let now = c.loop-next.tree.leaves in
+    let before = c.first_leaf-first.ensures in
+    let after = c.first_leaf-moved.ensures in
+    let done = drop_all c.loop-next.next-index c.deref-next-items.result.now c.loop-next-test.false in
+    let left = subst (λ (ls : List StageMove). MovesLeft us xs ls now) done c.loop-next.invariant.left in
+    refs-moved us by c.args.tree.now c.loop-next.tree (rebuilt_place (λ (e : TreeElement g.row.C-Unit.Denot). e.stamps) last (elements us by xs))
+    c.loop-next.invariant.refs (λ r j e. omega (arith, length-elements us by xs, before.inside r j e))
+    (λ r j e. omega (arith, length-elements us by now, after.inside r j e))
+    (λ i j s a b. spot_moved us xs now left by before.some (leaves_side us by xs before.some c.requires.side) before.once after.once last h i j s a b)

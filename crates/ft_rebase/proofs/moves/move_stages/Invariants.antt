@@ -10,5 +10,6 @@ invariant-loop-next g l = record {
   left : MovesLeft g.C.Content.units l.fn.tree.leaves (drop l.next-index l.next-items) l.tree.leaves;
   refs : KeepsSpots g.C.Content.units l.fn.tree l.tree;
   rest : KeepsRest l.fn.tree l.tree;
+  made : l.tree.made ≡ l.fn.tree.made;
   usable : l.tree.usable ≡ true;
 }

@@ -1,4 +1,4 @@
-use Rattle.std.proofs.Common.{◌≡◌, ℕ, List, [], ◌∷◌, length, refl, subst, sym, arith}
+use Rattle.std.proofs.Common.{◌≡◌, ℕ, List, [], ◌∷◌, length, refl, subst, sym, ◌∙◌, arith}
 use Rattle.ft_rebase.specs.Moves.{leaf_stamps}
 use Rattle.ft_rebase.specs.StageLists.{inserted_by}
 use Rattle.ft_rebase.proofs.MovedSpots.{rest_more, rest_same, spots_more, spots_same}
@@ -18,6 +18,7 @@ loop-leaf-init g c =
       moved = subst (λ rest. MovesBlock t xs at rest xs) (sym c.in_ok-leaves.ensures) (moves_first t xs at);
       refs = spots_same c.args.tree.now;
       rest = rest_same c.args.tree.now;
+      made = refl;
       usable = c.requires.usable;
     }
 
@@ -62,6 +63,7 @@ loop-leaf-preserved g c =
       moved = subst (MovesBlock t xs at c.pop.new.self.items) (sym c.in_ok-move_behind.ensures.leaves) next.after;
       refs = spots_more c.loop-leaf.invariant.refs c.in_ok-move_behind.ensures.refs;
       rest = rest_more c.loop-leaf.invariant.rest c.in_ok-move_behind.ensures.rest;
+      made = c.in_ok-move_behind.ensures.made ∙ c.loop-leaf.invariant.made;
       usable = c.in_ok-move_behind.ensures.usable;
     }
 

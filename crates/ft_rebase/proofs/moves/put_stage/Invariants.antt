@@ -12,6 +12,7 @@ invariant-loop-leaf g l = record {
   moved : MovesBlock (inserted_by leaf_stamps l.stage) l.fn.tree.leaves l.at l.leaves.items l.tree.leaves;
   refs : KeepsSpots g.C.Content.units l.fn.tree l.tree;
   rest : KeepsRest l.fn.tree l.tree;
+  made : l.tree.made ≡ l.fn.tree.made;
   usable : l.tree.usable ≡ true;
 }
 

@@ -1,8 +1,10 @@
-use Rattle.std.proofs.Common.{map, refl, subst, sym, ◌∙◌, ap, arith}
+use Rattle.std.proofs.Common.{◌≡◌, map, refl, subst, sym, ◌∙◌, ap, arith}
+use Rattle.ft_leaves.specs.References.{reference_at}
 use Rattle.ft_rebase.specs.Normalised.{carried_pair}
 use Rattle.ft_rebase.proofs.CarriedStages.{all_carried, carries_stage, fewer_stages, list-carried}
 use Rattle.ft_rebase.proofs.MovedSpots.{rest_more, rest_same}
 use Rattle.ft_rebase.proofs.NextStages.{IsBelow}
+use Rattle.ft_tree.specs.State.{KeepsRest, TreeState}
 use Rattle.ft_rebase.proofs.normalisation.carry_leaves.Goals as goal
 
 pub loop-next-init : goal.loop-next-init
@@ -11,6 +13,7 @@ loop-next-init g c = record {
   done = λ j h. absurd (omega (arith, h));
   refs = λ r. refl;
   rest = rest_same c.args.tree.now;
+  made = refl;
   usable = c.requires;
 }
 
@@ -30,15 +33,19 @@ loop-next-preserved g c =
           (λ j h. c.loop-next.invariant.done j (subst (IsBelow j) (sym c.in-Some.is) h));
       refs = λ r. c.in_ok-carry_stage.ensures.refs r ∙ c.loop-next.invariant.refs r;
       rest = rest_more c.loop-next.invariant.rest c.in_ok-carry_stage.ensures.rest;
+      made = c.in_ok-carry_stage.ensures.made ∙ c.loop-next.invariant.made;
       usable = c.in_ok-carry_stage.ensures.usable;
     }
 
 pub returns : goal.returns
-returns g c = record {
-  leaves =
-      sym (all_carried c.loop-next.tree.leaves (λ j. c.loop-next.invariant.done j (subst (IsBelow j) (sym c.in_default.is) tt)))
-      ∙ c.loop-next.invariant.leaves;
-  refs = c.loop-next.invariant.refs;
-  rest = c.loop-next.invariant.rest;
-  usable = c.loop-next.invariant.usable;
-}
+returns g c =
+    let same : c.prune.new.self ≡ c.loop-next.tree = c.in_ok-prune.ensures.ok in
+    record {
+      leaves = ap (λ (s : TreeState g.row.C.Denot). s.leaves) same
+          ∙ sym (all_carried c.loop-next.tree.leaves (λ j. c.loop-next.invariant.done j (subst (IsBelow j) (sym c.in_default.is) tt)))
+          ∙ c.loop-next.invariant.leaves;
+      refs = λ r. ap (λ (s : TreeState g.row.C.Denot). reference_at s.refs r) same ∙ c.loop-next.invariant.refs r;
+      rest = subst (KeepsRest c.args.tree.now) (sym same) c.loop-next.invariant.rest;
+      made = ap (λ (s : TreeState g.row.C.Denot). s.made) same ∙ c.loop-next.invariant.made;
+      usable = ap (λ (s : TreeState g.row.C.Denot). s.usable) same ∙ c.loop-next.invariant.usable;
+    }

@@ -13,6 +13,7 @@ invariant-loop-next g l = record {
   done : (j : ℕ) → IsBelow j l.next → map (carried_by j) l.tree.leaves ≡ l.tree.leaves;
   refs : KeepsReferences l.fn.tree.refs l.tree.refs;
   rest : KeepsRest l.fn.tree l.tree;
+  made : l.tree.made ≡ l.fn.tree.made;
   usable : l.tree.usable ≡ true;
 }
 

@@ -19,6 +19,7 @@ loop-leaf-init g c =
       nodes = refl;
       refs = λ r. refl;
       rest = rest_same c.args.tree.now;
+      made = refl;
       usable = c.requires;
     }
 
@@ -43,6 +44,7 @@ loop-leaf-preserved g c =
       nodes = ap ids made ∙ ids-change carried_leaf was c.leaf-item.result ∙ c.loop-leaf.invariant.nodes;
       refs = λ r. c.in_ok-carry_leaf.ensures.refs r ∙ c.loop-leaf.invariant.refs r;
       rest = rest_more c.loop-leaf.invariant.rest c.in_ok-carry_leaf.ensures.rest;
+      made = c.in_ok-carry_leaf.ensures.made ∙ c.loop-leaf.invariant.made;
       usable = c.in_ok-carry_leaf.ensures.usable;
     }
 
@@ -54,5 +56,6 @@ returns g c = record {
       ∙ c.loop-leaf.invariant.leaves;
   refs = c.loop-leaf.invariant.refs;
   rest = c.loop-leaf.invariant.rest;
+  made = c.loop-leaf.invariant.made;
   usable = c.loop-leaf.invariant.usable;
 }

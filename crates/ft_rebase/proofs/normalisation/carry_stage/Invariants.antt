@@ -13,5 +13,6 @@ invariant-loop-leaf g l = record {
   nodes : ids l.tree.leaves ≡ ids l.fn.tree.leaves;
   refs : KeepsReferences l.fn.tree.refs l.tree.refs;
   rest : KeepsRest l.fn.tree l.tree;
+  made : l.tree.made ≡ l.fn.tree.made;
   usable : l.tree.usable ≡ true;
 }

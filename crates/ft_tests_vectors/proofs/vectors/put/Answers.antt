@@ -10,4 +10,4 @@ insert_remote-requires-clause-made g c =
     let now = ap (λ (v : VectorState). v.tree.made) c.vector-2.view_is in
     let kept = ap (λ (t : TreeState HandleRun). t.made) c.in_ok-run.ensures.tree in
     let before = ap (λ (v : VectorState). v.tree.made) c.vector.view_is in
-    omega (arith, now, kept, before, c.made.ensures, length-numbers_from c.in_ok-run.run'.first c.in_ok-run.run'.count, c.in_ok-run.ensures.count)
+    omega (arith, now, kept, before, c.made.ensures.value, length-numbers_from c.in_ok-run.run'.first c.in_ok-run.run'.count, c.in_ok-run.ensures.count)

@@ -31,4 +31,4 @@ returns-clause-refs g c =
     let by = g.C.Content.by in
     subst (λ (t : TreeState g.row.C.Denot). ChangesReferences
     (with_place (place_among (swept us by t.floor c.args.budget t.leaves t.sweep))) t.refs c.sweep_round.new.tree.refs)
-    c.raise_floor.ensures c.in_ok-sweep_round.ensures.refs
+    c.raise_floor.ensures c.in_ok-sweep_round.ensures.round.refs

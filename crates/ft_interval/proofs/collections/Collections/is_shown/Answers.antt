@@ -4,7 +4,7 @@ use Rattle.ft_interval.specs.Intervals.{Name, interval_of}
 use Rattle.ft_interval.specs.Shown.{last, shown_intervals}
 use Rattle.ft_interval.specs.State.{AreLiveOperations, CollectionsState, IsLive, is_shown, placed, placed_intervals, placed_operations, text_elements}
 use Rattle.ft_interval.proofs.KeptEnds.{live-intervals, live-operations}
-use Rattle.ft_interval.proofs.SettledEnds.{shows-some}
+use Rattle.ft_interval.proofs.StandingEnds.{shows-some}
 use Rattle.ft_interval.proofs.collections.Collections.is_shown.Goals as goal
 
 pub shown_ends-requires-clause-acked : goal.shown_ends-requires-clause-acked
@@ -25,6 +25,6 @@ returns c =
     let n : Name = (c.args.label.now, c.args.id.now) in
     let is = placed_intervals refs c.self.inside.acked in
     let ts = placed_operations refs c.deref.result.now in
-    c.is_some.ensures ∙ shows-some xs last (interval_of n (shown_intervals xs is ts)) c.shown_ends.result c.shown_ends.ensures
+    c.is_some.ensures ∙ shows-some c.args.tree.now last (interval_of n (shown_intervals xs is ts)) c.shown_ends.result c.shown_ends.ensures
     ∙ ap (λ (ps : List Operation). is_some (interval_of n (shown_intervals xs is (placed_operations refs ps)))) c.deref.ensures.value
     ∙ ap (λ x. is_shown xs n (placed refs x)) c.self.view_is

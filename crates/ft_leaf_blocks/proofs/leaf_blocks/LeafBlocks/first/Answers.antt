@@ -1,4 +1,4 @@
-use Rattle.std.proofs.Common.{◌≡◌, ◌<◌, IsTrue, Some, length, subst, sym}
+use Rattle.std.proofs.Common.{◌≡◌, ◌+◌, ◌<◌, ◌≤◌, ◌^◌, IsTrue, Some, length, subst, sym}
 use Rattle.ft_leaves.specs.LeafLists.{elements}
 use Rattle.ft_leaves.specs.References.{place_of}
 use Rattle.ft_leaf_blocks.specs.State.{TrackedLeaves}
@@ -13,3 +13,6 @@ returns-clause-inside g c = λ r j.
     let sound = c.self.invariant (subst (λ (s : TrackedLeaves g.row.C.Denot). IsTrue s.usable) (sym c.self.view_is) c.requires) in
     subst (λ (s : TrackedLeaves g.row.C.Denot). place_of s.refs r ≡ Some j → j < length (elements us by s.leaves)) c.self.view_is
     (places_inside us by a.blocks.leaves a.refs.anchors c.first.ensures.once sound.refs.anchored r j)
+
+pub returns-clause-depth : goal.returns-clause-depth
+returns-clause-depth g c = subst (λ (s : TrackedLeaves g.row.C.Denot). 4 ^ s.depth ≤ length s.leaves + 1) c.self.view_is c.first.ensures.depth

@@ -1,5 +1,7 @@
-use Rattle.std.proofs.Common.{length, ap, arith}
+use Rattle.std.proofs.Common.{◌≡◌, ◌+◌, ◌<◌, ◌≤◌, ◌^◌, Some, length, subst, ap, arith}
 use Rattle.ft_leaves.specs.LeafLists.{elements}
+use Rattle.ft_leaves.specs.References.{place_of}
+use Rattle.ft_tree.specs.State.{TreeState}
 use Rattle.ft_tree.proofs.TreeInside.{in_sound}
 use Rattle.ft_tree.proofs.tree.Tree.first_leaf.Goals as goal
 
@@ -9,3 +11,11 @@ returns-clause-few g c =
     let by = g.C.Content.by in
     let sound = in_sound us by c.self.inside c.args.self.now c.self.view_is c.self.invariant c.requires in
     omega (arith, sound.fits, sound.small, ap (λ v. length (elements us by v.leaves)) c.self.view_is)
+
+pub returns-clause-depth : goal.returns-clause-depth
+returns-clause-depth g c = subst (λ (s : TreeState g.row.C.Denot). 4 ^ s.depth ≤ length s.leaves + 1) c.self.view_is c.first.ensures.depth
+
+pub returns-clause-inside : goal.returns-clause-inside
+returns-clause-inside g c = λ r j.
+    subst (λ (s : TreeState g.row.C.Denot). place_of s.refs r ≡ Some j → j < length (elements g.C.Content.units g.C.Content.by s.leaves))
+    c.self.view_is (c.first.ensures.inside r j)

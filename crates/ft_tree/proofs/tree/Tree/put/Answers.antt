@@ -37,5 +37,5 @@ returns-in-Ok-clause-ok g c = λ view p e.
       made = c.self.inside.made + c.len-count.result;
       usable = c.self.inside.usable;
     })
-    c.in-Ok._place (c.in-Ok.ensures.list view p at) (c.in-Ok.ensures.place view p at) c.in-Ok.ensures.refs c.in-Ok.ensures.nodes
+    (c.in-Ok.ensures.list view p at) (c.in-Ok.ensures.refs view p at) c.in-Ok.ensures.nodes
     (ap (λ (n : ℕ). c.self.inside.made + n) c.len-count.ensures.value) c.insert_at.ensures.floor refl refl

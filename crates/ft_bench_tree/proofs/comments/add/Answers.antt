@@ -1,0 +1,14 @@
+use Rattle.std.proofs.Common.{IsTrue, subst, sym}
+use Rattle.ft_tree.specs.State.{TreeState}
+use Rattle.ft_leaves.specs.declared.text.TextContent.{TextContent}
+use Rattle.ft_interval.proofs.LocalEdits.{above-pushed}
+use Rattle.ft_bench_tree.proofs.comments.add.Goals as goal
+
+pub returns-in-Ok-clause-usable : goal.returns-in-Ok-clause-usable
+returns-in-Ok-clause-usable c = subst (λ (t : TreeState TextContent). IsTrue t.usable) (sym c.in-Ok.ensures.taken.rest) c.requires.usable
+
+pub returns-in-Ok-clause-live : goal.returns-in-Ok-clause-live
+returns-in-Ok-clause-live c = c.in-Ok.ensures.taken.refs.live
+
+pub returns-in-Ok-clause-above : goal.returns-in-Ok-clause-above
+returns-in-Ok-clause-above c = above-pushed c.in-Ok.ensures.taken c.requires.above

@@ -1,8 +1,0 @@
-use Rattle.ft_interval.specs.Numbers.{IsCarriedInterval}
-use Rattle.ft_interval.specs.State.{text_elements}
-use Rattle.ft_interval.proofs.WrittenLists.{IsWritten}
-use Rattle.ft_interval.proofs.all.carry_all.Given as goal
-
--- the intervals so far are carried on, and the others are as they were
-abbrev pub invariant-loop-i : goal.invariant-loop-i
-invariant-loop-i l = IsWritten (IsCarriedInterval (text_elements l.tree) l.from l.to) l.i-index l.initial.i-items l.i-items
