@@ -49,7 +49,7 @@ step-alike steps x kept (Takes entry) run k fits = answers-steps _ (entries-answ
 abbrev Kept : List ClientStep → NaiveClient → Type 0
 Kept steps kept = (x : NaiveClient) × (IsSoundRun steps x × IsCompacted kept x)
 
-taken-alike : {o p : Option NaiveClient} (y : NaiveClient) → StepsAlike o p → o ≡ Some y → (z : NaiveClient) × ((p ≡ Some z) × IsCompacted y z)
+pub taken-alike : {o p : Option NaiveClient} (y : NaiveClient) → StepsAlike o p → o ≡ Some y → (z : NaiveClient) × ((p ≡ Some z) × IsCompacted y z)
 taken-alike y none_takes e = (cc)
 taken-alike y (each_takes kept x k) e =
     let same : kept ≡ y = (cc) in

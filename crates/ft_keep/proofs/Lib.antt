@@ -14,6 +14,10 @@ pub mod KeptSteps
 pub mod Compacting
 pub mod CountsKept
 pub mod AllSteps
+pub mod PendingReferences
+pub mod FloorSteps
 pub mod SameSummary
 pub mod SoundlyKept
+pub mod KeptRuns
+pub mod KeptReady
 pub mod TrimmedStarts

@@ -74,7 +74,7 @@ module _ {low : ℕ} {held : ElementId → Bool} where
   any-kept test h (collected {e = e} g u n k) = rw (h.gone e g u) (any-kept test h k)
 
   -- the elements of a stage are all kept
-  inserted-kept : (k : ℕ) {ks xs : List ListElement} → Keeps low held ks xs → filter (is_inserted_by k) ks ≡ filter (is_inserted_by k) xs
+  pub inserted-kept : (k : ℕ) {ks xs : List ListElement} → Keeps low held ks xs → filter (is_inserted_by k) ks ≡ filter (is_inserted_by k) xs
   inserted-kept k none = refl
   inserted-kept k (same {e = e} h) = ap (λ us. cond (is_inserted_by k e) (e ∷ us) us) (inserted-kept k h)
   inserted-kept k (universal {e = e} f h) = rw (sym ((inserted-alike low k held).old e f)) (inserted-kept k h)

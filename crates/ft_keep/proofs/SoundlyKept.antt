@@ -23,7 +23,7 @@ module _ {low : ℕ} {held : ElementId → Bool} where
   absent-kept : (a : ElementId) {ks xs : List ListElement} → Keeps low held ks xs → not (list_any (has_id a) xs) ≡ true → not (list_any (has_id a) ks) ≡ true
   absent-kept a {ks} {xs} k h = ap not (none-kept (has_id a) (λ e f. ap (same_id a) (id-universal low e f)) k (hidden (list_any (has_id a) xs) h))
 
-  distinct-kept : {ks xs : List ListElement} → Keeps low held ks xs → are_distinct_elements xs ≡ true → are_distinct_elements ks ≡ true
+  pub distinct-kept : {ks xs : List ListElement} → Keeps low held ks xs → are_distinct_elements xs ≡ true → are_distinct_elements ks ≡ true
   distinct-kept none h = refl
   distinct-kept (same {e = e} {xs = xs} k) h = let p = both (not (list_any (has_id (id e)) xs)) (are_distinct_elements xs) h in rw (absent-kept (id e) k p.0, distinct-kept k p.1) refl
   distinct-kept (universal {e = e} {ks = ks} {xs = xs} f k) h =

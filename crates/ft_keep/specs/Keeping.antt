@@ -27,6 +27,7 @@ use Rattle.ft_msg.specs.Process.{process}
 use Rattle.ft_msg.specs.Reached.{IsReached}
 use Rattle.ft_msg.specs.Summary.{GivesDocument, trim}
 use Rattle.ft_msg.specs.WellFormed.{IsWellFormedMessage}
+use Rattle.ft_laws.specs.Sequencing.{IsReady}
 use Rattle.ft_laws.specs.Starts.{IsRunFrom, IsSoundRun, IsSoundStart}
 use Rattle.ft_msg.specs.ClientSteps.{ClientStep, after_step, after_steps, has_fitting_body, is_without_edits, taken_entries}
 use Rattle.ft_laws.specs.Trimming.{are_distinct_elements, has_ends_on}
@@ -174,6 +175,11 @@ pub record IsSoundlyKept (kept : NaiveClient) : Type 0 where
 
 abbrev pub KeptIsSound : Type 0
 KeptIsSound = (start : Document) (kept : NaiveClient) → IsMadeOrKept start kept → IsSoundlyKept kept
+
+-- and its pending edits can be sequenced next: what is pending is of its stages, the elements of each stand side by side as they
+-- were typed, a pending element has no sequenced removal, and what a stage names is there
+abbrev pub KeptIsReady : Type 0
+KeptIsReady = (start : Document) (kept : NaiveClient) → IsMadeOrKept start kept → IsReady kept
 
 -- what a replica does on a client that it shows: it takes the step, shows the client after it, and its counts rise alike; or it
 -- refuses with the client's fault; of want of memory and of a stop nothing is asked

@@ -3,4 +3,5 @@
 #![tactic(auto)]
 
 pub mod compaction;
+pub mod numbers;
 pub mod steps;

@@ -1,6 +1,7 @@
 //! A compacted client takes and refuses what the whole one does, stays compacted, and shows the same.
 
-ghost use Rattle.ft_keep.specs.Keeping.{CompactedShowsTheSame, CompactedStepsAlike, CompactingKeeps, ConnectsAlike, DropsAlike, EditsAnswerAlike, EntriesAnswerAlike, IdlesAlike, KeptIsSound, ReplicaCompacts, ReplicaConnects, ReplicaDrops, ReplicaEdits, ReplicaIdles, ReplicaOverlaps, ReplicaProcesses, ReplicaShows, ReplicaSums, RestartsAlike, SendsAlike};
+ghost use Rattle.ft_keep.specs.Keeping.{CompactedShowsTheSame, CompactedStepsAlike, CompactingKeeps, ConnectsAlike, DropsAlike, EditsAnswerAlike, EntriesAnswerAlike, IdlesAlike, KeptIsReady, KeptIsSound, ReplicaCompacts, ReplicaConnects, ReplicaDrops, ReplicaEdits, ReplicaIdles, ReplicaOverlaps, ReplicaProcesses, ReplicaShows, ReplicaSums, RestartsAlike, SendsAlike};
+ghost use Rattle.ft_keep.specs.StageRuns.{StagesStandInRuns};
 
 /// A compacted client refuses an edit of its own, an entry or a change of its link with the fault of
 /// the whole one, or takes it as that does and stays compacted.
@@ -36,6 +37,8 @@ pub fn replicas()
     ensures idles { ReplicaIdles }
     ensures compacts { ReplicaCompacts }
     ensures sound { KeptIsSound }
+    ensures ready { KeptIsReady }
+    ensures runs { StagesStandInRuns }
 {}
 
 /// A replica that shows what every client shows that it keeps, shows what every client shows for which

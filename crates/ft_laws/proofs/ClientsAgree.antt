@@ -7,6 +7,7 @@ use Rattle.ft_base.specs.declared.stamps.Stamp.{Stamp}
 use Rattle.ft_base.specs.declared.stamps.Stamp.TheVariants.{Acked, Local}
 use Rattle.ft_base.specs.Scan.{rank}
 use Rattle.ft_base.specs.Visibility.{has_occurred_at_stage}
+use Rattle.ft_base.proofs.Options.{some-same}
 use Rattle.ft_msg.specs.declared.messages.Entry.{Entry}
 use Rattle.ft_msg.specs.declared.messages.Body.{Body}
 use Rattle.ft_msg.specs.declared.messages.Body.TheVariants.{Nothing, Op, Elsewhere}
@@ -208,10 +209,7 @@ are-below [] = tt
 are-below (entry ∷ entries) = (omega arith, below-more (bound_of entries) (suc entry.origin + bound_of entries) entries (omega arith) (are-below entries))
 
 pub refused-ok : {A E : Type 0} (r : Result A E) (y : A) → unless_refused r ≡ Some y → r ≡ Ok y
-refused-ok (Ok x) y h = ap Ok (some-same h)
-  where
-    some-same : Some x ≡ Some y → x ≡ y
-    some-same g = (cc)
+refused-ok (Ok x) y h = ap Ok (some-same x y h)
 refused-ok (Err fault) y h = (cc)
 
 agreeing : (bound : ℕ) (A B : Document) (y : NaiveClient) → A ≡ B → Stepped bound A y → Stepped bound B y

@@ -10,6 +10,7 @@ use Rattle.ft_op.specs.declared.operations.GridOp.TheVariants as grid
 use Rattle.ft_op.specs.declared.operations.TextOp.{TextOp}
 use Rattle.ft_op.specs.declared.operations.TextOp.TheVariants.{One, Group, IntervalAdd, IntervalChange, IntervalDelete}
 use Rattle.ft_base.proofs.Booleans.{both}
+use Rattle.ft_base.proofs.Options.{some-same}
 use Rattle.ft_props.specs.Steps.{is_annotated_by, is_removed_by, lowered_runs, marked_runs, stage_position}
 use Rattle.ft_op.specs.Operation.{OnGrid, OnIntervals, OnText, SubOperation, segment_contents, sub_operations}
 use Rattle.ft_op.specs.Intervals.{NamedElements, settle_elements}
@@ -39,9 +40,6 @@ grid-members [] h = refl
 grid-members (OnText op ∷ ps) h = (cc)
 grid-members (OnIntervals op ∷ ps) h = (cc)
 grid-members (OnGrid op ∷ ps) h = ap (λ qs. OnGrid op ∷ qs) (grid-members ps h)
-
-some-same : (a b : ChannelOp) → Some a ≡ Some b → a ≡ b
-some-same a b h = (cc)
 
 text-made : (ps : List SubOperation) (op : ChannelOp) → list_all is_on_text ps ≡ true → op_of ps ≡ Some op → sub_operations op ≡ ps
 text-made [] op h e = (cc)

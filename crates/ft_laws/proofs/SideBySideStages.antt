@@ -13,6 +13,7 @@ use Rattle.ft_props.specs.Properties.{PropertyList}
 use Rattle.ft_props.specs.Element.{ElementContent, ListElement, is_sequenced, new_elements, removal_stamp, seen, with_pending_annotation, with_pending_removal, without_pending}
 use Rattle.ft_props.specs.Steps.{Sequence, carried_element, is_inserted_by, put_stage, put_stages, rebuilt_list, stage_position}
 use Rattle.ft_props.proofs.AcknowledgedInsertion.{element_up_to, expects, list_up_to, removal_up_to, same_nat}
+pub use Rattle.ft_laws.specs.Reconnecting.{is_one_run, runs_on}
 use Rattle.ft_laws.proofs.SlidEnds.{true-false}
 use Rattle.ft_laws.proofs.AgreedStage.{any-ranges}
 use Rattle.ft_base.proofs.Booleans.{all_four}
@@ -30,35 +31,25 @@ use Rattle.ft_laws.proofs.HoldsAfterOwn.{rise-last}
 use Rattle.ft_laws.proofs.NumberTests.{below-other}
 
 module _ {A : Type 0} (is : A → Bool) where
-  -- a run of marked elements at the front, and no marked one behind it
-  abbrev pub runs_on : List A → Bool
-  runs_on [] = true
-  runs_on (x ∷ xs) = cond (is x) (runs_on xs) (not (list_any is xs))
-
-  -- the marked elements stand side by side
-  abbrev pub is_one_run : List A → Bool
-  is_one_run [] = true
-  is_one_run (x ∷ xs) = cond (is x) (runs_on xs) (is_one_run xs)
-
-  none-runs_on : (xs : List A) → list_any is xs ≡ false → runs_on xs ≡ true
+  pub none-runs_on : (xs : List A) → list_any is xs ≡ false → runs_on is xs ≡ true
   none-runs_on [] h = refl
   none-runs_on (x ∷ xs) h = grind (arith, none-runs_on xs)
 
-  none-one_run : (xs : List A) → list_any is xs ≡ false → is_one_run xs ≡ true
+  none-one_run : (xs : List A) → list_any is xs ≡ false → is_one_run is xs ≡ true
   none-one_run [] h = refl
   none-one_run (x ∷ xs) h = grind (arith, none-one_run xs)
 
-  block-runs_on : (new xs : List A) → list_all is new ≡ true → list_any is xs ≡ false → runs_on (new ++ xs) ≡ true
+  block-runs_on : (new xs : List A) → list_all is new ≡ true → list_any is xs ≡ false → runs_on is (new ++ xs) ≡ true
   block-runs_on [] xs h g = none-runs_on xs g
   block-runs_on (y ∷ ys) xs h g = grind (arith, block-runs_on ys xs)
 
-  block-one_run : (new xs : List A) → list_all is new ≡ true → list_any is xs ≡ false → is_one_run (new ++ xs) ≡ true
+  block-one_run : (new xs : List A) → list_all is new ≡ true → list_any is xs ≡ false → is_one_run is (new ++ xs) ≡ true
   block-one_run [] xs h g = none-one_run xs g
   block-one_run (y ∷ ys) xs h g = grind (arith, block-runs_on ys xs)
 
-  put-one_run : (test : A → Bool) (p : ℕ) (new xs : List A) → list_all is new ≡ true → list_any is xs ≡ false → is_one_run (put test no_run p new xs) ≡ true
-  put-one_run test zero new xs h g = ap is_one_run (put_past-no_run new xs) ∙ block-one_run new xs h g
-  put-one_run test (suc p) new [] h g = ap is_one_run (sym (append-nil new)) ∙ block-one_run new [] h refl
+  put-one_run : (test : A → Bool) (p : ℕ) (new xs : List A) → list_all is new ≡ true → list_any is xs ≡ false → is_one_run is (put test no_run p new xs) ≡ true
+  put-one_run test zero new xs h g = ap (is_one_run is) (put_past-no_run new xs) ∙ block-one_run new xs h g
+  put-one_run test (suc p) new [] h g = ap (is_one_run is) (sym (append-nil new)) ∙ block-one_run new [] h refl
   put-one_run test (suc p) new (x ∷ xs) h g = grind (arith, put-one_run test p new xs, put-one_run test (suc p) new xs)
 
   -- fewer elements
@@ -66,30 +57,17 @@ module _ {A : Type 0} (is : A → Bool) where
   none-filter test [] h = refl
   none-filter test (x ∷ xs) h = grind (arith, none-filter test xs)
 
-  filter-runs_on : (test : A → Bool) (xs : List A) → runs_on xs ≡ true → runs_on (filter test xs) ≡ true
+  filter-runs_on : (test : A → Bool) (xs : List A) → runs_on is xs ≡ true → runs_on is (filter test xs) ≡ true
   filter-runs_on test [] h = refl
   filter-runs_on test (x ∷ xs) h = grind (arith, filter-runs_on test xs, none-filter test xs, none-runs_on (filter test xs))
 
-  filter-one_run : (test : A → Bool) (xs : List A) → is_one_run xs ≡ true → is_one_run (filter test xs) ≡ true
+  filter-one_run : (test : A → Bool) (xs : List A) → is_one_run is xs ≡ true → is_one_run is (filter test xs) ≡ true
   filter-one_run test [] h = refl
   filter-one_run test (x ∷ xs) h = grind (arith, filter-one_run test xs, filter-runs_on test xs, runs_on-one_run (filter test xs))
     where
-      runs_on-one_run : (ys : List A) → runs_on ys ≡ true → is_one_run ys ≡ true
+      runs_on-one_run : (ys : List A) → runs_on is ys ≡ true → is_one_run is ys ≡ true
       runs_on-one_run [] g = refl
       runs_on-one_run (y ∷ ys) g = grind (arith, none-one_run ys)
-
-  module _ (f : A → A) (same : (x : A) → is (f x) ≡ is x) where
-    any-map : (xs : List A) → list_any is (map f xs) ≡ list_any is xs
-    any-map [] = refl
-    any-map (x ∷ xs) = grind (arith, any-map xs, same x)
-
-    runs_on-map : (xs : List A) → runs_on (map f xs) ≡ runs_on xs
-    runs_on-map [] = refl
-    runs_on-map (x ∷ xs) = grind (arith, runs_on-map xs, any-map xs, same x)
-
-    one_run-map : (xs : List A) → is_one_run (map f xs) ≡ is_one_run xs
-    one_run-map [] = refl
-    one_run-map (x ∷ xs) = grind (arith, one_run-map xs, runs_on-map xs, same x)
 
   -- a run among seen elements is put in after those that stand left of it
   module _ (test : A → Bool) where
@@ -104,13 +82,27 @@ module _ {A : Type 0} (is : A → Bool) where
     none-is [] h = refl
     none-is (x ∷ xs) h = grind (arith, none-is xs)
 
-    run-split : (xs : List A) → list_all either_one xs ≡ true → runs_on xs ≡ true → filter is xs ++ filter test xs ≡ xs
+    run-split : (xs : List A) → list_all either_one xs ≡ true → runs_on is xs ≡ true → filter is xs ++ filter test xs ≡ xs
     run-split [] h g = refl
     run-split (x ∷ xs) h g = grind (arith, run-split xs, all-seen xs, none-is xs)
 
-    pub one_run-put : (xs : List A) → list_all either_one xs ≡ true → is_one_run xs ≡ true → put test no_run (rank is test xs) (filter is xs) (filter test xs) ≡ xs
+    pub one_run-put : (xs : List A) → list_all either_one xs ≡ true → is_one_run is xs ≡ true → put test no_run (rank is test xs) (filter is xs) (filter test xs) ≡ xs
     one_run-put [] h g = refl
     one_run-put (x ∷ xs) h g = grind (arith, one_run-put xs, run-split xs, put_past-no_run (filter is (x ∷ xs)) (filter test xs))
+
+-- marked elements of a list that is mapped
+module _ {A B : Type 0} (is : A → Bool) (on : B → Bool) (f : B → A) (same : (x : B) → is (f x) ≡ on x) where
+  any-map : (xs : List B) → list_any is (map f xs) ≡ list_any on xs
+  any-map [] = refl
+  any-map (x ∷ xs) = grind (arith, any-map xs, same x)
+
+  runs_on-map : (xs : List B) → runs_on is (map f xs) ≡ runs_on on xs
+  runs_on-map [] = refl
+  runs_on-map (x ∷ xs) = grind (arith, runs_on-map xs, any-map xs, same x)
+
+  pub one_run-map : (xs : List B) → is_one_run is (map f xs) ≡ is_one_run on xs
+  one_run-map [] = refl
+  one_run-map (x ∷ xs) = grind (arith, one_run-map xs, runs_on-map xs, same x)
 
 -- ---- one stage
 
@@ -216,14 +208,19 @@ rank-wide k (e ∷ xs) = rank-step (wide k e) refl (rank-wide k xs)
         let p = neither-wide k e h in
         rw (p.0, p.1) ih
 
+-- they are one run among the elements that the stage before sees
+pub wide-run : (k : ℕ) (xs : List ListElement) → is_one_run (is_inserted_by (suc k)) (list_up_to (suc k) xs) ≡ true
+    → is_one_run (is_inserted_by (suc k)) (filter (wide k) xs) ≡ true
+wide-run k xs h =
+    let is = is_inserted_by (suc k) in
+    sym (one_run-map is is (element_up_to (suc k)) (λ e. refl) (filter (wide k) xs)) ∙ ap (is_one_run is) (sym (wide-up_to k xs))
+    ∙ filter-one_run is (wide k) (list_up_to (suc k) xs) h
+
 pub stage-side_by_side : (k : ℕ) (xs : List ListElement) → is_one_run (is_inserted_by (suc k)) (list_up_to (suc k) xs) ≡ true
     → filter (wide k) xs ≡ put (seen k) no_run (stage_position (suc k) xs) (filter (is_inserted_by (suc k)) xs) (filter (seen k) xs)
 stage-side_by_side k xs h =
     let is = is_inserted_by (suc k) in
-    let run : is_one_run is (filter (wide k) xs) ≡ true =
-    sym (one_run-map is (element_up_to (suc k)) (λ e. refl) (filter (wide k) xs)) ∙ ap (is_one_run is) (sym (wide-up_to k xs))
-    ∙ filter-one_run is (wide k) (list_up_to (suc k) xs) h in
-    sym (one_run-put is (seen k) (filter (wide k) xs) (all-of-both k xs) run)
+    sym (one_run-put is (seen k) (filter (wide k) xs) (all-of-both k xs) (wide-run k xs h))
     ∙ ap (λ n. put (seen k) no_run n (filter is (filter (wide k) xs)) (filter (seen k) (filter (wide k) xs))) (rank-wide k xs ∙ ap (λ i. rank is (seen i) xs) (sym (pred_suc k)))
     ∙ ap (λ ys. put (seen k) no_run (stage_position (suc k) xs) ys (filter (seen k) (filter (wide k) xs))) (filter-twice is (wide k) (λ e g. (neither-wide k e g).1) xs)
     ∙ ap (put (seen k) no_run (stage_position (suc k) xs) (filter is xs)) (filter-twice (seen k) (wide k) (λ e g. (neither-wide k e g).0) xs)

@@ -1,5 +1,5 @@
 -- What a client shows before and after its own join, and what it sends again.
-use Rattle.std.specs.Prelude.{◌≡◌, ℕ, suc, ◌+◌, ◌<◌, ◌≤◌, Bool, true, false, not, ◌&&◌, ◌||◌, nat_eq, List, [], ◌∷◌, Option, Some, None, filter}
+use Rattle.std.specs.Prelude.{◌≡◌, ℕ, suc, ◌+◌, ◌<◌, ◌≤◌, Bool, true, false, cond, not, ◌&&◌, ◌||◌, nat_eq, List, [], ◌∷◌, Option, Some, None, filter}
 use Rattle.std.specs.List.{list_all, list_any}
 use Rattle.ft_base.specs.declared.stamps.Stamp.{Stamp}
 use Rattle.ft_base.specs.declared.stamps.Stamp.TheVariants.{Acked, Local}
@@ -61,6 +61,16 @@ has_marks_of inserts removes stages e = has_insertion_of inserts stages e.ins &&
 -- whether the element is seen at stage k or inserted by the next one
 abbrev pub is_seen_or_next : ℕ → ListElement → Bool
 is_seen_or_next k e = seen k e || is_inserted_by (suc k) e
+
+-- elements that pass at the front, and none behind them
+abbrev pub runs_on : {A : Type 0} → (A → Bool) → List A → Bool
+runs_on is [] = true
+runs_on is (x ∷ xs) = cond (is x) (runs_on is xs) (not (list_any is xs))
+
+-- the elements that pass stand side by side
+abbrev pub is_one_run : {A : Type 0} → (A → Bool) → List A → Bool
+is_one_run is [] = true
+is_one_run is (x ∷ xs) = cond (is x) (runs_on is xs) (is_one_run is xs)
 
 -- in the view of stage k the elements of the next one stand side by side
 abbrev pub StandSideBySide : ℕ → List ListElement → Type 0

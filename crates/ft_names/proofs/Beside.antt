@@ -2,6 +2,7 @@
 use Rattle.std.proofs.Common.{◌≡◌, ℕ, zero, suc, Bool, true, false, cond, ◌&&◌, List, [], ◌∷◌, ◌++◌, Option, Some, None, refl, ◌∙◌, ap, subst, filter, find, map, length}
 use Rattle.std.specs.List.{list_any, flat_map}
 use Rattle.std.specs.Option.{option_or}
+use Rattle.ft_laws.specs.Sequencing.{Each}
 use Rattle.ft_base.specs.Scan.{at, change_range_from, len, one_more_if, put, put_past, rank, settled_after, within}
 
 -- the relation holds of the first elements of both lists, of the second ones, and so on
@@ -29,6 +30,11 @@ module _ {A B : Type 0} {Q : A → B → Type 0} where
   pub beside-both : {R : A → B → Type 0} {xs : List A} {ys : List B} → Beside A B Q xs ys → Beside A B R xs ys → Beside A B (λ x y. Q x y × R x y) xs ys
   beside-both ends ends = ends
   beside-both (next q qs) (next r rs) = next (q, r) (beside-both qs rs)
+
+  -- with a fact of each element of the first list
+  pub beside-each : (P : A → Type 0) {xs : List A} {ys : List B} → Beside A B Q xs ys → Each P xs → Beside A B (λ x y. Q x y × P x) xs ys
+  beside-each P ends h = ends
+  beside-each P (next q qs) h = next (q, h.0) (beside-each P qs h.1)
 
   pub beside-append : {xs us : List A} {ys vs : List B} → Beside A B Q xs ys → Beside A B Q us vs → Beside A B Q (xs ++ us) (ys ++ vs)
   beside-append ends r = r

@@ -22,12 +22,12 @@ use Rattle.ft_msg.specs.Agreed.{take_entry, with_numbers}
 use Rattle.ft_msg.specs.Client.{NaiveClient, PendingEdit, SentAs, after_edit, connect, drop_link, local_edit, noop, sent_as, stages_of, with_draft}
 use Rattle.ft_msg.specs.Process.{after_entry, after_foreign_message, come_online, is_body, is_oldest, is_op, is_op_kind, is_own, is_own_join, is_sent_as, numbers_fault, process, process_fault}
 use Rattle.ft_msg.specs.Reconnection.{sent_draft, rebuilt_document, resubmitted_edits}
-use Rattle.ft_names.specs.WellNamed.{HasItsStages, RiseTo}
+use Rattle.ft_names.specs.WellNamed.{HasItsStages, RiseTo, puts_text_in}
 use Rattle.ft_names.proofs.Beside.{beside-append, beside-length, beside-more, ends, next, same-flat}
 use Rattle.ft_names.proofs.DocumentsAlike.{DocsAlike, DocsStep, NamesStay}
 use Rattle.ft_names.proofs.ForeignAlike.{entry-alike, numbers-taken}
 use Rattle.ft_names.proofs.LocalAlike.{StagesBeside, SubsAlike, stages-stay, subs-alike, turned_down, went}
-use Rattle.ft_names.proofs.OwnAlike.{edit-alike, put-in-renamed, rise-renamed}
+use Rattle.ft_names.proofs.OwnAlike.{edit-alike, none-own, put-in-renamed, rise-renamed}
 use Rattle.ft_names.proofs.RejoinAlike.{EditAlike, EditsBeside, document-alike, resubmitted-alike, resubmitted-own, resubmitted-rise, same-numbers, stages_in}
 use Rattle.ft_names.proofs.StageCounts.{entry-stages, has-stages}
 
@@ -181,7 +181,8 @@ module _ (x : NaiveClient) (d : Document) (es : List PendingEdit) (h : DocsAlike
       let own1 : HasItsStages (stages_of x) (with_numbers entry x.doc) = record { text = λ k g. own.text k g; rows = λ k g. own.rows k g; cols = λ k g. own.cols k g } in
       let edits = edits-stay x.doc d p q (record { text = λ i j s. s; rows = λ i j s. s; cols = λ i j s. s }) b in
       let rebuilds = document-alike x.last_stage (stages_of x) rise p q taken own1 in
-      let again = resubmitted-alike x.last_stage p q taken _ _ rebuilds.names entry.origin 1 edits in
+      let none = none-own puts_text_in p.text.items 0 x.last_stage (stages_of x) rise (λ k l g. own.text k g) in
+      let again = resubmitted-alike x.last_stage p q taken _ _ rebuilds.names entry.origin 1 edits none in
       let same = same-numbers x.doc d (stages-flat x.doc d b) in
       subst (λ ks. ClientsAlike (come_online x entry) (online entry ks (resubmitted_edits q entry.origin 1 es))) same
       (record {

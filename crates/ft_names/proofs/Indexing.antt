@@ -6,7 +6,7 @@ use Rattle.ft_sumdoc.specs.declared.summary.CellRec.{CellRec}
 use Rattle.ft_base.specs.declared.stamps.Stamp.{Stamp}
 use Rattle.ft_base.specs.declared.stamps.Stamp.TheVariants.{Acked, Local}
 use Rattle.ft_base.specs.declared.elements.Element.{Element as ElementStamps}
-use Rattle.ft_base.specs.Scan.{len, one_more_if, rank}
+use Rattle.ft_base.specs.Scan.{len, rank}
 use Rattle.ft_base.specs.Visibility.{is_acked}
 use Rattle.ft_base.proofs.Booleans.{both}
 use Rattle.ft_props.specs.Properties.{ValueBytes}
@@ -30,7 +30,7 @@ use Rattle.ft_names.proofs.IntervalsAlike.{IntervalAlike, IntervalsBeside, Settl
 use Rattle.ft_names.proofs.ListSteps.{ListsAlike}
 use Rattle.ft_names.proofs.LocalAlike.{StageAlike, StageNames, StagesBeside}
 use Rattle.ft_names.proofs.RejoinAlike.{EditAlike, EditsBeside, stages_in}
-use Rattle.ft_names.proofs.Twins.{BesideList, EndsAlike, EndsBeside, IsTwin, Named, StandAlike, at_names, detached, ends-beside, from-rank, loose, on, same-of}
+use Rattle.ft_names.proofs.Twins.{BesideList, EndsAlike, EndsBeside, IsTwin, Named, StandAlike, at_names, detached, ends-beside, from-rank, loose, none-more, on, same-of}
 
 -- ---- from names to places
 
@@ -175,17 +175,13 @@ element-twin x y a b h =
       ap (λ (e : NamelessElement). e.pending) h,
     ) refl)
 
-none-odd : (b : Bool) (n : ℕ) → one_more_if b n ≡ 0 → (b ≡ false) × (n ≡ 0)
-none-odd true n h = absurd (omega arith)
-none-odd false n h = (refl, h)
-
 pub list-twins : (xs ys : List ListElement) → len has_odd_removal xs ≡ 0 → len has_odd_removal ys ≡ 0 → map nameless xs ≡ map nameless ys → BesideList IsTwin xs ys
 list-twins [] [] a b h = ends
 list-twins [] (y ∷ ys) a b h = (cc)
 list-twins (x ∷ xs) [] a b h = (cc)
 list-twins (x ∷ xs) (y ∷ ys) a b h =
-    let p = none-odd (has_odd_removal x) (len has_odd_removal xs) a in
-    let q = none-odd (has_odd_removal y) (len has_odd_removal ys) b in
+    let p = none-more (has_odd_removal x) (len has_odd_removal xs) a in
+    let q = none-more (has_odd_removal y) (len has_odd_removal ys) b in
     let first : nameless x ≡ nameless y = (cc) in
     let rest : map nameless xs ≡ map nameless ys = (cc) in
     next (element-twin x y p.0 q.0 first) (list-twins xs ys p.1 q.1 rest)

@@ -16,10 +16,12 @@ use Rattle.ft_msg.specs.Compacted.{IsCompacted, holds_col, holds_row, holds_text
 use Rattle.ft_msg.specs.Indexed.{indexed_client}
 use Rattle.ft_laws.proofs.CompactedScans.{held-apart, id-universal, len-kept}
 use Rattle.ft_laws.proofs.SlidEnds.{same_id-refl}
+use Rattle.ft_keep.specs.Keeping.{IsMadeOrKept}
 use Rattle.ft_keep.proofs.Acknowledged.{inserted-alike}
 use Rattle.ft_keep.proofs.Compacting.{kept-shape}
 use Rattle.ft_names.specs.Renaming.{DifferInNames}
 use Rattle.ft_names.specs.WellNamed.{AreSettledIn, AreStagesNamed, AreThere, HasNoCellsAhead, IsAhead, IsSettledIn, IsWellNamed, IsWellNumbered, StandsIn, has_odd_removal}
+use Rattle.ft_names.proofs.NamedSteps.{reached-named}
 
 -- ---- one list
 
@@ -166,6 +168,10 @@ pub kept-named : (x kept : NaiveClient) → IsWellNamed x → IsCompacted kept x
 kept-named x kept h k =
     subst IsWellNamed (sym (kept-shape x kept k))
     (shape-named x h kept.doc.text kept.doc.rows kept.doc.cols kept.doc.cells k.doc.text k.doc.rows k.doc.cols (subst HasNoCellsAhead k.doc.rest (kept-ahead x kept h k)))
+
+-- each client that steps made, or that keeps one which they made, is well named
+pub made-or-kept-named : (start : Document) (kept : NaiveClient) → IsMadeOrKept start kept → IsWellNamed kept
+made-or-kept-named start kept h = kept-named h.whole kept (reached-named h.whole h.reached) h.keeps
 
 -- so it differs in names alone from each well named client that shows the same
 pub kept-differs : (p x kept : NaiveClient) → IsWellNamed p → IsWellNamed x → IsCompacted kept x → indexed_client p ≡ indexed_client kept → DifferInNames p kept

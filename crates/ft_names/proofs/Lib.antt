@@ -10,6 +10,7 @@ pub mod ForeignAlike
 pub mod LocalAlike
 pub mod OwnAlike
 pub mod StageCounts
+pub mod SettledBefore
 pub mod RejoinAlike
 pub mod ClientsAlike
 pub mod Indexing
@@ -26,3 +27,4 @@ pub mod NamedClients
 pub mod NamedCells
 pub mod SummaryStart
 pub mod SummariesAlike
+pub mod KeptGrids

@@ -31,7 +31,7 @@ use Rattle.ft_names.proofs.ForeignAlike.{given-names, ranged-lists, self-le}
 use Rattle.ft_names.proofs.IntervalsAlike.{IntervalsBeside, NamesAlike, SettledAlike, ends-stay, has_interval-alike, intervals-after, intervals-more, intervals-settle, names-settle, settled-ends}
 use Rattle.ft_names.proofs.ListSteps.{KeepsTwins, ListStep, ListsAlike, local-step, range-step, step-twins, unused-absent}
 use Rattle.ft_names.proofs.NumberedLists.{local-numbered, new-count, new-stage}
-use Rattle.ft_names.proofs.Twins.{AreTwins, EndsAlike, EndsBeside, IsTwin, ends-beside, len-alike, on, there-other, twin-seen}
+use Rattle.ft_names.proofs.Twins.{AreTwins, EndsAlike, EndsBeside, IsTwin, detached, ends-beside, len-alike, on, there-other, twin-seen}
 
 -- ---- stages
 
@@ -188,6 +188,15 @@ module _ (last : ℕ) where
           let none = unused-absent last list (PendingId k n) h later in
           absurd (omega arith)
 
+  -- so are ends on elements that stand
+  end-before : (list : Sequence) {ys : List ListElement} {o p : Option ElementId} → EndsAlike list.items ys o p → IsWellNumbered last list → IsNamedBefore (last + 1) o
+  end-before list detached h = tt
+  end-before list (on {a = a} s) h = stands-before list a h s.there
+
+  other-before : (list : Sequence) {xs : List ListElement} {o p : Option ElementId} → EndsAlike xs list.items o p → IsWellNumbered last list → IsNamedBefore (last + 1) p
+  other-before list detached h = tt
+  other-before list (on {b = b} s) h = stands-before list b h (there-other s)
+
   module _ (stages others : List Stage) (p q : Document) (h : DocsAlike last p q) (s : StagesBeside p q stages others) (put : HasItsStages stages p) where
     in-range : (o : SubOperation) (i m n : ℕ) → m ≡ n → (d e : Document) → SubAlike last stages p q o (Ok (d, no_elements)) (Ok (e, no_elements))
         → SubAlike last stages p q o (if_in_range i m d) (if_in_range i n e)
@@ -286,8 +295,10 @@ module _ (last : ℕ) where
         step (Some fault) b = refused fault
         step None false = refused (OutOfRange (len (seen (last + 1 - 1)) p.text.items))
         step None true =
-            took (same-docs last (last + 1) p q (next-le last) h) (given-names (places last p.text q.text h.parts.text) (seen (last + 1 - 1))
-            (λ x y t. twin-seen (last + 1 - 1) x y t) (ends_of op)) tt tt
+            let n = given-names (places last p.text q.text h.parts.text) (seen (last + 1 - 1)) (λ x y t. twin-seen (last + 1 - 1) x y t) (ends_of op) in
+            took (same-docs last (last + 1) p q (next-le last) h) n
+            (end-before p.text n.first h.parts.text.left, end-before p.text n.second h.parts.text.left)
+            (other-before q.text n.first h.parts.text.right, other-before q.text n.second h.parts.text.right)
             (same-stages (OnIntervals op) (elements_at_given_ends (seen (last + 1 - 1)) p.text.items (ends_of op)))
 
     set-alike : (i j : ℕ) (value : List ℕ) (o1 o2 o3 o4 : Option ListElement)

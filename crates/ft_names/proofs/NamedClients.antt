@@ -251,14 +251,10 @@ module _ (x : NaiveClient) (h : IsWellNamed x) where
   stage-of : (k : ℕ) (o : SubOperation) (a : NamedElements) → AreThere x.doc o a → AreNamedBefore k o a
       → StageNames x.doc other o a (names_at other o (places_of x.doc o a)) × AreNamedBefore k o (names_at other o (places_of x.doc o a))
   stage-of k (OnText op) a t b = ((t, ap (λ n. names_at other (OnText op) (places_of x.doc (OnText op) n)) t), tt)
-  stage-of k (OnIntervals op) a t b = (
-    record {
-      first = (end-named x.last_stage x.doc.text other.text text-lists k a.first t.0).0;
-      second =
-          (end-named x.last_stage x.doc.text other.text text-lists k a.second t.1).0;
-    },
-    tt,
-  )
+  stage-of k (OnIntervals op) a t b =
+      let r = end-named x.last_stage x.doc.text other.text text-lists k a.first t.0 in
+      let s = end-named x.last_stage x.doc.text other.text text-lists k a.second t.1 in
+      (record { first = r.0; second = s.0 }, (r.1 b.0, s.1 b.1))
   stage-of k (OnGrid (SpliceIn target i count)) a t b =
       let none = ap (λ n. names_at other (OnGrid (SpliceIn target i count)) (places_of x.doc (OnGrid (SpliceIn target i count)) n)) t in
       ((t, none), subst (λ n. AreNamedBefore k (OnGrid (SpliceIn target i count)) n) (sym none) (tt, tt))

@@ -14,6 +14,7 @@ use Rattle.ft_op.specs.Cells.{cell_value}
 use Rattle.ft_op.specs.Document.{Document, with_slid_ends}
 use Rattle.ft_op.specs.Stages.{Stage, intervals_after_stage}
 use Rattle.ft_msg.specs.Acknowledgement.{ack_stage, ack_stages, cells_after_stage, made_before, renamed, renamed_names, renamed_stage, write_named_cell}
+use Rattle.ft_laws.specs.Sequencing.{Each}
 use Rattle.ft_names.specs.WellNamed.{AreNamedBefore, ArePutIn, HasItsStages, HasNoCellsAhead, IsNamedBefore, IsSequencedName, IsWellNumbered, RiseTo, inserts_cols, inserts_rows, puts_text_in}
 use Rattle.ft_names.proofs.AckedLists.{acked-alike, acked-carries, acked-stands, stage-count, unstaged}
 use Rattle.ft_names.proofs.Beside.{beside-map, next}
@@ -24,28 +25,54 @@ use Rattle.ft_names.proofs.Twins.{BesideList, EndsAlike, EndsBeside, IsTwin, Sta
 
 -- ---- what the stages tell of the lists
 
-stages-apart : (inserts : SubOperation → Bool) (j k last : ℕ) (ts : List Stage) → j ≤ k → RiseTo k last ts → list_any (λ t. nat_eq j t.stage && inserts t.sub_operation) ts ≡ false
+pub stages-apart : (inserts : SubOperation → Bool) (j k last : ℕ) (ts : List Stage) → j ≤ k → RiseTo k last ts → list_any (λ t. nat_eq j t.stage && inserts t.sub_operation) ts ≡ false
 stages-apart inserts j k last [] l h = refl
 stages-apart inserts j k last (t ∷ ts) l h = rw (other j t.stage (omega arith), stages-apart inserts j t.stage last ts (omega arith) h.1) refl
   where
     other : (i m : ℕ) → i < m → nat_eq i m ≡ false
     other i m g = grind (arith, nat_tests)
 
--- a list into which the first stage doesn't insert has none of its elements
-not-own : (inserts : SubOperation → Bool) (low last : ℕ) (t : Stage) (ts : List Stage) (xs : List ListElement) → inserts t.sub_operation ≡ false
-    → RiseTo low last (t ∷ ts) → ArePutIn inserts (t ∷ ts) xs → len (is_inserted_by t.stage) xs ≡ 0
-not-own inserts low last t ts xs e r h = h t.stage (ap (λ b. b || list_any (λ u. nat_eq t.stage u.stage && inserts u.sub_operation) ts)
-    (ap (λ b. nat_eq t.stage t.stage && b) e ∙ never (nat_eq t.stage t.stage)) ∙ stages-apart inserts t.stage t.stage last ts (omega arith) r.1)
+-- the number of the first stage is that of no other one
+pub unlisted : (inserts : SubOperation → Bool) (low last : ℕ) (t : Stage) (ts : List Stage) → inserts t.sub_operation ≡ false → RiseTo low last (t ∷ ts)
+    → list_any (λ u. nat_eq t.stage u.stage && inserts u.sub_operation) (t ∷ ts) ≡ false
+unlisted inserts low last t ts e r = ap (λ b. b || list_any (λ u. nat_eq t.stage u.stage && inserts u.sub_operation) ts)
+    (ap (λ b. nat_eq t.stage t.stage && b) e ∙ never (nat_eq t.stage t.stage)) ∙ stages-apart inserts t.stage t.stage last ts (omega arith) r.1
   where
     never : (b : Bool) → b && false ≡ false
     never true = refl
     never false = refl
 
+-- a list into which the first stage doesn't insert has none of its elements
+pub not-own : (inserts : SubOperation → Bool) (low last : ℕ) (t : Stage) (ts : List Stage) (xs : List ListElement) → inserts t.sub_operation ≡ false
+    → RiseTo low last (t ∷ ts) → ArePutIn inserts (t ∷ ts) xs → len (is_inserted_by t.stage) xs ≡ 0
+not-own inserts low last t ts xs e r h = h t.stage (unlisted inserts low last t ts e r)
+
+-- a list has none of the elements of a stage that puts nothing into it
+abbrev pub HasNoneOf : (SubOperation → Bool) → List ListElement → Stage → Type 0
+HasNoneOf inserts xs t = inserts t.sub_operation ≡ false → len (is_inserted_by t.stage) xs ≡ 0
+
+-- so it is for each stage
+pub none-own : (inserts : SubOperation → Bool) (xs : List ListElement) (low last : ℕ) (ts : List Stage) → RiseTo low last ts
+    → ((k : ℕ) → low < k → list_any (λ t. nat_eq k t.stage && inserts t.sub_operation) ts ≡ false → len (is_inserted_by k) xs ≡ 0)
+    → Each (HasNoneOf inserts xs) ts
+none-own inserts xs low last [] r h = tt
+none-own inserts xs low last (t ∷ ts) r h = (
+  λ e. h t.stage r.0 (unlisted inserts low last t ts e r),
+  none-own inserts xs t.stage last ts r.1 (λ k l g. h k (later low t.stage k r.0 l)
+      (ap (λ b. b && inserts t.sub_operation || list_any (λ u. nat_eq k u.stage && inserts u.sub_operation) ts) (other k t.stage l) ∙ g)),
+)
+  where
+    later : (i j k : ℕ) → i < j → j < k → i < k
+    later i j k l g = omega arith
+
+    other : (i m : ℕ) → m < i → nat_eq i m ≡ false
+    other i m g = grind (arith, nat_tests)
+
 pub put-in-twins : (inserts : SubOperation → Bool) (ts : List Stage) {xs ys : List ListElement} → BesideList IsTwin xs ys → ArePutIn inserts ts xs → ArePutIn inserts ts ys
 put-in-twins inserts ts t h k g = sym (len-alike (is_inserted_by k) (λ x y q. twin-inserted k x y q) t) ∙ h k g
 
 -- a standing name of a stage before the first one is sequenced
-sequenced-name : (inserts : SubOperation → Bool) (low last : ℕ) (t : Stage) (ts : List Stage) (list : Sequence) (a : ElementId) → IsWellNumbered last list
+pub sequenced-name : (inserts : SubOperation → Bool) (low last : ℕ) (t : Stage) (ts : List Stage) (list : Sequence) (a : ElementId) → IsWellNumbered last list
     → RiseTo low last (t ∷ ts) → ArePutIn inserts (t ∷ ts) list.items → 1 ≤ len (has_id a) list.items
     → IsNamedBefore t.stage (Some a) → IsSequencedName a
 sequenced-name inserts low last t ts list (SequencedId n) w r h l b = tt
@@ -55,7 +82,7 @@ sequenced-name inserts low last t ts list (PendingId j n) w r h l b =
     absurd (omega arith)
 
 -- the others have their elements after it
-put-in-after : (inserts : SubOperation → Bool) (last s c : ℕ) (t : Stage) (ts : List Stage) (list : Sequence) → IsWellNumbered last list
+pub put-in-after : (inserts : SubOperation → Bool) (last s c : ℕ) (t : Stage) (ts : List Stage) (list : Sequence) → IsWellNumbered last list
     → ArePutIn inserts (t ∷ ts) list.items → ArePutIn inserts ts (acked_list t.stage s c list).items
 put-in-after inserts last s c t ts list w h k g = step (nat_eq k t.stage) refl
   where
@@ -77,7 +104,7 @@ module _ (last s c low : ℕ) (t : Stage) (others : NamedElements) (ts : List St
     (before : AreNamedBefore t.stage t.sub_operation t.names) (other : AreNamedBefore t.stage t.sub_operation others) (rise : RiseTo low last (t ∷ ts))
     (own : HasItsStages (t ∷ ts) p) where
   -- the name as its list renames it
-  list-name : (inserts : SubOperation → Bool) (list : Sequence) (n : ℕ) (a : ElementId) → IsWellNumbered last list → ArePutIn inserts (t ∷ ts) list.items
+  pub list-name : (inserts : SubOperation → Bool) (list : Sequence) (n : ℕ) (a : ElementId) → IsWellNumbered last list → ArePutIn inserts (t ∷ ts) list.items
       → inserts t.sub_operation ≡ false → 1 ≤ len (has_id a) list.items → acked_id t.stage list.made a ≡ acked_id t.stage n a
   list-name inserts list n a w put e l =
       let none = not-own inserts low last t ts list.items e rise put in
@@ -89,7 +116,7 @@ module _ (last s c low : ℕ) (t : Stage) (others : NamedElements) (ts : List St
   text-name doc w put (OnIntervals op) e a l = list-name puts_text_in doc.text _ a w put (ap puts_text_in e) l
   text-name doc w put (OnGrid op) e a l = list-name puts_text_in doc.text _ a w put (ap puts_text_in e) l
 
-  rows-name : (doc : Document) → IsWellNumbered last doc.rows → ArePutIn inserts_rows (t ∷ ts) doc.rows.items → (o : SubOperation) → t.sub_operation ≡ o
+  pub rows-name : (doc : Document) → IsWellNumbered last doc.rows → ArePutIn inserts_rows (t ∷ ts) doc.rows.items → (o : SubOperation) → t.sub_operation ≡ o
       → (a : ElementId) → 1 ≤ len (has_id a) doc.rows.items → acked_id t.stage doc.rows.made a ≡ acked_id t.stage (made_before doc o) a
   rows-name doc w put (OnText op) e a l = list-name inserts_rows doc.rows _ a w put (ap inserts_rows e) l
   rows-name doc w put (OnIntervals op) e a l = list-name inserts_rows doc.rows _ a w put (ap inserts_rows e) l
@@ -98,7 +125,7 @@ module _ (last s c low : ℕ) (t : Stage) (others : NamedElements) (ts : List St
   rows-name doc w put (OnGrid (SpliceOut target i j)) e a l = list-name inserts_rows doc.rows _ a w put (ap inserts_rows e) l
   rows-name doc w put (OnGrid (Set i j value)) e a l = list-name inserts_rows doc.rows _ a w put (ap inserts_rows e) l
 
-  cols-name : (doc : Document) → IsWellNumbered last doc.cols → ArePutIn inserts_cols (t ∷ ts) doc.cols.items → (o : SubOperation) → t.sub_operation ≡ o
+  pub cols-name : (doc : Document) → IsWellNumbered last doc.cols → ArePutIn inserts_cols (t ∷ ts) doc.cols.items → (o : SubOperation) → t.sub_operation ≡ o
       → (a : ElementId) → 1 ≤ len (has_id a) doc.cols.items → acked_id t.stage doc.cols.made a ≡ acked_id t.stage (made_before doc o) a
   cols-name doc w put (OnText op) e a l = list-name inserts_cols doc.cols _ a w put (ap inserts_cols e) l
   cols-name doc w put (OnIntervals op) e a l = list-name inserts_cols doc.cols _ a w put (ap inserts_cols e) l
@@ -116,7 +143,7 @@ module _ (last s c low : ℕ) (t : Stage) (others : NamedElements) (ts : List St
   }
 
   -- cells keep their values
-  row-value : (doc : Document) → HasNoCellsAhead doc → (i col : ElementId) → cell_value (acked_id t.stage doc.rows.made i) col doc.cells ≡ cell_value i col doc.cells
+  pub row-value : (doc : Document) → HasNoCellsAhead doc → (i col : ElementId) → cell_value (acked_id t.stage doc.rows.made i) col doc.cells ≡ cell_value i col doc.cells
   row-value doc n (SequencedId m) col = refl
   row-value doc n (PendingId j m) col = step (nat_eq j t.stage)
     where
@@ -124,7 +151,7 @@ module _ (last s c low : ℕ) (t : Stage) (others : NamedElements) (ts : List St
       step true = n.rows (SequencedId (doc.rows.made + m)) col (omega arith) ∙ sym (n.rows (PendingId j m) col tt)
       step false = refl
 
-  col-value : (doc : Document) → HasNoCellsAhead doc → (row i : ElementId) → cell_value row (acked_id t.stage doc.cols.made i) doc.cells ≡ cell_value row i doc.cells
+  pub col-value : (doc : Document) → HasNoCellsAhead doc → (row i : ElementId) → cell_value row (acked_id t.stage doc.cols.made i) doc.cells ≡ cell_value row i doc.cells
   col-value doc n row (SequencedId m) = refl
   col-value doc n row (PendingId j m) = step (nat_eq j t.stage)
     where
@@ -255,15 +282,15 @@ module _ (last s c low : ℕ) (t : Stage) (others : NamedElements) (ts : List St
 
 -- ---- renamed stages
 
-renamed-twice : (f g : ElementId → ElementId) (o : Option ElementId) → renamed g (renamed f o) ≡ renamed (λ x. g (f x)) o
+pub renamed-twice : (f g : ElementId → ElementId) (o : Option ElementId) → renamed g (renamed f o) ≡ renamed (λ x. g (f x)) o
 renamed-twice f g None = refl
 renamed-twice f g (Some a) = refl
 
-stage-twice : (f g : ElementId → ElementId) (t : Stage) → renamed_stage g (renamed_stage f t) ≡ renamed_stage (λ x. g (f x)) t
+pub stage-twice : (f g : ElementId → ElementId) (t : Stage) → renamed_stage g (renamed_stage f t) ≡ renamed_stage (λ x. g (f x)) t
 stage-twice f g t = ap (λ o. record t { names = record { first = o; second = renamed g (renamed f t.names.second) } }) (renamed-twice f g t.names.first)
     ∙ ap (λ o. record t { names = record { first = renamed (λ x. g (f x)) t.names.first; second = o } }) (renamed-twice f g t.names.second)
 
-stages-twice : (f g : ElementId → ElementId) (ts : List Stage) → map (renamed_stage g) (map (renamed_stage f) ts) ≡ map (renamed_stage (λ x. g (f x))) ts
+pub stages-twice : (f g : ElementId → ElementId) (ts : List Stage) → map (renamed_stage g) (map (renamed_stage f) ts) ≡ map (renamed_stage (λ x. g (f x))) ts
 stages-twice f g [] = refl
 stages-twice f g (t ∷ ts) = ap (λ u. u ∷ map (renamed_stage g) (map (renamed_stage f) ts)) (stage-twice f g t)
     ∙ ap (λ us. renamed_stage (λ x. g (f x)) t ∷ us) (stages-twice f g ts)
@@ -272,7 +299,7 @@ map-append : {A B : Type 0} (f : A → B) (xs ys : List A) → map f (xs ++ ys) 
 map-append f [] ys = refl
 map-append f (x ∷ xs) ys = ap (λ zs. f x ∷ zs) (map-append f xs ys)
 
-before-acked : (k n j : ℕ) (o : Option ElementId) → IsNamedBefore j o → IsNamedBefore j (renamed (acked_id k n) o)
+pub before-acked : (k n j : ℕ) (o : Option ElementId) → IsNamedBefore j o → IsNamedBefore j (renamed (acked_id k n) o)
 before-acked k n j None h = tt
 before-acked k n j (Some (SequencedId m)) h = tt
 before-acked k n j (Some (PendingId i m)) h = step (nat_eq i k)
@@ -281,9 +308,9 @@ before-acked k n j (Some (PendingId i m)) h = step (nat_eq i k)
     step true = tt
     step false = h
 
-named-acked : (k n j : ℕ) (o : SubOperation) (a : NamedElements) → AreNamedBefore j o a → AreNamedBefore j o (renamed_names (acked_id k n) a)
+pub named-acked : (k n j : ℕ) (o : SubOperation) (a : NamedElements) → AreNamedBefore j o a → AreNamedBefore j o (renamed_names (acked_id k n) a)
 named-acked k n j (OnText op) a h = tt
-named-acked k n j (OnIntervals op) a h = tt
+named-acked k n j (OnIntervals op) a h = (before-acked k n j a.first h.0, before-acked k n j a.second h.1)
 named-acked k n j (OnGrid op) a h = (before-acked k n j a.first h.0, before-acked k n j a.second h.1)
 
 ends-renamed : {xs ys us vs : List ListElement} (f g : ElementId → ElementId) → ((a b : ElementId) → StandAlike xs ys a b → StandAlike us vs (f a) (g b))
@@ -308,7 +335,7 @@ stages-renamed last k m n p q d e s h = beside-map (renamed_stage (acked_id k m)
   other = named-acked k n t.stage t.sub_operation u.names r.other;
 }) h
 
-any-renamed : (inserts : SubOperation → Bool) (k : ℕ) (f : ElementId → ElementId) (ts : List Stage)
+pub any-renamed : (inserts : SubOperation → Bool) (k : ℕ) (f : ElementId → ElementId) (ts : List Stage)
     → list_any (λ (t : Stage). nat_eq k t.stage && inserts t.sub_operation) (map (renamed_stage f) ts) ≡ list_any (λ (t : Stage). nat_eq k t.stage && inserts t.sub_operation) ts
 any-renamed inserts k f [] = refl
 any-renamed inserts k f (t ∷ ts) = ap (λ b. nat_eq k t.stage && inserts t.sub_operation || b) (any-renamed inserts k f ts)
@@ -320,7 +347,7 @@ put-in-renamed f ts doc h = record {
   cols = λ k g. h.cols k (sym (any-renamed inserts_cols k f ts) ∙ g);
 }
 
-put-in-back : (f : ElementId → ElementId) (ts : List Stage) (doc : Document) → HasItsStages (map (renamed_stage f) ts) doc → HasItsStages ts doc
+pub put-in-back : (f : ElementId → ElementId) (ts : List Stage) (doc : Document) → HasItsStages (map (renamed_stage f) ts) doc → HasItsStages ts doc
 put-in-back f ts doc h = record {
   text = λ k g. h.text k (any-renamed puts_text_in k f ts ∙ g);
   rows = λ k g. h.rows k (any-renamed inserts_rows k f ts ∙ g);

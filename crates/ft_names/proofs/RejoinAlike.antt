@@ -10,7 +10,7 @@ use Rattle.ft_op.specs.declared.operations.Target.TheVariants.{Rows, Cols}
 use Rattle.ft_op.specs.declared.operations.TextOp.{TextOp}
 use Rattle.ft_op.specs.declared.operations.TextOp.TheVariants.{One, Group, IntervalAdd, IntervalChange, IntervalDelete}
 use Rattle.ft_props.specs.Element.{ElementContent, ElementId, ListElement, has_id, seen}
-use Rattle.ft_props.specs.Steps.{lowered_runs, rebuilt_list}
+use Rattle.ft_props.specs.Steps.{is_inserted_by, lowered_runs, rebuilt_list}
 use Rattle.ft_op.specs.Operation.{OnGrid, OnIntervals, OnText, SubOperation, segment_contents}
 use Rattle.ft_op.specs.Intervals.{NamedElements, settle_elements}
 use Rattle.ft_op.specs.Document.{Document}
@@ -18,14 +18,18 @@ use Rattle.ft_op.specs.Pieces.{ends_in, interval_piece, is_named_and_seen, op_of
 use Rattle.ft_op.specs.Stages.{Stage}
 use Rattle.ft_msg.specs.Client.{PendingEdit}
 use Rattle.ft_msg.specs.Reconnection.{carried_stage, rebuilt_document, regenerated_edit, resubmitted_edit, resubmitted_edits}
+use Rattle.ft_base.specs.Scan.{len}
+use Rattle.ft_laws.specs.Sequencing.{Each}
 use Rattle.ft_names.specs.WellNamed.{AreNamedBefore, ArePutIn, HasItsStages, RiseTo, inserts_cols, inserts_rows, puts_text_in}
-use Rattle.ft_names.proofs.Beside.{Beside, beside-any, beside-flat, beside-rank, ends, next, same-flat, same-map}
+use Rattle.ft_names.proofs.Beside.{Beside, beside-any, beside-each, beside-flat, beside-rank, ends, next, same-flat, same-map}
 use Rattle.ft_names.proofs.DocumentsAlike.{DocsAlike, DocsStep, NamesStay, cols-step, places, rows-step, text-step}
 use Rattle.ft_names.proofs.ForeignAlike.{self-le}
 use Rattle.ft_names.proofs.IntervalsAlike.{NamesAlike, names-settle}
 use Rattle.ft_names.proofs.LocalAlike.{StageAlike, StageNames, StagesBeside, stage-names-stay}
+use Rattle.ft_names.proofs.OwnAlike.{HasNoneOf}
 use Rattle.ft_names.proofs.RebuiltLists.{IsStagedAmong, Rises, rebuilt-alike, rebuilt-step, stages-rebuilt}
-use Rattle.ft_names.proofs.Twins.{EndsAlike, EndsBeside, annotated_runs-alike, detached, end_number-alike, ends-beside, on, position-alike, removed_runs-alike, twin-seen}
+use Rattle.ft_names.proofs.SettledBefore.{settled-before}
+use Rattle.ft_names.proofs.Twins.{EndsAlike, EndsBeside, annotated_runs-alike, detached, end_number-alike, ends-beside, len-alike, on, twin-inserted, position-alike, removed_runs-alike, twin-seen}
 
 -- ---- pieces
 
@@ -104,14 +108,19 @@ module _ (last : ℕ) (p q : Document) (h : DocsAlike last p q) where
     unless-gone (_ ∷ _) [] g t u s = (cc)
 
     carried-of : (k : ℕ) (o : SubOperation) (a b : NamedElements) → StageNames p q o a b → AreNamedBefore k o a → AreNamedBefore k o b
+        → (puts_text_in o ≡ false → len (is_inserted_by k) p.text.items ≡ 0)
         → StagesBeside d e (carried_stage p (record { stage = k; sub_operation = o; names = a })) (carried_stage q (record { stage = k; sub_operation = o; names = b }))
-    carried-of k (OnText op) a b n f g = unless-gone _ _ (pieces-of k (OnText op) a b n) _ _ (kept-stage k (OnText op) a b n f g)
-    carried-of k (OnIntervals op) a b n f g = next (kept-stage k (OnIntervals op) _ _ (settled-names k a b n) tt tt) ends
-    carried-of k (OnGrid op) a b n f g = unless-gone _ _ (pieces-of k (OnGrid op) a b n) _ _ (kept-stage k (OnGrid op) a b n f g)
+    carried-of k (OnText op) a b n f g none = unless-gone _ _ (pieces-of k (OnText op) a b n) _ _ (kept-stage k (OnText op) a b n f g)
+    carried-of k (OnIntervals op) a b n f g none =
+        let other = sym (len-alike (is_inserted_by k) (twin-inserted k) h.parts.text.twins) ∙ none refl in
+        next (kept-stage k (OnIntervals op) _ _ (settled-names k a b n)
+        (settled-before k p.text.items (none refl) a.first, settled-before k p.text.items (none refl) a.second)
+        (settled-before k q.text.items other b.first, settled-before k q.text.items other b.second)) ends
+    carried-of k (OnGrid op) a b n f g none = unless-gone _ _ (pieces-of k (OnGrid op) a b n) _ _ (kept-stage k (OnGrid op) a b n f g)
 
-    carried-alike : (t u : Stage) → StageAlike p q t u → StagesBeside d e (carried_stage p t) (carried_stage q u)
-    carried-alike t u s = subst (λ v. StagesBeside d e (carried_stage p t) (carried_stage q v)) (sym s.rest)
-        (carried-of t.stage t.sub_operation t.names u.names s.names s.before s.other)
+    carried-alike : (t u : Stage) → StageAlike p q t u → HasNoneOf puts_text_in p.text.items t → StagesBeside d e (carried_stage p t) (carried_stage q u)
+    carried-alike t u s none = subst (λ v. StagesBeside d e (carried_stage p t) (carried_stage q v)) (sym s.rest)
+        (carried-of t.stage t.sub_operation t.names u.names s.names s.before s.other none)
 
 -- the stages of edits
 abbrev pub stages_in : List PendingEdit → List Stage
@@ -126,26 +135,34 @@ pub record EditAlike (p q : Document) (e f : PendingEdit) : Type 0 where
 abbrev pub EditsBeside : Document → Document → List PendingEdit → List PendingEdit → Type 0
 EditsBeside p q es fs = Beside PendingEdit PendingEdit (EditAlike p q) es fs
 
+each-parts : {A : Type 0} (R : A → Type 0) (xs ys : List A) → Each R (xs ++ ys) → Each R xs × Each R ys
+each-parts R [] ys h = (tt, h)
+each-parts R (x ∷ xs) ys h = let parts = each-parts R xs ys h.1 in ((h.0, parts.0), parts.1)
+
 module _ (last : ℕ) (p q : Document) (h : DocsAlike last p q) (d e : Document) (stay : NamesStay p q d e) (conn : ℕ) where
-  pub resubmitted-alike : (n : ℕ) {es fs : List PendingEdit} → EditsBeside p q es fs → EditsBeside d e (resubmitted_edits p conn n es) (resubmitted_edits q conn n fs)
-  resubmitted-alike n ends = ends
-  resubmitted-alike n (next {x = i} {y = j} {xs = es} {ys = fs} r rs) = step (regenerated_edit p i) (regenerated_edit q j)
-      (regenerated-alike last p q h i j r.stages) (resubmitted-alike n rs) (resubmitted-alike (n + 1) rs)
+  pub resubmitted-alike : (n : ℕ) {es fs : List PendingEdit} → EditsBeside p q es fs → Each (HasNoneOf puts_text_in p.text.items) (stages_in es)
+      → EditsBeside d e (resubmitted_edits p conn n es) (resubmitted_edits q conn n fs)
+  resubmitted-alike n ends none = ends
+  resubmitted-alike n (next {x = i} {y = j} {xs = es} {ys = fs} r rs) none =
+      let parts = each-parts (HasNoneOf puts_text_in p.text.items) i.stages (stages_in es) none in
+      step (regenerated_edit p i) (regenerated_edit q j) (regenerated-alike last p q h i j r.stages)
+      (beside-each (HasNoneOf puts_text_in p.text.items) r.stages parts.0) (resubmitted-alike n rs parts.1) (resubmitted-alike (n + 1) rs parts.1)
     where
-      step : (o w : Option ChannelOp) → o ≡ w → EditsBeside d e (resubmitted_edits p conn n es) (resubmitted_edits q conn n fs)
+      step : (o w : Option ChannelOp) → o ≡ w → Beside Stage Stage (λ t u. StageAlike p q t u × HasNoneOf puts_text_in p.text.items t) i.stages j.stages
+          → EditsBeside d e (resubmitted_edits p conn n es) (resubmitted_edits q conn n fs)
           → EditsBeside d e (resubmitted_edits p conn (n + 1) es) (resubmitted_edits q conn (n + 1) fs)
           → EditsBeside d e (elim o [ None ↦ resubmitted_edits p conn n es | Some op ↦ resubmitted_edit p conn n i op ∷ resubmitted_edits p conn (n + 1) es ])
           (elim w [ None ↦ resubmitted_edits q conn n fs | Some op ↦ resubmitted_edit q conn n j op ∷ resubmitted_edits q conn (n + 1) fs ])
-      step None None g a b = a
-      step (Some op) (Some other) g a b =
+      step None None g s a b = a
+      step (Some op) (Some other) g s a b =
           next (record {
-            stages = beside-flat (carried_stage p) (carried_stage q) (λ t u s. carried-alike last p q h d e stay t u s) r.stages;
+            stages = beside-flat (carried_stage p) (carried_stage q) (λ t u r. carried-alike last p q h d e stay t u r.0 r.1) s;
             ref_seq =
                 h.parts.number;
             sent = ap (λ (o : Option ChannelOp). option_map (λ x. record { conn = conn; client_seq = n; op = x }) o) g;
           }) b
-      step None (Some other) g a b = (cc)
-      step (Some op) None g a b = (cc)
+      step None (Some other) g s a b = (cc)
+      step (Some op) None g s a b = (cc)
 
 -- ---- what the stages that go on tell of the lists
 

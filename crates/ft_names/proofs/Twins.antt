@@ -55,7 +55,7 @@ twins-self (x ∷ xs) = next refl (twins-self xs)
 pub there-other : {xs ys : List ListElement} {a b : ElementId} → StandAlike xs ys a b → 1 ≤ len (has_id b) ys
 there-other {xs} {ys} {a} {b} h = subst (λ n. 1 ≤ n) (beside-len (has_id a) (has_id b) (λ x y q. q.1) h.twins) h.there
 
-none-more : (b : Bool) (n : ℕ) → one_more_if b n ≡ 0 → (b ≡ false) × (n ≡ 0)
+pub none-more : (b : Bool) (n : ℕ) → one_more_if b n ≡ 0 → (b ≡ false) × (n ≡ 0)
 none-more true n h = absurd (omega arith)
 none-more false n h = (refl, h)
 

@@ -1,3 +1,4 @@
 pub mod WellNamed
 pub mod Renaming
 pub mod Naming
+pub mod GridFacts

@@ -30,7 +30,7 @@ use Rattle.ft_msg.specs.WellFormed.{IsWellFormedMessage}
 use Rattle.ft_laws.specs.Starts.{IsRunFrom, IsSoundRun}
 use Rattle.std.specs.List.{list_all}
 use Rattle.ft_msg.specs.ClientSteps.{ClientStep, after_step, after_steps, has_fitting_body, is_without_edits, taken_entries}
-use Rattle.ft_keep.specs.Keeping.{AnswersEach, DoesStep}
+use Rattle.ft_keep.specs.Keeping.{AnswersEach, DoesStep, IsMadeOrKept}
 use Rattle.ft_names.specs.WellNamed.{IsWellNamed}
 
 -- two well named clients that are indexed alike
@@ -95,6 +95,10 @@ SummariesAreWellNamed = (sum : SumDoc) → IsValidSummary sum → IsWellNamed (c
 -- each client that keeps a well named one is
 abbrev pub KeptAreWellNamed : Type 0
 KeptAreWellNamed = (x kept : NaiveClient) → IsWellNamed x → IsCompacted kept x → IsWellNamed kept
+
+-- so each client is that steps made from a document on, or that keeps one which they made
+abbrev pub MadeOrKeptAreWellNamed : Type 0
+MadeOrKeptAreWellNamed = (start : Document) (kept : NaiveClient) → IsMadeOrKept start kept → IsWellNamed kept
 
 -- ---- replicas
 

@@ -86,10 +86,10 @@ IsNamedBefore k None = Unit {0}
 IsNamedBefore k (Some (SequencedId n)) = Unit {0}
 IsNamedBefore k (Some (PendingId j n)) = j < k
 
--- so are both units of a cell write of stage k
+-- so are both ends that an interval operation of stage k names, and both units of a cell write of that stage
 abbrev pub AreNamedBefore : ℕ → SubOperation → NamedElements → Type 0
 AreNamedBefore k (OnText op) names = Unit {0}
-AreNamedBefore k (OnIntervals op) names = Unit {0}
+AreNamedBefore k (OnIntervals op) names = IsNamedBefore k names.first × IsNamedBefore k names.second
 AreNamedBefore k (OnGrid op) names = IsNamedBefore k names.first × IsNamedBefore k names.second
 
 -- ---- clients
@@ -118,19 +118,23 @@ AreThere doc (OnGrid (SpliceIn target i count)) names = names ≡ no_elements
 AreThere doc (OnGrid (SpliceOut target i j)) names = names ≡ no_elements
 AreThere doc (OnGrid (Set i j value)) names = StandsIn doc.rows.items names.first × StandsIn doc.cols.items names.second
 
--- so does what all stages name, the units of a cell write from before its stage
+-- so does what all stages name, from before the stage that names it
 abbrev pub AreStagesNamed : Document → List Stage → Type 0
 AreStagesNamed doc [] = Unit {0}
 AreStagesNamed doc (t ∷ stages) = (AreThere doc t.sub_operation t.names × AreNamedBefore t.stage t.sub_operation t.names) × AreStagesNamed doc stages
 
--- the names in a client fit: its lists are well numbered; its intervals end on sequenced elements; no cell has a name that comes
--- later; its pending stages name elements that are there, and have the pending elements
-pub record IsWellNamed (x : NaiveClient) : Type 0 where
-  pub text : IsWellNumbered x.last_stage x.doc.text
-  pub rows : IsWellNumbered x.last_stage x.doc.rows
-  pub cols : IsWellNumbered x.last_stage x.doc.cols
-  pub intervals : AreSettledIn x.doc.text.items x.doc.intervals
-  pub cells : HasNoCellsAhead x.doc
-  pub stages : AreStagesNamed x.doc (stages_of x)
-  pub own : HasItsStages (stages_of x) x.doc
-  pub rise : RiseTo 0 x.last_stage (stages_of x)
+-- the names in a document with pending stages up to `last` fit: its lists are well numbered; its intervals end on sequenced
+-- elements; no cell has a name that comes later; the stages name elements that are there, and have the pending elements
+pub record AreWellNamed (last : ℕ) (doc : Document) (pending : List Stage) : Type 0 where
+  pub text : IsWellNumbered last doc.text
+  pub rows : IsWellNumbered last doc.rows
+  pub cols : IsWellNumbered last doc.cols
+  pub intervals : AreSettledIn doc.text.items doc.intervals
+  pub cells : HasNoCellsAhead doc
+  pub stages : AreStagesNamed doc pending
+  pub own : HasItsStages pending doc
+  pub rise : RiseTo 0 last pending
+
+-- so do those in a client
+abbrev pub IsWellNamed : NaiveClient → Type 0
+IsWellNamed x = AreWellNamed x.last_stage x.doc (stages_of x)

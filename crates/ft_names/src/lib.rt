@@ -2,4 +2,5 @@
 //! function without code.
 #![tactic(auto)]
 
+pub mod grids;
 pub mod naming;

@@ -1,7 +1,7 @@
 //! Two well named clients that are indexed alike answer every step alike, and stay so.
 
 ghost use Rattle.ft_names.specs.Naming.{ClientsCanBeNamed, ListsCanBeNamed};
-ghost use Rattle.ft_names.specs.Renaming.{ClientsAreWellNamed, CompactionsIgnoreNames, ConnectsIgnoreNames, DropsIgnoreNames, EditsIgnoreNames, EntriesIgnoreNames, IdlesIgnoreNames, KeptAreWellNamed, OneCompactionServesAll, OneConnectAnswersAll, OneDropAnswersAll, OneEditAnswersAll, OneEntryAnswersAll, OneIdleAnswersAll, OneSummaryAnswersAll, OneViewAnswersAll, RestartsIgnoreNames, SendsIgnoreNames, StepsKeepNames, SummariesAreWellNamed, SummaryStartShowsTheSame, ViewsIgnoreNames};
+ghost use Rattle.ft_names.specs.Renaming.{ClientsAreWellNamed, CompactionsIgnoreNames, ConnectsIgnoreNames, DropsIgnoreNames, EditsIgnoreNames, EntriesIgnoreNames, IdlesIgnoreNames, KeptAreWellNamed, MadeOrKeptAreWellNamed, OneCompactionServesAll, OneConnectAnswersAll, OneDropAnswersAll, OneEditAnswersAll, OneEntryAnswersAll, OneIdleAnswersAll, OneSummaryAnswersAll, OneViewAnswersAll, RestartsIgnoreNames, SendsIgnoreNames, StepsKeepNames, SummariesAreWellNamed, SummaryStartShowsTheSame, ViewsIgnoreNames};
 
 /// Two well named clients that are indexed alike refuse an edit of their own, an entry or a change of
 /// their link with one fault, or both take it, and are indexed alike and well named again.
@@ -28,6 +28,7 @@ pub fn well_named()
     ensures clients { ClientsAreWellNamed }
     ensures summaries { SummariesAreWellNamed }
     ensures kept { KeptAreWellNamed }
+    ensures made_or_kept { MadeOrKeptAreWellNamed }
 {}
 
 /// So what a replica does on one well named client that it shows, it answers for each client for which

@@ -1,7 +1,7 @@
 -- The tests of equality of operations decide equality.
-use Rattle.std.proofs.Common.{◌≡◌, ◌∙◌, ℕ, ℤ, pos, negsuc, Bool, true, false, ◌&&◌, List, [], ◌∷◌, Option, Some, None, Decides, bytes_eq, refl, ap, ap₂, arith, leb-true, nat_le}
+use Rattle.std.proofs.Common.{◌≡◌, ◌∙◌, ℕ, ℤ, pos, negsuc, Bool, true, false, IsTrue, ◌&&◌, ◌↔◌, List, [], ◌∷◌, Option, Some, None, Decides, bytes_eq, refl, ap, ap₂, arith, leb-true, nat_le}
 use Rattle.std.specs.Prelude.{nat_eq}
-use Rattle.std.proofs.lemmas.Bool.Decides.{nat_tests, Decides-eqb}
+use Rattle.std.proofs.lemmas.Bool.Decides.{nat_tests, Decides-eqb, same_from_decides}
 use Rattle.std.proofs.lemmas.Slice.Eq.{bytes_eq-Decides}
 use Rattle.ft_base.proofs.Booleans.{both, all_three, all_four}
 use Rattle.ft_props.specs.Properties.{Characters, PropertySet, ValueBytes}
@@ -203,3 +203,7 @@ same_op-Decides (Text a) (Text b) = (λ h. ap Text ((same_text-Decides a b).0 h)
 same_op-Decides (Grid a) (Grid b) = (λ h. ap Grid ((same_grid-Decides a b).0 h), λ e. let same : a ≡ b = cc in (same_grid-Decides a b).1 same)
 same_op-Decides (Text a) (Grid b) = (λ h. (cc), λ e. (cc))
 same_op-Decides (Grid a) (Text b) = (λ h. (cc), λ e. (cc))
+
+-- what a comparison of operations answers is that test
+pub same_op-is : (r : Bool) (a b : ChannelOp) → IsTrue r ↔ (a ≡ b) → r ≡ same_op a b
+same_op-is r a b h = same_from_decides r (same_op a b) h (same_op-Decides a b)

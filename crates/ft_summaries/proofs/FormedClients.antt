@@ -9,6 +9,7 @@ use Rattle.ft_base.specs.declared.stamps.Stamp.{Stamp}
 use Rattle.ft_base.specs.declared.stamps.Stamp.TheVariants.{Acked, Local}
 use Rattle.ft_base.specs.Scan.{at, len, no_run, one_more_if, rank}
 use Rattle.ft_base.specs.Visibility.{is_acked, is_of_stage}
+use Rattle.ft_base.proofs.Options.{some-same}
 use Rattle.ft_op.specs.declared.operations.BaseOp.{BaseOp}
 use Rattle.ft_op.specs.declared.operations.BaseOp.TheVariants.{Insert, Remove, Annotate}
 use Rattle.ft_op.specs.declared.operations.CellOp.{CellOp}
@@ -684,16 +685,13 @@ cell-ops-formed (OnText op ∷ ps) h = cell-ops-formed ps h.1
 cell-ops-formed (OnIntervals op ∷ ps) h = cell-ops-formed ps h.1
 cell-ops-formed (OnGrid op ∷ ps) h = (h.0, cell-ops-formed ps h.1)
 
-some-of : (a b : ChannelOp) → Some a ≡ Some b → a ≡ b
-some-of a b h = (cc)
-
 op-formed : (ps : List SubOperation) (op : ChannelOp) → Each IsFormedSub ps → op_of ps ≡ Some op → IsWellFormed op
 op-formed [] op h e = (cc)
-op-formed (OnText o ∷ []) op h e = subst IsWellFormed (some-of (Text (One o)) op e) h.0
-op-formed (OnText o ∷ p ∷ ps) op h e = subst IsWellFormed (some-of (Text (Group (o ∷ flat_map base_op_of (p ∷ ps)))) op e) (h.0, bases-formed (p ∷ ps) h.1)
-op-formed (OnIntervals o ∷ ps) op h e = subst IsWellFormed (some-of (Text o) op e) h.0
-op-formed (OnGrid o ∷ []) op h e = subst IsWellFormed (some-of (Grid (grid.One o)) op e) h.0
-op-formed (OnGrid o ∷ p ∷ ps) op h e = subst IsWellFormed (some-of (Grid (grid.Group (o ∷ flat_map cell_op_of (p ∷ ps)))) op e) (h.0, cell-ops-formed (p ∷ ps) h.1)
+op-formed (OnText o ∷ []) op h e = subst IsWellFormed (some-same (Text (One o)) op e) h.0
+op-formed (OnText o ∷ p ∷ ps) op h e = subst IsWellFormed (some-same (Text (Group (o ∷ flat_map base_op_of (p ∷ ps)))) op e) (h.0, bases-formed (p ∷ ps) h.1)
+op-formed (OnIntervals o ∷ ps) op h e = subst IsWellFormed (some-same (Text o) op e) h.0
+op-formed (OnGrid o ∷ []) op h e = subst IsWellFormed (some-same (Grid (grid.One o)) op e) h.0
+op-formed (OnGrid o ∷ p ∷ ps) op h e = subst IsWellFormed (some-same (Grid (grid.Group (o ∷ flat_map cell_op_of (p ∷ ps)))) op e) (h.0, cell-ops-formed (p ∷ ps) h.1)
 
 -- ---- what goes on after a reconnection
 

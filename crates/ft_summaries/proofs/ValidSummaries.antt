@@ -24,7 +24,7 @@ use Rattle.ft_summaries.proofs.SummaryIntervals.{settled-seen}
 use Rattle.ft_summaries.proofs.SummaryLists.{is_empty, is_none, is_of_text, is_plain_unit, is_settled, trim-plain}
 use Rattle.ft_summaries.proofs.ValidDocuments.{IsMadeBy, IsValidText}
 use Rattle.ft_summaries.proofs.ValidElements.{IsDated}
-use Rattle.ft_summaries.proofs.ValidSegments.{each-retained, runs-count, runs-unremoved, runs-valid, segment-valid, segments-length, segments-unremoved, segments-valid, stamps-valid, tested, trimmed-length, trimmed-unremoved}
+use Rattle.ft_summaries.proofs.ValidSegments.{each-retained, runs-count, runs-unremoved, runs-valid, segment-valid, segments-length, segments-unremoved, segments-valid, stamps-valid, tested, trimmed-unremoved}
 use Rattle.ft_summaries.proofs.ValidViews.{cells-rise, cells-valid, intervals-rise, intervals-shown}
 
 -- ---- rows and columns
@@ -51,15 +51,14 @@ low-enough m n l = grind (arith, nat_tests)
 abbrev kept_items : ℕ → List ListElement → List ListElement
 kept_items min xs = retain_map (λ e. not (is_collectable min e)) (trim_element min) xs
 
-kept-runs : (min seq conns : ℕ) (xs : List ListElement) → Each (IsDated (seq + 1) 0 conns) xs → length xs ≤ 2 ^ 52 → AreRuns (tested min seq conns) (unit_runs (kept_items min xs))
+kept-runs : (min seq conns : ℕ) (xs : List ListElement) → Each (IsDated (seq + 1) 0 conns) xs → length (kept_items min xs) ≤ 2 ^ 52 → AreRuns (tested min seq conns) (unit_runs (kept_items min xs))
 kept-runs min seq conns xs h l =
-    let less = trimmed-length min xs in
     let count = runs-count (kept_items min xs) in
     record {
       each = runs-valid (tested min seq conns) (kept_items min xs)
           (each-retained (IsDated (seq + 1) 0 conns) (λ e. are_stamps (tested min seq conns) (mark_of e.ins) (map mark_of e.dels) ≡ true)
           (λ e. not (is_collectable min e)) (trim_element min) (λ e d k. stamps-valid min seq conns e d k) xs h);
-      units = low-enough (unit_count (unit_runs (kept_items min xs))) (2 ^ 52) (omega (arith, less, count, l));
+      units = low-enough (unit_count (unit_runs (kept_items min xs))) (2 ^ 52) (omega (arith, count, l));
     }
 
 -- how many kept units are unremoved
@@ -93,7 +92,6 @@ module _ (conns : List Characters) (doc : Document) (made : IsMadeBy (length con
   summary-valid distinct little =
       let t = trim-plain doc made.plain in
       let b = tested doc.minimum doc.number (length conns) in
-      let less = trimmed-length doc.minimum doc.text.items in
       let long = segments-length 0 (trim doc).text.items t.text in
       let text = little.text in
       record {
@@ -106,7 +104,7 @@ module _ (conns : List Characters) (doc : Document) (made : IsMadeBy (length con
             (each-retained (IsValidText (doc.number + 1) 0 (length conns) doc.minimum) (λ e. IsSegment (tested doc.minimum doc.number (length conns)) (segment_of e))
             (λ e. not (is_collectable doc.minimum e)) (trim_element doc.minimum)
             (λ e v k. segment-valid doc.minimum doc.number (length conns) e v k) doc.text.items made.valid.text);
-        elements = lt-ltb (text_length (segments_from 0 (trim doc).text.items)) (2 ^ 53) (omega (arith, less, long, text));
+        elements = lt-ltb (text_length (segments_from 0 (trim doc).text.items)) (2 ^ 53) (omega (arith, long, text));
         rows = kept-runs doc.minimum doc.number (length conns) doc.rows.items made.valid.rows little.rows;
         cols = kept-runs doc.minimum doc.number (length conns) doc.cols.items made.valid.cols little.cols;
         intervals = valid-intervals;

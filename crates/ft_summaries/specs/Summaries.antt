@@ -7,18 +7,18 @@ use Rattle.ft_sumdoc.specs.Valid.{IsValidSummary}
 use Rattle.ft_sumdoc.specs.WellFormed.{IsWellCut}
 use Rattle.ft_msg.specs.Client.{NaiveClient}
 use Rattle.ft_msg.specs.ClientSteps.{is_without_edits}
-use Rattle.ft_msg.specs.Summary.{GivesDocument}
+use Rattle.ft_msg.specs.Summary.{GivesDocument, trim}
 use Rattle.ft_msg.specs.SummaryOf.{summary_of}
 use Rattle.ft_summaries.specs.Runs.{IsFormedRun}
 
--- what is asked of the numbers of a document
+-- what is asked of the numbers of a document, and of its lists as a summary keeps them
 pub record IsSmall (doc : Document) : Type 0 where
   pub number : doc.number < 2 ^ 53
   pub skipped : doc.skipped < 2 ^ 53
   pub other : doc.other < 2 ^ 53
-  pub text : length doc.text.items < 2 ^ 53
-  pub rows : length doc.rows.items ≤ 2 ^ 52
-  pub cols : length doc.cols.items ≤ 2 ^ 52
+  pub text : length (trim doc).text.items < 2 ^ 53
+  pub rows : length (trim doc).rows.items ≤ 2 ^ 52
+  pub cols : length (trim doc).cols.items ≤ 2 ^ 52
 
 -- with the names of the n connections whose messages the client took, it is valid, where the numbers are small
 abbrev pub SummariesAreValid : Type 0

@@ -15,6 +15,7 @@ use Rattle.ft_summaries.proofs.Lists.{each-found, each-taken, size}
 use Rattle.ft_worlds.proofs.Orders.{Leads, leads-up}
 use Rattle.ft_summaries.proofs.ValidDocuments.{AreNext, IsFrom, IsMadeBy, empty-made, entries-made}
 use Rattle.ft_summaries.specs.Summaries.{IsSmall}
+use Rattle.ft_summaries.proofs.ValidSegments.{trimmed-length}
 use Rattle.ft_summaries.proofs.ValidSummaries.{summary-valid}
 use Rattle.ft_seqr.specs.declared.events.Event.{Event}
 use Rattle.ft_props.specs.Properties.{Characters}
@@ -122,15 +123,18 @@ client-small events name c f low =
     let rows = sized.rows in
     let cols = sized.cols in
     let text_length = sized-length c.client.doc.text.items in
+    let text_kept = trimmed-length c.client.doc.minimum c.client.doc.text.items in
     let rows_length = sized-length c.client.doc.rows.items in
+    let rows_kept = trimmed-length c.client.doc.minimum c.client.doc.rows.items in
     let cols_length = sized-length c.client.doc.cols.items in
+    let cols_kept = trimmed-length c.client.doc.minimum c.client.doc.cols.items in
     record {
       number = omega (arith, number, load, low);
       skipped = omega (arith, skipped, low);
       other = omega (arith, other, low);
-      text = omega (arith, text, text_length, low);
-      rows = omega (arith, rows, rows_length, low);
-      cols = omega (arith, cols, cols_length, low);
+      text = omega (arith, text, text_length, text_kept, low);
+      rows = omega (arith, rows, rows_length, rows_kept, low);
+      cols = omega (arith, cols, cols_length, cols_kept, low);
     }
 
 pub summaries-are-valid : SummariesAreValid

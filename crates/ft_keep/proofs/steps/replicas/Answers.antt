@@ -7,6 +7,7 @@ use Rattle.ft_msg.specs.Client.{connect, drop_link, local_edit, noop}
 use Rattle.ft_msg.specs.Process.{process}
 use Rattle.ft_msg.proofs.ReachedSteps.{well-formed-fits}
 use Rattle.ft_keep.proofs.AllSteps.{reached-sound, replica-answers, replica-compacts}
+use Rattle.ft_keep.proofs.KeptReady.{kept-ready, kept-stage_runs}
 use Rattle.ft_keep.proofs.KeptSteps.{connects-alike, drops-alike, edits-answer, entries-answer, idles-alike}
 use Rattle.ft_keep.proofs.SoundlyKept.{soundly-kept}
 use Rattle.ft_keep.proofs.steps.replicas.Goals as goal
@@ -34,3 +35,9 @@ returns-clause-compacts c = replica-compacts
 
 pub returns-clause-sound : goal.returns-clause-sound
 returns-clause-sound c = λ start kept h. soundly-kept h.reached.steps h.whole kept (reached-sound h.whole h.reached) h.keeps
+
+pub returns-clause-ready : goal.returns-clause-ready
+returns-clause-ready c = λ start kept h. kept-ready h.reached.steps h.whole kept (reached-sound h.whole h.reached) h.keeps
+
+pub returns-clause-runs : goal.returns-clause-runs
+returns-clause-runs c = λ start kept h. kept-stage_runs h.reached.steps h.whole kept (reached-sound h.whole h.reached) h.keeps

@@ -1,5 +1,5 @@
 -- Each is a law on names.
-use Rattle.ft_names.proofs.KeptNames.{kept-named}
+use Rattle.ft_names.proofs.KeptNames.{kept-named, made-or-kept-named}
 use Rattle.ft_names.proofs.NamedSteps.{run-named, step-named}
 use Rattle.ft_msg.specs.Summary.{doc_of}
 use Rattle.ft_laws.proofs.SummaryStarts.{summary-sound}
@@ -17,3 +17,6 @@ returns-clause-kept c = λ x kept h k. kept-named x kept h k
 
 pub returns-clause-summaries : goal.returns-clause-summaries
 returns-clause-summaries c = λ sum h. start-named (doc_of sum) (summary-sound sum h)
+
+pub returns-clause-made_or_kept : goal.returns-clause-made_or_kept
+returns-clause-made_or_kept c = λ start kept h. made-or-kept-named start kept h

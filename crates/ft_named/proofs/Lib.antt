@@ -1,0 +1,14 @@
+pub mod Placed
+pub mod Moves
+pub mod Bares
+pub mod Lists
+pub mod Changed
+pub mod ListSteps
+pub mod Slid
+pub mod PutTwice
+pub mod OwnSteps
+pub mod SubOperations
+pub mod AckedSteps
+pub mod CompactedSteps
+pub mod RebuiltSteps
+pub mod PieceSteps
