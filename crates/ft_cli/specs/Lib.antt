@@ -1,6 +1,7 @@
 pub mod Words
 pub mod Refusals
 pub mod Observation
+pub mod Observers
 pub mod Loading
 pub mod Statuses
 pub mod LineForm

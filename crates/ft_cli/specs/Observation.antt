@@ -1,10 +1,12 @@
 -- The observer of a log: it takes each message that a line is, and has no connection of its own.
-use Rattle.std.specs.Prelude.{ℕ, List, [], Option, Some, None, Result, Ok, Err}
+use Rattle.std.specs.Prelude.{ℕ, max, List, [], Option, Some, None, Result, Ok, Err}
 use Rattle.ft_op.specs.Document.{Document, empty}
 use Rattle.ft_msg.specs.declared.faults.Cause.{Cause}
 use Rattle.ft_msg.specs.declared.faults.ProcessFault.{ProcessFault}
 use Rattle.ft_msg.specs.declared.messages.Entry.{Entry}
 use Rattle.ft_msg.specs.declared.messages.Message.{Message}
+use Rattle.ft_msg.specs.declared.views.Link.TheVariants.{Offline}
+use Rattle.ft_msg.specs.declared.views.Numbers.{Numbers}
 use Rattle.ft_msg.specs.Client.{NaiveClient, client_over}
 use Rattle.ft_msg.specs.MessageGrammar.{message}
 use Rattle.ft_msg.specs.NameTable.{number_of, names_after}
@@ -21,6 +23,18 @@ pub record Observation : Type 0 where
 -- what it has before the first message
 abbrev pub nothing_observed : Observation
 nothing_observed = record { names = []; doc = empty }
+
+-- the numbers of whoever only observes, over a document
+abbrev pub observer_numbers : Document → Numbers
+observer_numbers doc = record {
+  seq = doc.number;
+  min = doc.minimum;
+  pending = 0;
+  skipped = doc.skipped;
+  other = doc.other;
+  made = max doc.text.made (max doc.rows.made doc.cols.made);
+  link = Offline;
+}
 
 -- the number of the connection that sent a message, 0 where it has no name
 abbrev pub sender_number : List (List ℕ) → Option (List ℕ) → ℕ

@@ -4,7 +4,6 @@ use Rattle.ft_io.specs.Lines.{lines, ended_lines}
 use Rattle.ft_io.specs.Reader.{input_limit}
 use Rattle.ft_op.specs.Document.{Document}
 use Rattle.ft_msg.specs.Content.{shown}
-use Rattle.ft_document.specs.Observed.{observer_numbers}
 use Rattle.ft_seqr.specs.SessionReport.{Shows, as_applied, session_after, session_lines, session_report, take_line}
 use Rattle.ft_seqr.specs.ViewLines.{content_lines, numbers_line}
 use Rattle.ft_seqr.specs.Walk.{line_limit}
@@ -16,7 +15,7 @@ use Rattle.ft_cli.specs.declared.words.Form.TheVariants.{Gen, Load, Log, Play, S
 use Rattle.ft_cli.specs.Generated.{generated_lines}
 use Rattle.ft_cli.specs.LineForm.{Account, LineForm, bytes_of, form_after, form_lines, form_report, form_status}
 use Rattle.ft_cli.specs.Loading.{Loading, load_line, nothing_loaded}
-use Rattle.ft_cli.specs.Observation.{Observation, nothing_observed, observe}
+use Rattle.ft_cli.specs.Observation.{Observation, nothing_observed, observe, observer_numbers}
 use Rattle.ft_cli.specs.Play.{play_lines, play_status}
 use Rattle.ft_cli.specs.Words.{form_of}
 

@@ -28,3 +28,8 @@ pub mod sums;
 pub mod view_lines;
 pub mod words;
 pub mod writing;
+
+use ft_plain::Plain;
+
+/// The replica with which the program runs: its clients, and the observers of `log` and `load`.
+pub type RunReplica = Plain;

@@ -1,15 +1,16 @@
 //! The observer of a summary and the messages behind it.
 
-ghost use Rattle.std.specs.Prelude.{◌≡◌, ◌≤◌, IfOk, length};
+ghost use Rattle.std.specs.Prelude.{◌≤◌, IfOk, length};
 ghost use Rattle.ft_io.specs.Reader.{input_limit};
 ghost use Rattle.ft_sumdoc.specs.Summary.{summary};
 ghost use Rattle.ft_cli.specs.Listening.{IsStep};
-ghost use Rattle.ft_cli.specs.LoadRuns.{loading_of, names_reserved};
+ghost use Rattle.ft_cli.specs.LoadRuns.{Loads, names_reserved};
 ghost use Rattle.ft_cli.specs.Loading.{load_reading};
 
 use crate::listener::{INPUT_LIMIT, LINE_LIMIT, Listener, Told};
 use crate::observer::Observer;
 use ft_base::OutOfMemory;
+use ft_msg::Replica;
 use ft_seqr::Refusal;
 use ft_session::Counts;
 use ft_sumdoc::{SumFault, read_summary};
@@ -18,16 +19,15 @@ use std::alloc::Global;
 
 /// The observer of a summary and the messages behind it.
 #[derive(Drop)]
-pub enum LoadRun {
+pub enum LoadRun<R: Replica> {
     /// It waits for its summary.
     Waiting { alloc: Global },
     /// It takes messages.
-    Observing { observer: Observer },
+    Observing { observer: Observer<R> },
 }
 
-impl Listener for LoadRun {
-    ghost use Rattle.std.specs.Prelude.{◌≡◌};
-    ghost use Rattle.ft_cli.specs.LoadRuns.{loading_of, names_reserved};
+impl<R: Replica + Drop> Listener for LoadRun<R> {
+    ghost use Rattle.ft_cli.specs.LoadRuns.{Loads, names_reserved};
     ghost use Rattle.ft_cli.specs.Loading.{Loading};
     ghost use Rattle.ft_cli.specs.Report.{load_form};
 
@@ -35,11 +35,11 @@ impl Listener for LoadRun {
 
     ghost form = { load_form };
 
-    ghost holds = { λ a at. loading_of a ≡ at };
+    ghost holds = { λ a at. Loads R.state a at };
 
     ghost size = { λ a. names_reserved a };
 
-    fn start(alloc: Global) -> Result<LoadRun, OutOfMemory> {
+    fn start(alloc: Global) -> Result<LoadRun<R>, OutOfMemory> {
         Ok(LoadRun::Waiting { alloc })
     }
 
@@ -50,7 +50,7 @@ impl Listener for LoadRun {
         }
     }
 
-    fn take(self, line: &[u8]) -> Result<(LoadRun, Told), OutOfMemory> {
+    fn take(self, line: &[u8]) -> Result<(LoadRun<R>, Told), OutOfMemory> {
         match self {
             LoadRun::Waiting { alloc } => begin(alloc, line),
             LoadRun::Observing { observer } => {
@@ -62,7 +62,7 @@ impl Listener for LoadRun {
 
     fn view_text(&self) -> Result<String, OutOfMemory> {
         match self {
-            LoadRun::Waiting { alloc } => Observer::start(*alloc)?.view_text(),
+            LoadRun::Waiting { alloc } => Observer::<R>::start(*alloc)?.view_text(),
             LoadRun::Observing { observer } => observer.view_text(),
         }
     }
@@ -79,9 +79,9 @@ impl Listener for LoadRun {
 }
 
 // The observer behind the line of the summary, and what is told of that.
-fn begin(alloc: Global, line: &[u8]) -> Result<(LoadRun, Told), OutOfMemory>
+fn begin<R: Replica + Drop>(alloc: Global, line: &[u8]) -> Result<(LoadRun<R>, Told), OutOfMemory>
     requires { length line.now ≤ input_limit }
-    ensures step { IfOk result (λ p. IsStep (λ at. loading_of p.0 ≡ at) p.1 (load_reading (summary line.now))) }
+    ensures step { IfOk result (λ p. IsStep (Loads R.state p.0) p.1 (load_reading (summary line.now))) }
     ensures size { IfOk result (λ p. names_reserved p.0 ≤ input_limit) }
 {
     match read_summary(alloc, line) {

@@ -1,67 +1,54 @@
 //! The observer of a log.
 
-ghost use Rattle.std.specs.Prelude.{◌≡◌, ℕ, ◌+◌, ◌-◌, ◌<◌, ◌≤◌, ◌^◌, List, [], None, IfOk, IsTrue, OnOk, OnErr, length};
+ghost use Rattle.std.specs.Prelude.{◌≡◌, ◌≢◌, ◌+◌, ◌-◌, ◌<◌, ◌≤◌, ◌^◌, IfOk, IsTrue, OnOk, OnErr, length};
 ghost use Rattle.ft_sumdoc.specs.Counts.{are_distinct_names};
 ghost use Rattle.ft_sumdoc.specs.Valid.{IsValidSummary};
 ghost use Rattle.ft_msg.specs.Client.{client_over};
 ghost use Rattle.ft_msg.specs.Process.{process};
-ghost use Rattle.ft_msg.specs.WellFormed.{HasNumbersInRange};
-ghost use Rattle.ft_seqr.specs.Walk.{answers};
-ghost use Rattle.ft_cli.specs.Listening.{told_refusal, told_text};
+ghost use Rattle.ft_msg.specs.WellFormed.{IsWellFormedMessage};
+ghost use Rattle.ft_seqr.specs.Refusals.{refusal_of_process};
+ghost use Rattle.ft_cli.specs.Listening.{IsStep};
 ghost use Rattle.ft_cli.specs.Loading.{observation_of};
-ghost use Rattle.ft_cli.specs.Observation.{numbered_entry, names_with, observe, observe_answer, observe_message};
+ghost use Rattle.ft_cli.specs.Observation.{Observation, numbered_entry, names_with, observe_answer, observe_message};
+ghost use Rattle.ft_cli.specs.Observers.{Observes};
 
 use crate::listener::{LINE_LIMIT, Listener, Told};
 use crate::view_lines::view_text;
 use ft_base::OutOfMemory;
-use ft_document::ObservedDocument;
-use ft_msg::{Cause, Entry, Message, Names, ProcessFault, ViewFault, read_message};
-use ft_plain_summary::reading::document_of;
+use ft_msg::{Cause, Entry, Message, Names, ProcessFault, Replica, ViewFault, read_message};
 use ft_seqr::Refusal;
 use ft_session::Counts;
 use ft_sumdoc::{SumDoc, Texts};
 use std::alloc::Global;
-use std::marker::Model;
 
-/// The observer of a log: a replica that takes its messages and sends none, and that always found
-/// memory. Contracts see it as the names of the connections so far and the document of the messages
-/// that it took.
+/// The observer of a log: the names of the connections so far, and a replica that takes the messages and sends
+/// none, and that always found memory.
 #[derive(Drop)]
-pub struct Observer {
+pub struct Observer<R: Replica> {
     alloc: Global,
     names: Names,
-    replica: ObservedDocument,
+    replica: R,
 }
 
-impl Model for Observer {
-    ghost use Rattle.std.specs.Prelude.{◌≡◌, None};
+impl<R: Replica + Drop> Listener for Observer<R> {
+    ghost use Rattle.std.specs.Prelude.{length};
     ghost use Rattle.ft_cli.specs.Observation.{Observation};
-
-    ghost Value = { Observation };
-
-    ghost view = { λ a. record { names = a.names; doc = a.replica.doc } };
-
-    ghost invariant = { λ a. a.replica.stop ≡ None };
-}
-
-impl Listener for Observer {
-    ghost use Rattle.std.specs.Prelude.{◌≡◌, length};
-    ghost use Rattle.ft_cli.specs.Observation.{Observation};
+    ghost use Rattle.ft_cli.specs.Observers.{Observes};
     ghost use Rattle.ft_cli.specs.Report.{log_form};
 
     ghost Made = { Observation };
 
     ghost form = { log_form };
 
-    ghost holds = { λ a seen. a ≡ seen };
+    ghost holds = { λ a seen. Observes a.names (R.state a.replica) seen };
 
     ghost size = { λ a. length a.names };
 
-    fn start(alloc: Global) -> Result<Observer, OutOfMemory> {
+    fn start(alloc: Global) -> Result<Observer<R>, OutOfMemory> {
         Ok(Observer {
             alloc,
             names: Names::new(alloc),
-            replica: ObservedDocument::start(alloc)?,
+            replica: R::start(alloc)?,
         })
     }
 
@@ -69,16 +56,18 @@ impl Listener for Observer {
         LINE_LIMIT
     }
 
-    fn take(self, line: &[u8]) -> Result<(Observer, Told), OutOfMemory> {
-        let (observer, refusal) = self.take_line(line)?;
-        Ok((observer, told(refusal)))
+    fn take(self, line: &[u8]) -> Result<(Observer<R>, Told), OutOfMemory> {
+        match read_message(self.alloc, line) {
+            Ok(message) => self.take_message(message),
+            Err(Cause::OutOfMemory) => Err(OutOfMemory),
+            Err(cause) => Ok((self, Told::Refused(Refusal::of_cause(cause)))),
+        }
     }
 
     fn view_text(&self) -> Result<String, OutOfMemory> {
         match self.replica.view() {
             Ok(view) => view_text(self.alloc, &view),
-            Err(ViewFault::OutOfMemory) => Err(OutOfMemory),
-            Err(ViewFault::Stopped { .. }) => unreachable!(),
+            Err(ViewFault::OutOfMemory | ViewFault::Stopped { .. }) => Err(OutOfMemory),
         }
     }
 
@@ -91,40 +80,30 @@ impl Listener for Observer {
     }
 }
 
-impl Observer {
+impl<R: Replica + Drop> Observer<R> {
     /// The observer that starts from a summary.
     ///
     /// Answers `OutOfMemory` where there is no room for it.
-    pub fn of_summary(alloc: Global, sum: &SumDoc) -> Result<Observer, OutOfMemory>
+    pub fn of_summary(alloc: Global, sum: &SumDoc) -> Result<Observer<R>, OutOfMemory>
         requires valid { IsValidSummary sum.now }
         requires few { length sum.now.conns < 2 ^ 32 }
-        ensures { IfOk result (λ a. a ≡ observation_of sum.now) }
+        ensures { IfOk result (λ a. Observes a.names (R.state a.replica) (observation_of sum.now)) }
     {
+        let names = table_of(alloc, &sum.conns)?;
+        let replica = R::from_summary(alloc, sum)?;
         Ok(Observer {
             alloc,
-            names: table_of(alloc, &sum.conns)?,
-            replica: ObservedDocument::over(document_of(alloc, sum)?),
+            names,
+            replica,
         })
     }
 
-    // The observer after the message that the line is, and why the line is refused, if it is.
-    fn take_line(self, line: &[u8]) -> Result<(Observer, Option<Refusal>), OutOfMemory>
-        requires { length self.names < 2 ^ 32 - 1 }
-        ensures step { IfOk result (λ p. observe self line.now ≡ answers p.0 p.1) }
-        ensures names { IfOk result (λ p. length p.0.names ≤ length self.names + 1) }
-    {
-        match read_message(self.alloc, line) {
-            Ok(message) => self.take_message(message),
-            Err(Cause::OutOfMemory) => Err(OutOfMemory),
-            Err(cause) => Ok((self, Some(Refusal::of_cause(cause)))),
-        }
-    }
-
-    // The observer after a message, and why the message is refused, if it is.
-    fn take_message(self, msg: Message) -> Result<(Observer, Option<Refusal>), OutOfMemory>
+    // The observer after a message, and what is told of it.
+    fn take_message(self, msg: Message) -> Result<(Observer<R>, Told), OutOfMemory>
         requires room { length self.names < 2 ^ 32 - 1 }
-        requires in_range { HasNumbersInRange msg }
-        ensures step { IfOk result (λ p. observe_message self msg ≡ answers p.0 p.1) }
+        requires formed { IsWellFormedMessage msg }
+        ensures step { (seen : Observation) → Observes self.names (R.state self.replica) seen
+            → IfOk result (λ p. IsStep (Observes p.0.names (R.state p.0.replica)) p.1 (observe_message seen msg)) }
         ensures names { IfOk result (λ p. length p.0.names ≤ length self.names + 1) }
     {
         let Observer {
@@ -133,13 +112,13 @@ impl Observer {
             mut replica,
         } = self;
         let entry = number_sender(&mut names, msg)?;
-        let refusal = give(&mut replica, &entry)?;
+        let told = give(&mut replica, &entry)?;
         let observer = Observer {
             alloc,
             names,
             replica,
         };
-        Ok((observer, refusal))
+        Ok((observer, told))
     }
 }
 
@@ -170,34 +149,26 @@ fn number_sender(names: &mut Names, msg: Message) -> Result<Entry, OutOfMemory>
     Ok(Entry { msg, origin })
 }
 
-// Gives the replica a message, and answers why it is refused, if it is.
-fn give(replica: &mut ObservedDocument, entry: &Entry) -> Result<Option<Refusal>, OutOfMemory>
-    requires in_range { HasNumbersInRange entry.now.msg }
-    requires running { replica.old.stop ≡ None }
-    ensures step { IfOk result (λ refusal. (names : List (List ℕ)) → observe_answer (record { names = names; doc = replica.old.doc })
-        (process (client_over replica.old.doc) entry.now) ≡ answers (record { names = names; doc = replica.new.doc }) refusal) }
-    ensures running { OnOk result (replica.new.stop ≡ None) }
+// Gives the replica a message, and answers what is told of it.
+fn give<R: Replica>(replica: &mut R, entry: &Entry) -> Result<Told, OutOfMemory>
+    requires { IsWellFormedMessage entry.now.msg }
+    ensures { (seen : Observation) → Observes seen.names (R.state replica.old) seen
+        → IfOk result (λ told. IsStep (Observes seen.names (R.state replica.new)) told (observe_answer seen (process (client_over seen.doc) entry.now))) }
 {
     match replica.process(entry) {
-        Ok(()) => Ok(None),
-        Err(ProcessFault::OutOfOrder { expected, got }) => {
-            Ok(Some(Refusal::OutOfOrder { expected, got }))
-        }
-        Err(ProcessFault::BadNumbers { field, kept, got }) => {
-            Ok(Some(Refusal::BadNumbers { field, kept, got }))
-        }
-        Err(ProcessFault::OutOfMemory) => Err(OutOfMemory),
-        Err(ProcessFault::NotSent | ProcessFault::Stopped { .. }) => unreachable!(),
+        Ok(()) => Ok(Told::Nothing),
+        Err(fault) => told_of(entry.msg.seq, fault),
     }
 }
 
-// What is told of a line that writes nothing but its refusal, if it is refused.
-fn told(refusal: Option<Refusal>) -> Told
-    ensures refusal { told_refusal result ≡ refusal }
-    ensures silent { told_text result ≡ [] }
+// What is told of the message with this number for this fault of a replica; a stop was want of memory.
+fn told_of(number: u64, fault: ProcessFault) -> Result<Told, OutOfMemory>
+    ensures refusal { IfOk result (λ told. told ≡ Told.Refused (refusal_of_process number fault)) }
+    ensures found { IfOk result (λ told. fault ≢ ProcessFault.OutOfMemory) }
 {
-    match refusal {
-        Some(refusal) => Told::Refused(refusal),
-        None => Told::Nothing,
+    match fault {
+        ProcessFault::OutOfMemory | ProcessFault::Stopped { .. } => Err(OutOfMemory),
+        ProcessFault::OutOfOrder { .. } | ProcessFault::BadNumbers { .. } | ProcessFault::NotSent =>
+            Ok(Told::Refused(Refusal::of_process(number, fault))),
     }
 }

@@ -12,6 +12,7 @@ ghost use Rattle.ft_cli.specs.Playing.{HasShown, Plays};
 ghost use Rattle.ft_cli.specs.Words.{IsWithinLimits};
 ghost use Rattle.ft_cli.specs.Writing.{WritesBytes};
 
+use crate::RunReplica;
 use crate::generated::session_events;
 use crate::report::closing_text;
 use crate::showing::Showing;
@@ -21,7 +22,6 @@ use crate::words::Settings;
 use crate::writing::put;
 use ft_base::OutOfMemory;
 use ft_io::Sink;
-use ft_plain::Plain;
 use ft_seqr::{Event, Refusal};
 use ft_session::{Out, World};
 use std::alloc::Global;
@@ -31,7 +31,7 @@ use std::alloc::Global;
 #[derive(Drop)]
 pub struct Play {
     alloc: Global,
-    world: World<Plain>,
+    world: World<RunReplica>,
     refused: u64,
     showing: Showing,
 }

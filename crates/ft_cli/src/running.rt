@@ -11,6 +11,7 @@ ghost use Rattle.ft_cli.specs.Listening.{Follows};
 ghost use Rattle.ft_cli.specs.Report.{account_of, report};
 ghost use Rattle.ft_cli.specs.Run.{EndsWhole, EndsWholeOrWanting, IsUndisturbed, Moves, Says, SaysForWords, SaysOfLines, end_status};
 
+use crate::RunReplica;
 use crate::generated::write_generated;
 use crate::listener::{LINE_LIMIT, Listener};
 use crate::loading::LoadRun;
@@ -56,8 +57,8 @@ pub fn run<S: Source, K: Sink>(
         (Rose (S.faults src.old) (S.faults src.new)) (Rose (K.faults out.old) (K.faults out.new)) → EndsWholeOrWanting result) }
 {
     match read_words(words) {
-        Some(Form::Log) => listen::<Observer, S, K>(alloc, src, out),
-        Some(Form::Load) => listen::<LoadRun, S, K>(alloc, src, out),
+        Some(Form::Log) => listen::<Observer<RunReplica>, S, K>(alloc, src, out),
+        Some(Form::Load) => listen::<LoadRun<RunReplica>, S, K>(alloc, src, out),
         Some(Form::Session) => session(alloc, src, out),
         Some(Form::Gen(settings)) => ended(write_generated(alloc, settings, out)),
         Some(Form::Play(settings)) => ended(write_play(alloc, settings, out)),

@@ -7,10 +7,10 @@ ghost use Rattle.ft_seqr.specs.World.{NaiveWorld, step};
 ghost use Rattle.ft_session.specs.Worlds.{WorldStands};
 ghost use Rattle.ft_cli.specs.Listening.{IsStep};
 
+use crate::RunReplica;
 use crate::event_lines::told_output;
 use crate::listener::{LINE_LIMIT, Listener, Told};
 use ft_base::OutOfMemory;
-use ft_plain::Plain;
 use ft_seqr::{Event, Refusal, read_event};
 use ft_session::{Counts, World};
 use ft_worlds::formed::reads_are_well_formed;
@@ -21,7 +21,7 @@ use std::alloc::Global;
 #[derive(Drop)]
 pub struct SessionRun {
     alloc: Global,
-    world: World<Plain>,
+    world: World<RunReplica>,
 }
 
 impl Listener for SessionRun {

@@ -1,6 +1,5 @@
--- The intervals after the stages of edit after edit.
+-- The intervals after some stages and then others; which interval operations are taken.
 use Rattle.std.proofs.Common.{◌≡◌, ℕ, ◌-◌, Bool, true, cond, List, [], ◌∷◌, ◌++◌, None, Ok, Err, refl, sym, ◌∙◌, ap}
-use Rattle.std.specs.Prelude.{flat_map}
 use Rattle.ft_op.specs.declared.operations.TextOp.{TextOp}
 use Rattle.ft_msg.specs.declared.faults.EditFault.TheVariants.{OutOfRange}
 use Rattle.ft_base.specs.Scan.{len}
@@ -8,24 +7,13 @@ use Rattle.ft_props.specs.Element.{ListElement, seen}
 use Rattle.ft_op.specs.Document.{Document, elements_at_given_ends, ends_of, given_ends_fit}
 use Rattle.ft_op.specs.Intervals.{Interval, NamedElements, settle_elements, settle_ends}
 use Rattle.ft_op.specs.Stages.{Stage, intervals_after_stage, shown_intervals}
-use Rattle.ft_msg.specs.Client.{EditResult, PendingEdit, id_fault, local_interval, unless_fault}
+use Rattle.ft_msg.specs.Client.{EditResult, id_fault, local_interval, unless_fault}
 
 -- after some stages and then others
 pub shown-append : (xs : List ListElement) (is : List Interval) (first rest : List Stage)
     → shown_intervals xs is (first ++ rest) ≡ shown_intervals xs (shown_intervals xs is first) rest
 shown-append xs is [] rest = refl
 shown-append xs is (t ∷ first) rest = shown-append xs (intervals_after_stage t.sub_operation (settle_elements xs t.stage t.names) (settle_ends xs t.stage is)) first rest
-
--- one edit more is gone through
-pub settled-next : (xs items : List ListElement) (shown next all : List Interval) (e : PendingEdit) (edits rest : List PendingEdit) (stages : List Stage)
-    → edits ≡ e ∷ rest → items ≡ xs → stages ≡ e.stages → next ≡ shown_intervals items shown stages
-    → shown_intervals xs shown (flat_map (λ e. e.stages) edits) ≡ all → shown_intervals xs next (flat_map (λ e. e.stages) rest) ≡ all
-settled-next xs items shown next all e edits rest stages at_front of_text of_edit made so_far =
-    let after : next ≡ shown_intervals xs shown e.stages = made ∙ ap (λ ys. shown_intervals ys shown stages) of_text ∙ ap (shown_intervals xs shown) of_edit in
-    ap (λ is. shown_intervals xs is (flat_map (λ e. e.stages) rest)) after
-    ∙ sym (shown-append xs shown e.stages (flat_map (λ e. e.stages) rest))
-    ∙ ap (λ (es : List PendingEdit). shown_intervals xs shown (flat_map (λ e. e.stages) es)) (sym at_front)
-    ∙ so_far
 
 -- an interval operation of the client's own is taken whose id and whose ends fit
 pub ends-taken : (doc : Document) (stages : List Stage) (k : ℕ) (op : TextOp) (named : NamedElements)

@@ -1,6 +1,3 @@
-pub mod KeptNumbers
-pub mod LastNumbers
-pub mod Observed
 pub mod OwnEdits
 pub mod Renamed
 pub mod SubOperations

@@ -1,13 +1,10 @@
 //! The document of a plain replica, and what sequenced messages make of it.
 
-ghost use Rattle.std.specs.Prelude.{◌≡◌, ◌+◌, ◌<◌, ◌≤◌, ◌^◌, None, Some, OnOk, OnErr, length, pos};
+ghost use Rattle.std.specs.Prelude.{◌≡◌, ◌<◌, ◌^◌, OnOk, OnErr, length};
 ghost use Rattle.ft_op.specs.Operation.{sub_operations};
 ghost use Rattle.ft_op.specs.Document.{effects, empty, with_skip};
 ghost use Rattle.ft_msg.specs.Agreed.{body_effect, reference_number, take_entry, with_numbers};
-ghost use Rattle.ft_msg.specs.Client.{client_over};
-ghost use Rattle.ft_msg.specs.Process.{numbers_fault, process_fault};
 ghost use Rattle.ft_msg.specs.WellFormed.{HasNumbersInRange};
-ghost use Rattle.ft_document.specs.Observed.{observer_numbers};
 
 mod acknowledgements;
 pub mod building;
@@ -23,13 +20,13 @@ pub mod rebuilding;
 mod text_effects;
 mod trimming;
 
+use building::DocumentNumbers;
 use ft_base::{OutOfMemory, Perspective};
 use ft_elements::cells::PlainCells;
 use ft_elements::elements::PlainElement;
 use ft_elements::intervals::{PlainInterval, PlainIntervals};
 use ft_elements::lists::PlainList;
-use ft_json::Field;
-use ft_msg::{Body, Entry, Link, MsgKind, Numbers, ProcessFault};
+use ft_msg::{Body, Entry};
 use ft_op::ChannelOp;
 use std::alloc::Global;
 use std::marker::Model;
@@ -84,16 +81,18 @@ impl PlainDocument {
 
     /// The last number.
     pub fn number(&self) -> u64
-        ensures { result ≡ self.now.number }
+        ensures told { result ≡ self.now.number }
+        ensures small { result < 2 ^ 53 }
     {
         self.number
     }
 
-    /// The number of the next message.
-    pub fn next_number(&self) -> u64
-        ensures { result ≡ self.now.number + 1 }
+    /// The last minimum.
+    pub fn minimum(&self) -> u64
+        ensures told { result ≡ self.now.minimum }
+        ensures small { result < 2 ^ 53 }
     {
-        self.number + 1
+        self.minimum
     }
 
     /// The elements of the text, removed ones included.
@@ -132,84 +131,26 @@ impl PlainDocument {
         &self.cells
     }
 
-    /// The numbers of an observer over it.
-    pub fn numbers(&self) -> Numbers
-        ensures { result ≡ observer_numbers self.now }
+    /// Its numbers.
+    pub fn numbers(&self) -> DocumentNumbers
+        ensures { result ≡ record { skipped = self.now.skipped; other = self.now.other; number = self.now.number; minimum = self.now.minimum } }
     {
-        Numbers {
-            seq: self.number,
-            min: self.minimum,
-            pending: 0,
+        DocumentNumbers {
             skipped: self.skipped,
             other: self.other,
-            made: self.text.made().max(self.rows.made().max(self.cols.made())),
-            link: Link::Offline,
+            number: self.number,
+            minimum: self.minimum,
         }
-    }
-
-    /// Why an observer refuses the entry, if it does: it isn't the next one, or its numbers
-    /// contradict what is kept.
-    pub fn process_fault(&self, entry: &Entry) -> Option<ProcessFault>
-        requires { HasNumbersInRange entry.now.msg }
-        ensures fault { result ≡ process_fault (client_over self.now) entry.now }
-        ensures next { result ≡ None → entry.now.msg.seq ≡ self.now.number + 1 }
-    {
-        if entry.msg.seq != self.number + 1 {
-            return Some(ProcessFault::OutOfOrder {
-                expected: self.number + 1,
-                got: entry.msg.seq,
-            });
-        }
-        self.numbers_fault(entry)
-    }
-
-    /// The first of the conditions on its numbers that the entry breaks.
-    pub fn numbers_fault(&self, entry: &Entry) -> Option<ProcessFault>
-        requires { HasNumbersInRange entry.now.msg }
-        ensures { result ≡ numbers_fault (client_over self.now) entry.now }
-    {
-        let m = &entry.msg;
-        let is_op = matches!(m.kind, MsgKind::Op);
-        if is_op && m.ref_seq < self.minimum as i64 {
-            return Some(ProcessFault::BadNumbers {
-                field: Field::ReferenceSequenceNumber,
-                kept: self.minimum,
-                got: m.ref_seq,
-            });
-        }
-        if is_op && (self.number as i64) < m.ref_seq {
-            return Some(ProcessFault::BadNumbers {
-                field: Field::ReferenceSequenceNumber,
-                kept: self.number,
-                got: m.ref_seq,
-            });
-        }
-        if m.min < self.minimum {
-            return Some(ProcessFault::BadNumbers {
-                field: Field::MinimumSequenceNumber,
-                kept: self.minimum,
-                got: m.min as i64,
-            });
-        }
-        if m.seq < m.min {
-            return Some(ProcessFault::BadNumbers {
-                field: Field::MinimumSequenceNumber,
-                kept: m.seq,
-                got: m.min as i64,
-            });
-        }
-        None
     }
 
     /// Takes an entry.
     ///
-    /// Answers `OutOfMemory` where there is no room, the count of skipped sub-operations would pass
-    /// 2^64 - 1, or that of the elements of a list 2^53 - 1, and then nothing is said of the document.
+    /// Answers `OutOfMemory` where there is no room, the count of skipped sub-operations or that of
+    /// messages for others would pass 2^64 - 1, or that of the elements of a list 2^53 - 1, and then
+    /// nothing is said of the document.
     pub fn take(&mut self, entry: &Entry) -> Result<(), OutOfMemory>
-        requires in_range { HasNumbersInRange entry.now.msg }
-        requires others { self.old.other < 2 ^ 54 }
-        ensures taken { OnOk result (self.new ≡ take_entry self.old entry.now) }
-        ensures others { OnOk result (self.new.other ≤ self.old.other + 1) }
+        requires { HasNumbersInRange entry.now.msg }
+        ensures { OnOk result (self.new ≡ take_entry self.old entry.now) }
     {
         let at = Perspective {
             r: reference_number(entry.msg.ref_seq),
@@ -231,14 +172,13 @@ impl PlainDocument {
 
     /// Takes the body of a message with number `seq`.
     fn take_body(&mut self, body: &Body, seq: u64, at: Perspective) -> Result<(), OutOfMemory>
-        requires { self.old.other < 2 ^ 54 }
         ensures { OnOk result (self.new ≡ body_effect self.old seq at.c at.r body.now) }
     {
         match body {
             Body::Nothing => Ok(()),
             Body::Op(op) => self.apply(op, seq, at),
             Body::Elsewhere(_) => {
-                self.other += 1;
+                self.other = self.other.checked_add(1).ok_or(OutOfMemory)?;
                 Ok(())
             }
         }

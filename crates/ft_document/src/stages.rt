@@ -1,8 +1,8 @@
 //! Pending stages and pending edits.
 
-ghost use Rattle.std.specs.Prelude.{◌≡◌, [], ◌∷◌, ◌++◌, IfOk, OnOk, OnErr, length, map};
+ghost use Rattle.std.specs.Prelude.{◌≡◌, ◌≤◌, [], ◌∷◌, ◌++◌, IfOk, OnOk, OnErr, drop, length, map, take};
 ghost use Rattle.ft_op.specs.Operation.{OnGrid, OnText, sub_operations};
-ghost use Rattle.ft_msg.specs.Acknowledgement.{renamed_edit, renamed_stage};
+ghost use Rattle.ft_msg.specs.Acknowledgement.{renamed_stage};
 ghost use Rattle.ft_document.specs.Renamed.{renaming_of};
 ghost use Rattle.ft_document.specs.SubOperations.{sub_operation_of};
 
@@ -166,7 +166,7 @@ impl PlainStage {
     }
 }
 
-/// The stages of an edit, in order.
+/// Stages in order.
 #[derive(Drop)]
 pub struct PlainStages {
     items: Vec<PlainStage>,
@@ -202,6 +202,30 @@ impl PlainStages {
         Ok(())
     }
 
+    /// Adds all of another list behind these.
+    ///
+    /// Answers `OutOfMemory` where there is no room for them, and then the list is as it was.
+    pub fn append(&mut self, mut more: PlainStages) -> Result<(), OutOfMemory>
+        ensures ok { OnOk result (self.new ≡ self.old ++ more) }
+        ensures err { OnErr result (self.new ≡ self.old) }
+    {
+        self.items.append(&mut more.items)?;
+        Ok(())
+    }
+
+    /// Takes all but the first `count` off.
+    ///
+    /// Answers `OutOfMemory` where there is no room for them.
+    pub fn split_off(&mut self, count: usize) -> Result<PlainStages, OutOfMemory>
+        requires { count ≤ length self.old }
+        ensures first { OnOk result (self.new ≡ take count self.old) }
+        ensures rest { IfOk result (λ rest. rest ≡ drop count self.old) }
+    {
+        Ok(PlainStages {
+            items: self.items.split_off(count)?,
+        })
+    }
+
     /// How many there are.
     pub fn len(&self) -> usize
         ensures { result ≡ length self.now }
@@ -212,7 +236,7 @@ impl PlainStages {
     /// Gives the elements that each names their new names.
     ///
     /// Answers `OutOfMemory` where a number would pass 2^64 - 1, and then some may have theirs.
-    fn rename(&mut self, renaming: &Renaming) -> Result<(), OutOfMemory>
+    pub fn rename(&mut self, renaming: &Renaming) -> Result<(), OutOfMemory>
         ensures { OnOk result (self.new ≡ map (renamed_stage (renaming_of renaming.now)) self.old) }
     {
         for stage in self.items.iter_mut() {
@@ -226,114 +250,5 @@ impl PlainStages {
         ensures { result.now ≡ self.now }
     {
         self.items.as_slice()
-    }
-}
-
-/// As what an edit was sent: its connection, its client sequence number, its operation.
-#[derive(Drop)]
-pub struct PlainSent {
-    conn: u32,
-    client_seq: u64,
-    op: ChannelOp,
-}
-
-impl Model for PlainSent {
-    ghost use Rattle.ft_msg.specs.Client.{SentAs};
-
-    ghost Value = { SentAs };
-
-    ghost view = { λ a. record { conn = a.conn; client_seq = a.client_seq; op = a.op } };
-}
-
-impl PlainSent {
-    /// These parts.
-    pub fn new(conn: u32, client_seq: u64, op: ChannelOp) -> PlainSent
-        ensures { result ≡ record { conn = conn; client_seq = client_seq; op = op } }
-    {
-        PlainSent {
-            conn,
-            client_seq,
-            op,
-        }
-    }
-
-    /// The connection.
-    pub fn conn(&self) -> u32
-        ensures { result ≡ self.now.conn }
-    {
-        self.conn
-    }
-
-    /// The client sequence number.
-    pub fn client_seq(&self) -> u64
-        ensures { result ≡ self.now.client_seq }
-    {
-        self.client_seq
-    }
-
-    /// The operation.
-    pub fn op(&self) -> &ChannelOp
-        ensures { result.now ≡ self.now.op }
-    {
-        &self.op
-    }
-}
-
-/// A pending edit: its stages, its reference number, and as what it was sent, if it was.
-#[derive(Drop)]
-pub struct PlainEdit {
-    stages: PlainStages,
-    ref_seq: u64,
-    sent: Option<PlainSent>,
-}
-
-impl Model for PlainEdit {
-    ghost use Rattle.ft_msg.specs.Client.{PendingEdit};
-
-    ghost Value = { PendingEdit };
-
-    ghost view = { λ a. record { stages = a.stages; ref_seq = a.ref_seq; sent = a.sent } };
-}
-
-impl PlainEdit {
-    /// The edit with these parts.
-    pub fn new(stages: PlainStages, ref_seq: u64, sent: Option<PlainSent>) -> PlainEdit
-        ensures { result ≡ record { stages = stages; ref_seq = ref_seq; sent = sent } }
-    {
-        PlainEdit {
-            stages,
-            ref_seq,
-            sent,
-        }
-    }
-
-    /// Its stages in order.
-    pub fn stages(&self) -> &[PlainStage]
-        ensures { result.now ≡ self.now.stages }
-    {
-        self.stages.as_slice()
-    }
-
-    /// Gives the elements that its stages name their new names.
-    ///
-    /// Answers `OutOfMemory` where a number would pass 2^64 - 1, and then some may have theirs.
-    pub fn rename(&mut self, renaming: &Renaming) -> Result<(), OutOfMemory>
-        ensures { OnOk result (self.new ≡ renamed_edit (renaming_of renaming.now) self.old) }
-    {
-        self.stages.rename(renaming)
-    }
-
-    /// Its reference number.
-    pub fn ref_seq(&self) -> u64
-        ensures { result ≡ self.now.ref_seq }
-    {
-        self.ref_seq
-    }
-
-    /// As what it was sent, if it was.
-    pub fn sent(&self) -> &Option<PlainSent>
-        ensures { result.now ≡ self.now.sent }
-    {
-        &self.sent
     }
 }

@@ -8,7 +8,8 @@ use Rattle.ft_msg.specs.Content.{extended_property_runs, property_runs_from}
 use Rattle.ft_sumdoc.specs.WellFormed.{same_props}
 use Rattle.ft_props.specs.Element.{ListElement}
 use Rattle.ft_props.specs.Properties.{PropertyList}
-use Rattle.ft_elements.proofs.Tested.{tested}
+use Rattle.std.proofs.lemmas.Bool.Decides.{same_from_decides}
+use Rattle.ft_base.proofs.Booleans.{all_three}
 use Rattle.ft_elements.specs.PropertyRuns.{all_shown_props, runs_before}
 
 -- the test of equal properties decides equality
@@ -16,18 +17,12 @@ same_props-itself : (ps : PropertyList) → same_props ps ps ≡ true
 same_props-itself [] = refl
 same_props-itself (p ∷ ps) = grind (arith, (bytes_eq-Decides p.0 p.0).1 refl, (bytes_eq-Decides p.1 p.1).1 refl, same_props-itself ps)
 
-both : (a b c : Bool) → (a && b && c) ≡ true → (a ≡ true) × (b ≡ true) × (c ≡ true)
-both true true true h = (refl, refl, refl)
-both true true false h = absurd cc
-both true false c h = absurd cc
-both false b c h = absurd cc
-
 same_from_same_props : (ps qs : PropertyList) → same_props ps qs ≡ true → ps ≡ qs
 same_from_same_props [] [] h = refl
 same_from_same_props [] (q ∷ qs) h = absurd cc
 same_from_same_props (p ∷ ps) [] h = absurd cc
 same_from_same_props ((k, v) ∷ ps) ((l, w) ∷ qs) h =
-    let parts = both (bytes_eq k l) (bytes_eq v w) (same_props ps qs) h in
+    let parts = all_three (bytes_eq k l) (bytes_eq v w) (same_props ps qs) h in
     let keys = (bytes_eq-Decides k l).0 parts.0 in
     let values = (bytes_eq-Decides v w).0 parts.1 in
     let rest = same_from_same_props ps qs parts.2 in
@@ -35,7 +30,8 @@ same_from_same_props ((k, v) ∷ ps) ((l, w) ∷ qs) h =
 
 -- what a comparison of properties answers is that test
 pub same_props-is : (r : Bool) (ps qs : PropertyList) → IsTrue r ↔ (ps ≡ qs) → same_props ps qs ≡ r
-same_props-is r ps qs h = tested r (same_props ps qs) (λ e. h.1 (same_from_same_props ps qs e)) (λ e. subst (λ xs. same_props ps xs ≡ true) (h.0 e) (same_props-itself ps))
+same_props-is r ps qs h =
+    same_from_decides (same_props ps qs) r (same_from_same_props ps qs, λ e. subst (λ xs. same_props ps xs ≡ true) e (same_props-itself ps)) h
 
 -- the run of one element
 abbrev pub one_run : ℕ → PropertyList → Run
@@ -46,17 +42,8 @@ extended-first : (i : ℕ) (props : PropertyList) (run : Run) (runs : List Run) 
 extended-first i [] run runs h = absurd (h refl)
 extended-first i (p ∷ ps) run runs h = refl
 
-extended-none : (i : ℕ) (props : PropertyList) → (props ≡ [] → ⊥) → extended_property_runs i props [] ≡ one_run i props ∷ []
-extended-none i [] h = absurd (h refl)
-extended-none i (p ∷ ps) h = refl
-
 reverse-push : (runs : List Run) (run : Run) → reverse (runs ++ run ∷ []) ≡ run ∷ reverse runs
 reverse-push runs run = reverse-append runs (run ∷ [])
-
--- a run before none
-pub run-alone : (i : ℕ) (props : PropertyList) (old new : List Run) → (props ≡ [] → ⊥) → old ≡ [] → new ≡ one_run i props ∷ [] → reverse new ≡
-    extended_property_runs i props (reverse old)
-run-alone i props old new filled none made = ap reverse made ∙ sym (extended-none i props filled) ∙ ap (λ runs. extended_property_runs i props (reverse runs)) (sym none)
 
 -- an element that the first run goes on with
 pub run-joined : (i : ℕ) (props : PropertyList) (rest old new : List Run) (first : Run) → (props ≡ [] → ⊥) → old ≡ rest ++ first ∷ []

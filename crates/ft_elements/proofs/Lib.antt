@@ -1,4 +1,5 @@
 pub mod BackwardRuns
+pub mod CharacterContents
 pub mod HeldElements
 pub mod NamedLists
 pub mod NotedAnswers
@@ -9,4 +10,3 @@ pub mod PlacedRuns
 pub mod PushedCharacter
 pub mod RisingPlace
 pub mod SettledName
-pub mod Tested

@@ -1,6 +1,6 @@
 //! The elements of a plain replica.
 
-ghost use Rattle.std.specs.Prelude.{◌≡◌, [], None, IfOk, OnOk, OnErr};
+ghost use Rattle.std.specs.Prelude.{◌≡◌, [], None, IfOk, OnOk, OnErr, chars, map};
 ghost use Rattle.std.specs.List.{list_any};
 ghost use Rattle.ft_base.specs.Visibility.{has_occurred, has_occurred_at_stage, is_acked};
 ghost use Rattle.ft_props.specs.Element.{has_id, id as name_of_element, is_pending, is_sequenced, is_unremoved, removal_stamp, seen, seen_by, with_annotation, with_removal};
@@ -27,6 +27,16 @@ pub enum Content {
     Marker(u64),
     /// A row or a column.
     Unit,
+}
+
+/// The characters of the text as contents.
+///
+/// Answers `OutOfMemory` where there is no room for them.
+pub fn characters(alloc: Global, text: &str) -> Result<Vec<Content>, OutOfMemory>
+    ensures { IfOk result (λ v. v.items ≡ map (λ c. Content.Character c) (chars text.now)) }
+{
+    let contents = text.chars().map(Content::Character).collect(alloc)?;
+    Ok(contents)
 }
 
 /// An element of the text, the rows or the columns. One that was removed stays as a tombstone.

@@ -1,6 +1,3 @@
-pub mod LinkedDocuments
-pub mod OwnSteps
+pub mod PlainSteps
 pub mod RefusedEdits
-pub mod SummaryStarts
-pub mod ToldSummaries
 pub mod WrittenValues

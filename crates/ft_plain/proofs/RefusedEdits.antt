@@ -4,7 +4,6 @@ use Rattle.ft_op.specs.declared.operations.BaseOp.{BaseOp}
 use Rattle.ft_op.specs.declared.operations.BaseOp.TheVariants.{Insert, Remove, Annotate}
 use Rattle.ft_op.specs.declared.operations.CellOp.{CellOp}
 use Rattle.ft_op.specs.declared.operations.CellOp.TheVariants.{SpliceIn, SpliceOut, Set}
-use Rattle.ft_op.specs.declared.operations.ChannelOp.{ChannelOp}
 use Rattle.ft_op.specs.declared.operations.TextOp.{TextOp}
 use Rattle.ft_op.specs.declared.operations.TextOp.TheVariants.{One, Group, IntervalAdd, IntervalChange, IntervalDelete}
 use Rattle.ft_msg.specs.declared.faults.EditFault.{EditFault}
@@ -13,11 +12,11 @@ use Rattle.ft_base.specs.Scan.{at, len}
 use Rattle.ft_props.specs.Element.{ListElement, seen}
 use Rattle.ft_op.specs.Document.{Document, ends_of, given_ends_fit}
 use Rattle.ft_op.specs.Intervals.{Interval, has_interval}
-use Rattle.ft_op.specs.Operation.{OnGrid, OnIntervals, OnText, SubOperation, sub_operations}
+use Rattle.ft_op.specs.Operation.{OnGrid, OnIntervals, OnText, SubOperation}
 use Rattle.ft_op.specs.Stages.{Stage, shown_intervals}
 use Rattle.ft_msg.specs.Answers.{Refusal, edit_fault_kind}
-use Rattle.ft_msg.specs.Client.{EditResult, NaiveClient, after_edit, id_fault, if_in_range, local_edit, local_grid}
-use Rattle.ft_msg.specs.Client.{local_interval, local_set, local_sub_operation, local_sub_operations, local_text, stages_of, unless_fault}
+use Rattle.ft_msg.specs.Client.{EditResult, id_fault, if_in_range, local_grid}
+use Rattle.ft_msg.specs.Client.{local_interval, local_set, local_sub_operation, local_sub_operations, local_text, unless_fault}
 
 -- what fails is a refusal
 abbrev OnlyRefuses : {A : Type 0} → Result A EditFault → Type 0
@@ -101,14 +100,7 @@ all-refuse doc stages k (op ∷ ops) = go (local_sub_operation doc stages k op) 
         let here : Stage = record { stage = k; sub_operation = op; names = taken.1 } in
         first-refuses here (local_sub_operations taken.0 (stages ++ (here ∷ [])) (k + 1) ops) (rest taken.0 (stages ++ (here ∷ [])))
 
-edit-refuses : (x : NaiveClient) (op : ChannelOp) → OnlyRefuses (local_edit x op)
-edit-refuses x op = go (local_sub_operations x.doc (stages_of x) (x.last_stage + 1) (sub_operations op)) (all-refuse x.doc (stages_of x) (x.last_stage + 1) (sub_operations op))
-  where
-    go : (r : Result (Document × List Stage) EditFault) → OnlyRefuses r
-        → OnlyRefuses (elim r as (λ _. Result NaiveClient EditFault) [ Err fault ↦ Err fault | Ok taken ↦ Ok (after_edit op taken.0 taken.1 x) ])
-    go (Err fault) h = h
-    go (Ok taken) h = tt
-
 -- the fault of a refused edit is a refusal
-pub edit-refusal : (x : NaiveClient) (op : ChannelOp) (fault : EditFault) → local_edit x op ≡ Err fault → edit_fault_kind fault ≡ Refusal
-edit-refusal x op fault h = let P : Result NaiveClient EditFault → Type 0 = λ r. OnlyRefuses r in subst P h (edit-refuses x op)
+pub steps-refusal : (doc : Document) (stages : List Stage) (k : ℕ) (ops : List SubOperation) (fault : EditFault) → local_sub_operations doc stages k ops ≡ Err fault
+    → edit_fault_kind fault ≡ Refusal
+steps-refusal doc stages k ops fault h = let P : Result (Document × List Stage) EditFault → Type 0 = λ r. OnlyRefuses r in subst P h (all-refuse doc stages k ops)

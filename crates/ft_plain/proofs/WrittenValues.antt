@@ -1,59 +1,16 @@
 -- What is shown of the cells with pending writes on top is what is shown of the cells after those writes.
-use Rattle.std.proofs.Common.{◌≡◌, ℕ, ◌+◌, Bool, true, false, cond, nat_eq, not, ◌&&◌, List, [], ◌∷◌, ◌++◌, Option, Some, None, refl, ◌∙◌, ap, arith, filter, option_map}
-use Rattle.std.proofs.lemmas.Bool.Decides.{nat_tests}
-use Rattle.ft_base.proofs.Booleans.{both}
+use Rattle.std.proofs.Common.{◌≡◌, ℕ, ◌+◌, Bool, true, false, cond, ◌&&◌, List, [], ◌∷◌, ◌++◌, Option, Some, None, refl, ◌∙◌, ap}
 use Rattle.ft_op.specs.declared.operations.CellOp.TheVariants.{SpliceIn, SpliceOut, Set}
-use Rattle.ft_props.specs.Element.{ElementId, ListElement, PendingId, SequencedId, id, is_named_by, same_id}
+use Rattle.ft_props.specs.Element.{ElementId, ListElement, id, is_named_by, same_id}
 use Rattle.ft_props.specs.Properties.{ValueBytes}
-use Rattle.ft_op.specs.Cells.{Cell, cell_value, is_cell, put_cell, write_cell}
+use Rattle.ft_op.specs.Cells.{Cell, cell_value}
 use Rattle.ft_op.specs.Intervals.{NamedElements}
 use Rattle.ft_op.specs.Operation.{OnGrid, OnIntervals, OnText, SubOperation}
 use Rattle.ft_op.specs.Stages.{Stage}
 use Rattle.ft_msg.specs.Acknowledgement.{cells_after_stage, write_named_cell}
 use Rattle.ft_msg.specs.Content.{all_cells, cell_after_stage, cell_record, row_cells, shown_cell_value, value_unless_null}
+use Rattle.ft_laws.proofs.CellValues.{value-write}
 use Rattle.ft_document.specs.WrittenCells.{cells_after_stages}
-
-same_number : (m n : ℕ) → nat_eq m n ≡ true → m ≡ n
-same_number m n h = grind (arith, nat_tests)
-
-same_id-eq : (a b : ElementId) → same_id a b ≡ true → a ≡ b
-same_id-eq (SequencedId m) (SequencedId n) h = ap SequencedId (same_number m n h)
-same_id-eq (SequencedId m) (PendingId k n) h = (cc)
-same_id-eq (PendingId j m) (SequencedId n) h = (cc)
-same_id-eq (PendingId j m) (PendingId k n) h =
-    let parts = both (nat_eq j k) (nat_eq m n) h in
-    ap (λ i. PendingId i m) (same_number j k parts.0) ∙ ap (PendingId k) (same_number m n parts.1)
-
--- two cells of one row and column are looked for alike
-alike : (row col : ElementId) (a b : Cell) → is_cell a.row a.col b ≡ true → is_cell row col b ≡ is_cell row col a
-alike row col a b h =
-    let parts = both (same_id a.row b.row) (same_id a.col b.col) h in
-    rw (same_id-eq a.row b.row parts.0, same_id-eq a.col b.col parts.1) refl
-
--- a cell of another row or column isn't the one that is looked for
-apart : (row col : ElementId) (a b : Cell) → is_cell a.row a.col b ≡ false → is_cell row col a ≡ true → is_cell row col b ≡ false
-apart row col a b h k =
-    let parts = both (same_id row a.row) (same_id col a.col) k in
-    rw (same_id-eq row a.row parts.0, same_id-eq col a.col parts.1) h
-
-module _ (row col : ElementId) (cell : Cell) where
-  value-put : (cells : List Cell) → cell_value row col (put_cell cell cells) ≡ cond (is_cell row col cell) (Some cell.value) (cell_value row col cells)
-  value-put [] = alone (is_cell row col cell)
-    where
-      alone : (b : Bool) → option_map (λ (c : Cell). c.value) (cond b (Some cell) None) ≡ cond b (Some cell.value) None
-      alone true = refl
-      alone false = refl
-  value-put (other ∷ cells) =
-      grind (arith, value-put cells, alike row col cell other, apart row col cell other)
-
-  value-filter : (cells : List Cell) → cell_value row col (filter (λ other. not (is_cell cell.row cell.col other)) cells) ≡ cond (is_cell row col cell) None
-      (cell_value row col cells)
-  value-filter [] = grind arith
-  value-filter (other ∷ cells) =
-      grind (arith, value-filter cells, alike row col cell other, apart row col cell other)
-
-  value-write : (cells : List Cell) → cell_value row col (write_cell cell cells) ≡ cond (is_cell row col cell) (value_unless_null cell.value) (cell_value row col cells)
-  value-write cells = grind (arith, value-put cells, value-filter cells)
 
 -- ---- stages
 

@@ -1,4 +1,2 @@
-pub mod ClientAnswers
+pub mod Cut
 pub mod Own
-pub mod Stopping
-pub mod Unsent

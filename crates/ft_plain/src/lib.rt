@@ -3,7 +3,11 @@
 //! A call that can't answer `OutOfMemory` takes no memory.
 #![tactic(auto)]
 
-pub mod client;
-pub mod plain;
+pub mod own;
+mod resent;
 
-pub use plain::Plain;
+use ft_replica::ReplicaOver;
+pub use own::PlainOwn;
+
+/// A client over plain lists, one `Vec` a list, removed elements included.
+pub type Plain = ReplicaOver<PlainOwn>;

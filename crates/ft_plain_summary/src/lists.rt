@@ -1,13 +1,13 @@
 //! The lists that a summary gives.
 
-ghost use Rattle.std.specs.Prelude.{◌≡◌, ◌+◌, ◌++◌, [], None, Some, IfOk, OnOk, chars, length, map, replicate};
+ghost use Rattle.std.specs.Prelude.{◌≡◌, ◌+◌, ◌++◌, [], None, Some, IfOk, OnOk, length, map, replicate};
 ghost use Rattle.ft_props.specs.Element.{GridUnit, new_elements};
 ghost use Rattle.ft_msg.specs.Summary.{list_of, run_items, segment_bodies, segment_items, stamp_of};
 ghost use Rattle.ft_elements.specs.Contents.{content_of};
 
 use crate::marks::{stamp_of, stamps_of};
 use ft_base::OutOfMemory;
-use ft_elements::elements::Content;
+use ft_elements::elements::{Content, characters};
 use ft_elements::lists::PlainList;
 use ft_elements::scans::units;
 use ft_props::Props;
@@ -63,16 +63,6 @@ fn segment_contents(alloc: Global, seg: &Seg) -> Result<Vec<Content>, OutOfMemor
             Ok(contents)
         }
     }
-}
-
-/// The characters of the text as contents.
-///
-/// Answers `OutOfMemory` where there is no room for them.
-fn characters(alloc: Global, text: &str) -> Result<Vec<Content>, OutOfMemory>
-    ensures { IfOk result (λ v. v.items ≡ map (λ c. Content.Character c) (chars text.now)) }
-{
-    let contents = text.chars().map(Content::Character).collect(alloc)?;
-    Ok(contents)
 }
 
 /// The list of the units of runs.

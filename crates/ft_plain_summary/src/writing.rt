@@ -21,8 +21,8 @@ pub fn summary_of(doc: &PlainDocument, conns: Texts) -> Result<SumDoc, OutOfMemo
     let numbers = doc.numbers();
     let kept = doc.trimmed()?;
     Ok(SumDoc {
-        seq: numbers.seq,
-        min: numbers.min,
+        seq: numbers.number,
+        min: numbers.minimum,
         skipped: numbers.skipped,
         other: numbers.other,
         conns,

@@ -4,6 +4,7 @@ use Rattle.serde_json.specs.Written.{compact_text}
 use Rattle.std.specs.Prelude.{⊤}
 use Rattle.std.specs.Result.{IsErr, IsErrAnd}
 use Rattle.std.proofs.lemmas.Bool.Decides.{nat_tests}
+use Rattle.ft_base.proofs.Options.{some-same}
 use Rattle.ft_attrib.specs.declared.attribution.Origin.{Origin}
 use Rattle.ft_attrib.specs.Runs.{origin_runs}
 use Rattle.ft_laws.specs.Sequencing.{Each}
@@ -51,9 +52,6 @@ use Rattle.ft_session.proofs.RefusalKinds.{some-none}
 abbrev pub draft_text : Draft → List ℕ
 draft_text d = compact_text (written_draft d)
 
-some-equal : {A : Type 0} (a b : A) → Some a ≡ Some b → a ≡ b
-some-equal a b h = (cc)
-
 pub one-more : (i : ℕ) (ds : List Draft) (d : Draft) → slice_get ds i ≡ Some d
     → map compact_text (map written_draft (take (i + 1) ds)) ≡ map compact_text (map written_draft (take i ds)) ++ (draft_text d ∷ [])
 one-more i ds d h = ap (λ k. map compact_text (map written_draft (take k ds))) (add-one i) ∙ next i ds h
@@ -61,7 +59,7 @@ one-more i ds d h = ap (λ k. map compact_text (map written_draft (take k ds))) 
     next : (i : ℕ) (ds : List Draft) → slice_get ds i ≡ Some d
         → map compact_text (map written_draft (take (suc i) ds)) ≡ map compact_text (map written_draft (take i ds)) ++ (draft_text d ∷ [])
     next i [] g = (cc)
-    next zero (e ∷ es) g = ap (λ x. draft_text x ∷ []) (some-equal e d g)
+    next zero (e ∷ es) g = ap (λ x. draft_text x ∷ []) (some-same e d g)
     next (suc i) (e ∷ es) g = ap (λ ts. draft_text e ∷ ts) (next i es g)
 
 pub none-left : (i : ℕ) (ds : List Draft) → slice_get ds i ≡ None → take i ds ≡ ds

@@ -22,14 +22,18 @@ pub record AreOf (f : Furthest) (x : NaiveClient) : Type 0 where
 abbrev pub furthest_from : NaiveClient → List NamedClient → NaiveClient
 furthest_from x cs = fold (λ y c. further y c.client) x cs
 
-stands-skipped : (r : IndexedClient) (x : NaiveClient) → StandsFor r x → r.doc.skipped ≡ x.doc.skipped
+-- a replica has the numbers of each client for which it stands
+pub stands-skipped : (r : IndexedClient) (x : NaiveClient) → StandsFor r x → r.doc.skipped ≡ x.doc.skipped
 stands-skipped r x s = ap (λ (c : IndexedClient). c.doc.skipped) (sym s.shows) ∙ ap (λ (d : Document). d.skipped) s.keeps.doc.rest
 
-stands-other : (r : IndexedClient) (x : NaiveClient) → StandsFor r x → r.doc.other ≡ x.doc.other
+pub stands-other : (r : IndexedClient) (x : NaiveClient) → StandsFor r x → r.doc.other ≡ x.doc.other
 stands-other r x s = ap (λ (c : IndexedClient). c.doc.other) (sym s.shows) ∙ ap (λ (d : Document). d.other) s.keeps.doc.rest
 
-stands-number : (r : IndexedClient) (x : NaiveClient) → StandsFor r x → r.doc.number ≡ x.doc.number
+pub stands-number : (r : IndexedClient) (x : NaiveClient) → StandsFor r x → r.doc.number ≡ x.doc.number
 stands-number r x s = ap (λ (c : IndexedClient). c.doc.number) (sym s.shows) ∙ ap (λ (d : Document). d.number) s.keeps.doc.rest
+
+pub stands-minimum : (r : IndexedClient) (x : NaiveClient) → StandsFor r x → r.doc.minimum ≡ x.doc.minimum
+stands-minimum r x s = ap (λ (c : IndexedClient). c.doc.minimum) (sym s.shows) ∙ ap (λ (d : Document). d.minimum) s.keeps.doc.rest
 
 -- one client more
 pub are-of_further : (log : List Entry) (f : Furthest) (x : NaiveClient) (m : MemberState) (c : NamedClient) → AreOf f x → MemberStands log m c

@@ -4,6 +4,7 @@ use Rattle.std.proofs.lemmas.List.{length-take-le}
 use Rattle.std.specs.Prelude.{⊤, slice_get}
 use Rattle.std.specs.List.{position}
 use Rattle.std.proofs.lemmas.Iterator.Adapters.{position_from-zero}
+use Rattle.ft_base.proofs.Options.{some-same}
 use Rattle.ft_props.specs.Properties.{Characters}
 use Rattle.ft_summaries.proofs.Lists.{each-found}
 use Rattle.ft_sumdoc.specs.declared.summary.SumDoc.{SumDoc}
@@ -221,12 +222,9 @@ module _ (s : SessionState) (name : Characters) (w : NaiveWorld) (made : IsMade 
       let same : f.state ≡ m = sym (got s.members j f.state m f.at) ∙ (ap (λ l. get_or s.members l m) k ∙ sym at) in
       record { client = f.member; named = f.named; found = f.found; stands = subst (λ a. MemberStands w.log a f.member) same f.stands }
     where
-      some-equal : (a b : MemberState) → Some a ≡ Some b → a ≡ b
-      some-equal a b h = (cc)
-
       got : (ms : List MemberState) (j : ℕ) (a d : MemberState) → slice_get ms j ≡ Some a → get_or ms j d ≡ a
       got [] j a d h = (cc)
-      got (m ∷ ms) zero a d h = some-equal m a h
+      got (m ∷ ms) zero a d h = some-same m a h
       got (m ∷ ms) (suc j) a d h = got ms j a d h
 
   pub meets-at : (i : ℕ) (m : MemberState) → position (has_name name) s.members ≡ Some i → m ≡ get_or s.members i m → MeetsSome m s.service

@@ -3,6 +3,7 @@ use Rattle.std.proofs.Common.{◌≡◌, ◌<◌, ◌^◌, ℕ, suc, ◌+◌, �
 use Rattle.std.specs.Prelude.{encode_utf8_all}
 use Rattle.std.specs.List.{position, position_from}
 use Rattle.std.proofs.lemmas.Iterator.Adapters.{position_from-zero}
+use Rattle.ft_base.proofs.Options.{some-same}
 use Rattle.serde_json.specs.Written.{compact_text}
 use Rattle.ft_props.specs.Properties.{Characters}
 use Rattle.ft_laws.specs.Sequencing.{Each}
@@ -32,9 +33,6 @@ use Rattle.ft_session.proofs.Submissions.{IsSubmitted, submitted-leaves}
 
 -- ---- the guest of a name
 
-some-equal : {A : Type 0} (a b : A) → Some a ≡ Some b → a ≡ b
-some-equal a b h = (cc)
-
 module _ (name : Characters) where
   none-from : (k : ℕ) (gs : List NamedGuest) → position_from (is_guest name) k gs ≡ None → find (is_guest name) gs ≡ None
   none-from k [] h = refl
@@ -57,7 +55,7 @@ module _ (name : Characters) where
       step : (b : Bool) → cond b (Some k) (position_from (is_guest name) (k + 1) gs) ≡ Some i
           → (position_from (is_guest name) (k + 1) gs ≡ Some i → (j : ℕ) × (i ≡ k + 1 + j) × ((g : NamedGuest) → g ≡ get_or gs j g → find (is_guest name) gs ≡ Some g))
           → (j : ℕ) × (i ≡ k + j) × ((g : NamedGuest) → g ≡ get_or (d ∷ gs) j g → cond b (Some d) (find (is_guest name) gs) ≡ Some g)
-      step true e rest = let q : k ≡ i = some-equal k i e in (0, omega arith, λ g h. ap Some (sym h))
+      step true e rest = let q : k ≡ i = some-same k i e in (0, omega arith, λ g h. ap Some (sym h))
       step false e rest = later (rest e)
 
   guest-none : (gs : List NamedGuest) → position (is_guest name) gs ≡ None → find (is_guest name) gs ≡ None
@@ -124,7 +122,7 @@ module _ (s : SessionState) (name : Characters) where
     left-logged : (w v : NaiveWorld) (o : Option (NaiveSequencer × Entry)) → elim o as (λ _. Option NaiveWorld) [ None ↦ None | Some p ↦ Some (logged p w) ] ≡ Some v
         → (p : NaiveSequencer × Entry) × (v ≡ logged p w)
     left-logged w v None e = (cc)
-    left-logged w v (Some p) e = (p, sym (some-equal (logged p w) v e))
+    left-logged w v (Some p) e = (p, sym (some-same (logged p w) v e))
 
     pub part-taken : (after : ServiceState) → ((w : NaiveWorld) → s.service ≡ service_of w → AnswersService s.service after (left_or_refused g.conn w) (Ok tt))
         → AnswersHappening (λ w. happen w (event.Part name)) s (record s { service = after }) (Ok out.Nothing)

@@ -9,6 +9,7 @@ use Rattle.std.proofs.lemmas.List.Quantifiers.{position-Some}
 use Rattle.std.proofs.lemmas.Option.{slice_get_read}
 use Rattle.std.proofs.lemmas.Slice.Eq.{bytes_eq-Decides}
 use Rattle.ft_base.proofs.Booleans.{both}
+use Rattle.ft_base.proofs.Options.{some-same}
 use Rattle.ft_op.specs.WellFormed.{is_count, is_range}
 use Rattle.ft_props.specs.Properties.{Characters}
 use Rattle.ft_seqr.specs.declared.events.Event.{Event}
@@ -54,9 +55,6 @@ reading-answers f m s result a = record { client = λ w c meets. asked-stepped w
 -- what becomes of an event of a client that is found
 pub of-found : (w : NaiveWorld) (n : Characters) (c : NamedClient) (f : NamedClient → Stepped) → n ≡ c.name → find (is_client c.name) w.clients ≡ Some c → of_client w n f ≡ f c
 of-found w n c f e h = ap (λ o. elim o [ None ↦ Err UnknownClient | Some d ↦ f d ]) (ap (λ k. find (is_client k) w.clients) e ∙ h)
-
-some-same : {A : Type 0} (x y : A) → Some x ≡ Some y → x ≡ y
-some-same x y h = (cc)
 
 -- what a client answers to its step, it answers to its event
 pub as_event : (e : Event) (n : Characters) (f : NaiveWorld → NamedClient → Stepped) (m new : MemberState) (before after : ServiceState) (result : Result Out Refusal)

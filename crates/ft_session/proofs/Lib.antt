@@ -14,4 +14,4 @@ mod SessionAnswers
 mod GuestEvents
 mod Asking
 mod Stepping
-mod Counting
+pub mod Counting

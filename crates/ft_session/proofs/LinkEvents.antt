@@ -1,5 +1,6 @@
 -- A client connects and goes offline.
 use Rattle.std.proofs.Common.{◌≡◌, ◌<◌, ◌≤◌, ℕ, ◌+◌, ◌^◌, max, List, [], length, Option, Some, None, Result, Ok, Err, refl, sym, ◌∙◌, ap, subst, arith}
+use Rattle.ft_base.proofs.Options.{some-same}
 use Rattle.ft_props.specs.Properties.{Characters}
 use Rattle.ft_summaries.proofs.Lists.{each-found}
 use Rattle.ft_msg.specs.declared.faults.LinkFault.{LinkFault}
@@ -129,9 +130,6 @@ module _ (m : MemberState) (before : ServiceState) where
       client = λ w c meets. means-weaker (refusal_kind why) (λ p. (refl, p.0, drop-linked w c meets ∙ without w (left conn w) why p.1 c)) (service w meets.service);
     }
 
-    some-out : {A : Type 0} (a b : A) → Some a ≡ Some b → a ≡ b
-    some-out a b e = (cc)
-
     left-known : (w v : NaiveWorld) (o : Option NaiveWorld) → elim o as (λ _. Result NaiveWorld Refusal) [ None ↦ Err NotConnected | Some u ↦ Ok u ] ≡ Ok v → o ≡ Some v
     left-known w v None e = (cc)
     left-known w v (Some u) e = let q : u ≡ v = (cc) in ap Some q
@@ -140,7 +138,7 @@ module _ (m : MemberState) (before : ServiceState) where
     left-logged : (w v : NaiveWorld) (o : Option (NaiveSequencer × Entry)) → elim o as (λ _. Option NaiveWorld) [ None ↦ None | Some p ↦ Some (logged p w) ] ≡ Some v
         → (p : NaiveSequencer × Entry) × (v ≡ logged p w)
     left-logged w v None e = (cc)
-    left-logged w v (Some p) e = (p, sym (some-out (logged p w) v e))
+    left-logged w v (Some p) e = (p, sym (some-same (logged p w) v e))
 
     pub drop-taken : (after : ServiceState) (new : ReplicaState) → ((w : NaiveWorld) → before ≡ service_of w → AnswersService before after (left_or_refused conn w) (Ok tt))
         → Answers link_fault_kind 0 drop_link m.replica new (Ok tt) → AnswersClient drop_client m (with_replica m new) before after (Ok out.Nothing)

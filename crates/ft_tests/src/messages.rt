@@ -1,11 +1,11 @@
 //! Names of connections, entries, and the numbers of a replica.
 
 ghost use Rattle.std.specs.Prelude.{◌≡◌, [], IfOk};
-ghost use Rattle.ft_msg.specs.WellFormed.{HasNumbersInRange};
+ghost use Rattle.ft_msg.specs.WellFormed.{IsWellFormedMessage};
 
 use ft_base::{OutOfMemory, Text};
-use ft_document::ObservedDocument;
-use ft_msg::{Cause, Entry, Names, Numbers, read_message};
+use ft_msg::{Cause, Entry, Names, Numbers, Replica, read_message};
+use ft_plain::Plain;
 use std::alloc::Global;
 use std::test::Fail;
 
@@ -73,7 +73,7 @@ static TWO: [&str; 2] = [
 
 /// The entry of the text, by the first connection.
 fn entry(alloc: Global, text: &str) -> Result<Entry, Cause>
-    ensures { IfOk result (λ e. HasNumbersInRange e.msg) }
+    ensures { IfOk result (λ e. IsWellFormedMessage e.msg) }
 {
     let msg = read_message(alloc, text.as_bytes())?;
     Ok(Entry { msg, origin: 1 })
@@ -101,7 +101,7 @@ fn an_entry_is_copied(rt: HostRuntime) -> Result<(), Fail> {
 }
 
 /// Gives a message to a replica, and nothing where it is none.
-fn give(alloc: Global, plain: &mut ObservedDocument, text: &str) {
+fn give(alloc: Global, plain: &mut Plain, text: &str) {
     if let Ok(entry) = entry(alloc, text) {
         let _ = plain.process(&entry);
     }
@@ -109,7 +109,7 @@ fn give(alloc: Global, plain: &mut ObservedDocument, text: &str) {
 
 /// The numbers of a replica that was given both messages.
 fn numbers_of_two(alloc: Global) -> Result<Numbers, OutOfMemory> {
-    let mut plain = ObservedDocument::start(alloc)?;
+    let mut plain = Plain::start(alloc)?;
     give(alloc, &mut plain, TWO[0]);
     give(alloc, &mut plain, TWO[1]);
     Ok(plain.numbers())

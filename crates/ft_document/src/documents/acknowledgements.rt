@@ -2,7 +2,6 @@
 
 ghost use Rattle.std.specs.Prelude.{◌≡◌, IfOk, OnOk};
 ghost use Rattle.ft_msg.specs.Acknowledgement.{ack_stage, ack_stages, cells_after_stage, made_before};
-ghost use Rattle.ft_document.specs.KeptNumbers.{KeepsNumbers};
 ghost use Rattle.ft_document.specs.Renamed.{renaming_of};
 ghost use Rattle.ft_document.specs.SubOperations.{sub_operation_of};
 
@@ -29,7 +28,6 @@ impl PlainDocument {
     ) -> Result<Renaming, OutOfMemory>
         ensures document { OnOk result (self.new ≡ (ack_stages seq conn (λ x. x) stages.now self.old).0) }
         ensures renaming { IfOk result (λ r. renaming_of r ≡ (ack_stages seq conn (λ x. x) stages.now self.old).1) }
-        ensures kept { KeepsNumbers self.old self.new }
     {
         let mut renaming = Renaming::new(self.alloc());
         for stage in stages {
@@ -49,8 +47,7 @@ impl PlainDocument {
         renaming: &Renaming,
         stage: &PlainStage,
     ) -> Result<(), OutOfMemory>
-        ensures ok { OnOk result (self.new ≡ ack_stage seq conn (renaming_of renaming.now) stage.now self.old) }
-        ensures kept { KeepsNumbers self.old self.new }
+        ensures { OnOk result (self.new ≡ ack_stage seq conn (renaming_of renaming.now) stage.now self.old) }
     {
         let names = renaming.names(stage.names())?;
         self.text.acknowledge(stage.stage(), seq, conn)?;

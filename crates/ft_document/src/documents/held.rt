@@ -1,6 +1,6 @@
 //! How many elements a document ever held.
 
-ghost use Rattle.std.specs.Prelude.{◌≡◌, max};
+ghost use Rattle.std.specs.Prelude.{◌≡◌};
 ghost use Rattle.ft_msg.specs.Answers.{held_in};
 
 use crate::documents::PlainDocument;
@@ -23,11 +23,25 @@ impl Model for Held {
 }
 
 impl Held {
-    /// The greatest of the three counts.
-    pub fn most(&self) -> u64
-        ensures { result ≡ max self.now.text (max self.now.rows self.now.cols) }
+    /// How many were ever in the text.
+    pub fn text(&self) -> u64
+        ensures { result ≡ self.now.text }
     {
-        self.text.max(self.rows.max(self.cols))
+        self.text
+    }
+
+    /// How many were ever in the rows.
+    pub fn rows(&self) -> u64
+        ensures { result ≡ self.now.rows }
+    {
+        self.rows
+    }
+
+    /// How many were ever in the columns.
+    pub fn cols(&self) -> u64
+        ensures { result ≡ self.now.cols }
+    {
+        self.cols
     }
 }
 

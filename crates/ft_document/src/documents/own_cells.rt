@@ -1,25 +1,23 @@
 //! The cells with what is pending on them.
 
-ghost use Rattle.std.specs.Prelude.{◌≡◌, IfOk, OnOk, flat_map};
+ghost use Rattle.std.specs.Prelude.{◌≡◌, IfOk, OnOk};
 ghost use Rattle.ft_document.specs.WrittenCells.{cells_after_stages};
 
 use crate::documents::PlainDocument;
 use crate::documents::acknowledgements::write_to_cells;
-use crate::stages::{PlainEdit, PlainStage};
+use crate::stages::PlainStage;
 use ft_base::OutOfMemory;
 use ft_elements::cells::PlainCells;
 
 impl PlainDocument {
-    /// The cells after the writes of all stages of these pending edits.
+    /// The cells after the writes of these pending stages.
     ///
     /// Answers `OutOfMemory` where there is no room for them.
-    pub fn written_cells(&self, edits: &[PlainEdit]) -> Result<PlainCells, OutOfMemory>
-        ensures { IfOk result (λ cells. cells ≡ cells_after_stages self.now.cells (flat_map (λ e. e.stages) edits.now)) }
+    pub fn written_cells(&self, pending: &[PlainStage]) -> Result<PlainCells, OutOfMemory>
+        ensures { IfOk result (λ cells. cells ≡ cells_after_stages self.now.cells pending.now) }
     {
         let mut cells = self.cells.copy()?;
-        for edit in edits {
-            write_stages(&mut cells, edit.stages())?;
-        }
+        write_stages(&mut cells, pending)?;
         Ok(cells)
     }
 }

@@ -2,13 +2,12 @@
 
 ghost use Rattle.std.specs.Prelude.{◌≡◌, ◌-◌, [], OnOk, OnErr, replicate};
 ghost use Rattle.ft_base.specs.Scan.{len};
-ghost use Rattle.ft_props.specs.Element.{GridUnit, seen, with_pending_annotation, with_pending_removal};
+ghost use Rattle.ft_props.specs.Element.{GridUnit, seen, with_pending_removal};
 ghost use Rattle.ft_props.specs.Properties.{ValueBytes, apply};
 ghost use Rattle.ft_props.specs.Steps.{after_local_insertion, after_local_mark};
 ghost use Rattle.ft_op.specs.Operation.{segment_contents};
 ghost use Rattle.ft_op.specs.Document.{rows_or_cols, with_rows_or_cols};
 ghost use Rattle.ft_msg.specs.Client.{local_grid, local_text};
-ghost use Rattle.ft_document.specs.KeptNumbers.{KeepsNumbers};
 ghost use Rattle.ft_document.specs.OwnEdits.{AnswersSubOperation};
 
 use crate::documents::PlainDocument;
@@ -53,8 +52,7 @@ pub fn out_of_range(list: &PlainList, stage: u64) -> NotTaken
 impl PlainDocument {
     /// Takes an insertion, a removal or an annotation of the text as a pending stage.
     pub fn edit_text(&mut self, stage: u64, op: &BaseOp) -> Result<ElementNames, NotTaken>
-        ensures answers { AnswersSubOperation (local_text self.old stage op.now) self.old self.new result }
-        ensures kept { KeepsNumbers self.old self.new }
+        ensures { AnswersSubOperation (local_text self.old stage op.now) self.old self.new result }
     {
         match op {
             BaseOp::Insert { pos, seg, props } => self.insert_own_text(stage, *pos, seg, props),
@@ -75,8 +73,7 @@ impl PlainDocument {
         seg: &Seg,
         props: &PropSet,
     ) -> Result<ElementNames, NotTaken>
-        ensures answers { AnswersSubOperation (local_text self.old stage (BaseOp.Insert p seg.now props.now)) self.old self.new result }
-        ensures kept { KeepsNumbers self.old self.new }
+        ensures { AnswersSubOperation (local_text self.old stage (BaseOp.Insert p seg.now props.now)) self.old self.new result }
     {
         if !self.text.is_within(p, Before(stage)) {
             return Err(out_of_range(&self.text, stage));
@@ -105,8 +102,7 @@ impl PlainDocument {
 
     /// Removes the elements of the text from `p` up to before `q`.
     fn remove_own_text(&mut self, stage: u64, p: u64, q: u64) -> Result<ElementNames, NotTaken>
-        ensures answers { AnswersSubOperation (local_text self.old stage (BaseOp.Remove p q)) self.old self.new result }
-        ensures kept { KeepsNumbers self.old self.new }
+        ensures { AnswersSubOperation (local_text self.old stage (BaseOp.Remove p q)) self.old self.new result }
     {
         if !self.text.is_within(q, Before(stage)) {
             return Err(out_of_range(&self.text, stage));
@@ -123,8 +119,7 @@ impl PlainDocument {
         q: u64,
         changes: &Changes,
     ) -> Result<ElementNames, NotTaken>
-        ensures answers { AnswersSubOperation (local_text self.old stage (BaseOp.Annotate p q changes.now)) self.old self.new result }
-        ensures kept { KeepsNumbers self.old self.new }
+        ensures { AnswersSubOperation (local_text self.old stage (BaseOp.Annotate p q changes.now)) self.old self.new result }
     {
         if !self.text.is_within(q, Before(stage)) {
             return Err(out_of_range(&self.text, stage));
@@ -135,8 +130,7 @@ impl PlainDocument {
 
     /// Takes a splice or a cell write as a pending stage.
     pub fn edit_grid(&mut self, stage: u64, op: &CellOp) -> Result<ElementNames, NotTaken>
-        ensures answers { AnswersSubOperation (local_grid self.old stage op.now) self.old self.new result }
-        ensures kept { KeepsNumbers self.old self.new }
+        ensures { AnswersSubOperation (local_grid self.old stage op.now) self.old self.new result }
     {
         match op {
             CellOp::SpliceIn { target, pos, count } => {
@@ -157,8 +151,7 @@ impl PlainDocument {
         p: u64,
         count: u64,
     ) -> Result<ElementNames, NotTaken>
-        ensures answers { AnswersSubOperation (local_grid self.old stage (CellOp.SpliceIn target p count)) self.old self.new result }
-        ensures kept { KeepsNumbers self.old self.new }
+        ensures { AnswersSubOperation (local_grid self.old stage (CellOp.SpliceIn target p count)) self.old self.new result }
     {
         if !self.list(target).is_within(p, Before(stage)) {
             return Err(out_of_range(self.list(target), stage));
@@ -175,8 +168,7 @@ impl PlainDocument {
         p: u64,
         count: u64,
     ) -> Result<(), OutOfMemory>
-        ensures ok { OnOk result (self.new ≡ with_rows_or_cols target self.old (after_local_insertion stage p [] (replicate count GridUnit) (rows_or_cols target self.old))) }
-        ensures kept { KeepsNumbers self.old self.new }
+        ensures { OnOk result (self.new ≡ with_rows_or_cols target self.old (after_local_insertion stage p [] (replicate count GridUnit) (rows_or_cols target self.old))) }
     {
         match target {
             Target::Rows => self.rows.insert_units_at_stage(stage, p, count),
@@ -192,8 +184,7 @@ impl PlainDocument {
         p: u64,
         q: u64,
     ) -> Result<ElementNames, NotTaken>
-        ensures answers { AnswersSubOperation (local_grid self.old stage (CellOp.SpliceOut target p q)) self.old self.new result }
-        ensures kept { KeepsNumbers self.old self.new }
+        ensures { AnswersSubOperation (local_grid self.old stage (CellOp.SpliceOut target p q)) self.old self.new result }
     {
         if !self.list(target).is_within(q, Before(stage)) {
             return Err(out_of_range(self.list(target), stage));
@@ -210,8 +201,7 @@ impl PlainDocument {
         p: u64,
         q: u64,
     ) -> Result<(), OutOfMemory>
-        ensures ok { OnOk result (self.new ≡ with_rows_or_cols target self.old (after_local_mark stage p q (with_pending_removal stage) (rows_or_cols target self.old))) }
-        ensures kept { KeepsNumbers self.old self.new }
+        ensures { OnOk result (self.new ≡ with_rows_or_cols target self.old (after_local_mark stage p q (with_pending_removal stage) (rows_or_cols target self.old))) }
     {
         match target {
             Target::Rows => self.rows.remove_at_stage(stage, p, q),

@@ -1,7 +1,7 @@
 //! What the client's own interval operations mean for a document, and which intervals are shown while edits
 //! are pending.
 
-ghost use Rattle.std.specs.Prelude.{◌≡◌, ◌++◌, IfOk, OnOk, flat_map};
+ghost use Rattle.std.specs.Prelude.{◌≡◌, ◌++◌, IfOk, OnOk};
 ghost use Rattle.ft_op.specs.Document.{ends_of};
 ghost use Rattle.ft_op.specs.Intervals.{settle_elements, settle_ends};
 ghost use Rattle.ft_op.specs.Stages.{intervals_after_stage, shown_intervals};
@@ -11,7 +11,7 @@ ghost use Rattle.ft_document.specs.SubOperations.{sub_operation_of};
 
 use crate::documents::PlainDocument;
 use crate::documents::own_edits::{NotTaken, out_of_range};
-use crate::stages::{PlainEdit, PlainStage, SubOp};
+use crate::stages::{PlainStage, SubOp};
 use ft_base::OutOfMemory;
 use ft_elements::element_tests::Before;
 use ft_elements::elements::PlainElement;
@@ -22,18 +22,18 @@ use ft_msg::EditFault;
 use ft_op::{Ends, TextOp};
 
 impl PlainDocument {
-    /// The elements that an interval operation of the client's own names, after these pending edits and the
-    /// stages of its own edit before it; its id is tested before its ends.
+    /// The elements that an interval operation of the client's own names, after these pending stages and those
+    /// of its own edit before it; its id is tested before its ends.
     pub fn name_own_ends(
         &self,
-        edits: &[PlainEdit],
+        pending: &[PlainStage],
         before: &[PlainStage],
         stage: u64,
         op: &TextOp,
     ) -> Result<ElementNames, NotTaken>
-        ensures { AnswersSubOperation (local_interval self.now (flat_map (λ e. e.stages) edits.now ++ before.now) stage op.now) self.now self.now result }
+        ensures { AnswersSubOperation (local_interval self.now (pending.now ++ before.now) stage op.now) self.now self.now result }
     {
-        let shown = self.settled_before(edits, before)?;
+        let shown = self.settled_before(pending, before)?;
         if let Some(fault) = id_fault(&shown, op) {
             return Err(NotTaken::Refused(fault));
         }
@@ -44,31 +44,29 @@ impl PlainDocument {
         Ok(elements_at_given_ends(&self.text, ends, Before(stage)))
     }
 
-    /// The intervals after all stages of these pending edits, and then these stages.
+    /// The intervals after these pending stages, and then these.
     ///
     /// Answers `OutOfMemory` where there is no room for them.
     fn settled_before(
         &self,
-        edits: &[PlainEdit],
+        pending: &[PlainStage],
         before: &[PlainStage],
     ) -> Result<PlainIntervals, OutOfMemory>
-        ensures { IfOk result (λ shown. shown ≡ shown_intervals self.now.text.items self.now.intervals (flat_map (λ e. e.stages) edits.now ++ before.now)) }
+        ensures { IfOk result (λ shown. shown ≡ shown_intervals self.now.text.items self.now.intervals (pending.now ++ before.now)) }
     {
-        let mut shown = self.settled_intervals(edits)?;
+        let mut shown = self.settled_intervals(pending)?;
         settle_stages(&mut shown, self.text.as_slice(), before)?;
         Ok(shown)
     }
 
-    /// The intervals after all stages of these pending edits.
+    /// The intervals after these pending stages.
     ///
     /// Answers `OutOfMemory` where there is no room for them.
-    pub fn settled_intervals(&self, edits: &[PlainEdit]) -> Result<PlainIntervals, OutOfMemory>
-        ensures { IfOk result (λ shown. shown ≡ shown_intervals self.now.text.items self.now.intervals (flat_map (λ e. e.stages) edits.now)) }
+    pub fn settled_intervals(&self, pending: &[PlainStage]) -> Result<PlainIntervals, OutOfMemory>
+        ensures { IfOk result (λ shown. shown ≡ shown_intervals self.now.text.items self.now.intervals pending.now) }
     {
         let mut shown = self.intervals.copy()?;
-        for edit in edits {
-            settle_stages(&mut shown, self.text.as_slice(), edit.stages())?;
-        }
+        settle_stages(&mut shown, self.text.as_slice(), pending)?;
         Ok(shown)
     }
 }

@@ -1,13 +1,13 @@
 //! What operations of the text make of a document.
 
-ghost use Rattle.std.specs.Prelude.{◌≡◌, ℕ, IfOk, OnOk, chars, map};
+ghost use Rattle.std.specs.Prelude.{◌≡◌, ℕ, IfOk, OnOk, map};
 ghost use Rattle.ft_op.specs.Operation.{OnText, segment_contents, text_sub_operations};
 ghost use Rattle.ft_op.specs.Document.{effects, text_effect};
 ghost use Rattle.ft_elements.specs.Contents.{content_of};
 
 use crate::documents::PlainDocument;
 use ft_base::{OutOfMemory, Perspective, Stamp};
-use ft_elements::elements::Content;
+use ft_elements::elements::{Content, characters};
 use ft_op::{BaseOp, Seg, TextOp};
 use ft_props::{Changes, PropSet, Props};
 use std::alloc::Global;
@@ -134,14 +134,4 @@ pub(crate) fn segment_contents(alloc: Global, seg: &Seg) -> Result<Vec<Content>,
             Ok(contents)
         }
     }
-}
-
-/// The characters of the text as contents.
-///
-/// Answers `OutOfMemory` where there is no room for them.
-fn characters(alloc: Global, text: &str) -> Result<Vec<Content>, OutOfMemory>
-    ensures { IfOk result (λ v. v.items ≡ map (λ c. Content.Character c) (chars text.now)) }
-{
-    let contents = text.chars().map(Content::Character).collect(alloc)?;
-    Ok(contents)
 }

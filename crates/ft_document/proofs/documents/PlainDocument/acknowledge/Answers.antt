@@ -1,7 +1,6 @@
 use Rattle.std.proofs.Common.{◌+◌, [], ◌∷◌, ◌++◌, ◌∙◌, ap, drop, sym}
 use Rattle.std.proofs.lemmas.List.{drop_more}
 use Rattle.ft_msg.specs.Acknowledgement.{ack_stages, made_before}
-use Rattle.ft_document.proofs.KeptNumbers.{kept-twice}
 use Rattle.ft_document.proofs.RenamedNames.{acked-next}
 use Rattle.ft_document.proofs.documents.PlainDocument.acknowledge.Goals as goal
 
@@ -20,8 +19,5 @@ loop-stage-preserved c =
     let at_front = drop_more stages i t c.loop-stage-test.true ∙ ap (λ e. e ∷ rest) (sym c.stage-item.is) in
     let counted = c.made_before-made.ensures ∙ ap (made_before doc) c.sub_operation.ensures in
     let pushed = c.in_ok-push.ensures.ok ∙ ap (λ k. acked ++ ((k, made) ∷ [])) c.stage.ensures in
-    record {
-      acked = acked-next s conn made acked c.push.new.self t (drop i stages) rest doc next (ack_stages s conn (λ x. x) stages c.args.self.now) at_front counted
-          c.in_ok-acknowledge_stage.ensures.ok pushed c.loop-stage.invariant.acked;
-      kept = kept-twice c.args.self.now doc next c.loop-stage.invariant.kept c.in_ok-acknowledge_stage.ensures.kept;
-    }
+    acked-next s conn made acked c.push.new.self t (drop i stages) rest doc next (ack_stages s conn (λ x. x) stages c.args.self.now) at_front counted
+    c.in_ok-acknowledge_stage.ensures pushed c.loop-stage.invariant

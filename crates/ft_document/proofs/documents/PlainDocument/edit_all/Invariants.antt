@@ -1,8 +1,5 @@
-use Rattle.std.proofs.Common.{◌≡◌, ◌+◌, [], List, ◌++◌, length, map}
-use Rattle.std.specs.Prelude.{flat_map}
-use Rattle.ft_op.specs.Stages.{Stage}
+use Rattle.std.proofs.Common.{◌≡◌, ◌+◌, [], ◌++◌, length, map}
 use Rattle.ft_msg.specs.Client.{local_sub_operations}
-use Rattle.ft_document.specs.KeptNumbers.{KeepsNumbers}
 use Rattle.ft_document.specs.OwnEdits.{with_stages}
 use Rattle.ft_document.specs.SubOperations.{sub_operation_of}
 use Rattle.ft_document.proofs.documents.PlainDocument.edit_all.Given as goal
@@ -11,13 +8,11 @@ use Rattle.ft_document.proofs.documents.PlainDocument.edit_all.Given as goal
 -- there are no stages
 abbrev pub invariant-loop-op : goal.invariant-loop-op
 invariant-loop-op l =
-    let before : List Stage = flat_map (λ e. e.stages) l.edits in
     record {
-      made : with_stages l.stages (local_sub_operations l.self (before ++ l.stages) l.stage (map sub_operation_of l.ops.items)) ≡ local_sub_operations l.initial.self
-          before l.first (map sub_operation_of l.fn.ops.items);
+      made : with_stages l.stages (local_sub_operations l.self (l.pending ++ l.stages) l.stage (map sub_operation_of l.ops.items)) ≡ local_sub_operations l.initial.self
+          l.pending l.first (map sub_operation_of l.fn.ops.items);
       counted : length l.stages + length l.ops.items ≡ length l.fn.ops.items;
       untouched : l.stages ≡ [] → l.self ≡ l.initial.self;
-      kept : KeepsNumbers l.initial.self l.self;
     }
 
 abbrev pub decreases-loop-op : goal.decreases-loop-op

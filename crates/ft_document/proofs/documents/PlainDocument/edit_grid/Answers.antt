@@ -4,7 +4,7 @@ use Rattle.ft_msg.specs.Client.{local_grid}
 use Rattle.ft_document.specs.OwnEdits.{AnswersSubOperation}
 use Rattle.ft_document.proofs.documents.PlainDocument.edit_grid.Goals as goal
 
-pub returns-in-Set-clause-answers : goal.returns-in-Set-clause-answers
-returns-in-Set-clause-answers c =
+pub returns-in-Set : goal.returns-in-Set
+returns-in-Set c =
     let doc = c.args.self.now in
     subst (λ (op : CellOp). AnswersSubOperation (local_grid doc c.args.stage op) doc doc c.name_own_cell.result) (sym c.in-Set.is) (c.name_own_cell.ensures c.in-Set.value)

@@ -1,9 +1,8 @@
-use Rattle.std.proofs.Common.{◌-◌, List, ◌++◌, ◌∙◌, ap, sym}
-use Rattle.std.specs.Prelude.{flat_map}
+use Rattle.std.proofs.Common.{◌-◌, ◌++◌, ◌∙◌, ap, sym}
 use Rattle.ft_base.specs.Scan.{len}
 use Rattle.ft_props.specs.Element.{seen}
 use Rattle.ft_op.specs.Document.{Document, elements_at_given_ends, given_ends_fit}
-use Rattle.ft_op.specs.Stages.{Stage, shown_intervals}
+use Rattle.ft_op.specs.Stages.{shown_intervals}
 use Rattle.ft_msg.specs.Client.{id_fault}
 use Rattle.ft_document.proofs.ShownStages.{ends-taken}
 use Rattle.ft_document.proofs.documents.PlainDocument.name_own_ends.Goals as goal
@@ -24,8 +23,7 @@ returns c =
     } in
     let op = c.args.op.now in
     let sees = seen (c.args.stage - 1) in
-    let of_edits : List Stage = flat_map (λ e. e.stages) c.args.edits.now in
-    let stages = of_edits ++ c.args.before.now in
+    let stages = c.args.pending.now ++ c.args.before.now in
     let shown = c.in_ok-shown.ensures ∙ ap (λ d. shown_intervals d.text.items d.intervals stages) (sym c.self.view_is) in
     rw (← c.self.view_is)
     (ends-taken doc stages c.args.stage op c.elements_at_given_ends.result (ap (λ is. id_fault is op) (sym shown) ∙ sym c.id_fault.ensures ∙ c.in_default.is)

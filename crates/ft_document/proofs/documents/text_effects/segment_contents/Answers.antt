@@ -1,15 +1,11 @@
-use Rattle.std.proofs.Common.{◌≡◌, ℕ, List, [], ◌∷◌, chars, map, refl, sym, ◌∙◌, ap}
+use Rattle.std.proofs.Common.{◌≡◌, chars, map, sym, ◌∙◌, ap}
 use Rattle.std.proofs.lemmas.Result.{IfOk-weaker}
 use Rattle.ft_props.specs.Element.{Character as CharacterOf}
 use Rattle.ft_op.specs.Operation.{segment_contents}
 use Rattle.ft_elements.specs.declared.elements.Content.TheVariants.{Character}
 use Rattle.ft_elements.specs.Contents.{content_of}
+use Rattle.ft_elements.proofs.CharacterContents.{map-characters}
 use Rattle.ft_document.proofs.documents.text_effects.segment_contents.Goals as goal
-
--- characters as contents are those of the definitions
-map-characters : (text : List ℕ) → map content_of (map (λ c. Character c) text) ≡ map (λ c. CharacterOf c) text
-map-characters [] = refl
-map-characters (c ∷ cs) = ap (λ xs. CharacterOf c ∷ xs) (map-characters cs)
 
 pub returns-in-Chars : goal.returns-in-Chars
 returns-in-Chars c =

@@ -1,0 +1,110 @@
+//! What a document over plain lists shows.
+
+ghost use Rattle.std.specs.Prelude.{◌≡◌, IfOk};
+ghost use Rattle.ft_msg.specs.Answers.{view_content};
+ghost use Rattle.ft_msg.specs.Blame.{blame};
+ghost use Rattle.ft_msg.specs.Content.{content};
+ghost use Rattle.ft_plain.specs.Own.{client_at};
+
+use crate::own::PlainOwn;
+use ft_attrib::Attribution;
+use ft_base::{OutOfMemory, Text};
+use ft_elements::shown::{shown_markers, shown_runs, shown_text};
+use ft_elements::shown_grid::{shown_cells, shown_count};
+use ft_elements::shown_intervals::shown_intervals;
+use ft_elements::shown_origins::shown_origins;
+use ft_msg::{Numbers, Runs, Spots, View};
+use ft_sumdoc::{CellRecs, IntervalRecs};
+
+impl PlainOwn {
+    /// All that it shows at the last stage, with these numbers.
+    ///
+    /// Answers `OutOfMemory` where there is no room for it.
+    pub(crate) fn view_at(&self, last: u64, numbers: Numbers) -> Result<View, OutOfMemory>
+        ensures numbers { IfOk result (λ v. v.numbers ≡ numbers) }
+        ensures content { IfOk result (λ v. view_content v ≡ content (client_at last self.now)) }
+    {
+        Ok(View {
+            numbers,
+            text: self.shown_text(last)?,
+            markers: self.shown_markers(last)?,
+            runs: self.shown_runs(last)?,
+            intervals: self.shown_intervals(last)?,
+            rows: self.shown_rows(last) as u64,
+            cols: self.shown_cols(last) as u64,
+            cells: self.shown_cells(last)?,
+        })
+    }
+
+    /// The characters of the text, without the markers.
+    ///
+    /// Answers `OutOfMemory` where there is no room for them.
+    fn shown_text(&self, last: u64) -> Result<Text, OutOfMemory>
+        ensures { IfOk result (λ text. text ≡ (content (client_at last self.now)).text) }
+    {
+        shown_text(self.doc.alloc(), self.doc.text(), last)
+    }
+
+    /// The markers with their places.
+    ///
+    /// Answers `OutOfMemory` where there is no room for them.
+    fn shown_markers(&self, last: u64) -> Result<Spots, OutOfMemory>
+        ensures { IfOk result (λ markers. markers ≡ (content (client_at last self.now)).markers) }
+    {
+        shown_markers(self.doc.alloc(), self.doc.text(), last)
+    }
+
+    /// The runs of equal properties that aren't empty.
+    ///
+    /// Answers `OutOfMemory` where there is no room for them.
+    fn shown_runs(&self, last: u64) -> Result<Runs, OutOfMemory>
+        ensures { IfOk result (λ runs. runs ≡ (content (client_at last self.now)).runs) }
+    {
+        shown_runs(self.doc.alloc(), self.doc.text(), last)
+    }
+
+    /// Who inserted each visible element of the text.
+    ///
+    /// Answers `OutOfMemory` where there is no room for that.
+    pub(crate) fn origins_at(&self, last: u64) -> Result<Attribution, OutOfMemory>
+        ensures { IfOk result (λ origins. origins ≡ blame (client_at last self.now)) }
+    {
+        shown_origins(self.doc.alloc(), self.doc.text(), last)
+    }
+
+    /// The intervals after all pending stages, by rising label and id.
+    ///
+    /// Answers `OutOfMemory` where there is no room for them.
+    fn shown_intervals(&self, last: u64) -> Result<IntervalRecs, OutOfMemory>
+        ensures { IfOk result (λ intervals. intervals ≡ (content (client_at last self.now)).intervals) }
+    {
+        let settled = self.doc.settled_intervals(self.stages.as_slice())?;
+        let alloc = self.doc.alloc();
+        shown_intervals(alloc, self.doc.text(), settled.as_slice(), last)
+    }
+
+    /// How many rows.
+    fn shown_rows(&self, last: u64) -> usize
+        ensures { result ≡ (content (client_at last self.now)).rows }
+    {
+        shown_count(self.doc.rows(), last)
+    }
+
+    /// How many columns.
+    fn shown_cols(&self, last: u64) -> usize
+        ensures { result ≡ (content (client_at last self.now)).cols }
+    {
+        shown_count(self.doc.cols(), last)
+    }
+
+    /// The cells that have a value after the writes of all pending stages.
+    ///
+    /// Answers `OutOfMemory` where there is no room for them.
+    fn shown_cells(&self, last: u64) -> Result<CellRecs, OutOfMemory>
+        ensures { IfOk result (λ cells. cells ≡ (content (client_at last self.now)).cells) }
+    {
+        let written = self.doc.written_cells(self.stages.as_slice())?;
+        let doc = &self.doc;
+        shown_cells(doc.alloc(), &written, doc.rows(), doc.cols(), last)
+    }
+}

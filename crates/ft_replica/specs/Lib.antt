@@ -1,0 +1,5 @@
+pub mod Kept
+pub mod Linked
+pub mod Own
+pub mod Stopping
+pub mod Unsent

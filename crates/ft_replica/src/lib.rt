@@ -1,0 +1,14 @@
+//! A client, written once over any document that keeps its own pending stages.
+//!
+//! A call that can't answer `OutOfMemory` takes no memory.
+#![tactic(auto)]
+
+pub mod document;
+pub mod linked;
+pub mod outbox;
+pub mod pending;
+pub mod replica;
+pub mod stopping;
+
+pub use document::{OwnDocument, OwnNumbers, Resent};
+pub use replica::ReplicaOver;

@@ -1,0 +1,113 @@
+//! What a client hasn't sent yet.
+
+ghost use Rattle.std.specs.Prelude.{◌≡◌, ◌+◌, [], ◌∷◌, ◌++◌, OnOk, OnErr, drop, length, slice_get, option_copied};
+ghost use Rattle.ft_replica.specs.Unsent.{with_sent};
+
+use crate::pending::Sent;
+use ft_base::OutOfMemory;
+use ft_msg::{Body, Draft};
+use std::alloc::Global;
+use std::collections::VecDeque;
+use std::marker::Model;
+
+/// The messages that aren't sent yet, and the client sequence number of the next one.
+#[derive(Drop)]
+pub struct Outbox {
+    next: u64,
+    drafts: VecDeque<Draft>,
+}
+
+impl Model for Outbox {
+    ghost use Rattle.ft_replica.specs.Unsent.{Unsent};
+
+    ghost Value = { Unsent };
+
+    ghost view = { λ a. record { next = a.next; drafts = a.drafts.items } };
+}
+
+impl Outbox {
+    /// No messages, before the first one.
+    pub fn new(alloc: Global) -> Outbox
+        ensures { result ≡ record { next = 1; drafts = [] } }
+    {
+        Outbox {
+            next: 1,
+            drafts: VecDeque::new(alloc),
+        }
+    }
+
+    /// The client sequence number of the next message.
+    pub fn next(&self) -> u64
+        ensures { result ≡ self.now.next }
+    {
+        self.next
+    }
+
+    /// Numbers from 1 again.
+    pub fn restart(&mut self)
+        ensures { self.new ≡ record self.old { next = 1 } }
+    {
+        self.next = 1;
+    }
+
+    /// Takes all messages away.
+    pub fn clear(&mut self)
+        ensures { self.new ≡ record self.old { drafts = [] } }
+    {
+        self.drafts.clear();
+    }
+
+    /// Adds a message behind the others.
+    ///
+    /// Answers `OutOfMemory` where there is no room for it or the next number would pass 2^64 - 1, and then
+    /// nothing changed.
+    pub fn push(&mut self, draft: Draft) -> Result<(), OutOfMemory>
+        ensures ok { OnOk result (self.new ≡ record { next = self.old.next + 1; drafts = self.old.drafts ++ draft ∷ [] }) }
+        ensures err { OnErr result (self.new ≡ self.old) }
+    {
+        let next = self.next.checked_add(1).ok_or(OutOfMemory)?;
+        self.drafts.push_back(draft)?;
+        self.next = next;
+        Ok(())
+    }
+
+    /// Adds the message of an edit behind the others, if it is sent.
+    ///
+    /// Answers `OutOfMemory` where there is no room for it or the next number would pass 2^64 - 1, and then
+    /// nothing changed.
+    pub fn send(&mut self, sent: &Option<Sent>, ref_seq: u64) -> Result<(), OutOfMemory>
+        ensures ok { OnOk result (self.new ≡ with_sent sent.now ref_seq self.old) }
+        ensures err { OnErr result (self.new ≡ self.old) }
+    {
+        match sent {
+            Some(sent) => self.push(Draft {
+                client_seq: sent.client_seq(),
+                ref_seq,
+                body: Body::Op(sent.op().copy()?),
+            }),
+            None => Ok(()),
+        }
+    }
+
+    /// How many there are.
+    pub fn len(&self) -> usize
+        ensures { result ≡ length self.now.drafts }
+    {
+        self.drafts.len()
+    }
+
+    /// The one at place `i`, counted from 0: None exactly where `i` isn't below their count.
+    pub fn at(&self, i: usize) -> Option<&Draft>
+        ensures { option_copied result ≡ slice_get self.now.drafts i }
+    {
+        self.drafts.get(i)
+    }
+
+    /// Takes the oldest one: None exactly where there is none.
+    pub fn take(&mut self) -> Option<Draft>
+        ensures oldest { result ≡ slice_get self.old.drafts 0 }
+        ensures rest { self.new ≡ record self.old { drafts = drop 1 self.old.drafts } }
+    {
+        self.drafts.pop_front()
+    }
+}

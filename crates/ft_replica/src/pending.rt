@@ -1,0 +1,207 @@
+//! Pending edits, without their stages, which the document keeps.
+
+ghost use Rattle.std.specs.Prelude.{◌≡◌, [], ◌∷◌, ◌++◌, IfOk, OnOk, OnErr, drop, length, map, slice_get, option_copied};
+ghost use Rattle.ft_replica.specs.Linked.{PendingPart, oldest_count, oldest_ref};
+ghost use Rattle.ft_replica.specs.Unsent.{with_sent};
+
+use crate::outbox::Outbox;
+use ft_base::OutOfMemory;
+use ft_op::ChannelOp;
+use std::alloc::Global;
+use std::collections::VecDeque;
+use std::marker::Model;
+
+/// As what an edit was sent: its connection, its client sequence number, its operation.
+#[derive(Drop)]
+pub struct Sent {
+    conn: u32,
+    client_seq: u64,
+    op: ChannelOp,
+}
+
+impl Model for Sent {
+    ghost use Rattle.ft_msg.specs.Client.{SentAs};
+
+    ghost Value = { SentAs };
+
+    ghost view = { λ a. record { conn = a.conn; client_seq = a.client_seq; op = a.op } };
+}
+
+impl Sent {
+    /// These parts.
+    pub fn new(conn: u32, client_seq: u64, op: ChannelOp) -> Sent
+        ensures { result ≡ record { conn = conn; client_seq = client_seq; op = op } }
+    {
+        Sent {
+            conn,
+            client_seq,
+            op,
+        }
+    }
+
+    /// The connection.
+    pub fn conn(&self) -> u32
+        ensures { result ≡ self.now.conn }
+    {
+        self.conn
+    }
+
+    /// The client sequence number.
+    pub fn client_seq(&self) -> u64
+        ensures { result ≡ self.now.client_seq }
+    {
+        self.client_seq
+    }
+
+    /// The operation.
+    pub fn op(&self) -> &ChannelOp
+        ensures { result.now ≡ self.now.op }
+    {
+        &self.op
+    }
+}
+
+/// A pending edit: how many stages it has, its reference number, and as what it was sent, if it was.
+#[derive(Drop)]
+pub struct PendingEdit {
+    count: usize,
+    ref_seq: u64,
+    sent: Option<Sent>,
+}
+
+impl Model for PendingEdit {
+    ghost use Rattle.ft_replica.specs.Linked.{PendingPart};
+
+    ghost Value = { PendingPart };
+
+    ghost view = { λ a. record { count = a.count; ref_seq = a.ref_seq; sent = a.sent } };
+}
+
+impl PendingEdit {
+    /// The edit with these parts.
+    pub fn new(count: usize, ref_seq: u64, sent: Option<Sent>) -> PendingEdit
+        ensures { result ≡ record { count = count; ref_seq = ref_seq; sent = sent } }
+    {
+        PendingEdit {
+            count,
+            ref_seq,
+            sent,
+        }
+    }
+
+    /// How many stages it has.
+    pub fn count(&self) -> usize
+        ensures { result ≡ self.now.count }
+    {
+        self.count
+    }
+
+    /// Its reference number.
+    pub fn ref_seq(&self) -> u64
+        ensures { result ≡ self.now.ref_seq }
+    {
+        self.ref_seq
+    }
+
+    /// As what it was sent, if it was.
+    pub fn sent(&self) -> &Option<Sent>
+        ensures { result.now ≡ self.now.sent }
+    {
+        &self.sent
+    }
+}
+
+/// Pending edits in order.
+#[derive(Drop)]
+pub struct PendingEdits {
+    edits: VecDeque<PendingEdit>,
+}
+
+impl Model for PendingEdits {
+    ghost use Rattle.std.specs.Prelude.{List};
+    ghost use Rattle.ft_replica.specs.Linked.{PendingPart};
+
+    ghost Value = { List PendingPart };
+
+    ghost view = { λ a. a.edits.items };
+}
+
+impl PendingEdits {
+    /// No edits.
+    pub fn new(alloc: Global) -> PendingEdits
+        ensures { result ≡ [] }
+    {
+        PendingEdits {
+            edits: VecDeque::new(alloc),
+        }
+    }
+
+    /// How many there are.
+    pub fn len(&self) -> usize
+        ensures { result ≡ length self.now }
+    {
+        self.edits.len()
+    }
+
+    /// The oldest one: None exactly where there is none.
+    pub fn oldest(&self) -> Option<&PendingEdit>
+        ensures { option_copied result ≡ slice_get self.now 0 }
+    {
+        self.edits.get(0)
+    }
+
+    /// Takes the oldest one away, if there is one.
+    pub fn drop_oldest(&mut self)
+        ensures { self.new ≡ drop 1 self.old }
+    {
+        let _ = self.edits.pop_front();
+    }
+
+    /// How many stages the oldest one has, 0 where there is none.
+    pub fn oldest_count(&self) -> usize
+        ensures { result ≡ oldest_count self.now }
+    {
+        match self.edits.get(0) {
+            Some(edit) => edit.count,
+            None => 0,
+        }
+    }
+
+    /// Adds an edit behind the others, and its message to the outbox, if it is sent.
+    ///
+    /// Answers `OutOfMemory` where there is no room for that, or the next number of the outbox would pass
+    /// 2^64 - 1, and then nothing changed.
+    pub fn push(&mut self, edit: PendingEdit, outbox: &mut Outbox) -> Result<(), OutOfMemory>
+        ensures edits { OnOk result (self.new ≡ self.old ++ edit ∷ []) }
+        ensures outbox { OnOk result (outbox.new ≡ with_sent edit.sent edit.ref_seq outbox.old) }
+        ensures err { OnErr result ((self.new ≡ self.old) × (outbox.new ≡ outbox.old)) }
+    {
+        self.edits.reserve(1)?;
+        outbox.send(edit.sent(), edit.ref_seq())?;
+        self.edits.push_back_reserved(edit);
+        Ok(())
+    }
+
+    /// The lesser of a number and the reference number of the oldest one, if there is one.
+    pub fn oldest_ref(&self, number: u64) -> u64
+        ensures { result ≡ oldest_ref number self.now }
+    {
+        match self.edits.get(0) {
+            Some(edit) => number.min(edit.ref_seq),
+            None => number,
+        }
+    }
+
+    /// How many stages each has.
+    ///
+    /// Answers `OutOfMemory` where there is no room for that.
+    pub fn counts(&self, alloc: Global) -> Result<Vec<usize>, OutOfMemory>
+        ensures { IfOk result (λ v. v.items ≡ map (λ e. e.count) self.now) }
+    {
+        let mut counts = Vec::new(alloc);
+        for edit in self.edits.iter() {
+            counts.push(edit.count)?;
+        }
+        Ok(counts)
+    }
+}

@@ -1,0 +1,221 @@
+//! The replica over any document.
+
+ghost use Rattle.std.specs.Prelude.{◌≡◌, ◌<◌, ◌||◌, IfOk, IsTrue, None, take};
+ghost use Rattle.ft_op.specs.WellFormed.{IsWellFormed};
+ghost use Rattle.ft_msg.specs.Answers.{Answers, edit_fault_kind};
+ghost use Rattle.ft_msg.specs.Client.{local_edit};
+ghost use Rattle.ft_msg.specs.NameTable.{AreDistinct};
+ghost use Rattle.ft_replica.specs.Kept.{is_of_nobody};
+ghost use Rattle.ft_replica.specs.Linked.{Anyone, RunsForOne};
+ghost use Rattle.ft_replica.specs.Own.{ReadsFew};
+ghost use Rattle.ft_replica.specs.Stopping.{AnswersOwn};
+
+use crate::document::OwnDocument;
+use crate::stopping::StoppingClient;
+use ft_attrib::Attribution;
+use ft_base::{OutOfMemory, Steps};
+use ft_msg::{
+    Body, Draft, EditFault, Entry, LinkFault, Names, Numbers, ProcessFault, Replica, SummaryFault,
+    View, ViewFault,
+};
+use ft_op::ChannelOp;
+use ft_sumdoc::{SumDoc, Texts};
+use std::alloc::Global;
+use std::marker::{Brand, Model};
+use std::sync::ledger::{Blank, Ledger};
+
+/// A client over a document of its own.
+#[derive(Drop)]
+pub struct ReplicaOver<D: OwnDocument> {
+    client: StoppingClient<D>,
+    /// Whether it took an operation of nobody: then no summary can tell whose it was.
+    nameless: bool,
+}
+
+impl<D: OwnDocument> Model for ReplicaOver<D> {
+    ghost use Rattle.ft_msg.specs.Answers.{ReplicaState};
+    ghost use Rattle.ft_replica.specs.Kept.{Holds, state_of};
+
+    ghost Value = { ReplicaState };
+
+    ghost view = { λ a. state_of D.shown a.client };
+
+    ghost invariant = { λ a. Holds D.holds a.client a.nameless };
+}
+
+impl<D: OwnDocument> Replica for ReplicaOver<D> {
+    ghost state = { λ r. r };
+
+    ghost COMPACTS = { D.COMPACTS };
+
+    const COMPACTS: bool = D::COMPACTS;
+
+    fn start(alloc: Global) -> Result<ReplicaOver<D>, OutOfMemory> {
+        let doc = D::start(alloc)?;
+        Ok(ReplicaOver {
+            client: StoppingClient::over(alloc, doc, 0),
+            nameless: false,
+        })
+    }
+
+    fn from_summary(alloc: Global, doc: &SumDoc) -> Result<ReplicaOver<D>, OutOfMemory> {
+        let count = doc.conns.len();
+        if count > u32::MAX as usize {
+            return Err(OutOfMemory);
+        }
+        let own = D::from_summary(alloc, doc)?;
+        Ok(ReplicaOver {
+            client: StoppingClient::over(alloc, own, count as u32),
+            nameless: false,
+        })
+    }
+
+    fn edit(&mut self, op: &ChannelOp) -> Result<(), EditFault> {
+        edit_in::<D, Brand>(&mut self.client, op, Blank::new(1))
+    }
+
+    fn process(&mut self, entry: &Entry) -> Result<(), ProcessFault> {
+        let answer = self.client.process(entry);
+        if answer.is_ok() {
+            self.nameless = is_nameless_after(self.nameless, entry);
+        }
+        answer
+    }
+
+    fn connect(&mut self, conn: u32) -> Result<(), LinkFault> {
+        self.client.connect(conn)
+    }
+
+    fn drop_link(&mut self) -> Result<(), LinkFault> {
+        self.client.drop_link()
+    }
+
+    fn noop(&mut self) -> Result<(), LinkFault> {
+        self.client.noop()
+    }
+
+    fn queued(&self) -> usize {
+        self.client.client().queued()
+    }
+
+    fn queue_at(&self, i: usize) -> Option<&Draft> {
+        self.client.client().queue_at(i)
+    }
+
+    fn numbers(&self) -> Numbers {
+        let own = self.client.numbers();
+        let client = self.client.client();
+        Numbers {
+            seq: own.number,
+            min: own.minimum,
+            pending: client.pending() as u64,
+            skipped: own.skipped,
+            other: own.other,
+            made: own.most(),
+            link: client.link(),
+        }
+    }
+
+    fn take_outgoing(&mut self) -> Option<Draft> {
+        self.client.take_outgoing()
+    }
+
+    fn view(&self) -> Result<View, ViewFault> {
+        if let Some(numbers) = self.client.stop() {
+            return Err(ViewFault::Stopped {
+                seq: numbers.number,
+            });
+        }
+        Ok(self.client.client().view(self.numbers())?)
+    }
+
+    fn summary(&self, names: &Names) -> Result<SumDoc, SummaryFault> {
+        if let Some(numbers) = self.client.stop() {
+            return Err(SummaryFault::Stopped {
+                seq: numbers.number,
+            });
+        }
+        let count = self.client.client().pending() as u64;
+        if count > 0 {
+            return Err(SummaryFault::Pending { count });
+        }
+        if self.nameless {
+            return Err(SummaryFault::OutOfMemory);
+        }
+        let Ok(conns) = first_names(names, self.client.origin()) else {
+            return Err(SummaryFault::OutOfMemory);
+        };
+        match self.client.client().summary(conns) {
+            Ok(sum) => Ok(sum),
+            Err(_) => Err(SummaryFault::OutOfMemory),
+        }
+    }
+
+    fn compact(&mut self) -> Result<(), ViewFault> {
+        self.client.compact()
+    }
+
+    fn attribution(&self) -> Result<Attribution, ViewFault> {
+        if let Some(numbers) = self.client.stop() {
+            return Err(ViewFault::Stopped {
+                seq: numbers.number,
+            });
+        }
+        Ok(self.client.client().origins()?)
+    }
+}
+
+impl<D: OwnDocument> ReplicaOver<D> {
+    /// `edit` with a counter. Where the document counts, each read of a node by which it searches for a place is a
+    /// step, and a single insertion of units, of a marker or of at most 256 characters takes at most 9 for each level
+    /// of the tree and 9 more.
+    pub fn edit_counted<G: Ledger>(
+        &mut self,
+        op: &ChannelOp,
+        steps: &mut Steps<G>,
+    ) -> Result<(), EditFault>
+        requires { IsWellFormed op.now }
+        ensures answers { Answers edit_fault_kind 0 (λ x. local_edit x op.now) self.old self.new result }
+        ensures reads { IsTrue D.COUNTS → self.old.stop ≡ None → ReadsFew op.now self.old.client.doc steps.old steps.new }
+    {
+        self.client.edit(op, steps)
+    }
+}
+
+// An edit with a counter of its own.
+fn edit_in<D: OwnDocument, G: Ledger>(
+    client: &mut StoppingClient<D>,
+    op: &ChannelOp,
+    blank: Blank,
+) -> Result<(), EditFault>
+    requires name { blank.name ≡ G.name }
+    requires parts { blank.parts ≡ G.parts }
+    requires one { 0 < blank.parts }
+    requires formed { IsWellFormed op.now }
+    requires known { client.old.stop ≡ None → RunsForOne D.holds client.old.client Anyone }
+    ensures { AnswersOwn D.holds D.shown edit_fault_kind (λ p. local_edit p op.now) client.old client.new result }
+{
+    let mut steps = Steps::<G>::new(blank);
+    client.edit(op, &mut steps)
+}
+
+/// Whether a client that took an operation of nobody, or none so far, has taken one after this entry.
+fn is_nameless_after(was: bool, entry: &Entry) -> bool
+    ensures { result ≡ (is_of_nobody entry.now || was) }
+{
+    (matches!(entry.msg.body, Body::Op(_)) && entry.origin == 0) || was
+}
+
+/// So many names of the table, in which none stands twice.
+///
+/// Answers `OutOfMemory` where there is no room for them, or it has fewer.
+fn first_names(names: &Names, count: u32) -> Result<Texts, OutOfMemory>
+    ensures first { IfOk result (λ conns. conns ≡ take count names.now) }
+    ensures distinct { AreDistinct names.now }
+{
+    let known = names.len();
+    if (count as usize) > known {
+        return Err(OutOfMemory);
+    }
+    names.first(count)
+}
