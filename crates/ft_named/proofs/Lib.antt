@@ -12,3 +12,4 @@ pub mod AckedSteps
 pub mod CompactedSteps
 pub mod RebuiltSteps
 pub mod PieceSteps
+pub mod LeafWalks
