@@ -1,0 +1,28 @@
+use Rattle.std.proofs.Common.{[], ap, arith, not}
+use Rattle.ft_base.specs.declared.stamps.Stamp.TheVariants.{Acked}
+use Rattle.ft_base.specs.Visibility.{is_acked}
+use Rattle.ft_block.specs.declared.leaves.LenView.TheVariants.{At}
+use Rattle.ft_leaves.specs.Elements.{is_pending, seen_in}
+use Rattle.ft_leaves.specs.TextLeaves.{text_author, text_units}
+use Rattle.ft_op.specs.Operation.{segment_contents}
+use Rattle.ft_props.specs.Properties.{apply}
+use Rattle.ft_string.proofs.PutInParts.{inserts-done, inserts-next, puts-made}
+use Rattle.ft_string.proofs.contents.insert_remote.Goals as goal
+
+pub loop-content-preserved : goal.loop-content-preserved
+loop-content-preserved g c =
+    let at = c.args.at in
+    let ins = Acked c.args.seq at.c in
+    let by = text_author c.args.seq at.c in
+    let props = apply [] c.args.props.now in
+    inserts-next (seen_in (At at)) is_pending c.args.p ins by props (segment_contents c.args.seg.now) c.pop.new.self.items c.in-Some.content
+    c.loop-content.contents.items c.args.tree.now c.loop-content.tree c.insert_remote.new.self c.loop-content.invariant c.in-Some.ensures.items
+    (λ e h. ap (λ t. not (is_acked t)) h) c.in_ok-insert_remote.ensures.inside
+    (puts-made (seen_in (At at)) is_pending c.args.p ins by props (text_units c.in-Some.content) c.loop-content.tree c.insert_remote.new.self
+    c.in_ok-insert_remote.ensures.elements c.in_ok-insert_remote.ensures.refs c.in_ok-insert_remote.ensures.rest c.in_ok-insert_remote.ensures.made)
+
+pub returns : goal.returns
+returns g c =
+    inserts-done (seen_in (At c.args.at)) is_pending c.args.p (Acked c.args.seq c.args.at.c) (text_author c.args.seq c.args.at.c) (apply [] c.args.props.now)
+    (segment_contents c.args.seg.now) c.loop-content.contents.items c.args.tree.now c.loop-content.tree c.loop-content.invariant
+    (omega (arith, c.in_default.ensures.cases.0, c.loop-content.contents.ok.0))

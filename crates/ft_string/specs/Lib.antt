@@ -1,0 +1,14 @@
+pub mod Bare
+pub mod State
+pub mod Holds
+pub mod Edits
+pub mod Contents
+pub mod Parts
+pub mod Acks
+pub mod Rejoins
+pub mod Shows
+pub mod Calls
+pub mod Inside
+pub mod Bodies
+pub mod Saved
+pub mod Loads

@@ -1,0 +1,160 @@
+//! A segment as contents of leaves, and how they come into a tree: the last one first, each at the same place, so that they
+//! stand side by side in their order.
+
+ghost use Rattle.std.specs.Prelude.{◌≡◌, ℕ, ◌+◌, ◌*◌, ◌≤◌, ◌++◌, ◌∷◌, ◌<◌, [], string_bytes, true, IfErr, IfOk, IsTrue, None, OnErr, OnOk, chars, false, flat_map, length, map};
+ghost use Rattle.ft_base.specs.declared.stamps.Stamp.TheVariants.{Acked, Local};
+ghost use Rattle.ft_base.specs.Scan.{len, no_run, put};
+ghost use Rattle.ft_block.specs.declared.leaves.LenView.TheVariants.{At};
+ghost use Rattle.ft_block.specs.Leaves.{last_stage};
+ghost use Rattle.ft_leaves.specs.Edits.{with_place};
+ghost use Rattle.ft_leaves.specs.Elements.{is_pending, new_elements, seen_in};
+ghost use Rattle.ft_leaves.specs.Places.{put_place, shifted_place};
+ghost use Rattle.ft_leaves.specs.References.{ChangesReferences};
+ghost use Rattle.ft_leaves.specs.declared.text.TextPiece.TheVariants.{Run};
+ghost use Rattle.ft_leaves.specs.TextLeaves.{new_text, text_author, text_units};
+ghost use Rattle.ft_leaves.specs.TextRuns.{IsTextRun, longest_run};
+ghost use Rattle.ft_interval.specs.State.{text_elements};
+ghost use Rattle.ft_op.specs.Operation.{segment_contents};
+ghost use Rattle.ft_props.specs.Element.{Character};
+ghost use Rattle.ft_props.specs.Properties.{apply, max_safe_integer};
+ghost use Rattle.ft_tree.specs.State.{KeepsRest};
+ghost use Rattle.ft_string.specs.Contents.{PutsIn, are_new};
+
+use ft_base::{OutOfMemory, Perspective, Steps};
+use ft_op::Seg;
+use ft_props::PropSet;
+use ft_tree::{MAX_RUN, TextContent, Tree, TreeFault};
+use std::alloc::Global;
+use std::sync::ledger::Ledger;
+
+/// The contents of the leaves of a segment, in order.
+///
+/// Answers `OutOfMemory` where there is no room for them.
+pub(crate) fn contents_of(alloc: Global, seg: &Seg) -> Result<Vec<TextContent>, OutOfMemory>
+    ensures units { IfOk result (λ v. flat_map text_units v.items ≡ segment_contents seg.now) }
+    ensures new { IfOk result (λ v. are_new v.items ≡ true) }
+    ensures one { IfOk result (λ v. length (segment_contents seg.now) ≤ longest_run → length v.items ≤ 1) }
+{
+    match seg {
+        Seg::Chars { text } => runs_of(alloc, &characters(alloc, text.as_str())?),
+        Seg::Marker { ref_type } => {
+            let mut contents = Vec::new(alloc);
+            contents.push(TextContent::marker(*ref_type))?;
+            Ok(contents)
+        }
+    }
+}
+
+/// Adds a character to a run.
+///
+/// Answers `OutOfMemory` where there is no room for it.
+pub(crate) fn push_character(run: &mut String, c: char) -> Result<(), OutOfMemory>
+    ensures { OnOk result (chars (string_bytes run.new) ≡ chars (string_bytes run.old) ++ c ∷ []) }
+{
+    run.push(c)?;
+    Ok(())
+}
+
+/// The content of a leaf with these characters.
+///
+/// Answers `OutOfMemory` where there is no room for it.
+fn run_of(alloc: Global, characters: &[char]) -> Result<TextContent, OutOfMemory>
+    requires { IsTextRun characters.now }
+    ensures { IfOk result (λ content. content ≡ new_text (Run characters.now)) }
+{
+    let mut run = String::new(alloc);
+    for c in characters {
+        push_character(&mut run, *c)?;
+    }
+    TextContent::run(alloc, run.as_str())
+}
+
+/// How many of so many characters the next run has.
+fn run_length(count: usize) -> usize
+    requires { 1 ≤ count }
+    ensures some { 1 ≤ result }
+    ensures few { result ≤ 256 }
+    ensures within { result ≤ count }
+    ensures full { 256 ≤ count → result ≡ 256 }
+    ensures rest { count < 256 → result ≡ count }
+{
+    if count < 256 { count } else { 256 }
+}
+
+/// The characters as runs of as many as a leaf may have, but for the last one.
+///
+/// Answers `OutOfMemory` where there is no room for them.
+fn runs_of(alloc: Global, text: &[char]) -> Result<Vec<TextContent>, OutOfMemory>
+    ensures units { IfOk result (λ v. flat_map text_units v.items ≡ map Character text.now) }
+    ensures new { IfOk result (λ v. are_new v.items ≡ true) }
+    ensures one { IfOk result (λ v. length text.now ≤ longest_run → length v.items ≤ 1) }
+{
+    let mut contents = Vec::new(alloc);
+    let mut rest = text;
+    while !rest.is_empty() {
+        let at = run_length(rest.len());
+        contents.push(run_of(alloc, &rest[..at])?)?;
+        rest = &rest[at..];
+    }
+    Ok(contents)
+}
+
+/// The characters of a text.
+///
+/// Answers `OutOfMemory` where there is no room for them.
+pub(crate) fn characters(alloc: Global, text: &str) -> Result<Vec<char>, OutOfMemory>
+    ensures { IfOk result (λ v. v.items ≡ chars text.now) }
+{
+    let characters = text.chars().collect(alloc)?;
+    Ok(characters)
+}
+
+/// Puts the elements of a segment in, of a pending stage, directly after the `p`-th element of the local view.
+///
+/// Answers `OutOfRange` where `p` is above the length of that view, and `OutOfMemory` where there is no room.
+pub(crate) fn insert_local<G: Ledger>(
+    tree: &mut Tree<TextContent>,
+    p: u64,
+    seg: &Seg,
+    props: &PropSet,
+    stage: u64,
+    steps: &mut Steps<G>,
+) -> Result<(), TreeFault>
+    requires usable { IsTrue tree.old.usable }
+    requires made { tree.old.made + length (segment_contents seg.now) ≤ max_safe_integer }
+    ensures ok { let added = new_elements (Local stage) None (apply [] props.now) (segment_contents seg.now) in
+        OnOk result (PutsIn (seen_in last_stage) no_run p added tree.old tree.new) }
+    ensures reads { length (segment_contents seg.now) ≤ longest_run → steps.new ≤ steps.old + 9 * (tree.old.depth + 1) }
+{
+    let mut contents = contents_of(tree.allocator(), seg)?;
+    while let Some(content) = contents.pop() {
+        tree.insert_local(p, content, props, stage, steps)?;
+    }
+    Ok(())
+}
+
+/// Puts the elements of a segment in under number `seq` by the perspective's connection, directly after the `p`-th element
+/// that it sees, but past the run of pending elements there.
+///
+/// Answers `OutOfRange` where `p` is above the length seen, and `OutOfMemory` where there is no room.
+pub(crate) fn insert_remote<G: Ledger>(
+    tree: &mut Tree<TextContent>,
+    p: u64,
+    seg: &Seg,
+    props: &PropSet,
+    seq: u64,
+    at: Perspective,
+    steps: &mut Steps<G>,
+) -> Result<(), TreeFault>
+    requires usable { IsTrue tree.old.usable }
+    requires floor { tree.old.floor ≤ at.r }
+    requires made { tree.old.made + length (segment_contents seg.now) ≤ max_safe_integer }
+    ensures { let added = new_elements (Acked seq at.c) (text_author seq at.c) (apply [] props.now) (segment_contents seg.now) in
+        OnOk result (PutsIn (seen_in (At at)) is_pending p added tree.old tree.new) }
+{
+    let mut contents = contents_of(tree.allocator(), seg)?;
+    while let Some(content) = contents.pop() {
+        tree.insert_remote(p, content, props, seq, at, steps)?;
+    }
+    Ok(())
+}

@@ -1,0 +1,20 @@
+//! The shared text: elements in a merge tree, intervals on them, and what is pending on both.
+//!
+//! Contracts speak of each document, with pending stages, of which a text holds the text's part. After want of memory in a
+//! call that changes it a text may be used no more.
+#![tactic(auto)]
+
+mod acks;
+mod compaction;
+mod contents;
+mod edits;
+mod effects;
+mod lengths;
+pub mod pending;
+mod rejoining;
+mod segments;
+mod shown;
+pub mod strings;
+mod summaries;
+
+pub use strings::SharedString;

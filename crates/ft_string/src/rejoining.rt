@@ -1,0 +1,250 @@
+//! How a shared text comes back under a new connection: each pending edit is sent again, stage by stage, and then the pending
+//! leaves move to where the order will put them.
+
+ghost use Rattle.std.specs.Prelude.{◌≡◌, ℕ, ◌+◌, ◌-◌, ◌<◌, ◌≤◌, ◌^◌, ◌++◌, ◌∷◌, List, [], IfOk, IsTrue, OnErr, OnOk, cond, false, flat_map, map, nat_eq, option_map};
+ghost use Rattle.ft_op.specs.declared.operations.ChannelOp.TheVariants.{Text};
+ghost use Rattle.ft_op.specs.Document.{Document};
+ghost use Rattle.ft_op.specs.Pieces.{op_of, pieces};
+ghost use Rattle.ft_op.specs.Stages.{Stage};
+ghost use Rattle.ft_interval.specs.State.{IsLive, text_elements};
+ghost use Rattle.ft_string.specs.Calls.{AreNext, HoldsAllGiven, HoldsGiven, HoldsRejoined, HoldsSomeGiven};
+ghost use Rattle.ft_string.specs.Holds.{IsTextSound};
+ghost use Rattle.ft_string.specs.Rejoins.{Gives, GivesOps, NextDue, again_of, due, has_any, has_piece, one_of, piece_op};
+
+use crate::lengths::made_in;
+use crate::pending::PendingOp;
+use crate::strings::SharedString;
+use ft_base::OutOfMemory;
+use ft_interval::Collections;
+use ft_op::{BaseOp, BaseOps, TextOp};
+use ft_rebase::{Piece, normalise, regenerate};
+use ft_tree::{TextContent, Tree};
+use std::collections::VecDeque;
+use std::mem;
+
+/// The piece as an operation: the original one at the places of now.
+///
+/// Answers `OutOfMemory` where there is no room for it.
+fn operation_of(op: &BaseOp, piece: Piece) -> Result<BaseOp, OutOfMemory>
+    ensures { IfOk result (λ again. again ≡ piece_op op.now piece) }
+{
+    match (op, piece) {
+        (BaseOp::Insert { seg, props, .. }, Piece::Insert { pos }) => Ok(BaseOp::Insert {
+            pos,
+            seg: seg.copy()?,
+            props: props.copy()?,
+        }),
+        (BaseOp::Annotate { changes, .. }, Piece::Annotate { pos1, pos2 }) => {
+            Ok(BaseOp::Annotate {
+                pos1,
+                pos2,
+                changes: changes.copy()?,
+            })
+        }
+        (BaseOp::Remove { .. }, Piece::Remove { pos1, pos2 }) => {
+            Ok(BaseOp::Remove { pos1, pos2 })
+        }
+        _ => Err(OutOfMemory),
+    }
+}
+
+/// Adds the operations that the pieces of an operation make.
+///
+/// Answers `OutOfMemory` where there is no room for them.
+fn push_pieces(op: &BaseOp, parts: &[Piece], again: &mut BaseOps) -> Result<(), OutOfMemory>
+    ensures { OnOk result (again.new ≡ again.old ++ map (piece_op op.now) parts.now) }
+{
+    for part in parts {
+        again.push(operation_of(op, *part)?)?;
+    }
+    Ok(())
+}
+
+/// Adds the operations as which a pending operation is sent again, and answers whether there are any.
+///
+/// Answers `OutOfMemory` where there is no room for them.
+fn push_again(
+    tree: &Tree<TextContent>,
+    op: &PendingOp,
+    again: &mut BaseOps,
+) -> Result<bool, OutOfMemory>
+    requires { IsTrue tree.now.usable }
+    ensures sends { OnOk result (again.new ≡ again.old ++ again_of (text_elements tree.now) op.now) }
+    ensures some { IfOk result (λ some. some ≡ has_piece (text_elements tree.now) op.now) }
+{
+    let parts = regenerate(tree, op.stage)?;
+    push_pieces(&op.op, &parts, again)?;
+    Ok(!parts.is_empty())
+}
+
+/// Takes the operations of the stages below the end from the front. Those of which something is sent again go behind `kept`;
+/// answers what is sent.
+///
+/// Answers `OutOfMemory` where there is no room for it.
+fn give_ops(
+    tree: &Tree<TextContent>,
+    ops: &mut VecDeque<PendingOp>,
+    kept: &mut VecDeque<PendingOp>,
+    end: u64,
+) -> Result<BaseOps, OutOfMemory>
+    requires { IsTrue tree.now.usable }
+    ensures { IfOk result (λ sent. GivesOps (text_elements tree.now) end ops.old.items ops.new.items kept.old.items kept.new.items sent) }
+{
+    let mut again = BaseOps::new(tree.allocator());
+    while let Some(op) = next_due(ops, end) {
+        let some = push_again(tree, &op, &mut again)?;
+        keep_if(kept, op, some)?;
+    }
+    Ok(again)
+}
+
+/// Takes the first operation, if it is of a stage below the end.
+fn next_due(ops: &mut VecDeque<PendingOp>, end: u64) -> Option<PendingOp>
+    ensures { NextDue end ops.old.items ops.new.items result }
+{
+    if is_due(ops, end) {
+        ops.pop_front()
+    } else {
+        None
+    }
+}
+
+/// Adds the operation, if it goes on.
+///
+/// Answers `OutOfMemory` where there is no room for it.
+fn keep_if(kept: &mut VecDeque<PendingOp>, op: PendingOp, goes_on: bool) -> Result<(), OutOfMemory>
+    ensures { OnOk result (kept.new.items ≡ kept.old.items ++ cond goes_on (op ∷ []) []) }
+{
+    if goes_on {
+        kept.push_back(op)?;
+    }
+    Ok(())
+}
+
+/// Whether the first operation is of a stage below the end.
+fn is_due(ops: &VecDeque<PendingOp>, end: u64) -> bool
+    ensures { result ≡ has_any (due end ops.now.items) }
+{
+    match ops.front() {
+        Some(op) => op.stage < end,
+        None => false,
+    }
+}
+
+/// The operation that these make: one bare, several as a group, none for none.
+///
+/// Answers `OutOfMemory` where there is no room for it.
+fn one_of(ops: BaseOps) -> Result<Option<TextOp>, OutOfMemory>
+    ensures { IfOk result (λ op. op ≡ one_of ops) }
+{
+    match ops.at(0) {
+        None => Ok(None),
+        Some(op) => {
+            if ops.len() == 1 {
+                Ok(Some(TextOp::One(op.copy()?)))
+            } else {
+                Ok(Some(TextOp::Group(ops)))
+            }
+        }
+    }
+}
+
+/// What is sent again of the stages from `first` up to before `end`.
+///
+/// Answers `OutOfMemory` where there is no room for it.
+fn give(
+    tree: &mut Tree<TextContent>,
+    intervals: &mut Collections,
+    ops: &mut VecDeque<PendingOp>,
+    kept: &mut VecDeque<PendingOp>,
+    first: u64,
+    end: u64,
+) -> Result<Option<TextOp>, OutOfMemory>
+    requires usable { IsTrue tree.old.usable }
+    requires live { IsLive tree.old.refs intervals.old }
+    ensures { IfOk result (λ op. Gives first end tree.old tree.new intervals.old intervals.new ops.old.items ops.new.items kept.old.items kept.new.items op) }
+{
+    if intervals.is_pending(first) {
+        // That ends are numbers is read off its contract.
+        let _made = made_in(tree);
+        return Ok(Some(intervals.settle_op(tree, first)?));
+    }
+    one_of(give_ops(tree, ops, kept, end)?)
+}
+
+/// Adds what is in `back` to the end of `front`, and leaves nothing there.
+///
+/// Answers `OutOfMemory` where there is no room for it.
+fn join(front: &mut VecDeque<PendingOp>, back: &mut VecDeque<PendingOp>) -> Result<(), OutOfMemory>
+    ensures { OnOk result (front.new.items ≡ front.old.items ++ back.old.items) }
+{
+    while let Some(op) = back.pop_front() {
+        front.push_back(op)?;
+    }
+    Ok(())
+}
+
+impl SharedString {
+    /// The operation as which the pending ones of the `count` stages from `first` on are sent again: None exactly where nothing
+    /// of them is left. They are all the pending stages of one edit, and each lower pending stage was given before. Until
+    /// `normalise` only this may be called.
+    ///
+    /// Answers `OutOfMemory` where there is no room for it, and then the text may be used no more.
+    pub fn reconnect(&mut self, first: u64, count: u64) -> Result<Option<TextOp>, OutOfMemory>
+        requires usable { IsTrue self.old.usable }
+        requires stages { first + count < 2 ^ 64 }
+        requires order { self.old.given < first }
+        requires held { (last : ℕ) × HoldsSomeGiven last first (first + count) self.old }
+        ensures op { (last : ℕ) → (doc : Document) → (front : List Stage) → (mine : List Stage) → (behind : List Stage)
+            → AreNext self.old.given first (first + count) front mine behind → IsTextSound last doc (front ++ (mine ++ behind))
+            → HoldsGiven self.old doc front (mine ++ behind) → IfOk result (λ op. option_map Text op ≡ op_of (flat_map (pieces doc) mine)) }
+        ensures holds { (last : ℕ) → (doc : Document) → (front : List Stage) → (mine : List Stage) → (behind : List Stage)
+            → AreNext self.old.given first (first + count) front mine behind → IsTextSound last doc (front ++ (mine ++ behind))
+            → HoldsGiven self.old doc front (mine ++ behind) → OnOk result (HoldsGiven self.new doc (front ++ mine) behind) }
+        ensures given { OnOk result (self.new.given ≡ cond (nat_eq count 0) self.old.given (first + count - 1)) }
+        ensures floor { OnOk result (self.new.floor ≡ self.old.floor) }
+        ensures usable { OnOk result (IsTrue self.new.usable) }
+        ensures err { OnErr result (self.new.usable ≡ false) }
+    {
+        self.usable = false;
+        if count == 0 {
+            self.usable = true;
+            return Ok(None);
+        }
+        let end = first + count;
+        let op = give(
+            &mut self.tree,
+            &mut self.intervals,
+            &mut self.ops,
+            &mut self.again,
+            first,
+            end,
+        )?;
+        self.given = first + count - 1;
+        self.usable = true;
+        Ok(op)
+    }
+
+    /// Brings the text in order after all pending stages were given: it is as if they had been made afresh.
+    ///
+    /// Answers `OutOfMemory` where there is no room for it, and then the text may be used no more.
+    pub fn normalise(&mut self) -> Result<(), OutOfMemory>
+        requires usable { IsTrue self.old.usable }
+        requires held { (last : ℕ) × HoldsAllGiven last self.old }
+        ensures holds { (last : ℕ) → (doc : Document) → (stages : List Stage) → IsTextSound last doc stages → HoldsGiven self.old doc stages []
+            → OnOk result (HoldsRejoined self.new doc stages) }
+        ensures given { OnOk result (self.new.given ≡ 0) }
+        ensures floor { OnOk result (self.new.floor ≡ self.old.floor) }
+        ensures usable { OnOk result (IsTrue self.new.usable) }
+        ensures err { OnErr result (self.new.usable ≡ false) }
+    {
+        self.usable = false;
+        normalise(&mut self.tree)?;
+        join(&mut self.again, &mut self.ops)?;
+        let alloc = self.tree.allocator();
+        self.ops = mem::replace(&mut self.again, VecDeque::new(alloc));
+        self.given = 0;
+        self.usable = true;
+        Ok(())
+    }
+}

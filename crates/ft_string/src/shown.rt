@@ -1,0 +1,268 @@
+//! What is shown of a shared text: one walk over its leaves.
+
+ghost use Rattle.std.specs.Prelude.{◌≡◌, ◌≤◌, ◌+◌, ◌++◌, [], ◌∷◌, ℕ, List, IfOk, IsTrue, OnOk, Some, chars, length, map, option_map, string_bytes};
+ghost use Rattle.ft_msg.specs.Blame.{origin_of};
+ghost use Rattle.ft_msg.specs.Content.{stage_view};
+ghost use Rattle.ft_op.specs.Document.{Document};
+ghost use Rattle.ft_op.specs.Stages.{Stage};
+ghost use Rattle.ft_props.specs.Properties.{max_safe_integer};
+ghost use Rattle.ft_string.specs.Calls.{KeepsOthers, ShowsText};
+ghost use Rattle.ft_string.specs.Holds.{HoldsText, IsTextSound};
+ghost use Rattle.ft_string.specs.Shows.{AddsLeaf, AddsShown, ShowsLeaves, characters_of, continued, is_shown_leaf, leaf_origins, markers_of, origins_in, with_properties};
+ghost use Rattle.ft_block.specs.Leaves.{IsLeafIn, value_at};
+ghost use Rattle.ft_leaves.specs.declared.leaves.TreeLeaf.{TreeLeaf};
+ghost use Rattle.ft_leaves.specs.declared.text.TextContent.{TextContent};
+ghost use Rattle.ft_leaves.specs.TextLeaves.{text_units};
+ghost use Rattle.ft_msg.specs.declared.views.Run.{Run};
+
+use crate::lengths::made_in;
+use crate::strings::SharedString;
+use ft_arena::NodeId;
+use ft_attrib::{Attribution, Origin};
+use ft_base::{List, OutOfMemory, Stamp, Text, seen_at};
+use ft_msg::{Run, Spot, Spots, View};
+use ft_props::Props;
+use ft_tree::{TextContent, Tree};
+use std::alloc::Global;
+
+/// What was shown of the elements so far.
+#[derive(Drop)]
+struct Shown {
+    text: String,
+    markers: Spots,
+    runs: Vec<Run>,
+    count: u64,
+}
+
+impl Shown {
+    /// Nothing so far.
+    fn new(alloc: Global) -> Shown
+        ensures text { chars (string_bytes result.text) ≡ [] }
+        ensures markers { result.markers ≡ [] }
+        ensures runs { result.runs.items ≡ [] }
+        ensures count { result.count ≡ 0 }
+    {
+        Shown {
+            text: String::new(alloc),
+            markers: Spots::new(alloc),
+            runs: Vec::new(alloc),
+            count: 0,
+        }
+    }
+
+    /// Shows the elements of a leaf behind those so far.
+    ///
+    /// Answers `OutOfMemory` where there is no room for them, or they would be more than 2^64 - 1.
+    fn add(&mut self, content: &TextContent, len: u64, props: &Props) -> Result<(), OutOfMemory>
+        requires counted { len ≡ length (text_units content.now) }
+        requires some { 1 ≤ len }
+        ensures { OnOk result (AddsShown (text_units content.now) props.now self.old self.new) }
+    {
+        push_text(&mut self.text, content)?;
+        push_marker(&mut self.markers, self.count, content)?;
+        let end = self.count.checked_add(len).ok_or(OutOfMemory)?;
+        push_run(&mut self.runs, self.count, end, props)?;
+        self.count = end;
+        Ok(())
+    }
+}
+
+/// Adds the characters of a content.
+///
+/// Answers `OutOfMemory` where there is no room for them.
+fn push_text(text: &mut String, content: &TextContent) -> Result<(), OutOfMemory>
+    ensures { OnOk result (chars (string_bytes text.new) ≡ chars (string_bytes text.old) ++ characters_of (text_units content.now)) }
+{
+    if let Some(run) = content.text() {
+        text.push_str(run)?;
+    }
+    Ok(())
+}
+
+/// Adds the marker with its place, if the content is one.
+///
+/// Answers `OutOfMemory` where there is no room for it.
+fn push_marker(markers: &mut Spots, pos: u64, content: &TextContent) -> Result<(), OutOfMemory>
+    ensures { OnOk result (markers.new ≡ markers.old ++ markers_of pos (text_units content.now)) }
+{
+    if let Some(ref_type) = content.ref_type() {
+        markers.push(Spot { pos, ref_type })?;
+    }
+    Ok(())
+}
+
+/// Adds a run of properties, if they aren't empty: it goes on with the last one where that ends where it begins and has equal
+/// properties.
+///
+/// Answers `OutOfMemory` where there is no room for it.
+fn push_run(runs: &mut Vec<Run>, start: u64, end: u64, props: &Props) -> Result<(), OutOfMemory>
+    ensures { OnOk result ((more : List Run) → continued runs.new.items more ≡ continued runs.old.items (with_properties start end props.now more)) }
+{
+    if props.is_empty() {
+        return Ok(());
+    }
+    let Some(last) = runs.pop() else {
+        return begin_run(runs, start, end, props);
+    };
+    if last.end == start && last.props.same(props) {
+        runs.push(Run {
+            start: last.start,
+            end,
+            props: last.props,
+        })?;
+        return Ok(());
+    }
+    runs.push(last)?;
+    begin_run(runs, start, end, props)
+}
+
+/// Adds a run behind the others.
+///
+/// Answers `OutOfMemory` where there is no room for it.
+fn begin_run(runs: &mut Vec<Run>, start: u64, end: u64, props: &Props) -> Result<(), OutOfMemory>
+    ensures { OnOk result (runs.new.items ≡ runs.old.items ++ record { start = start; end = end; props = props.now } ∷ []) }
+{
+    let props = props.copy()?;
+    runs.push(Run { start, end, props })?;
+    Ok(())
+}
+
+/// Whether the client sees the elements of a leaf.
+fn is_seen(tree: &Tree<TextContent>, leaf: NodeId) -> bool
+    requires usable { IsTrue tree.now.usable }
+    requires live { IsLeafIn tree.now.leaves leaf }
+    ensures { option_map is_shown_leaf (value_at tree.now.leaves leaf) ≡ Some result }
+{
+    seen_at(tree.leaf_element(leaf), u64::MAX)
+}
+
+/// Shows the elements of a leaf behind those so far, if the client sees them.
+///
+/// Answers `OutOfMemory` where there is no room for them, or they would be more than 2^64 - 1.
+fn add_leaf(tree: &Tree<TextContent>, leaf: NodeId, shown: &mut Shown) -> Result<(), OutOfMemory>
+    requires usable { IsTrue tree.now.usable }
+    requires live { IsLeafIn tree.now.leaves leaf }
+    ensures { OnOk result ((x : TreeLeaf TextContent) → value_at tree.now.leaves leaf ≡ Some x → AddsLeaf x shown.old shown.new) }
+{
+    if !is_seen(tree, leaf) {
+        return Ok(());
+    }
+    let len = tree.leaf_len(leaf);
+    let props = tree.leaf_overlay(leaf).shown_props();
+    shown.add(tree.leaf_content(leaf), len, props)
+}
+
+/// What is shown of all elements.
+///
+/// Answers `OutOfMemory` where there is no room for it.
+fn show_all(tree: &Tree<TextContent>) -> Result<Shown, OutOfMemory>
+    requires { IsTrue tree.now.usable }
+    ensures { IfOk result (λ shown. ShowsLeaves tree.now.leaves shown) }
+{
+    let mut shown = Shown::new(tree.allocator());
+    let mut next = tree.first_leaf();
+    while let Some(leaf) = next {
+        add_leaf(tree, leaf, &mut shown)?;
+        next = tree.next_leaf(leaf);
+    }
+    Ok(shown)
+}
+
+/// The items as a list.
+///
+/// Answers `OutOfMemory` where there is no room for them.
+pub(crate) fn listed<T: Drop>(alloc: Global, items: Vec<T>) -> Result<List<T>, OutOfMemory>
+    ensures { IfOk result (λ list. list ≡ items.items) }
+{
+    let mut list = List::new(alloc);
+    for item in items {
+        list.push(item)?;
+    }
+    Ok(list)
+}
+
+/// Adds who inserted the elements of a leaf, if the client sees them.
+///
+/// Answers `OutOfMemory` where there is no room for them.
+fn add_origin(
+    tree: &Tree<TextContent>,
+    leaf: NodeId,
+    origins: &mut Attribution,
+) -> Result<(), OutOfMemory>
+    requires usable { IsTrue tree.now.usable }
+    requires live { IsLeafIn tree.now.leaves leaf }
+    requires few { (x : TreeLeaf TextContent) → value_at tree.now.leaves leaf ≡ Some x → length origins.old + length (leaf_origins x) ≤ max_safe_integer }
+    ensures { OnOk result ((x : TreeLeaf TextContent) → value_at tree.now.leaves leaf ≡ Some x → origins.new ≡ origins.old ++ leaf_origins x) }
+{
+    if !is_seen(tree, leaf) {
+        return Ok(());
+    }
+    origins.push(tree.leaf_len(leaf), origin_of(tree.leaf_content(leaf)))
+}
+
+/// Who inserted each element that the client sees.
+///
+/// Answers `OutOfMemory` where there is no room for that.
+fn origins_of(tree: &Tree<TextContent>) -> Result<Attribution, OutOfMemory>
+    requires { IsTrue tree.now.usable }
+    ensures { IfOk result (λ origins. origins ≡ origins_in tree.now.leaves) }
+{
+    // That origins are few is read off its contract.
+    let _made = tree.made();
+    let mut origins = Attribution::new(tree.allocator());
+    let mut next = tree.first_leaf();
+    while let Some(leaf) = next {
+        add_origin(tree, leaf, &mut origins)?;
+        next = tree.next_leaf(leaf);
+    }
+    Ok(origins)
+}
+
+/// Who inserted the elements of a leaf.
+fn origin_of(content: &TextContent) -> Origin
+    ensures { result ≡ origin_of content.now.by }
+{
+    match content.by() {
+        None | Some(Stamp::Local { .. }) => Origin::Pending,
+        Some(Stamp::Acked { seq: 0, conn: 0 }) => Origin::Unknown,
+        Some(Stamp::Acked { seq, conn }) => Origin::Known { seq, conn },
+    }
+}
+
+impl SharedString {
+    /// Fills the text's part of a view: characters, markers, runs of properties and intervals.
+    ///
+    /// Answers `OutOfMemory` where there is no room for it, and then the view may have a part of it.
+    pub fn view(&self, out: &mut View) -> Result<(), OutOfMemory>
+        requires usable { IsTrue self.now.usable }
+        requires none_given { self.now.given ≡ 0 }
+        ensures shows { (last : ℕ) → (doc : Document) → (stages : List Stage) → IsTextSound last doc stages → HoldsText self.now doc stages
+            → OnOk result (ShowsText last doc stages out.new) }
+        ensures others { KeepsOthers out.old out.new }
+    {
+        let alloc = self.tree.allocator();
+        // That ends are numbers, and that names rise, is read off these contracts.
+        let _made = made_in(&self.tree);
+        let _first = self.intervals.first_stage();
+        let shown = show_all(&self.tree)?;
+        let intervals = listed(alloc, self.intervals.all(&self.tree)?)?;
+        let runs = listed(alloc, shown.runs)?;
+        out.text = Text::from_string(shown.text);
+        out.markers = shown.markers;
+        out.runs = runs;
+        out.intervals = intervals;
+        Ok(())
+    }
+
+    /// Who inserted each element that the client sees.
+    ///
+    /// Answers `OutOfMemory` where there is no room for it.
+    pub fn attribution(&self) -> Result<Attribution, OutOfMemory>
+        requires usable { IsTrue self.now.usable }
+        requires none_given { self.now.given ≡ 0 }
+        ensures { (last : ℕ) → (doc : Document) → (stages : List Stage) → IsTextSound last doc stages → HoldsText self.now doc stages
+            → IfOk result (λ origins. origins ≡ map (λ e. origin_of e.by) (stage_view last doc.text.items)) }
+    {
+        origins_of(&self.tree)
+    }
+}

@@ -1,0 +1,277 @@
+//! A shared text from a summary, and as one.
+
+ghost use Rattle.std.specs.Prelude.{◌≡◌, ℕ, ◌≤◌, [], IfOk, IsTrue, None, OnOk, map, true};
+ghost use Rattle.ft_op.specs.Document.{Document};
+ghost use Rattle.ft_msg.specs.Summary.{doc_of, segment_bodies, stamp_of};
+ghost use Rattle.ft_op.specs.Operation.{segment_contents};
+ghost use Rattle.ft_props.specs.Keys.{key_cmp, put_rising};
+ghost use Rattle.ft_props.specs.Properties.{apply};
+ghost use Rattle.ft_sumdoc.specs.Forms.{rises};
+ghost use Rattle.ft_sumdoc.specs.Valid.{IsValidSummary, is_interval_before};
+ghost use Rattle.ft_interval.specs.State.{IsLive, text_elements};
+ghost use Rattle.ft_leaves.specs.References.{reference_at};
+ghost use Rattle.ft_leaves.specs.TextLeaves.{text_units};
+ghost use Rattle.ft_string.specs.Calls.{HasNoText, KeepsSummary, SavesText};
+ghost use Rattle.ft_string.specs.Holds.{HoldsSome, HoldsText, IsTextSound};
+ghost use Rattle.ft_string.specs.Loads.{AddsInterval, AllFitOn, Appends, HasIntervals, IsAddOf, everybody, fits_on, given_ends, given_property, segment_elements, summary_elements};
+
+use crate::contents::contents_of;
+use crate::lengths::{have_room, made_in};
+use crate::segments::segments_of;
+use crate::shown::listed;
+use crate::strings::SharedString;
+use ft_base::{Element, OutOfMemory, Perspective, Stamp, Stamps, Text};
+use ft_interval::Collections;
+use ft_json::ValText;
+use ft_op::{Ends, Seg as Segment, TextOp};
+use ft_props::{PropSet, Props};
+use ft_sumdoc::{Ends2, IntervalRec, Mark, Seg, SegRec, SumDoc};
+use ft_tree::{Content, TextContent, Tree};
+use std::alloc::Global;
+use std::collections::VecDeque;
+
+/// The mark as a stamp.
+fn stamp_of(mark: Mark) -> Stamp
+    ensures { result ≡ stamp_of mark }
+{
+    Stamp::Acked {
+        seq: mark.seq,
+        conn: mark.conn,
+    }
+}
+
+/// The marks as stamps.
+///
+/// Answers `OutOfMemory` where there is no room for them.
+fn stamps_of(alloc: Global, marks: &[Mark]) -> Result<Stamps, OutOfMemory>
+    ensures { IfOk result (λ stamps. stamps ≡ map stamp_of marks.now) }
+{
+    let mut stamps = Stamps::new(alloc);
+    for mark in marks {
+        stamps.push(stamp_of(*mark))?;
+    }
+    Ok(stamps)
+}
+
+/// The stamps of the elements of a segment.
+///
+/// Answers `OutOfMemory` where there is no room for them.
+fn element_of(alloc: Global, seg: &SegRec) -> Result<Element, OutOfMemory>
+    ensures { IfOk result (λ e. e ≡ record { ins = stamp_of seg.now.ins; dels = map stamp_of seg.now.dels }) }
+{
+    let dels = stamps_of(alloc, seg.dels.as_slice())?;
+    Ok(Element {
+        ins: stamp_of(seg.ins),
+        dels,
+    })
+}
+
+/// What a segment of a summary holds, as an operation has it.
+///
+/// Answers `OutOfMemory` where there is no room for it.
+fn segment_of(seg: &Seg) -> Result<Segment, OutOfMemory>
+    ensures { IfOk result (λ segment. segment_contents segment ≡ segment_bodies seg.now) }
+{
+    match seg {
+        Seg::Chars { text } => Ok(Segment::Chars { text: text.copy()? }),
+        Seg::Marker { ref_type } => Ok(Segment::Marker {
+            ref_type: *ref_type,
+        }),
+    }
+}
+
+/// Puts the elements of a content at the end, with what the segment has beside its content.
+///
+/// Answers `OutOfMemory` where there is no room for them, or the number of elements would pass its limit.
+fn append_content(
+    tree: &mut Tree<TextContent>,
+    content: TextContent,
+    seg: &SegRec,
+) -> Result<(), OutOfMemory>
+    requires { IsTrue tree.old.usable }
+    ensures { OnOk result (Appends (segment_elements seg.now (text_units content)) tree.old tree.new) }
+{
+    let mut content = content;
+    if !have_room(tree.made(), content.len()) {
+        return Err(OutOfMemory);
+    }
+    content.stamped(seg.by.seq, seg.by.conn);
+    let stamps = element_of(tree.allocator(), seg)?;
+    tree.append(content, &seg.props, stamps)
+}
+
+/// Puts the elements of a segment at the end.
+///
+/// Answers `OutOfMemory` where there is no room for them, or the number of elements would pass its limit.
+fn append(tree: &mut Tree<TextContent>, seg: &SegRec) -> Result<(), OutOfMemory>
+    requires { IsTrue tree.old.usable }
+    ensures { OnOk result (Appends (segment_elements seg.now (segment_bodies seg.now.body)) tree.old tree.new) }
+{
+    let contents = contents_of(tree.allocator(), &segment_of(&seg.body)?)?;
+    for content in contents {
+        append_content(tree, content, seg)?;
+    }
+    Ok(())
+}
+
+/// Puts the elements of segments at the end.
+///
+/// Answers `OutOfMemory` where there is no room for them, or the number of elements would pass its limit.
+fn append_all(tree: &mut Tree<TextContent>, segs: &[SegRec]) -> Result<(), OutOfMemory>
+    requires { IsTrue tree.old.usable }
+    ensures { OnOk result (Appends (summary_elements segs.now) tree.old tree.new) }
+{
+    for seg in segs {
+        append(tree, seg)?;
+    }
+    Ok(())
+}
+
+/// Sets a property in a set.
+///
+/// Answers `OutOfMemory` where there is no room for it.
+fn put_copy(set: &mut PropSet, property: &(Text, ValText)) -> Result<(), OutOfMemory>
+    ensures { OnOk result (set.new ≡ put_rising key_cmp (given_property property.now) set.old) }
+{
+    let key = property.0.copy()?;
+    let value = property.1.copy()?;
+    set.put(key, Some(value))
+}
+
+/// Properties as a set that makes them.
+///
+/// Answers `OutOfMemory` where there is no room for it.
+fn set_of(props: &Props) -> Result<PropSet, OutOfMemory>
+    ensures { IfOk result (λ set. apply [] set ≡ props.now) }
+{
+    let mut set = PropSet::new(props.allocator());
+    let properties = props.as_slice();
+    for property in properties {
+        put_copy(&mut set, property)?;
+    }
+    Ok(set)
+}
+
+/// The ends of an interval of a summary as an operation gives them.
+fn given_ends(ends: Ends2) -> Ends
+    ensures { result ≡ given_ends ends }
+{
+    Ends {
+        start: ends.start,
+        end: ends.end,
+    }
+}
+
+/// The operation that adds an interval of a summary.
+///
+/// Answers `OutOfMemory` where there is no room for it.
+fn add_of(i: &IntervalRec) -> Result<TextOp, OutOfMemory>
+    ensures { IfOk result (λ op. IsAddOf i.now op) }
+{
+    let label = i.label.copy()?;
+    let id = i.id.copy()?;
+    let props = set_of(&i.props)?;
+    Ok(TextOp::IntervalAdd {
+        label,
+        id,
+        ends: given_ends(i.ends),
+        props,
+    })
+}
+
+/// The perspective that sees all that is sequenced, and nothing else.
+fn everybody() -> Perspective
+    ensures { result ≡ everybody }
+{
+    Perspective { r: u64::MAX, c: 0 }
+}
+
+/// Adds an interval of a summary, where its ends fit.
+///
+/// Answers `OutOfMemory` where there is no room for it.
+fn add_interval(
+    intervals: &mut Collections,
+    tree: &mut Tree<TextContent>,
+    i: &IntervalRec,
+) -> Result<(), OutOfMemory>
+    requires usable { IsTrue tree.old.usable }
+    requires floor { tree.old.floor ≡ 0 }
+    requires live { IsLive tree.old.refs intervals.old }
+    requires fits { fits_on (text_elements tree.old) i.now ≡ true }
+    ensures { OnOk result (AddsInterval i.now intervals.old intervals.new tree.old tree.new) }
+{
+    let op = add_of(i)?;
+    let _fits = intervals.apply(tree, &op, everybody())?;
+    Ok(())
+}
+
+/// The intervals of a summary, by rising names, on a tree that has no references.
+///
+/// Answers `OutOfMemory` where there is no room for them.
+fn intervals_on(
+    tree: &mut Tree<TextContent>,
+    recs: &[IntervalRec],
+) -> Result<Collections, OutOfMemory>
+    requires usable { IsTrue tree.old.usable }
+    requires floor { tree.old.floor ≡ 0 }
+    requires bare { (r : ℕ) → reference_at tree.old.refs r ≡ None }
+    requires rise { rises is_interval_before recs.now ≡ true }
+    requires fit { AllFitOn (text_elements tree.old) recs.now }
+    ensures { IfOk result (HasIntervals recs.now tree.old tree.new) }
+{
+    let mut intervals = Collections::new(tree.allocator());
+    for i in recs {
+        add_interval(&mut intervals, tree, i)?;
+    }
+    Ok(intervals)
+}
+
+impl SharedString {
+    /// The text that a summary gives.
+    ///
+    /// Answers `OutOfMemory` where there is no room for it.
+    pub fn load(alloc: Global, doc: &SumDoc) -> Result<SharedString, OutOfMemory>
+        requires { IsValidSummary doc.now }
+        ensures holds { IfOk result (λ s. HoldsText s (doc_of doc.now) []) }
+        ensures sound { IfOk result (HoldsSome 0) }
+        ensures floor { IfOk result (λ s. s.floor ≡ 0) }
+        ensures given { IfOk result (λ s. s.given ≡ 0) }
+        ensures usable { IfOk result (λ s. IsTrue s.usable) }
+    {
+        let mut tree = Tree::new(alloc);
+        append_all(&mut tree, doc.text.as_slice())?;
+        let intervals = intervals_on(&mut tree, doc.intervals.as_slice())?;
+        Ok(SharedString {
+            tree,
+            intervals,
+            ops: VecDeque::new(alloc),
+            again: VecDeque::new(alloc),
+            given: 0,
+            usable: true,
+        })
+    }
+
+    /// Fills the text's part of a summary with the minimum that this has, where nothing is pending.
+    ///
+    /// Answers `OutOfMemory` where there is no room for it, and then the summary may have a part of it.
+    pub fn save(&self, doc: &mut SumDoc) -> Result<(), OutOfMemory>
+        requires usable { IsTrue self.now.usable }
+        requires none_given { self.now.given ≡ 0 }
+        requires ops { self.now.ops ≡ [] }
+        requires interval_ops { self.now.interval_ops ≡ [] }
+        requires floor { self.now.floor ≤ doc.old.min }
+        requires empty { HasNoText doc.old }
+        ensures saves { (last : ℕ) → (held : Document) → IsTextSound last held [] → HoldsText self.now held [] → OnOk result (SavesText held doc.old doc.new) }
+        ensures others { KeepsSummary doc.old doc.new }
+    {
+        // That ends are numbers, and that names rise, is read off these contracts.
+        let _made = made_in(&self.tree);
+        let _first = self.intervals.first_stage();
+        let text = segments_of(&self.tree, doc.min)?;
+        let all = self.intervals.all(&self.tree)?;
+        let intervals = listed(self.tree.allocator(), all)?;
+        doc.text = text;
+        doc.intervals = intervals;
+        Ok(())
+    }
+}
