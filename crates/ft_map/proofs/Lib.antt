@@ -1,0 +1,11 @@
+pub mod MapLaws
+pub mod MarkLaws
+pub mod Views
+pub mod Turns
+pub mod Submitting
+pub mod Stepping
+pub mod CanonicalSummary
+pub mod JoinedConnections
+pub mod Served
+pub mod ServedSteps
+pub mod KnownSessions

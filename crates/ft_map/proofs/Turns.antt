@@ -1,0 +1,197 @@
+-- The client of an event among the clients of a map session, and names.
+use Rattle.std.proofs.Common.{◌≡◌, ℕ, zero, suc, ◌+◌, ◌≤◌, ◌<◌, Bool, true, false, cond, nat_le, List, [], ◌∷◌, ◌++◌, length, slice_index_or, Option, Some, None, refl, sym, ◌∙◌, ap, subst, arith, le-leb}
+use Rattle.std.proofs.Math.ListN.{set}
+use Rattle.std.specs.Result.{IsErr, IsErrAnd}
+use Rattle.std.specs.Prelude.{IsSome, Result, Ok, Err, ⊤}
+use Rattle.std.specs.List.{find, list_any, position, position_from, slice_get}
+use Rattle.std.proofs.lemmas.Bool.Decides.{nat_tests}
+use Rattle.std.proofs.lemmas.Iterator.Adapters.{position_from-zero}
+use Rattle.std.proofs.lemmas.List.Quantifiers.{position-Some}
+use Rattle.std.proofs.lemmas.Option.{slice_get_read}
+use Rattle.ft_seqr.specs.declared.refusals.Refusal.{Refusal}
+use Rattle.ft_seqr.specs.declared.refusals.Refusal.TheVariants.{ClientLimit, NameInUse, Pending, UnknownClient}
+use Rattle.ft_map.specs.declared.events.MapEvent.{MapEvent}
+use Rattle.ft_map.specs.declared.events.MapEvent.TheVariants as event
+use Rattle.ft_map.specs.declared.events.MapOut.{MapOut}
+use Rattle.ft_map.specs.declared.events.MapOut.TheVariants as out
+use Rattle.ft_map.specs.MapClient.{MapClient, client_over}
+use Rattle.ft_map.specs.declared.ops.MapOp.{MapOp}
+use Rattle.ft_map.specs.Maps.{Characters}
+use Rattle.ft_map.specs.MapSession.{MapService, MapSession, MapStepped, NamedMapClient, Nothing, is_client, name_fault, of_client, replaced, settled, start_client, started, step, unless_pending}
+use Rattle.ft_seqr.specs.RefusalKinds.{MeansOf, Refused, refusal_kind}
+use Rattle.ft_seqr.proofs.RefusalKinds.{means-weaker}
+use Rattle.ft_map.specs.MapWorlds.{AnswersSession, AnswersStart, AnswersTurn, HasNoNack, event_client, event_turn}
+
+-- what a search by name finds: the client at a place, which is the first of that name
+pub record Found (name : Characters) (cs : List NamedMapClient) (i : ℕ) : Type 0 where
+  pub client : NamedMapClient
+  pub at : slice_get cs i ≡ Some client
+  pub found : find (is_client name) cs ≡ Some client
+  pub put : (d : NamedMapClient) → replaced name d cs ≡ set cs i d
+
+later : (name : Characters) (c : NamedMapClient) (cs : List NamedMapClient) (j : ℕ) → is_client name c ≡ false → Found name cs j → Found name (c ∷ cs) (suc j)
+later name c cs j e f = record {
+  client = f.client;
+  at = f.at;
+  found = rw e f.found;
+  put = λ d. rw e (ap (λ ds. c ∷ ds) (f.put d));
+}
+
+found_from : (name : Characters) (k i : ℕ) (cs : List NamedMapClient) → position_from (is_client name) k cs ≡ Some i → (j : ℕ) × (i ≡ k + j) × Found name cs j
+found_from name k i [] h = absurd cc
+found_from name k i (c ∷ cs) h = step_at (is_client name c) refl h (λ p. found_from name (k + 1) i cs p)
+  where
+    on : is_client name c ≡ false → (j : ℕ) × (i ≡ k + 1 + j) × Found name cs j → (j : ℕ) × (i ≡ k + j) × Found name (c ∷ cs) j
+    on e (j, q, f) = (suc j, omega arith, later name c cs j e f)
+
+    step_at : (b : Bool) → is_client name c ≡ b → cond b (Some k) (position_from (is_client name) (k + 1) cs) ≡ Some i
+        → (position_from (is_client name) (k + 1) cs ≡ Some i → (j : ℕ) × (i ≡ k + 1 + j) × Found name cs j) → (j : ℕ) × (i ≡ k + j) × Found name (c ∷ cs) j
+    step_at true e p rest = let q : k ≡ i = (cc) in (0, omega arith, record { client = c; at = refl; found = rw e refl; put = λ d. rw e refl })
+    step_at false e p rest = on e (rest p)
+
+pub found : (name : Characters) (i : ℕ) (cs : List NamedMapClient) → position (is_client name) cs ≡ Some i → Found name cs i
+found name i cs h = let (j, q, f) = found_from name 0 i cs (sym (position_from-zero (is_client name) cs) ∙ h) in let e : j ≡ i = omega (arith, q) in subst (Found name cs) e f
+
+not_found_from : (name : Characters) (k : ℕ) (cs : List NamedMapClient) → position_from (is_client name) k cs ≡ None → find (is_client name) cs ≡ None
+not_found_from name k [] h = refl
+not_found_from name k (c ∷ cs) h = step_at (is_client name c) refl h (λ p. not_found_from name (k + 1) cs p)
+  where
+    step_at : (b : Bool) → is_client name c ≡ b → cond b (Some k) (position_from (is_client name) (k + 1) cs) ≡ None
+        → (position_from (is_client name) (k + 1) cs ≡ None → find (is_client name) cs ≡ None) → find (is_client name) (c ∷ cs) ≡ None
+    step_at true e p rest = absurd cc
+    step_at false e p rest = rw e (rest p)
+
+pub not_found : (name : Characters) (cs : List NamedMapClient) → position (is_client name) cs ≡ None → find (is_client name) cs ≡ None
+not_found name cs h = not_found_from name 0 cs (sym (position_from-zero (is_client name) cs) ∙ h)
+
+-- what is lent at the place that was found
+pub at_place : (name : Characters) (cs : List NamedMapClient) (i : ℕ) (c : NamedMapClient) → position (is_client name) cs ≡ Some i → c ≡ slice_index_or cs i c → slice_get cs i ≡ Some c
+at_place name cs i c h k = slice_get_read cs (length cs) i c refl (position-Some (is_client name) cs i c h).0 k
+
+-- what holds of a refusal holds of the answer by which `?` hands it on
+pub handed-on : {A E : Type 0} (P : Result A E → Type 0) (e : E) (result : Result A E) → IsErr result × IsErrAnd result (λ why. why ≡ e) → P (Err e) → P result
+handed-on P e (Ok o) h p = let k = h.0 in (cc)
+handed-on P e (Err why) h p = subst (λ w. P (Err w)) (sym h.1) p
+
+same_set : {A : Type 0} (xs : List A) (i : ℕ) (x : A) → slice_get xs i ≡ Some x → set xs i x ≡ xs
+same_set [] i x h = refl
+same_set (y ∷ xs) zero x h = let e : x ≡ y = (cc) in ap (λ z. z ∷ xs) e
+same_set (y ∷ xs) (suc i) x h = ap (λ zs. y ∷ zs) (same_set xs i x h)
+
+-- ---- events
+
+same_name : (name other : Characters) → Some other ≡ Some name → other ≡ name
+same_name name other h = (cc)
+
+-- an event of a client is its turn
+pub turn_of : (w : MapSession) (e : MapEvent) (name : Characters) → event_client e ≡ Some name → step w e ≡ of_client w name (event_turn e)
+turn_of w (event.Start n from) name h = absurd cc
+turn_of w (event.Connect n) name h = ap (λ (x : Characters). of_client w x (event_turn (event.Connect n))) (same_name name n h)
+turn_of w (event.Drop n) name h = ap (λ (x : Characters). of_client w x (event_turn (event.Drop n))) (same_name name n h)
+turn_of w (event.Edit n op) name h = ap (λ (x : Characters). of_client w x (event_turn (event.Edit n op))) (same_name name n h)
+turn_of w (event.Ticket n many) name h = ap (λ (x : Characters). of_client w x (event_turn (event.Ticket n many))) (same_name name n h)
+turn_of w (event.Deliver n many) name h = ap (λ (x : Characters). of_client w x (event_turn (event.Deliver n many))) (same_name name n h)
+turn_of w (event.Show n) name h = ap (λ (x : Characters). of_client w x (event_turn (event.Show n))) (same_name name n h)
+turn_of w (event.Summary n) name h = ap (λ (x : Characters). of_client w x (event_turn (event.Summary n))) (same_name name n h)
+
+pub some-client : (e : MapEvent) (name : Characters) → event_client e ≡ Some name → IsSome (event_client e)
+some-client e name h = subst (λ (o : Option Characters). IsSome o) (sym h) refl
+
+-- nobody has the name
+pub unknown : (w : MapSession) (e : MapEvent) (name : Characters) → event_client e ≡ Some name → position (is_client name) w.clients ≡ None → step w e ≡ Err UnknownClient
+unknown w e name h p = turn_of w e name h
+    ∙ ap (λ (o : Option NamedMapClient). elim o as (λ _. MapStepped) [ None ↦ Err UnknownClient | Some c ↦ settled w name (event_turn e w.service c) ]) (not_found name w.clients p)
+
+module _ (w : MapSession) (e : MapEvent) (name : Characters) (i : ℕ) (c : NamedMapClient) (named : event_client e ≡ Some name) (at : position (is_client name) w.clients ≡ Some i) (is : slice_get w.clients i ≡ Some c) where
+  settles : step w e ≡ settled w name (event_turn e w.service c)
+  settles =
+      let f = found name i w.clients at in
+      let same : f.client ≡ c = (let h : Some f.client ≡ Some c = sym f.at ∙ is in cc) in
+      turn_of w e name named
+      ∙ ap (λ (o : Option NamedMapClient). elim o as (λ _. MapStepped) [ None ↦ Err UnknownClient | Some d ↦ settled w name (event_turn e w.service d) ]) (f.found ∙ ap Some same)
+
+  unchanged : (new : NamedMapClient) (after : MapService) → new ≡ c → after ≡ w.service → record { clients = set w.clients i new; service = after } ≡ w
+  unchanged new after h k =
+      ap (λ (d : NamedMapClient). let v : MapSession = record { clients = set w.clients i d; service = after } in v) h
+      ∙ ap (λ (s : MapService). let v : MapSession = record { clients = set w.clients i c; service = s } in v) k
+      ∙ ap (λ (cs : List NamedMapClient). let v : MapSession = record { clients = cs; service = w.service } in v) (same_set w.clients i c is)
+
+  -- and what doesn't refuse it doesn't refuse its client
+  pub turn-taken : HasNoNack (step w e) → HasNoNack (event_turn e w.service c)
+  turn-taken h = λ nack t. h nack (settles ∙ ap (settled w name) t)
+
+  -- the session answers as its client does
+  pub answered : (new : NamedMapClient) (after : MapService) (result : Result MapOut Refusal) → AnswersTurn c new w.service after (event_turn e w.service c) result
+      → AnswersSession w (record { clients = set w.clients i new; service = after }) (step w e) result
+  answered new after (Ok out) (output, turned, told) = (
+    output,
+    settles ∙ ap (settled w name) turned ∙ ap (λ (cs : List NamedMapClient). Ok (record { clients = cs; service = after }, output)) ((found name i w.clients at).put new),
+    told,
+  )
+  answered new after (Err why) h = means-weaker (refusal_kind why) (λ p. (unchanged new after p.0 p.1, settles ∙ ap (settled w name) p.2)) h
+
+-- ---- how a client comes in
+
+abbrev named_step : Option Refusal → MapStepped → MapStepped
+named_step fault taken = elim fault as (λ _. MapStepped) [ Some refusal ↦ Err refusal | None ↦ taken ]
+
+module _ (w : MapSession) (name : Characters) (from : Option Characters) where
+  by_name : (fault : Option Refusal) → name_fault w name ≡ fault → step w (event.Start name from) ≡ named_step fault (start_client w name from)
+  by_name fault h = ap (λ (o : Option Refusal). named_step o (start_client w name from)) h
+
+  -- the name can't be given
+  pub start-unnamed : (why : Refusal) → (name_fault w name ≡ Some why) × (refusal_kind why ≡ Refused) → AnswersSession w w (step w (event.Start name from)) (Err why)
+  start-unnamed why (h, k) = subst (λ kind. MeansOf kind ⊤ ((w ≡ w) × (step w (event.Start name from) ≡ Err why))) (sym k) (refl, by_name (Some why) h)
+
+  -- nobody is there to begin with
+  pub start-refused : name_fault w name ≡ None → (why : Refusal) → AnswersStart w from (Err why) → AnswersSession w w (step w (event.Start name from)) (Err why)
+  start-refused free why h = means-weaker (refusal_kind why) (λ p. (refl, by_name None free ∙ p name)) h
+
+  -- the client comes in
+  pub start-taken : name_fault w name ≡ None → (x : MapClient) (new : MapSession) → AnswersStart w from (Ok x)
+      → new ≡ record w { clients = w.clients ++ record { name = name; connects = 0; client = x } ∷ [] } → AnswersSession w new (step w (event.Start name from)) (Ok out.Nothing)
+  start-taken free x new h is = (Nothing, by_name None free ∙ h name ∙ ap (λ (v : MapSession). let r : MapStepped = Ok (v, Nothing) in r) (sym is), tt)
+
+pub nothing_pending : {A : Type 0} (x : MapClient) (taken : Result A Refusal) (ops : List MapOp) → x.state.pending ≡ ops → length ops ≡ 0 → unless_pending x taken ≡ taken
+nothing_pending x taken [] h l = rw h refl
+nothing_pending x taken (op ∷ ops) h l = absurd cc
+
+module _ (w : MapSession) (from : Characters) where
+  abbrev begins : Characters → Option NamedMapClient → MapStepped
+  begins name o = elim o as (λ _. MapStepped) [
+    | None ↦ Err UnknownClient
+    | Some c ↦ unless_pending c.client (started w name (client_over c.client.state.acked c.client.number c.client.minimum))
+  ]
+
+  -- there is no such client to begin from
+  pub begin-unknown : position (is_client from) w.clients ≡ None → (name : Characters) → start_client w name (Some from) ≡ Err UnknownClient
+  begin-unknown p name = ap (begins name) (not_found from w.clients p)
+
+  module _ (i : ℕ) (c : NamedMapClient) (at : position (is_client from) w.clients ≡ Some i) (is : c ≡ slice_index_or w.clients i c) where
+    there : find (is_client from) w.clients ≡ Some c
+    there =
+        let f = found from i w.clients at in
+        let same : Some f.client ≡ Some c = sym f.at ∙ at_place from w.clients i c at is in
+        f.found ∙ same
+
+    some_pending : {A : Type 0} (x : MapClient) (taken : Result A Refusal) (ops : List MapOp) → x.state.pending ≡ ops → 0 < length ops → unless_pending x taken ≡ Err (Pending (length ops))
+    some_pending x taken [] h l = absurd (omega arith)
+    some_pending x taken (op ∷ ops) h l = rw h refl
+
+    pub begin-pending : 0 < length c.client.state.pending → (name : Characters) → start_client w name (Some from) ≡ Err (Pending (length c.client.state.pending))
+    begin-pending l name = ap (begins name) there ∙ some_pending c.client _ c.client.state.pending refl l
+
+    pub begin-copied : (x : MapClient) → length c.client.state.pending ≡ 0 → x ≡ client_over c.client.state.acked c.client.number c.client.minimum → (name : Characters)
+        → start_client w name (Some from) ≡ started w name x
+    begin-copied x l h name = ap (begins name) there ∙ nothing_pending c.client _ c.client.state.pending refl l ∙ ap (started w name) (sym h)
+
+-- ---- names
+
+pub name_taken : (w : MapSession) (name : Characters) → list_any (is_client name) w.clients ≡ true → name_fault w name ≡ Some NameInUse
+name_taken w name h = rw h refl
+
+pub names_full : (w : MapSession) (name : Characters) → list_any (is_client name) w.clients ≡ false → 16 ≤ length w.clients → name_fault w name ≡ Some ClientLimit
+names_full w name h l = rw (h, le-leb 16 (length w.clients) l) refl
+
+pub name_free : (w : MapSession) (name : Characters) → list_any (is_client name) w.clients ≡ false → length w.clients < 16 → name_fault w name ≡ None
+name_free w name h l = let e : nat_le 16 (length w.clients) ≡ false = grind (arith, nat_tests) in rw (h, e) refl

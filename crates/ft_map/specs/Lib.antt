@@ -1,0 +1,10 @@
+pub mod Maps
+pub mod Marks
+pub mod MapClient
+pub mod MapSession
+pub mod MapGrammar
+pub mod MapEventReader
+pub mod MapReport
+pub mod MapRows
+pub mod MapViews
+pub mod MapWorlds

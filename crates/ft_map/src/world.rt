@@ -1,0 +1,222 @@
+//! Worlds of maps.
+
+ghost use Rattle.std.specs.Prelude.{◌≡◌, [], ◌∷◌, ◌++◌, Some, IsSome, OnOk, false, option_copied};
+ghost use Rattle.ft_map.specs.MapViews.{IsReached};
+ghost use Rattle.ft_map.specs.MapSession.{name_fault, new_session, step};
+ghost use Rattle.ft_map.specs.MapWorlds.{AnswersMapEvent, AnswersName, AnswersSession, AnswersStart, AnswersTurn, HasNoNack, event_client, event_turn};
+
+use crate::events::{MapEvent, MapOut};
+use crate::members::{
+    Member, connect, deliver, drop_link, edit, has_member, place_of, show, summarize, ticket,
+};
+use crate::replica::MapReplica;
+use crate::service::Service;
+use crate::shared::SharedMap;
+use ft_base::{OutOfMemory, Text};
+use ft_seqr::Refusal;
+use std::alloc::Global;
+use std::marker::Model;
+
+/// The greatest number of clients.
+const NAME_LIMIT: usize = 16;
+
+/// Clients that change one map over one log, which a sequencer orders. Contracts see it as its clients, what orders
+/// their messages, and whether it stopped.
+#[derive(Drop)]
+pub struct MapWorld {
+    session: Session,
+    stopped: bool,
+}
+
+impl Model for MapWorld {
+    ghost use Rattle.std.specs.Prelude.{◌≡◌, false};
+    ghost use Rattle.ft_map.specs.MapViews.{IsReached};
+    ghost use Rattle.ft_map.specs.MapWorlds.{MapWorldState};
+
+    ghost Value = { MapWorldState };
+
+    ghost view = { λ w. record { session = w.session; stopped = w.stopped } };
+
+    ghost invariant = { λ w. w.stopped ≡ false → IsReached w.session };
+}
+
+impl MapWorld {
+    /// A world before the first event. It takes no memory.
+    pub fn new(alloc: Global) -> MapWorld
+        ensures { result ≡ record { session = new_session; stopped = false } }
+    {
+        MapWorld {
+            session: Session {
+                alloc,
+                members: Vec::new(alloc),
+                service: Service::new(alloc),
+            },
+            stopped: false,
+        }
+    }
+
+    /// An event happens. What it writes is what the naive session writes, and while nothing stopped, that session is one that
+    /// events reach: so each view is an agreed map, and no draft is refused (`laws`).
+    ///
+    /// Answers `Stopped` exactly where an earlier event found no memory; then the refusal of the naive session, and
+    /// nothing changed; and `OutOfMemory` where there is no room, after which the world has stopped.
+    pub fn step(&mut self, event: &MapEvent) -> Result<MapOut, Refusal>
+        ensures answers { AnswersMapEvent event.now self.old self.new result }
+        ensures reached { self.new.stopped ≡ false → IsReached self.new.session }
+    {
+        if self.stopped {
+            return Err(Refusal::Stopped);
+        }
+        match self.session.happen(event) {
+            Ok(out) => Ok(out),
+            Err(why) => {
+                self.stopped = why.is_want();
+                Err(why)
+            }
+        }
+    }
+}
+
+// The clients of a session, and what orders their messages.
+#[derive(Drop)]
+struct Session {
+    alloc: Global,
+    members: Vec<Member>,
+    service: Service,
+}
+
+impl Model for Session {
+    ghost use Rattle.ft_map.specs.MapSession.{MapSession};
+
+    ghost Value = { MapSession };
+
+    ghost view = { λ s. record { clients = s.members.items; service = s.service } };
+}
+
+impl Session {
+    // An event happens.
+    fn happen(&mut self, event: &MapEvent) -> Result<MapOut, Refusal>
+        requires { HasNoNack (step self.old event.now) }
+        ensures { AnswersSession self.old self.new (step self.old event.now) result }
+    {
+        if let Some(name) = client_of(event) {
+            return self.happen_to(name, event);
+        }
+        match event {
+            MapEvent::Start { client, from } => self.start(client, from),
+            _ => unreachable!(),
+        }
+    }
+
+    // An event happens to the client of that name.
+    fn happen_to(&mut self, name: &Text, event: &MapEvent) -> Result<MapOut, Refusal>
+        requires client { event_client event.now ≡ Some name.now }
+        requires sequenced { HasNoNack (step self.old event.now) }
+        ensures { AnswersSession self.old self.new (step self.old event.now) result }
+    {
+        let Some(place) = place_of(self.members.as_slice(), name) else {
+            return Err(Refusal::UnknownClient);
+        };
+        happen_to_member(
+            self.alloc,
+            &mut self.members[place],
+            &mut self.service,
+            event,
+        )
+    }
+
+    // A new client, empty, or with the map and the numbers of the client of the second name.
+    fn start(&mut self, name: &Text, from: &Option<Text>) -> Result<MapOut, Refusal>
+        ensures { AnswersSession self.old self.new (step self.old (MapEvent.Start name.now from.now)) result }
+    {
+        self.free_name(name)?;
+        let client = self.begun(from)?;
+        self.admit(name, client)?;
+        Ok(MapOut::Nothing)
+    }
+
+    // Whether the name can be given.
+    //
+    // Answers `NameInUse` exactly where a client has it, and `ClientLimit` exactly where there are 16 of these.
+    fn free_name(&self, name: &Text) -> Result<(), Refusal>
+        ensures { AnswersName (name_fault self.now name.now) result }
+    {
+        if has_member(self.members.as_slice(), name) {
+            return Err(Refusal::NameInUse);
+        }
+        if NAME_LIMIT <= self.members.len() {
+            return Err(Refusal::ClientLimit);
+        }
+        Ok(())
+    }
+
+    // A client that is empty, or has the map and the numbers of the client of this name.
+    fn begun(&self, from: &Option<Text>) -> Result<MapReplica, Refusal>
+        ensures { AnswersStart self.now from.now result }
+    {
+        let Some(from) = from else {
+            return Ok(MapReplica::over(self.alloc, SharedMap::new(self.alloc), 0, 0));
+        };
+        let Some(place) = place_of(self.members.as_slice(), from) else {
+            return Err(Refusal::UnknownClient);
+        };
+        let client = &self.members[place].client;
+        let count = client.pending();
+        if count > 0 {
+            return Err(Refusal::Pending { count });
+        }
+        Ok(client.successor()?)
+    }
+
+    // A client comes in under a new name.
+    fn admit(&mut self, name: &Text, client: MapReplica) -> Result<(), OutOfMemory>
+        ensures { OnOk result (self.new ≡ record self.old { clients = self.old.clients ++ record { name = name.now; connects = 0; client = client } ∷ [] }) }
+    {
+        let name = name.copy()?;
+        self.members.push(Member {
+            name,
+            connects: 0,
+            client,
+        })?;
+        Ok(())
+    }
+}
+
+// The client of an event, if it is of one that is there.
+fn client_of(event: &MapEvent) -> Option<&Text>
+    ensures { option_copied result ≡ event_client event.now }
+{
+    match event {
+        MapEvent::Connect { client }
+        | MapEvent::Drop { client }
+        | MapEvent::Edit { client, .. }
+        | MapEvent::Ticket { client, .. }
+        | MapEvent::Deliver { client, .. }
+        | MapEvent::Show { client }
+        | MapEvent::Summary { client } => Some(client),
+        MapEvent::Start { .. } => None,
+    }
+}
+
+// An event happens to its client.
+fn happen_to_member(
+    alloc: Global,
+    member: &mut Member,
+    service: &mut Service,
+    event: &MapEvent,
+) -> Result<MapOut, Refusal>
+    requires client { IsSome (event_client event.now) }
+    requires sequenced { HasNoNack (event_turn event.now service.old member.old) }
+    ensures { AnswersTurn member.old member.new service.old service.new (event_turn event.now service.old member.old) result }
+{
+    match event {
+        MapEvent::Connect { .. } => connect(alloc, member, service),
+        MapEvent::Drop { .. } => drop_link(member, service),
+        MapEvent::Edit { op, .. } => edit(member, service, op),
+        MapEvent::Ticket { count, .. } => ticket(member, service, *count),
+        MapEvent::Deliver { count, .. } => deliver(member, service, *count),
+        MapEvent::Show { .. } => show(member, service),
+        MapEvent::Summary { .. } => summarize(alloc, member, service),
+        MapEvent::Start { .. } => unreachable!(),
+    }
+}
