@@ -1,6 +1,7 @@
 pub mod Sequencer
 pub mod SequencerCalls
 pub mod Refusals
+pub mod RefusalKinds
 pub mod SameMessage
 pub mod EventGrammar
 pub mod EventReader

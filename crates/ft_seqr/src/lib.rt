@@ -2,6 +2,7 @@
 #![tactic(auto)]
 
 pub mod answer_texts;
+pub mod connections;
 pub mod events;
 mod faults;
 pub mod laws;
@@ -13,6 +14,7 @@ pub mod sequencer;
 pub mod writing;
 
 pub use answer_texts::{author_texts, origin_run_text, overlap_text};
+pub use connections::{conn_of, connection_name, wanted_count};
 pub use events::{Event, HowMany};
 pub use nacks::{LeaveFault, Nack, SubmitFault};
 pub use reading::read_event;

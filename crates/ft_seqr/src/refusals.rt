@@ -1,6 +1,7 @@
 //! Why a line is refused.
 
 ghost use Rattle.std.specs.Prelude.{◌≡◌};
+ghost use Rattle.ft_seqr.specs.RefusalKinds.{is_want};
 ghost use Rattle.ft_seqr.specs.Refusals.{refusal_number, refusal_of_cause, refusal_of_process};
 
 use crate::nacks::Nack;
@@ -159,6 +160,13 @@ impl Refusal {
             }
             ProcessFault::NotSent => Refusal::Foreign { number },
         }
+    }
+
+    /// Whether it is want of memory.
+    pub fn is_want(self) -> bool
+        ensures { result ≡ is_want self }
+    {
+        matches!(self, Refusal::OutOfMemory)
     }
 
     /// The number under which it is written; want of memory is never written and has 0.
