@@ -138,16 +138,6 @@ not-puts k j (OnGrid op) h = (cc)
 
 -- ---- stages that are renamed
 
-renamed-elements : (f : ElementId → ElementId) (ts : List Stage) → element_stages (map (renamed_stage f) ts) ≡ map (renamed_stage f) (element_stages ts)
-renamed-elements f [] = refl
-renamed-elements f (t ∷ ts) = step (is_on_elements t.sub_operation) (renamed-elements f ts)
-  where
-    step : (b : Bool) → element_stages (map (renamed_stage f) ts) ≡ map (renamed_stage f) (element_stages ts)
-        → cond b (renamed_stage f t ∷ element_stages (map (renamed_stage f) ts)) (element_stages (map (renamed_stage f) ts))
-        ≡ map (renamed_stage f) (cond b (t ∷ element_stages ts) (element_stages ts))
-    step true h = ap (λ us. renamed_stage f t ∷ us) h
-    step false h = h
-
 renamed-intervals : (f : ElementId → ElementId) (ts : List Stage) → interval_stages (map (renamed_stage f) ts) ≡ map (renamed_stage f) (interval_stages ts)
 renamed-intervals f [] = refl
 renamed-intervals f (t ∷ ts) = step (is_on_intervals t.sub_operation) (renamed-intervals f ts)

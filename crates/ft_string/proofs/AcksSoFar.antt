@@ -1,14 +1,11 @@
 -- Stages of a text one after another, as a loop acknowledges them.
-use Rattle.std.proofs.Common.{◌≡◌, ℕ, suc, ◌+◌, ◌≤◌, ◌<◌, All, Bool, true, false, cond, not, ◌||◌, nat_eq, nat_lt, min, IsTrue, List, [], ◌∷◌, Option, Some, None, refl, sym, ◌∙◌, ap, subst, arith, length, drop, map, filter}
+use Rattle.std.proofs.Common.{◌≡◌, ℕ, ◌+◌, ◌≤◌, ◌<◌, All, Bool, true, false, cond, not, ◌||◌, nat_eq, nat_lt, min, IsTrue, List, [], ◌∷◌, Option, Some, None, refl, sym, ◌∙◌, ap, subst, arith, length, drop, map, filter}
 use Rattle.std.specs.List.{list_all}
 use Rattle.std.proofs.lemmas.Bool.Decides.{nat_tests}
 use Rattle.std.proofs.lemmas.List.Elements.{All-cons, All-nil}
 use Rattle.ft_base.proofs.Booleans.{both}
 use Rattle.ft_interval.specs.declared.pending.Operation.{Operation}
-use Rattle.ft_interval.specs.declared.intervals.EndPair.{EndPair}
-use Rattle.ft_interval.specs.declared.intervals.Interval.{Interval}
-use Rattle.ft_interval.specs.Ends.{References, map_ends, slid_end}
-use Rattle.ft_interval.specs.State.{CollectionsState, IsLive, first_stage, is_first, placed_intervals, placed_operations, text_elements, with_first_acked}
+use Rattle.ft_interval.specs.State.{CollectionsState, IsLive, first_stage, is_first, text_elements}
 use Rattle.ft_laws.proofs.NumberTests.{same_number}
 use Rattle.ft_leaves.specs.declared.text.TextContent.{TextContent}
 use Rattle.ft_leaves.specs.Elements.{IsLowestChange, TreeElement, acked_element}
@@ -126,13 +123,6 @@ first-element : (k : ℕ) (t : PendingOp) (us : List Operation) → least_of (So
 first-element k t [] h e = some-same h
 first-element k t (u ∷ us) h e = lesser t.stage u.stage k (some-same h) e
 
-first-there : (k : ℕ) (us : List Operation) → least_of None (first_stage us) ≡ Some k → is_first k us ≡ true
-first-there k [] h = (cc)
-first-there k (u ∷ us) h = let same : u.stage ≡ k = some-same h in step u.stage same
-  where
-    step : (j : ℕ) → j ≡ k → nat_eq j k ≡ true
-    step j e = grind (arith, nat_tests)
-
 rise-tail : (low : ℕ) (t : PendingOp) (ts : List PendingOp) → OpsRise low (t ∷ ts) → OpsRise low ts
 rise-tail low t [] r = tt
 rise-tail low t (u ∷ us) r = (let a = r.0 in let b = r.1.0 in omega arith, r.1.1)
@@ -151,14 +141,6 @@ pub record AcksSoFar (end s c : ℕ) (first now : TreeState TextContent) (before
   pub rise : OpsRise 0 rest
   pub noted : AreNoted rest (text_elements now)
 
-pub acks-begin : (end s c : ℕ) (tree : TreeState TextContent) (given : CollectionsState) (ops : List PendingOp) → IsTrue tree.usable → IsLive tree.refs given → OpsRise 0 ops
-    → AreNoted ops (text_elements tree) → AcksSoFar end s c tree tree given given ops ops
-acks-begin end s c tree given ops usable live rise noted = record { whole = λ new after more h. h; usable = usable; live = live; rise = rise; noted = noted }
-
-length-placed : (refs : References) (us : List Operation) → length (placed_operations refs us) ≡ length us
-length-placed refs [] = refl
-length-placed refs (u ∷ us) = ap suc (length-placed refs us)
-
 -- what stays of the operations, by whether the stage is the first on intervals
 rest-rise : (b : Bool) (ops : List PendingOp) → OpsRise 0 ops → OpsRise 0 (cond b ops (drop 1 ops))
 rest-rise true ops r = r
@@ -171,27 +153,10 @@ rest-noted k s c ops us xs l n true e = kept-noted k s c ops xs n
 rest-noted k s c [] us xs l n false e = kept-noted k s c [] xs n
 rest-noted k s c (t ∷ ts) us xs l n false e = dropped-noted k s c t ts (first-element k t us l e) xs n
 
-rest-fewer : (k : ℕ) (ops : List PendingOp) (us more : List Operation) (refs after : References) → least_of (first_op ops) (first_stage us) ≡ Some k
-    → (f : EndPair ℕ → EndPair ℕ) (is : List (Interval ℕ)) → (b : Bool) → is_first k us ≡ b
-    → placed_operations after more ≡ (cond b (with_first_acked f (record { acked = is; pending = placed_operations refs us })) (record { acked = is; pending = placed_operations refs us })).pending
-    → length (cond b ops (drop 1 ops)) + length more < length ops + length us
-rest-fewer k ops [] more refs after l f is true e p = (cc)
-rest-fewer k ops (u ∷ us) more refs after l f is true e p =
-    let n = length-placed after more in let m = length-placed refs us in let same = ap (λ ts. length ts) p in omega arith
-rest-fewer k [] us more refs after l f is false e p = let never = sym e ∙ first-there k us l in (cc)
-rest-fewer k (t ∷ ts) us more refs after l f is false e p =
-    let n = length-placed after more in let m = length-placed refs us in let same = ap (λ ts. length ts) p in omega arith
-
 module _ (end k s c : ℕ) (now mid : TreeState TextContent) (given between : CollectionsState) (rest more : List PendingOp) (h : next_below end given rest ≡ Some k)
     (a : AcksStage k s c now mid given between rest more) where
   found : least_of (first_op rest) (first_stage given.pending) ≡ Some k
   found = below-is end (least_of (first_op rest) (first_stage given.pending)) k h
-
-  pub acks-fewer : pending_count between more < pending_count given rest
-  acks-fewer =
-      subst (λ os. length os + length between.pending < length rest + length given.pending) (sym a.ops_are)
-      (rest-fewer k rest given.pending between.pending a.mid.refs mid.refs found (map_ends (slid_end (text_elements a.mid))) (placed_intervals a.mid.refs given.acked)
-      (is_first k given.pending) refl (ap (λ (x : CollectionsState). x.pending) a.intervals))
 
   pub acks-next : (first : TreeState TextContent) (before : CollectionsState) (ops : List PendingOp) → AcksSoFar end s c first now before given ops rest
       → AcksSoFar end s c first mid before between ops more

@@ -1,5 +1,6 @@
 -- What a message of another client makes of a tree of text, and of the document that this holds.
 use Rattle.std.proofs.Common.{◌≡◌, ℕ, zero, suc, ◌+◌, ◌≤◌, ◌<◌, Bool, true, false, cond, nat_le, List, [], ◌∷◌, Option, Some, None, refl, sym, ◌∙◌, ap, subst, arith, length, map, option_map, option_and_then}
+use Rattle.std.proofs.lemmas.Bool.Decides.{nat_tests}
 use Rattle.ft_base.specs.declared.elements.Perspective.{Perspective}
 use Rattle.ft_base.specs.declared.stamps.Stamp.TheVariants.{Acked}
 use Rattle.ft_base.specs.Scan.{change_range, len}
@@ -31,7 +32,6 @@ use Rattle.ft_string.specs.Parts.{AppliesOp, AreSound, TriesOp, TriesOps, state_
 use Rattle.ft_string.specs.declared.pending.PendingOp.{PendingOp}
 use Rattle.ft_named.proofs.Bares.{AreElements, from-bare, seen-alike}
 use Rattle.ft_laws.proofs.NumberTests.{from_self}
-use Rattle.ft_string.proofs.Counts.{le-false}
 use Rattle.ft_string.proofs.Documents.{IsNamed, keeps-end, name-same, keeps-settled, settled-stands, sound-step, step-holds, step-named}
 use Rattle.ft_string.proofs.Ends.{IsMarkedEnd, SameEnd, end-kept, end-moved, end-slid, name-slid, same-names}
 use Rattle.ft_named.proofs.ListSteps.{StepsList, annotation-alike, annotation-step, insertion-alike, insertion-step, removal-alike, removal-step}
@@ -44,6 +44,9 @@ same-contents (u ∷ us) = ap (λ vs. u ∷ vs) (same-contents us)
 pub same-place : (o : Option ℕ) → option_map (λ i. i) o ≡ o
 same-place None = refl
 same-place (Some i) = refl
+
+le-false : (m n : ℕ) → n < m → nat_le m n ≡ false
+le-false m n l = grind (arith, nat_tests)
 
 pub choice-true : {A : Type 0} (b : Bool) (x y : A) → b ≡ true → cond b x y ≡ x
 choice-true true x y h = refl

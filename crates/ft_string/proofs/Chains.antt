@@ -1,5 +1,5 @@
 -- Operations of a tree one after another, as loops make them.
-use Rattle.std.proofs.Common.{◌≡◌, ℕ, zero, suc, ◌+◌, ◌≤◌, ◌<◌, All, IsTrue, List, [], ◌∷◌, ◌++◌, refl, sym, ◌∙◌, ap, subst, arith, length, drop, get_or, append_assoc, append-nil}
+use Rattle.std.proofs.Common.{◌≡◌, ℕ, zero, suc, ◌+◌, ◌≤◌, ◌<◌, All, IsTrue, List, [], ◌∷◌, ◌++◌, refl, sym, ◌∙◌, ap, subst, arith, length, drop, get_or, append_assoc}
 use Rattle.std.specs.List.{AllByRecursion}
 use Rattle.std.proofs.Math.Seq.{drop-cons}
 use Rattle.ft_base.specs.declared.elements.Perspective.{Perspective}
@@ -22,18 +22,6 @@ pub record TriesSoFar (s : ℕ) (at : Perspective) (all rest : List BaseOp) (ski
   pub usable : IsTrue now.usable
   pub floor : now.floor ≡ first.floor
   pub formed : AllByRecursion IsWellFormedBase rest
-
-pub tries-begin : (s : ℕ) (at : Perspective) (all : List BaseOp) (first : TreeState TextContent) → IsTrue first.usable → AllByRecursion IsWellFormedBase all
-    → TriesSoFar s at all all 0 first first
-tries-begin s at all first usable formed = record {
-  whole = λ new n h. subst (λ k. TriesOps s at all k first new) (zero-more n) h;
-  usable = usable;
-  floor = refl;
-  formed = formed;
-}
-  where
-    zero-more : (n : ℕ) → n ≡ 0 + n
-    zero-more n = omega arith
 
 usable-after : (s : ℕ) (at : Perspective) (op : BaseOp) (n : ℕ) (old new : TreeState TextContent) → TriesOp s at op n old new → IsTrue old.usable → IsTrue new.usable
 usable-after s at op zero old new t u = subst (λ b. IsTrue b) (sym t.1.rest.usable) u
@@ -60,11 +48,6 @@ ahead all i op l e = drop-cons all i op l ∙ ap (λ o. o ∷ drop (suc i) all) 
   where
     one-more : (n : ℕ) → suc n ≡ n + 1
     one-more n = omega arith
-
--- the operation at hand
-pub formed-here : (s : ℕ) (at : Perspective) (all : List BaseOp) (i : ℕ) (op : BaseOp) (skipped : ℕ) (first now : TreeState TextContent)
-    → TriesSoFar s at all (drop i all) skipped first now → i < length all → op ≡ get_or all i op → IsWellFormedBase op
-formed-here s at all i op skipped first now h l e = (subst (λ os. AllByRecursion IsWellFormedBase os) (ahead all i op l e) h.formed).0
 
 pub tries-next : (s : ℕ) (at : Perspective) (all : List BaseOp) (i : ℕ) (op : BaseOp) (skipped more : ℕ) (first now next : TreeState TextContent)
     → TriesSoFar s at all (drop i all) skipped first now → i < length all → op ≡ get_or all i op → TriesOp s at op more now next
@@ -116,15 +99,6 @@ pub takes-next : (first : ℕ) (all : List BaseOp) (i : ℕ) (op : BaseOp) (stag
     → after ≡ pending ++ (record { stage = stage; op = op } ∷ []) → TakesSoFar first all (drop (i + 1) all) (stage + 1) tree next before after
 takes-next first all i op stage tree now next before pending after h l e t n =
     takes-next-of first all op (drop (i + 1) all) stage tree now next before pending after (takes-here first all i op stage tree now before pending h l e) t n
-
-pub takes-done : (first : ℕ) (all rest : List BaseOp) (stage : ℕ) (tree now : TreeState TextContent) (before pending : List PendingOp)
-    → TakesSoFar first all rest stage tree now before pending → rest ≡ [] → TakesOps first all tree now
-takes-done first all rest stage tree now before pending h none = h.whole now (subst (λ os. TakesOps stage os now now) (sym none) refl)
-
-pub notes-done : (first : ℕ) (all rest : List BaseOp) (stage : ℕ) (tree now : TreeState TextContent) (before pending : List PendingOp)
-    → TakesSoFar first all rest stage tree now before pending → rest ≡ [] → pending ≡ before ++ noted first all
-notes-done first all rest stage tree now before pending h none =
-    sym (append-nil pending) ∙ sym (ap (λ os. pending ++ noted stage os) none) ∙ sym h.notes
 
 pub takes-begin : (first : ℕ) (all : List BaseOp) (tree : TreeState TextContent) (pending : List PendingOp) → IsTrue tree.usable → AllByRecursion IsWellFormedBase all
     → All (λ e. IsAboveChanges first e.overlay) (text_elements tree) → tree.made + put_in_by_all all ≤ max_safe_integer

@@ -33,10 +33,6 @@ pub each-of : {A : Type 0} (P : A → Type 0) (xs : List A) → All P xs → Eac
 each-of P [] h = tt
 each-of P (x ∷ xs) h = (All-head P x xs h, each-of P xs (All-tail P x xs h))
 
-map-flat : {A B C : Type 0} (g : B → C) (f : A → List B) (xs : List A) → map g (flat_map f xs) ≡ flat_map (λ x. map g (f x)) xs
-map-flat g f [] = refl
-map-flat g f (x ∷ xs) = map-append g (f x) (flat_map f xs) ∙ ap (λ zs. map g (f x) ++ zs) (map-flat g f xs)
-
 pub all-kept : {A : Type 0} (test : A → Bool) (xs : List A) → list_all test xs ≡ true → filter test xs ≡ xs
 all-kept test [] h = refl
 all-kept test (x ∷ xs) h = let p = both (test x) (list_all test xs) h in rw p.0 (ap (λ ys. x ∷ ys) (all-kept test xs p.1))

@@ -57,10 +57,6 @@ none-of None h = refl
 none-of (Some t) h = (cc)
 
 module _ (see past : TreeElement ElementContent → Bool) (p : ℕ) (ins : Stamp) (by : Option Stamp) (props : PropertyList) where
-  -- the elements of units
-  abbrev made_of : List ElementContent → List (TreeElement ElementContent)
-  made_of us = new_elements ins by props us
-
   -- what is left of the contents makes of the tree what all make of the first one
   pub record InsertsLeft (all : List ElementContent) (left : List TextContent) (first now : TreeState TextContent) : Type 0 where
     pub whole : (new : TreeState TextContent) → PutsIn see past p (new_elements ins by props (flat_map text_units left)) now new

@@ -247,13 +247,6 @@ module _ (given first end : ℕ) (order : given < first) (some : first < end) (t
       step true e = let g = gives.interval e in kept-sound tree new c d sound g.2.leaves g.2.refs
       step false e = let g = gives.elements e in same-sound tree new c d sound g.4 g.3
 
-  pub given-floor : new.floor ≡ tree.floor
-  given-floor = step (list_any (is_at_stage first) c.pending) refl
-    where
-      step : (b : Bool) → list_any (is_at_stage first) c.pending ≡ b → new.floor ≡ tree.floor
-      step true e = ap (λ (x : TreeState TextContent). x.floor) (gives.interval e).2.leaves
-      step false e = ap (λ (x : TreeState TextContent). x.floor) (gives.elements e).3
-
 from-end : (end : ℕ) (us : List Stage) → AreFrom end us → 0 < end → Each (λ t. end - 1 < t.stage) us
 from-end end [] h l = tt
 from-end end (u ∷ us) h l =

@@ -22,9 +22,6 @@ new-append : (xs ys : List TextContent) → are_new xs ≡ true → are_new ys �
 new-append [] ys h g = g
 new-append (x ∷ xs) ys h g = let p = both (is_none x.by) (are_new xs) h in rw (p.0, new-append xs ys p.1 g) refl
 
-pub runs-begin : (text : List ℕ) → RunsSoFar text [] text
-runs-begin text = record { units = refl; fresh = refl; full = λ l. omega arith; few = omega arith }
-
 -- one run more
 pub next-run : (text front rest : List ℕ) (contents : List TextContent) → RunsSoFar text contents (front ++ rest) → 1 ≤ length front → length front ≤ 256
     → (1 ≤ length rest → length front ≡ 256) → RunsSoFar text (contents ++ (new_text (Run front) ∷ [])) rest
@@ -40,9 +37,6 @@ next-run text front rest contents h some small whole =
       full = λ l. (let size = whole l in omega arith);
       few = omega arith;
     }
-
-pub runs-end : (text : List ℕ) (contents : List TextContent) → RunsSoFar text contents [] → flat_map text_units contents ≡ map Character text
-runs-end text contents h = sym (append-nil (flat_map text_units contents)) ∙ h.units
 
 take_of_length-le : (k : ℕ) (xs : List ℕ) → length xs ≤ k → take k xs ≡ xs
 take_of_length-le k xs l = step (take-append-drop k xs) (nothing (drop k xs) (omega (arith, length-drop k xs)))

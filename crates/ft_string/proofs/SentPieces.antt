@@ -135,10 +135,6 @@ any-of-block is props us es h = filtered es ∙ counted us (filter is es) h
 
 -- ---- the pieces
 
-mapped-twice : {A B C : Type 0} (f : B → C) (g : A → B) (xs : List A) → map f (map g xs) ≡ map (λ x. f (g x)) xs
-mapped-twice f g [] = refl
-mapped-twice f g (x ∷ xs) = ap (λ ys. f (g x) ∷ ys) (mapped-twice f g xs)
-
 abbrev sent : BaseOp → List Piece → List SubOperation
 sent op ps = map (λ o. OnText o) (map (piece_op op) ps)
 

@@ -1,5 +1,5 @@
 -- Pending operations that are given one after another, as a loop does it.
-use Rattle.std.proofs.Common.{◌≡◌, ℕ, Bool, true, false, cond, nat_lt, List, [], ◌∷◌, ◌++◌, refl, sym, ◌∙◌, ap, filter, flat_map, append_assoc, append-nil}
+use Rattle.std.proofs.Common.{◌≡◌, ℕ, Bool, true, false, cond, nat_lt, List, [], ◌∷◌, ◌++◌, refl, sym, ◌∙◌, ap, filter, flat_map, append-nil}
 use Rattle.ft_op.specs.declared.operations.BaseOp.{BaseOp}
 use Rattle.ft_string.specs.Parts.{TextElements}
 use Rattle.ft_string.specs.Rejoins.{GivesOps, again_of, due, has_piece, left_over}
@@ -10,27 +10,6 @@ pub record GivesSoFar (xs : TextElements) (end : ℕ) (all left before kept : Li
   pub sends : sent ++ flat_map (again_of xs) (due end left) ≡ flat_map (again_of xs) (due end all)
   pub rest : left_over end left ≡ left_over end all
   pub keeps : kept ++ filter (has_piece xs) (due end left) ≡ before ++ filter (has_piece xs) (due end all)
-
-pub gives-begin : (xs : TextElements) (end : ℕ) (all before : List PendingOp) → GivesSoFar xs end all all before before []
-gives-begin xs end all before = record { sends = refl; rest = refl; keeps = refl }
-
-pub gives-next : (xs : TextElements) (end : ℕ) (all left before kept : List PendingOp) (sent : List BaseOp) (t : PendingOp) (rest after : List PendingOp) (more : List BaseOp)
-    → GivesSoFar xs end all left before kept sent → left ≡ t ∷ rest → nat_lt t.stage end ≡ true → more ≡ sent ++ again_of xs t
-    → after ≡ kept ++ cond (has_piece xs t) (t ∷ []) [] → GivesSoFar xs end all rest before after more
-gives-next xs end all left before kept sent t rest after more h e l m k = record {
-  sends = ap (λ os. os ++ flat_map (again_of xs) (due end rest)) m ∙ append_assoc sent (again_of xs t) (flat_map (again_of xs) (due end rest))
-      ∙ sym (ap (λ os. sent ++ flat_map (again_of xs) os) is) ∙ h.sends;
-  rest = sym (ap (left_over end) e ∙ ap (λ b. cond b (left_over end rest) (t ∷ rest)) l) ∙ h.rest;
-  keeps = ap (λ os. os ++ filter (has_piece xs) (due end rest)) k ∙ append_assoc kept (cond (has_piece xs t) (t ∷ []) []) (filter (has_piece xs) (due end rest))
-      ∙ ap (λ os. kept ++ os) (one (has_piece xs t)) ∙ sym (ap (λ os. kept ++ filter (has_piece xs) os) is) ∙ h.keeps;
-}
-  where
-    is : due end left ≡ t ∷ due end rest
-    is = ap (due end) e ∙ ap (λ b. cond b (t ∷ due end rest) []) l
-
-    one : (b : Bool) → cond b (t ∷ []) [] ++ filter (has_piece xs) (due end rest) ≡ cond b (t ∷ filter (has_piece xs) (due end rest)) (filter (has_piece xs) (due end rest))
-    one true = refl
-    one false = refl
 
 -- nothing is due any more
 pub gives-done : (xs : TextElements) (end : ℕ) (all left before kept : List PendingOp) (sent : List BaseOp) → GivesSoFar xs end all left before kept sent → due end left ≡ []

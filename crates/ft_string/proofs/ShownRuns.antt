@@ -87,11 +87,6 @@ module _ (start end : ℕ) (props : PropertyList) (old new : List Run) (filled :
   abbrev run : Run
   run = record { start = start; end = end; props = props }
 
-  -- a run behind none
-  pub run-alone : old ≡ [] → new ≡ [] ++ run ∷ [] → (more : List Run) → continued new more ≡ continued old (with_properties start end props more)
-  run-alone none made more =
-      ap (λ rs. continued rs more) made ∙ sym (filled-run start end props more filled) ∙ ap (λ rs. continued rs (with_properties start end props more)) (sym none)
-
   -- a run with which the last one goes on
   pub run-joined : (rest : List Run) (last : Run) → old ≡ rest ++ last ∷ [] → last.end ≡ start → last.props ≡ props
       → new ≡ rest ++ record last { end = end } ∷ [] → (more : List Run) → continued new more ≡ continued old (with_properties start end props more)
