@@ -49,8 +49,9 @@ impl Intake {
         src: &mut S,
     ) -> Result<Line, LineFault>
         requires { self.old.ended ≡ false }
-        ensures { Call (as_reader self.old limit None) (as_reader self.new limit (result_err result))
+        ensures call { Call (as_reader self.old limit None) (as_reader self.new limit (result_err result))
             (S.remaining src.old) (S.remaining src.new) (S.faults src.old) (S.faults src.new) result }
+        ensures steady { OnOk result (S.faults src.new ≡ S.faults src.old) }
     {
         let mut line = Line::Full(Bytes::new(alloc));
         loop {
@@ -80,6 +81,7 @@ impl Intake {
         ensures limit { IsErrOf result LineFault.InputLimit → input_limit < self.old.given }
         ensures memory { IsErrOf result LineFault.OutOfMemory → ⊥ }
         ensures later { S.faults src.old ≤ S.faults src.new }
+        ensures steady { OnOk result (S.faults src.new ≡ S.faults src.old) }
     {
         if self.given > INPUT_LIMIT {
             return Err(LineFault::InputLimit);

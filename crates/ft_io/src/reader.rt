@@ -1,6 +1,6 @@
 //! The lines of what a source gives.
 
-ghost use Rattle.std.specs.Prelude.{◌≡◌, IfOk, IfSome, IsTrue, None, Ok, Err};
+ghost use Rattle.std.specs.Prelude.{◌≡◌, IfOk, IfSome, IsTrue, None, Ok, Err, OnOk};
 ghost use Rattle.ft_io.specs.Reader.{Call, new_reader};
 
 use crate::byte_lists::Bytes;
@@ -108,7 +108,8 @@ impl Lines {
     /// where the source gave a byte more than an input may have, both only where every line that was
     /// ended by the bytes given was handed out, and `OutOfMemory` where there is no room for the line.
     /// After any of the three every later call answers the same, and after the end every later call
-    /// answers that: the source is not read again.
+    /// answers that: the source is not read again. Where it answers a line or the end, the source's count is
+    /// as it was.
     pub fn next<S: Source>(&mut self, src: &mut S) -> Result<Line, LineFault>
         ensures call { self.old.fault ≡ None → Call self.old self.new (S.remaining src.old) (S.remaining src.new)
             (S.faults src.old) (S.faults src.new) result }
@@ -116,6 +117,7 @@ impl Lines {
             (result ≡ Err fault) × (self.new ≡ self.old) × (src.new ≡ src.old)) }
         ensures ended { self.old.fault ≡ None → IsTrue self.old.ended →
             (result ≡ Ok Line.End) × (self.new ≡ self.old) × (src.new ≡ src.old) }
+        ensures steady { OnOk result (S.faults src.new ≡ S.faults src.old) }
     {
         if let Some(fault) = self.fault {
             return Err(fault);

@@ -19,7 +19,8 @@ pub trait Source {
     /// Reads bytes into the front of `buf`, and answers how many: none only at the end or where
     /// `buf` is empty.
     ///
-    /// Answers `Failed` only where the count of faults rose in this call, and then no byte was read.
+    /// Answers `Failed` only where the count of faults rose in this call, and then no byte was read; else the
+    /// count is as it was.
     fn read(&mut self, buf: &mut [u8]) -> Result<usize, Failed>
         ensures count { IfOk result (λ n. n ≤ length buf.new) }
         ensures bytes { ReadConsumes (remaining self.old) (remaining self.new) result buf.new }
@@ -36,7 +37,8 @@ pub trait Sink {
 
     /// Takes bytes from the front of `buf`, and answers how many: none only where `buf` is empty.
     ///
-    /// Answers `Failed` only where the count of faults rose in this call, and then no byte was taken.
+    /// Answers `Failed` only where the count of faults rose in this call, and then no byte was taken; else the
+    /// count is as it was.
     fn write(&mut self, buf: &[u8]) -> Result<usize, Failed>
         ensures count { IfOk result (λ n. n ≤ length buf.now) }
         ensures some { 0 < length buf.now → IfOk result (λ n. 0 < n) }
@@ -47,7 +49,7 @@ pub trait Sink {
 /// Writes all the bytes, in order.
 ///
 /// Answers `Failed` only where the sink's count of faults rose in this call, and then the sink has
-/// taken some of the first of the bytes.
+/// taken some of the first of the bytes; else the count is as it was, so no write was tried again.
 pub fn write_all<K: Sink>(out: &mut K, bytes: &[u8]) -> Result<(), Failed>
     ensures ok { OnOk result (Appends (K.contents out.old) (K.contents out.new) bytes.now) }
     ensures prefix { OnErr result ((n : ℕ) × (n ≤ length bytes.now)

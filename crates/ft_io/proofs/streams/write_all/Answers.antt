@@ -17,5 +17,5 @@ loop-at-preserved g c =
     record {
       within = omega (arith, e.count, ap length rest, length-drop at bytes);
       taken = subst (λ r. Appends (held c.args.out.now) (held c.write.new.self) r) both (Appends-append (held c.args.out.now) (held c.loop-at.out) (held c.write.new.self) (take at bytes) (take n (take (length bytes - at) (drop at bytes))) c.loop-at.invariant.taken e.bytes);
-      later = omega (arith, e.cause.later);
+      steady = e.cause.steady ∙ c.loop-at.invariant.steady;
     }

@@ -7,8 +7,8 @@ use Rattle.ft_io.specs.Intake.{as_reader}
 use Rattle.ft_io.proofs.Gathering.{gathers_more, call_whole, call_last, call_fault}
 use Rattle.ft_io.proofs.intake.Intake.next_line.Goals as goal
 
-pub returns-in-Last : goal.returns-in-Last
-returns-in-Last g c =
+pub returns-in-Last-clause-call : goal.returns-in-Last-clause-call
+returns-in-Last-clause-call g c =
     let left = g.S.Source.remaining in
     let faults = g.S.Source.faults in
     let now = c.loop-whole in
@@ -19,8 +19,8 @@ returns-in-Last g c =
     call_whole old (left c.args.src.now) (faults c.args.src.now) now.self.piece now.self.given now.line (left now.src) (faults now.src) h
     new c.requires cuts.0 c.in-Last.whole cuts.1 cuts.2 cuts.3 refl refl now.invariant.goes_on refl
 
-pub returns-in_err-fill : goal.returns-in_err-fill
-returns-in_err-fill g c =
+pub returns-in_err-fill-clause-call : goal.returns-in_err-fill-clause-call
+returns-in_err-fill-clause-call g c =
     let left = g.S.Source.remaining in
     let faults = g.S.Source.faults in
     let now = c.loop-whole in
@@ -36,8 +36,8 @@ returns-in_err-fill g c =
     (as_reader c.fill.new.self c.args.limit (Some fault)) c.requires (left c.fill.new.src) (faults c.fill.new.src) told.err.1 told.later fault cuts.0 told.err.0 refl refl
     (λ e. told.read (ap Err e)) (λ e. told.limit (ap Err e)) (λ e. told.memory (ap Err e)))
 
-pub returns-then-self : goal.returns-then-self
-returns-then-self g c =
+pub returns-then-self-clause-call : goal.returns-then-self-clause-call
+returns-then-self-clause-call g c =
     let left = g.S.Source.remaining in
     let faults = g.S.Source.faults in
     let now = c.loop-whole in
@@ -65,4 +65,5 @@ loop-whole-preserved g c =
       gathers = gathers_more old (left c.args.src.now) (faults c.args.src.now) now.self.piece now.self.given now.line (left now.src) (faults now.src) h
           c.fill.new.self.piece c.fill.new.self.given c.in-More.part (left c.fill.new.src) (faults c.fill.new.src) cuts.0 cuts.1 told.bytes told.given.1 c.fill.new.self.within told.later;
       goes_on = c.if-self.false;
+      steady = told.steady ∙ now.invariant.steady;
     }

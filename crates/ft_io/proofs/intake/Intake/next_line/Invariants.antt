@@ -9,6 +9,7 @@ abbrev pub invariant-loop-whole : goal.invariant-loop-whole
 invariant-loop-whole g l = record {
   gathers : Gathers (as_reader l.initial.self l.limit None) (g.S.Source.remaining l.initial.src) (g.S.Source.faults l.initial.src) l.self.piece l.self.given l.line (g.S.Source.remaining l.src) (g.S.Source.faults l.src);
   goes_on : l.self.ended ≡ false;
+  steady : g.S.Source.faults l.src ≡ g.S.Source.faults l.initial.src;
 }
 
 -- each piece brings the input nearer to its limit
