@@ -1,5 +1,5 @@
 -- Clients and guests come into a session.
-use Rattle.std.proofs.Common.{◌≡◌, ◌≤◌, ℕ, zero, suc, ◌+◌, List, [], ◌∷◌, ◌++◌, length, map, take, get_or, Option, Some, None, Ok, Err, find, refl, sym, ◌∙◌, ap, subst, arith}
+use Rattle.std.proofs.Common.{◌≡◌, ◌≤◌, ℕ, zero, suc, ◌+◌, List, [], ◌∷◌, ◌++◌, length, map, get_or, Option, Some, None, Ok, Err, find, refl, sym, ◌∙◌, ap, subst, arith}
 use Rattle.std.proofs.lemmas.List.{length-take-le}
 use Rattle.std.specs.Prelude.{⊤, slice_get}
 use Rattle.std.specs.List.{position}
@@ -24,10 +24,12 @@ use Rattle.ft_seqr.specs.World.{NaiveWorld, NamedClient, NamedGuest, Nothing, St
 use Rattle.ft_worlds.specs.MadeWorlds.{IsMade}
 use Rattle.ft_worlds.proofs.MadeWorlds.{made-distinct, made-known, made-reached, made-start}
 use Rattle.ft_session.specs.declared.outputs.Out.TheVariants as out
+use Rattle.ft_session.specs.Effects.{KeepsTrimmed}
 use Rattle.ft_session.specs.Entrances.{AnswersName, IsCopyOf, new_member}
 use Rattle.ft_session.specs.Worlds.{AnswersHappening, MeansOf, MeetsSome, MembersStand, MemberStands, MemberState, Refused, ServiceState, SessionState, SessionStands, has_name, refusal_kind, service_of}
 use Rattle.ft_session.proofs.RefusalKinds.{means-weaker, some-none}
 use Rattle.ft_session.proofs.Placing.{found, not_found, stand-more}
+use Rattle.ft_session.proofs.TrimmedCopies.{keeps-trimmed}
 
 -- ---- names
 
@@ -267,3 +269,14 @@ module _ (s : SessionState) (name : Characters) (w : NaiveWorld) (made : IsMade 
       let known : AnswersSummary w.names m.replica (Ok sum) =
       subst (λ names. AnswersSummary names m.replica (Ok sum)) (ap (λ (b : ServiceState). b.names) stands.service) answers in
       summary-copies w made name n a.client m sum new a.found a.stands reached known over runs free
+
+  -- it keeps what a summary keeps of that document
+  pub copy-trimmed : (i : ℕ) (m : MemberState) (sum : SumDoc) (new : ReplicaState) → position (has_name name) s.members ≡ Some i → m ≡ get_or s.members i m
+      → AnswersSummary s.service.names m.replica (Ok sum) → StartsOver new (doc_of sum) (length sum.conns)
+      → (c : NamedClient) → find (is_client name) w.clients ≡ Some c → KeepsTrimmed new c.client.doc
+  copy-trimmed i m sum new place at answers over c h =
+      let a = one-at i m place at in
+      let reached = (each-found (λ (d : NamedClient). IsReached d.client) (is_client name) w.clients a.client a.found (made-reached w made)).0 in
+      let same : a.client ≡ c = some-same a.client c (sym a.found ∙ h) in
+      subst (λ (d : NamedClient). KeepsTrimmed new d.client.doc) same
+      (keeps-trimmed sum a.client.client.doc (answers.doc a.client.client reached a.stands.replica.client).gives new (length sum.conns) over)

@@ -1,8 +1,8 @@
 -- What one client answers to its event, its session answers.
-use Rattle.std.proofs.Common.{◌≡◌, ◌≤◌, ℕ, zero, suc, nat_le, true, List, [], ◌∷◌, ◌++◌, Some, None, Result, Ok, Err, find, length, map, refl, sym, ◌∙◌, ap, subst, arith, append-nil, slice_get}
+use Rattle.std.proofs.Common.{◌≡◌, ◌≤◌, ℕ, zero, suc, ◌+◌, nat_le, Bool, true, false, cond, List, [], ◌∷◌, ◌++◌, Some, None, Result, Ok, Err, find, length, map, refl, sym, ◌∙◌, ap, subst, arith, append-nil, slice_get}
 use Rattle.std.proofs.lemmas.Iterator.Adapters.{position_from-zero}
-use Rattle.std.specs.List.{position}
-use Rattle.std.specs.Prelude.{IsTrue}
+use Rattle.std.specs.List.{position, position_from}
+use Rattle.std.specs.Prelude.{IfOk, IsTrue}
 use Rattle.std.proofs.Math.ListN.{get_or, set}
 use Rattle.std.proofs.lemmas.Bool.Decides.{nat_tests}
 use Rattle.std.proofs.lemmas.List.Quantifiers.{position-Some}
@@ -20,6 +20,7 @@ use Rattle.ft_seqr.specs.World.{NaiveWorld, NamedClient, NamedGuest, Stepped, ha
 use Rattle.ft_worlds.specs.MadeWorlds.{IsMade}
 use Rattle.ft_worlds.proofs.MadeWorlds.{made-distinct, made-within, placed-same}
 use Rattle.ft_session.specs.declared.outputs.Out.{Out}
+use Rattle.ft_session.specs.Effects.{MemberEffect, NamedEffect, SessionEffect}
 use Rattle.ft_session.specs.Entrances.{client_of}
 use Rattle.ft_session.specs.Worlds.{AnswersAsked, AnswersClient, AnswersHappening, AnswersReading, AnswersSession, AnswersStepped, LeavesClient, Meets, MeetsSome, MembersStand, MemberStands, MemberState, ServiceState, SessionState, SessionStands, StandsForSome, has_name, refusal_kind}
 use Rattle.ft_session.proofs.RefusalKinds.{means-weaker}
@@ -90,6 +91,38 @@ happen-unknown w (event.Guest n) name q h = (cc)
 happen-unknown w (event.Submit n text) name q h = (cc)
 happen-unknown w (event.Part n) name q h = (cc)
 
+-- ---- what a client's event makes of its replica
+
+-- it is the one that is found under its name
+set-found_from : (name : Characters) (m : MemberState) → has_name name m ≡ true → (k j : ℕ) (ms : List MemberState) → position_from (has_name name) k ms ≡ Some j
+    → (l : ℕ) × (j ≡ k + l) × (find (has_name name) (set ms l m) ≡ Some m)
+set-found_from name m t k j [] q = (cc)
+set-found_from name m t k j (x ∷ ms) q = step (has_name name x) refl (set-found_from name m t (k + 1) j ms) q
+  where
+    step : (b : Bool) → has_name name x ≡ b
+        → (position_from (has_name name) (k + 1) ms ≡ Some j → (l : ℕ) × (j ≡ k + 1 + l) × (find (has_name name) (set ms l m) ≡ Some m))
+        → cond b (Some k) (position_from (has_name name) (k + 1) ms) ≡ Some j → (l : ℕ) × (j ≡ k + l) × (find (has_name name) (set (x ∷ ms) l m) ≡ Some m)
+    step true f ih g = let p : k ≡ j = some-same k j g in (0, omega arith, rw t refl)
+    step false f ih g = let (l, p, h) = ih g in (suc l, omega arith, rw f h)
+
+set-found : (name : Characters) (i : ℕ) (ms : List MemberState) (m : MemberState) → position (has_name name) ms ≡ Some i → has_name name m ≡ true
+    → find (has_name name) (set ms i m) ≡ Some m
+set-found name i ms m h t =
+    let (l, p, f) = set-found_from name m t 0 i ms (sym (position_from-zero (has_name name) ms) ∙ h) in
+    let same : l ≡ i = omega (arith, p) in
+    subst (λ n. find (has_name name) (set ms n m) ≡ Some m) same f
+
+effect-named : (compacts : Bool) (e : Event) (n name : Characters) (s : SessionState) (m : MemberState) (out : Out) → Some n ≡ Some name → find (has_name name) s.members ≡ Some m
+    → MemberEffect compacts e m out → NamedEffect compacts e n s out
+effect-named compacts e n name s m out q f h = record { member = m; found = ap (λ k. find (has_name k) s.members) (some-same n name q) ∙ f; effect = h }
+
+effect-found : (compacts : Bool) (e : Event) (old new : SessionState) (name : Characters) (m : MemberState) (out : Out) → client_of e ≡ Some name
+    → find (has_name name) new.members ≡ Some m → MemberEffect compacts e m out → SessionEffect compacts e old new out
+effect-found compacts (event.Show n) old new name m out q f h = effect-named compacts (event.Show n) n name new m out q f h
+effect-found compacts (event.Compact n) old new name m out q f h = effect-named compacts (event.Compact n) n name new m out q f h
+effect-found compacts (event.Start n from) old new name m out q f h = (cc)
+effect-found compacts _ old new name m out q f h = tt
+
 -- ---- the session
 
 module _ (e : Event) (name : Characters) (ms : List MemberState) (guests : List NamedGuest) (before : ServiceState) where
@@ -159,6 +192,16 @@ module _ (e : Event) (name : Characters) (ms : List MemberState) (guests : List 
       pub happened-to : (result : Result Out Refusal) → AnswersClient (λ w c. happen w e) m new before after result
           → AnswersHappening (λ w. happen w e) (whole ms before) (whole (set ms i new) after) result
       happened-to result a = record { world = λ w made s. stepped w made s result (a.client w (here w made s).member (meets-here w made s)) }
+
+      -- what it makes of the replicas
+      pub happened-effect : (compacts : Bool) (old : SessionState) → StandsForSome (whole ms before) → client_of e ≡ Some name → (result : Result Out Refusal)
+          → AnswersClient (λ w c. happen w e) m new before after result → IfOk result (λ out. MemberEffect compacts e new out)
+          → IfOk result (λ out. SessionEffect compacts e old (whole (set ms i new) after) out)
+      happened-effect compacts old s q (Err why) a h = tt
+      happened-effect compacts old s q (Ok out) a h =
+          let f = here s.world s.made s.stands in
+          let (p, k, l, t) = a.client s.world f.member (meets-here s.world s.made s.stands) in
+          effect-found compacts e old (whole (set ms i new) after) name new out q (set-found name i ms new place ((bytes_eq-Decides name new.name).1 (sym (l.member.name ∙ (l.name ∙ f.named))))) h
 
 -- ---- ranges
 

@@ -9,6 +9,7 @@ mod Submissions
 mod Processed
 mod Happenings
 mod Naming
+mod TrimmedCopies
 mod Entering
 mod SessionAnswers
 mod GuestEvents

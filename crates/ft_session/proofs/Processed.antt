@@ -1,5 +1,5 @@
 -- A client processes the next messages of the log.
-use Rattle.std.proofs.Common.{◌≡◌, ◌≤◌, ◌<◌, ℕ, zero, suc, ◌+◌, max, cond, nat_eq, nat_le, true, false, Bool, List, [], ◌∷◌, ◌++◌, drop, fold, length, take, Option, Some, None, Result, Ok, Err, is_some, not, refl, sym, ◌∙◌, ap, subst, arith, append-nil}
+use Rattle.std.proofs.Common.{◌≡◌, ◌≤◌, ◌<◌, ℕ, zero, suc, ◌+◌, max, cond, nat_eq, true, false, Bool, List, [], ◌∷◌, ◌++◌, drop, fold, length, take, Option, Some, None, Result, Ok, Err, is_some, not, refl, sym, ◌∙◌, ap, subst, arith, append-nil}
 use Rattle.std.proofs.lemmas.List.{length-take-le}
 use Rattle.std.specs.Prelude.{encode_utf8_all, ⊤}
 use Rattle.std.proofs.lemmas.Bool.Decides.{nat_tests}
@@ -24,7 +24,6 @@ use Rattle.ft_msg.specs.WellFormed.{IsWellFormedMessage}
 use Rattle.ft_msg.proofs.LinkSteps.{stands-link}
 use Rattle.ft_msg.proofs.ReachedSteps.{reached-process}
 use Rattle.ft_seqr.specs.declared.events.HowMany.{HowMany}
-use Rattle.ft_seqr.specs.declared.events.HowMany.TheVariants.{All, Num}
 use Rattle.ft_seqr.specs.declared.refusals.Refusal.{Refusal}
 use Rattle.ft_seqr.specs.declared.refusals.Refusal.TheVariants.{Foreign, NotConnected, NothingToDeliver, OutOfMemory, OutOfOrder}
 use Rattle.ft_seqr.specs.Refusals.{refusal_of_cause, refusal_of_process}

@@ -9,10 +9,12 @@ use Rattle.ft_seqr.specs.WellFormedEvent.{IsWellFormedEvent}
 use Rattle.ft_seqr.specs.World.{NaiveWorld, happen, loaded, new_world, step, text_load}
 use Rattle.ft_seqr.specs.Sequencer.{new_sequencer}
 use Rattle.ft_worlds.proofs.MadeWorlds.{made-first, made-next}
+use Rattle.ft_session.specs.declared.outputs.Counts.{Counts}
 use Rattle.ft_session.specs.declared.outputs.Out.{Out}
+use Rattle.ft_session.specs.Outputs.{counts_of}
 use Rattle.ft_session.specs.declared.world.Taken.{Taken}
 use Rattle.ft_session.specs.Steps.{AnswersStep, StandsAtLoad, StandsFor}
-use Rattle.ft_session.specs.Worlds.{AnswersEvent, AnswersHappening, MeansOf, RefusalKind, HadStopped, Refused, RunsForSome, SessionState, StandsForSome, WantsMemory, WorldStands, WorldState, is_want, refusal_kind}
+use Rattle.ft_session.specs.Worlds.{AnswersEvent, AnswersHappening, MeansOf, RefusalKind, HadStopped, Refused, RunsForSome, MembersStand, SessionState, StandsForSome, StopsWithCounts, WantsMemory, WorldStands, WorldState, is_want, refusal_kind}
 use Rattle.ft_session.proofs.OwnEvents.{handed-on}
 use Rattle.ft_session.proofs.RefusalKinds.{means-weaker}
 
@@ -21,9 +23,9 @@ stands-some s load h = record { world = h.world; made = h.stands.made; stands = 
 
 module _ (e : Event) (formed : IsWellFormedEvent e) (old new : SessionState) (load : ℕ) where
   -- it is taken
-  pub step-taken : (out : Out) (after : ℕ) → AnswersHappening (λ w. happen w e) old new (Ok out) → after ≡ load + (1 + text_load e) → after ≤ 2 ^ 52
-      → AnswersStep e old new load (Ok (record { out = out; load = after }))
-  step-taken out after a sum low = record {
+  pub step-taken : (out : Out) (after : ℕ) (counts : Counts) → AnswersHappening (λ w. happen w e) old new (Ok out) → after ≡ load + (1 + text_load e) → after ≤ 2 ^ 52
+      → ((w : NaiveWorld) → MembersStand w.log new.members w.clients → counts ≡ counts_of w) → AnswersStep e old new load (Ok (record { out = out; load = after; counts = counts }))
+  step-taken out after counts a sum low counted = record {
     world = λ w s.
         let (p, k, t, l, told) = a.world w s.made s.stands in
         let n = 1 + text_load e in
@@ -38,6 +40,7 @@ module _ (e : Event) (formed : IsWellFormedEvent e) (old new : SessionState) (lo
             stands = record { members = t.members; guests = t.guests; service = t.service };
             loaded = same;
           },
+          counted v t.members,
           told,
         );
   }
@@ -54,8 +57,8 @@ module _ (e : Event) (formed : IsWellFormedEvent e) (old new : SessionState) (lo
 
 -- ---- the world
 
-abbrev pub world_with : SessionState → ℕ → Bool → WorldState
-world_with s load stopped = record { session = s; load = load; stopped = stopped }
+abbrev pub world_with : SessionState → ℕ → Counts → Bool → WorldState
+world_with s load counts stopped = record { session = s; load = load; counts = counts; stopped = stopped }
 
 false-true : {A : Type 0} (b : Bool) → b ≡ false → b ≡ true → A
 false-true b h k = (cc)
@@ -64,40 +67,41 @@ false-true b h k = (cc)
 pub stopped-answers : (e : Event) (w : WorldState) → w.stopped ≡ true → AnswersEvent e w w (Err Stopped)
 stopped-answers e w h = record { runs = λ n s. false-true w.stopped s.running h; stopped = λ k. (refl, refl) }
 
-module _ (s : SessionState) (load : ℕ) (stopped : Bool) (running : stopped ≡ false) where
-  pub at-load : RunsForSome (world_with s load stopped) → StandsAtLoad s load
+module _ (s : SessionState) (load : ℕ) (counts : Counts) (stopped : Bool) (running : stopped ≡ false) where
+  pub at-load : RunsForSome (world_with s load counts stopped) → StandsAtLoad s load
   at-load h =
       let (n, t) = h running in
       record { world = n; stands = record { made = t.made; stands = t.session; loaded = t.load } }
 
-  stands-world : (w : NaiveWorld) → WorldStands (world_with s load stopped) w → StandsFor w s load
+  stands-world : (w : NaiveWorld) → WorldStands (world_with s load counts stopped) w → StandsFor w s load
   stands-world w t = record { made = t.made; stands = t.session; loaded = t.load }
 
   module _ (e : Event) (new : SessionState) where
-    pub world-taken : (taken : Taken) → AnswersStep e s new load (Ok taken) → AnswersEvent e (world_with s load stopped) (world_with new taken.load stopped) (Ok taken.out)
+    pub world-taken : (taken : Taken) → AnswersStep e s new load (Ok taken) → AnswersEvent e (world_with s load counts stopped) (world_with new taken.load taken.counts stopped) (Ok taken.out)
     world-taken taken a = record {
       runs = λ w t.
-          let (p, k, q, told) = a.world w (stands-world w t) in
-          (p, k, record { running = running; session = q.stands; made = q.made; load = q.loaded }, told);
+          let (p, k, q, n, told) = a.world w (stands-world w t) in
+          (p, k, record { running = running; session = q.stands; made = q.made; load = q.loaded; counts = n }, told);
       stopped = λ h. false-true stopped running h;
     }
 
-    pub world-kept : (taken : Taken) → AnswersStep e s new load (Ok taken) → RunsForSome (world_with s load stopped) → RunsForSome (world_with new taken.load stopped)
+    pub world-kept : (taken : Taken) → AnswersStep e s new load (Ok taken) → RunsForSome (world_with s load counts stopped) → RunsForSome (world_with new taken.load taken.counts stopped)
     world-kept taken a h k =
         let (n, t) = h k in
-        let (p, q, r, told) = a.world n (stands-world n t) in
-        (p.0, record { running = k; session = r.stands; made = r.made; load = r.loaded })
+        let (p, q, r, same, told) = a.world n (stands-world n t) in
+        (p.0, record { running = k; session = r.stands; made = r.made; load = r.loaded; counts = same })
 
     by-kind : (why : Refusal) (k : RefusalKind) (w : NaiveWorld) → refusal_kind why ≡ k → MeansOf k ⊤ ((new ≡ s) × (step w e ≡ Err why))
-        → MeansOf k (is_want why ≡ true) ((world_with new load (is_want why) ≡ world_with s load stopped) × (step w e ≡ Err why))
-    by-kind why WantsMemory w q h = want why q
+        → MeansOf k (StopsWithCounts (world_with s load counts stopped) (world_with new load counts (is_want why)))
+        ((world_with new load counts (is_want why) ≡ world_with s load counts stopped) × (step w e ≡ Err why))
+    by-kind why WantsMemory w q h = record { stopped = want why q; counts = refl }
       where
         want : (why : Refusal) → refusal_kind why ≡ WantsMemory → is_want why ≡ true
         want OutOfMemory q = refl
         want Stopped q = (cc)
         want _ q = (cc)
     by-kind why HadStopped w q h = absurd h
-    by-kind why Refused w q h = (ap (λ a. world_with a load (is_want why)) h.0 ∙ ap (world_with s load) (other why q ∙ sym running), h.1)
+    by-kind why Refused w q h = (ap (λ a. world_with a load counts (is_want why)) h.0 ∙ ap (world_with s load counts) (other why q ∙ sym running), h.1)
       where
         other : (why : Refusal) → refusal_kind why ≡ Refused → is_want why ≡ false
         other OutOfMemory q = (cc)
@@ -105,18 +109,18 @@ module _ (s : SessionState) (load : ℕ) (stopped : Bool) (running : stopped ≡
         other _ q = refl
 
     pub world-refused : (why : Refusal) (now : Bool) → now ≡ is_want why → AnswersStep e s new load (Err why)
-        → AnswersEvent e (world_with s load stopped) (world_with new load now) (Err why)
-    world-refused why now h a = subst (λ b. AnswersEvent e (world_with s load stopped) (world_with new load b) (Err why)) (sym h) (record {
+        → AnswersEvent e (world_with s load counts stopped) (world_with new load counts now) (Err why)
+    world-refused why now h a = subst (λ b. AnswersEvent e (world_with s load counts stopped) (world_with new load counts b) (Err why)) (sym h) (record {
       runs = λ w t. by-kind why (refusal_kind why) w refl (a.world w (stands-world w t));
       stopped = λ k. false-true stopped running k;
     })
 
-    pub world-refused_kept : (why : Refusal) (now : Bool) → now ≡ is_want why → AnswersStep e s new load (Err why) → RunsForSome (world_with s load stopped)
-        → RunsForSome (world_with new load now)
-    world-refused_kept why now same a h = subst (λ b. RunsForSome (world_with new load b)) (sym same) (again (refusal_kind why) refl (λ w t. a.world w t))
+    pub world-refused_kept : (why : Refusal) (now : Bool) → now ≡ is_want why → AnswersStep e s new load (Err why) → RunsForSome (world_with s load counts stopped)
+        → RunsForSome (world_with new load counts now)
+    world-refused_kept why now same a h = subst (λ b. RunsForSome (world_with new load counts b)) (sym same) (again (refusal_kind why) refl (λ w t. a.world w t))
       where
         again : (k : RefusalKind) → refusal_kind why ≡ k → ((w : NaiveWorld) → StandsFor w s load → MeansOf k ⊤ ((new ≡ s) × (step w e ≡ Err why)))
-            → is_want why ≡ false → (n : NaiveWorld) × WorldStands (world_with new load (is_want why)) n
+            → is_want why ≡ false → (n : NaiveWorld) × WorldStands (world_with new load counts (is_want why)) n
         again WantsMemory q f g = wants why q g
           where
             wants : {A : Type 0} (why : Refusal) → refusal_kind why ≡ WantsMemory → is_want why ≡ false → A
@@ -127,17 +131,21 @@ module _ (s : SessionState) (load : ℕ) (stopped : Bool) (running : stopped ≡
         again Refused q f g =
             let (n, t) = h running in
             let p = f n (stands-world n t) in
-            (n, subst (λ a. WorldStands (world_with a load (is_want why)) n) (sym p.0) (record { running = g; session = t.session; made = t.made; load = t.load }))
+            (n, subst (λ a. WorldStands (world_with a load counts (is_want why)) n) (sym p.0) (record { running = g; session = t.session; made = t.made; load = t.load; counts = t.counts }))
 
 -- what a world answers, by its view
 pub by-world : {e : Event} {w old new : WorldState} {result : Result Out Refusal} → w ≡ old → AnswersEvent e w new result → AnswersEvent e old new result
 by-world {e} {w} {old} {new} {result} h a = subst (λ o. AnswersEvent e o new result) h a
 
+abbrev pub no_counts : Counts
+no_counts = record { skipped = 0; other = 0 }
+
 -- a world before the first event
-pub new-stands : (s : SessionState) → s ≡ record { members = []; guests = []; service = record { sequencer = new_sequencer; names = []; log = [] } } → WorldStands (world_with s 0 false) new_world
-new-stands s h = subst (λ a. WorldStands (world_with a 0 false) new_world) (sym h) (record {
+pub new-stands : (s : SessionState) → s ≡ record { members = []; guests = []; service = record { sequencer = new_sequencer; names = []; log = [] } } → WorldStands (world_with s 0 no_counts false) new_world
+new-stands s h = subst (λ a. WorldStands (world_with a 0 no_counts false) new_world) (sym h) (record {
   running = refl;
   session = record { members = tt; guests = refl; service = refl };
   made = made-first;
   load = refl;
+  counts = refl;
 })

@@ -5,5 +5,6 @@ pub mod Readings
 pub mod Deliveries
 pub mod Asked
 pub mod Entrances
+pub mod Effects
 pub mod Loads
 pub mod Steps

@@ -7,7 +7,7 @@ use Rattle.ft_worlds.specs.MadeWorlds.{IsMade}
 use Rattle.ft_msg.specs.declared.views.Numbers.{Numbers}
 use Rattle.ft_session.specs.declared.world.Furthest.{Furthest}
 use Rattle.ft_session.specs.declared.world.Taken.{Taken}
-use Rattle.ft_session.specs.Outputs.{Tells}
+use Rattle.ft_session.specs.Outputs.{Tells, counts_of}
 use Rattle.ft_session.specs.Worlds.{MeansOf, SessionState, SessionStands, refusal_kind}
 
 -- a session stands for a naive world of this load, which well-formed events made
@@ -23,7 +23,7 @@ pub record StandsAtLoad (s : SessionState) (load : ℕ) : Type 0 where
 
 -- the answer of a session that stood for a naive world to an event that becomes this
 abbrev pub AnswersStepped : SessionState → SessionState → Stepped → Result Taken Refusal → Type 0
-AnswersStepped old new stepped (Ok taken) = (p : NaiveWorld × Output) × (stepped ≡ Ok p) × StandsFor p.0 new taken.load × Tells p.1 taken.out
+AnswersStepped old new stepped (Ok taken) = (p : NaiveWorld × Output) × (stepped ≡ Ok p) × StandsFor p.0 new taken.load × (taken.counts ≡ counts_of p.0) × Tells p.1 taken.out
 AnswersStepped old new stepped (Err why) = MeansOf (refusal_kind why) ⊤ ((new ≡ old) × (stepped ≡ Err why))
 
 -- the same for each naive world for which it stands

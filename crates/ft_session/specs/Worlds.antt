@@ -10,7 +10,8 @@ use Rattle.ft_seqr.specs.Sequencer.{NaiveSequencer}
 use Rattle.ft_seqr.specs.World.{NaiveWorld, NamedClient, NamedGuest, Output, Stepped, greatest_origin, in_place, is_client, step}
 use Rattle.ft_worlds.specs.MadeWorlds.{IsMade}
 use Rattle.ft_session.specs.declared.outputs.Out.{Out}
-use Rattle.ft_session.specs.Outputs.{Tells}
+use Rattle.ft_session.specs.declared.outputs.Counts.{Counts}
+use Rattle.ft_session.specs.Outputs.{Tells, counts_of}
 
 -- a replica in a world: its name, its state, and how often it connected
 pub record MemberState : Type 0 where
@@ -30,10 +31,11 @@ pub record SessionState : Type 0 where
   pub guests : List NamedGuest
   pub service : ServiceState
 
--- a world: its session, its load, and whether it stopped
+-- a world: its session, its load, its counts, and whether it stopped
 pub record WorldState : Type 0 where
   pub session : SessionState
   pub load : ℕ
+  pub counts : Counts
   pub stopped : Bool
 
 -- whether it is the replica of that name
@@ -71,6 +73,7 @@ pub record WorldStands (w : WorldState) (n : NaiveWorld) : Type 0 where
   pub session : SessionStands w.session n
   pub made : IsMade n
   pub load : w.load ≡ n.load
+  pub counts : w.counts ≡ counts_of n
 
 -- a replica and what orders the messages stand for a client of a naive world, which well-formed events made
 pub record Meets (w : NaiveWorld) (c : NamedClient) (m : MemberState) (s : ServiceState) : Type 0 where
@@ -150,11 +153,16 @@ AnswersSession old new w stepped (Err why) = MeansOf (refusal_kind why) ⊤ ((ne
 pub record AnswersHappening (event : NaiveWorld → Stepped) (old new : SessionState) (result : Result Out Refusal) : Type 0 where
   pub world : (w : NaiveWorld) → IsMade w → SessionStands old w → AnswersSession old new w (event w) result
 
+-- the world stopped, and goes on telling the counts from before
+pub record StopsWithCounts (old new : WorldState) : Type 0 where
+  pub stopped : new.stopped ≡ true
+  pub counts : new.counts ≡ old.counts
+
 -- the answer of a world that stood for a naive one to an event: what the naive world writes, and then the world stands for the
 -- naive one after it; its refusal, and then nothing changed; or want of memory, and then the world has stopped
 abbrev pub AnswersRunning : WorldState → WorldState → Stepped → Result Out Refusal → Type 0
 AnswersRunning old new stepped (Ok out) = (p : NaiveWorld × Output) × (stepped ≡ Ok p) × WorldStands new p.0 × Tells p.1 out
-AnswersRunning old new stepped (Err why) = MeansOf (refusal_kind why) (new.stopped ≡ true) ((new ≡ old) × (stepped ≡ Err why))
+AnswersRunning old new stepped (Err why) = MeansOf (refusal_kind why) (StopsWithCounts old new) ((new ≡ old) × (stepped ≡ Err why))
 
 -- the answer of any world: as each naive world answers for which it stands, or that it had stopped
 pub record AnswersEvent (e : Event) (old new : WorldState) (result : Result Out Refusal) : Type 0 where

@@ -9,6 +9,7 @@ ghost use Rattle.ft_msg.specs.Written.{written_draft};
 ghost use Rattle.ft_seqr.specs.AnswerTexts.{written_origin_run, written_overlap};
 ghost use Rattle.ft_seqr.specs.World.{blame_client};
 ghost use Rattle.ft_session.specs.Asked.{authors_client, overlap_client, queue_client, show_client, summarize_client};
+ghost use Rattle.ft_session.specs.Effects.{ShowsNumbers};
 ghost use Rattle.ft_session.specs.Worlds.{AnswersReading, MeetsSome};
 
 use crate::members::Member;
@@ -24,7 +25,8 @@ use std::alloc::Global;
 /// The client's view.
 pub(crate) fn show<R: Replica>(member: &Member<R>, service: &Service) -> Result<Out, Refusal>
     requires { MeetsSome member.now service.now }
-    ensures { AnswersReading show_client member.now service.now result }
+    ensures answers { AnswersReading show_client member.now service.now result }
+    ensures numbers { IfOk result (ShowsNumbers member.now) }
 {
     let view = member.replica.view()?;
     Ok(Out::View {

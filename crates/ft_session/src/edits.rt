@@ -1,11 +1,11 @@
 //! Edits of a client's own, and how they are submitted.
 
-ghost use Rattle.std.specs.Prelude.{◌≡◌, Ok, Err, OnOk, OnErr, drop, take};
+ghost use Rattle.std.specs.Prelude.{◌≡◌, Ok, Err, IsTrue, OnOk, OnErr, drop, take};
 ghost use Rattle.ft_op.specs.WellFormed.{IsWellFormed};
 ghost use Rattle.ft_seqr.specs.World.{NaiveWorld, edit_client, quietly, submit_all, ticket_client, wanted_count};
 ghost use Rattle.ft_session.specs.Services.{CanSubmit};
 ghost use Rattle.ft_session.specs.Worlds.{AnswersClient, MeetsSome, service_of};
-ghost use Rattle.ft_msg.specs.Answers.{with_queue};
+ghost use Rattle.ft_msg.specs.Answers.{IsFullyCompacted, with_queue};
 
 use crate::members::{Member, conn_of};
 use crate::outputs::Out;
@@ -48,10 +48,11 @@ pub(crate) fn ticket<R: Replica>(
     Ok(Out::Nothing)
 }
 
-/// The client lets go of what no message can refer to.
+/// The client lets go of what no message can refer to, of all of it where `R::COMPACTS`.
 pub(crate) fn compact<R: Replica>(member: &mut Member<R>, service: &Service) -> Result<Out, Refusal>
     requires { MeetsSome member.old service.now }
-    ensures { AnswersClient (λ w c. quietly w) member.old member.new service.now service.now result }
+    ensures answers { AnswersClient (λ w c. quietly w) member.old member.new service.now service.now result }
+    ensures full { IsTrue R.COMPACTS → OnOk result (IsFullyCompacted member.new.replica.client) }
 {
     member.replica.compact()?;
     Ok(Out::Nothing)

@@ -1,10 +1,11 @@
 //! How clients come into a session.
 
-ghost use Rattle.std.specs.Prelude.{◌≡◌, ◌∷◌, ◌++◌, [], None, Some, Err, ⊤, IfOk, IfErr, OnOk, OnErr};
+ghost use Rattle.std.specs.Prelude.{◌≡◌, ◌∷◌, ◌++◌, [], None, Some, Err, ⊤, IfOk, IfErr, OnOk, OnErr, find};
 ghost use Rattle.ft_props.specs.Properties.{Characters};
-ghost use Rattle.ft_seqr.specs.World.{NaiveWorld, happen, name_fault, start_client};
+ghost use Rattle.ft_seqr.specs.World.{NaiveWorld, NamedClient, happen, is_client, name_fault, start_client};
 ghost use Rattle.ft_seqr.specs.declared.events.Event.TheVariants as event;
 ghost use Rattle.ft_worlds.specs.MadeWorlds.{IsMade};
+ghost use Rattle.ft_session.specs.Effects.{KeepsTrimmed, SessionEffect, StartsTrimmed};
 ghost use Rattle.ft_session.specs.Entrances.{AnswersName, IsCopyOf, new_member};
 ghost use Rattle.ft_session.specs.Worlds.{AnswersHappening, MeansOf, SessionStands, StandsForSome, refusal_kind};
 
@@ -24,7 +25,8 @@ impl<R: Replica + Drop> Session<R> {
     /// A new client, empty, or over the document of the client of the second name.
     pub(crate) fn begin(&mut self, name: &Text, from: &Option<Text>) -> Result<Out, Refusal>
         requires { StandsForSome self.old }
-        ensures { AnswersHappening (λ w. happen w (event.Start name.now from.now)) self.old self.new result }
+        ensures answers { AnswersHappening (λ w. happen w (event.Start name.now from.now)) self.old self.new result }
+        ensures effect { IfOk result (λ out. SessionEffect R.COMPACTS (event.Start name.now from.now) self.old self.new out) }
     {
         match from {
             Some(from) => self.start_from(name, from),
@@ -46,7 +48,8 @@ impl<R: Replica + Drop> Session<R> {
     // A new client over the document of the client of that name.
     fn start_from(&mut self, name: &Text, from: &Text) -> Result<Out, Refusal>
         requires { StandsForSome self.old }
-        ensures { AnswersHappening (λ w. happen w (event.Start name.now (Some from.now))) self.old self.new result }
+        ensures answers { AnswersHappening (λ w. happen w (event.Start name.now (Some from.now))) self.old self.new result }
+        ensures trimmed { OnOk result (StartsTrimmed name.now from.now self.old self.new) }
     {
         self.free_name(name)?;
         let replica = self.copy_of(from)?;
@@ -70,11 +73,12 @@ impl<R: Replica + Drop> Session<R> {
         Ok(())
     }
 
-    // A replica over the document of the client of that name.
+    // A replica over the document of the client of that name, of which it keeps what a summary keeps.
     fn copy_of(&self, from: &Text) -> Result<R, Refusal>
         requires { StandsForSome self.now }
         ensures ok { IfOk result (λ r. (w : NaiveWorld) → IsMade w → SessionStands self.now w → (name : Characters) → name_fault w name ≡ None → IsCopyOf w name from.now (R.state r)) }
         ensures err { IfErr result (λ why. (w : NaiveWorld) → IsMade w → SessionStands self.now w → (name : Characters) → MeansOf (refusal_kind why) ⊤ (start_client w name (Some from.now) ≡ Err why)) }
+        ensures trimmed { IfOk result (λ r. (w : NaiveWorld) → IsMade w → SessionStands self.now w → (c : NamedClient) → find (is_client from.now) w.clients ≡ Some c → KeepsTrimmed (R.state r) c.client.doc) }
     {
         let Some(place) = place_of(self.members.as_slice(), from) else {
             return Err(Refusal::UnknownClient);

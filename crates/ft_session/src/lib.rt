@@ -15,6 +15,6 @@ mod service;
 mod session;
 pub mod world;
 
-pub use ft_seqr::{Event, HowMany, Refusal};
+pub use ft_seqr::{Event, HowMany, Refusal, read_event, write_event};
 pub use outputs::{Counts, Out, Values};
 pub use world::World;

@@ -1,9 +1,10 @@
 //! The events of a session.
 
-ghost use Rattle.std.specs.Prelude.{◌≡◌, [], Some, option_copied};
+ghost use Rattle.std.specs.Prelude.{◌≡◌, [], Some, IfOk, option_copied};
 ghost use Rattle.ft_seqr.specs.Sequencer.{new_sequencer};
 ghost use Rattle.ft_seqr.specs.WellFormedEvent.{IsWellFormedEvent};
 ghost use Rattle.ft_seqr.specs.World.{happen};
+ghost use Rattle.ft_session.specs.Effects.{MemberEffect, SessionEffect};
 ghost use Rattle.ft_session.specs.Entrances.{client_of};
 ghost use Rattle.ft_session.specs.Worlds.{AnswersClient, AnswersHappening, MeetsSome, StandsForSome};
 
@@ -53,7 +54,8 @@ impl<R: Replica + Drop> Session<R> {
     pub(crate) fn happen(&mut self, event: &Event) -> Result<Out, Refusal>
         requires formed { IsWellFormedEvent event.now }
         requires stands { StandsForSome self.old }
-        ensures { AnswersHappening (λ w. happen w event.now) self.old self.new result }
+        ensures answers { AnswersHappening (λ w. happen w event.now) self.old self.new result }
+        ensures effect { IfOk result (λ out. SessionEffect R.COMPACTS event.now self.old self.new out) }
     {
         if let Some(name) = client_of(event) {
             return self.happen_to(name, event);
@@ -73,7 +75,8 @@ impl<R: Replica + Drop> Session<R> {
         requires formed { IsWellFormedEvent event.now }
         requires named { client_of event.now ≡ Some name.now }
         requires stands { StandsForSome self.old }
-        ensures { AnswersHappening (λ w. happen w event.now) self.old self.new result }
+        ensures answers { AnswersHappening (λ w. happen w event.now) self.old self.new result }
+        ensures effect { IfOk result (λ out. SessionEffect R.COMPACTS event.now self.old self.new out) }
     {
         let Some(place) = place_of(self.members.as_slice(), name) else {
             return Err(Refusal::UnknownClient);
@@ -118,7 +121,8 @@ fn happen_to_member<R: Replica>(
     requires formed { IsWellFormedEvent event.now }
     requires named { client_of event.now ≡ Some member.old.name }
     requires meets { MeetsSome member.old service.old }
-    ensures { AnswersClient (λ w c. happen w event.now) member.old member.new service.old service.new result }
+    ensures answers { AnswersClient (λ w c. happen w event.now) member.old member.new service.old service.new result }
+    ensures effect { IfOk result (λ out. MemberEffect R.COMPACTS event.now member.new out) }
 {
     match event {
         Event::Connect { .. } => connect(member, service),

@@ -4,10 +4,12 @@ ghost use Rattle.std.specs.Prelude.{◌≡◌, ◌+◌, ◌≤◌, ◌^◌, IfOk
 ghost use Rattle.ft_seqr.specs.WellFormedEvent.{IsWellFormedEvent};
 ghost use Rattle.ft_seqr.specs.World.{NaiveWorld, new_world};
 ghost use Rattle.ft_session.specs.Outputs.{counts_of};
+ghost use Rattle.ft_session.specs.Effects.{SessionEffect};
 ghost use Rattle.ft_session.specs.Steps.{AnswersStep, StandsAtLoad, further_numbers};
-ghost use Rattle.ft_session.specs.Worlds.{AnswersEvent, WorldStands, is_want};
+ghost use Rattle.ft_session.specs.Worlds.{AnswersEvent, MembersStand, WorldStands, is_want};
 
 use crate::loads::event_load;
+use crate::members::Member;
 use crate::outputs::{Counts, Out};
 use crate::session::Session;
 use ft_base::OutOfMemory;
@@ -20,12 +22,14 @@ use std::marker::Model;
 const LOAD_LIMIT: u64 = 4_503_599_627_370_496;
 
 /// Clients and guests that edit one document over one log, which a sequencer orders. Contracts see it
-/// as its replicas, its guests, its sequencer with the names and the log, its load, and whether it
-/// stopped; it stands for a naive world, in which each client is the one for which its replica stands.
+/// as its replicas, its guests, its sequencer with the names and the log, its load, its counts, and
+/// whether it stopped; it stands for a naive world, in which each client is the one for which its replica
+/// stands.
 #[derive(Drop)]
 pub struct World<R: Replica> {
     session: Session<R>,
     load: u64,
+    counts: Counts,
     stopped: bool,
 }
 
@@ -34,16 +38,17 @@ impl<R: Replica> Model for World<R> {
 
     ghost Value = { WorldState };
 
-    ghost view = { λ w. record { session = w.session; load = w.load; stopped = w.stopped } };
+    ghost view = { λ w. record { session = w.session; load = w.load; counts = w.counts; stopped = w.stopped } };
 
-    ghost invariant = { λ w. RunsForSome (record { session = w.session; load = w.load; stopped = w.stopped }) };
+    ghost invariant = { λ w. RunsForSome (record { session = w.session; load = w.load; counts = w.counts; stopped = w.stopped }) };
 }
 
-/// What an event that was taken wrote, and the load after it.
+/// What an event that was taken wrote, and the load and the counts after it.
 #[derive(Drop)]
 pub(crate) struct Taken {
     out: Out,
     load: u64,
+    counts: Counts,
 }
 
 impl<R: Replica + Drop> World<R> {
@@ -54,18 +59,26 @@ impl<R: Replica + Drop> World<R> {
         World {
             session: Session::new(alloc),
             load: 0,
+            counts: Counts {
+                skipped: 0,
+                other: 0,
+            },
             stopped: false,
         }
     }
 
-    /// An event happens. What it writes is what the naive world writes.
+    /// An event happens. What it writes is what the naive world writes. A view has the numbers of its
+    /// client's replica; where `R::COMPACTS`, a compaction takes away everything of its client's replica
+    /// that nobody can see any more; and a client that starts from another one keeps what a summary keeps
+    /// of that one's document, and no more.
     ///
     /// Answers `Stopped` exactly where an earlier event found no memory; then the refusal of the naive
     /// world, and nothing changed; and `OutOfMemory` where there is no room, or the load would pass
     /// 2^52, after which the world has stopped.
     pub fn step(&mut self, event: &Event) -> Result<Out, Refusal>
         requires { IsWellFormedEvent event.now }
-        ensures { AnswersEvent event.now self.old self.new result }
+        ensures answers { AnswersEvent event.now self.old self.new result }
+        ensures effect { IfOk result (λ out. SessionEffect R.COMPACTS event.now self.old.session self.new.session out) }
     {
         if self.stopped {
             return Err(Refusal::Stopped);
@@ -73,6 +86,7 @@ impl<R: Replica + Drop> World<R> {
         match take(&mut self.session, self.load, event) {
             Ok(taken) => {
                 self.load = taken.load;
+                self.counts = taken.counts;
                 Ok(taken.out)
             }
             Err(why) => {
@@ -82,22 +96,31 @@ impl<R: Replica + Drop> World<R> {
         }
     }
 
-    /// The counts of the client with the greatest number, 0 without clients. It takes no memory.
+    /// The counts of the client with the greatest number, 0 without clients; of a world that stopped those
+    /// before the event that stopped it. It takes no memory.
     pub fn counts(&self) -> Counts
-        ensures { (w : NaiveWorld) → WorldStands self.now w → result ≡ counts_of w }
+        ensures told { result ≡ self.now.counts }
+        ensures stands { (w : NaiveWorld) → WorldStands self.now w → result ≡ counts_of w }
     {
-        let mut furthest = Furthest {
-            seq: 0,
-            counts: Counts {
-                skipped: 0,
-                other: 0,
-            },
-        };
-        for member in &self.session.members {
-            furthest = furthest_of(furthest, member.replica.numbers());
-        }
-        furthest.counts
+        self.counts
     }
+}
+
+// The counts of the client with the greatest number, 0 without clients.
+fn furthest_counts<R: Replica>(members: &[Member<R>]) -> Counts
+    ensures { (w : NaiveWorld) → MembersStand w.log members.now w.clients → result ≡ counts_of w }
+{
+    let mut furthest = Furthest {
+        seq: 0,
+        counts: Counts {
+            skipped: 0,
+            other: 0,
+        },
+    };
+    for member in members {
+        furthest = furthest_of(furthest, member.replica.numbers());
+    }
+    furthest.counts
 }
 
 // The greatest number of a client, and the counts of the first client that has it.
@@ -132,12 +155,14 @@ fn take<R: Replica + Drop>(
 ) -> Result<Taken, Refusal>
     requires formed { IsWellFormedEvent event.now }
     requires stands { StandsAtLoad session.old load }
-    ensures { AnswersStep event.now session.old session.new load result }
+    ensures answers { AnswersStep event.now session.old session.new load result }
+    ensures effect { IfOk result (λ taken. SessionEffect R.COMPACTS event.now session.old session.new taken.out) }
 {
     let more = event_load(session.service.alloc, event)?;
     let load = raised(load, more)?;
     let out = session.happen(event)?;
-    Ok(Taken { out, load })
+    let counts = furthest_counts(session.members.as_slice());
+    Ok(Taken { out, load, counts })
 }
 
 // A load with so much more.

@@ -7,7 +7,7 @@ use Rattle.ft_seqr.specs.Refusals.{refusal_of_summary}
 use Rattle.ft_seqr.specs.World.{NaiveWorld, start_client}
 use Rattle.ft_worlds.specs.MadeWorlds.{IsMade}
 use Rattle.ft_session.specs.Worlds.{MeansOf, SessionState, SessionStands, has_name, refusal_kind}
-use Rattle.ft_session.proofs.Entering.{copy-refused, copy-taken, copy-unknown, meets-at}
+use Rattle.ft_session.proofs.Entering.{copy-refused, copy-taken, copy-trimmed, copy-unknown, meets-at}
 use Rattle.ft_session.proofs.OwnEvents.{handed-on}
 use Rattle.ft_session.proofs.session.Session.copy_of.Goals as goal
 
@@ -34,3 +34,8 @@ returns-clause-ok g c = λ w made stands n free.
     copy-taken _ c.args.from.now w made (subst (λ (s : SessionState). SessionStands s w) (sym c.self.view_is) stands) c.in-Some.place c.index.result.now c.in_ok-summary.summary _
     (sym (c.in-Some.ensures ∙ ap (position (has_name c.args.from.now)) c.as_slice.ensures.value)) c.index.ensures c.in_ok-summary.ensures c.in_ok-replica.ensures.starts
     c.in_ok-replica.ensures.stands n free
+
+pub returns-clause-trimmed : goal.returns-clause-trimmed
+returns-clause-trimmed g c = λ w made stands d found.
+    copy-trimmed _ c.args.from.now w made (subst (λ (s : SessionState). SessionStands s w) (sym c.self.view_is) stands) c.in-Some.place c.index.result.now c.in_ok-summary.summary _
+    (sym (c.in-Some.ensures ∙ ap (position (has_name c.args.from.now)) c.as_slice.ensures.value)) c.index.ensures c.in_ok-summary.ensures c.in_ok-replica.ensures.starts d found

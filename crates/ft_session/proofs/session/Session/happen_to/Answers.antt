@@ -2,11 +2,11 @@
 use Rattle.std.proofs.Common.{◌∙◌, Some, ap, sym}
 use Rattle.std.specs.List.{position}
 use Rattle.ft_session.specs.Worlds.{has_name}
-use Rattle.ft_session.proofs.Happenings.{at-place, by-session, happened-to, happened-to_none, meets-some, placed-name, stands-session, unchanged-session}
+use Rattle.ft_session.proofs.Happenings.{at-place, by-session, happened-effect, happened-to, happened-to_none, meets-some, placed-name, stands-session, unchanged-session}
 use Rattle.ft_session.proofs.session.Session.happen_to.Goals as goal
 
-pub returns-in_default : goal.returns-in_default
-returns-in_default g c = unchanged-session c.self.view_is
+pub returns-in_default-clause-answers : goal.returns-in_default-clause-answers
+returns-in_default-clause-answers g c = unchanged-session c.self.view_is
     (happened-to_none c.args.event.now c.args.name.now c.self.inside.members.items c.self.inside.guests.items c.self.inside.service c.requires.named
     (sym (c.place_of.ensures ∙ ap (position (has_name c.args.name.now)) c.as_slice.ensures.value) ∙ c.in_default.is))
 
@@ -20,9 +20,17 @@ happen_to_member-requires-clause-meets g c = meets-some c.args.event.now c.args.
     (at-place c.args.name.now c.in-Some.place c.self.inside.members.items c.index_mut.result.now (sym (c.place_of.ensures ∙ ap (position (has_name c.args.name.now)) c.as_slice.ensures.value) ∙ c.in-Some.is) c.index_mut.ensures.value)
     (stands-session c.self.view_is c.requires.stands)
 
-pub returns : goal.returns
-returns g c = by-session c.self.view_is
+pub returns-clause-answers : goal.returns-clause-answers
+returns-clause-answers g c = by-session c.self.view_is
     (happened-to c.args.event.now c.args.name.now c.self.inside.members.items c.self.inside.guests.items c.self.inside.service c.in-Some.place c.index_mut.result.now
     (sym (c.place_of.ensures ∙ ap (position (has_name c.args.name.now)) c.as_slice.ensures.value) ∙ c.in-Some.is)
     (at-place c.args.name.now c.in-Some.place c.self.inside.members.items c.index_mut.result.now (sym (c.place_of.ensures ∙ ap (position (has_name c.args.name.now)) c.as_slice.ensures.value) ∙ c.in-Some.is) c.index_mut.ensures.value)
-    c.happen_to_member.new.member c.happen_to_member.new.service c.happen_to_member.result c.happen_to_member.ensures)
+    c.happen_to_member.new.member c.happen_to_member.new.service c.happen_to_member.result c.happen_to_member.ensures.answers)
+
+pub returns-clause-effect : goal.returns-clause-effect
+returns-clause-effect g c =
+    happened-effect c.args.event.now c.args.name.now c.self.inside.members.items c.self.inside.guests.items c.self.inside.service c.in-Some.place c.index_mut.result.now
+    (sym (c.place_of.ensures ∙ ap (position (has_name c.args.name.now)) c.as_slice.ensures.value) ∙ c.in-Some.is)
+    (at-place c.args.name.now c.in-Some.place c.self.inside.members.items c.index_mut.result.now (sym (c.place_of.ensures ∙ ap (position (has_name c.args.name.now)) c.as_slice.ensures.value) ∙ c.in-Some.is) c.index_mut.ensures.value)
+    c.happen_to_member.new.member c.happen_to_member.new.service g.R.Replica.COMPACTS c.args.self.now (stands-session c.self.view_is c.requires.stands) c.requires.named
+    c.happen_to_member.result c.happen_to_member.ensures.answers c.happen_to_member.ensures.effect
