@@ -15,4 +15,5 @@ mod SessionAnswers
 mod GuestEvents
 mod Asking
 mod Stepping
+mod WorldLaws
 pub mod Counting

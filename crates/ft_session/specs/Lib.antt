@@ -8,3 +8,4 @@ pub mod Entrances
 pub mod Effects
 pub mod Loads
 pub mod Steps
+pub mod WorldLaws

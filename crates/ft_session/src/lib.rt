@@ -7,6 +7,7 @@ mod deliveries;
 mod edits;
 mod entrances;
 mod guests;
+mod laws;
 mod links;
 mod loads;
 mod members;

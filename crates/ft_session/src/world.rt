@@ -70,7 +70,9 @@ impl<R: Replica + Drop> World<R> {
     /// An event happens. What it writes is what the naive world writes. A view has the numbers of its
     /// client's replica; where `R::COMPACTS`, a compaction takes away everything of its client's replica
     /// that nobody can see any more; and a client that starts from another one keeps what a summary keeps
-    /// of that one's document, and no more.
+    /// of that one's document, and no more. `laws` says what holds of each world that it answers: views are what
+    /// all would see with the pending edits sequenced next; equal numbers show, count and attribute alike;
+    /// an own join changes no view.
     ///
     /// Answers `Stopped` exactly where an earlier event found no memory; then the refusal of the naive
     /// world, and nothing changed; and `OutOfMemory` where there is no room, or the load would pass
