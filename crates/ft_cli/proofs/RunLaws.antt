@@ -1,6 +1,6 @@
 -- Where a run over the lines of a form stands, how it goes on, and how each of its ends is what the definition of a run says.
 use Rattle.std.specs.Prelude.{⊤}
-use Rattle.std.proofs.Common.{◌≡◌, ℕ, ◌+◌, ◌<◌, ◌≤◌, List, [], ◌∷◌, ◌++◌, Option, Some, None, Result, Ok, Err, refl, sym, ◌∙◌, ap, subst, arith, append-nil, inl, inr, Bool, true, false, if◌then◌else◌, IfOk}
+use Rattle.std.proofs.Common.{◌≡◌, ℕ, ◌+◌, ◌<◌, ◌≤◌, List, [], ◌∷◌, ◌++◌, Option, Some, None, Result, Ok, Err, refl, sym, ◌∙◌, ap, subst, arith, append-nil, inl, inr, Bool, true, false, if◌then◌else◌, IfOk, OnOk}
 use Rattle.std.specs.Io.KnownBytes.{Appends, IsAtEnd}
 use Rattle.std.proofs.lemmas.Grind.{flat_map-append}
 use Rattle.std.proofs.lemmas.Bool.Decides.{nat_tests}
@@ -25,7 +25,7 @@ use Rattle.ft_cli.specs.Listening.{IsHandedOut}
 use Rattle.ft_cli.specs.Report.{account_of}
 use Rattle.ft_cli.specs.Words.{reads_input}
 use Rattle.ft_cli.specs.Writing.{Begins, WritesBytes}
-use Rattle.ft_cli.specs.Run.{AllRead, IsWholeRun, Moves, Says, SaysForWords, SaysOfForm, SaysOfLines, end_status}
+use Rattle.ft_cli.specs.Run.{AllRead, EndsWhole, IsWholeRun, Moves, Says, SaysForWords, SaysOfForm, SaysOfLines, end_status}
 use Rattle.ft_cli.proofs.Walking.{after_items-append, written_by_items-append}
 use Rattle.ft_cli.proofs.Written.{begins_append, begins_more, begins_nil, begins_trans}
 
@@ -335,3 +335,26 @@ pub moves_for_words : (form : Option Form) (it : Form) → form ≡ Some it → 
 moves_for_words form it is unread first held holds source_rose sink_rose status moves =
     subst (λ f. Moves first first held holds (SaysForWords f first source_rose sink_rose status)) (sym is)
     (subst (λ reads. Moves first first held holds (SaysOfForm reads (account_of it) first source_rose sink_rose status)) (sym unread) moves)
+
+-- ---- what is written whole was written without a fault
+
+-- a fault ends no whole report
+fault-partial : {A : Type 0} (f : Fault) → EndsWhole (fault_status f) → A
+fault-partial fault.Read h = absurd h
+fault-partial fault.Write h = absurd h
+fault-partial fault.OutOfMemory h = absurd h
+fault-partial fault.InputLimit h = absurd h
+
+-- what holds where a run came to a status holds where the report is whole
+pub whole_steady : (A : Type 0) (result : Result Status Fault) (status : Status) → status ≡ end_status result → OnOk result A → EndsWhole status → A
+whole_steady A result status is h whole = by result h (subst EndsWhole is whole)
+  where
+    by : (r : Result Status Fault) → OnOk r A → EndsWhole (end_status r) → A
+    by (Ok s) g w = g
+    by (Err f) g w = fault-partial f w
+
+-- the counts are as they were before the lines, and behind them
+pub both_steady : (first left before middle now : ℕ) (result : Result Status Fault) → left ≡ first → middle ≡ before → OnOk result (now ≡ middle)
+    → OnOk result ((left ≡ first) × (now ≡ before))
+both_steady first left before middle now (Ok s) source sink h = (source, h ∙ sink)
+both_steady first left before middle now (Err f) source sink h = tt

@@ -1,6 +1,6 @@
 //! The lines of a generated session.
 
-ghost use Rattle.std.specs.Prelude.{◌≡◌, IfOk, string_bytes};
+ghost use Rattle.std.specs.Prelude.{◌≡◌, IfOk, OnOk, string_bytes};
 ghost use Rattle.ft_io.specs.Lines.{with_lf};
 ghost use Rattle.ft_seqr.specs.WellFormedEvent.{IsWellFormedEvent};
 ghost use Rattle.ft_cli.specs.Generated.{event_line, generated_lines, session_events};
@@ -29,6 +29,7 @@ pub fn write_generated<K: Sink>(
     requires { IsWithinLimits settings }
     ensures ends { IfOk result (λ status. status ≡ Status.Done) }
     ensures writes { WritesBytes (K.contents out.old) (K.contents out.new) (K.faults out.old) (K.faults out.new) (bytes_of (generated_lines settings)) result }
+    ensures steady { OnOk result (K.faults out.new ≡ K.faults out.old) }
 {
     let mut events = session_events(alloc, settings);
     while let Some(event) = events.next()? {
@@ -49,7 +50,8 @@ pub fn session_events(alloc: Global, settings: Settings) -> Generator
 // Writes the line of an event.
 fn write_line<K: Sink>(alloc: Global, event: Event, out: &mut K) -> Result<(), Fault>
     requires { IsWellFormedEvent event }
-    ensures { WritesBytes (K.contents out.old) (K.contents out.new) (K.faults out.old) (K.faults out.new) (with_lf (event_line event)) result }
+    ensures writes { WritesBytes (K.contents out.old) (K.contents out.new) (K.faults out.old) (K.faults out.new) (with_lf (event_line event)) result }
+    ensures steady { OnOk result (K.faults out.new ≡ K.faults out.old) }
 {
     let line = line_of(alloc, event)?;
     put(out, line.as_bytes())

@@ -1,6 +1,6 @@
 //! A generated session, played.
 
-ghost use Rattle.std.specs.Prelude.{◌≡◌, ◌++◌, List, IfOk, string_bytes};
+ghost use Rattle.std.specs.Prelude.{◌≡◌, ◌++◌, List, IfOk, OnOk, string_bytes};
 ghost use Rattle.ft_io.specs.Lines.{with_lf};
 ghost use Rattle.ft_seqr.specs.WellFormedEvent.{IsWellFormedEvent};
 ghost use Rattle.ft_seqr.specs.World.{NamedClient, Output, furthest};
@@ -45,6 +45,7 @@ pub fn write_play<K: Sink>(alloc: Global, settings: Settings, out: &mut K) -> Re
     requires { IsWithinLimits settings }
     ensures ends { IfOk result (λ status. status ≡ play_status settings) }
     ensures writes { WritesBytes (K.contents out.old) (K.contents out.new) (K.faults out.old) (K.faults out.new) (bytes_of (play_lines settings)) result }
+    ensures steady { OnOk result (K.faults out.new ≡ K.faults out.old) }
 {
     let play = play_session(alloc, settings)?;
     let text = play.text(settings)?;

@@ -1,6 +1,6 @@
 //! An input as far as it was read.
 
-ghost use Rattle.std.specs.Prelude.{◌≡◌, ℕ, ◌+◌, ◌-◌, ◌<◌, ◌≤◌, ◌^◌, List, [], IfOk, None, Some, if◌then◌else◌, nat_lt, string_bytes};
+ghost use Rattle.std.specs.Prelude.{◌≡◌, ℕ, ◌+◌, ◌-◌, ◌<◌, ◌≤◌, ◌^◌, List, [], IfOk, OnOk, None, Some, if◌then◌else◌, nat_lt, string_bytes};
 ghost use Rattle.ft_io.specs.Reader.{input_limit};
 ghost use Rattle.ft_seqr.specs.Walk.{Progress, after_item, begin, is_blank, line_limit, refused_after, written_by_item};
 ghost use Rattle.ft_cli.specs.LineForm.{bytes_of, form_end, form_status, form_step};
@@ -62,6 +62,7 @@ impl<L: Listener> Replay<L> {
             → IfOk result (λ replay. Follows (L.holds replay.listener) replay.lines replay.refused (after_item (form_step L.form) at text)) }
         ensures writes { (text : List ℕ) (at : Progress L.Made) → HandsOut L.form at.made text line → Follows (L.holds self.listener) self.lines self.refused at
             → WritesBytes (K.contents out.old) (K.contents out.new) (K.faults out.old) (K.faults out.new) (bytes_of (written_by_item (form_step L.form) at text)) result }
+        ensures steady { OnOk result (K.faults out.new ≡ K.faults out.old) }
     {
         let (replay, told) = self.take(line)?;
         write_told(alloc, replay.lines, told, out)?;
@@ -78,6 +79,7 @@ impl<L: Listener> Replay<L> {
             → IfOk result (λ status. status ≡ form_status L.form at) }
         ensures writes { (at : Progress L.Made) → Follows (L.holds self.now.listener) self.now.lines self.now.refused at
             → WritesBytes (K.contents out.old) (K.contents out.new) (K.faults out.old) (K.faults out.new) (bytes_of (form_end L.form at)) result }
+        ensures steady { OnOk result (K.faults out.new ≡ K.faults out.old) }
     {
         let text = self.end_text(alloc)?;
         put(out, text.as_bytes())?;
@@ -167,7 +169,8 @@ fn refusals(told: &Told) -> u64
 
 // Writes what is told of the line with this number.
 fn write_told<K: Sink>(alloc: Global, line: u64, told: Told, out: &mut K) -> Result<(), Fault>
-    ensures { WritesBytes (K.contents out.old) (K.contents out.new) (K.faults out.old) (K.faults out.new) (told_bytes line told) result }
+    ensures writes { WritesBytes (K.contents out.old) (K.contents out.new) (K.faults out.old) (K.faults out.new) (told_bytes line told) result }
+    ensures steady { OnOk result (K.faults out.new ≡ K.faults out.old) }
 {
     match told {
         Told::Nothing => Ok(()),

@@ -1,6 +1,6 @@
 //! A run: what the words ask for.
 
-ghost use Rattle.std.specs.Prelude.{◌≡◌, ◌≤◌, ◌↔◌, false, None, IfSome};
+ghost use Rattle.std.specs.Prelude.{◌≡◌, ◌≤◌, ◌↔◌, false, None, IfSome, OnOk};
 ghost use Rattle.std.specs.Io.KnownBytes.{Appends, IsAtEnd};
 ghost use Rattle.ft_io.specs.Reader.{Call, input_limit};
 ghost use Rattle.ft_io.specs.Streams.{Rose};
@@ -32,7 +32,8 @@ use std::alloc::Global;
 /// `Done` or `SomeRefused` where the report is whole, `ReadFault` and `WriteFault` only where the count
 /// of faults of the source or the sink rose, `InputLimit` exactly where the source gave a 16,777,217th
 /// byte and no write failed before, and `OutOfMemory` where no memory was found. The first fault ends
-/// the run. Then the bytes written begin the report, or what the ended lines write.
+/// the run: in `Done` and `SomeRefused` no read and no write failed. Where one ended it, the bytes written
+/// begin the report, or what the ended lines write.
 pub fn run<S: Source, K: Sink>(
     alloc: Global,
     words: &Vec<String>,
@@ -55,6 +56,9 @@ pub fn run<S: Source, K: Sink>(
     // Nothing but a fault ends it early.
     ensures complete { IfSome (S.remaining src.old) (λ input. IsUndisturbed (texts_of words.now.items) input
         (Rose (S.faults src.old) (S.faults src.new)) (Rose (K.faults out.old) (K.faults out.new)) → EndsWholeOrWanting result) }
+
+    // After a fault nothing more is read or written: no whole report is one of which a read or a write failed.
+    ensures steady { EndsWhole result → (S.faults src.new ≡ S.faults src.old) × (K.faults out.new ≡ K.faults out.old) }
 {
     match read_words(words) {
         Some(Form::Log) => listen::<Observer<RunReplica>, S, K>(alloc, src, out),
@@ -71,6 +75,7 @@ fn session<S: Source, K: Sink>(alloc: Global, src: &mut S, out: &mut K) -> Statu
     ensures run { Moves (S.remaining src.old) (S.remaining src.new) (K.contents out.old) (K.contents out.new)
         (Says (account_of Form.Session) (IsAtEnd (S.remaining src.new)) (Rose (S.faults src.old) (S.faults src.new))
         (Rose (K.faults out.old) (K.faults out.new)) result) }
+    ensures steady { EndsWhole result → (S.faults src.new ≡ S.faults src.old) × (K.faults out.new ≡ K.faults out.old) }
 {
     reports_are_one();
     listen::<SessionRun, S, K>(alloc, src, out)
@@ -81,6 +86,7 @@ fn listen<L: Listener, S: Source, K: Sink>(alloc: Global, src: &mut S, out: &mut
     ensures run { Moves (S.remaining src.old) (S.remaining src.new) (K.contents out.old) (K.contents out.new)
         (Says (account_by L.form) (IsAtEnd (S.remaining src.new)) (Rose (S.faults src.old) (S.faults src.new))
         (Rose (K.faults out.old) (K.faults out.new)) result) }
+    ensures steady { EndsWhole result → (S.faults src.new ≡ S.faults src.old) × (K.faults out.new ≡ K.faults out.old) }
 {
     ended(report::<L, S, K>(alloc, src, out))
 }
@@ -104,6 +110,7 @@ fn report<L: Listener, S: Source, K: Sink>(
     ensures run { Moves (S.remaining src.old) (S.remaining src.new) (K.contents out.old) (K.contents out.new)
         (Says (account_by L.form) (IsAtEnd (S.remaining src.new)) (Rose (S.faults src.old) (S.faults src.new))
         (Rose (K.faults out.old) (K.faults out.new)) (end_status result)) }
+    ensures steady { OnOk result ((S.faults src.new ≡ S.faults src.old) × (K.faults out.new ≡ K.faults out.old)) }
 {
     let replay: Replay<L> = read_lines(alloc, src, out)?;
     replay.close(alloc, out)
@@ -120,6 +127,8 @@ fn read_lines<L: Listener, S: Source, K: Sink>(
         (Rose (S.faults src.old) (S.faults src.new)) (Rose (K.faults out.old) (K.faults out.new)) result) }
     ensures source_later { S.faults src.old ≤ S.faults src.new }
     ensures sink_later { K.faults out.old ≤ K.faults out.new }
+    ensures source_steady { OnOk result (S.faults src.new ≡ S.faults src.old) }
+    ensures sink_steady { OnOk result (K.faults out.new ≡ K.faults out.old) }
 {
     let mut lines = Lines::new(alloc, LINE_LIMIT)?;
     let mut replay = Replay::new(alloc)?;
@@ -141,6 +150,7 @@ fn next_line<L: Listener, S: Source>(
         → Call (record lines.old { limit = L.form.longest made }) lines.new (S.remaining src.old) (S.remaining src.new) (S.faults src.old) (S.faults src.new) result }
     ensures least { (made : L.Made) → L.holds replay.now.listener made → line_limit ≤ L.form.longest made }
     ensures most { (made : L.Made) → L.holds replay.now.listener made → L.form.longest made ≤ input_limit }
+    ensures steady { OnOk result (S.faults src.new ≡ S.faults src.old) }
 {
     lines.set_limit(replay.limit());
     lines.next(src)

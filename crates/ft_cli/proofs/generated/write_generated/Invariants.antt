@@ -1,4 +1,4 @@
-use Rattle.std.proofs.Common.{◌≤◌, length}
+use Rattle.std.proofs.Common.{◌≡◌, ◌≤◌, length}
 use Rattle.ft_cli.specs.Generated.{session_events}
 use Rattle.ft_cli.proofs.GeneratedLaws.{IsWriting}
 use Rattle.ft_cli.proofs.generated.write_generated.Given as goal
@@ -8,6 +8,7 @@ abbrev pub invariant-loop-event : goal.invariant-loop-event
 invariant-loop-event g l = record {
   writing : IsWriting (session_events l.fn.settings) l.events (g.K.Sink.contents l.initial.out) (g.K.Sink.contents l.out);
   later : g.K.Sink.faults l.initial.out ≤ g.K.Sink.faults l.out;
+  steady : g.K.Sink.faults l.out ≡ g.K.Sink.faults l.initial.out;
 }
 
 -- each event brings the session nearer to its end

@@ -1,4 +1,4 @@
-use Rattle.std.proofs.Common.{◌∙◌, Err, ap, arith}
+use Rattle.std.proofs.Common.{◌∙◌, Err, ap, arith, refl}
 use Rattle.std.proofs.lemmas.Result.{err_from_is_err_and}
 use Rattle.ft_io.specs.Streams.{Rose}
 use Rattle.ft_cli.specs.Listening.{Follows, HandsOut}
@@ -30,6 +30,8 @@ loop-replay-init g c = record {
   stands = stands_start g.L.Listener.form _ (g.S.Source.remaining c.args.src.now) (g.K.Sink.contents c.args.out.now) _ c.in_ok-lines.lines c.in_ok-lines.ensures c.in_ok-replay.ensures;
   source_later = omega arith;
   sink_later = omega arith;
+  source_steady = refl;
+  sink_steady = refl;
 }
 
 pub returns-in_err-line-clause-run : goal.returns-in_err-line-clause-run
@@ -63,8 +65,8 @@ step-requires g c =
       handed = handed-within longest next.text c.in_ok-line.line (c.in_ok-line.ensures.most made h.stands.after.holds) next.is_text;
     }
 
-pub returns-in_err-replay-in_default : goal.returns-in_err-replay-in_default
-returns-in_err-replay-in_default g c =
+pub returns-in_err-replay-in_default-clause-run : goal.returns-in_err-replay-in_default-clause-run
+returns-in_err-replay-in_default-clause-run g c =
     let now = c.loop-replay in
     let h = now.invariant in
     let at = form_after g.L.Listener.form h.stands.handed in
@@ -75,12 +77,23 @@ returns-in_err-replay-in_default g c =
     let writes = c.in_err-replay-in_default.ensures.writes next.text at out h.stands.after in
     let r = c.from_residual-in_err-replay-in_default in
     let p = err_from_is_err_and r.result r.ensures.1 in
-    record {
-      run = with_fault g.L.Listener.form _ (g.S.Source.remaining c.args.src.now) (g.S.Source.remaining c.next_line.new.src) (g.K.Sink.contents c.args.out.now) (g.K.Sink.contents c.step.new.out) _ _ (p.1 ∙ ap Err p.2)
-          (moves_step stands next (g.K.Sink.contents c.step.new.out) c.in_err-replay-in_default.field-0.0 (g.K.Sink.faults c.args.out.now) (g.K.Sink.faults now.out) (g.K.Sink.faults c.step.new.out) _ h.sink_later writes);
-      source_later = omega (arith, h.source_later, call.later);
-      sink_later = omega (arith, h.sink_later, writes.later);
-    }
+    with_fault g.L.Listener.form _ (g.S.Source.remaining c.args.src.now) (g.S.Source.remaining c.next_line.new.src) (g.K.Sink.contents c.args.out.now) (g.K.Sink.contents c.step.new.out) _ _ (p.1 ∙ ap Err p.2)
+    (moves_step stands next (g.K.Sink.contents c.step.new.out) c.in_err-replay-in_default.field-0.0 (g.K.Sink.faults c.args.out.now) (g.K.Sink.faults now.out) (g.K.Sink.faults c.step.new.out) _ h.sink_later writes)
+
+pub returns-in_err-replay-in_default-clause-source_later : goal.returns-in_err-replay-in_default-clause-source_later
+returns-in_err-replay-in_default-clause-source_later g c =
+    let h = c.loop-replay.invariant in
+    let at = form_after g.L.Listener.form h.stands.handed in
+    omega (arith, h.source_later, (c.in_ok-line.ensures.call at.made h.stands.after.holds h.stands.reading.runs).later)
+
+pub returns-in_err-replay-in_default-clause-sink_later : goal.returns-in_err-replay-in_default-clause-sink_later
+returns-in_err-replay-in_default-clause-sink_later g c =
+    let h = c.loop-replay.invariant in
+    let at = form_after g.L.Listener.form h.stands.handed in
+    let stands = stands_within (g.L.Listener.form.longest at.made) h.stands in
+    let next = next_line stands (c.in_ok-line.ensures.call at.made h.stands.after.holds h.stands.reading.runs) c.in_default.not-End in
+    let out : HandsOut g.L.Listener.form at.made next.text c.in_ok-line.line = record { least = c.in_ok-line.ensures.least at.made h.stands.after.holds; is = next.is_text } in
+    omega (arith, h.sink_later, (c.in_err-replay-in_default.ensures.writes next.text at out h.stands.after).later)
 
 pub loop-replay-smaller : goal.loop-replay-smaller
 loop-replay-smaller g c =
@@ -107,4 +120,6 @@ loop-replay-preserved g c =
           (g.K.Sink.faults now.out) (g.K.Sink.faults c.step.new.out) (told.after next.text at out h.stands.after) writes;
       source_later = omega (arith, h.source_later, call.later);
       sink_later = omega (arith, h.sink_later, writes.later);
+      source_steady = c.in_ok-line.ensures.steady ∙ h.source_steady;
+      sink_steady = told.steady ∙ h.sink_steady;
     }

@@ -6,7 +6,7 @@ use Rattle.ft_cli.specs.declared.words.Form.TheVariants.{Gen, Play}
 use Rattle.ft_cli.specs.Report.{account_of}
 use Rattle.ft_cli.specs.Run.{Moves, Says}
 use Rattle.ft_cli.specs.Words.{form_of, texts_of}
-use Rattle.ft_cli.proofs.RunLaws.{moves_for_words, moves_unread, moves_usage}
+use Rattle.ft_cli.proofs.RunLaws.{moves_for_words, moves_unread, moves_usage, whole_steady}
 use Rattle.ft_cli.proofs.running.run.Goals as goal
 
 pub returns-in-None-clause-moves : goal.returns-in-None-clause-moves
@@ -40,3 +40,11 @@ returns-in-Some-Play-clause-moves g c =
     (Rose (g.S.Source.faults c.args.src.now) (g.S.Source.faults c.args.src.now)) (Rose before now) c.ended-in-Some-Play.result
     (subst (λ (status : Status). Moves first first held holds (λ given written. (given ≡ []) × Says (account_of it) ⊤ ⊥ (Rose before now) status given written)) (sym c.ended-in-Some-Play.ensures)
     (moves_unread (account_of it) first held holds before now _ refl c.write_play.result c.write_play.ensures.ends c.write_play.ensures.writes))
+
+pub returns-in-Some-Gen-clause-steady : goal.returns-in-Some-Gen-clause-steady
+returns-in-Some-Gen-clause-steady g c whole =
+    (refl, whole_steady (g.K.Sink.faults c.write_generated.new.out ≡ g.K.Sink.faults c.args.out.now) c.write_generated.result c.ended.result c.ended.ensures c.write_generated.ensures.steady whole)
+
+pub returns-in-Some-Play-clause-steady : goal.returns-in-Some-Play-clause-steady
+returns-in-Some-Play-clause-steady g c whole =
+    (refl, whole_steady (g.K.Sink.faults c.write_play.new.out ≡ g.K.Sink.faults c.args.out.now) c.write_play.result c.ended-in-Some-Play.result c.ended-in-Some-Play.ensures c.write_play.ensures.steady whole)

@@ -2,11 +2,9 @@ use Rattle.ft_io.specs.Streams.{Rose}
 use Rattle.ft_cli.proofs.SessionLaws.{session-moves}
 use Rattle.ft_cli.proofs.running.session.Goals as goal
 
-pub returns : goal.returns
-returns g c =
+pub returns-clause-run : goal.returns-clause-run
+returns-clause-run g c =
     let one = c.reports_are_one.ensures in
-    record {
-      run = session-moves one.whole one.opened (g.S.Source.remaining c.args.src.now) (g.S.Source.remaining c.listen.new.src) (g.K.Sink.contents c.args.out.now) (g.K.Sink.contents c.listen.new.out)
-          (Rose (g.S.Source.faults c.args.src.now) (g.S.Source.faults c.listen.new.src)) (Rose (g.K.Sink.faults c.args.out.now) (g.K.Sink.faults c.listen.new.out))
-          c.listen.result c.listen.ensures.run;
-    }
+    session-moves one.whole one.opened (g.S.Source.remaining c.args.src.now) (g.S.Source.remaining c.listen.new.src) (g.K.Sink.contents c.args.out.now) (g.K.Sink.contents c.listen.new.out)
+    (Rose (g.S.Source.faults c.args.src.now) (g.S.Source.faults c.listen.new.src)) (Rose (g.K.Sink.faults c.args.out.now) (g.K.Sink.faults c.listen.new.out))
+    c.listen.result c.listen.ensures.run

@@ -14,4 +14,4 @@ returns-in_err-write_told-clause-writes g c text at is_text follows =
     let p = err_from_is_err_and r.result r.ensures.1 in
     writes_fault (Unit {0}) _ (g.K.Sink.contents c.args.out.now) (g.K.Sink.contents c.write_told.new.out)
     (g.K.Sink.faults c.args.out.now) (g.K.Sink.faults c.write_told.new.out) _ _ _ r.result
-    (p.1 ∙ ap Err p.2) (sym (c.in_ok-replay.ensures.told text at is_text follows)) c.in_err-write_told.ensures
+    (p.1 ∙ ap Err p.2) (sym (c.in_ok-replay.ensures.told text at is_text follows)) c.in_err-write_told.ensures.writes
