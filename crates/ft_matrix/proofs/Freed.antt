@@ -1,0 +1,253 @@
+-- Handles that are freed one run after another, with the cells of their lines.
+use Rattle.std.proofs.Common.{◌≡◌, ℕ, ◌+◌, ◌≤◌, All, Bool, true, false, cond, not, ◌&&◌, ◌||◌, nat_eq, nat_le, nat_lt, List, [], ◌∷◌, ◌++◌, refl, sym, ◌∙◌, ap, subst, arith}
+use Rattle.std.proofs.lemmas.Bool.Decides.{nat_tests}
+use Rattle.std.proofs.lemmas.List.Elements.{All-from_recursion, recursion_from_All}
+use Rattle.ft_base.specs.Scan.{one_more_if}
+use Rattle.ft_leaves.specs.Elements.{TreeElement}
+use Rattle.ft_perm.specs.Handles.{HandleRun, in_run}
+use Rattle.ft_perm.specs.Vectors.{IsProper, VectorState, in_use, times_held, vector_elements}
+use Rattle.ft_cells.specs.CellTables.{cell_at, empty_cell}
+use Rattle.ft_matrix.specs.declared.grid.Grid.{Grid}
+use Rattle.ft_matrix.specs.Compacted.{AreGone, FreesCols, FreesRows, is_in_runs}
+use Rattle.ft_matrix.specs.Units.{units_of}
+use Rattle.ft_matrix.proofs.SoundVectors.{all-weaker}
+
+-- ---- the lines of a run, one after another
+
+none-yet : (f r : ℕ) → nat_le f r && nat_lt r f ≡ false
+none-yet f r = step (nat_le f r) refl
+  where
+    step : (b : Bool) → nat_le f r ≡ b → b && nat_lt r f ≡ false
+    step true e = grind (arith, nat_tests)
+    step false e = refl
+
+pub cleared-none : {A : Type 0} (f r : ℕ) (x y : A) → y ≡ cond (nat_le f r && nat_lt r f) x y
+cleared-none f r x y = ap (λ b. cond b x y) (sym (none-yet f r))
+
+not-last : (r n : ℕ) → nat_eq r n ≡ false → nat_lt r n ≡ nat_lt r (n + 1)
+not-last r n e = step (nat_lt r n) refl
+  where
+    step : (b : Bool) → nat_lt r n ≡ b → b ≡ nat_lt r (n + 1)
+    step true h = grind (arith, nat_tests)
+    step false h = grind (arith, nat_tests)
+
+pub cleared-more : {A : Type 0} (f r n : ℕ) (x y : A) → f ≤ n → cond (nat_eq r n) x (cond (nat_le f r && nat_lt r n) x y) ≡ cond (nat_le f r && nat_lt r (n + 1)) x y
+cleared-more f r n x y l = step (nat_eq r n) refl
+  where
+    step : (b : Bool) → nat_eq r n ≡ b → cond b x (cond (nat_le f r && nat_lt r n) x y) ≡ cond (nat_le f r && nat_lt r (n + 1)) x y
+    step true e = sym (ap (λ b. cond (b && nat_lt r (n + 1)) x y) low ∙ ap (λ b. cond b x y) high)
+      where
+        low : nat_le f r ≡ true
+        low = grind (arith, nat_tests)
+
+        high : nat_lt r (n + 1) ≡ true
+        high = grind (arith, nat_tests)
+    step false e = ap (λ b. cond (nat_le f r && b) x y) (not-last r n e)
+
+row-end : (f n row end : ℕ) → end ≡ f + n → end ≤ row → (f ≤ end → row ≤ end) → row ≡ f + n
+row-end f n row end e l m = let k = m (omega (arith, e)) in omega (arith, e)
+
+in-run-same : (f n row end : ℕ) (run : HandleRun) → record { first = f; count = n } ≡ run → end ≡ f + n → end ≤ row → (f ≤ end → row ≤ end) → (r : ℕ) → nat_le f r && nat_lt r row ≡ in_run r run
+in-run-same f n row end run e p l m r = ap (λ i. nat_le f r && nat_lt r i) (row-end f n row end p l m) ∙ ap (in_run r) e
+
+module _ (f n row end : ℕ) (run : HandleRun) (same : record { first = f; count = n } ≡ run) (is : end ≡ f + n) (least : end ≤ row) (most : f ≤ end → row ≤ end) (old mid : Grid)
+    (rest : mid ≡ record old { cells = mid.cells }) where
+  pub freed-rows : (rows : VectorState) → ((r c : ℕ) → cell_at mid.cells r c ≡ cond (nat_le f r && nat_lt r row) empty_cell (cell_at old.cells r c))
+      → ((h : ℕ) → in_use rows h ≡ (in_use mid.rows h && not (in_run h run))) → rows.tree ≡ mid.rows.tree → rows.next ≡ mid.rows.next
+      → (All (λ (e : TreeElement ℕ). in_run e.unit run ≡ false) (units_of mid.rows) → IsProper mid.rows → IsProper rows)
+      → All (λ (e : TreeElement ℕ). in_run e.unit run ≡ false) (units_of old.rows) → IsProper old.rows → FreesRows (λ h. in_run h run) old (record mid { rows = rows })
+  freed-rows rows cells used tree next proper gone p =
+      let kept : mid.rows ≡ old.rows = ap (λ (x : Grid). x.rows) rest in
+      record {
+        cells = λ r c. cells r c ∙ ap (λ b. cond b empty_cell (cell_at old.cells r c)) (in-run-same f n row end run same is least most r);
+        used = λ h. used h ∙ ap (λ v. in_use v h && not (in_run h run)) kept;
+        tree = tree ∙ ap (λ (v : VectorState). v.tree) kept;
+        next = next ∙ ap (λ (v : VectorState). v.next) kept;
+        proper = proper (subst (λ v. All (λ (e : TreeElement ℕ). in_run e.unit run ≡ false) (units_of v)) (sym kept) gone) (subst IsProper (sym kept) p);
+        rest = ap (λ (x : Grid). record x { rows = rows }) rest;
+      }
+
+  pub freed-cols : (cols : VectorState) → ((r c : ℕ) → cell_at mid.cells r c ≡ cond (nat_le f c && nat_lt c row) empty_cell (cell_at old.cells r c))
+      → ((h : ℕ) → in_use cols h ≡ (in_use mid.cols h && not (in_run h run))) → cols.tree ≡ mid.cols.tree → cols.next ≡ mid.cols.next
+      → (All (λ (e : TreeElement ℕ). in_run e.unit run ≡ false) (units_of mid.cols) → IsProper mid.cols → IsProper cols)
+      → All (λ (e : TreeElement ℕ). in_run e.unit run ≡ false) (units_of old.cols) → IsProper old.cols → FreesCols (λ h. in_run h run) old (record mid { cols = cols })
+  freed-cols cols cells used tree next proper gone p =
+      let kept : mid.cols ≡ old.cols = ap (λ (x : Grid). x.cols) rest in
+      record {
+        cells = λ r c. cells r c ∙ ap (λ b. cond b empty_cell (cell_at old.cells r c)) (in-run-same f n row end run same is least most c);
+        used = λ h. used h ∙ ap (λ v. in_use v h && not (in_run h run)) kept;
+        tree = tree ∙ ap (λ (v : VectorState). v.tree) kept;
+        next = next ∙ ap (λ (v : VectorState). v.next) kept;
+        proper = proper (subst (λ v. All (λ (e : TreeElement ℕ). in_run e.unit run ≡ false) (units_of v)) (sym kept) gone) (subst IsProper (sym kept) p);
+        rest = ap (λ (x : Grid). record x { cols = cols }) rest;
+      }
+
+-- ---- one run after another
+
+any-append : (h : ℕ) (xs : List HandleRun) (run : HandleRun) → is_in_runs (xs ++ (run ∷ [])) h ≡ (is_in_runs xs h || in_run h run)
+any-append h [] run = or-false (in_run h run)
+  where
+    or-false : (b : Bool) → b || false ≡ b
+    or-false true = refl
+    or-false false = refl
+any-append h (x ∷ xs) run = ap (λ b. in_run h x || b) (any-append h xs run) ∙ or-assoc (in_run h x) (is_in_runs xs h) (in_run h run)
+  where
+    or-assoc : (a b c : Bool) → a || (b || c) ≡ (a || b) || c
+    or-assoc true b c = refl
+    or-assoc false b c = refl
+
+held-append : (h : ℕ) (xs : List HandleRun) (run : HandleRun) → times_held h (xs ++ (run ∷ [])) ≡ times_held h xs + one_more_if (in_run h run) 0
+held-append h [] run = plus (one_more_if (in_run h run) 0)
+  where
+    plus : (n : ℕ) → n ≡ 0 + n
+    plus n = omega arith
+held-append h (x ∷ xs) run = step (in_run h x) (held-append h xs run)
+  where
+    step : (b : Bool) → times_held h (xs ++ (run ∷ [])) ≡ times_held h xs + one_more_if (in_run h run) 0
+        → one_more_if b (times_held h (xs ++ (run ∷ []))) ≡ one_more_if b (times_held h xs) + one_more_if (in_run h run) 0
+    step true e = omega (arith, e)
+    step false e = e
+
+pub held-some : (h : ℕ) (xs : List HandleRun) → is_in_runs xs h ≡ true → 1 ≤ times_held h xs
+held-some h [] e = cc e
+held-some h (x ∷ xs) e = step (in_run h x) e (held-some h xs)
+  where
+    step : (b : Bool) → b || is_in_runs xs h ≡ true → (is_in_runs xs h ≡ true → 1 ≤ times_held h xs) → 1 ≤ one_more_if b (times_held h xs)
+    step true f k = omega arith
+    step false f k = k f
+
+-- a handle of the runs before isn't one of the last run
+apart-runs : (h : ℕ) (xs : List HandleRun) (run : HandleRun) → times_held h (xs ++ (run ∷ [])) ≤ 1 → is_in_runs xs h ≡ true → in_run h run ≡ false
+apart-runs h xs run l e = step (in_run h run) (subst (λ n. n ≤ 1) (held-append h xs run) l)
+  where
+    some : 1 ≤ times_held h xs
+    some = held-some h xs e
+
+    step : (b : Bool) → times_held h xs + one_more_if b 0 ≤ 1 → b ≡ false
+    step true m = absurd (omega (arith, some, m))
+    step false m = refl
+
+or-right : (a b : Bool) → b ≡ true → (a || b) ≡ true
+or-right true b h = refl
+or-right false b h = h
+
+or-left : (a b : Bool) → a ≡ true → (a || b) ≡ true
+or-left true b h = refl
+or-left false b h = cc h
+
+pub none-left : (a b : Bool) → (a || b) ≡ false → a ≡ false
+none-left true b h = h
+none-left false b h = refl
+
+pub none-right : (a b : Bool) → (a || b) ≡ false → b ≡ false
+none-right true b h = cc h
+none-right false b h = h
+
+all-of : {A : Type 0} (P Q : A → Type 0) → ((x : A) → P x → Q x) → (xs : List A) → All P xs → All Q xs
+all-of P Q f xs a = All-from_recursion Q xs (all-weaker P Q f xs (recursion_from_All P xs a))
+
+-- ---- what is to be freed yet
+
+module _ (xs : List HandleRun) (run : HandleRun) (v w : VectorState) (g : AreGone (xs ++ (run ∷ [])) v) where
+  pub last-used : (h : ℕ) → in_run h run ≡ true → in_use v h ≡ true
+  last-used h e = g.used h (any-append h xs run ∙ or-right (is_in_runs xs h) (in_run h run) e)
+
+  pub last-gone : All (λ (e : TreeElement ℕ). in_run e.unit run ≡ false) (units_of v)
+  last-gone = all-of (λ (e : TreeElement ℕ). is_in_runs (xs ++ (run ∷ [])) e.unit ≡ false) (λ (e : TreeElement ℕ). in_run e.unit run ≡ false)
+      (λ e h. none-right (is_in_runs xs e.unit) (in_run e.unit run) (sym (any-append e.unit xs run) ∙ h)) (units_of v) g.gone
+
+  pub rest-gone : ((h : ℕ) → in_use w h ≡ (in_use v h && not (in_run h run))) → w.tree ≡ v.tree → IsProper w → AreGone xs w
+  rest-gone used tree p = record {
+    used = λ h e. used h ∙ ap (λ b. b && not (in_run h run)) (g.used h (any-append h xs run ∙ or-left (is_in_runs xs h) (in_run h run) e))
+        ∙ ap not (apart-runs h xs run (g.once h) e);
+    once = λ h. (let o = g.once h in let s = held-append h xs run in omega (arith, o, s));
+    gone = subst (λ t. All (λ (e : TreeElement ℕ). is_in_runs xs e.unit ≡ false) (vector_elements t)) (sym tree)
+        (all-of (λ (e : TreeElement ℕ). is_in_runs (xs ++ (run ∷ [])) e.unit ≡ false) (λ (e : TreeElement ℕ). is_in_runs xs e.unit ≡ false)
+        (λ e h. none-left (is_in_runs xs e.unit) (in_run e.unit run) (sym (any-append e.unit xs run) ∙ h)) (units_of v) g.gone);
+    proper = p;
+  }
+
+-- ---- what was freed so far
+
+-- what is gone in all is gone so far or to go yet
+abbrev pub IsPartly : (ℕ → Bool) → List HandleRun → List HandleRun → Type 0
+IsPartly done left all = (h : ℕ) → (done h || is_in_runs left h) ≡ is_in_runs all h
+
+cond-twice : {A : Type 0} (a b : Bool) (x y : A) → cond b x (cond a x y) ≡ cond (a || b) x y
+cond-twice true true x y = refl
+cond-twice true false x y = refl
+cond-twice false true x y = refl
+cond-twice false false x y = refl
+
+not-twice : (u a b : Bool) → (u && not a) && not b ≡ u && not (a || b)
+not-twice true true b = refl
+not-twice true false b = refl
+not-twice false a b = refl
+
+pub rows-twice : (a b : ℕ → Bool) (old mid new : Grid) → FreesRows a old mid → FreesRows b mid new → FreesRows (λ h. a h || b h) old new
+rows-twice a b old mid new f g = record {
+  cells = λ r c. g.cells r c ∙ ap (cond (b r) empty_cell) (f.cells r c) ∙ cond-twice (a r) (b r) empty_cell (cell_at old.cells r c);
+  used = λ h. g.used h ∙ ap (λ u. u && not (b h)) (f.used h) ∙ not-twice (in_use old.rows h) (a h) (b h);
+  tree = g.tree ∙ f.tree;
+  next = g.next ∙ f.next;
+  proper = g.proper;
+  rest = g.rest ∙ ap (λ (x : Grid). record x { rows = new.rows; cells = new.cells }) f.rest;
+}
+
+pub cols-twice : (a b : ℕ → Bool) (old mid new : Grid) → FreesCols a old mid → FreesCols b mid new → FreesCols (λ h. a h || b h) old new
+cols-twice a b old mid new f g = record {
+  cells = λ r c. g.cells r c ∙ ap (cond (b c) empty_cell) (f.cells r c) ∙ cond-twice (a c) (b c) empty_cell (cell_at old.cells r c);
+  used = λ h. g.used h ∙ ap (λ u. u && not (b h)) (f.used h) ∙ not-twice (in_use old.cols h) (a h) (b h);
+  tree = g.tree ∙ f.tree;
+  next = g.next ∙ f.next;
+  proper = g.proper;
+  rest = g.rest ∙ ap (λ (x : Grid). record x { cols = new.cols; cells = new.cells }) f.rest;
+}
+
+pub same-rows : (a b : ℕ → Bool) (old new : Grid) → ((h : ℕ) → a h ≡ b h) → FreesRows a old new → FreesRows b old new
+same-rows a b old new e f = record {
+  cells = λ r c. f.cells r c ∙ ap (λ t. cond t empty_cell (cell_at old.cells r c)) (e r);
+  used = λ h. f.used h ∙ ap (λ t. in_use old.rows h && not t) (e h);
+  tree = f.tree;
+  next = f.next;
+  proper = f.proper;
+  rest = f.rest;
+}
+
+pub same-cols : (a b : ℕ → Bool) (old new : Grid) → ((h : ℕ) → a h ≡ b h) → FreesCols a old new → FreesCols b old new
+same-cols a b old new e f = record {
+  cells = λ r c. f.cells r c ∙ ap (λ t. cond t empty_cell (cell_at old.cells r c)) (e c);
+  used = λ h. f.used h ∙ ap (λ t. in_use old.cols h && not t) (e h);
+  tree = f.tree;
+  next = f.next;
+  proper = f.proper;
+  rest = f.rest;
+}
+
+and-true : (b : Bool) → b ≡ b && true
+and-true true = refl
+and-true false = refl
+
+pub no-rows : (g : Grid) → IsProper g.rows → FreesRows (λ h. false) g g
+no-rows g p = record { cells = λ r c. refl; used = λ h. and-true (in_use g.rows h); tree = refl; next = refl; proper = p; rest = refl }
+
+pub no-cols : (g : Grid) → IsProper g.cols → FreesCols (λ h. false) g g
+no-cols g p = record { cells = λ r c. refl; used = λ h. and-true (in_use g.cols h); tree = refl; next = refl; proper = p; rest = refl }
+
+-- one run more
+pub partly-more : (done : ℕ → Bool) (xs : List HandleRun) (run : HandleRun) (all : List HandleRun) → IsPartly done (xs ++ (run ∷ [])) all → IsPartly (λ h. done h || in_run h run) xs all
+partly-more done xs run all p h = turned (done h) (in_run h run) (is_in_runs xs h) ∙ ap (λ b. done h || b) (sym (any-append h xs run)) ∙ p h
+  where
+    turned : (a b c : Bool) → (a || b) || c ≡ a || (c || b)
+    turned true b c = refl
+    turned false true true = refl
+    turned false true false = refl
+    turned false false true = refl
+    turned false false false = refl
+
+pub partly-all : (done : ℕ → Bool) (all : List HandleRun) → IsPartly done [] all → (h : ℕ) → done h ≡ is_in_runs all h
+partly-all done all p h = or-none (done h) ∙ p h
+  where
+    or-none : (b : Bool) → b ≡ b || false
+    or-none true = refl
+    or-none false = refl

@@ -1,0 +1,223 @@
+-- Runs of units made leaf by leaf: the last one so far may still go on.
+use Rattle.std.proofs.Common.{◌≡◌, ℕ, suc, ◌+◌, ◌≤◌, Bool, true, false, cond, List, [], ◌∷◌, ◌++◌, Option, Some, None, refl, sym, ◌∙◌, ap, subst, length, option_map, IfOk, Result, Ok, Err, arith, append_assoc}
+use Rattle.std.specs.Bool.{Decides}
+use Rattle.std.proofs.lemmas.Bool.Decides.{nat_tests}
+use Rattle.ft_arena.specs.Ids.{after, first}
+use Rattle.ft_base.specs.declared.elements.Element.{Element as ElementStamps}
+use Rattle.ft_base.specs.declared.memory.OutOfMemory.{OutOfMemory}
+use Rattle.ft_base.proofs.Booleans.{both}
+use Rattle.ft_block.specs.Leaves.{IsLeafIn, IsPlaceIn, ids, times_leaf, value_at}
+use Rattle.ft_leaf_blocks.specs.Walks.{from_place}
+use Rattle.ft_leaf_blocks.proofs.Walks.{after_in_place, first_in_place, from_first}
+use Rattle.ft_leaves.specs.declared.leaves.TreeLeaf.{TreeLeaf}
+use Rattle.ft_leaves.specs.Elements.{TreeElement, elements_with}
+use Rattle.ft_leaves.specs.LeafLists.{elements}
+use Rattle.ft_named.proofs.LeafWalks.{stands-next}
+use Rattle.ft_op.specs.Same.{same_list}
+use Rattle.ft_op.proofs.SameOperations.{same_list-Decides}
+use Rattle.ft_perm.specs.Handles.{HandleRun, handles_of}
+use Rattle.ft_perm.proofs.SeenRuns.{Leaves}
+use Rattle.ft_props.specs.Compaction.{has_collectable_removal}
+use Rattle.ft_props.specs.Overlay.{OverlayState}
+use Rattle.ft_sumdoc.specs.declared.summary.Mark.{Mark}
+use Rattle.ft_sumdoc.specs.declared.summary.RunRec.{RunRec}
+use Rattle.ft_sumdoc.specs.Stamps.{same_mark}
+use Rattle.ft_sumdoc.specs.WellFormed.{same_stamps}
+use Rattle.ft_matrix.specs.SavedUnits.{AddsLeaf, continued, saved_runs, unit_run, with_run}
+
+-- ---- equal stamps
+
+same_mark-Decides : (a b : Mark) → Decides (same_mark a b) (a ≡ b)
+same_mark-Decides a b = (forth, back)
+  where
+    forth : same_mark a b ≡ true → a ≡ b
+    forth h =
+        let seq : a.seq ≡ b.seq = grind (arith, nat_tests) in
+        let conn : a.conn ≡ b.conn = grind (arith, nat_tests) in
+        ap (λ (i : ℕ). record { seq = i; conn = a.conn }) seq ∙ ap (λ (i : ℕ). record { seq = b.seq; conn = i }) conn
+
+    back : a ≡ b → same_mark a b ≡ true
+    back e =
+        let seq = ap (λ (m : Mark). m.seq) e in
+        let conn = ap (λ (m : Mark). m.conn) e in
+        grind (arith, nat_tests)
+
+pub same_marks-Decides : (a b : List Mark) → Decides (same_list same_mark a b) (a ≡ b)
+same_marks-Decides a b = same_list-Decides same_mark same_mark-Decides a b
+
+stamps_are_same : (ins other : Mark) (dels others : List Mark) → same_stamps ins dels other others ≡ true → (ins ≡ other) × (dels ≡ others)
+stamps_are_same ins other dels others h =
+    let parts = both (same_mark ins other) (same_list same_mark dels others) h in
+    ((same_mark-Decides ins other).0 parts.0, (same_marks-Decides dels others).0 parts.1)
+
+itself : (ins : Mark) (dels : List Mark) → same_stamps ins dels ins dels ≡ true
+itself ins dels = rw ((same_mark-Decides ins ins).1 refl, (same_marks-Decides dels dels).1 refl) refl
+
+-- ---- a run before others
+
+abbrev run : ℕ → Mark → List Mark → RunRec
+run n ins dels = record { count = n; ins = ins; dels = dels }
+
+-- two runs side by side with equal stamps are one
+joined : (a b : ℕ) (ins : Mark) (dels : List Mark) (rest : List RunRec) → with_run (run a ins dels) (with_run (run b ins dels) rest) ≡ with_run (run (b + a) ins dels) rest
+joined a b ins dels [] = ap (λ t. cond t (run (b + a) ins dels ∷ []) (run a ins dels ∷ run b ins dels ∷ [])) (itself ins dels)
+joined a b ins dels (s ∷ runs) = step (same_stamps ins dels s.ins s.dels) refl
+  where
+    step : (t : Bool) → same_stamps ins dels s.ins s.dels ≡ t
+        → with_run (run a ins dels) (cond t (record s { count = s.count + b } ∷ runs) (run b ins dels ∷ s ∷ runs))
+        ≡ cond t (record s { count = s.count + (b + a) } ∷ runs) (run (b + a) ins dels ∷ s ∷ runs)
+    step true h =
+        let sum : s.count + b + a ≡ s.count + (b + a) = omega arith in
+        ap (λ t. cond t (record s { count = s.count + b + a } ∷ runs) (run a ins dels ∷ record s { count = s.count + b } ∷ runs)) h
+        ∙ ap (λ n. record s { count = n } ∷ runs) sum
+    step false h = ap (λ t. cond t (run (b + a) ins dels ∷ s ∷ runs) (run a ins dels ∷ run b ins dels ∷ s ∷ runs)) (itself ins dels)
+
+-- the first run has the stamps of the one that was put before
+record BeginsWith (r : RunRec) (all : List RunRec) : Type 0 where
+  head : RunRec
+  tail : List RunRec
+  is : all ≡ head ∷ tail
+  ins : head.ins ≡ r.ins
+  dels : head.dels ≡ r.dels
+
+begins : (r : RunRec) (rest : List RunRec) → BeginsWith r (with_run r rest)
+begins r [] = record { head = r; tail = []; is = refl; ins = refl; dels = refl }
+begins r (s ∷ runs) = step (same_stamps r.ins r.dels s.ins s.dels) refl
+  where
+    step : (t : Bool) → same_stamps r.ins r.dels s.ins s.dels ≡ t → BeginsWith r (cond t (record s { count = s.count + r.count } ∷ runs) (r ∷ s ∷ runs))
+    step true h =
+        let p = stamps_are_same r.ins s.ins r.dels s.dels h in
+        record { head = record s { count = s.count + r.count }; tail = runs; is = refl; ins = sym p.0; dels = sym p.1 }
+    step false h = record { head = r; tail = s ∷ runs; is = refl; ins = refl; dels = refl }
+
+apart : (r s : RunRec) (rest : List RunRec) → same_stamps r.ins r.dels s.ins s.dels ≡ false → with_run r (with_run s rest) ≡ r ∷ with_run s rest
+apart r s rest h =
+    let b = begins s rest in
+    let differs : same_stamps r.ins r.dels b.head.ins b.head.dels ≡ false =
+    ap (λ i. same_stamps r.ins r.dels i b.head.dels) b.ins ∙ ap (λ d. same_stamps r.ins r.dels s.ins d) b.dels ∙ h in
+    ap (with_run r) b.is ∙ ap (λ t. cond t (record b.head { count = b.head.count + r.count } ∷ b.tail) (r ∷ b.head ∷ b.tail)) differs ∙ ap (λ rs. r ∷ rs) (sym b.is)
+
+-- ---- runs of which the last one goes on
+
+continued-last : (runs : List RunRec) (r : RunRec) (rest : List RunRec) → continued (runs ++ r ∷ []) rest ≡ runs ++ with_run r rest
+continued-last [] r rest = refl
+continued-last (s ∷ []) r rest = refl
+continued-last (s ∷ t ∷ runs) r rest = ap (λ us. s ∷ us) (continued-last (t ∷ runs) r rest)
+
+pub continued-none : (runs : List RunRec) → continued runs [] ≡ runs
+continued-none [] = refl
+continued-none (r ∷ []) = refl
+continued-none (r ∷ s ∷ runs) = ap (λ us. r ∷ us) (continued-none (s ∷ runs))
+
+pub first-run : (old new : List RunRec) (r : RunRec) → old ≡ [] → new ≡ r ∷ [] → (rest : List RunRec) → continued new rest ≡ continued old (with_run r rest)
+first-run old new r e f rest = ap (λ us. continued us rest) f ∙ sym (ap (λ us. continued us (with_run r rest)) e)
+
+pub joined-run : (front old new : List RunRec) (last r : RunRec) → old ≡ front ++ last ∷ [] → same_stamps last.ins last.dels r.ins r.dels ≡ true
+    → new ≡ front ++ record r { count = r.count + last.count } ∷ [] → (rest : List RunRec) → continued new rest ≡ continued old (with_run r rest)
+joined-run front old new last r e s f rest =
+    let p = stamps_are_same last.ins r.ins last.dels r.dels s in
+    let same : last ≡ run last.count r.ins r.dels = ap (λ i. run last.count i last.dels) p.0 ∙ ap (λ d. run last.count r.ins d) p.1 in
+    ap (λ us. continued us rest) f ∙ continued-last front (record r { count = r.count + last.count }) rest
+    ∙ ap (λ us. front ++ us) (sym (ap (λ q. with_run q (with_run r rest)) same ∙ joined last.count r.count r.ins r.dels rest))
+    ∙ sym (ap (λ us. continued us (with_run r rest)) e ∙ continued-last front last (with_run r rest))
+
+pub apart-run : (front old new : List RunRec) (last r : RunRec) → old ≡ front ++ last ∷ [] → same_stamps last.ins last.dels r.ins r.dels ≡ false
+    → new ≡ (front ++ last ∷ []) ++ r ∷ [] → (rest : List RunRec) → continued new rest ≡ continued old (with_run r rest)
+apart-run front old new last r e s f rest =
+    ap (λ us. continued us rest) f ∙ continued-last (front ++ last ∷ []) r rest ∙ append_assoc front (last ∷ []) (with_run r rest)
+    ∙ ap (λ us. front ++ us) (sym (apart last r rest s))
+    ∙ sym (ap (λ us. continued us (with_run r rest)) e ∙ continued-last front last (with_run r rest))
+
+-- ---- the units of a leaf
+
+module _ (min : ℕ) where
+  same-units : (stamps : ElementStamps) (overlay : OverlayState) (u : ℕ) (us : List ℕ) (es : List (TreeElement ℕ)) → has_collectable_removal min stamps.dels ≡ false
+      → saved_runs min (elements_with stamps None overlay (u ∷ us) ++ es) ≡ with_run (unit_run min stamps (suc (length us))) (saved_runs min es)
+  same-units stamps overlay u [] es h =
+      ap (λ b. cond b (saved_runs min es) (with_run (unit_run min stamps 1) (saved_runs min es))) h
+  same-units stamps overlay u (v ∷ us) es h =
+      let count : suc (length us) + 1 ≡ suc (suc (length us)) = omega arith in
+      ap (λ b. cond b (saved_runs min (elements_with stamps None overlay (v ∷ us) ++ es))
+      (with_run (unit_run min stamps 1) (saved_runs min (elements_with stamps None overlay (v ∷ us) ++ es)))) h
+      ∙ ap (with_run (unit_run min stamps 1)) (same-units stamps overlay v us es h)
+      ∙ joined 1 (suc (length us)) (unit_run min stamps 1).ins (unit_run min stamps 1).dels (saved_runs min es)
+      ∙ ap (λ n. with_run (unit_run min stamps n) (saved_runs min es)) count
+
+  no-units : (stamps : ElementStamps) (overlay : OverlayState) (us : List ℕ) (es : List (TreeElement ℕ)) → has_collectable_removal min stamps.dels ≡ true
+      → saved_runs min (elements_with stamps None overlay us ++ es) ≡ saved_runs min es
+  no-units stamps overlay [] es h = refl
+  no-units stamps overlay (u ∷ us) es h =
+      ap (λ b. cond b (saved_runs min (elements_with stamps None overlay us ++ es))
+      (with_run (unit_run min stamps 1) (saved_runs min (elements_with stamps None overlay us ++ es)))) h
+      ∙ no-units stamps overlay us es h
+
+  some-units : (stamps : ElementStamps) (overlay : OverlayState) (us : List ℕ) (es : List (TreeElement ℕ)) → 1 ≤ length us
+      → saved_runs min (elements_with stamps None overlay us ++ es)
+      ≡ cond (has_collectable_removal min stamps.dels) (saved_runs min es) (with_run (unit_run min stamps (length us)) (saved_runs min es))
+  some-units stamps overlay [] es l = absurd (omega arith)
+  some-units stamps overlay (u ∷ us) es l = step (has_collectable_removal min stamps.dels) refl
+    where
+      step : (b : Bool) → has_collectable_removal min stamps.dels ≡ b
+          → saved_runs min (elements_with stamps None overlay (u ∷ us) ++ es) ≡ cond b (saved_runs min es) (with_run (unit_run min stamps (suc (length us))) (saved_runs min es))
+      step true h = no-units stamps overlay (u ∷ us) es h
+      step false h = same-units stamps overlay u us es h
+
+  -- ---- the walk
+
+  abbrev runs-in : Leaves → List RunRec
+  runs-in leaves = saved_runs min (elements handles_of (λ x. None) leaves)
+
+  pub record SavesSoFar (all : Leaves) (next : Option ℕ) (runs : List RunRec) : Type 0 where
+    pub place : IsPlaceIn all next
+    pub whole : continued runs (runs-in (from_place all next)) ≡ runs-in all
+
+  pub saves-begin : (all : Leaves) (next : Option ℕ) (runs : List RunRec) → next ≡ first (ids all) → runs ≡ [] → SavesSoFar all next runs
+  saves-begin all next runs e f =
+      subst (λ n. SavesSoFar all n runs) (sym e) (record {
+        place = first_in_place all;
+        whole = ap (λ us. continued us (runs-in (from_place all (first (ids all))))) f ∙ ap runs-in (from_first all);
+      })
+
+  pub saves-next : (all : Leaves) → ((i : ℕ) → times_leaf all i ≤ 1) → (next behind : Option ℕ) (id : ℕ) (old new : List RunRec) → SavesSoFar all next old → next ≡ Some id
+      → ((x : TreeLeaf HandleRun) → value_at all id ≡ Some x → AddsLeaf min x old new) → behind ≡ after (ids all) id → SavesSoFar all behind new
+  saves-next all once next behind id old new s e f g =
+      let live : IsLeafIn all id = subst (λ n. IsPlaceIn all n) e s.place in
+      let here = stands-next all once id live in
+      let added = f here.leaf here.value in
+      let rest = from_place all (after (ids all) id) in
+      subst (λ n. SavesSoFar all n new) (sym g) (record {
+        place = after_in_place all id;
+        whole = added.adds (runs-in rest)
+            ∙ ap (continued old) (sym (ap runs-in here.ahead
+            ∙ some-units here.leaf.stamps here.leaf.overlay (handles_of here.leaf.content) (elements handles_of (λ (x : HandleRun). None) rest) added.some))
+            ∙ ap (λ n. continued old (runs-in (from_place all n))) (sym e) ∙ s.whole;
+      })
+
+  pub saves-all : (all : Leaves) (next : Option ℕ) (runs : List RunRec) → SavesSoFar all next runs → next ≡ None → runs ≡ runs-in all
+  saves-all all next runs s e = sym (continued-none runs) ∙ ap (λ n. continued runs (runs-in (from_place all n))) (sym e) ∙ s.whole
+
+module _ (min : ℕ) (leaves : Leaves) (id : ℕ) (old new : List RunRec) (stamps : ElementStamps) (count : ℕ) (r : RunRec)
+    (own : option_map (λ x. x.stamps) (value_at leaves id) ≡ Some stamps) (size : option_map (λ x. length (handles_of x.content)) (value_at leaves id) ≡ Some count)
+    (some : 1 ≤ count) where
+  stamps-of : (x : TreeLeaf HandleRun) → value_at leaves id ≡ Some x → stamps ≡ x.stamps
+  stamps-of x v = let e : Some stamps ≡ Some x.stamps = sym own ∙ ap (option_map (λ (y : TreeLeaf HandleRun). y.stamps)) v in (cc)
+
+  count-of : (x : TreeLeaf HandleRun) → value_at leaves id ≡ Some x → count ≡ length (handles_of x.content)
+  count-of x v = let e : Some count ≡ Some (length (handles_of x.content)) = sym size ∙ ap (option_map (λ (y : TreeLeaf HandleRun). length (handles_of y.content))) v in (cc)
+
+  pub adds-leaf : has_collectable_removal min stamps.dels ≡ false → r ≡ unit_run min stamps count
+      → ((rest : List RunRec) → continued new rest ≡ continued old (with_run r rest)) → (x : TreeLeaf HandleRun) → value_at leaves id ≡ Some x → AddsLeaf min x old new
+  adds-leaf stays is adds x v =
+      let s = stamps-of x v in
+      let n = count-of x v in
+      record {
+        some = subst (λ m. 1 ≤ m) n some;
+        adds = λ rest. adds rest
+            ∙ ap (λ q. continued old (with_run q rest)) (is ∙ ap (λ t. unit_run min t count) s ∙ ap (unit_run min x.stamps) n)
+            ∙ ap (continued old) (sym (ap (λ b. cond b rest (with_run (unit_run min x.stamps (length (handles_of x.content))) rest))
+            (sym (ap (λ (t : ElementStamps). has_collectable_removal min t.dels) s) ∙ stays)));
+      }
+
+pub list-is : (r : Result (List RunRec) OutOfMemory) (a b : List RunRec) → IfOk r (λ l. l ≡ a) → a ≡ b → IfOk r (λ l. l ≡ b)
+list-is (Ok l) a b h e = h ∙ e
+list-is (Err f) a b h e = tt

@@ -1,0 +1,51 @@
+-- What compaction makes of the handles and the cells of a grid. No public clause cites this module.
+use Rattle.std.specs.Prelude.{◌≡◌, ◌≤◌, ℕ, Bool, true, false, cond, not, ◌&&◌, nat_eq, All, List, map}
+use Rattle.std.specs.List.{AllByRecursion, list_any}
+use Rattle.ft_base.specs.Scan.{len}
+use Rattle.ft_leaves.specs.Elements.{TreeElement}
+use Rattle.ft_cells.specs.CellTables.{cell_at, empty_cell}
+use Rattle.ft_perm.specs.Handles.{HandleRun, in_run}
+use Rattle.ft_perm.specs.Vectors.{IsProper, VectorState, in_use, times_held}
+use Rattle.ft_zamboni.specs.Scours.{Writes, is_collectable, staying}
+use Rattle.ft_matrix.specs.declared.grid.Grid.{Grid}
+use Rattle.ft_matrix.specs.Units.{units_of}
+
+-- whether one of the runs has the handle
+abbrev pub is_in_runs : List HandleRun → ℕ → Bool
+is_in_runs runs h = list_any (in_run h) runs
+
+-- a vector of which units are taken out, each marked with whether it goes: only such go as were removed at or below the floor, the
+-- others are written again, and the runs have just the handles of those that go
+pub record ScoursUnits (raised : ℕ) (runs : List HandleRun) (old new : VectorState) : Type 0 where
+  pub marked : List (Bool × TreeElement ℕ)
+  pub all : map (λ m. m.1) marked ≡ units_of old
+  pub may : AllByRecursion (λ m. m.0 ≡ true → is_collectable raised m.1.stamps ≡ true) marked
+  pub written : Writes raised (units_of new) (staying marked)
+  pub taken : (h : ℕ) → times_held h runs ≡ len (λ m. m.0 && nat_eq m.1.unit h) marked
+  pub used : (h : ℕ) → in_use new h ≡ in_use old h
+  pub floor : new.tree.floor ≡ raised
+
+-- the runs are of handles in use, none twice, of which no unit has one
+pub record AreGone (runs : List HandleRun) (v : VectorState) : Type 0 where
+  pub used : (h : ℕ) → is_in_runs runs h ≡ true → in_use v h ≡ true
+  pub once : (h : ℕ) → times_held h runs ≤ 1
+  pub gone : All (λ e. is_in_runs runs e.unit ≡ false) (units_of v)
+  pub proper : IsProper v
+
+-- rows of these handles have no cells, and the handles are free
+pub record FreesRows (gone : ℕ → Bool) (old new : Grid) : Type 0 where
+  pub cells : (r c : ℕ) → cell_at new.cells r c ≡ cond (gone r) empty_cell (cell_at old.cells r c)
+  pub used : (h : ℕ) → in_use new.rows h ≡ (in_use old.rows h && not (gone h))
+  pub tree : new.rows.tree ≡ old.rows.tree
+  pub next : new.rows.next ≡ old.rows.next
+  pub proper : IsProper new.rows
+  pub rest : new ≡ record old { rows = new.rows; cells = new.cells }
+
+-- columns of these handles have no cells, and the handles are free
+pub record FreesCols (gone : ℕ → Bool) (old new : Grid) : Type 0 where
+  pub cells : (r c : ℕ) → cell_at new.cells r c ≡ cond (gone c) empty_cell (cell_at old.cells r c)
+  pub used : (h : ℕ) → in_use new.cols h ≡ (in_use old.cols h && not (gone h))
+  pub tree : new.cols.tree ≡ old.cols.tree
+  pub next : new.cols.next ≡ old.cols.next
+  pub proper : IsProper new.cols
+  pub rest : new ≡ record old { cols = new.cols; cells = new.cells }

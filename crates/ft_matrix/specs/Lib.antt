@@ -1,0 +1,16 @@
+pub mod Units
+pub mod GridStates
+pub mod Sound
+pub mod HoldsGrid
+pub mod Conditions
+pub mod Splices
+pub mod Acked
+pub mod Applied
+pub mod Compacted
+pub mod Rebuilt
+pub mod Resubmitted
+pub mod OwnEdits
+pub mod Shown
+pub mod Seen
+pub mod SavedUnits
+pub mod Loaded

@@ -1,0 +1,209 @@
+//! Compaction: rows and columns that were removed at or below the floor are taken out, with their cells, and their handles are
+//! free again.
+
+ghost use Rattle.std.specs.Prelude.{◌≡◌, ◌≤◌, ℕ, All, List, IfOk, IsTrue, OnErr, OnOk, false, true};
+ghost use Rattle.ft_op.specs.Document.{Document};
+ghost use Rattle.ft_op.specs.Stages.{Stage};
+ghost use Rattle.ft_perm.specs.Handles.{in_run};
+ghost use Rattle.ft_perm.specs.Vectors.{IsProper, in_use};
+ghost use Rattle.ft_zamboni.specs.Scours.{is_collectable};
+ghost use Rattle.ft_names.specs.WellNamed.{AreWellNamed};
+ghost use Rattle.ft_matrix.specs.Applied.{Holds};
+ghost use Rattle.ft_matrix.specs.Compacted.{AreGone, FreesCols, FreesRows, ScoursUnits, is_in_runs};
+ghost use Rattle.ft_matrix.specs.Units.{units_of};
+ghost use Rattle.ft_matrix.specs.Conditions.{AreFreeUnits, HasNoTombstone, HoldsKept};
+ghost use Rattle.ft_matrix.specs.GridStates.{grid_state};
+ghost use Rattle.ft_matrix.specs.HoldsGrid.{HoldsGrid};
+ghost use Rattle.ft_matrix.specs.Sound.{IsSound, IsSoundVector};
+
+use crate::grid::Grid;
+use crate::matrix::SharedMatrix;
+use crate::messages::more;
+use ft_base::OutOfMemory;
+use ft_perm::{Handles, Vector};
+use ft_zamboni::{scour, scour_all};
+use std::alloc::Global;
+
+impl SharedMatrix {
+    /// Raises the floor, and takes out all rows and columns that were removed at or below it.
+    ///
+    /// Answers `OutOfMemory` where there is no room for what is kept, and then the table may be used no more.
+    pub fn compact(&mut self, floor: u64) -> Result<(), OutOfMemory>
+        requires usable { IsTrue self.old.usable }
+        requires settled { self.old.given ≡ 0 }
+        requires rising { self.old.floor ≤ floor }
+        requires free { AreFreeUnits floor self.old }
+        ensures kept { (last : ℕ) (doc : Document) (stages : List Stage) → AreWellNamed last doc stages → HoldsGrid self.old doc stages
+            → OnOk result (HoldsKept floor self.new doc stages) }
+        ensures none { OnOk result (HasNoTombstone floor self.new) }
+        ensures floor { OnOk result (self.new.floor ≡ floor) }
+        ensures given { self.new.given ≡ self.old.given }
+        ensures usable { OnOk result (self.new.usable ≡ self.old.usable) }
+        ensures err { OnErr result (self.new.usable ≡ false) }
+    {
+        match self.grid.compact(self.alloc, floor) {
+            Ok(()) => Ok(()),
+            Err(e) => {
+                self.usable = false;
+                Err(e)
+            }
+        }
+    }
+
+    /// Raises the floor, and looks at `budget` further leaves of the rows and as many of the columns: those that were removed at
+    /// or below the floor are taken out.
+    ///
+    /// Answers `OutOfMemory` where there is no room for what is kept, and then the table may be used no more.
+    pub fn tidy(&mut self, floor: u64, budget: u64) -> Result<(), OutOfMemory>
+        requires usable { IsTrue self.old.usable }
+        requires settled { self.old.given ≡ 0 }
+        requires rising { self.old.floor ≤ floor }
+        requires free { AreFreeUnits floor self.old }
+        ensures kept { (last : ℕ) (doc : Document) (stages : List Stage) → AreWellNamed last doc stages → HoldsGrid self.old doc stages
+            → OnOk result (HoldsKept floor self.new doc stages) }
+        ensures floor { OnOk result (self.new.floor ≡ floor) }
+        ensures given { self.new.given ≡ self.old.given }
+        ensures usable { OnOk result (self.new.usable ≡ self.old.usable) }
+        ensures err { OnErr result (self.new.usable ≡ false) }
+    {
+        match self.grid.tidy(self.alloc, floor, budget) {
+            Ok(()) => Ok(()),
+            Err(e) => {
+                self.usable = false;
+                Err(e)
+            }
+        }
+    }
+}
+
+/// Raises the floor of a vector, and takes the units out that were removed at or below it. Answers the runs of their handles, which
+/// are in use yet.
+///
+/// Answers `OutOfMemory` where there is no room for what is kept, and then the vector may be used no more.
+fn scour_units(units: &mut Vector, alloc: Global, floor: u64) -> Result<Vec<Handles>, OutOfMemory>
+    requires sound { IsSoundVector units.old }
+    requires rising { units.old.tree.floor ≤ floor }
+    ensures sound { OnOk result (IsSoundVector units.new) }
+    ensures scours { IfOk result (λ runs. ScoursUnits floor runs.items units.old units.new) }
+    ensures none { OnOk result (All (λ e. is_collectable floor e.stamps ≡ false) (units_of units.new)) }
+{
+    let mut taken = Vec::new(alloc);
+    scour_all(&mut units.tree, floor, &mut taken)?;
+    Ok(taken)
+}
+
+/// Raises the floor of a vector, and looks at `budget` further leaves: takes the units out that were removed at or below it. Answers
+/// the runs of their handles, which are in use yet.
+///
+/// Answers `OutOfMemory` where there is no room for what is kept, and then the vector may be used no more.
+fn scour_part(
+    units: &mut Vector,
+    alloc: Global,
+    floor: u64,
+    budget: u64,
+) -> Result<Vec<Handles>, OutOfMemory>
+    requires sound { IsSoundVector units.old }
+    requires rising { units.old.tree.floor ≤ floor }
+    ensures sound { OnOk result (IsSoundVector units.new) }
+    ensures scours { IfOk result (λ runs. ScoursUnits floor runs.items units.old units.new) }
+{
+    let mut taken = Vec::new(alloc);
+    scour(&mut units.tree, floor, budget, &mut taken)?;
+    Ok(taken)
+}
+
+impl Grid {
+    /// Raises the floor, and takes out all that was removed at or below it, with its cells: the handles are free again.
+    ///
+    /// Answers `OutOfMemory` where there is no room for what is kept, and then the grid may be used no more.
+    fn compact(&mut self, alloc: Global, floor: u64) -> Result<(), OutOfMemory>
+        requires sound { IsSound self.old }
+        requires rising { self.old.rows.tree.floor ≤ floor }
+        requires free { AreFreeUnits floor (grid_state self.old 0 true) }
+        ensures sound { OnOk result (IsSound self.new) }
+        ensures floor { OnOk result (self.new.rows.tree.floor ≡ floor) }
+        ensures kept { (last : ℕ) (doc : Document) (stages : List Stage) → Holds last self.old doc stages
+            → OnOk result (HoldsKept floor (grid_state self.new 0 true) doc stages) }
+        ensures none { OnOk result (HasNoTombstone floor (grid_state self.new 0 true)) }
+    {
+        let rows = scour_units(&mut self.rows, alloc, floor)?;
+        let cols = scour_units(&mut self.cols, alloc, floor)?;
+        self.free_rows(rows)?;
+        self.free_cols(cols)
+    }
+
+    /// Raises the floor, and looks at `budget` further leaves of the rows and as many of the columns: those that were removed at or
+    /// below it are taken out, with their cells, and their handles are free again.
+    ///
+    /// Answers `OutOfMemory` where there is no room for what is kept, and then the grid may be used no more.
+    fn tidy(&mut self, alloc: Global, floor: u64, budget: u64) -> Result<(), OutOfMemory>
+        requires sound { IsSound self.old }
+        requires rising { self.old.rows.tree.floor ≤ floor }
+        requires free { AreFreeUnits floor (grid_state self.old 0 true) }
+        ensures sound { OnOk result (IsSound self.new) }
+        ensures floor { OnOk result (self.new.rows.tree.floor ≡ floor) }
+        ensures kept { (last : ℕ) (doc : Document) (stages : List Stage) → Holds last self.old doc stages
+            → OnOk result (HoldsKept floor (grid_state self.new 0 true) doc stages) }
+    {
+        let rows = scour_part(&mut self.rows, alloc, floor, budget)?;
+        let cols = scour_part(&mut self.cols, alloc, floor, budget)?;
+        self.free_rows(rows)?;
+        self.free_cols(cols)
+    }
+
+    /// Takes the cells of rows out that are gone, and frees their handles.
+    ///
+    /// Answers `OutOfMemory` where there is no room for the free handles.
+    fn free_rows(&mut self, mut taken: Vec<Handles>) -> Result<(), OutOfMemory>
+        requires gone { AreGone taken.items self.old.rows }
+        ensures { OnOk result (FreesRows (is_in_runs taken.items) self.old self.new) }
+    {
+        while let Some(run) = taken.pop() {
+            self.free_row_run(run)?;
+        }
+        Ok(())
+    }
+
+    /// Takes the cells of a run of rows out that are gone, and frees its handles.
+    ///
+    /// Answers `OutOfMemory` where there is no room for the free handles.
+    fn free_row_run(&mut self, run: Handles) -> Result<(), OutOfMemory>
+        requires used { (h : ℕ) → in_run h run ≡ true → in_use self.old.rows h ≡ true }
+        requires gone { All (λ e. in_run e.unit run ≡ false) (units_of self.old.rows) }
+        requires proper { IsProper self.old.rows }
+        ensures { OnOk result (FreesRows (λ h. in_run h run) self.old self.new) }
+    {
+        for row in run.first..more(run.first, run.count)? {
+            self.cells.clear_row(row);
+        }
+        self.rows.recycle(run)
+    }
+
+    /// Takes the cells of columns out that are gone, and frees their handles.
+    ///
+    /// Answers `OutOfMemory` where there is no room for the free handles.
+    fn free_cols(&mut self, mut taken: Vec<Handles>) -> Result<(), OutOfMemory>
+        requires gone { AreGone taken.items self.old.cols }
+        ensures { OnOk result (FreesCols (is_in_runs taken.items) self.old self.new) }
+    {
+        while let Some(run) = taken.pop() {
+            self.free_col_run(run)?;
+        }
+        Ok(())
+    }
+
+    /// Takes the cells of a run of columns out that are gone, and frees its handles.
+    ///
+    /// Answers `OutOfMemory` where there is no room for the free handles.
+    fn free_col_run(&mut self, run: Handles) -> Result<(), OutOfMemory>
+        requires used { (h : ℕ) → in_run h run ≡ true → in_use self.old.cols h ≡ true }
+        requires gone { All (λ e. in_run e.unit run ≡ false) (units_of self.old.cols) }
+        requires proper { IsProper self.old.cols }
+        ensures { OnOk result (FreesCols (λ h. in_run h run) self.old self.new) }
+    {
+        for col in run.first..more(run.first, run.count)? {
+            self.cells.clear_col(col);
+        }
+        self.cols.recycle(run)
+    }
+}

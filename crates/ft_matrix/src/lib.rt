@@ -1,0 +1,21 @@
+//! The shared table: rows and columns as vectors of handles, cells by the handles of their row and column, and what is pending
+//! on them. The handle of a row or a column stays the same while others come and go, so a cell goes with its units.
+//!
+//! A call that can't answer `OutOfMemory` takes no memory.
+#![tactic(auto)]
+
+mod acknowledgements;
+mod compaction;
+mod grid;
+pub mod matrix;
+mod messages;
+mod own_edits;
+mod reconnection;
+mod saved;
+mod seen;
+mod splices;
+mod stages;
+mod summaries;
+mod views;
+
+pub use matrix::SharedMatrix;

@@ -1,0 +1,295 @@
+//! What operations of messages make of a grid.
+
+ghost use Rattle.std.specs.Prelude.{◌≡◌, ℕ, ◌+◌, ◌≤◌, List, IfOk, IsTrue, OnErr, OnOk, false, map};
+ghost use Rattle.std.specs.List.{AllByRecursion};
+ghost use Rattle.ft_op.specs.Document.{Document, effects, grid_effect};
+ghost use Rattle.ft_op.specs.Operation.{OnGrid, sub_operations};
+ghost use Rattle.ft_op.specs.Stages.{Stage};
+ghost use Rattle.ft_op.specs.WellFormed.{IsWellFormedCell, IsWellFormedGrid};
+ghost use Rattle.ft_op.specs.declared.operations.ChannelOp.{ChannelOp};
+ghost use Rattle.ft_names.specs.WellNamed.{AreWellNamed};
+ghost use Rattle.ft_matrix.specs.Conditions.{KeepsRest, TakesOp};
+ghost use Rattle.ft_matrix.specs.HoldsGrid.{HoldsGrid};
+ghost use Rattle.ft_matrix.specs.Sound.{IsSound};
+ghost use Rattle.ft_matrix.specs.Applied.{Holds, Passes, skips};
+
+use crate::grid::Grid;
+use crate::matrix::SharedMatrix;
+use crate::splices::{insert_units, remove_units};
+use ft_base::{OutOfMemory, Perspective, Steps};
+use ft_block::LenView;
+use ft_json::ValText;
+use ft_op::{CellOp, GridOp, Target};
+use std::sync::ledger::Ledger;
+
+impl SharedMatrix {
+    /// Applies an operation of a message under number `seq`, by the perspective of its sender: past the client's own pending rows
+    /// and columns. Answers how many of its sub-operations were out of range, which changed nothing.
+    ///
+    /// Answers `OutOfMemory` where there is no room for it, and then the table may be used no more.
+    pub fn apply<G: Ledger>(
+        &mut self,
+        op: &GridOp,
+        seq: u64,
+        at: Perspective,
+        steps: &mut Steps<G>,
+    ) -> Result<u64, OutOfMemory>
+        requires usable { IsTrue self.old.usable }
+        requires settled { self.old.given ≡ 0 }
+        requires formed { IsWellFormedGrid op.now }
+        requires floor { self.old.floor ≤ at.r }
+        ensures applied { (last : ℕ) (doc : Document) (stages : List Stage) → AreWellNamed last doc stages → HoldsGrid self.old doc stages
+            → IfOk result (λ count. TakesOp last self.new (effects doc seq at.c at.r (sub_operations (ChannelOp.Grid op.now))) doc stages count) }
+        ensures rest { OnOk result (KeepsRest self.old self.new) }
+        ensures err { OnErr result (self.new.usable ≡ false) }
+    {
+        match self.grid.apply_op(op, seq, at, steps) {
+            Ok(skipped) => Ok(skipped),
+            Err(e) => {
+                self.usable = false;
+                Err(e)
+            }
+        }
+    }
+}
+
+impl Grid {
+    /// Applies an operation under number `seq`, and answers how many of its sub-operations were out of range, which changed nothing.
+    ///
+    /// Answers `OutOfMemory` where there is no room for it, and then the grid may be used no more.
+    pub fn apply_op<G: Ledger>(
+        &mut self,
+        op: &GridOp,
+        seq: u64,
+        at: Perspective,
+        steps: &mut Steps<G>,
+    ) -> Result<u64, OutOfMemory>
+        requires sound { IsSound self.old }
+        requires formed { IsWellFormedGrid op.now }
+        requires floor { self.old.rows.tree.floor ≤ at.r }
+        ensures sound { OnOk result (IsSound self.new) }
+        ensures floor { OnOk result (self.new.rows.tree.floor ≡ self.old.rows.tree.floor) }
+        ensures applied { (last : ℕ) (doc : Document) (stages : List Stage) → Holds last self.old doc stages
+            → IfOk result (λ skipped. Passes last self.new doc (effects doc seq at.c at.r (sub_operations (ChannelOp.Grid op.now))) stages skipped) }
+    {
+        match op {
+            GridOp::One(op) => Ok(skips(self.apply(op, seq, at, steps)?)),
+            GridOp::Group(ops) => self.apply_all(ops.as_slice(), seq, at, steps),
+        }
+    }
+
+    /// Applies operations in order under number `seq`, and answers how many were out of range, which changed nothing.
+    ///
+    /// Answers `OutOfMemory` where there is no room for them, and then the grid may be used no more.
+    pub fn apply_all<G: Ledger>(
+        &mut self,
+        ops: &[CellOp],
+        seq: u64,
+        at: Perspective,
+        steps: &mut Steps<G>,
+    ) -> Result<u64, OutOfMemory>
+        requires sound { IsSound self.old }
+        requires formed { AllByRecursion IsWellFormedCell ops.now }
+        requires floor { self.old.rows.tree.floor ≤ at.r }
+        ensures sound { OnOk result (IsSound self.new) }
+        ensures floor { OnOk result (self.new.rows.tree.floor ≡ self.old.rows.tree.floor) }
+        ensures applied { (last : ℕ) (doc : Document) (stages : List Stage) → Holds last self.old doc stages
+            → IfOk result (λ skipped. Passes last self.new doc (effects doc seq at.c at.r (map (λ op. OnGrid op) ops.now)) stages skipped) }
+    {
+        let mut skipped: u64 = 0;
+        for op in ops {
+            if !self.apply(op, seq, at, steps)? {
+                skipped = more(skipped, 1)?;
+            }
+        }
+        Ok(skipped)
+    }
+
+    /// Applies an operation under number `seq`. Answers whether it was within range; else nothing changed.
+    ///
+    /// Answers `OutOfMemory` where there is no room for it, and then the grid may be used no more.
+    pub fn apply<G: Ledger>(
+        &mut self,
+        op: &CellOp,
+        seq: u64,
+        at: Perspective,
+        steps: &mut Steps<G>,
+    ) -> Result<bool, OutOfMemory>
+        requires sound { IsSound self.old }
+        requires formed { IsWellFormedCell op.now }
+        requires floor { self.old.rows.tree.floor ≤ at.r }
+        ensures sound { OnOk result (IsSound self.new) }
+        ensures floor { OnOk result (self.new.rows.tree.floor ≡ self.old.rows.tree.floor) }
+        ensures applied { (last : ℕ) (doc : Document) (stages : List Stage) → Holds last self.old doc stages
+            → IfOk result (λ taken. Passes last self.new doc (grid_effect doc seq at.c at.r op.now) stages (skips taken)) }
+    {
+        match op {
+            CellOp::SpliceIn {
+                target: Target::Rows,
+                pos,
+                count,
+            } => self.insert_rows(*pos, *count, seq, at, steps),
+            CellOp::SpliceIn {
+                target: Target::Cols,
+                pos,
+                count,
+            } => self.insert_cols(*pos, *count, seq, at, steps),
+            CellOp::SpliceOut {
+                target: Target::Rows,
+                pos1,
+                pos2,
+            } => self.remove_rows(*pos1, *pos2, seq, at, steps),
+            CellOp::SpliceOut {
+                target: Target::Cols,
+                pos1,
+                pos2,
+            } => self.remove_cols(*pos1, *pos2, seq, at, steps),
+            CellOp::Set { row, col, value } => self.set(*row, *col, value, at),
+        }
+    }
+
+    /// Puts rows in, as a splice of a message does.
+    ///
+    /// Answers `OutOfMemory` where there is no room for them, and then the grid may be used no more.
+    fn insert_rows<G: Ledger>(
+        &mut self,
+        p: u64,
+        count: u64,
+        seq: u64,
+        at: Perspective,
+        steps: &mut Steps<G>,
+    ) -> Result<bool, OutOfMemory>
+        requires sound { IsSound self.old }
+        requires floor { self.old.rows.tree.floor ≤ at.r }
+        ensures sound { OnOk result (IsSound self.new) }
+        ensures floor { OnOk result (self.new.rows.tree.floor ≡ self.old.rows.tree.floor) }
+        ensures applied { (last : ℕ) (doc : Document) (stages : List Stage) → Holds last self.old doc stages
+            → IfOk result (λ taken. Passes last self.new doc (grid_effect doc seq at.c at.r (CellOp.SpliceIn Target.Rows p count)) stages (skips taken)) }
+    {
+        if !insert_units(&mut self.rows, p, count, seq, at, steps)? {
+            return Ok(false);
+        }
+        self.rows_made = more(self.rows_made, count)?;
+        Ok(true)
+    }
+
+    /// Puts columns in, as a splice of a message does.
+    ///
+    /// Answers `OutOfMemory` where there is no room for them, and then the grid may be used no more.
+    fn insert_cols<G: Ledger>(
+        &mut self,
+        p: u64,
+        count: u64,
+        seq: u64,
+        at: Perspective,
+        steps: &mut Steps<G>,
+    ) -> Result<bool, OutOfMemory>
+        requires sound { IsSound self.old }
+        requires floor { self.old.rows.tree.floor ≤ at.r }
+        ensures sound { OnOk result (IsSound self.new) }
+        ensures floor { OnOk result (self.new.rows.tree.floor ≡ self.old.rows.tree.floor) }
+        ensures applied { (last : ℕ) (doc : Document) (stages : List Stage) → Holds last self.old doc stages
+            → IfOk result (λ taken. Passes last self.new doc (grid_effect doc seq at.c at.r (CellOp.SpliceIn Target.Cols p count)) stages (skips taken)) }
+    {
+        if !insert_units(&mut self.cols, p, count, seq, at, steps)? {
+            return Ok(false);
+        }
+        self.cols_made = more(self.cols_made, count)?;
+        Ok(true)
+    }
+
+    /// Removes rows, as a splice of a message does.
+    ///
+    /// Answers `OutOfMemory` where there is no room for it, and then the grid may be used no more.
+    fn remove_rows<G: Ledger>(
+        &mut self,
+        p: u64,
+        q: u64,
+        seq: u64,
+        at: Perspective,
+        steps: &mut Steps<G>,
+    ) -> Result<bool, OutOfMemory>
+        requires sound { IsSound self.old }
+        requires order { p ≤ q }
+        requires floor { self.old.rows.tree.floor ≤ at.r }
+        ensures sound { OnOk result (IsSound self.new) }
+        ensures floor { OnOk result (self.new.rows.tree.floor ≡ self.old.rows.tree.floor) }
+        ensures applied { (last : ℕ) (doc : Document) (stages : List Stage) → Holds last self.old doc stages
+            → IfOk result (λ taken. Passes last self.new doc (grid_effect doc seq at.c at.r (CellOp.SpliceOut Target.Rows p q)) stages (skips taken)) }
+    {
+        if !remove_units(&mut self.rows, p, q, seq, at, steps)? {
+            return Ok(false);
+        }
+        Ok(true)
+    }
+
+    /// Removes columns, as a splice of a message does.
+    ///
+    /// Answers `OutOfMemory` where there is no room for it, and then the grid may be used no more.
+    fn remove_cols<G: Ledger>(
+        &mut self,
+        p: u64,
+        q: u64,
+        seq: u64,
+        at: Perspective,
+        steps: &mut Steps<G>,
+    ) -> Result<bool, OutOfMemory>
+        requires sound { IsSound self.old }
+        requires order { p ≤ q }
+        requires floor { self.old.rows.tree.floor ≤ at.r }
+        ensures sound { OnOk result (IsSound self.new) }
+        ensures floor { OnOk result (self.new.rows.tree.floor ≡ self.old.rows.tree.floor) }
+        ensures applied { (last : ℕ) (doc : Document) (stages : List Stage) → Holds last self.old doc stages
+            → IfOk result (λ taken. Passes last self.new doc (grid_effect doc seq at.c at.r (CellOp.SpliceOut Target.Cols p q)) stages (skips taken)) }
+    {
+        if !remove_units(&mut self.cols, p, q, seq, at, steps)? {
+            return Ok(false);
+        }
+        Ok(true)
+    }
+
+    /// Writes a value to the cell of the row and the column that the perspective sees there.
+    ///
+    /// Answers `OutOfMemory` where there is no room for it, and then the grid may be used no more.
+    fn set(
+        &mut self,
+        row: u64,
+        col: u64,
+        value: &ValText,
+        at: Perspective,
+    ) -> Result<bool, OutOfMemory>
+        requires sound { IsSound self.old }
+        requires floor { self.old.rows.tree.floor ≤ at.r }
+        ensures sound { OnOk result (IsSound self.new) }
+        ensures floor { OnOk result (self.new.rows.tree.floor ≡ self.old.rows.tree.floor) }
+        ensures applied { (last seq : ℕ) (doc : Document) (stages : List Stage) → Holds last self.old doc stages
+            → IfOk result (λ taken. Passes last self.new doc (grid_effect doc seq at.c at.r (CellOp.Set row col value.now)) stages (skips taken)) }
+    {
+        match self.rows.handle_at(LenView::At(at), row) {
+            None => Ok(false),
+            Some(row) => match self.cols.handle_at(LenView::At(at), col) {
+                None => Ok(false),
+                Some(col) => {
+                    self.cells.set_acked(row, col, value.copy()?)?;
+                    Ok(true)
+                }
+            },
+        }
+    }
+}
+
+/// One more is skipped where an operation isn't taken.
+fn skips(taken: bool) -> u64
+    ensures { result ≡ skips taken }
+{
+    if taken { 0 } else { 1 }
+}
+
+/// The sum.
+///
+/// Answers `OutOfMemory` where it would pass 2^64 - 1, since no memory holds so many.
+pub fn more(n: u64, count: u64) -> Result<u64, OutOfMemory>
+    ensures { IfOk result (λ sum. sum ≡ n + count) }
+{
+    n.checked_add(count).ok_or(OutOfMemory)
+}

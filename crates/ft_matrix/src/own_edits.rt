@@ -1,0 +1,459 @@
+//! What a client's own operations make of a grid.
+
+ghost use Rattle.std.specs.Prelude.{◌≡◌, ℕ, ◌+◌, ◌*◌, ◌≤◌, ◌<◌, List, None, IfOk, IsTrue, OnOk, length, map, true};
+ghost use Rattle.std.specs.List.{AllByRecursion};
+ghost use Rattle.ft_base.specs.Scan.{len};
+ghost use Rattle.ft_block.specs.Leaves.{last_stage};
+ghost use Rattle.ft_leaves.specs.Elements.{seen_in};
+ghost use Rattle.ft_op.specs.declared.operations.ChannelOp.{ChannelOp};
+ghost use Rattle.ft_op.specs.declared.operations.GridOp.{GridOp};
+ghost use Rattle.ft_op.specs.Document.{Document};
+ghost use Rattle.ft_op.specs.Operation.{OnGrid, sub_operations};
+ghost use Rattle.ft_op.specs.Stages.{Stage};
+ghost use Rattle.ft_op.specs.WellFormed.{IsWellFormedCell, IsWellFormedGrid};
+ghost use Rattle.ft_msg.specs.Client.{local_sub_operations};
+ghost use Rattle.ft_names.specs.WellNamed.{AreWellNamed};
+ghost use Rattle.ft_matrix.specs.Sound.{IsSound};
+ghost use Rattle.ft_matrix.specs.GridStates.{depth_of, grid_state};
+ghost use Rattle.ft_matrix.specs.HoldsGrid.{HoldsGrid};
+ghost use Rattle.ft_matrix.specs.Conditions.{AnswersEdit, IsAboveAll};
+ghost use Rattle.ft_matrix.specs.Applied.{Holds};
+ghost use Rattle.ft_matrix.specs.OwnEdits.{EditsAll, EditsOne, TakesStages, lengths_after, refusal};
+ghost use Rattle.ft_matrix.specs.Units.{units_of};
+
+use crate::grid::Grid;
+use crate::matrix::SharedMatrix;
+use crate::messages::more;
+use crate::splices::{insert_own_units, remove_own_units, seen_count};
+use crate::stages::GridStage;
+use ft_base::{OutOfMemory, Steps};
+use ft_block::LenView;
+use ft_json::ValText;
+use ft_msg::EditFault;
+use ft_op::{CellOp, GridOp, Target};
+use std::sync::ledger::Ledger;
+
+/// The view with all that is pending.
+const LOCAL: LenView = LenView::Stage(u64::MAX);
+
+impl SharedMatrix {
+    /// Takes an operation of the client's own as pending stages from `first` on, which is above all that is pending, and answers
+    /// how many these are.
+    ///
+    /// Answers `OutOfRange` with the length of the list concerned where one of its sub-operations is out of range in the view that
+    /// those before it make, and then nothing changed; and `OutOfMemory` where there is no room, and then the table may be used
+    /// no more.
+    pub fn edit<G: Ledger>(
+        &mut self,
+        op: &GridOp,
+        first: u64,
+        steps: &mut Steps<G>,
+    ) -> Result<u64, EditFault>
+        requires usable { IsTrue self.old.usable }
+        requires settled { self.old.given ≡ 0 }
+        requires formed { IsWellFormedGrid op.now }
+        requires some { 1 ≤ first }
+        requires above { IsAboveAll first self.old }
+        ensures answers { (last : ℕ) (doc : Document) (stages : List Stage) → first ≡ last + 1 → AreWellNamed last doc stages → HoldsGrid self.old doc stages
+            → AnswersEdit stages (local_sub_operations doc stages first (sub_operations (ChannelOp.Grid op.now))) self.old self.new result }
+        ensures reads { (target : Target) (p count : ℕ) → op.now ≡ GridOp.One (CellOp.SpliceIn target p count)
+            → steps.new ≤ steps.old + 9 * (depth_of target self.old + 1) }
+    {
+        match self.grid.edit_op(op, first, steps) {
+            Ok(None) => Ok(sub_operation_count(op)),
+            Ok(Some(length)) => Err(EditFault::OutOfRange { length }),
+            Err(_) => {
+                self.usable = false;
+                Err(EditFault::OutOfMemory)
+            }
+        }
+    }
+}
+
+/// How many sub-operations the operation has.
+fn sub_operation_count(op: &GridOp) -> u64
+    ensures { result ≡ length (sub_operations (ChannelOp.Grid op.now)) }
+{
+    match op {
+        GridOp::One(_) => 1,
+        GridOp::Group(ops) => ops.len() as u64,
+    }
+}
+
+impl Grid {
+    /// Takes an operation as pending stages from `first` on. Answers the length of the list concerned where a sub-operation is
+    /// out of range, and then nothing changed.
+    ///
+    /// Answers `OutOfMemory` where there is no room for it, and then the grid may be used no more.
+    fn edit_op<G: Ledger>(
+        &mut self,
+        op: &GridOp,
+        first: u64,
+        steps: &mut Steps<G>,
+    ) -> Result<Option<u64>, OutOfMemory>
+        requires sound { IsSound self.old }
+        requires formed { IsWellFormedGrid op.now }
+        requires some { 1 ≤ first }
+        requires above { IsAboveAll first (grid_state self.old 0 true) }
+        ensures sound { OnOk result (IsSound self.new) }
+        ensures floor { OnOk result (self.new.rows.tree.floor ≡ self.old.rows.tree.floor) }
+        ensures edited { (last : ℕ) (doc : Document) (stages : List Stage) → first ≡ last + 1 → Holds last self.old doc stages
+            → IfOk result (λ refused. EditsAll last first doc stages (sub_operations (ChannelOp.Grid op.now)) self.old self.new refused) }
+        ensures reads { (target : Target) (p count : ℕ) → op.now ≡ GridOp.One (CellOp.SpliceIn target p count)
+            → steps.new ≤ steps.old + 9 * (depth_of target (grid_state self.old 0 true) + 1) }
+    {
+        match op {
+            GridOp::One(op) => self.edit_one(op, first, steps),
+            GridOp::Group(ops) => {
+                if let Some(length) = self.refusal(ops.as_slice())? {
+                    return Ok(Some(length));
+                }
+                self.edit_all(ops.as_slice(), first, steps)?;
+                Ok(None)
+            }
+        }
+    }
+
+    /// The length with which the first of these operations that is out of range is refused.
+    ///
+    /// Answers `OutOfMemory` where more rows or columns would be seen than there are numbers.
+    fn refusal(&self, ops: &[CellOp]) -> Result<Option<u64>, OutOfMemory>
+        requires sound { IsSound self.now }
+        requires formed { AllByRecursion IsWellFormedCell ops.now }
+        ensures { IfOk result (λ refused. refused ≡ refusal (len (seen_in last_stage) (units_of self.now.rows)) (len (seen_in last_stage) (units_of self.now.cols)) ops.now) }
+    {
+        let mut rows = seen_count(&self.rows, LOCAL);
+        let mut cols = seen_count(&self.cols, LOCAL);
+        for op in ops {
+            match lengths_after(rows, cols, op)? {
+                Ok((r, c)) => {
+                    rows = r;
+                    cols = c;
+                }
+                Err(length) => return Ok(Some(length)),
+            }
+        }
+        Ok(None)
+    }
+
+    /// Takes operations that are within range as pending stages from `first` on.
+    ///
+    /// Answers `OutOfMemory` where there is no room for them, and then the grid may be used no more.
+    fn edit_all<G: Ledger>(
+        &mut self,
+        ops: &[CellOp],
+        first: u64,
+        steps: &mut Steps<G>,
+    ) -> Result<(), OutOfMemory>
+        requires sound { IsSound self.old }
+        requires formed { AllByRecursion IsWellFormedCell ops.now }
+        requires some { 1 ≤ first }
+        requires above { IsAboveAll first (grid_state self.old 0 true) }
+        ensures sound { OnOk result (IsSound self.new) }
+        ensures floor { OnOk result (self.new.rows.tree.floor ≡ self.old.rows.tree.floor) }
+        ensures edited { (last : ℕ) (doc : Document) (stages : List Stage) → first ≡ last + 1 → Holds last self.old doc stages
+            → OnOk result (TakesStages last first self.new doc stages (map (λ op. OnGrid op) ops.now)) }
+    {
+        let mut stage = first;
+        for op in ops {
+            match self.edit_one(op, stage, steps)? {
+                None => stage = more(stage, 1)?,
+                Some(_) => return Err(OutOfMemory),
+            }
+        }
+        Ok(())
+    }
+
+    /// Takes an operation as a pending stage above all others. Answers the length of the list concerned where it is out of range,
+    /// and then nothing changed.
+    ///
+    /// Answers `OutOfMemory` where there is no room for it, and then the grid may be used no more.
+    fn edit_one<G: Ledger>(
+        &mut self,
+        op: &CellOp,
+        stage: u64,
+        steps: &mut Steps<G>,
+    ) -> Result<Option<u64>, OutOfMemory>
+        requires sound { IsSound self.old }
+        requires formed { IsWellFormedCell op.now }
+        requires some { 1 ≤ stage }
+        requires above { IsAboveAll stage (grid_state self.old 0 true) }
+        ensures sound { OnOk result (IsSound self.new) }
+        ensures floor { OnOk result (self.new.rows.tree.floor ≡ self.old.rows.tree.floor) }
+        ensures above { IfOk result (λ refused. refused ≡ None → IsAboveAll (stage + 1) (grid_state self.new 0 true)) }
+        ensures edited { (last : ℕ) (doc : Document) (stages : List Stage) → stage ≡ last + 1 → Holds last self.old doc stages
+            → IfOk result (λ refused. EditsOne last stage doc stages op.now self.old self.new refused) }
+        ensures reads { (target : Target) (p count : ℕ) → op.now ≡ CellOp.SpliceIn target p count
+            → steps.new ≤ steps.old + 9 * (depth_of target (grid_state self.old 0 true) + 1) }
+    {
+        match op {
+            CellOp::SpliceIn {
+                target: Target::Rows,
+                pos,
+                count,
+            } => self.insert_own_rows(*pos, *count, stage, steps),
+            CellOp::SpliceIn {
+                target: Target::Cols,
+                pos,
+                count,
+            } => self.insert_own_cols(*pos, *count, stage, steps),
+            CellOp::SpliceOut {
+                target: Target::Rows,
+                pos1,
+                pos2,
+            } => self.remove_own_rows(*pos1, *pos2, stage, steps),
+            CellOp::SpliceOut {
+                target: Target::Cols,
+                pos1,
+                pos2,
+            } => self.remove_own_cols(*pos1, *pos2, stage, steps),
+            CellOp::Set { row, col, value } => self.set_own(*row, *col, value, stage),
+        }
+    }
+}
+
+impl Grid {
+    /// Puts rows in as a pending stage.
+    ///
+    /// Answers `OutOfMemory` where there is no room for it, and then the grid may be used no more.
+    fn insert_own_rows<G: Ledger>(
+        &mut self,
+        p: u64,
+        count: u64,
+        stage: u64,
+        steps: &mut Steps<G>,
+    ) -> Result<Option<u64>, OutOfMemory>
+        requires sound { IsSound self.old }
+        requires some { 1 ≤ stage }
+        requires above { IsAboveAll stage (grid_state self.old 0 true) }
+        ensures sound { OnOk result (IsSound self.new) }
+        ensures floor { OnOk result (self.new.rows.tree.floor ≡ self.old.rows.tree.floor) }
+        ensures above { IfOk result (λ refused. refused ≡ None → IsAboveAll (stage + 1) (grid_state self.new 0 true)) }
+        ensures edited { (last : ℕ) (doc : Document) (stages : List Stage) → stage ≡ last + 1 → Holds last self.old doc stages
+            → IfOk result (λ refused. EditsOne last stage doc stages (CellOp.SpliceIn Target.Rows p count) self.old self.new refused) }
+        ensures reads { steps.new ≤ steps.old + 9 * (self.old.rows.tree.depth + 1) }
+    {
+        if !insert_own_units(&mut self.rows, p, count, stage, steps)? {
+            return Ok(Some(seen_count(&self.rows, LOCAL)));
+        }
+        self.stages.push_back(GridStage {
+            stage,
+            op: CellOp::SpliceIn {
+                target: Target::Rows,
+                pos: p,
+                count,
+            },
+            row: None,
+            col: None,
+        })?;
+        Ok(None)
+    }
+
+    /// Puts columns in as a pending stage.
+    ///
+    /// Answers `OutOfMemory` where there is no room for it, and then the grid may be used no more.
+    fn insert_own_cols<G: Ledger>(
+        &mut self,
+        p: u64,
+        count: u64,
+        stage: u64,
+        steps: &mut Steps<G>,
+    ) -> Result<Option<u64>, OutOfMemory>
+        requires sound { IsSound self.old }
+        requires some { 1 ≤ stage }
+        requires above { IsAboveAll stage (grid_state self.old 0 true) }
+        ensures sound { OnOk result (IsSound self.new) }
+        ensures floor { OnOk result (self.new.rows.tree.floor ≡ self.old.rows.tree.floor) }
+        ensures above { IfOk result (λ refused. refused ≡ None → IsAboveAll (stage + 1) (grid_state self.new 0 true)) }
+        ensures edited { (last : ℕ) (doc : Document) (stages : List Stage) → stage ≡ last + 1 → Holds last self.old doc stages
+            → IfOk result (λ refused. EditsOne last stage doc stages (CellOp.SpliceIn Target.Cols p count) self.old self.new refused) }
+        ensures reads { steps.new ≤ steps.old + 9 * (self.old.cols.tree.depth + 1) }
+    {
+        if !insert_own_units(&mut self.cols, p, count, stage, steps)? {
+            return Ok(Some(seen_count(&self.cols, LOCAL)));
+        }
+        self.stages.push_back(GridStage {
+            stage,
+            op: CellOp::SpliceIn {
+                target: Target::Cols,
+                pos: p,
+                count,
+            },
+            row: None,
+            col: None,
+        })?;
+        Ok(None)
+    }
+
+    /// Marks rows as removed by a pending stage.
+    ///
+    /// Answers `OutOfMemory` where there is no room for it, and then the grid may be used no more.
+    fn remove_own_rows<G: Ledger>(
+        &mut self,
+        p: u64,
+        q: u64,
+        stage: u64,
+        steps: &mut Steps<G>,
+    ) -> Result<Option<u64>, OutOfMemory>
+        requires sound { IsSound self.old }
+        requires order { p ≤ q }
+        requires some { 1 ≤ stage }
+        requires above { IsAboveAll stage (grid_state self.old 0 true) }
+        ensures sound { OnOk result (IsSound self.new) }
+        ensures floor { OnOk result (self.new.rows.tree.floor ≡ self.old.rows.tree.floor) }
+        ensures above { IfOk result (λ refused. refused ≡ None → IsAboveAll (stage + 1) (grid_state self.new 0 true)) }
+        ensures edited { (last : ℕ) (doc : Document) (stages : List Stage) → stage ≡ last + 1 → Holds last self.old doc stages
+            → IfOk result (λ refused. EditsOne last stage doc stages (CellOp.SpliceOut Target.Rows p q) self.old self.new refused) }
+    {
+        if !remove_own_units(&mut self.rows, p, q, stage, steps)? {
+            return Ok(Some(seen_count(&self.rows, LOCAL)));
+        }
+        self.stages.push_back(GridStage {
+            stage,
+            op: CellOp::SpliceOut {
+                target: Target::Rows,
+                pos1: p,
+                pos2: q,
+            },
+            row: None,
+            col: None,
+        })?;
+        Ok(None)
+    }
+
+    /// Marks columns as removed by a pending stage.
+    ///
+    /// Answers `OutOfMemory` where there is no room for it, and then the grid may be used no more.
+    fn remove_own_cols<G: Ledger>(
+        &mut self,
+        p: u64,
+        q: u64,
+        stage: u64,
+        steps: &mut Steps<G>,
+    ) -> Result<Option<u64>, OutOfMemory>
+        requires sound { IsSound self.old }
+        requires order { p ≤ q }
+        requires some { 1 ≤ stage }
+        requires above { IsAboveAll stage (grid_state self.old 0 true) }
+        ensures sound { OnOk result (IsSound self.new) }
+        ensures floor { OnOk result (self.new.rows.tree.floor ≡ self.old.rows.tree.floor) }
+        ensures above { IfOk result (λ refused. refused ≡ None → IsAboveAll (stage + 1) (grid_state self.new 0 true)) }
+        ensures edited { (last : ℕ) (doc : Document) (stages : List Stage) → stage ≡ last + 1 → Holds last self.old doc stages
+            → IfOk result (λ refused. EditsOne last stage doc stages (CellOp.SpliceOut Target.Cols p q) self.old self.new refused) }
+    {
+        if !remove_own_units(&mut self.cols, p, q, stage, steps)? {
+            return Ok(Some(seen_count(&self.cols, LOCAL)));
+        }
+        self.stages.push_back(GridStage {
+            stage,
+            op: CellOp::SpliceOut {
+                target: Target::Cols,
+                pos1: p,
+                pos2: q,
+            },
+            row: None,
+            col: None,
+        })?;
+        Ok(None)
+    }
+
+    /// Writes a value to a cell as a pending stage.
+    ///
+    /// Answers `OutOfMemory` where there is no room for it, and then the grid may be used no more.
+    fn set_own(
+        &mut self,
+        i: u64,
+        j: u64,
+        value: &ValText,
+        stage: u64,
+    ) -> Result<Option<u64>, OutOfMemory>
+        requires sound { IsSound self.old }
+        requires some { 1 ≤ stage }
+        requires above { IsAboveAll stage (grid_state self.old 0 true) }
+        ensures sound { OnOk result (IsSound self.new) }
+        ensures floor { OnOk result (self.new.rows.tree.floor ≡ self.old.rows.tree.floor) }
+        ensures above { IfOk result (λ refused. refused ≡ None → IsAboveAll (stage + 1) (grid_state self.new 0 true)) }
+        ensures edited { (last : ℕ) (doc : Document) (stages : List Stage) → stage ≡ last + 1 → Holds last self.old doc stages
+            → IfOk result (λ refused. EditsOne last stage doc stages (CellOp.Set i j value.now) self.old self.new refused) }
+    {
+        match self.rows.handle_at(LOCAL, i) {
+            None => Ok(Some(seen_count(&self.rows, LOCAL))),
+            Some(row) => match self.cols.handle_at(LOCAL, j) {
+                None => Ok(Some(seen_count(&self.cols, LOCAL))),
+                Some(col) => {
+                    self.cells.set_pending(row, col, stage, value.copy()?)?;
+                    self.stages.push_back(GridStage {
+                        stage,
+                        op: CellOp::Set {
+                            row: i,
+                            col: j,
+                            value: value.copy()?,
+                        },
+                        row: Some(row),
+                        col: Some(col),
+                    })?;
+                    Ok(None)
+                }
+            },
+        }
+    }
+}
+
+/// How many rows and columns are seen after an operation where so many were before, or the length of the list concerned where it
+/// is out of range.
+///
+/// Answers `OutOfMemory` where that would pass 2^64 - 1.
+fn lengths_after(rows: u64, cols: u64, op: &CellOp) -> Result<Result<(u64, u64), u64>, OutOfMemory>
+    requires { IsWellFormedCell op.now }
+    ensures { IfOk result (λ after. after ≡ lengths_after rows cols op.now) }
+{
+    match op {
+        CellOp::SpliceIn {
+            target: Target::Rows,
+            pos,
+            count,
+        } => {
+            if *pos <= rows {
+                Ok(Ok((more(rows, *count)?, cols)))
+            } else {
+                Ok(Err(rows))
+            }
+        }
+        CellOp::SpliceIn {
+            target: Target::Cols,
+            pos,
+            count,
+        } => {
+            if *pos <= cols {
+                Ok(Ok((rows, more(cols, *count)?)))
+            } else {
+                Ok(Err(cols))
+            }
+        }
+        CellOp::SpliceOut {
+            target: Target::Rows,
+            pos1,
+            pos2,
+        } => Ok(if *pos2 <= rows {
+            Ok((rows - (*pos2 - *pos1), cols))
+        } else {
+            Err(rows)
+        }),
+        CellOp::SpliceOut {
+            target: Target::Cols,
+            pos1,
+            pos2,
+        } => Ok(if *pos2 <= cols {
+            Ok((rows, cols - (*pos2 - *pos1)))
+        } else {
+            Err(cols)
+        }),
+        CellOp::Set { row, col, .. } => Ok(if *row >= rows {
+            Err(rows)
+        } else if *col >= cols {
+            Err(cols)
+        } else {
+            Ok((rows, cols))
+        }),
+    }
+}

@@ -1,0 +1,191 @@
+//! The units of a vector as the runs of a summary: one walk over its leaves.
+
+ghost use Rattle.std.specs.Prelude.{◌≡◌, IfOk, IsTrue, List, OnOk, Some, map};
+ghost use Rattle.ft_block.specs.Leaves.{IsLeafIn, value_at};
+ghost use Rattle.ft_leaves.specs.declared.leaves.TreeLeaf.{TreeLeaf};
+ghost use Rattle.ft_msg.specs.SummaryOf.{mark_of};
+ghost use Rattle.ft_perm.specs.Handles.{HandleRun};
+ghost use Rattle.ft_perm.specs.Vectors.{vector_elements};
+ghost use Rattle.ft_props.specs.Compaction.{has_collectable_removal};
+ghost use Rattle.ft_sumdoc.specs.declared.summary.RunRec.{RunRec};
+ghost use Rattle.ft_sumdoc.specs.Stamps.{same_mark};
+ghost use Rattle.ft_sumdoc.specs.WellFormed.{same_stamps};
+ghost use Rattle.ft_matrix.specs.SavedUnits.{AddsLeaf, continued, insertion_mark, saved_runs, unit_run, with_run};
+ghost use Rattle.ft_matrix.specs.Units.{units_of};
+
+use crate::messages::more;
+use ft_arena::NodeId;
+use ft_base::{Element, OutOfMemory, Stamp};
+use ft_perm::{Handles, Vector};
+use ft_sumdoc::{Mark, Marks, RunRec, RunRecs};
+use ft_tree::Tree;
+use std::alloc::Global;
+
+/// A sequenced stamp as a mark.
+fn mark_of(stamp: &Stamp) -> Mark
+    ensures { result ≡ mark_of stamp.now }
+{
+    match stamp {
+        Stamp::Acked { seq, conn } => Mark {
+            seq: *seq,
+            conn: *conn,
+        },
+        Stamp::Local { .. } => Mark { seq: 0, conn: 0 },
+    }
+}
+
+/// The stamps as marks.
+///
+/// Answers `OutOfMemory` where there is no room for them.
+fn marks_of(alloc: Global, stamps: &[Stamp]) -> Result<Marks, OutOfMemory>
+    ensures { IfOk result (λ marks. marks ≡ map mark_of stamps.now) }
+{
+    let mut marks = Marks::new(alloc);
+    for stamp in stamps {
+        marks.push(mark_of(stamp))?;
+    }
+    Ok(marks)
+}
+
+/// The insertion as a mark, as a summary with this minimum has it: that which everybody sees, where it is at or below the
+/// minimum.
+fn insertion_of(ins: &Stamp, min: u64) -> Mark
+    ensures { result ≡ insertion_mark min ins.now }
+{
+    match ins {
+        Stamp::Acked { seq, conn } => {
+            if *seq <= min {
+                return Mark { seq: 0, conn: 0 };
+            }
+            Mark {
+                seq: *seq,
+                conn: *conn,
+            }
+        }
+        Stamp::Local { .. } => Mark { seq: 0, conn: 0 },
+    }
+}
+
+/// Whether the first removal is at or below the minimum.
+fn is_collectable(dels: &[Stamp], min: u64) -> bool
+    ensures { result ≡ has_collectable_removal min dels.now }
+{
+    match dels.first() {
+        Some(Stamp::Acked { seq, .. }) => *seq <= min,
+        Some(Stamp::Local { .. }) | None => false,
+    }
+}
+
+/// Whether the marks are equal.
+fn same_mark(a: Mark, b: Mark) -> bool
+    ensures { result ≡ same_mark a b }
+{
+    a.seq == b.seq && a.conn == b.conn
+}
+
+/// Whether the insertions are equal, and the removals too.
+fn same_stamps(ins: Mark, dels: &Marks, other_ins: Mark, other_dels: &Marks) -> bool
+    ensures { result ≡ same_stamps ins dels.now other_ins other_dels.now }
+{
+    same_mark(ins, other_ins) && dels.same(other_dels)
+}
+
+/// A run of so many units with these stamps, as a summary at this minimum has it.
+///
+/// Answers `OutOfMemory` where there is no room for it.
+fn run_of(alloc: Global, stamps: &Element, count: u64, min: u64) -> Result<RunRec, OutOfMemory>
+    ensures { IfOk result (λ run. run ≡ unit_run min stamps.now count) }
+{
+    let dels = marks_of(alloc, stamps.dels.as_slice())?;
+    Ok(RunRec {
+        count,
+        ins: insertion_of(&stamps.ins, min),
+        dels,
+    })
+}
+
+/// Adds a run behind the others: it is joined to the last one where their stamps are equal.
+///
+/// Answers `OutOfMemory` where there is no room for it.
+fn push_run(runs: &mut Vec<RunRec>, run: RunRec) -> Result<(), OutOfMemory>
+    ensures { OnOk result ((rest : List RunRec) → continued runs.new.items rest ≡ continued runs.old.items (with_run run rest)) }
+{
+    let Some(last) = runs.pop() else {
+        runs.push(run)?;
+        return Ok(());
+    };
+    if same_stamps(last.ins, &last.dels, run.ins, &run.dels) {
+        let count = more(run.count, last.count)?;
+        runs.push(RunRec {
+            count,
+            ins: run.ins,
+            dels: run.dels,
+        })?;
+        return Ok(());
+    }
+    runs.push(last)?;
+    runs.push(run)?;
+    Ok(())
+}
+
+/// Adds the units of a leaf behind the others, unless they were removed at or below the minimum.
+///
+/// Answers `OutOfMemory` where there is no room for them.
+fn add_leaf(
+    tree: &Tree<Handles>,
+    leaf: NodeId,
+    min: u64,
+    runs: &mut Vec<RunRec>,
+) -> Result<(), OutOfMemory>
+    requires usable { IsTrue tree.now.usable }
+    requires live { IsLeafIn tree.now.leaves leaf }
+    ensures { OnOk result ((x : TreeLeaf HandleRun) → value_at tree.now.leaves leaf ≡ Some x → AddsLeaf min x runs.old.items runs.new.items) }
+{
+    let count = tree.leaf_len(leaf);
+    let stamps = tree.leaf_element(leaf);
+    if is_collectable(stamps.dels.as_slice(), min) {
+        return Ok(());
+    }
+    let run = run_of(tree.allocator(), stamps, count, min)?;
+    push_run(runs, run)
+}
+
+/// The runs as a list.
+///
+/// Answers `OutOfMemory` where there is no room for them.
+fn listed(alloc: Global, runs: Vec<RunRec>) -> Result<RunRecs, OutOfMemory>
+    ensures { IfOk result (λ list. list ≡ runs.items) }
+{
+    let mut list = RunRecs::new(alloc);
+    for run in runs {
+        list.push(run)?;
+    }
+    Ok(list)
+}
+
+/// The runs of units of a summary at this minimum.
+///
+/// Answers `OutOfMemory` where there is no room for them.
+pub fn saved_units(units: &Vector, min: u64) -> Result<RunRecs, OutOfMemory>
+    requires { IsTrue units.now.tree.usable }
+    ensures { IfOk result (λ runs. runs ≡ saved_runs min (units_of units.now)) }
+{
+    saved_elements(&units.tree, min)
+}
+
+/// The same of the elements of a tree.
+///
+/// Answers `OutOfMemory` where there is no room for them.
+fn saved_elements(tree: &Tree<Handles>, min: u64) -> Result<RunRecs, OutOfMemory>
+    requires { IsTrue tree.now.usable }
+    ensures { IfOk result (λ runs. runs ≡ saved_runs min (vector_elements tree.now)) }
+{
+    let alloc = tree.allocator();
+    let mut runs = Vec::new(alloc);
+    let mut next = tree.first_leaf();
+    while let Some(leaf) = next {
+        add_leaf(tree, leaf, min, &mut runs)?;
+        next = tree.next_leaf(leaf);
+    }
+    listed(alloc, runs)
+}

@@ -1,0 +1,198 @@
+//! A table from a summary, and what a summary has of a table.
+
+ghost use Rattle.std.specs.Prelude.{◌≡◌, ◌≤◌, [], ℕ, IfOk, IsTrue, OnOk, map, nat_le, true};
+ghost use Rattle.std.specs.List.{list_all};
+ghost use Rattle.ft_block.specs.declared.leaves.LenView.TheVariants.{Stage};
+ghost use Rattle.ft_op.specs.Document.{Document};
+ghost use Rattle.ft_msg.specs.Summary.{doc_of, stamp_of};
+ghost use Rattle.ft_perm.specs.Vectors.{seen_handles};
+ghost use Rattle.ft_sumdoc.specs.Valid.{IsValidSummary};
+ghost use Rattle.ft_names.specs.WellNamed.{AreWellNamed};
+ghost use Rattle.ft_matrix.specs.Conditions.{IsAboveAll};
+ghost use Rattle.ft_matrix.specs.GridStates.{grid_state};
+ghost use Rattle.ft_matrix.specs.HoldsGrid.{HoldsGrid};
+ghost use Rattle.ft_matrix.specs.Loaded.{LoadsCell, LoadsCells, LoadsRun, LoadsUnits, run_stamps};
+ghost use Rattle.ft_matrix.specs.Shown.{HasNoUnits, with_units};
+ghost use Rattle.ft_matrix.specs.Sound.{IsSound, IsSoundVector};
+ghost use Rattle.ft_matrix.specs.Units.{units_of};
+
+use crate::grid::Grid;
+use crate::matrix::SharedMatrix;
+use crate::messages::more;
+use crate::saved::saved_units;
+use crate::splices::fresh_handles;
+use ft_base::{Element, OutOfMemory, Stamp, Stamps};
+use ft_block::LenView;
+use ft_cells::Cells;
+use ft_perm::Vector;
+use ft_props::Props;
+use ft_sumdoc::{CellRec, Mark, RunRec, SumDoc};
+use std::alloc::Global;
+
+impl SharedMatrix {
+    /// The table of a summary, with nothing pending.
+    ///
+    /// Answers `OutOfMemory` where there is no room for it.
+    pub fn load(alloc: Global, doc: &SumDoc) -> Result<SharedMatrix, OutOfMemory>
+        requires { IsValidSummary doc.now }
+        ensures holds { IfOk result (λ made. HoldsGrid made (doc_of doc.now) []) }
+        ensures given { IfOk result (λ made. made.given ≡ 0) }
+        ensures floor { IfOk result (λ made. made.floor ≡ 0) }
+        ensures usable { IfOk result (λ made. made.usable ≡ true) }
+    {
+        let grid = Grid::load(alloc, doc)?;
+        Ok(SharedMatrix {
+            grid,
+            alloc,
+            given: 0,
+            usable: true,
+        })
+    }
+
+    /// Fills what a summary at the minimum `doc.min` has of the table: its rows, its columns and its cells.
+    ///
+    /// Answers `OutOfMemory` where there is no room for them, and then a part may be filled.
+    pub fn save(&self, doc: &mut SumDoc) -> Result<(), OutOfMemory>
+        requires usable { IsTrue self.now.usable }
+        requires settled { self.now.given ≡ 0 }
+        requires idle { self.now.stages ≡ [] }
+        requires floor { self.now.floor ≤ doc.old.min }
+        requires empty { HasNoUnits doc.old }
+        ensures { (last : ℕ) (of : Document) → AreWellNamed last of [] → HoldsGrid self.now of [] → IsAboveAll 0 self.now → of.minimum ≡ doc.old.min
+            → OnOk result (doc.new ≡ with_units of doc.old) }
+    {
+        let rows = saved_units(&self.grid.rows, doc.min)?;
+        let cols = saved_units(&self.grid.cols, doc.min)?;
+        let cells = self.grid.shown_cells(self.alloc)?;
+        doc.rows = rows;
+        doc.cols = cols;
+        doc.cells = cells;
+        Ok(())
+    }
+}
+
+impl Grid {
+    /// The grid of a summary, with nothing pending.
+    ///
+    /// Answers `OutOfMemory` where there is no room for it.
+    fn load(alloc: Global, doc: &SumDoc) -> Result<Grid, OutOfMemory>
+        requires { IsValidSummary doc.now }
+        ensures sound { IfOk result IsSound }
+        ensures holds { IfOk result (λ grid. HoldsGrid (grid_state grid 0 true) (doc_of doc.now) []) }
+        ensures floor { IfOk result (λ grid. grid.rows.tree.floor ≡ 0) }
+    {
+        let mut grid = Grid::new(alloc);
+        grid.rows_made = load_units(&mut grid.rows, doc.rows.as_slice())?;
+        grid.cols_made = load_units(&mut grid.cols, doc.cols.as_slice())?;
+        grid.load_cells(doc.cells.as_slice())?;
+        Ok(grid)
+    }
+
+    /// Writes the cells of a summary, each on the unremoved row and column at its places.
+    ///
+    /// Answers `OutOfMemory` where there is no room for them.
+    fn load_cells(&mut self, cells: &[CellRec]) -> Result<(), OutOfMemory>
+        requires usable { IsTrue self.old.rows.tree.usable × IsTrue self.old.cols.tree.usable }
+        ensures { OnOk result (LoadsCells cells.now self.old self.new) }
+    {
+        for cell in cells {
+            load_cell(&mut self.cells, &self.rows, &self.cols, cell)?;
+        }
+        Ok(())
+    }
+}
+
+/// Writes a cell of a summary on the unremoved row and column at its places, unless that has a value already.
+///
+/// Answers `OutOfMemory` where there is no room for it.
+fn load_cell(
+    cells: &mut Cells,
+    rows: &Vector,
+    cols: &Vector,
+    cell: &CellRec,
+) -> Result<(), OutOfMemory>
+    requires usable { IsTrue rows.now.tree.usable × IsTrue cols.now.tree.usable }
+    ensures { OnOk result (LoadsCell (seen_handles (Stage 0) rows.now.tree) (seen_handles (Stage 0) cols.now.tree) cell.now cells.old cells.new) }
+{
+    let unremoved = LenView::Stage(0);
+    let Some(row) = rows.handle_at(unremoved, cell.row) else {
+        return Ok(());
+    };
+    let Some(col) = cols.handle_at(unremoved, cell.col) else {
+        return Ok(());
+    };
+    if cells.get(row, col).is_some() {
+        return Ok(());
+    }
+    cells.set_acked(row, col, cell.value.copy()?)
+}
+
+/// Puts the units of runs at the end of a vector, and answers how many they are.
+///
+/// Answers `OutOfMemory` where there is no room for them.
+fn load_units(units: &mut Vector, runs: &[RunRec]) -> Result<u64, OutOfMemory>
+    requires sound { IsSoundVector units.old }
+    requires some { list_all (λ run. nat_le 1 run.count) runs.now ≡ true }
+    requires empty { units_of units.old ≡ [] }
+    ensures sound { OnOk result (IsSoundVector units.new) }
+    ensures loads { IfOk result (λ made. LoadsUnits runs.now made units.old units.new) }
+{
+    let mut made: u64 = 0;
+    for run in runs {
+        load_run(units, run)?;
+        made = more(made, run.count)?;
+    }
+    Ok(made)
+}
+
+/// Puts the units of a run at the end of a vector.
+///
+/// Answers `OutOfMemory` where there is no room for them.
+fn load_run(units: &mut Vector, run: &RunRec) -> Result<(), OutOfMemory>
+    requires sound { IsSoundVector units.old }
+    requires some { 1 ≤ run.now.count }
+    ensures sound { OnOk result (IsSoundVector units.new) }
+    ensures loads { OnOk result (LoadsRun run.now units.old units.new) }
+{
+    let content = fresh_handles(units, run.count)?;
+    let alloc = units.tree.allocator();
+    let stamps = element_of(alloc, run)?;
+    let props = Props::new(alloc);
+    units.tree.append(content, &props, stamps)
+}
+
+/// A mark as a stamp.
+fn stamp_of(mark: Mark) -> Stamp
+    ensures { result ≡ stamp_of mark }
+{
+    Stamp::Acked {
+        seq: mark.seq,
+        conn: mark.conn,
+    }
+}
+
+/// Marks as stamps.
+///
+/// Answers `OutOfMemory` where there is no room for them.
+fn stamps_of(alloc: Global, marks: &[Mark]) -> Result<Stamps, OutOfMemory>
+    ensures { IfOk result (λ stamps. stamps ≡ map stamp_of marks.now) }
+{
+    let mut stamps = Stamps::new(alloc);
+    for mark in marks {
+        stamps.push(stamp_of(*mark))?;
+    }
+    Ok(stamps)
+}
+
+/// The stamps of the units of a run.
+///
+/// Answers `OutOfMemory` where there is no room for them.
+fn element_of(alloc: Global, run: &RunRec) -> Result<Element, OutOfMemory>
+    ensures { IfOk result (λ e. e ≡ run_stamps run.now) }
+{
+    let dels = stamps_of(alloc, run.dels.as_slice())?;
+    Ok(Element {
+        ins: stamp_of(run.ins),
+        dels,
+    })
+}

@@ -1,0 +1,116 @@
+//! What is shown of a table.
+
+ghost use Rattle.std.specs.Prelude.{◌≡◌, ◌+◌, ◌<◌, ◌^◌, ℕ, List, IfOk, IsTrue, OnOk, map};
+ghost use Rattle.std.specs.BTreeMap as tree;
+ghost use Rattle.ft_op.specs.Document.{Document};
+ghost use Rattle.ft_op.specs.Stages.{Stage};
+ghost use Rattle.ft_names.specs.WellNamed.{AreWellNamed};
+ghost use Rattle.ft_matrix.specs.Conditions.{IsAboveAll};
+ghost use Rattle.ft_matrix.specs.HoldsGrid.{HoldsGrid};
+ghost use Rattle.ft_matrix.specs.Seen.{ArePlaced, HoldsRuns, PlacesCell, cell_of, place_cmp, shown_at, shown_cells};
+ghost use Rattle.ft_matrix.specs.Shown.{with_grid};
+ghost use Rattle.ft_matrix.specs.Sound.{IsSound};
+
+use crate::grid::Grid;
+use crate::matrix::SharedMatrix;
+use crate::seen::{LOCAL, SeenRuns, seen_runs};
+use crate::splices::seen_count;
+use ft_base::OutOfMemory;
+use ft_cells::{CellKey, Cells};
+use ft_json::ValText;
+use ft_msg::View;
+use ft_sumdoc::{CellRec, CellRecs};
+use std::alloc::Global;
+use std::collections::BTreeMap;
+
+impl SharedMatrix {
+    /// Fills what a view shows of the table: how many rows and columns are seen, and their cells that have a value. It goes to
+    /// the seen leaves and to the cells, never to each crossing of a row and a column.
+    ///
+    /// Answers `OutOfMemory` where there is no room for the cells, and then a part may be filled.
+    pub fn view(&self, out: &mut View) -> Result<(), OutOfMemory>
+        requires usable { IsTrue self.now.usable }
+        requires settled { self.now.given ≡ 0 }
+        ensures { (last : ℕ) (doc : Document) (stages : List Stage) → last < 2 ^ 64 → AreWellNamed last doc stages → HoldsGrid self.now doc stages
+            → IsAboveAll (last + 1) self.now → OnOk result (out.new ≡ with_grid last doc stages out.old) }
+    {
+        out.rows = seen_count(&self.grid.rows, LOCAL);
+        out.cols = seen_count(&self.grid.cols, LOCAL);
+        out.cells = self.grid.shown_cells(self.alloc)?;
+        Ok(())
+    }
+}
+
+impl Grid {
+    /// The cells that are shown, by rising row and column.
+    ///
+    /// Answers `OutOfMemory` where there is no room for them.
+    pub fn shown_cells(&self, alloc: Global) -> Result<CellRecs, OutOfMemory>
+        requires { IsSound self.now }
+        ensures { IfOk result (λ cells. cells ≡ shown_cells self.now) }
+    {
+        let rows = seen_runs(&self.rows.tree)?;
+        let cols = seen_runs(&self.cols.tree)?;
+        let placed = placed_cells(alloc, &self.cells, &rows, &cols)?;
+        listed(alloc, placed)
+    }
+}
+
+/// Puts the shown value of a cell at its place, if it has one and its row and its column are seen.
+///
+/// Answers `OutOfMemory` where there is no room for it.
+fn place_cell(
+    cells: &Cells,
+    rows: &SeenRuns,
+    cols: &SeenRuns,
+    key: CellKey,
+    placed: &mut BTreeMap<(u64, u64), ValText>,
+) -> Result<(), OutOfMemory>
+    ensures { OnOk result (PlacesCell cells.now rows.now cols.now key placed.old placed.new) }
+{
+    let Some(row) = rows.place_of(key.row) else {
+        return Ok(());
+    };
+    let Some(col) = cols.place_of(key.col) else {
+        return Ok(());
+    };
+    let Some(value) = cells.get(key.row, key.col) else {
+        return Ok(());
+    };
+    let value = value.copy()?;
+    placed.insert((row, col), value)?;
+    Ok(())
+}
+
+/// The shown values of cells by their places.
+///
+/// Answers `OutOfMemory` where there is no room for them.
+fn placed_cells(
+    alloc: Global,
+    cells: &Cells,
+    rows: &SeenRuns,
+    cols: &SeenRuns,
+) -> Result<BTreeMap<(u64, u64), ValText>, OutOfMemory>
+    ensures { IfOk result (λ placed. (hs gs : List ℕ) → HoldsRuns hs rows.now → HoldsRuns gs cols.now → ArePlaced (shown_at cells.now) hs gs placed) }
+{
+    let keys = cells.keys()?;
+    let mut placed = BTreeMap::new(alloc);
+    for key in &keys {
+        place_cell(cells, rows, cols, *key, &mut placed)?;
+    }
+    Ok(placed)
+}
+
+/// Values at places as cells, by rising row and column.
+///
+/// Answers `OutOfMemory` where there is no room for them.
+fn listed(alloc: Global, placed: BTreeMap<(u64, u64), ValText>) -> Result<CellRecs, OutOfMemory>
+    ensures cells { IfOk result (λ cells. cells ≡ map cell_of placed.entries) }
+    ensures ordered { IfOk result (λ cells. tree.IsOrdered place_cmp placed) }
+{
+    let mut cells = CellRecs::new(alloc);
+    for ((row, col), value) in placed {
+        cells.push(CellRec { row, col, value })?;
+    }
+    Ok(cells)
+}
