@@ -42,7 +42,8 @@ use Rattle.ft_worlds.proofs.MadeWorlds.{made-cut, made-queue}
 use Rattle.ft_session.specs.declared.outputs.Out.{Out}
 use Rattle.ft_session.specs.declared.outputs.Out.TheVariants as out
 use Rattle.ft_session.specs.Asked.{authors_client, overlap_client, queue_client, show_client, summarize_client}
-use Rattle.ft_session.specs.Worlds.{AnswersReading, MeansOf, Meets, MeetsSome, MemberState, ServiceState, refusal_kind}
+use Rattle.ft_seqr.specs.RefusalKinds.{MeansOf, refusal_kind}
+use Rattle.ft_session.specs.Worlds.{AnswersReading, Meets, MeetsSome, MemberState, ServiceState}
 use Rattle.ft_session.proofs.Entering.{idle-alike, pending-count, summary-refused, unless-taken}
 use Rattle.ft_session.proofs.OwnEvents.{handed-on, meets-reached}
 use Rattle.ft_session.proofs.RefusalKinds.{some-none}

@@ -26,8 +26,10 @@ use Rattle.ft_worlds.proofs.MadeWorlds.{made-distinct, made-known, made-reached,
 use Rattle.ft_session.specs.declared.outputs.Out.TheVariants as out
 use Rattle.ft_session.specs.Effects.{KeepsTrimmed}
 use Rattle.ft_session.specs.Entrances.{AnswersName, IsCopyOf, new_member}
-use Rattle.ft_session.specs.Worlds.{AnswersHappening, MeansOf, MeetsSome, MembersStand, MemberStands, MemberState, Refused, ServiceState, SessionState, SessionStands, has_name, refusal_kind, service_of}
-use Rattle.ft_session.proofs.RefusalKinds.{means-weaker, some-none}
+use Rattle.ft_seqr.specs.RefusalKinds.{MeansOf, Refused, refusal_kind}
+use Rattle.ft_session.specs.Worlds.{AnswersHappening, MeetsSome, MembersStand, MemberStands, MemberState, ServiceState, SessionState, SessionStands, has_name, service_of}
+use Rattle.ft_seqr.proofs.RefusalKinds.{means-weaker}
+use Rattle.ft_session.proofs.RefusalKinds.{some-none}
 use Rattle.ft_session.proofs.Placing.{found, not_found, stand-more}
 use Rattle.ft_session.proofs.TrimmedCopies.{keeps-trimmed}
 

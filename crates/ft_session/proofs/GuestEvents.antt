@@ -25,10 +25,11 @@ use Rattle.ft_worlds.proofs.MadeWorlds.{made-formed, made-guest, made-within}
 use Rattle.ft_session.specs.declared.outputs.Out.TheVariants as out
 use Rattle.ft_session.specs.Readings.{ReadsOr, read_or_refused, submitted_text}
 use Rattle.ft_session.specs.Services.{AnswersService, left_or_refused}
-use Rattle.ft_session.specs.Worlds.{AnswersHappening, MembersStand, ServiceState, SessionState, SessionStands, StandsForSome, refusal_kind, service_of}
+use Rattle.ft_seqr.specs.RefusalKinds.{refusal_kind}
+use Rattle.ft_session.specs.Worlds.{AnswersHappening, MembersStand, ServiceState, SessionState, SessionStands, StandsForSome, service_of}
 use Rattle.ft_session.proofs.Entering.{guest-enters}
 use Rattle.ft_session.proofs.Placing.{stand-grown}
-use Rattle.ft_session.proofs.RefusalKinds.{means-weaker}
+use Rattle.ft_seqr.proofs.RefusalKinds.{means-weaker}
 use Rattle.ft_session.proofs.Submissions.{IsSubmitted, submitted-leaves}
 
 -- ---- the guest of a name

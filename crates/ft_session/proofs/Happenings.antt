@@ -22,8 +22,9 @@ use Rattle.ft_worlds.proofs.MadeWorlds.{made-distinct, made-within, placed-same}
 use Rattle.ft_session.specs.declared.outputs.Out.{Out}
 use Rattle.ft_session.specs.Effects.{MemberEffect, NamedEffect, SessionEffect}
 use Rattle.ft_session.specs.Entrances.{client_of}
-use Rattle.ft_session.specs.Worlds.{AnswersAsked, AnswersClient, AnswersHappening, AnswersReading, AnswersSession, AnswersStepped, LeavesClient, Meets, MeetsSome, MembersStand, MemberStands, MemberState, ServiceState, SessionState, SessionStands, StandsForSome, has_name, refusal_kind}
-use Rattle.ft_session.proofs.RefusalKinds.{means-weaker}
+use Rattle.ft_seqr.specs.RefusalKinds.{refusal_kind}
+use Rattle.ft_session.specs.Worlds.{AnswersAsked, AnswersClient, AnswersHappening, AnswersReading, AnswersSession, AnswersStepped, LeavesClient, Meets, MeetsSome, MembersStand, MemberStands, MemberState, ServiceState, SessionState, SessionStands, StandsForSome, has_name}
+use Rattle.ft_seqr.proofs.RefusalKinds.{means-weaker}
 use Rattle.ft_session.proofs.Placing.{Found, found, not_found, stand-grown}
 
 -- ---- what is asked

@@ -3,7 +3,6 @@ mod Placing
 mod Numbers
 mod OwnEvents
 mod ServiceSteps
-mod ConnectionNames
 mod LinkEvents
 mod Submissions
 mod Processed

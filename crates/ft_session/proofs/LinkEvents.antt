@@ -20,8 +20,10 @@ use Rattle.ft_worlds.specs.NewNames.{IsNewName}
 use Rattle.ft_worlds.proofs.MadeWorlds.{made-connection, made-within}
 use Rattle.ft_session.specs.declared.outputs.Out.TheVariants as out
 use Rattle.ft_session.specs.Services.{AnswersService, left_or_refused}
-use Rattle.ft_session.specs.Worlds.{AnswersClient, Meets, MeetsSome, MemberStands, MemberState, ServiceState, refusal_kind, service_of}
-use Rattle.ft_session.proofs.RefusalKinds.{fault-means, link-alike, means-weaker, some-none}
+use Rattle.ft_seqr.specs.RefusalKinds.{refusal_kind}
+use Rattle.ft_session.specs.Worlds.{AnswersClient, Meets, MeetsSome, MemberStands, MemberState, ServiceState, service_of}
+use Rattle.ft_seqr.proofs.RefusalKinds.{means-weaker}
+use Rattle.ft_session.proofs.RefusalKinds.{fault-means, link-alike, some-none}
 use Rattle.ft_session.proofs.Numbers.{connect-number, drop-number}
 use Rattle.ft_session.proofs.OwnEvents.{meets-reached, member-stepped, with_replica}
 use Rattle.ft_session.proofs.Placing.{member-grown}

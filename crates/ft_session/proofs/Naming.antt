@@ -8,7 +8,8 @@ use Rattle.ft_msg.specs.declared.messages.Entry.{Entry}
 use Rattle.ft_seqr.specs.declared.refusals.Refusal.{Refusal}
 use Rattle.ft_seqr.specs.declared.refusals.Refusal.TheVariants.{ClientLimit, NameInUse}
 use Rattle.ft_seqr.specs.World.{NaiveWorld, NamedClient, is_client, is_guest, name_fault, name_limit}
-use Rattle.ft_session.specs.Worlds.{MembersStand, MemberState, Refused, SessionState, SessionStands, has_name}
+use Rattle.ft_seqr.specs.RefusalKinds.{Refused}
+use Rattle.ft_session.specs.Worlds.{MembersStand, MemberState, SessionState, SessionStands, has_name}
 
 module _ (log : List Entry) (name : Characters) where
   any-stand : (ms : List MemberState) (cs : List NamedClient) → MembersStand log ms cs → list_any (is_client name) cs ≡ list_any (has_name name) ms

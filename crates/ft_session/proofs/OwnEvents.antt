@@ -17,8 +17,10 @@ use Rattle.ft_worlds.proofs.MadeWorlds.{made-reached, placed-same}
 use Rattle.std.specs.Result.{IsErr, IsErrAnd}
 use Rattle.ft_session.specs.declared.outputs.Out.{Out}
 use Rattle.ft_session.specs.declared.outputs.Out.TheVariants as out
-use Rattle.ft_session.specs.Worlds.{AnswersClient, LeavesClient, MeansOf, Meets, MeetsSome, MemberStands, MemberState, ServiceState, refusal_kind}
-use Rattle.ft_session.proofs.RefusalKinds.{SayAlike, fault-means, means-weaker, some-none}
+use Rattle.ft_seqr.specs.RefusalKinds.{MeansOf, refusal_kind}
+use Rattle.ft_session.specs.Worlds.{AnswersClient, LeavesClient, Meets, MeetsSome, MemberStands, MemberState, ServiceState}
+use Rattle.ft_seqr.proofs.RefusalKinds.{means-weaker}
+use Rattle.ft_session.proofs.RefusalKinds.{SayAlike, fault-means, some-none}
 
 -- the client that a member meets is one that steps made
 pub meets-reached : (w : NaiveWorld) (c : NamedClient) (m : MemberState) (s : ServiceState) → Meets w c m s → IsReached c.client

@@ -34,9 +34,11 @@ use Rattle.ft_session.specs.declared.outputs.Out.{Out}
 use Rattle.ft_session.specs.declared.outputs.Out.TheVariants as out
 use Rattle.ft_session.specs.Deliveries.{CanProcess, HasProcessed, Processes, offered_entry}
 use Rattle.ft_session.specs.Readings.{read_or_refused}
-use Rattle.ft_session.specs.Worlds.{AnswersClient, AnswersStepped, LeavesClient, MeansOf, Meets, MeetsSome, MemberStands, MemberState, ServiceState, refusal_kind}
+use Rattle.ft_seqr.specs.RefusalKinds.{MeansOf, refusal_kind}
+use Rattle.ft_session.specs.Worlds.{AnswersClient, AnswersStepped, LeavesClient, Meets, MeetsSome, MemberStands, MemberState, ServiceState}
 use Rattle.ft_session.proofs.Numbers.{process-number}
-use Rattle.ft_session.proofs.RefusalKinds.{means-weaker, some-none}
+use Rattle.ft_seqr.proofs.RefusalKinds.{means-weaker}
+use Rattle.ft_session.proofs.RefusalKinds.{some-none}
 use Rattle.ft_session.proofs.OwnEvents.{meets-reached, with_replica}
 use Rattle.ft_session.proofs.Submissions.{wanted-fits}
 

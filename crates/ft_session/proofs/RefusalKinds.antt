@@ -9,13 +9,7 @@ use Rattle.ft_msg.specs.declared.faults.ViewFault.{ViewFault}
 use Rattle.ft_msg.specs.declared.faults.ViewFault.TheVariants as viewing
 use Rattle.ft_msg.specs.Answers.{AnswersFault, FaultKind, MeansRefusal, Refusal as Refuses, ReplicaState, StoppedBefore, WantOfMemory, edit_fault_kind, link_fault_kind, view_fault_kind}
 use Rattle.ft_seqr.specs.Refusals.{refusal_of_edit, refusal_of_link, refusal_of_view}
-use Rattle.ft_session.specs.Worlds.{HadStopped, MeansOf, RefusalKind, Refused, WantsMemory, refusal_kind}
-
--- a refusal means less
-pub means-weaker : {A B : Type 0} (k : RefusalKind) → (A → B) → MeansOf k ⊤ A → MeansOf k ⊤ B
-means-weaker WantsMemory f h = tt
-means-weaker HadStopped f h = absurd h
-means-weaker Refused f h = f h
+use Rattle.ft_seqr.specs.RefusalKinds.{HadStopped, MeansOf, RefusalKind, Refused, WantsMemory, refusal_kind}
 
 -- a replica's fault says what the refusal says
 abbrev pub SayAlike : FaultKind → RefusalKind → Type 0

@@ -14,9 +14,10 @@ use Rattle.ft_session.specs.declared.outputs.Out.{Out}
 use Rattle.ft_session.specs.Outputs.{counts_of}
 use Rattle.ft_session.specs.declared.world.Taken.{Taken}
 use Rattle.ft_session.specs.Steps.{AnswersStep, StandsAtLoad, StandsFor}
-use Rattle.ft_session.specs.Worlds.{AnswersEvent, AnswersHappening, MeansOf, RefusalKind, HadStopped, Refused, RunsForSome, MembersStand, SessionState, StandsForSome, StopsWithCounts, WantsMemory, WorldStands, WorldState, is_want, refusal_kind}
+use Rattle.ft_seqr.specs.RefusalKinds.{MeansOf, RefusalKind, HadStopped, Refused, WantsMemory, is_want, refusal_kind}
+use Rattle.ft_session.specs.Worlds.{AnswersEvent, AnswersHappening, RunsForSome, MembersStand, SessionState, StandsForSome, StopsWithCounts, WorldStands, WorldState}
 use Rattle.ft_session.proofs.OwnEvents.{handed-on}
-use Rattle.ft_session.proofs.RefusalKinds.{means-weaker}
+use Rattle.ft_seqr.proofs.RefusalKinds.{means-weaker}
 
 pub stands-some : (s : SessionState) (load : ℕ) → StandsAtLoad s load → StandsForSome s
 stands-some s load h = record { world = h.world; made = h.stands.made; stands = h.stands.stands }

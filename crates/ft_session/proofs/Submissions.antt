@@ -20,8 +20,9 @@ use Rattle.ft_seqr.specs.World.{NaiveWorld, NamedClient, Nothing, Stepped, conn_
 use Rattle.ft_worlds.proofs.MadeWorlds.{made-sends, made-within}
 use Rattle.ft_session.specs.declared.outputs.Out.TheVariants as out
 use Rattle.ft_session.specs.Services.{AnswersService, CanSubmit}
-use Rattle.ft_session.specs.Worlds.{AnswersClient, MeansOf, Meets, MeetsSome, MemberStands, MemberState, ServiceState, refusal_kind, service_of}
-use Rattle.ft_session.proofs.RefusalKinds.{means-weaker}
+use Rattle.ft_seqr.specs.RefusalKinds.{MeansOf, refusal_kind}
+use Rattle.ft_session.specs.Worlds.{AnswersClient, Meets, MeetsSome, MemberStands, MemberState, ServiceState, service_of}
+use Rattle.ft_seqr.proofs.RefusalKinds.{means-weaker}
 use Rattle.ft_session.proofs.OwnEvents.{member-stepped, with_replica}
 use Rattle.ft_session.proofs.Placing.{member-grown}
 

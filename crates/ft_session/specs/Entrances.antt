@@ -7,7 +7,8 @@ use Rattle.ft_seqr.specs.declared.events.Event.{Event}
 use Rattle.ft_seqr.specs.declared.events.Event.TheVariants as event
 use Rattle.ft_seqr.specs.declared.refusals.Refusal.{Refusal}
 use Rattle.ft_seqr.specs.World.{NaiveWorld, NamedClient, is_client}
-use Rattle.ft_session.specs.Worlds.{MemberStands, MemberState, Refused, refusal_kind}
+use Rattle.ft_seqr.specs.RefusalKinds.{Refused, refusal_kind}
+use Rattle.ft_session.specs.Worlds.{MemberStands, MemberState}
 
 -- the answer to whether a name can be given
 abbrev pub AnswersName : Option Refusal → Result (Unit {0}) Refusal → Type 0

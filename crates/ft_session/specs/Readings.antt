@@ -6,7 +6,7 @@ use Rattle.ft_msg.specs.MessageGrammar.{draft}
 use Rattle.ft_seqr.specs.declared.refusals.Refusal.{Refusal}
 use Rattle.ft_seqr.specs.Refusals.{refusal_of_cause}
 use Rattle.ft_seqr.specs.World.{NaiveWorld, submit_all}
-use Rattle.ft_session.specs.Worlds.{MeansOf, refusal_kind}
+use Rattle.ft_seqr.specs.RefusalKinds.{MeansOf, refusal_kind}
 
 -- what is read, or the refusal of a text that has no reading
 abbrev pub read_or_refused : {A : Type 0} → Result A Cause → Result A Refusal

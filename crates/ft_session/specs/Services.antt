@@ -4,7 +4,8 @@ use Rattle.ft_seqr.specs.declared.refusals.Refusal.{Refusal}
 use Rattle.ft_seqr.specs.declared.refusals.Refusal.TheVariants.{NotConnected}
 use Rattle.ft_msg.specs.declared.messages.Draft.{Draft}
 use Rattle.ft_seqr.specs.World.{NaiveWorld, left, submit_all}
-use Rattle.ft_session.specs.Worlds.{MeansOf, ServiceState, refusal_kind, service_of}
+use Rattle.ft_seqr.specs.RefusalKinds.{MeansOf, refusal_kind}
+use Rattle.ft_session.specs.Worlds.{ServiceState, service_of}
 
 -- the naive world after a connection left, or why it can't
 abbrev pub left_or_refused : ℕ → NaiveWorld → Result NaiveWorld Refusal

@@ -8,7 +8,8 @@ use Rattle.ft_msg.specs.declared.views.Numbers.{Numbers}
 use Rattle.ft_session.specs.declared.world.Furthest.{Furthest}
 use Rattle.ft_session.specs.declared.world.Taken.{Taken}
 use Rattle.ft_session.specs.Outputs.{Tells, counts_of}
-use Rattle.ft_session.specs.Worlds.{MeansOf, SessionState, SessionStands, refusal_kind}
+use Rattle.ft_seqr.specs.RefusalKinds.{MeansOf, refusal_kind}
+use Rattle.ft_session.specs.Worlds.{SessionState, SessionStands}
 
 -- a session stands for a naive world of this load, which well-formed events made
 pub record StandsFor (w : NaiveWorld) (s : SessionState) (load : ℕ) : Type 0 where

@@ -5,7 +5,8 @@ use Rattle.ft_msg.specs.declared.messages.Entry.{Entry}
 use Rattle.ft_msg.specs.Answers.{ReplicaState, RunsFor}
 use Rattle.ft_seqr.specs.declared.events.Event.{Event}
 use Rattle.ft_seqr.specs.declared.refusals.Refusal.{Refusal}
-use Rattle.ft_seqr.specs.declared.refusals.Refusal.TheVariants.{OutOfMemory, Stopped}
+use Rattle.ft_seqr.specs.declared.refusals.Refusal.TheVariants.{Stopped}
+use Rattle.ft_seqr.specs.RefusalKinds.{MeansOf, refusal_kind}
 use Rattle.ft_seqr.specs.Sequencer.{NaiveSequencer}
 use Rattle.ft_seqr.specs.World.{NaiveWorld, NamedClient, NamedGuest, Output, Stepped, greatest_origin, in_place, is_client, step}
 use Rattle.ft_worlds.specs.MadeWorlds.{IsMade}
@@ -90,24 +91,6 @@ pub record MeetsSome (m : MemberState) (s : ServiceState) : Type 0 where
 
 -- ---- what they answer
 
--- what a refusal says: want of memory, a stop before, or that the naive world refuses
-pub data RefusalKind : Type 0 where
-  WantsMemory : RefusalKind
-  HadStopped : RefusalKind
-  Refused : RefusalKind
-
--- which of these it says
-abbrev pub refusal_kind : Refusal → RefusalKind
-refusal_kind OutOfMemory = WantsMemory
-refusal_kind Stopped = HadStopped
-refusal_kind _ = Refused
-
--- what it means where nothing had stopped: the first, or where the naive world refuses the second
-abbrev pub MeansOf : RefusalKind → Type 0 → Type 0 → Type 0
-MeansOf WantsMemory wants refuses = wants
-MeansOf HadStopped wants refuses = ⊥
-MeansOf Refused wants refuses = refuses
-
 -- what an event of one client left behind: the client in its place, and its messages at the end of the log
 pub record LeavesClient (w : NaiveWorld) (c : NamedClient) (m : MemberState) (s : ServiceState) (v : NaiveWorld) : Type 0 where
   pub client : NamedClient
@@ -172,8 +155,3 @@ pub record AnswersEvent (e : Event) (old new : WorldState) (result : Result Out 
 -- the world stands for some naive world unless it stopped
 abbrev pub RunsForSome : WorldState → Type 0
 RunsForSome w = w.stopped ≡ false → (n : NaiveWorld) × WorldStands w n
-
--- whether it is want of memory
-abbrev pub is_want : Refusal → Bool
-is_want OutOfMemory = true
-is_want _ = false

@@ -9,14 +9,13 @@ ghost use Rattle.ft_session.specs.Readings.{ReadsOr};
 ghost use Rattle.ft_session.specs.Worlds.{AnswersClient, MeetsSome};
 
 use crate::counts::next_count;
-use crate::edits::wanted_count;
-use crate::members::{Member, conn_of};
+use crate::members::Member;
 use crate::outputs::Out;
 use crate::service::Service;
 use ft_base::Text;
 use ft_msg::{Cause, Entry, Message, Replica, read_message};
 use ft_seqr::same_message::same_message;
-use ft_seqr::{HowMany, Refusal};
+use ft_seqr::{HowMany, Refusal, conn_of, wanted_count};
 use std::alloc::Global;
 
 /// The client processes so many of the next messages of the log.

@@ -2,17 +2,17 @@
 
 ghost use Rattle.std.specs.Prelude.{◌≡◌, Ok, Err, IsTrue, OnOk, OnErr, drop, take};
 ghost use Rattle.ft_op.specs.WellFormed.{IsWellFormed};
-ghost use Rattle.ft_seqr.specs.World.{NaiveWorld, edit_client, quietly, submit_all, ticket_client, wanted_count};
+ghost use Rattle.ft_seqr.specs.World.{NaiveWorld, edit_client, quietly, submit_all, ticket_client};
 ghost use Rattle.ft_session.specs.Services.{CanSubmit};
 ghost use Rattle.ft_session.specs.Worlds.{AnswersClient, MeetsSome, service_of};
 ghost use Rattle.ft_msg.specs.Answers.{IsFullyCompacted, with_queue};
 
-use crate::members::{Member, conn_of};
+use crate::members::Member;
 use crate::outputs::Out;
 use crate::service::Service;
 use ft_msg::Replica;
 use ft_op::ChannelOp;
-use ft_seqr::{HowMany, Refusal};
+use ft_seqr::{HowMany, Refusal, conn_of, wanted_count};
 
 /// An edit of the client's own.
 pub(crate) fn edit<R: Replica>(
@@ -56,17 +56,6 @@ pub(crate) fn compact<R: Replica>(member: &mut Member<R>, service: &Service) -> 
 {
     member.replica.compact()?;
     Ok(Out::Nothing)
-}
-
-/// How many, where there are so many.
-pub(crate) fn wanted_count(count: HowMany, have: u64) -> Option<u64>
-    ensures { result ≡ wanted_count count have }
-{
-    match count {
-        HowMany::All => Some(have),
-        HowMany::Num(n) if n <= have => Some(n),
-        HowMany::Num(_) => None,
-    }
 }
 
 /// So many of the replica's oldest unsent messages are submitted for its connection.

@@ -7,7 +7,8 @@ ghost use Rattle.ft_seqr.specs.declared.events.Event.TheVariants as event;
 ghost use Rattle.ft_worlds.specs.MadeWorlds.{IsMade};
 ghost use Rattle.ft_session.specs.Effects.{KeepsTrimmed, SessionEffect, StartsTrimmed};
 ghost use Rattle.ft_session.specs.Entrances.{AnswersName, IsCopyOf, new_member};
-ghost use Rattle.ft_session.specs.Worlds.{AnswersHappening, MeansOf, SessionStands, StandsForSome, refusal_kind};
+ghost use Rattle.ft_seqr.specs.RefusalKinds.{MeansOf, refusal_kind};
+ghost use Rattle.ft_session.specs.Worlds.{AnswersHappening, SessionStands, StandsForSome};
 
 use crate::asked::summary_of;
 use crate::guests::has_guest;

@@ -13,13 +13,12 @@ ghost use Rattle.ft_session.specs.Readings.{ReadsOr, submitted_text};
 ghost use Rattle.ft_session.specs.Services.{AnswersService};
 ghost use Rattle.ft_session.specs.Worlds.{AnswersHappening, StandsForSome, service_of};
 
-use crate::members::connection_name;
 use crate::outputs::{Out, Values};
 use crate::service::Service;
 use crate::session::Session;
 use ft_base::{OutOfMemory, Text};
 use ft_msg::{Cause, Draft, Entry, Replica, read_draft, write_message};
-use ft_seqr::Refusal;
+use ft_seqr::{Refusal, connection_name};
 use std::alloc::Global;
 use std::marker::Model;
 

@@ -4,11 +4,11 @@ ghost use Rattle.ft_seqr.specs.World.{connect_client, drop_client, noop_client};
 ghost use Rattle.ft_session.specs.Worlds.{AnswersClient, MeetsSome};
 
 use crate::counts::next_count;
-use crate::members::{Member, conn_of, connection_name};
+use crate::members::Member;
 use crate::outputs::Out;
 use crate::service::Service;
 use ft_msg::Replica;
-use ft_seqr::Refusal;
+use ft_seqr::{Refusal, conn_of, connection_name};
 
 /// The client gets a connection, which joins.
 pub(crate) fn connect<R: Replica>(

@@ -1,13 +1,11 @@
 //! The replicas of a session.
 
-ghost use Rattle.std.specs.Prelude.{◌≡◌, ◌++◌, Some, IfOk, OnErr, bytes_eq, codes, decimal, option_copied};
+ghost use Rattle.std.specs.Prelude.{◌≡◌};
 ghost use Rattle.std.specs.List.{list_any, position};
-ghost use Rattle.ft_seqr.specs.World.{conn_of, connection_name};
 ghost use Rattle.ft_session.specs.Worlds.{has_name};
 
-use ft_base::{OutOfMemory, Text};
-use ft_msg::{Link, Replica};
-use std::alloc::Global;
+use ft_base::Text;
+use ft_msg::Replica;
 use std::marker::Model;
 
 /// A replica of a session.
@@ -39,25 +37,4 @@ pub(crate) fn place_of<R: Replica>(members: &[Member<R>], name: &Text) -> Option
     ensures { result ≡ position (has_name name.now) members.now }
 {
     members.iter().position(|member| name.same(&member.name))
-}
-
-/// The connection of a link.
-pub(crate) fn conn_of(link: Link) -> Option<u32>
-    ensures { result ≡ conn_of link }
-{
-    match link {
-        Link::Offline => None,
-        Link::Joining { conn } | Link::Online { conn } => Some(conn),
-    }
-}
-
-/// The name of the k-th connection of a client or guest.
-///
-/// Answers `OutOfMemory` where there is no room for it.
-pub(crate) fn connection_name(alloc: Global, name: &Text, k: u64) -> Result<Text, OutOfMemory>
-    ensures { IfOk result (λ text. text ≡ connection_name name.now k) }
-{
-    let name = name.as_str();
-    let text = format!(in alloc; "{name}/{k}")?;
-    Text::new(alloc, text.as_str())
 }

@@ -6,7 +6,7 @@ ghost use Rattle.ft_seqr.specs.World.{NaiveWorld, new_world};
 ghost use Rattle.ft_session.specs.Outputs.{counts_of};
 ghost use Rattle.ft_session.specs.Effects.{SessionEffect};
 ghost use Rattle.ft_session.specs.Steps.{AnswersStep, StandsAtLoad, further_numbers};
-ghost use Rattle.ft_session.specs.Worlds.{AnswersEvent, MembersStand, WorldStands, is_want};
+ghost use Rattle.ft_session.specs.Worlds.{AnswersEvent, MembersStand, WorldStands};
 
 use crate::loads::event_load;
 use crate::members::Member;
@@ -92,7 +92,7 @@ impl<R: Replica + Drop> World<R> {
                 Ok(taken.out)
             }
             Err(why) => {
-                self.stopped = is_want(why);
+                self.stopped = why.is_want();
                 Err(why)
             }
         }
@@ -178,11 +178,4 @@ fn raised(load: u64, more: u64) -> Result<u64, OutOfMemory>
         Some(sum) if sum <= LOAD_LIMIT => Ok(sum),
         _ => Err(OutOfMemory),
     }
-}
-
-// Whether it is want of memory.
-fn is_want(why: Refusal) -> bool
-    ensures { result ≡ is_want why }
-{
-    matches!(why, Refusal::OutOfMemory)
 }

@@ -6,7 +6,8 @@ use Rattle.ft_props.specs.Properties.{Characters}
 use Rattle.ft_seqr.specs.Refusals.{refusal_of_summary}
 use Rattle.ft_seqr.specs.World.{NaiveWorld, start_client}
 use Rattle.ft_worlds.specs.MadeWorlds.{IsMade}
-use Rattle.ft_session.specs.Worlds.{MeansOf, SessionState, SessionStands, has_name, refusal_kind}
+use Rattle.ft_seqr.specs.RefusalKinds.{MeansOf, refusal_kind}
+use Rattle.ft_session.specs.Worlds.{SessionState, SessionStands, has_name}
 use Rattle.ft_session.proofs.Entering.{copy-refused, copy-taken, copy-trimmed, copy-unknown, meets-at}
 use Rattle.ft_session.proofs.OwnEvents.{handed-on}
 use Rattle.ft_session.proofs.session.Session.copy_of.Goals as goal
