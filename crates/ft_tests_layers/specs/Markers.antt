@@ -28,13 +28,9 @@ abbrev pending : ℕ → ElementStamps
 pending k = record { ins = Local k; dels = [] }
 
 -- an element of stage 1 behind a removed one
-abbrev pub behind_removed : List (TreeElement ElementContent)
-behind_removed = marker_element 1 inserted ∷ marker_element 2 removed ∷ marker_element 3 (pending 1) ∷ []
-
--- the same where there is no other
 abbrev pub removed_alone : List (TreeElement ElementContent)
 removed_alone = marker_element 2 removed ∷ marker_element 3 (pending 1) ∷ []
 
--- elements of stages 2 and 1 behind a removed one
+-- elements of stages 2 and 1 behind a removed one, behind another
 abbrev pub two_stages : List (TreeElement ElementContent)
 two_stages = marker_element 1 inserted ∷ marker_element 2 removed ∷ marker_element 3 (pending 2) ∷ marker_element 4 (pending 1) ∷ []

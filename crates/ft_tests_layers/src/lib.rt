@@ -1,11 +1,6 @@
-//! Tests of what stands on the merge tree, compaction, regeneration and normalising, and of what these ask it of pending stages.
+//! Tests of normalising, and what a search in ten thousand leaves reads at most.
 #![tactic(auto)]
 
-#[cfg(test)]
-mod compaction;
+pub mod bounds;
 #[cfg(test)]
 mod normalising;
-#[cfg(test)]
-mod regeneration;
-#[cfg(test)]
-mod stages;

@@ -2,7 +2,7 @@
 
 ghost use Rattle.std.specs.Prelude.{◌≡◌, ℕ, ◌++◌, ◌∷◌, [], IfOk, IsTrue, OnOk, true};
 ghost use Rattle.ft_base.specs.declared.stamps.Stamp.TheVariants.{Acked, Local};
-ghost use Rattle.ft_tests_layers.specs.Markers.{behind_removed, elements_of, marker_element, removed_alone, two_stages};
+ghost use Rattle.ft_tests_layers.specs.Markers.{elements_of, marker_element, removed_alone, two_stages};
 ghost use Rattle.ft_leaves.specs.References.{IsReferenceIn};
 ghost use Rattle.ft_rebase.specs.StageLists.{StandSideBySide};
 
@@ -87,34 +87,6 @@ fn normalised(alloc: Global, mut tree: Tree<TextContent>) -> Result<[Vec<(usize,
     Ok([before, leaves(alloc, &tree)?])
 }
 
-// The markers 1, 2, which is removed, and 3 of stage 1.
-fn behind_removed(alloc: Global) -> Result<Tree<TextContent>, Fail>
-    ensures usable { IfOk result (λ tree. IsTrue tree.usable) }
-    ensures elements { IfOk result (λ tree. elements_of tree ≡ behind_removed) }
-{
-    let mut tree = Tree::new(alloc);
-    add(alloc, &mut tree, 1, inserted(alloc))?;
-    add(alloc, &mut tree, 2, removed(alloc)?)?;
-    add(alloc, &mut tree, 3, pending(alloc, 1))?;
-    Ok(tree)
-}
-
-// Its leaves before and after normalisation.
-fn moved_left(alloc: Global) -> Result<[Vec<(usize, u64)>; 2], Fail> {
-    let tree = behind_removed(alloc)?;
-    normalised(alloc, tree)
-}
-
-#[test]
-fn normalisation_keeps_nodes(rt: HostRuntime) -> Result<(), Fail> {
-    let [before, after] = moved_left(rt.alloc())?;
-    assert_eq!(rt; after.len(), 3);
-    assert!(rt; after.get(0) == before.get(0));
-    assert!(rt; after.get(1) == before.get(2));
-    assert!(rt; after.get(2) == before.get(1));
-    Ok(())
-}
-
 // The markers 1, 2, which is removed, 3 of stage 2 and 4 of stage 1.
 fn two_stages(alloc: Global) -> Result<Tree<TextContent>, Fail>
     ensures usable { IfOk result (λ tree. IsTrue tree.usable) }
@@ -141,7 +113,7 @@ fn both_moved(alloc: Global) -> Result<[Vec<(usize, u64)>; 2], Fail> {
 }
 
 #[test]
-fn normalisation_numbers_first(rt: HostRuntime) -> Result<(), Fail> {
+fn normalisation_numbers_first_and_keeps_nodes(rt: HostRuntime) -> Result<(), Fail> {
     let [first, second] = numbered(rt.alloc())?;
     assert!(rt; first.as_slice() == [Piece::Insert { pos: 1 }].as_slice());
     assert!(rt; second.as_slice() == [Piece::Insert { pos: 1 }].as_slice());

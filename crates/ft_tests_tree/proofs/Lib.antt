@@ -1,1 +1,2 @@
 pub mod CalmTrees
+pub mod PlayingLaws

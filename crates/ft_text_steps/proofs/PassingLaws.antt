@@ -2,10 +2,11 @@
 use Rattle.std.proofs.Common.{◌≡◌, ℕ, zero, suc, Bool, true, false, cond, ◌&&◌, List, [], ◌∷◌, ◌++◌, Option, Some, None, IsSome, option_map, map, ap, subst, refl, sym, ◌∙◌}
 use Rattle.std.specs.List.{AllByRecursion}
 use Rattle.ft_base.specs.Scan.{change_range, change_range_from, one_more_if, put, put_past, within}
+use Rattle.ft_base.specs.declared.elements.Element.{Element as ElementStamps}
 use Rattle.ft_base.specs.declared.stamps.Stamp.{Stamp}
 use Rattle.ft_leaves.specs.declared.references.Reference.{Reference}
 use Rattle.ft_leaves.specs.declared.text.TextContent.{TextContent}
-use Rattle.ft_leaves.specs.Elements.{TreeElement, acked_element, new_elements, removed_stamps, with_stamps}
+use Rattle.ft_leaves.specs.Elements.{TreeElement, acked_element, elements_with, new_elements, removed_stamps, with_stamps}
 use Rattle.ft_leaves.specs.LeafLists.{elements}
 use Rattle.ft_leaves.specs.References.{ChangesReferences, KeepsReferences, reference_at}
 use Rattle.ft_leaves.specs.TextLeaves.{text_units}
@@ -52,10 +53,14 @@ module _ {A : Type 0} (P : A → Type 0) where
   all_mapped f keeps (x ∷ xs) h = (keeps x h.0, all_mapped f keeps xs h.1)
 
 -- no changes are pending on new elements
+calm_with : {U : Type 0} (e : ElementStamps) (by : Option Stamp) (props : PropertyList) (us : List U)
+    → AllByRecursion (λ (x : TreeElement U). x.overlay.pending ≡ []) (elements_with e by (record { acked = props; pending = [] }) us)
+calm_with e by props [] = tt
+calm_with e by props (u ∷ us) = (refl, calm_with e by props us)
+
 new_calm : {U : Type 0} (ins : Stamp) (by : Option Stamp) (props : PropertyList) (us : List U)
     → AllByRecursion (λ (e : TreeElement U). e.overlay.pending ≡ []) (new_elements ins by props us)
-new_calm ins by props [] = tt
-new_calm ins by props (u ∷ us) = (refl, new_calm ins by props us)
+new_calm ins by props us = calm_with (record { ins = ins; dels = [] }) by props us
 
 -- a reference that goes on is live
 goes_on : (f : Reference → Reference) (o : Option Reference) → IsSome o → IsSome (option_map f o)
@@ -76,15 +81,35 @@ passes_put seen past p ins by props us f old now list refs rest = record {
   free = λ h r. refs r ∙ ap (option_map f) (h r);
 }
 
--- a removal after which references stay
+-- a change after which references stay
+pub passes_change : (f : TreeElement ElementContent → TreeElement ElementContent) → ((e : TreeElement ElementContent) → (f e).overlay.pending ≡ e.overlay.pending)
+    → (seen : TreeElement ElementContent → Bool) (p q : ℕ) (old now : TreeState TextContent)
+    → elements text_units (λ x. x.by) now.leaves ≡ change_range seen p q f (elements text_units (λ x. x.by) old.leaves)
+    → KeepsReferences old.refs now.refs → KeepsRest old now → Passes old now
+passes_change f same seen p q old now list refs rest = record {
+  rest = rest;
+  calm = λ h. subst (AllByRecursion (λ e. e.overlay.pending ≡ [])) (sym list)
+      (all_changed (λ e. e.overlay.pending ≡ []) f (λ e k. same e ∙ k) seen p q 0 (elements text_units (λ x. x.by) old.leaves) h);
+  live = λ r h. subst IsSome (sym (refs r)) h;
+  free = λ h r. refs r ∙ h r;
+}
+
+-- a removal
 pub passes_removal : (seen : TreeElement ElementContent → Bool) (p q : ℕ) (t : Stamp) (old now : TreeState TextContent)
     → elements text_units (λ x. x.by) now.leaves ≡ change_range seen p q (with_stamps (removed_stamps t)) (elements text_units (λ x. x.by) old.leaves)
     → KeepsReferences old.refs now.refs → KeepsRest old now → Passes old now
-passes_removal seen p q t old now list refs rest = record {
+passes_removal seen p q t = passes_change (with_stamps (removed_stamps t)) (λ e. refl) seen p q
+
+-- what comes to the end
+pub passes_end : (e : ElementStamps) (by : Option Stamp) (props : PropertyList) (us : List ElementContent) (old now : TreeState TextContent)
+    → elements text_units (λ x. x.by) now.leaves
+    ≡ elements text_units (λ x. x.by) old.leaves ++ elements_with e by (record { acked = props; pending = [] }) us
+    → KeepsReferences old.refs now.refs → KeepsRest old now → Passes old now
+passes_end e by props us old now list refs rest = record {
   rest = rest;
-  calm = λ h. subst (AllByRecursion (λ e. e.overlay.pending ≡ [])) (sym list)
-      (all_changed (λ e. e.overlay.pending ≡ []) (with_stamps (removed_stamps t)) (λ e k. k) seen p q 0
-      (elements text_units (λ x. x.by) old.leaves) h);
+  calm = λ h. subst (AllByRecursion (λ x. x.overlay.pending ≡ [])) (sym list)
+      (all_both (λ x. x.overlay.pending ≡ []) (elements text_units (λ x. x.by) old.leaves)
+      (elements_with e by (record { acked = props; pending = [] }) us) h (calm_with e by props us));
   live = λ r h. subst IsSome (sym (refs r)) h;
   free = λ h r. refs r ∙ h r;
 }

@@ -15,8 +15,11 @@ use std::sync::ledger::Ledger;
 /// The most elements that a tree has here.
 const MOST: u64 = 1_000_000_000;
 
-/// A run of those characters, of a pending insertion.
+/// A run of those characters, of a pending insertion; a single `*` is a marker instead.
 pub fn run(alloc: Global, text: &str) -> Result<TextContent, StepFault> {
+    if text == "*" {
+        return Ok(TextContent::marker(7));
+    }
     let count = text.chars().count();
     if count == 0 || count > 256 {
         return Err(StepFault::NotARun);
