@@ -186,14 +186,27 @@ fn make_in_tree<G: Ledger>(
     requires some { 0 < blank.parts }
     ensures { OnOk result (Passes tree.old tree.new) }
 {
-    let mut steps = Steps::<G>::new(blank);
+    make_counted(alloc, tree, edit, stage, &mut Steps::<G>::new(blank))
+}
+
+// The same, counted by these steps.
+fn make_counted<G: Ledger>(
+    alloc: Global,
+    tree: &mut Tree<TextContent>,
+    edit: &Edit,
+    stage: u64,
+    steps: &mut Steps<G>,
+) -> Result<bool, StepFault>
+    requires { IsTrue tree.old.usable }
+    ensures { OnOk result (Passes tree.old tree.new) }
+{
     match edit.kind {
         Kind::Load => load(alloc, tree, edit),
-        Kind::Insert => insert(alloc, tree, edit, &mut steps),
-        Kind::Write => put(alloc, tree, edit, stage, &mut steps),
-        Kind::Remove => remove(tree, edit, &mut steps),
-        Kind::Erase => take_out(tree, edit, stage, &mut steps),
-        Kind::Annotate => annotate(alloc, tree, edit, &mut steps),
+        Kind::Insert => insert(alloc, tree, edit, steps),
+        Kind::Write => put(alloc, tree, edit, stage, steps),
+        Kind::Remove => remove(tree, edit, steps),
+        Kind::Erase => take_out(tree, edit, stage, steps),
+        Kind::Annotate => annotate(alloc, tree, edit, steps),
     }
 }
 
@@ -220,26 +233,35 @@ fn make_in_list(
     list: &mut PlainList,
     edit: &Edit,
     stage: u64,
-) -> Result<(), StepFault> {
+) -> Result<(), OutOfMemory> {
     let props = Props::new(alloc);
     let units = units_of(alloc, edit.text)?;
+    make_of_units(list, edit, stage, &props, &units)
+}
+
+// The same, with those elements.
+fn make_of_units(
+    list: &mut PlainList,
+    edit: &Edit,
+    stage: u64,
+    props: &Props,
+    units: &[Unit],
+) -> Result<(), OutOfMemory> {
     match edit.kind {
-        Kind::Load => {
-            let everybody = Stamp::Acked { seq: 0, conn: 0 };
-            let none = Stamps::new(alloc);
-            list.append(everybody, &none, None, &props, units.as_slice())?;
-        }
-        Kind::Insert => {
-            list.insert(edit.p, edit.seq, edit.at, None, &props, units.as_slice())?;
-        }
-        Kind::Write => {
-            list.insert_at_stage(stage, edit.p, &props, units.as_slice())?;
-        }
-        Kind::Remove => list.remove(edit.p, edit.q, edit.seq, edit.at)?,
-        Kind::Erase => list.remove_at_stage(stage, edit.p, edit.q)?,
-        Kind::Annotate => {}
+        Kind::Load => append(list, props, units),
+        Kind::Insert => list.insert(edit.p, edit.seq, edit.at, None, props, units),
+        Kind::Write => list.insert_at_stage(stage, edit.p, props, units),
+        Kind::Remove => list.remove(edit.p, edit.q, edit.seq, edit.at),
+        Kind::Erase => list.remove_at_stage(stage, edit.p, edit.q),
+        Kind::Annotate => Ok(()),
     }
-    Ok(())
+}
+
+// Puts elements that everybody sees behind all.
+fn append(list: &mut PlainList, props: &Props, units: &[Unit]) -> Result<(), OutOfMemory> {
+    let everybody = Stamp::Acked { seq: 0, conn: 0 };
+    let none = Stamps::new(list.alloc());
+    list.append(everybody, &none, None, props, units)
 }
 
 /// Makes an edit of tree and list, and tells whether it can be made.

@@ -1,6 +1,7 @@
 //! Scripts, line by line.
 
-ghost use Rattle.std.specs.Prelude.{OnOk};
+ghost use Rattle.std.specs.Prelude.{◌≡◌, OnOk, true};
+ghost use Rattle.ft_interval.specs.State.{is_interval_operation};
 ghost use Rattle.ft_tests_tree.specs.Playing.{Goes, GoesOn};
 
 use crate::comments::{edit_interval, hear_interval, settle};
@@ -14,6 +15,7 @@ use crate::upkeep::{acknowledge_next, compact, unmark};
 use ft_base::Perspective;
 use ft_elements::lists::PlainList;
 use ft_interval::Collections;
+use ft_op::TextOp;
 use ft_text_steps::StepFault;
 use ft_tree::{TextContent, Tree};
 use std::alloc::Global;
@@ -42,16 +44,31 @@ fn play_case(alloc: Global, case: &str, out: &mut String) -> Result<(), StepFaul
         calm: true,
         free: true,
     };
+    play_lines(
+        alloc,
+        &mut tree,
+        &mut list,
+        &mut intervals,
+        &mut progress,
+        case,
+        out,
+    )
+}
+
+// Plays the lines of a case.
+fn play_lines(
+    alloc: Global,
+    tree: &mut Tree<TextContent>,
+    list: &mut PlainList,
+    intervals: &mut Collections,
+    progress: &mut Progress,
+    case: &str,
+    out: &mut String,
+) -> Result<(), StepFault>
+    requires { Goes tree.old intervals.old progress.old }
+{
     for line in case.lines() {
-        take_line(
-            alloc,
-            &mut tree,
-            &mut list,
-            &mut intervals,
-            &mut progress,
-            line,
-            out,
-        )?;
+        take_line(alloc, tree, list, intervals, progress, line, out)?;
     }
     Ok(())
 }
@@ -224,9 +241,26 @@ fn take_interval_step(
     ensures { OnOk result (Goes tree.new intervals.new progress.new) }
 {
     let op = operation(alloc, kind, line.text(), line.id(), line.ends())?;
+    take_operation(alloc, tree, intervals, progress, at, &op, out)
+}
+
+// The same, where the operation is made.
+fn take_operation(
+    alloc: Global,
+    tree: &mut Tree<TextContent>,
+    intervals: &mut Collections,
+    progress: &mut Progress,
+    at: Option<Perspective>,
+    op: &TextOp,
+    out: &mut String,
+) -> Result<bool, StepFault>
+    requires goes { Goes tree.old intervals.old progress.old }
+    requires kind { is_interval_operation op.now ≡ true }
+    ensures { OnOk result (Goes tree.new intervals.new progress.new) }
+{
     match at {
-        Some(at) => hear_interval(tree, intervals, progress, &op, at),
-        None => edit_interval(alloc, tree, intervals, progress, &op, out),
+        Some(at) => hear_interval(tree, intervals, progress, op, at),
+        None => edit_interval(alloc, tree, intervals, progress, op, out),
     }
 }
 
