@@ -12,10 +12,6 @@ mod json_values;
 #[cfg(test)]
 mod messages;
 #[cfg(test)]
-mod plain_client;
-#[cfg(test)]
-mod plain_summaries;
-#[cfg(test)]
 mod properties;
 #[cfg(test)]
 mod refusals;
