@@ -34,3 +34,4 @@ mod SavedGrids
 mod LoadedUnits
 mod LoadedCells
 mod LoadedGrids
+mod Depths

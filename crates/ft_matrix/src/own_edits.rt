@@ -1,6 +1,6 @@
 //! What a client's own operations make of a grid.
 
-ghost use Rattle.std.specs.Prelude.{◌≡◌, ℕ, ◌+◌, ◌*◌, ◌≤◌, ◌<◌, List, None, IfOk, IsTrue, OnOk, length, map, true};
+ghost use Rattle.std.specs.Prelude.{◌≡◌, ℕ, ◌+◌, ◌*◌, ◌≤◌, ◌<◌, ◌^◌, List, None, IfOk, IsTrue, OnOk, length, map, true};
 ghost use Rattle.std.specs.List.{AllByRecursion};
 ghost use Rattle.ft_base.specs.Scan.{len};
 ghost use Rattle.ft_block.specs.Leaves.{last_stage};
@@ -16,21 +16,23 @@ ghost use Rattle.ft_names.specs.WellNamed.{AreWellNamed};
 ghost use Rattle.ft_matrix.specs.Sound.{IsSound};
 ghost use Rattle.ft_matrix.specs.GridStates.{depth_of, grid_state};
 ghost use Rattle.ft_matrix.specs.HoldsGrid.{HoldsGrid};
-ghost use Rattle.ft_matrix.specs.Conditions.{AnswersEdit, IsAboveAll};
+ghost use Rattle.ft_matrix.specs.Conditions.{AnswersEdit, IsAboveAll, KeepsRest};
 ghost use Rattle.ft_matrix.specs.Applied.{Holds};
 ghost use Rattle.ft_matrix.specs.OwnEdits.{EditsAll, EditsOne, TakesStages, lengths_after, refusal};
-ghost use Rattle.ft_matrix.specs.Units.{units_of};
+ghost use Rattle.ft_matrix.specs.Units.{shown_units, units_of};
 
 use crate::grid::Grid;
 use crate::matrix::SharedMatrix;
 use crate::messages::more;
 use crate::splices::{insert_own_units, remove_own_units, seen_count};
 use crate::stages::GridStage;
+use ft_arena::NodeId;
 use ft_base::{OutOfMemory, Steps};
 use ft_block::LenView;
 use ft_json::ValText;
 use ft_msg::EditFault;
 use ft_op::{CellOp, GridOp, Target};
+use ft_perm::Vector;
 use std::sync::ledger::Ledger;
 
 /// The view with all that is pending.
@@ -58,7 +60,12 @@ impl SharedMatrix {
             → AnswersEdit stages (local_sub_operations doc stages first (sub_operations (ChannelOp.Grid op.now))) self.old self.new result }
         ensures reads { (target : Target) (p count : ℕ) → op.now ≡ GridOp.One (CellOp.SpliceIn target p count)
             → steps.new ≤ steps.old + 9 * (depth_of target self.old + 1) }
+        ensures rest { OnOk result (KeepsRest self.old self.new) }
+        ensures rows_depth { 4 ^ self.old.rows_depth ≤ length self.old.rows + 1 }
+        ensures cols_depth { 4 ^ self.old.cols_depth ≤ length self.old.cols + 1 }
     {
+        // How deep a search goes is read off its contract.
+        let _leaves = self.first_leaves();
         match self.grid.edit_op(op, first, steps) {
             Ok(None) => Ok(sub_operation_count(op)),
             Ok(Some(length)) => Err(EditFault::OutOfRange { length }),
@@ -68,6 +75,23 @@ impl SharedMatrix {
             }
         }
     }
+
+    /// The first leaves of the rows and of the columns; the contract tells how deep a search for a unit goes at most.
+    fn first_leaves(&self) -> (Option<NodeId>, Option<NodeId>)
+        requires { IsTrue self.now.usable }
+        ensures rows { 4 ^ self.now.rows_depth ≤ length self.now.rows + 1 }
+        ensures cols { 4 ^ self.now.cols_depth ≤ length self.now.cols + 1 }
+    {
+        (first_leaf(&self.grid.rows), first_leaf(&self.grid.cols))
+    }
+}
+
+/// The first leaf of a vector; the contract tells how deep a search for a unit goes at most.
+fn first_leaf(units: &Vector) -> Option<NodeId>
+    requires { IsTrue units.now.tree.usable }
+    ensures { 4 ^ units.now.tree.depth ≤ length (shown_units units.now) + 1 }
+{
+    units.tree.first_leaf()
 }
 
 /// How many sub-operations the operation has.
