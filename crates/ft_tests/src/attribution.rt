@@ -4,6 +4,9 @@ ghost use Rattle.std.specs.Prelude.{◌≡◌, ◌<◌};
 
 use ft_attrib::{AttrRun, Attribution, Origin, Total};
 use ft_base::{OutOfMemory, Steps};
+use ft_msg::Replica;
+use ft_plain::Plain;
+use ft_sumdoc::read_summary;
 use std::alloc::Global;
 use std::marker::Brand;
 use std::sync::ledger::{Blank, Ledger};
@@ -67,5 +70,23 @@ fn a_list_of_origins_has_runs_and_totals(rt: HostRuntime) -> Result<(), Fail> {
     assert_eq!(rt; (totals.len(), totals.get(1).copied()), (2, Some(total)));
     assert!(rt; total.same(&total.copy()?) && second.same(&second.copy()?));
     assert!(rt; second.who.same(&second.who.copy()?));
+    Ok(())
+}
+
+/// A summary of version 1, in which no author counts.
+static FIRST_VERSION: &str = r#"{"cells":[],"cols":[],"conns":["A/1"],"count":2,"intervals":[],"min":2,"other":0,"rows":[],"seq":3,"skipped":0,"text":[[{"a":[2,1],"t":"hi"}]],"version":1}"#;
+
+/// How many elements are visible to a client that starts from the summary, and of how many of them the author
+/// isn't known, if it tells.
+fn count_unknown(alloc: Global, text: &str) -> Option<(u64, u64)> {
+    let summary = read_summary(alloc, text.as_bytes()).ok()?;
+    let client = Plain::from_summary(alloc, &summary).ok()?;
+    let origins = client.attribution().ok()?;
+    Some((origins.len(), origins.unknown()))
+}
+
+#[test]
+fn authors_that_a_summary_leaves_out_are_unknown(rt: HostRuntime) -> Result<(), Fail> {
+    assert_eq!(rt; count_unknown(rt.alloc(), FIRST_VERSION), Some((2, 2)));
     Ok(())
 }
