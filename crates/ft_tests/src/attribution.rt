@@ -74,7 +74,8 @@ fn a_list_of_origins_has_runs_and_totals(rt: HostRuntime) -> Result<(), Fail> {
 }
 
 /// A summary of version 1, in which no author counts.
-static FIRST_VERSION: &str = r#"{"cells":[],"cols":[],"conns":["A/1"],"count":2,"intervals":[],"min":2,"other":0,"rows":[],"seq":3,"skipped":0,"text":[[{"a":[2,1],"t":"hi"}]],"version":1}"#;
+static FIRST_VERSION: &str =
+    r#"{"cells":[],"cols":[],"conns":["A/1"],"count":2,"intervals":[],"min":2,"other":0,"rows":[],"seq":3,"skipped":0,"text":[[{"a":[2,1],"t":"hi"}]],"version":1}"#;
 
 /// How many elements are visible to a client that starts from the summary, and of how many of them the author
 /// isn't known, if it tells.
