@@ -6,3 +6,4 @@ pub mod SessionLaws
 pub mod Numbers
 pub mod GeneratedLaws
 pub mod PlayLaws
+mod LastLines

@@ -10,6 +10,7 @@ pub mod Report
 pub mod Writing
 pub mod Run
 pub mod LoadRuns
+pub mod MapRuns
 pub mod Generated
 pub mod Play
 pub mod Playing

@@ -1,6 +1,6 @@
 -- A form that reads lines: what its lines make and write, what stands behind them, and how its run ends. Every line that it writes
 -- ends with LF.
-use Rattle.std.specs.Prelude.{ℕ, ◌&&◌, ◌==◌, List, ◌++◌, if◌then◌else◌}
+use Rattle.std.specs.Prelude.{ℕ, ◌&&◌, ◌==◌, List, [], ◌∷◌, ◌++◌, Option, Some, None, codes, decimal, if◌then◌else◌}
 use Rattle.std.specs.List.{flat_map}
 use Rattle.ft_io.specs.Lines.{lines, ended_lines, with_lf}
 use Rattle.ft_op.specs.Document.{Document}
@@ -14,13 +14,13 @@ abbrev pub bytes_of : List (List ℕ) → List ℕ
 bytes_of texts = flat_map with_lf texts
 
 -- a form whose lines make an S: what there is before the first line, how long the next line may be that isn't blank, what a line that
--- is read does, the lines that show at the end what was made, and the document whose counts are told last
+-- is read does, the lines that show at the end what was made, and the document whose counts are told last, if there is one
 pub record LineForm (S : Type 0) : Type 0 where
   pub first : S
   pub longest : S → ℕ
   pub read : S → List ℕ → Step S
   pub shown : S → List (List ℕ)
-  pub counted : S → Document
+  pub counted : S → Option Document
 
 -- the step of a line
 abbrev pub form_step : {S : Type 0} → LineForm S → S → List ℕ → Step S
@@ -34,21 +34,40 @@ form_after form texts = after_items (form_step form) (begin form.first) texts
 abbrev pub form_lines : {S : Type 0} → LineForm S → List (List ℕ) → List (List ℕ)
 form_lines form texts = written_by_items (form_step form) (begin form.first) texts
 
+-- the last lines: how many lines were refused, and the counts of a document, if there is one
+unfoldable pub refused_count : ℕ → List ℕ
+refused_count refused = codes "refused " ++ decimal refused
+
+abbrev pub last_lines : ℕ → Option Document → List (List ℕ)
+last_lines refused None = refused_count refused ∷ []
+last_lines refused (Some doc) = closing_lines refused doc
+
 -- what is written behind the lines
 abbrev pub form_end : {S : Type 0} → LineForm S → Progress S → List (List ℕ)
-form_end form at = form.shown at.made ++ closing_lines at.refused (form.counted at.made)
+form_end form at = form.shown at.made ++ last_lines at.refused (form.counted at.made)
 
 -- what lines write, with what is written behind them
 abbrev pub form_report : {S : Type 0} → LineForm S → List (List ℕ) → List (List ℕ)
 form_report form texts = form_lines form texts ++ form_end form (form_after form texts)
 
 -- the status behind a whole report: whether nothing was refused and no sub-operation skipped
+abbrev pub status_by : ℕ → ℕ → Status
+status_by refused skipped = if refused == 0 && skipped == 0 then Done else SomeRefused
+
 abbrev pub whole_status : ℕ → Document → Status
-whole_status refused doc = if refused == 0 && doc.skipped == 0 then Done else SomeRefused
+whole_status refused doc = status_by refused doc.skipped
+
+-- the same, where there may be no document, and then nothing counts as skipped
+abbrev pub skipped_in : Option Document → ℕ
+skipped_in None = 0
+skipped_in (Some doc) = doc.skipped
+
+abbrev pub last_status : ℕ → Option Document → Status
+last_status refused doc = status_by refused (skipped_in doc)
 
 -- the status behind the whole report of a form
 abbrev pub form_status : {S : Type 0} → LineForm S → Progress S → Status
-form_status form at = whole_status at.refused (form.counted at.made)
+form_status form at = last_status at.refused (form.counted at.made)
 
 -- what a form comes to for the bytes of an input: its report, what the lines write that end with LF without what is written behind
 -- them, and the status behind the whole report

@@ -1,5 +1,5 @@
 -- What a listener is told of a line, and how far it follows a form that reads lines.
-use Rattle.std.specs.Prelude.{◌≡◌, ℕ, ◌≤◌, List, [], ◌∷◌, length, Option, Some, None, string_bytes, ⊤}
+use Rattle.std.specs.Prelude.{◌≡◌, ℕ, ◌≤◌, List, [], ◌∷◌, length, Option, Some, None, option_map, string_bytes, ⊤}
 use Rattle.ft_io.specs.Reader.{handed_out, input_limit}
 use Rattle.ft_io.specs.declared.reader.Line.{Line}
 use Rattle.ft_io.specs.declared.reader.Line.TheVariants.{End, Full, TooLong}
@@ -53,3 +53,7 @@ pub record Follows {S : Type 0} (Holds : S → Type 0) (count refused : ℕ) (at
 -- the counts of a document that are told last
 abbrev pub counts_in : Document → Counts
 counts_in doc = record { skipped = doc.skipped; other = doc.other }
+
+-- those of a document, if there is one
+abbrev pub counts_of : Option Document → Option Counts
+counts_of doc = option_map counts_in doc

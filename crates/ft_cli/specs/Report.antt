@@ -8,10 +8,12 @@ use Rattle.ft_seqr.specs.SessionReport.{Shows, as_applied, session_after, sessio
 use Rattle.ft_seqr.specs.ViewLines.{content_lines, numbers_line}
 use Rattle.ft_seqr.specs.Walk.{line_limit}
 use Rattle.ft_seqr.specs.World.{NaiveWorld, furthest, new_world}
+use Rattle.ft_map.specs.MapReport.{take_line as map_line}
+use Rattle.ft_map.specs.MapSession.{MapSession, new_session}
 use Rattle.ft_cli.specs.declared.statuses.Status.{Status}
 use Rattle.ft_cli.specs.declared.statuses.Status.TheVariants.{Done}
 use Rattle.ft_cli.specs.declared.words.Form.{Form}
-use Rattle.ft_cli.specs.declared.words.Form.TheVariants.{Gen, Load, Log, Play, Session}
+use Rattle.ft_cli.specs.declared.words.Form.TheVariants.{Gen, Load, Log, Map, Play, Session}
 use Rattle.ft_cli.specs.Generated.{generated_lines}
 use Rattle.ft_cli.specs.LineForm.{Account, LineForm, bytes_of, form_after, form_lines, form_report, form_status}
 use Rattle.ft_cli.specs.Loading.{Loading, load_line, nothing_loaded}
@@ -26,7 +28,7 @@ view_lines doc = numbers_line (observer_numbers doc) ∷ content_lines (shown do
 -- `log`: an observer takes the messages, and its view stands behind the refusals of the lines
 abbrev pub log_form : LineForm Observation
 log_form =
-    record { first = nothing_observed; longest = λ seen. line_limit; read = observe; shown = λ seen. view_lines seen.doc; counted = λ seen. seen.doc }
+    record { first = nothing_observed; longest = λ seen. line_limit; read = observe; shown = λ seen. view_lines seen.doc; counted = λ seen. Some seen.doc }
 
 -- `load`: the observer starts from the summary, whose line may be as long as an input
 abbrev pub load_form : LineForm Loading
@@ -35,18 +37,23 @@ load_form = record {
   longest = λ at. if at.begun then line_limit else input_limit;
   read = load_line;
   shown = λ at. view_lines at.seen.doc;
-  counted = λ at. at.seen.doc;
+  counted = λ at. Some at.seen.doc;
 }
 
 -- `session`: a session takes the events, and what each of them writes stands in its place. The counts are those of the client with
 -- the greatest number
 abbrev pub session_form : Shows → LineForm NaiveWorld
-session_form shows = record { first = new_world; longest = λ w. line_limit; read = take_line shows; shown = λ w. []; counted = furthest }
+session_form shows = record { first = new_world; longest = λ w. line_limit; read = take_line shows; shown = λ w. []; counted = λ w. Some (furthest w) }
+
+-- `map`: a session of clients over a map takes the events, and what each of them writes stands in its place. It tells no counts
+abbrev pub map_form : LineForm MapSession
+map_form = record { first = new_session; longest = λ w. line_limit; read = map_line; shown = λ w. []; counted = λ w. None }
 
 -- the report of a form
 abbrev pub report_of : Form → List ℕ → List ℕ
 report_of Log bytes = bytes_of (form_report log_form (lines bytes))
 report_of Load bytes = bytes_of (form_report load_form (lines bytes))
+report_of Map bytes = bytes_of (form_report map_form (lines bytes))
 report_of Session bytes = bytes_of (session_report as_applied (lines bytes))
 report_of (Gen settings) bytes = bytes_of (generated_lines settings)
 report_of (Play settings) bytes = bytes_of (play_lines settings)
@@ -55,6 +62,7 @@ report_of (Play settings) bytes = bytes_of (play_lines settings)
 abbrev pub opened_of : Form → List ℕ → List ℕ
 opened_of Log bytes = bytes_of (form_lines log_form (ended_lines bytes))
 opened_of Load bytes = bytes_of (form_lines load_form (ended_lines bytes))
+opened_of Map bytes = bytes_of (form_lines map_form (ended_lines bytes))
 opened_of Session bytes = bytes_of (session_lines as_applied (ended_lines bytes))
 opened_of _ bytes = []
 
@@ -62,6 +70,7 @@ opened_of _ bytes = []
 abbrev pub status_of : Form → List ℕ → Status
 status_of Log bytes = form_status log_form (form_after log_form (lines bytes))
 status_of Load bytes = form_status load_form (form_after load_form (lines bytes))
+status_of Map bytes = form_status map_form (form_after map_form (lines bytes))
 status_of Session bytes = form_status (session_form as_applied) (session_after as_applied (lines bytes))
 status_of (Gen settings) bytes = Done
 status_of (Play settings) bytes = play_status settings

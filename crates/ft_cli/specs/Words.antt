@@ -6,7 +6,7 @@ use Rattle.std.specs.Str.Parse.{digits_value}
 use Rattle.std.specs.declared.alloc.Global.{Global}
 use Rattle.std.specs.declared.string.String.{String}
 use Rattle.ft_cli.specs.declared.words.Form.{Form}
-use Rattle.ft_cli.specs.declared.words.Form.TheVariants.{Gen, Load, Log, Play, Session}
+use Rattle.ft_cli.specs.declared.words.Form.TheVariants.{Gen, Load, Log, Map, Play, Session}
 use Rattle.ft_cli.specs.declared.words.Settings.{Settings}
 
 -- the words, each by its bytes
@@ -53,7 +53,8 @@ abbrev pub form_of_word : List ℕ → Option Form
 form_of_word word =
     if bytes_eq word (codes "log") then Some Log
     else (if bytes_eq word (codes "load") then Some Load
-    else (if bytes_eq word (codes "session") then Some Session else None))
+    else (if bytes_eq word (codes "session") then Some Session
+    else (if bytes_eq word (codes "map") then Some Map else None)))
 
 -- the form that is one word with settings, if it is one
 abbrev pub form_with : List ℕ → Settings → Option Form

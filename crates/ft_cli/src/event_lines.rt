@@ -64,8 +64,10 @@ fn head_text(alloc: Global, name: &Text, view: &View) -> Result<String, OutOfMem
     Ok(text)
 }
 
-// That line up to the numbers.
-fn name_and_link(alloc: Global, name: &Text, link: Link) -> Result<String, OutOfMemory>
+/// That line up to the numbers, of the client of this name and link.
+///
+/// Answers `OutOfMemory` where there is no room for it.
+pub fn name_and_link(alloc: Global, name: &Text, link: Link) -> Result<String, OutOfMemory>
     ensures { IfOk result (λ text. string_bytes text ≡ codes "client " ++ (json_string name.now ++ (codes " " ++ link_word link))) }
 {
     let string = quote(alloc, name)?;

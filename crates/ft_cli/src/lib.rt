@@ -4,7 +4,8 @@
 //! refused, and what stands behind them. What hears the lines is a `Listener`: the walk over them is one
 //! for all forms. `log` reads sequenced messages, and shows at the end what an observer of them shows.
 //! `load` reads a summary first, with which its observer starts.
-//! `session` reads the events of clients and guests, and shows a client where one asks for it. `gen` writes
+//! `session` reads the events of clients and guests, and shows a client where one asks for it; `map` does so for clients over one
+//! shared map. `gen` writes
 //! the events of a generated session, and `play` what becomes of its clients. A status
 //! says how the run ended, and its code is what a program ends with.
 //!
@@ -15,6 +16,8 @@ pub mod event_lines;
 pub mod generated;
 pub mod listener;
 pub mod loading;
+pub mod map_lines;
+pub mod maps;
 pub mod observer;
 pub mod play;
 pub mod refusals;

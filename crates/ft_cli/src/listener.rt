@@ -29,7 +29,7 @@ pub trait Listener: Sized + Drop {
     ghost use Rattle.ft_io.specs.Reader.{input_limit};
     ghost use Rattle.ft_seqr.specs.Walk.{line_limit};
     ghost use Rattle.ft_cli.specs.LineForm.{LineForm, bytes_of};
-    ghost use Rattle.ft_cli.specs.Listening.{IsStep, counts_in};
+    ghost use Rattle.ft_cli.specs.Listening.{IsStep, counts_of};
 
     /// What lines make.
     ghost Made: { Type 0 };
@@ -73,7 +73,7 @@ pub trait Listener: Sized + Drop {
     fn view_text(&self) -> Result<String, OutOfMemory>
         ensures { (made : Made) → holds self.now made → IfOk result (λ text. string_bytes text ≡ bytes_of (form.shown made)) };
 
-    /// How many sub-operations were skipped, and how many messages were for others.
-    fn counts(&self) -> Counts
-        ensures { (made : Made) → holds self.now made → result ≡ counts_in (form.counted made) };
+    /// How many sub-operations were skipped, and how many messages were for others: None exactly where the form doesn't count these.
+    fn counts(&self) -> Option<Counts>
+        ensures { (made : Made) → holds self.now made → result ≡ counts_of (form.counted made) };
 }

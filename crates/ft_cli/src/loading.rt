@@ -67,12 +67,12 @@ impl<R: Replica + Drop> Listener for LoadRun<R> {
         }
     }
 
-    fn counts(&self) -> Counts {
+    fn counts(&self) -> Option<Counts> {
         match self {
-            LoadRun::Waiting { .. } => Counts {
+            LoadRun::Waiting { .. } => Some(Counts {
                 skipped: 0,
                 other: 0,
-            },
+            }),
             LoadRun::Observing { observer } => observer.counts(),
         }
     }

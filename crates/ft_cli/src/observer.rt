@@ -71,12 +71,12 @@ impl<R: Replica + Drop> Listener for Observer<R> {
         }
     }
 
-    fn counts(&self) -> Counts {
+    fn counts(&self) -> Option<Counts> {
         let numbers = self.replica.numbers();
-        Counts {
+        Some(Counts {
             skipped: numbers.skipped,
             other: numbers.other,
-        }
+        })
     }
 }
 

@@ -9,7 +9,7 @@ ghost use Rattle.ft_cli.specs.Writing.{WritesBytes};
 
 use crate::listener::{LINE_LIMIT, Listener, Told};
 use crate::refusals::refused_line;
-use crate::report::closing_text;
+use crate::report::{last_status, last_text};
 use crate::statuses::{Fault, Status};
 use crate::writing::put;
 use ft_base::OutOfMemory;
@@ -110,7 +110,7 @@ impl<L: Listener> Replay<L> {
             → IfOk result (λ text. string_bytes text ≡ bytes_of (form_end L.form at)) }
     {
         let mut text = self.listener.view_text()?;
-        let last = closing_text(alloc, self.refused, self.listener.counts())?;
+        let last = last_text(alloc, self.refused, self.listener.counts())?;
         text.push_str(last.as_str())?;
         Ok(text)
     }
@@ -120,11 +120,7 @@ impl<L: Listener> Replay<L> {
         ensures { (at : Progress L.Made) → Follows (L.holds self.now.listener) self.now.lines self.now.refused at
             → result ≡ form_status L.form at }
     {
-        if self.refused == 0 && self.listener.counts().skipped == 0 {
-            Status::Done
-        } else {
-            Status::SomeRefused
-        }
+        last_status(self.refused, self.listener.counts())
     }
 }
 

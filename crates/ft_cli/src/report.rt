@@ -1,11 +1,13 @@
-//! The last lines of a report.
+//! The last lines of a report, and the status behind it.
 
-ghost use Rattle.std.specs.Prelude.{◌≡◌, IfOk, string_bytes};
+ghost use Rattle.std.specs.Prelude.{◌≡◌, IfOk, Option, string_bytes};
 ghost use Rattle.ft_op.specs.Document.{Document};
 ghost use Rattle.ft_seqr.specs.SessionReport.{closing_lines};
-ghost use Rattle.ft_cli.specs.LineForm.{bytes_of};
-ghost use Rattle.ft_cli.specs.Listening.{counts_in};
+ghost use Rattle.ft_cli.specs.LineForm.{bytes_of, last_lines, last_status, refused_count, status_by};
+ghost use Rattle.ft_cli.specs.Listening.{counts_in, counts_of};
+ghost use Rattle.ft_io.specs.Lines.{with_lf};
 
+use crate::statuses::Status;
 use ft_base::OutOfMemory;
 use ft_session::Counts;
 use std::alloc::Global;
@@ -21,4 +23,45 @@ pub fn closing_text(alloc: Global, refused: u64, counts: Counts) -> Result<Strin
     let skipped = counts.skipped;
     let other = counts.other;
     Ok(format!(in alloc; "refused {refused}\nskipped {skipped}\nother {other}\n")?)
+}
+
+/// The last lines of a form that may tell no counts. Each has its LF.
+///
+/// Answers `OutOfMemory` where there is no room for them.
+pub fn last_text(alloc: Global, refused: u64, counts: Option<Counts>) -> Result<String, OutOfMemory>
+    ensures { (doc : Option Document) → counts ≡ counts_of doc → IfOk result (λ text. string_bytes text ≡ bytes_of (last_lines refused doc)) }
+{
+    match counts {
+        None => refused_text(alloc, refused),
+        Some(counts) => closing_text(alloc, refused, counts),
+    }
+}
+
+// The line that tells how many lines were refused, with its LF.
+#[tactic(auto, unfolding(crate::specs::LineForm::refused_count))]
+fn refused_text(alloc: Global, refused: u64) -> Result<String, OutOfMemory>
+    ensures { IfOk result (λ text. string_bytes text ≡ with_lf (refused_count refused)) }
+{
+    Ok(format!(in alloc; "refused {refused}\n")?)
+}
+
+/// The status behind a whole report: `Done` where no line was refused, and no sub-operation skipped if these are counted.
+pub fn last_status(refused: u64, counts: Option<Counts>) -> Status
+    ensures { (doc : Option Document) → counts ≡ counts_of doc → result ≡ last_status refused doc }
+{
+    match counts {
+        None => status_by(refused, 0),
+        Some(counts) => status_by(refused, counts.skipped),
+    }
+}
+
+// The status where so many lines were refused, and so many sub-operations skipped.
+fn status_by(refused: u64, skipped: u64) -> Status
+    ensures { result ≡ status_by refused skipped }
+{
+    if refused == 0 && skipped == 0 {
+        Status::Done
+    } else {
+        Status::SomeRefused
+    }
 }

@@ -15,6 +15,7 @@ use crate::RunReplica;
 use crate::generated::write_generated;
 use crate::listener::{LINE_LIMIT, Listener};
 use crate::loading::LoadRun;
+use crate::maps::MapRun;
 use crate::observer::Observer;
 use crate::play::write_play;
 use crate::replay::Replay;
@@ -63,6 +64,7 @@ pub fn run<S: Source, K: Sink>(
     match read_words(words) {
         Some(Form::Log) => listen::<Observer<RunReplica>, S, K>(alloc, src, out),
         Some(Form::Load) => listen::<LoadRun<RunReplica>, S, K>(alloc, src, out),
+        Some(Form::Map) => listen::<MapRun, S, K>(alloc, src, out),
         Some(Form::Session) => session(alloc, src, out),
         Some(Form::Gen(settings)) => ended(write_generated(alloc, settings, out)),
         Some(Form::Play(settings)) => ended(write_play(alloc, settings, out)),

@@ -64,8 +64,8 @@ impl Listener for SessionRun {
         Ok(String::new(self.alloc))
     }
 
-    fn counts(&self) -> Counts {
-        self.world.counts()
+    fn counts(&self) -> Option<Counts> {
+        Some(self.world.counts())
     }
 }
 

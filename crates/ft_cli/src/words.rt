@@ -26,6 +26,8 @@ pub enum Form {
     Load,
     /// `session`: it reads the events of a session, one a line, and writes what each of them writes.
     Session,
+    /// `map`: it reads the events of a session over one shared map, one a line, and writes what each of them writes.
+    Map,
     /// `gen`: it reads nothing, and writes the events of a generated session, one a line.
     Gen(Settings),
     /// `play`: it reads nothing, plays a generated session, and writes what became of its clients.
@@ -56,6 +58,7 @@ fn read_word(word: &str) -> Option<Form>
         "log" => Some(Form::Log),
         "load" => Some(Form::Load),
         "session" => Some(Form::Session),
+        "map" => Some(Form::Map),
         _ => None,
     }
 }
