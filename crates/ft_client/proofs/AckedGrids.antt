@@ -1,0 +1,229 @@
+-- The stages of an edit of the table acknowledged one after another: names go on to fit, and each renaming comes after those before.
+use Rattle.std.proofs.Common.{◌≡◌, ℕ, zero, suc, ◌+◌, ◌≤◌, ◌<◌, All, Bool, true, false, cond, nat_eq, List, [], ◌∷◌, ◌++◌, Option, Some, None, refl, sym, ◌∙◌, ap, subst, map, length, drop, get_or, arith, append-nil}
+use Rattle.std.proofs.Math.Seq.{drop-cons}
+use Rattle.std.specs.List.{AllByRecursion}
+use Rattle.std.proofs.lemmas.Bool.Decides.{nat_tests}
+use Rattle.std.proofs.lemmas.List.Elements.{All-from_recursion, recursion_from_All}
+use Rattle.ft_base.specs.Scan.{len}
+use Rattle.ft_op.specs.declared.operations.CellOp.TheVariants.{SpliceIn, SpliceOut, Set}
+use Rattle.ft_op.specs.declared.operations.Target.TheVariants.{Rows, Cols}
+use Rattle.ft_op.specs.Operation.{OnGrid, OnIntervals, OnText, SubOperation}
+use Rattle.ft_op.specs.Document.{Document}
+use Rattle.ft_op.specs.Intervals.{NamedElements}
+use Rattle.ft_op.specs.Stages.{Stage}
+use Rattle.ft_props.specs.Element.{ElementId}
+use Rattle.ft_props.specs.Steps.{Sequence, acked_id, acked_list, is_inserted_by}
+use Rattle.ft_msg.specs.Acknowledgement.{ack_stage, ack_stages, made_before, renamed, renamed_names, renamed_stage}
+use Rattle.ft_msg.specs.Indexed.{IndexedStage, indexed_stage}
+use Rattle.ft_laws.specs.Sequencing.{is_grid_stage}
+use Rattle.ft_names.specs.GridFacts.{AreCounted, IsCounted, grid_stages}
+use Rattle.ft_names.specs.WellNamed.{AreWellNamed, HasItsStages, IsWellNumbered, RiseTo}
+use Rattle.ft_names.proofs.AckedLists.{stage-count}
+use Rattle.ft_names.proofs.Beside.{ends, next}
+use Rattle.ft_names.proofs.ClientsAlike.{ClientsAlike}
+use Rattle.ft_names.proofs.Indexing.{alike-itself, well-named}
+use Rattle.ft_names.proofs.OwnAlike.{AckedEdits, edit-alike, put-in-back, put-in-renamed, rise-renamed, stages-twice}
+use Rattle.ft_matrix.specs.GridStates.{GridState}
+use Rattle.ft_matrix.specs.HoldsGrid.{HoldsGrid}
+use Rattle.ft_client.specs.declared.stages.OwnStage.{OwnStage}
+use Rattle.ft_client.specs.Acks.{AcksSome, HoldsAckedGrid}
+use Rattle.ft_client.specs.Parts.{own_stage}
+use Rattle.ft_client.proofs.Known.{client_of, named-of, one-edit}
+
+-- ---- renamed stages
+
+renamed-itself : (o : Option ElementId) → renamed (λ i. i) o ≡ o
+renamed-itself None = refl
+renamed-itself (Some a) = refl
+
+names-itself : (names : NamedElements) → renamed_names (λ i. i) names ≡ names
+names-itself names = rw (renamed-itself names.first, renamed-itself names.second) refl
+
+stages-itself : (ts : List Stage) → map (renamed_stage (λ i. i)) ts ≡ ts
+stages-itself [] = refl
+stages-itself (t ∷ ts) =
+    ap (λ n. record t { names = n } ∷ map (renamed_stage (λ i. i)) ts) (names-itself t.names) ∙ ap (λ us. t ∷ us) (stages-itself ts)
+
+rise-back : (f : ElementId → ElementId) (low last : ℕ) (ts : List Stage) → RiseTo low last (map (renamed_stage f) ts) → RiseTo low last ts
+rise-back f low last [] h = h
+rise-back f low last (t ∷ ts) h = (h.0, rise-back f t.stage last ts h.1)
+
+-- ---- one stage
+
+module _ (last s c : ℕ) (f : ElementId → ElementId) (t : Stage) (ts : List Stage) (doc : Document) where
+  abbrev later-name : ElementId → ElementId
+  later-name x = acked_id t.stage (made_before doc t.sub_operation) (f x)
+
+  acked-named : AreWellNamed last doc (map (renamed_stage f) (t ∷ ts)) → AreWellNamed last (ack_stage s c f t doc) (map (renamed_stage (λ x. later-name x)) ts)
+  acked-named h =
+      let later = ack_stage s c f t doc in
+      let us = map (renamed_stage (λ x. later-name x)) ts in
+      let own = subst (λ vs. HasItsStages vs later) (sym (append-nil us)) (put-in-renamed (λ x. later-name x) ts later e.own) in
+      let rise = subst (λ vs. RiseTo 0 last vs) (sym (append-nil us)) (rise-renamed (λ x. later-name x) 0 last ts e.rise) in
+      let both : ClientsAlike (client_of last later us) (client_of last later us) = record {
+        rest = refl;
+        doc = e.alike;
+        pending = next (record { stages = e.stages; ref_seq = refl; sent = refl }) ends;
+        own = own;
+        rise = rise;
+      } in
+      subst (λ vs. AreWellNamed last later vs) (append-nil us) (well-named (client_of last later us) (client_of last later us) both)
+    where
+      a : ClientsAlike (client_of last doc (map (renamed_stage f) (t ∷ ts))) (client_of last doc (map (renamed_stage f) (t ∷ ts)))
+      a = alike-itself (client_of last doc (map (renamed_stage f) (t ∷ ts))) (named-of last doc (map (renamed_stage f) (t ∷ ts)) h)
+
+      e : AckedEdits last 0 ts ts (ack_stages s c f (t ∷ []) doc) (ack_stages s c f (t ∷ []) doc)
+      e = edit-alike last s c 0 ts ts f f (t ∷ []) (t ∷ []) doc doc refl a.doc (one-edit doc doc _ _ a.pending) (put-in-back f (t ∷ ts) doc h.own) (rise-back f 0 last (t ∷ ts) h.rise)
+
+-- ---- the stages of an edit
+
+same-count : (k last s c : ℕ) (list : Sequence) (j : ℕ) → IsWellNumbered last list → k < j → len (is_inserted_by j) (acked_list k s c list).items ≡ len (is_inserted_by j) list.items
+same-count k last s c list j w l = stage-count last k s c list w j false (apart j l)
+  where
+    apart : (j : ℕ) → k < j → nat_eq j k ≡ false
+    apart j l = grind (arith, nat_tests)
+
+one-counted : (last s c : ℕ) (f : ElementId → ElementId) (t : Stage) (doc : Document) (j : ℕ) (o : SubOperation) → IsWellNumbered last doc.rows → IsWellNumbered last doc.cols → t.stage < j
+    → IsCounted doc j o → IsCounted (ack_stage s c f t doc) j o
+one-counted last s c f t doc j (OnText op) w v l g = tt
+one-counted last s c f t doc j (OnIntervals op) w v l g = tt
+one-counted last s c f t doc j (OnGrid (SpliceIn Rows i count)) w v l g = same-count t.stage last s c doc.rows j w l ∙ g
+one-counted last s c f t doc j (OnGrid (SpliceIn Cols i count)) w v l g = same-count t.stage last s c doc.cols j v l ∙ g
+one-counted last s c f t doc j (OnGrid (SpliceOut target i n)) w v l g = tt
+one-counted last s c f t doc j (OnGrid (Set i n value)) w v l g = tt
+
+later-counted : (last s c : ℕ) (f : ElementId → ElementId) (t : Stage) (doc : Document) (low : ℕ) (ts rest : List Stage) → IsWellNumbered last doc.rows → IsWellNumbered last doc.cols
+    → t.stage ≤ low → RiseTo low last (ts ++ rest) → AllByRecursion (λ (u : Stage). IsCounted doc u.stage u.sub_operation) ts
+    → AllByRecursion (λ (u : Stage). IsCounted (ack_stage s c f t doc) u.stage u.sub_operation) ts
+later-counted last s c f t doc low [] rest w v l r a = tt
+later-counted last s c f t doc low (u ∷ ts) rest w v l r a =
+    (one-counted last s c f t doc u.stage u.sub_operation w v (omega arith) a.0, later-counted last s c f t doc u.stage ts rest w v (omega arith) r.1 a.1)
+
+-- the stages of the grid rise with all
+lowest-stages : (doc : Document) (k low last : ℕ) (ts : List Stage) → k ≤ low → RiseTo low last ts → AllByRecursion (λ u. k ≤ u.stage) (grid_stages doc ts)
+lowest-stages doc k low last [] l r = tt
+lowest-stages doc k low last (t ∷ ts) l r =
+    let m = r.0 in
+    step (is_grid_stage t) (omega (arith, l, m)) (lowest-stages doc k t.stage last ts (omega (arith, l, m)) r.1)
+  where
+    step : (b : Bool) → k ≤ t.stage → AllByRecursion (λ u. k ≤ u.stage) (grid_stages doc ts) → AllByRecursion (λ u. k ≤ u.stage) (cond b (indexed_stage doc t ∷ grid_stages doc ts) (grid_stages doc ts))
+    step true g a = (g, a)
+    step false g a = a
+
+module _ (last s c : ℕ) (doc : Document) (mine rest : List Stage) where
+  pub none-acked-yet : (g : GridState) → AreWellNamed last doc (mine ++ rest) → HoldsGrid g doc (mine ++ rest) → AreCounted doc mine → AcksSome last s c g doc mine mine rest
+  none-acked-yet g w h n = record {
+    between = doc;
+    rename = λ i. i;
+    named = subst (λ ts. AreWellNamed last doc ts) (sym (stages-itself (mine ++ rest))) w;
+    holds = subst (λ ts. HoldsGrid g doc ts) (sym (stages-itself (mine ++ rest))) h;
+    same = refl;
+    counted = recursion_from_All (λ (t : Stage). IsCounted doc t.stage t.sub_operation) mine n;
+  }
+
+  module _ (t : Stage) (ts : List Stage) (old : GridState) (p : AcksSome last s c old doc mine (t ∷ ts) rest) where
+    -- the next stage is the lowest
+    pub next-lowest : All (λ u. t.stage ≤ u.stage) old.stages
+    next-lowest =
+        let r = p.named.rise in
+        subst (λ us. All (λ (u : IndexedStage). t.stage ≤ u.stage) us) p.holds.stages
+        (All-from_recursion (λ (u : IndexedStage). t.stage ≤ u.stage) (grid_stages p.between (map (renamed_stage p.rename) (t ∷ (ts ++ rest))))
+        (first-lowest (is_grid_stage t) (lowest-stages p.between t.stage t.stage last (map (renamed_stage p.rename) (ts ++ rest)) (omega arith) r.1)))
+      where
+        first-lowest : (b : Bool) → AllByRecursion (λ u. t.stage ≤ u.stage) (grid_stages p.between (map (renamed_stage p.rename) (ts ++ rest)))
+            → AllByRecursion (λ u. t.stage ≤ u.stage) (cond b (indexed_stage p.between (renamed_stage p.rename t) ∷ grid_stages p.between (map (renamed_stage p.rename) (ts ++ rest)))
+            (grid_stages p.between (map (renamed_stage p.rename) (ts ++ rest))))
+        first-lowest true a = (omega arith, a)
+        first-lowest false a = a
+
+    pub next-counted : AreCounted p.between (renamed_stage p.rename t ∷ [])
+    next-counted = All-from_recursion (λ (u : Stage). IsCounted p.between u.stage u.sub_operation) (renamed_stage p.rename t ∷ []) (p.counted.0, tt)
+
+    pub one-more-acked : (new : GridState) → HoldsAckedGrid new s c (renamed_stage p.rename t ∷ []) (map (renamed_stage p.rename) (ts ++ rest)) p.between
+        → AcksSome last s c new doc mine ts rest
+    one-more-acked new g =
+        let later = ack_stage s c p.rename t p.between in
+        let k = made_before p.between t.sub_operation in
+        let same : ack_stage s c (λ i. i) (renamed_stage p.rename t) p.between ≡ later
+        = same-stage in
+        record {
+          between = later;
+          rename = λ x. acked_id t.stage k (p.rename x);
+          named = acked-named last s c p.rename t (ts ++ rest) p.between p.named;
+          holds = subst (λ us. HoldsGrid new later us) (stages-twice p.rename (acked_id t.stage k) (ts ++ rest))
+              (subst (λ d. HoldsGrid new d (map (renamed_stage (acked_id t.stage k)) (map (renamed_stage p.rename) (ts ++ rest)))) same g);
+          same = p.same;
+          counted = later-counted last s c p.rename t p.between t.stage ts rest p.named.rows p.named.cols (omega arith) (rise-back p.rename t.stage last (ts ++ rest) p.named.rise.1) p.counted.1;
+        }
+      where
+        same-stage : ack_stage s c (λ i. i) (renamed_stage p.rename t) p.between ≡ ack_stage s c p.rename t p.between
+        same-stage = rw (names-itself (renamed_names p.rename t.names)) refl
+
+  pub all-acked : (g : GridState) → AcksSome last s c g doc mine [] rest → HoldsAckedGrid g s c mine rest doc
+  all-acked g p =
+      let same : (p.between, p.rename) ≡ ack_stages s c (λ i. i) mine doc = p.same in
+      subst (λ r. HoldsGrid g r.0 (map (renamed_stage r.1) rest)) same p.holds
+
+-- the stage at a place
+pub record IsNextStage (mine : List Stage) (i : ℕ) (x : OwnStage) : Type 0 where
+  pub stage : Stage
+  pub left : List Stage
+  pub is : drop i mine ≡ stage ∷ left
+  pub after : drop (i + 1) mine ≡ left
+  pub number : stage.stage ≡ x.stage
+
+pub next-stage : (mine : List Stage) (own : List OwnStage) (i : ℕ) (x : OwnStage) (more : List OwnStage) → map own_stage mine ≡ own → drop i own ≡ x ∷ more → IsNextStage mine i x
+next-stage [] own i x more e d = absurd (none i (ap (drop i) e ∙ d))
+  where
+    none : (i : ℕ) → drop i [] ≡ x ∷ more → ⊥
+    none zero g = (cc)
+    none (suc i) g = (cc)
+next-stage (t ∷ mine) own zero x more e d =
+    let first : own_stage t ≡ x = (cc) in
+    record { stage = t; left = mine; is = refl; after = refl; number = ap (λ (o : OwnStage). o.stage) first }
+next-stage (t ∷ mine) own (suc i) x more e d =
+    let n = next-stage mine (map own_stage mine) i x more refl (ap (drop (suc i)) e ∙ d) in
+    record { stage = n.stage; left = n.left; is = n.is; after = ap (λ m. drop m (t ∷ mine)) (up i) ∙ n.after; number = n.number }
+  where
+    up : (m : ℕ) → suc m + 1 ≡ suc (m + 1)
+    up m = omega arith
+
+ahead : (own : List OwnStage) (i : ℕ) (x d : OwnStage) → i < length own → x ≡ get_or own i d → drop i own ≡ x ∷ drop (i + 1) own
+ahead own i x d l e =
+    let up : suc i ≡ i + 1 = omega arith in
+    drop-cons own i d l ∙ ap (λ y. y ∷ drop (suc i) own) (sym e) ∙ ap (λ n. x ∷ drop n own) up
+
+module _ (last s c : ℕ) (doc : Document) (mine rest : List Stage) (own : List OwnStage) (i : ℕ) (x d : OwnStage) (old : GridState) (n : map own_stage mine ≡ own)
+    (l : i < length own) (e : x ≡ get_or own i d) where
+  at-place : IsNextStage mine i x
+  at-place = next-stage mine own i x (drop (i + 1) own) n (ahead own i x d l e)
+
+  -- the stage at that place is the lowest
+  pub item-lowest : AcksSome last s c old doc mine (drop i mine) rest → All (λ u. x.stage ≤ u.stage) old.stages
+  item-lowest p =
+      subst (λ k. All (λ (u : IndexedStage). k ≤ u.stage) old.stages) at-place.number
+      (next-lowest last s c doc mine rest at-place.stage at-place.left old (subst (λ ts. AcksSome last s c old doc mine ts rest) at-place.is p))
+
+  abbrev pub AcksNext : GridState → Type 0
+  AcksNext new = (last : ℕ) (doc : Document) (t : Stage) (rest : List Stage) → t.stage ≡ x.stage → AreWellNamed last doc (t ∷ rest) → AreCounted doc (t ∷ [])
+      → HoldsGrid old doc (t ∷ rest) → HoldsAckedGrid new s c (t ∷ []) rest doc
+
+  pub acked-next : (new : GridState) → AcksNext new → AcksSome last s c old doc mine (drop i mine) rest → AcksSome last s c new doc mine (drop (i + 1) mine) rest
+  acked-next new f p =
+      let q = subst (λ ts. AcksSome last s c old doc mine ts rest) at-place.is p in
+      subst (λ ts. AcksSome last s c new doc mine ts rest) (sym at-place.after)
+      (one-more-acked last s c doc mine rest at-place.stage at-place.left old q new
+      (f last q.between (renamed_stage q.rename at-place.stage) (map (renamed_stage q.rename) (at-place.left ++ rest)) at-place.number q.named
+      (next-counted last s c doc mine rest at-place.stage at-place.left old q) q.holds))
+
+none-behind : (mine : List Stage) (own : List OwnStage) (i : ℕ) → map own_stage mine ≡ own → drop i own ≡ [] → drop i mine ≡ []
+none-behind [] own zero e d = refl
+none-behind [] own (suc i) e d = refl
+none-behind (t ∷ mine) own zero e d =
+    let never : own_stage t ∷ map own_stage mine ≡ [] = e ∙ d in
+    (cc)
+none-behind (t ∷ mine) own (suc i) e d = none-behind mine (map own_stage mine) i refl (ap (drop (suc i)) e ∙ d)
+
+pub acked-last : (last s c : ℕ) (doc : Document) (mine rest : List Stage) (own : List OwnStage) (i : ℕ) (g : GridState) → map own_stage mine ≡ own → drop i own ≡ []
+    → AcksSome last s c g doc mine (drop i mine) rest → HoldsAckedGrid g s c mine rest doc
+acked-last last s c doc mine rest own i g e d p = all-acked last s c doc mine rest g (subst (λ ts. AcksSome last s c g doc mine ts rest) (none-behind mine own i e d) p)

@@ -1,0 +1,152 @@
+//! The acknowledgement of the client's own messages.
+
+ghost use Rattle.std.specs.Prelude.{◌≡◌, ◌∷◌, [], All, ◌≤◌, ◌<◌, ◌^◌, ◌++◌, ℕ, IfOk, IsTrue, List, None, OnOk, drop, length, map, take, true};
+ghost use Rattle.std.specs.List.{list_all};
+ghost use Rattle.ft_op.specs.Stages.{Stage};
+ghost use Rattle.ft_op.specs.Document.{Document};
+ghost use Rattle.ft_msg.specs.Client.{stages_of};
+ghost use Rattle.ft_msg.specs.Process.{process_fault};
+ghost use Rattle.ft_msg.specs.WellFormed.{IsWellFormedMessage};
+ghost use Rattle.ft_names.specs.GridFacts.{AreCounted};
+ghost use Rattle.ft_names.specs.WellNamed.{AreWellNamed};
+ghost use Rattle.ft_replica.specs.Own.{HeldDocument, HoldsOne, NamesFit, acknowledged};
+ghost use Rattle.ft_matrix.specs.HoldsGrid.{HoldsGrid};
+ghost use Rattle.ft_string.specs.Calls.{HoldsOldest};
+ghost use Rattle.ft_client.specs.Acks.{AcksPart, HoldsAckedGrid, HoldsFrontGrid, next_stage};
+ghost use Rattle.ft_client.specs.Holds.{HoldsTree};
+ghost use Rattle.ft_client.specs.Parts.{is_grid_part, is_text_part, own_stage};
+ghost use Rattle.ft_matrix.specs.Conditions.{KeepsRest as KeepsGrid};
+
+use crate::own::TreeOwn;
+use crate::stages::{OwnStage, Part};
+use ft_base::OutOfMemory;
+use ft_matrix::SharedMatrix;
+use ft_msg::Entry;
+use std::alloc::Global;
+use std::collections::VecDeque;
+
+impl TreeOwn {
+    /// Takes the client's own message: its first `count` stages become sequenced. They are of one edit, so of one part.
+    ///
+    /// Answers `OutOfMemory` where there is no room, or they aren't of one part.
+    pub(crate) fn acknowledge(&mut self, count: usize, entry: &Entry) -> Result<(), OutOfMemory>
+        requires formed { IsWellFormedMessage entry.now.msg }
+        requires known { HoldsOne HoldsTree self.old (λ p. (process_fault p entry.now ≡ None) × (count ≤ length (stages_of p))) }
+        ensures { (held : HeldDocument) (own rest : List Stage) → NamesFit held → held.stages ≡ own ++ rest → length own ≡ count → HoldsTree self.old held
+            → OnOk result (HoldsTree self.new (acknowledged entry.now own rest held)) }
+    {
+        let own = take_front(self.text.allocator(), &mut self.stages, count)?;
+        let end = next_stage(&self.stages, self.numbers.last())?;
+        self.ack_own(own.as_slice(), end, entry)?;
+        self.numbers.take(entry);
+        Ok(())
+    }
+
+    /// Acknowledges these stages, which are the lowest: those of the text are the ones below `end`.
+    ///
+    /// Answers `OutOfMemory` where there is no room, or they aren't of one part.
+    fn ack_own(&mut self, own: &[OwnStage], end: u64, entry: &Entry) -> Result<(), OutOfMemory>
+        requires text_usable { self.old.text.usable ≡ true }
+        requires table_usable { self.old.table.usable ≡ true }
+        requires text_given { self.old.text.given ≡ 0 }
+        requires table_given { self.old.table.given ≡ 0 }
+        requires of_text { list_all (λ t. is_text_part t.part) own.now ≡ true → (last : ℕ) × HoldsOldest last 0 end self.old.text }
+        requires of_grid { list_all (λ t. is_grid_part t.part) own.now ≡ true → (last : ℕ) × HoldsFrontGrid last own.now self.old.table }
+        ensures { OnOk result (AcksPart own.now end entry.now.msg.seq entry.now.origin self.old self.new) }
+    {
+        if are_of_text(own) {
+            self.text.ack(0, end, entry.msg.seq, entry.origin)
+        } else if are_of_grid(own) {
+            ack_table(&mut self.table, own, entry.msg.seq, entry.origin)
+        } else {
+            Err(OutOfMemory)
+        }
+    }
+}
+
+/// The number of the first stage, or else that of the next one to come.
+///
+/// Answers `OutOfMemory` where that would pass 2^64 - 1.
+fn next_stage(stages: &VecDeque<OwnStage>, last: u64) -> Result<u64, OutOfMemory>
+    ensures { IfOk result (λ k. k ≡ next_stage stages.now.items last) }
+{
+    match stages.front() {
+        Some(stage) => Ok(stage.stage),
+        None => last.checked_add(1).ok_or(OutOfMemory),
+    }
+}
+
+/// Takes the first `count` stages off.
+///
+/// Answers `OutOfMemory` where there is no room for them.
+fn take_front(
+    alloc: Global,
+    stages: &mut VecDeque<OwnStage>,
+    count: usize,
+) -> Result<Vec<OwnStage>, OutOfMemory>
+    requires { count ≤ length stages.old.items }
+    ensures own { IfOk result (λ own. own.items ≡ take count stages.old.items) }
+    ensures rest { OnOk result (stages.new.items ≡ drop count stages.old.items) }
+{
+    let mut own = Vec::new(alloc);
+    for _i in 0..count {
+        let stage = stages.pop_front().ok_or(OutOfMemory)?;
+        own.push(stage)?;
+    }
+    Ok(own)
+}
+
+/// Whether all stages are of the text.
+fn are_of_text(stages: &[OwnStage]) -> bool
+    ensures { result ≡ list_all (λ t. is_text_part t.part) stages.now }
+{
+    stages.iter().all(|t| t.part != Part::Grid)
+}
+
+/// Whether all stages are of the grid.
+fn are_of_grid(stages: &[OwnStage]) -> bool
+    ensures { result ≡ list_all (λ t. is_grid_part t.part) stages.now }
+{
+    stages.iter().all(|t| t.part == Part::Grid)
+}
+
+/// Acknowledges stages of the table, which are the lowest, under number `seq` of connection `conn`.
+///
+/// Answers `OutOfMemory` where there is no room for what they make.
+fn ack_table(
+    table: &mut SharedMatrix,
+    own: &[OwnStage],
+    seq: u64,
+    conn: u32,
+) -> Result<(), OutOfMemory>
+    requires usable { IsTrue table.old.usable }
+    requires none_given { table.old.given ≡ 0 }
+    requires held { (last : ℕ) × HoldsFrontGrid last own.now table.old }
+    ensures acked { (last : ℕ) (doc : Document) (mine rest : List Stage) → map own_stage mine ≡ own.now → AreWellNamed last doc (mine ++ rest) → AreCounted doc mine
+        → HoldsGrid table.old doc (mine ++ rest) → OnOk result (HoldsAckedGrid table.new seq conn mine rest doc) }
+    ensures rest { OnOk result (KeepsGrid table.old table.new) }
+{
+    for stage in own {
+        ack_one(table, stage, seq, conn)?;
+    }
+    Ok(())
+}
+
+/// Acknowledges a stage of the table, which is the lowest.
+///
+/// Answers `OutOfMemory` where there is no room for what it makes.
+fn ack_one(
+    table: &mut SharedMatrix,
+    stage: &OwnStage,
+    seq: u64,
+    conn: u32,
+) -> Result<(), OutOfMemory>
+    requires usable { IsTrue table.old.usable }
+    requires none_given { table.old.given ≡ 0 }
+    requires lowest { All (λ t. stage.now.stage ≤ t.stage) table.old.stages }
+    ensures acked { (last : ℕ) (doc : Document) (t : Stage) (rest : List Stage) → t.stage ≡ stage.now.stage → AreWellNamed last doc (t ∷ rest) → AreCounted doc (t ∷ [])
+        → HoldsGrid table.old doc (t ∷ rest) → OnOk result (HoldsAckedGrid table.new seq conn (t ∷ []) rest doc) }
+    ensures rest { OnOk result (KeepsGrid table.old table.new) }
+{
+    table.ack(stage.stage, 1, seq, conn)
+}

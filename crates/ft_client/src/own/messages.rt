@@ -1,0 +1,132 @@
+//! Messages of other clients.
+
+ghost use Rattle.std.specs.Prelude.{◌≡◌, ◌<◌, ◌≤◌, None, IfOk, OnOk, ◌+◌};
+ghost use Rattle.ft_op.specs.declared.operations.ChannelOp.{ChannelOp};
+ghost use Rattle.ft_op.specs.Document.{effects};
+ghost use Rattle.ft_op.specs.Operation.{sub_operations};
+ghost use Rattle.ft_op.specs.WellFormed.{IsWellFormed};
+ghost use Rattle.ft_msg.specs.Agreed.{reference_number};
+ghost use Rattle.ft_msg.specs.Client.{floor};
+ghost use Rattle.ft_msg.specs.Process.{process_fault};
+ghost use Rattle.ft_msg.specs.WellFormed.{IsWellFormedMessage};
+ghost use Rattle.ft_replica.specs.Own.{HeldDocument, HoldsOne, NamesFit, with_entry};
+ghost use Rattle.ft_client.specs.Holds.{HoldsTree, with_body};
+
+use crate::own::TreeOwn;
+use ft_base::{OutOfMemory, Perspective, Steps};
+use ft_msg::{Body, Entry, Message};
+use ft_op::{ChannelOp, GridOp};
+use std::sync::ledger::{Blank, Ledger};
+
+impl TreeOwn {
+    /// Takes a message of another client, or one without an operation.
+    ///
+    /// Answers `OutOfMemory` where there is no room, or a count would pass its greatest number.
+    pub(crate) fn take_in<G: Ledger>(
+        &mut self,
+        entry: &Entry,
+        blank: Blank,
+    ) -> Result<(), OutOfMemory>
+        requires name { blank.name ≡ G.name }
+        requires parts { blank.parts ≡ G.parts }
+        requires one { 0 < blank.parts }
+        requires formed { IsWellFormedMessage entry.now.msg }
+        requires known { HoldsOne HoldsTree self.old (λ p. process_fault p entry.now ≡ None) }
+        ensures { (held : HeldDocument) → NamesFit held → HoldsTree self.old held → OnOk result (HoldsTree self.new (with_entry entry.now held)) }
+    {
+        self.take_body::<G>(entry, blank)?;
+        self.numbers.take(entry);
+        Ok(())
+    }
+
+    /// The same, but that the numbers of the last message stay.
+    fn take_body<G: Ledger>(&mut self, entry: &Entry, blank: Blank) -> Result<(), OutOfMemory>
+        requires name { blank.name ≡ G.name }
+        requires parts { blank.parts ≡ G.parts }
+        requires one { 0 < blank.parts }
+        requires formed { IsWellFormedMessage entry.now.msg }
+        requires known { HoldsOne HoldsTree self.old (λ p. process_fault p entry.now ≡ None) }
+        ensures { (held : HeldDocument) → NamesFit held → HoldsTree self.old held → OnOk result (HoldsTree self.new (with_body entry.now held)) }
+    {
+        match &entry.msg.body {
+            Body::Nothing => Ok(()),
+            Body::Op(op) => {
+                let at = Perspective {
+                    r: reference_number(&entry.msg),
+                    c: entry.origin,
+                };
+                let mut steps = Steps::<G>::new(blank);
+                self.apply(op, entry.msg.seq, at, &mut steps)
+            }
+            Body::Elsewhere(_) => self.numbers.count_other(),
+        }
+    }
+
+    /// Applies an operation under number `seq`.
+    ///
+    /// Answers `OutOfMemory` where there is no room, or a count would pass its greatest number.
+    fn apply<G: Ledger>(
+        &mut self,
+        op: &ChannelOp,
+        seq: u64,
+        at: Perspective,
+        steps: &mut Steps<G>,
+    ) -> Result<(), OutOfMemory>
+        requires formed { IsWellFormed op.now }
+        requires known { HoldsOne HoldsTree self.old (λ p. floor p ≤ at.r) }
+        ensures { (held : HeldDocument) → NamesFit held → HoldsTree self.old held
+            → OnOk result (HoldsTree self.new (record held { doc = effects held.doc seq at.c at.r (sub_operations op.now) })) }
+    {
+        match op {
+            ChannelOp::Text(op) => {
+                let skipped = self.text.apply(op, seq, at, steps)?;
+                self.numbers.skip(skipped)
+            }
+            ChannelOp::Grid(op) => self.apply_grid(op, seq, at, steps),
+        }
+    }
+
+    /// Applies an operation of the table under number `seq`.
+    ///
+    /// Answers `OutOfMemory` where there is no room, or a count would pass its greatest number.
+    fn apply_grid<G: Ledger>(
+        &mut self,
+        op: &GridOp,
+        seq: u64,
+        at: Perspective,
+        steps: &mut Steps<G>,
+    ) -> Result<(), OutOfMemory>
+        requires formed { IsWellFormed (ChannelOp.Grid op.now) }
+        requires known { HoldsOne HoldsTree self.old (λ p. floor p ≤ at.r) }
+        ensures { (held : HeldDocument) → NamesFit held → HoldsTree self.old held
+            → OnOk result (HoldsTree self.new (record held { doc = effects held.doc seq at.c at.r (sub_operations (ChannelOp.Grid op.now)) })) }
+    {
+        let rows = self.table.rows_made();
+        let cols = self.table.cols_made();
+        let skipped = self.table.apply(op, seq, at, steps)?;
+        let rows = more(rows, self.table.rows_made())?;
+        let cols = more(cols, self.table.cols_made())?;
+        self.numbers.count_units(rows, cols)?;
+        self.numbers.skip(skipped)
+    }
+}
+
+/// How many more the second number is than the first.
+///
+/// Answers `OutOfMemory` where it is less, which a count never is that was the first before.
+fn more(before: u64, after: u64) -> Result<u64, OutOfMemory>
+    ensures { IfOk result (λ n. after ≡ before + n) }
+{
+    after.checked_sub(before).ok_or(OutOfMemory)
+}
+
+/// The reference number of a message as a count: nothing is known to one below 0.
+fn reference_number(msg: &Message) -> u64
+    ensures { result ≡ reference_number msg.now.ref_seq }
+{
+    if msg.ref_seq < 0 {
+        0
+    } else {
+        msg.ref_seq as u64
+    }
+}

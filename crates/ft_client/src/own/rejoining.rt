@@ -1,0 +1,297 @@
+//! The client's own join: its pending edits are sent again, and their elements are put in afresh.
+
+ghost use Rattle.std.specs.Prelude.{◌≡◌, ◌∷◌, ◌++◌, [], ℕ, IfOk, List, None, OnOk, cond, flat_map, length, map, nat_eq, true};
+ghost use Rattle.std.specs.Option.{option_map};
+ghost use Rattle.ft_op.specs.declared.operations.ChannelOp.TheVariants.{Grid, Text};
+ghost use Rattle.ft_op.specs.Document.{Document};
+ghost use Rattle.ft_op.specs.Stages.{Stage};
+ghost use Rattle.ft_msg.specs.Agreed.{with_numbers};
+ghost use Rattle.ft_msg.specs.Process.{process_fault};
+ghost use Rattle.ft_msg.specs.WellFormed.{IsWellFormedMessage};
+ghost use Rattle.ft_replica.specs.Own.{HeldDocument, HoldsOne, NamesFit, rejoined, resent};
+ghost use Rattle.ft_client.specs.Holds.{HoldsTree};
+ghost use Rattle.ft_client.specs.Parts.{is_text_part};
+ghost use Rattle.ft_client.specs.Rejoins.{AddsPieces, GivesEdit, GivesEdits, GivesFirst, GivesNext, GivesPart, GivesSome, GivesStage, GivesTree, Joins, base_ops, cell_ops, may_stand};
+
+use crate::own::TreeOwn;
+use crate::stages::{OwnStage, Part};
+use ft_base::OutOfMemory;
+use ft_msg::Entry;
+use ft_op::{BaseOp, BaseOps, CellOp, CellOps, ChannelOp, GridOp, TextOp};
+use ft_replica::Resent;
+use std::alloc::Global;
+use std::collections::VecDeque;
+
+impl TreeOwn {
+    /// Takes the client's own join: its pending edits, which have so many stages each, go on as they are sent again.
+    ///
+    /// Answers `OutOfMemory` where there is no room.
+    pub(crate) fn rejoin_all(
+        &mut self,
+        counts: &[usize],
+        entry: &Entry,
+    ) -> Result<VecDeque<Resent>, OutOfMemory>
+        requires formed { IsWellFormedMessage entry.now.msg }
+        requires known { HoldsOne HoldsTree self.old (λ p. (process_fault p entry.now ≡ None) × (map (λ e. length e.stages) p.pending ≡ counts.now)) }
+        ensures { (held : HeldDocument) (edits : List (List Stage)) → NamesFit held → held.stages ≡ flat_map (λ stages. stages) edits
+            → map (λ stages. length stages) edits ≡ counts.now → HoldsTree self.old held
+            → IfOk result (λ v. (v.items ≡ map (resent (with_numbers entry.now held.doc)) edits) × HoldsTree self.new (rejoined entry.now held)) }
+    {
+        let again = self.give_edits(counts)?;
+        self.text.normalise()?;
+        self.table.normalise()?;
+        self.numbers.take(entry);
+        Ok(again)
+    }
+
+    /// Gives the next edits, which have so many stages each, and answers as what they are sent again.
+    ///
+    /// Answers `OutOfMemory` where there is no room for them.
+    fn give_edits(&mut self, counts: &[usize]) -> Result<VecDeque<Resent>, OutOfMemory>
+        requires known { GivesEdits self.old counts.now }
+        ensures { (low last : ℕ) (doc : Document) (edits : List (List Stage)) → map (λ stages. length stages) edits ≡ counts.now
+            → GivesTree self.old low last doc [] (flat_map (λ stages. stages) edits)
+            → IfOk result (λ again. (again.items ≡ map (resent doc) edits) × GivesTree self.new low last doc (flat_map (λ stages. stages) edits) []) }
+    {
+        let mut again = VecDeque::new(self.text.allocator());
+        for count in counts {
+            let edit = self.give_edit(*count)?;
+            again.push_back(edit)?;
+        }
+        Ok(again)
+    }
+
+    /// Gives the next edit, which has so many stages, and answers as what it is sent again.
+    ///
+    /// Answers `OutOfMemory` where there is no room for it.
+    fn give_edit(&mut self, count: usize) -> Result<Resent, OutOfMemory>
+        requires known { GivesSome self.old count }
+        ensures { (low last : ℕ) (doc : Document) (front mine rest : List Stage) → length mine ≡ count → GivesTree self.old low last doc front (mine ++ rest)
+            → IfOk result (λ again. GivesEdit self.new low last doc front mine rest (nat_eq count 1) again) }
+    {
+        let mut again = Resent {
+            op: None,
+            stages: 0,
+        };
+        for _i in 0..count {
+            again = self.give_more(again, count == 1)?;
+        }
+        Ok(again)
+    }
+
+    /// Gives the next stage of an edit that is sent again as this so far. One of the intervals stands alone.
+    ///
+    /// Answers `OutOfMemory` where there is no room for it.
+    fn give_more(&mut self, again: Resent, alone: bool) -> Result<Resent, OutOfMemory>
+        requires known { GivesNext self.old alone again }
+        ensures { (low last : ℕ) (doc : Document) (front mine : List Stage) (t : Stage) (rest : List Stage) → (alone ≡ true → mine ≡ [])
+            → GivesEdit self.old low last doc front mine (t ∷ rest) alone again
+            → IfOk result (λ v. GivesEdit self.new low last doc front (mine ++ t ∷ []) rest alone v) }
+    {
+        let op = self.give_stage(alone)?;
+        let again = with_pieces(self.text.allocator(), again, op)?;
+        Ok(again)
+    }
+
+    /// Gives the next stage, and answers its pieces as one operation: None where it has none, and then it is gone. One of the
+    /// intervals stands alone.
+    ///
+    /// Answers `OutOfMemory` where there is no room for it, or its number is the last one.
+    fn give_stage(&mut self, alone: bool) -> Result<Option<ChannelOp>, OutOfMemory>
+        requires known { GivesSome self.old 1 }
+        ensures { (low last : ℕ) (doc : Document) (front : List Stage) (t : Stage) (rest : List Stage) → GivesTree self.old low last doc front (t ∷ rest)
+            → IfOk result (λ op. GivesStage self.new low last doc front t rest alone op) }
+    {
+        let stage = take_next(&mut self.stages, alone)?;
+        let op = self.give_part(stage)?;
+        put_behind(&mut self.stages, stage, op.is_some())?;
+        Ok(op)
+    }
+
+    /// Gives this stage to its part, and answers its pieces as one operation.
+    ///
+    /// Answers `OutOfMemory` where there is no room for it, or its number is the last one.
+    fn give_part(&mut self, stage: OwnStage) -> Result<Option<ChannelOp>, OutOfMemory>
+        requires known { GivesFirst self.old stage }
+        ensures { IfOk result (λ op. GivesPart stage op self.old self.new) }
+    {
+        if stage.stage.checked_add(1).is_none() {
+            return Err(OutOfMemory);
+        }
+        if is_of_text(stage.part) {
+            let op = self.text.reconnect(stage.stage, 1)?;
+            Ok(text_again(op))
+        } else {
+            let op = self.table.reconnect(stage.stage, 1)?;
+            Ok(grid_again(op))
+        }
+    }
+}
+
+/// Takes the next stage off. One of the intervals stands alone.
+///
+/// Answers `OutOfMemory` where there is none, or it may not stand there.
+fn take_next(stages: &mut VecDeque<OwnStage>, alone: bool) -> Result<OwnStage, OutOfMemory>
+    ensures { IfOk result (λ t. (stages.old.items ≡ t ∷ stages.new.items) × (may_stand t.part alone ≡ true)) }
+{
+    let stage = stages.pop_front().ok_or(OutOfMemory)?;
+    if !may_stand(stage.part, alone) {
+        return Err(OutOfMemory);
+    }
+    Ok(stage)
+}
+
+/// Puts a stage that goes on behind the others.
+///
+/// Answers `OutOfMemory` where there is no room for it.
+fn put_behind(
+    stages: &mut VecDeque<OwnStage>,
+    stage: OwnStage,
+    more: bool,
+) -> Result<(), OutOfMemory>
+    ensures { OnOk result (stages.new.items ≡ cond more (stages.old.items ++ stage ∷ []) stages.old.items) }
+{
+    if !more {
+        return Ok(());
+    }
+    stages.push_back(stage)?;
+    Ok(())
+}
+
+/// Whether a stage on this part may be one of several or stand alone.
+fn may_stand(part: Part, alone: bool) -> bool
+    ensures { result ≡ may_stand part alone }
+{
+    match part {
+        Part::Intervals => alone,
+        Part::Elements | Part::Grid => true,
+    }
+}
+
+/// Whether this part is one of the text.
+fn is_of_text(part: Part) -> bool
+    ensures { result ≡ is_text_part part }
+{
+    match part {
+        Part::Elements | Part::Intervals => true,
+        Part::Grid => false,
+    }
+}
+
+/// An operation on the text, if there is one.
+fn text_again(op: Option<TextOp>) -> Option<ChannelOp>
+    ensures { result ≡ option_map Text op }
+{
+    match op {
+        None => None,
+        Some(op) => Some(ChannelOp::Text(op)),
+    }
+}
+
+/// An operation on the grid, if there is one.
+fn grid_again(op: Option<GridOp>) -> Option<ChannelOp>
+    ensures { result ≡ option_map Grid op }
+{
+    match op {
+        None => None,
+        Some(op) => Some(ChannelOp::Grid(op)),
+    }
+}
+
+/// The edit with the pieces of one stage more, if it has some.
+///
+/// Answers `OutOfMemory` where there is no room for them, or they are of another part.
+fn with_pieces(alloc: Global, again: Resent, op: Option<ChannelOp>) -> Result<Resent, OutOfMemory>
+    ensures { IfOk result (λ v. AddsPieces again op v) }
+{
+    let Some(op) = op else {
+        return Ok(again);
+    };
+    let stages = again.stages.checked_add(1).ok_or(OutOfMemory)?;
+    let op = match again.op {
+        None => op,
+        Some(first) => join(alloc, first, op)?,
+    };
+    Ok(Resent {
+        op: Some(op),
+        stages,
+    })
+}
+
+/// Both operations as one.
+///
+/// Answers `OutOfMemory` where there is no room for it, or they aren't of one part.
+fn join(alloc: Global, first: ChannelOp, second: ChannelOp) -> Result<ChannelOp, OutOfMemory>
+    ensures { IfOk result (λ op. Joins first second op) }
+{
+    match (first, second) {
+        (ChannelOp::Text(first), ChannelOp::Text(second)) => {
+            let mut ops = BaseOps::new(alloc);
+            push_base_ops(&mut ops, first)?;
+            push_base_ops(&mut ops, second)?;
+            Ok(ChannelOp::Text(TextOp::Group(ops)))
+        }
+        (ChannelOp::Grid(first), ChannelOp::Grid(second)) => {
+            let mut ops = CellOps::new(alloc);
+            push_cell_ops(&mut ops, first)?;
+            push_cell_ops(&mut ops, second)?;
+            Ok(ChannelOp::Grid(GridOp::Group(ops)))
+        }
+        (ChannelOp::Text(_), ChannelOp::Grid(_)) | (ChannelOp::Grid(_), ChannelOp::Text(_)) => {
+            Err(OutOfMemory)
+        }
+    }
+}
+
+/// Adds the members of an operation on the elements of the text.
+///
+/// Answers `OutOfMemory` where there is no room for them.
+fn push_base_ops(ops: &mut BaseOps, op: TextOp) -> Result<(), OutOfMemory>
+    ensures { OnOk result (ops.new ≡ ops.old ++ base_ops op) }
+{
+    match op {
+        TextOp::One(op) => ops.push(op),
+        TextOp::Group(more) => push_each_base(ops, more.as_slice()),
+        TextOp::IntervalAdd { .. }
+        | TextOp::IntervalChange { .. }
+        | TextOp::IntervalDelete { .. } => Ok(()),
+    }
+}
+
+/// Adds copies of these.
+///
+/// Answers `OutOfMemory` where there is no room for them.
+fn push_each_base(ops: &mut BaseOps, more: &[BaseOp]) -> Result<(), OutOfMemory>
+    ensures { OnOk result (ops.new ≡ ops.old ++ more.now) }
+{
+    for op in more {
+        let op = op.copy()?;
+        ops.push(op)?;
+    }
+    Ok(())
+}
+
+/// Adds the members of an operation on the grid.
+///
+/// Answers `OutOfMemory` where there is no room for them.
+fn push_cell_ops(ops: &mut CellOps, op: GridOp) -> Result<(), OutOfMemory>
+    ensures { OnOk result (ops.new ≡ ops.old ++ cell_ops op) }
+{
+    match op {
+        GridOp::One(op) => ops.push(op),
+        GridOp::Group(more) => push_each_cell(ops, more.as_slice()),
+    }
+}
+
+/// Adds copies of these.
+///
+/// Answers `OutOfMemory` where there is no room for them.
+fn push_each_cell(ops: &mut CellOps, more: &[CellOp]) -> Result<(), OutOfMemory>
+    ensures { OnOk result (ops.new ≡ ops.old ++ more.now) }
+{
+    for op in more {
+        let op = op.copy()?;
+        ops.push(op)?;
+    }
+    Ok(())
+}

@@ -1,0 +1,129 @@
+//! What a document of trees shows, and its summary.
+
+ghost use Rattle.std.specs.Prelude.{◌≡◌, ◌≤◌, ◌^◌, [], ℕ, IfOk, IsTrue, OnOk};
+ghost use Rattle.ft_msg.specs.Answers.{view_content};
+ghost use Rattle.ft_msg.specs.Client.{NaiveClient};
+ghost use Rattle.ft_msg.specs.Content.{content};
+ghost use Rattle.ft_msg.specs.SummaryOf.{summary_of};
+ghost use Rattle.ft_names.specs.WellNamed.{IsWellNamed};
+ghost use Rattle.ft_replica.specs.Own.{HeldDocument, HoldsOne, NamesFit, held_by};
+ghost use Rattle.ft_summaries.specs.Summaries.{IsSmall};
+ghost use Rattle.ft_sumdoc.specs.Runs.{unit_count};
+ghost use Rattle.ft_client.specs.Holds.{HoldsTree};
+ghost use Rattle.ft_client.specs.Numbers.{IsShortSummary, bare_summary};
+
+use crate::own::TreeOwn;
+use ft_base::{OutOfMemory, Text};
+use ft_msg::{Numbers, Runs, Spots, View};
+use ft_sumdoc::{CellRecs, IntervalRecs, RunRec, RunRecs, SegRecs, SumDoc, Texts};
+use std::alloc::Global;
+
+impl TreeOwn {
+    /// All that is shown at the last stage, with these numbers.
+    ///
+    /// Answers `OutOfMemory` where there is no room for it.
+    pub(crate) fn view_at(&self, last: u64, numbers: Numbers) -> Result<View, OutOfMemory>
+        requires { HoldsOne HoldsTree self.now (λ p. p.last_stage ≡ last) }
+        ensures numbers { IfOk result (λ v. v.numbers ≡ numbers) }
+        ensures content { (low : ℕ) (p : NaiveClient) → IsWellNamed p → p.last_stage ≡ last → HoldsTree self.now (held_by low p)
+            → IfOk result (λ v. view_content v ≡ content p) }
+    {
+        let mut view = empty_view(self.text.allocator(), numbers);
+        self.text.view(&mut view)?;
+        self.table.view(&mut view)?;
+        Ok(view)
+    }
+
+    /// The summary of the document, which has nothing pending, with these names of connections.
+    ///
+    /// Answers `OutOfMemory` where there is no room for it, or it is too long for a summary.
+    pub(crate) fn summary_with(&self, conns: Texts) -> Result<SumDoc, OutOfMemory>
+        requires { HoldsOne HoldsTree self.now (λ p. p.pending ≡ []) }
+        ensures sum { (held : HeldDocument) → NamesFit held → held.stages ≡ [] → HoldsTree self.now held → IfOk result (λ sum. sum ≡ summary_of conns held.doc) }
+        ensures small { (held : HeldDocument) → NamesFit held → HoldsTree self.now held → OnOk result (IsSmall held.doc) }
+    {
+        let mut sum = self.bare_summary(conns);
+        self.text.save(&mut sum)?;
+        self.table.save(&mut sum)?;
+        if !is_short(&sum, self.text.made()) {
+            return Err(OutOfMemory);
+        }
+        Ok(sum)
+    }
+
+    /// A summary with the numbers of the document and these names of connections, and with nothing else.
+    fn bare_summary(&self, conns: Texts) -> SumDoc
+        ensures { result ≡ bare_summary self.now.numbers conns }
+    {
+        let alloc = self.text.allocator();
+        SumDoc {
+            seq: self.numbers.number(),
+            min: self.numbers.minimum(),
+            skipped: self.numbers.skipped(),
+            other: self.numbers.other(),
+            conns,
+            text: SegRecs::new(alloc),
+            rows: RunRecs::new(alloc),
+            cols: RunRecs::new(alloc),
+            intervals: IntervalRecs::new(alloc),
+            cells: CellRecs::new(alloc),
+        }
+    }
+}
+
+/// The greatest count that a summary tells.
+const GREATEST_COUNT: u64 = 9_007_199_254_740_991;
+
+/// How many rows, and how many columns, a summary may have.
+const MOST_UNITS: u64 = 4_503_599_627_370_496;
+
+/// Whether a summary may tell its numbers, and have as many units, where so many elements of the text were ever made.
+fn is_short(sum: &SumDoc, made: u64) -> bool
+    ensures { IsTrue result → IsShortSummary sum.now made }
+{
+    sum.seq <= GREATEST_COUNT
+        && sum.skipped <= GREATEST_COUNT
+        && sum.other <= GREATEST_COUNT
+        && made <= GREATEST_COUNT
+        && are_few_units(sum.rows.as_slice())
+        && are_few_units(sum.cols.as_slice())
+}
+
+/// Whether a summary may have so many units.
+fn are_few_units(runs: &[RunRec]) -> bool
+    ensures { IsTrue result → unit_count runs.now ≤ 2 ^ 52 }
+{
+    match unit_count(runs) {
+        Ok(count) => count <= MOST_UNITS,
+        Err(_) => false,
+    }
+}
+
+/// How many units there are.
+///
+/// Answers `OutOfMemory` where they are more than 2^64 - 1.
+fn unit_count(runs: &[RunRec]) -> Result<u64, OutOfMemory>
+    ensures { IfOk result (λ n. n ≡ unit_count runs.now) }
+{
+    let mut count: u64 = 0;
+    for run in runs {
+        count = count.checked_add(run.count).ok_or(OutOfMemory)?;
+    }
+    Ok(count)
+}
+
+/// A view of nothing, with these numbers.
+fn empty_view(alloc: Global, numbers: Numbers) -> View
+    ensures { result.numbers ≡ numbers }
+{
+    View {
+        numbers,
+        text: Text::from_string(String::new(alloc)),
+        markers: Spots::new(alloc),
+        runs: Runs::new(alloc),
+        intervals: IntervalRecs::new(alloc),
+        rows: 0,
+        cols: 0,
+        cells: CellRecs::new(alloc),
+    }
+}
