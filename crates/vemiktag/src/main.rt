@@ -25,7 +25,9 @@ fn main(rt: HostRuntime) -> ExitCode {
     let status = run(rt.alloc(), &words, &mut src, &mut out);
     if status == Status::Usage {
         // The status says it too: a line that can't be written is no fault of the run.
-        let _ = eprintln!(rt; "usage: vemiktag session|log|load|map, or gen|play CLIENTS EDITS SEED");
+        let _ = eprintln!(rt;
+            "usage: vemiktag session|log|load|map, or gen|play CLIENTS EDITS SEED"
+        );
     }
     ExitCode::from(status.code())
 }
