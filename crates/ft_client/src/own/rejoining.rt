@@ -226,20 +226,53 @@ fn join(alloc: Global, first: ChannelOp, second: ChannelOp) -> Result<ChannelOp,
 {
     match (first, second) {
         (ChannelOp::Text(first), ChannelOp::Text(second)) => {
-            let mut ops = BaseOps::new(alloc);
-            push_base_ops(&mut ops, first)?;
+            let mut ops = base_ops(alloc, first)?;
             push_base_ops(&mut ops, second)?;
             Ok(ChannelOp::Text(TextOp::Group(ops)))
         }
         (ChannelOp::Grid(first), ChannelOp::Grid(second)) => {
-            let mut ops = CellOps::new(alloc);
-            push_cell_ops(&mut ops, first)?;
+            let mut ops = cell_ops(alloc, first)?;
             push_cell_ops(&mut ops, second)?;
             Ok(ChannelOp::Grid(GridOp::Group(ops)))
         }
         (ChannelOp::Text(_), ChannelOp::Grid(_)) | (ChannelOp::Grid(_), ChannelOp::Text(_)) => {
             Err(OutOfMemory)
         }
+    }
+}
+
+/// The members of an operation on the elements of the text. A group is handed on as it is.
+///
+/// Answers `OutOfMemory` where there is no room for a single one.
+fn base_ops(alloc: Global, op: TextOp) -> Result<BaseOps, OutOfMemory>
+    ensures { IfOk result (λ ops. ops ≡ base_ops op) }
+{
+    match op {
+        TextOp::One(op) => {
+            let mut ops = BaseOps::new(alloc);
+            ops.push(op)?;
+            Ok(ops)
+        }
+        TextOp::Group(ops) => Ok(ops),
+        TextOp::IntervalAdd { .. }
+        | TextOp::IntervalChange { .. }
+        | TextOp::IntervalDelete { .. } => Ok(BaseOps::new(alloc)),
+    }
+}
+
+/// The members of an operation on the grid. A group is handed on as it is.
+///
+/// Answers `OutOfMemory` where there is no room for a single one.
+fn cell_ops(alloc: Global, op: GridOp) -> Result<CellOps, OutOfMemory>
+    ensures { IfOk result (λ ops. ops ≡ cell_ops op) }
+{
+    match op {
+        GridOp::One(op) => {
+            let mut ops = CellOps::new(alloc);
+            ops.push(op)?;
+            Ok(ops)
+        }
+        GridOp::Group(ops) => Ok(ops),
     }
 }
 
