@@ -32,7 +32,7 @@ pub mod view_lines;
 pub mod words;
 pub mod writing;
 
-use ft_plain::Plain;
+use ft_client::Client;
 
 /// The replica with which the program runs: its clients, and the observers of `log` and `load`.
-pub type RunReplica = Plain;
+pub type RunReplica = Client;
