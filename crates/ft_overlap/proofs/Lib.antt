@@ -1,0 +1,16 @@
+pub mod Keys
+pub mod Collecting
+pub mod Under
+pub mod SearchSteps
+pub mod Named
+pub mod InsideLemmas
+pub mod Law
+pub mod Parts
+pub mod Last
+pub mod Renamed
+pub mod Upward
+pub mod Halved
+pub mod Rooted
+pub mod Inserted
+pub mod Only
+pub mod WalkedItems

@@ -1,0 +1,30 @@
+-- What a block that is named anew leaves.
+use Rattle.std.proofs.Common.{◌≡◌, ◌≢◌, ℕ, ◌≤◌, List, map, Option, Some, None, IsSome, Contains, refl, sym, ap, subst, ◌∙◌, inl, inr, arith}
+use Rattle.std.proofs.lemmas.Bool.{cases_eq}
+use Rattle.ft_arena.specs.Ids.{times}
+use Rattle.ft_arena.specs.Forest.{IsForest, kids_of, block_value, leaf_value, with_block}
+use Rattle.ft_shape.specs.declared.headed.Headed.{Headed}
+use Rattle.ft_shape.specs.Steps.{SameShape}
+use Rattle.ft_shape.specs.Told.{sum_of, told, Retells}
+use Rattle.ft_shape.proofs.ToldLemmas.{written_block, written_others}
+use Rattle.ft_overlap.specs.declared.items.Item.{Item}
+use Rattle.ft_overlap.specs.Inside.{Nodes, either_named, named_by, NamesOne, EndsKnown}
+use Rattle.ft_overlap.proofs.Named.{told_from}
+
+module _ (Knows : ℕ → Type 0) (s : Nodes) (known : EndsKnown Knows s) where
+  -- who is named by one of these nodes has a known end
+  pub one_known : (xs : List ℕ) (v : Item) → NamesOne v (map (told s) xs) → Knows v.end
+  one_known xs v o = let r = told_from (told s) xs o.0 o.1 in known r.0 v (ap named_by r.2 ∙ o.2)
+
+  block_names : (o : Option Item) (v x : Item) → o ≡ None → either_named o (Some v) ≡ Some x → v ≡ x
+  block_names None v x e h = cc
+  block_names (Some y) v x e h = cc
+
+  pub renamed_known : (b : ℕ) (v w : Headed Item) → block_value s b ≡ Some v → leaf_value (with_block s b w) b ≡ None → Knows w.sum.end → EndsKnown Knows (with_block s b w)
+  renamed_known b v w is no_leaf k id x e = elim (cases_eq id b) [
+    | inl q ↦
+        let here : either_named (leaf_value (with_block s b w) b) (Some w.sum) ≡ Some x =
+        ap (λ o. either_named (leaf_value (with_block s b w) b) (sum_of o)) (sym (written_block NamesOne s b v w is)) ∙ ap (λ (z : ℕ). named_by (told (with_block s b w) z)) (sym q) ∙ e in
+        subst (λ (y : Item). Knows y.end) (block_names (leaf_value (with_block s b w) b) w.sum x no_leaf here) k
+    | inr d ↦ known id x (ap named_by (sym (written_others NamesOne s b v w is id d)) ∙ e)
+  ]

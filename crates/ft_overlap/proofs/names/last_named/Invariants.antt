@@ -1,0 +1,18 @@
+use Rattle.std.proofs.Common.{◌≡◌, ◌≤◌, ◌+◌, ◌-◌, ℕ, length, take, map}
+use Rattle.ft_shape.specs.Told.{told}
+use Rattle.ft_overlap.specs.Inside.{NamesOne}
+use Rattle.ft_overlap.proofs.Last.{IsLastOf}
+use Rattle.ft_overlap.proofs.names.last_named.Given as goal
+
+abbrev pub invariant-loop-kid : goal.invariant-loop-kid
+invariant-loop-kid g l =
+    record {
+      few : length l.kids ≤ 8;
+      inside : l.i ≤ length l.kids;
+      known : g.P.Places.Knows l.at l.last.end;
+      one : NamesOne l.last (map (told l.arena) l.kids);
+      last : IsLastOf l.arena (g.P.Places.place_of l.at) l.last (take l.i l.kids);
+    }
+
+abbrev pub decreases-loop-kid : goal.decreases-loop-kid
+decreases-loop-kid g l = length l.kids - l.i

@@ -1,0 +1,121 @@
+-- How an `Index` keeps its items. No public clause cites this module.
+use Rattle.std.specs.Prelude.{◌≡◌, ℕ, ℤ, zero, suc, ◌-◌, ◌≤◌, ◌≤ℤ◌, ◌<ℤ◌, List, [], ◌∷◌, ◌++◌, Option, Some, None, All, Contains}
+use Rattle.std.specs.List.{flat_map}
+use Rattle.ft_arena.specs.Forest.{Forest, leaf_value, block_value, kids_of}
+use Rattle.ft_arena.specs.Ids.{without}
+use Rattle.ft_shape.specs.declared.headed.Headed.{Headed}
+use Rattle.ft_shape.specs.Tree.{IsTree, IsBare, height_of, below}
+use Rattle.ft_shape.specs.Told.{told, KeepsBut}
+use Rattle.ft_overlap.specs.declared.items.Item.{Item}
+use Rattle.ft_overlap.specs.declared.index.Index.TheInside.{Inside}
+use Rattle.ft_overlap.specs.Items.{Below, ItemList, IsGreatest, item_at, without_key}
+
+abbrev pub Nodes : Type 0
+Nodes = Forest Item (Headed Item)
+
+abbrev pub item_of : Option Item → List Item → List Item
+item_of None rest = rest
+item_of (Some x) rest = x ∷ rest
+
+-- the items of these leaves
+abbrev pub items_of : Nodes → List ℕ → List Item
+items_of s [] = []
+items_of s (id ∷ ids) = item_of (leaf_value s id) (items_of s ids)
+
+-- the items so many levels below this node
+abbrev pub items_under : Nodes → ℕ → ℕ → List Item
+items_under s h id = items_of s (below s h (id ∷ []))
+
+-- the items below the node
+abbrev pub items_below : Nodes → ℕ → List Item
+items_below s id = items_under s (height_of s id) id
+
+abbrev pub block_of : Option (Headed Item) → List Item → List Below → List Below
+block_of None items rest = rest
+block_of (Some v) items rest = record { named = v.sum; items = items } ∷ rest
+
+-- those of these nodes that are blocks, with the items so many levels below each
+abbrev pub blocks_of : Nodes → ℕ → List ℕ → List Below
+blocks_of s h [] = []
+blocks_of s h (x ∷ xs) = block_of (block_value s x) (items_under s h x) (blocks_of s h xs)
+
+-- these blocks, which head so many levels, and all blocks below them, level by level
+abbrev pub blocks_below : Nodes → ℕ → List ℕ → List Below
+blocks_below s zero xs = []
+blocks_below s (suc h) xs = blocks_of s (suc h) xs ++ blocks_below s h (flat_map (kids_of s) xs)
+
+abbrev pub depth_of : Nodes → Option ℕ → ℕ
+depth_of s None = 0
+depth_of s (Some root) = height_of s root - 1
+
+abbrev pub all_blocks : Nodes → Option ℕ → List Below
+all_blocks s None = []
+all_blocks s (Some root) = blocks_below s (height_of s root) (root ∷ [])
+
+abbrev pub view_of : Inside → ItemList
+view_of a = record { items = items_of a.arena a.arena.leaves; depth = depth_of a.arena a.root; blocks = all_blocks a.arena a.root }
+
+-- a tree with this root, or nothing where there is no root
+abbrev pub IsRooted : Nodes → Option ℕ → Type 0
+IsRooted s None = IsBare s
+IsRooted s (Some root) = IsTree s root
+
+abbrev pub either_named : Option Item → Option Item → Option Item
+either_named (Some x) o = Some x
+either_named None o = o
+
+-- what a node names, as it tells it: a leaf its item, a block the one that it keeps
+abbrev pub named_by : Option Item × Option Item → Option Item
+named_by t = either_named t.0 t.1
+
+-- the item is one that a child names
+abbrev pub NamesOne : Item → List (Option Item × Option Item) → Type 0
+NamesOne v ts = (t : Option Item × Option Item) × Contains ts t × (named_by t ≡ Some v)
+
+-- no child names an item that ends behind it
+abbrev pub NamesLast : (ℕ → ℤ) → Item → List (Option Item × Option Item) → Type 0
+NamesLast place v ts = All (λ t. (x : Item) → named_by t ≡ Some x → place x.end ≤ℤ place v.end) ts
+
+-- the end of each item that a node names is known
+abbrev pub EndsKnown : (ℕ → Type 0) → Nodes → Type 0
+EndsKnown Knows s = (id : ℕ) (x : Item) → named_by (told s id) ≡ Some x → Knows x.end
+
+-- each block names an item below it
+abbrev pub AreNamed : Nodes → Type 0
+AreNamed s = (b : ℕ) (v : Headed Item) → block_value s b ≡ Some v → Contains (items_below s b) v.sum
+
+-- and that item's end is the greatest
+abbrev pub AreGreatest : (ℕ → ℤ) → Nodes → Type 0
+AreGreatest place s = (b : ℕ) (v : Headed Item) → block_value s b ≡ Some v → IsGreatest place v.sum (items_below s b)
+
+pub record IsSound (a : Inside) : Type 0 where
+  pub rooted : IsRooted a.arena a.root
+  pub names : KeepsBut NamesOne a.arena None
+
+-- the last number
+abbrev pub last_of : List ℕ → Option ℕ
+last_of [] = None
+last_of (x ∷ []) = Some x
+last_of (x ∷ (y ∷ ys)) = last_of (y ∷ ys)
+
+-- the first of the items, if there is one, starts behind b
+abbrev pub IsBehind : (ℕ → ℤ) → ℤ → List Item → Type 0
+IsBehind place b [] = Unit {0}
+IsBehind place b (x ∷ xs) = b <ℤ place x.start
+
+-- the list of leaves is cut here: the items left of the cut start by b, and the first right of it doesn't; the leaf is the
+-- last one left of it, if there is one
+pub record IsPlaceFor (place : ℕ → ℤ) (b : ℤ) (s : Nodes) (at : Option ℕ) : Type 0 where
+  pub left : List ℕ
+  pub right : List ℕ
+  pub cut : s.leaves ≡ left ++ right
+  pub last : at ≡ last_of left
+  pub before : All (λ x. place x.start ≤ℤ b) (items_of s left)
+  pub behind : IsBehind place b (items_of s right)
+
+-- the leaf's item is the first with this key
+pub record IsFirstWith (key : ℕ) (s : Nodes) (id : ℕ) : Type 0 where
+  pub item : Item
+  pub there : leaf_value s id ≡ Some item
+  pub first : item_at key (items_of s s.leaves) ≡ Some item
+  pub rest : items_of s (without s.leaves id) ≡ without_key key (items_of s s.leaves)

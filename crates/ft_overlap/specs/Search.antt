@@ -1,0 +1,22 @@
+-- What a search leaves, and what it costs.
+use Rattle.std.specs.Prelude.{◌≡◌, ℕ, ℤ, ◌+◌, ◌*◌, ◌≤◌, Bool, true, false, List, [], ◌∷◌, ◌++◌, length}
+use Rattle.ft_overlap.specs.declared.items.Item.{Item}
+use Rattle.ft_overlap.specs.Items.{keys_within, ends_from, key_if, IsRising}
+
+-- the keys of the items whose end's place is at least a, in order
+abbrev pub keys_from : (ℕ → ℤ) → ℤ → List Item → List ℕ
+keys_from place a [] = []
+keys_from place a (x ∷ xs) = key_if (ends_from place a x) x.key (keys_from place a xs)
+
+-- the node heads h levels and is above k items that meet the range: it took at most so many reads
+pub record IsCheap (h k before after : ℕ) : Type 0 where
+  pub leaf : h ≡ 0 → after ≤ before + 1
+  pub block : 1 ≤ h → after ≤ before + 9 * h * (k + 1)
+
+-- the keys of these items were found, of which a node that heads h levels is the root; where there may be more behind them,
+-- all that reach a were found, and the reads are of the keys found alone; else nothing behind them meets the range
+pub record Collects (place : ℕ → ℤ) (a b : ℤ) (xs : List Item) (h : ℕ) (old new : List ℕ) (before after : ℕ) (more : Bool) : Type 0 where
+  pub keys : new ≡ old ++ keys_within place a b xs
+  pub whole : more ≡ true → keys_within place a b xs ≡ keys_from place a xs
+  pub past : more ≡ false → (ys : List Item) → IsRising place (xs ++ ys) → keys_within place a b ys ≡ []
+  pub cost : more ≡ true → after ≤ before + 1 + 9 * h * length (keys_within place a b xs)

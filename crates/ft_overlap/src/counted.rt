@@ -1,0 +1,100 @@
+//! The calls that are given no counter of steps: each makes one of its own.
+
+ghost use Rattle.std.specs.Prelude.{◌≡◌, ℕ, ◌<◌, Some, None, IsSome, IfOk, OnErr, MatchOption, ◌∷◌};
+ghost use Rattle.ft_arena.specs.Forest.{IsForest, leaf_value};
+ghost use Rattle.ft_shape.specs.Tree.{IsTree};
+ghost use Rattle.ft_shape.specs.Told.{KeepsBut};
+ghost use Rattle.ft_shape.specs.Steps.{TakesLeaf};
+ghost use Rattle.ft_overlap.specs.Items.{put_item, item_at};
+ghost use Rattle.ft_overlap.specs.Inside.{IsRooted, IsFirstWith, NamesOne, NamesLast, EndsKnown, items_of};
+
+use crate::grow::{insert_at, insert_first, insert_front};
+use crate::items::{Item, Places};
+use crate::places::{place_for, with_key};
+use crate::shrink::take_at;
+use ft_arena::{Arena, NodeId};
+use ft_base::{OutOfMemory, Steps};
+use ft_shape::{Headed, height_at};
+use std::sync::ledger::{Blank, Ledger};
+
+// Puts an item in, behind those whose start's place isn't above that of its own. Tells the root.
+pub(crate) fn insert_in<P: Places, G: Ledger>(
+    arena: &mut Arena<Item, Headed<Item>>,
+    root: Option<usize>,
+    item: Item,
+    at: &P,
+    blank: Blank,
+) -> Result<Option<usize>, OutOfMemory>
+    requires name { blank.name ≡ G.name }
+    requires parts { blank.parts ≡ G.parts }
+    requires part { 0 < blank.parts }
+    requires rooted { IsRooted arena.old root }
+    requires one { KeepsBut NamesOne arena.old None }
+    requires last { KeepsBut (NamesLast (P.place_of at.now)) arena.old None }
+    requires start { P.Knows at.now item.start }
+    requires end { P.Knows at.now item.end }
+    requires starts { (id : ℕ) (x : Item) → leaf_value arena.old id ≡ Some x → P.Knows at.now x.start }
+    requires known { EndsKnown (P.Knows at.now) arena.old }
+    ensures rooted { IfOk result (λ top. IsRooted arena.new top) }
+    ensures one { IfOk result (λ top. KeepsBut NamesOne arena.new None) }
+    ensures last { IfOk result (λ top. KeepsBut (NamesLast (P.place_of at.now)) arena.new None) }
+    ensures items { IfOk result (λ top. items_of arena.new arena.new.leaves ≡ put_item (P.place_of at.now) item (items_of arena.old arena.old.leaves)) }
+    ensures err { OnErr result (arena.new ≡ arena.old) }
+{
+    let Some(root) = root else {
+        arena.reserve(2)?;
+        return Ok(Some(insert_first(arena, item).0));
+    };
+    let root = NodeId(root);
+    let mut steps = Steps::<G>::new(blank);
+    // There are fewer items than numbers of nodes, so the tree is far lower than that.
+    let _first = arena.first();
+    let height = height_at(arena, root, &mut steps) as usize;
+    arena.reserve(height + 2)?;
+    let top = match place_for(arena, &item, at, &mut steps) {
+        Some(before) => insert_at(arena, root, before, item, at, &mut steps),
+        None => insert_front(arena, root, item, at, &mut steps),
+    };
+    Ok(Some(top.0))
+}
+
+// The first leaf whose item has this key, if there is one.
+pub(crate) fn find_key<G: Ledger>(
+    arena: &Arena<Item, Headed<Item>>,
+    key: u64,
+    blank: Blank,
+) -> Option<NodeId>
+    requires name { blank.name ≡ G.name }
+    requires parts { blank.parts ≡ G.parts }
+    requires part { 0 < blank.parts }
+    requires forest { IsForest arena.now }
+    ensures { MatchOption result (item_at key (items_of arena.now arena.now.leaves) ≡ None) (λ id. IsFirstWith key arena.now id) }
+{
+    let mut steps = Steps::<G>::new(blank);
+    with_key(arena, key, &mut steps)
+}
+
+// Takes a leaf out. Tells the root, if there is a leaf left, and its item.
+pub(crate) fn take_in<P: Places, G: Ledger>(
+    arena: &mut Arena<Item, Headed<Item>>,
+    root: NodeId,
+    id: NodeId,
+    at: &P,
+    blank: Blank,
+) -> (Option<usize>, Item)
+    requires name { blank.name ≡ G.name }
+    requires parts { blank.parts ≡ G.parts }
+    requires part { 0 < blank.parts }
+    requires tree { IsTree arena.old root }
+    requires live { IsSome (leaf_value arena.old id) }
+    requires one { KeepsBut NamesOne arena.old None }
+    requires last { KeepsBut (NamesLast (P.place_of at.now)) arena.old None }
+    requires known { EndsKnown (P.Knows at.now) arena.old }
+    ensures rooted { IsRooted arena.new result.0 }
+    ensures one { KeepsBut NamesOne arena.new None }
+    ensures last { KeepsBut (NamesLast (P.place_of at.now)) arena.new None }
+    ensures takes { TakesLeaf arena.old arena.new id result.1 }
+{
+    let mut steps = Steps::<G>::new(blank);
+    take_at(arena, root, id, at, &mut steps)
+}

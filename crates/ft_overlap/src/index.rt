@@ -1,0 +1,133 @@
+//! The index as its callers see it: items in order.
+
+ghost use Rattle.std.specs.Prelude.{◌≡◌, ℕ, ℤ, ◌+◌, ◌*◌, ◌^◌, ◌≤◌, IfOk, OnOk, OnErr, length, false, ◌∷◌};
+ghost use Rattle.ft_overlap.specs.Items.{
+  IsInOrder,
+  KeepsOrder,
+  AreKnown,
+  no_items,
+  keys_within,
+  has_key,
+  item_at,
+  without_key,
+  put_item,
+};
+
+use crate::counted::{find_key, insert_in, take_in};
+use crate::items::{Item, Places};
+use crate::search::{Range, collect};
+use ft_arena::{Arena, NodeId};
+use ft_base::{OutOfMemory, Steps};
+use ft_shape::Headed;
+use std::alloc::Global;
+use std::marker::{Brand, Model};
+use std::sync::ledger::{Blank, Ledger};
+
+/// Items in order, in a balanced tree: at most eight children a block, at least four but at the root, all
+/// items at one depth. Each block names one item below it. A contract sees the items from first to last,
+/// the number of blocks below the root on the way to an item, and each block, with the item that it names
+/// and the items below it. A read of a node is one step.
+#[derive(Drop)]
+pub struct Index {
+    arena: Arena<Item, Headed<Item>>,
+    root: Option<usize>,
+    alloc: Global,
+}
+
+impl Model for Index {
+    ghost use Rattle.ft_overlap.specs.Items.{ItemList};
+
+    ghost Value = { ItemList };
+
+    ghost use Rattle.ft_overlap.specs.Inside.{view_of, IsSound};
+
+    ghost view = { view_of };
+
+    ghost invariant = { IsSound };
+}
+
+impl Index {
+    /// No items. It takes no memory.
+    pub fn new(alloc: Global) -> Index
+        ensures { result ≡ no_items }
+    {
+        Index {
+            arena: Arena::new(alloc),
+            root: None,
+            alloc,
+        }
+    }
+
+    /// The keys of the items whose start's place is at most `b` and whose end's place is at least `a`, in
+    /// the order of the items. The index is in order by these places, which know both ends of each item.
+    ///
+    /// Answers `OutOfMemory` where there is no room for the keys.
+    pub fn query<P: Places, G: Ledger>(
+        &self,
+        a: i64,
+        b: i64,
+        at: &P,
+        steps: &mut Steps<G>,
+    ) -> Result<Vec<u64>, OutOfMemory>
+        requires known { AreKnown (P.Knows at.now) self.now.items }
+        requires order { IsInOrder (P.place_of at.now) self.now }
+        ensures keys { IfOk result (λ keys. keys.items ≡ keys_within (P.place_of at.now) a b self.now.items) }
+
+        // For each key, and once more, it reads a few nodes on each level, and a tree has at least four times
+        // as many items as the one that is a level lower.
+        ensures cost { steps.new ≤ steps.old + 9 * (self.now.depth + 1) * (length (keys_within (P.place_of at.now) a b self.now.items) + 1) }
+        ensures depth { 4 ^ self.now.depth ≤ length self.now.items + 1 }
+    {
+        let mut found = Vec::new(self.alloc);
+        match self.root {
+            None => Ok(found),
+            Some(root) => {
+                let root = NodeId(root);
+                let range = Range { low: a, high: b };
+                collect(&self.arena, root, root, &range, at, &mut found, steps)?;
+                Ok(found)
+            }
+        }
+    }
+
+    /// Puts an item in, behind those whose start's place isn't above that of its own. The index is in order
+    /// by these places, which know all ends, and stays so. No item has this key yet.
+    ///
+    /// Answers `OutOfMemory` where there is no room for it, and then the index is as it was.
+    pub fn insert<P: Places>(&mut self, item: Item, at: &P) -> Result<(), OutOfMemory>
+        requires known { AreKnown (P.Knows at.now) (item ∷ self.old.items) }
+        requires order { IsInOrder (P.place_of at.now) self.old }
+        requires fresh { has_key item.key self.old.items ≡ false }
+        ensures ok { OnOk result (self.new.items ≡ put_item (P.place_of at.now) item self.old.items) }
+        ensures order { OnOk result (IsInOrder (P.place_of at.now) self.new) }
+        ensures err { OnErr result (self.new ≡ self.old) }
+    {
+        let _ = &self.root;
+        self.root = insert_in::<P, Brand>(&mut self.arena, self.root, item, at, Blank::new(1))?;
+        Ok(())
+    }
+
+    /// Takes the item with this key out, and answers it: None exactly where there is none. No other item
+    /// changes. The index is in order by these places, which know all ends, and stays so. It takes no memory.
+    pub fn remove<P: Places>(&mut self, key: u64, at: &P) -> Option<Item>
+        requires known { AreKnown (P.Knows at.now) self.old.items }
+        requires order { IsInOrder (P.place_of at.now) self.old }
+        ensures value { result ≡ item_at key self.old.items }
+        ensures rest { self.new.items ≡ without_key key self.old.items }
+        ensures order { IsInOrder (P.place_of at.now) self.new }
+    {
+        let root = self.root?;
+        let id = find_key::<Brand>(&self.arena, key, Blank::new(1))?;
+        let (root, item) = take_in::<P, Brand>(&mut self.arena, NodeId(root), id, at, Blank::new(1));
+        self.root = root;
+        Some(item)
+    }
+
+    /// An index that is in order by places p is in order by each q that keeps the order of its ends: the
+    /// items that its blocks name, which are the same, still have the greatest ends.
+    pub fn order_is_kept(&self)
+        ensures { (p q : ℕ → ℤ) → KeepsOrder p q self.now.items → IsInOrder p self.now → IsInOrder q self.now }
+    {
+        let _ = &self.root;
+    }
+}

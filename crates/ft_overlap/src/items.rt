@@ -1,0 +1,26 @@
+//! An item of the index, and where its ends stand.
+
+ghost use Rattle.std.specs.Prelude.{◌≡◌, ℕ, ℤ};
+
+/// An item: its key, and the numbers of its two ends.
+#[derive(Clone, Copy, Debug, PartialEq, Eq)]
+pub struct Item {
+    /// The key, which no other item of an index has.
+    pub key: u64,
+    /// The number of the end at which it starts.
+    pub start: u64,
+    /// The number of the end at which it ends.
+    pub end: u64,
+}
+
+/// Where ends stand: for each end that it knows, a number, its place.
+pub trait Places {
+    ghost place_of: { Self → ℕ → ℤ };
+
+    ghost Knows: { Self → ℕ → Type 0 } = { λ _ _. Unit {0} };
+
+    /// The place of an end that it knows.
+    fn place(&self, end: u64) -> i64
+        requires { Knows self.now end }
+        ensures { result ≡ place_of self.now end };
+}
