@@ -14,3 +14,4 @@ pub mod Rooted
 pub mod Inserted
 pub mod Only
 pub mod WalkedItems
+pub mod Taken

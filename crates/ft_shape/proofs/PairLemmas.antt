@@ -124,6 +124,16 @@ module _ {L S : Type 0} (s : Forest L (Headed S)) (up front rear : ℕ) (forest 
     pub rg_front_rear : times (kids_of s1 front) rear ≡ 0
     rg_front_rear = omega (arith, rg_times rear, pr_front_rear, pr_rear_rear)
 
+    pub rg_rear_many : want + 1 ≤ length (kids_of s front) + length (kids_of s rear) → 1 ≤ length (kids_of s1 rear)
+    rg_rear_many h = omega (
+      arith,
+      ap length r.joined,
+      length-append (kids_of s1 front) (kids_of s1 rear),
+      length-append (kids_of s front) (kids_of s rear),
+      r.count,
+      h,
+    )
+
     pub rg_up : kids_of s1 up ≡ kids_of s up
     rg_up = r.other_kids up pr_up_front pr_up_rear
 
@@ -369,6 +379,9 @@ module _ {L S : Type 0} (s : Forest L (Headed S)) (up front rear : ℕ) (forest 
 
   md_front : kids_of s3 front ≡ kids_of s1 front
   md_front = ap kids_of_entry (c.others front P.differ) ∙ t.other_kids front (λ e. pr_up_front s up front rear forest P (sym e))
+
+  pub md_many : length (kids_of s3 front) ≡ want
+  md_many = ap length md_front ∙ r.count
 
   pub md_apart : times (kids_of s3 front) front ≡ 0
   md_apart = ap (λ ks. times ks front) md_front ∙ rg_front_front s up front rear forest P s1 want r

@@ -1,14 +1,15 @@
 -- Which blocks still keep what is right for their children, once a node was put, a block split, a new root made or a block made right.
-use Rattle.std.proofs.Common.{◌≡◌, ◌≢◌, ℕ, ◌+◌, ◌≤◌, List, [], ◌∷◌, map, insert, Option, Some, None, IsSome, refl, sym, ap, subst, ◌∙◌, inl, inr, arith}
+use Rattle.std.proofs.Common.{◌≡◌, ◌≢◌, ◌⊎◌, ℕ, ◌+◌, ◌≤◌, List, [], ◌∷◌, map, insert, Option, Some, None, IsSome, refl, sym, ap, subst, ◌∙◌, inl, inr, arith}
 use Rattle.std.proofs.lemmas.Bool.{cases_eq}
 use Rattle.ft_arena.specs.Ids.{times, points}
-use Rattle.ft_arena.specs.Forest.{Forest, Entry, IsForest, entry, kids_of, parent_of, block_value, leaf_value, leaf_of_entry, block_of_entry, with_block, with_block_entry, parent_of_entry, kids_of_entry, Changes}
+use Rattle.ft_arena.specs.Forest.{Forest, Entry, IsForest, entry, kids_of, parent_of, block_value, leaf_value, leaf_of_entry, block_of_entry, with_block, with_block_entry, parent_of_entry, kids_of_entry, Changes, TakesChild}
 use Rattle.ft_arena.specs.declared.nodes.Node.TheVariants.{Leaf}
 use Rattle.ft_shape.proofs.RefreshLemmas.{written_changes}
 use Rattle.ft_arena.proofs.IdLemmas.{same_refl}
 use Rattle.ft_shape.specs.declared.headed.Headed.{Headed}
-use Rattle.ft_shape.specs.Steps.{SameShape, PutsAt, SplitsAt, RootsOver}
-use Rattle.ft_shape.specs.Told.{sum_of, told, KeepsBut, Retells, RetellsBoth}
+use Rattle.ft_shape.specs.Steps.{SameShape, PutsAt, SplitsAt, RootsOver, IsPair, Shares, Regroups}
+use Rattle.ft_shape.specs.Tree.{IsBare}
+use Rattle.ft_shape.specs.Told.{sum_of, told, KeepsBut, KeepsButBoth, Retells, RetellsBoth}
 use Rattle.ft_shape.proofs.Levels.{points_some}
 
 sum_some : {S : Type 0} (o : Option (Headed S)) (z : S) → Some z ≡ sum_of o → (w : Headed S) × (o ≡ Some w) × (w.sum ≡ z)
@@ -22,6 +23,10 @@ module _ {L S : Type 0} (s s' : Forest L (Headed S)) where
 
   pub told_from_values : (x : ℕ) → leaf_value s' x ≡ leaf_value s x → block_value s' x ≡ block_value s x → told s' x ≡ told s x
   told_from_values x l b = ap (λ (z : Option L). (z, sum_of (block_value s' x))) l ∙ ap (λ (z : Option (Headed S)). (leaf_value s x, sum_of z)) b
+
+  -- a node that didn't change tells what it told
+  pub told_changed : (id : ℕ) (z : Option (Entry L (Headed S))) → Changes s s' id z → (x : ℕ) → x ≢ id → told s' x ≡ told s x
+  told_changed id z c x d = ap (λ (o : Option (Entry L (Headed S))). (leaf_of_entry o, sum_of (block_of_entry o))) (c.others x d)
 
   pub told_same : (xs : List ℕ) → ((x : ℕ) → 1 ≤ times xs x → told s' x ≡ told s x) → map (told s') xs ≡ map (told s) xs
   told_same [] h = refl
@@ -126,3 +131,73 @@ linked_keeps {L} {S} R s s' id leaf forest fresh c keeps stale b v e apart =
     let same : (x : ℕ) → x ≢ id → told s' x ≡ told s x = λ x d. ap (λ (o : Option (Entry L (Headed S))). (leaf_of_entry o, sum_of (block_of_entry o))) (c.others x d) in
     let none : times (kids_of s b) id ≡ 0 = forest.child_once b id ∙ ap (λ (o : Option (Entry L (Headed S))). points (parent_of_entry o) b) fresh in
     keeps_on R s s' b v e (same b far) (ap kids_of_entry (c.others b far)) (λ x m. same x (λ q. omega (arith, m, none, ap (times (kids_of s b)) q))) (λ w q. keeps b w q (λ d. cc))
+
+module _ {L S : Type 0} (R : S → List (Option L × Option S) → Type 0) (s s' : Forest L (Headed S)) where
+  -- where two neighbours share their children anew and both were made right, only the block above them
+  pub pair_keeps : (up front rear : ℕ) → IsForest s → IsPair s up front rear → Shares s s' up front rear → RetellsBoth R s s' front rear → KeepsButBoth R s front rear
+      → KeepsBut R s' (Some up)
+  pair_keeps up front rear forest pair r u keeps b v e stale = elim (cases_eq b front) [
+    | inl c ↦ subst (λ (z : ℕ). R v.sum (map (told s') (kids_of s' z))) (sym c) (u.front_right v (ap (block_value s') (sym c) ∙ e))
+    | inr n ↦ elim (cases_eq b rear) [
+      | inl c ↦ subst (λ (z : ℕ). R v.sum (map (told s') (kids_of s' z))) (sym c) (u.rear_right v (ap (block_value s') (sym c) ∙ e))
+      | inr k ↦
+          let far : b ≢ up = (λ q. stale (ap Some (sym q))) in
+          let parent : (x : ℕ) → 1 ≤ times (kids_of s b) x → parent_of s x ≡ Some b =
+          λ x m. points_some (parent_of s x) b (omega (arith, m, forest.child_once b x)) in
+          keeps_on R s s' b v e (u.others b n k) (r.other_kids b far n k)
+          (λ x m. u.others x
+          (λ c. let q : b ≡ up = cc (sym (parent x m) ∙ ap (parent_of s) c ∙ pair.front_up) in far q)
+          (λ c. let q : b ≡ up = cc (sym (parent x m) ∙ ap (parent_of s) c ∙ pair.rear_up) in far q))
+          (λ w c. keeps b w c n k)
+    ]
+  ]
+
+  -- where one block has other children, only that one
+  pub kids_keep : (p : ℕ) → ((x : ℕ) → leaf_value s' x ≡ leaf_value s x) → ((x : ℕ) → block_value s' x ≡ block_value s x)
+      → ((x : ℕ) → x ≢ p → kids_of s' x ≡ kids_of s x) → KeepsBut R s None → KeepsBut R s' (Some p)
+  kids_keep p l bs k keeps b v e stale =
+      let n : b ≢ p = (λ q. stale (ap Some (sym q))) in
+      keeps_on R s s' b v e (told_from_values s s' b (l b) (bs b)) (k b n) (λ x m. told_from_values s s' x (l x) (bs x)) (λ w q. keeps b w q (λ d. cc))
+
+  -- where a node is gone that is no child, only those that were wrong before
+  pub gone_keeps : (id : ℕ) (but : Option ℕ) → IsForest s' → entry s' id ≡ None → ((x : ℕ) → x ≢ id → told s' x ≡ told s x)
+      → ((x : ℕ) → x ≢ id → kids_of s' x ≡ kids_of s x) → KeepsBut R s but → KeepsBut R s' but
+  gone_keeps id but forest gone same kids keeps b v e stale =
+      let far : b ≢ id = (λ q. let n : None ≡ Some v = sym (ap block_of_entry gone) ∙ sym (ap (block_value s') q) ∙ e in cc n) in
+      let none : times (kids_of s' b) id ≡ 0 = forest.child_once b id ∙ ap (λ (o : Option (Entry L (Headed S))). points (parent_of_entry o) b) gone in
+      keeps_on R s s' b v e (same b far) (kids b far)
+      (λ x m. same x (λ q. omega (arith, m, none, ap (λ ks. times ks id) (kids b far), ap (times (kids_of s b)) q))) (λ w q. keeps b w q stale)
+
+  -- a leaf that leaves the list, and is in no block, leaves right what is
+  pub unlinked_keeps : (id : ℕ) → IsForest s' → Changes s s' id None → KeepsBut R s None → KeepsBut R s' None
+  unlinked_keeps id forest c = gone_keeps id None forest c.changed (told_changed s s' id None c) (λ x d. ap kids_of_entry (c.others x d))
+
+-- where a block is one of two, all but these two are all but it
+pub but_both : {L S : Type 0} (R : S → List (Option L × Option S) → Type 0) (s : Forest L (Headed S)) (block front rear : ℕ) → (block ≡ front) ⊎ (block ≡ rear)
+    → KeepsBut R s (Some block) → KeepsButBoth R s front rear
+but_both R s block front rear which keeps b v e n k =
+    keeps b v e (λ q. let c : block ≡ b = cc q in elim which [ | inl a ↦ n (sym c ∙ a) | inr a ↦ k (sym c ∙ a) ])
+
+-- where two neighbours were joined, each node but the one that is gone tells what it told
+pub joined_told : {L S : Type 0} (s : Forest L (Headed S)) (up front rear : ℕ) (s1 s2 s3 : Forest L (Headed S)) (want at : ℕ) → Regroups s s1 front rear want
+    → TakesChild s1 s2 up at rear → Changes s2 s3 rear None → (x : ℕ) → x ≢ rear → told s3 x ≡ told s x
+joined_told s up front rear s1 s2 s3 want at r t c x d =
+    told_changed s2 s3 rear None c x d ∙ told_from_values s1 s2 x (t.leaf_values x) (t.block_values x) ∙ told_from_values s s1 x (r.leaf_values x) (r.block_values x)
+
+-- where one of two blocks is gone and the other was made right, both are
+module _ {L S : Type 0} (R : S → List (Option L × Option S) → Type 0) (s s3 s4 : Forest L (Headed S)) (front rear : ℕ) (u4 : Retells R s3 s4 front) (differ : front ≢ rear)
+    (gone : entry s3 rear ≡ None) (kept : (x : ℕ) → x ≢ rear → told s3 x ≡ told s x) where
+  pub one_tells : RetellsBoth R s s4 front rear
+  one_tells =
+      record {
+        others = λ x d n. u4.others x d ∙ kept x n;
+        front_right = u4.right;
+        rear_right = λ v e.
+            let t : told s4 rear ≡ told s3 rear = u4.others rear (λ q. differ (sym q)) in
+            let n : None ≡ Some v.sum = sym (ap (λ (o : Option (Entry L (Headed S))). sum_of (block_of_entry o)) gone) ∙ sym (ap (λ (z : Option L × Option S). z.1) t) ∙ ap sum_of e in
+            absurd (cc n);
+      }
+
+-- where there is no block, none is wrong
+pub bare_keeps : {L S : Type 0} (R : S → List (Option L × Option S) → Type 0) (s : Forest L (Headed S)) → IsBare s → (but : Option ℕ) → KeepsBut R s but
+bare_keeps R s bare but b v e stale = absurd (let n : None ≡ Some v = sym (ap block_of_entry (bare.nodes b)) ∙ e in cc n)
