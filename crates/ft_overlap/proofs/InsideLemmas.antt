@@ -96,7 +96,7 @@ module _ (place : ℕ → ℤ) (a : Inside) (v : ItemList) (is : view_of a ≡ v
         let e : v.depth ≡ height_of a.arena root - 1 = ap (λ (w : ItemList). w.depth) (sym is) ∙ ap (depth_of a.arena) there in
         omega (arith, e, in_tree.shape.high root in_tree.shape.root_is_block)
 
-    in_blocks : v.blocks ≡ blocks_below a.arena (height_of a.arena root) (root ∷ [])
+    pub in_blocks : v.blocks ≡ blocks_below a.arena (height_of a.arena root) (root ∷ [])
     in_blocks = ap (λ (w : ItemList). w.blocks) (sym is) ∙ ap (all_blocks a.arena) there
 
     pub in_named : AreNamed a.arena

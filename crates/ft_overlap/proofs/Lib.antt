@@ -15,3 +15,6 @@ pub mod Inserted
 pub mod Only
 pub mod WalkedItems
 pub mod Taken
+pub mod ItemLists
+pub mod Leaves
+pub mod Whole
