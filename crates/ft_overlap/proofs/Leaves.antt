@@ -10,6 +10,7 @@ use Rattle.ft_arena.proofs.RingLemmas.{insert_after_later, without_here, without
 use Rattle.ft_shape.specs.Steps.{InsertsLeaf, TakesLeaf}
 use Rattle.ft_shape.proofs.EditLemmas.{insert_after_head}
 use Rattle.ft_shape.proofs.FitLemmas.{leaves_live}
+use Rattle.ft_shape.proofs.InsertLemmas.{room_leaves, room_values}
 use Rattle.ft_shape.proofs.WithoutLemmas.{without_apart}
 use Rattle.ft_overlap.specs.declared.items.Item.{Item}
 use Rattle.ft_overlap.specs.Items.{put_item, without_key}
@@ -102,3 +103,7 @@ without_cut [] ys id h n = without_here ys id ∙ without_apart ys id n
 without_cut (x ∷ xs) ys id h n =
     let d : x ≢ id = (λ e. omega (arith, h, ap (λ z. times (z ∷ xs) id) e, same_refl id)) in
     without_later x (xs ++ id ∷ ys) id d ∙ ap (λ (zs : List ℕ). x ∷ zs) (without_cut xs ys id (omega (arith, h)) n)
+
+-- room that was made for nodes leaves the items
+pub room_items : (s0 s1 : Nodes) → s1 ≡ record s0 { spare = s1.spare } → items_of s1 s1.leaves ≡ items_of s0 s0.leaves
+room_items s0 s1 room = ap (items_of s1) (room_leaves s0 s1 room) ∙ items_same s0 s1 s0.leaves (λ x m. room_values s0 s1 room x)

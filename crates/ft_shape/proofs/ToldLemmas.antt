@@ -201,3 +201,8 @@ module _ {L S : Type 0} (R : S → List (Option L × Option S) → Type 0) (s s3
 -- where there is no block, none is wrong
 pub bare_keeps : {L S : Type 0} (R : S → List (Option L × Option S) → Type 0) (s : Forest L (Headed S)) → IsBare s → (but : Option ℕ) → KeepsBut R s but
 bare_keeps R s bare but b v e stale = absurd (let n : None ≡ Some v = sym (ap block_of_entry (bare.nodes b)) ∙ e in cc n)
+
+-- room that was made for nodes leaves right what is
+pub room_keeps : {L S : Type 0} (R : S → List (Option L × Option S) → Type 0) (s0 s1 : Forest L (Headed S)) → s1 ≡ record s0 { spare = s1.spare } → KeepsBut R s0 None
+    → KeepsBut R s1 None
+room_keeps {L} {S} R s0 s1 room keeps = subst (λ (z : Forest L (Headed S)). KeepsBut R z None) (sym room) (λ b v e stale. keeps b v e stale)

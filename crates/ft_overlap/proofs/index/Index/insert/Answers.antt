@@ -1,7 +1,9 @@
-use Rattle.std.proofs.Common.{◌≡◌, ◌×◌, ℕ, List, ◌∷◌, sym, subst, ◌∙◌}
+use Rattle.std.proofs.Common.{sym, ap, subst, ◌∙◌}
 use Rattle.std.proofs.lemmas.List.Elements.{All-tail}
 use Rattle.ft_overlap.specs.declared.items.Item.{Item}
-use Rattle.ft_overlap.proofs.Whole.{in_last, in_starts, in_ends}
+use Rattle.ft_overlap.specs.Items.{ItemList, IsRising, put_item}
+use Rattle.ft_overlap.proofs.ItemLists.{rising_put}
+use Rattle.ft_overlap.proofs.Whole.{in_last, in_starts, in_ends, all_great}
 use Rattle.ft_overlap.proofs.index.Index.insert.Goals as goal
 
 pub insert_in-requires-clause-last : goal.insert_in-requires-clause-last
@@ -16,4 +18,11 @@ insert_in-requires-clause-known g c = in_ends (g.P.Places.place_of c.args.at.now
     (g.P.Places.Knows c.args.at.now) (All-tail (λ (y : Item). g.P.Places.Knows c.args.at.now y.start × g.P.Places.Knows c.args.at.now y.end) c.args.item c.args.self.now.items c.requires.known)
 
 pub returns-clause-order : goal.returns-clause-order
-returns-clause-order g c = ?
+returns-clause-order g c =
+    let place = g.P.Places.place_of c.args.at.now in
+    let old = ap (λ (w : ItemList). w.items) c.self.view_is in
+    record {
+      rising = subst (IsRising place) (sym (c.in_ok-self-inside.ensures.items ∙ ap (put_item place c.args.item) old))
+          (rising_put place c.args.item c.args.self.now.items c.requires.order.rising);
+      greatest = all_great place c.insert_in.new.arena c.in_ok-self-inside.field-0 c.in_ok-self-inside.ensures.rooted c.in_ok-self-inside.ensures.last;
+    }
