@@ -1,11 +1,10 @@
 -- How a search goes from child to child of a block.
-use Rattle.std.proofs.Common.{◌≡◌, ℕ, zero, suc, ℤ, ◌<ℤ◌, ◌≤ℤ◌, ◌<◌, ◌≤◌, ◌+◌, ◌*◌, Bool, true, false, not, ◌&&◌, List, [], ◌∷◌, ◌++◌, length, Contains, append_assoc, refl, sym, ap, subst, ◌∙◌, arith}
-use Rattle.std.proofs.lemmas.Int.{ints}
+use Rattle.std.proofs.Common.{◌≡◌, ℕ, zero, suc, ℤ, ◌<ℤ◌, ◌≤ℤ◌, ◌≤◌, ◌+◌, ◌*◌, true, false, not, ◌&&◌, List, [], ◌∷◌, ◌++◌, length, Contains, append_assoc, refl, sym, ap, subst, ◌∙◌, arith}
 use Rattle.std.proofs.lemmas.List.{append-nil, length-append}
 use Rattle.ft_overlap.specs.declared.items.Item.{Item}
 use Rattle.ft_overlap.specs.Items.{starts_by, ends_from, key_if, keys_within, IsRising, IsGreatest}
 use Rattle.ft_overlap.specs.Search.{keys_from, Collects, IsCheap}
-use Rattle.ft_overlap.proofs.Keys.{lt_true, lt_false, within-append, from-append, none_within, none_from, none_past, one_reaches, rising_rest, rising_front, nothing_right}
+use Rattle.ft_overlap.proofs.Keys.{lt_true, lt_false, within-append, from-append, none_within, none_from, none_past, one_reaches, rising_rest, nothing_right}
 
 -- of all items below a block, whose children head h levels, the rest is still to be searched; i children are done
 pub record Collecting (place : ℕ → ℤ) (a b : ℤ) (all rest : List Item) (h i : ℕ) (old now : List ℕ) (start steps : ℕ) : Type 0 where

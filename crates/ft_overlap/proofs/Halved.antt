@@ -1,13 +1,11 @@
 -- A block that was split, whose halves were named anew.
-use Rattle.std.proofs.Common.{◌≡◌, ◌≢◌, ℕ, ◌+◌, ◌^◌, ◌<◌, ◌≤◌, List, [], ◌∷◌, length, insert, Option, Some, None, IsSome, refl, sym, ap, subst, ◌∙◌, inl, inr, arith}
+use Rattle.std.proofs.Common.{◌≡◌, ◌≢◌, ℕ, ◌^◌, ◌<◌, List, [], ◌∷◌, Option, Some, None, refl, sym, ap, subst, ◌∙◌, inl, inr, arith}
 use Rattle.ft_arena.specs.declared.nodes.Node.{Node}
 use Rattle.ft_arena.specs.declared.nodes.Node.TheVariants.{Leaf, Block}
-use Rattle.ft_arena.specs.Ids.{times}
-use Rattle.ft_arena.specs.Forest.{Forest, Entry, IsForest, Changes, entry, kids_of, block_value, leaf_value, leaf_of_entry, block_of_entry}
-use Rattle.ft_arena.specs.Forest.{PutsChild}
+use Rattle.ft_arena.specs.Forest.{Entry, Changes, entry, kids_of, block_value, leaf_value, leaf_of_entry, block_of_entry}
 use Rattle.ft_shape.specs.declared.headed.Headed.{Headed}
 use Rattle.ft_shape.specs.Tree.{Measure, length_of, length_of_entry, length_of_node, total}
-use Rattle.ft_shape.specs.Steps.{Halves, PutsInHalf, Resums, SameShape}
+use Rattle.ft_shape.specs.Steps.{Halves, PutsInHalf, Resums}
 use Rattle.ft_shape.specs.Told.{sum_of, told}
 use Rattle.ft_shape.proofs.ToldLemmas.{told_from_values}
 use Rattle.ft_overlap.specs.declared.items.Item.{Item}

@@ -1,8 +1,8 @@
 -- An item that was linked, and is put into the tree.
-use Rattle.std.proofs.Common.{◌≡◌, ◌≢◌, ℕ, ◌≤◌, List, length, Option, Some, None, IsSome, refl, sym, ap, subst, ◌∙◌, inl, inr, arith}
+use Rattle.std.proofs.Common.{◌≡◌, ℕ, ◌≤◌, length, Option, Some, None, IsSome, sym, ap, subst, ◌∙◌, inl, inr, arith}
 use Rattle.std.proofs.lemmas.Bool.{cases_eq}
 use Rattle.ft_arena.specs.declared.nodes.Node.TheVariants.{Leaf}
-use Rattle.ft_arena.specs.Forest.{Entry, Changes, entry, kids_of, block_value, leaf_of_entry, block_of_entry}
+use Rattle.ft_arena.specs.Forest.{Entry, Changes, kids_of, block_value, leaf_of_entry, block_of_entry}
 use Rattle.ft_shape.specs.declared.headed.Headed.{Headed}
 use Rattle.ft_shape.specs.Tree.{IsTree, IsPartTree, total}
 use Rattle.ft_shape.specs.Told.{sum_of, told}

@@ -1,10 +1,10 @@
 -- What the fields of `Index` say of the value that callers see.
-use Rattle.std.proofs.Common.{◌≡◌, ◌≢◌, ℕ, zero, suc, ℤ, ◌+◌, ◌-◌, ◌*◌, ◌^◌, ◌<◌, ◌≤◌, List, [], ◌∷◌, ◌++◌, length, Option, Some, None, IsSome, All, Contains, refl, sym, ap, subst, ◌∙◌, inl, inr, arith}
+use Rattle.std.proofs.Common.{◌≡◌, ℕ, zero, suc, ℤ, ◌+◌, ◌-◌, ◌*◌, ◌^◌, ◌≤◌, List, [], ◌∷◌, ◌++◌, length, Option, Some, None, IsSome, Contains, refl, sym, ap, subst, ◌∙◌, inl, inr, arith}
 use Rattle.std.proofs.lemmas.Bool.{cases_eq}
 use Rattle.std.proofs.lemmas.List.Elements.{All-contains, Contains-append_left, Contains-append_right}
 use Rattle.std.specs.List.{flat_map}
 use Rattle.ft_arena.specs.Ids.{times}
-use Rattle.ft_arena.specs.Forest.{Forest, IsForest, entry, kids_of, block_value, leaf_value}
+use Rattle.ft_arena.specs.Forest.{entry, kids_of, block_value, leaf_value}
 use Rattle.ft_arena.proofs.IdLemmas.{same_refl, same_other}
 use Rattle.ft_shape.specs.declared.headed.Headed.{Headed}
 use Rattle.ft_shape.specs.Tree.{IsTree, IsBare, height_of, below}
@@ -15,7 +15,7 @@ use Rattle.ft_shape.proofs.KindLemmas.{block_live}
 use Rattle.ft_overlap.proofs.Named.{are_named}
 use Rattle.ft_overlap.specs.declared.items.Item.{Item}
 use Rattle.ft_overlap.specs.declared.index.Index.TheInside.{Inside}
-use Rattle.ft_overlap.specs.Items.{Below, ItemList, keys_within, IsInOrder, IsRising, AreKnown, IsGreatest, NamesGreatest}
+use Rattle.ft_overlap.specs.Items.{Below, ItemList, keys_within, IsInOrder, IsRising, AreKnown, NamesGreatest}
 use Rattle.ft_overlap.specs.Search.{IsCheap}
 use Rattle.ft_overlap.specs.Inside.{Nodes, item_of, items_of, items_under, items_below, block_of, blocks_of, blocks_below, depth_of, all_blocks, view_of, IsRooted, IsSound, AreNamed, AreGreatest}
 

@@ -1,12 +1,8 @@
 -- Places under which ends keep their order keep an index in order.
-use Rattle.std.proofs.Common.{◌≡◌, ◌⊎◌, ℕ, zero, suc, ℤ, ◌≤◌, ◌<◌, ◌≤ℤ◌, List, [], ◌∷◌, ◌++◌, length, Option, Some, None, All, Contains, refl, sym, ap, subst, ◌∙◌, inl, inr, arith}
-use Rattle.std.proofs.lemmas.List.Elements.{All-nil, All-cons, All-head, All-tail, All-append, All-contains, All-weaker, Contains-append_right}
-use Rattle.std.specs.List.{flat_map}
-use Rattle.ft_arena.specs.Ids.{times}
-use Rattle.ft_arena.specs.Forest.{kids_of, block_value, leaf_value}
+use Rattle.std.proofs.Common.{ℕ, ℤ, ◌≤ℤ◌, List, [], ◌∷◌, All, Contains, refl, inl, inr, arith}
+use Rattle.std.proofs.lemmas.List.Elements.{All-nil, All-cons, All-head, All-tail, All-weaker, Contains-append_right}
 use Rattle.ft_overlap.specs.declared.items.Item.{Item}
 use Rattle.ft_overlap.specs.Items.{Below, ItemList, IsInOrder, IsRising, IsGreatest, NamesGreatest, KeepsOrder, IsEndIn}
-use Rattle.ft_overlap.proofs.Keys.{all_front, all_rest}
 
 -- a list with each of its elements
 pub each_in : {X : Type 0} (xs : List X) → All (Contains xs) xs

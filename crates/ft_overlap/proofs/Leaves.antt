@@ -1,8 +1,8 @@
 -- The items of a list of leaves that gets one, or loses one.
-use Rattle.std.proofs.Common.{◌≡◌, ◌≢◌, ℕ, ℤ, ◌+◌, ◌<◌, ◌≤◌, ◌≤ℤ◌, List, [], ◌∷◌, ◌++◌, length, Option, Some, None, IsSome, All, Contains, refl, sym, ap, subst, ◌∙◌, inl, inr, arith, append_assoc}
+use Rattle.std.proofs.Common.{◌≡◌, ◌≢◌, ℕ, ℤ, ◌+◌, ◌≤◌, List, [], ◌∷◌, ◌++◌, Option, Some, None, IsSome, Contains, refl, sym, ap, subst, ◌∙◌, inl, inr, arith}
 use Rattle.std.proofs.lemmas.Bool.{cases_eq}
 use Rattle.std.proofs.lemmas.List.Elements.{Contains-append_right}
-use Rattle.ft_arena.specs.Ids.{times, insert_after, put_after, without}
+use Rattle.ft_arena.specs.Ids.{times, insert_after, without}
 use Rattle.ft_arena.specs.Forest.{IsForest, leaf_value, count_some}
 use Rattle.ft_arena.proofs.IdLemmas.{same_refl, same_other, times-append, times-without_same, insert_after_none}
 use Rattle.ft_arena.proofs.ArenaLemmas.{count_some_le}

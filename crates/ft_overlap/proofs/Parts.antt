@@ -1,18 +1,16 @@
 -- The items below each block that callers see are items of the index, and the block names one of them.
-use Rattle.std.proofs.Common.{◌≡◌, ℕ, zero, suc, ◌≤◌, List, [], ◌∷◌, ◌++◌, Option, Some, None, All, Contains, refl, sym, ap, subst, ◌∙◌, arith}
+use Rattle.std.proofs.Common.{◌≡◌, ℕ, zero, suc, List, [], ◌∷◌, ◌++◌, Option, Some, None, All, Contains, refl, sym, ap, subst, ◌∙◌, arith}
 use Rattle.std.proofs.lemmas.List.Elements.{All-nil, All-cons, All-append, All-weaker, Contains-append_left, Contains-append_right}
 use Rattle.std.specs.List.{flat_map}
-use Rattle.ft_arena.specs.Ids.{times}
 use Rattle.ft_arena.specs.Forest.{kids_of, block_value}
 use Rattle.ft_arena.proofs.IdLemmas.{same_refl}
 use Rattle.ft_shape.specs.declared.headed.Headed.{Headed}
 use Rattle.ft_shape.specs.Tree.{IsTree, height_of, below}
-use Rattle.ft_shape.specs.Told.{KeepsBut}
 use Rattle.ft_shape.proofs.Levels.{AllHigh, below-append, kids_high, root_high}
 use Rattle.ft_overlap.specs.declared.items.Item.{Item}
 use Rattle.ft_overlap.specs.declared.index.Index.TheInside.{Inside}
-use Rattle.ft_overlap.specs.Items.{Below, ItemList}
-use Rattle.ft_overlap.specs.Inside.{Nodes, items_of, items_under, items_below, block_of, blocks_of, blocks_below, all_blocks, view_of, IsRooted, IsSound, AreNamed, NamesOne}
+use Rattle.ft_overlap.specs.Items.{ItemList}
+use Rattle.ft_overlap.specs.Inside.{Nodes, items_of, items_under, block_of, blocks_of, blocks_below, all_blocks, view_of, IsRooted, IsSound, AreNamed}
 use Rattle.ft_overlap.proofs.Under.{items-append}
 use Rattle.ft_overlap.proofs.Named.{are_named}
 use Rattle.ft_overlap.proofs.Law.{IsPart, each_in}

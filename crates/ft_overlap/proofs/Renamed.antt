@@ -1,11 +1,9 @@
 -- What a block that is named anew leaves.
-use Rattle.std.proofs.Common.{◌≡◌, ◌≢◌, ℕ, ◌≤◌, List, map, Option, Some, None, IsSome, Contains, refl, sym, ap, subst, ◌∙◌, inl, inr, arith}
+use Rattle.std.proofs.Common.{◌≡◌, ℕ, List, map, Option, Some, None, sym, ap, subst, ◌∙◌, inl, inr}
 use Rattle.std.proofs.lemmas.Bool.{cases_eq}
-use Rattle.ft_arena.specs.Ids.{times}
-use Rattle.ft_arena.specs.Forest.{IsForest, kids_of, block_value, leaf_value, with_block}
+use Rattle.ft_arena.specs.Forest.{block_value, leaf_value, with_block}
 use Rattle.ft_shape.specs.declared.headed.Headed.{Headed}
-use Rattle.ft_shape.specs.Steps.{SameShape}
-use Rattle.ft_shape.specs.Told.{sum_of, told, Retells}
+use Rattle.ft_shape.specs.Told.{sum_of, told}
 use Rattle.ft_shape.proofs.ToldLemmas.{written_block, written_others}
 use Rattle.ft_overlap.specs.declared.items.Item.{Item}
 use Rattle.ft_overlap.specs.Inside.{Nodes, either_named, named_by, NamesOne, EndsKnown}

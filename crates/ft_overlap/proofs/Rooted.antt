@@ -1,8 +1,8 @@
 -- A new root over the old one and another node.
-use Rattle.std.proofs.Common.{◌≡◌, ◌≢◌, ℕ, List, [], ◌∷◌, Option, Some, None, refl, sym, ap, subst, ◌∙◌, inl, inr, arith}
+use Rattle.std.proofs.Common.{◌≡◌, ℕ, List, [], Option, Some, None, sym, ap, subst, ◌∙◌, inl, inr}
 use Rattle.std.proofs.lemmas.Bool.{cases_eq}
 use Rattle.ft_arena.specs.declared.nodes.Node.TheVariants.{Block}
-use Rattle.ft_arena.specs.Forest.{Entry, Changes, entry, leaf_value, block_value, leaf_of_entry, block_of_entry}
+use Rattle.ft_arena.specs.Forest.{Entry, Changes, leaf_value, block_value, leaf_of_entry, block_of_entry}
 use Rattle.ft_shape.specs.declared.headed.Headed.{Headed}
 use Rattle.ft_shape.specs.Told.{sum_of, told, Retells}
 use Rattle.ft_shape.proofs.ToldLemmas.{told_from_values}

@@ -1,8 +1,8 @@
 -- What a search of a block makes, child by child.
-use Rattle.std.proofs.Common.{◌≡◌, ℕ, zero, suc, ℤ, ◌+◌, ◌-◌, ◌≤◌, ◌≤ℤ◌, ◌++◌, List, [], true, false, drop, length, slice_get, Option, Some, None, IsSome, All, refl, sym, ap, subst, ◌∙◌, arith}
+use Rattle.std.proofs.Common.{◌≡◌, ℕ, zero, suc, ℤ, ◌+◌, ◌-◌, ◌≤◌, ◌≤ℤ◌, ◌++◌, List, [], true, false, drop, length, slice_get, Some, None, IsSome, refl, sym, ap, subst, ◌∙◌, arith}
 use Rattle.std.proofs.lemmas.List.{append-nil}
 use Rattle.ft_arena.specs.Ids.{times}
-use Rattle.ft_arena.specs.Forest.{Forest, entry, kids_of, block_value, parent_of}
+use Rattle.ft_arena.specs.Forest.{entry, kids_of, block_value}
 use Rattle.ft_shape.specs.declared.headed.Headed.{Headed}
 use Rattle.ft_shape.specs.Tree.{IsTree, height_of, below}
 use Rattle.ft_shape.proofs.Lists.{times_at, drop_none}

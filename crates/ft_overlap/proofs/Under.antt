@@ -1,12 +1,10 @@
 -- The items below a block, child by child.
-use Rattle.std.proofs.Common.{◌≡◌, ℕ, zero, suc, ◌+◌, ◌-◌, ◌≤◌, List, [], ◌∷◌, ◌++◌, drop, slice_get, Option, Some, None, refl, sym, ap, ◌∙◌, arith}
+use Rattle.std.proofs.Common.{◌≡◌, ℕ, suc, ◌+◌, List, [], ◌∷◌, ◌++◌, drop, slice_get, Option, Some, None, refl, sym, ap, ◌∙◌}
 use Rattle.std.proofs.lemmas.List.{append-nil}
-use Rattle.std.specs.List.{flat_map}
-use Rattle.ft_arena.specs.Forest.{Forest, leaf_value, kids_of}
-use Rattle.ft_shape.specs.declared.headed.Headed.{Headed}
-use Rattle.ft_shape.specs.Tree.{IsTree, height_of, below}
-use Rattle.ft_shape.proofs.Lists.{drop_at, times_at}
-use Rattle.ft_shape.proofs.Levels.{below-append, steps_down}
+use Rattle.ft_arena.specs.Forest.{leaf_value, kids_of}
+use Rattle.ft_shape.specs.Tree.{height_of, below}
+use Rattle.ft_shape.proofs.Lists.{drop_at}
+use Rattle.ft_shape.proofs.Levels.{below-append}
 use Rattle.ft_overlap.specs.declared.items.Item.{Item}
 use Rattle.ft_overlap.specs.Inside.{Nodes, item_of, items_of, items_under, items_below}
 

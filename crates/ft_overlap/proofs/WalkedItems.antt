@@ -1,10 +1,10 @@
 -- A walk over the list of leaves.
-use Rattle.std.proofs.Common.{◌≡◌, ◌≢◌, ℕ, ℤ, zero, suc, ◌+◌, ◌<◌, ◌≤◌, ◌≤ℤ◌, ◌<ℤ◌, List, [], ◌∷◌, ◌++◌, length, Option, Some, None, IsSome, All, refl, sym, ap, subst, ◌∙◌, inl, inr, arith, append_assoc, if◌then◌else◌, ◌==◌, eqb}
-use Rattle.std.proofs.lemmas.Bool.{cases_eq, cond-true, cond-false, eq-eqb, ne_eqb}
+use Rattle.std.proofs.Common.{◌≡◌, ◌≢◌, ℕ, ◌+◌, ◌<◌, ◌≤◌, List, [], ◌∷◌, ◌++◌, length, Option, Some, None, IsSome, All, refl, sym, ap, subst, ◌∙◌, arith, append_assoc, if◌then◌else◌, ◌==◌, eqb}
+use Rattle.std.proofs.lemmas.Bool.{cond-true, cond-false, eq-eqb, ne_eqb}
 use Rattle.std.proofs.lemmas.List.Elements.{All-nil, All-cons, All-append}
 use Rattle.ft_arena.specs.Ids.{times, first, after, without}
-use Rattle.ft_arena.specs.Forest.{IsForest, leaf_value, count_some}
-use Rattle.ft_arena.proofs.IdLemmas.{same_refl, same_other, times-append}
+use Rattle.ft_arena.specs.Forest.{IsForest, leaf_value}
+use Rattle.ft_arena.proofs.IdLemmas.{same_refl, times-append}
 use Rattle.ft_arena.proofs.ArenaLemmas.{count_some_le}
 use Rattle.ft_shape.proofs.FitLemmas.{leaves_live}
 use Rattle.ft_overlap.specs.declared.items.Item.{Item}

@@ -1,19 +1,18 @@
 -- What an index in order says of its nodes, and the other way round.
-use Rattle.std.proofs.Common.{◌≡◌, ℕ, zero, suc, ℤ, ◌≤◌, ◌≤ℤ◌, List, [], ◌∷◌, ◌++◌, Option, Some, None, All, Contains, refl, sym, ap, subst, ◌∙◌, arith}
+use Rattle.std.proofs.Common.{◌≡◌, ℕ, zero, suc, ℤ, List, [], ◌∷◌, Option, Some, None, All, Contains, refl, sym, ap, subst, ◌∙◌, arith}
 use Rattle.std.proofs.lemmas.List.Elements.{All-nil, All-cons, All-append, All-contains}
 use Rattle.std.specs.List.{flat_map}
-use Rattle.ft_arena.specs.Ids.{times}
 use Rattle.ft_arena.specs.Forest.{IsForest, kids_of, block_value, leaf_value, block_of_entry, count_some}
 use Rattle.ft_arena.proofs.IdLemmas.{same_refl}
 use Rattle.ft_shape.specs.declared.headed.Headed.{Headed}
 use Rattle.ft_shape.specs.Tree.{IsTree, IsBare, height_of}
-use Rattle.ft_shape.specs.Told.{sum_of, told, KeepsBut}
+use Rattle.ft_shape.specs.Told.{sum_of, KeepsBut}
 use Rattle.ft_shape.proofs.Levels.{AllHigh, kids_high, root_high}
 use Rattle.ft_shape.proofs.ToldLemmas.{bare_keeps}
 use Rattle.ft_overlap.specs.declared.items.Item.{Item}
 use Rattle.ft_overlap.specs.declared.index.Index.TheInside.{Inside}
 use Rattle.ft_overlap.specs.Items.{Below, ItemList, IsInOrder, AreKnown, IsGreatest, NamesGreatest}
-use Rattle.ft_overlap.specs.Inside.{Nodes, items_of, items_under, items_below, block_of, blocks_of, blocks_below, all_blocks, view_of, IsRooted, IsSound, either_named, AreGreatest, NamesOne, NamesLast, EndsKnown}
+use Rattle.ft_overlap.specs.Inside.{Nodes, items_under, items_below, block_of, blocks_of, blocks_below, all_blocks, view_of, IsRooted, IsSound, either_named, AreGreatest, NamesLast, EndsKnown}
 use Rattle.ft_overlap.proofs.Leaves.{items_in}
 use Rattle.ft_overlap.proofs.Law.{IsPart}
 use Rattle.ft_overlap.proofs.Parts.{in_parts}

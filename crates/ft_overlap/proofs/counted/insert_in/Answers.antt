@@ -1,4 +1,4 @@
-use Rattle.std.proofs.Common.{◌≡◌, ℕ, Option, Some, None, IsSome, ◌∷◌, ap, sym, subst, ◌∙◌, arith}
+use Rattle.std.proofs.Common.{◌≡◌, ℕ, Option, ap, sym, subst, ◌∙◌, arith}
 use Rattle.ft_arena.specs.Forest.{entry}
 use Rattle.ft_shape.specs.Tree.{IsTree}
 use Rattle.ft_shape.proofs.Levels.{height_fits}

@@ -1,5 +1,5 @@
-use Rattle.std.proofs.Common.{insert, ◌≡◌, ◌+◌, ℕ, Option, Some, None, IsSome, refl, sym, ap, subst, ◌∙◌, arith}
-use Rattle.ft_arena.specs.Forest.{entry, parent_of, kids_of, block_value}
+use Rattle.std.proofs.Common.{insert, ◌≡◌, ◌+◌, ℕ, Option, Some, refl, sym, subst, ◌∙◌, arith}
+use Rattle.ft_arena.specs.Forest.{entry, parent_of, kids_of}
 use Rattle.ft_arena.specs.Ids.{insert_after}
 use Rattle.ft_shape.specs.Tree.{height_of, IsGrowing}
 use Rattle.ft_shape.specs.Told.{KeepsBut}

@@ -1,6 +1,6 @@
-use Rattle.std.proofs.Common.{insert, ◌≡◌, ◌+◌, ◌-◌, ℕ, Option, Some, None, IsSome, refl, sym, ap, subst, ◌∙◌, arith}
+use Rattle.std.proofs.Common.{insert, ◌≡◌, ◌+◌, ℕ, Option, Some, sym, ap, subst, ◌∙◌, arith}
 use Rattle.std.proofs.lemmas.Option.{slice_get_within}
-use Rattle.ft_arena.specs.Forest.{entry, parent_of, kids_of, block_value}
+use Rattle.ft_arena.specs.Forest.{entry, parent_of, kids_of}
 use Rattle.ft_arena.specs.Ids.{insert_after}
 use Rattle.ft_shape.specs.Tree.{height_of, IsGrowing, insert_before}
 use Rattle.ft_shape.specs.Told.{KeepsBut}

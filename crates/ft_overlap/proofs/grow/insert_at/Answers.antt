@@ -1,7 +1,6 @@
-use Rattle.std.proofs.Common.{◌≡◌, ◌+◌, ◌-◌, ℕ, List, Option, Some, None, IsSome, refl, sym, ap, subst, ◌∙◌, arith}
-use Rattle.ft_arena.specs.Forest.{entry, parent_of}
+use Rattle.std.proofs.Common.{◌∙◌, arith}
+use Rattle.ft_arena.specs.Forest.{parent_of}
 use Rattle.ft_arena.specs.Ids.{insert_after}
-use Rattle.ft_shape.specs.Tree.{height_of}
 use Rattle.ft_shape.proofs.EditLemmas.{after_is_edit}
 use Rattle.ft_shape.proofs.Levels.{height_fits}
 use Rattle.ft_shape.proofs.RefreshLemmas.{SameShape-tree}

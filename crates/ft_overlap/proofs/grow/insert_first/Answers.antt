@@ -1,5 +1,5 @@
-use Rattle.std.proofs.Common.{◌≡◌, ℕ, [], None, refl, ap, sym, ◌∙◌, ◌∷◌}
-use Rattle.ft_arena.specs.Forest.{entry, block_of_entry}
+use Rattle.std.proofs.Common.{refl, ap, ◌∙◌}
+use Rattle.ft_arena.specs.Forest.{block_of_entry}
 use Rattle.ft_shape.proofs.RefreshLemmas.{SameShape-refl}
 use Rattle.ft_shape.proofs.FirstLemmas.{only_tree, only_inserts, o_block, o_kids_top}
 use Rattle.ft_overlap.proofs.Only.{first_one, first_last}

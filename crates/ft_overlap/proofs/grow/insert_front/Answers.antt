@@ -1,9 +1,8 @@
-use Rattle.std.proofs.Common.{[], length, ◌≡◌, ◌≤◌, ◌+◌, ◌-◌, ℕ, List, ◌∷◌, Option, Some, None, IsSome, ap, sym, ◌∙◌, arith}
+use Rattle.std.proofs.Common.{[], length, ◌≡◌, ◌≤◌, ℕ, List, ◌∷◌, Some, None, IsSome, ap, sym, ◌∙◌, arith}
 use Rattle.ft_arena.specs.Ids.{first}
 use Rattle.ft_arena.specs.Forest.{entry, leaf_value, parent_of}
 use Rattle.ft_arena.proofs.ArenaLemmas.{count_some_le}
 use Rattle.ft_shape.specs.Tree.{insert_before, height_of}
-use Rattle.ft_shape.specs.Steps.{InsertsLeaf}
 use Rattle.ft_shape.proofs.EditLemmas.{before_is_edit, front_is}
 use Rattle.ft_shape.proofs.Levels.{some_leaf, height_fits}
 use Rattle.ft_shape.proofs.FitLemmas.{leaves_live}

@@ -1,4 +1,3 @@
-use Rattle.std.proofs.Common.{◌≡◌, ℕ, List, length, refl, sym, ap, ◌∙◌, arith}
 use Rattle.ft_overlap.specs.Inside.{NamesOne, NamesLast}
 use Rattle.ft_overlap.proofs.Rooted.{added_known, rooted_tells}
 use Rattle.ft_overlap.proofs.Halved.{put_known}

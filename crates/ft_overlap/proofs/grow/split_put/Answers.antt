@@ -1,4 +1,4 @@
-use Rattle.std.proofs.Common.{◌≡◌, ℕ, List, length, refl, sym, ap, ◌∙◌, arith}
+use Rattle.std.proofs.Common.{ℕ, List, length, refl, ap, ◌∙◌, arith}
 use Rattle.ft_arena.specs.Ids.{times}
 use Rattle.ft_shape.proofs.SplitLemmas.{split_apart_front, split_apart_rear4, split_done, rear_not_in_front}
 use Rattle.ft_arena.specs.Forest.{entry}

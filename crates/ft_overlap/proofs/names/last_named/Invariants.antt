@@ -1,4 +1,4 @@
-use Rattle.std.proofs.Common.{◌≡◌, ◌≤◌, ◌+◌, ◌-◌, ℕ, length, take, map}
+use Rattle.std.proofs.Common.{◌≤◌, ◌-◌, length, take, map}
 use Rattle.ft_shape.specs.Told.{told}
 use Rattle.ft_overlap.specs.Inside.{NamesOne}
 use Rattle.ft_overlap.proofs.Last.{IsLastOf}

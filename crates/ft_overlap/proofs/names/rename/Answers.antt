@@ -1,5 +1,5 @@
-use Rattle.std.proofs.Common.{◌≡◌, ◌≤◌, ℕ, List, Option, None, Some, map, refl, sym, ap, subst, ◌∙◌, arith}
-use Rattle.ft_arena.specs.Forest.{entry, kids_of, kids_of_entry, kids_of_node, block_value, block_of_entry, block_of_node, leaf_value, leaf_of_entry, leaf_of_node, with_block}
+use Rattle.std.proofs.Common.{◌≡◌, ℕ, List, None, Some, map, refl, sym, ap, subst, ◌∙◌}
+use Rattle.ft_arena.specs.Forest.{kids_of, kids_of_entry, kids_of_node, block_value, block_of_entry, block_of_node, leaf_value, leaf_of_entry, leaf_of_node, with_block}
 use Rattle.ft_shape.specs.declared.headed.Headed.{Headed}
 use Rattle.ft_shape.specs.Steps.{SameShape}
 use Rattle.ft_shape.specs.Told.{told}

@@ -1,7 +1,5 @@
-use Rattle.std.proofs.Common.{◌≡◌, ℕ, Option, Some, None, sym, ap, subst, ◌∙◌, arith}
-use Rattle.ft_arena.specs.Forest.{entry, parent_of, block_value}
+use Rattle.std.proofs.Common.{ℕ, Option, sym, subst}
 use Rattle.ft_shape.specs.Told.{KeepsBut}
-use Rattle.ft_shape.proofs.KindLemmas.{block_live}
 use Rattle.ft_shape.proofs.RefreshLemmas.{SameShape-refl, SameShape-then, SameShape-part}
 use Rattle.ft_shape.proofs.ToldLemmas.{up_keeps}
 use Rattle.ft_overlap.specs.Inside.{NamesOne, NamesLast}

@@ -1,4 +1,4 @@
-use Rattle.std.proofs.Common.{ℕ, ◌≤ℤ◌}
+use Rattle.std.proofs.Common.{◌≤ℤ◌}
 use Rattle.ft_overlap.specs.declared.items.Item.{Item}
 use Rattle.ft_overlap.proofs.WalkedItems.{IsWalking, left_over}
 use Rattle.ft_overlap.proofs.places.place_for.Given as goal

@@ -1,6 +1,5 @@
-use Rattle.std.proofs.Common.{◌≡◌, ◌<◌, ℕ, [], Option, Some, None, refl, sym, subst, ◌∙◌}
+use Rattle.std.proofs.Common.{◌<◌, ℕ, [], Option, Some, None, refl, sym, subst}
 use Rattle.std.proofs.lemmas.List.Elements.{All-nil}
-use Rattle.ft_arena.specs.Ids.{first}
 use Rattle.ft_overlap.proofs.ItemLists.{HasNot}
 use Rattle.ft_overlap.proofs.WalkedItems.{IsWalking, left_over, walk_live, walk_more, walk_less, walk_found, walk_none}
 use Rattle.ft_overlap.proofs.places.with_key.Goals as goal

@@ -1,14 +1,14 @@
-use Rattle.std.proofs.Common.{Bool, ◌≡◌, ◌<◌, ◌≤◌, ◌+◌, ◌-◌, ◌<ℤ◌, ◌≤ℤ◌, ℕ, ℤ, List, [], ◌∷◌, Some, None, true, false, length, drop, slice_get, refl, sym, ap, subst, ◌∙◌, arith, rules}
-use Rattle.std.proofs.lemmas.Int.{ints, to_z-of_z}
+use Rattle.std.proofs.Common.{Bool, ◌≡◌, ◌<◌, ◌-◌, ◌<ℤ◌, ◌≤ℤ◌, ℕ, ℤ, List, [], ◌∷◌, Some, true, length, slice_get, sym, ap, subst, ◌∙◌, arith, rules}
+use Rattle.std.proofs.lemmas.Int.{ints}
 use Rattle.std.proofs.lemmas.Result.{IfOk-weaker}
 use Rattle.std.proofs.lemmas.Option.{slice_get_within}
 use Rattle.std.proofs.lemmas.List.Elements.{All-contains}
-use Rattle.ft_arena.specs.Forest.{entry, kids_of, kids_of_entry, kids_of_node, block_value, block_of_entry, block_of_node, leaf_value, leaf_of_entry, leaf_of_node}
-use Rattle.ft_shape.specs.Tree.{height_of, height_of_entry, height_of_node, below}
+use Rattle.ft_arena.specs.Forest.{kids_of, kids_of_entry, kids_of_node, block_value, block_of_entry, block_of_node, leaf_value, leaf_of_entry, leaf_of_node}
+use Rattle.ft_shape.specs.Tree.{height_of, height_of_entry, height_of_node}
 use Rattle.ft_overlap.specs.declared.items.Item.{Item}
 use Rattle.ft_overlap.specs.Items.{keys_within, AreKnown, IsRising}
 use Rattle.ft_overlap.specs.Search.{Collects, IsCheap}
-use Rattle.ft_overlap.specs.Inside.{items_of, items_below, item_of, items_under}
+use Rattle.ft_overlap.specs.Inside.{items_below, item_of, items_under}
 use Rattle.ft_overlap.proofs.Collecting.{passed_over, read_cheap}
 use Rattle.ft_overlap.proofs.SearchSteps.{b_high, b_all, b_start, k_high, k_live, k_known, k_known_rest, k_rising, k_step, k_stop, k_cheap, b_end, b_end_cheap}
 use Rattle.ft_overlap.proofs.search.+collect.Goals as goal

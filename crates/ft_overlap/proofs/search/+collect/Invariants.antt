@@ -1,5 +1,4 @@
-use Rattle.std.proofs.Common.{◌≡◌, ◌≤◌, ◌+◌, ◌-◌, ℕ, length, drop}
-use Rattle.ft_arena.specs.Forest.{kids_of}
+use Rattle.std.proofs.Common.{◌≤◌, ◌-◌, length, drop}
 use Rattle.ft_shape.specs.Tree.{height_of, below}
 use Rattle.ft_overlap.specs.Items.{AreKnown}
 use Rattle.ft_overlap.specs.Inside.{items_of, items_below}

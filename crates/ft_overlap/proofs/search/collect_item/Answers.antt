@@ -1,4 +1,4 @@
-use Rattle.std.proofs.Common.{◌≡◌, ◌<ℤ◌, ◌≤ℤ◌, ◌+◌, ◌++◌, ◌∷◌, [], ℕ, ℤ, List, true, sym, ap, ◌∙◌, arith, subst}
+use Rattle.std.proofs.Common.{◌<ℤ◌, ◌≤ℤ◌, ◌+◌, ◌∷◌, [], ℕ, ℤ, List, true, sym, arith, subst}
 use Rattle.std.proofs.lemmas.Int.{ints}
 use Rattle.ft_overlap.specs.Search.{Collects}
 use Rattle.ft_overlap.proofs.Collecting.{item_stop, item_in, item_out}

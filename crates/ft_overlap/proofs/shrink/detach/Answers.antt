@@ -1,4 +1,4 @@
-use Rattle.std.proofs.Common.{◌≡◌, ℕ, Some, None, IsSome, sym, subst, ◌∙◌, arith}
+use Rattle.std.proofs.Common.{◌≡◌, ℕ, Some, None, IsSome, sym, subst, ◌∙◌}
 use Rattle.std.proofs.lemmas.Option.{slice_get_within}
 use Rattle.ft_arena.specs.Forest.{kids_of, parent_of, block_value}
 use Rattle.ft_shape.proofs.TakenLemmas.{took_id, apart_part, SameShape-apart, taken_apart, tk_p_block, tk_child, tk_up_block, has_parent}

@@ -1,4 +1,4 @@
-use Rattle.std.proofs.Common.{◌≡◌, ◌≤◌, ◌-◌, ℕ, Some, IsSome}
+use Rattle.std.proofs.Common.{◌≡◌, ◌-◌, ℕ, Some, IsSome}
 use Rattle.ft_arena.specs.Forest.{block_value, leaf_value}
 use Rattle.ft_shape.specs.Tree.{IsApart, height_of}
 use Rattle.ft_shape.specs.Told.{KeepsBut}

@@ -1,7 +1,7 @@
-use Rattle.std.proofs.Common.{◌≡◌, ◌≤◌, ◌+◌, ◌*◌, ℕ, ℤ, List, [], length, ap, sym, subst, ◌∙◌, arith}
+use Rattle.std.proofs.Common.{ap, sym, ◌∙◌}
 use Rattle.std.proofs.lemmas.Int.{to_z-of_z}
 use Rattle.ft_overlap.specs.Items.{keys_within}
-use Rattle.ft_overlap.proofs.InsideLemmas.{in_depth, in_tree, in_items, in_height, in_known, in_rising, in_greatest, in_none, in_named, in_root_live, in_cost, in_keys}
+use Rattle.ft_overlap.proofs.InsideLemmas.{in_depth, in_tree, in_known, in_rising, in_greatest, in_none, in_named, in_root_live, in_cost, in_keys}
 use Rattle.ft_overlap.proofs.index.Index.query.Goals as goal
 
 pub returns-in-None-clause-keys : goal.returns-in-None-clause-keys
