@@ -8,44 +8,46 @@ use Rattle.ft_arena.specs.declared.nodes.Node.TheVariants.{Leaf, Block}
 use Rattle.ft_arena.proofs.IdLemmas.{same_other}
 use Rattle.std.proofs.lemmas.Bool.{cases_eq}
 use Rattle.ft_partial.specs.StepFunctions.{amount}
+use Rattle.ft_shape.specs.declared.headed.Headed.{Headed}
 use Rattle.ft_block.specs.declared.summaries.Summary.{Summary}
 use Rattle.ft_block.specs.declared.leaves.View.{View}
 use Rattle.ft_block.specs.Tree.{shows, shown_length}
-use Rattle.ft_block.specs.Tree.{total, Measure, length_of, length_of_entry, length_of_node, height_of, by_view, by_size, kept_length, HasRange, IsShape, IsTree}
-use Rattle.ft_block.specs.Tree.{IsPartTree, SumsBut, OwesAt, OwesAbove}
-use Rattle.ft_block.specs.Steps.{SameShape, Resums}
-use Rattle.ft_block.proofs.Levels.{block_from_height}
-use Rattle.ft_block.proofs.EditLemmas.{is_some_from}
-use Rattle.ft_block.proofs.FitLemmas.{kids_fit}
+use Rattle.ft_shape.specs.Tree.{total, Measure, length_of, length_of_entry, length_of_node, height_of, IsShape, IsTree}
+use Rattle.ft_block.specs.Tree.{by_view, by_size, kept_length, HasRange}
+use Rattle.ft_shape.specs.Tree.{IsPartTree, SumsBut, OwesAt, OwesAbove}
+use Rattle.ft_shape.specs.Steps.{SameShape, Resums}
+use Rattle.ft_shape.proofs.Levels.{block_from_height}
+use Rattle.ft_shape.proofs.EditLemmas.{is_some_from}
+use Rattle.ft_shape.proofs.FitLemmas.{kids_fit}
 use Rattle.ft_block.proofs.ViewLemmas.{all_fit}
 use Rattle.ft_block.proofs.KeptLemmas.{kept_low, settled}
-use Rattle.ft_block.proofs.RefreshLemmas.{refreshed_shape, refreshed_sums, SameShape-shape, SameShape-sums, SameShape-owes}
-use Rattle.ft_block.proofs.KindLemmas.{kind_height, block_live}
+use Rattle.ft_shape.proofs.RefreshLemmas.{refreshed_shape, refreshed_sums, SameShape-shape, SameShape-sums, SameShape-owes}
+use Rattle.ft_shape.proofs.KindLemmas.{kind_height, block_live}
 
 -- how many blocks are still to be reached
-pub levels_left : {L : Type 0} → Forest L Summary → ℕ → Option ℕ → ℕ
+pub levels_left : {L : Type 0} → Forest L (Headed Summary) → ℕ → Option ℕ → ℕ
 levels_left s root None = 0
 levels_left s root (Some b) = (height_of s root + 1) - height_of s b
 
-levels_some : {L : Type 0} (s : Forest L Summary) (root b : ℕ) → levels_left s root (Some b) ≡ (height_of s root + 1) - height_of s b
+levels_some : {L : Type 0} (s : Forest L (Headed Summary)) (root b : ℕ) → levels_left s root (Some b) ≡ (height_of s root + 1) - height_of s b
 unfolding levels_left
 levels_some s root b = refl
 
 module _ {L : Type 0} where
-  pub block_length : (measure : Measure L) (o : Option (Entry L Summary)) (v : Summary) → block_of_entry o ≡ Some v → length_of_entry measure o ≡ measure.block v
+  pub block_length : (measure : Measure L Summary) (o : Option (Entry L (Headed Summary))) (v : Headed Summary) → block_of_entry o ≡ Some v → length_of_entry measure o ≡ measure.block v
   block_length measure None v e = cc
   block_length measure (Some x) v e = of_node x.node e
     where
-      of_node : (n : Node L Summary) → block_of_node n ≡ Some v → length_of_node measure n ≡ measure.block v
+      of_node : (n : Node L (Headed Summary)) → block_of_node n ≡ Some v → length_of_node measure n ≡ measure.block v
       of_node (Leaf w) e = cc
       of_node (Block ks w) e = let q : w ≡ v = cc in ap measure.block q
 
   -- a whole tree is a tree of some of the leaves
-  pub tree_part : (s : Forest L Summary) (root : ℕ) → IsTree s root → IsPartTree s root None None
+  pub tree_part : (s : Forest L (Headed Summary)) (root : ℕ) → IsTree s root → IsPartTree s root None None
   tree_part s root t = record { shape = t.shape; low = λ id e. cc e; part = λ f. omega (arith, ap (total f) t.leaves) }
 
   -- no block is a child of its own
-  pub no_own_child : (s : Forest L Summary) (root : ℕ) (extra short : Option ℕ) → IsShape s root extra short → (b : ℕ) → times (kids_of s b) b ≡ 0
+  pub no_own_child : (s : Forest L (Headed Summary)) (root : ℕ) (extra short : Option ℕ) → IsShape s root extra short → (b : ℕ) → times (kids_of s b) b ≡ 0
   no_own_child s root extra short t b = t.forest.child_once b b ∙ none (parent_of s b) refl
     where
       none : (o : Option ℕ) → parent_of s b ≡ o → points o b ≡ 0
@@ -55,8 +57,8 @@ module _ {L : Type 0} where
         | inr d ↦ same_other p b d
       ]
 
-module _ {L : Type 0} (size : L → ℕ) (element : L → Element) (floor : ℕ) (s : Forest L Summary) (root : ℕ) (extra short : Option ℕ) (t : IsPartTree s root extra short)
-    (fits : total (length_of (by_size size) s) s.leaves < 2 ^ 64) (b : ℕ) (v w : Summary) (found : block_value s b ≡ Some v) (height : w.height ≡ v.height) where
+module _ {L : Type 0} (size : L → ℕ) (element : L → Element) (floor : ℕ) (s : Forest L (Headed Summary)) (root : ℕ) (extra short : Option ℕ) (t : IsPartTree s root extra short)
+    (fits : total (length_of (by_size size) s) s.leaves < 2 ^ 64) (b : ℕ) (v w : Headed Summary) (found : block_value s b ≡ Some v) (height : w.height ≡ v.height) where
   ex_block : IsSome (block_value s b)
   ex_block = is_some_from (block_value s b) v found
 
@@ -77,14 +79,14 @@ module _ {L : Type 0} (size : L → ℕ) (element : L → Element) (floor : ℕ)
           fits,
         )
 
-    module _ (more less : ℕ) (low : HasRange w) (ex : (kept_length view w + less) % 2 ^ 64 ≡ (kept_length view v + more) % 2 ^ 64)
+    module _ (more less : ℕ) (low : HasRange w.sum) (ex : (kept_length view w.sum + less) % 2 ^ 64 ≡ (kept_length view v.sum + more) % 2 ^ 64)
         (owes : OwesAt (by_view size element view) s (Some b) more less) where
       pub ex_resums : Resums (by_view size element view) s (with_block s b w) b
       ex_resums =
-          let was : length_of (by_view size element view) s b ≡ kept_length view v = block_length (by_view size element view) (entry s b) v found in
+          let was : length_of (by_view size element view) s b ≡ kept_length view v.sum = block_length (by_view size element view) (entry s b) v found in
           refreshed_sums (by_view size element view) s b v w found (no_own_child s root extra short t.shape b)
-          (settled (kept_length view w) (kept_length view v) more less (total (length_of (by_view size element view) s) (kids_of s b)) ex
-          (ap (λ (x : ℕ). x + more) (sym was) ∙ owes b refl) (kept_low w low view) ex_fits)
+          (settled (kept_length view w.sum) (kept_length view v.sum) more less (total (length_of (by_view size element view) s) (kids_of s b)) ex
+          (ap (λ (x : ℕ). x + more) (sym was) ∙ owes b refl) (kept_low w.sum low view) ex_fits)
 
       pub ex_sums : SumsBut (by_view size element view) (with_block s b w) (parent_of (with_block s b w) b)
       ex_sums = SameShape-sums (by_view size element view) s (with_block s b w) b ex_shape ex_resums sums
@@ -93,7 +95,7 @@ module _ {L : Type 0} (size : L → ℕ) (element : L → Element) (floor : ℕ)
       ex_owes = SameShape-owes (by_view size element view) s (with_block s b w) b more less ex_shape ex_resums sums (no_own_child s root extra short t.shape b) owes
 
 -- the next block up is a block, and fewer are left
-module _ {L : Type 0} (s : Forest L Summary) (root : ℕ) (extra short : Option ℕ) (t : IsPartTree s root extra short) (b : ℕ) (v w : Summary)
+module _ {L : Type 0} (s : Forest L (Headed Summary)) (root : ℕ) (extra short : Option ℕ) (t : IsPartTree s root extra short) (b : ℕ) (v w : Headed Summary)
     (found : block_value s b ≡ Some v) (height : w.height ≡ v.height) where
   nx_shape : SameShape s (with_block s b w)
   nx_shape = refreshed_shape s b v w found height t.shape.forest
@@ -128,7 +130,7 @@ module _ {L : Type 0} (size : L → ℕ) (element : L → Element) (view : View)
   leaf_amount leaf e n is many = ap (λ z. amount (shows view z) n) is ∙ ap (λ (k : ℕ). amount (shows view (element leaf)) k) many
 
   -- a leaf is put in where there was none
-  pub comes : (s : Forest L Summary) (at : ℕ) (ed : List ℕ → List ℕ) (leaf : L) (e : Element) (n : ℕ) → e ≡ element leaf → n ≡ size leaf
+  pub comes : (s : Forest L (Headed Summary)) (at : ℕ) (ed : List ℕ → List ℕ) (leaf : L) (e : Element) (n : ℕ) → e ≡ element leaf → n ≡ size leaf
       → OwesAbove (by_view size element view) s at ed (0 + shown_length size element view leaf) 0
       → OwesAbove (by_view size element view) s at ed (amount (shows view e) n) (amount (shows view e) 0)
   comes s at ed leaf e n is many owes =
@@ -137,7 +139,7 @@ module _ {L : Type 0} (size : L → ℕ) (element : L → Element) (view : View)
       subst (λ (k : ℕ). OwesAbove (by_view size element view) s at ed (amount (shows view e) n) k) b (subst (λ (k : ℕ). OwesAbove (by_view size element view) s at ed k 0) a owes)
 
   -- a leaf is taken out
-  pub goes : (s : Forest L Summary) (stale : Option ℕ) (leaf : L) (e : Element) (n : ℕ) → e ≡ element leaf → n ≡ size leaf
+  pub goes : (s : Forest L (Headed Summary)) (stale : Option ℕ) (leaf : L) (e : Element) (n : ℕ) → e ≡ element leaf → n ≡ size leaf
       → OwesAt (by_view size element view) s stale 0 (shown_length size element view leaf)
       → OwesAt (by_view size element view) s stale (amount (shows view e) 0) (amount (shows view e) n)
   goes s stale leaf e n is many owes =
@@ -145,7 +147,7 @@ module _ {L : Type 0} (size : L → ℕ) (element : L → Element) (view : View)
       (subst (λ (k : ℕ). OwesAt (by_view size element view) s stale k (shown_length size element view leaf)) (sym (none_gone (shows view e))) owes)
 
   -- a leaf changes
-  pub turns : (s : Forest L Summary) (stale : Option ℕ) (v w : L) (e f : Element) (n m : ℕ) → e ≡ element v → n ≡ size v → f ≡ element w → m ≡ size w
+  pub turns : (s : Forest L (Headed Summary)) (stale : Option ℕ) (v w : L) (e f : Element) (n m : ℕ) → e ≡ element v → n ≡ size v → f ≡ element w → m ≡ size w
       → OwesAt (by_view size element view) s stale (shown_length size element view w) (shown_length size element view v)
       → OwesAt (by_view size element view) s stale (amount (shows view f) m) (amount (shows view e) n)
   turns s stale v w e f n m ev nv fw mw owes =
@@ -153,5 +155,5 @@ module _ {L : Type 0} (size : L → ℕ) (element : L → Element) (view : View)
       (subst (λ (k : ℕ). OwesAt (by_view size element view) s stale k (shown_length size element view v)) (sym (leaf_amount w f m fw mw)) owes)
 
 -- who is a parent in a tree is a block
-pub parent_block : {L : Type 0} (s : Forest L Summary) (root : ℕ) → IsTree s root → (at b : ℕ) → parent_of s at ≡ Some b → IsSome (block_value s b)
+pub parent_block : {L : Type 0} (s : Forest L (Headed Summary)) (root : ℕ) → IsTree s root → (at b : ℕ) → parent_of s at ≡ Some b → IsSome (block_value s b)
 parent_block s root t at b up = block_from_height (entry s b) (omega (arith, t.shape.heights at b up))

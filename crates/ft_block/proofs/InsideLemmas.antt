@@ -6,6 +6,7 @@ use Rattle.ft_base.specs.declared.elements.Element.{Element}
 use Rattle.ft_arena.specs.Ids.{times, put_after, without}
 use Rattle.ft_arena.specs.Forest.{Forest, IsForest, IsPlace, leaf_value, count_some}
 use Rattle.ft_arena.proofs.ArenaLemmas.{count_some_le}
+use Rattle.ft_shape.specs.declared.headed.Headed.{Headed}
 use Rattle.ft_block.specs.declared.summaries.Summary.{Summary}
 use Rattle.ft_block.specs.declared.blocks.Blocks.TheInside.{Inside}
 use Rattle.ft_block.specs.declared.leaves.LenView.{LenView}
@@ -13,18 +14,19 @@ use Rattle.ft_block.specs.declared.leaves.View.{View}
 use Rattle.ft_block.specs.Leaves.{LeafList, IsFromFloor, IsLeafIn, IsPlaceIn, ids, times_leaf, value_at, length_by, place_from, place_by, left_of, put_leaf, change_leaf}
 use Rattle.ft_block.specs.Leaves.{split_leaf, without_leaf, move_leaf}
 use Rattle.ft_block.specs.Inside.{pair_of, pairs_of, depth_of, view_of, IsRooted, IsSound, IsSoundIfUsable}
-use Rattle.ft_block.specs.Tree.{Measure, IsTree, KeepsLengths, length_of, total, seek, numbers_before, by_size}
-use Rattle.ft_block.specs.Steps.{InsertsLeaf, SplitsLeaf, ChangesLeaf, TakesLeaf, MovesLeaf}
-use Rattle.ft_block.proofs.FitLemmas.{AllLeaves, leaves_live}
-use Rattle.ft_block.proofs.Levels.{depth_bound}
+use Rattle.ft_shape.specs.Tree.{Measure, IsTree, length_of, total, seek, numbers_before}
+use Rattle.ft_block.specs.Tree.{KeepsLengths, by_size}
+use Rattle.ft_shape.specs.Steps.{InsertsLeaf, SplitsLeaf, ChangesLeaf, TakesLeaf, MovesLeaf}
+use Rattle.ft_shape.proofs.FitLemmas.{AllLeaves, leaves_live}
+use Rattle.ft_shape.proofs.Levels.{depth_bound}
 use Rattle.ft_block.proofs.PositionLemmas.{times-before_le}
 use Rattle.ft_block.proofs.SoundLemmas.{rooted_forest}
 use Rattle.ft_block.proofs.LeafListLemmas.{to_found, to_found_some, length-pairs, ids-pairs, length_by-pairs, place_from-pairs, times-pairs, value_at-pairs, value_at_in}
 use Rattle.ft_block.proofs.LeafListLemmas.{left_of-pairs, pairs-put, pairs-change, pairs-split, pairs-without}
-use Rattle.ft_block.proofs.EditLemmas.{some_of}
-use Rattle.ft_block.proofs.WithoutLemmas.{times-without_le}
+use Rattle.ft_shape.proofs.EditLemmas.{some_of}
+use Rattle.ft_shape.proofs.WithoutLemmas.{times-without_le}
 
-rooted_depth : {L : Type 0} (s : Forest L Summary) (root : Option ℕ) → IsRooted s root → 4 ^ depth_of s root ≤ length s.leaves + 1
+rooted_depth : {L : Type 0} (s : Forest L (Headed Summary)) (root : Option ℕ) → IsRooted s root → 4 ^ depth_of s root ≤ length s.leaves + 1
 rooted_depth s None t = omega arith
 rooted_depth s (Some root) t = depth_bound s root t
 
@@ -36,7 +38,7 @@ one_filled : {L : Type 0} (size : L → ℕ) (x : ℕ) (o : Option L) (rest : Li
 one_filled size x None rest k h = h
 one_filled size x (Some v) rest k h = All-cons (λ y. 1 ≤ size y.1) (x, v) rest (k v refl) h
 
-all_filled : {L : Type 0} (size : L → ℕ) (s : Forest L Summary) (xs : List ℕ) → ((id : ℕ) (v : L) → leaf_value s id ≡ Some v → 1 ≤ size v) → All (λ x. 1 ≤ size x.1) (pairs_of s xs)
+all_filled : {L : Type 0} (size : L → ℕ) (s : Forest L (Headed Summary)) (xs : List ℕ) → ((id : ℕ) (v : L) → leaf_value s id ≡ Some v → 1 ≤ size v) → All (λ x. 1 ≤ size x.1) (pairs_of s xs)
 all_filled size s [] h = All-nil (λ x. 1 ≤ size x.1)
 all_filled size s (x ∷ xs) h = one_filled size x (leaf_value s x) (pairs_of s xs) (h x) (all_filled size s xs h)
 
@@ -94,15 +96,15 @@ module _ {L Change : Type 0} (size : L → ℕ) (element : L → Element) (a : I
   pub in_value_and : (id : ℕ) (P : L → Type 0) → IsSomeAnd (value_at v.leaves id) P → IsSomeAnd (leaf_value a.arena id) P
   in_value_and id P h = subst (λ (o : Option L). IsSomeAnd o P) (in_value id (value_at_in v.leaves id P h)) h
 
-  pub in_length : (measure : Measure L) → length_by measure.leaf v.leaves ≡ total (length_of measure a.arena) a.arena.leaves
+  pub in_length : (measure : Measure L Summary) → length_by measure.leaf v.leaves ≡ total (length_of measure a.arena) a.arena.leaves
   in_length measure = ap (length_by measure.leaf) in_leaves ∙ length_by-pairs measure a.arena a.arena.leaves in_live
 
-  pub in_position : (measure : Measure L) (id : ℕ) → length_by measure.leaf (left_of v.leaves id) ≡ total (length_of measure a.arena) (numbers_before a.arena.leaves id)
+  pub in_position : (measure : Measure L Summary) (id : ℕ) → length_by measure.leaf (left_of v.leaves id) ≡ total (length_of measure a.arena) (numbers_before a.arena.leaves id)
   in_position measure id =
       ap (λ ps. length_by measure.leaf (left_of ps id)) in_leaves ∙ ap (length_by measure.leaf) (left_of-pairs a.arena a.arena.leaves id in_live)
       ∙ length_by-pairs measure a.arena (numbers_before a.arena.leaves id) (λ x m. in_live x (omega (arith, m, times-before_le a.arena.leaves id x)))
 
-  pub in_found : (measure : Measure L) (p x q : ℕ) → 1 ≤ p → seek (length_of measure a.arena) a.arena.leaves p ≡ Some (x, q)
+  pub in_found : (measure : Measure L Summary) (p x q : ℕ) → 1 ≤ p → seek (length_of measure a.arena) a.arena.leaves p ≡ Some (x, q)
       → place_by measure.leaf v.leaves p ≡ Some record { leaf = Some x; offset = q }
   in_found measure p x q h e =
       place_past_head measure.leaf v.leaves p h ∙ ap (λ ps. place_from measure.leaf ps p) in_leaves ∙ place_from-pairs measure a.arena a.arena.leaves p in_live
@@ -114,14 +116,14 @@ module _ {L Change : Type 0} (size : L → ℕ) (element : L → Element) (a : I
   pub in_few : length_by size v.leaves < 2 ^ 64
   in_few = omega (arith, in_length (by_size size), in_sound.fits)
 
-  pub in_put : (new : Forest L Summary) (at : Option ℕ) (id : ℕ) (leaf : L) → InsertsLeaf a.arena new id leaf (λ xs. put_after xs at id)
+  pub in_put : (new : Forest L (Headed Summary)) (at : Option ℕ) (id : ℕ) (leaf : L) → InsertsLeaf a.arena new id leaf (λ xs. put_after xs at id)
       → pairs_of new new.leaves ≡ put_leaf v.leaves at (id, leaf)
   in_put new at id leaf i =
       let none : times a.arena.leaves id ≡ 0 = in_forest.leaf_once id ∙ ap count_some i.fresh in
       ap (pairs_of new) i.leaves ∙ pairs-put a.arena new a.arena.leaves at id leaf in_live (λ x m. i.others x (λ e. omega (arith, m, none, ap (times a.arena.leaves) e)))
       i.value ∙ ap (λ (ps : List (ℕ × L)). put_leaf ps at (id, leaf)) (sym in_leaves)
 
-  pub in_split : (front rear : L → L) (new : Forest L Summary) (leaf id : ℕ) → SplitsLeaf front rear a.arena new leaf id
+  pub in_split : (front rear : L → L) (new : Forest L (Headed Summary)) (leaf id : ℕ) → SplitsLeaf front rear a.arena new leaf id
       → pairs_of new new.leaves ≡ split_leaf front rear v.leaves leaf id
   in_split front rear new leaf id i =
       let none : times a.arena.leaves id ≡ 0 = in_forest.leaf_once id ∙ ap count_some i.fresh in
@@ -129,7 +131,7 @@ module _ {L Change : Type 0} (size : L → ℕ) (element : L → Element) (a : I
       (λ x m d. i.others x d (λ e. omega (arith, m, none, ap (times a.arena.leaves) e)))
       ∙ ap (λ (ps : List (ℕ × L)). split_leaf front rear ps leaf id) (sym in_leaves)
 
-  pub in_change : (f : L → L) (new : Forest L Summary) (leaf : ℕ) → ChangesLeaf f a.arena new leaf → pairs_of new new.leaves ≡ change_leaf f v.leaves leaf
+  pub in_change : (f : L → L) (new : Forest L (Headed Summary)) (leaf : ℕ) → ChangesLeaf f a.arena new leaf → pairs_of new new.leaves ≡ change_leaf f v.leaves leaf
   in_change f new leaf i =
       ap (pairs_of new) i.leaves ∙ pairs-change f a.arena new a.arena.leaves leaf i.was in_live i.old_value i.new_value i.others
       ∙ ap (λ (ps : List (ℕ × L)). change_leaf f ps leaf) (sym in_leaves)
@@ -137,11 +139,11 @@ module _ {L Change : Type 0} (size : L → ℕ) (element : L → Element) (a : I
   pub in_some : All (λ x. 1 ≤ size x.1) v.leaves
   in_some = subst (λ (ps : List (ℕ × L)). All (λ x. 1 ≤ size x.1) ps) (sym in_leaves) (all_filled size a.arena a.arena.leaves in_sound.filled)
 
-  pub in_take : (new : Forest L Summary) (leaf : ℕ) (value : L) → TakesLeaf a.arena new leaf value → pairs_of new new.leaves ≡ without_leaf v.leaves leaf
+  pub in_take : (new : Forest L (Headed Summary)) (leaf : ℕ) (value : L) → TakesLeaf a.arena new leaf value → pairs_of new new.leaves ≡ without_leaf v.leaves leaf
   in_take new leaf value i = ap (pairs_of new) i.leaves ∙ pairs-without a.arena new a.arena.leaves leaf in_live (λ x m d. i.others x d)
       ∙ ap (λ (ps : List (ℕ × L)). without_leaf ps leaf) (sym in_leaves)
 
-  pub in_move : (new : Forest L Summary) (leaf : ℕ) (at : Option ℕ) → IsLeafIn v.leaves leaf → MovesLeaf a.arena new leaf at
+  pub in_move : (new : Forest L (Headed Summary)) (leaf : ℕ) (at : Option ℕ) → IsLeafIn v.leaves leaf → MovesLeaf a.arena new leaf at
       → pairs_of new new.leaves ≡ move_leaf v.leaves leaf at (value_at v.leaves leaf)
   in_move new leaf at there i =
       let w = some_of (leaf_value a.arena leaf) (in_leaf leaf there) in

@@ -7,6 +7,7 @@ use Rattle.ft_arena.specs.declared.nodes.Node.TheVariants.{Leaf, Block}
 use Rattle.ft_arena.specs.Forest.{Forest, Changes, entry, block_value, block_of_entry}
 use Rattle.ft_partial.specs.StepFunctions.{amount}
 use Rattle.ft_partial.specs.Tables.{Lengths, length_at, SameFrom, Exchanges}
+use Rattle.ft_shape.specs.declared.headed.Headed.{Headed}
 use Rattle.ft_block.specs.declared.summaries.Summary.{Summary}
 use Rattle.ft_block.specs.declared.leaves.View.{View}
 use Rattle.ft_block.specs.declared.leaves.View.TheVariants.{Of, Pending}
@@ -23,7 +24,6 @@ pub exchange_keeps : (floor : ℕ) (old : Summary) (mid new : Lengths) (gone com
     → gone ≡ amount (shows (Of last_stage) e) n → come ≡ amount (shows (Of last_stage) f) m → settled ≡ amount (shows Pending e) n → pending ≡ amount (shows Pending f) m
     → SameFrom floor old.table mid → mid.floor ≡ floor → Exchanges mid new e n f m
     → KeepsExchange floor old (record {
-      height = old.height;
       whole = ((old.whole + (18446744073709551616 - n)) % 18446744073709551616 + m) % 18446744073709551616;
       local =
           ((old.local + (18446744073709551616 - gone)) % 18446744073709551616 + come) % 18446744073709551616;
@@ -71,7 +71,7 @@ pub one_more : (kept kept' n rest whole : ℕ) → kept' ≡ (kept + n) % 2 ^ 64
 one_more kept kept' n rest whole e so_far fits = omega arith
 
 -- a node that is read has a table with a floor up to this one
-pub node_from : {L : Type 0} (floor : ℕ) (s : Forest L Summary) (id : ℕ) (n : Node L Summary) (p : Option ℕ) → AreFromFloor floor s → entry s id ≡ Some record {
+pub node_from : {L : Type 0} (floor : ℕ) (s : Forest L (Headed Summary)) (id : ℕ) (n : Node L (Headed Summary)) (p : Option ℕ) → AreFromFloor floor s → entry s id ≡ Some record {
   node =
       n;
   parent = p;
@@ -86,21 +86,21 @@ settled kept' kept more less t e owes low fits =
     omega (arith, q)
 
 -- the tables' floors where blocks keep their values, or a new block comes
-pub same_floors : {L : Type 0} (floor : ℕ) (s s' : Forest L Summary) → ((x : ℕ) → block_value s' x ≡ block_value s x) → AreFromFloor floor s → AreFromFloor floor s'
+pub same_floors : {L : Type 0} (floor : ℕ) (s s' : Forest L (Headed Summary)) → ((x : ℕ) → block_value s' x ≡ block_value s x) → AreFromFloor floor s → AreFromFloor floor s'
 same_floors floor s s' same all x v e = all x v (sym (same x) ∙ e)
 
-pub added_floors : {L : Type 0} (floor : ℕ) (s s' : Forest L Summary) (id : ℕ) (z : Summary) (p : Option ℕ)
-    → Changes s s' id (Some record { node = Block [] z; parent = p }) → z.table.floor ≡ floor → AreFromFloor floor s → AreFromFloor floor s'
+pub added_floors : {L : Type 0} (floor : ℕ) (s s' : Forest L (Headed Summary)) (id : ℕ) (z : Headed Summary) (p : Option ℕ)
+    → Changes s s' id (Some record { node = Block [] z; parent = p }) → z.sum.table.floor ≡ floor → AreFromFloor floor s → AreFromFloor floor s'
 added_floors floor s s' id z p c is all x v e = elim (cases_eq x id) [
   | inl q ↦
       let now : Some v ≡ Some z = sym e ∙ ap (block_value s') q ∙ ap block_of_entry c.changed in
       let same : v ≡ z = cc now in
-      omega (arith, ap (λ (y : Summary). y.table.floor) same, is)
+      omega (arith, ap (λ (y : Headed Summary). y.sum.table.floor) same, is)
   | inr d ↦ all x v (sym (ap block_of_entry (c.others x d)) ∙ e)
 ]
 
 -- a new leaf brings no table
-pub linked_floors : {L : Type 0} (floor : ℕ) (s s' : Forest L Summary) (id : ℕ) (leaf : L) (p : Option ℕ) → Changes s s' id (Some record { node = Leaf leaf; parent = p })
+pub linked_floors : {L : Type 0} (floor : ℕ) (s s' : Forest L (Headed Summary)) (id : ℕ) (leaf : L) (p : Option ℕ) → Changes s s' id (Some record { node = Leaf leaf; parent = p })
     → AreFromFloor floor s → AreFromFloor floor s'
 linked_floors floor s s' id leaf p c all x v e = elim (cases_eq x id) [
   | inl q ↦ let now : Some v ≡ None = sym e ∙ ap (block_value s') q ∙ ap block_of_entry c.changed in cc now
@@ -108,5 +108,5 @@ linked_floors floor s s' id leaf p c all x v e = elim (cases_eq x id) [
 ]
 
 -- no table has a floor where there is no node
-pub bare_floors : {L : Type 0} (floor : ℕ) (s : Forest L Summary) → ((x : ℕ) → entry s x ≡ None) → AreFromFloor floor s
+pub bare_floors : {L : Type 0} (floor : ℕ) (s : Forest L (Headed Summary)) → ((x : ℕ) → entry s x ≡ None) → AreFromFloor floor s
 bare_floors floor s none x v e = let q : None ≡ Some v = sym (ap block_of_entry (none x)) ∙ e in cc q

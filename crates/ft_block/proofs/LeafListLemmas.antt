@@ -6,14 +6,15 @@ use Rattle.ft_arena.specs.Ids.{same, times, insert_after, put_after, without, fi
 use Rattle.ft_arena.specs.Forest.{Forest, entry, leaf_value}
 use Rattle.ft_arena.proofs.IdLemmas.{same_refl, same_other}
 use Rattle.ft_arena.proofs.RingLemmas.{insert_after_later, without_here, without_later}
+use Rattle.ft_shape.specs.declared.headed.Headed.{Headed}
 use Rattle.ft_block.specs.declared.summaries.Summary.{Summary}
 use Rattle.ft_block.specs.declared.blocks.Found.{Found}
 use Rattle.ft_block.specs.Leaves.{ids, times_leaf, value_at, length_by, place_from, left_of, put_leaf_after, put_leaf, change_leaf, split_leaf, without_leaf, first_value}
 use Rattle.ft_block.specs.Leaves.{value_after, join_first, join_leaf}
 use Rattle.ft_block.specs.Inside.{pair_of, pairs_of}
-use Rattle.ft_block.specs.Tree.{Measure, length_of, total, seek, numbers_before}
-use Rattle.ft_block.proofs.EditLemmas.{some_of, insert_after_head}
-use Rattle.ft_block.proofs.FitLemmas.{AllLeaves, leaf_length}
+use Rattle.ft_shape.specs.Tree.{Measure, length_of, total, seek, numbers_before}
+use Rattle.ft_shape.proofs.EditLemmas.{some_of, insert_after_head}
+use Rattle.ft_shape.proofs.FitLemmas.{AllLeaves, leaf_length}
 use Rattle.ft_block.proofs.PositionLemmas.{before_here, before_later}
 
 -- a place found among the nodes, as callers see it
@@ -40,31 +41,31 @@ push x p true o = sym (to_found_some x p)
 push x p false o = refl
 
 module _ {L : Type 0} where
-  head_value : (s : Forest L Summary) (x : ℕ) (xs : List ℕ) → AllLeaves s (x ∷ xs) → (v : L) × (leaf_value s x ≡ Some v)
+  head_value : (s : Forest L (Headed Summary)) (x : ℕ) (xs : List ℕ) → AllLeaves s (x ∷ xs) → (v : L) × (leaf_value s x ≡ Some v)
   head_value s x xs a = some_of (leaf_value s x) (a x (omega (arith, same_refl x)))
 
-  pairs_cons : (s : Forest L Summary) (x : ℕ) (xs : List ℕ) (v : L) → leaf_value s x ≡ Some v → pairs_of s (x ∷ xs) ≡ (x, v) ∷ pairs_of s xs
+  pairs_cons : (s : Forest L (Headed Summary)) (x : ℕ) (xs : List ℕ) (v : L) → leaf_value s x ≡ Some v → pairs_of s (x ∷ xs) ≡ (x, v) ∷ pairs_of s xs
   pairs_cons s x xs v e = ap (λ o. pair_of x o (pairs_of s xs)) e
 
-  pub length-pairs : (s : Forest L Summary) (xs : List ℕ) → AllLeaves s xs → length (pairs_of s xs) ≡ length xs
+  pub length-pairs : (s : Forest L (Headed Summary)) (xs : List ℕ) → AllLeaves s xs → length (pairs_of s xs) ≡ length xs
   length-pairs s [] a = refl
   length-pairs s (x ∷ xs) a =
       let v = head_value s x xs a in
       omega (arith, ap length (pairs_cons s x xs v.0 v.1), length-pairs s xs (λ y m. a y (omega arith)))
 
-  pub ids-pairs : (s : Forest L Summary) (xs : List ℕ) → AllLeaves s xs → ids (pairs_of s xs) ≡ xs
+  pub ids-pairs : (s : Forest L (Headed Summary)) (xs : List ℕ) → AllLeaves s xs → ids (pairs_of s xs) ≡ xs
   ids-pairs s [] a = refl
   ids-pairs s (x ∷ xs) a =
       let v = head_value s x xs a in
       ap ids (pairs_cons s x xs v.0 v.1) ∙ ap (λ (ys : List ℕ). x ∷ ys) (ids-pairs s xs (λ y m. a y (omega arith)))
 
-  pub length_by-pairs : (measure : Measure L) (s : Forest L Summary) (xs : List ℕ) → AllLeaves s xs → length_by measure.leaf (pairs_of s xs) ≡ total (length_of measure s) xs
+  pub length_by-pairs : (measure : Measure L Summary) (s : Forest L (Headed Summary)) (xs : List ℕ) → AllLeaves s xs → length_by measure.leaf (pairs_of s xs) ≡ total (length_of measure s) xs
   length_by-pairs measure s [] a = refl
   length_by-pairs measure s (x ∷ xs) a =
       let v = head_value s x xs a in
       omega (arith, ap (length_by measure.leaf) (pairs_cons s x xs v.0 v.1), leaf_length measure (entry s x) v.0 v.1, length_by-pairs measure s xs (λ y m. a y (omega arith)))
 
-  pub place_from-pairs : (measure : Measure L) (s : Forest L Summary) (xs : List ℕ) (p : ℕ) → AllLeaves s xs
+  pub place_from-pairs : (measure : Measure L Summary) (s : Forest L (Headed Summary)) (xs : List ℕ) (p : ℕ) → AllLeaves s xs
       → place_from measure.leaf (pairs_of s xs) p ≡ to_found (seek (length_of measure s) xs p)
   place_from-pairs measure s [] p a = sym to_found_none
   place_from-pairs measure s (x ∷ xs) p a =
@@ -76,7 +77,7 @@ module _ {L : Type 0} where
       (place_from-pairs measure s xs (p - length_of measure s x) (λ y m. a y (omega arith)))
       ∙ push x p (leb p (length_of measure s x)) (seek (length_of measure s) xs (p - length_of measure s x))
 
-  pub times-pairs : (s : Forest L Summary) (xs : List ℕ) (x : ℕ) → AllLeaves s xs → times_leaf (pairs_of s xs) x ≡ times xs x
+  pub times-pairs : (s : Forest L (Headed Summary)) (xs : List ℕ) (x : ℕ) → AllLeaves s xs → times_leaf (pairs_of s xs) x ≡ times xs x
   times-pairs s [] x a = refl
   times-pairs s (y ∷ ys) x a =
       let v = head_value s y ys a in
@@ -88,7 +89,7 @@ module _ {L : Type 0} where
   value_later : (y : ℕ) (v : L) (ps : List (ℕ × L)) (x : ℕ) → y ≢ x → value_at ((y, v) ∷ ps) x ≡ value_at ps x
   value_later y v ps x d = cond-false (eqb y x) _ _ (ne_eqb y x d)
 
-  pub value_at-pairs : (s : Forest L Summary) (xs : List ℕ) (x : ℕ) → AllLeaves s xs → 1 ≤ times xs x → value_at (pairs_of s xs) x ≡ leaf_value s x
+  pub value_at-pairs : (s : Forest L (Headed Summary)) (xs : List ℕ) (x : ℕ) → AllLeaves s xs → 1 ≤ times xs x → value_at (pairs_of s xs) x ≡ leaf_value s x
   value_at-pairs s [] x a m = absurd (omega arith)
   value_at-pairs s (y ∷ ys) x a m =
       let v = head_value s y ys a in
@@ -111,7 +112,7 @@ module _ {L : Type 0} where
   left_later : (y : ℕ) (v : L) (ps : List (ℕ × L)) (x : ℕ) → y ≢ x → left_of ((y, v) ∷ ps) x ≡ (y, v) ∷ left_of ps x
   left_later y v ps x d = cond-false (eqb y x) _ _ (ne_eqb y x d)
 
-  pub left_of-pairs : (s : Forest L Summary) (xs : List ℕ) (x : ℕ) → AllLeaves s xs → left_of (pairs_of s xs) x ≡ pairs_of s (numbers_before xs x)
+  pub left_of-pairs : (s : Forest L (Headed Summary)) (xs : List ℕ) (x : ℕ) → AllLeaves s xs → left_of (pairs_of s xs) x ≡ pairs_of s (numbers_before xs x)
   left_of-pairs s [] x a = refl
   left_of-pairs s (y ∷ ys) x a =
       let v = head_value s y ys a in
@@ -129,7 +130,7 @@ module _ {L : Type 0} where
   put_leaf_later y v ps at new d = cond-false (eqb y at) _ _ (ne_eqb y at d)
 
   -- a leaf put among the nodes is put among the leaves
-  pub pairs-insert : (s s' : Forest L Summary) (xs : List ℕ) (at id : ℕ) (leaf : L) → AllLeaves s xs → ((x : ℕ) → 1 ≤ times xs x → leaf_value s' x ≡ leaf_value s x)
+  pub pairs-insert : (s s' : Forest L (Headed Summary)) (xs : List ℕ) (at id : ℕ) (leaf : L) → AllLeaves s xs → ((x : ℕ) → 1 ≤ times xs x → leaf_value s' x ≡ leaf_value s x)
       → leaf_value s' id ≡ Some leaf → pairs_of s' (insert_after xs at id) ≡ put_leaf_after (pairs_of s xs) at (id, leaf)
   pairs-insert s s' [] at id leaf a h e = refl
   pairs-insert s s' (y ∷ ys) at id leaf a h e =
@@ -151,13 +152,13 @@ module _ {L : Type 0} where
             ∙ sym (ap (λ (zs : List (ℕ × L)). put_leaf_after zs at (id, leaf)) old ∙ put_leaf_later y v.0 (pairs_of s ys) at (id, leaf) d)
       ]
 
-  pairs_same : (s s' : Forest L Summary) (xs : List ℕ) → ((x : ℕ) → 1 ≤ times xs x → leaf_value s' x ≡ leaf_value s x) → pairs_of s' xs ≡ pairs_of s xs
+  pairs_same : (s s' : Forest L (Headed Summary)) (xs : List ℕ) → ((x : ℕ) → 1 ≤ times xs x → leaf_value s' x ≡ leaf_value s x) → pairs_of s' xs ≡ pairs_of s xs
   pairs_same s s' [] h = refl
   pairs_same s s' (y ∷ ys) h = ap (λ o. pair_of y o (pairs_of s' ys)) (h y (omega (arith, same_refl y)))
       ∙ ap (pair_of y (leaf_value s y)) (pairs_same s s' ys (λ x m. h x (omega arith)))
 
   -- the same at any place
-  pub pairs-put : (s s' : Forest L Summary) (xs : List ℕ) (at : Option ℕ) (id : ℕ) (leaf : L) → AllLeaves s xs
+  pub pairs-put : (s s' : Forest L (Headed Summary)) (xs : List ℕ) (at : Option ℕ) (id : ℕ) (leaf : L) → AllLeaves s xs
       → ((x : ℕ) → 1 ≤ times xs x → leaf_value s' x ≡ leaf_value s x) → leaf_value s' id ≡ Some leaf
       → pairs_of s' (put_after xs at id) ≡ put_leaf (pairs_of s xs) at (id, leaf)
   pairs-put s s' xs None id leaf a h e = pairs_cons s' id xs leaf e ∙ ap (λ (zs : List (ℕ × L)). (id, leaf) ∷ zs) (pairs_same s s' xs h)
@@ -170,7 +171,7 @@ module _ {L : Type 0} where
   change_later f y v ps at d = cond-false (eqb y at) _ _ (ne_eqb y at d)
 
   -- a changed leaf is changed among the leaves
-  pub pairs-change : (f : L → L) (s s' : Forest L Summary) (xs : List ℕ) (at : ℕ) (was : L) → AllLeaves s xs → leaf_value s at ≡ Some was
+  pub pairs-change : (f : L → L) (s s' : Forest L (Headed Summary)) (xs : List ℕ) (at : ℕ) (was : L) → AllLeaves s xs → leaf_value s at ≡ Some was
       → leaf_value s' at ≡ Some (f was) → ((x : ℕ) → x ≢ at → leaf_value s' x ≡ leaf_value s x) → pairs_of s' xs ≡ change_leaf f (pairs_of s xs) at
   pairs-change f s s' [] at was a o n h = refl
   pairs-change f s s' (y ∷ ys) at was a o n h =
@@ -198,7 +199,7 @@ module _ {L : Type 0} where
   split_later front rear y v ps at new d = cond-false (eqb y at) _ _ (ne_eqb y at d)
 
   -- a leaf that is cut in two is cut among the leaves
-  pub pairs-split : (front rear : L → L) (s s' : Forest L Summary) (xs : List ℕ) (at new : ℕ) (was : L) → AllLeaves s xs → leaf_value s at ≡ Some was
+  pub pairs-split : (front rear : L → L) (s s' : Forest L (Headed Summary)) (xs : List ℕ) (at new : ℕ) (was : L) → AllLeaves s xs → leaf_value s at ≡ Some was
       → leaf_value s' at ≡ Some (front was) → leaf_value s' new ≡ Some (rear was) → ((x : ℕ) → 1 ≤ times xs x → x ≢ at → leaf_value s' x ≡ leaf_value s x)
       → pairs_of s' (insert_after xs at new) ≡ split_leaf front rear (pairs_of s xs) at new
   pairs-split front rear s s' [] at new was a o n r h = refl
@@ -230,7 +231,7 @@ module _ {L : Type 0} where
   without_leaf_later y v ps x d = cond-false (eqb y x) _ _ (ne_eqb y x d)
 
   -- a leaf that is taken out of the list is taken out of the leaves
-  pub pairs-without : (s s' : Forest L Summary) (xs : List ℕ) (x : ℕ) → AllLeaves s xs → ((z : ℕ) → 1 ≤ times xs z → z ≢ x → leaf_value s' z ≡ leaf_value s z)
+  pub pairs-without : (s s' : Forest L (Headed Summary)) (xs : List ℕ) (x : ℕ) → AllLeaves s xs → ((z : ℕ) → 1 ≤ times xs z → z ≢ x → leaf_value s' z ≡ leaf_value s z)
       → pairs_of s' (without xs x) ≡ without_leaf (pairs_of s xs) x
   pairs-without s s' [] x a h = refl
   pairs-without s s' (y ∷ ys) x a h =

@@ -7,15 +7,17 @@ use Rattle.ft_arena.specs.Forest.{Forest, Entry, IsForest, IsPlace, entry, kids_
 use Rattle.ft_arena.proofs.IdLemmas.{same_refl, same_other, insert_after_none, times-without_other}
 use Rattle.ft_arena.proofs.ArenaLemmas.{count_some_le}
 use Rattle.ft_arena.proofs.RingLemmas.{insert_after_later, without_here, without_later}
-use Rattle.ft_block.proofs.EditLemmas.{total_same, insert_after_head, after_is_edit}
+use Rattle.ft_shape.proofs.EditLemmas.{total_same, insert_after_head, after_is_edit}
+use Rattle.ft_shape.specs.declared.headed.Headed.{Headed}
 use Rattle.ft_block.proofs.PositionLemmas.{after_in}
-use Rattle.ft_block.proofs.UnlinkLemmas.{more_after}
+use Rattle.ft_shape.proofs.UnlinkLemmas.{more_after}
 use Rattle.ft_block.specs.declared.summaries.Summary.{Summary}
-use Rattle.ft_block.specs.Tree.{total, height_of, Measure, length_of, length_of_entry, below, IsShape, IsApart, IsGrowing, IsEdit, SumsBut, OwesAbove, AreFromFloor}
-use Rattle.ft_block.proofs.Levels.{points_at, block_from_height}
-use Rattle.ft_block.proofs.FitLemmas.{leaf_length}
-use Rattle.ft_block.proofs.InsertLemmas.{leaf_height, leaf_live}
-use Rattle.ft_block.proofs.WithoutLemmas.{without_apart, total-without, times-without_le}
+use Rattle.ft_shape.specs.Tree.{total, height_of, Measure, length_of, length_of_entry, below, IsShape, IsApart, IsGrowing, IsEdit, SumsBut, OwesAbove}
+use Rattle.ft_block.specs.Tree.{AreFromFloor}
+use Rattle.ft_shape.proofs.Levels.{points_at, block_from_height}
+use Rattle.ft_shape.proofs.FitLemmas.{leaf_length}
+use Rattle.ft_shape.proofs.InsertLemmas.{leaf_height, leaf_live}
+use Rattle.ft_shape.proofs.WithoutLemmas.{without_apart, total-without, times-without_le}
 
 counted : {L : Type 0} (o : Option L) → IsSome o → count_some o ≡ 1
 counted None h = cc
@@ -25,10 +27,10 @@ counted (Some v) h = refl
 pub after_first : (x : ℕ) (ys : List ℕ) → after (x ∷ ys) x ≡ first ys
 after_first x ys = cond-true (eqb x x) _ _ (eq-eqb x x refl)
 
-pub without_le : {L : Type 0} (s : Forest L Summary) → IsForest s → (x : ℕ) → times s.leaves x ≤ 1
+pub without_le : {L : Type 0} (s : Forest L (Headed Summary)) → IsForest s → (x : ℕ) → times s.leaves x ≤ 1
 without_le s f x = omega (arith, f.leaf_once x, count_some_le (leaf_value s x))
 
-pub without_once : {L : Type 0} (s : Forest L Summary) → IsForest s → (id x : ℕ) → times (without s.leaves id) x ≤ 1
+pub without_once : {L : Type 0} (s : Forest L (Headed Summary)) → IsForest s → (id x : ℕ) → times (without s.leaves id) x ≤ 1
 without_once s f id x = omega (arith, times-without_le s.leaves id x, without_le s f x)
 
 -- of two or more one is left
@@ -84,7 +86,7 @@ two_members (z ∷ []) x y d m n = elim (cases_eq z x) [
 two_members (z ∷ w ∷ zs) x y d m n = omega arith
 
 -- a list in which one is moved is as long by any measure
-pub list_total : {L : Type 0} (s : Forest L Summary) → IsForest s → (f : ℕ → ℕ) (id : ℕ) (at : Option ℕ) → IsSome (leaf_value s id) → IsPlace s at → at ≢ Some id
+pub list_total : {L : Type 0} (s : Forest L (Headed Summary)) → IsForest s → (f : ℕ → ℕ) (id : ℕ) (at : Option ℕ) → IsSome (leaf_value s id) → IsPlace s at → at ≢ Some id
     → total f (put_after (without s.leaves id) at id) ≡ total f s.leaves
 list_total s g f id None live p d = omega (arith, total-without f s.leaves id (g.leaf_once id ∙ counted (leaf_value s id) live))
 list_total s g f id (Some at) live p d =
@@ -92,9 +94,9 @@ list_total s g f id (Some at) live p d =
     let one : times (without s.leaves id) at ≡ 1 = times-without_other s.leaves id at n ∙ g.leaf_once at ∙ counted (leaf_value s at) p in
     omega (arith, (after_is_edit at id).totals f (without s.leaves id) one, total-without f s.leaves id (g.leaf_once id ∙ counted (leaf_value s id) live))
 
-module _ {L : Type 0} (s : Forest L Summary) (ls : List ℕ) (n : ℕ) where
+module _ {L : Type 0} (s : Forest L (Headed Summary)) (ls : List ℕ) (n : ℕ) where
   -- the same nodes with another list
-  abbrev relisted : Forest L Summary
+  abbrev relisted : Forest L (Headed Summary)
   relisted = record { leaves = ls; nodes = s.nodes; spare = n }
 
   rl_below : (j : ℕ) (xs : List ℕ) → below relisted j xs ≡ below s j xs
@@ -116,26 +118,26 @@ module _ {L : Type 0} (s : Forest L Summary) (ls : List ℕ) (n : ℕ) where
       }
 
 -- s' has the nodes of s
-module _ {L : Type 0} (s s' : Forest L Summary) (root id at step : ℕ) (ed : List ℕ → List ℕ) (E : IsEdit step ed at id) (a : IsApart s root id None)
+module _ {L : Type 0} (s s' : Forest L (Headed Summary)) (root id at step : ℕ) (ed : List ℕ → List ℕ) (E : IsEdit step ed at id) (a : IsApart s root id None)
     (nodes : s'.nodes ≡ s.nodes) (forest : IsForest s') (leaves : s'.leaves ≡ ed (without s.leaves id)) (at_leaf : IsSome (leaf_value s at)) (differ : at ≢ id) where
   mv_is : s' ≡ record { leaves = s'.leaves; nodes = s.nodes; spare = s'.spare }
   mv_is = ap (λ ns. same_with ns) nodes
     where
-      same_with : List (Option (Entry L Summary)) → Forest L Summary
+      same_with : List (Option (Entry L (Headed Summary))) → Forest L (Headed Summary)
       same_with ns = record { leaves = s'.leaves; nodes = ns; spare = s'.spare }
 
   pub mv_entry : (x : ℕ) → entry s' x ≡ entry s x
-  mv_entry x = ap (λ (z : Forest L Summary). entry z x) mv_is
+  mv_entry x = ap (λ (z : Forest L (Headed Summary)). entry z x) mv_is
 
   pub mv_high : (x : ℕ) → height_of s' x ≡ height_of s x
-  mv_high x = ap (λ (z : Forest L Summary). height_of z x) mv_is
+  mv_high x = ap (λ (z : Forest L (Headed Summary)). height_of z x) mv_is
 
   mv_below : (j : ℕ) (xs : List ℕ) → below s' j xs ≡ below s j xs
-  mv_below j xs = ap (λ (z : Forest L Summary). below z j xs) mv_is ∙ rl_below s s'.leaves s'.spare j xs
+  mv_below j xs = ap (λ (z : Forest L (Headed Summary)). below z j xs) mv_is ∙ rl_below s s'.leaves s'.spare j xs
 
   mv_shape : IsShape s' root (Some id) None
-  mv_shape = subst (λ (z : Forest L Summary). IsShape z root (Some id) None) (sym mv_is)
-      (rl_shape s s'.leaves s'.spare root (Some id) None (subst (λ (z : Forest L Summary). IsForest z) mv_is forest) a.shape)
+  mv_shape = subst (λ (z : Forest L (Headed Summary)). IsShape z root (Some id) None) (sym mv_is)
+      (rl_shape s s'.leaves s'.spare root (Some id) None (subst (λ (z : Forest L (Headed Summary)). IsForest z) mv_is forest) a.shape)
 
   mv_at_low : height_of s at ≡ 0
   mv_at_low = leaf_height (entry s at) at_leaf
@@ -147,10 +149,10 @@ module _ {L : Type 0} (s s' : Forest L Summary) (root id at step : ℕ) (ed : Li
   moved_grows =
       record {
         shape = mv_shape;
-        new_live = subst (λ (o : Option (Entry L Summary)). IsSome o) (sym (mv_entry id)) (leaf_live (entry s id) a.live);
-        new_top = ap (λ (z : Forest L Summary). parent_of z id) mv_is ∙ a.top;
+        new_live = subst (λ (o : Option (Entry L (Headed Summary))). IsSome o) (sym (mv_entry id)) (leaf_live (entry s id) a.live);
+        new_top = ap (λ (z : Forest L (Headed Summary)). parent_of z id) mv_is ∙ a.top;
         new_apart = λ e. omega (arith, a.shape.high root a.shape.root_is_block, ap (height_of s) e, mv_id_low);
-        at_live = subst (λ (o : Option (Entry L Summary)). IsSome o) (sym (mv_entry at)) (leaf_live (entry s at) at_leaf);
+        at_live = subst (λ (o : Option (Entry L (Headed Summary))). IsSome o) (sym (mv_entry at)) (leaf_live (entry s at) at_leaf);
         at_apart = differ;
         at_filled = λ h. absurd (omega (arith, h, mv_high at, mv_at_low));
         level = mv_high id ∙ mv_id_low ∙ sym (mv_high at ∙ mv_at_low);
@@ -166,10 +168,10 @@ module _ {L : Type 0} (s s' : Forest L Summary) (root id at step : ℕ) (ed : Li
   moved_at_apart = λ e. omega (arith, a.shape.high root a.shape.root_is_block, ap (height_of s) e, mv_at_low)
 
   pub moved_floors : (floor : ℕ) → AreFromFloor floor s → AreFromFloor floor s'
-  moved_floors floor all x v e = all x v (sym (ap (λ (z : Forest L Summary). block_value z x) mv_is) ∙ e)
+  moved_floors floor all x v e = all x v (sym (ap (λ (z : Forest L (Headed Summary)). block_value z x) mv_is) ∙ e)
 
   pub moved_values : (x : ℕ) → leaf_value s' x ≡ leaf_value s x
-  moved_values x = ap (λ (z : Forest L Summary). leaf_value z x) mv_is
+  moved_values x = ap (λ (z : Forest L (Headed Summary)). leaf_value z x) mv_is
 
   -- the list is as long by any measure
   pub moved_total : (f : ℕ → ℕ) → times (without s.leaves id) at ≡ 1 → total f s'.leaves ≡ total f s.leaves
@@ -184,13 +186,13 @@ module _ {L : Type 0} (s s' : Forest L Summary) (root id at step : ℕ) (ed : Li
   mv_one : times (without s.leaves id) at ≡ 1
   mv_one = times-without_other s.leaves id at differ ∙ a.shape.forest.leaf_once at ∙ counted (leaf_value s at) at_leaf
 
-  pub moved_fits : (measure : Measure L) → total (length_of measure s') s'.leaves ≡ total (length_of measure s) s.leaves
+  pub moved_fits : (measure : Measure L Summary) → total (length_of measure s') s'.leaves ≡ total (length_of measure s) s.leaves
   moved_fits measure = moved_total (length_of measure s') mv_one
       ∙ total_same (length_of measure s) (length_of measure s') s.leaves (λ x m. ap (length_of_entry measure) (mv_entry x))
 
-  module _ (measure : Measure L) (sums : SumsBut measure s None) where
+  module _ (measure : Measure L Summary) (sums : SumsBut measure s None) where
     mv_sums : SumsBut measure s' None
-    mv_sums = subst (λ (z : Forest L Summary). SumsBut measure z None) (sym mv_is) (λ b h e. sums b h e)
+    mv_sums = subst (λ (z : Forest L (Headed Summary)). SumsBut measure z None) (sym mv_is) (λ b h e. sums b h e)
 
     pub moved_sums : (stale : Option ℕ) → SumsBut measure s' stale
     moved_sums stale b h _ = mv_sums b h (λ e. cc)

@@ -6,14 +6,15 @@ use Rattle.std.specs.List.{flat_map}
 use Rattle.ft_arena.specs.Ids.{same, times, points, first, after}
 use Rattle.ft_arena.specs.Forest.{Forest, IsForest, entry, kids_of, parent_of, block_value}
 use Rattle.ft_arena.proofs.IdLemmas.{same_refl, same_other}
+use Rattle.ft_shape.specs.declared.headed.Headed.{Headed}
 use Rattle.ft_block.specs.declared.summaries.Summary.{Summary}
-use Rattle.ft_block.specs.Tree.{total, seek, numbers_before, up_to, Measure, IsTree, SumsBut, height_of, length_of, below}
-use Rattle.ft_block.proofs.Lists.{total-append, seek_here, seek_later}
-use Rattle.ft_block.proofs.Levels.{AllHigh, points_some, points_at, live_from_parent, block_from_height, steps_down, root_high, total_kids_up_to}
-use Rattle.ft_block.proofs.LevelLemmas.{below-below, below_high}
-use Rattle.ft_block.proofs.EditLemmas.{some_of}
-use Rattle.ft_block.proofs.KindLemmas.{block_live}
-use Rattle.ft_block.proofs.FitLemmas.{on_level}
+use Rattle.ft_shape.specs.Tree.{total, seek, numbers_before, up_to, Measure, IsTree, SumsBut, height_of, length_of, below}
+use Rattle.ft_shape.proofs.Lists.{total-append, seek_here, seek_later}
+use Rattle.ft_shape.proofs.Levels.{AllHigh, points_some, points_at, live_from_parent, block_from_height, steps_down, root_high, total_kids_up_to}
+use Rattle.ft_shape.proofs.LevelLemmas.{below-below, below_high}
+use Rattle.ft_shape.proofs.EditLemmas.{some_of}
+use Rattle.ft_shape.proofs.KindLemmas.{block_live}
+use Rattle.ft_shape.proofs.FitLemmas.{on_level}
 
 pub before_here : (x : ℕ) (xs : List ℕ) → numbers_before (x ∷ xs) x ≡ []
 before_here x xs = cond-true (eqb x x) _ _ (eq-eqb x x refl)
@@ -63,10 +64,10 @@ before-flat_map k (y ∷ ys) p x m n o = elim (cases_eq y p) [
 ]
 
 -- a block's child is live
-pub forest_kid_live : {L : Type 0} (s : Forest L Summary) (b k : ℕ) → IsForest s → 1 ≤ times (kids_of s b) k → IsSome (entry s k)
+pub forest_kid_live : {L : Type 0} (s : Forest L (Headed Summary)) (b k : ℕ) → IsForest s → 1 ≤ times (kids_of s b) k → IsSome (entry s k)
 forest_kid_live s b k f m = live_from_parent (entry s k) b (points_some (parent_of s k) b (omega (arith, m, f.child_once b k)))
 
-module _ {L : Type 0} (measure : Measure L) (s : Forest L Summary) (root : ℕ) (t : IsTree s root) (sums : SumsBut measure s None) (at p : ℕ) (up : parent_of s at ≡ Some p) where
+module _ {L : Type 0} (measure : Measure L Summary) (s : Forest L (Headed Summary)) (root : ℕ) (t : IsTree s root) (sums : SumsBut measure s None) (at p : ℕ) (up : parent_of s at ≡ Some p) where
   po_high : height_of s p ≡ height_of s at + 1
   po_high = t.shape.heights at p up
 
@@ -117,7 +118,7 @@ module _ {L : Type 0} (measure : Measure L) (s : Forest L Summary) (root : ℕ) 
       )
 
 -- before the root stands nothing on its level
-pub before_top : {L : Type 0} (measure : Measure L) (s : Forest L Summary) (root : ℕ) → IsTree s root → (at : ℕ) → IsSome (entry s at) → parent_of s at ≡ None
+pub before_top : {L : Type 0} (measure : Measure L Summary) (s : Forest L (Headed Summary)) (root : ℕ) → IsTree s root → (at : ℕ) → IsSome (entry s at) → parent_of s at ≡ None
     → total (length_of measure s) (numbers_before (below s (height_of s root - height_of s at) (root ∷ [])) at) ≡ 0
 before_top measure s root t at live top = elim (cases_eq at root) [
   | inl e ↦

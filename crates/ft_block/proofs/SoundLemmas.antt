@@ -4,46 +4,49 @@ use Rattle.std.proofs.lemmas.Bool.{cases_eq}
 use Rattle.ft_base.specs.declared.elements.Element.{Element}
 use Rattle.ft_arena.specs.Ids.{times, insert_after, put_after, without}
 use Rattle.ft_arena.specs.Forest.{Forest, IsForest, IsPlace, entry, leaf_value, leaf_of_entry, count_some, with_leaf}
+use Rattle.ft_shape.specs.declared.headed.Headed.{Headed}
 use Rattle.ft_block.specs.declared.summaries.Summary.{Summary}
 use Rattle.ft_block.specs.declared.leaves.View.{View}
 use Rattle.ft_block.specs.declared.leaves.View.TheVariants.{Of, Pending}
 use Rattle.ft_block.specs.declared.leaves.LenView.TheVariants.{At, Stage, All}
-use Rattle.ft_block.specs.Tree.{Measure, IsTree, SumsKeptBut, AreFromFloor, KeepsLengths, total, length_of, by_view, by_size}
-use Rattle.ft_block.specs.Steps.{InsertsLeaf, SplitsLeaf, ChangesLeaf, TakesLeaf, MovesLeaf}
+use Rattle.ft_shape.specs.Tree.{Measure, IsTree, total, length_of}
+use Rattle.ft_block.specs.Tree.{SumsKeptBut, AreFromFloor, KeepsLengths, by_view, by_size}
+use Rattle.ft_shape.specs.Steps.{InsertsLeaf, SplitsLeaf, ChangesLeaf, TakesLeaf, MovesLeaf}
 use Rattle.ft_block.specs.Inside.{IsRooted, IsSound}
 use Rattle.ft_arena.proofs.IdLemmas.{times-without_same, times-without_other}
-use Rattle.ft_block.proofs.WithoutLemmas.{total-without_le}
-use Rattle.ft_block.proofs.EditLemmas.{some_of, total_same, total_change, after_is_edit}
-use Rattle.ft_block.proofs.FitLemmas.{leaves_live, leaf_length}
-use Rattle.ft_block.proofs.InsertLemmas.{changed_tree, changed_sums_same, changed_floors, changed_total, changed_value, changed_others}
+use Rattle.ft_shape.proofs.WithoutLemmas.{total-without_le}
+use Rattle.ft_shape.proofs.EditLemmas.{some_of, total_same, total_change, after_is_edit}
+use Rattle.ft_shape.proofs.FitLemmas.{leaves_live, leaf_length}
+use Rattle.ft_shape.proofs.InsertLemmas.{changed_tree, changed_sums_same, changed_total, changed_value, changed_others}
+use Rattle.ft_block.proofs.Floors.{changed_floors}
 use Rattle.ft_block.proofs.ViewLemmas.{seen_same}
 
 module _ {L : Type 0} where
-  pub rooted_forest : (s : Forest L Summary) (root : Option ℕ) → IsRooted s root → IsForest s
+  pub rooted_forest : (s : Forest L (Headed Summary)) (root : Option ℕ) → IsRooted s root → IsForest s
   rooted_forest s None t = t.forest
   rooted_forest s (Some root) t = t.shape.forest
 
   -- a leaf is there only under a root
-  pub rooted_root : (s : Forest L Summary) (root : Option ℕ) (x : ℕ) (v : L) → IsRooted s root → leaf_value s x ≡ Some v → root ≢ None
+  pub rooted_root : (s : Forest L (Headed Summary)) (root : Option ℕ) (x : ℕ) (v : L) → IsRooted s root → leaf_value s x ≡ Some v → root ≢ None
   rooted_root s None x v t e = λ q. let n : leaf_value s x ≡ None = ap leaf_of_entry (t.nodes x) in cc (n, e)
   rooted_root s (Some root) x v t e = λ q. cc
 
   -- two nodes with the same leaf value have the same length
-  leaf_same : (measure : Measure L) (old new : Forest L Summary) (x : ℕ) → IsSome (leaf_value old x) → leaf_value new x ≡ leaf_value old x
+  leaf_same : (measure : Measure L Summary) (old new : Forest L (Headed Summary)) (x : ℕ) → IsSome (leaf_value old x) → leaf_value new x ≡ leaf_value old x
       → length_of measure new x ≡ length_of measure old x
   leaf_same measure old new x live e =
       let v = some_of (leaf_value old x) live in
       leaf_length measure (entry new x) v.0 (e ∙ v.1) ∙ sym (leaf_length measure (entry old x) v.0 v.1)
 
   -- who has no leaf value stands not among the leaves
-  no_leaf : (s : Forest L Summary) (x : ℕ) → IsForest s → leaf_value s x ≡ None → times s.leaves x ≡ 0
+  no_leaf : (s : Forest L (Headed Summary)) (x : ℕ) → IsForest s → leaf_value s x ≡ None → times s.leaves x ≡ 0
   no_leaf s x f e = f.leaf_once x ∙ ap count_some e
 
-  one_leaf : (s : Forest L Summary) (x : ℕ) (v : L) → IsForest s → leaf_value s x ≡ Some v → times s.leaves x ≡ 1
+  one_leaf : (s : Forest L (Headed Summary)) (x : ℕ) (v : L) → IsForest s → leaf_value s x ≡ Some v → times s.leaves x ≡ 1
   one_leaf s x v f e = f.leaf_once x ∙ ap count_some e
 
   -- all leaves together are as much longer as the new one is long
-  pub inserts_total : (measure : Measure L) (old new : Forest L Summary) (id : ℕ) (leaf : L) (e : List ℕ → List ℕ) → IsForest old → InsertsLeaf old new id leaf e
+  pub inserts_total : (measure : Measure L Summary) (old new : Forest L (Headed Summary)) (id : ℕ) (leaf : L) (e : List ℕ → List ℕ) → IsForest old → InsertsLeaf old new id leaf e
       → total (length_of measure new) (e old.leaves) ≡ total (length_of measure new) old.leaves + length_of measure new id
       → total (length_of measure new) new.leaves ≡ total (length_of measure old) old.leaves + measure.leaf leaf
   inserts_total measure old new id leaf e f i longer =
@@ -53,14 +56,14 @@ module _ {L : Type 0} where
       (λ x m. leaf_same measure old new x (leaves_live old f x m) (i.others x (λ q. omega (arith, m, none, ap (times old.leaves) q)))) in
       omega (arith, ap (total (length_of measure new)) i.leaves, longer, same_rest, leaf_length measure (entry new id) leaf i.value)
 
-  pub put_after_longer : (f : ℕ → ℕ) (s : Forest L Summary) (at : Option ℕ) (id : ℕ) → IsForest s → IsPlace s at → total f (put_after s.leaves at id) ≡ total f s.leaves + f id
+  pub put_after_longer : (f : ℕ → ℕ) (s : Forest L (Headed Summary)) (at : Option ℕ) (id : ℕ) → IsForest s → IsPlace s at → total f (put_after s.leaves at id) ≡ total f s.leaves + f id
   put_after_longer f s None id g p = omega arith
   put_after_longer f s (Some at) id g p =
       let v = some_of (leaf_value s at) p in
       (after_is_edit at id).totals f s.leaves (one_leaf s at v.0 g v.1)
 
   -- the two parts of a leaf together are as long as the leaf was
-  pub splits_total : (measure : Measure L) (front rear : L → L) (old new : Forest L Summary) (leaf id : ℕ) → IsForest old → (i : SplitsLeaf front rear old new leaf id)
+  pub splits_total : (measure : Measure L Summary) (front rear : L → L) (old new : Forest L (Headed Summary)) (leaf id : ℕ) → IsForest old → (i : SplitsLeaf front rear old new leaf id)
       → measure.leaf (front i.whole) + measure.leaf (rear i.whole) ≡ measure.leaf i.whole
       → total (length_of measure new) new.leaves ≡ total (length_of measure old) old.leaves
   splits_total measure front rear old new leaf id f i parts =
@@ -83,7 +86,7 @@ module _ {L : Type 0} where
         parts,
       )
 
-  pub changes_total : (measure : Measure L) (f : L → L) (old new : Forest L Summary) (leaf : ℕ) → IsForest old → (i : ChangesLeaf f old new leaf)
+  pub changes_total : (measure : Measure L Summary) (f : L → L) (old new : Forest L (Headed Summary)) (leaf : ℕ) → IsForest old → (i : ChangesLeaf f old new leaf)
       → total (length_of measure new) new.leaves + measure.leaf i.was ≡ total (length_of measure old) old.leaves + measure.leaf (f i.was)
   changes_total measure f old new leaf g i =
       let one : times old.leaves leaf ≡ 1 = one_leaf old leaf i.was g i.old_value in
@@ -99,7 +102,7 @@ module _ {L : Type 0} where
 
 module _ {L : Type 0} (size : L → ℕ) (element : L → Element) (floor : ℕ) where
   -- a leaf with another value of the same size and the same stamps
-  pub changed_sound : (s : Forest L Summary) (root : Option ℕ) (at : ℕ) (v w : L) → IsSound size element floor s root → leaf_value s at ≡ Some v → element w ≡ element v
+  pub changed_sound : (s : Forest L (Headed Summary)) (root : Option ℕ) (at : ℕ) (v w : L) → IsSound size element floor s root → leaf_value s at ≡ Some v → element w ≡ element v
       → size w ≡ size v → IsSound size element floor (with_leaf s at w) root
   changed_sound s None at v w f found e n = absurd (rooted_root s None at v f.rooted found refl)
   changed_sound s (Some root) at v w f found e n =
@@ -115,7 +118,7 @@ module _ {L : Type 0} (size : L → ℕ) (element : L → Element) (floor : ℕ)
       }
 
   -- a tree with one more leaf
-  pub inserts_sound : (old new : Forest L Summary) (root : Option ℕ) (top id : ℕ) (leaf : L) (e : List ℕ → List ℕ) → IsSound size element floor old root → 1 ≤ size leaf
+  pub inserts_sound : (old new : Forest L (Headed Summary)) (root : Option ℕ) (top id : ℕ) (leaf : L) (e : List ℕ → List ℕ) → IsSound size element floor old root → 1 ≤ size leaf
       → total (length_of (by_size size) old) old.leaves + size leaf < 2 ^ 64 → ((f : ℕ → ℕ) → total f (e old.leaves) ≡ total f old.leaves + f id) → IsTree new top
       → SumsKeptBut size element floor new None → AreFromFloor floor new → InsertsLeaf old new id leaf e → IsSound size element floor new (Some top)
   inserts_sound old new root top id leaf e f some fits longer tree sums floors i =
@@ -131,7 +134,7 @@ module _ {L : Type 0} (size : L → ℕ) (element : L → Element) (floor : ℕ)
       }
 
   -- a tree in which a leaf was cut in two
-  pub splits_sound : (front rear : L → L) (old new : Forest L Summary) (root : Option ℕ) (top leaf id : ℕ) → IsSound size element floor old root
+  pub splits_sound : (front rear : L → L) (old new : Forest L (Headed Summary)) (root : Option ℕ) (top leaf id : ℕ) → IsSound size element floor old root
       → ((v : L) → leaf_value old leaf ≡ Some v → (size (front v) + size (rear v) ≡ size v) × (1 ≤ size (front v)) × (1 ≤ size (rear v))) → IsTree new top
       → SumsKeptBut size element floor new None → AreFromFloor floor new → SplitsLeaf front rear old new leaf id → IsSound size element floor new (Some top)
   splits_sound front rear old new root top leaf id f parts tree sums floors i =
@@ -150,7 +153,7 @@ module _ {L : Type 0} (size : L → ℕ) (element : L → Element) (floor : ℕ)
       }
 
   -- a tree in which a leaf has another value
-  pub changes_sound : (f : L → L) (old new : Forest L Summary) (root : ℕ) (leaf : ℕ) → IsSound size element floor old (Some root)
+  pub changes_sound : (f : L → L) (old new : Forest L (Headed Summary)) (root : ℕ) (leaf : ℕ) → IsSound size element floor old (Some root)
       → ((v : L) → leaf_value old leaf ≡ Some v → (1 ≤ size (f v)) × (total (length_of (by_size size) old) old.leaves + size (f v) < 2 ^ 64 + size v)) → IsTree new root
       → SumsKeptBut size element floor new None → AreFromFloor floor new → ChangesLeaf f old new leaf → IsSound size element floor new (Some root)
   changes_sound g old new root leaf f sized tree sums floors i =
@@ -178,13 +181,13 @@ on_ok_four (Err e) P Q R I S f p q r i = tt
 pub front_longer : (f : ℕ → ℕ) (xs : List ℕ) (id : ℕ) → total f (id ∷ xs) ≡ total f xs + f id
 front_longer f xs id = omega arith
 
-pub after_longer : {L : Type 0} (f : ℕ → ℕ) (s : Forest L Summary) (at id : ℕ) → IsForest s → IsSome (leaf_value s at)
+pub after_longer : {L : Type 0} (f : ℕ → ℕ) (s : Forest L (Headed Summary)) (at id : ℕ) → IsForest s → IsSome (leaf_value s at)
     → total f (insert_after s.leaves at id) ≡ total f s.leaves + f id
 after_longer f s at id g p = put_after_longer f s (Some at) id g p
 
 module _ {L : Type 0} (size : L → ℕ) (element : L → Element) (floor : ℕ) where
   -- a tree without one of its leaves
-  pub takes_sound : (old new : Forest L Summary) (root top : Option ℕ) (leaf : ℕ) (value : L) → IsSound size element floor old root → leaf_value new leaf ≡ None
+  pub takes_sound : (old new : Forest L (Headed Summary)) (root top : Option ℕ) (leaf : ℕ) (value : L) → IsSound size element floor old root → leaf_value new leaf ≡ None
       → IsRooted new top → SumsKeptBut size element floor new None → AreFromFloor floor new → TakesLeaf old new leaf value → IsSound size element floor new top
   takes_sound old new root top leaf value f gone rooted sums floors i =
       let g = rooted_forest old root f.rooted in
@@ -205,7 +208,7 @@ module _ {L : Type 0} (size : L → ℕ) (element : L → Element) (floor : ℕ)
       }
 
   -- a tree in which a leaf stands elsewhere
-  pub moves_sound : (old new : Forest L Summary) (root : Option ℕ) (top leaf : ℕ) (at : Option ℕ) → IsSound size element floor old root → IsSome (leaf_value old leaf)
+  pub moves_sound : (old new : Forest L (Headed Summary)) (root : Option ℕ) (top leaf : ℕ) (at : Option ℕ) → IsSound size element floor old root → IsSome (leaf_value old leaf)
       → ((f : ℕ → ℕ) → total f new.leaves ≡ total f old.leaves) → IsTree new top → SumsKeptBut size element floor new None → AreFromFloor floor new
       → MovesLeaf old new leaf at → IsSound size element floor new (Some top)
   moves_sound old new root top leaf at f live longer tree sums floors i =
@@ -225,7 +228,7 @@ module _ {L : Type 0} (size : L → ℕ) (element : L → Element) (floor : ℕ)
       }
 
   -- a higher floor asks for fewer views
-  pub raised_sound : (higher : ℕ) (s : Forest L Summary) (root : Option ℕ) → floor ≤ higher → IsSound size element floor s root → IsSound size element higher s root
+  pub raised_sound : (higher : ℕ) (s : Forest L (Headed Summary)) (root : Option ℕ) → floor ≤ higher → IsSound size element floor s root → IsSound size element higher s root
   raised_sound higher s root h f =
       record {
         rooted = f.rooted;

@@ -13,17 +13,19 @@ use Rattle.ft_arena.specs.declared.nodes.Node.TheVariants.{Leaf, Block}
 use Rattle.ft_arena.specs.Ids.{times}
 use Rattle.ft_arena.specs.Forest.{Forest, Entry, IsForest, entry, leaf_value}
 use Rattle.ft_arena.proofs.IdLemmas.{same_refl}
+use Rattle.ft_shape.specs.declared.headed.Headed.{Headed}
 use Rattle.ft_block.specs.declared.summaries.Summary.{Summary}
 use Rattle.ft_block.specs.declared.leaves.LenView.TheVariants.{Stage}
 use Rattle.ft_block.specs.declared.leaves.View.{View}
 use Rattle.ft_block.specs.declared.leaves.View.TheVariants.{Of, Pending}
 use Rattle.ft_block.specs.Leaves.{last_stage}
-use Rattle.ft_block.specs.Tree.{total, seek, up_to, is_pending, has_pending, by_view, by_size, length_of, length_of_entry, length_of_node}
-use Rattle.ft_block.proofs.Lists.{seek_here, seek_later, seek_found}
+use Rattle.ft_shape.specs.Tree.{total, seek, up_to, length_of, length_of_entry, length_of_node}
+use Rattle.ft_block.specs.Tree.{is_pending, has_pending, by_view, by_size}
+use Rattle.ft_shape.proofs.Lists.{seek_here, seek_later, seek_found}
 use Rattle.ft_partial.specs.StepFunctions.{amount}
-use Rattle.ft_block.proofs.EditLemmas.{some_of}
+use Rattle.ft_shape.proofs.EditLemmas.{some_of}
 use Rattle.ft_block.proofs.ExchangeLemmas.{none_gone}
-use Rattle.ft_block.proofs.FitLemmas.{leaves_live, leaf_length}
+use Rattle.ft_shape.proofs.FitLemmas.{leaves_live, leaf_length}
 use Rattle.ft_block.proofs.ViewLemmas.{seen_le}
 use Rattle.ft_block.proofs.PositionLemmas.{times-up_to_le, total-up_to_le, seek-up_to}
 
@@ -46,17 +48,17 @@ same_amount false now last n h e = ap (λ b. amount b n) (h refl)
 same_amount true now last n h e = ap (λ (m : ℕ). amount now m) e ∙ none_gone now ∙ sym (ap (λ (m : ℕ). amount last m) e ∙ none_gone last)
 
 -- where no element of a node has a pending stamp, its length is the same at all stages
-pub settled_length : {L : Type 0} (size : L → ℕ) (element : L → Element) (k : ℕ) (s : Forest L Summary) (x : ℕ) → length_of (by_view size element Pending) s x ≡ 0
+pub settled_length : {L : Type 0} (size : L → ℕ) (element : L → Element) (k : ℕ) (s : Forest L (Headed Summary)) (x : ℕ) → length_of (by_view size element Pending) s x ≡ 0
     → length_of (by_view size element (Of (Stage k))) s x ≡ length_of (by_view size element (Of last_stage)) s x
 settled_length {L = L} size element k s x = of_entry (entry s x)
   where
-    of_node : (n : Node L Summary) → length_of_node (by_view size element Pending) n ≡ 0
+    of_node : (n : Node L (Headed Summary)) → length_of_node (by_view size element Pending) n ≡ 0
         → length_of_node (by_view size element (Of (Stage k))) n ≡ length_of_node (by_view size element (Of last_stage)) n
     of_node (Leaf v) e = same_amount (has_pending (element v)) (seen_at (element v) k) (seen_at (element v) 18446744073709551615) (size v)
         (seen_at_any k 18446744073709551615 (element v)) e
     of_node (Block ks v) e = refl
 
-    of_entry : (o : Option (Entry L Summary)) → length_of_entry (by_view size element Pending) o ≡ 0
+    of_entry : (o : Option (Entry L (Headed Summary))) → length_of_entry (by_view size element Pending) o ≡ 0
         → length_of_entry (by_view size element (Of (Stage k))) o ≡ length_of_entry (by_view size element (Of last_stage)) o
     of_entry None e = refl
     of_entry (Some o) e = of_node o.node e
@@ -151,7 +153,7 @@ module _ (g now last : ℕ → ℕ) where
         here : p + 1 ≤ g x → (x ≡ y) × (p + 1 ≡ further) → PassesOne (x ∷ xs) p y further
         here l parts = subst (λ z. PassesOne (x ∷ xs) p z further) parts.0 (first_one l parts.1)
 
-module _ {L : Type 0} (size : L → ℕ) (element : L → Element) (k : ℕ) (s : Forest L Summary) (end : Option ℕ) where
+module _ {L : Type 0} (size : L → ℕ) (element : L → Element) (k : ℕ) (s : Forest L (Headed Summary)) (end : Option ℕ) where
   -- how many of a node's elements have a pending stamp, or are seen at the stage, or in the local view
   abbrev pub marked : ℕ → ℕ
   marked = length_of (by_view size element Pending) s

@@ -8,11 +8,13 @@ use Rattle.ft_arena.specs.Ids.{times}
 use Rattle.ft_arena.specs.Forest.{Forest, IsForest, leaf_value}
 use Rattle.ft_arena.proofs.ArenaLemmas.{count_some_le}
 use Rattle.ft_arena.proofs.IdLemmas.{same_refl, times-append}
+use Rattle.ft_shape.specs.declared.headed.Headed.{Headed}
 use Rattle.ft_block.specs.declared.summaries.Summary.{Summary}
 use Rattle.ft_block.specs.declared.leaves.View.{View}
 use Rattle.ft_block.specs.Inside.{IsSound}
-use Rattle.ft_block.specs.Tree.{total, seek, numbers_before, by_view, length_of}
-use Rattle.ft_block.proofs.Lists.{total-append, seek_here, seek_later, seek-append_left, seek-append_right}
+use Rattle.ft_shape.specs.Tree.{total, seek, numbers_before, length_of}
+use Rattle.ft_block.specs.Tree.{by_view}
+use Rattle.ft_shape.proofs.Lists.{total-append, seek_here, seek_later, seek-append_left, seek-append_right}
 use Rattle.ft_block.proofs.PositionLemmas.{before_here, before-append_out}
 use Rattle.ft_block.proofs.StageLemmas.{marked, at_stage, at_last, settled_length}
 use Rattle.ft_block.proofs.SoundLemmas.{rooted_forest}
@@ -211,7 +213,7 @@ module _ {g now last : ℕ → ℕ} (same : (x : ℕ) → g x ≡ 0 → now x �
                   };
             }
 
-module _ {L : Type 0} (size : L → ℕ) (element : L → Element) (floor : ℕ) (s : Forest L Summary) (root : ℕ) (sound : IsSound size element floor s (Some root)) where
+module _ {L : Type 0} (size : L → ℕ) (element : L → Element) (floor : ℕ) (s : Forest L (Headed Summary)) (root : ℕ) (sound : IsSound size element floor s (Some root)) where
   pub sound_forest : IsForest s
   sound_forest = rooted_forest s (Some root) sound.rooted
 

@@ -3,12 +3,14 @@ use Rattle.std.proofs.Common.{◌≡◌, ℕ, ◌+◌, ◌≤◌, List, [], ◌�
 use Rattle.ft_base.specs.declared.elements.Element.{Element}
 use Rattle.ft_arena.specs.Forest.{Forest, IsForest, entry, leaf_value}
 use Rattle.ft_arena.proofs.IdLemmas.{same_refl}
+use Rattle.ft_shape.specs.declared.headed.Headed.{Headed}
 use Rattle.ft_block.specs.declared.summaries.Summary.{Summary}
 use Rattle.ft_block.specs.declared.leaves.View.{View}
 use Rattle.ft_block.specs.Tree.{shows, shown_length}
-use Rattle.ft_block.specs.Tree.{total, length_of, by_view, by_size}
-use Rattle.ft_block.proofs.EditLemmas.{some_of}
-use Rattle.ft_block.proofs.FitLemmas.{AllLeaves, leaves_live, leaf_length}
+use Rattle.ft_shape.specs.Tree.{total, length_of}
+use Rattle.ft_block.specs.Tree.{by_view, by_size}
+use Rattle.ft_shape.proofs.EditLemmas.{some_of}
+use Rattle.ft_shape.proofs.FitLemmas.{AllLeaves, leaves_live, leaf_length}
 
 cond_parts : (b : Bool) (x y z : ℕ) → x + y ≡ z → cond b x 0 + cond b y 0 ≡ cond b z 0
 cond_parts true x y z e = e
@@ -34,7 +36,7 @@ module _ {L : Type 0} (size : L → ℕ) (element : L → Element) (view : View)
   seen_le x = cond_le (shows view (element x)) (size x)
 
   -- a view sees no more of leaves than there is
-  pub view_fits : (s : Forest L Summary) (xs : List ℕ) → AllLeaves s xs → total (length_of (by_view size element view) s) xs ≤ total (length_of (by_size size) s) xs
+  pub view_fits : (s : Forest L (Headed Summary)) (xs : List ℕ) → AllLeaves s xs → total (length_of (by_view size element view) s) xs ≤ total (length_of (by_size size) s) xs
   view_fits s [] all = omega arith
   view_fits s (x ∷ xs) all =
       let v = some_of (leaf_value s x) (all x (omega (arith, same_refl x))) in
@@ -47,5 +49,5 @@ module _ {L : Type 0} (size : L → ℕ) (element : L → Element) (view : View)
             (λ y m. all y (omega arith)),
       )
 
-  pub all_fit : (s : Forest L Summary) → IsForest s → total (length_of (by_view size element view) s) s.leaves ≤ total (length_of (by_size size) s) s.leaves
+  pub all_fit : (s : Forest L (Headed Summary)) → IsForest s → total (length_of (by_view size element view) s) s.leaves ≤ total (length_of (by_size size) s) s.leaves
   all_fit s f = view_fits s s.leaves (leaves_live s f)

@@ -1,4 +1,3 @@
 pub mod Leaves
 pub mod Tree
-pub mod Steps
 pub mod Inside

@@ -38,6 +38,7 @@ use crate::leaves::{Leaf, LenView, View};
 use crate::summaries::Summary;
 use ft_arena::{Arena, NodeId};
 use ft_base::{Element, OutOfMemory, Perspective, Steps};
+use ft_shape::Headed;
 use std::alloc::Global;
 use std::marker::{Brand, Model};
 use std::sync::ledger::{Blank, Ledger};
@@ -65,7 +66,7 @@ pub struct OutOfRange {
 /// for those from the floor up; it is 0 at first.
 #[derive(Drop)]
 pub struct Blocks<L: Leaf> {
-    arena: Arena<L, Summary>,
+    arena: Arena<L, Headed<Summary>>,
     root: Option<usize>,
     floor: u64,
     usable: bool,

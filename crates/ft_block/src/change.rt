@@ -2,8 +2,9 @@
 
 ghost use Rattle.std.specs.Prelude.{◌≡◌, ◌+◌, ◌^◌, ◌<◌, ◌≤◌, None, IsSome, IsSomeAnd, IsTrue, IfOk, OnOk};
 ghost use Rattle.ft_arena.specs.Forest.{leaf_value};
-ghost use Rattle.ft_block.specs.Tree.{IsTree, SumsKeptBut, AreFromFloor, by_size, length_of, total};
-ghost use Rattle.ft_block.specs.Steps.{SplitsLeaf, ChangesLeaf};
+ghost use Rattle.ft_shape.specs.Tree.{IsTree, length_of, total};
+ghost use Rattle.ft_block.specs.Tree.{SumsKeptBut, AreFromFloor, by_size};
+ghost use Rattle.ft_shape.specs.Steps.{SplitsLeaf, ChangesLeaf};
 ghost use Rattle.ft_block.specs.Inside.{IsSound};
 
 use crate::grow::{grow, nodes_needed};
@@ -13,12 +14,13 @@ use crate::refresh::exchange_up;
 use crate::summaries::Summary;
 use ft_arena::{Arena, NodeId};
 use ft_base::{Element, OutOfMemory, Steps};
+use ft_shape::Headed;
 use std::alloc::Global;
 use std::sync::ledger::Ledger;
 
 // Cuts a leaf in two. Tells the root and the new leaf.
 pub(crate) fn split_at<L: Leaf, G: Ledger>(
-    arena: &mut Arena<L, Summary>,
+    arena: &mut Arena<L, Headed<Summary>>,
     alloc: Global,
     floor: u64,
     root: NodeId,
@@ -48,7 +50,7 @@ pub(crate) fn split_at<L: Leaf, G: Ledger>(
 
 // Replaces a leaf's stamps.
 pub(crate) fn set_stamps_at<L: Leaf, G: Ledger>(
-    arena: &mut Arena<L, Summary>,
+    arena: &mut Arena<L, Headed<Summary>>,
     floor: u64,
     root: NodeId,
     id: NodeId,
@@ -76,7 +78,7 @@ pub(crate) fn set_stamps_at<L: Leaf, G: Ledger>(
 
 // Adds another leaf's elements at the end of a leaf.
 pub(crate) fn join_at<L: Leaf, G: Ledger>(
-    arena: &mut Arena<L, Summary>,
+    arena: &mut Arena<L, Headed<Summary>>,
     floor: u64,
     root: NodeId,
     id: NodeId,
@@ -120,7 +122,7 @@ where
 
 // Changes a leaf's value, but not its length and stamps.
 pub(crate) fn change_in<L: Leaf>(
-    arena: &mut Arena<L, Summary>,
+    arena: &mut Arena<L, Headed<Summary>>,
     root: Option<usize>,
     floor: u64,
     id: NodeId,

@@ -3,8 +3,9 @@
 ghost use Rattle.std.specs.Prelude.{◌≡◌, ◌≢◌, ◌+◌, ◌^◌, ◌<◌, ◌≤◌, Some, None, IsSome, IsSomeAnd, IsTrue, IfOk, IfErr, OnOk};
 ghost use Rattle.ft_arena.specs.Forest.{IsPlace, leaf_value};
 ghost use Rattle.ft_arena.specs.Ids.{put_after};
-ghost use Rattle.ft_block.specs.Tree.{by_size, by_view, length_of, total, numbers_before, seek};
-ghost use Rattle.ft_block.specs.Steps.{InsertsLeaf, SplitsLeaf, ChangesLeaf, TakesLeaf, MovesLeaf};
+ghost use Rattle.ft_shape.specs.Tree.{length_of, total, numbers_before, seek};
+ghost use Rattle.ft_block.specs.Tree.{by_size, by_view};
+ghost use Rattle.ft_shape.specs.Steps.{InsertsLeaf, SplitsLeaf, ChangesLeaf, TakesLeaf, MovesLeaf};
 ghost use Rattle.ft_block.specs.declared.leaves.LenView.TheVariants.{Stage};
 ghost use Rattle.ft_block.specs.declared.leaves.View.TheVariants.{Of};
 ghost use Rattle.ft_block.specs.Leaves.{IsFromFloor};
@@ -19,12 +20,13 @@ use crate::stage_find::find_past_pending;
 use crate::summaries::Summary;
 use ft_arena::{Arena, NodeId};
 use ft_base::{Element, OutOfMemory, Steps};
+use ft_shape::Headed;
 use std::alloc::Global;
 use std::sync::ledger::{Blank, Ledger};
 
 // The value of a leaf.
 pub(crate) fn leaf_in<'a, L: Leaf, G: Ledger>(
-    arena: &'a Arena<L, Summary>,
+    arena: &'a Arena<L, Headed<Summary>>,
     id: NodeId,
     blank: Blank,
 ) -> &'a L
@@ -40,7 +42,7 @@ pub(crate) fn leaf_in<'a, L: Leaf, G: Ledger>(
 
 // The length of the leaves before this one in a view.
 pub(crate) fn position_in<L: Leaf, G: Ledger>(
-    arena: &Arena<L, Summary>,
+    arena: &Arena<L, Headed<Summary>>,
     root: Option<usize>,
     floor: u64,
     leaf: NodeId,
@@ -80,7 +82,7 @@ pub(crate) fn position_in<L: Leaf, G: Ledger>(
 
 // The length of all leaves in a view.
 pub(crate) fn length_in<L: Leaf, G: Ledger>(
-    arena: &Arena<L, Summary>,
+    arena: &Arena<L, Headed<Summary>>,
     root: Option<usize>,
     floor: u64,
     view: LenView,
@@ -109,7 +111,7 @@ pub(crate) fn length_in<L: Leaf, G: Ledger>(
 
 // The leaf in whose stretch the place lies that a stage sees, and how far in; or how many the stage sees.
 pub(crate) fn find_in_stage<L: Leaf, G: Ledger>(
-    arena: &Arena<L, Summary>,
+    arena: &Arena<L, Headed<Summary>>,
     root: NodeId,
     floor: u64,
     p: u64,
@@ -131,7 +133,7 @@ pub(crate) fn find_in_stage<L: Leaf, G: Ledger>(
 
 // Puts a new leaf directly after another, or first. Tells the root and the new leaf.
 pub(crate) fn insert_in<L: Leaf, G: Ledger>(
-    arena: &mut Arena<L, Summary>,
+    arena: &mut Arena<L, Headed<Summary>>,
     alloc: Global,
     floor: u64,
     root: Option<usize>,
@@ -163,7 +165,7 @@ where
 
 // Cuts a leaf in two. Tells the root and the new leaf.
 pub(crate) fn split_in<L: Leaf, G: Ledger>(
-    arena: &mut Arena<L, Summary>,
+    arena: &mut Arena<L, Headed<Summary>>,
     alloc: Global,
     floor: u64,
     root: Option<usize>,
@@ -189,7 +191,7 @@ pub(crate) fn split_in<L: Leaf, G: Ledger>(
 
 // Replaces a leaf's stamps.
 pub(crate) fn set_stamps_in<L: Leaf, G: Ledger>(
-    arena: &mut Arena<L, Summary>,
+    arena: &mut Arena<L, Headed<Summary>>,
     root: Option<usize>,
     floor: u64,
     id: NodeId,
@@ -213,7 +215,7 @@ pub(crate) fn set_stamps_in<L: Leaf, G: Ledger>(
 
 // Takes a leaf out. Tells the root, if there is a leaf left, and the leaf's value.
 pub(crate) fn take_in<L: Leaf, G: Ledger>(
-    arena: &mut Arena<L, Summary>,
+    arena: &mut Arena<L, Headed<Summary>>,
     alloc: Global,
     floor: u64,
     root: Option<usize>,
@@ -237,7 +239,7 @@ pub(crate) fn take_in<L: Leaf, G: Ledger>(
 
 // Adds another leaf's elements at the end of a leaf.
 pub(crate) fn join_in<L: Leaf, G: Ledger>(
-    arena: &mut Arena<L, Summary>,
+    arena: &mut Arena<L, Headed<Summary>>,
     root: Option<usize>,
     floor: u64,
     id: NodeId,
@@ -264,7 +266,7 @@ where
 
 // Moves a leaf directly after another, or to the head. Tells the root.
 pub(crate) fn move_in<L: Leaf, G: Ledger>(
-    arena: &mut Arena<L, Summary>,
+    arena: &mut Arena<L, Headed<Summary>>,
     alloc: Global,
     floor: u64,
     root: Option<usize>,

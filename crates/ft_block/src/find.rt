@@ -3,29 +3,31 @@
 ghost use Rattle.std.specs.Prelude.{◌≡◌, ℕ, ◌+◌, ◌*◌, ◌<◌, ◌≤◌, Some, None, IsSome, IfOk, IfErr};
 ghost use Rattle.ft_arena.specs.Forest.{entry};
 ghost use Rattle.ft_arena.specs.Ids.{times};
-ghost use Rattle.ft_block.specs.Tree.{IsTree, SumsBut, AreFromFloor, IsNodeFrom, KeepsLengths, by_view, height_of, length_of, length_of_node, seek, total};
+ghost use Rattle.ft_shape.specs.Tree.{IsTree, SumsBut, height_of, length_of, length_of_node, seek, total};
+ghost use Rattle.ft_block.specs.Tree.{AreFromFloor, IsNodeFrom, KeepsLengths, by_view};
 
 use crate::leaves::{Leaf, View, shown_length};
 use crate::summaries::Summary;
 use ft_arena::{Arena, Kids, Node, NodeId};
 use ft_base::Steps;
+use ft_shape::Headed;
 use std::sync::ledger::Ledger;
 
 // The length of a node in a view.
-pub(crate) fn length_at<L: Leaf>(node: &Node<L, Summary>, _floor: u64, view: View) -> u64
+pub(crate) fn length_at<L: Leaf>(node: &Node<L, Headed<Summary>>, _floor: u64, view: View) -> u64
     requires kept { KeepsLengths _floor view }
     requires node { IsNodeFrom _floor node.now }
     ensures { result ≡ length_of_node (by_view L.size L.element view) node.now }
 {
     match node {
         Node::Leaf { value } => shown_length(value, view),
-        Node::Block { value, .. } => value.kept(view),
+        Node::Block { value, .. } => value.sum.kept(view),
     }
 }
 
 // The child in whose stretch the place lies, and how far in; or how long all children are.
 fn child_at<L: Leaf, G: Ledger>(
-    arena: &Arena<L, Summary>,
+    arena: &Arena<L, Headed<Summary>>,
     kids: &Kids,
     floor: u64,
     view: View,
@@ -57,7 +59,7 @@ fn child_at<L: Leaf, G: Ledger>(
 
 // The leaf in whose stretch the place lies, and how far in; or how long all leaves are.
 pub(crate) fn find_from<L: Leaf, G: Ledger>(
-    arena: &Arena<L, Summary>,
+    arena: &Arena<L, Headed<Summary>>,
     root: NodeId,
     floor: u64,
     view: View,

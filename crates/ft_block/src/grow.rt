@@ -4,62 +4,22 @@ ghost use Rattle.std.specs.Prelude.{◌≡◌, ◌≢◌, ℕ, ◌+◌, ◌-◌,
 ghost use Rattle.ft_arena.specs.Forest.{IsForest, entry, block_value, kids_of, parent_of, leaf_value};
 ghost use Rattle.ft_arena.specs.Ids.{times, insert_after};
 ghost use Rattle.ft_block.specs.declared.leaves.View.{View};
-ghost use Rattle.ft_block.specs.Tree.{
-  IsTree,
-  IsGrowing,
-  IsBare,
-  SumsKeptBut,
-  OwesAsAbove,
-  PairFits,
-  AreFromFloor,
-  KeepsLengths,
-  by_view,
-  by_size,
-  height_of,
-  length_of,
-  total,
-  kind_of,
-  insert_before,
-};
-ghost use Rattle.ft_block.specs.Steps.{SplitsAt, RootsOver, Halves, PutsInHalf, Resums, ResumsBoth, InsertsLeaf};
+ghost use Rattle.ft_shape.specs.Tree.{IsTree, IsGrowing, IsBare, height_of, length_of, total, kind_of, insert_before};
+ghost use Rattle.ft_block.specs.Tree.{SumsKeptBut, OwesAsAbove, PairFits, AreFromFloor, KeepsLengths, by_view, by_size};
+ghost use Rattle.ft_shape.specs.Steps.{SplitsAt, RootsOver, Halves, PutsInHalf, Resums, ResumsBoth, InsertsLeaf};
 
 use crate::leaves::Leaf;
 use crate::refresh::{exchange_up, rebuild};
 use crate::summaries::Summary;
-use ft_arena::{Arena, Node, NodeId};
+use ft_arena::{Arena, NodeId};
 use ft_base::{OutOfMemory, Steps};
+use ft_shape::{Headed, height_at, move_half, place_of, put_in_half};
 use std::alloc::Global;
 use std::sync::ledger::Ledger;
 
-// The place of a child among a block's children, and how many there are.
-pub(crate) fn place_of<L: Leaf, G: Ledger>(
-    arena: &Arena<L, Summary>,
-    block: NodeId,
-    child: NodeId,
-    steps: &mut Steps<G>,
-) -> (usize, usize)
-    requires block { IsSome (block_value arena.now block) }
-    requires child { 1 ≤ times (kids_of arena.now block) child }
-    ensures place { slice_get (kids_of arena.now block) result.0 ≡ Some child }
-    ensures count { result.1 ≡ length (kids_of arena.now block) }
-{
-    let Node::Block { kids, .. } = arena.read(block, steps) else {
-        unreachable!();
-    };
-    let count = kids.len();
-    let mut i = 0;
-    while let Some(kid) = kids.get(i) {
-        if kid == child {
-            return (i, count);
-        }
-        i += 1;
-    }
-    unreachable!()
-}
-
 // Puts a new root over the old one and another node.
 fn root_over<L: Leaf, G: Ledger>(
-    arena: &mut Arena<L, Summary>,
+    arena: &mut Arena<L, Headed<Summary>>,
     alloc: Global,
     floor: u64,
     root: NodeId,
@@ -81,76 +41,19 @@ fn root_over<L: Leaf, G: Ledger>(
     ensures floors { OnOk result (AreFromFloor floor arena.new) }
     ensures sums { IfOk result (λ top. (view : View) → KeepsLengths floor view → Resums (by_view L.size L.element view) arena.old arena.new top) }
 {
-    let top = arena.add_block(Summary::new(alloc, height, floor));
+    let top = arena.add_block(Headed {
+        height,
+        sum: Summary::new(alloc, floor),
+    });
     arena.put_child(top, 0, root);
     arena.put_child(top, 1, id);
     rebuild(arena, alloc, floor, top, steps)?;
     Ok(top)
 }
 
-// Moves the children from the fifth on to a block that has none.
-fn move_half<L: Leaf>(arena: &mut Arena<L, Summary>, block: NodeId, rear: NodeId)
-    requires forest { IsForest arena.old }
-    requires block { IsSome (block_value arena.old block) }
-    requires rear { IsSome (block_value arena.old rear) }
-    requires full { length (kids_of arena.old block) ≡ 8 }
-    requires empty { kids_of arena.old rear ≡ [] }
-    requires alone { parent_of arena.old rear ≡ None }
-    requires differ { block ≢ rear }
-    ensures { Halves arena.old arena.new block rear }
-{
-    for k in 0..4 {
-        let child = arena.take_child(block, 4);
-        arena.put_child(rear, k, child);
-    }
-}
-
-// Puts a node at this place among the children of two blocks with four each.
-fn put_in_half<L: Leaf>(
-    arena: &mut Arena<L, Summary>,
-    block: NodeId,
-    rear: NodeId,
-    place: usize,
-    id: NodeId,
-)
-    requires forest { IsForest arena.old }
-    requires block { IsSome (block_value arena.old block) }
-    requires rear { IsSome (block_value arena.old rear) }
-    requires front { length (kids_of arena.old block) ≡ 4 }
-    requires back { length (kids_of arena.old rear) ≡ 4 }
-    requires differ { block ≢ rear }
-    requires place { place ≤ 8 }
-    requires id { IsSome (entry arena.old id) }
-    requires alone { parent_of arena.old id ≡ None }
-    requires not_block { id ≢ block }
-    requires not_rear { id ≢ rear }
-    ensures { PutsInHalf arena.old arena.new block rear place id }
-{
-    if place <= 4 {
-        arena.put_child(block, place, id);
-    } else {
-        arena.put_child(rear, place - 4, id);
-    }
-}
-
-// How many levels of blocks a block heads.
-pub(crate) fn height_at<L: Leaf, G: Ledger>(
-    arena: &Arena<L, Summary>,
-    block: NodeId,
-    steps: &mut Steps<G>,
-) -> u64
-    requires { IsSome (block_value arena.now block) }
-    ensures { kind_of arena.now block ≡ Some (Some result) }
-{
-    match arena.read(block, steps) {
-        Node::Block { value, .. } => value.height,
-        Node::Leaf { .. } => unreachable!(),
-    }
-}
-
 // Splits a full block, and puts a node at this place among its children. Tells the new block.
 fn split_put<L: Leaf, G: Ledger>(
-    arena: &mut Arena<L, Summary>,
+    arena: &mut Arena<L, Headed<Summary>>,
     alloc: Global,
     floor: u64,
     block: NodeId,
@@ -174,7 +77,10 @@ fn split_put<L: Leaf, G: Ledger>(
     ensures sums { IfOk result (λ rear. (view : View) → KeepsLengths floor view → ResumsBoth (by_view L.size L.element view) arena.old arena.new block rear) }
 {
     let height = height_at(arena, block, steps);
-    let rear = arena.add_block(Summary::new(alloc, height, floor));
+    let rear = arena.add_block(Headed {
+        height,
+        sum: Summary::new(alloc, floor),
+    });
     move_half(arena, block, rear);
     put_in_half(arena, block, rear, place, id);
     rebuild(arena, alloc, floor, block, steps)?;
@@ -185,7 +91,7 @@ fn split_put<L: Leaf, G: Ledger>(
 // Puts a node into the tree, directly after a node of its level. Tells the root, and a block among
 // whose children it stands now, but whose kept lengths are those of before, if there is one.
 pub(crate) fn grow<L: Leaf, G: Ledger>(
-    arena: &mut Arena<L, Summary>,
+    arena: &mut Arena<L, Headed<Summary>>,
     alloc: Global,
     floor: u64,
     root: NodeId,
@@ -225,7 +131,7 @@ pub(crate) fn grow<L: Leaf, G: Ledger>(
 
 // Puts a node into the tree, directly before a leaf. Tells the same.
 pub(crate) fn grow_front<L: Leaf, G: Ledger>(
-    arena: &mut Arena<L, Summary>,
+    arena: &mut Arena<L, Headed<Summary>>,
     alloc: Global,
     floor: u64,
     root: NodeId,
@@ -262,7 +168,7 @@ pub(crate) fn grow_front<L: Leaf, G: Ledger>(
 
 // How many nodes the tree may need for one more leaf: the leaf, a block on each level, a new root.
 pub(crate) fn nodes_needed<L: Leaf, G: Ledger>(
-    arena: &Arena<L, Summary>,
+    arena: &Arena<L, Headed<Summary>>,
     root: NodeId,
     steps: &mut Steps<G>,
 ) -> usize
@@ -276,7 +182,7 @@ pub(crate) fn nodes_needed<L: Leaf, G: Ledger>(
 
 // Puts a new leaf directly after another. Tells the root and the new leaf.
 pub(crate) fn insert_at<L: Leaf, G: Ledger>(
-    arena: &mut Arena<L, Summary>,
+    arena: &mut Arena<L, Headed<Summary>>,
     alloc: Global,
     floor: u64,
     root: NodeId,
@@ -308,7 +214,7 @@ where
 
 // Puts a new leaf before all others. Tells the root and the new leaf.
 pub(crate) fn insert_front<L: Leaf, G: Ledger>(
-    arena: &mut Arena<L, Summary>,
+    arena: &mut Arena<L, Headed<Summary>>,
     alloc: Global,
     floor: u64,
     root: NodeId,
@@ -341,7 +247,7 @@ where
 
 // Puts the first leaf of all, under a new root. Tells the root and the leaf.
 pub(crate) fn insert_first<L: Leaf, G: Ledger>(
-    arena: &mut Arena<L, Summary>,
+    arena: &mut Arena<L, Headed<Summary>>,
     alloc: Global,
     floor: u64,
     leaf: L,
@@ -358,7 +264,10 @@ where
 {
     arena.reserve(2)?;
     let id = arena.link_after(None, leaf);
-    let top = arena.add_block(Summary::new(alloc, 1, floor));
+    let top = arena.add_block(Headed {
+        height: 1,
+        sum: Summary::new(alloc, floor),
+    });
     arena.put_child(top, 0, id);
     rebuild(arena, alloc, floor, top, steps)?;
     Ok((top, id))

@@ -6,18 +6,20 @@ ghost use Rattle.ft_arena.specs.Ids.{times};
 ghost use Rattle.ft_block.specs.declared.leaves.LenView.TheVariants.{Stage};
 ghost use Rattle.ft_block.specs.declared.leaves.View.TheVariants.{Of, Pending};
 ghost use Rattle.ft_block.specs.Leaves.{last_stage};
-ghost use Rattle.ft_block.specs.Tree.{IsTree, SumsBut, AreFromFloor, KeepsLengths, by_size, by_view, length_of, total, numbers_before, up_to};
+ghost use Rattle.ft_shape.specs.Tree.{IsTree, SumsBut, length_of, total, numbers_before, up_to};
+ghost use Rattle.ft_block.specs.Tree.{AreFromFloor, KeepsLengths, by_size, by_view};
 
 use crate::find::{find_from, length_at};
 use crate::leaves::{Leaf, LenView, View, shown_length};
 use crate::summaries::Summary;
 use ft_arena::{Arena, Node, NodeId};
 use ft_base::Steps;
+use ft_shape::Headed;
 use std::sync::ledger::Ledger;
 
 // The lengths, in a kept view, of the children before this one.
 fn length_before<L: Leaf, G: Ledger>(
-    arena: &Arena<L, Summary>,
+    arena: &Arena<L, Headed<Summary>>,
     block: NodeId,
     child: NodeId,
     floor: u64,
@@ -51,7 +53,7 @@ fn length_before<L: Leaf, G: Ledger>(
 // The lengths, in a kept view, of the leaves before this one: up from the leaf, past the children
 // that it stands behind.
 pub(crate) fn kept_before<L: Leaf, G: Ledger>(
-    arena: &Arena<L, Summary>,
+    arena: &Arena<L, Headed<Summary>>,
     _root: NodeId,
     leaf: NodeId,
     floor: u64,
@@ -77,7 +79,7 @@ pub(crate) fn kept_before<L: Leaf, G: Ledger>(
 
 // The length of all leaves in a kept view.
 pub(crate) fn kept_in_all<L: Leaf, G: Ledger>(
-    arena: &Arena<L, Summary>,
+    arena: &Arena<L, Headed<Summary>>,
     root: NodeId,
     floor: u64,
     view: View,
@@ -94,7 +96,7 @@ pub(crate) fn kept_in_all<L: Leaf, G: Ledger>(
 
 // The value of a leaf.
 pub(crate) fn leaf_at<'a, L: Leaf, G: Ledger>(
-    arena: &'a Arena<L, Summary>,
+    arena: &'a Arena<L, Headed<Summary>>,
     id: NodeId,
     steps: &mut Steps<G>,
 ) -> &'a L
@@ -110,7 +112,7 @@ pub(crate) fn leaf_at<'a, L: Leaf, G: Ledger>(
 // How many elements a stage sees of the leaves before the given one, or of all where none is given, of
 // which the local view sees `local` and `pending` have a pending stamp: these alone are looked at.
 pub(crate) fn seen_at_stage<L: Leaf, G: Ledger>(
-    arena: &Arena<L, Summary>,
+    arena: &Arena<L, Headed<Summary>>,
     root: NodeId,
     _end: Option<NodeId>,
     floor: u64,

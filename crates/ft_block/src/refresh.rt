@@ -4,35 +4,35 @@ ghost use Rattle.std.specs.Prelude.{◌≡◌, ℕ, ◌+◌, ◌^◌, ◌<◌, �
 ghost use Rattle.ft_arena.specs.Forest.{IsForest, entry, block_value, kids_of};
 ghost use Rattle.ft_arena.specs.Ids.{times};
 ghost use Rattle.ft_block.specs.declared.leaves.View.{View};
-ghost use Rattle.ft_block.specs.Tree.{IsPartTree, SumsKeptBut, OwesExchange, AreFromFloor, KeepsLengths, by_view, by_size, kept_length, length_of, total};
-ghost use Rattle.ft_block.specs.Steps.{SameShape, Resums};
+ghost use Rattle.ft_shape.specs.Tree.{IsPartTree, length_of, total};
+ghost use Rattle.ft_block.specs.Tree.{SumsKeptBut, OwesExchange, AreFromFloor, KeepsLengths, by_view, by_size, kept_length};
+ghost use Rattle.ft_shape.specs.Steps.{SameShape, Resums};
 
 use crate::leaves::Leaf;
 use crate::summaries::{Summary, add_node};
 use ft_arena::{Arena, Kids, Node, NodeId};
 use ft_base::{Element, OutOfMemory, Steps};
 use ft_partial::stamps_of;
+use ft_shape::Headed;
 use std::alloc::Global;
 use std::sync::ledger::Ledger;
 
-// What a block of this height with these children keeps.
+// What a block with these children keeps.
 fn sum_of<L: Leaf, G: Ledger>(
-    arena: &Arena<L, Summary>,
+    arena: &Arena<L, Headed<Summary>>,
     kids: &Kids,
     alloc: Global,
-    height: u64,
     floor: u64,
     steps: &mut Steps<G>,
 ) -> Result<Summary, OutOfMemory>
     requires live { (id : ℕ) → 1 ≤ times kids.now id → IsSome (entry arena.now id) }
     requires floors { AreFromFloor floor arena.now }
     requires fits { (view : View) → KeepsLengths floor view → total (length_of (by_view L.size L.element view) arena.now) kids.now < 2 ^ 64 }
-    ensures height { IfOk result (λ sum. sum.height ≡ height) }
     ensures floor { IfOk result (λ sum. sum.table.floor ≡ floor) }
     ensures sum { IfOk result (λ sum. (view : View) → KeepsLengths floor view → kept_length view sum ≡ total (length_of (by_view L.size L.element view) arena.now) kids.now) }
 {
     let _few = kids.len();
-    let mut sum = Summary::new(alloc, height, floor);
+    let mut sum = Summary::new(alloc, floor);
     let mut i = 0;
     while let Some(kid) = kids.get(i) {
         add_node(&mut sum, floor, arena.read(kid, steps))?;
@@ -43,7 +43,7 @@ fn sum_of<L: Leaf, G: Ledger>(
 
 // Makes what a block keeps again from its children.
 pub(crate) fn rebuild<L: Leaf, G: Ledger>(
-    arena: &mut Arena<L, Summary>,
+    arena: &mut Arena<L, Headed<Summary>>,
     alloc: Global,
     floor: u64,
     block: NodeId,
@@ -61,15 +61,16 @@ pub(crate) fn rebuild<L: Leaf, G: Ledger>(
     let Node::Block { kids, value } = arena.read(block, steps) else {
         unreachable!();
     };
-    let sum = sum_of(arena, kids, alloc, value.height, floor, steps)?;
-    *arena.block_mut(block) = sum;
+    let height = value.height;
+    let sum = sum_of(arena, kids, alloc, floor, steps)?;
+    *arena.block_mut(block) = Headed { height, sum };
     Ok(())
 }
 
 // From a block up, each keeps `len` elements of the stamps `e` too many, and `new_len` of the stamps
 // `new` too few: exchanges them.
 pub(crate) fn exchange_up<L: Leaf>(
-    arena: &mut Arena<L, Summary>,
+    arena: &mut Arena<L, Headed<Summary>>,
     _root: NodeId,
     _apart: Option<NodeId>,
     _short: Option<NodeId>,
@@ -96,6 +97,7 @@ pub(crate) fn exchange_up<L: Leaf>(
     'up: while let Some(block) = stale {
         arena
             .block_mut(block)
+            .sum
             .exchange(floor, given, e, len, new, new_len)?;
         stale = arena.parent(block);
     }

@@ -5,106 +5,25 @@ ghost use Rattle.std.specs.Prelude.{◌≡◌, ◌≢◌, IsTrue, false, ℕ, �
 ghost use Rattle.ft_arena.specs.Forest.{IsForest, IsPlace, block_value, kids_of, leaf_value, parent_of};
 ghost use Rattle.ft_arena.specs.Ids.{times, put_after, without};
 ghost use Rattle.ft_block.specs.declared.leaves.View.{View};
-ghost use Rattle.ft_block.specs.Tree.{IsTree, IsApart, SumsBut, SumsKeptBut, AreFromFloor, KeepsLengths, PairFits, IsBare, by_view, by_size, height_of, length_of, total};
+ghost use Rattle.ft_shape.specs.Tree.{IsTree, IsApart, SumsBut, IsBare, height_of, length_of, total};
+ghost use Rattle.ft_block.specs.Tree.{SumsKeptBut, AreFromFloor, KeepsLengths, PairFits, by_view, by_size};
 ghost use Rattle.ft_block.specs.Inside.{IsRooted};
-ghost use Rattle.ft_block.specs.Steps.{Regroups, Shares, ResumsPair, DropsRoot, IsPair, TakesLeaf, MovesLeaf};
+ghost use Rattle.ft_shape.specs.Steps.{Regroups, Shares, ResumsPair, DropsRoot, IsPair, TakesLeaf, MovesLeaf};
 
-use crate::grow::{grow, grow_front, nodes_needed, place_of};
+use crate::grow::{grow, grow_front, nodes_needed};
 use crate::leaves::Leaf;
 use crate::position::leaf_at;
 use crate::refresh::{exchange_up, rebuild};
 use crate::summaries::Summary;
-use ft_arena::{Arena, Node, NodeId};
+use ft_arena::{Arena, NodeId};
 use ft_base::{OutOfMemory, Steps};
+use ft_shape::{Headed, child_at, count_of, drop_root, place_of, regroup};
 use std::alloc::Global;
 use std::sync::ledger::Ledger;
 
-// The child at this place among a block's children.
-fn child_at<L: Leaf, G: Ledger>(
-    arena: &Arena<L, Summary>,
-    block: NodeId,
-    place: usize,
-    steps: &mut Steps<G>,
-) -> NodeId
-    requires block { IsSome (block_value arena.now block) }
-    requires place { place < length (kids_of arena.now block) }
-    ensures { slice_get (kids_of arena.now block) place ≡ Some result }
-{
-    let Node::Block { kids, .. } = arena.read(block, steps) else {
-        unreachable!();
-    };
-    match kids.get(place) {
-        Some(kid) => kid,
-        None => unreachable!(),
-    }
-}
-
-// How many children a block has.
-fn count_of<L: Leaf, G: Ledger>(
-    arena: &Arena<L, Summary>,
-    block: NodeId,
-    steps: &mut Steps<G>,
-) -> usize
-    requires { IsSome (block_value arena.now block) }
-    ensures value { result ≡ length (kids_of arena.now block) }
-    ensures few { result ≤ 8 }
-{
-    let Node::Block { kids, .. } = arena.read(block, steps) else {
-        unreachable!();
-    };
-    kids.len()
-}
-
-// Moves children between two neighbours until the front one has `want` of them.
-fn regroup<L: Leaf, G: Ledger>(
-    arena: &mut Arena<L, Summary>,
-    front: NodeId,
-    rear: NodeId,
-    want: usize,
-    steps: &mut Steps<G>,
-)
-    requires forest { IsForest arena.old }
-    requires front { IsSome (block_value arena.old front) }
-    requires rear { IsSome (block_value arena.old rear) }
-    requires front_apart { times (kids_of arena.old rear) front ≡ 0 }
-    requires rear_apart { times (kids_of arena.old front) rear ≡ 0 }
-    requires front_own { times (kids_of arena.old front) front ≡ 0 }
-    requires rear_own { times (kids_of arena.old rear) rear ≡ 0 }
-    requires differ { front ≢ rear }
-    requires want { want ≤ 8 }
-    requires enough { want ≤ length (kids_of arena.old front) + length (kids_of arena.old rear) }
-    requires room { length (kids_of arena.old front) + length (kids_of arena.old rear) ≤ want + 8 }
-    ensures { Regroups arena.old arena.new front rear want }
-{
-    let mut count = count_of(arena, front, steps);
-    'fill: while count < want {
-        let child = arena.take_child(rear, 0);
-        arena.put_child(front, count, child);
-        count += 1;
-    }
-    'spill: while count > want {
-        count -= 1;
-        let child = arena.take_child(front, count);
-        arena.put_child(rear, 0, child);
-    }
-}
-
-// Takes the root away, whose one child becomes the root.
-fn drop_root<L: Leaf>(arena: &mut Arena<L, Summary>, root: NodeId) -> NodeId
-    requires block { IsSome (block_value arena.old root) }
-    requires top { parent_of arena.old root ≡ None }
-    requires forest { IsForest arena.old }
-    requires one { length (kids_of arena.old root) ≡ 1 }
-    ensures { DropsRoot arena.old arena.new root result }
-{
-    let top = arena.take_child(root, 0);
-    let _ = arena.drop_block(root);
-    top
-}
-
 // Has two neighbours below a block, which have too many children for one, share them.
 fn balance<L: Leaf, G: Ledger>(
-    arena: &mut Arena<L, Summary>,
+    arena: &mut Arena<L, Headed<Summary>>,
     alloc: Global,
     floor: u64,
     up: NodeId,
@@ -131,7 +50,7 @@ fn balance<L: Leaf, G: Ledger>(
 
 // Joins two neighbours below a block, which have few enough children for one.
 fn merge<L: Leaf, G: Ledger>(
-    arena: &mut Arena<L, Summary>,
+    arena: &mut Arena<L, Headed<Summary>>,
     alloc: Global,
     floor: u64,
     up: NodeId,
@@ -163,7 +82,7 @@ fn merge<L: Leaf, G: Ledger>(
 // From a block up: while one has too few children, it gets some of a neighbour, or is joined with it.
 // Tells the root.
 fn fill_up<L: Leaf, G: Ledger>(
-    arena: &mut Arena<L, Summary>,
+    arena: &mut Arena<L, Headed<Summary>>,
     alloc: Global,
     floor: u64,
     root: NodeId,
@@ -208,7 +127,7 @@ fn fill_up<L: Leaf, G: Ledger>(
 
 // Takes a leaf, which isn't the only one, out of the tree, but not out of the list. Tells the root.
 pub(crate) fn detach<L: Leaf, G: Ledger>(
-    arena: &mut Arena<L, Summary>,
+    arena: &mut Arena<L, Headed<Summary>>,
     alloc: Global,
     floor: u64,
     root: NodeId,
@@ -252,7 +171,7 @@ pub(crate) fn detach<L: Leaf, G: Ledger>(
 }
 
 // Whether the leaf is the only one.
-fn is_only<L: Leaf>(arena: &Arena<L, Summary>, id: NodeId) -> bool
+fn is_only<L: Leaf>(arena: &Arena<L, Headed<Summary>>, id: NodeId) -> bool
     requires forest { IsForest arena.now }
     requires live { IsSome (leaf_value arena.now id) }
     ensures only { IsTrue result → arena.now.leaves ≡ id ∷ [] }
@@ -268,7 +187,7 @@ fn is_only<L: Leaf>(arena: &Arena<L, Summary>, id: NodeId) -> bool
 }
 
 // Takes the only leaf out, and the root. Tells the leaf's value.
-fn take_last<L: Leaf>(arena: &mut Arena<L, Summary>, root: NodeId, id: NodeId) -> L
+fn take_last<L: Leaf>(arena: &mut Arena<L, Headed<Summary>>, root: NodeId, id: NodeId) -> L
     requires tree { IsTree arena.old root }
     requires only { arena.old.leaves ≡ id ∷ [] }
     ensures bare { IsBare arena.new }
@@ -281,7 +200,7 @@ fn take_last<L: Leaf>(arena: &mut Arena<L, Summary>, root: NodeId, id: NodeId) -
 
 // Takes a leaf out. Tells the root, if there is a leaf left, and the leaf's value.
 pub(crate) fn take_at<L: Leaf, G: Ledger>(
-    arena: &mut Arena<L, Summary>,
+    arena: &mut Arena<L, Headed<Summary>>,
     alloc: Global,
     floor: u64,
     root: NodeId,
@@ -307,7 +226,7 @@ pub(crate) fn take_at<L: Leaf, G: Ledger>(
 
 // Whether the leaf stands directly after that one, or first where none is given.
 pub(crate) fn stands_there<L: Leaf>(
-    arena: &Arena<L, Summary>,
+    arena: &Arena<L, Headed<Summary>>,
     id: NodeId,
     at: &Option<NodeId>,
 ) -> bool
@@ -332,7 +251,7 @@ pub(crate) fn stands_there<L: Leaf>(
 
 // Moves a leaf, which isn't the only one, directly after another, or to the head. Tells the root.
 pub(crate) fn move_at<L: Leaf, G: Ledger>(
-    arena: &mut Arena<L, Summary>,
+    arena: &mut Arena<L, Headed<Summary>>,
     alloc: Global,
     floor: u64,
     root: NodeId,

@@ -7,7 +7,8 @@ ghost use Rattle.ft_block.specs.declared.leaves.LenView.TheVariants.{Stage};
 ghost use Rattle.ft_block.specs.declared.leaves.View.TheVariants.{Of, Pending};
 ghost use Rattle.ft_block.specs.Inside.{IsSound};
 ghost use Rattle.ft_block.specs.Leaves.{last_stage};
-ghost use Rattle.ft_block.specs.Tree.{by_view, length_of, numbers_before, seek, total};
+ghost use Rattle.ft_shape.specs.Tree.{length_of, numbers_before, seek, total};
+ghost use Rattle.ft_block.specs.Tree.{by_view};
 
 use crate::find::find_from;
 use crate::leaves::{Leaf, LenView, View, shown_length};
@@ -15,12 +16,13 @@ use crate::position::{kept_before, kept_in_all, leaf_at};
 use crate::summaries::Summary;
 use ft_arena::{Arena, NodeId};
 use ft_base::Steps;
+use ft_shape::Headed;
 use std::sync::ledger::Ledger;
 
 // The next leaf with a pending stamp, behind those that have `passed` elements with one, and how many
 // elements the local view sees left of it.
 fn next_pending_leaf<L: Leaf, G: Ledger>(
-    arena: &Arena<L, Summary>,
+    arena: &Arena<L, Headed<Summary>>,
     root: NodeId,
     floor: u64,
     passed: u64,
@@ -43,7 +45,7 @@ fn next_pending_leaf<L: Leaf, G: Ledger>(
 // The place that the stage sees behind leaves of which it sees `seen` and the local view `local`, where
 // both see the same from there up to the place; or how many the stage sees.
 fn find_behind<L: Leaf, G: Ledger>(
-    arena: &Arena<L, Summary>,
+    arena: &Arena<L, Headed<Summary>>,
     root: NodeId,
     floor: u64,
     _stage: u64,
@@ -77,7 +79,7 @@ fn find_behind<L: Leaf, G: Ledger>(
 
 // The leaf in whose stretch the place lies that the stage sees, and how far in; or how many the stage sees.
 pub(crate) fn find_past_pending<L: Leaf, G: Ledger>(
-    arena: &Arena<L, Summary>,
+    arena: &Arena<L, Headed<Summary>>,
     root: NodeId,
     floor: u64,
     p: u64,

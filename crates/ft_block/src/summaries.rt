@@ -8,14 +8,13 @@ use crate::leaves::{Leaf, LenView, View, shown_in};
 use ft_arena::Node;
 use ft_base::{Element, OutOfMemory, Stamp};
 use ft_partial::{Table, stamps_of};
+use ft_shape::Headed;
 use std::alloc::Global;
 
-/// What a block keeps: how many levels of blocks it heads, how many elements its leaves have, how many
-/// of them the local view sees, how many have a pending stamp, and a table of how many each
+/// What a block keeps: how many elements its leaves have, how many of them the local view sees, how many have a pending stamp, and a table of how many each
 /// perspective sees.
 #[derive(Drop)]
 pub(crate) struct Summary {
-    pub(crate) height: u64,
     pub(crate) whole: u64,
     pub(crate) local: u64,
     pub(crate) pending: u64,
@@ -23,16 +22,14 @@ pub(crate) struct Summary {
 }
 
 impl Summary {
-    // Of a block of this height that has no leaves.
-    pub(crate) fn new(alloc: Global, height: u64, floor: u64) -> Summary
-        ensures height { result.height ≡ height }
+    // Of a block that has no leaves.
+    pub(crate) fn new(alloc: Global, floor: u64) -> Summary
         ensures floor { result.table.floor ≡ floor }
         ensures nothing { KeepsNothing floor result }
     {
         let mut table = Table::new(alloc);
         table.fold_to(floor);
         Summary {
-            height,
             whole: 0,
             local: 0,
             pending: 0,
@@ -67,7 +64,6 @@ impl Summary {
         requires floor { self.old.table.floor ≤ floor }
         requires old { Covers floor stamps.now e.now }
         requires new { Covers floor stamps.now new.now }
-        ensures height { self.new.height ≡ self.old.height }
         ensures floor { self.new.table.floor ≡ floor }
         ensures low { HasRange self.new }
         ensures exchanges { OnOk result (KeepsExchange floor self.old self.new e.now len new.now new_len) }
@@ -88,7 +84,6 @@ impl Summary {
     pub(crate) fn add_all(&mut self, floor: u64, other: &Summary) -> Result<(), OutOfMemory>
         requires floor { self.old.table.floor ≡ floor }
         requires other { other.now.table.floor ≤ floor }
-        ensures height { self.new.height ≡ self.old.height }
         ensures floor { self.new.table.floor ≡ floor }
         ensures low { HasRange self.new }
         ensures sum { OnOk result (KeepsSum floor self.old other.now self.new) }
@@ -104,11 +99,10 @@ impl Summary {
 pub(crate) fn add_node<L: Leaf>(
     sum: &mut Summary,
     floor: u64,
-    node: &Node<L, Summary>,
+    node: &Node<L, Headed<Summary>>,
 ) -> Result<(), OutOfMemory>
     requires floor { sum.old.table.floor ≡ floor }
     requires node { IsNodeFrom floor node.now }
-    ensures height { sum.new.height ≡ sum.old.height }
     ensures floor { sum.new.table.floor ≡ floor }
     ensures low { OnOk result (HasRange sum.new) }
     ensures sum { OnOk result (KeepsNode L.size L.element floor sum.old node.now sum.new) }
@@ -119,6 +113,6 @@ pub(crate) fn add_node<L: Leaf>(
             let stamps = stamps_of(e, e, floor)?;
             sum.exchange(floor, stamps.as_slice(), e, 0, e, value.len())
         }
-        Node::Block { value, .. } => sum.add_all(floor, value),
+        Node::Block { value, .. } => sum.add_all(floor, &value.sum),
     }
 }

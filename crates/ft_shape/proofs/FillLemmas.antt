@@ -29,10 +29,10 @@ two_apart xs i f r ef er h e =
     let d2 = drop_at xs (i + 1) r er in
     omega (arith, h, m, ap (λ zs. times zs f) d, ap (λ zs. times zs f) d2, same_refl f, ap (λ z. same z f) e)
 
-rest_once : (xs : List ℕ) (f r : ℕ) → f ≢ r → times xs f ≡ 1 → times (without xs r) f ≡ 1
+pub rest_once : (xs : List ℕ) (f r : ℕ) → f ≢ r → times xs f ≡ 1 → times (without xs r) f ≡ 1
 rest_once xs f r d h = times-without_other xs r f d ∙ h
 
-one_of : (g : ℕ → ℕ) (xs : List ℕ) (x : ℕ) → times xs x ≡ 1 → g x ≤ total g xs
+pub one_of : (g : ℕ → ℕ) (xs : List ℕ) (x : ℕ) → times xs x ≡ 1 → g x ≤ total g xs
 one_of g xs x h = omega (arith, total-without g xs x h)
 
 module _ {L S : Type 0} (s : Forest L (Headed S)) (root id block : ℕ) (a : IsApart s root id (Some block)) where
@@ -124,10 +124,10 @@ module _ {L S : Type 0} (s : Forest L (Headed S)) (root id block : ℕ) (a : IsA
 
       -- two neighbours among its children
       module _ (i front rear : ℕ) (at_front : slice_get (kids_of s up) i ≡ Some front) (at_rear : slice_get (kids_of s up) (i + 1) ≡ Some rear) where
-        kid_up : (j x : ℕ) → slice_get (kids_of s up) j ≡ Some x → parent_of s x ≡ Some up
+        pub kid_up : (j x : ℕ) → slice_get (kids_of s up) j ≡ Some x → parent_of s x ≡ Some up
         kid_up j x e = points_some (parent_of s x) up (omega (arith, times_at (kids_of s up) j x e, a.shape.forest.child_once up x))
 
-        kid_once : (x : ℕ) → parent_of s x ≡ Some up → times (kids_of s up) x ≡ 1
+        pub kid_once : (x : ℕ) → parent_of s x ≡ Some up → times (kids_of s up) x ≡ 1
         kid_once x e = a.shape.forest.child_once up x ∙ points_at (parent_of s x) up e
 
         kid_block : (x : ℕ) → parent_of s x ≡ Some up → IsSome (block_value s x)
@@ -173,7 +173,7 @@ module _ {L S : Type 0} (s s' : Forest L (Headed S)) (root id top : ℕ) (a : Is
   dr_kinds : (x : ℕ) → x ≢ root → kind_of s' x ≡ kind_of s x
   dr_kinds x d = kind_from_values (entry s x) (entry s' x) (r.leaf_values x) (r.block_values x d)
 
-  dr_alive : (x : ℕ) → IsSome (entry s' x) → x ≢ root
+  pub dr_alive : (x : ℕ) → IsSome (entry s' x) → x ≢ root
   dr_alive x h e = let z : IsSome (entry s' root) = subst (λ (y : ℕ). IsSome (entry s' y)) e h in cc (z, r.gone)
 
   dr_height : (x : ℕ) → x ≢ root → height_of s' x ≡ height_of s x

@@ -102,7 +102,7 @@ module _ {L S : Type 0} (s s' : Forest L (Headed S)) (root at id step : ℕ) (ed
   in_heights : (x : ℕ) → height_of s' x ≡ height_of s x
   in_heights = kept height_of_entry s s' id _ c (sym (ap height_of_entry fresh))
 
-  in_blocks : (x : ℕ) → block_value s' x ≡ block_value s x
+  pub in_blocks : (x : ℕ) → block_value s' x ≡ block_value s x
   in_blocks = kept block_of_entry s s' id _ c (sym (ap block_of_entry fresh))
 
   in_was_block : (x : ℕ) → IsSome (block_value s' x) → IsSome (block_value s x)
@@ -244,7 +244,7 @@ module _ {L S : Type 0} (s : Forest L (Headed S)) (root at : ℕ) (v w : L) (t :
   ch_heights : (x : ℕ) → height_of ch_s x ≡ height_of s x
   ch_heights = kept height_of_entry s ch_s at _ ch_changes (sym (leaf_height (entry s at) (is_some_from _ v found)))
 
-  ch_blocks : (x : ℕ) → block_value ch_s x ≡ block_value s x
+  pub ch_blocks : (x : ℕ) → block_value ch_s x ≡ block_value s x
   ch_blocks = kept block_of_entry s ch_s at _ ch_changes (sym (leaf_block (entry s at) v found))
 
   ch_live : (x : ℕ) → IsSome (entry ch_s x) → IsSome (entry s x)

@@ -137,7 +137,7 @@ module _ {L S : Type 0} (s s' : Forest L (Headed S)) (root id : ℕ) (value : L)
   un_high : (x : ℕ) → height_of s' x ≡ height_of s x
   un_high = kept height_of_entry s s' id None c (sym (leaf_height (entry s id) a.live))
 
-  un_blocks : (x : ℕ) → block_value s' x ≡ block_value s x
+  pub un_blocks : (x : ℕ) → block_value s' x ≡ block_value s x
   un_blocks = kept block_of_entry s s' id None c (sym (leaf_block (entry s id) value is))
 
   un_alive : (x : ℕ) → IsSome (entry s' x) → x ≢ id

@@ -1,12 +1,14 @@
 use Rattle.std.proofs.Common.{IsSomeAnd, IsTrue, Option, subst, ◌≡◌, ◌+◌, Some, ap, sym, ◌∙◌, arith}
 use Rattle.std.proofs.lemmas.Result.{on_ok_weaker}
 use Rattle.ft_arena.specs.Forest.{with_leaf, entry, count_some}
-use Rattle.ft_block.proofs.FitLemmas.{leaf_length}
-use Rattle.ft_block.proofs.WithoutLemmas.{total-without}
-use Rattle.ft_block.specs.Tree.{by_view, by_size, length_of, SumsBut, OwesAt}
-use Rattle.ft_block.proofs.InsertLemmas.{changed_tree, changed_sums, changed_owes, changed_floors, changed_total, changed_leaf}
+use Rattle.ft_shape.proofs.FitLemmas.{leaf_length}
+use Rattle.ft_shape.proofs.WithoutLemmas.{total-without}
+use Rattle.ft_shape.specs.Tree.{length_of, SumsBut, OwesAt}
+use Rattle.ft_block.specs.Tree.{by_view, by_size}
+use Rattle.ft_shape.proofs.InsertLemmas.{changed_tree, changed_sums, changed_owes, changed_total, changed_leaf}
+use Rattle.ft_block.proofs.Floors.{changed_floors}
 use Rattle.ft_block.proofs.ExchangeLemmas.{tree_part, turns, parent_block}
-use Rattle.ft_block.proofs.RefreshLemmas.{SameShape-tree}
+use Rattle.ft_shape.proofs.RefreshLemmas.{SameShape-tree}
 use Rattle.ft_block.proofs.change.join_at.Goals as goal
 
 pub overflow_add-len : goal.overflow_add-len

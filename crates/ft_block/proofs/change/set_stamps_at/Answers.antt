@@ -1,10 +1,12 @@
 use Rattle.std.proofs.Common.{subst, ◌≡◌, Some, ap, sym, ◌∙◌, arith}
 use Rattle.std.proofs.lemmas.Result.{on_ok_weaker}
 use Rattle.ft_arena.specs.Forest.{with_leaf}
-use Rattle.ft_block.specs.Tree.{by_view, by_size, SumsBut, OwesAt}
-use Rattle.ft_block.proofs.InsertLemmas.{changed_tree, changed_sums, changed_owes, changed_floors, changed_total, changed_leaf}
+use Rattle.ft_shape.specs.Tree.{SumsBut, OwesAt}
+use Rattle.ft_block.specs.Tree.{by_view, by_size}
+use Rattle.ft_shape.proofs.InsertLemmas.{changed_tree, changed_sums, changed_owes, changed_total, changed_leaf}
+use Rattle.ft_block.proofs.Floors.{changed_floors}
 use Rattle.ft_block.proofs.ExchangeLemmas.{tree_part, turns, parent_block}
-use Rattle.ft_block.proofs.RefreshLemmas.{SameShape-tree}
+use Rattle.ft_shape.proofs.RefreshLemmas.{SameShape-tree}
 use Rattle.ft_block.proofs.change.set_stamps_at.Goals as goal
 
 pub exchange_up-requires-clause-tree : goal.exchange_up-requires-clause-tree

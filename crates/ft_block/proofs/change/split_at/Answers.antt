@@ -1,12 +1,15 @@
 use Rattle.std.proofs.Common.{IsSomeAnd, Option, subst, ◌≡◌, ◌<◌, ◌+◌, ℕ, List, ap, sym, ◌∙◌, arith}
 use Rattle.ft_arena.specs.Ids.{insert_after}
 use Rattle.ft_arena.specs.Forest.{Forest}
+use Rattle.ft_shape.specs.declared.headed.Headed.{Headed}
 use Rattle.ft_block.specs.declared.summaries.Summary.{Summary}
 use Rattle.ft_block.specs.Tree.{shown_length}
-use Rattle.ft_block.specs.Tree.{by_view, by_size, height_of}
-use Rattle.ft_block.proofs.InsertLemmas.{room_tree, room_sums, room_floors, room_values, room_leaves, cut_grows, cut_heights, cut_sums, cut_owes, cut_floors, cut_total}
-use Rattle.ft_block.proofs.InsertLemmas.{cut_splits, all_settled}
-use Rattle.ft_block.proofs.FitLemmas.{leaf_total}
+use Rattle.ft_shape.specs.Tree.{height_of}
+use Rattle.ft_block.specs.Tree.{by_view, by_size}
+use Rattle.ft_shape.proofs.InsertLemmas.{room_tree, room_sums, room_values, room_leaves, cut_grows, cut_heights, cut_sums, cut_owes, cut_total}
+use Rattle.ft_block.proofs.Floors.{room_floors, cut_floors}
+use Rattle.ft_shape.proofs.InsertLemmas.{cut_splits, all_settled}
+use Rattle.ft_shape.proofs.FitLemmas.{leaf_total}
 use Rattle.ft_block.proofs.ViewLemmas.{seen_parts}
 use Rattle.ft_block.proofs.change.split_at.Goals as goal
 
@@ -55,7 +58,7 @@ grow-requires-clause-spare g c =
     let h = cut_heights c.reserve.new.self c.link_after-id.new.self c.args.root c.args.leaf c.link_after-id.result c.leaf_mut.result.now c.split_off.new.self
     c.in_ok-rest.rest (room_tree c.args.arena.now c.reserve.new.self c.reserve.ensures.kept c.args.root c.requires.tree) c.leaf_mut.ensures.value
     c.link_after-id.ensures.fresh c.link_after-id.ensures.changes c.link_after-id.ensures.leaves c.link_after-id.ensures.sound c.args.root in
-    let e = ap (λ (s : Forest g.row.L.Denot Summary). height_of s c.args.root) c.reserve.ensures.kept in
+    let e = ap (λ (s : Forest g.row.L.Denot (Headed Summary)). height_of s c.args.root) c.reserve.ensures.kept in
     omega (arith, h, e, c.link_after-id.ensures.spare, c.in_ok-reserve.ensures.room, c.nodes_needed-needed.ensures)
 
 pub grow-requires-clause-tall : goal.grow-requires-clause-tall
@@ -63,7 +66,7 @@ grow-requires-clause-tall g c =
     let h = cut_heights c.reserve.new.self c.link_after-id.new.self c.args.root c.args.leaf c.link_after-id.result c.leaf_mut.result.now c.split_off.new.self
     c.in_ok-rest.rest (room_tree c.args.arena.now c.reserve.new.self c.reserve.ensures.kept c.args.root c.requires.tree) c.leaf_mut.ensures.value
     c.link_after-id.ensures.fresh c.link_after-id.ensures.changes c.link_after-id.ensures.leaves c.link_after-id.ensures.sound c.args.root in
-    let e = ap (λ (s : Forest g.row.L.Denot Summary). height_of s c.args.root) c.reserve.ensures.kept in
+    let e = ap (λ (s : Forest g.row.L.Denot (Headed Summary)). height_of s c.args.root) c.reserve.ensures.kept in
     omega (arith, h, e, c.nodes_needed-needed.ensures)
 
 pub returns-clause-sums : goal.returns-clause-sums

@@ -1,8 +1,9 @@
 use Rattle.std.proofs.Common.{ℕ, Option, Some, None, IsSome, ◌∷◌, subst}
 use Rattle.ft_arena.specs.Ids.{insert_after}
 use Rattle.ft_arena.specs.Forest.{IsPlace, leaf_value}
-use Rattle.ft_block.specs.Tree.{IsTree, SumsKeptBut, AreFromFloor}
-use Rattle.ft_block.specs.Steps.{InsertsLeaf}
+use Rattle.ft_shape.specs.Tree.{IsTree}
+use Rattle.ft_block.specs.Tree.{SumsKeptBut, AreFromFloor}
+use Rattle.ft_shape.specs.Steps.{InsertsLeaf}
 use Rattle.ft_block.specs.Inside.{IsSound}
 use Rattle.ft_block.proofs.SoundLemmas.{rooted_forest, inserts_sound, if_ok_four, front_longer, after_longer}
 use Rattle.ft_block.proofs.counted.insert_in.Goals as goal

@@ -1,5 +1,5 @@
 use Rattle.std.proofs.Common.{◌≡◌, ℕ, Option, Some, refl, ap, sym, subst, ◌∙◌}
-use Rattle.ft_block.specs.Tree.{total}
+use Rattle.ft_shape.specs.Tree.{total}
 use Rattle.ft_block.specs.Inside.{IsRooted, IsSound}
 use Rattle.ft_block.proofs.MovedLemmas.{list_total}
 use Rattle.ft_block.proofs.SoundLemmas.{rooted_forest, moves_sound}

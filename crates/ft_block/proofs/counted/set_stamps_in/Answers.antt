@@ -1,6 +1,7 @@
 use Rattle.std.proofs.Common.{Some, None, OnOk, sym, subst, arith, ℕ, Option}
-use Rattle.ft_block.specs.Tree.{IsTree, SumsKeptBut, AreFromFloor}
-use Rattle.ft_block.specs.Steps.{ChangesLeaf}
+use Rattle.ft_shape.specs.Tree.{IsTree}
+use Rattle.ft_block.specs.Tree.{SumsKeptBut, AreFromFloor}
+use Rattle.ft_shape.specs.Steps.{ChangesLeaf}
 use Rattle.ft_block.specs.Inside.{IsRooted, IsSound}
 use Rattle.ft_block.proofs.SoundLemmas.{changes_sound, on_ok_four}
 use Rattle.ft_block.proofs.counted.set_stamps_in.Goals as goal

@@ -1,6 +1,7 @@
 use Rattle.std.proofs.Common.{◌<◌, Option, Some, None, IsSomeAnd, subst, arith, ℕ}
-use Rattle.ft_block.specs.Tree.{IsTree, SumsKeptBut, AreFromFloor}
-use Rattle.ft_block.specs.Steps.{SplitsLeaf}
+use Rattle.ft_shape.specs.Tree.{IsTree}
+use Rattle.ft_block.specs.Tree.{SumsKeptBut, AreFromFloor}
+use Rattle.ft_shape.specs.Steps.{SplitsLeaf}
 use Rattle.ft_block.specs.Inside.{IsRooted, IsSound}
 use Rattle.ft_block.proofs.SoundLemmas.{splits_sound, if_ok_four}
 use Rattle.ft_block.proofs.counted.split_in.Goals as goal

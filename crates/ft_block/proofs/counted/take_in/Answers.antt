@@ -1,6 +1,6 @@
 use Rattle.std.proofs.Common.{None, ℕ, Option, subst}
 use Rattle.ft_block.specs.Tree.{SumsKeptBut, AreFromFloor}
-use Rattle.ft_block.specs.Steps.{TakesLeaf}
+use Rattle.ft_shape.specs.Steps.{TakesLeaf}
 use Rattle.ft_block.specs.Inside.{IsRooted, IsSound}
 use Rattle.ft_block.proofs.SoundLemmas.{takes_sound, if_ok_four}
 use Rattle.ft_block.proofs.counted.take_in.Goals as goal

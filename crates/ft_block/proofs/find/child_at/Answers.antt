@@ -1,7 +1,8 @@
 use Rattle.std.proofs.Common.{◌≡◌, ◌<◌, ◌-◌, ◌+◌, ℕ, List, ◌∷◌, drop, ap, sym, ◌∙◌, arith}
 use Rattle.std.proofs.lemmas.Option.{slice_get_within}
-use Rattle.ft_block.specs.Tree.{seek, total, length_of, by_view, length_of_entry}
-use Rattle.ft_block.proofs.Lists.{times_at, drop_at, drop_none, seek_here, seek_later}
+use Rattle.ft_shape.specs.Tree.{seek, total, length_of, length_of_entry}
+use Rattle.ft_block.specs.Tree.{by_view}
+use Rattle.ft_shape.proofs.Lists.{times_at, drop_at, drop_none, seek_here, seek_later}
 use Rattle.ft_block.proofs.KeptLemmas.{node_from}
 use Rattle.ft_block.proofs.find.child_at.Goals as goal
 

@@ -1,5 +1,6 @@
 use Rattle.std.proofs.Common.{◌≡◌, ◌≤◌, ◌+◌, ◌-◌, length, drop}
-use Rattle.ft_block.specs.Tree.{seek, total, length_of, by_view}
+use Rattle.ft_shape.specs.Tree.{seek, total, length_of}
+use Rattle.ft_block.specs.Tree.{by_view}
 use Rattle.ft_block.proofs.find.child_at.Given as goal
 
 abbrev pub invariant-loop-kid : goal.invariant-loop-kid

@@ -1,7 +1,8 @@
 use Rattle.std.proofs.Common.{◌≡◌, ◌≤◌, ℕ, List, ap, sym, ◌∙◌, arith}
 use Rattle.ft_arena.specs.Forest.{entry, kids_of, kids_of_entry, kids_of_node}
-use Rattle.ft_block.specs.Tree.{seek, length_of, by_view, height_of, height_of_entry, height_of_node}
-use Rattle.ft_block.proofs.Levels.{descends, total_leaves, block_from_height}
+use Rattle.ft_shape.specs.Tree.{seek, length_of, height_of, height_of_entry, height_of_node}
+use Rattle.ft_block.specs.Tree.{by_view}
+use Rattle.ft_shape.proofs.Levels.{descends, total_leaves, block_from_height}
 use Rattle.ft_block.proofs.find.find_from.Goals as goal
 
 pub levels-init : goal.levels-init

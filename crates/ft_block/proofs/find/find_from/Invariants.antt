@@ -1,6 +1,7 @@
 use Rattle.std.proofs.Common.{◌≡◌, ◌≤◌, ◌<◌, ◌+◌, ◌-◌, ◌*◌, IsSome, [], ◌∷◌}
 use Rattle.ft_arena.specs.Forest.{block_value}
-use Rattle.ft_block.specs.Tree.{seek, total, length_of, by_view, below, height_of}
+use Rattle.ft_shape.specs.Tree.{seek, total, length_of, below, height_of}
+use Rattle.ft_block.specs.Tree.{by_view}
 use Rattle.ft_block.proofs.find.find_from.Given as goal
 
 abbrev pub invariant-levels : goal.invariant-levels

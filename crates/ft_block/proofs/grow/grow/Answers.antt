@@ -1,12 +1,14 @@
 use Rattle.std.proofs.Common.{insert, ◌≡◌, ◌+◌, ℕ, Some, refl, ap, sym, subst, ◌∙◌, arith}
 use Rattle.ft_arena.specs.Forest.{entry, parent_of, kids_of}
 use Rattle.ft_arena.specs.Ids.{insert_after}
-use Rattle.ft_block.specs.Tree.{height_of, length_of, by_view, by_size, total, IsGrowing, SumsBut}
-use Rattle.ft_block.proofs.EditLemmas.{after_is_edit, dead_apart}
-use Rattle.ft_block.proofs.KindLemmas.{kind_height, block_live}
-use Rattle.ft_block.proofs.PutLemmas.{PutsAt-from}
-use Rattle.ft_block.proofs.GrowLemmas.{put_tree, put_sums, put_owes, put_floors, put_block, split_grows, split_sums, split_owes, root_tree, root_sums, top_is_root}
-use Rattle.ft_block.proofs.FitLemmas.{leaf_total, gr_fits, gr_place, gr_high, gr_block, gr_low, gr_root_fits}
+use Rattle.ft_shape.specs.Tree.{height_of, length_of, total, IsGrowing, SumsBut}
+use Rattle.ft_block.specs.Tree.{by_view, by_size}
+use Rattle.ft_shape.proofs.EditLemmas.{after_is_edit, dead_apart}
+use Rattle.ft_shape.proofs.KindLemmas.{kind_height, block_live}
+use Rattle.ft_shape.proofs.PutLemmas.{PutsAt-from}
+use Rattle.ft_shape.proofs.GrowLemmas.{put_tree, put_sums, put_owes, put_block, split_grows, split_sums, split_owes, root_tree, root_sums, top_is_root}
+use Rattle.ft_block.proofs.Floors.{put_floors}
+use Rattle.ft_shape.proofs.FitLemmas.{leaf_total, gr_fits, gr_place, gr_high, gr_block, gr_low, gr_root_fits}
 use Rattle.ft_block.proofs.ViewLemmas.{all_fit}
 use Rattle.ft_block.proofs.grow.grow.Goals as goal
 

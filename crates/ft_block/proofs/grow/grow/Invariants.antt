@@ -2,7 +2,8 @@ use Rattle.std.proofs.Common.{◌≡◌, ◌≤◌, ◌<◌, ◌+◌, ◌-◌, �
 use Rattle.ft_arena.specs.Forest.{leaf_value, parent_of}
 use Rattle.ft_arena.specs.Ids.{insert_after}
 use Rattle.ft_block.specs.declared.leaves.View.{View}
-use Rattle.ft_block.specs.Tree.{IsGrowing, SumsKeptBut, OwesAbove, AreFromFloor, KeepsLengths, height_of, length_of, by_view, by_size, total}
+use Rattle.ft_shape.specs.Tree.{IsGrowing, OwesAbove, height_of, length_of, total}
+use Rattle.ft_block.specs.Tree.{SumsKeptBut, AreFromFloor, KeepsLengths, by_view, by_size}
 use Rattle.ft_block.proofs.grow.grow.Given as goal
 
 abbrev pub invariant-up : goal.invariant-up

@@ -2,11 +2,13 @@ use Rattle.std.proofs.Common.{insert, ◌≡◌, ◌+◌, ℕ, Some, ap, sym, �
 use Rattle.std.proofs.lemmas.Option.{slice_get_within}
 use Rattle.std.proofs.lemmas.Result.{IfOk-weaker, on_ok_weaker}
 use Rattle.ft_arena.specs.Forest.{parent_of, kids_of}
-use Rattle.ft_block.specs.Tree.{length_of, by_view, by_size, total, insert_before}
-use Rattle.ft_block.proofs.EditLemmas.{before_is_edit}
-use Rattle.ft_block.proofs.PutLemmas.{PutsAt-from}
-use Rattle.ft_block.proofs.GrowLemmas.{put_tree, put_sums, put_owes, put_floors, put_block, split_grows, split_sums, split_owes}
-use Rattle.ft_block.proofs.FitLemmas.{leaf_total, gr_fits, gr_place}
+use Rattle.ft_shape.specs.Tree.{length_of, total, insert_before}
+use Rattle.ft_block.specs.Tree.{by_view, by_size}
+use Rattle.ft_shape.proofs.EditLemmas.{before_is_edit}
+use Rattle.ft_shape.proofs.PutLemmas.{PutsAt-from}
+use Rattle.ft_shape.proofs.GrowLemmas.{put_tree, put_sums, put_owes, put_block, split_grows, split_sums, split_owes}
+use Rattle.ft_block.proofs.Floors.{put_floors}
+use Rattle.ft_shape.proofs.FitLemmas.{leaf_total, gr_fits, gr_place}
 use Rattle.ft_block.proofs.ViewLemmas.{all_fit}
 use Rattle.ft_block.proofs.grow.grow_front.Goals as goal
 

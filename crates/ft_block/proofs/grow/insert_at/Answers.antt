@@ -1,13 +1,14 @@
 use Rattle.std.proofs.Common.{◌≡◌, ℕ, List, ap, sym, ◌∙◌, arith}
 use Rattle.ft_arena.specs.Ids.{insert_after}
 use Rattle.ft_block.specs.Tree.{by_view, by_size}
-use Rattle.ft_block.proofs.EditLemmas.{after_is_edit}
+use Rattle.ft_shape.proofs.EditLemmas.{after_is_edit}
 use Rattle.ft_partial.specs.StepFunctions.{amount}
 use Rattle.ft_block.specs.Tree.{shows}
-use Rattle.ft_block.proofs.FitLemmas.{leaf_total}
+use Rattle.ft_shape.proofs.FitLemmas.{leaf_total}
 use Rattle.ft_block.proofs.ExchangeLemmas.{tree_part, comes}
-use Rattle.ft_block.proofs.RefreshLemmas.{SameShape-tree}
-use Rattle.ft_block.proofs.InsertLemmas.{leaf_grows, leaf_sums, leaf_floors, leaf_owes, leaf_fits, room_entry, room_leaves, room_changes, leaf_heights, leaf_inserts, nothing_owed}
+use Rattle.ft_shape.proofs.RefreshLemmas.{SameShape-tree}
+use Rattle.ft_shape.proofs.InsertLemmas.{leaf_grows, leaf_sums, leaf_owes, leaf_fits, room_entry, room_leaves, room_changes, leaf_heights, leaf_inserts, nothing_owed}
+use Rattle.ft_block.proofs.Floors.{leaf_floors}
 use Rattle.ft_block.proofs.grow.insert_at.Goals as goal
 
 pub grow-requires-clause-growing : goal.grow-requires-clause-growing

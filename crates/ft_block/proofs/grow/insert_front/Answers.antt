@@ -2,16 +2,18 @@ use Rattle.std.proofs.Common.{[], length, ◌≡◌, ◌≤◌, ℕ, List, ◌�
 use Rattle.ft_arena.specs.Ids.{first}
 use Rattle.ft_arena.specs.Forest.{entry, leaf_value}
 use Rattle.ft_arena.proofs.ArenaLemmas.{count_some_le}
-use Rattle.ft_block.specs.Tree.{insert_before, height_of, by_view, by_size}
-use Rattle.ft_block.proofs.EditLemmas.{before_is_edit, front_is}
-use Rattle.ft_block.proofs.Levels.{some_leaf}
+use Rattle.ft_shape.specs.Tree.{insert_before, height_of}
+use Rattle.ft_block.specs.Tree.{by_view, by_size}
+use Rattle.ft_shape.proofs.EditLemmas.{before_is_edit, front_is}
+use Rattle.ft_shape.proofs.Levels.{some_leaf}
 use Rattle.ft_partial.specs.StepFunctions.{amount}
 use Rattle.ft_block.specs.Tree.{shows}
-use Rattle.ft_block.proofs.FitLemmas.{leaf_total, leaves_live}
+use Rattle.ft_shape.proofs.FitLemmas.{leaf_total, leaves_live}
 use Rattle.ft_block.proofs.ExchangeLemmas.{tree_part, comes}
-use Rattle.ft_block.proofs.RefreshLemmas.{SameShape-tree}
-use Rattle.ft_block.proofs.InsertLemmas.{leaf_grows, leaf_sums, leaf_floors, leaf_owes, leaf_fits, leaf_height, room_entry, room_leaves, room_changes, leaf_heights}
-use Rattle.ft_block.proofs.InsertLemmas.{leaf_inserts, nothing_owed}
+use Rattle.ft_shape.proofs.RefreshLemmas.{SameShape-tree}
+use Rattle.ft_shape.proofs.InsertLemmas.{leaf_grows, leaf_sums, leaf_owes, leaf_fits, leaf_height, room_entry, room_leaves, room_changes, leaf_heights}
+use Rattle.ft_block.proofs.Floors.{leaf_floors}
+use Rattle.ft_shape.proofs.InsertLemmas.{leaf_inserts, nothing_owed}
 use Rattle.ft_block.proofs.grow.insert_front.Goals as goal
 
 no_first : (xs : List ℕ) → 1 ≤ length xs → first xs ≡ None → ⊥

@@ -1,7 +1,7 @@
 use Rattle.std.proofs.Common.{arith}
 use Rattle.ft_arena.specs.Forest.{entry}
-use Rattle.ft_block.proofs.Levels.{height_fits}
-use Rattle.ft_block.proofs.KindLemmas.{kind_is_height}
+use Rattle.ft_shape.proofs.Levels.{height_fits}
+use Rattle.ft_shape.proofs.KindLemmas.{kind_is_height}
 use Rattle.ft_block.proofs.grow.nodes_needed.Goals as goal
 
 pub overflow_add-result : goal.overflow_add-result

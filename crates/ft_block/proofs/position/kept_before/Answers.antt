@@ -1,9 +1,10 @@
 use Rattle.std.proofs.Common.{◌≡◌, ◌-◌, ℕ, [], ◌∷◌, Some, None, ap, sym, ◌∙◌, arith}
 use Rattle.ft_arena.specs.Forest.{entry, parent_of}
-use Rattle.ft_block.specs.Tree.{total, length_of, by_view, numbers_before, below, height_of}
-use Rattle.ft_block.proofs.KindLemmas.{block_live}
-use Rattle.ft_block.proofs.FitLemmas.{kids_fit}
-use Rattle.ft_block.proofs.InsertLemmas.{leaf_height, leaf_live}
+use Rattle.ft_shape.specs.Tree.{total, length_of, numbers_before, below, height_of}
+use Rattle.ft_block.specs.Tree.{by_view}
+use Rattle.ft_shape.proofs.KindLemmas.{block_live}
+use Rattle.ft_shape.proofs.FitLemmas.{kids_fit}
+use Rattle.ft_shape.proofs.InsertLemmas.{leaf_height, leaf_live}
 use Rattle.ft_block.proofs.PositionLemmas.{po_block, before_up, before_top, total-before_le}
 use Rattle.ft_block.proofs.position.kept_before.Goals as goal
 

@@ -1,6 +1,7 @@
 use Rattle.std.proofs.Common.{◌≡◌, ◌+◌, ◌-◌, [], ◌∷◌, IsSome}
 use Rattle.ft_arena.specs.Forest.{entry}
-use Rattle.ft_block.specs.Tree.{total, length_of, by_view, numbers_before, below, height_of}
+use Rattle.ft_shape.specs.Tree.{total, length_of, numbers_before, below, height_of}
+use Rattle.ft_block.specs.Tree.{by_view}
 use Rattle.ft_block.proofs.position.kept_before.Given as goal
 
 abbrev pub invariant-up : goal.invariant-up

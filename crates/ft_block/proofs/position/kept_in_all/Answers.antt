@@ -1,6 +1,7 @@
 use Rattle.std.proofs.Common.{ap, sym, ◌∙◌}
-use Rattle.ft_block.specs.Tree.{length_of_entry, by_view}
-use Rattle.ft_block.proofs.Levels.{total_leaves}
+use Rattle.ft_shape.specs.Tree.{length_of_entry}
+use Rattle.ft_block.specs.Tree.{by_view}
+use Rattle.ft_shape.proofs.Levels.{total_leaves}
 use Rattle.ft_block.proofs.position.kept_in_all.Goals as goal
 
 pub returns : goal.returns

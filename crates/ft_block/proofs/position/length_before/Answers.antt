@@ -3,8 +3,9 @@ use Rattle.std.proofs.lemmas.Bool.{eqb-false, eqb-true}
 use Rattle.ft_arena.specs.Ids.{times}
 use Rattle.ft_arena.specs.Forest.{kids_of, kids_of_entry, kids_of_node}
 use Rattle.ft_arena.proofs.IdLemmas.{same_other}
-use Rattle.ft_block.specs.Tree.{total, length_of, length_of_entry, by_view, numbers_before}
-use Rattle.ft_block.proofs.Lists.{times_at, drop_at, drop_none}
+use Rattle.ft_shape.specs.Tree.{total, length_of, length_of_entry, numbers_before}
+use Rattle.ft_block.specs.Tree.{by_view}
+use Rattle.ft_shape.proofs.Lists.{times_at, drop_at, drop_none}
 use Rattle.ft_block.proofs.PositionLemmas.{before_here, before_later, total-before_le, forest_kid_live}
 use Rattle.ft_block.proofs.KeptLemmas.{node_from}
 use Rattle.ft_block.proofs.position.length_before.Goals as goal

@@ -1,7 +1,8 @@
 use Rattle.std.proofs.Common.{◌≡◌, ◌≤◌, ◌+◌, ◌-◌, length, drop}
 use Rattle.ft_arena.specs.Ids.{times}
 use Rattle.ft_arena.specs.Forest.{kids_of}
-use Rattle.ft_block.specs.Tree.{total, length_of, by_view, numbers_before}
+use Rattle.ft_shape.specs.Tree.{total, length_of, numbers_before}
+use Rattle.ft_block.specs.Tree.{by_view}
 use Rattle.ft_block.proofs.position.length_before.Given as goal
 
 abbrev pub invariant-loop-kid : goal.invariant-loop-kid

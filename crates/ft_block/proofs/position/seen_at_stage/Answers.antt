@@ -4,7 +4,7 @@ use Rattle.ft_block.specs.declared.leaves.LenView.TheVariants.{Stage}
 use Rattle.ft_block.specs.declared.leaves.View.TheVariants.{Of, Pending}
 use Rattle.ft_block.specs.Leaves.{last_stage}
 use Rattle.ft_block.specs.Tree.{by_view}
-use Rattle.ft_block.proofs.FitLemmas.{leaf_length}
+use Rattle.ft_shape.proofs.FitLemmas.{leaf_length}
 use Rattle.ft_block.proofs.PositionLemmas.{total-up_to_le}
 use Rattle.ft_block.proofs.StageLemmas.{marked, counted_none, counted_all, next_leaf, next_live, next_counted, next_fits}
 use Rattle.ft_block.proofs.position.seen_at_stage.Goals as goal

@@ -4,8 +4,9 @@ use Rattle.ft_partial.specs.StepFunctions.{amount}
 use Rattle.ft_partial.specs.Rows.{Covers}
 use Rattle.ft_block.specs.declared.leaves.View.{View}
 use Rattle.ft_block.specs.Tree.{shows}
-use Rattle.ft_block.specs.Tree.{IsPartTree, SumsKeptBut, OwesAt, AreFromFloor, KeepsLengths, length_of, by_view, by_size, total}
-use Rattle.ft_block.specs.Steps.{SameShape}
+use Rattle.ft_shape.specs.Tree.{IsPartTree, OwesAt, length_of, total}
+use Rattle.ft_block.specs.Tree.{SumsKeptBut, AreFromFloor, KeepsLengths, by_view, by_size}
+use Rattle.ft_shape.specs.Steps.{SameShape}
 use Rattle.ft_block.proofs.ExchangeLemmas.{levels_left}
 use Rattle.ft_block.proofs.refresh.exchange_up.Given as goal
 

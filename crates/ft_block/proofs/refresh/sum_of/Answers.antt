@@ -1,14 +1,14 @@
 use Rattle.std.proofs.Common.{◌≡◌, ◌+◌, ◌%◌, ◌^◌, ℕ, [], drop, ap, sym, ◌∙◌, arith}
 use Rattle.std.proofs.lemmas.Option.{slice_get_within}
-use Rattle.ft_block.specs.Tree.{total, length_of, length_of_entry, by_view, kept_length}
-use Rattle.ft_block.proofs.Lists.{times_at, drop_at, drop_none}
+use Rattle.ft_shape.specs.Tree.{total, length_of, length_of_entry}
+use Rattle.ft_block.specs.Tree.{by_view, kept_length}
+use Rattle.ft_shape.proofs.Lists.{times_at, drop_at, drop_none}
 use Rattle.ft_block.proofs.KeptLemmas.{node_from, one_more}
 use Rattle.ft_block.proofs.refresh.sum_of.Goals as goal
 
 pub loop-kid-init : goal.loop-kid-init
 loop-kid-init g c = record {
   few = omega (arith, c.len-few.ensures.value, c.len-few.ensures.few);
-  height = c.new-sum.ensures.height;
   floor =
       c.new-sum.ensures.floor;
   low = (omega arith, omega arith, omega arith);
@@ -31,7 +31,6 @@ pub loop-kid-preserved : goal.loop-kid-preserved
 loop-kid-preserved g c =
     record {
       few = c.loop-kid.invariant.few;
-      height = c.add_node.ensures.height ∙ c.loop-kid.invariant.height;
       floor = c.add_node.ensures.floor;
       low = c.in_ok-add_node.ensures.low;
       so_far = λ view k.

@@ -3,10 +3,10 @@ use Rattle.std.proofs.lemmas.Result.{on_ok_weaker}
 use Rattle.ft_block.specs.Tree.{by_view}
 use Rattle.ft_arena.specs.Ids.{times}
 use Rattle.ft_arena.specs.Forest.{entry}
-use Rattle.ft_block.proofs.KindLemmas.{kind_block}
+use Rattle.ft_shape.proofs.KindLemmas.{kind_block}
 use Rattle.ft_block.proofs.KeptLemmas.{same_floors}
-use Rattle.ft_block.proofs.PairLemmas.{on_ok_both, pr_front_front, pr_front_rear, pr_rear_front, pr_rear_rear, rg_front_front, rg_rear_rear, rg_block, rg_total}
-use Rattle.ft_block.proofs.PairLemmas.{rg_rear_total, balanced, balanced_up, balanced_sums}
+use Rattle.ft_shape.proofs.PairLemmas.{on_ok_both, pr_front_front, pr_front_rear, pr_rear_front, pr_rear_rear, rg_front_front, rg_rear_rear, rg_block, rg_total}
+use Rattle.ft_shape.proofs.PairLemmas.{rg_rear_total, balanced, balanced_up, balanced_sums}
 use Rattle.ft_block.proofs.shrink.balance.Goals as goal
 
 pub regroup-requires-clause-front_apart : goal.regroup-requires-clause-front_apart

@@ -3,10 +3,11 @@ use Rattle.std.proofs.lemmas.Result.{on_ok_weaker, IfOk-weaker}
 use Rattle.std.proofs.lemmas.Option.{slice_get_within}
 use Rattle.ft_arena.specs.Forest.{entry, kids_of, parent_of, block_value}
 use Rattle.ft_block.specs.Tree.{by_view, by_size}
-use Rattle.ft_block.proofs.FitLemmas.{leaf_total}
-use Rattle.ft_block.proofs.KindLemmas.{kind_block, kind_height}
-use Rattle.ft_block.proofs.TakenLemmas.{took_id, apart_part, SameShape-apart, taken_apart, taken_floors, taken_sums, taken_owes, tk_p_block, tk_high, tk_child}
-use Rattle.ft_block.proofs.TakenLemmas.{tk_up_block, has_parent}
+use Rattle.ft_shape.proofs.FitLemmas.{leaf_total}
+use Rattle.ft_shape.proofs.KindLemmas.{kind_block, kind_height}
+use Rattle.ft_shape.proofs.TakenLemmas.{took_id, apart_part, SameShape-apart, taken_apart, taken_sums, taken_owes, tk_p_block, tk_high, tk_child}
+use Rattle.ft_block.proofs.Floors.{taken_floors}
+use Rattle.ft_shape.proofs.TakenLemmas.{tk_up_block, has_parent}
 use Rattle.ft_block.proofs.ExchangeLemmas.{goes}
 use Rattle.ft_block.proofs.shrink.detach.Goals as goal
 

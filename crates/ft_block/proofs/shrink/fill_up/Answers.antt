@@ -1,13 +1,15 @@
 use Rattle.std.proofs.Common.{◌≡◌, ◌≤◌, ◌+◌, ℕ, Some, IsSome, length, refl, ap, sym, subst, ◌∙◌, arith}
 use Rattle.std.proofs.lemmas.Option.{slice_get_within}
 use Rattle.ft_arena.specs.Forest.{entry, kids_of, parent_of, block_value}
-use Rattle.ft_block.specs.Tree.{IsApart, by_view, by_size, height_of}
-use Rattle.ft_block.specs.Steps.{DropsRoot}
-use Rattle.ft_block.proofs.KindLemmas.{block_live}
-use Rattle.ft_block.proofs.FitLemmas.{leaf_total}
-use Rattle.ft_block.proofs.ShareLemmas.{share_apart, share_sums, share_block, share_high, share_up_high}
-use Rattle.ft_block.proofs.FillLemmas.{apart_full, apart_root, apart_with, fl_up_block, fl_up_full, fl_child, fl_root, fl_only, fl_short, fl_two, fl_pair, fl_many}
-use Rattle.ft_block.proofs.FillLemmas.{fl_fits, dropped_apart, dropped_low, dropped_sums, dropped_floors}
+use Rattle.ft_shape.specs.Tree.{IsApart, height_of}
+use Rattle.ft_block.specs.Tree.{by_view, by_size}
+use Rattle.ft_shape.specs.Steps.{DropsRoot}
+use Rattle.ft_shape.proofs.KindLemmas.{block_live}
+use Rattle.ft_shape.proofs.FitLemmas.{leaf_total}
+use Rattle.ft_shape.proofs.ShareLemmas.{share_apart, share_sums, share_block, share_high, share_up_high}
+use Rattle.ft_shape.proofs.FillLemmas.{apart_full, apart_root, apart_with, fl_up_block, fl_up_full, fl_child, fl_root, fl_only, fl_short, fl_two, fl_pair, fl_many}
+use Rattle.ft_shape.proofs.FillLemmas.{dropped_apart, dropped_low, dropped_sums}
+use Rattle.ft_block.proofs.Floors.{fl_fits, dropped_floors}
 use Rattle.ft_block.proofs.shrink.fill_up.Goals as goal
 
 pub returns-then-count_of-ge4-clause-apart : goal.returns-then-count_of-ge4-clause-apart

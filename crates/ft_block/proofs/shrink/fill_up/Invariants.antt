@@ -1,6 +1,7 @@
 use Rattle.std.proofs.Common.{◌≡◌, ◌<◌, ◌-◌, ◌^◌, ℕ, Some, None, IsSome}
 use Rattle.ft_arena.specs.Forest.{block_value, leaf_value}
-use Rattle.ft_block.specs.Tree.{IsApart, SumsKeptBut, AreFromFloor, height_of, length_of, by_size, total}
+use Rattle.ft_shape.specs.Tree.{IsApart, height_of, length_of, total}
+use Rattle.ft_block.specs.Tree.{SumsKeptBut, AreFromFloor, by_size}
 use Rattle.ft_block.proofs.shrink.fill_up.Given as goal
 
 abbrev pub invariant-up : goal.invariant-up

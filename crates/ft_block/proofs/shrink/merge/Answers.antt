@@ -3,8 +3,9 @@ use Rattle.std.proofs.lemmas.Result.{on_ok_weaker}
 use Rattle.std.proofs.lemmas.Option.{slice_get_within}
 use Rattle.ft_block.specs.Tree.{by_view}
 use Rattle.ft_arena.specs.Forest.{kids_of}
-use Rattle.ft_block.proofs.PairLemmas.{on_ok_both, pr_front_front, pr_front_rear, pr_rear_front, pr_rear_rear, rg_up, mg_takes, mg_drop_block, mg_drop_empty, md_block}
-use Rattle.ft_block.proofs.PairLemmas.{md_apart, md_floors, md_total, merged, merged_sums}
+use Rattle.ft_shape.proofs.PairLemmas.{on_ok_both, pr_front_front, pr_front_rear, pr_rear_front, pr_rear_rear, rg_up, mg_takes, mg_drop_block, mg_drop_empty, md_block}
+use Rattle.ft_shape.proofs.PairLemmas.{md_apart, md_total, merged, merged_sums}
+use Rattle.ft_block.proofs.Floors.{md_floors}
 use Rattle.ft_block.proofs.shrink.merge.Goals as goal
 
 pub regroup-requires-clause-front_apart : goal.regroup-requires-clause-front_apart

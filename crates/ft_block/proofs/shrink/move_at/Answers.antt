@@ -3,35 +3,37 @@ use Rattle.ft_arena.specs.Ids.{times, insert_after, put_after, without, first, a
 use Rattle.ft_arena.specs.Forest.{Forest, IsPlace, leaf_value, parent_of}
 use Rattle.ft_arena.proofs.IdLemmas.{times-without_same}
 use Rattle.ft_partial.specs.StepFunctions.{amount}
+use Rattle.ft_shape.specs.declared.headed.Headed.{Headed}
 use Rattle.ft_block.specs.declared.summaries.Summary.{Summary}
 use Rattle.ft_block.specs.Tree.{shows}
-use Rattle.ft_block.specs.Tree.{by_view, by_size, insert_before}
-use Rattle.ft_block.proofs.EditLemmas.{after_is_edit, before_is_edit, front_is}
-use Rattle.ft_block.proofs.FitLemmas.{leaf_total, leaves_live}
-use Rattle.ft_block.proofs.InsertLemmas.{room_leaves}
+use Rattle.ft_shape.specs.Tree.{insert_before}
+use Rattle.ft_block.specs.Tree.{by_view, by_size}
+use Rattle.ft_shape.proofs.EditLemmas.{after_is_edit, before_is_edit, front_is}
+use Rattle.ft_shape.proofs.FitLemmas.{leaf_total, leaves_live}
+use Rattle.ft_shape.proofs.InsertLemmas.{room_leaves}
 use Rattle.ft_block.proofs.ExchangeLemmas.{tree_part, comes}
-use Rattle.ft_block.proofs.RefreshLemmas.{SameShape-tree}
-use Rattle.ft_block.proofs.WithoutLemmas.{times-without_le}
+use Rattle.ft_shape.proofs.RefreshLemmas.{SameShape-tree}
+use Rattle.ft_shape.proofs.WithoutLemmas.{times-without_le}
 use Rattle.ft_block.proofs.MovedLemmas.{moved_grows, moved_sums, moved_floors, moved_owes, moved_fits, moved_values, moved_at_apart, mv_high, after_first, without_once}
 use Rattle.ft_block.proofs.MovedLemmas.{without_le, without_some}
 use Rattle.ft_block.proofs.shrink.move_at.Goals as goal
 
 pub move_after-requires-clause-live : goal.move_after-requires-clause-live
-move_after-requires-clause-live g c = subst (λ (s : Forest g.row.L.Denot Summary). IsSome (leaf_value s c.args.id)) (sym c.reserve.ensures.kept) c.in_ok-root.ensures.apart.live
+move_after-requires-clause-live g c = subst (λ (s : Forest g.row.L.Denot (Headed Summary)). IsSome (leaf_value s c.args.id)) (sym c.reserve.ensures.kept) c.in_ok-root.ensures.apart.live
 
 pub move_after-requires-clause-place : goal.move_after-requires-clause-place
 move_after-requires-clause-place g c =
     let there : IsSome (leaf_value c.args.arena.now c.in-Some.at) = subst (λ (o : Option ℕ). IsPlace c.args.arena.now o) c.in-Some.is c.requires.at in
     let at_leaf : IsSome (leaf_value c.detach.new.arena c.in-Some.at) =
     subst (λ (o : Option g.row.L.Denot). IsSome o) (sym (c.in_ok-root.ensures.leaf_values c.in-Some.at)) there in
-    subst (λ (s : Forest g.row.L.Denot Summary). IsSome (leaf_value s c.in-Some.at)) (sym c.reserve.ensures.kept) at_leaf
+    subst (λ (s : Forest g.row.L.Denot (Headed Summary)). IsSome (leaf_value s c.in-Some.at)) (sym c.reserve.ensures.kept) at_leaf
 
 pub move_after-requires-clause-differ : goal.move_after-requires-clause-differ
 move_after-requires-clause-differ g c = λ e. c.requires.differ (c.in-Some.is ∙ e)
 
 pub move_after-requires-in-None-clause-live : goal.move_after-requires-in-None-clause-live
 move_after-requires-in-None-clause-live g c =
-    subst (λ (s : Forest g.row.L.Denot Summary). IsSome (leaf_value s c.args.id)) (sym c.reserve.ensures.kept) c.in_ok-root.ensures.apart.live
+    subst (λ (s : Forest g.row.L.Denot (Headed Summary)). IsSome (leaf_value s c.args.id)) (sym c.reserve.ensures.kept) c.in_ok-root.ensures.apart.live
 
 pub unreachable-requires : goal.unreachable-requires
 unreachable-requires g c =
@@ -45,7 +47,7 @@ unreachable-requires g c =
 pub grow_front-requires-clause-apart : goal.grow_front-requires-clause-apart
 grow_front-requires-clause-apart g c =
     let nodes : c.move_after-in-None.new.self.nodes ≡ c.detach.new.arena.nodes =
-    c.move_after-in-None.ensures.nodes ∙ ap (λ (s : Forest g.row.L.Denot Summary). s.nodes) c.reserve.ensures.kept in
+    c.move_after-in-None.ensures.nodes ∙ ap (λ (s : Forest g.row.L.Denot (Headed Summary)). s.nodes) c.reserve.ensures.kept in
     let all : c.move_after-in-None.new.self.leaves ≡ c.args.id ∷ without c.detach.new.arena.leaves c.args.id =
     c.move_after-in-None.ensures.leaves ∙ ap (λ (zs : List ℕ). c.args.id ∷ without zs c.args.id)
     (room_leaves c.detach.new.arena c.reserve.new.self c.reserve.ensures.kept) in
@@ -65,7 +67,7 @@ grow_front-requires-clause-apart g c =
 
 pub grow-requires-clause-growing : goal.grow-requires-clause-growing
 grow-requires-clause-growing g c =
-    let nodes : c.move_after.new.self.nodes ≡ c.detach.new.arena.nodes = c.move_after.ensures.nodes ∙ ap (λ (s : Forest g.row.L.Denot Summary). s.nodes) c.reserve.ensures.kept in
+    let nodes : c.move_after.new.self.nodes ≡ c.detach.new.arena.nodes = c.move_after.ensures.nodes ∙ ap (λ (s : Forest g.row.L.Denot (Headed Summary)). s.nodes) c.reserve.ensures.kept in
     let leaves : c.move_after.new.self.leaves ≡ insert_after (without c.detach.new.arena.leaves c.args.id) c.in-Some.at c.args.id =
     c.move_after.ensures.leaves ∙ ap (λ (zs : List ℕ). insert_after (without zs c.args.id) c.in-Some.at c.args.id)
     (room_leaves c.detach.new.arena c.reserve.new.self c.reserve.ensures.kept) in
@@ -78,7 +80,7 @@ grow-requires-clause-growing g c =
 
 pub grow-requires-clause-sums : goal.grow-requires-clause-sums
 grow-requires-clause-sums g c = λ view k.
-    let nodes : c.move_after.new.self.nodes ≡ c.detach.new.arena.nodes = c.move_after.ensures.nodes ∙ ap (λ (s : Forest g.row.L.Denot Summary). s.nodes) c.reserve.ensures.kept in
+    let nodes : c.move_after.new.self.nodes ≡ c.detach.new.arena.nodes = c.move_after.ensures.nodes ∙ ap (λ (s : Forest g.row.L.Denot (Headed Summary)). s.nodes) c.reserve.ensures.kept in
     let leaves : c.move_after.new.self.leaves ≡ insert_after (without c.detach.new.arena.leaves c.args.id) c.in-Some.at c.args.id =
     c.move_after.ensures.leaves ∙ ap (λ (zs : List ℕ). insert_after (without zs c.args.id) c.in-Some.at c.args.id)
     (room_leaves c.detach.new.arena c.reserve.new.self c.reserve.ensures.kept) in
@@ -92,7 +94,7 @@ grow-requires-clause-sums g c = λ view k.
 
 pub grow-requires-clause-floors : goal.grow-requires-clause-floors
 grow-requires-clause-floors g c =
-    let nodes : c.move_after.new.self.nodes ≡ c.detach.new.arena.nodes = c.move_after.ensures.nodes ∙ ap (λ (s : Forest g.row.L.Denot Summary). s.nodes) c.reserve.ensures.kept in
+    let nodes : c.move_after.new.self.nodes ≡ c.detach.new.arena.nodes = c.move_after.ensures.nodes ∙ ap (λ (s : Forest g.row.L.Denot (Headed Summary)). s.nodes) c.reserve.ensures.kept in
     let leaves : c.move_after.new.self.leaves ≡ insert_after (without c.detach.new.arena.leaves c.args.id) c.in-Some.at c.args.id =
     c.move_after.ensures.leaves ∙ ap (λ (zs : List ℕ). insert_after (without zs c.args.id) c.in-Some.at c.args.id)
     (room_leaves c.detach.new.arena c.reserve.new.self c.reserve.ensures.kept) in
@@ -105,7 +107,7 @@ grow-requires-clause-floors g c =
 
 pub grow-requires-clause-spare : goal.grow-requires-clause-spare
 grow-requires-clause-spare g c =
-    let nodes : c.move_after.new.self.nodes ≡ c.detach.new.arena.nodes = c.move_after.ensures.nodes ∙ ap (λ (s : Forest g.row.L.Denot Summary). s.nodes) c.reserve.ensures.kept in
+    let nodes : c.move_after.new.self.nodes ≡ c.detach.new.arena.nodes = c.move_after.ensures.nodes ∙ ap (λ (s : Forest g.row.L.Denot (Headed Summary)). s.nodes) c.reserve.ensures.kept in
     let leaves : c.move_after.new.self.leaves ≡ insert_after (without c.detach.new.arena.leaves c.args.id) c.in-Some.at c.args.id =
     c.move_after.ensures.leaves ∙ ap (λ (zs : List ℕ). insert_after (without zs c.args.id) c.in-Some.at c.args.id)
     (room_leaves c.detach.new.arena c.reserve.new.self c.reserve.ensures.kept) in
@@ -126,7 +128,7 @@ grow-requires-clause-spare g c =
 
 pub grow-requires-clause-tall : goal.grow-requires-clause-tall
 grow-requires-clause-tall g c =
-    let nodes : c.move_after.new.self.nodes ≡ c.detach.new.arena.nodes = c.move_after.ensures.nodes ∙ ap (λ (s : Forest g.row.L.Denot Summary). s.nodes) c.reserve.ensures.kept in
+    let nodes : c.move_after.new.self.nodes ≡ c.detach.new.arena.nodes = c.move_after.ensures.nodes ∙ ap (λ (s : Forest g.row.L.Denot (Headed Summary)). s.nodes) c.reserve.ensures.kept in
     let leaves : c.move_after.new.self.leaves ≡ insert_after (without c.detach.new.arena.leaves c.args.id) c.in-Some.at c.args.id =
     c.move_after.ensures.leaves ∙ ap (λ (zs : List ℕ). insert_after (without zs c.args.id) c.in-Some.at c.args.id)
     (room_leaves c.detach.new.arena c.reserve.new.self c.reserve.ensures.kept) in
@@ -145,7 +147,7 @@ grow-requires-clause-tall g c =
 
 pub grow-requires-clause-fits : goal.grow-requires-clause-fits
 grow-requires-clause-fits g c =
-    let nodes : c.move_after.new.self.nodes ≡ c.detach.new.arena.nodes = c.move_after.ensures.nodes ∙ ap (λ (s : Forest g.row.L.Denot Summary). s.nodes) c.reserve.ensures.kept in
+    let nodes : c.move_after.new.self.nodes ≡ c.detach.new.arena.nodes = c.move_after.ensures.nodes ∙ ap (λ (s : Forest g.row.L.Denot (Headed Summary)). s.nodes) c.reserve.ensures.kept in
     let leaves : c.move_after.new.self.leaves ≡ insert_after (without c.detach.new.arena.leaves c.args.id) c.in-Some.at c.args.id =
     c.move_after.ensures.leaves ∙ ap (λ (zs : List ℕ). insert_after (without zs c.args.id) c.in-Some.at c.args.id)
     (room_leaves c.detach.new.arena c.reserve.new.self c.reserve.ensures.kept) in
@@ -167,7 +169,7 @@ exchange_up-requires-clause-tree g c = tree_part c.grow.new.arena c.in_ok-top-in
 
 pub exchange_up-requires-clause-fits : goal.exchange_up-requires-clause-fits
 exchange_up-requires-clause-fits g c =
-    let nodes : c.move_after.new.self.nodes ≡ c.detach.new.arena.nodes = c.move_after.ensures.nodes ∙ ap (λ (s : Forest g.row.L.Denot Summary). s.nodes) c.reserve.ensures.kept in
+    let nodes : c.move_after.new.self.nodes ≡ c.detach.new.arena.nodes = c.move_after.ensures.nodes ∙ ap (λ (s : Forest g.row.L.Denot (Headed Summary)). s.nodes) c.reserve.ensures.kept in
     let leaves : c.move_after.new.self.leaves ≡ insert_after (without c.detach.new.arena.leaves c.args.id) c.in-Some.at c.args.id =
     c.move_after.ensures.leaves ∙ ap (λ (zs : List ℕ). insert_after (without zs c.args.id) c.in-Some.at c.args.id)
     (room_leaves c.detach.new.arena c.reserve.new.self c.reserve.ensures.kept) in
@@ -189,7 +191,7 @@ exchange_up-requires-clause-fits g c =
 
 pub exchange_up-requires-clause-owes : goal.exchange_up-requires-clause-owes
 exchange_up-requires-clause-owes g c = λ view k.
-    let nodes : c.move_after.new.self.nodes ≡ c.detach.new.arena.nodes = c.move_after.ensures.nodes ∙ ap (λ (s : Forest g.row.L.Denot Summary). s.nodes) c.reserve.ensures.kept in
+    let nodes : c.move_after.new.self.nodes ≡ c.detach.new.arena.nodes = c.move_after.ensures.nodes ∙ ap (λ (s : Forest g.row.L.Denot (Headed Summary)). s.nodes) c.reserve.ensures.kept in
     let leaves : c.move_after.new.self.leaves ≡ insert_after (without c.detach.new.arena.leaves c.args.id) c.in-Some.at c.args.id =
     c.move_after.ensures.leaves ∙ ap (λ (zs : List ℕ). insert_after (without zs c.args.id) c.in-Some.at c.args.id)
     (room_leaves c.detach.new.arena c.reserve.new.self c.reserve.ensures.kept) in
@@ -211,7 +213,7 @@ returns-in-Some-clause-tree g c = SameShape-tree c.grow.new.arena c.exchange_up.
 
 pub returns-in-Some-clause-moves : goal.returns-in-Some-clause-moves
 returns-in-Some-clause-moves g c =
-    let nodes : c.move_after.new.self.nodes ≡ c.detach.new.arena.nodes = c.move_after.ensures.nodes ∙ ap (λ (s : Forest g.row.L.Denot Summary). s.nodes) c.reserve.ensures.kept in
+    let nodes : c.move_after.new.self.nodes ≡ c.detach.new.arena.nodes = c.move_after.ensures.nodes ∙ ap (λ (s : Forest g.row.L.Denot (Headed Summary)). s.nodes) c.reserve.ensures.kept in
     let leaves : c.move_after.new.self.leaves ≡ insert_after (without c.detach.new.arena.leaves c.args.id) c.in-Some.at c.args.id =
     c.move_after.ensures.leaves ∙ ap (λ (zs : List ℕ). insert_after (without zs c.args.id) c.in-Some.at c.args.id)
     (room_leaves c.detach.new.arena c.reserve.new.self c.reserve.ensures.kept) in
@@ -231,7 +233,7 @@ returns-in-Some-clause-moves g c =
 pub grow_front-requires-clause-growing : goal.grow_front-requires-clause-growing
 grow_front-requires-clause-growing g c =
     let nodes : c.move_after-in-None.new.self.nodes ≡ c.detach.new.arena.nodes =
-    c.move_after-in-None.ensures.nodes ∙ ap (λ (s : Forest g.row.L.Denot Summary). s.nodes) c.reserve.ensures.kept in
+    c.move_after-in-None.ensures.nodes ∙ ap (λ (s : Forest g.row.L.Denot (Headed Summary)). s.nodes) c.reserve.ensures.kept in
     let all : c.move_after-in-None.new.self.leaves ≡ c.args.id ∷ without c.detach.new.arena.leaves c.args.id =
     c.move_after-in-None.ensures.leaves ∙ ap (λ (zs : List ℕ). c.args.id ∷ without zs c.args.id)
     (room_leaves c.detach.new.arena c.reserve.new.self c.reserve.ensures.kept) in
@@ -252,7 +254,7 @@ grow_front-requires-clause-growing g c =
 pub grow_front-requires-clause-sums : goal.grow_front-requires-clause-sums
 grow_front-requires-clause-sums g c = λ view k.
     let nodes : c.move_after-in-None.new.self.nodes ≡ c.detach.new.arena.nodes =
-    c.move_after-in-None.ensures.nodes ∙ ap (λ (s : Forest g.row.L.Denot Summary). s.nodes) c.reserve.ensures.kept in
+    c.move_after-in-None.ensures.nodes ∙ ap (λ (s : Forest g.row.L.Denot (Headed Summary)). s.nodes) c.reserve.ensures.kept in
     let all : c.move_after-in-None.new.self.leaves ≡ c.args.id ∷ without c.detach.new.arena.leaves c.args.id =
     c.move_after-in-None.ensures.leaves ∙ ap (λ (zs : List ℕ). c.args.id ∷ without zs c.args.id)
     (room_leaves c.detach.new.arena c.reserve.new.self c.reserve.ensures.kept) in
@@ -273,7 +275,7 @@ grow_front-requires-clause-sums g c = λ view k.
 pub grow_front-requires-clause-floors : goal.grow_front-requires-clause-floors
 grow_front-requires-clause-floors g c =
     let nodes : c.move_after-in-None.new.self.nodes ≡ c.detach.new.arena.nodes =
-    c.move_after-in-None.ensures.nodes ∙ ap (λ (s : Forest g.row.L.Denot Summary). s.nodes) c.reserve.ensures.kept in
+    c.move_after-in-None.ensures.nodes ∙ ap (λ (s : Forest g.row.L.Denot (Headed Summary)). s.nodes) c.reserve.ensures.kept in
     let all : c.move_after-in-None.new.self.leaves ≡ c.args.id ∷ without c.detach.new.arena.leaves c.args.id =
     c.move_after-in-None.ensures.leaves ∙ ap (λ (zs : List ℕ). c.args.id ∷ without zs c.args.id)
     (room_leaves c.detach.new.arena c.reserve.new.self c.reserve.ensures.kept) in
@@ -294,7 +296,7 @@ grow_front-requires-clause-floors g c =
 pub grow_front-requires-clause-spare : goal.grow_front-requires-clause-spare
 grow_front-requires-clause-spare g c =
     let nodes : c.move_after-in-None.new.self.nodes ≡ c.detach.new.arena.nodes =
-    c.move_after-in-None.ensures.nodes ∙ ap (λ (s : Forest g.row.L.Denot Summary). s.nodes) c.reserve.ensures.kept in
+    c.move_after-in-None.ensures.nodes ∙ ap (λ (s : Forest g.row.L.Denot (Headed Summary)). s.nodes) c.reserve.ensures.kept in
     let all : c.move_after-in-None.new.self.leaves ≡ c.args.id ∷ without c.detach.new.arena.leaves c.args.id =
     c.move_after-in-None.ensures.leaves ∙ ap (λ (zs : List ℕ). c.args.id ∷ without zs c.args.id)
     (room_leaves c.detach.new.arena c.reserve.new.self c.reserve.ensures.kept) in
@@ -322,7 +324,7 @@ grow_front-requires-clause-spare g c =
 pub grow_front-requires-clause-tall : goal.grow_front-requires-clause-tall
 grow_front-requires-clause-tall g c =
     let nodes : c.move_after-in-None.new.self.nodes ≡ c.detach.new.arena.nodes =
-    c.move_after-in-None.ensures.nodes ∙ ap (λ (s : Forest g.row.L.Denot Summary). s.nodes) c.reserve.ensures.kept in
+    c.move_after-in-None.ensures.nodes ∙ ap (λ (s : Forest g.row.L.Denot (Headed Summary)). s.nodes) c.reserve.ensures.kept in
     let all : c.move_after-in-None.new.self.leaves ≡ c.args.id ∷ without c.detach.new.arena.leaves c.args.id =
     c.move_after-in-None.ensures.leaves ∙ ap (λ (zs : List ℕ). c.args.id ∷ without zs c.args.id)
     (room_leaves c.detach.new.arena c.reserve.new.self c.reserve.ensures.kept) in
@@ -348,7 +350,7 @@ grow_front-requires-clause-tall g c =
 pub grow_front-requires-clause-fits : goal.grow_front-requires-clause-fits
 grow_front-requires-clause-fits g c =
     let nodes : c.move_after-in-None.new.self.nodes ≡ c.detach.new.arena.nodes =
-    c.move_after-in-None.ensures.nodes ∙ ap (λ (s : Forest g.row.L.Denot Summary). s.nodes) c.reserve.ensures.kept in
+    c.move_after-in-None.ensures.nodes ∙ ap (λ (s : Forest g.row.L.Denot (Headed Summary)). s.nodes) c.reserve.ensures.kept in
     let all : c.move_after-in-None.new.self.leaves ≡ c.args.id ∷ without c.detach.new.arena.leaves c.args.id =
     c.move_after-in-None.ensures.leaves ∙ ap (λ (zs : List ℕ). c.args.id ∷ without zs c.args.id)
     (room_leaves c.detach.new.arena c.reserve.new.self c.reserve.ensures.kept) in
@@ -378,7 +380,7 @@ exchange_up-requires-in-None-clause-tree g c = tree_part c.grow_front.new.arena 
 pub exchange_up-requires-in-None-clause-fits : goal.exchange_up-requires-in-None-clause-fits
 exchange_up-requires-in-None-clause-fits g c =
     let nodes : c.move_after-in-None.new.self.nodes ≡ c.detach.new.arena.nodes =
-    c.move_after-in-None.ensures.nodes ∙ ap (λ (s : Forest g.row.L.Denot Summary). s.nodes) c.reserve.ensures.kept in
+    c.move_after-in-None.ensures.nodes ∙ ap (λ (s : Forest g.row.L.Denot (Headed Summary)). s.nodes) c.reserve.ensures.kept in
     let all : c.move_after-in-None.new.self.leaves ≡ c.args.id ∷ without c.detach.new.arena.leaves c.args.id =
     c.move_after-in-None.ensures.leaves ∙ ap (λ (zs : List ℕ). c.args.id ∷ without zs c.args.id)
     (room_leaves c.detach.new.arena c.reserve.new.self c.reserve.ensures.kept) in
@@ -407,7 +409,7 @@ exchange_up-requires-in-None-clause-fits g c =
 pub exchange_up-requires-in-None-clause-owes : goal.exchange_up-requires-in-None-clause-owes
 exchange_up-requires-in-None-clause-owes g c = λ view k.
     let nodes : c.move_after-in-None.new.self.nodes ≡ c.detach.new.arena.nodes =
-    c.move_after-in-None.ensures.nodes ∙ ap (λ (s : Forest g.row.L.Denot Summary). s.nodes) c.reserve.ensures.kept in
+    c.move_after-in-None.ensures.nodes ∙ ap (λ (s : Forest g.row.L.Denot (Headed Summary)). s.nodes) c.reserve.ensures.kept in
     let all : c.move_after-in-None.new.self.leaves ≡ c.args.id ∷ without c.detach.new.arena.leaves c.args.id =
     c.move_after-in-None.ensures.leaves ∙ ap (λ (zs : List ℕ). c.args.id ∷ without zs c.args.id)
     (room_leaves c.detach.new.arena c.reserve.new.self c.reserve.ensures.kept) in
@@ -436,7 +438,7 @@ returns-clause-tree g c = SameShape-tree c.grow_front.new.arena c.exchange_up-in
 pub returns-clause-moves : goal.returns-clause-moves
 returns-clause-moves g c =
     let nodes : c.move_after-in-None.new.self.nodes ≡ c.detach.new.arena.nodes =
-    c.move_after-in-None.ensures.nodes ∙ ap (λ (s : Forest g.row.L.Denot Summary). s.nodes) c.reserve.ensures.kept in
+    c.move_after-in-None.ensures.nodes ∙ ap (λ (s : Forest g.row.L.Denot (Headed Summary)). s.nodes) c.reserve.ensures.kept in
     let all : c.move_after-in-None.new.self.leaves ≡ c.args.id ∷ without c.detach.new.arena.leaves c.args.id =
     c.move_after-in-None.ensures.leaves ∙ ap (λ (zs : List ℕ). c.args.id ∷ without zs c.args.id)
     (room_leaves c.detach.new.arena c.reserve.new.self c.reserve.ensures.kept) in

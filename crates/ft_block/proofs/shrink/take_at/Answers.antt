@@ -1,7 +1,9 @@
 use Rattle.std.proofs.Common.{ℕ, sym, subst}
-use Rattle.ft_block.proofs.UnlinkLemmas.{unlinked_tree, unlinked_sums, unlinked_floors, unlinked_takes, bare_sums}
+use Rattle.ft_shape.proofs.UnlinkLemmas.{unlinked_tree, unlinked_sums, unlinked_takes, bare_sums}
+use Rattle.ft_block.proofs.Floors.{unlinked_floors}
 use Rattle.ft_block.proofs.KeptLemmas.{bare_floors}
-use Rattle.ft_block.specs.Tree.{IsTree, by_view}
+use Rattle.ft_shape.specs.Tree.{IsTree}
+use Rattle.ft_block.specs.Tree.{by_view}
 use Rattle.ft_block.proofs.shrink.take_at.Goals as goal
 
 pub unlink-requires-clause-live : goal.unlink-requires-clause-live

@@ -1,5 +1,5 @@
 use Rattle.std.proofs.Common.{arith}
-use Rattle.ft_block.proofs.UnlinkLemmas.{ls_empty0, ls_top0, ls_block0, ls_leaf0, ls_alone0, last_bare, last_takes}
+use Rattle.ft_shape.proofs.UnlinkLemmas.{ls_empty0, ls_top0, ls_block0, ls_leaf0, ls_alone0, last_bare, last_takes}
 use Rattle.ft_block.proofs.shrink.take_last.Goals as goal
 
 pub take_child-requires : goal.take_child-requires

@@ -4,7 +4,7 @@ use Rattle.ft_block.specs.declared.leaves.LenView.TheVariants.{Stage}
 use Rattle.ft_block.specs.declared.leaves.View.TheVariants.{Of, Pending}
 use Rattle.ft_block.specs.Leaves.{last_stage}
 use Rattle.ft_block.specs.Tree.{by_view}
-use Rattle.ft_block.proofs.FitLemmas.{leaf_length}
+use Rattle.ft_shape.proofs.FitLemmas.{leaf_length}
 use Rattle.ft_block.proofs.StagePlaces.{view_small, next_one, passed_within, rest_alike, none_passed, place_there, passes_next, next_pending_fits, next_local_fits, next_seen_fits}
 use Rattle.ft_block.proofs.stage_find.find_past_pending.Goals as goal
 

@@ -1,7 +1,8 @@
 use Rattle.std.proofs.Common.{◌≡◌, Some, None, ap, sym, ◌∙◌, arith}
 use Rattle.ft_arena.specs.Forest.{block_of_entry, leaf_of_entry}
-use Rattle.ft_block.specs.Tree.{IsBare, by_size, by_view, length_of, total}
-use Rattle.ft_block.proofs.UnlinkLemmas.{bare_sums}
+use Rattle.ft_shape.specs.Tree.{IsBare, length_of, total}
+use Rattle.ft_block.specs.Tree.{by_size, by_view}
+use Rattle.ft_shape.proofs.UnlinkLemmas.{bare_sums}
 use Rattle.ft_block.proofs.blocks.Blocks.new.Goals as goal
 
 pub invariant_of-result : goal.invariant_of-result
