@@ -68,5 +68,10 @@ module _ (s : Nodes) where
         (λ y e. h x y (omega (arith, same_refl x)) e) (all_last v xs (λ y z m e. h y z (omega arith) e))
 
     pub last_all : (kids : List ℕ) (i : ℕ) (v : Item) → slice_get kids i ≡ None → IsLastOf v (take i kids) → NamesLast place v (map (told s) kids)
-    last_all kids i v none h = all_last v kids (λ x y m e. h x y (omega (arith, m, ap (λ ks. times ks x) (sym (take-append-drop i kids)),
-        times-append (take i kids) (drop i kids) x, ap (λ ks. times ks x) (drop_none kids i none))) e)
+    last_all kids i v none h = all_last v kids (λ x y m e. h x y (omega (
+      arith,
+      m,
+      ap (λ ks. times ks x) (sym (take-append-drop i kids)),
+      times-append (take i kids) (drop i kids) x,
+      ap (λ ks. times ks x) (drop_none kids i none),
+    )) e)

@@ -118,7 +118,13 @@ impl Index {
     {
         let root = self.root?;
         let id = find_key::<Brand>(&self.arena, key, Blank::new(1))?;
-        let (root, item) = take_in::<P, Brand>(&mut self.arena, NodeId(root), id, at, Blank::new(1));
+        let (root, item) = take_in::<P, Brand>(
+            &mut self.arena,
+            NodeId(root),
+            id,
+            at,
+            Blank::new(1),
+        );
         self.root = root;
         Some(item)
     }

@@ -32,7 +32,11 @@ fn later<P: Places>(x: Item, y: Item, at: &P) -> Item
     ensures first { P.place_of at.now x.end ≤ℤ P.place_of at.now result.end }
     ensures second { P.place_of at.now y.end ≤ℤ P.place_of at.now result.end }
 {
-    if at.place(x.end) < at.place(y.end) { y } else { x }
+    if at.place(x.end) < at.place(y.end) {
+        y
+    } else {
+        x
+    }
 }
 
 // Of the items that the children name, the one that ends last.

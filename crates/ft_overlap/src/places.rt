@@ -12,11 +12,7 @@ use ft_shape::Headed;
 use std::sync::ledger::Ledger;
 
 // The item of a leaf.
-fn item_of<G: Ledger>(
-    arena: &Arena<Item, Headed<Item>>,
-    id: NodeId,
-    steps: &mut Steps<G>,
-) -> Item
+fn item_of<G: Ledger>(arena: &Arena<Item, Headed<Item>>, id: NodeId, steps: &mut Steps<G>) -> Item
     requires { IsSome (leaf_value arena.now id) }
     ensures { leaf_value arena.now id ≡ Some result }
 {

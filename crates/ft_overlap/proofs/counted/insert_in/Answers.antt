@@ -46,9 +46,9 @@ returns-clause-items g c =
     let place = g.P.Places.place_of c.args.at.now in
     elim c.match-place_for.branch [
       | in-Some-place_for w ↦ subst (λ (z : Nodes). items_of z z.leaves ≡ put_item place c.args.item (items_of c.args.arena.now c.args.arena.now.leaves)) (sym w.arena-is)
-        (put_items_after place c.reserve-2.new.self forest c.args.item w.in-Some-place_for.before w.in-Some-place_for.ensures w.insert_at-top.new.arena w.insert_at-top.ensures.inserts.0 w.insert_at-top.ensures.inserts.1
-        ∙ ap (put_item place c.args.item) (room_items c.args.arena.now c.reserve-2.new.self c.reserve-2.ensures.kept))
+          (put_items_after place c.reserve-2.new.self forest c.args.item w.in-Some-place_for.before w.in-Some-place_for.ensures w.insert_at-top.new.arena w.insert_at-top.ensures.inserts.0 w.insert_at-top.ensures.inserts.1
+          ∙ ap (put_item place c.args.item) (room_items c.args.arena.now c.reserve-2.new.self c.reserve-2.ensures.kept))
       | in-None w ↦ subst (λ (z : Nodes). items_of z z.leaves ≡ put_item place c.args.item (items_of c.args.arena.now c.args.arena.now.leaves)) (sym w.arena-is)
-        (put_items_front place c.reserve-2.new.self forest c.args.item w.in-None.ensures w.insert_front-top.new.arena w.insert_front-top.ensures.inserts.0 w.insert_front-top.ensures.inserts.1
-        ∙ ap (put_item place c.args.item) (room_items c.args.arena.now c.reserve-2.new.self c.reserve-2.ensures.kept))
+          (put_items_front place c.reserve-2.new.self forest c.args.item w.in-None.ensures w.insert_front-top.new.arena w.insert_front-top.ensures.inserts.0 w.insert_front-top.ensures.inserts.1
+          ∙ ap (put_item place c.args.item) (room_items c.args.arena.now c.reserve-2.new.self c.reserve-2.ensures.kept))
     ]

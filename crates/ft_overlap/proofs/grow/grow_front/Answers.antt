@@ -73,8 +73,11 @@ returns-then-count-lt8-clause-leaf_values g c =
 
 pub split_put-rear-requires-clause-place : goal.split_put-rear-requires-clause-place
 split_put-rear-requires-clause-place g c =
-    omega (arith, slice_get_within (kids_of c.args.arena.now c.in-Some.block) c.place_of-place.result.0 c.args.at c.place_of-place.ensures.place,
-    c.requires.growing.shape.forest.few c.in-Some.block)
+    omega (
+      arith,
+      slice_get_within (kids_of c.args.arena.now c.in-Some.block) c.place_of-place.result.0 c.args.at c.place_of-place.ensures.place,
+      c.requires.growing.shape.forest.few c.in-Some.block,
+    )
 
 pub grow-requires-clause-growing : goal.grow-requires-clause-growing
 grow-requires-clause-growing g c =

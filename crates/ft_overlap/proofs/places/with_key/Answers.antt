@@ -30,8 +30,8 @@ pub loop-next-preserved : goal.loop-next-preserved
 loop-next-preserved g c = (
   Some c.in-Some.id,
   walk_more (HasNot c.args.key) c.args.arena.now c.requires c.loop-next.invariant.0 c.in-Some.id
-    (subst (λ (o : Option ℕ). IsWalking (HasNot c.args.key) c.args.arena.now c.loop-next.invariant.0 o) c.in-Some.is c.loop-next.invariant.1)
-    c.next-next.result c.next-next.ensures c.item_of-item.result c.item_of-item.ensures c.if-item-key.false,
+      (subst (λ (o : Option ℕ). IsWalking (HasNot c.args.key) c.args.arena.now c.loop-next.invariant.0 o) c.in-Some.is c.loop-next.invariant.1)
+      c.next-next.result c.next-next.ensures c.item_of-item.result c.item_of-item.ensures c.if-item-key.false,
 )
 
 pub returns : goal.returns

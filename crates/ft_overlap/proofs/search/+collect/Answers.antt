@@ -150,7 +150,7 @@ loop-kid-preserved g t c =
       inside = omega (arith, slice_get_within c.in-Block.kids c.loop-kid.i c.in-Some.kid there);
       known = k_known_rest place c.args.range.now.low c.args.range.now.high s c.args._root n c.requires.tree c.in-Block.kids c.in-Block.value kids value c.loop-kid.i c.in-Some.kid there (g.P.Places.Knows c.args.at.now) c.loop-kid.invariant.known;
       state = k_step place c.args.range.now.low c.args.range.now.high s c.args._root n c.requires.tree c.in-Block.kids c.in-Block.value kids value c.loop-kid.i c.in-Some.kid there c.args.found.now.items c.loop-kid.found.items c.read.new.steps c.loop-kid.steps c.loop-kid.invariant.state c.collect.new.found.items c.collect.new.steps (subst (λ (m : Bool). Collects place c.args.range.now.low c.args.range.now.high (items_below s c.in-Some.kid) (height_of s c.in-Some.kid) c.loop-kid.found.items
-    c.collect.new.found.items c.loop-kid.steps c.collect.new.steps m) c.if-not-branch.false c.in_ok-collect-in-Block.ensures.found);
+          c.collect.new.found.items c.loop-kid.steps c.collect.new.steps m) c.if-not-branch.false c.in_ok-collect-in-Block.ensures.found);
     }
 
 pub returns-in_default-clause-found : goal.returns-in_default-clause-found

@@ -72,7 +72,7 @@ pub returns-clause-known : goal.returns-clause-known
 returns-clause-known g c = c.rename-2.ensures.known
 
 pub returns-clause-one : goal.returns-clause-one
-returns-clause-one g c = 
+returns-clause-one g c =
     let shares = balanced c.args.arena.now c.args.up c.args.front c.args.rear c.requires.forest c.requires.pair
     c.regroup.new.arena c.rename.new.arena c.rename-2.new.arena _ c.regroup.ensures c.rename.ensures.shape c.rename-2.ensures.shape
     (omega (arith, c.count_of.ensures.value, c.count_of-2.ensures.value, c.requires.many))
@@ -84,7 +84,7 @@ returns-clause-one g c =
     pair_keeps NamesOne c.args.arena.now c.rename-2.new.arena c.args.up c.args.front c.args.rear c.requires.forest c.requires.pair shares both c.requires.one
 
 pub returns-clause-last : goal.returns-clause-last
-returns-clause-last g c = 
+returns-clause-last g c =
     let shares = balanced c.args.arena.now c.args.up c.args.front c.args.rear c.requires.forest c.requires.pair
     c.regroup.new.arena c.rename.new.arena c.rename-2.new.arena _ c.regroup.ensures c.rename.ensures.shape c.rename-2.ensures.shape
     (omega (arith, c.count_of.ensures.value, c.count_of-2.ensures.value, c.requires.many))

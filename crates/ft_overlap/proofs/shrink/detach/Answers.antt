@@ -25,7 +25,7 @@ pub take_child-requires : goal.take_child-requires
 take_child-requires g c = slice_get_within (kids_of c.args.arena.now c.in-Some.block) c.place_of-place.result.0 c.args.id c.place_of-place.ensures.place
 
 pub fill_up-top-requires-clause-apart : goal.fill_up-top-requires-clause-apart
-fill_up-top-requires-clause-apart g c = 
+fill_up-top-requires-clause-apart g c =
     let up : parent_of c.args.arena.now c.args.id ≡ Some c.in-Some.block = sym c.parent.ensures ∙ c.in-Some.is in
     let takes = took_id c.args.arena.now c.take_child.new.self c.in-Some.block c.place_of-place.result.0 c.args.id c.take_child.result c.place_of-place.ensures.place
     c.take_child.ensures.child c.take_child.ensures.takes in
@@ -33,7 +33,7 @@ fill_up-top-requires-clause-apart g c =
     c.take_child.ensures.leaves c.take_child.ensures.sound c.place_of-place.ensures.place takes c.requires.more
 
 pub fill_up-top-requires-clause-block : goal.fill_up-top-requires-clause-block
-fill_up-top-requires-clause-block g c = 
+fill_up-top-requires-clause-block g c =
     let up : parent_of c.args.arena.now c.args.id ≡ Some c.in-Some.block = sym c.parent.ensures ∙ c.in-Some.is in
     let takes = took_id c.args.arena.now c.take_child.new.self c.in-Some.block c.place_of-place.result.0 c.args.id c.take_child.result c.place_of-place.ensures.place
     c.take_child.ensures.child c.take_child.ensures.takes in

@@ -196,7 +196,7 @@ pub returns-clause-block : goal.returns-clause-block
 returns-clause-block g c = c.up.invariant.block
 
 pub returns-then-count-eq1-clause-block : goal.returns-then-count-eq1-clause-block
-returns-then-count-eq1-clause-block g c = 
+returns-then-count-eq1-clause-block g c =
     let up : parent_of c.up.arena c.up.block ≡ Some c.in-Some.up = sym c.parent.ensures ∙ c.in-Some.is in
     let few : length (kids_of c.up.arena c.in-Some.up) ≤ 3 = omega (arith, c.place_of-place.ensures.count, c.if-count-eq1.true) in
     let is_root : c.in-Some.up ≡ c.args.root = fl_root c.up.arena c.args.root c.args._id c.up.block c.up.invariant.apart c.in-Some.up up few in
@@ -211,12 +211,12 @@ returns-then-count-eq1-clause-block g c =
     (dropped_apart c.up.arena c.drop_root-top.new.arena c.args.root c.args._id c.drop_root-top.result apart filled block drops).shape.root_is_block
 
 pub returns-then-count-eq1-clause-known : goal.returns-then-count-eq1-clause-known
-returns-then-count-eq1-clause-known g c = 
+returns-then-count-eq1-clause-known g c =
     gone_known (g.P.Places.Knows c.args.at.now) c.up.arena c.drop_root-top.new.arena c.in-Some.up c.drop_root-top.ensures.gone
     (λ x d. told_from_values c.up.arena c.drop_root-top.new.arena x (c.drop_root-top.ensures.leaf_values x) (c.drop_root-top.ensures.block_values x d)) c.up.invariant.known
 
 pub returns-then-count-eq1-clause-one : goal.returns-then-count-eq1-clause-one
-returns-then-count-eq1-clause-one g c = 
+returns-then-count-eq1-clause-one g c =
     let up : parent_of c.up.arena c.up.block ≡ Some c.in-Some.up = sym c.parent.ensures ∙ c.in-Some.is in
     let few : length (kids_of c.up.arena c.in-Some.up) ≤ 3 = omega (arith, c.place_of-place.ensures.count, c.if-count-eq1.true) in
     let is_root : c.in-Some.up ≡ c.args.root = fl_root c.up.arena c.args.root c.args._id c.up.block c.up.invariant.apart c.in-Some.up up few in
@@ -229,7 +229,7 @@ returns-then-count-eq1-clause-one g c =
     c.drop_root-top.ensures.other_kids (subst (λ (z : ℕ). KeepsBut NamesOne c.up.arena (Some z)) is_top c.up.invariant.one)
 
 pub returns-then-count-eq1-clause-last : goal.returns-then-count-eq1-clause-last
-returns-then-count-eq1-clause-last g c = 
+returns-then-count-eq1-clause-last g c =
     let up : parent_of c.up.arena c.up.block ≡ Some c.in-Some.up = sym c.parent.ensures ∙ c.in-Some.is in
     let few : length (kids_of c.up.arena c.in-Some.up) ≤ 3 = omega (arith, c.place_of-place.ensures.count, c.if-count-eq1.true) in
     let is_root : c.in-Some.up ≡ c.args.root = fl_root c.up.arena c.args.root c.args._id c.up.block c.up.invariant.apart c.in-Some.up up few in
@@ -242,7 +242,7 @@ returns-then-count-eq1-clause-last g c =
     c.drop_root-top.ensures.other_kids (subst (λ (z : ℕ). KeepsBut (NamesLast (g.P.Places.place_of c.args.at.now)) c.up.arena (Some z)) is_top c.up.invariant.last)
 
 pub returns-then-many-gt8-clause-block : goal.returns-then-many-gt8-clause-block
-returns-then-many-gt8-clause-block g c = 
+returns-then-many-gt8-clause-block g c =
     let up : parent_of c.up.arena c.up.block ≡ Some c.in-Some.up = sym c.parent.ensures ∙ c.in-Some.is in
     let pair = fl_pair c.up.arena c.args.root c.args._id c.up.block c.up.invariant.apart c.in-Some.up up c.up.invariant.block _ c.child_at-front.result
     c.child_at-rear.result c.child_at-front.ensures c.child_at-rear.ensures in
@@ -252,14 +252,14 @@ returns-then-many-gt8-clause-block g c =
     (fl_two c.up.arena c.args.root c.args._id c.up.block c.up.invariant.apart c.in-Some.up up c.up.invariant.block) c.balance.ensures.shares
 
 pub balance-requires-clause-one : goal.balance-requires-clause-one
-balance-requires-clause-one g c = 
+balance-requires-clause-one g c =
     let up : parent_of c.up.arena c.up.block ≡ Some c.in-Some.up = sym c.parent.ensures ∙ c.in-Some.is in
     but_both NamesOne c.up.arena c.up.block c.child_at-front.result c.child_at-rear.result
     (fl_short c.up.arena c.args.root c.args._id c.up.block c.up.invariant.apart c.in-Some.up up c.place_of-place.result.0 _
     c.child_at-front.result c.child_at-rear.result c.place_of-place.ensures.place (omega arith) c.child_at-front.ensures c.child_at-rear.ensures) c.up.invariant.one
 
 pub balance-requires-clause-last : goal.balance-requires-clause-last
-balance-requires-clause-last g c = 
+balance-requires-clause-last g c =
     let up : parent_of c.up.arena c.up.block ≡ Some c.in-Some.up = sym c.parent.ensures ∙ c.in-Some.is in
     but_both (NamesLast (g.P.Places.place_of c.args.at.now)) c.up.arena c.up.block c.child_at-front.result c.child_at-rear.result
     (fl_short c.up.arena c.args.root c.args._id c.up.block c.up.invariant.apart c.in-Some.up up c.place_of-place.result.0 _
@@ -269,14 +269,14 @@ pub balance-requires-clause-known : goal.balance-requires-clause-known
 balance-requires-clause-known g c = c.up.invariant.known
 
 pub merge-requires-clause-one : goal.merge-requires-clause-one
-merge-requires-clause-one g c = 
+merge-requires-clause-one g c =
     let up : parent_of c.up.arena c.up.block ≡ Some c.in-Some.up = sym c.parent.ensures ∙ c.in-Some.is in
     but_both NamesOne c.up.arena c.up.block c.child_at-front.result c.child_at-rear.result
     (fl_short c.up.arena c.args.root c.args._id c.up.block c.up.invariant.apart c.in-Some.up up c.place_of-place.result.0 _
     c.child_at-front.result c.child_at-rear.result c.place_of-place.ensures.place (omega arith) c.child_at-front.ensures c.child_at-rear.ensures) c.up.invariant.one
 
 pub merge-requires-clause-last : goal.merge-requires-clause-last
-merge-requires-clause-last g c = 
+merge-requires-clause-last g c =
     let up : parent_of c.up.arena c.up.block ≡ Some c.in-Some.up = sym c.parent.ensures ∙ c.in-Some.is in
     but_both (NamesLast (g.P.Places.place_of c.args.at.now)) c.up.arena c.up.block c.child_at-front.result c.child_at-rear.result
     (fl_short c.up.arena c.args.root c.args._id c.up.block c.up.invariant.apart c.in-Some.up up c.place_of-place.result.0 _
@@ -286,7 +286,7 @@ pub merge-requires-clause-known : goal.merge-requires-clause-known
 merge-requires-clause-known g c = c.up.invariant.known
 
 pub up-init : goal.up-init
-up-init g c = 
+up-init g c =
     record {
       apart = c.requires.apart;
       block = c.requires.block;
@@ -316,19 +316,19 @@ up-smaller g c =
     omega (arith, h, one, low, root_high)
 
 pub up-preserved : goal.up-preserved
-up-preserved g c = 
+up-preserved g c =
     let up : parent_of c.up.arena c.up.block ≡ Some c.in-Some.up = sym c.parent.ensures ∙ c.in-Some.is in
     let pair = fl_pair c.up.arena c.args.root c.args._id c.up.block c.up.invariant.apart c.in-Some.up up c.up.invariant.block _ c.child_at-front.result
     c.child_at-rear.result c.child_at-front.ensures c.child_at-rear.ensures in
     record {
       apart = share_apart c.up.arena c.merge.new.arena c.args.root c.args._id c.in-Some.up c.child_at-front.result c.child_at-rear.result c.up.block c.up.invariant.apart
           pair.front_up pair.rear_up pair.differ (fl_short c.up.arena c.args.root c.args._id c.up.block c.up.invariant.apart c.in-Some.up up c.place_of-place.result.0 _
-    c.child_at-front.result c.child_at-rear.result c.place_of-place.ensures.place (omega arith) c.child_at-front.ensures c.child_at-rear.ensures)
-    (fl_two c.up.arena c.args.root c.args._id c.up.block c.up.invariant.apart c.in-Some.up up c.up.invariant.block) c.merge.ensures.shares;
+          c.child_at-front.result c.child_at-rear.result c.place_of-place.ensures.place (omega arith) c.child_at-front.ensures c.child_at-rear.ensures)
+          (fl_two c.up.arena c.args.root c.args._id c.up.block c.up.invariant.apart c.in-Some.up up c.up.invariant.block) c.merge.ensures.shares;
       block = share_block c.up.arena c.merge.new.arena c.args.root c.args._id c.in-Some.up c.child_at-front.result c.child_at-rear.result c.up.block c.up.invariant.apart
           pair.front_up pair.rear_up pair.differ (fl_short c.up.arena c.args.root c.args._id c.up.block c.up.invariant.apart c.in-Some.up up c.place_of-place.result.0 _
-    c.child_at-front.result c.child_at-rear.result c.place_of-place.ensures.place (omega arith) c.child_at-front.ensures c.child_at-rear.ensures)
-    (fl_two c.up.arena c.args.root c.args._id c.up.block c.up.invariant.apart c.in-Some.up up c.up.invariant.block) c.merge.ensures.shares;
+          c.child_at-front.result c.child_at-rear.result c.place_of-place.ensures.place (omega arith) c.child_at-front.ensures c.child_at-rear.ensures)
+          (fl_two c.up.arena c.args.root c.args._id c.up.block c.up.invariant.apart c.in-Some.up up c.up.invariant.block) c.merge.ensures.shares;
       known = c.merge.ensures.known;
       one = c.merge.ensures.one;
       last = c.merge.ensures.last;

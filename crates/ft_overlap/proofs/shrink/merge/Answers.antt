@@ -51,7 +51,7 @@ drop_block-requires-clause-alone g c =
     takes.parent
 
 pub rename-requires-clause-block : goal.rename-requires-clause-block
-rename-requires-clause-block g c = 
+rename-requires-clause-block g c =
     let takes = mg_takes c.args.arena.now c.args.up c.args.front c.args.rear c.requires.forest c.requires.pair c.regroup.new.arena
     (c.count_of.result + c.count_of-2.result) c.regroup.ensures c.args.place c.requires.next c.take_child.new.self c.take_child.result c.take_child.ensures.child
     c.take_child.ensures.takes in
@@ -60,7 +60,7 @@ rename-requires-clause-block g c =
     c.drop_block.ensures.changes
 
 pub rename-requires-clause-apart : goal.rename-requires-clause-apart
-rename-requires-clause-apart g c = 
+rename-requires-clause-apart g c =
     let takes = mg_takes c.args.arena.now c.args.up c.args.front c.args.rear c.requires.forest c.requires.pair c.regroup.new.arena
     (c.count_of.result + c.count_of-2.result) c.regroup.ensures c.args.place c.requires.next c.take_child.new.self c.take_child.result c.take_child.ensures.child
     c.take_child.ensures.takes in
@@ -72,22 +72,22 @@ pub rename-requires-clause-forest : goal.rename-requires-clause-forest
 rename-requires-clause-forest g c = c.drop_block.ensures.sound
 
 pub rename-requires-clause-filled : goal.rename-requires-clause-filled
-rename-requires-clause-filled g c = 
+rename-requires-clause-filled g c =
     let takes = mg_takes c.args.arena.now c.args.up c.args.front c.args.rear c.requires.forest c.requires.pair c.regroup.new.arena
     (c.count_of.result + c.count_of-2.result) c.regroup.ensures c.args.place c.requires.next c.take_child.new.self c.take_child.result c.take_child.ensures.child
     c.take_child.ensures.takes in
     omega (
       arith,
       md_many c.args.arena.now c.args.up c.args.front c.args.rear c.requires.forest c.requires.pair c.regroup.new.arena c.take_child.new.self c.drop_block.new.self
-    (c.count_of.result + c.count_of-2.result) c.args.place (omega (arith, c.count_of.ensures.value, c.count_of-2.ensures.value)) c.regroup.ensures takes
-    c.drop_block.ensures.changes,
+          (c.count_of.result + c.count_of-2.result) c.args.place (omega (arith, c.count_of.ensures.value, c.count_of-2.ensures.value)) c.regroup.ensures takes
+          c.drop_block.ensures.changes,
       c.count_of.ensures.value,
       c.count_of-2.ensures.value,
       c.requires.many,
     )
 
 pub rename-requires-clause-known : goal.rename-requires-clause-known
-rename-requires-clause-known g c = 
+rename-requires-clause-known g c =
     let takes = mg_takes c.args.arena.now c.args.up c.args.front c.args.rear c.requires.forest c.requires.pair c.regroup.new.arena
     (c.count_of.result + c.count_of-2.result) c.regroup.ensures c.args.place c.requires.next c.take_child.new.self c.take_child.result c.take_child.ensures.child
     c.take_child.ensures.takes in
@@ -96,7 +96,7 @@ rename-requires-clause-known g c =
     (c.count_of.result + c.count_of-2.result) (c.args.place + 1) c.regroup.ensures takes c.drop_block.ensures.changes x d) c.requires.known
 
 pub returns-clause-shares : goal.returns-clause-shares
-returns-clause-shares g c = 
+returns-clause-shares g c =
     let takes = mg_takes c.args.arena.now c.args.up c.args.front c.args.rear c.requires.forest c.requires.pair c.regroup.new.arena
     (c.count_of.result + c.count_of-2.result) c.regroup.ensures c.args.place c.requires.next c.take_child.new.self c.take_child.result c.take_child.ensures.child
     c.take_child.ensures.takes in
@@ -109,7 +109,7 @@ pub returns-clause-known : goal.returns-clause-known
 returns-clause-known g c = c.rename.ensures.known
 
 pub returns-clause-one : goal.returns-clause-one
-returns-clause-one g c = 
+returns-clause-one g c =
     let takes = mg_takes c.args.arena.now c.args.up c.args.front c.args.rear c.requires.forest c.requires.pair c.regroup.new.arena
     (c.count_of.result + c.count_of-2.result) c.regroup.ensures c.args.place c.requires.next c.take_child.new.self c.take_child.result c.take_child.ensures.child
     c.take_child.ensures.takes in
@@ -124,7 +124,7 @@ returns-clause-one g c =
     pair_keeps NamesOne c.args.arena.now c.rename.new.arena c.args.up c.args.front c.args.rear c.requires.forest c.requires.pair shares both c.requires.one
 
 pub returns-clause-last : goal.returns-clause-last
-returns-clause-last g c = 
+returns-clause-last g c =
     let takes = mg_takes c.args.arena.now c.args.up c.args.front c.args.rear c.requires.forest c.requires.pair c.regroup.new.arena
     (c.count_of.result + c.count_of-2.result) c.regroup.ensures c.args.place c.requires.next c.take_child.new.self c.take_child.result c.take_child.ensures.child
     c.take_child.ensures.takes in
