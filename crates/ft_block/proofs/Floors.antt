@@ -85,8 +85,8 @@ module _ {L : Type 0} (s : Forest L (Headed Summary)) (up front rear : ℕ) (for
 module _ {L : Type 0} (s0 s1 : Forest L (Headed Summary)) (root id p place : ℕ) (t : IsTree s0 root) (live : IsSome (leaf_value s0 id)) (up : parent_of s0 id ≡ Some p)
     (l : s1.leaves ≡ s0.leaves) (forest : IsForest s1) (found : slice_get (kids_of s0 p) place ≡ Some id) (r : TakesChild s0 s1 p place id) (many : 2 ≤ length s0.leaves)
   where
-  pub taken_floors : (floor : ℕ) → AreFromFloor floor s0 → AreFromFloor floor s1
-  taken_floors floor all x v e = all x v (sym (r.block_values x) ∙ e)
+    pub taken_floors : (floor : ℕ) → AreFromFloor floor s0 → AreFromFloor floor s1
+    taken_floors floor all x v e = all x v (sym (r.block_values x) ∙ e)
 
 -- a leaf leaves the list
 module _ {L : Type 0} (s s' : Forest L (Headed Summary)) (root id : ℕ) (value : L) (a : IsApart s root id None) (forest : IsForest s') (is : leaf_value s id ≡ Some value)

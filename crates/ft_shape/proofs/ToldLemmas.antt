@@ -176,7 +176,7 @@ module _ {L S : Type 0} (R : S → List (Option L × Option S) → Type 0) (s s'
 pub but_both : {L S : Type 0} (R : S → List (Option L × Option S) → Type 0) (s : Forest L (Headed S)) (block front rear : ℕ) → (block ≡ front) ⊎ (block ≡ rear)
     → KeepsBut R s (Some block) → KeepsButBoth R s front rear
 but_both R s block front rear which keeps b v e n k =
-    keeps b v e (λ q. let c : block ≡ b = cc q in elim which [ | inl a ↦ n (sym c ∙ a) | inr a ↦ k (sym c ∙ a) ])
+    keeps b v e (λ q. let c : block ≡ b = cc q in elim which [ inl a ↦ n (sym c ∙ a) | inr a ↦ k (sym c ∙ a) ])
 
 -- where two neighbours were joined, each node but the one that is gone tells what it told
 pub joined_told : {L S : Type 0} (s : Forest L (Headed S)) (up front rear : ℕ) (s1 s2 s3 : Forest L (Headed S)) (want at : ℕ) → Regroups s s1 front rear want
