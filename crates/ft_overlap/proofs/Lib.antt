@@ -18,3 +18,4 @@ pub mod Taken
 pub mod ItemLists
 pub mod Leaves
 pub mod Whole
+pub mod Descent

@@ -49,7 +49,7 @@ first_is : (ys : List ℕ) (id : ℕ) → Some id ≡ first ys → (zs : List �
 first_is [] id e = cc
 first_is (y ∷ ys) id e = let q : id ≡ y = cc e in (ys, ap (λ (z : ℕ). z ∷ ys) (sym q))
 
-last-push : (xs : List ℕ) (id : ℕ) → last_of (xs ++ id ∷ []) ≡ Some id
+pub last-push : (xs : List ℕ) (id : ℕ) → last_of (xs ++ id ∷ []) ≡ Some id
 last-push [] id = refl
 last-push (x ∷ []) id = refl
 last-push (x ∷ (y ∷ ys)) id = last-push (y ∷ ys) id

@@ -5,7 +5,7 @@ ghost use Rattle.ft_arena.specs.Forest.{IsForest, leaf_value};
 ghost use Rattle.ft_shape.specs.Tree.{IsTree};
 ghost use Rattle.ft_shape.specs.Told.{KeepsBut};
 ghost use Rattle.ft_shape.specs.Steps.{TakesLeaf};
-ghost use Rattle.ft_overlap.specs.Items.{put_item, item_at};
+ghost use Rattle.ft_overlap.specs.Items.{put_item, item_at, IsRising};
 ghost use Rattle.ft_overlap.specs.Inside.{IsRooted, IsFirstWith, NamesOne, NamesLast, EndsKnown, items_of};
 
 use crate::grow::{insert_at, insert_first, insert_front};
@@ -35,6 +35,7 @@ pub(crate) fn insert_in<P: Places, G: Ledger>(
     requires end { P.Knows at.now item.end }
     requires starts { (id : ℕ) (x : Item) → leaf_value arena.old id ≡ Some x → P.Knows at.now x.start }
     requires known { EndsKnown (P.Knows at.now) arena.old }
+    requires rising { IsRising (P.place_of at.now) (items_of arena.old arena.old.leaves) }
     ensures rooted { IfOk result (λ top. IsRooted arena.new top) }
     ensures one { IfOk result (λ top. KeepsBut NamesOne arena.new None) }
     ensures last { IfOk result (λ top. KeepsBut (NamesLast (P.place_of at.now)) arena.new None) }
@@ -51,7 +52,7 @@ pub(crate) fn insert_in<P: Places, G: Ledger>(
     let _first = arena.first();
     let height = height_at(arena, root, &mut steps) as usize;
     arena.reserve(height + 2)?;
-    let top = match place_for(arena, &item, at, &mut steps) {
+    let top = match place_for(arena, root, &item, at, &mut steps) {
         Some(before) => insert_at(arena, root, before, item, at, &mut steps),
         None => insert_front(arena, root, item, at, &mut steps),
     };

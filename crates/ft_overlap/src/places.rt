@@ -1,12 +1,14 @@
 //! Where an item stands in the list: the place for a new one, and the one with a key.
 
 ghost use Rattle.std.specs.Prelude.{◌≡◌, ℕ, Some, None, IsSome, MatchOption};
-ghost use Rattle.ft_arena.specs.Forest.{IsForest, leaf_value};
-ghost use Rattle.ft_overlap.specs.Items.{item_at};
+ghost use Rattle.ft_arena.specs.Forest.{IsForest, entry, leaf_value, block_value, kids_of};
+ghost use Rattle.ft_shape.specs.Tree.{IsTree};
+ghost use Rattle.ft_overlap.specs.Items.{item_at, IsRising};
 ghost use Rattle.ft_overlap.specs.Inside.{IsPlaceFor, IsFirstWith, items_of};
+ghost use Rattle.ft_overlap.specs.Search.{IsFirstBelow, IsStartedBy, IsChildBy, IsReached};
 
 use crate::items::{Item, Places};
-use ft_arena::{Arena, Node, NodeId};
+use ft_arena::{Arena, Kids, Node, NodeId};
 use ft_base::Steps;
 use ft_shape::Headed;
 use std::sync::ledger::Ledger;
@@ -22,29 +24,107 @@ fn item_of<G: Ledger>(arena: &Arena<Item, Headed<Item>>, id: NodeId, steps: &mut
     }
 }
 
-// The last leaf before the first item that starts behind this one, if that isn't the first.
+// The first item below a node.
+fn first_below<G: Ledger>(
+    arena: &Arena<Item, Headed<Item>>,
+    _root: NodeId,
+    node: NodeId,
+    steps: &mut Steps<G>,
+) -> Item
+    requires tree { IsTree arena.now _root }
+    requires live { IsSome (entry arena.now node) }
+    ensures { IsFirstBelow arena.now node result }
+{
+    match arena.read(node, steps) {
+        Node::Leaf { value } => *value,
+        Node::Block { kids, .. } => match kids.get(0) {
+            Some(first) => first_below(arena, _root, first, steps),
+            None => unreachable!(),
+        },
+    }
+}
+
+// Of the children of a block whose first item isn't behind this one, the last of which that holds.
+fn child_by<P: Places, G: Ledger>(
+    arena: &Arena<Item, Headed<Item>>,
+    _root: NodeId,
+    _block: NodeId,
+    kids: &Kids,
+    item: &Item,
+    at: &P,
+    steps: &mut Steps<G>,
+) -> NodeId
+    requires tree { IsTree arena.now _root }
+    requires block { IsSome (block_value arena.now _block) }
+    requires kids { kids_of arena.now _block ≡ kids.now }
+    requires first { IsStartedBy (P.place_of at.now) (P.place_of at.now item.now.start) arena.now _block }
+    requires start { P.Knows at.now item.now.start }
+    requires known { (id : ℕ) (x : Item) → leaf_value arena.now id ≡ Some x → P.Knows at.now x.start }
+    ensures { IsChildBy (P.place_of at.now) (P.place_of at.now item.now.start) arena.now _block kids.now result }
+{
+    let _few = kids.len();
+    let Some(first) = kids.get(0) else {
+        unreachable!();
+    };
+    let _ = first_below(arena, _root, first, steps);
+    let mut child = first;
+    let mut i = 1;
+    while let Some(kid) = kids.get(i) {
+        let here = first_below(arena, _root, kid, steps);
+        if at.place(here.start) > at.place(item.start) {
+            return child;
+        }
+        child = kid;
+        i += 1;
+    }
+    child
+}
+
+// The last leaf below a node before the first item that starts behind this one.
+fn place_below<P: Places, G: Ledger>(
+    arena: &Arena<Item, Headed<Item>>,
+    _root: NodeId,
+    node: NodeId,
+    item: &Item,
+    at: &P,
+    steps: &mut Steps<G>,
+) -> NodeId
+    requires tree { IsTree arena.now _root }
+    requires live { IsSome (entry arena.now node) }
+    requires reached { IsReached (P.place_of at.now) (P.place_of at.now item.now.start) arena.now node }
+    requires rising { IsRising (P.place_of at.now) (items_of arena.now arena.now.leaves) }
+    requires start { P.Knows at.now item.now.start }
+    requires known { (id : ℕ) (x : Item) → leaf_value arena.now id ≡ Some x → P.Knows at.now x.start }
+    ensures { IsPlaceFor (P.place_of at.now) (P.place_of at.now item.now.start) arena.now (Some result) }
+{
+    match arena.read(node, steps) {
+        Node::Leaf { .. } => node,
+        Node::Block { kids, .. } => {
+            let child = child_by(arena, _root, node, kids, item, at, steps);
+            place_below(arena, _root, child, item, at, steps)
+        }
+    }
+}
+
+// The last leaf before the first item that starts behind this one, if that isn't the first: down from the root.
 pub(crate) fn place_for<P: Places, G: Ledger>(
     arena: &Arena<Item, Headed<Item>>,
+    root: NodeId,
     item: &Item,
     at: &P,
     steps: &mut Steps<G>,
 ) -> Option<NodeId>
-    requires forest { IsForest arena.now }
+    requires tree { IsTree arena.now root }
+    requires rising { IsRising (P.place_of at.now) (items_of arena.now arena.now.leaves) }
     requires start { P.Knows at.now item.now.start }
     requires known { (id : ℕ) (x : Item) → leaf_value arena.now id ≡ Some x → P.Knows at.now x.start }
     ensures { IsPlaceFor (P.place_of at.now) (P.place_of at.now item.now.start) arena.now result }
 {
-    let mut before = None;
-    let mut next = arena.first();
-    while let Some(id) = next {
-        let here = item_of(arena, id, steps);
-        if at.place(here.start) > at.place(item.start) {
-            return before;
-        }
-        next = arena.next(id);
-        before = Some(id);
+    let first = first_below(arena, root, root, steps);
+    if at.place(first.start) > at.place(item.start) {
+        return None;
     }
-    before
+    Some(place_below(arena, root, root, item, at, steps))
 }
 
 // The first leaf whose item has this key, if there is one.

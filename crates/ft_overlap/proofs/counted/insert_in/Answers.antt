@@ -5,7 +5,7 @@ use Rattle.ft_shape.proofs.Levels.{height_fits}
 use Rattle.ft_shape.proofs.KindLemmas.{kind_is_height}
 use Rattle.ft_shape.proofs.InsertLemmas.{room_tree}
 use Rattle.ft_shape.proofs.ToldLemmas.{room_keeps}
-use Rattle.ft_overlap.specs.Items.{put_item}
+use Rattle.ft_overlap.specs.Items.{put_item, IsRising}
 use Rattle.ft_overlap.specs.Inside.{Nodes, IsRooted, NamesOne, NamesLast, items_of}
 use Rattle.ft_overlap.proofs.Leaves.{place_live, put_items_after, put_items_front, room_items}
 use Rattle.ft_overlap.proofs.counted.insert_in.Goals.{in-Some-place_for, in-None}
@@ -52,3 +52,12 @@ returns-clause-items g c =
           (put_items_front place c.reserve-2.new.self forest c.args.item w.in-None.ensures w.insert_front-top.new.arena w.insert_front-top.ensures.inserts.0 w.insert_front-top.ensures.inserts.1
           ∙ ap (put_item place c.args.item) (room_items c.args.arena.now c.reserve-2.new.self c.reserve-2.ensures.kept))
     ]
+
+pub place_for-requires-clause-tree : goal.place_for-requires-clause-tree
+place_for-requires-clause-tree g c =
+    let tree : IsTree c.args.arena.now c.in-Some.root = subst (λ (o : Option ℕ). IsRooted c.args.arena.now o) c.in-Some.is c.requires.rooted in
+    room_tree c.args.arena.now c.reserve-2.new.self c.reserve-2.ensures.kept c.in-Some.root tree
+
+pub place_for-requires-clause-rising : goal.place_for-requires-clause-rising
+place_for-requires-clause-rising g c =
+    subst (IsRising (g.P.Places.place_of c.args.at.now)) (sym (room_items c.args.arena.now c.reserve-2.new.self c.reserve-2.ensures.kept)) c.requires.rising

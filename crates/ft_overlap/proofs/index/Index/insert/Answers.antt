@@ -26,3 +26,7 @@ returns-clause-order g c =
           (rising_put place c.args.item c.args.self.now.items c.requires.order.rising);
       greatest = all_great place c.insert_in.new.arena c.in_ok-self-inside.field-0 c.in_ok-self-inside.ensures.rooted c.in_ok-self-inside.ensures.last;
     }
+
+pub insert_in-requires-clause-rising : goal.insert_in-requires-clause-rising
+insert_in-requires-clause-rising g c =
+    subst (IsRising (g.P.Places.place_of c.args.at.now)) (sym (ap (λ (w : ItemList). w.items) c.self.view_is)) c.requires.order.rising

@@ -1,0 +1,190 @@
+-- Down from the root to the place of a new item.
+use Rattle.std.proofs.Common.{◌≡◌, ℕ, zero, suc, ℤ, ◌+◌, ◌-◌, ◌≤◌, ◌≤ℤ◌, ◌<ℤ◌, List, [], ◌∷◌, ◌++◌, length, take, drop, slice_get, Some, None, IsSome, All, refl, sym, ap, subst, ◌∙◌, arith, append_assoc}
+use Rattle.std.proofs.lemmas.Int.{ints}
+use Rattle.std.proofs.lemmas.List.{append-nil, take-append-drop}
+use Rattle.std.proofs.lemmas.List.Elements.{All-nil, All-cons, All-head, All-append, All-weaker}
+use Rattle.ft_arena.specs.Ids.{times}
+use Rattle.ft_arena.specs.Forest.{entry, kids_of, block_value, leaf_value}
+use Rattle.ft_shape.specs.Tree.{IsTree, height_of, below}
+use Rattle.ft_shape.proofs.Lists.{times_at, drop_at, drop_none}
+use Rattle.ft_shape.proofs.Levels.{below-append, steps_down, kid_parent, live_from_parent}
+use Rattle.ft_overlap.specs.declared.items.Item.{Item}
+use Rattle.ft_overlap.specs.Items.{IsRising}
+use Rattle.ft_overlap.specs.Inside.{Nodes, item_of, items_of, items_under, items_below, IsBehind, IsPlaceFor}
+use Rattle.ft_overlap.specs.Search.{IsFirstBelow, IsStartedBy, IsChildBy, IsReached}
+use Rattle.ft_overlap.proofs.Keys.{all_rest}
+use Rattle.ft_overlap.proofs.Under.{items-append, under_kids, first_kid}
+use Rattle.ft_overlap.proofs.WalkedItems.{last-push}
+use Rattle.ft_overlap.proofs.Inserted.{tree_filled}
+
+-- a leaf is the first item below it
+pub leaf_first : (s : Nodes) (x : ℕ) (v : Item) → leaf_value s x ≡ Some v → height_of s x ≡ 0 → IsFirstBelow s x v
+leaf_first s x v l q =
+    record { leaf = x; there = l; rest = []; items = ap (λ (h : ℕ). items_under s h x) q ∙ ap (λ o. item_of o []) l }
+
+child_there : (xs ys : List ℕ) (k : ℕ) → slice_get (xs ++ k ∷ ys) (length xs) ≡ Some k
+child_there [] ys k = refl
+child_there (x ∷ xs) ys k = child_there xs ys k
+
+module _ (s : Nodes) (root n : ℕ) (t : IsTree s root) (block : IsSome (block_value s n)) (kids : List ℕ) (is_kids : kids_of s n ≡ kids) where
+  abbrev pub down : ℕ
+  down = height_of s n - 1
+
+  pub d_high : height_of s n ≡ suc down
+  d_high = omega (arith, t.shape.high n block)
+
+  pub d_all : items_below s n ≡ items_of s (below s down kids)
+  d_all = under_kids s down n kids d_high is_kids
+
+  pub d_filled : 1 ≤ length kids
+  d_filled = omega (arith, tree_filled s root t n block, ap length is_kids)
+
+  module _ (i kid : ℕ) (there : slice_get kids i ≡ Some kid) where
+    d_member : 1 ≤ times (kids_of s n) kid
+    d_member = subst (λ (ks : List ℕ). 1 ≤ times ks kid) (sym is_kids) (times_at kids i kid there)
+
+    pub d_kid_high : height_of s kid ≡ down
+    d_kid_high = omega (arith, steps_down s root None t.shape n kid d_member, d_high)
+
+    pub d_kid_live : IsSome (entry s kid)
+    d_kid_live = live_from_parent (entry s kid) n (kid_parent s root None t.shape n kid d_member)
+
+    d_rest : items_of s (below s down (drop i kids)) ≡ items_below s kid ++ items_of s (below s down (drop (i + 1) kids))
+    d_rest = first_kid s down i kid kids d_kid_high there
+
+  module _ (front : List ℕ) (kid : ℕ) (back : List ℕ) (cut : kids ≡ front ++ kid ∷ back) where
+    cut_there : slice_get kids (length front) ≡ Some kid
+    cut_there = ap (λ (ks : List ℕ). slice_get ks (length front)) cut ∙ child_there front back kid
+
+    pub d_cut_high : height_of s kid ≡ down
+    d_cut_high = d_kid_high (length front) kid cut_there
+
+    pub d_cut_live : IsSome (entry s kid)
+    d_cut_live = d_kid_live (length front) kid cut_there
+
+  -- the first item of the first child is that of the block
+  pub up_first : (kid : ℕ) (x : Item) → slice_get kids 0 ≡ Some kid → IsFirstBelow s kid x → IsFirstBelow s n x
+  up_first kid x there f =
+      record {
+        leaf = f.leaf;
+        there = f.there;
+        rest = f.rest ++ items_of s (below s down (drop 1 kids));
+        items = d_all ∙ d_rest 0 kid there ∙ ap (λ (zs : List Item). zs ++ items_of s (below s down (drop 1 kids))) f.items;
+      }
+
+  module _ (place : ℕ → ℤ) (b : ℤ) where
+    -- where the block's first item starts by b, so does that of the first child
+    pub down_first : (kid : ℕ) (x : Item) → slice_get kids 0 ≡ Some kid → IsFirstBelow s kid x → IsStartedBy place b s n → IsStartedBy place b s kid
+    down_first kid x there f o =
+        let e : o.item ∷ o.rest ≡ x ∷ (up_first kid x there f).rest = sym o.items ∙ (up_first kid x there f).items in
+        let q : o.item ≡ x = cc e in
+        record { item = x; rest = f.rest; items = f.items; by = subst (λ (z : Item). place z.start ≤ℤ b) q o.by }
+
+    -- the children up to i start by b, and those from i on don't: the one before i is the last that does
+    pub child_at_end : (i kid : ℕ) → slice_get kids i ≡ Some kid → IsStartedBy place b s kid → IsBehind place b (items_of s (below s down (drop (i + 1) kids))) → IsChildBy place b s n kids kid
+    child_at_end i kid there first behind =
+        record {
+          front = take i kids;
+          back = drop (i + 1) kids;
+          cut = sym (take-append-drop i kids) ∙ ap (λ (zs : List ℕ). take i kids ++ zs) (drop_at kids i kid there);
+          behind = behind;
+          first = first;
+        }
+
+    behind_first : (x : Item) (xs ys : List Item) → ys ≡ x ∷ xs → b <ℤ place x.start → IsBehind place b ys
+    behind_first x xs ys e l = subst (IsBehind place b) (sym e) l
+
+    -- the first item of the child at i is behind
+    pub child_stops : (i kid next : ℕ) (x : Item) → slice_get kids i ≡ Some kid → IsStartedBy place b s kid → slice_get kids (i + 1) ≡ Some next → IsFirstBelow s next x
+        → b <ℤ place x.start → IsChildBy place b s n kids kid
+    child_stops i kid next x there first there' f l =
+        child_at_end i kid there first (behind_first x (f.rest ++ items_of s (below s down (drop (i + 1 + 1) kids))) (items_of s (below s down (drop (i + 1) kids)))
+        (d_rest (i + 1) next there' ∙ ap (λ (zs : List Item). zs ++ items_of s (below s down (drop (i + 1 + 1) kids))) f.items) l)
+
+    none_below : (h : ℕ) → below s h [] ≡ []
+    none_below zero = refl
+    none_below (suc h) = none_below h
+
+    -- there is no child behind
+    pub child_last : (i kid : ℕ) → slice_get kids i ≡ Some kid → IsStartedBy place b s kid → slice_get kids (i + 1) ≡ None → IsChildBy place b s n kids kid
+    child_last i kid there first none =
+        child_at_end i kid there first (subst (λ (zs : List Item). IsBehind place b zs) (sym (ap (λ ks. items_of s (below s down ks)) (drop_none kids (i + 1) none)
+        ∙ ap (items_of s) (none_below down))) tt)
+
+    behind-append : (xs ys : List Item) → IsBehind place b xs → IsBehind place b ys → IsBehind place b (xs ++ ys)
+    behind-append [] ys h k = k
+    behind-append (x ∷ xs) ys h k = h
+
+    -- a step down
+    pub reach_child : (kid : ℕ) → IsReached place b s n → IsChildBy place b s n kids kid → height_of s kid ≡ down → IsReached place b s kid
+    reach_child kid r c high =
+        let one : below s (height_of s n) (n ∷ []) ≡ below s down kids = ap (λ (h : ℕ). below s h (n ∷ [])) d_high ∙ ap (below s down) (append-nil (kids_of s n) ∙ is_kids) in
+        let cut : below s down kids ≡ below s down c.front ++ (below s down (kid ∷ []) ++ below s down c.back) =
+        ap (below s down) c.cut ∙ below-append s down c.front (kid ∷ c.back) ∙ ap (λ zs. below s down c.front ++ zs) (below-append s down (kid ∷ []) c.back) in
+        let whole : below s (height_of s n) (n ∷ []) ++ r.right ≡ below s down c.front ++ (below s down (kid ∷ []) ++ (below s down c.back ++ r.right)) =
+        ap (λ (zs : List ℕ). zs ++ r.right) (one ∙ cut) ∙ append_assoc (below s down c.front) (below s down (kid ∷ []) ++ below s down c.back) r.right
+        ∙ ap (λ zs. below s down c.front ++ zs) (append_assoc (below s down (kid ∷ [])) (below s down c.back) r.right) in
+        record {
+          left = r.left ++ below s down c.front;
+          right = below s down c.back ++ r.right;
+          cut = r.cut ∙ ap (λ zs. r.left ++ zs) whole
+              ∙ sym (append_assoc r.left (below s down c.front) (below s down (kid ∷ []) ++ (below s down c.back ++ r.right)))
+              ∙ ap (λ (h : ℕ). (r.left ++ below s down c.front) ++ (below s h (kid ∷ []) ++ (below s down c.back ++ r.right))) (sym high);
+          behind = subst (λ (zs : List Item). IsBehind place b zs) (sym (items-append s (below s down c.back) r.right))
+              (behind-append (items_of s (below s down c.back)) (items_of s r.right) c.behind r.behind);
+          first = c.first;
+        }
+
+-- what stands before an item of a rising list starts by it
+before_item : (place : ℕ → ℤ) (xs : List Item) (y : Item) (ys : List Item) → IsRising place (xs ++ y ∷ ys) → All (λ x. place x.start ≤ℤ place y.start) xs
+before_item place [] y ys h = All-nil (λ x. place x.start ≤ℤ place y.start)
+before_item place (x ∷ xs) y ys h =
+    All-cons (λ z. place z.start ≤ℤ place y.start) x xs
+    (All-head (λ z. place x.start ≤ℤ place z.start) y ys (all_rest (λ z. place x.start ≤ℤ place z.start) xs (y ∷ ys) h.0)) (before_item place xs y ys h.1)
+
+module _ (place : ℕ → ℤ) (b : ℤ) (s : Nodes) where
+  -- the leaf that the way down ends at
+  pub reached_place : (n : ℕ) (v : Item) → IsReached place b s n → leaf_value s n ≡ Some v → height_of s n ≡ 0 → IsRising place (items_of s s.leaves) → IsPlaceFor place b s (Some n)
+  reached_place n v r leaf high rising =
+      let cut : s.leaves ≡ r.left ++ (n ∷ r.right) = r.cut ∙ ap (λ (h : ℕ). r.left ++ (below s h (n ∷ []) ++ r.right)) high in
+      let all : items_of s s.leaves ≡ items_of s r.left ++ v ∷ items_of s r.right =
+      ap (items_of s) cut ∙ items-append s r.left (n ∷ r.right) ∙ ap (λ o. items_of s r.left ++ item_of o (items_of s r.right)) leaf in
+      let e : r.first.item ∷ r.first.rest ≡ v ∷ (leaf_first s n v leaf high).rest = sym r.first.items ∙ (leaf_first s n v leaf high).items in
+      let q : r.first.item ≡ v = cc e in
+      let by : place v.start ≤ℤ b = subst (λ (z : Item). place z.start ≤ℤ b) q r.first.by in
+      record {
+        left = r.left ++ n ∷ [];
+        right = r.right;
+        cut = cut ∙ sym (append_assoc r.left (n ∷ []) r.right);
+        last = sym (last-push r.left n);
+        before = subst (All (λ x. place x.start ≤ℤ b)) (sym (items-append s r.left (n ∷ []) ∙ ap (λ o. items_of s r.left ++ item_of o []) leaf))
+            (All-append (λ x. place x.start ≤ℤ b) (items_of s r.left) (v ∷ [])
+            (All-weaker (λ x. place x.start ≤ℤ place v.start) (λ x. place x.start ≤ℤ b) (λ x h. omega (arith, ints, h, by)) (items_of s r.left)
+            (before_item place (items_of s r.left) v (items_of s r.right) (subst (IsRising place) all rising)))
+            (All-cons (λ x. place x.start ≤ℤ b) v [] by (All-nil (λ x. place x.start ≤ℤ b))));
+        behind = r.behind;
+      }
+
+  module _ (root : ℕ) (t : IsTree s root) (x : Item) (f : IsFirstBelow s root x) where
+    -- even the first item of all starts behind
+    pub no_place : b <ℤ place x.start → IsPlaceFor place b s None
+    no_place l =
+        record {
+          left = [];
+          right = s.leaves;
+          cut = refl;
+          last = refl;
+          before = All-nil (λ y. place y.start ≤ℤ b);
+          behind = subst (λ (zs : List Item). IsBehind place b zs) (sym (ap (items_of s) t.leaves ∙ f.items)) l;
+        }
+
+    -- or the way down begins at the root
+    pub root_reached : place x.start ≤ℤ b → IsReached place b s root
+    root_reached l =
+        record {
+          left = [];
+          right = [];
+          cut = t.leaves ∙ sym (append-nil (below s (height_of s root) (root ∷ [])));
+          behind = tt;
+          first = record { item = x; rest = f.rest; items = f.items; by = l };
+        }
