@@ -1,12 +1,12 @@
 //! How a node is put into the tree: beside another of its level, with full blocks split on the way up.
 
-ghost use Rattle.std.specs.Prelude.{◌≡◌, ◌≢◌, ℕ, ◌+◌, ◌-◌, ◌^◌, ◌<◌, ◌≤◌, Option, Some, None, IsSome, IfOk, OnOk, length, slice_get, insert, [], ◌∷◌};
+ghost use Rattle.std.specs.Prelude.{◌≡◌, ◌≢◌, ℕ, ◌+◌, ◌-◌, ◌^◌, ◌<◌, ◌≤◌, Option, Some, None, IsSome, IfOk, OnOk, length, insert, ◌∷◌};
 ghost use Rattle.ft_arena.specs.Forest.{IsForest, entry, block_value, kids_of, parent_of, leaf_value};
 ghost use Rattle.ft_arena.specs.Ids.{times, insert_after};
 ghost use Rattle.ft_block.specs.declared.leaves.View.{View};
-ghost use Rattle.ft_shape.specs.Tree.{IsTree, IsGrowing, IsBare, height_of, length_of, total, kind_of, insert_before};
+ghost use Rattle.ft_shape.specs.Tree.{IsTree, IsGrowing, IsBare, height_of, length_of, total, insert_before};
 ghost use Rattle.ft_block.specs.Tree.{SumsKeptBut, OwesAsAbove, PairFits, AreFromFloor, KeepsLengths, by_view, by_size};
-ghost use Rattle.ft_shape.specs.Steps.{SplitsAt, RootsOver, Halves, PutsInHalf, Resums, ResumsBoth, InsertsLeaf};
+ghost use Rattle.ft_shape.specs.Steps.{SplitsAt, RootsOver, Resums, ResumsBoth, InsertsLeaf};
 
 use crate::leaves::Leaf;
 use crate::refresh::{exchange_up, rebuild};

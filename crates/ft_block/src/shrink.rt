@@ -2,13 +2,13 @@
 //! are joined with it.
 
 ghost use Rattle.std.specs.Prelude.{◌≡◌, ◌≢◌, IsTrue, false, ℕ, ◌+◌, ◌^◌, ◌<◌, ◌≤◌, Some, None, IsSome, IfOk, OnOk, length, slice_get, [], ◌∷◌};
-ghost use Rattle.ft_arena.specs.Forest.{IsForest, IsPlace, block_value, kids_of, leaf_value, parent_of};
-ghost use Rattle.ft_arena.specs.Ids.{times, put_after, without};
+ghost use Rattle.ft_arena.specs.Forest.{IsForest, IsPlace, block_value, kids_of, leaf_value};
+ghost use Rattle.ft_arena.specs.Ids.{put_after, without};
 ghost use Rattle.ft_block.specs.declared.leaves.View.{View};
 ghost use Rattle.ft_shape.specs.Tree.{IsTree, IsApart, SumsBut, IsBare, height_of, length_of, total};
 ghost use Rattle.ft_block.specs.Tree.{SumsKeptBut, AreFromFloor, KeepsLengths, PairFits, by_view, by_size};
 ghost use Rattle.ft_block.specs.Inside.{IsRooted};
-ghost use Rattle.ft_shape.specs.Steps.{Regroups, Shares, ResumsPair, DropsRoot, IsPair, TakesLeaf, MovesLeaf};
+ghost use Rattle.ft_shape.specs.Steps.{Shares, ResumsPair, IsPair, TakesLeaf, MovesLeaf};
 
 use crate::grow::{grow, grow_front, nodes_needed};
 use crate::leaves::Leaf;
