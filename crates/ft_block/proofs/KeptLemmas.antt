@@ -10,7 +10,7 @@ use Rattle.ft_partial.specs.Tables.{Lengths, length_at, SameFrom, Exchanges}
 use Rattle.ft_shape.specs.declared.headed.Headed.{Headed}
 use Rattle.ft_block.specs.declared.summaries.Summary.{Summary}
 use Rattle.ft_block.specs.declared.leaves.View.{View}
-use Rattle.ft_block.specs.declared.leaves.View.TheVariants.{Of, Pending}
+use Rattle.ft_block.specs.declared.leaves.View.TheVariants.{Of, Pending, Removed}
 use Rattle.ft_block.specs.declared.leaves.LenView.TheVariants.{At, Stage, All}
 use Rattle.ft_block.specs.Leaves.{last_stage}
 use Rattle.ft_block.specs.Tree.{shows, shown_length, AreFromFloor, IsNodeFrom, kept_length, HasRange, KeepsExchange, KeepsNode}
@@ -20,8 +20,10 @@ exchanged_local : (local gone come : ℕ) → gone < 2 ^ 64
 exchanged_local local gone come h = omega arith
 
 -- the local length and the table after elements were exchanged
-pub exchange_keeps : (floor : ℕ) (old : Summary) (mid new : Lengths) (gone come settled pending n m : ℕ) (e f : Element) → n < 2 ^ 64 → gone < 2 ^ 64 → settled < 2 ^ 64
+pub exchange_keeps : (floor : ℕ) (old : Summary) (mid new : Lengths) (gone come settled pending cleared removed n m : ℕ) (e f : Element) → n < 2 ^ 64 → gone < 2 ^ 64
+    → settled < 2 ^ 64 → cleared < 2 ^ 64
     → gone ≡ amount (shows (Of last_stage) e) n → come ≡ amount (shows (Of last_stage) f) m → settled ≡ amount (shows Pending e) n → pending ≡ amount (shows Pending f) m
+    → cleared ≡ amount (shows Removed e) n → removed ≡ amount (shows Removed f) m
     → SameFrom floor old.table mid → mid.floor ≡ floor → Exchanges mid new e n f m
     → KeepsExchange floor old (record {
       whole = ((old.whole + (18446744073709551616 - n)) % 18446744073709551616 + m) % 18446744073709551616;
@@ -29,19 +31,24 @@ pub exchange_keeps : (floor : ℕ) (old : Summary) (mid new : Lengths) (gone com
           ((old.local + (18446744073709551616 - gone)) % 18446744073709551616 + come) % 18446744073709551616;
       pending =
           ((old.pending + (18446744073709551616 - settled)) % 18446744073709551616 + pending) % 18446744073709551616;
+      removed =
+          ((old.removed + (18446744073709551616 - cleared)) % 18446744073709551616 + removed) % 18446744073709551616;
       table = new;
     }) e n f m
-exchange_keeps floor old mid new gone come settled pending n m e f few l sl g k gs ks same from ex (Of (At at)) (low, high, conn) =
+exchange_keeps floor old mid new gone come settled pending cleared removed n m e f few l sl cl g k gs ks gr kr same from ex (Of (At at)) (low, high, conn) =
     ex at.r at.c (omega (arith, from, low)) high conn ∙ ap (λ (x : ℕ). (x + amount (shows (Of (At at)) f) m) % 2 ^ 64) (same at.r at.c low high conn)
-exchange_keeps floor old mid new gone come settled pending n m e f few l sl g k gs ks same from ex (Of (Stage s)) is =
+exchange_keeps floor old mid new gone come settled pending cleared removed n m e f few l sl cl g k gs ks gr kr same from ex (Of (Stage s)) is =
     let by_gone : amount (shows (Of (Stage s)) e) n ≡ gone = ap (λ v. amount (shows (Of v) e) n) is ∙ sym g in
     let by_come : amount (shows (Of (Stage s)) f) m ≡ come = ap (λ v. amount (shows (Of v) f) m) is ∙ sym k in
     ap (λ (x : ℕ). ((((old.local + (18446744073709551616 - gone)) % 18446744073709551616) + come) % 18446744073709551616 + x) % 2 ^ 64) by_gone
     ∙ exchanged_local old.local gone come l ∙ ap (λ (x : ℕ). (old.local + x) % 2 ^ 64) (sym by_come)
-exchange_keeps floor old mid new gone come settled pending n m e f few l sl g k gs ks same from ex (Of All) h = exchanged_local old.whole n m few
-exchange_keeps floor old mid new gone come settled pending n m e f few l sl g k gs ks same from ex Pending h =
+exchange_keeps floor old mid new gone come settled pending cleared removed n m e f few l sl cl g k gs ks gr kr same from ex (Of All) h = exchanged_local old.whole n m few
+exchange_keeps floor old mid new gone come settled pending cleared removed n m e f few l sl cl g k gs ks gr kr same from ex Pending h =
     ap (λ (x : ℕ). ((((old.pending + (18446744073709551616 - settled)) % 18446744073709551616) + pending) % 18446744073709551616 + x) % 2 ^ 64) (sym gs)
     ∙ exchanged_local old.pending settled pending sl ∙ ap (λ (x : ℕ). (old.pending + x) % 2 ^ 64) ks
+exchange_keeps floor old mid new gone come settled pending cleared removed n m e f few l sl cl g k gs ks gr kr same from ex Removed h =
+    ap (λ (x : ℕ). ((((old.removed + (18446744073709551616 - cleared)) % 18446744073709551616) + removed) % 18446744073709551616 + x) % 2 ^ 64) (sym gr)
+    ∙ exchanged_local old.removed cleared removed cl ∙ ap (λ (x : ℕ). (old.removed + x) % 2 ^ 64) kr
 
 small : (x : ℕ) → x < 2 ^ 64 → x % 2 ^ 64 ≡ x
 small x h = omega arith
@@ -52,6 +59,7 @@ kept_low v h (Of (At at)) = omega arith
 kept_low v h (Of (Stage k)) = h.0
 kept_low v h (Of All) = h.1
 kept_low v h Pending = h.2
+kept_low v h Removed = h.3
 
 amount_none : (b : Bool) → amount b 0 ≡ 0
 amount_none true = refl

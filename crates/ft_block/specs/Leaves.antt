@@ -1,6 +1,8 @@
 -- What a contract sees of `Blocks`: the leaves in order, and what is read of such a list.
-use Rattle.std.specs.Prelude.{ℕ, ◌+◌, ◌-◌, ◌≤◌, ◌==◌, Bool, true, List, [], ◌∷◌, Option, Some, None, nat_le, if◌then◌else◌}
+use Rattle.std.specs.Prelude.{ℕ, ◌+◌, ◌-◌, ◌≤◌, ◌==◌, Bool, true, false, List, [], ◌∷◌, Option, Some, None, nat_le, if◌then◌else◌}
 use Rattle.ft_base.specs.declared.elements.Element.{Element}
+use Rattle.ft_base.specs.declared.stamps.Stamp.{Stamp}
+use Rattle.ft_base.specs.declared.stamps.Stamp.TheVariants.{Acked}
 use Rattle.ft_base.specs.Visibility.{sees, seen_at}
 use Rattle.ft_block.specs.declared.leaves.LenView.{LenView}
 use Rattle.ft_block.specs.declared.leaves.LenView.TheVariants.{At, Stage, All}
@@ -20,6 +22,15 @@ sees_in (At at) e = sees e at.r at.c
 sees_in (Stage k) e = seen_at e k
 sees_in All e = true
 
+-- the first of these stamps is sequenced
+abbrev pub is_first_sequenced : List Stamp → Bool
+is_first_sequenced (Acked seq conn ∷ stamps) = true
+is_first_sequenced _ = false
+
+-- the element's first removal is sequenced
+abbrev pub is_removed : Element → Bool
+is_removed e = is_first_sequenced e.dels
+
 -- the view is no perspective with a reference number below the floor
 abbrev pub IsFromFloor : ℕ → LenView → Type 0
 IsFromFloor floor (At at) = floor ≤ at.r
@@ -38,6 +49,10 @@ module _ {L : Type 0} where
   -- the same at the last stage
   abbrev pub local_length : (L → ℕ) → (L → Element) → L → ℕ
   local_length size element = seen_length size element last_stage
+
+  -- how many of a leaf's elements have a sequenced removal first
+  abbrev pub removed_length : (L → ℕ) → (L → Element) → L → ℕ
+  removed_length size element leaf = if is_removed (element leaf) then size leaf else 0
 
   -- the nodes of the leaves
   abbrev pub ids : List (ℕ × L) → List ℕ

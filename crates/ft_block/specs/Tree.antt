@@ -14,8 +14,8 @@ use Rattle.ft_block.specs.declared.leaves.LenView.TheVariants.{At, Stage, All}
 use Rattle.ft_partial.specs.StepFunctions.{amount}
 use Rattle.ft_partial.specs.Tables.{length_at}
 use Rattle.ft_block.specs.declared.leaves.View.{View}
-use Rattle.ft_block.specs.declared.leaves.View.TheVariants.{Of, Pending}
-use Rattle.ft_block.specs.Leaves.{sees_in, IsFromFloor, last_stage}
+use Rattle.ft_block.specs.declared.leaves.View.TheVariants.{Of, Pending, Removed}
+use Rattle.ft_block.specs.Leaves.{sees_in, is_removed, IsFromFloor, last_stage}
 
 -- the stamp is pending
 abbrev pub is_pending : Stamp → Bool
@@ -30,31 +30,35 @@ has_pending e = is_pending e.ins || list_any is_pending e.dels
 abbrev pub shows : View → Element → Bool
 shows (Of view) e = sees_in view e
 shows Pending e = has_pending e
+shows Removed e = is_removed e
 
--- what a block keeps of a view: its table's answer to a perspective, one length for stages, its size, and how many of its
--- elements have a pending stamp
+-- what a block keeps of a view: its table's answer to a perspective, one length for stages, its size, how many of its
+-- elements have a pending stamp, and how many have a sequenced removal first
 abbrev pub kept_length : View → Summary → ℕ
 kept_length (Of (At at)) v = length_at v.table at.r at.c
 kept_length (Of (Stage k)) v = v.local
 kept_length (Of All) v = v.whole
 kept_length Pending v = v.pending
+kept_length Removed v = v.removed
 
 -- the view is no perspective with a reference number below the floor
 abbrev pub IsFrom : ℕ → View → Type 0
 IsFrom floor (Of view) = IsFromFloor floor view
 IsFrom floor Pending = Unit {0}
+IsFrom floor Removed = Unit {0}
 
--- the blocks keep the lengths of this view: it counts all or what is pending, or is that at the last stage, or of a
+-- the blocks keep the lengths of this view: it counts all, what is pending or what is removed, or is that at the last stage, or of a
 -- perspective from the floor up
 abbrev pub KeepsLengths : ℕ → View → Type 0
 KeepsLengths floor (Of (At at)) = (floor ≤ at.r) × (at.r < 2 ^ 64) × (at.c < 2 ^ 32)
 KeepsLengths floor (Of (Stage k)) = Stage k ≡ last_stage
 KeepsLengths floor (Of All) = Unit {0}
 KeepsLengths floor Pending = Unit {0}
+KeepsLengths floor Removed = Unit {0}
 
 -- the lengths that are kept as numbers are below 2 ^ 64
 abbrev pub HasRange : Summary → Type 0
-HasRange v = (v.local < 2 ^ 64) × (v.whole < 2 ^ 64) × (v.pending < 2 ^ 64)
+HasRange v = (v.local < 2 ^ 64) × (v.whole < 2 ^ 64) × (v.pending < 2 ^ 64) × (v.removed < 2 ^ 64)
 
 -- nothing is seen in any view
 abbrev pub KeepsNothing : ℕ → Summary → Type 0

@@ -104,6 +104,7 @@ impl<L: Leaf> Blocks<L> {
       value_after,
       join_leaf,
       local_length,
+      removed_length,
       seen_length,
       IsFromFloor,
     };
@@ -222,6 +223,22 @@ impl<L: Leaf> Blocks<L> {
         ensures depth { 4 ^ self.now.depth ≤ length self.now.leaves + 1 }
     {
         self.find_in(p, View::Of(LenView::All), steps)
+    }
+
+    /// The leaf that holds the `p`-th of the elements whose first removal is sequenced, and how many of these
+    /// stand in it up to that one; the head of the list for `p` = 0. Each read of a node is one step, and a block
+    /// without such elements is passed by one.
+    ///
+    /// Answers `OutOfRange` exactly where `p` is above the number of these elements.
+    pub fn find_removed<G: Ledger>(&self, p: u64, steps: &mut Steps<G>) -> Result<Found, OutOfRange>
+        requires { IsTrue self.now.usable }
+        ensures found { IfOk result (λ found. place_by (removed_length L.size L.element) self.now.leaves p ≡ Some found) }
+        ensures length { IfErr result (λ e. e.length ≡ length_by (removed_length L.size L.element) self.now.leaves) }
+        ensures beyond { IfErr result (λ e. e.length < p) }
+        ensures cost { steps.new ≤ steps.old + 9 * (self.now.depth + 1) }
+        ensures depth { 4 ^ self.now.depth ≤ length self.now.leaves + 1 }
+    {
+        self.find_in(p, View::Removed, steps)
     }
 
     /// The leaf that holds the `p`-th element that a pending stage sees, and how many of its elements stand

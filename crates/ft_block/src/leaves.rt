@@ -4,7 +4,7 @@ ghost use Rattle.std.specs.Prelude.{◌≡◌, ℕ, ◌+◌, ◌<◌, ◌≤◌,
 ghost use Rattle.std.specs.List.{list_any};
 ghost use Rattle.ft_base.specs.declared.elements.Element.{Element};
 ghost use Rattle.ft_partial.specs.StepFunctions.{amount};
-ghost use Rattle.ft_block.specs.Leaves.{sees_in, IsFromFloor};
+ghost use Rattle.ft_block.specs.Leaves.{sees_in, is_removed, IsFromFloor};
 ghost use Rattle.ft_block.specs.Tree.{KeepsLengths, is_pending, has_pending, shows, shown_length};
 ghost use Rattle.ft_block.specs.declared.leaves.LenView.TheVariants.{Stage};
 ghost use Rattle.ft_block.specs.declared.leaves.View.TheVariants.{Of};
@@ -112,13 +112,15 @@ pub enum LenView {
     All,
 }
 
-/// What is counted of leaves: the elements that a view sees, or those with a pending stamp.
+/// What is counted of leaves: the elements that a view sees, those with a pending stamp, or the removed ones.
 #[derive(Clone, Copy)]
 pub(crate) enum View {
     /// The elements that this view sees.
     Of(LenView),
     /// The elements with a pending stamp, seen or not.
     Pending,
+    /// The elements whose first removal is sequenced.
+    Removed,
 }
 
 /// Whether the view sees the element.
@@ -156,6 +158,16 @@ fn has_pending(e: &Element) -> bool
     is_pending(&e.ins) || is_any_pending(e.dels.as_slice())
 }
 
+/// Whether the element's first removal is sequenced.
+fn is_removed(e: &Element) -> bool
+    ensures { result ≡ is_removed e.now }
+{
+    match e.dels.as_slice().first() {
+        Some(Stamp::Acked { .. }) => true,
+        Some(Stamp::Local { .. }) | None => false,
+    }
+}
+
 /// Whether the view counts the element.
 fn shows(e: &Element, view: View) -> bool
     ensures { result ≡ shows view e.now }
@@ -163,6 +175,7 @@ fn shows(e: &Element, view: View) -> bool
     match view {
         View::Of(view) => sees_in(e, view),
         View::Pending => has_pending(e),
+        View::Removed => is_removed(e),
     }
 }
 

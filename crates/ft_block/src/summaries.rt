@@ -11,13 +11,14 @@ use ft_partial::{Table, stamps_of};
 use ft_shape::Headed;
 use std::alloc::Global;
 
-/// What a block keeps: how many elements its leaves have, how many of them the local view sees, how many have a pending stamp, and a table of how many each
-/// perspective sees.
+/// What a block keeps: how many elements its leaves have, how many of them the local view sees, how many have a pending stamp, how many have a
+/// sequenced removal first, and a table of how many each perspective sees.
 #[derive(Drop)]
 pub(crate) struct Summary {
     pub(crate) whole: u64,
     pub(crate) local: u64,
     pub(crate) pending: u64,
+    pub(crate) removed: u64,
     pub(crate) table: Table,
 }
 
@@ -33,6 +34,7 @@ impl Summary {
             whole: 0,
             local: 0,
             pending: 0,
+            removed: 0,
             table,
         }
     }
@@ -47,6 +49,7 @@ impl Summary {
             View::Of(LenView::Stage(_)) => self.local,
             View::Of(LenView::All) => self.whole,
             View::Pending => self.pending,
+            View::Removed => self.removed,
         }
     }
 
@@ -73,9 +76,12 @@ impl Summary {
         let come = shown_in(new, new_len, last);
         let settled = shown_in(e, len, View::Pending);
         let pending = shown_in(new, new_len, View::Pending);
+        let cleared = shown_in(e, len, View::Removed);
+        let removed = shown_in(new, new_len, View::Removed);
         self.whole = self.whole.wrapping_sub(len).wrapping_add(new_len);
         self.local = self.local.wrapping_sub(gone).wrapping_add(come);
         self.pending = self.pending.wrapping_sub(settled).wrapping_add(pending);
+        self.removed = self.removed.wrapping_sub(cleared).wrapping_add(removed);
         self.table.fold_to(floor);
         self.table.exchange(stamps, e, len, new, new_len)
     }
@@ -91,6 +97,7 @@ impl Summary {
         self.whole = self.whole.wrapping_add(other.whole);
         self.local = self.local.wrapping_add(other.local);
         self.pending = self.pending.wrapping_add(other.pending);
+        self.removed = self.removed.wrapping_add(other.removed);
         self.table.add_all(&other.table)
     }
 }
