@@ -3,7 +3,7 @@
 ghost use Rattle.std.specs.Prelude.{◌≡◌, ◌<◌, ◌≤◌, IsTrue};
 ghost use Rattle.ft_block.specs.declared.leaves.LenView.TheVariants.{All, At, Stage};
 ghost use Rattle.ft_block.specs.Leaves.{IsFromFloor, last_stage, place_by};
-ghost use Rattle.ft_leaves.specs.LeafLists.{leaf_length};
+ghost use Rattle.ft_leaves.specs.LeafLists.{leaf_length, leaf_removed};
 
 use ft_base::{Perspective, Steps};
 use ft_block::{Blocks, Found, LenView};
@@ -66,6 +66,40 @@ fn find_of_all<C: Content, G: Ledger>(
         Ok(found) => Some(found),
         Err(_) => None,
     }
+}
+
+/// The place of the `p`-th element whose first removal is sequenced.
+fn find_of_removed<C: Content, G: Ledger>(
+    blocks: &Blocks<TreeLeaf<C>>,
+    p: u64,
+    steps: &mut Steps<G>,
+) -> Option<Found>
+    requires { IsTrue blocks.now.usable }
+    ensures { result ≡ place_by (leaf_removed C.units) blocks.now.leaves p }
+{
+    match blocks.find_removed(p, steps) {
+        Ok(found) => Some(found),
+        Err(_) => None,
+    }
+}
+
+/// The leaf that holds the `p`-th of the elements whose first removal is sequenced, and how many of these stand in it
+/// up to that one; the head of the list for `p` = 0. None exactly where `p` is above their number.
+///
+/// It reads a few nodes on each level.
+pub fn find_removed_leaf<C: Content, G: Ledger>(
+    blocks: &Blocks<TreeLeaf<C>>,
+    p: u64,
+    blank: Blank,
+) -> Option<Found>
+    requires name { blank.name ≡ G.name }
+    requires parts { blank.parts ≡ G.parts }
+    requires one { 0 < blank.parts }
+    requires usable { IsTrue blocks.now.usable }
+    ensures { result ≡ place_by (leaf_removed C.units) blocks.now.leaves p }
+{
+    let mut steps = Steps::<G>::new(blank);
+    find_of_removed(blocks, p, &mut steps)
 }
 
 /// The leaf that holds the `p`-th element that the view sees, and how many of its elements stand up to that

@@ -4,7 +4,7 @@ use Rattle.ft_base.specs.declared.stamps.Stamp.{Stamp}
 use Rattle.ft_base.specs.Scan.{len}
 use Rattle.ft_base.specs.Visibility.{is_acked}
 use Rattle.ft_block.specs.declared.leaves.LenView.{LenView}
-use Rattle.ft_block.specs.Leaves.{seen_length}
+use Rattle.ft_block.specs.Leaves.{removed_length, seen_length}
 use Rattle.ft_leaves.specs.declared.leaves.TreeLeaf.{TreeLeaf}
 use Rattle.ft_leaves.specs.Elements.{TreeElement, elements_with}
 
@@ -20,6 +20,10 @@ module _ {C U : Type 0} where
 -- how many elements of a leaf the view sees
 abbrev pub leaf_length : {C U : Type 0} → (C → List U) → LenView → TreeLeaf C → ℕ
 leaf_length {C} units view x = seen_length (λ (y : TreeLeaf C). length (units y.content)) (λ (y : TreeLeaf C). y.stamps) view x
+
+-- how many elements of a leaf have a sequenced removal first
+abbrev pub leaf_removed : {C U : Type 0} → (C → List U) → TreeLeaf C → ℕ
+leaf_removed {C} units x = removed_length (λ (y : TreeLeaf C). length (units y.content)) (λ (y : TreeLeaf C). y.stamps) x
 
 -- the nodes of before stand among the nodes of now in their order
 pub data Extends : List ℕ → List ℕ → Type 0 where

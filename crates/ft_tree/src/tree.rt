@@ -5,14 +5,14 @@ ghost use Rattle.std.specs.Prelude.{false, ◌≡◌, ◌≤◌, [], None, IfOk,
 ghost use Rattle.ft_base.specs.Scan.{len};
 ghost use Rattle.ft_block.specs.Leaves.{IsFromFloor, IsLeafIn, IsPlaceIn, left_of, place_by};
 ghost use Rattle.ft_leaves.specs.Elements.{seen_in};
-ghost use Rattle.ft_leaves.specs.LeafLists.{elements, leaf_length};
+ghost use Rattle.ft_leaves.specs.LeafLists.{elements, leaf_length, leaf_removed};
 ghost use Rattle.ft_props.specs.Properties.{max_safe_integer};
 
 use ft_arena::NodeId;
 use ft_base::{Element, OutOfMemory};
 use ft_block::{Found, LenView};
 use ft_leaf_blocks::LeafBlocks;
-use ft_leaf_steps::finds::find_leaf;
+use ft_leaf_steps::finds::{find_leaf, find_removed_leaf};
 use ft_leaf_steps::places::{seen_count, seen_left};
 use ft_leaf_steps::stamp_lists::all_stamps;
 use ft_leaves::Content;
@@ -132,6 +132,16 @@ impl<C: Content> Tree<C> {
         ensures { result ≡ place_by (leaf_length C.units view) self.now.leaves p }
     {
         find_leaf::<C, Brand>(self.blocks.list(), p, view, Blank::new(1))
+    }
+
+    /// The leaf that holds the `p`-th of the elements whose first removal is sequenced, and how many of these stand in it
+    /// up to that one; the head of the list for `p` = 0. None exactly where `p` is above their number. It reads a few
+    /// nodes on each level.
+    pub fn find_removed(&self, p: u64) -> Option<Found>
+        requires { IsTrue self.now.usable }
+        ensures { result ≡ place_by (leaf_removed C.units) self.now.leaves p }
+    {
+        find_removed_leaf::<C, Brand>(self.blocks.list(), p, Blank::new(1))
     }
 
     /// How many elements that the view sees stand left of a leaf.
