@@ -6,5 +6,6 @@ pub mod SweptLeaves
 pub mod SweepSteps
 pub mod BothSweeps
 pub mod WholeSweeps
+pub mod CollectedLeaves
 pub mod LookedLeaves
 pub mod SweptElements

@@ -32,7 +32,7 @@ last_live before kept behind (Some l) e = omega
     (arith, last-in kept l (sym e), times-append before (kept ++ behind) l, times-append kept behind l)
 
 module _ {U : Type 0} where
-  untouched : (before behind : List (TreeElement U)) (i : ℕ) → place_among (map unmarked before ++ ([] ++ map unmarked behind)) i ≡ i
+  pub untouched : (before behind : List (TreeElement U)) (i : ℕ) → place_among (map unmarked before ++ ([] ++ map unmarked behind)) i ≡ i
   untouched before behind i =
       omega (
         arith,

@@ -157,7 +157,7 @@ module _ {C U : Type 0} (units : C → List U) (by : C → Option Stamp) where
       pub alone : (times_leaf left id ≡ 0) × (times_leaf tail id ≡ 0)
       alone = apart left tail id v (λ z. subst (λ (ys : List (ℕ × TreeLeaf C)). times_leaf ys z ≤ 1) now_at (once z))
 
-      value : value_at now.leaves id ≡ Some v
+      pub value : value_at now.leaves id ≡ Some v
       value = ap (λ ys. value_at ys id) now_at ∙ value-split id v tail left alone.0
 
       left_is : left_of now.leaves id ≡ left

@@ -1,11 +1,9 @@
--- A sweep over all leaves.
-use Rattle.std.proofs.Common.{◌≡◌, ℕ, zero, suc, ◌-◌, ◌≤◌, Bool, true, false, cond, not, nat_le, All, List, [], ◌∷◌, ◌++◌, length, map, take, drop, filter, Option, Some, None, refl, sym, ◌∙◌, ap, arith, append-nil, length-append}
+-- What is left of a sweep over all leaves, and a sweep that looks at none.
+use Rattle.std.proofs.Common.{◌≡◌, ℕ, zero, suc, ◌-◌, ◌≤◌, Bool, true, false, cond, not, All, List, [], ◌∷◌, ◌++◌, length, map, filter, Option, Some, None, refl, sym, ◌∙◌, ap, arith, length-append}
 use Rattle.std.specs.List.{AllByRecursion as ByRecursion}
 use Rattle.std.proofs.lemmas.List.Elements.{All-from_recursion, recursion_from_All}
-use Rattle.ft_arena.specs.Ids.{first}
 use Rattle.ft_base.specs.declared.stamps.Stamp.{Stamp}
 use Rattle.ft_base.specs.Scan.{one_more_if}
-use Rattle.ft_block.specs.Leaves.{ids}
 use Rattle.ft_leaves.specs.declared.leaves.TreeLeaf.{TreeLeaf}
 use Rattle.ft_leaves.specs.declared.references.Reference.{Reference}
 use Rattle.ft_leaves.specs.Edits.{with_place}
@@ -13,18 +11,17 @@ use Rattle.ft_leaves.specs.Elements.{TreeElement}
 use Rattle.ft_leaves.specs.LeafLists.{elements, leaf_elements}
 use Rattle.ft_leaves.specs.Places.{seen_before}
 use Rattle.ft_leaves.specs.References.{ChangesReferences}
-use Rattle.ft_zamboni.specs.Scours.{Writes, ahead, around, is_collectable, left_over, looked_at, marked, marks, next_sweep, place_among, staying, swept, unmarked}
+use Rattle.ft_zamboni.specs.Scours.{Writes, ahead, around, is_collectable, left_over, marks, place_among, staying, swept}
 use Rattle.ft_zamboni.specs.Scours.Writes.{none, same, universal}
-use Rattle.ft_zamboni.proofs.LookedLists.{take-all}
 use Rattle.ft_zamboni.proofs.Marks.{gone-stay, stay, staying-stay}
-use Rattle.ft_zamboni.proofs.PassedReferences.{changes-none, changes-same}
+use Rattle.ft_zamboni.proofs.PassedReferences.{changes-none}
 use Rattle.ft_zamboni.proofs.Writing.{writes-same}
 use Rattle.ft_leaf_blocks.proofs.Walks.{before-from}
 use Rattle.ft_leaves.proofs.LeafRuns.{elements-append, length-leaf}
 use Rattle.std.proofs.lemmas.List.{map-append}
 
 module _ {A : Type 0} (test : A → Bool) where
-  staying-all : (es : List A) → staying (map (λ e. (test e, e)) es) ≡ filter (λ e. not (test e)) es
+  pub staying-all : (es : List A) → staying (map (λ e. (test e, e)) es) ≡ filter (λ e. not (test e)) es
   staying-all [] = refl
   staying-all (e ∷ es) = step (test e) (staying-all es)
     where
@@ -33,7 +30,7 @@ module _ {A : Type 0} (test : A → Bool) where
           ≡ cond (not b) (e ∷ filter (λ e. not (test e)) es) (filter (λ e. not (test e)) es)
       step b h = ap (λ zs. cond (not b) (e ∷ zs) zs) h
 
-  gone-all : (es : List A) (i : ℕ) → seen_before (λ (x : Bool × A). x.0) (map (λ e. (test e, e)) es) i ≡ seen_before test es i
+  pub gone-all : (es : List A) (i : ℕ) → seen_before (λ (x : Bool × A). x.0) (map (λ e. (test e, e)) es) i ≡ seen_before test es i
   gone-all es zero = refl
   gone-all [] (suc i) = refl
   gone-all (e ∷ es) (suc i) = ap (one_more_if (test e)) (gone-all es i)
@@ -77,44 +74,6 @@ module _ {C U : Type 0} (units : C → List U) (by : C → Option Stamp) where
 
   pub few-leaves : (xs : List (ℕ × TreeLeaf C)) → All (λ x. 1 ≤ length (units x.1.content)) xs → length xs ≤ length (elements units by xs)
   few-leaves xs h = few_by xs (recursion_from_All (λ (x : ℕ × TreeLeaf C). 1 ≤ length (units x.1.content)) xs h)
-
-  module _ (floor n : ℕ) (xs : List (ℕ × TreeLeaf C)) (all : length xs ≤ n) where
-    nothing : (k : ℕ) → marks units by floor k [] ≡ []
-    nothing k = let t = take-all {A = ℕ × TreeLeaf C} [] k (omega arith) in rw (t.0, t.1) refl
-
-    whole_marks : swept units by floor n xs None ≡ map (marked floor) (elements units by xs)
-    whole_marks =
-        let t = take-all xs n all in
-        ap (λ ms. ms ++ marks units by floor n xs) (nothing (n - length xs))
-        ∙ ap (λ ys. map (marked floor) (elements units by ys) ++ map unmarked (elements units by (drop n xs))) t.0
-        ∙ ap (λ ys. map (marked floor) (elements units by xs) ++ map unmarked (elements units by ys)) t.1
-        ∙ append-nil (map (marked floor) (elements units by xs))
-
-    pub whole-looked : looked_at n xs None ≡ xs
-    whole-looked =
-        ap (λ ys. ys ++ take (n - length xs) []) (take-all xs n all).0
-        ∙ ap (λ ys. xs ++ ys) (take-all {A = ℕ × TreeLeaf C} [] (n - length xs) (omega arith)).0 ∙ append-nil xs
-
-    next_by : (b : Bool) → cond b (first (ids (drop n xs))) (first (ids (drop {A = ℕ × TreeLeaf C} (n - length xs) []))) ≡ None
-    next_by true = ap (λ (ys : List (ℕ × TreeLeaf C)). first (ids ys)) (take-all xs n all).1
-    next_by false = ap (λ (ys : List (ℕ × TreeLeaf C)). first (ids ys)) (take-all {A = ℕ × TreeLeaf C} [] (n - length xs) (omega arith)).1
-
-    pub whole-next : next_sweep n xs None ≡ None
-    whole-next = next_by (nat_le n (length xs))
-
-    pub whole-staying : staying (swept units by floor n xs None) ≡ filter (λ e. not (is_collectable floor e.stamps)) (elements units by xs)
-    whole-staying = ap staying whole_marks ∙ staying-all (λ (e : TreeElement U). is_collectable floor e.stamps) (elements units by xs)
-
-    whole_place : (i : ℕ) → place_among (swept units by floor n xs None) i
-        ≡ i - seen_before (λ (e : TreeElement U). is_collectable floor e.stamps) (elements units by xs) i
-    whole_place i = ap (λ ms. place_among ms i) whole_marks
-        ∙ ap (λ k. i - k) (gone-all (λ (e : TreeElement U). is_collectable floor e.stamps) (elements units by xs) i)
-
-    pub whole-refs : (old new : List (ℕ × Reference))
-        → ChangesReferences (with_place (place_among (swept units by floor n xs None))) old new
-        → ChangesReferences (with_place
-        (λ i. i - seen_before (λ (e : TreeElement U). is_collectable floor e.stamps) (elements units by xs) i)) old new
-    whole-refs old new c = changes-same _ _ old new whole_place c
 
   -- a sweep that looks at nothing
   module _ (floor n : ℕ) (xs : List (ℕ × TreeLeaf C)) (sweep : Option ℕ) (zero_is : n ≡ 0) where

@@ -6,9 +6,11 @@ ghost use Rattle.ft_leaves.specs.Edits.{with_place};
 ghost use Rattle.ft_leaves.specs.LeafLists.{elements};
 ghost use Rattle.ft_leaves.specs.Places.{seen_before};
 ghost use Rattle.ft_leaves.specs.References.{ChangesReferences};
+ghost use Rattle.ft_zamboni.specs.Collections.{CollectsAll};
 ghost use Rattle.ft_zamboni.specs.Scours.{AreClear, Writes, collected, is_collectable, looked_at, next_sweep, place_among, staying, swept};
 ghost use Rattle.ft_zamboni.specs.Sweeps.{Rounds, next_start, start};
 
+use crate::removals::collect;
 use crate::sweeps::{Reached, sweep};
 use ft_arena::NodeId;
 use ft_base::OutOfMemory;
@@ -124,8 +126,11 @@ fn next_start(ahead: &Reached, around: &Reached) -> Option<NodeId>
     }
 }
 
-/// Raises the floor, looks at all leaves in order, and takes out those that were removed at or below it. Adds their
+/// Raises the floor, goes along all leaves in order, and takes out those that were removed at or below it. Adds their
 /// contents to `taken`, and answers how many they were. It may join others, as `scour` does.
+///
+/// It goes from one leaf with a sequenced removal to the next, by a few reads on each level of the tree; the others
+/// cost nothing.
 ///
 /// Answers `OutOfMemory` where there is no room for what is kept, and then the tree may be used no more.
 pub fn scour_all<C: Content + Drop>(
@@ -150,8 +155,26 @@ pub fn scour_all<C: Content + Drop>(
     ensures usable { OnOk result (tree.new.usable ≡ true) }
     ensures err { OnErr result (tree.new.usable ≡ false) }
 {
-    // How few leaves there are is read off its contract.
-    let _first = tree.first_leaf();
-    tree.set_sweep(None);
-    scour(tree, floor, u64::MAX, taken)
+    tree.raise_floor(floor);
+    let before = taken.len();
+    collect_all(tree, taken)?;
+    Ok((taken.len() - before) as u64)
+}
+
+/// Looks at all leaves, as `scour_all` does.
+///
+/// Answers `OutOfMemory` where there is no room for what is kept, and then the tree may be used no more.
+fn collect_all<C: Content + Drop>(tree: &mut Tree<C>, taken: &mut Vec<C>) -> Result<(), OutOfMemory>
+    requires usable { IsTrue tree.old.usable }
+    requires clear { AreClear tree.old.floor (elements C.units C.by tree.old.leaves) tree.old.refs }
+    ensures all { OnOk result (CollectsAll C.units C.by tree.old tree.new taken.old.items taken.new.items) }
+    ensures err { OnErr result (tree.new.usable ≡ false) }
+{
+    match collect(tree, taken) {
+        Ok(()) => Ok(()),
+        Err(e) => {
+            tree.spoil();
+            Err(e)
+        }
+    }
 }

@@ -2,6 +2,7 @@
 #![tactic(auto)]
 
 pub mod compaction;
+mod removals;
 mod sweeps;
 
 pub use compaction::{scour, scour_all};

@@ -48,7 +48,7 @@ fn short_of(place: Option<NodeId>, end: &Option<NodeId>) -> Option<NodeId>
 /// last, if the two may be joined. Answers which leaf was kept last now.
 ///
 /// Answers `OutOfMemory` where there is no room for what is kept.
-fn look_at<C: Content + Drop>(
+pub(crate) fn look_at<C: Content + Drop>(
     tree: &mut Tree<C>,
     id: NodeId,
     last: Option<NodeId>,
