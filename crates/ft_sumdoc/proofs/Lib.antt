@@ -17,3 +17,4 @@ pub mod NoNulls
 pub mod ReadObjects
 pub mod DistinctNames
 pub mod RisingRemovals
+pub mod PutFields

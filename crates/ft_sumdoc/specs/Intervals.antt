@@ -30,6 +30,14 @@ is_given_interval_before i j = is_name_before i.label i.id j.label j.id
 abbrev pub interval_with : ℕ → Characters → Characters → Ends2 → GivenProps → Option GivenInterval
 interval_with n label id ends props = where_true (are_shown_ends n ends) (record { label = label; id = id; ends = ends; props = props })
 
+-- the interval of this label, this id and the values behind them: start, end, properties
+abbrev pub interval_behind : ℕ → Characters → Characters → Data → Data → Data → Option GivenInterval
+interval_behind n label id s e p = do
+  start ← place_number s
+  end ← place_number e
+  props ← props_form p
+  interval_with n label id (record { start = start; end = end }) props
+
 -- the interval of five values: label, id, start, end, properties
 abbrev pub interval_of_five : ℕ → List Data → Option GivenInterval
 interval_of_five n (l ∷ i ∷ s ∷ e ∷ p ∷ []) = do

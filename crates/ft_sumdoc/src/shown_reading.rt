@@ -9,7 +9,7 @@ ghost use Rattle.ft_op.specs.Reading.{read_each};
 ghost use Rattle.ft_sumdoc.specs.Cells.{cell_form, cell_of_three, cells_form, is_given_cell_before, is_place_before};
 ghost use Rattle.ft_sumdoc.specs.Faults.{field_of_summary};
 ghost use Rattle.ft_sumdoc.specs.Forms.{each_of, has_no_null, place_number, rises};
-ghost use Rattle.ft_sumdoc.specs.Intervals.{are_shown_ends, interval_form, interval_of_five, intervals_form, is_given_interval_before, is_name_before};
+ghost use Rattle.ft_sumdoc.specs.Intervals.{are_shown_ends, interval_behind, interval_form, interval_of_five, intervals_form, is_given_interval_before, is_name_before};
 ghost use Rattle.ft_sumdoc.specs.Items.{cell_of, interval_of};
 ghost use Rattle.ft_sumdoc.specs.Shown.{cells_of, intervals_of};
 ghost use Rattle.ft_sumdoc.specs.Valid.{HasValues, IsValue};
@@ -59,8 +59,21 @@ fn interval_of_five(elements: u64, values: &[Value]) -> Option<IntervalItem<'_>>
     let [label, id, start, end, props] = values else {
         return None;
     };
-    let label = label.as_str()?;
-    let id = id.as_str()?;
+    interval_behind(elements, label.as_str()?, id.as_str()?, start, end, props)
+}
+
+/// The interval of this label, this id and three values, on so many elements.
+fn interval_behind<'a>(
+    elements: u64,
+    label: &'a str,
+    id: &'a str,
+    start: &Value,
+    end: &Value,
+    props: &'a Value,
+) -> Option<IntervalItem<'a>>
+    ensures { option_map interval_of result
+        ≡ interval_behind elements (chars label.now) (chars id.now) (view start.now) (view end.now) (view props.now) }
+{
     let start = place_number(start)?;
     let end = place_number(end)?;
     let props = props_item(props)?;

@@ -259,8 +259,9 @@ pub fn interval_value(alloc: Global, i: &IntervalRec) -> Result<Value, OutOfMemo
     ensures value { IfOk result (λ v. view v ≡ written_interval_record i.now) }
     ensures representable { IfOk result (λ _. IsRepresentableInterval i.now) }
 {
+    let (label, id) = (i.label.as_str(), i.id.as_str());
     let props = props_value(alloc, &i.props)?;
-    Ok(json!(in alloc; [i.label.as_str(), i.id.as_str(), i.ends.start, i.ends.end, props])?)
+    Ok(json!(in alloc; [label, id, i.ends.start, i.ends.end, props])?)
 }
 
 /// The arrays of intervals.
