@@ -1,7 +1,7 @@
 //! Intervals that the client adds to a text, each by an operation of a stage of its own.
 
 ghost use Rattle.std.specs.Prelude.{◌≡◌, ◌+◌, ◌<◌, ◌≤◌, ◌^◌, ℕ, IfOk, IsTrue, OnOk, true};
-ghost use Rattle.ft_leaves.specs.References.{IsReferenceIn};
+ghost use Rattle.ft_tree_leaves.specs.References.{IsReferenceIn};
 ghost use Rattle.ft_interval.specs.State.{IsAboveAll, IsLive, is_add};
 
 use ft_base::{OutOfMemory, Steps, Text};
@@ -9,8 +9,8 @@ use ft_block::LenView;
 use ft_interval::Collections;
 use ft_op::{Ends, TextOp};
 use ft_props::PropSet;
-use ft_text_steps::texts::{erase, write};
-use ft_text_steps::{Numbers, StepFault};
+use ft_tests_steps::texts::{erase, write};
+use ft_tests_steps::{Numbers, StepFault};
 use ft_tree::{TextContent, Tree};
 use std::alloc::Global;
 use std::sync::ledger::Ledger;

@@ -1,14 +1,14 @@
 //! Edits of a tree of text.
 
 ghost use Rattle.std.specs.Prelude.{◌≡◌, ◌+◌, ◌-◌, ◌<◌, ◌≤◌, IsTrue, IfOk, OnOk};
-ghost use Rattle.ft_text_steps.specs.Passing.{HasNoChanges};
+ghost use Rattle.ft_tests_steps.specs.Passing.{HasNoChanges};
 
 use crate::comments::{CommentCounts, comment};
 use ft_base::{Perspective, Steps};
 use ft_block::LenView;
 use ft_rebase::regenerate;
-use ft_text_steps::texts::{acknowledge, hear, strike, write};
-use ft_text_steps::{Numbers, StepFault};
+use ft_tests_steps::texts::{acknowledge, hear, strike, write};
+use ft_tests_steps::{Numbers, StepFault};
 use ft_tree::{TextContent, Tree};
 use std::alloc::Global;
 use std::marker::Brand;

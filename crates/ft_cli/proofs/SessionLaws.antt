@@ -9,7 +9,7 @@ use Rattle.ft_seqr.specs.EventGrammar.{event}
 use Rattle.ft_seqr.specs.SessionReport.{Shows, answer, answer_reading, as_applied, as_shown, take_line}
 use Rattle.ft_seqr.specs.Walk.{Progress, after_item, after_items, begin, is_blank, is_too_long, line_limit, passes, progress_after, refuses, step_of}
 use Rattle.ft_seqr.specs.World.{NaiveWorld, Stepped, new_world, step}
-use Rattle.ft_worlds.specs.Reports.{OpenedReportsAreOne, ReportsAreOne}
+use Rattle.ft_laws_sessions.specs.Reports.{OpenedReportsAreOne, ReportsAreOne}
 use Rattle.ft_cli.specs.declared.statuses.Status.{Status}
 use Rattle.ft_cli.specs.declared.statuses.Status.TheVariants.{Done, SomeRefused, Usage, ReadFault, WriteFault, OutOfMemory, InputLimit}
 use Rattle.ft_cli.specs.declared.words.Form.TheVariants.{Session}

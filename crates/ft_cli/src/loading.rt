@@ -10,11 +10,11 @@ ghost use Rattle.ft_cli.specs.Loading.{load_reading};
 use crate::listener::{INPUT_LIMIT, LINE_LIMIT, Listener, Told};
 use crate::observer::Observer;
 use ft_base::OutOfMemory;
+use ft_laws_sessions::formed::read_summaries_name_few;
 use ft_msg::Replica;
 use ft_seqr::Refusal;
 use ft_session::Counts;
 use ft_sumdoc::{SumFault, read_summary};
-use ft_worlds::formed::read_summaries_name_few;
 use std::alloc::Global;
 
 /// The observer of a summary and the messages behind it.

@@ -23,7 +23,7 @@ use crate::session::SessionRun;
 use crate::statuses::{Fault, Status};
 use crate::words::{Form, read_words};
 use ft_io::{Line, LineFault, Lines, Sink, Source};
-use ft_worlds::worlds::reports_are_one;
+use ft_laws_sessions::worlds::reports_are_one;
 use std::alloc::Global;
 
 /// Does what the words ask for: reads the source to its end, and writes the report to the sink, line by

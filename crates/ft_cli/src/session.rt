@@ -11,9 +11,9 @@ use crate::RunReplica;
 use crate::event_lines::told_output;
 use crate::listener::{LINE_LIMIT, Listener, Told};
 use ft_base::OutOfMemory;
+use ft_laws_sessions::formed::reads_are_well_formed;
 use ft_seqr::{Event, Refusal, read_event};
 use ft_session::{Counts, World};
-use ft_worlds::formed::reads_are_well_formed;
 use std::alloc::Global;
 
 /// The session of a run: a world that takes the events that its lines are, and that always found

@@ -17,13 +17,13 @@ use Rattle.ft_props.specs.Properties.{PropertyList}
 use Rattle.ft_props.specs.Steps.{Sequence, acked_element, acked_id, acked_list, acked_props, acked_removal, acked_stamp, is_inserted_by, remaining_removal}
 use Rattle.ft_msg.specs.Acknowledgement.{ack_stage, ack_stages, made_before, renamed}
 use Rattle.ft_msg.specs.Answers.{count_held}
-use Rattle.ft_laws.specs.Reconnecting.{has_insertion_of, has_marks_of, has_removal_of, is_stage_of}
-use Rattle.ft_laws.specs.Sequencing.{Each, is_grid_stage}
-use Rattle.ft_laws.specs.Trimming.{has_ends_on, is_end_on}
-use Rattle.ft_laws.proofs.AgreedStage.{EndsStand, ends-stay}
-use Rattle.ft_laws.proofs.SlidEnds.{Once, Stands, is_standing_at}
-use Rattle.ft_names.specs.WellNamed.{IsWellNumbered, RiseTo, StandsIn}
-use Rattle.ft_names.proofs.AckedLists.{len-map, len-sum}
+use Rattle.ft_laws_agreement.specs.Reconnecting.{has_insertion_of, has_marks_of, has_removal_of, is_stage_of}
+use Rattle.ft_laws_agreement.specs.Sequencing.{Each, is_grid_stage}
+use Rattle.ft_laws_agreement.specs.Trimming.{has_ends_on, is_end_on}
+use Rattle.ft_laws_agreement.proofs.AgreedStage.{EndsStand, ends-stay}
+use Rattle.ft_laws_agreement.proofs.SlidEnds.{Once, Stands, is_standing_at}
+use Rattle.ft_laws_names.specs.WellNamed.{IsWellNumbered, RiseTo, StandsIn}
+use Rattle.ft_laws_names.proofs.AckedLists.{len-map, len-sum}
 use Rattle.ft_string.specs.Holds.{is_on_text}
 
 -- ---- one list

@@ -15,14 +15,14 @@ use Rattle.ft_props.specs.Element.{ElementId}
 use Rattle.ft_props.specs.Steps.{Sequence, acked_id, acked_list, is_inserted_by}
 use Rattle.ft_msg.specs.Acknowledgement.{ack_stage, ack_stages, made_before, renamed, renamed_names, renamed_stage}
 use Rattle.ft_msg.specs.Indexed.{IndexedStage, indexed_stage}
-use Rattle.ft_laws.specs.Sequencing.{is_grid_stage}
-use Rattle.ft_names.specs.GridFacts.{AreCounted, IsCounted, grid_stages}
-use Rattle.ft_names.specs.WellNamed.{AreWellNamed, HasItsStages, IsWellNumbered, RiseTo}
-use Rattle.ft_names.proofs.AckedLists.{stage-count}
-use Rattle.ft_names.proofs.Beside.{ends, next}
-use Rattle.ft_names.proofs.ClientsAlike.{ClientsAlike}
-use Rattle.ft_names.proofs.Indexing.{alike-itself, well-named}
-use Rattle.ft_names.proofs.OwnAlike.{AckedEdits, edit-alike, put-in-back, put-in-renamed, rise-renamed, stages-twice}
+use Rattle.ft_laws_agreement.specs.Sequencing.{is_grid_stage}
+use Rattle.ft_laws_names.specs.GridFacts.{AreCounted, IsCounted, grid_stages}
+use Rattle.ft_laws_names.specs.WellNamed.{AreWellNamed, HasItsStages, IsWellNumbered, RiseTo}
+use Rattle.ft_laws_names.proofs.AckedLists.{stage-count}
+use Rattle.ft_laws_names.proofs.Beside.{ends, next}
+use Rattle.ft_laws_names.proofs.ClientsAlike.{ClientsAlike}
+use Rattle.ft_laws_names.proofs.Indexing.{alike-itself, well-named}
+use Rattle.ft_laws_names.proofs.OwnAlike.{AckedEdits, edit-alike, put-in-back, put-in-renamed, rise-renamed, stages-twice}
 use Rattle.ft_matrix.specs.GridStates.{GridState}
 use Rattle.ft_matrix.specs.HoldsGrid.{HoldsGrid}
 use Rattle.ft_client.specs.declared.stages.OwnStage.{OwnStage}

@@ -8,9 +8,9 @@ use Rattle.ft_op.specs.Stages.{Stage}
 use Rattle.ft_msg.specs.declared.messages.Entry.{Entry}
 use Rattle.ft_msg.specs.Client.{NaiveClient, stages_of}
 use Rattle.ft_msg.specs.Process.{process_fault}
-use Rattle.ft_names.specs.GridFacts.{AreCounted, IsCounted}
-use Rattle.ft_names.specs.WellNamed.{AreWellNamed, RiseTo}
-use Rattle.ft_names.proofs.KeptGrids.{kept-counted}
+use Rattle.ft_laws_names.specs.GridFacts.{AreCounted, IsCounted}
+use Rattle.ft_laws_names.specs.WellNamed.{AreWellNamed, RiseTo}
+use Rattle.ft_laws_names.proofs.KeptGrids.{kept-counted}
 use Rattle.ft_replica.specs.Own.{HeldDocument, HoldsOne, NamesFit, acknowledged}
 use Rattle.ft_string.specs.Calls.{AreOldest, HoldsAcked, HoldsOldest}
 use Rattle.ft_string.specs.Holds.{HoldsText, IsTextSound}

@@ -16,10 +16,10 @@ use Rattle.ft_props.specs.Steps.{Sequence}
 use Rattle.ft_msg.specs.declared.messages.Entry.{Entry}
 use Rattle.ft_msg.specs.Acknowledgement.{ack_stages, renamed, renamed_stage}
 use Rattle.ft_msg.specs.Agreed.{with_numbers}
-use Rattle.ft_laws.specs.Reconnecting.{has_marks_of, inserts_text, is_stage_of, removes_text}
-use Rattle.ft_laws.specs.Sequencing.{Each, annotates_text, inserts_in, is_grid_stage, no_kind, removes_in}
-use Rattle.ft_names.specs.GridFacts.{grid_stages}
-use Rattle.ft_names.specs.WellNamed.{AreStagesNamed, AreThere, RiseTo, StandsIn}
+use Rattle.ft_laws_agreement.specs.Reconnecting.{has_marks_of, inserts_text, is_stage_of, removes_text}
+use Rattle.ft_laws_agreement.specs.Sequencing.{Each, annotates_text, inserts_in, is_grid_stage, no_kind, removes_in}
+use Rattle.ft_laws_names.specs.GridFacts.{grid_stages}
+use Rattle.ft_laws_names.specs.WellNamed.{AreStagesNamed, AreThere, RiseTo, StandsIn}
 use Rattle.ft_replica.specs.Own.{HeldDocument, NamesFit, acknowledged}
 use Rattle.ft_string.specs.Calls.{AreFrom, AreOldest, AreWithin, HoldsAcked}
 use Rattle.ft_string.specs.Holds.{HoldsText, IsTextSound, element_stages, interval_stages, is_on_text}

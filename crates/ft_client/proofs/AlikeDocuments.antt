@@ -22,17 +22,17 @@ use Rattle.ft_op.specs.Intervals.{Interval, NamedElements}
 use Rattle.ft_op.specs.Operation.{OnGrid, OnIntervals, OnText, SubOperation, segment_contents}
 use Rattle.ft_op.specs.Stages.{Stage}
 use Rattle.ft_msg.specs.Compacted.{interval_holds, stage_holds_text}
-use Rattle.ft_keep.specs.Free.{AreFree}
-use Rattle.ft_laws.specs.Reconnecting.{has_insertion_of, has_marks_of, has_removal_of, is_stage_of}
-use Rattle.ft_laws.specs.Sequencing.{Each, IsBlockOf, IsTyped, IsTypedGrid, IsTypedText, are_ends_in, is_marked_later}
-use Rattle.ft_laws.specs.Trimming.{has_ends_on, is_end_on}
-use Rattle.ft_names.specs.GridFacts.{AreCounted, IsCounted}
-use Rattle.ft_names.proofs.Beside.{beside-any, beside-both, beside-filter, beside-len, beside-more, ends, next}
-use Rattle.ft_names.proofs.DocumentsAlike.{DocsAlike}
-use Rattle.ft_names.proofs.IntervalsAlike.{IntervalsBeside, SettledAlike, away, intervals-more, on_sequenced, settled-ends}
-use Rattle.ft_names.proofs.LocalAlike.{StageAlike, StageNames, StagesBeside}
-use Rattle.ft_names.proofs.Twins.{BesideList, EndsAlike, IsTwin, Named, detached, on, same-of, there-other, twin-inserted, twin-pending, twin-unremoved, twins-of}
-use Rattle.ft_names.proofs.ViewsAlike.{named-alike}
+use Rattle.ft_laws_compaction.specs.Free.{AreFree}
+use Rattle.ft_laws_agreement.specs.Reconnecting.{has_insertion_of, has_marks_of, has_removal_of, is_stage_of}
+use Rattle.ft_laws_agreement.specs.Sequencing.{Each, IsBlockOf, IsTyped, IsTypedGrid, IsTypedText, are_ends_in, is_marked_later}
+use Rattle.ft_laws_agreement.specs.Trimming.{has_ends_on, is_end_on}
+use Rattle.ft_laws_names.specs.GridFacts.{AreCounted, IsCounted}
+use Rattle.ft_laws_names.proofs.Beside.{beside-any, beside-both, beside-filter, beside-len, beside-more, ends, next}
+use Rattle.ft_laws_names.proofs.DocumentsAlike.{DocsAlike}
+use Rattle.ft_laws_names.proofs.IntervalsAlike.{IntervalsBeside, SettledAlike, away, intervals-more, on_sequenced, settled-ends}
+use Rattle.ft_laws_names.proofs.LocalAlike.{StageAlike, StageNames, StagesBeside}
+use Rattle.ft_laws_names.proofs.Twins.{BesideList, EndsAlike, IsTwin, Named, detached, on, same-of, there-other, twin-inserted, twin-pending, twin-unremoved, twins-of}
+use Rattle.ft_laws_names.proofs.ViewsAlike.{named-alike}
 use Rattle.ft_string.specs.Calls.{is_held}
 
 -- ---- lists

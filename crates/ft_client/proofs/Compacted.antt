@@ -12,11 +12,11 @@ use Rattle.ft_op.specs.Document.{Document}
 use Rattle.ft_props.specs.Element.{ElementId, NamelessElement, is_pending, is_sequenced}
 use Rattle.ft_props.specs.Compaction.{KeepsList, has_collectable_removal, is_insertion_at_or_below}
 use Rattle.ft_props.specs.Steps.{Sequence}
-use Rattle.ft_laws.proofs.CompactedScans.{Alike, len-kept}
-use Rattle.ft_keep.specs.Free.{AreFree}
+use Rattle.ft_laws_agreement.proofs.CompactedScans.{Alike, len-kept}
+use Rattle.ft_laws_compaction.specs.Free.{AreFree}
 use Rattle.ft_msg.specs.Answers.{count_held}
 use Rattle.ft_msg.specs.Client.{NaiveClient, floor, stages_of}
-use Rattle.ft_names.specs.WellNamed.{IsWellNamed}
+use Rattle.ft_laws_names.specs.WellNamed.{IsWellNamed}
 use Rattle.ft_replica.specs.Own.{Compacts, HoldsOne, held_by}
 use Rattle.ft_string.specs.Calls.{CompactsText, HoldsFree, is_held}
 use Rattle.ft_string.specs.Holds.{IsTextSound}

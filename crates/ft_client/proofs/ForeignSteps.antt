@@ -30,10 +30,10 @@ use Rattle.ft_msg.specs.Answers.{count_held}
 use Rattle.ft_msg.specs.Client.{floor}
 use Rattle.ft_msg.specs.Process.{is_op_kind, process_fault}
 use Rattle.ft_msg.specs.WellFormed.{HasItsParts, IsWellFormedMessage, has_body}
-use Rattle.ft_keep.proofs.FloorSteps.{entry-above}
-use Rattle.ft_laws.proofs.SlidEnds.{true-false}
-use Rattle.ft_laws.proofs.AgreedStage.{len-put-add}
-use Rattle.ft_laws.proofs.RangesOfLists.{len-range}
+use Rattle.ft_laws_compaction.proofs.FloorSteps.{entry-above}
+use Rattle.ft_laws_agreement.proofs.SlidEnds.{true-false}
+use Rattle.ft_laws_agreement.proofs.AgreedStage.{len-put-add}
+use Rattle.ft_laws_agreement.proofs.RangesOfLists.{len-range}
 use Rattle.ft_replica.specs.Own.{HeldDocument, HoldsOne}
 use Rattle.ft_string.specs.Calls.{IsApplied}
 use Rattle.ft_string.specs.Holds.{HoldsText, is_on_text}

@@ -11,8 +11,8 @@ use Rattle.ft_op.specs.Operation.{OnGrid, OnIntervals, OnText, SubOperation}
 use Rattle.ft_op.specs.Pieces.{op_of, pieces}
 use Rattle.ft_op.specs.Stages.{Stage}
 use Rattle.ft_msg.specs.Reconnection.{carried_stage}
-use Rattle.ft_laws.specs.Sequencing.{is_grid_stage}
-use Rattle.ft_names.specs.WellNamed.{AreWellNamed}
+use Rattle.ft_laws_agreement.specs.Sequencing.{is_grid_stage}
+use Rattle.ft_laws_names.specs.WellNamed.{AreWellNamed}
 use Rattle.ft_string.specs.Calls.{AreNext, HoldsGiven, HoldsSomeGiven}
 use Rattle.ft_string.specs.Holds.{IsTextSound, is_on_intervals, is_on_text}
 use Rattle.ft_string.specs.State.{TextState}

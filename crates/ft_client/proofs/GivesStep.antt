@@ -12,9 +12,9 @@ use Rattle.ft_op.specs.Pieces.{op_of, pieces}
 use Rattle.ft_op.specs.Stages.{Stage}
 use Rattle.ft_msg.specs.Indexed.{indexed_stage}
 use Rattle.ft_msg.specs.Reconnection.{carried_stage}
-use Rattle.ft_laws.specs.Sequencing.{is_grid_stage}
-use Rattle.ft_names.specs.GridFacts.{grid_stages}
-use Rattle.ft_names.specs.WellNamed.{AreWellNamed, RiseTo}
+use Rattle.ft_laws_agreement.specs.Sequencing.{is_grid_stage}
+use Rattle.ft_laws_names.specs.GridFacts.{grid_stages}
+use Rattle.ft_laws_names.specs.WellNamed.{AreWellNamed, RiseTo}
 use Rattle.ft_string.specs.Calls.{AreFrom, AreNext, AreWithin, HoldsGiven, is_one_edit}
 use Rattle.ft_string.specs.Holds.{HoldsText, IsTextSound, is_on_text}
 use Rattle.ft_string.specs.State.{TextState}

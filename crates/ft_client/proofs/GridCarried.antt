@@ -12,10 +12,10 @@ use Rattle.ft_op.specs.Stages.{Stage}
 use Rattle.ft_props.specs.Element.{ListElement}
 use Rattle.ft_msg.specs.Indexed.{indexed_stage}
 use Rattle.ft_msg.specs.Reconnection.{carried_stage}
-use Rattle.ft_laws.specs.Sequencing.{is_grid_stage}
-use Rattle.ft_names.specs.GridFacts.{grid_stages}
-use Rattle.ft_names.specs.WellNamed.{ArePutIn, AreStagesNamed, AreWellNamed, RiseTo, inserts_cols, inserts_rows, puts_text_in}
-use Rattle.ft_names.proofs.OwnAlike.{rise-lower}
+use Rattle.ft_laws_agreement.specs.Sequencing.{is_grid_stage}
+use Rattle.ft_laws_names.specs.GridFacts.{grid_stages}
+use Rattle.ft_laws_names.specs.WellNamed.{ArePutIn, AreStagesNamed, AreWellNamed, RiseTo, inserts_cols, inserts_rows, puts_text_in}
+use Rattle.ft_laws_names.proofs.OwnAlike.{rise-lower}
 use Rattle.ft_client.specs.Rejoins.{carried}
 use Rattle.ft_client.proofs.Parts.{retain-more}
 

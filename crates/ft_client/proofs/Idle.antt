@@ -12,10 +12,10 @@ use Rattle.ft_op.specs.declared.operations.Target.TheVariants.{Rows, Cols}
 use Rattle.ft_props.specs.Element.{ListElement, nameless, removal_stamp}
 use Rattle.ft_msg.specs.Client.{stages_of}
 use Rattle.ft_msg.specs.Indexed.{IndexedStage}
-use Rattle.ft_laws.specs.Reconnecting.{has_insertion_of, has_marks_of, has_removal_of}
-use Rattle.ft_laws.specs.Sequencing.{inserts_in, removes_in}
-use Rattle.ft_names.specs.GridFacts.{grid_stages, is_stamp_below, is_unit_below}
-use Rattle.ft_names.specs.WellNamed.{AreWellNamed}
+use Rattle.ft_laws_agreement.specs.Reconnecting.{has_insertion_of, has_marks_of, has_removal_of}
+use Rattle.ft_laws_agreement.specs.Sequencing.{inserts_in, removes_in}
+use Rattle.ft_laws_names.specs.GridFacts.{grid_stages, is_stamp_below, is_unit_below}
+use Rattle.ft_laws_names.specs.WellNamed.{AreWellNamed}
 use Rattle.ft_op.specs.Document.{Document}
 use Rattle.ft_props.specs.Properties.{Characters}
 use Rattle.ft_sumdoc.specs.declared.summary.SumDoc.{SumDoc}

@@ -8,29 +8,29 @@ use Rattle.ft_op.specs.Stages.{Stage}
 use Rattle.ft_msg.specs.Client.{NaiveClient, PendingEdit, client_over, floor, stages_of}
 use Rattle.ft_msg.specs.Indexed.{IndexedClient, IndexedDocument, IndexedStage, indexed, indexed_stage}
 use Rattle.ft_msg.specs.declared.views.Link.TheVariants.{Offline}
-use Rattle.ft_laws.specs.Sequencing.{IsReady, annotates_text, inserts_in, no_kind, removes_in}
+use Rattle.ft_laws_agreement.specs.Sequencing.{IsReady, annotates_text, inserts_in, no_kind, removes_in}
 use Rattle.ft_op.specs.declared.operations.Target.TheVariants.{Rows, Cols}
-use Rattle.ft_laws.specs.Reconnecting.{has_marks_of, inserts_text, is_one_run, is_stage_of, removes_text, runs_on}
-use Rattle.ft_laws.specs.Trimming.{are_distinct_elements}
-use Rattle.ft_laws.proofs.SideBySideStages.{none-counted}
-use Rattle.ft_laws.proofs.SlidEnds.{Once, once-tail, same_id-refl}
-use Rattle.ft_keep.specs.Free.{AreFree, HasFreeTombstones}
-use Rattle.ft_keep.specs.Keeping.{IsMadeOrKept}
-use Rattle.ft_keep.specs.StageRuns.{HasStageRuns, StandInRuns}
-use Rattle.ft_keep.proofs.AllSteps.{reached-sound}
-use Rattle.ft_keep.proofs.KeptReady.{kept-ready, kept-stage_runs}
-use Rattle.ft_keep.proofs.SoundlyKept.{soundly-kept}
-use Rattle.ft_names.specs.GridFacts.{AreCounted, AreFreeFrom, grid_stages, is_unit_below}
+use Rattle.ft_laws_agreement.specs.Reconnecting.{has_marks_of, inserts_text, is_one_run, is_stage_of, removes_text, runs_on}
+use Rattle.ft_laws_agreement.specs.Trimming.{are_distinct_elements}
+use Rattle.ft_laws_agreement.proofs.SideBySideStages.{none-counted}
+use Rattle.ft_laws_agreement.proofs.SlidEnds.{Once, once-tail, same_id-refl}
+use Rattle.ft_laws_compaction.specs.Free.{AreFree, HasFreeTombstones}
+use Rattle.ft_laws_compaction.specs.Keeping.{IsMadeOrKept}
+use Rattle.ft_laws_compaction.specs.StageRuns.{HasStageRuns, StandInRuns}
+use Rattle.ft_laws_compaction.proofs.AllSteps.{reached-sound}
+use Rattle.ft_laws_compaction.proofs.KeptReady.{kept-ready, kept-stage_runs}
+use Rattle.ft_laws_compaction.proofs.SoundlyKept.{soundly-kept}
+use Rattle.ft_laws_names.specs.GridFacts.{AreCounted, AreFreeFrom, grid_stages, is_unit_below}
 use Rattle.ft_base.specs.Visibility.{is_of_stage, seen_at}
-use Rattle.ft_names.specs.WellNamed.{AreWellNamed, IsWellNamed}
-use Rattle.ft_names.proofs.ClientsAlike.{ClientsAlike}
-use Rattle.ft_names.proofs.Beside.{ends, next}
-use Rattle.ft_names.proofs.DocumentsAlike.{DocsAlike}
-use Rattle.ft_names.proofs.Indexing.{indexed-alike}
-use Rattle.ft_names.proofs.KeptGrids.{kept-below, kept-counted, kept-free}
-use Rattle.ft_names.proofs.KeptNames.{made-or-kept-named}
-use Rattle.ft_names.proofs.LocalAlike.{StagesBeside}
-use Rattle.ft_names.proofs.RejoinAlike.{EditsBeside}
+use Rattle.ft_laws_names.specs.WellNamed.{AreWellNamed, IsWellNamed}
+use Rattle.ft_laws_names.proofs.ClientsAlike.{ClientsAlike}
+use Rattle.ft_laws_names.proofs.Beside.{ends, next}
+use Rattle.ft_laws_names.proofs.DocumentsAlike.{DocsAlike}
+use Rattle.ft_laws_names.proofs.Indexing.{indexed-alike}
+use Rattle.ft_laws_names.proofs.KeptGrids.{kept-below, kept-counted, kept-free}
+use Rattle.ft_laws_names.proofs.KeptNames.{made-or-kept-named}
+use Rattle.ft_laws_names.proofs.LocalAlike.{StagesBeside}
+use Rattle.ft_laws_names.proofs.RejoinAlike.{EditsBeside}
 use Rattle.ft_rebase.specs.StageLists.{StandSideBySide, is_one_run as is_one_run_listed, is_run_at_front}
 use Rattle.ft_replica.specs.Own.{HeldDocument, NamesFit, held_by}
 use Rattle.ft_string.specs.Calls.{is_held}

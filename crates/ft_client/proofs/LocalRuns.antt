@@ -18,9 +18,9 @@ use Rattle.ft_props.specs.Steps.{Sequence, after_local_insertion, after_local_ma
 use Rattle.ft_msg.specs.declared.faults.EditFault.{EditFault}
 use Rattle.ft_msg.specs.Answers.{count_held}
 use Rattle.ft_msg.specs.Client.{EditResult, id_fault, if_in_range, local_grid, local_set, local_sub_operation, local_sub_operations, unless_fault}
-use Rattle.ft_laws.proofs.AgreedStage.{len-put-add}
-use Rattle.ft_laws.proofs.RangesOfLists.{len-range}
-use Rattle.ft_laws.specs.Sequencing.{is_grid_stage}
+use Rattle.ft_laws_agreement.proofs.AgreedStage.{len-put-add}
+use Rattle.ft_laws_agreement.proofs.RangesOfLists.{len-range}
+use Rattle.ft_laws_agreement.specs.Sequencing.{is_grid_stage}
 use Rattle.ft_string.specs.Holds.{is_on_text}
 use Rattle.ft_client.specs.declared.stages.OwnStage.{OwnStage}
 use Rattle.ft_client.specs.declared.stages.Part.{Part}

@@ -8,8 +8,8 @@ use Rattle.ft_op.specs.Intervals.{NamedElements}
 use Rattle.ft_op.specs.Operation.{OnGrid, OnIntervals, OnText, SubOperation}
 use Rattle.ft_op.specs.Stages.{Stage}
 use Rattle.ft_msg.specs.Indexed.{indexed_stage}
-use Rattle.ft_laws.specs.Sequencing.{is_grid_stage}
-use Rattle.ft_names.specs.GridFacts.{grid_stages}
+use Rattle.ft_laws_agreement.specs.Sequencing.{is_grid_stage}
+use Rattle.ft_laws_names.specs.GridFacts.{grid_stages}
 use Rattle.ft_matrix.specs.GridStates.{GridState}
 use Rattle.ft_matrix.specs.HoldsGrid.{HoldsGrid}
 use Rattle.ft_string.specs.Holds.{HoldsText, element_stages, interval_stages, is_on_elements, is_on_intervals, is_on_text}

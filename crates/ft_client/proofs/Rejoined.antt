@@ -19,9 +19,9 @@ use Rattle.ft_msg.specs.Answers.{count_held}
 use Rattle.ft_msg.specs.Client.{NaiveClient, PendingEdit}
 use Rattle.ft_msg.specs.Process.{process_fault}
 use Rattle.ft_msg.specs.Reconnection.{carried_stage, rebuilt_document}
-use Rattle.ft_names.specs.GridFacts.{grid_stages}
-use Rattle.ft_names.specs.WellNamed.{ArePutIn, AreWellNamed, IsWellNumbered, RiseTo, inserts_cols, inserts_rows, puts_text_in}
-use Rattle.ft_names.proofs.RebuiltLists.{Rises}
+use Rattle.ft_laws_names.specs.GridFacts.{grid_stages}
+use Rattle.ft_laws_names.specs.WellNamed.{ArePutIn, AreWellNamed, IsWellNumbered, RiseTo, inserts_cols, inserts_rows, puts_text_in}
+use Rattle.ft_laws_names.proofs.RebuiltLists.{Rises}
 use Rattle.ft_named.proofs.PutTwice.{put-nothing}
 use Rattle.ft_named.proofs.RebuiltSteps.{none-from-len, rebuilt-pending, stages-of}
 use Rattle.ft_rebase.specs.StageLists.{StandSideBySide}

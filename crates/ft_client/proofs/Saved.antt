@@ -13,13 +13,13 @@ use Rattle.ft_base.specs.Visibility.{is_acked}
 use Rattle.ft_sumdoc.specs.Runs.{unit_count}
 use Rattle.ft_msg.specs.Answers.{count_held}
 use Rattle.ft_msg.specs.Client.{stages_of}
-use Rattle.ft_names.proofs.Twins.{none-more}
+use Rattle.ft_laws_names.proofs.Twins.{none-more}
 use Rattle.ft_msg.specs.Summary.{trim}
 use Rattle.ft_msg.specs.SummaryOf.{summary_of}
-use Rattle.ft_names.specs.WellNamed.{IsWellNumbered}
+use Rattle.ft_laws_names.specs.WellNamed.{IsWellNumbered}
 use Rattle.ft_replica.specs.Own.{HeldDocument, HoldsOne, NamesFit}
-use Rattle.ft_summaries.specs.Summaries.{IsSmall}
-use Rattle.ft_summaries.proofs.ValidSegments.{runs-count, trimmed-length}
+use Rattle.ft_laws_summaries.specs.Summaries.{IsSmall}
+use Rattle.ft_laws_summaries.proofs.ValidSegments.{runs-count, trimmed-length}
 use Rattle.ft_string.specs.Calls.{KeepsSummary, SavesText}
 use Rattle.ft_string.specs.Holds.{IsTextSound}
 use Rattle.ft_matrix.specs.Shown.{with_units}

@@ -5,7 +5,7 @@ use Rattle.ft_msg.specs.declared.views.View.{View}
 use Rattle.ft_msg.specs.Answers.{view_content}
 use Rattle.ft_msg.specs.Client.{NaiveClient, stages_of}
 use Rattle.ft_msg.specs.Content.{content}
-use Rattle.ft_names.specs.WellNamed.{IsWellNamed}
+use Rattle.ft_laws_names.specs.WellNamed.{IsWellNamed}
 use Rattle.ft_replica.specs.Own.{HoldsOne, held_by}
 use Rattle.ft_string.specs.Calls.{KeepsOthers, ShowsText}
 use Rattle.ft_string.specs.Holds.{IsTextSound}

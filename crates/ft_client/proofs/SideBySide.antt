@@ -9,9 +9,9 @@ use Rattle.ft_base.specs.Visibility.{has_occurred_at_stage, is_of_stage, seen_at
 use Rattle.ft_props.specs.Element.{ListElement, NamelessElement, nameless, removal_stamp, seen}
 use Rattle.ft_props.specs.Steps.{is_inserted_by, stage_position}
 use Rattle.ft_props.proofs.RebuiltList.{filter-twice, pred_suc, wide}
-use Rattle.ft_keep.specs.StageRuns.{StandInRuns}
-use Rattle.ft_laws.specs.Reconnecting.{StandSideBySide, is_one_run}
-use Rattle.ft_laws.proofs.SideBySideStages.{one_run-map, one_run-put}
+use Rattle.ft_laws_compaction.specs.StageRuns.{StandInRuns}
+use Rattle.ft_laws_agreement.specs.Reconnecting.{StandSideBySide, is_one_run}
+use Rattle.ft_laws_agreement.proofs.SideBySideStages.{one_run-map, one_run-put}
 
 not-both : (k : ℕ) (t : Stamp) → is_of_stage (suc k) t ≡ true → has_occurred_at_stage k t ≡ false
 not-both k (Acked s c) h = (cc)

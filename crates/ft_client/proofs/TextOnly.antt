@@ -13,10 +13,10 @@ use Rattle.ft_op.specs.Stages.{Stage}
 use Rattle.ft_props.specs.declared.properties.Changes.{Changes}
 use Rattle.ft_props.specs.Element.{ListElement}
 use Rattle.ft_msg.specs.Reconnection.{carried_stage}
-use Rattle.ft_laws.specs.Reconnecting.{has_insertion_of, has_marks_of, has_removal_of, inserts_text, is_stage_of, removes_text}
-use Rattle.ft_laws.specs.Sequencing.{Each, IsTyped, annotates_text}
-use Rattle.ft_names.specs.WellNamed.{ArePutIn, AreStagesNamed, RiseTo, puts_text_in}
-use Rattle.ft_names.proofs.OwnAlike.{rise-lower}
+use Rattle.ft_laws_agreement.specs.Reconnecting.{has_insertion_of, has_marks_of, has_removal_of, inserts_text, is_stage_of, removes_text}
+use Rattle.ft_laws_agreement.specs.Sequencing.{Each, IsTyped, annotates_text}
+use Rattle.ft_laws_names.specs.WellNamed.{ArePutIn, AreStagesNamed, RiseTo, puts_text_in}
+use Rattle.ft_laws_names.proofs.OwnAlike.{rise-lower}
 use Rattle.ft_string.specs.Holds.{HoldsText, IsTextSound, element_stages, interval_stages, is_on_text}
 use Rattle.ft_string.specs.State.{TextState}
 use Rattle.ft_client.specs.Rejoins.{carried, text_only}

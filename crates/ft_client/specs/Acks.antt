@@ -5,8 +5,8 @@ use Rattle.ft_props.specs.Element.{ElementId}
 use Rattle.ft_op.specs.Document.{Document}
 use Rattle.ft_op.specs.Stages.{Stage}
 use Rattle.ft_msg.specs.Acknowledgement.{ack_stages, renamed_stage}
-use Rattle.ft_names.specs.GridFacts.{AreCounted, IsCounted}
-use Rattle.ft_names.specs.WellNamed.{AreWellNamed}
+use Rattle.ft_laws_names.specs.GridFacts.{AreCounted, IsCounted}
+use Rattle.ft_laws_names.specs.WellNamed.{AreWellNamed}
 use Rattle.ft_string.specs.Calls.{AreOldest, HoldsAcked}
 use Rattle.ft_string.specs.Holds.{HoldsText, IsTextSound}
 use Rattle.ft_string.specs.State.{KeepsRest as KeepsText, TextState}

@@ -11,7 +11,7 @@ use Rattle.ft_op.specs.Stages.{Stage}
 use Rattle.ft_msg.specs.declared.messages.Entry.{Entry}
 use Rattle.ft_msg.specs.Agreed.{body_effect, reference_number}
 use Rattle.ft_msg.specs.Indexed.{IndexedDocument, indexed_stage}
-use Rattle.ft_names.specs.GridFacts.{grid_stages}
+use Rattle.ft_laws_names.specs.GridFacts.{grid_stages}
 use Rattle.ft_replica.specs.Own.{HeldDocument, ShownDocument, Shows}
 use Rattle.ft_string.specs.Holds.{HoldsText, element_stages, interval_stages}
 use Rattle.ft_matrix.specs.GridStates.{GridState}

@@ -13,7 +13,7 @@ use Rattle.ft_op.specs.Document.{Document}
 use Rattle.ft_op.specs.Pieces.{op_of, pieces}
 use Rattle.ft_op.specs.Operation.{SubOperation}
 use Rattle.ft_op.specs.Stages.{Stage}
-use Rattle.ft_laws.specs.Sequencing.{is_grid_stage}
+use Rattle.ft_laws_agreement.specs.Sequencing.{is_grid_stage}
 use Rattle.ft_replica.specs.declared.document.Resent.{Resent}
 use Rattle.ft_replica.specs.Own.{resent}
 use Rattle.ft_string.specs.Calls.{AreNext, HoldsGiven}
@@ -23,7 +23,7 @@ use Rattle.ft_client.specs.declared.stages.OwnStage.{OwnStage}
 use Rattle.ft_client.specs.declared.stages.Part.{Part}
 use Rattle.ft_client.specs.declared.stages.Part.TheVariants.{Intervals}
 use Rattle.ft_msg.specs.Reconnection.{carried_stage}
-use Rattle.ft_names.specs.WellNamed.{AreWellNamed}
+use Rattle.ft_laws_names.specs.WellNamed.{AreWellNamed}
 use Rattle.ft_string.specs.Holds.{HoldsText, IsTextSound, is_on_intervals, is_on_text}
 use Rattle.ft_matrix.specs.HoldsGrid.{HoldsGrid}
 use Rattle.ft_client.specs.declared.own.TreeOwn.{TreeOwn}

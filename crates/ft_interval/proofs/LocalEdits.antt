@@ -3,8 +3,8 @@ use Rattle.std.proofs.Common.{◌≡◌, ℕ, ◌+◌, ◌<◌, ◌≤◌, Bool,
 use Rattle.std.specs.Prelude.{IfErr}
 use Rattle.std.proofs.lemmas.Result.{IfErr-weaker}
 use Rattle.std.proofs.lemmas.List.Elements.{All-append, All-cons, All-head, All-nil, All-tail}
-use Rattle.ft_leaves.specs.declared.text.TextContent.{TextContent}
-use Rattle.ft_leaves.specs.Elements.{TreeElement}
+use Rattle.ft_tree_leaves.specs.declared.text.TextContent.{TextContent}
+use Rattle.ft_tree_leaves.specs.Elements.{TreeElement}
 use Rattle.ft_op.specs.Document.{ends_of}
 use Rattle.ft_op.specs.declared.operations.TextOp.{TextOp}
 use Rattle.ft_interval.specs.declared.faults.IntervalFault.{IntervalFault}

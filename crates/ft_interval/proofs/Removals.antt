@@ -8,10 +8,10 @@ use Rattle.ft_base.specs.declared.stamps.Stamp.TheVariants.{Acked, Local}
 use Rattle.ft_base.specs.Scan.{at, one_more_if}
 use Rattle.ft_base.specs.Visibility.{has_occurred_at_stage}
 use Rattle.ft_block.specs.declared.leaves.LenView.TheVariants.{Stage}
-use Rattle.ft_leaves.specs.Edits.{least_above, lesser, next_removal_above, stage_of}
-use Rattle.ft_leaves.specs.Elements.{TreeElement, seen_in}
-use Rattle.ft_leaves.specs.declared.text.TextContent.{TextContent}
-use Rattle.ft_leaves.specs.Places.{place_at, seen_before}
+use Rattle.ft_tree_leaves.specs.Edits.{least_above, lesser, next_removal_above, stage_of}
+use Rattle.ft_tree_leaves.specs.Elements.{TreeElement, seen_in}
+use Rattle.ft_tree_leaves.specs.declared.text.TextContent.{TextContent}
+use Rattle.ft_tree_leaves.specs.Places.{place_at, seen_before}
 use Rattle.ft_props.specs.Element.{ElementContent}
 use Rattle.ft_refs.specs.declared.numbers.Place.{Place}
 use Rattle.ft_tree.specs.State.{TreeState}

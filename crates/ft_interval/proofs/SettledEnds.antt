@@ -4,10 +4,10 @@ use Rattle.std.specs.Option.{option_or}
 use Rattle.std.proofs.lemmas.Bool.Decides.{nat_tests}
 use Rattle.ft_base.specs.Scan.{len, one_more_if}
 use Rattle.ft_block.specs.declared.leaves.LenView.TheVariants.{Stage}
-use Rattle.ft_leaves.specs.Elements.{TreeElement, seen_in}
-use Rattle.ft_leaves.specs.Places.{seen_before, settled_number, settled_place}
-use Rattle.ft_leaves.specs.Settling.{first_from, settled_from}
-use Rattle.ft_leaves.proofs.Settling.{settled_place-from}
+use Rattle.ft_tree_leaves.specs.Elements.{TreeElement, seen_in}
+use Rattle.ft_tree_leaves.specs.Places.{seen_before, settled_number, settled_place}
+use Rattle.ft_tree_leaves.specs.Settling.{first_from, settled_from}
+use Rattle.ft_tree_leaves.proofs.Settling.{settled_place-from}
 use Rattle.ft_interval.specs.Numbers.{IsNumber}
 use Rattle.ft_interval.specs.Shown.{settled_end}
 

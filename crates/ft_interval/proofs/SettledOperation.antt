@@ -6,9 +6,9 @@ use Rattle.std.proofs.lemmas.List.{drop_more, get_or_read, set_split, take-appen
 use Rattle.std.proofs.lemmas.Bool.Decides.{nat_tests}
 use Rattle.std.proofs.lemmas.Grind.{flat_map-append}
 use Rattle.ft_base.specs.Scan.{len}
-use Rattle.ft_leaves.proofs.Runs.{len-append}
-use Rattle.ft_leaves.specs.declared.references.Reference.{Reference}
-use Rattle.ft_leaves.specs.References.{reference_at}
+use Rattle.ft_tree_leaves.proofs.Runs.{len-append}
+use Rattle.ft_tree_leaves.specs.declared.references.Reference.{Reference}
+use Rattle.ft_tree_leaves.specs.References.{reference_at}
 use Rattle.ft_interval.specs.declared.intervals.EndPair.{EndPair}
 use Rattle.ft_interval.specs.declared.intervals.Interval.{Interval}
 use Rattle.ft_interval.specs.declared.pending.Operation.{Operation}

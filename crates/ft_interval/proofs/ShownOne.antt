@@ -1,6 +1,6 @@
 -- What is shown of the interval of one name, beside what is shown of all.
 use Rattle.std.proofs.Common.{◌≡◌, ℕ, List, [], ◌∷◌, map, option_map, refl, ◌∙◌, ap}
-use Rattle.ft_leaves.specs.Elements.{TreeElement}
+use Rattle.ft_tree_leaves.specs.Elements.{TreeElement}
 use Rattle.ft_interval.specs.declared.intervals.EndPair.{EndPair}
 use Rattle.ft_interval.specs.declared.intervals.Interval.{Interval}
 use Rattle.ft_interval.specs.declared.pending.Operation.{Operation}

@@ -1,7 +1,7 @@
 -- Which references an operation leaves in its interval, and which it doesn't: each is counted once.
 use Rattle.std.proofs.Common.{◌≡◌, ℕ, ◌+◌, cond, is_some, List, [], ◌∷◌, Option, Some, None, refl, ◌∙◌, ap, subst, arith}
 use Rattle.ft_base.specs.Scan.{len}
-use Rattle.ft_leaves.proofs.Runs.{len-append}
+use Rattle.ft_tree_leaves.proofs.Runs.{len-append}
 use Rattle.ft_op.specs.declared.operations.TextOp.{TextOp}
 use Rattle.ft_op.specs.declared.operations.TextOp.TheVariants.{One, Group, IntervalAdd, IntervalChange, IntervalDelete}
 use Rattle.ft_props.specs.Keys.{put_rising}

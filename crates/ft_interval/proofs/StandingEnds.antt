@@ -1,8 +1,8 @@
 -- Ends on leaves, of intervals that are there or not.
 use Rattle.std.proofs.Common.{◌≡◌, ℕ, ◌≤◌, List, [], ◌∷◌, Option, Some, None, IfSome, is_some, option_map, refl}
 use Rattle.std.specs.List.{AllZip}
-use Rattle.ft_leaves.specs.declared.text.TextContent.{TextContent}
-use Rattle.ft_leaves.specs.Edits.{next_removal_above}
+use Rattle.ft_tree_leaves.specs.declared.text.TextContent.{TextContent}
+use Rattle.ft_tree_leaves.specs.Edits.{next_removal_above}
 use Rattle.ft_op.specs.declared.operations.Ends.{Ends}
 use Rattle.ft_refs.specs.declared.numbers.Place.{Place}
 use Rattle.ft_tree.specs.State.{TreeState}

@@ -4,10 +4,10 @@ use Rattle.std.proofs.lemmas.Bool.Decides.{nat_tests}
 use Rattle.std.specs.Option.{option_and}
 use Rattle.ft_base.specs.Scan.{one_more_if}
 use Rattle.ft_block.specs.declared.leaves.LenView.TheVariants.{Stage}
-use Rattle.ft_leaves.specs.declared.references.Reference.{Reference}
-use Rattle.ft_leaves.specs.Elements.{TreeElement, seen_in}
-use Rattle.ft_leaves.specs.Places.{place_at}
-use Rattle.ft_leaves.specs.References.{reference_at}
+use Rattle.ft_tree_leaves.specs.declared.references.Reference.{Reference}
+use Rattle.ft_tree_leaves.specs.Elements.{TreeElement, seen_in}
+use Rattle.ft_tree_leaves.specs.Places.{place_at}
+use Rattle.ft_tree_leaves.specs.References.{reference_at}
 use Rattle.ft_op.specs.declared.operations.Ends.{Ends}
 use Rattle.ft_op.specs.declared.operations.TextOp.TheVariants.{IntervalChange}
 use Rattle.ft_props.specs.Keys.{Characters}

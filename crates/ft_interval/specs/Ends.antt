@@ -2,10 +2,10 @@
 use Rattle.std.specs.Prelude.{◌≡◌, ◌≢◌, ℕ, ◌≤◌, Bool, true, false, ◌||◌, nat_eq, List, [], ◌∷◌, Option, Some, None, ⊤, option_and_then, option_map, ℤ, pos, negsuc}
 use Rattle.ft_base.specs.Scan.{len}
 use Rattle.ft_op.specs.declared.operations.Ends.{Ends}
-use Rattle.ft_leaves.specs.declared.references.Reference.{Reference}
-use Rattle.ft_leaves.specs.Elements.{TreeElement, is_unremoved}
-use Rattle.ft_leaves.specs.Places.{place_at, settled_place}
-use Rattle.ft_leaves.specs.References.{IsReferenceIn, place_of, reference_at}
+use Rattle.ft_tree_leaves.specs.declared.references.Reference.{Reference}
+use Rattle.ft_tree_leaves.specs.Elements.{TreeElement, is_unremoved}
+use Rattle.ft_tree_leaves.specs.Places.{place_at, settled_place}
+use Rattle.ft_tree_leaves.specs.References.{IsReferenceIn, place_of, reference_at}
 use Rattle.ft_interval.specs.declared.intervals.EndPair.{EndPair}
 
 -- references, each under its number

@@ -1,8 +1,8 @@
 -- Ends as numbers among the elements that a stage sees, as the tree answers them.
 use Rattle.std.specs.Prelude.{◌≡◌, ℕ, cond, nat_le, List, Option, Some, None, option_map, min, ℤ, pos, negsuc}
 use Rattle.ft_block.specs.declared.leaves.LenView.TheVariants.{Stage}
-use Rattle.ft_leaves.specs.Elements.{TreeElement, seen_in}
-use Rattle.ft_leaves.specs.Places.{seen_before}
+use Rattle.ft_tree_leaves.specs.Elements.{TreeElement, seen_in}
+use Rattle.ft_tree_leaves.specs.Places.{seen_before}
 use Rattle.ft_interval.specs.declared.intervals.EndPair.{EndPair}
 use Rattle.ft_interval.specs.Shown.{settled_end}
 

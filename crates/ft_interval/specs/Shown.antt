@@ -6,8 +6,8 @@ use Rattle.ft_op.specs.declared.operations.Ends.{Ends}
 use Rattle.ft_op.specs.declared.operations.TextOp.{TextOp}
 use Rattle.ft_op.specs.declared.operations.TextOp.TheVariants.{IntervalAdd, IntervalChange}
 use Rattle.ft_sumdoc.specs.declared.summary.IntervalRec.{IntervalRec}
-use Rattle.ft_leaves.specs.Elements.{TreeElement, seen_in}
-use Rattle.ft_leaves.specs.Places.{seen_before, settled_place}
+use Rattle.ft_tree_leaves.specs.Elements.{TreeElement, seen_in}
+use Rattle.ft_tree_leaves.specs.Places.{seen_before, settled_place}
 use Rattle.ft_interval.specs.declared.intervals.EndPair.{EndPair}
 use Rattle.ft_interval.specs.declared.intervals.Interval.{Interval}
 use Rattle.ft_interval.specs.declared.pending.Operation.{Operation}

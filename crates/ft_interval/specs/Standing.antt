@@ -2,9 +2,9 @@
 use Rattle.std.specs.Prelude.{◌≡◌, ℕ, ◌-◌, List, Option, Some, None, IfSome, ⊤, option_map}
 use Rattle.std.specs.List.{AllZip}
 use Rattle.ft_sumdoc.specs.declared.summary.IntervalRec.{IntervalRec}
-use Rattle.ft_leaves.specs.declared.text.TextContent.{TextContent}
-use Rattle.ft_leaves.specs.TextLeaves.{text_units}
-use Rattle.ft_leaf_blocks.specs.LeafPlaces.{IsOnLeaf, place_on}
+use Rattle.ft_tree_leaves.specs.declared.text.TextContent.{TextContent}
+use Rattle.ft_tree_leaves.specs.TextLeaves.{text_units}
+use Rattle.ft_tree_blocks.specs.LeafPlaces.{IsOnLeaf, place_on}
 use Rattle.ft_refs.specs.declared.numbers.Place.{Place}
 use Rattle.ft_tree.specs.State.{TreeState}
 use Rattle.ft_interval.specs.declared.intervals.EndPair.{EndPair}

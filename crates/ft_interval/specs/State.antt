@@ -8,12 +8,12 @@ use Rattle.ft_op.specs.declared.operations.TextOp.{TextOp}
 use Rattle.ft_op.specs.declared.operations.TextOp.TheVariants.{IntervalAdd, IntervalChange, IntervalDelete}
 use Rattle.ft_op.specs.Document.{ends_of, given_ends_fit}
 use Rattle.ft_props.specs.Element.{ElementContent}
-use Rattle.ft_leaves.specs.declared.text.TextContent.{TextContent}
-use Rattle.ft_leaves.specs.declared.references.Reference.{Reference}
-use Rattle.ft_leaves.specs.Elements.{TreeElement}
-use Rattle.ft_leaves.specs.LeafLists.{elements}
-use Rattle.ft_leaves.specs.References.{reference_at}
-use Rattle.ft_leaves.specs.TextLeaves.{text_units}
+use Rattle.ft_tree_leaves.specs.declared.text.TextContent.{TextContent}
+use Rattle.ft_tree_leaves.specs.declared.references.Reference.{Reference}
+use Rattle.ft_tree_leaves.specs.Elements.{TreeElement}
+use Rattle.ft_tree_leaves.specs.LeafLists.{elements}
+use Rattle.ft_tree_leaves.specs.References.{reference_at}
+use Rattle.ft_tree_leaves.specs.TextLeaves.{text_units}
 use Rattle.ft_tree.specs.State.{TreeState}
 use Rattle.ft_interval.specs.declared.faults.IntervalFault.{IntervalFault}
 use Rattle.ft_interval.specs.declared.faults.IntervalFault.TheVariants.{IdInUse, NoSuchInterval, OutOfRange, OutOfMemory}

@@ -4,7 +4,7 @@ ghost use Rattle.std.specs.Prelude.{◌≡◌, ◌≤◌, [], Some, IsSome, not,
 ghost use Rattle.std.specs.List.{list_any};
 ghost use Rattle.ft_base.specs.Scan.{len};
 ghost use Rattle.ft_block.specs.declared.leaves.LenView.TheVariants.{At, Stage};
-ghost use Rattle.ft_leaves.specs.Elements.{seen_in};
+ghost use Rattle.ft_tree_leaves.specs.Elements.{seen_in};
 ghost use Rattle.ft_op.specs.Document.{ends_of, given_ends_fit};
 ghost use Rattle.ft_interval.specs.declared.faults.IntervalFault.TheVariants as fault;
 ghost use Rattle.ft_interval.specs.Ends.{map_ends, places_of_given, slid_end};

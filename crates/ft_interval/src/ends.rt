@@ -2,8 +2,8 @@
 
 ghost use Rattle.std.specs.Prelude.{◌≡◌, ℕ, None, IsTrue, IfOk, OnErr, OnOk, cond, false, option_map, true};
 ghost use Rattle.ft_block.specs.Leaves.{IsFromFloor};
-ghost use Rattle.ft_leaves.specs.Elements.{seen_in};
-ghost use Rattle.ft_leaves.specs.References.{reference_at, slid_reference};
+ghost use Rattle.ft_tree_leaves.specs.Elements.{seen_in};
+ghost use Rattle.ft_tree_leaves.specs.References.{reference_at, slid_reference};
 ghost use Rattle.ft_op.specs.Document.{given_ends_fit};
 ghost use Rattle.ft_op.specs.Intervals.{ends_fit, is_place};
 ghost use Rattle.ft_interval.specs.Ends.{AreAddedEnds, AreDistinctEnds, AreLiveEnds, IsAddedEnd, IsLiveEnd, holds_end, is_reference, place_of_position, places_of_given};

@@ -2,8 +2,8 @@
 
 ghost use Rattle.std.specs.Prelude.{◌≡◌, ℕ, List, IsTrue, IfOk, OnErr, OnOk, false, option_and_then};
 ghost use Rattle.ft_block.specs.Leaves.{IsFromFloor};
-ghost use Rattle.ft_leaves.specs.Elements.{TreeElement, seen_in};
-ghost use Rattle.ft_leaves.specs.Places.{place_at};
+ghost use Rattle.ft_tree_leaves.specs.Elements.{TreeElement, seen_in};
+ghost use Rattle.ft_tree_leaves.specs.Places.{place_at};
 ghost use Rattle.ft_props.specs.Element.{ElementContent};
 ghost use Rattle.ft_interval.specs.declared.intervals.EndPair.{EndPair};
 ghost use Rattle.ft_interval.specs.Ends.{AreAddedEnds, AreLiveEnds, IsAddedEnd, IsLiveEnd, map_ends, place_of_end, places_of_ends};

@@ -13,12 +13,12 @@ use Rattle.ft_perm.specs.Handles.{numbers_from}
 use Rattle.ft_op.specs.Document.{Document}
 use Rattle.ft_op.specs.Stages.{Stage}
 use Rattle.ft_msg.specs.Acknowledgement.{ack_stage, ack_stages, made_before, renamed, renamed_names, renamed_stage}
-use Rattle.ft_names.specs.WellNamed.{HasItsStages, IsWellNumbered, RiseTo, AreWellNamed}
-use Rattle.ft_names.proofs.AckedLists.{stage-count}
-use Rattle.ft_names.proofs.Beside.{ends, next}
-use Rattle.ft_names.proofs.ClientsAlike.{ClientsAlike}
-use Rattle.ft_names.proofs.OwnAlike.{AckedEdits, edit-alike, put-in-back, put-in-renamed, rise-renamed, stages-twice}
-use Rattle.ft_names.specs.GridFacts.{AreCounted, IsCounted}
+use Rattle.ft_laws_names.specs.WellNamed.{HasItsStages, IsWellNumbered, RiseTo, AreWellNamed}
+use Rattle.ft_laws_names.proofs.AckedLists.{stage-count}
+use Rattle.ft_laws_names.proofs.Beside.{ends, next}
+use Rattle.ft_laws_names.proofs.ClientsAlike.{ClientsAlike}
+use Rattle.ft_laws_names.proofs.OwnAlike.{AckedEdits, edit-alike, put-in-back, put-in-renamed, rise-renamed, stages-twice}
+use Rattle.ft_laws_names.specs.GridFacts.{AreCounted, IsCounted}
 use Rattle.ft_matrix.specs.declared.grid.Grid.{Grid}
 use Rattle.ft_matrix.specs.declared.stages.GridStage.{GridStage}
 use Rattle.ft_matrix.specs.Acked.{AcksSome, AcksStage}

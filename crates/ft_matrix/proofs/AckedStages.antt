@@ -19,17 +19,17 @@ use Rattle.ft_op.specs.Stages.{Stage, intervals_after_stage}
 use Rattle.ft_msg.specs.Acknowledgement.{cells_after_stage, made_before, renamed, renamed_names, renamed_stage, write_named_cell}
 use Rattle.ft_msg.specs.Content.{value_unless_null}
 use Rattle.ft_msg.specs.Indexed.{IndexedStage, indexed_stage, place_in_list}
-use Rattle.ft_leaves.specs.Elements as tree
-use Rattle.ft_leaves.specs.Elements.{TreeElement}
+use Rattle.ft_tree_leaves.specs.Elements as tree
+use Rattle.ft_tree_leaves.specs.Elements.{TreeElement}
 use Rattle.ft_perm.specs.Vectors.{VectorState}
 use Rattle.ft_cells.specs.CellTables.{CellList, CellState, acked_write, cell_at, unless_null}
-use Rattle.ft_laws.proofs.CellValues.{value-write}
-use Rattle.ft_names.specs.WellNamed.{AreNamedBefore, AreStagesNamed, AreThere, ArePutIn, HasNoCellsAhead, IsNamedBefore, IsWellNumbered, RiseTo, StandsIn, inserts_cols, inserts_rows}
-use Rattle.ft_names.proofs.AckedLists.{IsBelow, same-acked, stands-below, unstaged}
-use Rattle.ft_names.proofs.Beside.{beside-both, beside-more}
-use Rattle.ft_names.proofs.DocumentsAlike.{same_id-turn}
-use Rattle.ft_names.proofs.OwnAlike.{not-own, stages-apart}
-use Rattle.ft_names.specs.GridFacts.{IsCounted, grid_stages}
+use Rattle.ft_laws_agreement.proofs.CellValues.{value-write}
+use Rattle.ft_laws_names.specs.WellNamed.{AreNamedBefore, AreStagesNamed, AreThere, ArePutIn, HasNoCellsAhead, IsNamedBefore, IsWellNumbered, RiseTo, StandsIn, inserts_cols, inserts_rows}
+use Rattle.ft_laws_names.proofs.AckedLists.{IsBelow, same-acked, stands-below, unstaged}
+use Rattle.ft_laws_names.proofs.Beside.{beside-both, beside-more}
+use Rattle.ft_laws_names.proofs.DocumentsAlike.{same_id-turn}
+use Rattle.ft_laws_names.proofs.OwnAlike.{not-own, stages-apart}
+use Rattle.ft_laws_names.specs.GridFacts.{IsCounted, grid_stages}
 use Rattle.ft_matrix.specs.declared.grid.Grid.{Grid}
 use Rattle.ft_matrix.specs.declared.stages.GridStage.{GridStage}
 use Rattle.ft_matrix.specs.Acked.{AcksStage, acked_stage, after_stage, cols_put, cols_put_by, rows_put, rows_put_by}

@@ -9,12 +9,12 @@ use Rattle.ft_base.specs.Visibility.{is_acked, is_of_stage}
 use Rattle.ft_props.specs.Element.{ElementId, ListElement, NamelessElement, PendingId, SequencedId, has_id, id, nameless, removal_stamp, same_id}
 use Rattle.ft_props.specs.Steps.{Sequence, acked_element, acked_id, acked_list, acked_props, acked_removal, acked_stamp, author, remaining_removal}
 use Rattle.ft_props.proofs.AcknowledgedInsertion.{same_nat}
-use Rattle.ft_leaves.specs.Elements as tree
-use Rattle.ft_leaves.specs.Elements.{TreeElement, acked_stamps}
-use Rattle.ft_laws.proofs.SlidEnds.{true-false}
-use Rattle.ft_names.specs.WellNamed.{IsWellNumbered, has_odd_removal}
-use Rattle.ft_names.proofs.AckedLists.{IsBelow, acked-id, same-acked, stands-below}
-use Rattle.ft_names.proofs.Beside.{ends, next}
+use Rattle.ft_tree_leaves.specs.Elements as tree
+use Rattle.ft_tree_leaves.specs.Elements.{TreeElement, acked_stamps}
+use Rattle.ft_laws_agreement.proofs.SlidEnds.{true-false}
+use Rattle.ft_laws_names.specs.WellNamed.{IsWellNumbered, has_odd_removal}
+use Rattle.ft_laws_names.proofs.AckedLists.{IsBelow, acked-id, same-acked, stands-below}
+use Rattle.ft_laws_names.proofs.Beside.{ends, next}
 use Rattle.ft_matrix.specs.Units.{has_handle}
 use Rattle.ft_matrix.proofs.HeldGrids.{HandlesOnce, MeetsAt, meet-at, meets-rank}
 use Rattle.ft_matrix.proofs.UnitLists.{BesideUnits, HandleNamed, IsUnit, all-behind}

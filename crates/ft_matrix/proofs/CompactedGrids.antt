@@ -19,16 +19,16 @@ use Rattle.ft_op.specs.Document.{Document}
 use Rattle.ft_op.specs.Stages.{Stage}
 use Rattle.ft_msg.specs.Compacted.{stage_holds_col, stage_holds_row}
 use Rattle.ft_msg.specs.Indexed.{IndexedStage, place_in_list}
-use Rattle.ft_leaves.specs.Elements.{TreeElement, universal_stamps}
+use Rattle.ft_tree_leaves.specs.Elements.{TreeElement, universal_stamps}
 use Rattle.ft_tree.specs.State.{TreeState}
 use Rattle.ft_perm.specs.Handles.{HandleRun}
 use Rattle.ft_perm.specs.Vectors.{IsProper, VectorState, in_use, vector_elements}
 use Rattle.ft_cells.specs.CellTables.{CellState, cell_at, empty_cell}
 use Rattle.ft_zamboni.specs.Scours.{is_collectable}
-use Rattle.ft_laws.proofs.SlidEnds.{Once, once-tail, same_id-eq, same_id-refl}
-use Rattle.ft_names.specs.GridFacts.{AreFreeFrom, begins_pending, grid_stages, is_place}
-use Rattle.ft_names.specs.WellNamed.{IsWellNumbered}
-use Rattle.ft_names.proofs.Beside.{Beside, beside-more, ends, next}
+use Rattle.ft_laws_agreement.proofs.SlidEnds.{Once, once-tail, same_id-eq, same_id-refl}
+use Rattle.ft_laws_names.specs.GridFacts.{AreFreeFrom, begins_pending, grid_stages, is_place}
+use Rattle.ft_laws_names.specs.WellNamed.{IsWellNumbered}
+use Rattle.ft_laws_names.proofs.Beside.{Beside, beside-more, ends, next}
 use Rattle.ft_named.proofs.Bares.{from-bare}
 use Rattle.ft_named.proofs.CompactedSteps.{AreToGo, Compacts, KeepsSome, compacts-all, compacts-keeps, universal-id}
 use Rattle.ft_named.proofs.CompactedSteps.{none as kept_none, same as kept_same, universal as kept_universal, collected as kept_collected}

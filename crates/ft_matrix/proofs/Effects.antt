@@ -20,16 +20,16 @@ use Rattle.ft_op.specs.Cells.{cell_value}
 use Rattle.ft_op.specs.Document.{Document, grid_effect, with_skip}
 use Rattle.ft_op.specs.Stages.{Stage}
 use Rattle.ft_msg.specs.Client.{PendingEdit, stages_of}
-use Rattle.ft_leaves.specs.Elements as tree
-use Rattle.ft_leaves.specs.Elements.{TreeElement, removed_stamps, seen_in, with_stamps}
+use Rattle.ft_tree_leaves.specs.Elements as tree
+use Rattle.ft_tree_leaves.specs.Elements.{TreeElement, removed_stamps, seen_in, with_stamps}
 use Rattle.ft_perm.specs.Handles.{handles_of, in_run, numbers_from}
 use Rattle.ft_perm.specs.Vectors.{VectorState, in_use}
-use Rattle.ft_names.specs.WellNamed.{IsAhead, IsUnused, AreWellNamed}
-use Rattle.ft_names.proofs.Beside.{beside-len, beside-more, beside-put, ends, next}
-use Rattle.ft_names.proofs.ForeignAlike.{effects-alike}
-use Rattle.ft_names.proofs.LocalAlike.{StagesBeside, stages-stay}
-use Rattle.ft_names.proofs.RejoinAlike.{EditsBeside}
-use Rattle.ft_names.proofs.StageCounts.{entry-stages, has-stages}
+use Rattle.ft_laws_names.specs.WellNamed.{IsAhead, IsUnused, AreWellNamed}
+use Rattle.ft_laws_names.proofs.Beside.{beside-len, beside-more, beside-put, ends, next}
+use Rattle.ft_laws_names.proofs.ForeignAlike.{effects-alike}
+use Rattle.ft_laws_names.proofs.LocalAlike.{StagesBeside, stages-stay}
+use Rattle.ft_laws_names.proofs.RejoinAlike.{EditsBeside}
+use Rattle.ft_laws_names.proofs.StageCounts.{entry-stages, has-stages}
 use Rattle.ft_matrix.specs.declared.grid.Grid.{Grid}
 use Rattle.ft_matrix.specs.Units.{acked_value, units_of}
 use Rattle.ft_matrix.specs.GridStates.{grid_state}

@@ -3,8 +3,8 @@ use Rattle.std.proofs.Common.{◌≡◌, ◌≤◌, ℕ, true, nat_eq, [], None,
 use Rattle.std.specs.List.{AllByRecursion}
 use Rattle.std.proofs.lemmas.List.Elements.{All-from_recursion}
 use Rattle.ft_base.specs.Scan.{len}
-use Rattle.ft_leaves.specs.Elements.{TreeElement}
-use Rattle.ft_leaves.specs.References.{reference_at}
+use Rattle.ft_tree_leaves.specs.Elements.{TreeElement}
+use Rattle.ft_tree_leaves.specs.References.{reference_at}
 use Rattle.ft_tree.specs.State.{TreeState}
 use Rattle.ft_perm.specs.Handles.{HandleRun}
 use Rattle.ft_perm.specs.Vectors.{VectorState, in_use, vector_elements}

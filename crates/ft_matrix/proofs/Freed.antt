@@ -3,7 +3,7 @@ use Rattle.std.proofs.Common.{◌≡◌, ℕ, ◌+◌, ◌≤◌, All, Bool, tru
 use Rattle.std.proofs.lemmas.Bool.Decides.{nat_tests}
 use Rattle.std.proofs.lemmas.List.Elements.{All-from_recursion, recursion_from_All}
 use Rattle.ft_base.specs.Scan.{one_more_if}
-use Rattle.ft_leaves.specs.Elements.{TreeElement}
+use Rattle.ft_tree_leaves.specs.Elements.{TreeElement}
 use Rattle.ft_perm.specs.Handles.{HandleRun, in_run}
 use Rattle.ft_perm.specs.Vectors.{IsProper, VectorState, in_use, times_held, vector_elements}
 use Rattle.ft_cells.specs.CellTables.{cell_at, empty_cell}

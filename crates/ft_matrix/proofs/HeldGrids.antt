@@ -17,16 +17,16 @@ use Rattle.ft_op.specs.Stages.{Stage}
 use Rattle.ft_msg.specs.Client.{NaiveClient, client_over}
 use Rattle.ft_msg.specs.Content.{all_cells}
 use Rattle.ft_msg.specs.Indexed.{IndexedStage, indexed_stage, place_in_list}
-use Rattle.ft_leaves.specs.Elements.{TreeElement}
+use Rattle.ft_tree_leaves.specs.Elements.{TreeElement}
 use Rattle.ft_perm.specs.Vectors.{IsProper, VectorState, in_use}
 use Rattle.ft_cells.specs.CellTables.{CellList, cell_at}
-use Rattle.ft_laws.proofs.SlidEnds.{Once, once-tail, true-false}
-use Rattle.ft_names.specs.WellNamed.{AreStagesNamed, AreThere, HasItsStages, IsUnused, IsWellNamed, IsWellNumbered, RiseTo, StandsIn, AreWellNamed}
-use Rattle.ft_names.proofs.Beside.{beside-len, beside-more, beside-rank, ends, next}
-use Rattle.ft_names.proofs.ClientsAlike.{ClientsAlike}
-use Rattle.ft_names.proofs.Indexing.{alike-itself, well-named}
-use Rattle.ft_names.proofs.ListSteps.{unused-other}
-use Rattle.ft_names.specs.GridFacts.{grid_stages}
+use Rattle.ft_laws_agreement.proofs.SlidEnds.{Once, once-tail, true-false}
+use Rattle.ft_laws_names.specs.WellNamed.{AreStagesNamed, AreThere, HasItsStages, IsUnused, IsWellNamed, IsWellNumbered, RiseTo, StandsIn, AreWellNamed}
+use Rattle.ft_laws_names.proofs.Beside.{beside-len, beside-more, beside-rank, ends, next}
+use Rattle.ft_laws_names.proofs.ClientsAlike.{ClientsAlike}
+use Rattle.ft_laws_names.proofs.Indexing.{alike-itself, well-named}
+use Rattle.ft_laws_names.proofs.ListSteps.{unused-other}
+use Rattle.ft_laws_names.specs.GridFacts.{grid_stages}
 use Rattle.ft_matrix.specs.declared.grid.Grid.{Grid}
 use Rattle.ft_matrix.specs.declared.stages.GridStage.{GridStage}
 use Rattle.ft_matrix.specs.Units.{acked_value, has_handle, place_of_handle, placed_cells, shown_unit, unit_value, units_of}

@@ -7,12 +7,12 @@ use Rattle.std.proofs.lemmas.List.{drop_all, drop_more}
 use Rattle.ft_base.specs.Scan.{at, retain_map}
 use Rattle.ft_block.specs.declared.leaves.LenView.TheVariants.{Stage}
 use Rattle.ft_cells.specs.CellTables.{CellList, CellState, CellTable, cell_at, changed_cell, empty_cell, shown_value, with_acked}
-use Rattle.ft_leaves.specs.Elements.{TreeElement, seen_in}
-use Rattle.ft_laws.proofs.SlidEnds.{Once}
+use Rattle.ft_tree_leaves.specs.Elements.{TreeElement, seen_in}
+use Rattle.ft_laws_agreement.proofs.SlidEnds.{Once}
 use Rattle.ft_msg.specs.Summary as summary
 use Rattle.ft_msg.specs.Summary.{cells_of}
-use Rattle.ft_names.proofs.Beside.{Both, beside-both, beside-more, both-at, each, neither}
-use Rattle.ft_names.proofs.DocumentsAlike.{same_id-turn}
+use Rattle.ft_laws_names.proofs.Beside.{Both, beside-both, beside-more, both-at, each, neither}
+use Rattle.ft_laws_names.proofs.DocumentsAlike.{same_id-turn}
 use Rattle.ft_op.specs.Cells.{Cell, cell_value, is_cell, is_null}
 use Rattle.ft_props.specs.Element.{ElementId, ListElement, id, is_unremoved, same_id}
 use Rattle.ft_props.specs.Properties.{ValueBytes}

@@ -7,16 +7,16 @@ use Rattle.ft_base.specs.declared.stamps.Stamp.TheVariants.{Acked, Local}
 use Rattle.ft_base.specs.Visibility.{has_occurred_at_stage, is_acked}
 use Rattle.ft_base.proofs.Booleans.{both}
 use Rattle.ft_block.specs.declared.leaves.LenView.TheVariants.{Stage}
-use Rattle.ft_leaves.specs.Elements.{TreeElement, seen_in}
+use Rattle.ft_tree_leaves.specs.Elements.{TreeElement, seen_in}
 use Rattle.ft_cells.specs.CellTables.{CellList, CellState, cell_at, empty_cell}
 use Rattle.ft_props.specs.Element.{ElementContent, GridUnit, ListElement, is_unremoved, new_elements, removal_stamp}
 use Rattle.ft_op.specs.Document.{Document}
 use Rattle.ft_op.specs.Cells.{is_null}
-use Rattle.ft_laws.proofs.SummaryStarts.{summary-sound}
+use Rattle.ft_laws_agreement.proofs.SummaryStarts.{summary-sound}
 use Rattle.ft_msg.specs.Summary.{doc_of, run_items, stamp_of}
-use Rattle.ft_names.specs.WellNamed.{AreWellNamed}
-use Rattle.ft_names.proofs.Beside.{beside-both, beside-each, beside-more}
-use Rattle.ft_names.proofs.NamedStarts.{start-named}
+use Rattle.ft_laws_names.specs.WellNamed.{AreWellNamed}
+use Rattle.ft_laws_names.proofs.Beside.{beside-both, beside-each, beside-more}
+use Rattle.ft_laws_names.proofs.NamedStarts.{start-named}
 use Rattle.ft_perm.specs.Vectors.{VectorState, in_use, seen_handles}
 use Rattle.ft_sumdoc.specs.declared.summary.CellRec.{CellRec}
 use Rattle.ft_sumdoc.specs.declared.summary.RunRec.{RunRec}

@@ -7,9 +7,9 @@ use Rattle.ft_base.specs.declared.elements.Element.{Element as ElementStamps}
 use Rattle.ft_base.specs.Scan.{len, one_more_if}
 use Rattle.ft_base.specs.Visibility.{is_of_stage}
 use Rattle.ft_base.proofs.Booleans.{both}
-use Rattle.ft_leaves.specs.Elements.{TreeElement, element_with, elements_with}
-use Rattle.ft_leaves.specs.References.{KeepsReferences, reference_at}
-use Rattle.ft_laws.proofs.SlidEnds.{true-false}
+use Rattle.ft_tree_leaves.specs.Elements.{TreeElement, element_with, elements_with}
+use Rattle.ft_tree_leaves.specs.References.{KeepsReferences, reference_at}
+use Rattle.ft_laws_agreement.proofs.SlidEnds.{true-false}
 use Rattle.ft_msg.specs.Summary.{run_items, stamp_of}
 use Rattle.ft_named.proofs.Lists.{map-append}
 use Rattle.ft_perm.specs.Handles.{HandleRun, handles_of, in_run, numbers_from}
@@ -24,7 +24,7 @@ use Rattle.ft_matrix.specs.Splices.{TakesRun}
 use Rattle.ft_matrix.specs.Units.{shown_unit, shown_units, units_of}
 use Rattle.ft_matrix.proofs.SoundVectors.{all-append, all-weaker, below-run, later-run, none-stands, or-left, or-right}
 use Rattle.std.proofs.lemmas.List.{length-map}
-use Rattle.ft_leaves.proofs.Runs.{len-append}
+use Rattle.ft_tree_leaves.proofs.Runs.{len-append}
 
 -- ---- units with the same stamps
 

@@ -19,15 +19,15 @@ use Rattle.ft_op.specs.Document.{Document, rows_or_cols, with_rows_or_cols}
 use Rattle.ft_op.specs.Stages.{Stage}
 use Rattle.ft_msg.specs.Client.{EditResult, if_in_range, local_grid, local_set, local_sub_operations}
 use Rattle.ft_msg.specs.Indexed.{indexed_stage}
-use Rattle.ft_leaves.specs.Elements.{seen_in}
+use Rattle.ft_tree_leaves.specs.Elements.{seen_in}
 use Rattle.ft_perm.specs.Vectors.{VectorState}
-use Rattle.ft_names.specs.WellNamed.{HasItsStages, RiseTo, AreWellNamed}
-use Rattle.ft_names.proofs.Beside.{beside-append, ends, next}
-use Rattle.ft_names.proofs.ClientsAlike.{ClientsAlike}
-use Rattle.ft_names.proofs.DocumentsAlike.{DocsStep}
-use Rattle.ft_names.proofs.LocalAlike.{StagesBeside, SubsAlike, stages-stay, subs-alike, went}
-use Rattle.ft_names.specs.GridFacts.{is_unit_below}
-use Rattle.ft_laws.specs.Sequencing.{is_grid_stage}
+use Rattle.ft_laws_names.specs.WellNamed.{HasItsStages, RiseTo, AreWellNamed}
+use Rattle.ft_laws_names.proofs.Beside.{beside-append, ends, next}
+use Rattle.ft_laws_names.proofs.ClientsAlike.{ClientsAlike}
+use Rattle.ft_laws_names.proofs.DocumentsAlike.{DocsStep}
+use Rattle.ft_laws_names.proofs.LocalAlike.{StagesBeside, SubsAlike, stages-stay, subs-alike, went}
+use Rattle.ft_laws_names.specs.GridFacts.{is_unit_below}
+use Rattle.ft_laws_agreement.specs.Sequencing.{is_grid_stage}
 use Rattle.ft_matrix.specs.declared.grid.Grid.{Grid}
 use Rattle.ft_matrix.specs.declared.stages.GridStage.{GridStage}
 use Rattle.ft_matrix.specs.Units.{shown_unit, units_of}

@@ -12,10 +12,10 @@ use Rattle.ft_block.specs.Leaves.{last_stage}
 use Rattle.ft_op.specs.declared.operations.CellOp.{CellOp}
 use Rattle.ft_props.specs.Element.{NamelessElement}
 use Rattle.ft_msg.specs.Indexed.{IndexedStage}
-use Rattle.ft_leaves.specs.Elements.{TreeElement, new_elements, removed_stamps, seen_in, with_stamps}
+use Rattle.ft_tree_leaves.specs.Elements.{TreeElement, new_elements, removed_stamps, seen_in, with_stamps}
 use Rattle.ft_perm.specs.Handles.{handles_of, numbers_from, in_run}
 use Rattle.ft_perm.specs.Vectors.{VectorState, in_use}
-use Rattle.ft_names.specs.GridFacts.{is_stamp_below, is_unit_below}
+use Rattle.ft_laws_names.specs.GridFacts.{is_stamp_below, is_unit_below}
 use Rattle.ft_matrix.specs.declared.grid.Grid.{Grid}
 use Rattle.ft_matrix.specs.declared.stages.GridStage.{GridStage}
 use Rattle.ft_matrix.specs.Units.{shown_unit, units_of}

@@ -12,14 +12,14 @@ use Rattle.ft_block.specs.declared.leaves.LenView.TheVariants.{Stage}
 use Rattle.ft_block.specs.Leaves.{last_stage}
 use Rattle.ft_props.specs.Element.{ElementId, GridUnit, ListElement, PendingId, new_elements, removal_stamp, seen, with_pending_removal}
 use Rattle.ft_props.specs.Steps.{Sequence}
-use Rattle.ft_leaves.specs.Elements as tree
-use Rattle.ft_leaves.specs.Elements.{TreeElement, removed_stamps, seen_in, with_stamps}
+use Rattle.ft_tree_leaves.specs.Elements as tree
+use Rattle.ft_tree_leaves.specs.Elements.{TreeElement, removed_stamps, seen_in, with_stamps}
 use Rattle.ft_perm.specs.Handles.{handles_of, numbers_from}
 use Rattle.ft_perm.specs.Vectors.{VectorState, in_use}
-use Rattle.ft_laws.proofs.SlidEnds.{true-false}
-use Rattle.ft_names.specs.WellNamed.{IsUnused}
-use Rattle.ft_names.proofs.Beside.{Beside, beside-len, beside-put, ends, next}
-use Rattle.ft_names.specs.GridFacts.{is_stamp_below, is_unit_below}
+use Rattle.ft_laws_agreement.proofs.SlidEnds.{true-false}
+use Rattle.ft_laws_names.specs.WellNamed.{IsUnused}
+use Rattle.ft_laws_names.proofs.Beside.{Beside, beside-len, beside-put, ends, next}
+use Rattle.ft_laws_names.specs.GridFacts.{is_stamp_below, is_unit_below}
 use Rattle.ft_matrix.specs.Splices.{MarksUnits, PutsUnits}
 use Rattle.ft_matrix.specs.Units.{shown_unit, units_of}
 use Rattle.ft_matrix.proofs.Effects.{within-run}

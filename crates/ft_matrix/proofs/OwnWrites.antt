@@ -15,11 +15,11 @@ use Rattle.ft_op.specs.Document.{Document}
 use Rattle.ft_op.specs.Stages.{Stage}
 use Rattle.ft_op.specs.Operation.{OnGrid}
 use Rattle.ft_msg.specs.Indexed.{indexed_stage}
-use Rattle.ft_leaves.specs.Elements.{TreeElement, seen_in}
+use Rattle.ft_tree_leaves.specs.Elements.{TreeElement, seen_in}
 use Rattle.ft_perm.specs.Vectors.{IsProper, VectorState, in_use, seen_handles}
 use Rattle.ft_cells.specs.CellTables.{CellList, CellState, cell_at, changed_cell, empty_cell, with_write}
-use Rattle.ft_names.proofs.Beside.{Both, beside-more, both-at, each, neither}
-use Rattle.ft_names.specs.GridFacts.{is_unit_below}
+use Rattle.ft_laws_names.proofs.Beside.{Both, beside-more, both-at, each, neither}
+use Rattle.ft_laws_names.specs.GridFacts.{is_unit_below}
 use Rattle.ft_matrix.specs.declared.grid.Grid.{Grid}
 use Rattle.ft_matrix.specs.declared.stages.GridStage.{GridStage}
 use Rattle.ft_matrix.specs.Units.{acked_value, has_handle, shown_unit, units_of}

@@ -9,8 +9,8 @@ use Rattle.ft_props.specs.Element.{ListElement, id}
 use Rattle.ft_op.specs.Cells.{Cell, cell_value}
 use Rattle.ft_op.specs.Stages.{Stage}
 use Rattle.ft_msg.specs.Content.{all_cells, cell_record, row_cells, shown_cell_value}
-use Rattle.ft_laws.proofs.SlidEnds.{true-false}
-use Rattle.ft_names.proofs.Beside.{Beside, ends, next}
+use Rattle.ft_laws_agreement.proofs.SlidEnds.{true-false}
+use Rattle.ft_laws_names.proofs.Beside.{Beside, ends, next}
 use Rattle.ft_matrix.specs.Units.{placed_cells, placed_row}
 
 -- ---- the cells of a document

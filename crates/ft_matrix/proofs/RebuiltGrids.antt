@@ -12,9 +12,9 @@ use Rattle.ft_op.specs.Stages.{Stage}
 use Rattle.ft_msg.specs.Reconnection.{rebuilt_document}
 use Rattle.ft_perm.specs.Vectors.{VectorState}
 use Rattle.ft_cells.specs.CellTables.{cell_at}
-use Rattle.ft_names.specs.WellNamed.{IsWellNumbered}
-use Rattle.ft_names.proofs.Beside.{beside-any, beside-more}
-use Rattle.ft_names.proofs.RebuiltLists.{Rises}
+use Rattle.ft_laws_names.specs.WellNamed.{IsWellNumbered}
+use Rattle.ft_laws_names.proofs.Beside.{beside-any, beside-more}
+use Rattle.ft_laws_names.proofs.RebuiltLists.{Rises}
 use Rattle.ft_rebase.specs.StageLists.{StagesUpTo, inserted_by}
 use Rattle.ft_rebase.proofs.NamedLists.{AreStagesOf}
 use Rattle.ft_named.proofs.RebuiltSteps.{none-from-len, stages-of, stamps_in}

@@ -11,13 +11,13 @@ use Rattle.ft_base.specs.Visibility.{is_acked, is_of_stage, seen_at}
 use Rattle.ft_props.specs.Element.{ElementId, ListElement, NamelessElement, id, is_sequenced, seen, stamps_of}
 use Rattle.ft_props.specs.Steps.{Sequence, is_inserted_by, rebuilt_list}
 use Rattle.ft_props.specs.Steps.{carried_element as document_carried}
-use Rattle.ft_leaves.specs.Elements.{TreeElement}
-use Rattle.ft_leaves.specs.declared.references.Reference.{Reference}
-use Rattle.ft_leaves.specs.References.{ChangesReferences}
+use Rattle.ft_tree_leaves.specs.Elements.{TreeElement}
+use Rattle.ft_tree_leaves.specs.declared.references.Reference.{Reference}
+use Rattle.ft_tree_leaves.specs.References.{ChangesReferences}
 use Rattle.ft_tree.specs.State.{KeepsRest}
 use Rattle.ft_perm.specs.Vectors.{VectorState, in_use}
-use Rattle.ft_laws.proofs.AgreedStage.{len-put-add}
-use Rattle.ft_names.proofs.Beside.{Beside, beside-choice, beside-filter, beside-put, beside-rank, ends, next}
+use Rattle.ft_laws_agreement.proofs.AgreedStage.{len-put-add}
+use Rattle.ft_laws_names.proofs.Beside.{Beside, beside-choice, beside-filter, beside-put, beside-rank, ends, next}
 use Rattle.ft_rebase.specs.Normalised.{carried_element, without_pending}
 use Rattle.ft_rebase.specs.Normalised.{rebuilt_list as tree_rebuilt}
 use Rattle.ft_rebase.specs.StageLists.{StagesUpTo, StandSideBySide, inserted_by, next_position, seen_by, seen_or_next, sequenced, with_stages}

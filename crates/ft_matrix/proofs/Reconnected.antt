@@ -10,8 +10,8 @@ use Rattle.ft_op.specs.Stages.{Stage}
 use Rattle.ft_msg.specs.Indexed.{IndexedStage, indexed_stage}
 use Rattle.ft_msg.specs.Reconnection.{carried_stage}
 use Rattle.ft_perm.specs.Handles.{numbers_from}
-use Rattle.ft_laws.specs.Sequencing.{is_grid_stage}
-use Rattle.ft_names.specs.WellNamed.{AreNamedBefore, AreThere}
+use Rattle.ft_laws_agreement.specs.Sequencing.{is_grid_stage}
+use Rattle.ft_laws_names.specs.WellNamed.{AreNamedBefore, AreThere}
 use Rattle.ft_named.proofs.Bares.{from-bare}
 use Rattle.ft_named.proofs.ListSteps.{even-removals}
 use Rattle.ft_named.proofs.PieceSteps.{removal-runs}

@@ -22,10 +22,10 @@ use Rattle.ft_op.specs.Document.{Document}
 use Rattle.ft_op.specs.Intervals.{NamedElements, no_elements}
 use Rattle.ft_op.specs.Stages.{Stage}
 use Rattle.ft_msg.specs.Client.{EditResult, local_grid, local_sub_operations}
-use Rattle.ft_leaves.specs.Elements.{TreeElement, seen_in}
-use Rattle.ft_laws.proofs.AgreedStage.{len-put-add}
-use Rattle.ft_names.proofs.Beside.{ends, next}
-use Rattle.ft_names.specs.GridFacts.{is_stamp_below, is_unit_below}
+use Rattle.ft_tree_leaves.specs.Elements.{TreeElement, seen_in}
+use Rattle.ft_laws_agreement.proofs.AgreedStage.{len-put-add}
+use Rattle.ft_laws_names.proofs.Beside.{ends, next}
+use Rattle.ft_laws_names.specs.GridFacts.{is_stamp_below, is_unit_below}
 use Rattle.ft_matrix.specs.declared.grid.Grid.{Grid}
 use Rattle.ft_matrix.specs.Applied.{Holds}
 use Rattle.ft_matrix.specs.Conditions.{IsAboveAll}

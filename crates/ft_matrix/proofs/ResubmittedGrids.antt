@@ -13,14 +13,14 @@ use Rattle.ft_op.specs.Stages.{Stage}
 use Rattle.ft_props.specs.Properties.{ValueBytes}
 use Rattle.ft_msg.specs.Indexed.{IndexedStage, indexed_stage}
 use Rattle.ft_msg.specs.Reconnection.{carried_stage}
-use Rattle.ft_leaves.specs.Elements.{TreeElement}
+use Rattle.ft_tree_leaves.specs.Elements.{TreeElement}
 use Rattle.ft_perm.specs.Handles.{numbers_from}
 use Rattle.ft_perm.specs.Vectors.{VectorState, in_use}
 use Rattle.ft_cells.specs.CellTables.{CellState, cell_at, empty_cell}
-use Rattle.ft_laws.specs.Sequencing.{is_grid_stage}
-use Rattle.ft_names.specs.GridFacts.{grid_stages}
-use Rattle.ft_names.specs.WellNamed.{AreNamedBefore, AreStagesNamed, AreThere, RiseTo}
-use Rattle.ft_names.proofs.Beside.{beside-more}
+use Rattle.ft_laws_agreement.specs.Sequencing.{is_grid_stage}
+use Rattle.ft_laws_names.specs.GridFacts.{grid_stages}
+use Rattle.ft_laws_names.specs.WellNamed.{AreNamedBefore, AreStagesNamed, AreThere, RiseTo}
+use Rattle.ft_laws_names.proofs.Beside.{beside-more}
 use Rattle.ft_matrix.specs.declared.grid.Grid.{Grid}
 use Rattle.ft_matrix.specs.declared.stages.GridStage.{GridStage}
 use Rattle.ft_matrix.specs.Applied.{Holds}

@@ -10,7 +10,7 @@ use Rattle.ft_base.specs.Scan.{len, one_more_if, retain_map}
 use Rattle.ft_base.specs.Visibility.{has_occurred_at_stage, is_acked}
 use Rattle.ft_base.proofs.Booleans.{both}
 use Rattle.ft_block.specs.Leaves.{last_stage}
-use Rattle.ft_leaves.specs.Elements.{TreeElement, seen_in}
+use Rattle.ft_tree_leaves.specs.Elements.{TreeElement, seen_in}
 use Rattle.ft_cells.specs.CellTables.{cell_at, last_value, unless_null}
 use Rattle.ft_props.specs.Compaction.{has_collectable_removal, is_collectable, is_insertion_at_or_below, trim_element, with_universal_insertion}
 use Rattle.ft_props.specs.Properties.{ValueBytes}
@@ -24,14 +24,14 @@ use Rattle.ft_sumdoc.specs.declared.summary.Mark.{Mark}
 use Rattle.ft_sumdoc.specs.declared.summary.RunRec.{RunRec}
 use Rattle.ft_sumdoc.specs.declared.summary.CellRec.{CellRec}
 use Rattle.ft_sumdoc.specs.declared.summary.SumDoc.{SumDoc}
-use Rattle.ft_laws.proofs.SlidEnds.{Once, once-tail, same_id-eq, same_id-refl}
-use Rattle.ft_laws.proofs.TrimmedContent.{removed-unseen, trimmed-cols, trimmed-rows}
-use Rattle.ft_laws.proofs.TrimmedDocument.{is_removed}
-use Rattle.ft_laws.proofs.TrimmedFromNow.{collectable-removed}
+use Rattle.ft_laws_agreement.proofs.SlidEnds.{Once, once-tail, same_id-eq, same_id-refl}
+use Rattle.ft_laws_agreement.proofs.TrimmedContent.{removed-unseen, trimmed-cols, trimmed-rows}
+use Rattle.ft_laws_agreement.proofs.TrimmedDocument.{is_removed}
+use Rattle.ft_laws_agreement.proofs.TrimmedFromNow.{collectable-removed}
 use Rattle.ft_perm.specs.Vectors.{VectorState, seen_handles}
-use Rattle.ft_names.specs.WellNamed.{AreWellNamed}
-use Rattle.ft_names.specs.GridFacts.{is_stamp_below, is_unit_below}
-use Rattle.ft_names.proofs.Beside.{Beside, beside-both, beside-each, beside-more, ends, next}
+use Rattle.ft_laws_names.specs.WellNamed.{AreWellNamed}
+use Rattle.ft_laws_names.specs.GridFacts.{is_stamp_below, is_unit_below}
+use Rattle.ft_laws_names.proofs.Beside.{Beside, beside-both, beside-each, beside-more, ends, next}
 use Rattle.ft_matrix.specs.declared.grid.Grid.{Grid}
 use Rattle.ft_matrix.specs.declared.stages.GridStage.{GridStage}
 use Rattle.ft_matrix.specs.Conditions.{IsAboveAll}

@@ -7,11 +7,11 @@ use Rattle.ft_base.specs.declared.elements.Element.{Element as ElementStamps}
 use Rattle.ft_base.specs.declared.memory.OutOfMemory.{OutOfMemory}
 use Rattle.ft_base.proofs.Booleans.{both}
 use Rattle.ft_block.specs.Leaves.{IsLeafIn, IsPlaceIn, ids, times_leaf, value_at}
-use Rattle.ft_leaf_blocks.specs.Walks.{from_place}
-use Rattle.ft_leaf_blocks.proofs.Walks.{after_in_place, first_in_place, from_first}
-use Rattle.ft_leaves.specs.declared.leaves.TreeLeaf.{TreeLeaf}
-use Rattle.ft_leaves.specs.Elements.{TreeElement, elements_with}
-use Rattle.ft_leaves.specs.LeafLists.{elements}
+use Rattle.ft_tree_blocks.specs.Walks.{from_place}
+use Rattle.ft_tree_blocks.proofs.Walks.{after_in_place, first_in_place, from_first}
+use Rattle.ft_tree_leaves.specs.declared.leaves.TreeLeaf.{TreeLeaf}
+use Rattle.ft_tree_leaves.specs.Elements.{TreeElement, elements_with}
+use Rattle.ft_tree_leaves.specs.LeafLists.{elements}
 use Rattle.ft_named.proofs.LeafWalks.{stands-next}
 use Rattle.ft_op.specs.Same.{same_list}
 use Rattle.ft_op.proofs.SameOperations.{same_list-Decides}

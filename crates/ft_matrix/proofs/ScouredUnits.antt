@@ -5,13 +5,13 @@ use Rattle.std.proofs.lemmas.Bool.Decides.{nat_tests}
 use Rattle.std.proofs.lemmas.List.Elements.{All-from_recursion, recursion_from_All}
 use Rattle.ft_base.specs.declared.elements.Element.{Element as ElementStamps}
 use Rattle.ft_base.specs.Scan.{len, one_more_if, rank}
-use Rattle.ft_leaves.specs.declared.leaves.TreeLeaf.{TreeLeaf}
-use Rattle.ft_leaves.specs.declared.references.Reference.{Reference}
-use Rattle.ft_leaves.specs.Elements.{TreeElement, elements_with, universal_stamps, with_stamps}
-use Rattle.ft_leaves.specs.LeafLists.{elements}
-use Rattle.ft_leaves.specs.References.{ChangesReferences, place_of}
+use Rattle.ft_tree_leaves.specs.declared.leaves.TreeLeaf.{TreeLeaf}
+use Rattle.ft_tree_leaves.specs.declared.references.Reference.{Reference}
+use Rattle.ft_tree_leaves.specs.Elements.{TreeElement, elements_with, universal_stamps, with_stamps}
+use Rattle.ft_tree_leaves.specs.LeafLists.{elements}
+use Rattle.ft_tree_leaves.specs.References.{ChangesReferences, place_of}
 use Rattle.ft_props.specs.Overlay.{OverlayState}
-use Rattle.ft_names.specs.GridFacts.{AreFreeFrom, is_place}
+use Rattle.ft_laws_names.specs.GridFacts.{AreFreeFrom, is_place}
 use Rattle.ft_perm.specs.Handles.{HandleRun, handles_of, in_run, numbers_from}
 use Rattle.ft_perm.specs.Vectors.{IsProper, VectorState, in_use, times_held}
 use Rattle.ft_zamboni.specs.Scours.{AreClear, Writes, ahead, around, collected, is_collectable, left_over, looked_at, marked, marks, staying, swept, unmarked}

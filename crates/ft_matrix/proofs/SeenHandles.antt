@@ -11,9 +11,9 @@ use Rattle.std.proofs.lemmas.Option.{slice_get_within}
 use Rattle.ft_base.specs.Scan.{len, one_more_if, retain_map}
 use Rattle.ft_arena.specs.Ids.{after, first}
 use Rattle.ft_block.specs.Leaves.{IsPlaceIn, ids, last_stage, times_leaf, value_at}
-use Rattle.ft_leaves.specs.declared.leaves.TreeLeaf.{TreeLeaf}
-use Rattle.ft_leaves.specs.Elements.{TreeElement}
-use Rattle.ft_leaf_blocks.specs.Walks.{from_place}
+use Rattle.ft_tree_leaves.specs.declared.leaves.TreeLeaf.{TreeLeaf}
+use Rattle.ft_tree_leaves.specs.Elements.{TreeElement}
+use Rattle.ft_tree_blocks.specs.Walks.{from_place}
 use Rattle.ft_named.proofs.LeafWalks.{Walks, stands-next, walk-begin, walk-done, walk-next}
 use Rattle.ft_perm.specs.Handles.{HandleRun, handles_of, numbers_from}
 use Rattle.ft_perm.specs.HandleLaws.{length-numbers_from}

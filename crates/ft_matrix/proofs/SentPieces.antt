@@ -23,11 +23,11 @@ use Rattle.ft_props.specs.Properties.{ValueBytes}
 use Rattle.ft_props.specs.Element.{ElementId, ListElement, PendingId, SequencedId, has_id, id, seen, stamps_of}
 use Rattle.ft_props.specs.Steps.{is_inserted_by, is_removed_by, lowered_runs, stage_position}
 use Rattle.ft_props.specs.Steps.{marked_runs as document_runs}
-use Rattle.ft_leaves.specs.Elements.{TreeElement, seen_in}
+use Rattle.ft_tree_leaves.specs.Elements.{TreeElement, seen_in}
 use Rattle.ft_perm.specs.Vectors.{IsProper, VectorState}
-use Rattle.ft_laws.proofs.SlidEnds.{Once, same_id-eq}
-use Rattle.ft_names.specs.WellNamed.{AreNamedBefore, IsNamedBefore}
-use Rattle.ft_names.proofs.Beside.{beside-any, beside-rank}
+use Rattle.ft_laws_agreement.proofs.SlidEnds.{Once, same_id-eq}
+use Rattle.ft_laws_names.specs.WellNamed.{AreNamedBefore, IsNamedBefore}
+use Rattle.ft_laws_names.proofs.Beside.{beside-any, beside-rank}
 use Rattle.ft_rebase.specs.Pieces.{marked_runs}
 use Rattle.ft_rebase.specs.Pieces.{is_inserted_by as is_put_in_by}
 use Rattle.ft_rebase.specs.declared.marks.Mark.TheVariants.{Removal}

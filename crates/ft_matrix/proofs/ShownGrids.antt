@@ -17,15 +17,15 @@ use Rattle.ft_msg.specs.declared.views.View.{View}
 use Rattle.ft_msg.specs.Content.{all_cells, cell_after_stage, shown_cell_value, stage_view}
 use Rattle.ft_msg.specs.Indexed.{IndexedStage, indexed_stage, place_in_list, places_of}
 use Rattle.ft_sumdoc.specs.declared.summary.CellRec.{CellRec}
-use Rattle.ft_leaves.specs.Elements.{TreeElement, seen_in}
+use Rattle.ft_tree_leaves.specs.Elements.{TreeElement, seen_in}
 use Rattle.ft_perm.specs.Vectors.{VectorState, seen_handles}
 use Rattle.ft_cells.specs.CellTables.{cell_at, last_value, unless_null}
-use Rattle.ft_laws.specs.Sequencing.{is_grid_stage}
-use Rattle.ft_laws.proofs.SlidEnds.{Once}
-use Rattle.ft_names.specs.WellNamed.{AreWellNamed}
-use Rattle.ft_names.specs.GridFacts.{is_unit_below}
-use Rattle.ft_names.proofs.Beside.{Beside, beside-both, beside-length, beside-more, ends, next}
-use Rattle.ft_names.proofs.DocumentsAlike.{same_id-turn}
+use Rattle.ft_laws_agreement.specs.Sequencing.{is_grid_stage}
+use Rattle.ft_laws_agreement.proofs.SlidEnds.{Once}
+use Rattle.ft_laws_names.specs.WellNamed.{AreWellNamed}
+use Rattle.ft_laws_names.specs.GridFacts.{is_unit_below}
+use Rattle.ft_laws_names.proofs.Beside.{Beside, beside-both, beside-length, beside-more, ends, next}
+use Rattle.ft_laws_names.proofs.DocumentsAlike.{same_id-turn}
 use Rattle.ft_matrix.specs.declared.grid.Grid.{Grid}
 use Rattle.ft_matrix.specs.declared.stages.GridStage.{GridStage}
 use Rattle.ft_matrix.specs.Conditions.{IsAboveAll}

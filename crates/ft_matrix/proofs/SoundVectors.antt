@@ -11,18 +11,18 @@ use Rattle.ft_base.specs.Visibility.{is_of_stage}
 use Rattle.ft_base.specs.Scan.{change_range_from, len, one_more_if, put, put_past, within}
 use Rattle.ft_block.specs.declared.leaves.LenView.{LenView}
 use Rattle.ft_props.specs.Properties.{PropertySet, apply, max_safe_integer}
-use Rattle.ft_leaves.specs.declared.references.Reference.{Reference}
+use Rattle.ft_tree_leaves.specs.declared.references.Reference.{Reference}
 use Rattle.ft_props.specs.Overlay.{after_ack}
 use Rattle.ft_props.specs.Steps.{acked_stamp}
-use Rattle.ft_leaves.specs.Elements.{IsLowestChange, TreeElement, acked_element, new_elements, removed_stamps, seen_in, with_stamps}
-use Rattle.ft_leaves.specs.References.{ChangesReferences, KeepsReferences, reference_at}
+use Rattle.ft_tree_leaves.specs.Elements.{IsLowestChange, TreeElement, acked_element, new_elements, removed_stamps, seen_in, with_stamps}
+use Rattle.ft_tree_leaves.specs.References.{ChangesReferences, KeepsReferences, reference_at}
 use Rattle.ft_tree.specs.State.{KeepsRest, TreeState}
 use Rattle.ft_perm.specs.Handles.{HandleRun, handles_of, in_run, numbers_from}
 use Rattle.ft_perm.specs.HandleLaws.{length-numbers_from}
 use Rattle.ft_perm.specs.Vectors.{VectorState, in_use, vector_elements}
-use Rattle.ft_laws.proofs.AgreedStage.{len-put-add}
-use Rattle.ft_laws.proofs.RangesOfLists.{len-range}
-use Rattle.ft_laws.proofs.SlidEnds.{true-false}
+use Rattle.ft_laws_agreement.proofs.AgreedStage.{len-put-add}
+use Rattle.ft_laws_agreement.proofs.RangesOfLists.{len-range}
+use Rattle.ft_laws_agreement.proofs.SlidEnds.{true-false}
 use Rattle.ft_matrix.specs.Sound.{IsSoundVector, IsStaged, no_properties}
 use Rattle.ft_matrix.specs.Splices.{AcksUnits, MarksUnits, PutsUnits, TakesRun}
 use Rattle.ft_matrix.specs.Units.{units_of}

@@ -10,11 +10,11 @@ use Rattle.ft_base.specs.Visibility.{is_acked, is_of_stage, seen_at, sees}
 use Rattle.ft_block.specs.declared.leaves.LenView.TheVariants.{At, Stage}
 use Rattle.ft_props.specs.Element.{ElementId, GridUnit, ListElement, NamelessElement, id, id_of_stamp, is_pending, nameless, new_elements, removal_stamp, seen, seen_by, stamps_of, with_pending_removal, with_removal}
 use Rattle.ft_props.specs.Steps.{is_inserted_by}
-use Rattle.ft_leaves.specs.Elements as tree
-use Rattle.ft_leaves.specs.Elements.{TreeElement, removed_stamps, seen_in, with_stamps}
+use Rattle.ft_tree_leaves.specs.Elements as tree
+use Rattle.ft_tree_leaves.specs.Elements.{TreeElement, removed_stamps, seen_in, with_stamps}
 use Rattle.ft_perm.specs.Handles.{numbers_from}
-use Rattle.ft_names.specs.WellNamed.{has_odd_removal}
-use Rattle.ft_names.proofs.Beside.{Beside, ends, next, same-map}
+use Rattle.ft_laws_names.specs.WellNamed.{has_odd_removal}
+use Rattle.ft_laws_names.proofs.Beside.{Beside, ends, next, same-map}
 use Rattle.ft_matrix.specs.Units.{shown_unit}
 
 -- the element without its name is the unit without its handle, and what counts as its sequenced removals are such

@@ -15,13 +15,13 @@ use Rattle.ft_op.specs.Cells.{cell_value, write_cell}
 use Rattle.ft_op.specs.Document.{Document, cell_effect, grid_effect, with_skip}
 use Rattle.ft_op.specs.Stages.{Stage}
 use Rattle.ft_msg.specs.Content.{value_unless_null}
-use Rattle.ft_leaves.specs.Elements.{TreeElement, seen_in}
+use Rattle.ft_tree_leaves.specs.Elements.{TreeElement, seen_in}
 use Rattle.ft_perm.specs.Vectors.{IsProper, VectorState, in_use, seen_handles}
 use Rattle.ft_cells.specs.CellTables.{CellList, CellState, cell_at, changed_cell, empty_cell, with_acked}
-use Rattle.ft_laws.proofs.CellValues.{value-write}
-use Rattle.ft_laws.proofs.SlidEnds.{Once, once-tail, same_id-refl}
-use Rattle.ft_names.proofs.Beside.{Both, beside-both, beside-more, both-at, each, ends, next}
-use Rattle.ft_names.proofs.DocumentsAlike.{same_id-turn}
+use Rattle.ft_laws_agreement.proofs.CellValues.{value-write}
+use Rattle.ft_laws_agreement.proofs.SlidEnds.{Once, once-tail, same_id-refl}
+use Rattle.ft_laws_names.proofs.Beside.{Both, beside-both, beside-more, both-at, each, ends, next}
+use Rattle.ft_laws_names.proofs.DocumentsAlike.{same_id-turn}
 use Rattle.ft_matrix.specs.declared.grid.Grid.{Grid}
 use Rattle.ft_matrix.specs.Units.{acked_value, units_of}
 use Rattle.ft_matrix.specs.GridStates.{grid_state}

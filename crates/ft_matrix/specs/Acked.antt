@@ -9,7 +9,7 @@ use Rattle.ft_op.specs.Document.{Document}
 use Rattle.ft_op.specs.Stages.{Stage}
 use Rattle.ft_msg.specs.Acknowledgement.{ack_stages, renamed_stage}
 use Rattle.ft_cells.specs.CellTables.{acked_write, cell_at}
-use Rattle.ft_names.specs.GridFacts.{IsCounted}
+use Rattle.ft_laws_names.specs.GridFacts.{IsCounted}
 use Rattle.ft_matrix.specs.declared.grid.Grid.{Grid}
 use Rattle.ft_matrix.specs.declared.stages.GridStage.{GridStage}
 use Rattle.ft_matrix.specs.Applied.{Holds}

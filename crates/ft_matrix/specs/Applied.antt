@@ -5,7 +5,7 @@ use Rattle.ft_op.specs.declared.operations.CellOp.{CellOp}
 use Rattle.ft_op.specs.Operation.{OnGrid}
 use Rattle.ft_op.specs.Document.{Document, effects}
 use Rattle.ft_op.specs.Stages.{Stage}
-use Rattle.ft_names.specs.WellNamed.{AreWellNamed}
+use Rattle.ft_laws_names.specs.WellNamed.{AreWellNamed}
 use Rattle.ft_matrix.specs.declared.grid.Grid.{Grid}
 use Rattle.ft_matrix.specs.GridStates.{grid_state}
 use Rattle.ft_matrix.specs.HoldsGrid.{HoldsGrid}

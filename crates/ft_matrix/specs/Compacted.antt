@@ -2,7 +2,7 @@
 use Rattle.std.specs.Prelude.{◌≡◌, ◌≤◌, ℕ, Bool, true, false, cond, not, ◌&&◌, nat_eq, All, List, map}
 use Rattle.std.specs.List.{AllByRecursion, list_any}
 use Rattle.ft_base.specs.Scan.{len}
-use Rattle.ft_leaves.specs.Elements.{TreeElement}
+use Rattle.ft_tree_leaves.specs.Elements.{TreeElement}
 use Rattle.ft_cells.specs.CellTables.{cell_at, empty_cell}
 use Rattle.ft_perm.specs.Handles.{HandleRun, in_run}
 use Rattle.ft_perm.specs.Vectors.{IsProper, VectorState, in_use, times_held}

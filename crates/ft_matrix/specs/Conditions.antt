@@ -9,8 +9,8 @@ use Rattle.ft_props.specs.Steps.{is_inserted_by}
 use Rattle.ft_op.specs.Document.{Document}
 use Rattle.ft_op.specs.Stages.{Stage}
 use Rattle.ft_msg.specs.Compacted.{stage_holds_col, stage_holds_row}
-use Rattle.ft_names.specs.WellNamed.{AreWellNamed}
-use Rattle.ft_names.specs.GridFacts.{AreFreeFrom, is_unit_below}
+use Rattle.ft_laws_names.specs.WellNamed.{AreWellNamed}
+use Rattle.ft_laws_names.specs.GridFacts.{AreFreeFrom, is_unit_below}
 use Rattle.ft_matrix.specs.GridStates.{GridState}
 use Rattle.ft_matrix.specs.HoldsGrid.{HoldsGrid}
 

@@ -4,7 +4,7 @@ use Rattle.ft_props.specs.Element.{nameless}
 use Rattle.ft_op.specs.Document.{Document}
 use Rattle.ft_op.specs.Stages.{Stage}
 use Rattle.ft_msg.specs.Content.{all_cells}
-use Rattle.ft_names.specs.GridFacts.{grid_stages}
+use Rattle.ft_laws_names.specs.GridFacts.{grid_stages}
 use Rattle.ft_matrix.specs.GridStates.{GridState}
 
 -- the grid holds the rows, the columns and the cells of the document, and the pending stages that are on these

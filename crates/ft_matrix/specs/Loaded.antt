@@ -2,7 +2,7 @@
 use Rattle.std.specs.Prelude.{◌≡◌, ℕ, ◌++◌, cond, is_some, List, [], ◌∷◌, None, Option, Some, length, map, slice_get}
 use Rattle.ft_base.specs.declared.elements.Element.{Element as ElementStamps}
 use Rattle.ft_block.specs.declared.leaves.LenView.TheVariants.{Stage}
-use Rattle.ft_leaves.specs.Elements.{elements_with}
+use Rattle.ft_tree_leaves.specs.Elements.{elements_with}
 use Rattle.ft_msg.specs.Summary.{run_items, stamp_of}
 use Rattle.ft_perm.specs.Handles.{HandleRun, handles_of}
 use Rattle.ft_perm.specs.Vectors.{VectorState, seen_handles}

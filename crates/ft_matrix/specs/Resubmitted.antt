@@ -9,7 +9,7 @@ use Rattle.ft_op.specs.declared.operations.Target.{Target}
 use Rattle.ft_op.specs.declared.operations.Target.TheVariants.{Rows, Cols}
 use Rattle.ft_props.specs.Properties.{ValueBytes}
 use Rattle.ft_props.specs.Steps.{lowered_runs}
-use Rattle.ft_leaves.specs.Elements.{TreeElement, seen_in}
+use Rattle.ft_tree_leaves.specs.Elements.{TreeElement, seen_in}
 use Rattle.ft_rebase.specs.Pieces.{is_inserted_by, marked_runs}
 use Rattle.ft_rebase.specs.declared.marks.Mark.TheVariants.{Removal}
 use Rattle.ft_rebase.specs.declared.pieces.Piece.{Piece}

@@ -2,8 +2,8 @@
 use Rattle.std.specs.Prelude.{◌≡◌, ◌≤◌, ℕ, ◌+◌, cond, List, [], ◌∷◌, length, map}
 use Rattle.ft_base.specs.declared.stamps.Stamp.{Stamp}
 use Rattle.ft_base.specs.declared.elements.Element.{Element as ElementStamps}
-use Rattle.ft_leaves.specs.declared.leaves.TreeLeaf.{TreeLeaf}
-use Rattle.ft_leaves.specs.Elements.{TreeElement}
+use Rattle.ft_tree_leaves.specs.declared.leaves.TreeLeaf.{TreeLeaf}
+use Rattle.ft_tree_leaves.specs.Elements.{TreeElement}
 use Rattle.ft_msg.specs.SummaryOf.{mark_of}
 use Rattle.ft_perm.specs.Handles.{HandleRun, handles_of}
 use Rattle.ft_props.specs.Compaction.{has_collectable_removal, is_insertion_at_or_below}

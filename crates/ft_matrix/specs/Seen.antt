@@ -7,7 +7,7 @@ use Rattle.std.specs.BTreeMap.{BTreeMap}
 use Rattle.std.specs.Ordering.{nat_cmp, ordering_then}
 use Rattle.std.specs.declared.cmp.Ordering.{Ordering}
 use Rattle.ft_block.specs.Leaves.{last_stage, sees_in}
-use Rattle.ft_leaves.specs.declared.leaves.TreeLeaf.{TreeLeaf}
+use Rattle.ft_tree_leaves.specs.declared.leaves.TreeLeaf.{TreeLeaf}
 use Rattle.ft_sumdoc.specs.declared.summary.CellRec.{CellRec}
 use Rattle.ft_props.specs.Properties.{ValueBytes}
 use Rattle.ft_cells.specs.declared.cells.CellKey.{CellKey}

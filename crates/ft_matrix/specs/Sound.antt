@@ -1,11 +1,11 @@
 -- What a grid keeps while it may be used. No public clause cites this module.
 use Rattle.std.specs.Prelude.{◌≡◌, ◌<◌, ◌≤◌, ℕ, Bool, false, cond, ◌&&◌, nat_eq, All, IsTrue, List, [], ◌∷◌, Option, Some, None, flat_map}
 use Rattle.ft_base.specs.Visibility.{is_of_stage}
-use Rattle.ft_leaves.specs.Elements.{TreeElement}
+use Rattle.ft_tree_leaves.specs.Elements.{TreeElement}
 use Rattle.ft_op.specs.declared.operations.CellOp.TheVariants.{Set}
 use Rattle.ft_props.specs.Overlay.{OverlayState}
 use Rattle.ft_props.specs.Properties.{ValueBytes}
-use Rattle.ft_leaves.specs.References.{reference_at}
+use Rattle.ft_tree_leaves.specs.References.{reference_at}
 use Rattle.ft_perm.specs.Vectors.{IsProper, VectorState, in_use}
 use Rattle.ft_cells.specs.CellTables.{CellList, cell_at, empty_cell}
 use Rattle.ft_matrix.specs.declared.grid.Grid.{Grid}

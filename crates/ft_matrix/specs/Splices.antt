@@ -4,7 +4,7 @@ use Rattle.ft_base.specs.declared.stamps.Stamp.{Stamp}
 use Rattle.ft_base.specs.Scan.{change_range, len, put}
 use Rattle.ft_props.specs.Properties.{max_safe_integer}
 use Rattle.ft_block.specs.declared.leaves.LenView.{LenView}
-use Rattle.ft_leaves.specs.Elements.{TreeElement, acked_element, new_elements, removed_stamps, seen_in, with_stamps}
+use Rattle.ft_tree_leaves.specs.Elements.{TreeElement, acked_element, new_elements, removed_stamps, seen_in, with_stamps}
 use Rattle.ft_perm.specs.Handles.{HandleRun, handles_of, in_run}
 use Rattle.ft_perm.specs.Vectors.{VectorState, in_use}
 use Rattle.ft_matrix.specs.Units.{units_of}

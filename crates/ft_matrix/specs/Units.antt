@@ -5,7 +5,7 @@ use Rattle.ft_sumdoc.specs.declared.summary.CellRec.{CellRec}
 use Rattle.ft_base.specs.Scan.{rank}
 use Rattle.ft_props.specs.Properties.{ValueBytes}
 use Rattle.ft_props.specs.Element.{GridUnit, NamelessElement}
-use Rattle.ft_leaves.specs.Elements.{TreeElement}
+use Rattle.ft_tree_leaves.specs.Elements.{TreeElement}
 use Rattle.ft_msg.specs.Content.{cell_record}
 use Rattle.ft_perm.specs.Vectors.{VectorState, vector_elements}
 use Rattle.ft_cells.specs.CellTables.{CellList, CellState, cell_at, unless_null}

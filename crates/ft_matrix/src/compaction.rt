@@ -7,7 +7,7 @@ ghost use Rattle.ft_op.specs.Stages.{Stage};
 ghost use Rattle.ft_perm.specs.Handles.{in_run};
 ghost use Rattle.ft_perm.specs.Vectors.{IsProper, in_use};
 ghost use Rattle.ft_zamboni.specs.Scours.{is_collectable};
-ghost use Rattle.ft_names.specs.WellNamed.{AreWellNamed};
+ghost use Rattle.ft_laws_names.specs.WellNamed.{AreWellNamed};
 ghost use Rattle.ft_matrix.specs.Applied.{Holds};
 ghost use Rattle.ft_matrix.specs.Compacted.{AreGone, FreesCols, FreesRows, ScoursUnits, is_in_runs};
 ghost use Rattle.ft_matrix.specs.Units.{units_of};

@@ -7,7 +7,7 @@ ghost use Rattle.ft_op.specs.Operation.{OnGrid, sub_operations};
 ghost use Rattle.ft_op.specs.Stages.{Stage};
 ghost use Rattle.ft_op.specs.WellFormed.{IsWellFormedCell, IsWellFormedGrid};
 ghost use Rattle.ft_op.specs.declared.operations.ChannelOp.{ChannelOp};
-ghost use Rattle.ft_names.specs.WellNamed.{AreWellNamed};
+ghost use Rattle.ft_laws_names.specs.WellNamed.{AreWellNamed};
 ghost use Rattle.ft_matrix.specs.Conditions.{KeepsRest, TakesOp};
 ghost use Rattle.ft_matrix.specs.HoldsGrid.{HoldsGrid};
 ghost use Rattle.ft_matrix.specs.Sound.{IsSound};

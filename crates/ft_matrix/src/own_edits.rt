@@ -4,7 +4,7 @@ ghost use Rattle.std.specs.Prelude.{◌≡◌, ℕ, ◌+◌, ◌*◌, ◌≤◌,
 ghost use Rattle.std.specs.List.{AllByRecursion};
 ghost use Rattle.ft_base.specs.Scan.{len};
 ghost use Rattle.ft_block.specs.Leaves.{last_stage};
-ghost use Rattle.ft_leaves.specs.Elements.{seen_in};
+ghost use Rattle.ft_tree_leaves.specs.Elements.{seen_in};
 ghost use Rattle.ft_op.specs.declared.operations.ChannelOp.{ChannelOp};
 ghost use Rattle.ft_op.specs.declared.operations.GridOp.{GridOp};
 ghost use Rattle.ft_op.specs.Document.{Document};
@@ -12,7 +12,7 @@ ghost use Rattle.ft_op.specs.Operation.{OnGrid, sub_operations};
 ghost use Rattle.ft_op.specs.Stages.{Stage};
 ghost use Rattle.ft_op.specs.WellFormed.{IsWellFormedCell, IsWellFormedGrid};
 ghost use Rattle.ft_msg.specs.Client.{local_sub_operations};
-ghost use Rattle.ft_names.specs.WellNamed.{AreWellNamed};
+ghost use Rattle.ft_laws_names.specs.WellNamed.{AreWellNamed};
 ghost use Rattle.ft_matrix.specs.Sound.{IsSound};
 ghost use Rattle.ft_matrix.specs.GridStates.{depth_of, grid_state};
 ghost use Rattle.ft_matrix.specs.HoldsGrid.{HoldsGrid};

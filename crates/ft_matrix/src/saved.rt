@@ -2,7 +2,7 @@
 
 ghost use Rattle.std.specs.Prelude.{◌≡◌, IfOk, IsTrue, List, OnOk, Some, map};
 ghost use Rattle.ft_block.specs.Leaves.{IsLeafIn, value_at};
-ghost use Rattle.ft_leaves.specs.declared.leaves.TreeLeaf.{TreeLeaf};
+ghost use Rattle.ft_tree_leaves.specs.declared.leaves.TreeLeaf.{TreeLeaf};
 ghost use Rattle.ft_msg.specs.SummaryOf.{mark_of};
 ghost use Rattle.ft_perm.specs.Handles.{HandleRun};
 ghost use Rattle.ft_perm.specs.Vectors.{vector_elements};

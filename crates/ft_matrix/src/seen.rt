@@ -2,7 +2,7 @@
 
 ghost use Rattle.std.specs.Prelude.{◌≡◌, ◌++◌, [], ℕ, IfOk, IsTrue, List, OnOk, Some};
 ghost use Rattle.ft_block.specs.Leaves.{IsLeafIn, last_stage, value_at};
-ghost use Rattle.ft_leaves.specs.declared.leaves.TreeLeaf.{TreeLeaf};
+ghost use Rattle.ft_tree_leaves.specs.declared.leaves.TreeLeaf.{TreeLeaf};
 ghost use Rattle.ft_perm.specs.Handles.{HandleRun, handles_of};
 ghost use Rattle.ft_perm.specs.Vectors.{seen_handles};
 ghost use Rattle.ft_matrix.specs.Seen.{HoldsRuns, PlacesHandle, StandOnce, seen_in_leaf};

@@ -5,7 +5,7 @@ ghost use Rattle.ft_base.specs.declared.stamps.Stamp.TheVariants.{Acked, Local};
 ghost use Rattle.ft_base.specs.Scan.{len, no_run};
 ghost use Rattle.ft_block.specs.declared.leaves.LenView.TheVariants.{At};
 ghost use Rattle.ft_block.specs.Leaves.{IsFromFloor, last_stage};
-ghost use Rattle.ft_leaves.specs.Elements.{is_pending, seen_in};
+ghost use Rattle.ft_tree_leaves.specs.Elements.{is_pending, seen_in};
 ghost use Rattle.ft_matrix.specs.Sound.{IsSoundVector};
 ghost use Rattle.ft_matrix.specs.Units.{units_of};
 ghost use Rattle.ft_matrix.specs.Splices.{AcksUnits, Inserts, Removes, TakesRun};

@@ -7,7 +7,7 @@ ghost use Rattle.ft_op.specs.Document.{Document};
 ghost use Rattle.ft_msg.specs.Summary.{doc_of, stamp_of};
 ghost use Rattle.ft_perm.specs.Vectors.{seen_handles};
 ghost use Rattle.ft_sumdoc.specs.Valid.{IsValidSummary};
-ghost use Rattle.ft_names.specs.WellNamed.{AreWellNamed};
+ghost use Rattle.ft_laws_names.specs.WellNamed.{AreWellNamed};
 ghost use Rattle.ft_matrix.specs.Conditions.{IsAboveAll};
 ghost use Rattle.ft_matrix.specs.GridStates.{grid_state};
 ghost use Rattle.ft_matrix.specs.HoldsGrid.{HoldsGrid};

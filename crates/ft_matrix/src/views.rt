@@ -4,7 +4,7 @@ ghost use Rattle.std.specs.Prelude.{◌≡◌, ◌+◌, ◌<◌, ◌^◌, ℕ, L
 ghost use Rattle.std.specs.BTreeMap as tree;
 ghost use Rattle.ft_op.specs.Document.{Document};
 ghost use Rattle.ft_op.specs.Stages.{Stage};
-ghost use Rattle.ft_names.specs.WellNamed.{AreWellNamed};
+ghost use Rattle.ft_laws_names.specs.WellNamed.{AreWellNamed};
 ghost use Rattle.ft_matrix.specs.Conditions.{IsAboveAll};
 ghost use Rattle.ft_matrix.specs.HoldsGrid.{HoldsGrid};
 ghost use Rattle.ft_matrix.specs.Seen.{ArePlaced, HoldsRuns, PlacesCell, cell_of, place_cmp, shown_at, shown_cells};

@@ -10,11 +10,11 @@ use Rattle.ft_props.specs.Element.{ElementContent, ElementId, ListElement, Namel
 use Rattle.ft_props.specs.Overlay.{without_stage}
 use Rattle.ft_props.specs.Steps.{Sequence, acked_id, acked_list, acked_props, acked_removal, acked_stamp, author, remaining_removal}
 use Rattle.ft_props.specs.Steps.{acked_element as document_acked}
-use Rattle.ft_leaves.specs.Elements.{TreeElement, acked_element, acked_stamps}
+use Rattle.ft_tree_leaves.specs.Elements.{TreeElement, acked_element, acked_stamps}
 use Rattle.ft_msg.specs.Answers.{count_held}
-use Rattle.ft_laws.specs.Sequencing.{Each}
-use Rattle.ft_names.specs.WellNamed.{IsWellNumbered}
-use Rattle.ft_names.proofs.AckedLists.{acked-id, len-map, len-sum, same-acked, stands-below}
+use Rattle.ft_laws_agreement.specs.Sequencing.{Each}
+use Rattle.ft_laws_names.specs.WellNamed.{IsWellNumbered}
+use Rattle.ft_laws_names.proofs.AckedLists.{acked-id, len-map, len-sum, same-acked, stands-below}
 use Rattle.ft_named.proofs.Bares.{IsElement}
 use Rattle.ft_named.proofs.Placed.{name_place}
 use Rattle.ft_named.proofs.Lists.{each-weaker}

@@ -3,10 +3,10 @@ use Rattle.std.proofs.Common.{◌≡◌, not, List, [], ◌∷◌, ap, map}
 use Rattle.ft_base.specs.Visibility.{is_acked, is_present}
 use Rattle.ft_block.specs.declared.leaves.LenView.{LenView}
 use Rattle.ft_block.specs.Leaves.{sees_in}
-use Rattle.ft_leaves.specs.Elements.{TreeElement, seen_in}
-use Rattle.ft_leaves.specs.Elements.{is_pending as tree_pending, is_unremoved as tree_unremoved}
+use Rattle.ft_tree_leaves.specs.Elements.{TreeElement, seen_in}
+use Rattle.ft_tree_leaves.specs.Elements.{is_pending as tree_pending, is_unremoved as tree_unremoved}
 use Rattle.ft_props.specs.Element.{ElementContent, ListElement, NamelessElement, is_pending, is_unremoved, nameless, stamps_of}
-use Rattle.ft_names.proofs.Beside.{Beside, ends, next, same-map}
+use Rattle.ft_laws_names.proofs.Beside.{Beside, ends, next, same-map}
 use Rattle.ft_named.specs.Bare.{bare}
 
 module _ {U : Type 0} (content : U → ElementContent) where

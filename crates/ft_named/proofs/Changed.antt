@@ -12,8 +12,8 @@ use Rattle.ft_props.specs.Element.{ElementContent, ListElement, NamelessElement,
 use Rattle.ft_props.specs.Element.{new_elements as document_elements}
 use Rattle.ft_props.specs.Overlay.{after_acked_changes, after_pending_changes}
 use Rattle.ft_props.specs.Properties.{PropertyList}
-use Rattle.ft_leaves.specs.Elements.{TreeElement, new_elements, removed_stamps, with_overlay, with_stamps}
-use Rattle.ft_names.proofs.Beside.{Beside, ends, next}
+use Rattle.ft_tree_leaves.specs.Elements.{TreeElement, new_elements, removed_stamps, with_overlay, with_stamps}
+use Rattle.ft_laws_names.proofs.Beside.{Beside, ends, next}
 use Rattle.ft_named.proofs.Bares.{AreElements, IsElement}
 
 -- ---- what is pending on an element is of stages up to m

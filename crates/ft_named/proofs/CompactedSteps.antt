@@ -12,12 +12,12 @@ use Rattle.ft_base.proofs.Booleans.{both}
 use Rattle.ft_props.specs.Compaction.{Keeps, has_collectable_removal, is_before_pending, is_collectable, is_insertion_at_or_below, with_universal_insertion}
 use Rattle.ft_props.specs.Compaction.{none as keeps_none, same as keeps_same, universal as keeps_universal, collected as keeps_collected}
 use Rattle.ft_props.specs.Element.{ElementContent, ElementId, ListElement, NamelessElement, has_id, id, id_of_stamp, is_pending, removal_stamp, same_id, stamps_of}
-use Rattle.ft_leaves.specs.Elements.{TreeElement, universal_stamps, with_stamps}
-use Rattle.ft_leaves.specs.Places.{seen_before}
-use Rattle.ft_keep.specs.Free.{AreFree}
-use Rattle.ft_laws.specs.Sequencing.{is_marked_later}
-use Rattle.ft_laws.proofs.SlidEnds.{same_id-eq}
-use Rattle.ft_names.proofs.Beside.{Beside, ends, next}
+use Rattle.ft_tree_leaves.specs.Elements.{TreeElement, universal_stamps, with_stamps}
+use Rattle.ft_tree_leaves.specs.Places.{seen_before}
+use Rattle.ft_laws_compaction.specs.Free.{AreFree}
+use Rattle.ft_laws_agreement.specs.Sequencing.{is_marked_later}
+use Rattle.ft_laws_agreement.proofs.SlidEnds.{same_id-eq}
+use Rattle.ft_laws_names.proofs.Beside.{Beside, ends, next}
 use Rattle.ft_zamboni.specs.Scours.{Writes, marked, place_among, staying}
 use Rattle.ft_zamboni.specs.Scours.{none as writes_none, same as writes_same, universal as writes_universal}
 use Rattle.ft_zamboni.specs.Scours.{is_collectable as is_tree_collectable}

@@ -8,9 +8,9 @@ use Rattle.ft_base.specs.declared.elements.Perspective.{Perspective}
 use Rattle.ft_base.specs.Scan.{change_range, len, one_more_if, put}
 use Rattle.ft_base.specs.Visibility.{is_acked}
 use Rattle.ft_block.specs.declared.leaves.LenView.TheVariants.{At}
-use Rattle.ft_leaves.specs.Elements.{TreeElement, new_elements, removed_stamps, seen_in, with_overlay, with_stamps}
-use Rattle.ft_leaves.specs.Elements.{is_pending as tree_pending}
-use Rattle.ft_leaves.specs.Places.{put_place, shifted_place}
+use Rattle.ft_tree_leaves.specs.Elements.{TreeElement, new_elements, removed_stamps, seen_in, with_overlay, with_stamps}
+use Rattle.ft_tree_leaves.specs.Elements.{is_pending as tree_pending}
+use Rattle.ft_tree_leaves.specs.Places.{put_place, shifted_place}
 use Rattle.ft_props.specs.declared.properties.Changes.{Changes}
 use Rattle.ft_props.specs.Element.{ElementContent, ElementId, ListElement, has_id, is_pending, same_id, seen_by, with_annotation, with_pending_annotation, with_pending_removal, with_removal}
 use Rattle.ft_props.specs.Element.{new_elements as document_elements}
@@ -18,12 +18,12 @@ use Rattle.ft_props.specs.Overlay.{after_acked_changes}
 use Rattle.ft_props.specs.Properties.{PropertyList}
 use Rattle.ft_props.specs.Steps.{Sequence, after_insertion, after_removal}
 use Rattle.ft_msg.specs.Answers.{count_held}
-use Rattle.ft_laws.proofs.AgreedStage.{len-put-add}
-use Rattle.ft_laws.proofs.RangesOfLists.{len-range}
-use Rattle.ft_names.specs.WellNamed.{IsWellNumbered, has_odd_removal}
-use Rattle.ft_names.proofs.Beside.{Beside, beside-put, ends, next}
-use Rattle.ft_names.proofs.ForeignAlike.{all-behind}
-use Rattle.ft_names.proofs.NumberedLists.{KeepsNames, inserted-numbered, kept-id, ranged-numbered}
+use Rattle.ft_laws_agreement.proofs.AgreedStage.{len-put-add}
+use Rattle.ft_laws_agreement.proofs.RangesOfLists.{len-range}
+use Rattle.ft_laws_names.specs.WellNamed.{IsWellNumbered, has_odd_removal}
+use Rattle.ft_laws_names.proofs.Beside.{Beside, beside-put, ends, next}
+use Rattle.ft_laws_names.proofs.ForeignAlike.{all-behind}
+use Rattle.ft_laws_names.proofs.NumberedLists.{KeepsNames, inserted-numbered, kept-id, ranged-numbered}
 use Rattle.ft_named.proofs.Bares.{AreElements, IsElement, pending-alike, seen-alike}
 use Rattle.ft_named.proofs.Changed.{beside-all, beside-seen_range, changed-alike, new-alike, removed-alike}
 use Rattle.ft_named.proofs.Moves.{put_at, put_place-same, rank-put, rank-range}

@@ -3,7 +3,7 @@ use Rattle.std.proofs.Common.{◌≡◌, ℕ, zero, suc, ◌+◌, ◌≤◌, Boo
 use Rattle.std.specs.List.{prefix_len}
 use Rattle.std.proofs.lemmas.Bool.Decides.{nat_tests}
 use Rattle.ft_base.specs.Scan.{change_range_from, len, one_more_if, place, put, put_past, rank, within}
-use Rattle.ft_leaves.specs.Places.{put_place, shifted_place}
+use Rattle.ft_tree_leaves.specs.Places.{put_place, shifted_place}
 
 later : (n m : ℕ) → suc n + m ≡ suc (n + m)
 later n m = omega arith

@@ -8,18 +8,18 @@ use Rattle.ft_base.specs.Scan.{change_range, change_range_from, len, no_run, one
 use Rattle.ft_base.specs.Visibility.{has_occurred_at_stage}
 use Rattle.ft_base.proofs.Booleans.{both}
 use Rattle.ft_block.specs.Leaves.{last_stage}
-use Rattle.ft_leaves.specs.Elements.{TreeElement, new_elements, removed_stamps, seen_in, with_overlay, with_stamps}
-use Rattle.ft_leaves.specs.Places.{put_place, shifted_place}
+use Rattle.ft_tree_leaves.specs.Elements.{TreeElement, new_elements, removed_stamps, seen_in, with_overlay, with_stamps}
+use Rattle.ft_tree_leaves.specs.Places.{put_place, shifted_place}
 use Rattle.ft_props.specs.declared.properties.Changes.{Changes}
 use Rattle.ft_props.specs.Element.{ElementContent, ListElement, is_pending, seen, with_pending_annotation, with_pending_removal}
 use Rattle.ft_props.specs.Element.{new_elements as document_elements}
 use Rattle.ft_props.specs.Overlay.{after_pending_changes}
 use Rattle.ft_props.specs.Properties.{PropertyList}
 use Rattle.ft_props.specs.Steps.{Sequence}
-use Rattle.ft_laws.proofs.AgreedStage.{len-put-add}
-use Rattle.ft_names.specs.WellNamed.{IsWellNumbered}
-use Rattle.ft_names.proofs.Beside.{Beside, beside-append, beside-len, beside-more, ends, next}
-use Rattle.ft_names.proofs.NumberedLists.{local-numbered}
+use Rattle.ft_laws_agreement.proofs.AgreedStage.{len-put-add}
+use Rattle.ft_laws_names.specs.WellNamed.{IsWellNumbered}
+use Rattle.ft_laws_names.proofs.Beside.{Beside, beside-append, beside-len, beside-more, ends, next}
+use Rattle.ft_laws_names.proofs.NumberedLists.{local-numbered}
 use Rattle.ft_named.proofs.Bares.{AreElements, IsElement, seen-alike}
 use Rattle.ft_named.proofs.Changed.{beside-all, beside-seen_range, is_up_to, later-up_to, marked-alike, new-alike, noted-alike, seen-later, unmarked-if-seen, unseen-removal, up_to-made, up_to-parts}
 use Rattle.ft_named.proofs.Lists.{all-append, all-weaker}

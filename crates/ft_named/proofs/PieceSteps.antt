@@ -8,12 +8,12 @@ use Rattle.ft_base.specs.declared.elements.Element.{Element as ElementStamps}
 use Rattle.ft_base.specs.Scan.{one_more_if, rank}
 use Rattle.ft_base.specs.Visibility.{is_acked, is_of_stage}
 use Rattle.ft_block.specs.declared.leaves.LenView.TheVariants.{Stage}
-use Rattle.ft_leaves.specs.Elements.{TreeElement, seen_in}
+use Rattle.ft_tree_leaves.specs.Elements.{TreeElement, seen_in}
 use Rattle.ft_props.specs.declared.properties.Changes.{Changes as ChangesOf}
 use Rattle.ft_props.specs.Element.{ElementContent, ListElement, NamelessElement, removal_stamp, seen}
 use Rattle.ft_props.specs.Steps.{extended_runs, is_annotated_by, is_inserted_by, is_removed_by, stage_position}
 use Rattle.ft_props.specs.Steps.{marked_runs as document_runs, marked_runs_from as document_runs_from}
-use Rattle.ft_names.proofs.Beside.{Beside, beside-any, beside-rank, ends, next}
+use Rattle.ft_laws_names.proofs.Beside.{Beside, beside-any, beside-rank, ends, next}
 use Rattle.ft_rebase.specs.declared.marks.Mark.TheVariants.{Removal, Changes}
 use Rattle.ft_rebase.specs.MarkedRuns.{marked_runs_from}
 use Rattle.ft_rebase.specs.Pieces.{has_mark, insertion_position, marked_runs}

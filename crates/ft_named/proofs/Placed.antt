@@ -5,10 +5,10 @@ use Rattle.std.specs.Option.{option_map}
 use Rattle.std.proofs.lemmas.Bool.Decides.{nat_tests}
 use Rattle.ft_base.specs.Scan.{at, len, one_more_if, rank, settled}
 use Rattle.ft_props.specs.Element.{ElementId, ListElement, has_id, id}
-use Rattle.ft_laws.proofs.SlidEnds.{Once, once-tail, same_id-refl}
-use Rattle.ft_leaves.specs.Places.{place_at, seen_before, settled_place}
+use Rattle.ft_laws_agreement.proofs.SlidEnds.{Once, once-tail, same_id-refl}
+use Rattle.ft_tree_leaves.specs.Places.{place_at, seen_before, settled_place}
 use Rattle.ft_msg.specs.Indexed.{place_in_list}
-use Rattle.ft_names.proofs.Beside.{Beside, Both, beside-both, beside-more, both-at, both-settled, each, ends, neither, next}
+use Rattle.ft_laws_names.proofs.Beside.{Beside, Both, beside-both, beside-more, both-at, both-settled, each, ends, neither, next}
 
 -- the place of a name in a list
 abbrev pub name_place : List ListElement → ElementId → ℕ

@@ -4,9 +4,9 @@ use Rattle.std.specs.List.{list_all, prefix_len}
 use Rattle.std.proofs.lemmas.Bool.Decides.{nat_tests}
 use Rattle.ft_base.specs.Scan.{len, one_more_if, put, put_past}
 use Rattle.ft_base.proofs.Booleans.{both}
-use Rattle.ft_leaves.specs.declared.references.Reference.{Reference}
-use Rattle.ft_leaves.specs.Edits.{with_place}
-use Rattle.ft_leaves.specs.Places.{put_place, shifted_place}
+use Rattle.ft_tree_leaves.specs.declared.references.Reference.{Reference}
+use Rattle.ft_tree_leaves.specs.Edits.{with_place}
+use Rattle.ft_tree_leaves.specs.Places.{put_place, shifted_place}
 use Rattle.ft_named.proofs.Moves.{put_at, put_place-same}
 
 stops-first : (b : Bool) → not b ≡ true → b ≡ false

@@ -13,16 +13,16 @@ use Rattle.ft_base.proofs.ScanLaws.{put_past-no_run}
 use Rattle.ft_props.specs.Element.{ElementContent, ElementId, ListElement, NamelessElement, has_id, is_pending, is_sequenced, removal_stamp, seen, stamps_of}
 use Rattle.ft_props.specs.Steps.{Sequence, is_inserted_by, rebuilt_list, stage_position}
 use Rattle.ft_props.specs.Steps.{carried_element as document_carried}
-use Rattle.ft_leaves.specs.Elements.{TreeElement, sequenced_stamps}
-use Rattle.ft_laws.specs.Reconnecting.{has_insertion_of, has_marks_of, is_seen_or_next, is_stage_of}
-use Rattle.ft_laws.specs.Reconnecting.{StandSideBySide as StandSideBySideNamed}
-use Rattle.ft_laws.proofs.AgreedStage.{len-put-add}
+use Rattle.ft_tree_leaves.specs.Elements.{TreeElement, sequenced_stamps}
+use Rattle.ft_laws_agreement.specs.Reconnecting.{has_insertion_of, has_marks_of, is_seen_or_next, is_stage_of}
+use Rattle.ft_laws_agreement.specs.Reconnecting.{StandSideBySide as StandSideBySideNamed}
+use Rattle.ft_laws_agreement.proofs.AgreedStage.{len-put-add}
 use Rattle.ft_op.specs.Operation.{SubOperation}
 use Rattle.ft_op.specs.Stages.{Stage}
-use Rattle.ft_names.specs.WellNamed.{IsWellNumbered}
-use Rattle.ft_names.proofs.AckedLists.{len-none, len-sum}
-use Rattle.ft_names.proofs.Beside.{Beside, beside-any, beside-choice, beside-filter, beside-put, beside-rank, ends, next, same-map}
-use Rattle.ft_names.proofs.RebuiltLists.{IsStagedAmong, Rises, names-rebuilt, rebuilt-numbered}
+use Rattle.ft_laws_names.specs.WellNamed.{IsWellNumbered}
+use Rattle.ft_laws_names.proofs.AckedLists.{len-none, len-sum}
+use Rattle.ft_laws_names.proofs.Beside.{Beside, beside-any, beside-choice, beside-filter, beside-put, beside-rank, ends, next, same-map}
+use Rattle.ft_laws_names.proofs.RebuiltLists.{IsStagedAmong, Rises, names-rebuilt, rebuilt-numbered}
 use Rattle.ft_rebase.specs.Normalised.{carried_element, without_pending}
 use Rattle.ft_rebase.specs.Normalised.{rebuilt_list as tree_rebuilt}
 use Rattle.ft_rebase.specs.RebuiltPlaces.{rebuilt_place}

@@ -9,9 +9,9 @@ use Rattle.ft_base.specs.Visibility.{is_acked}
 use Rattle.ft_base.proofs.Booleans.{both}
 use Rattle.ft_props.specs.Element.{ElementId, ListElement, SequencedId, PendingId, has_id, id, id_of_stamp, is_sequenced, is_unremoved, seen, stamps_of}
 use Rattle.ft_props.specs.Slide.{settle, slide}
-use Rattle.ft_laws.specs.Sequencing.{Each}
-use Rattle.ft_laws.proofs.SlidEnds.{same_id-refl}
-use Rattle.ft_names.specs.WellNamed.{AreSettledIn, IsSettledIn, StandsIn}
+use Rattle.ft_laws_agreement.specs.Sequencing.{Each}
+use Rattle.ft_laws_agreement.proofs.SlidEnds.{same_id-refl}
+use Rattle.ft_laws_names.specs.WellNamed.{AreSettledIn, IsSettledIn, StandsIn}
 use Rattle.ft_named.proofs.Lists.{each-weaker}
 use Rattle.ft_op.specs.Intervals.{Interval as NamedInterval, slide_ends}
 

@@ -1,5 +1,5 @@
 -- Elements of a tree as the definitions show an element without its name.
-use Rattle.ft_leaves.specs.Elements.{TreeElement}
+use Rattle.ft_tree_leaves.specs.Elements.{TreeElement}
 use Rattle.ft_props.specs.Element.{ElementContent, NamelessElement}
 
 -- the element without a name, where `content` tells what its unit is to the document

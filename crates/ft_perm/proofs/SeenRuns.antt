@@ -7,9 +7,9 @@ use Rattle.ft_base.specs.Scan.{retain_map}
 use Rattle.ft_block.specs.declared.blocks.Found.{Found}
 use Rattle.ft_block.specs.declared.leaves.LenView.{LenView}
 use Rattle.ft_block.specs.Leaves.{IsLeafIn, place_by, place_from, sees_in, times_leaf, value_at}
-use Rattle.ft_leaves.specs.declared.leaves.TreeLeaf.{TreeLeaf}
-use Rattle.ft_leaves.specs.Elements.{element_with, seen_in}
-use Rattle.ft_leaves.specs.LeafLists.{elements, leaf_elements, leaf_length}
+use Rattle.ft_tree_leaves.specs.declared.leaves.TreeLeaf.{TreeLeaf}
+use Rattle.ft_tree_leaves.specs.Elements.{element_with, seen_in}
+use Rattle.ft_tree_leaves.specs.LeafLists.{elements, leaf_elements, leaf_length}
 use Rattle.ft_perm.specs.Handles.{HandleRun, handles_of, numbers_from, rear_run}
 use Rattle.ft_perm.specs.HandleLaws.{append-numbers_from, length-numbers_from}
 use Rattle.ft_perm.specs.Vectors.{RunStandsAt}

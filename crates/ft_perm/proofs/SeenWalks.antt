@@ -7,9 +7,9 @@ use Rattle.ft_base.proofs.Options.{some-same}
 use Rattle.ft_arena.specs.Ids.{after}
 use Rattle.ft_block.specs.declared.leaves.LenView.{LenView}
 use Rattle.ft_block.specs.Leaves.{IsLeafIn, ids, sees_in, times_leaf, value_at}
-use Rattle.ft_leaves.specs.declared.leaves.TreeLeaf.{TreeLeaf}
-use Rattle.ft_leaf_blocks.specs.Walks.{from_place}
-use Rattle.ft_leaf_blocks.proofs.Walks.{live_value, stands}
+use Rattle.ft_tree_leaves.specs.declared.leaves.TreeLeaf.{TreeLeaf}
+use Rattle.ft_tree_blocks.specs.Walks.{from_place}
+use Rattle.ft_tree_blocks.proofs.Walks.{live_value, stands}
 use Rattle.ft_perm.specs.Handles.{HandleRun, handles_of}
 use Rattle.ft_perm.specs.HandleLaws.{length-numbers_from}
 use Rattle.ft_perm.specs.Vectors.{RunStandsAt}

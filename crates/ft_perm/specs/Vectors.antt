@@ -2,8 +2,8 @@
 use Rattle.std.specs.Prelude.{◌≡◌, ℕ, ◌≤◌, Bool, true, None, ◌&&◌, ◌++◌, nat_eq, nat_lt, List, All, length}
 use Rattle.ft_base.specs.Scan.{len, one_more_if, retain_map}
 use Rattle.ft_block.specs.declared.leaves.LenView.{LenView}
-use Rattle.ft_leaves.specs.Elements.{TreeElement, seen_in}
-use Rattle.ft_leaves.specs.LeafLists.{elements}
+use Rattle.ft_tree_leaves.specs.Elements.{TreeElement, seen_in}
+use Rattle.ft_tree_leaves.specs.LeafLists.{elements}
 use Rattle.ft_tree.specs.State.{TreeState}
 use Rattle.ft_perm.specs.Handles.{HandleRun, handles_of, in_run}
 

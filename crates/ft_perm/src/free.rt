@@ -7,7 +7,7 @@ ghost use Rattle.ft_perm.specs.Vectors.{times_held};
 
 use crate::handles::Handles;
 use ft_base::OutOfMemory;
-use ft_leaves::Content;
+use ft_tree_leaves::Content;
 
 /// The place of the first run of at least `count` handles.
 pub fn fitting(free: &[Handles], count: u64) -> Option<usize>

@@ -6,7 +6,7 @@ ghost use Rattle.ft_perm.specs.Handles.{front_run, handles_of, in_run, joined_ru
 ghost use Rattle.ft_perm.specs.HandleLaws.{front_units, joined_units, rear_units};
 
 use ft_base::OutOfMemory;
-use ft_leaves::Content;
+use ft_tree_leaves::Content;
 use std::marker::Model;
 
 /// So many handles from the first on, at least one; the first and their number together are at most 2^53 - 1.

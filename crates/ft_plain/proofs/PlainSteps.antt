@@ -12,8 +12,8 @@ use Rattle.ft_msg.specs.Agreed.{with_numbers}
 use Rattle.ft_msg.specs.Client.{NaiveClient, local_sub_operations}
 use Rattle.ft_msg.specs.Reconnection.{carried_stage, rebuilt_document}
 use Rattle.ft_msg.proofs.ReplicaStarts.{keeps-itself}
-use Rattle.ft_summaries.specs.Summaries.{IsSmall}
-use Rattle.ft_summaries.proofs.ValidSegments.{trimmed-length}
+use Rattle.ft_laws_summaries.specs.Summaries.{IsSmall}
+use Rattle.ft_laws_summaries.proofs.ValidSegments.{trimmed-length}
 use Rattle.ft_replica.specs.declared.document.Resent.{Resent}
 use Rattle.ft_replica.specs.Own.{AnswersStages, Compacts, HeldDocument, MeansRefused, held_by, rejoined, resent}
 use Rattle.ft_plain.specs.Cut.{cut}

@@ -9,8 +9,8 @@ use Rattle.ft_op.specs.Operation.{OnGrid, OnIntervals, OnText, SubOperation}
 use Rattle.ft_op.specs.Stages.{Stage}
 use Rattle.ft_msg.specs.Acknowledgement.{cells_after_stage, write_named_cell}
 use Rattle.ft_msg.specs.Content.{all_cells, cell_after_stage, cell_record, row_cells, shown_cell_value, value_unless_null}
-use Rattle.ft_laws.proofs.CellValues.{value-write}
-use Rattle.ft_document.specs.WrittenCells.{cells_after_stages}
+use Rattle.ft_laws_agreement.proofs.CellValues.{value-write}
+use Rattle.ft_plain_document.specs.WrittenCells.{cells_after_stages}
 
 -- ---- stages
 

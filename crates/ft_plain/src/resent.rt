@@ -5,14 +5,14 @@ ghost use Rattle.ft_op.specs.declared.operations.ChannelOp.TheVariants.{Grid, Te
 ghost use Rattle.ft_op.specs.Operation.{OnGrid, OnText};
 ghost use Rattle.ft_op.specs.Pieces.{base_op_of, cell_op_of, op_of, pieces};
 ghost use Rattle.ft_msg.specs.Reconnection.{carried_stage};
-ghost use Rattle.ft_document.specs.SubOperations.{sub_operation_of};
+ghost use Rattle.ft_plain_document.specs.SubOperations.{sub_operation_of};
 ghost use Rattle.ft_plain.specs.Cut.{cut};
 ghost use Rattle.ft_replica.specs.Own.{resent};
 
 use ft_base::OutOfMemory;
-use ft_document::documents::PlainDocument;
-use ft_document::stages::{PlainStage, PlainStages, SubOp};
 use ft_op::{BaseOp, BaseOps, CellOp, CellOps, ChannelOp, GridOp, TextOp};
+use ft_plain_document::documents::PlainDocument;
+use ft_plain_document::stages::{PlainStage, PlainStages, SubOp};
 use ft_replica::Resent;
 use std::alloc::Global;
 use std::collections::VecDeque;

@@ -9,9 +9,9 @@ use Rattle.ft_props.specs.Element.{ListElement}
 use Rattle.ft_props.specs.Properties.{PropertyList}
 use Rattle.ft_msg.specs.Content.{content_characters}
 use Rattle.ft_msg.specs.SummaryOf.{author_mark, element_body, joined_bodies, mark_of, segment_of}
-use Rattle.ft_elements.specs.declared.elements.Content.{Content}
-use Rattle.ft_elements.specs.declared.elements.Content.TheVariants.{Character, Marker, Unit}
-use Rattle.ft_elements.specs.Contents.{content_of}
+use Rattle.ft_plain_lists.specs.declared.elements.Content.{Content}
+use Rattle.ft_plain_lists.specs.declared.elements.Content.TheVariants.{Character, Marker, Unit}
+use Rattle.ft_plain_lists.specs.Contents.{content_of}
 use Rattle.ft_plain_summary.specs.OpenSegments.{body_of_parts, joined, open_segment, reference_type}
 use Rattle.ft_plain_summary.proofs.AlikeSegments.{alike, alike-with}
 

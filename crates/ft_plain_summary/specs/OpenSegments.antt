@@ -6,8 +6,8 @@ use Rattle.ft_sumdoc.specs.declared.summary.Seg.TheVariants.{Chars, Marker}
 use Rattle.ft_sumdoc.specs.declared.summary.SegRec.{SegRec}
 use Rattle.ft_sumdoc.specs.Chunks.{chunk_length}
 use Rattle.ft_sumdoc.specs.WellFormed.{are_alike}
-use Rattle.ft_elements.specs.declared.elements.Content.{Content}
-use Rattle.ft_elements.specs.declared.elements.Content.TheVariants.{Character, Marker as MarkerContent, Unit}
+use Rattle.ft_plain_lists.specs.declared.elements.Content.{Content}
+use Rattle.ft_plain_lists.specs.declared.elements.Content.TheVariants.{Character, Marker as MarkerContent, Unit}
 use Rattle.ft_props.specs.Element.{ListElement}
 use Rattle.ft_msg.specs.SummaryOf.{extended_segments, joined_bodies, segments_from}
 

@@ -3,13 +3,13 @@
 ghost use Rattle.std.specs.Prelude.{◌≡◌, ◌+◌, ◌++◌, [], None, Some, IfOk, OnOk, length, map, replicate};
 ghost use Rattle.ft_props.specs.Element.{GridUnit, new_elements};
 ghost use Rattle.ft_msg.specs.Summary.{list_of, run_items, segment_bodies, segment_items, stamp_of};
-ghost use Rattle.ft_elements.specs.Contents.{content_of};
+ghost use Rattle.ft_plain_lists.specs.Contents.{content_of};
 
 use crate::marks::{stamp_of, stamps_of};
 use ft_base::OutOfMemory;
-use ft_elements::elements::{Content, characters};
-use ft_elements::lists::PlainList;
-use ft_elements::scans::units;
+use ft_plain_lists::elements::{Content, characters};
+use ft_plain_lists::lists::PlainList;
+use ft_plain_lists::scans::units;
 use ft_props::Props;
 use ft_sumdoc::{RunRec, Seg, SegRec};
 use std::alloc::Global;

@@ -6,10 +6,10 @@ ghost use Rattle.ft_msg.specs.Summary.{cells_of, interval_of};
 ghost use Rattle.ft_plain_summary.specs.NamedPlaces.{named_cell, named_cells, named_end, named_interval, unremoved_names};
 
 use ft_base::OutOfMemory;
-use ft_elements::cells::PlainCells;
-use ft_elements::elements::PlainElement;
-use ft_elements::intervals::{PlainInterval, PlainIntervals};
-use ft_elements::names::{ElementName, ElementNames};
+use ft_plain_lists::cells::PlainCells;
+use ft_plain_lists::elements::PlainElement;
+use ft_plain_lists::intervals::{PlainInterval, PlainIntervals};
+use ft_plain_lists::names::{ElementName, ElementNames};
 use ft_sumdoc::{CellRec, IntervalRec};
 use std::alloc::Global;
 

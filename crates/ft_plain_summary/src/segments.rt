@@ -4,13 +4,13 @@
 ghost use Rattle.std.specs.Prelude.{◌≡◌, ◌++◌, true, IfOk, OnOk, map};
 ghost use Rattle.ft_msg.specs.SummaryOf.{element_body, joined_bodies, mark_of, segment_of, segments_from};
 ghost use Rattle.ft_sumdoc.specs.WellFormed.{are_alike, are_characters};
-ghost use Rattle.ft_elements.specs.Contents.{content_of};
+ghost use Rattle.ft_plain_lists.specs.Contents.{content_of};
 ghost use Rattle.ft_plain_summary.specs.OpenSegments.{ended_segments, open_segment, reference_type};
 
 use crate::marks::{author_of, mark_of, marks_of, same_mark, same_props, same_stamps};
 use ft_base::{OutOfMemory, Text};
-use ft_elements::elements::{Content, PlainElement};
-use ft_elements::shown::push_character;
+use ft_plain_lists::elements::{Content, PlainElement};
+use ft_plain_lists::shown::push_character;
 use ft_props::Props;
 use ft_sumdoc::{Mark, Marks, Seg, SegRec, SegRecs};
 use std::alloc::Global;

@@ -9,9 +9,9 @@ use Rattle.ft_base.specs.declared.elements.Element.{Element as ElementStamps}
 use Rattle.ft_base.specs.Scan.{no_run, put, rank}
 use Rattle.ft_base.specs.Visibility.{has_occurred_at_stage, is_acked, is_of_stage}
 use Rattle.ft_block.specs.Leaves.{times_leaf}
-use Rattle.ft_leaves.specs.declared.leaves.TreeLeaf.{TreeLeaf}
-use Rattle.ft_leaves.specs.Elements.{TreeElement, element_with}
-use Rattle.ft_leaves.specs.LeafLists.{elements}
+use Rattle.ft_tree_leaves.specs.declared.leaves.TreeLeaf.{TreeLeaf}
+use Rattle.ft_tree_leaves.specs.Elements.{TreeElement, element_with}
+use Rattle.ft_tree_leaves.specs.LeafLists.{elements}
 use Rattle.ft_props.proofs.RebuiltList.{any-filter, filter-twice}
 use Rattle.ft_rebase.specs.declared.moves.StageMove.{StageMove}
 use Rattle.ft_rebase.specs.Moves.{AreMoves, EndsLeaf, amount, leaf_stamps, moved_stage}

@@ -7,11 +7,11 @@ use Rattle.ft_base.specs.declared.stamps.Stamp.{Stamp}
 use Rattle.ft_base.specs.declared.stamps.Stamp.TheVariants.{Acked, Local}
 use Rattle.ft_base.specs.Visibility.{is_acked}
 use Rattle.ft_props.specs.declared.properties.Changes.{Changes}
-use Rattle.ft_leaves.specs.declared.leaves.TreeLeaf.{TreeLeaf}
-use Rattle.ft_leaves.specs.Edits.{sequenced_leaf}
-use Rattle.ft_leaves.specs.Elements.{TreeElement, element_with}
-use Rattle.ft_leaves.specs.LeafLists.{elements, leaf_elements}
-use Rattle.ft_leaves.specs.References.{KeepsReferences, place_of}
+use Rattle.ft_tree_leaves.specs.declared.leaves.TreeLeaf.{TreeLeaf}
+use Rattle.ft_tree_leaves.specs.Edits.{sequenced_leaf}
+use Rattle.ft_tree_leaves.specs.Elements.{TreeElement, element_with}
+use Rattle.ft_tree_leaves.specs.LeafLists.{elements, leaf_elements}
+use Rattle.ft_tree_leaves.specs.References.{KeepsReferences, place_of}
 use Rattle.ft_tree.specs.State.{TreeState}
 use Rattle.ft_rebase.specs.Moves.{leaf_stamps}
 use Rattle.ft_rebase.specs.Normalised.{carried_element, carried_leaf, carried_pair, is_gone, unmarked_element, without_pending}

@@ -13,10 +13,10 @@ use Rattle.ft_block.specs.Leaves.{IsLeafIn, change_leaf, ids, times_leaf}
 use Rattle.ft_block.proofs.CallerLemmas.{times-ids}
 use Rattle.ft_props.specs.declared.properties.Changes.{Changes}
 use Rattle.ft_props.proofs.RebuiltList.{filter-all}
-use Rattle.ft_leaves.specs.declared.leaves.TreeLeaf.{TreeLeaf}
-use Rattle.ft_leaves.specs.Edits.{is_touched_by, next_pending_above, sequenced_leaf}
-use Rattle.ft_leaves.proofs.Standing.{skip}
-use Rattle.ft_leaf_blocks.proofs.WalkEdits.{change-split}
+use Rattle.ft_tree_leaves.specs.declared.leaves.TreeLeaf.{TreeLeaf}
+use Rattle.ft_tree_leaves.specs.Edits.{is_touched_by, next_pending_above, sequenced_leaf}
+use Rattle.ft_tree_leaves.proofs.Standing.{skip}
+use Rattle.ft_tree_blocks.proofs.WalkEdits.{change-split}
 use Rattle.ft_rebase.specs.Normalised.{carried_by, carried_leaf, carried_pair, is_gone}
 use Rattle.ft_rebase.proofs.CarriedLeaves.{bare-same, carried-gone, carried-kept}
 use Rattle.ft_rebase.proofs.MovedBlocks.{fewer}

@@ -9,11 +9,11 @@ use Rattle.ft_base.specs.Scan.{len, rank}
 use Rattle.ft_base.specs.Visibility.{is_of_stage}
 use Rattle.ft_block.specs.declared.leaves.LenView.{LenView}
 use Rattle.ft_block.specs.Leaves.{IsLeafIn, ids, left_of, sees_in, times_leaf}
-use Rattle.ft_leaves.specs.declared.leaves.TreeLeaf.{TreeLeaf}
-use Rattle.ft_leaves.specs.Elements.{TreeElement, element_with, seen_in}
-use Rattle.ft_leaves.specs.LeafLists.{elements, leaf_elements}
-use Rattle.ft_leaves.proofs.LeafRuns.{leaf_seen, leaf_unseen}
-use Rattle.ft_leaves.proofs.Runs.{len-append}
+use Rattle.ft_tree_leaves.specs.declared.leaves.TreeLeaf.{TreeLeaf}
+use Rattle.ft_tree_leaves.specs.Elements.{TreeElement, element_with, seen_in}
+use Rattle.ft_tree_leaves.specs.LeafLists.{elements, leaf_elements}
+use Rattle.ft_tree_leaves.proofs.LeafRuns.{leaf_seen, leaf_unseen}
+use Rattle.ft_tree_leaves.proofs.Runs.{len-append}
 use Rattle.ft_rebase.specs.declared.marks.Mark.{Mark}
 use Rattle.ft_rebase.specs.declared.marks.Mark.TheVariants.{Removal, Changes}
 use Rattle.ft_rebase.specs.MarkedRuns.{marked_runs_from, with_run}

@@ -6,8 +6,8 @@ use Rattle.std.proofs.lemmas.Bool.{ne_eqb}
 use Rattle.std.proofs.lemmas.Bool.Decides.{nat_tests}
 use Rattle.std.proofs.lemmas.List.{drop_all, drop_more, get_or-map, length-map, take-append-drop}
 use Rattle.ft_block.specs.Leaves.{IsLeafIn, ids, times_leaf, value_at}
-use Rattle.ft_leaves.specs.declared.leaves.TreeLeaf.{TreeLeaf}
-use Rattle.ft_leaves.specs.Edits.{is_touched_by}
+use Rattle.ft_tree_leaves.specs.declared.leaves.TreeLeaf.{TreeLeaf}
+use Rattle.ft_tree_leaves.specs.Edits.{is_touched_by}
 use Rattle.ft_props.proofs.RebuiltList.{filter-twice}
 use Rattle.ft_rebase.specs.Moves.{leaf_stamps}
 use Rattle.ft_rebase.specs.StageLists.{inserted_by}

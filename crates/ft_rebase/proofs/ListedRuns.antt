@@ -8,17 +8,17 @@ use Rattle.ft_base.specs.declared.stamps.Stamp.{Stamp}
 use Rattle.ft_base.specs.Scan.{len}
 use Rattle.ft_block.specs.declared.leaves.LenView.{LenView}
 use Rattle.ft_block.specs.Leaves.{ids, left_of, sees_in, times_leaf, value_at}
-use Rattle.ft_leaves.specs.declared.leaves.TreeLeaf.{TreeLeaf}
-use Rattle.ft_leaves.specs.Edits.{is_touched_by}
-use Rattle.ft_leaves.specs.Elements.{seen_in}
-use Rattle.ft_leaves.specs.LeafLists.{elements, leaf_elements}
-use Rattle.ft_leaves.proofs.CutLeaves.{times-append}
-use Rattle.ft_leaves.proofs.LeafRuns.{elements-append, elements-one, leaf_seen, leaf_unseen, length-leaf}
-use Rattle.ft_leaves.proofs.Runs.{len-append}
-use Rattle.ft_leaves.proofs.Standing.{left-split}
-use Rattle.ft_leaf_blocks.specs.Walks.{from_place}
-use Rattle.ft_leaf_blocks.proofs.Walks.{stands}
-use Rattle.ft_leaf_steps.proofs.FoundOffsets.{len-most}
+use Rattle.ft_tree_leaves.specs.declared.leaves.TreeLeaf.{TreeLeaf}
+use Rattle.ft_tree_leaves.specs.Edits.{is_touched_by}
+use Rattle.ft_tree_leaves.specs.Elements.{seen_in}
+use Rattle.ft_tree_leaves.specs.LeafLists.{elements, leaf_elements}
+use Rattle.ft_tree_leaves.proofs.CutLeaves.{times-append}
+use Rattle.ft_tree_leaves.proofs.LeafRuns.{elements-append, elements-one, leaf_seen, leaf_unseen, length-leaf}
+use Rattle.ft_tree_leaves.proofs.Runs.{len-append}
+use Rattle.ft_tree_leaves.proofs.Standing.{left-split}
+use Rattle.ft_tree_blocks.specs.Walks.{from_place}
+use Rattle.ft_tree_blocks.proofs.Walks.{stands}
+use Rattle.ft_tree_steps.proofs.FoundOffsets.{len-most}
 use Rattle.ft_rebase.specs.declared.marks.Mark.{Mark}
 use Rattle.ft_rebase.specs.declared.marks.Mark.TheVariants.{Removal, Changes}
 use Rattle.ft_rebase.specs.MarkedRuns.{continued, marked_runs_from, with_run}

@@ -6,19 +6,19 @@ use Rattle.std.specs.Option.{option_and_then, option_map}
 use Rattle.ft_arena.specs.Ids.{after}
 use Rattle.ft_base.specs.declared.stamps.Stamp.{Stamp}
 use Rattle.ft_block.specs.Leaves.{IsLeafIn, IsPlaceIn, ids, left_of, length_by, move_leaf, times_leaf, value_at, without_leaf}
-use Rattle.ft_leaf_blocks.specs.Walks.{from_place, node_behind}
-use Rattle.ft_leaf_blocks.proofs.WalkEdits.{put-behind}
-use Rattle.ft_leaf_blocks.proofs.Walks.{stands, up_to-from}
-use Rattle.ft_leaves.specs.declared.references.Reference.{Reference}
-use Rattle.ft_leaves.specs.LeafLists.{elements}
-use Rattle.ft_leaves.specs.References.{ChangesReferences, reference_at}
-use Rattle.ft_leaves.proofs.LeafEdits.{times-without-one}
-use Rattle.ft_leaves.proofs.LeafRuns.{length-elements}
-use Rattle.ft_leaves.proofs.Standing.{at-value}
+use Rattle.ft_tree_blocks.specs.Walks.{from_place, node_behind}
+use Rattle.ft_tree_blocks.proofs.WalkEdits.{put-behind}
+use Rattle.ft_tree_blocks.proofs.Walks.{stands, up_to-from}
+use Rattle.ft_tree_leaves.specs.declared.references.Reference.{Reference}
+use Rattle.ft_tree_leaves.specs.LeafLists.{elements}
+use Rattle.ft_tree_leaves.specs.References.{ChangesReferences, reference_at}
+use Rattle.ft_tree_leaves.proofs.LeafEdits.{times-without-one}
+use Rattle.ft_tree_leaves.proofs.LeafRuns.{length-elements}
+use Rattle.ft_tree_leaves.proofs.Standing.{at-value}
 use Rattle.ft_tree.specs.State.{KeepsRest, TreeState}
-use Rattle.ft_leaves.specs.declared.leaves.TreeLeaf.{TreeLeaf}
-use Rattle.ft_leaves.specs.Edits.{leaf_at, moved_by, moved_place, up_to_place, with_place}
-use Rattle.ft_leaves.specs.Places.{shifted_place}
+use Rattle.ft_tree_leaves.specs.declared.leaves.TreeLeaf.{TreeLeaf}
+use Rattle.ft_tree_leaves.specs.Edits.{leaf_at, moved_by, moved_place, up_to_place, with_place}
+use Rattle.ft_tree_leaves.specs.Places.{shifted_place}
 use Rattle.ft_rebase.specs.Spots.{KeepsSpots, spot_at}
 use Rattle.ft_rebase.proofs.MovedBlocks.{own-node, without-append, without-gone}
 

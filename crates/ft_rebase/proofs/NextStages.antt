@@ -6,11 +6,11 @@ use Rattle.ft_base.specs.declared.stamps.Stamp.{Stamp}
 use Rattle.ft_base.specs.Scan.{rank}
 use Rattle.ft_base.specs.Visibility.{is_of_stage, seen_at}
 use Rattle.ft_block.specs.declared.leaves.LenView.TheVariants.{Stage}
-use Rattle.ft_leaves.specs.declared.leaves.TreeLeaf.{TreeLeaf}
-use Rattle.ft_leaves.specs.Edits.{is_marked_by, is_touched_by, least_above, lesser, next_pending_above, stages_on}
-use Rattle.ft_leaves.specs.Elements.{TreeElement, element_with, seen_in}
-use Rattle.ft_leaves.specs.LeafLists.{elements}
-use Rattle.ft_leaf_blocks.proofs.LeastAbove.{pending-held}
+use Rattle.ft_tree_leaves.specs.declared.leaves.TreeLeaf.{TreeLeaf}
+use Rattle.ft_tree_leaves.specs.Edits.{is_marked_by, is_touched_by, least_above, lesser, next_pending_above, stages_on}
+use Rattle.ft_tree_leaves.specs.Elements.{TreeElement, element_with, seen_in}
+use Rattle.ft_tree_leaves.specs.LeafLists.{elements}
+use Rattle.ft_tree_blocks.proofs.LeastAbove.{pending-held}
 use Rattle.ft_rebase.specs.declared.moves.StageMove.{StageMove}
 use Rattle.ft_rebase.specs.Moves.{AreMoves, NoneOf, leaf_stamps, seen_size}
 use Rattle.ft_rebase.specs.Pieces.{insertion_position, is_inserted_by}

@@ -8,12 +8,12 @@ use Rattle.ft_arena.specs.Ids.{same}
 use Rattle.ft_base.specs.Scan.{len, no_run, one_more_if, put}
 use Rattle.ft_block.specs.declared.blocks.Found.{Found}
 use Rattle.ft_block.specs.Leaves.{IsLeafIn, IsPlaceIn, ids, move_leaf, place_by, place_from, times_leaf, value_at, without_leaf}
-use Rattle.ft_leaves.proofs.CutLeaves.{times-append}
-use Rattle.ft_leaves.proofs.LeafEdits.{times-moved, times-without-one}
+use Rattle.ft_tree_leaves.proofs.CutLeaves.{times-append}
+use Rattle.ft_tree_leaves.proofs.LeafEdits.{times-moved, times-without-one}
 use Rattle.ft_rebase.proofs.MovedBlocks.{IsApart, fewer, moves_block, node-apart, node-filter, node-in, put-block, put_block, put_block-none, put_block_after, without-filter, without_all}
 use Rattle.ft_block.specs.declared.leaves.LenView.TheVariants.{Stage}
-use Rattle.ft_leaves.specs.declared.leaves.TreeLeaf.{TreeLeaf}
-use Rattle.ft_leaves.specs.LeafLists.{leaf_length}
+use Rattle.ft_tree_leaves.specs.declared.leaves.TreeLeaf.{TreeLeaf}
+use Rattle.ft_tree_leaves.specs.LeafLists.{leaf_length}
 use Rattle.ft_props.proofs.RebuiltList.{filter-twice}
 use Rattle.ft_rebase.specs.Moves.{leaf_stamps, moved_stage, seen_node, seen_size}
 use Rattle.ft_rebase.proofs.Expanded.{len-filter}

@@ -6,9 +6,9 @@ use Rattle.ft_base.specs.declared.stamps.Stamp.TheVariants.{Acked, Local}
 use Rattle.ft_base.specs.declared.elements.Element.{Element as ElementStamps}
 use Rattle.ft_base.specs.Scan.{no_run, put, rank, retain_map}
 use Rattle.ft_base.specs.Visibility.{has_occurred_at_stage, is_acked, is_of_stage}
-use Rattle.ft_leaves.specs.declared.references.Reference.{Reference}
-use Rattle.ft_leaves.specs.Edits.{with_place}
-use Rattle.ft_leaves.specs.Elements.{TreeElement}
+use Rattle.ft_tree_leaves.specs.declared.references.Reference.{Reference}
+use Rattle.ft_tree_leaves.specs.Edits.{with_place}
+use Rattle.ft_tree_leaves.specs.Elements.{TreeElement}
 use Rattle.ft_rebase.specs.Normalised.{carried_element, rebuilt_list, unmarked_element, without_pending}
 use Rattle.ft_rebase.specs.RebuiltPlaces.{rebuilt_place}
 use Rattle.ft_rebase.specs.StageLists.{StagesUpTo, StandSideBySide, inserted_by, is_one_run, is_run_at_front, next_position, seen_by, seen_or_next, sequenced, with_stages}

@@ -4,9 +4,9 @@ use Rattle.std.specs.List.{list_any}
 use Rattle.ft_base.specs.declared.elements.Element.{Element as ElementStamps}
 use Rattle.ft_base.specs.Scan.{retain_map}
 use Rattle.ft_base.specs.Visibility.{is_acked}
-use Rattle.ft_leaves.specs.declared.leaves.TreeLeaf.{TreeLeaf}
-use Rattle.ft_leaves.specs.Edits.{is_touched_by, sequenced_leaf}
-use Rattle.ft_leaves.specs.Elements.{TreeElement, sequenced_overlay, sequenced_stamps}
+use Rattle.ft_tree_leaves.specs.declared.leaves.TreeLeaf.{TreeLeaf}
+use Rattle.ft_tree_leaves.specs.Edits.{is_touched_by, sequenced_leaf}
+use Rattle.ft_tree_leaves.specs.Elements.{TreeElement, sequenced_overlay, sequenced_stamps}
 use Rattle.ft_rebase.specs.StageLists.{sequenced, with_stages}
 
 module _ {U : Type 0} where

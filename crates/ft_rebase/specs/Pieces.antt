@@ -5,8 +5,8 @@ use Rattle.std.specs.Option.{option_to_list}
 use Rattle.ft_base.specs.Scan.{rank}
 use Rattle.ft_base.specs.Visibility.{is_of_stage}
 use Rattle.ft_block.specs.declared.leaves.LenView.TheVariants.{Stage}
-use Rattle.ft_leaves.specs.declared.leaves.TreeLeaf.{TreeLeaf}
-use Rattle.ft_leaves.specs.Elements.{TreeElement, seen_in}
+use Rattle.ft_tree_leaves.specs.declared.leaves.TreeLeaf.{TreeLeaf}
+use Rattle.ft_tree_leaves.specs.Elements.{TreeElement, seen_in}
 use Rattle.ft_props.specs.Steps.{lowered_runs}
 use Rattle.ft_rebase.specs.MarkedRuns.{marked_runs_from}
 use Rattle.ft_rebase.specs.declared.marks.Mark.{Mark}

@@ -1,7 +1,7 @@
 -- Where an element stands, told by the node of its leaf, which moves keep.
 use Rattle.std.specs.Prelude.{◌≡◌, ℕ, ◌-◌, cond, nat_lt, List, [], ◌∷◌, Option, Some, None, length, option_and_then, option_map}
-use Rattle.ft_leaves.specs.declared.leaves.TreeLeaf.{TreeLeaf}
-use Rattle.ft_leaves.specs.References.{place_of, reference_at}
+use Rattle.ft_tree_leaves.specs.declared.leaves.TreeLeaf.{TreeLeaf}
+use Rattle.ft_tree_leaves.specs.References.{place_of, reference_at}
 use Rattle.ft_tree.specs.State.{TreeState}
 
 -- the node of the leaf that holds the element at place j, and its place in the leaf

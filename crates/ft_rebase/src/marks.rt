@@ -2,7 +2,7 @@
 
 ghost use Rattle.std.specs.Prelude.{◌≡◌, Some, IsTrue, IfOk, option_map};
 ghost use Rattle.ft_block.specs.Leaves.{IsLeafIn, value_at};
-ghost use Rattle.ft_leaves.specs.LeafLists.{elements};
+ghost use Rattle.ft_tree_leaves.specs.LeafLists.{elements};
 ghost use Rattle.ft_rebase.specs.Pieces.{leaf_has_mark, marked_runs};
 ghost use Rattle.ft_rebase.specs.MarkedRuns.{RunsRise};
 
@@ -10,9 +10,9 @@ use crate::positions::stage_position;
 use crate::runs::push_run;
 use ft_arena::NodeId;
 use ft_base::{OutOfMemory, seen_at};
-use ft_leaves::Content;
-use ft_leaves::stamps::has_stage;
 use ft_tree::Tree;
+use ft_tree_leaves::Content;
+use ft_tree_leaves::stamps::has_stage;
 
 /// What a pending stage may have on an element that it didn't insert.
 #[derive(Clone, Copy, Debug, PartialEq, Eq)]

@@ -7,17 +7,17 @@ ghost use Rattle.ft_rebase.specs.Moves.{AreMoves, EndsLeaf, leaf_stamps, moved_s
 ghost use Rattle.ft_rebase.specs.RebuiltPlaces.{rebuilt_place};
 ghost use Rattle.ft_rebase.specs.Spots.{KeepsSpots};
 ghost use Rattle.ft_rebase.specs.StageLists.{StagesUpTo, StandSideBySide, seen_by, sequenced, with_stages};
-ghost use Rattle.ft_leaves.specs.Edits.{with_place};
-ghost use Rattle.ft_leaves.specs.LeafLists.{elements};
-ghost use Rattle.ft_leaves.specs.References.{ChangesReferences};
+ghost use Rattle.ft_tree_leaves.specs.Edits.{with_place};
+ghost use Rattle.ft_tree_leaves.specs.LeafLists.{elements};
+ghost use Rattle.ft_tree_leaves.specs.References.{ChangesReferences};
 ghost use Rattle.ft_tree.specs.State.{KeepsRest};
 
 use crate::positions::{inserted_leaves, insertion_position};
 use ft_arena::NodeId;
 use ft_base::OutOfMemory;
 use ft_block::LenView;
-use ft_leaves::Content;
 use ft_tree::Tree;
+use ft_tree_leaves::Content;
 
 /// A pending insertion stage, and how many elements that the stage before sees stand left of its own.
 #[derive(Clone, Copy, Debug, PartialEq, Eq, Drop)]

@@ -4,10 +4,10 @@ ghost use Rattle.std.specs.Prelude.{◌≡◌, ℕ, IsFalse, IsTrue, OnErr, OnOk
 ghost use Rattle.std.specs.List.{list_any};
 ghost use Rattle.ft_base.specs.Visibility.{is_acked};
 ghost use Rattle.ft_block.specs.Leaves.{IsLeafIn, change_leaf, value_at};
-ghost use Rattle.ft_leaves.specs.declared.leaves.TreeLeaf.{TreeLeaf};
-ghost use Rattle.ft_leaves.specs.Edits.{sequenced_leaf, with_place};
-ghost use Rattle.ft_leaves.specs.LeafLists.{elements};
-ghost use Rattle.ft_leaves.specs.References.{ChangesReferences, KeepsReferences};
+ghost use Rattle.ft_tree_leaves.specs.declared.leaves.TreeLeaf.{TreeLeaf};
+ghost use Rattle.ft_tree_leaves.specs.Edits.{sequenced_leaf, with_place};
+ghost use Rattle.ft_tree_leaves.specs.LeafLists.{elements};
+ghost use Rattle.ft_tree_leaves.specs.References.{ChangesReferences, KeepsReferences};
 ghost use Rattle.ft_rebase.specs.Moves.{leaf_stamps};
 ghost use Rattle.ft_rebase.specs.Normalised.{carried_by, carried_leaf, carried_pair, is_gone, rebuilt_list};
 ghost use Rattle.ft_rebase.specs.RebuiltPlaces.{rebuilt_place};
@@ -18,9 +18,9 @@ ghost use Rattle.ft_tree.specs.State.{KeepsRest};
 use crate::moves::move_stages;
 use ft_arena::NodeId;
 use ft_base::{Element, OutOfMemory, Stamp};
-use ft_leaves::Content;
-use ft_leaves::stamps::has_sequenced;
 use ft_tree::Tree;
+use ft_tree_leaves::Content;
+use ft_tree_leaves::stamps::has_sequenced;
 
 /// Brings a merge tree in order after its pending stages were regenerated, so that it is as if they had been made afresh:
 /// what is pending on elements with a sequenced removal goes, and the leaves of pending insertions move to where the order

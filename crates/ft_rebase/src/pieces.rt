@@ -1,7 +1,7 @@
 //! The pieces as which a pending stage is sent again.
 
 ghost use Rattle.std.specs.Prelude.{◌≡◌, ◌++◌, IsTrue, IfOk, OnOk, map};
-ghost use Rattle.ft_leaves.specs.LeafLists.{elements};
+ghost use Rattle.ft_tree_leaves.specs.LeafLists.{elements};
 ghost use Rattle.ft_props.specs.Steps.{lowered_runs};
 ghost use Rattle.ft_rebase.specs.MarkedRuns.{RunsRise};
 ghost use Rattle.ft_rebase.specs.Pieces.{pieces};
@@ -9,8 +9,8 @@ ghost use Rattle.ft_rebase.specs.Pieces.{pieces};
 use crate::marks::{Mark, marked_runs};
 use crate::positions::insertion_position;
 use ft_base::OutOfMemory;
-use ft_leaves::Content;
 use ft_tree::Tree;
+use ft_tree_leaves::Content;
 
 /// A part of what is sent again of a pending stage. A position is a number of elements.
 #[derive(Clone, Copy, Debug, PartialEq, Eq)]

@@ -4,8 +4,8 @@ ghost use Rattle.std.specs.Prelude.{◌≡◌, IsTrue, IfOk, filter};
 ghost use Rattle.ft_base.specs.Scan.{len};
 ghost use Rattle.ft_block.specs.declared.leaves.LenView.TheVariants.{Stage};
 ghost use Rattle.ft_block.specs.Leaves.{IsLeafIn, ids, left_of};
-ghost use Rattle.ft_leaves.specs.Elements.{seen_in};
-ghost use Rattle.ft_leaves.specs.LeafLists.{elements};
+ghost use Rattle.ft_tree_leaves.specs.Elements.{seen_in};
+ghost use Rattle.ft_tree_leaves.specs.LeafLists.{elements};
 ghost use Rattle.ft_rebase.specs.Moves.{leaf_stamps};
 ghost use Rattle.ft_rebase.specs.Pieces.{insertion_position};
 ghost use Rattle.ft_rebase.specs.StageLists.{inserted_by};
@@ -13,9 +13,9 @@ ghost use Rattle.ft_rebase.specs.StageLists.{inserted_by};
 use ft_arena::NodeId;
 use ft_base::OutOfMemory;
 use ft_block::LenView;
-use ft_leaves::Content;
-use ft_leaves::stamps::is_of_stage;
 use ft_tree::Tree;
+use ft_tree_leaves::Content;
+use ft_tree_leaves::stamps::is_of_stage;
 
 /// How many elements that the stage sees stand left of a leaf.
 pub fn stage_position<C: Content>(tree: &Tree<C>, leaf: NodeId, stage: u64) -> u64

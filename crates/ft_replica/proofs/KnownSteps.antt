@@ -5,11 +5,11 @@ use Rattle.ft_msg.specs.Answers.{edit_fault_kind, link_fault_kind}
 use Rattle.ft_msg.specs.Client.{connect, drop_link, local_edit, noop}
 use Rattle.ft_msg.specs.ClientSteps.{Connects, Drops, Edits, Idles, unless_refused}
 use Rattle.ft_msg.proofs.ReachedSteps.{reached-after, reached-connect, reached-drop, reached-noop}
-use Rattle.ft_keep.proofs.AllSteps.{reached-sound}
-use Rattle.ft_keep.proofs.FloorSteps.{floor-step}
-use Rattle.ft_keep.proofs.KeptSteps.{connects-alike, drops-alike, edits-answer, idles-alike}
-use Rattle.ft_names.proofs.OneAnswersAll.{one-connect-answers-all, one-drop-answers-all, one-edit-answers-all, one-idle-answers-all}
-use Rattle.ft_summaries.proofs.FormedRuns.{formed-connect, formed-drop, formed-edit, formed-noop}
+use Rattle.ft_laws_compaction.proofs.AllSteps.{reached-sound}
+use Rattle.ft_laws_compaction.proofs.FloorSteps.{floor-step}
+use Rattle.ft_laws_compaction.proofs.KeptSteps.{connects-alike, drops-alike, edits-answer, idles-alike}
+use Rattle.ft_laws_names.proofs.OneAnswersAll.{one-connect-answers-all, one-drop-answers-all, one-edit-answers-all, one-idle-answers-all}
+use Rattle.ft_laws_summaries.proofs.FormedRuns.{formed-connect, formed-drop, formed-edit, formed-noop}
 use Rattle.ft_replica.proofs.Replicas.{IsKnownStep}
 
 pub edit-known : (op : ChannelOp) → IsKnownStep edit_fault_kind (λ x. local_edit x op)

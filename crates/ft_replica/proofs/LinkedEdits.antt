@@ -10,8 +10,8 @@ use Rattle.ft_op.specs.Stages.{Stage}
 use Rattle.ft_msg.specs.declared.faults.EditFault.{EditFault}
 use Rattle.ft_msg.specs.Answers.{FaultKind, Refusal, StoppedBefore, WantOfMemory, edit_fault_kind}
 use Rattle.ft_msg.specs.Client.{NaiveClient, PendingEdit, SentAs, local_edit, local_sub_operations, sent_as, stages_of, with_draft}
-use Rattle.ft_laws.proofs.CountedEntries.{edited}
-use Rattle.ft_names.specs.WellNamed.{IsWellNamed}
+use Rattle.ft_laws_agreement.proofs.CountedEntries.{edited}
+use Rattle.ft_laws_names.specs.WellNamed.{IsWellNamed}
 use Rattle.ft_replica.specs.Linked.{Anyone, IsLinkedAs, KeepsLink, LinkedState, MeansFault, Refuses, RunsForOne, Takes, linked_as, part_of}
 use Rattle.ft_replica.specs.Own.{AnswersStages, HeldDocument, MeansRefused, NamesFit, ShownDocument, Shows, held_by, with_stages}
 use Rattle.ft_replica.specs.Unsent.{with_sent}

@@ -17,8 +17,8 @@ use Rattle.ft_msg.specs.Answers.{WantOfMemory}
 use Rattle.ft_msg.specs.Client.{NaiveClient, PendingEdit, stages_of}
 use Rattle.ft_msg.specs.Process.{after_entry, after_foreign_message, come_online, is_op, is_own, is_own_join}
 use Rattle.ft_msg.specs.Reconnection.{regenerated_edit, resubmitted_edit, resubmitted_edits, sent_draft}
-use Rattle.ft_laws.proofs.CarriedEdits.{stages-resubmitted}
-use Rattle.ft_names.specs.WellNamed.{IsWellNamed}
+use Rattle.ft_laws_agreement.proofs.CarriedEdits.{stages-resubmitted}
+use Rattle.ft_laws_names.specs.WellNamed.{IsWellNamed}
 use Rattle.ft_replica.specs.declared.document.Resent.{Resent}
 use Rattle.ft_replica.specs.Linked.{AnswersLinked, IsLinkedAs, LinkedState, PendingPart, Takes, linked_as, oldest_count, part_of, sent_part, sent_parts, with_parts}
 use Rattle.ft_replica.specs.Own.{HeldDocument, NamesFit, acknowledged, held_by, rejoined, resent, with_entry}

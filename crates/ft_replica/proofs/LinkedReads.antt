@@ -13,12 +13,12 @@ use Rattle.ft_msg.specs.Client.{NaiveClient, PendingEdit, floor}
 use Rattle.ft_msg.specs.Compacted.{IsCompacted}
 use Rattle.ft_msg.specs.Indexed.{IndexedClient, IndexedEdit, IndexedStage, indexed_client, indexed_stage}
 use Rattle.ft_msg.specs.Process.{after_entry, is_oldest, is_op_kind, is_own, is_sent_as, numbers_fault, process, process_fault}
-use Rattle.ft_keep.specs.Floors.{least_with_oldest}
-use Rattle.ft_keep.proofs.Compacting.{compacts-further, floor-kept}
-use Rattle.ft_keep.proofs.FloorSteps.{oldest-has-least}
-use Rattle.ft_keep.proofs.Runs.{process_from}
-use Rattle.ft_names.proofs.KeptNames.{kept-named}
-use Rattle.ft_names.specs.WellNamed.{IsWellNamed}
+use Rattle.ft_laws_compaction.specs.Floors.{least_with_oldest}
+use Rattle.ft_laws_compaction.proofs.Compacting.{compacts-further, floor-kept}
+use Rattle.ft_laws_compaction.proofs.FloorSteps.{oldest-has-least}
+use Rattle.ft_laws_compaction.proofs.Runs.{process_from}
+use Rattle.ft_laws_names.proofs.KeptNames.{kept-named}
+use Rattle.ft_laws_names.specs.WellNamed.{IsWellNamed}
 use Rattle.ft_replica.specs.Linked.{Anyone, IsLinkedAs, KeepsLink, LinkedState, PendingPart, Refuses, RunsForOne, Takes, TakesCompaction, TakesEntry, bare_edit, client_shown, edits_shown, least_ref, oldest_ref, outline, part_of}
 use Rattle.ft_replica.specs.Own.{Compacts, HeldDocument, HoldsOne, ShownDocument, Shows, held_by}
 use Rattle.ft_replica.specs.Stopping.{AnswersOwnFault, StoppingState}

@@ -5,10 +5,10 @@ use Rattle.ft_msg.specs.declared.views.Link.{Link}
 use Rattle.ft_msg.specs.declared.views.Link.TheVariants.{Offline, Joining, Online}
 use Rattle.ft_msg.specs.Client.{NaiveClient, connect, drop_link, noop}
 use Rattle.ft_op.specs.Document.{Document}
-use Rattle.ft_keep.specs.Keeping.{IsMadeOrKept}
-use Rattle.ft_names.specs.WellNamed.{IsWellNamed}
-use Rattle.ft_names.proofs.KeptNames.{kept-named}
-use Rattle.ft_names.proofs.NamedSteps.{reached-named}
+use Rattle.ft_laws_compaction.specs.Keeping.{IsMadeOrKept}
+use Rattle.ft_laws_names.specs.WellNamed.{IsWellNamed}
+use Rattle.ft_laws_names.proofs.KeptNames.{kept-named}
+use Rattle.ft_laws_names.proofs.NamedSteps.{reached-named}
 use Rattle.ft_replica.specs.Linked.{IsLinkedAs, LinkedState, PendingPart, RunsForOne, Takes, linked_as}
 use Rattle.ft_replica.specs.Unsent.{Unsent}
 use Rattle.ft_replica.specs.Own.{HeldDocument, HoldsOne, ShownDocument, Shows, held_by}

@@ -17,14 +17,14 @@ use Rattle.ft_msg.specs.Process.{is_op, process}
 use Rattle.ft_msg.specs.WellFormed.{IsWellFormedMessage}
 use Rattle.ft_msg.proofs.ReachedSteps.{reached-process, well-formed-fits}
 use Rattle.ft_msg.proofs.ReplicaStarts.{keeps-itself}
-use Rattle.ft_keep.proofs.AllSteps.{reached-sound}
-use Rattle.ft_keep.proofs.FloorSteps.{floor-step}
-use Rattle.ft_keep.proofs.Compacting.{compacts-further, floor-kept}
-use Rattle.ft_keep.proofs.CountsKept.{rises-kept}
-use Rattle.ft_keep.proofs.KeptSteps.{entries-answer}
-use Rattle.ft_names.proofs.KeptNames.{kept-named}
-use Rattle.ft_names.proofs.OneAnswersAll.{one-compaction-serves-all, one-entry-answers-all}
-use Rattle.ft_summaries.proofs.FormedRuns.{formed-process}
+use Rattle.ft_laws_compaction.proofs.AllSteps.{reached-sound}
+use Rattle.ft_laws_compaction.proofs.FloorSteps.{floor-step}
+use Rattle.ft_laws_compaction.proofs.Compacting.{compacts-further, floor-kept}
+use Rattle.ft_laws_compaction.proofs.CountsKept.{rises-kept}
+use Rattle.ft_laws_compaction.proofs.KeptSteps.{entries-answer}
+use Rattle.ft_laws_names.proofs.KeptNames.{kept-named}
+use Rattle.ft_laws_names.proofs.OneAnswersAll.{one-compaction-serves-all, one-entry-answers-all}
+use Rattle.ft_laws_summaries.proofs.FormedRuns.{formed-process}
 use Rattle.ft_replica.specs.Kept.{Holds, IsKept, is_of_nobody, state_at, state_of}
 use Rattle.ft_replica.specs.Linked.{Refuses, TakesCompaction, TakesEntry, client_shown, least_ref}
 use Rattle.ft_replica.specs.Own.{HasNoTombstone, HeldDocument, ShownDocument, Shows}

@@ -16,17 +16,17 @@ use Rattle.ft_msg.specs.Reached.{IsReached}
 use Rattle.ft_msg.specs.Summary.{GivesDocument, doc_of, trim}
 use Rattle.ft_msg.specs.SummaryOf.{summary_of}
 use Rattle.ft_msg.proofs.ReplicaStarts.{keeps-itself, reached-empty, reached-summary, starts-over}
-use Rattle.ft_keep.proofs.AllSteps.{reached-sound}
-use Rattle.ft_keep.proofs.Compacting.{starts-from-summary}
-use Rattle.ft_keep.proofs.Runs.{run-facts}
-use Rattle.ft_keep.proofs.SameSummary.{run-values}
-use Rattle.ft_names.proofs.Indexing.{alike-itself}
-use Rattle.ft_names.proofs.OneAnswersAll.{one-summary-answers-all}
-use Rattle.ft_names.proofs.SummariesAlike.{summed-alike}
-use Rattle.ft_summaries.specs.Summaries.{IsSmall}
-use Rattle.ft_summaries.proofs.DistinctNames.{distinct-taken, table-distinct}
-use Rattle.ft_summaries.proofs.FormedRuns.{formed-empty, formed-summary}
-use Rattle.ft_summaries.proofs.RunSummaries.{summaries-are-valid, summaries-give-documents}
+use Rattle.ft_laws_compaction.proofs.AllSteps.{reached-sound}
+use Rattle.ft_laws_compaction.proofs.Compacting.{starts-from-summary}
+use Rattle.ft_laws_compaction.proofs.Runs.{run-facts}
+use Rattle.ft_laws_compaction.proofs.SameSummary.{run-values}
+use Rattle.ft_laws_names.proofs.Indexing.{alike-itself}
+use Rattle.ft_laws_names.proofs.OneAnswersAll.{one-summary-answers-all}
+use Rattle.ft_laws_names.proofs.SummariesAlike.{summed-alike}
+use Rattle.ft_laws_summaries.specs.Summaries.{IsSmall}
+use Rattle.ft_laws_summaries.proofs.DistinctNames.{distinct-taken, table-distinct}
+use Rattle.ft_laws_summaries.proofs.FormedRuns.{formed-empty, formed-summary}
+use Rattle.ft_laws_summaries.proofs.RunSummaries.{summaries-are-valid, summaries-give-documents}
 use Rattle.ft_replica.specs.declared.document.OwnNumbers.{OwnNumbers}
 use Rattle.ft_replica.specs.Kept.{Holds, IsKept, state_at, state_of}
 use Rattle.ft_replica.specs.Linked.{IsLinkedAs, LinkedState, edits_shown, linked_over, part_of}

@@ -8,17 +8,17 @@ use Rattle.ft_msg.specs.Client.{NaiveClient, floor}
 use Rattle.ft_msg.specs.Compacted.{IsCompacted, StandsFor}
 use Rattle.ft_msg.specs.Indexed.{IndexedClient, indexed_client}
 use Rattle.ft_msg.specs.Reached.{IsReached}
-use Rattle.ft_keep.specs.Keeping.{AnswersAlike, AnswersEach, DoesStep, refused, taken}
+use Rattle.ft_laws_compaction.specs.Keeping.{AnswersAlike, AnswersEach, DoesStep, refused, taken}
 use Rattle.ft_msg.proofs.ReachedSteps.{reached-send}
-use Rattle.ft_keep.proofs.Compacting.{floor-kept}
-use Rattle.ft_keep.proofs.KeptSteps.{sends-alike}
-use Rattle.ft_names.specs.Renaming.{ShowsOf}
-use Rattle.ft_names.specs.WellNamed.{IsWellNamed}
-use Rattle.ft_names.proofs.KeptNames.{kept-named}
-use Rattle.ft_names.proofs.NamedSteps.{reached-named}
-use Rattle.ft_names.proofs.OneAnswersAll.{one-view-answers-all}
-use Rattle.ft_summaries.specs.Runs.{IsFormedRun}
-use Rattle.ft_summaries.proofs.FormedRuns.{formed-send}
+use Rattle.ft_laws_compaction.proofs.Compacting.{floor-kept}
+use Rattle.ft_laws_compaction.proofs.KeptSteps.{sends-alike}
+use Rattle.ft_laws_names.specs.Renaming.{ShowsOf}
+use Rattle.ft_laws_names.specs.WellNamed.{IsWellNamed}
+use Rattle.ft_laws_names.proofs.KeptNames.{kept-named}
+use Rattle.ft_laws_names.proofs.NamedSteps.{reached-named}
+use Rattle.ft_laws_names.proofs.OneAnswersAll.{one-view-answers-all}
+use Rattle.ft_laws_summaries.specs.Runs.{IsFormedRun}
+use Rattle.ft_laws_summaries.proofs.FormedRuns.{formed-send}
 use Rattle.ft_replica.specs.declared.document.OwnNumbers.{OwnNumbers}
 use Rattle.ft_replica.specs.Kept.{Holds, IsKept, state_at, state_of}
 use Rattle.ft_replica.specs.Linked.{IsLinkedAs, KeepsLink, LinkedState, Refuses, RunsForOne, Takes, client_shown, edits_shown}

@@ -7,7 +7,7 @@ use Rattle.ft_msg.specs.Compacted.{IsCompacted}
 use Rattle.ft_msg.specs.Indexed.{IndexedDocument}
 use Rattle.ft_msg.specs.Process.{is_op}
 use Rattle.ft_msg.specs.Reached.{IsReached}
-use Rattle.ft_summaries.specs.Runs.{IsFormedRun}
+use Rattle.ft_laws_summaries.specs.Runs.{IsFormedRun}
 use Rattle.ft_replica.specs.declared.document.OwnNumbers.{OwnNumbers}
 use Rattle.ft_replica.specs.Linked.{IsLinkedAs, LinkedState, client_shown}
 use Rattle.ft_replica.specs.Own.{HeldDocument, ShownDocument}

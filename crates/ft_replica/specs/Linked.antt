@@ -10,9 +10,9 @@ use Rattle.ft_msg.specs.Compacted.{IsCompacted}
 use Rattle.ft_msg.specs.declared.messages.Entry.{Entry}
 use Rattle.ft_msg.specs.Process.{process}
 use Rattle.ft_msg.specs.Indexed.{IndexedClient, IndexedEdit, IndexedStage}
-use Rattle.ft_keep.specs.Keeping.{IsMadeOrKept}
-use Rattle.ft_names.specs.Renaming.{ShowsItsCells}
-use Rattle.ft_names.specs.WellNamed.{IsWellNamed}
+use Rattle.ft_laws_compaction.specs.Keeping.{IsMadeOrKept}
+use Rattle.ft_laws_names.specs.Renaming.{ShowsItsCells}
+use Rattle.ft_laws_names.specs.WellNamed.{IsWellNamed}
 use Rattle.ft_replica.specs.declared.document.Resent.{Resent}
 use Rattle.ft_replica.specs.Own.{HeldDocument, ShownDocument, held_by}
 use Rattle.ft_replica.specs.Unsent.{Unsent, with_sent}

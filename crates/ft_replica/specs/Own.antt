@@ -24,9 +24,9 @@ use Rattle.ft_msg.specs.Client.{NaiveClient, floor, stages_of}
 use Rattle.ft_msg.specs.Compacted.{KeepsDocument}
 use Rattle.ft_msg.specs.Indexed.{IndexedDocument, IndexedStage, indexed, indexed_stage}
 use Rattle.ft_msg.specs.Reconnection.{carried_stage, rebuilt_document}
-use Rattle.ft_keep.specs.Keeping.{IsMadeOrKept}
-use Rattle.ft_names.specs.Renaming.{ShowsItsCells}
-use Rattle.ft_names.specs.WellNamed.{AreWellNamed}
+use Rattle.ft_laws_compaction.specs.Keeping.{IsMadeOrKept}
+use Rattle.ft_laws_names.specs.Renaming.{ShowsItsCells}
+use Rattle.ft_laws_names.specs.WellNamed.{AreWellNamed}
 use Rattle.ft_replica.specs.declared.document.OwnNumbers.{OwnNumbers}
 use Rattle.ft_replica.specs.declared.document.Resent.{Resent}
 

@@ -72,8 +72,8 @@ pub trait OwnDocument: Sized + Drop {
     ghost use Rattle.ft_msg.specs.Summary.{doc_of};
     ghost use Rattle.ft_msg.specs.SummaryOf.{summary_of};
     ghost use Rattle.ft_msg.specs.WellFormed.{IsWellFormedMessage};
-    ghost use Rattle.ft_names.specs.WellNamed.{IsWellNamed};
-    ghost use Rattle.ft_summaries.specs.Summaries.{IsSmall};
+    ghost use Rattle.ft_laws_names.specs.WellNamed.{IsWellNamed};
+    ghost use Rattle.ft_laws_summaries.specs.Summaries.{IsSmall};
     ghost use Rattle.ft_replica.specs.Own.{
       AnswersStages,
       Compacts,

@@ -7,10 +7,10 @@ use Rattle.std.proofs.lemmas.Bool.Decides.{nat_tests}
 use Rattle.ft_base.proofs.Options.{some-same}
 use Rattle.ft_attrib.specs.declared.attribution.Origin.{Origin}
 use Rattle.ft_attrib.specs.Runs.{origin_runs}
-use Rattle.ft_laws.specs.Sequencing.{Each}
+use Rattle.ft_laws_agreement.specs.Sequencing.{Each}
 use Rattle.ft_op.specs.Document.{Document}
 use Rattle.ft_props.specs.Properties.{Characters}
-use Rattle.ft_summaries.proofs.Lists.{each-found}
+use Rattle.ft_laws_summaries.proofs.Lists.{each-found}
 use Rattle.ft_sumdoc.specs.declared.summary.IntervalRec.{IntervalRec}
 use Rattle.ft_sumdoc.specs.declared.summary.SumDoc.{SumDoc}
 use Rattle.ft_sumdoc.specs.WellFormed.{IsWellCut}
@@ -38,7 +38,7 @@ use Rattle.ft_seqr.specs.declared.refusals.Refusal.TheVariants.{OutOfRange}
 use Rattle.ft_seqr.specs.AnswerTexts.{written_authors, written_origin_run, written_overlap}
 use Rattle.ft_seqr.specs.Refusals.{refusal_of_summary, refusal_of_view}
 use Rattle.ft_seqr.specs.World.{NaiveWorld, NamedClient, Stepped, Texts, View, blame_client, greatest_origin, is_client, known_names, summary_texts}
-use Rattle.ft_worlds.proofs.MadeWorlds.{made-cut, made-queue}
+use Rattle.ft_laws_sessions.proofs.MadeWorlds.{made-cut, made-queue}
 use Rattle.ft_session.specs.declared.outputs.Out.{Out}
 use Rattle.ft_session.specs.declared.outputs.Out.TheVariants as out
 use Rattle.ft_session.specs.Asked.{authors_client, overlap_client, queue_client, show_client, summarize_client}

@@ -6,7 +6,7 @@ use Rattle.std.specs.List.{position}
 use Rattle.std.proofs.lemmas.Iterator.Adapters.{position_from-zero}
 use Rattle.ft_base.proofs.Options.{some-same}
 use Rattle.ft_props.specs.Properties.{Characters}
-use Rattle.ft_summaries.proofs.Lists.{each-found}
+use Rattle.ft_laws_summaries.proofs.Lists.{each-found}
 use Rattle.ft_sumdoc.specs.declared.summary.SumDoc.{SumDoc}
 use Rattle.ft_op.specs.Document.{Document, empty}
 use Rattle.ft_msg.specs.declared.faults.SummaryFault.{SummaryFault}
@@ -21,8 +21,8 @@ use Rattle.ft_seqr.specs.declared.refusals.Refusal.{Refusal}
 use Rattle.ft_seqr.specs.declared.refusals.Refusal.TheVariants.{Pending, UnknownClient}
 use Rattle.ft_seqr.specs.Refusals.{refusal_of_summary}
 use Rattle.ft_seqr.specs.World.{NaiveWorld, NamedClient, NamedGuest, Nothing, Stepped, connection_name, enter_guest, is_client, joined, name_fault, next_conn, quietly, start_client, started, unless_pending, with_name}
-use Rattle.ft_worlds.specs.MadeWorlds.{IsMade}
-use Rattle.ft_worlds.proofs.MadeWorlds.{made-distinct, made-known, made-reached, made-start}
+use Rattle.ft_laws_sessions.specs.MadeWorlds.{IsMade}
+use Rattle.ft_laws_sessions.proofs.MadeWorlds.{made-distinct, made-known, made-reached, made-start}
 use Rattle.ft_session.specs.declared.outputs.Out.TheVariants as out
 use Rattle.ft_session.specs.Effects.{KeepsTrimmed}
 use Rattle.ft_session.specs.Entrances.{AnswersName, IsCopyOf, new_member}

@@ -6,7 +6,7 @@ use Rattle.std.proofs.lemmas.Iterator.Adapters.{position_from-zero}
 use Rattle.ft_base.proofs.Options.{some-same}
 use Rattle.serde_json.specs.Written.{compact_text}
 use Rattle.ft_props.specs.Properties.{Characters}
-use Rattle.ft_laws.specs.Sequencing.{Each}
+use Rattle.ft_laws_agreement.specs.Sequencing.{Each}
 use Rattle.ft_msg.specs.WellFormed.{IsWellFormedMessage}
 use Rattle.ft_msg.specs.Written.{written_message}
 use Rattle.ft_msg.specs.declared.faults.Cause.{Cause}
@@ -19,9 +19,9 @@ use Rattle.ft_seqr.specs.declared.refusals.Refusal.TheVariants.{NotConnected, Un
 use Rattle.ft_seqr.specs.Refusals.{refusal_of_cause}
 use Rattle.ft_seqr.specs.Sequencer.{NaiveSequencer, leave}
 use Rattle.ft_seqr.specs.World.{NaiveWorld, NamedGuest, Nothing, Stepped, connection_name, happen, is_guest, joined, left, logged, name_fault, part_guest, quietly, submit_all, submit_draft, submit_guest, Texts}
-use Rattle.ft_worlds.specs.MadeWorlds.{IsMade}
-use Rattle.ft_worlds.specs.NewNames.{IsNewName}
-use Rattle.ft_worlds.proofs.MadeWorlds.{made-formed, made-guest, made-within}
+use Rattle.ft_laws_sessions.specs.MadeWorlds.{IsMade}
+use Rattle.ft_laws_sessions.specs.NewNames.{IsNewName}
+use Rattle.ft_laws_sessions.proofs.MadeWorlds.{made-formed, made-guest, made-within}
 use Rattle.ft_session.specs.declared.outputs.Out.TheVariants as out
 use Rattle.ft_session.specs.Readings.{ReadsOr, read_or_refused, submitted_text}
 use Rattle.ft_session.specs.Services.{AnswersService, left_or_refused}

@@ -17,8 +17,8 @@ use Rattle.ft_seqr.specs.declared.events.Event.TheVariants as event
 use Rattle.ft_seqr.specs.declared.refusals.Refusal.{Refusal}
 use Rattle.ft_seqr.specs.declared.refusals.Refusal.TheVariants.{UnknownClient}
 use Rattle.ft_seqr.specs.World.{NaiveWorld, NamedClient, NamedGuest, Stepped, happen, in_place, is_client, of_client}
-use Rattle.ft_worlds.specs.MadeWorlds.{IsMade}
-use Rattle.ft_worlds.proofs.MadeWorlds.{made-distinct, made-within, placed-same}
+use Rattle.ft_laws_sessions.specs.MadeWorlds.{IsMade}
+use Rattle.ft_laws_sessions.proofs.MadeWorlds.{made-distinct, made-within, placed-same}
 use Rattle.ft_session.specs.declared.outputs.Out.{Out}
 use Rattle.ft_session.specs.Effects.{MemberEffect, NamedEffect, SessionEffect}
 use Rattle.ft_session.specs.Entrances.{client_of}

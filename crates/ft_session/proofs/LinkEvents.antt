@@ -2,7 +2,7 @@
 use Rattle.std.proofs.Common.{◌≡◌, ◌<◌, ◌≤◌, ℕ, ◌+◌, ◌^◌, max, List, [], length, Option, Some, None, Result, Ok, Err, refl, sym, ◌∙◌, ap, subst, arith}
 use Rattle.ft_base.proofs.Options.{some-same}
 use Rattle.ft_props.specs.Properties.{Characters}
-use Rattle.ft_summaries.proofs.Lists.{each-found}
+use Rattle.ft_laws_summaries.proofs.Lists.{each-found}
 use Rattle.ft_msg.specs.declared.faults.LinkFault.{LinkFault}
 use Rattle.ft_msg.specs.declared.faults.LinkFault.TheVariants as link
 use Rattle.ft_msg.specs.declared.messages.Entry.{Entry}
@@ -16,8 +16,8 @@ use Rattle.ft_seqr.specs.declared.refusals.Refusal.TheVariants.{NotConnected}
 use Rattle.ft_seqr.specs.Refusals.{refusal_of_link}
 use Rattle.ft_seqr.specs.Sequencer.{NaiveSequencer, leave}
 use Rattle.ft_seqr.specs.World.{NaiveWorld, NamedClient, Nothing, Stepped, conn_of, connect_client, connection_name, drop_client, is_client, joined, left, logged, next_conn, quietly, with_client}
-use Rattle.ft_worlds.specs.NewNames.{IsNewName}
-use Rattle.ft_worlds.proofs.MadeWorlds.{made-connection, made-within}
+use Rattle.ft_laws_sessions.specs.NewNames.{IsNewName}
+use Rattle.ft_laws_sessions.proofs.MadeWorlds.{made-connection, made-within}
 use Rattle.ft_session.specs.declared.outputs.Out.TheVariants as out
 use Rattle.ft_session.specs.Services.{AnswersService, left_or_refused}
 use Rattle.ft_seqr.specs.RefusalKinds.{refusal_kind}

@@ -5,7 +5,7 @@ use Rattle.ft_msg.specs.declared.messages.Entry.{Entry}
 use Rattle.ft_msg.specs.Client.{NaiveClient, connect, drop_link, local_edit, noop}
 use Rattle.ft_msg.specs.ClientSteps.{ClientStep, Connects, Drops, Edits, Idles, Takes, after_step, after_steps, taken_entries, unless_refused}
 use Rattle.ft_msg.specs.Process.{process}
-use Rattle.ft_laws.proofs.CountedEntries.{steps-counted}
+use Rattle.ft_laws_agreement.proofs.CountedEntries.{steps-counted}
 
 one-step : (step : ClientStep) (x y : NaiveClient) → after_step x step ≡ Some y → y.doc.number ≡ x.doc.number + length (taken_entries (step ∷ []))
 one-step step x y h = steps-counted (step ∷ []) x y (ap (λ o. after_steps o []) h)

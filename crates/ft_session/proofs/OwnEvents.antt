@@ -2,7 +2,7 @@
 use Rattle.std.proofs.Common.{◌≡◌, max, List, [], take, Result, Ok, Err, refl, sym, ◌∙◌, ap, subst, arith, append-nil}
 use Rattle.std.specs.Prelude.{⊤}
 use Rattle.ft_seqr.specs.Refusals.{refusal_of_view}
-use Rattle.ft_summaries.proofs.Lists.{each-found}
+use Rattle.ft_laws_summaries.proofs.Lists.{each-found}
 use Rattle.ft_msg.specs.declared.faults.ViewFault.{ViewFault}
 use Rattle.ft_msg.specs.declared.faults.ViewFault.TheVariants as viewing
 use Rattle.ft_msg.specs.declared.messages.Entry.{Entry}
@@ -13,7 +13,7 @@ use Rattle.ft_msg.specs.Reached.{IsReached}
 use Rattle.ft_seqr.specs.declared.refusals.Refusal.{Refusal}
 use Rattle.ft_seqr.specs.declared.refusals.Refusal.TheVariants.{OutOfMemory}
 use Rattle.ft_seqr.specs.World.{NaiveWorld, NamedClient, Nothing, Stepped, greatest_origin, is_client, quietly, with_client}
-use Rattle.ft_worlds.proofs.MadeWorlds.{made-reached, placed-same}
+use Rattle.ft_laws_sessions.proofs.MadeWorlds.{made-reached, placed-same}
 use Rattle.std.specs.Result.{IsErr, IsErrAnd}
 use Rattle.ft_session.specs.declared.outputs.Out.{Out}
 use Rattle.ft_session.specs.declared.outputs.Out.TheVariants as out

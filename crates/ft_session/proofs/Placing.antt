@@ -7,7 +7,7 @@ use Rattle.std.proofs.lemmas.Slice.Eq.{bytes_eq-Decides}
 use Rattle.ft_base.proofs.Booleans.{both}
 use Rattle.ft_props.specs.Properties.{Characters}
 use Rattle.ft_sumdoc.specs.Counts.{are_distinct_names}
-use Rattle.ft_laws.specs.Sequencing.{Each}
+use Rattle.ft_laws_agreement.specs.Sequencing.{Each}
 use Rattle.ft_msg.specs.declared.messages.Entry.{Entry}
 use Rattle.ft_seqr.specs.World.{NamedClient, greatest_origin, in_place, is_client}
 use Rattle.ft_session.specs.Worlds.{MembersStand, MemberStands, MemberState, has_name}

@@ -3,11 +3,11 @@ use Rattle.std.proofs.Common.{◌≡◌, ◌≤◌, ◌<◌, ℕ, zero, suc, ◌
 use Rattle.std.proofs.lemmas.List.{length-take-le}
 use Rattle.std.specs.Prelude.{encode_utf8_all, ⊤}
 use Rattle.std.proofs.lemmas.Bool.Decides.{nat_tests}
-use Rattle.ft_laws.proofs.NumberTests.{same_number}
+use Rattle.ft_laws_agreement.proofs.NumberTests.{same_number}
 use Rattle.std.proofs.Math.ListN.{drop_of_length-le, get_or}
 use Rattle.std.proofs.Math.Seq.{drop-cons}
-use Rattle.ft_laws.specs.Sequencing.{Each}
-use Rattle.ft_summaries.proofs.Lists.{each-found}
+use Rattle.ft_laws_agreement.specs.Sequencing.{Each}
+use Rattle.ft_laws_summaries.proofs.Lists.{each-found}
 use Rattle.ft_props.specs.Properties.{Characters}
 use Rattle.ft_msg.specs.declared.faults.ProcessFault.{ProcessFault}
 use Rattle.ft_msg.specs.declared.faults.ProcessFault.TheVariants as processing
@@ -29,7 +29,7 @@ use Rattle.ft_seqr.specs.declared.refusals.Refusal.TheVariants.{Foreign, NotConn
 use Rattle.ft_seqr.specs.Refusals.{refusal_of_cause, refusal_of_process}
 use Rattle.ft_seqr.specs.SameMessage.{same_message}
 use Rattle.ft_seqr.specs.World.{NaiveWorld, NamedClient, Nothing, Stepped, ahead_of, conn_of, deliver_client, greatest_origin, is_client, now, offer_client, offer_message, offer_next, processed, wanted_count, with_client}
-use Rattle.ft_worlds.proofs.MadeWorlds.{made-formed, made-takes, made-within}
+use Rattle.ft_laws_sessions.proofs.MadeWorlds.{made-formed, made-takes, made-within}
 use Rattle.ft_session.specs.declared.outputs.Out.{Out}
 use Rattle.ft_session.specs.declared.outputs.Out.TheVariants as out
 use Rattle.ft_session.specs.Deliveries.{CanProcess, HasProcessed, Processes, offered_entry}

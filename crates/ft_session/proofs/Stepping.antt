@@ -8,7 +8,7 @@ use Rattle.ft_seqr.specs.declared.refusals.Refusal.TheVariants.{OutOfMemory, Sto
 use Rattle.ft_seqr.specs.WellFormedEvent.{IsWellFormedEvent}
 use Rattle.ft_seqr.specs.World.{NaiveWorld, happen, loaded, new_world, step, text_load}
 use Rattle.ft_seqr.specs.Sequencer.{new_sequencer}
-use Rattle.ft_worlds.proofs.MadeWorlds.{made-first, made-next}
+use Rattle.ft_laws_sessions.proofs.MadeWorlds.{made-first, made-next}
 use Rattle.ft_session.specs.declared.outputs.Counts.{Counts}
 use Rattle.ft_session.specs.declared.outputs.Out.{Out}
 use Rattle.ft_session.specs.Outputs.{counts_of}

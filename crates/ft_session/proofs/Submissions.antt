@@ -3,7 +3,7 @@ use Rattle.std.proofs.Common.{◌≡◌, ◌≤◌, ◌<◌, ℕ, zero, suc, ◌
 use Rattle.std.proofs.lemmas.List.{append_assoc}
 use Rattle.std.specs.Prelude.{OnErr, OnOk, ⊤}
 use Rattle.std.proofs.lemmas.Bool.Decides.{nat_tests}
-use Rattle.ft_summaries.proofs.Lists.{each-found}
+use Rattle.ft_laws_summaries.proofs.Lists.{each-found}
 use Rattle.ft_msg.specs.declared.messages.Draft.{Draft}
 use Rattle.ft_msg.specs.declared.messages.Entry.{Entry}
 use Rattle.ft_msg.specs.Answers.{ReplicaState, RunsFor, with_queue}
@@ -17,7 +17,7 @@ use Rattle.ft_seqr.specs.declared.refusals.Refusal.{Refusal}
 use Rattle.ft_seqr.specs.declared.refusals.Refusal.TheVariants.{Nacked, NotConnected, NothingToTicket, OutOfMemory, Stopped}
 use Rattle.ft_seqr.specs.Sequencer.{NaiveSequencer, submit}
 use Rattle.ft_seqr.specs.World.{NaiveWorld, NamedClient, Nothing, Stepped, conn_of, in_place, is_client, logged, quietly, submit_all, ticket_client, ticket_sent, wanted_count, with_client}
-use Rattle.ft_worlds.proofs.MadeWorlds.{made-sends, made-within}
+use Rattle.ft_laws_sessions.proofs.MadeWorlds.{made-sends, made-within}
 use Rattle.ft_session.specs.declared.outputs.Out.TheVariants as out
 use Rattle.ft_session.specs.Services.{AnswersService, CanSubmit}
 use Rattle.ft_seqr.specs.RefusalKinds.{MeansOf, refusal_kind}

@@ -1,20 +1,20 @@
 -- The laws of naive worlds, of worlds that stand for them.
 use Rattle.std.proofs.Common.{◌≡◌, ℕ, take, find, Some, sym, ◌∙◌, ap, subst}
 use Rattle.ft_props.specs.Properties.{Characters}
-use Rattle.ft_laws.specs.Sequencing.{Each}
-use Rattle.ft_laws.proofs.Corollaries.{own-join-comes_back}
-use Rattle.ft_laws.proofs.SummaryStarts.{reached-run}
+use Rattle.ft_laws_agreement.specs.Sequencing.{Each}
+use Rattle.ft_laws_agreement.proofs.Corollaries.{own-join-comes_back}
+use Rattle.ft_laws_agreement.proofs.SummaryStarts.{reached-run}
 use Rattle.ft_op.specs.Document.{Document}
 use Rattle.ft_msg.specs.Agreed.{agreed}
 use Rattle.ft_msg.specs.Applied.{applied}
 use Rattle.ft_msg.specs.Content.{content}
 use Rattle.ft_msg.specs.Reached.{IsReached}
 use Rattle.ft_seqr.specs.World.{NamedClient, NaiveWorld, is_client}
-use Rattle.ft_summaries.proofs.Lists.{each-found}
-use Rattle.ft_worlds.specs.MadeWorlds.{IsMade}
-use Rattle.ft_worlds.specs.Worlds.{HasCountsOf, reached}
-use Rattle.ft_worlds.proofs.MadeWorlds.{made-reached}
-use Rattle.ft_worlds.proofs.WorldLaws.{clients-attribute-the_same, clients-show-the_same, counts-are-agreed, views-are-applied}
+use Rattle.ft_laws_summaries.proofs.Lists.{each-found}
+use Rattle.ft_laws_sessions.specs.MadeWorlds.{IsMade}
+use Rattle.ft_laws_sessions.specs.Worlds.{HasCountsOf, reached}
+use Rattle.ft_laws_sessions.proofs.MadeWorlds.{made-reached}
+use Rattle.ft_laws_sessions.proofs.WorldLaws.{clients-attribute-the_same, clients-show-the_same, counts-are-agreed, views-are-applied}
 use Rattle.ft_session.specs.WorldLaws.{JoinsKeepViews, SameNumbersCountTheSame, SameNumbersShowTheSame, ShowsApplied}
 use Rattle.ft_session.specs.Worlds.{WorldState}
 

@@ -6,7 +6,7 @@ use Rattle.ft_msg.specs.Answers.{ReplicaState, RunsFor}
 use Rattle.ft_msg.specs.Client.{NaiveClient}
 use Rattle.ft_msg.specs.Reached.{IsReached}
 use Rattle.ft_msg.specs.WellFormed.{IsWellFormedMessage}
-use Rattle.ft_laws.specs.Sequencing.{Each}
+use Rattle.ft_laws_agreement.specs.Sequencing.{Each}
 use Rattle.ft_seqr.specs.SameMessage.{same_message}
 use Rattle.ft_seqr.specs.World.{conn_of, processed}
 use Rattle.ft_session.specs.Worlds.{MemberState}

@@ -8,7 +8,7 @@ use Rattle.ft_msg.specs.Summary.{trim}
 use Rattle.ft_seqr.specs.declared.events.Event.{Event}
 use Rattle.ft_seqr.specs.declared.events.Event.TheVariants as event
 use Rattle.ft_seqr.specs.World.{NamedClient, NaiveWorld, is_client}
-use Rattle.ft_worlds.specs.MadeWorlds.{IsMade}
+use Rattle.ft_laws_sessions.specs.MadeWorlds.{IsMade}
 use Rattle.ft_session.specs.declared.outputs.Out.{Out}
 use Rattle.ft_session.specs.declared.outputs.Out.TheVariants as out
 use Rattle.ft_session.specs.Entrances.{new_member}

@@ -3,7 +3,7 @@ use Rattle.std.specs.Prelude.{◌≡◌, ℕ, cond, nat_lt, Result, Ok, Err, ⊤
 use Rattle.ft_seqr.specs.declared.events.Event.{Event}
 use Rattle.ft_seqr.specs.declared.refusals.Refusal.{Refusal}
 use Rattle.ft_seqr.specs.World.{NaiveWorld, Output, Stepped, step}
-use Rattle.ft_worlds.specs.MadeWorlds.{IsMade}
+use Rattle.ft_laws_sessions.specs.MadeWorlds.{IsMade}
 use Rattle.ft_msg.specs.declared.views.Numbers.{Numbers}
 use Rattle.ft_session.specs.declared.world.Furthest.{Furthest}
 use Rattle.ft_session.specs.declared.world.Taken.{Taken}

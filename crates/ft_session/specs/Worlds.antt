@@ -9,7 +9,7 @@ use Rattle.ft_seqr.specs.declared.refusals.Refusal.TheVariants.{Stopped}
 use Rattle.ft_seqr.specs.RefusalKinds.{MeansOf, refusal_kind}
 use Rattle.ft_seqr.specs.Sequencer.{NaiveSequencer}
 use Rattle.ft_seqr.specs.World.{NaiveWorld, NamedClient, NamedGuest, Output, Stepped, greatest_origin, in_place, is_client, step}
-use Rattle.ft_worlds.specs.MadeWorlds.{IsMade}
+use Rattle.ft_laws_sessions.specs.MadeWorlds.{IsMade}
 use Rattle.ft_session.specs.declared.outputs.Out.{Out}
 use Rattle.ft_session.specs.declared.outputs.Counts.{Counts}
 use Rattle.ft_session.specs.Outputs.{Tells, counts_of}

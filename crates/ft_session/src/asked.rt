@@ -2,7 +2,7 @@
 
 ghost use Rattle.std.specs.Prelude.{◌≡◌, ◌≤◌, IfOk, map};
 ghost use Rattle.serde_json.specs.Written.{compact_text};
-ghost use Rattle.ft_laws.specs.Sequencing.{Each};
+ghost use Rattle.ft_laws_agreement.specs.Sequencing.{Each};
 ghost use Rattle.ft_msg.specs.Answers.{AnswersSummary};
 ghost use Rattle.ft_msg.specs.WellFormed.{IsWellFormedDraft};
 ghost use Rattle.ft_msg.specs.Written.{written_draft};

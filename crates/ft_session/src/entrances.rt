@@ -4,7 +4,7 @@ ghost use Rattle.std.specs.Prelude.{◌≡◌, ◌∷◌, ◌++◌, [], None, So
 ghost use Rattle.ft_props.specs.Properties.{Characters};
 ghost use Rattle.ft_seqr.specs.World.{NaiveWorld, NamedClient, happen, is_client, name_fault, start_client};
 ghost use Rattle.ft_seqr.specs.declared.events.Event.TheVariants as event;
-ghost use Rattle.ft_worlds.specs.MadeWorlds.{IsMade};
+ghost use Rattle.ft_laws_sessions.specs.MadeWorlds.{IsMade};
 ghost use Rattle.ft_session.specs.Effects.{KeepsTrimmed, SessionEffect, StartsTrimmed};
 ghost use Rattle.ft_session.specs.Entrances.{AnswersName, IsCopyOf, new_member};
 ghost use Rattle.ft_seqr.specs.RefusalKinds.{MeansOf, refusal_kind};

@@ -3,7 +3,7 @@
 ghost use Rattle.std.specs.Prelude.{◌≡◌, ◌∷◌, ◌++◌, [], IfOk, OnOk, encode_utf8_all, map};
 ghost use Rattle.serde_json.specs.Written.{compact_text};
 ghost use Rattle.std.specs.List.{list_any, position};
-ghost use Rattle.ft_laws.specs.Sequencing.{Each};
+ghost use Rattle.ft_laws_agreement.specs.Sequencing.{Each};
 ghost use Rattle.ft_msg.specs.MessageGrammar.{draft};
 ghost use Rattle.ft_msg.specs.WellFormed.{IsWellFormedMessage};
 ghost use Rattle.ft_msg.specs.Written.{written_message};

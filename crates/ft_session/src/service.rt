@@ -3,7 +3,7 @@
 ghost use Rattle.std.specs.Prelude.{◌≡◌, ◌+◌, ◌-◌, ◌<◌, ◌^◌, [], ◌∷◌, ◌++◌, Ok, IfOk, OnOk, length};
 ghost use Rattle.ft_seqr.specs.Sequencer.{new_sequencer};
 ghost use Rattle.ft_seqr.specs.World.{NaiveWorld, joined, submit_all};
-ghost use Rattle.ft_worlds.specs.NewNames.{IsNewName};
+ghost use Rattle.ft_laws_sessions.specs.NewNames.{IsNewName};
 ghost use Rattle.ft_session.specs.Services.{AnswersService, left_or_refused};
 ghost use Rattle.ft_session.specs.Worlds.{service_of};
 

@@ -7,7 +7,7 @@ use Rattle.ft_base.specs.declared.stamps.Stamp.TheVariants.{Local}
 use Rattle.ft_base.specs.Scan.{no_run}
 use Rattle.ft_base.proofs.Booleans.{both}
 use Rattle.ft_block.specs.Leaves.{last_stage}
-use Rattle.ft_leaves.specs.Elements.{IsAboveChanges, TreeElement, new_elements, removed_stamps, seen_in, with_overlay, with_stamps}
+use Rattle.ft_tree_leaves.specs.Elements.{IsAboveChanges, TreeElement, new_elements, removed_stamps, seen_in, with_overlay, with_stamps}
 use Rattle.ft_op.specs.declared.operations.BaseOp.{BaseOp}
 use Rattle.ft_op.specs.declared.operations.BaseOp.TheVariants.{Insert, Remove, Annotate}
 use Rattle.ft_op.specs.Operation.{segment_contents}

@@ -11,14 +11,14 @@ use Rattle.ft_interval.specs.Ends.{References, map_ends, place_of_end, places_of
 use Rattle.ft_interval.specs.Intervals.{after_operation}
 use Rattle.ft_interval.specs.State.{CollectionsState, is_first, placed, placed_intervals, placed_operations, text_elements, with_first_acked, with_mapped_ends, with_mapped_names}
 use Rattle.ft_interval.proofs.OneInterval.{NamesRise-map}
-use Rattle.ft_leaves.specs.declared.leaves.TreeLeaf.{TreeLeaf}
-use Rattle.ft_leaves.specs.declared.text.TextPiece.TheVariants.{Run, Marker}
-use Rattle.ft_leaves.specs.declared.text.TextPiece.{TextPiece}
-use Rattle.ft_leaves.specs.declared.text.TextContent.{TextContent}
-use Rattle.ft_leaves.specs.Elements.{TreeElement, acked_element, elements_with}
-use Rattle.ft_leaves.specs.LeafLists.{elements, leaf_elements}
-use Rattle.ft_leaves.specs.References.{ChangesReferences, slid_reference}
-use Rattle.ft_leaves.specs.TextLeaves.{piece_units, text_author, text_units}
+use Rattle.ft_tree_leaves.specs.declared.leaves.TreeLeaf.{TreeLeaf}
+use Rattle.ft_tree_leaves.specs.declared.text.TextPiece.TheVariants.{Run, Marker}
+use Rattle.ft_tree_leaves.specs.declared.text.TextPiece.{TextPiece}
+use Rattle.ft_tree_leaves.specs.declared.text.TextContent.{TextContent}
+use Rattle.ft_tree_leaves.specs.Elements.{TreeElement, acked_element, elements_with}
+use Rattle.ft_tree_leaves.specs.LeafLists.{elements, leaf_elements}
+use Rattle.ft_tree_leaves.specs.References.{ChangesReferences, slid_reference}
+use Rattle.ft_tree_leaves.specs.TextLeaves.{piece_units, text_author, text_units}
 use Rattle.ft_msg.specs.Acknowledgement.{cells_after_stage, made_before, renamed, renamed_names, renamed_stage}
 use Rattle.ft_msg.specs.Indexed.{IndexedStage, indexed_interval, indexed_stage, place_in_list}
 use Rattle.ft_op.specs.declared.operations.BaseOp.{BaseOp}
@@ -31,11 +31,11 @@ use Rattle.ft_props.specs.Element.{Character, ElementContent, ElementId, GridUni
 use Rattle.ft_props.specs.Slide.{slide}
 use Rattle.ft_props.specs.Steps.{Sequence, acked_id, acked_list, author, is_inserted_by}
 use Rattle.ft_props.specs.Steps.{acked_element as document_acked}
-use Rattle.ft_laws.specs.Sequencing.{Each}
-use Rattle.ft_names.specs.WellNamed.{AreNamedBefore, ArePutIn, IsNamedBefore, IsSettledIn, IsWellNumbered, RiseTo, StandsIn, puts_text_in}
-use Rattle.ft_names.proofs.AckedLists.{acked-numbered, stage-count, unstaged}
-use Rattle.ft_names.proofs.Beside.{Beside, beside-map, ends, next}
-use Rattle.ft_names.proofs.OwnAlike.{named-acked}
+use Rattle.ft_laws_agreement.specs.Sequencing.{Each}
+use Rattle.ft_laws_names.specs.WellNamed.{AreNamedBefore, ArePutIn, IsNamedBefore, IsSettledIn, IsWellNumbered, RiseTo, StandsIn, puts_text_in}
+use Rattle.ft_laws_names.proofs.AckedLists.{acked-numbered, stage-count, unstaged}
+use Rattle.ft_laws_names.proofs.Beside.{Beside, beside-map, ends, next}
+use Rattle.ft_laws_names.proofs.OwnAlike.{named-acked}
 use Rattle.ft_tree.specs.State.{TreeState}
 use Rattle.ft_named.specs.Bare.{bare}
 use Rattle.ft_named.proofs.AckedSteps.{acked-alike, acked-held, acked-moves, acked-stays}

@@ -7,7 +7,7 @@ use Rattle.ft_base.proofs.Booleans.{both}
 use Rattle.ft_interval.specs.declared.pending.Operation.{Operation}
 use Rattle.ft_interval.specs.Ends.{places_of_ends}
 use Rattle.ft_interval.specs.State.{CollectionsState, first_stage, placed_operations, text_elements, with_mapped_names}
-use Rattle.ft_leaves.specs.declared.text.TextContent.{TextContent}
+use Rattle.ft_tree_leaves.specs.declared.text.TextContent.{TextContent}
 use Rattle.ft_msg.specs.Acknowledgement.{ack_stages, made_before, renamed, renamed_names, renamed_stage}
 use Rattle.ft_msg.specs.Indexed.{IndexedStage, indexed_stage}
 use Rattle.ft_op.specs.Document.{Document}
@@ -17,10 +17,10 @@ use Rattle.ft_op.specs.Stages.{Stage}
 use Rattle.ft_props.specs.declared.properties.Changes.{Changes}
 use Rattle.ft_props.specs.Element.{ElementId, ListElement, NamelessElement}
 use Rattle.ft_props.specs.Steps.{acked_id}
-use Rattle.ft_laws.specs.Reconnecting.{is_stage_of}
-use Rattle.ft_laws.specs.Sequencing.{Each, annotates_text}
-use Rattle.ft_names.specs.WellNamed.{AreNamedBefore, AreStagesNamed, RiseTo}
-use Rattle.ft_names.proofs.Beside.{ends, next}
+use Rattle.ft_laws_agreement.specs.Reconnecting.{is_stage_of}
+use Rattle.ft_laws_agreement.specs.Sequencing.{Each, annotates_text}
+use Rattle.ft_laws_names.specs.WellNamed.{AreNamedBefore, AreStagesNamed, RiseTo}
+use Rattle.ft_laws_names.proofs.Beside.{ends, next}
 use Rattle.ft_tree.specs.State.{TreeState}
 use Rattle.ft_named.proofs.Bares.{AreElements, from-bare}
 use Rattle.ft_named.proofs.Lists.{all-weaker}

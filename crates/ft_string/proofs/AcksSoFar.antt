@@ -6,10 +6,10 @@ use Rattle.std.proofs.lemmas.List.Elements.{All-cons, All-nil}
 use Rattle.ft_base.proofs.Booleans.{both}
 use Rattle.ft_interval.specs.declared.pending.Operation.{Operation}
 use Rattle.ft_interval.specs.State.{CollectionsState, IsLive, first_stage, is_first, text_elements}
-use Rattle.ft_laws.proofs.NumberTests.{same_number}
-use Rattle.ft_leaves.specs.declared.text.TextContent.{TextContent}
-use Rattle.ft_leaves.specs.Elements.{IsLowestChange, TreeElement, acked_element}
-use Rattle.ft_leaves.specs.TextLeaves.{text_author}
+use Rattle.ft_laws_agreement.proofs.NumberTests.{same_number}
+use Rattle.ft_tree_leaves.specs.declared.text.TextContent.{TextContent}
+use Rattle.ft_tree_leaves.specs.Elements.{IsLowestChange, TreeElement, acked_element}
+use Rattle.ft_tree_leaves.specs.TextLeaves.{text_author}
 use Rattle.ft_props.specs.declared.properties.Changes.{Changes}
 use Rattle.ft_props.specs.Element.{ElementContent}
 use Rattle.ft_props.specs.Overlay.{without_stage}

@@ -1,9 +1,9 @@
 -- Contents that are put at the end of a tree one after another are put there at once.
 use Rattle.std.proofs.Common.{◌≡◌, ℕ, ◌+◌, ◌<◌, List, [], ◌∷◌, ◌++◌, refl, sym, ◌∙◌, ap, subst, arith, length, length-append, append_assoc, append-nil, Some, drop, flat_map, get_or, map}
 use Rattle.std.proofs.lemmas.List.{drop_more}
-use Rattle.ft_leaves.specs.declared.text.TextContent.{TextContent}
-use Rattle.ft_leaves.specs.Elements.{element_with}
-use Rattle.ft_leaves.specs.TextLeaves.{text_units}
+use Rattle.ft_tree_leaves.specs.declared.text.TextContent.{TextContent}
+use Rattle.ft_tree_leaves.specs.Elements.{element_with}
+use Rattle.ft_tree_leaves.specs.TextLeaves.{text_units}
 use Rattle.ft_msg.specs.Summary.{segment_bodies, stamp_of}
 use Rattle.ft_sumdoc.specs.declared.summary.SegRec.{SegRec}
 use Rattle.ft_named.proofs.Lists.{map-append}

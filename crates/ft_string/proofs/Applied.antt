@@ -7,13 +7,13 @@ use Rattle.ft_base.specs.Scan.{change_range, len}
 use Rattle.ft_block.specs.declared.leaves.LenView.TheVariants.{At}
 use Rattle.ft_interval.specs.State.{CollectionsState, text_elements}
 use Rattle.ft_interval.specs.Ends.{References, place_of_end, slid_end}
-use Rattle.ft_leaves.specs.declared.references.Reference.{Reference}
-use Rattle.ft_leaves.specs.declared.text.TextContent.{TextContent}
-use Rattle.ft_leaves.specs.Edits.{with_place}
-use Rattle.ft_leaves.specs.Elements.{TreeElement, seen_in}
-use Rattle.ft_leaves.specs.Elements.{is_pending as tree_pending}
-use Rattle.ft_leaves.specs.Places.{put_place, shifted_place}
-use Rattle.ft_leaves.specs.References.{ChangesReferences, reference_at, slid_reference}
+use Rattle.ft_tree_leaves.specs.declared.references.Reference.{Reference}
+use Rattle.ft_tree_leaves.specs.declared.text.TextContent.{TextContent}
+use Rattle.ft_tree_leaves.specs.Edits.{with_place}
+use Rattle.ft_tree_leaves.specs.Elements.{TreeElement, seen_in}
+use Rattle.ft_tree_leaves.specs.Elements.{is_pending as tree_pending}
+use Rattle.ft_tree_leaves.specs.Places.{put_place, shifted_place}
+use Rattle.ft_tree_leaves.specs.References.{ChangesReferences, reference_at, slid_reference}
 use Rattle.ft_op.specs.declared.operations.BaseOp.{BaseOp}
 use Rattle.ft_op.specs.declared.operations.BaseOp.TheVariants.{Insert, Remove, Annotate}
 use Rattle.ft_op.specs.Document.{Document, effects, text_effect, with_skip, with_slid_ends}
@@ -23,15 +23,15 @@ use Rattle.ft_props.specs.Element.{ElementContent, ElementId, seen_by, with_anno
 use Rattle.ft_props.specs.Properties.{apply}
 use Rattle.ft_props.specs.Slide.{slide}
 use Rattle.ft_props.specs.Steps.{Sequence, after_insertion, after_removal}
-use Rattle.ft_names.proofs.Beside.{beside-len}
-use Rattle.ft_names.specs.WellNamed.{IsSettledIn, StandsIn}
+use Rattle.ft_laws_names.proofs.Beside.{beside-len}
+use Rattle.ft_laws_names.specs.WellNamed.{IsSettledIn, StandsIn}
 use Rattle.ft_tree.specs.State.{TreeState}
 use Rattle.ft_string.specs.Bare.{text_content}
 use Rattle.ft_string.specs.Holds.{HoldsText}
 use Rattle.ft_string.specs.Parts.{AppliesOp, AreSound, TriesOp, TriesOps, state_of}
 use Rattle.ft_string.specs.declared.pending.PendingOp.{PendingOp}
 use Rattle.ft_named.proofs.Bares.{AreElements, from-bare, seen-alike}
-use Rattle.ft_laws.proofs.NumberTests.{from_self}
+use Rattle.ft_laws_agreement.proofs.NumberTests.{from_self}
 use Rattle.ft_string.proofs.Documents.{IsNamed, keeps-end, name-same, keeps-settled, settled-stands, sound-step, step-holds, step-named}
 use Rattle.ft_string.proofs.Ends.{IsMarkedEnd, SameEnd, end-kept, end-moved, end-slid, name-slid, same-names}
 use Rattle.ft_named.proofs.ListSteps.{StepsList, annotation-alike, annotation-step, insertion-alike, insertion-step, removal-alike, removal-step}

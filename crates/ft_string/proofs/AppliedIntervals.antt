@@ -8,10 +8,10 @@ use Rattle.ft_interval.specs.Ends.{map_ends, places_of_ends, places_of_given, sl
 use Rattle.ft_interval.specs.Intervals.{NamesRise}
 use Rattle.ft_interval.specs.State.{CollectionsState, KeepsReferences, keeps, placed, placed_intervals, placed_operations, text_elements, with_effect, with_mapped_ends}
 use Rattle.ft_interval.proofs.OneInterval.{NamesRise-map}
-use Rattle.ft_leaves.specs.declared.references.Reference.{Reference}
-use Rattle.ft_leaves.specs.declared.text.TextContent.{TextContent}
-use Rattle.ft_leaves.specs.Elements.{seen_in}
-use Rattle.ft_leaves.specs.References.{reference_at}
+use Rattle.ft_tree_leaves.specs.declared.references.Reference.{Reference}
+use Rattle.ft_tree_leaves.specs.declared.text.TextContent.{TextContent}
+use Rattle.ft_tree_leaves.specs.Elements.{seen_in}
+use Rattle.ft_tree_leaves.specs.References.{reference_at}
 use Rattle.ft_msg.specs.Indexed.{indexed_interval}
 use Rattle.ft_op.specs.declared.operations.TextOp.{TextOp}
 use Rattle.ft_op.specs.Document.{Document, elements_at_given_ends, ends_of, effects, given_ends_fit, with_skip, with_slid_ends}
@@ -20,7 +20,7 @@ use Rattle.ft_op.specs.Intervals.{Interval as NamedInterval}
 use Rattle.ft_op.specs.Operation.{OnIntervals}
 use Rattle.ft_op.specs.Stages.{Stage}
 use Rattle.ft_props.specs.Element.{ListElement, seen_by}
-use Rattle.ft_names.proofs.Beside.{beside-len, ends, next}
+use Rattle.ft_laws_names.proofs.Beside.{beside-len, ends, next}
 use Rattle.ft_tree.specs.State.{TreeState}
 use Rattle.ft_named.specs.Bare.{bare}
 use Rattle.ft_string.specs.Bare.{text_content}

@@ -14,8 +14,8 @@ use Rattle.ft_interval.specs.Shown.{carried, carried_end, carried_interval, last
 use Rattle.ft_interval.specs.State.{CollectionsState, placed, text_elements, with_mapped_ends}
 use Rattle.ft_interval.specs.Ends.{places_of_ends}
 use Rattle.ft_interval.proofs.OneInterval.{NamesRise-after, NamesRise-map}
-use Rattle.ft_leaves.specs.declared.text.TextContent.{TextContent}
-use Rattle.ft_leaves.specs.Elements.{seen_in}
+use Rattle.ft_tree_leaves.specs.declared.text.TextContent.{TextContent}
+use Rattle.ft_tree_leaves.specs.Elements.{seen_in}
 use Rattle.ft_msg.specs.Content.{interval_record}
 use Rattle.ft_msg.specs.Indexed.{IndexedInterval, IndexedStage, indexed_interval, indexed_stage, place_in_list}
 use Rattle.ft_op.specs.declared.operations.Ends.{Ends}
@@ -28,16 +28,16 @@ use Rattle.ft_op.specs.Stages.{Stage, shown_intervals}
 use Rattle.ft_props.specs.Element.{ElementId, ListElement, has_id, is_unremoved, seen}
 use Rattle.ft_props.specs.Properties.{PropertySet, apply}
 use Rattle.ft_props.specs.Slide.{end_number, settle}
-use Rattle.ft_laws.specs.Reconnecting.{StagesRiseTo, has_marks_of, inserts_text, removes_text}
-use Rattle.ft_laws.specs.Sequencing.{Each}
-use Rattle.ft_laws.specs.Trimming.{are_distinct_elements, has_ends_on, is_end_on}
-use Rattle.ft_laws.proofs.AfterOwnJoin.{unremoved-seen}
-use Rattle.ft_laws.proofs.FollowingOrder.{rank-same}
-use Rattle.ft_laws.proofs.ListSteps.{each-all}
-use Rattle.ft_laws.proofs.OwnNames.{all-weaker}
-use Rattle.ft_laws.proofs.SettledEnds.{is_end_at, is_left, left-first, left-next, named-weaker, seen-same, settle-at, settle-stays}
-use Rattle.ft_names.specs.WellNamed.{AreSettledIn, RiseTo, StandsIn}
-use Rattle.ft_names.proofs.Beside.{Beside, ends, next, same-map}
+use Rattle.ft_laws_agreement.specs.Reconnecting.{StagesRiseTo, has_marks_of, inserts_text, removes_text}
+use Rattle.ft_laws_agreement.specs.Sequencing.{Each}
+use Rattle.ft_laws_agreement.specs.Trimming.{are_distinct_elements, has_ends_on, is_end_on}
+use Rattle.ft_laws_agreement.proofs.AfterOwnJoin.{unremoved-seen}
+use Rattle.ft_laws_agreement.proofs.FollowingOrder.{rank-same}
+use Rattle.ft_laws_agreement.proofs.ListSteps.{each-all}
+use Rattle.ft_laws_agreement.proofs.OwnNames.{all-weaker}
+use Rattle.ft_laws_agreement.proofs.SettledEnds.{is_end_at, is_left, left-first, left-next, named-weaker, seen-same, settle-at, settle-stays}
+use Rattle.ft_laws_names.specs.WellNamed.{AreSettledIn, RiseTo, StandsIn}
+use Rattle.ft_laws_names.proofs.Beside.{Beside, ends, next, same-map}
 use Rattle.ft_named.proofs.Bares.{AreElements, from-bare}
 use Rattle.ft_named.proofs.Changed.{is_up_to, seen-later}
 use Rattle.ft_named.proofs.Lists.{each-weaker}

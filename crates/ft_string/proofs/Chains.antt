@@ -3,8 +3,8 @@ use Rattle.std.proofs.Common.{◌≡◌, ℕ, zero, suc, ◌+◌, ◌≤◌, ◌
 use Rattle.std.specs.List.{AllByRecursion}
 use Rattle.std.proofs.Math.Seq.{drop-cons}
 use Rattle.ft_base.specs.declared.elements.Perspective.{Perspective}
-use Rattle.ft_leaves.specs.declared.text.TextContent.{TextContent}
-use Rattle.ft_leaves.specs.Elements.{IsAboveChanges}
+use Rattle.ft_tree_leaves.specs.declared.text.TextContent.{TextContent}
+use Rattle.ft_tree_leaves.specs.Elements.{IsAboveChanges}
 use Rattle.ft_op.specs.declared.operations.BaseOp.{BaseOp}
 use Rattle.ft_op.specs.WellFormed.{IsWellFormedBase}
 use Rattle.ft_interval.specs.State.{text_elements}

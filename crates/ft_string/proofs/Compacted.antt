@@ -9,13 +9,13 @@ use Rattle.ft_interval.specs.declared.intervals.Interval.{Interval}
 use Rattle.ft_interval.specs.declared.pending.Operation.{Operation}
 use Rattle.ft_interval.specs.Ends.{References, is_reference}
 use Rattle.ft_interval.specs.State.{CollectionsState, ends_of_intervals, ends_of_operations, keeps, text_elements}
-use Rattle.ft_keep.specs.Free.{AreFree}
-use Rattle.ft_leaves.specs.declared.references.Reference.{Reference}
-use Rattle.ft_leaves.specs.declared.text.TextContent.{TextContent}
-use Rattle.ft_leaves.specs.Edits.{with_place}
-use Rattle.ft_leaves.specs.Elements.{TreeElement}
-use Rattle.ft_leaves.specs.Places.{seen_before}
-use Rattle.ft_leaves.specs.References.{ChangesReferences, reference_at}
+use Rattle.ft_laws_compaction.specs.Free.{AreFree}
+use Rattle.ft_tree_leaves.specs.declared.references.Reference.{Reference}
+use Rattle.ft_tree_leaves.specs.declared.text.TextContent.{TextContent}
+use Rattle.ft_tree_leaves.specs.Edits.{with_place}
+use Rattle.ft_tree_leaves.specs.Elements.{TreeElement}
+use Rattle.ft_tree_leaves.specs.Places.{seen_before}
+use Rattle.ft_tree_leaves.specs.References.{ChangesReferences, reference_at}
 use Rattle.ft_msg.specs.Compacted.{interval_holds, stage_holds_text}
 use Rattle.ft_msg.specs.Indexed.{IndexedStage, place_in_list}
 use Rattle.ft_op.specs.Document.{Document}
@@ -25,10 +25,10 @@ use Rattle.ft_op.specs.Operation.{OnGrid, OnIntervals, OnText, SubOperation}
 use Rattle.ft_op.specs.Stages.{Stage}
 use Rattle.ft_props.specs.Compaction.{has_collectable_removal}
 use Rattle.ft_props.specs.Element.{ElementContent, ElementId, ListElement, has_id, is_named_by}
-use Rattle.ft_laws.specs.Sequencing.{Each}
-use Rattle.ft_laws.proofs.SlidEnds.{same_id-refl}
-use Rattle.ft_names.specs.WellNamed.{AreSettledIn, StandsIn}
-use Rattle.ft_names.proofs.Beside.{ends, next}
+use Rattle.ft_laws_agreement.specs.Sequencing.{Each}
+use Rattle.ft_laws_agreement.proofs.SlidEnds.{same_id-refl}
+use Rattle.ft_laws_names.specs.WellNamed.{AreSettledIn, StandsIn}
+use Rattle.ft_laws_names.proofs.Beside.{ends, next}
 use Rattle.ft_tree.specs.State.{TreeState}
 use Rattle.ft_zamboni.specs.Scours.{AreClear, Writes, is_collectable, marked, place_among, staying}
 use Rattle.ft_zamboni.proofs.BothSweeps.{second}

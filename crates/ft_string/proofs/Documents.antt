@@ -2,16 +2,16 @@
 use Rattle.std.proofs.Common.{◌≡◌, ℕ, ◌+◌, Bool, true, false, IsTrue, IsSome, List, Option, Some, None, refl, sym, ◌∙◌, ap, subst, arith, map, option_map}
 use Rattle.ft_interval.specs.State.{CollectionsState, is_acknowledged, text_elements}
 use Rattle.ft_interval.specs.Ends.{References, place_of_end}
-use Rattle.ft_leaves.specs.declared.references.Reference.{Reference}
-use Rattle.ft_leaves.specs.declared.text.TextContent.{TextContent}
-use Rattle.ft_leaves.specs.References.{ChangesReferences, reference_at}
+use Rattle.ft_tree_leaves.specs.declared.references.Reference.{Reference}
+use Rattle.ft_tree_leaves.specs.declared.text.TextContent.{TextContent}
+use Rattle.ft_tree_leaves.specs.References.{ChangesReferences, reference_at}
 use Rattle.ft_props.specs.Element.{ElementId, ListElement, PendingId, SequencedId}
 use Rattle.ft_props.specs.Steps.{Sequence}
 use Rattle.ft_op.specs.Document.{Document}
 use Rattle.ft_op.specs.Stages.{Stage}
 use Rattle.ft_msg.specs.Indexed.{indexed_interval, place_in_list}
-use Rattle.ft_laws.specs.Sequencing.{Each}
-use Rattle.ft_names.specs.WellNamed.{AreSettledIn, IsSettledIn, IsWellNumbered, StandsIn}
+use Rattle.ft_laws_agreement.specs.Sequencing.{Each}
+use Rattle.ft_laws_names.specs.WellNamed.{AreSettledIn, IsSettledIn, IsWellNumbered, StandsIn}
 use Rattle.ft_tree.specs.State.{TreeState}
 use Rattle.ft_string.specs.Bare.{text_content}
 use Rattle.ft_string.specs.Holds.{HoldsText, IsTextSound, interval_stages, is_on_intervals}

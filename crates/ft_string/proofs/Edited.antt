@@ -8,9 +8,9 @@ use Rattle.ft_base.specs.Visibility.{seen_at}
 use Rattle.ft_base.proofs.Booleans.{both}
 use Rattle.ft_block.specs.Leaves.{last_stage}
 use Rattle.ft_interval.specs.State.{CollectionsState, text_elements}
-use Rattle.ft_leaves.specs.declared.text.TextContent.{TextContent}
-use Rattle.ft_leaves.specs.Edits.{with_place}
-use Rattle.ft_leaves.specs.Elements.{IsAboveChanges, TreeElement, seen_in}
+use Rattle.ft_tree_leaves.specs.declared.text.TextContent.{TextContent}
+use Rattle.ft_tree_leaves.specs.Edits.{with_place}
+use Rattle.ft_tree_leaves.specs.Elements.{IsAboveChanges, TreeElement, seen_in}
 use Rattle.ft_msg.specs.declared.faults.EditFault.{EditFault}
 use Rattle.ft_msg.specs.declared.faults.EditFault.TheVariants.{IdInUse, NoSuchInterval, OutOfMemory, OutOfRange, Stopped}
 use Rattle.ft_msg.specs.Client.{local_sub_operations}
@@ -40,7 +40,7 @@ use Rattle.ft_named.proofs.Lists.{all-weaker}
 use Rattle.ft_named.proofs.OwnSteps.{AreUpTo, same-count}
 use Rattle.ft_string.proofs.Taken.{AreOrdered, IsOrdered, refuses-ops, takes-ops}
 use Rattle.ft_string.proofs.Wholes.{holds-any}
-use Rattle.ft_names.proofs.Beside.{ends, next}
+use Rattle.ft_laws_names.proofs.Beside.{ends, next}
 
 -- ---- the seen elements
 

@@ -9,8 +9,8 @@ use Rattle.ft_interval.specs.declared.pending.Operation.{Operation}
 use Rattle.ft_interval.specs.Ends.{References, place_of_position, places_of_ends, places_of_given}
 use Rattle.ft_interval.specs.Intervals.{NamesRise, name_in}
 use Rattle.ft_interval.specs.State.{CollectionsState, IsAboveAll, IsAsBefore, IsRefusedEdit, Pushes, is_add, is_interval_operation, is_shown, placed, placed_operations, text_elements, with_mapped_names}
-use Rattle.ft_leaves.specs.declared.text.TextContent.{TextContent}
-use Rattle.ft_leaves.specs.Elements.{TreeElement, seen_in}
+use Rattle.ft_tree_leaves.specs.declared.text.TextContent.{TextContent}
+use Rattle.ft_tree_leaves.specs.Elements.{TreeElement, seen_in}
 use Rattle.ft_msg.specs.declared.faults.EditFault.{EditFault}
 use Rattle.ft_msg.specs.declared.faults.EditFault.TheVariants.{IdInUse, NoSuchInterval, OutOfMemory, OutOfRange}
 use Rattle.ft_msg.specs.Client.{id_fault, local_sub_operation, local_sub_operations, unless_fault}
@@ -22,8 +22,8 @@ use Rattle.ft_op.specs.Intervals.{NamedElements, element_at_end}
 use Rattle.ft_op.specs.Operation.{OnIntervals}
 use Rattle.ft_op.specs.Stages.{Stage, shown_intervals}
 use Rattle.ft_props.specs.Element.{ElementContent, ListElement, seen}
-use Rattle.ft_names.proofs.Beside.{Beside, beside-len}
-use Rattle.ft_names.specs.WellNamed.{RiseTo}
+use Rattle.ft_laws_names.proofs.Beside.{Beside, beside-len}
+use Rattle.ft_laws_names.specs.WellNamed.{RiseTo}
 use Rattle.ft_tree.specs.State.{TreeState}
 use Rattle.ft_named.specs.Bare.{bare}
 use Rattle.ft_string.specs.Bare.{text_content}

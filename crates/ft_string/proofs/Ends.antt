@@ -9,19 +9,19 @@ use Rattle.ft_base.specs.declared.stamps.Stamp.TheVariants.{Acked, Local}
 use Rattle.ft_interval.specs.declared.intervals.Interval.{Interval}
 use Rattle.ft_interval.specs.Ends.{References, is_reference, place_of_end, places_of_ends, slid_end}
 use Rattle.ft_interval.specs.State.{ends_of_intervals, is_acknowledged, placed_intervals, with_mapped_ends}
-use Rattle.ft_leaves.specs.declared.references.Reference.{Reference}
-use Rattle.ft_leaves.specs.Edits.{with_place}
-use Rattle.ft_leaves.specs.Elements.{TreeElement}
-use Rattle.ft_leaves.specs.Elements.{is_unremoved as tree_unremoved}
-use Rattle.ft_leaves.specs.References.{ChangesReferences, reference_at, slid_reference}
+use Rattle.ft_tree_leaves.specs.declared.references.Reference.{Reference}
+use Rattle.ft_tree_leaves.specs.Edits.{with_place}
+use Rattle.ft_tree_leaves.specs.Elements.{TreeElement}
+use Rattle.ft_tree_leaves.specs.Elements.{is_unremoved as tree_unremoved}
+use Rattle.ft_tree_leaves.specs.References.{ChangesReferences, reference_at, slid_reference}
 use Rattle.ft_props.specs.Element.{ElementId, ElementContent, ListElement, PendingId, SequencedId, has_id, id, is_sequenced, is_unremoved}
 use Rattle.ft_props.specs.Slide.{slide}
 use Rattle.ft_base.specs.Scan.{settled_after}
 use Rattle.ft_op.specs.Intervals.{Interval as NamedInterval}
 use Rattle.ft_msg.specs.Indexed.{IndexedInterval, indexed_interval, place_in_list}
-use Rattle.ft_laws.proofs.SlidEnds.{Once}
-use Rattle.ft_names.specs.WellNamed.{AreSettledIn, IsSettledIn}
-use Rattle.ft_names.proofs.Beside.{Beside, ends, next}
+use Rattle.ft_laws_agreement.proofs.SlidEnds.{Once}
+use Rattle.ft_laws_names.specs.WellNamed.{AreSettledIn, IsSettledIn}
+use Rattle.ft_laws_names.proofs.Beside.{Beside, ends, next}
 use Rattle.ft_string.specs.State.{interval_with_places}
 use Rattle.ft_named.proofs.Bares.{AreElements, IsElement, unremoved-alike}
 use Rattle.ft_named.proofs.Placed.{place-settled}

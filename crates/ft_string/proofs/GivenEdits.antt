@@ -4,7 +4,7 @@ use Rattle.std.proofs.lemmas.Grind.{flat_map-append}
 use Rattle.std.specs.List.{list_all}
 use Rattle.ft_base.proofs.Booleans.{both}
 use Rattle.ft_interval.specs.State.{CollectionsState, text_elements}
-use Rattle.ft_leaves.specs.declared.text.TextContent.{TextContent}
+use Rattle.ft_tree_leaves.specs.declared.text.TextContent.{TextContent}
 use Rattle.ft_msg.specs.Indexed.{indexed_stage}
 use Rattle.ft_msg.specs.Reconnection.{carried_stage}
 use Rattle.ft_op.specs.declared.operations.BaseOp.{BaseOp}
@@ -13,7 +13,7 @@ use Rattle.ft_op.specs.Document.{Document}
 use Rattle.ft_op.specs.Operation.{OnGrid, OnIntervals, OnText, SubOperation}
 use Rattle.ft_op.specs.Pieces.{op_of, pieces}
 use Rattle.ft_op.specs.Stages.{Stage}
-use Rattle.ft_laws.specs.Sequencing.{Each}
+use Rattle.ft_laws_agreement.specs.Sequencing.{Each}
 use Rattle.ft_tree.specs.State.{TreeState}
 use Rattle.ft_named.proofs.Bares.{AreElements, from-bare}
 use Rattle.ft_named.proofs.Lists.{each-append, each-weaker, filter-append, map-append}

@@ -9,9 +9,9 @@ use Rattle.ft_interval.specs.declared.pending.Operation.{Operation}
 use Rattle.ft_interval.specs.Ends.{map_ends}
 use Rattle.ft_interval.specs.Shown.{number_at, regenerated, settled_end}
 use Rattle.ft_interval.specs.State.{CollectionsState, is_at_stage, operation_at, placed_operations, text_elements, with_mapped_names}
-use Rattle.ft_leaves.specs.declared.text.TextContent.{TextContent}
-use Rattle.ft_leaves.specs.Elements.{seen_in}
-use Rattle.ft_leaves.specs.Places.{seen_before}
+use Rattle.ft_tree_leaves.specs.declared.text.TextContent.{TextContent}
+use Rattle.ft_tree_leaves.specs.Elements.{seen_in}
+use Rattle.ft_tree_leaves.specs.Places.{seen_before}
 use Rattle.ft_msg.specs.Indexed.{IndexedStage, indexed_stage, place_in_list}
 use Rattle.ft_msg.specs.Reconnection.{carried_stage}
 use Rattle.ft_op.specs.declared.operations.TextOp.{TextOp}
@@ -24,8 +24,8 @@ use Rattle.ft_op.specs.Pieces.{interval_piece, op_of, pieces}
 use Rattle.ft_op.specs.Stages.{Stage}
 use Rattle.ft_props.specs.Element.{ElementId, ListElement, has_id, seen}
 use Rattle.ft_props.specs.Slide.{end_number, settle}
-use Rattle.ft_laws.specs.Sequencing.{Each}
-use Rattle.ft_names.specs.WellNamed.{StandsIn}
+use Rattle.ft_laws_agreement.specs.Sequencing.{Each}
+use Rattle.ft_laws_names.specs.WellNamed.{StandsIn}
 use Rattle.ft_tree.specs.State.{TreeState}
 use Rattle.ft_named.specs.Bare.{bare}
 use Rattle.ft_named.proofs.Bares.{AreElements, IsElement, from-bare, seen-alike}

@@ -15,7 +15,7 @@ use Rattle.ft_op.specs.Intervals.{NamedElements}
 use Rattle.ft_op.specs.Operation.{OnGrid, OnIntervals, OnText, SubOperation}
 use Rattle.ft_op.specs.Pieces.{base_op_of, op_of, pieces}
 use Rattle.ft_op.specs.Stages.{Stage}
-use Rattle.ft_laws.specs.Sequencing.{Each}
+use Rattle.ft_laws_agreement.specs.Sequencing.{Each}
 use Rattle.ft_rebase.specs.Pieces.{pieces as tree_pieces}
 use Rattle.ft_named.proofs.Bares.{AreElements}
 use Rattle.ft_named.proofs.Lists.{map-append}

@@ -12,7 +12,7 @@ use Rattle.ft_interval.specs.declared.intervals.EndPair.{EndPair}
 use Rattle.ft_interval.specs.declared.intervals.Interval.{Interval}
 use Rattle.ft_interval.specs.Ends.{map_ends, place_of_position, places_of_given, slid_end}
 use Rattle.ft_interval.specs.Intervals.{NamesRise, after_operation, changed_interval}
-use Rattle.ft_leaves.specs.Elements.{TreeElement, seen_in}
+use Rattle.ft_tree_leaves.specs.Elements.{TreeElement, seen_in}
 use Rattle.ft_msg.specs.Indexed.{IndexedInterval, indexed_interval, place_in_list}
 use Rattle.ft_op.specs.declared.operations.Ends.{Ends}
 use Rattle.ft_op.specs.declared.operations.TextOp.{TextOp}
@@ -23,12 +23,12 @@ use Rattle.ft_props.specs.Element.{ElementContent, ElementId, ListElement, has_i
 use Rattle.ft_props.specs.Keys.{Characters}
 use Rattle.ft_props.specs.Properties.{PropertySet, apply}
 use Rattle.ft_props.specs.Slide.{slide}
-use Rattle.ft_laws.specs.Sequencing.{Each}
-use Rattle.ft_laws.specs.Trimming.{has_ends_on, is_end_on}
-use Rattle.ft_laws.proofs.AgreedStage.{EndsStand, ends-stay}
-use Rattle.ft_laws.proofs.SlidEnds.{Once, Stands, is_standing_at}
-use Rattle.ft_names.specs.WellNamed.{IsSettledIn}
-use Rattle.ft_names.proofs.Beside.{Beside}
+use Rattle.ft_laws_agreement.specs.Sequencing.{Each}
+use Rattle.ft_laws_agreement.specs.Trimming.{has_ends_on, is_end_on}
+use Rattle.ft_laws_agreement.proofs.AgreedStage.{EndsStand, ends-stay}
+use Rattle.ft_laws_agreement.proofs.SlidEnds.{Once, Stands, is_standing_at}
+use Rattle.ft_laws_names.specs.WellNamed.{IsSettledIn}
+use Rattle.ft_laws_names.proofs.Beside.{Beside}
 use Rattle.ft_string.specs.Bare.{text_content}
 use Rattle.ft_string.specs.State.{interval_with_places}
 use Rattle.ft_named.proofs.Bares.{AreElements, IsElement, seen-alike}

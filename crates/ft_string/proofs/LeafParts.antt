@@ -1,8 +1,8 @@
 -- The characters and the marker of a leaf's content.
 use Rattle.std.proofs.Common.{◌≡◌, ℕ, ◌+◌, List, [], ◌∷◌, ◌++◌, Some, None, refl, sym, ◌∙◌, ap, map, append-nil}
-use Rattle.ft_leaves.specs.declared.text.TextPiece.{TextPiece}
-use Rattle.ft_leaves.specs.declared.text.TextPiece.TheVariants.{Marker, Run}
-use Rattle.ft_leaves.specs.TextLeaves.{piece_ref_type, piece_text, piece_units}
+use Rattle.ft_tree_leaves.specs.declared.text.TextPiece.{TextPiece}
+use Rattle.ft_tree_leaves.specs.declared.text.TextPiece.TheVariants.{Marker, Run}
+use Rattle.ft_tree_leaves.specs.TextLeaves.{piece_ref_type, piece_text, piece_units}
 use Rattle.ft_msg.specs.declared.views.Spot.{Spot}
 use Rattle.ft_props.specs.Element.{Character}
 use Rattle.ft_string.specs.Shows.{characters_of, markers_of}

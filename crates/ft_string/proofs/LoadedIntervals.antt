@@ -14,10 +14,10 @@ use Rattle.ft_interval.specs.Ends.{map_ends, places_of_given, slid_end}
 use Rattle.ft_interval.specs.Intervals.{Name, interval_cmp, interval_of, name_cmp, name_of}
 use Rattle.ft_interval.specs.State.{CollectionsState, KeepsReferences, placed, text_elements, with_effect}
 use Rattle.ft_interval.proofs.RisingNames.{name_cmp-back, name_cmp-trans}
-use Rattle.ft_laws.specs.Sequencing.{Each}
-use Rattle.ft_leaves.specs.declared.text.TextContent.{TextContent}
-use Rattle.ft_leaves.specs.Elements.{seen_in}
-use Rattle.ft_leaves.specs.References.{reference_at}
+use Rattle.ft_laws_agreement.specs.Sequencing.{Each}
+use Rattle.ft_tree_leaves.specs.declared.text.TextContent.{TextContent}
+use Rattle.ft_tree_leaves.specs.Elements.{seen_in}
+use Rattle.ft_tree_leaves.specs.References.{reference_at}
 use Rattle.ft_op.specs.declared.operations.TextOp.{TextOp}
 use Rattle.ft_op.specs.Document.{ends_of, given_ends_fit}
 use Rattle.ft_props.specs.Keys.{Characters, put_rising, text_cmp}

@@ -11,19 +11,19 @@ use Rattle.ft_base.specs.Scan.{at, len, one_more_if}
 use Rattle.ft_base.specs.Visibility.{has_occurred, is_acked}
 use Rattle.ft_block.specs.declared.leaves.LenView.TheVariants.{At}
 use Rattle.ft_interval.specs.State.{CollectionsState, text_elements}
-use Rattle.ft_laws.specs.Sequencing.{Each}
-use Rattle.ft_laws.specs.Starts.{has_no_items, is_nothing, is_sequenced_up_to, is_settled}
-use Rattle.ft_laws.proofs.SummaryStarts.{ends-on, summary-sound}
-use Rattle.ft_laws.proofs.SlidEnds.{Once}
-use Rattle.ft_leaves.specs.declared.text.TextContent.{TextContent}
-use Rattle.ft_leaves.specs.Elements.{elements_with, seen_in}
-use Rattle.ft_leaves.specs.Elements.{is_unremoved as tree_unremoved}
-use Rattle.ft_leaves.specs.References.{reference_at}
-use Rattle.ft_leaves.proofs.Runs.{len-append}
+use Rattle.ft_laws_agreement.specs.Sequencing.{Each}
+use Rattle.ft_laws_agreement.specs.Starts.{has_no_items, is_nothing, is_sequenced_up_to, is_settled}
+use Rattle.ft_laws_agreement.proofs.SummaryStarts.{ends-on, summary-sound}
+use Rattle.ft_laws_agreement.proofs.SlidEnds.{Once}
+use Rattle.ft_tree_leaves.specs.declared.text.TextContent.{TextContent}
+use Rattle.ft_tree_leaves.specs.Elements.{elements_with, seen_in}
+use Rattle.ft_tree_leaves.specs.Elements.{is_unremoved as tree_unremoved}
+use Rattle.ft_tree_leaves.specs.References.{reference_at}
+use Rattle.ft_tree_leaves.proofs.Runs.{len-append}
 use Rattle.ft_msg.specs.Indexed.{indexed_interval, place_in_list}
 use Rattle.ft_msg.specs.Summary.{doc_of, interval_of, segment_bodies, segment_items, stamp_of}
-use Rattle.ft_names.proofs.Beside.{beside-len}
-use Rattle.ft_names.proofs.NamedStarts.{start-named}
+use Rattle.ft_laws_names.proofs.Beside.{beside-len}
+use Rattle.ft_laws_names.proofs.NamedStarts.{start-named}
 use Rattle.ft_named.specs.Bare.{bare}
 use Rattle.ft_named.proofs.Bares.{AreElements, from-bare, seen-alike, unremoved-alike}
 use Rattle.ft_named.proofs.Lists.{map-append}

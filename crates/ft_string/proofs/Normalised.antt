@@ -6,9 +6,9 @@ use Rattle.std.proofs.lemmas.List.Elements.{All-cons, All-nil}
 use Rattle.ft_base.specs.Scan.{len}
 use Rattle.ft_interval.specs.Ends.{place_of_end}
 use Rattle.ft_interval.specs.State.{CollectionsState, text_elements}
-use Rattle.ft_leaves.specs.declared.text.TextContent.{TextContent}
-use Rattle.ft_leaves.specs.Edits.{with_place}
-use Rattle.ft_leaves.specs.References.{ChangesReferences}
+use Rattle.ft_tree_leaves.specs.declared.text.TextContent.{TextContent}
+use Rattle.ft_tree_leaves.specs.Edits.{with_place}
+use Rattle.ft_tree_leaves.specs.References.{ChangesReferences}
 use Rattle.ft_msg.specs.Indexed.{IndexedStage, indexed_stage}
 use Rattle.ft_msg.specs.Reconnection.{carried_stage, rebuilt_document}
 use Rattle.ft_op.specs.Document.{Document}
@@ -18,11 +18,11 @@ use Rattle.ft_op.specs.Pieces.{pieces}
 use Rattle.ft_op.specs.Stages.{Stage}
 use Rattle.ft_props.specs.Element.{ListElement}
 use Rattle.ft_props.specs.Steps.{is_inserted_by}
-use Rattle.ft_laws.proofs.NumberTests.{from_self}
-use Rattle.ft_laws.specs.Reconnecting.{inserts_text, removes_text}
-use Rattle.ft_laws.specs.Sequencing.{Each}
-use Rattle.ft_names.specs.WellNamed.{RiseTo, puts_text_in}
-use Rattle.ft_names.proofs.RebuiltLists.{IsStagedAmong, Rises}
+use Rattle.ft_laws_agreement.proofs.NumberTests.{from_self}
+use Rattle.ft_laws_agreement.specs.Reconnecting.{inserts_text, removes_text}
+use Rattle.ft_laws_agreement.specs.Sequencing.{Each}
+use Rattle.ft_laws_names.specs.WellNamed.{RiseTo, puts_text_in}
+use Rattle.ft_laws_names.proofs.RebuiltLists.{IsStagedAmong, Rises}
 use Rattle.ft_rebase.specs.Normalised.{rebuilt_list as tree_rebuilt}
 use Rattle.ft_rebase.specs.RebuiltPlaces.{rebuilt_place}
 use Rattle.ft_rebase.specs.StageLists.{StagesUpTo, StandSideBySide}

@@ -6,12 +6,12 @@ use Rattle.ft_base.specs.declared.stamps.Stamp.{Stamp}
 use Rattle.ft_base.specs.Scan.{len, put}
 use Rattle.ft_base.proofs.Booleans.{both}
 use Rattle.ft_interval.specs.State.{text_elements}
-use Rattle.ft_leaves.specs.declared.text.TextContent.{TextContent}
-use Rattle.ft_leaves.specs.Edits.{with_place}
-use Rattle.ft_leaves.specs.Elements.{TreeElement, element_with, new_elements}
-use Rattle.ft_leaves.specs.Places.{put_place, shifted_place}
-use Rattle.ft_leaves.specs.References.{ChangesReferences, reference_at}
-use Rattle.ft_leaves.specs.TextLeaves.{text_units}
+use Rattle.ft_tree_leaves.specs.declared.text.TextContent.{TextContent}
+use Rattle.ft_tree_leaves.specs.Edits.{with_place}
+use Rattle.ft_tree_leaves.specs.Elements.{TreeElement, element_with, new_elements}
+use Rattle.ft_tree_leaves.specs.Places.{put_place, shifted_place}
+use Rattle.ft_tree_leaves.specs.References.{ChangesReferences, reference_at}
+use Rattle.ft_tree_leaves.specs.TextLeaves.{text_units}
 use Rattle.ft_props.specs.Element.{ElementContent}
 use Rattle.ft_props.specs.Properties.{PropertyList}
 use Rattle.ft_tree.specs.State.{KeepsRest, TreeState}

@@ -2,7 +2,7 @@
 use Rattle.std.proofs.Common.{◌≡◌, ℕ, zero, suc, ◌<◌, List, [], ◌∷◌, ◌++◌, refl, sym, ◌∙◌, ap, subst, arith, length, get_or, map}
 use Rattle.std.specs.declared.cmp.Ordering.{Ordering}
 use Rattle.std.specs.declared.cmp.Ordering.TheVariants.{Greater}
-use Rattle.ft_laws.specs.Sequencing.{Each}
+use Rattle.ft_laws_agreement.specs.Sequencing.{Each}
 use Rattle.ft_props.specs.Keys.{put_rising}
 
 module _ {A : Type 0} (cmp : A → A → Ordering) (x : A) where

@@ -7,7 +7,7 @@ use Rattle.ft_base.proofs.Booleans.{both}
 use Rattle.ft_interval.specs.declared.pending.Operation.{Operation}
 use Rattle.ft_interval.specs.State.{CollectionsState, is_at_stage, operation_at, placed_operations, text_elements, with_mapped_names}
 use Rattle.ft_interval.specs.Ends.{places_of_ends}
-use Rattle.ft_leaves.specs.declared.text.TextContent.{TextContent}
+use Rattle.ft_tree_leaves.specs.declared.text.TextContent.{TextContent}
 use Rattle.ft_msg.specs.Indexed.{IndexedStage, indexed_stage}
 use Rattle.ft_msg.specs.Reconnection.{carried_stage}
 use Rattle.ft_op.specs.declared.operations.ChannelOp.TheVariants.{Text}
@@ -17,8 +17,8 @@ use Rattle.ft_op.specs.Intervals.{NamedElements}
 use Rattle.ft_op.specs.Operation.{OnGrid, OnIntervals, OnText, SubOperation}
 use Rattle.ft_op.specs.Pieces.{op_of, pieces}
 use Rattle.ft_op.specs.Stages.{Stage}
-use Rattle.ft_laws.proofs.NumberTests.{same_number}
-use Rattle.ft_laws.specs.Sequencing.{Each}
+use Rattle.ft_laws_agreement.proofs.NumberTests.{same_number}
+use Rattle.ft_laws_agreement.specs.Sequencing.{Each}
 use Rattle.ft_tree.specs.State.{TreeState}
 use Rattle.ft_named.proofs.Lists.{each-append, each-weaker, filter-append}
 use Rattle.ft_string.specs.Calls.{AreFrom, AreNext, AreWithin, HoldsGiven, is_interval_at, is_one_edit}

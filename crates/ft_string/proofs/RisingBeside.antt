@@ -16,8 +16,8 @@ use Rattle.ft_op.specs.Intervals.{Interval as NamedInterval}
 use Rattle.ft_op.specs.Intervals.{interval_cmp as named_cmp}
 use Rattle.ft_props.specs.Keys.{Characters, put_rising, text_cmp}
 use Rattle.ft_props.specs.Properties.{PropertySet, apply}
-use Rattle.ft_laws.specs.Sequencing.{Each}
-use Rattle.ft_names.proofs.Beside.{Beside, ends, next}
+use Rattle.ft_laws_agreement.specs.Sequencing.{Each}
+use Rattle.ft_laws_names.proofs.Beside.{Beside, ends, next}
 
 module _ (R : Interval ℕ → NamedInterval → Type 0) (label-of : (i : Interval ℕ) (d : NamedInterval) → R i d → i.label ≡ d.label)
     (id-of : (i : Interval ℕ) (d : NamedInterval) → R i d → i.id ≡ d.id) where

@@ -5,9 +5,9 @@ use Rattle.std.proofs.lemmas.List.{map-append}
 use Rattle.std.proofs.lemmas.List.{take-append-drop}
 use Rattle.std.proofs.lemmas.Bool.Decides.{nat_tests}
 use Rattle.ft_base.proofs.Booleans.{both}
-use Rattle.ft_leaves.specs.declared.text.TextContent.{TextContent}
-use Rattle.ft_leaves.specs.declared.text.TextPiece.TheVariants.{Run}
-use Rattle.ft_leaves.specs.TextLeaves.{new_text, text_units}
+use Rattle.ft_tree_leaves.specs.declared.text.TextContent.{TextContent}
+use Rattle.ft_tree_leaves.specs.declared.text.TextPiece.TheVariants.{Run}
+use Rattle.ft_tree_leaves.specs.TextLeaves.{new_text, text_units}
 use Rattle.ft_props.specs.Element.{Character}
 use Rattle.ft_string.specs.Contents.{are_new}
 

@@ -10,7 +10,7 @@ use Rattle.ft_base.proofs.Booleans.{both}
 use Rattle.ft_block.specs.declared.leaves.LenView.TheVariants.{Stage as at_stage}
 use Rattle.ft_interval.specs.Intervals.{NamesRise}
 use Rattle.ft_interval.specs.Shown.{last as top, shown_intervals, shown_record}
-use Rattle.ft_leaves.specs.Elements.{seen_in}
+use Rattle.ft_tree_leaves.specs.Elements.{seen_in}
 use Rattle.ft_msg.specs.Content.{interval_record}
 use Rattle.ft_op.specs.Document.{Document}
 use Rattle.ft_op.specs.Intervals.{Interval as NamedInterval}
@@ -19,16 +19,16 @@ use Rattle.ft_props.specs.Compaction.{trim_list}
 use Rattle.ft_props.specs.Steps.{empty_list}
 use Rattle.ft_props.specs.Slide.{end_number}
 use Rattle.ft_sumdoc.specs.declared.summary.IntervalRec.{IntervalRec}
-use Rattle.ft_laws.specs.Trimming.{IsConsistent, is_numbered_below}
-use Rattle.ft_laws.specs.Sequencing.{Each}
-use Rattle.ft_laws.proofs.FollowingOrder.{rank-same}
-use Rattle.ft_laws.proofs.ListSteps.{each-all}
-use Rattle.ft_laws.proofs.TrimmedContent.{records-kept}
-use Rattle.ft_laws.proofs.TrimmedFromNow.{trim-trimmed}
+use Rattle.ft_laws_agreement.specs.Trimming.{IsConsistent, is_numbered_below}
+use Rattle.ft_laws_agreement.specs.Sequencing.{Each}
+use Rattle.ft_laws_agreement.proofs.FollowingOrder.{rank-same}
+use Rattle.ft_laws_agreement.proofs.ListSteps.{each-all}
+use Rattle.ft_laws_agreement.proofs.TrimmedContent.{records-kept}
+use Rattle.ft_laws_agreement.proofs.TrimmedFromNow.{trim-trimmed}
 use Rattle.ft_named.proofs.Lists.{each-weaker}
 use Rattle.ft_named.proofs.Slid.{each-there}
 use Rattle.ft_interval.specs.State.{CollectionsState, placed, text_elements}
-use Rattle.ft_leaves.specs.declared.text.TextContent.{TextContent}
+use Rattle.ft_tree_leaves.specs.declared.text.TextContent.{TextContent}
 use Rattle.ft_tree.specs.State.{TreeState}
 use Rattle.ft_string.specs.Holds.{HoldsText, IsTextSound}
 use Rattle.ft_string.specs.declared.pending.PendingOp.{PendingOp}

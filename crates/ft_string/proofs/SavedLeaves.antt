@@ -2,15 +2,15 @@
 use Rattle.std.proofs.Common.{◌≡◌, ℕ, ◌≤◌, Bool, true, false, cond, not, List, [], ◌∷◌, ◌++◌, Option, Some, None, refl, sym, ◌∙◌, ap, subst, map, filter}
 use Rattle.ft_arena.specs.Ids.{after, first}
 use Rattle.ft_block.specs.Leaves.{IsLeafIn, IsPlaceIn, ids, times_leaf, value_at}
-use Rattle.ft_leaf_blocks.specs.Walks.{from_place}
-use Rattle.ft_leaf_blocks.proofs.Walks.{after_in_place, first_in_place, from_first}
-use Rattle.ft_leaves.specs.declared.leaves.TreeLeaf.{TreeLeaf}
-use Rattle.ft_leaves.specs.declared.text.TextContent.{TextContent}
-use Rattle.ft_leaves.specs.Elements.{TreeElement, element_with, elements_with}
-use Rattle.ft_leaves.specs.LeafLists.{elements, leaf_elements}
-use Rattle.ft_leaves.specs.declared.text.TextPiece.{TextPiece}
-use Rattle.ft_leaves.specs.declared.text.TextPiece.TheVariants.{Run, Marker}
-use Rattle.ft_leaves.specs.TextLeaves.{piece_text, piece_units, text_of, text_units}
+use Rattle.ft_tree_blocks.specs.Walks.{from_place}
+use Rattle.ft_tree_blocks.proofs.Walks.{after_in_place, first_in_place, from_first}
+use Rattle.ft_tree_leaves.specs.declared.leaves.TreeLeaf.{TreeLeaf}
+use Rattle.ft_tree_leaves.specs.declared.text.TextContent.{TextContent}
+use Rattle.ft_tree_leaves.specs.Elements.{TreeElement, element_with, elements_with}
+use Rattle.ft_tree_leaves.specs.LeafLists.{elements, leaf_elements}
+use Rattle.ft_tree_leaves.specs.declared.text.TextPiece.{TextPiece}
+use Rattle.ft_tree_leaves.specs.declared.text.TextPiece.TheVariants.{Run, Marker}
+use Rattle.ft_tree_leaves.specs.TextLeaves.{piece_text, piece_units, text_of, text_units}
 use Rattle.ft_props.specs.Compaction.{has_collectable_removal}
 use Rattle.ft_props.specs.Element.{Character, ElementContent}
 use Rattle.ft_named.proofs.Lists.{filter-append, map-append}

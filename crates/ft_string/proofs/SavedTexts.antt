@@ -7,15 +7,15 @@ use Rattle.ft_base.specs.declared.stamps.Stamp.TheVariants.{Acked, Local}
 use Rattle.ft_base.specs.Scan.{retain_map}
 use Rattle.ft_base.specs.Visibility.{has_occurred_at_stage, is_acked}
 use Rattle.ft_base.proofs.Booleans.{both}
-use Rattle.ft_leaves.specs.Elements.{TreeElement}
+use Rattle.ft_tree_leaves.specs.Elements.{TreeElement}
 use Rattle.ft_props.specs.Compaction.{has_collectable_removal, is_collectable, is_insertion_at_or_below, trim_element, with_universal_insertion}
 use Rattle.ft_props.specs.Element.{ElementContent, ListElement, NamelessElement, is_sequenced, removal_stamp, seen}
 use Rattle.ft_sumdoc.specs.declared.summary.SegRec.{SegRec}
 use Rattle.ft_sumdoc.specs.Chunks.{chunk_length}
 use Rattle.ft_sumdoc.specs.Stamps.{universal}
-use Rattle.ft_laws.specs.Reconnecting.{has_insertion_of, has_marks_of, has_removal_of, inserts_text, removes_text}
+use Rattle.ft_laws_agreement.specs.Reconnecting.{has_insertion_of, has_marks_of, has_removal_of, inserts_text, removes_text}
 use Rattle.ft_msg.specs.SummaryOf.{author_mark, element_body, extended_segments, mark_of, segment_of, segments_from}
-use Rattle.ft_names.proofs.Beside.{ends, next}
+use Rattle.ft_laws_names.proofs.Beside.{ends, next}
 use Rattle.ft_named.proofs.Bares.{AreElements, IsElement}
 use Rattle.ft_string.specs.Bare.{text_content}
 use Rattle.ft_string.specs.Parts.{TextElements}

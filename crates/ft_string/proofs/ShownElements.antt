@@ -5,12 +5,12 @@ use Rattle.ft_arena.specs.Ids.{after}
 use Rattle.ft_attrib.specs.declared.attribution.Origin.{Origin}
 use Rattle.ft_base.specs.Visibility.{seen_at}
 use Rattle.ft_block.specs.Leaves.{IsPlaceIn, ids, times_leaf, value_at}
-use Rattle.ft_leaf_blocks.specs.Walks.{from_place}
-use Rattle.ft_leaves.specs.declared.leaves.TreeLeaf.{TreeLeaf}
-use Rattle.ft_leaves.specs.declared.text.TextContent.{TextContent}
-use Rattle.ft_leaves.specs.Elements.{TreeElement, element_with, elements_with}
-use Rattle.ft_leaves.specs.LeafLists.{elements, leaf_elements}
-use Rattle.ft_leaves.specs.TextLeaves.{text_units}
+use Rattle.ft_tree_blocks.specs.Walks.{from_place}
+use Rattle.ft_tree_leaves.specs.declared.leaves.TreeLeaf.{TreeLeaf}
+use Rattle.ft_tree_leaves.specs.declared.text.TextContent.{TextContent}
+use Rattle.ft_tree_leaves.specs.Elements.{TreeElement, element_with, elements_with}
+use Rattle.ft_tree_leaves.specs.LeafLists.{elements, leaf_elements}
+use Rattle.ft_tree_leaves.specs.TextLeaves.{text_units}
 use Rattle.ft_msg.specs.Blame.{origin_of}
 use Rattle.ft_props.specs.Element.{ElementContent}
 use Rattle.ft_named.proofs.LeafWalks.{Walks, stands-next}

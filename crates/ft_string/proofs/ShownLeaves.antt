@@ -5,13 +5,13 @@ use Rattle.ft_arena.specs.Ids.{after, first}
 use Rattle.ft_base.specs.declared.elements.Element.{Element as ElementStamps}
 use Rattle.ft_base.specs.declared.stamps.Stamp.{Stamp}
 use Rattle.ft_block.specs.Leaves.{IsLeafIn, IsPlaceIn, ids, times_leaf, value_at}
-use Rattle.ft_leaf_blocks.specs.Walks.{from_place}
-use Rattle.ft_leaf_blocks.proofs.Walks.{after_in_place, first_in_place, from_first}
-use Rattle.ft_leaves.specs.declared.leaves.TreeLeaf.{TreeLeaf}
-use Rattle.ft_leaves.specs.declared.text.TextContent.{TextContent}
-use Rattle.ft_leaves.specs.Elements.{elements_with}
-use Rattle.ft_leaves.specs.LeafLists.{leaf_elements}
-use Rattle.ft_leaves.specs.TextLeaves.{text_units}
+use Rattle.ft_tree_blocks.specs.Walks.{from_place}
+use Rattle.ft_tree_blocks.proofs.Walks.{after_in_place, first_in_place, from_first}
+use Rattle.ft_tree_leaves.specs.declared.leaves.TreeLeaf.{TreeLeaf}
+use Rattle.ft_tree_leaves.specs.declared.text.TextContent.{TextContent}
+use Rattle.ft_tree_leaves.specs.Elements.{elements_with}
+use Rattle.ft_tree_leaves.specs.LeafLists.{leaf_elements}
+use Rattle.ft_tree_leaves.specs.TextLeaves.{text_units}
 use Rattle.ft_msg.specs.Content.{content_characters, content_markers}
 use Rattle.ft_props.specs.Element.{ElementContent}
 use Rattle.ft_props.specs.Overlay.{OverlayState, shown_of}

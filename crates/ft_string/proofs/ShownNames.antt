@@ -7,7 +7,7 @@ use Rattle.ft_interval.specs.Intervals.{Name, NamesRise, after_operation, name_i
 use Rattle.ft_interval.specs.Shown.{carried, carried_interval, last as top, settled_end, settled_interval, shown_from}
 use Rattle.ft_interval.specs.State.{CollectionsState, is_add, is_interval_operation, is_shown, placed, text_elements, with_mapped_ends}
 use Rattle.ft_interval.proofs.OneInterval.{NamesRise-after, NamesRise-map}
-use Rattle.ft_leaves.specs.declared.text.TextContent.{TextContent}
+use Rattle.ft_tree_leaves.specs.declared.text.TextContent.{TextContent}
 use Rattle.ft_msg.specs.declared.faults.EditFault.TheVariants.{IdInUse, NoSuchInterval}
 use Rattle.ft_msg.specs.Client.{id_fault}
 use Rattle.ft_msg.specs.Indexed.{IndexedInterval}

@@ -2,14 +2,14 @@
 use Rattle.std.proofs.Common.{◌≡◌, ℕ, Bool, List, ap, map}
 use Rattle.ft_base.specs.Visibility.{seen_at}
 use Rattle.ft_interval.specs.State.{CollectionsState, text_elements}
-use Rattle.ft_leaves.specs.declared.text.TextContent.{TextContent}
-use Rattle.ft_leaves.specs.Elements.{TreeElement}
+use Rattle.ft_tree_leaves.specs.declared.text.TextContent.{TextContent}
+use Rattle.ft_tree_leaves.specs.Elements.{TreeElement}
 use Rattle.ft_msg.specs.Blame.{origin_of}
 use Rattle.ft_msg.specs.Content.{stage_view}
 use Rattle.ft_op.specs.Document.{Document}
 use Rattle.ft_op.specs.Stages.{Stage}
 use Rattle.ft_props.specs.Element.{ElementContent, ListElement, NamelessElement, seen}
-use Rattle.ft_names.proofs.Beside.{beside-filter, same-map}
+use Rattle.ft_laws_names.proofs.Beside.{beside-filter, same-map}
 use Rattle.ft_tree.specs.State.{TreeState}
 use Rattle.ft_named.proofs.Bares.{from-bare}
 use Rattle.ft_named.proofs.Changed.{beside-all, is_up_to}

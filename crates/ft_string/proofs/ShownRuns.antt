@@ -3,7 +3,7 @@ use Rattle.std.proofs.Common.{◌≡◌, ℕ, ◌+◌, Bool, true, false, cond, 
 use Rattle.std.proofs.lemmas.Bool.Decides.{nat_tests}
 use Rattle.ft_base.specs.declared.elements.Element.{Element as ElementStamps}
 use Rattle.ft_base.specs.declared.stamps.Stamp.{Stamp}
-use Rattle.ft_leaves.specs.Elements.{elements_with}
+use Rattle.ft_tree_leaves.specs.Elements.{elements_with}
 use Rattle.ft_msg.specs.declared.views.Run.{Run}
 use Rattle.ft_msg.specs.Content.{extended_property_runs}
 use Rattle.ft_props.specs.Element.{ElementContent}

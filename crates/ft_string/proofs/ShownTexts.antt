@@ -1,15 +1,15 @@
 -- The characters, markers and runs that the client sees: told by the tree's leaves, and by the document.
 use Rattle.std.proofs.Common.{◌≡◌, ℕ, ◌+◌, ◌++◌, Bool, true, List, refl, ◌∙◌, ap, map}
 use Rattle.ft_interval.specs.State.{CollectionsState, text_elements}
-use Rattle.ft_leaves.specs.declared.text.TextContent.{TextContent}
-use Rattle.ft_leaves.specs.Elements.{TreeElement}
+use Rattle.ft_tree_leaves.specs.declared.text.TextContent.{TextContent}
+use Rattle.ft_tree_leaves.specs.Elements.{TreeElement}
 use Rattle.ft_msg.specs.Content.{content_characters, content_markers, extended_property_runs, markers_from, property_runs_from, stage_view, text_characters}
 use Rattle.ft_base.specs.Visibility.{seen_at}
 use Rattle.ft_op.specs.Document.{Document}
 use Rattle.ft_op.specs.Stages.{Stage}
 use Rattle.ft_props.specs.Element.{ElementContent, ListElement, NamelessElement, seen}
 use Rattle.ft_props.specs.Properties.{shown_props}
-use Rattle.ft_names.proofs.Beside.{Beside, beside-filter, ends, next}
+use Rattle.ft_laws_names.proofs.Beside.{Beside, beside-filter, ends, next}
 use Rattle.ft_tree.specs.State.{TreeState}
 use Rattle.ft_named.proofs.Bares.{IsElement, from-bare}
 use Rattle.ft_named.proofs.Changed.{beside-all, is_up_to}

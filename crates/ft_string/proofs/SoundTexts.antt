@@ -1,9 +1,9 @@
 -- The text's part of a document that a client may begin with is sound.
 use Rattle.std.proofs.Common.{[], arith, refl}
-use Rattle.ft_laws.specs.Starts.{IsSoundStart}
-use Rattle.ft_laws.proofs.EveryClientReady.{client-ready-from}
+use Rattle.ft_laws_agreement.specs.Starts.{IsSoundStart}
+use Rattle.ft_laws_agreement.proofs.EveryClientReady.{client-ready-from}
 use Rattle.ft_msg.specs.Client.{client_over}
-use Rattle.ft_names.proofs.NamedStarts.{start-named}
+use Rattle.ft_laws_names.proofs.NamedStarts.{start-named}
 use Rattle.ft_op.specs.Document.{Document}
 use Rattle.ft_string.specs.Holds.{IsTextSound}
 

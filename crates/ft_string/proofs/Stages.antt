@@ -12,9 +12,9 @@ use Rattle.ft_op.specs.Intervals.{NamedElements, no_elements}
 use Rattle.ft_op.specs.Operation.{OnGrid, OnIntervals, OnText, SubOperation}
 use Rattle.ft_op.specs.Stages.{Stage}
 use Rattle.ft_msg.specs.Indexed.{IndexedStage, indexed_stage}
-use Rattle.ft_laws.specs.Sequencing.{Each}
-use Rattle.ft_names.specs.WellNamed.{AreStagesNamed, AreThere, StandsIn}
-use Rattle.ft_names.proofs.Beside.{Beside, ends, next}
+use Rattle.ft_laws_agreement.specs.Sequencing.{Each}
+use Rattle.ft_laws_names.specs.WellNamed.{AreStagesNamed, AreThere, StandsIn}
+use Rattle.ft_laws_names.proofs.Beside.{Beside, ends, next}
 use Rattle.ft_string.specs.Holds.{element_stages, is_on_elements}
 use Rattle.ft_string.specs.State.{interval_stage}
 use Rattle.ft_string.proofs.Ends.{IsMarkedEnd, SameEnd, end-marked}

@@ -10,10 +10,10 @@ use Rattle.ft_op.specs.Operation.{SubOperation}
 use Rattle.ft_op.specs.Stages.{Stage}
 use Rattle.ft_props.specs.declared.properties.Changes.{Changes}
 use Rattle.ft_props.specs.Element.{ListElement}
-use Rattle.ft_laws.specs.Reconnecting.{has_insertion_of, has_marks_of, has_removal_of, inserts_text, is_stage_of, removes_text}
-use Rattle.ft_laws.specs.Sequencing.{annotates_text}
-use Rattle.ft_laws.proofs.NumberTests.{from_self, same_number}
-use Rattle.ft_names.specs.WellNamed.{RiseTo}
+use Rattle.ft_laws_agreement.specs.Reconnecting.{has_insertion_of, has_marks_of, has_removal_of, inserts_text, is_stage_of, removes_text}
+use Rattle.ft_laws_agreement.specs.Sequencing.{annotates_text}
+use Rattle.ft_laws_agreement.proofs.NumberTests.{from_self, same_number}
+use Rattle.ft_laws_names.specs.WellNamed.{RiseTo}
 use Rattle.ft_string.specs.Holds.{IsTextSound}
 use Rattle.ft_named.proofs.Changed.{are_changes_up_to, is_removal_up_to, is_stamp_up_to, is_up_to, up_to-made}
 use Rattle.ft_named.proofs.Lists.{all-weaker}

@@ -6,12 +6,12 @@ use Rattle.ft_base.specs.Scan.{change_range, len, no_run, put}
 use Rattle.ft_block.specs.Leaves.{last_stage}
 use Rattle.ft_interval.specs.State.{CollectionsState, text_elements}
 use Rattle.ft_interval.specs.Ends.{place_of_end}
-use Rattle.ft_leaves.specs.declared.references.Reference.{Reference}
-use Rattle.ft_leaves.specs.declared.text.TextContent.{TextContent}
-use Rattle.ft_leaves.specs.Edits.{with_place}
-use Rattle.ft_leaves.specs.Elements.{seen_in}
-use Rattle.ft_leaves.specs.Places.{put_place, shifted_place}
-use Rattle.ft_leaves.specs.References.{ChangesReferences}
+use Rattle.ft_tree_leaves.specs.declared.references.Reference.{Reference}
+use Rattle.ft_tree_leaves.specs.declared.text.TextContent.{TextContent}
+use Rattle.ft_tree_leaves.specs.Edits.{with_place}
+use Rattle.ft_tree_leaves.specs.Elements.{seen_in}
+use Rattle.ft_tree_leaves.specs.Places.{put_place, shifted_place}
+use Rattle.ft_tree_leaves.specs.References.{ChangesReferences}
 use Rattle.ft_msg.specs.declared.faults.EditFault.{EditFault}
 use Rattle.ft_msg.specs.declared.faults.EditFault.TheVariants.{OutOfRange}
 use Rattle.ft_msg.specs.Client.{if_in_range, local_sub_operations, local_text}
@@ -25,9 +25,9 @@ use Rattle.ft_op.specs.Stages.{Stage}
 use Rattle.ft_props.specs.Element.{ListElement, seen, with_pending_annotation, with_pending_removal}
 use Rattle.ft_props.specs.Element.{new_elements as document_elements}
 use Rattle.ft_props.specs.Properties.{apply}
-use Rattle.ft_laws.proofs.AgreedStage.{len-put-add}
-use Rattle.ft_laws.proofs.RangesOfLists.{len-range}
-use Rattle.ft_names.proofs.NumberedLists.{later-numbered}
+use Rattle.ft_laws_agreement.proofs.AgreedStage.{len-put-add}
+use Rattle.ft_laws_agreement.proofs.RangesOfLists.{len-range}
+use Rattle.ft_laws_names.proofs.NumberedLists.{later-numbered}
 use Rattle.ft_tree.specs.State.{TreeState}
 use Rattle.ft_string.specs.Bare.{text_content}
 use Rattle.ft_string.specs.Edits.{count_after, count_after_all, end_of}

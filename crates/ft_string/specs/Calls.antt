@@ -15,7 +15,7 @@ use Rattle.ft_msg.specs.Content.{interval_record, markers_from, property_runs_fr
 use Rattle.ft_msg.specs.Reconnection.{carried_stage, rebuilt_document}
 use Rattle.ft_msg.specs.SummaryOf.{segments_from}
 use Rattle.ft_sumdoc.specs.declared.summary.SumDoc.{SumDoc}
-use Rattle.ft_keep.specs.Free.{AreFree}
+use Rattle.ft_laws_compaction.specs.Free.{AreFree}
 use Rattle.ft_string.specs.Holds.{HoldsText, IsTextSound, is_on_elements, is_on_intervals, is_on_text}
 use Rattle.ft_string.specs.State.{TextState}
 

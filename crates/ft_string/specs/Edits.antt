@@ -11,7 +11,7 @@ use Rattle.ft_op.specs.declared.operations.BaseOp.{BaseOp}
 use Rattle.ft_op.specs.declared.operations.BaseOp.TheVariants.{Insert, Remove, Annotate}
 use Rattle.ft_op.specs.declared.operations.TextOp.{TextOp}
 use Rattle.ft_op.specs.declared.operations.TextOp.TheVariants.{One}
-use Rattle.ft_leaves.specs.TextRuns.{longest_run}
+use Rattle.ft_tree_leaves.specs.TextRuns.{longest_run}
 use Rattle.ft_op.specs.Operation.{segment_contents}
 
 -- the position up to which elements have to be there

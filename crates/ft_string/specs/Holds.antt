@@ -7,10 +7,10 @@ use Rattle.ft_op.specs.Operation.{OnGrid, OnIntervals, OnText, SubOperation}
 use Rattle.ft_op.specs.Stages.{Stage}
 use Rattle.ft_props.specs.Element.{is_pending, nameless}
 use Rattle.ft_msg.specs.Indexed.{indexed_interval, indexed_stage}
-use Rattle.ft_laws.specs.Reconnecting.{IsInPlace, inserts_text, is_stage_of, removes_text}
-use Rattle.ft_laws.specs.Sequencing.{Each, IsTyped, annotates_text, is_marked_later}
-use Rattle.ft_laws.specs.Trimming.{has_ends_on}
-use Rattle.ft_names.specs.WellNamed.{ArePutIn, AreSettledIn, AreStagesNamed, IsWellNumbered, RiseTo, puts_text_in}
+use Rattle.ft_laws_agreement.specs.Reconnecting.{IsInPlace, inserts_text, is_stage_of, removes_text}
+use Rattle.ft_laws_agreement.specs.Sequencing.{Each, IsTyped, annotates_text, is_marked_later}
+use Rattle.ft_laws_agreement.specs.Trimming.{has_ends_on}
+use Rattle.ft_laws_names.specs.WellNamed.{ArePutIn, AreSettledIn, AreStagesNamed, IsWellNumbered, RiseTo, puts_text_in}
 use Rattle.ft_string.specs.State.{TextState}
 
 -- whether a sub-operation is on the elements of the text, on its intervals, or on one of both

@@ -7,10 +7,10 @@ use Rattle.ft_interval.specs.declared.intervals.Interval.{Interval}
 use Rattle.ft_interval.specs.Ends.{map_ends, places_of_given, slid_end}
 use Rattle.ft_interval.specs.Intervals.{interval_cmp, interval_of, name_of}
 use Rattle.ft_interval.specs.State.{CollectionsState, KeepsReferences, placed, text_elements}
-use Rattle.ft_leaves.specs.declared.text.TextContent.{TextContent}
-use Rattle.ft_leaves.specs.Elements.{elements_with, seen_in}
-use Rattle.ft_leaves.specs.References.{KeepsReferences as KeepsAllReferences}
-use Rattle.ft_laws.specs.Sequencing.{Each}
+use Rattle.ft_tree_leaves.specs.declared.text.TextContent.{TextContent}
+use Rattle.ft_tree_leaves.specs.Elements.{elements_with, seen_in}
+use Rattle.ft_tree_leaves.specs.References.{KeepsReferences as KeepsAllReferences}
+use Rattle.ft_laws_agreement.specs.Sequencing.{Each}
 use Rattle.ft_op.specs.declared.operations.Ends.{Ends}
 use Rattle.ft_op.specs.declared.operations.TextOp.{TextOp}
 use Rattle.ft_op.specs.declared.operations.TextOp.TheVariants.{IntervalAdd}

@@ -7,13 +7,13 @@ use Rattle.ft_block.specs.declared.leaves.LenView.TheVariants.{At}
 use Rattle.ft_base.specs.declared.elements.Perspective.{Perspective}
 use Rattle.ft_block.specs.Leaves.{last_stage}
 use Rattle.ft_interval.specs.State.{CollectionsState, IsLive, IsMarked, keeps, placed_intervals, placed_operations, text_elements}
-use Rattle.ft_leaves.specs.declared.references.Reference.{Reference}
-use Rattle.ft_leaves.specs.declared.text.TextContent.{TextContent}
-use Rattle.ft_leaves.specs.Edits.{with_place}
-use Rattle.ft_leaves.specs.Elements.{TreeElement, is_pending, new_elements, removed_stamps, seen_in, with_overlay, with_stamps}
-use Rattle.ft_leaves.specs.Places.{put_place, shifted_place}
-use Rattle.ft_leaves.specs.References.{ChangesReferences, reference_at, slid_reference}
-use Rattle.ft_leaves.specs.TextLeaves.{text_author}
+use Rattle.ft_tree_leaves.specs.declared.references.Reference.{Reference}
+use Rattle.ft_tree_leaves.specs.declared.text.TextContent.{TextContent}
+use Rattle.ft_tree_leaves.specs.Edits.{with_place}
+use Rattle.ft_tree_leaves.specs.Elements.{TreeElement, is_pending, new_elements, removed_stamps, seen_in, with_overlay, with_stamps}
+use Rattle.ft_tree_leaves.specs.Places.{put_place, shifted_place}
+use Rattle.ft_tree_leaves.specs.References.{ChangesReferences, reference_at, slid_reference}
+use Rattle.ft_tree_leaves.specs.TextLeaves.{text_author}
 use Rattle.ft_op.specs.declared.operations.BaseOp.{BaseOp}
 use Rattle.ft_op.specs.declared.operations.BaseOp.TheVariants.{Insert, Remove, Annotate}
 use Rattle.ft_op.specs.Operation.{segment_contents}

@@ -2,10 +2,10 @@
 use Rattle.std.specs.Prelude.{◌≡◌, ℕ, ◌+◌, ◌≤◌, Bool, true, false, cond, ◌&&◌, nat_eq, List, [], ◌∷◌, ◌++◌, chars, filter, flat_map, length, map, replicate, string_bytes}
 use Rattle.ft_attrib.specs.declared.attribution.Origin.{Origin}
 use Rattle.ft_base.specs.Visibility.{seen_at}
-use Rattle.ft_leaves.specs.declared.leaves.TreeLeaf.{TreeLeaf}
-use Rattle.ft_leaves.specs.declared.text.TextContent.{TextContent}
-use Rattle.ft_leaves.specs.LeafLists.{elements}
-use Rattle.ft_leaves.specs.TextLeaves.{text_units}
+use Rattle.ft_tree_leaves.specs.declared.leaves.TreeLeaf.{TreeLeaf}
+use Rattle.ft_tree_leaves.specs.declared.text.TextContent.{TextContent}
+use Rattle.ft_tree_leaves.specs.LeafLists.{elements}
+use Rattle.ft_tree_leaves.specs.TextLeaves.{text_units}
 use Rattle.ft_msg.specs.declared.views.Run.{Run}
 use Rattle.ft_msg.specs.declared.views.Spot.{Spot}
 use Rattle.ft_msg.specs.Blame.{origin_of}

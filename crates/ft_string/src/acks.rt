@@ -2,7 +2,7 @@
 
 ghost use Rattle.std.specs.Prelude.{◌≡◌, ℕ, ◌+◌, ◌<◌, ◌^◌, ◌++◌, List, All, IsTrue, OnErr, OnOk, false};
 ghost use Rattle.ft_interval.specs.State.{IsLive, text_elements};
-ghost use Rattle.ft_leaves.specs.Elements.{IsLowestChange};
+ghost use Rattle.ft_tree_leaves.specs.Elements.{IsLowestChange};
 ghost use Rattle.ft_op.specs.Document.{Document};
 ghost use Rattle.ft_op.specs.Stages.{Stage};
 ghost use Rattle.ft_string.specs.Calls.{AreOldest, HoldsAcked, HoldsOldest};

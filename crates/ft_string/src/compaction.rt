@@ -1,7 +1,7 @@
 //! What goes of a shared text that nobody can ask for any more.
 
 ghost use Rattle.std.specs.Prelude.{◌≡◌, ℕ, ◌≤◌, List, IsTrue, OnErr, OnOk, false};
-ghost use Rattle.ft_keep.specs.Free.{AreFree};
+ghost use Rattle.ft_laws_compaction.specs.Free.{AreFree};
 ghost use Rattle.ft_op.specs.Document.{Document};
 ghost use Rattle.ft_op.specs.Stages.{Stage};
 ghost use Rattle.ft_string.specs.Calls.{CompactsText, HasNoneBelow, HoldsFree, is_held};

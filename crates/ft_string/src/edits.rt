@@ -6,7 +6,7 @@ ghost use Rattle.ft_base.specs.Scan.{len};
 ghost use Rattle.ft_block.specs.declared.leaves.LenView.TheVariants.{Stage as at_stage};
 ghost use Rattle.ft_interval.specs.Intervals.{name_in};
 ghost use Rattle.ft_interval.specs.State.{IsAboveAll, IsAsBefore, IsLive, IsRefusedEdit, Pushes, is_add, is_interval_operation, is_shown, placed, text_elements};
-ghost use Rattle.ft_leaves.specs.Elements.{IsAboveChanges, seen_in};
+ghost use Rattle.ft_tree_leaves.specs.Elements.{IsAboveChanges, seen_in};
 ghost use Rattle.ft_msg.specs.Client.{local_sub_operations};
 ghost use Rattle.ft_op.specs.declared.operations.TextOp.TheVariants.{One};
 ghost use Rattle.ft_op.specs.Document.{Document};

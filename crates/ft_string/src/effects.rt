@@ -5,7 +5,7 @@ ghost use Rattle.std.specs.List.{AllByRecursion};
 ghost use Rattle.ft_base.specs.Scan.{len};
 ghost use Rattle.ft_block.specs.declared.leaves.LenView.TheVariants.{At};
 ghost use Rattle.ft_interval.specs.State.{is_interval_operation, text_elements};
-ghost use Rattle.ft_leaves.specs.Elements.{seen_in};
+ghost use Rattle.ft_tree_leaves.specs.Elements.{seen_in};
 ghost use Rattle.ft_op.specs.Document.{Document, effects};
 ghost use Rattle.ft_op.specs.Operation.{OnIntervals, OnText, text_sub_operations};
 ghost use Rattle.ft_op.specs.Stages.{Stage};

@@ -4,7 +4,7 @@ ghost use Rattle.std.specs.Prelude.{◌≡◌, ◌≢◌, ◌+◌, ◌≤◌, �
 ghost use Rattle.ft_base.specs.Scan.{len};
 ghost use Rattle.ft_block.specs.declared.leaves.LenView.TheVariants.{Stage as at_stage};
 ghost use Rattle.ft_interval.specs.State.{text_elements};
-ghost use Rattle.ft_leaves.specs.Elements.{seen_in};
+ghost use Rattle.ft_tree_leaves.specs.Elements.{seen_in};
 ghost use Rattle.ft_op.specs.Operation.{segment_contents};
 ghost use Rattle.ft_props.specs.Properties.{max_safe_integer};
 ghost use Rattle.ft_string.specs.Edits.{count_after, count_after_all, end_of, put_in_by, put_in_by_all};

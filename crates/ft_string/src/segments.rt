@@ -3,9 +3,9 @@
 
 ghost use Rattle.std.specs.Prelude.{◌≡◌, ℕ, ◌∷◌, ◌++◌, [], IfOk, IsTrue, List, None, OnOk, Some, chars, false, map, string_bytes, true};
 ghost use Rattle.ft_block.specs.Leaves.{IsLeafIn, value_at};
-ghost use Rattle.ft_leaves.specs.declared.leaves.TreeLeaf.{TreeLeaf};
-ghost use Rattle.ft_leaves.specs.declared.text.TextContent.{TextContent};
-ghost use Rattle.ft_leaves.specs.TextLeaves.{text_units};
+ghost use Rattle.ft_tree_leaves.specs.declared.leaves.TreeLeaf.{TreeLeaf};
+ghost use Rattle.ft_tree_leaves.specs.declared.text.TextContent.{TextContent};
+ghost use Rattle.ft_tree_leaves.specs.TextLeaves.{text_units};
 ghost use Rattle.ft_msg.specs.SummaryOf.{author_mark, joined_bodies, mark_of};
 ghost use Rattle.ft_props.specs.Compaction.{has_collectable_removal};
 ghost use Rattle.ft_props.specs.Element.{Character, MarkerOf};

@@ -10,9 +10,9 @@ ghost use Rattle.ft_string.specs.Calls.{KeepsOthers, ShowsText};
 ghost use Rattle.ft_string.specs.Holds.{HoldsText, IsTextSound};
 ghost use Rattle.ft_string.specs.Shows.{AddsLeaf, AddsShown, ShowsLeaves, characters_of, continued, is_shown_leaf, leaf_origins, markers_of, origins_in, with_properties};
 ghost use Rattle.ft_block.specs.Leaves.{IsLeafIn, value_at};
-ghost use Rattle.ft_leaves.specs.declared.leaves.TreeLeaf.{TreeLeaf};
-ghost use Rattle.ft_leaves.specs.declared.text.TextContent.{TextContent};
-ghost use Rattle.ft_leaves.specs.TextLeaves.{text_units};
+ghost use Rattle.ft_tree_leaves.specs.declared.leaves.TreeLeaf.{TreeLeaf};
+ghost use Rattle.ft_tree_leaves.specs.declared.text.TextContent.{TextContent};
+ghost use Rattle.ft_tree_leaves.specs.TextLeaves.{text_units};
 ghost use Rattle.ft_msg.specs.declared.views.Run.{Run};
 
 use crate::lengths::made_in;

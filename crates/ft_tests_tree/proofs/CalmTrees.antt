@@ -2,7 +2,7 @@
 use Rattle.std.proofs.Common.{◌≡◌, ℕ, ◌<◌, List, [], ◌∷◌, All, subst, sym}
 use Rattle.std.proofs.lemmas.List.Elements.{All-cons, All-nil}
 use Rattle.std.specs.List.{AllByRecursion}
-use Rattle.ft_leaves.specs.Elements.{IsAboveChanges, TreeElement}
+use Rattle.ft_tree_leaves.specs.Elements.{IsAboveChanges, TreeElement}
 use Rattle.ft_props.specs.Overlay.{OverlayState}
 
 above-none : (k : ℕ) (o : OverlayState) → o.pending ≡ [] → IsAboveChanges k o

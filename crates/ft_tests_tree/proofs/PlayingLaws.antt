@@ -12,13 +12,13 @@ use Rattle.ft_interval.specs.declared.intervals.Interval.{Interval}
 use Rattle.ft_interval.specs.declared.pending.Operation.{Operation}
 use Rattle.ft_interval.specs.Ends.{References, places_of_ends}
 use Rattle.ft_interval.specs.State.{CollectionsState, IsAboveAll, IsAsBefore, IsFirst, IsLive, IsRefusedEdit, Pushes, first_stage, operation_at, placed, placed_operations, with_ends_at, with_first_acked, with_mapped_names}
-use Rattle.ft_leaves.specs.declared.text.TextContent.{TextContent}
-use Rattle.ft_leaves.specs.declared.references.Reference.{Reference}
-use Rattle.ft_leaves.specs.Elements.{TreeElement}
-use Rattle.ft_leaves.specs.References.{ChangesReferences, KeepsReferences as KeepsTreeReferences, reference_at}
+use Rattle.ft_tree_leaves.specs.declared.text.TextContent.{TextContent}
+use Rattle.ft_tree_leaves.specs.declared.references.Reference.{Reference}
+use Rattle.ft_tree_leaves.specs.Elements.{TreeElement}
+use Rattle.ft_tree_leaves.specs.References.{ChangesReferences, KeepsReferences as KeepsTreeReferences, reference_at}
 use Rattle.ft_op.specs.declared.operations.TextOp.{TextOp}
 use Rattle.ft_tests_tree.specs.Playing.{Acknowledges, GoesOnAt, IsRefusal, Leaves, Stays, Together, stages_of}
-use Rattle.ft_text_steps.specs.Passing.{HasNoChanges, Passes}
+use Rattle.ft_tests_steps.specs.Passing.{HasNoChanges, Passes}
 use Rattle.ft_tree.specs.State.{KeepsRest, TreeState}
 
 -- ---- stages of operations

@@ -4,10 +4,10 @@ use Rattle.ft_interval.specs.declared.faults.IntervalFault.{IntervalFault}
 use Rattle.ft_interval.specs.declared.faults.IntervalFault.TheVariants.{OutOfMemory}
 use Rattle.ft_interval.specs.declared.pending.Operation.{Operation}
 use Rattle.ft_interval.specs.State.{CollectionsState, IsAsBefore, IsLive}
-use Rattle.ft_leaves.specs.declared.text.TextContent.{TextContent}
-use Rattle.ft_leaves.specs.References.{IsReferenceIn}
+use Rattle.ft_tree_leaves.specs.declared.text.TextContent.{TextContent}
+use Rattle.ft_tree_leaves.specs.References.{IsReferenceIn}
 use Rattle.ft_tests_tree.specs.declared.progress.Progress.{Progress}
-use Rattle.ft_text_steps.specs.Passing.{HasNoChanges, HasNoReferences}
+use Rattle.ft_tests_steps.specs.Passing.{HasNoChanges, HasNoReferences}
 use Rattle.ft_tree.specs.State.{TreeState}
 
 -- the stages of operations

@@ -10,7 +10,7 @@ use crate::sights::{fault_text, operation_text};
 use ft_base::{OutOfMemory, Perspective};
 use ft_interval::{Collections, IntervalFault};
 use ft_op::TextOp;
-use ft_text_steps::StepFault;
+use ft_tests_steps::StepFault;
 use ft_tree::{TextContent, Tree};
 use std::alloc::Global;
 

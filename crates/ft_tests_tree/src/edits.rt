@@ -2,17 +2,17 @@
 
 ghost use Rattle.std.specs.Prelude.{◌≡◌, ◌<◌, ◌≤◌, IsTrue, OnOk};
 ghost use Rattle.ft_tests_tree.specs.Playing.{Goes, Stays};
-ghost use Rattle.ft_text_steps.specs.Passing.{HasNoChanges, Passes};
+ghost use Rattle.ft_tests_steps.specs.Passing.{HasNoChanges, Passes};
 
 use crate::progress::Progress;
 use ft_base::{Element, OutOfMemory, Perspective, Stamp, Stamps, Steps};
 use ft_block::LenView;
-use ft_elements::elements::Content as Unit;
-use ft_elements::lists::PlainList;
 use ft_interval::Collections;
+use ft_plain_lists::elements::Content as Unit;
+use ft_plain_lists::lists::PlainList;
 use ft_props::{AdjSet, Changes, PropSet, Props};
-use ft_text_steps::StepFault;
-use ft_text_steps::texts::{erase, hear, run, strike, write};
+use ft_tests_steps::StepFault;
+use ft_tests_steps::texts::{erase, hear, run, strike, write};
 use ft_tree::{Content, TextContent, Tree};
 use std::alloc::Global;
 use std::marker::Brand;

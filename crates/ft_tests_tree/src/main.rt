@@ -42,7 +42,7 @@ mod sights;
 mod upkeep;
 
 use crate::script::played;
-use ft_text_steps::StepFault;
+use ft_tests_steps::StepFault;
 use std::io;
 use std::io::{ErrorKind, Read, Write};
 use std::process::ExitCode;

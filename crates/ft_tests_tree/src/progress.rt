@@ -3,7 +3,7 @@
 ghost use Rattle.std.specs.Prelude.{◌<◌, IfOk, OnOk};
 ghost use Rattle.ft_tests_tree.specs.Playing.{GoesOn};
 
-use ft_text_steps::StepFault;
+use ft_tests_steps::StepFault;
 
 /// How far the client is, and what is known of its tree.
 #[derive(Clone, Copy)]

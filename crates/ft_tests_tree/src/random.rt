@@ -9,11 +9,11 @@ use crate::sights::listed;
 use crate::upkeep::acknowledge_next;
 use ft_base::Perspective;
 use ft_block::LenView;
-use ft_elements::element_tests::Before;
-use ft_elements::lists::PlainList;
 use ft_interval::Collections;
-use ft_text_steps::texts::shown;
-use ft_text_steps::{Numbers, StepFault};
+use ft_plain_lists::element_tests::Before;
+use ft_plain_lists::lists::PlainList;
+use ft_tests_steps::texts::shown;
+use ft_tests_steps::{Numbers, StepFault};
 use ft_tree::{TextContent, Tree};
 use std::alloc::Global;
 

@@ -13,10 +13,10 @@ use crate::random::play;
 use crate::sights::{push_leaves, push_lengths, push_pieces, push_stages, show};
 use crate::upkeep::{acknowledge_next, compact, unmark};
 use ft_base::Perspective;
-use ft_elements::lists::PlainList;
 use ft_interval::Collections;
 use ft_op::TextOp;
-use ft_text_steps::StepFault;
+use ft_plain_lists::lists::PlainList;
+use ft_tests_steps::StepFault;
 use ft_tree::{TextContent, Tree};
 use std::alloc::Global;
 

@@ -8,14 +8,14 @@ use crate::edits::LOCAL;
 use ft_arena::NodeId;
 use ft_base::{Element, OutOfMemory, Perspective, Stamp};
 use ft_block::LenView;
-use ft_elements::elements::Content as Unit;
-use ft_elements::lists::PlainList;
 use ft_interval::{Collections, IntervalFault};
 use ft_op::{Ends, TextOp};
+use ft_plain_lists::elements::Content as Unit;
+use ft_plain_lists::lists::PlainList;
 use ft_rebase::{Piece, regenerate, stage_position};
 use ft_sumdoc::{Ends2, IntervalRec};
-use ft_text_steps::StepFault;
-use ft_text_steps::texts::shown;
+use ft_tests_steps::StepFault;
+use ft_tests_steps::texts::shown;
 use ft_tree::{TextContent, Tree};
 use std::alloc::Global;
 

@@ -2,14 +2,14 @@
 
 ghost use Rattle.std.specs.Prelude.{◌≤◌, IsTrue, OnOk};
 ghost use Rattle.ft_tests_tree.specs.Playing.{Goes, Stays};
-ghost use Rattle.ft_text_steps.specs.Passing.{HasNoReferences};
+ghost use Rattle.ft_tests_steps.specs.Passing.{HasNoReferences};
 
 use crate::operations::{acknowledge_first, is_first};
 use crate::progress::Progress;
-use ft_elements::lists::PlainList;
 use ft_interval::Collections;
-use ft_text_steps::StepFault;
-use ft_text_steps::texts::{acknowledge, first_marked};
+use ft_plain_lists::lists::PlainList;
+use ft_tests_steps::StepFault;
+use ft_tests_steps::texts::{acknowledge, first_marked};
 use ft_tree::{TextContent, Tree};
 use ft_zamboni::{scour, scour_all};
 use std::alloc::Global;

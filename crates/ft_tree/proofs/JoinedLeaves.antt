@@ -5,14 +5,14 @@ use Rattle.ft_arena.proofs.IdLemmas.{same_other, same_refl}
 use Rattle.ft_base.specs.declared.stamps.Stamp.{Stamp}
 use Rattle.ft_block.specs.Leaves.{ids, join_leaf, left_of, times_leaf, value_after, value_at}
 use Rattle.ft_block.proofs.LeafListLemmas.{value_after_is, value_after_none}
-use Rattle.ft_leaf_blocks.proofs.Neighbours.{Beside, beside}
-use Rattle.ft_leaves.specs.declared.leaves.TreeLeaf.{TreeLeaf}
-use Rattle.ft_leaves.specs.Edits.{MayJoin, MayJoinGiven, MayJoinNext, joined_leaf}
-use Rattle.ft_leaves.specs.LeafLists.{elements, leaf_elements}
-use Rattle.ft_leaves.specs.Plain.{WithoutNode}
-use Rattle.ft_leaves.proofs.CutLeaves.{times-append}
-use Rattle.ft_leaves.proofs.LeafRuns.{elements-append, length-leaf}
-use Rattle.ft_leaves.proofs.Standing.{join-split}
+use Rattle.ft_tree_blocks.proofs.Neighbours.{Beside, beside}
+use Rattle.ft_tree_leaves.specs.declared.leaves.TreeLeaf.{TreeLeaf}
+use Rattle.ft_tree_leaves.specs.Edits.{MayJoin, MayJoinGiven, MayJoinNext, joined_leaf}
+use Rattle.ft_tree_leaves.specs.LeafLists.{elements, leaf_elements}
+use Rattle.ft_tree_leaves.specs.Plain.{WithoutNode}
+use Rattle.ft_tree_leaves.proofs.CutLeaves.{times-append}
+use Rattle.ft_tree_leaves.proofs.LeafRuns.{elements-append, length-leaf}
+use Rattle.ft_tree_leaves.proofs.Standing.{join-split}
 
 module _ {C : Type 0} (joins : C → C → Bool) (floor : ℕ) (xs : List (ℕ × TreeLeaf C)) (id : ℕ) (once : (z : ℕ) → times_leaf xs z ≤ 1) where
   -- two leaves side by side that may be joined

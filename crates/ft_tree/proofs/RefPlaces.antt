@@ -2,12 +2,12 @@
 use Rattle.std.proofs.Common.{◌≡◌, ℕ, zero, suc, ◌+◌, ◌<◌, ◌≤◌, Bool, List, [], ◌∷◌, Option, Some, None, option_and_then, option_map, nat_le, refl, sym, ◌∙◌, ap, inl, inr, arith}
 use Rattle.std.proofs.lemmas.Bool.{cases_lt, cond-false, lt-leb}
 use Rattle.ft_base.specs.Scan.{len}
-use Rattle.ft_leaves.specs.declared.references.Reference.{Reference}
-use Rattle.ft_leaves.specs.Edits.{with_place}
-use Rattle.ft_leaves.specs.Places.{shifted_place}
-use Rattle.ft_leaves.specs.References.{KeepsReferences, ChangesReferences, place_of, reference_at}
-use Rattle.ft_leaves.proofs.Numbered.{place_from}
-use Rattle.ft_leaf_steps.proofs.FoundOffsets.{at-none}
+use Rattle.ft_tree_leaves.specs.declared.references.Reference.{Reference}
+use Rattle.ft_tree_leaves.specs.Edits.{with_place}
+use Rattle.ft_tree_leaves.specs.Places.{shifted_place}
+use Rattle.ft_tree_leaves.specs.References.{KeepsReferences, ChangesReferences, place_of, reference_at}
+use Rattle.ft_tree_leaves.proofs.Numbered.{place_from}
+use Rattle.ft_tree_steps.proofs.FoundOffsets.{at-none}
 
 module _ {A : Type 0} (seen : A → Bool) where
   -- where there is no place, no more are seen

@@ -6,23 +6,23 @@ use Rattle.ft_base.specs.Visibility.{is_of_stage}
 use Rattle.ft_arena.specs.Ids.{times}
 use Rattle.ft_block.specs.Leaves.{IsPlaceIn, LeafList, ids, times_leaf}
 use Rattle.ft_block.proofs.CallerLemmas.{times-ids}
-use Rattle.ft_leaf_steps.specs.RangeEdits.{edited_leaf}
-use Rattle.ft_leaf_blocks.specs.State.{TrackedLeaves, list_of}
-use Rattle.ft_leaf_steps.specs.LeafSteps.{Acts, held_place}
-use Rattle.ft_leaf_steps.specs.declared.ranges.RangeEdit.{RangeEdit}
-use Rattle.ft_leaf_steps.specs.declared.ranges.RangeEdit.TheVariants.{Change, Remove}
-use Rattle.ft_leaves.specs.declared.block_leaf.LeafChange.TheVariants.{SetAcked, PushPending, DropPending, DropAll, Ack}
-use Rattle.ft_leaves.specs.declared.leaves.TreeLeaf.{TreeLeaf}
-use Rattle.ft_leaves.specs.Edits.{sweep_without, with_place}
-use Rattle.ft_leaves.specs.Elements.{TreeElement, element_with, new_elements, removed_stamps, sequenced_overlay}
-use Rattle.ft_leaves.specs.LeafChanges.{fresh_leaf}
-use Rattle.ft_leaves.specs.LeafLists.{Extends, elements, leaf_elements}
-use Rattle.ft_leaves.specs.LeafLists.Extends.{kept, added}
-use Rattle.ft_leaves.specs.Places.{put_place, shifted_place}
-use Rattle.ft_leaves.specs.Plain.{WithoutNode}
-use Rattle.ft_leaves.specs.References.{ChangesReferences}
-use Rattle.ft_leaves.proofs.LeafEdits.{sweep_there}
-use Rattle.ft_leaves.proofs.RangeLeaves.{leaf-with_overlay, leaf-with_stamps}
+use Rattle.ft_tree_steps.specs.RangeEdits.{edited_leaf}
+use Rattle.ft_tree_blocks.specs.State.{TrackedLeaves, list_of}
+use Rattle.ft_tree_steps.specs.LeafSteps.{Acts, held_place}
+use Rattle.ft_tree_steps.specs.declared.ranges.RangeEdit.{RangeEdit}
+use Rattle.ft_tree_steps.specs.declared.ranges.RangeEdit.TheVariants.{Change, Remove}
+use Rattle.ft_tree_leaves.specs.declared.block_leaf.LeafChange.TheVariants.{SetAcked, PushPending, DropPending, DropAll, Ack}
+use Rattle.ft_tree_leaves.specs.declared.leaves.TreeLeaf.{TreeLeaf}
+use Rattle.ft_tree_leaves.specs.Edits.{sweep_without, with_place}
+use Rattle.ft_tree_leaves.specs.Elements.{TreeElement, element_with, new_elements, removed_stamps, sequenced_overlay}
+use Rattle.ft_tree_leaves.specs.LeafChanges.{fresh_leaf}
+use Rattle.ft_tree_leaves.specs.LeafLists.{Extends, elements, leaf_elements}
+use Rattle.ft_tree_leaves.specs.LeafLists.Extends.{kept, added}
+use Rattle.ft_tree_leaves.specs.Places.{put_place, shifted_place}
+use Rattle.ft_tree_leaves.specs.Plain.{WithoutNode}
+use Rattle.ft_tree_leaves.specs.References.{ChangesReferences}
+use Rattle.ft_tree_leaves.proofs.LeafEdits.{sweep_there}
+use Rattle.ft_tree_leaves.proofs.RangeLeaves.{leaf-with_overlay, leaf-with_stamps}
 use Rattle.ft_props.specs.Overlay.{after_ack, after_acked_changes, after_drop, after_pending_changes}
 use Rattle.ft_props.specs.Properties.{PropertyList, max_safe_integer}
 use Rattle.ft_tree.specs.declared.tree.Tree.TheInside.{Inside}

@@ -4,15 +4,15 @@ use Rattle.ft_base.specs.declared.stamps.Stamp.{Stamp}
 use Rattle.ft_base.specs.Scan.{put}
 use Rattle.ft_base.specs.Visibility.{is_of_stage}
 use Rattle.ft_block.specs.Leaves.{IsPlaceIn, ids}
-use Rattle.ft_leaf_steps.specs.declared.ranges.RangeEdit.{RangeEdit}
-use Rattle.ft_leaf_steps.specs.declared.ranges.RangeEdit.TheVariants.{Change, Remove}
-use Rattle.ft_leaves.specs.declared.block_leaf.LeafChange.TheVariants.{SetAcked, PushPending, DropPending, DropAll, Ack}
-use Rattle.ft_leaves.specs.declared.leaves.TreeLeaf.{TreeLeaf}
-use Rattle.ft_leaves.specs.Edits.{with_place}
-use Rattle.ft_leaves.specs.Elements.{TreeElement, removed_stamps, sequenced_overlay, with_overlay, with_stamps}
-use Rattle.ft_leaves.specs.LeafLists.{Extends, elements, leaf_elements}
-use Rattle.ft_leaves.specs.Places.{put_place, shifted_place}
-use Rattle.ft_leaves.specs.References.{ChangesReferences}
+use Rattle.ft_tree_steps.specs.declared.ranges.RangeEdit.{RangeEdit}
+use Rattle.ft_tree_steps.specs.declared.ranges.RangeEdit.TheVariants.{Change, Remove}
+use Rattle.ft_tree_leaves.specs.declared.block_leaf.LeafChange.TheVariants.{SetAcked, PushPending, DropPending, DropAll, Ack}
+use Rattle.ft_tree_leaves.specs.declared.leaves.TreeLeaf.{TreeLeaf}
+use Rattle.ft_tree_leaves.specs.Edits.{with_place}
+use Rattle.ft_tree_leaves.specs.Elements.{TreeElement, removed_stamps, sequenced_overlay, with_overlay, with_stamps}
+use Rattle.ft_tree_leaves.specs.LeafLists.{Extends, elements, leaf_elements}
+use Rattle.ft_tree_leaves.specs.Places.{put_place, shifted_place}
+use Rattle.ft_tree_leaves.specs.References.{ChangesReferences}
 use Rattle.ft_props.specs.Overlay.{after_ack, after_acked_changes, after_drop, after_pending_changes}
 use Rattle.ft_props.specs.Properties.{max_safe_integer}
 use Rattle.ft_tree.specs.State.{KeepsRest, TreeState}

@@ -1,9 +1,9 @@
-pub use Rattle.ft_leaves.specs.Elements
-pub use Rattle.ft_leaves.specs.LeafLists
-pub use Rattle.ft_leaves.specs.Places
-pub use Rattle.ft_leaves.specs.References
-pub use Rattle.ft_leaves.specs.Edits
-pub use Rattle.ft_leaves.specs.TextRuns
-pub use Rattle.ft_leaves.specs.TextLeaves
+pub use Rattle.ft_tree_leaves.specs.Elements
+pub use Rattle.ft_tree_leaves.specs.LeafLists
+pub use Rattle.ft_tree_leaves.specs.Places
+pub use Rattle.ft_tree_leaves.specs.References
+pub use Rattle.ft_tree_leaves.specs.Edits
+pub use Rattle.ft_tree_leaves.specs.TextRuns
+pub use Rattle.ft_tree_leaves.specs.TextLeaves
 pub mod State
 pub mod Inside

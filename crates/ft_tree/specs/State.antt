@@ -1,7 +1,7 @@
 -- What a contract sees of a `Tree`.
 use Rattle.std.specs.Prelude.{◌≡◌, ℕ, ◌<◌, Bool, false, List, Option}
-use Rattle.ft_leaves.specs.declared.leaves.TreeLeaf.{TreeLeaf}
-use Rattle.ft_leaves.specs.declared.references.Reference.{Reference}
+use Rattle.ft_tree_leaves.specs.declared.leaves.TreeLeaf.{TreeLeaf}
+use Rattle.ft_tree_leaves.specs.declared.references.Reference.{Reference}
 use Rattle.ft_tree.specs.declared.faults.TreeFault.{TreeFault}
 use Rattle.ft_tree.specs.declared.faults.TreeFault.TheVariants.{OutOfRange, OutOfMemory}
 

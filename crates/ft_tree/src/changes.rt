@@ -6,18 +6,18 @@ ghost use Rattle.ft_base.specs.Scan.{change_range, len};
 ghost use Rattle.ft_block.specs.declared.leaves.LenView.TheVariants.{At};
 ghost use Rattle.ft_block.specs.Leaves.{ids, last_stage};
 ghost use Rattle.ft_props.specs.Overlay.{after_acked_changes, after_pending_changes};
-ghost use Rattle.ft_leaves.specs.Elements.{IsAboveChanges, IsLowestChange, acked_element, removed_stamps, seen_in, with_overlay, with_stamps};
-ghost use Rattle.ft_leaves.specs.LeafLists.{Extends, elements};
-ghost use Rattle.ft_leaves.specs.References.{ChangesReferences, KeepsReferences, slid_reference};
+ghost use Rattle.ft_tree_leaves.specs.Elements.{IsAboveChanges, IsLowestChange, acked_element, removed_stamps, seen_in, with_overlay, with_stamps};
+ghost use Rattle.ft_tree_leaves.specs.LeafLists.{Extends, elements};
+ghost use Rattle.ft_tree_leaves.specs.References.{ChangesReferences, KeepsReferences, slid_reference};
 ghost use Rattle.ft_tree.specs.State.{IsRefused, KeepsRest};
 
 use crate::faults::TreeFault;
 use crate::tree::Tree;
 use ft_base::{OutOfMemory, Perspective, Stamp, Steps};
 use ft_block::LenView;
-use ft_leaf_steps::ranges::RangeEdit;
-use ft_leaves::{Content, LeafChange};
 use ft_props::Changes;
+use ft_tree_leaves::{Content, LeafChange};
+use ft_tree_steps::ranges::RangeEdit;
 use std::sync::ledger::Ledger;
 
 impl<C: Content> Tree<C> {

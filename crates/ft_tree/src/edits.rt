@@ -2,18 +2,18 @@
 
 ghost use Rattle.std.specs.Prelude.{◌≡◌, ◌+◌, ◌++◌, ◌<◌, ◌^◌, [], IfOk, IsTrue, OnOk, Some, true, length, option_map};
 ghost use Rattle.ft_block.specs.Leaves.{IsLeafIn, ids, value_at, without_leaf};
-ghost use Rattle.ft_leaves.specs.Edits.{IsFreeOf, closed_by, with_place};
-ghost use Rattle.ft_leaves.specs.Elements.{elements_with};
-ghost use Rattle.ft_leaves.specs.LeafLists.{Extends, elements};
-ghost use Rattle.ft_leaves.specs.References.{ChangesReferences, KeepsReferences};
+ghost use Rattle.ft_tree_leaves.specs.Edits.{IsFreeOf, closed_by, with_place};
+ghost use Rattle.ft_tree_leaves.specs.Elements.{elements_with};
+ghost use Rattle.ft_tree_leaves.specs.LeafLists.{Extends, elements};
+ghost use Rattle.ft_tree_leaves.specs.References.{ChangesReferences, KeepsReferences};
 
 use crate::finds::find_end;
 use ft_arena::NodeId;
 use ft_base::{Element, OutOfMemory};
-use ft_leaf_blocks::LeafBlocks;
-use ft_leaf_steps::cuts::cut_at;
-use ft_leaves::{Content, TreeLeaf};
 use ft_props::{Overlay, Props};
+use ft_tree_blocks::LeafBlocks;
+use ft_tree_leaves::{Content, TreeLeaf};
+use ft_tree_steps::cuts::cut_at;
 use std::alloc::Global;
 use std::marker::Brand;
 use std::sync::ledger::Blank;

@@ -4,24 +4,24 @@ ghost use Rattle.std.specs.Prelude.{◌≡◌, ◌≢◌, ℕ, ◌+◌, ◌<◌,
 ghost use Rattle.ft_base.specs.Scan.{len};
 ghost use Rattle.ft_block.specs.declared.leaves.LenView.TheVariants.{Stage};
 ghost use Rattle.ft_block.specs.Leaves.{IsFromFloor};
-ghost use Rattle.ft_leaves.specs.Edits.{ChangesReference, next_removal_above};
-ghost use Rattle.ft_leaves.specs.Elements.{seen_in};
-ghost use Rattle.ft_leaves.specs.Places.{place_at, seen_before, settled_number, settled_place};
-ghost use Rattle.ft_leaves.specs.LeafLists.{elements};
-ghost use Rattle.ft_leaves.specs.References.{ChangesReferences, IsReferenceIn, place_of, reference_at, slid_reference};
-ghost use Rattle.ft_leaf_blocks.specs.LeafPlaces.{IsOnLeaf, place_on};
+ghost use Rattle.ft_tree_leaves.specs.Edits.{ChangesReference, next_removal_above};
+ghost use Rattle.ft_tree_leaves.specs.Elements.{seen_in};
+ghost use Rattle.ft_tree_leaves.specs.Places.{place_at, seen_before, settled_number, settled_place};
+ghost use Rattle.ft_tree_leaves.specs.LeafLists.{elements};
+ghost use Rattle.ft_tree_leaves.specs.References.{ChangesReferences, IsReferenceIn, place_of, reference_at, slid_reference};
+ghost use Rattle.ft_tree_blocks.specs.LeafPlaces.{IsOnLeaf, place_on};
 ghost use Rattle.ft_tree.specs.State.{IsRefused};
 
 use crate::faults::TreeFault;
 use crate::tree::Tree;
 use ft_block::LenView;
-use ft_leaf_blocks::settling::settled_on;
-use ft_leaf_steps::offsets::{elements_before, seen_before_on, seen_offset};
-use ft_leaf_steps::places::seen_count;
-use ft_leaf_steps::scans::settled_number;
-use ft_leaves::Content;
-use ft_leaves::leaves::Standing;
 use ft_refs::{Place, RefId};
+use ft_tree_blocks::settling::settled_on;
+use ft_tree_leaves::Content;
+use ft_tree_leaves::leaves::Standing;
+use ft_tree_steps::offsets::{elements_before, seen_before_on, seen_offset};
+use ft_tree_steps::places::seen_count;
+use ft_tree_steps::scans::settled_number;
 
 impl<C: Content> Tree<C> {
     /// Puts a pending reference on the element that the view sees with `p` seen ones before it.

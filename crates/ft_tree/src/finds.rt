@@ -1,12 +1,12 @@
 //! Leaves in blocks: the place behind all, for calls that are given no counter of steps.
 
 ghost use Rattle.std.specs.Prelude.{◌≡◌, ◌<◌, IsTrue, length};
-ghost use Rattle.ft_leaf_steps.specs.LeafSteps.{IsInLeaf, held_place};
-ghost use Rattle.ft_leaves.specs.LeafLists.{elements};
+ghost use Rattle.ft_tree_steps.specs.LeafSteps.{IsInLeaf, held_place};
+ghost use Rattle.ft_tree_leaves.specs.LeafLists.{elements};
 
 use ft_base::Steps;
 use ft_block::{Blocks, Found, LenView};
-use ft_leaves::{Content, TreeLeaf};
+use ft_tree_leaves::{Content, TreeLeaf};
 use std::sync::ledger::{Blank, Ledger};
 
 /// The place behind all elements.

@@ -15,7 +15,7 @@ pub mod tree;
 pub mod walks;
 
 pub use faults::TreeFault;
-pub use ft_leaves::{
+pub use ft_tree_leaves::{
     Content, MAX_RUN, Reference, TextContent, TextPiece, TextRun, TextUnit, TreeLeaf,
 };
 pub use tree::Tree;

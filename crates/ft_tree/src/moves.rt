@@ -3,21 +3,21 @@
 ghost use Rattle.std.specs.Prelude.{◌≡◌, ◌↔◌, ◌+◌, ◌≤◌, ◌++◌, if◌then◌else◌, [], Some, IsTrue, IfOk, OnOk, OnErr, true, false, length, option_map};
 ghost use Rattle.ft_block.specs.Leaves.{IsLeafIn, IsPlaceIn, change_leaf, ids, join_leaf, move_leaf, value_at, without_leaf};
 ghost use Rattle.ft_props.specs.Properties.{max_safe_integer};
-ghost use Rattle.ft_leaves.specs.Edits.{IsFreeOf, MayJoinNext, closed_by, joined_leaf, moved_by, sequenced_leaf, sweep_joined, sweep_without, unmarked_leaf, with_place};
-ghost use Rattle.ft_leaves.specs.Elements.{elements_with};
-ghost use Rattle.ft_leaves.specs.LeafLists.{Extends, elements};
-ghost use Rattle.ft_leaves.specs.References.{ChangesReferences, KeepsReferences};
+ghost use Rattle.ft_tree_leaves.specs.Edits.{IsFreeOf, MayJoinNext, closed_by, joined_leaf, moved_by, sequenced_leaf, sweep_joined, sweep_without, unmarked_leaf, with_place};
+ghost use Rattle.ft_tree_leaves.specs.Elements.{elements_with};
+ghost use Rattle.ft_tree_leaves.specs.LeafLists.{Extends, elements};
+ghost use Rattle.ft_tree_leaves.specs.References.{ChangesReferences, KeepsReferences};
 ghost use Rattle.ft_tree.specs.State.{KeepsRest};
 
 use crate::edits::{append, take_content};
 use crate::tree::Tree;
 use ft_arena::NodeId;
 use ft_base::{Element, OutOfMemory};
-use ft_leaf_steps::edits::move_at;
-use ft_leaf_steps::joins::{join_at, sweep_joined, sweep_without};
-use ft_leaf_steps::unmarks::{unmark_all_at, unmark_at};
-use ft_leaves::Content;
 use ft_props::Props;
+use ft_tree_leaves::Content;
+use ft_tree_steps::edits::move_at;
+use ft_tree_steps::joins::{join_at, sweep_joined, sweep_without};
+use ft_tree_steps::unmarks::{unmark_all_at, unmark_at};
 
 impl<C: Content> Tree<C> {
     /// Puts elements with these stamps and acknowledged properties at the list's end, and nothing pending.

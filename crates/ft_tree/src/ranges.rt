@@ -4,11 +4,11 @@ ghost use Rattle.std.specs.Prelude.{◌≡◌, ◌≤◌, All, IfErr, IfOk, IsTr
 ghost use Rattle.ft_base.specs.Scan.{change_range, len, place};
 ghost use Rattle.ft_block.specs.declared.leaves.LenView.TheVariants.{At};
 ghost use Rattle.ft_block.specs.Leaves.{ids, last_stage};
-ghost use Rattle.ft_leaf_steps.specs.RangeEdits.{MayEdit};
-ghost use Rattle.ft_leaf_steps.specs.LeafSteps.{IsInLeaf, held_place};
-ghost use Rattle.ft_leaves.specs.Elements.{seen_in};
-ghost use Rattle.ft_leaves.specs.LeafLists.{Extends, elements};
-ghost use Rattle.ft_leaves.specs.References.{ChangesReferences, KeepsReferences, slid_reference};
+ghost use Rattle.ft_tree_steps.specs.RangeEdits.{MayEdit};
+ghost use Rattle.ft_tree_steps.specs.LeafSteps.{IsInLeaf, held_place};
+ghost use Rattle.ft_tree_leaves.specs.Elements.{seen_in};
+ghost use Rattle.ft_tree_leaves.specs.LeafLists.{Extends, elements};
+ghost use Rattle.ft_tree_leaves.specs.References.{ChangesReferences, KeepsReferences, slid_reference};
 ghost use Rattle.ft_tree.specs.Inside.{edited_element};
 ghost use Rattle.ft_tree.specs.State.{IsRefused, KeepsRest};
 ghost use Rattle.ft_tree.specs.declared.faults.TreeFault.TheVariants as fault;
@@ -17,9 +17,9 @@ use crate::faults::TreeFault;
 use crate::tree::Tree;
 use ft_base::{Perspective, Steps};
 use ft_block::{Found, LenView};
-use ft_leaf_steps::places::{find_local, find_seen_at, seen_count};
-use ft_leaf_steps::ranges::{RangeEdit, edit_behind};
-use ft_leaves::Content;
+use ft_tree_leaves::Content;
+use ft_tree_steps::places::{find_local, find_seen_at, seen_count};
+use ft_tree_steps::ranges::{RangeEdit, edit_behind};
 use std::sync::ledger::Ledger;
 
 impl<C: Content> Tree<C> {

@@ -4,18 +4,18 @@
 ghost use Rattle.std.specs.Prelude.{false, ◌≡◌, ◌≤◌, [], None, IfOk, IsTrue, length, map, true};
 ghost use Rattle.ft_base.specs.Scan.{len};
 ghost use Rattle.ft_block.specs.Leaves.{IsFromFloor, IsLeafIn, IsPlaceIn, left_of, place_by};
-ghost use Rattle.ft_leaves.specs.Elements.{seen_in};
-ghost use Rattle.ft_leaves.specs.LeafLists.{elements, leaf_length, leaf_removed};
+ghost use Rattle.ft_tree_leaves.specs.Elements.{seen_in};
+ghost use Rattle.ft_tree_leaves.specs.LeafLists.{elements, leaf_length, leaf_removed};
 ghost use Rattle.ft_props.specs.Properties.{max_safe_integer};
 
 use ft_arena::NodeId;
 use ft_base::{Element, OutOfMemory};
 use ft_block::{Found, LenView};
-use ft_leaf_blocks::LeafBlocks;
-use ft_leaf_steps::finds::{find_leaf, find_removed_leaf};
-use ft_leaf_steps::places::{seen_count, seen_left};
-use ft_leaf_steps::stamp_lists::all_stamps;
-use ft_leaves::Content;
+use ft_tree_blocks::LeafBlocks;
+use ft_tree_leaves::Content;
+use ft_tree_steps::finds::{find_leaf, find_removed_leaf};
+use ft_tree_steps::places::{seen_count, seen_left};
+use ft_tree_steps::stamp_lists::all_stamps;
 use std::alloc::Global;
 use std::marker::{Brand, Model};
 use std::sync::ledger::Blank;

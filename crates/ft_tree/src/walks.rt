@@ -3,16 +3,16 @@
 ghost use Rattle.std.specs.Prelude.{◌≡◌, ℕ, ◌+◌, ◌<◌, ◌≤◌, ◌^◌, All, IfOk, Some, IsTrue, length, option_map};
 ghost use Rattle.ft_arena.specs.Ids.{after, first};
 ghost use Rattle.ft_block.specs.Leaves.{IsLeafIn, IsPlaceIn, ids, sees_in, times_leaf, value_at};
-ghost use Rattle.ft_leaves.specs.Edits.{is_marked_by, next_pending_above, touched_nodes};
-ghost use Rattle.ft_leaves.specs.LeafLists.{elements};
-ghost use Rattle.ft_leaves.specs.References.{place_of};
+ghost use Rattle.ft_tree_leaves.specs.Edits.{is_marked_by, next_pending_above, touched_nodes};
+ghost use Rattle.ft_tree_leaves.specs.LeafLists.{elements};
+ghost use Rattle.ft_tree_leaves.specs.References.{place_of};
 
 use crate::tree::Tree;
 use ft_arena::NodeId;
 use ft_base::{Element, OutOfMemory};
 use ft_block::LenView;
-use ft_leaves::Content;
 use ft_props::Overlay;
+use ft_tree_leaves::Content;
 
 impl<C: Content> Tree<C> {
     /// The first leaf: None exactly where there is no leaf.

@@ -6,16 +6,16 @@ use Rattle.std.proofs.lemmas.Option.{slice_get-map}
 use Rattle.ft_arena.specs.Ids.{first}
 use Rattle.ft_base.specs.declared.stamps.Stamp.{Stamp}
 use Rattle.ft_block.specs.Leaves.{IsPlaceIn, ids, times_leaf}
-use Rattle.ft_leaf_blocks.specs.Walks.{before_place, from_place}
-use Rattle.ft_leaf_blocks.proofs.Walks.{before_first, first_in_place, from_first}
-use Rattle.ft_leaves.specs.declared.leaves.TreeLeaf.{TreeLeaf}
-use Rattle.ft_leaves.specs.Edits.{with_place}
-use Rattle.ft_leaves.specs.Elements.{TreeElement}
-use Rattle.ft_leaves.specs.LeafLists.{elements}
-use Rattle.ft_leaves.specs.References.{ChangesReferences}
-use Rattle.ft_leaves.proofs.CutLeaves.{times-append}
-use Rattle.ft_leaves.proofs.LeafRuns.{elements-append}
-use Rattle.ft_leaves.proofs.Standing.{left-split}
+use Rattle.ft_tree_blocks.specs.Walks.{before_place, from_place}
+use Rattle.ft_tree_blocks.proofs.Walks.{before_first, first_in_place, from_first}
+use Rattle.ft_tree_leaves.specs.declared.leaves.TreeLeaf.{TreeLeaf}
+use Rattle.ft_tree_leaves.specs.Edits.{with_place}
+use Rattle.ft_tree_leaves.specs.Elements.{TreeElement}
+use Rattle.ft_tree_leaves.specs.LeafLists.{elements}
+use Rattle.ft_tree_leaves.specs.References.{ChangesReferences}
+use Rattle.ft_tree_leaves.proofs.CutLeaves.{times-append}
+use Rattle.ft_tree_leaves.proofs.LeafRuns.{elements-append}
+use Rattle.ft_tree_leaves.proofs.Standing.{left-split}
 use Rattle.ft_tree.specs.State.{TreeState}
 use Rattle.ft_zamboni.specs.declared.sweeps.Reached.{Reached}
 use Rattle.ft_zamboni.specs.Scours.{AreClear, Writes, ahead, around, collected, is_collectable, left_over, looked_at, marked, marks, next_sweep, place_among, staying, swept, unmarked}

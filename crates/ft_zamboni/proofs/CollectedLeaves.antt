@@ -9,14 +9,14 @@ use Rattle.ft_base.specs.declared.stamps.Stamp.{Stamp}
 use Rattle.ft_base.specs.declared.stamps.Stamp.TheVariants.{Acked, Local}
 use Rattle.ft_block.specs.declared.blocks.Found.{Found}
 use Rattle.ft_block.specs.Leaves.{IsLeafIn, is_first_sequenced, is_removed, length_by, place_by, place_from, times_leaf, value_at, without_leaf}
-use Rattle.ft_leaves.specs.declared.leaves.TreeLeaf.{TreeLeaf}
-use Rattle.ft_leaves.specs.Edits.{with_place}
-use Rattle.ft_leaves.specs.Elements.{TreeElement}
-use Rattle.ft_leaves.specs.LeafLists.{elements, leaf_removed}
-use Rattle.ft_leaves.specs.Places.{seen_before}
-use Rattle.ft_leaves.proofs.CutLeaves.{times-append}
-use Rattle.ft_leaves.proofs.LeafRuns.{length-elements}
-use Rattle.ft_leaves.proofs.Standing.{value-split}
+use Rattle.ft_tree_leaves.specs.declared.leaves.TreeLeaf.{TreeLeaf}
+use Rattle.ft_tree_leaves.specs.Edits.{with_place}
+use Rattle.ft_tree_leaves.specs.Elements.{TreeElement}
+use Rattle.ft_tree_leaves.specs.LeafLists.{elements, leaf_removed}
+use Rattle.ft_tree_leaves.specs.Places.{seen_before}
+use Rattle.ft_tree_leaves.proofs.CutLeaves.{times-append}
+use Rattle.ft_tree_leaves.proofs.LeafRuns.{length-elements}
+use Rattle.ft_tree_leaves.proofs.Standing.{value-split}
 use Rattle.ft_props.specs.Compaction.{has_collectable_removal}
 use Rattle.ft_tree.specs.State.{TreeState}
 use Rattle.ft_zamboni.specs.Collections.{Collects, CollectsAll, leaf_found, length_kept, next_removed}

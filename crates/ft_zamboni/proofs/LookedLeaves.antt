@@ -4,9 +4,9 @@ use Rattle.std.specs.Prelude.{option_map}
 use Rattle.ft_base.specs.declared.stamps.Stamp.{Stamp}
 use Rattle.ft_base.specs.declared.elements.Element.{Element as ElementStamps}
 use Rattle.ft_block.specs.Leaves.{join_leaf, value_at, without_leaf}
-use Rattle.ft_leaves.specs.declared.leaves.TreeLeaf.{TreeLeaf}
-use Rattle.ft_leaves.specs.Edits.{MayJoinNext, closed_by, joined_leaf, sweep_joined, sweep_without, with_place}
-use Rattle.ft_leaves.specs.References.{ChangesReferences, KeepsReferences}
+use Rattle.ft_tree_leaves.specs.declared.leaves.TreeLeaf.{TreeLeaf}
+use Rattle.ft_tree_leaves.specs.Edits.{MayJoinNext, closed_by, joined_leaf, sweep_joined, sweep_without, with_place}
+use Rattle.ft_tree_leaves.specs.References.{ChangesReferences, KeepsReferences}
 use Rattle.ft_tree.specs.State.{TreeState}
 use Rattle.ft_zamboni.specs.Scours.{is_collectable}
 use Rattle.ft_zamboni.specs.Sweeps.{Looks}

@@ -4,11 +4,11 @@ use Rattle.std.proofs.lemmas.Bool.{cases_eq, cond-false, cond-true, eq-eqb, ne_e
 use Rattle.ft_arena.specs.Ids.{after, first}
 use Rattle.ft_arena.proofs.IdLemmas.{same_other, same_refl}
 use Rattle.ft_block.specs.Leaves.{IsPlaceIn, ids, left_of, times_leaf, without_leaf}
-use Rattle.ft_leaf_blocks.specs.Walks.{before_place, from_leaf, from_place}
-use Rattle.ft_leaves.proofs.CutLeaves.{times-append}
-use Rattle.ft_leaves.proofs.Standing.{after-split, skip, without-apart}
-use Rattle.ft_leaves.specs.Edits.{sweep_without}
-use Rattle.ft_leaf_blocks.proofs.Walks.{itself}
+use Rattle.ft_tree_blocks.specs.Walks.{before_place, from_leaf, from_place}
+use Rattle.ft_tree_leaves.proofs.CutLeaves.{times-append}
+use Rattle.ft_tree_leaves.proofs.Standing.{after-split, skip, without-apart}
+use Rattle.ft_tree_leaves.specs.Edits.{sweep_without}
+use Rattle.ft_tree_blocks.proofs.Walks.{itself}
 use Rattle.ft_zamboni.specs.Sweeps.{last_node, short_of}
 
 short-self : (end : Option ℕ) → short_of end end ≡ None

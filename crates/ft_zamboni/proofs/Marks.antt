@@ -5,7 +5,7 @@ use Rattle.std.proofs.lemmas.Bool.Decides.{nat_tests}
 use Rattle.std.proofs.lemmas.List.{length-map}
 use Rattle.ft_base.specs.Scan.{len}
 use Rattle.ft_base.proofs.ScanLaws.{retain_map-append}
-use Rattle.ft_leaves.specs.Places.{seen_before}
+use Rattle.ft_tree_leaves.specs.Places.{seen_before}
 use Rattle.ft_zamboni.specs.Scours.{place_among, staying}
 
 -- a place among those that stay, before and after n of them from the k-th on are gone

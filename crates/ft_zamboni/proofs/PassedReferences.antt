@@ -1,9 +1,9 @@
 -- References that go on by one change after another.
 use Rattle.std.proofs.Common.{◌≡◌, ℕ, List, Option, Some, None, refl, sym, ◌∙◌, ap}
 use Rattle.std.specs.Prelude.{option_map, option_and_then}
-use Rattle.ft_leaves.specs.declared.references.Reference.{Reference}
-use Rattle.ft_leaves.specs.Edits.{with_place}
-use Rattle.ft_leaves.specs.References.{ChangesReferences, KeepsReferences, place_of, reference_at}
+use Rattle.ft_tree_leaves.specs.declared.references.Reference.{Reference}
+use Rattle.ft_tree_leaves.specs.Edits.{with_place}
+use Rattle.ft_tree_leaves.specs.References.{ChangesReferences, KeepsReferences, place_of, reference_at}
 
 module _ (f g h : ℕ → ℕ) where
   twice : (o : Option Reference) → ((i : ℕ) → option_and_then (λ x. x.place) o ≡ Some i → g (f i) ≡ h i)

@@ -4,13 +4,13 @@ use Rattle.ft_arena.specs.Ids.{after, first}
 use Rattle.ft_arena.proofs.IdLemmas.{same_refl}
 use Rattle.ft_base.specs.declared.stamps.Stamp.{Stamp}
 use Rattle.ft_block.specs.Leaves.{IsLeafIn, IsPlaceIn, ids, times_leaf}
-use Rattle.ft_leaf_blocks.specs.Walks.{before_place, from_place}
-use Rattle.ft_leaf_blocks.proofs.Walks.{before-from}
-use Rattle.ft_leaves.specs.declared.leaves.TreeLeaf.{TreeLeaf}
-use Rattle.ft_leaves.specs.Elements.{TreeElement}
-use Rattle.ft_leaves.specs.LeafLists.{elements}
-use Rattle.ft_leaves.proofs.CutLeaves.{times-append}
-use Rattle.ft_leaves.proofs.Standing.{after-split}
+use Rattle.ft_tree_blocks.specs.Walks.{before_place, from_place}
+use Rattle.ft_tree_blocks.proofs.Walks.{before-from}
+use Rattle.ft_tree_leaves.specs.declared.leaves.TreeLeaf.{TreeLeaf}
+use Rattle.ft_tree_leaves.specs.Elements.{TreeElement}
+use Rattle.ft_tree_leaves.specs.LeafLists.{elements}
+use Rattle.ft_tree_leaves.proofs.CutLeaves.{times-append}
+use Rattle.ft_tree_leaves.proofs.Standing.{after-split}
 use Rattle.ft_tree.specs.State.{TreeState}
 use Rattle.ft_zamboni.specs.Scours.{AreClear, place_among, unmarked}
 use Rattle.ft_zamboni.specs.Scours.Writes.{none}

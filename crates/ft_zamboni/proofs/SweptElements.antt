@@ -3,11 +3,11 @@ use Rattle.std.proofs.Common.{◌≡◌, ℕ, Bool, true, List, [], ◌∷◌, �
 use Rattle.std.specs.List.{AllByRecursion}
 use Rattle.std.proofs.lemmas.List.{map-append, take-append-drop}
 use Rattle.ft_base.specs.declared.stamps.Stamp.{Stamp}
-use Rattle.ft_leaf_blocks.proofs.Walks.{before-from}
-use Rattle.ft_leaves.specs.declared.leaves.TreeLeaf.{TreeLeaf}
-use Rattle.ft_leaves.specs.Elements.{TreeElement}
-use Rattle.ft_leaves.specs.LeafLists.{elements}
-use Rattle.ft_leaves.proofs.LeafRuns.{elements-append}
+use Rattle.ft_tree_blocks.proofs.Walks.{before-from}
+use Rattle.ft_tree_leaves.specs.declared.leaves.TreeLeaf.{TreeLeaf}
+use Rattle.ft_tree_leaves.specs.Elements.{TreeElement}
+use Rattle.ft_tree_leaves.specs.LeafLists.{elements}
+use Rattle.ft_tree_leaves.proofs.LeafRuns.{elements-append}
 use Rattle.ft_zamboni.specs.Scours.{ahead, around, is_collectable, left_over, marked, marks, swept, unmarked}
 use Rattle.ft_zamboni.proofs.BothSweeps.{second, seconds-marked, seconds-stay}
 

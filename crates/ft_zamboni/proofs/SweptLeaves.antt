@@ -6,14 +6,14 @@ use Rattle.ft_arena.specs.Ids.{after, first}
 use Rattle.ft_base.specs.declared.stamps.Stamp.{Stamp}
 use Rattle.ft_base.specs.declared.elements.Element.{Element as ElementStamps}
 use Rattle.ft_block.specs.Leaves.{ids, join_leaf, left_of, times_leaf, value_after, value_at, without_leaf}
-use Rattle.ft_leaves.specs.declared.leaves.TreeLeaf.{TreeLeaf}
-use Rattle.ft_leaves.specs.Edits.{IsFreeOf, MayJoin, MayJoinGiven, MayJoinNext, closed_by, closed_place, joined_leaf, leaf_at, sweep_joined, sweep_behind, sweep_without, with_place}
-use Rattle.ft_leaves.specs.Elements.{TreeElement, elements_with, element_with}
-use Rattle.ft_leaves.specs.LeafLists.{elements, leaf_elements}
-use Rattle.ft_leaves.specs.References.{ChangesReferences, KeepsReferences, place_of}
-use Rattle.ft_leaves.proofs.CutLeaves.{times-append}
-use Rattle.ft_leaves.proofs.LeafRuns.{elements-append, elements-one}
-use Rattle.ft_leaves.proofs.Standing.{after-split, at-value, join-split, left-split, next-split, value-split}
+use Rattle.ft_tree_leaves.specs.declared.leaves.TreeLeaf.{TreeLeaf}
+use Rattle.ft_tree_leaves.specs.Edits.{IsFreeOf, MayJoin, MayJoinGiven, MayJoinNext, closed_by, closed_place, joined_leaf, leaf_at, sweep_joined, sweep_behind, sweep_without, with_place}
+use Rattle.ft_tree_leaves.specs.Elements.{TreeElement, elements_with, element_with}
+use Rattle.ft_tree_leaves.specs.LeafLists.{elements, leaf_elements}
+use Rattle.ft_tree_leaves.specs.References.{ChangesReferences, KeepsReferences, place_of}
+use Rattle.ft_tree_leaves.proofs.CutLeaves.{times-append}
+use Rattle.ft_tree_leaves.proofs.LeafRuns.{elements-append, elements-one}
+use Rattle.ft_tree_leaves.proofs.Standing.{after-split, at-value, join-split, left-split, next-split, value-split}
 use Rattle.ft_props.specs.Overlay.{OverlayState}
 use Rattle.ft_tree.specs.State.{TreeState}
 use Rattle.ft_zamboni.specs.Scours.{AreClear, Writes, collected, is_collectable, marked, place_among, staying, unmarked}

@@ -4,20 +4,20 @@ use Rattle.std.specs.List.{AllByRecursion as ByRecursion}
 use Rattle.std.proofs.lemmas.List.Elements.{All-from_recursion, recursion_from_All}
 use Rattle.ft_base.specs.declared.stamps.Stamp.{Stamp}
 use Rattle.ft_base.specs.Scan.{one_more_if}
-use Rattle.ft_leaves.specs.declared.leaves.TreeLeaf.{TreeLeaf}
-use Rattle.ft_leaves.specs.declared.references.Reference.{Reference}
-use Rattle.ft_leaves.specs.Edits.{with_place}
-use Rattle.ft_leaves.specs.Elements.{TreeElement}
-use Rattle.ft_leaves.specs.LeafLists.{elements, leaf_elements}
-use Rattle.ft_leaves.specs.Places.{seen_before}
-use Rattle.ft_leaves.specs.References.{ChangesReferences}
+use Rattle.ft_tree_leaves.specs.declared.leaves.TreeLeaf.{TreeLeaf}
+use Rattle.ft_tree_leaves.specs.declared.references.Reference.{Reference}
+use Rattle.ft_tree_leaves.specs.Edits.{with_place}
+use Rattle.ft_tree_leaves.specs.Elements.{TreeElement}
+use Rattle.ft_tree_leaves.specs.LeafLists.{elements, leaf_elements}
+use Rattle.ft_tree_leaves.specs.Places.{seen_before}
+use Rattle.ft_tree_leaves.specs.References.{ChangesReferences}
 use Rattle.ft_zamboni.specs.Scours.{Writes, ahead, around, is_collectable, left_over, marks, place_among, staying, swept}
 use Rattle.ft_zamboni.specs.Scours.Writes.{none, same, universal}
 use Rattle.ft_zamboni.proofs.Marks.{gone-stay, stay, staying-stay}
 use Rattle.ft_zamboni.proofs.PassedReferences.{changes-none}
 use Rattle.ft_zamboni.proofs.Writing.{writes-same}
-use Rattle.ft_leaf_blocks.proofs.Walks.{before-from}
-use Rattle.ft_leaves.proofs.LeafRuns.{elements-append, length-leaf}
+use Rattle.ft_tree_blocks.proofs.Walks.{before-from}
+use Rattle.ft_tree_leaves.proofs.LeafRuns.{elements-append, length-leaf}
 use Rattle.std.proofs.lemmas.List.{map-append}
 
 module _ {A : Type 0} (test : A → Bool) where

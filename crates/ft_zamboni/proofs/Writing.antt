@@ -6,10 +6,10 @@ use Rattle.ft_base.specs.declared.stamps.Stamp.TheVariants.{Acked}
 use Rattle.ft_base.specs.declared.elements.Element.{Element as ElementStamps}
 use Rattle.ft_props.specs.Compaction.{is_insertion_at_or_below}
 use Rattle.ft_props.specs.Overlay.{OverlayState}
-use Rattle.ft_leaves.specs.declared.leaves.TreeLeaf.{TreeLeaf}
-use Rattle.ft_leaves.specs.Edits.{IsBare, MayJoin, joined_leaf}
-use Rattle.ft_leaves.specs.Elements.{TreeElement, element_with, elements_with, universal_stamps}
-use Rattle.ft_leaves.specs.LeafLists.{leaf_elements}
+use Rattle.ft_tree_leaves.specs.declared.leaves.TreeLeaf.{TreeLeaf}
+use Rattle.ft_tree_leaves.specs.Edits.{IsBare, MayJoin, joined_leaf}
+use Rattle.ft_tree_leaves.specs.Elements.{TreeElement, element_with, elements_with, universal_stamps}
+use Rattle.ft_tree_leaves.specs.LeafLists.{leaf_elements}
 use Rattle.ft_zamboni.specs.Scours.{Writes, is_collectable}
 use Rattle.ft_zamboni.specs.Scours.Writes.{none, same, universal}
 

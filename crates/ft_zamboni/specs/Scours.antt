@@ -6,13 +6,13 @@ use Rattle.ft_base.specs.declared.stamps.Stamp.{Stamp}
 use Rattle.ft_base.specs.declared.elements.Element.{Element as ElementStamps}
 use Rattle.ft_base.specs.Scan.{retain_map}
 use Rattle.ft_block.specs.Leaves.{ids, left_of}
-use Rattle.ft_leaf_blocks.specs.Walks.{from_leaf}
-use Rattle.ft_leaves.specs.declared.leaves.TreeLeaf.{TreeLeaf}
-use Rattle.ft_leaves.specs.declared.references.Reference.{Reference}
-use Rattle.ft_leaves.specs.Elements.{TreeElement, universal_stamps, with_stamps}
-use Rattle.ft_leaves.specs.LeafLists.{elements}
-use Rattle.ft_leaves.specs.Places.{seen_before}
-use Rattle.ft_leaves.specs.References.{place_of}
+use Rattle.ft_tree_blocks.specs.Walks.{from_leaf}
+use Rattle.ft_tree_leaves.specs.declared.leaves.TreeLeaf.{TreeLeaf}
+use Rattle.ft_tree_leaves.specs.declared.references.Reference.{Reference}
+use Rattle.ft_tree_leaves.specs.Elements.{TreeElement, universal_stamps, with_stamps}
+use Rattle.ft_tree_leaves.specs.LeafLists.{elements}
+use Rattle.ft_tree_leaves.specs.Places.{seen_before}
+use Rattle.ft_tree_leaves.specs.References.{place_of}
 use Rattle.ft_props.specs.Compaction.{has_collectable_removal, is_insertion_at_or_below}
 
 -- whether the first removal is at or below the floor

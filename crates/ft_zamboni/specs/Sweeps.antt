@@ -3,13 +3,13 @@ use Rattle.std.specs.Prelude.{◌≡◌, ℕ, ◌-◌, Bool, true, false, cond, 
 use Rattle.ft_arena.specs.Ids.{first}
 use Rattle.ft_base.specs.declared.stamps.Stamp.{Stamp}
 use Rattle.ft_block.specs.Leaves.{ids, join_leaf, value_at, without_leaf}
-use Rattle.ft_leaf_blocks.specs.Walks.{before_place, from_place}
-use Rattle.ft_leaves.specs.declared.leaves.TreeLeaf.{TreeLeaf}
-use Rattle.ft_leaves.specs.declared.references.Reference.{Reference}
-use Rattle.ft_leaves.specs.Edits.{IsFreeOf, MayJoinNext, closed_by, joined_leaf, sweep_joined, sweep_without, with_place}
-use Rattle.ft_leaves.specs.Elements.{TreeElement}
-use Rattle.ft_leaves.specs.LeafLists.{elements}
-use Rattle.ft_leaves.specs.References.{ChangesReferences, KeepsReferences}
+use Rattle.ft_tree_blocks.specs.Walks.{before_place, from_place}
+use Rattle.ft_tree_leaves.specs.declared.leaves.TreeLeaf.{TreeLeaf}
+use Rattle.ft_tree_leaves.specs.declared.references.Reference.{Reference}
+use Rattle.ft_tree_leaves.specs.Edits.{IsFreeOf, MayJoinNext, closed_by, joined_leaf, sweep_joined, sweep_without, with_place}
+use Rattle.ft_tree_leaves.specs.Elements.{TreeElement}
+use Rattle.ft_tree_leaves.specs.LeafLists.{elements}
+use Rattle.ft_tree_leaves.specs.References.{ChangesReferences, KeepsReferences}
 use Rattle.ft_tree.specs.State.{TreeState}
 use Rattle.ft_zamboni.specs.declared.sweeps.Reached.{Reached}
 use Rattle.ft_zamboni.specs.Scours.{Writes, collected, is_collectable, looked_at, marked, next_sweep, place_among, staying, swept, unmarked}

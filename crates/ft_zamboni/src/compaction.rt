@@ -2,10 +2,10 @@
 
 ghost use Rattle.std.specs.Prelude.{◌≡◌, ◌≤◌, ◌-◌, ◌++◌, All, None, IfOk, IsTrue, OnErr, OnOk, false, filter, length, not, true};
 ghost use Rattle.ft_block.specs.Leaves.{IsPlaceIn};
-ghost use Rattle.ft_leaves.specs.Edits.{with_place};
-ghost use Rattle.ft_leaves.specs.LeafLists.{elements};
-ghost use Rattle.ft_leaves.specs.Places.{seen_before};
-ghost use Rattle.ft_leaves.specs.References.{ChangesReferences};
+ghost use Rattle.ft_tree_leaves.specs.Edits.{with_place};
+ghost use Rattle.ft_tree_leaves.specs.LeafLists.{elements};
+ghost use Rattle.ft_tree_leaves.specs.Places.{seen_before};
+ghost use Rattle.ft_tree_leaves.specs.References.{ChangesReferences};
 ghost use Rattle.ft_zamboni.specs.Collections.{CollectsAll};
 ghost use Rattle.ft_zamboni.specs.Scours.{AreClear, Writes, collected, is_collectable, looked_at, next_sweep, place_among, staying, swept};
 ghost use Rattle.ft_zamboni.specs.Sweeps.{Rounds, next_start, start};

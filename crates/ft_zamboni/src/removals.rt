@@ -2,7 +2,7 @@
 
 ghost use Rattle.std.specs.Prelude.{◌≡◌, ℕ, ◌<◌, ◌≤◌, ◌^◌, All, IsTrue, OnOk, length};
 ghost use Rattle.ft_block.specs.Leaves.{times_leaf};
-ghost use Rattle.ft_leaves.specs.LeafLists.{elements};
+ghost use Rattle.ft_tree_leaves.specs.LeafLists.{elements};
 ghost use Rattle.ft_zamboni.specs.Collections.{CollectsAll, length_kept, next_removed};
 ghost use Rattle.ft_zamboni.specs.Scours.{AreClear};
 

@@ -2,8 +2,8 @@
 
 ghost use Rattle.std.specs.Prelude.{◌≡◌, IfOk, IsTrue, OnOk};
 ghost use Rattle.ft_block.specs.Leaves.{IsLeafIn, IsPlaceIn};
-ghost use Rattle.ft_leaf_blocks.specs.Walks.{from_place};
-ghost use Rattle.ft_leaves.specs.LeafLists.{elements};
+ghost use Rattle.ft_tree_blocks.specs.Walks.{from_place};
+ghost use Rattle.ft_tree_leaves.specs.LeafLists.{elements};
 ghost use Rattle.ft_zamboni.specs.Scours.{AreClear, is_collectable};
 ghost use Rattle.ft_zamboni.specs.Sweeps.{Goes, IsFreeIfCollectable, Looks, SweptUpTo, short_of};
 

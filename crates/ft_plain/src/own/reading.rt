@@ -9,11 +9,11 @@ ghost use Rattle.ft_plain.specs.Own.{client_at};
 use crate::own::PlainOwn;
 use ft_attrib::Attribution;
 use ft_base::{OutOfMemory, Text};
-use ft_elements::shown::{shown_markers, shown_runs, shown_text};
-use ft_elements::shown_grid::{shown_cells, shown_count};
-use ft_elements::shown_intervals::shown_intervals;
-use ft_elements::shown_origins::shown_origins;
 use ft_msg::{Numbers, Runs, Spots, View};
+use ft_plain_lists::shown::{shown_markers, shown_runs, shown_text};
+use ft_plain_lists::shown_grid::{shown_cells, shown_count};
+use ft_plain_lists::shown_intervals::shown_intervals;
+use ft_plain_lists::shown_origins::shown_origins;
 use ft_sumdoc::{CellRecs, IntervalRecs};
 
 impl PlainOwn {

@@ -6,8 +6,8 @@ ghost use Rattle.ft_msg.specs.Blame.{blame};
 ghost use Rattle.ft_msg.specs.Client.{NaiveClient};
 ghost use Rattle.ft_msg.specs.Content.{content};
 ghost use Rattle.ft_msg.specs.SummaryOf.{summary_of};
-ghost use Rattle.ft_names.specs.WellNamed.{IsWellNamed};
-ghost use Rattle.ft_summaries.specs.Summaries.{IsSmall};
+ghost use Rattle.ft_laws_names.specs.WellNamed.{IsWellNamed};
+ghost use Rattle.ft_laws_summaries.specs.Summaries.{IsSmall};
 ghost use Rattle.ft_replica.specs.Linked.{Anyone, IsLinkedAs, RunsForOne};
 
 use crate::document::OwnDocument;

@@ -1,5 +1,5 @@
 use Rattle.std.proofs.Common.{IsTrue}
-use Rattle.ft_text_steps.specs.Passing.{HasNoChanges}
+use Rattle.ft_tests_steps.specs.Passing.{HasNoChanges}
 use Rattle.ft_bench_tree.proofs.edits.acknowledged.Given as goal
 
 abbrev pub invariant-loop-i : goal.invariant-loop-i

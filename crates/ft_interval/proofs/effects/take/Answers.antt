@@ -1,5 +1,5 @@
 use Rattle.std.proofs.Common.{None, cond, sym, ◌∙◌, ap, subst}
-use Rattle.ft_leaves.specs.References.{reference_at}
+use Rattle.ft_tree_leaves.specs.References.{reference_at}
 use Rattle.ft_interval.specs.Ends.{AreDistinctEnds, AreLiveEnds, holds_end}
 use Rattle.ft_interval.specs.State.{HandsOn, placed_intervals, text_elements}
 use Rattle.ft_interval.proofs.HandedOn.{distinct-ends, distinct-lost, distinct-unused, hands-on, live-before, live-lost, live-unused, places-after}

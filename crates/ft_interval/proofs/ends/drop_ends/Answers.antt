@@ -1,6 +1,6 @@
 use Rattle.std.proofs.Common.{None, Option}
-use Rattle.ft_leaves.specs.declared.references.Reference.{Reference}
-use Rattle.ft_leaves.specs.References.{reference_at}
+use Rattle.ft_tree_leaves.specs.declared.references.Reference.{Reference}
+use Rattle.ft_tree_leaves.specs.References.{reference_at}
 use Rattle.ft_interval.specs.Ends.{is_reference}
 use Rattle.ft_interval.proofs.BothEnds.{both-changed, second-live}
 use Rattle.ft_interval.proofs.ends.drop_ends.Goals as goal

@@ -1,5 +1,5 @@
 use Rattle.std.proofs.Common.{cond, option_map, ◌∙◌, ap}
-use Rattle.ft_leaves.specs.References.{reference_at}
+use Rattle.ft_tree_leaves.specs.References.{reference_at}
 use Rattle.ft_interval.specs.Ends.{is_reference}
 use Rattle.ft_interval.specs.State.{text_elements}
 use Rattle.ft_interval.proofs.BothEnds.{both-changed, second-live}

@@ -1,7 +1,7 @@
 use Rattle.std.proofs.Common.{option_and_then, sym, ◌∙◌, ap}
 use Rattle.ft_block.specs.declared.leaves.LenView.TheVariants.{Stage}
-use Rattle.ft_leaves.specs.Elements.{seen_in}
-use Rattle.ft_leaves.specs.Places.{settled_number}
+use Rattle.ft_tree_leaves.specs.Elements.{seen_in}
+use Rattle.ft_tree_leaves.specs.Places.{settled_number}
 use Rattle.ft_interval.specs.Ends.{place_of_end}
 use Rattle.ft_interval.specs.State.{text_elements}
 use Rattle.ft_interval.proofs.SettledEnds.{settled-number}

@@ -1,5 +1,5 @@
 use Rattle.std.proofs.Common.{◌≡◌, ◌-◌, ◌<◌, Some, None, refl, sym, ◌∙◌, subst, arith}
-use Rattle.ft_leaves.specs.Edits.{next_removal_above}
+use Rattle.ft_tree_leaves.specs.Edits.{next_removal_above}
 use Rattle.ft_interval.specs.Numbers.{until}
 use Rattle.ft_interval.specs.Shown.{settled_end}
 use Rattle.ft_interval.specs.Standing.{StandsAt}

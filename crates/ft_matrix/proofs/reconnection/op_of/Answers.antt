@@ -1,5 +1,5 @@
 use Rattle.std.proofs.Common.{◌≡◌, ◌∙◌, Some, ap, length, nat_eq, sym, vec_len}
-use Rattle.ft_laws.proofs.SlidEnds.{true-false}
+use Rattle.ft_laws_agreement.proofs.SlidEnds.{true-false}
 use Rattle.ft_op.specs.declared.operations.ChannelOp.TheVariants.{Grid}
 use Rattle.ft_op.specs.declared.operations.GridOp.TheVariants.{Group}
 use Rattle.ft_matrix.proofs.SentPieces.{group-of}

@@ -1,7 +1,7 @@
 use Rattle.std.proofs.Common.{◌∙◌, ap, sym}
 use Rattle.ft_base.specs.Scan.{len}
 use Rattle.ft_block.specs.declared.leaves.LenView.TheVariants.{Stage}
-use Rattle.ft_leaves.specs.Elements.{seen_in}
+use Rattle.ft_tree_leaves.specs.Elements.{seen_in}
 use Rattle.ft_matrix.specs.Units.{units_of}
 use Rattle.ft_matrix.proofs.UnitPieces.{first-is, none-position, some-position}
 use Rattle.ft_matrix.proofs.reconnection.put_position.Goals as goal

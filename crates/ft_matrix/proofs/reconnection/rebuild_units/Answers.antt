@@ -1,6 +1,6 @@
 use Rattle.std.proofs.Common.{OnOk, refl, sym, subst}
 use Rattle.ft_perm.specs.contracts.vectors.Vector.{the_view}
-use Rattle.ft_leaves.specs.Edits.{with_place}
+use Rattle.ft_tree_leaves.specs.Edits.{with_place}
 use Rattle.ft_rebase.specs.RebuiltPlaces.{rebuilt_place}
 use Rattle.ft_rebase.specs.StageLists.{StandSideBySide}
 use Rattle.ft_matrix.specs.Sound.{IsSoundVector}

@@ -1,5 +1,5 @@
 use Rattle.std.proofs.Common.{length}
-use Rattle.ft_leaf_blocks.specs.Walks.{from_place}
+use Rattle.ft_tree_blocks.specs.Walks.{from_place}
 use Rattle.ft_matrix.proofs.SeenHandles.{RunsSoFar}
 use Rattle.ft_matrix.proofs.seen.seen_runs.Given as goal
 

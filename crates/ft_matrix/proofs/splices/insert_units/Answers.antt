@@ -1,7 +1,7 @@
 use Rattle.std.proofs.Common.{refl, sym, subst, arith}
 use Rattle.ft_base.specs.declared.stamps.Stamp.TheVariants.{Acked}
 use Rattle.ft_block.specs.declared.leaves.LenView.TheVariants.{At}
-use Rattle.ft_leaves.specs.Elements.{is_pending}
+use Rattle.ft_tree_leaves.specs.Elements.{is_pending}
 use Rattle.ft_perm.specs.contracts.vectors.Vector.{the_view}
 use Rattle.ft_matrix.specs.Splices.{TakesRun}
 use Rattle.ft_matrix.proofs.SoundVectors.{puts-nothing, run-fits, vector-puts, vector-sound}

@@ -2,7 +2,7 @@ use Rattle.std.proofs.Common.{◌++◌, [], None, refl, ap, subst, sym, ◌∙�
 use Rattle.std.proofs.lemmas.Result.{on_ok_weaker}
 use Rattle.ft_base.specs.declared.elements.Element.{Element as ElementStamps}
 use Rattle.ft_base.specs.Visibility.{is_of_stage}
-use Rattle.ft_leaves.specs.Elements.{elements_with}
+use Rattle.ft_tree_leaves.specs.Elements.{elements_with}
 use Rattle.ft_perm.specs.Handles.{handles_of}
 use Rattle.ft_perm.specs.contracts.vectors.Vector.{the_view}
 use Rattle.ft_matrix.specs.Splices.{TakesRun}

@@ -1,7 +1,7 @@
 use Rattle.std.proofs.Common.{◌≡◌, ◌++◌, drop, map}
 use Rattle.std.specs.Prelude.{flat_map}
 use Rattle.ft_op.specs.Pieces.{pieces}
-use Rattle.ft_document.specs.SubOperations.{sub_operation_of}
+use Rattle.ft_plain_document.specs.SubOperations.{sub_operation_of}
 use Rattle.ft_plain.proofs.resent.edit_pieces.Given as goal
 
 -- the pieces so far, and those of the rest of the stages, are all

@@ -1,7 +1,7 @@
 use Rattle.std.proofs.Common.{◌≡◌, ◌++◌, length, map}
 use Rattle.std.specs.Prelude.{flat_map}
 use Rattle.ft_op.specs.Pieces.{cell_op_of}
-use Rattle.ft_document.specs.SubOperations.{sub_operation_of}
+use Rattle.ft_plain_document.specs.SubOperations.{sub_operation_of}
 use Rattle.ft_plain.proofs.resent.push_cell_ops.Given as goal
 
 -- the operations so far, and those of the rest, are all

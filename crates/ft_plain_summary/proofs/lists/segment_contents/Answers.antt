@@ -2,9 +2,9 @@ use Rattle.std.proofs.Common.{◌≡◌, chars, map, sym, ◌∙◌, ap}
 use Rattle.std.proofs.lemmas.Result.{IfOk-weaker}
 use Rattle.ft_props.specs.Element.{Character as CharacterOf}
 use Rattle.ft_msg.specs.Summary.{segment_bodies}
-use Rattle.ft_elements.specs.declared.elements.Content.TheVariants.{Character}
-use Rattle.ft_elements.specs.Contents.{content_of}
-use Rattle.ft_elements.proofs.CharacterContents.{map-characters}
+use Rattle.ft_plain_lists.specs.declared.elements.Content.TheVariants.{Character}
+use Rattle.ft_plain_lists.specs.Contents.{content_of}
+use Rattle.ft_plain_lists.proofs.CharacterContents.{map-characters}
 use Rattle.ft_plain_summary.proofs.lists.segment_contents.Goals as goal
 
 pub returns-in-Chars : goal.returns-in-Chars

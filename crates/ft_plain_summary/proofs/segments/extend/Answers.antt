@@ -1,7 +1,7 @@
 use Rattle.std.proofs.Common.{◌≡◌, ◌∙◌, ap, sym}
 use Rattle.std.proofs.lemmas.Result.{IfOk-weaker}
 use Rattle.ft_msg.specs.SummaryOf.{element_body, joined_bodies, segment_of}
-use Rattle.ft_elements.specs.Contents.{content_of}
+use Rattle.ft_plain_lists.specs.Contents.{content_of}
 use Rattle.ft_plain_summary.specs.OpenSegments.{open_segment}
 use Rattle.ft_plain_summary.proofs.MadeSegments.{segment-joined}
 use Rattle.ft_plain_summary.proofs.segments.extend.Goals as goal

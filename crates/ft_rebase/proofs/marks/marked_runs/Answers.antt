@@ -4,9 +4,9 @@ use Rattle.ft_base.specs.Scan.{len}
 use Rattle.ft_base.specs.Visibility.{seen_at}
 use Rattle.ft_block.specs.declared.leaves.LenView.TheVariants.{Stage}
 use Rattle.ft_block.specs.Leaves.{left_of}
-use Rattle.ft_leaves.specs.Edits.{is_touched_by}
-use Rattle.ft_leaves.specs.Elements.{seen_in}
-use Rattle.ft_leaves.specs.LeafLists.{elements}
+use Rattle.ft_tree_leaves.specs.Edits.{is_touched_by}
+use Rattle.ft_tree_leaves.specs.Elements.{seen_in}
+use Rattle.ft_tree_leaves.specs.LeafLists.{elements}
 use Rattle.ft_rebase.specs.MarkedRuns.{RunsRise, continued}
 use Rattle.ft_rebase.specs.Pieces.{has_mark, leaf_has_mark}
 use Rattle.ft_rebase.proofs.ListedLeaves.{drop_listed, listed_at, mapped_value}

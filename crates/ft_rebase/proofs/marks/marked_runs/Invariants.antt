@@ -1,7 +1,7 @@
 use Rattle.std.proofs.Common.{◌≡◌, ◌-◌, drop, filter}
 use Rattle.ft_block.specs.declared.leaves.LenView.TheVariants.{Stage}
-use Rattle.ft_leaves.specs.Edits.{is_touched_by}
-use Rattle.ft_leaves.specs.LeafLists.{elements}
+use Rattle.ft_tree_leaves.specs.Edits.{is_touched_by}
+use Rattle.ft_tree_leaves.specs.LeafLists.{elements}
 use Rattle.ft_rebase.specs.MarkedRuns.{continued}
 use Rattle.ft_rebase.specs.Pieces.{marked_runs}
 use Rattle.ft_rebase.proofs.ListedRuns.{listed_runs}

@@ -1,7 +1,7 @@
 use Rattle.std.proofs.Common.{Result, Ok, Err, Some, None, subst}
 use Rattle.std.specs.Prelude.{OnOk}
 use Rattle.ft_block.specs.Leaves.{IsPlaceIn, without_leaf}
-use Rattle.ft_leaf_blocks.proofs.Walks.{live_value}
+use Rattle.ft_tree_blocks.proofs.Walks.{live_value}
 use Rattle.ft_rebase.proofs.MovedSpots.{keeps_spots}
 use Rattle.ft_rebase.proofs.moves.move_behind.Goals as goal
 

@@ -1,9 +1,9 @@
 use Rattle.std.proofs.Common.{◌+◌, ◌∙◌, List, drop, get_or, subst, arith}
 use Rattle.std.proofs.lemmas.List.{drop_all}
 use Rattle.ft_rebase.specs.declared.moves.StageMove.{StageMove}
-use Rattle.ft_leaves.specs.Elements.{TreeElement}
-use Rattle.ft_leaves.specs.LeafLists.{elements}
-use Rattle.ft_leaves.proofs.LeafRuns.{length-elements}
+use Rattle.ft_tree_leaves.specs.Elements.{TreeElement}
+use Rattle.ft_tree_leaves.specs.LeafLists.{elements}
+use Rattle.ft_tree_leaves.proofs.LeafRuns.{length-elements}
 use Rattle.ft_rebase.specs.RebuiltPlaces.{rebuilt_place}
 use Rattle.ft_rebase.proofs.AllStages.{MovesLeft, elements_moved, leaves_side, move_next, next_move, nodes_kept, spot_moved}
 use Rattle.ft_rebase.proofs.MovedSpots.{rest_more, spots_more}

@@ -1,7 +1,7 @@
 use Rattle.std.proofs.Common.{sym, ◌∙◌, ap}
-use Rattle.ft_leaf_blocks.proofs.WalkEdits.{change-here, change-nothing}
-use Rattle.ft_leaf_blocks.proofs.Walks.{live_value}
-use Rattle.ft_leaves.specs.Edits.{sequenced_leaf}
+use Rattle.ft_tree_blocks.proofs.WalkEdits.{change-here, change-nothing}
+use Rattle.ft_tree_blocks.proofs.Walks.{live_value}
+use Rattle.ft_tree_leaves.specs.Edits.{sequenced_leaf}
 use Rattle.ft_rebase.specs.Normalised.{carried_leaf, is_gone}
 use Rattle.ft_rebase.proofs.CarriedLeaves.{carried-gone, carried-kept}
 use Rattle.ft_rebase.proofs.ListedLeaves.{mapped_value}

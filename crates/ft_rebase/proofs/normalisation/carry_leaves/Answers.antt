@@ -1,5 +1,5 @@
 use Rattle.std.proofs.Common.{◌≡◌, map, refl, subst, sym, ◌∙◌, ap, arith}
-use Rattle.ft_leaves.specs.References.{reference_at}
+use Rattle.ft_tree_leaves.specs.References.{reference_at}
 use Rattle.ft_rebase.specs.Normalised.{carried_pair}
 use Rattle.ft_rebase.proofs.CarriedStages.{all_carried, carries_stage, fewer_stages, list-carried}
 use Rattle.ft_rebase.proofs.MovedSpots.{rest_more, rest_same}

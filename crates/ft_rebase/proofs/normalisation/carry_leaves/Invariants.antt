@@ -1,5 +1,5 @@
 use Rattle.std.proofs.Common.{◌≡◌, ℕ, true, map}
-use Rattle.ft_leaves.specs.References.{KeepsReferences}
+use Rattle.ft_tree_leaves.specs.References.{KeepsReferences}
 use Rattle.ft_rebase.specs.Normalised.{carried_by, carried_pair}
 use Rattle.ft_rebase.proofs.CarriedStages.{stages_left}
 use Rattle.ft_rebase.proofs.NextStages.{IsBelow}

@@ -1,8 +1,8 @@
 use Rattle.std.proofs.Common.{refl, sym, ◌∙◌, ap}
 use Rattle.std.proofs.lemmas.List.{drop_all}
 use Rattle.ft_block.specs.Leaves.{ids}
-use Rattle.ft_leaves.specs.Edits.{is_touched_by}
-use Rattle.ft_leaf_blocks.proofs.WalkEdits.{ids-change}
+use Rattle.ft_tree_leaves.specs.Edits.{is_touched_by}
+use Rattle.ft_tree_blocks.proofs.WalkEdits.{ids-change}
 use Rattle.ft_rebase.specs.Normalised.{carried_leaf}
 use Rattle.ft_rebase.proofs.CarriedStages.{change_each, each-filtered, each_next, live_same}
 use Rattle.ft_rebase.proofs.ListedLeaves.{listed_at}

@@ -1,6 +1,6 @@
 use Rattle.std.proofs.Common.{◌≡◌, true, drop, map}
 use Rattle.ft_block.specs.Leaves.{ids}
-use Rattle.ft_leaves.specs.References.{KeepsReferences}
+use Rattle.ft_tree_leaves.specs.References.{KeepsReferences}
 use Rattle.ft_rebase.specs.Normalised.{carried_by, carried_leaf}
 use Rattle.ft_rebase.proofs.CarriedStages.{change_each}
 use Rattle.ft_tree.specs.State.{KeepsRest}

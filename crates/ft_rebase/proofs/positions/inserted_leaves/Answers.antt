@@ -1,7 +1,7 @@
 use Rattle.std.proofs.Common.{◌++◌, filter, ap, sym, ◌∙◌, append-nil}
 use Rattle.ft_base.specs.Visibility.{is_of_stage}
 use Rattle.ft_block.specs.Leaves.{ids}
-use Rattle.ft_leaves.specs.Edits.{is_touched_by}
+use Rattle.ft_tree_leaves.specs.Edits.{is_touched_by}
 use Rattle.ft_rebase.specs.Moves.{leaf_stamps}
 use Rattle.ft_rebase.specs.StageLists.{inserted_by}
 use Rattle.ft_rebase.proofs.ListedLeaves.{drop_listed, inserted-touched, listed_at, mapped_value, more_filtered, none_filtered}

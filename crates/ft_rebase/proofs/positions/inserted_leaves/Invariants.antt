@@ -1,6 +1,6 @@
 use Rattle.std.proofs.Common.{◌≡◌, ◌++◌, drop, filter}
 use Rattle.ft_block.specs.Leaves.{ids}
-use Rattle.ft_leaves.specs.Edits.{is_touched_by}
+use Rattle.ft_tree_leaves.specs.Edits.{is_touched_by}
 use Rattle.ft_rebase.specs.Moves.{leaf_stamps}
 use Rattle.ft_rebase.specs.StageLists.{inserted_by}
 use Rattle.ft_rebase.proofs.positions.inserted_leaves.Given as goal

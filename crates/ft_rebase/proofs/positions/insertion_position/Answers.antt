@@ -2,8 +2,8 @@ use Rattle.std.proofs.Common.{◌≡◌, ◌-◌, Some, None, cond, ap, sym, ◌
 use Rattle.ft_base.specs.Scan.{len, rank}
 use Rattle.ft_block.specs.declared.leaves.LenView.TheVariants.{Stage}
 use Rattle.ft_block.specs.Leaves.{left_of}
-use Rattle.ft_leaves.specs.Elements.{seen_in}
-use Rattle.ft_leaves.specs.LeafLists.{elements}
+use Rattle.ft_tree_leaves.specs.Elements.{seen_in}
+use Rattle.ft_tree_leaves.specs.LeafLists.{elements}
 use Rattle.ft_rebase.specs.Pieces.{is_inserted_by}
 use Rattle.ft_rebase.proofs.LeafPieces.{none_inserted, stands_first}
 use Rattle.ft_rebase.proofs.ListedLeaves.{first_listed, none_listed}

@@ -2,8 +2,8 @@ use Rattle.std.proofs.Common.{[], None, arith, refl}
 use Rattle.ft_base.specs.declared.stamps.Stamp.TheVariants.{Local}
 use Rattle.ft_base.specs.Scan.{no_run}
 use Rattle.ft_block.specs.Leaves.{last_stage}
-use Rattle.ft_leaves.specs.Elements.{seen_in}
-use Rattle.ft_leaves.specs.TextLeaves.{text_units}
+use Rattle.ft_tree_leaves.specs.Elements.{seen_in}
+use Rattle.ft_tree_leaves.specs.TextLeaves.{text_units}
 use Rattle.ft_op.specs.Operation.{segment_contents}
 use Rattle.ft_props.specs.Properties.{apply}
 use Rattle.ft_string.proofs.PutInParts.{inserts-begin, inserts-done, inserts-next, last-new, puts-by, puts-made, reads-begin, reads-next}

@@ -2,7 +2,7 @@ use Rattle.std.proofs.Common.{[], vec_len, None}
 use Rattle.ft_base.specs.Scan.{no_run}
 use Rattle.ft_base.specs.declared.stamps.Stamp.TheVariants.{Local}
 use Rattle.ft_block.specs.Leaves.{last_stage}
-use Rattle.ft_leaves.specs.Elements.{seen_in}
+use Rattle.ft_tree_leaves.specs.Elements.{seen_in}
 use Rattle.ft_op.specs.Operation.{segment_contents}
 use Rattle.ft_props.specs.Properties.{apply}
 use Rattle.ft_string.proofs.PutInParts.{FewReads, InsertsLeft}

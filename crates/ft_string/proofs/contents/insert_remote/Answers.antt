@@ -2,8 +2,8 @@ use Rattle.std.proofs.Common.{[], ap, arith, not}
 use Rattle.ft_base.specs.declared.stamps.Stamp.TheVariants.{Acked}
 use Rattle.ft_base.specs.Visibility.{is_acked}
 use Rattle.ft_block.specs.declared.leaves.LenView.TheVariants.{At}
-use Rattle.ft_leaves.specs.Elements.{is_pending, seen_in}
-use Rattle.ft_leaves.specs.TextLeaves.{text_author, text_units}
+use Rattle.ft_tree_leaves.specs.Elements.{is_pending, seen_in}
+use Rattle.ft_tree_leaves.specs.TextLeaves.{text_author, text_units}
 use Rattle.ft_op.specs.Operation.{segment_contents}
 use Rattle.ft_props.specs.Properties.{apply}
 use Rattle.ft_string.proofs.PutInParts.{inserts-done, inserts-next, puts-made}

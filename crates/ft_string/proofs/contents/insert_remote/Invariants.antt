@@ -1,8 +1,8 @@
 use Rattle.std.proofs.Common.{[], vec_len}
 use Rattle.ft_base.specs.declared.stamps.Stamp.TheVariants.{Acked}
 use Rattle.ft_block.specs.declared.leaves.LenView.TheVariants.{At}
-use Rattle.ft_leaves.specs.Elements.{is_pending, seen_in}
-use Rattle.ft_leaves.specs.TextLeaves.{text_author}
+use Rattle.ft_tree_leaves.specs.Elements.{is_pending, seen_in}
+use Rattle.ft_tree_leaves.specs.TextLeaves.{text_author}
 use Rattle.ft_op.specs.Operation.{segment_contents}
 use Rattle.ft_props.specs.Properties.{apply}
 use Rattle.ft_string.proofs.PutInParts.{InsertsLeft}

@@ -1,5 +1,5 @@
 use Rattle.std.proofs.Common.{length, refl}
-use Rattle.ft_leaf_blocks.specs.Walks.{from_place}
+use Rattle.ft_tree_blocks.specs.Walks.{from_place}
 use Rattle.ft_string.specs.Shows.{leaf_origins, origins_in}
 use Rattle.ft_named.proofs.LeafWalks.{Walks}
 use Rattle.ft_string.proofs.ShownElements.{origins-step}

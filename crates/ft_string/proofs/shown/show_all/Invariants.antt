@@ -1,5 +1,5 @@
 use Rattle.std.proofs.Common.{length}
-use Rattle.ft_leaf_blocks.specs.Walks.{from_place}
+use Rattle.ft_tree_blocks.specs.Walks.{from_place}
 use Rattle.ft_string.proofs.ShownLeaves.{ShowsSoFar}
 use Rattle.ft_string.proofs.shown.show_all.Given as goal
 

@@ -1,6 +1,6 @@
 use Rattle.std.proofs.Common.{IsTrue, ◌∙◌, ap, arith, flat_map, subst, sym}
 use Rattle.std.proofs.lemmas.List.{nil_from_length}
-use Rattle.ft_leaves.specs.TextLeaves.{text_units}
+use Rattle.ft_tree_leaves.specs.TextLeaves.{text_units}
 use Rattle.ft_string.proofs.Appended.{appends-none, content-next, contents-done}
 use Rattle.ft_string.proofs.summaries.append.Goals as goal
 

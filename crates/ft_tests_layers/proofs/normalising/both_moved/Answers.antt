@@ -1,5 +1,5 @@
 use Rattle.std.proofs.Common.{List, subst, sym}
-use Rattle.ft_leaves.specs.Elements.{TreeElement}
+use Rattle.ft_tree_leaves.specs.Elements.{TreeElement}
 use Rattle.ft_props.specs.Element.{ElementContent}
 use Rattle.ft_rebase.specs.StageLists.{StandSideBySide}
 use Rattle.ft_tests_layers.proofs.MarkerLists.{stages-side}

@@ -1,6 +1,6 @@
 use Rattle.std.proofs.Common.{◌≡◌, Option, Some, None, IsSome, option_map, refl}
-use Rattle.ft_leaves.specs.declared.references.Reference.{Reference}
-use Rattle.ft_leaves.specs.References.{reference_at}
+use Rattle.ft_tree_leaves.specs.declared.references.Reference.{Reference}
+use Rattle.ft_tree_leaves.specs.References.{reference_at}
 use Rattle.ft_tests_layers.proofs.normalising.places.Goals as goal
 
 still : (old new : Option Reference) → option_map (λ x. x.acked) new ≡ option_map (λ x. x.acked) old → IsSome old → IsSome new

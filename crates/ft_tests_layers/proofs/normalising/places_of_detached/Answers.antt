@@ -1,8 +1,8 @@
 use Rattle.std.proofs.Common.{true, List, Option, Some, IsSome, cond, option_and_then, refl, subst, sym, ◌∙◌, ap}
 use Rattle.std.proofs.lemmas.Bool.{eq-eqb}
-use Rattle.ft_leaves.specs.declared.references.Reference.{Reference}
-use Rattle.ft_leaves.specs.Elements.{TreeElement}
-use Rattle.ft_leaves.specs.References.{reference_at, slid_reference}
+use Rattle.ft_tree_leaves.specs.declared.references.Reference.{Reference}
+use Rattle.ft_tree_leaves.specs.Elements.{TreeElement}
+use Rattle.ft_tree_leaves.specs.References.{reference_at, slid_reference}
 use Rattle.ft_props.specs.Element.{ElementContent}
 use Rattle.ft_rebase.specs.StageLists.{StandSideBySide}
 use Rattle.ft_tests_layers.specs.Markers.{elements_of}

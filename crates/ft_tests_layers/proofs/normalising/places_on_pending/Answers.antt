@@ -1,6 +1,6 @@
 use Rattle.std.proofs.Common.{List, Option, IsSome, refl, subst, sym, ◌∙◌, ap}
-use Rattle.ft_leaves.specs.declared.references.Reference.{Reference}
-use Rattle.ft_leaves.specs.Elements.{TreeElement}
+use Rattle.ft_tree_leaves.specs.declared.references.Reference.{Reference}
+use Rattle.ft_tree_leaves.specs.Elements.{TreeElement}
 use Rattle.ft_props.specs.Element.{ElementContent}
 use Rattle.ft_rebase.specs.StageLists.{StandSideBySide}
 use Rattle.ft_tests_layers.specs.Markers.{elements_of}

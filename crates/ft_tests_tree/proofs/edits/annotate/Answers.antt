@@ -1,8 +1,8 @@
 use Rattle.std.proofs.Common.{refl}
 use Rattle.ft_block.specs.declared.leaves.LenView.TheVariants.{At}
-use Rattle.ft_leaves.specs.Elements.{seen_in, with_overlay}
+use Rattle.ft_tree_leaves.specs.Elements.{seen_in, with_overlay}
 use Rattle.ft_props.specs.Overlay.{after_acked_changes}
-use Rattle.ft_text_steps.proofs.PassingLaws.{passes_change}
+use Rattle.ft_tests_steps.proofs.PassingLaws.{passes_change}
 use Rattle.ft_tests_tree.proofs.edits.annotate.Goals as goal
 
 pub returns : goal.returns

@@ -1,5 +1,5 @@
-use Rattle.ft_leaves.specs.LeafLists.{elements}
-use Rattle.ft_leaves.specs.TextLeaves.{text_units}
+use Rattle.ft_tree_leaves.specs.LeafLists.{elements}
+use Rattle.ft_tree_leaves.specs.TextLeaves.{text_units}
 use Rattle.ft_tests_tree.proofs.CalmTrees.{all-above}
 use Rattle.ft_tests_tree.proofs.PlayingLaws.{stays-kept}
 use Rattle.ft_tests_tree.proofs.edits.change_on.Goals as goal

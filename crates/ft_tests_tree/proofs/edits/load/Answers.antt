@@ -1,5 +1,5 @@
-use Rattle.ft_leaves.specs.TextLeaves.{text_units}
-use Rattle.ft_text_steps.proofs.PassingLaws.{passes_end}
+use Rattle.ft_tree_leaves.specs.TextLeaves.{text_units}
+use Rattle.ft_tests_steps.proofs.PassingLaws.{passes_end}
 use Rattle.ft_tests_tree.proofs.edits.load.Goals as goal
 
 pub returns : goal.returns

@@ -1,15 +1,15 @@
 use Rattle.std.proofs.Common.{◌≡◌, ℕ, ◌<◌, ◌++◌, [], List, Some, length, take, drop, append-nil, refl, subst, sym, ◌∙◌, ap, arith}
 use Rattle.std.proofs.Math.Seq.{drop-append_seam, take-append_seam}
 use Rattle.ft_block.specs.Leaves.{LeafList, ids}
-use Rattle.ft_leaves.specs.declared.leaves.TreeLeaf.{TreeLeaf}
-use Rattle.ft_leaves.specs.LeafLists.{elements, leaf_elements}
-use Rattle.ft_leaves.specs.Edits.{up_to_place}
-use Rattle.ft_leaves.specs.Elements.{elements_with}
-use Rattle.ft_leaves.specs.References.{KeepsReferences, place_of}
-use Rattle.ft_leaves.proofs.LeafRuns.{length-elements}
-use Rattle.ft_leaves.proofs.RangeLeaves.{extends_trans}
-use Rattle.ft_leaf_steps.specs.LeafSteps.{held_place}
-use Rattle.ft_leaf_steps.proofs.CutPlaces.{puts_behind}
+use Rattle.ft_tree_leaves.specs.declared.leaves.TreeLeaf.{TreeLeaf}
+use Rattle.ft_tree_leaves.specs.LeafLists.{elements, leaf_elements}
+use Rattle.ft_tree_leaves.specs.Edits.{up_to_place}
+use Rattle.ft_tree_leaves.specs.Elements.{elements_with}
+use Rattle.ft_tree_leaves.specs.References.{KeepsReferences, place_of}
+use Rattle.ft_tree_leaves.proofs.LeafRuns.{length-elements}
+use Rattle.ft_tree_leaves.proofs.RangeLeaves.{extends_trans}
+use Rattle.ft_tree_steps.specs.LeafSteps.{held_place}
+use Rattle.ft_tree_steps.proofs.CutPlaces.{puts_behind}
 use Rattle.ft_props.specs.Overlay.{OverlayState}
 use Rattle.ft_props.specs.Properties.{PropertyList}
 use Rattle.ft_tree.proofs.RefPlaces.{kept_before}

@@ -1,10 +1,10 @@
 use Rattle.std.proofs.Common.{◌≡◌, ℕ, length, refl, sym, ◌∙◌, ap}
 use Rattle.ft_base.specs.Scan.{place}
 use Rattle.ft_block.specs.declared.leaves.LenView.TheVariants.{All}
-use Rattle.ft_leaf_steps.proofs.FoundPlaces.{found_at}
-use Rattle.ft_leaves.specs.Elements.{seen_in}
-use Rattle.ft_leaves.specs.LeafLists.{elements}
-use Rattle.ft_leaves.proofs.LeafRuns.{length-elements}
+use Rattle.ft_tree_steps.proofs.FoundPlaces.{found_at}
+use Rattle.ft_tree_leaves.specs.Elements.{seen_in}
+use Rattle.ft_tree_leaves.specs.LeafLists.{elements}
+use Rattle.ft_tree_leaves.proofs.LeafRuns.{length-elements}
 use Rattle.ft_tree.proofs.FoundEnds.{place-all}
 use Rattle.ft_tree.proofs.finds.find_end.Goals as goal
 

@@ -1,8 +1,8 @@
 use Rattle.std.proofs.Common.{◌-◌, filter, not, subst}
-use Rattle.ft_leaves.specs.Edits.{with_place}
-use Rattle.ft_leaves.specs.LeafLists.{elements}
-use Rattle.ft_leaves.specs.Places.{seen_before}
-use Rattle.ft_leaves.specs.References.{ChangesReferences}
+use Rattle.ft_tree_leaves.specs.Edits.{with_place}
+use Rattle.ft_tree_leaves.specs.LeafLists.{elements}
+use Rattle.ft_tree_leaves.specs.Places.{seen_before}
+use Rattle.ft_tree_leaves.specs.References.{ChangesReferences}
 use Rattle.ft_tree.specs.State.{TreeState}
 use Rattle.ft_zamboni.specs.Scours.{Writes, is_collectable}
 use Rattle.ft_zamboni.proofs.WholeSweeps.{whole-clear}

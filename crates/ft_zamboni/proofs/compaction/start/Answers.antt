@@ -1,6 +1,6 @@
 use Rattle.std.proofs.Common.{sym, subst}
 use Rattle.ft_block.specs.Leaves.{IsPlaceIn}
-use Rattle.ft_leaf_blocks.proofs.Walks.{first_in_place}
+use Rattle.ft_tree_blocks.proofs.Walks.{first_in_place}
 use Rattle.ft_zamboni.proofs.compaction.start.Goals as goal
 
 pub returns-in-None-clause-live : goal.returns-in-None-clause-live

@@ -1,8 +1,8 @@
 use Rattle.std.proofs.Common.{◌≡◌, ℕ, Option, None, refl, sym, subst, ◌∙◌, ap}
 use Rattle.ft_arena.specs.Ids.{first}
 use Rattle.ft_block.specs.Leaves.{IsPlaceIn, ids}
-use Rattle.ft_leaf_blocks.specs.Walks.{from_place}
-use Rattle.ft_leaf_blocks.proofs.Walks.{first_in_place}
+use Rattle.ft_tree_blocks.specs.Walks.{from_place}
+use Rattle.ft_tree_blocks.proofs.Walks.{first_in_place}
 use Rattle.ft_tree.specs.State.{TreeState}
 use Rattle.ft_zamboni.specs.Sweeps.{SweptUpTo}
 use Rattle.ft_zamboni.proofs.BothSweeps.{both-round, both-there, end-there, sweep-clear}

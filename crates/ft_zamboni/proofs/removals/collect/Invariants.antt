@@ -1,6 +1,6 @@
 use Rattle.std.proofs.Common.{◌-◌}
 use Rattle.ft_block.specs.Leaves.{length_by}
-use Rattle.ft_leaves.specs.LeafLists.{leaf_removed}
+use Rattle.ft_tree_leaves.specs.LeafLists.{leaf_removed}
 use Rattle.ft_zamboni.specs.Collections.{Collects}
 use Rattle.ft_zamboni.proofs.removals.collect.Given as goal
 

@@ -1,7 +1,7 @@
 use Rattle.std.proofs.Common.{if◌then◌else◌, sym, ◌∙◌, ap, Bool, subst}
 use Rattle.ft_block.specs.Leaves.{join_leaf}
-use Rattle.ft_leaves.specs.Edits.{joined_leaf, sweep_joined}
-use Rattle.ft_leaves.specs.References.{KeepsReferences, reference_at}
+use Rattle.ft_tree_leaves.specs.Edits.{joined_leaf, sweep_joined}
+use Rattle.ft_tree_leaves.specs.References.{KeepsReferences, reference_at}
 use Rattle.ft_tree.specs.State.{TreeState}
 use Rattle.ft_zamboni.specs.Scours.{is_collectable}
 use Rattle.ft_zamboni.specs.Sweeps.{Looks}

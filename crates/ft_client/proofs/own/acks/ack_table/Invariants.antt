@@ -1,8 +1,8 @@
 use Rattle.std.proofs.Common.{◌≡◌, ◌++◌, ℕ, List, drop, map}
 use Rattle.ft_op.specs.Document.{Document}
 use Rattle.ft_op.specs.Stages.{Stage}
-use Rattle.ft_names.specs.GridFacts.{AreCounted}
-use Rattle.ft_names.specs.WellNamed.{AreWellNamed}
+use Rattle.ft_laws_names.specs.GridFacts.{AreCounted}
+use Rattle.ft_laws_names.specs.WellNamed.{AreWellNamed}
 use Rattle.ft_matrix.specs.Conditions.{KeepsRest}
 use Rattle.ft_matrix.specs.HoldsGrid.{HoldsGrid}
 use Rattle.ft_client.specs.Acks.{AcksSome}

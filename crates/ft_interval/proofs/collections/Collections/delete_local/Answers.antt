@@ -2,7 +2,7 @@ use Rattle.std.proofs.Common.{not, refl, sym, ◌∙◌, ap}
 use Rattle.std.proofs.lemmas.Result.{on_ok_weaker}
 use Rattle.ft_base.specs.Scan.{len}
 use Rattle.ft_block.specs.declared.leaves.LenView.TheVariants.{Stage}
-use Rattle.ft_leaves.specs.Elements.{seen_in}
+use Rattle.ft_tree_leaves.specs.Elements.{seen_in}
 use Rattle.ft_interval.specs.Intervals.{name_in}
 use Rattle.ft_interval.specs.State.{IsAsBefore, is_add, is_shown, placed, text_elements}
 use Rattle.ft_interval.proofs.LocalEdits.{edit-refused}

@@ -1,7 +1,7 @@
 use Rattle.std.proofs.Common.{◌≡◌, ℕ, refl, cond, None, get_or, set, List, sym, ◌∙◌, ap, subst, arith}
 use Rattle.std.specs.List.{position}
 use Rattle.std.proofs.lemmas.List.{get_or-set_same}
-use Rattle.ft_leaves.specs.References.{reference_at}
+use Rattle.ft_tree_leaves.specs.References.{reference_at}
 use Rattle.ft_op.specs.declared.operations.TextOp.{TextOp}
 use Rattle.ft_interval.specs.declared.pending.Operation.{Operation}
 use Rattle.ft_interval.specs.Ends.{AreDistinctEnds, AreLiveEnds, holds_end, map_ends, places_of_ends}

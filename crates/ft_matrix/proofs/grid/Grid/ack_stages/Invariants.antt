@@ -2,7 +2,7 @@ use Rattle.std.proofs.Common.{◌≡◌, ◌+◌, ◌≤◌, ◌++◌, ℕ, All,
 use Rattle.ft_op.specs.Document.{Document}
 use Rattle.ft_op.specs.Stages.{Stage}
 use Rattle.ft_perm.specs.Handles.{numbers_from}
-use Rattle.ft_names.specs.GridFacts.{AreCounted}
+use Rattle.ft_laws_names.specs.GridFacts.{AreCounted}
 use Rattle.ft_matrix.specs.Acked.{AcksSome}
 use Rattle.ft_matrix.specs.Applied.{Holds}
 use Rattle.ft_matrix.specs.Sound.{IsSound}

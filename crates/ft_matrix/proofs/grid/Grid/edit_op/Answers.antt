@@ -6,7 +6,7 @@ use Rattle.ft_msg.specs.declared.faults.EditFault.TheVariants.{OutOfRange}
 use Rattle.ft_msg.specs.Client.{local_sub_operations}
 use Rattle.ft_base.specs.Scan.{len}
 use Rattle.ft_block.specs.Leaves.{last_stage}
-use Rattle.ft_leaves.specs.Elements.{seen_in}
+use Rattle.ft_tree_leaves.specs.Elements.{seen_in}
 use Rattle.ft_matrix.specs.OwnEdits.{refusal}
 use Rattle.ft_matrix.specs.Units.{units_of}
 use Rattle.ft_matrix.proofs.Refusals.{group-refused}

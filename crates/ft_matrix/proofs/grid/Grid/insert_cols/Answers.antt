@@ -1,7 +1,7 @@
 use Rattle.std.proofs.Common.{subst}
 use Rattle.ft_base.specs.declared.stamps.Stamp.TheVariants.{Acked}
 use Rattle.ft_block.specs.declared.leaves.LenView.TheVariants.{At}
-use Rattle.ft_leaves.specs.Elements.{is_pending}
+use Rattle.ft_tree_leaves.specs.Elements.{is_pending}
 use Rattle.ft_matrix.specs.Splices.{Inserts}
 use Rattle.ft_matrix.proofs.Effects.{insert-cols-refused, insert-cols-taken}
 use Rattle.ft_matrix.proofs.grid.Grid.insert_cols.Goals as goal

@@ -3,10 +3,10 @@ use Rattle.std.specs.List.{list_any}
 use Rattle.std.proofs.lemmas.List.{length-drop}
 use Rattle.ft_arena.specs.Ids.{after, first}
 use Rattle.ft_block.specs.Leaves.{IsLeafIn, IsPlaceIn, ids, sees_in, times_leaf, value_at}
-use Rattle.ft_leaves.specs.declared.leaves.TreeLeaf.{TreeLeaf}
-use Rattle.ft_leaves.specs.LeafLists.{elements}
-use Rattle.ft_leaf_blocks.specs.Walks.{from_place}
-use Rattle.ft_leaf_blocks.proofs.Walks.{after_in_place, first_in_place, from_first}
+use Rattle.ft_tree_leaves.specs.declared.leaves.TreeLeaf.{TreeLeaf}
+use Rattle.ft_tree_leaves.specs.LeafLists.{elements}
+use Rattle.ft_tree_blocks.specs.Walks.{from_place}
+use Rattle.ft_tree_blocks.proofs.Walks.{after_in_place, first_in_place, from_first}
 use Rattle.ft_perm.specs.Handles.{HandleRun, handles_of}
 use Rattle.ft_perm.specs.Vectors.{VectorState, seen_handles}
 use Rattle.ft_perm.proofs.SeenRuns.{Leaves, length-shown_runs, shown_runs}

@@ -1,7 +1,7 @@
 use Rattle.std.proofs.Common.{◌≡◌, ◌≤◌, false, nat_eq, drop, length, take}
 use Rattle.std.specs.List.{list_any}
 use Rattle.ft_block.specs.Leaves.{IsPlaceIn}
-use Rattle.ft_leaf_blocks.specs.Walks.{from_place}
+use Rattle.ft_tree_blocks.specs.Walks.{from_place}
 use Rattle.ft_perm.specs.Vectors.{seen_handles}
 use Rattle.ft_perm.proofs.SeenRuns.{shown_runs}
 use Rattle.ft_perm.proofs.vectors.Vector.place_of.Given as goal

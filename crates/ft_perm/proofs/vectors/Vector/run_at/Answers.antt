@@ -1,6 +1,6 @@
 use Rattle.std.proofs.Common.{◌≡◌, ◌+◌, ◌-◌, ◌≤◌, None, sym, ◌∙◌, ap, arith, length, subst}
 use Rattle.ft_block.specs.Leaves.{place_from}
-use Rattle.ft_leaves.specs.LeafLists.{leaf_length}
+use Rattle.ft_tree_leaves.specs.LeafLists.{leaf_length}
 use Rattle.ft_perm.specs.Handles.{HandleRun, handles_of, rear_run}
 use Rattle.ft_perm.specs.Vectors.{RunStandsAt, VectorState, seen_handles}
 use Rattle.ft_perm.proofs.SeenRuns.{finds_leaf, finds_none, finds_run-asked, found_run, length-shown_runs, place_past, shown_runs}

@@ -4,7 +4,7 @@ use Rattle.ft_props.specs.Element.{ListElement}
 use Rattle.ft_op.specs.Cells.{Cell}
 use Rattle.ft_op.specs.Stages.{Stage}
 use Rattle.ft_msg.specs.Content.{all_cells, content, stage_view}
-use Rattle.ft_document.specs.WrittenCells.{cells_after_stages}
+use Rattle.ft_plain_document.specs.WrittenCells.{cells_after_stages}
 use Rattle.ft_plain.specs.Own.{PlainState, client_at}
 use Rattle.ft_plain.proofs.WrittenValues.{all-written}
 use Rattle.ft_plain.proofs.own.PlainOwn.shown_cells.Goals as goal

@@ -5,7 +5,7 @@ use Rattle.std.specs.List.{position}
 use Rattle.ft_props.specs.Properties.{Characters}
 use Rattle.ft_seqr.specs.Refusals.{refusal_of_summary}
 use Rattle.ft_seqr.specs.World.{NaiveWorld, start_client}
-use Rattle.ft_worlds.specs.MadeWorlds.{IsMade}
+use Rattle.ft_laws_sessions.specs.MadeWorlds.{IsMade}
 use Rattle.ft_seqr.specs.RefusalKinds.{MeansOf, refusal_kind}
 use Rattle.ft_session.specs.Worlds.{SessionState, SessionStands, has_name}
 use Rattle.ft_session.proofs.Entering.{copy-refused, copy-taken, copy-trimmed, copy-unknown, meets-at}

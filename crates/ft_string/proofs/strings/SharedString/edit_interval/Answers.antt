@@ -3,7 +3,7 @@ use Rattle.ft_block.specs.declared.leaves.LenView.TheVariants.{Stage as at_stage
 use Rattle.ft_base.specs.Scan.{len}
 use Rattle.ft_interval.specs.Intervals.{name_in}
 use Rattle.ft_interval.specs.State.{IsAsBefore, is_shown, placed, text_elements}
-use Rattle.ft_leaves.specs.Elements.{seen_in}
+use Rattle.ft_tree_leaves.specs.Elements.{seen_in}
 use Rattle.ft_string.specs.Holds.{HoldsSome, HoldsText}
 use Rattle.ft_string.specs.State.{TextState}
 use Rattle.ft_string.proofs.AppliedIntervals.{kept-sound}

@@ -1,8 +1,8 @@
 use Rattle.std.proofs.Common.{◌++◌, ◌∙◌, ◌≤◌, ◌<◌, All, IsTrue, [], List, ap, length, refl, subst, sym, true}
 use Rattle.std.proofs.lemmas.List.Elements.{All-nil}
 use Rattle.ft_interval.specs.State.{text_elements}
-use Rattle.ft_leaves.specs.declared.text.TextContent.{TextContent}
-use Rattle.ft_laws.proofs.SummaryStarts.{summary-sound}
+use Rattle.ft_tree_leaves.specs.declared.text.TextContent.{TextContent}
+use Rattle.ft_laws_agreement.proofs.SummaryStarts.{summary-sound}
 use Rattle.ft_msg.specs.Summary.{doc_of}
 use Rattle.ft_sumdoc.specs.declared.summary.IntervalRec.{IntervalRec}
 use Rattle.ft_sumdoc.specs.declared.summary.SegRec.{SegRec}

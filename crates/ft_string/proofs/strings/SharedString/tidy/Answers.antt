@@ -1,6 +1,6 @@
 use Rattle.std.proofs.Common.{◌++◌, IsTrue, true, ap, subst, sym}
-use Rattle.ft_leaves.specs.declared.text.TextContent.{TextContent}
-use Rattle.ft_leaves.specs.TextLeaves.{text_units}
+use Rattle.ft_tree_leaves.specs.declared.text.TextContent.{TextContent}
+use Rattle.ft_tree_leaves.specs.TextLeaves.{text_units}
 use Rattle.ft_string.specs.Holds.{HoldsText}
 use Rattle.ft_string.specs.State.{TextState}
 use Rattle.ft_zamboni.specs.Scours.{swept}

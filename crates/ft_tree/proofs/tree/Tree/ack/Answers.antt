@@ -1,10 +1,10 @@
 use Rattle.std.proofs.Common.{All, length, map, option_map, refl, subst, sym, ◌∙◌, ap}
 use Rattle.std.proofs.lemmas.List.{length-map}
 use Rattle.ft_block.specs.Leaves.{ids}
-use Rattle.ft_leaves.specs.Elements.{IsLowestChange, TreeElement, acked_element}
-use Rattle.ft_leaves.specs.LeafLists.{elements}
-use Rattle.ft_leaves.specs.References.{reference_at, slid_reference}
-use Rattle.ft_leaves.proofs.RangeLeaves.{acks}
+use Rattle.ft_tree_leaves.specs.Elements.{IsLowestChange, TreeElement, acked_element}
+use Rattle.ft_tree_leaves.specs.LeafLists.{elements}
+use Rattle.ft_tree_leaves.specs.References.{reference_at, slid_reference}
+use Rattle.ft_tree_leaves.proofs.RangeLeaves.{acks}
 use Rattle.ft_tree.specs.State.{TreeState}
 use Rattle.ft_tree.specs.declared.tree.Tree.TheInside.{Inside}
 use Rattle.ft_tree.proofs.TreeInside.{in_sound, same_sound}

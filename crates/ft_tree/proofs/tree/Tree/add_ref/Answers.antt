@@ -1,11 +1,11 @@
 use Rattle.std.proofs.Common.{◌≡◌, ℕ, List, None, Option, Some, refl, subst, sym, ◌∙◌, ap, arith}
 use Rattle.ft_base.specs.Scan.{len}
 use Rattle.ft_block.specs.Leaves.{LeafList}
-use Rattle.ft_leaf_blocks.specs.LeafPlaces.{place_on}
-use Rattle.ft_leaves.specs.declared.leaves.TreeLeaf.{TreeLeaf}
-use Rattle.ft_leaves.specs.Elements.{seen_in}
-use Rattle.ft_leaves.specs.LeafLists.{elements}
-use Rattle.ft_leaves.specs.Places.{place_at}
+use Rattle.ft_tree_blocks.specs.LeafPlaces.{place_on}
+use Rattle.ft_tree_leaves.specs.declared.leaves.TreeLeaf.{TreeLeaf}
+use Rattle.ft_tree_leaves.specs.Elements.{seen_in}
+use Rattle.ft_tree_leaves.specs.LeafLists.{elements}
+use Rattle.ft_tree_leaves.specs.Places.{place_at}
 use Rattle.ft_tree.specs.State.{TreeState}
 use Rattle.ft_tree.proofs.RefPlaces.{none_seen, some_seen}
 use Rattle.ft_tree.proofs.tree.Tree.add_ref.Goals as goal

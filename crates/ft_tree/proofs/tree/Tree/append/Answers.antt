@@ -1,9 +1,9 @@
 use Rattle.std.proofs.Common.{◌+◌, [], length, refl, ◌∙◌, ap, arith, length-append}
 use Rattle.std.proofs.lemmas.List.{length-map}
-use Rattle.ft_leaves.specs.Elements.{element_with, elements_with}
-use Rattle.ft_leaves.specs.LeafLists.{elements}
+use Rattle.ft_tree_leaves.specs.Elements.{element_with, elements_with}
+use Rattle.ft_tree_leaves.specs.LeafLists.{elements}
 use Rattle.ft_tree.specs.declared.tree.Tree.TheInside.{Inside}
-use Rattle.ft_leaves.specs.References.{reference_at}
+use Rattle.ft_tree_leaves.specs.References.{reference_at}
 use Rattle.ft_tree.specs.State.{TreeState}
 use Rattle.ft_tree.proofs.TreeInside.{extends_sound, in_sound}
 use Rattle.ft_tree.proofs.tree.Tree.append.Goals as goal

@@ -1,6 +1,6 @@
 use Rattle.std.proofs.Common.{None, subst, sym}
-use Rattle.ft_leaves.specs.Edits.{ChangesReference}
-use Rattle.ft_leaves.specs.References.{IsReferenceIn}
+use Rattle.ft_tree_leaves.specs.Edits.{ChangesReference}
+use Rattle.ft_tree_leaves.specs.References.{IsReferenceIn}
 use Rattle.ft_tree.specs.State.{TreeState}
 use Rattle.ft_tree.proofs.TreeInside.{in_sound, refs_rest, refs_sound}
 use Rattle.ft_tree.proofs.tree.Tree.drop_ref.Goals as goal

@@ -1,8 +1,8 @@
 use Rattle.std.proofs.Common.{◌≡◌, ◌+◌, ◌-◌, length, refl, ◌∙◌, ap, arith}
 use Rattle.ft_base.specs.Scan.{change_range}
-use Rattle.ft_leaves.specs.Elements.{seen_in}
-use Rattle.ft_leaves.specs.LeafLists.{elements}
-use Rattle.ft_leaves.specs.References.{reference_at}
+use Rattle.ft_tree_leaves.specs.Elements.{seen_in}
+use Rattle.ft_tree_leaves.specs.LeafLists.{elements}
+use Rattle.ft_tree_leaves.specs.References.{reference_at}
 use Rattle.ft_tree.specs.Inside.{edited_element}
 use Rattle.ft_tree.specs.State.{TreeState}
 use Rattle.ft_tree.specs.declared.tree.Tree.TheInside.{Inside}

@@ -1,6 +1,6 @@
 use Rattle.std.proofs.Common.{option_map, sym, ◌∙◌, ap}
-use Rattle.ft_leaves.specs.LeafLists.{elements}
-use Rattle.ft_leaves.specs.References.{reference_at, slid_reference}
+use Rattle.ft_tree_leaves.specs.LeafLists.{elements}
+use Rattle.ft_tree_leaves.specs.References.{reference_at, slid_reference}
 use Rattle.ft_tree.specs.State.{TreeState}
 use Rattle.ft_tree.proofs.tree.Tree.edit_and_slide.Goals as goal
 

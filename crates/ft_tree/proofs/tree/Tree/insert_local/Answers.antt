@@ -1,6 +1,6 @@
 use Rattle.std.proofs.lemmas.Result.{on_ok_weaker}
 use Rattle.ft_block.specs.Leaves.{last_stage}
-use Rattle.ft_leaves.specs.Elements.{seen_in}
+use Rattle.ft_tree_leaves.specs.Elements.{seen_in}
 use Rattle.ft_tree.proofs.TreeInside.{held_listed}
 use Rattle.ft_tree.proofs.tree.Tree.insert_local.Goals as goal
 

@@ -3,11 +3,11 @@ use Rattle.std.proofs.lemmas.Result.{on_ok_weaker}
 use Rattle.ft_base.specs.declared.stamps.Stamp.TheVariants.{Acked}
 use Rattle.ft_base.specs.Scan.{put}
 use Rattle.ft_block.specs.declared.leaves.LenView.TheVariants.{At}
-use Rattle.ft_leaves.specs.Elements.{is_pending, seen_in}
-use Rattle.ft_leaves.specs.Edits.{with_place}
-use Rattle.ft_leaves.specs.LeafLists.{elements}
-use Rattle.ft_leaves.specs.Places.{put_place, shifted_place}
-use Rattle.ft_leaves.specs.References.{reference_at}
+use Rattle.ft_tree_leaves.specs.Elements.{is_pending, seen_in}
+use Rattle.ft_tree_leaves.specs.Edits.{with_place}
+use Rattle.ft_tree_leaves.specs.LeafLists.{elements}
+use Rattle.ft_tree_leaves.specs.Places.{put_place, shifted_place}
+use Rattle.ft_tree_leaves.specs.References.{reference_at}
 use Rattle.ft_props.specs.Properties.{apply}
 use Rattle.ft_tree.proofs.TreeInside.{fresh_elements, held_listed}
 use Rattle.ft_tree.proofs.tree.Tree.insert_remote.Goals as goal

@@ -1,9 +1,9 @@
 use Rattle.std.proofs.Common.{◌≡◌, Bool, true, if◌then◌else◌, length, refl, ◌∙◌, ap, length-append}
 use Rattle.ft_tree.specs.declared.tree.Tree.TheInside.{Inside}
 use Rattle.ft_block.specs.Leaves.{LeafList, join_leaf}
-use Rattle.ft_leaves.specs.declared.leaves.TreeLeaf.{TreeLeaf}
-use Rattle.ft_leaves.specs.Edits.{joined_leaf, sweep_behind, sweep_joined}
-use Rattle.ft_leaves.specs.References.{reference_at}
+use Rattle.ft_tree_leaves.specs.declared.leaves.TreeLeaf.{TreeLeaf}
+use Rattle.ft_tree_leaves.specs.Edits.{joined_leaf, sweep_behind, sweep_joined}
+use Rattle.ft_tree_leaves.specs.References.{reference_at}
 use Rattle.ft_tree.specs.State.{TreeState}
 use Rattle.ft_tree.proofs.JoinedLeaves.{joins_without, pair_next}
 use Rattle.ft_tree.proofs.TreeInside.{in_sound, without_sound}

@@ -1,6 +1,6 @@
 use Rattle.std.proofs.Common.{◌≤◌, length, subst}
 use Rattle.ft_props.specs.Properties.{max_safe_integer}
-use Rattle.ft_leaves.specs.LeafLists.{elements}
+use Rattle.ft_tree_leaves.specs.LeafLists.{elements}
 use Rattle.ft_tree.specs.State.{TreeState}
 use Rattle.ft_tree.proofs.TreeInside.{in_sound}
 use Rattle.ft_tree.proofs.tree.Tree.made.Goals as goal

@@ -1,9 +1,9 @@
 use Rattle.std.proofs.Common.{ℕ, ◌+◌, [], refl, ap, arith}
 use Rattle.ft_tree.specs.declared.tree.Tree.TheInside.{Inside}
 use Rattle.ft_tree.proofs.TreeInside.{extends_sound, held_inside, in_sound, put_seen}
-use Rattle.ft_leaves.specs.LeafChanges.{fresh_leaf}
-use Rattle.ft_leaves.specs.Elements.{seen_in}
-use Rattle.ft_leaves.specs.Plain.{passes}
+use Rattle.ft_tree_leaves.specs.LeafChanges.{fresh_leaf}
+use Rattle.ft_tree_leaves.specs.Elements.{seen_in}
+use Rattle.ft_tree_leaves.specs.Plain.{passes}
 use Rattle.ft_props.specs.Properties.{apply}
 use Rattle.ft_tree.proofs.tree.Tree.put.Goals as goal
 

@@ -1,7 +1,7 @@
 use Rattle.std.proofs.Common.{true, Some, subst, sym}
-use Rattle.ft_leaves.specs.Edits.{ChangesReference}
-use Rattle.ft_leaves.specs.LeafLists.{elements}
-use Rattle.ft_leaves.specs.References.{IsReferenceIn, slid_reference}
+use Rattle.ft_tree_leaves.specs.Edits.{ChangesReference}
+use Rattle.ft_tree_leaves.specs.LeafLists.{elements}
+use Rattle.ft_tree_leaves.specs.References.{IsReferenceIn, slid_reference}
 use Rattle.ft_tree.specs.State.{TreeState}
 use Rattle.ft_tree.proofs.TreeInside.{in_sound, refs_rest, refs_sound}
 use Rattle.ft_tree.proofs.tree.Tree.settle_ref.Goals as goal

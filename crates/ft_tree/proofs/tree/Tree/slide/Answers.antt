@@ -1,6 +1,6 @@
 use Rattle.std.proofs.Common.{subst}
-use Rattle.ft_leaves.specs.LeafLists.{elements}
-use Rattle.ft_leaves.specs.References.{ChangesReferences, slid_reference}
+use Rattle.ft_tree_leaves.specs.LeafLists.{elements}
+use Rattle.ft_tree_leaves.specs.References.{ChangesReferences, slid_reference}
 use Rattle.ft_tree.specs.State.{TreeState}
 use Rattle.ft_tree.proofs.TreeInside.{in_sound, refs_rest, refs_sound}
 use Rattle.ft_tree.proofs.tree.Tree.slide.Goals as goal

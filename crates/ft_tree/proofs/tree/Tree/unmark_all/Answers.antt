@@ -1,13 +1,13 @@
 use Rattle.std.proofs.Common.{ℕ, List, length, refl, ◌∙◌, ap}
 use Rattle.ft_block.specs.Leaves.{times_leaf}
-use Rattle.ft_leaves.specs.declared.leaves.TreeLeaf.{TreeLeaf}
+use Rattle.ft_tree_leaves.specs.declared.leaves.TreeLeaf.{TreeLeaf}
 use Rattle.ft_tree.specs.declared.tree.Tree.TheInside.{Inside}
-use Rattle.ft_leaves.specs.Edits.{sequenced_leaf}
-use Rattle.ft_leaves.specs.LeafLists.{elements}
-use Rattle.ft_leaves.proofs.Standing.{change-map}
-use Rattle.ft_leaves.proofs.LeafEdits.{elements-sequenced}
-use Rattle.ft_leaf_blocks.proofs.WalkEdits.{times-change}
-use Rattle.ft_leaves.specs.References.{reference_at}
+use Rattle.ft_tree_leaves.specs.Edits.{sequenced_leaf}
+use Rattle.ft_tree_leaves.specs.LeafLists.{elements}
+use Rattle.ft_tree_leaves.proofs.Standing.{change-map}
+use Rattle.ft_tree_leaves.proofs.LeafEdits.{elements-sequenced}
+use Rattle.ft_tree_blocks.proofs.WalkEdits.{times-change}
+use Rattle.ft_tree_leaves.specs.References.{reference_at}
 use Rattle.ft_tree.specs.State.{TreeState}
 use Rattle.ft_tree.proofs.TreeInside.{in_sound, same_sound}
 use Rattle.ft_tree.proofs.tree.Tree.unmark_all.Goals as goal

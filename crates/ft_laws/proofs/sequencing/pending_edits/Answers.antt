@@ -1,9 +1,0 @@
-use Rattle.ft_laws.proofs.PendingOnTop.{pending-on_top}
-use Rattle.ft_laws.proofs.SideBySide.{ready-orderly}
-use Rattle.ft_laws.proofs.sequencing.pending_edits.Goals as goal
-
-pub returns-clause-in_order : goal.returns-clause-in_order
-returns-clause-in_order c = ready-orderly
-
-pub returns-clause-on_top : goal.returns-clause-on_top
-returns-clause-on_top c = λ x log conn ready same. pending-on_top x conn ready log same

@@ -1,5 +1,0 @@
-use Rattle.ft_laws.proofs.TrimmedFromNow.{trim-shows}
-use Rattle.ft_laws.proofs.trimming.trimmed_documents.Goals as goal
-
-pub returns : goal.returns
-returns c = record { shows_the_same = trim-shows }

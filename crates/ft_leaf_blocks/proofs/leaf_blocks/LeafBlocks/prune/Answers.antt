@@ -1,4 +1,0 @@
-use Rattle.ft_leaf_blocks.proofs.leaf_blocks.LeafBlocks.prune.Goals as goal
-
-pub returns-in-Ok-clause-ok : goal.returns-in-Ok-clause-ok
-returns-in-Ok-clause-ok g c = c.self.view_is

@@ -1,4 +1,0 @@
-use Rattle.ft_leaf_steps.proofs.offsets.seen_offset.Given as goal
-
-abbrev pub ghosts-find_leaf : goal.ghosts-find_leaf
-ghosts-find_leaf g a = record { name = a.blank.name; parts = a.blank.parts }

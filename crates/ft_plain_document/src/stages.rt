@@ -1,0 +1,254 @@
+//! Pending stages and pending edits.
+
+ghost use Rattle.std.specs.Prelude.{◌≡◌, ◌≤◌, [], ◌∷◌, ◌++◌, IfOk, OnOk, OnErr, drop, length, map, take};
+ghost use Rattle.ft_op.specs.Operation.{OnGrid, OnText, sub_operations};
+ghost use Rattle.ft_msg.specs.Acknowledgement.{renamed_stage};
+ghost use Rattle.ft_plain_document.specs.Renamed.{renaming_of};
+ghost use Rattle.ft_plain_document.specs.SubOperations.{sub_operation_of};
+
+use crate::renamings::Renaming;
+use ft_base::OutOfMemory;
+use ft_op::{BaseOp, CellOp, ChannelOp, GridOp, TextOp};
+use ft_plain_lists::names::ElementNames;
+use std::alloc::Global;
+use std::collections::VecDeque;
+use std::marker::Model;
+
+/// One sub-operation of an edit.
+#[derive(Drop)]
+pub enum SubOp {
+    /// On the elements of the text.
+    Text(BaseOp),
+    /// On its intervals.
+    Intervals(TextOp),
+    /// On the grid.
+    Grid(CellOp),
+}
+
+impl SubOp {
+    /// An equal sub-operation.
+    ///
+    /// Answers `OutOfMemory` where there is no room for it.
+    fn copy(&self) -> Result<SubOp, OutOfMemory>
+        ensures { IfOk result (λ copy. copy ≡ self.now) }
+    {
+        match self {
+            SubOp::Text(op) => Ok(SubOp::Text(op.copy()?)),
+            SubOp::Intervals(op) => Ok(SubOp::Intervals(op.copy()?)),
+            SubOp::Grid(op) => Ok(SubOp::Grid(op.copy()?)),
+        }
+    }
+}
+
+/// The sub-operations of an operation, in order.
+///
+/// Answers `OutOfMemory` where there is no room for them.
+pub fn sub_operations(alloc: Global, op: &ChannelOp) -> Result<VecDeque<SubOp>, OutOfMemory>
+    ensures { IfOk result (λ v. map sub_operation_of v.items ≡ sub_operations op.now) }
+{
+    match op {
+        ChannelOp::Text(TextOp::Group(ops)) => text_group(alloc, ops.as_slice()),
+        ChannelOp::Text(TextOp::One(op)) => one(alloc, SubOp::Text(op.copy()?)),
+        ChannelOp::Text(op) => one(alloc, SubOp::Intervals(op.copy()?)),
+        ChannelOp::Grid(GridOp::One(op)) => one(alloc, SubOp::Grid(op.copy()?)),
+        ChannelOp::Grid(GridOp::Group(ops)) => grid_group(alloc, ops.as_slice()),
+    }
+}
+
+/// One sub-operation alone.
+///
+/// Answers `OutOfMemory` where there is no room for it.
+pub fn one(alloc: Global, op: SubOp) -> Result<VecDeque<SubOp>, OutOfMemory>
+    ensures { IfOk result (λ v. v.items ≡ op ∷ []) }
+{
+    let mut ops = VecDeque::new(alloc);
+    ops.push_back(op)?;
+    Ok(ops)
+}
+
+/// The sub-operations of a group of the text.
+///
+/// Answers `OutOfMemory` where there is no room for them.
+fn text_group(alloc: Global, group: &[BaseOp]) -> Result<VecDeque<SubOp>, OutOfMemory>
+    ensures { IfOk result (λ v. map sub_operation_of v.items ≡ map (λ op. OnText op) group.now) }
+{
+    let mut ops = VecDeque::new(alloc);
+    for op in group {
+        ops.push_back(SubOp::Text(op.copy()?))?;
+    }
+    Ok(ops)
+}
+
+/// The sub-operations of a group of the grid.
+///
+/// Answers `OutOfMemory` where there is no room for them.
+fn grid_group(alloc: Global, group: &[CellOp]) -> Result<VecDeque<SubOp>, OutOfMemory>
+    ensures { IfOk result (λ v. map sub_operation_of v.items ≡ map (λ op. OnGrid op) group.now) }
+{
+    let mut ops = VecDeque::new(alloc);
+    for op in group {
+        ops.push_back(SubOp::Grid(op.copy()?))?;
+    }
+    Ok(ops)
+}
+
+/// A pending stage: its number, its sub-operation, and the elements that this names.
+#[derive(Drop)]
+pub struct PlainStage {
+    stage: u64,
+    sub_operation: SubOp,
+    names: ElementNames,
+}
+
+impl Model for PlainStage {
+    ghost use Rattle.ft_op.specs.Stages.{Stage};
+    ghost use Rattle.ft_plain_document.specs.SubOperations.{sub_operation_of};
+
+    ghost Value = { Stage };
+
+    ghost view = { λ a. record { stage = a.stage; sub_operation = sub_operation_of a.sub_operation; names = a.names } };
+}
+
+impl PlainStage {
+    /// The stage with these parts.
+    pub fn new(stage: u64, sub_operation: SubOp, names: ElementNames) -> PlainStage
+        ensures { result ≡ record { stage = stage; sub_operation = sub_operation_of sub_operation; names = names } }
+    {
+        PlainStage {
+            stage,
+            sub_operation,
+            names,
+        }
+    }
+
+    /// An equal stage, but for the elements that it names.
+    ///
+    /// Answers `OutOfMemory` where there is no room for it.
+    pub fn copy_with(&self, names: ElementNames) -> Result<PlainStage, OutOfMemory>
+        ensures { IfOk result (λ copy. copy ≡ record self.now { names = names }) }
+    {
+        Ok(PlainStage {
+            stage: self.stage,
+            sub_operation: self.sub_operation.copy()?,
+            names,
+        })
+    }
+
+    /// Its number.
+    pub fn stage(&self) -> u64
+        ensures { result ≡ self.now.stage }
+    {
+        self.stage
+    }
+
+    /// Its sub-operation.
+    pub fn sub_operation(&self) -> &SubOp
+        ensures { sub_operation_of result.now ≡ self.now.sub_operation }
+    {
+        &self.sub_operation
+    }
+
+    /// Gives the elements that its sub-operation names their new names.
+    ///
+    /// Answers `OutOfMemory` where a number would pass 2^64 - 1, and then nothing changed.
+    pub fn rename(&mut self, renaming: &Renaming) -> Result<(), OutOfMemory>
+        ensures { OnOk result (self.new ≡ renamed_stage (renaming_of renaming.now) self.old) }
+    {
+        self.names = renaming.names(&self.names)?;
+        Ok(())
+    }
+
+    /// The elements that its sub-operation names.
+    pub fn names(&self) -> &ElementNames
+        ensures { result.now ≡ self.now.names }
+    {
+        &self.names
+    }
+}
+
+/// Stages in order.
+#[derive(Drop)]
+pub struct PlainStages {
+    items: Vec<PlainStage>,
+}
+
+impl Model for PlainStages {
+    ghost use Rattle.std.specs.Prelude.{List};
+    ghost use Rattle.ft_op.specs.Stages.{Stage};
+
+    ghost Value = { List Stage };
+
+    ghost view = { λ a. a.items.items };
+}
+
+impl PlainStages {
+    /// No stages.
+    pub fn new(alloc: Global) -> PlainStages
+        ensures { result ≡ [] }
+    {
+        PlainStages {
+            items: Vec::new(alloc),
+        }
+    }
+
+    /// Adds a stage at the end.
+    ///
+    /// Answers `OutOfMemory` where there is no room for it, and then the list is as it was.
+    pub fn push(&mut self, stage: PlainStage) -> Result<(), OutOfMemory>
+        ensures ok { OnOk result (self.new ≡ self.old ++ stage ∷ []) }
+        ensures err { OnErr result (self.new ≡ self.old) }
+    {
+        self.items.push(stage)?;
+        Ok(())
+    }
+
+    /// Adds all of another list behind these.
+    ///
+    /// Answers `OutOfMemory` where there is no room for them, and then the list is as it was.
+    pub fn append(&mut self, mut more: PlainStages) -> Result<(), OutOfMemory>
+        ensures ok { OnOk result (self.new ≡ self.old ++ more) }
+        ensures err { OnErr result (self.new ≡ self.old) }
+    {
+        self.items.append(&mut more.items)?;
+        Ok(())
+    }
+
+    /// Takes all but the first `count` off.
+    ///
+    /// Answers `OutOfMemory` where there is no room for them.
+    pub fn split_off(&mut self, count: usize) -> Result<PlainStages, OutOfMemory>
+        requires { count ≤ length self.old }
+        ensures first { OnOk result (self.new ≡ take count self.old) }
+        ensures rest { IfOk result (λ rest. rest ≡ drop count self.old) }
+    {
+        Ok(PlainStages {
+            items: self.items.split_off(count)?,
+        })
+    }
+
+    /// How many there are.
+    pub fn len(&self) -> usize
+        ensures { result ≡ length self.now }
+    {
+        self.items.len()
+    }
+
+    /// Gives the elements that each names their new names.
+    ///
+    /// Answers `OutOfMemory` where a number would pass 2^64 - 1, and then some may have theirs.
+    pub fn rename(&mut self, renaming: &Renaming) -> Result<(), OutOfMemory>
+        ensures { OnOk result (self.new ≡ map (renamed_stage (renaming_of renaming.now)) self.old) }
+    {
+        for stage in self.items.iter_mut() {
+            stage.rename(renaming)?;
+        }
+        Ok(())
+    }
+
+    /// All in order.
+    pub fn as_slice(&self) -> &[PlainStage]
+        ensures { result.now ≡ self.now }
+    {
+        self.items.as_slice()
+    }
+}

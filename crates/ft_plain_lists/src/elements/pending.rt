@@ -1,0 +1,212 @@
+//! What is pending on an element, and what an acknowledgement or a reconnection makes of it.
+
+ghost use Rattle.std.specs.Prelude.{◌≡◌, ◌+◌, ◌++◌, IfOk, OnOk, OnErr, cond, filter, nat_eq, not};
+ghost use Rattle.std.specs.List.{list_any};
+ghost use Rattle.ft_base.specs.Visibility.{is_acked, is_of_stage};
+ghost use Rattle.ft_props.specs.Element.{with_pending_annotation, with_pending_removal, without_pending};
+ghost use Rattle.ft_props.specs.Steps.{acked_element, acked_props, acked_removal, acked_stamp, author};
+ghost use Rattle.ft_props.specs.Steps.{carried_element, is_annotated_by, is_inserted_by, is_removed_by, remaining_removal};
+ghost use Rattle.ft_plain_lists.specs.Contents.{content_of};
+
+use crate::elements::{Content, PlainElement, has_any_sequenced};
+use ft_base::{OutOfMemory, Stamp};
+use ft_props::{Changes, Props};
+
+impl PlainElement {
+    /// Marks it as removed by the pending stage.
+    pub fn remove_at_stage(&mut self, stage: u64)
+        ensures { self.new ≡ with_pending_removal stage self.old }
+    {
+        self.removal_stage = Some(stage);
+    }
+
+    /// Adds changes of the pending stage.
+    ///
+    /// Answers `OutOfMemory` where there is no room for them, and then nothing changed.
+    pub fn annotate_at_stage(&mut self, stage: u64, changes: &Changes) -> Result<(), OutOfMemory>
+        ensures ok { OnOk result (self.new ≡ with_pending_annotation stage changes.now self.old) }
+        ensures err { OnErr result (self.new ≡ self.old) }
+    {
+        let changes = changes.copy()?;
+        self.pending.push((stage, changes))?;
+        Ok(())
+    }
+
+    /// Whether the pending stage inserted it.
+    pub fn is_inserted_by(&self, stage: u64) -> bool
+        ensures { result ≡ is_inserted_by stage self.now }
+    {
+        match self.ins {
+            Stamp::Acked { .. } => false,
+            Stamp::Local { stage: own } => own == stage,
+        }
+    }
+
+    /// Whether the pending stage marks it as removed.
+    pub fn is_removed_by(&self, stage: u64) -> bool
+        ensures { result ≡ is_removed_by stage self.now }
+    {
+        self.removal_stage.is_some_and(|own| own == stage)
+    }
+
+    /// Whether the pending stage has changes of it.
+    pub fn is_annotated_by(&self, stage: u64) -> bool
+        ensures { result ≡ is_annotated_by stage self.now }
+    {
+        self.pending.iter().any(|(own, _)| *own == stage)
+    }
+
+    /// Whether a removal of it is sequenced.
+    pub fn is_removed(&self) -> bool
+        ensures { result ≡ list_any is_acked self.now.dels }
+    {
+        has_any_sequenced(self.dels.as_slice())
+    }
+
+    /// Takes its pending removal and its pending changes away.
+    pub fn forget_pending(&mut self)
+        ensures { self.new ≡ without_pending self.old }
+    {
+        self.removal_stage = None;
+        self.pending.clear();
+    }
+
+    /// Takes what is pending on it away, if a removal of it is sequenced.
+    pub fn carry(&mut self)
+        ensures { self.new ≡ carried_element self.old }
+    {
+        if self.is_removed() {
+            self.forget_pending();
+        }
+    }
+
+    /// Makes what the pending stage did with it sequenced, under number `seq` by connection `conn`, where
+    /// `made` elements were sequenced in its list before.
+    ///
+    /// Answers `OutOfMemory` where there is no room for that or its number would pass 2^64 - 1, and then
+    /// some of it may be done.
+    pub fn acknowledge(
+        &mut self,
+        stage: u64,
+        made: u64,
+        seq: u64,
+        conn: u32,
+    ) -> Result<(), OutOfMemory>
+        ensures { OnOk result (self.new ≡ acked_element stage made seq conn self.old) }
+    {
+        self.acknowledge_removal(stage, seq, conn)?;
+        self.acknowledge_changes(stage)?;
+        self.acknowledge_insertion(stage, made, seq, conn)
+    }
+
+    /// Makes its pending removal sequenced, if it is the stage's.
+    ///
+    /// Answers `OutOfMemory` where there is no room for it, and then nothing changed.
+    fn acknowledge_removal(&mut self, stage: u64, seq: u64, conn: u32) -> Result<(), OutOfMemory>
+        ensures ok { OnOk result (self.new ≡ record self.old {
+          dels = self.old.dels ++ acked_removal stage seq conn self.old.removal_stage;
+          removal_stage = remaining_removal stage self.old.removal_stage;
+        }) }
+        ensures err { OnErr result (self.new ≡ self.old) }
+    {
+        if self.removal_stage == Some(stage) {
+            self.dels.push(Stamp::Acked { seq, conn })?;
+            self.removal_stage = None;
+        }
+        Ok(())
+    }
+
+    /// Makes the stage's pending changes of its acknowledged properties.
+    ///
+    /// Answers `OutOfMemory` where there is no room for what they make, and then nothing changed.
+    fn acknowledge_changes(&mut self, stage: u64) -> Result<(), OutOfMemory>
+        ensures ok { OnOk result (self.new ≡ record self.old {
+          props = acked_props stage self.old.props self.old.pending;
+          pending = filter (λ p. not (nat_eq p.0 stage)) self.old.pending;
+        }) }
+        ensures err { OnErr result (self.new ≡ self.old) }
+    {
+        self.props = self.acked_props(stage)?;
+        self.forget_changes(stage);
+        Ok(())
+    }
+
+    /// Takes the stage's pending changes away.
+    fn forget_changes(&mut self, stage: u64)
+        ensures { self.new ≡ record self.old { pending = filter (λ p. not (nat_eq p.0 stage)) self.old.pending } }
+    {
+        self.pending.retain(|(own, _)| *own != stage);
+    }
+
+    /// Makes its insertion sequenced, if it is the stage's.
+    ///
+    /// Answers `OutOfMemory` where its number would pass 2^64 - 1, and then nothing changed.
+    fn acknowledge_insertion(
+        &mut self,
+        stage: u64,
+        made: u64,
+        seq: u64,
+        conn: u32,
+    ) -> Result<(), OutOfMemory>
+        ensures ok { OnOk result (self.new ≡ record self.old {
+          nth = cond (is_of_stage stage self.old.ins) (made + self.old.nth) self.old.nth;
+          ins = acked_stamp stage seq conn self.old.ins;
+          by = cond (is_of_stage stage self.old.ins) (author seq conn self.old.content) self.old.by;
+        }) }
+        ensures err { OnErr result (self.new ≡ self.old) }
+    {
+        if self.is_inserted_by(stage) {
+            self.nth = made.checked_add(self.nth).ok_or(OutOfMemory)?;
+            self.by = author(seq, conn, self.content);
+            self.ins = Stamp::Acked { seq, conn };
+        }
+        Ok(())
+    }
+
+    /// Its acknowledged properties after the pending changes of the stage.
+    ///
+    /// Answers `OutOfMemory` where there is no room for them.
+    fn acked_props(&self, stage: u64) -> Result<Props, OutOfMemory>
+        ensures { IfOk result (λ props. props ≡ acked_props stage self.now.props self.now.pending) }
+    {
+        let mut props = self.props.copy()?;
+        for (own, changes) in &self.pending {
+            if *own == stage {
+                props = props.changed(changes)?;
+            }
+        }
+        Ok(props)
+    }
+
+    /// An equal element.
+    ///
+    /// Answers `OutOfMemory` where there is no room for it.
+    pub fn copy(&self) -> Result<PlainElement, OutOfMemory>
+        ensures { IfOk result (λ copy. copy ≡ self.now) }
+    {
+        let mut pending = Vec::new(*self.pending.allocator());
+        for (stage, changes) in &self.pending {
+            pending.push((*stage, changes.copy()?))?;
+        }
+        Ok(PlainElement {
+            nth: self.nth,
+            content: self.content,
+            ins: self.ins,
+            dels: self.dels.copy()?,
+            removal_stage: self.removal_stage,
+            by: self.by,
+            props: self.props.copy()?,
+            pending,
+        })
+    }
+}
+
+/// Whose message made an element: known for the text, not kept for rows and columns.
+fn author(seq: u64, conn: u32, content: Content) -> Option<Stamp>
+    ensures { result ≡ author seq conn (content_of content) }
+{
+    match content {
+        Content::Character(_) | Content::Marker(_) => Some(Stamp::Acked { seq, conn }),
+        Content::Unit => None,
+    }
+}

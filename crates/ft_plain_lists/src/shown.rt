@@ -1,0 +1,165 @@
+//! What is shown of lists of elements.
+
+ghost use Rattle.std.specs.Prelude.{◌≡◌, ◌+◌, ◌<◌, ◌^◌, ◌++◌, [], ◌∷◌, IfOk, OnOk, chars, reverse, string_bytes};
+ghost use Rattle.ft_msg.specs.Content.{content_characters, content_markers, extended_property_runs, markers_from, property_runs_from, stage_view, text_characters};
+ghost use Rattle.ft_plain_lists.specs.Contents.{content_of};
+ghost use Rattle.ft_plain_lists.specs.PropertyRuns.{all_shown_props, runs_before};
+
+use crate::elements::{Content, PlainElement};
+use ft_base::{OutOfMemory, Text};
+use ft_msg::{Run, Runs, Spot, Spots};
+use ft_props::Props;
+use std::alloc::Global;
+
+/// The characters of the elements that a client sees at its pending stage.
+///
+/// Answers `OutOfMemory` where there is no room for them.
+pub fn shown_text(alloc: Global, items: &[PlainElement], stage: u64) -> Result<Text, OutOfMemory>
+    ensures { IfOk result (λ text. text ≡ text_characters (stage_view stage items.now)) }
+{
+    let mut text = String::new(alloc);
+    for e in items {
+        if e.is_seen_at(stage) {
+            push_character(&mut text, e.content())?;
+        }
+    }
+    Text::new(alloc, text.as_str())
+}
+
+/// Adds the character to the text, if the content is one.
+///
+/// Answers `OutOfMemory` where there is no room for it.
+pub fn push_character(text: &mut String, content: Content) -> Result<(), OutOfMemory>
+    ensures { OnOk result (chars (string_bytes text.new) ≡ chars (string_bytes text.old) ++ content_characters (content_of content)) }
+{
+    if let Content::Character(c) = content {
+        text.push(c)?;
+    }
+    Ok(())
+}
+
+/// The markers among the elements that a client sees at its pending stage, with their places there.
+///
+/// Answers `OutOfMemory` where there is no room for them.
+pub fn shown_markers(
+    alloc: Global,
+    items: &[PlainElement],
+    stage: u64,
+) -> Result<Spots, OutOfMemory>
+    ensures { IfOk result (λ markers. markers ≡ markers_from 0 (stage_view stage items.now)) }
+{
+    let mut markers = Spots::new(alloc);
+    let mut place: u64 = 0;
+    for e in items {
+        if e.is_seen_at(stage) {
+            push_marker(&mut markers, place, e.content())?;
+            place += 1;
+        }
+    }
+    Ok(markers)
+}
+
+/// Adds the marker with its place, if the content is one.
+///
+/// Answers `OutOfMemory` where there is no room for it.
+fn push_marker(markers: &mut Spots, pos: u64, content: Content) -> Result<(), OutOfMemory>
+    ensures { OnOk result (markers.new ≡ markers.old ++ content_markers pos (content_of content)) }
+{
+    if let Content::Marker(ref_type) = content {
+        markers.push(Spot { pos, ref_type })?;
+    }
+    Ok(())
+}
+
+/// The runs of equal properties that aren't empty, among the elements that a client sees at its
+/// pending stage.
+///
+/// Answers `OutOfMemory` where there is no room for them.
+pub fn shown_runs(alloc: Global, items: &[PlainElement], stage: u64) -> Result<Runs, OutOfMemory>
+    ensures { IfOk result (λ runs. runs ≡ property_runs_from 0 (stage_view stage items.now)) }
+{
+    let props = shown_props(alloc, items, stage)?;
+    let backwards = backward_runs(alloc, props)?;
+    turned(alloc, backwards)
+}
+
+/// The properties of each element that a client sees at its pending stage.
+///
+/// Answers `OutOfMemory` where there is no room for them.
+fn shown_props(alloc: Global, items: &[PlainElement], stage: u64) -> Result<Vec<Props>, OutOfMemory>
+    ensures { IfOk result (λ props. props.items ≡ all_shown_props (stage_view stage items.now)) }
+{
+    let mut props = Vec::new(alloc);
+    for e in items {
+        if e.is_seen_at(stage) {
+            props.push(e.shown_props()?)?;
+        }
+    }
+    Ok(props)
+}
+
+/// The runs of these properties, from the last one to the first.
+///
+/// Answers `OutOfMemory` where there is no room for them.
+fn backward_runs(alloc: Global, mut props: Vec<Props>) -> Result<Vec<Run>, OutOfMemory>
+    ensures { IfOk result (λ runs. reverse runs.items ≡ runs_before 0 props.items []) }
+{
+    let mut runs = Vec::new(alloc);
+    while let Some(last) = props.pop() {
+        extend_runs(&mut runs, props.len() as u64, last)?;
+    }
+    Ok(runs)
+}
+
+/// Puts the element with these properties before the runs, which stand from the last one to the first.
+///
+/// Answers `OutOfMemory` where there is no room for one more run.
+fn extend_runs(runs: &mut Vec<Run>, place: u64, props: Props) -> Result<(), OutOfMemory>
+    requires { place + 1 < 2 ^ 64 }
+    ensures { OnOk result (reverse runs.new.items ≡ extended_property_runs place props (reverse runs.old.items)) }
+{
+    if props.is_empty() {
+        return Ok(());
+    }
+    let Some(first) = runs.pop() else {
+        return push_run(runs, place, props);
+    };
+    if first.start == place + 1 && first.props.same(&props) {
+        runs.push(Run {
+            start: place,
+            end: first.end,
+            props: first.props,
+        })?;
+        return Ok(());
+    }
+    runs.push(first)?;
+    push_run(runs, place, props)
+}
+
+/// Adds a run of the one element at this place.
+///
+/// Answers `OutOfMemory` where there is no room for it.
+fn push_run(runs: &mut Vec<Run>, place: u64, props: Props) -> Result<(), OutOfMemory>
+    requires { place + 1 < 2 ^ 64 }
+    ensures { OnOk result (runs.new.items ≡ runs.old.items ++ record { start = place; end = place + 1; props = props } ∷ []) }
+{
+    runs.push(Run {
+        start: place,
+        end: place + 1,
+        props,
+    })?;
+    Ok(())
+}
+
+/// The runs the other way round.
+///
+/// Answers `OutOfMemory` where there is no room for them.
+fn turned(alloc: Global, mut backwards: Vec<Run>) -> Result<Runs, OutOfMemory>
+    ensures { IfOk result (λ runs. runs ≡ reverse backwards.items) }
+{
+    let mut runs = Runs::new(alloc);
+    while let Some(run) = backwards.pop() {
+        runs.push(run)?;
+    }
+    Ok(runs)
+}

@@ -1,0 +1,333 @@
+//! Steps on leaves in blocks that keep the references on them right, beside the lists of what each pending stage
+//! touched.
+
+ghost use Rattle.std.specs.Prelude.{[], ◌≡◌, ◌≢◌, ℕ, ◌+◌, ◌<◌, ◌^◌, ◌≤◌, IfOk, IfSome, IsSomeAnd, IsTrue, None, OnOk, Some, false, length, option_map, true};
+ghost use Rattle.ft_block.specs.Leaves.{IsLeafIn, IsPlaceIn, change_leaf, join_leaf, length_by, move_leaf, put_leaf, split_leaf, times_leaf, value_after, value_at, without_leaf};
+ghost use Rattle.ft_tree_leaves.specs.BlockChanges.{MayChange, changed_leaf};
+ghost use Rattle.ft_tree_leaves.specs.Edits.{ChangesReference, IsFreeOf, closed_by, moved_by, up_to_place, with_place};
+ghost use Rattle.ft_tree_leaves.specs.LeafLists.{elements};
+ghost use Rattle.ft_tree_leaves.specs.Places.{shifted_place};
+ghost use Rattle.ft_tree_leaves.specs.References.{ChangesReferences, IsReferenceIn, KeepsReferences, place_of, reference_at, slid_reference};
+ghost use Rattle.ft_tree_blocks.specs.Anchors.{references_on};
+ghost use Rattle.ft_tree_blocks.specs.LeafPlaces.{IsOnLeaf, place_on};
+ghost use Rattle.ft_tree_blocks.specs.Touched.{Tracks};
+ghost use Rattle.ft_tree_blocks.specs.Unsettled.{IsSoundOn};
+
+use crate::leaf_refs::LeafRefs;
+use crate::settling::settled_on;
+use crate::slides::slide_leaves;
+use crate::stage_nodes::StageNodes;
+use crate::tracked::{change_in, insert_in, join_in, move_in, set_stamps_in, split_in, take_in};
+use ft_arena::NodeId;
+use ft_base::{Element, OutOfMemory};
+use ft_block::Blocks;
+use ft_refs::{Place, RefId};
+use ft_tree_leaves::leaves::Standing;
+use ft_tree_leaves::{Content, LeafChange, TreeLeaf};
+use std::collections::VecDeque;
+
+/// Puts a new leaf in, as `insert_in` does. References go with their elements.
+///
+/// Answers `OutOfMemory` where there is no room for it.
+pub(crate) fn insert_anchored<C: Content + Drop>(
+    blocks: &mut Blocks<TreeLeaf<C>>,
+    touched: &mut VecDeque<StageNodes>,
+    refs: &mut LeafRefs,
+    at: Option<NodeId>,
+    leaf: TreeLeaf<C>,
+) -> Result<NodeId, OutOfMemory>
+    requires usable { IsTrue blocks.old.usable }
+    requires tracks { Tracks blocks.old.leaves touched.old.items }
+    requires sound { IsSoundOn C.units blocks.old.leaves refs.old.anchors refs.old.unsettled.items }
+    requires place { IsPlaceIn blocks.old.leaves at }
+    requires fits { length_by (λ x. length (C.units x.content)) blocks.old.leaves + length (C.units leaf.content) < 2 ^ 64 }
+    requires settled { leaf.overlay.pending ≡ [] }
+    ensures ok { IfOk result (λ id. blocks.new.leaves ≡ put_leaf blocks.old.leaves at (id, leaf)) }
+    ensures fresh { IfOk result (λ id. times_leaf blocks.old.leaves id ≡ 0) }
+    ensures tracks { OnOk result (Tracks blocks.new.leaves touched.new.items) }
+    ensures refs { let i = length (elements C.units C.by (up_to_place blocks.old.leaves at)) in
+        OnOk result (ChangesReferences (with_place (shifted_place i (length (C.units leaf.content))))
+        (references_on C.units C.by blocks.old.leaves refs.old.anchors) (references_on C.units C.by blocks.new.leaves refs.new.anchors)) }
+    ensures sound { OnOk result (IsSoundOn C.units blocks.new.leaves refs.new.anchors refs.new.unsettled.items) }
+    ensures usable { OnOk result (blocks.new.usable ≡ true) }
+    ensures floor { blocks.new.floor ≡ blocks.old.floor }
+{
+    let _first = blocks.first();
+    let id = insert_in(blocks, touched, at, leaf)?;
+    refs.hold(id)?;
+    Ok(id)
+}
+
+/// Cuts a leaf in two, as `split_in` does. References stay on their elements.
+///
+/// Answers `OutOfMemory` where there is no room for the rear.
+pub(crate) fn split_anchored<C: Content>(
+    blocks: &mut Blocks<TreeLeaf<C>>,
+    touched: &mut VecDeque<StageNodes>,
+    refs: &mut LeafRefs,
+    leaf: NodeId,
+    at: u64,
+) -> Result<NodeId, OutOfMemory>
+    requires usable { IsTrue blocks.old.usable }
+    requires tracks { Tracks blocks.old.leaves touched.old.items }
+    requires sound { IsSoundOn C.units blocks.old.leaves refs.old.anchors refs.old.unsettled.items }
+    requires low { 1 ≤ at }
+    requires high { IsSomeAnd (value_at blocks.old.leaves leaf) (λ v. at < length (C.units v.content)) }
+    ensures ok { IfOk result (λ id. blocks.new.leaves
+        ≡ split_leaf (λ v. record v { content = C.front v.content at }) (λ v. record v { content = C.rear v.content at }) blocks.old.leaves leaf id) }
+    ensures fresh { IfOk result (λ id. times_leaf blocks.old.leaves id ≡ 0) }
+    ensures tracks { OnOk result (Tracks blocks.new.leaves touched.new.items) }
+    ensures refs { OnOk result
+        (KeepsReferences (references_on C.units C.by blocks.old.leaves refs.old.anchors)
+        (references_on C.units C.by blocks.new.leaves refs.new.anchors)) }
+    ensures sound { OnOk result (IsSoundOn C.units blocks.new.leaves refs.new.anchors refs.new.unsettled.items) }
+    ensures usable { OnOk result (blocks.new.usable ≡ true) }
+    ensures floor { blocks.new.floor ≡ blocks.old.floor }
+{
+    let _first = blocks.first();
+    let stands = blocks.leaf(leaf).stands(Standing::Unremoved);
+    let rear = split_in(blocks, touched, leaf, at)?;
+    refs.cut(leaf, at, rear, stands)?;
+    Ok(rear)
+}
+
+/// Replaces the stamps of a leaf, as `set_stamps_in` does. References stay on their elements; acknowledged ones
+/// may have to slide then.
+///
+/// Answers `OutOfMemory` where there is no room for it.
+pub(crate) fn set_stamps_anchored<C: Content>(
+    blocks: &mut Blocks<TreeLeaf<C>>,
+    touched: &mut VecDeque<StageNodes>,
+    refs: &mut LeafRefs,
+    id: NodeId,
+    e: Element,
+) -> Result<(), OutOfMemory>
+    requires usable { IsTrue blocks.old.usable }
+    requires tracks { Tracks blocks.old.leaves touched.old.items }
+    requires sound { IsSoundOn C.units blocks.old.leaves refs.old.anchors refs.old.unsettled.items }
+    requires live { IsLeafIn blocks.old.leaves id }
+    ensures ok { OnOk result (blocks.new.leaves ≡ change_leaf (λ v. record v { stamps = e }) blocks.old.leaves id) }
+    ensures tracks { OnOk result (Tracks blocks.new.leaves touched.new.items) }
+    ensures refs { OnOk result
+        (KeepsReferences (references_on C.units C.by blocks.old.leaves refs.old.anchors)
+        (references_on C.units C.by blocks.new.leaves refs.new.anchors)) }
+    ensures sound { OnOk result (IsSoundOn C.units blocks.new.leaves refs.new.anchors refs.new.unsettled.items) }
+    ensures usable { OnOk result (blocks.new.usable ≡ true) }
+    ensures floor { blocks.new.floor ≡ blocks.old.floor }
+{
+    let _first = blocks.first();
+    set_stamps_in(blocks, touched, id, e)?;
+    let stands = blocks.leaf(id).stands(Standing::Unremoved);
+    refs.unsettle(id, stands)
+}
+
+/// Joins the next leaf to a leaf, as `join_in` does. References stay on their elements.
+///
+/// Answers `OutOfMemory` where there is no room for both in one.
+pub(crate) fn join_anchored<C: Content + Drop>(
+    blocks: &mut Blocks<TreeLeaf<C>>,
+    touched: &mut VecDeque<StageNodes>,
+    refs: &mut LeafRefs,
+    id: NodeId,
+) -> Result<(), OutOfMemory>
+    requires usable { IsTrue blocks.old.usable }
+    requires tracks { Tracks blocks.old.leaves touched.old.items }
+    requires sound { IsSoundOn C.units blocks.old.leaves refs.old.anchors refs.old.unsettled.items }
+    requires can { IsSomeAnd (value_at blocks.old.leaves id) (λ v.
+        IsSomeAnd (value_after blocks.old.leaves id) (λ w. IsTrue (C.joins v.content w.content) × (v.stamps ≡ w.stamps))) }
+    ensures ok { OnOk result (blocks.new.leaves ≡ join_leaf (λ v w. record v { content = C.joined v.content w.content }) blocks.old.leaves id) }
+    ensures tracks { OnOk result (Tracks blocks.new.leaves touched.new.items) }
+    ensures refs { OnOk result
+        (KeepsReferences (references_on C.units C.by blocks.old.leaves refs.old.anchors)
+        (references_on C.units C.by blocks.new.leaves refs.new.anchors)) }
+    ensures sound { OnOk result (IsSoundOn C.units blocks.new.leaves refs.new.anchors refs.new.unsettled.items) }
+    ensures usable { OnOk result (blocks.new.usable ≡ true) }
+    ensures floor { blocks.new.floor ≡ blocks.old.floor }
+{
+    let _first = blocks.first();
+    let leaf = blocks.leaf(id);
+    let count = leaf.content.len();
+    let stands = leaf.stands(Standing::Unremoved);
+    let Some(next) = blocks.next(id) else {
+        unreachable!();
+    };
+    let _next = blocks.leaf(next);
+    join_in(blocks, touched, id)?;
+    refs.join(next, id, count, stands)
+}
+
+/// Makes a change of a leaf, as `change_in` does. References stay on their elements.
+///
+/// Answers `OutOfMemory` where there is no room for it.
+pub(crate) fn change_anchored<C: Content>(
+    blocks: &mut Blocks<TreeLeaf<C>>,
+    touched: &mut VecDeque<StageNodes>,
+    _refs: &LeafRefs,
+    id: NodeId,
+    c: &LeafChange,
+) -> Result<(), OutOfMemory>
+    requires usable { IsTrue blocks.old.usable }
+    requires tracks { Tracks blocks.old.leaves touched.old.items }
+    requires sound { IsSoundOn C.units blocks.old.leaves _refs.now.anchors _refs.now.unsettled.items }
+    requires can { IsSomeAnd (value_at blocks.old.leaves id) (λ v. MayChange c.now v.overlay) }
+    ensures ok { OnOk result (blocks.new.leaves ≡ change_leaf (λ v. changed_leaf C.stamped v c.now) blocks.old.leaves id) }
+    ensures tracks { OnOk result (Tracks blocks.new.leaves touched.new.items) }
+    ensures refs { OnOk result
+        (KeepsReferences (references_on C.units C.by blocks.old.leaves _refs.now.anchors)
+        (references_on C.units C.by blocks.new.leaves _refs.now.anchors)) }
+    ensures sound { OnOk result (IsSoundOn C.units blocks.new.leaves _refs.now.anchors _refs.now.unsettled.items) }
+    ensures usable { OnOk result (blocks.new.usable ≡ true) }
+    ensures floor { blocks.new.floor ≡ blocks.old.floor }
+{
+    let _first = blocks.first();
+    change_in(blocks, touched, id, c)
+}
+
+/// Takes a leaf out on which no reference is, as `take_in` does. References go with their elements.
+///
+/// Answers `OutOfMemory` where there is no room for what is kept.
+pub(crate) fn take_anchored<C: Content>(
+    blocks: &mut Blocks<TreeLeaf<C>>,
+    touched: &mut VecDeque<StageNodes>,
+    _refs: &LeafRefs,
+    id: NodeId,
+) -> Result<TreeLeaf<C>, OutOfMemory>
+    requires usable { IsTrue blocks.old.usable }
+    requires tracks { Tracks blocks.old.leaves touched.old.items }
+    requires sound { IsSoundOn C.units blocks.old.leaves _refs.now.anchors _refs.now.unsettled.items }
+    requires live { IsLeafIn blocks.old.leaves id }
+    requires free { IsFreeOf C.units C.by blocks.old.leaves id (references_on C.units C.by blocks.old.leaves _refs.now.anchors) }
+    ensures value { IfOk result (λ v. value_at blocks.old.leaves id ≡ Some v) }
+    ensures ok { OnOk result (blocks.new.leaves ≡ without_leaf blocks.old.leaves id) }
+    ensures tracks { OnOk result (Tracks blocks.new.leaves touched.new.items) }
+    ensures refs { OnOk result (ChangesReferences (with_place (closed_by C.units C.by blocks.old.leaves id))
+        (references_on C.units C.by blocks.old.leaves _refs.now.anchors) (references_on C.units C.by blocks.new.leaves _refs.now.anchors)) }
+    ensures sound { OnOk result (IsSoundOn C.units blocks.new.leaves _refs.now.anchors _refs.now.unsettled.items) }
+    ensures usable { OnOk result (blocks.new.usable ≡ true) }
+    ensures floor { blocks.new.floor ≡ blocks.old.floor }
+{
+    let _first = blocks.first();
+    take_in(blocks, touched, id)
+}
+
+/// Moves a leaf, as `move_in` does. References go with their elements.
+///
+/// Answers `OutOfMemory` where there is no room for what is kept.
+pub(crate) fn move_anchored<C: Content>(
+    blocks: &mut Blocks<TreeLeaf<C>>,
+    touched: &VecDeque<StageNodes>,
+    _refs: &LeafRefs,
+    id: NodeId,
+    at: Option<NodeId>,
+) -> Result<(), OutOfMemory>
+    requires usable { IsTrue blocks.old.usable }
+    requires tracks { Tracks blocks.old.leaves touched.now.items }
+    requires sound { IsSoundOn C.units blocks.old.leaves _refs.now.anchors _refs.now.unsettled.items }
+    requires live { IsLeafIn blocks.old.leaves id }
+    requires place { IsPlaceIn blocks.old.leaves at }
+    requires differ { at ≢ Some id }
+    ensures ok { OnOk result (blocks.new.leaves ≡ move_leaf blocks.old.leaves id at (value_at blocks.old.leaves id)) }
+    ensures tracks { OnOk result (Tracks blocks.new.leaves touched.now.items) }
+    ensures refs { OnOk result (ChangesReferences (with_place (moved_by C.units C.by blocks.old.leaves id at))
+        (references_on C.units C.by blocks.old.leaves _refs.now.anchors) (references_on C.units C.by blocks.new.leaves _refs.now.anchors)) }
+    ensures sound { OnOk result (IsSoundOn C.units blocks.new.leaves _refs.now.anchors _refs.now.unsettled.items) }
+    ensures usable { OnOk result (blocks.new.usable ≡ true) }
+    ensures floor { blocks.new.floor ≡ blocks.old.floor }
+{
+    let _first = blocks.first();
+    move_in(blocks, touched, id, at)
+}
+
+/// Puts a new pending reference on an element.
+///
+/// Answers `OutOfMemory` where there is no room for it.
+pub(crate) fn add_anchored<C: Content>(
+    blocks: &Blocks<TreeLeaf<C>>,
+    refs: &mut LeafRefs,
+    at: &Place,
+) -> Result<RefId, OutOfMemory>
+    requires usable { IsTrue blocks.now.usable }
+    requires sound { IsSoundOn C.units blocks.now.leaves refs.old.anchors refs.old.unsettled.items }
+    requires on { IsOnLeaf C.units blocks.now.leaves at.now }
+    ensures fresh { IfOk result (λ r. reference_at (references_on C.units C.by blocks.now.leaves refs.old.anchors) r ≡ None) }
+    ensures added { let leaves = blocks.now.leaves in
+        IfOk result (λ r. reference_at (references_on C.units C.by leaves refs.new.anchors) r
+        ≡ Some record { place = Some (place_on C.units C.by leaves at.now); acked = false }) }
+    ensures others { let leaves = blocks.now.leaves in
+        IfOk result (λ r. (x : ℕ) → x ≢ r → reference_at (references_on C.units C.by leaves refs.new.anchors) x
+        ≡ reference_at (references_on C.units C.by leaves refs.old.anchors) x) }
+    ensures sound { OnOk result (IsSoundOn C.units blocks.now.leaves refs.new.anchors refs.new.unsettled.items) }
+{
+    let _first = blocks.first();
+    let r = refs.anchors.add(at.owner, at.offset)?;
+    Ok(r)
+}
+
+/// Where a reference stands: None exactly where it is detached.
+pub(crate) fn place_anchored<C: Content>(
+    blocks: &Blocks<TreeLeaf<C>>,
+    refs: &LeafRefs,
+    r: RefId,
+) -> Option<Place>
+    requires usable { IsTrue blocks.now.usable }
+    requires sound { IsSoundOn C.units blocks.now.leaves refs.now.anchors refs.now.unsettled.items }
+    requires live { IsReferenceIn (references_on C.units C.by blocks.now.leaves refs.now.anchors) r }
+    ensures on { IfSome result (IsOnLeaf C.units blocks.now.leaves) }
+    ensures place { let leaves = blocks.now.leaves in
+        option_map (place_on C.units C.by leaves) result ≡ place_of (references_on C.units C.by leaves refs.now.anchors) r }
+{
+    let _first = blocks.first();
+    refs.anchors.place(r)
+}
+
+/// Makes a reference acknowledged, and slides it.
+pub(crate) fn settle_anchored<C: Content>(
+    blocks: &Blocks<TreeLeaf<C>>,
+    refs: &mut LeafRefs,
+    r: RefId,
+)
+    requires usable { IsTrue blocks.now.usable }
+    requires sound { IsSoundOn C.units blocks.now.leaves refs.old.anchors refs.old.unsettled.items }
+    requires live { IsReferenceIn (references_on C.units C.by blocks.now.leaves refs.old.anchors) r }
+    ensures refs { let leaves = blocks.now.leaves in
+        ChangesReference r (λ x. Some (slid_reference (elements C.units C.by leaves) (record x { acked = true })))
+        (references_on C.units C.by leaves refs.old.anchors) (references_on C.units C.by leaves refs.new.anchors) }
+    ensures sound { IsSoundOn C.units blocks.now.leaves refs.new.anchors refs.new.unsettled.items }
+{
+    let _first = blocks.first();
+    refs.anchors.acknowledge(r);
+    let Some(place) = refs.anchors.place(r) else {
+        return;
+    };
+    match settled_on(blocks, &place, Standing::Unremoved) {
+        Some(to) => refs.anchors.put(r, to.owner, to.offset),
+        None => refs.anchors.detach(r),
+    }
+}
+
+/// Ends a reference.
+pub(crate) fn drop_anchored<C: Content>(blocks: &Blocks<TreeLeaf<C>>, refs: &mut LeafRefs, r: RefId)
+    requires usable { IsTrue blocks.now.usable }
+    requires sound { IsSoundOn C.units blocks.now.leaves refs.old.anchors refs.old.unsettled.items }
+    requires live { IsReferenceIn (references_on C.units C.by blocks.now.leaves refs.old.anchors) r }
+    ensures refs { let leaves = blocks.now.leaves in
+        ChangesReference r (λ x. None) (references_on C.units C.by leaves refs.old.anchors) (references_on C.units C.by leaves refs.new.anchors) }
+    ensures sound { IsSoundOn C.units blocks.now.leaves refs.new.anchors refs.new.unsettled.items }
+{
+    let _first = blocks.first();
+    refs.anchors.release(r);
+}
+
+/// Lets all acknowledged references slide after sequenced removals, by going to those leaves on which they may
+/// have to.
+pub(crate) fn slide_anchored<C: Content>(blocks: &Blocks<TreeLeaf<C>>, refs: &mut LeafRefs)
+    requires usable { IsTrue blocks.now.usable }
+    requires sound { IsSoundOn C.units blocks.now.leaves refs.old.anchors refs.old.unsettled.items }
+    ensures refs { let leaves = blocks.now.leaves in
+        ChangesReferences (slid_reference (elements C.units C.by leaves))
+        (references_on C.units C.by leaves refs.old.anchors) (references_on C.units C.by leaves refs.new.anchors) }
+    ensures sound { IsSoundOn C.units blocks.now.leaves refs.new.anchors refs.new.unsettled.items }
+{
+    slide_leaves(blocks, &mut refs.anchors, refs.unsettled.as_slice());
+    refs.unsettled.clear();
+}

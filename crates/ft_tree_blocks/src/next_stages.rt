@@ -1,0 +1,118 @@
+//! Leaves in blocks: the next pending stage that removes, and the next of which a leaf has anything, by the lists of what each
+//! stage touched.
+
+ghost use Rattle.std.specs.Prelude.{◌≡◌, ◌&&◌, All, IsTrue, nat_lt};
+ghost use Rattle.std.specs.List.{list_any};
+ghost use Rattle.ft_block.specs.Leaves.{IsLeafIn};
+ghost use Rattle.ft_tree_leaves.specs.Edits.{next_pending_above, next_removal_above};
+ghost use Rattle.ft_tree_leaves.specs.LeafLists.{elements};
+ghost use Rattle.ft_tree_blocks.specs.Touched.{Tracks};
+ghost use Rattle.ft_tree_blocks.specs.Wanted.{IsLeastStage, has_wanted, is_wanted_at};
+
+use crate::acks::is_touched_by;
+use crate::stage_nodes::StageNodes;
+use crate::touched::place_of;
+use ft_arena::NodeId;
+use ft_block::Blocks;
+use ft_tree_leaves::stamps::has_stage;
+use ft_tree_leaves::{Content, TreeLeaf};
+use std::collections::VecDeque;
+
+/// What a leaf is to have of a pending stage.
+#[derive(Clone, Copy, Drop)]
+pub enum Wanted {
+    /// A removal mark.
+    Removal,
+    /// Its insertion, a removal mark or changes.
+    Anything,
+}
+
+/// Whether the leaf has that of the stage.
+fn has_wanted<C: Content>(leaf: &TreeLeaf<C>, stage: u64, wanted: Wanted) -> bool
+    ensures { result ≡ has_wanted wanted stage leaf.now }
+{
+    match wanted {
+        Wanted::Removal => has_stage(leaf.stamps.dels.as_slice(), stage),
+        Wanted::Anything => is_touched_by(leaf, stage),
+    }
+}
+
+/// Whether the leaf of one of these nodes has that of the stage.
+fn is_any_wanted<C: Content>(
+    blocks: &Blocks<TreeLeaf<C>>,
+    nodes: &[NodeId],
+    stage: u64,
+    wanted: Wanted,
+) -> bool
+    requires usable { IsTrue blocks.now.usable }
+    requires live { All (λ id. IsLeafIn blocks.now.leaves id) nodes.now }
+    ensures { result ≡ list_any (is_wanted_at wanted blocks.now.leaves stage) nodes.now }
+{
+    for id in nodes {
+        if has_wanted(blocks.leaf(*id), stage, wanted) {
+            return true;
+        }
+    }
+    false
+}
+
+/// Whether the list is of a higher stage, and one of its leaves has that of it.
+fn is_wanted_above<C: Content>(
+    blocks: &Blocks<TreeLeaf<C>>,
+    list: &StageNodes,
+    stage: u64,
+    wanted: Wanted,
+) -> bool
+    requires usable { IsTrue blocks.now.usable }
+    requires live { All (λ id. IsLeafIn blocks.now.leaves id) list.now.nodes }
+    ensures { result ≡ (nat_lt stage list.now.stage && list_any (is_wanted_at wanted blocks.now.leaves list.now.stage) list.now.nodes) }
+{
+    stage < list.stage() && is_any_wanted(blocks, list.nodes(), list.stage(), wanted)
+}
+
+/// The least pending stage above this one of which a leaf has that.
+fn next_wanted_in<C: Content>(
+    blocks: &Blocks<TreeLeaf<C>>,
+    touched: &VecDeque<StageNodes>,
+    stage: u64,
+    wanted: Wanted,
+) -> Option<u64>
+    requires usable { IsTrue blocks.now.usable }
+    requires tracks { Tracks blocks.now.leaves touched.now.items }
+    ensures { IsLeastStage stage (is_wanted_at wanted blocks.now.leaves) result }
+{
+    for list in touched.range(place_of(touched, stage)..) {
+        if is_wanted_above(blocks, list, stage, wanted) {
+            return Some(list.stage());
+        }
+    }
+    None
+}
+
+/// The least pending stage above this one that marks an element as removed.
+pub(crate) fn next_removal_in<C: Content>(
+    blocks: &Blocks<TreeLeaf<C>>,
+    touched: &VecDeque<StageNodes>,
+    stage: u64,
+) -> Option<u64>
+    requires usable { IsTrue blocks.now.usable }
+    requires tracks { Tracks blocks.now.leaves touched.now.items }
+    ensures { result ≡ next_removal_above stage (elements C.units C.by blocks.now.leaves) }
+{
+    let _first = blocks.first();
+    next_wanted_in(blocks, touched, stage, Wanted::Removal)
+}
+
+/// The least pending stage above this one of which a leaf has something.
+pub(crate) fn next_pending_in<C: Content>(
+    blocks: &Blocks<TreeLeaf<C>>,
+    touched: &VecDeque<StageNodes>,
+    stage: u64,
+) -> Option<u64>
+    requires usable { IsTrue blocks.now.usable }
+    requires tracks { Tracks blocks.now.leaves touched.now.items }
+    ensures { result ≡ next_pending_above stage blocks.now.leaves }
+{
+    let _first = blocks.first();
+    next_wanted_in(blocks, touched, stage, Wanted::Anything)
+}

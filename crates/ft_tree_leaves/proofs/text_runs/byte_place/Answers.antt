@@ -1,0 +1,24 @@
+use Rattle.std.proofs.Common.{◌≡◌, ◌∙◌, ◌-◌, length, chars, drop, sym, subst, arith, encode_utf8_all, refl}
+use Rattle.std.proofs.lemmas.Str.{encodes-chars}
+use Rattle.std.specs.Str.Iter.{chars_rest}
+use Rattle.ft_tree_leaves.proofs.TextCuts.{cut_behind, left_after_next, left_within}
+use Rattle.ft_tree_leaves.proofs.text_runs.byte_place.Goals as goal
+
+pub loop-init : goal.loop-init
+loop-init c = encodes-chars c.args.text.now c.utf8.text ∙ sym c.chars-rest.ensures.rest
+
+pub loop-preserved : goal.loop-preserved
+loop-preserved c =
+    let bs = c.args.text.now in
+    left_after_next _ (chars bs) c.loop.counter (chars_rest c.loop.rest) (chars_rest c.next.new.self) c.next.result (omega arith) c.loop.invariant c.next.ensures.steps.0
+
+pub overflow_sub-result : goal.overflow_sub-result
+overflow_sub-result c = left_within c.args.text.now c.as_str.result.now c.loop.counter c.utf8.text (c.loop.invariant ∙ sym c.as_str.ensures)
+
+pub returns : goal.returns
+returns c =
+    let bs = c.args.text.now in
+    let e : c.loop.counter ≡ c.args.at = omega arith in
+    let behind = subst (λ n. encode_utf8_all (drop n (chars bs)) ≡ c.as_str.result.now) e (c.loop.invariant ∙ sym c.as_str.ensures) in
+    let cut = cut_behind bs c.as_str.result.now c.args.at (length bs - length c.as_str.result.now) c.utf8.text behind refl in
+    record { boundary = cut.boundary; front = cut.front; rear = cut.rear }

@@ -1,0 +1,30 @@
+use Rattle.std.proofs.Common.{sym, ◌∙◌}
+use Rattle.ft_block.specs.declared.leaves.LenView.TheVariants.{At}
+use Rattle.ft_tree_steps.proofs.FoundPlaces.{found_at, found_inside, len_elements}
+use Rattle.ft_tree_steps.proofs.places.find_seen_at.Goals as goal
+
+pub returns-in-Ok : goal.returns-in-Ok
+returns-in-Ok g c =
+    let us = g.C.Content.units in
+    let by = g.C.Content.by in
+    let xs = c.args.blocks.now.leaves in
+    let at = found_at us by (At c.args.at) xs c.args.p c.in-Ok.found c.first-first.ensures.once c.in-Ok.ensures.found in
+    record {
+      held = at.held;
+      place = sym at.place;
+      inside = found_inside us by (At c.args.at) xs c.args.p c.in-Ok.found c.in-Ok.ensures.found;
+      length = tt;
+      beyond = tt;
+      cost = c.in-Ok.ensures.cost;
+    }
+
+pub returns-in-Err : goal.returns-in-Err
+returns-in-Err g c =
+    record {
+      held = tt;
+      place = tt;
+      inside = tt;
+      length = c.in-Err.ensures.length ∙ sym (len_elements g.C.Content.units g.C.Content.by (At c.args.at) c.args.blocks.now.leaves);
+      beyond = c.in-Err.ensures.beyond;
+      cost = c.in-Err.ensures.cost;
+    }

@@ -1,8 +1,0 @@
-use Rattle.ft_worlds.proofs.NameLaws.{connections-have-new_names, guests-have-new_names}
-use Rattle.ft_worlds.proofs.worlds.connections_have_new_names.Goals as goal
-
-pub returns-clause-clients : goal.returns-clause-clients
-returns-clause-clients c = connections-have-new_names
-
-pub returns-clause-guests : goal.returns-clause-guests
-returns-clause-guests c = guests-have-new_names

@@ -1,5 +1,0 @@
-use Rattle.ft_worlds.proofs.FormedLaws.{entries-are-well_formed}
-use Rattle.ft_worlds.proofs.worlds.entries_are_well_formed.Goals as goal
-
-pub returns : goal.returns
-returns c = entries-are-well_formed

@@ -1,5 +1,0 @@
-use Rattle.ft_worlds.proofs.WorldLaws.{events-have-their_refusals}
-use Rattle.ft_worlds.proofs.worlds.events_have_their_refusals.Goals as goal
-
-pub returns : goal.returns
-returns c = events-have-their_refusals

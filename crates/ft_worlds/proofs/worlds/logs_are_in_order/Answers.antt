@@ -1,5 +1,0 @@
-use Rattle.ft_worlds.proofs.WorldLaws.{log-in-order}
-use Rattle.ft_worlds.proofs.worlds.logs_are_in_order.Goals as goal
-
-pub returns : goal.returns
-returns c = log-in-order

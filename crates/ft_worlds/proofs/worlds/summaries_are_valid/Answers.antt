@@ -1,5 +1,0 @@
-use Rattle.ft_worlds.proofs.ValidLaws.{summaries-are-valid}
-use Rattle.ft_worlds.proofs.worlds.summaries_are_valid.Goals as goal
-
-pub returns : goal.returns
-returns c = summaries-are-valid

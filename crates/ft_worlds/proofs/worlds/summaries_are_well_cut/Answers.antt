@@ -1,5 +1,0 @@
-use Rattle.ft_worlds.proofs.ValidLaws.{summaries-are-well_cut}
-use Rattle.ft_worlds.proofs.worlds.summaries_are_well_cut.Goals as goal
-
-pub returns : goal.returns
-returns c = summaries-are-well_cut

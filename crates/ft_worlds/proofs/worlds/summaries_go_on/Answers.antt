@@ -1,5 +1,0 @@
-use Rattle.ft_worlds.proofs.SummaryLaws.{summaries-go-on}
-use Rattle.ft_worlds.proofs.worlds.summaries_go_on.Goals as goal
-
-pub returns : goal.returns
-returns c = summaries-go-on

@@ -1,8 +1,0 @@
-use Rattle.ft_worlds.proofs.WorldLaws.{clients-show-the_same, views-are-applied}
-use Rattle.ft_worlds.proofs.worlds.views_are_applied.Goals as goal
-
-pub returns-clause-applied : goal.returns-clause-applied
-returns-clause-applied c = views-are-applied
-
-pub returns-clause-same : goal.returns-clause-same
-returns-clause-same c = clients-show-the_same
