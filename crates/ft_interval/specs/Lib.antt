@@ -1,3 +1,4 @@
+pub mod FaultTexts
 pub mod Intervals
 pub mod Ends
 pub mod Shown

@@ -1,6 +1,8 @@
 //! Why a local edit of an interval is refused.
 
 use ft_base::OutOfMemory;
+use std::error::Error;
+use std::fmt;
 
 /// Why a local edit of an interval is refused.
 #[derive(Clone, Copy, Debug, PartialEq, Eq)]
@@ -25,3 +27,21 @@ impl From<OutOfMemory> for IntervalFault {
         IntervalFault::OutOfMemory
     }
 }
+
+impl fmt::Display for IntervalFault {
+    ghost use Rattle.std.specs.Prelude.{Some};
+    ghost use Rattle.ft_interval.specs.FaultTexts.{interval_fault_text};
+
+    ghost output = { λ fault. Some (interval_fault_text fault) };
+
+    fn fmt<W: fmt::Write>(&self, f: &mut fmt::Formatter<W>) -> fmt::Result {
+        match *self {
+            IntervalFault::IdInUse => write!(f, "IdInUse"),
+            IntervalFault::NoSuchInterval => write!(f, "NoSuchInterval"),
+            IntervalFault::OutOfRange { length } => write!(f, "OutOfRange length {length}"),
+            IntervalFault::OutOfMemory => write!(f, "OutOfMemory"),
+        }
+    }
+}
+
+impl Error for IntervalFault {}

@@ -5,5 +5,6 @@ pub use Rattle.ft_tree_leaves.specs.References
 pub use Rattle.ft_tree_leaves.specs.Edits
 pub use Rattle.ft_tree_leaves.specs.TextRuns
 pub use Rattle.ft_tree_leaves.specs.TextLeaves
+pub mod FaultTexts
 pub mod State
 pub mod Inside
