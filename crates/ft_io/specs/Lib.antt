@@ -1,3 +1,4 @@
+pub mod FaultTexts
 pub mod Intake
 pub mod LineParts
 pub mod Lines

@@ -16,7 +16,7 @@ use memchr::memchr;
 use std::alloc::Global;
 
 /// The greatest length of an input.
-const INPUT_LIMIT: usize = 16_777_216;
+pub const INPUT_LIMIT: usize = 16_777_216;
 
 /// What a piece has of a line.
 #[derive(Drop)]

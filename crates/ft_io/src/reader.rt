@@ -4,11 +4,13 @@ ghost use Rattle.std.specs.Prelude.{◌≡◌, IfOk, IfSome, IsTrue, None, Ok, E
 ghost use Rattle.ft_io.specs.Reader.{Call, new_reader};
 
 use crate::byte_lists::Bytes;
-use crate::intake::Intake;
+use crate::intake::{INPUT_LIMIT, Intake};
 use crate::pieces::Piece;
 use crate::streams::{Failed, Source};
 use ft_base::OutOfMemory;
 use std::alloc::Global;
+use std::error::Error;
+use std::fmt;
 use std::marker::Model;
 
 /// What a reader of lines answers.
@@ -32,6 +34,23 @@ pub enum LineFault {
     /// No memory was found.
     OutOfMemory,
 }
+
+impl fmt::Display for LineFault {
+    ghost use Rattle.std.specs.Prelude.{Some};
+    ghost use Rattle.ft_io.specs.FaultTexts.{line_fault_text};
+
+    ghost output = { λ fault. Some (line_fault_text fault) };
+
+    fn fmt<W: fmt::Write>(&self, f: &mut fmt::Formatter<W>) -> fmt::Result {
+        match *self {
+            LineFault::Read => write!(f, "Read"),
+            LineFault::InputLimit => write!(f, "InputLimit {INPUT_LIMIT}"),
+            LineFault::OutOfMemory => write!(f, "OutOfMemory"),
+        }
+    }
+}
+
+impl Error for LineFault {}
 
 impl From<Failed> for LineFault {
     ghost use Rattle.ft_io.specs.declared.reader.LineFault.TheVariants.{Read};

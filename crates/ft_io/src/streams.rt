@@ -4,9 +4,24 @@ ghost use Rattle.std.specs.Prelude.{◌≡◌, ℕ, ◌<◌, ◌≤◌, List, Op
 ghost use Rattle.std.specs.Io.KnownBytes.{Appends, ReadConsumes, WriteAppends};
 ghost use Rattle.ft_io.specs.Streams.{HasCause, Rose};
 
+use std::error::Error;
+use std::fmt;
+
 /// A read or a write failed. Why is not told; that it did is counted.
 #[derive(Clone, Copy, Debug, PartialEq, Eq)]
 pub struct Failed;
+
+impl fmt::Display for Failed {
+    ghost use Rattle.std.specs.Prelude.{Some, codes};
+
+    ghost output = { λ _. Some (codes "Failed") };
+
+    fn fmt<W: fmt::Write>(&self, f: &mut fmt::Formatter<W>) -> fmt::Result {
+        write!(f, "Failed")
+    }
+}
+
+impl Error for Failed {}
 
 /// Where bytes come from.
 pub trait Source {
