@@ -30,6 +30,11 @@ abbrev pub refusal_of_cause : Cause → Refusal
 refusal_of_cause cause.CountLimit = CountLimit
 refusal_of_cause fault = Malformed fault
 
+-- the refusal of a text that a call couldn't read; want of memory is no fault of the text
+abbrev pub refusal_of_reading : Cause → Refusal
+refusal_of_reading cause.OutOfMemory = OutOfMemory
+refusal_of_reading fault = refusal_of_cause fault
+
 -- the refusal of an edit
 abbrev pub refusal_of_edit : EditFault → Refusal
 refusal_of_edit edit.OutOfMemory = OutOfMemory
@@ -87,6 +92,16 @@ nack_text (nack.ClientSeq expected got) = two_numbers (codes "ClientSeq expected
 nack_text (nack.RefBelow min got) = two_numbers (codes "RefBelow min") min got
 nack_text (nack.RefBack last got) = two_numbers (codes "RefBack last") last got
 nack_text (nack.RefAhead seq got) = two_numbers (codes "RefAhead seq") seq got
+
+-- why a connection can't leave
+abbrev pub leave_fault_text : LeaveFault → List ℕ
+leave_fault_text leaving.NotJoined = codes "NotJoined"
+leave_fault_text leaving.OutOfMemory = codes "OutOfMemory"
+
+-- why a draft isn't sequenced
+abbrev pub submit_fault_text : SubmitFault → List ℕ
+submit_fault_text (submitting.Nack nack) = nack_text nack
+submit_fault_text submitting.OutOfMemory = codes "OutOfMemory"
 
 -- the number of a refusal; want of memory, now or earlier, ends a run and has none
 abbrev pub refusal_number : Refusal → ℕ

@@ -3,7 +3,7 @@
 use crate::nacks::{LeaveFault, SubmitFault};
 use crate::refusals::Refusal;
 use ft_base::OutOfMemory;
-use ft_msg::{EditFault, SummaryFault, ViewFault};
+use ft_msg::{Cause, EditFault, LinkFault, SummaryFault, ViewFault};
 
 impl From<OutOfMemory> for Refusal {
     ghost use Rattle.std.specs.Prelude.{◌≡◌};
@@ -13,6 +13,20 @@ impl From<OutOfMemory> for Refusal {
 
     fn from(_: OutOfMemory) -> Refusal {
         Refusal::OutOfMemory
+    }
+}
+
+impl From<Cause> for Refusal {
+    ghost use Rattle.std.specs.Prelude.{◌≡◌};
+    ghost use Rattle.ft_seqr.specs.Refusals.{refusal_of_reading};
+
+    ghost from_gives = { λ cause refusal. refusal ≡ refusal_of_reading cause };
+
+    fn from(cause: Cause) -> Refusal {
+        match cause {
+            Cause::OutOfMemory => Refusal::OutOfMemory,
+            cause => Refusal::of_cause(cause),
+        }
     }
 }
 
@@ -29,6 +43,22 @@ impl From<EditFault> for Refusal {
             EditFault::IdInUse => Refusal::IdInUse,
             EditFault::NoSuchInterval => Refusal::NoSuchInterval,
             EditFault::OutOfRange { length } => Refusal::OutOfRange { length },
+        }
+    }
+}
+
+impl From<LinkFault> for Refusal {
+    ghost use Rattle.std.specs.Prelude.{◌≡◌};
+    ghost use Rattle.ft_seqr.specs.Refusals.{refusal_of_link};
+
+    ghost from_gives = { λ fault refusal. refusal ≡ refusal_of_link fault };
+
+    fn from(fault: LinkFault) -> Refusal {
+        match fault {
+            LinkFault::AlreadyConnected => Refusal::AlreadyConnected,
+            LinkFault::NotConnected => Refusal::NotConnected,
+            LinkFault::OutOfMemory => Refusal::OutOfMemory,
+            LinkFault::Stopped { .. } => Refusal::Stopped,
         }
     }
 }

@@ -1,6 +1,8 @@
 //! What the sequencer refuses.
 
 use ft_base::OutOfMemory;
+use std::error::Error;
+use std::fmt;
 
 /// Why a draft is refused: the first of these that holds.
 #[derive(Clone, Copy, Debug, PartialEq, Eq)]
@@ -17,6 +19,27 @@ pub enum Nack {
     RefAhead { seq: u64, got: u64 },
 }
 
+impl fmt::Display for Nack {
+    ghost use Rattle.std.specs.Prelude.{Some};
+    ghost use Rattle.ft_seqr.specs.Refusals.{nack_text};
+
+    ghost output = { λ nack. Some (nack_text nack) };
+
+    fn fmt<W: fmt::Write>(&self, f: &mut fmt::Formatter<W>) -> fmt::Result {
+        match *self {
+            Nack::NotJoined => write!(f, "NotJoined"),
+            Nack::ClientSeq { expected, got } => {
+                write!(f, "ClientSeq expected {expected} got {got}")
+            }
+            Nack::RefBelow { min, got } => write!(f, "RefBelow min {min} got {got}"),
+            Nack::RefBack { last, got } => write!(f, "RefBack last {last} got {got}"),
+            Nack::RefAhead { seq, got } => write!(f, "RefAhead seq {seq} got {got}"),
+        }
+    }
+}
+
+impl Error for Nack {}
+
 /// Why a connection can't leave.
 #[derive(Clone, Copy, Debug, PartialEq, Eq)]
 pub enum LeaveFault {
@@ -25,6 +48,22 @@ pub enum LeaveFault {
     /// There was no memory.
     OutOfMemory,
 }
+
+impl fmt::Display for LeaveFault {
+    ghost use Rattle.std.specs.Prelude.{Some};
+    ghost use Rattle.ft_seqr.specs.Refusals.{leave_fault_text};
+
+    ghost output = { λ fault. Some (leave_fault_text fault) };
+
+    fn fmt<W: fmt::Write>(&self, f: &mut fmt::Formatter<W>) -> fmt::Result {
+        match *self {
+            LeaveFault::NotJoined => write!(f, "NotJoined"),
+            LeaveFault::OutOfMemory => write!(f, "OutOfMemory"),
+        }
+    }
+}
+
+impl Error for LeaveFault {}
 
 impl From<OutOfMemory> for LeaveFault {
     ghost use Rattle.std.specs.Prelude.{◌≡◌};
@@ -45,6 +84,22 @@ pub enum SubmitFault {
     /// There was no memory.
     OutOfMemory,
 }
+
+impl fmt::Display for SubmitFault {
+    ghost use Rattle.std.specs.Prelude.{Some};
+    ghost use Rattle.ft_seqr.specs.Refusals.{submit_fault_text};
+
+    ghost output = { λ fault. Some (submit_fault_text fault) };
+
+    fn fmt<W: fmt::Write>(&self, f: &mut fmt::Formatter<W>) -> fmt::Result {
+        match *self {
+            SubmitFault::Nack(nack) => write!(f, "{nack}"),
+            SubmitFault::OutOfMemory => write!(f, "OutOfMemory"),
+        }
+    }
+}
+
+impl Error for SubmitFault {}
 
 impl From<OutOfMemory> for SubmitFault {
     ghost use Rattle.std.specs.Prelude.{◌≡◌};

@@ -6,8 +6,9 @@ ghost use Rattle.ft_seqr.specs.Refusals.{refusal_number, refusal_of_cause, refus
 
 use crate::nacks::Nack;
 use ft_json::Field;
-use ft_msg::{Cause, LinkFault, ProcessFault};
+use ft_msg::{Cause, ProcessFault};
 use ft_sumdoc::SumFault;
+use std::error::Error;
 use std::fmt;
 
 /// Why a line is refused. What was made before it stays as it was.
@@ -57,29 +58,6 @@ pub enum Refusal {
     Stopped,
 }
 
-/// A nack as it is written.
-#[derive(Drop)]
-struct NackText(Nack);
-
-impl fmt::Display for NackText {
-    ghost use Rattle.std.specs.Prelude.{Some};
-    ghost use Rattle.ft_seqr.specs.Refusals.{nack_text};
-
-    ghost output = { λ n. Some (nack_text n.0) };
-
-    fn fmt<W: fmt::Write>(&self, f: &mut fmt::Formatter<W>) -> fmt::Result {
-        match self.0 {
-            Nack::NotJoined => write!(f, "NotJoined"),
-            Nack::ClientSeq { expected, got } => {
-                write!(f, "ClientSeq expected {expected} got {got}")
-            }
-            Nack::RefBelow { min, got } => write!(f, "RefBelow min {min} got {got}"),
-            Nack::RefBack { last, got } => write!(f, "RefBack last {last} got {got}"),
-            Nack::RefAhead { seq, got } => write!(f, "RefAhead seq {seq} got {got}"),
-        }
-    }
-}
-
 impl fmt::Display for Refusal {
     ghost use Rattle.std.specs.Prelude.{Some};
     ghost use Rattle.ft_seqr.specs.Refusals.{refusal_text};
@@ -106,10 +84,7 @@ impl fmt::Display for Refusal {
             Refusal::NoSuchInterval => write!(f, "NoSuchInterval"),
             Refusal::CountLimit => write!(f, "CountLimit 1000000"),
             Refusal::LineTooLong => write!(f, "LineTooLong"),
-            Refusal::Nacked(nack) => {
-                let text = NackText(nack);
-                write!(f, "Nacked {text}")
-            }
+            Refusal::Nacked(nack) => write!(f, "Nacked {nack}"),
             Refusal::BadNumbers { field, kept, got } => {
                 write!(f, "BadNumbers {field} kept {kept} got {got}")
             }
@@ -120,21 +95,7 @@ impl fmt::Display for Refusal {
     }
 }
 
-impl From<LinkFault> for Refusal {
-    ghost use Rattle.std.specs.Prelude.{◌≡◌};
-    ghost use Rattle.ft_seqr.specs.Refusals.{refusal_of_link};
-
-    ghost from_gives = { λ fault refusal. refusal ≡ refusal_of_link fault };
-
-    fn from(fault: LinkFault) -> Refusal {
-        match fault {
-            LinkFault::AlreadyConnected => Refusal::AlreadyConnected,
-            LinkFault::NotConnected => Refusal::NotConnected,
-            LinkFault::OutOfMemory => Refusal::OutOfMemory,
-            LinkFault::Stopped { .. } => Refusal::Stopped,
-        }
-    }
-}
+impl Error for Refusal {}
 
 impl Refusal {
     /// The refusal of a text that has no reading for this cause.
