@@ -1,3 +1,4 @@
+pub mod FoundNumbers
 pub mod KnownSteps
 pub mod LinkedEdits
 pub mod LinkedEntries

@@ -21,7 +21,7 @@ use Rattle.ft_laws_agreement.proofs.CarriedEdits.{stages-resubmitted}
 use Rattle.ft_laws_names.specs.WellNamed.{IsWellNamed}
 use Rattle.ft_replica.specs.declared.document.Resent.{Resent}
 use Rattle.ft_replica.specs.Linked.{AnswersLinked, IsLinkedAs, LinkedState, PendingPart, Takes, linked_as, oldest_count, part_of, sent_part, sent_parts, with_parts}
-use Rattle.ft_replica.specs.Own.{HeldDocument, NamesFit, acknowledged, held_by, rejoined, resent, with_entry}
+use Rattle.ft_replica.specs.Own.{HeldDocument, NamesFit, acknowledged, held_by, oldest_stages, rejoined, resent, with_entry}
 use Rattle.ft_replica.specs.Unsent.{Unsent}
 use Rattle.ft_replica.proofs.LinkedSteps.{links}
 
@@ -124,6 +124,13 @@ own-within s p n rest e =
     let same : n ≡ oldest_count (map part_of p.pending) = e ∙ ap (λ (t : LinkedState _). oldest_count t.pending) rest in
     let within = count-within p.pending in
     omega (arith, same, within)
+
+oldest-counted : (es : List PendingEdit) → length (oldest_stages es) ≡ oldest_count (map part_of es)
+oldest-counted [] = refl
+oldest-counted (e ∷ es) = refl
+
+pub own-oldest : {D : Type 0} (s : LinkedState D) (p : NaiveClient) (n : ℕ) → s ≡ linked_as p s.document → n ≡ oldest_count s.pending → length (oldest_stages p.pending) ≡ n
+own-oldest s p n rest e = oldest-counted p.pending ∙ sym (e ∙ ap (λ (t : LinkedState _). oldest_count t.pending) rest)
 
 pub own-takes : {D : Type 0} (holds : D → HeldDocument → Type 0) (entry : Entry) (s new : LinkedState D)
     → ((held : HeldDocument) (own rest : List Stage) → NamesFit held → held.stages ≡ own ++ rest → length own ≡ oldest_count s.pending → holds s.document held

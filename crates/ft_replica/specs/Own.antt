@@ -1,6 +1,6 @@
 -- A document with its pending stages as a client keeps it: what it shows of itself, and for which documents of the definitions it
 -- stands. Those have names for their elements, which it needn't have; so what a document does is said of each that it holds.
-use Rattle.std.specs.Prelude.{◌≡◌, ◌≤◌, ◌^◌, ◌+◌, ◌*◌, ℕ, cond, nat_le, not, ⊤, Option, Some, None, Result, Ok, Err, List, ◌++◌, length, map, flat_map, true}
+use Rattle.std.specs.Prelude.{◌≡◌, ◌≤◌, ◌^◌, ◌+◌, ◌*◌, ℕ, cond, nat_le, not, ⊤, Option, Some, None, Result, Ok, Err, List, [], ◌∷◌, ◌++◌, length, map, flat_map, true}
 use Rattle.std.specs.List.{list_all}
 use Rattle.ft_op.specs.declared.operations.BaseOp.TheVariants.{Insert}
 use Rattle.ft_op.specs.declared.operations.CellOp.TheVariants.{SpliceIn}
@@ -20,7 +20,7 @@ use Rattle.ft_msg.specs.declared.messages.Entry.{Entry}
 use Rattle.ft_msg.specs.Acknowledgement.{ack_stages, renamed_stage}
 use Rattle.ft_msg.specs.Agreed.{take_entry, with_numbers}
 use Rattle.ft_msg.specs.Answers.{FaultKind, HeldCounts, Refusal, StoppedBefore, WantOfMemory, edit_fault_kind, held_in}
-use Rattle.ft_msg.specs.Client.{NaiveClient, floor, stages_of}
+use Rattle.ft_msg.specs.Client.{NaiveClient, PendingEdit, floor, stages_of}
 use Rattle.ft_msg.specs.Compacted.{KeepsDocument}
 use Rattle.ft_msg.specs.Indexed.{IndexedDocument, IndexedStage, indexed, indexed_stage}
 use Rattle.ft_msg.specs.Reconnection.{carried_stage, rebuilt_document}
@@ -122,6 +122,11 @@ ReadsFew op shown before after = AreFew (counted_list op shown) before after
 -- after a message of another client
 abbrev pub with_entry : Entry → HeldDocument → HeldDocument
 with_entry entry held = record held { doc = take_entry held.doc entry }
+
+-- the stages of the oldest pending edit
+abbrev pub oldest_stages : List PendingEdit → List Stage
+oldest_stages [] = []
+oldest_stages (e ∷ edits) = e.stages
 
 -- after the acknowledgement of these first stages, where these are the others
 abbrev pub acknowledged : Entry → List Stage → List Stage → HeldDocument → HeldDocument

@@ -87,6 +87,7 @@ pub trait OwnDocument: Sized + Drop {
       acknowledged,
       held_by,
       numbers_in,
+      oldest_stages,
       rejoined,
       resent,
       with_entry,
@@ -160,12 +161,13 @@ pub trait OwnDocument: Sized + Drop {
         requires known { HoldsOne holds self.old (λ p. process_fault p entry.now ≡ None) }
         ensures { (held : HeldDocument) → NamesFit held → holds self.old held → OnOk result (holds self.new (with_entry entry.now held)) };
 
-    /// Takes the next message, which is the client's own: its first `count` stages become sequenced.
+    /// Takes the next message, which is the client's own: its first `count` stages, those of its oldest pending edit, become
+    /// sequenced.
     ///
     /// Answers `OutOfMemory` where there is no room, or a count would pass its greatest number.
     fn take_own(&mut self, count: usize, entry: &Entry) -> Result<(), OutOfMemory>
         requires formed { IsWellFormedMessage entry.now.msg }
-        requires known { HoldsOne holds self.old (λ p. (process_fault p entry.now ≡ None) × (count ≤ length (stages_of p))) }
+        requires known { HoldsOne holds self.old (λ p. (process_fault p entry.now ≡ None) × (count ≤ length (stages_of p)) × (length (oldest_stages p.pending) ≡ count)) }
         ensures { (held : HeldDocument) (own rest : List Stage) → NamesFit held → held.stages ≡ own ++ rest → length own ≡ count → holds self.old held
             → OnOk result (holds self.new (acknowledged entry.now own rest held)) };
 

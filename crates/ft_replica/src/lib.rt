@@ -3,6 +3,7 @@
 //! A call that can't answer `OutOfMemory` takes no memory.
 #![tactic(auto)]
 
+pub mod connections;
 pub mod document;
 pub mod linked;
 pub mod outbox;

@@ -9,6 +9,7 @@ mod processing;
 mod reading;
 mod reconnections;
 
+use crate::connections::Connections;
 use crate::document::OwnDocument;
 use crate::outbox::Outbox;
 use crate::pending::PendingEdits;
@@ -24,7 +25,7 @@ pub struct LinkedClient<D: OwnDocument> {
     alloc: Global,
     doc: D,
     link: Link,
-    conns: Vec<u32>,
+    conns: Connections,
     last_stage: u64,
     outbox: Outbox,
     pending: PendingEdits,
@@ -38,7 +39,7 @@ impl<D: OwnDocument> Model for LinkedClient<D> {
     ghost view = { λ a. record {
       document = a.doc;
       link = a.link;
-      conns = a.conns.items;
+      conns = a.conns;
       last_stage = a.last_stage;
       box = a.outbox;
       pending = a.pending;
@@ -54,7 +55,7 @@ impl<D: OwnDocument> LinkedClient<D> {
             alloc,
             doc,
             link: Link::Offline,
-            conns: Vec::new(alloc),
+            conns: Connections::new(alloc),
             last_stage: 0,
             outbox: Outbox::new(alloc),
             pending: PendingEdits::new(alloc),

@@ -123,7 +123,7 @@ impl<D: OwnDocument> LinkedClient<D> {
     fn is_own(&self, entry: &Entry) -> bool
         ensures { result ≡ list_any (nat_eq entry.now.origin) self.now.conns }
     {
-        self.conns.iter().any(|conn| entry.origin == *conn)
+        self.conns.has(entry.origin)
     }
 
     /// Whether the message is the oldest pending edit as it was sent.

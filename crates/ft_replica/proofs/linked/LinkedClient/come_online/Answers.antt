@@ -12,7 +12,7 @@ rejoin-requires-clause-known g c =
     let i = c.self.inside in
     let holds = g.D.OwnDocument.holds in
     let entry = c.args.entry.now in
-    let old = state i.doc i.link i.conns.items i.last_stage i.outbox i.pending in
+    let old = state i.doc i.link i.conns i.last_stage i.outbox i.pending in
     let runs = subst (λ s. RunsForOne holds s (λ p. process_fault p entry ≡ None)) (sym c.self.view_is) c.requires.known in
     let counts = c.as_slice.ensures.value ∙ c.in_ok-counts.ensures in
     holds-one holds old (λ p. process_fault p entry ≡ None) (λ p. (process_fault p entry ≡ None) × (map (λ e. length e.stages) p.pending ≡ c.as_slice.result.now)) runs
@@ -25,9 +25,9 @@ returns g c =
     let entry = c.args.entry.now in
     let again = c.in_ok-resent.resent.items in
     let d = c.rejoin.new.self in
-    let old = state i.doc i.link i.conns.items i.last_stage i.outbox i.pending in
-    let new = state d (Online entry.origin) i.conns.items i.last_stage c.send_again.new.outbox c.send_again.new.pending in
-    let is : new ≡ state d (Online entry.origin) i.conns.items i.last_stage
+    let old = state i.doc i.link i.conns i.last_stage i.outbox i.pending in
+    let new = state d (Online entry.origin) i.conns i.last_stage c.send_again.new.outbox c.send_again.new.pending in
+    let is : new ≡ state d (Online entry.origin) i.conns i.last_stage
     (with_parts (sent_parts entry.origin entry.msg.seq 1 again) (record { next = 1; drafts = [] })) (sent_parts entry.origin entry.msg.seq 1 again) = search rules in
     subst (λ s. Takes {E = OutOfMemory} holds (λ p. Ok (come_online p entry)) s new) c.self.view_is
     (join-takes holds entry c.as_slice.result.now again old new (c.as_slice.ensures.value ∙ c.in_ok-counts.ensures) c.in_ok-resent.ensures is)

@@ -9,7 +9,7 @@ pub compact-requires : goal.compact-requires
 compact-requires g c =
     let i = c.self.inside in
     let D = g.D.OwnDocument in
-    let old = state i.doc i.link i.conns.items i.last_stage i.outbox i.pending in
+    let old = state i.doc i.link i.conns i.last_stage i.outbox i.pending in
     let runs = subst (λ s. RunsForOne D.holds s Anyone) (sym c.self.view_is) c.requires in
     floor-known D.holds D.shown g.met.D.OwnDocument.shows old runs c.oldest_ref-floor.result (c.oldest_ref-floor.ensures ∙ ap (λ n. oldest_ref n i.pending) c.minimum.ensures.told)
 
@@ -17,8 +17,8 @@ pub returns-clause-compacts : goal.returns-clause-compacts
 returns-clause-compacts g c =
     let i = c.self.inside in
     let holds = g.D.OwnDocument.holds in
-    let old = state i.doc i.link i.conns.items i.last_stage i.outbox i.pending in
-    let new = state c.compact.new.self i.link i.conns.items i.last_stage i.outbox i.pending in
+    let old = state i.doc i.link i.conns i.last_stage i.outbox i.pending in
+    let new = state c.compact.new.self i.link i.conns i.last_stage i.outbox i.pending in
     let runs = subst (λ s. RunsForOne holds s Anyone) (sym c.self.view_is) c.requires in
     let low = c.oldest_ref-floor.ensures ∙ ap (λ n. oldest_ref n i.pending) c.minimum.ensures.told ∙ oldest-has-floor holds g.D.OwnDocument.shown g.met.D.OwnDocument.shows old Anyone runs in
     subst (λ s. TakesCompaction holds s new) c.self.view_is
@@ -28,7 +28,7 @@ pub returns-clause-full : goal.returns-clause-full
 returns-clause-full g c = λ h.
     let i = c.self.inside in
     let holds = g.D.OwnDocument.holds in
-    let old = state i.doc i.link i.conns.items i.last_stage i.outbox i.pending in
+    let old = state i.doc i.link i.conns i.last_stage i.outbox i.pending in
     let runs = subst (λ s. RunsForOne holds s Anyone) (sym c.self.view_is) c.requires in
     let low = c.oldest_ref-floor.ensures ∙ ap (λ n. oldest_ref n i.pending) c.minimum.ensures.told ∙ oldest-has-floor holds g.D.OwnDocument.shown g.met.D.OwnDocument.shows old Anyone runs in
     subst (λ (s : LinkedState _). HasNoTombstone (least_ref (g.D.OwnDocument.shown s.document).content.minimum s.pending) (g.D.OwnDocument.shown c.compact.new.self).content) c.self.view_is

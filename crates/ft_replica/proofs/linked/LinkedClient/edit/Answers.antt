@@ -13,8 +13,8 @@ returns-in-Err-clause-answers g c =
     let holds = g.D.OwnDocument.holds in
     let op = c.args.op.now in
     let fault = c.in-Err.fault in
-    let old = state i.doc i.link i.conns.items i.last_stage i.outbox i.pending in
-    let new = state c.edit.new.self i.link i.conns.items i.last_stage i.outbox i.pending in
+    let old = state i.doc i.link i.conns i.last_stage i.outbox i.pending in
+    let new = state c.edit.new.self i.link i.conns i.last_stage i.outbox i.pending in
     let runs = subst (λ s. RunsForOne holds s Anyone) (sym c.self.view_is) c.requires.known in
     subst (λ s. MeansFault (edit_fault_kind fault) (KeepsLink s new) (Refuses holds (λ p. local_edit p op) fault s new)) c.self.view_is
     (edit-refuses holds op old c.edit.new.self fault new runs c.in-Err.ensures.answers refl)
@@ -28,9 +28,9 @@ returns-clause-answers g c =
     let count = c.in-Ok.count in
     let ref = c.number-ref_seq.result in
     let sent = sent_as i.link i.outbox.next op in
-    let old = state i.doc i.link i.conns.items i.last_stage i.outbox i.pending in
+    let old = state i.doc i.link i.conns i.last_stage i.outbox i.pending in
     let new = c.keep_edit.new.self in
-    let is : new ≡ state e i.link i.conns.items (i.last_stage + count) (with_sent sent ref i.outbox)
+    let is : new ≡ state e i.link i.conns (i.last_stage + count) (with_sent sent ref i.outbox)
     (i.pending ++ (record { count = count; ref_seq = ref; sent = sent } ∷ [])) = search rules in
     subst (λ s. Takes holds (λ p. local_edit p op) s new) c.self.view_is
     (edit-takes holds op old e g.D.OwnDocument.shown count ref sent new g.met.D.OwnDocument.shows c.in-Ok.ensures.answers c.number-ref_seq.ensures.told refl is)

@@ -10,8 +10,8 @@ returns g c =
     let i = c.self.inside in
     let holds = g.D.OwnDocument.holds in
     let number = c.number.result in
-    let old = state i.doc i.link i.conns.items i.last_stage i.outbox i.pending in
-    let new = state i.doc i.link i.conns.items i.last_stage c.push.new.self i.pending in
+    let old = state i.doc i.link i.conns i.last_stage i.outbox i.pending in
+    let new = state i.doc i.link i.conns i.last_stage c.push.new.self i.pending in
     let is : new ≡ record old {
       box = record { next = i.outbox.next + 1; drafts = i.outbox.drafts ++ (record { client_seq = i.outbox.next; ref_seq = number; body = Nothing } ∷ []) };
     } = search rules in

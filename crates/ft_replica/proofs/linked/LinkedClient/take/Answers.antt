@@ -18,7 +18,7 @@ returns g c =
     let i = c.self.inside in
     let holds = g.D.OwnDocument.holds in
     let d = c.take.new.self in
-    let new = state d i.link i.conns.items i.last_stage i.outbox i.pending in
+    let new = state d i.link i.conns i.last_stage i.outbox i.pending in
     takes-entry holds c.args.entry.now c.args.self.now new (sym c.is_own_join.ensures ∙ c.if-is_own_join.false) (sym c.is_own_message.ensures ∙ c.if-is_own_message.false)
     (λ held named h. c.in_ok-take.ensures held named (subst (λ (s : LinkedState _). holds s.document held) (sym c.self.view_is) h))
     (ap (λ (s : LinkedState _). record s { document = d }) c.self.view_is)
