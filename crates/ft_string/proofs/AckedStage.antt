@@ -70,7 +70,7 @@ text-made s c (Character n) h = refl
 text-made s c (MarkerOf r) h = refl
 text-made s c GridUnit h = absurd h
 
-abbrev IsOfText : TreeElement ElementContent → Type 0
+abbrev pub IsOfText : TreeElement ElementContent → Type 0
 IsOfText x = IsTextUnit x.unit
 
 module _ (x : TreeLeaf TextContent) where
@@ -82,7 +82,7 @@ module _ (x : TreeLeaf TextContent) where
   of-piece (Run cs) = of-run cs
   of-piece (Marker r) = (tt, tt)
 
-units-of : (xs : List (ℕ × TreeLeaf TextContent)) → Each IsOfText (elements text_units (λ (y : TextContent). y.by) xs)
+pub units-of : (xs : List (ℕ × TreeLeaf TextContent)) → Each IsOfText (elements text_units (λ (y : TextContent). y.by) xs)
 units-of [] = tt
 units-of (x ∷ xs) =
     each-append IsOfText (leaf_elements text_units (λ (y : TextContent). y.by) x.1) (elements text_units (λ (y : TextContent). y.by) xs) (of-piece x.1 x.1.content.piece) (units-of xs)

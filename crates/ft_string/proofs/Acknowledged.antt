@@ -38,6 +38,7 @@ use Rattle.ft_string.proofs.AcksSoFar.{below-is, some-same}
 use Rattle.ft_string.proofs.AckedStage.{CanAck, acked-step, acked_document, later-rise}
 use Rattle.ft_string.proofs.Applied.{Holds}
 use Rattle.ft_string.proofs.Documents.{sound-named}
+use Rattle.ft_string.proofs.Reconnected.{none-within}
 use Rattle.ft_string.proofs.Stages.{each-filter}
 use Rattle.ft_string.proofs.Wholes.{holds-any}
 
@@ -339,6 +340,14 @@ module _ (end s conn : ℕ) (tree new : TreeState TextContent) (c d : Collection
 
   pub acked-sound : (last : ℕ) → HoldsOldest last first end (state_of tree c ops given usable) → AreSound new d
   acked-sound last h = (acked-parts last h.doc h.mine h.rest h.oldest h.sound h.holds).sound
+
+-- no stages are acknowledged
+pub acked-none : (first end : ℕ) (s : TextState) (seq conn : ℕ) (doc : Document) (mine rest : List Stage) → end ≤ first → AreOldest first end mine rest → HoldsText s doc (mine ++ rest)
+    → HoldsAcked s seq conn mine rest doc
+acked-none first end s seq conn doc mine rest l old holds =
+    let none = none-within first end mine l old.within in
+    subst (λ ms. HoldsAcked s seq conn ms rest doc) (sym none)
+    (subst (λ ts. HoldsText s doc ts) (sym (unrenamed rest)) (subst (λ ms. HoldsText s doc (ms ++ rest)) none holds))
 
 -- ---- what is known where the call begins
 

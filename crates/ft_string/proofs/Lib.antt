@@ -37,6 +37,7 @@ pub mod AlikeSegments
 pub mod FrontSegments
 pub mod SavedLeaves
 pub mod SavedTexts
+pub mod SavedLengths
 pub mod SavedIntervals
 pub mod Appended
 pub mod ShownRuns

@@ -70,7 +70,7 @@ module _ (min : ℕ) where
       ∙ ap (λ dels. not (has_collectable_removal min dels)) (no-removal e s)
       ∙ ap (λ b. not (b && has_collectable_removal min e.dels)) (sym s.sequenced)
 
-  abbrev trimmed_items : List ListElement → List ListElement
+  abbrev pub trimmed_items : List ListElement → List ListElement
   trimmed_items es = retain_map (λ e. not (is_collectable min e)) (trim_element min) es
 
   pub segments-alike : {xs : TextElements} {es : List ListElement} → AreElements text_content xs es → list_all is_settled es ≡ true

@@ -15,6 +15,7 @@ use Rattle.ft_msg.specs.Content.{interval_record, markers_from, property_runs_fr
 use Rattle.ft_msg.specs.Reconnection.{carried_stage, rebuilt_document}
 use Rattle.ft_msg.specs.SummaryOf.{segments_from}
 use Rattle.ft_sumdoc.specs.declared.summary.SumDoc.{SumDoc}
+use Rattle.ft_sumdoc.specs.Segments.{text_length}
 use Rattle.ft_laws_compaction.specs.Free.{AreFree}
 use Rattle.ft_string.specs.Holds.{HoldsText, IsTextSound, is_on_elements, is_on_intervals, is_on_text}
 use Rattle.ft_string.specs.State.{TextState}
@@ -168,10 +169,11 @@ pub record CompactsText (floor : ℕ) (new : TextState) (doc : Document) (stages
 abbrev pub HasNoText : SumDoc → Type 0
 HasNoText sum = (sum.text ≡ []) × (sum.intervals ≡ [])
 
--- the summary has the text's part of that of the document, at its own minimum, and else it is as it was
+-- the summary has the text's part of that of the document, at its own minimum, with as many elements as the document keeps there
 pub record SavesText (doc : Document) (old new : SumDoc) : Type 0 where
   pub text : new.text ≡ segments_from 0 (trim_list old.min doc.text).items
   pub intervals : new.intervals ≡ (shown (record doc { text = trim_list old.min doc.text })).intervals
+  pub count : text_length new.text ≡ length (trim_list old.min doc.text).items
 
 -- what else a summary has stays
 abbrev pub KeepsSummary : SumDoc → SumDoc → Type 0

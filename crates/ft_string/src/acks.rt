@@ -1,6 +1,6 @@
 //! The acknowledgement of pending stages of a shared text.
 
-ghost use Rattle.std.specs.Prelude.{◌≡◌, ℕ, ◌+◌, ◌<◌, ◌^◌, ◌++◌, List, All, IsTrue, OnErr, OnOk, false};
+ghost use Rattle.std.specs.Prelude.{◌≡◌, ℕ, ◌+◌, ◌≤◌, ◌^◌, ◌++◌, List, All, IsTrue, OnErr, OnOk, false};
 ghost use Rattle.ft_interval.specs.State.{IsLive, text_elements};
 ghost use Rattle.ft_tree_leaves.specs.Elements.{IsLowestChange};
 ghost use Rattle.ft_op.specs.Document.{Document};
@@ -38,12 +38,12 @@ fn first_op(ops: &VecDeque<PendingOp>) -> Option<u64>
     }
 }
 
-/// The lowest pending stage, if it is below the end.
-fn next_below(intervals: &Collections, ops: &VecDeque<PendingOp>, end: u64) -> Option<u64>
-    ensures { result ≡ next_below end intervals.now ops.now.items }
+/// The lowest pending stage, if it is no later than the last one.
+fn next_up_to(intervals: &Collections, ops: &VecDeque<PendingOp>, last: u64) -> Option<u64>
+    ensures { result ≡ next_below (last + 1) intervals.now ops.now.items }
 {
     let stage = least(first_op(ops), intervals.first_stage())?;
-    if stage < end { Some(stage) } else { None }
+    if stage <= last { Some(stage) } else { None }
 }
 
 /// Acknowledges a stage, which is the lowest.
@@ -70,14 +70,14 @@ fn ack_stage(
     Ok(())
 }
 
-/// Acknowledges the pending stages below the end, from the lowest on.
+/// Acknowledges the pending stages up to the last one, from the lowest on.
 ///
 /// Answers `OutOfMemory` where there is no room for what they make.
 fn ack_all(
     tree: &mut Tree<TextContent>,
     intervals: &mut Collections,
     ops: &mut VecDeque<PendingOp>,
-    end: u64,
+    last: u64,
     seq: u64,
     conn: u32,
 ) -> Result<(), OutOfMemory>
@@ -85,9 +85,9 @@ fn ack_all(
     requires live { IsLive tree.old.refs intervals.old }
     requires rise { OpsRise 0 ops.old.items }
     requires noted { AreNoted ops.old.items (text_elements tree.old) }
-    ensures { OnOk result (AcksStages end seq conn tree.old tree.new intervals.old intervals.new ops.old.items ops.new.items) }
+    ensures { OnOk result (AcksStages (last + 1) seq conn tree.old tree.new intervals.old intervals.new ops.old.items ops.new.items) }
 {
-    while let Some(stage) = next_below(intervals, ops, end) {
+    while let Some(stage) = next_up_to(intervals, ops, last) {
         ack_stage(tree, intervals, ops, stage, seq, conn)?;
     }
     Ok(())
@@ -101,7 +101,7 @@ impl SharedString {
     pub fn ack(&mut self, first: u64, count: u64, seq: u64, conn: u32) -> Result<(), OutOfMemory>
         requires usable { IsTrue self.old.usable }
         requires none_given { self.old.given ≡ 0 }
-        requires stages { first + count < 2 ^ 64 }
+        requires stages { first + count ≤ 2 ^ 64 }
         requires held { (last : ℕ) × HoldsOldest last first (first + count) self.old }
         ensures acked { (last : ℕ) → (doc : Document) → (mine : List Stage) → (rest : List Stage) → AreOldest first (first + count) mine rest
             → IsTextSound last doc (mine ++ rest) → HoldsText self.old doc (mine ++ rest)
@@ -109,13 +109,16 @@ impl SharedString {
         ensures rest { OnOk result (KeepsRest self.old self.new) }
         ensures err { OnErr result (self.new.usable ≡ false) }
     {
-        let end = first + count;
+        if count == 0 {
+            return Ok(());
+        }
+        let last = first + (count - 1);
         self.usable = false;
         ack_all(
             &mut self.tree,
             &mut self.intervals,
             &mut self.ops,
-            end,
+            last,
             seq,
             conn,
         )?;

@@ -77,7 +77,7 @@ fn push_again(
     Ok(!parts.is_empty())
 }
 
-/// Takes the operations of the stages below the end from the front. Those of which something is sent again go behind `kept`;
+/// Takes the operations of the stages up to the last one from the front. Those of which something is sent again go behind `kept`;
 /// answers what is sent.
 ///
 /// Answers `OutOfMemory` where there is no room for it.
@@ -85,24 +85,24 @@ fn give_ops(
     tree: &Tree<TextContent>,
     ops: &mut VecDeque<PendingOp>,
     kept: &mut VecDeque<PendingOp>,
-    end: u64,
+    last: u64,
 ) -> Result<BaseOps, OutOfMemory>
     requires { IsTrue tree.now.usable }
-    ensures { IfOk result (λ sent. GivesOps (text_elements tree.now) end ops.old.items ops.new.items kept.old.items kept.new.items sent) }
+    ensures { IfOk result (λ sent. GivesOps (text_elements tree.now) (last + 1) ops.old.items ops.new.items kept.old.items kept.new.items sent) }
 {
     let mut again = BaseOps::new(tree.allocator());
-    while let Some(op) = next_due(ops, end) {
+    while let Some(op) = next_due(ops, last) {
         let some = push_again(tree, &op, &mut again)?;
         keep_if(kept, op, some)?;
     }
     Ok(again)
 }
 
-/// Takes the first operation, if it is of a stage below the end.
-fn next_due(ops: &mut VecDeque<PendingOp>, end: u64) -> Option<PendingOp>
-    ensures { NextDue end ops.old.items ops.new.items result }
+/// Takes the first operation, if its stage is no later than the last one.
+fn next_due(ops: &mut VecDeque<PendingOp>, last: u64) -> Option<PendingOp>
+    ensures { NextDue (last + 1) ops.old.items ops.new.items result }
 {
-    if is_due(ops, end) {
+    if is_due(ops, last) {
         ops.pop_front()
     } else {
         None
@@ -121,12 +121,12 @@ fn keep_if(kept: &mut VecDeque<PendingOp>, op: PendingOp, goes_on: bool) -> Resu
     Ok(())
 }
 
-/// Whether the first operation is of a stage below the end.
-fn is_due(ops: &VecDeque<PendingOp>, end: u64) -> bool
-    ensures { result ≡ has_any (due end ops.now.items) }
+/// Whether the stage of the first operation is no later than the last one.
+fn is_due(ops: &VecDeque<PendingOp>, last: u64) -> bool
+    ensures { result ≡ has_any (due (last + 1) ops.now.items) }
 {
     match ops.front() {
-        Some(op) => op.stage < end,
+        Some(op) => op.stage <= last,
         None => false,
     }
 }
@@ -149,7 +149,7 @@ fn one_of(ops: BaseOps) -> Result<Option<TextOp>, OutOfMemory>
     }
 }
 
-/// What is sent again of the stages from `first` up to before `end`.
+/// What is sent again of the stages from `first` up to `last`.
 ///
 /// Answers `OutOfMemory` where there is no room for it.
 fn give(
@@ -158,18 +158,18 @@ fn give(
     ops: &mut VecDeque<PendingOp>,
     kept: &mut VecDeque<PendingOp>,
     first: u64,
-    end: u64,
+    last: u64,
 ) -> Result<Option<TextOp>, OutOfMemory>
     requires usable { IsTrue tree.old.usable }
     requires live { IsLive tree.old.refs intervals.old }
-    ensures { IfOk result (λ op. Gives first end tree.old tree.new intervals.old intervals.new ops.old.items ops.new.items kept.old.items kept.new.items op) }
+    ensures { IfOk result (λ op. Gives first (last + 1) tree.old tree.new intervals.old intervals.new ops.old.items ops.new.items kept.old.items kept.new.items op) }
 {
     if intervals.is_pending(first) {
         // That ends are numbers is read off its contract.
         let _made = made_in(tree);
         return Ok(Some(intervals.settle_op(tree, first)?));
     }
-    one_of(give_ops(tree, ops, kept, end)?)
+    one_of(give_ops(tree, ops, kept, last)?)
 }
 
 /// Adds what is in `back` to the end of `front`, and leaves nothing there.
@@ -192,7 +192,7 @@ impl SharedString {
     /// Answers `OutOfMemory` where there is no room for it, and then the text may be used no more.
     pub fn reconnect(&mut self, first: u64, count: u64) -> Result<Option<TextOp>, OutOfMemory>
         requires usable { IsTrue self.old.usable }
-        requires stages { first + count < 2 ^ 64 }
+        requires stages { first + count ≤ 2 ^ 64 }
         requires order { self.old.given < first }
         requires held { (last : ℕ) × HoldsSomeGiven last first (first + count) self.old }
         ensures op { (last : ℕ) → (doc : Document) → (front : List Stage) → (mine : List Stage) → (behind : List Stage)
@@ -211,16 +211,16 @@ impl SharedString {
             self.usable = true;
             return Ok(None);
         }
-        let end = first + count;
+        let last = first + (count - 1);
         let op = give(
             &mut self.tree,
             &mut self.intervals,
             &mut self.ops,
             &mut self.again,
             first,
-            end,
+            last,
         )?;
-        self.given = first + count - 1;
+        self.given = last;
         self.usable = true;
         Ok(op)
     }

@@ -1,9 +1,10 @@
+use Rattle.std.proofs.Common.{◌+◌}
 use Rattle.ft_string.proofs.AcksSoFar.{AcksSoFar, pending_count}
 use Rattle.ft_string.proofs.acks.ack_all.Given as goal
 
 -- what is acknowledged, and then the stages ahead, are all
 abbrev pub invariant-loop-stage : goal.invariant-loop-stage
-invariant-loop-stage l = AcksSoFar l.end l.seq l.conn l.fn.tree l.tree l.fn.intervals l.intervals l.fn.ops.items l.ops.items
+invariant-loop-stage l = AcksSoFar (l.last + 1) l.seq l.conn l.fn.tree l.tree l.fn.intervals l.intervals l.fn.ops.items l.ops.items
 
 abbrev pub decreases-loop-stage : goal.decreases-loop-stage
 decreases-loop-stage l = pending_count l.intervals l.ops.items
