@@ -1,5 +1,5 @@
 -- The stages of an edit of the table acknowledged one after another: names go on to fit, and each renaming comes after those before.
-use Rattle.std.proofs.Common.{◌≡◌, ℕ, zero, suc, ◌+◌, ◌≤◌, ◌<◌, All, Bool, true, false, cond, nat_eq, List, [], ◌∷◌, ◌++◌, Option, Some, None, refl, sym, ◌∙◌, ap, subst, map, length, drop, get_or, arith, append-nil}
+use Rattle.std.proofs.Common.{◌≡◌, ℕ, zero, suc, ◌+◌, ◌-◌, ◌≤◌, ◌<◌, All, Bool, true, false, cond, nat_eq, List, [], ◌∷◌, ◌++◌, Option, Some, None, refl, sym, ◌∙◌, ap, subst, map, length, drop, get_or, slice_get, arith, append-nil}
 use Rattle.std.proofs.Math.Seq.{drop-cons}
 use Rattle.std.specs.List.{AllByRecursion}
 use Rattle.std.proofs.lemmas.Bool.Decides.{nat_tests}
@@ -26,7 +26,8 @@ use Rattle.ft_laws_names.proofs.OwnAlike.{AckedEdits, edit-alike, put-in-back, p
 use Rattle.ft_matrix.specs.GridStates.{GridState}
 use Rattle.ft_matrix.specs.HoldsGrid.{HoldsGrid}
 use Rattle.ft_client.specs.declared.stages.OwnStage.{OwnStage}
-use Rattle.ft_client.specs.Acks.{AcksSome, HoldsAckedGrid}
+use Rattle.ft_perm.specs.Handles.{numbers_from}
+use Rattle.ft_client.specs.Acks.{AcksSome, HoldsAckedGrid, last_from}
 use Rattle.ft_client.specs.Parts.{own_stage}
 use Rattle.ft_client.proofs.Known.{client_of, named-of, one-edit}
 
@@ -227,3 +228,56 @@ none-behind (t ∷ mine) own (suc i) e d = none-behind mine (map own_stage mine)
 pub acked-last : (last s c : ℕ) (doc : Document) (mine rest : List Stage) (own : List OwnStage) (i : ℕ) (g : GridState) → map own_stage mine ≡ own → drop i own ≡ []
     → AcksSome last s c g doc mine (drop i mine) rest → HoldsAckedGrid g s c mine rest doc
 acked-last last s c doc mine rest own i g e d p = all-acked last s c doc mine rest g (subst (λ ts. AcksSome last s c g doc mine ts rest) (none-behind mine own i e d) p)
+
+-- ---- stages whose numbers follow one another
+
+-- the last number is as much higher as there are stages, or more
+no-fewer : (k last : ℕ) (mine rest : List Stage) → RiseTo k last (mine ++ rest) → k + length mine ≤ last_from k (map own_stage mine)
+no-fewer k last [] rest r = omega arith
+no-fewer k last (t ∷ mine) rest r =
+    let l = r.0 in
+    let m = no-fewer t.stage last mine rest r.1 in
+    omega (arith, l, m)
+
+in-a-row : (k last : ℕ) (mine rest : List Stage) → RiseTo k last (mine ++ rest) → last_from k (map own_stage mine) ≤ k + length mine → map (λ t. t.stage) mine ≡ numbers_from (k + 1) (length mine)
+in-a-row k last [] rest r h = refl
+in-a-row k last (t ∷ mine) rest r h =
+    let l = r.0 in
+    let m = no-fewer t.stage last mine rest r.1 in
+    let next : t.stage ≡ k + 1 = omega (arith, l, m, h) in
+    let more : last_from t.stage (map own_stage mine) ≤ t.stage + length mine = omega (arith, h, next) in
+    ap (λ ns. t.stage ∷ ns) (in-a-row t.stage last mine rest r.1 more) ∙ ap (λ i. i ∷ numbers_from (i + 1) (length mine)) next
+
+stage-length : (ts : List Stage) → length (map own_stage ts) ≡ length ts
+stage-length [] = refl
+stage-length (t ∷ ts) = ap suc (stage-length ts)
+
+pub row-numbers : (last : ℕ) (mine rest : List Stage) (own : List OwnStage) (first : OwnStage) → map own_stage mine ≡ own → slice_get own 0 ≡ Some first → RiseTo 0 last (mine ++ rest)
+    → last_from 0 own - first.stage < length own → map (λ t. t.stage) mine ≡ numbers_from first.stage (length own)
+row-numbers last [] rest own first n e r h =
+    let never : None ≡ Some first = ap (λ xs. slice_get xs 0) n ∙ e in
+    (cc)
+row-numbers last (t ∷ mine) rest own first n e r h =
+    let first_is : Some (own_stage t) ≡ Some first = ap (λ xs. slice_get xs 0) n ∙ e in
+    let same : own_stage t ≡ first = (cc) in
+    let number : t.stage ≡ first.stage = ap (λ (x : OwnStage). x.stage) same in
+    let long : length own ≡ suc (length mine) = sym (ap length n) ∙ ap suc (stage-length mine) in
+    let top : last_from 0 own ≡ last_from t.stage (map own_stage mine) = sym (ap (last_from 0) n) in
+    let up = no-fewer t.stage last mine rest r.1 in
+    let row = in-a-row t.stage last mine rest r.1 (under (last_from 0 own) (last_from t.stage (map own_stage mine)) (length own) top number long h up) in
+    ap (λ ns. t.stage ∷ ns) row ∙ ap (λ i. i ∷ numbers_from (i + 1) (length mine)) number ∙ ap (numbers_from first.stage) (sym long)
+  where
+    under : (a b n : ℕ) → a ≡ b → t.stage ≡ first.stage → n ≡ suc (length mine) → a - first.stage < n → t.stage + length mine ≤ b → b ≤ t.stage + length mine
+    under a b n e f g h k = omega (arith, e, f, g, h, k)
+
+-- the first is the lowest
+pub row-lowest : (last s c : ℕ) (doc : Document) (mine rest : List Stage) (own : List OwnStage) (first : OwnStage) (g : GridState) → map own_stage mine ≡ own → slice_get own 0 ≡ Some first
+    → AreWellNamed last doc (mine ++ rest) → HoldsGrid g doc (mine ++ rest) → AreCounted doc mine → All (λ u. first.stage ≤ u.stage) g.stages
+row-lowest last s c doc [] rest own first g n e w h a =
+    let never : None ≡ Some first = ap (λ xs. slice_get xs 0) n ∙ e in
+    (cc)
+row-lowest last s c doc (t ∷ mine) rest own first g n e w h a =
+    let first_is : Some (own_stage t) ≡ Some first = ap (λ xs. slice_get xs 0) n ∙ e in
+    let same : own_stage t ≡ first = (cc) in
+    subst (λ k. All (λ (u : IndexedStage). k ≤ u.stage) g.stages) (ap (λ (x : OwnStage). x.stage) same)
+    (next-lowest last s c doc (t ∷ mine) rest t mine g (none-acked-yet last s c doc (t ∷ mine) rest g w h a))

@@ -1,5 +1,5 @@
 -- The acknowledgement of stages of one part, for the whole.
-use Rattle.std.proofs.Common.{◌≡◌, ◌≤◌, ◌<◌, ℕ, zero, suc, ◌+◌, Bool, true, false, List, [], ◌∷◌, ◌++◌, Option, drop, length, refl, sym, ◌∙◌, ap, subst, map, take, arith}
+use Rattle.std.proofs.Common.{◌≡◌, ◌≤◌, ◌<◌, ℕ, zero, suc, ◌+◌, ◌-◌, Bool, true, false, List, [], ◌∷◌, ◌++◌, Option, Some, None, slice_get, drop, length, refl, sym, ◌∙◌, ap, subst, map, take, arith}
 use Rattle.std.specs.List.{AllByRecursion, list_all}
 use Rattle.std.proofs.lemmas.List.{drop_at, take_at}
 use Rattle.std.proofs.lemmas.List.Elements.{All-from_recursion}
@@ -21,7 +21,7 @@ use Rattle.ft_laws_agreement.specs.Sequencing.{Each, annotates_text, inserts_in,
 use Rattle.ft_laws_names.specs.GridFacts.{grid_stages}
 use Rattle.ft_laws_names.specs.WellNamed.{AreStagesNamed, AreThere, RiseTo, StandsIn}
 use Rattle.ft_replica.specs.Own.{HeldDocument, NamesFit, acknowledged}
-use Rattle.ft_string.specs.Calls.{AreFrom, AreOldest, AreWithin, HoldsAcked}
+use Rattle.ft_string.specs.Calls.{AreOldest, HoldsAcked}
 use Rattle.ft_string.specs.Holds.{HoldsText, IsTextSound, element_stages, interval_stages, is_on_text}
 use Rattle.ft_string.specs.State.{KeepsRest as KeepsText, TextState}
 use Rattle.ft_matrix.specs.Conditions.{KeepsRest as KeepsGrid}
@@ -29,7 +29,7 @@ use Rattle.ft_matrix.specs.GridStates.{GridState}
 use Rattle.ft_matrix.specs.HoldsGrid.{HoldsGrid}
 use Rattle.ft_client.specs.declared.own.TreeOwn.{TreeOwn}
 use Rattle.ft_client.specs.declared.stages.OwnStage.{OwnStage}
-use Rattle.ft_client.specs.Acks.{HoldsAckedGrid, next_stage}
+use Rattle.ft_client.specs.Acks.{HoldsAckedGrid, last_from}
 use Rattle.ft_client.specs.Holds.{HoldsTree}
 use Rattle.ft_client.specs.Numbers.{HasNumbers, NumberState}
 use Rattle.ft_client.specs.Parts.{is_grid_part, is_text_part, own_stage, part_of}
@@ -258,36 +258,78 @@ cut (x ∷ xs) (suc count) l =
 
 -- ---- they are the oldest
 
-below-next : (k last : ℕ) (own rest : List Stage) → RiseTo k last (own ++ rest) → k < next_stage (map own_stage rest) last
-below-next k last [] [] r = omega (arith, r)
-below-next k last [] (t ∷ rest) r = r.0
-below-next k last (u ∷ own) rest r =
+-- the last number is no lower
+no-lower : (k last : ℕ) (own rest : List Stage) → RiseTo k last (own ++ rest) → k ≤ last_from k (map own_stage own)
+no-lower k last [] rest r = omega arith
+no-lower k last (t ∷ own) rest r =
     let l = r.0 in
-    let m = below-next u.stage last own rest r.1 in
+    let m = no-lower t.stage last own rest r.1 in
     omega (arith, l, m)
 
-own-within : (low last : ℕ) (own rest : List Stage) → RiseTo low last (own ++ rest) → list_all (λ t. is_on_text t.sub_operation) own ≡ true
-    → AllByRecursion (λ t. (0 ≤ t.stage) × (t.stage < next_stage (map own_stage rest) last) × (is_on_text t.sub_operation ≡ true)) own
-own-within low last [] rest r h = tt
-own-within low last (t ∷ own) rest r h =
+own-within : (k last : ℕ) (own rest : List Stage) → RiseTo k last (own ++ rest) → list_all (λ t. is_on_text t.sub_operation) own ≡ true
+    → AllByRecursion (λ t. (1 ≤ t.stage) × (t.stage < 1 + last_from k (map own_stage own)) × (is_on_text t.sub_operation ≡ true)) own
+own-within k last [] rest r h = tt
+own-within k last (t ∷ own) rest r h =
     let p = both (is_on_text t.sub_operation) (list_all (λ (t : Stage). is_on_text t.sub_operation) own) h in
-    ((omega arith, below-next t.stage last own rest r.1, p.0), own-within t.stage last own rest r.1 p.1)
+    let l = r.0 in
+    let m = no-lower t.stage last own rest r.1 in
+    ((omega (arith, l), omega (arith, m), p.0), own-within t.stage last own rest r.1 p.1)
 
-from-first : (k low last : ℕ) (ts : List Stage) → k ≤ low → RiseTo low last ts → AllByRecursion (λ t. k ≤ t.stage) ts
-from-first k low last [] l r = tt
-from-first k low last (t ∷ ts) l r =
+from-next : (k low last : ℕ) (ts : List Stage) → k ≤ low → RiseTo low last ts → AllByRecursion (λ t. 1 + k ≤ t.stage) ts
+from-next k low last [] l r = tt
+from-next k low last (t ∷ ts) l r =
     let m = r.0 in
-    (omega (arith, l, m), from-first k t.stage last ts (omega (arith, l, m)) r.1)
+    (omega (arith, l, m), from-next k t.stage last ts (omega (arith, l, m)) r.1)
 
-rise-behind : (low last : ℕ) (own rest : List Stage) → RiseTo low last (own ++ rest) → AllByRecursion (λ t. next_stage (map own_stage rest) last ≤ t.stage) rest
-rise-behind low last [] [] r = tt
-rise-behind low last [] (t ∷ rest) r = (omega arith, from-first t.stage t.stage last rest (omega arith) r.1)
-rise-behind low last (u ∷ own) rest r = rise-behind u.stage last own rest r.1
+rise-behind : (k last : ℕ) (own rest : List Stage) → RiseTo k last (own ++ rest) → AllByRecursion (λ t. 1 + last_from k (map own_stage own) ≤ t.stage) rest
+rise-behind k last [] rest r = from-next k k last rest (omega arith) r
+rise-behind k last (t ∷ own) rest r = rise-behind t.stage last own rest r.1
 
-pub are-oldest : (last end : ℕ) (own rest : List Stage) → RiseTo 0 last (own ++ rest) → list_all (λ t. is_on_text t.sub_operation) own ≡ true → end ≡ next_stage (map own_stage rest) last
-    → AreOldest 0 end own rest
-are-oldest last end own rest r h e = record {
-  within = subst (λ n. AreWithin 0 n own) (sym e)
-      (All-from_recursion (λ t. (0 ≤ t.stage) × (t.stage < next_stage (map own_stage rest) last) × (is_on_text t.sub_operation ≡ true)) own (own-within 0 last own rest r h));
-  behind = subst (λ n. AreFrom n rest) (sym e) (All-from_recursion (λ t. next_stage (map own_stage rest) last ≤ t.stage) rest (rise-behind 0 last own rest r));
+pub are-oldest : (last : ℕ) (own rest : List Stage) → RiseTo 0 last (own ++ rest) → list_all (λ t. is_on_text t.sub_operation) own ≡ true
+    → AreOldest 1 (1 + last_from 0 (map own_stage own)) own rest
+are-oldest last own rest r h = record {
+  within = All-from_recursion (λ t. (1 ≤ t.stage) × (t.stage < 1 + last_from 0 (map own_stage own)) × (is_on_text t.sub_operation ≡ true)) own (own-within 0 last own rest r h);
+  behind = All-from_recursion (λ t. 1 + last_from 0 (map own_stage own) ≤ t.stage) rest (rise-behind 0 last own rest r);
 }
+
+-- ---- the last number
+
+last-is : (k i : ℕ) (ts : List OwnStage) (t : OwnStage) → suc i ≡ length ts → slice_get ts i ≡ Some t → last_from k ts ≡ t.stage
+last-is k i [] t n e = absurd (omega (arith, n))
+last-is k zero (u ∷ []) t n e = (let same : u ≡ t = (cc) in ap (λ (x : OwnStage). x.stage) same)
+last-is k zero (u ∷ v ∷ ts) t n e = absurd (omega (arith, n))
+last-is k (suc i) (u ∷ ts) t n e = last-is u.stage i ts t (omega (arith, n)) e
+
+none-last : (i : ℕ) (ts : List OwnStage) → suc i ≡ length ts → slice_get ts i ≡ None → ⊥
+none-last i [] n e = absurd (omega (arith, n))
+none-last zero (u ∷ ts) n e = (cc)
+none-last (suc i) (u ∷ ts) n e = none-last i ts (omega (arith, n)) e
+
+less-one : (n : ℕ) → suc n - 1 ≡ n
+less-one n = omega arith
+
+pub last-of : (ts : List OwnStage) (t : OwnStage) → slice_get ts (length ts - 1) ≡ Some t → last_from 0 ts ≡ t.stage
+last-of [] t e = (cc)
+last-of (u ∷ us) t e = last-is 0 (length us) (u ∷ us) t refl (sym (ap (slice_get (u ∷ us)) (less-one (length us))) ∙ e)
+
+pub last-none : (ts : List OwnStage) → slice_get ts (length ts - 1) ≡ None → 0 ≡ last_from 0 ts
+last-none [] e = refl
+last-none (u ∷ us) e = absurd (none-last (length us) (u ∷ us) refl (sym (ap (slice_get (u ∷ us)) (less-one (length us))) ∙ e))
+
+-- the next one taken off too
+off-next : (xs : List OwnStage) (i : ℕ) (t : OwnStage) (ys : List OwnStage) → drop i xs ≡ t ∷ ys → (take (suc i) xs ≡ take i xs ++ t ∷ []) × (drop (suc i) xs ≡ ys)
+off-next [] zero t ys e = (cc)
+off-next [] (suc i) t ys e = (cc)
+off-next (x ∷ xs) zero t ys e =
+    let first : x ≡ t = (cc) in
+    let rest : xs ≡ ys = (cc) in
+    (ap (λ y. y ∷ []) first, rest)
+off-next (x ∷ xs) (suc i) t ys e =
+    let r = off-next xs i t ys e in
+    (ap (λ zs. x ∷ zs) r.0, r.1)
+
+pub next-off : (xs : List OwnStage) (i : ℕ) (t : OwnStage) (ys : List OwnStage) → drop i xs ≡ t ∷ ys → (take (i + 1) xs ≡ take i xs ++ t ∷ []) × (drop (i + 1) xs ≡ ys)
+next-off xs i t ys e =
+    let up : i + 1 ≡ suc i = omega arith in
+    let r = off-next xs i t ys e in
+    (ap (λ n. take n xs) up ∙ r.0, ap (λ n. drop n xs) up ∙ r.1)

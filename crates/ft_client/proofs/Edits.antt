@@ -209,6 +209,13 @@ module _ (s : TreeOwn) (first : ℕ) (known : HoldsOne HoldsTree s (λ p. p.last
       next-one : (k n : ℕ) → k + 1 ≡ n → k < n
       next-one k n e = omega arith
 
+  -- the number of the next stage, also where other numbers changed
+  pub next-first : (n : NumberState) → n.last ≡ s.numbers.last → first ≤ n.last + 1
+  next-first n same =
+      let last = known.document.numbers.last in
+      let fits = known.fits in
+      omega (arith, same, last, fits)
+
   pub sound-before : (held : HeldDocument) → NamesFit held → held.last + 1 ≡ first → HoldsTree s held → IsTextSound (first - 1) held.doc held.stages
   sound-before held named e h =
       subst (λ k. IsTextSound k held.doc held.stages) (before held.last first e) (held-sound known.start known.client known.made s known.low known.document held named h)

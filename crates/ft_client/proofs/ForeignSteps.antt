@@ -27,7 +27,7 @@ use Rattle.ft_msg.specs.declared.messages.MsgKind.{MsgKind}
 use Rattle.ft_msg.specs.declared.messages.MsgKind.TheVariants as msg
 use Rattle.ft_msg.specs.Agreed.{reference_number, with_numbers}
 use Rattle.ft_msg.specs.Answers.{count_held}
-use Rattle.ft_msg.specs.Client.{floor}
+use Rattle.ft_msg.specs.Client.{floor, stages_of}
 use Rattle.ft_msg.specs.Process.{is_op_kind, process_fault}
 use Rattle.ft_msg.specs.WellFormed.{HasItsParts, IsWellFormedMessage, has_body}
 use Rattle.ft_laws_compaction.proofs.FloorSteps.{entry-above}
@@ -58,6 +58,16 @@ LeavesText doc d = d ≡ record doc { rows = d.rows; cols = d.cols; cells = d.ce
 choice : (P : Document → Type 0) (b : Bool) (d e : Document) → P d → P e → P (cond b d e)
 choice P true d e f g = f
 choice P false d e f g = g
+
+-- as many rows and columns were made, or more
+abbrev pub Grows : Document → Document → Type 0
+Grows doc d = (doc.rows.made ≤ d.rows.made) × (doc.cols.made ≤ d.cols.made)
+
+same : (n : ℕ) → n ≤ n
+same n = omega arith
+
+up : (n m : ℕ) → n ≤ n + m
+up n m = omega arith
 
 -- the pending rows and columns are as many
 abbrev KeepsPending : Document → Document → Type 0
@@ -117,6 +127,41 @@ module _ (s c r : ℕ) where
       let rest = grid-leaves (effect doc s c r (OnGrid op)) ops in
       let e = effects doc s c r (map (λ op. OnGrid op) (op ∷ ops)) in
       (rest.0 ∙ ap (λ (d : Document). record d { rows = e.rows; cols = e.cols; cells = e.cells; skipped = e.skipped }) one.0, (rest.1.0 ∙ one.1.0, rest.1.1 ∙ one.1.1))
+
+  -- no row and no column is ever made undone
+  one-grows : (doc : Document) (op : CellOp) → Grows doc (effect doc s c r (OnGrid op))
+  one-grows doc (SpliceIn Rows p count) = choice (Grows doc) (nat_le p (len (seen_by r c) doc.rows.items)) _ _ (up doc.rows.made _, same doc.cols.made) (same doc.rows.made, same doc.cols.made)
+  one-grows doc (SpliceIn Cols p count) = choice (Grows doc) (nat_le p (len (seen_by r c) doc.cols.items)) _ _ (same doc.rows.made, up doc.cols.made _) (same doc.rows.made, same doc.cols.made)
+  one-grows doc (SpliceOut Rows p q) = choice (Grows doc) (nat_le q (len (seen_by r c) doc.rows.items)) _ _ (same doc.rows.made, same doc.cols.made) (same doc.rows.made, same doc.cols.made)
+  one-grows doc (SpliceOut Cols p q) = choice (Grows doc) (nat_le q (len (seen_by r c) doc.cols.items)) _ _ (same doc.rows.made, same doc.cols.made) (same doc.rows.made, same doc.cols.made)
+  one-grows doc (Set i j value) = cell (at (seen_by r c) i doc.rows.items) (at (seen_by r c) j doc.cols.items)
+    where
+      cell : (o p : Option ListElement) → Grows doc (cell_effect doc o p value)
+      cell (Some x) (Some y) = (same doc.rows.made, same doc.cols.made)
+      cell (Some x) None = (same doc.rows.made, same doc.cols.made)
+      cell None p = (same doc.rows.made, same doc.cols.made)
+
+  pub grid-grows : (doc : Document) (ops : List CellOp) → Grows doc (effects doc s c r (map (λ op. OnGrid op) ops))
+  grid-grows doc [] = (same doc.rows.made, same doc.cols.made)
+  grid-grows doc (op ∷ ops) =
+      let one = one-grows doc op in
+      let rest = grid-grows (effect doc s c r (OnGrid op)) ops in
+      (further _ _ _ one.0 rest.0, further _ _ _ one.1 rest.1)
+    where
+      further : (i j k : ℕ) → i ≤ j → j ≤ k → i ≤ k
+      further i j k l m = omega (arith, l, m)
+
+-- the table of a client that is held has no fewer rows and columns after an operation of a message
+pub made-grows : (old : TreeOwn) (new : GridState) (seq c r : ℕ) (op : GridOp) (skipped : ℕ) (k : HoldsOne HoldsTree old (λ p. floor p ≤ r))
+    → TakesOp k.client.last_stage new (effects k.client.doc seq c r (sub_operations (Grid op))) k.client.doc (stages_of k.client) skipped
+    → (old.table.rows_made ≤ new.rows_made) × (old.table.cols_made ≤ new.cols_made)
+made-grows old new seq c r op skipped k t =
+    let doc = k.client.doc in
+    let grows = subst (λ os. Grows doc (effects doc seq c r os)) (sym (ops-are op)) (grid-grows seq c r doc (ops_of op)) in
+    (between _ _ _ _ k.document.table.rows_made t.holds.rows_made grows.0, between _ _ _ _ k.document.table.cols_made t.holds.cols_made grows.1)
+  where
+    between : (a b m n : ℕ) → a ≡ m → b ≡ n → a ≤ b → m ≤ n
+    between a b m n e f l = omega (arith, e, f, l)
 
 -- ---- the whole
 

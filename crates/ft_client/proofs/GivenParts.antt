@@ -1,7 +1,7 @@
 -- A part of a client is given its next stage.
-use Rattle.std.proofs.Common.{◌≡◌, ◌≤◌, ◌<◌, ℕ, ◌+◌, ◌-◌, Bool, true, false, cond, not, List, [], ◌∷◌, ◌++◌, Option, Some, None, append-nil, length, refl, sym, ◌∙◌, ap, subst, map, arith}
+use Rattle.std.proofs.Common.{◌≡◌, ◌≤◌, ◌<◌, ℕ, suc, ◌+◌, ◌-◌, Bool, true, false, cond, not, List, [], ◌∷◌, ◌++◌, Option, append-nil, length, refl, sym, ◌∙◌, ap, subst, map, arith}
 use Rattle.std.specs.List.{flat_map, list_all}
-use Rattle.std.specs.Option.{SomeIff, is_some, option_map}
+use Rattle.std.specs.Option.{is_some, option_map}
 use Rattle.ft_op.specs.declared.operations.ChannelOp.{ChannelOp}
 use Rattle.ft_op.specs.declared.operations.ChannelOp.TheVariants.{Grid, Text}
 use Rattle.ft_op.specs.declared.operations.GridOp.{GridOp}
@@ -14,22 +14,17 @@ use Rattle.ft_msg.specs.Reconnection.{carried_stage}
 use Rattle.ft_laws_agreement.specs.Sequencing.{is_grid_stage}
 use Rattle.ft_laws_names.specs.WellNamed.{AreWellNamed}
 use Rattle.ft_string.specs.Calls.{AreNext, HoldsGiven, HoldsSomeGiven}
-use Rattle.ft_string.specs.Holds.{IsTextSound, is_on_intervals, is_on_text}
+use Rattle.ft_string.specs.Holds.{IsTextSound, is_on_text}
 use Rattle.ft_string.specs.State.{TextState}
 use Rattle.ft_perm.specs.Handles.{numbers_from}
 use Rattle.ft_matrix.specs.GridStates.{GridState}
 use Rattle.ft_matrix.specs.HoldsGrid.{HoldsGrid}
 use Rattle.ft_client.specs.declared.own.TreeOwn.{TreeOwn}
 use Rattle.ft_client.specs.declared.stages.OwnStage.{OwnStage}
-use Rattle.ft_client.specs.declared.stages.Part.{Part}
 use Rattle.ft_client.specs.Parts.{is_text_part, own_stage, part_of}
-use Rattle.ft_client.specs.Rejoins.{GivesFirst, GivesGrid, GivesPart, GivesSome, GivesStage, GivesText, GivesTree, carried, gives_grid, gives_text, may_stand, text_only}
+use Rattle.ft_client.specs.Rejoins.{GivesFirst, GivesGrid, GivesPart, GivesSome, GivesStage, GivesText, GivesTree, carried, gives_grid, gives_text, text_only}
 use Rattle.ft_client.proofs.GridCarried.{some_carried}
 use Rattle.ft_client.proofs.GivesStep.{grid-given, grid-holds, grid-named, grid-off, text-given, text-holds, text-next, text-sound, turned}
-
-pub room : (o : Option ℕ) (k : ℕ) → SomeIff o (k + 1 < 18446744073709551616) (k + 1) → is_some o ≡ true → k + 1 < 18446744073709551616
-room None k h e = (cc)
-room (Some n) k h e = h.0
 
 part-on : (o : SubOperation) → is_text_part (part_of o) ≡ is_on_text o
 part-on (OnText op) = refl
@@ -103,6 +98,17 @@ module _ (s : TreeOwn) (stage : OwnStage) (f : GivesFirst s stage) where
 first-same : (x y : OwnStage) (xs ys : List OwnStage) → x ∷ xs ≡ y ∷ ys → x ≡ y
 first-same x y xs ys h = (cc)
 
+-- there is one
+pub some-left : (s : TreeOwn) → GivesSome s 1 → 0 < length s.stages.items
+some-left s k = step k.mine k.counted k.gives
+  where
+    above : (n : ℕ) → 0 < suc n
+    above n = omega arith
+
+    step : (mine : List Stage) → length mine ≡ 1 → GivesTree s k.low k.last k.doc k.front (mine ++ k.rest) → 0 < length s.stages.items
+    step [] n g = absurd (omega (arith, n))
+    step (t ∷ ts) n g = subst (λ (xs : List OwnStage). 0 < length xs) (sym g.stages) (above (length (map own_stage (ts ++ k.rest) ++ map own_stage (carried k.doc k.front))))
+
 pub first-of : (s mid : TreeOwn) (stage : OwnStage) → GivesSome s 1 → s.stages.items ≡ stage ∷ mid.stages.items → GivesFirst (record s { stages = mid.stages }) stage
 first-of s mid stage k e = step k.mine k.counted k.gives
   where
@@ -113,19 +119,9 @@ first-of s mid stage k e = step k.mine k.counted k.gives
         let same : stage ∷ mid.stages.items ≡ own_stage t ∷ (map own_stage k.rest ++ map own_stage (carried k.doc k.front)) = sym e ∙ g.stages in
         record { low = k.low; last = k.last; doc = k.doc; front = k.front; t = t; rest = k.rest; is = sym (first-same stage (own_stage t) mid.stages.items _ same); before = s; gives = g; same = refl }
 
-apart-part : (o : SubOperation) (p : Part) (alone : Bool) → part_of o ≡ p → may_stand p alone ≡ true → alone ≡ false → is_on_intervals o ≡ false
-apart-part o p alone e m a = step o (subst (λ q. may_stand q alone ≡ true) (sym e) m)
-  where
-    step : (o : SubOperation) → may_stand (part_of o) alone ≡ true → is_on_intervals o ≡ false
-    step (OnText op) m = refl
-    step (OnGrid op) m = refl
-    step (OnIntervals op) m =
-        let never : false ≡ true = sym a ∙ m in
-        (cc)
-
 -- ---- and given
-module _ (s mid given end : TreeOwn) (stage : OwnStage) (op : Option ChannelOp) (alone : Bool) (p : GivesPart stage op (record s { stages = mid.stages }) given)
-    (off : s.stages.items ≡ stage ∷ mid.stages.items) (put : end.stages.items ≡ cond (is_some op) (given.stages.items ++ stage ∷ []) given.stages.items) (m : may_stand stage.part alone ≡ true)
+module _ (s mid given end : TreeOwn) (stage : OwnStage) (op : Option ChannelOp) (p : GivesPart stage op (record s { stages = mid.stages }) given)
+    (off : s.stages.items ≡ stage ∷ mid.stages.items) (put : end.stages.items ≡ cond (is_some op) (given.stages.items ++ stage ∷ []) given.stages.items)
     (low last : ℕ) (doc : Document) (front : List Stage) (t : Stage) (rest : List Stage) (h : GivesTree s low last doc front (t ∷ rest)) where
   items : stage ∷ mid.stages.items ≡ own_stage t ∷ (map own_stage rest ++ map own_stage (carried doc front))
   items = sym off ∙ h.stages
@@ -153,10 +149,7 @@ module _ (s mid given end : TreeOwn) (stage : OwnStage) (op : Option ChannelOp) 
   of-text : is_text_part stage.part ≡ is_on_text t.sub_operation
   of-text = sym (ap (λ (x : OwnStage). is_text_part x.part) own-is) ∙ part-on t.sub_operation
 
-  apart : alone ≡ false → is_on_intervals t.sub_operation ≡ false
-  apart = apart-part t.sub_operation stage.part alone (ap (λ (x : OwnStage). x.part) own-is) m
-
-  by-part : GivesPart stage op (record s { stages = mid.stages }) given → GivesStage (record given { stages = end.stages }) low last doc front t rest alone op
+  by-part : GivesPart stage op (record s { stages = mid.stages }) given → GivesStage (record given { stages = end.stages }) low last doc front t rest op
   by-part (gives_text e g same) =
       let new = record given { stages = end.stages } in
       let on : is_on_text t.sub_operation ≡ true = sym of-text ∙ e in
@@ -167,7 +160,6 @@ module _ (s mid given end : TreeOwn) (stage : OwnStage) (op : Option ChannelOp) 
         tree = text-given s new low last doc front rest t h on op r.0 r.1 (g.given ∙ sym at-number) g.floor g.usable (ap (λ (x : TreeOwn). x.table) same) (ap (λ (x : TreeOwn). x.numbers) same)
             (behind-is (ap (λ (x : TreeOwn). x.stages.items) same) r.0);
         sent = r.0;
-        apart = apart;
       }
   by-part (gives_grid e g same) =
       let new = record given { stages = end.stages } in
@@ -178,12 +170,11 @@ module _ (s mid given end : TreeOwn) (stage : OwnStage) (op : Option ChannelOp) 
         tree = grid-given s new low last doc front rest t h not_on op r.0 r.1 (g.given ∙ sym at-number) g.floor g.usable (ap (λ (x : TreeOwn). x.text) same) (ap (λ (x : TreeOwn). x.numbers) same)
             (behind-is (ap (λ (x : TreeOwn). x.stages.items) same) r.0);
         sent = r.0;
-        apart = apart;
       }
     where
       off-text : (b : Bool) → is_grid_stage t ≡ not b → b ≡ false → is_grid_stage t ≡ true
       off-text true g f = (cc)
       off-text false g f = g
 
-  pub given-stage : GivesStage (record given { stages = end.stages }) low last doc front t rest alone op
+  pub given-stage : GivesStage (record given { stages = end.stages }) low last doc front t rest op
   given-stage = by-part p

@@ -1,5 +1,5 @@
 -- One stage is given for a reconnection: the other part stays as it is.
-use Rattle.std.proofs.Common.{◌≡◌, ◌≤◌, ◌<◌, ℕ, ◌+◌, ◌-◌, All, Bool, true, false, cond, not, nat_eq, List, [], ◌∷◌, ◌++◌, Option, append-nil, append_assoc, refl, sym, ◌∙◌, ap, subst, map, arith}
+use Rattle.std.proofs.Common.{◌≡◌, ◌≤◌, ◌<◌, ℕ, ◌+◌, All, Bool, true, false, cond, not, nat_eq, List, [], ◌∷◌, ◌++◌, Option, append-nil, append_assoc, refl, sym, ◌∙◌, ap, subst, map, arith}
 use Rattle.std.specs.List.{AllByRecursion}
 use Rattle.std.specs.Option.{is_some}
 use Rattle.std.proofs.lemmas.Bool.Decides.{nat_tests}

@@ -16,6 +16,7 @@ pub mod FewReads
 pub mod Shown
 pub mod Saved
 pub mod Idle
+pub mod OneEdits
 pub mod AckedParts
 pub mod TextOnly
 pub mod GridCarried

@@ -35,12 +35,13 @@ use Rattle.ft_matrix.specs.GridStates.{GridState}
 use Rattle.ft_matrix.specs.HoldsGrid.{HoldsGrid}
 use Rattle.ft_client.specs.declared.own.TreeOwn.{TreeOwn}
 use Rattle.ft_client.specs.Holds.{HoldsTree}
-use Rattle.ft_client.specs.Parts.{own_stage}
+use Rattle.ft_client.specs.Parts.{are_of_one_edit, own_stage}
 use Rattle.ft_client.specs.Rejoins.{GivesEdits, GivesTree, carried, text_only}
 use Rattle.ft_client.proofs.GivenEdits.{flat}
 use Rattle.ft_client.proofs.GivesStep.{later-each}
 use Rattle.ft_client.proofs.GridCarried.{carried-left, grid-behind, names-left, some_carried}
-use Rattle.ft_client.proofs.Known.{client-sound, held-sound, is-named, side-cols, side-rows}
+use Rattle.ft_client.proofs.Known.{client-sound, held-sound, is-named, is-ready, side-cols, side-rows}
+use Rattle.ft_client.proofs.OneEdits.{each-alike, each-of-one}
 use Rattle.ft_client.proofs.Parts.{grid-same, text-same}
 use Rattle.ft_client.proofs.TextOnly.{only-carried, only-twice, sound-only, text-part}
 
@@ -305,8 +306,8 @@ count-edits [] = refl
 count-edits (e ∷ edits) = ap (λ ns. length e.stages ∷ ns) (count-edits edits)
 
 abbrev pub GivesAll : TreeOwn → TreeOwn → List ℕ → List Resent → Type 0
-GivesAll s now counts again = (low last : ℕ) (doc : Document) (edits : List (List Stage)) → map (λ stages. length stages) edits ≡ counts → GivesTree s low last doc [] (flat edits)
-    → (again ≡ map (resent doc) edits) × GivesTree now low last doc (flat edits) []
+GivesAll s now counts again = (low last : ℕ) (doc : Document) (edits : List (List Stage)) → map (λ stages. length stages) edits ≡ counts
+    → list_all (λ stages. are_of_one_edit (map own_stage stages)) edits ≡ true → GivesTree s low last doc [] (flat edits) → (again ≡ map (resent doc) edits) × GivesTree now low last doc (flat edits) []
 
 module _ (s : TreeOwn) (entry : Entry) (counts : List ℕ) (k : HoldsOne HoldsTree s (λ p. (process_fault p entry ≡ None) × (map (λ e. length e.stages) p.pending ≡ counts))) where
   abbrev p : NaiveClient
@@ -319,12 +320,15 @@ module _ (s : TreeOwn) (entry : Entry) (counts : List ℕ) (k : HoldsOne HoldsTr
   client-begins = subst (λ ts. GivesTree s k.low p.last_stage p.doc [] ts) (sym (flat-edits p.pending))
       (begins s (held_by k.low p) (is-named k.start p k.made) (client-sound k.start p k.made k.document.numbers.fits) k.document)
 
+  each-one : list_all (λ stages. are_of_one_edit (map own_stage stages)) mine ≡ true
+  each-one = each-of-one p.pending (is-ready k.start p k.made).edits
+
   pub edits-of : GivesEdits s counts
-  edits-of = record { low = k.low; last = p.last_stage; doc = p.doc; edits = mine; counted = count-edits p.pending ∙ k.fits.1; gives = client-begins }
+  edits-of = record { low = k.low; last = p.last_stage; doc = p.doc; edits = mine; counted = count-edits p.pending ∙ k.fits.1; each = each-one; gives = client-begins }
 
   module _ (now : TreeOwn) (again : List Resent) (g : GivesAll s now counts again) where
     all-client : GivesTree now k.low p.last_stage p.doc (flat mine) []
-    all-client = (g k.low p.last_stage p.doc mine (count-edits p.pending ∙ k.fits.1) client-begins).1
+    all-client = (g k.low p.last_stage p.doc mine (count-edits p.pending ∙ k.fits.1) each-one client-begins).1
 
     pub now-text : now.text.usable ≡ true
     now-text = all-client.text_usable
@@ -345,7 +349,8 @@ module _ (s : TreeOwn) (entry : Entry) (counts : List ℕ) (k : HoldsOne HoldsTr
     module _ (held : HeldDocument) (edits : List (List Stage)) (named : NamesFit held) (parts : held.stages ≡ flat edits) (counted : map (λ stages. length stages) edits ≡ counts) (h : HoldsTree s held) where
       all-after : (again ≡ map (resent held.doc) edits) × GivesTree now held.low held.last held.doc held.stages []
       all-after =
-          let r = g held.low held.last held.doc edits counted (subst (λ ts. GivesTree s held.low held.last held.doc [] ts) parts
+          let each = each-alike mine edits (count-edits p.pending ∙ k.fits.1 ∙ sym counted) (ap (map own_stage) (flat-edits p.pending) ∙ sym k.document.stages ∙ h.stages ∙ ap (map own_stage) parts) each-one in
+          let r = g held.low held.last held.doc edits counted each (subst (λ ts. GivesTree s held.low held.last held.doc [] ts) parts
           (begins s held named (held-sound k.start p k.made s k.low k.document held named h) h)) in
           (r.0, subst (λ ts. GivesTree now held.low held.last held.doc ts []) (sym parts) r.1)
 

@@ -23,10 +23,10 @@ HoldsAckedGrid s seq conn mine rest doc =
     let acked = ack_stages seq conn (λ i. i) mine doc in
     HoldsGrid s acked.0 (map (renamed_stage acked.1) rest)
 
--- the number of the first stage, or else that of the next one behind the last
-abbrev pub next_stage : List OwnStage → ℕ → ℕ
-next_stage [] last = last + 1
-next_stage (t ∷ stages) last = t.stage
+-- the number of the last stage, or else this one
+abbrev pub last_from : ℕ → List OwnStage → ℕ
+last_from k [] = k
+last_from k (t ∷ stages) = last_from t.stage stages
 
 -- some document is held whose first stages have those numbers
 pub record HoldsFrontGrid (last : ℕ) (own : List OwnStage) (s : GridState) : Type 0 where
@@ -47,9 +47,9 @@ pub record AcksSome (last s c : ℕ) (g : GridState) (doc : Document) (mine left
   pub same : ack_stages s c rename left between ≡ ack_stages s c (λ i. i) mine doc
   pub counted : AllByRecursion (λ t. IsCounted between t.stage t.sub_operation) left
 
--- what an acknowledgement of stages below `end` makes of the documents whose text is held
+-- what an acknowledgement of the stages up to n makes of the documents whose text is held
 abbrev pub AcksText : ℕ → ℕ → ℕ → TextState → TextState → Type 0
-AcksText end s c old new = (last : ℕ) (doc : Document) (mine rest : List Stage) → AreOldest 0 end mine rest → IsTextSound last doc (mine ++ rest) → HoldsText old doc (mine ++ rest)
+AcksText n s c old new = (last : ℕ) (doc : Document) (mine rest : List Stage) → AreOldest 1 (1 + n) mine rest → IsTextSound last doc (mine ++ rest) → HoldsText old doc (mine ++ rest)
     → HoldsAcked new s c mine rest doc
 
 -- and what one of these stages makes of those whose table is
@@ -58,7 +58,7 @@ AcksGrid own s c old new = (last : ℕ) (doc : Document) (mine rest : List Stage
     → HoldsGrid old doc (mine ++ rest) → HoldsAckedGrid new s c mine rest doc
 
 -- the one or the other, as these stages are of the text or of the grid
-pub data AcksPart (own : List OwnStage) (end s c : ℕ) (old new : TreeOwn) : Type 0 where
-  acks_text : list_all (λ t. is_text_part t.part) own ≡ true → AcksText end s c old.text new.text → KeepsText old.text new.text → new ≡ record old { text = new.text } → AcksPart own end s c old new
+pub data AcksPart (own : List OwnStage) (s c : ℕ) (old new : TreeOwn) : Type 0 where
+  acks_text : list_all (λ t. is_text_part t.part) own ≡ true → AcksText (last_from 0 own) s c old.text new.text → KeepsText old.text new.text → new ≡ record old { text = new.text } → AcksPart own s c old new
   acks_grid : list_all (λ t. is_grid_part t.part) own ≡ true → AcksGrid own s c old.table new.table → KeepsGrid old.table new.table → new ≡ record old { table = new.table }
-      → AcksPart own end s c old new
+      → AcksPart own s c old new

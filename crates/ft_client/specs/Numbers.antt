@@ -2,6 +2,7 @@
 use Rattle.std.specs.Prelude.{◌≡◌, ◌<◌, ◌≤◌, ◌^◌, ℕ, List, []}
 use Rattle.ft_props.specs.Properties.{Characters}
 use Rattle.ft_sumdoc.specs.Runs.{unit_count}
+use Rattle.ft_sumdoc.specs.Segments.{text_length}
 use Rattle.ft_op.specs.Document.{Document}
 use Rattle.ft_msg.specs.Answers.{count_held}
 use Rattle.ft_sumdoc.specs.declared.summary.SumDoc.{SumDoc}
@@ -39,11 +40,11 @@ pub record HasNumbers (n : NumberState) (doc : Document) (k : ℕ) : Type 0 wher
 abbrev pub bare_summary : NumberState → List Characters → SumDoc
 bare_summary n conns = record { seq = n.number; min = n.minimum; skipped = n.skipped; other = n.other; conns = conns; text = []; rows = []; cols = []; intervals = []; cells = [] }
 
--- a summary may tell its numbers, and have as many units, where so many elements of the text were ever made
-pub record IsShortSummary (sum : SumDoc) (made : ℕ) : Type 0 where
+-- a summary may tell its numbers, and have as many elements and units
+pub record IsShortSummary (sum : SumDoc) : Type 0 where
   pub seq : sum.seq < 2 ^ 53
   pub skipped : sum.skipped < 2 ^ 53
   pub other : sum.other < 2 ^ 53
-  pub text : made < 2 ^ 53
+  pub text : text_length sum.text < 2 ^ 53
   pub rows : unit_count sum.rows ≤ 2 ^ 52
   pub cols : unit_count sum.cols ≤ 2 ^ 52

@@ -1,5 +1,6 @@
 -- The pending stages of a document whose text and whose table keep those on their own part: which part each one is on.
-use Rattle.std.specs.Prelude.{ℕ, zero, suc, ◌+◌, Bool, true, false, cond, not, List, [], ◌∷◌, ◌++◌, drop, take}
+use Rattle.std.specs.Prelude.{ℕ, zero, suc, ◌+◌, Bool, true, false, cond, not, ◌||◌, List, [], ◌∷◌, ◌++◌, drop, take}
+use Rattle.std.specs.List.{list_all}
 use Rattle.ft_op.specs.declared.operations.CellOp.{CellOp}
 use Rattle.ft_op.specs.declared.operations.CellOp.TheVariants.{SpliceIn}
 use Rattle.ft_op.specs.declared.operations.Target.{Target}
@@ -49,6 +50,20 @@ merged (Grid ∷ parts) es is gs = take 1 gs ++ merged parts es is (drop 1 gs)
 -- whether it is the text
 abbrev pub is_text_part : Part → Bool
 is_text_part part = not (is_grid_part part)
+
+-- whether it is the elements of the text
+abbrev pub is_elements_part : Part → Bool
+is_elements_part Elements = true
+is_elements_part _ = false
+
+-- whether there is one stage
+abbrev pub is_alone : List OwnStage → Bool
+is_alone (t ∷ []) = true
+is_alone _ = false
+
+-- whether stages may be those of one edit: all on the elements of the text, all on the grid, or one alone, as it is on the intervals
+abbrev pub are_of_one_edit : List OwnStage → Bool
+are_of_one_edit ts = list_all (λ t. is_elements_part t.part) ts || (list_all (λ t. is_grid_part t.part) ts || is_alone ts)
 
 -- how many rows, or columns, an operation puts in
 abbrev pub units_by : Target → CellOp → ℕ

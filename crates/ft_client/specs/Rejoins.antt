@@ -1,5 +1,5 @@
 -- The pending stages are given one after another for a reconnection. No public clause cites this module.
-use Rattle.std.specs.Prelude.{◌≡◌, ◌<◌, ◌≤◌, ℕ, ◌+◌, true, false, All, Bool, not, Option, Some, None, List, [], ◌∷◌, ◌++◌, filter, flat_map, length, map}
+use Rattle.std.specs.Prelude.{◌≡◌, ◌<◌, ◌≤◌, ◌^◌, ℕ, ◌+◌, true, false, All, Bool, Option, Some, None, List, [], ◌∷◌, ◌++◌, filter, flat_map, length, map}
 use Rattle.std.specs.List.{list_all}
 use Rattle.ft_op.specs.declared.operations.BaseOp.{BaseOp}
 use Rattle.ft_op.specs.declared.operations.CellOp.{CellOp}
@@ -11,7 +11,6 @@ use Rattle.ft_op.specs.declared.operations.TextOp.{TextOp}
 use Rattle.ft_op.specs.declared.operations.TextOp.TheVariants as text
 use Rattle.ft_op.specs.Document.{Document}
 use Rattle.ft_op.specs.Pieces.{op_of, pieces}
-use Rattle.ft_op.specs.Operation.{SubOperation}
 use Rattle.ft_op.specs.Stages.{Stage}
 use Rattle.ft_laws_agreement.specs.Sequencing.{is_grid_stage}
 use Rattle.ft_replica.specs.declared.document.Resent.{Resent}
@@ -20,15 +19,13 @@ use Rattle.ft_string.specs.Calls.{AreNext, HoldsGiven}
 use Rattle.ft_string.specs.State.{TextState}
 use Rattle.ft_matrix.specs.GridStates.{GridState}
 use Rattle.ft_client.specs.declared.stages.OwnStage.{OwnStage}
-use Rattle.ft_client.specs.declared.stages.Part.{Part}
-use Rattle.ft_client.specs.declared.stages.Part.TheVariants.{Intervals}
 use Rattle.ft_msg.specs.Reconnection.{carried_stage}
 use Rattle.ft_laws_names.specs.WellNamed.{AreWellNamed}
-use Rattle.ft_string.specs.Holds.{HoldsText, IsTextSound, is_on_intervals, is_on_text}
+use Rattle.ft_string.specs.Holds.{HoldsText, IsTextSound, is_on_text}
 use Rattle.ft_matrix.specs.HoldsGrid.{HoldsGrid}
 use Rattle.ft_client.specs.declared.own.TreeOwn.{TreeOwn}
 use Rattle.ft_client.specs.Numbers.{HasNumbers}
-use Rattle.ft_client.specs.Parts.{is_text_part, own_stage}
+use Rattle.ft_client.specs.Parts.{are_of_one_edit, is_text_part, own_stage}
 
 -- the stages as they go on
 abbrev pub carried : Document → List Stage → List Stage
@@ -59,7 +56,7 @@ pub record GivesTree (s : TreeOwn) (low last : ℕ) (doc : Document) (front behi
   pub text_floor : s.text.floor ≤ low
   pub table_floor : s.table.floor ≤ low
 
--- some document is held so whose next stages are so many
+-- some document is held so whose next stages are so many, which may be those of one edit
 pub record GivesSome (s : TreeOwn) (count : ℕ) : Type 0 where
   pub low : ℕ
   pub last : ℕ
@@ -68,6 +65,7 @@ pub record GivesSome (s : TreeOwn) (count : ℕ) : Type 0 where
   pub mine : List Stage
   pub rest : List Stage
   pub counted : length mine ≡ count
+  pub one : are_of_one_edit (map own_stage mine) ≡ true
   pub gives : GivesTree s low last doc front (mine ++ rest)
 
 -- ---- operations joined
@@ -88,6 +86,12 @@ Joins (Text a) (Text b) op = op ≡ Text (text.Group (base_ops a ++ base_ops b))
 Joins (Grid a) (Grid b) op = op ≡ Grid (grid.Group (cell_ops a ++ cell_ops b))
 Joins _ _ op = ⊥
 
+-- whether both are on the text, or both on the grid
+abbrev pub are_of_one_part : ChannelOp → ChannelOp → Bool
+are_of_one_part (Text a) (Text b) = true
+are_of_one_part (Grid a) (Grid b) = true
+are_of_one_part _ _ = false
+
 -- with another one or none before it
 abbrev pub JoinsSome : Option ChannelOp → ChannelOp → ChannelOp → Type 0
 JoinsSome None more op = op ≡ more
@@ -100,29 +104,19 @@ AddsPieces old (Some more) new = (new.stages ≡ old.stages + 1) × ((op : Chann
 
 -- ---- steps
 
--- a piece that isn't on an interval
-abbrev pub is_apart : SubOperation → Bool
-is_apart o = not (is_on_intervals o)
-
--- a stage of the intervals stands alone
-abbrev pub may_stand : Part → Bool → Bool
-may_stand Intervals alone = alone
-may_stand _ alone = true
-
--- the stage was given, and has these pieces; one of the intervals only where it stands alone
-pub record GivesStage (s : TreeOwn) (low last : ℕ) (doc : Document) (front : List Stage) (t : Stage) (rest : List Stage) (alone : Bool) (op : Option ChannelOp) : Type 0 where
+-- the stage was given, and has these pieces
+pub record GivesStage (s : TreeOwn) (low last : ℕ) (doc : Document) (front : List Stage) (t : Stage) (rest : List Stage) (op : Option ChannelOp) : Type 0 where
   pub tree : GivesTree s low last doc (front ++ t ∷ []) rest
   pub sent : op ≡ op_of (pieces doc t)
-  pub apart : alone ≡ false → is_on_intervals t.sub_operation ≡ false
 
--- so many stages of an edit were given; its pieces so far go on with those of others, unless the edit has one stage alone
-pub record GivesEdit (s : TreeOwn) (low last : ℕ) (doc : Document) (front mine rest : List Stage) (alone : Bool) (edit : Resent) : Type 0 where
+-- so many stages of an edit were given, which are sent again so
+pub record GivesEdit (s : TreeOwn) (low last : ℕ) (doc : Document) (front mine rest : List Stage) (edit : Resent) : Type 0 where
   pub tree : GivesTree s low last doc (front ++ mine) rest
   pub again : edit ≡ resent doc mine
-  pub apart : alone ≡ false → list_all is_apart (flat_map (pieces doc) mine) ≡ true
 
--- some document is held so whose next edit has these stages so far, and another one
-pub record GivesNext (s : TreeOwn) (alone : Bool) (edit : Resent) : Type 0 where
+-- some document is held so whose next edit has these stages so far, and another one; they may be those of one edit, and are fewer than
+-- 2^64
+pub record GivesNext (s : TreeOwn) (edit : Resent) : Type 0 where
   pub low : ℕ
   pub last : ℕ
   pub doc : Document
@@ -130,16 +124,18 @@ pub record GivesNext (s : TreeOwn) (alone : Bool) (edit : Resent) : Type 0 where
   pub mine : List Stage
   pub t : Stage
   pub rest : List Stage
-  pub first : alone ≡ true → mine ≡ []
-  pub gives : GivesEdit s low last doc front mine (t ∷ rest) alone edit
+  pub one : are_of_one_edit (map own_stage (mine ++ t ∷ [])) ≡ true
+  pub few : length mine + 1 < 2 ^ 64
+  pub gives : GivesEdit s low last doc front mine (t ∷ rest) edit
 
--- some document is held so whose edits have so many stages
+-- some document is held so whose edits have so many stages, those of each may be of one edit
 pub record GivesEdits (s : TreeOwn) (counts : List ℕ) : Type 0 where
   pub low : ℕ
   pub last : ℕ
   pub doc : Document
   pub edits : List (List Stage)
   pub counted : map (λ stages. length stages) edits ≡ counts
+  pub each : list_all (λ stages. are_of_one_edit (map own_stage stages)) edits ≡ true
   pub gives : GivesTree s low last doc [] (flat_map (λ stages. stages) edits)
 
 -- some document is held whose next stage is this one, which was taken off already

@@ -1,6 +1,6 @@
 //! The acknowledgement of the client's own messages.
 
-ghost use Rattle.std.specs.Prelude.{◌≡◌, ◌∷◌, [], All, ◌≤◌, ◌<◌, ◌^◌, ◌++◌, ℕ, IfOk, IsTrue, List, None, OnOk, drop, length, map, take, true};
+ghost use Rattle.std.specs.Prelude.{◌≡◌, ◌∷◌, [], All, ◌≤◌, ◌+◌, ◌++◌, ℕ, IfOk, IsTrue, List, None, OnOk, drop, false, length, map, take, true};
 ghost use Rattle.std.specs.List.{list_all};
 ghost use Rattle.ft_op.specs.Stages.{Stage};
 ghost use Rattle.ft_op.specs.Document.{Document};
@@ -9,15 +9,16 @@ ghost use Rattle.ft_msg.specs.Process.{process_fault};
 ghost use Rattle.ft_msg.specs.WellFormed.{IsWellFormedMessage};
 ghost use Rattle.ft_laws_names.specs.GridFacts.{AreCounted};
 ghost use Rattle.ft_laws_names.specs.WellNamed.{AreWellNamed};
-ghost use Rattle.ft_replica.specs.Own.{HeldDocument, HoldsOne, NamesFit, acknowledged};
+ghost use Rattle.ft_replica.specs.Own.{HeldDocument, HoldsOne, NamesFit, acknowledged, oldest_stages};
 ghost use Rattle.ft_matrix.specs.HoldsGrid.{HoldsGrid};
 ghost use Rattle.ft_string.specs.Calls.{HoldsOldest};
-ghost use Rattle.ft_client.specs.Acks.{AcksPart, HoldsAckedGrid, HoldsFrontGrid, next_stage};
+ghost use Rattle.ft_client.specs.Acks.{AcksPart, HoldsAckedGrid, HoldsFrontGrid, last_from};
 ghost use Rattle.ft_client.specs.Holds.{HoldsTree};
 ghost use Rattle.ft_client.specs.Parts.{is_grid_part, is_text_part, own_stage};
 ghost use Rattle.ft_matrix.specs.Conditions.{KeepsRest as KeepsGrid};
 
 use crate::own::TreeOwn;
+use crate::own::rejoining::take_next;
 use crate::stages::{OwnStage, Part};
 use ft_base::OutOfMemory;
 use ft_matrix::SharedMatrix;
@@ -26,53 +27,50 @@ use std::alloc::Global;
 use std::collections::VecDeque;
 
 impl TreeOwn {
-    /// Takes the client's own message: its first `count` stages become sequenced. They are of one edit, so of one part.
+    /// Takes the client's own message: its first `count` stages, those of its oldest edit, become sequenced.
     ///
-    /// Answers `OutOfMemory` where there is no room, or they aren't of one part.
+    /// Answers `OutOfMemory` where there is no room.
     pub(crate) fn acknowledge(&mut self, count: usize, entry: &Entry) -> Result<(), OutOfMemory>
         requires formed { IsWellFormedMessage entry.now.msg }
-        requires known { HoldsOne HoldsTree self.old (λ p. (process_fault p entry.now ≡ None) × (count ≤ length (stages_of p))) }
+        requires known { HoldsOne HoldsTree self.old (λ p. (process_fault p entry.now ≡ None) × (count ≤ length (stages_of p)) × (length (oldest_stages p.pending) ≡ count)) }
         ensures { (held : HeldDocument) (own rest : List Stage) → NamesFit held → held.stages ≡ own ++ rest → length own ≡ count → HoldsTree self.old held
             → OnOk result (HoldsTree self.new (acknowledged entry.now own rest held)) }
     {
         let own = take_front(self.text.allocator(), &mut self.stages, count)?;
-        let end = next_stage(&self.stages, self.numbers.last())?;
-        self.ack_own(own.as_slice(), end, entry)?;
+        self.ack_own(own.as_slice(), entry)?;
         self.numbers.take(entry);
         Ok(())
     }
 
-    /// Acknowledges these stages, which are the lowest: those of the text are the ones below `end`.
+    /// Acknowledges these stages, which are the lowest, and all of the text or all of the grid.
     ///
-    /// Answers `OutOfMemory` where there is no room, or they aren't of one part.
-    fn ack_own(&mut self, own: &[OwnStage], end: u64, entry: &Entry) -> Result<(), OutOfMemory>
+    /// Answers `OutOfMemory` where there is no room.
+    fn ack_own(&mut self, own: &[OwnStage], entry: &Entry) -> Result<(), OutOfMemory>
         requires text_usable { self.old.text.usable ≡ true }
         requires table_usable { self.old.table.usable ≡ true }
         requires text_given { self.old.text.given ≡ 0 }
         requires table_given { self.old.table.given ≡ 0 }
-        requires of_text { list_all (λ t. is_text_part t.part) own.now ≡ true → (last : ℕ) × HoldsOldest last 0 end self.old.text }
+        requires of_one { list_all (λ t. is_text_part t.part) own.now ≡ false → list_all (λ t. is_grid_part t.part) own.now ≡ true }
+        requires of_text { list_all (λ t. is_text_part t.part) own.now ≡ true → (last : ℕ) × HoldsOldest last 1 (1 + last_from 0 own.now) self.old.text }
         requires of_grid { list_all (λ t. is_grid_part t.part) own.now ≡ true → (last : ℕ) × HoldsFrontGrid last own.now self.old.table }
-        ensures { OnOk result (AcksPart own.now end entry.now.msg.seq entry.now.origin self.old self.new) }
+        ensures { OnOk result (AcksPart own.now entry.now.msg.seq entry.now.origin self.old self.new) }
     {
         if are_of_text(own) {
-            self.text.ack(0, end, entry.msg.seq, entry.origin)
-        } else if are_of_grid(own) {
-            ack_table(&mut self.table, own, entry.msg.seq, entry.origin)
+            self.text
+                .ack(1, last_number(own), entry.msg.seq, entry.origin)
         } else {
-            Err(OutOfMemory)
+            ack_table(&mut self.table, own, entry.msg.seq, entry.origin)
         }
     }
 }
 
-/// The number of the first stage, or else that of the next one to come.
-///
-/// Answers `OutOfMemory` where that would pass 2^64 - 1.
-fn next_stage(stages: &VecDeque<OwnStage>, last: u64) -> Result<u64, OutOfMemory>
-    ensures { IfOk result (λ k. k ≡ next_stage stages.now.items last) }
+/// The number of the last stage, or else 0.
+fn last_number(stages: &[OwnStage]) -> u64
+    ensures { result ≡ last_from 0 stages.now }
 {
-    match stages.front() {
-        Some(stage) => Ok(stage.stage),
-        None => last.checked_add(1).ok_or(OutOfMemory),
+    match stages.last() {
+        Some(stage) => stage.stage,
+        None => 0,
     }
 }
 
@@ -90,8 +88,7 @@ fn take_front(
 {
     let mut own = Vec::new(alloc);
     for _i in 0..count {
-        let stage = stages.pop_front().ok_or(OutOfMemory)?;
-        own.push(stage)?;
+        own.push(take_next(stages))?;
     }
     Ok(own)
 }
@@ -103,17 +100,35 @@ fn are_of_text(stages: &[OwnStage]) -> bool
     stages.iter().all(|t| t.part != Part::Grid)
 }
 
-/// Whether all stages are of the grid.
-fn are_of_grid(stages: &[OwnStage]) -> bool
-    ensures { result ≡ list_all (λ t. is_grid_part t.part) stages.now }
-{
-    stages.iter().all(|t| t.part == Part::Grid)
-}
-
-/// Acknowledges stages of the table, which are the lowest, under number `seq` of connection `conn`.
+/// Acknowledges stages of the table, which are the lowest, under number `seq` of connection `conn`: in one call where their numbers
+/// follow one another, as they do but for those of an edit that lost some in a reconnection.
 ///
 /// Answers `OutOfMemory` where there is no room for what they make.
 fn ack_table(
+    table: &mut SharedMatrix,
+    own: &[OwnStage],
+    seq: u64,
+    conn: u32,
+) -> Result<(), OutOfMemory>
+    requires usable { IsTrue table.old.usable }
+    requires none_given { table.old.given ≡ 0 }
+    requires held { (last : ℕ) × HoldsFrontGrid last own.now table.old }
+    ensures acked { (last : ℕ) (doc : Document) (mine rest : List Stage) → map own_stage mine ≡ own.now → AreWellNamed last doc (mine ++ rest) → AreCounted doc mine
+        → HoldsGrid table.old doc (mine ++ rest) → OnOk result (HoldsAckedGrid table.new seq conn mine rest doc) }
+    ensures rest { OnOk result (KeepsGrid table.old table.new) }
+{
+    if let Some(first) = own.first() {
+        if last_number(own).saturating_sub(first.stage) < own.len() as u64 {
+            return table.ack(first.stage, own.len() as u64, seq, conn);
+        }
+    }
+    ack_each(table, own, seq, conn)
+}
+
+/// The same stage by stage.
+///
+/// Answers `OutOfMemory` where there is no room for what they make.
+fn ack_each(
     table: &mut SharedMatrix,
     own: &[OwnStage],
     seq: u64,

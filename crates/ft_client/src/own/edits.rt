@@ -154,7 +154,7 @@ fn units_by(target: Target, op: &CellOp) -> u64
     }
 }
 
-/// Notes stages of one part behind the others, and answers how many they are.
+/// Notes stages of one part behind the others, from a number on that is no higher than the next one, and answers how many they are.
 ///
 /// Answers `OutOfMemory` where there is no room for them, or their numbers would pass 2^64 - 1.
 fn note(
@@ -164,10 +164,14 @@ fn note(
     count: u64,
     part: Part,
 ) -> Result<usize, EditFault>
+    requires { first ≤ numbers.old.last + 1 }
     ensures noted { IfOk result (λ n. Notes first count part n stages.old.items stages.new.items numbers.old numbers.new) }
     ensures err { IfErr result (λ fault. fault ≡ EditFault.OutOfMemory) }
 {
-    if numbers.take_stages(count).is_err() || push_stages(stages, first, count, part).is_err() {
+    if numbers.take_stages(count).is_err() {
+        return Err(EditFault::OutOfMemory);
+    }
+    if push_stages(stages, first, count, part).is_err() {
         return Err(EditFault::OutOfMemory);
     }
     Ok(count as usize)
@@ -175,7 +179,7 @@ fn note(
 
 /// Adds stages of one part behind the others.
 ///
-/// Answers `OutOfMemory` where there is no room for them, or their numbers would pass 2^64 - 1.
+/// Answers `OutOfMemory` where there is no room for them.
 #[tactic(auto, using(crate::proofs::Noted::stages_more))]
 fn push_stages(
     stages: &mut VecDeque<OwnStage>,
@@ -183,10 +187,11 @@ fn push_stages(
     count: u64,
     part: Part,
 ) -> Result<(), OutOfMemory>
+    requires { first + count ≤ 2 ^ 64 }
     ensures { OnOk result (stages.new.items ≡ stages.old.items ++ stages_from first count part) }
 {
     for i in 0..count {
-        let stage = first.checked_add(i).ok_or(OutOfMemory)?;
+        let stage = first + i;
         stages.push_back(OwnStage { stage, part })?;
     }
     Ok(())

@@ -1,6 +1,6 @@
 //! Messages of other clients.
 
-ghost use Rattle.std.specs.Prelude.{◌≡◌, ◌<◌, ◌≤◌, None, IfOk, OnOk, ◌+◌};
+ghost use Rattle.std.specs.Prelude.{◌≡◌, ◌<◌, ◌≤◌, None, OnOk, ◌+◌};
 ghost use Rattle.ft_op.specs.declared.operations.ChannelOp.{ChannelOp};
 ghost use Rattle.ft_op.specs.Document.{effects};
 ghost use Rattle.ft_op.specs.Operation.{sub_operations};
@@ -104,20 +104,19 @@ impl TreeOwn {
         let rows = self.table.rows_made();
         let cols = self.table.cols_made();
         let skipped = self.table.apply(op, seq, at, steps)?;
-        let rows = more(rows, self.table.rows_made())?;
-        let cols = more(cols, self.table.cols_made())?;
+        let rows = more(rows, self.table.rows_made());
+        let cols = more(cols, self.table.cols_made());
         self.numbers.count_units(rows, cols)?;
         self.numbers.skip(skipped)
     }
 }
 
-/// How many more the second number is than the first.
-///
-/// Answers `OutOfMemory` where it is less, which a count never is that was the first before.
-fn more(before: u64, after: u64) -> Result<u64, OutOfMemory>
-    ensures { IfOk result (λ n. after ≡ before + n) }
+/// How many more the second number is than the first, which is no greater.
+fn more(before: u64, after: u64) -> u64
+    requires { before ≤ after }
+    ensures { after ≡ before + result }
 {
-    after.checked_sub(before).ok_or(OutOfMemory)
+    after - before
 }
 
 /// The reference number of a message as a count: nothing is known to one below 0.

@@ -1,7 +1,9 @@
 //! The client's own join: its pending edits are sent again, and their elements are put in afresh.
 
-ghost use Rattle.std.specs.Prelude.{◌≡◌, ◌∷◌, ◌++◌, [], ℕ, IfOk, List, None, OnOk, cond, flat_map, length, map, nat_eq, true};
+ghost use Rattle.std.specs.Prelude.{◌≡◌, ◌<◌, ◌^◌, ◌+◌, ◌∷◌, ◌++◌, [], ℕ, IfOk, List, None, OnOk, Some, cond, flat_map, length, map, true};
+ghost use Rattle.std.specs.List.{list_all};
 ghost use Rattle.std.specs.Option.{option_map};
+ghost use Rattle.ft_op.specs.declared.operations.ChannelOp.{ChannelOp};
 ghost use Rattle.ft_op.specs.declared.operations.ChannelOp.TheVariants.{Grid, Text};
 ghost use Rattle.ft_op.specs.Document.{Document};
 ghost use Rattle.ft_op.specs.Stages.{Stage};
@@ -10,8 +12,8 @@ ghost use Rattle.ft_msg.specs.Process.{process_fault};
 ghost use Rattle.ft_msg.specs.WellFormed.{IsWellFormedMessage};
 ghost use Rattle.ft_replica.specs.Own.{HeldDocument, HoldsOne, NamesFit, rejoined, resent};
 ghost use Rattle.ft_client.specs.Holds.{HoldsTree};
-ghost use Rattle.ft_client.specs.Parts.{is_text_part};
-ghost use Rattle.ft_client.specs.Rejoins.{AddsPieces, GivesEdit, GivesEdits, GivesFirst, GivesNext, GivesPart, GivesSome, GivesStage, GivesTree, Joins, base_ops, cell_ops, may_stand};
+ghost use Rattle.ft_client.specs.Parts.{are_of_one_edit, is_text_part, own_stage};
+ghost use Rattle.ft_client.specs.Rejoins.{AddsPieces, GivesEdit, GivesEdits, GivesFirst, GivesNext, GivesPart, GivesSome, GivesStage, GivesTree, Joins, are_of_one_part, base_ops, cell_ops};
 
 use crate::own::TreeOwn;
 use crate::stages::{OwnStage, Part};
@@ -50,7 +52,7 @@ impl TreeOwn {
     fn give_edits(&mut self, counts: &[usize]) -> Result<VecDeque<Resent>, OutOfMemory>
         requires known { GivesEdits self.old counts.now }
         ensures { (low last : ℕ) (doc : Document) (edits : List (List Stage)) → map (λ stages. length stages) edits ≡ counts.now
-            → GivesTree self.old low last doc [] (flat_map (λ stages. stages) edits)
+            → list_all (λ stages. are_of_one_edit (map own_stage stages)) edits ≡ true → GivesTree self.old low last doc [] (flat_map (λ stages. stages) edits)
             → IfOk result (λ again. (again.items ≡ map (resent doc) edits) × GivesTree self.new low last doc (flat_map (λ stages. stages) edits) []) }
     {
         let mut again = VecDeque::new(self.text.allocator());
@@ -66,43 +68,41 @@ impl TreeOwn {
     /// Answers `OutOfMemory` where there is no room for it.
     fn give_edit(&mut self, count: usize) -> Result<Resent, OutOfMemory>
         requires known { GivesSome self.old count }
-        ensures { (low last : ℕ) (doc : Document) (front mine rest : List Stage) → length mine ≡ count → GivesTree self.old low last doc front (mine ++ rest)
-            → IfOk result (λ again. GivesEdit self.new low last doc front mine rest (nat_eq count 1) again) }
+        ensures { (low last : ℕ) (doc : Document) (front mine rest : List Stage) → length mine ≡ count → are_of_one_edit (map own_stage mine) ≡ true
+            → GivesTree self.old low last doc front (mine ++ rest) → IfOk result (λ again. GivesEdit self.new low last doc front mine rest again) }
     {
         let mut again = Resent {
             op: None,
             stages: 0,
         };
         for _i in 0..count {
-            again = self.give_more(again, count == 1)?;
+            again = self.give_more(again)?;
         }
         Ok(again)
     }
 
-    /// Gives the next stage of an edit that is sent again as this so far. One of the intervals stands alone.
+    /// Gives the next stage of an edit that is sent again as this so far.
     ///
     /// Answers `OutOfMemory` where there is no room for it.
-    fn give_more(&mut self, again: Resent, alone: bool) -> Result<Resent, OutOfMemory>
-        requires known { GivesNext self.old alone again }
-        ensures { (low last : ℕ) (doc : Document) (front mine : List Stage) (t : Stage) (rest : List Stage) → (alone ≡ true → mine ≡ [])
-            → GivesEdit self.old low last doc front mine (t ∷ rest) alone again
-            → IfOk result (λ v. GivesEdit self.new low last doc front (mine ++ t ∷ []) rest alone v) }
+    fn give_more(&mut self, again: Resent) -> Result<Resent, OutOfMemory>
+        requires known { GivesNext self.old again }
+        ensures { (low last : ℕ) (doc : Document) (front mine : List Stage) (t : Stage) (rest : List Stage) → are_of_one_edit (map own_stage (mine ++ t ∷ [])) ≡ true
+            → GivesEdit self.old low last doc front mine (t ∷ rest) again → IfOk result (λ v. GivesEdit self.new low last doc front (mine ++ t ∷ []) rest v) }
     {
-        let op = self.give_stage(alone)?;
+        let op = self.give_stage()?;
         let again = with_pieces(self.text.allocator(), again, op)?;
         Ok(again)
     }
 
-    /// Gives the next stage, and answers its pieces as one operation: None where it has none, and then it is gone. One of the
-    /// intervals stands alone.
+    /// Gives the next stage, and answers its pieces as one operation: None where it has none, and then it is gone.
     ///
-    /// Answers `OutOfMemory` where there is no room for it, or its number is the last one.
-    fn give_stage(&mut self, alone: bool) -> Result<Option<ChannelOp>, OutOfMemory>
+    /// Answers `OutOfMemory` where there is no room for it.
+    fn give_stage(&mut self) -> Result<Option<ChannelOp>, OutOfMemory>
         requires known { GivesSome self.old 1 }
         ensures { (low last : ℕ) (doc : Document) (front : List Stage) (t : Stage) (rest : List Stage) → GivesTree self.old low last doc front (t ∷ rest)
-            → IfOk result (λ op. GivesStage self.new low last doc front t rest alone op) }
+            → IfOk result (λ op. GivesStage self.new low last doc front t rest op) }
     {
-        let stage = take_next(&mut self.stages, alone)?;
+        let stage = take_next(&mut self.stages);
         let op = self.give_part(stage)?;
         put_behind(&mut self.stages, stage, op.is_some())?;
         Ok(op)
@@ -110,14 +110,11 @@ impl TreeOwn {
 
     /// Gives this stage to its part, and answers its pieces as one operation.
     ///
-    /// Answers `OutOfMemory` where there is no room for it, or its number is the last one.
+    /// Answers `OutOfMemory` where there is no room for it.
     fn give_part(&mut self, stage: OwnStage) -> Result<Option<ChannelOp>, OutOfMemory>
         requires known { GivesFirst self.old stage }
         ensures { IfOk result (λ op. GivesPart stage op self.old self.new) }
     {
-        if stage.stage.checked_add(1).is_none() {
-            return Err(OutOfMemory);
-        }
         if is_of_text(stage.part) {
             let op = self.text.reconnect(stage.stage, 1)?;
             Ok(text_again(op))
@@ -128,17 +125,15 @@ impl TreeOwn {
     }
 }
 
-/// Takes the next stage off. One of the intervals stands alone.
-///
-/// Answers `OutOfMemory` where there is none, or it may not stand there.
-fn take_next(stages: &mut VecDeque<OwnStage>, alone: bool) -> Result<OwnStage, OutOfMemory>
-    ensures { IfOk result (λ t. (stages.old.items ≡ t ∷ stages.new.items) × (may_stand t.part alone ≡ true)) }
+/// Takes the next stage off.
+pub(crate) fn take_next(stages: &mut VecDeque<OwnStage>) -> OwnStage
+    requires { 0 < length stages.old.items }
+    ensures { stages.old.items ≡ result ∷ stages.new.items }
 {
-    let stage = stages.pop_front().ok_or(OutOfMemory)?;
-    if !may_stand(stage.part, alone) {
-        return Err(OutOfMemory);
+    match stages.pop_front() {
+        Some(stage) => stage,
+        None => unreachable!(),
     }
-    Ok(stage)
 }
 
 /// Puts a stage that goes on behind the others.
@@ -156,16 +151,6 @@ fn put_behind(
     }
     stages.push_back(stage)?;
     Ok(())
-}
-
-/// Whether a stage on this part may be one of several or stand alone.
-fn may_stand(part: Part, alone: bool) -> bool
-    ensures { result ≡ may_stand part alone }
-{
-    match part {
-        Part::Intervals => alone,
-        Part::Elements | Part::Grid => true,
-    }
 }
 
 /// Whether this part is one of the text.
@@ -198,16 +183,18 @@ fn grid_again(op: Option<GridOp>) -> Option<ChannelOp>
     }
 }
 
-/// The edit with the pieces of one stage more, if it has some.
+/// The edit with the pieces of one stage more, if it has some. They are of the part of the others.
 ///
-/// Answers `OutOfMemory` where there is no room for them, or they are of another part.
+/// Answers `OutOfMemory` where there is no room for them.
 fn with_pieces(alloc: Global, again: Resent, op: Option<ChannelOp>) -> Result<Resent, OutOfMemory>
+    requires few { again.stages + 1 < 2 ^ 64 }
+    requires one { (first more : ChannelOp) → again.op ≡ Some first → op ≡ Some more → are_of_one_part first more ≡ true }
     ensures { IfOk result (λ v. AddsPieces again op v) }
 {
     let Some(op) = op else {
         return Ok(again);
     };
-    let stages = again.stages.checked_add(1).ok_or(OutOfMemory)?;
+    let stages = again.stages + 1;
     let op = match again.op {
         None => op,
         Some(first) => join(alloc, first, op)?,
@@ -218,10 +205,11 @@ fn with_pieces(alloc: Global, again: Resent, op: Option<ChannelOp>) -> Result<Re
     })
 }
 
-/// Both operations as one.
+/// Both operations, which are of one part, as one.
 ///
-/// Answers `OutOfMemory` where there is no room for it, or they aren't of one part.
+/// Answers `OutOfMemory` where there is no room for it.
 fn join(alloc: Global, first: ChannelOp, second: ChannelOp) -> Result<ChannelOp, OutOfMemory>
+    requires { are_of_one_part first second ≡ true }
     ensures { IfOk result (λ op. Joins first second op) }
 {
     match (first, second) {
@@ -236,7 +224,7 @@ fn join(alloc: Global, first: ChannelOp, second: ChannelOp) -> Result<ChannelOp,
             Ok(ChannelOp::Grid(GridOp::Group(ops)))
         }
         (ChannelOp::Text(_), ChannelOp::Grid(_)) | (ChannelOp::Grid(_), ChannelOp::Text(_)) => {
-            Err(OutOfMemory)
+            unreachable!()
         }
     }
 }

@@ -1,6 +1,6 @@
 //! What a document of trees shows, and its summary.
 
-ghost use Rattle.std.specs.Prelude.{◌≡◌, ◌≤◌, ◌^◌, [], ℕ, IfOk, IsTrue, OnOk};
+ghost use Rattle.std.specs.Prelude.{◌≡◌, ◌<◌, ◌≤◌, ◌^◌, [], ℕ, IfOk, IsTrue, OnOk, length};
 ghost use Rattle.ft_msg.specs.Answers.{view_content};
 ghost use Rattle.ft_msg.specs.Client.{NaiveClient};
 ghost use Rattle.ft_msg.specs.Content.{content};
@@ -9,13 +9,14 @@ ghost use Rattle.ft_laws_names.specs.WellNamed.{IsWellNamed};
 ghost use Rattle.ft_replica.specs.Own.{HeldDocument, HoldsOne, NamesFit, held_by};
 ghost use Rattle.ft_laws_summaries.specs.Summaries.{IsSmall};
 ghost use Rattle.ft_sumdoc.specs.Runs.{unit_count};
+ghost use Rattle.ft_sumdoc.specs.Segments.{body_length, text_length};
 ghost use Rattle.ft_client.specs.Holds.{HoldsTree};
 ghost use Rattle.ft_client.specs.Numbers.{IsShortSummary, bare_summary};
 
 use crate::own::TreeOwn;
 use ft_base::{OutOfMemory, Text};
 use ft_msg::{Numbers, Runs, Spots, View};
-use ft_sumdoc::{CellRecs, IntervalRecs, RunRec, RunRecs, SegRecs, SumDoc, Texts};
+use ft_sumdoc::{CellRecs, IntervalRecs, RunRec, RunRecs, Seg, SegRec, SegRecs, SumDoc, Texts};
 use std::alloc::Global;
 
 impl TreeOwn {
@@ -45,7 +46,7 @@ impl TreeOwn {
         let mut sum = self.bare_summary(conns);
         self.text.save(&mut sum)?;
         self.table.save(&mut sum)?;
-        if !is_short(&sum, self.text.made()) {
+        if !is_short(&sum) {
             return Err(OutOfMemory);
         }
         Ok(sum)
@@ -77,16 +78,58 @@ const GREATEST_COUNT: u64 = 9_007_199_254_740_991;
 /// How many rows, and how many columns, a summary may have.
 const MOST_UNITS: u64 = 4_503_599_627_370_496;
 
-/// Whether a summary may tell its numbers, and have as many units, where so many elements of the text were ever made.
-fn is_short(sum: &SumDoc, made: u64) -> bool
-    ensures { IsTrue result → IsShortSummary sum.now made }
+/// Whether a summary may tell its numbers, and have as many elements and units.
+fn is_short(sum: &SumDoc) -> bool
+    ensures { IsTrue result → IsShortSummary sum.now }
 {
     sum.seq <= GREATEST_COUNT
         && sum.skipped <= GREATEST_COUNT
         && sum.other <= GREATEST_COUNT
-        && made <= GREATEST_COUNT
+        && are_few_elements(sum.text.as_slice())
         && are_few_units(sum.rows.as_slice())
         && are_few_units(sum.cols.as_slice())
+}
+
+/// Whether a summary may have so many elements.
+fn are_few_elements(segs: &[SegRec]) -> bool
+    ensures { IsTrue result → text_length segs.now < 2 ^ 53 }
+{
+    match text_length(segs) {
+        Ok(count) => count <= GREATEST_COUNT,
+        Err(_) => false,
+    }
+}
+
+/// How many elements there are.
+///
+/// Answers `OutOfMemory` where they are more than 2^64 - 1.
+fn text_length(segs: &[SegRec]) -> Result<u64, OutOfMemory>
+    ensures { IfOk result (λ n. n ≡ text_length segs.now) }
+{
+    let mut count: u64 = 0;
+    for seg in segs {
+        count = count
+            .checked_add(body_length(&seg.body))
+            .ok_or(OutOfMemory)?;
+    }
+    Ok(count)
+}
+
+/// How many elements a segment has.
+fn body_length(body: &Seg) -> u64
+    ensures { result ≡ body_length body.now }
+{
+    match body {
+        Seg::Chars { text } => char_count(text),
+        Seg::Marker { .. } => 1,
+    }
+}
+
+/// How many characters a text has.
+fn char_count(text: &Text) -> u64
+    ensures { result ≡ length text.now }
+{
+    text.as_str().chars().count() as u64
 }
 
 /// Whether a summary may have so many units.

@@ -1,16 +1,22 @@
-use Rattle.std.proofs.Common.{◌∙◌, refl, sym}
+use Rattle.std.proofs.Common.{◌∙◌, ap, refl, sym}
 use Rattle.ft_op.specs.declared.operations.ChannelOp.TheVariants.{Grid as GridOf}
 use Rattle.ft_op.specs.Operation.{sub_operations}
 use Rattle.ft_msg.specs.Client.{local_sub_operations}
 use Rattle.ft_client.specs.declared.stages.Part.TheVariants.{Grid}
 use Rattle.ft_client.specs.Holds.{HoldsTree}
 use Rattle.ft_client.specs.Notes.{Notes}
+use Rattle.ft_client.specs.Numbers.{NumberState}
 use Rattle.ft_client.proofs.Answered.{not-err}
-use Rattle.ft_client.proofs.Edits.{above-table, grid-taken, noted-answer}
+use Rattle.ft_client.proofs.Edits.{above-table, grid-taken, next-first, noted-answer}
 use Rattle.ft_client.proofs.own.TreeOwn.edit_table.Goals as goal
 
 pub edit-requires-clause-above : goal.edit-requires-clause-above
 edit-requires-clause-above g c = above-table c.args.self.now c.args.first c.requires.known
+
+pub note-requires : goal.note-requires
+note-requires g c =
+    let counted = not-err c.count_units.result c.count_units.ensures (sym c.is_err.ensures.value ∙ c.if-is_err.false) in
+    next-first c.args.self.now c.args.first c.requires.known c.count_units.new.self (ap (λ (n : NumberState). n.last) counted)
 
 pub returns-clause-answers : goal.returns-clause-answers
 returns-clause-answers g c = λ held named e h.

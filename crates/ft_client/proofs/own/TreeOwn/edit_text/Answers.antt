@@ -4,11 +4,14 @@ use Rattle.ft_op.specs.Operation.{text_sub_operations}
 use Rattle.ft_msg.specs.Client.{local_sub_operations}
 use Rattle.ft_client.specs.Holds.{HoldsTree}
 use Rattle.ft_client.specs.Notes.{Notes}
-use Rattle.ft_client.proofs.Edits.{holds-some, noted-answer, sound-before, text-refused, text-taken}
+use Rattle.ft_client.proofs.Edits.{holds-some, next-first, noted-answer, sound-before, text-refused, text-taken}
 use Rattle.ft_client.proofs.own.TreeOwn.edit_text.Goals as goal
 
 pub edit-requires-clause-held : goal.edit-requires-clause-held
 edit-requires-clause-held g c = holds-some c.args.self.now c.args.first c.requires.known
+
+pub note-requires : goal.note-requires
+note-requires g c = next-first c.args.self.now c.args.first c.requires.known c.args.self.now.numbers refl
 
 pub returns-in_err-count-clause-answers : goal.returns-in_err-count-clause-answers
 returns-in_err-count-clause-answers g c = λ held named e h.

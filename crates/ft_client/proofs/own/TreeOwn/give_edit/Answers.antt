@@ -6,7 +6,7 @@ loop-i-init c = none-given c.args.self.now c.args.count
 
 pub give_more-requires : goal.give_more-requires
 give_more-requires c = record {
-  known = next-given c.args.self.now c.loop-i.self c.args.count c.loop-i._i c.loop-i.again c.loop-i-test.true c.loop-i.invariant c.requires.known;
+  known = next-given c.args.self.now c.loop-i.self c.args.count c.loop-i._i c.loop-i.again c.loop-i-test.true c.loop-i.invariant c.ranges.count.fits c.requires.known;
 }
 
 pub loop-i-preserved : goal.loop-i-preserved

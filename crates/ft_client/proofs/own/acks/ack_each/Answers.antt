@@ -3,7 +3,7 @@ use Rattle.std.proofs.Math.ListN.{drop_of_length-le}
 use Rattle.ft_client.proofs.AckedGrids.{acked-last, acked-next, item-lowest, none-acked-yet}
 use Rattle.ft_client.specs.declared.stages.OwnStage.{OwnStage}
 use Rattle.ft_client.specs.declared.stages.Part.TheVariants.{Elements}
-use Rattle.ft_client.proofs.own.acks.ack_table.Goals as goal
+use Rattle.ft_client.proofs.own.acks.ack_each.Goals as goal
 
 abbrev none : OwnStage
 none = record { stage = 0; part = Elements }

@@ -7,7 +7,7 @@ use Rattle.ft_matrix.specs.Conditions.{KeepsRest}
 use Rattle.ft_matrix.specs.HoldsGrid.{HoldsGrid}
 use Rattle.ft_client.specs.Acks.{AcksSome}
 use Rattle.ft_client.specs.Parts.{own_stage}
-use Rattle.ft_client.proofs.own.acks.ack_table.Given as goal
+use Rattle.ft_client.proofs.own.acks.ack_each.Given as goal
 
 -- the first stages are sequenced, and the rest makes of the document so far what all make of the one at first
 abbrev pub invariant-loop-stage : goal.invariant-loop-stage
