@@ -1,16 +1,4 @@
 pub mod Words
-pub mod Refusals
-pub mod Observation
-pub mod Observers
-pub mod Loading
 pub mod Statuses
-pub mod LineForm
-pub mod Listening
 pub mod Report
-pub mod Writing
 pub mod Run
-pub mod LoadRuns
-pub mod MapRuns
-pub mod Generated
-pub mod Play
-pub mod Playing

@@ -1,21 +1,18 @@
 -- The words of the command line, without the program's name.
-use Rattle.std.specs.Prelude.{ℕ, ◌-◌, ◌^◌, ◌≤◌, ◌&&◌, ◌||◌, Bool, true, false, nat_eq, nat_le, nat_lt, slice_index, length, ⊤, List, [], ◌∷◌, Option, Some, None, bytes_eq, codes, map, string_bytes, if◌then◌else◌}
+use Rattle.std.specs.Prelude.{ℕ, ◌-◌, ◌^◌, ◌&&◌, ◌||◌, Bool, true, false, nat_eq, nat_le, nat_lt, slice_index, length, ⊤, List, [], ◌∷◌, Option, Some, None, bytes_eq, codes, map, string_bytes, if◌then◌else◌}
 use Rattle.std.specs.Char.{is_ascii_digit}
 use Rattle.std.specs.List.{list_all}
 use Rattle.std.specs.Str.Parse.{digits_value}
 use Rattle.std.specs.declared.alloc.Global.{Global}
 use Rattle.std.specs.declared.string.String.{String}
+use Rattle.ft_replay.specs.declared.settings.Settings.{Settings}
+use Rattle.ft_replay.specs.Generated.{IsWithinLimits}
 use Rattle.ft_cli.specs.declared.words.Form.{Form}
 use Rattle.ft_cli.specs.declared.words.Form.TheVariants.{Gen, Load, Log, Map, Play, Session}
-use Rattle.ft_cli.specs.declared.words.Settings.{Settings}
 
 -- the words, each by its bytes
 abbrev pub texts_of : List (String Global) → List (List ℕ)
 texts_of words = map string_bytes words
-
--- a session is generated for 1 to 16 clients and at most 1,000,000 edits
-abbrev pub IsWithinLimits : Settings → Type 0
-IsWithinLimits settings = (1 ≤ settings.clients) × (settings.clients ≤ 16) × (settings.edits ≤ 1000000)
 
 -- the settings of a form, if it has some, are within these limits
 abbrev pub IsFormWithinLimits : Form → Type 0

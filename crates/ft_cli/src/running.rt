@@ -1,29 +1,21 @@
 //! A run: what the words ask for.
 
-ghost use Rattle.std.specs.Prelude.{◌≡◌, ◌≤◌, ◌↔◌, false, None, IfSome, OnOk};
-ghost use Rattle.std.specs.Io.KnownBytes.{Appends, IsAtEnd};
-ghost use Rattle.ft_io.specs.Reader.{Call, input_limit};
+ghost use Rattle.std.specs.Prelude.{◌≡◌, ◌↔◌, false, None, IfSome};
+ghost use Rattle.std.specs.Io.KnownBytes.{Appends};
 ghost use Rattle.ft_io.specs.Streams.{Rose};
-ghost use Rattle.ft_seqr.specs.Walk.{line_limit};
+ghost use Rattle.ft_replay.specs.Run.{Moves};
 ghost use Rattle.ft_cli.specs.Words.{form_of, reads_input, texts_of};
-ghost use Rattle.ft_cli.specs.LineForm.{account_by};
-ghost use Rattle.ft_cli.specs.Listening.{Follows};
-ghost use Rattle.ft_cli.specs.Report.{account_of, report};
-ghost use Rattle.ft_cli.specs.Run.{EndsWhole, EndsWholeOrWanting, IsUndisturbed, Moves, Says, SaysForWords, SaysOfLines, end_status};
+ghost use Rattle.ft_cli.specs.Report.{report};
+ghost use Rattle.ft_cli.specs.Run.{EndsWhole, EndsWholeOrWanting, IsUndisturbed, SaysForWords};
+ghost use Rattle.ft_cli.specs.Statuses.{end_status};
 
-use crate::RunReplica;
-use crate::generated::write_generated;
-use crate::listener::{LINE_LIMIT, Listener};
-use crate::loading::LoadRun;
-use crate::maps::MapRun;
-use crate::observer::Observer;
-use crate::play::write_play;
-use crate::replay::Replay;
-use crate::session::SessionRun;
-use crate::statuses::{Fault, Status};
+use crate::statuses::Status;
 use crate::words::{Form, read_words};
-use ft_io::{Line, LineFault, Lines, Sink, Source};
-use ft_laws_sessions::worlds::reports_are_one;
+use ft_client::Client;
+use ft_io::{Sink, Source};
+use ft_replay::{
+    Ending, Fault, replay_load, replay_log, replay_map, replay_session, write_generated, write_play,
+};
 use std::alloc::Global;
 
 /// Does what the words ask for: reads the source to its end, and writes the report to the sink, line by
@@ -62,98 +54,22 @@ pub fn run<S: Source, K: Sink>(
     ensures steady { EndsWhole result → (S.faults src.new ≡ S.faults src.old) × (K.faults out.new ≡ K.faults out.old) }
 {
     match read_words(words) {
-        Some(Form::Log) => listen::<Observer<RunReplica>, S, K>(alloc, src, out),
-        Some(Form::Load) => listen::<LoadRun<RunReplica>, S, K>(alloc, src, out),
-        Some(Form::Map) => listen::<MapRun, S, K>(alloc, src, out),
-        Some(Form::Session) => session(alloc, src, out),
+        Some(Form::Log) => ended(replay_log::<Client, S, K>(alloc, src, out)),
+        Some(Form::Load) => ended(replay_load::<Client, S, K>(alloc, src, out)),
+        Some(Form::Map) => ended(replay_map(alloc, src, out)),
+        Some(Form::Session) => ended(replay_session::<Client, S, K>(alloc, src, out)),
         Some(Form::Gen(settings)) => ended(write_generated(alloc, settings, out)),
-        Some(Form::Play(settings)) => ended(write_play(alloc, settings, out)),
+        Some(Form::Play(settings)) => ended(write_play::<Client, K>(alloc, settings, out)),
         None => Status::Usage,
     }
 }
 
-// Reads a session, and writes its report.
-fn session<S: Source, K: Sink>(alloc: Global, src: &mut S, out: &mut K) -> Status
-    ensures run { Moves (S.remaining src.old) (S.remaining src.new) (K.contents out.old) (K.contents out.new)
-        (Says (account_of Form.Session) (IsAtEnd (S.remaining src.new)) (Rose (S.faults src.old) (S.faults src.new))
-        (Rose (K.faults out.old) (K.faults out.new)) result) }
-    ensures steady { EndsWhole result → (S.faults src.new ≡ S.faults src.old) × (K.faults out.new ≡ K.faults out.old) }
+// The status of a run that ended so.
+fn ended(end: Result<Ending, Fault>) -> Status
+    ensures { result ≡ end_status end }
 {
-    reports_are_one();
-    listen::<SessionRun, S, K>(alloc, src, out)
-}
-
-// Reads the lines of a form, and writes its report.
-fn listen<L: Listener, S: Source, K: Sink>(alloc: Global, src: &mut S, out: &mut K) -> Status
-    ensures run { Moves (S.remaining src.old) (S.remaining src.new) (K.contents out.old) (K.contents out.new)
-        (Says (account_by L.form) (IsAtEnd (S.remaining src.new)) (Rose (S.faults src.old) (S.faults src.new))
-        (Rose (K.faults out.old) (K.faults out.new)) result) }
-    ensures steady { EndsWhole result → (S.faults src.new ≡ S.faults src.old) × (K.faults out.new ≡ K.faults out.old) }
-{
-    ended(report::<L, S, K>(alloc, src, out))
-}
-
-// The status of a run that came to this.
-fn ended(outcome: Result<Status, Fault>) -> Status
-    ensures { result ≡ end_status outcome }
-{
-    match outcome {
-        Ok(status) => status,
+    match end {
+        Ok(ending) => Status::from(ending),
         Err(fault) => Status::from(fault),
     }
-}
-
-// The same, with the fault that ended it early.
-fn report<L: Listener, S: Source, K: Sink>(
-    alloc: Global,
-    src: &mut S,
-    out: &mut K,
-) -> Result<Status, Fault>
-    ensures run { Moves (S.remaining src.old) (S.remaining src.new) (K.contents out.old) (K.contents out.new)
-        (Says (account_by L.form) (IsAtEnd (S.remaining src.new)) (Rose (S.faults src.old) (S.faults src.new))
-        (Rose (K.faults out.old) (K.faults out.new)) (end_status result)) }
-    ensures steady { OnOk result ((S.faults src.new ≡ S.faults src.old) × (K.faults out.new ≡ K.faults out.old)) }
-{
-    let replay: Replay<L> = read_lines(alloc, src, out)?;
-    replay.close(alloc, out)
-}
-
-// Reads the lines of a form, and writes what each of them writes.
-fn read_lines<L: Listener, S: Source, K: Sink>(
-    alloc: Global,
-    src: &mut S,
-    out: &mut K,
-) -> Result<Replay<L>, Fault>
-    ensures run { Moves (S.remaining src.old) (S.remaining src.new) (K.contents out.old) (K.contents out.new)
-        (SaysOfLines L.form (λ replay at. Follows (L.holds replay.listener) replay.lines replay.refused at) (S.remaining src.new)
-        (Rose (S.faults src.old) (S.faults src.new)) (Rose (K.faults out.old) (K.faults out.new)) result) }
-    ensures source_later { S.faults src.old ≤ S.faults src.new }
-    ensures sink_later { K.faults out.old ≤ K.faults out.new }
-    ensures source_steady { OnOk result (S.faults src.new ≡ S.faults src.old) }
-    ensures sink_steady { OnOk result (K.faults out.new ≡ K.faults out.old) }
-{
-    let mut lines = Lines::new(alloc, LINE_LIMIT)?;
-    let mut replay = Replay::new(alloc)?;
-    loop {
-        match next_line(&mut lines, &replay, src)? {
-            Line::End => return Ok(replay),
-            line => replay = replay.step(alloc, line, out)?,
-        }
-    }
-}
-
-// The next line, which may be as long as the lines before it allow.
-fn next_line<L: Listener, S: Source>(
-    lines: &mut Lines,
-    replay: &Replay<L>,
-    src: &mut S,
-) -> Result<Line, LineFault>
-    ensures call { (made : L.Made) → L.holds replay.now.listener made → lines.old.fault ≡ None
-        → Call (record lines.old { limit = L.form.longest made }) lines.new (S.remaining src.old) (S.remaining src.new) (S.faults src.old) (S.faults src.new) result }
-    ensures least { (made : L.Made) → L.holds replay.now.listener made → line_limit ≤ L.form.longest made }
-    ensures most { (made : L.Made) → L.holds replay.now.listener made → L.form.longest made ≤ input_limit }
-    ensures steady { OnOk result (S.faults src.new ≡ S.faults src.old) }
-{
-    lines.set_limit(replay.limit());
-    lines.next(src)
 }

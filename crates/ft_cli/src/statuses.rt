@@ -1,11 +1,11 @@
-//! How a run ends.
+//! How the program ends.
 
 ghost use Rattle.std.specs.Prelude.{◌≡◌};
 
-use ft_base::OutOfMemory;
-use ft_io::{Failed, LineFault};
+use ft_replay::{Ending, Fault};
+use std::fmt;
 
-/// How a run ends.
+/// How the program ends.
 #[derive(Clone, Copy, Debug, PartialEq, Eq)]
 pub enum Status {
     /// The input was read to its end and the report is written; no line was refused, and no
@@ -45,50 +45,34 @@ impl Status {
     }
 }
 
-/// What ends a run before its report is whole.
-#[derive(Clone, Copy, Debug, PartialEq, Eq)]
-pub enum Fault {
-    /// The source failed.
-    Read,
-    /// The sink failed.
-    Write,
-    /// No memory was found.
-    OutOfMemory,
-    /// The source gave a byte too many.
-    InputLimit,
-}
+impl fmt::Display for Status {
+    ghost use Rattle.std.specs.Prelude.{Some};
+    ghost use Rattle.ft_cli.specs.Statuses.{status_text};
 
-impl From<Failed> for Fault {
-    ghost use Rattle.ft_cli.specs.declared.statuses.Fault.TheVariants.{Write};
+    ghost output = { λ status. Some (status_text status) };
 
-    ghost from_gives = { λ _ fault. fault ≡ Write };
-
-    /// A sink failed.
-    fn from(_fault: Failed) -> Fault {
-        Fault::Write
+    fn fmt<W: fmt::Write>(&self, f: &mut fmt::Formatter<W>) -> fmt::Result {
+        match self {
+            Status::Done => write!(f, "Done"),
+            Status::SomeRefused => write!(f, "SomeRefused"),
+            Status::Usage => write!(f, "Usage"),
+            Status::ReadFault => write!(f, "ReadFault"),
+            Status::WriteFault => write!(f, "WriteFault"),
+            Status::OutOfMemory => write!(f, "OutOfMemory"),
+            Status::InputLimit => write!(f, "InputLimit"),
+        }
     }
 }
 
-impl From<OutOfMemory> for Fault {
-    ghost use Rattle.ft_cli.specs.declared.statuses.Fault.TheVariants.{OutOfMemory};
+impl From<Ending> for Status {
+    ghost use Rattle.ft_cli.specs.Statuses.{whole_status};
 
-    ghost from_gives = { λ _ fault. fault ≡ OutOfMemory };
+    ghost from_gives = { λ ending status. status ≡ whole_status ending };
 
-    fn from(_fault: OutOfMemory) -> Fault {
-        Fault::OutOfMemory
-    }
-}
-
-impl From<LineFault> for Fault {
-    ghost use Rattle.ft_cli.specs.Statuses.{fault_of_line};
-
-    ghost from_gives = { λ line fault. fault ≡ fault_of_line line };
-
-    fn from(fault: LineFault) -> Fault {
-        match fault {
-            LineFault::Read => Fault::Read,
-            LineFault::InputLimit => Fault::InputLimit,
-            LineFault::OutOfMemory => Fault::OutOfMemory,
+    fn from(ending: Ending) -> Status {
+        match ending {
+            Ending::Done => Status::Done,
+            Ending::SomeRefused => Status::SomeRefused,
         }
     }
 }

@@ -3,18 +3,10 @@
 ghost use Rattle.std.specs.Prelude.{◌≡◌, ◌≤◌, IfSome};
 ghost use Rattle.std.specs.Char.{is_ascii_digit};
 ghost use Rattle.std.specs.List.{list_all};
-ghost use Rattle.ft_cli.specs.Words.{IsFormWithinLimits, IsWithinLimits, form_of, form_of_word, form_with, is_number, number_within, settings_of, texts_of};
+ghost use Rattle.ft_replay.specs.Generated.{IsWithinLimits};
+ghost use Rattle.ft_cli.specs.Words.{IsFormWithinLimits, form_of, form_of_word, form_with, is_number, number_within, settings_of, texts_of};
 
-/// What a session is generated from.
-#[derive(Clone, Copy, Debug, PartialEq, Eq)]
-pub struct Settings {
-    /// How many clients.
-    pub clients: u64,
-    /// How many edits.
-    pub edits: u64,
-    /// The seed of what is drawn.
-    pub seed: u64,
-}
+use ft_replay::Settings;
 
 /// What the program is asked to do.
 #[derive(Clone, Copy, Debug, PartialEq, Eq)]

@@ -4,7 +4,7 @@ ghost use Rattle.std.specs.Prelude.{◌≤◌};
 
 use crate::views::push_views;
 use ft_base::OutOfMemory;
-use ft_cli::running;
+use ft_cli::run;
 use ft_io::{MemSink, MemSource};
 use std::alloc::Global;
 
@@ -71,7 +71,7 @@ impl<'a> Run<'a> {
     // Runs it, and answers its status.
     fn written(&self, alloc: Global, out: &mut MemSink) -> Result<u8, OutOfMemory> {
         let mut src = self.source(alloc)?;
-        Ok(running::run(alloc, self.words, &mut src, out).code())
+        Ok(run(alloc, self.words, &mut src, out).code())
     }
 
     // The source of the run.

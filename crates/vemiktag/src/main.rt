@@ -6,8 +6,7 @@
 //! words.
 #![tactic(auto)]
 
-use ft_cli::running::run;
-use ft_cli::statuses::Status;
+use ft_cli::{Status, run};
 use ft_io::{StdSink, StdSource};
 use std::alloc::AllocError;
 use std::process::ExitCode;

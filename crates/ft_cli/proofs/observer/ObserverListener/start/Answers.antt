@@ -1,8 +1,0 @@
-use Rattle.std.proofs.Common.{[]}
-use Rattle.ft_op.specs.Document.{empty}
-use Rattle.ft_msg.proofs.ReplicaStarts.{reached-empty}
-use Rattle.ft_cli.proofs.Observing.{starts-observing}
-use Rattle.ft_cli.proofs.observer.ObserverListener.start.Goals as goal
-
-pub returns-clause-first : goal.returns-clause-first
-returns-clause-first g c = starts-observing c.new.result [] (g.R.Replica.state c.in_ok-start.field-0) empty 0 c.new.ensures c.in_ok-start.ensures reached-empty

@@ -1,0 +1,9 @@
+mod Observing
+mod Written
+mod Walking
+mod RunLaws
+mod SessionLaws
+mod SessionSteps
+mod GeneratedLaws
+mod PlayLaws
+mod LastLines

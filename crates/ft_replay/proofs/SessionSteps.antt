@@ -1,0 +1,53 @@
+-- What a world answers to an event, and what a session of the program tells of it and holds then.
+use Rattle.std.proofs.Common.{◌≡◌, ℕ, List, Some, None, Ok, Err, refl, sym, ap, subst}
+use Rattle.ft_seqr.specs.declared.events.Event.{Event}
+use Rattle.ft_seqr.specs.declared.refusals.Refusal.{Refusal}
+use Rattle.ft_seqr.specs.declared.refusals.Refusal.TheVariants.{OutOfMemory, Stopped}
+use Rattle.ft_seqr.specs.EventReader.{IsRefused}
+use Rattle.ft_seqr.specs.RefusalKinds.{MeansOf, RefusalKind, HadStopped, Refused, WantsMemory, refusal_kind}
+use Rattle.ft_seqr.specs.SessionReport.{answer, answer_reading, as_shown, output_lines, take_line}
+use Rattle.ft_seqr.specs.World.{NaiveWorld, Output, step}
+use Rattle.ft_session.specs.declared.outputs.Out.{Out}
+use Rattle.ft_session.specs.Outputs.{Tells}
+use Rattle.ft_session.specs.Worlds.{AnswersEvent, WorldStands, WorldState}
+use Rattle.ft_replay.specs.declared.listener.Told.{Told}
+use Rattle.ft_replay.specs.declared.listener.Told.TheVariants as told
+use Rattle.ft_replay.specs.LineForm.{bytes_of}
+use Rattle.ft_replay.specs.Listening.{IsStep, told_refusal, told_text}
+
+-- what a refusal means that isn't want of memory
+means-refused : (A B : Type 0) (why : Refusal) (kind : RefusalKind) → refusal_kind why ≡ kind → (why ≡ OutOfMemory → ⊥) → MeansOf kind A B → B
+means-refused A B why WantsMemory is other h = absurd (wants why is other)
+  where
+    wants : (why : Refusal) → refusal_kind why ≡ WantsMemory → (why ≡ OutOfMemory → ⊥) → ⊥
+    wants OutOfMemory q o = o refl
+    wants Stopped q o = (cc)
+    wants _ q o = (cc)
+means-refused A B why HadStopped is other h = absurd h
+means-refused A B why Refused is other h = h
+
+-- the line is no event
+pub line-refused : (Holds : NaiveWorld → Type 0) (w : NaiveWorld) (line : List ℕ) (why : Refusal) → IsRefused line why → Holds w
+    → IsStep Holds (told.Refused why) (take_line as_shown w line)
+line-refused Holds w line why (cause, is, same) h =
+    subst (λ a. IsStep Holds (told.Refused why) (answer_reading as_shown w a)) (sym is) (record { holds = h; text = refl; refusal = ap Some same })
+
+module _ {old new : WorldState} (w : NaiveWorld) (e : Event) (stands : WorldStands old w) where
+  -- the world refused the event, and is as it was
+  pub event-refused : (why : Refusal) → (why ≡ OutOfMemory → ⊥) → AnswersEvent e old new (Err why) → (new ≡ old) × (step w e ≡ Err why)
+  event-refused why other answers = means-refused _ _ why (refusal_kind why) refl other (answers.runs w stands)
+
+  pub told-refused : (why : Refusal) → (why ≡ OutOfMemory → ⊥) → AnswersEvent e old new (Err why)
+      → IsStep (WorldStands new) (told.Refused why) (answer as_shown w (step w e))
+  told-refused why other answers =
+      let h = event-refused why other answers in
+      subst (λ s. IsStep (WorldStands new) (told.Refused why) (answer as_shown w s)) (sym h.1)
+      (record { holds = subst (λ x. WorldStands x w) (sym h.0) stands; text = refl; refusal = refl })
+
+  -- the world took it
+  pub told-taken : (out : Out) (said : Told) → AnswersEvent e old new (Ok out)
+      → ((v : NaiveWorld) (output : Output) → Tells output out → told_text said ≡ bytes_of (output_lines as_shown v output)) → told_refusal said ≡ None
+      → IsStep (WorldStands new) said (answer as_shown w (step w e))
+  told-taken out said answers text taken =
+      let a = answers.runs w stands in
+      subst (λ s. IsStep (WorldStands new) said (answer as_shown w s)) (sym a.1) (record { holds = a.2; text = text a.0.0 a.0.1 a.3; refusal = taken })

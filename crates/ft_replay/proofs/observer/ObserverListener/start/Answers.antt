@@ -1,0 +1,8 @@
+use Rattle.std.proofs.Common.{[]}
+use Rattle.ft_op.specs.Document.{empty}
+use Rattle.ft_msg.proofs.ReplicaStarts.{reached-empty}
+use Rattle.ft_replay.proofs.Observing.{starts-observing}
+use Rattle.ft_replay.proofs.observer.ObserverListener.start.Goals as goal
+
+pub returns-clause-first : goal.returns-clause-first
+returns-clause-first g c = starts-observing c.new.result [] (g.R.Replica.state c.in_ok-start.field-0) empty 0 c.new.ensures c.in_ok-start.ensures reached-empty

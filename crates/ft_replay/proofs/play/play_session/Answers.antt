@@ -1,0 +1,12 @@
+use Rattle.std.proofs.Common.{Option, Some, subst}
+use Rattle.ft_seqr.specs.declared.events.Event.{Event}
+use Rattle.ft_gen.specs.Generated.{IsNext}
+use Rattle.ft_replay.proofs.PlayLaws.{toward_next}
+use Rattle.ft_replay.proofs.play.play_session.Goals as goal
+
+pub loop-play-preserved : goal.loop-play-preserved
+loop-play-preserved g c =
+    let h = c.loop-play.invariant in
+    let n : IsNext c.loop-play.events (Some c.in-Some.event) c.next.new.self =
+    subst (λ (a : Option Event). IsNext c.loop-play.events a c.next.new.self) c.in-Some.is c.in_ok-event.ensures.ok in
+    toward_next h c.in-Some.event c.next.new.self c.in_ok-play.play n.0 (c.in_ok-play.ensures h.at h.plays)

@@ -1,0 +1,15 @@
+pub mod Endings
+pub mod Refusals
+pub mod Observation
+pub mod Observers
+pub mod Loading
+pub mod LineForm
+pub mod Listening
+pub mod Writing
+pub mod Run
+pub mod LoadRuns
+pub mod MapRuns
+pub mod Generated
+pub mod Play
+pub mod Playing
+pub mod Forms

@@ -1,0 +1,30 @@
+-- How far the code of a play follows it.
+use Rattle.std.specs.Prelude.{◌≡◌, ℕ, List, [], ◌∷◌, Option, Some, None, map, option_map, string_bytes}
+use Rattle.ft_session.specs.Worlds.{WorldStands}
+use Rattle.ft_seqr.specs.World.{NamedClient}
+use Rattle.ft_replay.specs.declared.play.Play.{Play as PlayState}
+use Rattle.ft_replay.specs.declared.showing.Agreement.{Agreement}
+use Rattle.ft_replay.specs.declared.showing.Showing.{Showing}
+use Rattle.ft_replay.specs.LineForm.{bytes_of}
+use Rattle.ft_replay.specs.Play.{Played, all_agree, client_line, shown_text}
+
+-- what the first of the clients shows, if there is one
+abbrev pub first_shown : List NamedClient → Option (List ℕ)
+first_shown [] = None
+first_shown (c ∷ cs) = Some (shown_text c)
+
+-- the clients were compared: what the first shows is kept, and whether all show it
+pub record Compares (agreement : Agreement) (shown : List NamedClient) : Type 0 where
+  pub first : option_map string_bytes agreement.first ≡ first_shown shown
+  pub all : agreement.all ≡ all_agree shown
+
+-- the clients were shown: their lines were written, and they were compared
+pub record HasShown (showing : Showing) (shown : List NamedClient) : Type 0 where
+  pub lines : string_bytes showing.lines ≡ bytes_of (map client_line shown)
+  pub agreement : Compares showing.agreement shown
+
+-- the play is that far
+pub record Plays {R : Type 0} (play : PlayState R) (at : Played) : Type 0 where
+  pub world : WorldStands play.world at.made
+  pub refusals : play.refused ≡ at.refused
+  pub shown : HasShown play.showing at.shown

@@ -1,0 +1,40 @@
+//! The forms of Vemiktag's program over any replica: what each reads, what it writes, and how it ends.
+//!
+//! A form reads lines from a source and writes to a sink what each of them writes, which of them are
+//! refused, and what stands behind them. What hears the lines is a `Listener`: the walk over them is one
+//! for all forms. `log` reads sequenced messages, and shows at the end what an observer of them shows.
+//! `load` reads a summary first, with which its observer starts. `session` reads the events of clients and
+//! guests, and shows a client where one asks for it; `map` does so for clients over one shared map. `gen`
+//! writes the events of a generated session, and `play` what becomes of its clients.
+//!
+//! Clients and observers are of the type `R` that the caller names, any `Replica` of `ft_msg`. Two of them write
+//! the same, since each writes what the definitions say.
+//!
+//! Only a call that can answer `OutOfMemory` takes memory.
+#![tactic(auto)]
+
+mod endings;
+mod event_lines;
+mod forms;
+mod generated;
+mod listener;
+mod loading;
+mod map_lines;
+mod maps;
+mod observer;
+mod play;
+mod refusals;
+mod replay;
+mod report;
+mod session;
+mod settings;
+mod showing;
+mod sums;
+mod view_lines;
+mod writing;
+
+pub use endings::{Ending, Fault};
+pub use forms::{replay_load, replay_log, replay_map, replay_session};
+pub use generated::write_generated;
+pub use play::write_play;
+pub use settings::Settings;

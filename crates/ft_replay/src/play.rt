@@ -1,0 +1,183 @@
+//! A generated session, played.
+
+ghost use Rattle.std.specs.Prelude.{◌≡◌, ◌++◌, List, IfOk, OnOk, string_bytes};
+ghost use Rattle.ft_io.specs.Lines.{with_lf};
+ghost use Rattle.ft_seqr.specs.WellFormedEvent.{IsWellFormedEvent};
+ghost use Rattle.ft_seqr.specs.World.{NamedClient, Output, furthest};
+ghost use Rattle.ft_session.specs.Outputs.{Tells};
+ghost use Rattle.ft_replay.specs.Generated.{session_events};
+ghost use Rattle.ft_replay.specs.LineForm.{bytes_of, whole_ending};
+ghost use Rattle.ft_replay.specs.Play.{Played, after_event, agreement_line, lines_of_play, nothing_played, play_lines, play_ending, session_play, settings_line, shown_client};
+ghost use Rattle.ft_replay.specs.Playing.{HasShown, Plays};
+ghost use Rattle.ft_replay.specs.Generated.{IsWithinLimits};
+ghost use Rattle.ft_replay.specs.Writing.{WritesBytes};
+
+use crate::generated::session_events;
+use crate::report::closing_text;
+use crate::showing::Showing;
+use crate::endings::{Ending, Fault};
+use crate::sums::added;
+use crate::settings::Settings;
+use crate::writing::put;
+use ft_base::OutOfMemory;
+use ft_io::Sink;
+use ft_msg::Replica;
+use ft_seqr::{Event, Refusal};
+use ft_session::{Out, World};
+use std::alloc::Global;
+
+/// A session as far as it was played: a world that always found memory, how many events it refused, and
+/// the clients that it showed.
+#[derive(Drop)]
+pub struct Play<R: Replica> {
+    alloc: Global,
+    world: World<R>,
+    refused: u64,
+    showing: Showing,
+}
+
+/// Plays the session that is generated with these settings, and writes what became of its clients, which
+/// are such replicas. Answers whether no event was refused and no sub-operation skipped.
+///
+/// Answers `Write` only where the sink's count of faults rose, and `OutOfMemory` where there is no room
+/// for what the events make, or more than 2^64 - 1 of them are refused.
+pub fn write_play<R: Replica + Drop, K: Sink>(
+    alloc: Global,
+    settings: Settings,
+    out: &mut K,
+) -> Result<Ending, Fault>
+    requires { IsWithinLimits settings }
+    ensures ends { IfOk result (λ ending. ending ≡ play_ending settings) }
+    ensures writes { WritesBytes (K.contents out.old) (K.contents out.new) (K.faults out.old) (K.faults out.new) (bytes_of (play_lines settings)) result }
+    ensures steady { OnOk result (K.faults out.new ≡ K.faults out.old) }
+{
+    let play = play_session::<R>(alloc, settings)?;
+    let text = play.text(settings)?;
+    put(out, text.as_bytes())?;
+    Ok(play.ending())
+}
+
+// The play of the session that is generated with these settings.
+fn play_session<R: Replica + Drop>(
+    alloc: Global,
+    settings: Settings,
+) -> Result<Play<R>, OutOfMemory>
+    requires { IsWithinLimits settings }
+    ensures { IfOk result (λ play. Plays play (session_play settings)) }
+{
+    let mut events = session_events(alloc, settings);
+    let mut play = Play::<R>::new(alloc);
+    while let Some(event) = events.next()? {
+        play = play.take_whole(event)?;
+    }
+    Ok(play)
+}
+
+impl<R: Replica + Drop> Play<R> {
+    // Before the first event.
+    fn new(alloc: Global) -> Play<R>
+        ensures { Plays result nothing_played }
+    {
+        Play {
+            alloc,
+            world: World::new(alloc),
+            refused: 0,
+            showing: Showing::new(alloc),
+        }
+    }
+
+    // After one more event, which is done with.
+    fn take_whole(self, event: Event) -> Result<Play<R>, OutOfMemory>
+        requires { IsWellFormedEvent event }
+        ensures { (at : Played) → Plays self at → IfOk result (λ play. Plays play (after_event at event)) }
+    {
+        self.take(&event)
+    }
+
+    // After one more event.
+    fn take(self, event: &Event) -> Result<Play<R>, OutOfMemory>
+        requires { IsWellFormedEvent event.now }
+        ensures { (at : Played) → Plays self at → IfOk result (λ play. Plays play (after_event at event.now)) }
+    {
+        let Play {
+            alloc,
+            mut world,
+            refused,
+            showing,
+        } = self;
+        match world.step(event) {
+            Ok(out) => {
+                let showing = show(alloc, showing, &out)?;
+                Ok(Play {
+                    alloc,
+                    world,
+                    refused,
+                    showing,
+                })
+            }
+            Err(Refusal::OutOfMemory) => Err(OutOfMemory),
+            Err(_) => {
+                let refused = added(refused, 1)?;
+                Ok(Play {
+                    alloc,
+                    world,
+                    refused,
+                    showing,
+                })
+            }
+        }
+    }
+
+    // What is written of it.
+    fn text(&self, settings: Settings) -> Result<String, OutOfMemory>
+        ensures { (at : Played) → Plays self.now at → IfOk result (λ text. string_bytes text ≡ bytes_of (lines_of_play settings at)) }
+    {
+        let first_text = settings_text(self.alloc, settings)?;
+        let last_text = closing_text(self.alloc, self.refused, self.world.counts())?;
+        let first = first_text.as_str();
+        let lines = self.showing.lines.as_str();
+        let agreement = agreement_text(self.showing.agreement.all);
+        let last = last_text.as_str();
+        Ok(format!(in self.alloc; "{first}{lines}{agreement}{last}")?)
+    }
+
+    // How that ends.
+    fn ending(&self) -> Ending
+        ensures { (at : Played) → Plays self.now at → result ≡ whole_ending at.refused (furthest at.made) }
+    {
+        if self.refused == 0 && self.world.counts().skipped == 0 {
+            Ending::Done
+        } else {
+            Ending::SomeRefused
+        }
+    }
+}
+
+// The clients that were shown, with the one that is shown by this, if one is.
+fn show(alloc: Global, showing: Showing, out: &Out) -> Result<Showing, OutOfMemory>
+    ensures { (shown : List NamedClient) (output : Output) → HasShown showing shown → Tells output out.now
+        → IfOk result (λ after. HasShown after (shown ++ shown_client output)) }
+{
+    match out {
+        Out::View { name, view } => showing.add(alloc, name, view),
+        Out::Nothing | Out::Texts(_) => Ok(showing),
+    }
+}
+
+// The first line, with its LF.
+#[tactic(auto, unfolding(crate::specs::Play::settings_line))]
+fn settings_text(alloc: Global, settings: Settings) -> Result<String, OutOfMemory>
+    ensures { IfOk result (λ text. string_bytes text ≡ with_lf (settings_line settings)) }
+{
+    let clients = settings.clients;
+    let edits = settings.edits;
+    let seed = settings.seed;
+    Ok(format!(in alloc; "play {clients} {edits} {seed}\n")?)
+}
+
+// The line that says whether the clients agree, with its LF.
+fn agreement_text(agree: bool) -> &'static str
+    ensures { result.now ≡ with_lf (agreement_line agree) }
+{
+    if agree { "agree yes\n" } else { "agree no\n" }
+}

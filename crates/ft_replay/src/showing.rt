@@ -1,0 +1,172 @@
+//! What is written of the clients that a play shows.
+
+ghost use Rattle.std.specs.Prelude.{◌≡◌, ◌+◌, ◌∷◌, ◌++◌, ◌&&◌, List, [], IfOk, bytes_eq, chars, length, string_bytes};
+ghost use Rattle.ft_io.specs.Lines.{with_lf};
+ghost use Rattle.ft_msg.specs.Answers.{view_content};
+ghost use Rattle.ft_msg.specs.Content.{content};
+ghost use Rattle.ft_seqr.specs.World.{NamedClient};
+ghost use Rattle.ft_session.specs.Outputs.{IsViewOf};
+ghost use Rattle.ft_replay.specs.Play.{client_line, client_numbers, content_numbers, shown_text, text_hash};
+ghost use Rattle.ft_replay.specs.Playing.{Compares, HasShown};
+
+use crate::sums::added;
+use crate::view_lines::push_content;
+use ft_base::{OutOfMemory, Text};
+use ft_json::quote;
+use ft_msg::View;
+use std::alloc::Global;
+
+/// The clients that were shown: their lines, and whether they agree.
+#[derive(Drop)]
+pub struct Showing {
+    pub lines: String,
+    pub agreement: Agreement,
+}
+
+/// What the first of the clients that were shown shows, and whether all show the same.
+#[derive(Drop)]
+pub struct Agreement {
+    pub first: Option<String>,
+    pub all: bool,
+}
+
+impl Showing {
+    /// No client was shown.
+    pub fn new(alloc: Global) -> Showing
+        ensures { HasShown result [] }
+    {
+        Showing {
+            lines: String::new(alloc),
+            agreement: Agreement {
+                first: None,
+                all: true,
+            },
+        }
+    }
+
+    /// With one more client, whose name and view these are.
+    ///
+    /// Answers `OutOfMemory` where there is no room for its line or for what it shows.
+    pub fn add(self, alloc: Global, name: &Text, view: &View) -> Result<Showing, OutOfMemory>
+        ensures { (shown : List NamedClient) (c : NamedClient) → HasShown self shown → IsViewOf c name.now view.now
+            → IfOk result (λ showing. HasShown showing (shown ++ c ∷ [])) }
+    {
+        let Showing {
+            mut lines,
+            agreement,
+        } = self;
+        let line = client_line(alloc, name, view)?;
+        lines.push_str(line.as_str())?;
+        let content = shown_text(alloc, view)?;
+        let agreement = agreement.compare(content);
+        Ok(Showing { lines, agreement })
+    }
+}
+
+impl Agreement {
+    // With one more client, which shows this.
+    fn compare(self, content: String) -> Agreement
+        ensures { (shown : List NamedClient) (c : NamedClient) → Compares self shown → string_bytes content ≡ shown_text c
+            → Compares result (shown ++ c ∷ []) }
+    {
+        let Agreement { first, all } = self;
+        match first {
+            None => Agreement {
+                first: Some(content),
+                all,
+            },
+            Some(first) => {
+                let all = all_same(all, first.as_str(), content.as_str());
+                Agreement {
+                    first: Some(first),
+                    all,
+                }
+            }
+        }
+    }
+}
+
+// Whether all were the same, and the next one is too.
+fn all_same(all: bool, first: &str, next: &str) -> bool
+    ensures { result ≡ (all && bytes_eq first.now next.now) }
+{
+    all && first == next
+}
+
+// What a client shows, as it would be written.
+#[tactic(auto, unfolding(crate::specs::Play::shown_text))]
+fn shown_text(alloc: Global, view: &View) -> Result<String, OutOfMemory>
+    ensures { (c : NamedClient) → view_content view.now ≡ content c.client → IfOk result (λ text. string_bytes text ≡ shown_text c) }
+{
+    let mut text = String::new(alloc);
+    push_content(alloc, &mut text, view)?;
+    Ok(text)
+}
+
+// The line of a client, with its LF.
+#[tactic(auto, unfolding(crate::specs::Play::client_line))]
+fn client_line(alloc: Global, name: &Text, view: &View) -> Result<String, OutOfMemory>
+    ensures { (c : NamedClient) → IsViewOf c name.now view.now → IfOk result (λ line. string_bytes line ≡ with_lf (client_line c)) }
+{
+    let mut line = client_numbers(alloc, name, view)?;
+    let content = content_numbers(alloc, view)?;
+    line.push_str(content.as_str())?;
+    line.push('\n')?;
+    Ok(line)
+}
+
+// The name and the numbers of a client.
+fn client_numbers(alloc: Global, name: &Text, view: &View) -> Result<String, OutOfMemory>
+    ensures { (c : NamedClient) → IsViewOf c name.now view.now → IfOk result (λ text. string_bytes text ≡ client_numbers c) }
+{
+    let string = quote(alloc, name)?;
+    let quoted = string.as_str();
+    let mut text = format!(in alloc; "client {quoted}")?;
+    let seq = view.numbers.seq;
+    let min = view.numbers.min;
+    let pending = view.numbers.pending;
+    let numbers = format!(in alloc; " seq {seq} min {min} pending {pending}")?;
+    text.push_str(numbers.as_str())?;
+    Ok(text)
+}
+
+// How many characters and markers a view shows, and the hash of the characters.
+fn content_numbers(alloc: Global, view: &View) -> Result<String, OutOfMemory>
+    ensures { IfOk result (λ text. string_bytes text ≡ content_numbers (view_content view.now)) }
+{
+    let length = length_of(view)?;
+    let hash = hash_of(&view.text);
+    Ok(format!(in alloc; " length {length} hash {hash}")?)
+}
+
+// How many characters and markers a view shows.
+//
+// Answers `OutOfMemory` where the sum has more than 64 bits.
+fn length_of(view: &View) -> Result<u64, OutOfMemory>
+    ensures { IfOk result (λ sum. sum ≡ length view.now.text + length view.now.markers) }
+{
+    added(character_count(&view.text), view.markers.len() as u64)
+}
+
+// How many characters the text has.
+fn character_count(text: &Text) -> u64
+    ensures { result ≡ length text.now }
+{
+    text.as_str().chars().count() as u64
+}
+
+// The hash of the characters of a text.
+fn hash_of(text: &Text) -> u32
+    ensures { result ≡ text_hash text.now }
+{
+    hash_of_characters(text.as_str())
+}
+
+// The hash of characters.
+fn hash_of_characters(text: &str) -> u32
+    ensures { result ≡ text_hash (chars text.now) }
+{
+    text.chars().fold(0, |hash, character| {
+        hash.wrapping_mul(31).wrapping_add(u32::from(character))
+    })
+}

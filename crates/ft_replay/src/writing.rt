@@ -1,0 +1,20 @@
+//! Writing to a sink.
+
+ghost use Rattle.std.specs.Prelude.{◌≡◌, IsErrOf, OnOk};
+ghost use Rattle.ft_replay.specs.Writing.{WritesBytes};
+
+use crate::endings::Fault;
+use ft_io::{Sink, write_all};
+
+/// Writes all the bytes.
+///
+/// Answers `Write` only where the sink's count of faults rose, and then the sink has taken some of the
+/// first of them; else the count is as it was.
+pub fn put<K: Sink>(out: &mut K, bytes: &[u8]) -> Result<(), Fault>
+    ensures writes { WritesBytes (K.contents out.old) (K.contents out.new) (K.faults out.old) (K.faults out.new) bytes.now result }
+    ensures fault { IsErrOf result Fault.OutOfMemory → ⊥ }
+    ensures steady { OnOk result (K.faults out.new ≡ K.faults out.old) }
+{
+    write_all(out, bytes)?;
+    Ok(())
+}
