@@ -1,6 +1,6 @@
 -- What the end of a run says is said of its words by its status.
-use Rattle.std.specs.Prelude.{⊤, ◌≡◌, ℕ, ◌≤◌, List, [], Option, Some, None, Bool, true, false, Result, Ok, Err, refl, sym, ◌∙◌, subst, inl, IfOk, OnOk}
-use Rattle.std.proofs.Common.{arith}
+use Rattle.std.specs.Prelude.{⊤}
+use Rattle.std.proofs.Common.{◌≡◌, ℕ, List, [], Option, Some, None, Bool, true, false, Result, Ok, Err, refl, sym, subst, arith, inl, IfOk, OnOk}
 use Rattle.std.specs.Io.KnownBytes.{IsAtEnd}
 use Rattle.ft_io.specs.Streams.{Rose}
 use Rattle.ft_io.proofs.TakenAndLeft.{Appends-nil, Consumes-nil}
@@ -38,26 +38,27 @@ moves_usage form first held source_rose sink_rose is =
     subst (λ f. Moves first first held held (SaysForWords f first source_rose sink_rose Usage)) (sym is)
     (record { given = []; gives = Consumes-nil first; written = []; takes = Appends-nil held; says = (refl, refl, refl) })
 
-module _ (form : Option Form) (it : Form) (is : form ≡ Some it) {first left held holds : Option (List ℕ)} {source_rose sink_rose : Type 0} {status : Status} {end : Result Ending Fault}
-    (ends : status ≡ end_status end) where
-  -- what is said of a form is said of its words
-  for_words : (reads : Bool) → reads_input it ≡ reads → (given written : List ℕ) → SaysOfForm reads (account_of it) left source_rose sink_rose (end_status end) given written
-      → SaysForWords form left source_rose sink_rose status given written
-  for_words reads reading given written h =
-      subst (λ f. SaysForWords f left source_rose sink_rose status given written) (sym is)
-      (subst (λ s. SaysForWords (Some it) left source_rose sink_rose s given written) (sym ends)
-      (subst (λ b. SaysOfForm b (account_of it) left source_rose sink_rose (end_status end) given written) (sym reading) h))
+-- what is said of a form is said of its words
+for_words : (form : Option Form) (it : Form) → form ≡ Some it → (reads : Bool) → reads_input it ≡ reads → (left : Option (List ℕ)) (source_rose sink_rose : Type 0) (status : Status)
+    (end : Result Ending Fault) → status ≡ end_status end → (given written : List ℕ) → SaysOfForm reads (account_of it) left source_rose sink_rose (end_status end) given written
+    → SaysForWords form left source_rose sink_rose status given written
+for_words form it is reads reading left source_rose sink_rose status end ends given written h =
+    subst (λ f. SaysForWords f left source_rose sink_rose status given written) (sym is)
+    (subst (λ s. SaysForWords (Some it) left source_rose sink_rose s given written) (sym ends)
+    (subst (λ b. SaysOfForm b (account_of it) left source_rose sink_rose (end_status end) given written) (sym reading) h))
 
-  -- the lines of a form were read
-  pub moves_read : reads_input it ≡ true → Moves first left held holds (Says (account_of it) (IsAtEnd left) source_rose sink_rose end)
-      → Moves first left held holds (SaysForWords form left source_rose sink_rose status)
-  moves_read reading moves = record {
-    given = moves.given;
-    gives = moves.gives;
-    written = moves.written;
-    takes = moves.takes;
-    says = for_words true reading moves.given moves.written (says_by_status (account_of it) (IsAtEnd left) source_rose sink_rose end moves.given moves.written moves.says);
-  }
+-- the lines of a form were read
+pub moves_read : (form : Option Form) (it : Form) → form ≡ Some it → reads_input it ≡ true → (first left held holds : Option (List ℕ)) (source_rose sink_rose : Type 0) (status : Status)
+    (end : Result Ending Fault) → status ≡ end_status end → Moves first left held holds (Says (account_of it) (IsAtEnd left) source_rose sink_rose end)
+    → Moves first left held holds (SaysForWords form left source_rose sink_rose status)
+moves_read form it is reading first left held holds source_rose sink_rose status end ends moves = record {
+  given = moves.given;
+  gives = moves.gives;
+  written = moves.written;
+  takes = moves.takes;
+  says = for_words form it is true reading left source_rose sink_rose status end ends moves.given moves.written
+      (says_by_status (account_of it) (IsAtEnd left) source_rose sink_rose end moves.given moves.written moves.says);
+}
 
 -- a form that reads nothing wrote its report, or not
 says_unread : (account : Account) (held holds : Option (List ℕ)) (before now : ℕ) (end : Result Ending Fault) → IfOk end (λ ending. ending ≡ account.ending [])
@@ -76,7 +77,7 @@ moves_unread form it is unread first held holds source_rose before now status en
   gives = Consumes-nil first;
   written = writes.written;
   takes = writes.takes;
-  says = for_words form it is {first} {first} {held} {holds} {source_rose} {Rose before now} ends false unread [] writes.written
+  says = for_words form it is false unread first source_rose (Rose before now) status end ends [] writes.written
       (refl, says_by_status (account_of it) ⊤ ⊥ (Rose before now) end [] writes.written (says_unread (account_of it) held holds before now end ending writes));
 }
 

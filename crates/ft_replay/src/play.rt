@@ -12,12 +12,12 @@ ghost use Rattle.ft_replay.specs.Playing.{HasShown, Plays};
 ghost use Rattle.ft_replay.specs.Generated.{IsWithinLimits};
 ghost use Rattle.ft_replay.specs.Writing.{WritesBytes};
 
+use crate::endings::{Ending, Fault};
 use crate::generated::session_events;
 use crate::report::closing_text;
-use crate::showing::Showing;
-use crate::endings::{Ending, Fault};
-use crate::sums::added;
 use crate::settings::Settings;
+use crate::showing::Showing;
+use crate::sums::added;
 use crate::writing::put;
 use ft_base::OutOfMemory;
 use ft_io::Sink;

@@ -7,10 +7,10 @@ ghost use Rattle.ft_replay.specs.LineForm.{bytes_of, form_end, form_ending, form
 ghost use Rattle.ft_replay.specs.Listening.{Follows, HandsOut, IsHandedOut, IsStep, told_bytes, told_refusal, told_text};
 ghost use Rattle.ft_replay.specs.Writing.{WritesBytes};
 
+use crate::endings::{Ending, Fault};
 use crate::listener::{LINE_LIMIT, Listener, Told};
 use crate::refusals::refused_line;
 use crate::report::{last_ending, last_text};
-use crate::endings::{Ending, Fault};
 use crate::writing::put;
 use ft_base::OutOfMemory;
 use ft_io::{Line, Sink};

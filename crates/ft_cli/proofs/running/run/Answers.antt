@@ -13,20 +13,31 @@ returns-in-None-clause-moves g c =
 
 pub returns-in-Some-Log-clause-moves : goal.returns-in-Some-Log-clause-moves
 returns-in-Some-Log-clause-moves g c =
-    moves_read (form_of (texts_of c.args.words.now.items)) Log (sym c.read_words.ensures.form ∙ c.in-Some-Log.is ∙ ap Some c.in-Some-Log.field-0-is) c.ended.ensures refl c.replay_log.ensures.run
+    moves_read (form_of (texts_of c.args.words.now.items)) Log (sym c.read_words.ensures.form ∙ c.in-Some-Log.is ∙ ap Some c.in-Some-Log.field-0-is) refl
+    (g.S.Source.remaining c.args.src.now) (g.S.Source.remaining c.replay_log.new.src) (g.K.Sink.contents c.args.out.now) (g.K.Sink.contents c.replay_log.new.out)
+    (Rose (g.S.Source.faults c.args.src.now) (g.S.Source.faults c.replay_log.new.src)) (Rose (g.K.Sink.faults c.args.out.now) (g.K.Sink.faults c.replay_log.new.out))
+    c.ended.result c.replay_log.result c.ended.ensures c.replay_log.ensures.run
 
 pub returns-in-Some-Load-clause-moves : goal.returns-in-Some-Load-clause-moves
 returns-in-Some-Load-clause-moves g c =
-    moves_read (form_of (texts_of c.args.words.now.items)) Load (sym c.read_words.ensures.form ∙ c.in-Some-Load.is ∙ ap Some c.in-Some-Load.field-0-is) c.ended-in-Some-Load.ensures refl c.replay_load.ensures.run
+    moves_read (form_of (texts_of c.args.words.now.items)) Load (sym c.read_words.ensures.form ∙ c.in-Some-Load.is ∙ ap Some c.in-Some-Load.field-0-is) refl
+    (g.S.Source.remaining c.args.src.now) (g.S.Source.remaining c.replay_load.new.src) (g.K.Sink.contents c.args.out.now) (g.K.Sink.contents c.replay_load.new.out)
+    (Rose (g.S.Source.faults c.args.src.now) (g.S.Source.faults c.replay_load.new.src)) (Rose (g.K.Sink.faults c.args.out.now) (g.K.Sink.faults c.replay_load.new.out))
+    c.ended-in-Some-Load.result c.replay_load.result c.ended-in-Some-Load.ensures c.replay_load.ensures.run
 
 pub returns-in-Some-Map-clause-moves : goal.returns-in-Some-Map-clause-moves
 returns-in-Some-Map-clause-moves g c =
-    moves_read (form_of (texts_of c.args.words.now.items)) Map (sym c.read_words.ensures.form ∙ c.in-Some-Map.is ∙ ap Some c.in-Some-Map.field-0-is) c.ended-in-Some-Map.ensures refl c.replay_map.ensures.run
+    moves_read (form_of (texts_of c.args.words.now.items)) Map (sym c.read_words.ensures.form ∙ c.in-Some-Map.is ∙ ap Some c.in-Some-Map.field-0-is) refl
+    (g.S.Source.remaining c.args.src.now) (g.S.Source.remaining c.replay_map.new.src) (g.K.Sink.contents c.args.out.now) (g.K.Sink.contents c.replay_map.new.out)
+    (Rose (g.S.Source.faults c.args.src.now) (g.S.Source.faults c.replay_map.new.src)) (Rose (g.K.Sink.faults c.args.out.now) (g.K.Sink.faults c.replay_map.new.out))
+    c.ended-in-Some-Map.result c.replay_map.result c.ended-in-Some-Map.ensures c.replay_map.ensures.run
 
 pub returns-in-Some-Session-clause-moves : goal.returns-in-Some-Session-clause-moves
 returns-in-Some-Session-clause-moves g c =
-    moves_read (form_of (texts_of c.args.words.now.items)) Session (sym c.read_words.ensures.form ∙ c.in-Some-Session.is ∙ ap Some c.in-Some-Session.field-0-is) c.ended-in-Some-Session.ensures refl
-    c.replay_session.ensures.run
+    moves_read (form_of (texts_of c.args.words.now.items)) Session (sym c.read_words.ensures.form ∙ c.in-Some-Session.is ∙ ap Some c.in-Some-Session.field-0-is) refl
+    (g.S.Source.remaining c.args.src.now) (g.S.Source.remaining c.replay_session.new.src) (g.K.Sink.contents c.args.out.now) (g.K.Sink.contents c.replay_session.new.out)
+    (Rose (g.S.Source.faults c.args.src.now) (g.S.Source.faults c.replay_session.new.src)) (Rose (g.K.Sink.faults c.args.out.now) (g.K.Sink.faults c.replay_session.new.out))
+    c.ended-in-Some-Session.result c.replay_session.result c.ended-in-Some-Session.ensures c.replay_session.ensures.run
 
 pub returns-in-Some-Gen-clause-moves : goal.returns-in-Some-Gen-clause-moves
 returns-in-Some-Gen-clause-moves g c =
