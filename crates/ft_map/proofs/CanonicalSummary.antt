@@ -11,12 +11,10 @@ use Rattle.serde_json.specs.Written.{compact_text, items_text}
 use Rattle.ft_json.specs.Canonical.{IsCanonical, IsCanonicalText, ItemsAreCanonical}
 use Rattle.ft_json.proofs.Quoted.{encodes-quoted}
 use Rattle.ft_seqr.specs.ViewLines.{json_string}
-use Rattle.ft_map.specs.declared.ops.MapPair.{MapPair}
-use Rattle.ft_map.specs.Maps.{Characters, FiniteMap, ValueBytes, map_of, pairs_of}
-use Rattle.ft_map.specs.MapClient.{MapClient, view_of}
+use Rattle.ft_map.specs.Maps.{Characters, FiniteMap, ValueBytes}
+use Rattle.ft_map.specs.MapClient.{MapClient}
 use Rattle.ft_map.specs.MapReport.{later_pairs, pair_text, pairs_text, summary_text}
 use Rattle.ft_map.specs.MapWorlds.{IsWritable}
-use Rattle.ft_map.proofs.Submitting.{loaded_back}
 
 -- an entry as a value
 pair-value : (e : Characters × ValueBytes) → IsWritable e → (d : Data) × IsCanonical d × (compact_text d ≡ pair_text e)
@@ -130,18 +128,13 @@ summary-canonical x low few w =
     )
 
 -- the text by its three pieces
-pub spelled : (x : MapClient) (min seq : ℕ) (pairs : List MapPair) (start after end new : List ℕ) → x.state.pending ≡ [] → pairs ≡ pairs_of (view_of x) → min ≡ x.minimum → seq ≡ x.number
-    → start ≡ codes "{\"min\":" ++ (decimal min ++ codes ",\"pairs\":[") → after ≡ start ++ pairs_text (map_of pairs) → end ≡ codes "],\"seq\":" ++ (decimal seq ++ codes ",\"version\":1}")
+pub spelled : (x : MapClient) (min seq : ℕ) (start after end new : List ℕ) → min ≡ x.minimum → seq ≡ x.number
+    → start ≡ codes "{\"min\":" ++ (decimal min ++ codes ",\"pairs\":[") → after ≡ start ++ pairs_text x.state.acked → end ≡ codes "],\"seq\":" ++ (decimal seq ++ codes ",\"version\":1}")
     → new ≡ after ++ end → new ≡ summary_text x
 unfolding summary_text
-spelled x min seq pairs start after end new none are low few is_start is_after is_end is_new =
+spelled x min seq start after end new low few is_start is_after is_end is_new =
     let rest = pairs_text x.state.acked ++ (codes "],\"seq\":" ++ (decimal x.number ++ codes ",\"version\":1}")) in
-    let back : map_of pairs ≡ x.state.acked = loaded_back x.state pairs none are in
-    is_new ∙ ap (λ t. t ++ end) is_after ∙ append_assoc start (pairs_text (map_of pairs)) end
-    ∙ ap (λ (m : FiniteMap). start ++ (pairs_text m ++ end)) back
+    is_new ∙ ap (λ t. t ++ end) is_after ∙ append_assoc start (pairs_text x.state.acked) end
     ∙ ap (λ t. start ++ (pairs_text x.state.acked ++ t)) (is_end ∙ ap (λ n. codes "],\"seq\":" ++ (decimal n ++ codes ",\"version\":1}")) few)
     ∙ ap (λ t. t ++ rest) (is_start ∙ ap (λ n. codes "{\"min\":" ++ (decimal n ++ codes ",\"pairs\":[")) low)
     ∙ ap (λ t. codes "{\"min\":" ++ t) (append_assoc (decimal x.minimum) (codes ",\"pairs\":[") rest)
-
-pub all-writable : (x : MapClient) (pairs : List MapPair) → x.state.pending ≡ [] → pairs ≡ pairs_of (view_of x) → AllByRecursion IsWritable (map_of pairs) → AllByRecursion IsWritable x.state.acked
-all-writable x pairs none are w = subst (λ (m : FiniteMap). AllByRecursion IsWritable m) (loaded_back x.state pairs none are) w

@@ -13,9 +13,6 @@ use Rattle.ft_seqr.specs.World.{conn_of, wanted_count}
 use Rattle.ft_msg.specs.declared.messages.Body.TheVariants.{Elsewhere}
 use Rattle.ft_map.specs.declared.log.MapDraft.{MapDraft}
 use Rattle.ft_map.specs.declared.ops.MapOp.{MapOp}
-use Rattle.ft_map.specs.declared.ops.MapPair.{MapPair}
-use Rattle.ft_map.specs.Maps.{MapState, map_of, pairs_of, put_all, shown_map}
-use Rattle.ft_map.proofs.MapLaws.{map_of-pairs_of}
 use Rattle.ft_map.specs.MapClient.{MapClient, draft_of}
 use Rattle.ft_map.specs.MapSession.{MapService, MapTurned, NamedMapClient, logged, submit_all, submit_one, ticket_client, turned}
 use Rattle.ft_map.specs.MapWorlds.{HasNoNack}
@@ -123,7 +120,3 @@ all-taken many s c conn n link wanted h = λ nack e. h nack (ap (ticketing s c m
 
 pub made-draft : (n ref_seq : ℕ) (name : List ℕ) (op copy : MapOp) → name ≡ codes "map" → copy ≡ op → draft_with n ref_seq name copy ≡ draft_of n ref_seq op
 made-draft n ref_seq name op copy h k = ap (λ x. draft_with n ref_seq x copy) h ∙ ap (λ (o : MapOp). draft_of n ref_seq o) k
-
--- a map that was read back from its pairs
-pub loaded_back : (s : MapState) (pairs : List MapPair) → s.pending ≡ [] → pairs ≡ pairs_of (shown_map s) → map_of pairs ≡ s.acked
-loaded_back s pairs none h = ap map_of h ∙ map_of-pairs_of (shown_map s) ∙ ap (λ (ops : List MapOp). put_all s.acked ops) none

@@ -17,10 +17,10 @@ use Rattle.ft_map.specs.declared.events.MapOut.TheVariants as out
 use Rattle.ft_map.specs.MapClient.{MapClient, client_over}
 use Rattle.ft_map.specs.declared.ops.MapOp.{MapOp}
 use Rattle.ft_map.specs.Maps.{Characters}
-use Rattle.ft_map.specs.MapSession.{MapService, MapSession, MapStepped, NamedMapClient, Nothing, is_client, name_fault, of_client, replaced, settled, start_client, started, step, unless_pending}
+use Rattle.ft_map.specs.MapSession.{MapService, MapSession, MapStepped, NamedMapClient, Nothing, Summary, asked, is_client, name_fault, of_client, replaced, settled, start_client, started, step, summary_client, unless_pending}
 use Rattle.ft_seqr.specs.RefusalKinds.{MeansOf, Refused, refusal_kind}
 use Rattle.ft_seqr.proofs.RefusalKinds.{means-weaker}
-use Rattle.ft_map.specs.MapWorlds.{AnswersSession, AnswersStart, AnswersTurn, HasNoNack, event_client, event_turn}
+use Rattle.ft_map.specs.MapWorlds.{AnswersPending, AnswersSession, AnswersStart, AnswersTurn, HasNoNack, event_client, event_turn}
 
 -- what a search by name finds: the client at a place, which is the first of that name
 pub record Found (name : Characters) (cs : List NamedMapClient) (i : ℕ) : Type 0 where
@@ -139,22 +139,25 @@ module _ (w : MapSession) (name : Characters) (from : Option Characters) where
   by_name : (fault : Option Refusal) → name_fault w name ≡ fault → step w (event.Start name from) ≡ named_step fault (start_client w name from)
   by_name fault h = ap (λ (o : Option Refusal). named_step o (start_client w name from)) h
 
-  -- the name can't be given
-  pub start-unnamed : (why : Refusal) → (name_fault w name ≡ Some why) × (refusal_kind why ≡ Refused) → AnswersSession w w (step w (event.Start name from)) (Err why)
-  start-unnamed why (h, k) = subst (λ kind. MeansOf kind ⊤ ((w ≡ w) × (step w (event.Start name from) ≡ Err why))) (sym k) (refl, by_name (Some why) h)
-
-  -- nobody is there to begin with
-  pub start-refused : name_fault w name ≡ None → (why : Refusal) → AnswersStart w from (Err why) → AnswersSession w w (step w (event.Start name from)) (Err why)
-  start-refused free why h = means-weaker (refusal_kind why) (λ p. (refl, by_name None free ∙ p name)) h
-
   -- the client comes in
   pub start-taken : name_fault w name ≡ None → (x : MapClient) (new : MapSession) → AnswersStart w from (Ok x)
       → new ≡ record w { clients = w.clients ++ record { name = name; connects = 0; client = x } ∷ [] } → AnswersSession w new (step w (event.Start name from)) (Ok out.Nothing)
   start-taken free x new h is = (Nothing, by_name None free ∙ h name ∙ ap (λ (v : MapSession). let r : MapStepped = Ok (v, Nothing) in r) (sym is), tt)
 
-pub nothing_pending : {A : Type 0} (x : MapClient) (taken : Result A Refusal) (ops : List MapOp) → x.state.pending ≡ ops → length ops ≡ 0 → unless_pending x taken ≡ taken
-nothing_pending x taken [] h l = rw h refl
-nothing_pending x taken (op ∷ ops) h l = absurd cc
+-- ---- whether anything is pending
+
+pub nothing-pending : {A : Type 0} (x : MapClient) (taken : Result A Refusal) → x.state.pending ≡ [] → unless_pending x taken ≡ taken
+nothing-pending x taken h = rw h refl
+
+some-pending : {A : Type 0} (x : MapClient) (taken : Result A Refusal) (ops : List MapOp) → x.state.pending ≡ ops → 0 < length ops → unless_pending x taken ≡ Err (Pending (length ops))
+some-pending x taken [] h l = absurd (omega arith)
+some-pending x taken (op ∷ ops) h l = rw h refl
+
+pub summary-refused : (s : MapService) (c : NamedMapClient) (why : Refusal) → AnswersPending c.client.state.pending (Err why) → AnswersTurn c c s s (summary_client s c) (Err why)
+summary-refused s c why h =
+    subst (λ (refusal : Refusal). AnswersTurn c c s s (summary_client s c) (Err refusal)) (sym h.1) (refl, refl, some-pending c.client (asked s c (Summary c.client)) c.client.state.pending refl h.0)
+
+-- ---- who begins a client
 
 module _ (w : MapSession) (from : Characters) where
   abbrev begins : Characters → Option NamedMapClient → MapStepped
@@ -164,8 +167,8 @@ module _ (w : MapSession) (from : Characters) where
   ]
 
   -- there is no such client to begin from
-  pub begin-unknown : position (is_client from) w.clients ≡ None → (name : Characters) → start_client w name (Some from) ≡ Err UnknownClient
-  begin-unknown p name = ap (begins name) (not_found from w.clients p)
+  pub begin-unknown : position (is_client from) w.clients ≡ None → AnswersStart w (Some from) (Err UnknownClient)
+  begin-unknown p = λ name. ap (begins name) (not_found from w.clients p)
 
   module _ (i : ℕ) (c : NamedMapClient) (at : position (is_client from) w.clients ≡ Some i) (is : c ≡ slice_index_or w.clients i c) where
     there : find (is_client from) w.clients ≡ Some c
@@ -174,24 +177,11 @@ module _ (w : MapSession) (from : Characters) where
         let same : Some f.client ≡ Some c = sym f.at ∙ at_place from w.clients i c at is in
         f.found ∙ same
 
-    some_pending : {A : Type 0} (x : MapClient) (taken : Result A Refusal) (ops : List MapOp) → x.state.pending ≡ ops → 0 < length ops → unless_pending x taken ≡ Err (Pending (length ops))
-    some_pending x taken [] h l = absurd (omega arith)
-    some_pending x taken (op ∷ ops) h l = rw h refl
+    pub begin-pending : (why : Refusal) → AnswersPending c.client.state.pending (Err why) → AnswersStart w (Some from) (Err why)
+    begin-pending why h =
+        subst (λ (refusal : Refusal). AnswersStart w (Some from) (Err refusal)) (sym h.1)
+        (λ name. ap (begins name) there ∙ some-pending c.client (started w name (client_over c.client.state.acked c.client.number c.client.minimum)) c.client.state.pending refl h.0)
 
-    pub begin-pending : 0 < length c.client.state.pending → (name : Characters) → start_client w name (Some from) ≡ Err (Pending (length c.client.state.pending))
-    begin-pending l name = ap (begins name) there ∙ some_pending c.client _ c.client.state.pending refl l
-
-    pub begin-copied : (x : MapClient) → length c.client.state.pending ≡ 0 → x ≡ client_over c.client.state.acked c.client.number c.client.minimum → (name : Characters)
-        → start_client w name (Some from) ≡ started w name x
-    begin-copied x l h name = ap (begins name) there ∙ nothing_pending c.client _ c.client.state.pending refl l ∙ ap (started w name) (sym h)
-
--- ---- names
-
-pub name_taken : (w : MapSession) (name : Characters) → list_any (is_client name) w.clients ≡ true → name_fault w name ≡ Some NameInUse
-name_taken w name h = rw h refl
-
-pub names_full : (w : MapSession) (name : Characters) → list_any (is_client name) w.clients ≡ false → 16 ≤ length w.clients → name_fault w name ≡ Some ClientLimit
-names_full w name h l = rw (h, le-leb 16 (length w.clients) l) refl
-
-pub name_free : (w : MapSession) (name : Characters) → list_any (is_client name) w.clients ≡ false → length w.clients < 16 → name_fault w name ≡ None
-name_free w name h l = let e : nat_le 16 (length w.clients) ≡ false = grind (arith, nat_tests) in rw (h, e) refl
+    pub begin-copied : (x : MapClient) → c.client.state.pending ≡ [] → x ≡ client_over c.client.state.acked c.client.number c.client.minimum → AnswersStart w (Some from) (Ok x)
+    begin-copied x none h = λ name.
+        ap (begins name) there ∙ nothing-pending c.client (started w name (client_over c.client.state.acked c.client.number c.client.minimum)) none ∙ ap (started w name) (sym h)

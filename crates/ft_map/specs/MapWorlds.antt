@@ -1,16 +1,17 @@
 -- Map worlds as contracts see them, and what they answer.
-use Rattle.std.specs.Prelude.{◌≡◌, ℕ, Bool, true, false, List, Option, Some, None, Result, Ok, Err, encode_utf8_all, length, ⊤}
+use Rattle.std.specs.Prelude.{◌≡◌, ◌<◌, ℕ, Bool, true, false, List, [], Option, Some, None, Result, Ok, Err, encode_utf8_all, length, ⊤}
 use Rattle.std.specs.Str.{IsUtf8}
 use Rattle.ft_json.specs.Canonical.{IsCanonicalText}
 use Rattle.ft_msg.specs.declared.views.Numbers.{Numbers}
 use Rattle.ft_seqr.specs.declared.refusals.Refusal.{Refusal}
-use Rattle.ft_seqr.specs.declared.refusals.Refusal.TheVariants.{Nacked, NotConnected, Stopped}
+use Rattle.ft_seqr.specs.declared.refusals.Refusal.TheVariants.{Nacked, NotConnected, Pending, Stopped}
 use Rattle.ft_seqr.specs.declared.nacks.Nack.{Nack}
 use Rattle.ft_seqr.specs.RefusalKinds.{MeansOf, Refused, refusal_kind}
 use Rattle.ft_map.specs.declared.events.MapEvent.{MapEvent}
 use Rattle.ft_map.specs.declared.events.MapEvent.TheVariants as event
 use Rattle.ft_map.specs.declared.events.MapOut.{MapOut}
 use Rattle.ft_map.specs.declared.events.MapOut.TheVariants as out
+use Rattle.ft_map.specs.declared.ops.MapOp.{MapOp}
 use Rattle.ft_map.specs.declared.ops.MapPair.{MapPair}
 use Rattle.ft_map.specs.Maps.{Characters, ValueBytes, pairs_of}
 use Rattle.ft_map.specs.MapClient.{MapClient, view_of}
@@ -87,6 +88,11 @@ event_turn (event.Summary name) s c = summary_client s c
 abbrev pub AnswersName : Option Refusal → Result (Unit {0}) Refusal → Type 0
 AnswersName fault (Ok _) = fault ≡ None
 AnswersName fault (Err why) = (fault ≡ Some why) × (refusal_kind why ≡ Refused)
+
+-- the answer to whether nothing is pending: so it is, or how much is
+abbrev pub AnswersPending : List MapOp → Result (Unit {0}) Refusal → Type 0
+AnswersPending ops (Ok _) = ops ≡ []
+AnswersPending ops (Err why) = (0 < length ops) × (why ≡ Pending (length ops))
 
 -- the answer to who begins a client: the client, whatever its name; or the refusal
 abbrev pub AnswersStart : MapSession → Option Characters → Result MapClient Refusal → Type 0

@@ -210,9 +210,6 @@ pub(crate) fn summarize(
 ) -> Result<MapOut, Refusal>
     ensures { AnswersTurn member.now member.now service.now service.now (summary_client service.now member.now) result }
 {
-    let count = member.client.pending();
-    if count > 0 {
-        return Err(Refusal::Pending { count });
-    }
+    member.client.nothing_pending()?;
     Ok(MapOut::Summary(summary_text(alloc, &member.client)?))
 }

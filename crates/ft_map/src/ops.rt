@@ -1,7 +1,7 @@
 //! Operations on a map, and its entries.
 
 ghost use Rattle.std.specs.Prelude.{◌≡◌, Some, IfOk, OnOk, OnErr, option_copied};
-ghost use Rattle.ft_map.specs.Maps.{put, written};
+ghost use Rattle.ft_map.specs.Maps.{key_cmp, put, put_rising, written};
 
 use ft_base::{OutOfMemory, Text};
 use ft_json::ValText;
@@ -61,7 +61,7 @@ pub(crate) fn put(map: &mut Props, op: &MapOp) -> Result<(), OutOfMemory>
     ensures err { OnErr result (map.new ≡ map.old) }
 {
     match op {
-        MapOp::Set { key, value } => map.put(key.copy()?, value.copy()?),
+        MapOp::Set { key, value } => set(map, key, value),
         MapOp::Delete { key } => {
             map.remove(key.as_str());
             Ok(())
@@ -71,4 +71,14 @@ pub(crate) fn put(map: &mut Props, op: &MapOp) -> Result<(), OutOfMemory>
             Ok(())
         }
     }
+}
+
+/// The map with this value of the key.
+///
+/// Answers `OutOfMemory` where there is no room for it, and then the map is as it was.
+pub(crate) fn set(map: &mut Props, key: &Text, value: &ValText) -> Result<(), OutOfMemory>
+    ensures ok { OnOk result (map.new ≡ put_rising key_cmp (key.now, value.now) map.old) }
+    ensures err { OnErr result (map.new ≡ map.old) }
+{
+    map.put(key.copy()?, value.copy()?)
 }

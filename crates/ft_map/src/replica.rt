@@ -4,13 +4,15 @@ ghost use Rattle.std.specs.Prelude.{◌≡◌, ◌+◌, ◌<◌, ◌^◌, [], �
 ghost use Rattle.ft_msg.specs.Process.{is_own_join};
 ghost use Rattle.ft_map.specs.Maps.{acknowledged, pairs_of};
 ghost use Rattle.ft_map.specs.MapClient.{after_entry, after_message, after_op, client_over, draft_of, drafts_from, dropped, edited, is_own, joining, online, view_of};
-ghost use Rattle.ft_map.specs.MapWorlds.{AreNumbersOf};
+ghost use Rattle.ft_map.specs.MapWorlds.{AnswersPending, AreNumbersOf};
 
 use crate::log::{MapDraft, MapEntry};
 use crate::ops::{MapOp, MapPair};
 use crate::shared::SharedMap;
 use ft_base::{OutOfMemory, Text};
+use ft_json::ValText;
 use ft_msg::{Body, Draft, Entry, Link, MsgKind, Numbers};
+use ft_seqr::Refusal;
 use std::alloc::Global;
 use std::collections::VecDeque;
 use std::marker::Model;
@@ -62,15 +64,13 @@ impl MapReplica {
         }
     }
 
-    /// A new client with the map and the numbers of this one.
+    /// A new client with what was sequenced of this one's map, and its numbers.
     ///
     /// Answers `OutOfMemory` where there is no room for it.
     pub(crate) fn successor(&self) -> Result<MapReplica, OutOfMemory>
-        requires { self.now.state.pending ≡ [] }
         ensures { IfOk result (λ r. r ≡ client_over self.now.state.acked self.now.number self.now.minimum) }
     {
-        let pairs = self.state.pairs()?;
-        let state = SharedMap::load(self.alloc, &pairs)?;
+        let state = self.state.sequenced()?;
         Ok(MapReplica::over(self.alloc, state, self.seq, self.min))
     }
 
@@ -111,6 +111,18 @@ impl MapReplica {
         self.state.pending()
     }
 
+    /// That nothing is pending.
+    ///
+    /// Answers `Pending` exactly where operations are, with how many.
+    pub(crate) fn nothing_pending(&self) -> Result<(), Refusal>
+        ensures { AnswersPending self.now.state.pending result }
+    {
+        match self.pending() {
+            0 => Ok(()),
+            count => Err(Refusal::Pending { count }),
+        }
+    }
+
     /// What it shows, by rising keys.
     ///
     /// Answers `OutOfMemory` where there is no room for it.
@@ -118,6 +130,13 @@ impl MapReplica {
         ensures { IfOk result (λ pairs. pairs.items ≡ pairs_of (view_of self.now)) }
     {
         self.state.pairs()
+    }
+
+    /// What was sequenced of its map, by rising keys.
+    pub(crate) fn acked(&self) -> &[(Text, ValText)]
+        ensures { result.now ≡ self.now.state.acked }
+    {
+        self.state.acked()
     }
 
     /// Its last minimum.

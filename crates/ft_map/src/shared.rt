@@ -2,11 +2,11 @@
 
 ghost use Rattle.std.specs.Prelude.{◌≡◌, ◌+◌, ◌<◌, ◌^◌, [], ◌∷◌, ◌++◌, IfOk, OnOk, OnErr, chars, length, option_copied, slice_get};
 ghost use Rattle.ft_props.specs.Keys.{KeysRise};
-ghost use Rattle.ft_map.specs.Maps.{acknowledged, map_of, pairs_of, put, put_all, shown_map, value_of};
+ghost use Rattle.ft_map.specs.Maps.{acknowledged, map_of, pair_of, pairs_of, put, put_all, shown_map, value_of};
 
 use crate::marks::Marks;
-use crate::ops::{MapOp, MapPair, put, written};
-use ft_base::OutOfMemory;
+use crate::ops::{MapOp, MapPair, put, set, written};
+use ft_base::{OutOfMemory, Text};
 use ft_json::ValText;
 use ft_props::Props;
 use std::alloc::Global;
@@ -45,12 +45,7 @@ impl SharedMap {
     pub fn new(alloc: Global) -> SharedMap
         ensures { result ≡ record { acked = []; pending = [] } }
     {
-        SharedMap {
-            acked: Props::new(alloc),
-            pending: VecDeque::new(alloc),
-            first: 0,
-            marks: Marks::new(alloc),
-        }
+        SharedMap::of(alloc, Props::new(alloc))
     }
 
     /// The map of these pairs, with nothing pending.
@@ -60,12 +55,35 @@ impl SharedMap {
         requires { KeysRise (map_of pairs.now.items) }
         ensures { IfOk result (λ map. map ≡ record { acked = map_of pairs.now.items; pending = [] }) }
     {
-        Ok(SharedMap {
-            acked: props_of(alloc, pairs.as_slice())?,
+        Ok(SharedMap::of(alloc, props_of(alloc, pairs.as_slice())?))
+    }
+
+    // This was sequenced, and nothing is pending.
+    fn of(alloc: Global, acked: Props) -> SharedMap
+        ensures { result ≡ record { acked = acked; pending = [] } }
+    {
+        SharedMap {
+            acked,
             pending: VecDeque::new(alloc),
             first: 0,
             marks: Marks::new(alloc),
-        })
+        }
+    }
+
+    /// A map with what was sequenced of this one, and nothing pending.
+    ///
+    /// Answers `OutOfMemory` where there is no room for it.
+    pub(crate) fn sequenced(&self) -> Result<SharedMap, OutOfMemory>
+        ensures { IfOk result (λ map. map ≡ record { acked = self.now.acked; pending = [] }) }
+    {
+        Ok(SharedMap::of(self.acked.allocator(), self.acked.copy()?))
+    }
+
+    /// What was sequenced, by rising keys.
+    pub(crate) fn acked(&self) -> &[(Text, ValText)]
+        ensures { result.now ≡ self.now.acked }
+    {
+        self.acked.as_slice()
     }
 
     /// How many operations are pending.
@@ -97,14 +115,11 @@ impl SharedMap {
         ensures err { OnErr result (self.new ≡ self.old) }
     {
         let number = next_number(self.first, self.pending.len())?;
-        self.pending.push_back(op.copy()?)?;
-        match self.marks.note(number, op) {
-            Ok(()) => Ok(()),
-            Err(why) => {
-                let _ = self.pending.pop_back();
-                Err(why)
-            }
-        }
+        self.pending.reserve(1)?;
+        let own = op.copy()?;
+        self.marks.note(number, op)?;
+        self.pending.push_back_reserved(own);
+        Ok(())
     }
 
     /// An operation of another client, which has become sequenced.
@@ -142,8 +157,8 @@ impl SharedMap {
         match self.marks.last_of(key) {
             Some(number) => written(&self.pending[(number - self.first) as usize]),
             None => match self.marks.cleared() {
-                Some(_) => None,
                 None => self.acked.get(key),
+                Some(_) => None,
             },
         }
     }
@@ -193,7 +208,7 @@ fn props_of(alloc: Global, pairs: &[MapPair]) -> Result<Props, OutOfMemory>
 {
     let mut map = Props::new(alloc);
     for pair in pairs {
-        map.put(pair.key.copy()?, pair.value.copy()?)?;
+        set(&mut map, &pair.key, &pair.value)?;
     }
     Ok(map)
 }
@@ -207,10 +222,18 @@ fn pairs_of(map: &Props) -> Result<Vec<MapPair>, OutOfMemory>
 {
     let mut pairs = Vec::new(map.allocator());
     for (key, value) in map.as_slice() {
-        pairs.push(MapPair {
-            key: key.copy()?,
-            value: value.copy()?,
-        })?;
+        pairs.push(pair_of(key, value)?)?;
     }
     Ok(pairs)
+}
+
+// A pair of this key and this value.
+//
+// Answers `OutOfMemory` where there is no room for it.
+fn pair_of(key: &Text, value: &ValText) -> Result<MapPair, OutOfMemory>
+    ensures { IfOk result (λ pair. pair ≡ pair_of (key.now, value.now)) }
+{
+    let key = key.copy()?;
+    let value = value.copy()?;
+    Ok(MapPair { key, value })
 }

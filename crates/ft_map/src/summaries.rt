@@ -1,23 +1,20 @@
 //! The summary of a client of a map session.
 
-ghost use Rattle.std.specs.Prelude.{◌≡◌, [], ◌++◌, IfOk, OnOk, codes, decimal, string_bytes};
+ghost use Rattle.std.specs.Prelude.{◌≡◌, ◌++◌, IfOk, OnOk, codes, decimal, string_bytes};
 ghost use Rattle.std.specs.List.{AllByRecursion};
 ghost use Rattle.ft_json.specs.Canonical.{IsCanonicalText};
-ghost use Rattle.ft_map.specs.Maps.{entry_of, map_of};
 ghost use Rattle.ft_map.specs.MapReport.{later_pairs, pair_text, pairs_text, summary_text};
 ghost use Rattle.ft_map.specs.MapWorlds.{IsWritable};
 
-use crate::ops::MapPair;
 use crate::replica::MapReplica;
-use ft_base::OutOfMemory;
+use ft_base::{OutOfMemory, Text};
 use ft_json::{ValText, quote};
 use std::alloc::Global;
 
-/// The summary of a client on which nothing is pending, as its one text.
+/// The summary of a client, which tells what was sequenced, as its one text.
 ///
 /// Answers `OutOfMemory` where there is no room for it.
 pub(crate) fn summary_text(alloc: Global, client: &MapReplica) -> Result<ValText, OutOfMemory>
-    requires { client.now.state.pending ≡ [] }
     ensures { IfOk result (λ text. text ≡ summary_text client.now) }
 {
     let text = spelled_summary(alloc, client)?;
@@ -26,13 +23,11 @@ pub(crate) fn summary_text(alloc: Global, client: &MapReplica) -> Result<ValText
 
 // The same, by its characters.
 fn spelled_summary(alloc: Global, client: &MapReplica) -> Result<String, OutOfMemory>
-    requires { client.now.state.pending ≡ [] }
     ensures text { IfOk result (λ text. string_bytes text ≡ summary_text client.now) }
     ensures canonical { IfOk result (λ text. IsCanonicalText (summary_text client.now)) }
 {
-    let pairs = client.pairs()?;
     let mut text = summary_start(alloc, client.min())?;
-    push_pairs(alloc, &mut text, pairs.as_slice())?;
+    push_pairs(alloc, &mut text, client.acked())?;
     let end = summary_end(alloc, client.seq())?;
     text.push_str(end.as_str())?;
     Ok(text)
@@ -53,9 +48,9 @@ fn summary_end(alloc: Global, seq: u64) -> Result<String, OutOfMemory>
 }
 
 // The pairs, with commas between them.
-fn push_pairs(alloc: Global, text: &mut String, pairs: &[MapPair]) -> Result<(), OutOfMemory>
-    ensures text { OnOk result (string_bytes text.new ≡ string_bytes text.old ++ pairs_text (map_of pairs.now)) }
-    ensures writable { OnOk result (AllByRecursion IsWritable (map_of pairs.now)) }
+fn push_pairs(alloc: Global, text: &mut String, pairs: &[(Text, ValText)]) -> Result<(), OutOfMemory>
+    ensures text { OnOk result (string_bytes text.new ≡ string_bytes text.old ++ pairs_text pairs.now) }
+    ensures writable { OnOk result (AllByRecursion IsWritable pairs.now) }
 {
     let Some((first, later)) = pairs.split_first() else {
         return Ok(());
@@ -65,9 +60,9 @@ fn push_pairs(alloc: Global, text: &mut String, pairs: &[MapPair]) -> Result<(),
 }
 
 // The pairs behind the first one.
-fn push_later_pairs(alloc: Global, text: &mut String, pairs: &[MapPair]) -> Result<(), OutOfMemory>
-    ensures text { OnOk result (string_bytes text.new ≡ string_bytes text.old ++ later_pairs (map_of pairs.now)) }
-    ensures writable { OnOk result (AllByRecursion IsWritable (map_of pairs.now)) }
+fn push_later_pairs(alloc: Global, text: &mut String, pairs: &[(Text, ValText)]) -> Result<(), OutOfMemory>
+    ensures text { OnOk result (string_bytes text.new ≡ string_bytes text.old ++ later_pairs pairs.now) }
+    ensures writable { OnOk result (AllByRecursion IsWritable pairs.now) }
 {
     for pair in pairs {
         text.push(',')?;
@@ -77,14 +72,14 @@ fn push_later_pairs(alloc: Global, text: &mut String, pairs: &[MapPair]) -> Resu
 }
 
 // A pair.
-fn push_pair(alloc: Global, text: &mut String, pair: &MapPair) -> Result<(), OutOfMemory>
-    ensures text { OnOk result (string_bytes text.new ≡ string_bytes text.old ++ pair_text (entry_of pair.now)) }
-    ensures writable { OnOk result (IsWritable (entry_of pair.now)) }
+fn push_pair(alloc: Global, text: &mut String, pair: &(Text, ValText)) -> Result<(), OutOfMemory>
+    ensures text { OnOk result (string_bytes text.new ≡ string_bytes text.old ++ pair_text pair.now) }
+    ensures writable { OnOk result (IsWritable pair.now) }
 {
-    let _spelled = pair.key.as_str();
-    let string = quote(alloc, &pair.key)?;
+    let _spelled = pair.0.as_str();
+    let string = quote(alloc, &pair.0)?;
     let key = string.as_str();
-    let value = pair.value.as_str();
+    let value = pair.1.as_str();
     let line = format!(in alloc; "[{key},{value}]")?;
     text.push_str(line.as_str())?;
     Ok(())

@@ -154,17 +154,21 @@ impl Session {
     fn begun(&self, from: &Option<Text>) -> Result<MapReplica, Refusal>
         ensures { AnswersStart self.now from.now result }
     {
-        let Some(from) = from else {
-            return Ok(MapReplica::over(self.alloc, SharedMap::new(self.alloc), 0, 0));
-        };
+        match from {
+            Some(from) => self.copied(from),
+            None => Ok(MapReplica::over(self.alloc, SharedMap::new(self.alloc), 0, 0)),
+        }
+    }
+
+    // A client with the map and the numbers of the client of this name.
+    fn copied(&self, from: &Text) -> Result<MapReplica, Refusal>
+        ensures { AnswersStart self.now (Some from.now) result }
+    {
         let Some(place) = place_of(self.members.as_slice(), from) else {
             return Err(Refusal::UnknownClient);
         };
         let client = &self.members[place].client;
-        let count = client.pending();
-        if count > 0 {
-            return Err(Refusal::Pending { count });
-        }
+        client.nothing_pending()?;
         Ok(client.successor()?)
     }
 

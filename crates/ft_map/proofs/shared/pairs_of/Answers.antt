@@ -4,11 +4,12 @@ use Rattle.ft_map.specs.Maps.{FiniteMap, pairs_of}
 use Rattle.ft_map.proofs.MapLaws.{rising-pairs}
 use Rattle.ft_map.proofs.shared.pairs_of.Goals as goal
 
-pub returns-clause-rising : goal.returns-clause-rising
-returns-clause-rising c =
+pub returns-clause-shown : goal.returns-clause-shown
+returns-clause-shown c =
     let items = c.as_slice-key-items.result.now in
     let pairs = c.loop-key.pairs.items in
     let done : drop c.loop-key.key-index items ≡ [] = drop_of_length-le items c.loop-key-test.false in
-    let all : pairs ≡ pairs_of c.args.map.now =
-    sym (append-nil pairs) ∙ ap (λ (m : FiniteMap). pairs ++ pairs_of m) (sym done) ∙ c.loop-key.invariant ∙ ap pairs_of c.as_slice-key-items.ensures.value in
-    rising-pairs c.args.map.now pairs all c.as_slice-key-items.ensures.rising
+    sym (append-nil pairs) ∙ ap (λ (m : FiniteMap). pairs ++ pairs_of m) (sym done) ∙ c.loop-key.invariant ∙ ap pairs_of c.as_slice-key-items.ensures.value
+
+pub returns-clause-rising : goal.returns-clause-rising
+returns-clause-rising c = rising-pairs c.args.map.now c.loop-key.pairs.items (returns-clause-shown c) c.as_slice-key-items.ensures.rising
