@@ -165,8 +165,7 @@ impl MapReplica {
         ensures { OnOk result (self.new ≡ record self.old { next_client_seq = self.old.next_client_seq + 1; queue = self.old.queue ++ draft_of self.old.next_client_seq self.old.number op.now ∷ [] }) }
     {
         let next = self.next.checked_add(1).ok_or(OutOfMemory)?;
-        self.queue
-            .push_back(draft_of(self.alloc, self.next, self.seq, op)?)?;
+        queue_draft(&mut self.queue, self.alloc, self.next, self.seq, op)?;
         self.next = next;
         Ok(())
     }
@@ -287,14 +286,14 @@ fn acknowledge(state: &mut SharedMap) -> Result<(), OutOfMemory>
 fn draft_of(alloc: Global, n: u64, ref_seq: u64, op: &MapOp) -> Result<MapDraft, OutOfMemory>
     ensures { IfOk result (λ d. d ≡ draft_of n ref_seq op.now) }
 {
-    Ok(MapDraft {
-        draft: Draft {
-            client_seq: n,
-            ref_seq,
-            body: Body::Elsewhere(Text::new(alloc, "map")?),
-        },
-        op: op.copy()?,
-    })
+    let form = Text::new(alloc, "map")?;
+    let op = op.copy()?;
+    let draft = Draft {
+        client_seq: n,
+        ref_seq,
+        body: Body::Elsewhere(form),
+    };
+    Ok(MapDraft { draft, op })
 }
 
 // The messages of all pending operations, numbered from 1.
@@ -310,8 +309,24 @@ fn drafts_of(
     let mut drafts = VecDeque::new(alloc);
     let mut next: u64 = 1;
     for op in state.operations() {
-        drafts.push_back(draft_of(alloc, next, ref_seq, op)?)?;
+        queue_draft(&mut drafts, alloc, next, ref_seq, op)?;
         next = next.checked_add(1).ok_or(OutOfMemory)?;
     }
     Ok(drafts)
+}
+
+// The messages with the one of an operation behind them.
+//
+// Answers `OutOfMemory` where there is no room for it.
+fn queue_draft(
+    drafts: &mut VecDeque<MapDraft>,
+    alloc: Global,
+    n: u64,
+    ref_seq: u64,
+    op: &MapOp,
+) -> Result<(), OutOfMemory>
+    ensures { OnOk result (drafts.new.items ≡ drafts.old.items ++ draft_of n ref_seq op.now ∷ []) }
+{
+    drafts.push_back(draft_of(alloc, n, ref_seq, op)?)?;
+    Ok(())
 }

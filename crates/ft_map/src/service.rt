@@ -1,6 +1,6 @@
 //! What orders the messages of a map session.
 
-ghost use Rattle.std.specs.Prelude.{◌≡◌, [], ◌∷◌, ◌++◌, Ok, IfOk, OnOk};
+ghost use Rattle.std.specs.Prelude.{◌≡◌, [], ◌∷◌, ◌++◌, Some, Ok, IfOk, OnOk};
 ghost use Rattle.ft_map.specs.MapSession.{joined, new_service, next_conn, submit_one};
 ghost use Rattle.ft_map.specs.MapWorlds.{AnswersLeave, HasNoNack};
 
@@ -79,8 +79,18 @@ impl Service {
         requires { HasNoNack (submit_one self.old conn draft) }
         ensures { OnOk result (submit_one self.old conn draft ≡ Ok self.new) }
     {
+        let entry = self.sequenced(conn, &draft)?;
+        self.log_entry(entry, Some(draft.op))
+    }
+
+    // The message of a draft, which isn't in the log yet.
+    fn sequenced(&mut self, conn: u32, draft: &MapDraft) -> Result<Entry, OutOfMemory>
+        requires { HasNoNack (submit_one self.old conn draft.now) }
+        ensures { IfOk result (λ entry. submit_one self.old conn draft.now
+            ≡ Ok (record self.new { log = self.new.log ++ record { entry = entry; op = Some draft.now.op } ∷ [] })) }
+    {
         match self.sequencer.submit(conn, &draft.draft) {
-            Ok(entry) => self.log_entry(entry, Some(draft.op)),
+            Ok(entry) => Ok(entry),
             Err(SubmitFault::OutOfMemory) => Err(OutOfMemory),
             Err(SubmitFault::Nack(_nack)) => unreachable!(),
         }

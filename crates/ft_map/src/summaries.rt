@@ -77,10 +77,18 @@ fn push_pair(alloc: Global, text: &mut String, pair: &(Text, ValText)) -> Result
     ensures writable { OnOk result (IsWritable pair.now) }
 {
     let _spelled = pair.0.as_str();
-    let string = quote(alloc, &pair.0)?;
-    let key = string.as_str();
-    let value = pair.1.as_str();
-    let line = format!(in alloc; "[{key},{value}]")?;
-    text.push_str(line.as_str())?;
+    let key = quote(alloc, &pair.0)?;
+    push_parts(text, key.as_str(), pair.1.as_str())
+}
+
+// A pair by its key and its value as they are written.
+fn push_parts(text: &mut String, key: &str, value: &str) -> Result<(), OutOfMemory>
+    ensures { OnOk result (string_bytes text.new ≡ string_bytes text.old ++ (codes "[" ++ (key.now ++ (codes "," ++ (value.now ++ codes "]"))))) }
+{
+    text.push('[')?;
+    text.push_str(key)?;
+    text.push(',')?;
+    text.push_str(value)?;
+    text.push(']')?;
     Ok(())
 }
