@@ -1,8 +1,8 @@
 -- The client of an event among the clients of a map session, and names.
-use Rattle.std.proofs.Common.{◌≡◌, ℕ, zero, suc, ◌+◌, ◌≤◌, ◌<◌, Bool, true, false, cond, nat_le, List, [], ◌∷◌, ◌++◌, length, slice_index_or, Option, Some, None, refl, sym, ◌∙◌, ap, subst, arith, le-leb}
+use Rattle.std.proofs.Common.{◌≡◌, ℕ, zero, suc, ◌+◌, ◌≤◌, ◌<◌, Bool, true, false, cond, ◌||◌, nat_le, List, [], ◌∷◌, ◌++◌, length, slice_index_or, Option, Some, None, refl, sym, ◌∙◌, ap, subst, arith, le-leb}
 use Rattle.std.proofs.Math.ListN.{set}
 use Rattle.std.specs.Result.{IsErr, IsErrAnd}
-use Rattle.std.specs.Prelude.{IsSome, Result, Ok, Err, ⊤}
+use Rattle.std.specs.Prelude.{IsSome, Result, Ok, Err, is_some, ⊤}
 use Rattle.std.specs.List.{find, list_any, position, position_from, slice_get}
 use Rattle.std.proofs.lemmas.Bool.Decides.{nat_tests}
 use Rattle.std.proofs.lemmas.Iterator.Adapters.{position_from-zero}
@@ -63,6 +63,19 @@ not_found_from name k (c ∷ cs) h = step_at (is_client name c) refl h (λ p. no
 
 pub not_found : (name : Characters) (cs : List NamedMapClient) → position (is_client name) cs ≡ None → find (is_client name) cs ≡ None
 not_found name cs h = not_found_from name 0 cs (sym (position_from-zero (is_client name) cs) ∙ h)
+
+-- whether one of that name is found
+any_from : (name : Characters) (k : ℕ) (cs : List NamedMapClient) → is_some (position_from (is_client name) k cs) ≡ list_any (is_client name) cs
+any_from name k [] = refl
+any_from name k (c ∷ cs) = step (is_client name c) (any_from name (k + 1) cs)
+  where
+    step : (b : Bool) → is_some (position_from (is_client name) (k + 1) cs) ≡ list_any (is_client name) cs
+        → is_some (cond b (Some k) (position_from (is_client name) (k + 1) cs)) ≡ (b || list_any (is_client name) cs)
+    step true h = refl
+    step false h = h
+
+pub any_found : (name : Characters) (cs : List NamedMapClient) → is_some (position (is_client name) cs) ≡ list_any (is_client name) cs
+any_found name cs = ap (λ (o : Option ℕ). is_some o) (position_from-zero (is_client name) cs) ∙ any_from name 0 cs
 
 -- what is lent at the place that was found
 pub at_place : (name : Characters) (cs : List NamedMapClient) (i : ℕ) (c : NamedMapClient) → position (is_client name) cs ≡ Some i → c ≡ slice_index_or cs i c → slice_get cs i ≡ Some c

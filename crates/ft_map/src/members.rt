@@ -39,7 +39,7 @@ impl Model for Member {
 pub(crate) fn has_member(members: &[Member], name: &Text) -> bool
     ensures { result ≡ list_any (is_client name.now) members.now }
 {
-    members.iter().any(|member| name.same(&member.name))
+    place_of(members, name).is_some()
 }
 
 /// The place of the client of that name.

@@ -234,7 +234,7 @@ impl MapReplica {
     fn is_own(&self, entry: &Entry) -> bool
         ensures { result ≡ is_own self.now entry.now }
     {
-        self.conns.iter().any(|conn| entry.origin == *conn)
+        self.conns.contains(&entry.origin)
     }
 
     // Its connection is there: all its pending operations are queued again.

@@ -80,7 +80,7 @@ impl Service {
         ensures { OnOk result (submit_one self.old conn draft ≡ Ok self.new) }
     {
         let entry = self.sequenced(conn, &draft)?;
-        self.log_entry(entry, Some(draft.op))
+        self.log_entry(entry, Some(draft.into_op()))
     }
 
     // The message of a draft, which isn't in the log yet.

@@ -130,6 +130,7 @@ impl Session {
         ensures { AnswersSession self.old self.new (step self.old (MapEvent.Start name.now from.now)) result }
     {
         self.free_name(name)?;
+        let name = name.copy()?;
         let client = self.begun(from)?;
         self.admit(name, client)?;
         Ok(MapOut::Nothing)
@@ -173,10 +174,9 @@ impl Session {
     }
 
     // A client comes in under a new name.
-    fn admit(&mut self, name: &Text, client: MapReplica) -> Result<(), OutOfMemory>
-        ensures { OnOk result (self.new ≡ record self.old { clients = self.old.clients ++ record { name = name.now; connects = 0; client = client } ∷ [] }) }
+    fn admit(&mut self, name: Text, client: MapReplica) -> Result<(), OutOfMemory>
+        ensures { OnOk result (self.new ≡ record self.old { clients = self.old.clients ++ record { name = name; connects = 0; client = client } ∷ [] }) }
     {
-        let name = name.copy()?;
         self.members.push(Member {
             name,
             connects: 0,
