@@ -48,7 +48,11 @@ fn summary_end(alloc: Global, seq: u64) -> Result<String, OutOfMemory>
 }
 
 // The pairs, with commas between them.
-fn push_pairs(alloc: Global, text: &mut String, pairs: &[(Text, ValText)]) -> Result<(), OutOfMemory>
+fn push_pairs(
+    alloc: Global,
+    text: &mut String,
+    pairs: &[(Text, ValText)],
+) -> Result<(), OutOfMemory>
     ensures text { OnOk result (string_bytes text.new ≡ string_bytes text.old ++ pairs_text pairs.now) }
     ensures writable { OnOk result (AllByRecursion IsWritable pairs.now) }
 {
@@ -60,7 +64,11 @@ fn push_pairs(alloc: Global, text: &mut String, pairs: &[(Text, ValText)]) -> Re
 }
 
 // The pairs behind the first one.
-fn push_later_pairs(alloc: Global, text: &mut String, pairs: &[(Text, ValText)]) -> Result<(), OutOfMemory>
+fn push_later_pairs(
+    alloc: Global,
+    text: &mut String,
+    pairs: &[(Text, ValText)],
+) -> Result<(), OutOfMemory>
     ensures text { OnOk result (string_bytes text.new ≡ string_bytes text.old ++ later_pairs pairs.now) }
     ensures writable { OnOk result (AllByRecursion IsWritable pairs.now) }
 {
