@@ -1,15 +1,14 @@
 -- The client of an event among the clients of a map session, and names.
-use Rattle.std.proofs.Common.{◌≡◌, ℕ, zero, suc, ◌+◌, ◌≤◌, ◌<◌, Bool, true, false, cond, ◌||◌, nat_le, List, [], ◌∷◌, ◌++◌, length, slice_index_or, Option, Some, None, refl, sym, ◌∙◌, ap, subst, arith, le-leb}
+use Rattle.std.proofs.Common.{◌≡◌, ℕ, zero, suc, ◌+◌, ◌<◌, Bool, true, false, cond, ◌||◌, List, [], ◌∷◌, ◌++◌, length, slice_index_or, Option, Some, None, refl, sym, ◌∙◌, ap, subst, arith}
 use Rattle.std.proofs.Math.ListN.{set}
 use Rattle.std.specs.Result.{IsErr, IsErrAnd}
-use Rattle.std.specs.Prelude.{IsSome, Result, Ok, Err, is_some, ⊤}
+use Rattle.std.specs.Prelude.{IsSome, Result, Ok, Err, is_some}
 use Rattle.std.specs.List.{find, list_any, position, position_from, slice_get}
-use Rattle.std.proofs.lemmas.Bool.Decides.{nat_tests}
 use Rattle.std.proofs.lemmas.Iterator.Adapters.{position_from-zero}
 use Rattle.std.proofs.lemmas.List.Quantifiers.{position-Some}
 use Rattle.std.proofs.lemmas.Option.{slice_get_read}
 use Rattle.ft_seqr.specs.declared.refusals.Refusal.{Refusal}
-use Rattle.ft_seqr.specs.declared.refusals.Refusal.TheVariants.{ClientLimit, NameInUse, Pending, UnknownClient}
+use Rattle.ft_seqr.specs.declared.refusals.Refusal.TheVariants.{Pending, UnknownClient}
 use Rattle.ft_map.specs.declared.events.MapEvent.{MapEvent}
 use Rattle.ft_map.specs.declared.events.MapEvent.TheVariants as event
 use Rattle.ft_map.specs.declared.events.MapOut.{MapOut}
@@ -18,7 +17,7 @@ use Rattle.ft_map.specs.MapClient.{MapClient, client_over}
 use Rattle.ft_map.specs.declared.ops.MapOp.{MapOp}
 use Rattle.ft_map.specs.Maps.{Characters}
 use Rattle.ft_map.specs.MapSession.{MapService, MapSession, MapStepped, NamedMapClient, Nothing, Summary, asked, is_client, name_fault, of_client, replaced, settled, start_client, started, step, summary_client, unless_pending}
-use Rattle.ft_seqr.specs.RefusalKinds.{MeansOf, Refused, refusal_kind}
+use Rattle.ft_seqr.specs.RefusalKinds.{refusal_kind}
 use Rattle.ft_seqr.proofs.RefusalKinds.{means-weaker}
 use Rattle.ft_map.specs.MapWorlds.{AnswersPending, AnswersSession, AnswersStart, AnswersTurn, HasNoNack, event_client, event_turn}
 

@@ -8,7 +8,9 @@ use ft_msg::{Draft, Entry};
 /// A client's message that isn't sequenced yet, with its operation.
 #[derive(Drop)]
 pub struct MapDraft {
+    /// The message as the sequencer takes it.
     pub draft: Draft,
+    /// What it does to the map.
     pub op: MapOp,
 }
 
@@ -21,9 +23,11 @@ impl MapDraft {
     }
 }
 
-/// A message of the log, with its operation: None for a join or a leave.
+/// A message of the log, with its operation.
 #[derive(Drop)]
 pub struct MapEntry {
+    /// The message.
     pub entry: Entry,
+    /// What it does to the map: None for a join or a leave.
     pub op: Option<MapOp>,
 }

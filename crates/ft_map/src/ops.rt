@@ -21,7 +21,9 @@ pub enum MapOp {
 /// A key of a map and its value.
 #[derive(Drop)]
 pub struct MapPair {
+    /// The key.
     pub key: Text,
+    /// The text of its value.
     pub value: ValText,
 }
 

@@ -70,7 +70,7 @@ impl MapReplica {
     pub(crate) fn successor(&self) -> Result<MapReplica, OutOfMemory>
         ensures { IfOk result (λ r. r ≡ client_over self.now.state.acked self.now.number self.now.minimum) }
     {
-        let state = self.state.sequenced()?;
+        let state = self.state.acked_copy()?;
         Ok(MapReplica::over(self.alloc, state, self.seq, self.min))
     }
 

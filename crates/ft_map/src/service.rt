@@ -79,12 +79,12 @@ impl Service {
         requires { HasNoNack (submit_one self.old conn draft) }
         ensures { OnOk result (submit_one self.old conn draft ≡ Ok self.new) }
     {
-        let entry = self.sequenced(conn, &draft)?;
+        let entry = self.sequence(conn, &draft)?;
         self.log_entry(entry, Some(draft.into_op()))
     }
 
     // The message of a draft, which isn't in the log yet.
-    fn sequenced(&mut self, conn: u32, draft: &MapDraft) -> Result<Entry, OutOfMemory>
+    fn sequence(&mut self, conn: u32, draft: &MapDraft) -> Result<Entry, OutOfMemory>
         requires { HasNoNack (submit_one self.old conn draft.now) }
         ensures { IfOk result (λ entry. submit_one self.old conn draft.now
             ≡ Ok (record self.new { log = self.new.log ++ record { entry = entry; op = Some draft.now.op } ∷ [] })) }

@@ -73,7 +73,7 @@ impl SharedMap {
     /// A map with what was sequenced of this one, and nothing pending.
     ///
     /// Answers `OutOfMemory` where there is no room for it.
-    pub(crate) fn sequenced(&self) -> Result<SharedMap, OutOfMemory>
+    pub(crate) fn acked_copy(&self) -> Result<SharedMap, OutOfMemory>
         ensures { IfOk result (λ map. map ≡ record { acked = self.now.acked; pending = [] }) }
     {
         Ok(SharedMap::of(self.acked.allocator(), self.acked.copy()?))

@@ -58,8 +58,9 @@ impl MapWorld {
     /// An event happens. What it writes is what the naive session writes, and while nothing stopped, that session is one that
     /// events reach: so each view is an agreed map, and no draft is refused (`laws`).
     ///
-    /// Answers `Stopped` exactly where an earlier event found no memory; then the refusal of the naive session, and
-    /// nothing changed; and `OutOfMemory` where there is no room, after which the world has stopped.
+    /// Answers `Stopped` exactly where an earlier event found no memory; then `UnknownClient`, `NameInUse`, `ClientLimit`,
+    /// `AlreadyConnected`, `NotConnected`, `NothingToTicket`, `NothingToDeliver` or `Pending` exactly where the naive session
+    /// does, and nothing changed; and `OutOfMemory` where there is no room, after which the world has stopped.
     pub fn step(&mut self, event: &MapEvent) -> Result<MapOut, Refusal>
         ensures answers { AnswersMapEvent event.now self.old self.new result }
         ensures reached { self.new.stopped ≡ false → IsReached self.new.session }

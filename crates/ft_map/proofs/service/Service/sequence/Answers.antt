@@ -3,7 +3,7 @@ use Rattle.std.proofs.Common.{subst, sym}
 use Rattle.ft_map.specs.MapSession.{MapService, submit_one}
 use Rattle.ft_map.specs.MapWorlds.{HasNoNack}
 use Rattle.ft_map.proofs.Submitting.{nack-refuses}
-use Rattle.ft_map.proofs.service.Service.sequenced.Goals as goal
+use Rattle.ft_map.proofs.service.Service.sequence.Goals as goal
 
 pub unreachable-requires : goal.unreachable-requires
 unreachable-requires c =
