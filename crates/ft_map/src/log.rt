@@ -1,7 +1,5 @@
 //! Messages with the operations that they tell.
 
-ghost use Rattle.std.specs.Prelude.{◌≡◌};
-
 use crate::ops::MapOp;
 use ft_msg::{Draft, Entry};
 
@@ -12,15 +10,6 @@ pub struct MapDraft {
     pub draft: Draft,
     /// What it does to the map.
     pub op: MapOp,
-}
-
-impl MapDraft {
-    /// Its operation.
-    pub(crate) fn into_op(self) -> MapOp
-        ensures { result ≡ self.op }
-    {
-        self.op
-    }
 }
 
 /// A message of the log, with its operation.

@@ -8,7 +8,7 @@ ghost use Rattle.ft_map.specs.MapSession.{connect_client, deliver_client, drop_c
 ghost use Rattle.ft_map.specs.MapWorlds.{AnswersTurn, HasNoNack};
 
 use crate::events::MapOut;
-use crate::log::MapEntry;
+use crate::log::{MapDraft, MapEntry};
 use crate::ops::MapOp;
 use crate::replica::MapReplica;
 use crate::service::Service;
@@ -145,7 +145,7 @@ fn submit_next(client: &mut MapReplica, service: &mut Service, conn: u32) -> Res
     ensures client { OnOk result (client.new ≡ record client.old { queue = drop 1 client.old.queue }) }
 {
     match client.take_outgoing() {
-        Some(draft) => service.submit(conn, draft),
+        Some(MapDraft { draft, op }) => service.submit(conn, &draft, op),
         None => Ok(()),
     }
 }

@@ -1,13 +1,13 @@
 //! What orders the messages of a map session.
 
-ghost use Rattle.std.specs.Prelude.{◌≡◌, [], ◌∷◌, ◌++◌, Some, Ok, IfOk, OnOk};
+ghost use Rattle.std.specs.Prelude.{◌≡◌, [], ◌∷◌, ◌++◌, Ok, IfOk, OnOk};
 ghost use Rattle.ft_map.specs.MapSession.{joined, new_service, next_conn, submit_one};
 ghost use Rattle.ft_map.specs.MapWorlds.{AnswersLeave, HasNoNack};
 
-use crate::log::{MapDraft, MapEntry};
+use crate::log::MapEntry;
 use crate::ops::MapOp;
 use ft_base::{OutOfMemory, Text};
-use ft_msg::Entry;
+use ft_msg::{Draft, Entry};
 use ft_seqr::{Refusal, Sequencer, SubmitFault};
 use std::alloc::Global;
 use std::marker::Model;
@@ -72,25 +72,15 @@ impl Service {
         Ok(())
     }
 
-    /// A draft of the connection is submitted.
+    /// A draft of the connection, with this operation, is submitted.
     ///
     /// Answers `OutOfMemory` where there is no room for its message.
-    pub(crate) fn submit(&mut self, conn: u32, draft: MapDraft) -> Result<(), OutOfMemory>
-        requires { HasNoNack (submit_one self.old conn draft) }
-        ensures { OnOk result (submit_one self.old conn draft ≡ Ok self.new) }
+    pub(crate) fn submit(&mut self, conn: u32, draft: &Draft, op: MapOp) -> Result<(), OutOfMemory>
+        requires { HasNoNack (submit_one self.old conn (record { draft = draft.now; op = op })) }
+        ensures { OnOk result (submit_one self.old conn (record { draft = draft.now; op = op }) ≡ Ok self.new) }
     {
-        let entry = self.sequence(conn, &draft)?;
-        self.log_entry(entry, Some(draft.into_op()))
-    }
-
-    // The message of a draft, which isn't in the log yet.
-    fn sequence(&mut self, conn: u32, draft: &MapDraft) -> Result<Entry, OutOfMemory>
-        requires { HasNoNack (submit_one self.old conn draft.now) }
-        ensures { IfOk result (λ entry. submit_one self.old conn draft.now
-            ≡ Ok (record self.new { log = self.new.log ++ record { entry = entry; op = Some draft.now.op } ∷ [] })) }
-    {
-        match self.sequencer.submit(conn, &draft.draft) {
-            Ok(entry) => Ok(entry),
+        match self.sequencer.submit(conn, draft) {
+            Ok(entry) => self.log_entry(entry, Some(op)),
             Err(SubmitFault::OutOfMemory) => Err(OutOfMemory),
             Err(SubmitFault::Nack(_nack)) => unreachable!(),
         }

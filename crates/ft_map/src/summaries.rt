@@ -84,6 +84,7 @@ fn push_pair(alloc: Global, text: &mut String, pair: &(Text, ValText)) -> Result
     ensures text { OnOk result (string_bytes text.new ≡ string_bytes text.old ++ pair_text pair.now) }
     ensures writable { OnOk result (IsWritable pair.now) }
 {
+    // So the proof has it that the key is a text.
     let _spelled = pair.0.as_str();
     let key = quote(alloc, &pair.0)?;
     push_parts(text, key.as_str(), pair.1.as_str())
