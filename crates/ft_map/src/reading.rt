@@ -26,11 +26,7 @@ use std::alloc::Global;
 pub fn read_map_event(alloc: Global, line: &[u8]) -> Result<MapEvent, Refusal>
     ensures { ReadsMapEvent line.now result }
 {
-    match read_event_text(alloc, line) {
-        Ok(event) => Ok(event),
-        Err(Cause::OutOfMemory) => Err(Refusal::OutOfMemory),
-        Err(cause) => Err(Refusal::of_cause(cause)),
-    }
+    Ok(read_event_text(alloc, line)?)
 }
 
 /// The event that the line is, or the cause why it is none.
