@@ -59,19 +59,14 @@ class Draws:
 
 class Element:
     """A character, a marker or a unit: who inserted it, who removed it, and what is pending on it."""
-    __slots__ = ('inserted', 'stage', 'removals', 'removal_stage')
+    __slots__ = ('content', 'inserted', 'stage', 'removals', 'removal_stage')
 
-    def __init__(self, inserted, stage):
+    def __init__(self, content, inserted, stage):
+        self.content = content                      # a character, and nothing of a marker and a unit
         self.inserted = inserted                    # (number, connection), None while it is pending
         self.stage = stage                          # the stage that inserts it, while it is pending
         self.removals = []
         self.removal_stage = 0                      # the stage that removes it, 0 for none
-
-    def is_seen(self, number, connection):
-        """Whether the messages up to this number and those of this connection show it."""
-        def within(stamp):
-            return stamp[0] <= number or stamp[1] == connection
-        return self.inserted is not None and within(self.inserted) and not any(within(stamp) for stamp in self.removals)
 
     def is_shown(self, stage):
         """Whether its client shows it with the pending edits up to this stage."""
@@ -100,14 +95,12 @@ def kind_of(op):
     return ('insert', 'remove', 'annotate')[op['type']]
 
 
-def inserted_count(op):
-    """How many elements an insertion puts in."""
+def inserted_contents(op):
+    """What an insertion puts in: of each element its character, nothing of a marker and a unit."""
     if 'target' in op:
-        return op['count']
+        return [''] * op['count']
     segment = op['seg']
-    if isinstance(segment, dict):
-        return len(segment['text']) if 'text' in segment else 1
-    return len(segment)
+    return segment if isinstance(segment, str) else segment.get('text', [''])
 
 
 class Lists:
@@ -122,7 +115,7 @@ class Lists:
         other = Lists()
         for name in ('text', 'rows', 'cols'):
             for element in getattr(self, name):
-                twin = Element(element.inserted, 0)
+                twin = Element(element.content, element.inserted, 0)
                 twin.removals = list(element.removals)
                 getattr(other, name).append(twin)
         other.intervals = set(self.intervals)
@@ -130,7 +123,18 @@ class Lists:
         return other
 
     def seen(self, name, number, connection):
-        return [element for element in getattr(self, name) if element.is_seen(number, connection)]
+        """The elements that the messages up to this number and those of this connection show."""
+        found = []
+        for element in getattr(self, name):
+            stamp = element.inserted
+            if stamp is None or not (stamp[0] <= number or stamp[1] == connection):
+                continue
+            for stamp in element.removals:
+                if stamp[0] <= number or stamp[1] == connection:
+                    break
+            else:
+                found.append(element)
+        return found
 
     def take(self, entry):
         """Takes the operation of a message of another."""
@@ -154,7 +158,7 @@ class Lists:
             place = place_behind(getattr(self, name), seen, op['pos1'])
             while place < len(getattr(self, name)) and getattr(self, name)[place].inserted is None:
                 place += 1
-            getattr(self, name)[place:place] = [Element((number, connection), 0) for _ in range(inserted_count(op))]
+            getattr(self, name)[place:place] = [Element(content, (number, connection), 0) for content in inserted_contents(op)]
             return True
         if op['pos2'] > len(seen):
             return False
@@ -243,7 +247,7 @@ class Client:
 
     def shown(self, name, stage=None):
         last = self.stage if stage is None else stage
-        return [element for element in getattr(self.lists, name) if element.is_shown(last)]
+        return [element for element in getattr(self.lists, name) if not element.removals and element.is_shown(last)]
 
     def intervals(self):
         names = set(self.lists.intervals)
@@ -293,7 +297,7 @@ class Client:
         elif stage.kind == 'insert':
             shown = self.shown(stage.list, stage.number - 1)
             place = place_behind(elements, shown, op['pos1'])
-            stage.elements = [Element(None, stage.number) for _ in range(inserted_count(op))]
+            stage.elements = [Element(content, None, stage.number) for content in inserted_contents(op)]
             elements[place:place] = stage.elements
         elif stage.kind in ('remove', 'annotate'):
             stage.elements = self.shown(stage.list, stage.number - 1)[op['pos1']:op['pos2']]
@@ -412,15 +416,18 @@ class World:
     """The clients and guests of a session. It takes events, and answers the number of a refusal, 0 for none."""
 
     def __init__(self):
-        self.clients, self.guests, self.connects = {}, {}, {}
+        self.clients, self.guests = {}, {}
         self.sequencer = Sequencer()
-        self.agreed = Client('', Lists(), 0, 0)     # what the messages alone come to
+        self.observer = Client('', Lists(), 0, 0)   # it has no edits
 
     def take(self, event):
-        refusal = getattr(self, 'take_' + event['do'])(event)
-        for entry in self.sequencer.log[self.agreed.number:]:
-            self.agreed.process(entry)
-        return refusal
+        return getattr(self, 'take_' + event['do'])(event)
+
+    def agreed(self):
+        """What the messages alone come to."""
+        for entry in self.sequencer.log[self.observer.number:]:
+            self.observer.process(entry)
+        return self.observer.lists
 
     def name_fault(self, name):
         if name in self.clients or name in self.guests:
@@ -691,14 +698,17 @@ class Session:
     def take(self, event):
         """Adds the line of an event, and answers whether it isn't refused."""
         refusal = self.world.take(event)
-        self.add(line_of(event).encode(), event['do'], refusal)
+        self.add(line_of(event), refusal, event['do'])
         self.views += event['do'] == 'show' and not refusal
         return not refusal
 
-    def add(self, text, word, refusal):
-        self.lines.append((text, word, refusal))
+    def add(self, line, refusal, word='malformed'):
+        self.lines.append((line if isinstance(line, bytes) else line.encode(), word, refusal))
         if refusal:
             self.refused.append(refusal)
+
+    def text(self):
+        return b''.join(line + b'\n' for line, _, _ in self.lines)
 
     def told(self):
         return f'lines {len(self.lines)} refused {len(self.refused)} views {self.views}'
@@ -752,7 +762,7 @@ class Session:
 
     def client(self, is_wanted):
         """A client for which this holds, if there is one; and now and then another one, or a name without a client."""
-        if self.draws.happens(2):
+        if self.draws.below(150) == 0:
             return self.draws.of(CLIENT_NAMES[-3:] + ['bot'])
         found = [client.name for client in self.all_clients() if is_wanted(client)]
         if not found or self.draws.happens(2):
@@ -844,6 +854,8 @@ class Session:
     def guest(self):
         if self.draws.happens(4):
             return self.draws.of(GUEST_NAMES + ['ana'])
+        if not self.world.guests:
+            self.act_guest()
         return self.draws.of(list(self.world.guests) or GUEST_NAMES)
 
     def act_guest(self):
@@ -865,7 +877,7 @@ class Session:
         least = max(sequencer.minimum, last_reference)
         reference = sequencer.number - self.draws.below(min(3, sequencer.number - least) + 1) if sequencer.number > least else least
         number = last_number + 1
-        fault = self.draws.below(40)
+        fault = self.draws.below(24)
         if fault == 0:
             number += 1
         elif fault == 1:
@@ -877,8 +889,9 @@ class Session:
         kind, contents = 'noop', None
         if self.draws.happens(75):
             kind = 'op'
-            lengths = {part: len(self.world.agreed.lists.seen(part, reference, connection)) for part in ('text', 'rows', 'cols')}
-            drawn = self.op_of(lengths, sorted(self.world.agreed.lists.intervals))
+            agreed = self.world.agreed()
+            lengths = {part: len(agreed.seen(part, reference, connection)) for part in ('text', 'rows', 'cols')}
+            drawn = self.op_of(lengths, sorted(agreed.intervals))
             contents = {'address': drawn['address'], 'contents': drawn['op']}
             if self.draws.happens(4):
                 contents = {'address': 'chat', 'contents': self.draws.of(VALUES)}
@@ -920,8 +933,7 @@ class Session:
         self.take({'client': name, 'do': 'blame', 'end': end, 'start': start})
 
     def act_malformed(self):
-        line, refusal = self.draws.of(MALFORMED_LINES)
-        self.add(line if isinstance(line, bytes) else line.encode(), 'malformed', refusal)
+        self.add(*self.draws.of(MALFORMED_LINES))
 
     # ---- edits
 
@@ -957,7 +969,7 @@ class Session:
             ops.append(op)
             part = op.get('target', 'text')
             if kind_of(op) == 'insert':
-                lengths[part] += inserted_count(op)
+                lengths[part] += len(inserted_contents(op))
             elif kind_of(op) == 'remove':
                 lengths[part] -= op['pos2'] - op['pos1']
         return ops
@@ -1019,7 +1031,7 @@ class Session:
         return {self.draws.of(KEYS): self.draws.of(VALUES) for _ in range(1 + self.draws.below(2))}
 
     def interval_op(self, kind, length, intervals):
-        if kind != 'add' and intervals and self.draws.happens(85):
+        if intervals and self.draws.happens(12 if kind == 'add' else 85):
             label, name = self.draws.of(intervals)
         else:
             label, name = self.draws.of(LABELS), self.draws.of(IDS)
@@ -1059,11 +1071,19 @@ class Session:
 # ---- the cases of ft_beside
 
 # Of each seed how many events it has: most sessions are short, some are long enough for trees of several levels.
-GENERATED = [(seed, 60) for seed in range(1, 91)] + [(seed, 200) for seed in range(91, 109)] + [(seed, 700) for seed in range(109, 113)]
+GENERATED = [(seed, 50) for seed in range(1, 91)] + [(seed, 120) for seed in range(91, 103)] + [(seed, 500) for seed in range(103, 106)]
 
 
 def generated(seed, count):
-    return Session(seed, count, None)
+    return Session(seed, count, 0)
+
+
+def refused_lines():
+    """A session with each line that is refused when it is read."""
+    session = Session(0, 0, 2)
+    for line, refusal in MALFORMED_LINES:
+        session.add(line, refusal)
+    return session
 
 
 def worked_sessions():
@@ -1097,11 +1117,10 @@ def cases():
         refused, views = (len(re.findall(word, report, re.M)) for word in (rb'^line ', rb'^client '))
         count = text.count(b'\n')
         wanted.append(b'case %s\nlines %d refused %d views %d\nreport %d bytes hash %d\n' % (name, count, refused, views, len(report), hash_of(report)))
-    for seed, count in GENERATED:
-        session = generated(seed, count)
-        text = b''.join(line + b'\n' for line, _, _ in session.lines)
-        given.append(b'case seed %d\ninput\n' % seed + text + b'end\n')
-        wanted.append(b'case seed %d\n%s\n' % (seed, session.told().encode()))
+    drawn = [(f'seed {seed}', generated(seed, count)) for seed, count in GENERATED]
+    for name, session in [('each line that is refused when it is read', refused_lines())] + drawn:
+        given.append(f'case {name}\ninput\n'.encode() + session.text() + b'end\n')
+        wanted.append(f'case {name}\n{session.told()}\n'.encode())
     return b'\n'.join(given), b''.join(wanted)
 
 
@@ -1139,7 +1158,7 @@ def main(words):
     if is_told:
         print(session.told())
     else:
-        sys.stdout.buffer.write(b''.join(line + b'\n' for line, _, _ in session.lines))
+        sys.stdout.buffer.write(session.text())
 
 
 if __name__ == '__main__':
