@@ -387,7 +387,7 @@ def compared(history, by_character, text, path):
     names = re.findall(r'^([0-9a-f]{40}) \d+ (\d+)', git('blame', '--line-porcelain', 'HEAD', '--', path).decode(), re.M)
     order = {name: i for i, name in enumerate(history.commits)}
     kinds = ('lines of one commit, which git names', 'of several, of which git names the newest', "by a merge's edit",
-             'of which git names a later commit, which took characters away')
+             'of which git names a later commit, which changed the line and put in none of its characters')
     counts, differing, place = collections.OrderedDict((name, 0) for name in kinds), [], 0
     for (name, number), line in zip(names, lines_of(text)):
         inserted = {commit.name for commit in by_character[place:place + len(line)]}
@@ -405,11 +405,12 @@ def compared(history, by_character, text, path):
 
 
 def is_made_by(history, commit, line):
-    """Whether the commit has the line more often than the version before it."""
+    """Whether git finds the line among those that the commit changed."""
     if commit is None:
         return False
     old = history.commits[commit.parents[0]].text if commit.parents else ''
-    return lines_of(commit.text).count(line) > lines_of(old).count(line)
+    lines = lines_of(commit.text)
+    return any(line in lines[start:end] for _, _, start, end in changed_lines(old, commit.text))
 
 
 def main(words):
