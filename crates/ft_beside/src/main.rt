@@ -1,0 +1,38 @@
+//! Plays sessions in two worlds, one of clients over plain lists and one of clients over trees, and writes where
+//! their reports differ.
+//!
+//! A case of standard input is the line `case NAME`, the line `input`, the lines of a session, and the line `end`.
+//! Before `input` may stand the line `hash`. Lines that are empty or begin with `#` are passed outside of an input.
+//!
+//! Of each case standard output gets its `case` line and a line with three counts of the report: the lines of the
+//! session, how many of them were refused, and how many views were shown. With `hash` a line follows with the length of the
+//! report and its hash, which begins with 0 and becomes (31 times itself plus the byte) modulo 2^32 at each byte. Where
+//! the reports differ, the first lines that do are written, that of the plain world before that of the trees.
+#![tactic(auto)]
+
+mod cases;
+mod difference;
+mod reading;
+mod sums;
+
+use crate::reading::outcomes;
+use std::io;
+use std::io::{ErrorKind, Read, Write};
+use std::process::ExitCode;
+
+fn main(rt: HostRuntime) -> ExitCode {
+    match run(&rt) {
+        Ok(()) => ExitCode::SUCCESS,
+        Err(_) => ExitCode::FAILURE,
+    }
+}
+
+// Reads standard input to its end and writes what comes of it to standard output.
+fn run(rt: &HostRuntime) -> io::Result<()> {
+    let mut input = Vec::new(rt.alloc());
+    rt.stdin().read_to_end(&mut input)?;
+    match outcomes(rt.alloc(), input.as_slice()) {
+        Ok(output) => rt.stdout().write_all(output.as_slice()),
+        Err(_) => Err(io::Error::from(ErrorKind::OutOfMemory)),
+    }
+}
