@@ -10,12 +10,6 @@ mod base;
 #[cfg(test)]
 mod json_values;
 #[cfg(test)]
-mod messages;
-#[cfg(test)]
-mod properties;
-#[cfg(test)]
 mod refusals;
-#[cfg(test)]
-mod sessions;
 #[cfg(test)]
 mod streams;
