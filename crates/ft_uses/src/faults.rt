@@ -1,0 +1,42 @@
+//! Why the editors stop early.
+
+use ft_base::OutOfMemory;
+use ft_msg::{EditFault, LinkFault, ProcessFault, ViewFault};
+use ft_seqr::{LeaveFault, SubmitFault};
+use std::alloc::AllocError;
+use thiserror::Error;
+
+/// Why the editors stop early.
+#[derive(Clone, Copy, Debug, Error)]
+pub enum Fault {
+    /// There was no memory for a value.
+    #[error("no memory")]
+    Memory(#[from] OutOfMemory),
+    /// There was no memory for a message or a line.
+    #[error("no memory")]
+    Room(#[from(alloc)] AllocError),
+    /// A client refused an edit.
+    #[error("an edit: {0}")]
+    Edit(#[from] EditFault),
+    /// A client refused a message.
+    #[error("a message: {0}")]
+    Process(#[from] ProcessFault),
+    /// A client refused to connect or to go offline.
+    #[error("a connection: {0}")]
+    Link(#[from] LinkFault),
+    /// A client showed nothing.
+    #[error("a view: {0}")]
+    View(#[from] ViewFault),
+    /// The sequencer refused a draft.
+    #[error("a draft: {0}")]
+    Submit(#[from] SubmitFault),
+    /// The sequencer refused to let a connection go.
+    #[error("a departure: {0}")]
+    Leave(#[from] LeaveFault),
+    /// A client without a connection sends, or leaves.
+    #[error("no connection")]
+    Offline,
+    /// A message is none that these editors send.
+    #[error("a foreign message")]
+    Foreign,
+}
