@@ -6,7 +6,8 @@
  * What you owe, and nothing checks:
  * - no null pointer, also where no bytes are at it;
  * - what a call writes to overlaps nothing else that it is given;
- * - malloc and realloc align blocks as the C standard asks, and no call comes from a signal handler.
+ * - malloc and realloc align blocks as the C standard asks; no call comes from a signal handler, nor from the forked child of a
+ *   process with threads.
  */
 #ifndef VEMIKTAG_H
 #define VEMIKTAG_H
