@@ -1,6 +1,6 @@
 #!/bin/sh
-# build.sh: builds the static library and the examples for C and Python, runs them on examples/tea_at_five.session, and
-# compares what they write with tea_at_five.report, which is what `vemiktag session` writes.
+# build.sh: builds the static library and the examples for C and Python, runs them on two sessions, and compares what they
+# write with what `vemiktag session` writes: tea_at_five.report here, and readme_history.report of examples.
 #
 #   ASAN=1       with the address, leak and undefined behaviour sanitizers of the C compiler
 #   VALGRIND=1   under valgrind
@@ -11,7 +11,6 @@ here=$(cd "$(dirname "$0")" && pwd)
 top=$(cd "$here/../.." && pwd)
 kit=${KIT:-$(dirname "$(rt doc | head -n 1)")}
 out=${OUT:-$here/out}
-session=$top/examples/tea_at_five.session
 archive=${ARCHIVE:-$top/crates/vemiktag_c/out/libvemiktag_c.a}
 memory=$kit/c/liblibc_c.a
 cc=${CC:-cc}
@@ -31,22 +30,33 @@ printf '{ global: vemiktag_*; local: *; };\n' > "$out/exports"
 $cc -shared -o "$out/libvemiktag.so" -Wl,--version-script="$out/exports" \
     -Wl,--whole-archive "$archive" -Wl,--no-whole-archive "$memory"
 
-# Runs a program on the session, and compares what it writes.
+# Runs a program on a session, and compares what it writes with the report.
 compare() {
     name=$1
-    shift
+    session=$2
+    report=$3
+    shift 3
     status=0
     "$@" < "$session" > "$out/told" || status=$?
     if [ "$status" -ne 0 ]; then
         echo "$name: ended with $status"
         exit 1
     fi
-    cmp "$here/tea_at_five.report" "$out/told"
+    cmp "$report" "$out/told"
     echo "$name: as vemiktag session"
 }
+
+# Runs a program on both sessions.
+compare_both() {
+    language=$1
+    shift
+    compare "$language, tea_at_five" "$top/examples/tea_at_five.session" "$here/tea_at_five.report" "$@"
+    compare "$language, readme_history" "$top/examples/readme_history.session" "$top/examples/readme_history.report" "$@"
+}
+
 # shellcheck disable=SC2086
-compare "C" $under "$out/report"
-export VEMIKTAG_SO="$out/libvemiktag.so"
-compare "Python" python3 "$here/report.py"
+compare_both "C" $under "$out/report"
+export VEMIKTAG_SO="$out/libvemiktag.so" PYTHONDONTWRITEBYTECODE=1
+compare_both "Python" python3 "$here/report.py"
 # shellcheck disable=SC2086
-$under "$out/edges" < "$session"
+$under "$out/edges" < "$top/examples/tea_at_five.session"
