@@ -8,8 +8,8 @@ byte and a count). Of ft_tests_cases those are run that a program can be given: 
 cases with one of them in their names are run.
 
 A case is run once as it is, and then once for each allocation that the program asked for, which is refused: malloc, calloc, realloc and
-their like answer nothing. Such a run must end with status 5 and have written the beginning of the report, or end as if nothing had been
-refused. With --on all allocations behind it are refused too. With --most N at most N of a case's allocations are, spread evenly over all.
+their like answer nothing. Such a run must end with status 5 and have written the beginning of the report, or with 7 where it could not
+read its arguments, or end as if nothing had been refused. With --on all allocations behind it are refused too. With --most N at most N of a case's allocations are, spread evenly over all.
 
 Each run that ends otherwise is told, and the counts last; the status is then 1. The program is a built one, which takes its memory of
 the C library; one that `rt try` makes brings its own, and nothing would be refused. bench/refused.c is compiled by `cc` for it.
@@ -25,6 +25,7 @@ import tempfile
 HERE = os.path.dirname(os.path.abspath(__file__))
 SECONDS = 120                   # that a run may take
 NO_MEMORY = 5                   # the status
+NO_ARGUMENTS = 7                # that of a run which could not read its arguments, and wrote nothing
 
 Case = collections.namedtuple('Case', 'name words given')
 
@@ -109,6 +110,8 @@ def fault_of(ran, whole):
         return f'no end in {SECONDS} s'
     if (status, output) == whole[:2]:
         return None
+    if (status, output) == (NO_ARGUMENTS, b''):
+        return None
     if status != NO_MEMORY:
         return f'ended by signal {-status}' if status < 0 else f'status {status}, wanted {NO_MEMORY} or, as it is, {whole[0]}'
     if not whole[1].startswith(output):
@@ -127,7 +130,7 @@ def tried(runs, case, most):
         fault = fault_of(ran, whole)
         if fault:
             print(f'{case.name}: allocation {number} of {count}: {fault}')
-        ended['faulty' if fault else 'with status' if ran[0] == NO_MEMORY else 'as it is'] += 1
+        ended['faulty' if fault else 'with status' if ran[0] in (NO_MEMORY, NO_ARGUMENTS) else 'as it is'] += 1
     return count, ended
 
 
@@ -148,7 +151,7 @@ def main(words):
             ended += told
     if not whole:
         sys.exit('no allocation was seen: does the program take its memory of the C library?')
-    print(f'{len(cases)} cases, {whole} allocations, {sum(ended.values())} of them refused: {ended["with status"]} ended with status {NO_MEMORY} and'
+    print(f'{len(cases)} cases, {whole} allocations, {sum(ended.values())} of them refused: {ended["with status"]} ended with status {NO_MEMORY} or {NO_ARGUMENTS} and'
           f' the beginning of the report, {ended["as it is"]} as if none had been refused, {ended["faulty"]} otherwise')
     sys.exit(ended['faulty'] > 0)
 

@@ -16,6 +16,9 @@ const ROOM: usize = 16_777_216;
 /// How many bytes are read and written at a time.
 const PIECE: usize = 65_536;
 
+/// The bytes of a line that is one byte too long.
+const TOO_LONG: usize = 1_048_577;
+
 /// A session, and what is to be told of it.
 #[derive(Drop)]
 pub struct Case {
@@ -46,6 +49,15 @@ impl Case {
         self.input.extend_from_slice(line)?;
         self.lines = self.lines.saturating_add(1);
         Ok(())
+    }
+
+    /// Adds a line that has one byte more than a line may have.
+    ///
+    /// Answers `OutOfMemory` where there is no room for it.
+    pub fn add_long_line(&mut self) -> Result<(), OutOfMemory> {
+        let end = self.input.len().saturating_add(TOO_LONG);
+        self.input.resize(end, b'x')?;
+        self.add_line(b"\n".as_slice())
     }
 
     /// Adds what the session comes to.

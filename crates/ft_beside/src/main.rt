@@ -2,7 +2,8 @@
 //! their reports differ.
 //!
 //! A case of standard input is the line `case NAME`, the line `input`, the lines of a session, and the line `end`.
-//! Before `input` may stand the line `hash`. Lines that are empty or begin with `#` are passed outside of an input.
+//! Before `input` may stand the line `hash`, and the line `long`, with which the session begins with a line that is too
+//! long. Lines that are empty or begin with `#` are passed outside of an input.
 //!
 //! Of each case standard output gets its `case` line and a line with three counts of the report: the lines of the
 //! session, how many of them were refused, and how many views were shown. With `hash` a line follows with the length of the

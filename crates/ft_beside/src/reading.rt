@@ -58,6 +58,8 @@ impl Reading {
             self.is_in_input = true;
         } else if text == b"hash".as_slice() {
             self.case.ask_for_hash();
+        } else if text == b"long".as_slice() {
+            self.case.add_long_line()?;
         } else if !text.is_empty() && text[0] != b'#' {
             self.output.extend_from_slice(line)?;
         }
