@@ -1,11 +1,4 @@
-pub mod Cuts
-pub mod Folds
-pub mod LatestLemmas
-pub mod Lifts
-pub mod Merges
-pub mod Places
-pub mod RowLemmas
-pub mod Shown
+pub mod EntryLemmas
+pub mod ItemLemmas
 pub mod SumsByStamps
 pub mod TableLemmas
-pub mod Values

@@ -1,34 +1,35 @@
 -- What a table says, and what it stands for, through its changes.
-use Rattle.std.proofs.Common.{◌≡◌, ℕ, ◌+◌, ◌<◌, ◌≤◌, ◌%◌, ◌^◌, Bool, true, false, not, cond, nat_le, List, [], ◌∷◌, ◌++◌, refl, sym, ◌∙◌, ap, subst, arith}
+use Rattle.std.proofs.Common.{◌≡◌, ℕ, ◌+◌, ◌-◌, ◌<◌, ◌≤◌, ◌%◌, ◌^◌, Bool, true, false, not, cond, nat_le, List, [], ◌∷◌, ◌++◌, refl, sym, ◌∙◌, ap, subst, arith}
 use Rattle.std.specs.List.{list_any}
 use Rattle.std.proofs.lemmas.Bool.Decides.{nat_tests}
 use Rattle.ft_base.specs.declared.stamps.Stamp.{Stamp}
 use Rattle.ft_base.specs.declared.stamps.Stamp.TheVariants.{Acked, Local}
 use Rattle.ft_base.specs.declared.elements.Element.{Element}
-use Rattle.ft_base.specs.Visibility.{has_occurred, sees}
-use Rattle.ft_partial.specs.StepFunctions.{amount, value_at, span_value, ExchangesSpan}
-use Rattle.ft_partial.specs.Rows.{row_place, is_settled, common_span, row_value, ExchangesRows, Covers}
+use Rattle.ft_base.specs.Visibility.{has_occurred, is_acked, is_present, sees}
+use Rattle.ft_partial.specs.declared.entries.Entry.{Entry}
+use Rattle.ft_partial.specs.Entries.{amount, unseen, AreUpTo, AddsEntries, DropsOld}
+use Rattle.ft_partial.specs.Elements.{last_length, AddsItem}
 use Rattle.ft_partial.specs.Items.{Item, item_of, length_where, length_seen, is_at_most, folded_stamp, folded_item, folded_items}
 use Rattle.ft_partial.specs.SameStamps.{ExchangesItem, SameByStamps}
-use Rattle.ft_partial.specs.Tables.{Lengths, length_at, CountsItems, Adds, Exchanges, AddsAll, SameFrom}
-use Rattle.ft_partial.specs.declared.step_functions.Step.{Step}
-use Rattle.ft_partial.specs.declared.step_functions.Span.{Span}
-use Rattle.ft_partial.proofs.Values.{value_at-none, value_at-fits}
-use Rattle.ft_partial.proofs.RowLemmas.{parts, covered, settled-seen}
+use Rattle.ft_partial.specs.Tables.{Lengths, length_at, CountsItems, Adds, Exchanges, AddsAll, AddsChange, SameFrom}
+use Rattle.ft_partial.proofs.EntryLemmas.{up_to_weaker, unseen_none}
 use Rattle.ft_partial.proofs.SumsByStamps.{same_sums}
 
 pub length_at-fits : (t : Lengths) (r c : ℕ) → length_at t r c < 2 ^ 64
 unfolding length_at
 length_at-fits t r c = omega arith
 
--- the three values make up the length
-pub length_at_is : (t : Lengths) (base : ℕ) (common own : List Step) (r c place v w : ℕ) → base ≡ t.base → common ≡ t.common → own ≡ t.own → place ≡ row_place c r
-    → v ≡ value_at common r → w ≡ value_at own place → (base + (v + w) % 2 ^ 64) % 2 ^ 64 ≡ length_at t r c
+-- what all see in the end and what the perspective counts besides make up the length
+pub length_at_is : (t : Lengths) (last : ℕ) (entries : List Entry) (r c n : ℕ) → last ≡ t.last → entries ≡ t.entries → n ≡ unseen r c entries % 2 ^ 64 → (last + n) % 2 ^ 64 ≡ length_at t r c
 unfolding length_at
-length_at_is t base common own r c place v w eb ec eo ep ev ew =
-    let first = ev ∙ ap (λ xs. value_at xs r) ec in
-    let second = ew ∙ ap (λ xs. value_at xs place) eo ∙ ap (λ k. value_at t.own k) ep in
-    omega (arith, eb, first, second)
+length_at_is t last entries r c n el ee en = omega (arith, el, en, ap (unseen r c) ee)
+
+-- who has seen the latest number sees what all see in the end
+pub length_at-latest : (t : Lengths) (latest last : ℕ) (entries : List Entry) (r c : ℕ) → last ≡ t.last → entries ≡ t.entries → AreUpTo latest entries → latest ≤ r → last < 2 ^ 64
+    → last ≡ length_at t r c
+unfolding length_at
+length_at-latest t latest last entries r c el ee up h fits =
+    omega (arith, el, sym (ap (unseen r c) ee), unseen_none r c entries (up_to_weaker latest r entries h up))
 
 -- no list is seen to be longer than it is
 pub seen-le : (r c : ℕ) (xs : List Item) → length_seen r c xs ≤ length_where (λ e. true) xs
@@ -44,52 +45,41 @@ pub length_at-exact : (t : Lengths) (xs : List Item) → CountsItems t xs → le
     → (r c : ℕ) → t.floor ≤ r → r < 2 ^ 64 → c < 2 ^ 32 → length_at t r c ≡ length_seen r c xs
 length_at-exact t xs stands fits r c hf hr hc = omega (arith, stands r c hf hr hc, seen-le r c xs)
 
-pub stands-none : (t : Lengths) → t.base ≡ 0 → t.common ≡ [] → t.own ≡ [] → CountsItems t []
+pub stands-none : (t : Lengths) → t.last ≡ 0 → t.entries ≡ [] → CountsItems t []
 unfolding length_at
-stands-none t base common own r c hf hr hc = omega (arith, base, value_at-none t.common r common, value_at-none t.own (row_place c r) own)
+stands-none t last none r c hf hr hc = omega (arith, last, ap (unseen r c) none)
 
-exchanged : (base vn wn vo wo a b x y s t : ℕ) → (vn + a) % 2 ^ 64 ≡ (vo + b) % 2 ^ 64 → (wn + x) % 2 ^ 64 ≡ (wo + y) % 2 ^ 64
-    → (a + x) % 2 ^ 64 ≡ s % 2 ^ 64 → (b + y) % 2 ^ 64 ≡ t % 2 ^ 64 → ((base + (vn + wn)) % 2 ^ 64 + s) % 2 ^ 64 ≡ ((base + (vo + wo)) % 2 ^ 64 + t) % 2 ^ 64
-exchanged base vn wn vo wo a b x y s t e1 e2 e3 e4 = omega arith
-
--- both functions changed
-exchanges_item : (old new : Lengths) (stamps : List Stamp) (e f : Element) (n m : ℕ) → n < 2 ^ 64 → m < 2 ^ 64 → Covers old.floor stamps e → Covers old.floor stamps f
-    → new.base ≡ old.base → ExchangesSpan old.common new.common (common_span old.floor e n) (common_span old.floor f m) (2 ^ 64)
-    → ExchangesRows old.floor old.own new.own stamps e n f m → Exchanges old new e n f m
+-- entries are put in
+pub adds_change : (old new : Lengths) (entries more : List Entry) (last by : ℕ) → entries ≡ old.entries → last ≡ old.last → AddsEntries entries new.entries more
+    → new.last ≡ (last + by) % 2 ^ 64 → AddsChange old new more by
 unfolding length_at
-exchanges_item old new stamps e f n m hn hm ce cf base common own r c hf hr hc =
-    let out = covered old.floor stamps e n r c ce in
-    let into = covered old.floor stamps f m r c cf in
-    let rows = own r c hr hc in
-    let sum = exchanged old.base (value_at new.common r) (value_at new.own (row_place c r)) (value_at old.common r) (value_at old.own (row_place c r))
-    (span_value (common_span old.floor e n) r) (span_value (common_span old.floor f m) r) (row_value old.floor e n c r) (row_value old.floor f m c r)
-    (amount (sees e r c) n) (amount (sees f r c) m)
-    (common r hr) (omega (arith, rows, out, into)) (parts old.floor e n r c hf hn hr) (parts old.floor f m r c hf hm hr) in
-    ap (λ b. ((b + (value_at new.common r + value_at new.own (row_place c r))) % 2 ^ 64 + amount (sees e r c) n) % 2 ^ 64) base ∙ sum
+adds_change old new entries more last by ee el adds is r c = omega (arith, adds.sums r c, is, el, ap (unseen r c) ee)
 
--- the same in the words of the code
-pub exchanges_item_at : (old new : Lengths) (floor : ℕ) (stamps : List Stamp) (common own : List Step) (span new_span : Span) (e f : Element) (n m : ℕ)
-    → n < 2 ^ 64 → m < 2 ^ 64 → Covers old.floor stamps e → Covers old.floor stamps f
-    → floor ≡ old.floor → new.base ≡ old.base → common ≡ old.common → own ≡ old.own → span ≡ common_span floor e n → new_span ≡ common_span floor f m
-    → ExchangesSpan common new.common span new_span (2 ^ 64) → ExchangesRows floor own new.own stamps e n f m → Exchanges old new e n f m
-exchanges_item_at old new floor stamps common own span new_span e f n m hn hm ce cf ef eb ec eo es et exchange rows =
-    let A : List Step → Type 0 = λ xs. ExchangesSpan xs new.common span new_span (2 ^ 64) in
-    let S : Span → Type 0 = λ s. ExchangesSpan old.common new.common s new_span (2 ^ 64) in
-    let T : Span → Type 0 = λ s. ExchangesSpan old.common new.common (common_span floor e n) s (2 ^ 64) in
-    let O : List Step → Type 0 = λ xs. ExchangesRows floor xs new.own stamps e n f m in
-    let F : ℕ → Type 0 = λ k. ExchangesSpan old.common new.common (common_span k e n) (common_span k f m) (2 ^ 64) in
-    let R : ℕ → Type 0 = λ k. ExchangesRows k old.own new.own stamps e n f m in
-    exchanges_item old new stamps e f n m hn hm ce cf eb (subst F ef (subst T et (subst S es (subst A ec exchange)))) (subst R ef (subst O eo rows))
+opposite : (b : Bool) (n less : ℕ) → n < 2 ^ 64 → less ≡ (2 ^ 64 - n) % 2 ^ 64 → (amount b n + amount b less) % 2 ^ 64 ≡ 0
+opposite true n less h e = omega arith
+opposite false n less h e = refl
 
--- what all see changed alone
-pub exchanges_settled : (old new : Lengths) (floor : ℕ) (e f : Element) (n m : ℕ) → floor ≡ old.floor → true ≡ is_settled floor e → true ≡ is_settled floor f
-    → (new.base + n) % 2 ^ 64 ≡ (old.base + m) % 2 ^ 64 → new.common ≡ old.common → new.own ≡ old.own → Exchanges old new e n f m
-unfolding length_at
-exchanges_settled old new floor e f n m ef se sf base common own r c hf hr hc =
+-- those of one element, and those of another one with the opposite number
+pub exchanges_change : (old new : Lengths) (floor : ℕ) (none mid more : List Entry) (e f : Element) (n m less last gone come : ℕ) → n < 2 ^ 64 → less ≡ (2 ^ 64 - n) % 2 ^ 64
+    → floor ≡ old.floor → none ≡ [] → AddsItem floor none mid f m → AddsItem floor mid more e less → gone ≡ last_length e n → come ≡ last_length f m → gone < 2 ^ 64
+    → last ≡ (come + (2 ^ 64 - gone)) % 2 ^ 64 → AddsChange old new more last → Exchanges old new e n f m
+exchanges_change old new floor none mid more e f n m less last gone come hn hl ef en into out eg ec hg el change r c hf hr hc =
     let from : floor ≤ r = omega arith in
-    let first = ap (λ b. amount b n) (settled-seen floor r c e (sym se) from hr) in
-    let second = ap (λ b. amount b m) (settled-seen floor r c f (sym sf) from hr) in
-    omega (arith, base, first, second, ap (λ xs. value_at xs r) common, ap (λ xs. value_at xs (row_place c r)) own)
+    omega (
+      arith,
+      change r c,
+      into r c from hr hc,
+      out r c from hr hc,
+      ap (unseen r c) en,
+      opposite (sees e r c) n less hn hl,
+      last_opposite,
+      eg,
+      ec,
+      el,
+    )
+  where
+    last_opposite : (last_length e n + last_length e less) % 2 ^ 64 ≡ 0
+    last_opposite = opposite (is_present is_acked e) n less hn hl
 
 amount-zero : (b : Bool) → amount b 0 ≡ 0
 amount-zero true = refl
@@ -103,38 +93,24 @@ adds_item old new e n exchanges r c hf hr hc =
     let none = amount-zero (sees e r c) in
     omega arith
 
-pub adds_all : (old other new : Lengths) → new.base ≡ (old.base + other.base) % 2 ^ 64 → ((k : ℕ) → value_at new.common k ≡ (value_at old.common k + value_at other.common k) % 2 ^ 64)
-    → ((k : ℕ) → value_at new.own k ≡ (value_at old.own k + value_at other.own k) % 2 ^ 64) → AddsAll old other new
+-- all entries of another table
+pub adds_all : (old other new : Lengths) (more : List Entry) (last : ℕ) → more ≡ other.entries → last ≡ other.last → AddsChange old new more last → AddsAll old other new
 unfolding length_at
-adds_all old other new base common own r c hr hc = omega (arith, base, common r, own (row_place c r))
+adds_all old other new more last em el change r c hr hc = omega (arith, change r c, el, ap (unseen r c) em)
 
--- the same in the words of the code
-pub adds_all_at : (old other new : Lengths) (common own more_common more_own : List Step) → common ≡ old.common → own ≡ old.own → more_common ≡ other.common → more_own ≡ other.own
-    → new.base ≡ (old.base + other.base) % 2 ^ 64
-    → ((k : ℕ) → value_at new.common k ≡ (value_at common k + value_at more_common k) % 2 ^ 64)
-    → ((k : ℕ) → value_at new.own k ≡ (value_at own k + value_at more_own k) % 2 ^ 64) → AddsAll old other new
-adds_all_at old other new common own more_common more_own ec eo em en base sums own_sums =
-    adds_all old other new base
-    (λ k. omega (arith, sums k, ap (λ xs. value_at xs k) ec, ap (λ xs. value_at xs k) em))
-    (λ k. omega (arith, own_sums k, ap (λ xs. value_at xs k) eo, ap (λ xs. value_at xs k) en))
-
--- the other table has no steps
-pub adds_base : (old other new : Lengths) → new.base ≡ (old.base + other.base) % 2 ^ 64 → other.common ≡ [] → other.own ≡ [] → new.common ≡ old.common → new.own ≡ old.own
-    → AddsAll old other new
-adds_base old other new base none no_own common own =
-    adds_all old other new base
-    (λ k. omega (arith, value_at-none other.common k none, value_at-fits old.common k, ap (λ xs. value_at xs k) common))
-    (λ k. omega (arith, value_at-none other.own k no_own, value_at-fits old.own k, ap (λ xs. value_at xs k) own))
-
-pub same_from : (old new : Lengths) (floor : ℕ) → new.base ≡ old.base
-    → ((k : ℕ) → floor ≤ k % 2 ^ 64 → value_at new.common k ≡ value_at old.common k)
-    → ((k : ℕ) → floor ≤ k % 2 ^ 64 → value_at new.own k ≡ value_at old.own k) → SameFrom floor old new
+pub same_from : (old new : Lengths) (floor : ℕ) (entries : List Entry) → entries ≡ old.entries → new.last ≡ old.last → DropsOld entries new.entries floor → SameFrom floor old new
 unfolding length_at
-same_from old new floor base common own r c hf hr hc = omega (arith, base, common r (omega arith), own (row_place c r) (omega arith))
+same_from old new floor entries ee last drops r c hf hr hc = omega (arith, last, drops.sums r c hf, ap (unseen r c) ee)
 
-pub same_kept : (old new : Lengths) (floor : ℕ) → new.base ≡ old.base → new.common ≡ old.common → new.own ≡ old.own → SameFrom floor old new
-same_kept old new floor base common own =
-    same_from old new floor base (λ k h. ap (λ xs. value_at xs k) common) (λ k h. ap (λ xs. value_at xs k) own)
+pub same_kept : (old new : Lengths) (floor : ℕ) → new.last ≡ old.last → new.entries ≡ old.entries → SameFrom floor old new
+unfolding length_at
+same_kept old new floor last entries r c hf hr hc = omega (arith, last, ap (unseen r c) entries)
+
+pub same_cleared : (old new : Lengths) (floor latest : ℕ) (entries : List Entry) → entries ≡ old.entries → new.last ≡ old.last → new.entries ≡ [] → AreUpTo latest entries → latest ≤ floor
+    → SameFrom floor old new
+unfolding length_at
+same_cleared old new floor latest entries ee last none up h r c hf hr hc =
+    omega (arith, last, ap (unseen r c) none, sym (ap (unseen r c) ee), unseen_none r c entries (up_to_weaker latest r entries (omega arith) up))
 
 more : (wn wo l s : ℕ) → wn ≡ (wo + l) % 2 ^ 64 → wo ≡ s % 2 ^ 64 → wn ≡ (l + s) % 2 ^ 64
 more wn wo l s e1 e2 = omega arith

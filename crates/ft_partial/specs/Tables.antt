@@ -4,22 +4,24 @@
 use Rattle.std.specs.Prelude.{◌≡◌, ℕ, ◌+◌, ◌<◌, ◌≤◌, ◌%◌, ◌^◌, List}
 use Rattle.ft_base.specs.declared.elements.Element.{Element}
 use Rattle.ft_base.specs.Visibility.{sees}
-use Rattle.ft_partial.specs.declared.step_functions.Step.{Step}
-use Rattle.ft_partial.specs.StepFunctions.{value_at, amount}
-use Rattle.ft_partial.specs.Rows.{row_place}
+use Rattle.ft_partial.specs.declared.entries.Entry.{Entry}
+use Rattle.ft_partial.specs.Entries.{amount, unseen, IsRising, AreUpTo}
 use Rattle.ft_partial.specs.Items.{Item, length_seen}
 
--- a table: its floor, a number that all see, what those see besides who made none of the stamps, and how far each
--- connection's own stamps change that
+-- a table: its floor, how many elements all see in the end, and what those count besides who haven't seen a number yet
 pub record Lengths : Type 0 where
   pub floor : ℕ
-  pub base : ℕ
-  pub common : List Step
-  pub own : List Step
+  pub last : ℕ
+  pub entries : List Entry
 
 -- the length for the perspective (r, c)
 unfoldable pub length_at : Lengths → ℕ → ℕ → ℕ
-length_at t r c = (t.base + (value_at t.common r + value_at t.own (row_place c r))) % 2 ^ 64
+length_at t r c = (t.last + unseen r c t.entries) % 2 ^ 64
+
+-- what a table keeps: its entries rise up to the number `latest`, and the last length is small
+pub record IsSoundTable (t : Lengths) (latest : ℕ) : Type 0 where
+  pub rising : IsRising t.entries
+  pub up_to : AreUpTo latest t.entries
 
 -- from the floor up each perspective sees that much of the items, round 2 ^ 64
 abbrev pub CountsItems : Lengths → List Item → Type 0
@@ -37,6 +39,10 @@ Exchanges old new e n f m = (r c : ℕ) → old.floor ≤ r → r < 2 ^ 64 → c
 -- each length is that of both tables together
 abbrev pub AddsAll : Lengths → Lengths → Lengths → Type 0
 AddsAll old other new = (r c : ℕ) → r < 2 ^ 64 → c < 2 ^ 32 → length_at new r c ≡ (length_at old r c + length_at other r c) % 2 ^ 64
+
+-- each length is higher by `last` and by what the perspective counts of the entries
+abbrev pub AddsChange : Lengths → Lengths → List Entry → ℕ → Type 0
+AddsChange old new more last = (r c : ℕ) → length_at new r c ≡ (length_at old r c + (last + unseen r c more)) % 2 ^ 64
 
 -- from the floor up all lengths stay
 abbrev pub SameFrom : ℕ → Lengths → Lengths → Type 0

@@ -1,14 +1,14 @@
 //! Partial lengths: how many elements each perspective sees of a list, without looking at the list.
 //!
 //! A `Table` stands for lists of items, each the stamps of some elements with their number. It keeps
-//! no items, only the two step functions from which it answers: what everybody sees at a sequence
-//! number who made none of the stamps, and how far each connection's own stamps change that.
+//! no items, only how many elements all see in the end, and what those count besides who haven't seen
+//! a sequence number yet.
 //!
 //! A call that can't answer `OutOfMemory` takes no memory.
 #![tactic(auto)]
 
-mod rows;
-mod step_functions;
+mod entries;
+mod items;
 mod table;
 
-pub use table::{Table, same_by_stamps, stamps_of};
+pub use table::{Table, same_by_stamps};

@@ -3,18 +3,15 @@
 ghost use Rattle.std.specs.Prelude.{◌≡◌, ◌+◌, ◌≤◌, ◌<◌, ◌^◌, List, [], ◌∷◌, ◌++◌, IfOk, OnOk, OnErr};
 ghost use Rattle.ft_partial.specs.Items.{Item, item_of, inserted_element, removed, length_seen, folded_items};
 ghost use Rattle.ft_partial.specs.SameStamps.{SameByStamps, ExchangesItem};
-ghost use Rattle.ft_partial.specs.Tables.{length_at, CountsItems, Adds, Exchanges, AddsAll, SameFrom};
-ghost use Rattle.ft_partial.specs.Rows.{Covers, late};
+ghost use Rattle.ft_partial.specs.Tables.{length_at, CountsItems, Adds, Exchanges, AddsAll, AddsChange, SameFrom};
 
-use crate::rows::{
-    ROW, common_span, exchange_rows, is_settled, last_length, latest_number, place_of,
-};
-use crate::step_functions::{CHANGES, StepFunction};
+use crate::entries::{Entry, add_entries, drop_old, newest, unseen};
+use crate::items::{last_length, push_item};
 use ft_base::{Element, OutOfMemory, Perspective, Stamp, Stamps};
 use std::alloc::Global;
 use std::marker::Model;
 
-/// Below this number of steps nothing is folded.
+/// Below this number of entries none is looked for that may be dropped.
 const FEW: usize = 4;
 
 /// How much each perspective sees of a list of items, each the stamps of some elements with their
@@ -25,84 +22,31 @@ const FEW: usize = 4;
 /// stamps, the items with these stamps have the same sum of lengths. Each clause holds for every
 /// list that the table stands for.
 ///
-/// Elements that all see from the floor up are one number, and a change of how many they are takes no
-/// step. The window is made of the sequence numbers above the floor that occur in the other items. `length`
-/// takes two binary searches in it, or none for who has seen the latest of them. A change takes some more; it touches the steps of the
-/// connections that made its stamps as far as what they see changes, and those of all others between
-/// the numbers at which its old and its new stamps differ, or from the insertion on where the number
-/// of elements differs. The steps behind a new one move up in memory, as one block.
+/// A table keeps how many elements all see in the end, and one entry or a few for each change above the
+/// floor: elements that all see from the floor up take none. `length` reads the entries that are new to
+/// the perspective, from the newest back; none where it has seen the latest number. A change adds its
+/// entries at the end, where their numbers are the newest.
 #[derive(Drop)]
 pub struct Table {
     floor: u64,
-    // what all see, the more that the functions don't count
-    base: u64,
-    // what those see who made none of the stamps, by sequence number
-    common: StepFunction,
-    // how far each connection's own stamps change that, by rows
-    own: StepFunction,
-    // `last` is the length for each perspective whose reference number is `latest` or higher
-    latest: u64,
+    // how many elements all see whose reference number is `latest` or higher
     last: u64,
-    // with this many steps the next fold looks through them; never fewer than `FEW`
+    // what the others count besides
+    entries: Vec<Entry>,
+    latest: u64,
+    // with this many entries the next fold looks for those up to the floor
     fold_at: usize,
     alloc: Global,
 }
 
 impl Model for Table {
-    ghost use Rattle.ft_partial.specs.Tables.{Lengths};
-    ghost use Rattle.ft_partial.specs.Latest.{IsSoundTable};
+    ghost use Rattle.ft_partial.specs.Tables.{Lengths, IsSoundTable};
 
     ghost Value = { Lengths };
 
-    ghost view = { λ a. record { floor = a.floor; base = a.base; common = a.common.steps; own = a.own.steps } };
+    ghost view = { λ a. record { floor = a.floor; last = a.last; entries = a.entries.items } };
 
-    ghost invariant = { λ a. IsSoundTable (record { floor = a.floor; base = a.base; common = a.common.steps; own = a.own.steps }) a.latest a.last a.fold_at };
-}
-
-/// Adds the stamp at the end, if it is sequenced above the floor.
-fn push_late(stamps: &mut Stamps, stamp: Stamp, floor: u64) -> Result<(), OutOfMemory>
-    ensures { OnOk result (stamps.new ≡ stamps.old ++ late floor stamp) }
-{
-    match stamp {
-        Stamp::Acked { seq, .. } if seq > floor => stamps.push(stamp),
-        _ => Ok(()),
-    }
-}
-
-/// The stamps of two elements, for `Table::exchange`: of the insertions those above the floor.
-///
-/// Answers `OutOfMemory` where there is no room for them.
-pub fn stamps_of(e: &Element, new: &Element, floor: u64) -> Result<Stamps, OutOfMemory>
-    ensures old { IfOk result (λ stamps. Covers floor stamps e.now) }
-    ensures new { IfOk result (λ stamps. Covers floor stamps new.now) }
-{
-    let mut stamps = e.dels.copy()?;
-    push_late(&mut stamps, e.ins, floor)?;
-    for stamp in new.dels.as_slice() {
-        stamps.push(*stamp)?;
-    }
-    if new.ins == e.ins {
-        return Ok(stamps);
-    }
-    push_late(&mut stamps, new.ins, floor)?;
-    Ok(stamps)
-}
-
-/// Makes room for changes of both functions.
-fn reserve(
-    common: &mut StepFunction,
-    changes: usize,
-    own: &mut StepFunction,
-    own_changes: usize,
-) -> Result<(), OutOfMemory>
-    ensures common { common.new.steps ≡ common.old.steps }
-    ensures own { own.new.steps ≡ own.old.steps }
-    ensures room { OnOk result (changes ≤ common.new.room) }
-    ensures own_room { OnOk result (own_changes ≤ own.new.room) }
-{
-    common.reserve(changes)?;
-    own.reserve(own_changes)?;
-    Ok(())
+    ghost invariant = { λ a. IsSoundTable (record { floor = a.floor; last = a.last; entries = a.entries.items }) a.latest };
 }
 
 impl Table {
@@ -113,11 +57,9 @@ impl Table {
     {
         Table {
             floor: 0,
-            base: 0,
-            common: StepFunction::new(alloc),
-            own: StepFunction::new(alloc),
-            latest: 0,
             last: 0,
+            entries: Vec::new(alloc),
+            latest: 0,
             fold_at: FEW,
             alloc,
         }
@@ -136,9 +78,7 @@ impl Table {
         if self.latest <= at.r {
             return self.last;
         }
-        let common = self.common.at(at.r as u128);
-        let own = self.own.at(place_of(at.c, at.r as u128));
-        self.base.wrapping_add(common.wrapping_add(own))
+        self.last.wrapping_add(unseen(self.entries.as_slice(), at))
     }
 
     /// Adds `len` elements that connection `conn` inserted at the sequence number `seq`, and nobody
@@ -167,9 +107,7 @@ impl Table {
         ensures floor { self.new.floor ≡ self.old.floor }
         ensures err { OnErr result (self.new ≡ self.old) }
     {
-        let mut stamps = e.dels.copy()?;
-        push_late(&mut stamps, e.ins, self.floor)?;
-        self.exchange(stamps.as_slice(), e, 0, e, len)
+        self.replace(e, 0, e, len)
     }
 
     /// Gives the removal stamp of connection `conn` at the sequence number `seq` to `len` elements
@@ -204,55 +142,29 @@ impl Table {
         ensures floor { self.new.floor ≡ self.old.floor }
         ensures err { OnErr result (self.new ≡ self.old) }
     {
-        let stamps = stamps_of(e, new, self.floor)?;
-        self.exchange(stamps.as_slice(), e, len, new, new_len)
+        let mut changes = Vec::new(self.alloc);
+        push_item(&mut changes, self.floor, new, new_len)?;
+        push_item(&mut changes, self.floor, e, 0u64.wrapping_sub(len))?;
+        let gone = last_length(e, len);
+        let come = last_length(new, new_len);
+        self.put_in(changes.as_slice(), come.wrapping_sub(gone))
     }
 
-    /// What `replace` does, for a caller that makes the same change in many tables with one floor: among
-    /// `stamps` is one by each connection that removed either element, or inserted it above the floor.
-    ///
-    /// Answers `OutOfMemory` where there is no room, and then the table is as it was.
-    pub fn exchange(
-        &mut self,
-        stamps: &[Stamp],
-        e: &Element,
-        len: u64,
-        new: &Element,
-        new_len: u64,
-    ) -> Result<(), OutOfMemory>
-        requires old { Covers self.old.floor stamps.now e.now }
-        requires new { Covers self.old.floor stamps.now new.now }
-        ensures exchanges { OnOk result (Exchanges self.old self.new e.now len new.now new_len) }
+    // Adds entries, and so many elements to those that all see in the end.
+    fn put_in(&mut self, more: &[Entry], last: u64) -> Result<(), OutOfMemory>
+        ensures lengths { OnOk result (AddsChange self.old self.new more.now last) }
         ensures floor { self.new.floor ≡ self.old.floor }
         ensures err { OnErr result (self.new ≡ self.old) }
     {
-        let floor = self.floor;
-        let numbers = latest_number(e).max(latest_number(new));
-        let latest = self.latest.max(floor).max(numbers);
-        let gone = last_length(e, len);
-        let last = self
-            .last
-            .wrapping_sub(gone)
-            .wrapping_add(last_length(new, new_len));
-        if is_settled(e, floor) && is_settled(new, floor) {
-            self.base = self.base.wrapping_sub(len).wrapping_add(new_len);
-            self.latest = latest;
-            self.last = last;
-            return Ok(());
-        }
-        let changes = stamps.len().checked_mul(CHANGES).ok_or(OutOfMemory)?;
-        reserve(&mut self.common, CHANGES, &mut self.own, changes)?;
-        let old = common_span(e, len, floor);
-        self.common
-            .exchange(old, common_span(new, new_len, floor), ROW);
-        exchange_rows(&mut self.own, floor, stamps, e, len, new, new_len);
-        self.latest = latest;
-        self.last = last;
+        self.entries.reserve(more.len())?;
+        add_entries(&mut self.entries, more);
+        self.last = self.last.wrapping_add(last);
+        self.latest = newest(self.entries.as_slice());
         Ok(())
     }
 
-    /// Adds all items of another table, whose floor isn't above this one's: one pass over the steps
-    /// of both.
+    /// Adds all items of another table, whose floor isn't above this one's: each of its
+    /// entries is put in, and moves those that are newer.
     ///
     /// Answers `OutOfMemory` where there is no room, and then the table is as it was.
     pub fn add_all(&mut self, other: &Table) -> Result<(), OutOfMemory>
@@ -262,31 +174,15 @@ impl Table {
         ensures floor { self.new.floor ≡ self.old.floor }
         ensures err { OnErr result (self.new ≡ self.old) }
     {
-        let base = self.base.wrapping_add(other.base);
-        let latest = self.latest.max(other.latest);
-        let last = self.last.wrapping_add(other.last);
-        if other.common.len() == 0 && other.own.len() == 0 {
-            self.base = base;
-            self.latest = latest;
-            self.last = last;
-            return Ok(());
-        }
-        let common = self.common.plus(self.alloc, &other.common)?;
-        let own = self.own.plus(self.alloc, &other.own)?;
-        self.base = base;
-        self.common = common;
-        self.own = own;
-        self.latest = latest;
-        self.last = last;
-        Ok(())
+        self.put_in(other.entries.as_slice(), other.last)
     }
 
     /// Raises the floor to `floor`, which isn't below the old one: the items removed at or below it
     /// are gone, and insertions at or below it are written (0, 0).
     ///
-    /// The steps are looked through only once they have doubled since the last time, so all folds
-    /// together take no longer than the calls that added the steps. Then, of each connection and of
-    /// all others, at most one step is left at or below the floor.
+    /// Entries up to the floor are dropped at once where there are no others, and else once the entries
+    /// have doubled since the last time, so all folds together take no longer than the calls that added
+    /// the entries.
     pub fn fold_to(&mut self, floor: u64)
         requires { self.old.floor ≤ floor }
         ensures items { (xs : List Item) → CountsItems self.old xs → CountsItems self.new (folded_items floor xs) }
@@ -295,12 +191,11 @@ impl Table {
         ensures floor { self.new.floor ≡ floor }
     {
         self.floor = floor;
-        self.latest = self.latest.max(floor);
-        if self.common.len().max(self.own.len()) >= self.fold_at {
-            self.common.fold_to(floor);
-            self.own.fold_to(floor);
-            let steps = self.common.len().max(self.own.len());
-            self.fold_at = steps.saturating_mul(2).max(FEW);
+        if self.latest <= floor {
+            self.entries.clear();
+        } else if self.entries.len() >= self.fold_at {
+            drop_old(&mut self.entries, floor);
+            self.fold_at = self.entries.len().saturating_mul(2).max(FEW);
         }
     }
 }

@@ -1,22 +1,22 @@
+use Rattle.std.proofs.Common.{List, ◌+◌, ◌-◌, ◌%◌, ap, subst, sym, arith}
 use Rattle.std.proofs.lemmas.Result.{on_ok_weaker}
-use Rattle.std.proofs.Common.{ap, sym, subst}
-use Rattle.ft_partial.specs.Rows.{Covers}
-use Rattle.ft_partial.proofs.TableLemmas.{stands-exchange}
+use Rattle.ft_partial.specs.declared.entries.Entry.{Entry}
+use Rattle.ft_partial.specs.Tables.{AddsChange}
+use Rattle.ft_partial.proofs.TableLemmas.{exchanges_change, stands-exchange}
 use Rattle.ft_partial.proofs.table.Table.replace.Goals as goal
+
+pub returns-clause-exchanges : goal.returns-clause-exchanges
+returns-clause-exchanges c =
+    let last = (c.last_length-come.result + (18446744073709551616 - c.last_length-gone.result)) % 18446744073709551616 in
+    let P : List Entry → Type 0 = λ more. AddsChange c.args.self.now c.put_in.new.self more last in
+    on_ok_weaker c.put_in.result
+    (λ change. exchanges_change c.args.self.now c.put_in.new.self c.self.inside.floor c.new-changes.result.items c.push_item.new.entries.items c.push_item-2.new.entries.items
+    c.args.e.now c.args.new.now c.args.len c.args.new_len ((0 + (18446744073709551616 - c.args.len)) % 18446744073709551616) last c.last_length-gone.result
+    c.last_length-come.result (omega arith) (omega arith) (ap (λ t. t.floor) c.self.view_is) c.new-changes.ensures.items c.in_ok-push_item.ensures c.in_ok-push_item-2.ensures
+    c.last_length-gone.ensures c.last_length-come.ensures (omega arith) (omega arith) (subst P c.as_slice.ensures.value change)) c.put_in.ensures.lengths
 
 pub returns-clause-ok : goal.returns-clause-ok
 returns-clause-ok c =
-    on_ok_weaker c.exchange.result
-    (λ exchanges. stands-exchange c.args.self.now c.exchange.new.self c.args.e.now c.args.new.now c.args.len c.args.new_len exchanges c.exchange.ensures.floor)
-    c.exchange.ensures.exchanges
-
-pub exchange-requires-clause-old : goal.exchange-requires-clause-old
-exchange-requires-clause-old c =
-    let floor = ap (λ t. t.floor) c.self.view_is in
-    subst (λ zs. Covers c.args.self.now.floor zs c.args.e.now) (sym c.as_slice.ensures) (subst (λ k. Covers k c.in_ok-stamps.stamps c.args.e.now) floor c.in_ok-stamps.ensures.old)
-
-pub exchange-requires-clause-new : goal.exchange-requires-clause-new
-exchange-requires-clause-new c =
-    let floor = ap (λ t. t.floor) c.self.view_is in
-    subst (λ zs. Covers c.args.self.now.floor zs c.args.new.now) (sym c.as_slice.ensures)
-    (subst (λ k. Covers k c.in_ok-stamps.stamps c.args.new.now) floor c.in_ok-stamps.ensures.new)
+    on_ok_weaker c.put_in.result
+    (λ exchanges. stands-exchange c.args.self.now c.put_in.new.self c.args.e.now c.args.new.now c.args.len c.args.new_len exchanges c.put_in.ensures.floor)
+    (returns-clause-exchanges c)

@@ -1,0 +1,245 @@
+-- Entries by rising number.
+use Rattle.std.proofs.Common.{◌≡◌, ◌≢◌, ℕ, zero, suc, ◌+◌, ◌-◌, ◌<◌, ◌≤◌, ◌%◌, ◌^◌, Bool, true, false, cond, not, ◌&&◌, nat_le, nat_eq, List, [], ◌∷◌, ◌++◌, take, drop, get_or, set}
+use Rattle.std.proofs.Common.{length, filter, refl, sym, ◌∙◌, ap, subst, arith}
+use Rattle.std.specs.Prelude.{insert}
+use Rattle.std.proofs.Math.Seq.{drop-cons}
+use Rattle.std.proofs.lemmas.Bool.Decides.{nat_tests}
+use Rattle.ft_partial.specs.declared.entries.Entry.{Entry}
+use Rattle.ft_partial.specs.Entries.{amount, is_for, counts, share, unseen, AreUpTo, AreFrom, IsRising, IsPlace, IsAlikeAt, AddsEntry, AddsEntries, DropsOld}
+
+-- a default to read lists with
+abbrev pub no_entry : Entry
+no_entry = record { seq = 0; conn = 0; own = false; by = 0 }
+
+-- all of the list
+pub take_all : (xs : List Entry) (n : ℕ) → length xs ≤ n → take n xs ≡ xs
+take_all [] zero h = refl
+take_all [] (suc n) h = refl
+take_all (x ∷ xs) zero h = absurd (omega arith)
+take_all (x ∷ xs) (suc n) h = ap (λ ys. x ∷ ys) (take_all xs n (omega arith))
+
+pub drop_all : (xs : List Entry) (n : ℕ) → length xs ≤ n → drop n xs ≡ []
+drop_all [] zero h = refl
+drop_all [] (suc n) h = refl
+drop_all (x ∷ xs) zero h = absurd (omega arith)
+drop_all (x ∷ xs) (suc n) h = drop_all xs n (omega arith)
+
+-- bounds that are weaker
+pub up_to_weaker : (k n : ℕ) (xs : List Entry) → k ≤ n → AreUpTo k xs → AreUpTo n xs
+up_to_weaker k n [] h a = tt
+up_to_weaker k n (x ∷ xs) h a = (omega (arith, a.0), up_to_weaker k n xs h a.1)
+
+pub from_weaker : (k n : ℕ) (xs : List Entry) → k ≤ n → AreFrom n xs → AreFrom k xs
+from_weaker k n [] h a = tt
+from_weaker k n (x ∷ xs) h a = (omega (arith, a.0), from_weaker k n xs h a.1)
+
+-- the entries before one that is up to k
+from_at : (k i : ℕ) (d : Entry) (xs : List Entry) → AreFrom k xs → i < length xs → k ≤ (get_or xs i d).seq
+from_at k i d [] a h = absurd (omega arith)
+from_at k zero d (x ∷ xs) a h = a.0
+from_at k (suc i) d (x ∷ xs) a h = from_at k i d xs a.1 (omega arith)
+
+pub up_to_take : (k i : ℕ) (d : Entry) (xs : List Entry) → IsRising xs → i < length xs → (get_or xs i d).seq ≤ k → AreUpTo k (take (suc i) xs)
+up_to_take k i d [] r h l = tt
+up_to_take k zero d (x ∷ xs) r h l = (l, none xs)
+  where
+    none : (ys : List Entry) → AreUpTo k (take 0 ys)
+    none [] = tt
+    none (y ∷ ys) = tt
+up_to_take k (suc i) d (x ∷ xs) r h l = (omega (arith, from_at x.seq i d xs r.0 (omega arith), l), up_to_take k i d xs r.1 (omega arith) l)
+
+pub up_to_before : (k i : ℕ) (d : Entry) (xs : List Entry) → IsRising xs → 0 < i → i ≤ length xs → (get_or xs (i - 1) d).seq ≤ k → AreUpTo k (take i xs)
+up_to_before k i d xs r some h l =
+    let up : suc (i - 1) ≡ i = omega arith in
+    subst (λ n. AreUpTo k (take n xs)) up (up_to_take k (i - 1) d xs r (omega arith) l)
+
+pub up_to_last : (d : Entry) (xs : List Entry) → IsRising xs → length xs ≢ 0 → AreUpTo (get_or xs (length xs - 1) d).seq xs
+up_to_last d xs r some =
+    let k : ℕ = (get_or xs (length xs - 1) d).seq in
+    subst (AreUpTo k) (take_all xs (length xs) (omega arith)) (up_to_before k (length xs) d xs r (omega arith) (omega arith) (omega arith))
+
+-- nobody who has seen the number k counts entries up to it
+pub unseen_none : (r c : ℕ) (xs : List Entry) → AreUpTo r xs → unseen r c xs ≡ 0
+unseen_none r c [] a = refl
+unseen_none r c (x ∷ xs) a =
+    let seen : nat_le x.seq r ≡ true = grind (arith, nat_tests, a.0) in
+    omega (arith, ap (λ b. amount (not b && is_for c x) x.by) seen, unseen_none r c xs a.1)
+
+pub unseen-append : (r c : ℕ) (xs ys : List Entry) → unseen r c (xs ++ ys) ≡ unseen r c xs + unseen r c ys
+unseen-append r c [] ys = omega arith
+unseen-append r c (x ∷ xs) ys = omega (arith, unseen-append r c xs ys)
+
+pub unseen-cut : (r c i : ℕ) (xs : List Entry) → unseen r c xs ≡ unseen r c (take i xs) + unseen r c (drop i xs)
+unseen-cut r c zero [] = refl
+unseen-cut r c (suc i) [] = refl
+unseen-cut r c zero (x ∷ xs) = omega arith
+unseen-cut r c (suc i) (x ∷ xs) = omega (arith, unseen-cut r c i xs)
+
+-- one more of the entries from the end back
+pub unseen-back : (r c i : ℕ) (d : Entry) (xs : List Entry) → i < length xs → unseen r c (drop i xs) ≡ share r c (get_or xs i d) + unseen r c (drop (suc i) xs)
+unseen-back r c i d xs h = ap (unseen r c) (drop-cons xs i d h)
+
+pub from_back : (k i : ℕ) (d : Entry) (xs : List Entry) → i < length xs → k ≤ (get_or xs i d).seq → AreFrom k (drop (suc i) xs) → AreFrom k (drop i xs)
+from_back k i d xs h l a = subst (AreFrom k) (sym (drop-cons xs i d h)) (l, a)
+
+-- rising lists in parts
+pub rising-take : (i : ℕ) (xs : List Entry) → IsRising xs → IsRising (take i xs)
+rising-take zero [] r = tt
+rising-take (suc i) [] r = tt
+rising-take zero (x ∷ xs) r = tt
+rising-take (suc i) (x ∷ xs) r = (from_take x.seq i xs r.0, rising-take i xs r.1)
+  where
+    from_take : (k i : ℕ) (ys : List Entry) → AreFrom k ys → AreFrom k (take i ys)
+    from_take k zero [] a = tt
+    from_take k (suc i) [] a = tt
+    from_take k zero (y ∷ ys) a = tt
+    from_take k (suc i) (y ∷ ys) a = (a.0, from_take k i ys a.1)
+
+pub rising-drop : (i : ℕ) (xs : List Entry) → IsRising xs → IsRising (drop i xs)
+rising-drop zero [] r = tt
+rising-drop (suc i) [] r = tt
+rising-drop zero (x ∷ xs) r = r
+rising-drop (suc i) (x ∷ xs) r = rising-drop i xs r.1
+
+pub from-append : (k : ℕ) (xs ys : List Entry) → AreFrom k xs → AreFrom k ys → AreFrom k (xs ++ ys)
+from-append k [] ys a b = b
+from-append k (x ∷ xs) ys a b = (a.0, from-append k xs ys a.1 b)
+
+pub rising-append : (k : ℕ) (xs ys : List Entry) → IsRising xs → IsRising ys → AreUpTo k xs → AreFrom k ys → IsRising (xs ++ ys)
+rising-append k [] ys r s a b = s
+rising-append k (x ∷ xs) ys r s a b = (from-append x.seq xs ys r.0 (from_weaker x.seq k ys a.0 b), rising-append k xs ys r.1 s a.1 b)
+
+-- an entry is put in
+pub adds_put : (old new : List Entry) (i : ℕ) (x : Entry) → IsRising old → IsPlace old x.seq i → new ≡ insert old i x → AddsEntry old new x
+adds_put old new i x rising place e =
+    subst (λ ys. AddsEntry old ys x) (sym e) record {
+      rising = rising-append x.seq (take i old) (x ∷ drop i old) (rising-take i old rising) (place.above, rising-drop i old rising) place.below
+          (omega arith, place.above);
+      sums = λ r c. omega (arith, unseen-append r c (take i old) (x ∷ drop i old), unseen-cut r c i old);
+    }
+
+-- an entry is changed where it stands
+same_from : (k j : ℕ) (d y : Entry) (xs : List Entry) → y.seq ≡ (get_or xs j d).seq → AreFrom k xs → AreFrom k (set xs j y)
+same_from k j d y [] e a = tt
+same_from k zero d y (x ∷ xs) e a = (omega (arith, e, a.0), a.1)
+same_from k (suc j) d y (x ∷ xs) e a = (a.0, same_from k j d y xs e a.1)
+
+rising-set : (j : ℕ) (d y : Entry) (xs : List Entry) → y.seq ≡ (get_or xs j d).seq → IsRising xs → IsRising (set xs j y)
+rising-set j d y [] e r = tt
+rising-set zero d y (x ∷ xs) e r = (from_weaker y.seq x.seq xs (omega (arith, e)) r.0, r.1)
+rising-set (suc j) d y (x ∷ xs) e r = (same_from x.seq j d y xs e r.0, rising-set j d y xs e r.1)
+
+unseen-set : (r c j : ℕ) (d y : Entry) (xs : List Entry) → j < length xs → unseen r c (set xs j y) + share r c (get_or xs j d) ≡ unseen r c xs + share r c y
+unseen-set r c j d y [] h = absurd (omega arith)
+unseen-set r c zero d y (x ∷ xs) h = omega arith
+unseen-set r c (suc j) d y (x ∷ xs) h = omega (arith, unseen-set r c j d y xs (omega arith))
+
+share_case : (b : Bool) (m n s : ℕ) → s ≡ (m + n) % 2 ^ 64 → amount b s % 2 ^ 64 ≡ (amount b m + amount b n) % 2 ^ 64
+share_case true m n s e = omega arith
+share_case false m n s e = refl
+
+same_counts : (r c : ℕ) (x y z : Entry) → y.seq ≡ x.seq → y.conn ≡ x.conn → y.own ≡ x.own → counts r c y ≡ counts r c x
+same_counts r c x y z es ec eo =
+    ap (λ k. not (nat_le k r) && cond y.own (nat_eq y.conn c) (not (nat_eq y.conn c))) es
+    ∙ ap (λ k. not (nat_le x.seq r) && cond y.own (nat_eq k c) (not (nat_eq k c))) ec
+    ∙ ap (λ b. not (nat_le x.seq r) && cond b (nat_eq x.conn c) (not (nat_eq x.conn c))) eo
+
+pub adds_at : (old new : List Entry) (j : ℕ) (x z : Entry) (by : ℕ) → IsRising old → j < length old → IsAlikeAt old j x → z ≡ get_or old j z
+    → by ≡ (z.by + x.by) % 2 ^ 64 → new ≡ set old j (record z { by = by }) → AddsEntry old new x
+adds_at old new j x z by rising inside alike is sum e =
+    let y : Entry = record z { by = by } in
+    let same = alike z in
+    let seq : z.seq ≡ x.seq = ap (λ w. w.seq) is ∙ same.0 in
+    let conn : z.conn ≡ x.conn = ap (λ w. w.conn) is ∙ same.1 in
+    let own : z.own ≡ x.own = ap (λ w. w.own) is ∙ same.2 in
+    subst (λ ys. AddsEntry old ys x) (sym e) record {
+      rising = rising-set j z y old (ap (λ w. w.seq) is) rising;
+      sums = λ r c.
+          let here : share r c (get_or old j z) ≡ share r c z = ap (share r c) (sym is) in
+          let one : share r c x ≡ amount (counts r c z) x.by = ap (λ b. amount b x.by) (sym (same_counts r c x z z seq conn own)) in
+          omega (arith, unseen-set r c j z y old inside, here, one, share_case (counts r c z) z.by x.by by sum);
+    }
+
+pub adds_none : (old : List Entry) (x : Entry) → IsRising old → x.by ≡ 0 → AddsEntry old old x
+adds_none old x rising e = record { rising = rising; sums = λ r c. omega (arith, none (counts r c x) x.by e) }
+  where
+    none : (b : Bool) (n : ℕ) → n ≡ 0 → amount b n ≡ 0
+    none true n h = h
+    none false n h = refl
+
+-- entries one after another
+pub added_none : (old more : List Entry) → IsRising old → AddsEntries old old (take 0 more)
+added_none old [] rising = record { rising = rising; sums = λ r c. omega arith }
+added_none old (x ∷ xs) rising = record { rising = rising; sums = λ r c. omega arith }
+
+unseen-take : (r c i : ℕ) (d : Entry) (xs : List Entry) → i < length xs → unseen r c (take (i + 1) xs) ≡ unseen r c (take i xs) + share r c (get_or xs i d)
+unseen-take r c i d xs h =
+    let up : i + 1 ≡ suc i = omega arith in
+    ap (λ n. unseen r c (take n xs)) up ∙ go i xs h
+  where
+    go : (i : ℕ) (ys : List Entry) → i < length ys → unseen r c (take (suc i) ys) ≡ unseen r c (take i ys) + share r c (get_or ys i d)
+    go i [] l = absurd (omega arith)
+    go zero (y ∷ ys) l = omega (arith, nothing ys)
+      where
+        nothing : (zs : List Entry) → unseen r c (take 0 zs) ≡ 0
+        nothing [] = refl
+        nothing (z ∷ zs) = refl
+    go (suc i) (y ∷ ys) l = omega (arith, go i ys (omega arith))
+
+pub added_more : (old now new more : List Entry) (i : ℕ) (d : Entry) → i < length more → AddsEntries old now (take i more) → AddsEntry now new (get_or more i d)
+    → AddsEntries old new (take (i + 1) more)
+added_more old now new more i d h before one = record {
+  rising = one.rising;
+  sums = λ r c. omega (arith, before.sums r c, one.sums r c, unseen-take r c i d more h);
+}
+
+-- entries up to the floor are dropped
+abbrev pub above : ℕ → List Entry → List Entry
+above floor xs = filter (λ x. not (nat_le x.seq floor)) xs
+
+from_case : (k floor : ℕ) (x : Entry) (xs : List Entry) (b : Bool) → k ≤ x.seq → AreFrom k xs → AreFrom k (cond b (x ∷ xs) xs)
+from_case k floor x xs true h a = (h, a)
+from_case k floor x xs false h a = a
+
+from_above : (k floor : ℕ) (xs : List Entry) → AreFrom k xs → AreFrom k (above floor xs)
+from_above k floor [] a = tt
+from_above k floor (x ∷ xs) a = from_case k floor x (above floor xs) (not (nat_le x.seq floor)) a.0 (from_above k floor xs a.1)
+
+up_to_case : (k : ℕ) (x : Entry) (xs : List Entry) (b : Bool) → x.seq ≤ k → AreUpTo k xs → AreUpTo k (cond b (x ∷ xs) xs)
+up_to_case k x xs true h a = (h, a)
+up_to_case k x xs false h a = a
+
+up_to_above : (k floor : ℕ) (xs : List Entry) → AreUpTo k xs → AreUpTo k (above floor xs)
+up_to_above k floor [] a = tt
+up_to_above k floor (x ∷ xs) a = up_to_case k x (above floor xs) (not (nat_le x.seq floor)) a.0 (up_to_above k floor xs a.1)
+
+rising_case : (x : Entry) (xs : List Entry) (b : Bool) → AreFrom x.seq xs → IsRising xs → IsRising (cond b (x ∷ xs) xs)
+rising_case x xs true a r = (a, r)
+rising_case x xs false a r = r
+
+rising-above : (floor : ℕ) (xs : List Entry) → IsRising xs → IsRising (above floor xs)
+rising-above floor [] r = tt
+rising-above floor (x ∷ xs) r = rising_case x (above floor xs) (not (nat_le x.seq floor)) (from_above x.seq floor xs r.0) (rising-above floor xs r.1)
+
+unseen_case : (r c floor : ℕ) (x : Entry) (xs : List Entry) (b : Bool) → floor ≤ r → nat_le x.seq floor ≡ b → unseen r c (cond (not b) (x ∷ xs) xs) ≡ share r c x + unseen r c xs
+unseen_case r c floor x xs true h e =
+    let seen : nat_le x.seq r ≡ true = grind (arith, nat_tests) in
+    omega (arith, ap (λ b. amount (not b && is_for c x) x.by) seen)
+unseen_case r c floor x xs false h e = refl
+
+unseen-above : (r c floor : ℕ) (xs : List Entry) → floor ≤ r → unseen r c (above floor xs) ≡ unseen r c xs
+unseen-above r c floor [] h = refl
+unseen-above r c floor (x ∷ xs) h =
+    unseen_case r c floor x (above floor xs) (nat_le x.seq floor) h refl ∙ ap (λ n. share r c x + n) (unseen-above r c floor xs h)
+
+pub drops_old : (old new : List Entry) (floor : ℕ) → IsRising old → new ≡ above floor old → DropsOld old new floor
+drops_old old new floor rising e =
+    subst (λ ys. DropsOld old ys floor) (sym e) record {
+      rising = rising-above floor old rising;
+      up_to = λ k a. up_to_above k floor old a;
+      sums = λ r c h. unseen-above r c floor old h;
+    }
+
+-- a list without entries
+pub unseen_clear : (r c : ℕ) (xs : List Entry) → xs ≡ [] → unseen r c xs ≡ 0
+unseen_clear r c xs e = ap (unseen r c) e

@@ -1,0 +1,6 @@
+use Rattle.std.proofs.Common.{refl}
+use Rattle.ft_partial.proofs.EntryLemmas.{adds_at}
+use Rattle.ft_partial.proofs.entries.add_at.Goals as goal
+
+pub returns-clause-adds : goal.returns-clause-adds
+returns-clause-adds c = adds_at c.args.entries.now.items _ c.args.j c.args.x c.index-sum.result.now _ c.requires.rising c.requires.inside c.requires.alike c.index-sum.ensures refl refl

@@ -1,0 +1,9 @@
+use Rattle.std.proofs.lemmas.Result.{on_ok_weaker}
+use Rattle.ft_partial.proofs.ItemLemmas.{adds_but}
+use Rattle.ft_partial.proofs.items.push_but.Goals as goal
+
+pub returns : goal.returns
+returns c =
+    on_ok_weaker c.take_own.result
+    (adds_but c.args.floor c.args.entries.now.items c.push.new.self.items c.take_own.new.entries.items c.args.seq c.args.by c.args.conn c.args.stamps.now c.in_ok-push.ensures.items)
+    c.take_own.ensures

@@ -1,0 +1,169 @@
+//! Entries: what those count besides who haven't seen a sequence number yet.
+//!
+//! They stand by rising number, so that what is new to a perspective is read from the end back.
+
+ghost use Rattle.std.specs.Prelude.{◌≡◌, ◌+◌, ◌≤◌, ◌<◌, ◌%◌, ◌^◌, true, IfSome, length, insert, vec_len, vec_capacity};
+ghost use Rattle.ft_partial.specs.Entries.{counts, share, unseen, AreUpTo, IsRising, IsPlace, IsAlikeAt, AddsEntry, AddsEntries, DropsOld};
+
+use ft_base::Perspective;
+
+/// What is counted besides by those who haven't seen the sequence number `seq`: by all but connection
+/// `conn`, or where `own` is set by that connection alone. `by` is a number round 2^64.
+#[derive(Clone, Copy)]
+pub struct Entry {
+    pub seq: u64,
+    pub conn: u32,
+    pub own: bool,
+    pub by: u64,
+}
+
+/// Whether the entry counts for the perspective.
+fn counts(x: &Entry, at: Perspective) -> bool
+    ensures { result ≡ counts at.r at.c x.now }
+{
+    if x.seq <= at.r {
+        return false;
+    }
+    if x.own {
+        x.conn == at.c
+    } else {
+        x.conn != at.c
+    }
+}
+
+/// What the perspective counts of the entry.
+fn share(x: &Entry, at: Perspective) -> u64
+    ensures { result ≡ share at.r at.c x.now }
+{
+    if counts(x, at) { x.by } else { 0 }
+}
+
+/// What the perspective counts of the entries: it looks at those that are new to it alone.
+pub fn unseen(entries: &[Entry], at: Perspective) -> u64
+    requires { IsRising entries.now }
+    ensures { result ≡ unseen at.r at.c entries.now % 2 ^ 64 }
+{
+    let mut sum: u64 = 0;
+    let mut i = entries.len();
+    while i > 0 && entries[i - 1].seq > at.r {
+        i -= 1;
+        sum = sum.wrapping_add(share(&entries[i], at));
+    }
+    sum
+}
+
+/// The number of the last entry, or 0 where there is none.
+pub fn newest(entries: &[Entry]) -> u64
+    requires { IsRising entries.now }
+    ensures { AreUpTo result entries.now }
+{
+    let len = entries.len();
+    if len == 0 { 0 } else { entries[len - 1].seq }
+}
+
+/// Where an entry with this number may stand, behind those with the same number: it looks back from the end.
+fn place_of(entries: &[Entry], seq: u64) -> usize
+    requires { IsRising entries.now }
+    ensures { IsPlace entries.now seq result }
+{
+    let mut i = entries.len();
+    while i > 0 && entries[i - 1].seq > seq {
+        i -= 1;
+    }
+    i
+}
+
+/// Whether both entries have one number and are for the same connections.
+fn is_alike(x: &Entry, y: &Entry) -> bool
+    ensures number { result ≡ true → x.now.seq ≡ y.now.seq }
+    ensures conn { result ≡ true → x.now.conn ≡ y.now.conn }
+    ensures own { result ≡ true → x.now.own ≡ y.now.own }
+{
+    x.seq == y.seq && x.conn == y.conn && x.own == y.own
+}
+
+/// The entry with the number of `x`, and for the same connections, looked for from the `end`-th back.
+fn place_of_alike(entries: &[Entry], end: usize, x: &Entry) -> Option<usize>
+    requires { end ≤ length entries.now }
+    ensures inside { IfSome result (λ j. j < length entries.now) }
+    ensures alike { IfSome result (λ j. IsAlikeAt entries.now j x.now) }
+{
+    let mut j = end;
+    while j > 0 && entries[j - 1].seq == x.seq {
+        j -= 1;
+        if is_alike(&entries[j], x) {
+            return Some(j);
+        }
+    }
+    None
+}
+
+/// Puts an entry in, for which there is room.
+fn put(entries: &mut Vec<Entry>, i: usize, x: Entry)
+    requires inside { i ≤ vec_len entries.old }
+    requires room { vec_len entries.old < vec_capacity entries.old }
+    ensures items { entries.new.items ≡ insert entries.old.items i x }
+    ensures len { vec_len entries.new ≡ vec_len entries.old + 1 }
+    ensures capacity { vec_capacity entries.old ≤ vec_capacity entries.new }
+{
+    // An entry at the end, where those of new messages go, moves no other.
+    if i == entries.len() {
+        entries.push_reserved(x);
+        return;
+    }
+    match entries.insert(i, x) {
+        Ok(()) => {}
+        Err(_) => unreachable!(),
+    }
+}
+
+/// Adds an entry, for which there is room, to the one that is for the same, or puts it in.
+fn add_entry(entries: &mut Vec<Entry>, x: Entry)
+    requires rising { IsRising entries.old.items }
+    requires room { vec_len entries.old < vec_capacity entries.old }
+    ensures adds { AddsEntry entries.old.items entries.new.items x }
+    ensures len { vec_len entries.new ≤ vec_len entries.old + 1 }
+    ensures capacity { vec_capacity entries.old ≤ vec_capacity entries.new }
+{
+    if x.by == 0 {
+        return;
+    }
+    let i = place_of(entries.as_slice(), x.seq);
+    match place_of_alike(entries.as_slice(), i, &x) {
+        Some(j) => add_at(entries, j, x),
+        None => put(entries, i, x),
+    }
+}
+
+/// Adds an entry to the j-th, which is for the same.
+fn add_at(entries: &mut Vec<Entry>, j: usize, x: Entry)
+    requires rising { IsRising entries.old.items }
+    requires inside { j < length entries.old.items }
+    requires alike { IsAlikeAt entries.old.items j x }
+    ensures adds { AddsEntry entries.old.items entries.new.items x }
+    ensures len { vec_len entries.new ≡ vec_len entries.old }
+    ensures capacity { vec_capacity entries.old ≤ vec_capacity entries.new }
+{
+    let mut sum = entries[j];
+    sum.by = sum.by.wrapping_add(x.by);
+    entries[j] = sum;
+}
+
+/// Adds entries, for which there is room, in any order.
+pub fn add_entries(entries: &mut Vec<Entry>, more: &[Entry])
+    requires rising { IsRising entries.old.items }
+    requires room { vec_len entries.old + length more.now ≤ vec_capacity entries.old }
+    ensures { AddsEntries entries.old.items entries.new.items more.now }
+{
+    for i in 0..more.len() {
+        add_entry(entries, more[i]);
+    }
+}
+
+/// Takes out the entries up to the floor, which nobody counts from there on.
+pub fn drop_old(entries: &mut Vec<Entry>, floor: u64)
+    requires { IsRising entries.old.items }
+    ensures { DropsOld entries.old.items entries.new.items floor }
+{
+    entries.retain(|x| x.seq > floor);
+}
