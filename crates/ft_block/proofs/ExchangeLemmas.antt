@@ -7,7 +7,7 @@ use Rattle.ft_arena.specs.declared.nodes.Node.{Node}
 use Rattle.ft_arena.specs.declared.nodes.Node.TheVariants.{Leaf, Block}
 use Rattle.ft_arena.proofs.IdLemmas.{same_other}
 use Rattle.std.proofs.lemmas.Bool.{cases_eq}
-use Rattle.ft_partial.specs.StepFunctions.{amount}
+use Rattle.ft_partial.specs.Entries.{amount}
 use Rattle.ft_shape.specs.declared.headed.Headed.{Headed}
 use Rattle.ft_block.specs.declared.summaries.Summary.{Summary}
 use Rattle.ft_block.specs.declared.leaves.View.{View}

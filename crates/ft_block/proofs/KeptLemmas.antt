@@ -5,7 +5,7 @@ use Rattle.ft_base.specs.declared.elements.Element.{Element}
 use Rattle.ft_arena.specs.declared.nodes.Node.{Node}
 use Rattle.ft_arena.specs.declared.nodes.Node.TheVariants.{Leaf, Block}
 use Rattle.ft_arena.specs.Forest.{Forest, Changes, entry, block_value, block_of_entry}
-use Rattle.ft_partial.specs.StepFunctions.{amount}
+use Rattle.ft_partial.specs.Entries.{amount}
 use Rattle.ft_partial.specs.Tables.{Lengths, length_at, SameFrom, Exchanges}
 use Rattle.ft_shape.specs.declared.headed.Headed.{Headed}
 use Rattle.ft_block.specs.declared.summaries.Summary.{Summary}
@@ -13,7 +13,7 @@ use Rattle.ft_block.specs.declared.leaves.View.{View}
 use Rattle.ft_block.specs.declared.leaves.View.TheVariants.{Of, Pending, Removed}
 use Rattle.ft_block.specs.declared.leaves.LenView.TheVariants.{At, Stage, All}
 use Rattle.ft_block.specs.Leaves.{last_stage}
-use Rattle.ft_block.specs.Tree.{shows, shown_length, AreFromFloor, IsNodeFrom, kept_length, HasRange, KeepsExchange, KeepsNode}
+use Rattle.ft_block.specs.Tree.{shows, shown_length, AreFromFloor, IsNodeFrom, kept_length, HasRange, KeepsLengths, KeepsNothing, KeepsExchange, IsChange, KeepsSum, KeepsNode}
 
 exchanged_local : (local gone come : ℕ) → gone < 2 ^ 64
     → ((((local + (18446744073709551616 - gone)) % 18446744073709551616) + come) % 18446744073709551616 + gone) % 2 ^ 64 ≡ (local + come) % 2 ^ 64
@@ -49,6 +49,28 @@ exchange_keeps floor old mid new gone come settled pending cleared removed n m e
 exchange_keeps floor old mid new gone come settled pending cleared removed n m e f few l sl cl g k gs ks gr kr same from ex Removed h =
     ap (λ (x : ℕ). ((((old.removed + (18446744073709551616 - cleared)) % 18446744073709551616) + removed) % 18446744073709551616 + x) % 2 ^ 64) (sym gr)
     ∙ exchanged_local old.removed cleared removed cl ∙ ap (λ (x : ℕ). (old.removed + x) % 2 ^ 64) kr
+
+-- a change is put in
+pub exchanged : (new old change more less : ℕ) → new ≡ (old + change) % 2 ^ 64 → (change + less) % 2 ^ 64 ≡ more % 2 ^ 64 → (new + less) % 2 ^ 64 ≡ (old + more) % 2 ^ 64
+exchanged new old change more less e is = omega arith
+
+-- a change is what an exchange makes of nothing
+pub change_is : (floor : ℕ) (nothing change : Summary) (e f : Element) (n m : ℕ) → KeepsNothing floor nothing → KeepsExchange floor nothing change e n f m → IsChange floor change e n f m
+change_is floor nothing change e f n m none ex view kept =
+    ex view kept ∙ ap (λ (x : ℕ). (x + amount (shows view f) m) % 2 ^ 64) (none view kept) ∙ omega arith
+
+-- what is added where the floor was raised before
+pub sum_raised : (floor : ℕ) (old mid other new : Summary) → mid.whole ≡ old.whole → mid.local ≡ old.local → mid.pending ≡ old.pending → mid.removed ≡ old.removed
+    → SameFrom floor old.table mid.table → KeepsSum floor mid other new → KeepsSum floor old other new
+sum_raised floor old mid other new whole local pending removed same sum view kept =
+    sum view kept ∙ ap (λ (x : ℕ). (x + kept_length view other) % 2 ^ 64) (raised view kept)
+  where
+    raised : (view : View) → KeepsLengths floor view → kept_length view mid ≡ kept_length view old
+    raised (Of (At at)) (low, high, conn) = same at.r at.c low high conn
+    raised (Of (Stage k)) h = local
+    raised (Of All) h = whole
+    raised Pending h = pending
+    raised Removed h = removed
 
 small : (x : ℕ) → x < 2 ^ 64 → x % 2 ^ 64 ≡ x
 small x h = omega arith

@@ -22,7 +22,7 @@ use Rattle.ft_block.specs.Leaves.{last_stage}
 use Rattle.ft_shape.specs.Tree.{total, seek, up_to, length_of, length_of_entry, length_of_node}
 use Rattle.ft_block.specs.Tree.{is_pending, has_pending, by_view, by_size}
 use Rattle.ft_shape.proofs.Lists.{seek_here, seek_later, seek_found}
-use Rattle.ft_partial.specs.StepFunctions.{amount}
+use Rattle.ft_partial.specs.Entries.{amount}
 use Rattle.ft_shape.proofs.EditLemmas.{some_of}
 use Rattle.ft_block.proofs.ExchangeLemmas.{none_gone}
 use Rattle.ft_shape.proofs.FitLemmas.{leaves_live, leaf_length}

@@ -11,7 +11,7 @@ use Rattle.ft_shape.specs.declared.headed.Headed.{Headed}
 use Rattle.ft_shape.specs.Tree.{Measure, length_of, length_of_node, SumsBut, OwesAt, OwesAbove}
 use Rattle.ft_block.specs.declared.summaries.Summary.{Summary}
 use Rattle.ft_block.specs.declared.leaves.LenView.TheVariants.{At, Stage, All}
-use Rattle.ft_partial.specs.StepFunctions.{amount}
+use Rattle.ft_partial.specs.Entries.{amount}
 use Rattle.ft_partial.specs.Tables.{length_at}
 use Rattle.ft_block.specs.declared.leaves.View.{View}
 use Rattle.ft_block.specs.declared.leaves.View.TheVariants.{Of, Pending, Removed}
@@ -68,6 +68,11 @@ KeepsNothing floor v = (view : View) → KeepsLengths floor view → kept_length
 abbrev pub KeepsExchange : ℕ → Summary → Summary → Element → ℕ → Element → ℕ → Type 0
 KeepsExchange floor old new e n f m = (view : View) → KeepsLengths floor view
     → (kept_length view new + amount (shows view e) n) % 2 ^ 64 ≡ (kept_length view old + amount (shows view f) m) % 2 ^ 64
+
+-- in each view the change counts m elements f less n elements e
+abbrev pub IsChange : ℕ → Summary → Element → ℕ → Element → ℕ → Type 0
+IsChange floor change e n f m = (view : View) → KeepsLengths floor view
+    → (kept_length view change + amount (shows view e) n) % 2 ^ 64 ≡ amount (shows view f) m % 2 ^ 64
 
 -- each view sees what it sees of both
 abbrev pub KeepsSum : ℕ → Summary → Summary → Summary → Type 0

@@ -3,7 +3,7 @@
 ghost use Rattle.std.specs.Prelude.{◌≡◌, ℕ, ◌+◌, ◌<◌, ◌≤◌, Bool, IsTrue, IfOk, IfErr, OnOk, OnErr, MatchOption};
 ghost use Rattle.std.specs.List.{list_any};
 ghost use Rattle.ft_base.specs.declared.elements.Element.{Element};
-ghost use Rattle.ft_partial.specs.StepFunctions.{amount};
+ghost use Rattle.ft_partial.specs.Entries.{amount};
 ghost use Rattle.ft_block.specs.Leaves.{sees_in, is_removed, IsFromFloor};
 ghost use Rattle.ft_block.specs.Tree.{KeepsLengths, is_pending, has_pending, shows, shown_length};
 ghost use Rattle.ft_block.specs.declared.leaves.LenView.TheVariants.{Stage};

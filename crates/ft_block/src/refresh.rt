@@ -12,7 +12,6 @@ use crate::leaves::Leaf;
 use crate::summaries::{Summary, add_node};
 use ft_arena::{Arena, Kids, Node, NodeId};
 use ft_base::{Element, OutOfMemory, Steps};
-use ft_partial::stamps_of;
 use ft_shape::Headed;
 use std::alloc::Global;
 use std::sync::ledger::Ledger;
@@ -91,14 +90,11 @@ pub(crate) fn exchange_up<L: Leaf>(
     ensures floors { OnOk result (AreFromFloor floor arena.new) }
     ensures sums { OnOk result (SumsKeptBut L.size L.element floor arena.new None) }
 {
-    let stamps = stamps_of(e, new, floor)?;
-    let given = stamps.as_slice();
+    let change = Summary::of_change(floor, e, len, new, new_len)?;
+    let given = &change;
     let mut stale = stale;
     'up: while let Some(block) = stale {
-        arena
-            .block_mut(block)
-            .sum
-            .exchange(floor, given, e, len, new, new_len)?;
+        arena.block_mut(block).sum.fold_and_add(floor, given)?;
         stale = arena.parent(block);
     }
     Ok(())

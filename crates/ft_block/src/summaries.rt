@@ -1,13 +1,12 @@
 //! What a block keeps of the leaves below it.
 
-ghost use Rattle.std.specs.Prelude.{◌≡◌, ◌≤◌, ◌<◌, OnOk};
-ghost use Rattle.ft_partial.specs.Rows.{Covers};
-ghost use Rattle.ft_block.specs.Tree.{IsFrom, kept_length, KeepsNothing, KeepsExchange, KeepsSum, KeepsNode, IsNodeFrom, HasRange};
+ghost use Rattle.std.specs.Prelude.{◌≡◌, ◌≤◌, ◌<◌, IfOk, OnOk};
+ghost use Rattle.ft_block.specs.Tree.{IsFrom, kept_length, KeepsNothing, KeepsExchange, IsChange, KeepsSum, KeepsNode, IsNodeFrom, HasRange};
 
 use crate::leaves::{Leaf, LenView, View, shown_in};
 use ft_arena::Node;
-use ft_base::{Element, OutOfMemory, Stamp};
-use ft_partial::{Table, stamps_of};
+use ft_base::{Element, OutOfMemory};
+use ft_partial::Table;
 use ft_shape::Headed;
 use std::alloc::Global;
 
@@ -53,20 +52,33 @@ impl Summary {
         }
     }
 
-    // Takes `len` elements of the stamps `e` out, and puts `new_len` of the stamps `new` in. The given
-    // stamps are those of both, as `stamps_of` answers them.
+    // What is kept of `new_len` elements of the stamps `new` less what is kept of `len` of the stamps `e`,
+    // round 2^64: made once, it is added in each block above a leaf that changes.
+    pub(crate) fn of_change(
+        floor: u64,
+        e: &Element,
+        len: u64,
+        new: &Element,
+        new_len: u64,
+    ) -> Result<Summary, OutOfMemory>
+        ensures floor { IfOk result (λ change. change.table.floor ≡ floor) }
+        ensures change { IfOk result (λ change. IsChange floor change e.now len new.now new_len) }
+    {
+        let mut change = Summary::new(e.dels.allocator(), floor);
+        change.exchange(floor, e, len, new, new_len)?;
+        Ok(change)
+    }
+
+    // Takes `len` elements of the stamps `e` out, and puts `new_len` of the stamps `new` in.
     pub(crate) fn exchange(
         &mut self,
         floor: u64,
-        stamps: &[Stamp],
         e: &Element,
         len: u64,
         new: &Element,
         new_len: u64,
     ) -> Result<(), OutOfMemory>
-        requires floor { self.old.table.floor ≤ floor }
-        requires old { Covers floor stamps.now e.now }
-        requires new { Covers floor stamps.now new.now }
+        requires { self.old.table.floor ≤ floor }
         ensures floor { self.new.table.floor ≡ floor }
         ensures low { HasRange self.new }
         ensures exchanges { OnOk result (KeepsExchange floor self.old self.new e.now len new.now new_len) }
@@ -83,7 +95,19 @@ impl Summary {
         self.pending = self.pending.wrapping_sub(settled).wrapping_add(pending);
         self.removed = self.removed.wrapping_sub(cleared).wrapping_add(removed);
         self.table.fold_to(floor);
-        self.table.exchange(stamps, e, len, new, new_len)
+        self.table.replace(e, len, new, new_len)
+    }
+
+    // Raises the floor, and puts in what another block keeps.
+    pub(crate) fn fold_and_add(&mut self, floor: u64, other: &Summary) -> Result<(), OutOfMemory>
+        requires floor { self.old.table.floor ≤ floor }
+        requires other { other.now.table.floor ≤ floor }
+        ensures floor { self.new.table.floor ≡ floor }
+        ensures low { HasRange self.new }
+        ensures sum { OnOk result (KeepsSum floor self.old other.now self.new) }
+    {
+        self.table.fold_to(floor);
+        self.add_all(floor, other)
     }
 
     // Puts in what another block keeps.
@@ -117,8 +141,7 @@ pub(crate) fn add_node<L: Leaf>(
     match node {
         Node::Leaf { value } => {
             let e = value.element();
-            let stamps = stamps_of(e, e, floor)?;
-            sum.exchange(floor, stamps.as_slice(), e, 0, e, value.len())
+            sum.exchange(floor, e, 0, e, value.len())
         }
         Node::Block { value, .. } => sum.add_all(floor, &value.sum),
     }

@@ -1,5 +1,5 @@
 -- What an element adds to the entries.
-use Rattle.std.proofs.Common.{◌≡◌, ℕ, zero, suc, ◌+◌, ◌-◌, ◌<◌, ◌≤◌, ◌%◌, ◌^◌, Bool, true, false, cond, not, ◌&&◌, ◌||◌, nat_le, nat_eq, min, List, [], ◌∷◌, ◌++◌, take, get_or, length}
+use Rattle.std.proofs.Common.{◌≡◌, ℕ, zero, suc, ◌+◌, ◌-◌, ◌<◌, ◌≤◌, ◌%◌, ◌^◌, Bool, true, false, not, ◌&&◌, ◌||◌, nat_le, nat_eq, min, List, [], ◌∷◌, ◌++◌, take, get_or, length}
 use Rattle.std.proofs.Common.{Option, Some, None, refl, sym, ◌∙◌, ap, subst, arith}
 use Rattle.std.specs.List.{list_any}
 use Rattle.std.proofs.lemmas.Bool.Decides.{nat_tests}
@@ -7,10 +7,10 @@ use Rattle.std.proofs.lemmas.Grind.{common_steps}
 use Rattle.ft_base.specs.declared.stamps.Stamp.{Stamp}
 use Rattle.ft_base.specs.declared.stamps.Stamp.TheVariants.{Acked, Local}
 use Rattle.ft_base.specs.declared.elements.Element.{Element}
-use Rattle.ft_base.specs.Visibility.{has_occurred, is_acked, is_present, sees}
+use Rattle.ft_base.specs.Visibility.{has_occurred, is_acked, sees}
 use Rattle.ft_partial.specs.declared.entries.Entry.{Entry}
 use Rattle.ft_partial.specs.declared.items.Removal.{Removal}
-use Rattle.ft_partial.specs.Entries.{amount, is_for, counts, share, unseen}
+use Rattle.ft_partial.specs.Entries.{amount, unseen}
 use Rattle.ft_partial.specs.Elements.{stamp_number, first_removal, is_stamp_by, IsFirst, last_length, is_other, AddsBut, TakesOwn, TakesOne, AddsItem}
 use Rattle.ft_partial.proofs.EntryLemmas.{unseen-append}
 

@@ -2,7 +2,7 @@ use Rattle.std.proofs.Common.{◌≡◌, ℕ, List, ap, sym, ◌∙◌, arith}
 use Rattle.ft_arena.specs.Ids.{insert_after}
 use Rattle.ft_block.specs.Tree.{by_view, by_size}
 use Rattle.ft_shape.proofs.EditLemmas.{after_is_edit}
-use Rattle.ft_partial.specs.StepFunctions.{amount}
+use Rattle.ft_partial.specs.Entries.{amount}
 use Rattle.ft_block.specs.Tree.{shows}
 use Rattle.ft_shape.proofs.FitLemmas.{leaf_total}
 use Rattle.ft_block.proofs.ExchangeLemmas.{tree_part, comes}

@@ -6,7 +6,7 @@ use Rattle.ft_shape.specs.Tree.{insert_before, height_of}
 use Rattle.ft_block.specs.Tree.{by_view, by_size}
 use Rattle.ft_shape.proofs.EditLemmas.{before_is_edit, front_is}
 use Rattle.ft_shape.proofs.Levels.{some_leaf}
-use Rattle.ft_partial.specs.StepFunctions.{amount}
+use Rattle.ft_partial.specs.Entries.{amount}
 use Rattle.ft_block.specs.Tree.{shows}
 use Rattle.ft_shape.proofs.FitLemmas.{leaf_total, leaves_live}
 use Rattle.ft_block.proofs.ExchangeLemmas.{tree_part, comes}

@@ -2,7 +2,7 @@ use Rattle.std.proofs.Common.{◌≡◌, ◌≢◌, ◌∷◌, ℕ, List, Option
 use Rattle.ft_arena.specs.Ids.{times, insert_after, put_after, without, first, after}
 use Rattle.ft_arena.specs.Forest.{Forest, IsPlace, leaf_value, parent_of}
 use Rattle.ft_arena.proofs.IdLemmas.{times-without_same}
-use Rattle.ft_partial.specs.StepFunctions.{amount}
+use Rattle.ft_partial.specs.Entries.{amount}
 use Rattle.ft_shape.specs.declared.headed.Headed.{Headed}
 use Rattle.ft_block.specs.declared.summaries.Summary.{Summary}
 use Rattle.ft_block.specs.Tree.{shows}

@@ -1,21 +1,14 @@
 use Rattle.std.proofs.Common.{subst, sym}
 use Rattle.std.proofs.lemmas.Result.{on_ok_weaker}
 use Rattle.ft_arena.specs.declared.nodes.Node.{Node}
-use Rattle.ft_partial.specs.Rows.{Covers}
 use Rattle.ft_shape.specs.declared.headed.Headed.{Headed}
 use Rattle.ft_block.specs.Tree.{KeepsNode}
 use Rattle.ft_block.specs.declared.summaries.Summary.{Summary}
 use Rattle.ft_block.proofs.KeptLemmas.{exchange_adds}
 use Rattle.ft_block.proofs.summaries.add_node.Goals as goal
 
-pub returns-in_ok-stamps-in-Leaf-clause-sum : goal.returns-in_ok-stamps-in-Leaf-clause-sum
-returns-in_ok-stamps-in-Leaf-clause-sum g c =
+pub returns-in-Leaf-clause-sum : goal.returns-in-Leaf-clause-sum
+returns-in-Leaf-clause-sum g c =
     on_ok_weaker c.exchange.result (λ ex. subst (λ (n : Node g.row.L.Denot (Headed Summary)). KeepsNode g.L.Leaf.size g.L.Leaf.element c.args.floor c.args.sum.now n
     c.exchange.new.self) (sym c.in-Leaf.is) (exchange_adds g.L.Leaf.size g.L.Leaf.element c.args.floor c.args.sum.now c.exchange.new.self c.in-Leaf.value
     c.element-e.result.now c.len.result c.element-e.ensures c.len.ensures.value c.exchange.ensures.low ex)) c.exchange.ensures.exchanges
-
-pub exchange-requires-clause-old : goal.exchange-requires-clause-old
-exchange-requires-clause-old g c = subst (λ zs. Covers c.args.floor zs c.element-e.result.now) (sym c.as_slice.ensures) c.in_ok-stamps-in-Leaf.ensures.old
-
-pub exchange-requires-clause-new : goal.exchange-requires-clause-new
-exchange-requires-clause-new g c = subst (λ zs. Covers c.args.floor zs c.element-e.result.now) (sym c.as_slice.ensures) c.in_ok-stamps-in-Leaf.ensures.new

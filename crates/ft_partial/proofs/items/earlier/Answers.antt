@@ -1,4 +1,4 @@
-use Rattle.std.proofs.Common.{Some, sym, subst, ◌∙◌, arith}
+use Rattle.std.proofs.Common.{subst, arith}
 use Rattle.ft_partial.specs.Elements.{IsFirst}
 use Rattle.ft_partial.proofs.ItemLemmas.{first_pending, first_sequenced, first_kept, number-none}
 use Rattle.ft_partial.proofs.items.earlier.Goals as goal

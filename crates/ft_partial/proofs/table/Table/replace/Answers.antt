@@ -1,4 +1,4 @@
-use Rattle.std.proofs.Common.{List, ◌+◌, ◌-◌, ◌%◌, ap, subst, sym, arith}
+use Rattle.std.proofs.Common.{List, ◌+◌, ◌-◌, ◌%◌, ap, subst, arith}
 use Rattle.std.proofs.lemmas.Result.{on_ok_weaker}
 use Rattle.ft_partial.specs.declared.entries.Entry.{Entry}
 use Rattle.ft_partial.specs.Tables.{AddsChange}
