@@ -53,10 +53,30 @@ up_to_before k i d xs r some h l =
     let up : suc (i - 1) ≡ i = omega arith in
     subst (λ n. AreUpTo k (take n xs)) up (up_to_take k (i - 1) d xs r (omega arith) l)
 
+pub up_to_past : (k i : ℕ) (d : Entry) (xs : List Entry) → IsRising xs → i < length xs → (get_or xs i d).seq ≤ k → AreUpTo k (take (i + 1) xs)
+up_to_past k i d xs r h l =
+    let up : suc i ≡ i + 1 = omega arith in
+    subst (λ n. AreUpTo k (take n xs)) up (up_to_take k i d xs r h l)
+
+pub from_none : (k : ℕ) (xs : List Entry) → AreFrom k (drop (length xs) xs)
+from_none k xs = subst (AreFrom k) (sym (drop_all xs (length xs) (omega arith))) tt
+
+pub up_to_none : (k : ℕ) (xs : List Entry) → AreUpTo k (take 0 xs)
+up_to_none k [] = tt
+up_to_none k (x ∷ xs) = tt
+
 pub up_to_last : (d : Entry) (xs : List Entry) → IsRising xs → length xs ≢ 0 → AreUpTo (get_or xs (length xs - 1) d).seq xs
 up_to_last d xs r some =
     let k : ℕ = (get_or xs (length xs - 1) d).seq in
     subst (AreUpTo k) (take_all xs (length xs) (omega arith)) (up_to_before k (length xs) d xs r (omega arith) (omega arith) (omega arith))
+
+from_drop : (k i : ℕ) (d : Entry) (xs : List Entry) → IsRising xs → i < length xs → k ≤ (get_or xs i d).seq → AreFrom k (drop i xs)
+from_drop k i d [] r h l = absurd (omega arith)
+from_drop k zero d (x ∷ xs) r h l = (l, from_weaker k x.seq xs l r.0)
+from_drop k (suc i) d (x ∷ xs) r h l = from_drop k i d xs r.1 (omega arith) l
+
+pub from_past : (k i : ℕ) (d : Entry) (xs : List Entry) → IsRising xs → i < length xs → k < (get_or xs i d).seq → AreFrom k (drop i xs)
+from_past k i d xs r h l = from_drop k i d xs r h (omega arith)
 
 -- nobody who has seen the number k counts entries up to it
 pub unseen_none : (r c : ℕ) (xs : List Entry) → AreUpTo r xs → unseen r c xs ≡ 0
@@ -193,9 +213,12 @@ added_more old now new more i d h before one = record {
   sums = λ r c. omega (arith, before.sums r c, one.sums r c, unseen-take r c i d more h);
 }
 
--- entries up to the floor are dropped
+-- entries up to the floor, and those of nothing, are dropped
+abbrev pub is_above : ℕ → Entry → Bool
+is_above floor x = not (nat_le x.seq floor) && not (nat_eq x.by 0)
+
 abbrev pub above : ℕ → List Entry → List Entry
-above floor xs = filter (λ x. not (nat_le x.seq floor)) xs
+above floor xs = filter (is_above floor) xs
 
 from_case : (k floor : ℕ) (x : Entry) (xs : List Entry) (b : Bool) → k ≤ x.seq → AreFrom k xs → AreFrom k (cond b (x ∷ xs) xs)
 from_case k floor x xs true h a = (h, a)
@@ -203,7 +226,7 @@ from_case k floor x xs false h a = a
 
 from_above : (k floor : ℕ) (xs : List Entry) → AreFrom k xs → AreFrom k (above floor xs)
 from_above k floor [] a = tt
-from_above k floor (x ∷ xs) a = from_case k floor x (above floor xs) (not (nat_le x.seq floor)) a.0 (from_above k floor xs a.1)
+from_above k floor (x ∷ xs) a = from_case k floor x (above floor xs) (is_above floor x) a.0 (from_above k floor xs a.1)
 
 up_to_case : (k : ℕ) (x : Entry) (xs : List Entry) (b : Bool) → x.seq ≤ k → AreUpTo k xs → AreUpTo k (cond b (x ∷ xs) xs)
 up_to_case k x xs true h a = (h, a)
@@ -211,7 +234,7 @@ up_to_case k x xs false h a = a
 
 up_to_above : (k floor : ℕ) (xs : List Entry) → AreUpTo k xs → AreUpTo k (above floor xs)
 up_to_above k floor [] a = tt
-up_to_above k floor (x ∷ xs) a = up_to_case k x (above floor xs) (not (nat_le x.seq floor)) a.0 (up_to_above k floor xs a.1)
+up_to_above k floor (x ∷ xs) a = up_to_case k x (above floor xs) (is_above floor x) a.0 (up_to_above k floor xs a.1)
 
 rising_case : (x : Entry) (xs : List Entry) (b : Bool) → AreFrom x.seq xs → IsRising xs → IsRising (cond b (x ∷ xs) xs)
 rising_case x xs true a r = (a, r)
@@ -219,18 +242,24 @@ rising_case x xs false a r = r
 
 rising-above : (floor : ℕ) (xs : List Entry) → IsRising xs → IsRising (above floor xs)
 rising-above floor [] r = tt
-rising-above floor (x ∷ xs) r = rising_case x (above floor xs) (not (nat_le x.seq floor)) (from_above x.seq floor xs r.0) (rising-above floor xs r.1)
+rising-above floor (x ∷ xs) r = rising_case x (above floor xs) (is_above floor x) (from_above x.seq floor xs r.0) (rising-above floor xs r.1)
 
-unseen_case : (r c floor : ℕ) (x : Entry) (xs : List Entry) (b : Bool) → floor ≤ r → nat_le x.seq floor ≡ b → unseen r c (cond (not b) (x ∷ xs) xs) ≡ share r c x + unseen r c xs
-unseen_case r c floor x xs true h e =
+nothing_counted : (b : Bool) (n : ℕ) → nat_eq n 0 ≡ true → amount b n ≡ 0
+nothing_counted true n e = grind (arith, nat_tests)
+nothing_counted false n e = refl
+
+unseen_case : (r c floor : ℕ) (x : Entry) (xs : List Entry) (a b : Bool) → floor ≤ r → nat_le x.seq floor ≡ a → nat_eq x.by 0 ≡ b
+    → unseen r c (cond (not a && not b) (x ∷ xs) xs) ≡ share r c x + unseen r c xs
+unseen_case r c floor x xs true b h ea eb =
     let seen : nat_le x.seq r ≡ true = grind (arith, nat_tests) in
     omega (arith, ap (λ b. amount (not b && is_for c x) x.by) seen)
-unseen_case r c floor x xs false h e = refl
+unseen_case r c floor x xs false true h ea eb = omega (arith, nothing_counted (counts r c x) x.by eb)
+unseen_case r c floor x xs false false h ea eb = refl
 
 unseen-above : (r c floor : ℕ) (xs : List Entry) → floor ≤ r → unseen r c (above floor xs) ≡ unseen r c xs
 unseen-above r c floor [] h = refl
 unseen-above r c floor (x ∷ xs) h =
-    unseen_case r c floor x (above floor xs) (nat_le x.seq floor) h refl ∙ ap (λ n. share r c x + n) (unseen-above r c floor xs h)
+    unseen_case r c floor x (above floor xs) (nat_le x.seq floor) (nat_eq x.by 0) h refl refl ∙ ap (λ n. share r c x + n) (unseen-above r c floor xs h)
 
 pub drops_old : (old new : List Entry) (floor : ℕ) → IsRising old → new ≡ above floor old → DropsOld old new floor
 drops_old old new floor rising e =

@@ -61,16 +61,27 @@ pub fn newest(entries: &[Entry]) -> u64
     if len == 0 { 0 } else { entries[len - 1].seq }
 }
 
-/// Where an entry with this number may stand, behind those with the same number: it looks back from the end.
+/// Where an entry with this number may stand, behind those with the same number: it looks at the last
+/// entry first.
 fn place_of(entries: &[Entry], seq: u64) -> usize
     requires { IsRising entries.now }
     ensures { IsPlace entries.now seq result }
 {
-    let mut i = entries.len();
-    while i > 0 && entries[i - 1].seq > seq {
-        i -= 1;
+    let count = entries.len();
+    if count > 0 && entries[count - 1].seq <= seq {
+        return count;
     }
-    i
+    let mut low = 0;
+    let mut high = count;
+    while low < high {
+        let middle = low + (high - low) / 2;
+        if entries[middle].seq <= seq {
+            low = middle + 1;
+        } else {
+            high = middle;
+        }
+    }
+    low
 }
 
 /// Whether both entries have one number and are for the same connections.
@@ -160,10 +171,10 @@ pub fn add_entries(entries: &mut Vec<Entry>, more: &[Entry])
     }
 }
 
-/// Takes out the entries up to the floor, which nobody counts from there on.
+/// Takes out the entries up to the floor, which nobody counts from there on, and those of nothing.
 pub fn drop_old(entries: &mut Vec<Entry>, floor: u64)
     requires { IsRising entries.old.items }
     ensures { DropsOld entries.old.items entries.new.items floor }
 {
-    entries.retain(|x| x.seq > floor);
+    entries.retain(|x| x.seq > floor && x.by != 0);
 }

@@ -1,12 +1,14 @@
-use Rattle.std.proofs.Common.{◌≤◌, length, drop}
-use Rattle.ft_partial.specs.Entries.{AreFrom}
+use Rattle.std.proofs.Common.{◌≤◌, ◌-◌, length, take, drop}
+use Rattle.ft_partial.specs.Entries.{AreUpTo, AreFrom}
 use Rattle.ft_partial.proofs.entries.place_of.Given as goal
 
-abbrev pub invariant-loop-i : goal.invariant-loop-i
-invariant-loop-i l = record {
-  inside : l.i ≤ length l.entries;
-  above : AreFrom l.seq (drop l.i l.entries);
+abbrev pub invariant-loop-low : goal.invariant-loop-low
+invariant-loop-low l = record {
+  order : l.low ≤ l.high;
+  inside : l.high ≤ length l.entries;
+  below : AreUpTo l.seq (take l.low l.entries);
+  above : AreFrom l.seq (drop l.high l.entries);
 }
 
-abbrev pub decreases-loop-i : goal.decreases-loop-i
-decreases-loop-i l = l.i
+abbrev pub decreases-loop-low : goal.decreases-loop-low
+decreases-loop-low l = l.high - l.low
