@@ -1,5 +1,5 @@
 -- The floors of the tables, and the sizes of neighbours, in each step that changes the tree's shape.
-use Rattle.std.proofs.Common.{◌≡◌, ◌≢◌, ℕ, ◌+◌, ◌^◌, ◌<◌, ◌≤◌, List, [], ◌∷◌, length, insert, slice_get, Option, Some, None, IsSome, refl, sym, ap, subst, ◌∙◌, inl, inr, arith}
+use Rattle.std.proofs.Common.{◌≡◌, ℕ, ◌+◌, ◌^◌, ◌<◌, ◌≤◌, List, length, insert, slice_get, Option, Some, None, IsSome, refl, sym, ap, subst, ◌∙◌, inl, inr, arith}
 use Rattle.std.proofs.lemmas.Bool.{cases_eq}
 use Rattle.ft_base.specs.declared.elements.Element.{Element}
 use Rattle.ft_arena.specs.declared.nodes.Node.TheVariants.{Leaf}
@@ -7,7 +7,7 @@ use Rattle.ft_arena.specs.Ids.{times, insert_after, without}
 use Rattle.ft_arena.specs.Forest.{Forest, Entry, IsForest, Changes, TakesChild, entry, kids_of, parent_of, block_value, leaf_value, block_of_entry, with_block, with_leaf, with_block_entry}
 use Rattle.ft_arena.proofs.KidLemmas.{kept}
 use Rattle.ft_shape.specs.declared.headed.Headed.{Headed}
-use Rattle.ft_shape.specs.Tree.{IsEdit, IsTree, IsApart, IsGrowing, SumsBut, height_of, length_of, total}
+use Rattle.ft_shape.specs.Tree.{IsEdit, IsTree, IsApart, IsGrowing, SumsBut, length_of, total}
 use Rattle.ft_shape.specs.Steps.{PutsAt, Regroups, IsPair, DropsRoot}
 use Rattle.ft_shape.proofs.EditLemmas.{is_some_from, after_is_edit}
 use Rattle.ft_shape.proofs.KindLemmas.{block_live}
@@ -16,7 +16,7 @@ use Rattle.ft_shape.proofs.RefreshLemmas.{written_changes}
 use Rattle.ft_shape.proofs.InsertLemmas.{in_blocks, ch_blocks}
 use Rattle.ft_shape.proofs.UnlinkLemmas.{un_blocks}
 use Rattle.ft_shape.proofs.TakenLemmas.{apart_part}
-use Rattle.ft_shape.proofs.FillLemmas.{fl_pair, fl_two, fl_up_block, dr_alive, one_of, rest_once, kid_once, kid_up}
+use Rattle.ft_shape.proofs.FillLemmas.{fl_pair, fl_two, fl_up_block, dr_alive, one_of, rest_once, kid_once}
 use Rattle.ft_block.specs.declared.summaries.Summary.{Summary}
 use Rattle.ft_block.specs.declared.leaves.View.{View}
 use Rattle.ft_block.specs.Tree.{AreFromFloor, by_view, by_size}
