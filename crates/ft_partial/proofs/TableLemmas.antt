@@ -106,6 +106,11 @@ pub same_kept : (old new : Lengths) (floor : ℕ) → new.last ≡ old.last → 
 unfolding length_at
 same_kept old new floor last entries r c hf hr hc = omega (arith, last, ap (unseen r c) entries)
 
+pub same_tidied : (old new : Lengths) (entries : List Entry) → entries ≡ old.entries → new.last ≡ old.last → DropsOld entries new.entries 0
+    → (r c : ℕ) → length_at new r c ≡ length_at old r c
+unfolding length_at
+same_tidied old new entries ee last drops r c = omega (arith, last, drops.sums r c (omega arith), ap (unseen r c) ee)
+
 pub same_cleared : (old new : Lengths) (floor latest : ℕ) (entries : List Entry) → entries ≡ old.entries → new.last ≡ old.last → new.entries ≡ [] → AreUpTo latest entries → latest ≤ floor
     → SameFrom floor old new
 unfolding length_at

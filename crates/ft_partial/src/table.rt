@@ -1,6 +1,6 @@
 //! A table of partial lengths.
 
-ghost use Rattle.std.specs.Prelude.{◌≡◌, ◌+◌, ◌≤◌, ◌<◌, ◌^◌, List, [], ◌∷◌, ◌++◌, IfOk, OnOk, OnErr};
+ghost use Rattle.std.specs.Prelude.{◌≡◌, ℕ, ◌+◌, ◌≤◌, ◌<◌, ◌^◌, List, [], ◌∷◌, ◌++◌, IfOk, OnOk, OnErr};
 ghost use Rattle.ft_partial.specs.Items.{Item, item_of, inserted_element, removed, length_seen, folded_items};
 ghost use Rattle.ft_partial.specs.SameStamps.{SameByStamps, ExchangesItem};
 ghost use Rattle.ft_partial.specs.Tables.{length_at, CountsItems, Adds, Exchanges, AddsAll, AddsChange, SameFrom};
@@ -65,13 +65,12 @@ impl Table {
         }
     }
 
-    /// How many elements the perspective sees, whose reference number isn't below the floor.
+    /// How many elements the perspective sees, where its reference number isn't below the floor.
     ///
     /// The number is exact where less than 2^64 elements are seen, as in each list that has less, and
     /// else it is taken round 2^64.
     pub fn length(&self, at: Perspective) -> u64
-        requires { self.now.floor ≤ at.r }
-        ensures sum { (xs : List Item) → CountsItems self.now xs → length_seen at.r at.c xs < 2 ^ 64 → result ≡ length_seen at.r at.c xs }
+        ensures sum { (xs : List Item) → self.now.floor ≤ at.r → CountsItems self.now xs → length_seen at.r at.c xs < 2 ^ 64 → result ≡ length_seen at.r at.c xs }
         ensures at { result ≡ length_at self.now at.r at.c }
     {
         // Most blocks of a tree hold nothing that is new to the perspective.
@@ -163,18 +162,28 @@ impl Table {
         Ok(())
     }
 
-    /// Adds all items of another table, whose floor isn't above this one's: each of its
+    /// Adds all items of another table, where its floor isn't above this one's: each of its
     /// entries is put in, and moves those that are newer.
     ///
     /// Answers `OutOfMemory` where there is no room, and then the table is as it was.
     pub fn add_all(&mut self, other: &Table) -> Result<(), OutOfMemory>
-        requires { other.now.floor ≤ self.old.floor }
-        ensures ok { OnOk result ((xs ys : List Item) → CountsItems self.old xs → CountsItems other.now ys → CountsItems self.new (ys ++ xs)) }
+        ensures ok { OnOk result ((xs ys : List Item) → other.now.floor ≤ self.old.floor → CountsItems self.old xs → CountsItems other.now ys → CountsItems self.new (ys ++ xs)) }
         ensures adds { OnOk result (AddsAll self.old other.now self.new) }
         ensures floor { self.new.floor ≡ self.old.floor }
         ensures err { OnErr result (self.new ≡ self.old) }
     {
         self.put_in(other.entries.as_slice(), other.last)
+    }
+
+    /// Drops entries of nothing, once the entries have doubled since the last time. No length changes.
+    pub fn tidy(&mut self)
+        ensures lengths { (r c : ℕ) → length_at self.new r c ≡ length_at self.old r c }
+        ensures floor { self.new.floor ≡ self.old.floor }
+    {
+        if self.entries.len() >= self.fold_at {
+            drop_old(&mut self.entries, 0);
+            self.fold_at = self.entries.len().saturating_mul(2).max(FEW);
+        }
     }
 
     /// Raises the floor to `floor`, which isn't below the old one: the items removed at or below it

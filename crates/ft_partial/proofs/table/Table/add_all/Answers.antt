@@ -11,4 +11,4 @@ returns-clause-adds c =
 
 pub returns-clause-ok : goal.returns-clause-ok
 returns-clause-ok c =
-    on_ok_weaker c.put_in.result (λ adds. stands-all c.args.self.now c.args.other.now c.put_in.new.self adds c.requires c.put_in.ensures.floor) (returns-clause-adds c)
+    on_ok_weaker c.put_in.result (λ adds xs ys from. stands-all c.args.self.now c.args.other.now c.put_in.new.self adds from c.put_in.ensures.floor xs ys) (returns-clause-adds c)

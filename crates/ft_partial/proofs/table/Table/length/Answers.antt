@@ -8,11 +8,11 @@ returns-then-self-at-clause-at c =
     (ap (λ t. t.entries) c.self.view_is) c.self.invariant.up_to c.if-self-at.true (omega arith)
 
 pub returns-then-self-at-clause-sum : goal.returns-then-self-at-clause-sum
-returns-then-self-at-clause-sum c = λ xs stands fits.
+returns-then-self-at-clause-sum c = λ xs from stands fits.
     let same = returns-then-self-at-clause-at c in
     let low : c.args.at.r < 2 ^ 64 = omega arith in
     let conn : c.args.at.c < 2 ^ 32 = omega arith in
-    omega (arith, same, stands c.args.at.r c.args.at.c c.requires low conn)
+    omega (arith, same, stands c.args.at.r c.args.at.c from low conn)
 
 pub returns-clause-at : goal.returns-clause-at
 returns-clause-at c =
@@ -20,8 +20,8 @@ returns-clause-at c =
     (c.as_slice.ensures.value ∙ ap (λ t. t.entries) c.self.view_is) c.unseen.ensures
 
 pub returns-clause-sum : goal.returns-clause-sum
-returns-clause-sum c = λ xs stands fits.
+returns-clause-sum c = λ xs from stands fits.
     let same = returns-clause-at c in
     let low : c.args.at.r < 2 ^ 64 = omega arith in
     let conn : c.args.at.c < 2 ^ 32 = omega arith in
-    omega (arith, same, stands c.args.at.r c.args.at.c c.requires low conn)
+    omega (arith, same, stands c.args.at.r c.args.at.c from low conn)
