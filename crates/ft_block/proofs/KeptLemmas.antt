@@ -1,7 +1,13 @@
 -- What a block keeps, after a change of its leaves.
-use Rattle.std.proofs.Common.{◌≡◌, ℕ, ◌+◌, ◌-◌, ◌^◌, ◌%◌, ◌<◌, [], Option, Some, None, inl, inr, Bool, true, false, cond, refl, sym, ap, ◌∙◌, arith}
+use Rattle.std.proofs.Common.{◌≡◌, ℕ, ◌+◌, ◌-◌, ◌^◌, ◌%◌, ◌<◌, List, [], ◌∷◌, ◌&&◌, ◌||◌, nat_le, Option, Some, None, inl, inr, Bool, true, false, cond, refl, sym, ap, ◌∙◌, arith}
 use Rattle.std.proofs.lemmas.Bool.{cases_eq}
+use Rattle.std.specs.Prelude.{map, not}
+use Rattle.std.specs.List.{list_any}
+use Rattle.std.proofs.lemmas.Bool.Decides.{nat_tests}
+use Rattle.ft_base.specs.declared.stamps.Stamp.{Stamp}
+use Rattle.ft_base.specs.declared.stamps.Stamp.TheVariants.{Acked, Local}
 use Rattle.ft_base.specs.declared.elements.Element.{Element}
+use Rattle.ft_base.specs.Visibility.{has_occurred, has_occurred_at_stage, sees, seen_at}
 use Rattle.ft_arena.specs.declared.nodes.Node.{Node}
 use Rattle.ft_arena.specs.declared.nodes.Node.TheVariants.{Leaf, Block}
 use Rattle.ft_arena.specs.Forest.{Forest, Changes, entry, block_value, block_of_entry}
@@ -10,45 +16,56 @@ use Rattle.ft_partial.specs.Tables.{Lengths, length_at, SameFrom, Exchanges}
 use Rattle.ft_shape.specs.declared.headed.Headed.{Headed}
 use Rattle.ft_block.specs.declared.summaries.Summary.{Summary}
 use Rattle.ft_block.specs.declared.leaves.View.{View}
-use Rattle.ft_block.specs.declared.leaves.View.TheVariants.{Of, Pending, Removed}
+use Rattle.ft_block.specs.declared.leaves.View.TheVariants.{Of, Removed}
 use Rattle.ft_block.specs.declared.leaves.LenView.TheVariants.{At, Stage, All}
-use Rattle.ft_block.specs.Leaves.{last_stage}
-use Rattle.ft_block.specs.Tree.{shows, shown_length, AreFromFloor, IsNodeFrom, kept_length, HasRange, KeepsLengths, KeepsNothing, KeepsExchange, IsChange, KeepsSum, KeepsNode}
+use Rattle.ft_block.specs.Tree.{staged_stamp, staged, shows, shown_length, AreFromFloor, IsNodeFrom, kept_length, HasRange, KeepsLengths, KeepsNothing, KeepsExchange, IsChange, KeepsSum, KeepsNode}
 
 exchanged_local : (local gone come : ℕ) → gone < 2 ^ 64
     → ((((local + (18446744073709551616 - gone)) % 18446744073709551616) + come) % 18446744073709551616 + gone) % 2 ^ 64 ≡ (local + come) % 2 ^ 64
 exchanged_local local gone come h = omega arith
 
--- the local length and the table after elements were exchanged
-pub exchange_keeps : (floor : ℕ) (old : Summary) (mid new : Lengths) (gone come settled pending cleared removed n m : ℕ) (e f : Element) → n < 2 ^ 64 → gone < 2 ^ 64
-    → settled < 2 ^ 64 → cleared < 2 ^ 64
-    → gone ≡ amount (shows (Of last_stage) e) n → come ≡ amount (shows (Of last_stage) f) m → settled ≡ amount (shows Pending e) n → pending ≡ amount (shows Pending f) m
-    → cleared ≡ amount (shows Removed e) n → removed ≡ amount (shows Removed f) m
-    → SameFrom floor old.table mid → mid.floor ≡ floor → Exchanges mid new e n f m
+-- a stage sees of an element what a perspective that is nobody's sees of it as it is kept for stages
+or_none : (a : Bool) → (a || false) ≡ a
+or_none true = refl
+or_none false = refl
+
+staged-occurred : (k : ℕ) (s : Stamp) → has_occurred k 1 (staged_stamp s) ≡ has_occurred_at_stage k s
+staged-occurred k (Acked seq conn) = grind (arith, nat_tests)
+staged-occurred k (Local stage) = or_none (nat_le stage k)
+
+any-staged : (k : ℕ) (dels : List Stamp) → list_any (has_occurred k 1) (map staged_stamp dels) ≡ list_any (has_occurred_at_stage k) dels
+any-staged k [] = refl
+any-staged k (x ∷ dels) =
+    ap (λ b. b || list_any (has_occurred k 1) (map staged_stamp dels)) (staged-occurred k x) ∙ ap (λ b. has_occurred_at_stage k x || b) (any-staged k dels)
+
+sees-staged : (k : ℕ) (e : Element) → sees (staged e) k 1 ≡ seen_at e k
+sees-staged k e =
+    ap (λ b. b && not (list_any (has_occurred k 1) (map staged_stamp e.dels))) (staged-occurred k e.ins)
+    ∙ ap (λ b. has_occurred_at_stage k e.ins && not b) (any-staged k e.dels)
+
+-- what is kept after elements were exchanged
+pub exchange_keeps : (floor : ℕ) (old : Summary) (table stages : Lengths) (cleared removed n m : ℕ) (e f old_staged new_staged : Element) → n < 2 ^ 64 → cleared < 2 ^ 64
+    → cleared ≡ amount (shows Removed e) n → removed ≡ amount (shows Removed f) m → old.table.floor ≡ floor → old.stages.floor ≡ 0
+    → old_staged ≡ staged e → new_staged ≡ staged f → Exchanges old.table table e n f m → Exchanges old.stages stages old_staged n new_staged m
     → KeepsExchange floor old (record {
       whole = ((old.whole + (18446744073709551616 - n)) % 18446744073709551616 + m) % 18446744073709551616;
-      local =
-          ((old.local + (18446744073709551616 - gone)) % 18446744073709551616 + come) % 18446744073709551616;
-      pending =
-          ((old.pending + (18446744073709551616 - settled)) % 18446744073709551616 + pending) % 18446744073709551616;
       removed =
           ((old.removed + (18446744073709551616 - cleared)) % 18446744073709551616 + removed) % 18446744073709551616;
-      table = new;
+      stages = stages;
+      table = table;
     }) e n f m
-exchange_keeps floor old mid new gone come settled pending cleared removed n m e f few l sl cl g k gs ks gr kr same from ex (Of (At at)) (low, high, conn) =
-    ex at.r at.c (omega (arith, from, low)) high conn ∙ ap (λ (x : ℕ). (x + amount (shows (Of (At at)) f) m) % 2 ^ 64) (same at.r at.c low high conn)
-exchange_keeps floor old mid new gone come settled pending cleared removed n m e f few l sl cl g k gs ks gr kr same from ex (Of (Stage s)) is =
-    let by_gone : amount (shows (Of (Stage s)) e) n ≡ gone = ap (λ v. amount (shows (Of v) e) n) is ∙ sym g in
-    let by_come : amount (shows (Of (Stage s)) f) m ≡ come = ap (λ v. amount (shows (Of v) f) m) is ∙ sym k in
-    ap (λ (x : ℕ). ((((old.local + (18446744073709551616 - gone)) % 18446744073709551616) + come) % 18446744073709551616 + x) % 2 ^ 64) by_gone
-    ∙ exchanged_local old.local gone come l ∙ ap (λ (x : ℕ). (old.local + x) % 2 ^ 64) (sym by_come)
-exchange_keeps floor old mid new gone come settled pending cleared removed n m e f few l sl cl g k gs ks gr kr same from ex (Of All) h = exchanged_local old.whole n m few
-exchange_keeps floor old mid new gone come settled pending cleared removed n m e f few l sl cl g k gs ks gr kr same from ex Pending h =
-    ap (λ (x : ℕ). ((((old.pending + (18446744073709551616 - settled)) % 18446744073709551616) + pending) % 18446744073709551616 + x) % 2 ^ 64) (sym gs)
-    ∙ exchanged_local old.pending settled pending sl ∙ ap (λ (x : ℕ). (old.pending + x) % 2 ^ 64) ks
-exchange_keeps floor old mid new gone come settled pending cleared removed n m e f few l sl cl g k gs ks gr kr same from ex Removed h =
-    ap (λ (x : ℕ). ((((old.removed + (18446744073709551616 - cleared)) % 18446744073709551616) + removed) % 18446744073709551616 + x) % 2 ^ 64) (sym gr)
-    ∙ exchanged_local old.removed cleared removed cl ∙ ap (λ (x : ℕ). (old.removed + x) % 2 ^ 64) kr
+exchange_keeps floor old table stages cleared removed n m e f old_staged new_staged few cl kr ks from none es et ex staged_ex (Of (At at)) (low, high, conn) =
+    ex at.r at.c (omega (arith, from, low)) high conn
+exchange_keeps floor old table stages cleared removed n m e f old_staged new_staged few cl kr ks from none es et ex staged_ex (Of (Stage k)) low =
+    let gone : amount (seen_at e k) n ≡ amount (sees old_staged k 1) n =
+    sym (ap (λ z. amount (sees z k 1) n) es ∙ ap (λ b. amount b n) (sees-staged k e)) in
+    let come : amount (sees new_staged k 1) m ≡ amount (seen_at f k) m = ap (λ z. amount (sees z k 1) m) et ∙ ap (λ b. amount b m) (sees-staged k f) in
+    ap (λ (x : ℕ). (length_at stages k 1 + x) % 2 ^ 64) gone ∙ staged_ex k 1 (omega (arith, none)) low (omega arith)
+    ∙ ap (λ (x : ℕ). (length_at old.stages k 1 + x) % 2 ^ 64) come
+exchange_keeps floor old table stages cleared removed n m e f old_staged new_staged few cl kr ks from none es et ex staged_ex (Of All) h = exchanged_local old.whole n m few
+exchange_keeps floor old table stages cleared removed n m e f old_staged new_staged few cl kr ks from none es et ex staged_ex Removed h =
+    ap (λ (x : ℕ). ((((old.removed + (18446744073709551616 - cleared)) % 18446744073709551616) + removed) % 18446744073709551616 + x) % 2 ^ 64) (sym kr)
+    ∙ exchanged_local old.removed cleared removed cl ∙ ap (λ (x : ℕ). (old.removed + x) % 2 ^ 64) ks
 
 -- a change is put in
 pub exchanged : (new old change more less : ℕ) → new ≡ (old + change) % 2 ^ 64 → (change + less) % 2 ^ 64 ≡ more % 2 ^ 64 → (new + less) % 2 ^ 64 ≡ (old + more) % 2 ^ 64
@@ -60,41 +77,35 @@ change_is floor nothing change e f n m none ex view kept =
     ex view kept ∙ ap (λ (x : ℕ). (x + amount (shows view f) m) % 2 ^ 64) (none view kept) ∙ omega arith
 
 -- what is added where the floor was raised before
-pub sum_raised : (floor : ℕ) (old mid other new : Summary) → mid.whole ≡ old.whole → mid.local ≡ old.local → mid.pending ≡ old.pending → mid.removed ≡ old.removed
-    → SameFrom floor old.table mid.table → KeepsSum floor mid other new → KeepsSum floor old other new
-sum_raised floor old mid other new whole local pending removed same sum view kept =
+pub sum_raised : (floor : ℕ) (old mid other new : Summary) → mid.whole ≡ old.whole → mid.removed ≡ old.removed
+    → ((r c : ℕ) → length_at mid.stages r c ≡ length_at old.stages r c) → SameFrom floor old.table mid.table → KeepsSum floor mid other new → KeepsSum floor old other new
+sum_raised floor old mid other new whole removed stages same sum view kept =
     sum view kept ∙ ap (λ (x : ℕ). (x + kept_length view other) % 2 ^ 64) (raised view kept)
   where
     raised : (view : View) → KeepsLengths floor view → kept_length view mid ≡ kept_length view old
     raised (Of (At at)) (low, high, conn) = same at.r at.c low high conn
-    raised (Of (Stage k)) h = local
+    raised (Of (Stage k)) h = stages k 1
     raised (Of All) h = whole
-    raised Pending h = pending
     raised Removed h = removed
-
-small : (x : ℕ) → x < 2 ^ 64 → x % 2 ^ 64 ≡ x
-small x h = omega arith
 
 pub kept_low : (v : Summary) → HasRange v → (view : View) → kept_length view v < 2 ^ 64
 unfolding length_at
 kept_low v h (Of (At at)) = omega arith
-kept_low v h (Of (Stage k)) = h.0
-kept_low v h (Of All) = h.1
-kept_low v h Pending = h.2
-kept_low v h Removed = h.3
+kept_low v h (Of (Stage k)) = omega arith
+kept_low v h (Of All) = h.0
+kept_low v h Removed = h.1
 
 amount_none : (b : Bool) → amount b 0 ≡ 0
 amount_none true = refl
 amount_none false = refl
 
 -- elements that come where none were
-pub exchange_adds : {L : Type 0} (size : L → ℕ) (element : L → Element) (floor : ℕ) (old new : Summary) (leaf : L) (e : Element) (n : ℕ) → e ≡ element leaf
-    → n ≡ size leaf → HasRange new → KeepsExchange floor old new e 0 e n → KeepsNode size element floor old (Leaf leaf) new
-exchange_adds size element floor old new leaf e n is many low ex view kept =
+pub change_adds : {L : Type 0} (size : L → ℕ) (element : L → Element) (floor : ℕ) (old change new : Summary) (leaf : L) (e : Element) (n : ℕ) → e ≡ element leaf
+    → n ≡ size leaf → IsChange floor change e 0 e n → KeepsSum floor old change new → KeepsNode size element floor old (Leaf leaf) new
+change_adds size element floor old change new leaf e n is many ch sum view kept =
     let here : amount (shows view e) n ≡ shown_length size element view leaf =
     ap (λ z. amount (shows view z) n) is ∙ ap (λ (k : ℕ). cond (shows view (element leaf)) k 0) many in
-    let z : kept_length view new + amount (shows view e) 0 ≡ kept_length view new = omega (arith, amount_none (shows view e)) in
-    sym (small (kept_length view new) (kept_low new low view)) ∙ sym (ap (λ (x : ℕ). x % 2 ^ 64) z) ∙ ex view kept ∙ ap (λ (x : ℕ). (kept_length view old + x) % 2 ^ 64) here
+    omega (arith, sum view kept, ch view kept, amount_none (shows view e), here)
 
 -- what is kept has one more node's length, where the sum of all is small
 pub one_more : (kept kept' n rest whole : ℕ) → kept' ≡ (kept + n) % 2 ^ 64 → kept + (n + rest) ≡ whole → whole < 2 ^ 64 → kept' + rest ≡ whole

@@ -1,11 +1,9 @@
-pub mod StageLemmas
 pub mod ViewLemmas
 pub mod KeptLemmas
 pub mod ExchangeLemmas
 pub mod MovedLemmas
 pub mod SoundLemmas
 pub mod PositionLemmas
-pub mod StagePlaces
 pub mod LeafListLemmas
 pub mod InsideLemmas
 pub mod CallerLemmas

@@ -7,7 +7,7 @@ use Rattle.ft_arena.specs.Forest.{Forest, IsForest, IsPlace, entry, leaf_value, 
 use Rattle.ft_shape.specs.declared.headed.Headed.{Headed}
 use Rattle.ft_block.specs.declared.summaries.Summary.{Summary}
 use Rattle.ft_block.specs.declared.leaves.View.{View}
-use Rattle.ft_block.specs.declared.leaves.View.TheVariants.{Of, Pending, Removed}
+use Rattle.ft_block.specs.declared.leaves.View.TheVariants.{Of, Removed}
 use Rattle.ft_block.specs.declared.leaves.LenView.TheVariants.{At, Stage, All}
 use Rattle.ft_shape.specs.Tree.{Measure, IsTree, total, length_of}
 use Rattle.ft_block.specs.Tree.{SumsKeptBut, AreFromFloor, KeepsLengths, by_view, by_size}
@@ -242,5 +242,4 @@ module _ {L : Type 0} (size : L → ℕ) (element : L → Element) (floor : ℕ)
       kept_lower (Of (At at)) k = (omega (arith, k.0, h), k.1, k.2)
       kept_lower (Of (Stage k)) e = e
       kept_lower (Of All) e = e
-      kept_lower Pending e = e
       kept_lower Removed e = e

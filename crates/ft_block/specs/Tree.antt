@@ -1,6 +1,5 @@
 -- What the blocks of a tree keep of each view. No public clause cites this module.
-use Rattle.std.specs.Prelude.{◌≡◌, ℕ, ◌+◌, ◌%◌, ◌^◌, ◌<◌, ◌≤◌, List, Option, Some, Bool, true, false, ◌||◌, if◌then◌else◌}
-use Rattle.std.specs.List.{list_any}
+use Rattle.std.specs.Prelude.{◌≡◌, ℕ, ◌+◌, ◌%◌, ◌^◌, ◌<◌, ◌≤◌, List, map, Option, Some, Bool, if◌then◌else◌}
 use Rattle.ft_base.specs.declared.stamps.Stamp.{Stamp}
 use Rattle.ft_base.specs.declared.stamps.Stamp.TheVariants.{Acked, Local}
 use Rattle.ft_base.specs.declared.elements.Element.{Element}
@@ -14,51 +13,46 @@ use Rattle.ft_block.specs.declared.leaves.LenView.TheVariants.{At, Stage, All}
 use Rattle.ft_partial.specs.Entries.{amount}
 use Rattle.ft_partial.specs.Tables.{length_at}
 use Rattle.ft_block.specs.declared.leaves.View.{View}
-use Rattle.ft_block.specs.declared.leaves.View.TheVariants.{Of, Pending, Removed}
-use Rattle.ft_block.specs.Leaves.{sees_in, is_removed, IsFromFloor, last_stage}
+use Rattle.ft_block.specs.declared.leaves.View.TheVariants.{Of, Removed}
+use Rattle.ft_block.specs.Leaves.{sees_in, is_removed, IsFromFloor}
 
--- the stamp is pending
-abbrev pub is_pending : Stamp → Bool
-is_pending (Acked seq conn) = false
-is_pending (Local stage) = true
+-- a stamp as blocks keep it for stages: as one by nobody that is sequenced at its stage, or at 0 where it is sequenced
+abbrev pub staged_stamp : Stamp → Stamp
+staged_stamp (Acked seq conn) = Acked 0 0
+staged_stamp (Local stage) = Acked stage 0
 
--- one of the element's stamps is pending
-abbrev pub has_pending : Element → Bool
-has_pending e = is_pending e.ins || list_any is_pending e.dels
+-- the element with its stamps as blocks keep them for stages
+abbrev pub staged : Element → Element
+staged e = record { ins = staged_stamp e.ins; dels = map staged_stamp e.dels }
 
 -- whether the view counts the element
 abbrev pub shows : View → Element → Bool
 shows (Of view) e = sees_in view e
-shows Pending e = has_pending e
 shows Removed e = is_removed e
 
--- what a block keeps of a view: its table's answer to a perspective, one length for stages, its size, how many of its
--- elements have a pending stamp, and how many have a sequenced removal first
+-- what a block keeps of a view: its tables' answers to a perspective, and to one of connection 1 for a stage, its size, and how many of its
+-- elements have a sequenced removal first
 abbrev pub kept_length : View → Summary → ℕ
 kept_length (Of (At at)) v = length_at v.table at.r at.c
-kept_length (Of (Stage k)) v = v.local
+kept_length (Of (Stage k)) v = length_at v.stages k 1
 kept_length (Of All) v = v.whole
-kept_length Pending v = v.pending
 kept_length Removed v = v.removed
 
 -- the view is no perspective with a reference number below the floor
 abbrev pub IsFrom : ℕ → View → Type 0
 IsFrom floor (Of view) = IsFromFloor floor view
-IsFrom floor Pending = Unit {0}
 IsFrom floor Removed = Unit {0}
 
--- the blocks keep the lengths of this view: it counts all, what is pending or what is removed, or is that at the last stage, or of a
--- perspective from the floor up
+-- the blocks keep the lengths of this view: it counts all or what is removed, or is that of a stage, or of a perspective from the floor up
 abbrev pub KeepsLengths : ℕ → View → Type 0
 KeepsLengths floor (Of (At at)) = (floor ≤ at.r) × (at.r < 2 ^ 64) × (at.c < 2 ^ 32)
-KeepsLengths floor (Of (Stage k)) = Stage k ≡ last_stage
+KeepsLengths floor (Of (Stage k)) = k < 2 ^ 64
 KeepsLengths floor (Of All) = Unit {0}
-KeepsLengths floor Pending = Unit {0}
 KeepsLengths floor Removed = Unit {0}
 
 -- the lengths that are kept as numbers are below 2 ^ 64
 abbrev pub HasRange : Summary → Type 0
-HasRange v = (v.local < 2 ^ 64) × (v.whole < 2 ^ 64) × (v.pending < 2 ^ 64) × (v.removed < 2 ^ 64)
+HasRange v = (v.whole < 2 ^ 64) × (v.removed < 2 ^ 64)
 
 -- nothing is seen in any view
 abbrev pub KeepsNothing : ℕ → Summary → Type 0

@@ -244,9 +244,7 @@ impl<L: Leaf> Blocks<L> {
     /// The leaf that holds the `p`-th element that a pending stage sees, and how many of its elements stand
     /// up to that one; the head of the list for `p` = 0.
     ///
-    /// It reads a few nodes on each level. For each leaf with a pending stamp as far as the place, and for
-    /// the next one, it goes down and up the levels once more; at stage `u64::MAX` `find_local` finds the
-    /// same without these.
+    /// It reads a few nodes on each level, and in these the pending stamps of later stages.
     ///
     /// Answers `OutOfRange` exactly where `p` is above the length that the stage sees.
     pub fn find_at_stage(&self, p: u64, stage: u64) -> Result<Found, OutOfRange>
@@ -321,8 +319,7 @@ impl<L: Leaf> Blocks<L> {
 
     /// How many elements the view sees left of the leaf.
     ///
-    /// The reference number of a perspective isn't below the floor. It goes up from the leaf; at a stage
-    /// other than `u64::MAX` it also looks for each leaf left of this one that has a pending stamp.
+    /// The reference number of a perspective isn't below the floor. It goes up from the leaf.
     pub fn position_of(&self, leaf: NodeId, view: LenView) -> u64
         requires usable { IsTrue self.now.usable }
         requires floor { IsFromFloor self.now.floor view }
@@ -341,8 +338,7 @@ impl<L: Leaf> Blocks<L> {
 
     /// How many elements the view sees.
     ///
-    /// The reference number of a perspective isn't below the floor. It is kept; at a stage other than
-    /// `u64::MAX` it looks for each leaf that has a pending stamp.
+    /// The reference number of a perspective isn't below the floor. It is kept.
     pub fn length(&self, view: LenView) -> u64
         requires usable { IsTrue self.now.usable }
         requires floor { IsFromFloor self.now.floor view }

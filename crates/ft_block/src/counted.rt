@@ -12,11 +12,11 @@ ghost use Rattle.ft_block.specs.Leaves.{IsFromFloor};
 ghost use Rattle.ft_block.specs.Inside.{IsSound};
 
 use crate::change::{join_at, set_stamps_at, split_at};
+use crate::find::find_from;
 use crate::grow::{insert_at, insert_first, insert_front};
-use crate::leaves::{Leaf, LenView, View, unkept_stage};
-use crate::position::{kept_before, kept_in_all, leaf_at, seen_at_stage};
+use crate::leaves::{Leaf, LenView, View, kept_view};
+use crate::position::{kept_before, kept_in_all, leaf_at};
 use crate::shrink::{move_at, stands_there, take_at};
-use crate::stage_find::find_past_pending;
 use crate::summaries::Summary;
 use ft_arena::{Arena, NodeId};
 use ft_base::{Element, OutOfMemory, Steps};
@@ -62,22 +62,8 @@ pub(crate) fn position_in<L: Leaf, G: Ledger>(
         unreachable!();
     };
     let root = NodeId(root);
-    let Some(stage) = unkept_stage(view, floor) else {
-        return kept_before(arena, root, leaf, floor, View::Of(view), &mut steps);
-    };
-    let last = View::Of(LenView::Stage(u64::MAX));
-    let local = kept_before(arena, root, leaf, floor, last, &mut steps);
-    let pending = kept_before(arena, root, leaf, floor, View::Pending, &mut steps);
-    seen_at_stage(
-        arena,
-        root,
-        Some(leaf),
-        floor,
-        stage,
-        local,
-        pending,
-        &mut steps,
-    )
+    let view = kept_view(view, floor);
+    kept_before(arena, root, leaf, floor, view, &mut steps)
 }
 
 // The length of all leaves in a view.
@@ -100,13 +86,8 @@ pub(crate) fn length_in<L: Leaf, G: Ledger>(
         return 0;
     };
     let root = NodeId(root);
-    let Some(stage) = unkept_stage(view, floor) else {
-        return kept_in_all(arena, root, floor, View::Of(view), &mut steps);
-    };
-    let last = View::Of(LenView::Stage(u64::MAX));
-    let local = kept_in_all(arena, root, floor, last, &mut steps);
-    let pending = kept_in_all(arena, root, floor, View::Pending, &mut steps);
-    seen_at_stage(arena, root, None, floor, stage, local, pending, &mut steps)
+    let view = kept_view(view, floor);
+    kept_in_all(arena, root, floor, view, &mut steps)
 }
 
 // The leaf in whose stretch the place lies that a stage sees, and how far in; or how many the stage sees.
@@ -128,7 +109,8 @@ pub(crate) fn find_in_stage<L: Leaf, G: Ledger>(
     ensures beyond { IfErr result (λ n. n < p) }
 {
     let mut steps = Steps::<G>::new(blank);
-    find_past_pending(arena, root, floor, p, stage, &mut steps)
+    let view = View::Of(LenView::Stage(stage));
+    find_from(arena, root, floor, view, p, &mut steps)
 }
 
 // Puts a new leaf directly after another, or first. Tells the root and the new leaf.

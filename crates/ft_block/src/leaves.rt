@@ -1,15 +1,13 @@
 //! What a leaf of the tree has to offer, and what a view sees of it.
 
-ghost use Rattle.std.specs.Prelude.{◌≡◌, ℕ, ◌+◌, ◌<◌, ◌≤◌, Bool, IsTrue, IfOk, IfErr, OnOk, OnErr, MatchOption};
-ghost use Rattle.std.specs.List.{list_any};
+ghost use Rattle.std.specs.Prelude.{◌≡◌, ℕ, ◌+◌, ◌<◌, ◌≤◌, Bool, IsTrue, IfOk, IfErr, OnOk, OnErr};
 ghost use Rattle.ft_base.specs.declared.elements.Element.{Element};
 ghost use Rattle.ft_partial.specs.Entries.{amount};
 ghost use Rattle.ft_block.specs.Leaves.{sees_in, is_removed, IsFromFloor};
-ghost use Rattle.ft_block.specs.Tree.{KeepsLengths, is_pending, has_pending, shows, shown_length};
-ghost use Rattle.ft_block.specs.declared.leaves.LenView.TheVariants.{Stage};
+ghost use Rattle.ft_block.specs.Tree.{KeepsLengths, shows, shown_length, staged_stamp, staged};
 ghost use Rattle.ft_block.specs.declared.leaves.View.TheVariants.{Of};
 
-use ft_base::{Element, OutOfMemory, Perspective, Stamp, seen_at, sees};
+use ft_base::{Element, OutOfMemory, Perspective, Stamp, Stamps, seen_at, sees};
 
 /// A leaf: at least one element, all with the same stamps.
 pub trait Leaf: Sized {
@@ -112,13 +110,11 @@ pub enum LenView {
     All,
 }
 
-/// What is counted of leaves: the elements that a view sees, those with a pending stamp, or the removed ones.
+/// What is counted of leaves: the elements that a view sees, or the removed ones.
 #[derive(Clone, Copy)]
 pub(crate) enum View {
     /// The elements that this view sees.
     Of(LenView),
-    /// The elements with a pending stamp, seen or not.
-    Pending,
     /// The elements whose first removal is sequenced.
     Removed,
 }
@@ -132,30 +128,6 @@ fn sees_in(e: &Element, view: LenView) -> bool
         LenView::Stage(stage) => seen_at(e, stage),
         LenView::All => true,
     }
-}
-
-/// Whether the stamp is pending.
-fn is_pending(stamp: &Stamp) -> bool
-    ensures { result ≡ is_pending stamp.now }
-{
-    match stamp {
-        Stamp::Acked { .. } => false,
-        Stamp::Local { .. } => true,
-    }
-}
-
-/// Whether one of the stamps is pending.
-fn is_any_pending(stamps: &[Stamp]) -> bool
-    ensures { result ≡ list_any is_pending stamps.now }
-{
-    stamps.iter().any(|stamp| is_pending(stamp))
-}
-
-/// Whether one of the element's stamps is pending.
-fn has_pending(e: &Element) -> bool
-    ensures { result ≡ has_pending e.now }
-{
-    is_pending(&e.ins) || is_any_pending(e.dels.as_slice())
 }
 
 /// Whether the element's first removal is sequenced.
@@ -174,7 +146,6 @@ fn shows(e: &Element, view: View) -> bool
 {
     match view {
         View::Of(view) => sees_in(e, view),
-        View::Pending => has_pending(e),
         View::Removed => is_removed(e),
     }
 }
@@ -193,14 +164,40 @@ pub(crate) fn shown_length<L: Leaf>(leaf: &L, view: View) -> u64
     shown_in(leaf.element(), leaf.len(), view)
 }
 
-/// The stage whose lengths blocks don't keep: None for the view of one that they do, whose reference
-/// number, if it has one, isn't below the floor.
-pub(crate) fn unkept_stage(view: LenView, floor: u64) -> Option<u64>
-    requires { IsFromFloor floor view }
-    ensures { MatchOption result (KeepsLengths floor (Of view)) (λ stage. view ≡ Stage stage) }
+/// The view as blocks keep its lengths: that of any stage, or of a perspective whose reference number isn't
+/// below the floor.
+pub(crate) fn kept_view(view: LenView, _floor: u64) -> View
+    requires { IsFromFloor _floor view }
+    ensures value { result ≡ Of view }
+    ensures kept { KeepsLengths _floor (Of view) }
 {
     match view {
-        LenView::Stage(stage) if stage != u64::MAX => Some(stage),
-        LenView::At(_) | LenView::Stage(_) | LenView::All => None,
+        LenView::At(_) | LenView::Stage(_) | LenView::All => View::Of(view),
     }
+}
+
+/// A stamp as blocks keep it for stages: as one by nobody that is sequenced at its stage, or at 0 where it is
+/// sequenced.
+fn staged_stamp(stamp: &Stamp) -> Stamp
+    ensures { result ≡ staged_stamp stamp.now }
+{
+    let seq = match stamp {
+        Stamp::Acked { .. } => 0,
+        Stamp::Local { stage } => *stage,
+    };
+    Stamp::Acked { seq, conn: 0 }
+}
+
+/// The element with its stamps as blocks keep them for stages.
+pub(crate) fn staged(e: &Element) -> Result<Element, OutOfMemory>
+    ensures { IfOk result (λ copy. copy ≡ staged e.now) }
+{
+    let mut dels = Stamps::new(e.dels.allocator());
+    for stamp in e.dels.as_slice() {
+        dels.push(staged_stamp(stamp))?;
+    }
+    Ok(Element {
+        ins: staged_stamp(&e.ins),
+        dels,
+    })
 }

@@ -14,7 +14,6 @@ pub mod leaves;
 mod position;
 mod refresh;
 mod shrink;
-mod stage_find;
 mod summaries;
 
 pub use blocks::{Blocks, Found, OutOfRange};

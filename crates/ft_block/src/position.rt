@@ -3,14 +3,11 @@
 ghost use Rattle.std.specs.Prelude.{◌≡◌, ◌+◌, ◌^◌, ◌<◌, ◌≤◌, Some, None, IsSome};
 ghost use Rattle.ft_arena.specs.Forest.{IsForest, block_value, kids_of, leaf_value};
 ghost use Rattle.ft_arena.specs.Ids.{times};
-ghost use Rattle.ft_block.specs.declared.leaves.LenView.TheVariants.{Stage};
-ghost use Rattle.ft_block.specs.declared.leaves.View.TheVariants.{Of, Pending};
-ghost use Rattle.ft_block.specs.Leaves.{last_stage};
-ghost use Rattle.ft_shape.specs.Tree.{IsTree, SumsBut, length_of, total, numbers_before, up_to};
-ghost use Rattle.ft_block.specs.Tree.{AreFromFloor, KeepsLengths, by_size, by_view};
+ghost use Rattle.ft_shape.specs.Tree.{IsTree, SumsBut, length_of, total, numbers_before};
+ghost use Rattle.ft_block.specs.Tree.{AreFromFloor, KeepsLengths, by_view};
 
-use crate::find::{find_from, length_at};
-use crate::leaves::{Leaf, LenView, View, shown_length};
+use crate::find::length_at;
+use crate::leaves::{Leaf, View};
 use crate::summaries::Summary;
 use ft_arena::{Arena, Node, NodeId};
 use ft_base::Steps;
@@ -107,40 +104,4 @@ pub(crate) fn leaf_at<'a, L: Leaf, G: Ledger>(
         Node::Leaf { value } => value,
         Node::Block { .. } => unreachable!(),
     }
-}
-
-// How many elements a stage sees of the leaves before the given one, or of all where none is given, of
-// which the local view sees `local` and `pending` have a pending stamp: these alone are looked at.
-pub(crate) fn seen_at_stage<L: Leaf, G: Ledger>(
-    arena: &Arena<L, Headed<Summary>>,
-    root: NodeId,
-    _end: Option<NodeId>,
-    floor: u64,
-    stage: u64,
-    local: u64,
-    pending: u64,
-    steps: &mut Steps<G>,
-) -> u64
-    requires tree { IsTree arena.now root }
-    requires floors { AreFromFloor floor arena.now }
-    requires sums { SumsBut (by_view L.size L.element Pending) arena.now None }
-    requires fits { total (length_of (by_size L.size) arena.now) arena.now.leaves < 2 ^ 64 }
-    requires local { local ≡ total (length_of (by_view L.size L.element (Of last_stage)) arena.now) (up_to arena.now.leaves _end) }
-    requires pending { pending ≡ total (length_of (by_view L.size L.element Pending) arena.now) (up_to arena.now.leaves _end) }
-    ensures { result ≡ total (length_of (by_view L.size L.element (Of (Stage stage))) arena.now) (up_to arena.now.leaves _end) }
-{
-    let last = View::Of(LenView::Stage(u64::MAX));
-    let now = View::Of(LenView::Stage(stage));
-    let mut sum = local;
-    let mut passed = 0;
-    'leaves: while passed < pending {
-        let Ok((id, further)) = find_from(arena, root, floor, View::Pending, passed + 1, steps)
-        else {
-            unreachable!();
-        };
-        let leaf = leaf_at(arena, id, steps);
-        sum = sum - shown_length(leaf, last) + shown_length(leaf, now);
-        passed = passed + 1 - further + shown_length(leaf, View::Pending);
-    }
-    sum
 }

@@ -3,21 +3,23 @@
 ghost use Rattle.std.specs.Prelude.{◌≡◌, ◌≤◌, ◌<◌, IfOk, OnOk};
 ghost use Rattle.ft_block.specs.Tree.{IsFrom, kept_length, KeepsNothing, KeepsExchange, IsChange, KeepsSum, KeepsNode, IsNodeFrom, HasRange};
 
-use crate::leaves::{Leaf, LenView, View, shown_in};
+use crate::leaves::{Leaf, LenView, View, shown_in, staged};
 use ft_arena::Node;
-use ft_base::{Element, OutOfMemory};
+use ft_base::{Element, OutOfMemory, Perspective};
 use ft_partial::Table;
 use ft_shape::Headed;
 use std::alloc::Global;
 
-/// What a block keeps: how many elements its leaves have, how many of them the local view sees, how many have a pending stamp, how many have a
-/// sequenced removal first, and a table of how many each perspective sees.
+/// The connection whose perspective a block asks of its stages: none has it, as staged stamps are by nobody.
+const NOBODY_ELSE: u32 = 1;
+
+/// What a block keeps: how many elements its leaves have, how many have a sequenced removal first, and tables of how many
+/// each stage and each perspective sees.
 #[derive(Drop)]
 pub(crate) struct Summary {
     pub(crate) whole: u64,
-    pub(crate) local: u64,
-    pub(crate) pending: u64,
     pub(crate) removed: u64,
+    pub(crate) stages: Table,
     pub(crate) table: Table,
 }
 
@@ -25,15 +27,15 @@ impl Summary {
     // Of a block that has no leaves.
     pub(crate) fn new(alloc: Global, floor: u64) -> Summary
         ensures floor { result.table.floor ≡ floor }
+        ensures stages { result.stages.floor ≡ 0 }
         ensures nothing { KeepsNothing floor result }
     {
         let mut table = Table::new(alloc);
         table.fold_to(floor);
         Summary {
             whole: 0,
-            local: 0,
-            pending: 0,
             removed: 0,
+            stages: Table::new(alloc),
             table,
         }
     }
@@ -45,9 +47,11 @@ impl Summary {
     {
         match view {
             View::Of(LenView::At(at)) => self.table.length(at),
-            View::Of(LenView::Stage(_)) => self.local,
+            View::Of(LenView::Stage(stage)) => self.stages.length(Perspective {
+                r: stage,
+                c: NOBODY_ELSE,
+            }),
             View::Of(LenView::All) => self.whole,
-            View::Pending => self.pending,
             View::Removed => self.removed,
         }
     }
@@ -70,7 +74,7 @@ impl Summary {
     }
 
     // Takes `len` elements of the stamps `e` out, and puts `new_len` of the stamps `new` in.
-    pub(crate) fn exchange(
+    fn exchange(
         &mut self,
         floor: u64,
         e: &Element,
@@ -78,24 +82,20 @@ impl Summary {
         new: &Element,
         new_len: u64,
     ) -> Result<(), OutOfMemory>
-        requires { self.old.table.floor ≤ floor }
+        requires floor { self.old.table.floor ≡ floor }
+        requires stages { self.old.stages.floor ≡ 0 }
         ensures floor { self.new.table.floor ≡ floor }
-        ensures low { HasRange self.new }
         ensures exchanges { OnOk result (KeepsExchange floor self.old self.new e.now len new.now new_len) }
     {
-        let last = View::Of(LenView::Stage(u64::MAX));
-        let gone = shown_in(e, len, last);
-        let come = shown_in(new, new_len, last);
-        let settled = shown_in(e, len, View::Pending);
-        let pending = shown_in(new, new_len, View::Pending);
+        let old_staged = staged(e)?;
+        let new_staged = staged(new)?;
         let cleared = shown_in(e, len, View::Removed);
         let removed = shown_in(new, new_len, View::Removed);
+        self.stages.replace(&old_staged, len, &new_staged, new_len)?;
+        self.table.replace(e, len, new, new_len)?;
         self.whole = self.whole.wrapping_sub(len).wrapping_add(new_len);
-        self.local = self.local.wrapping_sub(gone).wrapping_add(come);
-        self.pending = self.pending.wrapping_sub(settled).wrapping_add(pending);
         self.removed = self.removed.wrapping_sub(cleared).wrapping_add(removed);
-        self.table.fold_to(floor);
-        self.table.replace(e, len, new, new_len)
+        Ok(())
     }
 
     // Raises the floor, and puts in what another block keeps.
@@ -107,6 +107,7 @@ impl Summary {
         ensures sum { OnOk result (KeepsSum floor self.old other.now self.new) }
     {
         self.table.fold_to(floor);
+        self.stages.tidy();
         self.add_all(floor, other)
     }
 
@@ -119,9 +120,8 @@ impl Summary {
         ensures sum { OnOk result (KeepsSum floor self.old other.now self.new) }
     {
         self.whole = self.whole.wrapping_add(other.whole);
-        self.local = self.local.wrapping_add(other.local);
-        self.pending = self.pending.wrapping_add(other.pending);
         self.removed = self.removed.wrapping_add(other.removed);
+        self.stages.add_all(&other.stages)?;
         self.table.add_all(&other.table)
     }
 }
@@ -141,7 +141,8 @@ pub(crate) fn add_node<L: Leaf>(
     match node {
         Node::Leaf { value } => {
             let e = value.element();
-            sum.exchange(floor, e, 0, e, value.len())
+            let change = Summary::of_change(floor, e, 0, e, value.len())?;
+            sum.add_all(floor, &change)
         }
         Node::Block { value, .. } => sum.add_all(floor, &value.sum),
     }

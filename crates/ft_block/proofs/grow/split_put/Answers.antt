@@ -1,14 +1,14 @@
 use Rattle.std.proofs.Common.{refl}
-use Rattle.ft_block.specs.declared.leaves.View.TheVariants.{Pending}
+use Rattle.ft_block.specs.declared.leaves.View.TheVariants.{Removed}
 use Rattle.ft_block.specs.Tree.{by_view}
 use Rattle.ft_block.proofs.KeptLemmas.{same_floors, added_floors}
 use Rattle.ft_shape.proofs.SplitLemmas.{split_apart_front, split_fits_front, split_apart_rear4, split_fits_rear, split_done, split_resums}
 use Rattle.ft_block.proofs.grow.split_put.Goals as goal
 
 pub rebuild-requires-clause-apart : goal.rebuild-requires-clause-apart
-rebuild-requires-clause-apart g c = split_apart_front (by_view g.L.Leaf.size g.L.Leaf.element Pending) c.args.arena.now c.add_block-rear.new.self c.move_half.new.arena
+rebuild-requires-clause-apart g c = split_apart_front (by_view g.L.Leaf.size g.L.Leaf.element Removed) c.args.arena.now c.add_block-rear.new.self c.move_half.new.arena
     c.put_in_half.new.arena c.args.block c.args.place c.args.id c.add_block-rear.result c.height_at-height.result _ refl c.requires.forest
-    c.requires.block c.requires.full c.requires.id c.requires.apart c.requires.differ (c.requires.fits Pending tt) c.add_block-rear.ensures.fresh
+    c.requires.block c.requires.full c.requires.id c.requires.apart c.requires.differ (c.requires.fits Removed tt) c.add_block-rear.ensures.fresh
     c.add_block-rear.ensures.leaves c.add_block-rear.ensures.spare c.add_block-rear.ensures.changes c.move_half.ensures c.put_in_half.ensures
 
 pub rebuild-requires-clause-floors : goal.rebuild-requires-clause-floors
@@ -24,11 +24,11 @@ rebuild-requires-clause-fits g c = λ view k. split_fits_front (by_view g.L.Leaf
     c.add_block-rear.ensures.leaves c.add_block-rear.ensures.spare c.add_block-rear.ensures.changes c.move_half.ensures c.put_in_half.ensures
 
 pub rebuild-requires-2-clause-apart : goal.rebuild-requires-2-clause-apart
-rebuild-requires-2-clause-apart g c = split_apart_rear4 (by_view g.L.Leaf.size g.L.Leaf.element Pending) c.args.arena.now c.add_block-rear.new.self
+rebuild-requires-2-clause-apart g c = split_apart_rear4 (by_view g.L.Leaf.size g.L.Leaf.element Removed) c.args.arena.now c.add_block-rear.new.self
     c.move_half.new.arena c.put_in_half.new.arena c.args.block c.args.place c.args.id c.add_block-rear.result c.height_at-height.result _ refl
-    c.requires.forest c.requires.block c.requires.full c.requires.id c.requires.apart c.requires.differ (c.requires.fits Pending tt) c.add_block-rear.ensures.fresh
+    c.requires.forest c.requires.block c.requires.full c.requires.id c.requires.apart c.requires.differ (c.requires.fits Removed tt) c.add_block-rear.ensures.fresh
     c.add_block-rear.ensures.leaves c.add_block-rear.ensures.spare c.add_block-rear.ensures.changes c.move_half.ensures c.put_in_half.ensures c.rebuild.new.arena
-    c.in_ok-rebuild.ensures.shape (c.in_ok-rebuild.ensures.sums Pending tt)
+    c.in_ok-rebuild.ensures.shape (c.in_ok-rebuild.ensures.sums Removed tt)
 
 pub rebuild-requires-2-clause-fits : goal.rebuild-requires-2-clause-fits
 rebuild-requires-2-clause-fits g c = λ view k. split_fits_rear (by_view g.L.Leaf.size g.L.Leaf.element view) c.args.arena.now c.add_block-rear.new.self
@@ -38,12 +38,12 @@ rebuild-requires-2-clause-fits g c = λ view k. split_fits_rear (by_view g.L.Lea
     c.in_ok-rebuild.ensures.shape (c.in_ok-rebuild.ensures.sums view k)
 
 pub returns-clause-splits : goal.returns-clause-splits
-returns-clause-splits g c = split_done (by_view g.L.Leaf.size g.L.Leaf.element Pending) c.args.arena.now c.add_block-rear.new.self c.move_half.new.arena
+returns-clause-splits g c = split_done (by_view g.L.Leaf.size g.L.Leaf.element Removed) c.args.arena.now c.add_block-rear.new.self c.move_half.new.arena
     c.put_in_half.new.arena c.args.block c.args.place c.args.id c.add_block-rear.result c.height_at-height.result _ refl c.requires.forest
-    c.requires.block c.requires.full c.requires.id c.requires.apart c.requires.differ (c.requires.fits Pending tt) c.add_block-rear.ensures.fresh
+    c.requires.block c.requires.full c.requires.id c.requires.apart c.requires.differ (c.requires.fits Removed tt) c.add_block-rear.ensures.fresh
     c.add_block-rear.ensures.leaves c.add_block-rear.ensures.spare c.add_block-rear.ensures.changes c.move_half.ensures c.put_in_half.ensures c.rebuild.new.arena
-    c.in_ok-rebuild.ensures.shape (c.in_ok-rebuild.ensures.sums Pending tt) c.rebuild-2.new.arena c.in_ok-rebuild-2.ensures.shape
-    (c.in_ok-rebuild-2.ensures.sums Pending tt) c.height_at-height.ensures
+    c.in_ok-rebuild.ensures.shape (c.in_ok-rebuild.ensures.sums Removed tt) c.rebuild-2.new.arena c.in_ok-rebuild-2.ensures.shape
+    (c.in_ok-rebuild-2.ensures.sums Removed tt) c.height_at-height.ensures
 
 pub returns-clause-sums : goal.returns-clause-sums
 returns-clause-sums g c = λ view k. split_resums (by_view g.L.Leaf.size g.L.Leaf.element view) c.args.arena.now c.add_block-rear.new.self c.move_half.new.arena

@@ -11,7 +11,7 @@ loop-kid-init g c = record {
   few = omega (arith, c.len-few.ensures.value, c.len-few.ensures.few);
   floor =
       c.new-sum.ensures.floor;
-  low = (omega arith, omega arith, omega arith, omega arith);
+  low = (omega arith, omega arith);
   so_far = λ view k. omega (arith, c.new-sum.ensures.nothing view k);
 }
 
