@@ -1,8 +1,5 @@
-use Rattle.std.proofs.Common.{arith, ℕ, Option, subst, ap, ◌∙◌}
-use Rattle.ft_block.specs.declared.leaves.View.{View}
-use Rattle.ft_block.specs.Tree.{by_view, KeepsLengths}
+use Rattle.std.proofs.Common.{arith, ℕ, Option, subst}
 use Rattle.ft_block.specs.Inside.{IsRooted}
-use Rattle.ft_shape.specs.Tree.{length_of, total, numbers_before}
 use Rattle.ft_block.proofs.ViewLemmas.{all_fit}
 use Rattle.ft_block.proofs.SoundLemmas.{rooted_forest}
 use Rattle.ft_block.proofs.counted.position_in.Goals as goal
