@@ -9,7 +9,7 @@ use Rattle.std.proofs.lemmas.Bool.Decides.{nat_tests}
 use Rattle.ft_props.specs.declared.properties.Changes.{Changes}
 use Rattle.ft_props.specs.Properties.{PropertyList, change, shown_props}
 use Rattle.ft_props.specs.Steps.{acked_props}
-use Rattle.ft_props.specs.Overlay.{IsBelowStages, StagesRise, kept_shown, without_stage}
+use Rattle.ft_props.specs.Overlay.{IsBelowStages, StagesRise, without_stage}
 
 abbrev pub Pending : Type 0
 Pending = List (ℕ × Changes)
@@ -19,20 +19,6 @@ Pending = List (ℕ × Changes)
 pub shown_props-append : (props : PropertyList) (xs ys : Pending) → shown_props props (xs ++ ys) ≡ shown_props (shown_props props xs) ys
 shown_props-append props [] ys = refl
 shown_props-append props (x ∷ xs) ys = shown_props-append (change props x.1) xs ys
-
-kept_shown-some : (acked : PropertyList) (xs : Pending) (x : ℕ × Changes) → kept_shown acked (xs ++ x ∷ []) ≡ Some (shown_props acked (xs ++ x ∷ []))
-kept_shown-some acked [] x = refl
-kept_shown-some acked (y ∷ xs) x = refl
-
--- what is kept after one more stage
-pub kept_shown-push : (acked : PropertyList) (xs : Pending) (x : ℕ × Changes) → kept_shown acked (xs ++ x ∷ []) ≡ Some (change (shown_props acked xs) x.1)
-kept_shown-push acked xs x = kept_shown-some acked xs x ∙ ap Some (shown_props-append acked xs (x ∷ []))
-
--- what is kept where there are changes in one of two parts
-pub kept_shown-parts : (acked : PropertyList) (xs ys : Pending) → 0 < length xs + length ys → kept_shown acked (xs ++ ys) ≡ Some (shown_props (shown_props acked xs) ys)
-kept_shown-parts acked [] [] h = absurd (omega arith)
-kept_shown-parts acked [] (y ∷ ys) h = refl
-kept_shown-parts acked (x ∷ xs) ys h = ap Some (shown_props-append acked (x ∷ xs) ys)
 
 -- ---- stages that rise
 

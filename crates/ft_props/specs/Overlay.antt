@@ -1,6 +1,8 @@
 -- The properties of an element as its client holds them: the acknowledged ones, and the pending changes on top by rising
 -- stage.
-use Rattle.std.specs.Prelude.{◌≡◌, ℕ, ◌<◌, not, nat_eq, List, [], ◌∷◌, ◌++◌, Option, Some, None, filter, ⊤}
+use Rattle.std.specs.Prelude.{◌≡◌, ℕ, ◌<◌, not, nat_eq, List, [], ◌∷◌, ◌++◌, Option, Some, None, filter, ⊤, Box}
+use Rattle.std.specs.declared.alloc.Global.{Global}
+use Rattle.ft_props.specs.declared.overlay.Ahead.{Ahead}
 use Rattle.ft_props.specs.declared.properties.Changes.{Changes}
 use Rattle.ft_props.specs.Properties.{PropertyList, change, shown_props}
 use Rattle.ft_props.specs.Steps.{acked_props}
@@ -44,13 +46,16 @@ abbrev pub StagesRise : List (ℕ × Changes) → Type 0
 StagesRise [] = ⊤
 StagesRise ((k, c) ∷ pending) = IsBelowStages k pending × StagesRise pending
 
--- what is kept ready to be shown: the shown properties while something is pending, else none, since the acknowledged
--- properties are shown then
-abbrev pub kept_shown : PropertyList → List (ℕ × Changes) → Option PropertyList
-kept_shown acked [] = None
-kept_shown acked (p ∷ pending) = Some (shown_props acked (p ∷ pending))
+-- the pending changes of what is ahead of the acknowledged properties
+abbrev pub ahead_pending : Option (Box Ahead Global) → List (ℕ × Changes)
+ahead_pending None = []
+ahead_pending (Some b) = b.value.pending.items
 
 -- the stages rise, and what is kept ready is what is shown
-pub record IsKept (acked : PropertyList) (pending : List (ℕ × Changes)) (shown : Option PropertyList) : Type 0 where
-  pub rising : StagesRise pending
-  pub ready : shown ≡ kept_shown acked pending
+pub record IsAhead (acked : PropertyList) (a : Ahead) : Type 0 where
+  pub rising : StagesRise a.pending.items
+  pub ready : a.shown ≡ shown_props acked a.pending.items
+
+abbrev pub IsReady : PropertyList → Option (Box Ahead Global) → Type 0
+IsReady acked None = ⊤
+IsReady acked (Some b) = IsAhead acked b.value

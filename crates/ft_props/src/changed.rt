@@ -70,6 +70,7 @@ impl Props {
     {
         let mut props = self.copy()?;
         apply_all(&mut props, set)?;
+        props.tighten();
         Ok(props)
     }
 
@@ -82,6 +83,7 @@ impl Props {
     {
         let mut props = self.copy()?;
         make_changes(&mut props, changes)?;
+        props.tighten();
         Ok(props)
     }
 }

@@ -1,9 +1,10 @@
 //! The properties of an element as its client holds them.
 
-ghost use Rattle.std.specs.Prelude.{◌≡◌, ◌↔◌, ◌<◌, ◌≤◌, ◌++◌, [], All, IsTrue, IsFalse, IfOk, OnOk, OnErr, chars, nat_eq, option_copied, position};
+ghost use Rattle.std.specs.Prelude.{◌≡◌, ◌↔◌, ◌<◌, ◌≤◌, ◌++◌, ◌∷◌, [], All, IsTrue, IsFalse, IfOk, OnOk, OnErr, chars, nat_eq, option_copied, position};
 ghost use Rattle.std.specs.List.{list_any};
-ghost use Rattle.ft_props.specs.Properties.{shown_props, value_of};
-ghost use Rattle.ft_props.specs.Overlay.{kept_shown};
+ghost use Rattle.ft_props.specs.Properties.{change, shown_props, value_of};
+ghost use Rattle.ft_props.specs.Overlay.{StagesRise, without_stage};
+ghost use Rattle.ft_props.specs.Steps.{acked_props};
 
 use crate::changed::make_changes;
 use crate::properties::{Changes, Props};
@@ -14,22 +15,29 @@ use std::marker::Model;
 
 /// Acknowledged properties, and pending changes on top of them by rising stage.
 ///
-/// While something is pending, what is shown is kept ready, so that reading takes no memory.
+/// While something is pending, what is shown is kept ready, so that reading takes no memory. Most
+/// elements have nothing pending, and hold the acknowledged properties alone.
 #[derive(Drop)]
 pub struct Overlay {
     acked: Props,
-    pending: Vec<(u64, Changes)>,
-    shown: Option<Props>,
+    ahead: Option<Box<Ahead>>,
 }
 
 impl Model for Overlay {
-    ghost use Rattle.ft_props.specs.Overlay.{OverlayState, IsKept};
+    ghost use Rattle.ft_props.specs.Overlay.{OverlayState, IsReady, ahead_pending};
 
     ghost Value = { OverlayState };
 
-    ghost view = { λ a. record { acked = a.acked; pending = a.pending.items } };
+    ghost view = { λ a. record { acked = a.acked; pending = ahead_pending a.ahead } };
 
-    ghost invariant = { λ a. IsKept a.acked a.pending.items a.shown };
+    ghost invariant = { λ a. IsReady a.acked a.ahead };
+}
+
+/// Pending changes by rising stage, and what is shown with them.
+#[derive(Drop)]
+struct Ahead {
+    pending: Vec<(u64, Changes)>,
+    shown: Props,
 }
 
 /// Makes the changes of each stage in turn. After want of memory some of them may be made.
@@ -42,21 +50,18 @@ fn make_all_changes(props: &mut Props, pending: &[(u64, Changes)]) -> Result<(),
     Ok(())
 }
 
-/// What is kept ready to be shown, of changes in two parts: None where both are empty.
-fn kept_shown(
+/// What is shown of acknowledged properties with changes in two parts.
+fn shown_over(
     acked: &Props,
     front: &[(u64, Changes)],
     back: &[(u64, Changes)],
-) -> Result<Option<Props>, OutOfMemory>
-    ensures { IfOk result (λ shown. shown ≡ kept_shown acked.now (front.now ++ back.now)) }
+) -> Result<Props, OutOfMemory>
+    ensures { IfOk result (λ shown. shown ≡ shown_props acked.now (front.now ++ back.now)) }
 {
-    if front.is_empty() && back.is_empty() {
-        return Ok(None);
-    }
     let mut shown = acked.copy()?;
     make_all_changes(&mut shown, front)?;
     make_all_changes(&mut shown, back)?;
-    Ok(Some(shown))
+    Ok(shown)
 }
 
 /// The place of that stage, if it is there.
@@ -95,6 +100,110 @@ fn is_same_pending(mine: &[(u64, Changes)], theirs: &[(u64, Changes)]) -> bool
     true
 }
 
+impl Ahead {
+    /// The changes of one stage alone.
+    ///
+    /// Answers `OutOfMemory` where there is no room for them.
+    fn first(
+        alloc: Global,
+        acked: &Props,
+        stage: u64,
+        set: &Changes,
+    ) -> Result<Box<Ahead>, OutOfMemory>
+        ensures pending { IfOk result (λ b. b.value.pending.items ≡ (stage, set.now) ∷ []) }
+        ensures shown { IfOk result (λ b. b.value.shown ≡ change acked.now set.now) }
+    {
+        let shown = acked.changed(set)?;
+        let mut pending = Vec::with_capacity(alloc, 1)?;
+        pending.push((stage, set.copy()?))?;
+        Ok(Box::new(alloc, Ahead { pending, shown })?)
+    }
+
+    /// Adds changes of a stage.
+    ///
+    /// Answers `OutOfMemory` where there is no room for them, and then all is as it was.
+    fn push(&mut self, stage: u64, set: &Changes) -> Result<(), OutOfMemory>
+        ensures pending { OnOk result (self.new.pending.items ≡ self.old.pending.items ++ (stage, set.now) ∷ []) }
+        ensures shown { OnOk result (self.new.shown ≡ change self.old.shown set.now) }
+        ensures err_pending { OnErr result (self.new.pending.items ≡ self.old.pending.items) }
+        ensures err_shown { OnErr result (self.new.shown ≡ self.old.shown) }
+    {
+        let shown = self.shown.changed(set)?;
+        self.pending.push((stage, set.copy()?))?;
+        self.shown = shown;
+        Ok(())
+    }
+
+    /// Makes ready what is shown over other acknowledged properties.
+    ///
+    /// Answers `OutOfMemory` where there is no room for it, and then all is as it was.
+    fn show(&mut self, acked: &Props) -> Result<(), OutOfMemory>
+        ensures pending { self.new.pending ≡ self.old.pending }
+        ensures shown { OnOk result (self.new.shown ≡ shown_props acked.now self.old.pending.items) }
+        ensures err { OnErr result (self.new.shown ≡ self.old.shown) }
+    {
+        self.shown = shown_over(acked, &self.pending, &[])?;
+        Ok(())
+    }
+
+    /// Takes the changes of that stage out, if there are any.
+    ///
+    /// Answers `OutOfMemory` where there is no room for what is then shown, and then all is as it
+    /// was.
+    fn drop_stage(&mut self, stage: u64, acked: &Props) -> Result<(), OutOfMemory>
+        requires rising { StagesRise self.old.pending.items }
+        requires shown { self.old.shown ≡ shown_props acked.now self.old.pending.items }
+        ensures rising { StagesRise self.new.pending.items }
+        ensures pending { OnOk result (self.new.pending.items ≡ without_stage stage self.old.pending.items) }
+        ensures shown { OnOk result (self.new.shown ≡ shown_props acked.now self.new.pending.items) }
+        ensures err_pending { OnErr result (self.new.pending.items ≡ self.old.pending.items) }
+        ensures err_shown { OnErr result (self.new.shown ≡ self.old.shown) }
+    {
+        if let Some(i) = place_of_stage(&self.pending, stage) {
+            self.shown = shown_over(acked, &self.pending[..i], &self.pending[i + 1..])?;
+            let _ = self.pending.remove(i);
+        }
+        Ok(())
+    }
+
+    /// Makes the changes of that stage, if it is the first, to the acknowledged properties, and takes
+    /// them out.
+    ///
+    /// Answers `OutOfMemory` where there is no room for what they make, and then all is as it was.
+    fn ack(&mut self, stage: u64, acked: &mut Props) -> Result<(), OutOfMemory>
+        requires lowest { All (λ change. stage ≤ change.0) self.old.pending.items }
+        requires rising { StagesRise self.old.pending.items }
+        requires shown { self.old.shown ≡ shown_props acked.old self.old.pending.items }
+        ensures rising { StagesRise self.new.pending.items }
+        ensures acked { OnOk result (acked.new ≡ acked_props stage acked.old self.old.pending.items) }
+        ensures pending { OnOk result (self.new.pending.items ≡ without_stage stage self.old.pending.items) }
+        ensures shown { self.new.shown ≡ shown_props acked.new self.new.pending.items }
+        ensures err_acked { OnErr result (acked.new ≡ acked.old) }
+        ensures err_pending { OnErr result (self.new.pending.items ≡ self.old.pending.items) }
+    {
+        if let Some((first, changes)) = self.pending.first() {
+            if *first == stage {
+                *acked = acked.changed(changes)?;
+                let _ = self.pending.remove(0);
+            }
+        }
+        Ok(())
+    }
+
+    /// Equal changes.
+    ///
+    /// Answers `OutOfMemory` where there is no room for them.
+    fn copy(&self) -> Result<Box<Ahead>, OutOfMemory>
+        ensures pending { IfOk result (λ b. b.value.pending.items ≡ self.now.pending.items) }
+        ensures shown { IfOk result (λ b. b.value.shown ≡ self.now.shown) }
+    {
+        let alloc = *self.pending.allocator();
+        let shown = self.shown.copy()?;
+        let pending = copy_pending(alloc, &self.pending)?;
+        Ok(Box::new(alloc, Ahead { pending, shown })?)
+    }
+}
+
 impl Overlay {
     ghost use Rattle.ft_props.specs.Overlay.{after_ack, after_acked_changes, after_drop, after_pending_changes, shown_of};
 
@@ -106,14 +215,10 @@ impl Overlay {
     }
 
     /// These acknowledged properties, and nothing pending.
-    pub fn of(alloc: Global, acked: Props) -> Overlay
+    pub fn of(_alloc: Global, acked: Props) -> Overlay
         ensures { result ≡ record { acked = acked; pending = [] } }
     {
-        Overlay {
-            acked,
-            pending: Vec::new(alloc),
-            shown: None,
-        }
+        Overlay { acked, ahead: None }
     }
 
     /// Makes changes of the acknowledged properties, below the pending changes.
@@ -124,7 +229,9 @@ impl Overlay {
         ensures err { OnErr result (self.new ≡ self.old) }
     {
         let acked = self.acked.changed(set)?;
-        self.shown = kept_shown(&acked, &self.pending, &[])?;
+        if let Some(ahead) = &mut self.ahead {
+            ahead.show(&acked)?;
+        }
         self.acked = acked;
         Ok(())
     }
@@ -138,9 +245,13 @@ impl Overlay {
         ensures ok { OnOk result (self.new ≡ after_pending_changes stage set.now self.old) }
         ensures err { OnErr result (self.new ≡ self.old) }
     {
-        let shown = self.shown_props().changed(set)?;
-        self.pending.push((stage, set.copy()?))?;
-        self.shown = Some(shown);
+        match &mut self.ahead {
+            Some(ahead) => ahead.push(stage, set)?,
+            None => {
+                let alloc = self.acked.allocator();
+                self.ahead = Some(Ahead::first(alloc, &self.acked, stage, set)?);
+            }
+        }
         Ok(())
     }
 
@@ -153,16 +264,11 @@ impl Overlay {
         ensures ok { OnOk result (self.new ≡ after_ack stage self.old) }
         ensures err { OnErr result (self.new ≡ self.old) }
     {
-        let Some((first, changes)) = self.pending.first() else {
-            return Ok(());
-        };
-        if *first != stage {
-            return Ok(());
-        }
-        self.acked = self.acked.changed(changes)?;
-        let _ = self.pending.remove(0);
-        if self.pending.is_empty() {
-            self.shown = None;
+        if let Some(ahead) = &mut self.ahead {
+            ahead.ack(stage, &mut self.acked)?;
+            if ahead.pending.is_empty() {
+                self.ahead = None;
+            }
         }
         Ok(())
     }
@@ -175,10 +281,11 @@ impl Overlay {
         ensures ok { OnOk result (self.new ≡ after_drop stage self.old) }
         ensures err { OnErr result (self.new ≡ self.old) }
     {
-        if let Some(i) = place_of_stage(&self.pending, stage) {
-            let shown = kept_shown(&self.acked, &self.pending[..i], &self.pending[i + 1..])?;
-            let _ = self.pending.remove(i);
-            self.shown = shown;
+        if let Some(ahead) = &mut self.ahead {
+            ahead.drop_stage(stage, &self.acked)?;
+            if ahead.pending.is_empty() {
+                self.ahead = None;
+            }
         }
         Ok(())
     }
@@ -190,12 +297,22 @@ impl Overlay {
         &self.acked
     }
 
+    /// The pending changes by rising stage.
+    fn pending(&self) -> &[(u64, Changes)]
+        ensures { result.now ≡ self.now.pending }
+    {
+        match &self.ahead {
+            Some(ahead) => ahead.pending.as_slice(),
+            None => &[],
+        }
+    }
+
     /// What is shown: the acknowledged properties with the pending changes made in order of stage.
     pub fn shown_props(&self) -> &Props
         ensures { result.now ≡ shown_of self.now }
     {
-        match &self.shown {
-            Some(shown) => shown,
+        match &self.ahead {
+            Some(ahead) => &ahead.shown,
             None => &self.acked,
         }
     }
@@ -220,14 +337,14 @@ impl Overlay {
     pub fn has(&self, stage: u64) -> bool
         ensures { result ≡ list_any (λ change. nat_eq change.0 stage) self.now.pending }
     {
-        self.pending.iter().any(|change| change.0 == stage)
+        self.pending().iter().any(|change| change.0 == stage)
     }
 
     /// Whether any changes are pending.
     pub fn has_pending(&self) -> bool
         ensures { IsFalse result ↔ (self.now.pending ≡ []) }
     {
-        !self.pending.is_empty()
+        !self.pending().is_empty()
     }
 
     /// An equal overlay.
@@ -236,14 +353,13 @@ impl Overlay {
     pub fn copy(&self) -> Result<Overlay, OutOfMemory>
         ensures { IfOk result (λ copy. copy ≡ self.now) }
     {
-        let shown = match &self.shown {
-            Some(shown) => Some(shown.copy()?),
+        let ahead = match &self.ahead {
+            Some(ahead) => Some(ahead.copy()?),
             None => None,
         };
         Ok(Overlay {
             acked: self.acked.copy()?,
-            pending: copy_pending(*self.pending.allocator(), &self.pending)?,
-            shown,
+            ahead,
         })
     }
 
@@ -251,7 +367,7 @@ impl Overlay {
     pub fn same(&self, other: &Overlay) -> bool
         ensures { IsTrue result ↔ (self.now ≡ other.now) }
     {
-        self.acked.same(&other.acked) && is_same_pending(&self.pending, &other.pending)
+        self.acked.same(&other.acked) && is_same_pending(self.pending(), other.pending())
     }
 }
 

@@ -123,6 +123,13 @@ impl<V: Drop> Pairs<V> {
         }
     }
 
+    /// Gives back the room that no pair takes.
+    pub(crate) fn tighten(&mut self)
+        ensures { self.new ≡ self.old }
+    {
+        self.items.shrink_to_fit();
+    }
+
     /// Takes the key and its value out, if it is there.
     pub fn remove(&mut self, key: &str)
         ensures { (value : V) → self.new ≡ remove_rising key_cmp (chars key.now, value) self.old }
