@@ -1,11 +1,12 @@
 //! Collections of intervals.
 
-ghost use Rattle.std.specs.Prelude.{◌≡◌, ◌≤◌, [], Some, IsSome, not, IsTrue, IfOk, IfErr, OnErr, OnOk, true, false, map, option_map};
+ghost use Rattle.std.specs.Prelude.{◌≡◌, ◌≤◌, [], Some, IsSome, not, IsTrue, IfOk, IfErr, OnErr, OnOk, true, false, filter, map, option_map};
 ghost use Rattle.std.specs.List.{list_any};
 ghost use Rattle.ft_base.specs.Scan.{len};
 ghost use Rattle.ft_block.specs.declared.leaves.LenView.TheVariants.{At, Stage};
 ghost use Rattle.ft_tree_leaves.specs.Elements.{seen_in};
 ghost use Rattle.ft_op.specs.Document.{ends_of, given_ends_fit};
+ghost use Rattle.ft_sumdoc.specs.Meeting.{meets};
 ghost use Rattle.ft_interval.specs.declared.faults.IntervalFault.TheVariants as fault;
 ghost use Rattle.ft_interval.specs.Ends.{map_ends, places_of_given, slid_end};
 ghost use Rattle.ft_interval.specs.Intervals.{NamesRise, interval_of, name_in};
@@ -21,14 +22,16 @@ use crate::numbers::{add_numbers, settled_numbers, with_numbers};
 use crate::pending::{Operation, given_ends, has_stage, place_of_stage, push_copy};
 use crate::shown::shown_ends;
 use crate::standing::shown_numbers;
-use ft_base::{OutOfMemory, Perspective, Text};
+use ft_base::{OutOfMemory, Perspective, Steps, Text};
 use ft_block::LenView;
 use ft_op::{Ends, TextOp};
 use ft_refs::RefId;
 use ft_sumdoc::IntervalRec;
+use ft_sumdoc::meeting::meets;
 use ft_tree::{TextContent, Tree};
 use std::alloc::Global;
 use std::marker::Model;
+use std::sync::ledger::Ledger;
 
 /// Intervals by label and id, with what is pending on them.
 ///
@@ -300,6 +303,30 @@ impl Collections {
             IfOk result (λ all. all.items ≡ map (shown_record xs) (shown_intervals xs c.acked c.pending)) }
     {
         all_shown(tree, &self.acked, &self.pending)
+    }
+
+    /// The intervals of the label as they are shown that meet the places from `a` to `b`, by rising id: those that aren't
+    /// detached, start at or before `b` and end at or after `a`. A read of a node of an index is one step.
+    ///
+    /// Answers `OutOfMemory` where there is no room for them.
+    pub fn overlapping<G: Ledger>(
+        &self,
+        tree: &Tree<TextContent>,
+        label: &Text,
+        a: u64,
+        b: u64,
+        _steps: &mut Steps<G>,
+    ) -> Result<Vec<IntervalRec>, OutOfMemory>
+        requires usable { IsTrue tree.now.usable }
+        requires live { IsLive tree.now.refs self.now }
+        requires order { a ≤ b }
+        ensures { let xs = text_elements tree.now in
+            let c = placed tree.now.refs self.now in
+            IfOk result (λ found. found.items ≡ filter (meets label.now a b) (map (shown_record xs) (shown_intervals xs c.acked c.pending))) }
+    {
+        let mut found = self.all(tree)?;
+        found.retain(|i| meets(i, label, a, b));
+        Ok(found)
     }
 
     /// The operation of that pending stage as it is sent again after a reconnection: its ends, if it gives some, are settled at

@@ -8,7 +8,7 @@ use Rattle.ft_op.specs.Stages.{shown_intervals}
 use Rattle.ft_msg.specs.Blame.{blame, origin_of}
 use Rattle.ft_msg.specs.Client.{NaiveClient, floor, stages_of}
 use Rattle.ft_msg.specs.Compacted.{IsCompacted}
-use Rattle.ft_msg.specs.Overlap.{meets}
+use Rattle.ft_sumdoc.specs.Meeting.{meets}
 use Rattle.ft_laws_compaction.specs.Keeping.{ShowAlike}
 use Rattle.ft_msg.specs.Content.{ViewContent, all_cells, content, interval_record, markers_from, property_runs_from, shown_cell_value, text_characters}
 use Rattle.ft_laws_agreement.proofs.HeldNames.{filter-held}

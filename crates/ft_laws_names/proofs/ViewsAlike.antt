@@ -13,7 +13,8 @@ use Rattle.ft_op.specs.Stages.{Stage, shown_intervals}
 use Rattle.ft_msg.specs.Blame.{blame, origin_of}
 use Rattle.ft_msg.specs.Client.{NaiveClient, PendingEdit, stages_of}
 use Rattle.ft_msg.specs.Content.{all_cells, cell_after_stage, cell_record, content, content_characters, content_markers, extended_property_runs, interval_record, markers_from, property_runs_from, row_cells, shown_cell_value, stage_view, value_unless_null}
-use Rattle.ft_msg.specs.Overlap.{meets, overlap}
+use Rattle.ft_msg.specs.Overlap.{overlap}
+use Rattle.ft_sumdoc.specs.Meeting.{meets}
 use Rattle.ft_msg.specs.Reconnection.{regenerated, regenerated_edit}
 use Rattle.ft_laws_names.proofs.Beside.{beside-both, beside-filter, beside-length, beside-more, ends, next, same-flat, same-map}
 use Rattle.ft_laws_names.proofs.ClientsAlike.{ClientsAlike, stages-flat}

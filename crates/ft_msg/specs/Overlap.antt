@@ -1,14 +1,10 @@
--- The shown intervals that meet a range of the text.
-use Rattle.std.specs.Prelude.{ℕ, Bool, ◌&&◌, List, filter, pos, int_le}
-use Rattle.std.specs.Ordering.{is_eq}
+-- The shown intervals of a client that meet a range of its text.
+use Rattle.std.specs.Prelude.{ℕ, List, filter}
 use Rattle.ft_sumdoc.specs.declared.summary.IntervalRec.{IntervalRec}
-use Rattle.ft_props.specs.Properties.{Characters, text_cmp}
+use Rattle.ft_sumdoc.specs.Meeting.{meets}
+use Rattle.ft_props.specs.Properties.{Characters}
 use Rattle.ft_msg.specs.Client.{NaiveClient}
 use Rattle.ft_msg.specs.Content.{content}
-
--- whether the interval is of the label, isn't detached, starts at or before b and ends at or after a
-abbrev pub meets : Characters → ℕ → ℕ → IntervalRec → Bool
-meets label a b i = is_eq (text_cmp label i.label) && int_le (pos 0) i.ends.start && int_le i.ends.start (pos b) && int_le (pos a) i.ends.end
 
 -- the shown intervals of a label that meet the places from a to b, by rising id
 abbrev pub overlap : NaiveClient → Characters → ℕ → ℕ → List IntervalRec

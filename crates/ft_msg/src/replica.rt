@@ -1,13 +1,13 @@
 //! What every implementation of a client promises.
 
 use crate::faults::{EditFault, LinkFault, ProcessFault, SummaryFault, ViewFault};
-use crate::meeting::meeting;
 use crate::messages::{Draft, Entry};
 use crate::names::Names;
 use crate::views::{Numbers, View};
 use ft_attrib::Attribution;
 use ft_base::{OutOfMemory, Text};
 use ft_op::ChannelOp;
+use ft_sumdoc::meeting::meeting;
 use ft_sumdoc::{IntervalRec, SumDoc};
 use std::alloc::Global;
 

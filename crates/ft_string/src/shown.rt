@@ -1,10 +1,11 @@
 //! What is shown of a shared text: one walk over its leaves.
 
-ghost use Rattle.std.specs.Prelude.{◌≡◌, ◌≤◌, ◌+◌, ◌++◌, [], ◌∷◌, ℕ, List, IfOk, IsTrue, OnOk, Some, chars, length, map, option_map, string_bytes};
+ghost use Rattle.std.specs.Prelude.{◌≡◌, ◌≤◌, ◌+◌, ◌++◌, [], ◌∷◌, ℕ, List, IfOk, IsTrue, OnOk, Some, chars, filter, length, map, option_map, string_bytes};
 ghost use Rattle.ft_msg.specs.Blame.{origin_of};
-ghost use Rattle.ft_msg.specs.Content.{stage_view};
+ghost use Rattle.ft_msg.specs.Content.{interval_record, stage_view};
 ghost use Rattle.ft_op.specs.Document.{Document};
-ghost use Rattle.ft_op.specs.Stages.{Stage};
+ghost use Rattle.ft_op.specs.Stages.{Stage, shown_intervals};
+ghost use Rattle.ft_sumdoc.specs.Meeting.{meets};
 ghost use Rattle.ft_props.specs.Properties.{max_safe_integer};
 ghost use Rattle.ft_string.specs.Calls.{KeepsOthers, ShowsText};
 ghost use Rattle.ft_string.specs.Holds.{HoldsText, IsTextSound};
@@ -19,11 +20,13 @@ use crate::lengths::made_in;
 use crate::strings::SharedString;
 use ft_arena::NodeId;
 use ft_attrib::{Attribution, Origin};
-use ft_base::{List, OutOfMemory, Stamp, Text, seen_at};
+use ft_base::{List, OutOfMemory, Stamp, Steps, Text, seen_at};
 use ft_msg::{Run, Spot, Spots, View};
 use ft_props::Props;
+use ft_sumdoc::IntervalRec;
 use ft_tree::{TextContent, Tree};
 use std::alloc::Global;
+use std::sync::ledger::Ledger;
 
 /// What was shown of the elements so far.
 #[derive(Drop)]
@@ -252,6 +255,29 @@ impl SharedString {
         out.runs = runs;
         out.intervals = intervals;
         Ok(())
+    }
+
+    /// The shown intervals of the label that meet the places from `a` to `b`, by rising id: those that aren't detached, start at
+    /// or before `b` and end at or after `a`. A read of a node of an index is one step.
+    ///
+    /// Answers `OutOfMemory` where there is no room for them.
+    pub fn overlapping<G: Ledger>(
+        &self,
+        label: &Text,
+        a: u64,
+        b: u64,
+        steps: &mut Steps<G>,
+    ) -> Result<Vec<IntervalRec>, OutOfMemory>
+        requires usable { IsTrue self.now.usable }
+        requires none_given { self.now.given ≡ 0 }
+        requires order { a ≤ b }
+        ensures { (last : ℕ) → (doc : Document) → (stages : List Stage) → IsTextSound last doc stages → HoldsText self.now doc stages
+            → IfOk result (λ found. found.items ≡ filter (meets label.now a b) (map (interval_record last doc.text.items) (shown_intervals doc.text.items doc.intervals stages))) }
+    {
+        // That ends are numbers, and that names rise, is read off these contracts.
+        let _made = made_in(&self.tree);
+        let _first = self.intervals.first_stage();
+        self.intervals.overlapping(&self.tree, label, a, b, steps)
     }
 
     /// Who inserted each element that the client sees.

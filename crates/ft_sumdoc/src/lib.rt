@@ -9,6 +9,7 @@ mod fault_steps;
 mod head_reading;
 mod items;
 pub mod laws;
+pub mod meeting;
 mod run_reading;
 mod segment_reading;
 mod shown_reading;

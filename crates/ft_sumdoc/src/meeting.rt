@@ -1,11 +1,11 @@
 //! Shown intervals that meet a range of the text.
 
 ghost use Rattle.std.specs.Prelude.{◌≡◌, IfOk, filter};
-ghost use Rattle.ft_msg.specs.Overlap.{meets};
+ghost use Rattle.ft_sumdoc.specs.Meeting.{meets};
 
+use crate::summary::IntervalRec;
 use ft_base::{OutOfMemory, Text};
 use ft_props::keys::compare;
-use ft_sumdoc::IntervalRec;
 use std::alloc::Global;
 
 /// Copies of those intervals of the label that meet the places from `a` to `b`, in order.
@@ -30,7 +30,7 @@ pub fn meeting(
 }
 
 /// Whether the interval is of the label, isn't detached, starts at or before `b` and ends at or after `a`.
-fn meets(interval: &IntervalRec, label: &Text, a: u64, b: u64) -> bool
+pub fn meets(interval: &IntervalRec, label: &Text, a: u64, b: u64) -> bool
     ensures { result ≡ meets label.now a b interval.now }
 {
     let ends = &interval.ends;

@@ -1,6 +1,6 @@
 use Rattle.std.proofs.Common.{◌≡◌, ◌++◌, drop, filter}
-use Rattle.ft_msg.specs.Overlap.{meets}
-use Rattle.ft_msg.proofs.meeting.meeting.Given as goal
+use Rattle.ft_sumdoc.specs.Meeting.{meets}
+use Rattle.ft_sumdoc.proofs.meeting.meeting.Given as goal
 
 -- those found, and those of the rest that meet the range, are all that do
 abbrev pub invariant-loop-interval : goal.invariant-loop-interval
