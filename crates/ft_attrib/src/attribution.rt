@@ -21,29 +21,13 @@ pub enum Origin {
     Pending,
 }
 
-impl Origin {
-    /// An equal origin: it always succeeds.
-    pub fn copy(&self) -> Result<Origin, OutOfMemory>
-        ensures { result ≡ Ok self.now }
-    {
+impl Datum for Origin {
+    fn copy(&self) -> Result<Origin, OutOfMemory> {
         Ok(*self)
     }
 
-    /// Whether the origins are equal.
-    pub fn same(&self, other: &Origin) -> bool
-        ensures { IsTrue result ↔ (self.now ≡ other.now) }
-    {
-        self == other
-    }
-}
-
-impl Datum for Origin {
-    fn copy(&self) -> Result<Origin, OutOfMemory> {
-        self.copy()
-    }
-
     fn same(&self, other: &Origin) -> bool {
-        self.same(other)
+        self == other
     }
 }
 
@@ -58,29 +42,13 @@ pub struct AttrRun {
     pub who: Origin,
 }
 
-impl AttrRun {
-    /// An equal run: it always succeeds.
-    pub fn copy(&self) -> Result<AttrRun, OutOfMemory>
-        ensures { result ≡ Ok self.now }
-    {
+impl Datum for AttrRun {
+    fn copy(&self) -> Result<AttrRun, OutOfMemory> {
         Ok(*self)
     }
 
-    /// Whether the runs are equal.
-    pub fn same(&self, other: &AttrRun) -> bool
-        ensures { IsTrue result ↔ (self.now ≡ other.now) }
-    {
-        self == other
-    }
-}
-
-impl Datum for AttrRun {
-    fn copy(&self) -> Result<AttrRun, OutOfMemory> {
-        self.copy()
-    }
-
     fn same(&self, other: &AttrRun) -> bool {
-        self.same(other)
+        self == other
     }
 }
 
@@ -93,29 +61,13 @@ pub struct Total {
     pub count: u64,
 }
 
-impl Total {
-    /// An equal total: it always succeeds.
-    pub fn copy(&self) -> Result<Total, OutOfMemory>
-        ensures { result ≡ Ok self.now }
-    {
+impl Datum for Total {
+    fn copy(&self) -> Result<Total, OutOfMemory> {
         Ok(*self)
     }
 
-    /// Whether the totals are equal.
-    pub fn same(&self, other: &Total) -> bool
-        ensures { IsTrue result ↔ (self.now ≡ other.now) }
-    {
-        self == other
-    }
-}
-
-impl Datum for Total {
-    fn copy(&self) -> Result<Total, OutOfMemory> {
-        self.copy()
-    }
-
     fn same(&self, other: &Total) -> bool {
-        self.same(other)
+        self == other
     }
 }
 

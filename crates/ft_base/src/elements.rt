@@ -16,34 +16,16 @@ pub struct Element {
     pub dels: Stamps,
 }
 
-impl Element {
-    /// An equal element.
-    ///
-    /// Answers `OutOfMemory` where there is no room for the removals.
-    pub fn copy(&self) -> Result<Element, OutOfMemory>
-        ensures { IfOk result (λ copy. copy ≡ self.now) }
-    {
+impl Datum for Element {
+    fn copy(&self) -> Result<Element, OutOfMemory> {
         Ok(Element {
             ins: self.ins,
             dels: self.dels.copy()?,
         })
     }
 
-    /// Whether both elements have the same stamps.
-    pub fn same(&self, other: &Element) -> bool
-        ensures { IsTrue result ↔ (self.now ≡ other.now) }
-    {
-        self.ins.same(&other.ins) && self.dels.same(&other.dels)
-    }
-}
-
-impl Datum for Element {
-    fn copy(&self) -> Result<Element, OutOfMemory> {
-        self.copy()
-    }
-
     fn same(&self, other: &Element) -> bool {
-        self.same(other)
+        self.ins.same(&other.ins) && self.dels.same(&other.dels)
     }
 }
 

@@ -105,13 +105,8 @@ impl<T: Drop> List<T> {
     }
 }
 
-impl<T: Datum> List<T> {
-    /// An equal list.
-    ///
-    /// Answers `OutOfMemory` where there is no room for it.
-    pub fn copy(&self) -> Result<List<T>, OutOfMemory>
-        ensures { IfOk result (λ copy. copy ≡ self.now) }
-    {
+impl<T: Datum> Datum for List<T> {
+    fn copy(&self) -> Result<List<T>, OutOfMemory> {
         let mut items = Vec::with_capacity(*self.items.allocator(), self.items.len())?;
         for item in &self.items {
             items.push(item.copy()?)?;
@@ -119,10 +114,7 @@ impl<T: Datum> List<T> {
         Ok(List { items })
     }
 
-    /// Whether both lists have equal items in the same order.
-    pub fn same(&self, other: &List<T>) -> bool
-        ensures { IsTrue result ↔ (self.now ≡ other.now) }
-    {
+    fn same(&self, other: &List<T>) -> bool {
         if self.items.len() != other.items.len() {
             return false;
         }
@@ -132,15 +124,5 @@ impl<T: Datum> List<T> {
             }
         }
         true
-    }
-}
-
-impl<T: Datum> Datum for List<T> {
-    fn copy(&self) -> Result<List<T>, OutOfMemory> {
-        self.copy()
-    }
-
-    fn same(&self, other: &List<T>) -> bool {
-        self.same(other)
     }
 }

@@ -15,29 +15,13 @@ pub enum Stamp {
     Local { stage: u64 },
 }
 
-impl Stamp {
-    /// An equal stamp: it always succeeds.
-    pub fn copy(&self) -> Result<Stamp, OutOfMemory>
-        ensures { result ≡ Ok self.now }
-    {
+impl Datum for Stamp {
+    fn copy(&self) -> Result<Stamp, OutOfMemory> {
         Ok(*self)
     }
 
-    /// Whether the stamps are equal.
-    pub fn same(&self, other: &Stamp) -> bool
-        ensures { IsTrue result ↔ (self.now ≡ other.now) }
-    {
-        self == other
-    }
-}
-
-impl Datum for Stamp {
-    fn copy(&self) -> Result<Stamp, OutOfMemory> {
-        self.copy()
-    }
-
     fn same(&self, other: &Stamp) -> bool {
-        self.same(other)
+        self == other
     }
 }
 

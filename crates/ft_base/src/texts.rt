@@ -50,32 +50,16 @@ impl Text {
     {
         self.text.as_str()
     }
+}
 
-    /// An equal text.
-    ///
-    /// Answers `OutOfMemory` where there is no room for it.
-    pub fn copy(&self) -> Result<Text, OutOfMemory>
-        ensures { IfOk result (λ copy. copy ≡ self.now) }
-    {
+impl Datum for Text {
+    fn copy(&self) -> Result<Text, OutOfMemory> {
         Ok(Text {
             text: self.text.clone()?,
         })
     }
 
-    /// Whether both texts have the same characters.
-    pub fn same(&self, other: &Text) -> bool
-        ensures { IsTrue result ↔ (self.now ≡ other.now) }
-    {
-        self.text == other.text
-    }
-}
-
-impl Datum for Text {
-    fn copy(&self) -> Result<Text, OutOfMemory> {
-        self.copy()
-    }
-
     fn same(&self, other: &Text) -> bool {
-        self.same(other)
+        self.text == other.text
     }
 }

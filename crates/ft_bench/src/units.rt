@@ -3,7 +3,7 @@
 ghost use Rattle.std.specs.Prelude.{◌≡◌, ◌+◌, ◌-◌, ◌<◌, ◌≤◌, nat_lt, refl};
 ghost use Rattle.std.proofs.Common.{arith};
 
-use ft_base::{Element, OutOfMemory, Stamp, Stamps};
+use ft_base::{Datum, Element, OutOfMemory, Stamp, Stamps};
 use ft_block::Leaf;
 use std::alloc::Global;
 

@@ -13,7 +13,7 @@ use crate::position::leaf_at;
 use crate::refresh::exchange_up;
 use crate::summaries::Summary;
 use ft_arena::{Arena, NodeId};
-use ft_base::{Element, OutOfMemory, Steps};
+use ft_base::{Datum, Element, OutOfMemory, Steps};
 use ft_shape::Headed;
 use std::alloc::Global;
 use std::sync::ledger::Ledger;

@@ -12,7 +12,7 @@ use crate::leaves::Leaf;
 use crate::refresh::{exchange_up, rebuild};
 use crate::summaries::Summary;
 use ft_arena::{Arena, NodeId};
-use ft_base::{OutOfMemory, Steps};
+use ft_base::{Datum, OutOfMemory, Steps};
 use ft_shape::{Headed, height_at, move_half, place_of, put_in_half};
 use std::alloc::Global;
 use std::sync::ledger::Ledger;

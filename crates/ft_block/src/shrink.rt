@@ -16,7 +16,7 @@ use crate::position::leaf_at;
 use crate::refresh::{exchange_up, rebuild};
 use crate::summaries::Summary;
 use ft_arena::{Arena, NodeId};
-use ft_base::{OutOfMemory, Steps};
+use ft_base::{Datum, OutOfMemory, Steps};
 use ft_shape::{Headed, child_at, count_of, drop_root, place_of, regroup};
 use std::alloc::Global;
 use std::sync::ledger::Ledger;

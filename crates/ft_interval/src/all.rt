@@ -12,7 +12,7 @@ ghost use Rattle.ft_interval.specs.State.{AreLiveIntervals, AreLiveOperations, S
 use crate::intervals::{Interval, Intervals};
 use crate::pending::Operation;
 use crate::standing::{carried, removal_until, settled, shown_numbers};
-use ft_base::OutOfMemory;
+use ft_base::{Datum, OutOfMemory};
 use ft_refs::{Place, RefId};
 use ft_sumdoc::{Ends2, IntervalRec};
 use ft_tree::{TextContent, Tree};

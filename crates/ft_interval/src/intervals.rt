@@ -5,7 +5,7 @@ ghost use Rattle.std.specs.Ordering.{is_eq};
 ghost use Rattle.ft_props.specs.Keys.{put_rising};
 ghost use Rattle.ft_interval.specs.Intervals.{after_operation, changed_interval, interval_cmp, interval_of, name_cmp, name_of, place_of_name, with_changed, without_name};
 
-use ft_base::{OutOfMemory, Text};
+use ft_base::{Datum, OutOfMemory, Text};
 use ft_op::{Ends, TextOp};
 use ft_props::keys::compare;
 use ft_props::{PropSet, Props};

@@ -12,7 +12,7 @@ ghost use Rattle.ft_interval.specs.Shown.{regenerated, settled_end};
 ghost use Rattle.ft_interval.specs.State.{text_elements};
 
 use crate::intervals::EndPair;
-use ft_base::OutOfMemory;
+use ft_base::{Datum, OutOfMemory};
 use ft_block::LenView;
 use ft_op::{Ends, TextOp};
 use ft_refs::RefId;

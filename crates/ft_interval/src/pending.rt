@@ -8,7 +8,7 @@ ghost use Rattle.ft_interval.specs.Intervals.{is_on};
 ghost use Rattle.ft_interval.specs.State.{is_at_stage};
 
 use crate::intervals::{EndPair, is_same_name};
-use ft_base::{OutOfMemory, Text};
+use ft_base::{Datum, OutOfMemory, Text};
 use ft_op::{Ends, TextOp};
 use ft_refs::RefId;
 use ft_tree::{TextContent, Tree};

@@ -92,32 +92,16 @@ impl ValText {
     {
         self.text.as_str().parse::<i64>().ok()
     }
+}
 
-    /// An equal text.
-    ///
-    /// Answers `OutOfMemory` where there is no room for it.
-    pub fn copy(&self) -> Result<ValText, OutOfMemory>
-        ensures { IfOk result (λ copy. copy ≡ self.now) }
-    {
+impl Datum for ValText {
+    fn copy(&self) -> Result<ValText, OutOfMemory> {
         Ok(ValText {
             text: self.text.clone()?,
         })
     }
 
-    /// Whether both texts are the same.
-    pub fn same(&self, other: &ValText) -> bool
-        ensures { IsTrue result ↔ (self.now ≡ other.now) }
-    {
-        self.text == other.text
-    }
-}
-
-impl Datum for ValText {
-    fn copy(&self) -> Result<ValText, OutOfMemory> {
-        self.copy()
-    }
-
     fn same(&self, other: &ValText) -> bool {
-        self.same(other)
+        self.text == other.text
     }
 }

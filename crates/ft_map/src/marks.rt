@@ -5,7 +5,7 @@ ghost use Rattle.ft_props.specs.Keys.{KeysRise, value_of};
 ghost use Rattle.ft_map.specs.Marks.{forgotten, no_marks, noted, unless_at, without};
 
 use crate::ops::MapOp;
-use ft_base::{OutOfMemory, Text};
+use ft_base::{Datum, OutOfMemory, Text};
 use ft_props::Pairs;
 use std::alloc::Global;
 use std::marker::Model;

@@ -13,7 +13,7 @@ use crate::ops::MapOp;
 use crate::replica::MapReplica;
 use crate::service::Service;
 use crate::summaries::summary_text;
-use ft_base::{OutOfMemory, Text};
+use ft_base::{Datum, OutOfMemory, Text};
 use ft_msg::Link;
 use ft_seqr::{HowMany, Refusal, conn_of, connection_name, wanted_count};
 use std::alloc::Global;

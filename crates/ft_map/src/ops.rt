@@ -3,7 +3,7 @@
 ghost use Rattle.std.specs.Prelude.{◌≡◌, Some, IfOk, OnOk, OnErr, option_copied};
 ghost use Rattle.ft_map.specs.Maps.{key_cmp, put, put_rising, written};
 
-use ft_base::{OutOfMemory, Text};
+use ft_base::{Datum, OutOfMemory, Text};
 use ft_json::ValText;
 use ft_props::Props;
 

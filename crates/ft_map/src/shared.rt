@@ -6,7 +6,7 @@ ghost use Rattle.ft_map.specs.Maps.{acknowledged, map_of, pair_of, pairs_of, put
 
 use crate::marks::Marks;
 use crate::ops::{MapOp, MapPair, put, set, written};
-use ft_base::{OutOfMemory, Text};
+use ft_base::{Datum, OutOfMemory, Text};
 use ft_json::ValText;
 use ft_props::Props;
 use std::alloc::Global;

@@ -12,7 +12,7 @@ use crate::members::{
 use crate::replica::MapReplica;
 use crate::service::Service;
 use crate::shared::SharedMap;
-use ft_base::{OutOfMemory, Text};
+use ft_base::{Datum, OutOfMemory, Text};
 use ft_seqr::Refusal;
 use std::alloc::Global;
 use std::marker::Model;

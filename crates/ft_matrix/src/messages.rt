@@ -16,7 +16,7 @@ ghost use Rattle.ft_matrix.specs.Applied.{Holds, Passes, skips};
 use crate::grid::Grid;
 use crate::matrix::SharedMatrix;
 use crate::splices::{insert_units, remove_units};
-use ft_base::{OutOfMemory, Perspective, Steps};
+use ft_base::{Datum, OutOfMemory, Perspective, Steps};
 use ft_block::LenView;
 use ft_json::ValText;
 use ft_op::{CellOp, GridOp, Target};

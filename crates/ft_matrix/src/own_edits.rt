@@ -27,7 +27,7 @@ use crate::messages::more;
 use crate::splices::{insert_own_units, remove_own_units, seen_count};
 use crate::stages::GridStage;
 use ft_arena::NodeId;
-use ft_base::{OutOfMemory, Steps};
+use ft_base::{Datum, OutOfMemory, Steps};
 use ft_block::LenView;
 use ft_json::ValText;
 use ft_msg::EditFault;

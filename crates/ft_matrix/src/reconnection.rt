@@ -27,7 +27,7 @@ use crate::grid::Grid;
 use crate::matrix::SharedMatrix;
 use crate::splices::seen_count;
 use crate::stages::GridStage;
-use ft_base::OutOfMemory;
+use ft_base::{Datum, OutOfMemory};
 use ft_block::LenView;
 use ft_json::ValText;
 use ft_op::{CellOp, CellOps, GridOp, Target};

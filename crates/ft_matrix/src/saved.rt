@@ -15,7 +15,7 @@ ghost use Rattle.ft_matrix.specs.Units.{units_of};
 
 use crate::messages::more;
 use ft_arena::NodeId;
-use ft_base::{Element, OutOfMemory, Stamp};
+use ft_base::{Datum, Element, OutOfMemory, Stamp};
 use ft_perm::{Handles, Vector};
 use ft_sumdoc::{Mark, Marks, RunRec, RunRecs};
 use ft_tree::Tree;

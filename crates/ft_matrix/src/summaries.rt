@@ -21,7 +21,7 @@ use crate::matrix::SharedMatrix;
 use crate::messages::more;
 use crate::saved::saved_units;
 use crate::splices::fresh_handles;
-use ft_base::{Element, OutOfMemory, Stamp, Stamps};
+use ft_base::{Datum, Element, OutOfMemory, Stamp, Stamps};
 use ft_block::LenView;
 use ft_cells::Cells;
 use ft_perm::Vector;

@@ -15,7 +15,7 @@ use crate::grid::Grid;
 use crate::matrix::SharedMatrix;
 use crate::seen::{LOCAL, SeenRuns, seen_runs};
 use crate::splices::seen_count;
-use ft_base::OutOfMemory;
+use ft_base::{Datum, OutOfMemory};
 use ft_cells::{CellKey, Cells};
 use ft_json::ValText;
 use ft_msg::View;

@@ -6,36 +6,6 @@ use crate::messages::{Body, Draft, Entry, Message, MsgKind};
 use crate::views::{Link, Numbers, Run, Spot, View};
 use ft_base::{Datum, OutOfMemory, Text};
 
-impl MsgKind {
-    /// An equal kind.
-    ///
-    /// Answers `OutOfMemory` where there is no room for it.
-    pub fn copy(&self) -> Result<MsgKind, OutOfMemory>
-        ensures { IfOk result (λ copy. copy ≡ self.now) }
-    {
-        match self {
-            MsgKind::Op => Ok(MsgKind::Op),
-            MsgKind::Join => Ok(MsgKind::Join),
-            MsgKind::Leave => Ok(MsgKind::Leave),
-            MsgKind::Noop => Ok(MsgKind::Noop),
-            MsgKind::Other(word) => Ok(MsgKind::Other(word.copy()?)),
-        }
-    }
-
-    /// Whether both kinds are the same.
-    pub fn same(&self, other: &MsgKind) -> bool
-        ensures { IsTrue result ↔ (self.now ≡ other.now) }
-    {
-        match self {
-            MsgKind::Op => matches!(other, MsgKind::Op),
-            MsgKind::Join => matches!(other, MsgKind::Join),
-            MsgKind::Leave => matches!(other, MsgKind::Leave),
-            MsgKind::Noop => matches!(other, MsgKind::Noop),
-            MsgKind::Other(word) => is_other(other, word),
-        }
-    }
-}
-
 /// Whether it is the kind of this other word.
 fn is_other(kind: &MsgKind, word: &Text) -> bool
     ensures { IsTrue result ↔ (kind.now ≡ MsgKind.Other word.now) }
@@ -46,13 +16,30 @@ fn is_other(kind: &MsgKind, word: &Text) -> bool
     }
 }
 
-impl Body {
-    /// An equal body.
-    ///
-    /// Answers `OutOfMemory` where there is no room for it.
-    pub fn copy(&self) -> Result<Body, OutOfMemory>
-        ensures { IfOk result (λ copy. copy ≡ self.now) }
-    {
+impl Datum for MsgKind {
+    fn copy(&self) -> Result<MsgKind, OutOfMemory> {
+        match self {
+            MsgKind::Op => Ok(MsgKind::Op),
+            MsgKind::Join => Ok(MsgKind::Join),
+            MsgKind::Leave => Ok(MsgKind::Leave),
+            MsgKind::Noop => Ok(MsgKind::Noop),
+            MsgKind::Other(word) => Ok(MsgKind::Other(word.copy()?)),
+        }
+    }
+
+    fn same(&self, other: &MsgKind) -> bool {
+        match self {
+            MsgKind::Op => matches!(other, MsgKind::Op),
+            MsgKind::Join => matches!(other, MsgKind::Join),
+            MsgKind::Leave => matches!(other, MsgKind::Leave),
+            MsgKind::Noop => matches!(other, MsgKind::Noop),
+            MsgKind::Other(word) => is_other(other, word),
+        }
+    }
+}
+
+impl Datum for Body {
+    fn copy(&self) -> Result<Body, OutOfMemory> {
         match self {
             Body::Nothing => Ok(Body::Nothing),
             Body::Op(op) => Ok(Body::Op(op.copy()?)),
@@ -60,10 +47,7 @@ impl Body {
         }
     }
 
-    /// Whether both bodies are the same.
-    pub fn same(&self, other: &Body) -> bool
-        ensures { IsTrue result ↔ (self.now ≡ other.now) }
-    {
+    fn same(&self, other: &Body) -> bool {
         match (self, other) {
             (Body::Nothing, Body::Nothing) => true,
             (Body::Op(mine), Body::Op(theirs)) => mine.same(theirs),
@@ -75,13 +59,8 @@ impl Body {
     }
 }
 
-impl Message {
-    /// An equal message.
-    ///
-    /// Answers `OutOfMemory` where there is no room for it.
-    pub fn copy(&self) -> Result<Message, OutOfMemory>
-        ensures { IfOk result (λ copy. copy ≡ self.now) }
-    {
+impl Datum for Message {
+    fn copy(&self) -> Result<Message, OutOfMemory> {
         Ok(Message {
             client_id: self.client_id.copy()?,
             seq: self.seq,
@@ -93,10 +72,7 @@ impl Message {
         })
     }
 
-    /// Whether both messages are the same.
-    pub fn same(&self, other: &Message) -> bool
-        ensures { IsTrue result ↔ (self.now ≡ other.now) }
-    {
+    fn same(&self, other: &Message) -> bool {
         self.client_id.same(&other.client_id)
             && self.seq == other.seq
             && self.min == other.min
@@ -107,34 +83,21 @@ impl Message {
     }
 }
 
-impl Entry {
-    /// An equal entry.
-    ///
-    /// Answers `OutOfMemory` where there is no room for it.
-    pub fn copy(&self) -> Result<Entry, OutOfMemory>
-        ensures { IfOk result (λ copy. copy ≡ self.now) }
-    {
+impl Datum for Entry {
+    fn copy(&self) -> Result<Entry, OutOfMemory> {
         Ok(Entry {
             msg: self.msg.copy()?,
             origin: self.origin,
         })
     }
 
-    /// Whether both entries are the same.
-    pub fn same(&self, other: &Entry) -> bool
-        ensures { IsTrue result ↔ (self.now ≡ other.now) }
-    {
+    fn same(&self, other: &Entry) -> bool {
         self.msg.same(&other.msg) && self.origin == other.origin
     }
 }
 
-impl Draft {
-    /// An equal draft.
-    ///
-    /// Answers `OutOfMemory` where there is no room for it.
-    pub fn copy(&self) -> Result<Draft, OutOfMemory>
-        ensures { IfOk result (λ copy. copy ≡ self.now) }
-    {
+impl Datum for Draft {
+    fn copy(&self) -> Result<Draft, OutOfMemory> {
         Ok(Draft {
             client_seq: self.client_seq,
             ref_seq: self.ref_seq,
@@ -142,55 +105,35 @@ impl Draft {
         })
     }
 
-    /// Whether both drafts are the same.
-    pub fn same(&self, other: &Draft) -> bool
-        ensures { IsTrue result ↔ (self.now ≡ other.now) }
-    {
+    fn same(&self, other: &Draft) -> bool {
         self.client_seq == other.client_seq
             && self.ref_seq == other.ref_seq
             && self.body.same(&other.body)
     }
 }
 
-impl Link {
-    /// An equal link. It always succeeds.
-    pub fn copy(&self) -> Result<Link, OutOfMemory>
-        ensures { result ≡ Ok self.now }
-    {
+impl Datum for Link {
+    fn copy(&self) -> Result<Link, OutOfMemory> {
         Ok(*self)
     }
 
-    /// Whether both are equal.
-    pub fn same(&self, other: &Link) -> bool
-        ensures { IsTrue result ↔ (self.now ≡ other.now) }
-    {
+    fn same(&self, other: &Link) -> bool {
         self == other
     }
 }
 
-impl Numbers {
-    /// Equal numbers. It always succeeds.
-    pub fn copy(&self) -> Result<Numbers, OutOfMemory>
-        ensures { result ≡ Ok self.now }
-    {
+impl Datum for Numbers {
+    fn copy(&self) -> Result<Numbers, OutOfMemory> {
         Ok(*self)
     }
 
-    /// Whether both are equal.
-    pub fn same(&self, other: &Numbers) -> bool
-        ensures { IsTrue result ↔ (self.now ≡ other.now) }
-    {
+    fn same(&self, other: &Numbers) -> bool {
         self == other
     }
 }
 
-impl Run {
-    /// An equal run.
-    ///
-    /// Answers `OutOfMemory` where there is no room for it.
-    pub fn copy(&self) -> Result<Run, OutOfMemory>
-        ensures { IfOk result (λ copy. copy ≡ self.now) }
-    {
+impl Datum for Run {
+    fn copy(&self) -> Result<Run, OutOfMemory> {
         Ok(Run {
             start: self.start,
             end: self.end,
@@ -198,37 +141,23 @@ impl Run {
         })
     }
 
-    /// Whether both are equal.
-    pub fn same(&self, other: &Run) -> bool
-        ensures { IsTrue result ↔ (self.now ≡ other.now) }
-    {
+    fn same(&self, other: &Run) -> bool {
         self.start == other.start && self.end == other.end && self.props.same(&other.props)
     }
 }
 
-impl Spot {
-    /// An equal marker. It always succeeds.
-    pub fn copy(&self) -> Result<Spot, OutOfMemory>
-        ensures { result ≡ Ok self.now }
-    {
+impl Datum for Spot {
+    fn copy(&self) -> Result<Spot, OutOfMemory> {
         Ok(*self)
     }
 
-    /// Whether both are equal.
-    pub fn same(&self, other: &Spot) -> bool
-        ensures { IsTrue result ↔ (self.now ≡ other.now) }
-    {
+    fn same(&self, other: &Spot) -> bool {
         self == other
     }
 }
 
-impl View {
-    /// An equal view.
-    ///
-    /// Answers `OutOfMemory` where there is no room for it.
-    pub fn copy(&self) -> Result<View, OutOfMemory>
-        ensures { IfOk result (λ copy. copy ≡ self.now) }
-    {
+impl Datum for View {
+    fn copy(&self) -> Result<View, OutOfMemory> {
         Ok(View {
             numbers: self.numbers,
             text: self.text.copy()?,
@@ -241,10 +170,7 @@ impl View {
         })
     }
 
-    /// Whether both are equal.
-    pub fn same(&self, other: &View) -> bool
-        ensures { IsTrue result ↔ (self.now ≡ other.now) }
-    {
+    fn same(&self, other: &View) -> bool {
         self.numbers.same(&other.numbers)
             && self.text.same(&other.text)
             && self.markers.same(&other.markers)
@@ -253,105 +179,5 @@ impl View {
             && self.rows == other.rows
             && self.cols == other.cols
             && self.cells.same(&other.cells)
-    }
-}
-
-impl Datum for MsgKind {
-    fn copy(&self) -> Result<MsgKind, OutOfMemory> {
-        self.copy()
-    }
-
-    fn same(&self, other: &MsgKind) -> bool {
-        self.same(other)
-    }
-}
-
-impl Datum for Body {
-    fn copy(&self) -> Result<Body, OutOfMemory> {
-        self.copy()
-    }
-
-    fn same(&self, other: &Body) -> bool {
-        self.same(other)
-    }
-}
-
-impl Datum for Message {
-    fn copy(&self) -> Result<Message, OutOfMemory> {
-        self.copy()
-    }
-
-    fn same(&self, other: &Message) -> bool {
-        self.same(other)
-    }
-}
-
-impl Datum for Entry {
-    fn copy(&self) -> Result<Entry, OutOfMemory> {
-        self.copy()
-    }
-
-    fn same(&self, other: &Entry) -> bool {
-        self.same(other)
-    }
-}
-
-impl Datum for Draft {
-    fn copy(&self) -> Result<Draft, OutOfMemory> {
-        self.copy()
-    }
-
-    fn same(&self, other: &Draft) -> bool {
-        self.same(other)
-    }
-}
-
-impl Datum for Link {
-    fn copy(&self) -> Result<Link, OutOfMemory> {
-        self.copy()
-    }
-
-    fn same(&self, other: &Link) -> bool {
-        self.same(other)
-    }
-}
-
-impl Datum for Numbers {
-    fn copy(&self) -> Result<Numbers, OutOfMemory> {
-        self.copy()
-    }
-
-    fn same(&self, other: &Numbers) -> bool {
-        self.same(other)
-    }
-}
-
-impl Datum for Run {
-    fn copy(&self) -> Result<Run, OutOfMemory> {
-        self.copy()
-    }
-
-    fn same(&self, other: &Run) -> bool {
-        self.same(other)
-    }
-}
-
-impl Datum for Spot {
-    fn copy(&self) -> Result<Spot, OutOfMemory> {
-        self.copy()
-    }
-
-    fn same(&self, other: &Spot) -> bool {
-        self.same(other)
-    }
-}
-
-impl Datum for View {
-    fn copy(&self) -> Result<View, OutOfMemory> {
-        self.copy()
-    }
-
-    fn same(&self, other: &View) -> bool {
-        self.same(other)
     }
 }

@@ -3,7 +3,7 @@
 ghost use Rattle.std.specs.Prelude.{◌≡◌, ◌↔◌, ◌-◌, ◌<◌, ◌^◌, IsOk, IsTrue, IfOk, OnOk, OnErr, [], Contains, length, option_copied, take};
 ghost use Rattle.ft_msg.specs.NameTable.{AreDistinct, name_at, names_after, number_of};
 
-use ft_base::{OutOfMemory, Text};
+use ft_base::{Datum, OutOfMemory, Text};
 use ft_sumdoc::Texts;
 use indexmap::IndexMap;
 use std::alloc::Global;

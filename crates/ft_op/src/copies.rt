@@ -7,79 +7,6 @@ use ft_base::{Datum, OutOfMemory, Text};
 use ft_json::ValText;
 use ft_props::{Changes, PropSet};
 
-impl Seg {
-    /// An equal segment.
-    ///
-    /// Answers `OutOfMemory` where there is no room for it.
-    pub fn copy(&self) -> Result<Seg, OutOfMemory>
-        ensures { IfOk result (λ copy. copy ≡ self.now) }
-    {
-        match self {
-            Seg::Chars { text } => Ok(Seg::Chars { text: text.copy()? }),
-            Seg::Marker { ref_type } => Ok(Seg::Marker {
-                ref_type: *ref_type,
-            }),
-        }
-    }
-
-    /// Whether both segments are the same.
-    pub fn same(&self, other: &Seg) -> bool
-        ensures { IsTrue result ↔ (self.now ≡ other.now) }
-    {
-        match (self, other) {
-            (Seg::Chars { text: mine }, Seg::Chars { text: theirs }) => mine.same(theirs),
-            (Seg::Marker { ref_type: mine }, Seg::Marker { ref_type: theirs }) => mine == theirs,
-            (Seg::Chars { .. }, Seg::Marker { .. }) | (Seg::Marker { .. }, Seg::Chars { .. }) =>
-                false,
-        }
-    }
-}
-
-impl BaseOp {
-    /// An equal operation.
-    ///
-    /// Answers `OutOfMemory` where there is no room for it.
-    pub fn copy(&self) -> Result<BaseOp, OutOfMemory>
-        ensures { IfOk result (λ copy. copy ≡ self.now) }
-    {
-        match self {
-            BaseOp::Insert { pos, seg, props } => Ok(BaseOp::Insert {
-                pos: *pos,
-                seg: seg.copy()?,
-                props: props.copy()?,
-            }),
-            BaseOp::Remove { pos1, pos2 } => Ok(BaseOp::Remove {
-                pos1: *pos1,
-                pos2: *pos2,
-            }),
-            BaseOp::Annotate {
-                pos1,
-                pos2,
-                changes,
-            } => Ok(BaseOp::Annotate {
-                pos1: *pos1,
-                pos2: *pos2,
-                changes: changes.copy()?,
-            }),
-        }
-    }
-
-    /// Whether both operations are the same.
-    pub fn same(&self, other: &BaseOp) -> bool
-        ensures { IsTrue result ↔ (self.now ≡ other.now) }
-    {
-        match self {
-            BaseOp::Insert { pos, seg, props } => is_insertion(other, *pos, seg, props),
-            BaseOp::Remove { pos1, pos2 } => is_removal(other, *pos1, *pos2),
-            BaseOp::Annotate {
-                pos1,
-                pos2,
-                changes,
-            } => is_annotation(other, *pos1, *pos2, changes),
-        }
-    }
-}
-
 /// Whether the operation is this insertion.
 fn is_insertion(op: &BaseOp, pos: u64, seg: &Seg, props: &PropSet) -> bool
     ensures { IsTrue result ↔ (op.now ≡ BaseOp.Insert pos seg.now props.now) }
@@ -118,85 +45,6 @@ fn is_annotation(op: &BaseOp, pos1: u64, pos2: u64, changes: &Changes) -> bool
             changes: made,
         } => *from == pos1 && *to == pos2 && made.same(changes),
         BaseOp::Insert { .. } | BaseOp::Remove { .. } => false,
-    }
-}
-
-impl Ends {
-    /// Equal ends. It always succeeds.
-    pub fn copy(&self) -> Result<Ends, OutOfMemory>
-        ensures { result ≡ Ok self.now }
-    {
-        Ok(*self)
-    }
-
-    /// Whether both are the same ends.
-    pub fn same(&self, other: &Ends) -> bool
-        ensures { IsTrue result ↔ (self.now ≡ other.now) }
-    {
-        self == other
-    }
-}
-
-impl TextOp {
-    /// An equal operation.
-    ///
-    /// Answers `OutOfMemory` where there is no room for it.
-    pub fn copy(&self) -> Result<TextOp, OutOfMemory>
-        ensures { IfOk result (λ copy. copy ≡ self.now) }
-    {
-        match self {
-            TextOp::One(op) => Ok(TextOp::One(op.copy()?)),
-            TextOp::Group(ops) => Ok(TextOp::Group(ops.copy()?)),
-            TextOp::IntervalAdd {
-                label,
-                id,
-                ends,
-                props,
-            } => Ok(TextOp::IntervalAdd {
-                label: label.copy()?,
-                id: id.copy()?,
-                ends: *ends,
-                props: props.copy()?,
-            }),
-            TextOp::IntervalChange {
-                label,
-                id,
-                ends,
-                props,
-            } => Ok(TextOp::IntervalChange {
-                label: label.copy()?,
-                id: id.copy()?,
-                ends: *ends,
-                props: props.copy()?,
-            }),
-            TextOp::IntervalDelete { label, id } => Ok(TextOp::IntervalDelete {
-                label: label.copy()?,
-                id: id.copy()?,
-            }),
-        }
-    }
-
-    /// Whether both operations are the same.
-    pub fn same(&self, other: &TextOp) -> bool
-        ensures { IsTrue result ↔ (self.now ≡ other.now) }
-    {
-        match self {
-            TextOp::One(op) => is_one(other, op),
-            TextOp::Group(ops) => is_group(other, ops),
-            TextOp::IntervalAdd {
-                label,
-                id,
-                ends,
-                props,
-            } => is_interval_add(other, label, id, ends, props),
-            TextOp::IntervalChange {
-                label,
-                id,
-                ends,
-                props,
-            } => is_interval_change(other, label, id, ends, props),
-            TextOp::IntervalDelete { label, id } => is_interval_delete(other, label, id),
-        }
     }
 }
 
@@ -284,60 +132,6 @@ fn is_interval_delete(op: &TextOp, label: &Text, id: &Text) -> bool
     }
 }
 
-impl Target {
-    /// An equal target. It always succeeds.
-    pub fn copy(&self) -> Result<Target, OutOfMemory>
-        ensures { result ≡ Ok self.now }
-    {
-        Ok(*self)
-    }
-
-    /// Whether both are rows, or both are columns.
-    pub fn same(&self, other: &Target) -> bool
-        ensures { IsTrue result ↔ (self.now ≡ other.now) }
-    {
-        self == other
-    }
-}
-
-impl CellOp {
-    /// An equal operation.
-    ///
-    /// Answers `OutOfMemory` where there is no room for it.
-    pub fn copy(&self) -> Result<CellOp, OutOfMemory>
-        ensures { IfOk result (λ copy. copy ≡ self.now) }
-    {
-        match self {
-            CellOp::SpliceIn { target, pos, count } => Ok(CellOp::SpliceIn {
-                target: *target,
-                pos: *pos,
-                count: *count,
-            }),
-            CellOp::SpliceOut { target, pos1, pos2 } => Ok(CellOp::SpliceOut {
-                target: *target,
-                pos1: *pos1,
-                pos2: *pos2,
-            }),
-            CellOp::Set { row, col, value } => Ok(CellOp::Set {
-                row: *row,
-                col: *col,
-                value: value.copy()?,
-            }),
-        }
-    }
-
-    /// Whether both operations are the same.
-    pub fn same(&self, other: &CellOp) -> bool
-        ensures { IsTrue result ↔ (self.now ≡ other.now) }
-    {
-        match self {
-            CellOp::SpliceIn { target, pos, count } => is_splice_in(other, *target, *pos, *count),
-            CellOp::SpliceOut { target, pos1, pos2 } => is_splice_out(other, *target, *pos1, *pos2),
-            CellOp::Set { row, col, value } => is_set(other, *row, *col, value),
-        }
-    }
-}
-
 /// Whether the operation puts in these units.
 fn is_splice_in(op: &CellOp, target: Target, pos: u64, count: u64) -> bool
     ensures { IsTrue result ↔ (op.now ≡ CellOp.SpliceIn target pos count) }
@@ -380,23 +174,177 @@ fn is_set(op: &CellOp, row: u64, col: u64, value: &ValText) -> bool
     }
 }
 
-impl GridOp {
-    /// An equal operation.
-    ///
-    /// Answers `OutOfMemory` where there is no room for it.
-    pub fn copy(&self) -> Result<GridOp, OutOfMemory>
-        ensures { IfOk result (λ copy. copy ≡ self.now) }
-    {
+impl Datum for Seg {
+    fn copy(&self) -> Result<Seg, OutOfMemory> {
+        match self {
+            Seg::Chars { text } => Ok(Seg::Chars { text: text.copy()? }),
+            Seg::Marker { ref_type } => Ok(Seg::Marker {
+                ref_type: *ref_type,
+            }),
+        }
+    }
+
+    fn same(&self, other: &Seg) -> bool {
+        match (self, other) {
+            (Seg::Chars { text: mine }, Seg::Chars { text: theirs }) => mine.same(theirs),
+            (Seg::Marker { ref_type: mine }, Seg::Marker { ref_type: theirs }) => mine == theirs,
+            (Seg::Chars { .. }, Seg::Marker { .. }) | (Seg::Marker { .. }, Seg::Chars { .. }) =>
+                false,
+        }
+    }
+}
+
+impl Datum for BaseOp {
+    fn copy(&self) -> Result<BaseOp, OutOfMemory> {
+        match self {
+            BaseOp::Insert { pos, seg, props } => Ok(BaseOp::Insert {
+                pos: *pos,
+                seg: seg.copy()?,
+                props: props.copy()?,
+            }),
+            BaseOp::Remove { pos1, pos2 } => Ok(BaseOp::Remove {
+                pos1: *pos1,
+                pos2: *pos2,
+            }),
+            BaseOp::Annotate {
+                pos1,
+                pos2,
+                changes,
+            } => Ok(BaseOp::Annotate {
+                pos1: *pos1,
+                pos2: *pos2,
+                changes: changes.copy()?,
+            }),
+        }
+    }
+
+    fn same(&self, other: &BaseOp) -> bool {
+        match self {
+            BaseOp::Insert { pos, seg, props } => is_insertion(other, *pos, seg, props),
+            BaseOp::Remove { pos1, pos2 } => is_removal(other, *pos1, *pos2),
+            BaseOp::Annotate {
+                pos1,
+                pos2,
+                changes,
+            } => is_annotation(other, *pos1, *pos2, changes),
+        }
+    }
+}
+
+impl Datum for Ends {
+    fn copy(&self) -> Result<Ends, OutOfMemory> {
+        Ok(*self)
+    }
+
+    fn same(&self, other: &Ends) -> bool {
+        self == other
+    }
+}
+
+impl Datum for TextOp {
+    fn copy(&self) -> Result<TextOp, OutOfMemory> {
+        match self {
+            TextOp::One(op) => Ok(TextOp::One(op.copy()?)),
+            TextOp::Group(ops) => Ok(TextOp::Group(ops.copy()?)),
+            TextOp::IntervalAdd {
+                label,
+                id,
+                ends,
+                props,
+            } => Ok(TextOp::IntervalAdd {
+                label: label.copy()?,
+                id: id.copy()?,
+                ends: *ends,
+                props: props.copy()?,
+            }),
+            TextOp::IntervalChange {
+                label,
+                id,
+                ends,
+                props,
+            } => Ok(TextOp::IntervalChange {
+                label: label.copy()?,
+                id: id.copy()?,
+                ends: *ends,
+                props: props.copy()?,
+            }),
+            TextOp::IntervalDelete { label, id } => Ok(TextOp::IntervalDelete {
+                label: label.copy()?,
+                id: id.copy()?,
+            }),
+        }
+    }
+
+    fn same(&self, other: &TextOp) -> bool {
+        match self {
+            TextOp::One(op) => is_one(other, op),
+            TextOp::Group(ops) => is_group(other, ops),
+            TextOp::IntervalAdd {
+                label,
+                id,
+                ends,
+                props,
+            } => is_interval_add(other, label, id, ends, props),
+            TextOp::IntervalChange {
+                label,
+                id,
+                ends,
+                props,
+            } => is_interval_change(other, label, id, ends, props),
+            TextOp::IntervalDelete { label, id } => is_interval_delete(other, label, id),
+        }
+    }
+}
+
+impl Datum for Target {
+    fn copy(&self) -> Result<Target, OutOfMemory> {
+        Ok(*self)
+    }
+
+    fn same(&self, other: &Target) -> bool {
+        self == other
+    }
+}
+
+impl Datum for CellOp {
+    fn copy(&self) -> Result<CellOp, OutOfMemory> {
+        match self {
+            CellOp::SpliceIn { target, pos, count } => Ok(CellOp::SpliceIn {
+                target: *target,
+                pos: *pos,
+                count: *count,
+            }),
+            CellOp::SpliceOut { target, pos1, pos2 } => Ok(CellOp::SpliceOut {
+                target: *target,
+                pos1: *pos1,
+                pos2: *pos2,
+            }),
+            CellOp::Set { row, col, value } => Ok(CellOp::Set {
+                row: *row,
+                col: *col,
+                value: value.copy()?,
+            }),
+        }
+    }
+
+    fn same(&self, other: &CellOp) -> bool {
+        match self {
+            CellOp::SpliceIn { target, pos, count } => is_splice_in(other, *target, *pos, *count),
+            CellOp::SpliceOut { target, pos1, pos2 } => is_splice_out(other, *target, *pos1, *pos2),
+            CellOp::Set { row, col, value } => is_set(other, *row, *col, value),
+        }
+    }
+}
+
+impl Datum for GridOp {
+    fn copy(&self) -> Result<GridOp, OutOfMemory> {
         match self {
             GridOp::One(op) => Ok(GridOp::One(op.copy()?)),
             GridOp::Group(ops) => Ok(GridOp::Group(ops.copy()?)),
         }
     }
 
-    /// Whether both operations are the same.
-    pub fn same(&self, other: &GridOp) -> bool
-        ensures { IsTrue result ↔ (self.now ≡ other.now) }
-    {
+    fn same(&self, other: &GridOp) -> bool {
         match (self, other) {
             (GridOp::One(mine), GridOp::One(theirs)) => mine.same(theirs),
             (GridOp::Group(mine), GridOp::Group(theirs)) => mine.same(theirs),
@@ -405,108 +353,20 @@ impl GridOp {
     }
 }
 
-impl ChannelOp {
-    /// An equal operation.
-    ///
-    /// Answers `OutOfMemory` where there is no room for it.
-    pub fn copy(&self) -> Result<ChannelOp, OutOfMemory>
-        ensures { IfOk result (λ copy. copy ≡ self.now) }
-    {
+impl Datum for ChannelOp {
+    fn copy(&self) -> Result<ChannelOp, OutOfMemory> {
         match self {
             ChannelOp::Text(op) => Ok(ChannelOp::Text(op.copy()?)),
             ChannelOp::Grid(op) => Ok(ChannelOp::Grid(op.copy()?)),
         }
     }
 
-    /// Whether both operations are the same.
-    pub fn same(&self, other: &ChannelOp) -> bool
-        ensures { IsTrue result ↔ (self.now ≡ other.now) }
-    {
+    fn same(&self, other: &ChannelOp) -> bool {
         match (self, other) {
             (ChannelOp::Text(mine), ChannelOp::Text(theirs)) => mine.same(theirs),
             (ChannelOp::Grid(mine), ChannelOp::Grid(theirs)) => mine.same(theirs),
             (ChannelOp::Text(_), ChannelOp::Grid(_)) | (ChannelOp::Grid(_), ChannelOp::Text(_)) =>
                 false,
         }
-    }
-}
-
-impl Datum for Seg {
-    fn copy(&self) -> Result<Seg, OutOfMemory> {
-        self.copy()
-    }
-
-    fn same(&self, other: &Seg) -> bool {
-        self.same(other)
-    }
-}
-
-impl Datum for BaseOp {
-    fn copy(&self) -> Result<BaseOp, OutOfMemory> {
-        self.copy()
-    }
-
-    fn same(&self, other: &BaseOp) -> bool {
-        self.same(other)
-    }
-}
-
-impl Datum for Ends {
-    fn copy(&self) -> Result<Ends, OutOfMemory> {
-        self.copy()
-    }
-
-    fn same(&self, other: &Ends) -> bool {
-        self.same(other)
-    }
-}
-
-impl Datum for TextOp {
-    fn copy(&self) -> Result<TextOp, OutOfMemory> {
-        self.copy()
-    }
-
-    fn same(&self, other: &TextOp) -> bool {
-        self.same(other)
-    }
-}
-
-impl Datum for Target {
-    fn copy(&self) -> Result<Target, OutOfMemory> {
-        self.copy()
-    }
-
-    fn same(&self, other: &Target) -> bool {
-        self.same(other)
-    }
-}
-
-impl Datum for CellOp {
-    fn copy(&self) -> Result<CellOp, OutOfMemory> {
-        self.copy()
-    }
-
-    fn same(&self, other: &CellOp) -> bool {
-        self.same(other)
-    }
-}
-
-impl Datum for GridOp {
-    fn copy(&self) -> Result<GridOp, OutOfMemory> {
-        self.copy()
-    }
-
-    fn same(&self, other: &GridOp) -> bool {
-        self.same(other)
-    }
-}
-
-impl Datum for ChannelOp {
-    fn copy(&self) -> Result<ChannelOp, OutOfMemory> {
-        self.copy()
-    }
-
-    fn same(&self, other: &ChannelOp) -> bool {
-        self.same(other)
     }
 }

@@ -7,7 +7,7 @@ ghost use Rattle.ft_partial.specs.Tables.{length_at, CountsItems, Adds, Exchange
 
 use crate::entries::{Entry, add_entries, drop_old, newest, unseen};
 use crate::items::{last_length, push_item};
-use ft_base::{Element, OutOfMemory, Perspective, Stamp, Stamps};
+use ft_base::{Datum, Element, OutOfMemory, Perspective, Stamp, Stamps};
 use std::alloc::Global;
 use std::marker::Model;
 

@@ -9,7 +9,7 @@ pub(crate) mod placed;
 mod trimming;
 
 use crate::names::ElementName;
-use ft_base::OutOfMemory;
+use ft_base::{Datum, OutOfMemory};
 use ft_json::ValText;
 use std::alloc::Global;
 use std::marker::Model;

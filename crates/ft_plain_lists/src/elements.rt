@@ -13,7 +13,7 @@ mod trimming;
 
 use crate::names::ElementName;
 use ft_base::visibility::{has_occurred, has_occurred_at_stage};
-use ft_base::{OutOfMemory, Perspective, Stamp, Stamps};
+use ft_base::{Datum, OutOfMemory, Perspective, Stamp, Stamps};
 use ft_props::{Changes, Props};
 use std::alloc::Global;
 use std::marker::Model;

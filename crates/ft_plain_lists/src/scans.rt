@@ -11,7 +11,7 @@ use crate::element_tests::ElementTest;
 use crate::elements::{Content, PlainElement};
 use crate::marks::Mark;
 use crate::names::ElementName;
-use ft_base::{OutOfMemory, Stamp};
+use ft_base::{Datum, OutOfMemory, Stamp};
 use ft_props::Props;
 use std::alloc::Global;
 

@@ -6,7 +6,7 @@ ghost use Rattle.ft_plain_lists.specs.Contents.{content_of};
 ghost use Rattle.ft_plain_lists.specs.PropertyRuns.{all_shown_props, runs_before};
 
 use crate::elements::{Content, PlainElement};
-use ft_base::{OutOfMemory, Text};
+use ft_base::{Datum, OutOfMemory, Text};
 use ft_msg::{Run, Runs, Spot, Spots};
 use ft_props::Props;
 use std::alloc::Global;

@@ -8,7 +8,7 @@ ghost use Rattle.ft_plain_lists.specs.PlacedValues.{placed_value};
 use crate::cells::PlainCells;
 use crate::cells::placed::PlacedValue;
 use crate::elements::PlainElement;
-use ft_base::OutOfMemory;
+use ft_base::{Datum, OutOfMemory};
 use ft_sumdoc::{CellRec, CellRecs};
 use std::alloc::Global;
 

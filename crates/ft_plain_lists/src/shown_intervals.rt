@@ -14,7 +14,7 @@ use crate::name_tables::{NameTable, note_ranks};
 use crate::names::ElementName;
 use crate::scans::{rank, seen_count};
 use crate::tables_of_ends::table_of_ends;
-use ft_base::OutOfMemory;
+use ft_base::{Datum, OutOfMemory};
 use ft_sumdoc::{Ends2, IntervalRec, IntervalRecs};
 use std::alloc::Global;
 

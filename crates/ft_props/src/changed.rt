@@ -6,7 +6,7 @@ ghost use Rattle.ft_props.specs.Properties.{adj, adjust, apply, change, number_o
 
 use crate::numbers::adjusted_value;
 use crate::properties::{AdjSet, Adjust, Changes, PropSet, Props};
-use ft_base::{OutOfMemory, Text};
+use ft_base::{Datum, OutOfMemory, Text};
 use ft_json::ValText;
 
 // A function here that changes properties leaves them half changed after want of memory: its caller

@@ -346,13 +346,10 @@ impl Overlay {
     {
         !self.pending().is_empty()
     }
+}
 
-    /// An equal overlay.
-    ///
-    /// Answers `OutOfMemory` where there is no room for it.
-    pub fn copy(&self) -> Result<Overlay, OutOfMemory>
-        ensures { IfOk result (λ copy. copy ≡ self.now) }
-    {
+impl Datum for Overlay {
+    fn copy(&self) -> Result<Overlay, OutOfMemory> {
         let ahead = match &self.ahead {
             Some(ahead) => Some(ahead.copy()?),
             None => None,
@@ -363,20 +360,7 @@ impl Overlay {
         })
     }
 
-    /// Whether both have the same acknowledged properties and the same pending changes.
-    pub fn same(&self, other: &Overlay) -> bool
-        ensures { IsTrue result ↔ (self.now ≡ other.now) }
-    {
-        self.acked.same(&other.acked) && is_same_pending(self.pending(), other.pending())
-    }
-}
-
-impl Datum for Overlay {
-    fn copy(&self) -> Result<Overlay, OutOfMemory> {
-        self.copy()
-    }
-
     fn same(&self, other: &Overlay) -> bool {
-        self.same(other)
+        self.acked.same(&other.acked) && is_same_pending(self.pending(), other.pending())
     }
 }

@@ -140,13 +140,8 @@ impl<V: Drop> Pairs<V> {
     }
 }
 
-impl<V: Datum> Pairs<V> {
-    /// An equal list.
-    ///
-    /// Answers `OutOfMemory` where there is no room for it.
-    pub fn copy(&self) -> Result<Pairs<V>, OutOfMemory>
-        ensures { IfOk result (λ copy. copy ≡ self.now) }
-    {
+impl<V: Datum> Datum for Pairs<V> {
+    fn copy(&self) -> Result<Pairs<V>, OutOfMemory> {
         let mut items = Vec::with_capacity(*self.items.allocator(), self.items.len())?;
         for pair in &self.items {
             items.push((pair.0.copy()?, pair.1.copy()?))?;
@@ -154,10 +149,7 @@ impl<V: Datum> Pairs<V> {
         Ok(Pairs { items })
     }
 
-    /// Whether both lists have the same keys with the same values.
-    pub fn same(&self, other: &Pairs<V>) -> bool
-        ensures { IsTrue result ↔ (self.now ≡ other.now) }
-    {
+    fn same(&self, other: &Pairs<V>) -> bool {
         if self.items.len() != other.items.len() {
             return false;
         }
@@ -167,15 +159,5 @@ impl<V: Datum> Pairs<V> {
             }
         }
         true
-    }
-}
-
-impl<V: Datum> Datum for Pairs<V> {
-    fn copy(&self) -> Result<Pairs<V>, OutOfMemory> {
-        self.copy()
-    }
-
-    fn same(&self, other: &Pairs<V>) -> bool {
-        self.same(other)
     }
 }

@@ -25,29 +25,13 @@ pub struct Adjust {
     pub max: Option<i64>,
 }
 
-impl Adjust {
-    /// An equal adjustment. It always succeeds.
-    pub fn copy(&self) -> Result<Adjust, OutOfMemory>
-        ensures { result ≡ Ok self.now }
-    {
+impl Datum for Adjust {
+    fn copy(&self) -> Result<Adjust, OutOfMemory> {
         Ok(*self)
     }
 
-    /// Whether the adjustments are equal.
-    pub fn same(&self, other: &Adjust) -> bool
-        ensures { IsTrue result ↔ (self.now ≡ other.now) }
-    {
-        self.delta == other.delta && self.min == other.min && self.max == other.max
-    }
-}
-
-impl Datum for Adjust {
-    fn copy(&self) -> Result<Adjust, OutOfMemory> {
-        self.copy()
-    }
-
     fn same(&self, other: &Adjust) -> bool {
-        self.same(other)
+        self.delta == other.delta && self.min == other.min && self.max == other.max
     }
 }
 

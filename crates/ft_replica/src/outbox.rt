@@ -4,7 +4,7 @@ ghost use Rattle.std.specs.Prelude.{◌≡◌, ◌+◌, [], ◌∷◌, ◌++◌,
 ghost use Rattle.ft_replica.specs.Unsent.{with_sent};
 
 use crate::pending::Sent;
-use ft_base::OutOfMemory;
+use ft_base::{Datum, OutOfMemory};
 use ft_msg::{Body, Draft};
 use std::alloc::Global;
 use std::collections::VecDeque;

@@ -3,6 +3,7 @@
 ghost use Rattle.std.specs.Prelude.{◌≡◌};
 ghost use Rattle.ft_seqr.specs.SameMessage.{same_message};
 
+use ft_base::Datum;
 use ft_msg::Message;
 
 /// Whether the messages are equal.

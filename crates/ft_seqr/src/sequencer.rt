@@ -6,7 +6,7 @@ ghost use Rattle.ft_seqr.specs.Sequencer.{draft_kind, is_joined, join, least_ref
 ghost use Rattle.ft_seqr.specs.SequencerCalls.{IsLeaveFault, IsSubmitFault};
 
 use crate::nacks::{LeaveFault, Nack, SubmitFault};
-use ft_base::{OutOfMemory, Text};
+use ft_base::{Datum, OutOfMemory, Text};
 use ft_msg::{Body, Draft, Entry, Message, MsgKind};
 use std::alloc::Global;
 use std::marker::Model;

@@ -16,7 +16,7 @@ use crate::members::Member;
 use crate::outputs::{Out, Values};
 use crate::service::Service;
 use ft_attrib::AttrRun;
-use ft_base::{OutOfMemory, Text};
+use ft_base::{Datum, OutOfMemory, Text};
 use ft_msg::{Names, Replica, SummaryFault, write_draft};
 use ft_seqr::{Refusal, author_texts, origin_run_text, overlap_text};
 use ft_sumdoc::{IntervalRec, SumDoc, write_summary};

@@ -15,7 +15,7 @@ use crate::guests::has_guest;
 use crate::members::{Member, has_member, place_of};
 use crate::outputs::Out;
 use crate::session::Session;
-use ft_base::{OutOfMemory, Text};
+use ft_base::{Datum, OutOfMemory, Text};
 use ft_msg::Replica;
 use ft_seqr::Refusal;
 

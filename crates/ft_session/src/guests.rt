@@ -16,7 +16,7 @@ ghost use Rattle.ft_session.specs.Worlds.{AnswersHappening, StandsForSome, servi
 use crate::outputs::{Out, Values};
 use crate::service::Service;
 use crate::session::Session;
-use ft_base::{OutOfMemory, Text};
+use ft_base::{Datum, OutOfMemory, Text};
 use ft_msg::{Cause, Draft, Entry, Replica, read_draft, write_message};
 use ft_seqr::{Refusal, connection_name};
 use std::alloc::Global;

@@ -4,7 +4,7 @@ ghost use Rattle.std.specs.Prelude.{◌≡◌};
 ghost use Rattle.std.specs.List.{list_any, position};
 ghost use Rattle.ft_session.specs.Worlds.{has_name};
 
-use ft_base::Text;
+use ft_base::{Datum, Text};
 use ft_msg::Replica;
 use std::marker::Model;
 

@@ -25,7 +25,7 @@ use crate::lengths::{have_room, put_in_by_all, test_all};
 use crate::pending::PendingOp;
 use crate::strings::SharedString;
 use ft_arena::NodeId;
-use ft_base::{OutOfMemory, Steps};
+use ft_base::{Datum, OutOfMemory, Steps};
 use ft_block::LenView;
 use ft_interval::{Collections, IntervalFault};
 use ft_msg::EditFault;

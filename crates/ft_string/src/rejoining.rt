@@ -14,7 +14,7 @@ ghost use Rattle.ft_string.specs.Rejoins.{Gives, GivesOps, NextDue, again_of, du
 use crate::lengths::made_in;
 use crate::pending::PendingOp;
 use crate::strings::SharedString;
-use ft_base::OutOfMemory;
+use ft_base::{Datum, OutOfMemory};
 use ft_interval::Collections;
 use ft_op::{BaseOp, BaseOps, TextOp};
 use ft_rebase::{Piece, normalise, regenerate};

@@ -19,7 +19,7 @@ ghost use Rattle.ft_string.specs.Bodies.{body_of_parts};
 use crate::contents::{characters, push_character};
 use crate::lengths::sum;
 use ft_arena::NodeId;
-use ft_base::{OutOfMemory, Stamp, Text};
+use ft_base::{Datum, OutOfMemory, Stamp, Text};
 use ft_props::Props;
 use ft_sumdoc::{Mark, Marks, Seg, SegRec, SegRecs};
 use ft_tree::{TextContent, Tree};

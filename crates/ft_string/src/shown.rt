@@ -20,7 +20,7 @@ use crate::lengths::made_in;
 use crate::strings::SharedString;
 use ft_arena::NodeId;
 use ft_attrib::{Attribution, Origin};
-use ft_base::{List, OutOfMemory, Stamp, Steps, Text, seen_at};
+use ft_base::{Datum, List, OutOfMemory, Stamp, Steps, Text, seen_at};
 use ft_msg::{Run, Spot, Spots, View};
 use ft_props::Props;
 use ft_sumdoc::IntervalRec;

@@ -20,7 +20,7 @@ use crate::lengths::{have_room, made_in};
 use crate::segments::segments_of;
 use crate::shown::listed;
 use crate::strings::SharedString;
-use ft_base::{Element, OutOfMemory, Perspective, Stamp, Stamps, Text};
+use ft_base::{Datum, Element, OutOfMemory, Perspective, Stamp, Stamps, Text};
 use ft_interval::Collections;
 use ft_json::ValText;
 use ft_op::{Ends, Seg as Segment, TextOp};

@@ -5,13 +5,8 @@ ghost use Rattle.std.specs.Prelude.{◌≡◌, ◌↔◌, Ok, IsTrue, IfOk};
 use crate::summary::{CellRec, Ends2, IntervalRec, Mark, RunRec, Seg, SegRec, SumDoc};
 use ft_base::{Datum, OutOfMemory};
 
-impl Seg {
-    /// An equal segment.
-    ///
-    /// Answers `OutOfMemory` where there is no room for it.
-    pub fn copy(&self) -> Result<Seg, OutOfMemory>
-        ensures { IfOk result (λ copy. copy ≡ self.now) }
-    {
+impl Datum for Seg {
+    fn copy(&self) -> Result<Seg, OutOfMemory> {
         match self {
             Seg::Chars { text } => Ok(Seg::Chars { text: text.copy()? }),
             Seg::Marker { ref_type } => Ok(Seg::Marker {
@@ -20,10 +15,7 @@ impl Seg {
         }
     }
 
-    /// Whether both are equal.
-    pub fn same(&self, other: &Seg) -> bool
-        ensures { IsTrue result ↔ (self.now ≡ other.now) }
-    {
+    fn same(&self, other: &Seg) -> bool {
         match (self, other) {
             (Seg::Chars { text: mine }, Seg::Chars { text: theirs }) => mine.same(theirs),
             (Seg::Marker { ref_type: mine }, Seg::Marker { ref_type: theirs }) => mine == theirs,
@@ -33,49 +25,18 @@ impl Seg {
     }
 }
 
-impl Datum for Seg {
-    fn copy(&self) -> Result<Seg, OutOfMemory> {
-        self.copy()
-    }
-
-    fn same(&self, other: &Seg) -> bool {
-        self.same(other)
-    }
-}
-
-impl Ends2 {
-    /// Equal ends. It always succeeds.
-    pub fn copy(&self) -> Result<Ends2, OutOfMemory>
-        ensures { result ≡ Ok self.now }
-    {
+impl Datum for Ends2 {
+    fn copy(&self) -> Result<Ends2, OutOfMemory> {
         Ok(*self)
     }
 
-    /// Whether both are equal.
-    pub fn same(&self, other: &Ends2) -> bool
-        ensures { IsTrue result ↔ (self.now ≡ other.now) }
-    {
+    fn same(&self, other: &Ends2) -> bool {
         self == other
     }
 }
 
-impl Datum for Ends2 {
-    fn copy(&self) -> Result<Ends2, OutOfMemory> {
-        self.copy()
-    }
-
-    fn same(&self, other: &Ends2) -> bool {
-        self.same(other)
-    }
-}
-
-impl IntervalRec {
-    /// An equal interval.
-    ///
-    /// Answers `OutOfMemory` where there is no room for it.
-    pub fn copy(&self) -> Result<IntervalRec, OutOfMemory>
-        ensures { IfOk result (λ copy. copy ≡ self.now) }
-    {
+impl Datum for IntervalRec {
+    fn copy(&self) -> Result<IntervalRec, OutOfMemory> {
         Ok(IntervalRec {
             label: self.label.copy()?,
             id: self.id.copy()?,
@@ -84,10 +45,7 @@ impl IntervalRec {
         })
     }
 
-    /// Whether both are equal.
-    pub fn same(&self, other: &IntervalRec) -> bool
-        ensures { IsTrue result ↔ (self.now ≡ other.now) }
-    {
+    fn same(&self, other: &IntervalRec) -> bool {
         self.label.same(&other.label)
             && self.id.same(&other.id)
             && self.ends.same(&other.ends)
@@ -95,23 +53,8 @@ impl IntervalRec {
     }
 }
 
-impl Datum for IntervalRec {
-    fn copy(&self) -> Result<IntervalRec, OutOfMemory> {
-        self.copy()
-    }
-
-    fn same(&self, other: &IntervalRec) -> bool {
-        self.same(other)
-    }
-}
-
-impl CellRec {
-    /// An equal cell.
-    ///
-    /// Answers `OutOfMemory` where there is no room for it.
-    pub fn copy(&self) -> Result<CellRec, OutOfMemory>
-        ensures { IfOk result (λ copy. copy ≡ self.now) }
-    {
+impl Datum for CellRec {
+    fn copy(&self) -> Result<CellRec, OutOfMemory> {
         Ok(CellRec {
             row: self.row,
             col: self.col,
@@ -119,57 +62,23 @@ impl CellRec {
         })
     }
 
-    /// Whether both are equal.
-    pub fn same(&self, other: &CellRec) -> bool
-        ensures { IsTrue result ↔ (self.now ≡ other.now) }
-    {
-        self.row == other.row && self.col == other.col && self.value.same(&other.value)
-    }
-}
-
-impl Datum for CellRec {
-    fn copy(&self) -> Result<CellRec, OutOfMemory> {
-        self.copy()
-    }
-
     fn same(&self, other: &CellRec) -> bool {
-        self.same(other)
-    }
-}
-
-impl Mark {
-    /// An equal stamp. It always succeeds.
-    pub fn copy(&self) -> Result<Mark, OutOfMemory>
-        ensures { result ≡ Ok self.now }
-    {
-        Ok(*self)
-    }
-
-    /// Whether both are equal.
-    pub fn same(&self, other: &Mark) -> bool
-        ensures { IsTrue result ↔ (self.now ≡ other.now) }
-    {
-        self == other
+        self.row == other.row && self.col == other.col && self.value.same(&other.value)
     }
 }
 
 impl Datum for Mark {
     fn copy(&self) -> Result<Mark, OutOfMemory> {
-        self.copy()
+        Ok(*self)
     }
 
     fn same(&self, other: &Mark) -> bool {
-        self.same(other)
+        self == other
     }
 }
 
-impl SegRec {
-    /// An equal segment.
-    ///
-    /// Answers `OutOfMemory` where there is no room for it.
-    pub fn copy(&self) -> Result<SegRec, OutOfMemory>
-        ensures { IfOk result (λ copy. copy ≡ self.now) }
-    {
+impl Datum for SegRec {
+    fn copy(&self) -> Result<SegRec, OutOfMemory> {
         Ok(SegRec {
             body: self.body.copy()?,
             props: self.props.copy()?,
@@ -179,10 +88,7 @@ impl SegRec {
         })
     }
 
-    /// Whether both are equal.
-    pub fn same(&self, other: &SegRec) -> bool
-        ensures { IsTrue result ↔ (self.now ≡ other.now) }
-    {
+    fn same(&self, other: &SegRec) -> bool {
         self.body.same(&other.body)
             && self.props.same(&other.props)
             && self.by.same(&other.by)
@@ -191,23 +97,8 @@ impl SegRec {
     }
 }
 
-impl Datum for SegRec {
-    fn copy(&self) -> Result<SegRec, OutOfMemory> {
-        self.copy()
-    }
-
-    fn same(&self, other: &SegRec) -> bool {
-        self.same(other)
-    }
-}
-
-impl RunRec {
-    /// An equal run.
-    ///
-    /// Answers `OutOfMemory` where there is no room for it.
-    pub fn copy(&self) -> Result<RunRec, OutOfMemory>
-        ensures { IfOk result (λ copy. copy ≡ self.now) }
-    {
+impl Datum for RunRec {
+    fn copy(&self) -> Result<RunRec, OutOfMemory> {
         Ok(RunRec {
             count: self.count,
             ins: self.ins,
@@ -215,31 +106,13 @@ impl RunRec {
         })
     }
 
-    /// Whether both are equal.
-    pub fn same(&self, other: &RunRec) -> bool
-        ensures { IsTrue result ↔ (self.now ≡ other.now) }
-    {
+    fn same(&self, other: &RunRec) -> bool {
         self.count == other.count && self.ins.same(&other.ins) && self.dels.same(&other.dels)
     }
 }
 
-impl Datum for RunRec {
-    fn copy(&self) -> Result<RunRec, OutOfMemory> {
-        self.copy()
-    }
-
-    fn same(&self, other: &RunRec) -> bool {
-        self.same(other)
-    }
-}
-
-impl SumDoc {
-    /// An equal document.
-    ///
-    /// Answers `OutOfMemory` where there is no room for it.
-    pub fn copy(&self) -> Result<SumDoc, OutOfMemory>
-        ensures { IfOk result (λ copy. copy ≡ self.now) }
-    {
+impl Datum for SumDoc {
+    fn copy(&self) -> Result<SumDoc, OutOfMemory> {
         Ok(SumDoc {
             seq: self.seq,
             min: self.min,
@@ -254,10 +127,7 @@ impl SumDoc {
         })
     }
 
-    /// Whether both are equal.
-    pub fn same(&self, other: &SumDoc) -> bool
-        ensures { IsTrue result ↔ (self.now ≡ other.now) }
-    {
+    fn same(&self, other: &SumDoc) -> bool {
         self.seq == other.seq
             && self.min == other.min
             && self.skipped == other.skipped
@@ -268,15 +138,5 @@ impl SumDoc {
             && self.cols.same(&other.cols)
             && self.intervals.same(&other.intervals)
             && self.cells.same(&other.cells)
-    }
-}
-
-impl Datum for SumDoc {
-    fn copy(&self) -> Result<SumDoc, OutOfMemory> {
-        self.copy()
-    }
-
-    fn same(&self, other: &SumDoc) -> bool {
-        self.same(other)
     }
 }

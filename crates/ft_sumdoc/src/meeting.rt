@@ -4,7 +4,7 @@ ghost use Rattle.std.specs.Prelude.{◌≡◌, IfOk, filter};
 ghost use Rattle.ft_sumdoc.specs.Meeting.{meets};
 
 use crate::summary::IntervalRec;
-use ft_base::{OutOfMemory, Text};
+use ft_base::{Datum, OutOfMemory, Text};
 use ft_props::keys::compare;
 use std::alloc::Global;
 

@@ -13,7 +13,7 @@ use crate::items::RunItem;
 use crate::stamp_reading::stamp_item;
 use crate::stamp_tests::given_insertion;
 use crate::summary::{RunRec, RunRecs, SumCause, SumFault};
-use ft_base::OutOfMemory;
+use ft_base::{Datum, OutOfMemory};
 use ft_json::{Field, FieldFault, count, field, items};
 use serde_json::Value;
 use std::alloc::Global;

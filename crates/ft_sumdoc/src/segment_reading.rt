@@ -18,7 +18,7 @@ use crate::items::{BodyItem, SegItem, TextItem};
 use crate::stamp_reading::{author, stamp_item};
 use crate::stamp_tests::{given_author, given_insertion};
 use crate::summary::{Seg, SegRec, SegRecs};
-use ft_base::{OutOfMemory, Text};
+use ft_base::{Datum, OutOfMemory, Text};
 use ft_json::{Field, JsonFault, canonical, count, field, items, pairs};
 use ft_props::Props;
 use serde_json::{Map, Value};

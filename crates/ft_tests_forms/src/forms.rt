@@ -5,7 +5,7 @@ ghost use Rattle.ft_op.specs.WellFormed.{IsWellFormed, is_count};
 ghost use Rattle.ft_msg.specs.WellFormed.{IsWellFormedDraft, IsWellFormedMessage};
 ghost use Rattle.ft_sumdoc.specs.Valid.{IsValidSummary};
 
-use ft_base::OutOfMemory;
+use ft_base::{Datum, OutOfMemory};
 use ft_json::{
     Field, FieldFault, canonical, num_field, quote, read_line, signed_field, text_field,
 };

@@ -9,7 +9,7 @@ ghost use Rattle.ft_tree_leaves.specs.References.{ChangesReferences, KeepsRefere
 
 use crate::finds::find_end;
 use ft_arena::NodeId;
-use ft_base::{Element, OutOfMemory};
+use ft_base::{Datum, Element, OutOfMemory};
 use ft_props::{Overlay, Props};
 use ft_tree_blocks::LeafBlocks;
 use ft_tree_leaves::{Content, TreeLeaf};

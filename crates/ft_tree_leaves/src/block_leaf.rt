@@ -10,7 +10,7 @@ ghost use Rattle.ft_tree_leaves.specs.BlockLaws.{changed_length, changed_stamps,
 use crate::content::Content;
 use crate::leaves::TreeLeaf;
 use crate::stamps::{acked, acked_all, is_of_stage, sequenced_only, with_removal, without_stage};
-use ft_base::{Element, OutOfMemory, Stamp, Stamps};
+use ft_base::{Datum, Element, OutOfMemory, Stamp, Stamps};
 use ft_block::Leaf;
 use ft_props::{Changes, Overlay};
 use std::alloc::Global;

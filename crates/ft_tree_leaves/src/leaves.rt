@@ -11,7 +11,7 @@ ghost use Rattle.ft_tree_leaves.specs.Edits.{IsBare, MayJoin, is_marked_by};
 
 use crate::content::Content;
 use crate::stamps::{has_sequenced, has_stage, is_at_or_below};
-use ft_base::{Element, OutOfMemory, Stamp, seen_at, sees};
+use ft_base::{Datum, Element, OutOfMemory, Stamp, seen_at, sees};
 use ft_block::LenView;
 use ft_props::Overlay;
 

@@ -3,7 +3,7 @@
 ghost use Rattle.std.specs.Prelude.{◌≡◌, ◌++◌, IfOk, IsTrue, OnOk, map, replicate};
 ghost use Rattle.ft_tree_leaves.specs.LeafLists.{elements};
 
-use ft_base::{Element, OutOfMemory};
+use ft_base::{Datum, Element, OutOfMemory};
 use ft_block::Blocks;
 use ft_tree_leaves::{Content, TreeLeaf};
 use std::alloc::Global;

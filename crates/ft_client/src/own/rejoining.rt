@@ -17,7 +17,7 @@ ghost use Rattle.ft_client.specs.Rejoins.{AddsPieces, GivesEdit, GivesEdits, Giv
 
 use crate::own::TreeOwn;
 use crate::stages::{OwnStage, Part};
-use ft_base::OutOfMemory;
+use ft_base::{Datum, OutOfMemory};
 use ft_msg::Entry;
 use ft_op::{BaseOp, BaseOps, CellOp, CellOps, ChannelOp, GridOp, TextOp};
 use ft_replica::Resent;

@@ -3,7 +3,7 @@
 ghost use Rattle.std.specs.Prelude.{◌≡◌, IfOk};
 
 use crate::cells::{PlainCell, PlainCells};
-use ft_base::OutOfMemory;
+use ft_base::{Datum, OutOfMemory};
 
 impl PlainCell {
     /// An equal cell.

@@ -9,7 +9,7 @@ ghost use Rattle.ft_props.specs.Steps.{carried_element, is_annotated_by, is_inse
 ghost use Rattle.ft_plain_lists.specs.Contents.{content_of};
 
 use crate::elements::{Content, PlainElement, has_any_sequenced};
-use ft_base::{OutOfMemory, Stamp};
+use ft_base::{Datum, OutOfMemory, Stamp};
 use ft_props::{Changes, Props};
 
 impl PlainElement {

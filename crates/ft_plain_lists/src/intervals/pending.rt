@@ -15,7 +15,7 @@ use crate::name_tables::{NameTable, note_settled};
 use crate::names::{ElementName, ElementNames};
 use crate::slides::settle_by;
 use crate::tables_of_ends::table_of_ends;
-use ft_base::{OutOfMemory, Text};
+use ft_base::{Datum, OutOfMemory, Text};
 use ft_op::TextOp;
 use ft_props::{PropSet, Props};
 

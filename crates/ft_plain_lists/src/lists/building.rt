@@ -6,7 +6,7 @@ ghost use Rattle.ft_plain_lists.specs.Contents.{content_of};
 
 use crate::elements::{Content, PlainElement};
 use crate::lists::{PlainList, check_room};
-use ft_base::{OutOfMemory, Stamp, Stamps};
+use ft_base::{Datum, OutOfMemory, Stamp, Stamps};
 use ft_props::Props;
 
 impl PlainList {

@@ -11,7 +11,7 @@ ghost use Rattle.ft_replica.specs.Unsent.{with_sent};
 use crate::document::OwnDocument;
 use crate::linked::LinkedClient;
 use crate::pending::{PendingEdit, Sent};
-use ft_base::{OutOfMemory, Steps};
+use ft_base::{Datum, OutOfMemory, Steps};
 use ft_msg::{EditFault, Link};
 use ft_op::ChannelOp;
 use std::sync::ledger::Ledger;

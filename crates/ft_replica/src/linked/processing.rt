@@ -13,7 +13,7 @@ ghost use Rattle.ft_replica.specs.Linked.{Anyone, AnswersLinked, KeepsLink, Runs
 use crate::document::OwnDocument;
 use crate::linked::LinkedClient;
 use crate::pending::PendingEdit;
-use ft_base::OutOfMemory;
+use ft_base::{Datum, OutOfMemory};
 use ft_json::Field;
 use ft_msg::{Body, Entry, Link, MsgKind, ProcessFault};
 use ft_op::ChannelOp;

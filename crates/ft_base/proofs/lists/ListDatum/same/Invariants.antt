@@ -1,5 +1,5 @@
 use Rattle.std.proofs.Common.{◌≡◌, take, length}
-use Rattle.ft_base.proofs.lists.List.same.Given as goal
+use Rattle.ft_base.proofs.lists.ListDatum.same.Given as goal
 
 -- what was passed is the same
 abbrev pub invariant-loop-mine : goal.invariant-loop-mine

@@ -1,5 +1,5 @@
 use Rattle.std.proofs.Common.{◌≡◌, take}
-use Rattle.ft_base.proofs.lists.List.copy.Given as goal
+use Rattle.ft_base.proofs.lists.ListDatum.copy.Given as goal
 
 -- what was passed is copied
 abbrev pub invariant-loop-item : goal.invariant-loop-item

@@ -1,7 +1,7 @@
 use Rattle.std.proofs.Common.{◌∙◌, ap, chars, encode_utf8_all, string_bytes, sym}
 use Rattle.std.proofs.lemmas.Slice.Eq.{bytes_eq-Decides}
 use Rattle.std.proofs.lemmas.Str.{IsUtf8-string_bytes, encodes-chars}
-use Rattle.ft_base.proofs.texts.Text.same.Goals as goal
+use Rattle.ft_base.proofs.texts.TextDatum.same.Goals as goal
 
 -- the bytes of a text come back from its characters
 pub returns : goal.returns

@@ -1,5 +1,5 @@
 use Rattle.std.proofs.Common.{◌≡◌, take}
-use Rattle.ft_props.proofs.pairs.Pairs.copy.Given as goal
+use Rattle.ft_props.proofs.pairs.PairsDatum.copy.Given as goal
 
 -- what was passed is copied
 abbrev pub invariant-loop-pair : goal.invariant-loop-pair
