@@ -25,7 +25,7 @@ impl Datum for Element {
     }
 
     fn same(&self, other: &Element) -> bool {
-        self.ins.same(&other.ins) && self.dels.same(&other.dels)
+        self.ins == other.ins && self.dels.same(&other.dels)
     }
 }
 

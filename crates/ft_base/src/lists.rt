@@ -1,6 +1,6 @@
 //! Lists of values that can be copied and compared.
 
-ghost use Rattle.std.specs.Prelude.{◌≡◌, ◌↔◌, [], ◌∷◌, ◌++◌, IsTrue, IfOk, OnOk, OnErr, length, slice_get, option_copied};
+ghost use Rattle.std.specs.Prelude.{◌≡◌, ◌↔◌, [], ◌∷◌, ◌++◌, ◌≤◌, IsTrue, IfOk, OnOk, OnErr, drop, length, slice_get, option_copied, take};
 
 use crate::memory::OutOfMemory;
 use std::alloc::Global;
@@ -60,6 +60,13 @@ impl<T: Drop> List<T> {
         }
     }
 
+    /// These items.
+    pub fn of(items: Vec<T>) -> List<T>
+        ensures { result ≡ items.items }
+    {
+        List { items }
+    }
+
     /// Adds an item at the end.
     ///
     /// Answers `OutOfMemory` where there is no room for it, and then the list is as it was.
@@ -69,6 +76,30 @@ impl<T: Drop> List<T> {
     {
         self.items.push(item)?;
         Ok(())
+    }
+
+    /// Adds all of another list behind these.
+    ///
+    /// Answers `OutOfMemory` where there is no room for them, and then the list is as it was.
+    pub fn append(&mut self, mut more: List<T>) -> Result<(), OutOfMemory>
+        ensures ok { OnOk result (self.new ≡ self.old ++ more) }
+        ensures err { OnErr result (self.new ≡ self.old) }
+    {
+        self.items.append(&mut more.items)?;
+        Ok(())
+    }
+
+    /// Takes all but the first `count` off.
+    ///
+    /// Answers `OutOfMemory` where there is no room for them.
+    pub fn split_off(&mut self, count: usize) -> Result<List<T>, OutOfMemory>
+        requires { count ≤ length self.old }
+        ensures first { OnOk result (self.new ≡ take count self.old) }
+        ensures rest { IfOk result (λ rest. rest ≡ drop count self.old) }
+    {
+        Ok(List {
+            items: self.items.split_off(count)?,
+        })
     }
 
     /// How many items there are.
@@ -97,6 +128,13 @@ impl<T: Drop> List<T> {
         ensures { result.now ≡ self.now }
     {
         self.items.as_slice()
+    }
+
+    /// The items themselves.
+    pub fn into_items(self) -> Vec<T>
+        ensures { result.items ≡ self }
+    {
+        self.items
     }
 
     /// Where the list takes its memory.

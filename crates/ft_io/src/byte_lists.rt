@@ -2,7 +2,7 @@
 
 ghost use Rattle.std.specs.Prelude.{◌≡◌, ◌↔◌, [], ◌∷◌, ◌++◌, IsTrue, IfOk, OnOk, OnErr, length, slice_get, option_copied};
 
-use ft_base::OutOfMemory;
+use ft_base::{Datum, OutOfMemory};
 use std::alloc::Global;
 use std::marker::Model;
 
@@ -79,22 +79,16 @@ impl Bytes {
     {
         self.items.as_slice()
     }
+}
 
-    /// An equal list.
-    ///
-    /// Answers `OutOfMemory` where there is no room for it.
-    pub fn copy(&self) -> Result<Bytes, OutOfMemory>
-        ensures { IfOk result (λ copy. copy ≡ self.now) }
-    {
+impl Datum for Bytes {
+    fn copy(&self) -> Result<Bytes, OutOfMemory> {
         Ok(Bytes {
             items: self.items.clone()?,
         })
     }
 
-    /// Whether both lists have the same bytes in the same order.
-    pub fn same(&self, other: &Bytes) -> bool
-        ensures { IsTrue result ↔ (self.now ≡ other.now) }
-    {
+    fn same(&self, other: &Bytes) -> bool {
         self.items.as_slice() == other.items.as_slice()
     }
 }

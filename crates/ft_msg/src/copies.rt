@@ -171,7 +171,7 @@ impl Datum for View {
     }
 
     fn same(&self, other: &View) -> bool {
-        self.numbers.same(&other.numbers)
+        self.numbers == other.numbers
             && self.text.same(&other.text)
             && self.markers.same(&other.markers)
             && self.runs.same(&other.runs)

@@ -84,34 +84,6 @@ impl Names {
         Ok(names)
     }
 
-    /// An equal table.
-    ///
-    /// Answers `OutOfMemory` where there is no room for it.
-    pub fn copy(&self) -> Result<Names, OutOfMemory>
-        ensures { IfOk result (λ copy. copy ≡ self.now) }
-    {
-        let mut copy = Names::new(*self.table.allocator());
-        for name in self.table.values() {
-            copy.number(name)?;
-        }
-        Ok(copy)
-    }
-
-    /// Whether both tables have the same names in the same order.
-    pub fn same(&self, other: &Names) -> bool
-        ensures { IsTrue result ↔ (self.now ≡ other.now) }
-    {
-        if self.len() != other.len() {
-            return false;
-        }
-        for (name, others) in self.table.values().zip(other.table.values()) {
-            if !name.same(others) {
-                return false;
-            }
-        }
-        true
-    }
-
     /// How many names there are.
     pub fn len(&self) -> usize
         ensures len { result ≡ length self.now }
@@ -125,5 +97,27 @@ impl Names {
         ensures { IsTrue result ↔ (self.now ≡ []) }
     {
         self.table.is_empty()
+    }
+}
+
+impl Datum for Names {
+    fn copy(&self) -> Result<Names, OutOfMemory> {
+        let mut copy = Names::new(*self.table.allocator());
+        for name in self.table.values() {
+            copy.number(name)?;
+        }
+        Ok(copy)
+    }
+
+    fn same(&self, other: &Names) -> bool {
+        if self.len() != other.len() {
+            return false;
+        }
+        for (name, others) in self.table.values().zip(other.table.values()) {
+            if !name.same(others) {
+                return false;
+            }
+        }
+        true
     }
 }

@@ -84,7 +84,7 @@ fn is_interval_add(op: &TextOp, label: &Text, id: &Text, ends: &Ends, props: &Pr
             id: named,
             ends: at,
             props: with,
-        } => of.same(label) && named.same(id) && at.same(ends) && with.same(props),
+        } => of.same(label) && named.same(id) && at == ends && with.same(props),
         TextOp::One(_)
         | TextOp::Group(_)
         | TextOp::IntervalChange { .. }

@@ -12,7 +12,7 @@ use ft_msg::{EditFault, Entry, Numbers, View};
 use ft_op::ChannelOp;
 use ft_plain_document::documents::PlainDocument;
 use ft_plain_document::documents::own_edits::NotTaken;
-use ft_plain_document::stages::PlainStages;
+use ft_plain_document::stages::{PlainStages, renamed_stages};
 use ft_plain_summary::{document_of, summary_of};
 use ft_replica::{OwnDocument, OwnNumbers, Resent};
 use ft_sumdoc::{SumDoc, Texts};
@@ -119,11 +119,10 @@ impl OwnDocument for PlainOwn {
     }
 
     fn take_own(&mut self, count: usize, entry: &Entry) -> Result<(), OutOfMemory> {
-        let mut rest = self.stages.split_off(count)?;
+        let rest = self.stages.split_off(count)?;
         let stages = self.stages.as_slice();
         let renaming = self.doc.acknowledge(entry.msg.seq, entry.origin, stages)?;
-        rest.rename(&renaming)?;
-        self.stages = rest;
+        self.stages = renamed_stages(rest, &renaming)?;
         self.doc.set_numbers(entry);
         Ok(())
     }

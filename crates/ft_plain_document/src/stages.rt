@@ -7,7 +7,7 @@ ghost use Rattle.ft_plain_document.specs.Renamed.{renaming_of};
 ghost use Rattle.ft_plain_document.specs.SubOperations.{sub_operation_of};
 
 use crate::renamings::Renaming;
-use ft_base::OutOfMemory;
+use ft_base::{Datum, List, OutOfMemory};
 use ft_op::{BaseOp, CellOp, ChannelOp, GridOp, TextOp};
 use ft_plain_lists::names::ElementNames;
 use std::alloc::Global;
@@ -167,88 +167,17 @@ impl PlainStage {
 }
 
 /// Stages in order.
-#[derive(Drop)]
-pub struct PlainStages {
-    items: Vec<PlainStage>,
-}
+pub type PlainStages = List<PlainStage>;
 
-impl Model for PlainStages {
-    ghost use Rattle.std.specs.Prelude.{List};
-    ghost use Rattle.ft_op.specs.Stages.{Stage};
-
-    ghost Value = { List Stage };
-
-    ghost view = { λ a. a.items.items };
-}
-
-impl PlainStages {
-    /// No stages.
-    pub fn new(alloc: Global) -> PlainStages
-        ensures { result ≡ [] }
-    {
-        PlainStages {
-            items: Vec::new(alloc),
-        }
+/// Gives the elements that each stage names their new names.
+///
+/// Answers `OutOfMemory` where a number would pass 2^64 - 1.
+pub fn renamed_stages(stages: PlainStages, renaming: &Renaming) -> Result<PlainStages, OutOfMemory>
+    ensures { IfOk result (λ new. new ≡ map (renamed_stage (renaming_of renaming.now)) stages) }
+{
+    let mut items = stages.into_items();
+    for stage in items.iter_mut() {
+        stage.rename(renaming)?;
     }
-
-    /// Adds a stage at the end.
-    ///
-    /// Answers `OutOfMemory` where there is no room for it, and then the list is as it was.
-    pub fn push(&mut self, stage: PlainStage) -> Result<(), OutOfMemory>
-        ensures ok { OnOk result (self.new ≡ self.old ++ stage ∷ []) }
-        ensures err { OnErr result (self.new ≡ self.old) }
-    {
-        self.items.push(stage)?;
-        Ok(())
-    }
-
-    /// Adds all of another list behind these.
-    ///
-    /// Answers `OutOfMemory` where there is no room for them, and then the list is as it was.
-    pub fn append(&mut self, mut more: PlainStages) -> Result<(), OutOfMemory>
-        ensures ok { OnOk result (self.new ≡ self.old ++ more) }
-        ensures err { OnErr result (self.new ≡ self.old) }
-    {
-        self.items.append(&mut more.items)?;
-        Ok(())
-    }
-
-    /// Takes all but the first `count` off.
-    ///
-    /// Answers `OutOfMemory` where there is no room for them.
-    pub fn split_off(&mut self, count: usize) -> Result<PlainStages, OutOfMemory>
-        requires { count ≤ length self.old }
-        ensures first { OnOk result (self.new ≡ take count self.old) }
-        ensures rest { IfOk result (λ rest. rest ≡ drop count self.old) }
-    {
-        Ok(PlainStages {
-            items: self.items.split_off(count)?,
-        })
-    }
-
-    /// How many there are.
-    pub fn len(&self) -> usize
-        ensures { result ≡ length self.now }
-    {
-        self.items.len()
-    }
-
-    /// Gives the elements that each names their new names.
-    ///
-    /// Answers `OutOfMemory` where a number would pass 2^64 - 1, and then some may have theirs.
-    pub fn rename(&mut self, renaming: &Renaming) -> Result<(), OutOfMemory>
-        ensures { OnOk result (self.new ≡ map (renamed_stage (renaming_of renaming.now)) self.old) }
-    {
-        for stage in self.items.iter_mut() {
-            stage.rename(renaming)?;
-        }
-        Ok(())
-    }
-
-    /// All in order.
-    pub fn as_slice(&self) -> &[PlainStage]
-        ensures { result.now ≡ self.now }
-    {
-        self.items.as_slice()
-    }
+    Ok(PlainStages::of(items))
 }

@@ -6,7 +6,7 @@ ghost use Rattle.ft_msg.specs.SummaryOf.{author_mark, mark_of};
 ghost use Rattle.ft_sumdoc.specs.Stamps.{same_mark};
 ghost use Rattle.ft_sumdoc.specs.WellFormed.{same_props, same_stamps};
 
-use ft_base::{OutOfMemory, Stamp, Stamps};
+use ft_base::{Datum, OutOfMemory, Stamp, Stamps};
 use ft_props::Props;
 use ft_sumdoc::{Mark, Marks};
 use std::alloc::Global;

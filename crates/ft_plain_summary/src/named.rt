@@ -5,7 +5,7 @@ ghost use Rattle.std.specs.Prelude.{◌≡◌, ◌++◌, IfOk, OnOk, map, slice_
 ghost use Rattle.ft_msg.specs.Summary.{cells_of, interval_of};
 ghost use Rattle.ft_plain_summary.specs.NamedPlaces.{named_cell, named_cells, named_end, named_interval, unremoved_names};
 
-use ft_base::OutOfMemory;
+use ft_base::{Datum, OutOfMemory};
 use ft_plain_lists::cells::PlainCells;
 use ft_plain_lists::elements::PlainElement;
 use ft_plain_lists::intervals::{PlainInterval, PlainIntervals};

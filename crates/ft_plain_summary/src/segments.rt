@@ -8,7 +8,7 @@ ghost use Rattle.ft_plain_lists.specs.Contents.{content_of};
 ghost use Rattle.ft_plain_summary.specs.OpenSegments.{ended_segments, open_segment, reference_type};
 
 use crate::marks::{author_of, mark_of, marks_of, same_mark, same_props, same_stamps};
-use ft_base::{OutOfMemory, Text};
+use ft_base::{Datum, OutOfMemory, Text};
 use ft_plain_lists::elements::{Content, PlainElement};
 use ft_plain_lists::shown::push_character;
 use ft_props::Props;

@@ -43,23 +43,15 @@ pub struct Changes {
     pub adjust: AdjSet,
 }
 
-impl Changes {
-    /// Equal changes.
-    ///
-    /// Answers `OutOfMemory` where there is no room for them.
-    pub fn copy(&self) -> Result<Changes, OutOfMemory>
-        ensures { IfOk result (λ copy. copy ≡ self.now) }
-    {
+impl Datum for Changes {
+    fn copy(&self) -> Result<Changes, OutOfMemory> {
         Ok(Changes {
             props: self.props.copy()?,
             adjust: self.adjust.copy()?,
         })
     }
 
-    /// Whether both set and adjust the same keys alike.
-    pub fn same(&self, other: &Changes) -> bool
-        ensures { IsTrue result ↔ (self.now ≡ other.now) }
-    {
+    fn same(&self, other: &Changes) -> bool {
         self.props.same(&other.props) && self.adjust.same(&other.adjust)
     }
 }

@@ -48,7 +48,7 @@ impl Datum for IntervalRec {
     fn same(&self, other: &IntervalRec) -> bool {
         self.label.same(&other.label)
             && self.id.same(&other.id)
-            && self.ends.same(&other.ends)
+            && self.ends == other.ends
             && self.props.same(&other.props)
     }
 }
@@ -91,8 +91,8 @@ impl Datum for SegRec {
     fn same(&self, other: &SegRec) -> bool {
         self.body.same(&other.body)
             && self.props.same(&other.props)
-            && self.by.same(&other.by)
-            && self.ins.same(&other.ins)
+            && self.by == other.by
+            && self.ins == other.ins
             && self.dels.same(&other.dels)
     }
 }
@@ -107,7 +107,7 @@ impl Datum for RunRec {
     }
 
     fn same(&self, other: &RunRec) -> bool {
-        self.count == other.count && self.ins.same(&other.ins) && self.dels.same(&other.dels)
+        self.count == other.count && self.ins == other.ins && self.dels.same(&other.dels)
     }
 }
 

@@ -3,7 +3,7 @@
 ghost use Rattle.std.specs.Prelude.{◌≡◌, ◌<◌};
 
 use ft_attrib::{AttrRun, Attribution, Origin, Total};
-use ft_base::{OutOfMemory, Steps};
+use ft_base::{Datum, OutOfMemory, Steps};
 use ft_msg::Replica;
 use ft_plain::Plain;
 use ft_sumdoc::read_summary;

@@ -3,7 +3,9 @@
 ghost use Rattle.std.specs.Prelude.{◌≡◌, ◌<◌};
 
 use ft_base::scans::{insert_at_place, place_of, seen_count};
-use ft_base::{Element, OutOfMemory, Perspective, Stamp, Stamps, Steps, Text, seen_at, sees};
+use ft_base::{
+    Datum, Element, OutOfMemory, Perspective, Stamp, Stamps, Steps, Text, seen_at, sees,
+};
 use std::alloc::Global;
 use std::marker::Brand;
 use std::sync::ledger::{Blank, Ledger};

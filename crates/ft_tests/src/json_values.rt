@@ -1,5 +1,6 @@
 //! Values and their texts.
 
+use ft_base::Datum;
 use ft_json::{JsonFault, ValText, canonical, compact, read_line, whole_text};
 use serde_json::Value;
 use std::test::Fail;

@@ -1,6 +1,6 @@
 //! Lines of sources in any pieces that fail at any call, writes to sinks that do, and the limits.
 
-use ft_base::OutOfMemory;
+use ft_base::{Datum, OutOfMemory};
 use ft_io::{
     Bytes, Line, LineFault, Lines, MemSink, MemSource, Sink, Source, StdSink, StdSource, write_all,
 };

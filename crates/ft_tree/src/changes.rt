@@ -13,7 +13,7 @@ ghost use Rattle.ft_tree.specs.State.{IsRefused, KeepsRest};
 
 use crate::faults::TreeFault;
 use crate::tree::Tree;
-use ft_base::{OutOfMemory, Perspective, Stamp, Steps};
+use ft_base::{Datum, OutOfMemory, Perspective, Stamp, Steps};
 use ft_block::LenView;
 use ft_props::Changes;
 use ft_tree_leaves::{Content, LeafChange};

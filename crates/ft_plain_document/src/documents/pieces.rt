@@ -10,7 +10,7 @@ ghost use Rattle.ft_plain_document.specs.SubOperations.{sub_operation_of};
 
 use crate::documents::PlainDocument;
 use crate::stages::{PlainStage, SubOp, one};
-use ft_base::OutOfMemory;
+use ft_base::{Datum, OutOfMemory};
 use ft_json::ValText;
 use ft_op::{BaseOp, CellOp, Ends, Seg, Target, TextOp};
 use ft_plain_lists::element_tests::{AnnotatedBy, Before, RemovedBy};

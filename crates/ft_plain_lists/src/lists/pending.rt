@@ -13,7 +13,7 @@ use crate::elements::{Content, PlainElement};
 use crate::lists::{PlainList, check_room};
 use crate::marks::{PendingChanges, PendingRemoval};
 use crate::scans::{mark_range, new_elements, place_of, put_at, rank, units};
-use ft_base::{OutOfMemory, Stamp};
+use ft_base::{Datum, OutOfMemory, Stamp};
 use ft_props::{Changes, Props};
 use std::alloc::Global;
 

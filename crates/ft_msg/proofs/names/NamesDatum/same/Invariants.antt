@@ -1,5 +1,5 @@
 use Rattle.std.proofs.Common.{◌≡◌, length}
-use Rattle.ft_msg.proofs.names.Names.same.Given as goal
+use Rattle.ft_msg.proofs.names.NamesDatum.same.Given as goal
 
 -- the names that are left decide
 abbrev pub invariant-loop-name : goal.invariant-loop-name

@@ -1,7 +1,7 @@
 use Rattle.std.proofs.Common.{◌≡◌, ◌++◌, drop, map, take}
 use Rattle.ft_msg.specs.Acknowledgement.{renamed_stage}
 use Rattle.ft_plain_document.specs.Renamed.{renaming_of}
-use Rattle.ft_plain_document.proofs.stages.PlainStages.rename.Given as goal
+use Rattle.ft_plain_document.proofs.stages.renamed_stages.Given as goal
 
 -- the stages so far are renamed; the rest is as it was, and completes the whole once it is renamed
 abbrev pub invariant-loop-stage : goal.invariant-loop-stage

@@ -1,5 +1,5 @@
 use Rattle.std.proofs.Common.{◌≡◌, ◌++◌}
-use Rattle.ft_msg.proofs.names.Names.copy.Given as goal
+use Rattle.ft_msg.proofs.names.NamesDatum.copy.Given as goal
 
 -- the copy has the names that aren't left
 abbrev pub invariant-loop-name : goal.invariant-loop-name

@@ -1,7 +1,7 @@
 use Rattle.std.proofs.Common.{◌≡◌, [], ◌∷◌, ◌++◌, sym, ap, ◌∙◌, subst, append_assoc}
 use Rattle.ft_msg.specs.NameTable.{AreDistinct}
 use Rattle.ft_msg.proofs.NameLemmas.{names_after-next}
-use Rattle.ft_msg.proofs.names.Names.copy.Goals as goal
+use Rattle.ft_msg.proofs.names.NamesDatum.copy.Goals as goal
 
 pub loop-name-preserved : goal.loop-name-preserved
 loop-name-preserved c =
