@@ -16,7 +16,7 @@ use memchr::memchr;
 use std::alloc::Global;
 
 /// The greatest length of an input.
-pub const INPUT_LIMIT: usize = 16_777_216;
+pub const INPUT_LIMIT: usize = 1 << 24;
 
 /// What a piece has of a line.
 #[derive(Drop)]

@@ -12,6 +12,7 @@ pub mod standard;
 pub mod streams;
 
 pub use byte_lists::Bytes;
+pub use intake::INPUT_LIMIT;
 pub use memory::{MemSink, MemSource};
 pub use reader::{Line, LineFault, Lines};
 pub use standard::{StdSink, StdSource};

@@ -10,7 +10,7 @@ use std::alloc::Global;
 use std::marker::Model;
 
 /// How many bytes are asked for at a time.
-const PIECE: usize = 65_536;
+const PIECE: usize = 1 << 16;
 
 /// A piece of the input, which is filled from a source and emptied from its front. Contracts see it
 /// as the bytes in it.

@@ -13,12 +13,9 @@ use crate::replica::MapReplica;
 use crate::service::Service;
 use crate::shared::SharedMap;
 use ft_base::{Datum, OutOfMemory, Text};
-use ft_seqr::Refusal;
+use ft_seqr::{NAME_LIMIT, Refusal};
 use std::alloc::Global;
 use std::marker::Model;
-
-/// The greatest number of clients.
-const NAME_LIMIT: usize = 16;
 
 /// Clients that change one map over one log, which a sequencer orders. Contracts see it as its clients, what orders
 /// their messages, and whether it stopped.

@@ -24,6 +24,7 @@ ghost use Rattle.ft_matrix.specs.Units.{shown_units, units_of};
 use crate::grid::Grid;
 use crate::matrix::SharedMatrix;
 use crate::messages::more;
+use crate::seen::LOCAL;
 use crate::splices::{insert_own_units, remove_own_units, seen_count};
 use crate::stages::GridStage;
 use ft_arena::NodeId;
@@ -34,9 +35,6 @@ use ft_msg::EditFault;
 use ft_op::{CellOp, GridOp, Target};
 use ft_perm::Vector;
 use std::sync::ledger::Ledger;
-
-/// The view with all that is pending.
-const LOCAL: LenView = LenView::Stage(u64::MAX);
 
 impl SharedMatrix {
     /// Takes an operation of the client's own as pending stages from `first` on, which is above all that is pending, and answers

@@ -12,13 +12,11 @@ ghost use Rattle.ft_matrix.specs.Splices.{AcksUnits, Inserts, Removes, TakesRun}
 
 use ft_base::{OutOfMemory, Perspective, Steps};
 use ft_block::LenView;
+use ft_json::GREATEST_COUNT;
 use ft_perm::{Handles, Vector};
 use ft_props::PropSet;
 use ft_tree::TreeFault;
 use std::sync::ledger::Ledger;
-
-/// The most handles that a vector hands out: 2^53 - 1.
-const MOST_HANDLES: u64 = 9_007_199_254_740_991;
 
 /// How many units the view sees.
 pub fn seen_count(units: &Vector, view: LenView) -> u64
@@ -38,7 +36,7 @@ pub fn fresh_handles(units: &mut Vector, count: u64) -> Result<Handles, OutOfMem
     ensures { IfOk result (λ run. TakesRun count run units.old units.new) }
 {
     match units.tree.made().checked_add(count) {
-        Some(made) if made <= MOST_HANDLES => units.alloc_run(count),
+        Some(made) if made <= GREATEST_COUNT => units.alloc_run(count),
         _ => Err(OutOfMemory),
     }
 }

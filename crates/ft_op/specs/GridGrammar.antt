@@ -12,7 +12,7 @@ use Rattle.ft_op.specs.declared.operations.GridOp.{GridOp}
 use Rattle.ft_op.specs.declared.operations.GridOp.TheVariants.{One, Group}
 use Rattle.ft_op.specs.declared.operations.OpFault.{OpFault}
 use Rattle.ft_op.specs.declared.operations.OpFault.TheVariants.{Missing, WrongKind, UnknownType, CountLimit, NestedGroup}
-use Rattle.ft_op.specs.Types.{group_type, most_units, splice_in_type, splice_out_type}
+use Rattle.ft_op.specs.Types.{group_type, splice_in_type, splice_limit, splice_out_type}
 use Rattle.ft_op.specs.Reading.{◌>>=◌, is_object, kept_value, needed, range, read_each}
 
 -- ---- splices
@@ -32,7 +32,7 @@ unfoldable pub splice_in : Target → Data → Result CellOp OpFault
 splice_in list d = do
   p ← needed (count_field d Pos1)
   n ← needed (count_field d Count)
-  if nat_lt most_units n then Err CountLimit else Ok (SpliceIn list p n)
+  if nat_lt splice_limit n then Err CountLimit else Ok (SpliceIn list p n)
 
 -- the removal of units that an object is, from this list
 unfoldable pub splice_out : Target → Data → Result CellOp OpFault

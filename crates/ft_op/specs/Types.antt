@@ -26,5 +26,5 @@ abbrev pub splice_out_type : ℕ
 splice_out_type = 1
 
 -- the most units that a splice puts in
-abbrev pub most_units : ℕ
-most_units = 1000000
+abbrev pub splice_limit : ℕ
+splice_limit = 1000000

@@ -21,7 +21,7 @@ use Rattle.ft_op.specs.declared.operations.GridOp.TheVariants as grid
 use Rattle.ft_op.specs.declared.operations.ChannelOp.{ChannelOp}
 use Rattle.ft_op.specs.declared.operations.ChannelOp.TheVariants.{Text, Grid}
 use Rattle.ft_op.specs.Cells.{is_null}
-use Rattle.ft_op.specs.Types.{most_units}
+use Rattle.ft_op.specs.Types.{splice_limit}
 
 -- ---- numbers
 
@@ -108,7 +108,7 @@ IsWellFormedText (IntervalDelete label id) = ⊤
 
 -- a member of a group of the grid
 abbrev pub IsWellFormedCell : CellOp → Type 0
-IsWellFormedCell (SpliceIn list p n) = IsTrue (is_count p) × IsTrue (nat_le n most_units)
+IsWellFormedCell (SpliceIn list p n) = IsTrue (is_count p) × IsTrue (nat_le n splice_limit)
 IsWellFormedCell (SpliceOut list p q) = IsTrue (is_range p q)
 IsWellFormedCell (Set i j value) = IsTrue (is_count i) × IsTrue (is_count j) × IsTextWithin kept_levels value
 

@@ -8,7 +8,7 @@ ghost use Rattle.ft_op.specs.Reading.{read_each};
 ghost use Rattle.ft_op.specs.GridGrammar.{cell_op, cell_write, grid_op, group, group_item, is_group, splice, splice_in, splice_out, target_of, typed_splice, untargeted};
 ghost use Rattle.ft_op.specs.WellFormed.{IsWellFormedCell, IsWellFormedGrid};
 
-use crate::limits::{GROUP, MOST_UNITS, SPLICE_IN, SPLICE_OUT};
+use crate::limits::{GROUP, SPLICE_IN, SPLICE_LIMIT, SPLICE_OUT};
 use crate::operations::{CellOp, CellOps, GridOp, OpFault, Target};
 use crate::reading::{is_object, read_kept_value, read_range};
 use ft_json::{Field, array_field, count, count_field, field};
@@ -170,7 +170,7 @@ fn read_splice_in(list: Target, value: &Value) -> Result<CellOp, OpFault>
 {
     let pos = count_field(value, Field::Pos1)?;
     let units = count_field(value, Field::Count)?;
-    if units > MOST_UNITS {
+    if units > SPLICE_LIMIT {
         return Err(OpFault::CountLimit);
     }
     Ok(CellOp::SpliceIn {

@@ -16,7 +16,7 @@ pub mod text_reading;
 pub mod writing;
 
 pub use grid_reading::read_grid_op;
-pub use limits::MOST_UNITS;
+pub use limits::SPLICE_LIMIT;
 pub use operations::{
     BaseOp, BaseOps, CellOp, CellOps, ChannelOp, Ends, GridOp, OpFault, Seg, Target, TextOp,
 };

@@ -19,4 +19,4 @@ pub(crate) const SPLICE_IN: u64 = 0;
 pub(crate) const SPLICE_OUT: u64 = 1;
 
 /// The most units that a splice puts in.
-pub const MOST_UNITS: u64 = 1_000_000;
+pub const SPLICE_LIMIT: u64 = 1_000_000;

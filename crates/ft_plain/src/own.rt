@@ -8,6 +8,7 @@ mod reading;
 use crate::resent::{resend, stage_numbers};
 use ft_attrib::Attribution;
 use ft_base::{OutOfMemory, Steps};
+use ft_json::GREATEST_COUNT;
 use ft_msg::{EditFault, Entry, Numbers, View};
 use ft_op::ChannelOp;
 use ft_plain_document::documents::PlainDocument;
@@ -15,17 +16,11 @@ use ft_plain_document::documents::own_edits::NotTaken;
 use ft_plain_document::stages::{PlainStages, renamed_stages};
 use ft_plain_summary::{document_of, summary_of};
 use ft_replica::{OwnDocument, OwnNumbers, Resent};
-use ft_sumdoc::{SumDoc, Texts};
+use ft_sumdoc::{MOST_UNITS, SumDoc, Texts};
 use std::alloc::Global;
 use std::collections::VecDeque;
 use std::marker::Model;
 use std::sync::ledger::Ledger;
-
-/// The greatest count that a summary tells.
-const GREATEST_COUNT: u64 = 9_007_199_254_740_991;
-
-/// How many rows, and how many columns, a summary may have.
-const MOST_UNITS: usize = 4_503_599_627_370_496;
 
 /// A document over plain lists with its pending stages, which contracts see as those of the definitions.
 #[derive(Drop)]
@@ -173,6 +168,6 @@ fn is_small(doc: &PlainDocument) -> bool
         && numbers.skipped <= GREATEST_COUNT
         && numbers.other <= GREATEST_COUNT
         && doc.text().len() as u64 <= GREATEST_COUNT
-        && doc.rows().len() <= MOST_UNITS
-        && doc.cols().len() <= MOST_UNITS
+        && doc.rows().len() as u64 <= MOST_UNITS
+        && doc.cols().len() as u64 <= MOST_UNITS
 }

@@ -20,13 +20,11 @@ use crate::scans::{
     mark_range, name_at, new_elements, pending_run, place_of, put_at, seen_count, units,
 };
 use ft_base::{OutOfMemory, Perspective, Stamp};
+use ft_json::GREATEST_COUNT;
 use ft_props::{Changes, Props};
 pub use pending::stage_position;
 use std::alloc::Global;
 use std::marker::Model;
-
-/// How many elements may stand in a list, and how many may ever be sequenced in it.
-const MOST_ELEMENTS: u64 = 9_007_199_254_740_991;
 
 /// A list of elements, removed ones included, and how many were ever sequenced in it: both at most
 /// 2^53 - 1.
@@ -142,7 +140,7 @@ impl PlainList {
         ensures sum { IfOk result (λ made. made ≡ self.now.made + count) }
         ensures countable { IfOk result (λ made. made < 2 ^ 53) }
     {
-        if count > MOST_ELEMENTS - self.made {
+        if count > GREATEST_COUNT - self.made {
             return Err(OutOfMemory);
         }
         Ok(self.made + count)
@@ -202,7 +200,7 @@ fn check_room(count: usize, more: usize) -> Result<(), OutOfMemory>
     requires { count < 2 ^ 53 }
     ensures { OnOk result (count + more < 2 ^ 53) }
 {
-    if more as u64 > MOST_ELEMENTS - count as u64 {
+    if more as u64 > GREATEST_COUNT - count as u64 {
         return Err(OutOfMemory);
     }
     Ok(())

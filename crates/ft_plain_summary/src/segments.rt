@@ -12,12 +12,9 @@ use ft_base::{Datum, OutOfMemory, Text};
 use ft_plain_lists::elements::{Content, PlainElement};
 use ft_plain_lists::shown::push_character;
 use ft_props::Props;
-use ft_sumdoc::{Mark, Marks, Seg, SegRec, SegRecs};
+use ft_sumdoc::{CHUNK_LENGTH, Mark, Marks, Seg, SegRec, SegRecs};
 use std::alloc::Global;
 use std::marker::Model;
-
-/// How many elements each chunk of the text has, but the last one.
-const CHUNK_LENGTH: usize = 10_000;
 
 /// A segment that the next element may go on with, which contracts see as that segment.
 #[derive(Drop)]

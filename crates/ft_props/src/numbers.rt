@@ -8,11 +8,11 @@ ghost use Rattle.ft_props.specs.Properties.{adj, digits_value, is_digit, max_saf
 
 use crate::properties::Adjust;
 use ft_base::OutOfMemory;
-use ft_json::{GREATEST_NUMBER, ValText};
+use ft_json::{GREATEST_COUNT, GREATEST_NUMBER, ValText};
 use std::alloc::Global;
 
 /// The first whole number that is too great for an adjusted value.
-const TOO_GREAT: u64 = 9_007_199_254_740_992;
+const TOO_GREAT: u64 = GREATEST_COUNT + 1;
 
 /// The number that the bytes spell, if they are all digits and it isn't too great, else 0.
 fn safe_digits_value(digits: &[u8]) -> u64

@@ -6,10 +6,7 @@ use ft_session::Counts;
 use std::alloc::Global;
 
 /// The greatest length of a line, without its LF.
-pub const LINE_LIMIT: usize = 1_048_576;
-
-/// The greatest length of an input.
-pub const INPUT_LIMIT: usize = 16_777_216;
+pub const LINE_LIMIT: usize = 1 << 20;
 
 /// What is told of a line that is read.
 #[derive(Drop)]

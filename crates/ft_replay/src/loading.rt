@@ -7,9 +7,10 @@ ghost use Rattle.ft_replay.specs.Listening.{IsStep};
 ghost use Rattle.ft_replay.specs.LoadRuns.{Loads, names_reserved};
 ghost use Rattle.ft_replay.specs.Loading.{load_reading};
 
-use crate::listener::{INPUT_LIMIT, LINE_LIMIT, Listener, Told};
+use crate::listener::{LINE_LIMIT, Listener, Told};
 use crate::observer::Observer;
 use ft_base::OutOfMemory;
+use ft_io::INPUT_LIMIT;
 use ft_laws_sessions::formed::read_summaries_name_few;
 use ft_msg::Replica;
 use ft_seqr::Refusal;

@@ -17,10 +17,7 @@ use crate::outputs::Out;
 use crate::session::Session;
 use ft_base::{Datum, OutOfMemory, Text};
 use ft_msg::Replica;
-use ft_seqr::Refusal;
-
-/// The greatest number of clients and guests.
-const NAME_LIMIT: usize = 16;
+use ft_seqr::{NAME_LIMIT, Refusal};
 
 impl<R: Replica + Drop> Session<R> {
     /// A new client, empty, or over the document of the client of the second name.

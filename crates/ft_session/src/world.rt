@@ -19,7 +19,7 @@ use std::alloc::Global;
 use std::marker::Model;
 
 /// The greatest load of a world.
-const LOAD_LIMIT: u64 = 4_503_599_627_370_496;
+const LOAD_LIMIT: u64 = 1 << 52;
 
 /// Clients and guests that edit one document over one log, which a sequencer orders. Contracts see it
 /// as its replicas, its guests, its sequencer with the names and the log, its load, its counts, and

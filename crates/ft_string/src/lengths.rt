@@ -10,12 +10,10 @@ ghost use Rattle.ft_props.specs.Properties.{max_safe_integer};
 ghost use Rattle.ft_string.specs.Edits.{count_after, count_after_all, end_of, put_in_by, put_in_by_all};
 
 use ft_base::OutOfMemory;
+use ft_json::GREATEST_COUNT;
 use ft_msg::EditFault;
 use ft_op::{BaseOp, Seg};
 use ft_tree::{TextContent, Tree};
-
-/// The most elements that are ever made in a text.
-const MOST: u64 = 9_007_199_254_740_991;
 
 /// Both numbers together.
 ///
@@ -103,7 +101,7 @@ pub(crate) fn have_room(made: u64, more: u64) -> bool
     ensures { IsTrue result → made + more ≤ max_safe_integer }
 {
     match made.checked_add(more) {
-        Some(n) => n <= MOST,
+        Some(n) => n <= GREATEST_COUNT,
         None => false,
     }
 }

@@ -21,13 +21,10 @@ use crate::lengths::sum;
 use ft_arena::NodeId;
 use ft_base::{Datum, OutOfMemory, Stamp, Text};
 use ft_props::Props;
-use ft_sumdoc::{Mark, Marks, Seg, SegRec, SegRecs};
+use ft_sumdoc::{CHUNK_LENGTH, Mark, Marks, Seg, SegRec, SegRecs};
 use ft_tree::{TextContent, Tree};
 use std::alloc::Global;
 use std::marker::Model;
-
-/// How many elements each chunk of the text has, but the last one.
-const CHUNK_LENGTH: u64 = 10_000;
 
 /// What a segment has beside its content.
 #[derive(Drop)]
@@ -368,7 +365,7 @@ impl Segments {
     fn add_character(&mut self, c: char, head: &Head) -> Result<(), OutOfMemory>
         ensures { OnOk result (Adds (unit_segment head.now (Character c) ∷ []) self.old self.new) }
     {
-        let begins = self.count % CHUNK_LENGTH == 0;
+        let begins = self.count % CHUNK_LENGTH as u64 == 0;
         self.count = sum(self.count, 1)?;
         let last = self.last.take();
         self.last = Some(extend(&mut self.list, last, begins, c, head)?);

@@ -5,10 +5,8 @@ ghost use Rattle.ft_op.specs.WellFormed.{is_count};
 ghost use Rattle.ft_sumdoc.specs.Chunks.{chunks, place_behind};
 ghost use Rattle.ft_sumdoc.specs.Segments.{body_length, text_length};
 
+use crate::limits::CHUNK_LENGTH;
 use crate::summary::{Seg, SegRec};
-
-/// How many elements each chunk of a text that is written has, but the last one.
-pub(crate) const CHUNK_LENGTH: usize = 10_000;
 
 /// How many characters the text has.
 pub(crate) fn char_count(text: &str) -> usize

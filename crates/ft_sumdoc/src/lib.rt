@@ -9,6 +9,7 @@ mod fault_steps;
 mod head_reading;
 mod items;
 pub mod laws;
+mod limits;
 pub mod meeting;
 mod run_reading;
 mod segment_reading;
@@ -19,6 +20,7 @@ pub mod summary;
 pub mod summary_reading;
 pub mod writing;
 
+pub use limits::{CHUNK_LENGTH, MOST_UNITS};
 pub use summary::{
     CellRec, CellRecs, Ends2, IntervalRec, IntervalRecs, Mark, Marks, RunRec, RunRecs, Seg, SegRec,
     SegRecs, SumCause, SumDoc, SumFault, Texts,

@@ -10,6 +10,7 @@ ghost use Rattle.ft_sumdoc.specs.Narrow.{narrow_run, narrow_runs};
 ghost use Rattle.ft_sumdoc.specs.Runs.{given_units, kept_run};
 
 use crate::items::RunItem;
+use crate::limits::MOST_UNITS;
 use crate::stamp_reading::stamp_item;
 use crate::stamp_tests::given_insertion;
 use crate::summary::{RunRec, RunRecs, SumCause, SumFault};
@@ -17,9 +18,6 @@ use ft_base::{Datum, OutOfMemory};
 use ft_json::{Field, FieldFault, count, field, items};
 use serde_json::Value;
 use std::alloc::Global;
-
-/// The most units that the rows, or the columns, have: 2^52.
-const MOST_UNITS: u64 = 4_503_599_627_370_496;
 
 /// The run that the value is: None where it has not the form.
 fn run_item(alloc: Global, value: &Value) -> Result<Option<RunItem>, OutOfMemory>

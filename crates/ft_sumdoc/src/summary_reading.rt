@@ -19,9 +19,10 @@ ghost use Rattle.ft_sumdoc.specs.Summary.{element_count, lists, run_stamps, summ
 ghost use Rattle.ft_sumdoc.specs.Valid.{HasOnlyValues, HasValues, IsValidSummary};
 ghost use Rattle.ft_sumdoc.specs.Values.{kept_segment, kept_each};
 
-use crate::chunks::{CHUNK_LENGTH, body_len};
+use crate::chunks::body_len;
 use crate::head_reading::read_head;
 use crate::items::{HeadItem, Limits, ListItem, RunItem, SegItem, TextItem};
+use crate::limits::CHUNK_LENGTH;
 use crate::run_reading::{keep_runs, runs_field};
 use crate::segment_reading::{keep_segments, text_item};
 use crate::shown_reading::{read_cells, read_intervals};

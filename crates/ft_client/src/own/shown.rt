@@ -15,8 +15,11 @@ ghost use Rattle.ft_client.specs.Numbers.{IsShortSummary, bare_summary};
 
 use crate::own::TreeOwn;
 use ft_base::{OutOfMemory, Text};
+use ft_json::GREATEST_COUNT;
 use ft_msg::{Numbers, Runs, Spots, View};
-use ft_sumdoc::{CellRecs, IntervalRecs, RunRec, RunRecs, Seg, SegRec, SegRecs, SumDoc, Texts};
+use ft_sumdoc::{
+    CellRecs, IntervalRecs, MOST_UNITS, RunRec, RunRecs, Seg, SegRec, SegRecs, SumDoc, Texts,
+};
 use std::alloc::Global;
 
 impl TreeOwn {
@@ -71,12 +74,6 @@ impl TreeOwn {
         }
     }
 }
-
-/// The greatest count that a summary tells.
-const GREATEST_COUNT: u64 = 9_007_199_254_740_991;
-
-/// How many rows, and how many columns, a summary may have.
-const MOST_UNITS: u64 = 4_503_599_627_370_496;
 
 /// Whether a summary may tell its numbers, and have as many elements and units.
 fn is_short(sum: &SumDoc) -> bool
