@@ -1,6 +1,6 @@
 //! Attribution.
 
-ghost use Rattle.std.specs.Prelude.{◌≡◌, ◌↔◌, ◌+◌, ◌*◌, ◌-◌, ◌^◌, ◌<◌, ◌≤◌, [], ◌++◌, IsTrue, IfOk, OnOk, OnErr, length, slice_get, take, drop, replicate};
+ghost use Rattle.std.specs.Prelude.{◌≡◌, ◌+◌, ◌*◌, ◌-◌, ◌^◌, ◌<◌, ◌≤◌, [], ◌++◌, IfOk, OnOk, OnErr, length, slice_get, take, drop, replicate};
 ghost use Rattle.ft_attrib.specs.Runs.{how_many, origin_runs, same_origin};
 ghost use Rattle.ft_attrib.specs.Totals.{AreTotals, totals};
 

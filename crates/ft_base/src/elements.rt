@@ -1,7 +1,5 @@
 //! The stamps of an element, and the perspectives from which elements are seen.
 
-ghost use Rattle.std.specs.Prelude.{◌≡◌, ◌↔◌, IsTrue, IfOk};
-
 use crate::lists::Datum;
 use crate::memory::OutOfMemory;
 use crate::stamps::{Stamp, Stamps};

@@ -1,7 +1,5 @@
 //! Stamps, and lists of stamps.
 
-ghost use Rattle.std.specs.Prelude.{◌≡◌, ◌↔◌, IsTrue};
-
 use crate::lists::{Datum, List};
 use crate::memory::OutOfMemory;
 

@@ -1,7 +1,7 @@
 //! Insertions at pseudo-random places by senders from all over a window, and finds.
 
 ghost use Rattle.std.specs.Prelude.{◌≡◌, ◌+◌, ◌-◌, ◌<◌, ◌≤◌, IsTrue, IfOk, OnOk};
-ghost use Rattle.ft_block.specs.Leaves.{IsPlaceIn, length_by};
+ghost use Rattle.ft_block.specs.Leaves.{IsPlaceIn};
 
 use crate::units::Unit;
 use ft_arena::NodeId;

@@ -1,6 +1,6 @@
 //! The leaf of the benchmark: a run of elements with a sequenced insertion.
 
-ghost use Rattle.std.specs.Prelude.{◌≡◌, ◌+◌, ◌-◌, ◌<◌, ◌≤◌, nat_lt, refl};
+ghost use Rattle.std.specs.Prelude.{◌≡◌, ◌+◌, ◌-◌, nat_lt, refl};
 ghost use Rattle.std.proofs.Common.{arith};
 
 use ft_base::{Datum, Element, OutOfMemory, Stamp, Stamps};

@@ -1,6 +1,6 @@
 //! The calls of each kind.
 
-ghost use Rattle.std.specs.Prelude.{◌≡◌, ◌+◌, ◌≤◌, ◌<◌, ◌^◌, IfOk, OnOk};
+ghost use Rattle.std.specs.Prelude.{◌≡◌, ◌≤◌, IfOk};
 
 use ft_base::{Element, OutOfMemory, Perspective, Stamp, Stamps};
 use ft_partial::Table;

@@ -1,31 +1,6 @@
 //! The tree as its callers see it: leaves in order, each under the number of its node.
 
-ghost use Rattle.std.specs.Prelude.{
-  ◌≡◌,
-  ◌≢◌,
-  ℕ,
-  ◌+◌,
-  ◌*◌,
-  ◌^◌,
-  ◌<◌,
-  ◌≤◌,
-  Some,
-  None,
-  IsSome,
-  IsTrue,
-  IfOk,
-  IfErr,
-  OnOk,
-  OnErr,
-  MatchOption,
-  All,
-  IsSomeAnd,
-  true,
-  false,
-  length,
-  [],
-  ◌∷◌,
-};
+ghost use Rattle.std.specs.Prelude.{◌≡◌, ◌≢◌, ℕ, ◌+◌, ◌*◌, ◌^◌, ◌<◌, ◌≤◌, Some, IsTrue, IfOk, IfErr, OnOk, OnErr, MatchOption, All, IsSomeAnd, true, false, length, []};
 ghost use Rattle.ft_arena.specs.Ids.{first, after};
 
 use crate::change::change_in;

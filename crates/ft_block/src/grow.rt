@@ -1,6 +1,6 @@
 //! How a node is put into the tree: beside another of its level, with full blocks split on the way up.
 
-ghost use Rattle.std.specs.Prelude.{◌≡◌, ◌≢◌, ℕ, ◌+◌, ◌-◌, ◌^◌, ◌<◌, ◌≤◌, Option, Some, None, IsSome, IfOk, OnOk, length, insert, ◌∷◌};
+ghost use Rattle.std.specs.Prelude.{◌≡◌, ◌≢◌, ℕ, ◌+◌, ◌-◌, ◌^◌, ◌<◌, ◌≤◌, Some, None, IsSome, IfOk, OnOk, length, insert, ◌∷◌};
 ghost use Rattle.ft_arena.specs.Forest.{IsForest, entry, block_value, kids_of, parent_of, leaf_value};
 ghost use Rattle.ft_arena.specs.Ids.{times, insert_after};
 ghost use Rattle.ft_block.specs.declared.leaves.View.{View};

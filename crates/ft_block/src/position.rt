@@ -1,6 +1,6 @@
 //! How many elements a view sees left of a leaf, or in all leaves.
 
-ghost use Rattle.std.specs.Prelude.{◌≡◌, ◌+◌, ◌^◌, ◌<◌, ◌≤◌, Some, None, IsSome};
+ghost use Rattle.std.specs.Prelude.{◌≡◌, ◌^◌, ◌<◌, ◌≤◌, Some, None, IsSome};
 ghost use Rattle.ft_arena.specs.Forest.{IsForest, block_value, kids_of, leaf_value};
 ghost use Rattle.ft_arena.specs.Ids.{times};
 ghost use Rattle.ft_shape.specs.Tree.{IsTree, SumsBut, length_of, total, numbers_before};

@@ -1,6 +1,6 @@
 //! How what blocks keep is made again from their children, or changed on the way up from a leaf.
 
-ghost use Rattle.std.specs.Prelude.{◌≡◌, ℕ, ◌+◌, ◌^◌, ◌<◌, ◌≤◌, None, Some, IsSome, IfOk, OnOk};
+ghost use Rattle.std.specs.Prelude.{◌≡◌, ℕ, ◌^◌, ◌<◌, ◌≤◌, None, Some, IsSome, IfOk, OnOk};
 ghost use Rattle.ft_arena.specs.Forest.{IsForest, entry, block_value, kids_of};
 ghost use Rattle.ft_arena.specs.Ids.{times};
 ghost use Rattle.ft_block.specs.declared.leaves.View.{View};

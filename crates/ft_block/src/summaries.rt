@@ -1,6 +1,6 @@
 //! What a block keeps of the leaves below it.
 
-ghost use Rattle.std.specs.Prelude.{◌≡◌, ◌≤◌, ◌<◌, IfOk, OnOk};
+ghost use Rattle.std.specs.Prelude.{◌≡◌, ◌≤◌, IfOk, OnOk};
 ghost use Rattle.ft_block.specs.Tree.{IsFrom, kept_length, KeepsNothing, KeepsExchange, IsChange, KeepsSum, KeepsNode, IsNodeFrom, HasRange};
 
 use crate::leaves::{Leaf, LenView, View, shown_in, staged};

@@ -1,6 +1,6 @@
 //! The input of a report, and the report as it grows.
 
-ghost use Rattle.std.specs.Prelude.{◌≡◌, [], IfOk, length};
+ghost use Rattle.std.specs.Prelude.{◌≡◌, []};
 
 use ft_io::{Failed, Sink, Source};
 use std::alloc::Global;

@@ -1,6 +1,6 @@
 //! How all clients get to know all edits of a round.
 
-ghost use Rattle.std.specs.Prelude.{◌≡◌, ℕ, ◌+◌, ◌≤◌, ◌∷◌, IfSome, None, Some};
+ghost use Rattle.std.specs.Prelude.{◌≡◌, ℕ, ◌+◌, ◌≤◌, ◌∷◌, IfSome, Some};
 ghost use Rattle.ft_seqr.specs.WellFormedEvent.{IsWellFormedEvent};
 ghost use Rattle.ft_gen.specs.Acts.{event_of};
 ghost use Rattle.ft_gen.specs.Rounds.{exchange};

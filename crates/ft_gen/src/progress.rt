@@ -1,6 +1,6 @@
 //! How far a generated session is.
 
-ghost use Rattle.std.specs.Prelude.{◌≡◌, ◌-◌, ◌≤◌};
+ghost use Rattle.std.specs.Prelude.{◌≡◌, ◌≤◌};
 ghost use Rattle.ft_gen.specs.Rounds.{round_roles, share, with_roles, with_share};
 
 use crate::draws::draw;

@@ -1,6 +1,6 @@
 //! What is shown of one interval: its ends as elements on leaves.
 
-ghost use Rattle.std.specs.Prelude.{◌≡◌, ◌≤◌, ℕ, Option, IfSome, IsTrue, option_map};
+ghost use Rattle.std.specs.Prelude.{◌≤◌, ℕ, Option, IfSome, IsTrue, option_map};
 ghost use Rattle.ft_tree_leaves.specs.declared.text.TextContent.{TextContent};
 ghost use Rattle.ft_tree.specs.State.{TreeState};
 ghost use Rattle.ft_interval.specs.declared.intervals.EndPair.{EndPair};

@@ -1,8 +1,7 @@
 //! Ends as elements on leaves, which stages settle one after another.
 
-ghost use Rattle.std.specs.Prelude.{◌≡◌, ◌≤◌, ℕ, IsTrue};
+ghost use Rattle.std.specs.Prelude.{◌≡◌, ◌≤◌, IsTrue};
 ghost use Rattle.ft_tree_leaves.specs.Edits.{next_removal_above};
-ghost use Rattle.ft_interval.specs.declared.intervals.EndPair.{EndPair};
 ghost use Rattle.ft_interval.specs.Ends.{AreLiveEnds, IsLiveEnd, map_ends, place_of_end, places_of_ends};
 ghost use Rattle.ft_interval.specs.Numbers.{number_of, until};
 ghost use Rattle.ft_interval.specs.Shown.{last, numbers_at, settled_end};

@@ -1,6 +1,6 @@
 //! A source and a sink over memory, which fail at the calls that a list names.
 
-ghost use Rattle.std.specs.Prelude.{◌≡◌, [], ◌<◌, ◌≤◌, Some, length, IfOk};
+ghost use Rattle.std.specs.Prelude.{◌≡◌, ◌<◌, ◌≤◌, Some, length, IfOk};
 ghost use Rattle.std.specs.Io.KnownBytes.{ReadConsumes, WriteAppends};
 ghost use Rattle.ft_io.specs.Streams.{HasCause};
 ghost use Rattle.ft_io.specs.Memory.{new_supply, new_store, ReadsPiece, WritesPiece};

@@ -1,6 +1,6 @@
 //! The names of the fields of the JSON objects that are read and written.
 
-ghost use Rattle.std.specs.Prelude.{◌≡◌, ◌↔◌, IsTrue};
+ghost use Rattle.std.specs.Prelude.{◌≡◌};
 ghost use Rattle.ft_json.specs.Fields.{field_name};
 
 use std::fmt;

@@ -1,6 +1,6 @@
 //! The texts of JSON values that are kept.
 
-ghost use Rattle.std.specs.Prelude.{◌≡◌, ◌↔◌, IsTrue, IfOk, option_and_then, string_bytes};
+ghost use Rattle.std.specs.Prelude.{◌≡◌, IfOk, option_and_then, string_bytes};
 ghost use Rattle.serde_json.specs.Find.{as_i64, as_number};
 ghost use Rattle.serde_json.specs.View.{view};
 ghost use Rattle.serde_json.specs.Written.{compact_text};

@@ -1,7 +1,7 @@
 //! Where the pending operations stand that count: of each key the last one, and the last clear.
 
-ghost use Rattle.std.specs.Prelude.{◌≡◌, Some, OnOk, OnErr, chars, option_copied};
-ghost use Rattle.ft_props.specs.Keys.{KeysRise, value_of};
+ghost use Rattle.std.specs.Prelude.{◌≡◌, OnOk, OnErr, chars};
+ghost use Rattle.ft_props.specs.Keys.{value_of};
 ghost use Rattle.ft_map.specs.Marks.{forgotten, no_marks, noted, unless_at, without};
 
 use crate::ops::MapOp;

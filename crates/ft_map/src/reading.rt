@@ -2,8 +2,6 @@
 
 ghost use Rattle.std.specs.Prelude.{◌≡◌, ◌≢◌, Ok, Err, IfOk, IfErr, option_map};
 ghost use Rattle.serde_json.specs.View.{view};
-ghost use Rattle.ft_json.specs.Reading.{count};
-ghost use Rattle.ft_seqr.specs.EventGrammar.{client_name_field, count_or_all, given_count, given_from};
 ghost use Rattle.ft_map.specs.declared.events.MapEvent.TheVariants.{Connect, Drop, Show, Summary, Ticket, Deliver};
 ghost use Rattle.ft_map.specs.MapEventReader.{ReadsMapEvent};
 ghost use Rattle.ft_map.specs.MapGrammar.{counted_event, delete_op, edit_event, edit_op, event_for, event_of, event_of_client, map_event, map_op, set_op, set_value, start_event, typed_op};

@@ -2,7 +2,7 @@
 
 ghost use Rattle.std.specs.Prelude.{◌≡◌, ◌+◌, ◌<◌, ◌^◌, [], ◌∷◌, ◌++◌, IfOk, OnOk, OnErr, chars, length, option_copied, slice_get};
 ghost use Rattle.ft_props.specs.Keys.{KeysRise};
-ghost use Rattle.ft_map.specs.Maps.{acknowledged, map_of, pair_of, pairs_of, put, put_all, shown_map, value_of};
+ghost use Rattle.ft_map.specs.Maps.{acknowledged, map_of, pair_of, pairs_of, put, shown_map, value_of};
 
 use crate::marks::Marks;
 use crate::ops::{MapOp, MapPair, put, set, written};

@@ -1,6 +1,6 @@
 //! Copies of messages and drafts, and whether two are the same.
 
-ghost use Rattle.std.specs.Prelude.{◌≡◌, ◌↔◌, Ok, IsTrue, IfOk};
+ghost use Rattle.std.specs.Prelude.{◌≡◌, ◌↔◌, IsTrue};
 
 use crate::messages::{Body, Draft, Entry, Message, MsgKind};
 use crate::views::{Link, Numbers, Run, Spot, View};

@@ -3,7 +3,7 @@
 ghost use Rattle.std.specs.Prelude.{◌≡◌, ◌≢◌, Ok, Err, IfOk, IfErr, chars, option_map};
 ghost use Rattle.serde_json.specs.View.{view};
 ghost use Rattle.ft_json.specs.Readers.{Reads};
-ghost use Rattle.ft_msg.specs.MessageGrammar.{body_of, draft, draft_body, draft_of, is_op_kind, kind_of, message, message_of, op_body, sender_of};
+ghost use Rattle.ft_msg.specs.MessageGrammar.{body_of, draft, draft_body, draft_of, is_op_kind, kind_of, message, message_of, sender_of};
 ghost use Rattle.ft_msg.specs.WellFormed.{HasNumbersInRange, IsWellFormedBody, IsWellFormedDraft, IsWellFormedMessage};
 
 use crate::contents::read_op_body;

@@ -20,12 +20,12 @@ use std::alloc::Global;
 /// would show; `queued`, `queue_at`, `numbers` and `take_outgoing` go on answering by the state before
 /// that call.
 pub trait Replica: Sized {
-    ghost use Rattle.std.specs.Prelude.{◌≡◌, ℕ, ◌≤◌, Bool, IfOk, OnOk, Ok, IsTrue, length, drop, slice_get, option_copied};
+    ghost use Rattle.std.specs.Prelude.{◌≡◌, ◌≤◌, Bool, IfOk, OnOk, Ok, IsTrue, length, drop, slice_get, option_copied};
     ghost use Rattle.ft_op.specs.Document.{Document, empty};
     ghost use Rattle.ft_op.specs.WellFormed.{IsWellFormed};
     ghost use Rattle.ft_msg.specs.Answers.{Answers, AnswersRead, AnswersSummary, IsFullyCompacted, ReplicaState, RunsFor, StandsForSome, StartsOver, edit_fault_kind, link_fault_kind, numbers_of, process_fault_kind, view_content, view_fault_kind, with_queue};
     ghost use Rattle.ft_msg.specs.Blame.{blame};
-    ghost use Rattle.ft_msg.specs.Client.{NaiveClient, client_over, connect, drop_link, local_edit, noop};
+    ghost use Rattle.ft_msg.specs.Client.{client_over, connect, drop_link, local_edit, noop};
     ghost use Rattle.ft_msg.specs.Content.{content};
     ghost use Rattle.ft_msg.specs.Overlap.{overlap};
     ghost use Rattle.ft_msg.specs.Process.{process};

@@ -1,10 +1,9 @@
 //! Writing messages and drafts.
 
-ghost use Rattle.std.specs.Prelude.{◌≡◌, Ok, IfOk, encode_utf8_all};
+ghost use Rattle.std.specs.Prelude.{◌≡◌, Ok, IfOk};
 ghost use Rattle.serde_json.specs.Data.{string};
 ghost use Rattle.serde_json.specs.View.{view};
 ghost use Rattle.serde_json.specs.Written.{compact_text};
-ghost use Rattle.ft_op.specs.Representable.{IsText};
 ghost use Rattle.ft_msg.specs.MessageGrammar.{draft as draft_of_text, message};
 ghost use Rattle.ft_msg.specs.Representable.{IsRepresentableBody, IsRepresentableKind, IsRepresentableMessage, IsRepresentableSender};
 ghost use Rattle.ft_msg.specs.WellFormed.{IsWellFormedBody, IsWellFormedDraft, IsWellFormedMessage};

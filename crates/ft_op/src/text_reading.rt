@@ -1,11 +1,11 @@
 //! Reading operations of the text from JSON values.
 
-ghost use Rattle.std.specs.Prelude.{◌≡◌, ◌≢◌, Ok, Err, IfOk, IfErr, map, option_map};
+ghost use Rattle.std.specs.Prelude.{◌≡◌, ◌≢◌, Ok, Err, IfOk, IfErr, map};
 ghost use Rattle.std.specs.List.{AllByRecursion};
 ghost use Rattle.serde_json.specs.View.{view};
 ghost use Rattle.ft_json.specs.Readers.{Reads};
 ghost use Rattle.ft_op.specs.Reading.{read_each};
-ghost use Rattle.ft_op.specs.TextGrammar.{annotation, base_op, group, group_item, insertion, insertion_of, removal, text_op, typed_op};
+ghost use Rattle.ft_op.specs.TextGrammar.{annotation, base_op, group, group_item, insertion, removal, text_op, typed_op};
 ghost use Rattle.ft_op.specs.WellFormed.{IsWellFormedBase, IsWellFormedText};
 
 use crate::adjustments::read_given_adjustments;

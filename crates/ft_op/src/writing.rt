@@ -1,8 +1,7 @@
 //! Writing operations as JSON.
 
-ghost use Rattle.std.specs.Prelude.{◌≡◌, true, List, [], ◌∷◌, Ok, IfOk, OnOk, codes, encode_utf8_all, option_map};
+ghost use Rattle.std.specs.Prelude.{◌≡◌, Ok, IfOk, OnOk, option_map};
 ghost use Rattle.std.specs.List.{AllByRecursion};
-ghost use Rattle.std.specs.Str.{all_scalars};
 ghost use Rattle.serde_json.specs.Data.{object, put, string};
 ghost use Rattle.serde_json.specs.View.{view, items_view, members_view};
 ghost use Rattle.serde_json.specs.Written.{compact_text};
@@ -11,8 +10,8 @@ ghost use Rattle.ft_json.specs.Canonical.{IsTextWithin};
 ghost use Rattle.ft_json.specs.Reading.{read_line};
 ghost use Rattle.ft_op.specs.Laws.{IsReadAs};
 ghost use Rattle.ft_op.specs.Representable.{IsKeyed, IsRepresentable, IsRepresentableBase, IsRepresentableSegment, IsRepresentableText, IsText};
-ghost use Rattle.ft_op.specs.WellFormed.{AreAdjustments, IsPropertySet, IsSetValue, IsWellFormed, IsWellFormedBase, IsWellFormedCell, IsWellFormedGrid, IsWellFormedText};
-ghost use Rattle.ft_op.specs.Written.{given_adjustments, given_end, given_set, given_start, put_given, with_given, written, written_adjustment, written_base, written_cell, written_grid_op, written_group, written_items, written_interval, written_marker, written_number, written_pairs, written_segment, written_set, written_target, written_text, written_text_op, written_value};
+ghost use Rattle.ft_op.specs.WellFormed.{IsPropertySet, IsSetValue, IsWellFormed, IsWellFormedBase, IsWellFormedCell, IsWellFormedGrid, IsWellFormedText};
+ghost use Rattle.ft_op.specs.Written.{given_adjustments, given_end, given_set, given_start, put_given, written, written_adjustment, written_base, written_cell, written_grid_op, written_group, written_items, written_interval, written_pairs, written_segment, written_set, written_target, written_text_op, written_value};
 
 use crate::limits::{ANNOTATION, GROUP, INSERTION, REMOVAL, SPLICE_IN, SPLICE_OUT};
 use crate::operations::{BaseOp, CellOp, ChannelOp, Ends, GridOp, Seg, Target, TextOp};

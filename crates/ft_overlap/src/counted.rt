@@ -1,6 +1,6 @@
 //! The calls that are given no counter of steps: each makes one of its own.
 
-ghost use Rattle.std.specs.Prelude.{◌≡◌, ℕ, ◌<◌, Some, None, IsSome, IfOk, OnErr, MatchOption, ◌∷◌};
+ghost use Rattle.std.specs.Prelude.{◌≡◌, ℕ, ◌<◌, Some, None, IsSome, IfOk, OnErr, MatchOption};
 ghost use Rattle.ft_arena.specs.Forest.{IsForest, leaf_value};
 ghost use Rattle.ft_shape.specs.Tree.{IsTree};
 ghost use Rattle.ft_shape.specs.Told.{KeepsBut};

@@ -1,7 +1,7 @@
 //! How the items that meet a range are found: down from the root, past blocks whose items all end
 //! before it, until one starts behind it.
 
-ghost use Rattle.std.specs.Prelude.{◌≡◌, ℕ, ◌+◌, IsSome, IfOk, length, [], ◌∷◌};
+ghost use Rattle.std.specs.Prelude.{ℕ, ◌+◌, IsSome, IfOk, length, [], ◌∷◌};
 ghost use Rattle.ft_arena.specs.Forest.{entry};
 ghost use Rattle.ft_shape.specs.Tree.{IsTree, height_of};
 ghost use Rattle.ft_overlap.specs.Items.{IsRising, AreKnown, keys_within};

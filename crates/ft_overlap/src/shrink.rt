@@ -1,7 +1,7 @@
 //! How an item is taken out of the tree: blocks with too few children get some of a neighbour, or are joined
 //! with it, on the way up.
 
-ghost use Rattle.std.specs.Prelude.{◌≡◌, ◌≢◌, ℕ, ◌+◌, ◌≤◌, Some, None, IsSome, IsTrue, length, slice_get, false, [], ◌∷◌};
+ghost use Rattle.std.specs.Prelude.{◌≡◌, ℕ, ◌+◌, ◌≤◌, Some, None, IsSome, IsTrue, length, slice_get, false, [], ◌∷◌};
 ghost use Rattle.ft_arena.specs.Forest.{IsForest, block_value, kids_of, leaf_value};
 ghost use Rattle.ft_shape.specs.Tree.{IsTree, IsApart, IsBare};
 ghost use Rattle.ft_shape.specs.Steps.{Shares, IsPair, TakesLeaf};

@@ -1,6 +1,6 @@
 //! A table of partial lengths.
 
-ghost use Rattle.std.specs.Prelude.{◌≡◌, ℕ, ◌+◌, ◌≤◌, ◌<◌, ◌^◌, List, [], ◌∷◌, ◌++◌, IfOk, OnOk, OnErr};
+ghost use Rattle.std.specs.Prelude.{◌≡◌, ℕ, ◌+◌, ◌≤◌, ◌<◌, ◌^◌, List, [], ◌∷◌, ◌++◌, OnOk, OnErr};
 ghost use Rattle.ft_partial.specs.Items.{Item, item_of, inserted_element, removed, length_seen, folded_items};
 ghost use Rattle.ft_partial.specs.SameStamps.{SameByStamps, ExchangesItem};
 ghost use Rattle.ft_partial.specs.Tables.{length_at, CountsItems, Adds, Exchanges, AddsAll, AddsChange, SameFrom};

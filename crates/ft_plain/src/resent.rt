@@ -1,6 +1,6 @@
 //! Pending stages as they are sent again after a reconnection.
 
-ghost use Rattle.std.specs.Prelude.{◌≡◌, ◌+◌, [], ◌∷◌, ◌++◌, IfOk, OnOk, Some, flat_map, length, map, option_to_list};
+ghost use Rattle.std.specs.Prelude.{◌≡◌, ◌+◌, ◌∷◌, ◌++◌, IfOk, OnOk, Some, flat_map, map, option_to_list};
 ghost use Rattle.ft_op.specs.declared.operations.ChannelOp.TheVariants.{Grid, Text};
 ghost use Rattle.ft_op.specs.Operation.{OnGrid, OnText};
 ghost use Rattle.ft_op.specs.Pieces.{base_op_of, cell_op_of, op_of, pieces};

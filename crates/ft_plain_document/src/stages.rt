@@ -1,6 +1,6 @@
 //! Pending stages and pending edits.
 
-ghost use Rattle.std.specs.Prelude.{◌≡◌, ◌≤◌, [], ◌∷◌, ◌++◌, IfOk, OnOk, OnErr, drop, length, map, take};
+ghost use Rattle.std.specs.Prelude.{◌≡◌, [], ◌∷◌, IfOk, OnOk, map};
 ghost use Rattle.ft_op.specs.Operation.{OnGrid, OnText, sub_operations};
 ghost use Rattle.ft_msg.specs.Acknowledgement.{renamed_stage};
 ghost use Rattle.ft_plain_document.specs.Renamed.{renaming_of};

@@ -2,7 +2,6 @@
 
 ghost use Rattle.std.specs.Prelude.{◌≡◌, ◌+◌, ◌<◌, ◌^◌, [], None, IfOk, OnOk, OnErr, length, map, nat_le, option_map, replicate};
 ghost use Rattle.ft_base.specs.Scan.{at as seen_at, change_range, len};
-ghost use Rattle.ft_base.specs.declared.stamps.Stamp.TheVariants.{Acked};
 ghost use Rattle.ft_props.specs.Element.{GridUnit, id, seen_by, with_annotation};
 ghost use Rattle.ft_props.specs.Steps.{after_insertion, after_removal, empty_list};
 ghost use Rattle.ft_msg.specs.Answers.{count_held};

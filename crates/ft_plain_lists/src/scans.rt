@@ -1,7 +1,7 @@
 //! Scans of a list of elements: how many are seen, where an insertion goes, and which elements a mark
 //! is for.
 
-ghost use Rattle.std.specs.Prelude.{◌≡◌, ◌≤◌, ◌+◌, ◌<◌, ◌^◌, ◌++◌, [], None, Some, IfOk, OnOk, OnErr, length, map, option_map, replicate, take, drop};
+ghost use Rattle.std.specs.Prelude.{◌≡◌, ◌≤◌, ◌+◌, ◌<◌, ◌^◌, ◌++◌, [], IfOk, OnOk, OnErr, length, map, option_map, replicate, take, drop};
 ghost use Rattle.std.specs.List.{prefix_len};
 ghost use Rattle.ft_base.specs.Scan.{at as seen_at, change_range, len, place, rank};
 ghost use Rattle.ft_props.specs.Element.{GridUnit, id, is_pending, new_elements};

@@ -1,6 +1,6 @@
 //! What sets of properties and changes make of properties.
 
-ghost use Rattle.std.specs.Prelude.{◌≡◌, Some, IfOk, OnOk, OnErr, option_copied, option_map};
+ghost use Rattle.std.specs.Prelude.{◌≡◌, Some, IfOk, OnOk};
 ghost use Rattle.std.specs.Fmt.{signed_decimal};
 ghost use Rattle.ft_props.specs.Properties.{adj, adjust, apply, change, number_or_zero, set_key, value_of};
 

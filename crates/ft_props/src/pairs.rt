@@ -1,6 +1,6 @@
 //! Lists of pairs of a key and a value by rising keys.
 
-ghost use Rattle.std.specs.Prelude.{◌≡◌, ◌↔◌, ◌≤◌, [], IsOk, IsTrue, IfOk, OnOk, OnErr, chars, length, slice_get, option_copied, option_map, is_some};
+ghost use Rattle.std.specs.Prelude.{◌≡◌, ◌↔◌, [], IsOk, IsTrue, OnOk, OnErr, chars, length, slice_get, option_copied, option_map, is_some};
 ghost use Rattle.ft_props.specs.Keys.{KeysRise, key_cmp, place_of, put_rising, remove_rising, value_of};
 
 use crate::keys::compare;

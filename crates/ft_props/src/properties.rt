@@ -1,7 +1,5 @@
 //! Properties and what changes them.
 
-ghost use Rattle.std.specs.Prelude.{◌≡◌, ◌↔◌, IsTrue, IfOk};
-
 use crate::pairs::Pairs;
 use ft_base::{Datum, OutOfMemory};
 use ft_json::ValText;

@@ -1,6 +1,6 @@
 //! The lists of references.
 
-ghost use Rattle.std.specs.Prelude.{◌≡◌, ◌≢◌, ℕ, ◌+◌, ◌++◌, ◌<◌, ◌^◌, [], ◌∷◌, Some, None, length, IsSome, IfOk, OnErr, option_map};
+ghost use Rattle.std.specs.Prelude.{◌≡◌, ◌≢◌, ℕ, ◌+◌, ◌++◌, ◌^◌, [], ◌∷◌, Some, None, length, IsSome, IfOk, OnErr, option_map};
 ghost use Rattle.ft_arena.specs.Ids.{first};
 ghost use Rattle.ft_refs.specs.RefLists.{IsRefs, IsHeld, entry, references_of, ids_of, owner_of, offset_of, next_of, without_reference, ChangesOne, Holds, below, from_on, raised, split_place, raised_place, AllBelow};
 

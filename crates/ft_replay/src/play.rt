@@ -5,7 +5,6 @@ ghost use Rattle.ft_io.specs.Lines.{with_lf};
 ghost use Rattle.ft_seqr.specs.WellFormedEvent.{IsWellFormedEvent};
 ghost use Rattle.ft_seqr.specs.World.{NamedClient, Output, furthest};
 ghost use Rattle.ft_session.specs.Outputs.{Tells};
-ghost use Rattle.ft_replay.specs.Generated.{session_events};
 ghost use Rattle.ft_replay.specs.LineForm.{bytes_of, whole_ending};
 ghost use Rattle.ft_replay.specs.Play.{Played, after_event, agreement_line, lines_of_play, nothing_played, play_lines, play_ending, session_play, settings_line, shown_client};
 ghost use Rattle.ft_replay.specs.Playing.{HasShown, Plays};

@@ -1,6 +1,6 @@
 //! How clients come into a session.
 
-ghost use Rattle.std.specs.Prelude.{◌≡◌, ◌∷◌, ◌++◌, [], None, Some, Err, ⊤, IfOk, IfErr, OnOk, OnErr, find};
+ghost use Rattle.std.specs.Prelude.{◌≡◌, ◌∷◌, ◌++◌, [], None, Some, Err, ⊤, IfOk, IfErr, OnOk, find};
 ghost use Rattle.ft_props.specs.Properties.{Characters};
 ghost use Rattle.ft_seqr.specs.World.{NaiveWorld, NamedClient, happen, is_client, name_fault, start_client};
 ghost use Rattle.ft_seqr.specs.declared.events.Event.TheVariants as event;

@@ -1,23 +1,18 @@
 //! A segment as contents of leaves, and how they come into a tree: the last one first, each at the same place, so that they
 //! stand side by side in their order.
 
-ghost use Rattle.std.specs.Prelude.{◌≡◌, ℕ, ◌+◌, ◌*◌, ◌≤◌, ◌++◌, ◌∷◌, ◌<◌, [], string_bytes, true, IfErr, IfOk, IsTrue, None, OnErr, OnOk, chars, false, flat_map, length, map};
+ghost use Rattle.std.specs.Prelude.{◌≡◌, ◌+◌, ◌*◌, ◌≤◌, ◌++◌, ◌∷◌, ◌<◌, [], string_bytes, true, IfOk, IsTrue, None, OnOk, chars, flat_map, length, map};
 ghost use Rattle.ft_base.specs.declared.stamps.Stamp.TheVariants.{Acked, Local};
-ghost use Rattle.ft_base.specs.Scan.{len, no_run, put};
+ghost use Rattle.ft_base.specs.Scan.{no_run};
 ghost use Rattle.ft_block.specs.declared.leaves.LenView.TheVariants.{At};
 ghost use Rattle.ft_block.specs.Leaves.{last_stage};
-ghost use Rattle.ft_tree_leaves.specs.Edits.{with_place};
 ghost use Rattle.ft_tree_leaves.specs.Elements.{is_pending, new_elements, seen_in};
-ghost use Rattle.ft_tree_leaves.specs.Places.{put_place, shifted_place};
-ghost use Rattle.ft_tree_leaves.specs.References.{ChangesReferences};
 ghost use Rattle.ft_tree_leaves.specs.declared.text.TextPiece.TheVariants.{Run};
 ghost use Rattle.ft_tree_leaves.specs.TextLeaves.{new_text, text_author, text_units};
 ghost use Rattle.ft_tree_leaves.specs.TextRuns.{IsTextRun, longest_run};
-ghost use Rattle.ft_interval.specs.State.{text_elements};
 ghost use Rattle.ft_op.specs.Operation.{segment_contents};
 ghost use Rattle.ft_props.specs.Element.{Character};
 ghost use Rattle.ft_props.specs.Properties.{apply, max_safe_integer};
-ghost use Rattle.ft_tree.specs.State.{KeepsRest};
 ghost use Rattle.ft_string.specs.Contents.{PutsIn, are_new};
 
 use ft_base::{OutOfMemory, Perspective, Steps};

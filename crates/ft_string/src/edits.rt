@@ -1,6 +1,6 @@
 //! The client's own edits of a shared text.
 
-ghost use Rattle.std.specs.Prelude.{◌≡◌, ◌≢◌, ℕ, ◌+◌, ◌*◌, ◌-◌, ◌<◌, ◌≤◌, ◌^◌, ◌++◌, ◌∷◌, List, [], All, not, IfErr, IsTrue, OnErr, OnOk, Ok, false, is_ok, length, map, true};
+ghost use Rattle.std.specs.Prelude.{◌≡◌, ◌≢◌, ◌+◌, ◌*◌, ◌-◌, ◌<◌, ◌≤◌, ◌^◌, ◌++◌, ◌∷◌, List, [], All, not, IfErr, IsTrue, OnOk, is_ok, length, map, true};
 ghost use Rattle.std.specs.List.{AllByRecursion};
 ghost use Rattle.ft_base.specs.Scan.{len};
 ghost use Rattle.ft_block.specs.declared.leaves.LenView.TheVariants.{Stage as at_stage};
@@ -14,7 +14,7 @@ ghost use Rattle.ft_op.specs.Operation.{OnIntervals, OnText, text_sub_operations
 ghost use Rattle.ft_op.specs.Stages.{Stage};
 ghost use Rattle.ft_op.specs.WellFormed.{IsWellFormedBase, IsWellFormedText};
 ghost use Rattle.ft_props.specs.Properties.{max_safe_integer};
-ghost use Rattle.ft_string.specs.Calls.{AnswersEdit, Leaves, TakesEdit};
+ghost use Rattle.ft_string.specs.Calls.{AnswersEdit, Leaves};
 ghost use Rattle.ft_string.specs.Edits.{IsShort, count_after_all, edit_fault_of, is_refusal, put_in_by, put_in_by_all, seen_count};
 ghost use Rattle.ft_string.specs.Holds.{HoldsSome, HoldsText, IsTextSound};
 ghost use Rattle.ft_string.specs.Parts.{TakesOp, TakesOps, noted};

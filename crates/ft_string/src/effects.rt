@@ -1,18 +1,15 @@
 //! What operations of messages of other clients make of a shared text.
 
-ghost use Rattle.std.specs.Prelude.{◌≡◌, ℕ, ◌+◌, ◌≤◌, ◌<◌, ◌∷◌, [], List, true, IfOk, IsTrue, OnErr, OnOk, false, map};
+ghost use Rattle.std.specs.Prelude.{◌≡◌, ℕ, ◌+◌, ◌≤◌, ◌∷◌, [], List, true, IfOk, IsTrue, OnErr, OnOk, false, map};
 ghost use Rattle.std.specs.List.{AllByRecursion};
-ghost use Rattle.ft_base.specs.Scan.{len};
-ghost use Rattle.ft_block.specs.declared.leaves.LenView.TheVariants.{At};
-ghost use Rattle.ft_interval.specs.State.{is_interval_operation, text_elements};
-ghost use Rattle.ft_tree_leaves.specs.Elements.{seen_in};
+ghost use Rattle.ft_interval.specs.State.{is_interval_operation};
 ghost use Rattle.ft_op.specs.Document.{Document, effects};
 ghost use Rattle.ft_op.specs.Operation.{OnIntervals, OnText, text_sub_operations};
 ghost use Rattle.ft_op.specs.Stages.{Stage};
 ghost use Rattle.ft_op.specs.WellFormed.{IsWellFormedBase, IsWellFormedText};
 ghost use Rattle.ft_props.specs.Properties.{max_safe_integer};
 ghost use Rattle.ft_string.specs.Calls.{IsApplied};
-ghost use Rattle.ft_string.specs.Edits.{end_of, put_in_by};
+ghost use Rattle.ft_string.specs.Edits.{put_in_by};
 ghost use Rattle.ft_string.specs.Holds.{HoldsText, IsTextSound};
 ghost use Rattle.ft_string.specs.Parts.{AppliesOp, TriesOp, TriesOps};
 ghost use Rattle.ft_string.specs.State.{KeepsRest};

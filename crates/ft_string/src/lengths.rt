@@ -1,6 +1,6 @@
 //! Which operations fit, told by lengths alone.
 
-ghost use Rattle.std.specs.Prelude.{◌≡◌, ◌≢◌, ◌+◌, ◌≤◌, ℕ, Ok, Err, IfOk, IfErr, IfSome, IsTrue, OnOk, chars, is_ok, length, true};
+ghost use Rattle.std.specs.Prelude.{◌≡◌, ◌≢◌, ◌+◌, ◌≤◌, ℕ, Err, IfOk, IfErr, IfSome, IsTrue, OnOk, chars, is_ok, length, true};
 ghost use Rattle.ft_base.specs.Scan.{len};
 ghost use Rattle.ft_block.specs.declared.leaves.LenView.TheVariants.{Stage as at_stage};
 ghost use Rattle.ft_interval.specs.State.{text_elements};

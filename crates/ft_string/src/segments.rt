@@ -1,7 +1,7 @@
 //! The segments of a summary, made from the leaves of a text in order: one is open, and the next element goes on with it or ends
 //! it.
 
-ghost use Rattle.std.specs.Prelude.{◌≡◌, ℕ, ◌∷◌, ◌++◌, [], IfOk, IsTrue, List, None, OnOk, Some, chars, false, map, string_bytes, true};
+ghost use Rattle.std.specs.Prelude.{◌≡◌, ℕ, ◌∷◌, ◌++◌, [], IfOk, IsTrue, None, OnOk, Some, chars, map, string_bytes, true};
 ghost use Rattle.ft_block.specs.Leaves.{IsLeafIn, value_at};
 ghost use Rattle.ft_tree_leaves.specs.declared.leaves.TreeLeaf.{TreeLeaf};
 ghost use Rattle.ft_tree_leaves.specs.declared.text.TextContent.{TextContent};

@@ -1,6 +1,6 @@
 //! Copies of what summaries and views hold, and whether two are equal.
 
-ghost use Rattle.std.specs.Prelude.{◌≡◌, ◌↔◌, Ok, IsTrue, IfOk};
+ghost use Rattle.std.specs.Prelude.{Ok};
 
 use crate::summary::{CellRec, Ends2, IntervalRec, Mark, RunRec, Seg, SegRec, SumDoc};
 use ft_base::{Datum, OutOfMemory};

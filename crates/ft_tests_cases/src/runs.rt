@@ -1,7 +1,5 @@
 //! A run of the program over memory.
 
-ghost use Rattle.std.specs.Prelude.{◌≤◌};
-
 use crate::views::push_views;
 use ft_base::OutOfMemory;
 use ft_cli::run;

@@ -1,6 +1,6 @@
 //! Normalisation of trees whose leaves are markers.
 
-ghost use Rattle.std.specs.Prelude.{◌≡◌, ℕ, ◌++◌, ◌∷◌, [], IfOk, IsTrue, OnOk, true};
+ghost use Rattle.std.specs.Prelude.{◌≡◌, ◌++◌, ◌∷◌, [], IfOk, IsTrue, OnOk, true};
 ghost use Rattle.ft_base.specs.declared.stamps.Stamp.TheVariants.{Acked, Local};
 ghost use Rattle.ft_tests_layers.specs.Markers.{elements_of, marker_element, removed_alone, two_stages};
 ghost use Rattle.ft_tree_leaves.specs.References.{IsReferenceIn};

@@ -1,6 +1,6 @@
 //! Trees of text: what tests and timing programs do to them, and what they read.
 
-ghost use Rattle.std.specs.Prelude.{◌≡◌, ◌≤◌, IsTrue, IfSome, OnOk};
+ghost use Rattle.std.specs.Prelude.{◌≤◌, IsTrue, IfSome, OnOk};
 ghost use Rattle.ft_block.specs.Leaves.{IsLeafIn};
 ghost use Rattle.ft_tests_steps.specs.Passing.{HasNoChanges, Passes};
 

@@ -1,6 +1,6 @@
 //! What is written of a tree, its intervals and the list beside it.
 
-ghost use Rattle.std.specs.Prelude.{◌≤◌, IsTrue};
+ghost use Rattle.std.specs.Prelude.{IsTrue};
 ghost use Rattle.ft_block.specs.Leaves.{IsLeafIn};
 ghost use Rattle.ft_interval.specs.State.{IsLive};
 

@@ -1,6 +1,6 @@
 //! The references of a tree, and where they go.
 
-ghost use Rattle.std.specs.Prelude.{◌≡◌, ◌≢◌, ℕ, ◌+◌, ◌<◌, Some, None, IsTrue, IfOk, IfErr, IfSome, OnOk, OnErr, true, false, option_and_then, option_map};
+ghost use Rattle.std.specs.Prelude.{◌≡◌, ◌≢◌, ℕ, ◌+◌, ◌<◌, Some, None, IsTrue, IfOk, IfErr, IfSome, OnOk, true, false, option_and_then, option_map};
 ghost use Rattle.ft_base.specs.Scan.{len};
 ghost use Rattle.ft_block.specs.declared.leaves.LenView.TheVariants.{Stage};
 ghost use Rattle.ft_block.specs.Leaves.{IsFromFloor};

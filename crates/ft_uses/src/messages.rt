@@ -3,7 +3,7 @@
 //! A client may be given a message only if that is well formed. One that was read from a text is; one
 //! that comes as a value is looked at first.
 
-ghost use Rattle.std.specs.Prelude.{◌≡◌, true, IsTrue};
+ghost use Rattle.std.specs.Prelude.{◌≡◌, IsTrue};
 ghost use Rattle.ft_op.specs.WellFormed.{IsWellFormed, are_ends, is_count, is_range};
 ghost use Rattle.ft_msg.specs.WellFormed.{HasItsParts, IsWellFormedBody, IsWellFormedKind, IsWellFormedMessage, is_number};
 

@@ -1,6 +1,6 @@
 //! The client's own edits of a document of trees.
 
-ghost use Rattle.std.specs.Prelude.{◌≡◌, ◌+◌, ◌*◌, ◌<◌, ◌≤◌, ◌^◌, ◌++◌, ℕ, IfErr, IfOk, OnOk, length};
+ghost use Rattle.std.specs.Prelude.{◌≡◌, ◌+◌, ◌*◌, ◌≤◌, ◌^◌, ◌++◌, ℕ, IfErr, IfOk, OnOk, length};
 ghost use Rattle.ft_op.specs.declared.operations.CellOp.{CellOp};
 ghost use Rattle.ft_op.specs.declared.operations.GridOp.{GridOp};
 ghost use Rattle.ft_op.specs.declared.operations.Target.{Target};

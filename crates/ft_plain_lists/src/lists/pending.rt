@@ -1,8 +1,7 @@
 //! What a client's own edits make of a list, and what their acknowledgement and a reconnection do.
 
-ghost use Rattle.std.specs.Prelude.{◌≡◌, ◌+◌, [], None, IfOk, OnOk, OnErr, filter, length, map, replicate};
+ghost use Rattle.std.specs.Prelude.{◌≡◌, ◌+◌, [], IfOk, OnOk, OnErr, filter, length, map, replicate};
 ghost use Rattle.ft_base.specs.Scan.{no_run, put, retain_map};
-ghost use Rattle.ft_base.specs.declared.stamps.Stamp.TheVariants.{Local};
 ghost use Rattle.ft_props.specs.Element.{GridUnit, is_sequenced, seen, with_pending_annotation, with_pending_removal};
 ghost use Rattle.ft_props.specs.Steps.{acked_element, acked_list, after_local_insertion, after_local_mark, carried_element};
 ghost use Rattle.ft_props.specs.Steps.{is_inserted_by, put_stage, put_stages, rebuilt_list, stage_position};
