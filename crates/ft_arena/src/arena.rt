@@ -56,7 +56,7 @@ impl<L, B> Arena<L, B> {
 
     /// Makes room for `n` more nodes.
     ///
-    /// Answers `OutOfMemory` where there is no room for them, and then the arena is as it was.
+    /// Returns `OutOfMemory` where there is no room for them, and then the arena is as it was.
     pub fn reserve(&mut self, n: usize) -> Result<(), OutOfMemory>
         ensures room { OnOk result (n ≤ self.new.spare) }
         ensures spare { self.old.spare ≤ self.new.spare }
@@ -93,7 +93,7 @@ impl<L, B> Arena<L, B> {
         NodeId(id)
     }
 
-    /// Takes a leaf that has no parent out, and answers its value.
+    /// Takes a leaf that has no parent out, and returns its value.
     pub fn unlink(&mut self, id: NodeId) -> L
         requires live { IsSome (leaf_value self.old id) }
         requires alone { parent_of self.old id ≡ None }
@@ -138,7 +138,7 @@ impl<L, B> Arena<L, B> {
         set_prev(&mut self.slots, &mut self.tail, after, Some(id));
     }
 
-    /// Takes a block without children and parent out, and answers its value.
+    /// Takes a block without children and parent out, and returns its value.
     pub fn drop_block(&mut self, id: NodeId) -> B
         requires block { IsSome (block_value self.old id) }
         requires empty { kids_of self.old id ≡ [] }

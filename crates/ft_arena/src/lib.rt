@@ -1,7 +1,7 @@
 //! An arena of tree nodes by number: leaves in one list, and blocks with at most eight children
 //! each. It knows nothing of what a tree is for, nor of its shape.
 //!
-//! A call that can't answer `OutOfMemory` takes no memory.
+//! A call that can't return `OutOfMemory` takes no memory.
 #![tactic(auto)]
 
 pub mod arena;

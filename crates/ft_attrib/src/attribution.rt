@@ -116,7 +116,7 @@ impl Attribution {
 
     /// Adds `len` characters of one origin at the end: at least one, and at most 2^53 - 1 in all.
     ///
-    /// Answers `OutOfMemory` where there is no room for one more piece, and then it is as it was.
+    /// Returns `OutOfMemory` where there is no room for one more piece, and then it is as it was.
     pub fn push(&mut self, len: u64, who: Origin) -> Result<(), OutOfMemory>
         requires some { 1 ≤ len }
         requires few { length self.old + len < 2 ^ 53 }
@@ -166,7 +166,7 @@ impl Attribution {
     /// The maximal runs among the characters from the `p`-th up to before the `q`-th, counted from
     /// 0, as far as there are any. Their ends are counted in the whole list.
     ///
-    /// Answers `OutOfMemory` where there is no room for them.
+    /// Returns `OutOfMemory` where there is no room for them.
     pub fn runs(&self, p: u64, q: u64) -> Result<Vec<AttrRun>, OutOfMemory>
         ensures { IfOk result (λ runs. runs.items ≡ origin_runs p (take (q - p) (drop p self.now))) }
     {
@@ -176,7 +176,7 @@ impl Attribution {
     /// How many characters each connection inserted, by rising connection, those that inserted none
     /// left out.
     ///
-    /// Answers `OutOfMemory` where there is no room for them.
+    /// Returns `OutOfMemory` where there is no room for them.
     pub fn totals(&self) -> Result<Vec<Total>, OutOfMemory>
         ensures totals { IfOk result (λ v. v.items ≡ totals self.now) }
         ensures counts { IfOk result (λ v. AreTotals self.now v.items) }

@@ -1,6 +1,6 @@
 //! Who inserted what is shown: a list of origins, kept as its maximal pieces.
 //!
-//! A call that can't answer `OutOfMemory` takes no memory.
+//! A call that can't return `OutOfMemory` takes no memory.
 #![tactic(auto)]
 
 pub mod attribution;

@@ -10,7 +10,7 @@ use std::marker::Model;
 pub trait Datum: Sized + Drop {
     /// An equal value.
     ///
-    /// Answers `OutOfMemory` where there is no room for it.
+    /// Returns `OutOfMemory` where there is no room for it.
     fn copy(&self) -> Result<Self, OutOfMemory>
         ensures { IfOk result (λ copy. copy ≡ self.now) };
 
@@ -69,7 +69,7 @@ impl<T: Drop> List<T> {
 
     /// Adds an item at the end.
     ///
-    /// Answers `OutOfMemory` where there is no room for it, and then the list is as it was.
+    /// Returns `OutOfMemory` where there is no room for it, and then the list is as it was.
     pub fn push(&mut self, item: T) -> Result<(), OutOfMemory>
         ensures ok { OnOk result (self.new ≡ self.old ++ item ∷ []) }
         ensures err { OnErr result (self.new ≡ self.old) }
@@ -80,7 +80,7 @@ impl<T: Drop> List<T> {
 
     /// Adds all of another list behind these.
     ///
-    /// Answers `OutOfMemory` where there is no room for them, and then the list is as it was.
+    /// Returns `OutOfMemory` where there is no room for them, and then the list is as it was.
     pub fn append(&mut self, mut more: List<T>) -> Result<(), OutOfMemory>
         ensures ok { OnOk result (self.new ≡ self.old ++ more) }
         ensures err { OnErr result (self.new ≡ self.old) }
@@ -91,7 +91,7 @@ impl<T: Drop> List<T> {
 
     /// Takes all but the first `count` off.
     ///
-    /// Answers `OutOfMemory` where there is no room for them.
+    /// Returns `OutOfMemory` where there is no room for them.
     pub fn split_off(&mut self, count: usize) -> Result<List<T>, OutOfMemory>
         requires { count ≤ length self.old }
         ensures first { OnOk result (self.new ≡ take count self.old) }

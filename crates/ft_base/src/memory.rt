@@ -1,10 +1,10 @@
-//! Want of memory.
+//! Out of memory.
 
 use std::alloc::{AllocError, AllocFailed};
 use std::error::Error;
 use std::fmt;
 
-/// No memory was found. Every call that takes memory may answer it.
+/// No memory was found. Every call that takes memory may return it.
 #[derive(Clone, Copy, Debug, PartialEq, Eq)]
 pub struct OutOfMemory;
 

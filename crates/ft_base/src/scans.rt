@@ -36,7 +36,7 @@ pub fn place_of(items: &[Element], p: usize, at: Perspective) -> usize
 
 /// Puts the element directly after the `p`-th that the perspective sees, or at the head for `p` = 0.
 ///
-/// Answers `OutOfMemory` where there is no room for it, and then the list is as it was.
+/// Returns `OutOfMemory` where there is no room for it, and then the list is as it was.
 pub fn insert_at_place(
     items: &mut Vec<Element>,
     p: usize,

@@ -26,7 +26,7 @@ impl Model for Text {
 impl Text {
     /// A copy of the characters of `text`.
     ///
-    /// Answers `OutOfMemory` where there is no room for the copy.
+    /// Returns `OutOfMemory` where there is no room for the copy.
     pub fn new(alloc: Global, text: &str) -> Result<Text, OutOfMemory>
         ensures { IfOk result (λ copy. copy ≡ chars text.now) }
     {

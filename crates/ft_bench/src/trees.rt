@@ -177,7 +177,7 @@ fn run_on<G: Ledger>(
 /// Puts so many leaves into a tree, of which the last `window` are above the floor, finds so many places
 /// in it, and takes so many leaves out.
 ///
-/// Answers `OutOfMemory` where there is no room for the leaves.
+/// Returns `OutOfMemory` where there is no room for the leaves.
 pub fn run(
     alloc: Global,
     leaves: u32,

@@ -12,7 +12,7 @@ const CONNECTIONS: u64 = 8;
 /// The length of each item.
 const LENGTH: u64 = 3;
 
-/// Fills a window, makes the calls, and answers a sum of what was seen.
+/// Fills a window, makes the calls, and returns a sum of what was seen.
 pub fn run(alloc: Global, kind: &str, window: u32, count: u32) -> Result<u64, OutOfMemory> {
     let mut table = filled(alloc, window)?;
     match kind {

@@ -102,9 +102,9 @@ fn shown(tree: &Tree<TextContent>, intervals: &Collections, views: u32) -> Resul
 }
 
 /// Adds so many intervals behind the stages up to `last`, with a character put in and one removed before each of the first
-/// `edited` of them. Then it shows all so many times, and answers how many there were, all together.
+/// `edited` of them. Then it shows all so many times, and returns how many there were, all together.
 ///
-/// Answers `OutOfMemory` where there is no room for them, and `OutOfRange` where nothing is left to be removed.
+/// Returns `OutOfMemory` where there is no room for them, and `OutOfRange` where nothing is left to be removed.
 pub fn comment<G: Ledger>(
     alloc: Global,
     tree: &mut Tree<TextContent>,

@@ -247,7 +247,7 @@ fn run_on<G: Ledger>(alloc: Global, counts: &Counts, blank: Blank) -> Result<Ans
 
 /// Makes so many edits of each kind, one kind after another.
 ///
-/// Answers `OutOfMemory` where there is no room for them, `TooLarge` where there are more than a thousand
+/// Returns `OutOfMemory` where there is no room for them, `TooLarge` where there are more than a thousand
 /// million elements, and `OutOfRange` where nothing is left to be removed.
 pub fn run(alloc: Global, counts: &Counts) -> Result<Answer, StepFault>
     requires { 1 ≤ counts.now.window }

@@ -44,7 +44,7 @@ impl Case {
 
     /// Adds a line with its LF.
     ///
-    /// Answers `OutOfMemory` where there is no room for it.
+    /// Returns `OutOfMemory` where there is no room for it.
     pub fn add_line(&mut self, line: &[u8]) -> Result<(), OutOfMemory> {
         self.input.extend_from_slice(line)?;
         self.lines = self.lines.saturating_add(1);
@@ -53,7 +53,7 @@ impl Case {
 
     /// Adds a line that has one byte more than a line may have.
     ///
-    /// Answers `OutOfMemory` where there is no room for it.
+    /// Returns `OutOfMemory` where there is no room for it.
     pub fn add_long_line(&mut self) -> Result<(), OutOfMemory> {
         let end = self.input.len().saturating_add(TOO_LONG);
         self.input.resize(end, b'x')?;
@@ -62,7 +62,7 @@ impl Case {
 
     /// Adds what the session comes to.
     ///
-    /// Answers `OutOfMemory` where there is no room for it, and `Write` where the report has more than 16 MiB.
+    /// Returns `OutOfMemory` where there is no room for it, and `Write` where the report has more than 16 MiB.
     pub fn push_outcome(&self, alloc: Global, output: &mut Vec<u8>) -> Result<(), Fault> {
         let plain = self.played::<Plain>(alloc)?;
         let trees = self.played::<Client>(alloc)?;

@@ -5,7 +5,7 @@ use std::alloc::Global;
 
 /// Adds the first lines in which two reports differ, and nothing where they are equal.
 ///
-/// Answers `OutOfMemory` where there is no room for them.
+/// Returns `OutOfMemory` where there is no room for them.
 pub fn push_difference(
     alloc: Global,
     plain: &[u8],

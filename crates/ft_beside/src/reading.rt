@@ -8,7 +8,7 @@ use std::alloc::Global;
 
 /// What the cases come to, one after another.
 ///
-/// Answers `OutOfMemory` where there is no room for it, and `Write` where a report is longer than there is room for.
+/// Returns `OutOfMemory` where there is no room for it, and `Write` where a report is longer than there is room for.
 pub fn outcomes(alloc: Global, lines: &[u8]) -> Result<Vec<u8>, Fault> {
     let mut reading = Reading {
         alloc,

@@ -33,7 +33,7 @@ impl Sums {
 
     /// Adds the line of the counts, with that of the lines of the session.
     ///
-    /// Answers `OutOfMemory` where there is no room for it.
+    /// Returns `OutOfMemory` where there is no room for it.
     pub fn push_counts(
         &self,
         alloc: Global,
@@ -49,7 +49,7 @@ impl Sums {
 
     /// Adds the line of the length and the hash.
     ///
-    /// Answers `OutOfMemory` where there is no room for it.
+    /// Returns `OutOfMemory` where there is no room for it.
     pub fn push_hash(&self, alloc: Global, output: &mut Vec<u8>) -> Result<(), OutOfMemory> {
         let length = self.length;
         let hash = self.hash;

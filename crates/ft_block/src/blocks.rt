@@ -148,7 +148,7 @@ impl<L: Leaf> Blocks<L> {
     /// up to that one; the head of the list for `p` = 0. The local view is that with all that is
     /// pending. Each read of a node is one step.
     ///
-    /// Answers `OutOfRange` exactly where `p` is above the length of that view.
+    /// Returns `OutOfRange` exactly where `p` is above the length of that view.
     pub fn find_local<G: Ledger>(&self, p: u64, steps: &mut Steps<G>) -> Result<Found, OutOfRange>
         requires { IsTrue self.now.usable }
         ensures found { IfOk result (λ found. place_by (local_length L.size L.element) self.now.leaves p ≡ Some found) }
@@ -167,7 +167,7 @@ impl<L: Leaf> Blocks<L> {
     /// elements stand up to that one; the head of the list for `p` = 0. The reference number isn't
     /// below the floor. Each read of a node is one step.
     ///
-    /// Answers `OutOfRange` exactly where `p` is above the length that the perspective sees.
+    /// Returns `OutOfRange` exactly where `p` is above the length that the perspective sees.
     pub fn find<G: Ledger>(
         &self,
         p: u64,
@@ -188,7 +188,7 @@ impl<L: Leaf> Blocks<L> {
     /// The leaf that holds the `p`-th of all elements, the removed ones too, and how many of its elements
     /// stand up to that one; the head of the list for `p` = 0. Each read of a node is one step.
     ///
-    /// Answers `OutOfRange` exactly where `p` is above the number of elements.
+    /// Returns `OutOfRange` exactly where `p` is above the number of elements.
     pub fn find_any<G: Ledger>(&self, p: u64, steps: &mut Steps<G>) -> Result<Found, OutOfRange>
         requires { IsTrue self.now.usable }
         ensures found { IfOk result (λ found. place_by L.size self.now.leaves p ≡ Some found) }
@@ -204,7 +204,7 @@ impl<L: Leaf> Blocks<L> {
     /// stand in it up to that one; the head of the list for `p` = 0. Each read of a node is one step, and a block
     /// without such elements is passed by one.
     ///
-    /// Answers `OutOfRange` exactly where `p` is above the number of these elements.
+    /// Returns `OutOfRange` exactly where `p` is above the number of these elements.
     pub fn find_removed<G: Ledger>(&self, p: u64, steps: &mut Steps<G>) -> Result<Found, OutOfRange>
         requires { IsTrue self.now.usable }
         ensures found { IfOk result (λ found. place_by (removed_length L.size L.element) self.now.leaves p ≡ Some found) }
@@ -221,7 +221,7 @@ impl<L: Leaf> Blocks<L> {
     ///
     /// It reads a few nodes on each level, and in these the pending stamps of later stages.
     ///
-    /// Answers `OutOfRange` exactly where `p` is above the length that the stage sees.
+    /// Returns `OutOfRange` exactly where `p` is above the length that the stage sees.
     pub fn find_at_stage(&self, p: u64, stage: u64) -> Result<Found, OutOfRange>
         requires { IsTrue self.now.usable }
         ensures found { IfOk result (λ found. place_by (seen_length L.size L.element (Stage stage)) self.now.leaves p ≡ Some found) }
@@ -324,7 +324,7 @@ impl<L: Leaf> Blocks<L> {
 
     /// Puts a new leaf directly after the given one, or first where none is given.
     ///
-    /// Answers `OutOfMemory` where there is no room for it, and then the blocks may be used no more.
+    /// Returns `OutOfMemory` where there is no room for it, and then the blocks may be used no more.
     pub fn insert_after(&mut self, at: Option<NodeId>, leaf: L) -> Result<NodeId, OutOfMemory>
     where
         L: Drop,
@@ -359,9 +359,9 @@ impl<L: Leaf> Blocks<L> {
     }
 
     /// Cuts a leaf in two: its first `at` elements keep the node, the rest gets a new one directly after
-    /// it, which is answered.
+    /// it, which is returned.
     ///
-    /// Answers `OutOfMemory` where there is no room for it, and then the blocks may be used no more.
+    /// Returns `OutOfMemory` where there is no room for it, and then the blocks may be used no more.
     pub fn split(&mut self, leaf: NodeId, at: u64) -> Result<NodeId, OutOfMemory>
         requires usable { IsTrue self.old.usable }
         requires low { 1 ≤ at }
@@ -394,7 +394,7 @@ impl<L: Leaf> Blocks<L> {
 
     /// Replaces the stamps of all elements of a leaf. No other leaf changes.
     ///
-    /// Answers `OutOfMemory` where there is no room for it, and then the blocks may be used no more.
+    /// Returns `OutOfMemory` where there is no room for it, and then the blocks may be used no more.
     pub fn set_stamps(&mut self, id: NodeId, e: Element) -> Result<(), OutOfMemory>
         requires usable { IsTrue self.old.usable }
         requires live { IsLeafIn self.old.leaves id }
@@ -421,7 +421,7 @@ impl<L: Leaf> Blocks<L> {
 
     /// Makes this change of all elements of a leaf. No other leaf changes.
     ///
-    /// Answers `OutOfMemory` where there is no room for it, and then the blocks may be used no more.
+    /// Returns `OutOfMemory` where there is no room for it, and then the blocks may be used no more.
     pub fn change(&mut self, id: NodeId, c: &L::Change) -> Result<(), OutOfMemory>
         requires usable { IsTrue self.old.usable }
         requires can { IsSomeAnd (value_at self.old.leaves id) (λ v. L.CanChange v c.now) }
@@ -439,9 +439,9 @@ impl<L: Leaf> Blocks<L> {
         }
     }
 
-    /// Takes a leaf out, and answers its value. No other leaf changes.
+    /// Takes a leaf out, and returns its value. No other leaf changes.
     ///
-    /// Answers `OutOfMemory` where there is no room for what blocks keep, and then the blocks may be used
+    /// Returns `OutOfMemory` where there is no room for what blocks keep, and then the blocks may be used
     /// no more.
     pub fn take(&mut self, id: NodeId) -> Result<L, OutOfMemory>
         requires usable { IsTrue self.old.usable }
@@ -474,7 +474,7 @@ impl<L: Leaf> Blocks<L> {
     /// Joins the next leaf's elements, which have the same stamps, to this leaf, and takes the next leaf
     /// out. No other leaf changes.
     ///
-    /// Answers `OutOfMemory` where there is no room for them, and then the blocks may be used no more.
+    /// Returns `OutOfMemory` where there is no room for them, and then the blocks may be used no more.
     pub fn join_next(&mut self, id: NodeId) -> Result<(), OutOfMemory>
     where
         L: Drop,
@@ -509,7 +509,7 @@ impl<L: Leaf> Blocks<L> {
     /// Moves a leaf directly after the given one, or first where none is given. It keeps its node, and
     /// all other leaves keep theirs and their order.
     ///
-    /// Answers `OutOfMemory` where there is no room for what blocks keep, and then the blocks may be used
+    /// Returns `OutOfMemory` where there is no room for what blocks keep, and then the blocks may be used
     /// no more.
     pub fn move_after(&mut self, id: NodeId, at: Option<NodeId>) -> Result<(), OutOfMemory>
         requires usable { IsTrue self.old.usable }

@@ -45,9 +45,9 @@ pub trait Leaf: Sized {
     fn set_element(&mut self, e: Element)
         ensures { self.new ≡ with_element self.old e };
 
-    /// Keeps the first `at` elements and answers the rest, both with the old stamps.
+    /// Keeps the first `at` elements and returns the rest, both with the old stamps.
     ///
-    /// Answers `OutOfMemory` where there is no room for the rest, and then the leaf is as it was.
+    /// Returns `OutOfMemory` where there is no room for the rest, and then the leaf is as it was.
     fn split_off(&mut self, at: u64) -> Result<Self, OutOfMemory>
         requires low { 1 ≤ at }
         requires high { at < size self.old }
@@ -61,7 +61,7 @@ pub trait Leaf: Sized {
 
     /// Adds the other leaf's elements at the end.
     ///
-    /// Gives the other leaf back only for want of memory, and then this one is as it was.
+    /// Gives the other leaf back only where it is out of memory, and then this one is as it was.
     fn join_back(&mut self, other: Self) -> Result<(), Self>
         requires can { IsTrue (joins self.old other) }
         requires equal { element self.old ≡ element other }
@@ -71,7 +71,7 @@ pub trait Leaf: Sized {
 
     /// Makes this change of all its elements, which keeps their number and stamps.
     ///
-    /// Answers `OutOfMemory` where there is no room for it, and then the leaf is as it was.
+    /// Returns `OutOfMemory` where there is no room for it, and then the leaf is as it was.
     fn change(&mut self, c: &Self::Change) -> Result<(), OutOfMemory>
         requires { CanChange self.old c.now }
         ensures ok { OnOk result (self.new ≡ changed self.old c.now) }

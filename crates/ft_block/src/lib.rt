@@ -2,7 +2,7 @@
 //! of them the local view sees, and in a table how many each perspective sees, so that a place is found
 //! by reading a few nodes on each level.
 //!
-//! A call that can't answer `OutOfMemory` takes no memory.
+//! A call that can't return `OutOfMemory` takes no memory.
 #![tactic(auto)]
 
 pub mod blocks;

@@ -65,7 +65,7 @@ impl Cells {
 
     /// Sets the acknowledged value of the cell, below its pending writes. A null is kept as a value.
     ///
-    /// Answers `OutOfMemory` where there is no room for it, and then each cell is as it was.
+    /// Returns `OutOfMemory` where there is no room for it, and then each cell is as it was.
     pub fn set_acked(&mut self, row: u64, col: u64, value: ValText) -> Result<(), OutOfMemory>
         ensures ok { OnOk result ((r c : ℕ) → cell_at self.new r c ≡ changed_cell row col (with_acked value) (cell_at self.old) r c) }
         ensures err { OnErr result ((r c : ℕ) → cell_at self.new r c ≡ cell_at self.old r c) }
@@ -87,7 +87,7 @@ impl Cells {
 
     /// Adds a pending write to the cell. Its stage is above all that are pending in any cell.
     ///
-    /// Answers `OutOfMemory` where there is no room for it, and then each cell is as it was.
+    /// Returns `OutOfMemory` where there is no room for it, and then each cell is as it was.
     pub fn set_pending(
         &mut self,
         row: u64,
@@ -111,7 +111,7 @@ impl Cells {
         write_at(&mut self.cells, self.alloc, place, stage, value)
     }
 
-    /// Makes the pending write of that stage, if there is one, the acknowledged value of its cell. It answers Ok always.
+    /// Makes the pending write of that stage, if there is one, the acknowledged value of its cell. It returns Ok always.
     pub fn ack(&mut self, stage: u64) -> Result<(), OutOfMemory>
         ensures ok { IsOk result }
         ensures acked { (r c : ℕ) → cell_at self.new r c ≡ acked_write stage (cell_at self.old r c) }
@@ -158,7 +158,7 @@ impl Cells {
 
     /// The pairs of handles that have an acknowledged or a pending value, null or not, by rising row and column.
     ///
-    /// Answers `OutOfMemory` where there is no room for them.
+    /// Returns `OutOfMemory` where there is no room for them.
     pub fn keys(&self) -> Result<Vec<CellKey>, OutOfMemory>
         ensures each_once { IfOk result (λ keys. (row col : ℕ)
             → len (is_key row col) keys.items ≡ one_more_if (holds_value (cell_at self.now row col)) 0) }

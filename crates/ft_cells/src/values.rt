@@ -52,7 +52,7 @@ impl CellValues {
 
     /// Adds a pending write on top of the others.
     ///
-    /// Answers `OutOfMemory` where there is no room for it, and then all is as it was.
+    /// Returns `OutOfMemory` where there is no room for it, and then all is as it was.
     pub fn write(&mut self, stage: u64, value: ValText) -> Result<(), OutOfMemory>
         ensures ok { OnOk result (self.new ≡ with_write stage value self.old) }
         ensures err { OnErr result (self.new ≡ self.old) }
@@ -68,7 +68,7 @@ impl CellValues {
         self.pending.retain(|write| write.0 != stage);
     }
 
-    // Takes the write of that stage out, if there is one, and answers its value.
+    // Takes the write of that stage out, if there is one, and returns its value.
     fn take_write(&mut self, stage: u64) -> Option<ValText>
         ensures value { result ≡ lookup (λ k. nat_eq k stage) self.old.pending }
         ensures rest { self.new ≡ without_write stage self.old }

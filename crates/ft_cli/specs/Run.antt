@@ -39,7 +39,7 @@ EndsWhole Done = Unit {0}
 EndsWhole SomeRefused = Unit {0}
 EndsWhole _ = ⊥
 
--- a status behind a whole report, or want of memory
+-- a status behind a whole report, or OutOfMemory
 abbrev pub EndsWholeOrWanting : Status → Type 0
 EndsWholeOrWanting OutOfMemory = Unit {0}
 EndsWholeOrWanting status = EndsWhole status

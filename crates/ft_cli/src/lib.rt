@@ -3,7 +3,7 @@
 //!
 //! The forms stand in `ft_replay`, over any replica; here each runs with clients over trees (`Client` of `ft_client`).
 //!
-//! Only a call that can answer `OutOfMemory` takes memory.
+//! Only a call that can return `OutOfMemory` takes memory.
 #![tactic(auto)]
 
 mod running;

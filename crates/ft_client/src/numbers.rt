@@ -129,7 +129,7 @@ impl TreeNumbers {
 
     /// Counts so many sub-operations that were out of range.
     ///
-    /// Answers `OutOfMemory` where the count would pass 2^64 - 1.
+    /// Returns `OutOfMemory` where the count would pass 2^64 - 1.
     pub fn skip(&mut self, count: u64) -> Result<(), OutOfMemory>
         ensures { OnOk result (self.new ≡ record self.old { skipped = self.old.skipped + count }) }
     {
@@ -139,7 +139,7 @@ impl TreeNumbers {
 
     /// Counts a message for another address.
     ///
-    /// Answers `OutOfMemory` where the count would pass 2^64 - 1.
+    /// Returns `OutOfMemory` where the count would pass 2^64 - 1.
     pub fn count_other(&mut self) -> Result<(), OutOfMemory>
         ensures { OnOk result (self.new ≡ record self.old { other = self.old.other + 1 }) }
     {
@@ -149,7 +149,7 @@ impl TreeNumbers {
 
     /// Counts rows and columns that came in.
     ///
-    /// Answers `OutOfMemory` where a count would pass 2^64 - 1.
+    /// Returns `OutOfMemory` where a count would pass 2^64 - 1.
     pub fn count_units(&mut self, rows: u64, cols: u64) -> Result<(), OutOfMemory>
         ensures { OnOk result (self.new ≡ record self.old { rows = self.old.rows + rows; cols = self.old.cols + cols }) }
     {
@@ -160,7 +160,7 @@ impl TreeNumbers {
 
     /// Takes so many stages.
     ///
-    /// Answers `OutOfMemory` where their numbers would pass 2^64 - 1.
+    /// Returns `OutOfMemory` where their numbers would pass 2^64 - 1.
     pub fn take_stages(&mut self, count: u64) -> Result<(), OutOfMemory>
         ensures taken { OnOk result (self.new ≡ record self.old { last = self.old.last + count }) }
         ensures fits { OnOk result (self.old.last + count < 2 ^ 64) }

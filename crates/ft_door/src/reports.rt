@@ -60,7 +60,7 @@ impl Error for ReportFault {}
 
 /// The report of the session whose events are the lines of the input, with clients of type `R`.
 ///
-/// Answers `TooLong` only where the input has more bytes than it may have, and `OutOfMemory` where there is no
+/// Returns `TooLong` only where the input has more bytes than it may have, and `OutOfMemory` where there is no
 /// room for what it makes.
 pub fn session_report<R: Replica + Drop>(alloc: Global, input: &[u8]) -> Result<Report, ReportFault>
     ensures ok { IfOk result (IsReport input.now) }
@@ -82,7 +82,7 @@ pub fn session_report<R: Replica + Drop>(alloc: Global, input: &[u8]) -> Result<
 /// The same, as C is told of it: the report goes into the first bytes of the room, and `count` is how many bytes it
 /// has.
 ///
-/// Answers `DONE` or `SOME_REFUSED` where the report is in the room, `TOO_SMALL` where it has more bytes than the
+/// Returns `DONE` or `SOME_REFUSED` where the report is in the room, `TOO_SMALL` where it has more bytes than the
 /// room, `OUT_OF_MEMORY` and `TOO_LONG` where there is none; `count` is 0 then.
 pub fn report_into<R: Replica + Drop>(
     alloc: Global,

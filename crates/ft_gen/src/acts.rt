@@ -38,7 +38,7 @@ pub struct Act {
 
 /// The name of the client of that number.
 ///
-/// Answers `OutOfMemory` where there is no room for it.
+/// Returns `OutOfMemory` where there is no room for it.
 fn client_name(alloc: Global, number: u64) -> Result<Text, OutOfMemory>
     ensures { IfOk result (λ name. name ≡ client_name number) }
 {
@@ -54,7 +54,7 @@ impl Act {
 
     /// The event.
     ///
-    /// Answers `OutOfMemory` where there is no room for it.
+    /// Returns `OutOfMemory` where there is no room for it.
     pub fn event(self, alloc: Global) -> Result<Event, OutOfMemory>
         requires { IsWellFormedEvent (event_of self) }
         ensures { IfOk result (λ event. event ≡ event_of self) }

@@ -44,7 +44,7 @@ impl Generator {
 
     /// The next event: None exactly where none is left.
     ///
-    /// Answers `OutOfMemory` where there is no room for it, and then it is still to come.
+    /// Returns `OutOfMemory` where there is no room for it, and then it is still to come.
     pub fn next(&mut self) -> Result<Option<Event>, OutOfMemory>
         ensures ok { IfOk result (λ answer. IsNext self.old answer self.new) }
         ensures err { OnErr result (self.new ≡ self.old) }

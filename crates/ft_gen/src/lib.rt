@@ -1,6 +1,6 @@
 //! The generator of sessions: events drawn from a seed.
 //!
-//! A call that can't answer `OutOfMemory` takes no memory.
+//! A call that can't return `OutOfMemory` takes no memory.
 #![tactic(auto)]
 
 mod acts;

@@ -17,7 +17,7 @@ use std::alloc::Global;
 impl DrawnOp {
     /// The operation.
     ///
-    /// Answers `OutOfMemory` where there is no room for it.
+    /// Returns `OutOfMemory` where there is no room for it.
     pub fn op(self, alloc: Global) -> Result<ChannelOp, OutOfMemory>
         requires { IsWellFormed (op_of self) }
         ensures { IfOk result (λ op. op ≡ op_of self) }
@@ -36,7 +36,7 @@ impl DrawnOp {
 
 /// So many letters, drawn from the state.
 ///
-/// Answers `OutOfMemory` where there is no room for them.
+/// Returns `OutOfMemory` where there is no room for them.
 fn letters(alloc: Global, count: u64, mut state: u64) -> Result<Text, OutOfMemory>
     ensures { IfOk result (λ text. text ≡ letters count state) }
 {
@@ -50,7 +50,7 @@ fn letters(alloc: Global, count: u64, mut state: u64) -> Result<Text, OutOfMemor
 
 /// The insertion of so many letters, drawn from the state.
 ///
-/// Answers `OutOfMemory` where there is no room for it.
+/// Returns `OutOfMemory` where there is no room for it.
 fn insertion(alloc: Global, pos: u64, count: u64, state: u64) -> Result<ChannelOp, OutOfMemory>
     ensures { IfOk result (λ op. op ≡ op_of (drawn.Insert pos count state)) }
 {
@@ -64,7 +64,7 @@ fn insertion(alloc: Global, pos: u64, count: u64, state: u64) -> Result<ChannelO
 
 /// The number as a JSON value.
 ///
-/// Answers `OutOfMemory` where there is no room for it.
+/// Returns `OutOfMemory` where there is no room for it.
 fn number_text(alloc: Global, number: u64) -> Result<ValText, OutOfMemory>
     ensures { IfOk result (λ text. text ≡ decimal number) }
 {
@@ -73,7 +73,7 @@ fn number_text(alloc: Global, number: u64) -> Result<ValText, OutOfMemory>
 
 /// The annotation of one element.
 ///
-/// Answers `OutOfMemory` where there is no room for it.
+/// Returns `OutOfMemory` where there is no room for it.
 fn annotation(alloc: Global, pos: u64, value: u64) -> Result<ChannelOp, OutOfMemory>
     requires { IsWellFormed (op_of (drawn.Annotate pos value)) }
     ensures { IfOk result (λ op. op ≡ op_of (drawn.Annotate pos value)) }
@@ -92,7 +92,7 @@ fn annotation(alloc: Global, pos: u64, value: u64) -> Result<ChannelOp, OutOfMem
 
 /// The write of a number to a cell.
 ///
-/// Answers `OutOfMemory` where there is no room for it.
+/// Returns `OutOfMemory` where there is no room for it.
 fn cell_write(alloc: Global, row: u64, col: u64, value: u64) -> Result<ChannelOp, OutOfMemory>
     ensures { IfOk result (λ op. op ≡ op_of (drawn.Set row col value)) }
 {
@@ -102,7 +102,7 @@ fn cell_write(alloc: Global, row: u64, col: u64, value: u64) -> Result<ChannelOp
 
 /// The interval of that number, round one element.
 ///
-/// Answers `OutOfMemory` where there is no room for it.
+/// Returns `OutOfMemory` where there is no room for it.
 fn new_interval(alloc: Global, number: u64, pos: u64) -> Result<ChannelOp, OutOfMemory>
     requires { IsWellFormed (op_of (drawn.Add number pos)) }
     ensures { IfOk result (λ op. op ≡ op_of (drawn.Add number pos)) }

@@ -19,7 +19,7 @@ use ft_tree::{TextContent, Tree};
 
 /// The interval at stage 0, with its ends as elements that this sees.
 ///
-/// Answers `OutOfMemory` where there is no room for it.
+/// Returns `OutOfMemory` where there is no room for it.
 fn placed(tree: &Tree<TextContent>, i: &Interval<RefId>) -> Result<Interval<Place>, OutOfMemory>
     requires usable { IsTrue tree.now.usable }
     requires live { AreLiveEnds tree.now.refs i.now.ends }
@@ -36,7 +36,7 @@ fn placed(tree: &Tree<TextContent>, i: &Interval<RefId>) -> Result<Interval<Plac
 
 /// The intervals at stage 0, with their ends as elements that this sees.
 ///
-/// Answers `OutOfMemory` where there is no room for them.
+/// Returns `OutOfMemory` where there is no room for them.
 fn first_places(
     tree: &Tree<TextContent>,
     acked: &Intervals<RefId>,
@@ -91,7 +91,7 @@ fn carry_all(tree: &Tree<TextContent>, all: &mut Intervals<Place>, from: u64, to
 
 /// Takes all intervals from stage `from` to the stage of the operation, and applies that.
 ///
-/// Answers `OutOfMemory` where there is no room for what it makes.
+/// Returns `OutOfMemory` where there is no room for what it makes.
 fn take_next(
     tree: &Tree<TextContent>,
     all: &mut Intervals<Place>,
@@ -132,7 +132,7 @@ fn record_at(tree: &Tree<TextContent>, i: Interval<Place>) -> IntervalRec
 
 /// The intervals as they are shown.
 ///
-/// Answers `OutOfMemory` where there is no room for them.
+/// Returns `OutOfMemory` where there is no room for them.
 fn records(tree: &Tree<TextContent>, all: Intervals<Place>) -> Result<Vec<IntervalRec>, OutOfMemory>
     requires usable { IsTrue tree.now.usable }
     requires on_leaf { All (HasPlaces tree.now) all }
@@ -150,7 +150,7 @@ fn records(tree: &Tree<TextContent>, all: Intervals<Place>) -> Result<Vec<Interv
 /// It goes over all intervals once for each run of operations between which stages remove elements, and looks at the leaves of
 /// their ends at each such stage.
 ///
-/// Answers `OutOfMemory` where there is no room for them.
+/// Returns `OutOfMemory` where there is no room for them.
 pub fn all_shown(
     tree: &Tree<TextContent>,
     acked: &Intervals<RefId>,

@@ -37,7 +37,7 @@ use std::sync::ledger::Ledger;
 ///
 /// Their ends are references of a tree: those of acknowledged intervals slide as their elements are removed, and those of
 /// pending operations stay. Each call has the condition that the references which it keeps are live in that tree, and keeps
-/// this. After a call with a tree answered `OutOfMemory`, tree and collections may be used no more.
+/// this. After a call with a tree returned `OutOfMemory`, tree and collections may be used no more.
 ///
 /// An interval is found by a binary search; what is shown of one looks at no other.
 #[derive(Drop)]
@@ -69,7 +69,7 @@ impl Collections {
 
     /// Adds an interval as a pending operation of that stage, with its ends on the elements that the client sees.
     ///
-    /// Answers `IdInUse` exactly where the label has the id in the view, else `OutOfRange` exactly where the ends are neither
+    /// Returns `IdInUse` exactly where the label has the id in the view, else `OutOfRange` exactly where the ends are neither
     /// below the length seen nor both detached, and then nothing changed; and `OutOfMemory` where there is no room, and then
     /// tree and collections may be used no more.
     pub fn add_local(
@@ -103,7 +103,7 @@ impl Collections {
     /// Changes an interval as a pending operation of that stage; its new ends, if it gets some, are on the elements that the
     /// client sees.
     ///
-    /// Answers `NoSuchInterval` exactly where the label doesn't have the id in the view, else `OutOfRange` exactly where the
+    /// Returns `NoSuchInterval` exactly where the label doesn't have the id in the view, else `OutOfRange` exactly where the
     /// ends are given and neither below the length seen nor both detached, and then nothing changed; and `OutOfMemory` where
     /// there is no room, and then tree and collections may be used no more.
     pub fn change_local(
@@ -136,7 +136,7 @@ impl Collections {
 
     /// Takes an interval away as a pending operation of that stage.
     ///
-    /// Answers `NoSuchInterval` exactly where the label doesn't have the id in the view, and then nothing changed; and
+    /// Returns `NoSuchInterval` exactly where the label doesn't have the id in the view, and then nothing changed; and
     /// `OutOfMemory` where there is no room, and then tree and collections may be used no more.
     pub fn delete_local(
         &mut self,
@@ -177,7 +177,7 @@ impl Collections {
 
     /// Adds a pending operation, with references on the elements at its ends that the client sees.
     ///
-    /// Answers `OutOfRange` exactly where the ends are given and neither below the length seen nor both detached, and then
+    /// Returns `OutOfRange` exactly where the ends are given and neither below the length seen nor both detached, and then
     /// nothing changed; and `OutOfMemory` where there is no room, and then the tree may be used no more.
     fn push(
         &mut self,
@@ -205,11 +205,11 @@ impl Collections {
         Ok(())
     }
 
-    /// Applies a sequenced operation of another client, with its ends on the elements that its sender sees. It answers false
+    /// Applies a sequenced operation of another client, with its ends on the elements that its sender sees. It returns false
     /// exactly where they are given and are neither below the length that the sender sees nor both detached, and then nothing
     /// changed. An add does nothing where the label has the id, a change and a delete nothing where it doesn't.
     ///
-    /// Answers `OutOfMemory` where there is no room, and then tree and collections may be used no more.
+    /// Returns `OutOfMemory` where there is no room, and then tree and collections may be used no more.
     pub fn apply(
         &mut self,
         tree: &mut Tree<TextContent>,
@@ -242,7 +242,7 @@ impl Collections {
     /// Acknowledges the pending operation of that stage, which is the first: it takes effect on the acknowledged intervals, and
     /// its ends slide.
     ///
-    /// Answers `OutOfMemory` where there is no room, and then tree and collections may be used no more.
+    /// Returns `OutOfMemory` where there is no room, and then tree and collections may be used no more.
     pub fn ack(&mut self, tree: &mut Tree<TextContent>, stage: u64) -> Result<(), OutOfMemory>
         requires usable { IsTrue tree.old.usable }
         requires live { IsLive tree.old.refs self.old }
@@ -294,7 +294,7 @@ impl Collections {
 
     /// All intervals as they are shown, by rising label and id.
     ///
-    /// Answers `OutOfMemory` where there is no room for them.
+    /// Returns `OutOfMemory` where there is no room for them.
     pub fn all(&self, tree: &Tree<TextContent>) -> Result<Vec<IntervalRec>, OutOfMemory>
         requires usable { IsTrue tree.now.usable }
         requires live { IsLive tree.now.refs self.now }
@@ -308,7 +308,7 @@ impl Collections {
     /// The intervals of the label as they are shown that meet the places from `a` to `b`, by rising id: those that aren't
     /// detached, start at or before `b` and end at or after `a`. A read of a node of an index is one step.
     ///
-    /// Answers `OutOfMemory` where there is no room for them.
+    /// Returns `OutOfMemory` where there is no room for them.
     pub fn overlapping<G: Ledger>(
         &self,
         tree: &Tree<TextContent>,
@@ -332,7 +332,7 @@ impl Collections {
     /// The operation of that pending stage as it is sent again after a reconnection: its ends, if it gives some, are settled at
     /// the stage, as numbers among the elements which that sees, -1 where there is none. The ends stay settled.
     ///
-    /// Answers `OutOfMemory` where there is no room, and then tree and collections may be used no more.
+    /// Returns `OutOfMemory` where there is no room, and then tree and collections may be used no more.
     pub fn settle_op(
         &mut self,
         tree: &mut Tree<TextContent>,
@@ -359,9 +359,9 @@ impl Collections {
         }
     }
 
-    /// The same, where want of memory says nothing of the tree.
+    /// The same, where nothing is said of the tree after `OutOfMemory`.
     ///
-    /// Answers `OutOfMemory` where there is no room.
+    /// Returns `OutOfMemory` where there is no room.
     fn settle(&mut self, tree: &mut Tree<TextContent>, stage: u64) -> Result<TextOp, OutOfMemory>
         requires usable { IsTrue tree.old.usable }
         requires live { IsLive tree.old.refs self.old }

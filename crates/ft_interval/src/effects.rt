@@ -73,7 +73,7 @@ fn ends_of(intervals: &Intervals<RefId>, label: &Text, id: &Text) -> EndPair<Ref
 /// Applies an operation with these ends to the acknowledged intervals. The references become acknowledged and slide, and
 /// those that no interval keeps any more end.
 ///
-/// Answers `OutOfMemory` where there is no room for what it makes, and then the intervals are as they were, and the tree
+/// Returns `OutOfMemory` where there is no room for what it makes, and then the intervals are as they were, and the tree
 /// may be used no more.
 pub fn take_effect(
     intervals: &mut Intervals<RefId>,
@@ -100,9 +100,9 @@ pub fn take_effect(
     }
 }
 
-/// The same, where want of memory says nothing of the tree.
+/// The same, where nothing is said of the tree after `OutOfMemory`.
 ///
-/// Answers `OutOfMemory` where there is no room for what it makes, and then the intervals are as they were.
+/// Returns `OutOfMemory` where there is no room for what it makes, and then the intervals are as they were.
 fn take(
     intervals: &mut Intervals<RefId>,
     tree: &mut Tree<TextContent>,

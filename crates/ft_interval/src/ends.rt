@@ -48,7 +48,7 @@ fn is_place(length: u64, position: i64) -> bool
 
 /// Puts a pending reference on the element at that position of the view, none where the position is below 0.
 ///
-/// Answers `OutOfMemory` where there is no room for it, or no element, and then the tree may be used no more.
+/// Returns `OutOfMemory` where there is no room for it, or no element, and then the tree may be used no more.
 fn add_end(
     tree: &mut Tree<TextContent>,
     position: i64,
@@ -74,7 +74,7 @@ fn add_end(
 
 /// Puts pending references on the elements at the given ends, if some are given.
 ///
-/// Answers `OutOfMemory` where there is no room for them, or no elements, and then the tree may be used no more.
+/// Returns `OutOfMemory` where there is no room for them, or no elements, and then the tree may be used no more.
 pub fn add_ends(
     tree: &mut Tree<TextContent>,
     given: Option<Ends>,

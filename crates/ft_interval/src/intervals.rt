@@ -46,7 +46,7 @@ pub fn is_same_name(label: &Text, id: &Text, other_label: &Text, other_id: &Text
 impl<T: Copy> Interval<T> {
     /// Gives it the ends, if an operation gives some, and applies the set to its properties.
     ///
-    /// Answers `OutOfMemory` where there is no room for its properties, and then nothing changed.
+    /// Returns `OutOfMemory` where there is no room for its properties, and then nothing changed.
     fn change(
         &mut self,
         given: Option<Ends>,
@@ -128,7 +128,7 @@ impl<T: Copy + Drop> Intervals<T> {
 
     /// Puts the interval in its place, instead of the one of its name if there is one.
     ///
-    /// Answers `OutOfMemory` where there is no room for it, and then nothing changed.
+    /// Returns `OutOfMemory` where there is no room for it, and then nothing changed.
     pub fn put(&mut self, interval: Interval<T>) -> Result<(), OutOfMemory>
         ensures ok { OnOk result (self.new ≡ put_rising interval_cmp interval self.old) }
         ensures err { OnErr result (self.new ≡ self.old) }
@@ -144,7 +144,7 @@ impl<T: Copy + Drop> Intervals<T> {
 
     /// Adds an interval, unless one of its name is there.
     ///
-    /// Answers `OutOfMemory` where there is no room for it, and then nothing changed.
+    /// Returns `OutOfMemory` where there is no room for it, and then nothing changed.
     fn add(
         &mut self,
         label: &Text,
@@ -170,7 +170,7 @@ impl<T: Copy + Drop> Intervals<T> {
     /// Gives the interval of that name, if it is there, the ends, if an operation gives some, and applies the set to
     /// its properties.
     ///
-    /// Answers `OutOfMemory` where there is no room for its properties, and then nothing changed.
+    /// Returns `OutOfMemory` where there is no room for its properties, and then nothing changed.
     fn change(
         &mut self,
         label: &Text,
@@ -200,7 +200,7 @@ impl<T: Copy + Drop> Intervals<T> {
     /// Applies an operation with these ends: an add does nothing where the name is there, a change and a delete nothing
     /// where it isn't.
     ///
-    /// Answers `OutOfMemory` where there is no room for what it makes, and then nothing changed.
+    /// Returns `OutOfMemory` where there is no room for what it makes, and then nothing changed.
     pub fn apply(&mut self, op: &TextOp, ends: EndPair<T>) -> Result<(), OutOfMemory>
         ensures ok { OnOk result (self.new ≡ after_operation op.now ends self.old) }
         ensures err { OnErr result (self.new ≡ self.old) }

@@ -1,6 +1,6 @@
 //! Interval collections over the text of a tree: intervals by label and id, whose ends stay with their elements.
 //!
-//! A call that can't answer `OutOfMemory` takes no memory.
+//! A call that can't return `OutOfMemory` takes no memory.
 #![tactic(auto)]
 
 mod all;

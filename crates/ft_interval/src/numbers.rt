@@ -63,7 +63,7 @@ pub fn ends_of_numbers(numbers: EndPair<u64>) -> Ends
 
 /// The operation with these numbers as its ends, if it gives some.
 ///
-/// Answers `OutOfMemory` where there is no room for it.
+/// Returns `OutOfMemory` where there is no room for it.
 pub fn with_numbers(op: &TextOp, numbers: EndPair<u64>) -> Result<TextOp, OutOfMemory>
     ensures { (xs : List (TreeElement ElementContent)) → (k : ℕ) → (ends : EndPair ℕ) → AreNumbers xs k ends numbers
         → IfOk result (λ again. again ≡ regenerated xs k ends op.now) }
@@ -98,7 +98,7 @@ pub fn with_numbers(op: &TextOp, numbers: EndPair<u64>) -> Result<TextOp, OutOfM
 
 /// Puts pending references on the elements that the stage sees at these numbers.
 ///
-/// Answers `OutOfMemory` where there is no room for them, and then the tree may be used no more.
+/// Returns `OutOfMemory` where there is no room for them, and then the tree may be used no more.
 pub fn add_numbers(
     tree: &mut Tree<TextContent>,
     numbers: &EndPair<u64>,
@@ -118,7 +118,7 @@ pub fn add_numbers(
 
 /// Puts a pending reference on the element that the view sees at this number, if there is one.
 ///
-/// Answers `OutOfMemory` where there is no room for it, or no element, and then the tree may be used no more.
+/// Returns `OutOfMemory` where there is no room for it, or no element, and then the tree may be used no more.
 fn add_number(
     tree: &mut Tree<TextContent>,
     number: Option<u64>,

@@ -24,7 +24,7 @@ pub struct Operation {
 
 /// Adds an operation behind all others.
 ///
-/// Answers `OutOfMemory` where there is no room for it, and then nothing changed.
+/// Returns `OutOfMemory` where there is no room for it, and then nothing changed.
 fn push(pending: &mut Vec<Operation>, operation: Operation) -> Result<(), OutOfMemory>
     ensures ok { OnOk result (pending.new.items ≡ pending.old.items ++ operation ∷ []) }
     ensures err { OnErr result (pending.new.items ≡ pending.old.items) }
@@ -35,7 +35,7 @@ fn push(pending: &mut Vec<Operation>, operation: Operation) -> Result<(), OutOfM
 
 /// Adds a copy of an operation with these ends behind all others.
 ///
-/// Answers `OutOfMemory` where there is no room for it, and then nothing changed.
+/// Returns `OutOfMemory` where there is no room for it, and then nothing changed.
 fn add_copy(
     pending: &mut Vec<Operation>,
     stage: u64,
@@ -50,9 +50,9 @@ fn add_copy(
     push(pending, Operation { stage, op, ends })
 }
 
-/// The same, where want of memory makes the tree one that may be used no more.
+/// The same, where `OutOfMemory` makes the tree one that may be used no more.
 ///
-/// Answers `OutOfMemory` where there is no room for it, and then nothing changed, but the tree may be used no more.
+/// Returns `OutOfMemory` where there is no room for it, and then nothing changed, but the tree may be used no more.
 pub fn push_copy(
     pending: &mut Vec<Operation>,
     tree: &mut Tree<TextContent>,

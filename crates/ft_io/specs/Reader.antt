@@ -69,7 +69,7 @@ AnswersLine old waiting left new End = Ends old waiting left new
 AnswersLine old waiting left new line = HandsOut waiting left new line
 
 -- The reader stops with a fault: `Read` only where the source's count of faults rose, `InputLimit` only where the source gave a byte
--- too many, and both only where no line ends in what waits. Want of memory comes at any time.
+-- too many, and both only where no line ends in what waits. OutOfMemory comes at any time.
 abbrev pub Stops : Type 0 → List ℕ → Reader → LineFault → Type 0
 Stops rose waiting new Read = (new.fault ≡ Some Read) × IsUnbroken waiting × rose × (new.given ≤ input_limit)
 Stops rose waiting new InputLimit = (new.fault ≡ Some InputLimit) × IsUnbroken waiting × (new.given ≡ input_limit + 1)

@@ -32,7 +32,7 @@ impl Bytes {
 
     /// Adds a byte at the end.
     ///
-    /// Answers `OutOfMemory` where there is no room for it, and then the list is as it was.
+    /// Returns `OutOfMemory` where there is no room for it, and then the list is as it was.
     pub fn push(&mut self, byte: u8) -> Result<(), OutOfMemory>
         ensures ok { OnOk result (self.new ≡ self.old ++ byte ∷ []) }
         ensures err { OnErr result (self.new ≡ self.old) }
@@ -43,7 +43,7 @@ impl Bytes {
 
     /// Adds these bytes at the end.
     ///
-    /// Answers `OutOfMemory` where there is no room for them, and then the list is as it was.
+    /// Returns `OutOfMemory` where there is no room for them, and then the list is as it was.
     pub(crate) fn append(&mut self, bytes: &[u8]) -> Result<(), OutOfMemory>
         ensures ok { OnOk result (self.new ≡ self.old ++ bytes.now) }
         ensures err { OnErr result (self.new ≡ self.old) }

@@ -123,7 +123,7 @@ fn extended(line: Line, limit: usize, bytes: &[u8]) -> Result<Line, OutOfMemory>
     Ok(Line::TooLong)
 }
 
-// What is answered where the input ends behind the line.
+// What is returned where the input ends behind the line.
 fn last(line: Line) -> Line
     ensures { (limit : ℕ) (so_far : List ℕ) → line ≡ handed_out limit so_far → result ≡ answer_at_end limit so_far }
 {

@@ -1,5 +1,5 @@
 //! Bytes in and bytes out: sources and sinks that count their faults, over memory and over standard
-//! input and output, and the lines of what a source gives. Only a call that can answer `OutOfMemory`
+//! input and output, and the lines of what a source gives. Only a call that can return `OutOfMemory`
 //! takes memory.
 #![tactic(auto)]
 

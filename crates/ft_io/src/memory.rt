@@ -117,7 +117,7 @@ impl MemSink {
     /// fails at the calls whose numbers are in `fails`. Calls are numbered from 1, and all past the
     /// 2^64 - 1st have its number. The room is taken here, so writes take no memory.
     ///
-    /// Answers `OutOfMemory` where the room isn't found.
+    /// Returns `OutOfMemory` where the room isn't found.
     pub fn new(
         alloc: Global,
         piece: usize,

@@ -58,9 +58,9 @@ impl Piece {
         self.from += n;
     }
 
-    /// Fills it with at most `most` bytes, and answers how many: none only at the source's end.
+    /// Fills it with at most `most` bytes, and returns how many: none only at the source's end.
     ///
-    /// Answers `Failed` only where the source's count of faults rose, and then it is empty.
+    /// Returns `Failed` only where the source's count of faults rose, and then it is empty.
     pub fn fill<S: Source>(&mut self, src: &mut S, most: usize) -> Result<usize, Failed>
         requires { 0 < most }
         ensures count { IfOk result (λ n. (n ≡ length self.new) × (n ≤ most)) }

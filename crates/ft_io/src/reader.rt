@@ -13,7 +13,7 @@ use std::error::Error;
 use std::fmt;
 use std::marker::Model;
 
-/// What a reader of lines answers.
+/// What a reader of lines returns.
 #[derive(Drop)]
 pub enum Line {
     /// The next line, without its LF.
@@ -96,7 +96,7 @@ impl Lines {
     /// A reader to which nothing was given, and whose lines have at most `limit` bytes, each without
     /// its LF.
     ///
-    /// Answers `OutOfMemory` where there is no room for a piece of the input.
+    /// Returns `OutOfMemory` where there is no room for a piece of the input.
     pub fn new(alloc: Global, limit: usize) -> Result<Lines, OutOfMemory>
         ensures { IfOk result (λ lines. lines ≡ new_reader limit) }
     {
@@ -123,11 +123,11 @@ impl Lines {
     /// the whole line is passed, or `End` exactly at the end of the input. A last line without LF counts
     /// if it has a byte.
     ///
-    /// Answers `Read` only where the source's count of faults rose in this call, `InputLimit` exactly
+    /// Returns `Read` only where the source's count of faults rose in this call, `InputLimit` exactly
     /// where the source gave a byte more than an input may have, both only where every line that was
     /// ended by the bytes given was handed out, and `OutOfMemory` where there is no room for the line.
-    /// After any of the three every later call answers the same, and after the end every later call
-    /// answers that: the source is not read again. Where it answers a line or the end, the source's count is
+    /// After any of the three every later call returns the same, and after the end every later call
+    /// returns that: the source is not read again. Where it returns a line or the end, the source's count is
     /// as it was.
     pub fn next<S: Source>(&mut self, src: &mut S) -> Result<Line, LineFault>
         ensures call { self.old.fault ≡ None → Call self.old self.new (S.remaining src.old) (S.remaining src.new)

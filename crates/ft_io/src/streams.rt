@@ -31,10 +31,10 @@ pub trait Source {
     /// How often it has failed: a count that never falls, and that stops at 2^64 - 1.
     ghost faults: { Self → ℕ };
 
-    /// Reads bytes into the front of `buf`, and answers how many: none only at the end or where
+    /// Reads bytes into the front of `buf`, and returns how many: none only at the end or where
     /// `buf` is empty.
     ///
-    /// Answers `Failed` only where the count of faults rose in this call, and then no byte was read; else the
+    /// Returns `Failed` only where the count of faults rose in this call, and then no byte was read; else the
     /// count is as it was.
     fn read(&mut self, buf: &mut [u8]) -> Result<usize, Failed>
         ensures count { IfOk result (λ n. n ≤ length buf.new) }
@@ -50,9 +50,9 @@ pub trait Sink {
     /// How often it has failed: a count that never falls, and that stops at 2^64 - 1.
     ghost faults: { Self → ℕ };
 
-    /// Takes bytes from the front of `buf`, and answers how many: none only where `buf` is empty.
+    /// Takes bytes from the front of `buf`, and returns how many: none only where `buf` is empty.
     ///
-    /// Answers `Failed` only where the count of faults rose in this call, and then no byte was taken; else the
+    /// Returns `Failed` only where the count of faults rose in this call, and then no byte was taken; else the
     /// count is as it was.
     fn write(&mut self, buf: &[u8]) -> Result<usize, Failed>
         ensures count { IfOk result (λ n. n ≤ length buf.now) }
@@ -63,7 +63,7 @@ pub trait Sink {
 
 /// Writes all the bytes, in order.
 ///
-/// Answers `Failed` only where the sink's count of faults rose in this call, and then the sink has
+/// Returns `Failed` only where the sink's count of faults rose in this call, and then the sink has
 /// taken some of the first of the bytes; else the count is as it was, so no write was tried again.
 pub fn write_all<K: Sink>(out: &mut K, bytes: &[u8]) -> Result<(), Failed>
     ensures ok { OnOk result (Appends (K.contents out.old) (K.contents out.new) bytes.now) }

@@ -1,8 +1,8 @@
 -- What a reader that takes memory answers.
 use Rattle.std.specs.Prelude.{◌≡◌, ◌≢◌, Result, Ok, Err, IfOk, IfErr}
 
--- the result is what is expected or want of memory, and what is read is formed so
-pub record Reads {A F : Type 0} (want_of_memory : F) (expected : Result A F) (IsFormed : A → Type 0) (result : Result A F) : Type 0 where
+-- the result is what is expected or OutOfMemory, and what is read is formed so
+pub record Reads {A F : Type 0} (out_of_memory : F) (expected : Result A F) (IsFormed : A → Type 0) (result : Result A F) : Type 0 where
   pub ok : IfOk result (λ read. expected ≡ Ok read)
-  pub err : IfErr result (λ fault. fault ≢ want_of_memory → expected ≡ Err fault)
+  pub err : IfErr result (λ fault. fault ≢ out_of_memory → expected ≡ Err fault)
   pub formed : IfOk result IsFormed

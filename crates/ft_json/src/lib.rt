@@ -1,7 +1,7 @@
 //! JSON: reading the value of a text, reading the fields of an object, and the one spelling of a
 //! value. What JSON is, `serde_json` says.
 //!
-//! A call that can't answer `OutOfMemory` takes no memory.
+//! A call that can't return `OutOfMemory` takes no memory.
 #![tactic(auto)]
 
 mod checks;

@@ -70,7 +70,7 @@ pub fn given_field(value: &Value, f: Field) -> Option<&Value>
 
 /// The field as a whole number from -1 to 9007199254740991.
 ///
-/// Answers `Missing` exactly where `value` is no object or has no such field, and `WrongKind`
+/// Returns `Missing` exactly where `value` is no object or has no such field, and `WrongKind`
 /// exactly where the field is there and is no such number.
 #[tactic(auto, unfolding(crate::specs::Reading::num_field))]
 pub fn num_field(value: &Value, f: Field) -> Result<i64, FieldFault>
@@ -82,7 +82,7 @@ pub fn num_field(value: &Value, f: Field) -> Result<i64, FieldFault>
 
 /// The field as a whole number from -9007199254740991 to 9007199254740991.
 ///
-/// Answers `Missing` exactly where `value` is no object or has no such field, and `WrongKind`
+/// Returns `Missing` exactly where `value` is no object or has no such field, and `WrongKind`
 /// exactly where the field is there and is no such number.
 #[tactic(auto, unfolding(crate::specs::Reading::signed_field))]
 pub fn signed_field(value: &Value, f: Field) -> Result<i64, FieldFault>
@@ -94,7 +94,7 @@ pub fn signed_field(value: &Value, f: Field) -> Result<i64, FieldFault>
 
 /// The field as a count: a whole number from 0 to 9007199254740991.
 ///
-/// Answers `Missing` exactly where `value` is no object or has no such field, and `WrongKind`
+/// Returns `Missing` exactly where `value` is no object or has no such field, and `WrongKind`
 /// exactly where the field is there and is no count.
 #[tactic(auto, unfolding(crate::specs::Reading::count_field))]
 pub fn count_field(value: &Value, f: Field) -> Result<u64, FieldFault>
@@ -106,7 +106,7 @@ pub fn count_field(value: &Value, f: Field) -> Result<u64, FieldFault>
 
 /// The field as a string, borrowed from the value.
 ///
-/// Answers `Missing` exactly where `value` is no object or has no such field, and `WrongKind`
+/// Returns `Missing` exactly where `value` is no object or has no such field, and `WrongKind`
 /// exactly where the field is there and is no string.
 #[tactic(auto, unfolding(crate::specs::Reading::str_field))]
 pub fn str_field(value: &Value, f: Field) -> Result<&str, FieldFault>
@@ -119,7 +119,7 @@ pub fn str_field(value: &Value, f: Field) -> Result<&str, FieldFault>
 
 /// The field as a text.
 ///
-/// Answers `Missing` exactly where `value` is no object or has no such field, `WrongKind` exactly
+/// Returns `Missing` exactly where `value` is no object or has no such field, `WrongKind` exactly
 /// where the field is there and is no string, and `OutOfMemory` where there is no room for the text.
 #[tactic(auto, unfolding(crate::specs::Reading::text_field, crate::specs::Reading::str_field))]
 pub fn text_field(alloc: Global, value: &Value, f: Field) -> Result<Text, FieldFault>
@@ -133,7 +133,7 @@ pub fn text_field(alloc: Global, value: &Value, f: Field) -> Result<Text, FieldF
 
 /// The field as an array, by its items, which are borrowed from the value.
 ///
-/// Answers `Missing` exactly where `value` is no object or has no such field, and `WrongKind`
+/// Returns `Missing` exactly where `value` is no object or has no such field, and `WrongKind`
 /// exactly where the field is there and is no array.
 #[tactic(auto, unfolding(crate::specs::Reading::array_field))]
 pub fn array_field(value: &Value, f: Field) -> Result<&[Value], FieldFault>

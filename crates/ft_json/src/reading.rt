@@ -11,7 +11,7 @@ use std::alloc::Global;
 /// The value that the bytes are, with white space allowed round it. Of a key that stands twice in an
 /// object the last counts.
 ///
-/// Answers `NotUtf8` exactly where the bytes aren't UTF-8, `NotJson` exactly where they are, and are
+/// Returns `NotUtf8` exactly where the bytes aren't UTF-8, `NotJson` exactly where they are, and are
 /// not one JSON value of at most 127 levels, and `OutOfMemory` where there is no room for the value.
 pub fn read_line(alloc: Global, bytes: &[u8]) -> Result<Value, JsonFault>
     ensures ok { IfOk result (λ value. read_line bytes.now ≡ Ok (view value)) }

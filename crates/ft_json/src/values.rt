@@ -36,7 +36,7 @@ impl Model for ValText {
 impl ValText {
     /// A copy of `text`, which is the compact text of such a value.
     ///
-    /// Answers `OutOfMemory` where there is no room for the copy.
+    /// Returns `OutOfMemory` where there is no room for the copy.
     pub fn new(alloc: Global, text: &str) -> Result<ValText, OutOfMemory>
         requires { IsCanonicalText text.now }
         ensures { IfOk result (λ copy. copy ≡ text.now) }
@@ -64,7 +64,7 @@ impl ValText {
 
     /// The value that the text stands for, which has at most 127 levels.
     ///
-    /// Answers `OutOfMemory` where there is no room for it.
+    /// Returns `OutOfMemory` where there is no room for it.
     pub fn to_value(&self) -> Result<Value, OutOfMemory>
         requires { IsTextWithin read_levels self.now }
         ensures value { IfOk result (λ value. view value ≡ value_of self.now) }

@@ -20,7 +20,7 @@ use std::alloc::Global;
 /// The compact text of a value that is kept, with the keys of each object in rising order of their
 /// bytes. It reads back as the same value.
 ///
-/// Answers `TooDeep` exactly where the value has more than 100 levels, `Fraction` exactly where it
+/// Returns `TooDeep` exactly where the value has more than 100 levels, `Fraction` exactly where it
 /// hasn't, and some number inside isn't a whole number from -9223372036854775808 to
 /// 18446744073709551615 (`-0` and what has a fraction or an exponent are none), and `OutOfMemory`
 /// where there is no room for the text.
@@ -44,7 +44,7 @@ pub fn canonical(alloc: Global, value: &Value) -> Result<ValText, JsonFault>
 /// The compact text of a value of any number of levels, in which each number is a whole number from
 /// -9223372036854775808 to 18446744073709551615.
 ///
-/// Answers `OutOfMemory` where there is no room for the text.
+/// Returns `OutOfMemory` where there is no room for the text.
 pub fn compact(alloc: Global, value: &Value) -> Result<ValText, OutOfMemory>
     requires { IsCanonical (view value.now) }
     ensures { IfOk result (λ text. text ≡ compact_text (view value.now)) }
@@ -54,7 +54,7 @@ pub fn compact(alloc: Global, value: &Value) -> Result<ValText, OutOfMemory>
 
 /// The text of a whole number.
 ///
-/// Answers `OutOfMemory` where there is no room for it.
+/// Returns `OutOfMemory` where there is no room for it.
 pub fn whole_text(alloc: Global, z: i64) -> Result<ValText, OutOfMemory>
     ensures { IfOk result (λ text. text ≡ signed_decimal z) }
 {
@@ -64,7 +64,7 @@ pub fn whole_text(alloc: Global, z: i64) -> Result<ValText, OutOfMemory>
 /// The JSON string of the characters: `"`, `\` and the characters below U+0020 are escaped, and all
 /// else stands as it is.
 ///
-/// Answers `OutOfMemory` where there is no room for it.
+/// Returns `OutOfMemory` where there is no room for it.
 pub fn quote(alloc: Global, text: &Text) -> Result<Text, OutOfMemory>
     ensures { IfOk result (λ string. string ≡ quoted text.now) }
 {

@@ -182,7 +182,7 @@ abbrev pub KeptIsReady : Type 0
 KeptIsReady = (start : Document) (kept : NaiveClient) → IsMadeOrKept start kept → IsReady kept
 
 -- what a replica does on a client that it shows: it takes the step, shows the client after it, and its counts rise alike; or it
--- refuses with the client's fault; of want of memory and of a stop nothing is asked
+-- refuses with the client's fault; of OutOfMemory and of a stop nothing is asked
 abbrev pub DoesStep : {E : Type 0} → (E → FaultKind) → ReplicaState → ReplicaState → NaiveClient → Result NaiveClient E → Result (Unit {0}) E → Type 0
 DoesStep kind old new kept step (Ok _) = (y : NaiveClient) × (step ≡ Ok y) × (indexed_client y ≡ new.client) × RiseAlike old.held new.held (held_in kept.doc) (held_in y.doc)
 DoesStep kind old new kept step (Err fault) = MeansRefusal (kind fault) (step ≡ Err fault)

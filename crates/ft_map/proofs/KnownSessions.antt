@@ -532,7 +532,7 @@ session_of-more (x ∷ es) w e = session_of-more es (session_after w x) e
 pub reached-next : (w v : MapSession) (e : MapEvent) (output : MapOutput) → IsReached w → step w e ≡ Ok (v, output) → IsReached v
 reached-next w v e output (es, is) h = (es ++ e ∷ [], session_of-more es new_session e ∙ ap (λ (x : MapSession). session_after x e) is ∙ ap (went_on w) h)
 
--- also where it is refused for another reason than want of memory
+-- also where it is refused for another reason than OutOfMemory
 pub reached-refused : (w v : MapSession) (why : Refusal) (stopped : Bool) (A : Type 0) → stopped ≡ is_want why → IsReached w → MeansOf (refusal_kind why) ⊤ ((v ≡ w) × A) → stopped ≡ false → IsReached v
 reached-refused w v why stopped A is r h running = by (refusal_kind why) (sym is ∙ running) h
   where

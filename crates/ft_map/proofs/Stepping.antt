@@ -1,4 +1,4 @@
--- A map world answers as its session does, and stops at want of memory.
+-- A map world answers as its session does, and stops at OutOfMemory.
 use Rattle.std.proofs.Common.{◌≡◌, Bool, true, false, Result, Ok, Err, refl, sym, ◌∙◌, ap, subst}
 use Rattle.std.specs.Prelude.{⊤}
 use Rattle.ft_seqr.specs.declared.refusals.Refusal.{Refusal}

@@ -11,7 +11,7 @@ use Rattle.ft_map.specs.MapGrammar.{map_event}
 abbrev pub IsRefused : List ℕ → Refusal → Type 0
 IsRefused line refusal = (cause : Cause) × (map_event line ≡ Err cause) × (refusal ≡ refusal_of_cause cause)
 
--- the event of the line, or the refusal of its first fault, or want of memory
+-- the event of the line, or the refusal of its first fault, or OutOfMemory
 pub record ReadsMapEvent (line : List ℕ) (result : Result MapEvent Refusal) : Type 0 where
   pub ok : IfOk result (λ e. map_event line ≡ Ok e)
   pub err : IfErr result (λ refusal. refusal ≢ OutOfMemory → IsRefused line refusal)

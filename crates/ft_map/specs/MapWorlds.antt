@@ -99,13 +99,13 @@ abbrev pub AnswersStart : MapSession → Option Characters → Result MapClient 
 AnswersStart w from (Ok x) = (name : Characters) → start_client w name from ≡ started w name x
 AnswersStart w from (Err why) = MeansOf (refusal_kind why) ⊤ ((name : Characters) → start_client w name from ≡ Err why)
 
--- the answer to a connection that leaves: what orders the messages after it, that it isn't joined, or want of memory
+-- the answer to a connection that leaves: what orders the messages after it, that it isn't joined, or OutOfMemory
 abbrev pub AnswersLeave : ℕ → MapService → MapService → Result (Unit {0}) Refusal → Type 0
 AnswersLeave conn old new (Ok _) = left conn old ≡ Some new
 AnswersLeave conn old new (Err why) = MeansOf (refusal_kind why) ⊤ ((new ≡ old) × (left conn old ≡ None) × (why ≡ NotConnected))
 
 -- the answer to an event of a client that becomes this: the client and what orders the messages after it, and what is written; the
--- refusal, and nothing changed; or want of memory
+-- refusal, and nothing changed; or OutOfMemory
 abbrev pub AnswersTurn : NamedMapClient → NamedMapClient → MapService → MapService → MapTurned → Result MapOut Refusal → Type 0
 AnswersTurn old new before after turned (Ok written) = (output : MapOutput) × (turned ≡ Ok (record { service = after; client = new; output = output })) × Tells output written
 AnswersTurn old new before after turned (Err why) = MeansOf (refusal_kind why) ⊤ ((new ≡ old) × (after ≡ before) × (turned ≡ Err why))
@@ -116,7 +116,7 @@ AnswersSession old new stepped (Ok written) = (output : MapOutput) × (stepped �
 AnswersSession old new stepped (Err why) = MeansOf (refusal_kind why) ⊤ ((new ≡ old) × (stepped ≡ Err why))
 
 -- the answer of a world that runs to an event that becomes this: the session after it and what that writes; its refusal, and nothing
--- changed; or want of memory, and then the world has stopped
+-- changed; or OutOfMemory, and then the world has stopped
 abbrev pub AnswersRunning : MapWorldState → MapWorldState → MapStepped → Result MapOut Refusal → Type 0
 AnswersRunning old new stepped (Ok written) = (output : MapOutput) × (stepped ≡ Ok (new.session, output)) × (new.stopped ≡ false) × Tells output written
 AnswersRunning old new stepped (Err why) = MeansOf (refusal_kind why) (new.stopped ≡ true) ((new ≡ old) × (stepped ≡ Err why))

@@ -53,7 +53,7 @@ impl Marks {
 
     /// Notes the next operation, which has this number.
     ///
-    /// Answers `OutOfMemory` where there is no room for it, and then nothing changed.
+    /// Returns `OutOfMemory` where there is no room for it, and then nothing changed.
     pub(crate) fn note(&mut self, number: u64, op: &MapOp) -> Result<(), OutOfMemory>
         ensures ok { OnOk result (self.new ≡ noted number op.now self.old) }
         ensures err { OnErr result (self.new ≡ self.old) }

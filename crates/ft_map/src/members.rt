@@ -119,7 +119,7 @@ pub(crate) fn ticket(
 
 // So many of the client's oldest unsent messages are submitted for its connection.
 //
-// Answers `OutOfMemory` where there is no room for a message.
+// Returns `OutOfMemory` where there is no room for a message.
 fn submit_oldest(
     client: &mut MapReplica,
     service: &mut Service,
@@ -138,7 +138,7 @@ fn submit_oldest(
 
 // The client's oldest unsent message, if there is one, is submitted for its connection.
 //
-// Answers `OutOfMemory` where there is no room for it.
+// Returns `OutOfMemory` where there is no room for it.
 fn submit_next(client: &mut MapReplica, service: &mut Service, conn: u32) -> Result<(), OutOfMemory>
     requires { HasNoNack (submit_all service.old conn (take 1 client.old.queue)) }
     ensures service { OnOk result (submit_all service.old conn (take 1 client.old.queue) ≡ Ok service.new) }
@@ -181,7 +181,7 @@ fn ahead_of(service: &Service, number: u64) -> &[MapEntry]
 
 // The client processes messages.
 //
-// Answers `OutOfMemory` where there is no room for one.
+// Returns `OutOfMemory` where there is no room for one.
 fn process_all(client: &mut MapReplica, entries: &[MapEntry]) -> Result<(), OutOfMemory>
     ensures { OnOk result (client.new ≡ after_entries client.old entries.now) }
 {

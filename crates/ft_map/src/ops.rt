@@ -30,7 +30,7 @@ pub struct MapPair {
 impl MapOp {
     /// An equal operation.
     ///
-    /// Answers `OutOfMemory` where there is no room for it.
+    /// Returns `OutOfMemory` where there is no room for it.
     pub fn copy(&self) -> Result<MapOp, OutOfMemory>
         ensures { IfOk result (λ copy. copy ≡ self.now) }
     {
@@ -57,7 +57,7 @@ pub(crate) fn written(op: &MapOp) -> Option<&ValText>
 
 /// The map after the operation.
 ///
-/// Answers `OutOfMemory` where there is no room for it, and then the map is as it was.
+/// Returns `OutOfMemory` where there is no room for it, and then the map is as it was.
 pub(crate) fn put(map: &mut Props, op: &MapOp) -> Result<(), OutOfMemory>
     ensures ok { OnOk result (map.new ≡ put map.old op.now) }
     ensures err { OnErr result (map.new ≡ map.old) }
@@ -77,7 +77,7 @@ pub(crate) fn put(map: &mut Props, op: &MapOp) -> Result<(), OutOfMemory>
 
 /// The map with this value of the key.
 ///
-/// Answers `OutOfMemory` where there is no room for it, and then the map is as it was.
+/// Returns `OutOfMemory` where there is no room for it, and then the map is as it was.
 pub(crate) fn set(map: &mut Props, key: &Text, value: &ValText) -> Result<(), OutOfMemory>
     ensures ok { OnOk result (map.new ≡ put_rising key_cmp (key.now, value.now) map.old) }
     ensures err { OnErr result (map.new ≡ map.old) }

@@ -19,7 +19,7 @@ use std::alloc::Global;
 
 /// The event that the line is.
 ///
-/// Answers `Malformed` with the first fault in the order in which its fields are tested, and
+/// Returns `Malformed` with the first fault in the order in which its fields are tested, and
 /// `OutOfMemory` where there is no room for it.
 pub fn read_map_event(alloc: Global, line: &[u8]) -> Result<MapEvent, Refusal>
     ensures { ReadsMapEvent line.now result }

@@ -66,7 +66,7 @@ impl MapReplica {
 
     /// A new client with what was sequenced of this one's map, and its numbers.
     ///
-    /// Answers `OutOfMemory` where there is no room for it.
+    /// Returns `OutOfMemory` where there is no room for it.
     pub(crate) fn successor(&self) -> Result<MapReplica, OutOfMemory>
         ensures { IfOk result (λ r. r ≡ client_over self.now.state.acked self.now.number self.now.minimum) }
     {
@@ -113,7 +113,7 @@ impl MapReplica {
 
     /// That nothing is pending.
     ///
-    /// Answers `Pending` exactly where operations are, with how many.
+    /// Returns `Pending` exactly where operations are, with how many.
     pub(crate) fn nothing_pending(&self) -> Result<(), Refusal>
         ensures { AnswersPending self.now.state.pending result }
     {
@@ -125,7 +125,7 @@ impl MapReplica {
 
     /// What it shows, by rising keys.
     ///
-    /// Answers `OutOfMemory` where there is no room for it.
+    /// Returns `OutOfMemory` where there is no room for it.
     pub(crate) fn pairs(&self) -> Result<Vec<MapPair>, OutOfMemory>
         ensures { IfOk result (λ pairs. pairs.items ≡ pairs_of (view_of self.now)) }
     {
@@ -149,7 +149,7 @@ impl MapReplica {
 
     /// An edit of its own.
     ///
-    /// Answers `OutOfMemory` where there is no room for it.
+    /// Returns `OutOfMemory` where there is no room for it.
     pub(crate) fn edit(&mut self, op: &MapOp) -> Result<(), OutOfMemory>
         ensures { OnOk result (self.new ≡ edited op.now self.old) }
     {
@@ -172,7 +172,7 @@ impl MapReplica {
 
     /// Begins to join under a new connection.
     ///
-    /// Answers `OutOfMemory` where there is no room for it.
+    /// Returns `OutOfMemory` where there is no room for it.
     pub(crate) fn connect(&mut self, conn: u32) -> Result<(), OutOfMemory>
         ensures { OnOk result (self.new ≡ joining conn self.old) }
     {
@@ -207,7 +207,7 @@ impl MapReplica {
 
     /// Processes a message.
     ///
-    /// Answers `OutOfMemory` where there is no room for it.
+    /// Returns `OutOfMemory` where there is no room for it.
     pub(crate) fn process(&mut self, e: &MapEntry) -> Result<(), OutOfMemory>
         ensures { OnOk result (self.new ≡ after_entry self.old e.now) }
     {
@@ -282,7 +282,7 @@ fn acknowledge(state: &mut SharedMap) -> Result<(), OutOfMemory>
 
 // The message of an operation.
 //
-// Answers `OutOfMemory` where there is no room for it.
+// Returns `OutOfMemory` where there is no room for it.
 fn draft_of(alloc: Global, n: u64, ref_seq: u64, op: &MapOp) -> Result<MapDraft, OutOfMemory>
     ensures { IfOk result (λ d. d ≡ draft_of n ref_seq op.now) }
 {
@@ -298,7 +298,7 @@ fn draft_of(alloc: Global, n: u64, ref_seq: u64, op: &MapOp) -> Result<MapDraft,
 
 // The messages of all pending operations, numbered from 1.
 //
-// Answers `OutOfMemory` where there is no room for them.
+// Returns `OutOfMemory` where there is no room for them.
 fn drafts_of(
     alloc: Global,
     state: &SharedMap,
@@ -317,7 +317,7 @@ fn drafts_of(
 
 // The messages with the one of an operation behind them.
 //
-// Answers `OutOfMemory` where there is no room for it.
+// Returns `OutOfMemory` where there is no room for it.
 fn queue_draft(
     drafts: &mut VecDeque<MapDraft>,
     alloc: Global,

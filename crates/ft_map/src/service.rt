@@ -49,7 +49,7 @@ impl Service {
 
     /// The next connection, under this name, joins; its number.
     ///
-    /// Answers `OutOfMemory` where there is no such number any more, or no room for its message.
+    /// Returns `OutOfMemory` where there is no such number any more, or no room for its message.
     pub(crate) fn join(&mut self, name: &Text) -> Result<u32, OutOfMemory>
         ensures conn { IfOk result (λ conn. conn ≡ next_conn self.old) }
         ensures joined { OnOk result (self.new ≡ joined name.now self.old) }
@@ -63,7 +63,7 @@ impl Service {
 
     /// The connection leaves.
     ///
-    /// Answers `NotConnected` exactly where it isn't joined, and `OutOfMemory` where there is no room for its message.
+    /// Returns `NotConnected` exactly where it isn't joined, and `OutOfMemory` where there is no room for its message.
     pub(crate) fn leave(&mut self, conn: u32) -> Result<(), Refusal>
         ensures { AnswersLeave conn self.old self.new result }
     {
@@ -74,7 +74,7 @@ impl Service {
 
     /// A draft of the connection, with this operation, is submitted.
     ///
-    /// Answers `OutOfMemory` where there is no room for its message.
+    /// Returns `OutOfMemory` where there is no room for its message.
     pub(crate) fn submit(&mut self, conn: u32, draft: &Draft, op: MapOp) -> Result<(), OutOfMemory>
         requires { HasNoNack (submit_one self.old conn (record { draft = draft.now; op = op })) }
         ensures { OnOk result (submit_one self.old conn (record { draft = draft.now; op = op }) ≡ Ok self.new) }

@@ -50,7 +50,7 @@ impl SharedMap {
 
     /// The map of these pairs, with nothing pending.
     ///
-    /// Answers `OutOfMemory` where there is no room for it.
+    /// Returns `OutOfMemory` where there is no room for it.
     pub fn load(alloc: Global, pairs: &Vec<MapPair>) -> Result<SharedMap, OutOfMemory>
         requires { KeysRise (map_of pairs.now.items) }
         ensures { IfOk result (λ map. map ≡ record { acked = map_of pairs.now.items; pending = [] }) }
@@ -72,7 +72,7 @@ impl SharedMap {
 
     /// A map with what was sequenced of this one, and nothing pending.
     ///
-    /// Answers `OutOfMemory` where there is no room for it.
+    /// Returns `OutOfMemory` where there is no room for it.
     pub(crate) fn acked_copy(&self) -> Result<SharedMap, OutOfMemory>
         ensures { IfOk result (λ map. map ≡ record { acked = self.now.acked; pending = [] }) }
     {
@@ -109,7 +109,7 @@ impl SharedMap {
 
     /// An operation of the client's own, which becomes pending behind the others.
     ///
-    /// Answers `OutOfMemory` where there is no room for it, and then nothing changed.
+    /// Returns `OutOfMemory` where there is no room for it, and then nothing changed.
     pub fn edit(&mut self, op: &MapOp) -> Result<(), OutOfMemory>
         ensures ok { OnOk result (self.new ≡ record self.old { pending = self.old.pending ++ op.now ∷ [] }) }
         ensures err { OnErr result (self.new ≡ self.old) }
@@ -124,7 +124,7 @@ impl SharedMap {
 
     /// An operation of another client, which has become sequenced.
     ///
-    /// Answers `OutOfMemory` where there is no room for it, and then nothing changed.
+    /// Returns `OutOfMemory` where there is no room for it, and then nothing changed.
     pub fn apply(&mut self, op: &MapOp) -> Result<(), OutOfMemory>
         ensures ok { OnOk result (self.new ≡ record self.old { acked = put self.old.acked op.now }) }
         ensures err { OnErr result (self.new ≡ self.old) }
@@ -134,7 +134,7 @@ impl SharedMap {
 
     /// The oldest pending operation has become sequenced.
     ///
-    /// Answers `OutOfMemory` where there is no room for it, and then nothing changed.
+    /// Returns `OutOfMemory` where there is no room for it, and then nothing changed.
     pub fn ack(&mut self) -> Result<(), OutOfMemory>
         requires { 0 < length self.old.pending }
         ensures ok { OnOk result (self.new ≡ acknowledged self.old.acked self.old.pending) }
@@ -165,7 +165,7 @@ impl SharedMap {
 
     /// What the client shows, by rising keys.
     ///
-    /// Answers `OutOfMemory` where there is no room for it.
+    /// Returns `OutOfMemory` where there is no room for it.
     pub fn pairs(&self) -> Result<Vec<MapPair>, OutOfMemory>
         ensures shown { IfOk result (λ pairs. pairs.items ≡ pairs_of (shown_map self.now)) }
         ensures rising { IfOk result (λ pairs. KeysRise (map_of pairs.items)) }
@@ -188,7 +188,7 @@ impl SharedMap {
 
 // The number behind so many from the first.
 //
-// Answers `OutOfMemory` where the next one would pass 2^64 - 1.
+// Returns `OutOfMemory` where the next one would pass 2^64 - 1.
 fn next_number(first: u64, count: usize) -> Result<u64, OutOfMemory>
     ensures number { IfOk result (λ number. number ≡ first + count) }
     ensures low { IfOk result (λ number. number + 1 < 2 ^ 64) }
@@ -201,7 +201,7 @@ fn next_number(first: u64, count: usize) -> Result<u64, OutOfMemory>
 
 // The map of these pairs.
 //
-// Answers `OutOfMemory` where there is no room for it.
+// Returns `OutOfMemory` where there is no room for it.
 fn props_of(alloc: Global, pairs: &[MapPair]) -> Result<Props, OutOfMemory>
     requires { KeysRise (map_of pairs.now) }
     ensures { IfOk result (λ map. map ≡ map_of pairs.now) }
@@ -215,7 +215,7 @@ fn props_of(alloc: Global, pairs: &[MapPair]) -> Result<Props, OutOfMemory>
 
 // The pairs of this map.
 //
-// Answers `OutOfMemory` where there is no room for them.
+// Returns `OutOfMemory` where there is no room for them.
 fn pairs_of(map: &Props) -> Result<Vec<MapPair>, OutOfMemory>
     ensures shown { IfOk result (λ pairs. pairs.items ≡ pairs_of map.now) }
     ensures rising { IfOk result (λ pairs. KeysRise (map_of pairs.items)) }
@@ -229,7 +229,7 @@ fn pairs_of(map: &Props) -> Result<Vec<MapPair>, OutOfMemory>
 
 // A pair of this key and this value.
 //
-// Answers `OutOfMemory` where there is no room for it.
+// Returns `OutOfMemory` where there is no room for it.
 fn pair_of(key: &Text, value: &ValText) -> Result<MapPair, OutOfMemory>
     ensures { IfOk result (λ pair. pair ≡ pair_of (key.now, value.now)) }
 {

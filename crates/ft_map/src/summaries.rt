@@ -13,7 +13,7 @@ use std::alloc::Global;
 
 /// The summary of a client, which tells what was sequenced, as its one text.
 ///
-/// Answers `OutOfMemory` where there is no room for it.
+/// Returns `OutOfMemory` where there is no room for it.
 pub(crate) fn summary_text(alloc: Global, client: &MapReplica) -> Result<ValText, OutOfMemory>
     ensures { IfOk result (λ text. text ≡ summary_text client.now) }
 {

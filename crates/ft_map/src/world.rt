@@ -55,7 +55,7 @@ impl MapWorld {
     /// An event happens. What it writes is what the naive session writes, and while nothing stopped, that session is one that
     /// events reach: so each view is an agreed map, and no draft is refused (`laws`).
     ///
-    /// Answers `Stopped` exactly where an earlier event found no memory; then `UnknownClient`, `NameInUse`, `ClientLimit`,
+    /// Returns `Stopped` exactly where an earlier event found no memory; then `UnknownClient`, `NameInUse`, `ClientLimit`,
     /// `AlreadyConnected`, `NotConnected`, `NothingToTicket`, `NothingToDeliver` or `Pending` exactly where the naive session
     /// does, and nothing changed; and `OutOfMemory` where there is no room, after which the world has stopped.
     pub fn step(&mut self, event: &MapEvent) -> Result<MapOut, Refusal>
@@ -136,7 +136,7 @@ impl Session {
 
     // Whether the name can be given.
     //
-    // Answers `NameInUse` exactly where a client has it, and `ClientLimit` exactly where there are 16 of these.
+    // Returns `NameInUse` exactly where a client has it, and `ClientLimit` exactly where there are 16 of these.
     fn free_name(&self, name: &Text) -> Result<(), Refusal>
         ensures { AnswersName (name_fault self.now name.now) result }
     {

@@ -42,7 +42,7 @@ pub record TakesEdit (s : GridState) (stages : List Stage) (made : Result (Docum
   pub counted : length taken ≡ count
 
 -- the answer to an edit after these stages: how many stages it took; or the refusal of its sub-operations, and then nothing changed;
--- or want of memory, and then the grid may be used no more
+-- or OutOfMemory, and then the grid may be used no more
 abbrev pub AnswersEdit : List Stage → Result (Document × List Stage) EditFault → GridState → GridState → Result ℕ EditFault → Type 0
 AnswersEdit stages made old new (Ok count) = TakesEdit new stages made count
 AnswersEdit stages made old new (Err (OutOfRange n)) = (made ≡ Err (OutOfRange n)) × (new ≡ old)

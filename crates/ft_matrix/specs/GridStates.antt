@@ -13,7 +13,7 @@ use Rattle.ft_matrix.specs.Units.{place_of_handle, placed_cells, shown_units, un
 
 -- the rows and the columns, removed ones included; how many of each were ever sequenced; the acknowledged cells by places in
 -- these lists; the pending stages of the grid; the floor; how deep a search in the rows and in the columns goes; the greatest
--- stage given since the last normalising, 0 where none was; and whether it may still be used: after want of memory in a call
+-- stage given since the last normalising, 0 where none was; and whether it may still be used: after OutOfMemory in a call
 -- that changes it, it may not, for good
 pub record GridState : Type 0 where
   pub rows : List NamelessElement

@@ -26,7 +26,7 @@ impl SharedMatrix {
     /// Makes the `count` stages from `first` on sequenced one after another, under number `seq` by connection `conn`; those of them
     /// that are pending here are the lowest. No position is searched again.
     ///
-    /// Answers `OutOfMemory` where there is no room for it, and then the table may be used no more.
+    /// Returns `OutOfMemory` where there is no room for it, and then the table may be used no more.
     pub fn ack(&mut self, first: u64, count: u64, seq: u64, conn: u32) -> Result<(), OutOfMemory>
         requires usable { IsTrue self.old.usable }
         requires settled { self.old.given ≡ 0 }
@@ -50,7 +50,7 @@ impl SharedMatrix {
 impl Grid {
     /// Makes the `count` stages from `first` on sequenced.
     ///
-    /// Answers `OutOfMemory` where there is no room for it, and then the grid may be used no more.
+    /// Returns `OutOfMemory` where there is no room for it, and then the grid may be used no more.
     fn ack_stages(&mut self, first: u64, count: u64, seq: u64, conn: u32) -> Result<(), OutOfMemory>
         requires sound { IsSound self.old }
         requires lowest { All (λ t. first ≤ t.stage) self.old.stages.items }
@@ -68,7 +68,7 @@ impl Grid {
 
     /// Makes one stage sequenced: its units and marks, and its cell write. No lower one is pending.
     ///
-    /// Answers `OutOfMemory` where there is no room for it, and then the grid may be used no more.
+    /// Returns `OutOfMemory` where there is no room for it, and then the grid may be used no more.
     fn ack_stage(&mut self, stage: u64, seq: u64, conn: u32) -> Result<(), OutOfMemory>
         requires sound { IsSound self.old }
         requires lowest { All (λ t. stage ≤ t.stage) self.old.stages.items }
@@ -99,7 +99,7 @@ impl Grid {
 
     /// Counts the units that an acknowledged operation put in.
     ///
-    /// Answers `OutOfMemory` where a count would pass 2^64 - 1.
+    /// Returns `OutOfMemory` where a count would pass 2^64 - 1.
     fn count_units(&mut self, op: &CellOp) -> Result<(), OutOfMemory>
         ensures { OnOk result (CountsUnits op.now self.old self.new) }
     {

@@ -27,7 +27,7 @@ use std::alloc::Global;
 impl SharedMatrix {
     /// Raises the floor, and takes out all rows and columns that were removed at or below it.
     ///
-    /// Answers `OutOfMemory` where there is no room for what is kept, and then the table may be used no more.
+    /// Returns `OutOfMemory` where there is no room for what is kept, and then the table may be used no more.
     pub fn compact(&mut self, floor: u64) -> Result<(), OutOfMemory>
         requires usable { IsTrue self.old.usable }
         requires settled { self.old.given ≡ 0 }
@@ -53,7 +53,7 @@ impl SharedMatrix {
     /// Raises the floor, and looks at `budget` further leaves of the rows and as many of the columns: those that were removed at
     /// or below the floor are taken out.
     ///
-    /// Answers `OutOfMemory` where there is no room for what is kept, and then the table may be used no more.
+    /// Returns `OutOfMemory` where there is no room for what is kept, and then the table may be used no more.
     pub fn tidy(&mut self, floor: u64, budget: u64) -> Result<(), OutOfMemory>
         requires usable { IsTrue self.old.usable }
         requires settled { self.old.given ≡ 0 }
@@ -76,10 +76,10 @@ impl SharedMatrix {
     }
 }
 
-/// Raises the floor of a vector, and takes the units out that were removed at or below it. Answers the runs of their handles, which
+/// Raises the floor of a vector, and takes the units out that were removed at or below it. Returns the runs of their handles, which
 /// are in use yet.
 ///
-/// Answers `OutOfMemory` where there is no room for what is kept, and then the vector may be used no more.
+/// Returns `OutOfMemory` where there is no room for what is kept, and then the vector may be used no more.
 fn scour_units(units: &mut Vector, alloc: Global, floor: u64) -> Result<Vec<Handles>, OutOfMemory>
     requires sound { IsSoundVector units.old }
     requires rising { units.old.tree.floor ≤ floor }
@@ -92,10 +92,10 @@ fn scour_units(units: &mut Vector, alloc: Global, floor: u64) -> Result<Vec<Hand
     Ok(taken)
 }
 
-/// Raises the floor of a vector, and looks at `budget` further leaves: takes the units out that were removed at or below it. Answers
+/// Raises the floor of a vector, and looks at `budget` further leaves: takes the units out that were removed at or below it. Returns
 /// the runs of their handles, which are in use yet.
 ///
-/// Answers `OutOfMemory` where there is no room for what is kept, and then the vector may be used no more.
+/// Returns `OutOfMemory` where there is no room for what is kept, and then the vector may be used no more.
 fn scour_part(
     units: &mut Vector,
     alloc: Global,
@@ -115,7 +115,7 @@ fn scour_part(
 impl Grid {
     /// Raises the floor, and takes out all that was removed at or below it, with its cells: the handles are free again.
     ///
-    /// Answers `OutOfMemory` where there is no room for what is kept, and then the grid may be used no more.
+    /// Returns `OutOfMemory` where there is no room for what is kept, and then the grid may be used no more.
     fn compact(&mut self, alloc: Global, floor: u64) -> Result<(), OutOfMemory>
         requires sound { IsSound self.old }
         requires rising { self.old.rows.tree.floor ≤ floor }
@@ -135,7 +135,7 @@ impl Grid {
     /// Raises the floor, and looks at `budget` further leaves of the rows and as many of the columns: those that were removed at or
     /// below it are taken out, with their cells, and their handles are free again.
     ///
-    /// Answers `OutOfMemory` where there is no room for what is kept, and then the grid may be used no more.
+    /// Returns `OutOfMemory` where there is no room for what is kept, and then the grid may be used no more.
     fn tidy(&mut self, alloc: Global, floor: u64, budget: u64) -> Result<(), OutOfMemory>
         requires sound { IsSound self.old }
         requires rising { self.old.rows.tree.floor ≤ floor }
@@ -153,7 +153,7 @@ impl Grid {
 
     /// Takes the cells of rows out that are gone, and frees their handles.
     ///
-    /// Answers `OutOfMemory` where there is no room for the free handles.
+    /// Returns `OutOfMemory` where there is no room for the free handles.
     fn free_rows(&mut self, mut taken: Vec<Handles>) -> Result<(), OutOfMemory>
         requires gone { AreGone taken.items self.old.rows }
         ensures { OnOk result (FreesRows (is_in_runs taken.items) self.old self.new) }
@@ -166,7 +166,7 @@ impl Grid {
 
     /// Takes the cells of a run of rows out that are gone, and frees its handles.
     ///
-    /// Answers `OutOfMemory` where there is no room for the free handles.
+    /// Returns `OutOfMemory` where there is no room for the free handles.
     fn free_row_run(&mut self, run: Handles) -> Result<(), OutOfMemory>
         requires used { (h : ℕ) → in_run h run ≡ true → in_use self.old.rows h ≡ true }
         requires gone { All (λ e. in_run e.unit run ≡ false) (units_of self.old.rows) }
@@ -181,7 +181,7 @@ impl Grid {
 
     /// Takes the cells of columns out that are gone, and frees their handles.
     ///
-    /// Answers `OutOfMemory` where there is no room for the free handles.
+    /// Returns `OutOfMemory` where there is no room for the free handles.
     fn free_cols(&mut self, mut taken: Vec<Handles>) -> Result<(), OutOfMemory>
         requires gone { AreGone taken.items self.old.cols }
         ensures { OnOk result (FreesCols (is_in_runs taken.items) self.old self.new) }
@@ -194,7 +194,7 @@ impl Grid {
 
     /// Takes the cells of a run of columns out that are gone, and frees its handles.
     ///
-    /// Answers `OutOfMemory` where there is no room for the free handles.
+    /// Returns `OutOfMemory` where there is no room for the free handles.
     fn free_col_run(&mut self, run: Handles) -> Result<(), OutOfMemory>
         requires used { (h : ℕ) → in_run h run ≡ true → in_use self.old.cols h ≡ true }
         requires gone { All (λ e. in_run e.unit run ≡ false) (units_of self.old.cols) }

@@ -15,7 +15,7 @@ use std::alloc::Global;
 use std::collections::VecDeque;
 
 /// Rows and columns, cells, the pending stages in order, and how many rows and columns were ever sequenced. The parts go
-/// together only while no call found want of memory: `SharedMatrix` keeps that.
+/// together only while no call ran out of memory: `SharedMatrix` keeps that.
 #[derive(Drop)]
 pub struct Grid {
     pub rows: Vector,

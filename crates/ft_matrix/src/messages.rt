@@ -24,9 +24,9 @@ use std::sync::ledger::Ledger;
 
 impl SharedMatrix {
     /// Applies an operation of a message under number `seq`, by the perspective of its sender: past the client's own pending rows
-    /// and columns. Answers how many of its sub-operations were out of range, which changed nothing.
+    /// and columns. Returns how many of its sub-operations were out of range, which changed nothing.
     ///
-    /// Answers `OutOfMemory` where there is no room for it, and then the table may be used no more.
+    /// Returns `OutOfMemory` where there is no room for it, and then the table may be used no more.
     pub fn apply<G: Ledger>(
         &mut self,
         op: &GridOp,
@@ -54,9 +54,9 @@ impl SharedMatrix {
 }
 
 impl Grid {
-    /// Applies an operation under number `seq`, and answers how many of its sub-operations were out of range, which changed nothing.
+    /// Applies an operation under number `seq`, and returns how many of its sub-operations were out of range, which changed nothing.
     ///
-    /// Answers `OutOfMemory` where there is no room for it, and then the grid may be used no more.
+    /// Returns `OutOfMemory` where there is no room for it, and then the grid may be used no more.
     pub fn apply_op<G: Ledger>(
         &mut self,
         op: &GridOp,
@@ -78,9 +78,9 @@ impl Grid {
         }
     }
 
-    /// Applies operations in order under number `seq`, and answers how many were out of range, which changed nothing.
+    /// Applies operations in order under number `seq`, and returns how many were out of range, which changed nothing.
     ///
-    /// Answers `OutOfMemory` where there is no room for them, and then the grid may be used no more.
+    /// Returns `OutOfMemory` where there is no room for them, and then the grid may be used no more.
     pub fn apply_all<G: Ledger>(
         &mut self,
         ops: &[CellOp],
@@ -105,9 +105,9 @@ impl Grid {
         Ok(skipped)
     }
 
-    /// Applies an operation under number `seq`. Answers whether it was within range; else nothing changed.
+    /// Applies an operation under number `seq`. Returns whether it was within range; else nothing changed.
     ///
-    /// Answers `OutOfMemory` where there is no room for it, and then the grid may be used no more.
+    /// Returns `OutOfMemory` where there is no room for it, and then the grid may be used no more.
     pub fn apply<G: Ledger>(
         &mut self,
         op: &CellOp,
@@ -150,7 +150,7 @@ impl Grid {
 
     /// Puts rows in, as a splice of a message does.
     ///
-    /// Answers `OutOfMemory` where there is no room for them, and then the grid may be used no more.
+    /// Returns `OutOfMemory` where there is no room for them, and then the grid may be used no more.
     fn insert_rows<G: Ledger>(
         &mut self,
         p: u64,
@@ -175,7 +175,7 @@ impl Grid {
 
     /// Puts columns in, as a splice of a message does.
     ///
-    /// Answers `OutOfMemory` where there is no room for them, and then the grid may be used no more.
+    /// Returns `OutOfMemory` where there is no room for them, and then the grid may be used no more.
     fn insert_cols<G: Ledger>(
         &mut self,
         p: u64,
@@ -200,7 +200,7 @@ impl Grid {
 
     /// Removes rows, as a splice of a message does.
     ///
-    /// Answers `OutOfMemory` where there is no room for it, and then the grid may be used no more.
+    /// Returns `OutOfMemory` where there is no room for it, and then the grid may be used no more.
     fn remove_rows<G: Ledger>(
         &mut self,
         p: u64,
@@ -225,7 +225,7 @@ impl Grid {
 
     /// Removes columns, as a splice of a message does.
     ///
-    /// Answers `OutOfMemory` where there is no room for it, and then the grid may be used no more.
+    /// Returns `OutOfMemory` where there is no room for it, and then the grid may be used no more.
     fn remove_cols<G: Ledger>(
         &mut self,
         p: u64,
@@ -250,7 +250,7 @@ impl Grid {
 
     /// Writes a value to the cell of the row and the column that the perspective sees there.
     ///
-    /// Answers `OutOfMemory` where there is no room for it, and then the grid may be used no more.
+    /// Returns `OutOfMemory` where there is no room for it, and then the grid may be used no more.
     fn set(
         &mut self,
         row: u64,
@@ -287,7 +287,7 @@ fn skips(taken: bool) -> u64
 
 /// The sum.
 ///
-/// Answers `OutOfMemory` where it would pass 2^64 - 1, since no memory holds so many.
+/// Returns `OutOfMemory` where it would pass 2^64 - 1, since no memory holds so many.
 pub fn more(n: u64, count: u64) -> Result<u64, OutOfMemory>
     ensures { IfOk result (λ sum. sum ≡ n + count) }
 {

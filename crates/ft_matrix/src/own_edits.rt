@@ -37,10 +37,10 @@ use ft_perm::Vector;
 use std::sync::ledger::Ledger;
 
 impl SharedMatrix {
-    /// Takes an operation of the client's own as pending stages from `first` on, which is above all that is pending, and answers
+    /// Takes an operation of the client's own as pending stages from `first` on, which is above all that is pending, and returns
     /// how many these are.
     ///
-    /// Answers `OutOfRange` with the length of the list concerned where one of its sub-operations is out of range in the view that
+    /// Returns `OutOfRange` with the length of the list concerned where one of its sub-operations is out of range in the view that
     /// those before it make, and then nothing changed; and `OutOfMemory` where there is no room, and then the table may be used
     /// no more.
     pub fn edit<G: Ledger>(
@@ -103,10 +103,10 @@ fn sub_operation_count(op: &GridOp) -> u64
 }
 
 impl Grid {
-    /// Takes an operation as pending stages from `first` on. Answers the length of the list concerned where a sub-operation is
+    /// Takes an operation as pending stages from `first` on. Returns the length of the list concerned where a sub-operation is
     /// out of range, and then nothing changed.
     ///
-    /// Answers `OutOfMemory` where there is no room for it, and then the grid may be used no more.
+    /// Returns `OutOfMemory` where there is no room for it, and then the grid may be used no more.
     fn edit_op<G: Ledger>(
         &mut self,
         op: &GridOp,
@@ -138,7 +138,7 @@ impl Grid {
 
     /// The length with which the first of these operations that is out of range is refused.
     ///
-    /// Answers `OutOfMemory` where more rows or columns would be seen than there are numbers.
+    /// Returns `OutOfMemory` where more rows or columns would be seen than there are numbers.
     fn refusal(&self, ops: &[CellOp]) -> Result<Option<u64>, OutOfMemory>
         requires sound { IsSound self.now }
         requires formed { AllByRecursion IsWellFormedCell ops.now }
@@ -160,7 +160,7 @@ impl Grid {
 
     /// Takes operations that are within range as pending stages from `first` on.
     ///
-    /// Answers `OutOfMemory` where there is no room for them, and then the grid may be used no more.
+    /// Returns `OutOfMemory` where there is no room for them, and then the grid may be used no more.
     fn edit_all<G: Ledger>(
         &mut self,
         ops: &[CellOp],
@@ -186,10 +186,10 @@ impl Grid {
         Ok(())
     }
 
-    /// Takes an operation as a pending stage above all others. Answers the length of the list concerned where it is out of range,
+    /// Takes an operation as a pending stage above all others. Returns the length of the list concerned where it is out of range,
     /// and then nothing changed.
     ///
-    /// Answers `OutOfMemory` where there is no room for it, and then the grid may be used no more.
+    /// Returns `OutOfMemory` where there is no room for it, and then the grid may be used no more.
     fn edit_one<G: Ledger>(
         &mut self,
         op: &CellOp,
@@ -237,7 +237,7 @@ impl Grid {
 impl Grid {
     /// Puts rows in as a pending stage.
     ///
-    /// Answers `OutOfMemory` where there is no room for it, and then the grid may be used no more.
+    /// Returns `OutOfMemory` where there is no room for it, and then the grid may be used no more.
     fn insert_own_rows<G: Ledger>(
         &mut self,
         p: u64,
@@ -273,7 +273,7 @@ impl Grid {
 
     /// Puts columns in as a pending stage.
     ///
-    /// Answers `OutOfMemory` where there is no room for it, and then the grid may be used no more.
+    /// Returns `OutOfMemory` where there is no room for it, and then the grid may be used no more.
     fn insert_own_cols<G: Ledger>(
         &mut self,
         p: u64,
@@ -309,7 +309,7 @@ impl Grid {
 
     /// Marks rows as removed by a pending stage.
     ///
-    /// Answers `OutOfMemory` where there is no room for it, and then the grid may be used no more.
+    /// Returns `OutOfMemory` where there is no room for it, and then the grid may be used no more.
     fn remove_own_rows<G: Ledger>(
         &mut self,
         p: u64,
@@ -345,7 +345,7 @@ impl Grid {
 
     /// Marks columns as removed by a pending stage.
     ///
-    /// Answers `OutOfMemory` where there is no room for it, and then the grid may be used no more.
+    /// Returns `OutOfMemory` where there is no room for it, and then the grid may be used no more.
     fn remove_own_cols<G: Ledger>(
         &mut self,
         p: u64,
@@ -381,7 +381,7 @@ impl Grid {
 
     /// Writes a value to a cell as a pending stage.
     ///
-    /// Answers `OutOfMemory` where there is no room for it, and then the grid may be used no more.
+    /// Returns `OutOfMemory` where there is no room for it, and then the grid may be used no more.
     fn set_own(
         &mut self,
         i: u64,
@@ -424,7 +424,7 @@ impl Grid {
 /// How many rows and columns are seen after an operation where so many were before, or the length of the list concerned where it
 /// is out of range.
 ///
-/// Answers `OutOfMemory` where that would pass 2^64 - 1.
+/// Returns `OutOfMemory` where that would pass 2^64 - 1.
 fn lengths_after(rows: u64, cols: u64, op: &CellOp) -> Result<Result<(u64, u64), u64>, OutOfMemory>
     requires { IsWellFormedCell op.now }
     ensures { IfOk result (λ after. after ≡ lengths_after rows cols op.now) }

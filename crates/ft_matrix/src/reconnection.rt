@@ -41,7 +41,7 @@ impl SharedMatrix {
     /// of it is left. Those of its stages of which nothing is left are gone then. The edits are given in order, and `normalise`
     /// follows once for all.
     ///
-    /// Answers `OutOfMemory` where there is no room for it, and then the table may be used no more.
+    /// Returns `OutOfMemory` where there is no room for it, and then the table may be used no more.
     pub fn reconnect(&mut self, first: u64, count: u64) -> Result<Option<GridOp>, OutOfMemory>
         requires usable { IsTrue self.old.usable }
         requires next { self.old.given < first }
@@ -78,7 +78,7 @@ impl SharedMatrix {
     /// Brings the rows and the columns in order after all pending edits were given to `reconnect`: as if the pending ones had been
     /// put in afresh. The rows of each stage stand side by side in its view, and so do the columns.
     ///
-    /// Answers `OutOfMemory` where there is no room for it, and then the table may be used no more.
+    /// Returns `OutOfMemory` where there is no room for it, and then the table may be used no more.
     pub fn normalise(&mut self) -> Result<(), OutOfMemory>
         requires usable { IsTrue self.old.usable }
         requires rows { StandSideBySide (λ e. e.stamps) self.old.rows }
@@ -105,7 +105,7 @@ impl SharedMatrix {
 
 /// The operation that pieces make: one alone, several as a group, none for none.
 ///
-/// Answers `OutOfMemory` where there is no room for it.
+/// Returns `OutOfMemory` where there is no room for it.
 fn op_of(alloc: Global, mut pieces: Vec<CellOp>) -> Result<Option<GridOp>, OutOfMemory>
     ensures { IfOk result (λ op. option_map ChannelOp.Grid op ≡ op_of (map (λ p. OnGrid p) pieces.items)) }
 {
@@ -120,7 +120,7 @@ fn op_of(alloc: Global, mut pieces: Vec<CellOp>) -> Result<Option<GridOp>, OutOf
 
 /// The same operations as a group.
 ///
-/// Answers `OutOfMemory` where there is no room for it.
+/// Returns `OutOfMemory` where there is no room for it.
 fn group_of(alloc: Global, ops: Vec<CellOp>) -> Result<CellOps, OutOfMemory>
     ensures { IfOk result (λ group. group ≡ ops.items) }
 {
@@ -133,7 +133,7 @@ fn group_of(alloc: Global, ops: Vec<CellOp>) -> Result<CellOps, OutOfMemory>
 
 /// Puts the pending units of a vector in afresh. Those of each stage stand side by side in its view.
 ///
-/// Answers `OutOfMemory` where there is no room for it, and then the vector may be used no more.
+/// Returns `OutOfMemory` where there is no room for it, and then the vector may be used no more.
 fn rebuild_units(units: &mut Vector) -> Result<(), OutOfMemory>
     requires sound { IsSoundVector units.old }
     requires side { StandSideBySide (λ e. e.stamps) (units_of units.old) }
@@ -146,7 +146,7 @@ fn rebuild_units(units: &mut Vector) -> Result<(), OutOfMemory>
 impl Grid {
     /// Puts the pending rows and columns in afresh. Those of each stage stand side by side in its view.
     ///
-    /// Answers `OutOfMemory` where there is no room for it, and then the grid may be used no more.
+    /// Returns `OutOfMemory` where there is no room for it, and then the grid may be used no more.
     fn normalise(&mut self) -> Result<(), OutOfMemory>
         requires sound { IsSound self.old }
         requires rows { StandSideBySide (λ e. e.stamps) (units_of self.old.rows) }
@@ -163,7 +163,7 @@ impl Grid {
     /// The operation as which an edit is sent again whose stages are the `count` ones from `first` on, None where nothing of it is
     /// left. Those of its stages of which nothing is left are gone then.
     ///
-    /// Answers `OutOfMemory` where there is no room for it.
+    /// Returns `OutOfMemory` where there is no room for it.
     fn reconnect(
         &mut self,
         alloc: Global,
@@ -187,7 +187,7 @@ impl Grid {
 
     /// The pieces of those of the `count` stages from `first` on that are pending here. A stage without a piece is gone then.
     ///
-    /// Answers `OutOfMemory` where there is no room for them.
+    /// Returns `OutOfMemory` where there is no room for them.
     fn resubmit(
         &mut self,
         alloc: Global,
@@ -205,10 +205,10 @@ impl Grid {
         Ok(pieces)
     }
 
-    /// Adds the pieces of the stage at place `i`, and answers the place of the next one. A stage without a piece is gone then, with
+    /// Adds the pieces of the stage at place `i`, and returns the place of the next one. A stage without a piece is gone then, with
     /// its cell write.
     ///
-    /// Answers `OutOfMemory` where there is no room for them.
+    /// Returns `OutOfMemory` where there is no room for them.
     fn resubmit_stage(&mut self, i: usize, pieces: &mut Vec<CellOp>) -> Result<usize, OutOfMemory>
         requires rows { IsSoundVector self.old.rows }
         requires cols { IsSoundVector self.old.cols }
@@ -264,7 +264,7 @@ fn is_due(stage: u64, first: u64, count: u64) -> bool
 
 /// Adds the pieces of a stage.
 ///
-/// Answers `OutOfMemory` where there is no room for them.
+/// Returns `OutOfMemory` where there is no room for them.
 fn push_pieces(
     rows: &Vector,
     cols: &Vector,
@@ -305,7 +305,7 @@ fn push_pieces(
 
 /// Adds the insertion of `count` units by a stage where they stand now, unless it is one of nothing.
 ///
-/// Answers `OutOfMemory` where there is no room for it.
+/// Returns `OutOfMemory` where there is no room for it.
 fn push_insertion(
     units: &Vector,
     target: Target,
@@ -360,7 +360,7 @@ fn inserted_at(part: &Piece) -> Option<u64>
 
 /// Adds a removal for each run of units that a stage still marks.
 ///
-/// Answers `OutOfMemory` where there is no room for them.
+/// Returns `OutOfMemory` where there is no room for them.
 fn push_removals(
     units: &Vector,
     target: Target,
@@ -379,7 +379,7 @@ fn push_removals(
 
 /// Adds the removal that a piece is, if it is one.
 ///
-/// Answers `OutOfMemory` where there is no room for it.
+/// Returns `OutOfMemory` where there is no room for it.
 fn push_removal(part: &Piece, target: Target, pieces: &mut Vec<CellOp>) -> Result<(), OutOfMemory>
     ensures { OnOk result (pieces.new.items ≡ pieces.old.items ++ removal_op target part.now) }
 {
@@ -398,7 +398,7 @@ fn push_removal(part: &Piece, target: Target, pieces: &mut Vec<CellOp>) -> Resul
 
 /// Adds a write of the value to the cell at these places, if both are given.
 ///
-/// Answers `OutOfMemory` where there is no room for it.
+/// Returns `OutOfMemory` where there is no room for it.
 fn push_write(
     value: &ValText,
     row: Option<u64>,

@@ -46,7 +46,7 @@ impl SeenRuns {
 
     /// Adds handles behind the others.
     ///
-    /// Answers `OutOfMemory` where there is no room for them, or they would be more than 2^64 - 1.
+    /// Returns `OutOfMemory` where there is no room for them, or they would be more than 2^64 - 1.
     fn add(&mut self, run: &Handles) -> Result<(), OutOfMemory>
         ensures { OnOk result ((hs : List ℕ) → HoldsRuns hs self.old → StandOnce (hs ++ handles_of run.now) → HoldsRuns (hs ++ handles_of run.now) self.new) }
     {
@@ -73,7 +73,7 @@ impl SeenRuns {
 
 /// Adds the handles of a leaf behind the others, if they are seen.
 ///
-/// Answers `OutOfMemory` where there is no room for them.
+/// Returns `OutOfMemory` where there is no room for them.
 fn add_leaf(tree: &Tree<Handles>, leaf: NodeId, runs: &mut SeenRuns) -> Result<(), OutOfMemory>
     requires usable { IsTrue tree.now.usable }
     requires live { IsLeafIn tree.now.leaves leaf }
@@ -88,7 +88,7 @@ fn add_leaf(tree: &Tree<Handles>, leaf: NodeId, runs: &mut SeenRuns) -> Result<(
 
 /// The handles that the local view sees, found in one walk over the leaves.
 ///
-/// Answers `OutOfMemory` where there is no room for them.
+/// Returns `OutOfMemory` where there is no room for them.
 pub fn seen_runs(tree: &Tree<Handles>) -> Result<SeenRuns, OutOfMemory>
     requires usable { IsTrue tree.now.usable }
     requires once { StandOnce (seen_handles last_stage tree.now) }

@@ -29,7 +29,7 @@ pub fn seen_count(units: &Vector, view: LenView) -> u64
 
 /// So many handles that weren't in use.
 ///
-/// Answers `OutOfMemory` where there is no room for them, or more units would have been made than there are handles.
+/// Returns `OutOfMemory` where there is no room for them, or more units would have been made than there are handles.
 pub fn fresh_handles(units: &mut Vector, count: u64) -> Result<Handles, OutOfMemory>
     requires sound { IsSoundVector units.old }
     requires some { 1 ≤ count }
@@ -42,9 +42,9 @@ pub fn fresh_handles(units: &mut Vector, count: u64) -> Result<Handles, OutOfMem
 }
 
 /// Puts `count` units in under number `seq`, directly after the `p`-th that the perspective sees, but past the run of pending
-/// ones there. Answers whether `p` is within the length seen; else nothing changed.
+/// ones there. Returns whether `p` is within the length seen; else nothing changed.
 ///
-/// Answers `OutOfMemory` where there is no room for them, and then the vector may be used no more.
+/// Returns `OutOfMemory` where there is no room for them, and then the vector may be used no more.
 pub fn insert_units<G: Ledger>(
     units: &mut Vector,
     p: u64,
@@ -72,10 +72,10 @@ pub fn insert_units<G: Ledger>(
     }
 }
 
-/// Puts `count` units in under a pending stage, directly after the `p`-th of the local view. Answers whether `p` is within its
+/// Puts `count` units in under a pending stage, directly after the `p`-th of the local view. Returns whether `p` is within its
 /// length; else nothing changed.
 ///
-/// Answers `OutOfMemory` where there is no room for them, and then the vector may be used no more.
+/// Returns `OutOfMemory` where there is no room for them, and then the vector may be used no more.
 pub fn insert_own_units<G: Ledger>(
     units: &mut Vector,
     p: u64,
@@ -103,10 +103,10 @@ pub fn insert_own_units<G: Ledger>(
     }
 }
 
-/// Gives a removal under number `seq` to the units that the perspective sees from the `p`-th up to before the `q`-th. Answers
+/// Gives a removal under number `seq` to the units that the perspective sees from the `p`-th up to before the `q`-th. Returns
 /// whether `q` is within the length seen; else nothing changed.
 ///
-/// Answers `OutOfMemory` where there is no room for it, and then the vector may be used no more.
+/// Returns `OutOfMemory` where there is no room for it, and then the vector may be used no more.
 pub fn remove_units<G: Ledger>(
     units: &mut Vector,
     p: u64,
@@ -128,10 +128,10 @@ pub fn remove_units<G: Ledger>(
     }
 }
 
-/// Marks the units that the local view sees from the `p`-th up to before the `q`-th as removed by a pending stage. Answers
+/// Marks the units that the local view sees from the `p`-th up to before the `q`-th as removed by a pending stage. Returns
 /// whether `q` is within its length; else nothing changed.
 ///
-/// Answers `OutOfMemory` where there is no room for it, and then the vector may be used no more.
+/// Returns `OutOfMemory` where there is no room for it, and then the vector may be used no more.
 pub fn remove_own_units<G: Ledger>(
     units: &mut Vector,
     p: u64,
@@ -153,7 +153,7 @@ pub fn remove_own_units<G: Ledger>(
 
 /// Makes a pending stage sequenced under number `seq` by connection `conn`: its units and its marks. No position is searched again.
 ///
-/// Answers `OutOfMemory` where there is no room for it, and then the vector may be used no more.
+/// Returns `OutOfMemory` where there is no room for it, and then the vector may be used no more.
 pub fn ack_units(units: &mut Vector, stage: u64, seq: u64, conn: u32) -> Result<(), OutOfMemory>
     requires sound { IsSoundVector units.old }
     ensures sound { OnOk result (IsSoundVector units.new) }

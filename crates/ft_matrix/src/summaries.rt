@@ -32,7 +32,7 @@ use std::alloc::Global;
 impl SharedMatrix {
     /// The table of a summary, with nothing pending.
     ///
-    /// Answers `OutOfMemory` where there is no room for it.
+    /// Returns `OutOfMemory` where there is no room for it.
     pub fn load(alloc: Global, doc: &SumDoc) -> Result<SharedMatrix, OutOfMemory>
         requires { IsValidSummary doc.now }
         ensures holds { IfOk result (λ made. HoldsGrid made (doc_of doc.now) []) }
@@ -51,7 +51,7 @@ impl SharedMatrix {
 
     /// Fills what a summary at the minimum `doc.min` has of the table: its rows, its columns and its cells.
     ///
-    /// Answers `OutOfMemory` where there is no room for them, and then a part may be filled.
+    /// Returns `OutOfMemory` where there is no room for them, and then a part may be filled.
     pub fn save(&self, doc: &mut SumDoc) -> Result<(), OutOfMemory>
         requires usable { IsTrue self.now.usable }
         requires settled { self.now.given ≡ 0 }
@@ -74,7 +74,7 @@ impl SharedMatrix {
 impl Grid {
     /// The grid of a summary, with nothing pending.
     ///
-    /// Answers `OutOfMemory` where there is no room for it.
+    /// Returns `OutOfMemory` where there is no room for it.
     fn load(alloc: Global, doc: &SumDoc) -> Result<Grid, OutOfMemory>
         requires { IsValidSummary doc.now }
         ensures sound { IfOk result IsSound }
@@ -90,7 +90,7 @@ impl Grid {
 
     /// Writes the cells of a summary, each on the unremoved row and column at its places.
     ///
-    /// Answers `OutOfMemory` where there is no room for them.
+    /// Returns `OutOfMemory` where there is no room for them.
     fn load_cells(&mut self, cells: &[CellRec]) -> Result<(), OutOfMemory>
         requires usable { IsTrue self.old.rows.tree.usable × IsTrue self.old.cols.tree.usable }
         ensures { OnOk result (LoadsCells cells.now self.old self.new) }
@@ -104,7 +104,7 @@ impl Grid {
 
 /// Writes a cell of a summary on the unremoved row and column at its places, unless that has a value already.
 ///
-/// Answers `OutOfMemory` where there is no room for it.
+/// Returns `OutOfMemory` where there is no room for it.
 fn load_cell(
     cells: &mut Cells,
     rows: &Vector,
@@ -127,9 +127,9 @@ fn load_cell(
     cells.set_acked(row, col, cell.value.copy()?)
 }
 
-/// Puts the units of runs at the end of a vector, and answers how many they are.
+/// Puts the units of runs at the end of a vector, and returns how many they are.
 ///
-/// Answers `OutOfMemory` where there is no room for them.
+/// Returns `OutOfMemory` where there is no room for them.
 fn load_units(units: &mut Vector, runs: &[RunRec]) -> Result<u64, OutOfMemory>
     requires sound { IsSoundVector units.old }
     requires some { list_all (λ run. nat_le 1 run.count) runs.now ≡ true }
@@ -147,7 +147,7 @@ fn load_units(units: &mut Vector, runs: &[RunRec]) -> Result<u64, OutOfMemory>
 
 /// Puts the units of a run at the end of a vector.
 ///
-/// Answers `OutOfMemory` where there is no room for them.
+/// Returns `OutOfMemory` where there is no room for them.
 fn load_run(units: &mut Vector, run: &RunRec) -> Result<(), OutOfMemory>
     requires sound { IsSoundVector units.old }
     requires some { 1 ≤ run.now.count }
@@ -173,7 +173,7 @@ fn stamp_of(mark: Mark) -> Stamp
 
 /// Marks as stamps.
 ///
-/// Answers `OutOfMemory` where there is no room for them.
+/// Returns `OutOfMemory` where there is no room for them.
 fn stamps_of(alloc: Global, marks: &[Mark]) -> Result<Stamps, OutOfMemory>
     ensures { IfOk result (λ stamps. stamps ≡ map stamp_of marks.now) }
 {
@@ -186,7 +186,7 @@ fn stamps_of(alloc: Global, marks: &[Mark]) -> Result<Stamps, OutOfMemory>
 
 /// The stamps of the units of a run.
 ///
-/// Answers `OutOfMemory` where there is no room for them.
+/// Returns `OutOfMemory` where there is no room for them.
 fn element_of(alloc: Global, run: &RunRec) -> Result<Element, OutOfMemory>
     ensures { IfOk result (λ e. e ≡ run_stamps run.now) }
 {

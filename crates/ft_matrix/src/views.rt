@@ -27,7 +27,7 @@ impl SharedMatrix {
     /// Fills what a view shows of the table: how many rows and columns are seen, and their cells that have a value. It goes to
     /// the seen leaves and to the cells, never to each crossing of a row and a column.
     ///
-    /// Answers `OutOfMemory` where there is no room for the cells, and then a part may be filled.
+    /// Returns `OutOfMemory` where there is no room for the cells, and then a part may be filled.
     pub fn view(&self, out: &mut View) -> Result<(), OutOfMemory>
         requires usable { IsTrue self.now.usable }
         requires settled { self.now.given ≡ 0 }
@@ -44,7 +44,7 @@ impl SharedMatrix {
 impl Grid {
     /// The cells that are shown, by rising row and column.
     ///
-    /// Answers `OutOfMemory` where there is no room for them.
+    /// Returns `OutOfMemory` where there is no room for them.
     pub fn shown_cells(&self, alloc: Global) -> Result<CellRecs, OutOfMemory>
         requires { IsSound self.now }
         ensures { IfOk result (λ cells. cells ≡ shown_cells self.now) }
@@ -58,7 +58,7 @@ impl Grid {
 
 /// Puts the shown value of a cell at its place, if it has one and its row and its column are seen.
 ///
-/// Answers `OutOfMemory` where there is no room for it.
+/// Returns `OutOfMemory` where there is no room for it.
 fn place_cell(
     cells: &Cells,
     rows: &SeenRuns,
@@ -84,7 +84,7 @@ fn place_cell(
 
 /// The shown values of cells by their places.
 ///
-/// Answers `OutOfMemory` where there is no room for them.
+/// Returns `OutOfMemory` where there is no room for them.
 fn placed_cells(
     alloc: Global,
     cells: &Cells,
@@ -103,7 +103,7 @@ fn placed_cells(
 
 /// Values at places as cells, by rising row and column.
 ///
-/// Answers `OutOfMemory` where there is no room for them.
+/// Returns `OutOfMemory` where there is no room for them.
 fn listed(alloc: Global, placed: BTreeMap<(u64, u64), ValText>) -> Result<CellRecs, OutOfMemory>
     ensures cells { IfOk result (λ cells. cells ≡ map cell_of placed.entries) }
     ensures ordered { IfOk result (λ cells. tree.IsOrdered place_cmp placed) }

@@ -1,5 +1,5 @@
 -- What a replica answers that stands for a client, and what it stands for afterwards. A replica is any implementation of a
--- client, with trees or with plain lists. It stops at the first want of memory in a call that changes it: nothing is said of
+-- client, with trees or with plain lists. It stops at the first OutOfMemory in a call that changes it: nothing is said of
 -- its document from then on, and every later change is answered by that stop.
 use Rattle.std.specs.Prelude.{◌≡◌, ℕ, ◌+◌, true, not, ⊤, Option, Some, None, Result, Ok, Err, List, [], fold, length, max, min}
 use Rattle.std.specs.List.{list_all}
@@ -194,7 +194,7 @@ view_content v = record {
 }
 
 -- what a replica shows, which is the same for each client that it stands for: P of that client; that it stopped, exactly where
--- it did; or want of memory
+-- it did; or OutOfMemory
 abbrev pub AnswersRead : {A : Type 0} → (A → NaiveClient → Type 0) → ReplicaState → Result A ViewFault → Type 0
 AnswersRead P r (Ok v) = (r.stop ≡ None) × ((x : NaiveClient) → IsReached x → StandsFor r.client x → P v x)
 AnswersRead P r (Err viewing.OutOfMemory) = r.stop ≡ None
@@ -208,7 +208,7 @@ pub record SummarizesReplica (sum : SumDoc) (names : List Characters) (r : Repli
   pub doc : (x : NaiveClient) → IsReached x → StandsFor r.client x → Summarizes sum names r.origin x.doc
 
 -- the answer to a request for a summary: the summary; that it stopped, exactly where it did; how many edits are pending,
--- exactly where some are; or want of memory
+-- exactly where some are; or OutOfMemory
 abbrev pub AnswersSummary : List Characters → ReplicaState → Result SumDoc SummaryFault → Type 0
 AnswersSummary names r (Ok sum) = SummarizesReplica sum names r
 AnswersSummary names r (Err summing.OutOfMemory) = r.stop ≡ None

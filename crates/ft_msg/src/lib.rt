@@ -1,6 +1,6 @@
 //! Messages, drafts, views, and what a client is.
 //!
-//! A call that can't answer `OutOfMemory` takes no memory.
+//! A call that can't return `OutOfMemory` takes no memory.
 #![tactic(auto)]
 
 mod contents;

@@ -41,7 +41,7 @@ impl Names {
 
     /// The number of the name, a new one where it has none yet.
     ///
-    /// Answers `OutOfMemory` where there is no room for a new name, and then nothing changed.
+    /// Returns `OutOfMemory` where there is no room for a new name, and then nothing changed.
     pub fn number(&mut self, name: &Text) -> Result<u32, OutOfMemory>
         requires { ¬ Contains self.old name.now → length self.old < 2 ^ 32 - 1 }
         ensures ok { IfOk result (λ n. n ≡ number_of self.old name.now) }
@@ -73,7 +73,7 @@ impl Names {
 
     /// The first names, so many of them, or all where there are fewer.
     ///
-    /// Answers `OutOfMemory` where there is no room for them.
+    /// Returns `OutOfMemory` where there is no room for them.
     pub fn first(&self, count: u32) -> Result<Texts, OutOfMemory>
         ensures { IfOk result (λ names. names ≡ take count self.now) }
     {

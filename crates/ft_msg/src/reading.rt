@@ -17,7 +17,7 @@ use std::alloc::Global;
 
 /// The sequenced message that the bytes are.
 ///
-/// What is read is well formed. Answers the first fault in the order in which its fields are tested,
+/// What is read is well formed. Returns the first fault in the order in which its fields are tested,
 /// and `OutOfMemory` where there is no room for it.
 #[tactic(auto, unfolding(crate::specs::MessageGrammar::message))]
 pub fn read_message(alloc: Global, bytes: &[u8]) -> Result<Message, Cause>
@@ -106,7 +106,7 @@ fn read_body(alloc: Global, kind: &MsgKind, value: &Value) -> Result<Body, Cause
 
 /// The draft that the bytes are.
 ///
-/// What is read is well formed. Answers the first fault in the order in which its fields are tested,
+/// What is read is well formed. Returns the first fault in the order in which its fields are tested,
 /// and `OutOfMemory` where there is no room for it.
 #[tactic(auto, unfolding(crate::specs::MessageGrammar::draft))]
 pub fn read_draft(alloc: Global, bytes: &[u8]) -> Result<Draft, Cause>

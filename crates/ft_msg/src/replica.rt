@@ -44,14 +44,14 @@ pub trait Replica: Sized {
 
     /// An offline client at number 0 with an empty document.
     ///
-    /// Answers `OutOfMemory` where there is no room for it.
+    /// Returns `OutOfMemory` where there is no room for it.
     fn start(alloc: Global) -> Result<Self, OutOfMemory>
         ensures { IfOk result (λ r. StartsOver (state r) empty 0) };
 
     /// An offline client over the document of a summary, at its numbers. It stands for a client over
     /// each document whose summary it is.
     ///
-    /// Answers `OutOfMemory` where there is no room for it.
+    /// Returns `OutOfMemory` where there is no room for it.
     fn from_summary(alloc: Global, doc: &SumDoc) -> Result<Self, OutOfMemory>
         requires { IsValidSummary doc.now }
         ensures starts { IfOk result (λ r. StartsOver (state r) (doc_of doc.now) (length doc.now.conns)) }
@@ -60,7 +60,7 @@ pub trait Replica: Sized {
 
     /// Takes an edit of the client's own, which shows at once; online it also queues its message.
     ///
-    /// Answers `IdInUse` exactly where a new interval's id is in its label; `NoSuchInterval` exactly
+    /// Returns `IdInUse` exactly where a new interval's id is in its label; `NoSuchInterval` exactly
     /// where the id of a changed or deleted one isn't; `OutOfRange` exactly where a position isn't
     /// allowed, each sub-operation in the view that the ones before it leave; and `OutOfMemory` where
     /// there is no room, after which the client has stopped.
@@ -70,7 +70,7 @@ pub trait Replica: Sized {
 
     /// Processes the next message.
     ///
-    /// Answers `OutOfOrder` exactly where it isn't the next one; then `BadNumbers` exactly where its
+    /// Returns `OutOfOrder` exactly where it isn't the next one; then `BadNumbers` exactly where its
     /// reference number or its minimum contradicts what the client keeps; then `NotSent` exactly where
     /// it comes from one of the client's connections and isn't the oldest pending edit as it was sent;
     /// and `OutOfMemory` where there is no room, after which the client has stopped.
@@ -80,21 +80,21 @@ pub trait Replica: Sized {
 
     /// Begins to join under a new connection.
     ///
-    /// Answers `AlreadyConnected` exactly where the client isn't offline, and `OutOfMemory` where there
+    /// Returns `AlreadyConnected` exactly where the client isn't offline, and `OutOfMemory` where there
     /// is no room, after which the client has stopped.
     fn connect(&mut self, conn: u32) -> Result<(), LinkFault>
         ensures { Answers link_fault_kind 0 (λ x. connect x conn) (state self.old) (state self.new) result };
 
     /// Goes offline; the messages that it didn't send are gone.
     ///
-    /// Answers `NotConnected` exactly where the client is offline.
+    /// Returns `NotConnected` exactly where the client is offline.
     fn drop_link(&mut self) -> Result<(), LinkFault>
         ensures answers { Answers link_fault_kind 0 drop_link (state self.old) (state self.new) result }
         ensures memory { ¬ (result ≡ Err LinkFault.OutOfMemory) };
 
     /// Queues a message that tells the client's number alone.
     ///
-    /// Answers `NotConnected` exactly where the client isn't online, and `OutOfMemory` where there is no
+    /// Returns `NotConnected` exactly where the client isn't online, and `OutOfMemory` where there is no
     /// room, after which the client has stopped.
     fn noop(&mut self) -> Result<(), LinkFault>
         ensures { Answers link_fault_kind 0 noop (state self.old) (state self.new) result };
@@ -121,7 +121,7 @@ pub trait Replica: Sized {
 
     /// What the client shows.
     ///
-    /// Answers `Stopped` exactly where the client has stopped, and `OutOfMemory` where there is no room
+    /// Returns `Stopped` exactly where the client has stopped, and `OutOfMemory` where there is no room
     /// for the view.
     fn view(&self) -> Result<View, ViewFault>
         ensures numbers { IfOk result (λ v. v.numbers ≡ numbers_of (state self.now)) }
@@ -129,7 +129,7 @@ pub trait Replica: Sized {
 
     /// The summary of the client's document, with the names of the connections in it.
     ///
-    /// Answers `Stopped` exactly where the client has stopped; then `Pending` exactly where edits are
+    /// Returns `Stopped` exactly where the client has stopped; then `Pending` exactly where edits are
     /// pending; and `OutOfMemory` where there is no room for the summary.
     fn summary(&self, names: &Names) -> Result<SumDoc, SummaryFault>
         requires { (state self.now).origin ≤ length names.now }
@@ -137,21 +137,21 @@ pub trait Replica: Sized {
 
     /// Takes away what nobody can see any more, which changes nothing that the client shows.
     ///
-    /// Answers `OutOfMemory` where there is no room, after which the client has stopped.
+    /// Returns `OutOfMemory` where there is no room, after which the client has stopped.
     fn compact(&mut self) -> Result<(), ViewFault>
         ensures answers { Answers view_fault_kind 0 (λ x. Ok x) (state self.old) (state self.new) result }
         ensures full { IsTrue COMPACTS → OnOk result (IsFullyCompacted (state self.new).client) };
 
     /// Who inserted each visible character of the text and each visible marker, in order.
     ///
-    /// Answers `Stopped` exactly where the client has stopped, and `OutOfMemory` where there is no room
+    /// Returns `Stopped` exactly where the client has stopped, and `OutOfMemory` where there is no room
     /// for them.
     fn attribution(&self) -> Result<Attribution, ViewFault>
         ensures { AnswersRead (λ origins x. origins ≡ blame x) (state self.now) result };
 
     /// The shown intervals of the label that meet the places from `a` to `b`, by rising id.
     ///
-    /// Answers `Stopped` exactly where the client has stopped, and `OutOfMemory` where there is no room
+    /// Returns `Stopped` exactly where the client has stopped, and `OutOfMemory` where there is no room
     /// for them.
     fn overlapping(&self, label: &Text, a: u64, b: u64) -> Result<Vec<IntervalRec>, ViewFault>
         requires { a ≤ b }

@@ -17,7 +17,7 @@ use std::alloc::Global;
 
 /// The operation of the grid that the value is.
 ///
-/// What is read is well formed. Answers the first fault in the order in which its fields are tested,
+/// What is read is well formed. Returns the first fault in the order in which its fields are tested,
 /// and `OutOfMemory` where there is no room for it.
 #[tactic(auto, unfolding(crate::specs::GridGrammar::grid_op))]
 pub fn read_grid_op(alloc: Global, value: &Value) -> Result<GridOp, OpFault>

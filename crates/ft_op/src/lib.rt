@@ -1,6 +1,6 @@
 //! Operations on the text, its intervals and the grid.
 //!
-//! A call that can't answer `OutOfMemory` takes no memory.
+//! A call that can't return `OutOfMemory` takes no memory.
 #![tactic(auto)]
 
 mod adjustments;

@@ -61,7 +61,7 @@ impl Index {
     /// The keys of the items whose start's place is at most `b` and whose end's place is at least `a`, in
     /// the order of the items. The index is in order by these places, which know both ends of each item.
     ///
-    /// Answers `OutOfMemory` where there is no room for the keys.
+    /// Returns `OutOfMemory` where there is no room for the keys.
     pub fn query<P: Places, G: Ledger>(
         &self,
         a: i64,
@@ -93,7 +93,7 @@ impl Index {
     /// Puts an item in, behind those whose start's place isn't above that of its own. The index is in order
     /// by these places, which know all ends, and stays so. No item has this key yet.
     ///
-    /// Answers `OutOfMemory` where there is no room for it, and then the index is as it was.
+    /// Returns `OutOfMemory` where there is no room for it, and then the index is as it was.
     pub fn insert<P: Places>(&mut self, item: Item, at: &P) -> Result<(), OutOfMemory>
         requires known { AreKnown (P.Knows at.now) (item ∷ self.old.items) }
         requires order { IsInOrder (P.place_of at.now) self.old }
@@ -107,7 +107,7 @@ impl Index {
         Ok(())
     }
 
-    /// Takes the item with this key out, and answers it: None exactly where there is none. No other item
+    /// Takes the item with this key out, and returns it: None exactly where there is none. No other item
     /// changes. The index is in order by these places, which know all ends, and stays so. It takes no memory.
     pub fn remove<P: Places>(&mut self, key: u64, at: &P) -> Option<Item>
         requires known { AreKnown (P.Knows at.now) self.old.items }

@@ -163,7 +163,7 @@ fn push_but(
 /// Adds at the end what `len` elements of these stamps count from the floor up, besides what all see of
 /// them in the end.
 ///
-/// Answers `OutOfMemory` where there is no room.
+/// Returns `OutOfMemory` where there is no room.
 pub fn push_item(
     entries: &mut Vec<Entry>,
     floor: u64,

@@ -83,7 +83,7 @@ impl Table {
     /// Adds `len` elements that connection `conn` inserted at the sequence number `seq`, and nobody
     /// removed.
     ///
-    /// Answers `OutOfMemory` where there is no room, and then the table is as it was.
+    /// Returns `OutOfMemory` where there is no room, and then the table is as it was.
     pub fn insert(&mut self, seq: u64, conn: u32, len: u64) -> Result<(), OutOfMemory>
         ensures ok { OnOk result ((xs : List Item) → CountsItems self.old xs → CountsItems self.new (item_of (inserted_element seq conn) len ∷ xs)) }
         ensures adds { OnOk result (Adds self.old self.new (inserted_element seq conn) len) }
@@ -99,7 +99,7 @@ impl Table {
 
     /// Adds `len` elements of the stamps `e`, of which pending ones have occurred for nobody.
     ///
-    /// Answers `OutOfMemory` where there is no room, and then the table is as it was.
+    /// Returns `OutOfMemory` where there is no room, and then the table is as it was.
     pub fn add(&mut self, e: &Element, len: u64) -> Result<(), OutOfMemory>
         ensures ok { OnOk result ((xs : List Item) → CountsItems self.old xs → CountsItems self.new (item_of e.now len ∷ xs)) }
         ensures adds { OnOk result (Adds self.old self.new e.now len) }
@@ -113,7 +113,7 @@ impl Table {
     /// of the stamps `e`, of which the items have that many. An insertion at or below the floor may
     /// stand in `e` as it was or as (0, 0), as it does in the items.
     ///
-    /// Answers `OutOfMemory` where there is no room, and then the table is as it was.
+    /// Returns `OutOfMemory` where there is no room, and then the table is as it was.
     pub fn remove(&mut self, e: &Element, seq: u64, conn: u32, len: u64) -> Result<(), OutOfMemory>
         ensures ok { OnOk result ((xs ys : List Item) → CountsItems self.old xs → ExchangesItem xs ys e.now len (removed seq conn e.now) len → CountsItems self.new ys) }
         ensures exchanges { OnOk result (Exchanges self.old self.new e.now len (removed seq conn e.now) len) }
@@ -128,7 +128,7 @@ impl Table {
     /// Puts `new_len` elements of the stamps `new` in the place of `len` elements of the stamps `e`,
     /// of which the items have that many.
     ///
-    /// Answers `OutOfMemory` where there is no room, and then the table is as it was.
+    /// Returns `OutOfMemory` where there is no room, and then the table is as it was.
     pub fn replace(
         &mut self,
         e: &Element,
@@ -165,7 +165,7 @@ impl Table {
     /// Adds all items of another table, where its floor isn't above this one's: each of its
     /// entries is put in, and moves those that are newer.
     ///
-    /// Answers `OutOfMemory` where there is no room, and then the table is as it was.
+    /// Returns `OutOfMemory` where there is no room, and then the table is as it was.
     pub fn add_all(&mut self, other: &Table) -> Result<(), OutOfMemory>
         ensures ok { OnOk result ((xs ys : List Item) → other.now.floor ≤ self.old.floor → CountsItems self.old xs → CountsItems other.now ys → CountsItems self.new (ys ++ xs)) }
         ensures adds { OnOk result (AddsAll self.old other.now self.new) }

@@ -33,7 +33,7 @@ pub fn take_front(free: &mut Vec<Handles>, i: usize, count: u64) -> Handles
 
 /// Adds a run in its place, and joins it with the runs that it meets.
 ///
-/// Answers `OutOfMemory` where there is no room for it, and then the runs are as they were.
+/// Returns `OutOfMemory` where there is no room for it, and then the runs are as they were.
 pub fn give_back(free: &mut Vec<Handles>, run: Handles) -> Result<(), OutOfMemory>
     ensures ok { OnOk result ((h : ℕ) → times_held h free.new.items ≡ times_held h free.old.items + one_more_if (in_run h run) 0) }
     ensures err { OnErr result (free.new.items ≡ free.old.items) }

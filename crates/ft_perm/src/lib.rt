@@ -1,6 +1,6 @@
 //! Permutation vectors: for each row or column of a table a handle, which stays the same while others come and go.
 //!
-//! A call that can't answer `OutOfMemory` takes no memory.
+//! A call that can't return `OutOfMemory` takes no memory.
 #![tactic(auto)]
 
 mod free;

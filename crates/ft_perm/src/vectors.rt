@@ -109,7 +109,7 @@ impl Vector {
     }
 
     /// Hands out `count` handles in one run, at least one: the first free run that has as many gives them, else they are
-    /// fresh. It answers Ok always.
+    /// fresh. It returns Ok always.
     pub fn alloc_run(&mut self, count: u64) -> Result<Handles, OutOfMemory>
         requires some { 1 ≤ count }
         requires fits { self.old.next + count ≤ max_safe_integer }
@@ -131,7 +131,7 @@ impl Vector {
 
     /// Takes handles back that are in use and stand in no element of the tree: they are free then.
     ///
-    /// Answers `OutOfMemory` where there is no room for the run, and then the vector is as it was.
+    /// Returns `OutOfMemory` where there is no room for the run, and then the vector is as it was.
     pub fn recycle(&mut self, run: Handles) -> Result<(), OutOfMemory>
         requires { (h : ℕ) → in_run h run ≡ true → in_use self.old h ≡ true }
         ensures used { OnOk result ((h : ℕ) → in_use self.new h ≡ (in_use self.old h && not (in_run h run))) }

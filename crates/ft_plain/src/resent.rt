@@ -20,7 +20,7 @@ use std::collections::VecDeque;
 /// The edits as they are sent again, of which each has so many of the stages; the stages that go on are
 /// added to `carried`.
 ///
-/// Answers `OutOfMemory` where there is no room for them, or there are fewer stages.
+/// Returns `OutOfMemory` where there is no room for them, or there are fewer stages.
 pub fn resend(
     doc: &PlainDocument,
     counts: &[usize],
@@ -45,7 +45,7 @@ pub fn resend(
 
 /// The edit with these stages as it is sent again; the stages that go on are added to `carried`.
 ///
-/// Answers `OutOfMemory` where there is no room for them.
+/// Returns `OutOfMemory` where there is no room for them.
 fn resend_edit(
     doc: &PlainDocument,
     stages: &[PlainStage],
@@ -64,7 +64,7 @@ fn resend_edit(
 
 /// The numbers of the stages.
 ///
-/// Answers `OutOfMemory` where there is no room for them.
+/// Returns `OutOfMemory` where there is no room for them.
 pub fn stage_numbers(alloc: Global, stages: &[PlainStage]) -> Result<Vec<u64>, OutOfMemory>
     ensures { IfOk result (λ v. v.items ≡ map (λ t. t.stage) stages.now) }
 {
@@ -77,7 +77,7 @@ pub fn stage_numbers(alloc: Global, stages: &[PlainStage]) -> Result<Vec<u64>, O
 
 /// The pieces of the stages.
 ///
-/// Answers `OutOfMemory` where there is no room for them.
+/// Returns `OutOfMemory` where there is no room for them.
 fn edit_pieces(doc: &PlainDocument, stages: &[PlainStage]) -> Result<VecDeque<SubOp>, OutOfMemory>
     ensures { IfOk result (λ v. map sub_operation_of v.items ≡ flat_map (pieces doc.now) stages.now) }
 {
@@ -91,7 +91,7 @@ fn edit_pieces(doc: &PlainDocument, stages: &[PlainStage]) -> Result<VecDeque<Su
 
 /// The stages as they go on.
 ///
-/// Answers `OutOfMemory` where there is no room for them.
+/// Returns `OutOfMemory` where there is no room for them.
 fn carried_stages(doc: &PlainDocument, stages: &[PlainStage]) -> Result<PlainStages, OutOfMemory>
     ensures { IfOk result (λ v. v ≡ flat_map (carried_stage doc.now) stages.now) }
 {
@@ -106,7 +106,7 @@ fn carried_stages(doc: &PlainDocument, stages: &[PlainStage]) -> Result<PlainSta
 
 /// The stage as it goes on: gone without a piece; an interval operation with its ends settled.
 ///
-/// Answers `OutOfMemory` where there is no room for it.
+/// Returns `OutOfMemory` where there is no room for it.
 fn carried_stage(doc: &PlainDocument, stage: &PlainStage) -> Result<Option<PlainStage>, OutOfMemory>
     ensures { IfOk result (λ carried. option_to_list carried ≡ carried_stage doc.now stage.now) }
 {
@@ -122,7 +122,7 @@ fn carried_stage(doc: &PlainDocument, stage: &PlainStage) -> Result<Option<Plain
 
 /// The operation that pieces make: one piece bare, several as a group, none for none.
 ///
-/// Answers `OutOfMemory` where there is no room for it.
+/// Returns `OutOfMemory` where there is no room for it.
 fn op_of(alloc: Global, mut pieces: VecDeque<SubOp>) -> Result<Option<ChannelOp>, OutOfMemory>
     ensures { IfOk result (λ op. op ≡ op_of (map sub_operation_of pieces.items)) }
 {

@@ -1,4 +1,4 @@
--- What a document answers to the client's own sub-operations. Of the document after want of memory the answers say nothing.
+-- What a document answers to the client's own sub-operations. Of the document after OutOfMemory the answers say nothing.
 use Rattle.std.specs.Prelude.{◌≡◌, ⊤, List, ◌++◌, Result, Ok, Err}
 use Rattle.ft_msg.specs.declared.faults.EditFault.{EditFault}
 use Rattle.ft_op.specs.Document.{Document}

@@ -145,7 +145,7 @@ impl PlainDocument {
 
     /// Takes an entry.
     ///
-    /// Answers `OutOfMemory` where there is no room, the count of skipped sub-operations or that of
+    /// Returns `OutOfMemory` where there is no room, the count of skipped sub-operations or that of
     /// messages for others would pass 2^64 - 1, or that of the elements of a list 2^53 - 1, and then
     /// nothing is said of the document.
     pub fn take(&mut self, entry: &Entry) -> Result<(), OutOfMemory>
@@ -196,7 +196,7 @@ impl PlainDocument {
 
     /// Counts a sub-operation that is out of range.
     ///
-    /// Answers `OutOfMemory` where the count would pass 2^64 - 1, and then nothing changed.
+    /// Returns `OutOfMemory` where the count would pass 2^64 - 1, and then nothing changed.
     fn skip(&mut self) -> Result<(), OutOfMemory>
         ensures ok { OnOk result (self.new ≡ with_skip self.old) }
         ensures err { OnErr result (self.new ≡ self.old) }

@@ -35,7 +35,7 @@ impl Renaming {
 
     /// Adds a stage in whose list `made` elements were sequenced before.
     ///
-    /// Answers `OutOfMemory` where there is no room for it, and then nothing changed.
+    /// Returns `OutOfMemory` where there is no room for it, and then nothing changed.
     pub fn push(&mut self, stage: u64, made: u64) -> Result<(), OutOfMemory>
         ensures ok { OnOk result (self.new ≡ self.old ++ (stage, made) ∷ []) }
         ensures err { OnErr result (self.new ≡ self.old) }
@@ -46,7 +46,7 @@ impl Renaming {
 
     /// The new name of an element.
     ///
-    /// Answers `OutOfMemory` where its number would pass 2^64 - 1.
+    /// Returns `OutOfMemory` where its number would pass 2^64 - 1.
     fn name(&self, name: ElementName) -> Result<ElementName, OutOfMemory>
         ensures { IfOk result (λ new. new ≡ renaming_of self.now name) }
     {
@@ -59,7 +59,7 @@ impl Renaming {
 
     /// The new name of an element, if one is named.
     ///
-    /// Answers `OutOfMemory` where its number would pass 2^64 - 1.
+    /// Returns `OutOfMemory` where its number would pass 2^64 - 1.
     fn given_name(&self, name: Option<ElementName>) -> Result<Option<ElementName>, OutOfMemory>
         ensures { IfOk result (λ new. new ≡ renamed (renaming_of self.now) name) }
     {
@@ -71,7 +71,7 @@ impl Renaming {
 
     /// Both elements by their new names.
     ///
-    /// Answers `OutOfMemory` where a number would pass 2^64 - 1.
+    /// Returns `OutOfMemory` where a number would pass 2^64 - 1.
     pub fn names(&self, names: &ElementNames) -> Result<ElementNames, OutOfMemory>
         ensures { IfOk result (λ new. new ≡ renamed_names (renaming_of self.now) names.now) }
     {

@@ -28,7 +28,7 @@ pub enum SubOp {
 impl SubOp {
     /// An equal sub-operation.
     ///
-    /// Answers `OutOfMemory` where there is no room for it.
+    /// Returns `OutOfMemory` where there is no room for it.
     fn copy(&self) -> Result<SubOp, OutOfMemory>
         ensures { IfOk result (λ copy. copy ≡ self.now) }
     {
@@ -42,7 +42,7 @@ impl SubOp {
 
 /// The sub-operations of an operation, in order.
 ///
-/// Answers `OutOfMemory` where there is no room for them.
+/// Returns `OutOfMemory` where there is no room for them.
 pub fn sub_operations(alloc: Global, op: &ChannelOp) -> Result<VecDeque<SubOp>, OutOfMemory>
     ensures { IfOk result (λ v. map sub_operation_of v.items ≡ sub_operations op.now) }
 {
@@ -57,7 +57,7 @@ pub fn sub_operations(alloc: Global, op: &ChannelOp) -> Result<VecDeque<SubOp>, 
 
 /// One sub-operation alone.
 ///
-/// Answers `OutOfMemory` where there is no room for it.
+/// Returns `OutOfMemory` where there is no room for it.
 pub fn one(alloc: Global, op: SubOp) -> Result<VecDeque<SubOp>, OutOfMemory>
     ensures { IfOk result (λ v. v.items ≡ op ∷ []) }
 {
@@ -68,7 +68,7 @@ pub fn one(alloc: Global, op: SubOp) -> Result<VecDeque<SubOp>, OutOfMemory>
 
 /// The sub-operations of a group of the text.
 ///
-/// Answers `OutOfMemory` where there is no room for them.
+/// Returns `OutOfMemory` where there is no room for them.
 fn text_group(alloc: Global, group: &[BaseOp]) -> Result<VecDeque<SubOp>, OutOfMemory>
     ensures { IfOk result (λ v. map sub_operation_of v.items ≡ map (λ op. OnText op) group.now) }
 {
@@ -81,7 +81,7 @@ fn text_group(alloc: Global, group: &[BaseOp]) -> Result<VecDeque<SubOp>, OutOfM
 
 /// The sub-operations of a group of the grid.
 ///
-/// Answers `OutOfMemory` where there is no room for them.
+/// Returns `OutOfMemory` where there is no room for them.
 fn grid_group(alloc: Global, group: &[CellOp]) -> Result<VecDeque<SubOp>, OutOfMemory>
     ensures { IfOk result (λ v. map sub_operation_of v.items ≡ map (λ op. OnGrid op) group.now) }
 {
@@ -123,7 +123,7 @@ impl PlainStage {
 
     /// An equal stage, but for the elements that it names.
     ///
-    /// Answers `OutOfMemory` where there is no room for it.
+    /// Returns `OutOfMemory` where there is no room for it.
     pub fn copy_with(&self, names: ElementNames) -> Result<PlainStage, OutOfMemory>
         ensures { IfOk result (λ copy. copy ≡ record self.now { names = names }) }
     {
@@ -150,7 +150,7 @@ impl PlainStage {
 
     /// Gives the elements that its sub-operation names their new names.
     ///
-    /// Answers `OutOfMemory` where a number would pass 2^64 - 1, and then nothing changed.
+    /// Returns `OutOfMemory` where a number would pass 2^64 - 1, and then nothing changed.
     pub fn rename(&mut self, renaming: &Renaming) -> Result<(), OutOfMemory>
         ensures { OnOk result (self.new ≡ renamed_stage (renaming_of renaming.now) self.old) }
     {
@@ -171,7 +171,7 @@ pub type PlainStages = List<PlainStage>;
 
 /// Gives the elements that each stage names their new names.
 ///
-/// Answers `OutOfMemory` where a number would pass 2^64 - 1.
+/// Returns `OutOfMemory` where a number would pass 2^64 - 1.
 pub fn renamed_stages(stages: PlainStages, renaming: &Renaming) -> Result<PlainStages, OutOfMemory>
     ensures { IfOk result (λ new. new ≡ map (renamed_stage (renaming_of renaming.now)) stages) }
 {

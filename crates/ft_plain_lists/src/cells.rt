@@ -66,7 +66,7 @@ impl PlainCells {
 
     /// Writes the value to the cell of that row and column; null takes the cell out.
     ///
-    /// Answers `OutOfMemory` where there is no room for it, and then nothing changed.
+    /// Returns `OutOfMemory` where there is no room for it, and then nothing changed.
     pub fn write(
         &mut self,
         row: ElementName,
@@ -93,7 +93,7 @@ impl PlainCells {
 
     /// Puts the cell in place of the one of its row and column, or behind all.
     ///
-    /// Answers `OutOfMemory` where there is no room for it, and then nothing changed.
+    /// Returns `OutOfMemory` where there is no room for it, and then nothing changed.
     fn put(&mut self, cell: PlainCell) -> Result<(), OutOfMemory>
         ensures ok { OnOk result (self.new ≡ put_cell cell self.old) }
         ensures err { OnErr result (self.new ≡ self.old) }

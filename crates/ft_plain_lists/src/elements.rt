@@ -31,7 +31,7 @@ pub enum Content {
 
 /// The characters of the text as contents.
 ///
-/// Answers `OutOfMemory` where there is no room for them.
+/// Returns `OutOfMemory` where there is no room for them.
 pub fn characters(alloc: Global, text: &str) -> Result<Vec<Content>, OutOfMemory>
     ensures { IfOk result (λ v. v.items ≡ map (λ c. Content.Character c) (chars text.now)) }
 {
@@ -152,7 +152,7 @@ impl PlainElement {
 
     /// Adds a removal under number `seq` by connection `conn`.
     ///
-    /// Answers `OutOfMemory` where there is no room for it, and then nothing changed.
+    /// Returns `OutOfMemory` where there is no room for it, and then nothing changed.
     pub fn remove(&mut self, seq: u64, conn: u32) -> Result<(), OutOfMemory>
         ensures ok { OnOk result (self.new ≡ with_removal seq conn self.old) }
         ensures err { OnErr result (self.new ≡ self.old) }
@@ -162,7 +162,7 @@ impl PlainElement {
 
     /// Makes the changes of its acknowledged properties.
     ///
-    /// Answers `OutOfMemory` where there is no room for what they make, and then nothing changed.
+    /// Returns `OutOfMemory` where there is no room for what they make, and then nothing changed.
     pub fn annotate(&mut self, changes: &Changes) -> Result<(), OutOfMemory>
         ensures ok { OnOk result (self.new ≡ with_annotation changes.now self.old) }
         ensures err { OnErr result (self.new ≡ self.old) }
@@ -173,7 +173,7 @@ impl PlainElement {
 
     /// Its acknowledged properties with its pending changes made in order of stage.
     ///
-    /// Answers `OutOfMemory` where there is no room for them.
+    /// Returns `OutOfMemory` where there is no room for them.
     pub fn shown_props(&self) -> Result<Props, OutOfMemory>
         ensures { IfOk result (λ props. props ≡ shown_props self.now.props self.now.pending) }
     {

@@ -112,7 +112,7 @@ impl PlainInterval {
 
     /// Gives it the ends, if an operation gives some, and applies the set to its properties.
     ///
-    /// Answers `OutOfMemory` where there is no room for its properties, and then nothing changed.
+    /// Returns `OutOfMemory` where there is no room for its properties, and then nothing changed.
     fn change(
         &mut self,
         ends: Option<Ends>,
@@ -189,7 +189,7 @@ impl PlainIntervals {
 
     /// Puts the interval in its place, instead of the one of its label and id if there is one.
     ///
-    /// Answers `OutOfMemory` where there is no room for it, and then nothing changed.
+    /// Returns `OutOfMemory` where there is no room for it, and then nothing changed.
     pub fn put(&mut self, interval: PlainInterval) -> Result<(), OutOfMemory>
         ensures ok { OnOk result (self.new ≡ put_rising interval_cmp interval self.old) }
         ensures err { OnErr result (self.new ≡ self.old) }
@@ -206,7 +206,7 @@ impl PlainIntervals {
     /// Gives the interval of that label and id, if it is there, the ends, if an operation gives some,
     /// and applies the set to its properties.
     ///
-    /// Answers `OutOfMemory` where there is no room for its properties, and then it may be changed or
+    /// Returns `OutOfMemory` where there is no room for its properties, and then it may be changed or
     /// not.
     pub fn change(
         &mut self,
@@ -235,7 +235,7 @@ impl PlainIntervals {
 
     /// Slides all ends.
     ///
-    /// Answers `OutOfMemory` where there is no room for a table of the elements, and then nothing changed.
+    /// Returns `OutOfMemory` where there is no room for a table of the elements, and then nothing changed.
     pub fn slide_ends(&mut self, items: &[PlainElement]) -> Result<(), OutOfMemory>
         ensures ok { OnOk result (self.new ≡ slide_ends items.now self.old) }
         ensures err { OnErr result (self.new ≡ self.old) }

@@ -1,7 +1,7 @@
 //! One list of elements in one `Vec`, removed elements included; intervals and cells over such lists, and
 //! what is shown of them.
 //!
-//! A call that can't answer `OutOfMemory` takes no memory.
+//! A call that can't return `OutOfMemory` takes no memory.
 #![tactic(auto)]
 
 pub mod cells;

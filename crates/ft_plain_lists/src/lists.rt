@@ -107,7 +107,7 @@ impl PlainList {
     /// Puts new elements with these properties in under number `seq` by the perspective's connection, directly
     /// after the `p`-th element that the perspective sees, but past the run of pending elements there.
     ///
-    /// Answers `OutOfMemory` where there is no room for them or the count of elements would pass
+    /// Returns `OutOfMemory` where there is no room for them or the count of elements would pass
     /// 2^53 - 1, and then the list is as it was.
     pub fn insert(
         &mut self,
@@ -134,7 +134,7 @@ impl PlainList {
 
     /// How many elements there were ever after so many more.
     ///
-    /// Answers `OutOfMemory` where they pass 2^53 - 1.
+    /// Returns `OutOfMemory` where they pass 2^53 - 1.
     fn made_with(&self, count: u64) -> Result<u64, OutOfMemory>
         ensures sum { IfOk result (λ made. made ≡ self.now.made + count) }
         ensures countable { IfOk result (λ made. made < 2 ^ 53) }
@@ -147,7 +147,7 @@ impl PlainList {
 
     /// Puts so many new units in as `insert` does.
     ///
-    /// Answers `OutOfMemory` where there is no room for them or the count of elements would pass
+    /// Returns `OutOfMemory` where there is no room for them or the count of elements would pass
     /// 2^53 - 1, and then the list is as it was.
     pub fn insert_units(
         &mut self,
@@ -168,7 +168,7 @@ impl PlainList {
     /// Gives a removal under number `seq` by the perspective's connection to each element that the
     /// perspective sees from the `p`-th up to before the `q`-th.
     ///
-    /// Answers `OutOfMemory` where there is no room for one, and then some may have theirs.
+    /// Returns `OutOfMemory` where there is no room for one, and then some may have theirs.
     pub fn remove(&mut self, p: u64, q: u64, seq: u64, at: Perspective) -> Result<(), OutOfMemory>
         ensures { OnOk result (self.new ≡ after_removal seq at.c at.r p q self.old) }
     {
@@ -179,7 +179,7 @@ impl PlainList {
     /// Makes the changes of the properties of each element that the perspective sees from the `p`-th
     /// up to before the `q`-th.
     ///
-    /// Answers `OutOfMemory` where there is no room for what they make, and then some may have theirs.
+    /// Returns `OutOfMemory` where there is no room for what they make, and then some may have theirs.
     pub fn annotate(
         &mut self,
         p: u64,
@@ -193,7 +193,7 @@ impl PlainList {
     }
 }
 
-/// Answers `OutOfMemory` where a list of so many elements can't take so many more: it would have
+/// Returns `OutOfMemory` where a list of so many elements can't take so many more: it would have
 /// more than 2^53 - 1.
 fn check_room(count: usize, more: usize) -> Result<(), OutOfMemory>
     requires { count < 2 ^ 53 }

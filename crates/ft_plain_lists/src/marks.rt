@@ -16,7 +16,7 @@ pub trait Mark {
 
     /// Puts the mark on the element.
     ///
-    /// Answers `OutOfMemory` where there is no room for it, and then nothing changed.
+    /// Returns `OutOfMemory` where there is no room for it, and then nothing changed.
     fn put_on(&self, e: &mut PlainElement) -> Result<(), OutOfMemory>
         ensures ok { OnOk result (e.new ≡ marked self.now e.old) }
         ensures err { OnErr result (e.new ≡ e.old) };

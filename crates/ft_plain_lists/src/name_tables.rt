@@ -27,7 +27,7 @@ pub struct NameTable<V: Copy + Drop> {
 impl<V: Copy + Drop> NameTable<V> {
     /// The same value for each sequenced element of the list.
     ///
-    /// Answers `OutOfMemory` where there is no room for that.
+    /// Returns `OutOfMemory` where there is no room for that.
     pub fn new(alloc: Global, items: &[PlainElement], value: V) -> Result<NameTable<V>, OutOfMemory>
         ensures { IfOk result (λ table. HasAnswers (λ x. value) table) }
     {
@@ -39,7 +39,7 @@ impl<V: Copy + Drop> NameTable<V> {
 
     /// Asks for a name too, if it is that of a pending element; so far it has the same value as all.
     ///
-    /// Answers `OutOfMemory` where there is no room for it.
+    /// Returns `OutOfMemory` where there is no room for it.
     pub fn ask(&mut self, name: Option<ElementName>, value: V) -> Result<(), OutOfMemory>
         requires { HasAnswers (λ x. value) self.old }
         ensures { OnOk result (HasAnswers (λ x. value) self.new) }
@@ -180,7 +180,7 @@ fn last_seen<T: ElementTest>(items: &[PlainElement], seen: T) -> Option<ElementN
 
 /// How long a table is that reaches to each sequenced element.
 ///
-/// Answers `OutOfMemory` where that would pass 2^64 - 1.
+/// Returns `OutOfMemory` where that would pass 2^64 - 1.
 fn table_length(items: &[PlainElement]) -> Result<usize, OutOfMemory> {
     let mut length: u64 = 0;
     for e in items {
@@ -193,7 +193,7 @@ fn table_length(items: &[PlainElement]) -> Result<usize, OutOfMemory> {
 
 /// A table of so many equal values.
 ///
-/// Answers `OutOfMemory` where there is no room for it.
+/// Returns `OutOfMemory` where there is no room for it.
 fn filled<V: Copy + Drop>(alloc: Global, value: V, count: usize) -> Result<Vec<V>, OutOfMemory>
     ensures { IfOk result (λ table. table.items ≡ replicate count value) }
 {

@@ -51,7 +51,7 @@ impl ElementName {
 
     /// The name after the stage was acknowledged in a list in which `made` elements were sequenced before.
     ///
-    /// Answers `OutOfMemory` where its number would pass 2^64 - 1.
+    /// Returns `OutOfMemory` where its number would pass 2^64 - 1.
     pub fn acked(self, stage: u64, made: u64) -> Result<ElementName, OutOfMemory>
         ensures { IfOk result (λ name. name ≡ acked_id stage made self) }
     {

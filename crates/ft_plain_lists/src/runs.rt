@@ -11,7 +11,7 @@ use std::alloc::Global;
 
 /// The maximal runs of marked elements among the seen ones, as places from up to before.
 ///
-/// Answers `OutOfMemory` where there is no room for them.
+/// Returns `OutOfMemory` where there is no room for them.
 pub fn marked_runs<T: ElementTest, M: ElementTest>(
     alloc: Global,
     items: &[PlainElement],
@@ -35,7 +35,7 @@ pub fn marked_runs<T: ElementTest, M: ElementTest>(
 
 /// Adds the place to the last run, if that ends there, or else as a run of its own.
 ///
-/// Answers `OutOfMemory` where there is no room for it.
+/// Returns `OutOfMemory` where there is no room for it.
 fn push_place(runs: &mut Vec<(u64, u64)>, place: u64) -> Result<(), OutOfMemory>
     requires { place + 1 < 2 ^ 64 }
     ensures { OnOk result (runs.new.items ≡ with_place runs.old.items place) }
@@ -55,7 +55,7 @@ fn push_place(runs: &mut Vec<(u64, u64)>, place: u64) -> Result<(), OutOfMemory>
 
 /// The runs, each lowered by the lengths of those before it, as after their removal.
 ///
-/// Answers `OutOfMemory` where there is no room for them, or their lengths pass 2^64 - 1.
+/// Returns `OutOfMemory` where there is no room for them, or their lengths pass 2^64 - 1.
 pub fn lowered_runs(alloc: Global, runs: &[(u64, u64)]) -> Result<Vec<(u64, u64)>, OutOfMemory>
     ensures { IfOk result (λ lowered. lowered.items ≡ lowered_runs 0 runs.now) }
 {

@@ -73,7 +73,7 @@ pub fn pending_run(items: &[PlainElement]) -> usize
 /// New elements with these contents and properties, numbered from `first` on, which nobody has removed
 /// or changed.
 ///
-/// Answers `OutOfMemory` where there is no room for them.
+/// Returns `OutOfMemory` where there is no room for them.
 pub fn new_elements(
     alloc: Global,
     first: u64,
@@ -98,7 +98,7 @@ pub fn new_elements(
 
 /// Puts the new elements in at place `i`.
 ///
-/// Answers `OutOfMemory` where there is no room for them, and then the list is as it was.
+/// Returns `OutOfMemory` where there is no room for them, and then the list is as it was.
 pub fn put_at(
     items: &mut Vec<PlainElement>,
     i: usize,
@@ -117,7 +117,7 @@ pub fn put_at(
 
 /// Marks each element that is seen from the `p`-th up to before the `q`-th.
 ///
-/// Answers `OutOfMemory` where there is no room for a mark, and then some may have theirs.
+/// Returns `OutOfMemory` where there is no room for a mark, and then some may have theirs.
 pub fn mark_range<T: ElementTest, M: Mark>(
     items: &mut [PlainElement],
     p: u64,
@@ -158,7 +158,7 @@ pub fn rank<M: ElementTest, T: ElementTest>(items: &[PlainElement], meant: M, se
 
 /// The contents of so many new units.
 ///
-/// Answers `OutOfMemory` where there is no room for them.
+/// Returns `OutOfMemory` where there is no room for them.
 pub fn units(alloc: Global, count: u64) -> Result<Vec<Content>, OutOfMemory>
     ensures { IfOk result (λ v. map content_of v.items ≡ replicate count GridUnit) }
 {

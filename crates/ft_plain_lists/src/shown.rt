@@ -13,7 +13,7 @@ use std::alloc::Global;
 
 /// The characters of the elements that a client sees at its pending stage.
 ///
-/// Answers `OutOfMemory` where there is no room for them.
+/// Returns `OutOfMemory` where there is no room for them.
 pub fn shown_text(alloc: Global, items: &[PlainElement], stage: u64) -> Result<Text, OutOfMemory>
     ensures { IfOk result (λ text. text ≡ text_characters (stage_view stage items.now)) }
 {
@@ -28,7 +28,7 @@ pub fn shown_text(alloc: Global, items: &[PlainElement], stage: u64) -> Result<T
 
 /// Adds the character to the text, if the content is one.
 ///
-/// Answers `OutOfMemory` where there is no room for it.
+/// Returns `OutOfMemory` where there is no room for it.
 pub fn push_character(text: &mut String, content: Content) -> Result<(), OutOfMemory>
     ensures { OnOk result (chars (string_bytes text.new) ≡ chars (string_bytes text.old) ++ content_characters (content_of content)) }
 {
@@ -40,7 +40,7 @@ pub fn push_character(text: &mut String, content: Content) -> Result<(), OutOfMe
 
 /// The markers among the elements that a client sees at its pending stage, with their places there.
 ///
-/// Answers `OutOfMemory` where there is no room for them.
+/// Returns `OutOfMemory` where there is no room for them.
 pub fn shown_markers(
     alloc: Global,
     items: &[PlainElement],
@@ -61,7 +61,7 @@ pub fn shown_markers(
 
 /// Adds the marker with its place, if the content is one.
 ///
-/// Answers `OutOfMemory` where there is no room for it.
+/// Returns `OutOfMemory` where there is no room for it.
 fn push_marker(markers: &mut Spots, pos: u64, content: Content) -> Result<(), OutOfMemory>
     ensures { OnOk result (markers.new ≡ markers.old ++ content_markers pos (content_of content)) }
 {
@@ -74,7 +74,7 @@ fn push_marker(markers: &mut Spots, pos: u64, content: Content) -> Result<(), Ou
 /// The runs of equal properties that aren't empty, among the elements that a client sees at its
 /// pending stage.
 ///
-/// Answers `OutOfMemory` where there is no room for them.
+/// Returns `OutOfMemory` where there is no room for them.
 pub fn shown_runs(alloc: Global, items: &[PlainElement], stage: u64) -> Result<Runs, OutOfMemory>
     ensures { IfOk result (λ runs. runs ≡ property_runs_from 0 (stage_view stage items.now)) }
 {
@@ -85,7 +85,7 @@ pub fn shown_runs(alloc: Global, items: &[PlainElement], stage: u64) -> Result<R
 
 /// The properties of each element that a client sees at its pending stage.
 ///
-/// Answers `OutOfMemory` where there is no room for them.
+/// Returns `OutOfMemory` where there is no room for them.
 fn shown_props(alloc: Global, items: &[PlainElement], stage: u64) -> Result<Vec<Props>, OutOfMemory>
     ensures { IfOk result (λ props. props.items ≡ all_shown_props (stage_view stage items.now)) }
 {
@@ -100,7 +100,7 @@ fn shown_props(alloc: Global, items: &[PlainElement], stage: u64) -> Result<Vec<
 
 /// The runs of these properties, from the last one to the first.
 ///
-/// Answers `OutOfMemory` where there is no room for them.
+/// Returns `OutOfMemory` where there is no room for them.
 fn backward_runs(alloc: Global, mut props: Vec<Props>) -> Result<Vec<Run>, OutOfMemory>
     ensures { IfOk result (λ runs. reverse runs.items ≡ runs_before 0 props.items []) }
 {
@@ -113,7 +113,7 @@ fn backward_runs(alloc: Global, mut props: Vec<Props>) -> Result<Vec<Run>, OutOf
 
 /// Puts the element with these properties before the runs, which stand from the last one to the first.
 ///
-/// Answers `OutOfMemory` where there is no room for one more run.
+/// Returns `OutOfMemory` where there is no room for one more run.
 fn extend_runs(runs: &mut Vec<Run>, place: u64, props: Props) -> Result<(), OutOfMemory>
     requires { place + 1 < 2 ^ 64 }
     ensures { OnOk result (reverse runs.new.items ≡ extended_property_runs place props (reverse runs.old.items)) }
@@ -138,7 +138,7 @@ fn extend_runs(runs: &mut Vec<Run>, place: u64, props: Props) -> Result<(), OutO
 
 /// Adds a run of the one element at this place.
 ///
-/// Answers `OutOfMemory` where there is no room for it.
+/// Returns `OutOfMemory` where there is no room for it.
 fn push_run(runs: &mut Vec<Run>, place: u64, props: Props) -> Result<(), OutOfMemory>
     requires { place + 1 < 2 ^ 64 }
     ensures { OnOk result (runs.new.items ≡ runs.old.items ++ record { start = place; end = place + 1; props = props } ∷ []) }
@@ -153,7 +153,7 @@ fn push_run(runs: &mut Vec<Run>, place: u64, props: Props) -> Result<(), OutOfMe
 
 /// The runs the other way round.
 ///
-/// Answers `OutOfMemory` where there is no room for them.
+/// Returns `OutOfMemory` where there is no room for them.
 fn turned(alloc: Global, mut backwards: Vec<Run>) -> Result<Runs, OutOfMemory>
     ensures { IfOk result (λ runs. runs ≡ reverse backwards.items) }
 {

@@ -20,7 +20,7 @@ use std::alloc::Global;
 
 /// The intervals with their ends as places among the elements that a client sees at its pending stage.
 ///
-/// Answers `OutOfMemory` where there is no room for them.
+/// Returns `OutOfMemory` where there is no room for them.
 pub fn shown_intervals(
     alloc: Global,
     items: &[PlainElement],

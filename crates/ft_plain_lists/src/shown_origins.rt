@@ -11,7 +11,7 @@ use std::alloc::Global;
 
 /// Who inserted each element that a client sees at its pending stage.
 ///
-/// Answers `OutOfMemory` where there is no room for that.
+/// Returns `OutOfMemory` where there is no room for that.
 pub fn shown_origins(
     alloc: Global,
     items: &[PlainElement],

@@ -11,7 +11,7 @@ use std::alloc::Global;
 
 /// A table with one value for each sequenced element, and for each pending one on which an end of the intervals is.
 ///
-/// Answers `OutOfMemory` where there is no room for that.
+/// Returns `OutOfMemory` where there is no room for that.
 pub fn table_of_ends<V: Copy + Drop>(
     alloc: Global,
     items: &[PlainElement],

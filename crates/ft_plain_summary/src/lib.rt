@@ -1,6 +1,6 @@
 //! The summary of a document over plain lists, and the document that a summary gives.
 //!
-//! A call that can't answer `OutOfMemory` takes no memory.
+//! A call that can't return `OutOfMemory` takes no memory.
 #![tactic(auto)]
 
 mod lists;

@@ -16,7 +16,7 @@ use std::alloc::Global;
 
 /// The list of the elements of segments.
 ///
-/// Answers `OutOfMemory` where there is no room for them or they would be more than 2^53 - 1.
+/// Returns `OutOfMemory` where there is no room for them or they would be more than 2^53 - 1.
 pub fn text_list(alloc: Global, segs: &[SegRec]) -> Result<PlainList, OutOfMemory>
     ensures { IfOk result (λ list. list ≡ list_of (segment_items 0 segs.now)) }
 {
@@ -29,7 +29,7 @@ pub fn text_list(alloc: Global, segs: &[SegRec]) -> Result<PlainList, OutOfMemor
 
 /// Adds the elements of the segment.
 ///
-/// Answers `OutOfMemory` where there is no room for them or they would be more than 2^53 - 1, and then some may be
+/// Returns `OutOfMemory` where there is no room for them or they would be more than 2^53 - 1, and then some may be
 /// there.
 fn add_segment(list: &mut PlainList, seg: &SegRec) -> Result<(), OutOfMemory>
     ensures items { OnOk result (list.new.items ≡ list.old.items ++ new_elements list.old.made (stamp_of seg.now.ins) (map stamp_of seg.now.dels)
@@ -51,7 +51,7 @@ fn add_segment(list: &mut PlainList, seg: &SegRec) -> Result<(), OutOfMemory>
 
 /// The contents of the elements of a segment.
 ///
-/// Answers `OutOfMemory` where there is no room for them.
+/// Returns `OutOfMemory` where there is no room for them.
 fn segment_contents(alloc: Global, seg: &Seg) -> Result<Vec<Content>, OutOfMemory>
     ensures { IfOk result (λ v. map content_of v.items ≡ segment_bodies seg.now) }
 {
@@ -67,7 +67,7 @@ fn segment_contents(alloc: Global, seg: &Seg) -> Result<Vec<Content>, OutOfMemor
 
 /// The list of the units of runs.
 ///
-/// Answers `OutOfMemory` where there is no room for them or they would be more than 2^53 - 1.
+/// Returns `OutOfMemory` where there is no room for them or they would be more than 2^53 - 1.
 pub fn unit_list(alloc: Global, runs: &[RunRec]) -> Result<PlainList, OutOfMemory>
     ensures { IfOk result (λ list. list ≡ list_of (run_items 0 runs.now)) }
 {
@@ -80,7 +80,7 @@ pub fn unit_list(alloc: Global, runs: &[RunRec]) -> Result<PlainList, OutOfMemor
 
 /// Adds the units of the run.
 ///
-/// Answers `OutOfMemory` where there is no room for them or they would be more than 2^53 - 1, and then some may be
+/// Returns `OutOfMemory` where there is no room for them or they would be more than 2^53 - 1, and then some may be
 /// there.
 fn add_run(list: &mut PlainList, run: &RunRec) -> Result<(), OutOfMemory>
     ensures items { OnOk result (list.new.items ≡ list.old.items ++ new_elements list.old.made (stamp_of run.now.ins) (map stamp_of run.now.dels) None []

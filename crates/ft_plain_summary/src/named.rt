@@ -15,7 +15,7 @@ use std::alloc::Global;
 
 /// The names of the unremoved elements in order.
 ///
-/// Answers `OutOfMemory` where there is no room for them.
+/// Returns `OutOfMemory` where there is no room for them.
 fn unremoved_names(alloc: Global, items: &[PlainElement]) -> Result<Vec<ElementName>, OutOfMemory>
     ensures { IfOk result (λ names. names.items ≡ unremoved_names items.now) }
 {
@@ -30,7 +30,7 @@ fn unremoved_names(alloc: Global, items: &[PlainElement]) -> Result<Vec<ElementN
 
 /// The intervals on the unremoved elements at their numbers.
 ///
-/// Answers `OutOfMemory` where there is no room for them.
+/// Returns `OutOfMemory` where there is no room for them.
 pub fn intervals_of(
     alloc: Global,
     items: &[PlainElement],
@@ -44,7 +44,7 @@ pub fn intervals_of(
 
 /// The intervals on the elements of these names.
 ///
-/// Answers `OutOfMemory` where there is no room for them.
+/// Returns `OutOfMemory` where there is no room for them.
 fn named_intervals(
     alloc: Global,
     names: &[ElementName],
@@ -61,7 +61,7 @@ fn named_intervals(
 
 /// The interval on the elements of these names.
 ///
-/// Answers `OutOfMemory` where there is no room for it.
+/// Returns `OutOfMemory` where there is no room for it.
 fn named_interval(names: &[ElementName], rec: &IntervalRec) -> Result<PlainInterval, OutOfMemory>
     ensures { IfOk result (λ interval. interval ≡ named_interval names.now rec.now) }
 {
@@ -91,7 +91,7 @@ fn name_at(names: &[ElementName], i: u64) -> Option<ElementName>
 
 /// The cells on the unremoved rows and columns at their numbers.
 ///
-/// Answers `OutOfMemory` where there is no room for them.
+/// Returns `OutOfMemory` where there is no room for them.
 pub fn cells_of(
     alloc: Global,
     rows: &[PlainElement],
@@ -107,7 +107,7 @@ pub fn cells_of(
 
 /// The cells of the rows and columns of these names.
 ///
-/// Answers `OutOfMemory` where there is no room for them.
+/// Returns `OutOfMemory` where there is no room for them.
 fn named_cells(
     alloc: Global,
     rows: &[ElementName],
@@ -127,7 +127,7 @@ fn named_cells(
 
 /// Adds the cell of the row and the column, if both are there.
 ///
-/// Answers `OutOfMemory` where there is no room for it.
+/// Returns `OutOfMemory` where there is no room for it.
 fn push_cell(
     cells: &mut PlainCells,
     row: Option<ElementName>,

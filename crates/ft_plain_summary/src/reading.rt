@@ -14,7 +14,7 @@ use std::alloc::Global;
 
 /// The document that a summary gives.
 ///
-/// Answers `OutOfMemory` where there is no room for it or a list would have more than 2^53 - 1 elements.
+/// Returns `OutOfMemory` where there is no room for it or a list would have more than 2^53 - 1 elements.
 pub fn document_of(alloc: Global, sum: &SumDoc) -> Result<PlainDocument, OutOfMemory>
     requires seq { IsTrue (is_count sum.now.seq) }
     requires min { IsTrue (nat_le sum.now.min sum.now.seq) }

@@ -13,7 +13,7 @@ use std::alloc::Global;
 
 /// The runs of units.
 ///
-/// Answers `OutOfMemory` where there is no room for them or the count of one would pass 2^64 - 1.
+/// Returns `OutOfMemory` where there is no room for them or the count of one would pass 2^64 - 1.
 pub fn unit_runs(alloc: Global, items: &[PlainElement]) -> Result<RunRecs, OutOfMemory>
     ensures { IfOk result (λ runs. runs ≡ unit_runs items.now) }
 {
@@ -30,7 +30,7 @@ pub fn unit_runs(alloc: Global, items: &[PlainElement]) -> Result<RunRecs, OutOf
 
 /// The run that is open after the unit; one that ends before it is added.
 ///
-/// Answers `OutOfMemory` where there is no room for them or the count would pass 2^64 - 1.
+/// Returns `OutOfMemory` where there is no room for them or the count would pass 2^64 - 1.
 fn count_unit(
     runs: &mut RunRecs,
     last: Option<RunRec>,

@@ -13,7 +13,7 @@ use ft_sumdoc::{SumDoc, Texts};
 
 /// The summary of the document, with the names of the connections that it knows.
 ///
-/// Answers `OutOfMemory` where there is no room for it.
+/// Returns `OutOfMemory` where there is no room for it.
 pub fn summary_of(doc: &PlainDocument, conns: Texts) -> Result<SumDoc, OutOfMemory>
     ensures { IfOk result (λ sum. sum ≡ summary_of conns doc.now) }
 {

@@ -9,7 +9,7 @@ use crate::properties::{AdjSet, Adjust, Changes, PropSet, Props};
 use ft_base::{Datum, OutOfMemory, Text};
 use ft_json::ValText;
 
-// A function here that changes properties leaves them half changed after want of memory: its caller
+// A function here that changes properties leaves them half changed after `OutOfMemory`: its caller
 // works on a copy.
 
 /// Sets the value of the key, or takes the key away where there is none.
@@ -64,7 +64,7 @@ pub fn make_changes(props: &mut Props, changes: &Changes) -> Result<(), OutOfMem
 impl Props {
     /// The properties with each key of the set put, where null takes the key away.
     ///
-    /// Answers `OutOfMemory` where there is no room for them.
+    /// Returns `OutOfMemory` where there is no room for them.
     pub fn applied(&self, set: &PropSet) -> Result<Props, OutOfMemory>
         ensures { IfOk result (λ props. props ≡ apply self.now set.now) }
     {
@@ -77,7 +77,7 @@ impl Props {
     /// The properties with the changes made: first each key is set, and then each adjustment is
     /// made, of 0 where the key has no whole number.
     ///
-    /// Answers `OutOfMemory` where there is no room for them.
+    /// Returns `OutOfMemory` where there is no room for them.
     pub fn changed(&self, changes: &Changes) -> Result<Props, OutOfMemory>
         ensures { IfOk result (λ props. props ≡ change self.now changes.now) }
     {

@@ -1,6 +1,6 @@
 //! Properties of elements and intervals, and their changes.
 //!
-//! A call that can't answer `OutOfMemory` takes no memory.
+//! A call that can't return `OutOfMemory` takes no memory.
 #![tactic(auto)]
 
 mod changed;

@@ -72,7 +72,7 @@ fn adjusted_number(number: i64, adjust: &Adjust) -> i64
 
 /// The value with the adjustment made, where a value that is no whole number counts as 0.
 ///
-/// Answers `OutOfMemory` where there is no room for it.
+/// Returns `OutOfMemory` where there is no room for it.
 pub fn adjusted_value(
     alloc: Global,
     value: Option<&ValText>,

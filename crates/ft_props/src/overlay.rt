@@ -40,7 +40,7 @@ struct Ahead {
     shown: Props,
 }
 
-/// Makes the changes of each stage in turn. After want of memory some of them may be made.
+/// Makes the changes of each stage in turn. After `OutOfMemory` some of them may be made.
 fn make_all_changes(props: &mut Props, pending: &[(u64, Changes)]) -> Result<(), OutOfMemory>
     ensures { OnOk result (props.new ≡ shown_props props.old pending.now) }
 {
@@ -103,7 +103,7 @@ fn is_same_pending(mine: &[(u64, Changes)], theirs: &[(u64, Changes)]) -> bool
 impl Ahead {
     /// The changes of one stage alone.
     ///
-    /// Answers `OutOfMemory` where there is no room for them.
+    /// Returns `OutOfMemory` where there is no room for them.
     fn first(
         alloc: Global,
         acked: &Props,
@@ -121,7 +121,7 @@ impl Ahead {
 
     /// Adds changes of a stage.
     ///
-    /// Answers `OutOfMemory` where there is no room for them, and then all is as it was.
+    /// Returns `OutOfMemory` where there is no room for them, and then all is as it was.
     fn push(&mut self, stage: u64, set: &Changes) -> Result<(), OutOfMemory>
         ensures pending { OnOk result (self.new.pending.items ≡ self.old.pending.items ++ (stage, set.now) ∷ []) }
         ensures shown { OnOk result (self.new.shown ≡ change self.old.shown set.now) }
@@ -136,7 +136,7 @@ impl Ahead {
 
     /// Makes ready what is shown over other acknowledged properties.
     ///
-    /// Answers `OutOfMemory` where there is no room for it, and then all is as it was.
+    /// Returns `OutOfMemory` where there is no room for it, and then all is as it was.
     fn show(&mut self, acked: &Props) -> Result<(), OutOfMemory>
         ensures pending { self.new.pending ≡ self.old.pending }
         ensures shown { OnOk result (self.new.shown ≡ shown_props acked.now self.old.pending.items) }
@@ -148,7 +148,7 @@ impl Ahead {
 
     /// Takes the changes of that stage out, if there are any.
     ///
-    /// Answers `OutOfMemory` where there is no room for what is then shown, and then all is as it
+    /// Returns `OutOfMemory` where there is no room for what is then shown, and then all is as it
     /// was.
     fn drop_stage(&mut self, stage: u64, acked: &Props) -> Result<(), OutOfMemory>
         requires rising { StagesRise self.old.pending.items }
@@ -169,7 +169,7 @@ impl Ahead {
     /// Makes the changes of that stage, if it is the first, to the acknowledged properties, and takes
     /// them out.
     ///
-    /// Answers `OutOfMemory` where there is no room for what they make, and then all is as it was.
+    /// Returns `OutOfMemory` where there is no room for what they make, and then all is as it was.
     fn ack(&mut self, stage: u64, acked: &mut Props) -> Result<(), OutOfMemory>
         requires lowest { All (λ change. stage ≤ change.0) self.old.pending.items }
         requires rising { StagesRise self.old.pending.items }
@@ -192,7 +192,7 @@ impl Ahead {
 
     /// Equal changes.
     ///
-    /// Answers `OutOfMemory` where there is no room for them.
+    /// Returns `OutOfMemory` where there is no room for them.
     fn copy(&self) -> Result<Box<Ahead>, OutOfMemory>
         ensures pending { IfOk result (λ b. b.value.pending.items ≡ self.now.pending.items) }
         ensures shown { IfOk result (λ b. b.value.shown ≡ self.now.shown) }
@@ -223,7 +223,7 @@ impl Overlay {
 
     /// Makes changes of the acknowledged properties, below the pending changes.
     ///
-    /// Answers `OutOfMemory` where there is no room for what they make, and then all is as it was.
+    /// Returns `OutOfMemory` where there is no room for what they make, and then all is as it was.
     pub fn set_acked(&mut self, set: &Changes) -> Result<(), OutOfMemory>
         ensures ok { OnOk result (self.new ≡ after_acked_changes set.now self.old) }
         ensures err { OnErr result (self.new ≡ self.old) }
@@ -238,7 +238,7 @@ impl Overlay {
 
     /// Adds changes of a new pending stage, which is above all pending ones.
     ///
-    /// Answers `OutOfMemory` where there is no room for them and what they make, and then all is as
+    /// Returns `OutOfMemory` where there is no room for them and what they make, and then all is as
     /// it was.
     pub fn push_pending(&mut self, stage: u64, set: &Changes) -> Result<(), OutOfMemory>
         requires { All (λ change. change.0 < stage) self.old.pending }
@@ -258,7 +258,7 @@ impl Overlay {
     /// Makes the changes of that stage, if there are any, to the acknowledged properties, and takes
     /// them out. No lower stage is pending here.
     ///
-    /// Answers `OutOfMemory` where there is no room for what they make, and then all is as it was.
+    /// Returns `OutOfMemory` where there is no room for what they make, and then all is as it was.
     pub fn ack(&mut self, stage: u64) -> Result<(), OutOfMemory>
         requires { All (λ change. stage ≤ change.0) self.old.pending }
         ensures ok { OnOk result (self.new ≡ after_ack stage self.old) }
@@ -275,7 +275,7 @@ impl Overlay {
 
     /// Takes the changes of that stage out, if there are any.
     ///
-    /// Answers `OutOfMemory` where there is no room for what is then shown, and then all is as it
+    /// Returns `OutOfMemory` where there is no room for what is then shown, and then all is as it
     /// was.
     pub fn drop_pending(&mut self, stage: u64) -> Result<(), OutOfMemory>
         ensures ok { OnOk result (self.new ≡ after_drop stage self.old) }
@@ -326,7 +326,7 @@ impl Overlay {
 
     /// All that is shown.
     ///
-    /// Answers `OutOfMemory` where there is no room for it.
+    /// Returns `OutOfMemory` where there is no room for it.
     pub fn shown(&self) -> Result<Props, OutOfMemory>
         ensures { IfOk result (λ props. props ≡ shown_of self.now) }
     {

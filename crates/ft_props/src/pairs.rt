@@ -107,7 +107,7 @@ impl<V: Drop> Pairs<V> {
 
     /// Sets the value of the key, and changes no other pair.
     ///
-    /// Answers `OutOfMemory` where there is no room for one more pair, and then the list is as it
+    /// Returns `OutOfMemory` where there is no room for one more pair, and then the list is as it
     /// was. Where the key has a value already, it takes no memory.
     pub fn put(&mut self, key: Text, value: V) -> Result<(), OutOfMemory>
         ensures ok { OnOk result (self.new ≡ put_rising key_cmp (key, value) self.old) }

@@ -27,7 +27,7 @@ use ft_tree_leaves::stamps::has_sequenced;
 /// will put them. The elements of each stage stand side by side in its view. Every leaf keeps its node, and every reference
 /// its element; a detached one stays so. It goes to the leaves that each pending stage touched, a few times for each stage.
 ///
-/// Answers `OutOfMemory` where there is no room for it, and then the tree may be used no more.
+/// Returns `OutOfMemory` where there is no room for it, and then the tree may be used no more.
 pub fn normalise<C: Content>(tree: &mut Tree<C>) -> Result<(), OutOfMemory>
 where
     C: Drop,
@@ -58,7 +58,7 @@ where
 
 /// Takes what is pending off the leaves that are gone, and moves those of pending insertions.
 ///
-/// Answers `OutOfMemory` where there is no room for it.
+/// Returns `OutOfMemory` where there is no room for it.
 fn carry_and_move<C: Content>(tree: &mut Tree<C>) -> Result<(), OutOfMemory>
 where
     C: Drop,
@@ -110,7 +110,7 @@ fn has_pending<C: Content>(tree: &Tree<C>, leaf: NodeId) -> bool
 
 /// Takes what is pending off a leaf whose insertion and a removal of it are sequenced.
 ///
-/// Answers `OutOfMemory` where there is no room for what is left.
+/// Returns `OutOfMemory` where there is no room for what is left.
 fn carry_leaf<C: Content>(tree: &mut Tree<C>, leaf: NodeId) -> Result<(), OutOfMemory>
     requires usable { IsTrue tree.old.usable }
     requires live { IsLeafIn tree.old.leaves leaf }
@@ -131,7 +131,7 @@ fn carry_leaf<C: Content>(tree: &mut Tree<C>, leaf: NodeId) -> Result<(), OutOfM
 /// Takes what is pending off the leaves of which the stage has something and whose insertion and a removal of it are
 /// sequenced.
 ///
-/// Answers `OutOfMemory` where there is no room for what is left.
+/// Returns `OutOfMemory` where there is no room for what is left.
 fn carry_stage<C: Content>(tree: &mut Tree<C>, stage: u64) -> Result<(), OutOfMemory>
     requires { IsTrue tree.old.usable }
     ensures leaves { OnOk result (tree.new.leaves ≡ map (carried_by stage) tree.old.leaves) }
@@ -151,7 +151,7 @@ fn carry_stage<C: Content>(tree: &mut Tree<C>, stage: u64) -> Result<(), OutOfMe
 /// Takes what is pending off all leaves whose insertion and a removal of it are sequenced. Then no stage lists a leaf of which
 /// it has nothing.
 ///
-/// Answers `OutOfMemory` where there is no room for what is left.
+/// Returns `OutOfMemory` where there is no room for what is left.
 fn carry_leaves<C: Content>(tree: &mut Tree<C>) -> Result<(), OutOfMemory>
     requires { IsTrue tree.old.usable }
     ensures leaves { OnOk result (tree.new.leaves ≡ map carried_pair tree.old.leaves) }

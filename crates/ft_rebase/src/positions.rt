@@ -28,7 +28,7 @@ pub fn stage_position<C: Content>(tree: &Tree<C>, leaf: NodeId, stage: u64) -> u
 
 /// The leaves that the stage inserted, in order. It goes to those that the stage touched.
 ///
-/// Answers `OutOfMemory` where there is no room for them.
+/// Returns `OutOfMemory` where there is no room for them.
 pub(crate) fn inserted_leaves<C: Content>(
     tree: &Tree<C>,
     stage: u64,
@@ -50,7 +50,7 @@ pub(crate) fn inserted_leaves<C: Content>(
 /// How many elements that the stage before sees stand left of the first one that the stage inserted: None exactly
 /// where it inserted none that is there.
 ///
-/// Answers `OutOfMemory` where there is no room for the leaves that it inserted.
+/// Returns `OutOfMemory` where there is no room for the leaves that it inserted.
 pub(crate) fn insertion_position<C: Content>(
     tree: &Tree<C>,
     stage: u64,

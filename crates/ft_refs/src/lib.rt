@@ -1,5 +1,5 @@
 //! Lists of references by owner: each owner has one doubly linked list of references, each with an
-//! offset. It knows nothing of what an owner holds. A call that can't answer `OutOfMemory` takes no
+//! offset. It knows nothing of what an owner holds. A call that can't return `OutOfMemory` takes no
 //! memory.
 #![tactic(auto)]
 

@@ -49,7 +49,7 @@ impl Refs {
     /// Makes room for the list of this owner, which is held from then on, as is each owner of a lower
     /// number. No list changes.
     ///
-    /// Answers `OutOfMemory` where there is no room for it, and then nothing changed.
+    /// Returns `OutOfMemory` where there is no room for it, and then nothing changed.
     pub fn hold(&mut self, owner: NodeId) -> Result<(), OutOfMemory>
         ensures held { IfOk result (λ _. Holds self.old self.new owner) }
         ensures refused { OnErr result (self.new ≡ self.old) }
@@ -60,7 +60,7 @@ impl Refs {
 
     /// Makes a new reference at the end of the list of this owner, and holds the owner.
     ///
-    /// Answers `OutOfMemory` where there is no room for it, and then nothing changed.
+    /// Returns `OutOfMemory` where there is no room for it, and then nothing changed.
     pub fn attach(&mut self, owner: NodeId, offset: u64) -> Result<RefId, OutOfMemory>
         ensures fresh { IfOk result (λ r. entry self.old r ≡ None) }
         ensures list { IfOk result (λ r. references_of self.new owner ≡ references_of self.old owner ++ (r, offset) ∷ []) }

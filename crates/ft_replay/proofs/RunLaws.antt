@@ -105,7 +105,7 @@ pub with_fault : {S T : Type 0} (form : LineForm S) (IsAfter : T → Progress S 
 with_fault form IsAfter first left held holds source_rose sink_rose is moves =
     subst (λ r. Moves first left held holds (SaysOfLines form IsAfter left source_rose sink_rose r)) (sym is) moves
 
--- nothing was read or written, for want of memory
+-- nothing was read or written, since it was out of memory
 pub moves_nothing : {S : Type 0} (form : LineForm S) (first held : Option (List ℕ)) (source_rose sink_rose : Type 0)
     → Moves first first held held (Says (account_by form) (IsAtEnd first) source_rose sink_rose (Err fault.OutOfMemory))
 moves_nothing form first held source_rose sink_rose =

@@ -15,7 +15,7 @@ use Rattle.ft_replay.specs.declared.listener.Told.TheVariants as told
 use Rattle.ft_replay.specs.LineForm.{bytes_of}
 use Rattle.ft_replay.specs.Listening.{IsStep, told_refusal, told_text}
 
--- what a refusal means that isn't want of memory
+-- what a refusal means that isn't OutOfMemory
 means-refused : (A B : Type 0) (why : Refusal) (kind : RefusalKind) → refusal_kind why ≡ kind → (why ≡ OutOfMemory → ⊥) → MeansOf kind A B → B
 means-refused A B why WantsMemory is other h = absurd (wants why is other)
   where

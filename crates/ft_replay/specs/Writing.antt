@@ -10,7 +10,7 @@ pub record Begins (front whole : List ℕ) : Type 0 where
   pub later : List ℕ
   pub place : whole ≡ front ++ later
 
--- what an answer says of the bytes written: all of them at Ok; the first of them at want of memory, and where the sink failed, whose count rose then
+-- what an answer says of the bytes written: all of them at Ok; the first of them at OutOfMemory, and where the sink failed, whose count rose then
 abbrev pub SaysOfWritten : {T : Type 0} → Type 0 → List ℕ → List ℕ → Result T Fault → Type 0
 SaysOfWritten rose bytes written (Ok _) = written ≡ bytes
 SaysOfWritten rose bytes written (Err Write) = rose × Begins written bytes

@@ -24,7 +24,7 @@ use std::alloc::Global;
 
 /// Reads the events of a session, one a line, and writes what each of them writes. Its clients are such replicas.
 ///
-/// Answers how the report ends: `Done` where no line was refused and no sub-operation skipped. Answers `Read` and `Write` only where
+/// Returns how the report ends: `Done` where no line was refused and no sub-operation skipped. Returns `Read` and `Write` only where
 /// the count of faults of the source or the sink rose, `InputLimit` exactly where the source gave a 16,777,217th byte and no write
 /// failed before, and `OutOfMemory` where no memory was found; the bytes written then begin the report, or what the ended lines write.
 pub fn replay_session<R: Replica + Drop, S: Source, K: Sink>(
@@ -44,7 +44,7 @@ pub fn replay_session<R: Replica + Drop, S: Source, K: Sink>(
 /// Reads sequenced messages, one a line, and writes which of them are refused and what one observer of them shows at the end. The observer
 /// is a replica that is offline and never edits.
 ///
-/// Answers as `replay_session` does.
+/// Returns as `replay_session` does.
 pub fn replay_log<R: Replica + Drop, S: Source, K: Sink>(
     alloc: Global,
     src: &mut S,
@@ -61,7 +61,7 @@ pub fn replay_log<R: Replica + Drop, S: Source, K: Sink>(
 /// Reads a summary, then sequenced messages, one a line, and writes which lines are refused and what an observer shows at the end that
 /// starts from the summary.
 ///
-/// Answers as `replay_session` does.
+/// Returns as `replay_session` does.
 pub fn replay_load<R: Replica + Drop, S: Source, K: Sink>(
     alloc: Global,
     src: &mut S,
@@ -77,7 +77,7 @@ pub fn replay_load<R: Replica + Drop, S: Source, K: Sink>(
 
 /// Reads the events of a session of clients over one shared map, one a line, and writes what each of them writes.
 ///
-/// Answers as `replay_session` does; no sub-operations are counted.
+/// Returns as `replay_session` does; no sub-operations are counted.
 pub fn replay_map<S: Source, K: Sink>(
     alloc: Global,
     src: &mut S,

@@ -19,7 +19,7 @@ use std::alloc::Global;
 
 /// Writes the events of the session that is generated with these settings, one a line.
 ///
-/// Answers `Write` only where the sink's count of faults rose, and `OutOfMemory` where there is no room
+/// Returns `Write` only where the sink's count of faults rose, and `OutOfMemory` where there is no room
 /// for an event or its line.
 pub fn write_generated<K: Sink>(
     alloc: Global,

@@ -10,7 +10,7 @@
 //! Clients and observers are of the type `R` that the caller names, any `Replica` of `ft_msg`. Two of them write
 //! the same, since each writes what the definitions say.
 //!
-//! Only a call that can answer `OutOfMemory` takes memory.
+//! Only a call that can return `OutOfMemory` takes memory.
 #![tactic(auto)]
 
 mod endings;

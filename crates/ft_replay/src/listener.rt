@@ -43,7 +43,7 @@ pub trait Listener: Sized + Drop {
 
     /// A listener before the first line.
     ///
-    /// Answers `OutOfMemory` where there is no room for it.
+    /// Returns `OutOfMemory` where there is no room for it.
     fn start(alloc: Global) -> Result<Self, OutOfMemory>
         ensures first { IfOk result (λ a. holds a form.first) }
         ensures size { IfOk result (λ a. size a ≤ input_limit) };
@@ -56,7 +56,7 @@ pub trait Listener: Sized + Drop {
 
     /// The listener after a line that is neither blank nor too long, and what is told of it.
     ///
-    /// Answers `OutOfMemory` where there is no room for what the line makes, and then the listener is
+    /// Returns `OutOfMemory` where there is no room for what the line makes, and then the listener is
     /// gone.
     fn take(self, line: &[u8]) -> Result<(Self, Told), OutOfMemory>
         requires few { size self < 2 ^ 32 - 1 }
@@ -66,7 +66,7 @@ pub trait Listener: Sized + Drop {
 
     /// The lines that show at the end what was made, each with its LF.
     ///
-    /// Answers `OutOfMemory` where there is no room for them.
+    /// Returns `OutOfMemory` where there is no room for them.
     fn view_text(&self) -> Result<String, OutOfMemory>
         ensures { (made : Made) → holds self.now made → IfOk result (λ text. string_bytes text ≡ bytes_of (form.shown made)) };
 

@@ -83,7 +83,7 @@ impl<R: Replica + Drop> Listener for Observer<R> {
 impl<R: Replica + Drop> Observer<R> {
     /// The observer that starts from a summary.
     ///
-    /// Answers `OutOfMemory` where there is no room for it.
+    /// Returns `OutOfMemory` where there is no room for it.
     pub fn of_summary(alloc: Global, sum: &SumDoc) -> Result<Observer<R>, OutOfMemory>
         requires valid { IsValidSummary sum.now }
         requires few { length sum.now.conns < 2 ^ 32 }
@@ -149,7 +149,7 @@ fn number_sender(names: &mut Names, msg: Message) -> Result<Entry, OutOfMemory>
     Ok(Entry { msg, origin })
 }
 
-// Gives the replica a message, and answers what is told of it.
+// Gives the replica a message, and returns what is told of it.
 fn give<R: Replica>(replica: &mut R, entry: &Entry) -> Result<Told, OutOfMemory>
     requires { IsWellFormedMessage entry.now.msg }
     ensures { (seen : Observation) → Observes seen.names (R.state replica.old) seen
@@ -161,7 +161,7 @@ fn give<R: Replica>(replica: &mut R, entry: &Entry) -> Result<Told, OutOfMemory>
     }
 }
 
-// What is told of the message with this number for this fault of a replica; a stop was want of memory.
+// What is told of the message with this number for this fault of a replica; a stop was `OutOfMemory`.
 fn told_of(number: u64, fault: ProcessFault) -> Result<Told, OutOfMemory>
     ensures refusal { IfOk result (λ told. told ≡ Told.Refused (refusal_of_process number fault)) }
     ensures found { IfOk result (λ told. fault ≢ ProcessFault.OutOfMemory) }

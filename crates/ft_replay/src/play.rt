@@ -36,9 +36,9 @@ pub struct Play<R: Replica> {
 }
 
 /// Plays the session that is generated with these settings, and writes what became of its clients, which
-/// are such replicas. Answers whether no event was refused and no sub-operation skipped.
+/// are such replicas. Returns whether no event was refused and no sub-operation skipped.
 ///
-/// Answers `Write` only where the sink's count of faults rose, and `OutOfMemory` where there is no room
+/// Returns `Write` only where the sink's count of faults rose, and `OutOfMemory` where there is no room
 /// for what the events make, or more than 2^64 - 1 of them are refused.
 pub fn write_play<R: Replica + Drop, K: Sink>(
     alloc: Global,

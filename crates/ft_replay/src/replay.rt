@@ -30,7 +30,7 @@ pub struct Replay<L: Listener> {
 impl<L: Listener> Replay<L> {
     /// An input before its first line.
     ///
-    /// Answers `OutOfMemory` where there is no room for its listener.
+    /// Returns `OutOfMemory` where there is no room for its listener.
     pub fn new(alloc: Global) -> Result<Replay<L>, OutOfMemory>
         ensures { IfOk result (λ replay. Follows (L.holds replay.listener) replay.lines replay.refused (begin L.form.first)) }
     {
@@ -53,7 +53,7 @@ impl<L: Listener> Replay<L> {
     /// The input with one more line, as a reader of lines hands it out, of which is written what is
     /// told of it.
     ///
-    /// Answers `Write` only where the sink's count of faults rose, and `OutOfMemory` where there is no
+    /// Returns `Write` only where the sink's count of faults rose, and `OutOfMemory` where there is no
     /// room for what the line makes or for the refusal; then the input is gone.
     pub fn step<K: Sink>(self, alloc: Global, line: Line, out: &mut K) -> Result<Replay<L>, Fault>
         requires few { self.lines ≤ input_limit }
@@ -69,10 +69,10 @@ impl<L: Listener> Replay<L> {
         Ok(replay)
     }
 
-    /// Writes what stands behind the lines: what shows what was made, and the last lines. Answers
+    /// Writes what stands behind the lines: what shows what was made, and the last lines. Returns
     /// whether no line was refused and no sub-operation skipped.
     ///
-    /// Answers `Write` only where the sink's count of faults rose, and `OutOfMemory` where there is no
+    /// Returns `Write` only where the sink's count of faults rose, and `OutOfMemory` where there is no
     /// room for the lines.
     pub fn close<K: Sink>(&self, alloc: Global, out: &mut K) -> Result<Ending, Fault>
         ensures ending { (at : Progress L.Made) → Follows (L.holds self.now.listener) self.now.lines self.now.refused at

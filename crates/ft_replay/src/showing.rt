@@ -46,7 +46,7 @@ impl Showing {
 
     /// With one more client, whose name and view these are.
     ///
-    /// Answers `OutOfMemory` where there is no room for its line or for what it shows.
+    /// Returns `OutOfMemory` where there is no room for its line or for what it shows.
     pub fn add(self, alloc: Global, name: &Text, view: &View) -> Result<Showing, OutOfMemory>
         ensures { (shown : List NamedClient) (c : NamedClient) → HasShown self shown → IsViewOf c name.now view.now
             → IfOk result (λ showing. HasShown showing (shown ++ c ∷ [])) }
@@ -141,7 +141,7 @@ fn content_numbers(alloc: Global, view: &View) -> Result<String, OutOfMemory>
 
 // How many characters and markers a view shows.
 //
-// Answers `OutOfMemory` where the sum has more than 64 bits.
+// Returns `OutOfMemory` where the sum has more than 64 bits.
 fn length_of(view: &View) -> Result<u64, OutOfMemory>
     ensures { IfOk result (λ sum. sum ≡ length view.now.text + length view.now.markers) }
 {

@@ -6,7 +6,7 @@ use ft_base::OutOfMemory;
 
 /// The sum.
 ///
-/// Answers `OutOfMemory` where it has more than 64 bits: so much is in no memory.
+/// Returns `OutOfMemory` where it has more than 64 bits: so much is in no memory.
 pub fn added(a: u64, b: u64) -> Result<u64, OutOfMemory>
     ensures { IfOk result (λ sum. sum ≡ a + b) }
 {

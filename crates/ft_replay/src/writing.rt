@@ -8,7 +8,7 @@ use ft_io::{Sink, write_all};
 
 /// Writes all the bytes.
 ///
-/// Answers `Write` only where the sink's count of faults rose, and then the sink has taken some of the
+/// Returns `Write` only where the sink's count of faults rose, and then the sink has taken some of the
 /// first of them; else the count is as it was.
 pub fn put<K: Sink>(out: &mut K, bytes: &[u8]) -> Result<(), Fault>
     ensures writes { WritesBytes (K.contents out.old) (K.contents out.new) (K.faults out.old) (K.faults out.new) bytes.now result }

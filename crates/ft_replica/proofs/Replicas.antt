@@ -193,7 +193,7 @@ module _ {D : Type 0} (holds : D → HeldDocument → Type 0) (shown : D → Sho
       ap (λ client. running client (shown c.document).counts o) h ∙ ap (λ held. running (client_shown shown e) held o) k
       ∙ ap (running (client_shown shown e) (shown e.document).counts) l
 
-  -- after want of memory
+  -- after OutOfMemory
   stopped : (c e : LinkedState D) (o u : ℕ) → KeepsLink c e → StopsAfter (state_at shown c o None) (state_at shown e u (Some (numbers_in (shown c.document))))
   stopped c e o u k = record {
     stop = refl;

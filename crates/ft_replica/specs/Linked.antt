@@ -113,14 +113,14 @@ pub record RunsForOne {D : Type 0} (holds : D → HeldDocument → Type 0) (s : 
 abbrev pub Anyone : NaiveClient → Type 0
 Anyone p = Unit {0}
 
--- after want of memory: its link, its connections and its queue are as they were, and as many edits are pending
+-- after OutOfMemory: its link, its connections and its queue are as they were, and as many edits are pending
 pub record KeepsLink {D : Type 0} (old new : LinkedState D) : Type 0 where
   pub link : new.link ≡ old.link
   pub conns : new.conns ≡ old.conns
   pub queue : new.box.drafts ≡ old.box.drafts
   pub pending : length new.pending ≡ length old.pending
 
--- what an error means: want of memory, and what is kept then; never a stop; or a refusal
+-- what an error means: OutOfMemory, and what is kept then; never a stop; or a refusal
 abbrev pub MeansFault : FaultKind → Type 0 → Type 0 → Type 0
 MeansFault WantOfMemory kept refused = kept
 MeansFault (StoppedBefore seq) kept refused = ⊥

@@ -98,7 +98,7 @@ abbrev pub with_stages : Document → List Stage → HeldDocument → HeldDocume
 with_stages doc stages held = record held { doc = doc; stages = held.stages ++ stages; last = held.last + length stages }
 
 -- the answer to an edit: how many stages it has, where the steps make the new document and them; or the refusal, and it still holds
--- what it held; of want of memory nothing is said
+-- what it held; of OutOfMemory nothing is said
 abbrev pub AnswersStages : (HeldDocument → Type 0) → HeldDocument → Result (Document × List Stage) EditFault → Result ℕ EditFault → Type 0
 AnswersStages Holds held steps (Ok count) = (taken : Document × List Stage) × (steps ≡ Ok taken) × (length taken.1 ≡ count) × Holds (with_stages taken.0 taken.1 held)
 AnswersStages Holds held steps (Err fault) = MeansRefused (edit_fault_kind fault) ((steps ≡ Err fault) × Holds held)

@@ -1,4 +1,4 @@
--- A client that stops at the first want of memory, and tells its numbers from before.
+-- A client that stops at the first OutOfMemory, and tells its numbers from before.
 use Rattle.std.specs.Prelude.{◌≡◌, ℕ, max, Option, Some, None, option_map, Result, Ok, Err}
 use Rattle.ft_msg.specs.declared.faults.ProcessFault.{ProcessFault}
 use Rattle.ft_msg.specs.declared.messages.Entry.{Entry}

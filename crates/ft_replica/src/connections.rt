@@ -39,7 +39,7 @@ impl Connections {
 
     /// Adds one behind the others.
     ///
-    /// Answers `OutOfMemory` where there is no room for it, and then nothing changed.
+    /// Returns `OutOfMemory` where there is no room for it, and then nothing changed.
     pub fn push(&mut self, conn: u32) -> Result<(), OutOfMemory>
         ensures added { OnOk result (self.new ≡ self.old ++ conn ∷ []) }
         ensures err { OnErr result (self.new ≡ self.old) }

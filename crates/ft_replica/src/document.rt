@@ -54,7 +54,7 @@ pub struct Resent {
 /// that it holds the document and the stages of some client that steps made, or that keeps one which they
 /// made: all laws of such clients may be relied on.
 ///
-/// After want of memory in a call that changes it nothing is said of it any more, and nothing but its drop
+/// After `OutOfMemory` in a call that changes it nothing is said of it any more, and nothing but its drop
 /// may follow; after a refusal it holds what it held.
 pub trait OwnDocument: Sized + Drop {
     ghost use Rattle.std.specs.Prelude.{◌≡◌, ◌+◌, ◌++◌, ◌<◌, ◌≤◌, ◌^◌, ℕ, Bool, [], List, None, IfOk, OnOk, IsTrue, flat_map, length, map};
@@ -109,13 +109,13 @@ pub trait OwnDocument: Sized + Drop {
 
     /// The empty document at number 0.
     ///
-    /// Answers `OutOfMemory` where there is no room for it.
+    /// Returns `OutOfMemory` where there is no room for it.
     fn start(alloc: Global) -> Result<Self, OutOfMemory>
         ensures { IfOk result (λ d. holds d (record { doc = empty; stages = []; last = 0; low = 0 })) };
 
     /// The document of a summary.
     ///
-    /// Answers `OutOfMemory` where there is no room for it.
+    /// Returns `OutOfMemory` where there is no room for it.
     fn from_summary(alloc: Global, sum: &SumDoc) -> Result<Self, OutOfMemory>
         requires { IsValidSummary sum.now }
         ensures { IfOk result (λ d. holds d (record { doc = doc_of sum.now; stages = []; last = 0; low = sum.now.min })) };
@@ -136,7 +136,7 @@ pub trait OwnDocument: Sized + Drop {
 
     /// Takes an edit of the client's own as pending stages behind the last one, and tells how many.
     ///
-    /// Answers the refusal of the first sub-operation that can't be taken, never `Stopped`; and
+    /// Returns the refusal of the first sub-operation that can't be taken, never `Stopped`; and
     /// `OutOfMemory` where there is no room, or a count would pass its greatest number.
     ///
     /// Where `COUNTS`, each read of a node by which it searches for a place is a step, and a single insertion of
@@ -155,7 +155,7 @@ pub trait OwnDocument: Sized + Drop {
 
     /// Takes the next message, which comes from another client or has no operation.
     ///
-    /// Answers `OutOfMemory` where there is no room, or a count would pass its greatest number.
+    /// Returns `OutOfMemory` where there is no room, or a count would pass its greatest number.
     fn take(&mut self, entry: &Entry) -> Result<(), OutOfMemory>
         requires formed { IsWellFormedMessage entry.now.msg }
         requires known { HoldsOne holds self.old (λ p. process_fault p entry.now ≡ None) }
@@ -164,7 +164,7 @@ pub trait OwnDocument: Sized + Drop {
     /// Takes the next message, which is the client's own: its first `count` stages, those of its oldest pending edit, become
     /// sequenced.
     ///
-    /// Answers `OutOfMemory` where there is no room, or a count would pass its greatest number.
+    /// Returns `OutOfMemory` where there is no room, or a count would pass its greatest number.
     fn take_own(&mut self, count: usize, entry: &Entry) -> Result<(), OutOfMemory>
         requires formed { IsWellFormedMessage entry.now.msg }
         requires known { HoldsOne holds self.old (λ p. (process_fault p entry.now ≡ None) × (count ≤ length (stages_of p)) × (length (oldest_stages p.pending) ≡ count)) }
@@ -174,7 +174,7 @@ pub trait OwnDocument: Sized + Drop {
     /// Takes the next message, which is the client's own join: its pending edits, which have so many stages
     /// each, go on as they are sent again, and their elements are put in afresh.
     ///
-    /// Answers `OutOfMemory` where there is no room, or a count would pass its greatest number.
+    /// Returns `OutOfMemory` where there is no room, or a count would pass its greatest number.
     fn rejoin(&mut self, counts: &[usize], entry: &Entry) -> Result<VecDeque<Resent>, OutOfMemory>
         requires formed { IsWellFormedMessage entry.now.msg }
         requires known { HoldsOne holds self.old (λ p. (process_fault p entry.now ≡ None) × (map (λ e. length e.stages) p.pending ≡ counts.now)) }
@@ -184,7 +184,7 @@ pub trait OwnDocument: Sized + Drop {
 
     /// All that is shown at the last stage, with these numbers.
     ///
-    /// Answers `OutOfMemory` where there is no room for it.
+    /// Returns `OutOfMemory` where there is no room for it.
     fn view(&self, last: u64, numbers: Numbers) -> Result<View, OutOfMemory>
         requires { HoldsOne holds self.now (λ p. p.last_stage ≡ last) }
         ensures numbers { IfOk result (λ v. v.numbers ≡ numbers) }
@@ -193,7 +193,7 @@ pub trait OwnDocument: Sized + Drop {
 
     /// Who inserted each element of the text that is shown at the last stage.
     ///
-    /// Answers `OutOfMemory` where there is no room for that.
+    /// Returns `OutOfMemory` where there is no room for that.
     fn origins(&self, last: u64) -> Result<Attribution, OutOfMemory>
         requires { HoldsOne holds self.now (λ p. p.last_stage ≡ last) }
         ensures { (low : ℕ) (p : NaiveClient) → IsWellNamed p → p.last_stage ≡ last → holds self.now (held_by low p)
@@ -201,7 +201,7 @@ pub trait OwnDocument: Sized + Drop {
 
     /// The summary of the document, which has nothing pending, with these names of connections.
     ///
-    /// Answers `OutOfMemory` where there is no room for it, or it is too long for a summary.
+    /// Returns `OutOfMemory` where there is no room for it, or it is too long for a summary.
     fn summary(&self, conns: Texts) -> Result<SumDoc, OutOfMemory>
         requires { HoldsOne holds self.now (λ p. p.pending ≡ []) }
         ensures sum { (held : HeldDocument) → NamesFit held → held.stages ≡ [] → holds self.now held
@@ -210,7 +210,7 @@ pub trait OwnDocument: Sized + Drop {
 
     /// Takes away all elements that were removed at or below the floor `seq`, where `COMPACTS`.
     ///
-    /// Answers `OutOfMemory` where there is no room for that.
+    /// Returns `OutOfMemory` where there is no room for that.
     fn compact(&mut self, seq: u64) -> Result<(), OutOfMemory>
         requires { HoldsOne holds self.old (λ p. floor p ≡ seq) }
         ensures compacts { (low : ℕ) (p : NaiveClient) → IsWellNamed p → floor p ≡ seq → holds self.old (held_by low p) → OnOk result (Compacts holds self.new p) }
@@ -218,7 +218,7 @@ pub trait OwnDocument: Sized + Drop {
 
     /// Takes away some of them, which needs little time: called again and again, all of them.
     ///
-    /// Answers `OutOfMemory` where there is no room for that.
+    /// Returns `OutOfMemory` where there is no room for that.
     fn tidy(&mut self, seq: u64) -> Result<(), OutOfMemory>
         requires { HoldsOne holds self.old (λ p. floor p ≡ seq) }
         ensures { (low : ℕ) (p : NaiveClient) → IsWellNamed p → floor p ≡ seq → holds self.old (held_by low p) → OnOk result (Compacts holds self.new p) };

@@ -1,6 +1,6 @@
 //! A client, written once over any document that keeps its own pending stages.
 //!
-//! A call that can't answer `OutOfMemory` takes no memory.
+//! A call that can't return `OutOfMemory` takes no memory.
 #![tactic(auto)]
 
 pub mod connections;

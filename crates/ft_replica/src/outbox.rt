@@ -59,7 +59,7 @@ impl Outbox {
 
     /// Adds a message behind the others.
     ///
-    /// Answers `OutOfMemory` where there is no room for it or the next number would pass 2^64 - 1, and then
+    /// Returns `OutOfMemory` where there is no room for it or the next number would pass 2^64 - 1, and then
     /// nothing changed.
     pub fn push(&mut self, draft: Draft) -> Result<(), OutOfMemory>
         ensures ok { OnOk result (self.new ≡ record { next = self.old.next + 1; drafts = self.old.drafts ++ draft ∷ [] }) }
@@ -73,7 +73,7 @@ impl Outbox {
 
     /// Adds the message of an edit behind the others, if it is sent.
     ///
-    /// Answers `OutOfMemory` where there is no room for it or the next number would pass 2^64 - 1, and then
+    /// Returns `OutOfMemory` where there is no room for it or the next number would pass 2^64 - 1, and then
     /// nothing changed.
     pub fn send(&mut self, sent: &Option<Sent>, ref_seq: u64) -> Result<(), OutOfMemory>
         ensures ok { OnOk result (self.new ≡ with_sent sent.now ref_seq self.old) }

@@ -169,7 +169,7 @@ impl PendingEdits {
 
     /// Adds an edit behind the others, and its message to the outbox, if it is sent.
     ///
-    /// Answers `OutOfMemory` where there is no room for that, or the next number of the outbox would pass
+    /// Returns `OutOfMemory` where there is no room for that, or the next number of the outbox would pass
     /// 2^64 - 1, and then nothing changed.
     pub fn push(&mut self, edit: PendingEdit, outbox: &mut Outbox) -> Result<(), OutOfMemory>
         ensures edits { OnOk result (self.new ≡ self.old ++ edit ∷ []) }
@@ -194,7 +194,7 @@ impl PendingEdits {
 
     /// How many stages each has.
     ///
-    /// Answers `OutOfMemory` where there is no room for that.
+    /// Returns `OutOfMemory` where there is no room for that.
     pub fn counts(&self, alloc: Global) -> Result<Vec<usize>, OutOfMemory>
         ensures { IfOk result (λ v. v.items ≡ map (λ e. e.count) self.now) }
     {

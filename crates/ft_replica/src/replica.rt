@@ -208,7 +208,7 @@ fn is_nameless_after(was: bool, entry: &Entry) -> bool
 
 /// So many names of the table, in which none stands twice.
 ///
-/// Answers `OutOfMemory` where there is no room for them, or it has fewer.
+/// Returns `OutOfMemory` where there is no room for them, or it has fewer.
 fn first_names(names: &Names, count: u32) -> Result<Texts, OutOfMemory>
     ensures first { IfOk result (λ conns. conns ≡ take count names.now) }
     ensures distinct { AreDistinct names.now }

@@ -80,7 +80,7 @@ impl<D: OwnDocument> StoppingClient<D> {
 
     /// Takes an edit of the client's own.
     ///
-    /// Answers `Stopped` where it stopped before; then the client's refusal; and `OutOfMemory` where there is no
+    /// Returns `Stopped` where it stopped before; then the client's refusal; and `OutOfMemory` where there is no
     /// room, after which it has stopped.
     pub fn edit<G: Ledger>(&mut self, op: &ChannelOp, steps: &mut Steps<G>) -> Result<(), EditFault>
         requires formed { IsWellFormed op.now }
@@ -103,7 +103,7 @@ impl<D: OwnDocument> StoppingClient<D> {
 
     /// Processes the next message; before it takes that it looks for some of what may be forgotten.
     ///
-    /// Answers `Stopped` where it stopped before; then the client's refusal; and `OutOfMemory` where there is no
+    /// Returns `Stopped` where it stopped before; then the client's refusal; and `OutOfMemory` where there is no
     /// room, after which it has stopped.
     pub fn process(&mut self, entry: &Entry) -> Result<(), ProcessFault>
         requires formed { IsWellFormedMessage entry.now.msg }
@@ -129,7 +129,7 @@ impl<D: OwnDocument> StoppingClient<D> {
 
     /// Begins to join under a new connection.
     ///
-    /// Answers `Stopped` where it stopped before; then `AlreadyConnected` where the client isn't offline; and
+    /// Returns `Stopped` where it stopped before; then `AlreadyConnected` where the client isn't offline; and
     /// `OutOfMemory` where there is no room, after which it has stopped.
     pub fn connect(&mut self, conn: u32) -> Result<(), LinkFault>
         ensures { AnswersOwn D.holds D.shown link_fault_kind (λ p. connect p conn) self.old self.new result }
@@ -149,7 +149,7 @@ impl<D: OwnDocument> StoppingClient<D> {
 
     /// Goes offline; the messages that it didn't send are gone.
     ///
-    /// Answers `Stopped` where it stopped before, and then `NotConnected` where the client is offline.
+    /// Returns `Stopped` where it stopped before, and then `NotConnected` where the client is offline.
     pub fn drop_link(&mut self) -> Result<(), LinkFault>
         ensures answers { AnswersOwn D.holds D.shown link_fault_kind drop_link self.old self.new result }
         ensures memory { ¬ (result ≡ Err LinkFault.OutOfMemory) }
@@ -164,7 +164,7 @@ impl<D: OwnDocument> StoppingClient<D> {
 
     /// Queues a message that tells the client's number alone.
     ///
-    /// Answers `Stopped` where it stopped before; then `NotConnected` where the client isn't online; and
+    /// Returns `Stopped` where it stopped before; then `NotConnected` where the client isn't online; and
     /// `OutOfMemory` where there is no room, after which it has stopped.
     pub fn noop(&mut self) -> Result<(), LinkFault>
         ensures { AnswersOwn D.holds D.shown link_fault_kind noop self.old self.new result }
@@ -192,7 +192,7 @@ impl<D: OwnDocument> StoppingClient<D> {
 
     /// Takes away all that was removed at or below the floor, where the document compacts.
     ///
-    /// Answers `Stopped` where it stopped before, and `OutOfMemory` where there is no room, after which it has
+    /// Returns `Stopped` where it stopped before, and `OutOfMemory` where there is no room, after which it has
     /// stopped.
     pub fn compact(&mut self) -> Result<(), ViewFault>
         requires { self.old.stop ≡ None → RunsForOne D.holds self.old.client Anyone }

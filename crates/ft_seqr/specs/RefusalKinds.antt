@@ -1,4 +1,4 @@
--- What a refusal says: want of memory, a stop before, or that the naive session refuses.
+-- What a refusal says: OutOfMemory, a stop before, or that the naive session refuses.
 use Rattle.std.specs.Prelude.{Bool, true, false}
 use Rattle.ft_seqr.specs.declared.refusals.Refusal.{Refusal}
 use Rattle.ft_seqr.specs.declared.refusals.Refusal.TheVariants.{OutOfMemory, Stopped}
@@ -20,7 +20,7 @@ MeansOf WantsMemory wants refuses = wants
 MeansOf HadStopped wants refuses = ⊥
 MeansOf Refused wants refuses = refuses
 
--- whether it is want of memory
+-- whether it is OutOfMemory
 abbrev pub wants_memory : RefusalKind → Bool
 wants_memory WantsMemory = true
 wants_memory _ = false

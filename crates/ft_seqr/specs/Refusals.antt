@@ -30,7 +30,7 @@ abbrev pub refusal_of_cause : Cause → Refusal
 refusal_of_cause cause.CountLimit = CountLimit
 refusal_of_cause fault = Malformed fault
 
--- the refusal of a text that a call couldn't read; want of memory is no fault of the text
+-- the refusal of a text that a call couldn't read; OutOfMemory is no fault of the text
 abbrev pub refusal_of_reading : Cause → Refusal
 refusal_of_reading cause.OutOfMemory = OutOfMemory
 refusal_of_reading fault = refusal_of_cause fault
@@ -50,7 +50,7 @@ refusal_of_link (link.Stopped seq) = Stopped
 refusal_of_link link.AlreadyConnected = AlreadyConnected
 refusal_of_link link.NotConnected = NotConnected
 
--- the refusal of the message with this number; in a session none but want of memory comes, since its messages are those of the log
+-- the refusal of the message with this number; in a session none but OutOfMemory comes, since its messages are those of the log
 abbrev pub refusal_of_process : ℕ → ProcessFault → Refusal
 refusal_of_process number processing.OutOfMemory = OutOfMemory
 refusal_of_process number (processing.Stopped seq) = Stopped
@@ -103,7 +103,7 @@ abbrev pub submit_fault_text : SubmitFault → List ℕ
 submit_fault_text (submitting.Nack nack) = nack_text nack
 submit_fault_text submitting.OutOfMemory = codes "OutOfMemory"
 
--- the number of a refusal; want of memory, now or earlier, ends a run and has none
+-- the number of a refusal; OutOfMemory, now or earlier, ends a run and has none
 abbrev pub refusal_number : Refusal → ℕ
 refusal_number (Malformed fault) = 1
 refusal_number UnknownClient = 2

@@ -25,7 +25,7 @@ use std::alloc::Global;
 /// The text of an interval that meets a range: the array of its id, its ends and its properties, where
 /// a value of more than 127 levels is null.
 ///
-/// Answers `OutOfMemory` where there is no room for it.
+/// Returns `OutOfMemory` where there is no room for it.
 pub fn overlap_text(alloc: Global, interval: &IntervalRec) -> Result<ValText, OutOfMemory>
     ensures { IfOk result (λ text. text ≡ compact_text (written_overlap interval.now)) }
 {
@@ -88,7 +88,7 @@ fn value_of(alloc: Global, text: &ValText) -> Result<Value, OutOfMemory>
 /// The text of a run of characters of one origin: by whom, where it ends, the number of the message,
 /// and where it starts.
 ///
-/// Answers `OutOfMemory` where there is no room for it.
+/// Returns `OutOfMemory` where there is no room for it.
 pub fn origin_run_text(alloc: Global, names: &Names, run: &AttrRun) -> Result<ValText, OutOfMemory>
     ensures { IfOk result (λ text. text ≡ compact_text (written_origin_run names.now run.now)) }
 {
@@ -155,7 +155,7 @@ fn origin_number(who: Origin) -> Value
 /// The texts of how many characters each connection inserted, then how many nobody known, then how
 /// many are pending; each only where there are some.
 ///
-/// Answers `OutOfMemory` where there is no room for them.
+/// Returns `OutOfMemory` where there is no room for them.
 pub fn author_texts(
     alloc: Global,
     names: &Names,

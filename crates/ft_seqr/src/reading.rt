@@ -18,7 +18,7 @@ use std::alloc::Global;
 
 /// The event that the line is.
 ///
-/// Answers `Malformed` with the first fault in the order in which its fields are tested, `CountLimit`
+/// Returns `Malformed` with the first fault in the order in which its fields are tested, `CountLimit`
 /// where that is too great a count, and `OutOfMemory` where there is no room for it.
 pub fn read_event(alloc: Global, line: &[u8]) -> Result<Event, Refusal>
     ensures { ReadsEvent line.now result }
@@ -98,7 +98,7 @@ fn read_later_event(alloc: Global, value: &Value, word: &str) -> Result<Event, C
 
 /// The client of an event.
 ///
-/// Answers the first fault of the field, and `OutOfMemory` where there is no room for the name.
+/// Returns the first fault of the field, and `OutOfMemory` where there is no room for the name.
 #[tactic(auto, unfolding(crate::specs::EventGrammar::client_name_field))]
 pub fn read_client(alloc: Global, value: &Value) -> Result<Text, Cause>
     ensures ok { IfOk result (λ client. client_name_field (view value.now) ≡ Ok client) }
@@ -231,7 +231,7 @@ fn read_deliver(alloc: Global, value: &Value) -> Result<Event, Cause>
 
 /// How many messages the field `count` asks for; 1 without the field.
 ///
-/// Answers `WrongKind` of that field exactly where it is neither a count nor "all".
+/// Returns `WrongKind` of that field exactly where it is neither a count nor "all".
 pub fn read_count(value: Option<&Value>) -> Result<HowMany, Cause>
     ensures { result ≡ given_count (option_map (λ d. view d.now) value.entry) }
 {
@@ -267,7 +267,7 @@ fn read_start(alloc: Global, value: &Value) -> Result<Event, Cause>
 
 /// The client whose summary a new client starts from, if one is named.
 ///
-/// Answers `WrongKind` of the field `from` where that is no string, and `OutOfMemory` where there is no room for it.
+/// Returns `WrongKind` of the field `from` where that is no string, and `OutOfMemory` where there is no room for it.
 pub fn read_from(alloc: Global, value: Option<&Value>) -> Result<Option<Text>, Cause>
     ensures ok { IfOk result (λ from. given_from (option_map (λ d. view d.now) value.entry) ≡ Ok from) }
     ensures err { IfErr result (λ cause. cause ≢ Cause.OutOfMemory → given_from (option_map (λ d. view d.now) value.entry) ≡ Err cause) }

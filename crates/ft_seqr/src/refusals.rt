@@ -123,14 +123,14 @@ impl Refusal {
         }
     }
 
-    /// Whether it is want of memory.
+    /// Whether it is `OutOfMemory`.
     pub fn is_want(self) -> bool
         ensures { result ≡ is_want self }
     {
         matches!(self, Refusal::OutOfMemory)
     }
 
-    /// The number under which it is written; want of memory is never written and has 0.
+    /// The number under which it is written; `OutOfMemory` is never written and has 0.
     pub fn number(self) -> u64
         ensures { result ≡ refusal_number self }
     {

@@ -49,7 +49,7 @@ impl Joined {
 
     /// The message of its draft under that number, with 0 as its minimum.
     ///
-    /// Answers `OutOfMemory` where there is no room for it, or a number of the draft is above 2^63 - 1.
+    /// Returns `OutOfMemory` where there is no room for it, or a number of the draft is above 2^63 - 1.
     fn entry(&self, number: u64, draft: &Draft) -> Result<Entry, OutOfMemory>
         ensures { IfOk result (λ entry. entry ≡ record {
           msg = record { client_id = Some self.now.name; seq = number; min = 0; client_seq = pos draft.now.client_seq; ref_seq = pos draft.now.ref_seq; kind = draft_kind draft.now.body; body = draft.now.body };
@@ -73,7 +73,7 @@ impl Joined {
 
 /// The number as a signed one.
 ///
-/// Answers `OutOfMemory` where it is above 2^63 - 1.
+/// Returns `OutOfMemory` where it is above 2^63 - 1.
 fn signed(number: u64) -> Result<i64, OutOfMemory>
     ensures { IfOk result (λ z. z ≡ pos number) }
 {
@@ -159,7 +159,7 @@ impl Sequencer {
 
     /// Joins a connection, and gives the message that tells of it.
     ///
-    /// Answers `OutOfMemory` where there is no room for them, or the number of the message would pass
+    /// Returns `OutOfMemory` where there is no room for them, or the number of the message would pass
     /// 2^64 - 1, and then nothing changed.
     pub fn join(&mut self, conn: u32, name: &Text) -> Result<Entry, OutOfMemory>
         ensures ok { IfOk result (λ entry. join self.old conn name.now ≡ (self.new, entry)) }
@@ -179,7 +179,7 @@ impl Sequencer {
 
     /// Takes the connection out, and gives the message that tells of it.
     ///
-    /// Answers `NotJoined` exactly where it isn't joined, and `OutOfMemory` where there is no room for
+    /// Returns `NotJoined` exactly where it isn't joined, and `OutOfMemory` where there is no room for
     /// the message, or its number would pass 2^64 - 1. Nothing changed then.
     pub fn leave(&mut self, conn: u32) -> Result<Entry, LeaveFault>
         ensures ok { IfOk result (λ entry. leave self.old conn ≡ Some (self.new, entry)) }
@@ -198,7 +198,7 @@ impl Sequencer {
 
     /// Gives the draft of the connection its number, and gives its message.
     ///
-    /// Answers `Nack` with the first reason that holds against the draft, and `OutOfMemory` where there
+    /// Returns `Nack` with the first reason that holds against the draft, and `OutOfMemory` where there
     /// is no room for the message, or a number of it would pass 2^64 - 1, or one of the draft 2^63 - 1.
     /// Nothing changed then.
     pub fn submit(&mut self, conn: u32, draft: &Draft) -> Result<Entry, SubmitFault>
@@ -223,7 +223,7 @@ impl Sequencer {
 
     /// The first of four reasons to refuse the draft of the joined connection.
     ///
-    /// Answers `OutOfMemory` where the number that it is to have would pass 2^64 - 1.
+    /// Returns `OutOfMemory` where the number that it is to have would pass 2^64 - 1.
     fn nack(&self, joined: &Joined, draft: &Draft) -> Result<Option<Nack>, OutOfMemory>
         ensures { IfOk result (λ nack. nack ≡ nack_of self.now joined.now draft.now) }
     {
@@ -250,7 +250,7 @@ impl Sequencer {
 
     /// The number of the next message.
     ///
-    /// Answers `OutOfMemory` where it would pass 2^64 - 1.
+    /// Returns `OutOfMemory` where it would pass 2^64 - 1.
     fn next_number(&self) -> Result<u64, OutOfMemory>
         ensures { IfOk result (λ number. number ≡ self.now.number + 1) }
     {

@@ -196,7 +196,7 @@ module _ (m : MemberState) (before : ServiceState) where
           link.NotConnected (a.client c.client (meets-reached w c m before meets) meets.member.replica.client));
     }
 
--- a connection always joins, but for want of memory
+-- a connection always joins, but where it is out of memory
 pub join-wanting : (m new : MemberState) (before after : ServiceState) (name : Characters) (why : Refusal)
     → ((w : NaiveWorld) → before ≡ service_of w → AnswersService before after (Ok (joined name w)) (Err why)) → AnswersClient connect_client m new before after (Err why)
 join-wanting m new before after name why h = record {

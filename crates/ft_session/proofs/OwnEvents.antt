@@ -157,7 +157,7 @@ pub unchanged : {event : NaiveWorld → NamedClient → Stepped} {m old : Member
     → m ≡ old → AnswersClient event m m before after result → AnswersClient event old old before after result
 unchanged {event} {m} {old} {before} {after} {result} e a = subst (λ o. AnswersClient event o o before after result) e a
 
--- nothing is said of want of memory
+-- nothing is said of OutOfMemory
 pub client-wants : {event : NaiveWorld → NamedClient → Stepped} {old new : MemberState} {before after : ServiceState} (why : Refusal) (result : Result Out Refusal)
     → IsErr result × IsErrAnd result (λ w. w ≡ why) → (r : Result (Unit {0}) Refusal) → r ≡ Err why → r ≡ Err OutOfMemory → AnswersClient event old new before after result
 client-wants {event} {old} {new} {before} {after} why result h r e k =

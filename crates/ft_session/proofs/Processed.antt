@@ -88,7 +88,7 @@ module _ (entry : Entry) (old new : ReplicaState) where
       let k : z ≡ y = process-same (process x entry) z y e (first-ok x y p.takes) in
       record { runs = record { running = a.state.runs; client = subst (StandsFor new.client) k f.client }; origin = a.state.origin }
 
-  -- its client takes it, so the replica wants memory where it doesn't
+  -- its client takes it, so the replica is out of memory where it doesn't
   pub one-wanting : CanProcess old (entry ∷ []) → (fault : ProcessFault) → Answers process_fault_kind entry.origin (λ x. process x entry) old new (Err fault)
       → (n : ℕ) → refusal_of_process n fault ≡ OutOfMemory
   one-wanting can processing.OutOfMemory a n = refl

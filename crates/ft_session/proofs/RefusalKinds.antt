@@ -38,7 +38,7 @@ view-alike (viewing.Stopped seq) = tt
 pub some-none : {A : Type 0} (stop : Option ℕ) (seq : ℕ) → stop ≡ None → stop ≡ Some seq → A
 some-none stop seq h k = let e : None ≡ Some seq = sym h ∙ k in (cc)
 
--- so a running replica's fault is its client's refusal, and changes nothing, or is want of memory
+-- so a running replica's fault is its client's refusal, and changes nothing, or is OutOfMemory
 pub fault-means : (R : Type 0) (old new : ReplicaState) (k : FaultKind) (l : RefusalKind) → SayAlike k l → old.stop ≡ None → AnswersFault old new k → MeansRefusal k R
     → MeansOf l ⊤ ((new ≡ old) × R)
 fault-means R old new WantOfMemory WantsMemory s h a m = tt

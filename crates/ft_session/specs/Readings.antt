@@ -13,7 +13,7 @@ abbrev pub read_or_refused : {A : Type 0} → Result A Cause → Result A Refusa
 read_or_refused (Ok read) = Ok read
 read_or_refused (Err cause) = Err (refusal_of_cause cause)
 
--- the answer is that, or want of memory
+-- the answer is that, or OutOfMemory
 abbrev pub ReadsOr : {A : Type 0} → Result A Cause → Result A Refusal → Type 0
 ReadsOr expected (Ok read) = expected ≡ Ok read
 ReadsOr expected (Err why) = MeansOf (refusal_kind why) ⊤ (read_or_refused expected ≡ Err why)

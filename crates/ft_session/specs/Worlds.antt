@@ -142,7 +142,7 @@ pub record StopsWithCounts (old new : WorldState) : Type 0 where
   pub counts : new.counts ≡ old.counts
 
 -- the answer of a world that stood for a naive one to an event: what the naive world writes, and then the world stands for the
--- naive one after it; its refusal, and then nothing changed; or want of memory, and then the world has stopped
+-- naive one after it; its refusal, and then nothing changed; or OutOfMemory, and then the world has stopped
 abbrev pub AnswersRunning : WorldState → WorldState → Stepped → Result Out Refusal → Type 0
 AnswersRunning old new stepped (Ok out) = (p : NaiveWorld × Output) × (stepped ≡ Ok p) × WorldStands new p.0 × Tells p.1 out
 AnswersRunning old new stepped (Err why) = MeansOf (refusal_kind why) (StopsWithCounts old new) ((new ≡ old) × (stepped ≡ Err why))

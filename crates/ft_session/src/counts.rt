@@ -6,7 +6,7 @@ use ft_base::OutOfMemory;
 
 /// A count, after one more.
 ///
-/// Answers `OutOfMemory` where it would pass 2^64 - 1.
+/// Returns `OutOfMemory` where it would pass 2^64 - 1.
 pub(crate) fn next_count(count: u64) -> Result<u64, OutOfMemory>
     ensures { IfOk result (λ next. next ≡ count + 1) }
 {

@@ -60,7 +60,7 @@ pub(crate) fn compact<R: Replica>(member: &mut Member<R>, service: &Service) -> 
 
 /// So many of the replica's oldest unsent messages are submitted for its connection.
 ///
-/// Answers `OutOfMemory` where there is no room for a message.
+/// Returns `OutOfMemory` where there is no room for a message.
 fn submit_oldest<R: Replica>(
     replica: &mut R,
     service: &mut Service,
@@ -81,7 +81,7 @@ fn submit_oldest<R: Replica>(
 
 /// The replica's oldest unsent message, if there is one, is submitted for its connection.
 ///
-/// Answers `OutOfMemory` where there is no room for it.
+/// Returns `OutOfMemory` where there is no room for it.
 fn submit_next<R: Replica>(replica: &mut R, service: &mut Service, conn: u32) -> Result<(), Refusal>
     requires { CanSubmit service.old conn (take 1 (R.state replica.old).client.queue) }
     ensures service { (w : NaiveWorld) (v : NaiveWorld) → service.old ≡ service_of w → submit_all w conn (take 1 (R.state replica.old).client.queue) ≡ Ok v

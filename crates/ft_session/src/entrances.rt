@@ -57,7 +57,7 @@ impl<R: Replica + Drop> Session<R> {
 
     /// Whether the name can be given.
     ///
-    /// Answers `NameInUse` exactly where a client or a guest has it, and `ClientLimit` exactly where there
+    /// Returns `NameInUse` exactly where a client or a guest has it, and `ClientLimit` exactly where there
     /// are 16 of these.
     pub(crate) fn free_name(&self, name: &Text) -> Result<(), Refusal>
         ensures { (w : NaiveWorld) → SessionStands self.now w → AnswersName (name_fault w name.now) result }

@@ -14,7 +14,7 @@ use std::alloc::Global;
 /// What an event adds: one, and for its operation, or that of the text in it, one for each
 /// sub-operation and for each inserted element.
 ///
-/// Answers `OutOfMemory` where there is no room to read the text, or the sum would pass 2^64 - 1.
+/// Returns `OutOfMemory` where there is no room to read the text, or the sum would pass 2^64 - 1.
 pub(crate) fn event_load(alloc: Global, event: &Event) -> Result<u64, OutOfMemory>
     ensures { IfOk result (λ n. n ≡ 1 + text_load event.now) }
 {

@@ -46,7 +46,7 @@ impl Service {
 
     /// The number of the next connection.
     ///
-    /// Answers `OutOfMemory` where there is no such number any more.
+    /// Returns `OutOfMemory` where there is no such number any more.
     pub(crate) fn next_conn(&self) -> Result<u32, OutOfMemory>
         ensures next { IfOk result (λ conn. conn ≡ length self.now.names + 1) }
         ensures few { IfOk result (λ conn. length self.now.names < 2 ^ 32 - 1) }
@@ -60,7 +60,7 @@ impl Service {
 
     /// The next connection, under this name, joins.
     ///
-    /// Answers `OutOfMemory` where there is no room for its message.
+    /// Returns `OutOfMemory` where there is no room for its message.
     pub(crate) fn join(&mut self, name: &Text) -> Result<(), Refusal>
         requires few { length self.old.names < 2 ^ 32 - 1 }
         requires new { IsNewName self.old.names name.now }
@@ -74,7 +74,7 @@ impl Service {
 
     /// The connection leaves.
     ///
-    /// Answers `NotConnected` exactly where it isn't joined, and `OutOfMemory` where there is no room
+    /// Returns `NotConnected` exactly where it isn't joined, and `OutOfMemory` where there is no room
     /// for its message.
     pub(crate) fn leave(&mut self, conn: u32) -> Result<(), Refusal>
         ensures { (w : NaiveWorld) → self.old ≡ service_of w → AnswersService self.old self.new (left_or_refused conn w) result }
@@ -86,7 +86,7 @@ impl Service {
 
     /// A draft of the connection is submitted.
     ///
-    /// Answers `Nacked` with the first reason against it, and `OutOfMemory` where there is no room for
+    /// Returns `Nacked` with the first reason against it, and `OutOfMemory` where there is no room for
     /// its message.
     pub(crate) fn submit(&mut self, conn: u32, draft: &Draft) -> Result<(), Refusal>
         ensures { (w : NaiveWorld) → self.old ≡ service_of w → AnswersService self.old self.new (submit_all w conn (draft.now ∷ [])) result }

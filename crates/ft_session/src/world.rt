@@ -70,11 +70,11 @@ impl<R: Replica + Drop> World<R> {
     /// An event happens. What it writes is what the naive world writes. A view has the numbers of its
     /// client's replica; where `R::COMPACTS`, a compaction takes away everything of its client's replica
     /// that nobody can see any more; and a client that starts from another one keeps what a summary keeps
-    /// of that one's document, and no more. `laws` says what holds of each world that it answers: views are what
+    /// of that one's document, and no more. `laws` says what holds of each world that it returns: views are what
     /// all would see with the pending edits sequenced next; equal numbers show, count and attribute alike;
     /// an own join changes no view.
     ///
-    /// Answers `Stopped` exactly where an earlier event found no memory; then the refusal of the naive
+    /// Returns `Stopped` exactly where an earlier event found no memory; then the refusal of the naive
     /// world, and nothing changed; and `OutOfMemory` where there is no room, or the load would pass
     /// 2^52, after which the world has stopped.
     pub fn step(&mut self, event: &Event) -> Result<Out, Refusal>
@@ -169,7 +169,7 @@ fn take<R: Replica + Drop>(
 
 // A load with so much more.
 //
-// Answers `OutOfMemory` where it would pass the greatest one.
+// Returns `OutOfMemory` where it would pass the greatest one.
 fn raised(load: u64, more: u64) -> Result<u64, OutOfMemory>
     ensures sum { IfOk result (λ sum. sum ≡ load + more) }
     ensures low { IfOk result (λ sum. sum ≤ 2 ^ 52) }

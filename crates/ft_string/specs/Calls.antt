@@ -30,14 +30,14 @@ pub record TakesEdit (new : TextState) (stages : List Stage) (step : Result (Doc
   pub holds : HoldsText new after (stages ++ more)
   pub counted : length more ≡ count
 
--- what the answer to an edit means for a document that was held: it takes the edit, or refuses it so; of want of memory nothing
+-- what the answer to an edit means for a document that was held: it takes the edit, or refuses it so; of OutOfMemory nothing
 -- is said
 abbrev pub AnswersEdit : TextState → List Stage → Result (Document × List Stage) EditFault → Result ℕ EditFault → Type 0
 AnswersEdit new stages step (Ok n) = TakesEdit new stages step n
 AnswersEdit new stages step (Err OutOfMemory) = ⊤
 AnswersEdit new stages step (Err fault) = step ≡ Err fault
 
--- what a refusal leaves: all as it was; after want of memory the text may be used no more; a text never stops
+-- what a refusal leaves: all as it was; after OutOfMemory the text may be used no more; a text never stops
 abbrev pub Leaves : TextState → TextState → EditFault → Type 0
 Leaves old new OutOfMemory = new.usable ≡ false
 Leaves old new (Stopped seq) = ⊥

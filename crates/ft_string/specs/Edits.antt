@@ -56,7 +56,7 @@ edit_fault_of interval.NoSuchInterval = NoSuchInterval
 edit_fault_of (interval.OutOfRange l) = OutOfRange l
 edit_fault_of interval.OutOfMemory = OutOfMemory
 
--- whether it is a refusal, and not want of memory
+-- whether it is a refusal, and not OutOfMemory
 abbrev pub is_refusal : IntervalFault → Bool
 is_refusal interval.OutOfMemory = false
 is_refusal _ = true

@@ -48,7 +48,7 @@ fn next_up_to(intervals: &Collections, ops: &VecDeque<PendingOp>, last: u64) -> 
 
 /// Acknowledges a stage, which is the lowest.
 ///
-/// Answers `OutOfMemory` where there is no room for what it makes.
+/// Returns `OutOfMemory` where there is no room for what it makes.
 fn ack_stage(
     tree: &mut Tree<TextContent>,
     intervals: &mut Collections,
@@ -72,7 +72,7 @@ fn ack_stage(
 
 /// Acknowledges the pending stages up to the last one, from the lowest on.
 ///
-/// Answers `OutOfMemory` where there is no room for what they make.
+/// Returns `OutOfMemory` where there is no room for what they make.
 fn ack_all(
     tree: &mut Tree<TextContent>,
     intervals: &mut Collections,
@@ -97,7 +97,7 @@ impl SharedString {
     /// Acknowledges the pending ones of the `count` stages from `first` on, which are the lowest, under number `seq` of
     /// connection `conn`, one after another.
     ///
-    /// Answers `OutOfMemory` where there is no room for what they make, and then the text may be used no more.
+    /// Returns `OutOfMemory` where there is no room for what they make, and then the text may be used no more.
     pub fn ack(&mut self, first: u64, count: u64, seq: u64, conn: u32) -> Result<(), OutOfMemory>
         requires usable { IsTrue self.old.usable }
         requires none_given { self.old.given ≡ 0 }

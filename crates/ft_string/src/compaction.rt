@@ -15,7 +15,7 @@ impl SharedString {
     /// Raises the floor, and takes all elements out that were removed at or below it. They carry nothing pending, no end of an
     /// interval is on them, and they stand before no pending element.
     ///
-    /// Answers `OutOfMemory` where there is no room for what is kept, and then the text may be used no more.
+    /// Returns `OutOfMemory` where there is no room for what is kept, and then the text may be used no more.
     pub fn compact(&mut self, floor: u64) -> Result<(), OutOfMemory>
         requires usable { IsTrue self.old.usable }
         requires none_given { self.old.given ≡ 0 }
@@ -38,7 +38,7 @@ impl SharedString {
 
     /// The same for `budget` further leaves, or all if fewer.
     ///
-    /// Answers `OutOfMemory` where there is no room for what is kept, and then the text may be used no more.
+    /// Returns `OutOfMemory` where there is no room for what is kept, and then the text may be used no more.
     pub fn tidy(&mut self, floor: u64, budget: u64) -> Result<(), OutOfMemory>
         requires usable { IsTrue self.old.usable }
         requires none_given { self.old.given ≡ 0 }

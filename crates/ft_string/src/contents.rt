@@ -24,7 +24,7 @@ use std::sync::ledger::Ledger;
 
 /// The contents of the leaves of a segment, in order.
 ///
-/// Answers `OutOfMemory` where there is no room for them.
+/// Returns `OutOfMemory` where there is no room for them.
 pub(crate) fn contents_of(alloc: Global, seg: &Seg) -> Result<Vec<TextContent>, OutOfMemory>
     ensures units { IfOk result (λ v. flat_map text_units v.items ≡ segment_contents seg.now) }
     ensures new { IfOk result (λ v. are_new v.items ≡ true) }
@@ -42,7 +42,7 @@ pub(crate) fn contents_of(alloc: Global, seg: &Seg) -> Result<Vec<TextContent>, 
 
 /// Adds a character to a run.
 ///
-/// Answers `OutOfMemory` where there is no room for it.
+/// Returns `OutOfMemory` where there is no room for it.
 pub(crate) fn push_character(run: &mut String, c: char) -> Result<(), OutOfMemory>
     ensures { OnOk result (chars (string_bytes run.new) ≡ chars (string_bytes run.old) ++ c ∷ []) }
 {
@@ -52,7 +52,7 @@ pub(crate) fn push_character(run: &mut String, c: char) -> Result<(), OutOfMemor
 
 /// The content of a leaf with these characters.
 ///
-/// Answers `OutOfMemory` where there is no room for it.
+/// Returns `OutOfMemory` where there is no room for it.
 fn run_of(alloc: Global, characters: &[char]) -> Result<TextContent, OutOfMemory>
     requires { IsTextRun characters.now }
     ensures { IfOk result (λ content. content ≡ new_text (Run characters.now)) }
@@ -78,7 +78,7 @@ fn run_length(count: usize) -> usize
 
 /// The characters as runs of as many as a leaf may have, but for the last one.
 ///
-/// Answers `OutOfMemory` where there is no room for them.
+/// Returns `OutOfMemory` where there is no room for them.
 fn runs_of(alloc: Global, text: &[char]) -> Result<Vec<TextContent>, OutOfMemory>
     ensures units { IfOk result (λ v. flat_map text_units v.items ≡ map Character text.now) }
     ensures new { IfOk result (λ v. are_new v.items ≡ true) }
@@ -96,7 +96,7 @@ fn runs_of(alloc: Global, text: &[char]) -> Result<Vec<TextContent>, OutOfMemory
 
 /// The characters of a text.
 ///
-/// Answers `OutOfMemory` where there is no room for them.
+/// Returns `OutOfMemory` where there is no room for them.
 pub(crate) fn characters(alloc: Global, text: &str) -> Result<Vec<char>, OutOfMemory>
     ensures { IfOk result (λ v. v.items ≡ chars text.now) }
 {
@@ -106,7 +106,7 @@ pub(crate) fn characters(alloc: Global, text: &str) -> Result<Vec<char>, OutOfMe
 
 /// Puts the elements of a segment in, of a pending stage, directly after the `p`-th element of the local view.
 ///
-/// Answers `OutOfRange` where `p` is above the length of that view, and `OutOfMemory` where there is no room.
+/// Returns `OutOfRange` where `p` is above the length of that view, and `OutOfMemory` where there is no room.
 pub(crate) fn insert_local<G: Ledger>(
     tree: &mut Tree<TextContent>,
     p: u64,
@@ -131,7 +131,7 @@ pub(crate) fn insert_local<G: Ledger>(
 /// Puts the elements of a segment in under number `seq` by the perspective's connection, directly after the `p`-th element
 /// that it sees, but past the run of pending elements there.
 ///
-/// Answers `OutOfRange` where `p` is above the length seen, and `OutOfMemory` where there is no room.
+/// Returns `OutOfRange` where `p` is above the length seen, and `OutOfMemory` where there is no room.
 pub(crate) fn insert_remote<G: Ledger>(
     tree: &mut Tree<TextContent>,
     p: u64,

@@ -37,7 +37,7 @@ use std::sync::ledger::Ledger;
 
 /// Makes an operation at a pending stage, which is above all pending ones, in a tree that has the elements for it.
 ///
-/// Answers an error for want of memory alone.
+/// Returns no error but `OutOfMemory`.
 fn take_op<G: Ledger>(
     tree: &mut Tree<TextContent>,
     op: &BaseOp,
@@ -64,7 +64,7 @@ fn take_op<G: Ledger>(
 
 /// Makes an operation at a pending stage, and notes it.
 ///
-/// Answers `OutOfMemory` where there is no room for it.
+/// Returns `OutOfMemory` where there is no room for it.
 fn take_noted<G: Ledger>(
     tree: &mut Tree<TextContent>,
     pending: &mut VecDeque<PendingOp>,
@@ -92,7 +92,7 @@ fn take_noted<G: Ledger>(
 
 /// Makes operations one after another, each at the next stage, and notes them.
 ///
-/// Answers `OutOfMemory` where there is no room for them.
+/// Returns `OutOfMemory` where there is no room for them.
 fn take_all<G: Ledger>(
     tree: &mut Tree<TextContent>,
     pending: &mut VecDeque<PendingOp>,
@@ -143,7 +143,7 @@ fn take_interval(
     }
 }
 
-/// Whether it is a refusal, and not want of memory.
+/// Whether it is a refusal, and not `OutOfMemory`.
 fn is_refusal(fault: &IntervalFault) -> bool
     ensures { result ≡ is_refusal fault.now }
 {
@@ -167,12 +167,12 @@ fn edit_fault(fault: IntervalFault) -> EditFault
 }
 
 impl SharedString {
-    /// Makes an edit as pending stages from `first` on, which is above all pending ones, and answers how many it took. A group is
+    /// Makes an edit as pending stages from `first` on, which is above all pending ones, and returns how many it took. A group is
     /// refused as a whole.
     ///
-    /// Answers `IdInUse` exactly where a new interval's label has the id in the view, `NoSuchInterval` exactly where that of a
+    /// Returns `IdInUse` exactly where a new interval's label has the id in the view, `NoSuchInterval` exactly where that of a
     /// changed or deleted one doesn't have it, and else `OutOfRange` exactly where a position isn't in the list as the
-    /// operations before it leave it, and then nothing changed. Answers `OutOfMemory` where there is no room, or numbers of
+    /// operations before it leave it, and then nothing changed. Returns `OutOfMemory` where there is no room, or numbers of
     /// stages or elements would pass their limits, and then the text may be used no more.
     pub fn edit<G: Ledger>(
         &mut self,
@@ -211,7 +211,7 @@ impl SharedString {
         self.tree.first_leaf()
     }
 
-    /// The same, but that after want of memory nothing is said.
+    /// The same, but that after `OutOfMemory` nothing is said.
     fn edit_by_kind<G: Ledger>(
         &mut self,
         op: &TextOp,
@@ -238,9 +238,9 @@ impl SharedString {
         }
     }
 
-    /// Tests the operations by lengths alone, and answers how many elements they put in.
+    /// Tests the operations by lengths alone, and returns how many elements they put in.
     ///
-    /// Answers `OutOfRange` with the length before the first that is out of range, and `OutOfMemory` where numbers of stages or
+    /// Returns `OutOfRange` with the length before the first that is out of range, and `OutOfMemory` where numbers of stages or
     /// elements would pass their limits.
     fn test(&self, ops: &[BaseOp], first: u64) -> Result<(), EditFault>
         requires usable { IsTrue self.now.usable }
@@ -259,7 +259,7 @@ impl SharedString {
         Ok(())
     }
 
-    /// Makes operations on elements as pending stages from `first` on, and answers how many they are.
+    /// Makes operations on elements as pending stages from `first` on, and returns how many they are.
     fn edit_elements<G: Ledger>(
         &mut self,
         ops: &[BaseOp],

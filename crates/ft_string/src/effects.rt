@@ -27,7 +27,7 @@ use std::sync::ledger::Ledger;
 /// Applies an operation under number `seq` to a tree in which the perspective sees the elements for it. Removals let
 /// acknowledged references slide.
 ///
-/// Answers an error for want of memory alone.
+/// Returns no error but `OutOfMemory`.
 fn apply_op<G: Ledger>(
     tree: &mut Tree<TextContent>,
     op: &BaseOp,
@@ -54,10 +54,10 @@ fn apply_op<G: Ledger>(
     }
 }
 
-/// Applies an operation under number `seq`, if the perspective sees the elements for it, and answers how many it skipped: one,
+/// Applies an operation under number `seq`, if the perspective sees the elements for it, and returns how many it skipped: one,
 /// where it doesn't.
 ///
-/// Answers `OutOfMemory` where there is no room for it, or the number of elements would pass its limit.
+/// Returns `OutOfMemory` where there is no room for it, or the number of elements would pass its limit.
 fn try_op<G: Ledger>(
     tree: &mut Tree<TextContent>,
     op: &BaseOp,
@@ -83,9 +83,9 @@ fn try_op<G: Ledger>(
     }
 }
 
-/// Applies operations under number `seq` one after another, and answers how many were out of range.
+/// Applies operations under number `seq` one after another, and returns how many were out of range.
 ///
-/// Answers `OutOfMemory` where there is no room for them, or the number of elements would pass its limit.
+/// Returns `OutOfMemory` where there is no room for them, or the number of elements would pass its limit.
 fn try_all<G: Ledger>(
     tree: &mut Tree<TextContent>,
     ops: &[BaseOp],
@@ -107,10 +107,10 @@ fn try_all<G: Ledger>(
 }
 
 impl SharedString {
-    /// Applies an operation of a message of another client under number `seq` by the perspective's connection, and answers how
+    /// Applies an operation of a message of another client under number `seq` by the perspective's connection, and returns how
     /// many of its sub-operations were out of range.
     ///
-    /// Answers `OutOfMemory` where there is no room for what it makes, or the number of elements would pass its limit, and then
+    /// Returns `OutOfMemory` where there is no room for what it makes, or the number of elements would pass its limit, and then
     /// the text may be used no more.
     pub fn apply<G: Ledger>(
         &mut self,

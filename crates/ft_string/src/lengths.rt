@@ -17,7 +17,7 @@ use ft_tree::{TextContent, Tree};
 
 /// Both numbers together.
 ///
-/// Answers `OutOfMemory` where they are more than 2^64 - 1.
+/// Returns `OutOfMemory` where they are more than 2^64 - 1.
 pub(crate) fn sum(a: u64, b: u64) -> Result<u64, OutOfMemory>
     ensures { IfOk result (λ n. n ≡ a + b) }
 {
@@ -77,7 +77,7 @@ fn count_after(count: u64, op: &BaseOp) -> Option<u64>
 
 /// Tests the operations of a group, where so many elements are seen before the first.
 ///
-/// Answers `OutOfRange` with the count before the first that is out of range, and `OutOfMemory` where the elements would be
+/// Returns `OutOfRange` with the count before the first that is out of range, and `OutOfMemory` where the elements would be
 /// more than 2^64 - 1.
 pub(crate) fn test_all(count: u64, ops: &[BaseOp]) -> Result<(), EditFault>
     ensures fits { OnOk result (is_ok (count_after_all count ops.now) ≡ true) }
@@ -117,7 +117,7 @@ pub(crate) fn made_in(tree: &Tree<TextContent>) -> u64
 
 /// How many elements the operations of a group put in.
 ///
-/// Answers `OutOfMemory` where they are more than 2^64 - 1.
+/// Returns `OutOfMemory` where they are more than 2^64 - 1.
 pub(crate) fn put_in_by_all(ops: &[BaseOp]) -> Result<u64, OutOfMemory>
     ensures { IfOk result (λ n. n ≡ put_in_by_all ops.now) }
 {

@@ -1,6 +1,6 @@
 //! The shared text: elements in a merge tree, intervals on them, and what is pending on both.
 //!
-//! Contracts speak of each document, with pending stages, of which a text holds the text's part. After want of memory in a
+//! Contracts speak of each document, with pending stages, of which a text holds the text's part. After `OutOfMemory` in a
 //! call that changes it a text may be used no more.
 #![tactic(auto)]
 

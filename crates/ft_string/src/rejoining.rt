@@ -24,7 +24,7 @@ use std::mem;
 
 /// The piece as an operation: the original one at the places of now.
 ///
-/// Answers `OutOfMemory` where there is no room for it.
+/// Returns `OutOfMemory` where there is no room for it.
 fn operation_of(op: &BaseOp, piece: Piece) -> Result<BaseOp, OutOfMemory>
     ensures { IfOk result (λ again. again ≡ piece_op op.now piece) }
 {
@@ -50,7 +50,7 @@ fn operation_of(op: &BaseOp, piece: Piece) -> Result<BaseOp, OutOfMemory>
 
 /// Adds the operations that the pieces of an operation make.
 ///
-/// Answers `OutOfMemory` where there is no room for them.
+/// Returns `OutOfMemory` where there is no room for them.
 fn push_pieces(op: &BaseOp, parts: &[Piece], again: &mut BaseOps) -> Result<(), OutOfMemory>
     ensures { OnOk result (again.new ≡ again.old ++ map (piece_op op.now) parts.now) }
 {
@@ -60,9 +60,9 @@ fn push_pieces(op: &BaseOp, parts: &[Piece], again: &mut BaseOps) -> Result<(), 
     Ok(())
 }
 
-/// Adds the operations as which a pending operation is sent again, and answers whether there are any.
+/// Adds the operations as which a pending operation is sent again, and returns whether there are any.
 ///
-/// Answers `OutOfMemory` where there is no room for them.
+/// Returns `OutOfMemory` where there is no room for them.
 fn push_again(
     tree: &Tree<TextContent>,
     op: &PendingOp,
@@ -78,9 +78,9 @@ fn push_again(
 }
 
 /// Takes the operations of the stages up to the last one from the front. Those of which something is sent again go behind `kept`;
-/// answers what is sent.
+/// returns what is sent.
 ///
-/// Answers `OutOfMemory` where there is no room for it.
+/// Returns `OutOfMemory` where there is no room for it.
 fn give_ops(
     tree: &Tree<TextContent>,
     ops: &mut VecDeque<PendingOp>,
@@ -111,7 +111,7 @@ fn next_due(ops: &mut VecDeque<PendingOp>, last: u64) -> Option<PendingOp>
 
 /// Adds the operation, if it goes on.
 ///
-/// Answers `OutOfMemory` where there is no room for it.
+/// Returns `OutOfMemory` where there is no room for it.
 fn keep_if(kept: &mut VecDeque<PendingOp>, op: PendingOp, goes_on: bool) -> Result<(), OutOfMemory>
     ensures { OnOk result (kept.new.items ≡ kept.old.items ++ cond goes_on (op ∷ []) []) }
 {
@@ -133,7 +133,7 @@ fn is_due(ops: &VecDeque<PendingOp>, last: u64) -> bool
 
 /// The operation that these make: one bare, several as a group, none for none.
 ///
-/// Answers `OutOfMemory` where there is no room for it.
+/// Returns `OutOfMemory` where there is no room for it.
 fn one_of(ops: BaseOps) -> Result<Option<TextOp>, OutOfMemory>
     ensures { IfOk result (λ op. op ≡ one_of ops) }
 {
@@ -151,7 +151,7 @@ fn one_of(ops: BaseOps) -> Result<Option<TextOp>, OutOfMemory>
 
 /// What is sent again of the stages from `first` up to `last`.
 ///
-/// Answers `OutOfMemory` where there is no room for it.
+/// Returns `OutOfMemory` where there is no room for it.
 fn give(
     tree: &mut Tree<TextContent>,
     intervals: &mut Collections,
@@ -174,7 +174,7 @@ fn give(
 
 /// Adds what is in `back` to the end of `front`, and leaves nothing there.
 ///
-/// Answers `OutOfMemory` where there is no room for it.
+/// Returns `OutOfMemory` where there is no room for it.
 fn join(front: &mut VecDeque<PendingOp>, back: &mut VecDeque<PendingOp>) -> Result<(), OutOfMemory>
     ensures { OnOk result (front.new.items ≡ front.old.items ++ back.old.items) }
 {
@@ -189,7 +189,7 @@ impl SharedString {
     /// of them is left. They are all the pending stages of one edit, and each lower pending stage was given before. Until
     /// `normalise` only this may be called.
     ///
-    /// Answers `OutOfMemory` where there is no room for it, and then the text may be used no more.
+    /// Returns `OutOfMemory` where there is no room for it, and then the text may be used no more.
     pub fn reconnect(&mut self, first: u64, count: u64) -> Result<Option<TextOp>, OutOfMemory>
         requires usable { IsTrue self.old.usable }
         requires stages { first + count ≤ 2 ^ 64 }
@@ -227,7 +227,7 @@ impl SharedString {
 
     /// Brings the text in order after all pending stages were given: it is as if they had been made afresh.
     ///
-    /// Answers `OutOfMemory` where there is no room for it, and then the text may be used no more.
+    /// Returns `OutOfMemory` where there is no room for it, and then the text may be used no more.
     pub fn normalise(&mut self) -> Result<(), OutOfMemory>
         requires usable { IsTrue self.old.usable }
         requires held { (last : ℕ) × HoldsAllGiven last self.old }

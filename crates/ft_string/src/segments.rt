@@ -90,7 +90,7 @@ fn author_of(by: Option<Stamp>) -> Mark
 
 /// The stamps as marks.
 ///
-/// Answers `OutOfMemory` where there is no room for them.
+/// Returns `OutOfMemory` where there is no room for them.
 fn marks_of(alloc: Global, stamps: &[Stamp]) -> Result<Marks, OutOfMemory>
     ensures { IfOk result (λ marks. marks ≡ map mark_of stamps.now) }
 {
@@ -153,7 +153,7 @@ fn same_stamps(ins: Mark, dels: &Marks, other_ins: Mark, other_dels: &Marks) -> 
 
 /// The head of the segment of a leaf.
 ///
-/// Answers `OutOfMemory` where there is no room for it.
+/// Returns `OutOfMemory` where there is no room for it.
 fn head_of(tree: &Tree<TextContent>, leaf: NodeId, min: u64) -> Result<Head, OutOfMemory>
     requires usable { IsTrue tree.now.usable }
     requires live { IsLeafIn tree.now.leaves leaf }
@@ -173,7 +173,7 @@ fn head_of(tree: &Tree<TextContent>, leaf: NodeId, min: u64) -> Result<Head, Out
 impl OpenSegment {
     /// The segment with this head of these characters, or of a marker.
     ///
-    /// Answers `OutOfMemory` where there is no room for it.
+    /// Returns `OutOfMemory` where there is no room for it.
     fn with_head(marker: Option<u64>, text: String, head: &Head) -> Result<OpenSegment, OutOfMemory>
         ensures { IfOk result (λ seg. seg ≡ headed head.now (body_of_parts marker (chars (string_bytes text)))) }
     {
@@ -191,7 +191,7 @@ impl OpenSegment {
 
     /// The segment of a character.
     ///
-    /// Answers `OutOfMemory` where there is no room for it.
+    /// Returns `OutOfMemory` where there is no room for it.
     fn of_character(alloc: Global, c: char, head: &Head) -> Result<OpenSegment, OutOfMemory>
         ensures { IfOk result (λ seg. seg ≡ unit_segment head.now (Character c)) }
     {
@@ -202,7 +202,7 @@ impl OpenSegment {
 
     /// The segment of a marker.
     ///
-    /// Answers `OutOfMemory` where there is no room for it.
+    /// Returns `OutOfMemory` where there is no room for it.
     fn of_marker(alloc: Global, ref_type: u64, head: &Head) -> Result<OpenSegment, OutOfMemory>
         ensures { IfOk result (λ seg. seg ≡ unit_segment head.now (MarkerOf ref_type)) }
     {
@@ -221,7 +221,7 @@ impl OpenSegment {
 
     /// The segment with one more character.
     ///
-    /// Answers `OutOfMemory` where there is no room for it.
+    /// Returns `OutOfMemory` where there is no room for it.
     fn joined(self, c: char) -> Result<OpenSegment, OutOfMemory>
         requires { are_characters self.body (characters_of []) ≡ true }
         ensures { IfOk result (λ seg. seg ≡ record self { body = joined_bodies self.body (characters_of (c ∷ [])) }) }
@@ -261,7 +261,7 @@ impl OpenSegment {
 
 /// The segment that is open after a character; one that ends before it is added. A chunk `begins` with the character or doesn't.
 ///
-/// Answers `OutOfMemory` where there is no room for them.
+/// Returns `OutOfMemory` where there is no room for them.
 fn extend(
     segs: &mut SegRecs,
     last: Option<OpenSegment>,
@@ -284,7 +284,7 @@ fn extend(
 
 /// Adds the open segment to the list, if there is one.
 ///
-/// Answers `OutOfMemory` where there is no room for it.
+/// Returns `OutOfMemory` where there is no room for it.
 fn end(segs: &mut SegRecs, last: Option<OpenSegment>) -> Result<(), OutOfMemory>
     ensures none { OnOk result (last ≡ None → segs.new ≡ segs.old) }
     ensures some { OnOk result ((seg : SegRec) → last ≡ Some seg → segs.new ≡ segs.old ++ seg ∷ []) }
@@ -309,7 +309,7 @@ impl Segments {
 
     /// Adds the elements of a leaf, but where it was removed at or below the minimum.
     ///
-    /// Answers `OutOfMemory` where there is no room for them.
+    /// Returns `OutOfMemory` where there is no room for them.
     pub(crate) fn add(
         &mut self,
         tree: &Tree<TextContent>,
@@ -329,7 +329,7 @@ impl Segments {
 
     /// Adds the elements of a content.
     ///
-    /// Answers `OutOfMemory` where there is no room for them.
+    /// Returns `OutOfMemory` where there is no room for them.
     fn add_content(
         &mut self,
         content: &TextContent,
@@ -349,7 +349,7 @@ impl Segments {
 
     /// Adds characters.
     ///
-    /// Answers `OutOfMemory` where there is no room for them.
+    /// Returns `OutOfMemory` where there is no room for them.
     fn add_characters(&mut self, text: &[char], head: &Head) -> Result<(), OutOfMemory>
         ensures { OnOk result (Adds (map (λ c. unit_segment head.now (Character c)) text.now) self.old self.new) }
     {
@@ -361,7 +361,7 @@ impl Segments {
 
     /// Adds a character.
     ///
-    /// Answers `OutOfMemory` where there is no room for it.
+    /// Returns `OutOfMemory` where there is no room for it.
     fn add_character(&mut self, c: char, head: &Head) -> Result<(), OutOfMemory>
         ensures { OnOk result (Adds (unit_segment head.now (Character c) ∷ []) self.old self.new) }
     {
@@ -374,7 +374,7 @@ impl Segments {
 
     /// Adds a marker.
     ///
-    /// Answers `OutOfMemory` where there is no room for it.
+    /// Returns `OutOfMemory` where there is no room for it.
     fn add_marker(&mut self, ref_type: u64, head: &Head) -> Result<(), OutOfMemory>
         ensures { OnOk result (Adds (unit_segment head.now (MarkerOf ref_type) ∷ []) self.old self.new) }
     {
@@ -388,7 +388,7 @@ impl Segments {
 
     /// All segments.
     ///
-    /// Answers `OutOfMemory` where there is no room for the last one.
+    /// Returns `OutOfMemory` where there is no room for the last one.
     pub(crate) fn into_list(self) -> Result<SegRecs, OutOfMemory>
         ensures { IfOk result (λ segs. segs ≡ whole self []) }
     {
@@ -400,7 +400,7 @@ impl Segments {
 
 /// The segments of the elements of a text, as a summary with this minimum has them.
 ///
-/// Answers `OutOfMemory` where there is no room for them.
+/// Returns `OutOfMemory` where there is no room for them.
 pub(crate) fn segments_of(tree: &Tree<TextContent>, min: u64) -> Result<SegRecs, OutOfMemory>
     requires { IsTrue tree.now.usable }
     ensures { IfOk result (λ segs. segs ≡ joined_from 0 (segments_in min tree.now.leaves)) }

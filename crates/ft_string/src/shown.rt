@@ -55,7 +55,7 @@ impl Shown {
 
     /// Shows the elements of a leaf behind those so far.
     ///
-    /// Answers `OutOfMemory` where there is no room for them, or they would be more than 2^64 - 1.
+    /// Returns `OutOfMemory` where there is no room for them, or they would be more than 2^64 - 1.
     fn add(&mut self, content: &TextContent, len: u64, props: &Props) -> Result<(), OutOfMemory>
         requires counted { len ≡ length (text_units content.now) }
         requires some { 1 ≤ len }
@@ -72,7 +72,7 @@ impl Shown {
 
 /// Adds the characters of a content.
 ///
-/// Answers `OutOfMemory` where there is no room for them.
+/// Returns `OutOfMemory` where there is no room for them.
 fn push_text(text: &mut String, content: &TextContent) -> Result<(), OutOfMemory>
     ensures { OnOk result (chars (string_bytes text.new) ≡ chars (string_bytes text.old) ++ characters_of (text_units content.now)) }
 {
@@ -84,7 +84,7 @@ fn push_text(text: &mut String, content: &TextContent) -> Result<(), OutOfMemory
 
 /// Adds the marker with its place, if the content is one.
 ///
-/// Answers `OutOfMemory` where there is no room for it.
+/// Returns `OutOfMemory` where there is no room for it.
 fn push_marker(markers: &mut Spots, pos: u64, content: &TextContent) -> Result<(), OutOfMemory>
     ensures { OnOk result (markers.new ≡ markers.old ++ markers_of pos (text_units content.now)) }
 {
@@ -97,7 +97,7 @@ fn push_marker(markers: &mut Spots, pos: u64, content: &TextContent) -> Result<(
 /// Adds a run of properties, if they aren't empty: it goes on with the last one where that ends where it begins and has equal
 /// properties.
 ///
-/// Answers `OutOfMemory` where there is no room for it.
+/// Returns `OutOfMemory` where there is no room for it.
 fn push_run(runs: &mut Vec<Run>, start: u64, end: u64, props: &Props) -> Result<(), OutOfMemory>
     ensures { OnOk result ((more : List Run) → continued runs.new.items more ≡ continued runs.old.items (with_properties start end props.now more)) }
 {
@@ -121,7 +121,7 @@ fn push_run(runs: &mut Vec<Run>, start: u64, end: u64, props: &Props) -> Result<
 
 /// Adds a run behind the others.
 ///
-/// Answers `OutOfMemory` where there is no room for it.
+/// Returns `OutOfMemory` where there is no room for it.
 fn begin_run(runs: &mut Vec<Run>, start: u64, end: u64, props: &Props) -> Result<(), OutOfMemory>
     ensures { OnOk result (runs.new.items ≡ runs.old.items ++ record { start = start; end = end; props = props.now } ∷ []) }
 {
@@ -141,7 +141,7 @@ fn is_seen(tree: &Tree<TextContent>, leaf: NodeId) -> bool
 
 /// Shows the elements of a leaf behind those so far, if the client sees them.
 ///
-/// Answers `OutOfMemory` where there is no room for them, or they would be more than 2^64 - 1.
+/// Returns `OutOfMemory` where there is no room for them, or they would be more than 2^64 - 1.
 fn add_leaf(tree: &Tree<TextContent>, leaf: NodeId, shown: &mut Shown) -> Result<(), OutOfMemory>
     requires usable { IsTrue tree.now.usable }
     requires live { IsLeafIn tree.now.leaves leaf }
@@ -157,7 +157,7 @@ fn add_leaf(tree: &Tree<TextContent>, leaf: NodeId, shown: &mut Shown) -> Result
 
 /// What is shown of all elements.
 ///
-/// Answers `OutOfMemory` where there is no room for it.
+/// Returns `OutOfMemory` where there is no room for it.
 fn show_all(tree: &Tree<TextContent>) -> Result<Shown, OutOfMemory>
     requires { IsTrue tree.now.usable }
     ensures { IfOk result (λ shown. ShowsLeaves tree.now.leaves shown) }
@@ -173,7 +173,7 @@ fn show_all(tree: &Tree<TextContent>) -> Result<Shown, OutOfMemory>
 
 /// The items as a list.
 ///
-/// Answers `OutOfMemory` where there is no room for them.
+/// Returns `OutOfMemory` where there is no room for them.
 pub(crate) fn listed<T: Drop>(alloc: Global, items: Vec<T>) -> Result<List<T>, OutOfMemory>
     ensures { IfOk result (λ list. list ≡ items.items) }
 {
@@ -186,7 +186,7 @@ pub(crate) fn listed<T: Drop>(alloc: Global, items: Vec<T>) -> Result<List<T>, O
 
 /// Adds who inserted the elements of a leaf, if the client sees them.
 ///
-/// Answers `OutOfMemory` where there is no room for them.
+/// Returns `OutOfMemory` where there is no room for them.
 fn add_origin(
     tree: &Tree<TextContent>,
     leaf: NodeId,
@@ -205,7 +205,7 @@ fn add_origin(
 
 /// Who inserted each element that the client sees.
 ///
-/// Answers `OutOfMemory` where there is no room for that.
+/// Returns `OutOfMemory` where there is no room for that.
 fn origins_of(tree: &Tree<TextContent>) -> Result<Attribution, OutOfMemory>
     requires { IsTrue tree.now.usable }
     ensures { IfOk result (λ origins. origins ≡ origins_in tree.now.leaves) }
@@ -235,7 +235,7 @@ fn origin_of(content: &TextContent) -> Origin
 impl SharedString {
     /// Fills the text's part of a view: characters, markers, runs of properties and intervals.
     ///
-    /// Answers `OutOfMemory` where there is no room for it, and then the view may have a part of it.
+    /// Returns `OutOfMemory` where there is no room for it, and then the view may have a part of it.
     pub fn view(&self, out: &mut View) -> Result<(), OutOfMemory>
         requires usable { IsTrue self.now.usable }
         requires none_given { self.now.given ≡ 0 }
@@ -260,7 +260,7 @@ impl SharedString {
     /// The shown intervals of the label that meet the places from `a` to `b`, by rising id: those that aren't detached, start at
     /// or before `b` and end at or after `a`. A read of a node of an index is one step.
     ///
-    /// Answers `OutOfMemory` where there is no room for them.
+    /// Returns `OutOfMemory` where there is no room for them.
     pub fn overlapping<G: Ledger>(
         &self,
         label: &Text,
@@ -282,7 +282,7 @@ impl SharedString {
 
     /// Who inserted each element that the client sees.
     ///
-    /// Answers `OutOfMemory` where there is no room for it.
+    /// Returns `OutOfMemory` where there is no room for it.
     pub fn attribution(&self) -> Result<Attribution, OutOfMemory>
         requires usable { IsTrue self.now.usable }
         requires none_given { self.now.given ≡ 0 }

@@ -11,7 +11,7 @@ use std::collections::VecDeque;
 use std::marker::Model;
 
 /// A text with intervals, as a client holds it: its elements in a merge tree, its intervals, and what is pending on both. After
-/// want of memory in a call that changes it, it may be used no more.
+/// `OutOfMemory` in a call that changes it, it may be used no more.
 ///
 /// Its contracts speak of each document with pending stages of which it holds the text's part (`HoldsText`).
 #[derive(Drop)]

@@ -42,7 +42,7 @@ fn stamp_of(mark: Mark) -> Stamp
 
 /// The marks as stamps.
 ///
-/// Answers `OutOfMemory` where there is no room for them.
+/// Returns `OutOfMemory` where there is no room for them.
 fn stamps_of(alloc: Global, marks: &[Mark]) -> Result<Stamps, OutOfMemory>
     ensures { IfOk result (λ stamps. stamps ≡ map stamp_of marks.now) }
 {
@@ -55,7 +55,7 @@ fn stamps_of(alloc: Global, marks: &[Mark]) -> Result<Stamps, OutOfMemory>
 
 /// The stamps of the elements of a segment.
 ///
-/// Answers `OutOfMemory` where there is no room for them.
+/// Returns `OutOfMemory` where there is no room for them.
 fn element_of(alloc: Global, seg: &SegRec) -> Result<Element, OutOfMemory>
     ensures { IfOk result (λ e. e ≡ record { ins = stamp_of seg.now.ins; dels = map stamp_of seg.now.dels }) }
 {
@@ -68,7 +68,7 @@ fn element_of(alloc: Global, seg: &SegRec) -> Result<Element, OutOfMemory>
 
 /// What a segment of a summary holds, as an operation has it.
 ///
-/// Answers `OutOfMemory` where there is no room for it.
+/// Returns `OutOfMemory` where there is no room for it.
 fn segment_of(seg: &Seg) -> Result<Segment, OutOfMemory>
     ensures { IfOk result (λ segment. segment_contents segment ≡ segment_bodies seg.now) }
 {
@@ -82,7 +82,7 @@ fn segment_of(seg: &Seg) -> Result<Segment, OutOfMemory>
 
 /// Puts the elements of a content at the end, with what the segment has beside its content.
 ///
-/// Answers `OutOfMemory` where there is no room for them, or the number of elements would pass its limit.
+/// Returns `OutOfMemory` where there is no room for them, or the number of elements would pass its limit.
 fn append_content(
     tree: &mut Tree<TextContent>,
     content: TextContent,
@@ -102,7 +102,7 @@ fn append_content(
 
 /// Puts the elements of a segment at the end.
 ///
-/// Answers `OutOfMemory` where there is no room for them, or the number of elements would pass its limit.
+/// Returns `OutOfMemory` where there is no room for them, or the number of elements would pass its limit.
 fn append(tree: &mut Tree<TextContent>, seg: &SegRec) -> Result<(), OutOfMemory>
     requires { IsTrue tree.old.usable }
     ensures { OnOk result (Appends (segment_elements seg.now (segment_bodies seg.now.body)) tree.old tree.new) }
@@ -116,7 +116,7 @@ fn append(tree: &mut Tree<TextContent>, seg: &SegRec) -> Result<(), OutOfMemory>
 
 /// Puts the elements of segments at the end.
 ///
-/// Answers `OutOfMemory` where there is no room for them, or the number of elements would pass its limit.
+/// Returns `OutOfMemory` where there is no room for them, or the number of elements would pass its limit.
 fn append_all(tree: &mut Tree<TextContent>, segs: &[SegRec]) -> Result<(), OutOfMemory>
     requires { IsTrue tree.old.usable }
     ensures { OnOk result (Appends (summary_elements segs.now) tree.old tree.new) }
@@ -129,7 +129,7 @@ fn append_all(tree: &mut Tree<TextContent>, segs: &[SegRec]) -> Result<(), OutOf
 
 /// Sets a property in a set.
 ///
-/// Answers `OutOfMemory` where there is no room for it.
+/// Returns `OutOfMemory` where there is no room for it.
 fn put_copy(set: &mut PropSet, property: &(Text, ValText)) -> Result<(), OutOfMemory>
     ensures { OnOk result (set.new ≡ put_rising key_cmp (given_property property.now) set.old) }
 {
@@ -140,7 +140,7 @@ fn put_copy(set: &mut PropSet, property: &(Text, ValText)) -> Result<(), OutOfMe
 
 /// Properties as a set that makes them.
 ///
-/// Answers `OutOfMemory` where there is no room for it.
+/// Returns `OutOfMemory` where there is no room for it.
 fn set_of(props: &Props) -> Result<PropSet, OutOfMemory>
     ensures { IfOk result (λ set. apply [] set ≡ props.now) }
 {
@@ -164,7 +164,7 @@ fn given_ends(ends: Ends2) -> Ends
 
 /// The operation that adds an interval of a summary.
 ///
-/// Answers `OutOfMemory` where there is no room for it.
+/// Returns `OutOfMemory` where there is no room for it.
 fn add_of(i: &IntervalRec) -> Result<TextOp, OutOfMemory>
     ensures { IfOk result (λ op. IsAddOf i.now op) }
 {
@@ -188,7 +188,7 @@ fn everybody() -> Perspective
 
 /// Adds an interval of a summary, where its ends fit.
 ///
-/// Answers `OutOfMemory` where there is no room for it.
+/// Returns `OutOfMemory` where there is no room for it.
 fn add_interval(
     intervals: &mut Collections,
     tree: &mut Tree<TextContent>,
@@ -207,7 +207,7 @@ fn add_interval(
 
 /// The intervals of a summary, by rising names, on a tree that has no references.
 ///
-/// Answers `OutOfMemory` where there is no room for them.
+/// Returns `OutOfMemory` where there is no room for them.
 fn intervals_on(
     tree: &mut Tree<TextContent>,
     recs: &[IntervalRec],
@@ -229,7 +229,7 @@ fn intervals_on(
 impl SharedString {
     /// The text that a summary gives.
     ///
-    /// Answers `OutOfMemory` where there is no room for it.
+    /// Returns `OutOfMemory` where there is no room for it.
     pub fn load(alloc: Global, doc: &SumDoc) -> Result<SharedString, OutOfMemory>
         requires { IsValidSummary doc.now }
         ensures holds { IfOk result (λ s. HoldsText s (doc_of doc.now) []) }
@@ -253,7 +253,7 @@ impl SharedString {
 
     /// Fills the text's part of a summary with the minimum that this has, where nothing is pending.
     ///
-    /// Answers `OutOfMemory` where there is no room for it, and then the summary may have a part of it.
+    /// Returns `OutOfMemory` where there is no room for it, and then the summary may have a part of it.
     pub fn save(&self, doc: &mut SumDoc) -> Result<(), OutOfMemory>
         requires usable { IsTrue self.now.usable }
         requires none_given { self.now.given ≡ 0 }

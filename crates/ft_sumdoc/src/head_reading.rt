@@ -75,7 +75,7 @@ fn whole_names(alloc: Global, value: &Value) -> Result<Option<Texts>, OutOfMemor
 
 /// The names of connections, fewer than 2^32.
 ///
-/// Answers `Missing` exactly where the field isn't there, `WrongKind` exactly where it is and has
+/// Returns `Missing` exactly where the field isn't there, `WrongKind` exactly where it is and has
 /// not the form, and `OutOfMemory` where there is no room for them, and where they are more.
 fn read_names(alloc: Global, value: &Value) -> Result<Texts, SumFault>
     ensures ok { IfOk result (λ names. field_of_summary (needed_field names_form (view value.now) Field.Conns) ≡ Ok names) }

@@ -1,6 +1,6 @@
 //! Summary documents: what a client hands to one that starts later.
 //!
-//! A call that can't answer `OutOfMemory` takes no memory.
+//! A call that can't return `OutOfMemory` takes no memory.
 #![tactic(auto)]
 
 mod chunks;

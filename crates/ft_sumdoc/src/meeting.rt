@@ -10,7 +10,7 @@ use std::alloc::Global;
 
 /// Copies of those intervals of the label that meet the places from `a` to `b`, in order.
 ///
-/// Answers `OutOfMemory` where there is no room for them.
+/// Returns `OutOfMemory` where there is no room for them.
 pub fn meeting(
     alloc: Global,
     intervals: &[IntervalRec],

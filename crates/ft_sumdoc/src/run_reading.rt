@@ -80,7 +80,7 @@ fn whole_runs(alloc: Global, value: &Value) -> Result<Option<Vec<RunItem>>, OutO
 
 /// The runs of a field.
 ///
-/// Answers `Missing` exactly where the field isn't there, `WrongKind` exactly where it is and has
+/// Returns `Missing` exactly where the field isn't there, `WrongKind` exactly where it is and has
 /// not the form, and `OutOfMemory` where there is no room for them.
 pub(crate) fn runs_field(alloc: Global, value: &Value, f: Field) -> Result<Vec<RunItem>, SumFault>
     ensures ok { IfOk result (λ runs. field_of_summary (needed_field narrow_runs (view value.now) f)

@@ -150,7 +150,7 @@ fn chunk_items(
 
 /// How many elements the segments have.
 ///
-/// Answers `OutOfMemory` where they are more than a `u64` holds, which no memory has room for.
+/// Returns `OutOfMemory` where they are more than a `u64` holds, which no memory has room for.
 fn items_len(segs: &[SegItem]) -> Result<u64, OutOfMemory>
     ensures { IfOk result (λ n. n ≡ given_length (map segment_of segs.now)) }
 {

@@ -155,7 +155,7 @@ fn are_good(alloc: Global, limits: Limits, item: &StampItem) -> Result<bool, Out
 
 /// The place behind the segments, the first of which has this place.
 ///
-/// Answers `BadStamp` with the first place with bad stamps, and `OutOfMemory` where there is no room
+/// Returns `BadStamp` with the first place with bad stamps, and `OutOfMemory` where there is no room
 /// to tell.
 pub(crate) fn segment_places(
     alloc: Global,
@@ -181,7 +181,7 @@ pub(crate) fn segment_places(
 
 /// The place behind the runs, the first of which has this place.
 ///
-/// Answers `BadStamp` with the first place with bad stamps, and `OutOfMemory` where there is no room
+/// Returns `BadStamp` with the first place with bad stamps, and `OutOfMemory` where there is no room
 /// to tell.
 pub(crate) fn run_places(
     alloc: Global,

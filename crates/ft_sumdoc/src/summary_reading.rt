@@ -60,7 +60,7 @@ fn read_segments(alloc: Global, items: &[SegItem]) -> Result<SegRecs, SumFault>
 
 /// The place behind all stamps.
 ///
-/// Answers `BadStamp` with the first place with bad stamps, and `OutOfMemory` where there is no room
+/// Returns `BadStamp` with the first place with bad stamps, and `OutOfMemory` where there is no room
 /// to tell, and where there are more places than a `u64` holds, which no memory has room for.
 fn all_places(
     alloc: Global,
@@ -137,7 +137,7 @@ fn limits_of(head: &HeadItem) -> Limits
 
 /// How many elements the segments have.
 ///
-/// Answers `OutOfMemory` where they are more than a `u64` holds, which no memory has room for.
+/// Returns `OutOfMemory` where they are more than a `u64` holds, which no memory has room for.
 fn found_len(segs: &[SegRec]) -> Result<u64, OutOfMemory>
     ensures { IfOk result (λ n. n ≡ text_length segs.now) }
 {
@@ -242,7 +242,7 @@ fn read_object(alloc: Global, value: &Value) -> Result<SumDoc, SumFault>
 
 /// The summary that the bytes are, of version 1 or 2.
 ///
-/// What is read is valid. Answers the first fault in the order in which its fields are tested, and
+/// What is read is valid. Returns the first fault in the order in which its fields are tested, and
 /// `OutOfMemory` where there is no room for it; there is none for 2^32 names. It takes time and
 /// memory in the length of the text.
 #[tactic(auto, unfolding(crate::specs::Summary::summary))]

@@ -118,7 +118,7 @@ fn written_value(value: &ValText) -> Result<Value, OutOfMemory>
 
 /// The object of properties.
 ///
-/// Answers `OutOfMemory` where there is no room for it.
+/// Returns `OutOfMemory` where there is no room for it.
 pub fn props_value(alloc: Global, props: &Props) -> Result<Value, OutOfMemory>
     requires { HasValues props.now }
     ensures value { IfOk result (λ v. view v ≡ written_props props.now) }
@@ -253,7 +253,7 @@ fn written_names(alloc: Global, names: &[Text]) -> Result<Vec<Value>, OutOfMemor
 
 /// The array of an interval.
 ///
-/// Answers `OutOfMemory` where there is no room for it.
+/// Returns `OutOfMemory` where there is no room for it.
 pub fn interval_value(alloc: Global, i: &IntervalRec) -> Result<Value, OutOfMemory>
     requires { HasValues i.now.props }
     ensures value { IfOk result (λ v. view v ≡ written_interval_record i.now) }
@@ -384,7 +384,7 @@ fn summary_value(alloc: Global, doc: &SumDoc) -> Result<Value, OutOfMemory>
 /// their bytes. A summary that is cut as what is written reads back from it. It takes time and memory
 /// in the length of the text.
 ///
-/// Answers `OutOfMemory` where there is no room for it.
+/// Returns `OutOfMemory` where there is no room for it.
 pub fn write_summary(alloc: Global, doc: &SumDoc) -> Result<ValText, OutOfMemory>
     requires valid { IsValidSummary doc.now }
     requires conns { IsTrue (is_count (length doc.now.conns)) }

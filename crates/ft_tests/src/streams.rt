@@ -34,7 +34,7 @@ fn mark(answer: &Result<Line, LineFault>) -> u8 {
     }
 }
 
-/// Adds what a reader answers: the bytes of a whole line, and the mark.
+/// Adds what a reader returns: the bytes of a whole line, and the mark.
 fn push_answer(answer: &Result<Line, LineFault>, text: &mut Vec<u8>) -> Result<(), OutOfMemory> {
     if let Ok(Line::Full(line)) = answer {
         text.extend_from_slice(line.as_slice())?;
@@ -129,7 +129,7 @@ fn a_source_may_come_in_any_pieces_and_fail_at_any_call(rt: HostRuntime) -> Resu
     Ok(())
 }
 
-/// Bytes, a limit, and what a reader answers.
+/// Bytes, a limit, and what a reader returns.
 static LIMITED: [(&str, usize, &str); 9] = [
     ("", 0, ".."),
     ("\n", 0, "|.."),
@@ -164,7 +164,7 @@ fn a_line_past_the_limit_is_passed(rt: HostRuntime) -> Result<(), Fail> {
     Ok(())
 }
 
-/// How many lines a reader hands out, how many bytes they have, and what it answers twice then.
+/// How many lines a reader hands out, how many bytes they have, and what it returns twice then.
 fn counted(
     alloc: Global,
     src: &mut MemSource,

@@ -59,7 +59,7 @@ impl Case {
 
     /// Adds bytes to the input.
     ///
-    /// Answers `OutOfMemory` where there is no room for them.
+    /// Returns `OutOfMemory` where there is no room for them.
     pub fn add_input(&mut self, bytes: &[u8]) -> Result<(), OutOfMemory> {
         self.input.extend_from_slice(bytes)?;
         Ok(())
@@ -70,9 +70,9 @@ impl Case {
         self.input.pop();
     }
 
-    /// Takes what stands behind the name of a setting, and answers whether there is such a setting.
+    /// Takes what stands behind the name of a setting, and returns whether there is such a setting.
     ///
-    /// Answers `OutOfMemory` where there is no room for it.
+    /// Returns `OutOfMemory` where there is no room for it.
     pub fn set(&mut self, alloc: Global, name: &str, rest: &str) -> Result<bool, OutOfMemory> {
         match name {
             "words" => push_words(alloc, &mut self.words, rest)?,
@@ -93,7 +93,7 @@ impl Case {
 
     /// Adds what the case comes to.
     ///
-    /// Answers `OutOfMemory` where there is no room for it.
+    /// Returns `OutOfMemory` where there is no room for it.
     pub fn push_outcome(&self, alloc: Global, output: &mut Vec<u8>) -> Result<(), OutOfMemory> {
         match self.series {
             Series::Pieces => self.push_pieces(alloc, output),

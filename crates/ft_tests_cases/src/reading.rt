@@ -7,7 +7,7 @@ use std::alloc::Global;
 
 /// What the cases come to, one after another.
 ///
-/// Answers `OutOfMemory` where there is no room for it.
+/// Returns `OutOfMemory` where there is no room for it.
 pub fn outcomes(alloc: Global, lines: &[u8]) -> Result<Vec<u8>, OutOfMemory> {
     let mut reading = Reading {
         alloc,

@@ -24,7 +24,7 @@ pub struct Run<'a> {
 impl<'a> Run<'a> {
     /// Adds the name of the run and what it comes to, unless the run before it came to the same.
     ///
-    /// Answers `OutOfMemory` where there is no room for it.
+    /// Returns `OutOfMemory` where there is no room for it.
     pub fn push_if_other(
         &self,
         alloc: Global,
@@ -42,7 +42,7 @@ impl<'a> Run<'a> {
 
     /// Adds the status of the run and the bytes that it wrote, or what is said of its views.
     ///
-    /// Answers `OutOfMemory` where there is no room for them.
+    /// Returns `OutOfMemory` where there is no room for them.
     pub fn push(&self, alloc: Global, output: &mut Vec<u8>) -> Result<(), OutOfMemory> {
         let mut out = self.sink(alloc)?;
         let status = self.written(alloc, &mut out)?;
@@ -58,7 +58,7 @@ impl<'a> Run<'a> {
 
     /// Adds the bytes that the run wrote.
     ///
-    /// Answers `OutOfMemory` where there is no room for them.
+    /// Returns `OutOfMemory` where there is no room for them.
     pub fn push_written(&self, alloc: Global, bytes: &mut Vec<u8>) -> Result<(), OutOfMemory> {
         let mut out = self.sink(alloc)?;
         self.written(alloc, &mut out)?;
@@ -66,7 +66,7 @@ impl<'a> Run<'a> {
         Ok(())
     }
 
-    // Runs it, and answers its status.
+    // Runs it, and returns its status.
     fn written(&self, alloc: Global, out: &mut MemSink) -> Result<u8, OutOfMemory> {
         let mut src = self.source(alloc)?;
         Ok(run(alloc, self.words, &mut src, out).code())

@@ -5,7 +5,7 @@ use std::alloc::Global;
 
 /// Adds how many views the report of a session has, and how many of them show what the first one shows.
 ///
-/// Answers `OutOfMemory` where there is no room for that.
+/// Returns `OutOfMemory` where there is no room for that.
 pub fn push_views(alloc: Global, report: &[u8], output: &mut Vec<u8>) -> Result<(), OutOfMemory> {
     let mut views = Views::new(alloc);
     for line in report.split_inclusive(|byte| *byte == b'\n') {

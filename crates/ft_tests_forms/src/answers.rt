@@ -10,7 +10,7 @@ use std::alloc::Global;
 
 /// What is written of the lines, each with an LF behind it.
 ///
-/// Answers `OutOfMemory` where there is no room for it.
+/// Returns `OutOfMemory` where there is no room for it.
 pub fn answers(alloc: Global, input: &[u8]) -> Result<Vec<u8>, OutOfMemory> {
     let mut output = Vec::new(alloc);
     for line in input.split_inclusive(|byte| *byte == b'\n') {

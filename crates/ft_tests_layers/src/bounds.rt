@@ -8,7 +8,7 @@ use std::sync::ledger::Ledger;
 
 /// Finds the 5000th element that the client sees, where there are ten thousand leaves: it reads at most 63 nodes.
 ///
-/// Answers `OutOfRange` where the client sees fewer.
+/// Returns `OutOfRange` where the client sees fewer.
 pub fn find_5000<L: Leaf, G: Ledger>(
     blocks: &Blocks<L>,
     steps: &mut Steps<G>,

@@ -16,7 +16,7 @@ use std::alloc::Global;
 
 /// Makes an edit of an interval, the client's own, and adds why it is refused, if it is.
 ///
-/// Answers `OutOfMemory` where there is no room for it, and `TooLarge` where there is no further stage.
+/// Returns `OutOfMemory` where there is no room for it, and `TooLarge` where there is no further stage.
 pub(crate) fn edit_interval(
     alloc: Global,
     tree: &mut Tree<TextContent>,
@@ -52,7 +52,7 @@ fn push_fault(alloc: Global, out: &mut String, fault: IntervalFault) -> Result<(
 
 /// Takes a message about an interval, and tells whether it can be taken.
 ///
-/// Answers `OutOfMemory` where there is no room for it.
+/// Returns `OutOfMemory` where there is no room for it.
 pub(crate) fn hear_interval(
     tree: &mut Tree<TextContent>,
     intervals: &mut Collections,
@@ -74,7 +74,7 @@ pub(crate) fn hear_interval(
 
 /// Settles the first pending operation on an interval, adds it as it is sent again, and tells whether there is one.
 ///
-/// Answers `OutOfMemory` where there is no room for it.
+/// Returns `OutOfMemory` where there is no room for it.
 pub(crate) fn settle(
     alloc: Global,
     tree: &mut Tree<TextContent>,

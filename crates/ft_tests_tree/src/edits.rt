@@ -266,7 +266,7 @@ fn append(list: &mut PlainList, props: &Props, units: &[Unit]) -> Result<(), Out
 
 /// Makes an edit of tree and list, and tells whether it can be made.
 ///
-/// Answers `OutOfMemory` where there is no room for it, `NotARun` where the text isn't of 1 to 256 characters, and
+/// Returns `OutOfMemory` where there is no room for it, `NotARun` where the text isn't of 1 to 256 characters, and
 /// `TooLarge` where the tree is too large or there is no further stage.
 pub(crate) fn make_edit(
     alloc: Global,
@@ -316,7 +316,7 @@ fn change_on<G: Ledger>(
 
 /// Makes an edit of the client that changes properties, and tells whether it can be made: not while changes are pending.
 ///
-/// Answers `OutOfMemory` where there is no room for it, and `TooLarge` where there is no further stage.
+/// Returns `OutOfMemory` where there is no room for it, and `TooLarge` where there is no further stage.
 pub(crate) fn change(
     alloc: Global,
     tree: &mut Tree<TextContent>,

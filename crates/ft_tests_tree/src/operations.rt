@@ -22,7 +22,7 @@ pub(crate) enum Kind {
 
 /// The operation on the interval of that label and id, which gives those ends if it gives some, and no properties.
 ///
-/// Answers `OutOfMemory` where there is no room for it.
+/// Returns `OutOfMemory` where there is no room for it.
 pub(crate) fn operation(
     alloc: Global,
     kind: Kind,
@@ -63,7 +63,7 @@ pub(crate) fn operation(
 
 /// Takes an operation of another client on an interval, and tells whether it is in range.
 ///
-/// Answers `OutOfMemory` where there is no room for it.
+/// Returns `OutOfMemory` where there is no room for it.
 pub(crate) fn take(
     intervals: &mut Collections,
     tree: &mut Tree<TextContent>,
@@ -105,9 +105,9 @@ fn make(
     }
 }
 
-/// The same, which answers why it is refused, if it is.
+/// The same, which returns why it is refused, if it is.
 ///
-/// Answers `OutOfMemory` where there is no room for it.
+/// Returns `OutOfMemory` where there is no room for it.
 pub(crate) fn edit(
     intervals: &mut Collections,
     tree: &mut Tree<TextContent>,
@@ -140,7 +140,7 @@ pub(crate) fn is_first(intervals: &Collections, stage: u64) -> bool
 
 /// Acknowledges the first pending operation, which is of that stage.
 ///
-/// Answers `OutOfMemory` where there is no room for it.
+/// Returns `OutOfMemory` where there is no room for it.
 pub(crate) fn acknowledge_first(
     intervals: &mut Collections,
     tree: &mut Tree<TextContent>,
@@ -155,9 +155,9 @@ pub(crate) fn acknowledge_first(
     Ok(())
 }
 
-/// Settles the first pending operation, which is of that stage, and answers it as it is sent again.
+/// Settles the first pending operation, which is of that stage, and returns it as it is sent again.
 ///
-/// Answers `OutOfMemory` where there is no room for it.
+/// Returns `OutOfMemory` where there is no room for it.
 pub(crate) fn settle_first(
     intervals: &mut Collections,
     tree: &mut Tree<TextContent>,

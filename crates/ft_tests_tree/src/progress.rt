@@ -25,7 +25,7 @@ pub(crate) struct Progress {
 impl Progress {
     /// The stage behind that of the next edit.
     ///
-    /// Answers `TooLarge` where there is none.
+    /// Returns `TooLarge` where there is none.
     pub(crate) fn later(&self) -> Result<u64, StepFault>
         ensures { IfOk result (λ later. self.now.stage < later) }
     {
@@ -37,7 +37,7 @@ impl Progress {
 
     /// Goes on to the next stage behind an edit of the client, unless a group is being made.
     ///
-    /// Answers `TooLarge` where there is none.
+    /// Returns `TooLarge` where there is none.
     pub(crate) fn pass(&mut self, is_own: bool) -> Result<(), StepFault>
         ensures { OnOk result (GoesOn self.old self.new) }
     {

@@ -117,7 +117,7 @@ fn agree(
 /// Makes so many edits, and adds how many were made, and how often tree and list showed the same: it looks after each
 /// hundred.
 ///
-/// Answers `OutOfMemory` where there is no room for them, and `TooLarge` where the tree is too large.
+/// Returns `OutOfMemory` where there is no room for them, and `TooLarge` where the tree is too large.
 pub(crate) fn play(
     alloc: Global,
     tree: &mut Tree<TextContent>,

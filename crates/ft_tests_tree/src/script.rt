@@ -22,7 +22,7 @@ use std::alloc::Global;
 
 /// What is written of a script, case by case.
 ///
-/// Answers `OutOfMemory` where there is no room for it, and `TooLarge` where a tree is too large.
+/// Returns `OutOfMemory` where there is no room for it, and `TooLarge` where a tree is too large.
 pub(crate) fn played(alloc: Global, script: &str) -> Result<String, StepFault> {
     let mut out = String::new(alloc);
     for case in script.split("\n\n") {

@@ -34,7 +34,7 @@ fn acknowledge_interval(
 
 /// Acknowledges the first pending stage, and tells whether that can be done.
 ///
-/// Answers `OutOfMemory` where there is no room for it.
+/// Returns `OutOfMemory` where there is no room for it.
 pub(crate) fn acknowledge_next(
     tree: &mut Tree<TextContent>,
     list: &mut PlainList,
@@ -70,7 +70,7 @@ fn unmark_first(tree: &mut Tree<TextContent>, stage: u64) -> Result<bool, StepFa
 
 /// Takes back what the stage marks of the first leaf that it marks, and tells whether there is one.
 ///
-/// Answers `OutOfMemory` where there is no room for it.
+/// Returns `OutOfMemory` where there is no room for it.
 pub(crate) fn unmark(
     tree: &mut Tree<TextContent>,
     intervals: &Collections,
@@ -134,7 +134,7 @@ fn swept(
 
 /// Compacts, adds how many leaves that takes, and tells whether it can be done.
 ///
-/// Answers `OutOfMemory` where there is no room for it.
+/// Returns `OutOfMemory` where there is no room for it.
 pub(crate) fn compact(
     alloc: Global,
     tree: &mut Tree<TextContent>,

@@ -24,7 +24,7 @@ impl<C: Content> Tree<C> {
     /// Marks each element that the local view sees from the `p`-th up to before the `q`-th as removed by a
     /// pending stage.
     ///
-    /// Answers `OutOfRange` exactly where `q` is above the length of that view, and then nothing changed; and
+    /// Returns `OutOfRange` exactly where `q` is above the length of that view, and then nothing changed; and
     /// `OutOfMemory` where there is no room, and then the tree may be used no more.
     pub fn remove_local<G: Ledger>(
         &mut self,
@@ -64,7 +64,7 @@ impl<C: Content> Tree<C> {
     /// Gives a removal under number `seq` by the perspective's connection to each element that it sees from
     /// the `p`-th up to before the `q`-th. Then acknowledged references slide.
     ///
-    /// Answers `OutOfRange` exactly where `q` is above the length seen, and then nothing changed; and
+    /// Returns `OutOfRange` exactly where `q` is above the length seen, and then nothing changed; and
     /// `OutOfMemory` where there is no room, and then the tree may be used no more.
     pub fn remove_remote<G: Ledger>(
         &mut self,
@@ -107,7 +107,7 @@ impl<C: Content> Tree<C> {
     /// Adds changes of a pending stage, which is above all that are pending, to each element that the local
     /// view sees from the `p`-th up to before the `q`-th.
     ///
-    /// Answers `OutOfRange` exactly where `q` is above the length of that view, and then nothing changed; and
+    /// Returns `OutOfRange` exactly where `q` is above the length of that view, and then nothing changed; and
     /// `OutOfMemory` where there is no room, and then the tree may be used no more.
     pub fn annotate_local<G: Ledger>(
         &mut self,
@@ -155,7 +155,7 @@ impl<C: Content> Tree<C> {
     /// Makes changes of the acknowledged properties of each element that the perspective sees from the
     /// `p`-th up to before the `q`-th. The number of their message, `seq`, is kept nowhere.
     ///
-    /// Answers `OutOfRange` exactly where `q` is above the length seen, and then nothing changed; and
+    /// Returns `OutOfRange` exactly where `q` is above the length seen, and then nothing changed; and
     /// `OutOfMemory` where there is no room, and then the tree may be used no more.
     pub fn annotate_remote<G: Ledger>(
         &mut self,
@@ -204,7 +204,7 @@ impl<C: Content> Tree<C> {
     /// Acknowledges a stage under number `seq` of connection `conn`. No position is searched again. Then
     /// acknowledged references slide.
     ///
-    /// Answers `OutOfMemory` where there is no room for it, and then the tree may be used no more.
+    /// Returns `OutOfMemory` where there is no room for it, and then the tree may be used no more.
     pub fn ack(&mut self, stage: u64, seq: u64, conn: u32) -> Result<(), OutOfMemory>
         requires usable { IsTrue self.old.usable }
         requires lowest { All (λ e. IsLowestChange stage e.overlay) (elements C.units C.by self.old.leaves) }

@@ -18,9 +18,9 @@ use std::alloc::Global;
 use std::marker::Brand;
 use std::sync::ledger::Blank;
 
-/// Takes the leaf of a node out, on which no reference is, and answers its content.
+/// Takes the leaf of a node out, on which no reference is, and returns its content.
 ///
-/// Answers `OutOfMemory` where there is no room for what blocks keep.
+/// Returns `OutOfMemory` where there is no room for what blocks keep.
 pub(crate) fn take_content<C: Content + Drop>(
     blocks: &mut LeafBlocks<C>,
     id: NodeId,
@@ -40,7 +40,7 @@ pub(crate) fn take_content<C: Content + Drop>(
 
 /// Puts a leaf of elements with these stamps and acknowledged properties at the end.
 ///
-/// Answers `OutOfMemory` where there is no room for it.
+/// Returns `OutOfMemory` where there is no room for it.
 pub(crate) fn append<C: Content + Drop>(
     blocks: &mut LeafBlocks<C>,
     alloc: Global,

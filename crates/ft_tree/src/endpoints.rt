@@ -26,7 +26,7 @@ use ft_tree_steps::scans::settled_number;
 impl<C: Content> Tree<C> {
     /// Puts a pending reference on the element that the view sees with `p` seen ones before it.
     ///
-    /// Answers `OutOfRange` exactly where `p` isn't below the length of that view, and then nothing changed;
+    /// Returns `OutOfRange` exactly where `p` isn't below the length of that view, and then nothing changed;
     /// and `OutOfMemory` where there is no room, and then the tree may be used no more.
     pub fn add_ref(&mut self, p: u64, view: LenView) -> Result<RefId, TreeFault>
         requires usable { IsTrue self.old.usable }

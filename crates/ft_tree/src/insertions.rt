@@ -33,7 +33,7 @@ impl<C: Content> Tree<C> {
     /// Puts new elements of a pending stage in, directly after the `p`-th element of the local view, which is
     /// that with all that is pending.
     ///
-    /// Answers `OutOfRange` exactly where `p` is above the length of that view, and then nothing changed; and
+    /// Returns `OutOfRange` exactly where `p` is above the length of that view, and then nothing changed; and
     /// `OutOfMemory` where there is no room, and then the tree may be used no more.
     pub fn insert_local<G: Ledger>(
         &mut self,
@@ -77,7 +77,7 @@ impl<C: Content> Tree<C> {
     /// Puts new elements in under number `seq` by the perspective's connection, directly after the `p`-th
     /// element that the perspective sees, but past the run of pending elements there.
     ///
-    /// Answers `OutOfRange` exactly where `p` is above the length seen, and then nothing changed; and
+    /// Returns `OutOfRange` exactly where `p` is above the length seen, and then nothing changed; and
     /// `OutOfMemory` where there is no room, and then the tree may be used no more.
     pub fn insert_remote<G: Ledger>(
         &mut self,

@@ -1,6 +1,6 @@
 //! The merge tree: a list of elements in leaves, with references to elements.
 //!
-//! A call that can't answer `OutOfMemory` takes no memory.
+//! A call that can't return `OutOfMemory` takes no memory.
 #![tactic(auto)]
 
 pub mod changes;

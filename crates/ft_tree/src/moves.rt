@@ -22,7 +22,7 @@ use ft_tree_steps::unmarks::{unmark_all_at, unmark_at};
 impl<C: Content> Tree<C> {
     /// Puts elements with these stamps and acknowledged properties at the list's end, and nothing pending.
     ///
-    /// Answers `OutOfMemory` where there is no room for them, and then the tree may be used no more.
+    /// Returns `OutOfMemory` where there is no room for them, and then the tree may be used no more.
     pub fn append(&mut self, content: C, props: &Props, e: Element) -> Result<(), OutOfMemory>
     where
         C: Drop,
@@ -51,7 +51,7 @@ impl<C: Content> Tree<C> {
 
     /// Moves a leaf directly after another, or to the head. Its references go with it.
     ///
-    /// Answers `OutOfMemory` where there is no room for it, and then the tree may be used no more.
+    /// Returns `OutOfMemory` where there is no room for it, and then the tree may be used no more.
     pub fn move_leaf(&mut self, id: NodeId, at: Option<NodeId>) -> Result<(), OutOfMemory>
     where
         C: Drop,
@@ -76,7 +76,7 @@ impl<C: Content> Tree<C> {
 
     /// Takes the removal mark and the changes of a stage off a leaf.
     ///
-    /// Answers `OutOfMemory` where there is no room for what is left, and then the tree may be used no more.
+    /// Returns `OutOfMemory` where there is no room for what is left, and then the tree may be used no more.
     pub fn unmark(&mut self, id: NodeId, stage: u64) -> Result<(), OutOfMemory>
         requires usable { IsTrue self.old.usable }
         requires live { IsLeafIn self.old.leaves id }
@@ -97,7 +97,7 @@ impl<C: Content> Tree<C> {
 
     /// Takes every pending removal mark and all pending changes off a leaf.
     ///
-    /// Answers `OutOfMemory` where there is no room for what is left, and then the tree may be used no more.
+    /// Returns `OutOfMemory` where there is no room for what is left, and then the tree may be used no more.
     pub fn unmark_all(&mut self, id: NodeId) -> Result<(), OutOfMemory>
         requires usable { IsTrue self.old.usable }
         requires live { IsLeafIn self.old.leaves id }
@@ -120,7 +120,7 @@ impl<C: Content> Tree<C> {
     /// seen changes: an acknowledgement and a search for the next stage have fewer leaves to look at. It looks at each
     /// listed leaf once.
     ///
-    /// Answers `OutOfMemory` where there is no room for what is left, and then the tree may be used no more.
+    /// Returns `OutOfMemory` where there is no room for what is left, and then the tree may be used no more.
     pub fn prune(&mut self) -> Result<(), OutOfMemory>
         requires { IsTrue self.old.usable }
         ensures ok { OnOk result (self.new ≡ self.old) }
@@ -135,10 +135,10 @@ impl<C: Content> Tree<C> {
         }
     }
 
-    /// Takes a leaf out on which no reference is, and answers its content. Where the next sweep was to begin
+    /// Takes a leaf out on which no reference is, and returns its content. Where the next sweep was to begin
     /// at it, it begins at the leaf after it.
     ///
-    /// Answers `OutOfMemory` where there is no room for what is kept, and then the tree may be used no more.
+    /// Returns `OutOfMemory` where there is no room for what is kept, and then the tree may be used no more.
     pub fn take_leaf(&mut self, id: NodeId) -> Result<C, OutOfMemory>
     where
         C: Drop,
@@ -171,7 +171,7 @@ impl<C: Content> Tree<C> {
     /// Joins the next leaf to this one, if the two may be joined at the floor, and tells whether they may.
     /// Where the next sweep was to begin at that leaf, it begins at the one after it.
     ///
-    /// Answers `OutOfMemory` where there is no room for both in one, and then the tree may be used no more.
+    /// Returns `OutOfMemory` where there is no room for both in one, and then the tree may be used no more.
     pub fn join_next(&mut self, id: NodeId) -> Result<bool, OutOfMemory>
     where
         C: Drop,

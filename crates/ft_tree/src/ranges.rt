@@ -25,7 +25,7 @@ use std::sync::ledger::Ledger;
 impl<C: Content> Tree<C> {
     /// The place of `p` elements that the local view sees, where `p` isn't above `q`.
     ///
-    /// Answers `OutOfRange` exactly where `q` is above the length of that view.
+    /// Returns `OutOfRange` exactly where `q` is above the length of that view.
     pub(crate) fn start_local<G: Ledger>(
         &self,
         p: u64,
@@ -53,7 +53,7 @@ impl<C: Content> Tree<C> {
 
     /// The place of `p` elements that the perspective sees, where `p` isn't above `q`.
     ///
-    /// Answers `OutOfRange` exactly where `q` is above the length seen.
+    /// Returns `OutOfRange` exactly where `q` is above the length seen.
     pub(crate) fn start_at<G: Ledger>(
         &self,
         p: u64,
@@ -84,7 +84,7 @@ impl<C: Content> Tree<C> {
     /// Makes the edit of each element that the view sees from the `p`-th, whose place was found, up to before
     /// the `q`-th.
     ///
-    /// Answers `OutOfMemory` where there is no room for it, and then the tree may be used no more.
+    /// Returns `OutOfMemory` where there is no room for it, and then the tree may be used no more.
     pub(crate) fn edit(
         &mut self,
         found: &Found,
@@ -119,7 +119,7 @@ impl<C: Content> Tree<C> {
 
     /// The same, after which acknowledged references slide.
     ///
-    /// Answers `OutOfMemory` where there is no room for it, and then the tree may be used no more.
+    /// Returns `OutOfMemory` where there is no room for it, and then the tree may be used no more.
     pub(crate) fn edit_and_slide(
         &mut self,
         found: &Found,

@@ -156,7 +156,7 @@ impl<C: Content> Tree<C> {
 
     /// The stamps of the elements in order.
     ///
-    /// Answers `OutOfMemory` where there is no room for them.
+    /// Returns `OutOfMemory` where there is no room for them.
     pub fn elements(&self) -> Result<Vec<Element>, OutOfMemory>
         requires { IsTrue self.now.usable }
         ensures { IfOk result (λ v. v.items ≡ map (λ e. e.stamps) (elements C.units C.by self.now.leaves)) }

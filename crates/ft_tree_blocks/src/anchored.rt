@@ -28,7 +28,7 @@ use std::collections::VecDeque;
 
 /// Puts a new leaf in, as `insert_in` does. References go with their elements.
 ///
-/// Answers `OutOfMemory` where there is no room for it.
+/// Returns `OutOfMemory` where there is no room for it.
 pub(crate) fn insert_anchored<C: Content + Drop>(
     blocks: &mut Blocks<TreeLeaf<C>>,
     touched: &mut VecDeque<StageNodes>,
@@ -60,7 +60,7 @@ pub(crate) fn insert_anchored<C: Content + Drop>(
 
 /// Cuts a leaf in two, as `split_in` does. References stay on their elements.
 ///
-/// Answers `OutOfMemory` where there is no room for the rear.
+/// Returns `OutOfMemory` where there is no room for the rear.
 pub(crate) fn split_anchored<C: Content>(
     blocks: &mut Blocks<TreeLeaf<C>>,
     touched: &mut VecDeque<StageNodes>,
@@ -94,7 +94,7 @@ pub(crate) fn split_anchored<C: Content>(
 /// Replaces the stamps of a leaf, as `set_stamps_in` does. References stay on their elements; acknowledged ones
 /// may have to slide then.
 ///
-/// Answers `OutOfMemory` where there is no room for it.
+/// Returns `OutOfMemory` where there is no room for it.
 pub(crate) fn set_stamps_anchored<C: Content>(
     blocks: &mut Blocks<TreeLeaf<C>>,
     touched: &mut VecDeque<StageNodes>,
@@ -123,7 +123,7 @@ pub(crate) fn set_stamps_anchored<C: Content>(
 
 /// Joins the next leaf to a leaf, as `join_in` does. References stay on their elements.
 ///
-/// Answers `OutOfMemory` where there is no room for both in one.
+/// Returns `OutOfMemory` where there is no room for both in one.
 pub(crate) fn join_anchored<C: Content + Drop>(
     blocks: &mut Blocks<TreeLeaf<C>>,
     touched: &mut VecDeque<StageNodes>,
@@ -158,7 +158,7 @@ pub(crate) fn join_anchored<C: Content + Drop>(
 
 /// Makes a change of a leaf, as `change_in` does. References stay on their elements.
 ///
-/// Answers `OutOfMemory` where there is no room for it.
+/// Returns `OutOfMemory` where there is no room for it.
 pub(crate) fn change_anchored<C: Content>(
     blocks: &mut Blocks<TreeLeaf<C>>,
     touched: &mut VecDeque<StageNodes>,
@@ -185,7 +185,7 @@ pub(crate) fn change_anchored<C: Content>(
 
 /// Takes a leaf out on which no reference is, as `take_in` does. References go with their elements.
 ///
-/// Answers `OutOfMemory` where there is no room for what is kept.
+/// Returns `OutOfMemory` where there is no room for what is kept.
 pub(crate) fn take_anchored<C: Content>(
     blocks: &mut Blocks<TreeLeaf<C>>,
     touched: &mut VecDeque<StageNodes>,
@@ -212,7 +212,7 @@ pub(crate) fn take_anchored<C: Content>(
 
 /// Moves a leaf, as `move_in` does. References go with their elements.
 ///
-/// Answers `OutOfMemory` where there is no room for what is kept.
+/// Returns `OutOfMemory` where there is no room for what is kept.
 pub(crate) fn move_anchored<C: Content>(
     blocks: &mut Blocks<TreeLeaf<C>>,
     touched: &VecDeque<StageNodes>,
@@ -240,7 +240,7 @@ pub(crate) fn move_anchored<C: Content>(
 
 /// Puts a new pending reference on an element.
 ///
-/// Answers `OutOfMemory` where there is no room for it.
+/// Returns `OutOfMemory` where there is no room for it.
 pub(crate) fn add_anchored<C: Content>(
     blocks: &Blocks<TreeLeaf<C>>,
     refs: &mut LeafRefs,

@@ -47,7 +47,7 @@ impl Anchors {
 
     /// Makes room for the references of the leaf of this node. No reference changes.
     ///
-    /// Answers `OutOfMemory` where there is no room for it, and then nothing changed.
+    /// Returns `OutOfMemory` where there is no room for it, and then nothing changed.
     pub fn hold(&mut self, id: NodeId) -> Result<(), OutOfMemory>
         ensures held { OnOk result (IsHeld self.new.refs id) }
         ensures moves { OnOk result (MovesAnchors (λ p. p) self.old self.new) }
@@ -56,9 +56,9 @@ impl Anchors {
         self.refs.hold(id)
     }
 
-    /// Makes a new pending reference on the leaf of this node, at this offset, and answers its number.
+    /// Makes a new pending reference on the leaf of this node, at this offset, and returns its number.
     ///
-    /// Answers `OutOfMemory` where there is no room for it.
+    /// Returns `OutOfMemory` where there is no room for it.
     pub fn add(&mut self, id: NodeId, offset: u64) -> Result<RefId, OutOfMemory>
         ensures fresh { IfOk result (λ r. entry self.old.refs r ≡ None) }
         ensures added { IfOk result (λ r. ChangesAnchor r (Some (Some record { owner = id; offset = offset })) false self.old self.new) }
@@ -172,7 +172,7 @@ impl Anchors {
 
 /// Makes the flag of this number false, and room for the flags up to it.
 ///
-/// Answers `OutOfMemory` where there is no room for them, and then no flag changed.
+/// Returns `OutOfMemory` where there is no room for them, and then no flag changed.
 fn make_pending(acked: &mut Vec<bool>, at: usize) -> Result<(), OutOfMemory>
     ensures flag { slice_index_or acked.new.items at false ≡ false }
     ensures others { (r : ℕ) → r ≢ at → slice_index_or acked.new.items r false ≡ slice_index_or acked.old.items r false }

@@ -53,7 +53,7 @@ use std::marker::Model;
 /// acknowledgement goes to these alone. A leaf that stands in the list of a stage may have nothing of it any
 /// more, until `prune` takes it off. References to elements stand on their leaves. A contract sees the leaves from first to last, each with
 /// its node, how deep a search goes, the floor, the references, each under its number, and whether they may still
-/// be used: after want of memory in a call that changes them they may not, for good.
+/// be used: after `OutOfMemory` in a call that changes them they may not, for good.
 #[derive(Drop)]
 pub struct LeafBlocks<C: Content> {
     blocks: Blocks<TreeLeaf<C>>,
@@ -145,7 +145,7 @@ impl<C: Content> LeafBlocks<C> {
     /// Puts a new leaf, in whose properties nothing is pending, directly after the given one, or first where
     /// none is given.
     ///
-    /// Answers `OutOfMemory` where there is no room for it, and then the blocks may be used no more.
+    /// Returns `OutOfMemory` where there is no room for it, and then the blocks may be used no more.
     pub fn insert_after(
         &mut self,
         at: Option<NodeId>,
@@ -181,10 +181,10 @@ impl<C: Content> LeafBlocks<C> {
     }
 
     /// Cuts a leaf in two: its first `at` elements keep the node, the rest gets a new one directly after
-    /// it, which is answered. Where something is pending on the leaf, the lists of all stages are looked
+    /// it, which is returned. Where something is pending on the leaf, the lists of all stages are looked
     /// through, since a leaf doesn't tell all stages of which it has something.
     ///
-    /// Answers `OutOfMemory` where there is no room for it, and then the blocks may be used no more.
+    /// Returns `OutOfMemory` where there is no room for it, and then the blocks may be used no more.
     pub fn split(&mut self, leaf: NodeId, at: u64) -> Result<NodeId, OutOfMemory>
         requires usable { IsTrue self.old.usable }
         requires low { 1 ≤ at }
@@ -214,7 +214,7 @@ impl<C: Content> LeafBlocks<C> {
 
     /// Replaces the stamps of all elements of a leaf. No other leaf changes.
     ///
-    /// Answers `OutOfMemory` where there is no room for it, and then the blocks may be used no more.
+    /// Returns `OutOfMemory` where there is no room for it, and then the blocks may be used no more.
     pub fn set_stamps(&mut self, id: NodeId, e: Element) -> Result<(), OutOfMemory>
         requires usable { IsTrue self.old.usable }
         requires live { IsLeafIn self.old.leaves id }
@@ -235,7 +235,7 @@ impl<C: Content> LeafBlocks<C> {
 
     /// Makes this change of all elements of a leaf. No other leaf changes.
     ///
-    /// Answers `OutOfMemory` where there is no room for it, and then the blocks may be used no more.
+    /// Returns `OutOfMemory` where there is no room for it, and then the blocks may be used no more.
     pub fn change(&mut self, id: NodeId, c: &LeafChange) -> Result<(), OutOfMemory>
         requires usable { IsTrue self.old.usable }
         requires can { IsSomeAnd (value_at self.old.leaves id) (λ v. MayChange c.now v.overlay) }
@@ -254,10 +254,10 @@ impl<C: Content> LeafBlocks<C> {
         }
     }
 
-    /// Takes a leaf out on which no reference is, and answers its value. No other leaf changes. The lists of all stages are looked
+    /// Takes a leaf out on which no reference is, and returns its value. No other leaf changes. The lists of all stages are looked
     /// through.
     ///
-    /// Answers `OutOfMemory` where there is no room for what blocks keep, and then the blocks may be used
+    /// Returns `OutOfMemory` where there is no room for what blocks keep, and then the blocks may be used
     /// no more.
     pub fn take(&mut self, id: NodeId) -> Result<TreeLeaf<C>, OutOfMemory>
         requires usable { IsTrue self.old.usable }
@@ -282,7 +282,7 @@ impl<C: Content> LeafBlocks<C> {
     /// Joins the next leaf's elements, which have the same stamps, to this leaf, and takes the next leaf
     /// out. No other leaf changes. The lists of all stages are looked through.
     ///
-    /// Answers `OutOfMemory` where there is no room for them, and then the blocks may be used no more.
+    /// Returns `OutOfMemory` where there is no room for them, and then the blocks may be used no more.
     pub fn join_next(&mut self, id: NodeId) -> Result<(), OutOfMemory>
     where
         C: Drop,
@@ -307,7 +307,7 @@ impl<C: Content> LeafBlocks<C> {
     /// Moves a leaf directly after the given one, or first where none is given. It keeps its node, and
     /// all other leaves keep theirs and their order.
     ///
-    /// Answers `OutOfMemory` where there is no room for what blocks keep, and then the blocks may be used
+    /// Returns `OutOfMemory` where there is no room for what blocks keep, and then the blocks may be used
     /// no more.
     pub fn move_after(&mut self, id: NodeId, at: Option<NodeId>) -> Result<(), OutOfMemory>
         requires usable { IsTrue self.old.usable }
@@ -332,7 +332,7 @@ impl<C: Content> LeafBlocks<C> {
     /// Acknowledges a stage in all leaves under number `seq` of connection `conn`, by going to those that the
     /// stage touched. No lower stage has changes.
     ///
-    /// Answers `OutOfMemory` where there is no room for it, and then the blocks may be used no more.
+    /// Returns `OutOfMemory` where there is no room for it, and then the blocks may be used no more.
     pub fn ack(&mut self, alloc: Global, stage: u64, seq: u64, conn: u32) -> Result<(), OutOfMemory>
         requires usable { IsTrue self.old.usable }
         requires lowest { All (λ e. IsLowestChange stage e.overlay) (elements C.units C.by self.old.leaves) }
@@ -359,9 +359,9 @@ impl<C: Content> LeafBlocks<C> {
         }
     }
 
-    /// Puts a new pending reference on an element, and answers its number.
+    /// Puts a new pending reference on an element, and returns its number.
     ///
-    /// Answers `OutOfMemory` where there is no room for it, and then the blocks may be used no more.
+    /// Returns `OutOfMemory` where there is no room for it, and then the blocks may be used no more.
     pub fn add_ref(&mut self, at: &Place) -> Result<RefId, OutOfMemory>
         requires usable { IsTrue self.old.usable }
         requires on { IsOnLeaf C.units self.old.leaves at.now }
@@ -443,7 +443,7 @@ impl<C: Content> LeafBlocks<C> {
     /// stand in the order of the list. It goes to the leaves that the stage touched, finds the place of each, and
     /// sorts them by it.
     ///
-    /// Answers `OutOfMemory` where there is no room for them.
+    /// Returns `OutOfMemory` where there is no room for them.
     pub fn stage_leaves(&self, stage: u64) -> Result<Vec<NodeId>, OutOfMemory>
         requires { IsTrue self.now.usable }
         ensures { IfOk result (λ v. v.items ≡ touched_nodes stage self.now.leaves) }
@@ -454,7 +454,7 @@ impl<C: Content> LeafBlocks<C> {
     /// Takes leaves that have nothing of a stage any more off the list of what that touched, and lists without any leaf go. Nothing
     /// that is seen changes. It looks at each listed leaf once.
     ///
-    /// Answers `OutOfMemory` where there is no room for what is left, and then the blocks may be used no more.
+    /// Returns `OutOfMemory` where there is no room for what is left, and then the blocks may be used no more.
     pub fn prune(&mut self) -> Result<(), OutOfMemory>
         requires { IsTrue self.old.usable }
         ensures ok { OnOk result (self.new ≡ self.old) }

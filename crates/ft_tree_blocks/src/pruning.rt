@@ -18,7 +18,7 @@ use std::collections::VecDeque;
 
 /// Those of the nodes whose leaf has something of the stage.
 ///
-/// Answers `OutOfMemory` where there is no room for them.
+/// Returns `OutOfMemory` where there is no room for them.
 fn touched_of<C: Content>(
     blocks: &Blocks<TreeLeaf<C>>,
     alloc: Global,
@@ -40,7 +40,7 @@ fn touched_of<C: Content>(
 
 /// Takes the nodes off a list whose leaf has nothing of its stage.
 ///
-/// Answers `OutOfMemory` where there is no room for the others.
+/// Returns `OutOfMemory` where there is no room for the others.
 fn prune_list<C: Content>(
     blocks: &Blocks<TreeLeaf<C>>,
     list: &mut StageNodes,
@@ -57,7 +57,7 @@ fn prune_list<C: Content>(
 
 /// The same of each list of a slice.
 ///
-/// Answers `OutOfMemory` where there is no room for what is left.
+/// Returns `OutOfMemory` where there is no room for what is left.
 fn prune_each<C: Content>(
     blocks: &Blocks<TreeLeaf<C>>,
     touched: &mut [StageNodes],
@@ -75,7 +75,7 @@ fn prune_each<C: Content>(
 
 /// Takes the nodes off all lists whose leaf has nothing of the list's stage.
 ///
-/// Answers `OutOfMemory` where there is no room for what is left.
+/// Returns `OutOfMemory` where there is no room for what is left.
 fn prune_all<C: Content>(
     blocks: &Blocks<TreeLeaf<C>>,
     touched: &mut VecDeque<StageNodes>,
@@ -90,7 +90,7 @@ fn prune_all<C: Content>(
 
 /// The same, and lists that have no node then go.
 ///
-/// Answers `OutOfMemory` where there is no room for what is left.
+/// Returns `OutOfMemory` where there is no room for what is left.
 pub(crate) fn prune_in<C: Content>(
     blocks: &Blocks<TreeLeaf<C>>,
     touched: &mut VecDeque<StageNodes>,

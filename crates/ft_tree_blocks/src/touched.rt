@@ -32,7 +32,7 @@ fn is_at(touched: &VecDeque<StageNodes>, i: usize, stage: u64) -> bool
 
 /// Lists a node for a stage.
 ///
-/// Answers `OutOfMemory` where there is no room for it.
+/// Returns `OutOfMemory` where there is no room for it.
 pub(crate) fn note(
     touched: &mut VecDeque<StageNodes>,
     stage: u64,
@@ -60,7 +60,7 @@ fn is_stamped_by(e: &Element, stage: u64) -> bool
 
 /// Lists a node for the stage of a stamp, if that is pending and the old stamps have none of that stage.
 ///
-/// Answers `OutOfMemory` where there is no room for it.
+/// Returns `OutOfMemory` where there is no room for it.
 fn note_stamp(
     touched: &mut VecDeque<StageNodes>,
     old: &Element,
@@ -99,7 +99,7 @@ fn note_each(
 
 /// Lists a node for each pending stage of its new stamps that the old ones have not.
 ///
-/// Answers `OutOfMemory` where there is no room for it.
+/// Returns `OutOfMemory` where there is no room for it.
 pub(crate) fn note_stamps(
     touched: &mut VecDeque<StageNodes>,
     old: &Element,
@@ -116,7 +116,7 @@ pub(crate) fn note_stamps(
 
 /// Lists the second node for each stage for which the first one is listed.
 ///
-/// Answers `OutOfMemory` where there is no room for it.
+/// Returns `OutOfMemory` where there is no room for it.
 pub(crate) fn note_heir(
     touched: &mut VecDeque<StageNodes>,
     front: NodeId,
@@ -173,7 +173,7 @@ pub(crate) fn nodes_of(touched: &VecDeque<StageNodes>, stage: u64) -> &[NodeId]
     touched[i].nodes()
 }
 
-/// Takes the list of a stage out, and answers its nodes: none where there is no list.
+/// Takes the list of a stage out, and returns its nodes: none where there is no list.
 pub(crate) fn take_stage(touched: &mut VecDeque<StageNodes>, stage: u64) -> Vec<NodeId>
     requires { AreRising touched.old.items }
     ensures nodes { (id : ℕ) → holds result.items id ≡ is_listed touched.old.items stage id }

@@ -19,7 +19,7 @@ use std::collections::VecDeque;
 
 /// Puts a new leaf in, as `Blocks::insert_after` does. Nothing is pending in its properties.
 ///
-/// Answers `OutOfMemory` where there is no room for it.
+/// Returns `OutOfMemory` where there is no room for it.
 pub(crate) fn insert_in<C: Content + Drop>(
     blocks: &mut Blocks<TreeLeaf<C>>,
     touched: &mut VecDeque<StageNodes>,
@@ -71,7 +71,7 @@ fn has_pending<C: Content>(leaf: &TreeLeaf<C>) -> bool
 /// Lists the rear of a leaf that was cut for each stage for which its front is listed, if anything is pending
 /// on it.
 ///
-/// Answers `OutOfMemory` where there is no room for it.
+/// Returns `OutOfMemory` where there is no room for it.
 fn note_rear<C: Content>(
     touched: &mut VecDeque<StageNodes>,
     leaf: &TreeLeaf<C>,
@@ -91,7 +91,7 @@ fn note_rear<C: Content>(
 
 /// Cuts a leaf in two, as `Blocks::split` does.
 ///
-/// Answers `OutOfMemory` where there is no room for the rear.
+/// Returns `OutOfMemory` where there is no room for the rear.
 pub(crate) fn split_in<C: Content>(
     blocks: &mut Blocks<TreeLeaf<C>>,
     touched: &mut VecDeque<StageNodes>,
@@ -117,7 +117,7 @@ pub(crate) fn split_in<C: Content>(
 
 /// Replaces the stamps of a leaf, as `Blocks::set_stamps` does.
 ///
-/// Answers `OutOfMemory` where there is no room for it.
+/// Returns `OutOfMemory` where there is no room for it.
 pub(crate) fn set_stamps_in<C: Content>(
     blocks: &mut Blocks<TreeLeaf<C>>,
     touched: &mut VecDeque<StageNodes>,
@@ -138,7 +138,7 @@ pub(crate) fn set_stamps_in<C: Content>(
 
 /// Lists a node for the stage of the changes that it gets, if it gets any.
 ///
-/// Answers `OutOfMemory` where there is no room for it.
+/// Returns `OutOfMemory` where there is no room for it.
 fn note_change(
     touched: &mut VecDeque<StageNodes>,
     c: &LeafChange,
@@ -159,7 +159,7 @@ fn note_change(
 
 /// Makes a change of a leaf, as `Blocks::change` does.
 ///
-/// Answers `OutOfMemory` where there is no room for it.
+/// Returns `OutOfMemory` where there is no room for it.
 pub(crate) fn change_in<C: Content>(
     blocks: &mut Blocks<TreeLeaf<C>>,
     touched: &mut VecDeque<StageNodes>,
@@ -180,7 +180,7 @@ pub(crate) fn change_in<C: Content>(
 
 /// Takes a leaf out, as `Blocks::take` does.
 ///
-/// Answers `OutOfMemory` where there is no room for what is kept.
+/// Returns `OutOfMemory` where there is no room for what is kept.
 pub(crate) fn take_in<C: Content>(
     blocks: &mut Blocks<TreeLeaf<C>>,
     touched: &mut VecDeque<StageNodes>,
@@ -211,7 +211,7 @@ fn purge_given(touched: &mut VecDeque<StageNodes>, id: Option<NodeId>)
 
 /// Joins the next leaf to a leaf, as `Blocks::join_next` does.
 ///
-/// Answers `OutOfMemory` where there is no room for both in one.
+/// Returns `OutOfMemory` where there is no room for both in one.
 pub(crate) fn join_in<C: Content + Drop>(
     blocks: &mut Blocks<TreeLeaf<C>>,
     touched: &mut VecDeque<StageNodes>,
@@ -233,7 +233,7 @@ pub(crate) fn join_in<C: Content + Drop>(
 
 /// Moves a leaf, as `Blocks::move_after` does.
 ///
-/// Answers `OutOfMemory` where there is no room for what is kept.
+/// Returns `OutOfMemory` where there is no room for what is kept.
 pub(crate) fn move_in<C: Content>(
     blocks: &mut Blocks<TreeLeaf<C>>,
     touched: &VecDeque<StageNodes>,

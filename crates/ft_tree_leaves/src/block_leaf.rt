@@ -130,7 +130,7 @@ impl<C: Content> Leaf for TreeLeaf<C> {
 
 /// The stamps with one more removal, before the pending one.
 ///
-/// Answers `OutOfMemory` where there is no room for them.
+/// Returns `OutOfMemory` where there is no room for them.
 pub fn removed_stamps(alloc: Global, e: &Element, t: Stamp) -> Result<Element, OutOfMemory>
     ensures { IfOk result (λ x. x ≡ removed_stamps t e.now) }
 {
@@ -142,7 +142,7 @@ pub fn removed_stamps(alloc: Global, e: &Element, t: Stamp) -> Result<Element, O
 
 /// The stamps without a removal of a pending stage.
 ///
-/// Answers `OutOfMemory` where there is no room for them.
+/// Returns `OutOfMemory` where there is no room for them.
 pub fn unmarked_stamps(alloc: Global, e: &Element, stage: u64) -> Result<Element, OutOfMemory>
     ensures { IfOk result (λ x. x ≡ unmarked_stamps stage e.now) }
 {
@@ -154,7 +154,7 @@ pub fn unmarked_stamps(alloc: Global, e: &Element, stage: u64) -> Result<Element
 
 /// The stamps with the removals that are sequenced alone.
 ///
-/// Answers `OutOfMemory` where there is no room for them.
+/// Returns `OutOfMemory` where there is no room for them.
 pub fn sequenced_stamps(alloc: Global, e: &Element) -> Result<Element, OutOfMemory>
     ensures { IfOk result (λ x. x ≡ sequenced_stamps e.now) }
 {
@@ -166,7 +166,7 @@ pub fn sequenced_stamps(alloc: Global, e: &Element) -> Result<Element, OutOfMemo
 
 /// The stamps after a stage was acknowledged under number `seq` of connection `conn`.
 ///
-/// Answers `OutOfMemory` where there is no room for them.
+/// Returns `OutOfMemory` where there is no room for them.
 pub fn acked_stamps(
     alloc: Global,
     e: &Element,

@@ -31,9 +31,9 @@ pub trait Content: Sized {
         ensures value { result ≡ length (units self.now) }
         ensures some { 1 ≤ result };
 
-    /// Keeps the first `at` elements and answers the rest.
+    /// Keeps the first `at` elements and returns the rest.
     ///
-    /// Answers `OutOfMemory` where there is no room for the rest, and then the content is as it was.
+    /// Returns `OutOfMemory` where there is no room for the rest, and then the content is as it was.
     fn split(&mut self, at: u64) -> Result<Self, OutOfMemory>
         requires low { 1 ≤ at }
         requires high { at < length (units self.old) }
@@ -47,7 +47,7 @@ pub trait Content: Sized {
 
     /// Adds the other content's elements at the end.
     ///
-    /// Gives the other content back only for want of memory, and then this one is as it was.
+    /// Gives the other content back only where it is out of memory, and then this one is as it was.
     fn join(&mut self, other: Self) -> Result<(), Self>
         requires { IsTrue (joins self.old other) }
         ensures ok { OnOk result (self.new ≡ joined self.old other) }

@@ -47,9 +47,9 @@ impl<C: Content> TreeLeaf<C> {
         }
     }
 
-    /// Keeps the first `at` elements and answers the rest.
+    /// Keeps the first `at` elements and returns the rest.
     ///
-    /// Answers `OutOfMemory` where there is no room for the rest, and then the leaf is as it was.
+    /// Returns `OutOfMemory` where there is no room for the rest, and then the leaf is as it was.
     pub fn split(&mut self, at: u64) -> Result<TreeLeaf<C>, OutOfMemory>
         requires low { 1 ≤ at }
         requires high { at < length (C.units self.old.content) }

@@ -1,6 +1,6 @@
 //! The leaves of the merge tree: what a leaf holds.
 //!
-//! A call that can't answer `OutOfMemory` takes no memory.
+//! A call that can't return `OutOfMemory` takes no memory.
 #![tactic(auto)]
 
 pub mod block_leaf;

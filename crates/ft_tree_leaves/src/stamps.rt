@@ -12,7 +12,7 @@ use std::alloc::Global;
 
 /// The removals with one more, before the pending one.
 ///
-/// Answers `OutOfMemory` where there is no room for them.
+/// Returns `OutOfMemory` where there is no room for them.
 pub(crate) fn with_removal(alloc: Global, dels: &[Stamp], t: Stamp) -> Result<Stamps, OutOfMemory>
     ensures { IfOk result (λ v. v ≡ put_past is_acked (t ∷ []) dels.now) }
 {
@@ -37,7 +37,7 @@ pub(crate) fn acked(t: Stamp, stage: u64, seq: u64, conn: u32) -> Stamp
 
 /// The stamps after a stage was acknowledged under number `seq` of connection `conn`.
 ///
-/// Answers `OutOfMemory` where there is no room for them.
+/// Returns `OutOfMemory` where there is no room for them.
 pub(crate) fn acked_all(
     alloc: Global,
     stamps: &[Stamp],
@@ -56,7 +56,7 @@ pub(crate) fn acked_all(
 
 /// Adds the stamps at the end.
 ///
-/// Answers `OutOfMemory` where there is no room for them.
+/// Returns `OutOfMemory` where there is no room for them.
 fn push_all(stamps: &mut Stamps, more: &[Stamp]) -> Result<(), OutOfMemory>
     ensures { OnOk result (stamps.new ≡ stamps.old ++ more.now) }
 {
@@ -68,7 +68,7 @@ fn push_all(stamps: &mut Stamps, more: &[Stamp]) -> Result<(), OutOfMemory>
 
 /// The stamps but those of a stage.
 ///
-/// Answers `OutOfMemory` where there is no room for them.
+/// Returns `OutOfMemory` where there is no room for them.
 pub(crate) fn without_stage(
     alloc: Global,
     stamps: &[Stamp],
@@ -87,7 +87,7 @@ pub(crate) fn without_stage(
 
 /// The stamps that are sequenced.
 ///
-/// Answers `OutOfMemory` where there is no room for them.
+/// Returns `OutOfMemory` where there is no room for them.
 pub(crate) fn sequenced_only(alloc: Global, stamps: &[Stamp]) -> Result<Stamps, OutOfMemory>
     ensures { IfOk result (λ v. v ≡ filter is_acked stamps.now) }
 {

@@ -52,7 +52,7 @@ impl Model for TextUnit {
 impl TextContent {
     /// A run of the characters of `text`, of a pending insertion.
     ///
-    /// Answers `OutOfMemory` where there is no room for a copy of them.
+    /// Returns `OutOfMemory` where there is no room for a copy of them.
     pub fn run(alloc: Global, text: &str) -> Result<TextContent, OutOfMemory>
         requires { IsTextRun (chars text.now) }
         ensures { IfOk result (λ leaf. leaf ≡ new_text (Run (chars text.now))) }

@@ -33,7 +33,7 @@ impl Model for TextRun {
 impl TextRun {
     /// A copy of the characters of `text`.
     ///
-    /// Answers `OutOfMemory` where there is no room for the copy.
+    /// Returns `OutOfMemory` where there is no room for the copy.
     pub fn new(alloc: Global, text: &str) -> Result<TextRun, OutOfMemory>
         requires { IsTextRun (chars text.now) }
         ensures { IfOk result (λ run. run ≡ chars text.now) }
@@ -60,9 +60,9 @@ impl TextRun {
         self.text.as_str()
     }
 
-    /// Keeps the first `at` characters and answers the rest.
+    /// Keeps the first `at` characters and returns the rest.
     ///
-    /// Answers `OutOfMemory` where there is no room for the rest, and then the run is as it was.
+    /// Returns `OutOfMemory` where there is no room for the rest, and then the run is as it was.
     pub(crate) fn split(&mut self, at: u64) -> Result<TextRun, OutOfMemory>
         requires low { 1 ≤ at }
         requires high { at < length self.old }
@@ -79,7 +79,7 @@ impl TextRun {
 
     /// Adds the other run's characters at the end.
     ///
-    /// Answers `OutOfMemory` where there is no room for them, and then the run is as it was.
+    /// Returns `OutOfMemory` where there is no room for them, and then the run is as it was.
     pub(crate) fn append(&mut self, other: &TextRun) -> Result<(), OutOfMemory>
         requires { length self.old + length other.now ≤ longest_run }
         ensures ok { OnOk result (self.new ≡ self.old ++ other.now) }

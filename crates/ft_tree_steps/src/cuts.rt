@@ -25,10 +25,10 @@ use ft_tree_leaves::{Content, TreeLeaf};
 use std::alloc::Global;
 use std::sync::ledger::Ledger;
 
-/// Cuts the leaf that was found behind the place, unless it ends there. Answers the leaf that ends there
+/// Cuts the leaf that was found behind the place, unless it ends there. Returns the leaf that ends there
 /// then: none for the head. References keep their elements.
 ///
-/// Answers `OutOfMemory` where there is no room for the rear.
+/// Returns `OutOfMemory` where there is no room for the rear.
 pub fn cut_at<C: Content>(
     blocks: &mut LeafBlocks<C>,
     found: &Found,
@@ -121,7 +121,7 @@ fn behind_pending<C: Content, G: Ledger>(
 /// Puts a leaf in behind a place where a leaf ends, or past the leaves with a pending insertion that stand
 /// there.
 ///
-/// Answers `OutOfMemory` where there is no room for it.
+/// Returns `OutOfMemory` where there is no room for it.
 fn put_past<C: Content + Drop, G: Ledger>(
     blocks: &mut LeafBlocks<C>,
     at: Option<NodeId>,
@@ -154,7 +154,7 @@ fn put_past<C: Content + Drop, G: Ledger>(
 
 /// A leaf of new elements, which nobody has removed or changed.
 ///
-/// Answers `OutOfMemory` where there is no room for its properties.
+/// Returns `OutOfMemory` where there is no room for its properties.
 fn new_leaf<C: Content + Drop>(
     alloc: Global,
     content: C,
@@ -177,7 +177,7 @@ fn new_leaf<C: Content + Drop>(
 /// Puts new elements in as one leaf directly after a place that was found, or past the leaves with a
 /// pending insertion that stand there.
 ///
-/// Answers `OutOfMemory` where there is no room for them.
+/// Returns `OutOfMemory` where there is no room for them.
 pub fn insert_at<C: Content + Drop, G: Ledger>(
     blocks: &mut LeafBlocks<C>,
     alloc: Global,

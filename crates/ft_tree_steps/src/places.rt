@@ -16,7 +16,7 @@ use std::sync::ledger::Ledger;
 
 /// The place of `p` elements that the local view sees. Each read of a node is one step.
 ///
-/// Answers `OutOfRange` exactly where `p` is above the length of that view.
+/// Returns `OutOfRange` exactly where `p` is above the length of that view.
 pub fn find_local<C: Content, G: Ledger>(
     blocks: &Blocks<TreeLeaf<C>>,
     p: u64,
@@ -40,7 +40,7 @@ pub fn find_local<C: Content, G: Ledger>(
 
 /// The place of `p` elements that the perspective sees. Each read of a node is one step.
 ///
-/// Answers `OutOfRange` exactly where `p` is above the length seen.
+/// Returns `OutOfRange` exactly where `p` is above the length seen.
 pub fn find_seen_at<C: Content, G: Ledger>(
     blocks: &Blocks<TreeLeaf<C>>,
     p: u64,

@@ -32,7 +32,7 @@ pub enum RangeEdit {
 
 /// Makes the edit of the leaf of a node, if the view sees it.
 ///
-/// Answers `OutOfMemory` where there is no room for it.
+/// Returns `OutOfMemory` where there is no room for it.
 fn edit_seen<C: Content>(
     blocks: &mut LeafBlocks<C>,
     alloc: Global,
@@ -63,9 +63,9 @@ fn edit_seen<C: Content>(
 }
 
 /// Cuts the leaf of a node behind the first `left` elements that the view sees, if it sees more of it, and
-/// answers how many it sees of the leaf then.
+/// returns how many it sees of the leaf then.
 ///
-/// Answers `OutOfMemory` where there is no room for the rear.
+/// Returns `OutOfMemory` where there is no room for the rear.
 fn cut_seen<C: Content>(
     blocks: &mut LeafBlocks<C>,
     id: NodeId,
@@ -89,10 +89,10 @@ fn cut_seen<C: Content>(
     Ok(left)
 }
 
-/// Makes the edit of the leaf of a node up to the first `left` elements that the view sees, and answers how
+/// Makes the edit of the leaf of a node up to the first `left` elements that the view sees, and returns how
 /// many these were.
 ///
-/// Answers `OutOfMemory` where there is no room for it.
+/// Returns `OutOfMemory` where there is no room for it.
 fn edit_first<C: Content>(
     blocks: &mut LeafBlocks<C>,
     alloc: Global,
@@ -123,7 +123,7 @@ fn edit_first<C: Content>(
 
 /// Makes the edit of the first `count` elements that the view sees from the leaf of a node on.
 ///
-/// Answers `OutOfMemory` where there is no room for it.
+/// Returns `OutOfMemory` where there is no room for it.
 pub fn edit_range<C: Content>(
     blocks: &mut LeafBlocks<C>,
     alloc: Global,
@@ -156,7 +156,7 @@ pub fn edit_range<C: Content>(
 
 /// Makes the edit of the first `count` elements that the view sees behind a place that was found.
 ///
-/// Answers `OutOfMemory` where there is no room for it.
+/// Returns `OutOfMemory` where there is no room for it.
 pub fn edit_behind<C: Content>(
     blocks: &mut LeafBlocks<C>,
     alloc: Global,

@@ -10,7 +10,7 @@ use std::alloc::Global;
 
 /// Adds copies of the stamps at the end.
 ///
-/// Answers `OutOfMemory` where there is no room for them.
+/// Returns `OutOfMemory` where there is no room for them.
 fn push_copies(items: &mut Vec<Element>, e: &Element, n: u64) -> Result<(), OutOfMemory>
     ensures { OnOk result (items.new.items ≡ items.old.items ++ replicate n e.now) }
 {
@@ -22,7 +22,7 @@ fn push_copies(items: &mut Vec<Element>, e: &Element, n: u64) -> Result<(), OutO
 
 /// The stamps of the elements in order.
 ///
-/// Answers `OutOfMemory` where there is no room for them.
+/// Returns `OutOfMemory` where there is no room for them.
 pub fn all_stamps<C: Content>(
     alloc: Global,
     blocks: &Blocks<TreeLeaf<C>>,

@@ -14,7 +14,7 @@ use std::alloc::Global;
 
 /// Takes the removal mark and the changes of a stage off the leaf of a node.
 ///
-/// Answers `OutOfMemory` where there is no room for what is left.
+/// Returns `OutOfMemory` where there is no room for what is left.
 pub fn unmark_at<C: Content>(
     blocks: &mut LeafBlocks<C>,
     alloc: Global,
@@ -37,7 +37,7 @@ pub fn unmark_at<C: Content>(
 
 /// Takes every pending removal mark and all pending changes off the leaf of a node.
 ///
-/// Answers `OutOfMemory` where there is no room for what is left.
+/// Returns `OutOfMemory` where there is no room for what is left.
 pub fn unmark_all_at<C: Content>(
     blocks: &mut LeafBlocks<C>,
     alloc: Global,

@@ -7,7 +7,7 @@ use crate::showing::show;
 use ft_msg::Replica;
 use std::alloc::Global;
 
-/// Two new clients edit over one server; answers what they showed meanwhile.
+/// Two new clients edit over one server; returns what they showed meanwhile.
 pub fn tell<R: Replica + Drop>(alloc: Global) -> Result<String, Fault> {
     let mut ann = R::start(alloc)?;
     let mut bob = R::start(alloc)?;

@@ -18,12 +18,12 @@ use ft_tree::{Content, Tree};
 
 /// Raises the floor, and looks at `budget` of the leaves, or all if fewer, from the one on at which the sweep is to begin,
 /// and then from the head on. Takes out those that were removed at or below the floor, adds their contents to `taken`
-/// in this order, and answers how many they were. It may join others of them, two side by side that were inserted at or
+/// in this order, and returns how many they were. It may join others of them, two side by side that were inserted at or
 /// below the floor and that nobody removed or is changing. The next sweep begins at the first leaf behind those that it
 /// looked at, or at the first of all where none follows or it looked at all. With a budget of 0 nothing but the floor
 /// changes.
 ///
-/// Answers `OutOfMemory` where there is no room for what is kept, and then the tree may be used no more.
+/// Returns `OutOfMemory` where there is no room for what is kept, and then the tree may be used no more.
 pub fn scour<C: Content + Drop>(
     tree: &mut Tree<C>,
     floor: u64,
@@ -59,7 +59,7 @@ pub fn scour<C: Content + Drop>(
 
 /// Looks at `budget` leaves or all, as `scour` does.
 ///
-/// Answers `OutOfMemory` where there is no room for what is kept, and then the tree may be used no more.
+/// Returns `OutOfMemory` where there is no room for what is kept, and then the tree may be used no more.
 fn sweep_round<C: Content + Drop>(
     tree: &mut Tree<C>,
     budget: u64,
@@ -81,7 +81,7 @@ fn sweep_round<C: Content + Drop>(
 
 /// Looks at `budget` leaves or all: at those from the place of the sweep on, and then at those from the head on.
 ///
-/// Answers `OutOfMemory` where there is no room for what is kept.
+/// Returns `OutOfMemory` where there is no room for what is kept.
 fn sweep_ahead_and_around<C: Content + Drop>(
     tree: &mut Tree<C>,
     budget: u64,
@@ -127,12 +127,12 @@ fn next_start(ahead: &Reached, around: &Reached) -> Option<NodeId>
 }
 
 /// Raises the floor, goes along all leaves in order, and takes out those that were removed at or below it. Adds their
-/// contents to `taken`, and answers how many they were. It may join others, as `scour` does.
+/// contents to `taken`, and returns how many they were. It may join others, as `scour` does.
 ///
 /// It goes from one leaf with a sequenced removal to the next, by a few reads on each level of the tree; the others
 /// cost nothing.
 ///
-/// Answers `OutOfMemory` where there is no room for what is kept, and then the tree may be used no more.
+/// Returns `OutOfMemory` where there is no room for what is kept, and then the tree may be used no more.
 pub fn scour_all<C: Content + Drop>(
     tree: &mut Tree<C>,
     floor: u64,
@@ -163,7 +163,7 @@ pub fn scour_all<C: Content + Drop>(
 
 /// Looks at all leaves, as `scour_all` does.
 ///
-/// Answers `OutOfMemory` where there is no room for what is kept, and then the tree may be used no more.
+/// Returns `OutOfMemory` where there is no room for what is kept, and then the tree may be used no more.
 fn collect_all<C: Content + Drop>(tree: &mut Tree<C>, taken: &mut Vec<C>) -> Result<(), OutOfMemory>
     requires usable { IsTrue tree.old.usable }
     requires clear { AreClear tree.old.floor (elements C.units C.by tree.old.leaves) tree.old.refs }

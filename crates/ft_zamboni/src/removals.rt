@@ -44,7 +44,7 @@ fn length_kept(kept: &Option<NodeId>, len: u64) -> u64
 
 /// Looks at all leaves with a sequenced removal in order, and takes those out that were removed at or below the floor.
 ///
-/// Answers `OutOfMemory` where there is no room for what is kept, and then the tree may be used no more.
+/// Returns `OutOfMemory` where there is no room for what is kept, and then the tree may be used no more.
 pub(crate) fn collect<C: Content + Drop>(
     tree: &mut Tree<C>,
     taken: &mut Vec<C>,

@@ -45,9 +45,9 @@ fn short_of(place: Option<NodeId>, end: &Option<NodeId>) -> Option<NodeId>
 }
 
 /// Looks at a leaf: takes it out if it was removed at or below the floor, and else joins it to the leaf that was kept
-/// last, if the two may be joined. Answers which leaf was kept last now.
+/// last, if the two may be joined. Returns which leaf was kept last now.
 ///
-/// Answers `OutOfMemory` where there is no room for what is kept.
+/// Returns `OutOfMemory` where there is no room for what is kept.
 pub(crate) fn look_at<C: Content + Drop>(
     tree: &mut Tree<C>,
     id: NodeId,
@@ -75,7 +75,7 @@ pub(crate) fn look_at<C: Content + Drop>(
 
 /// Looks at the leaves from a node on, up to before that of the end, and at no more than `budget` of them.
 ///
-/// Answers `OutOfMemory` where there is no room for what is kept, and then the tree may be used no more.
+/// Returns `OutOfMemory` where there is no room for what is kept, and then the tree may be used no more.
 pub(crate) fn sweep<C: Content + Drop>(
     tree: &mut Tree<C>,
     from: Option<NodeId>,

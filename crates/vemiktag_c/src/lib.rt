@@ -10,7 +10,7 @@ use std::alloc::Global;
 /// Puts the report of the session whose events are the lines of the input into the first bytes of `report`, and into
 /// `count` how many bytes it has.
 ///
-/// Answers 0 where it is there, and nothing was refused or skipped, 1 where something was; 4 where it has more bytes than
+/// Returns 0 where it is there, and nothing was refused or skipped, 1 where something was; 4 where it has more bytes than
 /// there is room for; 5 where there was no memory; and 6 where the input has more than 16,777,216 bytes. `count` is 0 in
 /// the last two.
 #[unsafe(no_mangle)]

@@ -26,9 +26,9 @@ use std::slice;
 use std::sync::ledger::Ledger;
 
 impl TreeOwn {
-    /// Takes an edit of the text as pending stages from `first` on, the one behind the last, and answers how many.
+    /// Takes an edit of the text as pending stages from `first` on, the one behind the last, and returns how many.
     ///
-    /// Answers the refusal of the first sub-operation that can't be taken, and `OutOfMemory` where there is no room, or a count
+    /// Returns the refusal of the first sub-operation that can't be taken, and `OutOfMemory` where there is no room, or a count
     /// would pass its greatest number.
     pub(crate) fn edit_text<G: Ledger>(
         &mut self,
@@ -53,9 +53,9 @@ impl TreeOwn {
         )
     }
 
-    /// Takes an edit of the table as pending stages from `first` on, the one behind the last, and answers how many.
+    /// Takes an edit of the table as pending stages from `first` on, the one behind the last, and returns how many.
     ///
-    /// Answers the refusal of the first sub-operation that can't be taken, and `OutOfMemory` where there is no room, or a count
+    /// Returns the refusal of the first sub-operation that can't be taken, and `OutOfMemory` where there is no room, or a count
     /// would pass its greatest number.
     pub(crate) fn edit_table<G: Ledger>(
         &mut self,
@@ -105,7 +105,7 @@ fn text_part(op: &TextOp) -> Part
 
 /// How many rows, or columns, an operation puts in.
 ///
-/// Answers `OutOfMemory` where they are more than 2^64 - 1.
+/// Returns `OutOfMemory` where they are more than 2^64 - 1.
 #[tactic(auto, using(crate::proofs::Noted::units_group))]
 fn units_of(target: Target, op: &GridOp) -> Result<u64, OutOfMemory>
     ensures { IfOk result (λ n. n ≡ units_of target (sub_operations (Grid op.now))) }
@@ -118,7 +118,7 @@ fn units_of(target: Target, op: &GridOp) -> Result<u64, OutOfMemory>
 
 /// How many rows, or columns, operations put in.
 ///
-/// Answers `OutOfMemory` where they are more than 2^64 - 1.
+/// Returns `OutOfMemory` where they are more than 2^64 - 1.
 fn units_by_all(target: Target, ops: &[CellOp]) -> Result<u64, OutOfMemory>
     ensures { IfOk result (λ n. n ≡ units_by_all target ops.now) }
 {
@@ -154,9 +154,9 @@ fn units_by(target: Target, op: &CellOp) -> u64
     }
 }
 
-/// Notes stages of one part behind the others, from a number on that is no higher than the next one, and answers how many they are.
+/// Notes stages of one part behind the others, from a number on that is no higher than the next one, and returns how many they are.
 ///
-/// Answers `OutOfMemory` where there is no room for them, or their numbers would pass 2^64 - 1.
+/// Returns `OutOfMemory` where there is no room for them, or their numbers would pass 2^64 - 1.
 fn note(
     stages: &mut VecDeque<OwnStage>,
     numbers: &mut TreeNumbers,
@@ -179,7 +179,7 @@ fn note(
 
 /// Adds stages of one part behind the others.
 ///
-/// Answers `OutOfMemory` where there is no room for them.
+/// Returns `OutOfMemory` where there is no room for them.
 #[tactic(auto, using(crate::proofs::Noted::stages_more))]
 fn push_stages(
     stages: &mut VecDeque<OwnStage>,

@@ -21,7 +21,7 @@ use std::sync::ledger::{Blank, Ledger};
 impl TreeOwn {
     /// Takes a message of another client, or one without an operation.
     ///
-    /// Answers `OutOfMemory` where there is no room, or a count would pass its greatest number.
+    /// Returns `OutOfMemory` where there is no room, or a count would pass its greatest number.
     pub(crate) fn take_in<G: Ledger>(
         &mut self,
         entry: &Entry,
@@ -64,7 +64,7 @@ impl TreeOwn {
 
     /// Applies an operation under number `seq`.
     ///
-    /// Answers `OutOfMemory` where there is no room, or a count would pass its greatest number.
+    /// Returns `OutOfMemory` where there is no room, or a count would pass its greatest number.
     fn apply<G: Ledger>(
         &mut self,
         op: &ChannelOp,
@@ -88,7 +88,7 @@ impl TreeOwn {
 
     /// Applies an operation of the table under number `seq`.
     ///
-    /// Answers `OutOfMemory` where there is no room, or a count would pass its greatest number.
+    /// Returns `OutOfMemory` where there is no room, or a count would pass its greatest number.
     fn apply_grid<G: Ledger>(
         &mut self,
         op: &GridOp,

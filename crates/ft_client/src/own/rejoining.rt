@@ -27,7 +27,7 @@ use std::collections::VecDeque;
 impl TreeOwn {
     /// Takes the client's own join: its pending edits, which have so many stages each, go on as they are sent again.
     ///
-    /// Answers `OutOfMemory` where there is no room.
+    /// Returns `OutOfMemory` where there is no room.
     pub(crate) fn rejoin_all(
         &mut self,
         counts: &[usize],
@@ -46,9 +46,9 @@ impl TreeOwn {
         Ok(again)
     }
 
-    /// Gives the next edits, which have so many stages each, and answers as what they are sent again.
+    /// Gives the next edits, which have so many stages each, and returns as what they are sent again.
     ///
-    /// Answers `OutOfMemory` where there is no room for them.
+    /// Returns `OutOfMemory` where there is no room for them.
     fn give_edits(&mut self, counts: &[usize]) -> Result<VecDeque<Resent>, OutOfMemory>
         requires known { GivesEdits self.old counts.now }
         ensures { (low last : ℕ) (doc : Document) (edits : List (List Stage)) → map (λ stages. length stages) edits ≡ counts.now
@@ -63,9 +63,9 @@ impl TreeOwn {
         Ok(again)
     }
 
-    /// Gives the next edit, which has so many stages, and answers as what it is sent again.
+    /// Gives the next edit, which has so many stages, and returns as what it is sent again.
     ///
-    /// Answers `OutOfMemory` where there is no room for it.
+    /// Returns `OutOfMemory` where there is no room for it.
     fn give_edit(&mut self, count: usize) -> Result<Resent, OutOfMemory>
         requires known { GivesSome self.old count }
         ensures { (low last : ℕ) (doc : Document) (front mine rest : List Stage) → length mine ≡ count → are_of_one_edit (map own_stage mine) ≡ true
@@ -83,7 +83,7 @@ impl TreeOwn {
 
     /// Gives the next stage of an edit that is sent again as this so far.
     ///
-    /// Answers `OutOfMemory` where there is no room for it.
+    /// Returns `OutOfMemory` where there is no room for it.
     fn give_more(&mut self, again: Resent) -> Result<Resent, OutOfMemory>
         requires known { GivesNext self.old again }
         ensures { (low last : ℕ) (doc : Document) (front mine : List Stage) (t : Stage) (rest : List Stage) → are_of_one_edit (map own_stage (mine ++ t ∷ [])) ≡ true
@@ -94,9 +94,9 @@ impl TreeOwn {
         Ok(again)
     }
 
-    /// Gives the next stage, and answers its pieces as one operation: None where it has none, and then it is gone.
+    /// Gives the next stage, and returns its pieces as one operation: None where it has none, and then it is gone.
     ///
-    /// Answers `OutOfMemory` where there is no room for it.
+    /// Returns `OutOfMemory` where there is no room for it.
     fn give_stage(&mut self) -> Result<Option<ChannelOp>, OutOfMemory>
         requires known { GivesSome self.old 1 }
         ensures { (low last : ℕ) (doc : Document) (front : List Stage) (t : Stage) (rest : List Stage) → GivesTree self.old low last doc front (t ∷ rest)
@@ -108,9 +108,9 @@ impl TreeOwn {
         Ok(op)
     }
 
-    /// Gives this stage to its part, and answers its pieces as one operation.
+    /// Gives this stage to its part, and returns its pieces as one operation.
     ///
-    /// Answers `OutOfMemory` where there is no room for it.
+    /// Returns `OutOfMemory` where there is no room for it.
     fn give_part(&mut self, stage: OwnStage) -> Result<Option<ChannelOp>, OutOfMemory>
         requires known { GivesFirst self.old stage }
         ensures { IfOk result (λ op. GivesPart stage op self.old self.new) }
@@ -138,7 +138,7 @@ pub(crate) fn take_next(stages: &mut VecDeque<OwnStage>) -> OwnStage
 
 /// Puts a stage that goes on behind the others.
 ///
-/// Answers `OutOfMemory` where there is no room for it.
+/// Returns `OutOfMemory` where there is no room for it.
 fn put_behind(
     stages: &mut VecDeque<OwnStage>,
     stage: OwnStage,
@@ -185,7 +185,7 @@ fn grid_again(op: Option<GridOp>) -> Option<ChannelOp>
 
 /// The edit with the pieces of one stage more, if it has some. They are of the part of the others.
 ///
-/// Answers `OutOfMemory` where there is no room for them.
+/// Returns `OutOfMemory` where there is no room for them.
 fn with_pieces(alloc: Global, again: Resent, op: Option<ChannelOp>) -> Result<Resent, OutOfMemory>
     requires few { again.stages + 1 < 2 ^ 64 }
     requires one { (first more : ChannelOp) → again.op ≡ Some first → op ≡ Some more → are_of_one_part first more ≡ true }
@@ -207,7 +207,7 @@ fn with_pieces(alloc: Global, again: Resent, op: Option<ChannelOp>) -> Result<Re
 
 /// Both operations, which are of one part, as one.
 ///
-/// Answers `OutOfMemory` where there is no room for it.
+/// Returns `OutOfMemory` where there is no room for it.
 fn join(alloc: Global, first: ChannelOp, second: ChannelOp) -> Result<ChannelOp, OutOfMemory>
     requires { are_of_one_part first second ≡ true }
     ensures { IfOk result (λ op. Joins first second op) }
@@ -231,7 +231,7 @@ fn join(alloc: Global, first: ChannelOp, second: ChannelOp) -> Result<ChannelOp,
 
 /// The members of an operation on the elements of the text. A group is handed on as it is.
 ///
-/// Answers `OutOfMemory` where there is no room for a single one.
+/// Returns `OutOfMemory` where there is no room for a single one.
 fn base_ops(alloc: Global, op: TextOp) -> Result<BaseOps, OutOfMemory>
     ensures { IfOk result (λ ops. ops ≡ base_ops op) }
 {
@@ -250,7 +250,7 @@ fn base_ops(alloc: Global, op: TextOp) -> Result<BaseOps, OutOfMemory>
 
 /// The members of an operation on the grid. A group is handed on as it is.
 ///
-/// Answers `OutOfMemory` where there is no room for a single one.
+/// Returns `OutOfMemory` where there is no room for a single one.
 fn cell_ops(alloc: Global, op: GridOp) -> Result<CellOps, OutOfMemory>
     ensures { IfOk result (λ ops. ops ≡ cell_ops op) }
 {
@@ -266,7 +266,7 @@ fn cell_ops(alloc: Global, op: GridOp) -> Result<CellOps, OutOfMemory>
 
 /// Adds the members of an operation on the elements of the text.
 ///
-/// Answers `OutOfMemory` where there is no room for them.
+/// Returns `OutOfMemory` where there is no room for them.
 fn push_base_ops(ops: &mut BaseOps, op: TextOp) -> Result<(), OutOfMemory>
     ensures { OnOk result (ops.new ≡ ops.old ++ base_ops op) }
 {
@@ -281,7 +281,7 @@ fn push_base_ops(ops: &mut BaseOps, op: TextOp) -> Result<(), OutOfMemory>
 
 /// Adds copies of these.
 ///
-/// Answers `OutOfMemory` where there is no room for them.
+/// Returns `OutOfMemory` where there is no room for them.
 fn push_each_base(ops: &mut BaseOps, more: &[BaseOp]) -> Result<(), OutOfMemory>
     ensures { OnOk result (ops.new ≡ ops.old ++ more.now) }
 {
@@ -294,7 +294,7 @@ fn push_each_base(ops: &mut BaseOps, more: &[BaseOp]) -> Result<(), OutOfMemory>
 
 /// Adds the members of an operation on the grid.
 ///
-/// Answers `OutOfMemory` where there is no room for them.
+/// Returns `OutOfMemory` where there is no room for them.
 fn push_cell_ops(ops: &mut CellOps, op: GridOp) -> Result<(), OutOfMemory>
     ensures { OnOk result (ops.new ≡ ops.old ++ cell_ops op) }
 {
@@ -306,7 +306,7 @@ fn push_cell_ops(ops: &mut CellOps, op: GridOp) -> Result<(), OutOfMemory>
 
 /// Adds copies of these.
 ///
-/// Answers `OutOfMemory` where there is no room for them.
+/// Returns `OutOfMemory` where there is no room for them.
 fn push_each_cell(ops: &mut CellOps, more: &[CellOp]) -> Result<(), OutOfMemory>
     ensures { OnOk result (ops.new ≡ ops.old ++ more.now) }
 {

@@ -25,7 +25,7 @@ use std::alloc::Global;
 impl TreeOwn {
     /// All that is shown at the last stage, with these numbers.
     ///
-    /// Answers `OutOfMemory` where there is no room for it.
+    /// Returns `OutOfMemory` where there is no room for it.
     pub(crate) fn view_at(&self, last: u64, numbers: Numbers) -> Result<View, OutOfMemory>
         requires { HoldsOne HoldsTree self.now (λ p. p.last_stage ≡ last) }
         ensures numbers { IfOk result (λ v. v.numbers ≡ numbers) }
@@ -40,7 +40,7 @@ impl TreeOwn {
 
     /// The summary of the document, which has nothing pending, with these names of connections.
     ///
-    /// Answers `OutOfMemory` where there is no room for it, or it is too long for a summary.
+    /// Returns `OutOfMemory` where there is no room for it, or it is too long for a summary.
     pub(crate) fn summary_with(&self, conns: Texts) -> Result<SumDoc, OutOfMemory>
         requires { HoldsOne HoldsTree self.now (λ p. p.pending ≡ []) }
         ensures sum { (held : HeldDocument) → NamesFit held → held.stages ≡ [] → HoldsTree self.now held → IfOk result (λ sum. sum ≡ summary_of conns held.doc) }
@@ -99,7 +99,7 @@ fn are_few_elements(segs: &[SegRec]) -> bool
 
 /// How many elements there are.
 ///
-/// Answers `OutOfMemory` where they are more than 2^64 - 1.
+/// Returns `OutOfMemory` where they are more than 2^64 - 1.
 fn text_length(segs: &[SegRec]) -> Result<u64, OutOfMemory>
     ensures { IfOk result (λ n. n ≡ text_length segs.now) }
 {
@@ -141,7 +141,7 @@ fn are_few_units(runs: &[RunRec]) -> bool
 
 /// How many units there are.
 ///
-/// Answers `OutOfMemory` where they are more than 2^64 - 1.
+/// Returns `OutOfMemory` where they are more than 2^64 - 1.
 fn unit_count(runs: &[RunRec]) -> Result<u64, OutOfMemory>
     ensures { IfOk result (λ n. n ≡ unit_count runs.now) }
 {

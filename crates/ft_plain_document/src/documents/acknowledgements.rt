@@ -18,7 +18,7 @@ impl PlainDocument {
     /// Makes these stages sequenced one after another, under number `seq` by connection `conn`, and tells the
     /// new names of their elements.
     ///
-    /// Answers `OutOfMemory` where there is no room for that or the count of the elements of a list would pass
+    /// Returns `OutOfMemory` where there is no room for that or the count of the elements of a list would pass
     /// 2^53 - 1, and then some of it may be done.
     pub fn acknowledge(
         &mut self,
@@ -72,7 +72,7 @@ impl PlainDocument {
 
 /// Writes to the cell that the sub-operation names, if it is a cell write.
 ///
-/// Answers `OutOfMemory` where there is no room for the value, and then nothing changed.
+/// Returns `OutOfMemory` where there is no room for the value, and then nothing changed.
 pub fn write_to_cells(
     cells: &mut PlainCells,
     op: &SubOp,

@@ -52,7 +52,7 @@ impl PlainDocument {
 
     /// Takes an interval away, if it is there.
     ///
-    /// Answers `OutOfMemory` where there is no room to slide the ends of the others.
+    /// Returns `OutOfMemory` where there is no room to slide the ends of the others.
     pub(crate) fn delete_interval(&mut self, label: &Text, id: &Text) -> Result<(), OutOfMemory>
         ensures { (c r : ℕ) → OnOk result (self.new ≡ interval_effect self.old c r (IntervalDelete label.now id.now)) }
     {
@@ -62,7 +62,7 @@ impl PlainDocument {
 
     /// Slides each end of an interval.
     ///
-    /// Answers `OutOfMemory` where there is no room for a table of the elements, and then nothing changed.
+    /// Returns `OutOfMemory` where there is no room for a table of the elements, and then nothing changed.
     pub(crate) fn slide_ends(&mut self) -> Result<(), OutOfMemory>
         ensures ok { OnOk result (self.new ≡ with_slid_ends self.old) }
         ensures err { OnErr result (self.new ≡ self.old) }

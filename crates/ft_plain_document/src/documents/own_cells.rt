@@ -12,7 +12,7 @@ use ft_plain_lists::cells::PlainCells;
 impl PlainDocument {
     /// The cells after the writes of these pending stages.
     ///
-    /// Answers `OutOfMemory` where there is no room for them.
+    /// Returns `OutOfMemory` where there is no room for them.
     pub fn written_cells(&self, pending: &[PlainStage]) -> Result<PlainCells, OutOfMemory>
         ensures { IfOk result (λ cells. cells ≡ cells_after_stages self.now.cells pending.now) }
     {
@@ -24,7 +24,7 @@ impl PlainDocument {
 
 /// Writes what the stages write.
 ///
-/// Answers `OutOfMemory` where there is no room for a value.
+/// Returns `OutOfMemory` where there is no room for a value.
 fn write_stages(cells: &mut PlainCells, stages: &[PlainStage]) -> Result<(), OutOfMemory>
     ensures { OnOk result (cells.new ≡ cells_after_stages cells.old stages.now) }
 {

@@ -46,7 +46,7 @@ impl PlainDocument {
 
     /// The intervals after these pending stages, and then these.
     ///
-    /// Answers `OutOfMemory` where there is no room for them.
+    /// Returns `OutOfMemory` where there is no room for them.
     fn settled_before(
         &self,
         pending: &[PlainStage],
@@ -61,7 +61,7 @@ impl PlainDocument {
 
     /// The intervals after these pending stages.
     ///
-    /// Answers `OutOfMemory` where there is no room for them.
+    /// Returns `OutOfMemory` where there is no room for them.
     pub fn settled_intervals(&self, pending: &[PlainStage]) -> Result<PlainIntervals, OutOfMemory>
         ensures { IfOk result (λ shown. shown ≡ shown_intervals self.now.text.items self.now.intervals pending.now) }
     {
@@ -74,7 +74,7 @@ impl PlainDocument {
 /// Takes the intervals through these stages: at each every end is settled, and then its operation applied
 /// with its own ends settled.
 ///
-/// Answers `OutOfMemory` where there is no room for what they make.
+/// Returns `OutOfMemory` where there is no room for what they make.
 fn settle_stages(
     shown: &mut PlainIntervals,
     items: &[PlainElement],
@@ -104,7 +104,7 @@ fn settle_stage(
 
 /// Applies the sub-operation, which names these elements, to the intervals, if it is one on them.
 ///
-/// Answers `OutOfMemory` where there is no room for what it makes.
+/// Returns `OutOfMemory` where there is no room for what it makes.
 pub fn apply_to_intervals(
     intervals: &mut PlainIntervals,
     sub_operation: &SubOp,

@@ -75,7 +75,7 @@ impl PlainDocument {
 
     /// An equal document.
     ///
-    /// Answers `OutOfMemory` where there is no room for it.
+    /// Returns `OutOfMemory` where there is no room for it.
     fn copy(&self) -> Result<PlainDocument, OutOfMemory>
         ensures { IfOk result (λ copy. copy ≡ self.now) }
     {

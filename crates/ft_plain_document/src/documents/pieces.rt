@@ -27,7 +27,7 @@ use std::collections::VecDeque;
 impl PlainDocument {
     /// The pieces of a stage.
     ///
-    /// Answers `OutOfMemory` where there is no room for them.
+    /// Returns `OutOfMemory` where there is no room for them.
     pub fn pieces(&self, stage: &PlainStage) -> Result<VecDeque<SubOp>, OutOfMemory>
         ensures { IfOk result (λ v. map sub_operation_of v.items ≡ pieces self.now stage.now) }
     {
@@ -260,7 +260,7 @@ fn splices_of(
 
 /// The interval operation with its ends, which are these elements, as they are at the stage.
 ///
-/// Answers `OutOfMemory` where there is no room for it.
+/// Returns `OutOfMemory` where there is no room for it.
 fn interval_piece(
     items: &[PlainElement],
     stage: u64,

@@ -9,7 +9,7 @@ use ft_base::OutOfMemory;
 impl PlainDocument {
     /// Puts the elements of each of these pending stages in afresh.
     ///
-    /// Answers `OutOfMemory` where there is no room for that or a list would have more than 2^53 - 1 elements.
+    /// Returns `OutOfMemory` where there is no room for that or a list would have more than 2^53 - 1 elements.
     pub fn rebuild(&mut self, stages: &[u64]) -> Result<(), OutOfMemory>
         ensures { OnOk result (self.new ≡ rebuilt_document stages.now self.old) }
     {

@@ -122,7 +122,7 @@ impl PlainDocument {
 
 /// The contents of the elements that the segment puts in.
 ///
-/// Answers `OutOfMemory` where there is no room for them.
+/// Returns `OutOfMemory` where there is no room for them.
 pub(crate) fn segment_contents(alloc: Global, seg: &Seg) -> Result<Vec<Content>, OutOfMemory>
     ensures { IfOk result (λ v. map content_of v.items ≡ segment_contents seg.now) }
 {

@@ -10,7 +10,7 @@ use ft_json::ValText;
 impl PlainCells {
     /// Adds a cell behind all others: the caller sees to it that its row and column have none yet.
     ///
-    /// Answers `OutOfMemory` where there is no room for it, and then nothing changed.
+    /// Returns `OutOfMemory` where there is no room for it, and then nothing changed.
     pub fn push(
         &mut self,
         row: ElementName,

@@ -8,7 +8,7 @@ use ft_base::{Datum, OutOfMemory};
 impl PlainCell {
     /// An equal cell.
     ///
-    /// Answers `OutOfMemory` where there is no room for it.
+    /// Returns `OutOfMemory` where there is no room for it.
     pub(crate) fn copy(&self) -> Result<PlainCell, OutOfMemory>
         ensures { IfOk result (λ copy. copy ≡ self.now) }
     {
@@ -23,7 +23,7 @@ impl PlainCell {
 impl PlainCells {
     /// Equal cells.
     ///
-    /// Answers `OutOfMemory` where there is no room for them.
+    /// Returns `OutOfMemory` where there is no room for them.
     pub fn copy(&self) -> Result<PlainCells, OutOfMemory>
         ensures { IfOk result (λ copy. copy ≡ self.now) }
     {

@@ -49,7 +49,7 @@ impl PlainCells {
     /// The values of each row from left to right, in the columns that a client sees at its pending stage. Each cell is
     /// looked up twice by a name, and each column once.
     ///
-    /// Answers `OutOfMemory` where there is no room for them.
+    /// Returns `OutOfMemory` where there is no room for them.
     pub(crate) fn placed(
         &self,
         cols: &[PlainElement],
@@ -73,7 +73,7 @@ impl PlainCells {
 
 /// The cells of each column, in their order.
 ///
-/// Answers `OutOfMemory` where there is no room for them.
+/// Returns `OutOfMemory` where there is no room for them.
 fn by_column<'a>(
     alloc: Global,
     cells: &'a [PlainCell],
@@ -89,7 +89,7 @@ fn by_column<'a>(
 
 /// Adds the cells of the column, which is shown at this place, to their rows.
 ///
-/// Answers `OutOfMemory` where there is no room for them.
+/// Returns `OutOfMemory` where there is no room for them.
 fn place_column<'a>(
     rows: &mut NamedLists<PlacedValue<'a>>,
     place: u64,

@@ -22,7 +22,7 @@ impl PlainElement {
 
     /// Adds changes of the pending stage.
     ///
-    /// Answers `OutOfMemory` where there is no room for them, and then nothing changed.
+    /// Returns `OutOfMemory` where there is no room for them, and then nothing changed.
     pub fn annotate_at_stage(&mut self, stage: u64, changes: &Changes) -> Result<(), OutOfMemory>
         ensures ok { OnOk result (self.new ≡ with_pending_annotation stage changes.now self.old) }
         ensures err { OnErr result (self.new ≡ self.old) }
@@ -83,7 +83,7 @@ impl PlainElement {
     /// Makes what the pending stage did with it sequenced, under number `seq` by connection `conn`, where
     /// `made` elements were sequenced in its list before.
     ///
-    /// Answers `OutOfMemory` where there is no room for that or its number would pass 2^64 - 1, and then
+    /// Returns `OutOfMemory` where there is no room for that or its number would pass 2^64 - 1, and then
     /// some of it may be done.
     pub fn acknowledge(
         &mut self,
@@ -101,7 +101,7 @@ impl PlainElement {
 
     /// Makes its pending removal sequenced, if it is the stage's.
     ///
-    /// Answers `OutOfMemory` where there is no room for it, and then nothing changed.
+    /// Returns `OutOfMemory` where there is no room for it, and then nothing changed.
     fn acknowledge_removal(&mut self, stage: u64, seq: u64, conn: u32) -> Result<(), OutOfMemory>
         ensures ok { OnOk result (self.new ≡ record self.old {
           dels = self.old.dels ++ acked_removal stage seq conn self.old.removal_stage;
@@ -118,7 +118,7 @@ impl PlainElement {
 
     /// Makes the stage's pending changes of its acknowledged properties.
     ///
-    /// Answers `OutOfMemory` where there is no room for what they make, and then nothing changed.
+    /// Returns `OutOfMemory` where there is no room for what they make, and then nothing changed.
     fn acknowledge_changes(&mut self, stage: u64) -> Result<(), OutOfMemory>
         ensures ok { OnOk result (self.new ≡ record self.old {
           props = acked_props stage self.old.props self.old.pending;
@@ -140,7 +140,7 @@ impl PlainElement {
 
     /// Makes its insertion sequenced, if it is the stage's.
     ///
-    /// Answers `OutOfMemory` where its number would pass 2^64 - 1, and then nothing changed.
+    /// Returns `OutOfMemory` where its number would pass 2^64 - 1, and then nothing changed.
     fn acknowledge_insertion(
         &mut self,
         stage: u64,
@@ -165,7 +165,7 @@ impl PlainElement {
 
     /// Its acknowledged properties after the pending changes of the stage.
     ///
-    /// Answers `OutOfMemory` where there is no room for them.
+    /// Returns `OutOfMemory` where there is no room for them.
     fn acked_props(&self, stage: u64) -> Result<Props, OutOfMemory>
         ensures { IfOk result (λ props. props ≡ acked_props stage self.now.props self.now.pending) }
     {
@@ -180,7 +180,7 @@ impl PlainElement {
 
     /// An equal element.
     ///
-    /// Answers `OutOfMemory` where there is no room for it.
+    /// Returns `OutOfMemory` where there is no room for it.
     pub fn copy(&self) -> Result<PlainElement, OutOfMemory>
         ensures { IfOk result (λ copy. copy ≡ self.now) }
     {

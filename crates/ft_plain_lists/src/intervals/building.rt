@@ -8,7 +8,7 @@ use ft_base::OutOfMemory;
 impl PlainIntervals {
     /// Adds an interval behind all others: the caller sees to their order.
     ///
-    /// Answers `OutOfMemory` where there is no room for it, and then nothing changed.
+    /// Returns `OutOfMemory` where there is no room for it, and then nothing changed.
     pub fn push(&mut self, interval: PlainInterval) -> Result<(), OutOfMemory>
         ensures ok { OnOk result (self.new ≡ self.old ++ interval ∷ []) }
         ensures err { OnErr result (self.new ≡ self.old) }

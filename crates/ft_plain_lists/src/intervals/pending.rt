@@ -22,7 +22,7 @@ use ft_props::{PropSet, Props};
 impl PlainInterval {
     /// An equal interval.
     ///
-    /// Answers `OutOfMemory` where there is no room for it.
+    /// Returns `OutOfMemory` where there is no room for it.
     pub fn copy(&self) -> Result<PlainInterval, OutOfMemory>
         ensures { IfOk result (λ copy. copy ≡ self.now) }
     {
@@ -48,7 +48,7 @@ impl PlainInterval {
 impl PlainIntervals {
     /// Equal intervals.
     ///
-    /// Answers `OutOfMemory` where there is no room for them.
+    /// Returns `OutOfMemory` where there is no room for them.
     pub fn copy(&self) -> Result<PlainIntervals, OutOfMemory>
         ensures { IfOk result (λ copy. copy ≡ self.now) }
     {
@@ -61,7 +61,7 @@ impl PlainIntervals {
 
     /// Settles all ends at the pending stage.
     ///
-    /// Answers `OutOfMemory` where there is no room for a table of the elements, and then nothing changed.
+    /// Returns `OutOfMemory` where there is no room for a table of the elements, and then nothing changed.
     pub fn settle_ends(&mut self, items: &[PlainElement], stage: u64) -> Result<(), OutOfMemory>
         ensures ok { OnOk result (self.new ≡ settle_ends items.now stage self.old) }
         ensures err { OnErr result (self.new ≡ self.old) }
@@ -78,7 +78,7 @@ impl PlainIntervals {
 
     /// Applies an interval operation that names these elements.
     ///
-    /// Answers `OutOfMemory` where there is no room for what it makes, and then it may be done in part.
+    /// Returns `OutOfMemory` where there is no room for what it makes, and then it may be done in part.
     pub fn apply(&mut self, op: &TextOp, names: &ElementNames) -> Result<(), OutOfMemory>
         ensures { OnOk result (self.new ≡ after_interval_operation op.now names.now self.old) }
     {
@@ -105,7 +105,7 @@ impl PlainIntervals {
 
     /// Adds an interval, unless its id is in use in the label.
     ///
-    /// Answers `OutOfMemory` where there is no room for it, and then nothing changed.
+    /// Returns `OutOfMemory` where there is no room for it, and then nothing changed.
     pub fn add(
         &mut self,
         label: &Text,

@@ -12,7 +12,7 @@ use ft_props::Props;
 impl PlainList {
     /// Adds sequenced elements with these stamps, author and properties behind all others.
     ///
-    /// Answers `OutOfMemory` where there is no room for them or the count of elements would pass
+    /// Returns `OutOfMemory` where there is no room for them or the count of elements would pass
     /// 2^53 - 1, and then some may be there.
     pub fn append(
         &mut self,
@@ -33,7 +33,7 @@ impl PlainList {
 
     /// Adds a sequenced element with these stamps, author and properties behind all others.
     ///
-    /// Answers `OutOfMemory` where there is no room for it or the count of elements would pass
+    /// Returns `OutOfMemory` where there is no room for it or the count of elements would pass
     /// 2^53 - 1, and then the list is as it was.
     pub fn push(
         &mut self,

@@ -19,7 +19,7 @@ use std::alloc::Global;
 impl PlainList {
     /// An equal list.
     ///
-    /// Answers `OutOfMemory` where there is no room for it.
+    /// Returns `OutOfMemory` where there is no room for it.
     pub fn copy(&self) -> Result<PlainList, OutOfMemory>
         ensures { IfOk result (λ copy. copy ≡ self.now) }
     {
@@ -36,7 +36,7 @@ impl PlainList {
     /// Puts new elements of the pending stage in with these properties, directly after the `p`-th element that
     /// is seen at the stage before.
     ///
-    /// Answers `OutOfMemory` where there is no room for them or the list would have more than 2^53 - 1
+    /// Returns `OutOfMemory` where there is no room for them or the list would have more than 2^53 - 1
     /// elements, and then it is as it was.
     pub fn insert_at_stage(
         &mut self,
@@ -56,7 +56,7 @@ impl PlainList {
 
     /// Puts so many new units in as `insert_at_stage` does.
     ///
-    /// Answers `OutOfMemory` where there is no room for them or the list would have more than 2^53 - 1
+    /// Returns `OutOfMemory` where there is no room for them or the list would have more than 2^53 - 1
     /// elements, and then it is as it was.
     pub fn insert_units_at_stage(
         &mut self,
@@ -76,7 +76,7 @@ impl PlainList {
     /// Marks the elements from the `p`-th up to before the `q`-th that are seen at the stage before as
     /// removed by the pending stage.
     ///
-    /// Answers `OutOfMemory` where there is no room for a mark, and then some may have theirs.
+    /// Returns `OutOfMemory` where there is no room for a mark, and then some may have theirs.
     pub fn remove_at_stage(&mut self, stage: u64, p: u64, q: u64) -> Result<(), OutOfMemory>
         ensures { OnOk result (self.new ≡ after_local_mark stage p q (with_pending_removal stage) self.old) }
     {
@@ -87,7 +87,7 @@ impl PlainList {
     /// Adds changes of the pending stage to the elements from the `p`-th up to before the `q`-th that are
     /// seen at the stage before.
     ///
-    /// Answers `OutOfMemory` where there is no room for them, and then some may have theirs.
+    /// Returns `OutOfMemory` where there is no room for them, and then some may have theirs.
     pub fn annotate_at_stage(
         &mut self,
         stage: u64,
@@ -107,7 +107,7 @@ impl PlainList {
 
     /// Makes what the pending stage did sequenced, under number `seq` by connection `conn`.
     ///
-    /// Answers `OutOfMemory` where there is no room for that or the count of elements would pass
+    /// Returns `OutOfMemory` where there is no room for that or the count of elements would pass
     /// 2^53 - 1, and then some of it may be done.
     pub fn acknowledge(&mut self, stage: u64, seq: u64, conn: u32) -> Result<(), OutOfMemory>
         ensures { OnOk result (self.new ≡ acked_list stage seq conn self.old) }
@@ -120,7 +120,7 @@ impl PlainList {
 
     /// Puts the elements of each of these pending stages in afresh.
     ///
-    /// Answers `OutOfMemory` where there is no room for that or the list would have more than 2^53 - 1
+    /// Returns `OutOfMemory` where there is no room for that or the list would have more than 2^53 - 1
     /// elements, and then it is as it was.
     pub fn rebuild(&mut self, stages: &[u64]) -> Result<(), OutOfMemory>
         ensures ok { OnOk result (self.new ≡ rebuilt_list stages.now self.old) }
@@ -136,7 +136,7 @@ impl PlainList {
 
 /// Puts the new elements in directly behind the `p`-th one that is seen.
 ///
-/// Answers `OutOfMemory` where there is no room for them, and then the list is as it was.
+/// Returns `OutOfMemory` where there is no room for them, and then the list is as it was.
 fn put_behind<T: ElementTest>(
     items: &mut Vec<PlainElement>,
     p: u64,
@@ -153,7 +153,7 @@ fn put_behind<T: ElementTest>(
 
 /// Makes what the pending stage did with each element sequenced.
 ///
-/// Answers `OutOfMemory` where there is no room for that, and then some of it may be done.
+/// Returns `OutOfMemory` where there is no room for that, and then some of it may be done.
 fn acknowledge_all(
     items: &mut [PlainElement],
     stage: u64,
@@ -171,7 +171,7 @@ fn acknowledge_all(
 
 /// The sequenced elements, without what is pending on those of which a removal is sequenced.
 ///
-/// Answers `OutOfMemory` where there is no room for them.
+/// Returns `OutOfMemory` where there is no room for them.
 fn carried_elements(alloc: Global, items: &[PlainElement]) -> Result<Vec<PlainElement>, OutOfMemory>
     ensures { IfOk result (λ v. v.items ≡ retain_map is_sequenced carried_element items.now) }
 {
@@ -186,7 +186,7 @@ fn carried_elements(alloc: Global, items: &[PlainElement]) -> Result<Vec<PlainEl
 
 /// The element, without what is pending on it if a removal of it is sequenced.
 ///
-/// Answers `OutOfMemory` where there is no room for it.
+/// Returns `OutOfMemory` where there is no room for it.
 fn carried_element(e: &PlainElement) -> Result<PlainElement, OutOfMemory>
     ensures { IfOk result (λ carried. carried ≡ carried_element e.now) }
 {
@@ -197,7 +197,7 @@ fn carried_element(e: &PlainElement) -> Result<PlainElement, OutOfMemory>
 
 /// Puts into `rebuilt` the elements that each of the stages has in `items`.
 ///
-/// Answers `OutOfMemory` where there is no room for them, and then those of some stages may be there.
+/// Returns `OutOfMemory` where there is no room for them, and then those of some stages may be there.
 fn put_stages(
     items: &[PlainElement],
     rebuilt: &mut Vec<PlainElement>,
@@ -214,7 +214,7 @@ fn put_stages(
 /// Puts into `rebuilt` the elements that the stage has in `items`, after as many elements of the stage
 /// before as stand left of them in `items`.
 ///
-/// Answers `OutOfMemory` where there is no room for them, and then the list is as it was.
+/// Returns `OutOfMemory` where there is no room for them, and then the list is as it was.
 fn put_stage(
     items: &[PlainElement],
     rebuilt: &mut Vec<PlainElement>,
@@ -236,7 +236,7 @@ pub fn stage_position(items: &[PlainElement], stage: u64) -> u64
 
 /// Copies of the elements that the stage inserted.
 ///
-/// Answers `OutOfMemory` where there is no room for them.
+/// Returns `OutOfMemory` where there is no room for them.
 fn elements_of_stage(
     alloc: Global,
     items: &[PlainElement],

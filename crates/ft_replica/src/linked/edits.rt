@@ -19,7 +19,7 @@ use std::sync::ledger::Ledger;
 impl<D: OwnDocument> LinkedClient<D> {
     /// Takes an edit of the client's own, which shows at once; online its message is queued too.
     ///
-    /// Answers the refusal of the first sub-operation that can't be taken, and `OutOfMemory` where there is
+    /// Returns the refusal of the first sub-operation that can't be taken, and `OutOfMemory` where there is
     /// no room or a count would pass its greatest number.
     pub fn edit<G: Ledger>(&mut self, op: &ChannelOp, steps: &mut Steps<G>) -> Result<(), EditFault>
         requires formed { IsWellFormed op.now }
@@ -40,7 +40,7 @@ impl<D: OwnDocument> LinkedClient<D> {
 
     /// As what the client sends an operation: an online client sends it, another keeps it unsent.
     ///
-    /// Answers `OutOfMemory` where there is no room for a copy.
+    /// Returns `OutOfMemory` where there is no room for a copy.
     fn sent_as(&self, op: &ChannelOp) -> Result<Option<Sent>, OutOfMemory>
         ensures { IfOk result (λ sent. sent ≡ sent_as self.now.link self.now.box.next op.now) }
     {
@@ -52,7 +52,7 @@ impl<D: OwnDocument> LinkedClient<D> {
 
     /// Keeps an edit with so many stages as pending, and queues its message, if it is sent.
     ///
-    /// Answers `OutOfMemory` where there is no room for that, and then nothing changed.
+    /// Returns `OutOfMemory` where there is no room for that, and then nothing changed.
     fn keep_edit(&mut self, count: usize, ref_seq: u64, op: &ChannelOp) -> Result<(), OutOfMemory>
         ensures ok { let sent = sent_as self.old.link self.old.box.next op.now in OnOk result (self.new ≡ record self.old {
           last_stage = self.old.last_stage + count;

@@ -12,7 +12,7 @@ use ft_msg::{Body, Draft, Link, LinkFault};
 impl<D: OwnDocument> LinkedClient<D> {
     /// Begins to join under a new connection.
     ///
-    /// Answers `AlreadyConnected` exactly where the client isn't offline, and `OutOfMemory` where there is no
+    /// Returns `AlreadyConnected` exactly where the client isn't offline, and `OutOfMemory` where there is no
     /// room; then nothing changed.
     pub fn connect(&mut self, conn: u32) -> Result<(), LinkFault>
         ensures { AnswersLinked D.holds link_fault_kind (λ p. connect p conn) self.old self.new result }
@@ -30,7 +30,7 @@ impl<D: OwnDocument> LinkedClient<D> {
 
     /// Goes offline; the messages that it didn't send are gone.
     ///
-    /// Answers `NotConnected` exactly where the client is offline, and then nothing changed.
+    /// Returns `NotConnected` exactly where the client is offline, and then nothing changed.
     pub fn drop_link(&mut self) -> Result<(), LinkFault>
         ensures answers { AnswersLinked D.holds link_fault_kind drop_link self.old self.new result }
         ensures memory { ¬ (result ≡ Err LinkFault.OutOfMemory) }
@@ -45,7 +45,7 @@ impl<D: OwnDocument> LinkedClient<D> {
 
     /// Queues a message that tells the client's number alone.
     ///
-    /// Answers `NotConnected` exactly where the client isn't online, and `OutOfMemory` where there is no room;
+    /// Returns `NotConnected` exactly where the client isn't online, and `OutOfMemory` where there is no room;
     /// then nothing changed.
     pub fn noop(&mut self) -> Result<(), LinkFault>
         ensures { AnswersLinked D.holds link_fault_kind noop self.old self.new result }

@@ -44,7 +44,7 @@ impl<D: OwnDocument> LinkedClient<D> {
 
     /// Takes the next entry, which isn't refused. Before that it looks for some of what may be forgotten.
     ///
-    /// Answers `OutOfMemory` where there is no room for that, or a count would pass its greatest number.
+    /// Returns `OutOfMemory` where there is no room for that, or a count would pass its greatest number.
     pub fn process(&mut self, entry: &Entry) -> Result<(), OutOfMemory>
         requires formed { IsWellFormedMessage entry.now.msg }
         requires known { RunsForOne D.holds self.old (λ p. process_fault p entry.now ≡ None) }
@@ -58,7 +58,7 @@ impl<D: OwnDocument> LinkedClient<D> {
 
     /// Takes the next entry, which isn't refused: its own join, its own message, or another.
     ///
-    /// Answers `OutOfMemory` where there is no room for that, or a count would pass its greatest number.
+    /// Returns `OutOfMemory` where there is no room for that, or a count would pass its greatest number.
     fn take(&mut self, entry: &Entry) -> Result<(), OutOfMemory>
         requires formed { IsWellFormedMessage entry.now.msg }
         requires known { RunsForOne D.holds self.old (λ p. process_fault p entry.now ≡ None) }
@@ -87,7 +87,7 @@ impl<D: OwnDocument> LinkedClient<D> {
 
     /// Takes away some of what was removed at or below the floor.
     ///
-    /// Answers `OutOfMemory` where there is no room for that.
+    /// Returns `OutOfMemory` where there is no room for that.
     fn tidy(&mut self) -> Result<(), OutOfMemory>
         requires { RunsForOne D.holds self.old Anyone }
         ensures compacts { OnOk result (TakesCompaction D.holds self.old self.new) }
@@ -100,7 +100,7 @@ impl<D: OwnDocument> LinkedClient<D> {
 
     /// Takes away all that was removed at or below the floor, where the document compacts.
     ///
-    /// Answers `OutOfMemory` where there is no room for that.
+    /// Returns `OutOfMemory` where there is no room for that.
     pub fn compact(&mut self) -> Result<(), OutOfMemory>
         requires { RunsForOne D.holds self.old Anyone }
         ensures compacts { OnOk result (TakesCompaction D.holds self.old self.new) }

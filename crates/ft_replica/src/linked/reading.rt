@@ -20,7 +20,7 @@ use ft_sumdoc::{SumDoc, Texts};
 impl<D: OwnDocument> LinkedClient<D> {
     /// All that it shows, with these numbers.
     ///
-    /// Answers `OutOfMemory` where there is no room for it.
+    /// Returns `OutOfMemory` where there is no room for it.
     pub fn view(&self, numbers: Numbers) -> Result<View, OutOfMemory>
         requires { RunsForOne D.holds self.now Anyone }
         ensures numbers { IfOk result (λ v. v.numbers ≡ numbers) }
@@ -31,7 +31,7 @@ impl<D: OwnDocument> LinkedClient<D> {
 
     /// Who inserted each visible element of the text.
     ///
-    /// Answers `OutOfMemory` where there is no room for that.
+    /// Returns `OutOfMemory` where there is no room for that.
     pub fn origins(&self) -> Result<Attribution, OutOfMemory>
         requires { RunsForOne D.holds self.now Anyone }
         ensures { (low : ℕ) (p : NaiveClient) → IsWellNamed p → IsLinkedAs D.holds low self.now p → IfOk result (λ origins. origins ≡ blame p) }
@@ -41,7 +41,7 @@ impl<D: OwnDocument> LinkedClient<D> {
 
     /// The summary of its document, with these names of connections.
     ///
-    /// Answers `OutOfMemory` where there is no room for it, or it is too long for a summary.
+    /// Returns `OutOfMemory` where there is no room for it, or it is too long for a summary.
     pub fn summary(&self, conns: Texts) -> Result<SumDoc, OutOfMemory>
         requires { RunsForOne D.holds self.now (λ p. p.pending ≡ []) }
         ensures sum { (low : ℕ) (p : NaiveClient) → IsWellNamed p → p.pending ≡ [] → IsLinkedAs D.holds low self.now p → IfOk result (λ sum. sum ≡ summary_of conns p.doc) }

@@ -17,7 +17,7 @@ use std::collections::VecDeque;
 impl<D: OwnDocument> LinkedClient<D> {
     /// Takes its own join: its document goes on, and its pending edits are sent again.
     ///
-    /// Answers `OutOfMemory` where there is no room for that, or a count would pass its greatest number.
+    /// Returns `OutOfMemory` where there is no room for that, or a count would pass its greatest number.
     pub(crate) fn come_online(&mut self, entry: &Entry) -> Result<(), OutOfMemory>
         requires formed { IsWellFormedMessage entry.now.msg }
         requires known { RunsForOne D.holds self.old (λ p. process_fault p entry.now ≡ None) }
@@ -37,7 +37,7 @@ impl<D: OwnDocument> LinkedClient<D> {
 
 /// Adds the edits that have a piece, as they are sent again under the connection that joined, and their messages.
 ///
-/// Answers `OutOfMemory` where there is no room for them, or a count would pass 2^64 - 1.
+/// Returns `OutOfMemory` where there is no room for them, or a count would pass 2^64 - 1.
 fn send_again(
     entry: &Entry,
     mut resent: VecDeque<Resent>,

@@ -1,4 +1,4 @@
--- The world answers as its session does, and stops at want of memory.
+-- The world answers as its session does, and stops at OutOfMemory.
 use Rattle.std.proofs.Common.{◌∙◌, ap, sym}
 use Rattle.ft_map.specs.MapWorlds.{MapWorldState}
 use Rattle.ft_map.proofs.KnownSessions.{reached-next, reached-refused, reached-unrefused}

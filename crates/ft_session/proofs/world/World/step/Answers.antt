@@ -1,4 +1,4 @@
--- The world answers as its session does, and stops at want of memory.
+-- The world answers as its session does, and stops at OutOfMemory.
 use Rattle.std.proofs.Common.{◌∙◌, ap, subst, sym}
 use Rattle.ft_session.specs.Effects.{SessionEffect}
 use Rattle.ft_session.specs.Worlds.{WorldState}
