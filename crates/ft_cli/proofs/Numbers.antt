@@ -1,4 +1,4 @@
--- A word of digits and the number that it is.
+-- An argument of digits and the number that it is.
 use Rattle.std.proofs.Common.{◌≡◌, ℕ, ◌<◌, ◌^◌, List, [], ◌∷◌, None, length, true, arith, rules}
 use Rattle.std.proofs.lemmas.Bool.Decides.{nat_tests}
 use Rattle.std.proofs.lemmas.Str.Parse.{IsNumeralModel, numerals_by_value}
@@ -17,6 +17,6 @@ unfolding number_within
 too_large least greatest [] fits number large = (cc)
 too_large least greatest (c ∷ cs) fits number large = grind (arith, nat_tests)
 
--- a number's word has digits alone
+-- a number's argument has digits alone
 pub all_digits : (word : List ℕ) → is_number word ≡ true → list_all is_ascii_digit word ≡ true
 all_digits word number = grind arith

@@ -1,4 +1,4 @@
--- What the end of a run says is said of its words by its status.
+-- What the end of a run says is said of its arguments by its status.
 use Rattle.std.specs.Prelude.{⊤}
 use Rattle.std.proofs.Common.{◌≡◌, ℕ, List, [], Option, Some, None, Bool, true, false, Result, Ok, Err, refl, sym, subst, arith, inl, IfOk, OnOk}
 use Rattle.std.specs.Io.KnownBytes.{IsAtEnd}
@@ -31,14 +31,14 @@ says_by_status account AtEnd source_rose sink_rose (Err fault.Write) given writt
 says_by_status account AtEnd source_rose sink_rose (Err fault.OutOfMemory) given written h = h
 says_by_status account AtEnd source_rose sink_rose (Err fault.InputLimit) given written h = h
 
--- the words are of no form, and nothing was read or written
+-- the arguments are of no form, and nothing was read or written
 pub moves_usage : (form : Option Form) (first held : Option (List ℕ)) (source_rose sink_rose : Type 0) → form ≡ None
     → Moves first first held held (SaysForWords form first source_rose sink_rose Usage)
 moves_usage form first held source_rose sink_rose is =
     subst (λ f. Moves first first held held (SaysForWords f first source_rose sink_rose Usage)) (sym is)
     (record { given = []; gives = Consumes-nil first; written = []; takes = Appends-nil held; says = (refl, refl, refl) })
 
--- what is said of a form is said of its words
+-- what is said of a form is said of its arguments
 for_words : (form : Option Form) (it : Form) → form ≡ Some it → (reads : Bool) → reads_input it ≡ reads → (left : Option (List ℕ)) (source_rose sink_rose : Type 0) (status : Status)
     (end : Result Ending Fault) → status ≡ end_status end → (given written : List ℕ) → SaysOfForm reads (account_of it) left source_rose sink_rose (end_status end) given written
     → SaysForWords form left source_rose sink_rose status given written

@@ -20,6 +20,6 @@ abbrev pub report_for : Option Form → List ℕ → List ℕ
 report_for None bytes = []
 report_for (Some form) bytes = (account_of form).report bytes
 
--- the report of an input under these words
+-- the report of an input under these arguments
 abbrev pub report : List (List ℕ) → List ℕ → List ℕ
 report words bytes = report_for (form_of words) bytes

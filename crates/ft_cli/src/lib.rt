@@ -1,4 +1,4 @@
-//! The command line of Vemiktag's program: which form its words are, the run of that form, and the status with
+//! The command line of Vemiktag's program: which form its arguments are, the run of that form, and the status with
 //! which it ends.
 //!
 //! The forms stand in `ft_replay`, over any replica; here each runs with clients over trees (`Client` of `ft_client`).

@@ -1,4 +1,4 @@
-//! The words of the command line.
+//! The arguments of the command line.
 
 ghost use Rattle.std.specs.Prelude.{◌≡◌, ◌≤◌, IfSome};
 ghost use Rattle.std.specs.Char.{is_ascii_digit};
@@ -26,7 +26,7 @@ pub enum Form {
     Play(Settings),
 }
 
-/// The form that the words are, none where they are of no form.
+/// The form that the arguments are, none where they are of no form.
 pub fn read_words(words: &Vec<String>) -> Option<Form>
     ensures form { result ≡ form_of (texts_of words.now.items) }
     ensures within { IfSome result IsFormWithinLimits }
@@ -41,7 +41,7 @@ pub fn read_words(words: &Vec<String>) -> Option<Form>
     }
 }
 
-// The form that is one word.
+// The form that is one argument.
 fn read_word(word: &str) -> Option<Form>
     ensures form { result ≡ form_of_word word.now }
     ensures within { IfSome result IsFormWithinLimits }
@@ -55,7 +55,7 @@ fn read_word(word: &str) -> Option<Form>
     }
 }
 
-// The form that is one word with settings.
+// The form that is one argument with settings.
 fn form_with(word: &str, settings: Settings) -> Option<Form>
     requires { IsWithinLimits settings }
     ensures form { result ≡ form_with word.now settings }
@@ -68,7 +68,7 @@ fn form_with(word: &str, settings: Settings) -> Option<Form>
     }
 }
 
-// The settings that three words are.
+// The settings that three arguments are.
 fn read_settings(clients: &str, edits: &str, seed: &str) -> Option<Settings>
     ensures settings { result ≡ settings_of clients.now edits.now seed.now }
     ensures within { IfSome result IsWithinLimits }
@@ -83,7 +83,7 @@ fn read_settings(clients: &str, edits: &str, seed: &str) -> Option<Settings>
     })
 }
 
-// The number that a word is, within these bounds.
+// The number that an argument is, within these bounds.
 #[tactic(auto, unfolding(crate::specs::Words::number_within))]
 fn read_number(word: &str, least: u64, greatest: u64) -> Option<u64>
     ensures number { result ≡ number_within least greatest word.now }
@@ -102,7 +102,7 @@ fn read_number(word: &str, least: u64, greatest: u64) -> Option<u64>
     }
 }
 
-// Whether a word is a number in decimal digits, without a zero in front of other digits.
+// Whether an argument is a number in decimal digits, without a zero in front of other digits.
 fn is_number(word: &[u8]) -> bool
     ensures { result ≡ is_number word.now }
 {

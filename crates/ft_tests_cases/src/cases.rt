@@ -43,7 +43,7 @@ pub struct Case {
 }
 
 impl Case {
-    /// A case without words and input.
+    /// A case without arguments and input.
     pub fn new(alloc: Global) -> Case {
         Case {
             words: Vec::new(alloc),
@@ -183,7 +183,7 @@ impl Case {
     }
 }
 
-// Adds the words of a line.
+// Adds the arguments of a line.
 fn push_words(alloc: Global, words: &mut Vec<String>, line: &str) -> Result<(), OutOfMemory> {
     for word in line.split_whitespace() {
         words.push(String::from_str(alloc, word)?)?;
@@ -191,7 +191,7 @@ fn push_words(alloc: Global, words: &mut Vec<String>, line: &str) -> Result<(), 
     Ok(())
 }
 
-// Adds what the words of a line write.
+// Adds what the arguments of a line write.
 fn push_written(alloc: Global, bytes: &mut Vec<u8>, line: &str) -> Result<(), OutOfMemory> {
     let mut words = Vec::new(alloc);
     push_words(alloc, &mut words, line)?;

@@ -1,6 +1,6 @@
 //! Runs cases of the command line over memory, and writes what each comes to.
 //!
-//! A case of standard input is the line `case NAME`, the line `words` with the words of the command line
+//! A case of standard input is the line `case NAME`, the line `words` with the arguments of the command line
 //! behind it, the line `input`, the lines of the input, and the line `end`. Between `case` and `input` may
 //! stand: `failing-reads` and `failing-writes` with the numbers of the reads and writes that fail, from 1 on;
 //! `piece` with the number of bytes that are read and written at a time (without it the case runs three
@@ -8,7 +8,7 @@
 //! with a byte and a count, which is input. The line `end-without-lf` ends an input whose last line has no
 //! LF. Lines that are empty or begin with `#` are passed outside of an input.
 //!
-//! Before the input, `written-by` puts into it what a run of the words behind it writes. With `views` only the
+//! Before the input, `written-by` puts into it what a run with the arguments behind it writes. With `views` only the
 //! number of views in the report is written, and how many of them show what the first one shows.
 //!
 //! One of three lines more makes a case run many times: `each-cut` with each beginning of its input, and

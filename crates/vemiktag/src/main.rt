@@ -1,9 +1,9 @@
-//! Vemiktag's program: its words, its standard input and its standard output, given to a run.
+//! Vemiktag's program: its arguments, its standard input and its standard output, given to a run.
 //!
-//! It ends with 0 where nothing was refused or skipped, 1 where something was, 2 where the words are of
+//! It ends with 0 where nothing was refused or skipped, 1 where something was, 2 where the arguments are of
 //! no form, and then it tells the forms on standard error, 3 and 4 where the input or the output failed,
 //! 5 where no memory was found, 6 where the input is too long, and 7 where the system doesn't tell the
-//! words.
+//! arguments.
 #![tactic(auto)]
 
 use ft_cli::{Status, run};
@@ -12,7 +12,7 @@ use std::alloc::AllocError;
 use std::process::ExitCode;
 use std::{env, io};
 
-/// What the program ends with where the system doesn't tell its words.
+/// What the program ends with where the system doesn't tell its arguments.
 const NO_WORDS: u8 = 7;
 
 fn main(rt: HostRuntime) -> ExitCode {
@@ -31,7 +31,7 @@ fn main(rt: HostRuntime) -> ExitCode {
     ExitCode::from(status.code())
 }
 
-// The words of the command line, without the program's name.
+// The arguments of the command line, without the program's name.
 fn told_words(rt: &HostRuntime) -> io::Result<Vec<String>> {
     let mut words = Vec::new(rt.alloc());
     for word in env::args(rt)?.skip(1) {
