@@ -165,8 +165,6 @@ impl Attribution {
 
     /// The maximal runs among the characters from the `p`-th up to before the `q`-th, counted from
     /// 0, as far as there are any. Their ends are counted in the whole list.
-    ///
-    /// Returns `OutOfMemory` where there is no room for them.
     pub fn runs(&self, p: u64, q: u64) -> Result<Vec<AttrRun>, OutOfMemory>
         ensures { IfOk result (λ runs. runs.items ≡ origin_runs p (take (q - p) (drop p self.now))) }
     {
@@ -175,8 +173,6 @@ impl Attribution {
 
     /// How many characters each connection inserted, by rising connection, those that inserted none
     /// left out.
-    ///
-    /// Returns `OutOfMemory` where there is no room for them.
     pub fn totals(&self) -> Result<Vec<Total>, OutOfMemory>
         ensures totals { IfOk result (λ v. v.items ≡ totals self.now) }
         ensures counts { IfOk result (λ v. AreTotals self.now v.items) }

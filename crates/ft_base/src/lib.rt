@@ -1,7 +1,7 @@
 //! What every other crate stands on: lists, texts, stamps and elements, who sees an element, scans
 //! of a list of elements, `OutOfMemory`, and a counter of steps.
 //!
-//! A call that can't return `OutOfMemory` takes no memory.
+//! A call that can't return `OutOfMemory` takes no memory; one that can returns it where there is no room.
 #![tactic(auto)]
 
 pub mod counting;

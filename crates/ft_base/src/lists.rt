@@ -9,8 +9,6 @@ use std::marker::Model;
 /// A value that can be copied and compared.
 pub trait Datum: Sized + Drop {
     /// An equal value.
-    ///
-    /// Returns `OutOfMemory` where there is no room for it.
     fn copy(&self) -> Result<Self, OutOfMemory>
         ensures { IfOk result (λ copy. copy ≡ self.now) };
 
@@ -90,8 +88,6 @@ impl<T: Drop> List<T> {
     }
 
     /// Takes all but the first `count` off.
-    ///
-    /// Returns `OutOfMemory` where there is no room for them.
     pub fn split_off(&mut self, count: usize) -> Result<List<T>, OutOfMemory>
         requires { count ≤ length self.old }
         ensures first { OnOk result (self.new ≡ take count self.old) }

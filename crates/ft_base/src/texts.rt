@@ -25,8 +25,6 @@ impl Model for Text {
 
 impl Text {
     /// A copy of the characters of `text`.
-    ///
-    /// Returns `OutOfMemory` where there is no room for the copy.
     pub fn new(alloc: Global, text: &str) -> Result<Text, OutOfMemory>
         ensures { IfOk result (λ copy. copy ≡ chars text.now) }
     {

@@ -157,8 +157,6 @@ impl Cells {
     }
 
     /// The pairs of handles that have an acknowledged or a pending value, null or not, by rising row and column.
-    ///
-    /// Returns `OutOfMemory` where there is no room for them.
     pub fn keys(&self) -> Result<Vec<CellKey>, OutOfMemory>
         ensures each_once { IfOk result (λ keys. (row col : ℕ)
             → len (is_key row col) keys.items ≡ one_more_if (holds_value (cell_at self.now row col)) 0) }

@@ -37,8 +37,6 @@ pub struct Act {
 }
 
 /// The name of the client of that number.
-///
-/// Returns `OutOfMemory` where there is no room for it.
 fn client_name(alloc: Global, number: u64) -> Result<Text, OutOfMemory>
     ensures { IfOk result (λ name. name ≡ client_name number) }
 {
@@ -53,8 +51,6 @@ impl Act {
     }
 
     /// The event.
-    ///
-    /// Returns `OutOfMemory` where there is no room for it.
     pub fn event(self, alloc: Global) -> Result<Event, OutOfMemory>
         requires { IsWellFormedEvent (event_of self) }
         ensures { IfOk result (λ event. event ≡ event_of self) }

@@ -1,6 +1,6 @@
 //! The generator of sessions: events drawn from a seed.
 //!
-//! A call that can't return `OutOfMemory` takes no memory.
+//! A call that can't return `OutOfMemory` takes no memory; one that can returns it where there is no room.
 #![tactic(auto)]
 
 mod acts;

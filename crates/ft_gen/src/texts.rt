@@ -16,8 +16,6 @@ use std::alloc::Global;
 
 impl DrawnOp {
     /// The operation.
-    ///
-    /// Returns `OutOfMemory` where there is no room for it.
     pub fn op(self, alloc: Global) -> Result<ChannelOp, OutOfMemory>
         requires { IsWellFormed (op_of self) }
         ensures { IfOk result (λ op. op ≡ op_of self) }
@@ -35,8 +33,6 @@ impl DrawnOp {
 }
 
 /// So many letters, drawn from the state.
-///
-/// Returns `OutOfMemory` where there is no room for them.
 fn letters(alloc: Global, count: u64, mut state: u64) -> Result<Text, OutOfMemory>
     ensures { IfOk result (λ text. text ≡ letters count state) }
 {
@@ -49,8 +45,6 @@ fn letters(alloc: Global, count: u64, mut state: u64) -> Result<Text, OutOfMemor
 }
 
 /// The insertion of so many letters, drawn from the state.
-///
-/// Returns `OutOfMemory` where there is no room for it.
 fn insertion(alloc: Global, pos: u64, count: u64, state: u64) -> Result<ChannelOp, OutOfMemory>
     ensures { IfOk result (λ op. op ≡ op_of (drawn.Insert pos count state)) }
 {
@@ -63,8 +57,6 @@ fn insertion(alloc: Global, pos: u64, count: u64, state: u64) -> Result<ChannelO
 }
 
 /// The number as a JSON value.
-///
-/// Returns `OutOfMemory` where there is no room for it.
 fn number_text(alloc: Global, number: u64) -> Result<ValText, OutOfMemory>
     ensures { IfOk result (λ text. text ≡ decimal number) }
 {
@@ -72,8 +64,6 @@ fn number_text(alloc: Global, number: u64) -> Result<ValText, OutOfMemory>
 }
 
 /// The annotation of one element.
-///
-/// Returns `OutOfMemory` where there is no room for it.
 fn annotation(alloc: Global, pos: u64, value: u64) -> Result<ChannelOp, OutOfMemory>
     requires { IsWellFormed (op_of (drawn.Annotate pos value)) }
     ensures { IfOk result (λ op. op ≡ op_of (drawn.Annotate pos value)) }
@@ -91,8 +81,6 @@ fn annotation(alloc: Global, pos: u64, value: u64) -> Result<ChannelOp, OutOfMem
 }
 
 /// The write of a number to a cell.
-///
-/// Returns `OutOfMemory` where there is no room for it.
 fn cell_write(alloc: Global, row: u64, col: u64, value: u64) -> Result<ChannelOp, OutOfMemory>
     ensures { IfOk result (λ op. op ≡ op_of (drawn.Set row col value)) }
 {
@@ -101,8 +89,6 @@ fn cell_write(alloc: Global, row: u64, col: u64, value: u64) -> Result<ChannelOp
 }
 
 /// The interval of that number, round one element.
-///
-/// Returns `OutOfMemory` where there is no room for it.
 fn new_interval(alloc: Global, number: u64, pos: u64) -> Result<ChannelOp, OutOfMemory>
     requires { IsWellFormed (op_of (drawn.Add number pos)) }
     ensures { IfOk result (λ op. op ≡ op_of (drawn.Add number pos)) }

@@ -18,8 +18,6 @@ use ft_sumdoc::{Ends2, IntervalRec};
 use ft_tree::{TextContent, Tree};
 
 /// The interval at stage 0, with its ends as elements that this sees.
-///
-/// Returns `OutOfMemory` where there is no room for it.
 fn placed(tree: &Tree<TextContent>, i: &Interval<RefId>) -> Result<Interval<Place>, OutOfMemory>
     requires usable { IsTrue tree.now.usable }
     requires live { AreLiveEnds tree.now.refs i.now.ends }
@@ -35,8 +33,6 @@ fn placed(tree: &Tree<TextContent>, i: &Interval<RefId>) -> Result<Interval<Plac
 }
 
 /// The intervals at stage 0, with their ends as elements that this sees.
-///
-/// Returns `OutOfMemory` where there is no room for them.
 fn first_places(
     tree: &Tree<TextContent>,
     acked: &Intervals<RefId>,
@@ -90,8 +86,6 @@ fn carry_all(tree: &Tree<TextContent>, all: &mut Intervals<Place>, from: u64, to
 }
 
 /// Takes all intervals from stage `from` to the stage of the operation, and applies that.
-///
-/// Returns `OutOfMemory` where there is no room for what it makes.
 fn take_next(
     tree: &Tree<TextContent>,
     all: &mut Intervals<Place>,
@@ -131,8 +125,6 @@ fn record_at(tree: &Tree<TextContent>, i: Interval<Place>) -> IntervalRec
 }
 
 /// The intervals as they are shown.
-///
-/// Returns `OutOfMemory` where there is no room for them.
 fn records(tree: &Tree<TextContent>, all: Intervals<Place>) -> Result<Vec<IntervalRec>, OutOfMemory>
     requires usable { IsTrue tree.now.usable }
     requires on_leaf { All (HasPlaces tree.now) all }
@@ -149,8 +141,6 @@ fn records(tree: &Tree<TextContent>, all: Intervals<Place>) -> Result<Vec<Interv
 ///
 /// It goes over all intervals once for each run of operations between which stages remove elements, and looks at the leaves of
 /// their ends at each such stage.
-///
-/// Returns `OutOfMemory` where there is no room for them.
 pub fn all_shown(
     tree: &Tree<TextContent>,
     acked: &Intervals<RefId>,

@@ -293,8 +293,6 @@ impl Collections {
     }
 
     /// All intervals as they are shown, by rising label and id.
-    ///
-    /// Returns `OutOfMemory` where there is no room for them.
     pub fn all(&self, tree: &Tree<TextContent>) -> Result<Vec<IntervalRec>, OutOfMemory>
         requires usable { IsTrue tree.now.usable }
         requires live { IsLive tree.now.refs self.now }
@@ -307,8 +305,6 @@ impl Collections {
 
     /// The intervals of the label as they are shown that meet the places from `a` to `b`, by rising id: those that aren't
     /// detached, start at or before `b` and end at or after `a`. A read of a node of an index is one step.
-    ///
-    /// Returns `OutOfMemory` where there is no room for them.
     pub fn overlapping<G: Ledger>(
         &self,
         tree: &Tree<TextContent>,
@@ -360,8 +356,6 @@ impl Collections {
     }
 
     /// The same, where nothing is said of the tree after `OutOfMemory`.
-    ///
-    /// Returns `OutOfMemory` where there is no room.
     fn settle(&mut self, tree: &mut Tree<TextContent>, stage: u64) -> Result<TextOp, OutOfMemory>
         requires usable { IsTrue tree.old.usable }
         requires live { IsLive tree.old.refs self.old }

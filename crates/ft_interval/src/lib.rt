@@ -1,6 +1,6 @@
 //! Interval collections over the text of a tree: intervals by label and id, whose ends stay with their elements.
 //!
-//! A call that can't return `OutOfMemory` takes no memory.
+//! A call that can't return `OutOfMemory` takes no memory; one that can returns it where there is no room.
 #![tactic(auto)]
 
 mod all;

@@ -62,8 +62,6 @@ pub fn ends_of_numbers(numbers: EndPair<u64>) -> Ends
 }
 
 /// The operation with these numbers as its ends, if it gives some.
-///
-/// Returns `OutOfMemory` where there is no room for it.
 pub fn with_numbers(op: &TextOp, numbers: EndPair<u64>) -> Result<TextOp, OutOfMemory>
     ensures { (xs : List (TreeElement ElementContent)) → (k : ℕ) → (ends : EndPair ℕ) → AreNumbers xs k ends numbers
         → IfOk result (λ again. again ≡ regenerated xs k ends op.now) }

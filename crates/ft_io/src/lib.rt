@@ -1,6 +1,7 @@
-//! Bytes in and bytes out: sources and sinks that count their faults, over memory and over standard
-//! input and output, and the lines of what a source gives. Only a call that can return `OutOfMemory`
-//! takes memory.
+//! Bytes in and bytes out: sources and sinks that count their faults, over memory and over standard input
+//! and output, and the lines of what a source gives.
+//!
+//! A call that can't return `OutOfMemory` takes no memory; one that can returns it where there is no room.
 #![tactic(auto)]
 
 pub mod byte_lists;

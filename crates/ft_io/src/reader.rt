@@ -95,8 +95,6 @@ impl Model for Lines {
 impl Lines {
     /// A reader to which nothing was given, and whose lines have at most `limit` bytes, each without
     /// its LF.
-    ///
-    /// Returns `OutOfMemory` where there is no room for a piece of the input.
     pub fn new(alloc: Global, limit: usize) -> Result<Lines, OutOfMemory>
         ensures { IfOk result (λ lines. lines ≡ new_reader limit) }
     {

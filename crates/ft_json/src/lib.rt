@@ -1,7 +1,7 @@
 //! JSON: reading the value of a text, reading the fields of an object, and the one spelling of a
 //! value. What JSON is, `serde_json` says.
 //!
-//! A call that can't return `OutOfMemory` takes no memory.
+//! A call that can't return `OutOfMemory` takes no memory; one that can returns it where there is no room.
 #![tactic(auto)]
 
 mod checks;

@@ -35,8 +35,6 @@ impl Model for ValText {
 
 impl ValText {
     /// A copy of `text`, which is the compact text of such a value.
-    ///
-    /// Returns `OutOfMemory` where there is no room for the copy.
     pub fn new(alloc: Global, text: &str) -> Result<ValText, OutOfMemory>
         requires { IsCanonicalText text.now }
         ensures { IfOk result (λ copy. copy ≡ text.now) }
@@ -63,8 +61,6 @@ impl ValText {
     }
 
     /// The value that the text stands for, which has at most 127 levels.
-    ///
-    /// Returns `OutOfMemory` where there is no room for it.
     pub fn to_value(&self) -> Result<Value, OutOfMemory>
         requires { IsTextWithin read_levels self.now }
         ensures value { IfOk result (λ value. view value ≡ value_of self.now) }

@@ -43,8 +43,6 @@ pub fn canonical(alloc: Global, value: &Value) -> Result<ValText, JsonFault>
 
 /// The compact text of a value of any number of levels, in which each number is a whole number from
 /// -9223372036854775808 to 18446744073709551615.
-///
-/// Returns `OutOfMemory` where there is no room for the text.
 pub fn compact(alloc: Global, value: &Value) -> Result<ValText, OutOfMemory>
     requires { IsCanonical (view value.now) }
     ensures { IfOk result (λ text. text ≡ compact_text (view value.now)) }
@@ -53,8 +51,6 @@ pub fn compact(alloc: Global, value: &Value) -> Result<ValText, OutOfMemory>
 }
 
 /// The text of a whole number.
-///
-/// Returns `OutOfMemory` where there is no room for it.
 pub fn whole_text(alloc: Global, z: i64) -> Result<ValText, OutOfMemory>
     ensures { IfOk result (λ text. text ≡ signed_decimal z) }
 {
@@ -63,8 +59,6 @@ pub fn whole_text(alloc: Global, z: i64) -> Result<ValText, OutOfMemory>
 
 /// The JSON string of the characters: `"`, `\` and the characters below U+0020 are escaped, and all
 /// else stands as it is.
-///
-/// Returns `OutOfMemory` where there is no room for it.
 pub fn quote(alloc: Global, text: &Text) -> Result<Text, OutOfMemory>
     ensures { IfOk result (λ string. string ≡ quoted text.now) }
 {

@@ -1,6 +1,6 @@
 //! A shared map of keys and values: one client's map, and a session of such clients over one log, which the sequencer orders.
 //!
-//! A call that can't return `OutOfMemory` takes no memory.
+//! A call that can't return `OutOfMemory` takes no memory; one that can returns it where there is no room.
 #![tactic(auto)]
 
 pub mod events;

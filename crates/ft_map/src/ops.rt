@@ -29,8 +29,6 @@ pub struct MapPair {
 
 impl MapOp {
     /// An equal operation.
-    ///
-    /// Returns `OutOfMemory` where there is no room for it.
     pub fn copy(&self) -> Result<MapOp, OutOfMemory>
         ensures { IfOk result (λ copy. copy ≡ self.now) }
     {

@@ -65,8 +65,6 @@ impl MapReplica {
     }
 
     /// A new client with what was sequenced of this one's map, and its numbers.
-    ///
-    /// Returns `OutOfMemory` where there is no room for it.
     pub(crate) fn successor(&self) -> Result<MapReplica, OutOfMemory>
         ensures { IfOk result (λ r. r ≡ client_over self.now.state.acked self.now.number self.now.minimum) }
     {
@@ -124,8 +122,6 @@ impl MapReplica {
     }
 
     /// What it shows, by rising keys.
-    ///
-    /// Returns `OutOfMemory` where there is no room for it.
     pub(crate) fn pairs(&self) -> Result<Vec<MapPair>, OutOfMemory>
         ensures { IfOk result (λ pairs. pairs.items ≡ pairs_of (view_of self.now)) }
     {
@@ -148,8 +144,6 @@ impl MapReplica {
     }
 
     /// An edit of its own.
-    ///
-    /// Returns `OutOfMemory` where there is no room for it.
     pub(crate) fn edit(&mut self, op: &MapOp) -> Result<(), OutOfMemory>
         ensures { OnOk result (self.new ≡ edited op.now self.old) }
     {
@@ -171,8 +165,6 @@ impl MapReplica {
     }
 
     /// Begins to join under a new connection.
-    ///
-    /// Returns `OutOfMemory` where there is no room for it.
     pub(crate) fn connect(&mut self, conn: u32) -> Result<(), OutOfMemory>
         ensures { OnOk result (self.new ≡ joining conn self.old) }
     {
@@ -206,8 +198,6 @@ impl MapReplica {
     }
 
     /// Processes a message.
-    ///
-    /// Returns `OutOfMemory` where there is no room for it.
     pub(crate) fn process(&mut self, e: &MapEntry) -> Result<(), OutOfMemory>
         ensures { OnOk result (self.new ≡ after_entry self.old e.now) }
     {

@@ -73,8 +73,6 @@ impl Service {
     }
 
     /// A draft of the connection, with this operation, is submitted.
-    ///
-    /// Returns `OutOfMemory` where there is no room for its message.
     pub(crate) fn submit(&mut self, conn: u32, draft: &Draft, op: MapOp) -> Result<(), OutOfMemory>
         requires { HasNoNack (submit_one self.old conn (record { draft = draft.now; op = op })) }
         ensures { OnOk result (submit_one self.old conn (record { draft = draft.now; op = op }) ≡ Ok self.new) }

@@ -49,8 +49,6 @@ impl SharedMap {
     }
 
     /// The map of these pairs, with nothing pending.
-    ///
-    /// Returns `OutOfMemory` where there is no room for it.
     pub fn load(alloc: Global, pairs: &Vec<MapPair>) -> Result<SharedMap, OutOfMemory>
         requires { KeysRise (map_of pairs.now.items) }
         ensures { IfOk result (λ map. map ≡ record { acked = map_of pairs.now.items; pending = [] }) }
@@ -71,8 +69,6 @@ impl SharedMap {
     }
 
     /// A map with what was sequenced of this one, and nothing pending.
-    ///
-    /// Returns `OutOfMemory` where there is no room for it.
     pub(crate) fn acked_copy(&self) -> Result<SharedMap, OutOfMemory>
         ensures { IfOk result (λ map. map ≡ record { acked = self.now.acked; pending = [] }) }
     {
@@ -164,8 +160,6 @@ impl SharedMap {
     }
 
     /// What the client shows, by rising keys.
-    ///
-    /// Returns `OutOfMemory` where there is no room for it.
     pub fn pairs(&self) -> Result<Vec<MapPair>, OutOfMemory>
         ensures shown { IfOk result (λ pairs. pairs.items ≡ pairs_of (shown_map self.now)) }
         ensures rising { IfOk result (λ pairs. KeysRise (map_of pairs.items)) }

@@ -12,8 +12,6 @@ use ft_json::{ValText, quote};
 use std::alloc::Global;
 
 /// The summary of a client, which tells what was sequenced, as its one text.
-///
-/// Returns `OutOfMemory` where there is no room for it.
 pub(crate) fn summary_text(alloc: Global, client: &MapReplica) -> Result<ValText, OutOfMemory>
     ensures { IfOk result (λ text. text ≡ summary_text client.now) }
 {

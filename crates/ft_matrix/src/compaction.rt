@@ -152,8 +152,6 @@ impl Grid {
     }
 
     /// Takes the cells of rows out that are gone, and frees their handles.
-    ///
-    /// Returns `OutOfMemory` where there is no room for the free handles.
     fn free_rows(&mut self, mut taken: Vec<Handles>) -> Result<(), OutOfMemory>
         requires gone { AreGone taken.items self.old.rows }
         ensures { OnOk result (FreesRows (is_in_runs taken.items) self.old self.new) }
@@ -165,8 +163,6 @@ impl Grid {
     }
 
     /// Takes the cells of a run of rows out that are gone, and frees its handles.
-    ///
-    /// Returns `OutOfMemory` where there is no room for the free handles.
     fn free_row_run(&mut self, run: Handles) -> Result<(), OutOfMemory>
         requires used { (h : ℕ) → in_run h run ≡ true → in_use self.old.rows h ≡ true }
         requires gone { All (λ e. in_run e.unit run ≡ false) (units_of self.old.rows) }
@@ -180,8 +176,6 @@ impl Grid {
     }
 
     /// Takes the cells of columns out that are gone, and frees their handles.
-    ///
-    /// Returns `OutOfMemory` where there is no room for the free handles.
     fn free_cols(&mut self, mut taken: Vec<Handles>) -> Result<(), OutOfMemory>
         requires gone { AreGone taken.items self.old.cols }
         ensures { OnOk result (FreesCols (is_in_runs taken.items) self.old self.new) }
@@ -193,8 +187,6 @@ impl Grid {
     }
 
     /// Takes the cells of a run of columns out that are gone, and frees its handles.
-    ///
-    /// Returns `OutOfMemory` where there is no room for the free handles.
     fn free_col_run(&mut self, run: Handles) -> Result<(), OutOfMemory>
         requires used { (h : ℕ) → in_run h run ≡ true → in_use self.old.cols h ≡ true }
         requires gone { All (λ e. in_run e.unit run ≡ false) (units_of self.old.cols) }

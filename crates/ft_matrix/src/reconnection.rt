@@ -104,8 +104,6 @@ impl SharedMatrix {
 }
 
 /// The operation that pieces make: one alone, several as a group, none for none.
-///
-/// Returns `OutOfMemory` where there is no room for it.
 fn op_of(alloc: Global, mut pieces: Vec<CellOp>) -> Result<Option<GridOp>, OutOfMemory>
     ensures { IfOk result (λ op. option_map ChannelOp.Grid op ≡ op_of (map (λ p. OnGrid p) pieces.items)) }
 {
@@ -119,8 +117,6 @@ fn op_of(alloc: Global, mut pieces: Vec<CellOp>) -> Result<Option<GridOp>, OutOf
 }
 
 /// The same operations as a group.
-///
-/// Returns `OutOfMemory` where there is no room for it.
 fn group_of(alloc: Global, ops: Vec<CellOp>) -> Result<CellOps, OutOfMemory>
     ensures { IfOk result (λ group. group ≡ ops.items) }
 {
@@ -162,8 +158,6 @@ impl Grid {
 
     /// The operation as which an edit is sent again whose stages are the `count` ones from `first` on, None where nothing of it is
     /// left. Those of its stages of which nothing is left are gone then.
-    ///
-    /// Returns `OutOfMemory` where there is no room for it.
     fn reconnect(
         &mut self,
         alloc: Global,
@@ -186,8 +180,6 @@ impl Grid {
     }
 
     /// The pieces of those of the `count` stages from `first` on that are pending here. A stage without a piece is gone then.
-    ///
-    /// Returns `OutOfMemory` where there is no room for them.
     fn resubmit(
         &mut self,
         alloc: Global,
@@ -207,8 +199,6 @@ impl Grid {
 
     /// Adds the pieces of the stage at place `i`, and returns the place of the next one. A stage without a piece is gone then, with
     /// its cell write.
-    ///
-    /// Returns `OutOfMemory` where there is no room for them.
     fn resubmit_stage(&mut self, i: usize, pieces: &mut Vec<CellOp>) -> Result<usize, OutOfMemory>
         requires rows { IsSoundVector self.old.rows }
         requires cols { IsSoundVector self.old.cols }
@@ -263,8 +253,6 @@ fn is_due(stage: u64, first: u64, count: u64) -> bool
 }
 
 /// Adds the pieces of a stage.
-///
-/// Returns `OutOfMemory` where there is no room for them.
 fn push_pieces(
     rows: &Vector,
     cols: &Vector,
@@ -304,8 +292,6 @@ fn push_pieces(
 }
 
 /// Adds the insertion of `count` units by a stage where they stand now, unless it is one of nothing.
-///
-/// Returns `OutOfMemory` where there is no room for it.
 fn push_insertion(
     units: &Vector,
     target: Target,
@@ -359,8 +345,6 @@ fn inserted_at(part: &Piece) -> Option<u64>
 }
 
 /// Adds a removal for each run of units that a stage still marks.
-///
-/// Returns `OutOfMemory` where there is no room for them.
 fn push_removals(
     units: &Vector,
     target: Target,
@@ -378,8 +362,6 @@ fn push_removals(
 }
 
 /// Adds the removal that a piece is, if it is one.
-///
-/// Returns `OutOfMemory` where there is no room for it.
 fn push_removal(part: &Piece, target: Target, pieces: &mut Vec<CellOp>) -> Result<(), OutOfMemory>
     ensures { OnOk result (pieces.new.items ≡ pieces.old.items ++ removal_op target part.now) }
 {
@@ -397,8 +379,6 @@ fn push_removal(part: &Piece, target: Target, pieces: &mut Vec<CellOp>) -> Resul
 }
 
 /// Adds a write of the value to the cell at these places, if both are given.
-///
-/// Returns `OutOfMemory` where there is no room for it.
 fn push_write(
     value: &ValText,
     row: Option<u64>,

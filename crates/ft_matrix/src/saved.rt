@@ -35,8 +35,6 @@ fn mark_of(stamp: &Stamp) -> Mark
 }
 
 /// The stamps as marks.
-///
-/// Returns `OutOfMemory` where there is no room for them.
 fn marks_of(alloc: Global, stamps: &[Stamp]) -> Result<Marks, OutOfMemory>
     ensures { IfOk result (λ marks. marks ≡ map mark_of stamps.now) }
 {
@@ -91,8 +89,6 @@ fn same_stamps(ins: Mark, dels: &Marks, other_ins: Mark, other_dels: &Marks) -> 
 }
 
 /// A run of so many units with these stamps, as a summary at this minimum has it.
-///
-/// Returns `OutOfMemory` where there is no room for it.
 fn run_of(alloc: Global, stamps: &Element, count: u64, min: u64) -> Result<RunRec, OutOfMemory>
     ensures { IfOk result (λ run. run ≡ unit_run min stamps.now count) }
 {
@@ -105,8 +101,6 @@ fn run_of(alloc: Global, stamps: &Element, count: u64, min: u64) -> Result<RunRe
 }
 
 /// Adds a run behind the others: it is joined to the last one where their stamps are equal.
-///
-/// Returns `OutOfMemory` where there is no room for it.
 fn push_run(runs: &mut Vec<RunRec>, run: RunRec) -> Result<(), OutOfMemory>
     ensures { OnOk result ((rest : List RunRec) → continued runs.new.items rest ≡ continued runs.old.items (with_run run rest)) }
 {
@@ -129,8 +123,6 @@ fn push_run(runs: &mut Vec<RunRec>, run: RunRec) -> Result<(), OutOfMemory>
 }
 
 /// Adds the units of a leaf behind the others, unless they were removed at or below the minimum.
-///
-/// Returns `OutOfMemory` where there is no room for them.
 fn add_leaf(
     tree: &Tree<Handles>,
     leaf: NodeId,
@@ -151,8 +143,6 @@ fn add_leaf(
 }
 
 /// The runs as a list.
-///
-/// Returns `OutOfMemory` where there is no room for them.
 fn listed(alloc: Global, runs: Vec<RunRec>) -> Result<RunRecs, OutOfMemory>
     ensures { IfOk result (λ list. list ≡ runs.items) }
 {
@@ -164,8 +154,6 @@ fn listed(alloc: Global, runs: Vec<RunRec>) -> Result<RunRecs, OutOfMemory>
 }
 
 /// The runs of units of a summary at this minimum.
-///
-/// Returns `OutOfMemory` where there is no room for them.
 pub fn saved_units(units: &Vector, min: u64) -> Result<RunRecs, OutOfMemory>
     requires { IsTrue units.now.tree.usable }
     ensures { IfOk result (λ runs. runs ≡ saved_runs min (units_of units.now)) }
@@ -174,8 +162,6 @@ pub fn saved_units(units: &Vector, min: u64) -> Result<RunRecs, OutOfMemory>
 }
 
 /// The same of the elements of a tree.
-///
-/// Returns `OutOfMemory` where there is no room for them.
 fn saved_elements(tree: &Tree<Handles>, min: u64) -> Result<RunRecs, OutOfMemory>
     requires { IsTrue tree.now.usable }
     ensures { IfOk result (λ runs. runs ≡ saved_runs min (vector_elements tree.now)) }

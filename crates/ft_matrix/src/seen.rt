@@ -72,8 +72,6 @@ impl SeenRuns {
 }
 
 /// Adds the handles of a leaf behind the others, if they are seen.
-///
-/// Returns `OutOfMemory` where there is no room for them.
 fn add_leaf(tree: &Tree<Handles>, leaf: NodeId, runs: &mut SeenRuns) -> Result<(), OutOfMemory>
     requires usable { IsTrue tree.now.usable }
     requires live { IsLeafIn tree.now.leaves leaf }
@@ -87,8 +85,6 @@ fn add_leaf(tree: &Tree<Handles>, leaf: NodeId, runs: &mut SeenRuns) -> Result<(
 }
 
 /// The handles that the local view sees, found in one walk over the leaves.
-///
-/// Returns `OutOfMemory` where there is no room for them.
 pub fn seen_runs(tree: &Tree<Handles>) -> Result<SeenRuns, OutOfMemory>
     requires usable { IsTrue tree.now.usable }
     requires once { StandOnce (seen_handles last_stage tree.now) }

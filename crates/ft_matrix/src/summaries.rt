@@ -31,8 +31,6 @@ use std::alloc::Global;
 
 impl SharedMatrix {
     /// The table of a summary, with nothing pending.
-    ///
-    /// Returns `OutOfMemory` where there is no room for it.
     pub fn load(alloc: Global, doc: &SumDoc) -> Result<SharedMatrix, OutOfMemory>
         requires { IsValidSummary doc.now }
         ensures holds { IfOk result (λ made. HoldsGrid made (doc_of doc.now) []) }
@@ -73,8 +71,6 @@ impl SharedMatrix {
 
 impl Grid {
     /// The grid of a summary, with nothing pending.
-    ///
-    /// Returns `OutOfMemory` where there is no room for it.
     fn load(alloc: Global, doc: &SumDoc) -> Result<Grid, OutOfMemory>
         requires { IsValidSummary doc.now }
         ensures sound { IfOk result IsSound }
@@ -89,8 +85,6 @@ impl Grid {
     }
 
     /// Writes the cells of a summary, each on the unremoved row and column at its places.
-    ///
-    /// Returns `OutOfMemory` where there is no room for them.
     fn load_cells(&mut self, cells: &[CellRec]) -> Result<(), OutOfMemory>
         requires usable { IsTrue self.old.rows.tree.usable × IsTrue self.old.cols.tree.usable }
         ensures { OnOk result (LoadsCells cells.now self.old self.new) }
@@ -103,8 +97,6 @@ impl Grid {
 }
 
 /// Writes a cell of a summary on the unremoved row and column at its places, unless that has a value already.
-///
-/// Returns `OutOfMemory` where there is no room for it.
 fn load_cell(
     cells: &mut Cells,
     rows: &Vector,
@@ -128,8 +120,6 @@ fn load_cell(
 }
 
 /// Puts the units of runs at the end of a vector, and returns how many they are.
-///
-/// Returns `OutOfMemory` where there is no room for them.
 fn load_units(units: &mut Vector, runs: &[RunRec]) -> Result<u64, OutOfMemory>
     requires sound { IsSoundVector units.old }
     requires some { list_all (λ run. nat_le 1 run.count) runs.now ≡ true }
@@ -146,8 +136,6 @@ fn load_units(units: &mut Vector, runs: &[RunRec]) -> Result<u64, OutOfMemory>
 }
 
 /// Puts the units of a run at the end of a vector.
-///
-/// Returns `OutOfMemory` where there is no room for them.
 fn load_run(units: &mut Vector, run: &RunRec) -> Result<(), OutOfMemory>
     requires sound { IsSoundVector units.old }
     requires some { 1 ≤ run.now.count }
@@ -172,8 +160,6 @@ fn stamp_of(mark: Mark) -> Stamp
 }
 
 /// Marks as stamps.
-///
-/// Returns `OutOfMemory` where there is no room for them.
 fn stamps_of(alloc: Global, marks: &[Mark]) -> Result<Stamps, OutOfMemory>
     ensures { IfOk result (λ stamps. stamps ≡ map stamp_of marks.now) }
 {
@@ -185,8 +171,6 @@ fn stamps_of(alloc: Global, marks: &[Mark]) -> Result<Stamps, OutOfMemory>
 }
 
 /// The stamps of the units of a run.
-///
-/// Returns `OutOfMemory` where there is no room for them.
 fn element_of(alloc: Global, run: &RunRec) -> Result<Element, OutOfMemory>
     ensures { IfOk result (λ e. e ≡ run_stamps run.now) }
 {

@@ -43,8 +43,6 @@ impl SharedMatrix {
 
 impl Grid {
     /// The cells that are shown, by rising row and column.
-    ///
-    /// Returns `OutOfMemory` where there is no room for them.
     pub fn shown_cells(&self, alloc: Global) -> Result<CellRecs, OutOfMemory>
         requires { IsSound self.now }
         ensures { IfOk result (λ cells. cells ≡ shown_cells self.now) }
@@ -57,8 +55,6 @@ impl Grid {
 }
 
 /// Puts the shown value of a cell at its place, if it has one and its row and its column are seen.
-///
-/// Returns `OutOfMemory` where there is no room for it.
 fn place_cell(
     cells: &Cells,
     rows: &SeenRuns,
@@ -83,8 +79,6 @@ fn place_cell(
 }
 
 /// The shown values of cells by their places.
-///
-/// Returns `OutOfMemory` where there is no room for them.
 fn placed_cells(
     alloc: Global,
     cells: &Cells,
@@ -102,8 +96,6 @@ fn placed_cells(
 }
 
 /// Values at places as cells, by rising row and column.
-///
-/// Returns `OutOfMemory` where there is no room for them.
 fn listed(alloc: Global, placed: BTreeMap<(u64, u64), ValText>) -> Result<CellRecs, OutOfMemory>
     ensures cells { IfOk result (λ cells. cells ≡ map cell_of placed.entries) }
     ensures ordered { IfOk result (λ cells. tree.IsOrdered place_cmp placed) }

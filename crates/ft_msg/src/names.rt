@@ -72,8 +72,6 @@ impl Names {
     }
 
     /// The first names, so many of them, or all where there are fewer.
-    ///
-    /// Returns `OutOfMemory` where there is no room for them.
     pub fn first(&self, count: u32) -> Result<Texts, OutOfMemory>
         ensures { IfOk result (λ names. names ≡ take count self.now) }
     {

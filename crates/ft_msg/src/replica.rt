@@ -43,15 +43,11 @@ pub trait Replica: Sized {
     const COMPACTS: bool;
 
     /// An offline client at number 0 with an empty document.
-    ///
-    /// Returns `OutOfMemory` where there is no room for it.
     fn start(alloc: Global) -> Result<Self, OutOfMemory>
         ensures { IfOk result (λ r. StartsOver (state r) empty 0) };
 
     /// An offline client over the document of a summary, at its numbers. It stands for a client over
     /// each document whose summary it is.
-    ///
-    /// Returns `OutOfMemory` where there is no room for it.
     fn from_summary(alloc: Global, doc: &SumDoc) -> Result<Self, OutOfMemory>
         requires { IsValidSummary doc.now }
         ensures starts { IfOk result (λ r. StartsOver (state r) (doc_of doc.now) (length doc.now.conns)) }

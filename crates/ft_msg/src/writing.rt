@@ -138,8 +138,6 @@ fn draft_value(alloc: Global, draft: &Draft) -> Result<Value, OutOfMemory>
 
 /// The one text of a message: compact, with the keys of each object in rising order of their bytes.
 /// It reads back as the same message.
-///
-/// Returns `OutOfMemory` where there is no room for it.
 pub fn write_message(alloc: Global, m: &Message) -> Result<ValText, OutOfMemory>
     requires { IsWellFormedMessage m.now }
     ensures text { IfOk result (λ text. text ≡ compact_text (written_message m.now)) }
@@ -151,8 +149,6 @@ pub fn write_message(alloc: Global, m: &Message) -> Result<ValText, OutOfMemory>
 
 /// The one text of a draft: compact, with the keys of each object in rising order of their bytes. It
 /// reads back as the same draft.
-///
-/// Returns `OutOfMemory` where there is no room for it.
 pub fn write_draft(alloc: Global, draft: &Draft) -> Result<ValText, OutOfMemory>
     requires { IsWellFormedDraft draft.now }
     ensures text { IfOk result (λ text. text ≡ compact_text (written_draft draft.now)) }

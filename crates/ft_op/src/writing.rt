@@ -377,8 +377,6 @@ fn written_grid_op(alloc: Global, op: &GridOp) -> Result<Value, OutOfMemory>
 }
 
 /// The JSON value that an operation is written as: just the fields of its form.
-///
-/// Returns `OutOfMemory` where there is no room for it.
 pub fn op_value(alloc: Global, op: &ChannelOp) -> Result<Value, OutOfMemory>
     requires { IsWellFormed op.now }
     ensures value { IfOk result (λ v. view v ≡ written op.now) }
@@ -392,8 +390,6 @@ pub fn op_value(alloc: Global, op: &ChannelOp) -> Result<Value, OutOfMemory>
 
 /// The one text of an operation: compact, with the keys of each object in rising order of their
 /// bytes. It reads back as the same operation.
-///
-/// Returns `OutOfMemory` where there is no room for it.
 pub fn write_op(alloc: Global, op: &ChannelOp) -> Result<ValText, OutOfMemory>
     requires { IsWellFormed op.now }
     ensures text { IfOk result (λ text. text ≡ compact_text (written op.now)) }

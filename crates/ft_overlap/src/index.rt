@@ -60,8 +60,6 @@ impl Index {
 
     /// The keys of the items whose start's place is at most `b` and whose end's place is at least `a`, in
     /// the order of the items. The index is in order by these places, which know both ends of each item.
-    ///
-    /// Returns `OutOfMemory` where there is no room for the keys.
     pub fn query<P: Places, G: Ledger>(
         &self,
         a: i64,

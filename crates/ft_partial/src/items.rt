@@ -162,8 +162,6 @@ fn push_but(
 
 /// Adds at the end what `len` elements of these stamps count from the floor up, besides what all see of
 /// them in the end.
-///
-/// Returns `OutOfMemory` where there is no room.
 pub fn push_item(
     entries: &mut Vec<Entry>,
     floor: u64,

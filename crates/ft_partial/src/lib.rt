@@ -4,7 +4,7 @@
 //! no items, only how many elements all see in the end, and what those count besides who haven't seen
 //! a sequence number yet.
 //!
-//! A call that can't return `OutOfMemory` takes no memory.
+//! A call that can't return `OutOfMemory` takes no memory; one that can returns it where there is no room.
 #![tactic(auto)]
 
 mod entries;

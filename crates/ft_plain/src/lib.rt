@@ -1,6 +1,6 @@
 //! A client over plain lists.
 //!
-//! A call that can't return `OutOfMemory` takes no memory.
+//! A call that can't return `OutOfMemory` takes no memory; one that can returns it where there is no room.
 #![tactic(auto)]
 
 pub mod own;

@@ -44,8 +44,6 @@ pub fn resend(
 }
 
 /// The edit with these stages as it is sent again; the stages that go on are added to `carried`.
-///
-/// Returns `OutOfMemory` where there is no room for them.
 fn resend_edit(
     doc: &PlainDocument,
     stages: &[PlainStage],
@@ -63,8 +61,6 @@ fn resend_edit(
 }
 
 /// The numbers of the stages.
-///
-/// Returns `OutOfMemory` where there is no room for them.
 pub fn stage_numbers(alloc: Global, stages: &[PlainStage]) -> Result<Vec<u64>, OutOfMemory>
     ensures { IfOk result (λ v. v.items ≡ map (λ t. t.stage) stages.now) }
 {
@@ -76,8 +72,6 @@ pub fn stage_numbers(alloc: Global, stages: &[PlainStage]) -> Result<Vec<u64>, O
 }
 
 /// The pieces of the stages.
-///
-/// Returns `OutOfMemory` where there is no room for them.
 fn edit_pieces(doc: &PlainDocument, stages: &[PlainStage]) -> Result<VecDeque<SubOp>, OutOfMemory>
     ensures { IfOk result (λ v. map sub_operation_of v.items ≡ flat_map (pieces doc.now) stages.now) }
 {
@@ -90,8 +84,6 @@ fn edit_pieces(doc: &PlainDocument, stages: &[PlainStage]) -> Result<VecDeque<Su
 }
 
 /// The stages as they go on.
-///
-/// Returns `OutOfMemory` where there is no room for them.
 fn carried_stages(doc: &PlainDocument, stages: &[PlainStage]) -> Result<PlainStages, OutOfMemory>
     ensures { IfOk result (λ v. v ≡ flat_map (carried_stage doc.now) stages.now) }
 {
@@ -105,8 +97,6 @@ fn carried_stages(doc: &PlainDocument, stages: &[PlainStage]) -> Result<PlainSta
 }
 
 /// The stage as it goes on: gone without a piece; an interval operation with its ends settled.
-///
-/// Returns `OutOfMemory` where there is no room for it.
 fn carried_stage(doc: &PlainDocument, stage: &PlainStage) -> Result<Option<PlainStage>, OutOfMemory>
     ensures { IfOk result (λ carried. option_to_list carried ≡ carried_stage doc.now stage.now) }
 {
@@ -121,8 +111,6 @@ fn carried_stage(doc: &PlainDocument, stage: &PlainStage) -> Result<Option<Plain
 }
 
 /// The operation that pieces make: one piece bare, several as a group, none for none.
-///
-/// Returns `OutOfMemory` where there is no room for it.
 fn op_of(alloc: Global, mut pieces: VecDeque<SubOp>) -> Result<Option<ChannelOp>, OutOfMemory>
     ensures { IfOk result (λ op. op ≡ op_of (map sub_operation_of pieces.items)) }
 {

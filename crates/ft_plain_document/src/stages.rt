@@ -27,8 +27,6 @@ pub enum SubOp {
 
 impl SubOp {
     /// An equal sub-operation.
-    ///
-    /// Returns `OutOfMemory` where there is no room for it.
     fn copy(&self) -> Result<SubOp, OutOfMemory>
         ensures { IfOk result (λ copy. copy ≡ self.now) }
     {
@@ -41,8 +39,6 @@ impl SubOp {
 }
 
 /// The sub-operations of an operation, in order.
-///
-/// Returns `OutOfMemory` where there is no room for them.
 pub fn sub_operations(alloc: Global, op: &ChannelOp) -> Result<VecDeque<SubOp>, OutOfMemory>
     ensures { IfOk result (λ v. map sub_operation_of v.items ≡ sub_operations op.now) }
 {
@@ -56,8 +52,6 @@ pub fn sub_operations(alloc: Global, op: &ChannelOp) -> Result<VecDeque<SubOp>, 
 }
 
 /// One sub-operation alone.
-///
-/// Returns `OutOfMemory` where there is no room for it.
 pub fn one(alloc: Global, op: SubOp) -> Result<VecDeque<SubOp>, OutOfMemory>
     ensures { IfOk result (λ v. v.items ≡ op ∷ []) }
 {
@@ -67,8 +61,6 @@ pub fn one(alloc: Global, op: SubOp) -> Result<VecDeque<SubOp>, OutOfMemory>
 }
 
 /// The sub-operations of a group of the text.
-///
-/// Returns `OutOfMemory` where there is no room for them.
 fn text_group(alloc: Global, group: &[BaseOp]) -> Result<VecDeque<SubOp>, OutOfMemory>
     ensures { IfOk result (λ v. map sub_operation_of v.items ≡ map (λ op. OnText op) group.now) }
 {
@@ -80,8 +72,6 @@ fn text_group(alloc: Global, group: &[BaseOp]) -> Result<VecDeque<SubOp>, OutOfM
 }
 
 /// The sub-operations of a group of the grid.
-///
-/// Returns `OutOfMemory` where there is no room for them.
 fn grid_group(alloc: Global, group: &[CellOp]) -> Result<VecDeque<SubOp>, OutOfMemory>
     ensures { IfOk result (λ v. map sub_operation_of v.items ≡ map (λ op. OnGrid op) group.now) }
 {
@@ -122,8 +112,6 @@ impl PlainStage {
     }
 
     /// An equal stage, but for the elements that it names.
-    ///
-    /// Returns `OutOfMemory` where there is no room for it.
     pub fn copy_with(&self, names: ElementNames) -> Result<PlainStage, OutOfMemory>
         ensures { IfOk result (λ copy. copy ≡ record self.now { names = names }) }
     {

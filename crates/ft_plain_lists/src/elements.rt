@@ -30,8 +30,6 @@ pub enum Content {
 }
 
 /// The characters of the text as contents.
-///
-/// Returns `OutOfMemory` where there is no room for them.
 pub fn characters(alloc: Global, text: &str) -> Result<Vec<Content>, OutOfMemory>
     ensures { IfOk result (λ v. v.items ≡ map (λ c. Content.Character c) (chars text.now)) }
 {
@@ -172,8 +170,6 @@ impl PlainElement {
     }
 
     /// Its acknowledged properties with its pending changes made in order of stage.
-    ///
-    /// Returns `OutOfMemory` where there is no room for them.
     pub fn shown_props(&self) -> Result<Props, OutOfMemory>
         ensures { IfOk result (λ props. props ≡ shown_props self.now.props self.now.pending) }
     {

@@ -1,7 +1,7 @@
 //! One list of elements in one `Vec`, removed elements included; intervals and cells over such lists, and
 //! what is shown of them.
 //!
-//! A call that can't return `OutOfMemory` takes no memory.
+//! A call that can't return `OutOfMemory` takes no memory; one that can returns it where there is no room.
 #![tactic(auto)]
 
 pub mod cells;

@@ -26,8 +26,6 @@ pub struct NameTable<V: Copy + Drop> {
 
 impl<V: Copy + Drop> NameTable<V> {
     /// The same value for each sequenced element of the list.
-    ///
-    /// Returns `OutOfMemory` where there is no room for that.
     pub fn new(alloc: Global, items: &[PlainElement], value: V) -> Result<NameTable<V>, OutOfMemory>
         ensures { IfOk result (λ table. HasAnswers (λ x. value) table) }
     {
@@ -38,8 +36,6 @@ impl<V: Copy + Drop> NameTable<V> {
     }
 
     /// Asks for a name too, if it is that of a pending element; so far it has the same value as all.
-    ///
-    /// Returns `OutOfMemory` where there is no room for it.
     pub fn ask(&mut self, name: Option<ElementName>, value: V) -> Result<(), OutOfMemory>
         requires { HasAnswers (λ x. value) self.old }
         ensures { OnOk result (HasAnswers (λ x. value) self.new) }
@@ -192,8 +188,6 @@ fn table_length(items: &[PlainElement]) -> Result<usize, OutOfMemory> {
 }
 
 /// A table of so many equal values.
-///
-/// Returns `OutOfMemory` where there is no room for it.
 fn filled<V: Copy + Drop>(alloc: Global, value: V, count: usize) -> Result<Vec<V>, OutOfMemory>
     ensures { IfOk result (λ table. table.items ≡ replicate count value) }
 {

@@ -28,8 +28,6 @@ impl<V: Copy + Drop> NamedLists<V> {
     }
 
     /// Adds the value behind those of that name.
-    ///
-    /// Returns `OutOfMemory` where there is no room for it.
     pub fn add(&mut self, name: ElementName, value: V) -> Result<(), OutOfMemory>
         ensures { OnOk result ((x : ElementId) → listed x self.new.lists ≡ listed x self.old.lists ++ cond (same_id x name) (value ∷ []) []) }
     {

@@ -10,8 +10,6 @@ use ft_base::OutOfMemory;
 use std::alloc::Global;
 
 /// The maximal runs of marked elements among the seen ones, as places from up to before.
-///
-/// Returns `OutOfMemory` where there is no room for them.
 pub fn marked_runs<T: ElementTest, M: ElementTest>(
     alloc: Global,
     items: &[PlainElement],
@@ -34,8 +32,6 @@ pub fn marked_runs<T: ElementTest, M: ElementTest>(
 }
 
 /// Adds the place to the last run, if that ends there, or else as a run of its own.
-///
-/// Returns `OutOfMemory` where there is no room for it.
 fn push_place(runs: &mut Vec<(u64, u64)>, place: u64) -> Result<(), OutOfMemory>
     requires { place + 1 < 2 ^ 64 }
     ensures { OnOk result (runs.new.items ≡ with_place runs.old.items place) }

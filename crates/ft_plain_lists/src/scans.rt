@@ -72,8 +72,6 @@ pub fn pending_run(items: &[PlainElement]) -> usize
 
 /// New elements with these contents and properties, numbered from `first` on, which nobody has removed
 /// or changed.
-///
-/// Returns `OutOfMemory` where there is no room for them.
 pub fn new_elements(
     alloc: Global,
     first: u64,
@@ -157,8 +155,6 @@ pub fn rank<M: ElementTest, T: ElementTest>(items: &[PlainElement], meant: M, se
 }
 
 /// The contents of so many new units.
-///
-/// Returns `OutOfMemory` where there is no room for them.
 pub fn units(alloc: Global, count: u64) -> Result<Vec<Content>, OutOfMemory>
     ensures { IfOk result (λ v. map content_of v.items ≡ replicate count GridUnit) }
 {

@@ -12,8 +12,6 @@ use ft_props::Props;
 use std::alloc::Global;
 
 /// The characters of the elements that a client sees at its pending stage.
-///
-/// Returns `OutOfMemory` where there is no room for them.
 pub fn shown_text(alloc: Global, items: &[PlainElement], stage: u64) -> Result<Text, OutOfMemory>
     ensures { IfOk result (λ text. text ≡ text_characters (stage_view stage items.now)) }
 {
@@ -27,8 +25,6 @@ pub fn shown_text(alloc: Global, items: &[PlainElement], stage: u64) -> Result<T
 }
 
 /// Adds the character to the text, if the content is one.
-///
-/// Returns `OutOfMemory` where there is no room for it.
 pub fn push_character(text: &mut String, content: Content) -> Result<(), OutOfMemory>
     ensures { OnOk result (chars (string_bytes text.new) ≡ chars (string_bytes text.old) ++ content_characters (content_of content)) }
 {
@@ -39,8 +35,6 @@ pub fn push_character(text: &mut String, content: Content) -> Result<(), OutOfMe
 }
 
 /// The markers among the elements that a client sees at its pending stage, with their places there.
-///
-/// Returns `OutOfMemory` where there is no room for them.
 pub fn shown_markers(
     alloc: Global,
     items: &[PlainElement],
@@ -60,8 +54,6 @@ pub fn shown_markers(
 }
 
 /// Adds the marker with its place, if the content is one.
-///
-/// Returns `OutOfMemory` where there is no room for it.
 fn push_marker(markers: &mut Spots, pos: u64, content: Content) -> Result<(), OutOfMemory>
     ensures { OnOk result (markers.new ≡ markers.old ++ content_markers pos (content_of content)) }
 {
@@ -73,8 +65,6 @@ fn push_marker(markers: &mut Spots, pos: u64, content: Content) -> Result<(), Ou
 
 /// The runs of equal properties that aren't empty, among the elements that a client sees at its
 /// pending stage.
-///
-/// Returns `OutOfMemory` where there is no room for them.
 pub fn shown_runs(alloc: Global, items: &[PlainElement], stage: u64) -> Result<Runs, OutOfMemory>
     ensures { IfOk result (λ runs. runs ≡ property_runs_from 0 (stage_view stage items.now)) }
 {
@@ -84,8 +74,6 @@ pub fn shown_runs(alloc: Global, items: &[PlainElement], stage: u64) -> Result<R
 }
 
 /// The properties of each element that a client sees at its pending stage.
-///
-/// Returns `OutOfMemory` where there is no room for them.
 fn shown_props(alloc: Global, items: &[PlainElement], stage: u64) -> Result<Vec<Props>, OutOfMemory>
     ensures { IfOk result (λ props. props.items ≡ all_shown_props (stage_view stage items.now)) }
 {
@@ -99,8 +87,6 @@ fn shown_props(alloc: Global, items: &[PlainElement], stage: u64) -> Result<Vec<
 }
 
 /// The runs of these properties, from the last one to the first.
-///
-/// Returns `OutOfMemory` where there is no room for them.
 fn backward_runs(alloc: Global, mut props: Vec<Props>) -> Result<Vec<Run>, OutOfMemory>
     ensures { IfOk result (λ runs. reverse runs.items ≡ runs_before 0 props.items []) }
 {
@@ -112,8 +98,6 @@ fn backward_runs(alloc: Global, mut props: Vec<Props>) -> Result<Vec<Run>, OutOf
 }
 
 /// Puts the element with these properties before the runs, which stand from the last one to the first.
-///
-/// Returns `OutOfMemory` where there is no room for one more run.
 fn extend_runs(runs: &mut Vec<Run>, place: u64, props: Props) -> Result<(), OutOfMemory>
     requires { place + 1 < 2 ^ 64 }
     ensures { OnOk result (reverse runs.new.items ≡ extended_property_runs place props (reverse runs.old.items)) }
@@ -137,8 +121,6 @@ fn extend_runs(runs: &mut Vec<Run>, place: u64, props: Props) -> Result<(), OutO
 }
 
 /// Adds a run of the one element at this place.
-///
-/// Returns `OutOfMemory` where there is no room for it.
 fn push_run(runs: &mut Vec<Run>, place: u64, props: Props) -> Result<(), OutOfMemory>
     requires { place + 1 < 2 ^ 64 }
     ensures { OnOk result (runs.new.items ≡ runs.old.items ++ record { start = place; end = place + 1; props = props } ∷ []) }
@@ -152,8 +134,6 @@ fn push_run(runs: &mut Vec<Run>, place: u64, props: Props) -> Result<(), OutOfMe
 }
 
 /// The runs the other way round.
-///
-/// Returns `OutOfMemory` where there is no room for them.
 fn turned(alloc: Global, mut backwards: Vec<Run>) -> Result<Runs, OutOfMemory>
     ensures { IfOk result (λ runs. runs ≡ reverse backwards.items) }
 {

@@ -21,8 +21,6 @@ pub fn shown_count(items: &[PlainElement], stage: u64) -> usize
 
 /// The cells of the rows and columns that a client sees at its pending stage, where nothing is pending
 /// on the cells themselves.
-///
-/// Returns `OutOfMemory` where there is no room for them.
 pub fn shown_cells(
     alloc: Global,
     cells: &PlainCells,

@@ -19,8 +19,6 @@ use ft_sumdoc::{Ends2, IntervalRec, IntervalRecs};
 use std::alloc::Global;
 
 /// The intervals with their ends as places among the elements that a client sees at its pending stage.
-///
-/// Returns `OutOfMemory` where there is no room for them.
 pub fn shown_intervals(
     alloc: Global,
     items: &[PlainElement],

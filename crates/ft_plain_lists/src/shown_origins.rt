@@ -10,8 +10,6 @@ use ft_base::{OutOfMemory, Stamp};
 use std::alloc::Global;
 
 /// Who inserted each element that a client sees at its pending stage.
-///
-/// Returns `OutOfMemory` where there is no room for that.
 pub fn shown_origins(
     alloc: Global,
     items: &[PlainElement],

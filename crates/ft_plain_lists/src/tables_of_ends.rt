@@ -10,8 +10,6 @@ use ft_base::OutOfMemory;
 use std::alloc::Global;
 
 /// A table with one value for each sequenced element, and for each pending one on which an end of the intervals is.
-///
-/// Returns `OutOfMemory` where there is no room for that.
 pub fn table_of_ends<V: Copy + Drop>(
     alloc: Global,
     items: &[PlainElement],

@@ -1,6 +1,6 @@
 //! The summary of a document over plain lists, and the document that a summary gives.
 //!
-//! A call that can't return `OutOfMemory` takes no memory.
+//! A call that can't return `OutOfMemory` takes no memory; one that can returns it where there is no room.
 #![tactic(auto)]
 
 mod lists;

@@ -50,8 +50,6 @@ fn add_segment(list: &mut PlainList, seg: &SegRec) -> Result<(), OutOfMemory>
 }
 
 /// The contents of the elements of a segment.
-///
-/// Returns `OutOfMemory` where there is no room for them.
 fn segment_contents(alloc: Global, seg: &Seg) -> Result<Vec<Content>, OutOfMemory>
     ensures { IfOk result (λ v. map content_of v.items ≡ segment_bodies seg.now) }
 {

@@ -35,8 +35,6 @@ pub fn author_of(by: Option<Stamp>) -> Mark
 }
 
 /// The stamps as marks.
-///
-/// Returns `OutOfMemory` where there is no room for them.
 pub fn marks_of(alloc: Global, stamps: &[Stamp]) -> Result<Marks, OutOfMemory>
     ensures { IfOk result (λ marks. marks ≡ map mark_of stamps.now) }
 {
@@ -58,8 +56,6 @@ pub fn stamp_of(mark: Mark) -> Stamp
 }
 
 /// The marks as stamps.
-///
-/// Returns `OutOfMemory` where there is no room for them.
 pub fn stamps_of(alloc: Global, marks: &[Mark]) -> Result<Stamps, OutOfMemory>
     ensures { IfOk result (λ stamps. stamps ≡ map stamp_of marks.now) }
 {

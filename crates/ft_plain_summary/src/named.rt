@@ -14,8 +14,6 @@ use ft_sumdoc::{CellRec, IntervalRec};
 use std::alloc::Global;
 
 /// The names of the unremoved elements in order.
-///
-/// Returns `OutOfMemory` where there is no room for them.
 fn unremoved_names(alloc: Global, items: &[PlainElement]) -> Result<Vec<ElementName>, OutOfMemory>
     ensures { IfOk result (λ names. names.items ≡ unremoved_names items.now) }
 {
@@ -29,8 +27,6 @@ fn unremoved_names(alloc: Global, items: &[PlainElement]) -> Result<Vec<ElementN
 }
 
 /// The intervals on the unremoved elements at their numbers.
-///
-/// Returns `OutOfMemory` where there is no room for them.
 pub fn intervals_of(
     alloc: Global,
     items: &[PlainElement],
@@ -43,8 +39,6 @@ pub fn intervals_of(
 }
 
 /// The intervals on the elements of these names.
-///
-/// Returns `OutOfMemory` where there is no room for them.
 fn named_intervals(
     alloc: Global,
     names: &[ElementName],
@@ -60,8 +54,6 @@ fn named_intervals(
 }
 
 /// The interval on the elements of these names.
-///
-/// Returns `OutOfMemory` where there is no room for it.
 fn named_interval(names: &[ElementName], rec: &IntervalRec) -> Result<PlainInterval, OutOfMemory>
     ensures { IfOk result (λ interval. interval ≡ named_interval names.now rec.now) }
 {
@@ -90,8 +82,6 @@ fn name_at(names: &[ElementName], i: u64) -> Option<ElementName>
 }
 
 /// The cells on the unremoved rows and columns at their numbers.
-///
-/// Returns `OutOfMemory` where there is no room for them.
 pub fn cells_of(
     alloc: Global,
     rows: &[PlainElement],
@@ -106,8 +96,6 @@ pub fn cells_of(
 }
 
 /// The cells of the rows and columns of these names.
-///
-/// Returns `OutOfMemory` where there is no room for them.
 fn named_cells(
     alloc: Global,
     rows: &[ElementName],
@@ -126,8 +114,6 @@ fn named_cells(
 }
 
 /// Adds the cell of the row and the column, if both are there.
-///
-/// Returns `OutOfMemory` where there is no room for it.
 fn push_cell(
     cells: &mut PlainCells,
     row: Option<ElementName>,

@@ -40,8 +40,6 @@ impl Model for OpenSegment {
 
 impl OpenSegment {
     /// The segment of an element with these removals.
-    ///
-    /// Returns `OutOfMemory` where there is no room for it.
     fn new(alloc: Global, e: &PlainElement, dels: Marks) -> Result<OpenSegment, OutOfMemory>
         requires { dels ≡ map mark_of e.now.dels }
         ensures { IfOk result (λ seg. seg ≡ segment_of e.now) }
@@ -78,8 +76,6 @@ impl OpenSegment {
     }
 
     /// The segment with one more element.
-    ///
-    /// Returns `OutOfMemory` where there is no room for it.
     fn joined(self, content: Content) -> Result<OpenSegment, OutOfMemory>
         requires { are_characters self.body (element_body (content_of content)) ≡ true }
         ensures { IfOk result (λ seg. seg ≡ record self { body = joined_bodies self.body (element_body (content_of content)) }) }
@@ -128,8 +124,6 @@ fn reference_type(content: Content) -> Option<u64>
 }
 
 /// The segments of elements.
-///
-/// Returns `OutOfMemory` where there is no room for them.
 pub fn text_segments(alloc: Global, items: &[PlainElement]) -> Result<SegRecs, OutOfMemory>
     ensures { IfOk result (λ segs. segs ≡ segments_from 0 items.now) }
 {
@@ -146,8 +140,6 @@ pub fn text_segments(alloc: Global, items: &[PlainElement]) -> Result<SegRecs, O
 
 /// The segment that is open after the element; one that ends before it is added. A chunk `begins` with the
 /// element or doesn't.
-///
-/// Returns `OutOfMemory` where there is no room for them.
 fn extend(
     segs: &mut SegRecs,
     last: Option<OpenSegment>,

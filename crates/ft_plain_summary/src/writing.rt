@@ -12,8 +12,6 @@ use ft_plain_lists::shown_intervals::shown_intervals;
 use ft_sumdoc::{SumDoc, Texts};
 
 /// The summary of the document, with the names of the connections that it knows.
-///
-/// Returns `OutOfMemory` where there is no room for it.
 pub fn summary_of(doc: &PlainDocument, conns: Texts) -> Result<SumDoc, OutOfMemory>
     ensures { IfOk result (λ sum. sum ≡ summary_of conns doc.now) }
 {

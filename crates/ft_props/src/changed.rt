@@ -63,8 +63,6 @@ pub fn make_changes(props: &mut Props, changes: &Changes) -> Result<(), OutOfMem
 
 impl Props {
     /// The properties with each key of the set put, where null takes the key away.
-    ///
-    /// Returns `OutOfMemory` where there is no room for them.
     pub fn applied(&self, set: &PropSet) -> Result<Props, OutOfMemory>
         ensures { IfOk result (λ props. props ≡ apply self.now set.now) }
     {
@@ -76,8 +74,6 @@ impl Props {
 
     /// The properties with the changes made: first each key is set, and then each adjustment is
     /// made, of 0 where the key has no whole number.
-    ///
-    /// Returns `OutOfMemory` where there is no room for them.
     pub fn changed(&self, changes: &Changes) -> Result<Props, OutOfMemory>
         ensures { IfOk result (λ props. props ≡ change self.now changes.now) }
     {

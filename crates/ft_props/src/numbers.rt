@@ -71,8 +71,6 @@ fn adjusted_number(number: i64, adjust: &Adjust) -> i64
 }
 
 /// The value with the adjustment made, where a value that is no whole number counts as 0.
-///
-/// Returns `OutOfMemory` where there is no room for it.
 pub fn adjusted_value(
     alloc: Global,
     value: Option<&ValText>,

@@ -102,8 +102,6 @@ fn is_same_pending(mine: &[(u64, Changes)], theirs: &[(u64, Changes)]) -> bool
 
 impl Ahead {
     /// The changes of one stage alone.
-    ///
-    /// Returns `OutOfMemory` where there is no room for them.
     fn first(
         alloc: Global,
         acked: &Props,
@@ -191,8 +189,6 @@ impl Ahead {
     }
 
     /// Equal changes.
-    ///
-    /// Returns `OutOfMemory` where there is no room for them.
     fn copy(&self) -> Result<Box<Ahead>, OutOfMemory>
         ensures pending { IfOk result (λ b. b.value.pending.items ≡ self.now.pending.items) }
         ensures shown { IfOk result (λ b. b.value.shown ≡ self.now.shown) }
@@ -325,8 +321,6 @@ impl Overlay {
     }
 
     /// All that is shown.
-    ///
-    /// Returns `OutOfMemory` where there is no room for it.
     pub fn shown(&self) -> Result<Props, OutOfMemory>
         ensures { IfOk result (λ props. props ≡ shown_of self.now) }
     {

@@ -4,7 +4,7 @@
 //! A call asks the tree for the leaves of which a stage has something, and for the place of each, which passes the pending
 //! leaves left of it. None walks along all leaves.
 //!
-//! A call that can't return `OutOfMemory` takes no memory.
+//! A call that can't return `OutOfMemory` takes no memory; one that can returns it where there is no room.
 #![tactic(auto)]
 
 mod marks;

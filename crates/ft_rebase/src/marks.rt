@@ -37,8 +37,6 @@ fn has_mark<C: Content>(tree: &Tree<C>, leaf: NodeId, stage: u64, mark: Mark) ->
 
 /// The maximal runs of elements with this mark of the stage among those that the stage before sees. It goes to the leaves
 /// that the stage touched, and finds the place of each that has seen elements with the mark.
-///
-/// Returns `OutOfMemory` where there is no room for them.
 pub(crate) fn marked_runs<C: Content>(
     tree: &Tree<C>,
     stage: u64,

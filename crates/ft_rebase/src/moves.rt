@@ -29,8 +29,6 @@ pub struct StageMove {
 /// Moves the leaves of pending insertions to where the order will put them: stage after stage, each behind as many
 /// elements that the stage before sees as stood left of it before any move. The elements of each stage stand side by side
 /// in its view. Every leaf keeps its node, and every reference its element.
-///
-/// Returns `OutOfMemory` where there is no room for it.
 pub(crate) fn move_stages<C: Content>(tree: &mut Tree<C>) -> Result<(), OutOfMemory>
 where
     C: Drop,
@@ -60,8 +58,6 @@ where
 }
 
 /// The moves of all pending insertion stages in rising order. Their positions are those before any of them is made.
-///
-/// Returns `OutOfMemory` where there is no room for them.
 pub(crate) fn stage_moves<C: Content>(tree: &Tree<C>) -> Result<Vec<StageMove>, OutOfMemory>
     requires { IsTrue tree.now.usable }
     ensures { IfOk result (λ v. AreMoves C.units 0 v.items tree.now.leaves) }
@@ -96,8 +92,6 @@ fn leaf_before<C: Content>(tree: &Tree<C>, position: u64, stage: u64) -> Option<
 
 /// Moves the leaves that the stage inserted, side by side, behind the first `position` elements that the stage before
 /// sees, which end a leaf.
-///
-/// Returns `OutOfMemory` where there is no room for it.
 pub(crate) fn put_stage<C: Content>(
     tree: &mut Tree<C>,
     stage: u64,
@@ -126,8 +120,6 @@ where
 }
 
 /// Moves a leaf directly after another, or to the head.
-///
-/// Returns `OutOfMemory` where there is no room for it.
 fn move_behind<C: Content>(
     tree: &mut Tree<C>,
     leaf: NodeId,

@@ -57,8 +57,6 @@ where
 }
 
 /// Takes what is pending off the leaves that are gone, and moves those of pending insertions.
-///
-/// Returns `OutOfMemory` where there is no room for it.
 fn carry_and_move<C: Content>(tree: &mut Tree<C>) -> Result<(), OutOfMemory>
 where
     C: Drop,
@@ -109,8 +107,6 @@ fn has_pending<C: Content>(tree: &Tree<C>, leaf: NodeId) -> bool
 }
 
 /// Takes what is pending off a leaf whose insertion and a removal of it are sequenced.
-///
-/// Returns `OutOfMemory` where there is no room for what is left.
 fn carry_leaf<C: Content>(tree: &mut Tree<C>, leaf: NodeId) -> Result<(), OutOfMemory>
     requires usable { IsTrue tree.old.usable }
     requires live { IsLeafIn tree.old.leaves leaf }
@@ -130,8 +126,6 @@ fn carry_leaf<C: Content>(tree: &mut Tree<C>, leaf: NodeId) -> Result<(), OutOfM
 
 /// Takes what is pending off the leaves of which the stage has something and whose insertion and a removal of it are
 /// sequenced.
-///
-/// Returns `OutOfMemory` where there is no room for what is left.
 fn carry_stage<C: Content>(tree: &mut Tree<C>, stage: u64) -> Result<(), OutOfMemory>
     requires { IsTrue tree.old.usable }
     ensures leaves { OnOk result (tree.new.leaves ≡ map (carried_by stage) tree.old.leaves) }
@@ -150,8 +144,6 @@ fn carry_stage<C: Content>(tree: &mut Tree<C>, stage: u64) -> Result<(), OutOfMe
 
 /// Takes what is pending off all leaves whose insertion and a removal of it are sequenced. Then no stage lists a leaf of which
 /// it has nothing.
-///
-/// Returns `OutOfMemory` where there is no room for what is left.
 fn carry_leaves<C: Content>(tree: &mut Tree<C>) -> Result<(), OutOfMemory>
     requires { IsTrue tree.old.usable }
     ensures leaves { OnOk result (tree.new.leaves ≡ map carried_pair tree.old.leaves) }

@@ -27,8 +27,6 @@ pub enum Piece {
 /// before sees, and one piece for each run of elements there that it marks, leftmost first, with positions as after the
 /// earlier pieces. Where nothing of the stage is left there are none. It goes to the leaves that the stage touched, once for each
 /// kind of piece, and finds the place of each.
-///
-/// Returns `OutOfMemory` where there is no room for them.
 pub fn regenerate<C: Content>(tree: &Tree<C>, stage: u64) -> Result<Vec<Piece>, OutOfMemory>
     requires { IsTrue tree.now.usable }
     ensures { IfOk result (λ v. v.items ≡ pieces stage (elements C.units C.by tree.now.leaves)) }
@@ -45,8 +43,6 @@ pub fn regenerate<C: Content>(tree: &Tree<C>, stage: u64) -> Result<Vec<Piece>, 
 }
 
 /// Adds a removal of each run, with its position as after those before it.
-///
-/// Returns `OutOfMemory` where there is no room for them.
 fn push_removals(pieces: &mut Vec<Piece>, runs: &[(u64, u64)]) -> Result<(), OutOfMemory>
     requires { RunsRise 0 runs.now }
     ensures { OnOk result (pieces.new.items ≡ pieces.old.items ++ map (λ r. Piece.Remove r.0 r.1) (lowered_runs 0 runs.now)) }
@@ -63,8 +59,6 @@ fn push_removals(pieces: &mut Vec<Piece>, runs: &[(u64, u64)]) -> Result<(), Out
 }
 
 /// Adds an annotation of each run.
-///
-/// Returns `OutOfMemory` where there is no room for them.
 fn push_annotations(pieces: &mut Vec<Piece>, runs: &[(u64, u64)]) -> Result<(), OutOfMemory>
     ensures { OnOk result (pieces.new.items ≡ pieces.old.items ++ map (λ r. Piece.Annotate r.0 r.1) runs.now) }
 {

@@ -27,8 +27,6 @@ pub fn stage_position<C: Content>(tree: &Tree<C>, leaf: NodeId, stage: u64) -> u
 }
 
 /// The leaves that the stage inserted, in order. It goes to those that the stage touched.
-///
-/// Returns `OutOfMemory` where there is no room for them.
 pub(crate) fn inserted_leaves<C: Content>(
     tree: &Tree<C>,
     stage: u64,
@@ -49,8 +47,6 @@ pub(crate) fn inserted_leaves<C: Content>(
 
 /// How many elements that the stage before sees stand left of the first one that the stage inserted: None exactly
 /// where it inserted none that is there.
-///
-/// Returns `OutOfMemory` where there is no room for the leaves that it inserted.
 pub(crate) fn insertion_position<C: Content>(
     tree: &Tree<C>,
     stage: u64,

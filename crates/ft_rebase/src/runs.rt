@@ -6,8 +6,6 @@ ghost use Rattle.ft_rebase.specs.MarkedRuns.{continued, with_run};
 use ft_base::OutOfMemory;
 
 /// Adds a run at the end: it is joined to the last one where that ends where it begins.
-///
-/// Returns `OutOfMemory` where there is no room for it.
 pub(crate) fn push_run(runs: &mut Vec<(u64, u64)>, start: u64, end: u64) -> Result<(), OutOfMemory>
     ensures { OnOk result ((more : List (ℕ × ℕ)) → continued runs.new.items more ≡ continued runs.old.items (with_run (start, end) more)) }
 {

@@ -20,8 +20,6 @@ use std::alloc::Global;
 
 /// What is told of an event that writes this: nothing, the lines of a client's view, or values, one a
 /// line. Each line has its LF.
-///
-/// Returns `OutOfMemory` where there is no room for the lines.
 pub fn told_output(alloc: Global, out: &Out) -> Result<Told, OutOfMemory>
     ensures text { (w : NaiveWorld) (output : Output) → Tells output out.now
         → IfOk result (λ told. told_text told ≡ bytes_of (output_lines as_shown w output)) }
@@ -65,8 +63,6 @@ fn head_text(alloc: Global, name: &Text, view: &View) -> Result<String, OutOfMem
 }
 
 /// That line up to the numbers, of the client of this name and link.
-///
-/// Returns `OutOfMemory` where there is no room for it.
 pub fn name_and_link(alloc: Global, name: &Text, link: Link) -> Result<String, OutOfMemory>
     ensures { IfOk result (λ text. string_bytes text ≡ codes "client " ++ (json_string name.now ++ (codes " " ++ link_word link))) }
 {

@@ -10,7 +10,7 @@
 //! Clients and observers are of the type `R` that the caller names, any `Replica` of `ft_msg`. Two of them write
 //! the same, since each writes what the definitions say.
 //!
-//! Only a call that can return `OutOfMemory` takes memory.
+//! A call that can't return `OutOfMemory` takes no memory; one that can returns it where there is no room.
 #![tactic(auto)]
 
 mod endings;

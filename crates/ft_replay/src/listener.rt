@@ -42,8 +42,6 @@ pub trait Listener: Sized + Drop {
     ghost size: { Self → ℕ };
 
     /// A listener before the first line.
-    ///
-    /// Returns `OutOfMemory` where there is no room for it.
     fn start(alloc: Global) -> Result<Self, OutOfMemory>
         ensures first { IfOk result (λ a. holds a form.first) }
         ensures size { IfOk result (λ a. size a ≤ input_limit) };
@@ -65,8 +63,6 @@ pub trait Listener: Sized + Drop {
         ensures size { IfOk result (λ p. size p.0 ≤ size self + 1) };
 
     /// The lines that show at the end what was made, each with its LF.
-    ///
-    /// Returns `OutOfMemory` where there is no room for them.
     fn view_text(&self) -> Result<String, OutOfMemory>
         ensures { (made : Made) → holds self.now made → IfOk result (λ text. string_bytes text ≡ bytes_of (form.shown made)) };
 

@@ -18,8 +18,6 @@ use ft_msg::Numbers;
 use std::alloc::Global;
 
 /// What is told of an event that writes this: nothing, the lines of a client's view, or the line of its summary. Each line has its LF.
-///
-/// Returns `OutOfMemory` where there is no room for the lines.
 pub fn told_map_output(alloc: Global, out: &MapOut) -> Result<Told, OutOfMemory>
     ensures text { (output : MapOutput) → Tells output out.now → IfOk result (λ told. told_text told ≡ bytes_of (output_lines output)) }
     ensures taken { IfOk result (λ told. told_refusal told ≡ None) }

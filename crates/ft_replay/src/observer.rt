@@ -82,8 +82,6 @@ impl<R: Replica + Drop> Listener for Observer<R> {
 
 impl<R: Replica + Drop> Observer<R> {
     /// The observer that starts from a summary.
-    ///
-    /// Returns `OutOfMemory` where there is no room for it.
     pub fn of_summary(alloc: Global, sum: &SumDoc) -> Result<Observer<R>, OutOfMemory>
         requires valid { IsValidSummary sum.now }
         requires few { length sum.now.conns < 2 ^ 32 }

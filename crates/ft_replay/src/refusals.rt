@@ -9,8 +9,6 @@ use ft_seqr::Refusal;
 use std::alloc::Global;
 
 /// What is written of a refused line, with its LF.
-///
-/// Returns `OutOfMemory` where there is no room for it.
 pub fn refused_line(alloc: Global, line: u64, refusal: Refusal) -> Result<String, OutOfMemory>
     ensures { IfOk result (λ text. string_bytes text ≡ with_lf (refused_line line refusal)) }
 {

@@ -29,8 +29,6 @@ pub struct Replay<L: Listener> {
 
 impl<L: Listener> Replay<L> {
     /// An input before its first line.
-    ///
-    /// Returns `OutOfMemory` where there is no room for its listener.
     pub fn new(alloc: Global) -> Result<Replay<L>, OutOfMemory>
         ensures { IfOk result (λ replay. Follows (L.holds replay.listener) replay.lines replay.refused (begin L.form.first)) }
     {

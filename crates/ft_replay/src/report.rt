@@ -14,8 +14,6 @@ use std::alloc::Global;
 
 /// The last lines: how many lines were refused, how many sub-operations were skipped, and how many
 /// messages were for others. Each has its LF.
-///
-/// Returns `OutOfMemory` where there is no room for them.
 #[tactic(auto, unfolding(ft_seqr::specs::SessionReport::closing_lines))]
 pub fn closing_text(alloc: Global, refused: u64, counts: Counts) -> Result<String, OutOfMemory>
     ensures { (doc : Document) → counts ≡ counts_in doc → IfOk result (λ text. string_bytes text ≡ bytes_of (closing_lines refused doc)) }
@@ -26,8 +24,6 @@ pub fn closing_text(alloc: Global, refused: u64, counts: Counts) -> Result<Strin
 }
 
 /// The last lines of a form that may tell no counts. Each has its LF.
-///
-/// Returns `OutOfMemory` where there is no room for them.
 pub fn last_text(alloc: Global, refused: u64, counts: Option<Counts>) -> Result<String, OutOfMemory>
     ensures { (doc : Option Document) → counts ≡ counts_of doc → IfOk result (λ text. string_bytes text ≡ bytes_of (last_lines refused doc)) }
 {

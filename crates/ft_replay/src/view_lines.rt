@@ -14,8 +14,6 @@ use ft_sumdoc::{CellRec, IntervalRec};
 use std::alloc::Global;
 
 /// The lines of a view: its numbers, and what it shows. Each has its LF.
-///
-/// Returns `OutOfMemory` where there is no room for them.
 pub fn view_text(alloc: Global, view: &View) -> Result<String, OutOfMemory>
     ensures { IfOk result (λ text. string_bytes text ≡ bytes_of (numbers_line view.now.numbers ∷ content_lines (view_content view.now))) }
 {
@@ -26,8 +24,6 @@ pub fn view_text(alloc: Global, view: &View) -> Result<String, OutOfMemory>
 
 /// Adds the lines of what a view shows: its text, its markers, the runs of properties, the intervals,
 /// the counts of rows and columns where there are any, and the cells. Each has its LF.
-///
-/// Returns `OutOfMemory` where there is no room for them.
 #[tactic(auto, unfolding(ft_seqr::specs::ViewLines::content_lines))]
 pub fn push_content(alloc: Global, text: &mut String, view: &View) -> Result<(), OutOfMemory>
     ensures { OnOk result (string_bytes text.new ≡ string_bytes text.old ++ bytes_of (content_lines (view_content view.now))) }

@@ -108,14 +108,10 @@ pub trait OwnDocument: Sized + Drop {
     const COMPACTS: bool;
 
     /// The empty document at number 0.
-    ///
-    /// Returns `OutOfMemory` where there is no room for it.
     fn start(alloc: Global) -> Result<Self, OutOfMemory>
         ensures { IfOk result (λ d. holds d (record { doc = empty; stages = []; last = 0; low = 0 })) };
 
     /// The document of a summary.
-    ///
-    /// Returns `OutOfMemory` where there is no room for it.
     fn from_summary(alloc: Global, sum: &SumDoc) -> Result<Self, OutOfMemory>
         requires { IsValidSummary sum.now }
         ensures { IfOk result (λ d. holds d (record { doc = doc_of sum.now; stages = []; last = 0; low = sum.now.min })) };
@@ -183,8 +179,6 @@ pub trait OwnDocument: Sized + Drop {
             → IfOk result (λ v. (v.items ≡ map (resent (with_numbers entry.now held.doc)) edits) × holds self.new (rejoined entry.now held)) };
 
     /// All that is shown at the last stage, with these numbers.
-    ///
-    /// Returns `OutOfMemory` where there is no room for it.
     fn view(&self, last: u64, numbers: Numbers) -> Result<View, OutOfMemory>
         requires { HoldsOne holds self.now (λ p. p.last_stage ≡ last) }
         ensures numbers { IfOk result (λ v. v.numbers ≡ numbers) }
@@ -192,8 +186,6 @@ pub trait OwnDocument: Sized + Drop {
             → IfOk result (λ v. view_content v ≡ content p) };
 
     /// Who inserted each element of the text that is shown at the last stage.
-    ///
-    /// Returns `OutOfMemory` where there is no room for that.
     fn origins(&self, last: u64) -> Result<Attribution, OutOfMemory>
         requires { HoldsOne holds self.now (λ p. p.last_stage ≡ last) }
         ensures { (low : ℕ) (p : NaiveClient) → IsWellNamed p → p.last_stage ≡ last → holds self.now (held_by low p)
@@ -209,16 +201,12 @@ pub trait OwnDocument: Sized + Drop {
         ensures small { (held : HeldDocument) → NamesFit held → holds self.now held → OnOk result (IsSmall held.doc) };
 
     /// Takes away all elements that were removed at or below the floor `seq`, where `COMPACTS`.
-    ///
-    /// Returns `OutOfMemory` where there is no room for that.
     fn compact(&mut self, seq: u64) -> Result<(), OutOfMemory>
         requires { HoldsOne holds self.old (λ p. floor p ≡ seq) }
         ensures compacts { (low : ℕ) (p : NaiveClient) → IsWellNamed p → floor p ≡ seq → holds self.old (held_by low p) → OnOk result (Compacts holds self.new p) }
         ensures full { IsTrue COMPACTS → OnOk result (HasNoTombstone seq (shown self.new).content) };
 
     /// Takes away some of them, which needs little time: called again and again, all of them.
-    ///
-    /// Returns `OutOfMemory` where there is no room for that.
     fn tidy(&mut self, seq: u64) -> Result<(), OutOfMemory>
         requires { HoldsOne holds self.old (λ p. floor p ≡ seq) }
         ensures { (low : ℕ) (p : NaiveClient) → IsWellNamed p → floor p ≡ seq → holds self.old (held_by low p) → OnOk result (Compacts holds self.new p) };

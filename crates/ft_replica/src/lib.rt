@@ -1,6 +1,6 @@
 //! A client, written once over any document that keeps its own pending stages.
 //!
-//! A call that can't return `OutOfMemory` takes no memory.
+//! A call that can't return `OutOfMemory` takes no memory; one that can returns it where there is no room.
 #![tactic(auto)]
 
 pub mod connections;

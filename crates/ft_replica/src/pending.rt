@@ -193,8 +193,6 @@ impl PendingEdits {
     }
 
     /// How many stages each has.
-    ///
-    /// Returns `OutOfMemory` where there is no room for that.
     pub fn counts(&self, alloc: Global) -> Result<Vec<usize>, OutOfMemory>
         ensures { IfOk result (λ v. v.items ≡ map (λ e. e.count) self.now) }
     {

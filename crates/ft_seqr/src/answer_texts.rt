@@ -24,8 +24,6 @@ use std::alloc::Global;
 
 /// The text of an interval that meets a range: the array of its id, its ends and its properties, where
 /// a value of more than 127 levels is null.
-///
-/// Returns `OutOfMemory` where there is no room for it.
 pub fn overlap_text(alloc: Global, interval: &IntervalRec) -> Result<ValText, OutOfMemory>
     ensures { IfOk result (λ text. text ≡ compact_text (written_overlap interval.now)) }
 {
@@ -87,8 +85,6 @@ fn value_of(alloc: Global, text: &ValText) -> Result<Value, OutOfMemory>
 
 /// The text of a run of characters of one origin: by whom, where it ends, the number of the message,
 /// and where it starts.
-///
-/// Returns `OutOfMemory` where there is no room for it.
 pub fn origin_run_text(alloc: Global, names: &Names, run: &AttrRun) -> Result<ValText, OutOfMemory>
     ensures { IfOk result (λ text. text ≡ compact_text (written_origin_run names.now run.now)) }
 {
@@ -154,8 +150,6 @@ fn origin_number(who: Origin) -> Value
 
 /// The texts of how many characters each connection inserted, then how many nobody known, then how
 /// many are pending; each only where there are some.
-///
-/// Returns `OutOfMemory` where there is no room for them.
 pub fn author_texts(
     alloc: Global,
     names: &Names,

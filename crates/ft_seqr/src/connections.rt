@@ -30,8 +30,6 @@ pub fn wanted_count(count: HowMany, have: u64) -> Option<u64>
 }
 
 /// The name of the k-th connection of a client or guest.
-///
-/// Returns `OutOfMemory` where there is no room for it.
 pub fn connection_name(alloc: Global, name: &Text, k: u64) -> Result<Text, OutOfMemory>
     ensures { IfOk result (λ text. text ≡ connection_name name.now k) }
 {

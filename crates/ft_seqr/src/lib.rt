@@ -1,4 +1,6 @@
 //! The sequencer, which gives messages their numbers, and the events of a session.
+//!
+//! A call that can return `OutOfMemory` returns it where there is no room.
 #![tactic(auto)]
 
 pub mod answer_texts;

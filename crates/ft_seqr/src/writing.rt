@@ -21,8 +21,6 @@ use std::alloc::Global;
 
 /// The one text of an event: compact, with the keys of each object in rising order of their bytes. It
 /// reads back as the same event.
-///
-/// Returns `OutOfMemory` where there is no room for it.
 pub fn write_event(alloc: Global, event: &Event) -> Result<ValText, OutOfMemory>
     requires { IsWellFormedEvent event.now }
     ensures { IfOk result (λ text. text ≡ compact_text (written_event event.now)) }

@@ -113,8 +113,6 @@ fn read_offer(alloc: Global, text: &Text) -> Result<Message, Refusal>
 }
 
 /// The replica processes entries of the log.
-///
-/// Returns `OutOfMemory` where there is no room for one.
 fn process_all<R: Replica>(replica: &mut R, entries: &[Entry]) -> Result<(), Refusal>
     requires { CanProcess (R.state replica.old) entries.now }
     ensures ok { (x y : NaiveClient) → Processes (R.state replica.old) entries.now x y → OnOk result (HasProcessed (R.state replica.old) (R.state replica.new) entries.now y) }
@@ -127,8 +125,6 @@ fn process_all<R: Replica>(replica: &mut R, entries: &[Entry]) -> Result<(), Ref
 }
 
 /// The replica processes an entry of the log.
-///
-/// Returns `OutOfMemory` where there is no room for it.
 fn process_one<R: Replica>(replica: &mut R, entry: &Entry) -> Result<(), Refusal>
     requires { CanProcess (R.state replica.old) (entry.now ∷ []) }
     ensures ok { (x y : NaiveClient) → Processes (R.state replica.old) (entry.now ∷ []) x y → OnOk result (HasProcessed (R.state replica.old) (R.state replica.new) (entry.now ∷ []) y) }

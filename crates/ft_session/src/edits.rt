@@ -59,8 +59,6 @@ pub(crate) fn compact<R: Replica>(member: &mut Member<R>, service: &Service) -> 
 }
 
 /// So many of the replica's oldest unsent messages are submitted for its connection.
-///
-/// Returns `OutOfMemory` where there is no room for a message.
 fn submit_oldest<R: Replica>(
     replica: &mut R,
     service: &mut Service,
@@ -80,8 +78,6 @@ fn submit_oldest<R: Replica>(
 }
 
 /// The replica's oldest unsent message, if there is one, is submitted for its connection.
-///
-/// Returns `OutOfMemory` where there is no room for it.
 fn submit_next<R: Replica>(replica: &mut R, service: &mut Service, conn: u32) -> Result<(), Refusal>
     requires { CanSubmit service.old conn (take 1 (R.state replica.old).client.queue) }
     ensures service { (w : NaiveWorld) (v : NaiveWorld) → service.old ≡ service_of w → submit_all w conn (take 1 (R.state replica.old).client.queue) ≡ Ok v

@@ -1,4 +1,6 @@
 //! Sessions: worlds of clients and guests over one sequencer, and what their events write.
+//!
+//! A call that can return `OutOfMemory` returns it where there is no room.
 #![tactic(auto)]
 
 mod asked;

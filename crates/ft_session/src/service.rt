@@ -59,8 +59,6 @@ impl Service {
     }
 
     /// The next connection, under this name, joins.
-    ///
-    /// Returns `OutOfMemory` where there is no room for its message.
     pub(crate) fn join(&mut self, name: &Text) -> Result<(), Refusal>
         requires few { length self.old.names < 2 ^ 32 - 1 }
         requires new { IsNewName self.old.names name.now }

@@ -47,8 +47,6 @@ fn next_up_to(intervals: &Collections, ops: &VecDeque<PendingOp>, last: u64) -> 
 }
 
 /// Acknowledges a stage, which is the lowest.
-///
-/// Returns `OutOfMemory` where there is no room for what it makes.
 fn ack_stage(
     tree: &mut Tree<TextContent>,
     intervals: &mut Collections,
@@ -71,8 +69,6 @@ fn ack_stage(
 }
 
 /// Acknowledges the pending stages up to the last one, from the lowest on.
-///
-/// Returns `OutOfMemory` where there is no room for what they make.
 fn ack_all(
     tree: &mut Tree<TextContent>,
     intervals: &mut Collections,

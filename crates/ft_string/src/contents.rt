@@ -23,8 +23,6 @@ use std::alloc::Global;
 use std::sync::ledger::Ledger;
 
 /// The contents of the leaves of a segment, in order.
-///
-/// Returns `OutOfMemory` where there is no room for them.
 pub(crate) fn contents_of(alloc: Global, seg: &Seg) -> Result<Vec<TextContent>, OutOfMemory>
     ensures units { IfOk result (λ v. flat_map text_units v.items ≡ segment_contents seg.now) }
     ensures new { IfOk result (λ v. are_new v.items ≡ true) }
@@ -41,8 +39,6 @@ pub(crate) fn contents_of(alloc: Global, seg: &Seg) -> Result<Vec<TextContent>, 
 }
 
 /// Adds a character to a run.
-///
-/// Returns `OutOfMemory` where there is no room for it.
 pub(crate) fn push_character(run: &mut String, c: char) -> Result<(), OutOfMemory>
     ensures { OnOk result (chars (string_bytes run.new) ≡ chars (string_bytes run.old) ++ c ∷ []) }
 {
@@ -51,8 +47,6 @@ pub(crate) fn push_character(run: &mut String, c: char) -> Result<(), OutOfMemor
 }
 
 /// The content of a leaf with these characters.
-///
-/// Returns `OutOfMemory` where there is no room for it.
 fn run_of(alloc: Global, characters: &[char]) -> Result<TextContent, OutOfMemory>
     requires { IsTextRun characters.now }
     ensures { IfOk result (λ content. content ≡ new_text (Run characters.now)) }
@@ -77,8 +71,6 @@ fn run_length(count: usize) -> usize
 }
 
 /// The characters as runs of as many as a leaf may have, but for the last one.
-///
-/// Returns `OutOfMemory` where there is no room for them.
 fn runs_of(alloc: Global, text: &[char]) -> Result<Vec<TextContent>, OutOfMemory>
     ensures units { IfOk result (λ v. flat_map text_units v.items ≡ map Character text.now) }
     ensures new { IfOk result (λ v. are_new v.items ≡ true) }
@@ -95,8 +87,6 @@ fn runs_of(alloc: Global, text: &[char]) -> Result<Vec<TextContent>, OutOfMemory
 }
 
 /// The characters of a text.
-///
-/// Returns `OutOfMemory` where there is no room for them.
 pub(crate) fn characters(alloc: Global, text: &str) -> Result<Vec<char>, OutOfMemory>
     ensures { IfOk result (λ v. v.items ≡ chars text.now) }
 {

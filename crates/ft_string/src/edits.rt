@@ -63,8 +63,6 @@ fn take_op<G: Ledger>(
 }
 
 /// Makes an operation at a pending stage, and notes it.
-///
-/// Returns `OutOfMemory` where there is no room for it.
 fn take_noted<G: Ledger>(
     tree: &mut Tree<TextContent>,
     pending: &mut VecDeque<PendingOp>,
@@ -91,8 +89,6 @@ fn take_noted<G: Ledger>(
 }
 
 /// Makes operations one after another, each at the next stage, and notes them.
-///
-/// Returns `OutOfMemory` where there is no room for them.
 fn take_all<G: Ledger>(
     tree: &mut Tree<TextContent>,
     pending: &mut VecDeque<PendingOp>,

@@ -23,8 +23,6 @@ use std::collections::VecDeque;
 use std::mem;
 
 /// The piece as an operation: the original one at the places of now.
-///
-/// Returns `OutOfMemory` where there is no room for it.
 fn operation_of(op: &BaseOp, piece: Piece) -> Result<BaseOp, OutOfMemory>
     ensures { IfOk result (λ again. again ≡ piece_op op.now piece) }
 {
@@ -49,8 +47,6 @@ fn operation_of(op: &BaseOp, piece: Piece) -> Result<BaseOp, OutOfMemory>
 }
 
 /// Adds the operations that the pieces of an operation make.
-///
-/// Returns `OutOfMemory` where there is no room for them.
 fn push_pieces(op: &BaseOp, parts: &[Piece], again: &mut BaseOps) -> Result<(), OutOfMemory>
     ensures { OnOk result (again.new ≡ again.old ++ map (piece_op op.now) parts.now) }
 {
@@ -61,8 +57,6 @@ fn push_pieces(op: &BaseOp, parts: &[Piece], again: &mut BaseOps) -> Result<(), 
 }
 
 /// Adds the operations as which a pending operation is sent again, and returns whether there are any.
-///
-/// Returns `OutOfMemory` where there is no room for them.
 fn push_again(
     tree: &Tree<TextContent>,
     op: &PendingOp,
@@ -79,8 +73,6 @@ fn push_again(
 
 /// Takes the operations of the stages up to the last one from the front. Those of which something is sent again go behind `kept`;
 /// returns what is sent.
-///
-/// Returns `OutOfMemory` where there is no room for it.
 fn give_ops(
     tree: &Tree<TextContent>,
     ops: &mut VecDeque<PendingOp>,
@@ -110,8 +102,6 @@ fn next_due(ops: &mut VecDeque<PendingOp>, last: u64) -> Option<PendingOp>
 }
 
 /// Adds the operation, if it goes on.
-///
-/// Returns `OutOfMemory` where there is no room for it.
 fn keep_if(kept: &mut VecDeque<PendingOp>, op: PendingOp, goes_on: bool) -> Result<(), OutOfMemory>
     ensures { OnOk result (kept.new.items ≡ kept.old.items ++ cond goes_on (op ∷ []) []) }
 {
@@ -132,8 +122,6 @@ fn is_due(ops: &VecDeque<PendingOp>, last: u64) -> bool
 }
 
 /// The operation that these make: one bare, several as a group, none for none.
-///
-/// Returns `OutOfMemory` where there is no room for it.
 fn one_of(ops: BaseOps) -> Result<Option<TextOp>, OutOfMemory>
     ensures { IfOk result (λ op. op ≡ one_of ops) }
 {
@@ -150,8 +138,6 @@ fn one_of(ops: BaseOps) -> Result<Option<TextOp>, OutOfMemory>
 }
 
 /// What is sent again of the stages from `first` up to `last`.
-///
-/// Returns `OutOfMemory` where there is no room for it.
 fn give(
     tree: &mut Tree<TextContent>,
     intervals: &mut Collections,
@@ -173,8 +159,6 @@ fn give(
 }
 
 /// Adds what is in `back` to the end of `front`, and leaves nothing there.
-///
-/// Returns `OutOfMemory` where there is no room for it.
 fn join(front: &mut VecDeque<PendingOp>, back: &mut VecDeque<PendingOp>) -> Result<(), OutOfMemory>
     ensures { OnOk result (front.new.items ≡ front.old.items ++ back.old.items) }
 {

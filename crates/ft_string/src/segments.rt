@@ -89,8 +89,6 @@ fn author_of(by: Option<Stamp>) -> Mark
 }
 
 /// The stamps as marks.
-///
-/// Returns `OutOfMemory` where there is no room for them.
 fn marks_of(alloc: Global, stamps: &[Stamp]) -> Result<Marks, OutOfMemory>
     ensures { IfOk result (λ marks. marks ≡ map mark_of stamps.now) }
 {
@@ -152,8 +150,6 @@ fn same_stamps(ins: Mark, dels: &Marks, other_ins: Mark, other_dels: &Marks) -> 
 }
 
 /// The head of the segment of a leaf.
-///
-/// Returns `OutOfMemory` where there is no room for it.
 fn head_of(tree: &Tree<TextContent>, leaf: NodeId, min: u64) -> Result<Head, OutOfMemory>
     requires usable { IsTrue tree.now.usable }
     requires live { IsLeafIn tree.now.leaves leaf }
@@ -172,8 +168,6 @@ fn head_of(tree: &Tree<TextContent>, leaf: NodeId, min: u64) -> Result<Head, Out
 
 impl OpenSegment {
     /// The segment with this head of these characters, or of a marker.
-    ///
-    /// Returns `OutOfMemory` where there is no room for it.
     fn with_head(marker: Option<u64>, text: String, head: &Head) -> Result<OpenSegment, OutOfMemory>
         ensures { IfOk result (λ seg. seg ≡ headed head.now (body_of_parts marker (chars (string_bytes text)))) }
     {
@@ -190,8 +184,6 @@ impl OpenSegment {
     }
 
     /// The segment of a character.
-    ///
-    /// Returns `OutOfMemory` where there is no room for it.
     fn of_character(alloc: Global, c: char, head: &Head) -> Result<OpenSegment, OutOfMemory>
         ensures { IfOk result (λ seg. seg ≡ unit_segment head.now (Character c)) }
     {
@@ -201,8 +193,6 @@ impl OpenSegment {
     }
 
     /// The segment of a marker.
-    ///
-    /// Returns `OutOfMemory` where there is no room for it.
     fn of_marker(alloc: Global, ref_type: u64, head: &Head) -> Result<OpenSegment, OutOfMemory>
         ensures { IfOk result (λ seg. seg ≡ unit_segment head.now (MarkerOf ref_type)) }
     {
@@ -220,8 +210,6 @@ impl OpenSegment {
     }
 
     /// The segment with one more character.
-    ///
-    /// Returns `OutOfMemory` where there is no room for it.
     fn joined(self, c: char) -> Result<OpenSegment, OutOfMemory>
         requires { are_characters self.body (characters_of []) ≡ true }
         ensures { IfOk result (λ seg. seg ≡ record self { body = joined_bodies self.body (characters_of (c ∷ [])) }) }
@@ -260,8 +248,6 @@ impl OpenSegment {
 }
 
 /// The segment that is open after a character; one that ends before it is added. A chunk `begins` with the character or doesn't.
-///
-/// Returns `OutOfMemory` where there is no room for them.
 fn extend(
     segs: &mut SegRecs,
     last: Option<OpenSegment>,
@@ -283,8 +269,6 @@ fn extend(
 }
 
 /// Adds the open segment to the list, if there is one.
-///
-/// Returns `OutOfMemory` where there is no room for it.
 fn end(segs: &mut SegRecs, last: Option<OpenSegment>) -> Result<(), OutOfMemory>
     ensures none { OnOk result (last ≡ None → segs.new ≡ segs.old) }
     ensures some { OnOk result ((seg : SegRec) → last ≡ Some seg → segs.new ≡ segs.old ++ seg ∷ []) }
@@ -308,8 +292,6 @@ impl Segments {
     }
 
     /// Adds the elements of a leaf, but where it was removed at or below the minimum.
-    ///
-    /// Returns `OutOfMemory` where there is no room for them.
     pub(crate) fn add(
         &mut self,
         tree: &Tree<TextContent>,
@@ -328,8 +310,6 @@ impl Segments {
     }
 
     /// Adds the elements of a content.
-    ///
-    /// Returns `OutOfMemory` where there is no room for them.
     fn add_content(
         &mut self,
         content: &TextContent,
@@ -348,8 +328,6 @@ impl Segments {
     }
 
     /// Adds characters.
-    ///
-    /// Returns `OutOfMemory` where there is no room for them.
     fn add_characters(&mut self, text: &[char], head: &Head) -> Result<(), OutOfMemory>
         ensures { OnOk result (Adds (map (λ c. unit_segment head.now (Character c)) text.now) self.old self.new) }
     {
@@ -360,8 +338,6 @@ impl Segments {
     }
 
     /// Adds a character.
-    ///
-    /// Returns `OutOfMemory` where there is no room for it.
     fn add_character(&mut self, c: char, head: &Head) -> Result<(), OutOfMemory>
         ensures { OnOk result (Adds (unit_segment head.now (Character c) ∷ []) self.old self.new) }
     {
@@ -373,8 +349,6 @@ impl Segments {
     }
 
     /// Adds a marker.
-    ///
-    /// Returns `OutOfMemory` where there is no room for it.
     fn add_marker(&mut self, ref_type: u64, head: &Head) -> Result<(), OutOfMemory>
         ensures { OnOk result (Adds (unit_segment head.now (MarkerOf ref_type) ∷ []) self.old self.new) }
     {
@@ -387,8 +361,6 @@ impl Segments {
     }
 
     /// All segments.
-    ///
-    /// Returns `OutOfMemory` where there is no room for the last one.
     pub(crate) fn into_list(self) -> Result<SegRecs, OutOfMemory>
         ensures { IfOk result (λ segs. segs ≡ whole self []) }
     {
@@ -399,8 +371,6 @@ impl Segments {
 }
 
 /// The segments of the elements of a text, as a summary with this minimum has them.
-///
-/// Returns `OutOfMemory` where there is no room for them.
 pub(crate) fn segments_of(tree: &Tree<TextContent>, min: u64) -> Result<SegRecs, OutOfMemory>
     requires { IsTrue tree.now.usable }
     ensures { IfOk result (λ segs. segs ≡ joined_from 0 (segments_in min tree.now.leaves)) }

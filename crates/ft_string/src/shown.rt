@@ -71,8 +71,6 @@ impl Shown {
 }
 
 /// Adds the characters of a content.
-///
-/// Returns `OutOfMemory` where there is no room for them.
 fn push_text(text: &mut String, content: &TextContent) -> Result<(), OutOfMemory>
     ensures { OnOk result (chars (string_bytes text.new) ≡ chars (string_bytes text.old) ++ characters_of (text_units content.now)) }
 {
@@ -83,8 +81,6 @@ fn push_text(text: &mut String, content: &TextContent) -> Result<(), OutOfMemory
 }
 
 /// Adds the marker with its place, if the content is one.
-///
-/// Returns `OutOfMemory` where there is no room for it.
 fn push_marker(markers: &mut Spots, pos: u64, content: &TextContent) -> Result<(), OutOfMemory>
     ensures { OnOk result (markers.new ≡ markers.old ++ markers_of pos (text_units content.now)) }
 {
@@ -96,8 +92,6 @@ fn push_marker(markers: &mut Spots, pos: u64, content: &TextContent) -> Result<(
 
 /// Adds a run of properties, if they aren't empty: it goes on with the last one where that ends where it begins and has equal
 /// properties.
-///
-/// Returns `OutOfMemory` where there is no room for it.
 fn push_run(runs: &mut Vec<Run>, start: u64, end: u64, props: &Props) -> Result<(), OutOfMemory>
     ensures { OnOk result ((more : List Run) → continued runs.new.items more ≡ continued runs.old.items (with_properties start end props.now more)) }
 {
@@ -120,8 +114,6 @@ fn push_run(runs: &mut Vec<Run>, start: u64, end: u64, props: &Props) -> Result<
 }
 
 /// Adds a run behind the others.
-///
-/// Returns `OutOfMemory` where there is no room for it.
 fn begin_run(runs: &mut Vec<Run>, start: u64, end: u64, props: &Props) -> Result<(), OutOfMemory>
     ensures { OnOk result (runs.new.items ≡ runs.old.items ++ record { start = start; end = end; props = props.now } ∷ []) }
 {
@@ -156,8 +148,6 @@ fn add_leaf(tree: &Tree<TextContent>, leaf: NodeId, shown: &mut Shown) -> Result
 }
 
 /// What is shown of all elements.
-///
-/// Returns `OutOfMemory` where there is no room for it.
 fn show_all(tree: &Tree<TextContent>) -> Result<Shown, OutOfMemory>
     requires { IsTrue tree.now.usable }
     ensures { IfOk result (λ shown. ShowsLeaves tree.now.leaves shown) }
@@ -172,8 +162,6 @@ fn show_all(tree: &Tree<TextContent>) -> Result<Shown, OutOfMemory>
 }
 
 /// The items as a list.
-///
-/// Returns `OutOfMemory` where there is no room for them.
 pub(crate) fn listed<T: Drop>(alloc: Global, items: Vec<T>) -> Result<List<T>, OutOfMemory>
     ensures { IfOk result (λ list. list ≡ items.items) }
 {
@@ -185,8 +173,6 @@ pub(crate) fn listed<T: Drop>(alloc: Global, items: Vec<T>) -> Result<List<T>, O
 }
 
 /// Adds who inserted the elements of a leaf, if the client sees them.
-///
-/// Returns `OutOfMemory` where there is no room for them.
 fn add_origin(
     tree: &Tree<TextContent>,
     leaf: NodeId,
@@ -204,8 +190,6 @@ fn add_origin(
 }
 
 /// Who inserted each element that the client sees.
-///
-/// Returns `OutOfMemory` where there is no room for that.
 fn origins_of(tree: &Tree<TextContent>) -> Result<Attribution, OutOfMemory>
     requires { IsTrue tree.now.usable }
     ensures { IfOk result (λ origins. origins ≡ origins_in tree.now.leaves) }
@@ -259,8 +243,6 @@ impl SharedString {
 
     /// The shown intervals of the label that meet the places from `a` to `b`, by rising id: those that aren't detached, start at
     /// or before `b` and end at or after `a`. A read of a node of an index is one step.
-    ///
-    /// Returns `OutOfMemory` where there is no room for them.
     pub fn overlapping<G: Ledger>(
         &self,
         label: &Text,
@@ -281,8 +263,6 @@ impl SharedString {
     }
 
     /// Who inserted each element that the client sees.
-    ///
-    /// Returns `OutOfMemory` where there is no room for it.
     pub fn attribution(&self) -> Result<Attribution, OutOfMemory>
         requires usable { IsTrue self.now.usable }
         requires none_given { self.now.given ≡ 0 }

@@ -41,8 +41,6 @@ fn stamp_of(mark: Mark) -> Stamp
 }
 
 /// The marks as stamps.
-///
-/// Returns `OutOfMemory` where there is no room for them.
 fn stamps_of(alloc: Global, marks: &[Mark]) -> Result<Stamps, OutOfMemory>
     ensures { IfOk result (λ stamps. stamps ≡ map stamp_of marks.now) }
 {
@@ -54,8 +52,6 @@ fn stamps_of(alloc: Global, marks: &[Mark]) -> Result<Stamps, OutOfMemory>
 }
 
 /// The stamps of the elements of a segment.
-///
-/// Returns `OutOfMemory` where there is no room for them.
 fn element_of(alloc: Global, seg: &SegRec) -> Result<Element, OutOfMemory>
     ensures { IfOk result (λ e. e ≡ record { ins = stamp_of seg.now.ins; dels = map stamp_of seg.now.dels }) }
 {
@@ -67,8 +63,6 @@ fn element_of(alloc: Global, seg: &SegRec) -> Result<Element, OutOfMemory>
 }
 
 /// What a segment of a summary holds, as an operation has it.
-///
-/// Returns `OutOfMemory` where there is no room for it.
 fn segment_of(seg: &Seg) -> Result<Segment, OutOfMemory>
     ensures { IfOk result (λ segment. segment_contents segment ≡ segment_bodies seg.now) }
 {
@@ -128,8 +122,6 @@ fn append_all(tree: &mut Tree<TextContent>, segs: &[SegRec]) -> Result<(), OutOf
 }
 
 /// Sets a property in a set.
-///
-/// Returns `OutOfMemory` where there is no room for it.
 fn put_copy(set: &mut PropSet, property: &(Text, ValText)) -> Result<(), OutOfMemory>
     ensures { OnOk result (set.new ≡ put_rising key_cmp (given_property property.now) set.old) }
 {
@@ -139,8 +131,6 @@ fn put_copy(set: &mut PropSet, property: &(Text, ValText)) -> Result<(), OutOfMe
 }
 
 /// Properties as a set that makes them.
-///
-/// Returns `OutOfMemory` where there is no room for it.
 fn set_of(props: &Props) -> Result<PropSet, OutOfMemory>
     ensures { IfOk result (λ set. apply [] set ≡ props.now) }
 {
@@ -163,8 +153,6 @@ fn given_ends(ends: Ends2) -> Ends
 }
 
 /// The operation that adds an interval of a summary.
-///
-/// Returns `OutOfMemory` where there is no room for it.
 fn add_of(i: &IntervalRec) -> Result<TextOp, OutOfMemory>
     ensures { IfOk result (λ op. IsAddOf i.now op) }
 {
@@ -187,8 +175,6 @@ fn everybody() -> Perspective
 }
 
 /// Adds an interval of a summary, where its ends fit.
-///
-/// Returns `OutOfMemory` where there is no room for it.
 fn add_interval(
     intervals: &mut Collections,
     tree: &mut Tree<TextContent>,
@@ -206,8 +192,6 @@ fn add_interval(
 }
 
 /// The intervals of a summary, by rising names, on a tree that has no references.
-///
-/// Returns `OutOfMemory` where there is no room for them.
 fn intervals_on(
     tree: &mut Tree<TextContent>,
     recs: &[IntervalRec],
@@ -228,8 +212,6 @@ fn intervals_on(
 
 impl SharedString {
     /// The text that a summary gives.
-    ///
-    /// Returns `OutOfMemory` where there is no room for it.
     pub fn load(alloc: Global, doc: &SumDoc) -> Result<SharedString, OutOfMemory>
         requires { IsValidSummary doc.now }
         ensures holds { IfOk result (λ s. HoldsText s (doc_of doc.now) []) }

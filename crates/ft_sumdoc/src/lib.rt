@@ -1,6 +1,6 @@
 //! Summary documents: what a client hands to one that starts later.
 //!
-//! A call that can't return `OutOfMemory` takes no memory.
+//! A call that can't return `OutOfMemory` takes no memory; one that can returns it where there is no room.
 #![tactic(auto)]
 
 mod chunks;

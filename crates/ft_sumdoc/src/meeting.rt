@@ -9,8 +9,6 @@ use ft_props::keys::compare;
 use std::alloc::Global;
 
 /// Copies of those intervals of the label that meet the places from `a` to `b`, in order.
-///
-/// Returns `OutOfMemory` where there is no room for them.
 pub fn meeting(
     alloc: Global,
     intervals: &[IntervalRec],

@@ -117,8 +117,6 @@ fn written_value(value: &ValText) -> Result<Value, OutOfMemory>
 }
 
 /// The object of properties.
-///
-/// Returns `OutOfMemory` where there is no room for it.
 pub fn props_value(alloc: Global, props: &Props) -> Result<Value, OutOfMemory>
     requires { HasValues props.now }
     ensures value { IfOk result (λ v. view v ≡ written_props props.now) }
@@ -252,8 +250,6 @@ fn written_names(alloc: Global, names: &[Text]) -> Result<Vec<Value>, OutOfMemor
 }
 
 /// The array of an interval.
-///
-/// Returns `OutOfMemory` where there is no room for it.
 pub fn interval_value(alloc: Global, i: &IntervalRec) -> Result<Value, OutOfMemory>
     requires { HasValues i.now.props }
     ensures value { IfOk result (λ v. view v ≡ written_interval_record i.now) }
@@ -383,8 +379,6 @@ fn summary_value(alloc: Global, doc: &SumDoc) -> Result<Value, OutOfMemory>
 /// The one text of a summary, of version 2: compact, with the keys of each object in rising order of
 /// their bytes. A summary that is cut as what is written reads back from it. It takes time and memory
 /// in the length of the text.
-///
-/// Returns `OutOfMemory` where there is no room for it.
 pub fn write_summary(alloc: Global, doc: &SumDoc) -> Result<ValText, OutOfMemory>
     requires valid { IsValidSummary doc.now }
     requires conns { IsTrue (is_count (length doc.now.conns)) }

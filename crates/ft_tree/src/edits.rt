@@ -19,8 +19,6 @@ use std::marker::Brand;
 use std::sync::ledger::Blank;
 
 /// Takes the leaf of a node out, on which no reference is, and returns its content.
-///
-/// Returns `OutOfMemory` where there is no room for what blocks keep.
 pub(crate) fn take_content<C: Content + Drop>(
     blocks: &mut LeafBlocks<C>,
     id: NodeId,
@@ -39,8 +37,6 @@ pub(crate) fn take_content<C: Content + Drop>(
 }
 
 /// Puts a leaf of elements with these stamps and acknowledged properties at the end.
-///
-/// Returns `OutOfMemory` where there is no room for it.
 pub(crate) fn append<C: Content + Drop>(
     blocks: &mut LeafBlocks<C>,
     alloc: Global,

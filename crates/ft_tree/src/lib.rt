@@ -1,6 +1,6 @@
 //! The merge tree: a list of elements in leaves, with references to elements.
 //!
-//! A call that can't return `OutOfMemory` takes no memory.
+//! A call that can't return `OutOfMemory` takes no memory; one that can returns it where there is no room.
 #![tactic(auto)]
 
 pub mod changes;

@@ -155,8 +155,6 @@ impl<C: Content> Tree<C> {
     }
 
     /// The stamps of the elements in order.
-    ///
-    /// Returns `OutOfMemory` where there is no room for them.
     pub fn elements(&self) -> Result<Vec<Element>, OutOfMemory>
         requires { IsTrue self.now.usable }
         ensures { IfOk result (λ v. v.items ≡ map (λ e. e.stamps) (elements C.units C.by self.now.leaves)) }

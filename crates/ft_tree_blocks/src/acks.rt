@@ -32,8 +32,6 @@ pub(crate) fn is_touched_by<C: Content>(leaf: &TreeLeaf<C>, stage: u64) -> bool
 
 /// Acknowledges a stage in the leaf of a node under number `seq` of connection `conn`, if it has something
 /// of that stage. No lower stage has changes there.
-///
-/// Returns `OutOfMemory` where there is no room for it.
 fn ack_at<C: Content>(
     blocks: &mut Blocks<TreeLeaf<C>>,
     alloc: Global,
@@ -62,8 +60,6 @@ fn ack_at<C: Content>(
 
 /// Acknowledges a stage in the leaves of these nodes under number `seq` of connection `conn`. No other leaf has
 /// anything of that stage, and no lower stage has changes.
-///
-/// Returns `OutOfMemory` where there is no room for it.
 fn ack_nodes<C: Content>(
     blocks: &mut Blocks<TreeLeaf<C>>,
     alloc: Global,
@@ -89,8 +85,6 @@ fn ack_nodes<C: Content>(
 
 /// Acknowledges a stage in all leaves under number `seq` of connection `conn`: in those that it touched. No
 /// lower stage has changes. References stay on their elements; acknowledged ones may have to slide then.
-///
-/// Returns `OutOfMemory` where there is no room for it.
 pub(crate) fn ack_in<C: Content>(
     blocks: &mut Blocks<TreeLeaf<C>>,
     touched: &mut VecDeque<StageNodes>,

@@ -27,8 +27,6 @@ use ft_tree_leaves::{Content, LeafChange, TreeLeaf};
 use std::collections::VecDeque;
 
 /// Puts a new leaf in, as `insert_in` does. References go with their elements.
-///
-/// Returns `OutOfMemory` where there is no room for it.
 pub(crate) fn insert_anchored<C: Content + Drop>(
     blocks: &mut Blocks<TreeLeaf<C>>,
     touched: &mut VecDeque<StageNodes>,
@@ -59,8 +57,6 @@ pub(crate) fn insert_anchored<C: Content + Drop>(
 }
 
 /// Cuts a leaf in two, as `split_in` does. References stay on their elements.
-///
-/// Returns `OutOfMemory` where there is no room for the rear.
 pub(crate) fn split_anchored<C: Content>(
     blocks: &mut Blocks<TreeLeaf<C>>,
     touched: &mut VecDeque<StageNodes>,
@@ -93,8 +89,6 @@ pub(crate) fn split_anchored<C: Content>(
 
 /// Replaces the stamps of a leaf, as `set_stamps_in` does. References stay on their elements; acknowledged ones
 /// may have to slide then.
-///
-/// Returns `OutOfMemory` where there is no room for it.
 pub(crate) fn set_stamps_anchored<C: Content>(
     blocks: &mut Blocks<TreeLeaf<C>>,
     touched: &mut VecDeque<StageNodes>,
@@ -122,8 +116,6 @@ pub(crate) fn set_stamps_anchored<C: Content>(
 }
 
 /// Joins the next leaf to a leaf, as `join_in` does. References stay on their elements.
-///
-/// Returns `OutOfMemory` where there is no room for both in one.
 pub(crate) fn join_anchored<C: Content + Drop>(
     blocks: &mut Blocks<TreeLeaf<C>>,
     touched: &mut VecDeque<StageNodes>,
@@ -157,8 +149,6 @@ pub(crate) fn join_anchored<C: Content + Drop>(
 }
 
 /// Makes a change of a leaf, as `change_in` does. References stay on their elements.
-///
-/// Returns `OutOfMemory` where there is no room for it.
 pub(crate) fn change_anchored<C: Content>(
     blocks: &mut Blocks<TreeLeaf<C>>,
     touched: &mut VecDeque<StageNodes>,
@@ -184,8 +174,6 @@ pub(crate) fn change_anchored<C: Content>(
 }
 
 /// Takes a leaf out on which no reference is, as `take_in` does. References go with their elements.
-///
-/// Returns `OutOfMemory` where there is no room for what is kept.
 pub(crate) fn take_anchored<C: Content>(
     blocks: &mut Blocks<TreeLeaf<C>>,
     touched: &mut VecDeque<StageNodes>,
@@ -211,8 +199,6 @@ pub(crate) fn take_anchored<C: Content>(
 }
 
 /// Moves a leaf, as `move_in` does. References go with their elements.
-///
-/// Returns `OutOfMemory` where there is no room for what is kept.
 pub(crate) fn move_anchored<C: Content>(
     blocks: &mut Blocks<TreeLeaf<C>>,
     touched: &VecDeque<StageNodes>,
@@ -239,8 +225,6 @@ pub(crate) fn move_anchored<C: Content>(
 }
 
 /// Puts a new pending reference on an element.
-///
-/// Returns `OutOfMemory` where there is no room for it.
 pub(crate) fn add_anchored<C: Content>(
     blocks: &Blocks<TreeLeaf<C>>,
     refs: &mut LeafRefs,

@@ -57,8 +57,6 @@ impl Anchors {
     }
 
     /// Makes a new pending reference on the leaf of this node, at this offset, and returns its number.
-    ///
-    /// Returns `OutOfMemory` where there is no room for it.
     pub fn add(&mut self, id: NodeId, offset: u64) -> Result<RefId, OutOfMemory>
         ensures fresh { IfOk result (λ r. entry self.old.refs r ≡ None) }
         ensures added { IfOk result (λ r. ChangesAnchor r (Some (Some record { owner = id; offset = offset })) false self.old self.new) }

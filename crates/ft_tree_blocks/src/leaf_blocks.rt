@@ -442,8 +442,6 @@ impl<C: Content> LeafBlocks<C> {
     /// The nodes of the leaves that have something of the stage: its insertion, a removal mark or changes. They
     /// stand in the order of the list. It goes to the leaves that the stage touched, finds the place of each, and
     /// sorts them by it.
-    ///
-    /// Returns `OutOfMemory` where there is no room for them.
     pub fn stage_leaves(&self, stage: u64) -> Result<Vec<NodeId>, OutOfMemory>
         requires { IsTrue self.now.usable }
         ensures { IfOk result (λ v. v.items ≡ touched_nodes stage self.now.leaves) }

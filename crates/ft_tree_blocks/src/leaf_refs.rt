@@ -19,8 +19,6 @@ pub(crate) struct LeafRefs {
 }
 
 /// Lists a leaf, if it has references.
-///
-/// Returns `OutOfMemory` where there is no room for it.
 fn note(anchors: &Anchors, unsettled: &mut Vec<NodeId>, id: NodeId) -> Result<(), OutOfMemory>
     ensures { OnOk result (Notes anchors.now id unsettled.old.items unsettled.new.items) }
 {
@@ -31,8 +29,6 @@ fn note(anchors: &Anchors, unsettled: &mut Vec<NodeId>, id: NodeId) -> Result<()
 }
 
 /// Lists each of these leaves that has references.
-///
-/// Returns `OutOfMemory` where there is no room for them.
 fn note_all(
     anchors: &Anchors,
     unsettled: &mut Vec<NodeId>,
@@ -59,8 +55,6 @@ impl LeafRefs {
     }
 
     /// Makes room for the references of a new leaf.
-    ///
-    /// Returns `OutOfMemory` where there is no room for it.
     pub(crate) fn hold(&mut self, id: NodeId) -> Result<(), OutOfMemory>
         ensures held { OnOk result (IsHeld self.new.anchors.refs id) }
         ensures moves { OnOk result (MovesAnchors (λ p. p) self.old.anchors self.new.anchors) }
@@ -70,8 +64,6 @@ impl LeafRefs {
     }
 
     /// Lists a leaf whose stamps changed, if it has references, unless they may stand there.
-    ///
-    /// Returns `OutOfMemory` where there is no room for it.
     pub(crate) fn unsettle(&mut self, id: NodeId, stands: bool) -> Result<(), OutOfMemory>
         ensures anchors { self.new.anchors ≡ self.old.anchors }
         ensures notes { OnOk result (NotesUnless stands self.new.anchors id self.old.unsettled.items self.new.unsettled.items) }
@@ -83,8 +75,6 @@ impl LeafRefs {
     }
 
     /// Lists each of these leaves that has references.
-    ///
-    /// Returns `OutOfMemory` where there is no room for them.
     pub(crate) fn unsettle_all(&mut self, nodes: &[NodeId]) -> Result<(), OutOfMemory>
         ensures anchors { self.new.anchors ≡ self.old.anchors }
         ensures notes { OnOk result (NotesAll self.new.anchors nodes.now self.old.unsettled.items self.new.unsettled.items) }
@@ -94,8 +84,6 @@ impl LeafRefs {
 
     /// A leaf was cut behind its first `at` elements: the references on the others go to the leaf of `rear`, on
     /// which acknowledged ones may stand or not.
-    ///
-    /// Returns `OutOfMemory` where there is no room for it.
     pub(crate) fn cut(
         &mut self,
         id: NodeId,
@@ -115,8 +103,6 @@ impl LeafRefs {
 
     /// The leaf of `next` was joined to that of `id`, which had `count` elements: its references go there, where
     /// acknowledged ones may stand or not.
-    ///
-    /// Returns `OutOfMemory` where there is no room for it.
     pub(crate) fn join(
         &mut self,
         next: NodeId,

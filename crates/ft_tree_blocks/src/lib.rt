@@ -2,7 +2,7 @@
 //! touched, so that its acknowledgement and a search for what it has go to these alone; and the references, which
 //! stand on leaves, and where these go, from leaf to leaf.
 //!
-//! A call that can't return `OutOfMemory` takes no memory.
+//! A call that can't return `OutOfMemory` takes no memory; one that can returns it where there is no room.
 #![tactic(auto)]
 
 mod acks;

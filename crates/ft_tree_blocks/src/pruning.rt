@@ -17,8 +17,6 @@ use std::alloc::Global;
 use std::collections::VecDeque;
 
 /// Those of the nodes whose leaf has something of the stage.
-///
-/// Returns `OutOfMemory` where there is no room for them.
 fn touched_of<C: Content>(
     blocks: &Blocks<TreeLeaf<C>>,
     alloc: Global,
@@ -39,8 +37,6 @@ fn touched_of<C: Content>(
 }
 
 /// Takes the nodes off a list whose leaf has nothing of its stage.
-///
-/// Returns `OutOfMemory` where there is no room for the others.
 fn prune_list<C: Content>(
     blocks: &Blocks<TreeLeaf<C>>,
     list: &mut StageNodes,
@@ -56,8 +52,6 @@ fn prune_list<C: Content>(
 }
 
 /// The same of each list of a slice.
-///
-/// Returns `OutOfMemory` where there is no room for what is left.
 fn prune_each<C: Content>(
     blocks: &Blocks<TreeLeaf<C>>,
     touched: &mut [StageNodes],
@@ -74,8 +68,6 @@ fn prune_each<C: Content>(
 }
 
 /// Takes the nodes off all lists whose leaf has nothing of the list's stage.
-///
-/// Returns `OutOfMemory` where there is no room for what is left.
 fn prune_all<C: Content>(
     blocks: &Blocks<TreeLeaf<C>>,
     touched: &mut VecDeque<StageNodes>,
@@ -89,8 +81,6 @@ fn prune_all<C: Content>(
 }
 
 /// The same, and lists that have no node then go.
-///
-/// Returns `OutOfMemory` where there is no room for what is left.
 pub(crate) fn prune_in<C: Content>(
     blocks: &Blocks<TreeLeaf<C>>,
     touched: &mut VecDeque<StageNodes>,

@@ -17,8 +17,6 @@ use std::alloc::Global;
 use std::collections::VecDeque;
 
 /// Those of the nodes whose leaf has something of the stage, each with how many elements stand left of it.
-///
-/// Returns `OutOfMemory` where there is no room for them.
 fn touched_places<C: Content>(
     blocks: &Blocks<TreeLeaf<C>>,
     alloc: Global,
@@ -49,8 +47,6 @@ fn is_given_node(given: &Option<NodeId>, id: NodeId) -> bool
 }
 
 /// The nodes of these, of equal neighbours the first alone.
-///
-/// Returns `OutOfMemory` where there is no room for them.
 fn unrepeated(alloc: Global, places: &[(u64, NodeId)]) -> Result<Vec<NodeId>, OutOfMemory>
     ensures { IfOk result (λ v. v.items ≡ unrepeated None (map (λ p. p.1) places.now)) }
 {
@@ -66,8 +62,6 @@ fn unrepeated(alloc: Global, places: &[(u64, NodeId)]) -> Result<Vec<NodeId>, Ou
 }
 
 /// The nodes of the leaves that have something of the stage, in the order of the list.
-///
-/// Returns `OutOfMemory` where there is no room for them.
 pub(crate) fn stage_leaves_in<C: Content>(
     blocks: &Blocks<TreeLeaf<C>>,
     touched: &VecDeque<StageNodes>,

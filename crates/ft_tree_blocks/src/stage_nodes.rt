@@ -25,8 +25,6 @@ impl Model for StageNodes {
 
 impl StageNodes {
     /// A stage that touched the leaf of this node alone.
-    ///
-    /// Returns `OutOfMemory` where there is no room for it.
     pub(crate) fn of(alloc: Global, stage: u64, id: NodeId) -> Result<StageNodes, OutOfMemory>
         ensures { IfOk result (λ s. s ≡ record { stage = stage; nodes = id ∷ [] }) }
     {
@@ -71,8 +69,6 @@ impl StageNodes {
     }
 
     /// Adds a node.
-    ///
-    /// Returns `OutOfMemory` where there is no room for it.
     pub(crate) fn add(&mut self, id: NodeId) -> Result<(), OutOfMemory>
         ensures { OnOk result (self.new ≡ record self.old { nodes = self.old.nodes ++ id ∷ [] }) }
     {
@@ -81,8 +77,6 @@ impl StageNodes {
     }
 
     /// Adds the second node if the first one is one of them.
-    ///
-    /// Returns `OutOfMemory` where there is no room for it.
     pub(crate) fn add_heir(&mut self, front: NodeId, rear: NodeId) -> Result<(), OutOfMemory>
         ensures { OnOk result (self.new ≡ with_heir front rear self.old) }
     {

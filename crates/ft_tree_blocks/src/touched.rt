@@ -31,8 +31,6 @@ fn is_at(touched: &VecDeque<StageNodes>, i: usize, stage: u64) -> bool
 }
 
 /// Lists a node for a stage.
-///
-/// Returns `OutOfMemory` where there is no room for it.
 pub(crate) fn note(
     touched: &mut VecDeque<StageNodes>,
     stage: u64,
@@ -59,8 +57,6 @@ fn is_stamped_by(e: &Element, stage: u64) -> bool
 }
 
 /// Lists a node for the stage of a stamp, if that is pending and the old stamps have none of that stage.
-///
-/// Returns `OutOfMemory` where there is no room for it.
 fn note_stamp(
     touched: &mut VecDeque<StageNodes>,
     old: &Element,
@@ -98,8 +94,6 @@ fn note_each(
 }
 
 /// Lists a node for each pending stage of its new stamps that the old ones have not.
-///
-/// Returns `OutOfMemory` where there is no room for it.
 pub(crate) fn note_stamps(
     touched: &mut VecDeque<StageNodes>,
     old: &Element,
@@ -115,8 +109,6 @@ pub(crate) fn note_stamps(
 }
 
 /// Lists the second node for each stage for which the first one is listed.
-///
-/// Returns `OutOfMemory` where there is no room for it.
 pub(crate) fn note_heir(
     touched: &mut VecDeque<StageNodes>,
     front: NodeId,

@@ -18,8 +18,6 @@ use ft_tree_leaves::{Content, LeafChange, TreeLeaf};
 use std::collections::VecDeque;
 
 /// Puts a new leaf in, as `Blocks::insert_after` does. Nothing is pending in its properties.
-///
-/// Returns `OutOfMemory` where there is no room for it.
 pub(crate) fn insert_in<C: Content + Drop>(
     blocks: &mut Blocks<TreeLeaf<C>>,
     touched: &mut VecDeque<StageNodes>,
@@ -70,8 +68,6 @@ fn has_pending<C: Content>(leaf: &TreeLeaf<C>) -> bool
 
 /// Lists the rear of a leaf that was cut for each stage for which its front is listed, if anything is pending
 /// on it.
-///
-/// Returns `OutOfMemory` where there is no room for it.
 fn note_rear<C: Content>(
     touched: &mut VecDeque<StageNodes>,
     leaf: &TreeLeaf<C>,
@@ -90,8 +86,6 @@ fn note_rear<C: Content>(
 }
 
 /// Cuts a leaf in two, as `Blocks::split` does.
-///
-/// Returns `OutOfMemory` where there is no room for the rear.
 pub(crate) fn split_in<C: Content>(
     blocks: &mut Blocks<TreeLeaf<C>>,
     touched: &mut VecDeque<StageNodes>,
@@ -116,8 +110,6 @@ pub(crate) fn split_in<C: Content>(
 }
 
 /// Replaces the stamps of a leaf, as `Blocks::set_stamps` does.
-///
-/// Returns `OutOfMemory` where there is no room for it.
 pub(crate) fn set_stamps_in<C: Content>(
     blocks: &mut Blocks<TreeLeaf<C>>,
     touched: &mut VecDeque<StageNodes>,
@@ -137,8 +129,6 @@ pub(crate) fn set_stamps_in<C: Content>(
 }
 
 /// Lists a node for the stage of the changes that it gets, if it gets any.
-///
-/// Returns `OutOfMemory` where there is no room for it.
 fn note_change(
     touched: &mut VecDeque<StageNodes>,
     c: &LeafChange,
@@ -158,8 +148,6 @@ fn note_change(
 }
 
 /// Makes a change of a leaf, as `Blocks::change` does.
-///
-/// Returns `OutOfMemory` where there is no room for it.
 pub(crate) fn change_in<C: Content>(
     blocks: &mut Blocks<TreeLeaf<C>>,
     touched: &mut VecDeque<StageNodes>,
@@ -179,8 +167,6 @@ pub(crate) fn change_in<C: Content>(
 }
 
 /// Takes a leaf out, as `Blocks::take` does.
-///
-/// Returns `OutOfMemory` where there is no room for what is kept.
 pub(crate) fn take_in<C: Content>(
     blocks: &mut Blocks<TreeLeaf<C>>,
     touched: &mut VecDeque<StageNodes>,
@@ -210,8 +196,6 @@ fn purge_given(touched: &mut VecDeque<StageNodes>, id: Option<NodeId>)
 }
 
 /// Joins the next leaf to a leaf, as `Blocks::join_next` does.
-///
-/// Returns `OutOfMemory` where there is no room for both in one.
 pub(crate) fn join_in<C: Content + Drop>(
     blocks: &mut Blocks<TreeLeaf<C>>,
     touched: &mut VecDeque<StageNodes>,
@@ -232,8 +216,6 @@ pub(crate) fn join_in<C: Content + Drop>(
 }
 
 /// Moves a leaf, as `Blocks::move_after` does.
-///
-/// Returns `OutOfMemory` where there is no room for what is kept.
 pub(crate) fn move_in<C: Content>(
     blocks: &mut Blocks<TreeLeaf<C>>,
     touched: &VecDeque<StageNodes>,

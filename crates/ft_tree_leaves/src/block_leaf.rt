@@ -129,8 +129,6 @@ impl<C: Content> Leaf for TreeLeaf<C> {
 }
 
 /// The stamps with one more removal, before the pending one.
-///
-/// Returns `OutOfMemory` where there is no room for them.
 pub fn removed_stamps(alloc: Global, e: &Element, t: Stamp) -> Result<Element, OutOfMemory>
     ensures { IfOk result (λ x. x ≡ removed_stamps t e.now) }
 {
@@ -141,8 +139,6 @@ pub fn removed_stamps(alloc: Global, e: &Element, t: Stamp) -> Result<Element, O
 }
 
 /// The stamps without a removal of a pending stage.
-///
-/// Returns `OutOfMemory` where there is no room for them.
 pub fn unmarked_stamps(alloc: Global, e: &Element, stage: u64) -> Result<Element, OutOfMemory>
     ensures { IfOk result (λ x. x ≡ unmarked_stamps stage e.now) }
 {
@@ -153,8 +149,6 @@ pub fn unmarked_stamps(alloc: Global, e: &Element, stage: u64) -> Result<Element
 }
 
 /// The stamps with the removals that are sequenced alone.
-///
-/// Returns `OutOfMemory` where there is no room for them.
 pub fn sequenced_stamps(alloc: Global, e: &Element) -> Result<Element, OutOfMemory>
     ensures { IfOk result (λ x. x ≡ sequenced_stamps e.now) }
 {
@@ -165,8 +159,6 @@ pub fn sequenced_stamps(alloc: Global, e: &Element) -> Result<Element, OutOfMemo
 }
 
 /// The stamps after a stage was acknowledged under number `seq` of connection `conn`.
-///
-/// Returns `OutOfMemory` where there is no room for them.
 pub fn acked_stamps(
     alloc: Global,
     e: &Element,

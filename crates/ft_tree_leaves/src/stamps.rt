@@ -11,8 +11,6 @@ use ft_base::{OutOfMemory, Stamp, Stamps};
 use std::alloc::Global;
 
 /// The removals with one more, before the pending one.
-///
-/// Returns `OutOfMemory` where there is no room for them.
 pub(crate) fn with_removal(alloc: Global, dels: &[Stamp], t: Stamp) -> Result<Stamps, OutOfMemory>
     ensures { IfOk result (λ v. v ≡ put_past is_acked (t ∷ []) dels.now) }
 {
@@ -36,8 +34,6 @@ pub(crate) fn acked(t: Stamp, stage: u64, seq: u64, conn: u32) -> Stamp
 }
 
 /// The stamps after a stage was acknowledged under number `seq` of connection `conn`.
-///
-/// Returns `OutOfMemory` where there is no room for them.
 pub(crate) fn acked_all(
     alloc: Global,
     stamps: &[Stamp],
@@ -55,8 +51,6 @@ pub(crate) fn acked_all(
 }
 
 /// Adds the stamps at the end.
-///
-/// Returns `OutOfMemory` where there is no room for them.
 fn push_all(stamps: &mut Stamps, more: &[Stamp]) -> Result<(), OutOfMemory>
     ensures { OnOk result (stamps.new ≡ stamps.old ++ more.now) }
 {
@@ -67,8 +61,6 @@ fn push_all(stamps: &mut Stamps, more: &[Stamp]) -> Result<(), OutOfMemory>
 }
 
 /// The stamps but those of a stage.
-///
-/// Returns `OutOfMemory` where there is no room for them.
 pub(crate) fn without_stage(
     alloc: Global,
     stamps: &[Stamp],
@@ -86,8 +78,6 @@ pub(crate) fn without_stage(
 }
 
 /// The stamps that are sequenced.
-///
-/// Returns `OutOfMemory` where there is no room for them.
 pub(crate) fn sequenced_only(alloc: Global, stamps: &[Stamp]) -> Result<Stamps, OutOfMemory>
     ensures { IfOk result (λ v. v ≡ filter is_acked stamps.now) }
 {

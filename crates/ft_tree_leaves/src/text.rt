@@ -51,8 +51,6 @@ impl Model for TextUnit {
 
 impl TextContent {
     /// A run of the characters of `text`, of a pending insertion.
-    ///
-    /// Returns `OutOfMemory` where there is no room for a copy of them.
     pub fn run(alloc: Global, text: &str) -> Result<TextContent, OutOfMemory>
         requires { IsTextRun (chars text.now) }
         ensures { IfOk result (λ leaf. leaf ≡ new_text (Run (chars text.now))) }

@@ -32,8 +32,6 @@ impl Model for TextRun {
 
 impl TextRun {
     /// A copy of the characters of `text`.
-    ///
-    /// Returns `OutOfMemory` where there is no room for the copy.
     pub fn new(alloc: Global, text: &str) -> Result<TextRun, OutOfMemory>
         requires { IsTextRun (chars text.now) }
         ensures { IfOk result (λ run. run ≡ chars text.now) }

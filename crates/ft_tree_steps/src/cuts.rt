@@ -27,8 +27,6 @@ use std::sync::ledger::Ledger;
 
 /// Cuts the leaf that was found behind the place, unless it ends there. Returns the leaf that ends there
 /// then: none for the head. References keep their elements.
-///
-/// Returns `OutOfMemory` where there is no room for the rear.
 pub fn cut_at<C: Content>(
     blocks: &mut LeafBlocks<C>,
     found: &Found,
@@ -120,8 +118,6 @@ fn behind_pending<C: Content, G: Ledger>(
 
 /// Puts a leaf in behind a place where a leaf ends, or past the leaves with a pending insertion that stand
 /// there.
-///
-/// Returns `OutOfMemory` where there is no room for it.
 fn put_past<C: Content + Drop, G: Ledger>(
     blocks: &mut LeafBlocks<C>,
     at: Option<NodeId>,
@@ -153,8 +149,6 @@ fn put_past<C: Content + Drop, G: Ledger>(
 }
 
 /// A leaf of new elements, which nobody has removed or changed.
-///
-/// Returns `OutOfMemory` where there is no room for its properties.
 fn new_leaf<C: Content + Drop>(
     alloc: Global,
     content: C,
@@ -176,8 +170,6 @@ fn new_leaf<C: Content + Drop>(
 
 /// Puts new elements in as one leaf directly after a place that was found, or past the leaves with a
 /// pending insertion that stand there.
-///
-/// Returns `OutOfMemory` where there is no room for them.
 pub fn insert_at<C: Content + Drop, G: Ledger>(
     blocks: &mut LeafBlocks<C>,
     alloc: Global,

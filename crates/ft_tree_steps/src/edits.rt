@@ -11,8 +11,6 @@ use ft_tree_blocks::LeafBlocks;
 use ft_tree_leaves::Content;
 
 /// Moves the leaf of a node directly after another, or to the head. Its references go with it.
-///
-/// Returns `OutOfMemory` where there is no room for what blocks keep.
 pub fn move_at<C: Content>(
     blocks: &mut LeafBlocks<C>,
     id: NodeId,

@@ -23,8 +23,6 @@ fn is_universal(stamp: &Stamp) -> bool
 
 /// Makes the insertion of a leaf that nobody has removed the one that everybody sees. Where it is that already, nothing is
 /// written.
-///
-/// Returns `OutOfMemory` where there is no room for it.
 fn make_universal<C: Content>(
     blocks: &mut LeafBlocks<C>,
     alloc: Global,
@@ -45,8 +43,6 @@ fn make_universal<C: Content>(
 }
 
 /// Joins the leaf after that of a node to it, if the two may be joined at the floor. Tells whether they may.
-///
-/// Returns `OutOfMemory` where there is no room for both in one.
 pub fn join_at<C: Content + Drop>(
     blocks: &mut LeafBlocks<C>,
     alloc: Global,

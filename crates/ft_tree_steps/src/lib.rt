@@ -2,7 +2,7 @@
 //! changed over a range, by reading a few blocks to find the place and then only the leaves of the range; and
 //! where a place is among them.
 //!
-//! A call that can't return `OutOfMemory` takes no memory.
+//! A call that can't return `OutOfMemory` takes no memory; one that can returns it where there is no room.
 #![tactic(auto)]
 
 pub mod cuts;

@@ -31,8 +31,6 @@ pub enum RangeEdit {
 }
 
 /// Makes the edit of the leaf of a node, if the view sees it.
-///
-/// Returns `OutOfMemory` where there is no room for it.
 fn edit_seen<C: Content>(
     blocks: &mut LeafBlocks<C>,
     alloc: Global,
@@ -64,8 +62,6 @@ fn edit_seen<C: Content>(
 
 /// Cuts the leaf of a node behind the first `left` elements that the view sees, if it sees more of it, and
 /// returns how many it sees of the leaf then.
-///
-/// Returns `OutOfMemory` where there is no room for the rear.
 fn cut_seen<C: Content>(
     blocks: &mut LeafBlocks<C>,
     id: NodeId,
@@ -91,8 +87,6 @@ fn cut_seen<C: Content>(
 
 /// Makes the edit of the leaf of a node up to the first `left` elements that the view sees, and returns how
 /// many these were.
-///
-/// Returns `OutOfMemory` where there is no room for it.
 fn edit_first<C: Content>(
     blocks: &mut LeafBlocks<C>,
     alloc: Global,
@@ -122,8 +116,6 @@ fn edit_first<C: Content>(
 }
 
 /// Makes the edit of the first `count` elements that the view sees from the leaf of a node on.
-///
-/// Returns `OutOfMemory` where there is no room for it.
 pub fn edit_range<C: Content>(
     blocks: &mut LeafBlocks<C>,
     alloc: Global,
@@ -155,8 +147,6 @@ pub fn edit_range<C: Content>(
 }
 
 /// Makes the edit of the first `count` elements that the view sees behind a place that was found.
-///
-/// Returns `OutOfMemory` where there is no room for it.
 pub fn edit_behind<C: Content>(
     blocks: &mut LeafBlocks<C>,
     alloc: Global,

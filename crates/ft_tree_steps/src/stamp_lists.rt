@@ -9,8 +9,6 @@ use ft_tree_leaves::{Content, TreeLeaf};
 use std::alloc::Global;
 
 /// Adds copies of the stamps at the end.
-///
-/// Returns `OutOfMemory` where there is no room for them.
 fn push_copies(items: &mut Vec<Element>, e: &Element, n: u64) -> Result<(), OutOfMemory>
     ensures { OnOk result (items.new.items ≡ items.old.items ++ replicate n e.now) }
 {
@@ -21,8 +19,6 @@ fn push_copies(items: &mut Vec<Element>, e: &Element, n: u64) -> Result<(), OutO
 }
 
 /// The stamps of the elements in order.
-///
-/// Returns `OutOfMemory` where there is no room for them.
 pub fn all_stamps<C: Content>(
     alloc: Global,
     blocks: &Blocks<TreeLeaf<C>>,

@@ -13,8 +13,6 @@ use ft_tree_leaves::{Content, LeafChange};
 use std::alloc::Global;
 
 /// Takes the removal mark and the changes of a stage off the leaf of a node.
-///
-/// Returns `OutOfMemory` where there is no room for what is left.
 pub fn unmark_at<C: Content>(
     blocks: &mut LeafBlocks<C>,
     alloc: Global,
@@ -36,8 +34,6 @@ pub fn unmark_at<C: Content>(
 }
 
 /// Takes every pending removal mark and all pending changes off the leaf of a node.
-///
-/// Returns `OutOfMemory` where there is no room for what is left.
 pub fn unmark_all_at<C: Content>(
     blocks: &mut LeafBlocks<C>,
     alloc: Global,

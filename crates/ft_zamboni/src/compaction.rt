@@ -80,8 +80,6 @@ fn sweep_round<C: Content + Drop>(
 }
 
 /// Looks at `budget` leaves or all: at those from the place of the sweep on, and then at those from the head on.
-///
-/// Returns `OutOfMemory` where there is no room for what is kept.
 fn sweep_ahead_and_around<C: Content + Drop>(
     tree: &mut Tree<C>,
     budget: u64,

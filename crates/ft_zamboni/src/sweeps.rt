@@ -46,8 +46,6 @@ fn short_of(place: Option<NodeId>, end: &Option<NodeId>) -> Option<NodeId>
 
 /// Looks at a leaf: takes it out if it was removed at or below the floor, and else joins it to the leaf that was kept
 /// last, if the two may be joined. Returns which leaf was kept last now.
-///
-/// Returns `OutOfMemory` where there is no room for what is kept.
 pub(crate) fn look_at<C: Content + Drop>(
     tree: &mut Tree<C>,
     id: NodeId,

@@ -28,8 +28,6 @@ use std::collections::VecDeque;
 
 impl TreeOwn {
     /// Takes the client's own message: its first `count` stages, those of its oldest edit, become sequenced.
-    ///
-    /// Returns `OutOfMemory` where there is no room.
     pub(crate) fn acknowledge(&mut self, count: usize, entry: &Entry) -> Result<(), OutOfMemory>
         requires formed { IsWellFormedMessage entry.now.msg }
         requires known { HoldsOne HoldsTree self.old (λ p. (process_fault p entry.now ≡ None) × (count ≤ length (stages_of p)) × (length (oldest_stages p.pending) ≡ count)) }
@@ -43,8 +41,6 @@ impl TreeOwn {
     }
 
     /// Acknowledges these stages, which are the lowest, and all of the text or all of the grid.
-    ///
-    /// Returns `OutOfMemory` where there is no room.
     fn ack_own(&mut self, own: &[OwnStage], entry: &Entry) -> Result<(), OutOfMemory>
         requires text_usable { self.old.text.usable ≡ true }
         requires table_usable { self.old.table.usable ≡ true }
@@ -75,8 +71,6 @@ fn last_number(stages: &[OwnStage]) -> u64
 }
 
 /// Takes the first `count` stages off.
-///
-/// Returns `OutOfMemory` where there is no room for them.
 fn take_front(
     alloc: Global,
     stages: &mut VecDeque<OwnStage>,
@@ -102,8 +96,6 @@ fn are_of_text(stages: &[OwnStage]) -> bool
 
 /// Acknowledges stages of the table, which are the lowest, under number `seq` of connection `conn`: in one call where their numbers
 /// follow one another, as they do but for those of an edit that lost some in a reconnection.
-///
-/// Returns `OutOfMemory` where there is no room for what they make.
 fn ack_table(
     table: &mut SharedMatrix,
     own: &[OwnStage],
@@ -126,8 +118,6 @@ fn ack_table(
 }
 
 /// The same stage by stage.
-///
-/// Returns `OutOfMemory` where there is no room for what they make.
 fn ack_each(
     table: &mut SharedMatrix,
     own: &[OwnStage],
@@ -148,8 +138,6 @@ fn ack_each(
 }
 
 /// Acknowledges a stage of the table, which is the lowest.
-///
-/// Returns `OutOfMemory` where there is no room for what it makes.
 fn ack_one(
     table: &mut SharedMatrix,
     stage: &OwnStage,

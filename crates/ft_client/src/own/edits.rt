@@ -178,8 +178,6 @@ fn note(
 }
 
 /// Adds stages of one part behind the others.
-///
-/// Returns `OutOfMemory` where there is no room for them.
 #[tactic(auto, using(crate::proofs::Noted::stages_more))]
 fn push_stages(
     stages: &mut VecDeque<OwnStage>,

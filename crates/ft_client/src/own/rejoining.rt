@@ -26,8 +26,6 @@ use std::collections::VecDeque;
 
 impl TreeOwn {
     /// Takes the client's own join: its pending edits, which have so many stages each, go on as they are sent again.
-    ///
-    /// Returns `OutOfMemory` where there is no room.
     pub(crate) fn rejoin_all(
         &mut self,
         counts: &[usize],
@@ -47,8 +45,6 @@ impl TreeOwn {
     }
 
     /// Gives the next edits, which have so many stages each, and returns as what they are sent again.
-    ///
-    /// Returns `OutOfMemory` where there is no room for them.
     fn give_edits(&mut self, counts: &[usize]) -> Result<VecDeque<Resent>, OutOfMemory>
         requires known { GivesEdits self.old counts.now }
         ensures { (low last : ℕ) (doc : Document) (edits : List (List Stage)) → map (λ stages. length stages) edits ≡ counts.now
@@ -64,8 +60,6 @@ impl TreeOwn {
     }
 
     /// Gives the next edit, which has so many stages, and returns as what it is sent again.
-    ///
-    /// Returns `OutOfMemory` where there is no room for it.
     fn give_edit(&mut self, count: usize) -> Result<Resent, OutOfMemory>
         requires known { GivesSome self.old count }
         ensures { (low last : ℕ) (doc : Document) (front mine rest : List Stage) → length mine ≡ count → are_of_one_edit (map own_stage mine) ≡ true
@@ -82,8 +76,6 @@ impl TreeOwn {
     }
 
     /// Gives the next stage of an edit that is sent again as this so far.
-    ///
-    /// Returns `OutOfMemory` where there is no room for it.
     fn give_more(&mut self, again: Resent) -> Result<Resent, OutOfMemory>
         requires known { GivesNext self.old again }
         ensures { (low last : ℕ) (doc : Document) (front mine : List Stage) (t : Stage) (rest : List Stage) → are_of_one_edit (map own_stage (mine ++ t ∷ [])) ≡ true
@@ -95,8 +87,6 @@ impl TreeOwn {
     }
 
     /// Gives the next stage, and returns its pieces as one operation: None where it has none, and then it is gone.
-    ///
-    /// Returns `OutOfMemory` where there is no room for it.
     fn give_stage(&mut self) -> Result<Option<ChannelOp>, OutOfMemory>
         requires known { GivesSome self.old 1 }
         ensures { (low last : ℕ) (doc : Document) (front : List Stage) (t : Stage) (rest : List Stage) → GivesTree self.old low last doc front (t ∷ rest)
@@ -109,8 +99,6 @@ impl TreeOwn {
     }
 
     /// Gives this stage to its part, and returns its pieces as one operation.
-    ///
-    /// Returns `OutOfMemory` where there is no room for it.
     fn give_part(&mut self, stage: OwnStage) -> Result<Option<ChannelOp>, OutOfMemory>
         requires known { GivesFirst self.old stage }
         ensures { IfOk result (λ op. GivesPart stage op self.old self.new) }
@@ -137,8 +125,6 @@ pub(crate) fn take_next(stages: &mut VecDeque<OwnStage>) -> OwnStage
 }
 
 /// Puts a stage that goes on behind the others.
-///
-/// Returns `OutOfMemory` where there is no room for it.
 fn put_behind(
     stages: &mut VecDeque<OwnStage>,
     stage: OwnStage,
@@ -184,8 +170,6 @@ fn grid_again(op: Option<GridOp>) -> Option<ChannelOp>
 }
 
 /// The edit with the pieces of one stage more, if it has some. They are of the part of the others.
-///
-/// Returns `OutOfMemory` where there is no room for them.
 fn with_pieces(alloc: Global, again: Resent, op: Option<ChannelOp>) -> Result<Resent, OutOfMemory>
     requires few { again.stages + 1 < 2 ^ 64 }
     requires one { (first more : ChannelOp) → again.op ≡ Some first → op ≡ Some more → are_of_one_part first more ≡ true }
@@ -206,8 +190,6 @@ fn with_pieces(alloc: Global, again: Resent, op: Option<ChannelOp>) -> Result<Re
 }
 
 /// Both operations, which are of one part, as one.
-///
-/// Returns `OutOfMemory` where there is no room for it.
 fn join(alloc: Global, first: ChannelOp, second: ChannelOp) -> Result<ChannelOp, OutOfMemory>
     requires { are_of_one_part first second ≡ true }
     ensures { IfOk result (λ op. Joins first second op) }
@@ -230,8 +212,6 @@ fn join(alloc: Global, first: ChannelOp, second: ChannelOp) -> Result<ChannelOp,
 }
 
 /// The members of an operation on the elements of the text. A group is handed on as it is.
-///
-/// Returns `OutOfMemory` where there is no room for a single one.
 fn base_ops(alloc: Global, op: TextOp) -> Result<BaseOps, OutOfMemory>
     ensures { IfOk result (λ ops. ops ≡ base_ops op) }
 {
@@ -249,8 +229,6 @@ fn base_ops(alloc: Global, op: TextOp) -> Result<BaseOps, OutOfMemory>
 }
 
 /// The members of an operation on the grid. A group is handed on as it is.
-///
-/// Returns `OutOfMemory` where there is no room for a single one.
 fn cell_ops(alloc: Global, op: GridOp) -> Result<CellOps, OutOfMemory>
     ensures { IfOk result (λ ops. ops ≡ cell_ops op) }
 {
@@ -265,8 +243,6 @@ fn cell_ops(alloc: Global, op: GridOp) -> Result<CellOps, OutOfMemory>
 }
 
 /// Adds the members of an operation on the elements of the text.
-///
-/// Returns `OutOfMemory` where there is no room for them.
 fn push_base_ops(ops: &mut BaseOps, op: TextOp) -> Result<(), OutOfMemory>
     ensures { OnOk result (ops.new ≡ ops.old ++ base_ops op) }
 {
@@ -280,8 +256,6 @@ fn push_base_ops(ops: &mut BaseOps, op: TextOp) -> Result<(), OutOfMemory>
 }
 
 /// Adds copies of these.
-///
-/// Returns `OutOfMemory` where there is no room for them.
 fn push_each_base(ops: &mut BaseOps, more: &[BaseOp]) -> Result<(), OutOfMemory>
     ensures { OnOk result (ops.new ≡ ops.old ++ more.now) }
 {
@@ -293,8 +267,6 @@ fn push_each_base(ops: &mut BaseOps, more: &[BaseOp]) -> Result<(), OutOfMemory>
 }
 
 /// Adds the members of an operation on the grid.
-///
-/// Returns `OutOfMemory` where there is no room for them.
 fn push_cell_ops(ops: &mut CellOps, op: GridOp) -> Result<(), OutOfMemory>
     ensures { OnOk result (ops.new ≡ ops.old ++ cell_ops op) }
 {
@@ -305,8 +277,6 @@ fn push_cell_ops(ops: &mut CellOps, op: GridOp) -> Result<(), OutOfMemory>
 }
 
 /// Adds copies of these.
-///
-/// Returns `OutOfMemory` where there is no room for them.
 fn push_each_cell(ops: &mut CellOps, more: &[CellOp]) -> Result<(), OutOfMemory>
     ensures { OnOk result (ops.new ≡ ops.old ++ more.now) }
 {

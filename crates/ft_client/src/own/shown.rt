@@ -24,8 +24,6 @@ use std::alloc::Global;
 
 impl TreeOwn {
     /// All that is shown at the last stage, with these numbers.
-    ///
-    /// Returns `OutOfMemory` where there is no room for it.
     pub(crate) fn view_at(&self, last: u64, numbers: Numbers) -> Result<View, OutOfMemory>
         requires { HoldsOne HoldsTree self.now (λ p. p.last_stage ≡ last) }
         ensures numbers { IfOk result (λ v. v.numbers ≡ numbers) }

@@ -18,8 +18,6 @@ use ft_sumdoc::{CellRecs, IntervalRecs};
 
 impl PlainOwn {
     /// All that it shows at the last stage, with these numbers.
-    ///
-    /// Returns `OutOfMemory` where there is no room for it.
     pub(crate) fn view_at(&self, last: u64, numbers: Numbers) -> Result<View, OutOfMemory>
         ensures numbers { IfOk result (λ v. v.numbers ≡ numbers) }
         ensures content { IfOk result (λ v. view_content v ≡ content (client_at last self.now)) }
@@ -37,8 +35,6 @@ impl PlainOwn {
     }
 
     /// The characters of the text, without the markers.
-    ///
-    /// Returns `OutOfMemory` where there is no room for them.
     fn shown_text(&self, last: u64) -> Result<Text, OutOfMemory>
         ensures { IfOk result (λ text. text ≡ (content (client_at last self.now)).text) }
     {
@@ -46,8 +42,6 @@ impl PlainOwn {
     }
 
     /// The markers with their places.
-    ///
-    /// Returns `OutOfMemory` where there is no room for them.
     fn shown_markers(&self, last: u64) -> Result<Spots, OutOfMemory>
         ensures { IfOk result (λ markers. markers ≡ (content (client_at last self.now)).markers) }
     {
@@ -55,8 +49,6 @@ impl PlainOwn {
     }
 
     /// The runs of equal properties that aren't empty.
-    ///
-    /// Returns `OutOfMemory` where there is no room for them.
     fn shown_runs(&self, last: u64) -> Result<Runs, OutOfMemory>
         ensures { IfOk result (λ runs. runs ≡ (content (client_at last self.now)).runs) }
     {
@@ -64,8 +56,6 @@ impl PlainOwn {
     }
 
     /// Who inserted each visible element of the text.
-    ///
-    /// Returns `OutOfMemory` where there is no room for that.
     pub(crate) fn origins_at(&self, last: u64) -> Result<Attribution, OutOfMemory>
         ensures { IfOk result (λ origins. origins ≡ blame (client_at last self.now)) }
     {
@@ -73,8 +63,6 @@ impl PlainOwn {
     }
 
     /// The intervals after all pending stages, by rising label and id.
-    ///
-    /// Returns `OutOfMemory` where there is no room for them.
     fn shown_intervals(&self, last: u64) -> Result<IntervalRecs, OutOfMemory>
         ensures { IfOk result (λ intervals. intervals ≡ (content (client_at last self.now)).intervals) }
     {
@@ -98,8 +86,6 @@ impl PlainOwn {
     }
 
     /// The cells that have a value after the writes of all pending stages.
-    ///
-    /// Returns `OutOfMemory` where there is no room for them.
     fn shown_cells(&self, last: u64) -> Result<CellRecs, OutOfMemory>
         ensures { IfOk result (λ cells. cells ≡ (content (client_at last self.now)).cells) }
     {

@@ -11,8 +11,6 @@ use ft_plain_lists::cells::PlainCells;
 
 impl PlainDocument {
     /// The cells after the writes of these pending stages.
-    ///
-    /// Returns `OutOfMemory` where there is no room for them.
     pub fn written_cells(&self, pending: &[PlainStage]) -> Result<PlainCells, OutOfMemory>
         ensures { IfOk result (λ cells. cells ≡ cells_after_stages self.now.cells pending.now) }
     {
@@ -23,8 +21,6 @@ impl PlainDocument {
 }
 
 /// Writes what the stages write.
-///
-/// Returns `OutOfMemory` where there is no room for a value.
 fn write_stages(cells: &mut PlainCells, stages: &[PlainStage]) -> Result<(), OutOfMemory>
     ensures { OnOk result (cells.new ≡ cells_after_stages cells.old stages.now) }
 {

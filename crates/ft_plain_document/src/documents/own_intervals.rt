@@ -45,8 +45,6 @@ impl PlainDocument {
     }
 
     /// The intervals after these pending stages, and then these.
-    ///
-    /// Returns `OutOfMemory` where there is no room for them.
     fn settled_before(
         &self,
         pending: &[PlainStage],
@@ -60,8 +58,6 @@ impl PlainDocument {
     }
 
     /// The intervals after these pending stages.
-    ///
-    /// Returns `OutOfMemory` where there is no room for them.
     pub fn settled_intervals(&self, pending: &[PlainStage]) -> Result<PlainIntervals, OutOfMemory>
         ensures { IfOk result (λ shown. shown ≡ shown_intervals self.now.text.items self.now.intervals pending.now) }
     {
@@ -73,8 +69,6 @@ impl PlainDocument {
 
 /// Takes the intervals through these stages: at each every end is settled, and then its operation applied
 /// with its own ends settled.
-///
-/// Returns `OutOfMemory` where there is no room for what they make.
 fn settle_stages(
     shown: &mut PlainIntervals,
     items: &[PlainElement],
@@ -103,8 +97,6 @@ fn settle_stage(
 }
 
 /// Applies the sub-operation, which names these elements, to the intervals, if it is one on them.
-///
-/// Returns `OutOfMemory` where there is no room for what it makes.
 pub fn apply_to_intervals(
     intervals: &mut PlainIntervals,
     sub_operation: &SubOp,

@@ -74,8 +74,6 @@ impl PlainDocument {
     }
 
     /// An equal document.
-    ///
-    /// Returns `OutOfMemory` where there is no room for it.
     fn copy(&self) -> Result<PlainDocument, OutOfMemory>
         ensures { IfOk result (λ copy. copy ≡ self.now) }
     {

@@ -26,8 +26,6 @@ use std::collections::VecDeque;
 
 impl PlainDocument {
     /// The pieces of a stage.
-    ///
-    /// Returns `OutOfMemory` where there is no room for them.
     pub fn pieces(&self, stage: &PlainStage) -> Result<VecDeque<SubOp>, OutOfMemory>
         ensures { IfOk result (λ v. map sub_operation_of v.items ≡ pieces self.now stage.now) }
     {
@@ -259,8 +257,6 @@ fn splices_of(
 }
 
 /// The interval operation with its ends, which are these elements, as they are at the stage.
-///
-/// Returns `OutOfMemory` where there is no room for it.
 fn interval_piece(
     items: &[PlainElement],
     stage: u64,

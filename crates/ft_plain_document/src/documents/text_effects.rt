@@ -121,8 +121,6 @@ impl PlainDocument {
 }
 
 /// The contents of the elements that the segment puts in.
-///
-/// Returns `OutOfMemory` where there is no room for them.
 pub(crate) fn segment_contents(alloc: Global, seg: &Seg) -> Result<Vec<Content>, OutOfMemory>
     ensures { IfOk result (λ v. map content_of v.items ≡ segment_contents seg.now) }
 {

@@ -9,8 +9,6 @@ use ft_base::OutOfMemory;
 impl PlainDocument {
     /// The document as a summary keeps it: without collectable elements and cells of removed rows and
     /// columns, and with insertions at or below the minimum written as the universal one.
-    ///
-    /// Returns `OutOfMemory` where there is no room for it.
     pub fn trimmed(&self) -> Result<PlainDocument, OutOfMemory>
         ensures { IfOk result (λ doc. doc ≡ trim self.now) }
     {

@@ -7,8 +7,6 @@ use ft_base::{Datum, OutOfMemory};
 
 impl PlainCell {
     /// An equal cell.
-    ///
-    /// Returns `OutOfMemory` where there is no room for it.
     pub(crate) fn copy(&self) -> Result<PlainCell, OutOfMemory>
         ensures { IfOk result (λ copy. copy ≡ self.now) }
     {
@@ -22,8 +20,6 @@ impl PlainCell {
 
 impl PlainCells {
     /// Equal cells.
-    ///
-    /// Returns `OutOfMemory` where there is no room for them.
     pub fn copy(&self) -> Result<PlainCells, OutOfMemory>
         ensures { IfOk result (λ copy. copy ≡ self.now) }
     {

@@ -48,8 +48,6 @@ impl PlainCell {
 impl PlainCells {
     /// The values of each row from left to right, in the columns that a client sees at its pending stage. Each cell is
     /// looked up twice by a name, and each column once.
-    ///
-    /// Returns `OutOfMemory` where there is no room for them.
     pub(crate) fn placed(
         &self,
         cols: &[PlainElement],
@@ -72,8 +70,6 @@ impl PlainCells {
 }
 
 /// The cells of each column, in their order.
-///
-/// Returns `OutOfMemory` where there is no room for them.
 fn by_column<'a>(
     alloc: Global,
     cells: &'a [PlainCell],
@@ -88,8 +84,6 @@ fn by_column<'a>(
 }
 
 /// Adds the cells of the column, which is shown at this place, to their rows.
-///
-/// Returns `OutOfMemory` where there is no room for them.
 fn place_column<'a>(
     rows: &mut NamedLists<PlacedValue<'a>>,
     place: u64,

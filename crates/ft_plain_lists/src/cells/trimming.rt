@@ -14,8 +14,6 @@ use std::alloc::Global;
 
 impl PlainCells {
     /// The cells whose value isn't null and whose row and column aren't removed.
-    ///
-    /// Returns `OutOfMemory` where there is no room for them.
     pub fn trimmed(
         &self,
         rows: &[PlainElement],
@@ -56,8 +54,6 @@ impl PlainCell {
 }
 
 /// A table of which sequenced elements have a sequenced removal.
-///
-/// Returns `OutOfMemory` where there is no room for it.
 fn removals(alloc: Global, items: &[PlainElement]) -> Result<NameTable<bool>, OutOfMemory>
     ensures { IfOk result (λ table. HasAnswers (has_sequenced_removal items.now) table) }
 {

@@ -164,8 +164,6 @@ impl PlainElement {
     }
 
     /// Its acknowledged properties after the pending changes of the stage.
-    ///
-    /// Returns `OutOfMemory` where there is no room for them.
     fn acked_props(&self, stage: u64) -> Result<Props, OutOfMemory>
         ensures { IfOk result (λ props. props ≡ acked_props stage self.now.props self.now.pending) }
     {
@@ -179,8 +177,6 @@ impl PlainElement {
     }
 
     /// An equal element.
-    ///
-    /// Returns `OutOfMemory` where there is no room for it.
     pub fn copy(&self) -> Result<PlainElement, OutOfMemory>
         ensures { IfOk result (λ copy. copy ≡ self.now) }
     {

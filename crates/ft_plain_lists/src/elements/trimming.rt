@@ -45,8 +45,6 @@ impl PlainElement {
 
     /// The element as a summary has it: an insertion at or below the minimum is written as the universal
     /// one.
-    ///
-    /// Returns `OutOfMemory` where there is no room for it.
     pub fn trimmed(&self, min: u64) -> Result<PlainElement, OutOfMemory>
         ensures { IfOk result (λ e. e ≡ trim_element min self.now) }
     {

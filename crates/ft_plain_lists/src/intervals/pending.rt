@@ -21,8 +21,6 @@ use ft_props::{PropSet, Props};
 
 impl PlainInterval {
     /// An equal interval.
-    ///
-    /// Returns `OutOfMemory` where there is no room for it.
     pub fn copy(&self) -> Result<PlainInterval, OutOfMemory>
         ensures { IfOk result (λ copy. copy ≡ self.now) }
     {
@@ -47,8 +45,6 @@ impl PlainInterval {
 
 impl PlainIntervals {
     /// Equal intervals.
-    ///
-    /// Returns `OutOfMemory` where there is no room for them.
     pub fn copy(&self) -> Result<PlainIntervals, OutOfMemory>
         ensures { IfOk result (λ copy. copy ≡ self.now) }
     {

@@ -18,8 +18,6 @@ use std::alloc::Global;
 
 impl PlainList {
     /// An equal list.
-    ///
-    /// Returns `OutOfMemory` where there is no room for it.
     pub fn copy(&self) -> Result<PlainList, OutOfMemory>
         ensures { IfOk result (λ copy. copy ≡ self.now) }
     {
@@ -170,8 +168,6 @@ fn acknowledge_all(
 }
 
 /// The sequenced elements, without what is pending on those of which a removal is sequenced.
-///
-/// Returns `OutOfMemory` where there is no room for them.
 fn carried_elements(alloc: Global, items: &[PlainElement]) -> Result<Vec<PlainElement>, OutOfMemory>
     ensures { IfOk result (λ v. v.items ≡ retain_map is_sequenced carried_element items.now) }
 {
@@ -185,8 +181,6 @@ fn carried_elements(alloc: Global, items: &[PlainElement]) -> Result<Vec<PlainEl
 }
 
 /// The element, without what is pending on it if a removal of it is sequenced.
-///
-/// Returns `OutOfMemory` where there is no room for it.
 fn carried_element(e: &PlainElement) -> Result<PlainElement, OutOfMemory>
     ensures { IfOk result (λ carried. carried ≡ carried_element e.now) }
 {
@@ -235,8 +229,6 @@ pub fn stage_position(items: &[PlainElement], stage: u64) -> u64
 }
 
 /// Copies of the elements that the stage inserted.
-///
-/// Returns `OutOfMemory` where there is no room for them.
 fn elements_of_stage(
     alloc: Global,
     items: &[PlainElement],

@@ -9,8 +9,6 @@ use ft_base::OutOfMemory;
 impl PlainList {
     /// The list as a summary has it: without the collectable elements, and with insertions at or below the
     /// minimum written as the universal one.
-    ///
-    /// Returns `OutOfMemory` where there is no room for it.
     pub fn trimmed(&self, min: u64) -> Result<PlainList, OutOfMemory>
         ensures { IfOk result (λ list. list ≡ trim_list min self.now) }
     {

@@ -39,8 +39,6 @@ impl<D: OwnDocument> LinkedClient<D> {
     }
 
     /// As what the client sends an operation: an online client sends it, another keeps it unsent.
-    ///
-    /// Returns `OutOfMemory` where there is no room for a copy.
     fn sent_as(&self, op: &ChannelOp) -> Result<Option<Sent>, OutOfMemory>
         ensures { IfOk result (λ sent. sent ≡ sent_as self.now.link self.now.box.next op.now) }
     {

@@ -86,8 +86,6 @@ impl<D: OwnDocument> LinkedClient<D> {
     }
 
     /// Takes away some of what was removed at or below the floor.
-    ///
-    /// Returns `OutOfMemory` where there is no room for that.
     fn tidy(&mut self) -> Result<(), OutOfMemory>
         requires { RunsForOne D.holds self.old Anyone }
         ensures compacts { OnOk result (TakesCompaction D.holds self.old self.new) }
@@ -99,8 +97,6 @@ impl<D: OwnDocument> LinkedClient<D> {
     }
 
     /// Takes away all that was removed at or below the floor, where the document compacts.
-    ///
-    /// Returns `OutOfMemory` where there is no room for that.
     pub fn compact(&mut self) -> Result<(), OutOfMemory>
         requires { RunsForOne D.holds self.old Anyone }
         ensures compacts { OnOk result (TakesCompaction D.holds self.old self.new) }

@@ -19,8 +19,6 @@ use ft_sumdoc::{SumDoc, Texts};
 
 impl<D: OwnDocument> LinkedClient<D> {
     /// All that it shows, with these numbers.
-    ///
-    /// Returns `OutOfMemory` where there is no room for it.
     pub fn view(&self, numbers: Numbers) -> Result<View, OutOfMemory>
         requires { RunsForOne D.holds self.now Anyone }
         ensures numbers { IfOk result (λ v. v.numbers ≡ numbers) }
@@ -30,8 +28,6 @@ impl<D: OwnDocument> LinkedClient<D> {
     }
 
     /// Who inserted each visible element of the text.
-    ///
-    /// Returns `OutOfMemory` where there is no room for that.
     pub fn origins(&self) -> Result<Attribution, OutOfMemory>
         requires { RunsForOne D.holds self.now Anyone }
         ensures { (low : ℕ) (p : NaiveClient) → IsWellNamed p → IsLinkedAs D.holds low self.now p → IfOk result (λ origins. origins ≡ blame p) }
