@@ -11,8 +11,7 @@ ghost use Rattle.ft_replica.specs.Own.{resent};
 
 use ft_base::OutOfMemory;
 use ft_op::{BaseOp, BaseOps, CellOp, CellOps, ChannelOp, GridOp, TextOp};
-use ft_plain_document::documents::PlainDocument;
-use ft_plain_document::stages::{PlainStage, PlainStages, SubOp};
+use ft_plain_document::{PlainDocument, PlainStage, PlainStages, SubOp};
 use ft_replica::Resent;
 use std::alloc::Global;
 use std::collections::VecDeque;

@@ -7,16 +7,16 @@ ghost use Rattle.ft_msg.specs.Agreed.{body_effect, reference_number, take_entry,
 ghost use Rattle.ft_msg.specs.WellFormed.{HasNumbersInRange};
 
 mod acknowledgements;
-pub mod building;
+pub(crate) mod building;
 mod grid_effects;
-pub mod held;
+pub(crate) mod held;
 mod interval_effects;
-pub mod own_cells;
-pub mod own_edits;
-pub mod own_intervals;
+pub(crate) mod own_cells;
+pub(crate) mod own_edits;
+pub(crate) mod own_intervals;
 mod own_operations;
 mod pieces;
-pub mod rebuilding;
+pub(crate) mod rebuilding;
 mod text_effects;
 mod trimming;
 
@@ -24,10 +24,7 @@ use building::DocumentNumbers;
 use ft_base::{OutOfMemory, Perspective};
 use ft_msg::{Body, Entry};
 use ft_op::ChannelOp;
-use ft_plain_lists::cells::PlainCells;
-use ft_plain_lists::elements::PlainElement;
-use ft_plain_lists::intervals::{PlainInterval, PlainIntervals};
-use ft_plain_lists::lists::PlainList;
+use ft_plain_lists::{PlainCells, PlainElement, PlainInterval, PlainIntervals, PlainList};
 use std::alloc::Global;
 use std::marker::Model;
 

@@ -5,7 +5,7 @@ ghost use Rattle.ft_msg.specs.Acknowledgement.{renamed, renamed_names};
 ghost use Rattle.ft_plain_document.specs.Renamed.{renaming_of};
 
 use ft_base::OutOfMemory;
-use ft_plain_lists::names::{ElementName, ElementNames};
+use ft_plain_lists::{ElementName, ElementNames};
 use std::alloc::Global;
 use std::marker::Model;
 

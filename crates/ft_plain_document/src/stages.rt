@@ -9,7 +9,7 @@ ghost use Rattle.ft_plain_document.specs.SubOperations.{sub_operation_of};
 use crate::renamings::Renaming;
 use ft_base::{Datum, List, OutOfMemory};
 use ft_op::{BaseOp, CellOp, ChannelOp, GridOp, TextOp};
-use ft_plain_lists::names::ElementNames;
+use ft_plain_lists::ElementNames;
 use std::alloc::Global;
 use std::collections::VecDeque;
 use std::marker::Model;

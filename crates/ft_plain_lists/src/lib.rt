@@ -4,21 +4,37 @@
 //! A call that can't return `OutOfMemory` takes no memory; one that can returns it where there is no room.
 #![tactic(auto)]
 
-pub mod cells;
-pub mod element_tests;
-pub mod elements;
-pub mod ends;
-pub mod intervals;
-pub mod lists;
+mod cells;
+mod element_tests;
+mod elements;
+mod ends;
+mod intervals;
+mod lists;
 mod marks;
 mod name_tables;
 mod named_lists;
-pub mod names;
-pub mod runs;
-pub mod scans;
-pub mod shown;
-pub mod shown_grid;
-pub mod shown_intervals;
-pub mod shown_origins;
+mod names;
+mod runs;
+mod scans;
+mod shown;
+mod shown_grid;
+mod shown_intervals;
+mod shown_origins;
 mod slides;
 mod tables_of_ends;
+
+pub use cells::{PlainCell, PlainCells};
+pub use element_tests::{
+    AnnotatedBy, AtStage, Before, ElementTest, InsertedBy, Pending, RemovedBy, Sequenced, Unremoved,
+};
+pub use elements::{Content, PlainElement, characters};
+pub use ends::{elements_at_ends, elements_at_given_ends, ends_fit, given_ends_fit};
+pub use intervals::{PlainInterval, PlainIntervals};
+pub use lists::{PlainList, stage_position};
+pub use names::{ElementName, ElementNames};
+pub use runs::{lowered_runs, marked_runs};
+pub use scans::{rank, units};
+pub use shown::{push_character, shown_markers, shown_runs, shown_text};
+pub use shown_grid::{shown_cells, shown_count};
+pub use shown_intervals::{end_number, shown_intervals};
+pub use shown_origins::shown_origins;

@@ -7,9 +7,7 @@ ghost use Rattle.ft_plain_lists.specs.Contents.{content_of};
 
 use crate::marks::{stamp_of, stamps_of};
 use ft_base::OutOfMemory;
-use ft_plain_lists::elements::{Content, characters};
-use ft_plain_lists::lists::PlainList;
-use ft_plain_lists::scans::units;
+use ft_plain_lists::{Content, PlainList, characters, units};
 use ft_props::Props;
 use ft_sumdoc::{RunRec, Seg, SegRec};
 use std::alloc::Global;

@@ -6,10 +6,9 @@ ghost use Rattle.ft_msg.specs.Summary.{cells_of, interval_of};
 ghost use Rattle.ft_plain_summary.specs.NamedPlaces.{named_cell, named_cells, named_end, named_interval, unremoved_names};
 
 use ft_base::{Datum, OutOfMemory};
-use ft_plain_lists::cells::PlainCells;
-use ft_plain_lists::elements::PlainElement;
-use ft_plain_lists::intervals::{PlainInterval, PlainIntervals};
-use ft_plain_lists::names::{ElementName, ElementNames};
+use ft_plain_lists::{
+    ElementName, ElementNames, PlainCells, PlainElement, PlainInterval, PlainIntervals,
+};
 use ft_sumdoc::{CellRec, IntervalRec};
 use std::alloc::Global;
 

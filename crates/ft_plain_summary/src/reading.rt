@@ -7,8 +7,7 @@ ghost use Rattle.ft_msg.specs.Summary.{doc_of};
 use crate::lists::{text_list, unit_list};
 use crate::named::{cells_of, intervals_of};
 use ft_base::OutOfMemory;
-use ft_plain_document::documents::PlainDocument;
-use ft_plain_document::documents::building::{DocumentNumbers, GridParts, TextParts};
+use ft_plain_document::{DocumentNumbers, GridParts, PlainDocument, TextParts};
 use ft_sumdoc::SumDoc;
 use std::alloc::Global;
 

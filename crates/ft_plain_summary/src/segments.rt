@@ -9,8 +9,7 @@ ghost use Rattle.ft_plain_summary.specs.OpenSegments.{ended_segments, open_segme
 
 use crate::marks::{author_of, mark_of, marks_of, same_mark, same_props, same_stamps};
 use ft_base::{Datum, OutOfMemory, Text};
-use ft_plain_lists::elements::{Content, PlainElement};
-use ft_plain_lists::shown::push_character;
+use ft_plain_lists::{Content, PlainElement, push_character};
 use ft_props::Props;
 use ft_sumdoc::{CHUNK_LENGTH, Mark, Marks, Seg, SegRec, SegRecs};
 use std::alloc::Global;

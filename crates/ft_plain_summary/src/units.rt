@@ -7,7 +7,7 @@ ghost use Rattle.ft_plain_summary.specs.OpenRuns.{ended_runs, open_run};
 
 use crate::marks::{mark_of, marks_of, same_stamps};
 use ft_base::OutOfMemory;
-use ft_plain_lists::elements::PlainElement;
+use ft_plain_lists::PlainElement;
 use ft_sumdoc::{RunRec, RunRecs};
 use std::alloc::Global;
 

@@ -6,9 +6,8 @@ ghost use Rattle.ft_msg.specs.SummaryOf.{summary_of};
 use crate::segments::text_segments;
 use crate::units::unit_runs;
 use ft_base::OutOfMemory;
-use ft_plain_document::documents::PlainDocument;
-use ft_plain_lists::shown_grid::shown_cells;
-use ft_plain_lists::shown_intervals::shown_intervals;
+use ft_plain_document::PlainDocument;
+use ft_plain_lists::{shown_cells, shown_intervals};
 use ft_sumdoc::{SumDoc, Texts};
 
 /// The summary of the document, with the names of the connections that it knows.

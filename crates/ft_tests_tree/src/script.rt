@@ -15,7 +15,7 @@ use crate::upkeep::{acknowledge_next, compact, unmark};
 use ft_base::Perspective;
 use ft_interval::Collections;
 use ft_op::TextOp;
-use ft_plain_lists::lists::PlainList;
+use ft_plain_lists::PlainList;
 use ft_tests_steps::StepFault;
 use ft_tree::{TextContent, Tree};
 use std::alloc::Global;

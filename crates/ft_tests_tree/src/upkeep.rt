@@ -7,7 +7,7 @@ ghost use Rattle.ft_tests_steps.specs.Passing.{HasNoReferences};
 use crate::operations::{acknowledge_first, is_first};
 use crate::progress::Progress;
 use ft_interval::Collections;
-use ft_plain_lists::lists::PlainList;
+use ft_plain_lists::PlainList;
 use ft_tests_steps::StepFault;
 use ft_tests_steps::texts::{acknowledge, first_marked};
 use ft_tree::{TextContent, Tree};

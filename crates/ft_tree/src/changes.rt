@@ -17,7 +17,7 @@ use ft_base::{Datum, OutOfMemory, Perspective, Stamp, Steps};
 use ft_block::LenView;
 use ft_props::Changes;
 use ft_tree_leaves::{Content, LeafChange};
-use ft_tree_steps::ranges::RangeEdit;
+use ft_tree_steps::RangeEdit;
 use std::sync::ledger::Ledger;
 
 impl<C: Content> Tree<C> {

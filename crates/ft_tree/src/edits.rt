@@ -13,7 +13,7 @@ use ft_base::{Datum, Element, OutOfMemory};
 use ft_props::{Overlay, Props};
 use ft_tree_blocks::LeafBlocks;
 use ft_tree_leaves::{Content, TreeLeaf};
-use ft_tree_steps::cuts::cut_at;
+use ft_tree_steps::cut_at;
 use std::alloc::Global;
 use std::marker::Brand;
 use std::sync::ledger::Blank;

@@ -19,9 +19,7 @@ use ft_refs::{Place, RefId};
 use ft_tree_blocks::settling::settled_on;
 use ft_tree_leaves::Content;
 use ft_tree_leaves::leaves::Standing;
-use ft_tree_steps::offsets::{elements_before, seen_before_on, seen_offset};
-use ft_tree_steps::places::seen_count;
-use ft_tree_steps::scans::settled_number;
+use ft_tree_steps::{elements_before, seen_before_on, seen_count, seen_offset, settled_number};
 
 impl<C: Content> Tree<C> {
     /// Puts a pending reference on the element that the view sees with `p` seen ones before it.

@@ -25,8 +25,7 @@ use ft_base::{Perspective, Stamp, Steps};
 use ft_block::Found;
 use ft_props::PropSet;
 use ft_tree_leaves::Content;
-use ft_tree_steps::cuts::insert_at;
-use ft_tree_steps::places::{find_local, find_seen_at};
+use ft_tree_steps::{find_local, find_seen_at, insert_at};
 use std::sync::ledger::Ledger;
 
 impl<C: Content> Tree<C> {

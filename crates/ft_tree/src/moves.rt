@@ -15,9 +15,7 @@ use ft_arena::NodeId;
 use ft_base::{Element, OutOfMemory};
 use ft_props::Props;
 use ft_tree_leaves::Content;
-use ft_tree_steps::edits::move_at;
-use ft_tree_steps::joins::{join_at, sweep_joined, sweep_without};
-use ft_tree_steps::unmarks::{unmark_all_at, unmark_at};
+use ft_tree_steps::{join_at, move_at, sweep_joined, sweep_without, unmark_all_at, unmark_at};
 
 impl<C: Content> Tree<C> {
     /// Puts elements with these stamps and acknowledged properties at the list's end, and nothing pending.

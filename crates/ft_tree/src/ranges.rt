@@ -18,8 +18,7 @@ use crate::tree::Tree;
 use ft_base::{Perspective, Steps};
 use ft_block::{Found, LenView};
 use ft_tree_leaves::Content;
-use ft_tree_steps::places::{find_local, find_seen_at, seen_count};
-use ft_tree_steps::ranges::{RangeEdit, edit_behind};
+use ft_tree_steps::{RangeEdit, edit_behind, find_local, find_seen_at, seen_count};
 use std::sync::ledger::Ledger;
 
 impl<C: Content> Tree<C> {

@@ -5,13 +5,24 @@
 //! A call that can't return `OutOfMemory` takes no memory; one that can returns it where there is no room.
 #![tactic(auto)]
 
-pub mod cuts;
-pub mod edits;
-pub mod finds;
-pub mod joins;
-pub mod offsets;
-pub mod places;
-pub mod ranges;
-pub mod scans;
-pub mod stamp_lists;
-pub mod unmarks;
+mod cuts;
+mod edits;
+mod finds;
+mod joins;
+mod offsets;
+mod places;
+mod ranges;
+mod scans;
+mod stamp_lists;
+mod unmarks;
+
+pub use cuts::{cut_at, insert_at};
+pub use edits::move_at;
+pub use finds::{find_leaf, find_removed_leaf};
+pub use joins::{join_at, sweep_joined, sweep_without};
+pub use offsets::{elements_before, seen_before_on, seen_offset};
+pub use places::{find_local, find_seen_at, seen_count, seen_left};
+pub use ranges::{RangeEdit, edit_behind};
+pub use scans::settled_number;
+pub use stamp_lists::all_stamps;
+pub use unmarks::{unmark_all_at, unmark_at};

@@ -10,10 +10,9 @@ use crate::own::PlainOwn;
 use ft_attrib::Attribution;
 use ft_base::{OutOfMemory, Text};
 use ft_msg::{Numbers, Runs, Spots, View};
-use ft_plain_lists::shown::{shown_markers, shown_runs, shown_text};
-use ft_plain_lists::shown_grid::{shown_cells, shown_count};
-use ft_plain_lists::shown_intervals::shown_intervals;
-use ft_plain_lists::shown_origins::shown_origins;
+use ft_plain_lists::{
+    shown_cells, shown_count, shown_intervals, shown_markers, shown_origins, shown_runs, shown_text,
+};
 use ft_sumdoc::{CellRecs, IntervalRecs};
 
 impl PlainOwn {

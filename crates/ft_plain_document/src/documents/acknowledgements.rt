@@ -11,8 +11,7 @@ use crate::renamings::Renaming;
 use crate::stages::{PlainStage, SubOp};
 use ft_base::OutOfMemory;
 use ft_op::CellOp;
-use ft_plain_lists::cells::PlainCells;
-use ft_plain_lists::names::ElementNames;
+use ft_plain_lists::{ElementNames, PlainCells};
 
 impl PlainDocument {
     /// Makes these stages sequenced one after another, under number `seq` by connection `conn`, and tells the

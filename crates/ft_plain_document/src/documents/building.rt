@@ -3,9 +3,7 @@
 ghost use Rattle.std.specs.Prelude.{◌≡◌, ◌<◌, ◌^◌};
 
 use crate::documents::PlainDocument;
-use ft_plain_lists::cells::PlainCells;
-use ft_plain_lists::intervals::PlainIntervals;
-use ft_plain_lists::lists::PlainList;
+use ft_plain_lists::{PlainCells, PlainIntervals, PlainList};
 
 /// The text of a document with its intervals.
 #[derive(Drop)]

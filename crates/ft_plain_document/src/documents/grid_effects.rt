@@ -9,7 +9,7 @@ use crate::documents::PlainDocument;
 use ft_base::{OutOfMemory, Perspective};
 use ft_json::ValText;
 use ft_op::{CellOp, GridOp, Target};
-use ft_plain_lists::lists::PlainList;
+use ft_plain_lists::PlainList;
 
 impl PlainDocument {
     /// Applies an operation of the grid under number `seq`.

@@ -7,7 +7,7 @@ ghost use Rattle.ft_op.specs.Document.{interval_effect, with_slid_ends};
 use crate::documents::PlainDocument;
 use ft_base::{OutOfMemory, Perspective, Text};
 use ft_op::Ends;
-use ft_plain_lists::ends::{elements_at_ends, elements_at_given_ends, ends_fit, given_ends_fit};
+use ft_plain_lists::{elements_at_ends, elements_at_given_ends, ends_fit, given_ends_fit};
 use ft_props::PropSet;
 
 impl PlainDocument {

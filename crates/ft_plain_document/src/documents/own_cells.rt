@@ -7,7 +7,7 @@ use crate::documents::PlainDocument;
 use crate::documents::acknowledgements::write_to_cells;
 use crate::stages::PlainStage;
 use ft_base::OutOfMemory;
-use ft_plain_lists::cells::PlainCells;
+use ft_plain_lists::PlainCells;
 
 impl PlainDocument {
     /// The cells after the writes of these pending stages.

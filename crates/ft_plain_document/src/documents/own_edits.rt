@@ -15,9 +15,7 @@ use crate::documents::text_effects::segment_contents;
 use ft_base::OutOfMemory;
 use ft_msg::EditFault;
 use ft_op::{BaseOp, CellOp, Seg, Target};
-use ft_plain_lists::element_tests::Before;
-use ft_plain_lists::lists::PlainList;
-use ft_plain_lists::names::ElementNames;
+use ft_plain_lists::{Before, ElementNames, PlainList};
 use ft_props::{Changes, PropSet, Props};
 
 /// Why a sub-operation of the client's own isn't taken.

@@ -15,11 +15,9 @@ use crate::stages::{PlainStage, SubOp};
 use ft_base::OutOfMemory;
 use ft_msg::EditFault;
 use ft_op::{Ends, TextOp};
-use ft_plain_lists::element_tests::Before;
-use ft_plain_lists::elements::PlainElement;
-use ft_plain_lists::ends::{elements_at_given_ends, given_ends_fit};
-use ft_plain_lists::intervals::PlainIntervals;
-use ft_plain_lists::names::ElementNames;
+use ft_plain_lists::{
+    Before, ElementNames, PlainElement, PlainIntervals, elements_at_given_ends, given_ends_fit,
+};
 
 impl PlainDocument {
     /// The elements that an interval operation of the client's own names, after these pending stages and those

@@ -11,7 +11,7 @@ use crate::documents::own_edits::NotTaken;
 use crate::stages::{PlainStage, PlainStages, SubOp, sub_operations};
 use ft_base::OutOfMemory;
 use ft_op::ChannelOp;
-use ft_plain_lists::names::ElementNames;
+use ft_plain_lists::ElementNames;
 use std::collections::VecDeque;
 
 impl PlainDocument {

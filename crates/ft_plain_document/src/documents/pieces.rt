@@ -13,13 +13,10 @@ use crate::stages::{PlainStage, SubOp, one};
 use ft_base::{Datum, OutOfMemory};
 use ft_json::ValText;
 use ft_op::{BaseOp, CellOp, Ends, Seg, Target, TextOp};
-use ft_plain_lists::element_tests::{AnnotatedBy, Before, RemovedBy};
-use ft_plain_lists::elements::PlainElement;
-use ft_plain_lists::lists::stage_position;
-use ft_plain_lists::names::{ElementName, ElementNames};
-use ft_plain_lists::runs::{lowered_runs, marked_runs};
-use ft_plain_lists::scans::rank;
-use ft_plain_lists::shown_intervals::end_number;
+use ft_plain_lists::{
+    AnnotatedBy, Before, ElementName, ElementNames, PlainElement, RemovedBy, end_number,
+    lowered_runs, marked_runs, rank, stage_position,
+};
 use ft_props::{Changes, PropSet};
 use std::alloc::Global;
 use std::collections::VecDeque;

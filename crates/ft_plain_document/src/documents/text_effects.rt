@@ -8,7 +8,7 @@ ghost use Rattle.ft_plain_lists.specs.Contents.{content_of};
 use crate::documents::PlainDocument;
 use ft_base::{OutOfMemory, Perspective, Stamp};
 use ft_op::{BaseOp, Seg, TextOp};
-use ft_plain_lists::elements::{Content, characters};
+use ft_plain_lists::{Content, characters};
 use ft_props::{Changes, PropSet, Props};
 use std::alloc::Global;
 
