@@ -165,6 +165,7 @@ impl<L, B> Arena<L, B> {
         ensures sound { IsForest self.now }
         ensures few { length self.now.leaves < 2 ^ 64 }
     {
+        // That there are fewer slots than numbers is read off its contract.
         let _capacity = self.slots.capacity();
         wrap(self.head)
     }

@@ -86,6 +86,7 @@ fn filled<G: Ledger>(
     let mut blocks = Blocks::new(alloc);
     let mut numbers = Numbers::new();
     for n in 0..leaves {
+        // What holds of the leaves at any time is read off its contract.
         let _first = blocks.first();
         let n = u64::from(n);
         let at = sender(n, window);

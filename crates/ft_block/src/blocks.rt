@@ -337,6 +337,7 @@ impl<L: Leaf> Blocks<L> {
         ensures floor { self.new.floor ≡ self.old.floor }
         ensures err { OnErr result (self.new.usable ≡ false) }
     {
+        // That it has an element is read off its contract.
         let _len = leaf.len();
         match insert_in::<L, Brand>(
             &mut self.arena,
@@ -485,6 +486,7 @@ impl<L: Leaf> Blocks<L> {
         ensures floor { self.new.floor ≡ self.old.floor }
         ensures err { OnErr result (self.new.usable ≡ false) }
     {
+        // What holds of the leaves at any time is read off its contract.
         let _first = self.first();
         let Some(next) = self.next(id) else {
             unreachable!();

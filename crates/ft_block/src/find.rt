@@ -43,6 +43,7 @@ fn child_at<L: Leaf, G: Ledger>(
     ensures beyond { IfErr result (λ n. n < p) }
     ensures cost { steps.new ≤ steps.old + 8 }
 {
+    // That they are at most eight is read off its contract.
     let _few = kids.len();
     let mut rest = p;
     let mut i = 0;

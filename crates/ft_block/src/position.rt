@@ -34,6 +34,7 @@ fn length_before<L: Leaf, G: Ledger>(
     let Node::Block { kids, .. } = arena.read(block, steps) else {
         unreachable!();
     };
+    // That they are at most eight is read off its contract.
     let _few = kids.len();
     let mut sum = 0;
     let mut i = 0;

@@ -30,6 +30,7 @@ fn sum_of<L: Leaf, G: Ledger>(
     ensures floor { IfOk result (λ sum. sum.table.floor ≡ floor) }
     ensures sum { IfOk result (λ sum. (view : View) → KeepsLengths floor view → kept_length view sum ≡ total (length_of (by_view L.size L.element view) arena.now) kids.now) }
 {
+    // That they are at most eight is read off its contract.
     let _few = kids.len();
     let mut sum = Summary::new(alloc, floor);
     let mut i = 0;

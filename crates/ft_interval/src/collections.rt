@@ -265,6 +265,7 @@ impl Collections {
         ensures order { IsInOrder self.now }
         ensures names { NamesRise self.now.acked }
     {
+        // That names rise is read off its contract.
         let _all = self.acked.as_slice();
         match self.pending.first() {
             Some(t) => Some(t.stage),

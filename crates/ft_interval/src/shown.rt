@@ -117,7 +117,7 @@ pub fn shown_ends(
         let ts = placed_operations tree.now.refs pending.now in
         ShowsEnds tree.now last (interval_of (label.now, id.now) (shown_intervals xs is ts)) result }
 {
-    // That names rise is read off it.
+    // That names rise is read off its contract.
     let _all = acked.as_slice();
     let mut shown = first_shown(tree, acked, label, id);
     let mut stage = 0;

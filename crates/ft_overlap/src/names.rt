@@ -52,6 +52,7 @@ fn last_named<P: Places, G: Ledger>(
     ensures one { NamesOne result (map (told arena.now) kids.now) }
     ensures last { NamesLast (P.place_of at.now) result (map (told arena.now) kids.now) }
 {
+    // That they are at most eight is read off its contract.
     let _few = kids.len();
     let Some(first) = kids.get(0) else {
         unreachable!();

@@ -62,6 +62,7 @@ fn child_by<P: Places, G: Ledger>(
     requires known { (id : ℕ) (x : Item) → leaf_value arena.now id ≡ Some x → P.Knows at.now x.start }
     ensures { IsChildBy (P.place_of at.now) (P.place_of at.now item.now.start) arena.now _block kids.now result }
 {
+    // That they are at most eight is read off its contract.
     let _few = kids.len();
     let Some(first) = kids.get(0) else {
         unreachable!();

@@ -66,6 +66,7 @@ pub(crate) fn collect<P: Places, G: Ledger>(
             if at.place(value.sum.end) < range.low {
                 return Ok(true);
             }
+            // That they are at most eight is read off its contract.
             let _few = kids.len();
             let mut i = 0;
             while let Some(kid) = kids.get(i) {

@@ -214,5 +214,6 @@ impl Table {
 pub fn same_by_stamps(table: &Table)
     ensures { (xs ys : List Item) → CountsItems table.now xs → SameByStamps xs ys → CountsItems table.now ys }
 {
+    // What holds of a table at any time is read off its field.
     let _floor = table.floor;
 }

@@ -48,6 +48,7 @@ pub(crate) fn marked_runs<C: Content>(
 {
     let before = stage.saturating_sub(1);
     let mut runs = Vec::new(tree.allocator());
+    // What holds of the leaves at any time is read off its contract.
     let _first = tree.first_leaf();
     let touched = tree.stage_leaves(stage)?;
     for leaf in &touched {

@@ -47,12 +47,13 @@ where
     ensures made { OnOk result (tree.new.made ≡ tree.old.made) }
     ensures usable { OnOk result (tree.new.usable ≡ true) }
 {
+    // What holds of the leaves at any time is read off its contract.
     let _first = tree.first_leaf();
     let moves = stage_moves(tree)?;
     for next in &moves {
         put_stage(tree, next.stage, next.position)?;
     }
-    // What a contract says of references is read off it.
+    // What holds of the leaves at any time is read off its contract.
     let _moved = tree.first_leaf();
     Ok(())
 }
@@ -64,6 +65,7 @@ pub(crate) fn stage_moves<C: Content>(tree: &Tree<C>) -> Result<Vec<StageMove>, 
 {
     let mut moves = Vec::new(tree.allocator());
     let mut stage = 0;
+    // What holds of the leaves at any time is read off its contract.
     let _first = tree.first_leaf();
     while let Some(next) = tree.next_pending(stage) {
         if let Some(position) = insertion_position(tree, next)? {
@@ -83,6 +85,7 @@ fn leaf_before<C: Content>(tree: &Tree<C>, position: u64, stage: u64) -> Option<
     ensures { (q : ℕ) → q ≤ len (seen_by leaf_stamps stage) tree.now.leaves → position ≡ seen_size C.units stage q tree.now.leaves
         → result ≡ seen_node (seen_by leaf_stamps stage) q None tree.now.leaves }
 {
+    // What holds of the leaves at any time is read off its contract.
     let _first = tree.first_leaf();
     match tree.find(position, LenView::Stage(stage)) {
         Some(found) => found.leaf,
@@ -110,6 +113,7 @@ where
     ensures made { OnOk result (tree.new.made ≡ tree.old.made) }
     ensures usable { OnOk result (tree.new.usable ≡ true) }
 {
+    // What holds of the leaves at any time is read off its contract.
     let _first = tree.first_leaf();
     let mut leaves = inserted_leaves(tree, stage)?;
     let at = leaf_before(tree, position, stage - 1);
@@ -136,6 +140,7 @@ where
     ensures made { OnOk result (tree.new.made ≡ tree.old.made) }
     ensures usable { OnOk result (tree.new.usable ≡ true) }
 {
+    // What holds of the leaves at any time is read off its contract.
     let _first = tree.first_leaf();
     match at {
         Some(other) => tree.move_leaf(leaf, Some(*other)),

@@ -116,6 +116,7 @@ fn carry_leaf<C: Content>(tree: &mut Tree<C>, leaf: NodeId) -> Result<(), OutOfM
     ensures made { OnOk result (tree.new.made ≡ tree.old.made) }
     ensures usable { OnOk result (tree.new.usable ≡ true) }
 {
+    // What holds of the leaves at any time is read off its contract.
     let _first = tree.first_leaf();
     if !is_gone(tree.leaf_element(leaf)) || !has_pending(tree, leaf) {
         return Ok(());
@@ -134,6 +135,7 @@ fn carry_stage<C: Content>(tree: &mut Tree<C>, stage: u64) -> Result<(), OutOfMe
     ensures made { OnOk result (tree.new.made ≡ tree.old.made) }
     ensures usable { OnOk result (tree.new.usable ≡ true) }
 {
+    // What holds of the leaves at any time is read off its contract.
     let _first = tree.first_leaf();
     let touched = tree.stage_leaves(stage)?;
     for leaf in &touched {

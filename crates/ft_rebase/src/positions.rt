@@ -34,6 +34,7 @@ pub(crate) fn inserted_leaves<C: Content>(
     requires { IsTrue tree.now.usable }
     ensures { IfOk result (λ v. v.items ≡ ids (filter (inserted_by leaf_stamps stage) tree.now.leaves)) }
 {
+    // What holds of the leaves at any time is read off its contract.
     let _first = tree.first_leaf();
     let mut inserted = Vec::new(tree.allocator());
     let touched = tree.stage_leaves(stage)?;
@@ -54,6 +55,7 @@ pub(crate) fn insertion_position<C: Content>(
     requires { IsTrue tree.now.usable }
     ensures { IfOk result (λ p. p ≡ insertion_position stage (elements C.units C.by tree.now.leaves)) }
 {
+    // What holds of the leaves at any time is read off its contract.
     let _first = tree.first_leaf();
     let inserted = inserted_leaves(tree, stage)?;
     match inserted.first() {

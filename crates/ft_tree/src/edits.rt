@@ -61,6 +61,7 @@ pub(crate) fn append<C: Content + Drop>(
     };
     let end = find_end::<C, Brand>(blocks.list(), Blank::new(1));
     let at = cut_at(blocks, &end)?;
+    // What holds of the leaves at any time is read off its contract.
     let _first = blocks.first();
     let _id = blocks.insert_after(at, leaf)?;
     Ok(())

@@ -20,6 +20,7 @@ pub(crate) fn find_end<C: Content, G: Ledger>(blocks: &Blocks<TreeLeaf<C>>, blan
         held_place C.units C.by blocks.now.leaves result.leaf result.offset ≡ length all }
 {
     let mut steps = Steps::<G>::new(blank);
+    // What holds of the leaves at any time is read off its contract.
     let _first = blocks.first();
     match blocks.find_any(blocks.length(LenView::All), &mut steps) {
         Ok(found) => found,

@@ -62,6 +62,7 @@ impl<C: Content> Tree<C> {
         ensures made { OnOk result (self.new.made ≡ self.old.made) }
         ensures err { OnErr result (self.new.usable ≡ false) }
     {
+        // What holds of the leaves at any time is read off its contract.
         let _first = self.blocks.first();
         match move_at(&mut self.blocks, id, at) {
             Ok(()) => Ok(()),
@@ -152,6 +153,7 @@ impl<C: Content> Tree<C> {
         ensures usable { OnOk result (self.new.usable ≡ true) }
         ensures err { OnErr result (self.new.usable ≡ false) }
     {
+        // What holds of the leaves at any time is read off its contract.
         let _first = self.blocks.first();
         let sweep = sweep_without(self.blocks.list(), id, self.sweep);
         match take_content(&mut self.blocks, id) {
@@ -184,6 +186,7 @@ impl<C: Content> Tree<C> {
         ensures usable { OnOk result (self.new.usable ≡ true) }
         ensures err { OnErr result (self.new.usable ≡ false) }
     {
+        // What holds of the leaves at any time is read off its contract.
         let _first = self.blocks.first();
         let sweep = sweep_joined(self.blocks.list(), id, self.sweep);
         let floor = self.blocks.floor();

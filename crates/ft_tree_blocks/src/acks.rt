@@ -47,6 +47,7 @@ fn ack_at<C: Content>(
     ensures usable { OnOk result (blocks.new.usable ≡ true) }
     ensures floor { blocks.new.floor ≡ blocks.old.floor }
 {
+    // What holds of the leaves at any time is read off its contract.
     let _first = blocks.first();
     let leaf = blocks.leaf(id);
     if !is_touched_by(leaf, stage) {
@@ -76,6 +77,7 @@ fn ack_nodes<C: Content>(
     ensures usable { OnOk result (blocks.new.usable ≡ true) }
     ensures floor { blocks.new.floor ≡ blocks.old.floor }
 {
+    // What holds of the leaves at any time is read off its contract.
     let _first = blocks.first();
     for id in nodes {
         ack_at(blocks, alloc, *id, stage, seq, conn)?;
@@ -107,6 +109,7 @@ pub(crate) fn ack_in<C: Content>(
     ensures usable { OnOk result (blocks.new.usable ≡ true) }
     ensures floor { blocks.new.floor ≡ blocks.old.floor }
 {
+    // What holds of the leaves at any time is read off its contract.
     let _first = blocks.first();
     let taken = take_stage(touched, stage);
     let nodes = taken.as_slice();

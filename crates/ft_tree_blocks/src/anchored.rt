@@ -50,6 +50,7 @@ pub(crate) fn insert_anchored<C: Content + Drop>(
     ensures usable { OnOk result (blocks.new.usable ≡ true) }
     ensures floor { blocks.new.floor ≡ blocks.old.floor }
 {
+    // What holds of the leaves at any time is read off its contract.
     let _first = blocks.first();
     let id = insert_in(blocks, touched, at, leaf)?;
     refs.hold(id)?;
@@ -80,6 +81,7 @@ pub(crate) fn split_anchored<C: Content>(
     ensures usable { OnOk result (blocks.new.usable ≡ true) }
     ensures floor { blocks.new.floor ≡ blocks.old.floor }
 {
+    // What holds of the leaves at any time is read off its contract.
     let _first = blocks.first();
     let stands = blocks.leaf(leaf).stands(Standing::Unremoved);
     let rear = split_in(blocks, touched, leaf, at)?;
@@ -109,6 +111,7 @@ pub(crate) fn set_stamps_anchored<C: Content>(
     ensures usable { OnOk result (blocks.new.usable ≡ true) }
     ensures floor { blocks.new.floor ≡ blocks.old.floor }
 {
+    // What holds of the leaves at any time is read off its contract.
     let _first = blocks.first();
     set_stamps_in(blocks, touched, id, e)?;
     let stands = blocks.leaf(id).stands(Standing::Unremoved);
@@ -136,6 +139,7 @@ pub(crate) fn join_anchored<C: Content + Drop>(
     ensures usable { OnOk result (blocks.new.usable ≡ true) }
     ensures floor { blocks.new.floor ≡ blocks.old.floor }
 {
+    // What holds of the leaves at any time is read off its contract.
     let _first = blocks.first();
     let leaf = blocks.leaf(id);
     let count = leaf.content.len();
@@ -143,6 +147,7 @@ pub(crate) fn join_anchored<C: Content + Drop>(
     let Some(next) = blocks.next(id) else {
         unreachable!();
     };
+    // That there is a leaf is read off its contract.
     let _next = blocks.leaf(next);
     join_in(blocks, touched, id)?;
     refs.join(next, id, count, stands)
@@ -169,6 +174,7 @@ pub(crate) fn change_anchored<C: Content>(
     ensures usable { OnOk result (blocks.new.usable ≡ true) }
     ensures floor { blocks.new.floor ≡ blocks.old.floor }
 {
+    // What holds of the leaves at any time is read off its contract.
     let _first = blocks.first();
     change_in(blocks, touched, id, c)
 }
@@ -194,6 +200,7 @@ pub(crate) fn take_anchored<C: Content>(
     ensures usable { OnOk result (blocks.new.usable ≡ true) }
     ensures floor { blocks.new.floor ≡ blocks.old.floor }
 {
+    // What holds of the leaves at any time is read off its contract.
     let _first = blocks.first();
     take_in(blocks, touched, id)
 }
@@ -220,6 +227,7 @@ pub(crate) fn move_anchored<C: Content>(
     ensures usable { OnOk result (blocks.new.usable ≡ true) }
     ensures floor { blocks.new.floor ≡ blocks.old.floor }
 {
+    // What holds of the leaves at any time is read off its contract.
     let _first = blocks.first();
     move_in(blocks, touched, id, at)
 }
@@ -242,6 +250,7 @@ pub(crate) fn add_anchored<C: Content>(
         ≡ reference_at (references_on C.units C.by leaves refs.old.anchors) x) }
     ensures sound { OnOk result (IsSoundOn C.units blocks.now.leaves refs.new.anchors refs.new.unsettled.items) }
 {
+    // What holds of the leaves at any time is read off its contract.
     let _first = blocks.first();
     let r = refs.anchors.add(at.owner, at.offset)?;
     Ok(r)
@@ -260,6 +269,7 @@ pub(crate) fn place_anchored<C: Content>(
     ensures place { let leaves = blocks.now.leaves in
         option_map (place_on C.units C.by leaves) result ≡ place_of (references_on C.units C.by leaves refs.now.anchors) r }
 {
+    // What holds of the leaves at any time is read off its contract.
     let _first = blocks.first();
     refs.anchors.place(r)
 }
@@ -278,6 +288,7 @@ pub(crate) fn settle_anchored<C: Content>(
         (references_on C.units C.by leaves refs.old.anchors) (references_on C.units C.by leaves refs.new.anchors) }
     ensures sound { IsSoundOn C.units blocks.now.leaves refs.new.anchors refs.new.unsettled.items }
 {
+    // What holds of the leaves at any time is read off its contract.
     let _first = blocks.first();
     refs.anchors.acknowledge(r);
     let Some(place) = refs.anchors.place(r) else {
@@ -298,6 +309,7 @@ pub(crate) fn drop_anchored<C: Content>(blocks: &Blocks<TreeLeaf<C>>, refs: &mut
         ChangesReference r (λ x. None) (references_on C.units C.by leaves refs.old.anchors) (references_on C.units C.by leaves refs.new.anchors) }
     ensures sound { IsSoundOn C.units blocks.now.leaves refs.new.anchors refs.new.unsettled.items }
 {
+    // What holds of the leaves at any time is read off its contract.
     let _first = blocks.first();
     refs.anchors.release(r);
 }

@@ -99,6 +99,7 @@ pub(crate) fn next_removal_in<C: Content>(
     requires tracks { Tracks blocks.now.leaves touched.now.items }
     ensures { result ≡ next_removal_above stage (elements C.units C.by blocks.now.leaves) }
 {
+    // What holds of the leaves at any time is read off its contract.
     let _first = blocks.first();
     next_wanted_in(blocks, touched, stage, Wanted::Removal)
 }
@@ -113,6 +114,7 @@ pub(crate) fn next_pending_in<C: Content>(
     requires tracks { Tracks blocks.now.leaves touched.now.items }
     ensures { result ≡ next_pending_above stage blocks.now.leaves }
 {
+    // What holds of the leaves at any time is read off its contract.
     let _first = blocks.first();
     next_wanted_in(blocks, touched, stage, Wanted::Anything)
 }

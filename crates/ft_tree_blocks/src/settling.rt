@@ -32,10 +32,12 @@ pub fn next_standing<C: Content>(
         option_map (leaf_start C.units C.by leaves) result
         ≡ first_from (stands test) (length (elements C.units C.by (before_place leaves from))) (elements C.units C.by (from_place leaves from)) }
 {
+    // What holds of the leaves at any time is read off its contract.
     let _first = blocks.first();
     let mut at = from;
     while let Some(id) = at {
         let leaf = blocks.leaf(id);
+        // That it has an element is read off its contract.
         let _len = leaf.content.len();
         if leaf.stands(test) {
             return at;
@@ -59,10 +61,12 @@ pub fn last_standing<C: Content>(
     ensures last { let leaves = blocks.now.leaves in
         option_map (leaf_end C.units C.by leaves) result ≡ last_from (stands test) 0 (elements C.units C.by (up_to_place leaves from)) }
 {
+    // What holds of the leaves at any time is read off its contract.
     let _first = blocks.first();
     let mut at = from;
     while let Some(id) = at {
         let leaf = blocks.leaf(id);
+        // That it has an element is read off its contract.
         let _len = leaf.content.len();
         if leaf.stands(test) {
             return at;
@@ -80,6 +84,7 @@ fn last_of<C: Content>(blocks: &Blocks<TreeLeaf<C>>, leaf: NodeId) -> Place
     ensures on_leaf { IsOnLeaf C.units blocks.now.leaves result }
     ensures place { place_on C.units C.by blocks.now.leaves result ≡ leaf_end C.units C.by blocks.now.leaves leaf }
 {
+    // What holds of the leaves at any time is read off its contract.
     let _first = blocks.first();
     Place {
         owner: leaf,
@@ -105,6 +110,7 @@ pub fn settled_on<C: Content>(
         option_map (place_on C.units C.by leaves) result
         ≡ settled_place (stands test) (elements C.units C.by leaves) (place_on C.units C.by leaves at.now) }
 {
+    // What holds of the leaves at any time is read off its contract.
     let _first = blocks.first();
     if blocks.leaf(at.owner).stands(test) {
         return Some(*at);

@@ -34,8 +34,10 @@ pub fn slide_leaf<C: Content>(blocks: &Blocks<TreeLeaf<C>>, anchors: &mut Anchor
     if anchors.first(id).is_none() {
         return;
     }
+    // What holds of the leaves at any time is read off its contract.
     let _first = blocks.first();
     let leaf = blocks.leaf(id);
+    // That it has an element is read off its contract.
     let _len = leaf.content.len();
     if leaf.stands(Standing::Unremoved) {
         return;
@@ -67,5 +69,6 @@ pub fn slide_leaves<C: Content>(
     for id in nodes {
         slide_leaf(blocks, anchors, *id);
     }
+    // What holds of the leaves at any time is read off its contract.
     let _first = blocks.first();
 }

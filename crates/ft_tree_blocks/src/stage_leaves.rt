@@ -71,6 +71,7 @@ pub(crate) fn stage_leaves_in<C: Content>(
     requires tracks { Tracks blocks.now.leaves touched.now.items }
     ensures { IfOk result (λ v. v.items ≡ touched_nodes stage blocks.now.leaves) }
 {
+    // What holds of the leaves at any time is read off its contract.
     let _first = blocks.first();
     let alloc = *touched.allocator();
     let mut places = touched_places(blocks, alloc, nodes_of(touched, stage), stage)?;

@@ -35,6 +35,7 @@ pub(crate) fn insert_in<C: Content + Drop>(
     ensures usable { OnOk result (blocks.new.usable ≡ true) }
     ensures floor { blocks.new.floor ≡ blocks.old.floor }
 {
+    // What holds of the leaves at any time is read off its contract.
     let _first = blocks.first();
     let id = blocks.insert_after(at, leaf)?;
     let old = universal(*touched.allocator());
@@ -103,6 +104,7 @@ pub(crate) fn split_in<C: Content>(
     ensures usable { OnOk result (blocks.new.usable ≡ true) }
     ensures floor { blocks.new.floor ≡ blocks.old.floor }
 {
+    // What holds of the leaves at any time is read off its contract.
     let _first = blocks.first();
     let rear = blocks.split(leaf, at)?;
     note_rear(touched, blocks.leaf(rear), leaf, rear)?;
@@ -210,6 +212,7 @@ pub(crate) fn join_in<C: Content + Drop>(
     ensures usable { OnOk result (blocks.new.usable ≡ true) }
     ensures floor { blocks.new.floor ≡ blocks.old.floor }
 {
+    // What holds of the leaves at any time is read off its contract.
     let _first = blocks.first();
     purge_given(touched, blocks.next(id));
     blocks.join_next(id)
@@ -232,6 +235,7 @@ pub(crate) fn move_in<C: Content>(
     ensures usable { OnOk result (blocks.new.usable ≡ true) }
     ensures floor { blocks.new.floor ≡ blocks.old.floor }
 {
+    // What holds of the leaves at any time is read off its contract.
     let _first = blocks.first();
     blocks.move_after(id, at)
 }

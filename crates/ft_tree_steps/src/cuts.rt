@@ -39,6 +39,7 @@ pub fn cut_at<C: Content>(
     ensures usable { OnOk result (blocks.new.usable ≡ true) }
     ensures floor { blocks.new.floor ≡ blocks.old.floor }
 {
+    // What holds of the leaves at any time is read off its contract.
     let _first = blocks.first();
     let Some(id) = found.leaf else {
         return Ok(None);
@@ -100,12 +101,14 @@ fn behind_pending<C: Content, G: Ledger>(
         ≡ length (elements C.units C.by (up_to_place leaves at)) + prefix_len is_pending (elements C.units C.by (from_place leaves (node_behind leaves at))) }
     ensures reads { steps.new ≤ steps.old + pending_leaves (from_place blocks.now.leaves (node_behind blocks.now.leaves at)) + 1 }
 {
+    // What holds of the leaves at any time is read off its contract.
     let _first = blocks.first();
     let mut end = at;
     let mut next = leaf_behind(blocks, at);
     while let Some(id) = next {
         steps.tick();
         let leaf = blocks.leaf(id);
+        // That it has an element is read off its contract.
         let _len = leaf.content.len();
         if !leaf.is_pending() {
             return end;
@@ -142,6 +145,7 @@ fn put_past<C: Content + Drop, G: Ledger>(
     ensures reads { steps.new ≤ steps.old + pending_leaves (from_place blocks.old.leaves (node_behind blocks.old.leaves at)) + 1 }
     ensures no_reads { past_pending ≡ false → steps.new ≡ steps.old }
 {
+    // What holds of the leaves at any time is read off its contract.
     let _first = blocks.first();
     let end = behind_run(blocks.list(), at, past_pending, steps);
     let _id = blocks.insert_after(end, leaf)?;
@@ -201,6 +205,7 @@ pub fn insert_at<C: Content + Drop, G: Ledger>(
     ensures no_reads { past_pending ≡ false → steps.new ≡ steps.old }
 {
     let at = cut_at(blocks, found)?;
+    // What holds of the leaves at any time is read off its contract.
     let _first = blocks.first();
     let leaf = new_leaf(alloc, content, ins, props)?;
     put_past(blocks, at, past_pending, leaf, steps)?;

@@ -24,6 +24,7 @@ pub fn move_at<C: Content>(
     ensures usable { OnOk result (blocks.new.usable ≡ true) }
     ensures floor { blocks.new.floor ≡ blocks.old.floor }
 {
+    // What holds of the leaves at any time is read off its contract.
     let _first = blocks.first();
     blocks.move_after(id, at)
 }

@@ -35,6 +35,7 @@ fn make_universal<C: Content>(
     ensures usable { OnOk result (blocks.new.usable ≡ true) }
     ensures floor { blocks.new.floor ≡ blocks.old.floor }
 {
+    // What holds of the leaves at any time is read off its contract.
     let _first = blocks.first();
     if is_universal(&blocks.leaf(id).stamps.ins) {
         return Ok(());
@@ -57,6 +58,7 @@ pub fn join_at<C: Content + Drop>(
     ensures usable { OnOk result (blocks.new.usable ≡ true) }
     ensures floor { blocks.new.floor ≡ blocks.old.floor }
 {
+    // What holds of the leaves at any time is read off its contract.
     let _first = blocks.first();
     let Some(next) = blocks.next(id) else {
         return Ok(false);

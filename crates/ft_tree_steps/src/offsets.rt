@@ -27,6 +27,7 @@ pub fn seen_offset<C: Content>(blocks: &Blocks<TreeLeaf<C>>, p: u64, view: LenVi
     ensures place { let leaves = blocks.now.leaves in
         option_map (place_on C.units C.by leaves) result ≡ place_at (seen_in view) p (elements C.units C.by leaves) }
 {
+    // What holds of the leaves at any time is read off its contract.
     let _first = blocks.first();
     let found = find_leaf::<C, Brand>(blocks, p.checked_add(1)?, view, Blank::new(1))?;
     let leaf = found.leaf?;
@@ -42,6 +43,7 @@ pub fn elements_before<C: Content>(blocks: &Blocks<TreeLeaf<C>>, at: &Place) -> 
     requires on_leaf { IsOnLeaf C.units blocks.now.leaves at.now }
     ensures { result ≡ place_on C.units C.by blocks.now.leaves at.now }
 {
+    // What holds of the leaves at any time is read off its contract.
     let _first = blocks.first();
     blocks.position_of(at.owner, LenView::All) + at.offset
 }
@@ -57,6 +59,7 @@ pub fn seen_before_on<C: Content>(blocks: &Blocks<TreeLeaf<C>>, at: &Place, view
     ensures { let leaves = blocks.now.leaves in
         result ≡ seen_before (seen_in view) (elements C.units C.by leaves) (place_on C.units C.by leaves at.now) }
 {
+    // What holds of the leaves at any time is read off its contract.
     let _first = blocks.first();
     let before = blocks.position_of(at.owner, view);
     if blocks.leaf(at.owner).is_seen_in(view) {

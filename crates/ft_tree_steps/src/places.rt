@@ -31,6 +31,7 @@ pub fn find_local<C: Content, G: Ledger>(
     ensures beyond { IfErr result (λ e. e.length < p) }
     ensures cost { steps.new ≤ steps.old + 9 * (blocks.now.depth + 1) }
 {
+    // What holds of the leaves at any time is read off its contract.
     let _first = blocks.first();
     match blocks.find_local(p, steps) {
         Ok(found) => Ok(found),
@@ -57,6 +58,7 @@ pub fn find_seen_at<C: Content, G: Ledger>(
     ensures beyond { IfErr result (λ e. e.length < p) }
     ensures cost { steps.new ≤ steps.old + 9 * (blocks.now.depth + 1) }
 {
+    // What holds of the leaves at any time is read off its contract.
     let _first = blocks.first();
     match blocks.find(p, at, steps) {
         Ok(found) => Ok(found),

@@ -46,6 +46,7 @@ fn edit_seen<C: Content>(
     ensures usable { OnOk result (blocks.new.usable ≡ true) }
     ensures floor { blocks.new.floor ≡ blocks.old.floor }
 {
+    // What holds of the leaves at any time is read off its contract.
     let _first = blocks.first();
     let leaf = blocks.leaf(id);
     if !leaf.is_seen_in(view) {
@@ -76,6 +77,7 @@ fn cut_seen<C: Content>(
     ensures usable { OnOk result (blocks.new.usable ≡ true) }
     ensures floor { blocks.new.floor ≡ blocks.old.floor }
 {
+    // What holds of the leaves at any time is read off its contract.
     let _first = blocks.first();
     let n = blocks.leaf(id).seen_len(view);
     if n <= left {
@@ -109,6 +111,7 @@ fn edit_first<C: Content>(
     ensures floor { blocks.new.floor ≡ blocks.old.floor }
 {
     let n = cut_seen(blocks, id, left, view)?;
+    // What holds of the leaves at any time is read off its contract.
     let _first = blocks.first();
     let _len = blocks.leaf(id).content.len();
     edit_seen(blocks, alloc, id, view, edit)?;
@@ -169,6 +172,7 @@ pub fn edit_behind<C: Content>(
     ensures floor { blocks.new.floor ≡ blocks.old.floor }
 {
     let at = cut_at(blocks, found)?;
+    // What holds of the leaves at any time is read off its contract.
     let _first = blocks.first();
     let start = leaf_behind(blocks.list(), at);
     edit_range(blocks, alloc, start, count, view, edit)?;

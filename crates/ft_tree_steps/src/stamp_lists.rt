@@ -26,6 +26,7 @@ pub fn all_stamps<C: Content>(
     requires { IsTrue blocks.now.usable }
     ensures { IfOk result (λ v. v.items ≡ map (λ e. e.stamps) (elements C.units C.by blocks.now.leaves)) }
 {
+    // What holds of the leaves at any time is read off its contract.
     let _first = blocks.first();
     let mut items = Vec::new(alloc);
     let mut at = blocks.first();

@@ -26,6 +26,7 @@ pub fn unmark_at<C: Content>(
     ensures usable { OnOk result (blocks.new.usable ≡ true) }
     ensures floor { blocks.new.floor ≡ blocks.old.floor }
 {
+    // What holds of the leaves at any time is read off its contract.
     let _first = blocks.first();
     let e = unmarked_stamps(alloc, &blocks.leaf(id).stamps, stage)?;
     blocks.change(id, &LeafChange::DropPending(stage))?;
@@ -46,6 +47,7 @@ pub fn unmark_all_at<C: Content>(
     ensures usable { OnOk result (blocks.new.usable ≡ true) }
     ensures floor { blocks.new.floor ≡ blocks.old.floor }
 {
+    // What holds of the leaves at any time is read off its contract.
     let _first = blocks.first();
     let e = sequenced_stamps(alloc, &blocks.leaf(id).stamps)?;
     blocks.change(id, &LeafChange::DropAll)?;

@@ -96,7 +96,7 @@ pub(crate) fn sweep<C: Content + Drop>(
                 left: budget - i,
             });
         };
-        // What a contract says of the nodes is read off it.
+        // What holds of the leaves at any time is read off its contract.
         let _first = tree.first_leaf();
         next = short_of(tree.next_leaf(id), &end);
         last = look_at(tree, id, last, taken)?;
