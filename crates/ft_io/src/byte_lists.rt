@@ -44,7 +44,7 @@ impl Bytes {
     /// Adds these bytes at the end.
     ///
     /// Returns `OutOfMemory` where there is no room for them, and then the list is as it was.
-    pub(crate) fn append(&mut self, bytes: &[u8]) -> Result<(), OutOfMemory>
+    pub fn append(&mut self, bytes: &[u8]) -> Result<(), OutOfMemory>
         ensures ok { OnOk result (self.new ≡ self.old ++ bytes.now) }
         ensures err { OnErr result (self.new ≡ self.old) }
     {
