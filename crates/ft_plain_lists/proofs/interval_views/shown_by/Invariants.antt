@@ -1,6 +1,6 @@
 use Rattle.std.proofs.Common.{◌≡◌, ◌++◌, drop, map}
 use Rattle.ft_msg.specs.Content.{interval_record}
-use Rattle.ft_plain_lists.proofs.shown_intervals.shown_by.Given as goal
+use Rattle.ft_plain_lists.proofs.interval_views.shown_by.Given as goal
 
 -- the intervals so far, and the rest as it is shown, are all as they are shown
 abbrev pub invariant-loop-i : goal.invariant-loop-i

@@ -1,7 +1,7 @@
 use Rattle.std.proofs.Common.{◌≡◌, ◌≤◌, ◌++◌, drop, length, map}
 use Rattle.ft_msg.specs.Blame.{origin_of}
 use Rattle.ft_msg.specs.Content.{stage_view}
-use Rattle.ft_plain_lists.proofs.shown_origins.shown_origins.Given as goal
+use Rattle.ft_plain_lists.proofs.origin_views.shown_origins.Given as goal
 
 -- the origins so far, and those of the rest of the elements, are all
 abbrev pub invariant-loop-e : goal.invariant-loop-e
