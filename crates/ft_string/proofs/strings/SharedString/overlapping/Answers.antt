@@ -1,4 +1,4 @@
-use Rattle.std.proofs.Common.{◌∙◌, ap, filter, subst, sym}
+use Rattle.std.proofs.Common.{◌++◌, ◌∙◌, ap, filter, subst, sym}
 use Rattle.std.proofs.lemmas.Result.{IfOk-weaker}
 use Rattle.ft_sumdoc.specs.Meeting.{meets}
 use Rattle.ft_string.specs.Holds.{HoldsText}
