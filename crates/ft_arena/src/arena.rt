@@ -7,7 +7,7 @@ ghost use Rattle.ft_arena.specs.Ids.{put_after, without, first, after};
 
 use crate::links::{next_at, raw, set_next, set_prev, wrap};
 use crate::nodes::{Node, Slot};
-use crate::numbers::{Kids, NodeId};
+use crate::numbers::{Kids, Link, NodeId};
 use ft_base::{OutOfMemory, Steps};
 use slab::Slab;
 use std::alloc::Global;
@@ -20,8 +20,8 @@ use std::sync::ledger::Ledger;
 #[derive(Drop)]
 pub struct Arena<L, B> {
     slots: Slab<Slot<L, B>>,
-    head: Option<usize>,
-    tail: Option<usize>,
+    head: Link,
+    tail: Link,
     spare: usize,
 }
 
@@ -48,8 +48,8 @@ impl<L, B> Arena<L, B> {
     {
         Arena {
             slots: Slab::new(alloc),
-            head: None,
-            tail: None,
+            head: Link::NONE,
+            tail: Link::NONE,
             spare: 0,
         }
     }
@@ -78,18 +78,19 @@ impl<L, B> Arena<L, B> {
         ensures spare { self.old.spare ≡ self.new.spare + 1 }
         ensures sound { IsForest self.new }
     {
-        let at = raw(at);
+        let at = raw(&self.slots, at);
         let next = next_at(&self.slots, self.head, at);
         let slot = Slot {
             node: Node::Leaf { value: leaf },
-            parent: None,
+            parent: Link::NONE,
             prev: at,
             next,
         };
         let id = self.slots.insert_reserved(slot);
         self.spare -= 1;
-        set_next(&mut self.slots, &mut self.head, at, Some(id));
-        set_prev(&mut self.slots, &mut self.tail, next, Some(id));
+        let here = raw(&self.slots, Some(NodeId(id)));
+        set_next(&mut self.slots, &mut self.head, at, here);
+        set_prev(&mut self.slots, &mut self.tail, next, here);
         NodeId(id)
     }
 
@@ -125,17 +126,18 @@ impl<L, B> Arena<L, B> {
         ensures spare { self.new.spare ≡ self.old.spare }
         ensures sound { IsForest self.new }
     {
-        let at = raw(at);
+        let at = raw(&self.slots, at);
         let id = id.0;
+        let here = raw(&self.slots, Some(NodeId(id)));
         let prev = self.slots[id].prev;
         let next = self.slots[id].next;
         set_next(&mut self.slots, &mut self.head, prev, next);
         set_prev(&mut self.slots, &mut self.tail, next, prev);
         let after = next_at(&self.slots, self.head, at);
-        set_next(&mut self.slots, &mut self.head, Some(id), after);
-        set_prev(&mut self.slots, &mut self.tail, Some(id), at);
-        set_next(&mut self.slots, &mut self.head, at, Some(id));
-        set_prev(&mut self.slots, &mut self.tail, after, Some(id));
+        set_next(&mut self.slots, &mut self.head, here, after);
+        set_prev(&mut self.slots, &mut self.tail, here, at);
+        set_next(&mut self.slots, &mut self.head, at, here);
+        set_prev(&mut self.slots, &mut self.tail, after, here);
     }
 
     /// Takes a block without children and parent out, and returns its value.
@@ -200,9 +202,9 @@ impl<L, B> Arena<L, B> {
                 kids: Kids::new(),
                 value,
             },
-            parent: None,
-            prev: None,
-            next: None,
+            parent: Link::NONE,
+            prev: Link::NONE,
+            next: Link::NONE,
         };
         let id = self.slots.insert_reserved(slot);
         self.spare -= 1;
@@ -222,10 +224,11 @@ impl<L, B> Arena<L, B> {
         ensures spare { self.new.spare ≡ self.old.spare }
         ensures sound { IsForest self.new }
     {
+        let parent = raw(&self.slots, Some(block));
         let slot = &mut self.slots[block.0];
         slot.node.put_kid(at, child.0);
         let slot = &mut self.slots[child.0];
-        slot.parent = Some(block.0);
+        slot.parent = parent;
     }
 
     /// Takes the child at this place out of the block's children, after which it has no parent.
@@ -240,7 +243,7 @@ impl<L, B> Arena<L, B> {
         let slot = &mut self.slots[block.0];
         let child = slot.node.take_kid(at);
         let slot = &mut self.slots[child];
-        slot.parent = None;
+        slot.parent = Link::NONE;
         NodeId(child)
     }
 

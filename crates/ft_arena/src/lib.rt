@@ -11,4 +11,4 @@ pub mod numbers;
 
 pub use arena::Arena;
 pub use nodes::Node;
-pub use numbers::{Kids, NodeId};
+pub use numbers::{Kids, Link, NodeId};

@@ -5,71 +5,60 @@ ghost use Rattle.std.specs.Prelude.{◌≡◌};
 ghost use Rattle.ft_arena.specs.Links.{HasPlace, SetsNext, SetsPrev, next_of};
 
 use crate::nodes::Slot;
-use crate::numbers::NodeId;
+use crate::numbers::{Link, NodeId};
 use slab::Slab;
 
-// A number as a node.
-pub(crate) fn wrap(at: Option<usize>) -> Option<NodeId>
+// The node that is linked.
+pub(crate) fn wrap(at: Link) -> Option<NodeId>
     ensures { result ≡ at }
 {
-    match at {
+    match at.get() {
         Some(id) => Some(NodeId(id)),
         None => None,
     }
 }
 
-// A node as its number.
-pub(crate) fn raw(at: Option<NodeId>) -> Option<usize>
+// The link to a node.
+pub(crate) fn raw<L, B>(slots: &Slab<Slot<L, B>>, at: Option<NodeId>) -> Link
+    requires { HasPlace slots.now at }
     ensures { result ≡ at }
 {
+    // That there are fewer slots than numbers is read off its contract.
+    let _capacity = slots.capacity();
     match at {
-        Some(id) => Some(id.0),
-        None => None,
+        Some(id) => Link::to(id.0),
+        None => Link::NONE,
     }
 }
 
 // The leaf that follows this place.
-pub(crate) fn next_at<L, B>(
-    slots: &Slab<Slot<L, B>>,
-    head: Option<usize>,
-    at: Option<usize>,
-) -> Option<usize>
+pub(crate) fn next_at<L, B>(slots: &Slab<Slot<L, B>>, head: Link, at: Link) -> Link
     requires { HasPlace slots.now at }
     ensures { result ≡ next_of slots.now head at }
 {
-    match at {
+    match at.get() {
         Some(id) => slots[id].next,
         None => head,
     }
 }
 
 // Writes what follows this leaf, or which leaf is the first.
-pub(crate) fn set_next<L, B>(
-    slots: &mut Slab<Slot<L, B>>,
-    head: &mut Option<usize>,
-    at: Option<usize>,
-    to: Option<usize>,
-)
+pub(crate) fn set_next<L, B>(slots: &mut Slab<Slot<L, B>>, head: &mut Link, at: Link, to: Link)
     requires { HasPlace slots.old at }
     ensures { SetsNext slots.old head.old slots.new head.new at to }
 {
-    match at {
+    match at.get() {
         Some(id) => slots[id].next = to,
         None => *head = to,
     }
 }
 
 // Writes what stands before this leaf, or which leaf is the last.
-pub(crate) fn set_prev<L, B>(
-    slots: &mut Slab<Slot<L, B>>,
-    tail: &mut Option<usize>,
-    at: Option<usize>,
-    to: Option<usize>,
-)
+pub(crate) fn set_prev<L, B>(slots: &mut Slab<Slot<L, B>>, tail: &mut Link, at: Link, to: Link)
     requires { HasPlace slots.old at }
     ensures { SetsPrev slots.old tail.old slots.new tail.new at to }
 {
-    match at {
+    match at.get() {
         Some(id) => slots[id].prev = to,
         None => *tail = to,
     }

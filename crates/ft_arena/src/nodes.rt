@@ -4,7 +4,7 @@ ghost use Rattle.std.specs.Prelude.{◌≡◌, ◌<◌, ◌≤◌, length, IsSom
 ghost use Rattle.std.specs.Borrow.{sem};
 ghost use Rattle.ft_arena.specs.Forest.{leaf_of_node, block_of_node, kids_of_node, with_kids};
 
-use crate::numbers::Kids;
+use crate::numbers::{Kids, Link};
 
 /// A node of a tree.
 #[derive(Drop)]
@@ -19,9 +19,9 @@ pub enum Node<L, B> {
 #[derive(Drop)]
 pub(crate) struct Slot<L, B> {
     pub(crate) node: Node<L, B>,
-    pub(crate) parent: Option<usize>,
-    pub(crate) prev: Option<usize>,
-    pub(crate) next: Option<usize>,
+    pub(crate) parent: Link,
+    pub(crate) prev: Link,
+    pub(crate) next: Link,
 }
 
 impl<L, B> Slot<L, B> {

@@ -1,6 +1,6 @@
-//! Numbers of nodes, and short lists of them.
+//! Numbers of nodes, links to them, and short lists of them.
 
-ghost use Rattle.std.specs.Prelude.{◌≡◌, ◌<◌, ◌≤◌, [], length, slice_get, Some, insert, remove};
+ghost use Rattle.std.specs.Prelude.{◌≡◌, ◌+◌, ◌^◌, ◌<◌, ◌≤◌, [], length, slice_get, Some, None, insert, remove};
 
 use arrayvec::ArrayVec;
 use std::marker::Model;
@@ -18,6 +18,47 @@ impl Model for NodeId {
     ghost view = { λ n. n.0 };
 
     ghost inverse = { λ n. record { 0 = n } };
+}
+
+/// A number or none in one word, where `Option<usize>` takes two. Contracts see the option.
+#[derive(Clone, Copy, Drop)]
+pub struct Link {
+    // 0 for none, else one more than the number
+    word: usize,
+}
+
+impl Model for Link {
+    ghost use Rattle.std.specs.Prelude.{ℕ, Option};
+
+    ghost Value = { Option ℕ };
+
+    ghost use Rattle.ft_arena.specs.Words.{linked, word_of, word_of-linked};
+
+    ghost view = { λ l. linked l.word };
+
+    ghost inverse = { λ o. record { word = word_of o } };
+
+    ghost inverse_ok = { λ a h. word_of-linked a };
+}
+
+impl Link {
+    /// The link to none.
+    pub const NONE: Link = Link { word: 0 };
+
+    /// The link to this number.
+    pub fn to(number: usize) -> Link
+        requires { number + 1 < 2 ^ 64 }
+        ensures { result ≡ Some number }
+    {
+        Link { word: number + 1 }
+    }
+
+    /// The number.
+    pub fn get(self) -> Option<usize>
+        ensures { result ≡ self }
+    {
+        self.word.checked_sub(1)
+    }
 }
 
 /// The children of a block: at most eight nodes, which contracts see as a list.

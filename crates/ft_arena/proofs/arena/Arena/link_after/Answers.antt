@@ -18,14 +18,14 @@ set_prev-requires g c =
     next_has_place c.self.inside.slots c.insert_reserved-id.new.self c.set_next.new.slots c.set_next.new.slots c.self.inside.head c.self.inside.tail c.set_next.new.head
     c.self.inside.tail c.raw-at.result c.next_at-next.result c.insert_reserved-id.result c.args.leaf c.self.invariant.0
     (place (view_of c.self.inside) c.raw-at.result (rw (c.self.view_is, c.raw-at.ensures) c.requires.place)) c.next_at-next.ensures
-    c.insert_reserved-id.ensures.was_vacant c.insert_reserved-id.ensures.updates c.set_next.ensures
+    c.insert_reserved-id.ensures.was_vacant c.insert_reserved-id.ensures.updates (rw c.raw-here.ensures at c.set_next.ensures)
 
 pub invariant_of-self : goal.invariant_of-self
 invariant_of-self g c = (
   linked_sound c.self.inside.slots c.insert_reserved-id.new.self c.set_next.new.slots c.set_prev.new.slots c.self.inside.head c.self.inside.tail c.set_next.new.head
       c.set_prev.new.tail c.raw-at.result c.next_at-next.result c.insert_reserved-id.result c.args.leaf c.self.invariant.0
       (place (view_of c.self.inside) c.raw-at.result (rw (c.self.view_is, c.raw-at.ensures) c.requires.place)) c.next_at-next.ensures
-      c.insert_reserved-id.ensures.was_vacant c.insert_reserved-id.ensures.updates c.set_next.ensures c.set_prev.ensures,
+      c.insert_reserved-id.ensures.was_vacant c.insert_reserved-id.ensures.updates (rw c.raw-here.ensures at c.set_next.ensures) (rw c.raw-here.ensures at c.set_prev.ensures),
   omega (
     arith,
     c.self.invariant.1,
@@ -47,7 +47,7 @@ returns-clause-leaves g c =
     c.self.inside.head c.self.inside.tail c.set_next.new.head c.set_prev.new.tail c.raw-at.result c.next_at-next.result c.insert_reserved-id.result c.args.leaf
     c.self.invariant.0
     (place (view_of c.self.inside) c.raw-at.result (rw (c.self.view_is, c.raw-at.ensures) c.requires.place)) c.next_at-next.ensures
-    c.insert_reserved-id.ensures.was_vacant c.insert_reserved-id.ensures.updates c.set_next.ensures c.set_prev.ensures)
+    c.insert_reserved-id.ensures.was_vacant c.insert_reserved-id.ensures.updates (rw c.raw-here.ensures at c.set_next.ensures) (rw c.raw-here.ensures at c.set_prev.ensures))
 
 pub returns-clause-changes : goal.returns-clause-changes
 returns-clause-changes g c =
@@ -55,4 +55,4 @@ returns-clause-changes g c =
     c.self.inside.head c.self.inside.tail c.set_next.new.head c.set_prev.new.tail c.raw-at.result c.next_at-next.result c.insert_reserved-id.result c.args.leaf
     c.self.invariant.0
     (place (view_of c.self.inside) c.raw-at.result (rw (c.self.view_is, c.raw-at.ensures) c.requires.place)) c.next_at-next.ensures
-    c.insert_reserved-id.ensures.was_vacant c.insert_reserved-id.ensures.updates c.set_next.ensures c.set_prev.ensures))
+    c.insert_reserved-id.ensures.was_vacant c.insert_reserved-id.ensures.updates (rw c.raw-here.ensures at c.set_next.ensures) (rw c.raw-here.ensures at c.set_prev.ensures)))

@@ -41,14 +41,14 @@ set_prev-requires g c = place_in c.self.inside.slots c.self.inside.slots c.self.
     (λ e. c.requires.differ (sym c.raw-at.ensures ∙ e ∙ ap Some c.id.view_is)) (sym (ap prev_of_slot c.index.ensures)) (sym (ap next_of_slot c.index-2.ensures)))
 
 pub set_prev-requires-2 : goal.set_prev-requires-2
-set_prev-requires-2 g c = place_in c.self.inside.slots c.self.inside.slots c.self.inside.slots c.self.inside.slots c.self.inside.slots c.self.inside.slots
+set_prev-requires-2 g c = rw c.raw-here.ensures (place_in c.self.inside.slots c.self.inside.slots c.self.inside.slots c.self.inside.slots c.self.inside.slots c.self.inside.slots
     c.self.inside.slots c.self.inside.head c.self.inside.tail c.self.inside.head c.self.inside.tail c.self.inside.head c.self.inside.tail c.self.inside.head
     c.self.inside.tail c.raw-at.result c.index.result.now.prev c.index-2.result.now.next c.index-2.result.now.next c.id.inside.0 c.self.invariant.0
     (count_is_some _ (at_view (λ s i. IsSome (leaf_value s i)) c.self.inside c.args.self.now c.id.inside.0 c.args.id c.self.view_is c.id.view_is c.requires.live))
     (place (view_of c.self.inside) c.raw-at.result (rw (c.self.view_is, c.raw-at.ensures) c.requires.place))
     (λ e. c.requires.differ (sym c.raw-at.ensures ∙ e ∙ ap Some c.id.view_is)) (sym (ap prev_of_slot c.index.ensures)) (sym (ap next_of_slot c.index-2.ensures))
     c.set_next-2.new.slots (c.set_next-2.ensures.entries ∙ c.set_prev.ensures.entries ∙ c.set_next.ensures.entries) (Some c.id.inside.0)
-    (count_is_some _ (at_view (λ s i. IsSome (leaf_value s i)) c.self.inside c.args.self.now c.id.inside.0 c.args.id c.self.view_is c.id.view_is c.requires.live))
+    (count_is_some _ (at_view (λ s i. IsSome (leaf_value s i)) c.self.inside c.args.self.now c.id.inside.0 c.args.id c.self.view_is c.id.view_is c.requires.live)))
 
 pub set_next-requires-3 : goal.set_next-requires-3
 set_next-requires-3 g c = place_in c.self.inside.slots c.self.inside.slots c.self.inside.slots c.self.inside.slots c.self.inside.slots c.self.inside.slots
@@ -85,7 +85,7 @@ invariant_of-self g c = (
       (count_is_some _ (at_view (λ s i. IsSome (leaf_value s i)) c.self.inside c.args.self.now c.id.inside.0 c.args.id c.self.view_is c.id.view_is c.requires.live))
       (place (view_of c.self.inside) c.raw-at.result (rw (c.self.view_is, c.raw-at.ensures) c.requires.place))
       (λ e. c.requires.differ (sym c.raw-at.ensures ∙ e ∙ ap Some c.id.view_is)) (sym (ap prev_of_slot c.index.ensures)) (sym (ap next_of_slot c.index-2.ensures))
-      c.set_next.ensures c.set_prev.ensures c.next_at-after.ensures c.set_next-2.ensures c.set_prev-2.ensures c.set_next-3.ensures c.set_prev-3.ensures,
+      c.set_next.ensures c.set_prev.ensures c.next_at-after.ensures (rw c.raw-here.ensures at c.set_next-2.ensures) (rw c.raw-here.ensures at c.set_prev-2.ensures) (rw c.raw-here.ensures at c.set_next-3.ensures) (rw c.raw-here.ensures at c.set_prev-3.ensures),
   omega (
     arith,
     c.self.invariant.1,
@@ -115,4 +115,4 @@ returns-clause-leaves g c = rw (← c.self.view_is, ← c.raw-at.ensures, ← c.
     (count_is_some _ (at_view (λ s i. IsSome (leaf_value s i)) c.self.inside c.args.self.now c.id.inside.0 c.args.id c.self.view_is c.id.view_is c.requires.live))
     (place (view_of c.self.inside) c.raw-at.result (rw (c.self.view_is, c.raw-at.ensures) c.requires.place))
     (λ e. c.requires.differ (sym c.raw-at.ensures ∙ e ∙ ap Some c.id.view_is)) (sym (ap prev_of_slot c.index.ensures)) (sym (ap next_of_slot c.index-2.ensures))
-    c.set_next.ensures c.set_prev.ensures c.next_at-after.ensures c.set_next-2.ensures c.set_prev-2.ensures c.set_next-3.ensures c.set_prev-3.ensures)
+    c.set_next.ensures c.set_prev.ensures c.next_at-after.ensures (rw c.raw-here.ensures at c.set_next-2.ensures) (rw c.raw-here.ensures at c.set_prev-2.ensures) (rw c.raw-here.ensures at c.set_next-3.ensures) (rw c.raw-here.ensures at c.set_prev-3.ensures))
