@@ -1,51 +1,52 @@
 //! The links of one list. In each function `None` is the place before its first reference and after
 //! its last, and `first` and `last` are what that place leads to.
 
-ghost use Rattle.std.specs.Prelude.{◌≡◌, IfOk, OnErr};
+ghost use Rattle.std.specs.Prelude.{◌≡◌, Some, IfOk, OnErr};
+ghost use Rattle.slab.specs.Slab.{ContainsKey};
 ghost use Rattle.ft_refs.specs.Links.{HasPlace, MakesRoom, SetsNext, SetsPrev};
 
 use crate::numbers::{Ends, RefId, Slot};
-use ft_arena::NodeId;
+use ft_arena::{Link, NodeId};
 use ft_base::OutOfMemory;
 use slab::Slab;
 
-// A number as a reference.
-pub(crate) fn wrap(at: Option<usize>) -> Option<RefId>
+// The reference that is linked.
+pub(crate) fn wrap(at: Link) -> Option<RefId>
     ensures { result ≡ at }
 {
-    match at {
+    match at.get() {
         Some(r) => Some(RefId(r)),
         None => None,
     }
 }
 
+// The link to a reference.
+pub(crate) fn link_to(slots: &Slab<Slot>, r: RefId) -> Link
+    requires { ContainsKey slots.now r }
+    ensures { result ≡ Some r }
+{
+    // That there are fewer slots than numbers is read off its contract.
+    let _capacity = slots.capacity();
+    Link::to(r.0)
+}
+
 // Writes what follows this reference, or which one is the first.
-pub(crate) fn set_next(
-    slots: &mut Slab<Slot>,
-    first: &mut Option<usize>,
-    at: Option<usize>,
-    to: Option<usize>,
-)
+pub(crate) fn set_next(slots: &mut Slab<Slot>, first: &mut Link, at: Link, to: Link)
     requires { HasPlace slots.old at }
     ensures { SetsNext slots.old first.old slots.new first.new at to }
 {
-    match at {
+    match at.get() {
         Some(r) => slots[r].next = to,
         None => *first = to,
     }
 }
 
 // Writes what stands before this reference, or which one is the last.
-pub(crate) fn set_prev(
-    slots: &mut Slab<Slot>,
-    last: &mut Option<usize>,
-    at: Option<usize>,
-    to: Option<usize>,
-)
+pub(crate) fn set_prev(slots: &mut Slab<Slot>, last: &mut Link, at: Link, to: Link)
     requires { HasPlace slots.old at }
     ensures { SetsPrev slots.old last.old slots.new last.new at to }
 {
-    match at {
+    match at.get() {
         Some(r) => slots[r].prev = to,
         None => *last = to,
     }
@@ -64,8 +65,8 @@ pub(crate) fn make_room(ends: &mut Vec<Ends>, owner: NodeId) -> Result<(), OutOf
         return Err(OutOfMemory);
     };
     let none = Ends {
-        first: None,
-        last: None,
+        first: Link::NONE,
+        last: Link::NONE,
     };
     ends.resize(len, none)?;
     Ok(())

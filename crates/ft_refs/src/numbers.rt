@@ -1,6 +1,6 @@
 //! Numbers and places of references.
 
-use ft_arena::NodeId;
+use ft_arena::{Link, NodeId};
 use std::marker::Model;
 
 /// The number of a reference. A reference keeps its number until it is released, and only then may a
@@ -29,13 +29,13 @@ pub struct Place {
 #[derive(Clone, Copy, Drop)]
 pub(crate) struct Slot {
     pub(crate) place: Option<Place>,
-    pub(crate) prev: Option<usize>,
-    pub(crate) next: Option<usize>,
+    pub(crate) prev: Link,
+    pub(crate) next: Link,
 }
 
 // The first and the last reference of an owner.
 #[derive(Clone, Copy, Drop)]
 pub(crate) struct Ends {
-    pub(crate) first: Option<usize>,
-    pub(crate) last: Option<usize>,
+    pub(crate) first: Link,
+    pub(crate) last: Link,
 }

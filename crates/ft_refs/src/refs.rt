@@ -4,9 +4,9 @@ ghost use Rattle.std.specs.Prelude.{◌≡◌, ◌≢◌, ℕ, ◌+◌, ◌++◌
 ghost use Rattle.ft_arena.specs.Ids.{first};
 ghost use Rattle.ft_refs.specs.RefLists.{IsRefs, IsHeld, entry, references_of, ids_of, owner_of, offset_of, next_of, without_reference, ChangesOne, Holds, below, from_on, raised, split_place, raised_place, AllBelow};
 
-use crate::links::{make_room, set_next, set_prev, wrap};
+use crate::links::{link_to, make_room, set_next, set_prev, wrap};
 use crate::numbers::{Ends, Place, RefId, Slot};
-use ft_arena::NodeId;
+use ft_arena::{Link, NodeId};
 use ft_base::OutOfMemory;
 use slab::Slab;
 use std::alloc::Global;
@@ -74,8 +74,8 @@ impl Refs {
         make_room(&mut self.ends, owner)?;
         let slot = Slot {
             place: None,
-            prev: None,
-            next: None,
+            prev: Link::NONE,
+            next: Link::NONE,
         };
         let r = RefId(self.slots.insert_reserved(slot));
         self.push(r, owner, offset);
@@ -92,15 +92,16 @@ impl Refs {
         ensures same_held { length self.new.lists ≡ length self.old.lists }
         ensures sound { IsRefs self.new }
     {
+        let here = link_to(&self.slots, r);
         let mut ends = self.ends[owner.0];
         let last = ends.last;
         self.slots[r.0] = Slot {
             place: Some(Place { owner, offset }),
             prev: last,
-            next: None,
+            next: Link::NONE,
         };
-        set_next(&mut self.slots, &mut ends.first, last, Some(r.0));
-        ends.last = Some(r.0);
+        set_next(&mut self.slots, &mut ends.first, last, here);
+        ends.last = here;
         self.ends[owner.0] = ends;
     }
 
@@ -134,8 +135,8 @@ impl Refs {
         let mut ends = self.ends[place.owner.0];
         self.slots[r.0] = Slot {
             place: None,
-            prev: None,
-            next: None,
+            prev: Link::NONE,
+            next: Link::NONE,
         };
         set_next(&mut self.slots, &mut ends.first, prev, next);
         set_prev(&mut self.slots, &mut ends.last, next, prev);
