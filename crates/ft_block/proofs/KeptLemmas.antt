@@ -100,12 +100,12 @@ amount_none true = refl
 amount_none false = refl
 
 -- elements that come where none were
-pub change_adds : {L : Type 0} (size : L → ℕ) (element : L → Element) (floor : ℕ) (old change new : Summary) (leaf : L) (e : Element) (n : ℕ) → e ≡ element leaf
-    → n ≡ size leaf → IsChange floor change e 0 e n → KeepsSum floor old change new → KeepsNode size element floor old (Leaf leaf) new
-change_adds size element floor old change new leaf e n is many ch sum view kept =
+pub exchange_adds : {L : Type 0} (size : L → ℕ) (element : L → Element) (floor : ℕ) (old new : Summary) (leaf : L) (e : Element) (n : ℕ) → e ≡ element leaf
+    → n ≡ size leaf → HasRange new → KeepsExchange floor old new e 0 e n → KeepsNode size element floor old (Leaf leaf) new
+exchange_adds size element floor old new leaf e n is many low ex view kept =
     let here : amount (shows view e) n ≡ shown_length size element view leaf =
     ap (λ z. amount (shows view z) n) is ∙ ap (λ (k : ℕ). cond (shows view (element leaf)) k 0) many in
-    omega (arith, sum view kept, ch view kept, amount_none (shows view e), here)
+    omega (arith, ex view kept, amount_none (shows view e), here, kept_low new low view)
 
 -- what is kept has one more node's length, where the sum of all is small
 pub one_more : (kept kept' n rest whole : ℕ) → kept' ≡ (kept + n) % 2 ^ 64 → kept + (n + rest) ≡ whole → whole < 2 ^ 64 → kept' + rest ≡ whole

@@ -6,7 +6,7 @@ ghost use Rattle.ft_block.specs.Tree.{IsFrom, kept_length, KeepsNothing, KeepsEx
 use crate::leaves::{Leaf, LenView, View, shown_in, staged};
 use ft_arena::Node;
 use ft_base::{Element, OutOfMemory, Perspective};
-use ft_partial::Table;
+use ft_partial::{Stages, Table};
 use ft_shape::Headed;
 use std::alloc::Global;
 
@@ -19,7 +19,7 @@ const NOBODY_ELSE: u32 = 1;
 pub(crate) struct Summary {
     pub(crate) whole: u64,
     pub(crate) removed: u64,
-    pub(crate) stages: Table,
+    pub(crate) stages: Stages,
     pub(crate) table: Table,
 }
 
@@ -27,7 +27,6 @@ impl Summary {
     // Of a block that has no leaves.
     pub(crate) fn new(alloc: Global, floor: u64) -> Summary
         ensures floor { result.table.floor ≡ floor }
-        ensures stages { result.stages.floor ≡ 0 }
         ensures nothing { KeepsNothing floor result }
     {
         let mut table = Table::new(alloc);
@@ -35,7 +34,7 @@ impl Summary {
         Summary {
             whole: 0,
             removed: 0,
-            stages: Table::new(alloc),
+            stages: Stages::new(alloc),
             table,
         }
     }
@@ -83,18 +82,18 @@ impl Summary {
         new_len: u64,
     ) -> Result<(), OutOfMemory>
         requires floor { self.old.table.floor ≡ floor }
-        requires stages { self.old.stages.floor ≡ 0 }
         ensures floor { self.new.table.floor ≡ floor }
+        ensures low { HasRange self.new }
         ensures exchanges { OnOk result (KeepsExchange floor self.old self.new e.now len new.now new_len) }
     {
-        let old_staged = staged(e)?;
-        let new_staged = staged(new)?;
         let cleared = shown_in(e, len, View::Removed);
         let removed = shown_in(new, new_len, View::Removed);
-        self.stages.replace(&old_staged, len, &new_staged, new_len)?;
-        self.table.replace(e, len, new, new_len)?;
         self.whole = self.whole.wrapping_sub(len).wrapping_add(new_len);
         self.removed = self.removed.wrapping_sub(cleared).wrapping_add(removed);
+        let old_staged = staged(e)?;
+        let new_staged = staged(new)?;
+        self.stages.replace(&old_staged, len, &new_staged, new_len)?;
+        self.table.replace(e, len, new, new_len)?;
         Ok(())
     }
 
@@ -107,7 +106,6 @@ impl Summary {
         ensures sum { OnOk result (KeepsSum floor self.old other.now self.new) }
     {
         self.table.fold_to(floor);
-        self.stages.tidy();
         self.add_all(floor, other)
     }
 
@@ -141,8 +139,7 @@ pub(crate) fn add_node<L: Leaf>(
     match node {
         Node::Leaf { value } => {
             let e = value.element();
-            let change = Summary::of_change(floor, e, 0, e, value.len())?;
-            sum.add_all(floor, &change)
+            sum.exchange(floor, e, 0, e, value.len())
         }
         Node::Block { value, .. } => sum.add_all(floor, &value.sum),
     }

@@ -272,3 +272,18 @@ drops_old old new floor rising e =
 -- a list without entries
 pub unseen_clear : (r c : ℕ) (xs : List Entry) → xs ≡ [] → unseen r c xs ≡ 0
 unseen_clear r c xs e = ap (unseen r c) e
+
+-- entries are put in, and those of nothing taken out
+pub adds_tidied : (old room now new more : List Entry) → room ≡ old → AddsEntries room now more → DropsOld now new 0 → AddsEntries old new more
+adds_tidied old room now new more same adds drops =
+    record {
+      rising = drops.rising;
+      sums = λ r c. omega (arith, ap (unseen r c) same, adds.sums r c, drops.sums r c (omega arith));
+    }
+
+pub drops_none : (xs : List Entry) (floor : ℕ) → IsRising xs → DropsOld xs xs floor
+drops_none xs floor rising = record { rising = rising; up_to = λ k h. h; sums = λ r c h. refl }
+
+pub added_nothing : (old entries more : List Entry) → IsRising old → old ≡ entries → length more ≡ 0 → AddsEntries entries entries more
+added_nothing old entries [] rising same none = record { rising = subst IsRising same rising; sums = λ r c. omega arith }
+added_nothing old entries (x ∷ more) rising same none = absurd (omega arith)

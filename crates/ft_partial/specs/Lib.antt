@@ -3,3 +3,4 @@ pub mod Entries
 pub mod Items
 pub mod SameStamps
 pub mod Tables
+pub mod Stages

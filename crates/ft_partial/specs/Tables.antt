@@ -47,3 +47,7 @@ AddsChange old new more last = (r c : ℕ) → length_at new r c ≡ (length_at 
 -- from the floor up all lengths stay
 abbrev pub SameFrom : ℕ → Lengths → Lengths → Type 0
 SameFrom floor old new = (r c : ℕ) → floor ≤ r → r < 2 ^ 64 → c < 2 ^ 32 → length_at new r c ≡ length_at old r c
+
+-- a change that adds `last` and what the perspective counts of the entries exchanges n of the element e for m of f
+abbrev pub IsExchange : ℕ → List Entry → ℕ → Element → ℕ → Element → ℕ → Type 0
+IsExchange floor more last e n f m = (old new : Lengths) → old.floor ≡ floor → AddsChange old new more last → Exchanges old new e n f m

@@ -2,10 +2,13 @@
 //!
 //! They stand by rising number, so that what is new to a perspective is read from the end back.
 
-ghost use Rattle.std.specs.Prelude.{◌≡◌, ◌+◌, ◌≤◌, ◌<◌, ◌%◌, ◌^◌, true, IfSome, length, insert, vec_len, vec_capacity};
+ghost use Rattle.std.specs.Prelude.{◌≡◌, ◌+◌, ◌/◌, ◌≤◌, ◌<◌, ◌%◌, ◌^◌, [], take, true, IfSome, OnOk, length, insert, vec_len, vec_capacity};
 ghost use Rattle.ft_partial.specs.Entries.{counts, share, unseen, AreUpTo, IsRising, IsPlace, IsAlikeAt, AddsEntry, AddsEntries, DropsOld};
 
-use ft_base::Perspective;
+use ft_base::{OutOfMemory, Perspective};
+
+// Below this number of entries a list is as long as what it holds.
+const FEW: usize = 4;
 
 /// What is counted besides by those who haven't seen the sequence number `seq`: by all but connection
 /// `conn`, or where `own` is set by that connection alone. `by` is a number round 2^64.
@@ -171,10 +174,56 @@ pub fn add_entries(entries: &mut Vec<Entry>, more: &[Entry])
     }
 }
 
-/// Takes out the entries up to the floor, which nobody counts from there on, and those of nothing.
+/// Makes room for so many more entries: no more than that where there are few, as in most lists.
+pub fn make_room(entries: &mut Vec<Entry>, more: usize) -> Result<(), OutOfMemory>
+    ensures items { entries.new.items ≡ entries.old.items }
+    ensures room { OnOk result (vec_len entries.new + more ≤ vec_capacity entries.new) }
+{
+    if entries.len() < FEW && more < FEW {
+        entries.reserve_exact(more)?;
+    } else {
+        entries.reserve(more)?;
+    }
+    Ok(())
+}
+
+/// Takes all entries out, and gives the room of more than a few back.
+pub fn clear(entries: &mut Vec<Entry>)
+    ensures { entries.new.items ≡ [] }
+{
+    entries.clear();
+    entries.shrink_to(FEW);
+}
+
+/// Whether half of the entries or more are up to the floor.
+pub fn is_half_old(entries: &[Entry], floor: u64) -> bool
+    requires { IsRising entries.now }
+    ensures { result ≡ true → AreUpTo floor (take (length entries.now / 2 + 1) entries.now) }
+{
+    let middle = entries.len() / 2;
+    middle < entries.len() && entries[middle].seq <= floor
+}
+
+/// Takes out the entries up to the floor, which nobody counts from there on, and those of nothing, and gives
+/// back room where most is spare then.
 pub fn drop_old(entries: &mut Vec<Entry>, floor: u64)
     requires { IsRising entries.old.items }
     ensures { DropsOld entries.old.items entries.new.items floor }
 {
     entries.retain(|x| x.seq > floor && x.by != 0);
+    entries.shrink_to(entries.len().saturating_mul(2));
+}
+
+/// Takes out the entries of nothing, once the last one is of nothing or there is no more room.
+pub fn drop_nothing(entries: &mut Vec<Entry>)
+    requires { IsRising entries.old.items }
+    ensures { DropsOld entries.old.items entries.new.items 0 }
+{
+    let len = entries.len();
+    if len == 0 {
+        return;
+    }
+    if len == entries.capacity() || entries[len - 1].by == 0 {
+        drop_old(entries, 0);
+    }
 }

@@ -7,8 +7,11 @@
 //! A call that can't return `OutOfMemory` takes no memory; one that can returns it where there is no room.
 #![tactic(auto)]
 
+mod changes;
 mod entries;
 mod items;
+mod stages;
 mod table;
 
+pub use stages::Stages;
 pub use table::{Table, same_by_stamps};

@@ -5,14 +5,11 @@ ghost use Rattle.ft_partial.specs.Items.{Item, item_of, inserted_element, remove
 ghost use Rattle.ft_partial.specs.SameStamps.{SameByStamps, ExchangesItem};
 ghost use Rattle.ft_partial.specs.Tables.{length_at, CountsItems, Adds, Exchanges, AddsAll, AddsChange, SameFrom};
 
-use crate::entries::{Entry, add_entries, drop_old, newest, unseen};
-use crate::items::{last_length, push_item};
+use crate::changes::change_of;
+use crate::entries::{Entry, add_entries, clear, drop_old, is_half_old, make_room, newest, unseen};
 use ft_base::{Datum, Element, OutOfMemory, Perspective, Stamp, Stamps};
 use std::alloc::Global;
 use std::marker::Model;
-
-/// Below this number of entries none is looked for that may be dropped.
-const FEW: usize = 4;
 
 /// How much each perspective sees of a list of items, each the stamps of some elements with their
 /// number.
@@ -34,8 +31,6 @@ pub struct Table {
     // what the others count besides
     entries: Vec<Entry>,
     latest: u64,
-    // with this many entries the next fold looks for those up to the floor
-    fold_at: usize,
     alloc: Global,
 }
 
@@ -60,7 +55,6 @@ impl Table {
             last: 0,
             entries: Vec::new(alloc),
             latest: 0,
-            fold_at: FEW,
             alloc,
         }
     }
@@ -141,12 +135,8 @@ impl Table {
         ensures floor { self.new.floor ≡ self.old.floor }
         ensures err { OnErr result (self.new ≡ self.old) }
     {
-        let mut changes = Vec::new(self.alloc);
-        push_item(&mut changes, self.floor, new, new_len)?;
-        push_item(&mut changes, self.floor, e, 0u64.wrapping_sub(len))?;
-        let gone = last_length(e, len);
-        let come = last_length(new, new_len);
-        self.put_in(changes.as_slice(), come.wrapping_sub(gone))
+        let change = change_of(self.alloc, self.floor, e, len, new, new_len)?;
+        self.put_in(change.entries.as_slice(), change.last)
     }
 
     // Adds entries, and so many elements to those that all see in the end.
@@ -155,7 +145,7 @@ impl Table {
         ensures floor { self.new.floor ≡ self.old.floor }
         ensures err { OnErr result (self.new ≡ self.old) }
     {
-        self.entries.reserve(more.len())?;
+        make_room(&mut self.entries, more.len())?;
         add_entries(&mut self.entries, more);
         self.last = self.last.wrapping_add(last);
         self.latest = newest(self.entries.as_slice());
@@ -175,23 +165,11 @@ impl Table {
         self.put_in(other.entries.as_slice(), other.last)
     }
 
-    /// Drops entries of nothing, once the entries have doubled since the last time. No length changes.
-    pub fn tidy(&mut self)
-        ensures lengths { (r c : ℕ) → length_at self.new r c ≡ length_at self.old r c }
-        ensures floor { self.new.floor ≡ self.old.floor }
-    {
-        if self.entries.len() >= self.fold_at {
-            drop_old(&mut self.entries, 0);
-            self.fold_at = self.entries.len().saturating_mul(2).max(FEW);
-        }
-    }
-
     /// Raises the floor to `floor`, which isn't below the old one: the items removed at or below it
     /// are gone, and insertions at or below it are written (0, 0).
     ///
-    /// Entries up to the floor are dropped at once where there are no others, and else once the entries
-    /// have doubled since the last time, so all folds together take no longer than the calls that added
-    /// the entries.
+    /// Entries up to the floor are dropped at once where there are no others, and else once they are half
+    /// of all, so all folds together take no longer than the calls that added the entries.
     pub fn fold_to(&mut self, floor: u64)
         requires { self.old.floor ≤ floor }
         ensures items { (xs : List Item) → CountsItems self.old xs → CountsItems self.new (folded_items floor xs) }
@@ -201,10 +179,9 @@ impl Table {
     {
         self.floor = floor;
         if self.latest <= floor {
-            self.entries.clear();
-        } else if self.entries.len() >= self.fold_at {
+            clear(&mut self.entries);
+        } else if is_half_old(self.entries.as_slice(), floor) {
             drop_old(&mut self.entries, floor);
-            self.fold_at = self.entries.len().saturating_mul(2).max(FEW);
         }
     }
 }

@@ -4,11 +4,11 @@ use Rattle.ft_arena.specs.declared.nodes.Node.{Node}
 use Rattle.ft_shape.specs.declared.headed.Headed.{Headed}
 use Rattle.ft_block.specs.Tree.{KeepsNode}
 use Rattle.ft_block.specs.declared.summaries.Summary.{Summary}
-use Rattle.ft_block.proofs.KeptLemmas.{change_adds}
+use Rattle.ft_block.proofs.KeptLemmas.{exchange_adds}
 use Rattle.ft_block.proofs.summaries.add_node.Goals as goal
 
-pub returns-in_ok-change-in-Leaf-clause-sum : goal.returns-in_ok-change-in-Leaf-clause-sum
-returns-in_ok-change-in-Leaf-clause-sum g c =
-    on_ok_weaker c.add_all.result (λ sum. subst (λ (n : Node g.row.L.Denot (Headed Summary)). KeepsNode g.L.Leaf.size g.L.Leaf.element c.args.floor c.args.sum.now n
-    c.add_all.new.self) (sym c.in-Leaf.is) (change_adds g.L.Leaf.size g.L.Leaf.element c.args.floor c.args.sum.now c.in_ok-change-in-Leaf.change c.add_all.new.self c.in-Leaf.value
-    c.element-e.result.now c.len.result c.element-e.ensures c.len.ensures.value c.in_ok-change-in-Leaf.ensures.change sum)) c.add_all.ensures.sum
+pub returns-in-Leaf-clause-sum : goal.returns-in-Leaf-clause-sum
+returns-in-Leaf-clause-sum g c =
+    on_ok_weaker c.exchange.result (λ ex. subst (λ (n : Node g.row.L.Denot (Headed Summary)). KeepsNode g.L.Leaf.size g.L.Leaf.element c.args.floor c.args.sum.now n
+    c.exchange.new.self) (sym c.in-Leaf.is) (exchange_adds g.L.Leaf.size g.L.Leaf.element c.args.floor c.args.sum.now c.exchange.new.self c.in-Leaf.value
+    c.element-e.result.now c.len.result c.element-e.ensures c.len.ensures.value c.exchange.ensures.low ex)) c.exchange.ensures.exchanges

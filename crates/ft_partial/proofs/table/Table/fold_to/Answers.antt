@@ -2,15 +2,15 @@ use Rattle.std.proofs.Common.{ap}
 use Rattle.ft_partial.proofs.TableLemmas.{same_from, same_kept, same_cleared, stands-higher, stands-folded}
 use Rattle.ft_partial.proofs.table.Table.fold_to.Goals as goal
 
-pub invariant_of-self-then-len-self : goal.invariant_of-self-then-len-self
-invariant_of-self-then-len-self c = record {
+pub invariant_of-self-then-is_half_old : goal.invariant_of-self-then-is_half_old
+invariant_of-self-then-is_half_old c = record {
   rising = c.drop_old.ensures.rising;
   up_to = c.drop_old.ensures.up_to c.self.inside.latest c.self.invariant.up_to;
 }
 
 pub returns-then-self-floor-clause-lengths : goal.returns-then-self-floor-clause-lengths
 returns-then-self-floor-clause-lengths c =
-    same_cleared c.args.self.now _ c.args.floor c.self.inside.latest c.self.inside.entries.items (ap (λ t. t.entries) c.self.view_is) (ap (λ t. t.last) c.self.view_is) c.clear.ensures.items
+    same_cleared c.args.self.now _ c.args.floor c.self.inside.latest c.self.inside.entries.items (ap (λ t. t.entries) c.self.view_is) (ap (λ t. t.last) c.self.view_is) c.clear.ensures
     c.self.invariant.up_to c.if-self-floor.true
 
 pub returns-then-self-floor-clause-same : goal.returns-then-self-floor-clause-same
@@ -19,21 +19,21 @@ returns-then-self-floor-clause-same c = stands-higher c.args.self.now _ (returns
 pub returns-then-self-floor-clause-items : goal.returns-then-self-floor-clause-items
 returns-then-self-floor-clause-items c = λ xs stands. stands-folded _ xs (returns-then-self-floor-clause-same c xs stands)
 
-pub returns-then-len-self-clause-lengths : goal.returns-then-len-self-clause-lengths
-returns-then-len-self-clause-lengths c =
+pub returns-then-is_half_old-clause-lengths : goal.returns-then-is_half_old-clause-lengths
+returns-then-is_half_old-clause-lengths c =
     same_from c.args.self.now _ c.args.floor c.self.inside.entries.items (ap (λ t. t.entries) c.self.view_is) (ap (λ t. t.last) c.self.view_is) c.drop_old.ensures
 
-pub returns-then-len-self-clause-same : goal.returns-then-len-self-clause-same
-returns-then-len-self-clause-same c = stands-higher c.args.self.now _ (returns-then-len-self-clause-lengths c) c.requires
+pub returns-then-is_half_old-clause-same : goal.returns-then-is_half_old-clause-same
+returns-then-is_half_old-clause-same c = stands-higher c.args.self.now _ (returns-then-is_half_old-clause-lengths c) c.requires
 
-pub returns-then-len-self-clause-items : goal.returns-then-len-self-clause-items
-returns-then-len-self-clause-items c = λ xs stands. stands-folded _ xs (returns-then-len-self-clause-same c xs stands)
+pub returns-then-is_half_old-clause-items : goal.returns-then-is_half_old-clause-items
+returns-then-is_half_old-clause-items c = λ xs stands. stands-folded _ xs (returns-then-is_half_old-clause-same c xs stands)
 
-pub returns-else-len-self-clause-lengths : goal.returns-else-len-self-clause-lengths
-returns-else-len-self-clause-lengths c = same_kept c.args.self.now _ c.args.floor (ap (λ t. t.last) c.self.view_is) (ap (λ t. t.entries) c.self.view_is)
+pub returns-else-is_half_old-clause-lengths : goal.returns-else-is_half_old-clause-lengths
+returns-else-is_half_old-clause-lengths c = same_kept c.args.self.now _ c.args.floor (ap (λ t. t.last) c.self.view_is) (ap (λ t. t.entries) c.self.view_is)
 
-pub returns-else-len-self-clause-same : goal.returns-else-len-self-clause-same
-returns-else-len-self-clause-same c = stands-higher c.args.self.now _ (returns-else-len-self-clause-lengths c) c.requires
+pub returns-else-is_half_old-clause-same : goal.returns-else-is_half_old-clause-same
+returns-else-is_half_old-clause-same c = stands-higher c.args.self.now _ (returns-else-is_half_old-clause-lengths c) c.requires
 
-pub returns-else-len-self-clause-items : goal.returns-else-len-self-clause-items
-returns-else-len-self-clause-items c = λ xs stands. stands-folded _ xs (returns-else-len-self-clause-same c xs stands)
+pub returns-else-is_half_old-clause-items : goal.returns-else-is_half_old-clause-items
+returns-else-is_half_old-clause-items c = λ xs stands. stands-folded _ xs (returns-else-is_half_old-clause-same c xs stands)

@@ -4,5 +4,5 @@ use Rattle.ft_partial.proofs.table.Table.put_in.Goals as goal
 
 pub returns-clause-lengths : goal.returns-clause-lengths
 returns-clause-lengths c =
-    adds_change c.args.self.now _ c.reserve.new.self.items c.args.more.now c.self.inside.last c.args.last (c.in_ok-reserve.ensures.items ∙ ap (λ t. t.entries) c.self.view_is)
+    adds_change c.args.self.now _ c.make_room.new.entries.items c.args.more.now c.self.inside.last c.args.last (c.make_room.ensures.items ∙ ap (λ t. t.entries) c.self.view_is)
     (ap (λ t. t.last) c.self.view_is) c.add_entries.ensures refl

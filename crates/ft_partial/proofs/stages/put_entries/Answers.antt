@@ -1,0 +1,5 @@
+use Rattle.ft_partial.proofs.EntryLemmas.{adds_tidied}
+use Rattle.ft_partial.proofs.stages.put_entries.Goals as goal
+
+pub returns-clause-ok : goal.returns-clause-ok
+returns-clause-ok c = adds_tidied _ _ _ _ _ c.make_room.ensures.items c.add_entries.ensures c.drop_nothing.ensures

@@ -1,0 +1,178 @@
+//! A table whose floor stays 0.
+
+ghost use Rattle.std.specs.Prelude.{◌≡◌, ℕ, ◌<◌, ◌≤◌, ◌^◌, List, [], ◌++◌, IfOk, OnOk, OnErr};
+ghost use Rattle.ft_partial.specs.Entries.{AddsEntries, IsRising};
+ghost use Rattle.ft_partial.specs.Items.{Item, length_seen};
+ghost use Rattle.ft_partial.specs.SameStamps.{ExchangesItem};
+ghost use Rattle.ft_partial.specs.Tables.{length_at, CountsItems, Exchanges, AddsAll, AddsChange};
+
+use crate::changes::change_of;
+use crate::entries::{Entry, add_entries, drop_nothing, make_room, unseen};
+use ft_base::{Element, OutOfMemory, Perspective};
+use std::alloc::Global;
+use std::marker::Model;
+
+/// A table whose floor stays 0, for changes that are mostly taken back soon: those that a client has made
+/// and that aren't sequenced yet. Contracts see the same as of a `Table`.
+///
+/// It keeps an entry for each number with a change, and gives up those of nothing. Where nothing ever
+/// changed it takes three words.
+#[derive(Drop)]
+pub struct Stages {
+    // how many elements are seen at the last stage
+    last: u64,
+    // what is counted besides at those before: None where nothing was ever counted
+    recent: Option<Box<Recent>>,
+    alloc: Global,
+}
+
+impl Model for Stages {
+    ghost use Rattle.ft_partial.specs.Tables.{Lengths};
+    ghost use Rattle.ft_partial.specs.Entries.{IsRising};
+
+    ghost Value = { Lengths };
+
+    ghost use Rattle.ft_partial.specs.Stages.{recent_entries};
+
+    ghost view = { λ a. record { floor = 0; last = a.last; entries = recent_entries a.recent } };
+
+    ghost invariant = { λ a. IsRising (recent_entries a.recent) };
+}
+
+// The entries of a table of stages.
+#[derive(Drop)]
+struct Recent {
+    entries: Vec<Entry>,
+}
+
+impl Recent {
+    // The entries, in any order.
+    fn new(alloc: Global, more: &[Entry]) -> Result<Box<Recent>, OutOfMemory>
+        ensures { IfOk result (λ recent. AddsEntries [] recent.value.entries.items more.now) }
+    {
+        let mut entries = Vec::new(alloc);
+        put_entries(&mut entries, more)?;
+        Ok(Box::new(alloc, Recent { entries })?)
+    }
+
+    // Adds entries, in any order.
+    fn put(&mut self, more: &[Entry]) -> Result<(), OutOfMemory>
+        requires { IsRising self.old.entries.items }
+        ensures ok { OnOk result (AddsEntries self.old.entries.items self.new.entries.items more.now) }
+        ensures rising { IsRising self.new.entries.items }
+        ensures err { OnErr result (self.new.entries.items ≡ self.old.entries.items) }
+    {
+        put_entries(&mut self.entries, more)
+    }
+}
+
+impl Stages {
+    /// The table of no items.
+    pub fn new(alloc: Global) -> Stages
+        ensures stands { CountsItems result [] }
+        ensures floor { result.floor ≡ 0 }
+    {
+        Stages {
+            last: 0,
+            recent: None,
+            alloc,
+        }
+    }
+
+    /// How many elements the perspective sees.
+    ///
+    /// The number is exact where less than 2^64 elements are seen, as in each list that has less, and
+    /// else it is taken round 2^64.
+    pub fn length(&self, at: Perspective) -> u64
+        ensures sum { (xs : List Item) → self.now.floor ≤ at.r → CountsItems self.now xs → length_seen at.r at.c xs < 2 ^ 64 → result ≡ length_seen at.r at.c xs }
+        ensures at { result ≡ length_at self.now at.r at.c }
+    {
+        let last = self.last;
+        match &self.recent {
+            Some(recent) => last.wrapping_add(unseen(recent.entries.as_slice(), at)),
+            None => last,
+        }
+    }
+
+    /// Puts `new_len` elements of the stamps `new` in the place of `len` elements of the stamps `e`,
+    /// of which the items have that many.
+    ///
+    /// Returns `OutOfMemory` where there is no room, and then the table is as it was.
+    pub fn replace(
+        &mut self,
+        e: &Element,
+        len: u64,
+        new: &Element,
+        new_len: u64,
+    ) -> Result<(), OutOfMemory>
+        ensures ok { OnOk result ((xs ys : List Item) → CountsItems self.old xs → ExchangesItem xs ys e.now len new.now new_len → CountsItems self.new ys) }
+        ensures exchanges { OnOk result (Exchanges self.old self.new e.now len new.now new_len) }
+        ensures floor { self.new.floor ≡ self.old.floor }
+        ensures low { self.old.floor ≡ 0 }
+        ensures err { OnErr result (self.new ≡ self.old) }
+    {
+        let change = change_of(self.alloc, 0, e, len, new, new_len)?;
+        self.put_in(change.entries.as_slice(), change.last)
+    }
+
+    /// Adds all items of another table.
+    ///
+    /// Returns `OutOfMemory` where there is no room, and then the table is as it was.
+    pub fn add_all(&mut self, other: &Stages) -> Result<(), OutOfMemory>
+        ensures ok { OnOk result ((xs ys : List Item) → other.now.floor ≤ self.old.floor → CountsItems self.old xs → CountsItems other.now ys → CountsItems self.new (ys ++ xs)) }
+        ensures adds { OnOk result (AddsAll self.old other.now self.new) }
+        ensures floor { self.new.floor ≡ self.old.floor }
+        ensures err { OnErr result (self.new ≡ self.old) }
+    {
+        match &other.recent {
+            Some(recent) => self.put_in(recent.entries.as_slice(), other.last),
+            None => self.put_in(&[], other.last),
+        }
+    }
+
+    // Adds entries, and so many elements to those that are seen at the last stage.
+    fn put_in(&mut self, more: &[Entry], last: u64) -> Result<(), OutOfMemory>
+        ensures lengths { OnOk result (AddsChange self.old self.new more.now last) }
+        ensures floor { self.new.floor ≡ self.old.floor }
+        ensures err { OnErr result (self.new ≡ self.old) }
+    {
+        self.put(more)?;
+        self.last = self.last.wrapping_add(last);
+        Ok(())
+    }
+
+    // Adds entries, in any order.
+    fn put(&mut self, more: &[Entry]) -> Result<(), OutOfMemory>
+        ensures ok { OnOk result (AddsEntries self.old.entries self.new.entries more.now) }
+        ensures rest { self.new ≡ record self.old { entries = self.new.entries } }
+        ensures err { OnErr result (self.new ≡ self.old) }
+    {
+        // That the entries rise is read off the field.
+        let _last = self.last;
+        // Most changes are sequenced, and stand for nothing here.
+        let count = more.len();
+        if count == 0 {
+            return Ok(());
+        }
+        match &mut self.recent {
+            Some(recent) => recent.put(more),
+            None => {
+                self.recent = Some(Recent::new(self.alloc, more)?);
+                Ok(())
+            }
+        }
+    }
+}
+
+// Adds entries, in any order, and takes those of nothing out.
+fn put_entries(entries: &mut Vec<Entry>, more: &[Entry]) -> Result<(), OutOfMemory>
+    requires { IsRising entries.old.items }
+    ensures ok { OnOk result (AddsEntries entries.old.items entries.new.items more.now) }
+    ensures rising { IsRising entries.new.items }
+    ensures err { OnErr result (entries.new.items ≡ entries.old.items) }
+{
+    make_room(entries, more.len())?;
+    add_entries(entries, more);
+    drop_nothing(entries);
+    Ok(())
+}
