@@ -7,6 +7,7 @@ pub mod LeafChanges
 pub mod Settling
 pub mod Plain
 pub mod TextRuns
+pub mod Characters
 pub mod TextLeaves
 pub mod TextUnits
 pub mod TextLaws

@@ -4,6 +4,7 @@
 #![tactic(auto)]
 
 pub mod block_leaf;
+mod characters;
 pub mod content;
 pub mod leaves;
 pub mod references;

@@ -4,6 +4,7 @@ ghost use Rattle.std.specs.Prelude.{◌≡◌, ◌+◌, ◌≤◌, ◌<◌, ◌+
 ghost use Rattle.std.specs.Str.{IsCharBoundary};
 ghost use Rattle.ft_tree_leaves.specs.TextRuns.{IsTextRun, longest_run};
 
+use crate::characters::Characters;
 use ft_base::OutOfMemory;
 use std::alloc::Global;
 use std::marker::Model;
@@ -15,19 +16,22 @@ pub const MAX_RUN: u64 = 256;
 /// number).
 #[derive(Drop)]
 pub struct TextRun {
-    text: String,
+    text: Characters,
     count: u64,
+    alloc: Global,
 }
 
 impl Model for TextRun {
-    ghost use Rattle.std.specs.Prelude.{◌≡◌, List, ℕ, chars, length, string_bytes};
+    ghost use Rattle.std.specs.Prelude.{◌≡◌, List, ℕ, chars, length};
     ghost use Rattle.ft_tree_leaves.specs.TextRuns.{IsTextRun};
 
     ghost Value = { List ℕ };
 
-    ghost view = { λ a. chars (string_bytes a.text) };
+    ghost use Rattle.ft_tree_leaves.specs.Characters.{bytes_of};
 
-    ghost invariant = { λ a. (a.count ≡ length (chars (string_bytes a.text))) × IsTextRun (chars (string_bytes a.text)) };
+    ghost view = { λ a. chars (bytes_of a.text) };
+
+    ghost invariant = { λ a. (a.count ≡ length (chars (bytes_of a.text))) × IsTextRun (chars (bytes_of a.text)) };
 }
 
 impl TextRun {
@@ -37,8 +41,8 @@ impl TextRun {
         ensures { IfOk result (λ run. run ≡ chars text.now) }
     {
         let count = char_count(text);
-        let text = String::from_str(alloc, text)?;
-        Ok(TextRun { text, count })
+        let text = Characters::new(alloc, text)?;
+        Ok(TextRun { text, count, alloc })
     }
 
     /// How many characters it has.
@@ -69,10 +73,14 @@ impl TextRun {
         ensures err { OnErr result (self.new ≡ self.old) }
     {
         let place = byte_place(self.text.as_str(), at);
-        let text = self.text.split_off(place)?;
+        let text = self.text.split_off(self.alloc, place)?;
         let count = self.count - at;
         self.count = at;
-        Ok(TextRun { text, count })
+        Ok(TextRun {
+            text,
+            count,
+            alloc: self.alloc,
+        })
     }
 
     /// Adds the other run's characters at the end.
@@ -83,7 +91,9 @@ impl TextRun {
         ensures ok { OnOk result (self.new ≡ self.old ++ other.now) }
         ensures err { OnErr result (self.new ≡ self.old) }
     {
-        self.text.push_str(other.as_str())?;
+        // That it holds characters is read off its contract.
+        let _mine = self.text.as_str();
+        self.text.push_str(self.alloc, other.as_str())?;
         self.count += other.count;
         Ok(())
     }
