@@ -10,13 +10,13 @@ use ft_plain::Plain;
 use ft_replay::{Fault, replay_session};
 use std::alloc::Global;
 
-/// How many bytes a report may have.
+// How many bytes a report may have.
 const ROOM: usize = 16_777_216;
 
-/// How many bytes are read and written at a time.
+// How many bytes are read and written at a time.
 const PIECE: usize = 65_536;
 
-/// The bytes of a line that is one byte too long.
+// The bytes of a line that is one byte too long.
 const TOO_LONG: usize = 1_048_577;
 
 /// A session, and what is to be told of it.

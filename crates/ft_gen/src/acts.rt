@@ -36,7 +36,7 @@ pub struct Act {
     pub deed: Deed,
 }
 
-/// The name of the client of that number.
+// The name of the client of that number.
 fn client_name(alloc: Global, number: u64) -> Result<Text, OutOfMemory>
     ensures { IfOk result (λ name. name ≡ client_name number) }
 {

@@ -96,7 +96,7 @@ impl Course {
         Course { place, ..self }
     }
 
-    /// Where a part of the opening is next.
+    // Where a part of the opening is next.
     fn open(self, opening: Opening) -> (Act, Course)
         requires { IsCourse (record self { place = place.Opening opening }) }
         ensures { IsStep (to_come (record self { place = place.Opening opening })) result.0 result.1 }
@@ -107,7 +107,7 @@ impl Course {
         }
     }
 
-    /// Where a part of the exchange is next.
+    // Where a part of the exchange is next.
     fn exchange(self, exchange: Exchange) -> (Act, Course)
         requires { IsCourse (record self { place = place.Exchange exchange }) }
         ensures { IsStep (to_come (record self { place = place.Exchange exchange })) result.0 result.1 }
@@ -118,7 +118,7 @@ impl Course {
         }
     }
 
-    /// The views of the clients from this one on.
+    // The views of the clients from this one on.
     fn show(self, client: u64) -> Course
         requires first { 1 ≤ self.clients }
         requires few { self.clients ≤ 16 }
@@ -132,7 +132,7 @@ impl Course {
         }
     }
 
-    /// The next round, and all behind it.
+    // The next round, and all behind it.
     fn next_round(self) -> Course
         requires first { 1 ≤ self.clients }
         requires few { self.clients ≤ 16 }
@@ -146,7 +146,7 @@ impl Course {
         next.begin_round()
     }
 
-    /// The round, if an edit is left, and all behind it.
+    // The round, if an edit is left, and all behind it.
     fn begin_round(self) -> Course
         requires first { 1 ≤ self.clients }
         requires few { self.clients ≤ 16 }
@@ -162,7 +162,7 @@ impl Course {
         course.begin_with(roles)
     }
 
-    /// A round with these roles: the dropped client loses its connection, if there is one.
+    // A round with these roles: the dropped client loses its connection, if there is one.
     fn begin_with(self, roles: Roles) -> Course
         requires first { 1 ≤ self.clients }
         requires few { self.clients ≤ 16 }
@@ -179,7 +179,7 @@ impl Course {
         }
     }
 
-    /// The turn of the first client from this one on that makes an edit, or what is behind all turns.
+    // The turn of the first client from this one on that makes an edit, or what is behind all turns.
     fn next_turn(self, roles: Roles, agreed: u64, first: u64) -> Course
         requires first { 1 ≤ self.clients }
         requires few { self.clients ≤ 16 }
@@ -214,7 +214,7 @@ impl Course {
         }
     }
 
-    /// The loss of a connection.
+    // The loss of a connection.
     fn lose(self, dropped: u64, remover: u64) -> (Act, Course)
         requires { IsCourse (record self { place = place.Loss dropped remover }) }
         ensures { IsStep (to_come (record self { place = place.Loss dropped remover })) result.0 result.1 }
@@ -227,7 +227,7 @@ impl Course {
         (Act::new(dropped, Deed::Drop), course)
     }
 
-    /// An edit of the turn.
+    // An edit of the turn.
     fn edit(self, turn: Turn) -> (Act, Course)
         requires { IsCourse (record self { place = place.Editing turn }) }
         ensures { IsStep (to_come (record self { place = place.Editing turn })) result.0 result.1 }
@@ -241,7 +241,7 @@ impl Course {
         )
     }
 
-    /// What is behind an edit of the turn.
+    // What is behind an edit of the turn.
     fn behind_edit(self, turn: Turn) -> Course
         requires first { 1 ≤ self.clients }
         requires few { self.clients ≤ 16 }

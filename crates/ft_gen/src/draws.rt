@@ -3,7 +3,7 @@
 ghost use Rattle.std.specs.Prelude.{◌≡◌, ◌<◌};
 ghost use Rattle.ft_gen.specs.Draws.{draw, next_state, state_after};
 
-/// The state after `state`.
+// The state after `state`.
 fn next_state(state: u64) -> u64
     ensures { result ≡ next_state state }
 {

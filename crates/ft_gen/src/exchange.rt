@@ -79,15 +79,15 @@ impl Exchange {
     }
 }
 
-/// The act of that client, and what is next.
+// The act of that client, and what is next.
 fn does(client: u64, deed: Deed, next: Exchange) -> (Act, Option<Exchange>)
     ensures { result ≡ (record { client = client; deed = deed }, Some next) }
 {
     (Act::new(client, deed), Some(next))
 }
 
-/// The submission of the first client from this one on that isn't dropped, or what is behind all
-/// submissions.
+// The submission of the first client from this one on that isn't dropped, or what is behind all
+// submissions.
 fn submit(first: u64, clients: u64, dropped: Option<u64>) -> Exchange
     requires first { 1 ≤ clients }
     requires few { clients ≤ 16 }
@@ -106,7 +106,7 @@ fn submit(first: u64, clients: u64, dropped: Option<u64>) -> Exchange
     }
 }
 
-/// What this client learns of the edits, or what is behind that, if anything is.
+// What this client learns of the edits, or what is behind that, if anything is.
 fn learn(client: u64, clients: u64, round: u64) -> Option<Exchange>
     requires first { 1 ≤ clients }
     requires next { client ≤ clients + 1 }
@@ -122,7 +122,7 @@ fn learn(client: u64, clients: u64, round: u64) -> Option<Exchange>
     }
 }
 
-/// The noop of this client, or what is behind all noops.
+// The noop of this client, or what is behind all noops.
 fn noop(client: u64, clients: u64) -> Exchange
     requires first { 1 ≤ clients }
     requires next { client ≤ clients + 1 }
@@ -136,7 +136,7 @@ fn noop(client: u64, clients: u64) -> Exchange
     }
 }
 
-/// What this client learns of the noops, or what is behind that.
+// What this client learns of the noops, or what is behind that.
 fn learn_noops(client: u64, clients: u64) -> Exchange
     requires first { 1 ≤ clients }
     requires next { client ≤ clients + 1 }
@@ -150,7 +150,7 @@ fn learn_noops(client: u64, clients: u64) -> Exchange
     }
 }
 
-/// The compaction of this client, if there is such a client.
+// The compaction of this client, if there is such a client.
 fn compact(client: u64, clients: u64) -> Option<Exchange>
     requires next { client ≤ clients + 1 }
     ensures told { (round : ℕ) → compacts_from clients client ≡ exchange_left clients round result }

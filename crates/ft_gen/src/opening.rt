@@ -64,7 +64,7 @@ impl Opening {
     }
 }
 
-/// The start of this client, or what is behind all starts.
+// The start of this client, or what is behind all starts.
 fn start(client: u64, clients: u64) -> Opening
     requires first { 1 ≤ clients }
     requires next { client ≤ clients + 1 }
@@ -78,7 +78,7 @@ fn start(client: u64, clients: u64) -> Opening
     }
 }
 
-/// The greeting of this client, or what is behind all greetings.
+// The greeting of this client, or what is behind all greetings.
 fn greet(client: u64, clients: u64) -> Opening
     requires next { client ≤ clients + 1 }
     ensures told { greetings_from clients client ≡ opening_to_come clients result }
@@ -91,7 +91,7 @@ fn greet(client: u64, clients: u64) -> Opening
     }
 }
 
-/// What this client learns of the grid, if there is such a client.
+// What this client learns of the grid, if there is such a client.
 fn learn(client: u64, clients: u64) -> Option<Opening>
     requires next { client ≤ clients + 1 }
     ensures told { grid_lessons_from clients client ≡ opening_left clients result }

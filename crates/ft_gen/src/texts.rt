@@ -32,7 +32,7 @@ impl DrawnOp {
     }
 }
 
-/// So many letters, drawn from the state.
+// So many letters, drawn from the state.
 fn letters(alloc: Global, count: u64, mut state: u64) -> Result<Text, OutOfMemory>
     ensures { IfOk result (λ text. text ≡ letters count state) }
 {
@@ -44,7 +44,7 @@ fn letters(alloc: Global, count: u64, mut state: u64) -> Result<Text, OutOfMemor
     Ok(Text::from_string(text))
 }
 
-/// The insertion of so many letters, drawn from the state.
+// The insertion of so many letters, drawn from the state.
 fn insertion(alloc: Global, pos: u64, count: u64, state: u64) -> Result<ChannelOp, OutOfMemory>
     ensures { IfOk result (λ op. op ≡ op_of (drawn.Insert pos count state)) }
 {
@@ -56,14 +56,14 @@ fn insertion(alloc: Global, pos: u64, count: u64, state: u64) -> Result<ChannelO
     })))
 }
 
-/// The number as a JSON value.
+// The number as a JSON value.
 fn number_text(alloc: Global, number: u64) -> Result<ValText, OutOfMemory>
     ensures { IfOk result (λ text. text ≡ decimal number) }
 {
     ValText::new(alloc, number.to_string(alloc)?.as_str())
 }
 
-/// The annotation of one element.
+// The annotation of one element.
 fn annotation(alloc: Global, pos: u64, value: u64) -> Result<ChannelOp, OutOfMemory>
     requires { IsWellFormed (op_of (drawn.Annotate pos value)) }
     ensures { IfOk result (λ op. op ≡ op_of (drawn.Annotate pos value)) }
@@ -80,7 +80,7 @@ fn annotation(alloc: Global, pos: u64, value: u64) -> Result<ChannelOp, OutOfMem
     })))
 }
 
-/// The write of a number to a cell.
+// The write of a number to a cell.
 fn cell_write(alloc: Global, row: u64, col: u64, value: u64) -> Result<ChannelOp, OutOfMemory>
     ensures { IfOk result (λ op. op ≡ op_of (drawn.Set row col value)) }
 {
@@ -88,7 +88,7 @@ fn cell_write(alloc: Global, row: u64, col: u64, value: u64) -> Result<ChannelOp
     Ok(ChannelOp::Grid(GridOp::One(CellOp::Set { row, col, value })))
 }
 
-/// The interval of that number, round one element.
+// The interval of that number, round one element.
 fn new_interval(alloc: Global, number: u64, pos: u64) -> Result<ChannelOp, OutOfMemory>
     requires { IsWellFormed (op_of (drawn.Add number pos)) }
     ensures { IfOk result (λ op. op ≡ op_of (drawn.Add number pos)) }

@@ -66,7 +66,7 @@ impl From<Failed> for Fault {
 
     ghost from_gives = { λ _ fault. fault ≡ Write };
 
-    /// A sink failed.
+    // A sink failed.
     fn from(_fault: Failed) -> Fault {
         Fault::Write
     }

@@ -31,7 +31,7 @@ pub fn overlap_text(alloc: Global, interval: &IntervalRec) -> Result<ValText, Ou
     compact(alloc, &value)
 }
 
-/// The array of an interval's id, its ends and its properties.
+// The array of an interval's id, its ends and its properties.
 fn overlap_value(alloc: Global, interval: &IntervalRec) -> Result<Value, OutOfMemory>
     ensures value { IfOk result (λ v. view v ≡ written_overlap interval.now) }
     ensures canonical { IfOk result (λ _. IsCanonical (written_overlap interval.now)) }
@@ -40,7 +40,7 @@ fn overlap_value(alloc: Global, interval: &IntervalRec) -> Result<Value, OutOfMe
     overlap_array(alloc, interval.id.as_str(), interval.ends, props)
 }
 
-/// The array of an id, two ends and properties.
+// The array of an id, two ends and properties.
 fn overlap_array(alloc: Global, id: &str, ends: Ends2, props: Value) -> Result<Value, OutOfMemory>
     ensures value { IfOk result (λ v. view v
         ≡ array (items_of (string id.now ∷ written_number ends.start ∷ written_number ends.end ∷ view props ∷ []))) }
@@ -50,7 +50,7 @@ fn overlap_array(alloc: Global, id: &str, ends: Ends2, props: Value) -> Result<V
     Ok(json!(in alloc; [id, ends.start, ends.end, props])?)
 }
 
-/// A count.
+// A count.
 fn count_value(count: u64) -> Value
     ensures value { view result ≡ written_count count }
     ensures canonical { IsCanonical (written_count count) }
@@ -58,7 +58,7 @@ fn count_value(count: u64) -> Value
     Value::from(count)
 }
 
-/// The object of properties.
+// The object of properties.
 fn props_value(alloc: Global, props: &Props) -> Result<Value, OutOfMemory>
     ensures value { IfOk result (λ v. view v ≡ written_props props.now) }
     ensures keyed { IfOk result (λ _. IsKeyed props.now) }
@@ -71,7 +71,7 @@ fn props_value(alloc: Global, props: &Props) -> Result<Value, OutOfMemory>
     Ok(Value::Object(members))
 }
 
-/// The value that the text stands for: null where it has more than 127 levels.
+// The value that the text stands for: null where it has more than 127 levels.
 fn value_of(alloc: Global, text: &ValText) -> Result<Value, OutOfMemory>
     ensures value { IfOk result (λ v. view v ≡ value_of text.now) }
     ensures canonical { IfOk result (λ _. IsCanonical (value_of text.now)) }
@@ -92,7 +92,7 @@ pub fn origin_run_text(alloc: Global, names: &Names, run: &AttrRun) -> Result<Va
     compact(alloc, &value)
 }
 
-/// The object of a run of characters of one origin.
+// The object of a run of characters of one origin.
 fn origin_run_value(alloc: Global, names: &Names, run: &AttrRun) -> Result<Value, OutOfMemory>
     ensures value { IfOk result (λ v. view v ≡ written_origin_run names.now run.now) }
     ensures canonical { IfOk result (λ _. IsCanonical (written_origin_run names.now run.now)) }
@@ -106,7 +106,7 @@ fn origin_run_value(alloc: Global, names: &Names, run: &AttrRun) -> Result<Value
     Ok(Value::Object(members))
 }
 
-/// The name of an origin's connection, null where it isn't known.
+// The name of an origin's connection, null where it isn't known.
 fn origin_name(alloc: Global, names: &Names, who: Origin) -> Result<Value, OutOfMemory>
     ensures value { IfOk result (λ v. view v ≡ origin_name names.now who) }
     ensures canonical { IfOk result (λ _. IsCanonical (origin_name names.now who)) }
@@ -117,7 +117,7 @@ fn origin_name(alloc: Global, names: &Names, who: Origin) -> Result<Value, OutOf
     }
 }
 
-/// A name, null where there is none.
+// A name, null where there is none.
 fn written_name(alloc: Global, name: Option<&Text>) -> Result<Value, OutOfMemory>
     ensures value { IfOk result (λ v. view v ≡ written_name (option_copied name.entry)) }
     ensures canonical { IfOk result (λ _. IsCanonical (written_name (option_copied name.entry))) }
@@ -128,7 +128,7 @@ fn written_name(alloc: Global, name: Option<&Text>) -> Result<Value, OutOfMemory
     }
 }
 
-/// A text.
+// A text.
 fn text_value(alloc: Global, text: &Text) -> Result<Value, OutOfMemory>
     ensures value { IfOk result (λ v. view v ≡ written_text text.now) }
     ensures canonical { IfOk result (λ _. IsCanonical (written_text text.now)) }
@@ -136,7 +136,7 @@ fn text_value(alloc: Global, text: &Text) -> Result<Value, OutOfMemory>
     Ok(Value::try_from_str(alloc, text.as_str())?)
 }
 
-/// The number of an origin's message: 0 where it isn't known, null where there is none yet.
+// The number of an origin's message: 0 where it isn't known, null where there is none yet.
 fn origin_number(who: Origin) -> Value
     ensures value { view result ≡ origin_number who }
     ensures canonical { IsCanonical (origin_number who) }
@@ -163,7 +163,7 @@ pub fn author_texts(
     Ok(texts)
 }
 
-/// The texts of how many characters each connection inserted, unless it has none.
+// The texts of how many characters each connection inserted, unless it has none.
 fn known_author_texts(
     alloc: Global,
     names: &Names,
@@ -182,7 +182,7 @@ fn known_author_texts(
     Ok(texts)
 }
 
-/// How many characters the connection has.
+// How many characters the connection has.
 fn count_of(totals: &[Total], conn: u32) -> u64
     ensures { result ≡ count_of conn totals.now }
 {
@@ -194,7 +194,7 @@ fn count_of(totals: &[Total], conn: u32) -> u64
     0
 }
 
-/// Adds the text of how many characters the connection of that name inserted, unless it has none.
+// Adds the text of how many characters the connection of that name inserted, unless it has none.
 fn push_author(
     texts: &mut Vec<ValText>,
     alloc: Global,
@@ -212,7 +212,7 @@ fn push_author(
     Ok(())
 }
 
-/// The object of how many characters the connection of that name inserted.
+// The object of how many characters the connection of that name inserted.
 fn author_value(alloc: Global, name: &Text, count: u64) -> Result<Value, OutOfMemory>
     ensures value { IfOk result (λ v. view v ≡ written_author name.now count) }
     ensures canonical { IfOk result (λ _. IsCanonical (written_author name.now count)) }
@@ -222,7 +222,7 @@ fn author_value(alloc: Global, name: &Text, count: u64) -> Result<Value, OutOfMe
     Ok(json!(in alloc; {"by": name, "count": count})?)
 }
 
-/// Adds the text of how many characters have no name, pending or not, unless there are none.
+// Adds the text of how many characters have no name, pending or not, unless there are none.
 fn push_nameless(
     texts: &mut Vec<ValText>,
     alloc: Global,
@@ -240,7 +240,7 @@ fn push_nameless(
     Ok(())
 }
 
-/// The object of how many characters have no name, pending or not.
+// The object of how many characters have no name, pending or not.
 fn nameless_value(alloc: Global, pending: bool, count: u64) -> Result<Value, OutOfMemory>
     ensures value { IfOk result (λ v. view v ≡ written_nameless pending count) }
     ensures canonical { IfOk result (λ _. IsCanonical (written_nameless pending count)) }

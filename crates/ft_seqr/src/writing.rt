@@ -29,7 +29,7 @@ pub fn write_event(alloc: Global, event: &Event) -> Result<ValText, OutOfMemory>
     compact(alloc, &value)
 }
 
-/// The JSON value that an event is written as.
+// The JSON value that an event is written as.
 fn event_value(alloc: Global, event: &Event) -> Result<Value, OutOfMemory>
     requires { IsWellFormedEvent event.now }
     ensures value { IfOk result (λ v. view v ≡ written_event event.now) }
@@ -63,7 +63,7 @@ fn event_value(alloc: Global, event: &Event) -> Result<Value, OutOfMemory>
     }
 }
 
-/// An event of this word that has a client alone.
+// An event of this word that has a client alone.
 fn client_value(alloc: Global, word: &str, client: &Text) -> Result<Value, OutOfMemory>
     ensures value { IfOk result (λ v. view v ≡ written_of_client word.now client.now no_members) }
     ensures representable { IfOk result (λ _. IsText client.now) }
@@ -71,7 +71,7 @@ fn client_value(alloc: Global, word: &str, client: &Text) -> Result<Value, OutOf
     Ok(json!(in alloc; {"client": client.as_str(), "do": word})?)
 }
 
-/// An event of this word that has a guest alone.
+// An event of this word that has a guest alone.
 fn guest_value(alloc: Global, word: &str, guest: &Text) -> Result<Value, OutOfMemory>
     ensures value { IfOk result (λ v. view v ≡ written_of_guest word.now guest.now no_members) }
     ensures representable { IfOk result (λ _. IsText guest.now) }
@@ -79,7 +79,7 @@ fn guest_value(alloc: Global, word: &str, guest: &Text) -> Result<Value, OutOfMe
     Ok(json!(in alloc; {"do": word, "guest": guest.as_str()})?)
 }
 
-/// An event of this word that has a client and a count, which is left out where it is 1.
+// An event of this word that has a client and a count, which is left out where it is 1.
 fn counted_value(
     alloc: Global,
     word: &str,
@@ -95,7 +95,7 @@ fn counted_value(
     }
 }
 
-/// An event of this word that has a client, and is for all there are.
+// An event of this word that has a client, and is for all there are.
 fn all_value(alloc: Global, word: &str, client: &Text) -> Result<Value, OutOfMemory>
     ensures value { IfOk result (λ v. view v ≡ of_count word.now client.now HowMany.All) }
     ensures representable { IfOk result (λ _. IsText client.now) }
@@ -103,7 +103,7 @@ fn all_value(alloc: Global, word: &str, client: &Text) -> Result<Value, OutOfMem
     Ok(json!(in alloc; {"client": client.as_str(), "count": "all", "do": word})?)
 }
 
-/// An event of this word that has a client, and is for this number, which is left out where it is 1.
+// An event of this word that has a client, and is for this number, which is left out where it is 1.
 fn limited_value(
     alloc: Global,
     word: &str,
@@ -119,7 +119,7 @@ fn limited_value(
     number_value(alloc, word, client, number)
 }
 
-/// An event of this word that has a client and this number.
+// An event of this word that has a client and this number.
 fn number_value(alloc: Global, word: &str, client: &Text, number: u64) -> Result<Value, OutOfMemory>
     ensures value { IfOk result (λ v. view v
         ≡ object (member (codes "client") (written_text client.now)
@@ -129,7 +129,7 @@ fn number_value(alloc: Global, word: &str, client: &Text, number: u64) -> Result
     Ok(json!(in alloc; {"client": client.as_str(), "count": number, "do": word})?)
 }
 
-/// A new client.
+// A new client.
 fn start_value(alloc: Global, client: &Text, from: &Option<Text>) -> Result<Value, OutOfMemory>
     ensures value { IfOk result (λ v. view v ≡ written_event (Event.Start client.now from.now)) }
     ensures client { IfOk result (λ _. IsText client.now) }
@@ -143,7 +143,7 @@ fn start_value(alloc: Global, client: &Text, from: &Option<Text>) -> Result<Valu
     }
 }
 
-/// The address of an operation.
+// The address of an operation.
 fn address_of(op: &ChannelOp) -> &'static str
     ensures { string result.now ≡ written_address op.now }
 {
@@ -153,7 +153,7 @@ fn address_of(op: &ChannelOp) -> &'static str
     }
 }
 
-/// An edit of the client's own.
+// An edit of the client's own.
 fn edit_value(alloc: Global, client: &Text, op: &ChannelOp) -> Result<Value, OutOfMemory>
     requires { IsWellFormed op.now }
     ensures value { IfOk result (λ v. view v ≡ written_event (Event.Edit client.now op.now)) }
@@ -165,7 +165,7 @@ fn edit_value(alloc: Global, client: &Text, op: &ChannelOp) -> Result<Value, Out
     Ok(json!(in alloc; {"address": address, "client": client.as_str(), "do": "edit", "op": op})?)
 }
 
-/// The client processes the message of a text.
+// The client processes the message of a text.
 fn offer_value(alloc: Global, client: &Text, message: &Text) -> Result<Value, OutOfMemory>
     ensures value { IfOk result (λ v. view v ≡ written_event (Event.Offer client.now message.now)) }
     ensures client { IfOk result (λ _. IsText client.now) }
@@ -175,7 +175,7 @@ fn offer_value(alloc: Global, client: &Text, message: &Text) -> Result<Value, Ou
     Ok(json!(in alloc; {"client": client.as_str(), "do": "offer", "message": message})?)
 }
 
-/// The draft of a text is submitted for the guest.
+// The draft of a text is submitted for the guest.
 fn submit_value(alloc: Global, guest: &Text, message: &Text) -> Result<Value, OutOfMemory>
     ensures value { IfOk result (λ v. view v ≡ written_event (Event.Submit guest.now message.now)) }
     ensures guest { IfOk result (λ _. IsText guest.now) }
@@ -185,7 +185,7 @@ fn submit_value(alloc: Global, guest: &Text, message: &Text) -> Result<Value, Ou
     Ok(json!(in alloc; {"do": "submit", "guest": guest.as_str(), "message": message})?)
 }
 
-/// The intervals of a label that meet a range.
+// The intervals of a label that meet a range.
 fn overlap_value(
     alloc: Global,
     client: &Text,
@@ -209,7 +209,7 @@ fn overlap_value(
     Ok(Value::Object(members))
 }
 
-/// Who inserted the visible elements of a range.
+// Who inserted the visible elements of a range.
 fn blame_value(alloc: Global, client: &Text, start: u64, end: u64) -> Result<Value, OutOfMemory>
     ensures value { IfOk result (λ v. view v ≡ written_event (Event.Blame client.now start end)) }
     ensures representable { IfOk result (λ _. IsText client.now) }

@@ -43,7 +43,7 @@ pub(crate) fn chunk_len(segs: &[SegRec]) -> usize
     segs.len()
 }
 
-/// The place in its chunk of the element behind the segment, which has this place in its chunk.
+// The place in its chunk of the element behind the segment, which has this place in its chunk.
 fn place_behind(place: usize, seg: &SegRec) -> usize
     requires { place + body_length seg.now.body < 2 ^ 53 }
     ensures { result ≡ place_behind place seg.now }

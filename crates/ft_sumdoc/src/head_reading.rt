@@ -16,7 +16,7 @@ use serde_json::Value;
 use std::alloc::Global;
 use std::collections::HashMap;
 
-/// The version, if it is one that is read.
+// The version, if it is one that is read.
 fn known_version(version: u64) -> Result<u64, SumFault>
     ensures { result ≡ known_version version }
 {
@@ -27,7 +27,7 @@ fn known_version(version: u64) -> Result<u64, SumFault>
     }
 }
 
-/// The strings that the values are: None where one is no string.
+// The strings that the values are: None where one is no string.
 fn name_items(alloc: Global, values: &[Value]) -> Result<Option<Texts>, OutOfMemory>
     ensures { IfOk result (λ names. names ≡ each_of characters (map view values.now)) }
 {
@@ -41,7 +41,7 @@ fn name_items(alloc: Global, values: &[Value]) -> Result<Option<Texts>, OutOfMem
     Ok(Some(names))
 }
 
-/// Whether no name stands twice.
+// Whether no name stands twice.
 fn are_distinct(alloc: Global, names: &[Text]) -> Result<bool, OutOfMemory>
     ensures { IfOk result (λ distinct. distinct ≡ are_distinct_names names.now) }
 {
@@ -56,7 +56,7 @@ fn are_distinct(alloc: Global, names: &[Text]) -> Result<bool, OutOfMemory>
     Ok(true)
 }
 
-/// The names that an array of strings is, none twice: None where it has not the form.
+// The names that an array of strings is, none twice: None where it has not the form.
 fn whole_names(alloc: Global, value: &Value) -> Result<Option<Texts>, OutOfMemory>
     ensures { IfOk result (λ names. names ≡ names_form (view value.now)) }
 {
@@ -73,10 +73,10 @@ fn whole_names(alloc: Global, value: &Value) -> Result<Option<Texts>, OutOfMemor
     }
 }
 
-/// The names of connections, fewer than 2^32.
-///
-/// Returns `Missing` exactly where the field isn't there, `WrongKind` exactly where it is and has
-/// not the form, and `OutOfMemory` where there is no room for them, and where they are more.
+// The names of connections, fewer than 2^32.
+//
+// Returns `Missing` exactly where the field isn't there, `WrongKind` exactly where it is and has
+// not the form, and `OutOfMemory` where there is no room for them, and where they are more.
 fn read_names(alloc: Global, value: &Value) -> Result<Texts, SumFault>
     ensures ok { IfOk result (λ names. field_of_summary (needed_field names_form (view value.now) Field.Conns) ≡ Ok names) }
     ensures err { IfErr result (λ fault. fault ≢ SumFault.OutOfMemory

@@ -19,7 +19,7 @@ use ft_json::{Field, FieldFault, count, field, items};
 use serde_json::Value;
 use std::alloc::Global;
 
-/// The run that the value is: None where it has not the form.
+// The run that the value is: None where it has not the form.
 fn run_item(alloc: Global, value: &Value) -> Result<Option<RunItem>, OutOfMemory>
     ensures { IfOk result (λ run. option_map run_of run ≡ narrow_run (view value.now)) }
 {
@@ -35,7 +35,7 @@ fn run_item(alloc: Global, value: &Value) -> Result<Option<RunItem>, OutOfMemory
     Ok(Some(RunItem { units, stamps }))
 }
 
-/// The runs that the values are: None where one has not the form.
+// The runs that the values are: None where one has not the form.
 fn run_items(alloc: Global, values: &[Value]) -> Result<Option<Vec<RunItem>>, OutOfMemory>
     ensures { IfOk result (λ runs. option_map (λ found. map run_of found.items) runs
         ≡ each_of narrow_run (map view values.now)) }
@@ -50,7 +50,7 @@ fn run_items(alloc: Global, values: &[Value]) -> Result<Option<Vec<RunItem>>, Ou
     Ok(Some(runs))
 }
 
-/// Whether the runs have at most 2^52 units.
+// Whether the runs have at most 2^52 units.
 fn are_few(runs: &[RunItem]) -> bool
     ensures { result ≡ nat_le (given_units (map run_of runs.now)) (2 ^ 52) }
 {
@@ -64,7 +64,7 @@ fn are_few(runs: &[RunItem]) -> bool
     true
 }
 
-/// The runs of an array of at most 2^52 units: None where it has not the form.
+// The runs of an array of at most 2^52 units: None where it has not the form.
 fn whole_runs(alloc: Global, value: &Value) -> Result<Option<Vec<RunItem>>, OutOfMemory>
     ensures { IfOk result (λ runs. option_map (λ found. map run_of found.items) runs
         ≡ narrow_runs (view value.now)) }
@@ -95,7 +95,7 @@ pub(crate) fn runs_field(alloc: Global, value: &Value, f: Field) -> Result<Vec<R
     }
 }
 
-/// The run, as it is kept.
+// The run, as it is kept.
 fn keep_run(run: &RunItem) -> Result<RunRec, OutOfMemory>
     ensures { IfOk result (λ kept. kept ≡ kept_run (run_of run.now)) }
 {

@@ -24,8 +24,8 @@ use ft_props::Props;
 use serde_json::{Map, Value};
 use std::alloc::Global;
 
-/// What a segment holds that has these fields for characters and for a marker: None where not just
-/// one of them is there, or it has not the form.
+// What a segment holds that has these fields for characters and for a marker: None where not just
+// one of them is there, or it has not the form.
 fn body_item<'a>(text: Option<&'a Value>, marker: Option<&'a Value>) -> Option<BodyItem<'a>>
     ensures { option_map body_of result
         ≡ given_body (option_map (λ d. view d.now) text.entry) (option_map (λ d. view d.now) marker.entry) }
@@ -37,7 +37,7 @@ fn body_item<'a>(text: Option<&'a Value>, marker: Option<&'a Value>) -> Option<B
     }
 }
 
-/// The characters, at least one.
+// The characters, at least one.
 fn letters(text: &str) -> Option<BodyItem<'_>>
     ensures { option_map body_of result ≡ some_characters (chars text.now) }
 {
@@ -48,7 +48,7 @@ fn letters(text: &str) -> Option<BodyItem<'_>>
     }
 }
 
-/// Whether no value is null.
+// Whether no value is null.
 fn has_no_null(entries: &Map<String, Value>) -> bool
     ensures { result ≡ has_no_null (entry_pairs entries.now.entries) }
 {
@@ -72,8 +72,8 @@ pub(crate) fn props_item(value: &Value) -> Option<&Map<String, Value>>
     }
 }
 
-/// The entries of a field for properties that may be absent: None where it is there and has not the
-/// form.
+// The entries of a field for properties that may be absent: None where it is there and has not the
+// form.
 fn optional_props(value: Option<&Value>) -> Option<Option<&Map<String, Value>>>
     ensures { option_map given_pairs result ≡ segment_props (option_map (λ d. view d.now) value.entry) }
 {
@@ -83,7 +83,7 @@ fn optional_props(value: Option<&Value>) -> Option<Option<&Map<String, Value>>>
     }
 }
 
-/// The segment that the value is in a summary of this version: None where it has not the form.
+// The segment that the value is in a summary of this version: None where it has not the form.
 fn segment_item(
     alloc: Global,
     version: u64,
@@ -111,7 +111,7 @@ fn segment_item(
     }))
 }
 
-/// The segments that the values are: None where one has not the form.
+// The segments that the values are: None where one has not the form.
 fn segment_items(
     alloc: Global,
     version: u64,
@@ -130,7 +130,7 @@ fn segment_items(
     Ok(Some(segs))
 }
 
-/// The chunk of segments that the value is: None where it has not the form.
+// The chunk of segments that the value is: None where it has not the form.
 fn chunk_items(
     alloc: Global,
     version: u64,
@@ -148,9 +148,9 @@ fn chunk_items(
     }
 }
 
-/// How many elements the segments have.
-///
-/// Returns `OutOfMemory` where they are more than a `u64` holds, which no memory has room for.
+// How many elements the segments have.
+//
+// Returns `OutOfMemory` where they are more than a `u64` holds, which no memory has room for.
 fn items_len(segs: &[SegItem]) -> Result<u64, OutOfMemory>
     ensures { IfOk result (λ n. n ≡ given_length (map segment_of segs.now)) }
 {
@@ -161,7 +161,7 @@ fn items_len(segs: &[SegItem]) -> Result<u64, OutOfMemory>
     Ok(elements)
 }
 
-/// How many elements a segment has that holds this.
+// How many elements a segment has that holds this.
 fn item_len(body: BodyItem<'_>) -> u64
     ensures { result ≡ body_length (body_of body.entry) }
 {
@@ -171,7 +171,7 @@ fn item_len(body: BodyItem<'_>) -> u64
     }
 }
 
-/// The segments of the chunks that the values are: None where one has not the form.
+// The segments of the chunks that the values are: None where one has not the form.
 fn text_items(
     alloc: Global,
     version: u64,
@@ -220,7 +220,7 @@ pub(crate) fn keep_props(alloc: Global, entries: &Map<String, Value>) -> Result<
     Ok(props)
 }
 
-/// The properties of a segment, none where it gives none.
+// The properties of a segment, none where it gives none.
 fn keep_given(alloc: Global, entries: Option<&Map<String, Value>>) -> Result<Props, JsonFault>
     requires { IsTrue (has_no_null (given_pairs entries)) }
     ensures ok { IfOk result (λ props. kept_props (given_pairs entries.entry) ≡ Ok props) }
@@ -233,7 +233,7 @@ fn keep_given(alloc: Global, entries: Option<&Map<String, Value>>) -> Result<Pro
     }
 }
 
-/// What a segment holds, as it is kept.
+// What a segment holds, as it is kept.
 fn keep_body(alloc: Global, body: BodyItem<'_>) -> Result<Seg, OutOfMemory>
     ensures { IfOk result (λ seg. seg ≡ body_of body.entry) }
 {
@@ -245,7 +245,7 @@ fn keep_body(alloc: Global, body: BodyItem<'_>) -> Result<Seg, OutOfMemory>
     }
 }
 
-/// The segment, as it is kept.
+// The segment, as it is kept.
 fn keep_segment(alloc: Global, item: &SegItem) -> Result<SegRec, JsonFault>
     requires { IsTrue (has_no_null (segment_of item.now).props) }
     ensures ok { IfOk result (λ seg. kept_segment (segment_of item.now) ≡ Ok seg) }

@@ -28,14 +28,14 @@ use std::alloc::Global;
 
 // ---- intervals
 
-/// The whole number from -1 to 9007199254740991 that the value is.
+// The whole number from -1 to 9007199254740991 that the value is.
 fn place_number(value: &Value) -> Option<i64>
     ensures { result ≡ place_number (view value.now) }
 {
     whole_within(value, -1, GREATEST_NUMBER)
 }
 
-/// Whether the ends are both -1, or in order on so many elements.
+// Whether the ends are both -1, or in order on so many elements.
 fn are_shown_ends(elements: u64, ends: Ends2) -> bool
     ensures { result ≡ are_shown_ends elements ends }
 {
@@ -43,7 +43,7 @@ fn are_shown_ends(elements: u64, ends: Ends2) -> bool
         || (0 <= ends.start && ends.start <= ends.end && (ends.end as u64) < elements)
 }
 
-/// Whether the first label and id stand before the second.
+// Whether the first label and id stand before the second.
 #[tactic(auto, using(crate::proofs::ReadOptions::equal_texts))]
 fn is_name_before(label: &str, id: &str, other_label: &str, other_id: &str) -> bool
     ensures { result ≡ is_name_before (chars label.now) (chars id.now) (chars other_label.now) (chars other_id.now) }
@@ -52,7 +52,7 @@ fn is_name_before(label: &str, id: &str, other_label: &str, other_id: &str) -> b
     labels.is_lt() || (labels.is_eq() && compare(id, other_id).is_lt())
 }
 
-/// The interval of five values, on so many elements.
+// The interval of five values, on so many elements.
 fn interval_of_five(elements: u64, values: &[Value]) -> Option<IntervalItem<'_>>
     ensures { option_map interval_of result ≡ interval_of_five elements (map view values.now) }
 {
@@ -62,7 +62,7 @@ fn interval_of_five(elements: u64, values: &[Value]) -> Option<IntervalItem<'_>>
     interval_behind(elements, label.as_str()?, id.as_str()?, start, end, props)
 }
 
-/// The interval of this label, this id and three values, on so many elements.
+// The interval of this label, this id and three values, on so many elements.
 fn interval_behind<'a>(
     elements: u64,
     label: &'a str,
@@ -89,14 +89,14 @@ fn interval_behind<'a>(
     })
 }
 
-/// The interval that the value is, on so many elements.
+// The interval that the value is, on so many elements.
 fn interval_item(elements: u64, value: &Value) -> Option<IntervalItem<'_>>
     ensures { option_map interval_of result ≡ interval_form elements (view value.now) }
 {
     interval_of_five(elements, items(value)?)
 }
 
-/// The intervals that the values are: None where one has not the form.
+// The intervals that the values are: None where one has not the form.
 fn interval_items(
     alloc: Global,
     elements: u64,
@@ -115,7 +115,7 @@ fn interval_items(
     Ok(Some(intervals))
 }
 
-/// Whether the intervals rise by label and id.
+// Whether the intervals rise by label and id.
 fn intervals_rise(intervals: &[IntervalItem]) -> bool
     ensures { result ≡ rises is_given_interval_before (map interval_of intervals.now) }
 {
@@ -129,7 +129,7 @@ fn intervals_rise(intervals: &[IntervalItem]) -> bool
     true
 }
 
-/// The intervals of an array, on so many elements: None where it has not the form.
+// The intervals of an array, on so many elements: None where it has not the form.
 fn whole_intervals(
     alloc: Global,
     elements: u64,
@@ -147,7 +147,7 @@ fn whole_intervals(
     }
 }
 
-/// The interval, as it is kept.
+// The interval, as it is kept.
 fn keep_interval(alloc: Global, item: &IntervalItem) -> Result<IntervalRec, JsonFault>
     requires { has_no_null (interval_of item.now).props ≡ true }
     ensures ok { IfOk result (λ i. kept_interval (interval_of item.now) ≡ Ok i) }
@@ -163,7 +163,7 @@ fn keep_interval(alloc: Global, item: &IntervalItem) -> Result<IntervalRec, Json
     })
 }
 
-/// The intervals, as they are kept.
+// The intervals, as they are kept.
 fn keep_intervals(alloc: Global, items: &[IntervalItem]) -> Result<IntervalRecs, JsonFault>
     requires { AllByRecursion (λ i. has_no_null i.props ≡ true) (map interval_of items.now) }
     ensures ok { IfOk result (λ is. read_each kept_interval (map interval_of items.now) ≡ Ok is) }
@@ -177,7 +177,7 @@ fn keep_intervals(alloc: Global, items: &[IntervalItem]) -> Result<IntervalRecs,
     Ok(intervals)
 }
 
-/// The items of the field `intervals`, on so many elements.
+// The items of the field `intervals`, on so many elements.
 fn interval_field(
     alloc: Global,
     elements: u64,
@@ -213,14 +213,14 @@ pub(crate) fn read_intervals(
 
 // ---- cells
 
-/// Whether the first row and column stand before the second.
+// Whether the first row and column stand before the second.
 fn is_place_before(row: u64, col: u64, other_row: u64, other_col: u64) -> bool
     ensures { result ≡ is_place_before row col other_row other_col }
 {
     row < other_row || (row == other_row && col < other_col)
 }
 
-/// The cell of three values, of so many rows and columns.
+// The cell of three values, of so many rows and columns.
 fn cell_of_three(rows: u64, cols: u64, values: &[Value]) -> Option<CellItem<'_>>
     ensures { option_map cell_of result ≡ cell_of_three rows cols (map view values.now) }
 {
@@ -236,14 +236,14 @@ fn cell_of_three(rows: u64, cols: u64, values: &[Value]) -> Option<CellItem<'_>>
     }
 }
 
-/// The cell that the value is, of so many rows and columns.
+// The cell that the value is, of so many rows and columns.
 fn cell_item(rows: u64, cols: u64, value: &Value) -> Option<CellItem<'_>>
     ensures { option_map cell_of result ≡ cell_form rows cols (view value.now) }
 {
     cell_of_three(rows, cols, items(value)?)
 }
 
-/// The cells that the values are: None where one has not the form.
+// The cells that the values are: None where one has not the form.
 fn cell_items(
     alloc: Global,
     rows: u64,
@@ -263,7 +263,7 @@ fn cell_items(
     Ok(Some(cells))
 }
 
-/// Whether the cells rise by row and column.
+// Whether the cells rise by row and column.
 fn cells_rise(cells: &[CellItem]) -> bool
     ensures { result ≡ rises is_given_cell_before (map cell_of cells.now) }
 {
@@ -277,7 +277,7 @@ fn cells_rise(cells: &[CellItem]) -> bool
     true
 }
 
-/// The cells of an array, of so many rows and columns: None where it has not the form.
+// The cells of an array, of so many rows and columns: None where it has not the form.
 fn whole_cells(
     alloc: Global,
     rows: u64,
@@ -296,7 +296,7 @@ fn whole_cells(
     }
 }
 
-/// The cell, as it is kept.
+// The cell, as it is kept.
 fn keep_cell(alloc: Global, item: &CellItem) -> Result<CellRec, JsonFault>
     requires { is_some (as_null (cell_of item.now).value) ≡ false }
     ensures ok { IfOk result (λ c. kept_cell (cell_of item.now) ≡ Ok c) }
@@ -310,7 +310,7 @@ fn keep_cell(alloc: Global, item: &CellItem) -> Result<CellRec, JsonFault>
     })
 }
 
-/// The cells, as they are kept.
+// The cells, as they are kept.
 fn keep_cells(alloc: Global, items: &[CellItem]) -> Result<CellRecs, JsonFault>
     requires { AllByRecursion (λ c. is_some (as_null c.value) ≡ false) (map cell_of items.now) }
     ensures ok { IfOk result (λ cs. read_each kept_cell (map cell_of items.now) ≡ Ok cs) }
@@ -324,7 +324,7 @@ fn keep_cells(alloc: Global, items: &[CellItem]) -> Result<CellRecs, JsonFault>
     Ok(cells)
 }
 
-/// The items of the field `cells`, of so many rows and columns.
+// The items of the field `cells`, of so many rows and columns.
 fn cell_field(
     alloc: Global,
     rows: u64,

@@ -14,7 +14,7 @@ use ft_json::{Field, count, field, items};
 use serde_json::Value;
 use std::alloc::Global;
 
-/// The number of a connection in 32 bits: 0, which no connection has, where it doesn't fit.
+// The number of a connection in 32 bits: 0, which no connection has, where it doesn't fit.
 fn narrow_conn(conn: u64) -> u32
     ensures { result ≡ narrow_conn conn }
 {
@@ -25,7 +25,7 @@ fn narrow_conn(conn: u64) -> u32
     }
 }
 
-/// The stamp of two counts.
+// The stamp of two counts.
 fn stamp_of_counts(values: &[Value]) -> Option<Mark>
     ensures { result ≡ option_map narrow (stamp_of_counts (map view values.now)) }
 {
@@ -40,14 +40,14 @@ fn stamp_of_counts(values: &[Value]) -> Option<Mark>
     })
 }
 
-/// The stamp that the value is.
+// The stamp that the value is.
 fn stamp(value: &Value) -> Option<Mark>
     ensures { result ≡ narrow_form (view value.now) }
 {
     stamp_of_counts(items(value)?)
 }
 
-/// The stamp of a field that may be absent: None where it is there and is no stamp.
+// The stamp of a field that may be absent: None where it is there and is no stamp.
 fn optional_stamp(value: Option<&Value>) -> Option<Option<Mark>>
     ensures { result ≡ optional narrow_form (option_map (λ d. view d.now) value.entry) }
 {
@@ -57,7 +57,7 @@ fn optional_stamp(value: Option<&Value>) -> Option<Option<Mark>>
     }
 }
 
-/// The stamps that the values are: None where one is no stamp.
+// The stamps that the values are: None where one is no stamp.
 fn stamps(alloc: Global, values: &[Value]) -> Result<Option<Marks>, OutOfMemory>
     ensures { IfOk result (λ marks. marks ≡ each_of narrow_form (map view values.now)) }
 {
@@ -71,7 +71,7 @@ fn stamps(alloc: Global, values: &[Value]) -> Result<Option<Marks>, OutOfMemory>
     Ok(Some(marks))
 }
 
-/// The removals of a field that may be absent: None where it is there and is no array of stamps.
+// The removals of a field that may be absent: None where it is there and is no array of stamps.
 fn removals(alloc: Global, value: Option<&Value>) -> Result<Option<Marks>, OutOfMemory>
     ensures { IfOk result (λ marks. marks ≡ narrow_removals (option_map (λ d. view d.now) value.entry)) }
 {

@@ -14,31 +14,31 @@ use ft_base::OutOfMemory;
 use std::alloc::Global;
 use std::collections::HashMap;
 
-/// The stamp that stands for an old or an unknown one.
+// The stamp that stands for an old or an unknown one.
 const UNIVERSAL: Mark = Mark { seq: 0, conn: 0 };
 
-/// Whether the number is above `low` and at most `high`, and the connection has a name.
+// Whether the number is above `low` and at most `high`, and the connection has a name.
 fn is_within(low: u64, high: u64, limits: Limits, mark: Mark) -> bool
     ensures { result ≡ is_within_bounds low high (bounds_in limits) mark }
 {
     low < mark.seq && mark.seq <= high && 0 < mark.conn && u64::from(mark.conn) <= limits.conns
 }
 
-/// Whether it may be the stamp of an insertion or a removal.
+// Whether it may be the stamp of an insertion or a removal.
 fn is_recent(limits: Limits, mark: Mark) -> bool
     ensures { result ≡ is_recent (bounds_in limits) mark }
 {
     is_within(limits.min, limits.seq, limits, mark)
 }
 
-/// Whether it may be the author of an insertion at or below the minimum.
+// Whether it may be the author of an insertion at or below the minimum.
 fn is_old(limits: Limits, mark: Mark) -> bool
     ensures { result ≡ is_old (bounds_in limits) mark }
 {
     is_within(0, limits.min, limits, mark)
 }
 
-/// Whether each may be the stamp of a removal.
+// Whether each may be the stamp of a removal.
 fn are_recent(limits: Limits, marks: &[Mark]) -> bool
     ensures { result ≡ list_all (is_recent (bounds_in limits)) marks.now }
 {
@@ -50,7 +50,7 @@ fn are_recent(limits: Limits, marks: &[Mark]) -> bool
     true
 }
 
-/// Whether no connection stands twice.
+// Whether no connection stands twice.
 fn conns_differ(alloc: Global, marks: &[Mark]) -> Result<bool, OutOfMemory>
     ensures { IfOk result (λ differ. differ ≡ conns_differ marks.now) }
 {
@@ -65,7 +65,7 @@ fn conns_differ(alloc: Global, marks: &[Mark]) -> Result<bool, OutOfMemory>
     Ok(true)
 }
 
-/// Whether the numbers, which are below 2^53, rise from `low` on.
+// Whether the numbers, which are below 2^53, rise from `low` on.
 fn numbers_rise(low: u64, marks: &[Mark]) -> bool
     requires { list_all (λ m. nat_lt m.seq (2 ^ 53)) marks.now ≡ true }
     ensures { result ≡ numbers_rise low marks.now }
@@ -80,7 +80,7 @@ fn numbers_rise(low: u64, marks: &[Mark]) -> bool
     true
 }
 
-/// Whether these may be the removals of what was inserted with the number `low`.
+// Whether these may be the removals of what was inserted with the number `low`.
 #[tactic(auto, using(crate::proofs::RisingRemovals::apart))]
 fn are_removals(
     alloc: Global,
@@ -100,7 +100,7 @@ fn are_removals(
     conns_differ(alloc, marks)
 }
 
-/// Whether the author that is given is allowed beside the insertion.
+// Whether the author that is given is allowed beside the insertion.
 fn is_good_author(limits: Limits, author: Option<Mark>, insertion: Option<Mark>) -> bool
     ensures { result ≡ is_good_author (bounds_in limits) author insertion }
 {
@@ -110,7 +110,7 @@ fn is_good_author(limits: Limits, author: Option<Mark>, insertion: Option<Mark>)
     }
 }
 
-/// Whether the insertion that is given is allowed.
+// Whether the insertion that is given is allowed.
 fn is_good_insertion(limits: Limits, insertion: Option<Mark>) -> bool
     ensures { result ≡ is_good_insertion (bounds_in limits) insertion }
 {
@@ -134,7 +134,7 @@ pub(crate) fn given_author(item: &StampItem) -> Mark
     item.author.unwrap_or(given_insertion(item))
 }
 
-/// Whether the stamps of a segment or a run are in range and in order.
+// Whether the stamps of a segment or a run are in range and in order.
 fn are_good(alloc: Global, limits: Limits, item: &StampItem) -> Result<bool, OutOfMemory>
     requires { limits.seq < 2 ^ 53 }
     ensures { IfOk result (λ good. good ≡ are_good_stamps (bounds_in limits) (stamps_of item.now)) }

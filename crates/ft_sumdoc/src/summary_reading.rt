@@ -34,7 +34,7 @@ use ft_op::is_object;
 use serde_json::Value;
 use std::alloc::Global;
 
-/// The items of the field `text` in a summary of this version.
+// The items of the field `text` in a summary of this version.
 fn text_field(alloc: Global, version: u64, value: &Value) -> Result<TextItem<'_>, SumFault>
     ensures ok { IfOk result (λ text. field_of_summary (needed_field (narrow_text version) (view value.now) Field.Text) ≡ Ok (text_of text)) }
     ensures err { IfErr result (λ fault. fault ≢ SumFault.OutOfMemory
@@ -48,7 +48,7 @@ fn text_field(alloc: Global, version: u64, value: &Value) -> Result<TextItem<'_>
     }
 }
 
-/// The segments, as they are kept.
+// The segments, as they are kept.
 fn read_segments(alloc: Global, items: &[SegItem]) -> Result<SegRecs, SumFault>
     requires { AllByRecursion (λ seg. has_no_null seg.props ≡ true) (map segment_of items.now) }
     ensures ok { IfOk result (λ segs. kept_each kept_segment (map segment_of items.now) ≡ Ok segs) }
@@ -58,10 +58,10 @@ fn read_segments(alloc: Global, items: &[SegItem]) -> Result<SegRecs, SumFault>
     Ok(keep_segments(alloc, items)?)
 }
 
-/// The place behind all stamps.
-///
-/// Returns `BadStamp` with the first place with bad stamps, and `OutOfMemory` where there is no room
-/// to tell, and where there are more places than a `u64` holds, which no memory has room for.
+// The place behind all stamps.
+//
+// Returns `BadStamp` with the first place with bad stamps, and `OutOfMemory` where there is no room
+// to tell, and where there are more places than a `u64` holds, which no memory has room for.
 fn all_places(
     alloc: Global,
     limits: Limits,
@@ -87,7 +87,7 @@ fn all_places(
     run_places(alloc, limits, units, cols)
 }
 
-/// The lists of elements that an object gives behind this head, as they are read.
+// The lists of elements that an object gives behind this head, as they are read.
 #[tactic(auto, unfolding(crate::specs::NarrowLists::narrow_lists))]
 fn read_narrow_lists(alloc: Global, head: &HeadItem, value: &Value) -> Result<ListItem, SumFault>
     requires { head.now.seq < 2 ^ 53 }
@@ -110,7 +110,7 @@ fn read_narrow_lists(alloc: Global, head: &HeadItem, value: &Value) -> Result<Li
     })
 }
 
-/// The lists of elements that an object gives behind this head.
+// The lists of elements that an object gives behind this head.
 fn read_lists(alloc: Global, head: &HeadItem, value: &Value) -> Result<ListItem, SumFault>
     requires seq { head.now.seq < 2 ^ 53 }
     requires few { length head.now.conns < 2 ^ 32 }
@@ -123,7 +123,7 @@ fn read_lists(alloc: Global, head: &HeadItem, value: &Value) -> Result<ListItem,
     read_narrow_lists(alloc, head, value)
 }
 
-/// What stamps behind this head are tested with.
+// What stamps behind this head are tested with.
 fn limits_of(head: &HeadItem) -> Limits
     ensures value { bounds_in result ≡ bounds_of (head_of head.now) }
     ensures seq { result.seq ≡ head.now.seq }
@@ -135,9 +135,9 @@ fn limits_of(head: &HeadItem) -> Limits
     }
 }
 
-/// How many elements the segments have.
-///
-/// Returns `OutOfMemory` where they are more than a `u64` holds, which no memory has room for.
+// How many elements the segments have.
+//
+// Returns `OutOfMemory` where they are more than a `u64` holds, which no memory has room for.
 fn found_len(segs: &[SegRec]) -> Result<u64, OutOfMemory>
     ensures { IfOk result (λ n. n ≡ text_length segs.now) }
 {
@@ -150,7 +150,7 @@ fn found_len(segs: &[SegRec]) -> Result<u64, OutOfMemory>
     Ok(elements)
 }
 
-/// Tests that no chunk has too many elements.
+// Tests that no chunk has too many elements.
 fn test_chunks(lengths: &[u64]) -> Result<(), SumFault>
     ensures ok { IfOk result (λ _. read_each within_chunk lengths.now ≡ Ok lengths.now) }
     ensures err { IfErr result (λ fault. read_each within_chunk lengths.now ≡ Err fault) }
@@ -166,7 +166,7 @@ fn test_chunks(lengths: &[u64]) -> Result<(), SumFault>
     Ok(())
 }
 
-/// Tests the count of elements that an object gives beside these lists, and their chunks.
+// Tests the count of elements that an object gives beside these lists, and their chunks.
 #[tactic(auto, unfolding(crate::specs::Summary::element_count))]
 fn test_count(lists: &ListItem, value: &Value) -> Result<u64, SumFault>
     ensures ok { IfOk result (λ n. element_count (lists_of lists.now) (view value.now) ≡ Ok n) }
@@ -182,7 +182,7 @@ fn test_count(lists: &ListItem, value: &Value) -> Result<u64, SumFault>
     Ok(said)
 }
 
-/// How many elements of the segments aren't removed.
+// How many elements of the segments aren't removed.
 fn shown_len(segs: &[SegRec]) -> u64
     requires { text_length segs.now < 2 ^ 53 }
     ensures { result ≡ unremoved_text segs.now }
@@ -196,7 +196,7 @@ fn shown_len(segs: &[SegRec]) -> u64
     elements
 }
 
-/// How many units of the runs aren't removed.
+// How many units of the runs aren't removed.
 fn shown_units(runs: &[RunRec]) -> u64
     requires { unit_count runs.now ≤ 2 ^ 52 }
     ensures { result ≡ unremoved_units runs.now }
@@ -210,7 +210,7 @@ fn shown_units(runs: &[RunRec]) -> u64
     units
 }
 
-/// The summary that the object is.
+// The summary that the object is.
 #[tactic(auto, unfolding(crate::specs::Summary::summary_of_object))]
 fn read_object(alloc: Global, value: &Value) -> Result<SumDoc, SumFault>
     ensures ok { IfOk result (λ sum. summary_of_object (view value.now) ≡ Ok sum) }
@@ -254,7 +254,7 @@ pub fn read_summary(alloc: Global, bytes: &[u8]) -> Result<SumDoc, SumFault>
     read_value(alloc, &value)
 }
 
-/// The summary that the value is.
+// The summary that the value is.
 fn read_value(alloc: Global, value: &Value) -> Result<SumDoc, SumFault>
     ensures ok { IfOk result (λ sum. (if is_object (view value.now) then summary_of_object (view value.now) else Err (SumFault.Malformed (SumCause.WrongKind Field.Summary))) ≡ Ok sum) }
     ensures err { IfErr result (λ fault. fault ≢ SumFault.OutOfMemory → (if is_object (view value.now) then summary_of_object (view value.now) else Err (SumFault.Malformed (SumCause.WrongKind Field.Summary))) ≡ Err fault) }

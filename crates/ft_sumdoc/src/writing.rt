@@ -25,10 +25,10 @@ use ft_props::Props;
 use serde_json::{Map, Value, json, put};
 use std::alloc::Global;
 
-/// The version that is written.
+// The version that is written.
 const VERSION: u64 = 2;
 
-/// Puts the value under the key, if it is there.
+// Puts the value under the key, if it is there.
 fn put_given(
     members: &mut Map<String, Value>,
     alloc: Global,
@@ -44,21 +44,21 @@ fn put_given(
     }
 }
 
-/// Whether it is the stamp that stands for an old or an unknown one.
+// Whether it is the stamp that stands for an old or an unknown one.
 fn is_universal(mark: Mark) -> bool
     ensures { result ≡ is_universal mark }
 {
     mark.seq == 0 && mark.conn == 0
 }
 
-/// The stamp, unless it is that one.
+// The stamp, unless it is that one.
 fn unless_universal(mark: Mark) -> Option<Mark>
     ensures { result ≡ unless_universal mark }
 {
     if is_universal(mark) { None } else { Some(mark) }
 }
 
-/// The author of an insertion as it is written: none where the insertion tells it.
+// The author of an insertion as it is written: none where the insertion tells it.
 fn author_beside(ins: Mark, by: Mark) -> Option<Mark>
     ensures { result ≡ author_beside ins by }
 {
@@ -69,14 +69,14 @@ fn author_beside(ins: Mark, by: Mark) -> Option<Mark>
     }
 }
 
-/// The array of a stamp.
+// The array of a stamp.
 fn written_mark(alloc: Global, mark: Mark) -> Result<Value, OutOfMemory>
     ensures { IfOk result (λ v. view v ≡ written_mark mark) }
 {
     Ok(json!(in alloc; [mark.seq, mark.conn])?)
 }
 
-/// The array of a stamp, if there is one.
+// The array of a stamp, if there is one.
 fn given_mark(alloc: Global, mark: Option<Mark>) -> Result<Option<Value>, OutOfMemory>
     ensures { IfOk result (λ v. option_map view v ≡ given_mark mark) }
 {
@@ -86,7 +86,7 @@ fn given_mark(alloc: Global, mark: Option<Mark>) -> Result<Option<Value>, OutOfM
     }
 }
 
-/// The arrays of stamps.
+// The arrays of stamps.
 fn written_marks(alloc: Global, marks: &[Mark]) -> Result<Vec<Value>, OutOfMemory>
     ensures { IfOk result (λ vs. items_view vs.items ≡ written_items written_mark marks.now) }
 {
@@ -97,7 +97,7 @@ fn written_marks(alloc: Global, marks: &[Mark]) -> Result<Vec<Value>, OutOfMemor
     Ok(values)
 }
 
-/// The array of removals, none where there are none.
+// The array of removals, none where there are none.
 fn given_marks(alloc: Global, marks: &Marks) -> Result<Option<Value>, OutOfMemory>
     ensures { IfOk result (λ v. option_map view v ≡ given_marks marks.now) }
 {
@@ -108,7 +108,7 @@ fn given_marks(alloc: Global, marks: &Marks) -> Result<Option<Value>, OutOfMemor
     Ok(Some(Value::Array(values)))
 }
 
-/// The value of a property or a cell.
+// The value of a property or a cell.
 fn written_value(value: &ValText) -> Result<Value, OutOfMemory>
     requires { IsValue value.now }
     ensures { IfOk result (λ v. view v ≡ value_of value.now) }
@@ -129,7 +129,7 @@ pub fn props_value(alloc: Global, props: &Props) -> Result<Value, OutOfMemory>
     Ok(Value::Object(members))
 }
 
-/// The object of properties, none where there are none.
+// The object of properties, none where there are none.
 fn given_props(alloc: Global, props: &Props) -> Result<Option<Value>, OutOfMemory>
     requires { HasValues props.now }
     ensures value { IfOk result (λ v. option_map view v ≡ given_props props.now) }
@@ -141,7 +141,7 @@ fn given_props(alloc: Global, props: &Props) -> Result<Option<Value>, OutOfMemor
     Ok(Some(props_value(alloc, props)?))
 }
 
-/// The characters of a segment, none where it is a marker.
+// The characters of a segment, none where it is a marker.
 fn given_characters(alloc: Global, seg: &Seg) -> Result<Option<Value>, OutOfMemory>
     ensures value { IfOk result (λ v. option_map view v ≡ given_characters seg.now) }
     ensures representable { IfOk result (λ _. IsRepresentableContent seg.now) }
@@ -152,7 +152,7 @@ fn given_characters(alloc: Global, seg: &Seg) -> Result<Option<Value>, OutOfMemo
     }
 }
 
-/// The reference type of a marker, none where the segment is characters.
+// The reference type of a marker, none where the segment is characters.
 fn given_ref_type(seg: &Seg) -> Option<Value>
     ensures { option_map view result ≡ given_ref_type seg.now }
 {
@@ -162,7 +162,7 @@ fn given_ref_type(seg: &Seg) -> Option<Value>
     }
 }
 
-/// The object of a segment.
+// The object of a segment.
 fn written_segment(alloc: Global, seg: &SegRec) -> Result<Value, OutOfMemory>
     requires { HasValues seg.now.props }
     ensures value { IfOk result (λ v. view v ≡ written_segment_record seg.now) }
@@ -183,7 +183,7 @@ fn written_segment(alloc: Global, seg: &SegRec) -> Result<Value, OutOfMemory>
     Ok(Value::Object(members))
 }
 
-/// The objects of the segments of a chunk.
+// The objects of the segments of a chunk.
 fn written_segments(alloc: Global, segs: &[SegRec]) -> Result<Vec<Value>, OutOfMemory>
     requires { AllByRecursion (λ seg. HasValues seg.props) segs.now }
     ensures value { IfOk result (λ vs. items_view vs.items ≡ written_items written_segment_record segs.now) }
@@ -196,7 +196,7 @@ fn written_segments(alloc: Global, segs: &[SegRec]) -> Result<Vec<Value>, OutOfM
     Ok(values)
 }
 
-/// The arrays of the chunks of a text.
+// The arrays of the chunks of a text.
 fn written_chunks(alloc: Global, segs: &[SegRec]) -> Result<Vec<Value>, OutOfMemory>
     requires values { AllByRecursion (λ seg. HasValues seg.props) segs.now }
     requires elements { IsTrue (is_count (text_length segs.now)) }
@@ -213,7 +213,7 @@ fn written_chunks(alloc: Global, segs: &[SegRec]) -> Result<Vec<Value>, OutOfMem
     Ok(values)
 }
 
-/// The object of a run.
+// The object of a run.
 fn written_run(alloc: Global, run: &RunRec) -> Result<Value, OutOfMemory>
     ensures { IfOk result (λ v. view v ≡ written_unit_run run.now) }
 {
@@ -226,7 +226,7 @@ fn written_run(alloc: Global, run: &RunRec) -> Result<Value, OutOfMemory>
     Ok(Value::Object(members))
 }
 
-/// The objects of runs.
+// The objects of runs.
 fn written_runs(alloc: Global, runs: &[RunRec]) -> Result<Vec<Value>, OutOfMemory>
     ensures { IfOk result (λ vs. items_view vs.items ≡ written_items written_unit_run runs.now) }
 {
@@ -237,7 +237,7 @@ fn written_runs(alloc: Global, runs: &[RunRec]) -> Result<Vec<Value>, OutOfMemor
     Ok(values)
 }
 
-/// The names of connections as strings.
+// The names of connections as strings.
 fn written_names(alloc: Global, names: &[Text]) -> Result<Vec<Value>, OutOfMemory>
     ensures value { IfOk result (λ vs. items_view vs.items ≡ written_items written_text names.now) }
     ensures representable { IfOk result (λ _. AllByRecursion IsText names.now) }
@@ -260,7 +260,7 @@ pub fn interval_value(alloc: Global, i: &IntervalRec) -> Result<Value, OutOfMemo
     Ok(json!(in alloc; [label, id, i.ends.start, i.ends.end, props])?)
 }
 
-/// The arrays of intervals.
+// The arrays of intervals.
 fn written_intervals(alloc: Global, intervals: &[IntervalRec]) -> Result<Vec<Value>, OutOfMemory>
     requires { AllByRecursion (λ i. HasValues i.props) intervals.now }
     ensures value { IfOk result (λ vs. items_view vs.items ≡ written_items written_interval_record intervals.now) }
@@ -273,7 +273,7 @@ fn written_intervals(alloc: Global, intervals: &[IntervalRec]) -> Result<Vec<Val
     Ok(values)
 }
 
-/// The array of a cell.
+// The array of a cell.
 fn written_cell(alloc: Global, cell: &CellRec) -> Result<Value, OutOfMemory>
     requires { IsValue cell.now.value }
     ensures { IfOk result (λ v. view v ≡ written_cell_record cell.now) }
@@ -282,7 +282,7 @@ fn written_cell(alloc: Global, cell: &CellRec) -> Result<Value, OutOfMemory>
     Ok(json!(in alloc; [cell.row, cell.col, value])?)
 }
 
-/// The arrays of cells.
+// The arrays of cells.
 fn written_cells(alloc: Global, cells: &[CellRec]) -> Result<Vec<Value>, OutOfMemory>
     requires { AllByRecursion (λ c. IsValue c.value) cells.now }
     ensures { IfOk result (λ vs. items_view vs.items ≡ written_items written_cell_record cells.now) }
@@ -294,7 +294,7 @@ fn written_cells(alloc: Global, cells: &[CellRec]) -> Result<Vec<Value>, OutOfMe
     Ok(values)
 }
 
-/// Puts the fields `cells`, `cols`, `conns` and `count`, which come first.
+// Puts the fields `cells`, `cols`, `conns` and `count`, which come first.
 fn put_first(
     members: &mut Map<String, Value>,
     alloc: Global,
@@ -319,7 +319,7 @@ fn put_first(
     Ok(put(members, alloc, "count", elements)?)
 }
 
-/// Puts the fields `intervals`, `min`, `other` and `rows`, which come then.
+// Puts the fields `intervals`, `min`, `other` and `rows`, which come then.
 fn put_next(
     members: &mut Map<String, Value>,
     alloc: Global,
@@ -341,7 +341,7 @@ fn put_next(
     Ok(put(members, alloc, "rows", rows)?)
 }
 
-/// Puts the fields `seq`, `skipped`, `text` and `version`, which come last.
+// Puts the fields `seq`, `skipped`, `text` and `version`, which come last.
 fn put_last(
     members: &mut Map<String, Value>,
     alloc: Global,
@@ -363,7 +363,7 @@ fn put_last(
     Ok(put(members, alloc, "version", Value::from(VERSION))?)
 }
 
-/// The object of a summary, of version 2.
+// The object of a summary, of version 2.
 fn summary_value(alloc: Global, doc: &SumDoc) -> Result<Value, OutOfMemory>
     requires { IsValidSummary doc.now }
     ensures value { IfOk result (λ v. view v ≡ written_summary doc.now) }

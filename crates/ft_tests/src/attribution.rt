@@ -12,7 +12,7 @@ use std::marker::Brand;
 use std::sync::ledger::{Blank, Ledger};
 use std::test::Fail;
 
-/// How many characters, and who inserted them.
+// How many characters, and who inserted them.
 static PIECES: [(u64, Origin); 6] = [
     (2, Origin::Known { seq: 1, conn: 7 }),
     (1, Origin::Known { seq: 1, conn: 7 }),
@@ -22,7 +22,7 @@ static PIECES: [(u64, Origin); 6] = [
     (2, Origin::Known { seq: 3, conn: 7 }),
 ];
 
-/// The list of those pieces, the first two of which are one.
+// The list of those pieces, the first two of which are one.
 fn twelve_characters(alloc: Global) -> Result<Attribution, OutOfMemory> {
     let mut list = Attribution::new(alloc);
     for (n, who) in &PIECES {
@@ -33,7 +33,7 @@ fn twelve_characters(alloc: Global) -> Result<Attribution, OutOfMemory> {
     Ok(list)
 }
 
-/// The origins of the first and the last character, and of the one that isn't there.
+// The origins of the first and the last character, and of the one that isn't there.
 fn ends<L: Ledger>(list: &Attribution, blank: Blank) -> [Option<Origin>; 3]
     requires name { blank.name ≡ L.name }
     requires parts { blank.parts ≡ L.parts }
@@ -73,12 +73,12 @@ fn a_list_of_origins_has_runs_and_totals(rt: HostRuntime) -> Result<(), Fail> {
     Ok(())
 }
 
-/// A summary of version 1, in which no author counts.
+// A summary of version 1, in which no author counts.
 static FIRST_VERSION: &str =
     r#"{"cells":[],"cols":[],"conns":["A/1"],"count":2,"intervals":[],"min":2,"other":0,"rows":[],"seq":3,"skipped":0,"text":[[{"a":[2,1],"t":"hi"}]],"version":1}"#;
 
-/// How many elements are visible to a client that starts from the summary, and of how many of them the author
-/// isn't known, if it tells.
+// How many elements are visible to a client that starts from the summary, and of how many of them the author
+// isn't known, if it tells.
 fn count_unknown(alloc: Global, text: &str) -> Option<(u64, u64)> {
     let summary = read_summary(alloc, text.as_bytes()).ok()?;
     let client = Plain::from_summary(alloc, &summary).ok()?;

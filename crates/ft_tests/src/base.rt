@@ -11,7 +11,7 @@ use std::marker::Brand;
 use std::sync::ledger::{Blank, Ledger};
 use std::test::Fail;
 
-/// An element with an insertion under `seq` by connection 1, and these removals.
+// An element with an insertion under `seq` by connection 1, and these removals.
 fn element(alloc: Global, seq: u64, removals: &[(u64, u32)]) -> Result<Element, OutOfMemory> {
     let mut dels = Stamps::new(alloc);
     for removal in removals {
@@ -48,8 +48,8 @@ fn elements_are_copied_and_compared(rt: HostRuntime) -> Result<(), Fail> {
     Ok(())
 }
 
-/// The reference number, the connection, and whether it sees the element that was inserted at 2 by connection
-/// 1 and removed at 5 by connection 2 and at 6 by connection 3.
+// The reference number, the connection, and whether it sees the element that was inserted at 2 by connection
+// 1 and removed at 5 by connection 2 and at 6 by connection 3.
 static SEEN: [(u64, u32, bool); 7] = [
     (1, 9, false),
     (2, 9, true),
@@ -70,7 +70,7 @@ fn a_perspective_sees_what_its_sender_saw(rt: HostRuntime) -> Result<(), Fail> {
     Ok(())
 }
 
-/// The stage, and whether an element is there that was put in at stage 2 and removed at stage 4.
+// The stage, and whether an element is there that was put in at stage 2 and removed at stage 4.
 static SEEN_AT: [(u64, bool); 4] = [(1, false), (2, true), (3, true), (4, false)];
 
 #[test]
@@ -86,10 +86,10 @@ fn a_stage_sees_what_is_pending_by_then(rt: HostRuntime) -> Result<(), Fail> {
     Ok(())
 }
 
-/// How many elements are seen in front of the insertion, its number, and the numbers of its removals.
+// How many elements are seen in front of the insertion, its number, and the numbers of its removals.
 static INSERTIONS: [(usize, u64, &[(u64, u32)]); 3] = [(0, 1, &[]), (1, 2, &[(3, 2)]), (1, 3, &[])];
 
-/// Three elements: the second goes behind the first, the third before the tombstone behind the first.
+// Three elements: the second goes behind the first, the third before the tombstone behind the first.
 fn three(alloc: Global, at: Perspective) -> Result<Vec<Element>, OutOfMemory> {
     let mut items = Vec::new(alloc);
     for (place, seq, removals) in &INSERTIONS {
@@ -109,7 +109,7 @@ fn an_insertion_goes_directly_after_its_place(rt: HostRuntime) -> Result<(), Fai
     Ok(())
 }
 
-/// Counts two steps.
+// Counts two steps.
 fn take_two_steps<L: Ledger>(blank: Blank)
     requires name { blank.name ≡ L.name }
     requires parts { blank.parts ≡ L.parts }

@@ -7,7 +7,7 @@ use ft_sumdoc::{SumCause, SumFault};
 use std::alloc::Global;
 use std::test::Fail;
 
-/// Refusals of summaries, each with its number and its text.
+// Refusals of summaries, each with its number and its text.
 static WRITTEN: [(Refusal, &str); 6] = [
     (
         Refusal::Summary(SumFault::Malformed(SumCause::NotJson)),
@@ -35,7 +35,7 @@ static WRITTEN: [(Refusal, &str); 6] = [
     ),
 ];
 
-/// The number and the text of a refusal.
+// The number and the text of a refusal.
 fn written(alloc: Global, refusal: Refusal) -> Result<String, OutOfMemory> {
     let number = refusal.number();
     Ok(format!(in alloc; "{number} {refusal}")?)

@@ -11,7 +11,7 @@ static TEXT: [u8; 20] = *b"abcdefghijklmnopqrst";
 
 static PIECES: [usize; 4] = [1, 2, 16, 65_536];
 
-/// A source over these bytes that fails at this call.
+// A source over these bytes that fails at this call.
 fn source(
     alloc: Global,
     bytes: Vec<u8>,
@@ -22,7 +22,7 @@ fn source(
     Ok(MemSource::new(alloc, bytes, piece.max(1), fails))
 }
 
-/// One byte for each answer that is no whole line.
+// One byte for each answer that is no whole line.
 fn mark(answer: &Result<Line, LineFault>) -> u8 {
     match answer {
         Ok(Line::Full(_)) => b'|',
@@ -34,7 +34,7 @@ fn mark(answer: &Result<Line, LineFault>) -> u8 {
     }
 }
 
-/// Adds what a reader returns: the bytes of a whole line, and the mark.
+// Adds what a reader returns: the bytes of a whole line, and the mark.
 fn push_answer(answer: &Result<Line, LineFault>, text: &mut Vec<u8>) -> Result<(), OutOfMemory> {
     if let Ok(Line::Full(line)) = answer {
         text.extend_from_slice(line.as_slice())?;
@@ -43,7 +43,7 @@ fn push_answer(answer: &Result<Line, LineFault>, text: &mut Vec<u8>) -> Result<(
     Ok(())
 }
 
-/// What a reader answers up to the second answer that is no line.
+// What a reader answers up to the second answer that is no line.
 fn told(alloc: Global, src: &mut MemSource, limit: usize) -> Result<Vec<u8>, OutOfMemory> {
     let mut text = Vec::new(alloc);
     let mut reader = Lines::new(alloc, limit)?;
@@ -61,7 +61,7 @@ fn told(alloc: Global, src: &mut MemSource, limit: usize) -> Result<Vec<u8>, Out
     Ok(text)
 }
 
-/// The text with an LF in the place of one byte, or whole.
+// The text with an LF in the place of one byte, or whole.
 fn with_lf(alloc: Global, place: usize) -> Result<Vec<u8>, OutOfMemory> {
     let mut bytes = Vec::from_slice(alloc, &TEXT)?;
     if place < bytes.len() {
@@ -70,7 +70,7 @@ fn with_lf(alloc: Global, place: usize) -> Result<Vec<u8>, OutOfMemory> {
     Ok(bytes)
 }
 
-/// What a reader answers to that text, where the source fails behind `given` bytes, if it does.
+// What a reader answers to that text, where the source fails behind `given` bytes, if it does.
 fn expected(alloc: Global, place: usize, given: Option<usize>) -> Result<Vec<u8>, OutOfMemory> {
     let mut text = Vec::new(alloc);
     let is_ended = place < given.unwrap_or(TEXT.len());
@@ -96,8 +96,8 @@ fn expected(alloc: Global, place: usize, given: Option<usize>) -> Result<Vec<u8>
     Ok(text)
 }
 
-/// Whether the text with an LF at that place is answered as it should be where it comes in such pieces and
-/// the source fails at this call.
+// Whether the text with an LF at that place is answered as it should be where it comes in such pieces and
+// the source fails at this call.
 fn is_as_expected(
     alloc: Global,
     piece: usize,
@@ -129,7 +129,7 @@ fn a_source_may_come_in_any_pieces_and_fail_at_any_call(rt: HostRuntime) -> Resu
     Ok(())
 }
 
-/// Bytes, a limit, and what a reader returns.
+// Bytes, a limit, and what a reader returns.
 static LIMITED: [(&str, usize, &str); 9] = [
     ("", 0, ".."),
     ("\n", 0, "|.."),
@@ -142,7 +142,7 @@ static LIMITED: [(&str, usize, &str); 9] = [
     ("a\r\n\0\n", 9, "a\r|\0|.."),
 ];
 
-/// What a reader answers to these bytes in such pieces.
+// What a reader answers to these bytes in such pieces.
 fn answers(alloc: Global, bytes: &str, limit: usize, piece: usize) -> Result<Vec<u8>, OutOfMemory> {
     let bytes = Vec::from_slice(alloc, bytes.as_bytes())?;
     let mut src = source(alloc, bytes, piece, 0)?;
@@ -164,7 +164,7 @@ fn a_line_past_the_limit_is_passed(rt: HostRuntime) -> Result<(), Fail> {
     Ok(())
 }
 
-/// How many lines a reader hands out, how many bytes they have, and what it returns twice then.
+// How many lines a reader hands out, how many bytes they have, and what it returns twice then.
 fn counted(
     alloc: Global,
     src: &mut MemSource,
@@ -184,7 +184,7 @@ fn counted(
     Ok((lines, bytes, b'?', b'?'))
 }
 
-/// A byte, how often it stands, a limit, and what is counted.
+// A byte, how often it stands, a limit, and what is counted.
 static COUNTED: [(u8, usize, usize, (u64, usize, u8, u8)); 7] = [
     (b'\n', 16_777_216, 9, (16_777_216, 0, b'.', b'.')),
     (b'\n', 16_777_217, 9, (16_777_217, 0, b'I', b'I')),
@@ -206,7 +206,7 @@ fn the_limits_of_an_input_and_of_a_long_line(rt: HostRuntime) -> Result<(), Fail
     Ok(())
 }
 
-/// Limits that are set one after another, and what the next line then is.
+// Limits that are set one after another, and what the next line then is.
 static LIMITS: [(usize, u8); 4] = [(4, b'|'), (3, b'^'), (0, b'^'), (9, b'.')];
 
 #[test]
@@ -221,7 +221,7 @@ fn a_limit_may_be_changed(rt: HostRuntime) -> Result<(), Fail> {
     Ok(())
 }
 
-/// Whether a sink of such pieces and such a room, whose call of this number fails, takes what it should.
+// Whether a sink of such pieces and such a room, whose call of this number fails, takes what it should.
 fn takes_what_it_should(
     alloc: Global,
     piece: usize,
@@ -252,7 +252,7 @@ fn a_sink_may_take_any_pieces_and_fail_at_any_call(rt: HostRuntime) -> Result<()
     Ok(())
 }
 
-/// The bytes 7 and 8.
+// The bytes 7 and 8.
 fn two_bytes(alloc: Global) -> Result<Bytes, OutOfMemory> {
     let mut bytes = Bytes::new(alloc);
     bytes.push(7)?;

@@ -4,19 +4,19 @@ use crate::runs::Run;
 use ft_base::OutOfMemory;
 use std::alloc::Global;
 
-/// How many bytes an output has room for where the case doesn't say it.
+// How many bytes an output has room for where the case doesn't say it.
 const ROOM: usize = 65_536;
 
-/// How many bytes a generated session may have.
+// How many bytes a generated session may have.
 const GENERATED: usize = 1_048_576;
 
-/// How many bytes are read and written at a time in a series where the case doesn't say it.
+// How many bytes are read and written at a time in a series where the case doesn't say it.
 const PIECE: usize = 65_536;
 
-/// How many bytes are read and written at a time in turn where the case doesn't say it.
+// How many bytes are read and written at a time in turn where the case doesn't say it.
 static PIECES: [usize; 3] = [1, 16, PIECE];
 
-/// What differs from one run of a case to the next.
+// What differs from one run of a case to the next.
 #[derive(Clone, Copy)]
 enum Series {
     /// How many bytes are read and written at a time.

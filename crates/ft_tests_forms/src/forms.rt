@@ -15,7 +15,7 @@ use ft_seqr::Refusal;
 use ft_sumdoc::{SumDoc, SumFault, read_summary, write_summary};
 use std::alloc::Global;
 
-/// What stands where a copy isn't the same as what it was made of.
+// What stands where a copy isn't the same as what it was made of.
 const OTHER_COPY: &str = "the copy is another one";
 
 /// A value, as it is kept.

@@ -12,7 +12,7 @@ use ft_tree::{Content, TextContent, Tree};
 use std::alloc::Global;
 use std::sync::ledger::Ledger;
 
-/// The most elements that a tree has here.
+// The most elements that a tree has here.
 const MOST: u64 = 1_000_000_000;
 
 /// A run of those characters, of a pending insertion; a single `*` is a marker instead.

@@ -10,7 +10,7 @@ ghost use Rattle.ft_msg.specs.WellFormed.{HasItsParts, IsWellFormedBody, IsWellF
 use ft_msg::{Body, Message, MsgKind};
 use ft_op::{BaseOp, ChannelOp, Ends, Seg, TextOp};
 
-/// The greatest number of a message, and the greatest position.
+// The greatest number of a message, and the greatest position.
 const GREATEST: u64 = 9_007_199_254_740_991;
 
 /// Whether it is a message as these editors send them: of text without properties, of a removal, of a
