@@ -31,14 +31,14 @@ says_by_status account AtEnd source_rose sink_rose (Err fault.Write) given writt
 says_by_status account AtEnd source_rose sink_rose (Err fault.OutOfMemory) given written h = h
 says_by_status account AtEnd source_rose sink_rose (Err fault.InputLimit) given written h = h
 
--- the arguments are of no form, and nothing was read or written
+-- the arguments are of no command, and nothing was read or written
 pub moves_usage : (form : Option Form) (first held : Option (List ℕ)) (source_rose sink_rose : Type 0) → form ≡ None
     → Moves first first held held (SaysForWords form first source_rose sink_rose Usage)
 moves_usage form first held source_rose sink_rose is =
     subst (λ f. Moves first first held held (SaysForWords f first source_rose sink_rose Usage)) (sym is)
     (record { given = []; gives = Consumes-nil first; written = []; takes = Appends-nil held; says = (refl, refl, refl) })
 
--- what is said of a form is said of its arguments
+-- what is said of a command is said of its arguments
 for_words : (form : Option Form) (it : Form) → form ≡ Some it → (reads : Bool) → reads_input it ≡ reads → (left : Option (List ℕ)) (source_rose sink_rose : Type 0) (status : Status)
     (end : Result Ending Fault) → status ≡ end_status end → (given written : List ℕ) → SaysOfForm reads (account_of it) left source_rose sink_rose (end_status end) given written
     → SaysForWords form left source_rose sink_rose status given written
@@ -47,7 +47,7 @@ for_words form it is reads reading left source_rose sink_rose status end ends gi
     (subst (λ s. SaysForWords (Some it) left source_rose sink_rose s given written) (sym ends)
     (subst (λ b. SaysOfForm b (account_of it) left source_rose sink_rose (end_status end) given written) (sym reading) h))
 
--- the lines of a form were read
+-- the lines of a command were read
 pub moves_read : (form : Option Form) (it : Form) → form ≡ Some it → reads_input it ≡ true → (first left held holds : Option (List ℕ)) (source_rose sink_rose : Type 0) (status : Status)
     (end : Result Ending Fault) → status ≡ end_status end → Moves first left held holds (Says (account_of it) (IsAtEnd left) source_rose sink_rose end)
     → Moves first left held holds (SaysForWords form left source_rose sink_rose status)
@@ -60,7 +60,7 @@ moves_read form it is reading first left held holds source_rose sink_rose status
       (says_by_status (account_of it) (IsAtEnd left) source_rose sink_rose end moves.given moves.written moves.says);
 }
 
--- a form that reads nothing wrote its report, or not
+-- a command that reads nothing wrote its report, or not
 says_unread : (account : Account) (held holds : Option (List ℕ)) (before now : ℕ) (end : Result Ending Fault) → IfOk end (λ ending. ending ≡ account.ending [])
     → (writes : WritesBytes {T = Ending} held holds before now (account.report []) end) → Says account ⊤ ⊥ (Rose before now) end [] writes.written
 says_unread account held holds before now (Ok ending) ends writes = record { at_end = tt; within = omega arith; report = writes.says; ends = ends }

@@ -6,7 +6,7 @@ use Rattle.ft_cli.specs.declared.words.Form.{Form}
 use Rattle.ft_cli.specs.declared.words.Form.TheVariants.{Gen, Load, Log, Map, Play, Session}
 use Rattle.ft_cli.specs.Words.{form_of}
 
--- what a form comes to
+-- what a command comes to
 abbrev pub account_of : Form → Account
 account_of Log = log_account
 account_of Load = load_account
@@ -15,7 +15,7 @@ account_of Session = session_account
 account_of (Gen settings) = generated_account settings
 account_of (Play settings) = play_account settings
 
--- what is written for an input, nothing where there is no form
+-- what is written for an input, nothing where there is no command
 abbrev pub report_for : Option Form → List ℕ → List ℕ
 report_for None bytes = []
 report_for (Some form) bytes = (account_of form).report bytes

@@ -22,12 +22,12 @@ SaysByStatus account AtEnd source_rose sink_rose WriteFault given written = Says
 SaysByStatus account AtEnd source_rose sink_rose OutOfMemory given written = Says account AtEnd source_rose sink_rose (Err fault.OutOfMemory) given written
 SaysByStatus account AtEnd source_rose sink_rose InputLimit given written = Says account AtEnd source_rose sink_rose (Err fault.InputLimit) given written
 
--- the same of a form that reads its input, or of one that reads nothing, for which the input counts as read to its end
+-- the same of a command that reads its input, or of one that reads nothing, for which the input counts as read to its end
 abbrev pub SaysOfForm : Bool → Account → Option (List ℕ) → Type 0 → Type 0 → Status → List ℕ → List ℕ → Type 0
 SaysOfForm true account left source_rose sink_rose status given written = SaysByStatus account (IsAtEnd left) source_rose sink_rose status given written
 SaysOfForm false account left source_rose sink_rose status given written = (given ≡ []) × SaysByStatus account ⊤ ⊥ sink_rose status given written
 
--- the same, where the arguments may be of no form: then nothing is read or written
+-- the same, where the arguments may be of no command: then nothing is read or written
 abbrev pub SaysForWords : Option Form → Option (List ℕ) → Type 0 → Type 0 → Status → List ℕ → List ℕ → Type 0
 SaysForWords None left source_rose sink_rose status given written = (status ≡ Usage) × (given ≡ []) × (written ≡ [])
 SaysForWords (Some form) left source_rose sink_rose status given written =
@@ -44,7 +44,7 @@ abbrev pub EndsWholeOrWanting : Status → Type 0
 EndsWholeOrWanting OutOfMemory = Unit {0}
 EndsWholeOrWanting status = EndsWhole status
 
--- Nothing outside stops a run over this input: the arguments are of a form, the input is within its limit, and neither the source nor
+-- Nothing outside stops a run over this input: the arguments are of a command, the input is within its limit, and neither the source nor
 -- the sink fails.
 pub record IsUndisturbed (words : List (List ℕ)) (input : List ℕ) (source_rose sink_rose : Type 0) : Type 0 where
   pub form : form_of words ≢ None

@@ -14,13 +14,13 @@ use Rattle.ft_cli.specs.declared.words.Form.TheVariants.{Gen, Load, Log, Map, Pl
 abbrev pub texts_of : List (String Global) → List (List ℕ)
 texts_of words = map string_bytes words
 
--- the settings of a form, if it has some, are within these limits
+-- the settings of a command, if it has some, are within these limits
 abbrev pub IsFormWithinLimits : Form → Type 0
 IsFormWithinLimits (Gen settings) = IsWithinLimits settings
 IsFormWithinLimits (Play settings) = IsWithinLimits settings
 IsFormWithinLimits _ = ⊤
 
--- whether a form reads its input
+-- whether a command reads its input
 abbrev pub reads_input : Form → Bool
 reads_input (Gen settings) = false
 reads_input (Play settings) = false
@@ -45,7 +45,7 @@ settings_of clients edits seed = elim (number_within 1 16 clients) [
   ]
 ]
 
--- the form that is one argument, if it is one
+-- the command that is one argument, if it is one
 abbrev pub form_of_word : List ℕ → Option Form
 form_of_word word =
     if bytes_eq word (codes "log") then Some Log
@@ -53,12 +53,12 @@ form_of_word word =
     else (if bytes_eq word (codes "session") then Some Session
     else (if bytes_eq word (codes "map") then Some Map else None)))
 
--- the form that is one argument with settings, if it is one
+-- the command that is one argument with settings, if it is one
 abbrev pub form_with : List ℕ → Settings → Option Form
 form_with word settings =
     if bytes_eq word (codes "gen") then Some (Gen settings) else (if bytes_eq word (codes "play") then Some (Play settings) else None)
 
--- the form that the arguments are, if they are one
+-- the command that the arguments are, if they are one
 abbrev pub form_of : List (List ℕ) → Option Form
 form_of (word ∷ []) = form_of_word word
 form_of (word ∷ clients ∷ edits ∷ seed ∷ []) = elim (settings_of clients edits seed) [ None ↦ None | Some settings ↦ form_with word settings ]

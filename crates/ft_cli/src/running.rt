@@ -21,7 +21,7 @@ use std::alloc::Global;
 /// Does what the arguments ask for: reads the source to its end, and writes the report to the sink, line by
 /// line as it reads. `gen` and `play` read nothing, and the input counts as read to its end.
 ///
-/// Returns `Usage` exactly where the arguments are of no form, and then nothing is read or written; else
+/// Returns `Usage` exactly where the arguments are of no command, and then nothing is read or written; else
 /// `Done` or `SomeRefused` where the report is whole, `ReadFault` and `WriteFault` only where the count
 /// of faults of the source or the sink rose, `InputLimit` exactly where the source gave a 16,777,217th
 /// byte and no write failed before, and `OutOfMemory` where no memory was found. The first fault ends

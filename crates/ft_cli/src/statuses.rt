@@ -14,7 +14,7 @@ pub enum Status {
     /// The input was read to its end and the report is written; a line was refused or a sub-operation
     /// skipped.
     SomeRefused,
-    /// The arguments are of no form. Nothing is read or written.
+    /// The arguments are of no command. Nothing is read or written.
     Usage,
     /// The source failed.
     ReadFault,

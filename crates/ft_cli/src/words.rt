@@ -26,7 +26,7 @@ pub enum Form {
     Play(Settings),
 }
 
-/// The form that the arguments are, none where they are of no form.
+/// The command that the arguments are, none where they are of no command.
 pub fn read_words(words: &Vec<String>) -> Option<Form>
     ensures form { result ≡ form_of (texts_of words.now.items) }
     ensures within { IfSome result IsFormWithinLimits }
@@ -41,7 +41,7 @@ pub fn read_words(words: &Vec<String>) -> Option<Form>
     }
 }
 
-// The form that is one argument.
+// The command that is one argument.
 fn read_word(word: &str) -> Option<Form>
     ensures form { result ≡ form_of_word word.now }
     ensures within { IfSome result IsFormWithinLimits }
@@ -55,7 +55,7 @@ fn read_word(word: &str) -> Option<Form>
     }
 }
 
-// The form that is one argument with settings.
+// The command that is one argument with settings.
 fn form_with(word: &str, settings: Settings) -> Option<Form>
     requires { IsWithinLimits settings }
     ensures form { result ≡ form_with word.now settings }

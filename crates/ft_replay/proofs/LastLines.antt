@@ -1,4 +1,4 @@
--- The last lines of a form, and how it ends, where it may tell no counts.
+-- The last lines of a command, and how it ends, where it may tell no counts.
 use Rattle.std.proofs.Common.{◌≡◌, ℕ, append-nil, Option, Some, None, Result, Ok, Err, string_bytes, sym, ◌∙◌, ap}
 use Rattle.std.specs.Prelude.{IfOk}
 use Rattle.std.specs.declared.alloc.Global.{Global}

@@ -1,4 +1,4 @@
--- Where a run over the lines of a form stands, how it goes on, and how each of its ends is what the definition of a run says.
+-- Where a run over the lines of a command stands, how it goes on, and how each of its ends is what the definition of a run says.
 use Rattle.std.proofs.Common.{◌≡◌, ℕ, ◌+◌, ◌<◌, ◌≤◌, List, [], ◌∷◌, ◌++◌, Option, Result, Ok, Err, refl, sym, ◌∙◌, ap, subst, arith, append-nil, inl, inr, IfOk, OnOk}
 use Rattle.std.specs.Io.KnownBytes.{Appends, IsAtEnd}
 use Rattle.std.proofs.lemmas.Grind.{flat_map-append}

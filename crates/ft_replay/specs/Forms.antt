@@ -1,4 +1,4 @@
--- The forms that read lines, and what each form comes to.
+-- The commands that read lines, and what each of them comes to.
 use Rattle.std.specs.Prelude.{ℕ, List, [], ◌∷◌, Some, None, if◌then◌else◌}
 use Rattle.ft_io.specs.Lines.{lines, ended_lines}
 use Rattle.ft_io.specs.Reader.{input_limit}

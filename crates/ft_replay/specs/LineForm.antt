@@ -1,4 +1,4 @@
--- A form that reads lines: what its lines make and write, what stands behind them, and how its run ends. Every line that it writes
+-- A command that reads lines: what its lines make and write, what stands behind them, and how its run ends. Every line that it writes
 -- ends with LF.
 use Rattle.std.specs.Prelude.{ℕ, ◌&&◌, ◌==◌, List, [], ◌∷◌, ◌++◌, Option, Some, None, codes, decimal, if◌then◌else◌}
 use Rattle.std.specs.List.{flat_map}
@@ -13,7 +13,7 @@ use Rattle.ft_replay.specs.declared.endings.Ending.TheVariants.{Done, SomeRefuse
 abbrev pub bytes_of : List (List ℕ) → List ℕ
 bytes_of texts = flat_map with_lf texts
 
--- a form whose lines make an S: what there is before the first line, how long the next line may be that isn't blank, what a line that
+-- a command whose lines make an S: what there is before the first line, how long the next line may be that isn't blank, what a line that
 -- is read does, the lines that show at the end what was made, and the document whose counts are told last, if there is one
 pub record LineForm (S : Type 0) : Type 0 where
   pub first : S
@@ -26,7 +26,7 @@ pub record LineForm (S : Type 0) : Type 0 where
 abbrev pub form_step : {S : Type 0} → LineForm S → S → List ℕ → Step S
 form_step form made line = step_within (form.longest made) form.read made line
 
--- how far a form is after lines
+-- how far a command is after lines
 abbrev pub form_after : {S : Type 0} → LineForm S → List (List ℕ) → Progress S
 form_after form texts = after_items (form_step form) (begin form.first) texts
 
@@ -65,18 +65,18 @@ skipped_in (Some doc) = doc.skipped
 abbrev pub last_ending : ℕ → Option Document → Ending
 last_ending refused doc = ending_by refused (skipped_in doc)
 
--- how the whole report of a form ends
+-- how the whole report of a command ends
 abbrev pub form_ending : {S : Type 0} → LineForm S → Progress S → Ending
 form_ending form at = last_ending at.refused (form.counted at.made)
 
--- what a form comes to for the bytes of an input: its report, what the lines write that end with LF without what is written behind
+-- what a command comes to for the bytes of an input: its report, what the lines write that end with LF without what is written behind
 -- them, and how the whole report ends
 pub record Account : Type 0 where
   pub report : List ℕ → List ℕ
   pub opened : List ℕ → List ℕ
   pub ending : List ℕ → Ending
 
--- what a form that reads lines comes to
+-- what a command that reads lines comes to
 abbrev pub account_by : {S : Type 0} → LineForm S → Account
 account_by form = record {
   report = λ bytes. bytes_of (form_report form (lines bytes));

@@ -1,4 +1,4 @@
--- What a listener is told of a line, and how far it follows a form that reads lines.
+-- What a listener is told of a line, and how far it follows a command that reads lines.
 use Rattle.std.specs.Prelude.{◌≡◌, ℕ, ◌≤◌, List, [], ◌∷◌, length, Option, Some, None, option_map, string_bytes, ⊤}
 use Rattle.ft_io.specs.Reader.{handed_out, input_limit}
 use Rattle.ft_io.specs.declared.reader.Line.{Line}

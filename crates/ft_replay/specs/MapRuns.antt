@@ -1,4 +1,4 @@
--- The world of a run of the form `map`.
+-- The world of a run of the command `map`.
 use Rattle.std.specs.Prelude.{false}
 use Rattle.ft_map.specs.MapSession.{MapSession}
 use Rattle.ft_map.specs.MapWorlds.{MapWorldState}

@@ -30,7 +30,7 @@ pub record IsWholeRun (account : Account) (AtEnd : Type 0) (ending : Ending) (gi
 abbrev pub IsPart : Account → List ℕ → List ℕ → Type 0
 IsPart account given written = Begins written (account.report given) ⊎ Begins written (account.opened given)
 
--- What the end of a run says of the bytes given and written, by what the form comes to, and what it is that the input is at its end. A
+-- What the end of a run says of the bytes given and written, by what the command comes to, and what it is that the input is at its end. A
 -- fault of the source or the sink comes only where its count rose.
 abbrev pub Says : Account → Type 0 → Type 0 → Type 0 → Result Ending Fault → List ℕ → List ℕ → Type 0
 Says account AtEnd source_rose sink_rose (Ok ending) given written = IsWholeRun account AtEnd ending given written
@@ -40,7 +40,7 @@ Says account AtEnd source_rose sink_rose (Err Write) given written = sink_rose �
 Says account AtEnd source_rose sink_rose (Err OutOfMemory) given written = IsPart account given written
 Says account AtEnd source_rose sink_rose (Err InputLimit) given written = (length given ≡ input_limit + 1) × (written ≡ account.opened given)
 
--- all lines were read, what they write was written, and this holds of how far the form is
+-- all lines were read, what they write was written, and this holds of how far the command is
 pub record AllRead {S : Type 0} (form : LineForm S) (IsAfter : Progress S → Type 0) (left : Option (List ℕ)) (given written : List ℕ)
     : Type 0 where
   pub at_end : IsAtEnd left
@@ -48,7 +48,7 @@ pub record AllRead {S : Type 0} (form : LineForm S) (IsAfter : Progress S → Ty
   pub after : IsAfter (form_after form (lines given))
   pub report : written ≡ bytes_of (form_lines form (lines given))
 
--- what is said of the bytes given and written where the lines of a form are read, and an answer is given of which this holds
+-- what is said of the bytes given and written where the lines of a command are read, and an answer is given of which this holds
 abbrev pub SaysOfLines : {S T : Type 0} → LineForm S → (T → Progress S → Type 0) → Option (List ℕ) → Type 0 → Type 0 → Result T Fault
     → List ℕ → List ℕ → Type 0
 SaysOfLines form IsAfter left source_rose sink_rose (Ok a) given written = AllRead form (IsAfter a) left given written

@@ -1,4 +1,4 @@
-//! The forms that read lines.
+//! The commands that read lines.
 
 ghost use Rattle.std.specs.Prelude.{◌≡◌, ◌≤◌, None, OnOk};
 ghost use Rattle.std.specs.Io.KnownBytes.{IsAtEnd};
@@ -91,7 +91,7 @@ pub fn replay_map<S: Source, K: Sink>(
     replay_lines::<MapRun, S, K>(alloc, src, out)
 }
 
-// Reads the lines of a form to the end of the source, and writes its report to the sink, line by line as it reads.
+// Reads the lines of a command to the end of the source, and writes its report to the sink, line by line as it reads.
 fn replay_lines<L: Listener, S: Source, K: Sink>(
     alloc: Global,
     src: &mut S,
@@ -106,7 +106,7 @@ fn replay_lines<L: Listener, S: Source, K: Sink>(
     replay.close(alloc, out)
 }
 
-// Reads the lines of a form, and writes what each of them writes.
+// Reads the lines of a command, and writes what each of them writes.
 fn read_lines<L: Listener, S: Source, K: Sink>(
     alloc: Global,
     src: &mut S,

@@ -1,8 +1,8 @@
-//! The forms of Vemiktag's program over any replica: what each reads, what it writes, and how it ends.
+//! The commands of Vemiktag's program over any replica: what each reads, what it writes, and how it ends.
 //!
-//! A form reads lines from a source and writes to a sink what each of them writes, which of them are
+//! A command reads lines from a source and writes to a sink what each of them writes, which of them are
 //! refused, and what stands behind them. What hears the lines is a `Listener`: the walk over them is one
-//! for all forms. `log` reads sequenced messages, and shows at the end what an observer of them shows.
+//! for all commands. `log` reads sequenced messages, and shows at the end what an observer of them shows.
 //! `load` reads a summary first, with which its observer starts. `session` reads the events of clients and
 //! guests, and shows a client where one asks for it; `map` does so for clients over one shared map. `gen`
 //! writes the events of a generated session, and `play` what becomes of its clients.

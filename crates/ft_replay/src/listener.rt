@@ -19,7 +19,7 @@ pub enum Told {
     Refused(Refusal),
 }
 
-/// What hears the lines of a form. Contracts see for which states of the form's definition it stands: it
+/// What hears the lines of a command. Contracts see for which states of the command's definition it stands: it
 /// holds what the definition makes of the lines so far.
 pub trait Listener: Sized + Drop {
     ghost use Rattle.std.specs.Prelude.{◌≡◌, ℕ, ◌+◌, ◌-◌, ◌<◌, ◌≤◌, ◌^◌, IfOk, length, string_bytes};
@@ -31,7 +31,7 @@ pub trait Listener: Sized + Drop {
     /// What lines make.
     ghost Made: { Type 0 };
 
-    /// The form's definition.
+    /// The command's definition.
     ghost form: { LineForm Made };
 
     /// It holds what was made.
@@ -66,7 +66,7 @@ pub trait Listener: Sized + Drop {
     fn view_text(&self) -> Result<String, OutOfMemory>
         ensures { (made : Made) → holds self.now made → IfOk result (λ text. string_bytes text ≡ bytes_of (form.shown made)) };
 
-    /// How many sub-operations were skipped, and how many messages were for others: None exactly where the form doesn't count these.
+    /// How many sub-operations were skipped, and how many messages were for others: None exactly where the command doesn't count these.
     fn counts(&self) -> Option<Counts>
         ensures { (made : Made) → holds self.now made → result ≡ counts_of (form.counted made) };
 }

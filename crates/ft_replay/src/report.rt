@@ -23,7 +23,7 @@ pub fn closing_text(alloc: Global, refused: u64, counts: Counts) -> Result<Strin
     Ok(format!(in alloc; "refused {refused}\nskipped {skipped}\nother {other}\n")?)
 }
 
-/// The last lines of a form that may tell no counts. Each has its LF.
+/// The last lines of a command that may tell no counts. Each has its LF.
 pub fn last_text(alloc: Global, refused: u64, counts: Option<Counts>) -> Result<String, OutOfMemory>
     ensures { (doc : Option Document) → counts ≡ counts_of doc → IfOk result (λ text. string_bytes text ≡ bytes_of (last_lines refused doc)) }
 {

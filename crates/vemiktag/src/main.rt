@@ -1,7 +1,7 @@
 //! Vemiktag's program: its arguments, its standard input and its standard output, given to a run.
 //!
 //! It ends with 0 where nothing was refused or skipped, 1 where something was, 2 where the arguments are of
-//! no form, and then it tells the forms on standard error, 3 and 4 where the input or the output failed,
+//! no command, and then it tells the commands on standard error, 3 and 4 where the input or the output failed,
 //! 5 where no memory was found, 6 where the input is too long, and 7 where the system doesn't tell the
 //! arguments.
 #![tactic(auto)]
