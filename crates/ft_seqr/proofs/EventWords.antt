@@ -1,5 +1,5 @@
 -- The words of events are characters; the code compares their bytes, which is the same.
-use Rattle.std.proofs.Common.{◌≡◌, List, ℕ, codes, bytes_eq, encode_utf8_all, refl, sym, ap, ◌∙◌}
+use Rattle.std.proofs.Common.{◌≡◌, List, ℕ, Bool, true, false, Err, codes, bytes_eq, refl, sym, ap, ◌∙◌}
 use Rattle.std.proofs.lemmas.Bool.Decides.{same_from_decides}
 use Rattle.std.proofs.lemmas.Slice.Eq.{bytes_eq-Decides}
 use Rattle.std.proofs.lemmas.Str.{encodes-chars}
@@ -7,7 +7,9 @@ use Rattle.std.proofs.Math.Utf8.{encodes}
 use Rattle.std.specs.Str.{IsUtf8, chars}
 use lib.Utf8.{encode}
 use Rattle.serde_json.specs.Data.{Data}
-use Rattle.ft_seqr.specs.EventGrammar.{event_for}
+use Rattle.ft_json.specs.declared.fields.Field.TheVariants.{Address}
+use Rattle.ft_msg.specs.declared.faults.Cause.TheVariants as cause
+use Rattle.ft_seqr.specs.EventGrammar.{event_for, is_known_address}
 
 -- a text is the word by its characters where it is by its bytes
 pub same_word : (bs word : List ℕ) → IsUtf8 bs → encodes word ≡ word → chars word ≡ word → bytes_eq (chars bs) word ≡ bytes_eq bs word
@@ -42,10 +44,15 @@ event_for-bytes bs d utf8 =
       same_word bs (codes "authors") utf8 refl refl,
     )
 
--- a text is the word by the bytes that spell it where it is by its characters
-pub same_spelling : (bs text word : List ℕ) → bs ≡ encode_utf8_all text → chars bs ≡ text → encode_utf8_all word ≡ word → chars word ≡ word → bytes_eq bs word ≡ bytes_eq text word
-same_spelling bs text word spelled read spells same =
-    same_from_decides (bytes_eq bs word) (bytes_eq text word) (
-      λ h. sym read ∙ ap chars ((bytes_eq-Decides bs word).0 h) ∙ same,
-      λ e. (bytes_eq-Decides bs word).1 (spelled ∙ ap encode_utf8_all e ∙ spells),
-    ) (bytes_eq-Decides text word)
+-- a word that is neither of these two is no address
+pub unknown_address : (bs : List ℕ) → IsUtf8 bs → (bs ≡ codes "text" → ⊥) → (bs ≡ codes "grid" → ⊥) → is_known_address (chars bs) ≡ Err (cause.WrongKind Address)
+unfolding chars encode
+unknown_address bs utf8 not_text not_grid =
+    rw (same_word bs (codes "text") utf8 refl refl, other bs (codes "text") not_text, same_word bs (codes "grid") utf8 refl refl, other bs (codes "grid") not_grid)
+  where
+    other : (xs ys : List ℕ) → (xs ≡ ys → ⊥) → bytes_eq xs ys ≡ false
+    other xs ys h = by (bytes_eq xs ys) refl
+      where
+        by : (b : Bool) → bytes_eq xs ys ≡ b → b ≡ false
+        by true e = absurd (h ((bytes_eq-Decides xs ys).0 e))
+        by false e = refl

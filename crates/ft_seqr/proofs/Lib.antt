@@ -5,3 +5,4 @@ pub mod RefusalKinds
 pub mod EventsBack
 pub mod EventWords
 pub mod SameMessages
+pub mod SequencedDrafts

@@ -3,6 +3,7 @@ pub mod SequencerCalls
 pub mod Refusals
 pub mod RefusalKinds
 pub mod SameMessage
+pub mod Addresses
 pub mod EventGrammar
 pub mod EventReader
 pub mod WrittenEvent

@@ -1,8 +1,11 @@
 //! Reading events.
 
-ghost use Rattle.std.specs.Prelude.{◌≡◌, ◌≢◌, ◌<◌, ◌^◌, pos, Ok, Err, IfOk, IfErr, bytes_eq, chars, codes, option_map};
+ghost use Rattle.std.specs.Prelude.{◌≡◌, ◌≢◌, ◌<◌, ◌^◌, pos, Ok, Err, IfOk, IfErr, chars, option_map};
 ghost use Rattle.serde_json.specs.View.{view};
-ghost use Rattle.ft_json.specs.Reading.{count};
+ghost use Rattle.ft_json.specs.Reading.{count, text_field};
+ghost use Rattle.ft_msg.specs.Causes.{cause_of_field};
+ghost use Rattle.ft_op.specs.Reading.{with_fault};
+ghost use Rattle.ft_seqr.specs.Addresses.{word_of};
 ghost use Rattle.ft_seqr.specs.declared.events.Event.TheVariants.{Connect, Drop, Noop, Show, Queue, Compact, Summary, Guest as Enter, Part, Authors, Ticket, Deliver};
 ghost use Rattle.ft_seqr.specs.EventGrammar.{blame_event, client_name_field, count_or_all, counted_event, edit_event, edit_op, event, event_for, event_of, event_of_client, given_count, given_from, guest_event, is_known_address, later_event, offer_event, op_for, overlap_event, places, start_event, submit_event};
 ghost use Rattle.ft_seqr.specs.EventReader.{ReadsEvent};
@@ -26,7 +29,7 @@ pub fn read_event(alloc: Global, line: &[u8]) -> Result<Event, Refusal>
     Ok(read_event_text(alloc, line)?)
 }
 
-/// The event that the line is, or the cause why it is none.
+// The event that the line is, or the cause why it is none.
 #[tactic(auto, unfolding(crate::specs::EventGrammar::event))]
 fn read_event_text(alloc: Global, line: &[u8]) -> Result<Event, Cause>
     ensures ok { IfOk result (λ e. event line.now ≡ Ok e) }
@@ -36,7 +39,7 @@ fn read_event_text(alloc: Global, line: &[u8]) -> Result<Event, Cause>
     read_event_value(alloc, &value)
 }
 
-/// The event that the value is.
+// The event that the value is.
 #[tactic(auto, unfolding(crate::specs::EventGrammar::event_of))]
 fn read_event_value(alloc: Global, value: &Value) -> Result<Event, Cause>
     ensures ok { IfOk result (λ e. event_of (view value.now) ≡ Ok e) }
@@ -48,7 +51,7 @@ fn read_event_value(alloc: Global, value: &Value) -> Result<Event, Cause>
     read_event_for(alloc, value, str_field(value, Field::Do)?)
 }
 
-/// The event of this word.
+// The event of this word.
 fn read_event_for(alloc: Global, value: &Value, word: &str) -> Result<Event, Cause>
     ensures ok { IfOk result (λ e. event_for (chars word.now) (view value.now) ≡ Ok e) }
     ensures err { IfErr result (λ cause. cause ≢ Cause.OutOfMemory → event_for (chars word.now) (view value.now) ≡ Err cause) }
@@ -56,7 +59,7 @@ fn read_event_for(alloc: Global, value: &Value, word: &str) -> Result<Event, Cau
     read_spelled_event(alloc, value, word)
 }
 
-/// The event of the word that these bytes spell.
+// The event of the word that these bytes spell.
 fn read_spelled_event(alloc: Global, value: &Value, word: &str) -> Result<Event, Cause>
     ensures ok { IfOk result (λ e. event_for word.now (view value.now) ≡ Ok e) }
     ensures err { IfErr result (λ cause. cause ≢ Cause.OutOfMemory → event_for word.now (view value.now) ≡ Err cause) }
@@ -77,8 +80,8 @@ fn read_spelled_event(alloc: Global, value: &Value, word: &str) -> Result<Event,
     }
 }
 
-/// The event of this word, of those that have guests, or ask who inserted what and which intervals
-/// meet a range.
+// The event of this word, of those that have guests, or ask who inserted what and which intervals
+// meet a range.
 fn read_later_event(alloc: Global, value: &Value, word: &str) -> Result<Event, Cause>
     ensures ok { IfOk result (λ e. later_event word.now (view value.now) ≡ Ok e) }
     ensures err { IfErr result (λ cause. cause ≢ Cause.OutOfMemory → later_event word.now (view value.now) ≡ Err cause) }
@@ -107,7 +110,7 @@ pub fn read_client(alloc: Global, value: &Value) -> Result<Text, Cause>
     Ok(text_field(alloc, value, Field::Client)?)
 }
 
-/// A connection for the client.
+// A connection for the client.
 #[tactic(auto, unfolding(crate::specs::EventGrammar::event_of_client))]
 fn read_connect(alloc: Global, value: &Value) -> Result<Event, Cause>
     ensures ok { IfOk result (λ e. event_of_client Connect (view value.now) ≡ Ok e) }
@@ -117,7 +120,7 @@ fn read_connect(alloc: Global, value: &Value) -> Result<Event, Cause>
     Ok(Event::Connect { client })
 }
 
-/// The loss of the client's connection.
+// The loss of the client's connection.
 #[tactic(auto, unfolding(crate::specs::EventGrammar::event_of_client))]
 fn read_drop(alloc: Global, value: &Value) -> Result<Event, Cause>
     ensures ok { IfOk result (λ e. event_of_client Drop (view value.now) ≡ Ok e) }
@@ -127,7 +130,7 @@ fn read_drop(alloc: Global, value: &Value) -> Result<Event, Cause>
     Ok(Event::Drop { client })
 }
 
-/// A noop of the client.
+// A noop of the client.
 #[tactic(auto, unfolding(crate::specs::EventGrammar::event_of_client))]
 fn read_noop(alloc: Global, value: &Value) -> Result<Event, Cause>
     ensures ok { IfOk result (λ e. event_of_client Noop (view value.now) ≡ Ok e) }
@@ -137,7 +140,7 @@ fn read_noop(alloc: Global, value: &Value) -> Result<Event, Cause>
     Ok(Event::Noop { client })
 }
 
-/// The view of the client.
+// The view of the client.
 #[tactic(auto, unfolding(crate::specs::EventGrammar::event_of_client))]
 fn read_show(alloc: Global, value: &Value) -> Result<Event, Cause>
     ensures ok { IfOk result (λ e. event_of_client Show (view value.now) ≡ Ok e) }
@@ -147,7 +150,7 @@ fn read_show(alloc: Global, value: &Value) -> Result<Event, Cause>
     Ok(Event::Show { client })
 }
 
-/// The unsent messages of the client.
+// The unsent messages of the client.
 #[tactic(auto, unfolding(crate::specs::EventGrammar::event_of_client))]
 fn read_queue(alloc: Global, value: &Value) -> Result<Event, Cause>
     ensures ok { IfOk result (λ e. event_of_client Queue (view value.now) ≡ Ok e) }
@@ -157,7 +160,7 @@ fn read_queue(alloc: Global, value: &Value) -> Result<Event, Cause>
     Ok(Event::Queue { client })
 }
 
-/// The client lets go of what no message can refer to.
+// The client lets go of what no message can refer to.
 #[tactic(auto, unfolding(crate::specs::EventGrammar::event_of_client))]
 fn read_compact(alloc: Global, value: &Value) -> Result<Event, Cause>
     ensures ok { IfOk result (λ e. event_of_client Compact (view value.now) ≡ Ok e) }
@@ -167,7 +170,7 @@ fn read_compact(alloc: Global, value: &Value) -> Result<Event, Cause>
     Ok(Event::Compact { client })
 }
 
-/// The summary of the client.
+// The summary of the client.
 #[tactic(auto, unfolding(crate::specs::EventGrammar::event_of_client))]
 fn read_summary(alloc: Global, value: &Value) -> Result<Event, Cause>
     ensures ok { IfOk result (λ e. event_of_client Summary (view value.now) ≡ Ok e) }
@@ -177,7 +180,7 @@ fn read_summary(alloc: Global, value: &Value) -> Result<Event, Cause>
     Ok(Event::Summary { client })
 }
 
-/// How many visible elements each connection inserted.
+// How many visible elements each connection inserted.
 #[tactic(auto, unfolding(crate::specs::EventGrammar::event_of_client))]
 fn read_authors(alloc: Global, value: &Value) -> Result<Event, Cause>
     ensures ok { IfOk result (λ e. event_of_client Authors (view value.now) ≡ Ok e) }
@@ -187,7 +190,7 @@ fn read_authors(alloc: Global, value: &Value) -> Result<Event, Cause>
     Ok(Event::Authors { client })
 }
 
-/// A new guest.
+// A new guest.
 #[tactic(auto, unfolding(crate::specs::EventGrammar::guest_event))]
 fn read_guest(alloc: Global, value: &Value) -> Result<Event, Cause>
     ensures ok { IfOk result (λ e. guest_event Enter (view value.now) ≡ Ok e) }
@@ -197,7 +200,7 @@ fn read_guest(alloc: Global, value: &Value) -> Result<Event, Cause>
     Ok(Event::Guest { guest })
 }
 
-/// A guest's connection leaves.
+// A guest's connection leaves.
 #[tactic(auto, unfolding(crate::specs::EventGrammar::guest_event))]
 fn read_part(alloc: Global, value: &Value) -> Result<Event, Cause>
     ensures ok { IfOk result (λ e. guest_event Part (view value.now) ≡ Ok e) }
@@ -207,7 +210,7 @@ fn read_part(alloc: Global, value: &Value) -> Result<Event, Cause>
     Ok(Event::Part { guest })
 }
 
-/// So many of the client's oldest unsent messages are submitted.
+// So many of the client's oldest unsent messages are submitted.
 #[tactic(auto, unfolding(crate::specs::EventGrammar::counted_event))]
 fn read_ticket(alloc: Global, value: &Value) -> Result<Event, Cause>
     ensures ok { IfOk result (λ e. counted_event Ticket (view value.now) ≡ Ok e) }
@@ -218,7 +221,7 @@ fn read_ticket(alloc: Global, value: &Value) -> Result<Event, Cause>
     Ok(Event::Ticket { client, count })
 }
 
-/// The client processes so many of the next messages.
+// The client processes so many of the next messages.
 #[tactic(auto, unfolding(crate::specs::EventGrammar::counted_event))]
 fn read_deliver(alloc: Global, value: &Value) -> Result<Event, Cause>
     ensures ok { IfOk result (λ e. counted_event Deliver (view value.now) ≡ Ok e) }
@@ -241,7 +244,7 @@ pub fn read_count(value: Option<&Value>) -> Result<HowMany, Cause>
     }
 }
 
-/// How many the value says: a count, or the string "all".
+// How many the value says: a count, or the string "all".
 fn read_count_or_all(value: &Value) -> Result<HowMany, Cause>
     ensures { result ≡ count_or_all (count (view value.now)) (view value.now) }
 {
@@ -254,7 +257,7 @@ fn read_count_or_all(value: &Value) -> Result<HowMany, Cause>
     }
 }
 
-/// A new client.
+// A new client.
 #[tactic(auto, unfolding(crate::specs::EventGrammar::start_event))]
 fn read_start(alloc: Global, value: &Value) -> Result<Event, Cause>
     ensures ok { IfOk result (λ e. start_event (view value.now) ≡ Ok e) }
@@ -281,49 +284,50 @@ pub fn read_from(alloc: Global, value: Option<&Value>) -> Result<Option<Text>, C
     }
 }
 
-/// An edit of the client's own.
+// The part of the document that an edit is for.
+#[derive(Clone, Copy)]
+enum Address {
+    Text,
+    Grid,
+}
+
+// An edit of the client's own.
 #[tactic(auto, unfolding(crate::specs::EventGrammar::edit_event))]
 fn read_edit(alloc: Global, value: &Value) -> Result<Event, Cause>
     ensures ok { IfOk result (λ e. edit_event (view value.now) ≡ Ok e) }
     ensures err { IfErr result (λ cause. cause ≢ Cause.OutOfMemory → edit_event (view value.now) ≡ Err cause) }
 {
     let client = read_client(alloc, value)?;
-    let address = known_address(text_field(alloc, value, Field::Address)?)?;
-    let op = read_edit_op(alloc, &address, field(value, Field::Op))?;
+    let address = known_address(address_word(value)?)?;
+    let op = read_edit_op(alloc, address, field(value, Field::Op))?;
     Ok(Event::Edit { client, op })
 }
 
-/// The address, where it is that of the text or of the grid.
-fn known_address(address: Text) -> Result<Text, Cause>
-    ensures { result ≡ is_known_address address }
+// The word in the field `address`.
+#[tactic(auto, unfolding(ft_json::specs::Reading::text_field, ft_json::specs::Reading::str_field))]
+fn address_word(value: &Value) -> Result<&str, Cause>
+    ensures ok { IfOk result (λ word. with_fault cause_of_field (text_field (view value.now) Field.Address) ≡ Ok (chars word.now)) }
+    ensures err { IfErr result (λ cause. with_fault cause_of_field (text_field (view value.now) Field.Address) ≡ Err cause) }
 {
-    if is_text(&address) {
-        return Ok(address);
+    Ok(str_field(value, Field::Address)?)
+}
+
+// The address of this word, where it is that of the text or of the grid.
+fn known_address(word: &str) -> Result<Address, Cause>
+    ensures ok { IfOk result (λ address. is_known_address (chars word.now) ≡ Ok (word_of address)) }
+    ensures err { IfErr result (λ cause. is_known_address (chars word.now) ≡ Err cause) }
+{
+    match word {
+        "text" => Ok(Address::Text),
+        "grid" => Ok(Address::Grid),
+        _ => Err(Cause::WrongKind(Field::Address)),
     }
-    if is_grid(&address) {
-        return Ok(address);
-    }
-    Err(Cause::WrongKind(Field::Address))
 }
 
-/// Whether it is the address of the text.
-fn is_text(address: &Text) -> bool
-    ensures { result ≡ bytes_eq address.now (codes "text") }
-{
-    address.as_str() == "text"
-}
-
-/// Whether it is the address of the grid.
-fn is_grid(address: &Text) -> bool
-    ensures { result ≡ bytes_eq address.now (codes "grid") }
-{
-    address.as_str() == "grid"
-}
-
-/// The operation of an edit for the address, which has to be there, and an object.
-fn read_edit_op(alloc: Global, address: &Text, value: Option<&Value>) -> Result<ChannelOp, Cause>
-    ensures ok { IfOk result (λ op. edit_op address.now (option_map (λ d. view d.now) value.entry) ≡ Ok op) }
-    ensures err { IfErr result (λ cause. cause ≢ Cause.OutOfMemory → edit_op address.now (option_map (λ d. view d.now) value.entry) ≡ Err cause) }
+// The operation of an edit for the address, which has to be there, and an object.
+fn read_edit_op(alloc: Global, address: Address, value: Option<&Value>) -> Result<ChannelOp, Cause>
+    ensures ok { IfOk result (λ op. edit_op (word_of address) (option_map (λ d. view d.now) value.entry) ≡ Ok op) }
+    ensures err { IfErr result (λ cause. cause ≢ Cause.OutOfMemory → edit_op (word_of address) (option_map (λ d. view d.now) value.entry) ≡ Err cause) }
 {
     let value = value.ok_or(Cause::Missing(Field::Op))?;
     if !is_object(value) {
@@ -332,18 +336,18 @@ fn read_edit_op(alloc: Global, address: &Text, value: Option<&Value>) -> Result<
     read_op_for(alloc, address, value)
 }
 
-/// The operation for the address.
-fn read_op_for(alloc: Global, address: &Text, value: &Value) -> Result<ChannelOp, Cause>
-    ensures ok { IfOk result (λ op. op_for address.now (view value.now) ≡ Ok op) }
-    ensures err { IfErr result (λ cause. cause ≢ Cause.OutOfMemory → op_for address.now (view value.now) ≡ Err cause) }
+// The operation for the address.
+fn read_op_for(alloc: Global, address: Address, value: &Value) -> Result<ChannelOp, Cause>
+    ensures ok { IfOk result (λ op. op_for (word_of address) (view value.now) ≡ Ok op) }
+    ensures err { IfErr result (λ cause. cause ≢ Cause.OutOfMemory → op_for (word_of address) (view value.now) ≡ Err cause) }
 {
-    if is_text(address) {
-        return Ok(ChannelOp::Text(read_text_op(alloc, value)?));
+    match address {
+        Address::Text => Ok(ChannelOp::Text(read_text_op(alloc, value)?)),
+        Address::Grid => Ok(ChannelOp::Grid(read_grid_op(alloc, value)?)),
     }
-    Ok(ChannelOp::Grid(read_grid_op(alloc, value)?))
 }
 
-/// The client processes the message of a text.
+// The client processes the message of a text.
 #[tactic(auto, unfolding(crate::specs::EventGrammar::offer_event))]
 fn read_offer(alloc: Global, value: &Value) -> Result<Event, Cause>
     ensures ok { IfOk result (λ e. offer_event (view value.now) ≡ Ok e) }
@@ -354,7 +358,7 @@ fn read_offer(alloc: Global, value: &Value) -> Result<Event, Cause>
     Ok(Event::Offer { client, message })
 }
 
-/// The draft of a text is submitted for the guest.
+// The draft of a text is submitted for the guest.
 #[tactic(auto, unfolding(crate::specs::EventGrammar::submit_event))]
 fn read_submit(alloc: Global, value: &Value) -> Result<Event, Cause>
     ensures ok { IfOk result (λ e. submit_event (view value.now) ≡ Ok e) }
@@ -365,7 +369,7 @@ fn read_submit(alloc: Global, value: &Value) -> Result<Event, Cause>
     Ok(Event::Submit { guest, message })
 }
 
-/// The intervals of a label that meet a range.
+// The intervals of a label that meet a range.
 #[tactic(auto, unfolding(crate::specs::EventGrammar::overlap_event))]
 fn read_overlap(alloc: Global, value: &Value) -> Result<Event, Cause>
     ensures ok { IfOk result (λ e. overlap_event (view value.now) ≡ Ok e) }
@@ -382,7 +386,7 @@ fn read_overlap(alloc: Global, value: &Value) -> Result<Event, Cause>
     })
 }
 
-/// Who inserted the visible elements of a range.
+// Who inserted the visible elements of a range.
 #[tactic(auto, unfolding(crate::specs::EventGrammar::blame_event))]
 fn read_blame(alloc: Global, value: &Value) -> Result<Event, Cause>
     ensures ok { IfOk result (λ e. blame_event (view value.now) ≡ Ok e) }
@@ -393,7 +397,7 @@ fn read_blame(alloc: Global, value: &Value) -> Result<Event, Cause>
     Ok(Event::Blame { client, start, end })
 }
 
-/// The range from `start` to `end`.
+// The range from `start` to `end`.
 #[tactic(auto, unfolding(crate::specs::EventGrammar::places))]
 fn read_places(value: &Value) -> Result<(u64, u64), Cause>
     ensures { result ≡ places (view value.now) }
@@ -406,7 +410,7 @@ fn read_places(value: &Value) -> Result<(u64, u64), Cause>
     Ok((start, end))
 }
 
-/// The cause of two counts of which the second is less.
+// The cause of two counts of which the second is less.
 fn reversed(first: u64, second: u64) -> Cause
     requires first { first < 2 ^ 53 }
     requires second { second < 2 ^ 53 }

@@ -1,9 +1,9 @@
 //! The sequencer: it numbers messages 1, 2, 3 and so on, and tells with each the minimum below which no
 //! joined connection will refer any more.
 
-ghost use Rattle.std.specs.Prelude.{◌≡◌, ◌+◌, pos, cond, Some, Ok, IfOk, IfErr, OnErr, map, find, option_copied};
+ghost use Rattle.std.specs.Prelude.{◌≡◌, ℕ, ◌+◌, ◌<◌, ◌^◌, pos, cond, Some, Ok, IfOk, IfErr, OnOk, OnErr, map, find, option_copied};
 ghost use Rattle.ft_seqr.specs.Sequencer.{draft_kind, is_joined, join, least_ref, leave, nack_of, new_sequencer, next, notice, submit, submitted};
-ghost use Rattle.ft_seqr.specs.SequencerCalls.{IsLeaveFault, IsSubmitFault};
+ghost use Rattle.ft_seqr.specs.SequencerCalls.{AreSmall, IsLeaveFault, IsSubmitFault, Sends, sender_of, sent_message, sequencer_after};
 
 use crate::nacks::{LeaveFault, Nack, SubmitFault};
 use ft_base::{Datum, OutOfMemory, Text};
@@ -11,8 +11,8 @@ use ft_msg::{Body, Draft, Entry, Message, MsgKind};
 use std::alloc::Global;
 use std::marker::Model;
 
-/// A joined connection: its number, its name, its last reference number, and the client sequence
-/// number of its last message.
+// A joined connection: its number, its name, its last reference number, and the client sequence
+// number of its last message.
 #[derive(Drop)]
 struct Joined {
     conn: u32,
@@ -30,14 +30,14 @@ impl Model for Joined {
 }
 
 impl Joined {
-    /// Whether it is that connection.
+    // Whether it is that connection.
     fn is(&self, conn: u32) -> bool
         ensures { result ≡ is_joined conn self.now }
     {
         conn == self.conn
     }
 
-    /// Takes the numbers of the draft, if it is that connection.
+    // Takes the numbers of the draft, if it is that connection.
     fn take_draft(&mut self, conn: u32, draft: &Draft)
         ensures { self.new ≡ cond (is_joined conn self.old) (submitted draft.now self.old) self.old }
     {
@@ -47,43 +47,67 @@ impl Joined {
         }
     }
 
-    /// The message of its draft under that number, with 0 as its minimum.
-    ///
-    /// Returns `OutOfMemory` where there is no room for it, or a number of the draft is above 2^63 - 1.
-    fn entry(&self, number: u64, draft: &Draft) -> Result<Entry, OutOfMemory>
-        ensures { IfOk result (λ entry. entry ≡ record {
-          msg = record { client_id = Some self.now.name; seq = number; min = 0; client_seq = pos draft.now.client_seq; ref_seq = pos draft.now.ref_seq; kind = draft_kind draft.now.body; body = draft.now.body };
-          origin = self.now.conn;
-        }) }
+    // The sender of its message under that number.
+    fn sender(&self, number: u64) -> Result<Sender, OutOfMemory>
+        ensures { IfOk result (λ sender. sender ≡ sender_of self.now number) }
     {
-        Ok(Entry {
-            msg: Message {
-                client_id: Some(self.name.copy()?),
-                seq: number,
-                min: 0,
-                client_seq: signed(draft.client_seq)?,
-                ref_seq: signed(draft.ref_seq)?,
-                kind: draft_kind(&draft.body),
-                body: draft.body.copy()?,
-            },
-            origin: self.conn,
+        Ok(Sender {
+            conn: self.conn,
+            name: self.name.copy()?,
+            number,
         })
     }
 }
 
-/// The number as a signed one.
-///
-/// Returns `OutOfMemory` where it is above 2^63 - 1.
-fn signed(number: u64) -> Result<i64, OutOfMemory>
-    ensures { IfOk result (λ z. z ≡ pos number) }
-{
-    if number > i64::MAX as u64 {
-        return Err(OutOfMemory);
-    }
-    Ok(number as i64)
+// The sender of a message: the number and the name of its connection, and the number of the message.
+#[derive(Drop)]
+struct Sender {
+    conn: u32,
+    name: Text,
+    number: u64,
 }
 
-/// The kind of the message of a draft with this body.
+// Tests that the numbers of the draft can be signed ones.
+//
+// Returns `OutOfMemory` where one is above 2^63 - 1.
+fn test_numbers(draft: &Draft) -> Result<(), OutOfMemory>
+    ensures { OnOk result (AreSmall draft.now) }
+{
+    let most = i64::MAX as u64;
+    if draft.client_seq > most || draft.ref_seq > most {
+        return Err(OutOfMemory);
+    }
+    Ok(())
+}
+
+// The number as a signed one.
+fn signed(number: u64) -> i64
+    requires { number < 2 ^ 63 }
+    ensures { result ≡ pos number }
+{
+    number as i64
+}
+
+// The message of the sender's draft, with this minimum.
+fn message(sender: Sender, minimum: u64, draft: Draft) -> Entry
+    requires { AreSmall draft }
+    ensures { result ≡ sent_message sender minimum draft }
+{
+    Entry {
+        msg: Message {
+            client_id: Some(sender.name),
+            seq: sender.number,
+            min: minimum,
+            client_seq: signed(draft.client_seq),
+            ref_seq: signed(draft.ref_seq),
+            kind: draft_kind(&draft.body),
+            body: draft.body,
+        },
+        origin: sender.conn,
+    }
+}
+
+// The kind of the message of a draft with this body.
 fn draft_kind(body: &Body) -> MsgKind
     ensures { result ≡ draft_kind body.now }
 {
@@ -93,7 +117,7 @@ fn draft_kind(body: &Body) -> MsgKind
     }
 }
 
-/// The joined connection of that number.
+// The joined connection of that number.
 fn find_joined(joined: &[Joined], conn: u32) -> Option<&Joined>
     ensures { option_copied result ≡ find (is_joined conn) joined.now }
 {
@@ -105,8 +129,8 @@ fn find_joined(joined: &[Joined], conn: u32) -> Option<&Joined>
     None
 }
 
-/// The least last reference number of the joined connections, or the message's own number where none
-/// is joined.
+// The least last reference number of the joined connections, or the message's own number where none
+// is joined.
 fn least_ref(number: u64, joined: &[Joined]) -> u64
     ensures { result ≡ least_ref number joined.now }
 {
@@ -120,7 +144,7 @@ fn least_ref(number: u64, joined: &[Joined]) -> u64
     least
 }
 
-/// Gives the connection of that number the numbers of its draft.
+// Gives the connection of that number the numbers of its draft.
 fn take_draft(joined: &mut [Joined], conn: u32, draft: &Draft)
     ensures { joined.new ≡ map (λ i. cond (is_joined conn i) (submitted draft.now i) i) joined.old }
 {
@@ -196,7 +220,7 @@ impl Sequencer {
         Ok(self.notice(conn, sender, MsgKind::Leave))
     }
 
-    /// Gives the draft of the connection its number, and gives its message.
+    /// Gives the draft of the connection its number, and gives its message, with a copy of its body.
     ///
     /// Returns `Nack` with the first reason that holds against the draft, and `OutOfMemory` where there
     /// is no room for the message, or a number of it would pass 2^64 - 1, or one of the draft 2^63 - 1.
@@ -206,24 +230,61 @@ impl Sequencer {
         ensures fault { IfErr result (IsSubmitFault self.old conn draft.now) }
         ensures err { OnErr result (self.new ≡ self.old) }
     {
+        let sender = self.sender(conn, draft)?;
+        let copy = draft.copy()?;
+        Ok(self.number_draft(sender, copy))
+    }
+
+    /// The same of a draft that is given away: its body is that of the message, and isn't copied.
+    pub fn take(&mut self, conn: u32, draft: Draft) -> Result<Entry, SubmitFault>
+        ensures ok { IfOk result (λ entry. submit self.old conn draft ≡ Ok (self.new, entry)) }
+        ensures fault { IfErr result (IsSubmitFault self.old conn draft) }
+        ensures err { OnErr result (self.new ≡ self.old) }
+    {
+        let sender = self.sender(conn, &draft)?;
+        Ok(self.number_draft(sender, draft))
+    }
+
+    // The sender of the draft's message, if nothing is against the draft.
+    fn sender(&self, conn: u32, draft: &Draft) -> Result<Sender, SubmitFault>
+        ensures ok { IfOk result (Sends self.now conn draft.now) }
+        ensures number { IfOk result (λ sender. sender.number ≡ self.now.number + 1) }
+        ensures small { OnOk result (AreSmall draft.now) }
+        ensures fault { IfErr result (IsSubmitFault self.now conn draft.now) }
+    {
         let Some(joined) = find_joined(self.joined.as_slice(), conn) else {
             return Err(SubmitFault::Nack(Nack::NotJoined));
         };
         if let Some(nack) = self.nack(joined, draft)? {
             return Err(SubmitFault::Nack(nack));
         }
+        test_numbers(draft)?;
         let number = self.next_number()?;
-        let sender = joined.conn;
-        let mut entry = joined.entry(number, draft)?;
-        take_draft(self.joined.as_mut_slice(), sender, draft);
-        self.advance(number);
-        entry.msg.min = self.minimum;
-        Ok(entry)
+        Ok(joined.sender(number)?)
     }
 
-    /// The first of four reasons to refuse the draft of the joined connection.
-    ///
-    /// Returns `OutOfMemory` where the number that it is to have would pass 2^64 - 1.
+    // Goes on to the message of the sender's draft, and gives it.
+    fn number_draft(&mut self, sender: Sender, draft: Draft) -> Entry
+        requires number { sender.number ≡ self.old.number + 1 }
+        requires small { AreSmall draft }
+        ensures { (conn : ℕ) → Sends self.old conn draft sender → submit self.old conn draft ≡ Ok (self.new, result) }
+    {
+        self.go_on(sender.number, sender.conn, &draft);
+        message(sender, self.minimum, draft)
+    }
+
+    // Goes on to the next message, of that number, which is the draft of the connection.
+    fn go_on(&mut self, number: u64, conn: u32, draft: &Draft)
+        requires { number ≡ self.old.number + 1 }
+        ensures { self.new ≡ sequencer_after self.old conn draft.now }
+    {
+        take_draft(self.joined.as_mut_slice(), conn, draft);
+        self.advance(number);
+    }
+
+    // The first of four reasons to refuse the draft of the joined connection.
+    //
+    // Returns `OutOfMemory` where the number that it is to have would pass 2^64 - 1.
     fn nack(&self, joined: &Joined, draft: &Draft) -> Result<Option<Nack>, OutOfMemory>
         ensures { IfOk result (λ nack. nack ≡ nack_of self.now joined.now draft.now) }
     {
@@ -248,16 +309,16 @@ impl Sequencer {
         Ok(None)
     }
 
-    /// The number of the next message.
-    ///
-    /// Returns `OutOfMemory` where it would pass 2^64 - 1.
+    // The number of the next message.
+    //
+    // Returns `OutOfMemory` where it would pass 2^64 - 1.
     fn next_number(&self) -> Result<u64, OutOfMemory>
         ensures { IfOk result (λ number. number ≡ self.now.number + 1) }
     {
         self.number.checked_add(1).ok_or(OutOfMemory)
     }
 
-    /// Goes on to the next message, of that number, with the connections that are joined now.
+    // Goes on to the next message, of that number, with the connections that are joined now.
     fn advance(&mut self, number: u64)
         requires { number ≡ self.old.number + 1 }
         ensures { self.new ≡ next self.old.joined self.old }
@@ -266,7 +327,7 @@ impl Sequencer {
         self.minimum = least_ref(number, self.joined.as_slice());
     }
 
-    /// The message that tells of a connection that comes or goes.
+    // The message that tells of a connection that comes or goes.
     fn notice(&self, conn: u32, name: Text, word: MsgKind) -> Entry
         ensures { result ≡ notice self.now conn name word }
     {
