@@ -1,6 +1,5 @@
 -- What guests send, and how they go.
 use Rattle.std.proofs.Common.{◌≡◌, ◌<◌, ◌^◌, ℕ, suc, ◌+◌, ◌-◌, Bool, true, false, cond, List, [], ◌∷◌, ◌++◌, find, get_or, length, map, Option, Some, None, Result, Ok, Err, refl, sym, ◌∙◌, ap, subst, arith}
-use Rattle.std.specs.Prelude.{encode_utf8_all}
 use Rattle.std.specs.List.{position, position_from}
 use Rattle.std.proofs.lemmas.Iterator.Adapters.{position_from-zero}
 use Rattle.ft_base.proofs.Options.{some-same}
@@ -12,24 +11,24 @@ use Rattle.ft_msg.specs.Written.{written_message}
 use Rattle.ft_msg.specs.declared.faults.Cause.{Cause}
 use Rattle.ft_msg.specs.declared.messages.Draft.{Draft}
 use Rattle.ft_msg.specs.declared.messages.Entry.{Entry}
-use Rattle.ft_msg.specs.MessageGrammar.{draft}
 use Rattle.ft_seqr.specs.declared.events.Event.TheVariants as event
 use Rattle.ft_seqr.specs.declared.refusals.Refusal.{Refusal}
 use Rattle.ft_seqr.specs.declared.refusals.Refusal.TheVariants.{NotConnected, UnknownClient}
 use Rattle.ft_seqr.specs.Refusals.{refusal_of_cause}
 use Rattle.ft_seqr.specs.Sequencer.{NaiveSequencer, leave}
-use Rattle.ft_seqr.specs.World.{NaiveWorld, NamedGuest, Nothing, Stepped, connection_name, happen, is_guest, joined, left, logged, name_fault, part_guest, quietly, submit_all, submit_draft, submit_guest, Texts}
+use Rattle.ft_seqr.specs.World.{NaiveWorld, NamedGuest, Nothing, Stepped, connection_name, happen, is_guest, joined, left, logged, name_fault, of_guest, part_guest, quietly, submit_all, Texts}
 use Rattle.ft_laws_sessions.specs.MadeWorlds.{IsMade}
 use Rattle.ft_laws_sessions.specs.NewNames.{IsNewName}
 use Rattle.ft_laws_sessions.proofs.MadeWorlds.{made-formed, made-guest, made-within}
 use Rattle.ft_session.specs.declared.outputs.Out.TheVariants as out
-use Rattle.ft_session.specs.Readings.{ReadsOr, read_or_refused, submitted_text}
+use Rattle.ft_session.specs.Acts.{submitted_guest, submitted_or_refused}
 use Rattle.ft_session.specs.Services.{AnswersService, left_or_refused}
 use Rattle.ft_seqr.specs.RefusalKinds.{refusal_kind}
 use Rattle.ft_session.specs.Worlds.{AnswersHappening, MembersStand, ServiceState, SessionState, SessionStands, StandsForSome, service_of}
 use Rattle.ft_session.proofs.Entering.{guest-enters}
 use Rattle.ft_session.proofs.Placing.{stand-grown}
 use Rattle.ft_seqr.proofs.RefusalKinds.{means-weaker}
+use Rattle.ft_session.proofs.RefusalKinds.{cause-means}
 use Rattle.ft_session.proofs.Submissions.{IsSubmitted, submitted-leaves}
 
 -- ---- the guest of a name
@@ -78,11 +77,12 @@ module _ (s : SessionState) (name : Characters) where
         (refl, ap (λ o. elim o as (λ _. Stepped) [ None ↦ Err UnknownClient | Some g ↦ part_guest w g ]) none);
   }
 
-  pub submit-unknown : (text : Characters) → position (is_guest name) s.guests ≡ None → AnswersHappening (λ w. happen w (event.Submit name text)) s s (Err UnknownClient)
-  submit-unknown text h = record {
+  pub submit-unknown : (read : Result Draft Cause) → position (is_guest name) s.guests ≡ None
+      → AnswersHappening (λ w. of_guest w name (λ g. submitted_guest w g read)) s s (Err UnknownClient)
+  submit-unknown read h = record {
     world = λ w made stands.
         let none = guest-none name w.guests (subst (λ gs. position (is_guest name) gs ≡ None) stands.guests h) in
-        (refl, ap (λ o. elim o as (λ _. Stepped) [ None ↦ Err UnknownClient | Some g ↦ submit_guest w g text ]) none);
+        (refl, ap (λ o. elim o as (λ _. Stepped) [ None ↦ Err UnknownClient | Some g ↦ submitted_guest w g read ]) none);
   }
 
   -- its messages come to the log
@@ -142,42 +142,39 @@ module _ (s : SessionState) (name : Characters) where
 
     -- ---- it sends
 
-    module _ (text : Characters) where
-      sent : (w : NaiveWorld) → SessionStands s w → happen w (event.Submit name text) ≡ submit_guest w g text
-      sent w stands = ap (λ o. elim o as (λ _. Stepped) [ None ↦ Err UnknownClient | Some d ↦ submit_guest w d text ]) (found-here w stands)
+    module _ (read : Result Draft Cause) where
+      abbrev submits : NaiveWorld → Stepped
+      submits w = of_guest w name (λ d. submitted_guest w d read)
 
       abbrev submitted : Result NaiveWorld Refusal → Stepped
       submitted r = elim r [ Err refusal ↦ Err refusal | Ok v ↦ quietly v ]
 
-      -- the draft of the text, or what stands for it
-      sent-as : (w : NaiveWorld) (r : Result Draft Cause)
-          → elim r as (λ _. Stepped) [ Err fault ↦ Err (refusal_of_cause fault) | Ok d ↦ submit_draft w g d ]
-          ≡ submitted (elim r as (λ _. Result NaiveWorld Refusal) [ Err fault ↦ Err (refusal_of_cause fault) | Ok d ↦ submit_all w g.conn (d ∷ []) ])
+      -- the draft, or what stands for it
+      sent-as : (w : NaiveWorld) (r : Result Draft Cause) → submitted_guest w g r ≡ submitted (submitted_or_refused w g.conn r)
       sent-as w (Ok d) = refl
       sent-as w (Err fault) = refl
 
-      sends : (w : NaiveWorld) → SessionStands s w → happen w (event.Submit name text) ≡ submitted (submitted_text w g.conn text)
-      sends w stands = sent w stands ∙ sent-as w (draft (encode_utf8_all text))
+      sends : (w : NaiveWorld) → SessionStands s w → submits w ≡ submitted (submitted_or_refused w g.conn read)
+      sends w stands = ap (λ o. elim o as (λ _. Stepped) [ None ↦ Err UnknownClient | Some d ↦ submitted_guest w d read ]) (found-here w stands) ∙ sent-as w read
 
-      text-leaves : (w v : NaiveWorld) (r : Result Draft Cause)
-          → elim r as (λ _. Result NaiveWorld Refusal) [ Err fault ↦ Err (refusal_of_cause fault) | Ok d ↦ submit_all w g.conn (d ∷ []) ] ≡ Ok v → IsSubmitted w v
-      text-leaves w v (Err fault) e = (cc)
-      text-leaves w v (Ok d) e = submitted-leaves (d ∷ []) w v g.conn e
+      read-leaves : (w v : NaiveWorld) (r : Result Draft Cause) → submitted_or_refused w g.conn r ≡ Ok v → IsSubmitted w v
+      read-leaves w v (Err fault) e = (cc)
+      read-leaves w v (Ok d) e = submitted-leaves (d ∷ []) w v g.conn e
 
       module _ (after : ServiceState) where
-        pub submit-refused : (why : Refusal) → ((w : NaiveWorld) → s.service ≡ service_of w → AnswersService s.service after (submitted_text w g.conn text) (Err why))
-            → AnswersHappening (λ w. happen w (event.Submit name text)) s (record s { service = after }) (Err why)
+        pub submit-refused : (why : Refusal) → ((w : NaiveWorld) → s.service ≡ service_of w → AnswersService s.service after (submitted_or_refused w g.conn read) (Err why))
+            → AnswersHappening submits s (record s { service = after }) (Err why)
         submit-refused why service = record {
           world = λ w made stands. means-weaker (refusal_kind why)
               (λ p. (ap (λ a. record s { service = a }) p.0, sends w stands ∙ ap submitted p.1)) (service w stands.service);
         }
 
-        pub submit-taken : ((w : NaiveWorld) → s.service ≡ service_of w → AnswersService s.service after (submitted_text w g.conn text) (Ok tt))
-            → AnswersHappening (λ w. happen w (event.Submit name text)) s (record s { service = after }) (Ok out.Nothing)
+        pub submit-taken : ((w : NaiveWorld) → s.service ≡ service_of w → AnswersService s.service after (submitted_or_refused w g.conn read) (Ok tt))
+            → AnswersHappening submits s (record s { service = after }) (Ok out.Nothing)
         submit-taken service = record {
           world = λ w made stands.
               let (v, e, q) = service w stands.service in
-              let l = text-leaves w v (draft (encode_utf8_all text)) e in (
+              let l = read-leaves w v read e in (
                 (v, Nothing),
                 sends w stands ∙ ap submitted e,
                 service-grows w v after l.later made stands l.log l.clients l.guests q,
@@ -188,20 +185,14 @@ module _ (s : SessionState) (name : Characters) where
 
 -- ---- the draft of a text
 
-module _ (text : Characters) (before : ServiceState) (conn : ℕ) where
-  unread : (w : NaiveWorld) (why : Refusal) (r : Result Draft Cause) → read_or_refused r ≡ Err why
-      → elim r as (λ _. Result NaiveWorld Refusal) [ Err fault ↦ Err (refusal_of_cause fault) | Ok d ↦ submit_all w conn (d ∷ []) ] ≡ Err why
-  unread w why (Ok d) e = (cc)
-  unread w why (Err cause) e = let q : refusal_of_cause cause ≡ why = (cc) in ap Err q
-
+module _ (read : Result Draft Cause) (before : ServiceState) (conn : ℕ) where
   -- it is none
-  pub text-unread : (why : Refusal) → ReadsOr (draft (encode_utf8_all text)) (Err why) → (w : NaiveWorld) → AnswersService before before (submitted_text w conn text) (Err why)
-  text-unread why h w = means-weaker (refusal_kind why) (λ e. (refl, unread w why (draft (encode_utf8_all text)) e)) h
+  pub text-unread : (cause : Cause) → read ≡ Err cause → (w : NaiveWorld) → AnswersService before before (submitted_or_refused w conn read) (Err (refusal_of_cause cause))
+  text-unread cause e w = cause-means cause (refl, ap (submitted_or_refused w conn) e)
 
-  pub text-read : (d : Draft) (after : ServiceState) (result : Result (Unit {0}) Refusal) → draft (encode_utf8_all text) ≡ Ok d → (w : NaiveWorld)
-      → AnswersService before after (submit_all w conn (d ∷ [])) result → AnswersService before after (submitted_text w conn text) result
-  text-read d after result read w a = subst (λ r. AnswersService before after r result)
-      (sym (ap (λ r. elim r as (λ _. Result NaiveWorld Refusal) [ Err fault ↦ Err (refusal_of_cause fault) | Ok d ↦ submit_all w conn (d ∷ []) ]) read)) a
+  pub text-read : (d : Draft) (after : ServiceState) (result : Result (Unit {0}) Refusal) → read ≡ Ok d → (w : NaiveWorld)
+      → AnswersService before after (submit_all w conn (d ∷ [])) result → AnswersService before after (submitted_or_refused w conn read) result
+  text-read d after result e w a = subst (λ r. AnswersService before after r result) (sym (ap (submitted_or_refused w conn) e)) a
 
 -- ---- a guest enters
 

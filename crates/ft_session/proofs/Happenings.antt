@@ -1,27 +1,22 @@
 -- What one client answers to its event, its session answers.
-use Rattle.std.proofs.Common.{◌≡◌, ◌≤◌, ℕ, zero, suc, ◌+◌, nat_le, Bool, true, false, cond, List, [], ◌∷◌, ◌++◌, Some, None, Result, Ok, Err, find, length, map, refl, sym, ◌∙◌, ap, subst, arith, append-nil, slice_get}
+use Rattle.std.proofs.Common.{◌≡◌, ℕ, zero, suc, ◌+◌, Bool, true, false, cond, List, [], ◌∷◌, ◌++◌, Option, Some, None, Result, Ok, Err, find, length, map, refl, sym, ◌∙◌, ap, subst, arith, append-nil, slice_get}
 use Rattle.std.proofs.lemmas.Iterator.Adapters.{position_from-zero}
 use Rattle.std.specs.List.{position, position_from}
-use Rattle.std.specs.Prelude.{IfOk, IsTrue}
+use Rattle.std.specs.Prelude.{IfOk}
 use Rattle.std.proofs.Math.ListN.{get_or, set}
-use Rattle.std.proofs.lemmas.Bool.Decides.{nat_tests}
 use Rattle.std.proofs.lemmas.List.Quantifiers.{position-Some}
 use Rattle.std.proofs.lemmas.Option.{slice_get_read}
 use Rattle.std.proofs.lemmas.Slice.Eq.{bytes_eq-Decides}
-use Rattle.ft_base.proofs.Booleans.{both}
 use Rattle.ft_base.proofs.Options.{some-same}
-use Rattle.ft_op.specs.WellFormed.{is_count, is_range}
 use Rattle.ft_props.specs.Properties.{Characters}
-use Rattle.ft_seqr.specs.declared.events.Event.{Event}
-use Rattle.ft_seqr.specs.declared.events.Event.TheVariants as event
 use Rattle.ft_seqr.specs.declared.refusals.Refusal.{Refusal}
 use Rattle.ft_seqr.specs.declared.refusals.Refusal.TheVariants.{UnknownClient}
-use Rattle.ft_seqr.specs.World.{NaiveWorld, NamedClient, NamedGuest, Stepped, happen, in_place, is_client, of_client}
+use Rattle.ft_seqr.specs.World.{NaiveWorld, NamedClient, NamedGuest, Stepped, in_place, is_client, of_client}
 use Rattle.ft_laws_sessions.specs.MadeWorlds.{IsMade}
 use Rattle.ft_laws_sessions.proofs.MadeWorlds.{made-distinct, made-within, placed-same}
+use Rattle.ft_session.specs.declared.acts.ClientAct.{ClientAct}
 use Rattle.ft_session.specs.declared.outputs.Out.{Out}
-use Rattle.ft_session.specs.Effects.{MemberEffect, NamedEffect, SessionEffect}
-use Rattle.ft_session.specs.Entrances.{client_of}
+use Rattle.ft_session.specs.Acts.{ClientActEffect, NamedActEffect}
 use Rattle.ft_seqr.specs.RefusalKinds.{refusal_kind}
 use Rattle.ft_session.specs.Worlds.{AnswersAsked, AnswersClient, AnswersHappening, AnswersReading, AnswersSession, AnswersStepped, LeavesClient, Meets, MeetsSome, MembersStand, MemberStands, MemberState, ServiceState, SessionState, SessionStands, StandsForSome, has_name}
 use Rattle.ft_seqr.proofs.RefusalKinds.{means-weaker}
@@ -54,43 +49,12 @@ reading-answers f m s result a = record { client = λ w c meets. asked-stepped w
 
 -- ---- the event of a client
 
+abbrev of_which : (NamedClient → Stepped) → Option NamedClient → Stepped
+of_which f o = elim o [ None ↦ Err UnknownClient | Some d ↦ f d ]
+
 -- what becomes of an event of a client that is found
 pub of-found : (w : NaiveWorld) (n : Characters) (c : NamedClient) (f : NamedClient → Stepped) → n ≡ c.name → find (is_client c.name) w.clients ≡ Some c → of_client w n f ≡ f c
-of-found w n c f e h = ap (λ o. elim o [ None ↦ Err UnknownClient | Some d ↦ f d ]) (ap (λ k. find (is_client k) w.clients) e ∙ h)
-
--- what a client answers to its step, it answers to its event
-pub as_event : (e : Event) (n : Characters) (f : NaiveWorld → NamedClient → Stepped) (m new : MemberState) (before after : ServiceState) (result : Result Out Refusal)
-    → ((w : NaiveWorld) → happen w e ≡ of_client w n (f w)) → Some n ≡ Some m.name → AnswersClient f m new before after result
-    → AnswersClient (λ w c. happen w e) m new before after result
-as_event e n f m new before after result same named a = record {
-  client = λ w c meets.
-      subst (λ stepped. AnswersStepped w c m new before after stepped result) (sym (same w ∙ of-found w n c (f w) (some-same n m.name named ∙ meets.member.name) meets.found)) (a.client w c meets);
-}
-
--- nobody has the name of the event's client
-of-unknown : (w : NaiveWorld) (n name : Characters) (f : NamedClient → Stepped) → Some n ≡ Some name → find (is_client name) w.clients ≡ None → of_client w n f ≡ Err UnknownClient
-of-unknown w n name f e h = ap (λ o. elim o [ None ↦ Err UnknownClient | Some d ↦ f d ]) (ap (λ k. find (is_client k) w.clients) (some-same n name e) ∙ h)
-
-pub happen-unknown : (w : NaiveWorld) (e : Event) (name : Characters) → client_of e ≡ Some name → find (is_client name) w.clients ≡ None → happen w e ≡ Err UnknownClient
-happen-unknown w (event.Connect n) name q h = of-unknown w n name _ q h
-happen-unknown w (event.Drop n) name q h = of-unknown w n name _ q h
-happen-unknown w (event.Edit n op) name q h = of-unknown w n name _ q h
-happen-unknown w (event.Ticket n many) name q h = of-unknown w n name _ q h
-happen-unknown w (event.Deliver n many) name q h = of-unknown w n name _ q h
-happen-unknown w (event.Noop n) name q h = of-unknown w n name _ q h
-happen-unknown w (event.Show n) name q h = of-unknown w n name _ q h
-happen-unknown w (event.Queue n) name q h = of-unknown w n name _ q h
-happen-unknown w (event.Compact n) name q h = of-unknown w n name _ q h
-happen-unknown w (event.Summary n) name q h = of-unknown w n name _ q h
-happen-unknown w (event.Offer n text) name q h = of-unknown w n name _ q h
-happen-unknown w (event.Overlap n label a b) name q h = of-unknown w n name _ q h
-happen-unknown w (event.Blame n a b) name q h = of-unknown w n name _ q h
-happen-unknown w (event.Authors n) name q h = of-unknown w n name _ q h
-happen-unknown w (event.Start n from) name q h = (cc)
-happen-unknown w event.History name q h = (cc)
-happen-unknown w (event.Guest n) name q h = (cc)
-happen-unknown w (event.Submit n text) name q h = (cc)
-happen-unknown w (event.Part n) name q h = (cc)
+of-found w n c f e h = ap (of_which f) (ap (λ k. find (is_client k) w.clients) e ∙ h)
 
 -- ---- what a client's event makes of its replica
 
@@ -113,26 +77,18 @@ set-found name i ms m h t =
     let same : l ≡ i = omega (arith, p) in
     subst (λ n. find (has_name name) (set ms n m) ≡ Some m) same f
 
-effect-named : (compacts : Bool) (e : Event) (n name : Characters) (s : SessionState) (m : MemberState) (out : Out) → Some n ≡ Some name → find (has_name name) s.members ≡ Some m
-    → MemberEffect compacts e m out → NamedEffect compacts e n s out
-effect-named compacts e n name s m out q f h = record { member = m; found = ap (λ k. find (has_name k) s.members) (some-same n name q) ∙ f; effect = h }
-
-effect-found : (compacts : Bool) (e : Event) (old new : SessionState) (name : Characters) (m : MemberState) (out : Out) → client_of e ≡ Some name
-    → find (has_name name) new.members ≡ Some m → MemberEffect compacts e m out → SessionEffect compacts e old new out
-effect-found compacts (event.Show n) old new name m out q f h = effect-named compacts (event.Show n) n name new m out q f h
-effect-found compacts (event.Compact n) old new name m out q f h = effect-named compacts (event.Compact n) n name new m out q f h
-effect-found compacts (event.Start n from) old new name m out q f h = (cc)
-effect-found compacts _ old new name m out q f h = tt
-
 -- ---- the session
 
-module _ (e : Event) (name : Characters) (ms : List MemberState) (guests : List NamedGuest) (before : ServiceState) where
+module _ (step : NaiveWorld → NamedClient → Stepped) (name : Characters) (ms : List MemberState) (guests : List NamedGuest) (before : ServiceState) where
   abbrev pub whole : List MemberState → ServiceState → SessionState
   whole members service = record { members = members; guests = guests; service = service }
 
-  pub happened-to_none : client_of e ≡ Some name → position (has_name name) ms ≡ None → AnswersHappening (λ w. happen w e) (whole ms before) (whole ms before) (Err UnknownClient)
-  happened-to_none q h = record {
-    world = λ w made s. (refl, happen-unknown w e name q (not_found w.log name 0 ms w.clients s.members (sym (position_from-zero (has_name name) ms) ∙ h)));
+  abbrev event : NaiveWorld → Stepped
+  event w = of_client w name (step w)
+
+  pub happened-to_none : position (has_name name) ms ≡ None → AnswersHappening event (whole ms before) (whole ms before) (Err UnknownClient)
+  happened-to_none h = record {
+    world = λ w made s. (refl, ap (of_which (step w)) (not_found w.log name 0 ms w.clients s.members (sym (position_from-zero (has_name name) ms) ∙ h)));
   }
 
   module _ (i : ℕ) (m : MemberState) (place : position (has_name name) ms ≡ Some i) (at : slice_get ms i ≡ Some m) where
@@ -183,39 +139,38 @@ module _ (e : Event) (name : Characters) (ms : List MemberState) (guests : List 
           put-back zero (x ∷ xs) g = let p : x ≡ m = (cc) in ap (λ a. a ∷ xs) (sym p)
           put-back (suc k) (x ∷ xs) g = ap (λ l. x ∷ l) (put-back k xs g)
 
-      stepped : (w : NaiveWorld) (made : IsMade w) (s : SessionStands (whole ms before) w) (result : Result Out Refusal)
-          → AnswersStepped w (here w made s).member m new before after (happen w e) result
-          → AnswersSession (whole ms before) (whole (set ms i new) after) w (happen w e) result
-      stepped w made s (Ok out) (p, q, l, t) = (p, q, stands-after w p.0 made s l, l.load, t)
-      stepped w made s (Err why) h = means-weaker (refusal_kind why)
-          (λ p. (ap (λ a. whole (set ms i new) a) p.1 ∙ set-same p.0, p.2)) h
+      of-here : (w : NaiveWorld) (made : IsMade w) (s : SessionStands (whole ms before) w) → event w ≡ step w (here w made s).member
+      of-here w made s = let f = here w made s in of-found w name f.member (step w) (sym f.named) (meets-here w made s).found
 
-      pub happened-to : (result : Result Out Refusal) → AnswersClient (λ w c. happen w e) m new before after result
-          → AnswersHappening (λ w. happen w e) (whole ms before) (whole (set ms i new) after) result
+      stepped : (w : NaiveWorld) (made : IsMade w) (s : SessionStands (whole ms before) w) (result : Result Out Refusal)
+          → AnswersStepped w (here w made s).member m new before after (step w (here w made s).member) result
+          → AnswersSession (whole ms before) (whole (set ms i new) after) w (event w) result
+      stepped w made s (Ok out) (p, q, l, t) = (p, of-here w made s ∙ q, stands-after w p.0 made s l, l.load, t)
+      stepped w made s (Err why) h = means-weaker (refusal_kind why)
+          (λ p. (ap (λ a. whole (set ms i new) a) p.1 ∙ set-same p.0, of-here w made s ∙ p.2)) h
+
+      pub happened-to : (result : Result Out Refusal) → AnswersClient step m new before after result
+          → AnswersHappening event (whole ms before) (whole (set ms i new) after) result
       happened-to result a = record { world = λ w made s. stepped w made s result (a.client w (here w made s).member (meets-here w made s)) }
 
-      -- what it makes of the replicas
-      pub happened-effect : (compacts : Bool) (old : SessionState) → StandsForSome (whole ms before) → client_of e ≡ Some name → (result : Result Out Refusal)
-          → AnswersClient (λ w c. happen w e) m new before after result → IfOk result (λ out. MemberEffect compacts e new out)
-          → IfOk result (λ out. SessionEffect compacts e old (whole (set ms i new) after) out)
-      happened-effect compacts old s q (Err why) a h = tt
-      happened-effect compacts old s q (Ok out) a h =
+      -- what it makes of its replica
+      pub happened-effect : (compacts : Bool) (act : ClientAct) → StandsForSome (whole ms before) → (result : Result Out Refusal)
+          → AnswersClient step m new before after result → IfOk result (λ out. ClientActEffect compacts act new out)
+          → IfOk result (λ out. NamedActEffect compacts act name (whole (set ms i new) after) out)
+      happened-effect compacts act s (Err why) a h = tt
+      happened-effect compacts act s (Ok out) a h =
           let f = here s.world s.made s.stands in
           let (p, k, l, t) = a.client s.world f.member (meets-here s.world s.made s.stands) in
-          effect-found compacts e old (whole (set ms i new) after) name new out q (set-found name i ms new place ((bytes_eq-Decides name new.name).1 (sym (l.member.name ∙ (l.name ∙ f.named))))) h
-
--- ---- ranges
-
-pub in-range : (a b : ℕ) → IsTrue (is_range a b) → a ≤ b
-in-range a b h = let p : nat_le a b ≡ true = (both (nat_le a b) (is_count b) h).0 in grind (arith, nat_tests, p)
+          record {
+            member = new;
+            found = set-found name i ms new place ((bytes_eq-Decides name new.name).1 (sym (l.member.name ∙ (l.name ∙ f.named))));
+            effect = h;
+          }
 
 -- the member at the place of a name has it
 module _ (name : Characters) (i : ℕ) (ms : List MemberState) (m : MemberState) (h : position (has_name name) ms ≡ Some i) (k : m ≡ get_or ms i m) where
   pub at-place : slice_get ms i ≡ Some m
   at-place = slice_get_read ms (length ms) i m refl (position-Some (has_name name) ms i m h).0 k
-
-  pub placed-name : name ≡ m.name
-  placed-name = (bytes_eq-Decides name m.name).0 (ap (has_name name) k ∙ (position-Some (has_name name) ms i m h).1)
 
 -- what a session answers, by its view
 pub by-session : {event : NaiveWorld → Stepped} {s old new : SessionState} {result : Result Out Refusal} → s ≡ old → AnswersHappening event s new result → AnswersHappening event old new result

@@ -7,6 +7,7 @@ mod LinkEvents
 mod Submissions
 mod Processed
 mod Happenings
+mod ActSteps
 mod Naming
 mod TrimmedCopies
 mod Entering

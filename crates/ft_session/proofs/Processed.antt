@@ -1,20 +1,17 @@
 -- A client processes the next messages of the log.
 use Rattle.std.proofs.Common.{◌≡◌, ◌≤◌, ◌<◌, ℕ, zero, suc, ◌+◌, max, cond, nat_eq, true, false, Bool, List, [], ◌∷◌, ◌++◌, drop, fold, length, take, Option, Some, None, Result, Ok, Err, is_some, not, refl, sym, ◌∙◌, ap, subst, arith, append-nil}
 use Rattle.std.proofs.lemmas.List.{length-take-le}
-use Rattle.std.specs.Prelude.{encode_utf8_all, ⊤}
 use Rattle.std.proofs.lemmas.Bool.Decides.{nat_tests}
 use Rattle.ft_laws_agreement.proofs.NumberTests.{same_number}
 use Rattle.std.proofs.Math.ListN.{drop_of_length-le, get_or}
 use Rattle.std.proofs.Math.Seq.{drop-cons}
 use Rattle.ft_laws_agreement.specs.Sequencing.{Each}
 use Rattle.ft_laws_summaries.proofs.Lists.{each-found}
-use Rattle.ft_props.specs.Properties.{Characters}
 use Rattle.ft_msg.specs.declared.faults.ProcessFault.{ProcessFault}
 use Rattle.ft_msg.specs.declared.faults.ProcessFault.TheVariants as processing
 use Rattle.ft_msg.specs.declared.faults.Cause.{Cause}
 use Rattle.ft_msg.specs.declared.messages.Entry.{Entry}
 use Rattle.ft_msg.specs.declared.messages.Message.{Message}
-use Rattle.ft_msg.specs.MessageGrammar.{message}
 use Rattle.ft_msg.specs.declared.views.Numbers.{Numbers}
 use Rattle.ft_msg.specs.Answers.{Answers, ReplicaState, RunsFor, numbers_of, process_fault_kind}
 use Rattle.ft_msg.specs.Client.{NaiveClient}
@@ -28,17 +25,15 @@ use Rattle.ft_seqr.specs.declared.refusals.Refusal.{Refusal}
 use Rattle.ft_seqr.specs.declared.refusals.Refusal.TheVariants.{Foreign, NotConnected, NothingToDeliver, OutOfMemory, OutOfOrder}
 use Rattle.ft_seqr.specs.Refusals.{refusal_of_cause, refusal_of_process}
 use Rattle.ft_seqr.specs.SameMessage.{same_message}
-use Rattle.ft_seqr.specs.World.{NaiveWorld, NamedClient, Nothing, Stepped, ahead_of, conn_of, deliver_client, greatest_origin, is_client, now, offer_client, offer_message, offer_next, processed, wanted_count, with_client}
+use Rattle.ft_seqr.specs.World.{NaiveWorld, NamedClient, Nothing, Stepped, ahead_of, conn_of, deliver_client, greatest_origin, is_client, now, offer_message, offer_next, processed, wanted_count, with_client}
 use Rattle.ft_laws_sessions.proofs.MadeWorlds.{made-formed, made-takes, made-within}
 use Rattle.ft_session.specs.declared.outputs.Out.{Out}
 use Rattle.ft_session.specs.declared.outputs.Out.TheVariants as out
 use Rattle.ft_session.specs.Deliveries.{CanProcess, HasProcessed, Processes, offered_entry}
-use Rattle.ft_session.specs.Readings.{read_or_refused}
-use Rattle.ft_seqr.specs.RefusalKinds.{MeansOf, refusal_kind}
+use Rattle.ft_session.specs.Acts.{offered_client}
 use Rattle.ft_session.specs.Worlds.{AnswersClient, AnswersStepped, LeavesClient, Meets, MeetsSome, MemberStands, MemberState, ServiceState}
 use Rattle.ft_session.proofs.Numbers.{process-number}
-use Rattle.ft_seqr.proofs.RefusalKinds.{means-weaker}
-use Rattle.ft_session.proofs.RefusalKinds.{some-none}
+use Rattle.ft_session.proofs.RefusalKinds.{cause-means, some-none}
 use Rattle.ft_session.proofs.OwnEvents.{meets-reached, with_replica}
 use Rattle.ft_session.proofs.Submissions.{wanted-fits}
 
@@ -327,37 +322,30 @@ module _ (m : MemberState) (s : ServiceState) where
       by true k = let q : x ≡ e = (cc) in (ap (λ a. a ∷ []) q, omega arith)
       by false k = (cc)
 
-  module _ (text : Characters) where
+  module _ (read : Result Message Cause) where
     abbrev offer_linked : NaiveWorld → NamedClient → Option ℕ → Stepped
     offer_linked w c o = elim o [
       | None ↦ Err NotConnected
-      | Some conn ↦ elim (message (encode_utf8_all text)) [ Err fault ↦ Err (refusal_of_cause fault) | Ok msg ↦ offer_message w c msg ]
+      | Some conn ↦ elim read [ Err fault ↦ Err (refusal_of_cause fault) | Ok msg ↦ offer_message w c msg ]
     ]
 
-    pub offer-offline : conn_of m.replica.client.link ≡ None → AnswersClient (λ w c. offer_client w c text) m m s s (Err NotConnected)
+    pub offer-offline : conn_of m.replica.client.link ≡ None → AnswersClient (λ w c. offered_client w c read) m m s s (Err NotConnected)
     offer-offline h = record { client = λ w c meets. (refl, refl, ap (offer_linked w c) (ap conn_of (sym (same-link w c meets)) ∙ h)) }
 
     module _ (conn : ℕ) (h : conn_of m.replica.client.link ≡ Some conn) where
       abbrev read_by : NaiveWorld → NamedClient → Result Message Cause → Stepped
       read_by w c r = elim r [ Err fault ↦ Err (refusal_of_cause fault) | Ok msg ↦ offer_message w c msg ]
 
-      offer-online : (w : NaiveWorld) (c : NamedClient) → Meets w c m s → offer_client w c text ≡ read_by w c (message (encode_utf8_all text))
+      offer-online : (w : NaiveWorld) (c : NamedClient) → Meets w c m s → offered_client w c read ≡ read_by w c read
       offer-online w c meets = ap (offer_linked w c) (ap conn_of (sym (same-link w c meets)) ∙ h)
 
-      unread : (w : NaiveWorld) (c : NamedClient) (r : Result Message Cause) (why : Refusal) → read_or_refused r ≡ Err why → read_by w c r ≡ Err why
-      unread w c (Err fault) why e = let q : refusal_of_cause fault ≡ why = (cc) in ap Err q
-      unread w c (Ok msg) why e = (cc)
-
       -- the text isn't a message
-      pub offer-unread : (why : Refusal) → MeansOf (refusal_kind why) ⊤ (read_or_refused (message (encode_utf8_all text)) ≡ Err why)
-          → AnswersClient (λ w c. offer_client w c text) m m s s (Err why)
-      offer-unread why e = record {
-        client = λ w c meets. means-weaker (refusal_kind why) (λ k. (refl, refl, offer-online w c meets ∙ unread w c (message (encode_utf8_all text)) why k)) e;
-      }
+      pub offer-unread : (cause : Cause) → read ≡ Err cause → AnswersClient (λ w c. offered_client w c read) m m s s (Err (refusal_of_cause cause))
+      offer-unread cause e = record { client = λ w c meets. cause-means cause (refl, refl, offer-online w c meets ∙ ap (read_by w c) e) }
 
       -- what becomes of the message becomes of the offer
-      pub offer-read : (msg : Message) → message (encode_utf8_all text) ≡ Ok msg → (new : MemberState) (result : Result Out Refusal)
-          → AnswersClient (λ w c. offer_message w c msg) m new s s result → AnswersClient (λ w c. offer_client w c text) m new s s result
+      pub offer-read : (msg : Message) → read ≡ Ok msg → (new : MemberState) (result : Result Out Refusal)
+          → AnswersClient (λ w c. offer_message w c msg) m new s s result → AnswersClient (λ w c. offered_client w c read) m new s s result
       offer-read msg reads new result a = record {
         client = λ w c meets.
             subst (λ stepped. AnswersStepped w c m new s s stepped result) (sym (offer-online w c meets ∙ ap (read_by w c) reads)) (a.client w c meets);

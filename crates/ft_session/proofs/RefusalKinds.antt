@@ -1,6 +1,8 @@
 -- What refusals say of replicas, and of sessions.
 use Rattle.std.proofs.Common.{◌≡◌, ℕ, Option, Some, None, sym, ◌∙◌}
 use Rattle.std.specs.Prelude.{⊤}
+use Rattle.ft_msg.specs.declared.faults.Cause.{Cause}
+use Rattle.ft_msg.specs.declared.faults.Cause.TheVariants as causes
 use Rattle.ft_msg.specs.declared.faults.EditFault.{EditFault}
 use Rattle.ft_msg.specs.declared.faults.EditFault.TheVariants as edit
 use Rattle.ft_msg.specs.declared.faults.LinkFault.{LinkFault}
@@ -8,7 +10,7 @@ use Rattle.ft_msg.specs.declared.faults.LinkFault.TheVariants as link
 use Rattle.ft_msg.specs.declared.faults.ViewFault.{ViewFault}
 use Rattle.ft_msg.specs.declared.faults.ViewFault.TheVariants as viewing
 use Rattle.ft_msg.specs.Answers.{AnswersFault, FaultKind, MeansRefusal, Refusal as Refuses, ReplicaState, StoppedBefore, WantOfMemory, edit_fault_kind, link_fault_kind, view_fault_kind}
-use Rattle.ft_seqr.specs.Refusals.{refusal_of_edit, refusal_of_link, refusal_of_view}
+use Rattle.ft_seqr.specs.Refusals.{refusal_of_cause, refusal_of_edit, refusal_of_link, refusal_of_view}
 use Rattle.ft_seqr.specs.RefusalKinds.{HadStopped, MeansOf, RefusalKind, Refused, WantsMemory, refusal_kind}
 
 -- a replica's fault says what the refusal says
@@ -50,3 +52,8 @@ fault-means R old new (StoppedBefore seq) Refused s h a m = absurd s
 fault-means R old new Refuses WantsMemory s h a m = absurd s
 fault-means R old new Refuses HadStopped s h a m = absurd s
 fault-means R old new Refuses Refused s h a m = (a.1, m)
+
+-- the refusal of a text that has no reading is one of the naive session
+pub cause-means : {B : Type 0} (cause : Cause) → B → MeansOf (refusal_kind (refusal_of_cause cause)) ⊤ B
+cause-means causes.CountLimit b = b
+cause-means _ b = b

@@ -1,6 +1,6 @@
 -- A world takes an event with its load.
 use Rattle.std.proofs.Common.{◌≡◌, ◌≤◌, ◌^◌, ℕ, ◌+◌, [], Bool, true, false, Result, Ok, Err, refl, sym, ◌∙◌, ap, subst}
-use Rattle.std.specs.Prelude.{⊤}
+use Rattle.std.specs.Prelude.{IfOk, ⊤}
 use Rattle.std.specs.Result.{IsErr, IsErrAnd}
 use Rattle.ft_seqr.specs.declared.events.Event.{Event}
 use Rattle.ft_seqr.specs.declared.refusals.Refusal.{Refusal}
@@ -9,13 +9,17 @@ use Rattle.ft_seqr.specs.WellFormedEvent.{IsWellFormedEvent}
 use Rattle.ft_seqr.specs.World.{NaiveWorld, happen, loaded, new_world, step, text_load}
 use Rattle.ft_seqr.specs.Sequencer.{new_sequencer}
 use Rattle.ft_laws_sessions.proofs.MadeWorlds.{made-first, made-next}
+use Rattle.ft_session.specs.declared.acts.Act.{Act}
 use Rattle.ft_session.specs.declared.outputs.Counts.{Counts}
 use Rattle.ft_session.specs.declared.outputs.Out.{Out}
+use Rattle.ft_session.specs.Acts.{ActEffect, IsAct}
+use Rattle.ft_session.specs.Effects.{SessionEffect}
 use Rattle.ft_session.specs.Outputs.{counts_of}
 use Rattle.ft_session.specs.declared.world.Taken.{Taken}
 use Rattle.ft_session.specs.Steps.{AnswersStep, StandsAtLoad, StandsFor}
 use Rattle.ft_seqr.specs.RefusalKinds.{MeansOf, RefusalKind, HadStopped, Refused, WantsMemory, is_want, refusal_kind}
 use Rattle.ft_session.specs.Worlds.{AnswersEvent, AnswersHappening, RunsForSome, MembersStand, SessionState, StandsForSome, StopsWithCounts, WorldStands, WorldState}
+use Rattle.ft_session.proofs.ActSteps.{act-effect}
 use Rattle.ft_session.proofs.OwnEvents.{handed-on}
 use Rattle.ft_seqr.proofs.RefusalKinds.{means-weaker}
 
@@ -55,6 +59,12 @@ module _ (e : Event) (formed : IsWellFormedEvent e) (old new : SessionState) (lo
   pub step-handed : (why : Refusal) (result : Result Taken Refusal) → IsErr result × IsErrAnd result (λ w. w ≡ why) → AnswersHappening (λ w. happen w e) old new (Err why)
       → AnswersStep e old new load result
   step-handed why result h a = handed-on (λ r. AnswersStep e old new load r) why result h (step-refused why a)
+
+-- what it made of the replicas
+pub taken-effect : (compacts : Bool) (e : Event) (old new : SessionState) (act : Act) → IsAct act e → (result : Result Taken Refusal)
+    → IfOk result (λ taken. ActEffect compacts act old new taken.out) → IfOk result (λ taken. SessionEffect compacts e old new taken.out)
+taken-effect compacts e old new act h (Ok taken) x = act-effect compacts e old new taken.out act h x
+taken-effect compacts e old new act h (Err why) x = tt
 
 -- ---- the world
 

@@ -3,8 +3,6 @@ use Rattle.std.specs.Prelude.{◌≡◌, [], find, Option, Some, None, Result, O
 use Rattle.ft_props.specs.Properties.{Characters}
 use Rattle.ft_msg.specs.Answers.{ReplicaState}
 use Rattle.ft_msg.specs.Client.{client_over}
-use Rattle.ft_seqr.specs.declared.events.Event.{Event}
-use Rattle.ft_seqr.specs.declared.events.Event.TheVariants as event
 use Rattle.ft_seqr.specs.declared.refusals.Refusal.{Refusal}
 use Rattle.ft_seqr.specs.World.{NaiveWorld, NamedClient, is_client}
 use Rattle.ft_seqr.specs.RefusalKinds.{Refused, refusal_kind}
@@ -25,21 +23,3 @@ pub record IsCopyOf (w : NaiveWorld) (name from : Characters) (r : ReplicaState)
   pub found : find (is_client from) w.clients ≡ Some client
   pub idle : client.client.pending ≡ []
   pub stands : MemberStands w.log (new_member name r) (record { name = name; connects = 0; client = client_over client.client.doc })
-
--- the client of an event, if it is of one that is there
-abbrev pub client_of : Event → Option Characters
-client_of (event.Connect name) = Some name
-client_of (event.Drop name) = Some name
-client_of (event.Edit name op) = Some name
-client_of (event.Ticket name many) = Some name
-client_of (event.Deliver name many) = Some name
-client_of (event.Noop name) = Some name
-client_of (event.Show name) = Some name
-client_of (event.Queue name) = Some name
-client_of (event.Compact name) = Some name
-client_of (event.Summary name) = Some name
-client_of (event.Offer name text) = Some name
-client_of (event.Overlap name label a b) = Some name
-client_of (event.Blame name a b) = Some name
-client_of (event.Authors name) = Some name
-client_of _ = None

@@ -1,11 +1,10 @@
 pub mod Outputs
 pub mod Worlds
 pub mod Services
-pub mod Readings
 pub mod Deliveries
 pub mod Asked
 pub mod Entrances
 pub mod Effects
-pub mod Loads
+pub mod Acts
 pub mod Steps
 pub mod WorldLaws

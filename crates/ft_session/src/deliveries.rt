@@ -1,22 +1,19 @@
 //! How clients process messages.
 
-ghost use Rattle.std.specs.Prelude.{◌≡◌, ◌≤◌, ◌∷◌, [], Err, OnOk, OnErr, drop, encode_utf8_all, length, option_copied};
+ghost use Rattle.std.specs.Prelude.{◌≡◌, ◌≤◌, ◌∷◌, [], Err, OnOk, OnErr, drop, length, option_copied};
 ghost use Rattle.ft_msg.specs.Client.{NaiveClient};
-ghost use Rattle.ft_msg.specs.MessageGrammar.{message};
-ghost use Rattle.ft_seqr.specs.World.{deliver_client, offer_client, offer_message};
+ghost use Rattle.ft_seqr.specs.World.{deliver_client, offer_message};
+ghost use Rattle.ft_session.specs.Acts.{offered_client};
 ghost use Rattle.ft_session.specs.Deliveries.{CanProcess, HasConnection, HasProcessed, Processes, offered_entry};
-ghost use Rattle.ft_session.specs.Readings.{ReadsOr};
 ghost use Rattle.ft_session.specs.Worlds.{AnswersClient, MeetsSome};
 
 use crate::counts::next_count;
 use crate::members::Member;
 use crate::outputs::Out;
 use crate::service::Service;
-use ft_base::Text;
-use ft_msg::{Cause, Entry, Message, Replica, read_message};
+use ft_msg::{Cause, Entry, Message, Replica};
 use ft_seqr::same_message::same_message;
 use ft_seqr::{HowMany, Refusal, conn_of, wanted_count};
-use std::alloc::Global;
 
 /// The client processes so many of the next messages of the log.
 pub(crate) fn deliver<R: Replica>(
@@ -40,23 +37,26 @@ pub(crate) fn deliver<R: Replica>(
     Ok(Out::Nothing)
 }
 
-/// The client processes the message of a text, if it is the next one and the log has it so.
+/// The client processes the message that an offered text was read as, if it is the next one and the log
+/// has it so.
 pub(crate) fn offer<R: Replica>(
     member: &mut Member<R>,
     service: &Service,
-    text: &Text,
+    read: &Result<Message, Cause>,
 ) -> Result<Out, Refusal>
     requires { MeetsSome member.old service.now }
-    ensures { AnswersClient (λ w c. offer_client w c text.now) member.old member.new service.now service.now result }
+    ensures { AnswersClient (λ w c. offered_client w c read.now) member.old member.new service.now service.now result }
 {
     if conn_of(member.replica.numbers().link).is_none() {
         return Err(Refusal::NotConnected);
     }
-    let message = read_offer(service.alloc, text)?;
-    offer_message(member, service, &message)
+    match read {
+        Ok(message) => offer_message(member, service, message),
+        Err(cause) => Err(Refusal::of_cause(*cause)),
+    }
 }
 
-/// The client processes an offered message, if it is the next one and the log has it so.
+// The client processes an offered message, if it is the next one and the log has it so.
 fn offer_message<R: Replica>(
     member: &mut Member<R>,
     service: &Service,
@@ -83,7 +83,7 @@ fn offer_message<R: Replica>(
     Ok(Out::Nothing)
 }
 
-/// The next of the messages, if it is the one offered.
+// The next of the messages, if it is the one offered.
 fn offered_entry<'a>(ahead: &'a [Entry], message: &Message) -> Option<&'a Entry>
     ensures { option_copied result ≡ offered_entry message.now ahead.now }
 {
@@ -93,7 +93,7 @@ fn offered_entry<'a>(ahead: &'a [Entry], message: &Message) -> Option<&'a Entry>
     }
 }
 
-/// The messages of the log beyond this number.
+// The messages of the log beyond this number.
 fn ahead_of(service: &Service, number: u64) -> &[Entry]
     requires { number ≤ length service.now.log }
     ensures { result.now ≡ drop number service.now.log }
@@ -101,18 +101,7 @@ fn ahead_of(service: &Service, number: u64) -> &[Entry]
     &service.log[number as usize..]
 }
 
-/// The message of an offered text.
-fn read_offer(alloc: Global, text: &Text) -> Result<Message, Refusal>
-    ensures { ReadsOr (message (encode_utf8_all text.now)) result }
-{
-    match read_message(alloc, text.as_str().as_bytes()) {
-        Ok(message) => Ok(message),
-        Err(Cause::OutOfMemory) => Err(Refusal::OutOfMemory),
-        Err(cause) => Err(Refusal::of_cause(cause)),
-    }
-}
-
-/// The replica processes entries of the log.
+// The replica processes entries of the log.
 fn process_all<R: Replica>(replica: &mut R, entries: &[Entry]) -> Result<(), Refusal>
     requires { CanProcess (R.state replica.old) entries.now }
     ensures ok { (x y : NaiveClient) → Processes (R.state replica.old) entries.now x y → OnOk result (HasProcessed (R.state replica.old) (R.state replica.new) entries.now y) }
@@ -124,7 +113,7 @@ fn process_all<R: Replica>(replica: &mut R, entries: &[Entry]) -> Result<(), Ref
     Ok(())
 }
 
-/// The replica processes an entry of the log.
+// The replica processes an entry of the log.
 fn process_one<R: Replica>(replica: &mut R, entry: &Entry) -> Result<(), Refusal>
     requires { CanProcess (R.state replica.old) (entry.now ∷ []) }
     ensures ok { (x y : NaiveClient) → Processes (R.state replica.old) (entry.now ∷ []) x y → OnOk result (HasProcessed (R.state replica.old) (R.state replica.new) (entry.now ∷ []) y) }

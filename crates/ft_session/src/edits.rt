@@ -58,7 +58,7 @@ pub(crate) fn compact<R: Replica>(member: &mut Member<R>, service: &Service) -> 
     Ok(Out::Nothing)
 }
 
-/// So many of the replica's oldest unsent messages are submitted for its connection.
+// So many of the replica's oldest unsent messages are submitted for its connection.
 fn submit_oldest<R: Replica>(
     replica: &mut R,
     service: &mut Service,
@@ -77,7 +77,7 @@ fn submit_oldest<R: Replica>(
     Ok(())
 }
 
-/// The replica's oldest unsent message, if there is one, is submitted for its connection.
+// The replica's oldest unsent message, if there is one, is submitted for its connection.
 fn submit_next<R: Replica>(replica: &mut R, service: &mut Service, conn: u32) -> Result<(), Refusal>
     requires { CanSubmit service.old conn (take 1 (R.state replica.old).client.queue) }
     ensures service { (w : NaiveWorld) (v : NaiveWorld) → service.old ≡ service_of w → submit_all w conn (take 1 (R.state replica.old).client.queue) ≡ Ok v
@@ -86,7 +86,7 @@ fn submit_next<R: Replica>(replica: &mut R, service: &mut Service, conn: u32) ->
     ensures memory { OnErr result (result ≡ Err Refusal.OutOfMemory) }
 {
     match replica.take_outgoing() {
-        Some(draft) => service.submit(conn, &draft),
+        Some(draft) => service.submit(conn, draft),
         None => Ok(()),
     }
 }

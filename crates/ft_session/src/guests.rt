@@ -1,15 +1,14 @@
 //! Guests: names without a client, each with a connection.
 
-ghost use Rattle.std.specs.Prelude.{◌≡◌, ◌∷◌, ◌++◌, [], IfOk, OnOk, encode_utf8_all, map};
+ghost use Rattle.std.specs.Prelude.{◌≡◌, ◌∷◌, ◌++◌, [], IfOk, OnOk, map};
 ghost use Rattle.serde_json.specs.Written.{compact_text};
 ghost use Rattle.std.specs.List.{list_any, position};
 ghost use Rattle.ft_laws_agreement.specs.Sequencing.{Each};
-ghost use Rattle.ft_msg.specs.MessageGrammar.{draft};
 ghost use Rattle.ft_msg.specs.WellFormed.{IsWellFormedMessage};
 ghost use Rattle.ft_msg.specs.Written.{written_message};
-ghost use Rattle.ft_seqr.specs.World.{NaiveWorld, happen, is_guest};
+ghost use Rattle.ft_seqr.specs.World.{NaiveWorld, happen, is_guest, of_guest};
 ghost use Rattle.ft_seqr.specs.declared.events.Event.TheVariants as event;
-ghost use Rattle.ft_session.specs.Readings.{ReadsOr, submitted_text};
+ghost use Rattle.ft_session.specs.Acts.{submitted_guest, submitted_or_refused};
 ghost use Rattle.ft_session.specs.Services.{AnswersService};
 ghost use Rattle.ft_session.specs.Worlds.{AnswersHappening, StandsForSome, service_of};
 
@@ -17,7 +16,7 @@ use crate::outputs::{Out, Values};
 use crate::service::Service;
 use crate::session::Session;
 use ft_base::{Datum, OutOfMemory, Text};
-use ft_msg::{Cause, Draft, Entry, Replica, read_draft, write_message};
+use ft_msg::{Cause, Draft, Entry, Replica, write_message};
 use ft_seqr::{Refusal, connection_name};
 use std::alloc::Global;
 use std::marker::Model;
@@ -51,15 +50,15 @@ impl<R: Replica + Drop> Session<R> {
         Ok(Out::Nothing)
     }
 
-    /// The draft of a text is submitted for the guest.
-    pub(crate) fn submit(&mut self, name: &Text, text: &Text) -> Result<Out, Refusal>
+    /// The draft that a submitted text was read as comes from the guest.
+    pub(crate) fn submit(&mut self, name: &Text, read: Result<Draft, Cause>) -> Result<Out, Refusal>
         requires { StandsForSome self.old }
-        ensures { AnswersHappening (λ w. happen w (event.Submit name.now text.now)) self.old self.new result }
+        ensures { AnswersHappening (λ w. of_guest w name.now (λ g. submitted_guest w g read)) self.old self.new result }
     {
         let Some(place) = place_of_guest(self.guests.as_slice(), name) else {
             return Err(Refusal::UnknownClient);
         };
-        submit_text(&mut self.service, self.guests[place].conn, text)?;
+        submit_read(&mut self.service, self.guests[place].conn, read)?;
         Ok(Out::Nothing)
     }
 
@@ -128,21 +127,12 @@ fn message_texts(alloc: Global, entries: &[Entry]) -> Result<Values, OutOfMemory
     Ok(values)
 }
 
-// The draft of a text is submitted for the connection.
-fn submit_text(service: &mut Service, conn: u32, text: &Text) -> Result<(), Refusal>
-    ensures { (w : NaiveWorld) → service.old ≡ service_of w → AnswersService service.old service.new (submitted_text w conn text.now) result }
+// The draft that a submitted text was read as comes from the connection.
+fn submit_read(service: &mut Service, conn: u32, read: Result<Draft, Cause>) -> Result<(), Refusal>
+    ensures { (w : NaiveWorld) → service.old ≡ service_of w → AnswersService service.old service.new (submitted_or_refused w conn read) result }
 {
-    let draft = read_submission(service.alloc, text)?;
-    service.submit(conn, &draft)
-}
-
-// The draft of a submitted text.
-fn read_submission(alloc: Global, text: &Text) -> Result<Draft, Refusal>
-    ensures { ReadsOr (draft (encode_utf8_all text.now)) result }
-{
-    match read_draft(alloc, text.as_str().as_bytes()) {
-        Ok(draft) => Ok(draft),
-        Err(Cause::OutOfMemory) => Err(Refusal::OutOfMemory),
+    match read {
+        Ok(draft) => service.submit(conn, draft),
         Err(cause) => Err(Refusal::of_cause(cause)),
     }
 }

@@ -3,6 +3,7 @@
 //! A call that can return `OutOfMemory` returns it where there is no room.
 #![tactic(auto)]
 
+mod acts;
 mod asked;
 mod counts;
 mod deliveries;

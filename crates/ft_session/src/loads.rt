@@ -2,29 +2,67 @@
 
 ghost use Rattle.std.specs.Prelude.{◌≡◌, ◌+◌, IfOk, fold, length, map};
 ghost use Rattle.ft_op.specs.Operation.{OnGrid, OnText};
-ghost use Rattle.ft_seqr.specs.World.{body_load, inserted_count, op_load, text_load};
-ghost use Rattle.ft_session.specs.Loads.{draft_load, message_load};
+ghost use Rattle.ft_seqr.specs.World.{body_load, inserted_count, op_load};
+ghost use Rattle.ft_session.specs.Acts.{act_load, client_load, draft_load, message_load, session_load};
 
+use crate::acts::{Act, ClientAct, SessionAct};
 use ft_base::{OutOfMemory, Text};
-use ft_msg::{Body, Cause, read_draft, read_message};
+use ft_msg::{Body, Cause, Draft, Message};
 use ft_op::{BaseOp, CellOp, ChannelOp, GridOp, Seg, TextOp};
-use ft_seqr::Event;
-use std::alloc::Global;
 
-/// What an event adds: one, and for its operation, or that of the text in it, one for each
+/// What an event adds that does this: one, and for its operation, or that of the text in it, one for each
 /// sub-operation and for each inserted element.
 ///
-/// Returns `OutOfMemory` where there is no room to read the text, or the sum would pass 2^64 - 1.
-pub(crate) fn event_load(alloc: Global, event: &Event) -> Result<u64, OutOfMemory>
-    ensures { IfOk result (λ n. n ≡ 1 + text_load event.now) }
+/// Returns `OutOfMemory` where the sum would pass 2^64 - 1.
+pub(crate) fn act_load(act: &Act<'_>) -> Result<u64, OutOfMemory>
+    ensures { IfOk result (λ n. n ≡ 1 + act_load act.now) }
 {
-    let load = match event {
-        Event::Edit { op, .. } => op_load(op)?,
-        Event::Offer { message, .. } => offer_load(alloc, message)?,
-        Event::Submit { message, .. } => submission_load(alloc, message)?,
-        _ => 0,
+    let load = match act {
+        Act::OfClient(_, act) => client_load(act)?,
+        Act::OfSession(act) => session_load(act)?,
     };
     load.checked_add(1).ok_or(OutOfMemory)
+}
+
+// What happens to a client adds.
+fn client_load(act: &ClientAct<'_>) -> Result<u64, OutOfMemory>
+    ensures { IfOk result (λ n. n ≡ client_load act.now) }
+{
+    match act {
+        ClientAct::Edit(op) => op_load(op),
+        ClientAct::Offer(read) => message_load(read),
+        _ => Ok(0),
+    }
+}
+
+// What happens to the session as a whole adds.
+fn session_load(act: &SessionAct<'_>) -> Result<u64, OutOfMemory>
+    ensures { IfOk result (λ n. n ≡ session_load act.now) }
+{
+    match act {
+        SessionAct::Submit(_, read) => draft_load(read),
+        _ => Ok(0),
+    }
+}
+
+// What the message adds that an offered text is, if it is one.
+fn message_load(read: &Result<Message, Cause>) -> Result<u64, OutOfMemory>
+    ensures { IfOk result (λ n. n ≡ message_load read.now) }
+{
+    match read {
+        Ok(message) => body_load(&message.body),
+        Err(_) => Ok(0),
+    }
+}
+
+// What the draft adds that a submitted text is, if it is one.
+fn draft_load(read: &Result<Draft, Cause>) -> Result<u64, OutOfMemory>
+    ensures { IfOk result (λ n. n ≡ draft_load read.now) }
+{
+    match read {
+        Ok(draft) => body_load(&draft.body),
+        Err(_) => Ok(0),
+    }
 }
 
 // What the operation adds.
@@ -115,27 +153,5 @@ fn body_load(body: &Body) -> Result<u64, OutOfMemory>
     match body {
         Body::Op(op) => op_load(op),
         Body::Nothing | Body::Elsewhere(_) => Ok(0),
-    }
-}
-
-// What the operation of an offered message adds.
-fn offer_load(alloc: Global, text: &Text) -> Result<u64, OutOfMemory>
-    ensures { IfOk result (λ n. n ≡ message_load text.now) }
-{
-    match read_message(alloc, text.as_str().as_bytes()) {
-        Ok(message) => body_load(&message.body),
-        Err(Cause::OutOfMemory) => Err(OutOfMemory),
-        Err(_) => Ok(0),
-    }
-}
-
-// What the operation of a submitted draft adds.
-fn submission_load(alloc: Global, text: &Text) -> Result<u64, OutOfMemory>
-    ensures { IfOk result (λ n. n ≡ draft_load text.now) }
-{
-    match read_draft(alloc, text.as_str().as_bytes()) {
-        Ok(draft) => body_load(&draft.body),
-        Err(Cause::OutOfMemory) => Err(OutOfMemory),
-        Err(_) => Ok(0),
     }
 }

@@ -86,10 +86,10 @@ impl Service {
     ///
     /// Returns `Nacked` with the first reason against it, and `OutOfMemory` where there is no room for
     /// its message.
-    pub(crate) fn submit(&mut self, conn: u32, draft: &Draft) -> Result<(), Refusal>
-        ensures { (w : NaiveWorld) → self.old ≡ service_of w → AnswersService self.old self.new (submit_all w conn (draft.now ∷ [])) result }
+    pub(crate) fn submit(&mut self, conn: u32, draft: Draft) -> Result<(), Refusal>
+        ensures { (w : NaiveWorld) → self.old ≡ service_of w → AnswersService self.old self.new (submit_all w conn (draft ∷ [])) result }
     {
-        let entry = self.sequencer.submit(conn, draft)?;
+        let entry = self.sequencer.take(conn, draft)?;
         self.log_entry(entry)?;
         Ok(())
     }

@@ -1,13 +1,12 @@
 //! The events of a session.
 
-ghost use Rattle.std.specs.Prelude.{◌≡◌, [], Some, IfOk, option_copied};
+ghost use Rattle.std.specs.Prelude.{◌≡◌, [], IfOk};
 ghost use Rattle.ft_seqr.specs.Sequencer.{new_sequencer};
-ghost use Rattle.ft_seqr.specs.WellFormedEvent.{IsWellFormedEvent};
-ghost use Rattle.ft_seqr.specs.World.{happen};
-ghost use Rattle.ft_session.specs.Effects.{MemberEffect, SessionEffect};
-ghost use Rattle.ft_session.specs.Entrances.{client_of};
+ghost use Rattle.ft_seqr.specs.World.{of_client};
+ghost use Rattle.ft_session.specs.Acts.{ActEffect, ClientActEffect, IsWellFormedAct, IsWellFormedClientAct, NamedActEffect, SessionActEffect, act_step, client_step, session_step};
 ghost use Rattle.ft_session.specs.Worlds.{AnswersClient, AnswersHappening, MeetsSome, StandsForSome};
 
+use crate::acts::{Act, ClientAct, SessionAct};
 use crate::asked::{authors, blame, overlap, queue, show, summarize};
 use crate::deliveries::{deliver, offer};
 use crate::edits::{compact, edit, ticket};
@@ -18,7 +17,7 @@ use crate::outputs::Out;
 use crate::service::Service;
 use ft_base::Text;
 use ft_msg::Replica;
-use ft_seqr::{Event, Refusal};
+use ft_seqr::Refusal;
 use std::alloc::Global;
 use std::marker::Model;
 
@@ -50,104 +49,73 @@ impl<R: Replica + Drop> Session<R> {
         }
     }
 
-    /// An event happens.
-    pub(crate) fn happen(&mut self, event: &Event) -> Result<Out, Refusal>
-        requires formed { IsWellFormedEvent event.now }
+    /// What an event does happens.
+    pub(crate) fn happen(&mut self, act: Act<'_>) -> Result<Out, Refusal>
+        requires formed { IsWellFormedAct act }
         requires stands { StandsForSome self.old }
-        ensures answers { AnswersHappening (λ w. happen w event.now) self.old self.new result }
-        ensures effect { IfOk result (λ out. SessionEffect R.COMPACTS event.now self.old self.new out) }
+        ensures answers { AnswersHappening (λ w. act_step w act.entry) self.old self.new result }
+        ensures effect { IfOk result (λ out. ActEffect R.COMPACTS act.entry self.old self.new out) }
     {
-        if let Some(name) = client_of(event) {
-            return self.happen_to(name, event);
-        }
-        match event {
-            Event::Start { client, from } => self.begin(client, from),
-            Event::History => self.history(),
-            Event::Guest { guest } => self.enter(guest),
-            Event::Submit { guest, message } => self.submit(guest, message),
-            Event::Part { guest } => self.part(guest),
-            _ => unreachable!(),
+        match act {
+            Act::OfClient(name, act) => self.happen_to(name, &act),
+            Act::OfSession(act) => self.happen_here(act),
         }
     }
 
-    // An event happens to the client of that name.
-    fn happen_to(&mut self, name: &Text, event: &Event) -> Result<Out, Refusal>
-        requires formed { IsWellFormedEvent event.now }
-        requires named { client_of event.now ≡ Some name.now }
+    // What an event does to the session as a whole happens.
+    fn happen_here(&mut self, act: SessionAct<'_>) -> Result<Out, Refusal>
+        requires { StandsForSome self.old }
+        ensures answers { AnswersHappening (λ w. session_step w act.entry) self.old self.new result }
+        ensures effect { IfOk result (λ out. SessionActEffect R.COMPACTS act.entry self.old self.new out) }
+    {
+        match act {
+            SessionAct::Start(client, from) => self.begin(client, from),
+            SessionAct::History => self.history(),
+            SessionAct::Guest(guest) => self.enter(guest),
+            SessionAct::Submit(guest, read) => self.submit(guest, read),
+            SessionAct::Part(guest) => self.part(guest),
+        }
+    }
+
+    // What an event does happens to the client of that name.
+    fn happen_to(&mut self, name: &Text, act: &ClientAct<'_>) -> Result<Out, Refusal>
+        requires formed { IsWellFormedClientAct act.now }
         requires stands { StandsForSome self.old }
-        ensures answers { AnswersHappening (λ w. happen w event.now) self.old self.new result }
-        ensures effect { IfOk result (λ out. SessionEffect R.COMPACTS event.now self.old self.new out) }
+        ensures answers { AnswersHappening (λ w. of_client w name.now (client_step act.now w)) self.old self.new result }
+        ensures effect { IfOk result (λ out. NamedActEffect R.COMPACTS act.now name.now self.new out) }
     {
         let Some(place) = place_of(self.members.as_slice(), name) else {
             return Err(Refusal::UnknownClient);
         };
-        happen_to_member(&mut self.members[place], &mut self.service, event)
+        happen_to_member(&mut self.members[place], &mut self.service, act)
     }
 }
 
-// The client of an event, if it is of one that is there.
-fn client_of(event: &Event) -> Option<&Text>
-    ensures { option_copied result ≡ client_of event.now }
-{
-    match event {
-        Event::Connect { client }
-        | Event::Drop { client }
-        | Event::Edit { client, .. }
-        | Event::Ticket { client, .. }
-        | Event::Deliver { client, .. }
-        | Event::Noop { client }
-        | Event::Show { client }
-        | Event::Queue { client }
-        | Event::Compact { client }
-        | Event::Summary { client }
-        | Event::Offer { client, .. }
-        | Event::Overlap { client, .. }
-        | Event::Blame { client, .. }
-        | Event::Authors { client } => Some(client),
-        Event::Start { .. }
-        | Event::History
-        | Event::Guest { .. }
-        | Event::Submit { .. }
-        | Event::Part { .. } => None,
-    }
-}
-
-// An event happens to its client.
+// What an event does happens to its client.
 fn happen_to_member<R: Replica>(
     member: &mut Member<R>,
     service: &mut Service,
-    event: &Event,
+    act: &ClientAct<'_>,
 ) -> Result<Out, Refusal>
-    requires formed { IsWellFormedEvent event.now }
-    requires named { client_of event.now ≡ Some member.old.name }
+    requires formed { IsWellFormedClientAct act.now }
     requires meets { MeetsSome member.old service.old }
-    ensures answers { AnswersClient (λ w c. happen w event.now) member.old member.new service.old service.new result }
-    ensures effect { IfOk result (λ out. MemberEffect R.COMPACTS event.now member.new out) }
+    ensures answers { AnswersClient (client_step act.now) member.old member.new service.old service.new result }
+    ensures effect { IfOk result (λ out. ClientActEffect R.COMPACTS act.now member.new out) }
 {
-    match event {
-        Event::Connect { .. } => connect(member, service),
-        Event::Drop { .. } => drop_link(member, service),
-        Event::Edit { op, .. } => edit(member, service, op),
-        Event::Ticket { count, .. } => ticket(member, service, *count),
-        Event::Deliver { count, .. } => deliver(member, service, *count),
-        Event::Noop { .. } => noop(member, service),
-        Event::Show { .. } => show(member, service),
-        Event::Queue { .. } => queue(member, service),
-        Event::Compact { .. } => compact(member, service),
-        Event::Summary { .. } => summarize(member, service),
-        Event::Offer { message, .. } => offer(member, service, message),
-        Event::Overlap {
-            label,
-            start,
-            end,
-            ..
-        } => overlap(member, service, label, *start, *end),
-        Event::Blame { start, end, .. } => blame(member, service, *start, *end),
-        Event::Authors { .. } => authors(member, service),
-        Event::Start { .. }
-        | Event::History
-        | Event::Guest { .. }
-        | Event::Submit { .. }
-        | Event::Part { .. } => unreachable!(),
+    match act {
+        ClientAct::Connect => connect(member, service),
+        ClientAct::Drop => drop_link(member, service),
+        ClientAct::Edit(op) => edit(member, service, op),
+        ClientAct::Ticket(count) => ticket(member, service, *count),
+        ClientAct::Deliver(count) => deliver(member, service, *count),
+        ClientAct::Noop => noop(member, service),
+        ClientAct::Show => show(member, service),
+        ClientAct::Queue => queue(member, service),
+        ClientAct::Compact => compact(member, service),
+        ClientAct::Summary => summarize(member, service),
+        ClientAct::Offer(read) => offer(member, service, read),
+        ClientAct::Overlap(label, start, end) => overlap(member, service, label, *start, *end),
+        ClientAct::Blame(start, end) => blame(member, service, *start, *end),
+        ClientAct::Authors => authors(member, service),
     }
 }

@@ -3,12 +3,15 @@
 ghost use Rattle.std.specs.Prelude.{◌≡◌, ◌+◌, ◌≤◌, ◌^◌, IfOk};
 ghost use Rattle.ft_seqr.specs.WellFormedEvent.{IsWellFormedEvent};
 ghost use Rattle.ft_seqr.specs.World.{NaiveWorld, new_world};
+ghost use Rattle.ft_seqr.specs.declared.events.Event.{Event};
+ghost use Rattle.ft_session.specs.Acts.{ActEffect, IsAct, IsWellFormedAct};
 ghost use Rattle.ft_session.specs.Outputs.{counts_of};
 ghost use Rattle.ft_session.specs.Effects.{SessionEffect};
 ghost use Rattle.ft_session.specs.Steps.{AnswersStep, StandsAtLoad, further_numbers};
 ghost use Rattle.ft_session.specs.Worlds.{AnswersEvent, MembersStand, WorldStands};
 
-use crate::loads::event_load;
+use crate::acts::{Act, act_of};
+use crate::loads::act_load;
 use crate::members::Member;
 use crate::outputs::{Counts, Out};
 use crate::session::Session;
@@ -18,7 +21,7 @@ use ft_seqr::{Event, Refusal};
 use std::alloc::Global;
 use std::marker::Model;
 
-/// The greatest load of a world.
+// The greatest load of a world.
 const LOAD_LIMIT: u64 = 1 << 52;
 
 /// Clients and guests that edit one document over one log, which a sequencer orders. Contracts see it
@@ -160,9 +163,24 @@ fn take<R: Replica + Drop>(
     ensures answers { AnswersStep event.now session.old session.new load result }
     ensures effect { IfOk result (λ taken. SessionEffect R.COMPACTS event.now session.old session.new taken.out) }
 {
-    let more = event_load(session.service.alloc, event)?;
+    let act = act_of(session.service.alloc, event)?;
+    take_act(session, load, act)
+}
+
+// What an event does happens, and its load is added.
+fn take_act<R: Replica + Drop>(
+    session: &mut Session<R>,
+    load: u64,
+    act: Act<'_>,
+) -> Result<Taken, Refusal>
+    requires formed { IsWellFormedAct act }
+    requires stands { StandsAtLoad session.old load }
+    ensures answers { (e : Event) → IsWellFormedEvent e → IsAct act.entry e → AnswersStep e session.old session.new load result }
+    ensures effect { IfOk result (λ taken. ActEffect R.COMPACTS act.entry session.old session.new taken.out) }
+{
+    let more = act_load(&act)?;
     let load = raised(load, more)?;
-    let out = session.happen(event)?;
+    let out = session.happen(act)?;
     let counts = furthest_counts(session.members.as_slice());
     Ok(Taken { out, load, counts })
 }

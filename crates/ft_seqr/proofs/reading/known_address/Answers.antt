@@ -1,5 +1,5 @@
 -- The words are characters; the code compares their bytes, which is the same.
-use Rattle.std.proofs.Common.{codes, ap, refl}
+use Rattle.std.proofs.Common.{ap}
 use Rattle.std.specs.Str.{chars}
 use lib.Utf8.{encode}
 use Rattle.ft_seqr.specs.EventGrammar.{is_known_address}

@@ -1,17 +1,13 @@
--- What the session answers, with the load.
-use Rattle.std.proofs.Common.{◌+◌, ◌∙◌, ap, subst, sym}
-use Rattle.ft_session.specs.Worlds.{MembersStand, SessionState}
-use Rattle.ft_session.proofs.Stepping.{stands-some, step-handed, step-taken}
+-- What the event does is taken.
+use Rattle.ft_session.proofs.ActSteps.{act-formed}
+use Rattle.ft_session.proofs.Stepping.{taken-effect}
 use Rattle.ft_session.proofs.world.take.Goals as goal
 
-pub happen-requires-clause-stands : goal.happen-requires-clause-stands
-happen-requires-clause-stands g c = stands-some c.args.session.now c.args.load c.requires.stands
-
-pub returns-in_err-out-clause-answers : goal.returns-in_err-out-clause-answers
-returns-in_err-out-clause-answers g c = step-handed c.args.event.now c.requires.formed c.args.session.now c.happen.new.self c.args.load c.in_err-out.field-0.0 c.from_residual-in_err-out.result
-    c.from_residual-in_err-out.ensures c.in_err-out.ensures.answers
+pub take_act-requires-clause-formed : goal.take_act-requires-clause-formed
+take_act-requires-clause-formed g c = act-formed c.in_ok-act.act c.args.event.now c.in_ok-act.ensures c.requires.formed
 
 pub returns-clause-answers : goal.returns-clause-answers
-returns-clause-answers g c = step-taken c.args.event.now c.requires.formed c.args.session.now c.happen.new.self c.args.load c.in_ok-out.out c.in_ok-load.load c.furthest_counts-counts.result
-    c.in_ok-out.ensures.answers (c.in_ok-load.ensures.sum ∙ ap (λ n. c.args.load + n) c.in_ok-more.ensures) c.in_ok-load.ensures.low
-    (λ w t. c.furthest_counts-counts.ensures w (subst (λ ms. MembersStand w.log ms w.clients) (sym (c.as_slice.ensures.value ∙ ap (λ (s : SessionState). s.members) c.session-2.view_is)) t))
+returns-clause-answers g c = c.take_act.ensures.answers c.args.event.now c.requires.formed c.in_ok-act.ensures
+
+pub returns-clause-effect : goal.returns-clause-effect
+returns-clause-effect g c = taken-effect g.R.Replica.COMPACTS c.args.event.now c.args.session.now c.take_act.new.session c.in_ok-act.act c.in_ok-act.ensures c.take_act.result c.take_act.ensures.effect

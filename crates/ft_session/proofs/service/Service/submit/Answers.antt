@@ -5,5 +5,5 @@ use Rattle.ft_session.proofs.service.Service.submit.Goals as goal
 
 pub returns : goal.returns
 returns c w h =
-    let (v, e, k) = submit-told c.args.conn c.args.draft.now _ c.submit.new.self c.in_ok-entry.entry c.in_ok-entry.ensures.ok w (c.self.view_is ∙ h) in
+    let (v, e, k) = submit-told c.args.conn c.args.draft _ c.take.new.self c.in_ok-entry.entry c.in_ok-entry.ensures.ok w (c.self.view_is ∙ h) in
     (v, e, c.in_ok-log_entry.ensures ∙ k)

@@ -1,0 +1,6 @@
+-- The text is read.
+use Rattle.std.proofs.Common.{refl}
+use Rattle.ft_session.proofs.acts.submission.Goals as goal
+
+pub returns : goal.returns
+returns c = (c.args.text.now, refl, c.in_ok-read.ensures)
