@@ -2,24 +2,26 @@
 use Rattle.std.proofs.Common.{◌≡◌, ℕ, zero, suc, ◌+◌, ◌<◌, Bool, true, false, cond, ◌||◌, List, [], ◌∷◌, ◌++◌, length, slice_index_or, Option, Some, None, refl, sym, ◌∙◌, ap, subst, arith}
 use Rattle.std.proofs.Math.ListN.{set}
 use Rattle.std.specs.Result.{IsErr, IsErrAnd}
-use Rattle.std.specs.Prelude.{IsSome, Result, Ok, Err, is_some}
+use Rattle.std.specs.Prelude.{Result, Ok, Err, is_some}
 use Rattle.std.specs.List.{find, list_any, position, position_from, slice_get}
 use Rattle.std.proofs.lemmas.Iterator.Adapters.{position_from-zero}
 use Rattle.std.proofs.lemmas.List.Quantifiers.{position-Some}
 use Rattle.std.proofs.lemmas.Option.{slice_get_read}
 use Rattle.ft_seqr.specs.declared.refusals.Refusal.{Refusal}
 use Rattle.ft_seqr.specs.declared.refusals.Refusal.TheVariants.{Pending, UnknownClient}
-use Rattle.ft_map.specs.declared.events.MapEvent.{MapEvent}
 use Rattle.ft_map.specs.declared.events.MapEvent.TheVariants as event
+use Rattle.ft_map.specs.declared.events.MapEvent.{MapEvent}
 use Rattle.ft_map.specs.declared.events.MapOut.{MapOut}
 use Rattle.ft_map.specs.declared.events.MapOut.TheVariants as out
 use Rattle.ft_map.specs.MapClient.{MapClient, client_over}
 use Rattle.ft_map.specs.declared.ops.MapOp.{MapOp}
+use Rattle.ft_map.specs.declared.world.MapAct.{MapAct}
 use Rattle.ft_map.specs.Maps.{Characters}
-use Rattle.ft_map.specs.MapSession.{MapService, MapSession, MapStepped, NamedMapClient, Nothing, Summary, asked, is_client, name_fault, of_client, replaced, settled, start_client, started, step, summary_client, unless_pending}
+use Rattle.ft_map.specs.MapActs.{turn_of}
+use Rattle.ft_map.specs.MapSession.{MapService, MapSession, MapStepped, MapTurned, NamedMapClient, Nothing, Summary, asked, is_client, name_fault, of_client, replaced, settled, start_client, started, step, summary_client, unless_pending}
 use Rattle.ft_seqr.specs.RefusalKinds.{refusal_kind}
 use Rattle.ft_seqr.proofs.RefusalKinds.{means-weaker}
-use Rattle.ft_map.specs.MapWorlds.{AnswersPending, AnswersSession, AnswersStart, AnswersTurn, HasNoNack, event_client, event_turn}
+use Rattle.ft_map.specs.MapWorlds.{AnswersPending, AnswersSession, AnswersStart, AnswersTurn, HasNoNack}
 
 -- what a search by name finds: the client at a place, which is the first of that name
 pub record Found (name : Characters) (cs : List NamedMapClient) (i : ℕ) : Type 0 where
@@ -92,35 +94,17 @@ same_set (y ∷ xs) (suc i) x h = ap (λ zs. y ∷ zs) (same_set xs i x h)
 
 -- ---- events
 
-same_name : (name other : Characters) → Some other ≡ Some name → other ≡ name
-same_name name other h = (cc)
-
--- an event of a client is its turn
-pub turn_of : (w : MapSession) (e : MapEvent) (name : Characters) → event_client e ≡ Some name → step w e ≡ of_client w name (event_turn e)
-turn_of w (event.Start n from) name h = absurd cc
-turn_of w (event.Connect n) name h = ap (λ (x : Characters). of_client w x (event_turn (event.Connect n))) (same_name name n h)
-turn_of w (event.Drop n) name h = ap (λ (x : Characters). of_client w x (event_turn (event.Drop n))) (same_name name n h)
-turn_of w (event.Edit n op) name h = ap (λ (x : Characters). of_client w x (event_turn (event.Edit n op))) (same_name name n h)
-turn_of w (event.Ticket n many) name h = ap (λ (x : Characters). of_client w x (event_turn (event.Ticket n many))) (same_name name n h)
-turn_of w (event.Deliver n many) name h = ap (λ (x : Characters). of_client w x (event_turn (event.Deliver n many))) (same_name name n h)
-turn_of w (event.Show n) name h = ap (λ (x : Characters). of_client w x (event_turn (event.Show n))) (same_name name n h)
-turn_of w (event.Summary n) name h = ap (λ (x : Characters). of_client w x (event_turn (event.Summary n))) (same_name name n h)
-
-pub some-client : (e : MapEvent) (name : Characters) → event_client e ≡ Some name → IsSome (event_client e)
-some-client e name h = subst (λ (o : Option Characters). IsSome o) (sym h) refl
-
 -- nobody has the name
-pub unknown : (w : MapSession) (e : MapEvent) (name : Characters) → event_client e ≡ Some name → position (is_client name) w.clients ≡ None → step w e ≡ Err UnknownClient
-unknown w e name h p = turn_of w e name h
-    ∙ ap (λ (o : Option NamedMapClient). elim o as (λ _. MapStepped) [ None ↦ Err UnknownClient | Some c ↦ settled w name (event_turn e w.service c) ]) (not_found name w.clients p)
+pub unknown : (w : MapSession) (name : Characters) (turn : MapService → NamedMapClient → MapTurned) → position (is_client name) w.clients ≡ None → of_client w name turn ≡ Err UnknownClient
+unknown w name turn p =
+    ap (λ (o : Option NamedMapClient). elim o as (λ _. MapStepped) [ None ↦ Err UnknownClient | Some c ↦ settled w name (turn w.service c) ]) (not_found name w.clients p)
 
-module _ (w : MapSession) (e : MapEvent) (name : Characters) (i : ℕ) (c : NamedMapClient) (named : event_client e ≡ Some name) (at : position (is_client name) w.clients ≡ Some i) (is : slice_get w.clients i ≡ Some c) where
-  settles : step w e ≡ settled w name (event_turn e w.service c)
+module _ (w : MapSession) (name : Characters) (turn : MapService → NamedMapClient → MapTurned) (i : ℕ) (c : NamedMapClient) (at : position (is_client name) w.clients ≡ Some i) (is : slice_get w.clients i ≡ Some c) where
+  settles : of_client w name turn ≡ settled w name (turn w.service c)
   settles =
       let f = found name i w.clients at in
       let same : f.client ≡ c = (let h : Some f.client ≡ Some c = sym f.at ∙ is in cc) in
-      turn_of w e name named
-      ∙ ap (λ (o : Option NamedMapClient). elim o as (λ _. MapStepped) [ None ↦ Err UnknownClient | Some d ↦ settled w name (event_turn e w.service d) ]) (f.found ∙ ap Some same)
+      ap (λ (o : Option NamedMapClient). elim o as (λ _. MapStepped) [ None ↦ Err UnknownClient | Some d ↦ settled w name (turn w.service d) ]) (f.found ∙ ap Some same)
 
   unchanged : (new : NamedMapClient) (after : MapService) → new ≡ c → after ≡ w.service → record { clients = set w.clients i new; service = after } ≡ w
   unchanged new after h k =
@@ -129,12 +113,12 @@ module _ (w : MapSession) (e : MapEvent) (name : Characters) (i : ℕ) (c : Name
       ∙ ap (λ (cs : List NamedMapClient). let v : MapSession = record { clients = cs; service = w.service } in v) (same_set w.clients i c is)
 
   -- and what doesn't refuse it doesn't refuse its client
-  pub turn-taken : HasNoNack (step w e) → HasNoNack (event_turn e w.service c)
+  pub turn-taken : HasNoNack (of_client w name turn) → HasNoNack (turn w.service c)
   turn-taken h = λ nack t. h nack (settles ∙ ap (settled w name) t)
 
   -- the session answers as its client does
-  pub answered : (new : NamedMapClient) (after : MapService) (result : Result MapOut Refusal) → AnswersTurn c new w.service after (event_turn e w.service c) result
-      → AnswersSession w (record { clients = set w.clients i new; service = after }) (step w e) result
+  pub answered : (new : NamedMapClient) (after : MapService) (result : Result MapOut Refusal) → AnswersTurn c new w.service after (turn w.service c) result
+      → AnswersSession w (record { clients = set w.clients i new; service = after }) (of_client w name turn) result
   answered new after (Ok out) (output, turned, told) = (
     output,
     settles ∙ ap (settled w name) turned ∙ ap (λ (cs : List NamedMapClient). Ok (record { clients = cs; service = after }, output)) ((found name i w.clients at).put new),
@@ -197,3 +181,17 @@ module _ (w : MapSession) (from : Characters) where
     pub begin-copied : (x : MapClient) → c.client.state.pending ≡ [] → x ≡ client_over c.client.state.acked c.client.number c.client.minimum → AnswersStart w (Some from) (Ok x)
     begin-copied x none h = λ name.
         ap (begins name) there ∙ nothing-pending c.client (started w name (client_over c.client.state.acked c.client.number c.client.minimum)) none ∙ ap (started w name) (sym h)
+
+-- ---- as the code has them
+
+-- what a session answers to an event, by what the event is
+pub as-event : (w new : MapSession) {e done : MapEvent} (result : Result MapOut Refusal) → e ≡ done → AnswersSession w new (step w done) result → AnswersSession w new (step w e) result
+as-event w new {e} {done} result h a = subst (λ (x : MapEvent). AnswersSession w new (step w x) result) (sym h) a
+
+pub no-nack_as : (w : MapSession) {e done : MapEvent} → e ≡ done → HasNoNack (step w e) → HasNoNack (step w done)
+no-nack_as w {e} {done} h n = subst (λ (x : MapEvent). HasNoNack (step w x)) h n
+
+-- what a client answers to what happens to it, by what that is
+pub as-turn : (old new : NamedMapClient) (before after : MapService) {act done : MapAct} (result : Result MapOut Refusal) → act ≡ done
+    → AnswersTurn old new before after (turn_of done before old) result → AnswersTurn old new before after (turn_of act before old) result
+as-turn old new before after {act} {done} result h a = subst (λ (x : MapAct). AnswersTurn old new before after (turn_of x before old) result) (sym h) a

@@ -7,4 +7,5 @@ pub mod MapEventReader
 pub mod MapReport
 pub mod MapRows
 pub mod MapViews
+pub mod MapActs
 pub mod MapWorlds

@@ -8,7 +8,6 @@ use Rattle.ft_seqr.specs.declared.refusals.Refusal.TheVariants.{Nacked, NotConne
 use Rattle.ft_seqr.specs.declared.nacks.Nack.{Nack}
 use Rattle.ft_seqr.specs.RefusalKinds.{MeansOf, Refused, refusal_kind}
 use Rattle.ft_map.specs.declared.events.MapEvent.{MapEvent}
-use Rattle.ft_map.specs.declared.events.MapEvent.TheVariants as event
 use Rattle.ft_map.specs.declared.events.MapOut.{MapOut}
 use Rattle.ft_map.specs.declared.events.MapOut.TheVariants as out
 use Rattle.ft_map.specs.declared.ops.MapOp.{MapOp}
@@ -16,7 +15,7 @@ use Rattle.ft_map.specs.declared.ops.MapPair.{MapPair}
 use Rattle.ft_map.specs.Maps.{Characters, ValueBytes, pairs_of}
 use Rattle.ft_map.specs.MapClient.{MapClient, view_of}
 use Rattle.ft_map.specs.MapReport.{summary_text}
-use Rattle.ft_map.specs.MapSession.{MapOutput, MapService, MapSession, MapStepped, MapTurned, NamedMapClient, Nothing, Summary, View, asked, connect_client, deliver_client, drop_client, edit_client, left, show_client, start_client, started, step, summary_client, ticket_client}
+use Rattle.ft_map.specs.MapSession.{MapOutput, MapService, MapSession, MapStepped, MapTurned, NamedMapClient, Nothing, Summary, View, left, start_client, started, step}
 
 -- a world: its session, and whether it stopped
 pub record MapWorldState : Type 0 where
@@ -57,30 +56,6 @@ IsWritable entry = IsUtf8 (encode_utf8_all entry.0) × IsCanonicalText entry.1
 -- the sequencer isn't what refuses
 abbrev pub HasNoNack : {A : Type 0} → Result A Refusal → Type 0
 HasNoNack r = (nack : Nack) → r ≡ Err (Nacked nack) → ⊥
-
--- ---- events
-
--- the client of an event, if it is of one that is there
-abbrev pub event_client : MapEvent → Option Characters
-event_client (event.Start name from) = None
-event_client (event.Connect name) = Some name
-event_client (event.Drop name) = Some name
-event_client (event.Edit name op) = Some name
-event_client (event.Ticket name many) = Some name
-event_client (event.Deliver name many) = Some name
-event_client (event.Show name) = Some name
-event_client (event.Summary name) = Some name
-
--- what becomes of such an event, and of another one nothing
-abbrev pub event_turn : MapEvent → MapService → NamedMapClient → MapTurned
-event_turn (event.Start name from) s c = asked s c Nothing
-event_turn (event.Connect name) s c = connect_client s c
-event_turn (event.Drop name) s c = drop_client s c
-event_turn (event.Edit name op) s c = edit_client op s c
-event_turn (event.Ticket name many) s c = ticket_client many s c
-event_turn (event.Deliver name many) s c = deliver_client many s c
-event_turn (event.Show name) s c = show_client s c
-event_turn (event.Summary name) s c = summary_client s c
 
 -- ---- what is answered
 

@@ -145,7 +145,7 @@ fn submit_next(client: &mut MapReplica, service: &mut Service, conn: u32) -> Res
     ensures client { OnOk result (client.new ≡ record client.old { queue = drop 1 client.old.queue }) }
 {
     match client.take_outgoing() {
-        Some(MapDraft { draft, op }) => service.submit(conn, &draft, op),
+        Some(MapDraft { draft, op }) => service.submit(conn, draft, op),
         None => Ok(()),
     }
 }

@@ -27,7 +27,7 @@ pub fn read_map_event(alloc: Global, line: &[u8]) -> Result<MapEvent, Refusal>
     Ok(read_event_text(alloc, line)?)
 }
 
-/// The event that the line is, or the cause why it is none.
+// The event that the line is, or the cause why it is none.
 #[tactic(auto, unfolding(crate::specs::MapGrammar::map_event))]
 fn read_event_text(alloc: Global, line: &[u8]) -> Result<MapEvent, Cause>
     ensures ok { IfOk result (λ e. map_event line.now ≡ Ok e) }
@@ -37,7 +37,7 @@ fn read_event_text(alloc: Global, line: &[u8]) -> Result<MapEvent, Cause>
     read_event_value(alloc, &value)
 }
 
-/// The event that the value is.
+// The event that the value is.
 #[tactic(auto, unfolding(crate::specs::MapGrammar::event_of))]
 fn read_event_value(alloc: Global, value: &Value) -> Result<MapEvent, Cause>
     ensures ok { IfOk result (λ e. event_of (view value.now) ≡ Ok e) }
@@ -49,7 +49,7 @@ fn read_event_value(alloc: Global, value: &Value) -> Result<MapEvent, Cause>
     read_event_for(alloc, value, str_field(value, Field::Do)?)
 }
 
-/// The event of this word.
+// The event of this word.
 fn read_event_for(alloc: Global, value: &Value, word: &str) -> Result<MapEvent, Cause>
     ensures ok { IfOk result (λ e. event_for word.now (view value.now) ≡ Ok e) }
     ensures err { IfErr result (λ cause. cause ≢ Cause.OutOfMemory → event_for word.now (view value.now) ≡ Err cause) }
@@ -67,7 +67,7 @@ fn read_event_for(alloc: Global, value: &Value, word: &str) -> Result<MapEvent, 
     }
 }
 
-/// A connection for the client.
+// A connection for the client.
 #[tactic(auto, unfolding(crate::specs::MapGrammar::event_of_client))]
 fn read_connect(alloc: Global, value: &Value) -> Result<MapEvent, Cause>
     ensures ok { IfOk result (λ e. event_of_client Connect (view value.now) ≡ Ok e) }
@@ -77,7 +77,7 @@ fn read_connect(alloc: Global, value: &Value) -> Result<MapEvent, Cause>
     Ok(MapEvent::Connect { client })
 }
 
-/// The loss of the client's connection.
+// The loss of the client's connection.
 #[tactic(auto, unfolding(crate::specs::MapGrammar::event_of_client))]
 fn read_drop(alloc: Global, value: &Value) -> Result<MapEvent, Cause>
     ensures ok { IfOk result (λ e. event_of_client Drop (view value.now) ≡ Ok e) }
@@ -87,7 +87,7 @@ fn read_drop(alloc: Global, value: &Value) -> Result<MapEvent, Cause>
     Ok(MapEvent::Drop { client })
 }
 
-/// The client's view.
+// The client's view.
 #[tactic(auto, unfolding(crate::specs::MapGrammar::event_of_client))]
 fn read_show(alloc: Global, value: &Value) -> Result<MapEvent, Cause>
     ensures ok { IfOk result (λ e. event_of_client Show (view value.now) ≡ Ok e) }
@@ -97,7 +97,7 @@ fn read_show(alloc: Global, value: &Value) -> Result<MapEvent, Cause>
     Ok(MapEvent::Show { client })
 }
 
-/// The client's summary.
+// The client's summary.
 #[tactic(auto, unfolding(crate::specs::MapGrammar::event_of_client))]
 fn read_summary(alloc: Global, value: &Value) -> Result<MapEvent, Cause>
     ensures ok { IfOk result (λ e. event_of_client Summary (view value.now) ≡ Ok e) }
@@ -107,7 +107,7 @@ fn read_summary(alloc: Global, value: &Value) -> Result<MapEvent, Cause>
     Ok(MapEvent::Summary { client })
 }
 
-/// So many of the client's oldest unsent messages are submitted.
+// So many of the client's oldest unsent messages are submitted.
 #[tactic(auto, unfolding(crate::specs::MapGrammar::counted_event))]
 fn read_ticket(alloc: Global, value: &Value) -> Result<MapEvent, Cause>
     ensures ok { IfOk result (λ e. counted_event Ticket (view value.now) ≡ Ok e) }
@@ -118,7 +118,7 @@ fn read_ticket(alloc: Global, value: &Value) -> Result<MapEvent, Cause>
     Ok(MapEvent::Ticket { client, count })
 }
 
-/// The client processes so many of the next messages.
+// The client processes so many of the next messages.
 #[tactic(auto, unfolding(crate::specs::MapGrammar::counted_event))]
 fn read_deliver(alloc: Global, value: &Value) -> Result<MapEvent, Cause>
     ensures ok { IfOk result (λ e. counted_event Deliver (view value.now) ≡ Ok e) }
@@ -129,7 +129,7 @@ fn read_deliver(alloc: Global, value: &Value) -> Result<MapEvent, Cause>
     Ok(MapEvent::Deliver { client, count })
 }
 
-/// A new client.
+// A new client.
 #[tactic(auto, unfolding(crate::specs::MapGrammar::start_event))]
 fn read_start(alloc: Global, value: &Value) -> Result<MapEvent, Cause>
     ensures ok { IfOk result (λ e. start_event (view value.now) ≡ Ok e) }
@@ -140,7 +140,7 @@ fn read_start(alloc: Global, value: &Value) -> Result<MapEvent, Cause>
     Ok(MapEvent::Start { client, from })
 }
 
-/// An edit of the client's own.
+// An edit of the client's own.
 #[tactic(auto, unfolding(crate::specs::MapGrammar::edit_event))]
 fn read_edit(alloc: Global, value: &Value) -> Result<MapEvent, Cause>
     ensures ok { IfOk result (λ e. edit_event (view value.now) ≡ Ok e) }
@@ -151,7 +151,7 @@ fn read_edit(alloc: Global, value: &Value) -> Result<MapEvent, Cause>
     Ok(MapEvent::Edit { client, op })
 }
 
-/// The operation of an edit, which has to be there, and an object.
+// The operation of an edit, which has to be there, and an object.
 fn read_edit_op(alloc: Global, value: Option<&Value>) -> Result<MapOp, Cause>
     ensures ok { IfOk result (λ op. edit_op (option_map (λ d. view d.now) value.entry) ≡ Ok op) }
     ensures err { IfErr result (λ cause. cause ≢ Cause.OutOfMemory → edit_op (option_map (λ d. view d.now) value.entry) ≡ Err cause) }
@@ -163,7 +163,7 @@ fn read_edit_op(alloc: Global, value: Option<&Value>) -> Result<MapOp, Cause>
     read_op(alloc, value)
 }
 
-/// The operation that the object is.
+// The operation that the object is.
 #[tactic(auto, unfolding(crate::specs::MapGrammar::map_op))]
 fn read_op(alloc: Global, value: &Value) -> Result<MapOp, Cause>
     ensures ok { IfOk result (λ op. map_op (view value.now) ≡ Ok op) }
@@ -172,7 +172,7 @@ fn read_op(alloc: Global, value: &Value) -> Result<MapOp, Cause>
     read_typed_op(alloc, value, str_field(value, Field::Kind)?)
 }
 
-/// The operation of this type.
+// The operation of this type.
 fn read_typed_op(alloc: Global, value: &Value, word: &str) -> Result<MapOp, Cause>
     ensures ok { IfOk result (λ op. typed_op word.now (view value.now) ≡ Ok op) }
     ensures err { IfErr result (λ cause. cause ≢ Cause.OutOfMemory → typed_op word.now (view value.now) ≡ Err cause) }
@@ -185,7 +185,7 @@ fn read_typed_op(alloc: Global, value: &Value, word: &str) -> Result<MapOp, Caus
     }
 }
 
-/// A key that gets a value.
+// A key that gets a value.
 #[tactic(auto, unfolding(crate::specs::MapGrammar::set_op))]
 fn read_set(alloc: Global, value: &Value) -> Result<MapOp, Cause>
     ensures ok { IfOk result (λ op. set_op (view value.now) ≡ Ok op) }
@@ -196,7 +196,7 @@ fn read_set(alloc: Global, value: &Value) -> Result<MapOp, Cause>
     Ok(MapOp::Set { key, value })
 }
 
-/// The text of the value that a key gets, which has to be there.
+// The text of the value that a key gets, which has to be there.
 fn read_set_value(alloc: Global, value: Option<&Value>) -> Result<ValText, Cause>
     ensures ok { IfOk result (λ text. set_value (option_map (λ d. view d.now) value.entry) ≡ Ok text) }
     ensures err { IfErr result (λ cause. cause ≢ Cause.OutOfMemory → set_value (option_map (λ d. view d.now) value.entry) ≡ Err cause) }
@@ -205,7 +205,7 @@ fn read_set_value(alloc: Global, value: Option<&Value>) -> Result<ValText, Cause
     Ok(canonical(alloc, value)?)
 }
 
-/// A key that is taken away.
+// A key that is taken away.
 #[tactic(auto, unfolding(crate::specs::MapGrammar::delete_op))]
 fn read_delete(alloc: Global, value: &Value) -> Result<MapOp, Cause>
     ensures ok { IfOk result (λ op. delete_op (view value.now) ≡ Ok op) }

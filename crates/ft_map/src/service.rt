@@ -73,11 +73,11 @@ impl Service {
     }
 
     /// A draft of the connection, with this operation, is submitted.
-    pub(crate) fn submit(&mut self, conn: u32, draft: &Draft, op: MapOp) -> Result<(), OutOfMemory>
-        requires { HasNoNack (submit_one self.old conn (record { draft = draft.now; op = op })) }
-        ensures { OnOk result (submit_one self.old conn (record { draft = draft.now; op = op }) ≡ Ok self.new) }
+    pub(crate) fn submit(&mut self, conn: u32, draft: Draft, op: MapOp) -> Result<(), OutOfMemory>
+        requires { HasNoNack (submit_one self.old conn (record { draft = draft; op = op })) }
+        ensures { OnOk result (submit_one self.old conn (record { draft = draft; op = op }) ≡ Ok self.new) }
     {
-        match self.sequencer.submit(conn, draft) {
+        match self.sequencer.take(conn, draft) {
             Ok(entry) => self.log_entry(entry, Some(op)),
             Err(SubmitFault::OutOfMemory) => Err(OutOfMemory),
             Err(SubmitFault::Nack(_nack)) => unreachable!(),

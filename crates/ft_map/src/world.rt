@@ -1,19 +1,21 @@
 //! Worlds of maps.
 
-ghost use Rattle.std.specs.Prelude.{◌≡◌, [], ◌∷◌, ◌++◌, Some, IsSome, OnOk, false, option_copied};
+ghost use Rattle.std.specs.Prelude.{◌≡◌, [], ◌∷◌, ◌++◌, Some, OnOk, false};
 ghost use Rattle.ft_map.specs.MapViews.{IsReached};
-ghost use Rattle.ft_map.specs.MapSession.{name_fault, new_session, step};
-ghost use Rattle.ft_map.specs.MapWorlds.{AnswersMapEvent, AnswersName, AnswersSession, AnswersStart, AnswersTurn, HasNoNack, event_client, event_turn};
+ghost use Rattle.ft_map.specs.MapSession.{name_fault, new_session, of_client, step};
+ghost use Rattle.ft_map.specs.MapActs.{turn_of};
+ghost use Rattle.ft_map.specs.MapWorlds.{AnswersMapEvent, AnswersName, AnswersSession, AnswersStart, AnswersTurn, HasNoNack};
 
 use crate::events::{MapEvent, MapOut};
 use crate::members::{
     Member, connect, deliver, drop_link, edit, has_member, place_of, show, summarize, ticket,
 };
+use crate::ops::MapOp;
 use crate::replica::MapReplica;
 use crate::service::Service;
 use crate::shared::SharedMap;
 use ft_base::{Datum, OutOfMemory, Text};
-use ft_seqr::{NAME_LIMIT, Refusal};
+use ft_seqr::{HowMany, NAME_LIMIT, Refusal};
 use std::alloc::Global;
 use std::marker::Model;
 
@@ -97,30 +99,27 @@ impl Session {
         requires { HasNoNack (step self.old event.now) }
         ensures { AnswersSession self.old self.new (step self.old event.now) result }
     {
-        if let Some(name) = client_of(event) {
-            return self.happen_to(name, event);
-        }
         match event {
             MapEvent::Start { client, from } => self.start(client, from),
-            _ => unreachable!(),
+            MapEvent::Connect { client } => self.happen_to(client, MapAct::Connect),
+            MapEvent::Drop { client } => self.happen_to(client, MapAct::Drop),
+            MapEvent::Edit { client, op } => self.happen_to(client, MapAct::Edit(op)),
+            MapEvent::Ticket { client, count } => self.happen_to(client, MapAct::Ticket(*count)),
+            MapEvent::Deliver { client, count } => self.happen_to(client, MapAct::Deliver(*count)),
+            MapEvent::Show { client } => self.happen_to(client, MapAct::Show),
+            MapEvent::Summary { client } => self.happen_to(client, MapAct::Summary),
         }
     }
 
-    // An event happens to the client of that name.
-    fn happen_to(&mut self, name: &Text, event: &MapEvent) -> Result<MapOut, Refusal>
-        requires client { event_client event.now ≡ Some name.now }
-        requires sequenced { HasNoNack (step self.old event.now) }
-        ensures { AnswersSession self.old self.new (step self.old event.now) result }
+    // This happens to the client of that name.
+    fn happen_to(&mut self, name: &Text, act: MapAct<'_>) -> Result<MapOut, Refusal>
+        requires { HasNoNack (of_client self.old name.now (turn_of act)) }
+        ensures { AnswersSession self.old self.new (of_client self.old name.now (turn_of act.entry)) result }
     {
         let Some(place) = place_of(self.members.as_slice(), name) else {
             return Err(Refusal::UnknownClient);
         };
-        happen_to_member(
-            self.alloc,
-            &mut self.members[place],
-            &mut self.service,
-            event,
-        )
+        happen_to_member(self.alloc, &mut self.members[place], &mut self.service, act)
     }
 
     // A new client, empty, or with the map and the numbers of the client of the second name.
@@ -184,41 +183,35 @@ impl Session {
     }
 }
 
-// The client of an event, if it is of one that is there.
-fn client_of(event: &MapEvent) -> Option<&Text>
-    ensures { option_copied result ≡ event_client event.now }
-{
-    match event {
-        MapEvent::Connect { client }
-        | MapEvent::Drop { client }
-        | MapEvent::Edit { client, .. }
-        | MapEvent::Ticket { client, .. }
-        | MapEvent::Deliver { client, .. }
-        | MapEvent::Show { client }
-        | MapEvent::Summary { client } => Some(client),
-        MapEvent::Start { .. } => None,
-    }
+// What happens to a client.
+#[derive(Clone, Copy)]
+enum MapAct<'a> {
+    Connect,
+    Drop,
+    Edit(&'a MapOp),
+    Ticket(HowMany),
+    Deliver(HowMany),
+    Show,
+    Summary,
 }
 
-// An event happens to its client.
+// This happens to a client.
 fn happen_to_member(
     alloc: Global,
     member: &mut Member,
     service: &mut Service,
-    event: &MapEvent,
+    act: MapAct<'_>,
 ) -> Result<MapOut, Refusal>
-    requires client { IsSome (event_client event.now) }
-    requires sequenced { HasNoNack (event_turn event.now service.old member.old) }
-    ensures { AnswersTurn member.old member.new service.old service.new (event_turn event.now service.old member.old) result }
+    requires { HasNoNack (turn_of act service.old member.old) }
+    ensures { AnswersTurn member.old member.new service.old service.new (turn_of act.entry service.old member.old) result }
 {
-    match event {
-        MapEvent::Connect { .. } => connect(alloc, member, service),
-        MapEvent::Drop { .. } => drop_link(member, service),
-        MapEvent::Edit { op, .. } => edit(member, service, op),
-        MapEvent::Ticket { count, .. } => ticket(member, service, *count),
-        MapEvent::Deliver { count, .. } => deliver(member, service, *count),
-        MapEvent::Show { .. } => show(member, service),
-        MapEvent::Summary { .. } => summarize(alloc, member, service),
-        MapEvent::Start { .. } => unreachable!(),
+    match act {
+        MapAct::Connect => connect(alloc, member, service),
+        MapAct::Drop => drop_link(member, service),
+        MapAct::Edit(op) => edit(member, service, op),
+        MapAct::Ticket(count) => ticket(member, service, count),
+        MapAct::Deliver(count) => deliver(member, service, count),
+        MapAct::Show => show(member, service),
+        MapAct::Summary => summarize(alloc, member, service),
     }
 }
