@@ -1,12 +1,18 @@
 -- What a document answers to the client's own sub-operations. Of the document after OutOfMemory the answers say nothing.
-use Rattle.std.specs.Prelude.{◌≡◌, ⊤, List, ◌++◌, Result, Ok, Err}
+use Rattle.std.specs.Prelude.{◌≡◌, ⊤, ℕ, List, ◌++◌, Result, Ok, Err, codes}
 use Rattle.ft_msg.specs.declared.faults.EditFault.{EditFault}
 use Rattle.ft_op.specs.Document.{Document}
 use Rattle.ft_op.specs.Intervals.{NamedElements}
 use Rattle.ft_op.specs.Stages.{Stage}
 use Rattle.ft_msg.specs.Client.{EditResult}
+use Rattle.ft_msg.specs.FaultTexts.{edit_fault_text}
 use Rattle.ft_plain_document.specs.declared.documents.own_edits.NotTaken.{NotTaken}
 use Rattle.ft_plain_document.specs.declared.documents.own_edits.NotTaken.TheVariants.{OutOfMemory, Refused}
+
+-- what is written of a sub-operation that isn't taken: as which edit it is refused
+abbrev pub not_taken_text : NotTaken → List ℕ
+not_taken_text OutOfMemory = codes "OutOfMemory"
+not_taken_text (Refused fault) = edit_fault_text fault
 
 -- the answer to a sub-operation: the elements that it names, where the step makes the new document; or the step's refusal, and then
 -- nothing changed

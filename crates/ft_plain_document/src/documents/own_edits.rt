@@ -17,6 +17,8 @@ use ft_msg::EditFault;
 use ft_op::{BaseOp, CellOp, Seg, Target};
 use ft_plain_lists::{Before, ElementNames, PlainList};
 use ft_props::{Changes, PropSet, Props};
+use std::error::Error;
+use std::fmt;
 
 /// Why a sub-operation of the client's own isn't taken.
 #[derive(Clone, Copy, Debug, PartialEq, Eq)]
@@ -26,6 +28,22 @@ pub enum NotTaken {
     /// It is refused.
     Refused(EditFault),
 }
+
+impl fmt::Display for NotTaken {
+    ghost use Rattle.std.specs.Prelude.{Some};
+    ghost use Rattle.ft_plain_document.specs.OwnEdits.{not_taken_text};
+
+    ghost output = { λ why. Some (not_taken_text why) };
+
+    fn fmt<W: fmt::Write>(&self, f: &mut fmt::Formatter<W>) -> fmt::Result {
+        match *self {
+            NotTaken::OutOfMemory => write!(f, "OutOfMemory"),
+            NotTaken::Refused(fault) => write!(f, "{fault}"),
+        }
+    }
+}
+
+impl Error for NotTaken {}
 
 impl From<OutOfMemory> for NotTaken {
     ghost use Rattle.std.specs.Prelude.{◌≡◌};
