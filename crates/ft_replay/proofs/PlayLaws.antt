@@ -35,7 +35,7 @@ compares_first agreement (d ∷ ds) c content none h is =
 -- a further client
 pub compares_next : (agreement : Agreement) (shown : List NamedClient) (c : NamedClient) (content first : String Global) (one next : List ℕ) (all : Bool) → one ≡ string_bytes first → next ≡ string_bytes content → agreement.first ≡ Some first
     → Compares agreement shown → string_bytes content ≡ shown_text c → all ≡ (agreement.all && bytes_eq one next)
-    → Compares (record { first = Some first; all = all }) (shown ++ c ∷ [])
+    → Compares (record agreement { all = all }) (shown ++ c ∷ [])
 compares_next agreement [] c content first one next all is_one is_next some h is both =
     let e : Some (string_bytes first) ≡ None = ap (λ (o : Option (String Global)). option_map string_bytes o) (sym some) ∙ h.first in
     (cc)
@@ -43,7 +43,7 @@ compares_next agreement (d ∷ ds) c content first one next all is_one is_next s
     let e : Some (string_bytes first) ≡ Some (shown_text d) = ap (λ (o : Option (String Global)). option_map string_bytes o) (sym some) ∙ h.first in
     let same : string_bytes first ≡ shown_text d = cc in
     record {
-      first = e;
+      first = h.first;
       all = both ∙ ap (λ b. b && bytes_eq one next) h.all
           ∙ ap (λ text. list_all (λ x. bytes_eq (shown_text d) (shown_text x)) ds && bytes_eq text next) (is_one ∙ same)
           ∙ ap (λ text. list_all (λ x. bytes_eq (shown_text d) (shown_text x)) ds && bytes_eq (shown_text d) text) (is_next ∙ is)

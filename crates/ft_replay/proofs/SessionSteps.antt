@@ -1,5 +1,6 @@
 -- What a world answers to an event, and what a session of the program tells of it and holds then.
-use Rattle.std.proofs.Common.{◌≡◌, ℕ, List, Some, None, Ok, Err, refl, sym, ap, subst}
+use Rattle.std.proofs.Common.{◌≡◌, ℕ, List, Some, None, Result, Ok, Err, refl, sym, ap, subst}
+use Rattle.std.specs.Prelude.{IfOk}
 use Rattle.ft_seqr.specs.declared.events.Event.{Event}
 use Rattle.ft_seqr.specs.declared.refusals.Refusal.{Refusal}
 use Rattle.ft_seqr.specs.declared.refusals.Refusal.TheVariants.{OutOfMemory, Stopped}
@@ -51,3 +52,10 @@ module _ {old new : WorldState} (w : NaiveWorld) (e : Event) (stands : WorldStan
   told-taken out said answers text taken =
       let a = answers.runs w stands in
       subst (λ s. IsStep (WorldStands new) said (answer as_shown w s)) (sym a.1) (record { holds = a.2; text = text a.0.0 a.0.1 a.3; refusal = taken })
+
+  -- the same as far as what it wrote can be told
+  pub told-by : {E : Type 0} (out : Out) (r : Result Told E) → AnswersEvent e old new (Ok out)
+      → ((v : NaiveWorld) (output : Output) → Tells output out → IfOk r (λ said. told_text said ≡ bytes_of (output_lines as_shown v output)))
+      → IfOk r (λ said. told_refusal said ≡ None) → IfOk r (λ said. IsStep (WorldStands new) said (answer as_shown w (step w e)))
+  told-by out (Ok said) answers text taken = told-taken out said answers text taken
+  told-by out (Err fault) answers text taken = tt

@@ -65,17 +65,21 @@ impl Listener for MapRun {
 
 impl MapRun {
     // The session after an event, and what is told of it.
-    fn take_event(self, event: &MapEvent) -> Result<(MapRun, Told), OutOfMemory>
+    fn take_event(mut self, event: &MapEvent) -> Result<(MapRun, Told), OutOfMemory>
         ensures { (w : MapSession) → self.world ≡ running w → IfOk result (λ p. IsStep (λ v. p.0.world ≡ running v) p.1 (answer w (step w event.now))) }
     {
-        let MapRun { alloc, mut world } = self;
-        match world.step(event) {
-            Ok(out) => {
-                let told = told_map_output(alloc, &out)?;
-                Ok((MapRun { alloc, world }, told))
-            }
+        let told = self.tell(event)?;
+        Ok((self, told))
+    }
+
+    // Takes an event, and says what is told of it.
+    fn tell(&mut self, event: &MapEvent) -> Result<Told, OutOfMemory>
+        ensures { (w : MapSession) → self.old.world ≡ running w → IfOk result (λ told. IsStep (λ v. self.new.world ≡ running v) told (answer w (step w event.now))) }
+    {
+        match self.world.step(event) {
+            Ok(out) => told_map_output(self.alloc, &out),
             Err(Refusal::OutOfMemory) => Err(OutOfMemory),
-            Err(refusal) => Ok((MapRun { alloc, world }, Told::Refused(refusal))),
+            Err(refusal) => Ok(Told::Refused(refusal)),
         }
     }
 }

@@ -51,6 +51,20 @@ pub fn write_play<R: Replica + Drop, K: Sink>(
     ensures steady { OnOk result (K.faults out.new ≡ K.faults out.old) }
 {
     let play = play_session::<R>(alloc, settings)?;
+    write_played(&play, settings, out)
+}
+
+// Writes what became of the clients of a session that was played.
+fn write_played<R: Replica + Drop, K: Sink>(
+    play: &Play<R>,
+    settings: Settings,
+    out: &mut K,
+) -> Result<Ending, Fault>
+    ensures ends { (at : Played) → Plays play.now at → IfOk result (λ ending. ending ≡ whole_ending at.refused (furthest at.made)) }
+    ensures writes { (at : Played) → Plays play.now at
+        → WritesBytes (K.contents out.old) (K.contents out.new) (K.faults out.old) (K.faults out.new) (bytes_of (lines_of_play settings at)) result }
+    ensures steady { OnOk result (K.faults out.new ≡ K.faults out.old) }
+{
     let text = play.text(settings)?;
     put(out, text.as_bytes())?;
     Ok(play.ending())
@@ -67,7 +81,7 @@ fn play_session<R: Replica + Drop>(
     let mut events = session_events(alloc, settings);
     let mut play = Play::<R>::new(alloc);
     while let Some(event) = events.next()? {
-        play = play.take_whole(event)?;
+        play.take_whole(event)?;
     }
     Ok(play)
 }
@@ -85,44 +99,25 @@ impl<R: Replica + Drop> Play<R> {
         }
     }
 
-    // After one more event, which is done with.
-    fn take_whole(self, event: Event) -> Result<Play<R>, OutOfMemory>
+    // Takes an event, which is done with.
+    fn take_whole(&mut self, event: Event) -> Result<(), OutOfMemory>
         requires { IsWellFormedEvent event }
-        ensures { (at : Played) → Plays self at → IfOk result (λ play. Plays play (after_event at event)) }
+        ensures { (at : Played) → Plays self.old at → OnOk result (Plays self.new (after_event at event)) }
     {
         self.take(&event)
     }
 
-    // After one more event.
-    fn take(self, event: &Event) -> Result<Play<R>, OutOfMemory>
+    // Takes an event.
+    fn take(&mut self, event: &Event) -> Result<(), OutOfMemory>
         requires { IsWellFormedEvent event.now }
-        ensures { (at : Played) → Plays self at → IfOk result (λ play. Plays play (after_event at event.now)) }
+        ensures { (at : Played) → Plays self.old at → OnOk result (Plays self.new (after_event at event.now)) }
     {
-        let Play {
-            alloc,
-            mut world,
-            refused,
-            showing,
-        } = self;
-        match world.step(event) {
-            Ok(out) => {
-                let showing = show(alloc, showing, &out)?;
-                Ok(Play {
-                    alloc,
-                    world,
-                    refused,
-                    showing,
-                })
-            }
+        match self.world.step(event) {
+            Ok(out) => show(self.alloc, &mut self.showing, &out),
             Err(Refusal::OutOfMemory) => Err(OutOfMemory),
             Err(_) => {
-                let refused = added(refused, 1)?;
-                Ok(Play {
-                    alloc,
-                    world,
-                    refused,
-                    showing,
-                })
+                self.refused = added(self.refused, 1)?;
+                Ok(())
             }
         }
     }
@@ -152,14 +147,14 @@ impl<R: Replica + Drop> Play<R> {
     }
 }
 
-// The clients that were shown, with the one that is shown by this, if one is.
-fn show(alloc: Global, showing: Showing, out: &Out) -> Result<Showing, OutOfMemory>
-    ensures { (shown : List NamedClient) (output : Output) → HasShown showing shown → Tells output out.now
-        → IfOk result (λ after. HasShown after (shown ++ shown_client output)) }
+// Adds the client that is shown by this, if one is.
+fn show(alloc: Global, showing: &mut Showing, out: &Out) -> Result<(), OutOfMemory>
+    ensures { (shown : List NamedClient) (output : Output) → HasShown showing.old shown → Tells output out.now
+        → OnOk result (HasShown showing.new (shown ++ shown_client output)) }
 {
     match out {
         Out::View { name, view } => showing.add(alloc, name, view),
-        Out::Nothing | Out::Texts(_) => Ok(showing),
+        Out::Nothing | Out::Texts(_) => Ok(()),
     }
 }
 

@@ -71,19 +71,25 @@ impl<R: Replica + Drop> Listener for SessionRun<R> {
 
 impl<R: Replica + Drop> SessionRun<R> {
     // The session after an event, and what is told of it.
-    fn take_event(self, event: &Event) -> Result<(SessionRun<R>, Told), OutOfMemory>
+    fn take_event(mut self, event: &Event) -> Result<(SessionRun<R>, Told), OutOfMemory>
         requires { IsWellFormedEvent event.now }
         ensures { (w : NaiveWorld) → WorldStands self.world w
             → IfOk result (λ p. IsStep (WorldStands p.0.world) p.1 (answer as_shown w (step w event.now))) }
     {
-        let SessionRun { alloc, mut world } = self;
-        match world.step(event) {
-            Ok(out) => {
-                let told = told_output(alloc, &out)?;
-                Ok((SessionRun { alloc, world }, told))
-            }
+        let told = self.tell(event)?;
+        Ok((self, told))
+    }
+
+    // Takes an event, and says what is told of it.
+    fn tell(&mut self, event: &Event) -> Result<Told, OutOfMemory>
+        requires { IsWellFormedEvent event.now }
+        ensures { (w : NaiveWorld) → WorldStands self.old.world w
+            → IfOk result (λ told. IsStep (WorldStands self.new.world) told (answer as_shown w (step w event.now))) }
+    {
+        match self.world.step(event) {
+            Ok(out) => told_output(self.alloc, &out),
             Err(Refusal::OutOfMemory) => Err(OutOfMemory),
-            Err(refusal) => Ok((SessionRun { alloc, world }, Told::Refused(refusal))),
+            Err(refusal) => Ok(Told::Refused(refusal)),
         }
     }
 }

@@ -1,6 +1,6 @@
 //! What is written of the clients that a play shows.
 
-ghost use Rattle.std.specs.Prelude.{◌≡◌, ◌+◌, ◌∷◌, ◌++◌, ◌&&◌, List, [], IfOk, bytes_eq, chars, length, string_bytes};
+ghost use Rattle.std.specs.Prelude.{◌≡◌, ◌+◌, ◌∷◌, ◌++◌, ◌&&◌, List, [], IfOk, OnOk, bytes_eq, chars, length, string_bytes};
 ghost use Rattle.ft_io.specs.Lines.{with_lf};
 ghost use Rattle.ft_msg.specs.Answers.{view_content};
 ghost use Rattle.ft_msg.specs.Content.{content};
@@ -44,44 +44,30 @@ impl Showing {
         }
     }
 
-    /// With one more client, whose name and view these are.
+    /// Adds one more client, whose name and view these are.
     ///
     /// Returns `OutOfMemory` where there is no room for its line or for what it shows.
-    pub fn add(self, alloc: Global, name: &Text, view: &View) -> Result<Showing, OutOfMemory>
-        ensures { (shown : List NamedClient) (c : NamedClient) → HasShown self shown → IsViewOf c name.now view.now
-            → IfOk result (λ showing. HasShown showing (shown ++ c ∷ [])) }
+    pub fn add(&mut self, alloc: Global, name: &Text, view: &View) -> Result<(), OutOfMemory>
+        ensures { (shown : List NamedClient) (c : NamedClient) → HasShown self.old shown → IsViewOf c name.now view.now
+            → OnOk result (HasShown self.new (shown ++ c ∷ [])) }
     {
-        let Showing {
-            mut lines,
-            agreement,
-        } = self;
         let line = client_line(alloc, name, view)?;
-        lines.push_str(line.as_str())?;
+        self.lines.push_str(line.as_str())?;
         let content = shown_text(alloc, view)?;
-        let agreement = agreement.compare(content);
-        Ok(Showing { lines, agreement })
+        self.agreement.compare(content);
+        Ok(())
     }
 }
 
 impl Agreement {
-    // With one more client, which shows this.
-    fn compare(self, content: String) -> Agreement
-        ensures { (shown : List NamedClient) (c : NamedClient) → Compares self shown → string_bytes content ≡ shown_text c
-            → Compares result (shown ++ c ∷ []) }
+    // Compares one more client, which shows this.
+    fn compare(&mut self, content: String)
+        ensures { (shown : List NamedClient) (c : NamedClient) → Compares self.old shown → string_bytes content ≡ shown_text c
+            → Compares self.new (shown ++ c ∷ []) }
     {
-        let Agreement { first, all } = self;
-        match first {
-            None => Agreement {
-                first: Some(content),
-                all,
-            },
-            Some(first) => {
-                let all = all_same(all, first.as_str(), content.as_str());
-                Agreement {
-                    first: Some(first),
-                    all,
-                }
-            }
+        match &self.first {
+            None => self.first = Some(content),
+            Some(first) => self.all = all_same(self.all, first.as_str(), content.as_str()),
         }
     }
 }

@@ -9,4 +9,4 @@ loop-play-preserved g c =
     let h = c.loop-play.invariant in
     let n : IsNext c.loop-play.events (Some c.in-Some.event) c.next.new.self =
     subst (λ (a : Option Event). IsNext c.loop-play.events a c.next.new.self) c.in-Some.is c.in_ok-event.ensures.ok in
-    toward_next h c.in-Some.event c.next.new.self c.in_ok-play.play n.0 (c.in_ok-play.ensures h.at h.plays)
+    toward_next h c.in-Some.event c.next.new.self c.take_whole.new.self n.0 (c.in_ok-take_whole.ensures h.at h.plays)

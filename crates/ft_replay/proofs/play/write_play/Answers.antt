@@ -1,10 +1,8 @@
-use Rattle.std.proofs.Common.{◌∙◌, ap, arith, Err}
-use Rattle.std.proofs.lemmas.Result.{err_from_is_err_and}
-use Rattle.ft_replay.proofs.Written.{writes_nothing}
+use Rattle.ft_replay.specs.Play.{session_play}
 use Rattle.ft_replay.proofs.play.write_play.Goals as goal
 
-pub returns-in_err-text-clause-writes : goal.returns-in_err-text-clause-writes
-returns-in_err-text-clause-writes g c =
-    let r = c.from_residual-in_err-text in
-    let p = err_from_is_err_and r.result r.ensures.1 in
-    writes_nothing (g.K.Sink.contents c.args.out.now) (g.K.Sink.faults c.args.out.now) _ r.result (p.1 ∙ ap Err p.2) (omega arith)
+pub returns-clause-ends : goal.returns-clause-ends
+returns-clause-ends g c = c.write_played.ensures.ends (session_play c.args.settings) c.in_ok-play.ensures
+
+pub returns-clause-writes : goal.returns-clause-writes
+returns-clause-writes g c = c.write_played.ensures.writes (session_play c.args.settings) c.in_ok-play.ensures

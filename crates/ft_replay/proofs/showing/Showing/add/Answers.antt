@@ -4,9 +4,9 @@ use Rattle.ft_replay.proofs.showing.Showing.add.Goals as goal
 
 pub returns : goal.returns
 returns c shown d h is =
-    let all : string_bytes c.push_str.new.self ≡ string_bytes c.args.self.lines ++ c.as_str.result.now = c.in_ok-push_str.ensures.bytes in
+    let all : string_bytes c.push_str.new.self ≡ string_bytes c.args.self.now.lines ++ c.as_str.result.now = c.in_ok-push_str.ensures.bytes in
     let line : c.as_str.result.now ≡ string_bytes c.in_ok-line.line = c.as_str.ensures.value in
     record {
-      lines = all ∙ shown_more shown d (string_bytes c.args.self.lines) c.as_str.result.now h.lines (line ∙ c.in_ok-line.ensures d is);
-      agreement = c.compare-agreement.ensures shown d h.agreement (c.in_ok-content.ensures d is.shows);
+      lines = all ∙ shown_more shown d (string_bytes c.args.self.now.lines) c.as_str.result.now h.lines (line ∙ c.in_ok-line.ensures d is);
+      agreement = c.compare.ensures shown d h.agreement (c.in_ok-content.ensures d is.shows);
     }
