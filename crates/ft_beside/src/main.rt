@@ -16,24 +16,10 @@ mod difference;
 mod reading;
 mod sums;
 
-use crate::reading::outcomes;
-use std::io;
-use std::io::{ErrorKind, Read, Write};
+use crate::reading::Cases;
+use ft_tests_input::run;
 use std::process::ExitCode;
 
 fn main(rt: HostRuntime) -> ExitCode {
-    match run(&rt) {
-        Ok(()) => ExitCode::SUCCESS,
-        Err(_) => ExitCode::FAILURE,
-    }
-}
-
-// Reads standard input to its end and writes what comes of it to standard output.
-fn run(rt: &HostRuntime) -> io::Result<()> {
-    let mut input = Vec::new(rt.alloc());
-    rt.stdin().read_to_end(&mut input)?;
-    match outcomes(rt.alloc(), input.as_slice()) {
-        Ok(output) => rt.stdout().write_all(output.as_slice()),
-        Err(_) => Err(io::Error::from(ErrorKind::OutOfMemory)),
-    }
+    run::<Cases>(rt.alloc(), rt.stdin(), rt.stdout())
 }

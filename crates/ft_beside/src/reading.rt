@@ -3,13 +3,23 @@
 use crate::cases::Case;
 use ft_base::OutOfMemory;
 use ft_replay::Fault;
+use ft_tests_input::Program;
 use memchr::memchr;
 use std::alloc::Global;
 
-/// What the cases come to, one after another.
-///
-/// Returns `OutOfMemory` where there is no room for it, and `Write` where a report is longer than there is room for.
-pub fn outcomes(alloc: Global, lines: &[u8]) -> Result<Vec<u8>, Fault> {
+/// Cases, and what they come to, one after another.
+pub struct Cases;
+
+impl Program for Cases {
+    fn output(alloc: Global, input: &[u8]) -> Option<Vec<u8>> {
+        outcomes(alloc, input).ok()
+    }
+}
+
+// What the cases come to, one after another.
+//
+// Returns `OutOfMemory` where there is no room for it, and `Write` where a report is longer than there is room for.
+fn outcomes(alloc: Global, lines: &[u8]) -> Result<Vec<u8>, Fault> {
     let mut reading = Reading {
         alloc,
         case: Case::new(alloc),

@@ -5,13 +5,23 @@ use ft_base::OutOfMemory;
 use ft_msg::Cause;
 use ft_seqr::Refusal;
 use ft_sumdoc::SumFault;
+use ft_tests_input::Program;
 use memchr::memchr;
 use std::alloc::Global;
 
-/// What is written of the lines, each with an LF behind it.
-///
-/// Returns `OutOfMemory` where there is no room for it.
-pub fn answers(alloc: Global, input: &[u8]) -> Result<Vec<u8>, OutOfMemory> {
+/// Texts, a line each, and what each is.
+pub struct Texts;
+
+impl Program for Texts {
+    fn output(alloc: Global, input: &[u8]) -> Option<Vec<u8>> {
+        answers(alloc, input).ok()
+    }
+}
+
+// What is written of the lines, each with an LF behind it.
+//
+// Returns `OutOfMemory` where there is no room for it.
+fn answers(alloc: Global, input: &[u8]) -> Result<Vec<u8>, OutOfMemory> {
     let mut output = Vec::new(alloc);
     for line in input.split_inclusive(|byte| *byte == b'\n') {
         let text = &line[..memchr(b'\n', line).unwrap_or(line.len())];

@@ -41,26 +41,10 @@ mod script;
 mod sights;
 mod upkeep;
 
-use crate::script::played;
-use ft_tests_steps::StepFault;
-use std::io;
-use std::io::{ErrorKind, Read, Write};
+use crate::script::Scripts;
+use ft_tests_input::run;
 use std::process::ExitCode;
 
 fn main(rt: HostRuntime) -> ExitCode {
-    match run(&rt) {
-        Ok(()) => ExitCode::SUCCESS,
-        Err(_) => ExitCode::FAILURE,
-    }
-}
-
-// Reads standard input to its end and writes what comes of it to standard output.
-fn run(rt: &HostRuntime) -> io::Result<()> {
-    let mut input = Vec::new(rt.alloc());
-    rt.stdin().read_to_end(&mut input)?;
-    let lines = str::from_utf8(input.as_slice()).unwrap_or("");
-    match played(rt.alloc(), lines) {
-        Ok(output) => rt.stdout().write_all(output.as_bytes()),
-        Err(_) => Err(io::Error::from(ErrorKind::OutOfMemory)),
-    }
+    run::<Scripts>(rt.alloc(), rt.stdin(), rt.stdout())
 }

@@ -16,14 +16,26 @@ use ft_base::Perspective;
 use ft_interval::Collections;
 use ft_op::TextOp;
 use ft_plain_lists::PlainList;
+use ft_tests_input::Program;
 use ft_tests_steps::StepFault;
 use ft_tree::{TextContent, Tree};
 use std::alloc::Global;
 
-/// What is written of a script, case by case.
-///
-/// Returns `OutOfMemory` where there is no room for it, and `TooLarge` where a tree is too large.
-pub(crate) fn played(alloc: Global, script: &str) -> Result<String, StepFault> {
+/// Scripts, and what each of their steps shows.
+pub struct Scripts;
+
+impl Program for Scripts {
+    fn output(alloc: Global, input: &[u8]) -> Option<Vec<u8>> {
+        let script = str::from_utf8(input).unwrap_or("");
+        let made = played(alloc, script).ok()?;
+        Some(made.into_bytes())
+    }
+}
+
+// What is written of a script, case by case.
+//
+// Returns `OutOfMemory` where there is no room for it, and `TooLarge` where a tree is too large.
+fn played(alloc: Global, script: &str) -> Result<String, StepFault> {
     let mut out = String::new(alloc);
     for case in script.split("\n\n") {
         play_case(alloc, case, &mut out)?;
