@@ -43,7 +43,7 @@ impl Server {
     pub fn submit<R: Replica>(&mut self, client: &mut R) -> Result<(), Fault> {
         let conn = conn_of(client.numbers().link).ok_or(Fault::Offline)?;
         while let Some(draft) = client.take_outgoing() {
-            self.take(conn, &draft)?;
+            self.take(conn, draft)?;
         }
         Ok(())
     }
@@ -64,8 +64,8 @@ impl Server {
     }
 
     // A draft of the connection gets its number.
-    fn take(&mut self, conn: u32, draft: &Draft) -> Result<(), Fault> {
-        let entry = self.sequencer.submit(conn, draft)?;
+    fn take(&mut self, conn: u32, draft: Draft) -> Result<(), Fault> {
+        let entry = self.sequencer.take(conn, draft)?;
         self.keep(entry)
     }
 
