@@ -22,7 +22,8 @@ use Rattle.ft_props.specs.Steps.{is_annotated_by, is_removed_by, lowered_runs, m
 use Rattle.ft_msg.specs.Reconnection.{carried_stage}
 use Rattle.ft_replica.specs.declared.document.Resent.{Resent}
 use Rattle.ft_replica.specs.Own.{resent}
-use Rattle.ft_string.specs.Holds.{is_on_elements, is_on_intervals}
+use Rattle.ft_msg.specs.Overlap.{is_on_intervals}
+use Rattle.ft_string.specs.Holds.{is_on_elements}
 use Rattle.ft_client.specs.Parts.{are_of_one_edit, is_alone, is_elements_part, is_grid_part, own_stage, part_of}
 use Rattle.ft_client.specs.Rejoins.{AddsPieces, Joins, JoinsSome, are_of_one_part, base_ops, carried, cell_ops}
 use Rattle.ft_client.specs.declared.stages.OwnStage.{OwnStage}

@@ -12,7 +12,8 @@ use Rattle.ft_laws_agreement.specs.Sequencing.{is_grid_stage}
 use Rattle.ft_laws_names.specs.GridFacts.{grid_stages}
 use Rattle.ft_matrix.specs.GridStates.{GridState}
 use Rattle.ft_matrix.specs.HoldsGrid.{HoldsGrid}
-use Rattle.ft_string.specs.Holds.{HoldsText, element_stages, interval_stages, is_on_elements, is_on_intervals, is_on_text}
+use Rattle.ft_msg.specs.Overlap.{is_on_intervals}
+use Rattle.ft_string.specs.Holds.{HoldsText, element_stages, interval_stages, is_on_elements, is_on_text}
 use Rattle.ft_string.specs.State.{TextState}
 
 -- ---- the stages of a part

@@ -46,7 +46,8 @@ use Rattle.ft_named.proofs.ListSteps.{even-removals}
 use Rattle.ft_named.proofs.Slid.{slides-settled}
 use Rattle.ft_string.specs.Acks.{AcksStage}
 use Rattle.ft_string.specs.Bare.{text_content}
-use Rattle.ft_string.specs.Holds.{element_stages, interval_stages, is_on_elements, is_on_intervals, is_on_text}
+use Rattle.ft_msg.specs.Overlap.{is_on_intervals}
+use Rattle.ft_string.specs.Holds.{element_stages, interval_stages, is_on_elements, is_on_text}
 use Rattle.ft_string.specs.Parts.{AreSound, TextElements}
 use Rattle.ft_string.specs.State.{element_stage, interval_stage, interval_with_places}
 use Rattle.ft_string.specs.declared.pending.PendingOp.{PendingOp}

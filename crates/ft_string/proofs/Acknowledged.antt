@@ -28,7 +28,8 @@ use Rattle.ft_string.specs.Acks.{AcksStage, AcksStages, AreNoted, OpsRise, first
 use Rattle.ft_string.specs.Acks.{next as next_stage, none as no_stage}
 use Rattle.ft_string.specs.Bare.{text_content}
 use Rattle.ft_string.specs.Calls.{AreFrom, AreOldest, AreWithin, HoldsAcked, HoldsOldest}
-use Rattle.ft_string.specs.Holds.{HoldsText, IsTextSound, element_stages, interval_stages, is_on_elements, is_on_intervals, is_on_text}
+use Rattle.ft_msg.specs.Overlap.{is_on_intervals}
+use Rattle.ft_string.specs.Holds.{HoldsText, IsTextSound, element_stages, interval_stages, is_on_elements, is_on_text}
 use Rattle.ft_string.specs.Parts.{AreSound, TextElements, state_of}
 use Rattle.ft_string.specs.Inside.{IsSoundIfUsable, view_of}
 use Rattle.ft_string.specs.State.{TextState, element_stage, interval_stage}

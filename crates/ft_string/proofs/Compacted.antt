@@ -40,7 +40,8 @@ use Rattle.ft_named.proofs.Lists.{any-here}
 use Rattle.ft_named.proofs.Placed.{name_place}
 use Rattle.ft_string.specs.Bare.{text_content}
 use Rattle.ft_string.specs.Calls.{CompactsText, is_held}
-use Rattle.ft_string.specs.Holds.{HoldsText, IsTextSound, interval_stages, is_on_intervals}
+use Rattle.ft_msg.specs.Overlap.{is_on_intervals}
+use Rattle.ft_string.specs.Holds.{HoldsText, IsTextSound, interval_stages}
 use Rattle.ft_string.specs.Parts.{AreSound, TextElements, state_of}
 use Rattle.ft_string.specs.declared.pending.PendingOp.{PendingOp}
 use Rattle.ft_string.proofs.Documents.{settled-stands, sound-step}

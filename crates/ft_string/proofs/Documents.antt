@@ -14,7 +14,8 @@ use Rattle.ft_laws_agreement.specs.Sequencing.{Each}
 use Rattle.ft_laws_names.specs.WellNamed.{AreSettledIn, IsSettledIn, IsWellNumbered, StandsIn}
 use Rattle.ft_tree.specs.State.{TreeState}
 use Rattle.ft_string.specs.Bare.{text_content}
-use Rattle.ft_string.specs.Holds.{HoldsText, IsTextSound, interval_stages, is_on_intervals}
+use Rattle.ft_msg.specs.Overlap.{is_on_intervals}
+use Rattle.ft_string.specs.Holds.{HoldsText, IsTextSound, interval_stages}
 use Rattle.ft_string.specs.Parts.{AreSound, state_of}
 use Rattle.ft_string.specs.declared.pending.PendingOp.{PendingOp}
 use Rattle.ft_named.proofs.Bares.{AreElements, to-bare}

@@ -29,7 +29,8 @@ use Rattle.ft_named.specs.Bare.{bare}
 use Rattle.ft_string.specs.Bare.{text_content}
 use Rattle.ft_string.specs.Calls.{AnswersEdit, Leaves, TakesEdit}
 use Rattle.ft_string.specs.Edits.{edit_fault_of, is_refusal}
-use Rattle.ft_string.specs.Holds.{HoldsSome, HoldsText, IsTextSound, element_stages, interval_stages, is_on_elements, is_on_intervals}
+use Rattle.ft_msg.specs.Overlap.{is_on_intervals}
+use Rattle.ft_string.specs.Holds.{HoldsSome, HoldsText, IsTextSound, element_stages, interval_stages, is_on_elements}
 use Rattle.ft_string.specs.Parts.{AreSound, TextElements, state_of}
 use Rattle.ft_string.specs.State.{TextState, interval_stage, interval_with_places}
 use Rattle.ft_string.specs.declared.pending.PendingOp.{PendingOp}

@@ -19,7 +19,8 @@ use Rattle.ft_named.proofs.Bares.{AreElements, from-bare}
 use Rattle.ft_named.proofs.Lists.{each-append, each-weaker, filter-append, map-append}
 use Rattle.ft_string.specs.Bare.{text_content}
 use Rattle.ft_string.specs.Calls.{AreNext, HoldsGiven}
-use Rattle.ft_string.specs.Holds.{IsTextSound, element_stages, interval_stages, is_on_elements, is_on_intervals, is_on_text}
+use Rattle.ft_msg.specs.Overlap.{is_on_intervals}
+use Rattle.ft_string.specs.Holds.{IsTextSound, element_stages, interval_stages, is_on_elements, is_on_text}
 use Rattle.ft_string.specs.Parts.{state_of}
 use Rattle.ft_string.specs.Rejoins.{GivesOps, again_of, due, has_piece, left_over, one_of}
 use Rattle.ft_string.specs.State.{element_stage}

@@ -33,7 +33,8 @@ use Rattle.ft_named.proofs.Lists.{filter-append}
 use Rattle.ft_named.proofs.Placed.{name_place, place-settled, rank-place}
 use Rattle.ft_string.specs.Bare.{text_content}
 use Rattle.ft_string.specs.Calls.{HoldsGiven}
-use Rattle.ft_string.specs.Holds.{IsTextSound, element_stages, interval_stages, is_on_elements, is_on_intervals}
+use Rattle.ft_msg.specs.Overlap.{is_on_intervals}
+use Rattle.ft_string.specs.Holds.{IsTextSound, element_stages, interval_stages, is_on_elements}
 use Rattle.ft_string.specs.Parts.{TextElements, state_of}
 use Rattle.ft_string.specs.Rejoins.{GivesInterval}
 use Rattle.ft_string.specs.State.{interval_stage, interval_with_places}

@@ -22,7 +22,8 @@ use Rattle.ft_laws_agreement.specs.Sequencing.{Each}
 use Rattle.ft_tree.specs.State.{TreeState}
 use Rattle.ft_named.proofs.Lists.{each-append, each-weaker, filter-append}
 use Rattle.ft_string.specs.Calls.{AreFrom, AreNext, AreWithin, HoldsGiven, is_interval_at, is_one_edit}
-use Rattle.ft_string.specs.Holds.{HoldsText, IsTextSound, element_stages, interval_stages, is_on_elements, is_on_intervals, is_on_text}
+use Rattle.ft_msg.specs.Overlap.{is_on_intervals}
+use Rattle.ft_string.specs.Holds.{HoldsText, IsTextSound, element_stages, interval_stages, is_on_elements, is_on_text}
 use Rattle.ft_string.specs.Parts.{AreSound, state_of}
 use Rattle.ft_string.specs.Rejoins.{Gives, due, has_piece}
 use Rattle.ft_string.specs.State.{element_stage, interval_stage}

@@ -17,7 +17,8 @@ use Rattle.ft_msg.specs.SummaryOf.{segments_from}
 use Rattle.ft_sumdoc.specs.declared.summary.SumDoc.{SumDoc}
 use Rattle.ft_sumdoc.specs.Segments.{text_length}
 use Rattle.ft_laws_compaction.specs.Free.{AreFree}
-use Rattle.ft_string.specs.Holds.{HoldsText, IsTextSound, is_on_elements, is_on_intervals, is_on_text}
+use Rattle.ft_msg.specs.Overlap.{is_on_intervals}
+use Rattle.ft_string.specs.Holds.{HoldsText, IsTextSound, is_on_elements, is_on_text}
 use Rattle.ft_string.specs.State.{TextState}
 
 -- ---- edits

@@ -3,24 +3,21 @@ use Rattle.std.specs.Prelude.{◌≡◌, ℕ, ◌+◌, ◌<◌, ◌^◌, Bool, t
 use Rattle.std.specs.List.{list_all}
 use Rattle.ft_base.specs.Scan.{len}
 use Rattle.ft_op.specs.Document.{Document}
-use Rattle.ft_op.specs.Operation.{OnGrid, OnIntervals, OnText, SubOperation}
+use Rattle.ft_op.specs.Operation.{OnGrid, OnText, SubOperation}
 use Rattle.ft_op.specs.Stages.{Stage}
 use Rattle.ft_props.specs.Element.{is_pending, nameless}
 use Rattle.ft_msg.specs.Indexed.{indexed_interval, indexed_stage}
+use Rattle.ft_msg.specs.Overlap.{is_on_intervals}
 use Rattle.ft_laws_agreement.specs.Reconnecting.{IsInPlace, inserts_text, is_stage_of, removes_text}
 use Rattle.ft_laws_agreement.specs.Sequencing.{Each, IsTyped, annotates_text, is_marked_later}
 use Rattle.ft_laws_agreement.specs.Trimming.{has_ends_on}
 use Rattle.ft_laws_names.specs.WellNamed.{ArePutIn, AreSettledIn, AreStagesNamed, IsWellNumbered, RiseTo, puts_text_in}
 use Rattle.ft_string.specs.State.{TextState}
 
--- whether a sub-operation is on the elements of the text, on its intervals, or on one of both
+-- whether a sub-operation is on the elements of the text, or on them or its intervals
 abbrev pub is_on_elements : SubOperation → Bool
 is_on_elements (OnText op) = true
 is_on_elements _ = false
-
-abbrev pub is_on_intervals : SubOperation → Bool
-is_on_intervals (OnIntervals op) = true
-is_on_intervals _ = false
 
 abbrev pub is_on_text : SubOperation → Bool
 is_on_text (OnGrid op) = false
