@@ -128,9 +128,11 @@ impl Index {
     }
 
     /// An index that is in order by places p is in order by each q that keeps the order of its ends: the
-    /// items that its blocks name, which are the same, still have the greatest ends.
+    /// items that its blocks name, which are the same, still have the greatest ends. And it is no deeper
+    /// than so many items make it.
     pub fn order_is_kept(&self)
-        ensures { (p q : ℕ → ℤ) → KeepsOrder p q self.now.items → IsInOrder p self.now → IsInOrder q self.now }
+        ensures law { (p q : ℕ → ℤ) → KeepsOrder p q self.now.items → IsInOrder p self.now → IsInOrder q self.now }
+        ensures depth { 4 ^ self.now.depth ≤ length self.now.items + 1 }
     {
         let _ = &self.root;
     }
