@@ -2,11 +2,11 @@
 
 ghost use Rattle.std.specs.Prelude.{◌≡◌, ◌+◌, ◌<◌, ◌≤◌, ◌^◌, ℕ, IfOk, IsTrue, OnOk, true};
 ghost use Rattle.ft_tree_leaves.specs.References.{IsReferenceIn};
-ghost use Rattle.ft_interval.specs.State.{IsAboveAll, IsLive, is_add};
+ghost use Rattle.ft_interval_store.specs.State.{IsAboveAll, IsLive, is_add};
 
 use ft_base::{OutOfMemory, Steps, Text};
 use ft_block::LenView;
-use ft_interval::Collections;
+use ft_interval_store::Store;
 use ft_op::{Ends, TextOp};
 use ft_props::PropSet;
 use ft_tests_steps::texts::{erase, write};
@@ -46,7 +46,7 @@ fn addition(alloc: Global, number: u64, position: u64) -> Result<TextOp, OutOfMe
 fn add(
     alloc: Global,
     tree: &mut Tree<TextContent>,
-    intervals: &mut Collections,
+    intervals: &mut Store,
     stage: u64,
     numbers: &mut Numbers,
 ) -> Result<(), StepFault>
@@ -90,7 +90,7 @@ fn edit<G: Ledger>(
 }
 
 // How many intervals there are, all together, where all are shown so often.
-fn shown(tree: &Tree<TextContent>, intervals: &Collections, views: u32) -> Result<u64, OutOfMemory>
+fn shown(tree: &Tree<TextContent>, intervals: &Store, views: u32) -> Result<u64, OutOfMemory>
     requires usable { IsTrue tree.now.usable }
     requires live { IsLive tree.now.refs intervals.now }
 {
@@ -116,7 +116,7 @@ pub fn comment<G: Ledger>(
     requires { IsTrue tree.old.usable }
     ensures { OnOk result (IsTrue tree.new.usable) }
 {
-    let mut intervals = Collections::new(alloc);
+    let mut intervals = Store::new(alloc);
     for i in 0..counts.added {
         let stage = u64::from(last) + 3 * u64::from(i) + 1;
         edit(alloc, tree, i < counts.edited, stage, numbers, steps)?;

@@ -1,33 +1,28 @@
 //! Collections of intervals.
 
-ghost use Rattle.std.specs.Prelude.{◌≡◌, ◌≤◌, [], Some, IsSome, not, IsTrue, IfOk, IfErr, OnErr, OnOk, true, false, filter, map, option_map};
+ghost use Rattle.std.specs.Prelude.{◌≡◌, ◌≤◌, ◌+◌, ◌*◌, ◌^◌, [], Some, IsSome, not, IsTrue, IfOk, IfErr, OnErr, OnOk, true, false, filter, length, map, option_map};
 ghost use Rattle.std.specs.List.{list_any};
 ghost use Rattle.ft_base.specs.Scan.{len};
 ghost use Rattle.ft_block.specs.declared.leaves.LenView.TheVariants.{At, Stage};
+ghost use Rattle.ft_tree_leaves.specs.declared.text.TextContent.{TextContent};
 ghost use Rattle.ft_tree_leaves.specs.Elements.{seen_in};
+ghost use Rattle.ft_tree.specs.State.{TreeState};
 ghost use Rattle.ft_op.specs.Document.{ends_of, given_ends_fit};
 ghost use Rattle.ft_sumdoc.specs.Meeting.{meets};
-ghost use Rattle.ft_interval.specs.declared.faults.IntervalFault.TheVariants as fault;
-ghost use Rattle.ft_interval.specs.Ends.{map_ends, places_of_given, slid_end};
-ghost use Rattle.ft_interval.specs.Intervals.{NamesRise, interval_of, name_in};
-ghost use Rattle.ft_interval.specs.Shown.{last, numbers_at, regenerated, settled_end, shown_intervals, shown_record};
-ghost use Rattle.ft_interval.specs.State.{IsAboveAll, IsFirst, IsInOrder, IsLive, IsAsBefore, IsOutOfRange, IsRefusedEdit, KeepsReferences, Pushes, first_stage, is_add, is_at_stage, is_change, is_delete, is_interval_operation, is_shown, operation_at, placed, text_elements, with_effect, with_ends_at, with_first_acked};
+ghost use Rattle.ft_interval_store.specs.declared.faults.IntervalFault.TheVariants as fault;
+ghost use Rattle.ft_interval_store.specs.Ends.{map_ends, places_of_given, slid_end};
+ghost use Rattle.ft_interval.specs.Indexes.{StandsOn, index_of, list_in};
+ghost use Rattle.ft_interval_store.specs.Intervals.{NamesRise, interval_of, name_in};
+ghost use Rattle.ft_interval_store.specs.Shown.{last, numbers_at, regenerated, settled_end, shown_intervals, shown_record};
+ghost use Rattle.ft_interval_store.specs.State.{IsAboveAll, IsFirst, IsInOrder, IsAsBefore, IsRefusedEdit, KeepsReferences, Pushes, first_stage, is_add, is_at_stage, is_change, is_delete, is_interval_operation, is_shown, operation_at, placed, text_elements, with_effect, with_ends_at, with_first_acked};
 
-use crate::all::all_shown;
-use crate::effects::take_effect;
-use crate::ends::{add_ends, drop_ends, given_ends_fit};
-use crate::faults::IntervalFault;
-use crate::intervals::Intervals;
-use crate::numbers::{add_numbers, settled_numbers, with_numbers};
-use crate::pending::{Operation, given_ends, has_stage, place_of_stage, push_copy};
-use crate::shown::shown_ends;
-use crate::standing::shown_numbers;
+use crate::gathering::overlapping;
+use crate::indexes::{LabelIndex, index_of, order_is_kept};
+use crate::listing::{enlist_changed, unlist_changed};
 use ft_base::{OutOfMemory, Perspective, Steps, Text};
-use ft_block::LenView;
+use ft_interval_store::{IntervalFault, Store};
 use ft_op::{Ends, TextOp};
-use ft_refs::RefId;
 use ft_sumdoc::IntervalRec;
-use ft_sumdoc::meeting::meets;
 use ft_tree::{TextContent, Tree};
 use std::alloc::Global;
 use std::marker::Model;
@@ -36,34 +31,39 @@ use std::sync::ledger::Ledger;
 /// Intervals by label and id, with what is pending on them.
 ///
 /// Their ends are references of a tree: those of acknowledged intervals slide as their elements are removed, and those of
-/// pending operations stay. Each call has the condition that the references which it keeps are live in that tree, and keeps
-/// this. After a call with a tree returned `OutOfMemory`, tree and collections may be used no more.
+/// pending operations stay. Each call has the condition that the references which it keeps are live in that tree and that its
+/// indexes are in order there, and keeps this. After a call with a tree returned `OutOfMemory`, tree and collections may be used
+/// no more.
 ///
-/// An interval is found by a binary search; what is shown of one looks at no other.
+/// An interval is found by a binary search; what is shown of one looks at no other. The acknowledged intervals of each label have
+/// an index, so that those which meet a range are found by reading a few nodes for each of them.
 #[derive(Drop)]
 pub struct Collections {
-    acked: Intervals<RefId>,
-    pending: Vec<Operation>,
+    store: Store,
+    indexes: Vec<LabelIndex>,
 }
 
 impl Model for Collections {
-    ghost use Rattle.ft_interval.specs.State.{CollectionsState, IsInOrder};
+    ghost use Rattle.std.specs.Coded.{codes};
+    ghost use Rattle.std_collections.specs.Layout.BTreeMap.{btree_map_code};
+    ghost use Rattle.ft_interval.specs.Indexes.{IndexedState};
 
-    ghost Value = { CollectionsState };
+    ghost Value = { IndexedState };
 
-    ghost view = { λ a. record { acked = a.acked; pending = a.pending.items } };
+    ghost coded = { Prim.hlevel (codes, btree_map_code) };
 
-    ghost invariant = { λ a. IsInOrder (record { acked = a.acked; pending = a.pending.items }) };
+    ghost view = { λ a. record { state = a.store; indexes = a.indexes.items } };
 }
 
 impl Collections {
     /// No intervals, and nothing pending.
     pub fn new(alloc: Global) -> Collections
-        ensures { result ≡ record { acked = []; pending = [] } }
+        ensures value { result ≡ record { state = record { acked = []; pending = [] }; indexes = [] } }
+        ensures stands { (tree : TreeState TextContent) → StandsOn tree result }
     {
         Collections {
-            acked: Intervals::new(alloc),
-            pending: Vec::new(alloc),
+            store: Store::new(alloc),
+            indexes: Vec::new(alloc),
         }
     }
 
@@ -79,25 +79,20 @@ impl Collections {
         stage: u64,
     ) -> Result<(), IntervalFault>
         requires usable { IsTrue tree.old.usable }
-        requires live { IsLive tree.old.refs self.old }
+        requires stands { StandsOn tree.old self.old }
         requires kind { is_add op.now ≡ true }
         requires some { 1 ≤ stage }
-        requires above { IsAboveAll stage self.old }
-        ensures taken { OnOk result (Pushes (seen_in (Stage stage)) (text_elements tree.old) stage op.now self.old self.new tree.old tree.new) }
-        ensures name { OnOk result (is_shown (text_elements tree.old) (name_in op.now) (placed tree.old.refs self.old) ≡ not (is_add op.now)) }
-        ensures refused { let shown = is_shown (text_elements tree.old) (name_in op.now) (placed tree.old.refs self.old) in
+        requires above { IsAboveAll stage self.old.state }
+        ensures taken { OnOk result (Pushes (seen_in (Stage stage)) (text_elements tree.old) stage op.now self.old.state self.new.state tree.old tree.new) }
+        ensures name { OnOk result (is_shown (text_elements tree.old) (name_in op.now) (placed tree.old.refs self.old.state) ≡ not (is_add op.now)) }
+        ensures refused { let shown = is_shown (text_elements tree.old) (name_in op.now) (placed tree.old.refs self.old.state) in
             let length = len (seen_in (Stage stage)) (text_elements tree.old) in
-            IfErr result (IsRefusedEdit shown length op.now (IsAsBefore self.old self.new tree.old tree.new)) }
+            IfErr result (IsRefusedEdit shown length op.now (IsAsBefore self.old.state self.new.state tree.old tree.new)) }
         ensures unusable { IfErr result (λ e. e ≡ fault.OutOfMemory → tree.new.usable ≡ false) }
+        ensures indexes { self.new.indexes ≡ self.old.indexes }
+        ensures stands { OnOk result (StandsOn tree.new self.new) }
     {
-        let TextOp::IntervalAdd { label, id, .. } = op else {
-            tree.spoil();
-            return Err(IntervalFault::OutOfMemory);
-        };
-        if self.is_shown(tree, label, id) {
-            return Err(IntervalFault::IdInUse);
-        }
-        self.push(tree, op, stage)
+        self.store.add_local(tree, op, stage)
     }
 
     /// Changes an interval as a pending operation of that stage; its new ends, if it gets some, are on the elements that the
@@ -113,25 +108,20 @@ impl Collections {
         stage: u64,
     ) -> Result<(), IntervalFault>
         requires usable { IsTrue tree.old.usable }
-        requires live { IsLive tree.old.refs self.old }
+        requires stands { StandsOn tree.old self.old }
         requires kind { is_change op.now ≡ true }
         requires some { 1 ≤ stage }
-        requires above { IsAboveAll stage self.old }
-        ensures taken { OnOk result (Pushes (seen_in (Stage stage)) (text_elements tree.old) stage op.now self.old self.new tree.old tree.new) }
-        ensures name { OnOk result (is_shown (text_elements tree.old) (name_in op.now) (placed tree.old.refs self.old) ≡ not (is_add op.now)) }
-        ensures refused { let shown = is_shown (text_elements tree.old) (name_in op.now) (placed tree.old.refs self.old) in
+        requires above { IsAboveAll stage self.old.state }
+        ensures taken { OnOk result (Pushes (seen_in (Stage stage)) (text_elements tree.old) stage op.now self.old.state self.new.state tree.old tree.new) }
+        ensures name { OnOk result (is_shown (text_elements tree.old) (name_in op.now) (placed tree.old.refs self.old.state) ≡ not (is_add op.now)) }
+        ensures refused { let shown = is_shown (text_elements tree.old) (name_in op.now) (placed tree.old.refs self.old.state) in
             let length = len (seen_in (Stage stage)) (text_elements tree.old) in
-            IfErr result (IsRefusedEdit shown length op.now (IsAsBefore self.old self.new tree.old tree.new)) }
+            IfErr result (IsRefusedEdit shown length op.now (IsAsBefore self.old.state self.new.state tree.old tree.new)) }
         ensures unusable { IfErr result (λ e. e ≡ fault.OutOfMemory → tree.new.usable ≡ false) }
+        ensures indexes { self.new.indexes ≡ self.old.indexes }
+        ensures stands { OnOk result (StandsOn tree.new self.new) }
     {
-        let TextOp::IntervalChange { label, id, .. } = op else {
-            tree.spoil();
-            return Err(IntervalFault::OutOfMemory);
-        };
-        if !self.is_shown(tree, label, id) {
-            return Err(IntervalFault::NoSuchInterval);
-        }
-        self.push(tree, op, stage)
+        self.store.change_local(tree, op, stage)
     }
 
     /// Takes an interval away as a pending operation of that stage.
@@ -145,69 +135,25 @@ impl Collections {
         stage: u64,
     ) -> Result<(), IntervalFault>
         requires usable { IsTrue tree.old.usable }
-        requires live { IsLive tree.old.refs self.old }
+        requires stands { StandsOn tree.old self.old }
         requires kind { is_delete op.now ≡ true }
         requires some { 1 ≤ stage }
-        requires above { IsAboveAll stage self.old }
-        ensures taken { OnOk result (Pushes (seen_in (Stage stage)) (text_elements tree.old) stage op.now self.old self.new tree.old tree.new) }
-        ensures name { OnOk result (is_shown (text_elements tree.old) (name_in op.now) (placed tree.old.refs self.old) ≡ not (is_add op.now)) }
-        ensures refused { let shown = is_shown (text_elements tree.old) (name_in op.now) (placed tree.old.refs self.old) in
+        requires above { IsAboveAll stage self.old.state }
+        ensures taken { OnOk result (Pushes (seen_in (Stage stage)) (text_elements tree.old) stage op.now self.old.state self.new.state tree.old tree.new) }
+        ensures name { OnOk result (is_shown (text_elements tree.old) (name_in op.now) (placed tree.old.refs self.old.state) ≡ not (is_add op.now)) }
+        ensures refused { let shown = is_shown (text_elements tree.old) (name_in op.now) (placed tree.old.refs self.old.state) in
             let length = len (seen_in (Stage stage)) (text_elements tree.old) in
-            IfErr result (IsRefusedEdit shown length op.now (IsAsBefore self.old self.new tree.old tree.new)) }
+            IfErr result (IsRefusedEdit shown length op.now (IsAsBefore self.old.state self.new.state tree.old tree.new)) }
         ensures unusable { IfErr result (λ e. e ≡ fault.OutOfMemory → tree.new.usable ≡ false) }
+        ensures indexes { self.new.indexes ≡ self.old.indexes }
+        ensures stands { OnOk result (StandsOn tree.new self.new) }
     {
-        let TextOp::IntervalDelete { label, id } = op else {
-            tree.spoil();
-            return Err(IntervalFault::OutOfMemory);
-        };
-        if !self.is_shown(tree, label, id) {
-            return Err(IntervalFault::NoSuchInterval);
-        }
-        self.push(tree, op, stage)
-    }
-
-    /// Whether the label has the id in the view.
-    fn is_shown(&self, tree: &Tree<TextContent>, label: &Text, id: &Text) -> bool
-        requires usable { IsTrue tree.now.usable }
-        requires live { IsLive tree.now.refs self.now }
-        ensures { result ≡ is_shown (text_elements tree.now) (label.now, id.now) (placed tree.now.refs self.now) }
-    {
-        shown_ends(tree, &self.acked, &self.pending, label, id).is_some()
-    }
-
-    /// Adds a pending operation, with references on the elements at its ends that the client sees.
-    ///
-    /// Returns `OutOfRange` exactly where the ends are given and neither below the length seen nor both detached, and then
-    /// nothing changed; and `OutOfMemory` where there is no room, and then the tree may be used no more.
-    fn push(
-        &mut self,
-        tree: &mut Tree<TextContent>,
-        op: &TextOp,
-        stage: u64,
-    ) -> Result<(), IntervalFault>
-        requires usable { IsTrue tree.old.usable }
-        requires live { IsLive tree.old.refs self.old }
-        requires some { 1 ≤ stage }
-        requires above { IsAboveAll stage self.old }
-        ensures taken { OnOk result (Pushes (seen_in (Stage stage)) (text_elements tree.old) stage op.now self.old self.new tree.old tree.new) }
-        ensures refused { let length = len (seen_in (Stage stage)) (text_elements tree.old) in
-            IfErr result (IsOutOfRange length op.now (IsAsBefore self.old self.new tree.old tree.new)) }
-        ensures unusable { IfErr result (λ e. e ≡ fault.OutOfMemory → tree.new.usable ≡ false) }
-    {
-        let view = LenView::Stage(stage);
-        let given = given_ends(op);
-        let length = tree.length(view);
-        if !given_ends_fit(length, given) {
-            return Err(IntervalFault::OutOfRange { length });
-        }
-        let ends = add_ends(tree, given, view)?;
-        push_copy(&mut self.pending, tree, stage, op, ends)?;
-        Ok(())
+        self.store.delete_local(tree, op, stage)
     }
 
     /// Applies a sequenced operation of another client, with its ends on the elements that its sender sees. It returns false
     /// exactly where they are given and are neither below the length that the sender sees nor both detached, and then nothing
-    /// changed. An add does nothing where the label has the id, a change and a delete nothing where it doesn't.
+    /// is shown otherwise. An add does nothing where the label has the id, a change and a delete nothing where it doesn't.
     ///
     /// Returns `OutOfMemory` where there is no room, and then tree and collections may be used no more.
     pub fn apply(
@@ -217,26 +163,30 @@ impl Collections {
         at: Perspective,
     ) -> Result<bool, OutOfMemory>
         requires usable { IsTrue tree.old.usable }
-        requires live { IsLive tree.old.refs self.old }
+        requires stands { StandsOn tree.old self.old }
         requires kind { is_interval_operation op.now ≡ true }
         requires floor { tree.old.floor ≤ at.r }
         ensures fits { IfOk result (λ fits. fits ≡ given_ends_fit (len (seen_in (At at)) (text_elements tree.old)) (ends_of op.now)) }
         ensures effect { let xs = text_elements tree.old in
             let ends = map_ends (slid_end xs) (places_of_given (seen_in (At at)) xs (ends_of op.now)) in
-            IfOk result (λ fits. fits ≡ true → placed tree.new.refs self.new ≡ with_effect op.now ends (placed tree.old.refs self.old)) }
-        ensures refs { IfOk result (λ fits. fits ≡ true → KeepsReferences self.old self.new tree.old.refs tree.new.refs) }
+            IfOk result (λ fits. fits ≡ true → placed tree.new.refs self.new.state ≡ with_effect op.now ends (placed tree.old.refs self.old.state)) }
+        ensures refs { IfOk result (λ fits. fits ≡ true → KeepsReferences self.old.state self.new.state tree.old.refs tree.new.refs) }
         ensures rest { OnOk result (tree.new ≡ record tree.old { refs = tree.new.refs }) }
-        ensures misfit { IfOk result (λ fits. fits ≡ false → (self.new ≡ self.old) × (tree.new ≡ tree.old)) }
+        ensures misfit { IfOk result (λ fits. fits ≡ false → (self.new.state ≡ self.old.state) × (tree.new ≡ tree.old)) }
+        ensures stands { OnOk result (StandsOn tree.new self.new) }
         ensures err { OnErr result (tree.new.usable ≡ false) }
     {
-        let view = LenView::At(at);
-        let given = given_ends(op);
-        if !given_ends_fit(tree.length(view), given) {
-            return Ok(false);
+        // That names rise is read off its contract.
+        let _first = self.store.first_stage();
+        unlist_changed(&mut self.indexes, &self.store, tree, op);
+        let fits = self.store.apply(tree, op, at)?;
+        match enlist_changed(&mut self.indexes, &self.store, tree, op) {
+            Ok(()) => Ok(fits),
+            Err(e) => {
+                tree.spoil();
+                Err(e)
+            }
         }
-        let ends = add_ends(tree, given, view)?;
-        take_effect(&mut self.acked, tree, op, &ends)?;
-        Ok(true)
     }
 
     /// Acknowledges the pending operation of that stage, which is the first: it takes effect on the acknowledged intervals, and
@@ -245,63 +195,82 @@ impl Collections {
     /// Returns `OutOfMemory` where there is no room, and then tree and collections may be used no more.
     pub fn ack(&mut self, tree: &mut Tree<TextContent>, stage: u64) -> Result<(), OutOfMemory>
         requires usable { IsTrue tree.old.usable }
-        requires live { IsLive tree.old.refs self.old }
-        requires first { IsFirst stage self.old }
+        requires stands { StandsOn tree.old self.old }
+        requires first { IsFirst stage self.old.state }
         ensures effect { let xs = text_elements tree.old in
-            OnOk result (placed tree.new.refs self.new ≡ with_first_acked (map_ends (slid_end xs)) (placed tree.old.refs self.old)) }
-        ensures refs { OnOk result (KeepsReferences self.old self.new tree.old.refs tree.new.refs) }
+            OnOk result (placed tree.new.refs self.new.state ≡ with_first_acked (map_ends (slid_end xs)) (placed tree.old.refs self.old.state)) }
+        ensures refs { OnOk result (KeepsReferences self.old.state self.new.state tree.old.refs tree.new.refs) }
         ensures rest { OnOk result (tree.new ≡ record tree.old { refs = tree.new.refs }) }
+        ensures stands { OnOk result (StandsOn tree.new self.new) }
         ensures err { OnErr result (tree.new.usable ≡ false) }
     {
-        let t = self.pending.remove(0);
-        take_effect(&mut self.acked, tree, &t.op, &t.ends)
+        match self.take_first(tree, stage) {
+            Ok(()) => Ok(()),
+            Err(e) => {
+                tree.spoil();
+                Err(e)
+            }
+        }
+    }
+
+    /// The same, where nothing is said of the tree after `OutOfMemory`.
+    fn take_first(&mut self, tree: &mut Tree<TextContent>, stage: u64) -> Result<(), OutOfMemory>
+        requires usable { IsTrue tree.old.usable }
+        requires stands { StandsOn tree.old self.old }
+        requires first { IsFirst stage self.old.state }
+        ensures effect { let xs = text_elements tree.old in
+            OnOk result (placed tree.new.refs self.new.state ≡ with_first_acked (map_ends (slid_end xs)) (placed tree.old.refs self.old.state)) }
+        ensures refs { OnOk result (KeepsReferences self.old.state self.new.state tree.old.refs tree.new.refs) }
+        ensures rest { OnOk result (tree.new ≡ record tree.old { refs = tree.new.refs }) }
+        ensures stands { OnOk result (StandsOn tree.new self.new) }
+    {
+        // That names rise is read off its contract.
+        let _first = self.store.first_stage();
+        let op = self.store.first_operation()?;
+        unlist_changed(&mut self.indexes, &self.store, tree, &op);
+        self.store.ack(tree, stage)?;
+        enlist_changed(&mut self.indexes, &self.store, tree, &op)
     }
 
     /// The stage of the first pending operation: None exactly where nothing is pending.
     pub fn first_stage(&self) -> Option<u64>
-        ensures value { result ≡ first_stage self.now.pending }
+        ensures value { result ≡ first_stage self.now.state.pending }
 
         // What holds of the collections at any time.
-        ensures order { IsInOrder self.now }
-        ensures names { NamesRise self.now.acked }
+        ensures order { IsInOrder self.now.state }
+        ensures names { NamesRise self.now.state.acked }
     {
-        // That names rise is read off its contract.
-        let _all = self.acked.as_slice();
-        match self.pending.first() {
-            Some(t) => Some(t.stage),
-            None => None,
-        }
+        self.store.first_stage()
     }
 
     /// Whether the operation of that stage is pending.
     pub fn is_pending(&self, stage: u64) -> bool
-        ensures { result ≡ list_any (is_at_stage stage) self.now.pending }
+        ensures { result ≡ list_any (is_at_stage stage) self.now.state.pending }
     {
-        has_stage(&self.pending, stage)
+        self.store.is_pending(stage)
     }
 
     /// The ends that are shown of the interval of that label and id, as numbers among the elements that the client sees, -1 where
     /// they are detached: None exactly where the view has no such interval.
     pub fn shown(&self, tree: &Tree<TextContent>, label: &Text, id: &Text) -> Option<Ends>
         requires usable { IsTrue tree.now.usable }
-        requires live { IsLive tree.now.refs self.now }
+        requires stands { StandsOn tree.now self.now }
         ensures { let xs = text_elements tree.now in
-            let c = placed tree.now.refs self.now in
+            let c = placed tree.now.refs self.now.state in
             result ≡ option_map (λ i. numbers_at xs last i.ends) (interval_of (label.now, id.now) (shown_intervals xs c.acked c.pending)) }
     {
-        let ends = shown_ends(tree, &self.acked, &self.pending, label, id)?;
-        Some(shown_numbers(tree, ends))
+        self.store.shown(tree, label, id)
     }
 
     /// All intervals as they are shown, by rising label and id.
     pub fn all(&self, tree: &Tree<TextContent>) -> Result<Vec<IntervalRec>, OutOfMemory>
         requires usable { IsTrue tree.now.usable }
-        requires live { IsLive tree.now.refs self.now }
+        requires stands { StandsOn tree.now self.now }
         ensures { let xs = text_elements tree.now in
-            let c = placed tree.now.refs self.now in
+            let c = placed tree.now.refs self.now.state in
             IfOk result (λ all. all.items ≡ map (shown_record xs) (shown_intervals xs c.acked c.pending)) }
     {
-        all_shown(tree, &self.acked, &self.pending)
+        self.store.all(tree)
     }
 
     /// The intervals of the label as they are shown that meet the places from `a` to `b`, by rising id: those that aren't
@@ -312,18 +281,30 @@ impl Collections {
         label: &Text,
         a: u64,
         b: u64,
-        _steps: &mut Steps<G>,
+        steps: &mut Steps<G>,
     ) -> Result<Vec<IntervalRec>, OutOfMemory>
         requires usable { IsTrue tree.now.usable }
-        requires live { IsLive tree.now.refs self.now }
+        requires stands { StandsOn tree.now self.now }
         requires order { a ≤ b }
-        ensures { let xs = text_elements tree.now in
-            let c = placed tree.now.refs self.now in
+        ensures found { let xs = text_elements tree.now in
+            let c = placed tree.now.refs self.now.state in
             IfOk result (λ found. found.items ≡ filter (meets label.now a b) (map (shown_record xs) (shown_intervals xs c.acked c.pending))) }
+
+        // For each interval that is found or pending, and once more, it reads a few nodes on each level of the label's index.
+        ensures cost { let xs = text_elements tree.now in
+            let c = placed tree.now.refs self.now.state in
+            let k = length (filter (meets label.now a b) (map (shown_record xs) (shown_intervals xs c.acked c.pending))) in
+            let depth = (list_in (index_of label.now self.now.indexes)).depth in
+            steps.new ≤ steps.old + 9 * (depth + 1) * (k + length self.now.state.pending + 1) }
+        ensures depth { let list = list_in (index_of label.now self.now.indexes) in 4 ^ list.depth ≤ length list.items + 1 }
+        ensures few { length (list_in (index_of label.now self.now.indexes)).items ≤ length self.now.state.acked }
     {
-        let mut found = self.all(tree)?;
-        found.retain(|i| meets(i, label, a, b));
-        Ok(found)
+        // That names rise is read off its contract.
+        let _first = self.store.first_stage();
+        let index = index_of(&self.indexes, label);
+        // How deep the index is is read off its contract.
+        order_is_kept(index);
+        overlapping(&self.store, tree, index, label, a, b, steps)
     }
 
     /// The operation of that pending stage as it is sent again after a reconnection: its ends, if it gives some, are settled at
@@ -336,46 +317,18 @@ impl Collections {
         stage: u64,
     ) -> Result<TextOp, OutOfMemory>
         requires usable { IsTrue tree.old.usable }
-        requires live { IsLive tree.old.refs self.old }
-        requires pending { IsSome (operation_at stage self.old.pending) }
+        requires stands { StandsOn tree.old self.old }
+        requires pending { IsSome (operation_at stage self.old.state.pending) }
         ensures op { let xs = text_elements tree.old in
-            let c = placed tree.old.refs self.old in
+            let c = placed tree.old.refs self.old.state in
             IfOk result (λ op. Some op ≡ option_map (λ t. regenerated xs stage (map_ends (settled_end xs stage) t.ends) t.op) (operation_at stage c.pending)) }
         ensures settled { let xs = text_elements tree.old in
-            OnOk result (placed tree.new.refs self.new ≡ with_ends_at stage (map_ends (settled_end xs stage)) (placed tree.old.refs self.old)) }
-        ensures refs { OnOk result (KeepsReferences self.old self.new tree.old.refs tree.new.refs) }
+            OnOk result (placed tree.new.refs self.new.state ≡ with_ends_at stage (map_ends (settled_end xs stage)) (placed tree.old.refs self.old.state)) }
+        ensures refs { OnOk result (KeepsReferences self.old.state self.new.state tree.old.refs tree.new.refs) }
         ensures rest { OnOk result (tree.new ≡ record tree.old { refs = tree.new.refs }) }
+        ensures stands { OnOk result (StandsOn tree.new self.new) }
         ensures err { OnErr result (tree.new.usable ≡ false) }
     {
-        match self.settle(tree, stage) {
-            Ok(op) => Ok(op),
-            Err(e) => {
-                tree.spoil();
-                Err(e)
-            }
-        }
-    }
-
-    /// The same, where nothing is said of the tree after `OutOfMemory`.
-    fn settle(&mut self, tree: &mut Tree<TextContent>, stage: u64) -> Result<TextOp, OutOfMemory>
-        requires usable { IsTrue tree.old.usable }
-        requires live { IsLive tree.old.refs self.old }
-        requires pending { IsSome (operation_at stage self.old.pending) }
-        ensures op { let xs = text_elements tree.old in
-            let c = placed tree.old.refs self.old in
-            IfOk result (λ op. Some op ≡ option_map (λ t. regenerated xs stage (map_ends (settled_end xs stage) t.ends) t.op) (operation_at stage c.pending)) }
-        ensures settled { let xs = text_elements tree.old in
-            OnOk result (placed tree.new.refs self.new ≡ with_ends_at stage (map_ends (settled_end xs stage)) (placed tree.old.refs self.old)) }
-        ensures refs { OnOk result (KeepsReferences self.old self.new tree.old.refs tree.new.refs) }
-        ensures rest { OnOk result (tree.new ≡ record tree.old { refs = tree.new.refs }) }
-    {
-        let Some(i) = place_of_stage(&self.pending, stage) else {
-            return Err(OutOfMemory);
-        };
-        let numbers = settled_numbers(tree, self.pending[i].ends, stage);
-        let again = add_numbers(tree, &numbers, stage)?;
-        drop_ends(tree, self.pending[i].ends);
-        self.pending[i].ends = again;
-        with_numbers(&self.pending[i].op, numbers)
+        self.store.settle_op(tree, stage)
     }
 }

@@ -5,13 +5,13 @@ use Rattle.std.proofs.lemmas.List.{map-append}
 use Rattle.std.proofs.lemmas.List.Elements.{All-cons, All-head, All-nil, All-tail}
 use Rattle.std.proofs.lemmas.Result.{IfErr-weaker}
 use Rattle.std.specs.Prelude.{IfErr}
-use Rattle.ft_interval.specs.declared.faults.IntervalFault.{IntervalFault}
-use Rattle.ft_interval.specs.declared.faults.IntervalFault.TheVariants.{IdInUse, NoSuchInterval, OutOfRange, OutOfMemory}
-use Rattle.ft_interval.specs.declared.intervals.EndPair.{EndPair}
-use Rattle.ft_interval.specs.declared.intervals.Interval.{Interval}
-use Rattle.ft_interval.specs.declared.pending.Operation.{Operation}
-use Rattle.ft_interval.specs.Ends.{References, places_of_ends}
-use Rattle.ft_interval.specs.State.{CollectionsState, IsAboveAll, IsAsBefore, IsFirst, IsLive, IsRefusedEdit, Pushes, first_stage, operation_at, placed, placed_operations, with_ends_at, with_first_acked, with_mapped_names}
+use Rattle.ft_interval_store.specs.declared.faults.IntervalFault.{IntervalFault}
+use Rattle.ft_interval_store.specs.declared.faults.IntervalFault.TheVariants.{IdInUse, NoSuchInterval, OutOfRange, OutOfMemory}
+use Rattle.ft_interval_store.specs.declared.intervals.EndPair.{EndPair}
+use Rattle.ft_interval_store.specs.declared.intervals.Interval.{Interval}
+use Rattle.ft_interval_store.specs.declared.pending.Operation.{Operation}
+use Rattle.ft_interval_store.specs.Ends.{References, places_of_ends}
+use Rattle.ft_interval_store.specs.State.{CollectionsState, IsAboveAll, IsAsBefore, IsFirst, IsLive, IsRefusedEdit, Pushes, first_stage, operation_at, placed, placed_operations, with_ends_at, with_first_acked, with_mapped_names}
 use Rattle.ft_tree_leaves.specs.declared.text.TextContent.{TextContent}
 use Rattle.ft_tree_leaves.specs.declared.references.Reference.{Reference}
 use Rattle.ft_tree_leaves.specs.Elements.{TreeElement}

@@ -1,9 +1,9 @@
 -- What goes together while a script is played, and what a call leaves that it goes on with.
 use Rattle.std.specs.Prelude.{◌≡◌, ℕ, ◌<◌, ◌≤◌, ◌∷◌, ◌++◌, [], Bool, true, List, Option, Some, None, All, IsTrue, map, ⊤}
-use Rattle.ft_interval.specs.declared.faults.IntervalFault.{IntervalFault}
-use Rattle.ft_interval.specs.declared.faults.IntervalFault.TheVariants.{OutOfMemory}
-use Rattle.ft_interval.specs.declared.pending.Operation.{Operation}
-use Rattle.ft_interval.specs.State.{CollectionsState, IsAsBefore, IsLive}
+use Rattle.ft_interval_store.specs.declared.faults.IntervalFault.{IntervalFault}
+use Rattle.ft_interval_store.specs.declared.faults.IntervalFault.TheVariants.{OutOfMemory}
+use Rattle.ft_interval_store.specs.declared.pending.Operation.{Operation}
+use Rattle.ft_interval_store.specs.State.{CollectionsState, IsAsBefore, IsLive}
 use Rattle.ft_tree_leaves.specs.declared.text.TextContent.{TextContent}
 use Rattle.ft_tree_leaves.specs.References.{IsReferenceIn}
 use Rattle.ft_tests_tree.specs.declared.progress.Progress.{Progress}

@@ -1,14 +1,14 @@
 //! Steps about intervals.
 
 ghost use Rattle.std.specs.Prelude.{◌≡◌, OnOk, true};
-ghost use Rattle.ft_interval.specs.State.{is_interval_operation};
+ghost use Rattle.ft_interval_store.specs.State.{is_interval_operation};
 ghost use Rattle.ft_tests_tree.specs.Playing.{Goes};
 
 use crate::operations::{edit, settle_first, take};
 use crate::progress::Progress;
 use crate::sights::{fault_text, operation_text};
 use ft_base::{OutOfMemory, Perspective};
-use ft_interval::{Collections, IntervalFault};
+use ft_interval_store::{IntervalFault, Store};
 use ft_op::TextOp;
 use ft_tests_steps::StepFault;
 use ft_tree::{TextContent, Tree};
@@ -20,7 +20,7 @@ use std::alloc::Global;
 pub(crate) fn edit_interval(
     alloc: Global,
     tree: &mut Tree<TextContent>,
-    intervals: &mut Collections,
+    intervals: &mut Store,
     progress: &mut Progress,
     op: &TextOp,
     out: &mut String,
@@ -55,7 +55,7 @@ fn push_fault(alloc: Global, out: &mut String, fault: IntervalFault) -> Result<(
 /// Returns `OutOfMemory` where there is no room for it.
 pub(crate) fn hear_interval(
     tree: &mut Tree<TextContent>,
-    intervals: &mut Collections,
+    intervals: &mut Store,
     progress: &mut Progress,
     op: &TextOp,
     at: Perspective,
@@ -78,7 +78,7 @@ pub(crate) fn hear_interval(
 pub(crate) fn settle(
     alloc: Global,
     tree: &mut Tree<TextContent>,
-    intervals: &mut Collections,
+    intervals: &mut Store,
     progress: &mut Progress,
     out: &mut String,
 ) -> Result<bool, StepFault>

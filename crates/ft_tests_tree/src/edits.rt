@@ -7,7 +7,7 @@ ghost use Rattle.ft_tests_steps.specs.Passing.{HasNoChanges, Passes};
 use crate::progress::Progress;
 use ft_base::{Element, OutOfMemory, Perspective, Stamp, Stamps, Steps};
 use ft_block::LenView;
-use ft_interval::Collections;
+use ft_interval_store::Store;
 use ft_plain_lists::{Content as Unit, PlainList};
 use ft_props::{AdjSet, Changes, PropSet, Props};
 use ft_tests_steps::StepFault;
@@ -271,7 +271,7 @@ pub(crate) fn make_edit(
     alloc: Global,
     tree: &mut Tree<TextContent>,
     list: &mut PlainList,
-    intervals: &Collections,
+    intervals: &Store,
     progress: &mut Progress,
     edit: &Edit,
 ) -> Result<bool, StepFault>
@@ -319,7 +319,7 @@ fn change_on<G: Ledger>(
 pub(crate) fn change(
     alloc: Global,
     tree: &mut Tree<TextContent>,
-    intervals: &Collections,
+    intervals: &Store,
     progress: &mut Progress,
     p: u64,
     q: u64,

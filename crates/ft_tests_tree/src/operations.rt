@@ -1,11 +1,11 @@
 //! Operations on intervals, and what a script goes on with behind each.
 
-ghost use Rattle.ft_interval.specs.State.{IsAboveAll, IsLive, first_stage, is_interval_operation};
+ghost use Rattle.ft_interval_store.specs.State.{IsAboveAll, IsLive, first_stage, is_interval_operation};
 ghost use Rattle.ft_tests_tree.specs.Playing.{Acknowledges, IsRefusal, Leaves, edited_stages, stages_of};
 ghost use Rattle.std.specs.Prelude.{◌≡◌, ◌≤◌, ◌∷◌, ◌++◌, [], IfErr, IfOk, IsTrue, OnOk, Some, true};
 
 use ft_base::{OutOfMemory, Perspective, Text};
-use ft_interval::{Collections, IntervalFault};
+use ft_interval_store::{IntervalFault, Store};
 use ft_op::{Ends, TextOp};
 use ft_props::PropSet;
 use ft_tree::{TextContent, Tree};
@@ -65,7 +65,7 @@ pub(crate) fn operation(
 ///
 /// Returns `OutOfMemory` where there is no room for it.
 pub(crate) fn take(
-    intervals: &mut Collections,
+    intervals: &mut Store,
     tree: &mut Tree<TextContent>,
     op: &TextOp,
     at: Perspective,
@@ -85,7 +85,7 @@ pub(crate) fn take(
 
 // Makes an edit of an interval, of that stage.
 fn make(
-    intervals: &mut Collections,
+    intervals: &mut Store,
     tree: &mut Tree<TextContent>,
     op: &TextOp,
     stage: u64,
@@ -109,7 +109,7 @@ fn make(
 ///
 /// Returns `OutOfMemory` where there is no room for it.
 pub(crate) fn edit(
-    intervals: &mut Collections,
+    intervals: &mut Store,
     tree: &mut Tree<TextContent>,
     op: &TextOp,
     stage: u64,
@@ -129,7 +129,7 @@ pub(crate) fn edit(
 }
 
 /// Whether the first pending operation is of that stage.
-pub(crate) fn is_first(intervals: &Collections, stage: u64) -> bool
+pub(crate) fn is_first(intervals: &Store, stage: u64) -> bool
     ensures { IsTrue result → first_stage intervals.now.pending ≡ Some stage }
 {
     match intervals.first_stage() {
@@ -142,7 +142,7 @@ pub(crate) fn is_first(intervals: &Collections, stage: u64) -> bool
 ///
 /// Returns `OutOfMemory` where there is no room for it.
 pub(crate) fn acknowledge_first(
-    intervals: &mut Collections,
+    intervals: &mut Store,
     tree: &mut Tree<TextContent>,
     stage: u64,
 ) -> Result<(), OutOfMemory>
@@ -159,7 +159,7 @@ pub(crate) fn acknowledge_first(
 ///
 /// Returns `OutOfMemory` where there is no room for it.
 pub(crate) fn settle_first(
-    intervals: &mut Collections,
+    intervals: &mut Store,
     tree: &mut Tree<TextContent>,
     stage: u64,
 ) -> Result<TextOp, OutOfMemory>

@@ -9,7 +9,7 @@ use crate::sights::listed;
 use crate::upkeep::acknowledge_next;
 use ft_base::Perspective;
 use ft_block::LenView;
-use ft_interval::Collections;
+use ft_interval_store::Store;
 use ft_plain_lists::{Before, PlainList};
 use ft_tests_steps::texts::shown;
 use ft_tests_steps::{Numbers, StepFault};
@@ -77,7 +77,7 @@ fn make_next(
     alloc: Global,
     tree: &mut Tree<TextContent>,
     list: &mut PlainList,
-    intervals: &mut Collections,
+    intervals: &mut Store,
     progress: &mut Progress,
     n: u64,
     numbers: &mut Numbers,
@@ -121,7 +121,7 @@ pub(crate) fn play(
     alloc: Global,
     tree: &mut Tree<TextContent>,
     list: &mut PlainList,
-    intervals: &mut Collections,
+    intervals: &mut Store,
     progress: &mut Progress,
     seed: u64,
     count: u64,

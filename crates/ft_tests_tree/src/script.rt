@@ -1,7 +1,7 @@
 //! Scripts, line by line.
 
 ghost use Rattle.std.specs.Prelude.{◌≡◌, OnOk, true};
-ghost use Rattle.ft_interval.specs.State.{is_interval_operation};
+ghost use Rattle.ft_interval_store.specs.State.{is_interval_operation};
 ghost use Rattle.ft_tests_tree.specs.Playing.{Goes, GoesOn};
 
 use crate::comments::{edit_interval, hear_interval, settle};
@@ -13,7 +13,7 @@ use crate::random::play;
 use crate::sights::{push_leaves, push_lengths, push_pieces, push_stages, show};
 use crate::upkeep::{acknowledge_next, compact, unmark};
 use ft_base::Perspective;
-use ft_interval::Collections;
+use ft_interval_store::Store;
 use ft_op::TextOp;
 use ft_plain_lists::PlainList;
 use ft_tests_input::Program;
@@ -47,7 +47,7 @@ fn played(alloc: Global, script: &str) -> Result<String, StepFault> {
 fn play_case(alloc: Global, case: &str, out: &mut String) -> Result<(), StepFault> {
     let mut tree = Tree::new(alloc);
     let mut list = PlainList::new(alloc);
-    let mut intervals = Collections::new(alloc);
+    let mut intervals = Store::new(alloc);
     let mut progress = Progress {
         stage: 1,
         first: 1,
@@ -72,7 +72,7 @@ fn play_lines(
     alloc: Global,
     tree: &mut Tree<TextContent>,
     list: &mut PlainList,
-    intervals: &mut Collections,
+    intervals: &mut Store,
     progress: &mut Progress,
     case: &str,
     out: &mut String,
@@ -98,7 +98,7 @@ fn take_line(
     alloc: Global,
     tree: &mut Tree<TextContent>,
     list: &mut PlainList,
-    intervals: &mut Collections,
+    intervals: &mut Store,
     progress: &mut Progress,
     text: &str,
     out: &mut String,
@@ -127,7 +127,7 @@ fn take_step(
     alloc: Global,
     tree: &mut Tree<TextContent>,
     list: &mut PlainList,
-    intervals: &mut Collections,
+    intervals: &mut Store,
     progress: &mut Progress,
     verb: Verb,
     line: &Line,
@@ -242,7 +242,7 @@ fn interval_edit_of(verb: Verb, line: &Line) -> Option<(IntervalKind, Option<Per
 fn take_interval_step(
     alloc: Global,
     tree: &mut Tree<TextContent>,
-    intervals: &mut Collections,
+    intervals: &mut Store,
     progress: &mut Progress,
     kind: IntervalKind,
     at: Option<Perspective>,
@@ -260,7 +260,7 @@ fn take_interval_step(
 fn take_operation(
     alloc: Global,
     tree: &mut Tree<TextContent>,
-    intervals: &mut Collections,
+    intervals: &mut Store,
     progress: &mut Progress,
     at: Option<Perspective>,
     op: &TextOp,
@@ -281,7 +281,7 @@ fn write_sight(
     alloc: Global,
     tree: &Tree<TextContent>,
     list: &PlainList,
-    intervals: &Collections,
+    intervals: &Store,
     progress: &Progress,
     verb: Verb,
     line: &Line,

@@ -2,13 +2,13 @@
 
 ghost use Rattle.std.specs.Prelude.{IsTrue};
 ghost use Rattle.ft_block.specs.Leaves.{IsLeafIn};
-ghost use Rattle.ft_interval.specs.State.{IsLive};
+ghost use Rattle.ft_interval_store.specs.State.{IsLive};
 
 use crate::edits::LOCAL;
 use ft_arena::NodeId;
 use ft_base::{Element, OutOfMemory, Perspective, Stamp};
 use ft_block::LenView;
-use ft_interval::{Collections, IntervalFault};
+use ft_interval_store::{IntervalFault, Store};
 use ft_op::{Ends, TextOp};
 use ft_plain_lists::{Content as Unit, PlainList};
 use ft_rebase::{Piece, regenerate, stage_position};
@@ -93,7 +93,7 @@ pub(crate) fn show(
     alloc: Global,
     tree: &Tree<TextContent>,
     list: &PlainList,
-    intervals: &Collections,
+    intervals: &Store,
     out: &mut String,
 ) -> Result<(), StepFault>
     requires usable { IsTrue tree.now.usable }

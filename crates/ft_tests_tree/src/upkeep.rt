@@ -6,7 +6,7 @@ ghost use Rattle.ft_tests_steps.specs.Passing.{HasNoReferences};
 
 use crate::operations::{acknowledge_first, is_first};
 use crate::progress::Progress;
-use ft_interval::Collections;
+use ft_interval_store::Store;
 use ft_plain_lists::PlainList;
 use ft_tests_steps::StepFault;
 use ft_tests_steps::texts::{acknowledge, first_marked};
@@ -17,7 +17,7 @@ use std::alloc::Global;
 // Acknowledges the operation on an interval of that stage, if there is one.
 fn acknowledge_interval(
     tree: &mut Tree<TextContent>,
-    intervals: &mut Collections,
+    intervals: &mut Store,
     progress: &mut Progress,
     stage: u64,
 ) -> Result<(), StepFault>
@@ -38,7 +38,7 @@ fn acknowledge_interval(
 pub(crate) fn acknowledge_next(
     tree: &mut Tree<TextContent>,
     list: &mut PlainList,
-    intervals: &mut Collections,
+    intervals: &mut Store,
     progress: &mut Progress,
     seq: u64,
 ) -> Result<bool, StepFault>
@@ -73,7 +73,7 @@ fn unmark_first(tree: &mut Tree<TextContent>, stage: u64) -> Result<bool, StepFa
 /// Returns `OutOfMemory` where there is no room for it.
 pub(crate) fn unmark(
     tree: &mut Tree<TextContent>,
-    intervals: &Collections,
+    intervals: &Store,
     progress: &mut Progress,
     stage: u64,
 ) -> Result<bool, StepFault>
@@ -138,7 +138,7 @@ fn swept(
 pub(crate) fn compact(
     alloc: Global,
     tree: &mut Tree<TextContent>,
-    intervals: &Collections,
+    intervals: &Store,
     progress: &mut Progress,
     floor: u64,
     budget: Option<u64>,

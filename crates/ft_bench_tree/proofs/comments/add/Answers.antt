@@ -1,7 +1,7 @@
 use Rattle.std.proofs.Common.{IsTrue, subst, sym}
 use Rattle.ft_tree.specs.State.{TreeState}
 use Rattle.ft_tree_leaves.specs.declared.text.TextContent.{TextContent}
-use Rattle.ft_interval.proofs.LocalEdits.{above-pushed}
+use Rattle.ft_interval_store.proofs.LocalEdits.{above-pushed}
 use Rattle.ft_bench_tree.proofs.comments.add.Goals as goal
 
 pub returns-in-Ok-clause-usable : goal.returns-in-Ok-clause-usable

@@ -1,8 +1,8 @@
 use Rattle.std.proofs.Common.{ℕ, ◌+◌, ◌*◌, ◌<◌, subst, sym, arith}
 use Rattle.std.proofs.lemmas.List.Elements.{All-nil}
-use Rattle.ft_interval.specs.declared.pending.Operation.{Operation}
-use Rattle.ft_interval.specs.State.{CollectionsState, IsAboveAll, IsLive}
-use Rattle.ft_interval.proofs.LocalEdits.{above-more}
+use Rattle.ft_interval_store.specs.declared.pending.Operation.{Operation}
+use Rattle.ft_interval_store.specs.State.{CollectionsState, IsAboveAll, IsLive}
+use Rattle.ft_interval_store.proofs.LocalEdits.{above-more}
 use Rattle.ft_bench_tree.proofs.comments.comment.Goals as goal
 
 pub loop-i-init : goal.loop-i-init

@@ -1,5 +1,5 @@
 use Rattle.std.proofs.Common.{◌+◌, ◌*◌, IsTrue}
-use Rattle.ft_interval.specs.State.{IsAboveAll, IsLive}
+use Rattle.ft_interval_store.specs.State.{IsAboveAll, IsLive}
 use Rattle.ft_bench_tree.proofs.comments.comment.Given as goal
 
 abbrev pub invariant-loop-i : goal.invariant-loop-i

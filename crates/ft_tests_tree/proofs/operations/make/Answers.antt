@@ -2,8 +2,8 @@ use Rattle.std.proofs.Common.{ap}
 use Rattle.std.proofs.lemmas.Result.{on_ok_weaker}
 use Rattle.ft_base.specs.Scan.{len}
 use Rattle.ft_block.specs.declared.leaves.LenView.TheVariants.{Stage}
-use Rattle.ft_interval.specs.Intervals.{name_in}
-use Rattle.ft_interval.specs.State.{is_add, is_change, is_delete, is_shown, placed, text_elements}
+use Rattle.ft_interval_store.specs.Intervals.{name_in}
+use Rattle.ft_interval_store.specs.State.{is_add, is_change, is_delete, is_shown, placed, text_elements}
 use Rattle.ft_tree_leaves.specs.Elements.{seen_in}
 use Rattle.ft_tests_tree.proofs.PlayingLaws.{pushed, undone}
 use Rattle.ft_tests_tree.proofs.operations.make.Goals as goal

@@ -1,27 +1,6 @@
-use Rattle.std.proofs.Common.{List, map, subst, sym, ◌∙◌, ap}
-use Rattle.std.proofs.lemmas.Result.{IfOk-weaker}
-use Rattle.ft_interval.specs.declared.pending.Operation.{Operation}
-use Rattle.ft_interval.specs.Shown.{shown_intervals, shown_record}
-use Rattle.ft_interval.specs.State.{AreLiveOperations, CollectionsState, IsLive, placed_intervals, placed_operations, text_elements}
-use Rattle.ft_interval.proofs.KeptEnds.{live-intervals, live-operations}
+use Rattle.std.proofs.Common.{sym, subst}
+use Rattle.ft_interval.specs.Indexes.{IndexedState, StandsOn}
 use Rattle.ft_interval.proofs.collections.Collections.all.Goals as goal
 
-pub all_shown-requires-clause-acked : goal.all_shown-requires-clause-acked
-all_shown-requires-clause-acked c =
-    let old : CollectionsState = record { acked = c.self.inside.acked; pending = c.self.inside.pending.items } in
-    live-intervals c.args.tree.now.refs old (subst (λ x. IsLive c.args.tree.now.refs x) (sym c.self.view_is) c.requires.live)
-
-pub all_shown-requires-clause-pending : goal.all_shown-requires-clause-pending
-all_shown-requires-clause-pending c =
-    let old : CollectionsState = record { acked = c.self.inside.acked; pending = c.self.inside.pending.items } in
-    subst (λ ts. AreLiveOperations c.args.tree.now.refs ts) (sym c.deref.ensures.value)
-    (live-operations c.args.tree.now.refs old (subst (λ x. IsLive c.args.tree.now.refs x) (sym c.self.view_is) c.requires.live))
-
-pub returns : goal.returns
-returns c =
-    let xs = text_elements c.args.tree.now in
-    let refs = c.args.tree.now.refs in
-    let is = placed_intervals refs c.self.inside.acked in
-    let same = ap (λ (ps : List Operation). map (shown_record xs) (shown_intervals xs is (placed_operations refs ps))) c.deref.ensures.value
-    ∙ ap (λ (x : CollectionsState). map (shown_record xs) (shown_intervals xs (placed_intervals refs x.acked) (placed_operations refs x.pending))) c.self.view_is in
-    IfOk-weaker c.all_shown.result _ _ (λ all e. e ∙ same) c.all_shown.ensures
+pub all-requires-clause-live : goal.all-requires-clause-live
+all-requires-clause-live c = (subst (λ (x : IndexedState). StandsOn c.args.tree.now x) (sym c.self.view_is) c.requires.stands).live

@@ -1,70 +1,69 @@
-use Rattle.std.proofs.Common.{◌≡◌, ℕ, List, sym, ◌∙◌, ap, subst}
-use Rattle.ft_base.specs.Scan.{len}
+use Rattle.std.proofs.Common.{sym, ◌∙◌, ap, subst}
 use Rattle.ft_block.specs.declared.leaves.LenView.TheVariants.{At}
+use Rattle.ft_op.specs.Document.{ends_of}
 use Rattle.ft_tree_leaves.specs.Elements.{seen_in}
-use Rattle.ft_op.specs.Document.{ends_of, given_ends_fit}
-use Rattle.ft_interval.specs.declared.intervals.Interval.{Interval}
-use Rattle.ft_interval.specs.Ends.{map_ends, places_of_ends, places_of_given, slid_end}
-use Rattle.ft_interval.specs.Intervals.{after_operation}
-use Rattle.ft_interval.specs.State.{CollectionsState, IsInOrder, IsLive, KeepsReferences, placed, placed_intervals, text_elements, with_effect}
-use Rattle.ft_interval.proofs.AppliedEffect.{applied-in_order, applied-kept_once, applied-places, applied-references}
+use Rattle.ft_interval_store.specs.Ends.{map_ends, places_of_given, slid_end}
+use Rattle.ft_interval_store.specs.State.{KeepsReferences, placed, text_elements, with_effect}
+use Rattle.ft_interval.specs.Indexes.{IndexedState, StandsOn}
+use Rattle.ft_interval.proofs.Effects.{live-applied, out-applied, within-applied}
 use Rattle.ft_interval.proofs.collections.Collections.apply.Goals as goal
 
-pub take_effect-requires-clause-kept : goal.take_effect-requires-clause-kept
-take_effect-requires-clause-kept c =
-    let old : CollectionsState = record { acked = c.self.inside.acked; pending = c.self.inside.pending.items } in
-    let before = c.args.tree.now.refs in
-    let live : IsLive before old = subst (λ x. IsLive before x) (sym c.self.view_is) c.requires.live in
-    let places = places_of_given (seen_in (At c.args.at)) (text_elements c.args.tree.now) c.given_ends-given.result in
-    applied-kept_once places old c.in_ok-ends.ends before c.add_ends.new.tree.refs live c.in_ok-ends.ensures.ends c.self.invariant
+pub unlist_changed-requires-clause-live : goal.unlist_changed-requires-clause-live
+unlist_changed-requires-clause-live c = (subst (λ (x : IndexedState). StandsOn c.args.tree.now x) (sym c.self.view_is) c.requires.stands).live
 
-pub invariant_of-self-2 : goal.invariant_of-self-2
-invariant_of-self-2 c =
-    let old : CollectionsState = record { acked = c.self.inside.acked; pending = c.self.inside.pending.items } in
-    let before = c.args.tree.now.refs in
-    let live : IsLive before old = subst (λ x. IsLive before x) (sym c.self.view_is) c.requires.live in
-    let places = places_of_given (seen_in (At c.args.at)) (text_elements c.args.tree.now) c.given_ends-given.result in
-    applied-in_order places old c.in_ok-ends.ends before c.add_ends.new.tree.refs live c.in_ok-ends.ensures.ends
-    c.take_effect.new.intervals c.take_effect.new.tree.refs c.self.invariant c.in_ok-take_effect.ensures.refs
+pub unlist_changed-requires-clause-listed : goal.unlist_changed-requires-clause-listed
+unlist_changed-requires-clause-listed c = (subst (λ (x : IndexedState). StandsOn c.args.tree.now x) (sym c.self.view_is) c.requires.stands).listed
 
-pub returns-clause-fits : goal.returns-clause-fits
-returns-clause-fits c =
+pub apply-requires-clause-live : goal.apply-requires-clause-live
+apply-requires-clause-live c = (subst (λ (x : IndexedState). StandsOn c.args.tree.now x) (sym c.self.view_is) c.requires.stands).live
+
+pub enlist_changed-requires-clause-live : goal.enlist_changed-requires-clause-live
+enlist_changed-requires-clause-live c =
+    let s = subst (λ (x : IndexedState). StandsOn c.args.tree.now x) (sym c.self.view_is) c.requires.stands in
     let xs = text_elements c.args.tree.now in
-    let seen = seen_in (At c.args.at) in
-    sym c.if-not-given_ends_fit.false ∙ c.given_ends_fit.ensures ∙ ap (λ n. given_ends_fit n c.given_ends-given.result) c.length.ensures
-    ∙ ap (λ g. given_ends_fit (len seen xs) g) c.given_ends-given.ensures
+    let places = places_of_given (seen_in (At c.args.at)) xs (ends_of c.args.op.now) in
+    live-applied c.args.tree.now c.apply.new.tree c.self.inside.store c.apply.new.self c.args.op.now c.self.inside.indexes.items c.unlist_changed.new.indexes.items c.first_stage-first.ensures.names
+    c.in_ok-fits.ensures.rest s.listed c.unlist_changed.ensures c.in_ok-fits.fits places c.in_ok-fits.ensures.effect c.in_ok-fits.ensures.after c.in_ok-fits.ensures.misfit c.in_ok-fits.ensures.refs s.live
+
+pub enlist_changed-requires-clause-listed : goal.enlist_changed-requires-clause-listed
+enlist_changed-requires-clause-listed c =
+    let s = subst (λ (x : IndexedState). StandsOn c.args.tree.now x) (sym c.self.view_is) c.requires.stands in
+    let xs = text_elements c.args.tree.now in
+    let places = places_of_given (seen_in (At c.args.at)) xs (ends_of c.args.op.now) in
+    out-applied c.args.tree.now c.apply.new.tree c.self.inside.store c.apply.new.self c.args.op.now c.self.inside.indexes.items c.unlist_changed.new.indexes.items c.first_stage-first.ensures.names
+    c.in_ok-fits.ensures.rest s.listed c.unlist_changed.ensures c.in_ok-fits.fits places c.in_ok-fits.ensures.effect c.in_ok-fits.ensures.after c.in_ok-fits.ensures.misfit
+
+pub enlist_changed-requires-clause-within : goal.enlist_changed-requires-clause-within
+enlist_changed-requires-clause-within c =
+    let s = subst (λ (x : IndexedState). StandsOn c.args.tree.now x) (sym c.self.view_is) c.requires.stands in
+    let xs = text_elements c.args.tree.now in
+    let places = places_of_given (seen_in (At c.args.at)) xs (ends_of c.args.op.now) in
+    within-applied c.args.tree.now c.apply.new.tree c.self.inside.store c.apply.new.self c.args.op.now c.self.inside.indexes.items c.unlist_changed.new.indexes.items c.first_stage-first.ensures.names
+    c.in_ok-fits.ensures.rest s.listed c.unlist_changed.ensures c.in_ok-fits.fits places c.in_ok-fits.ensures.effect c.in_ok-fits.ensures.after c.in_ok-fits.ensures.misfit
+
+pub returns-clause-stands : goal.returns-clause-stands
+returns-clause-stands c =
+    let s = subst (λ (x : IndexedState). StandsOn c.args.tree.now x) (sym c.self.view_is) c.requires.stands in
+    let xs = text_elements c.args.tree.now in
+    let places = places_of_given (seen_in (At c.args.at)) xs (ends_of c.args.op.now) in
+    record {
+      live = live-applied c.args.tree.now c.apply.new.tree c.self.inside.store c.apply.new.self c.args.op.now c.self.inside.indexes.items c.unlist_changed.new.indexes.items c.first_stage-first.ensures.names
+          c.in_ok-fits.ensures.rest s.listed c.unlist_changed.ensures c.in_ok-fits.fits places c.in_ok-fits.ensures.effect c.in_ok-fits.ensures.after c.in_ok-fits.ensures.misfit c.in_ok-fits.ensures.refs s.live;
+      listed = c.in-Ok.ensures;
+    }
 
 pub returns-clause-effect : goal.returns-clause-effect
-returns-clause-effect c = λ _.
-    let old : CollectionsState = record { acked = c.self.inside.acked; pending = c.self.inside.pending.items } in
-    let before = c.args.tree.now.refs in
-    let mid = c.add_ends.new.tree.refs in
-    let op = c.args.op.now in
+returns-clause-effect c = λ e.
     let xs = text_elements c.args.tree.now in
-    let seen = seen_in (At c.args.at) in
-    let live : IsLive before old = subst (λ x. IsLive before x) (sym c.self.view_is) c.requires.live in
-    let places = places_of_given seen xs c.given_ends-given.result in
-    let same : text_elements c.add_ends.new.tree ≡ xs = ap text_elements c.in_ok-ends.ensures.rest in
-    let effect = c.in_ok-take_effect.ensures.placed
-    ∙ ap (λ ys. after_operation op (map_ends (slid_end ys) (places_of_ends mid c.in_ok-ends.ends)) (placed_intervals mid old.acked)) same in
-    applied-places places old c.in_ok-ends.ends before mid live c.in_ok-ends.ensures.ends
-    c.take_effect.new.intervals c.take_effect.new.tree.refs c.self.invariant c.in_ok-take_effect.ensures.refs xs op effect
-    ∙ ap (λ g. with_effect op (map_ends (slid_end xs) (places_of_given seen xs g)) (placed before old)) c.given_ends-given.ensures
-    ∙ ap (λ x. with_effect op (map_ends (slid_end xs) (places_of_given seen xs (ends_of op))) (placed before x)) c.self.view_is
+    let places = places_of_given (seen_in (At c.args.at)) xs (ends_of c.args.op.now) in
+    c.in_ok-fits.ensures.effect e
+    ∙ ap (λ (x : IndexedState). with_effect c.args.op.now (map_ends (slid_end xs) places) (placed c.args.tree.now.refs x.state)) c.self.view_is
 
 pub returns-clause-refs : goal.returns-clause-refs
-returns-clause-refs c = λ _.
-    let old : CollectionsState = record { acked = c.self.inside.acked; pending = c.self.inside.pending.items } in
-    let now : CollectionsState = record { acked = c.take_effect.new.intervals; pending = c.self.inside.pending.items } in
-    let before = c.args.tree.now.refs in
-    let after = c.take_effect.new.tree.refs in
-    let live : IsLive before old = subst (λ x. IsLive before x) (sym c.self.view_is) c.requires.live in
-    let places = places_of_given (seen_in (At c.args.at)) (text_elements c.args.tree.now) c.given_ends-given.result in
-    subst (λ x. KeepsReferences x now before after) c.self.view_is
-    (applied-references places old c.in_ok-ends.ends before c.add_ends.new.tree.refs live c.in_ok-ends.ensures.ends
-    c.take_effect.new.intervals after c.self.invariant c.in_ok-take_effect.ensures.refs)
+returns-clause-refs c = λ e.
+    subst (λ (x : IndexedState). KeepsReferences x.state c.apply.new.self c.args.tree.now.refs c.apply.new.tree.refs) c.self.view_is (c.in_ok-fits.ensures.refs e)
 
-pub invariant_of-self : goal.invariant_of-self
-invariant_of-self c =
-    subst (λ (is : List (Interval ℕ)). let x : CollectionsState = record { acked = is; pending = c.self.inside.pending.items } in IsInOrder x)
-    (sym c.in_err-take_effect.ensures.err) c.self.invariant
+pub returns-clause-misfit : goal.returns-clause-misfit
+returns-clause-misfit c = λ e.
+    let m = c.in_ok-fits.ensures.misfit e in
+    (m.0 ∙ ap (λ (x : IndexedState). x.state) c.self.view_is, m.1)

@@ -1,30 +1,27 @@
-use Rattle.std.proofs.Common.{not, refl, sym, ◌∙◌, ap}
+use Rattle.std.proofs.Common.{sym, ap, subst}
 use Rattle.std.proofs.lemmas.Result.{on_ok_weaker}
+use Rattle.std.specs.Prelude.{IfErr}
 use Rattle.ft_base.specs.Scan.{len}
 use Rattle.ft_block.specs.declared.leaves.LenView.TheVariants.{Stage}
 use Rattle.ft_tree_leaves.specs.Elements.{seen_in}
-use Rattle.ft_interval.specs.Intervals.{name_in}
-use Rattle.ft_interval.specs.State.{IsAsBefore, is_add, is_shown, placed, text_elements}
-use Rattle.ft_interval.proofs.LocalEdits.{edit-refused}
+use Rattle.ft_interval_store.specs.Intervals.{name_in}
+use Rattle.ft_interval_store.specs.State.{CollectionsState, IsAsBefore, IsRefusedEdit, is_shown, placed, text_elements}
+use Rattle.ft_interval.specs.Indexes.{IndexedState, StandsOn}
+use Rattle.ft_interval.proofs.StandsSteps.{stands-kept}
 use Rattle.ft_interval.proofs.collections.Collections.delete_local.Goals as goal
 
-pub returns-then-not-is_shown-clause-refused : goal.returns-then-not-is_shown-clause-refused
-returns-then-not-is_shown-clause-refused c =
-    let xs = text_elements c.args.tree.now in
-    let c0 = placed c.args.tree.now.refs c.args.self.now in
-    (ap is_add c.in-IntervalDelete.is, ap (λ o. is_shown xs (name_in o) c0) c.in-IntervalDelete.is ∙ sym c.is_shown.ensures ∙ c.if-not-is_shown.true, (refl, refl))
+pub delete_local-requires-clause-live : goal.delete_local-requires-clause-live
+delete_local-requires-clause-live c = (subst (λ (x : IndexedState). StandsOn c.args.tree.now x) (sym c.self.view_is) c.requires.stands).live
 
-pub returns-clause-name : goal.returns-clause-name
-returns-clause-name c =
-    let xs = text_elements c.args.tree.now in
-    let c0 = placed c.args.tree.now.refs c.args.self.now in
-    let shown = ap (λ o. is_shown xs (name_in o) c0) c.in-IntervalDelete.is ∙ sym c.is_shown.ensures ∙ c.if-not-is_shown.false in
-    on_ok_weaker c.push.result (λ _. shown ∙ sym (ap (λ o. not (is_add o)) c.in-IntervalDelete.is)) c.push.ensures.taken
+pub returns-clause-stands : goal.returns-clause-stands
+returns-clause-stands c =
+    let s = subst (λ (x : IndexedState). StandsOn c.args.tree.now x) (sym c.self.view_is) c.requires.stands in
+    on_ok_weaker c.delete_local.result (λ p. stands-kept c.args.tree.now c.delete_local.new.tree c.self.inside.store c.delete_local.new.self c.self.inside.indexes.items
+    c.delete_local.ensures.acked (ap (λ (x : CollectionsState). x.acked) p.pending) p.rest p.refs.live s.listed) c.delete_local.ensures.taken
 
 pub returns-clause-refused : goal.returns-clause-refused
 returns-clause-refused c =
-    let xs = text_elements c.args.tree.now in
-    let c0 = placed c.args.tree.now.refs c.args.self.now in
-    let shown = ap (λ o. is_shown xs (name_in o) c0) c.in-IntervalDelete.is ∙ sym c.is_shown.ensures ∙ c.if-not-is_shown.false in
-    edit-refused c.push.result (is_shown xs (name_in c.args.op.now) c0) (len (seen_in (Stage c.args.stage)) xs) c.args.op.now
-    (IsAsBefore c.args.self.now c.push.new.self c.args.tree.now c.push.new.tree) (shown ∙ sym (ap (λ o. not (is_add o)) c.in-IntervalDelete.is)) c.push.ensures.refused
+    let tree = c.args.tree.now in
+    let xs = text_elements tree in
+    subst (λ (x : IndexedState). IfErr c.delete_local.result (IsRefusedEdit (is_shown xs (name_in c.args.op.now) (placed tree.refs x.state)) (len (seen_in (Stage c.args.stage)) xs) c.args.op.now
+    (IsAsBefore x.state c.delete_local.new.self tree c.delete_local.new.tree))) c.self.view_is c.delete_local.ensures.refused

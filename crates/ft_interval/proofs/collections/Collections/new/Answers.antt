@@ -1,0 +1,11 @@
+use Rattle.std.proofs.Common.{[], ◌≡◌, List, ap, sym, subst, ◌∙◌}
+use Rattle.ft_interval_store.specs.State.{CollectionsState}
+use Rattle.ft_interval.specs.declared.indexes.LabelIndex.{LabelIndex}
+use Rattle.ft_interval.specs.Indexes.{IndexedState, StandsOn}
+use Rattle.ft_interval.proofs.StandsSteps.{stands-none}
+use Rattle.ft_interval.proofs.collections.Collections.new.Goals as goal
+
+pub returns-clause-stands : goal.returns-clause-stands
+returns-clause-stands c tree =
+    subst (λ (s : CollectionsState). (let x : IndexedState = record { state = s; indexes = c.new-2.result.items } in StandsOn tree x)) (sym c.new.ensures)
+    (subst (λ (xs : List LabelIndex). (let x : IndexedState = record { state = record { acked = []; pending = [] }; indexes = xs } in StandsOn tree x)) (sym c.new-2.ensures.items) (stands-none tree))

@@ -1,0 +1,52 @@
+use Rattle.std.proofs.Common.{ℕ, ◌+◌, List, [], take, map, refl, sym, ◌∙◌, subst}
+use Rattle.std.proofs.lemmas.List.{take_all}
+use Rattle.std.proofs.lemmas.List.Elements.{All-get_or}
+use Rattle.ft_refs.specs.declared.numbers.Place.{Place}
+use Rattle.ft_interval_store.specs.declared.intervals.Interval.{Interval}
+use Rattle.ft_interval_store.specs.Ends.{AreLiveEnds, places_of_ends}
+use Rattle.ft_interval_store.specs.Shown.{settled_interval}
+use Rattle.ft_interval_store.specs.Standing.{ShowsAll}
+use Rattle.ft_interval_store.specs.State.{AreLiveIntervals, placed_intervals, text_elements, with_mapped_ends}
+use Rattle.ft_interval_store.proofs.OneInterval.{NamesRise-map}
+use Rattle.ft_interval_store.proofs.ShownAll.{next-shown, rise-shown}
+use Rattle.ft_interval_store.proofs.all.first_places.Goals as goal
+
+pub loop-i-init : goal.loop-i-init
+loop-i-init c = subst (λ js. ShowsAll c.args.tree.now 0 [] js) (sym c.new-items.ensures.items) tt
+
+pub placed-requires-clause-live : goal.placed-requires-clause-live
+placed-requires-clause-live c =
+    let refs = c.args.tree.now.refs in
+    let all = subst (λ is. AreLiveIntervals refs is) (sym c.as_slice-intervals.ensures.value) c.requires.live in
+    subst (λ (i : Interval ℕ). AreLiveEnds refs i.ends) (sym c.i-item.is)
+    (All-get_or (λ (i : Interval ℕ). AreLiveEnds refs i.ends) c.as_slice-intervals.result.now c.loop-i.i-index c.i-item.result c.loop-i-test.true all)
+
+pub loop-i-preserved : goal.loop-i-preserved
+loop-i-preserved c =
+    let xs = text_elements c.args.tree.now in
+    let refs = c.args.tree.now.refs in
+    let is = c.as_slice-intervals.result.now in
+    let n = c.loop-i.i-index in
+    let pushed = sym {A = List (Interval Place)} c.in_ok-push.ensures.items in
+    subst (λ js. ShowsAll c.args.tree.now 0 (map (settled_interval xs 0) (placed_intervals refs (take (n + 1) is))) js) pushed
+    (next-shown c.args.tree.now 0 (settled_interval xs 0) (with_mapped_ends (places_of_ends refs)) is c.loop-i.items.items n c.i-item.result c.in_ok-placed.field-0
+    c.loop-i-test.true c.i-item.is c.loop-i.invariant c.in_ok-placed.ensures)
+
+pub invariant_of-result : goal.invariant_of-result
+invariant_of-result c =
+    let xs = text_elements c.args.tree.now in
+    let refs = c.args.tree.now.refs in
+    let js = c.loop-i.items.items in
+    let acked = c.args.acked.now in
+    let whole = take_all c.loop-i.i-index c.as_slice-intervals.result.now c.loop-i-test.false ∙ c.as_slice-intervals.ensures.value in
+    let shows = subst (λ is. ShowsAll c.args.tree.now 0 (map (settled_interval xs 0) (placed_intervals refs is)) js) whole c.loop-i.invariant in
+    let rise = NamesRise-map (with_mapped_ends (places_of_ends refs)) acked (λ i. refl) c.as_slice-intervals.ensures.rising in
+    rise-shown c.args.tree.now 0 (map (settled_interval xs 0) (placed_intervals refs acked)) js shows
+    (NamesRise-map (settled_interval xs 0) (placed_intervals refs acked) (λ i. refl) rise)
+
+pub returns : goal.returns
+returns c =
+    let xs = text_elements c.args.tree.now in
+    let refs = c.args.tree.now.refs in
+    let whole = take_all c.loop-i.i-index c.as_slice-intervals.result.now c.loop-i-test.false ∙ c.as_slice-intervals.ensures.value in
+    subst (λ is. ShowsAll c.args.tree.now 0 (map (settled_interval xs 0) (placed_intervals refs is)) c.loop-i.items.items) whole c.loop-i.invariant

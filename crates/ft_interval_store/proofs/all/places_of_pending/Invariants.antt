@@ -1,0 +1,17 @@
+use Rattle.std.proofs.Common.{◌≤◌, ℕ, List, All, map, take}
+use Rattle.ft_interval_store.specs.declared.intervals.Interval.{Interval}
+use Rattle.ft_interval_store.specs.declared.pending.Operation.{Operation}
+use Rattle.ft_interval_store.specs.Gathered.{IsPartOf, is_on_any}
+use Rattle.ft_interval_store.specs.Shown.{last, settled_interval}
+use Rattle.ft_interval_store.specs.Standing.{ShowsAll}
+use Rattle.ft_interval_store.specs.State.{placed_intervals, text_elements}
+use Rattle.ft_interval_store.proofs.all.places_of_pending.Given as goal
+
+-- those of the operations so far
+abbrev pub invariant-loop-t : goal.invariant-loop-t
+invariant-loop-t l =
+    let from = map (settled_interval (text_elements l.tree) 0) (placed_intervals l.tree.refs l.acked) in
+    record {
+      part : (is : List (Interval ℕ)) × ShowsAll l.tree 0 is l.all × IsPartOf from is (λ n. is_on_any n (take l.t-index l.pending));
+      fits : All (λ (t : Operation). t.stage ≤ last) (take l.t-index l.pending);
+    }

@@ -1,0 +1,37 @@
+use Rattle.std.proofs.Common.{sym, ◌∙◌, ap, arith, set}
+use Rattle.std.proofs.lemmas.Result.{on_ok_weaker}
+use Rattle.ft_interval_store.specs.Intervals.{Name, changed_interval, name_of, place_of_name, with_changed}
+use Rattle.ft_interval_store.proofs.RisingNames.{NamesRise-at, changed-found, changed-missing, found-in_range}
+use Rattle.ft_interval_store.proofs.intervals.Intervals.change.Goals as goal
+
+pub index_mut-requires : goal.index_mut-requires
+index_mut-requires g c =
+    let n : Name = (c.args.label.now, c.args.id.now) in
+    let place = ap (place_of_name n) c.self.view_is ∙ sym c.search.ensures ∙ c.in-Ok.is in
+    omega (arith, found-in_range n c.in-Ok.i c.self.inside.items.items place)
+
+pub invariant_of-self : goal.invariant_of-self
+invariant_of-self g c =
+    let n : Name = (c.args.label.now, c.args.id.now) in
+    let items = c.self.inside.items.items in
+    let place = ap (place_of_name n) c.self.view_is ∙ sym c.search.ensures ∙ c.in-Ok.is in
+    let was = c.index_mut.result.now in
+    let name = c.change.ensures.name ∙ ap (λ x. name_of x) c.index_mut.ensures.value in
+    NamesRise-at c.in-Ok.i c.change.new.self was items (found-in_range n c.in-Ok.i items place) name c.self.invariant
+
+pub returns-in-Ok-clause-ok : goal.returns-in-Ok-clause-ok
+returns-in-Ok-clause-ok g c =
+    let n : Name = (c.args.label.now, c.args.id.now) in
+    let items = c.self.inside.items.items in
+    let place = ap (place_of_name n) c.self.view_is ∙ sym c.search.ensures ∙ c.in-Ok.is in
+    let was = c.index_mut.result.now in
+    let f = changed_interval c.args.given c.args.ends c.args.props.now in
+    on_ok_weaker c.change.result
+    (λ e. ap (λ x. set items c.in-Ok.i x) (e ∙ ap f c.index_mut.ensures.value) ∙ sym (changed-found n f c.in-Ok.i was items place) ∙ ap (with_changed n f) c.self.view_is)
+    c.change.ensures.ok
+
+pub returns-in-Err-clause-ok : goal.returns-in-Err-clause-ok
+returns-in-Err-clause-ok g c =
+    let n : Name = (c.args.label.now, c.args.id.now) in
+    let f = changed_interval c.args.given c.args.ends c.args.props.now in
+    sym (changed-missing n f c.in-Err.field-0 c.args.self.now (sym c.search.ensures ∙ c.in-Err.is))

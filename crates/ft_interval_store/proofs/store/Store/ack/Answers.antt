@@ -1,0 +1,45 @@
+use Rattle.std.proofs.Common.{sym, subst, arith}
+use Rattle.ft_interval_store.specs.State.{IsFirst, text_elements}
+use Rattle.ft_interval_store.proofs.AppliedEffect.{ack-in_order, ack-kept, ack-places, ack-references, first-split, some-first}
+use Rattle.ft_interval_store.proofs.store.Store.ack.Goals as goal
+
+pub remove-t-requires : goal.remove-t-requires
+remove-t-requires c =
+    let some = some-first c.args.stage c.self.inside.acked c.self.inside.pending.items (subst (λ x. IsFirst c.args.stage x) (sym c.self.view_is) c.requires.first) in
+    omega (arith, some, c.self.inside.pending.ok.0)
+
+pub take_effect-requires-clause-kept : goal.take_effect-requires-clause-kept
+take_effect-requires-clause-kept c =
+    let is = c.self.inside.acked in
+    let ps = c.self.inside.pending.items in
+    let some = some-first c.args.stage is ps (subst (λ x. IsFirst c.args.stage x) (sym c.self.view_is) c.requires.first) in
+    let split = first-split ps c.remove-t.result c.remove-t.result c.remove-t.new.self.items some c.remove-t.ensures.value c.remove-t.ensures.items in
+    ack-kept is ps c.remove-t.result c.remove-t.new.self.items split c.args.self.now c.self.view_is c.self.invariant c.args.tree.now.refs c.requires.live
+
+pub invariant_of-self : goal.invariant_of-self
+invariant_of-self c =
+    let is = c.self.inside.acked in
+    let ps = c.self.inside.pending.items in
+    let some = some-first c.args.stage is ps (subst (λ x. IsFirst c.args.stage x) (sym c.self.view_is) c.requires.first) in
+    let split = first-split ps c.remove-t.result c.remove-t.result c.remove-t.new.self.items some c.remove-t.ensures.value c.remove-t.ensures.items in
+    ack-in_order is ps c.remove-t.result c.remove-t.new.self.items split c.args.self.now c.self.view_is c.self.invariant c.args.tree.now.refs c.requires.live
+    c.take_effect.result c.take_effect.new.intervals c.take_effect.new.tree.refs c.take_effect.ensures.refs c.take_effect.ensures.err
+
+pub returns-clause-effect : goal.returns-clause-effect
+returns-clause-effect c =
+    let is = c.self.inside.acked in
+    let ps = c.self.inside.pending.items in
+    let some = some-first c.args.stage is ps (subst (λ x. IsFirst c.args.stage x) (sym c.self.view_is) c.requires.first) in
+    let split = first-split ps c.remove-t.result c.remove-t.result c.remove-t.new.self.items some c.remove-t.ensures.value c.remove-t.ensures.items in
+    ack-places is ps c.remove-t.result c.remove-t.new.self.items split c.args.self.now c.self.view_is c.self.invariant c.args.tree.now.refs c.requires.live
+    (text_elements c.args.tree.now) c.take_effect.result c.take_effect.new.intervals c.take_effect.new.tree.refs c.take_effect.ensures.refs
+    c.take_effect.ensures.placed
+
+pub returns-clause-refs : goal.returns-clause-refs
+returns-clause-refs c =
+    let is = c.self.inside.acked in
+    let ps = c.self.inside.pending.items in
+    let some = some-first c.args.stage is ps (subst (λ x. IsFirst c.args.stage x) (sym c.self.view_is) c.requires.first) in
+    let split = first-split ps c.remove-t.result c.remove-t.result c.remove-t.new.self.items some c.remove-t.ensures.value c.remove-t.ensures.items in
+    ack-references is ps c.remove-t.result c.remove-t.new.self.items split c.args.self.now c.self.view_is c.self.invariant c.args.tree.now.refs c.requires.live
+    c.take_effect.result c.take_effect.new.intervals c.take_effect.new.tree.refs c.take_effect.ensures.refs

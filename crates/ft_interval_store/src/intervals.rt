@@ -1,0 +1,228 @@
+//! Intervals by rising label and id.
+
+ghost use Rattle.std.specs.Prelude.{◌≡◌, [], OnOk, OnErr, option_copied};
+ghost use Rattle.std.specs.Ordering.{is_eq};
+ghost use Rattle.ft_props.specs.Keys.{put_rising};
+ghost use Rattle.ft_interval_store.specs.Intervals.{after_operation, changed_interval, interval_cmp, interval_of, name_cmp, name_of, place_of_name, with_changed, without_name};
+
+use ft_base::{Datum, OutOfMemory, Text};
+use ft_op::{Ends, TextOp};
+use ft_props::keys::compare;
+use ft_props::{PropSet, Props};
+use std::alloc::Global;
+use std::cmp::Ordering;
+use std::marker::Model;
+
+/// The two ends of an interval, each None where it is detached.
+#[derive(Clone, Copy, Debug, PartialEq, Eq)]
+pub struct EndPair<T> {
+    pub start: Option<T>,
+    pub end: Option<T>,
+}
+
+/// An interval.
+#[derive(Drop)]
+pub struct Interval<T> {
+    pub label: Text,
+    pub id: Text,
+    pub ends: EndPair<T>,
+    pub props: Props,
+}
+
+/// The order of two names: by label, then by id.
+fn name_order(label: &Text, id: &Text, other_label: &Text, other_id: &Text) -> Ordering
+    ensures { result ≡ name_cmp (label.now, id.now) (other_label.now, other_id.now) }
+{
+    compare(label.as_str(), other_label.as_str()).then(compare(id.as_str(), other_id.as_str()))
+}
+
+/// Whether two names are the same.
+pub fn is_same_name(label: &Text, id: &Text, other_label: &Text, other_id: &Text) -> bool
+    ensures { result ≡ is_eq (name_cmp (label.now, id.now) (other_label.now, other_id.now)) }
+{
+    name_order(label, id, other_label, other_id).is_eq()
+}
+
+impl<T: Copy> Interval<T> {
+    /// Gives it the ends, if an operation gives some, and applies the set to its properties.
+    ///
+    /// Returns `OutOfMemory` where there is no room for its properties, and then nothing changed.
+    fn change(
+        &mut self,
+        given: Option<Ends>,
+        ends: EndPair<T>,
+        props: &PropSet,
+    ) -> Result<(), OutOfMemory>
+        ensures name { name_of self.new ≡ name_of self.old }
+        ensures ok { OnOk result (self.new ≡ changed_interval given ends props.now self.old) }
+        ensures err { OnErr result (self.new ≡ self.old) }
+    {
+        self.props = self.props.applied(props)?;
+        if given.is_some() {
+            self.ends = ends;
+        }
+        Ok(())
+    }
+}
+
+/// Intervals by rising label and id, so that no name stands twice. One is found by a binary search.
+#[derive(Drop)]
+pub struct Intervals<T> {
+    pub(crate) items: Vec<Interval<T>>,
+}
+
+impl<T> Model for Intervals<T> {
+    ghost use Rattle.std.specs.Prelude.{List};
+    ghost use Rattle.ft_interval_store.specs.declared.intervals.Interval.{Interval};
+    ghost use Rattle.ft_interval_store.specs.Intervals.{NamesRise};
+
+    ghost Value = { List (Interval T) };
+
+    ghost view = { λ a. a.items.items };
+
+    ghost invariant = { λ a. NamesRise a.items.items };
+}
+
+impl<T: Copy + Drop> Intervals<T> {
+    ghost use Rattle.ft_interval_store.specs.Intervals.{NamesRise};
+
+    /// No intervals.
+    pub fn new(alloc: Global) -> Intervals<T>
+        ensures { result ≡ [] }
+    {
+        Intervals {
+            items: Vec::new(alloc),
+        }
+    }
+
+    /// Where it takes its memory.
+    pub fn allocator(&self) -> Global {
+        *self.items.allocator()
+    }
+
+    /// All in order.
+    pub fn as_slice(&self) -> &[Interval<T>]
+        ensures value { result.now ≡ self.now }
+        ensures rising { NamesRise self.now }
+    {
+        self.items.as_slice()
+    }
+
+    /// The place of the interval of that label and id, or else, as an error, the place where it would stand.
+    fn search(&self, label: &Text, id: &Text) -> Result<usize, usize>
+        ensures { result ≡ place_of_name (label.now, id.now) self.now }
+    {
+        self.items
+            .binary_search_by(|i| name_order(&i.label, &i.id, label, id))
+    }
+
+    /// The interval of that label and id: None exactly where it isn't there.
+    pub fn get(&self, label: &Text, id: &Text) -> Option<&Interval<T>>
+        ensures { option_copied result ≡ interval_of (label.now, id.now) self.now }
+    {
+        match self.search(label, id) {
+            Ok(i) => Some(&self.items[i]),
+            Err(_) => None,
+        }
+    }
+
+    /// Puts the interval in its place, instead of the one of its name if there is one.
+    ///
+    /// Returns `OutOfMemory` where there is no room for it, and then nothing changed.
+    pub fn put(&mut self, interval: Interval<T>) -> Result<(), OutOfMemory>
+        ensures ok { OnOk result (self.new ≡ put_rising interval_cmp interval self.old) }
+        ensures err { OnErr result (self.new ≡ self.old) }
+    {
+        match self.search(&interval.label, &interval.id) {
+            Ok(i) => {
+                self.items[i] = interval;
+                Ok(())
+            }
+            Err(i) => Ok(self.items.insert(i, interval)?),
+        }
+    }
+
+    /// Adds an interval, unless one of its name is there.
+    ///
+    /// Returns `OutOfMemory` where there is no room for it, and then nothing changed.
+    fn add(
+        &mut self,
+        label: &Text,
+        id: &Text,
+        ends: EndPair<T>,
+        props: &PropSet,
+    ) -> Result<(), OutOfMemory>
+        ensures ok { (given : Ends) → OnOk result (self.new ≡ after_operation (TextOp.IntervalAdd label.now id.now given props.now) ends self.old) }
+        ensures err { OnErr result (self.new ≡ self.old) }
+    {
+        if self.get(label, id).is_some() {
+            return Ok(());
+        }
+        let props = Props::new(self.allocator()).applied(props)?;
+        self.put(Interval {
+            label: label.copy()?,
+            id: id.copy()?,
+            ends,
+            props,
+        })
+    }
+
+    /// Gives the interval of that name, if it is there, the ends, if an operation gives some, and applies the set to
+    /// its properties.
+    ///
+    /// Returns `OutOfMemory` where there is no room for its properties, and then nothing changed.
+    fn change(
+        &mut self,
+        label: &Text,
+        id: &Text,
+        given: Option<Ends>,
+        ends: EndPair<T>,
+        props: &PropSet,
+    ) -> Result<(), OutOfMemory>
+        ensures ok { OnOk result (self.new ≡ with_changed (label.now, id.now) (changed_interval given ends props.now) self.old) }
+        ensures err { OnErr result (self.new ≡ self.old) }
+    {
+        match self.search(label, id) {
+            Ok(i) => self.items[i].change(given, ends, props),
+            Err(_) => Ok(()),
+        }
+    }
+
+    /// Takes the interval of that name out, if it is there.
+    fn delete(&mut self, label: &Text, id: &Text)
+        ensures { self.new ≡ without_name (label.now, id.now) self.old }
+    {
+        if let Ok(i) = self.search(label, id) {
+            let _ = self.items.remove(i);
+        }
+    }
+
+    /// Applies an operation with these ends: an add does nothing where the name is there, a change and a delete nothing
+    /// where it isn't.
+    ///
+    /// Returns `OutOfMemory` where there is no room for what it makes, and then nothing changed.
+    pub fn apply(&mut self, op: &TextOp, ends: EndPair<T>) -> Result<(), OutOfMemory>
+        ensures ok { OnOk result (self.new ≡ after_operation op.now ends self.old) }
+        ensures err { OnErr result (self.new ≡ self.old) }
+    {
+        match op {
+            TextOp::IntervalAdd {
+                label,
+                id,
+                props,
+                ..
+            } => self.add(label, id, ends, props),
+            TextOp::IntervalChange {
+                label,
+                id,
+                ends: given,
+                props,
+            } => self.change(label, id, *given, ends, props),
+            TextOp::IntervalDelete { label, id } => {
+                self.delete(label, id);
+                Ok(())
+            }
+            TextOp::One(_) | TextOp::Group(_) => Ok(()),
+        }
+    }
+}

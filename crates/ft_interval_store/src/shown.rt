@@ -1,0 +1,129 @@
+//! What is shown of one interval: its ends as elements on leaves.
+
+ghost use Rattle.std.specs.Prelude.{◌≤◌, ℕ, Option, IfSome, IsTrue, option_map};
+ghost use Rattle.ft_tree_leaves.specs.declared.text.TextContent.{TextContent};
+ghost use Rattle.ft_tree.specs.State.{TreeState};
+ghost use Rattle.ft_interval_store.specs.declared.intervals.EndPair.{EndPair};
+ghost use Rattle.ft_interval_store.specs.declared.intervals.Interval.{Interval};
+ghost use Rattle.ft_interval_store.specs.Ends.{AreLiveEnds, map_ends, places_of_ends};
+ghost use Rattle.ft_interval_store.specs.Intervals.{after_own, interval_of, one_after};
+ghost use Rattle.ft_interval_store.specs.Shown.{carried_interval, last, settled_end, settled_interval, shown_intervals};
+ghost use Rattle.ft_interval_store.specs.Standing.{AreOnTree, ShowsEnds, StandAt};
+ghost use Rattle.ft_interval_store.specs.State.{AreLiveIntervals, AreLiveOperations, StagesRise, placed_intervals, placed_operations, text_elements, with_mapped_ends};
+
+use crate::intervals::{EndPair, Intervals};
+use crate::pending::{Operation, is_on};
+use crate::standing::{carried, settled};
+use ft_base::Text;
+use ft_op::TextOp;
+use ft_refs::{Place, RefId};
+use ft_tree::{TextContent, Tree};
+
+/// What an operation makes of the interval that it is on, where this has these ends if it is there, and the operation has
+/// those.
+fn after_own(
+    op: &TextOp,
+    own: EndPair<Place>,
+    shown: Option<EndPair<Place>>,
+) -> Option<EndPair<Place>>
+    ensures { (tree : TreeState TextContent) → (k : ℕ) → (ends : EndPair ℕ) → (i : Option (Interval ℕ))
+        → StandAt tree k ends own → ShowsEnds tree k i shown → ShowsEnds tree k (after_own op.now ends i) result }
+{
+    match op {
+        TextOp::IntervalAdd { .. } => Some(shown.unwrap_or(own)),
+        TextOp::IntervalChange { ends: Some(_), .. } => {
+            shown?;
+            Some(own)
+        }
+        TextOp::IntervalChange { ends: None, .. } | TextOp::One(_) | TextOp::Group(_) => shown,
+        TextOp::IntervalDelete { .. } => None,
+    }
+}
+
+/// The ends at stage `to` of an interval that is there or not, where those at stage `from` are given.
+fn carried_shown(
+    tree: &Tree<TextContent>,
+    shown: Option<EndPair<Place>>,
+    from: u64,
+    to: u64,
+) -> Option<EndPair<Place>>
+    requires usable { IsTrue tree.now.usable }
+    requires on_leaf { IfSome shown (AreOnTree tree.now) }
+    requires rises { from ≤ to }
+    ensures { let xs = text_elements tree.now in
+        (i : Option (Interval ℕ)) → ShowsEnds tree.now from i shown → ShowsEnds tree.now to (option_map (carried_interval xs from to) i) result }
+{
+    Some(carried(tree, shown?, from, to))
+}
+
+/// What an operation makes at its stage of the interval of that label and id, which has these ends at stage `from` if it is
+/// there.
+fn shown_after(
+    tree: &Tree<TextContent>,
+    t: &Operation,
+    label: &Text,
+    id: &Text,
+    shown: Option<EndPair<Place>>,
+    from: u64,
+) -> Option<EndPair<Place>>
+    requires usable { IsTrue tree.now.usable }
+    requires live { AreLiveEnds tree.now.refs t.now.ends }
+    requires on_leaf { IfSome shown (AreOnTree tree.now) }
+    requires rises { from ≤ t.now.stage }
+    ensures fits { t.now.stage ≤ last }
+    ensures shown { let xs = text_elements tree.now in
+        let ends = map_ends (settled_end xs t.now.stage) (places_of_ends tree.now.refs t.now.ends) in
+        (i : Option (Interval ℕ)) → ShowsEnds tree.now from i shown
+        → ShowsEnds tree.now t.now.stage (one_after (label.now, id.now) t.now.op ends (option_map (carried_interval xs from t.now.stage) i)) result }
+{
+    let before = carried_shown(tree, shown, from, t.stage);
+    if !is_on(label, id, &t.op) {
+        return before;
+    }
+    after_own(&t.op, settled(tree, t.ends, t.stage), before)
+}
+
+/// The ends at stage 0 of the acknowledged interval of that label and id, if it is there.
+fn first_shown(
+    tree: &Tree<TextContent>,
+    acked: &Intervals<RefId>,
+    label: &Text,
+    id: &Text,
+) -> Option<EndPair<Place>>
+    requires usable { IsTrue tree.now.usable }
+    requires live { AreLiveIntervals tree.now.refs acked.now }
+    ensures { let xs = text_elements tree.now in
+        let i = option_map (with_mapped_ends (places_of_ends tree.now.refs)) (interval_of (label.now, id.now) acked.now) in
+        ShowsEnds tree.now 0 (option_map (settled_interval xs 0) i) result }
+{
+    let i = acked.get(label, id)?;
+    Some(settled(tree, i.ends, 0))
+}
+
+/// The ends at the last stage of the interval of that label and id: None exactly where the view has none.
+pub fn shown_ends(
+    tree: &Tree<TextContent>,
+    acked: &Intervals<RefId>,
+    pending: &[Operation],
+    label: &Text,
+    id: &Text,
+) -> Option<EndPair<Place>>
+    requires usable { IsTrue tree.now.usable }
+    requires acked { AreLiveIntervals tree.now.refs acked.now }
+    requires pending { AreLiveOperations tree.now.refs pending.now }
+    requires rising { StagesRise 0 pending.now }
+    ensures { let xs = text_elements tree.now in
+        let is = placed_intervals tree.now.refs acked.now in
+        let ts = placed_operations tree.now.refs pending.now in
+        ShowsEnds tree.now last (interval_of (label.now, id.now) (shown_intervals xs is ts)) result }
+{
+    // That names rise is read off its contract.
+    let _all = acked.as_slice();
+    let mut shown = first_shown(tree, acked, label, id);
+    let mut stage = 0;
+    for t in pending {
+        shown = shown_after(tree, t, label, id, shown, stage);
+        stage = t.stage;
+    }
+    carried_shown(tree, shown, stage, u64::MAX)
+}
