@@ -4,13 +4,13 @@ use Rattle.std.specs.List.{list_all, list_any}
 use Rattle.std.proofs.lemmas.Bool.Decides.{nat_tests}
 use Rattle.ft_base.specs.Scan.{len}
 use Rattle.ft_base.specs.Visibility.{is_acked}
-use Rattle.ft_interval.specs.declared.intervals.EndPair.{EndPair}
-use Rattle.ft_interval.specs.declared.intervals.Interval.{Interval}
-use Rattle.ft_interval.specs.declared.pending.Operation.{Operation}
-use Rattle.ft_interval.specs.Ends.{References, map_ends, place_of_end, places_of_ends, slid_end}
-use Rattle.ft_interval.specs.Intervals.{after_operation}
-use Rattle.ft_interval.specs.State.{CollectionsState, is_first, placed, placed_intervals, placed_operations, text_elements, with_first_acked, with_mapped_ends, with_mapped_names}
-use Rattle.ft_interval.proofs.OneInterval.{NamesRise-map}
+use Rattle.ft_interval_store.specs.declared.intervals.EndPair.{EndPair}
+use Rattle.ft_interval_store.specs.declared.intervals.Interval.{Interval}
+use Rattle.ft_interval_store.specs.declared.pending.Operation.{Operation}
+use Rattle.ft_interval_store.specs.Ends.{References, map_ends, place_of_end, places_of_ends, slid_end}
+use Rattle.ft_interval_store.specs.Intervals.{after_operation}
+use Rattle.ft_interval_store.specs.State.{CollectionsState, is_first, placed, placed_intervals, placed_operations, text_elements, with_first_acked, with_mapped_ends, with_mapped_names}
+use Rattle.ft_interval_store.proofs.OneInterval.{NamesRise-map}
 use Rattle.ft_tree_leaves.specs.declared.leaves.TreeLeaf.{TreeLeaf}
 use Rattle.ft_tree_leaves.specs.declared.text.TextPiece.TheVariants.{Run, Marker}
 use Rattle.ft_tree_leaves.specs.declared.text.TextPiece.{TextPiece}

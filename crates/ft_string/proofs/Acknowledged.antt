@@ -4,9 +4,9 @@ use Rattle.std.specs.List.{list_all, list_any}
 use Rattle.std.proofs.lemmas.Bool.Decides.{nat_tests}
 use Rattle.std.proofs.lemmas.List.Elements.{All-head, All-tail}
 use Rattle.ft_base.proofs.Booleans.{both}
-use Rattle.ft_interval.specs.declared.pending.Operation.{Operation}
-use Rattle.ft_interval.specs.Ends.{places_of_ends}
-use Rattle.ft_interval.specs.State.{CollectionsState, first_stage, placed_operations, text_elements, with_mapped_names}
+use Rattle.ft_interval_store.specs.declared.pending.Operation.{Operation}
+use Rattle.ft_interval_store.specs.Ends.{places_of_ends}
+use Rattle.ft_interval_store.specs.State.{CollectionsState, first_stage, placed_operations, text_elements, with_mapped_names}
 use Rattle.ft_tree_leaves.specs.declared.text.TextContent.{TextContent}
 use Rattle.ft_msg.specs.Acknowledgement.{ack_stages, made_before, renamed, renamed_names, renamed_stage}
 use Rattle.ft_msg.specs.Indexed.{IndexedStage, indexed_stage}
@@ -24,6 +24,7 @@ use Rattle.ft_laws_names.proofs.Beside.{ends, next}
 use Rattle.ft_tree.specs.State.{TreeState}
 use Rattle.ft_named.proofs.Bares.{AreElements, from-bare}
 use Rattle.ft_named.proofs.Lists.{all-weaker}
+use Rattle.ft_interval.specs.Indexes.{StandsOn}
 use Rattle.ft_string.specs.Acks.{AcksStage, AcksStages, AreNoted, OpsRise, first_op, if_below, is_noted, least_of}
 use Rattle.ft_string.specs.Acks.{next as next_stage, none as no_stage}
 use Rattle.ft_string.specs.Bare.{text_content}
@@ -353,12 +354,13 @@ acked-none first end s seq conn doc mine rest l old holds =
 -- ---- what is known where the call begins
 
 pub record IsReady (a : Inside) (first end : ℕ) : Type 0 where
-  pub parts : AreSound a.tree a.intervals
+  pub parts : AreSound a.tree a.intervals.state
+  pub stands : StandsOn a.tree a.intervals
   pub none : a.again.items ≡ []
   pub rise : OpsRise 0 a.ops.items
   pub noted : AreNoted a.ops.items (text_elements a.tree)
   pub last : ℕ
-  pub held : HoldsOldest last first end (state_of a.tree a.intervals a.ops.items a.given a.usable)
+  pub held : HoldsOldest last first end (state_of a.tree a.intervals.state a.ops.items a.given a.usable)
 
 pub is-ready : (a : Inside) (s : TextState) (first end : ℕ) → view_of a ≡ s → IsSoundIfUsable a → IsTrue s.usable → s.given ≡ 0 → (last : ℕ) → HoldsOldest last first end s
     → IsReady a first end
@@ -367,11 +369,12 @@ is-ready a s first end view sound usable given last h =
     let none_given = ap (λ (x : TextState). x.given) view ∙ given in
     let all = a.again.items ++ a.ops.items in
     let holds = subst (λ x. HoldsText x h.doc (h.mine ++ h.rest)) (sym view) h.holds in
-    let up = held-rise a.tree a.intervals all a.given a.usable last h.doc (h.mine ++ h.rest) h.sound holds in
-    let notes = held-noted a.tree a.intervals all a.given a.usable last h.doc (h.mine ++ h.rest) h.sound holds in
+    let up = held-rise a.tree a.intervals.state all a.given a.usable last h.doc (h.mine ++ h.rest) h.sound holds in
+    let notes = held-noted a.tree a.intervals.state all a.given a.usable last h.doc (h.mine ++ h.rest) h.sound holds in
     let none = none-again a.given a.again.items a.ops.items none_given before.again up in
     record {
       parts = before.parts;
+      stands = before.stands;
       none = none;
       rise = subst (λ os. OpsRise 0 (os ++ a.ops.items)) none up;
       noted = subst (λ os. AreNoted (os ++ a.ops.items) (text_elements a.tree)) none notes;
@@ -382,6 +385,6 @@ is-ready a s first end view sound usable given last h =
         rest = h.rest;
         oldest = h.oldest;
         sound = h.sound;
-        holds = subst (λ os. HoldsText (state_of a.tree a.intervals (os ++ a.ops.items) a.given a.usable) h.doc (h.mine ++ h.rest)) none holds;
+        holds = subst (λ os. HoldsText (state_of a.tree a.intervals.state (os ++ a.ops.items) a.given a.usable) h.doc (h.mine ++ h.rest)) none holds;
       };
     }

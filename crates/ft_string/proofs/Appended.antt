@@ -8,7 +8,7 @@ use Rattle.ft_msg.specs.Summary.{segment_bodies, stamp_of}
 use Rattle.ft_sumdoc.specs.declared.summary.SegRec.{SegRec}
 use Rattle.ft_named.proofs.Lists.{map-append}
 use Rattle.ft_tree.specs.State.{KeepsRest, TreeState}
-use Rattle.ft_interval.specs.State.{text_elements}
+use Rattle.ft_interval_store.specs.State.{text_elements}
 use Rattle.ft_string.specs.Loads.{Appends, segment_elements, summary_elements}
 use Rattle.ft_string.specs.Parts.{TextElements}
 

@@ -5,8 +5,8 @@ use Rattle.ft_base.specs.declared.elements.Perspective.{Perspective}
 use Rattle.ft_base.specs.declared.stamps.Stamp.TheVariants.{Acked}
 use Rattle.ft_base.specs.Scan.{change_range, len}
 use Rattle.ft_block.specs.declared.leaves.LenView.TheVariants.{At}
-use Rattle.ft_interval.specs.State.{CollectionsState, text_elements}
-use Rattle.ft_interval.specs.Ends.{References, place_of_end, slid_end}
+use Rattle.ft_interval_store.specs.State.{CollectionsState, text_elements}
+use Rattle.ft_interval_store.specs.Ends.{References, place_of_end, slid_end}
 use Rattle.ft_tree_leaves.specs.declared.references.Reference.{Reference}
 use Rattle.ft_tree_leaves.specs.declared.text.TextContent.{TextContent}
 use Rattle.ft_tree_leaves.specs.Edits.{with_place}

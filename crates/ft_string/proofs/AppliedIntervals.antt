@@ -3,11 +3,11 @@ use Rattle.std.proofs.Common.{◌≡◌, ℕ, Bool, true, false, cond, IsTrue, L
 use Rattle.ft_base.specs.declared.elements.Perspective.{Perspective}
 use Rattle.ft_base.specs.Scan.{len}
 use Rattle.ft_block.specs.declared.leaves.LenView.TheVariants.{At}
-use Rattle.ft_interval.specs.declared.intervals.Interval.{Interval}
-use Rattle.ft_interval.specs.Ends.{map_ends, places_of_ends, places_of_given, slid_end}
-use Rattle.ft_interval.specs.Intervals.{NamesRise}
-use Rattle.ft_interval.specs.State.{CollectionsState, KeepsReferences, keeps, placed, placed_intervals, placed_operations, text_elements, with_effect, with_mapped_ends}
-use Rattle.ft_interval.proofs.OneInterval.{NamesRise-map}
+use Rattle.ft_interval_store.specs.declared.intervals.Interval.{Interval}
+use Rattle.ft_interval_store.specs.Ends.{map_ends, places_of_ends, places_of_given, slid_end}
+use Rattle.ft_interval_store.specs.Intervals.{NamesRise}
+use Rattle.ft_interval_store.specs.State.{CollectionsState, KeepsReferences, keeps, placed, placed_intervals, placed_operations, text_elements, with_effect, with_mapped_ends}
+use Rattle.ft_interval_store.proofs.OneInterval.{NamesRise-map}
 use Rattle.ft_tree_leaves.specs.declared.references.Reference.{Reference}
 use Rattle.ft_tree_leaves.specs.declared.text.TextContent.{TextContent}
 use Rattle.ft_tree_leaves.specs.Elements.{seen_in}

@@ -5,15 +5,15 @@ use Rattle.std.specs.List.{list_all}
 use Rattle.ft_base.proofs.Booleans.{both}
 use Rattle.ft_base.specs.Scan.{len}
 use Rattle.ft_block.specs.declared.leaves.LenView.TheVariants.{Stage as at_stage}
-use Rattle.ft_interval.specs.declared.intervals.EndPair.{EndPair}
-use Rattle.ft_interval.specs.declared.intervals.Interval.{Interval}
-use Rattle.ft_interval.specs.declared.pending.Operation.{Operation}
-use Rattle.ft_interval.specs.Ends.{map_ends}
-use Rattle.ft_interval.specs.Intervals.{NamesRise, after_operation, changed_interval}
-use Rattle.ft_interval.specs.Shown.{carried, carried_end, carried_interval, last as top, number_at, settled_end, settled_interval, shown_from, shown_intervals as placed_shown, shown_record}
-use Rattle.ft_interval.specs.State.{CollectionsState, placed, text_elements, with_mapped_ends}
-use Rattle.ft_interval.specs.Ends.{places_of_ends}
-use Rattle.ft_interval.proofs.OneInterval.{NamesRise-after, NamesRise-map}
+use Rattle.ft_interval_store.specs.declared.intervals.EndPair.{EndPair}
+use Rattle.ft_interval_store.specs.declared.intervals.Interval.{Interval}
+use Rattle.ft_interval_store.specs.declared.pending.Operation.{Operation}
+use Rattle.ft_interval_store.specs.Ends.{map_ends}
+use Rattle.ft_interval_store.specs.Intervals.{NamesRise, after_operation, changed_interval}
+use Rattle.ft_interval_store.specs.Shown.{carried, carried_end, carried_interval, last as top, number_at, settled_end, settled_interval, shown_from, shown_intervals as placed_shown, shown_record}
+use Rattle.ft_interval_store.specs.State.{CollectionsState, placed, text_elements, with_mapped_ends}
+use Rattle.ft_interval_store.specs.Ends.{places_of_ends}
+use Rattle.ft_interval_store.proofs.OneInterval.{NamesRise-after, NamesRise-map}
 use Rattle.ft_tree_leaves.specs.declared.text.TextContent.{TextContent}
 use Rattle.ft_tree_leaves.specs.Elements.{seen_in}
 use Rattle.ft_msg.specs.Content.{interval_record}

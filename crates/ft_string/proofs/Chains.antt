@@ -7,7 +7,7 @@ use Rattle.ft_tree_leaves.specs.declared.text.TextContent.{TextContent}
 use Rattle.ft_tree_leaves.specs.Elements.{IsAboveChanges}
 use Rattle.ft_op.specs.declared.operations.BaseOp.{BaseOp}
 use Rattle.ft_op.specs.WellFormed.{IsWellFormedBase}
-use Rattle.ft_interval.specs.State.{text_elements}
+use Rattle.ft_interval_store.specs.State.{text_elements}
 use Rattle.ft_props.specs.Properties.{max_safe_integer}
 use Rattle.ft_tree.specs.State.{TreeState}
 use Rattle.ft_string.specs.Edits.{put_in_by_all}

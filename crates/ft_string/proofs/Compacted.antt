@@ -1,21 +1,29 @@
 -- What compaction makes of a whole shared text: no interval and no pending stage stands on what goes.
-use Rattle.std.proofs.Common.{◌≡◌, ℕ, ◌+◌, ◌-◌, ◌≤◌, All, Bool, true, false, not, ◌||◌, nat_eq, IfSome, List, [], ◌∷◌, ◌++◌, Option, Some, None, refl, sym, ◌∙◌, ap, subst, arith, map, filter, option_map, option_and_then, slice_get}
+use Rattle.std.proofs.Common.{◌≡◌, ℕ, zero, suc, ◌+◌, ◌-◌, ◌<◌, ◌≤◌, length, take, drop, get_or, is_some, All, Bool, true, false, not, ◌||◌, nat_eq, IfSome, List, [], ◌∷◌, ◌++◌, Option, Some, None, refl, sym, ◌∙◌, ap, subst, arith, map, filter, option_map, option_and_then, slice_get}
 use Rattle.std.specs.List.{AllByRecursion, list_all, list_any}
 use Rattle.std.proofs.lemmas.Bool.{or_left, or_right}
 use Rattle.std.proofs.lemmas.Bool.Decides.{nat_tests}
+use Rattle.std.proofs.Math.Seq.{take-add}
+use Rattle.std.proofs.lemmas.List.{length-map}
 use Rattle.std.proofs.lemmas.List.Elements.{All-head, All-tail}
+use Rattle.std.proofs.lemmas.Option.{slice_get-get_or, slice_get_within}
 use Rattle.ft_base.specs.Scan.{len}
-use Rattle.ft_interval.specs.declared.intervals.Interval.{Interval}
-use Rattle.ft_interval.specs.declared.pending.Operation.{Operation}
-use Rattle.ft_interval.specs.Ends.{References, is_reference}
-use Rattle.ft_interval.specs.State.{CollectionsState, ends_of_intervals, ends_of_operations, keeps, text_elements}
+use Rattle.ft_interval_store.specs.declared.intervals.Interval.{Interval}
+use Rattle.ft_interval_store.specs.declared.pending.Operation.{Operation}
+use Rattle.ft_interval_store.specs.Ends.{References, is_reference}
+use Rattle.ft_interval_store.specs.State.{CollectionsState, ends_of_intervals, ends_of_name, ends_of_operations, keeps, text_elements}
+use Rattle.ft_interval.specs.declared.indexes.LabelIndex.{LabelIndex}
+use Rattle.ft_interval.specs.Indexes.{IndexedState, StandsOn, index_of}
+use Rattle.ft_interval.specs.Order.{IsAtMost, IsWithin}
+use Rattle.ft_interval.proofs.Listed.{kept-listed}
 use Rattle.ft_laws_compaction.specs.Free.{AreFree}
 use Rattle.ft_tree_leaves.specs.declared.references.Reference.{Reference}
 use Rattle.ft_tree_leaves.specs.declared.text.TextContent.{TextContent}
 use Rattle.ft_tree_leaves.specs.Edits.{with_place}
 use Rattle.ft_tree_leaves.specs.Elements.{TreeElement}
 use Rattle.ft_tree_leaves.specs.Places.{seen_before}
-use Rattle.ft_tree_leaves.specs.References.{ChangesReferences, reference_at}
+use Rattle.ft_tree_leaves.specs.References.{ChangesReferences, place_of, reference_at}
+use Rattle.ft_tree_leaves.proofs.Runs.{len-append}
 use Rattle.ft_msg.specs.Compacted.{interval_holds, stage_holds_text}
 use Rattle.ft_msg.specs.Indexed.{IndexedStage, place_in_list}
 use Rattle.ft_op.specs.Document.{Document}
@@ -32,7 +40,9 @@ use Rattle.ft_laws_names.proofs.Beside.{ends, next}
 use Rattle.ft_tree.specs.State.{TreeState}
 use Rattle.ft_zamboni.specs.Scours.{AreClear, Writes, is_collectable, marked, place_among, staying}
 use Rattle.ft_zamboni.proofs.BothSweeps.{second}
+use Rattle.ft_zamboni.proofs.Marks.{StaysAt, gone-few, staying-at}
 use Rattle.ft_zamboni.proofs.SweptElements.{MayGo}
+use Rattle.ft_zamboni.proofs.Writing.{writes-length}
 use Rattle.ft_named.specs.Bare.{bare}
 use Rattle.ft_named.proofs.Bares.{AreElements, from-bare, to-bare}
 use Rattle.ft_named.proofs.CompactedSteps.{Compacts, compacts, compacts-elements, compacts-keeps, compacts-pending, compacts-place, gone-marked, held-clear, marked-go, marked-list, staying-marked}
@@ -46,6 +56,7 @@ use Rattle.ft_string.specs.Parts.{AreSound, TextElements, state_of}
 use Rattle.ft_string.specs.declared.pending.PendingOp.{PendingOp}
 use Rattle.ft_string.proofs.Documents.{settled-stands, sound-step}
 use Rattle.ft_string.proofs.Ends.{SameEnd, SameIntervals, end-moved, end-of, from-placed, moved-interval, start-of, to-placed}
+use Rattle.ft_string.proofs.StandingIndexes.{live-changed}
 use Rattle.ft_string.proofs.Stages.{AreNamesIn, SameStage, SameStages, all-stage-names, each-filter, from-stages, same-ops, to-stages}
 
 -- ---- ends of intervals and of operations have a fact, on either side
@@ -286,6 +297,79 @@ pub compacted-sound : (tree new : TreeState TextContent) (c : CollectionsState) 
     → AreSound tree c → AreSound new c
 compacted-sound tree new c f refs usable sound = sound-step (with_place f) (λ x. refl) tree new c refs (usable ∙ sym sound.tree) sound
 
+-- ---- the indexes of intervals
+
+stays-clear : (floor : ℕ) (ms : List (Bool × TreeElement ElementContent)) → AllByRecursion (MayGo floor) ms → (i : ℕ)
+    → IfSome (slice_get (map second ms) i) (λ e. is_collectable floor e.stamps ≡ false) → StaysAt ms i
+stays-clear floor [] may i h = tt
+stays-clear floor ((true, x) ∷ ms) may zero h = (let goes = may.0 refl in let never : true ≡ false = sym goes ∙ h in absurd (cc never))
+stays-clear floor ((false, x) ∷ ms) may zero h = refl
+stays-clear floor (m ∷ ms) may (suc i) h = stays-clear floor ms may.1 i h
+
+first-of : {A : Type 0} (xs : List A) → 0 < length xs → A
+first-of [] h = absurd (omega (arith, h))
+first-of (x ∷ xs) h = x
+
+among-rises : (ms : List (Bool × TreeElement ElementContent)) (i j : ℕ) → i ≤ j → place_among ms i ≤ place_among ms j
+among-rises ms i j h =
+    let n : ℕ = j - i in
+    let sum : i + n ≡ j = omega (arith, h) in
+    let cut : take j ms ≡ take i ms ++ take n (drop i ms) = ap (λ k. take k ms) (sym sum) ∙ take-add i n ms in
+    let all = ap (len (λ (x : Bool × TreeElement ElementContent). x.0)) cut ∙ len-append (λ (x : Bool × TreeElement ElementContent). x.0) (take i ms) (take n (drop i ms)) in
+    let few = gone-few (drop i ms) n in
+    let front = gone-few ms i in
+    omega (arith, all, few, front, h)
+
+module _ (tree new : TreeState TextContent) (c : IndexedState) (floor : ℕ) (ms : List (Bool × TreeElement ElementContent)) (may : AllByRecursion (MayGo floor) ms)
+    (all : map second ms ≡ text_elements tree) (writes : Writes floor (text_elements new) (staying ms)) (refs : ChangesReferences (with_place (place_among ms)) tree.refs new.refs)
+    (clear : AreClear floor (text_elements tree) tree.refs) (s : StandsOn tree c) where
+  moves-to : (r : ℕ) → place_of new.refs r ≡ option_map (place_among ms) (place_of tree.refs r)
+  moves-to r = end-moved (place_among ms) tree.refs new.refs refs (Some r)
+
+  mapped-rises : (a b : Option ℕ) → IsAtMost a b → IsAtMost (option_map (place_among ms) a) (option_map (place_among ms) b)
+  mapped-rises None b h = tt
+  mapped-rises (Some i) None h = absurd h
+  mapped-rises (Some i) (Some j) h = among-rises ms i j h
+
+  mapped-some : (a : Option ℕ) → is_some (option_map (place_among ms) a) ≡ is_some a
+  mapped-some None = refl
+  mapped-some (Some i) = refl
+
+  stays-within : (i : ℕ) → StaysAt ms i → i < length ms → place_among ms i < length (text_elements new)
+  stays-within i stays l =
+      let d : Bool × TreeElement ElementContent = get_or ms i (first-of ms (let some = l in omega (arith, some))) in
+      let at = staying-at ms i stays ∙ ap (option_map second) (slice_get-get_or ms i (first-of ms (let some = l in omega (arith, some))) l) in
+      let short = slice_get_within (staying ms) (place_among ms i) (second d) at in
+      let same = writes-length floor writes in
+      omega (arith, short, same)
+
+  gone-stands : StandsOn new c
+  gone-stands = record {
+    live = live-changed (with_place (place_among ms)) tree.refs new.refs refs c.state s.live;
+    listed = λ l. kept-listed (length (text_elements tree)) (length (text_elements new)) tree.refs new.refs (λ j. ends_of_name (l, j) c.state.acked) (index_of l c.indexes) (λ r. Unit {0})
+        (λ j r e. tt)
+        (λ r q e f w h. subst (λ u. IsAtMost u (place_of new.refs q)) (sym (moves-to r)) (subst (λ u. IsAtMost (option_map (place_among ms) (place_of tree.refs r)) u) (sym (moves-to q))
+        (mapped-rises (place_of tree.refs r) (place_of tree.refs q) h)))
+        (λ r e w. subst (IsWithin (length (text_elements new))) (sym (moves-to r)) (inside r (place_of tree.refs r) refl w))
+        (λ r q e f w v h. ap (λ u. is_some u) (moves-to r) ∙ mapped-some (place_of tree.refs r) ∙ h ∙ sym (mapped-some (place_of tree.refs q)) ∙ sym (ap (λ u. is_some u) (moves-to q)))
+        (λ r e h. moves-to r ∙ ap (option_map (place_among ms)) h) (s.listed l);
+  }
+    where
+      inside : (r : ℕ) (p : Option ℕ) → place_of tree.refs r ≡ p → IsWithin (length (text_elements tree)) p → IsWithin (length (text_elements new)) (option_map (place_among ms) p)
+      inside r None e w = tt
+      inside r (Some i) e w =
+          let marks : length ms ≡ length (text_elements tree) = sym (length-map ms second) ∙ ap (λ es. length es) all in
+          stays-within i (stays-clear floor ms may i (subst (λ es. IfSome (slice_get es i) (λ x. is_collectable floor x.stamps ≡ false)) (sym all) (clear r i e)))
+          (let l = w in omega (arith, marks, l))
+
+-- so they stand after a sweep
+pub compacted-stands : (tree new : TreeState TextContent) (c : IndexedState) (ops : List PendingOp) (given : ℕ) (usable : Bool) (floor last : ℕ) (doc : Document) (stages : List Stage)
+    (sound : AreSound tree c.state) (text : IsTextSound last doc stages) (holds : HoldsText (state_of tree c.state ops given usable) doc stages)
+    (free : AreFree floor (is_held doc stages) doc.text.items) (ms : List (Bool × TreeElement ElementContent)) → AllByRecursion (MayGo floor) ms → map second ms ≡ text_elements tree
+    → Writes floor (text_elements new) (staying ms) → ChangesReferences (with_place (place_among ms)) tree.refs new.refs → StandsOn tree c → StandsOn new c
+compacted-stands tree new c ops given usable floor last doc stages sound text holds free ms may all writes refs s =
+    gone-stands tree new c floor ms may all writes refs (text-clear tree c.state ops given usable floor last doc stages sound text holds free) s
+
 -- no element that went is shown
 pub shows-none : (floor : ℕ) (xs : TextElements) → All (λ e. is_collectable floor e.stamps ≡ false) xs
     → list_all (λ e. not (has_collectable_removal floor e.stamps.dels)) (map (bare text_content) xs) ≡ true
@@ -327,3 +411,8 @@ module _ (tree new : TreeState TextContent) (c : CollectionsState) (ops : List P
   compacts-all =
       compacts-text tree c ops given usable floor last doc stages sound text holds free new more other marks (marked-go floor (text_elements tree))
       (marked-list floor (text_elements tree)) (subst (λ xs. Writes floor (text_elements new) xs) (sym (staying-marked floor (text_elements tree))) writes) marked-refs made
+
+  pub compacted-all-stands : (idx : List LabelIndex) → (let x : IndexedState = record { state = c; indexes = idx } in StandsOn tree x → StandsOn new x)
+  compacted-all-stands idx s =
+      compacted-stands tree new (record { state = c; indexes = idx }) ops given usable floor last doc stages sound text holds free marks (marked-go floor (text_elements tree))
+      (marked-list floor (text_elements tree)) (subst (λ xs. Writes floor (text_elements new) xs) (sym (staying-marked floor (text_elements tree))) writes) marked-refs s

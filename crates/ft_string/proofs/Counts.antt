@@ -2,7 +2,7 @@
 use Rattle.std.proofs.Common.{◌≡◌, ℕ, suc, ◌+◌, ◌^◌, All, map, ◌≤◌, Bool, true, false, List, [], ◌∷◌, arith, length}
 use Rattle.std.proofs.lemmas.List.{length-map}
 use Rattle.ft_base.specs.Scan.{len, one_more_if}
-use Rattle.ft_interval.specs.State.{text_elements}
+use Rattle.ft_interval_store.specs.State.{text_elements}
 use Rattle.ft_tree_leaves.specs.declared.text.TextContent.{TextContent}
 use Rattle.ft_tree_leaves.specs.TextLeaves.{text_units}
 use Rattle.ft_tree.specs.State.{TreeState}

@@ -1,7 +1,7 @@
 -- One step of a tree of text beside one of the document that it holds.
 use Rattle.std.proofs.Common.{◌≡◌, ℕ, ◌+◌, Bool, true, false, IsTrue, IsSome, List, Option, Some, None, refl, sym, ◌∙◌, ap, subst, arith, map, option_map}
-use Rattle.ft_interval.specs.State.{CollectionsState, is_acknowledged, text_elements}
-use Rattle.ft_interval.specs.Ends.{References, place_of_end}
+use Rattle.ft_interval_store.specs.State.{CollectionsState, is_acknowledged, text_elements}
+use Rattle.ft_interval_store.specs.Ends.{References, place_of_end}
 use Rattle.ft_tree_leaves.specs.declared.references.Reference.{Reference}
 use Rattle.ft_tree_leaves.specs.declared.text.TextContent.{TextContent}
 use Rattle.ft_tree_leaves.specs.References.{ChangesReferences, reference_at}
@@ -62,11 +62,11 @@ keeps-settled more count f l m h refs after moved r o s e = keeps-end more count
 
 -- ---- the references stay sound
 
-some-mapped : (h : Reference → Reference) (o : Option Reference) → IsSome o → IsSome (option_map h o)
+pub some-mapped : (h : Reference → Reference) (o : Option Reference) → IsSome o → IsSome (option_map h o)
 some-mapped h None s = s
 some-mapped h (Some x) s = refl
 
-acked-mapped : (h : Reference → Reference) → ((x : Reference) → (h x).acked ≡ x.acked) → (o : Option Reference)
+pub acked-mapped : (h : Reference → Reference) → ((x : Reference) → (h x).acked ≡ x.acked) → (o : Option Reference)
     → option_map (λ (x : Reference). x.acked) (option_map h o) ≡ option_map (λ (x : Reference). x.acked) o
 acked-mapped h k None = refl
 acked-mapped h k (Some x) = ap Some (k x)

@@ -7,7 +7,7 @@ use Rattle.ft_base.specs.Scan.{len, one_more_if}
 use Rattle.ft_base.specs.Visibility.{seen_at}
 use Rattle.ft_base.proofs.Booleans.{both}
 use Rattle.ft_block.specs.Leaves.{last_stage}
-use Rattle.ft_interval.specs.State.{CollectionsState, text_elements}
+use Rattle.ft_interval_store.specs.State.{CollectionsState, text_elements}
 use Rattle.ft_tree_leaves.specs.declared.text.TextContent.{TextContent}
 use Rattle.ft_tree_leaves.specs.Edits.{with_place}
 use Rattle.ft_tree_leaves.specs.Elements.{IsAboveChanges, TreeElement, seen_in}

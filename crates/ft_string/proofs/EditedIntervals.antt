@@ -1,14 +1,14 @@
 -- What the client's own operation on an interval makes of a whole shared text.
-use Rattle.std.proofs.Common.{◌≡◌, ◌≢◌, ℕ, ◌-◌, ◌≤◌, ◌<◌, All, Bool, true, false, IsTrue, cond, not, List, [], ◌∷◌, Option, Some, None, Result, Ok, Err, refl, sym, ◌∙◌, ap, arith, map, append-nil, ℤ, pos, negsuc}
+use Rattle.std.proofs.Common.{◌≡◌, ◌≢◌, ℕ, ◌-◌, ◌≤◌, ◌<◌, All, Bool, true, false, IsTrue, cond, not, List, [], ◌∷◌, Option, Some, None, Result, Ok, Err, refl, subst, sym, ◌∙◌, ap, arith, map, append-nil, ℤ, pos, negsuc}
 use Rattle.std.proofs.lemmas.List.Elements.{All-cons, All-nil}
 use Rattle.ft_base.specs.Scan.{len}
 use Rattle.ft_block.specs.declared.leaves.LenView.TheVariants.{Stage as at_stage}
-use Rattle.ft_interval.specs.declared.faults.IntervalFault.{IntervalFault}
-use Rattle.ft_interval.specs.declared.faults.IntervalFault.TheVariants as interval
-use Rattle.ft_interval.specs.declared.pending.Operation.{Operation}
-use Rattle.ft_interval.specs.Ends.{References, place_of_position, places_of_ends, places_of_given}
-use Rattle.ft_interval.specs.Intervals.{NamesRise, name_in}
-use Rattle.ft_interval.specs.State.{CollectionsState, IsAboveAll, IsAsBefore, IsRefusedEdit, Pushes, is_add, is_interval_operation, is_shown, placed, placed_operations, text_elements, with_mapped_names}
+use Rattle.ft_interval_store.specs.declared.faults.IntervalFault.{IntervalFault}
+use Rattle.ft_interval_store.specs.declared.faults.IntervalFault.TheVariants as interval
+use Rattle.ft_interval_store.specs.declared.pending.Operation.{Operation}
+use Rattle.ft_interval_store.specs.Ends.{References, place_of_position, places_of_ends, places_of_given}
+use Rattle.ft_interval_store.specs.Intervals.{NamesRise, name_in}
+use Rattle.ft_interval_store.specs.State.{CollectionsState, IsAboveAll, IsAsBefore, IsRefusedEdit, Pushes, is_add, is_interval_operation, is_shown, placed, placed_operations, text_elements, with_mapped_names}
 use Rattle.ft_tree_leaves.specs.declared.text.TextContent.{TextContent}
 use Rattle.ft_tree_leaves.specs.Elements.{TreeElement, seen_in}
 use Rattle.ft_msg.specs.declared.faults.EditFault.{EditFault}
@@ -26,6 +26,7 @@ use Rattle.ft_laws_names.proofs.Beside.{Beside, beside-len}
 use Rattle.ft_laws_names.specs.WellNamed.{RiseTo}
 use Rattle.ft_tree.specs.State.{TreeState}
 use Rattle.ft_named.specs.Bare.{bare}
+use Rattle.ft_interval.specs.Indexes.{IndexedState, StandsOn}
 use Rattle.ft_string.specs.Bare.{text_content}
 use Rattle.ft_string.specs.Calls.{AnswersEdit, Leaves, TakesEdit}
 use Rattle.ft_string.specs.Edits.{edit_fault_of, is_refusal}
@@ -174,6 +175,13 @@ pub refused-sound : (tree new : TreeState TextContent) (c d : CollectionsState) 
     → IsRefusedEdit shown count op (IsAsBefore c d tree new) fault → AreSound tree c → IsTrue b → AreSound new d
 refused-sound tree new c d op shown count fault b e h sound t =
     let same = refused-unchanged tree new c d op shown count fault (sym e ∙ t) h in same-sound tree new c d sound same.0 same.1
+
+pub refused-stands : (tree new : TreeState TextContent) (c d : IndexedState) (op : TextOp) (shown : Bool) (count : ℕ) (fault : IntervalFault) (b : Bool) → b ≡ is_refusal fault
+    → IsRefusedEdit shown count op (IsAsBefore c.state d.state tree new) fault → d.indexes ≡ c.indexes → StandsOn tree c → IsTrue b → StandsOn new d
+refused-stands tree new c d op shown count fault b e h indexes s t =
+    let same = refused-unchanged tree new c.state d.state op shown count fault (sym e ∙ t) h in
+    let whole : d ≡ c = λ i. record { state = same.0 i; indexes = indexes i } in
+    subst (λ x. StandsOn x d) (sym same.1) (subst (λ x. StandsOn tree x) (sym whole) s)
 
 as-it-was : (tree new : TreeState TextContent) (c d : CollectionsState) (ops : List PendingOp) (given : ℕ) (usable b : Bool) → IsTrue usable → b ≡ true
     → IsAsBefore c d tree new → state_of new d ops given b ≡ state_of tree c ops given usable

@@ -6,9 +6,9 @@ use Rattle.std.proofs.lemmas.Bool.Decides.{nat_tests}
 use Rattle.ft_base.specs.Visibility.{is_acked}
 use Rattle.ft_base.specs.declared.stamps.Stamp.{Stamp}
 use Rattle.ft_base.specs.declared.stamps.Stamp.TheVariants.{Acked, Local}
-use Rattle.ft_interval.specs.declared.intervals.Interval.{Interval}
-use Rattle.ft_interval.specs.Ends.{References, is_reference, place_of_end, places_of_ends, slid_end}
-use Rattle.ft_interval.specs.State.{ends_of_intervals, is_acknowledged, placed_intervals, with_mapped_ends}
+use Rattle.ft_interval_store.specs.declared.intervals.Interval.{Interval}
+use Rattle.ft_interval_store.specs.Ends.{References, is_reference, place_of_end, places_of_ends, slid_end}
+use Rattle.ft_interval_store.specs.State.{ends_of_intervals, is_acknowledged, placed_intervals, with_mapped_ends}
 use Rattle.ft_tree_leaves.specs.declared.references.Reference.{Reference}
 use Rattle.ft_tree_leaves.specs.Edits.{with_place}
 use Rattle.ft_tree_leaves.specs.Elements.{TreeElement}

@@ -3,7 +3,7 @@ use Rattle.std.proofs.Common.{◌≡◌, ℕ, ◌+◌, ◌≤◌, ◌<◌, All, 
 use Rattle.std.proofs.lemmas.Grind.{flat_map-append}
 use Rattle.std.specs.List.{list_all}
 use Rattle.ft_base.proofs.Booleans.{both}
-use Rattle.ft_interval.specs.State.{CollectionsState, text_elements}
+use Rattle.ft_interval_store.specs.State.{CollectionsState, text_elements}
 use Rattle.ft_tree_leaves.specs.declared.text.TextContent.{TextContent}
 use Rattle.ft_msg.specs.Indexed.{indexed_stage}
 use Rattle.ft_msg.specs.Reconnection.{carried_stage}

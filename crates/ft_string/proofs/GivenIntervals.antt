@@ -4,11 +4,11 @@ use Rattle.std.proofs.lemmas.Grind.{flat_map-append}
 use Rattle.std.proofs.lemmas.Bool.Decides.{nat_tests}
 use Rattle.ft_base.specs.Scan.{len, one_more_if}
 use Rattle.ft_block.specs.declared.leaves.LenView.TheVariants.{Stage as at_stage}
-use Rattle.ft_interval.specs.declared.intervals.EndPair.{EndPair}
-use Rattle.ft_interval.specs.declared.pending.Operation.{Operation}
-use Rattle.ft_interval.specs.Ends.{map_ends}
-use Rattle.ft_interval.specs.Shown.{number_at, regenerated, settled_end}
-use Rattle.ft_interval.specs.State.{CollectionsState, is_at_stage, operation_at, placed_operations, text_elements, with_mapped_names}
+use Rattle.ft_interval_store.specs.declared.intervals.EndPair.{EndPair}
+use Rattle.ft_interval_store.specs.declared.pending.Operation.{Operation}
+use Rattle.ft_interval_store.specs.Ends.{map_ends}
+use Rattle.ft_interval_store.specs.Shown.{number_at, regenerated, settled_end}
+use Rattle.ft_interval_store.specs.State.{CollectionsState, is_at_stage, operation_at, placed_operations, text_elements, with_mapped_names}
 use Rattle.ft_tree_leaves.specs.declared.text.TextContent.{TextContent}
 use Rattle.ft_tree_leaves.specs.Elements.{seen_in}
 use Rattle.ft_tree_leaves.specs.Places.{seen_before}

@@ -8,10 +8,10 @@ use Rattle.ft_base.specs.Scan.{at, len}
 use Rattle.ft_base.specs.Visibility.{has_occurred}
 use Rattle.ft_base.proofs.Booleans.{both}
 use Rattle.ft_block.specs.declared.leaves.LenView.TheVariants.{At}
-use Rattle.ft_interval.specs.declared.intervals.EndPair.{EndPair}
-use Rattle.ft_interval.specs.declared.intervals.Interval.{Interval}
-use Rattle.ft_interval.specs.Ends.{map_ends, place_of_position, places_of_given, slid_end}
-use Rattle.ft_interval.specs.Intervals.{NamesRise, after_operation, changed_interval}
+use Rattle.ft_interval_store.specs.declared.intervals.EndPair.{EndPair}
+use Rattle.ft_interval_store.specs.declared.intervals.Interval.{Interval}
+use Rattle.ft_interval_store.specs.Ends.{map_ends, place_of_position, places_of_given, slid_end}
+use Rattle.ft_interval_store.specs.Intervals.{NamesRise, after_operation, changed_interval}
 use Rattle.ft_tree_leaves.specs.Elements.{TreeElement, seen_in}
 use Rattle.ft_msg.specs.Indexed.{IndexedInterval, indexed_interval, place_in_list}
 use Rattle.ft_op.specs.declared.operations.Ends.{Ends}

@@ -1,6 +1,6 @@
 -- The kinds of operations of the text.
 use Rattle.std.proofs.Common.{◌≡◌, true, [], ◌∷◌, refl}
-use Rattle.ft_interval.specs.State.{is_interval_operation}
+use Rattle.ft_interval_store.specs.State.{is_interval_operation}
 use Rattle.ft_op.specs.declared.operations.TextOp.{TextOp}
 use Rattle.ft_op.specs.declared.operations.TextOp.TheVariants.{One, Group, IntervalAdd, IntervalChange, IntervalDelete}
 use Rattle.ft_op.specs.Operation.{OnIntervals, text_sub_operations}

@@ -50,3 +50,5 @@ pub mod PutLast
 pub mod GivenProperties
 pub mod LoadedIntervals
 pub mod LoadedTexts
+pub mod StandingIndexes
+pub mod NamedEnds

@@ -9,11 +9,11 @@ use Rattle.ft_base.proofs.Booleans.{both}
 use Rattle.ft_base.specs.declared.elements.Perspective.{Perspective}
 use Rattle.ft_base.specs.Scan.{len}
 use Rattle.ft_block.specs.declared.leaves.LenView.TheVariants.{At}
-use Rattle.ft_interval.specs.declared.intervals.Interval.{Interval}
-use Rattle.ft_interval.specs.Ends.{map_ends, places_of_given, slid_end}
-use Rattle.ft_interval.specs.Intervals.{Name, interval_cmp, interval_of, name_cmp, name_of}
-use Rattle.ft_interval.specs.State.{CollectionsState, KeepsReferences, placed, text_elements, with_effect}
-use Rattle.ft_interval.proofs.RisingNames.{name_cmp-back, name_cmp-trans}
+use Rattle.ft_interval_store.specs.declared.intervals.Interval.{Interval}
+use Rattle.ft_interval_store.specs.Ends.{map_ends, places_of_given, slid_end}
+use Rattle.ft_interval_store.specs.Intervals.{Name, interval_cmp, interval_of, name_cmp, name_of}
+use Rattle.ft_interval_store.specs.State.{CollectionsState, KeepsReferences, placed, text_elements, with_effect}
+use Rattle.ft_interval_store.proofs.RisingNames.{name_cmp-back, name_cmp-trans}
 use Rattle.ft_laws_agreement.specs.Sequencing.{Each}
 use Rattle.ft_tree_leaves.specs.declared.text.TextContent.{TextContent}
 use Rattle.ft_tree_leaves.specs.Elements.{seen_in}

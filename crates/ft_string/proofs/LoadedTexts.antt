@@ -10,7 +10,7 @@ use Rattle.ft_base.specs.declared.stamps.Stamp.TheVariants.{Acked, Local}
 use Rattle.ft_base.specs.Scan.{at, len, one_more_if}
 use Rattle.ft_base.specs.Visibility.{has_occurred, is_acked}
 use Rattle.ft_block.specs.declared.leaves.LenView.TheVariants.{At}
-use Rattle.ft_interval.specs.State.{CollectionsState, text_elements}
+use Rattle.ft_interval_store.specs.State.{CollectionsState, text_elements}
 use Rattle.ft_laws_agreement.specs.Sequencing.{Each}
 use Rattle.ft_laws_agreement.specs.Starts.{has_no_items, is_nothing, is_sequenced_up_to, is_settled}
 use Rattle.ft_laws_agreement.proofs.SummaryStarts.{ends-on, summary-sound}

@@ -1,24 +1,29 @@
 -- What a reconnection makes of a whole shared text, once all its stages were given.
-use Rattle.std.proofs.Common.{◌≡◌, ℕ, ◌≤◌, ◌<◌, All, Bool, true, false, ◌&&◌, ◌||◌, nat_eq, nat_le, List, [], ◌∷◌, ◌++◌, Option, refl, sym, ◌∙◌, ap, subst, arith, map, flat_map, option_map, append-nil}
+use Rattle.std.proofs.Common.{◌≡◌, ℕ, ◌≤◌, ◌<◌, None, Some, is_some, length, All, Bool, true, false, ◌&&◌, ◌||◌, nat_eq, nat_le, List, [], ◌∷◌, ◌++◌, Option, refl, sym, ◌∙◌, ap, subst, arith, map, flat_map, option_map, append-nil}
 use Rattle.std.specs.List.{list_all, list_any}
 use Rattle.std.proofs.lemmas.Bool.Decides.{nat_tests}
 use Rattle.std.proofs.lemmas.List.Elements.{All-cons, All-nil}
 use Rattle.ft_base.specs.Scan.{len}
-use Rattle.ft_interval.specs.Ends.{place_of_end}
-use Rattle.ft_interval.specs.State.{CollectionsState, text_elements}
+use Rattle.ft_interval_store.specs.Ends.{place_of_end}
+use Rattle.ft_interval_store.specs.State.{CollectionsState, ends_of_name, text_elements}
+use Rattle.ft_interval.specs.declared.indexes.LabelIndex.{LabelIndex}
+use Rattle.ft_interval.specs.Indexes.{IndexedState, StandsOn, index_of}
+use Rattle.ft_interval.specs.Order.{IsAtMost, IsWithin}
+use Rattle.ft_interval.proofs.Listed.{kept-listed}
 use Rattle.ft_tree_leaves.specs.declared.text.TextContent.{TextContent}
 use Rattle.ft_tree_leaves.specs.Edits.{with_place}
-use Rattle.ft_tree_leaves.specs.References.{ChangesReferences}
-use Rattle.ft_msg.specs.Indexed.{IndexedStage, indexed_stage}
+use Rattle.ft_tree_leaves.specs.References.{ChangesReferences, place_of}
+use Rattle.ft_msg.specs.Indexed.{IndexedStage, indexed_stage, place_in_list}
 use Rattle.ft_msg.specs.Reconnection.{carried_stage, rebuilt_document}
 use Rattle.ft_op.specs.Document.{Document}
 use Rattle.ft_op.specs.Intervals.{NamedElements, settle_elements}
 use Rattle.ft_op.specs.Operation.{OnGrid, OnIntervals, OnText, SubOperation}
 use Rattle.ft_op.specs.Pieces.{pieces}
 use Rattle.ft_op.specs.Stages.{Stage}
-use Rattle.ft_props.specs.Element.{ListElement}
+use Rattle.ft_props.specs.Element.{ListElement, SequencedId, has_id, sequenced_elements}
 use Rattle.ft_props.specs.Steps.{is_inserted_by}
 use Rattle.ft_laws_agreement.proofs.NumberTests.{from_self}
+use Rattle.ft_laws_agreement.proofs.RebuiltDocument.{rebuilt-sequenced}
 use Rattle.ft_laws_agreement.specs.Reconnecting.{inserts_text, removes_text}
 use Rattle.ft_laws_agreement.specs.Sequencing.{Each}
 use Rattle.ft_laws_names.specs.WellNamed.{RiseTo, puts_text_in}
@@ -40,7 +45,9 @@ use Rattle.ft_string.specs.Parts.{AreSound, state_of}
 use Rattle.ft_string.specs.State.{element_stage}
 use Rattle.ft_string.specs.declared.pending.PendingOp.{PendingOp}
 use Rattle.ft_string.proofs.Documents.{keeps-end, keeps-settled, sound-step, step-holds}
-use Rattle.ft_string.proofs.Ends.{end-moved, same-names}
+use Rattle.ft_string.proofs.Ends.{HaveEnds, end-moved, from-placed, same-names}
+use Rattle.ft_string.proofs.NamedEnds.{IsOfOneName, beside-length, named-ends, names-gone, names-rise, names-some, names-within}
+use Rattle.ft_string.proofs.StandingIndexes.{live-changed, named-end}
 use Rattle.ft_string.proofs.Stages.{AreNamesIn, all-stage-names, each-filter}
 
 -- ---- stages that go on
@@ -150,8 +157,7 @@ module _ (tree : TreeState TextContent) (c : CollectionsState) (ops : List Pendi
   }
 
   module _ (new : TreeState TextContent) (elements : text_elements new ≡ tree_rebuilt last (text_elements tree))
-      (refs : ChangesReferences (with_place (rebuilt_place stamps_in last (text_elements tree))) tree.refs new.refs) (made : new.made ≡ tree.made)
-      (sound : AreSound tree c) (named : Each (λ t. AreNamesIn es t.sub_operation t.names) held) where
+      (refs : ChangesReferences (with_place (rebuilt_place stamps_in last (text_elements tree))) tree.refs new.refs) where
     abbrev after : Document
     after = rebuilt_document ms doc
 
@@ -166,13 +172,49 @@ module _ (tree : TreeState TextContent) (c : CollectionsState) (ops : List Pendi
     moved : (r : Option ℕ) → place_of_end new.refs r ≡ option_map f (place_of_end tree.refs r)
     moved r = end-moved f tree.refs new.refs refs r
 
-    pub text-rejoined : HoldsText (state_of new c ops given usable) after held
-    text-rejoined =
-        step-holds tree new c ops given usable last last 0 f (λ o. o) doc after held (record { list = text.list; intervals = text.intervals; names = named }) sound holds
-        (subst (λ xs. AreElements text_content xs after.text.items) (sym elements) (rebuilt-alike text_content last ms doc.text text.list of list))
-        step (let same = made in omega arith) (sym (same-names doc.intervals))
-        (λ r o a t e. keeps-settled last 0 f doc.text after.text step tree.refs new.refs moved r o t e)
-        (λ r o a t e. keeps-end last 0 f doc.text after.text step tree.refs new.refs moved r o t e)
+    abbrev fs : List ListElement
+    fs = after.text.items
+
+    abbrev Named : Option ℕ → Type 0
+    Named = IsOfOneName tree.refs new.refs es fs
+
+    have-names : HaveEnds Named c.acked
+    have-names = named-ends tree.refs new.refs es fs (λ r o t e. keeps-settled last 0 f doc.text after.text step tree.refs new.refs moved r o t e) text.intervals
+        (from-placed tree.refs es c.acked doc.intervals holds.intervals)
+
+    kept-order : sequenced_elements fs ≡ sequenced_elements es
+    kept-order = ap (λ (d : Document). d.text.items) (rebuilt-sequenced ms doc)
+
+    sequenced-stays : (n : ℕ) → 1 ≤ len (has_id (SequencedId n)) es → 1 ≤ len (has_id (SequencedId n)) fs
+    sequenced-stays n t = step.stays (SequencedId n) t
+
+    new-length : length (text_elements new) ≡ length fs
+    new-length = beside-length (subst (λ xs. AreElements text_content xs fs) (sym elements) (rebuilt-alike text_content last ms doc.text text.list of list))
+
+    -- the indexes of intervals stand, since the sequenced elements stay in their order
+    pub text-stands : (idx : List LabelIndex) → (let x : IndexedState = record { state = c; indexes = idx } in StandsOn tree x → StandsOn new x)
+    text-stands idx st = record {
+      live = live-changed (with_place f) tree.refs new.refs refs c st.live;
+      listed = λ l. kept-listed (length (text_elements tree)) (length (text_elements new)) tree.refs new.refs (λ j. ends_of_name (l, j) c.acked) (index_of l idx) (λ r. Named (Some r))
+          (λ j r e. named-end Named c.acked have-names (l, j) r e)
+          (λ r q e d w h. subst (λ u. IsAtMost u (place_of new.refs q)) (sym e.behind) (subst (λ u. IsAtMost (place_in_list fs e.name) u) (sym d.behind)
+          (names-rise es fs kept-order sequenced-stays e.name d.name e.settled d.settled
+          (subst (λ u. IsAtMost u (place_in_list es d.name)) e.before (subst (λ u. IsAtMost (place_of tree.refs r) u) d.before h)))))
+          (λ r e w. subst (λ u. IsWithin (length (text_elements new)) u) (sym e.behind) (subst (λ n. IsWithin n (place_in_list fs e.name)) (sym new-length)
+          (names-within es fs kept-order sequenced-stays e.name e.settled)))
+          (λ r q e d w v h. ap (λ u. is_some u) e.behind ∙ names-some es fs kept-order sequenced-stays e.name ∙ sym (ap (λ u. is_some u) e.before) ∙ h ∙ ap (λ u. is_some u) d.before
+          ∙ sym (names-some es fs kept-order sequenced-stays d.name) ∙ sym (ap (λ u. is_some u) d.behind))
+          (λ r e h. e.behind ∙ names-gone es fs kept-order sequenced-stays e.name (sym e.before ∙ h)) (st.listed l);
+    }
+
+    module _ (made : new.made ≡ tree.made) (sound : AreSound tree c) (named : Each (λ t. AreNamesIn es t.sub_operation t.names) held) where
+      pub text-rejoined : HoldsText (state_of new c ops given usable) after held
+      text-rejoined =
+          step-holds tree new c ops given usable last last 0 f (λ o. o) doc after held (record { list = text.list; intervals = text.intervals; names = named }) sound holds
+          (subst (λ xs. AreElements text_content xs after.text.items) (sym elements) (rebuilt-alike text_content last ms doc.text text.list of list))
+          step (let same = made in omega arith) (sym (same-names doc.intervals))
+          (λ r o a t e. keeps-settled last 0 f doc.text after.text step tree.refs new.refs moved r o t e)
+          (λ r o a t e. keeps-end last 0 f doc.text after.text step tree.refs new.refs moved r o t e)
 
 -- ---- the call
 
@@ -216,3 +258,10 @@ module _ (tree new : TreeState TextContent) (c : CollectionsState) (ops : List P
 pub rejoined-sound : (tree new : TreeState TextContent) (c : CollectionsState) (f : ℕ → ℕ) → ChangesReferences (with_place f) tree.refs new.refs → new.usable ≡ true
     → AreSound tree c → AreSound new c
 rejoined-sound tree new c f refs usable sound = sound-step (with_place f) (λ x. refl) tree new c refs (usable ∙ sym sound.tree) sound
+
+-- the indexes stand
+pub rejoined-stands : (tree new : TreeState TextContent) (c : IndexedState) (ops : List PendingOp) (given : ℕ) (usable : Bool) (last : ℕ) (doc : Document) (stages : List Stage)
+    (text : IsTextSound last doc stages) → HoldsGiven (state_of tree c.state ops given usable) doc stages [] → text_elements new ≡ tree_rebuilt last (text_elements tree)
+    → ChangesReferences (with_place (rebuilt_place stamps_in last (text_elements tree))) tree.refs new.refs → StandsOn tree c → StandsOn new c
+rejoined-stands tree new c ops given usable last doc stages text holds elements refs s =
+    text-stands tree c.state ops given usable last doc stages (flat_map (carried_stage doc) stages ++ []) text holds new elements refs c.indexes s

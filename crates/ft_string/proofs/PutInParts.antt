@@ -5,7 +5,7 @@ use Rattle.std.proofs.lemmas.List.{map-append}
 use Rattle.ft_base.specs.declared.stamps.Stamp.{Stamp}
 use Rattle.ft_base.specs.Scan.{len, put}
 use Rattle.ft_base.proofs.Booleans.{both}
-use Rattle.ft_interval.specs.State.{text_elements}
+use Rattle.ft_interval_store.specs.State.{text_elements}
 use Rattle.ft_tree_leaves.specs.declared.text.TextContent.{TextContent}
 use Rattle.ft_tree_leaves.specs.Edits.{with_place}
 use Rattle.ft_tree_leaves.specs.Elements.{TreeElement, element_with, new_elements}

@@ -4,9 +4,9 @@ use Rattle.std.specs.List.{list_all, list_any}
 use Rattle.std.proofs.lemmas.Bool.Decides.{nat_tests}
 use Rattle.std.proofs.lemmas.List.Elements.{All-cons, All-head, All-nil, All-tail}
 use Rattle.ft_base.proofs.Booleans.{both}
-use Rattle.ft_interval.specs.declared.pending.Operation.{Operation}
-use Rattle.ft_interval.specs.State.{CollectionsState, is_at_stage, operation_at, placed_operations, text_elements, with_mapped_names}
-use Rattle.ft_interval.specs.Ends.{places_of_ends}
+use Rattle.ft_interval_store.specs.declared.pending.Operation.{Operation}
+use Rattle.ft_interval_store.specs.State.{CollectionsState, is_at_stage, operation_at, placed_operations, text_elements, with_mapped_names}
+use Rattle.ft_interval_store.specs.Ends.{places_of_ends}
 use Rattle.ft_tree_leaves.specs.declared.text.TextContent.{TextContent}
 use Rattle.ft_msg.specs.Indexed.{IndexedStage, indexed_stage}
 use Rattle.ft_msg.specs.Reconnection.{carried_stage}

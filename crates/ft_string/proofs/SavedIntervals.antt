@@ -8,8 +8,8 @@ use Rattle.ft_base.specs.Scan.{len}
 use Rattle.ft_base.specs.Visibility.{is_acked}
 use Rattle.ft_base.proofs.Booleans.{both}
 use Rattle.ft_block.specs.declared.leaves.LenView.TheVariants.{Stage as at_stage}
-use Rattle.ft_interval.specs.Intervals.{NamesRise}
-use Rattle.ft_interval.specs.Shown.{last as top, shown_intervals, shown_record}
+use Rattle.ft_interval_store.specs.Intervals.{NamesRise}
+use Rattle.ft_interval_store.specs.Shown.{last as top, shown_intervals, shown_record}
 use Rattle.ft_tree_leaves.specs.Elements.{seen_in}
 use Rattle.ft_msg.specs.Content.{interval_record}
 use Rattle.ft_op.specs.Document.{Document}
@@ -27,7 +27,7 @@ use Rattle.ft_laws_agreement.proofs.TrimmedContent.{records-kept}
 use Rattle.ft_laws_agreement.proofs.TrimmedFromNow.{trim-trimmed}
 use Rattle.ft_named.proofs.Lists.{each-weaker}
 use Rattle.ft_named.proofs.Slid.{each-there}
-use Rattle.ft_interval.specs.State.{CollectionsState, placed, text_elements}
+use Rattle.ft_interval_store.specs.State.{CollectionsState, placed, text_elements}
 use Rattle.ft_tree_leaves.specs.declared.text.TextContent.{TextContent}
 use Rattle.ft_tree.specs.State.{TreeState}
 use Rattle.ft_string.specs.Holds.{HoldsText, IsTextSound}

@@ -1,12 +1,12 @@
 -- Which names are shown: those of the intervals with places here, of those with names there.
 use Rattle.std.proofs.Common.{◌≡◌, ℕ, Bool, true, false, cond, not, List, [], ◌∷◌, Some, None, refl, sym, ◌∙◌, ap, map}
-use Rattle.ft_interval.specs.declared.intervals.Interval.{Interval}
-use Rattle.ft_interval.specs.declared.pending.Operation.{Operation}
-use Rattle.ft_interval.specs.Ends.{map_ends, places_of_ends}
-use Rattle.ft_interval.specs.Intervals.{Name, NamesRise, after_operation, name_in}
-use Rattle.ft_interval.specs.Shown.{carried, carried_interval, last as top, settled_end, settled_interval, shown_from}
-use Rattle.ft_interval.specs.State.{CollectionsState, is_add, is_interval_operation, is_shown, placed, text_elements, with_mapped_ends}
-use Rattle.ft_interval.proofs.OneInterval.{NamesRise-after, NamesRise-map}
+use Rattle.ft_interval_store.specs.declared.intervals.Interval.{Interval}
+use Rattle.ft_interval_store.specs.declared.pending.Operation.{Operation}
+use Rattle.ft_interval_store.specs.Ends.{map_ends, places_of_ends}
+use Rattle.ft_interval_store.specs.Intervals.{Name, NamesRise, after_operation, name_in}
+use Rattle.ft_interval_store.specs.Shown.{carried, carried_interval, last as top, settled_end, settled_interval, shown_from}
+use Rattle.ft_interval_store.specs.State.{CollectionsState, is_add, is_interval_operation, is_shown, placed, text_elements, with_mapped_ends}
+use Rattle.ft_interval_store.proofs.OneInterval.{NamesRise-after, NamesRise-map}
 use Rattle.ft_tree_leaves.specs.declared.text.TextContent.{TextContent}
 use Rattle.ft_msg.specs.declared.faults.EditFault.TheVariants.{IdInUse, NoSuchInterval}
 use Rattle.ft_msg.specs.Client.{id_fault}

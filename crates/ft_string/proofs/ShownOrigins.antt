@@ -1,7 +1,7 @@
 -- Who inserted what the client sees: told by the tree's leaves, and by the document.
 use Rattle.std.proofs.Common.{◌≡◌, ℕ, Bool, List, ap, map}
 use Rattle.ft_base.specs.Visibility.{seen_at}
-use Rattle.ft_interval.specs.State.{CollectionsState, text_elements}
+use Rattle.ft_interval_store.specs.State.{CollectionsState, text_elements}
 use Rattle.ft_tree_leaves.specs.declared.text.TextContent.{TextContent}
 use Rattle.ft_tree_leaves.specs.Elements.{TreeElement}
 use Rattle.ft_msg.specs.Blame.{origin_of}

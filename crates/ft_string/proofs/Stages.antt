@@ -3,9 +3,9 @@ use Rattle.std.proofs.Common.{◌≡◌, ℕ, ◌≤◌, Bool, true, false, cond
 use Rattle.std.proofs.lemmas.Bool.{or_left, or_right}
 use Rattle.std.specs.List.{list_any}
 use Rattle.ft_base.specs.Scan.{len}
-use Rattle.ft_interval.specs.declared.pending.Operation.{Operation}
-use Rattle.ft_interval.specs.Ends.{References, is_reference, places_of_ends}
-use Rattle.ft_interval.specs.State.{ends_of_operations, is_acknowledged, placed_operations, with_mapped_names}
+use Rattle.ft_interval_store.specs.declared.pending.Operation.{Operation}
+use Rattle.ft_interval_store.specs.Ends.{References, is_reference, places_of_ends}
+use Rattle.ft_interval_store.specs.State.{ends_of_operations, is_acknowledged, placed_operations, with_mapped_names}
 use Rattle.ft_props.specs.Element.{ElementId, ListElement, has_id}
 use Rattle.ft_op.specs.Document.{Document}
 use Rattle.ft_op.specs.Intervals.{NamedElements, no_elements}

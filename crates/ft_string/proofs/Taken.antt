@@ -4,8 +4,8 @@ use Rattle.std.proofs.lemmas.Bool.Decides.{nat_tests}
 use Rattle.ft_base.specs.declared.stamps.Stamp.TheVariants.{Local}
 use Rattle.ft_base.specs.Scan.{change_range, len, no_run, put}
 use Rattle.ft_block.specs.Leaves.{last_stage}
-use Rattle.ft_interval.specs.State.{CollectionsState, text_elements}
-use Rattle.ft_interval.specs.Ends.{place_of_end}
+use Rattle.ft_interval_store.specs.State.{CollectionsState, text_elements}
+use Rattle.ft_interval_store.specs.Ends.{place_of_end}
 use Rattle.ft_tree_leaves.specs.declared.references.Reference.{Reference}
 use Rattle.ft_tree_leaves.specs.declared.text.TextContent.{TextContent}
 use Rattle.ft_tree_leaves.specs.Edits.{with_place}

@@ -2,15 +2,15 @@
 use Rattle.std.specs.Prelude.{◌≡◌, ◌<◌, ⊤, nat_eq, true, ℕ, Bool, cond, nat_lt, List, [], ◌∷◌, Option, Some, None, drop, map, min}
 use Rattle.std.specs.List.{list_all, list_any}
 use Rattle.ft_props.specs.declared.properties.Changes.{Changes}
-use Rattle.ft_interval.specs.Ends.{map_ends, slid_end}
-use Rattle.ft_interval.specs.Intervals.{NamesRise}
-use Rattle.ft_interval.specs.State.{CollectionsState, KeepsReferences, placed, text_elements, with_first_acked}
+use Rattle.ft_interval_store.specs.Ends.{map_ends, slid_end}
+use Rattle.ft_interval_store.specs.Intervals.{NamesRise}
+use Rattle.ft_interval_store.specs.State.{CollectionsState, KeepsReferences, placed, text_elements, with_first_acked}
 use Rattle.ft_tree_leaves.specs.declared.text.TextContent.{TextContent}
 use Rattle.ft_tree_leaves.specs.Elements.{acked_element}
 use Rattle.ft_tree_leaves.specs.References.{ChangesReferences, slid_reference}
 use Rattle.ft_tree_leaves.specs.TextLeaves.{text_author}
 use Rattle.ft_tree.specs.State.{KeepsRest, TreeState}
-use Rattle.ft_interval.specs.State.{first_stage, is_first}
+use Rattle.ft_interval_store.specs.State.{first_stage, is_first}
 use Rattle.ft_string.specs.Parts.{TextElements}
 use Rattle.ft_string.specs.declared.pending.PendingOp.{PendingOp}
 

@@ -2,7 +2,7 @@
 use Rattle.std.specs.Prelude.{◌≡◌, ℕ, ◌+◌, Bool, List, is_none, length}
 use Rattle.std.specs.List.{list_all}
 use Rattle.ft_base.specs.Scan.{put}
-use Rattle.ft_interval.specs.State.{text_elements}
+use Rattle.ft_interval_store.specs.State.{text_elements}
 use Rattle.ft_tree_leaves.specs.declared.text.TextContent.{TextContent}
 use Rattle.ft_tree_leaves.specs.Edits.{with_place}
 use Rattle.ft_tree_leaves.specs.Elements.{TreeElement}

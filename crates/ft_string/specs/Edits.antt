@@ -2,8 +2,8 @@
 use Rattle.std.specs.Prelude.{ℕ, ◌+◌, ◌-◌, ◌≤◌, Bool, true, false, cond, nat_le, List, [], ◌∷◌, Result, Ok, Err, length}
 use Rattle.ft_msg.specs.declared.faults.EditFault.{EditFault}
 use Rattle.ft_msg.specs.declared.faults.EditFault.TheVariants.{IdInUse, NoSuchInterval, OutOfMemory, OutOfRange}
-use Rattle.ft_interval.specs.declared.faults.IntervalFault.{IntervalFault}
-use Rattle.ft_interval.specs.declared.faults.IntervalFault.TheVariants as interval
+use Rattle.ft_interval_store.specs.declared.faults.IntervalFault.{IntervalFault}
+use Rattle.ft_interval_store.specs.declared.faults.IntervalFault.TheVariants as interval
 use Rattle.ft_base.specs.Scan.{len}
 use Rattle.ft_base.specs.Visibility.{seen_at}
 use Rattle.ft_string.specs.State.{TextState}

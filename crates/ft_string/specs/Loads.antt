@@ -3,10 +3,10 @@ use Rattle.std.specs.Prelude.{◌≡◌, ℕ, ◌+◌, Bool, true, cond, List, [
 use Rattle.ft_base.specs.declared.elements.Perspective.{Perspective}
 use Rattle.ft_base.specs.Scan.{len}
 use Rattle.ft_block.specs.declared.leaves.LenView.TheVariants.{At}
-use Rattle.ft_interval.specs.declared.intervals.Interval.{Interval}
-use Rattle.ft_interval.specs.Ends.{map_ends, places_of_given, slid_end}
-use Rattle.ft_interval.specs.Intervals.{interval_cmp, interval_of, name_of}
-use Rattle.ft_interval.specs.State.{CollectionsState, KeepsReferences, placed, text_elements}
+use Rattle.ft_interval_store.specs.declared.intervals.Interval.{Interval}
+use Rattle.ft_interval_store.specs.Ends.{map_ends, places_of_given, slid_end}
+use Rattle.ft_interval_store.specs.Intervals.{interval_cmp, interval_of, name_of}
+use Rattle.ft_interval_store.specs.State.{CollectionsState, KeepsReferences, placed, text_elements}
 use Rattle.ft_tree_leaves.specs.declared.text.TextContent.{TextContent}
 use Rattle.ft_tree_leaves.specs.Elements.{elements_with, seen_in}
 use Rattle.ft_tree_leaves.specs.References.{KeepsReferences as KeepsAllReferences}

@@ -6,7 +6,7 @@ use Rattle.ft_base.specs.Scan.{change_range, len, no_run, put}
 use Rattle.ft_block.specs.declared.leaves.LenView.TheVariants.{At}
 use Rattle.ft_base.specs.declared.elements.Perspective.{Perspective}
 use Rattle.ft_block.specs.Leaves.{last_stage}
-use Rattle.ft_interval.specs.State.{CollectionsState, IsLive, IsMarked, keeps, placed_intervals, placed_operations, text_elements}
+use Rattle.ft_interval_store.specs.State.{CollectionsState, IsLive, IsMarked, keeps, placed_intervals, placed_operations, text_elements}
 use Rattle.ft_tree_leaves.specs.declared.references.Reference.{Reference}
 use Rattle.ft_tree_leaves.specs.declared.text.TextContent.{TextContent}
 use Rattle.ft_tree_leaves.specs.Edits.{with_place}

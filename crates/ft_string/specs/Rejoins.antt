@@ -2,11 +2,11 @@
 use Rattle.std.specs.Prelude.{◌≡◌, ◌≤◌, ℕ, Bool, true, false, cond, nat_lt, List, [], ◌∷◌, ◌++◌, Option, Some, None, filter, flat_map, map, option_map}
 use Rattle.ft_base.specs.Scan.{len}
 use Rattle.ft_block.specs.declared.leaves.LenView.TheVariants.{Stage as at_stage}
-use Rattle.ft_interval.specs.Ends.{map_ends}
+use Rattle.ft_interval_store.specs.Ends.{map_ends}
 use Rattle.ft_tree_leaves.specs.Elements.{seen_in}
-use Rattle.ft_interval.specs.Shown.{regenerated, settled_end}
+use Rattle.ft_interval_store.specs.Shown.{regenerated, settled_end}
 use Rattle.std.specs.List.{list_any}
-use Rattle.ft_interval.specs.State.{CollectionsState, KeepsReferences, is_at_stage, operation_at, placed, text_elements, with_ends_at}
+use Rattle.ft_interval_store.specs.State.{CollectionsState, KeepsReferences, is_at_stage, operation_at, placed, text_elements, with_ends_at}
 use Rattle.ft_tree_leaves.specs.declared.text.TextContent.{TextContent}
 use Rattle.ft_op.specs.declared.operations.BaseOp.{BaseOp}
 use Rattle.ft_op.specs.declared.operations.BaseOp.TheVariants.{Insert, Remove, Annotate}

@@ -1,9 +1,9 @@
 -- What contracts see of a shared text. Its elements have no names: the ends of an interval, and of a pending operation on one,
 -- are places in the list of all elements.
 use Rattle.std.specs.Prelude.{◌≡◌, ℕ, Bool, List, None}
-use Rattle.ft_interval.specs.declared.intervals.EndPair.{EndPair}
-use Rattle.ft_interval.specs.declared.intervals.Interval.{Interval}
-use Rattle.ft_interval.specs.declared.pending.Operation.{Operation}
+use Rattle.ft_interval_store.specs.declared.intervals.EndPair.{EndPair}
+use Rattle.ft_interval_store.specs.declared.intervals.Interval.{Interval}
+use Rattle.ft_interval_store.specs.declared.pending.Operation.{Operation}
 use Rattle.ft_msg.specs.Indexed.{IndexedInterval, IndexedStage, PlacePair}
 use Rattle.ft_op.specs.Operation.{OnIntervals, OnText}
 use Rattle.ft_props.specs.Element.{NamelessElement}

@@ -1,7 +1,8 @@
 //! The acknowledgement of pending stages of a shared text.
 
 ghost use Rattle.std.specs.Prelude.{◌≡◌, ℕ, ◌+◌, ◌≤◌, ◌^◌, ◌++◌, List, All, IsTrue, OnErr, OnOk, false};
-ghost use Rattle.ft_interval.specs.State.{IsLive, text_elements};
+ghost use Rattle.ft_interval.specs.Indexes.{StandsOn};
+ghost use Rattle.ft_interval_store.specs.State.{IsMarked, text_elements};
 ghost use Rattle.ft_tree_leaves.specs.Elements.{IsLowestChange};
 ghost use Rattle.ft_op.specs.Document.{Document};
 ghost use Rattle.ft_op.specs.Stages.{Stage};
@@ -40,7 +41,7 @@ fn first_op(ops: &VecDeque<PendingOp>) -> Option<u64>
 
 /// The lowest pending stage, if it is no later than the last one.
 fn next_up_to(intervals: &Collections, ops: &VecDeque<PendingOp>, last: u64) -> Option<u64>
-    ensures { result ≡ next_below (last + 1) intervals.now ops.now.items }
+    ensures { result ≡ next_below (last + 1) intervals.now.state ops.now.items }
 {
     let stage = least(first_op(ops), intervals.first_stage())?;
     if stage <= last { Some(stage) } else { None }
@@ -56,9 +57,11 @@ fn ack_stage(
     conn: u32,
 ) -> Result<(), OutOfMemory>
     requires usable { IsTrue tree.old.usable }
-    requires live { IsLive tree.old.refs intervals.old }
+    requires stands { StandsOn tree.old intervals.old }
+    requires marked { IsMarked tree.old.refs intervals.old.state }
     requires lowest { All (λ e. IsLowestChange stage e.overlay) (text_elements tree.old) }
-    ensures { OnOk result (AcksStage stage seq conn tree.old tree.new intervals.old intervals.new ops.old.items ops.new.items) }
+    ensures stage { OnOk result (AcksStage stage seq conn tree.old tree.new intervals.old.state intervals.new.state ops.old.items ops.new.items) }
+    ensures stands { OnOk result (StandsOn tree.new intervals.new) }
 {
     tree.ack(stage, seq, conn)?;
     if intervals.first_stage() == Some(stage) {
@@ -78,10 +81,12 @@ fn ack_all(
     conn: u32,
 ) -> Result<(), OutOfMemory>
     requires usable { IsTrue tree.old.usable }
-    requires live { IsLive tree.old.refs intervals.old }
+    requires stands { StandsOn tree.old intervals.old }
+    requires marked { IsMarked tree.old.refs intervals.old.state }
     requires rise { OpsRise 0 ops.old.items }
     requires noted { AreNoted ops.old.items (text_elements tree.old) }
-    ensures { OnOk result (AcksStages (last + 1) seq conn tree.old tree.new intervals.old intervals.new ops.old.items ops.new.items) }
+    ensures stages { OnOk result (AcksStages (last + 1) seq conn tree.old tree.new intervals.old.state intervals.new.state ops.old.items ops.new.items) }
+    ensures stands { OnOk result (StandsOn tree.new intervals.new) }
 {
     while let Some(stage) = next_up_to(intervals, ops, last) {
         ack_stage(tree, intervals, ops, stage, seq, conn)?;

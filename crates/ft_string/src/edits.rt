@@ -4,8 +4,9 @@ ghost use Rattle.std.specs.Prelude.{◌≡◌, ◌≢◌, ◌+◌, ◌*◌, ◌-
 ghost use Rattle.std.specs.List.{AllByRecursion};
 ghost use Rattle.ft_base.specs.Scan.{len};
 ghost use Rattle.ft_block.specs.declared.leaves.LenView.TheVariants.{Stage as at_stage};
-ghost use Rattle.ft_interval.specs.Intervals.{name_in};
-ghost use Rattle.ft_interval.specs.State.{IsAboveAll, IsAsBefore, IsLive, IsRefusedEdit, Pushes, is_add, is_interval_operation, is_shown, placed, text_elements};
+ghost use Rattle.ft_interval.specs.Indexes.{StandsOn};
+ghost use Rattle.ft_interval_store.specs.Intervals.{name_in};
+ghost use Rattle.ft_interval_store.specs.State.{IsAboveAll, IsAsBefore, IsRefusedEdit, Pushes, is_add, is_interval_operation, is_shown, placed, text_elements};
 ghost use Rattle.ft_tree_leaves.specs.Elements.{IsAboveChanges, seen_in};
 ghost use Rattle.ft_msg.specs.Client.{local_sub_operations};
 ghost use Rattle.ft_op.specs.declared.operations.TextOp.TheVariants.{One};
@@ -27,7 +28,8 @@ use crate::strings::SharedString;
 use ft_arena::NodeId;
 use ft_base::{Datum, OutOfMemory, Steps};
 use ft_block::LenView;
-use ft_interval::{Collections, IntervalFault};
+use ft_interval::Collections;
+use ft_interval_store::IntervalFault;
 use ft_msg::EditFault;
 use ft_op::{BaseOp, TextOp};
 use ft_tree::{TextContent, Tree, TreeFault};
@@ -121,15 +123,17 @@ fn take_interval(
     stage: u64,
 ) -> Result<(), IntervalFault>
     requires usable { IsTrue tree.old.usable }
-    requires live { IsLive tree.old.refs intervals.old }
+    requires stands { StandsOn tree.old intervals.old }
     requires kind { is_interval_operation op.now ≡ true }
     requires some { 1 ≤ stage }
-    requires above { IsAboveAll stage intervals.old }
-    ensures taken { OnOk result (Pushes (seen_in (at_stage stage)) (text_elements tree.old) stage op.now intervals.old intervals.new tree.old tree.new) }
-    ensures name { OnOk result (is_shown (text_elements tree.old) (name_in op.now) (placed tree.old.refs intervals.old) ≡ not (is_add op.now)) }
-    ensures refused { let shown = is_shown (text_elements tree.old) (name_in op.now) (placed tree.old.refs intervals.old) in
+    requires above { IsAboveAll stage intervals.old.state }
+    ensures taken { OnOk result (Pushes (seen_in (at_stage stage)) (text_elements tree.old) stage op.now intervals.old.state intervals.new.state tree.old tree.new) }
+    ensures name { OnOk result (is_shown (text_elements tree.old) (name_in op.now) (placed tree.old.refs intervals.old.state) ≡ not (is_add op.now)) }
+    ensures refused { let shown = is_shown (text_elements tree.old) (name_in op.now) (placed tree.old.refs intervals.old.state) in
         let length = len (seen_in (at_stage stage)) (text_elements tree.old) in
-        IfErr result (IsRefusedEdit shown length op.now (IsAsBefore intervals.old intervals.new tree.old tree.new)) }
+        IfErr result (IsRefusedEdit shown length op.now (IsAsBefore intervals.old.state intervals.new.state tree.old tree.new)) }
+    ensures indexes { intervals.new.indexes ≡ intervals.old.indexes }
+    ensures stands { OnOk result (StandsOn tree.new intervals.new) }
 {
     match op {
         TextOp::IntervalAdd { .. } => intervals.add_local(tree, op, stage),

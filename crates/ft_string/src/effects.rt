@@ -2,7 +2,7 @@
 
 ghost use Rattle.std.specs.Prelude.{◌≡◌, ℕ, ◌+◌, ◌≤◌, ◌∷◌, [], List, true, IfOk, IsTrue, OnErr, OnOk, false, map};
 ghost use Rattle.std.specs.List.{AllByRecursion};
-ghost use Rattle.ft_interval.specs.State.{is_interval_operation};
+ghost use Rattle.ft_interval_store.specs.State.{is_interval_operation};
 ghost use Rattle.ft_op.specs.Document.{Document, effects};
 ghost use Rattle.ft_op.specs.Operation.{OnIntervals, OnText, text_sub_operations};
 ghost use Rattle.ft_op.specs.Stages.{Stage};

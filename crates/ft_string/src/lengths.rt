@@ -3,7 +3,7 @@
 ghost use Rattle.std.specs.Prelude.{◌≡◌, ◌≢◌, ◌+◌, ◌≤◌, ℕ, Err, IfOk, IfErr, IfSome, IsTrue, OnOk, chars, is_ok, length, true};
 ghost use Rattle.ft_base.specs.Scan.{len};
 ghost use Rattle.ft_block.specs.declared.leaves.LenView.TheVariants.{Stage as at_stage};
-ghost use Rattle.ft_interval.specs.State.{text_elements};
+ghost use Rattle.ft_interval_store.specs.State.{text_elements};
 ghost use Rattle.ft_tree_leaves.specs.Elements.{seen_in};
 ghost use Rattle.ft_op.specs.Operation.{segment_contents};
 ghost use Rattle.ft_props.specs.Properties.{max_safe_integer};

@@ -6,7 +6,8 @@ ghost use Rattle.ft_op.specs.declared.operations.ChannelOp.TheVariants.{Text};
 ghost use Rattle.ft_op.specs.Document.{Document};
 ghost use Rattle.ft_op.specs.Pieces.{op_of, pieces};
 ghost use Rattle.ft_op.specs.Stages.{Stage};
-ghost use Rattle.ft_interval.specs.State.{IsLive, text_elements};
+ghost use Rattle.ft_interval.specs.Indexes.{StandsOn};
+ghost use Rattle.ft_interval_store.specs.State.{text_elements};
 ghost use Rattle.ft_string.specs.Calls.{AreNext, HoldsAllGiven, HoldsGiven, HoldsRejoined, HoldsSomeGiven};
 ghost use Rattle.ft_string.specs.Holds.{IsTextSound};
 ghost use Rattle.ft_string.specs.Rejoins.{Gives, GivesOps, NextDue, again_of, due, has_any, has_piece, one_of, piece_op};
@@ -147,8 +148,9 @@ fn give(
     last: u64,
 ) -> Result<Option<TextOp>, OutOfMemory>
     requires usable { IsTrue tree.old.usable }
-    requires live { IsLive tree.old.refs intervals.old }
-    ensures { IfOk result (λ op. Gives first (last + 1) tree.old tree.new intervals.old intervals.new ops.old.items ops.new.items kept.old.items kept.new.items op) }
+    requires stands { StandsOn tree.old intervals.old }
+    ensures gives { IfOk result (λ op. Gives first (last + 1) tree.old tree.new intervals.old.state intervals.new.state ops.old.items ops.new.items kept.old.items kept.new.items op) }
+    ensures stands { OnOk result (StandsOn tree.new intervals.new) }
 {
     if intervals.is_pending(first) {
         // That ends are numbers is read off its contract.

@@ -8,7 +8,8 @@ ghost use Rattle.ft_props.specs.Keys.{key_cmp, put_rising};
 ghost use Rattle.ft_props.specs.Properties.{apply};
 ghost use Rattle.ft_sumdoc.specs.Forms.{rises};
 ghost use Rattle.ft_sumdoc.specs.Valid.{IsValidSummary, is_interval_before};
-ghost use Rattle.ft_interval.specs.State.{IsLive, text_elements};
+ghost use Rattle.ft_interval.specs.Indexes.{StandsOn};
+ghost use Rattle.ft_interval_store.specs.State.{text_elements};
 ghost use Rattle.ft_tree_leaves.specs.References.{reference_at};
 ghost use Rattle.ft_tree_leaves.specs.TextLeaves.{text_units};
 ghost use Rattle.ft_string.specs.Calls.{HasNoText, KeepsSummary, SavesText};
@@ -182,9 +183,10 @@ fn add_interval(
 ) -> Result<(), OutOfMemory>
     requires usable { IsTrue tree.old.usable }
     requires floor { tree.old.floor ≡ 0 }
-    requires live { IsLive tree.old.refs intervals.old }
+    requires stands { StandsOn tree.old intervals.old }
     requires fits { fits_on (text_elements tree.old) i.now ≡ true }
-    ensures { OnOk result (AddsInterval i.now intervals.old intervals.new tree.old tree.new) }
+    ensures adds { OnOk result (AddsInterval i.now intervals.old.state intervals.new.state tree.old tree.new) }
+    ensures stands { OnOk result (StandsOn tree.new intervals.new) }
 {
     let op = add_of(i)?;
     let _fits = intervals.apply(tree, &op, everybody())?;
@@ -201,7 +203,8 @@ fn intervals_on(
     requires bare { (r : ℕ) → reference_at tree.old.refs r ≡ None }
     requires rise { rises is_interval_before recs.now ≡ true }
     requires fit { AllFitOn (text_elements tree.old) recs.now }
-    ensures { IfOk result (HasIntervals recs.now tree.old tree.new) }
+    ensures has { IfOk result (λ c. HasIntervals recs.now tree.old tree.new c.state) }
+    ensures stands { IfOk result (λ c. StandsOn tree.new c) }
 {
     let mut intervals = Collections::new(tree.allocator());
     for i in recs {

@@ -1,5 +1,5 @@
 use Rattle.ft_block.specs.declared.leaves.LenView.TheVariants.{Stage as at_stage}
-use Rattle.ft_interval.specs.State.{text_elements}
+use Rattle.ft_interval_store.specs.State.{text_elements}
 use Rattle.ft_tree_leaves.specs.Elements.{seen_in}
 use Rattle.ft_string.proofs.Counts.{few-seen}
 use Rattle.ft_string.proofs.lengths.made_in.Goals as goal

@@ -1,5 +1,5 @@
 use Rattle.std.proofs.Common.{◌+◌, subst, sym}
-use Rattle.ft_interval.specs.State.{text_elements}
+use Rattle.ft_interval_store.specs.State.{text_elements}
 use Rattle.ft_string.specs.Rejoins.{GivesOps, NextDue}
 use Rattle.ft_string.proofs.SentSoFar.{gives-done}
 use Rattle.ft_string.proofs.rejoining.give_ops.Goals as goal

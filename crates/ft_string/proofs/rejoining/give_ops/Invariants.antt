@@ -1,5 +1,5 @@
 use Rattle.std.proofs.Common.{◌+◌, length}
-use Rattle.ft_interval.specs.State.{text_elements}
+use Rattle.ft_interval_store.specs.State.{text_elements}
 use Rattle.ft_string.proofs.SentSoFar.{GivesSoFar}
 use Rattle.ft_string.proofs.rejoining.give_ops.Given as goal
 

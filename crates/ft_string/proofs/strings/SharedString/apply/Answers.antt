@@ -1,5 +1,5 @@
 use Rattle.std.proofs.Common.{rules, ◌≡◌, true, IfOk, map, sym, ◌∙◌, ap, subst}
-use Rattle.ft_interval.specs.State.{is_interval_operation}
+use Rattle.ft_interval_store.specs.State.{is_interval_operation}
 use Rattle.ft_op.specs.Document.{effects}
 use Rattle.ft_op.specs.Operation.{OnText, text_sub_operations}
 use Rattle.ft_string.specs.Calls.{IsApplied}

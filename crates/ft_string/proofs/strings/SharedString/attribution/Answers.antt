@@ -7,5 +7,5 @@ pub returns : goal.returns
 returns c last doc stages sound holds =
     let a = c.self.inside in
     subst (λ os. IfOk c.origins_of.result (λ origins. origins ≡ os))
-    (origins-alike a.tree a.intervals (a.again.items ++ a.ops.items) a.given last a.usable doc stages sound (subst (λ s. HoldsText s doc stages) (sym c.self.view_is) holds))
+    (origins-alike a.tree a.intervals.state (a.again.items ++ a.ops.items) a.given last a.usable doc stages sound (subst (λ s. HoldsText s doc stages) (sym c.self.view_is) holds))
     c.origins_of.ensures

@@ -1,6 +1,6 @@
 use Rattle.std.proofs.Common.{◌++◌, ◌∙◌, ◌≤◌, ◌<◌, All, IsTrue, [], List, ap, length, refl, subst, sym, true}
 use Rattle.std.proofs.lemmas.List.Elements.{All-nil}
-use Rattle.ft_interval.specs.State.{text_elements}
+use Rattle.ft_interval_store.specs.State.{text_elements}
 use Rattle.ft_tree_leaves.specs.declared.text.TextContent.{TextContent}
 use Rattle.ft_laws_agreement.proofs.SummaryStarts.{summary-sound}
 use Rattle.ft_msg.specs.Summary.{doc_of}
@@ -41,7 +41,8 @@ intervals_on-requires-clause-fit c =
 
 pub invariant_of-result : goal.invariant_of-result
 invariant_of-result c usable = record {
-  parts = c.in_ok-intervals.ensures.sound;
+  parts = c.in_ok-intervals.ensures.has.sound;
+  stands = c.in_ok-intervals.ensures.stands;
   again = subst (λ (ts : List PendingOp). All (λ (t : PendingOp). t.stage ≤ 0) ts) (sym c.new-2.ensures.items) (All-nil (λ (t : PendingOp). t.stage ≤ 0));
   ahead = subst (λ (ts : List PendingOp). All (λ (t : PendingOp). 0 < t.stage) ts) (sym c.new.ensures.items) (All-nil (λ (t : PendingOp). 0 < t.stage));
 }
@@ -53,10 +54,10 @@ returns c =
     let made = filled (summary_elements c.as_slice.result.now) c.new-tree.result tree c.new-tree.ensures c.in_ok-append_all.ensures in
     let elements = made.elements ∙ ap summary_elements c.as_slice.ensures in
     let count = made.made ∙ ap (λ (segs : List SegRec). length (summary_elements segs)) c.as_slice.ensures in
-    let all = subst (λ (recs : List IntervalRec). HasIntervals recs tree c.intervals_on.new.tree c.in_ok-intervals.intervals) c.as_slice-2.ensures c.in_ok-intervals.ensures in
+    let all = subst (λ (recs : List IntervalRec). HasIntervals recs tree c.intervals_on.new.tree c.in_ok-intervals.intervals.state) c.as_slice-2.ensures c.in_ok-intervals.ensures.has in
     let none = ap (λ (ts : List PendingOp). ts ++ c.new.result.items) c.new-2.ensures.items ∙ c.new.ensures.items in
-    let held = subst (λ (ts : List PendingOp). HoldsText (state_of c.intervals_on.new.tree c.in_ok-intervals.intervals ts 0 true) (doc_of sum) []) (sym none)
-    (summary-held sum c.requires tree c.intervals_on.new.tree c.in_ok-intervals.intervals elements count all) in
+    let held = subst (λ (ts : List PendingOp). HoldsText (state_of c.intervals_on.new.tree c.in_ok-intervals.intervals.state ts 0 true) (doc_of sum) []) (sym none)
+    (summary-held sum c.requires tree c.intervals_on.new.tree c.in_ok-intervals.intervals.state elements count all) in
     record {
       holds = held;
       sound = record { doc = doc_of sum; stages = []; sound = start-sound (doc_of sum) (summary-sound sum c.requires); holds = held };

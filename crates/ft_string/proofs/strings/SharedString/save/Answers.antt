@@ -1,5 +1,5 @@
 use Rattle.std.proofs.Common.{[], ◌++◌, ◌∙◌, ap, subst, sym}
-use Rattle.ft_interval.specs.State.{text_elements}
+use Rattle.ft_interval_store.specs.State.{text_elements}
 use Rattle.ft_msg.specs.SummaryOf.{segments_from}
 use Rattle.ft_props.specs.Compaction.{trim_list}
 use Rattle.ft_sumdoc.specs.Segments.{text_length}
@@ -18,7 +18,7 @@ returns-clause-saves c last held sound holds =
     record {
       text = ◌∙◌ {c = segments_from 0 (trim_list c.args.doc.now.min held.text).items} c.in_ok-text.ensures
           (text-saved c.args.doc.now.min (text_elements a.tree) held.text.items (from-bare text_content (text_elements a.tree) held.text.items here.elements) sound.place.marks);
-      intervals = intervals-saved c.args.doc.now.min last a.tree a.intervals (a.again.items ++ a.ops.items) a.given a.usable held sound here c.first_stage-first.ensures.names (c.made_in-made.ensures.few 18446744073709551615)
+      intervals = intervals-saved c.args.doc.now.min last a.tree a.intervals.state (a.again.items ++ a.ops.items) a.given a.usable held sound here c.first_stage-first.ensures.names (c.made_in-made.ensures.few 18446744073709551615)
           c.in_ok-intervals.intervals c.in_ok-all.all.items c.in_ok-intervals.ensures c.in_ok-all.ensures;
       count = ap text_length c.in_ok-text.ensures
           ∙ segments-length c.args.doc.now.min a.tree.leaves held.text.items (from-bare text_content (text_elements a.tree) held.text.items here.elements) sound.place.marks;
