@@ -176,17 +176,41 @@ impl Collections {
         ensures stands { OnOk result (StandsOn tree.new self.new) }
         ensures err { OnErr result (tree.new.usable ≡ false) }
     {
-        // That names rise is read off its contract.
-        let _first = self.store.first_stage();
-        unlist_changed(&mut self.indexes, &self.store, tree, op);
-        let fits = self.store.apply(tree, op, at)?;
-        match enlist_changed(&mut self.indexes, &self.store, tree, op) {
-            Ok(()) => Ok(fits),
+        match self.take_effect(tree, op, at) {
+            Ok(fits) => Ok(fits),
             Err(e) => {
                 tree.spoil();
                 Err(e)
             }
         }
+    }
+
+    /// The same, where nothing is said of the tree after `OutOfMemory`.
+    fn take_effect(
+        &mut self,
+        tree: &mut Tree<TextContent>,
+        op: &TextOp,
+        at: Perspective,
+    ) -> Result<bool, OutOfMemory>
+        requires usable { IsTrue tree.old.usable }
+        requires stands { StandsOn tree.old self.old }
+        requires kind { is_interval_operation op.now ≡ true }
+        requires floor { tree.old.floor ≤ at.r }
+        ensures fits { IfOk result (λ fits. fits ≡ given_ends_fit (len (seen_in (At at)) (text_elements tree.old)) (ends_of op.now)) }
+        ensures effect { let xs = text_elements tree.old in
+            let ends = map_ends (slid_end xs) (places_of_given (seen_in (At at)) xs (ends_of op.now)) in
+            IfOk result (λ fits. fits ≡ true → placed tree.new.refs self.new.state ≡ with_effect op.now ends (placed tree.old.refs self.old.state)) }
+        ensures refs { IfOk result (λ fits. fits ≡ true → KeepsReferences self.old.state self.new.state tree.old.refs tree.new.refs) }
+        ensures rest { OnOk result (tree.new ≡ record tree.old { refs = tree.new.refs }) }
+        ensures misfit { IfOk result (λ fits. fits ≡ false → (self.new.state ≡ self.old.state) × (tree.new ≡ tree.old)) }
+        ensures stands { OnOk result (StandsOn tree.new self.new) }
+    {
+        // That names rise is read off its contract.
+        let _first = self.store.first_stage();
+        unlist_changed(&mut self.indexes, &self.store, tree, op);
+        let fits = self.store.apply(tree, op, at)?;
+        enlist_changed(&mut self.indexes, &self.store, tree, op)?;
+        Ok(fits)
     }
 
     /// Acknowledges the pending operation of that stage, which is the first: it takes effect on the acknowledged intervals, and
