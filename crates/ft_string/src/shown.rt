@@ -1,8 +1,9 @@
 //! What is shown of a shared text: one walk over its leaves.
 
-ghost use Rattle.std.specs.Prelude.{◌≡◌, ◌≤◌, ◌+◌, ◌*◌, ◌^◌, ◌++◌, [], ◌∷◌, ℕ, List, IfOk, IsTrue, OnOk, Some, chars, filter, length, map, option_map, string_bytes};
+ghost use Rattle.std.specs.Prelude.{◌≡◌, ◌≤◌, ◌+◌, ◌++◌, [], ◌∷◌, ℕ, List, IfOk, IsTrue, OnOk, Some, chars, filter, length, map, option_map, string_bytes};
 ghost use Rattle.ft_msg.specs.Blame.{origin_of};
 ghost use Rattle.ft_msg.specs.Content.{interval_record, stage_view};
+ghost use Rattle.ft_msg.specs.Overlap.{ReadsFewNodes};
 ghost use Rattle.ft_op.specs.Document.{Document};
 ghost use Rattle.ft_op.specs.Stages.{Stage, shown_intervals};
 ghost use Rattle.ft_sumdoc.specs.Meeting.{meets};
@@ -256,10 +257,10 @@ impl SharedString {
         ensures found { (last : ℕ) → (doc : Document) → (stages : List Stage) → IsTextSound last doc stages → HoldsText self.now doc stages
             → IfOk result (λ found. found.items ≡ filter (meets label.now a b) (map (interval_record last doc.text.items) (shown_intervals doc.text.items doc.intervals stages))) }
 
-        // For each interval that is found or pending, and once more, it reads a few nodes on each of so many levels.
+        // For each interval that is found or pending, and once more, it reads a few nodes on each level of an index.
         ensures cost { (last : ℕ) → (doc : Document) → (stages : List Stage) → IsTextSound last doc stages → HoldsText self.now doc stages
             → let k = length (filter (meets label.now a b) (map (interval_record last doc.text.items) (shown_intervals doc.text.items doc.intervals stages))) in
-            (depth : ℕ) × (4 ^ depth ≤ length self.now.intervals + 1) × (steps.new ≤ steps.old + 9 * (depth + 1) * (k + length self.now.interval_ops + 1)) }
+            ReadsFewNodes (length self.now.intervals) (k + length self.now.interval_ops) steps.old steps.new }
     {
         // That ends are numbers, and that names rise, is read off these contracts.
         let _made = made_in(&self.tree);
