@@ -9,7 +9,7 @@
 # another build of the same program, such as one that filters the whole view for each question: it is told beside, with how many times
 # as much that is, and whether both answer the first 100 questions alike (DIFFER: the status is 1).
 #
-# By the environment: INTERVALS (1000 10000 100000), RUNS (3), MOST (102400), SEED (1).
+# By the environment: INTERVALS (1000 10000 100000, each a multiple of 20), RUNS (3), MOST (102400), SEED (1).
 set -u
 if [ $# -lt 1 ] || [ $# -gt 2 ]; then
     sed -n '2,/^set/{/^#/s/^# \{0,1\}//p}' "$0"

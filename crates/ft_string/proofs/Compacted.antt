@@ -336,12 +336,14 @@ module _ (tree new : TreeState TextContent) (c : IndexedState) (floor : ℕ) (ms
   mapped-some (Some i) = refl
 
   stays-within : (i : ℕ) → StaysAt ms i → i < length ms → place_among ms i < length (text_elements new)
-  stays-within i stays l =
-      let d : Bool × TreeElement ElementContent = get_or ms i (first-of ms (let some = l in omega (arith, some))) in
-      let at = staying-at ms i stays ∙ ap (option_map second) (slice_get-get_or ms i (first-of ms (let some = l in omega (arith, some))) l) in
-      let short = slice_get_within (staying ms) (place_among ms i) (second d) at in
-      let same = writes-length floor writes in
-      omega (arith, short, same)
+  stays-within i stays l = by (first-of ms (let some = l in omega (arith, some)))
+    where
+      by : Bool × TreeElement ElementContent → place_among ms i < length (text_elements new)
+      by d =
+          let at = staying-at ms i stays ∙ ap (option_map second) (slice_get-get_or ms i d l) in
+          let short = slice_get_within (staying ms) (place_among ms i) (second (get_or ms i d)) at in
+          let same = writes-length floor writes in
+          omega (arith, short, same)
 
   gone-stands : StandsOn new c
   gone-stands = record {

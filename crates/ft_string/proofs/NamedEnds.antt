@@ -44,7 +44,7 @@ module _ {A : Type 0} (p q keep : A → Bool) (f : A → A) (first : (x : A) →
 
   pub kept-first : (xs : List A) → at_most xs → at_most (retain_map keep f xs)
   kept-first [] h = h
-  kept-first (x ∷ xs) h = step (keep x) refl
+  kept-first (x ∷ xs) h = step (keep x) refl (kept-first xs)
     where
       both : (a b : Bool) → at_most_if a b (rank p (λ _. true) xs) (rank q (λ _. true) xs)
           → (at_most xs → at_most (retain_map keep f xs)) → at_most_if a b (rank p (λ _. true) (retain_map keep f xs)) (rank q (λ _. true) (retain_map keep f xs))
@@ -52,19 +52,19 @@ module _ {A : Type 0} (p q keep : A → Bool) (f : A → A) (first : (x : A) →
       both false true g rest = absurd (omega (arith, g))
       both false false g rest = (let more = rest (omega (arith, g)) in omega (arith, more))
 
-      step : (c : Bool) → keep x ≡ c → at_most (cond c (f x ∷ retain_map keep f xs) (retain_map keep f xs))
-      step true e =
+      step : (c : Bool) → keep x ≡ c → (at_most xs → at_most (retain_map keep f xs)) → at_most (cond c (f x ∷ retain_map keep f xs) (retain_map keep f xs))
+      step true e rest =
           subst (λ a. at_most_if a (q (f x)) (rank p (λ _. true) (retain_map keep f xs)) (rank q (λ _. true) (retain_map keep f xs))) (sym (same x))
-          (subst (λ b. at_most_if (p x) b (rank p (λ _. true) (retain_map keep f xs)) (rank q (λ _. true) (retain_map keep f xs))) (sym (alike x)) (both (p x) (q x) h (kept-first xs)))
-      step false e =
+          (subst (λ b. at_most_if (p x) b (rank p (λ _. true) (retain_map keep f xs)) (rank q (λ _. true) (retain_map keep f xs))) (sym (alike x)) (both (p x) (q x) h rest))
+      step false e rest =
           let less : at_most_if false false (rank p (λ _. true) xs) (rank q (λ _. true) xs) =
           subst (λ b. at_most_if false b (rank p (λ _. true) xs) (rank q (λ _. true) xs)) (second x e)
           (subst (λ a. at_most_if a (q x) (rank p (λ _. true) xs) (rank q (λ _. true) xs)) (first x e) h) in
-          kept-first xs (omega (arith, less))
+          rest (omega (arith, less))
 
   pub first-kept : (xs : List A) → at_most (retain_map keep f xs) → at_most xs
   first-kept [] h = h
-  first-kept (x ∷ xs) h = step (keep x) refl h
+  first-kept (x ∷ xs) h = step (keep x) refl (first-kept xs) h
     where
       both : (a b : Bool) → at_most_if a b (rank p (λ _. true) (retain_map keep f xs)) (rank q (λ _. true) (retain_map keep f xs))
           → (at_most (retain_map keep f xs) → at_most xs) → at_most_if a b (rank p (λ _. true) xs) (rank q (λ _. true) xs)
@@ -72,13 +72,13 @@ module _ {A : Type 0} (p q keep : A → Bool) (f : A → A) (first : (x : A) →
       both false true g rest = absurd (omega (arith, g))
       both false false g rest = (let more = rest (omega (arith, g)) in omega (arith, more))
 
-      step : (c : Bool) → keep x ≡ c → at_most (cond c (f x ∷ retain_map keep f xs) (retain_map keep f xs)) → at_most (x ∷ xs)
-      step true e g =
+      step : (c : Bool) → keep x ≡ c → (at_most (retain_map keep f xs) → at_most xs) → at_most (cond c (f x ∷ retain_map keep f xs) (retain_map keep f xs)) → at_most (x ∷ xs)
+      step true e rest g =
           both (p x) (q x)
           (subst (λ b. at_most_if (p x) b (rank p (λ _. true) (retain_map keep f xs)) (rank q (λ _. true) (retain_map keep f xs))) (alike x)
-          (subst (λ a. at_most_if a (q (f x)) (rank p (λ _. true) (retain_map keep f xs)) (rank q (λ _. true) (retain_map keep f xs))) (same x) g)) (first-kept xs)
-      step false e g =
-          let more = first-kept xs g in
+          (subst (λ a. at_most_if a (q (f x)) (rank p (λ _. true) (retain_map keep f xs)) (rank q (λ _. true) (retain_map keep f xs))) (same x) g)) rest
+      step false e rest g =
+          let more = rest g in
           let less : at_most_if false false (rank p (λ _. true) xs) (rank q (λ _. true) xs) = omega (arith, more) in
           subst (λ a. at_most_if a (q x) (rank p (λ _. true) xs) (rank q (λ _. true) xs)) (sym (first x e))
           (subst (λ b. at_most_if false b (rank p (λ _. true) xs) (rank q (λ _. true) xs)) (sym (second x e)) less)

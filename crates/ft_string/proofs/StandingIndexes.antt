@@ -1,5 +1,5 @@
 -- The indexes of intervals stand on the tree after each step of it, since the ends of acknowledged intervals keep their order.
-use Rattle.std.proofs.Common.{◌≡◌, ℕ, zero, suc, ◌+◌, ◌<◌, ◌≤◌, Bool, true, false, IsSome, List, [], ◌∷◌, ◌++◌, Option, Some, None, length, map, is_some, option_map, refl, sym, ◌∙◌, ap, subst, inl, inr, cond, arith}
+use Rattle.std.proofs.Common.{◌≡◌, ℕ, zero, suc, ◌+◌, ◌<◌, ◌≤◌, Bool, true, false, IsSome, List, [], ◌∷◌, ◌++◌, Option, Some, None, length, map, is_some, option_and_then, option_map, refl, sym, ◌∙◌, ap, subst, inl, inr, cond, arith}
 use Rattle.std.specs.Prelude.{◌⊎◌}
 use Rattle.std.specs.declared.cmp.Ordering.{Ordering}
 use Rattle.std.specs.declared.cmp.Ordering.TheVariants.{Less, Equal, Greater}
@@ -43,13 +43,13 @@ use Rattle.ft_string.proofs.Wholes.{try-sound}
 -- ---- the ends of intervals
 
 have-named : (P : Option ℕ → Type 0) (is : List (Interval ℕ)) (n : Name) (i : Interval ℕ) → HaveEnds P is → interval_of n is ≡ Some i → P i.ends.start × P i.ends.end
-have-named P [] n i h e = absurd cc
+have-named P [] n i h e = (cc)
 have-named P (x ∷ is) n i h e = step (name_cmp n (name_of x)) e (λ k. have-named P is n i h.1 k)
   where
-    step : (o : Ordering) → (elim o [ Less ↦ None | Equal ↦ Some x | Greater ↦ interval_of n is ]) ≡ Some i
+    step : (o : Ordering) → elim o as (λ _. Option (Interval ℕ)) [ Less ↦ None | Equal ↦ Some x | Greater ↦ interval_of n is ] ≡ Some i
         → (interval_of n is ≡ Some i → P i.ends.start × P i.ends.end) → P i.ends.start × P i.ends.end
-    step Less k f = absurd cc
-    step Equal k f = let same : x ≡ i = cc in subst (λ (y : Interval ℕ). P y.ends.start × P y.ends.end) same h.0
+    step Less k f = (cc)
+    step Equal k f = let same : x ≡ i = (cc) in subst (λ (y : Interval ℕ). P y.ends.start × P y.ends.end) same h.0
     step Greater k f = f k
 
 -- what is known of all ends is known of those of a name
@@ -174,7 +174,7 @@ applied-stands s at (Annotate p q changes) tree new c a marked st =
   where
     stay : (e : Option ℕ) → place_of_end new.refs e ≡ option_map (λ i. i) (place_of_end tree.refs e)
     stay None = refl
-    stay (Some r) = ap (λ (o : Option Reference). elim o as (λ _. Option ℕ) [ None ↦ None | Some x ↦ x.place ]) (a.refs r ∙ map-same (reference_at tree.refs r)) ∙ sym (map-same (place_of tree.refs r))
+    stay (Some r) = ap (λ o. option_and_then (λ (x : Reference). x.place) o) (a.refs r ∙ map-same (reference_at tree.refs r)) ∙ sym (map-same (place_of tree.refs r))
 
 pub tried-stands : (s : ℕ) (at : Perspective) (os : List BaseOp) (n : ℕ) (tree new : TreeState TextContent) (c : IndexedState) → TriesOps s at os n tree new
     → AreSound tree c.state → StandsOn tree c → StandsOn new c
