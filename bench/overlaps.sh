@@ -63,9 +63,9 @@ run_time() {
     { time "$1" session <"$2" >"$3" 2>/dev/null; } 2>&1 | awk '{ printf "%d\n", ($1 + $2) * 1000 }'
 }
 
-# How many milliseconds longer a program takes with the questions: the median.
+# How many milliseconds longer a program takes with the questions: the median of so many runs.
 longer() {
-    for ((run = 0; run < runs; run++)); do
+    for ((run = 0; run < $2; run++)); do
         local before
         before=$(run_time "$1" "$room/plain" "$room/none.lines")
         echo $(($(run_time "$1" "$room/asked" "$room/lines") - before))
@@ -77,10 +77,11 @@ rate() {
     local questions=$first took=0
     while :; do
         session "$2" "$questions" "$3" >"$room/asked"
-        took=$(longer "$1")
+        took=$(longer "$1" 1)
         [ "$took" -ge 1000 ] || [ "$questions" -ge "$most" ] && break
         questions=$((questions * 4 > most ? most : questions * 4))
     done
+    took=$(longer "$1" "$runs")
     echo $((questions * 1000 / (took > 0 ? took : 1)))
 }
 
