@@ -1,4 +1,5 @@
-use Rattle.std.proofs.Common.{◌≡◌, ◌++◌, ◌+◌, ◌-◌, ◌<◌, ◌≤◌, All, IsTrue, true, ap, subst, sym, arith}
+use Rattle.std.proofs.Common.{◌≡◌, ◌++◌, ◌+◌, ◌-◌, ◌<◌, ◌≤◌, All, IsTrue, true, flat_map, ap, subst, sym, arith}
+use Rattle.ft_op.specs.Pieces.{op_of, pieces}
 use Rattle.ft_string.specs.Calls.{AreNext, HoldsGiven, HoldsSomeGiven}
 use Rattle.ft_string.specs.Rejoins.{Gives}
 use Rattle.ft_string.specs.State.{TextState}
@@ -12,6 +13,11 @@ returns-then-count-eq0-clause-holds c last doc front mine behind next sound hold
     let none = none-within c.args.first (c.args.first + c.args.count) mine (omega (arith, c.if-count-eq0.true)) next.within in
     given-nothing a.tree a.intervals.state (a.again.items ++ a.ops.items) a.given a.given a.usable true doc front mine behind none
     (subst (λ s. HoldsGiven s doc front (mine ++ behind)) (sym c.self.view_is) holds)
+
+pub returns-then-count-eq0-clause-op : goal.returns-then-count-eq0-clause-op
+returns-then-count-eq0-clause-op c last doc front mine behind next sound holds =
+    let none = none-within c.args.first (c.args.first + c.args.count) mine (omega (arith, c.if-count-eq0.true)) next.within in
+    ap (λ ms. op_of (flat_map (pieces doc) ms)) (sym none)
 
 pub invariant_of-self-2 : goal.invariant_of-self-2
 invariant_of-self-2 c =
