@@ -1,13 +1,13 @@
 -- Each item that is found is of an interval that meets the range, or has a pending operation, so that there are no more of them.
-use Rattle.std.proofs.Common.{◌≡◌, ◌≢◌, ℕ, suc, ℤ, pos, negsuc, int_le, ◌+◌, ◌-◌, ◌<◌, ◌≤◌, ◌≤ℤ◌, min, Bool, true, false, cond, ◌&&◌, ◌||◌, nat_eq, List, [], ◌∷◌, length, All, Option, Some, None, is_some, option_map, refl, sym, ◌∙◌, ap, subst, inl, inr, arith, map, filter}
+use Rattle.std.proofs.Common.{◌≡◌, ◌≢◌, ℕ, suc, ℤ, pos, int_le, ◌+◌, ◌≤◌, Bool, true, false, cond, ◌&&◌, nat_eq, List, [], ◌∷◌, length, All, Option, Some, None, is_some, option_map, refl, sym, ◌∙◌, ap, subst, inl, inr, arith, map, filter}
 use Rattle.std.specs.Ordering.{is_eq}
 use Rattle.std.proofs.lemmas.Int.{ints}
-use Rattle.std.proofs.lemmas.Bool.{eq-eqb, ne_eqb}
+use Rattle.std.proofs.lemmas.Bool.{eq-eqb}
 use Rattle.std.proofs.lemmas.List.{length-map}
 use Rattle.std.proofs.lemmas.List.Elements.{All-head, All-tail}
 use Rattle.ft_sumdoc.specs.declared.summary.IntervalRec.{IntervalRec}
 use Rattle.ft_base.proofs.Booleans.{both}
-use Rattle.ft_base.specs.Scan.{len, one_more_if}
+use Rattle.ft_base.specs.Scan.{one_more_if}
 use Rattle.ft_overlap.specs.declared.items.Item.{Item}
 use Rattle.ft_overlap.specs.Items.{item_at, key_if}
 use Rattle.ft_props.specs.Keys.{Characters, text_cmp}
@@ -18,9 +18,9 @@ use Rattle.ft_interval.specs.declared.indexes.LabelIndex.{LabelIndex}
 use Rattle.ft_interval_store.specs.declared.intervals.EndPair.{EndPair}
 use Rattle.ft_interval_store.specs.declared.intervals.Interval.{Interval}
 use Rattle.ft_interval_store.specs.declared.pending.Operation.{Operation}
-use Rattle.ft_interval_store.specs.Ends.{References, map_ends, place_of_end, places_of_ends}
+use Rattle.ft_interval_store.specs.Ends.{References, place_of_end, places_of_ends}
 use Rattle.ft_interval_store.specs.Gathered.{is_on_any}
-use Rattle.ft_interval.specs.Indexes.{IsItemOf, IsListed, id_in, item_for, keys_meeting, list_in, meets_range}
+use Rattle.ft_interval.specs.Indexes.{IsItemOf, IsListed, id_in, keys_meeting, list_in, meets_range}
 use Rattle.ft_interval_store.specs.Intervals.{Name, NamesRise, interval_of, name_of}
 use Rattle.ft_interval_store.specs.Shown.{shown_end, shown_place, carried_interval, last, number_at, settled_interval, shown_from, shown_one_from, shown_record}
 use Rattle.ft_interval_store.specs.State.{StagesRise, ends_of_name, placed_intervals, with_mapped_ends}

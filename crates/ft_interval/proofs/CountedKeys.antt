@@ -1,5 +1,5 @@
 -- No more keys are found than intervals meet the range or have a pending operation.
-use Rattle.std.proofs.Common.{◌≡◌, ◌≢◌, ℕ, suc, ◌+◌, ◌≤◌, Bool, true, false, cond, ◌||◌, is_some, List, [], ◌∷◌, length, All, Option, Some, None, refl, sym, ◌∙◌, ap, subst, inl, inr, arith}
+use Rattle.std.proofs.Common.{◌≡◌, ◌≢◌, ℕ, suc, ◌+◌, ◌≤◌, Bool, true, false, cond, ◌||◌, is_some, List, [], ◌∷◌, length, Option, Some, None, refl, sym, ◌∙◌, ap, inl, inr, arith}
 use Rattle.std.specs.Prelude.{◌⊎◌}
 use Rattle.std.specs.Ordering.{is_eq}
 use Rattle.std.specs.declared.cmp.Ordering.TheVariants.{Less, Equal, Greater}
@@ -10,7 +10,7 @@ use Rattle.ft_interval_store.specs.declared.pending.Operation.{Operation}
 use Rattle.ft_interval_store.specs.Gathered.{is_on_any}
 use Rattle.ft_interval_store.specs.Intervals.{Name, NamesRise, interval_of, is_on, name_cmp, name_of, without_name}
 use Rattle.ft_interval_store.proofs.OneInterval.{interval_of-without, same_name}
-use Rattle.ft_interval_store.proofs.RisingLists.{at-equal, at-greater, at-less}
+use Rattle.ft_interval_store.proofs.RisingLists.{at-greater, at-less}
 use Rattle.ft_interval_store.proofs.RisingNames.{NamesRise-without, by_order}
 
 -- ---- a list without a name that it has is shorter

@@ -1,16 +1,16 @@
 -- Intervals that aren't among those gathered don't meet the range.
-use Rattle.std.proofs.Common.{◌≡◌, ℕ, zero, suc, ℤ, pos, negsuc, int_le, int_lt, ◌+◌, ◌-◌, ◌<◌, ◌≤◌, ◌≤ℤ◌, ◌<ℤ◌, min, Bool, true, false, cond, not, ◌&&◌, ◌||◌, nat_eq, List, [], ◌∷◌, All, Option, Some, None, is_some, option_map, refl, sym, ◌∙◌, ap, subst, inl, inr, arith, map}
+use Rattle.std.proofs.Common.{◌≡◌, ℕ, ℤ, pos, negsuc, int_le, ◌+◌, ◌-◌, ◌≤◌, ◌<ℤ◌, Bool, true, false, cond, ◌&&◌, ◌||◌, nat_eq, List, [], ◌∷◌, All, Option, Some, None, is_some, option_map, refl, sym, ◌∙◌, ap, arith, map}
 use Rattle.std.specs.List.{list_any}
 use Rattle.std.specs.Ordering.{is_eq}
 use Rattle.std.specs.declared.cmp.Ordering.{Ordering}
 use Rattle.std.specs.declared.cmp.Ordering.TheVariants.{Less, Equal, Greater}
 use Rattle.ft_props.proofs.RisingKeys.{same_from_text_cmp, text_cmp-same}
 use Rattle.std.proofs.lemmas.Int.{ints}
-use Rattle.std.proofs.lemmas.Bool.{or_left, or_right, eq-eqb}
+use Rattle.std.proofs.lemmas.Bool.{or_left, or_right}
 use Rattle.std.proofs.lemmas.List.Elements.{All-head, All-tail}
 use Rattle.ft_base.proofs.Booleans.{all_four}
 use Rattle.ft_overlap.specs.declared.items.Item.{Item}
-use Rattle.ft_overlap.specs.Items.{ends_from, item_at, key_if, keys_within, starts_by}
+use Rattle.ft_overlap.specs.Items.{item_at, key_if}
 use Rattle.ft_props.specs.Keys.{Characters, text_cmp}
 use Rattle.ft_sumdoc.specs.Meeting.{meets}
 use Rattle.ft_tree_leaves.specs.Elements.{TreeElement}
@@ -20,9 +20,9 @@ use Rattle.ft_interval_store.specs.declared.intervals.EndPair.{EndPair}
 use Rattle.ft_interval_store.specs.declared.intervals.Interval.{Interval}
 use Rattle.ft_interval_store.specs.declared.pending.Operation.{Operation}
 use Rattle.ft_interval_store.specs.Ends.{References, map_ends, place_of_end, places_of_ends}
-use Rattle.ft_interval.specs.Indexes.{is_found, is_id, is_met, AreAttached, IsListed, IsRange, id_in, item_for, keys_meeting, list_in, meets_range}
+use Rattle.ft_interval.specs.Indexes.{is_id, is_met, IsListed, id_in, item_for, keys_meeting, list_in, meets_range}
 use Rattle.ft_interval_store.specs.Gathered.{is_on_any}
-use Rattle.ft_interval_store.specs.Intervals.{Name, NamesRise, after_own, interval_of, is_on, name_cmp, name_of, one_after}
+use Rattle.ft_interval_store.specs.Intervals.{Name, NamesRise, after_own, interval_of, is_on, name_of}
 use Rattle.ft_interval_store.specs.Shown.{shown_end, shown_place, carried_end, carried_interval, last, number_at, settled_end, settled_interval, shown_from, shown_one_from, shown_record}
 use Rattle.ft_interval_store.specs.State.{StagesRise, ends_of_name, placed_intervals, with_mapped_ends}
 use Rattle.ft_interval_store.proofs.OneInterval.{NamesRise-map, interval_of-map}

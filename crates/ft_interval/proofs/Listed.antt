@@ -1,21 +1,20 @@
 -- An index stays that of its label's intervals where one comes, one goes, or all ends move in order.
-use Rattle.std.proofs.Common.{◌≡◌, ◌≢◌, ℕ, ℤ, ◌<◌, ◌≤◌, ◌≤ℤ◌, pos, negsuc, IsTrue, Bool, true, false, cond, nat_eq, List, [], ◌∷◌, Option, Some, None, is_some, All, Contains, refl, sym, ap, subst, ◌∙◌, inl, inr, arith}
+use Rattle.std.proofs.Common.{◌≡◌, ℕ, ◌≤◌, IsTrue, Bool, true, false, cond, nat_eq, Option, Some, None, is_some, refl, sym, ap, subst, ◌∙◌, inl, inr, arith}
 use Rattle.std.specs.Prelude.{◌⊎◌}
-use Rattle.std.proofs.lemmas.Int.{ints}
-use Rattle.std.proofs.lemmas.Bool.{cases_eq, cond-true, cond-false, eq-eqb, ne_eqb}
+use Rattle.std.proofs.lemmas.Bool.{cases_eq, eq-eqb, ne_eqb}
 use Rattle.ft_props.specs.Keys.{Characters}
-use Rattle.ft_base.specs.Scan.{len, one_more_if}
+use Rattle.ft_base.specs.Scan.{one_more_if}
 use Rattle.ft_overlap.specs.declared.items.Item.{Item}
-use Rattle.ft_overlap.specs.Items.{AreKnown, IsEndIn, IsInOrder, ItemList, KeepsOrder, has_key, item_at, put_item, without_key}
+use Rattle.ft_overlap.specs.Items.{AreKnown, IsEndIn, KeepsOrder, has_key, item_at, put_item}
 use Rattle.ft_tree_leaves.specs.declared.text.TextContent.{TextContent}
 use Rattle.ft_tree_leaves.specs.References.{IsReferenceIn, place_of}
 use Rattle.ft_tree.specs.State.{TreeState}
 use Rattle.ft_interval.specs.declared.indexes.LabelIndex.{LabelIndex}
 use Rattle.ft_interval_store.specs.declared.intervals.EndPair.{EndPair}
 use Rattle.ft_interval_store.specs.Ends.{AreLiveEnds, References, no_ends}
-use Rattle.ft_interval.specs.Indexes.{AreAttached, Enlists, IsItemOf, IsListed, PutsItem, TakesItem, Unlists, attached_both, attached_ends, attached_start, id_in, if_attached, item_for, list_in}
-use Rattle.ft_interval.specs.Order.{IsAtMost, IsLiveIn, IsPlaced, IsWithin, KeepsEndOrder, list_place, place_number}
-use Rattle.ft_interval.proofs.ItemLookups.{all-found, at-key, at-none, has-none, out-at, out-times, own, put-at, put-times, times}
+use Rattle.ft_interval.specs.Indexes.{AreAttached, IsItemOf, IsListed, PutsItem, TakesItem, attached_both, attached_ends, attached_start, id_in, item_for, list_in}
+use Rattle.ft_interval.specs.Order.{IsAtMost, IsLiveIn, IsPlaced, IsWithin, KeepsEndOrder, list_place}
+use Rattle.ft_interval.proofs.ItemLookups.{all-found, at-none, has-none, out-at, out-times, own, put-at, put-times, times}
 use Rattle.ft_interval.proofs.PlaceOrder.{most-number, number-most, within-more}
 
 -- ---- ends

@@ -1,7 +1,6 @@
 -- What an operation that took effect leaves of the indexes, and where the ends of its interval are then.
-use Rattle.std.proofs.Common.{◌≡◌, ℕ, Bool, true, false, cond, List, [], ◌∷◌, length, Option, Some, None, is_some, option_map, option_and_then, refl, sym, ◌∙◌, ap, subst, inl, inr, arith, map}
+use Rattle.std.proofs.Common.{◌≡◌, ℕ, Bool, true, false, cond, List, length, Option, Some, None, is_some, option_map, refl, sym, ◌∙◌, ap, subst, inl, inr}
 use Rattle.std.specs.Prelude.{◌⊎◌}
-use Rattle.ft_op.specs.declared.operations.Ends.{Ends}
 use Rattle.ft_op.specs.declared.operations.TextOp.{TextOp}
 use Rattle.ft_op.specs.declared.operations.TextOp.TheVariants.{One, Group, IntervalAdd, IntervalChange, IntervalDelete}
 use Rattle.ft_tree_leaves.specs.Elements.{TreeElement, is_unremoved}
@@ -10,9 +9,9 @@ use Rattle.ft_interval.specs.declared.indexes.LabelIndex.{LabelIndex}
 use Rattle.ft_interval_store.specs.declared.intervals.EndPair.{EndPair}
 use Rattle.ft_interval_store.specs.declared.intervals.Interval.{Interval}
 use Rattle.ft_interval_store.specs.Ends.{References, map_ends, no_ends, place_of_end, places_of_ends, slid_end}
-use Rattle.ft_interval.specs.Indexes.{AreAttached, AreEndsWithin, AreListed, IsListed, attached_ends, ends_but, index_of, item_for, list_in}
+use Rattle.ft_interval.specs.Indexes.{AreEndsWithin, AreListed, ends_but, index_of, item_for}
 use Rattle.ft_interval_store.specs.State.{IsAfter, ends_of_name, placed_intervals, with_mapped_ends}
-use Rattle.ft_interval_store.specs.Intervals.{Name, NamesRise, after_operation, after_own, changed_interval, interval_of, is_on, one_after}
+use Rattle.ft_interval_store.specs.Intervals.{Name, NamesRise, after_operation, after_own, interval_of, is_on, one_after}
 use Rattle.ft_interval.specs.Order.{IsWithin}
 use Rattle.ft_interval.proofs.Listed.{listed-same, moved-listed, some-is, to-attached}
 use Rattle.ft_interval_store.proofs.OneInterval.{NamesRise-map, interval_of-after, interval_of-map}

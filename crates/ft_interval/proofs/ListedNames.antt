@@ -1,34 +1,28 @@
 -- All indexes beside an operation: the interval of its name goes out of them, takes effect, and comes in again.
-use Rattle.std.proofs.Common.{◌≡◌, ℕ, ℤ, ◌≤◌, nat_eq, IsTrue, Bool, true, false, cond, List, [], ◌∷◌, length, All, Option, Some, None, is_some, option_map, option_and_then, refl, sym, ◌∙◌, ap, subst, inl, inr, arith, map}
-use Rattle.std.specs.Prelude.{◌⊎◌}
+use Rattle.std.proofs.Common.{◌≡◌, ℕ, ℤ, ◌≤◌, nat_eq, IsTrue, Bool, true, false, cond, List, ◌∷◌, Option, Some, None, refl, sym, ◌∙◌, ap, subst}
 use Rattle.std.specs.Ordering.{is_eq}
 use Rattle.std.proofs.lemmas.List.Elements.{All-cons}
-use Rattle.ft_op.specs.declared.operations.Ends.{Ends}
-use Rattle.ft_op.specs.declared.operations.TextOp.{TextOp}
-use Rattle.ft_op.specs.declared.operations.TextOp.TheVariants.{One, Group, IntervalAdd, IntervalChange, IntervalDelete}
 use Rattle.ft_props.specs.Keys.{Characters, text_cmp}
 use Rattle.std.proofs.lemmas.List.Elements.{All-nil}
 use Rattle.ft_overlap.specs.Items.{AreKnown, IsInOrder as IsIndexInOrder, ItemList, NamesGreatest, has_key, no_items, put_item}
 use Rattle.ft_overlap.specs.declared.items.Item.{Item}
 use Rattle.ft_tree_leaves.specs.declared.text.TextContent.{TextContent}
-use Rattle.ft_tree_leaves.specs.Elements.{TreeElement, is_unremoved}
 use Rattle.ft_tree_leaves.specs.References.{IsReferenceIn, place_of}
 use Rattle.ft_tree.specs.State.{TreeState}
 use Rattle.ft_interval.specs.declared.indexes.LabelIndex.{LabelIndex}
 use Rattle.ft_interval_store.specs.declared.intervals.EndPair.{EndPair}
 use Rattle.ft_interval_store.specs.declared.intervals.Interval.{Interval}
-use Rattle.ft_interval_store.specs.Ends.{AreLiveEnds, IsLiveEnd, References, map_ends, no_ends, place_of_end, places_of_ends, slid_end}
-use Rattle.ft_interval.specs.Indexes.{IsSameIndex, AreAttached, AreEndsWithin, AreListed, AreNamedEndsWithin, Enlists, IsListed, KeepsOtherLabels, PutsItem, TakesItem, Unlists, attached_ends, ends_but, ends_without, id_in, index_of, item_for, list_in}
-use Rattle.ft_interval_store.specs.State.{IsAfter, CollectionsState, IsInOrder, IsLive, ends_of_name, placed_intervals, with_mapped_ends}
-use Rattle.ft_interval_store.specs.Intervals.{Name, NamesRise, after_operation, after_own, interval_of, is_on, name_cmp, one_after}
+use Rattle.ft_interval_store.specs.Ends.{AreLiveEnds, IsLiveEnd, References, no_ends}
+use Rattle.ft_interval.specs.Indexes.{IsSameIndex, AreAttached, AreListed, AreNamedEndsWithin, Enlists, IsListed, KeepsOtherLabels, PutsItem, TakesItem, Unlists, attached_ends, ends_without, id_in, index_of, item_for, list_in}
+use Rattle.ft_interval_store.specs.State.{CollectionsState, IsInOrder, IsLive, ends_of_name}
+use Rattle.ft_interval_store.specs.Intervals.{Name, interval_of, name_cmp}
 use Rattle.ft_interval.specs.Order.{IsPlaced, IsWithin, list_place}
 use Rattle.ft_interval.proofs.FoundItems.{text-is, text-self}
-use Rattle.ft_interval.proofs.Listed.{DifferAt, StartOnce, absent-listed, from-attached, key-fresh, listed-same, moved-listed, put-listed, taken-listed, to-attached, unattached-listed}
-use Rattle.ft_interval_store.proofs.OneInterval.{interval_of-after, interval_of-map, same_name}
-use Rattle.ft_interval.proofs.PlaceOrder.{settle-within, within-more}
+use Rattle.ft_interval.proofs.Listed.{DifferAt, StartOnce, absent-listed, from-attached, key-fresh, listed-same, put-listed, taken-listed, unattached-listed}
+use Rattle.ft_interval_store.proofs.OneInterval.{same_name}
+use Rattle.ft_interval.proofs.PlaceOrder.{within-more}
 use Rattle.ft_interval_store.proofs.KeptEnds.{live-intervals, live-named}
 use Rattle.ft_interval_store.proofs.RisingLists.{name_cmp-self}
-use Rattle.ft_interval.proofs.ShownOrder.{same-order}
 use Rattle.ft_interval.proofs.StartsOnce.{starts-once}
 
 true-false : {b : Bool} → b ≡ true → b ≡ false → ⊥

@@ -1,5 +1,5 @@
 -- The gathered intervals answer what all do, and no more keys are read than there are answers and pending operations.
-use Rattle.std.proofs.Common.{◌≡◌, ℕ, suc, ℤ, pos, ◌+◌, ◌*◌, ◌≤◌, Bool, true, false, ◌||◌, List, [], ◌∷◌, All, Option, Some, is_some, filter, length, map, refl, sym, ◌∙◌, ap, subst, inl, inr, arith}
+use Rattle.std.proofs.Common.{◌≡◌, ℕ, suc, ℤ, pos, ◌+◌, ◌*◌, ◌≤◌, Bool, true, false, ◌||◌, List, [], ◌∷◌, All, Option, Some, is_some, filter, length, map, refl, ◌∙◌, ap, subst, inl, inr, arith}
 use Rattle.std.specs.Prelude.{◌⊎◌, IfSome}
 use Rattle.std.specs.Ordering.{is_eq}
 use Rattle.ft_props.specs.Keys.{Characters, text_cmp}
@@ -15,7 +15,7 @@ use Rattle.ft_interval_store.specs.declared.intervals.Interval.{Interval}
 use Rattle.ft_interval_store.specs.declared.pending.Operation.{Operation}
 use Rattle.ft_interval_store.specs.Ends.{References, places_of_ends}
 use Rattle.ft_interval_store.specs.Gathered.{IsPartOf, is_on_any}
-use Rattle.ft_interval_store.specs.Intervals.{Name, NamesRise, interval_of}
+use Rattle.ft_interval_store.specs.Intervals.{NamesRise, interval_of}
 use Rattle.ft_interval_store.specs.Shown.{last, settled_interval, shown_from, shown_intervals, shown_place, shown_record}
 use Rattle.ft_interval_store.specs.State.{CollectionsState, IsInOrder, ends_of_name, placed_intervals, placed_operations, text_elements, with_mapped_ends}
 use Rattle.ft_interval_store.proofs.Gathered.{gathered-shown}

@@ -1,11 +1,11 @@
 -- The keys that an index finds for numbers of 63 bits are those of the items that meet the range.
-use Rattle.std.proofs.Common.{◌≡◌, ℕ, ℤ, pos, negsuc, int_le, int_lt, ◌+◌, ◌<◌, ◌≤◌, ◌≤ℤ◌, ◌<ℤ◌, min, Bool, true, false, not, ◌&&◌, List, [], ◌∷◌, Option, Some, None, refl, sym, ◌∙◌, ap, subst, inl, inr, arith}
+use Rattle.std.proofs.Common.{◌≡◌, ℕ, ℤ, pos, negsuc, int_le, int_lt, ◌≤ℤ◌, ◌<ℤ◌, min, Bool, true, false, not, ◌&&◌, List, [], ◌∷◌, Option, Some, None, refl, sym, ◌∙◌, ap, inl, inr, arith}
 use Rattle.std.proofs.lemmas.Int.{ints}
 use Rattle.std.proofs.lemmas.Bool.{cases_lt}
 use Rattle.ft_overlap.specs.declared.items.Item.{Item}
 use Rattle.ft_overlap.specs.Items.{ends_from, key_if, keys_within, starts_by}
 use Rattle.ft_tree_leaves.specs.Elements.{TreeElement}
-use Rattle.ft_interval.specs.Indexes.{IsRange, keys_meeting, meets_range}
+use Rattle.ft_interval.specs.Indexes.{IsRange, keys_meeting}
 use Rattle.ft_interval_store.specs.Shown.{number_at}
 
 le-true : (x y : ℤ) → x ≤ℤ y → int_le x y ≡ true

@@ -1,5 +1,5 @@
 -- Ends keep their order where they settle, are carried from stage to stage, are shown, or make room for new elements.
-use Rattle.std.proofs.Common.{◌≡◌, ℕ, zero, suc, ℤ, pos, negsuc, ◌+◌, ◌-◌, ◌<◌, ◌≤◌, ◌≤ℤ◌, min, Bool, true, false, cond, nat_le, List, [], ◌∷◌, ◌++◌, length, take, drop, Option, Some, None, is_some, option_map, option_and_then, refl, sym, ◌∙◌, ap, subst, inl, inr, arith}
+use Rattle.std.proofs.Common.{◌≡◌, ℕ, zero, suc, ◌+◌, ◌-◌, ◌<◌, ◌≤◌, ◌≤ℤ◌, min, Bool, true, false, cond, nat_le, List, [], ◌∷◌, ◌++◌, length, take, drop, Option, Some, None, is_some, option_map, option_and_then, refl, sym, ◌∙◌, ap, arith}
 use Rattle.std.proofs.Math.Seq.{take-add}
 use Rattle.std.proofs.lemmas.Bool.Decides.{nat_tests}
 use Rattle.std.proofs.lemmas.Int.{ints}
@@ -14,7 +14,7 @@ use Rattle.ft_tree_leaves.proofs.Runs.{len-append}
 use Rattle.ft_interval_store.specs.Ends.{References}
 use Rattle.ft_interval.specs.Order.{IsAtMost, IsWithin, KeepsEndOrder, list_place}
 use Rattle.ft_interval_store.specs.Shown.{shown_end, shown_place, carried_end, last, number_at, settled_end}
-use Rattle.ft_interval.proofs.PlaceOrder.{at-most-trans, number-most, settle-rises, settle-within}
+use Rattle.ft_interval.proofs.PlaceOrder.{number-most, settle-rises, settle-within}
 use Rattle.ft_interval_store.proofs.SettledEnds.{is_ok_at, settled-ok, settled-some}
 
 pub same-order : (n : ℕ) → KeepsEndOrder n n (λ a. a)

@@ -1,5 +1,5 @@
 -- Collections stand on a tree after a step that leaves the acknowledged intervals and their places.
-use Rattle.std.proofs.Common.{◌≡◌, ℕ, false, true, List, [], length, Option, None, Some, option_map, refl, sym, ◌∙◌, ap, subst, inl, inr, arith, map}
+use Rattle.std.proofs.Common.{◌≡◌, ℕ, false, true, List, [], length, None, Some, option_map, refl, sym, ◌∙◌, ap, subst, inl, inr, arith}
 use Rattle.std.specs.Prelude.{◌⊎◌}
 use Rattle.std.proofs.lemmas.List.Elements.{All-nil}
 use Rattle.ft_overlap.specs.Items.{NamesGreatest}

@@ -13,12 +13,11 @@ use Rattle.ft_tree_leaves.specs.References.{place_of}
 use Rattle.ft_interval.specs.declared.indexes.LabelIndex.{LabelIndex}
 use Rattle.ft_interval_store.specs.declared.intervals.EndPair.{EndPair}
 use Rattle.ft_interval_store.specs.declared.intervals.Interval.{Interval}
-use Rattle.ft_interval_store.specs.declared.pending.Operation.{Operation}
 use Rattle.ft_op.specs.declared.operations.TextOp.{TextOp}
 use Rattle.ft_tree_leaves.specs.declared.text.TextContent.{TextContent}
 use Rattle.ft_tree.specs.State.{TreeState}
 use Rattle.ft_interval_store.specs.Ends.{References, no_ends}
-use Rattle.ft_interval_store.specs.Intervals.{Name, after_operation, is_on, name_cmp}
+use Rattle.ft_interval_store.specs.Intervals.{Name, is_on, name_cmp}
 use Rattle.ft_interval.specs.Order.{IsWithin, list_place}
 use Rattle.ft_interval_store.specs.State.{CollectionsState, IsLive, ends_of_name, text_elements}
 

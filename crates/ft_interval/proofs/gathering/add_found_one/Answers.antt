@@ -1,8 +1,8 @@
-use Rattle.std.proofs.Common.{◌≡◌, Bool, true, ◌&&◌, List, None, Some, option_copied, map, sym, ◌∙◌, ap}
+use Rattle.std.proofs.Common.{◌≡◌, ◌&&◌, None, Some, option_copied, map, sym, ◌∙◌, ap}
 use Rattle.std.specs.Ordering.{is_eq}
 use Rattle.std.proofs.lemmas.Result.{on_ok_weaker}
 use Rattle.ft_props.specs.Keys.{text_cmp}
-use Rattle.ft_interval_store.specs.Intervals.{Name, name_cmp}
+use Rattle.ft_interval_store.specs.Intervals.{name_cmp}
 use Rattle.ft_interval_store.specs.Shown.{settled_interval}
 use Rattle.ft_interval_store.specs.State.{placed_intervals, text_elements}
 use Rattle.ft_interval.specs.Indexes.{id_in, is_id}

@@ -1,6 +1,6 @@
-use Rattle.std.proofs.Common.{◌≡◌, List, ℕ, ap, subst, ◌∙◌, map}
+use Rattle.std.proofs.Common.{List, ℕ, subst, ◌∙◌, map}
 use Rattle.ft_interval_store.specs.Gathered.{Gathers}
-use Rattle.ft_interval_store.specs.Shown.{settled_interval, shown_place}
+use Rattle.ft_interval_store.specs.Shown.{settled_interval}
 use Rattle.ft_interval_store.specs.State.{placed_intervals, text_elements}
 use Rattle.ft_interval.specs.Indexes.{is_found}
 use Rattle.ft_interval.proofs.gathering.add_met.Goals as goal

@@ -1,13 +1,10 @@
-use Rattle.std.proofs.Common.{◌≡◌, ◌||◌, ◌+◌, ◌*◌, ◌≤◌, ℕ, Bool, true, false, List, All, None, Some, Option, option_copied, length, map, refl, sym, ◌∙◌, ap, subst, inl, inr}
-use Rattle.std.specs.Prelude.{IfOk, OnOk}
+use Rattle.std.proofs.Common.{◌≡◌, ◌||◌, ◌+◌, ◌*◌, ◌≤◌, ℕ, Bool, true, false, List, None, Option, option_copied, length, map, refl, sym, ap, subst, inl, inr}
 use Rattle.std.proofs.lemmas.Result.{IfOk-weaker}
 use Rattle.ft_overlap.specs.Items.{AreKnown, IsInOrder}
 use Rattle.ft_refs.specs.declared.numbers.Place.{Place}
 use Rattle.ft_interval_store.specs.declared.intervals.Interval.{Interval}
-use Rattle.ft_interval_store.specs.declared.pending.Operation.{Operation}
 use Rattle.ft_interval_store.specs.Gathered.{IsPartOf, is_on_any}
-use Rattle.ft_interval_store.specs.Intervals.{Name}
-use Rattle.ft_interval_store.specs.Shown.{last, settled_interval, shown_place}
+use Rattle.ft_interval_store.specs.Shown.{settled_interval, shown_place}
 use Rattle.ft_interval_store.specs.Standing.{ShowsAll}
 use Rattle.ft_interval_store.specs.State.{placed_intervals, text_elements}
 use Rattle.ft_interval_store.proofs.Gathered.{part-less}

@@ -48,7 +48,7 @@ pub returns-clause-found : goal.returns-clause-found
 returns-clause-found g c =
     let test = meets c.args.label.now c.args.a c.args.b in
     let w = c.in_ok-first.ensures.part in
-    filter_same _ test _ (λ x b f' k. search rules) _ _ c.retain.ensures.filtered
+    filter_same _ test _ (λ x b f' k. search rules) c.in_ok-found.found.items _ c.retain.ensures.filtered
     ∙ ap (filter test) (c.in_ok-found.ensures w.0 w.1)
     ∙ found-all c.args.tree.now c.args.store.now c.args.label.now c.args.a c.args.b (option_copied c.args.index) c.first_stage-first.ensures.names c.first_stage-first.ensures.order
     c.requires.label c.requires.listed c.in_ok-first.ensures.fits w.0 w.2

@@ -1,11 +1,8 @@
-use Rattle.std.proofs.Common.{◌≡◌, ℕ, Bool, Some, None, List, ◌∷◌, set, sym, ◌∙◌, ap, subst}
-use Rattle.std.specs.Prelude.{position}
-use Rattle.std.specs.Ordering.{is_eq}
+use Rattle.std.proofs.Common.{Some, List, ◌∷◌, set, sym, ◌∙◌, ap, subst}
 use Rattle.std.proofs.lemmas.Result.{on_ok_weaker}
 use Rattle.ft_overlap.specs.Items.{AreKnown, IsInOrder, ItemList, has_key}
-use Rattle.ft_props.specs.Keys.{text_cmp}
 use Rattle.ft_interval.specs.declared.indexes.LabelIndex.{LabelIndex}
-use Rattle.ft_interval.specs.Indexes.{AreAttached, PutsItem, index_of, item_for, list_in}
+use Rattle.ft_interval.specs.Indexes.{PutsItem, index_of, item_for, list_in}
 use Rattle.ft_interval.specs.Order.{IsPlaced, list_place}
 use Rattle.ft_interval.proofs.LabelLists.{label-found, label-written, others-then, others-written}
 use Rattle.ft_interval.proofs.Listed.{from-attached}

@@ -1,4 +1,4 @@
-use Rattle.std.proofs.Common.{◌≡◌, ℕ, Bool, length, arith, Some, None, [], ◌∷◌, ◌++◌, List, sym, ◌∙◌, ap, subst}
+use Rattle.std.proofs.Common.{◌≡◌, ℕ, Bool, length, arith, Some, None, List, sym, ◌∙◌, ap, subst}
 use Rattle.std.specs.Prelude.{position}
 use Rattle.std.specs.Ordering.{is_eq}
 use Rattle.ft_props.specs.Keys.{text_cmp}

@@ -4,7 +4,7 @@ use Rattle.std.specs.Ordering.{is_eq}
 use Rattle.ft_overlap.specs.Items.{AreKnown, IsInOrder, ItemList}
 use Rattle.ft_props.specs.Keys.{text_cmp}
 use Rattle.ft_interval.specs.declared.indexes.LabelIndex.{LabelIndex}
-use Rattle.ft_interval.specs.Indexes.{KeepsOtherLabels, TakesItem, id_in, index_of, list_in}
+use Rattle.ft_interval.specs.Indexes.{TakesItem, index_of, list_in}
 use Rattle.ft_interval.specs.Order.{IsPlaced, list_place}
 use Rattle.ft_interval.proofs.LabelLists.{label-found, label-none, label-written, others-written}
 use Rattle.ft_interval.proofs.ListedNames.{none-unlists, unlists-by}

@@ -1,4 +1,4 @@
-use Rattle.std.proofs.Common.{ℕ, length, sym, subst}
+use Rattle.std.proofs.Common.{length, sym, subst}
 use Rattle.ft_op.specs.declared.operations.TextOp.{TextOp}
 use Rattle.ft_interval.specs.Indexes.{AreListed, ends_but}
 use Rattle.ft_interval_store.specs.State.{text_elements}

@@ -1,4 +1,4 @@
-use Rattle.std.proofs.Common.{◌≡◌, ℕ, ◌≤◌, length, arith, sym, ◌∙◌, ap, subst}
+use Rattle.std.proofs.Common.{ℕ, ◌≤◌, length, arith, subst}
 use Rattle.ft_interval_store.specs.declared.intervals.EndPair.{EndPair}
 use Rattle.ft_interval.specs.Indexes.{Unlists, index_of}
 use Rattle.ft_interval_store.specs.State.{ends_of_name, text_elements}

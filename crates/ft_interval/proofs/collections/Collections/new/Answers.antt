@@ -1,4 +1,4 @@
-use Rattle.std.proofs.Common.{[], ◌≡◌, List, ap, sym, subst, ◌∙◌}
+use Rattle.std.proofs.Common.{[], List, sym, subst}
 use Rattle.ft_interval_store.specs.State.{CollectionsState}
 use Rattle.ft_interval.specs.declared.indexes.LabelIndex.{LabelIndex}
 use Rattle.ft_interval.specs.Indexes.{IndexedState, StandsOn}

@@ -1,4 +1,4 @@
-use Rattle.std.proofs.Common.{filter, map, Global, ◌≡◌, ◌+◌, ◌*◌, ◌^◌, ◌≤◌, Option, true, option_copied, length, sym, ◌∙◌, ap, subst}
+use Rattle.std.proofs.Common.{filter, map, Global, ◌≡◌, ◌+◌, ◌*◌, ◌^◌, ◌≤◌, Option, true, length, sym, ◌∙◌, ap, subst}
 use Rattle.std.specs.Prelude.{IfOk, IfSome}
 use Rattle.std.specs.Ordering.{is_eq}
 use Rattle.std.specs.declared.vec.Vec.{Vec}
