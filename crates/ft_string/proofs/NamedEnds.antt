@@ -1,16 +1,14 @@
 -- Ends of intervals that are of names on either side of a step, where the sequenced elements stay in their order.
-use Rattle.std.proofs.Common.{◌≡◌, ℕ, suc, ◌<◌, ◌≤◌, Bool, true, false, cond, ◌&&◌, List, [], ◌∷◌, Option, Some, None, is_some, length, refl, sym, ◌∙◌, ap, subst, arith}
-use Rattle.std.specs.Prelude.{◌⊎◌}
+use Rattle.std.proofs.Common.{◌≡◌, ℕ, suc, ◌<◌, ◌≤◌, Bool, true, false, cond, List, [], ◌∷◌, Option, Some, None, is_some, length, refl, sym, ap, subst, arith}
 use Rattle.ft_base.specs.Scan.{len, one_more_if, rank, retain_map}
 use Rattle.ft_base.specs.declared.stamps.Stamp.{Stamp}
 use Rattle.ft_base.specs.declared.stamps.Stamp.TheVariants.{Acked, Local}
 use Rattle.ft_interval.specs.Order.{IsAtMost, IsWithin}
 use Rattle.ft_interval_store.specs.declared.intervals.Interval.{Interval}
-use Rattle.ft_interval_store.specs.Ends.{References, place_of_end}
+use Rattle.ft_interval_store.specs.Ends.{References}
 use Rattle.ft_msg.specs.Indexed.{place_in_list}
 use Rattle.ft_op.specs.Intervals.{Interval as NamedInterval}
-use Rattle.ft_props.specs.Element.{ElementContent, ElementId, ListElement, PendingId, SequencedId, has_id, is_sequenced, sequenced_elements, without_pending}
-use Rattle.ft_tree_leaves.specs.Elements.{TreeElement}
+use Rattle.ft_props.specs.Element.{ElementId, ListElement, PendingId, SequencedId, has_id, is_sequenced, sequenced_elements, without_pending}
 use Rattle.ft_laws_names.specs.WellNamed.{AreSettledIn, IsSettledIn}
 use Rattle.ft_laws_names.proofs.Beside.{Beside, ends, next}
 use Rattle.ft_string.proofs.Ends.{HaveEnds, SameEnd, SameIntervals, end-of, start-of}

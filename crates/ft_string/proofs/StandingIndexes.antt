@@ -1,5 +1,5 @@
 -- The indexes of intervals stand on the tree after each step of it, since the ends of acknowledged intervals keep their order.
-use Rattle.std.proofs.Common.{◌≡◌, ℕ, zero, suc, ◌+◌, ◌<◌, ◌≤◌, Bool, true, false, IsSome, List, [], ◌∷◌, ◌++◌, Option, Some, None, length, map, is_some, option_and_then, option_map, refl, sym, ◌∙◌, ap, subst, inl, inr, cond, arith}
+use Rattle.std.proofs.Common.{◌≡◌, ℕ, zero, suc, ◌+◌, Bool, true, false, IsSome, List, [], ◌∷◌, ◌++◌, Option, Some, None, length, map, is_some, option_and_then, option_map, refl, sym, ◌∙◌, ap, subst, inl, inr, cond, arith}
 use Rattle.std.specs.Prelude.{◌⊎◌}
 use Rattle.std.specs.declared.cmp.Ordering.{Ordering}
 use Rattle.std.specs.declared.cmp.Ordering.TheVariants.{Less, Equal, Greater}
@@ -12,12 +12,11 @@ use Rattle.ft_block.specs.declared.leaves.LenView.TheVariants.{At}
 use Rattle.ft_op.specs.declared.operations.BaseOp.{BaseOp}
 use Rattle.ft_op.specs.declared.operations.BaseOp.TheVariants.{Annotate, Insert, Remove}
 use Rattle.ft_op.specs.Operation.{segment_contents}
-use Rattle.ft_props.specs.Element.{ElementContent}
 use Rattle.ft_props.specs.Properties.{apply}
 use Rattle.ft_tree_leaves.specs.declared.references.Reference.{Reference}
 use Rattle.ft_tree_leaves.specs.declared.text.TextContent.{TextContent}
 use Rattle.ft_tree_leaves.specs.Edits.{with_place}
-use Rattle.ft_tree_leaves.specs.Elements.{TreeElement, acked_element, is_pending, is_unremoved, new_elements, seen_in}
+use Rattle.ft_tree_leaves.specs.Elements.{acked_element, is_pending, is_unremoved, new_elements, seen_in}
 use Rattle.ft_tree_leaves.specs.Places.{put_place, shifted_place}
 use Rattle.ft_tree_leaves.specs.References.{ChangesReferences, place_of, reference_at, slid_reference}
 use Rattle.ft_tree_leaves.specs.TextLeaves.{text_author}
@@ -33,7 +32,7 @@ use Rattle.ft_interval.proofs.Listed.{moved-listed}
 use Rattle.ft_interval.proofs.ListedEffects.{has-end}
 use Rattle.ft_interval.proofs.ShownOrder.{settle-order, shifted-order}
 use Rattle.ft_string.specs.Acks.{AcksStage}
-use Rattle.ft_string.specs.Parts.{AppliesOp, AreSound, TakesOp, TakesOps, TextElements, TriesOp, TriesOps, applied_elements, applied_reference, taken_elements, taken_place}
+use Rattle.ft_string.specs.Parts.{AppliesOp, AreSound, TakesOps, TextElements, TriesOp, TriesOps, taken_elements, taken_place}
 use Rattle.ft_string.specs.declared.pending.PendingOp.{PendingOp}
 use Rattle.ft_string.proofs.Applied.{slid-acked}
 use Rattle.ft_string.proofs.Documents.{acked-mapped, some-mapped}

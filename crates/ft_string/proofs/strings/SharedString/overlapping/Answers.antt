@@ -33,10 +33,12 @@ returns-clause-cost g c last doc stages sound holds =
     sym (length-map (placed_operations a.tree.refs a.intervals.state.pending) _ ∙ length-map a.intervals.state.pending _) ∙ ap (λ (s : TextState). length s.interval_ops) c.self.view_is in
     let cost = subst (λ (rs : List IntervalRec). c.overlapping.new.steps ≤ c.args.steps.now + 9 * (d + 1) * (length (filter test rs) + length a.intervals.state.pending + 1))
     (intervals-alike a.tree a.intervals.state (a.again.items ++ a.ops.items) a.given last a.usable doc stages sound here c.first_stage-first.ensures.names
-    (c.made_in-made.ensures.few 18446744073709551615)) e.cost in
-    (d, no-deeper (4 ^ d) _ _ _ e.depth e.few all,
-    subst (λ m. c.overlapping.new.steps
-    ≤ c.args.steps.now + 9 * (d + 1) * (length (filter test (map (interval_record last doc.text.items) (shown_intervals doc.text.items doc.intervals stages))) + m + 1)) waiting cost)
+    (c.made_in-made.ensures.few 18446744073709551615)) e.cost in (
+      d,
+      no-deeper (4 ^ d) _ _ _ e.depth e.few all,
+      subst (λ m. c.overlapping.new.steps
+          ≤ c.args.steps.now + 9 * (d + 1) * (length (filter test (map (interval_record last doc.text.items) (shown_intervals doc.text.items doc.intervals stages))) + m + 1)) waiting cost,
+    )
   where
     no-deeper : (p items acked all : ℕ) → p ≤ items + 1 → items ≤ acked → acked ≡ all → p ≤ all + 1
     no-deeper p items acked all deep few same = omega (arith, deep, few, same)
