@@ -1,3 +1,4 @@
+pub mod FewNodeReads
 pub mod FoundNumbers
 pub mod KnownSteps
 pub mod LinkedEdits

@@ -14,6 +14,7 @@ use Rattle.ft_op.specs.Document.{Document}
 use Rattle.ft_op.specs.Pieces.{op_of, pieces}
 use Rattle.ft_op.specs.Stages.{Stage}
 use Rattle.ft_props.specs.Element.{NamelessElement}
+use Rattle.ft_props.specs.Properties.{Characters}
 use Rattle.ft_props.specs.Compaction.{has_collectable_removal}
 use Rattle.ft_msg.specs.declared.faults.EditFault.{EditFault}
 use Rattle.ft_msg.specs.declared.messages.Entry.{Entry}
@@ -23,6 +24,7 @@ use Rattle.ft_msg.specs.Answers.{FaultKind, HeldCounts, Refusal, StoppedBefore, 
 use Rattle.ft_msg.specs.Client.{NaiveClient, PendingEdit, floor, stages_of}
 use Rattle.ft_msg.specs.Compacted.{KeepsDocument}
 use Rattle.ft_msg.specs.Indexed.{IndexedDocument, IndexedStage, indexed, indexed_stage}
+use Rattle.ft_msg.specs.Overlap.{ReadsFewNodes, overlap, pending_on_intervals}
 use Rattle.ft_msg.specs.Reconnection.{carried_stage, rebuilt_document}
 use Rattle.ft_laws_compaction.specs.Keeping.{IsMadeOrKept}
 use Rattle.ft_laws_names.specs.Renaming.{ShowsItsCells}
@@ -118,6 +120,11 @@ AreFew (Some list) before after = (d : ℕ) × (4 ^ d ≤ length list + 1) × (a
 
 abbrev pub ReadsFew : ChannelOp → IndexedDocument → ℕ → ℕ → Type 0
 ReadsFew op shown before after = AreFew (counted_list op shown) before after
+
+-- from one count of node reads to the other are no more than a search in an index of the client's intervals takes for each interval
+-- of the label that meets the places, for each pending one, and once more
+abbrev pub ReadsFewNodesFor : NaiveClient → Characters → ℕ → ℕ → ℕ → ℕ → Type 0
+ReadsFewNodesFor p label a b before after = ReadsFewNodes (length p.doc.intervals) (length (overlap p label a b) + pending_on_intervals p) before after
 
 -- after a message of another client
 abbrev pub with_entry : Entry → HeldDocument → HeldDocument

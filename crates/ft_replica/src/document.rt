@@ -3,10 +3,10 @@
 ghost use Rattle.std.specs.Prelude.{◌≡◌, max};
 
 use ft_attrib::Attribution;
-use ft_base::{OutOfMemory, Steps};
+use ft_base::{OutOfMemory, Steps, Text};
 use ft_msg::{EditFault, Entry, Numbers, View};
 use ft_op::ChannelOp;
-use ft_sumdoc::{SumDoc, Texts};
+use ft_sumdoc::{IntervalRec, SumDoc, Texts};
 use std::alloc::Global;
 use std::collections::VecDeque;
 use std::sync::ledger::Ledger;
@@ -68,6 +68,7 @@ pub trait OwnDocument: Sized + Drop {
     ghost use Rattle.ft_msg.specs.Blame.{blame};
     ghost use Rattle.ft_msg.specs.Client.{NaiveClient, floor, local_sub_operations, stages_of};
     ghost use Rattle.ft_msg.specs.Content.{content};
+    ghost use Rattle.ft_msg.specs.Overlap.{overlap};
     ghost use Rattle.ft_msg.specs.Process.{process_fault};
     ghost use Rattle.ft_msg.specs.Summary.{doc_of};
     ghost use Rattle.ft_msg.specs.SummaryOf.{summary_of};
@@ -82,6 +83,7 @@ pub trait OwnDocument: Sized + Drop {
       HoldsOne,
       NamesFit,
       ReadsFew,
+      ReadsFewNodesFor,
       ShownDocument,
       Shows,
       acknowledged,
@@ -99,7 +101,7 @@ pub trait OwnDocument: Sized + Drop {
     /// It holds that document of the definitions.
     ghost holds: { Self → HeldDocument → Type 0 };
 
-    /// Whether it keeps the bound on the reads of an edit.
+    /// Whether it keeps the bounds on the reads of an edit, and of a question which intervals meet a range.
     ghost COUNTS: { Bool };
 
     ghost COMPACTS: { Bool };
@@ -190,6 +192,25 @@ pub trait OwnDocument: Sized + Drop {
         requires { HoldsOne holds self.now (λ p. p.last_stage ≡ last) }
         ensures { (low : ℕ) (p : NaiveClient) → IsWellNamed p → p.last_stage ≡ last → holds self.now (held_by low p)
             → IfOk result (λ origins. origins ≡ blame p) };
+
+    /// The intervals of the label that are shown at the last stage and meet the places from `a` to `b`, by rising id.
+    ///
+    /// Where `COUNTS`, each read of a node of an index of intervals is a step, and it takes few of them for each
+    /// interval that is found or pending, and once more.
+    fn overlapping<G: Ledger>(
+        &self,
+        last: u64,
+        label: &Text,
+        a: u64,
+        b: u64,
+        steps: &mut Steps<G>,
+    ) -> Result<Vec<IntervalRec>, OutOfMemory>
+        requires order { a ≤ b }
+        requires known { HoldsOne holds self.now (λ p. p.last_stage ≡ last) }
+        ensures found { (low : ℕ) (p : NaiveClient) → IsWellNamed p → p.last_stage ≡ last → holds self.now (held_by low p)
+            → IfOk result (λ found. found.items ≡ overlap p label.now a b) }
+        ensures reads { IsTrue COUNTS → (low : ℕ) (p : NaiveClient) → IsWellNamed p → p.last_stage ≡ last → holds self.now (held_by low p)
+            → ReadsFewNodesFor p label.now a b steps.old steps.new };
 
     /// The summary of the document, which has nothing pending, with these names of connections.
     ///

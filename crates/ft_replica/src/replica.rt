@@ -1,25 +1,28 @@
 //! The replica over any document.
 
-ghost use Rattle.std.specs.Prelude.{◌≡◌, ◌<◌, ◌||◌, IfOk, IsTrue, None, take};
+ghost use Rattle.std.specs.Prelude.{◌≡◌, ◌<◌, ◌≤◌, ◌||◌, IfOk, IsTrue, None, take};
 ghost use Rattle.ft_op.specs.WellFormed.{IsWellFormed};
-ghost use Rattle.ft_msg.specs.Answers.{Answers, edit_fault_kind};
-ghost use Rattle.ft_msg.specs.Client.{local_edit};
+ghost use Rattle.ft_msg.specs.Answers.{Answers, AnswersRead, edit_fault_kind};
+ghost use Rattle.ft_msg.specs.Client.{NaiveClient, local_edit};
+ghost use Rattle.ft_msg.specs.Compacted.{StandsFor};
 ghost use Rattle.ft_msg.specs.NameTable.{AreDistinct};
+ghost use Rattle.ft_msg.specs.Overlap.{overlap};
+ghost use Rattle.ft_msg.specs.Reached.{IsReached};
 ghost use Rattle.ft_replica.specs.Kept.{is_of_nobody};
 ghost use Rattle.ft_replica.specs.Linked.{Anyone, RunsForOne};
-ghost use Rattle.ft_replica.specs.Own.{ReadsFew};
+ghost use Rattle.ft_replica.specs.Own.{ReadsFew, ReadsFewNodesFor};
 ghost use Rattle.ft_replica.specs.Stopping.{AnswersOwn};
 
 use crate::document::OwnDocument;
 use crate::stopping::StoppingClient;
 use ft_attrib::Attribution;
-use ft_base::{OutOfMemory, Steps};
+use ft_base::{OutOfMemory, Steps, Text};
 use ft_msg::{
     Body, Draft, EditFault, Entry, LinkFault, Names, Numbers, ProcessFault, Replica, SummaryFault,
     View, ViewFault,
 };
 use ft_op::ChannelOp;
-use ft_sumdoc::{SumDoc, Texts};
+use ft_sumdoc::{IntervalRec, SumDoc, Texts};
 use std::alloc::Global;
 use std::marker::{Brand, Model};
 use std::sync::ledger::{Blank, Ledger};
@@ -163,6 +166,10 @@ impl<D: OwnDocument> Replica for ReplicaOver<D> {
         }
         Ok(self.client.client().origins()?)
     }
+
+    fn overlapping(&self, label: &Text, a: u64, b: u64) -> Result<Vec<IntervalRec>, ViewFault> {
+        overlapping_in::<D, Brand>(self, label, a, b, Blank::new(1))
+    }
 }
 
 impl<D: OwnDocument> ReplicaOver<D> {
@@ -179,6 +186,32 @@ impl<D: OwnDocument> ReplicaOver<D> {
         ensures reads { IsTrue D.COUNTS → self.old.stop ≡ None → ReadsFew op.now self.old.client.doc steps.old steps.new }
     {
         self.client.edit(op, steps)
+    }
+
+    /// `overlapping` with a counter. Where the document counts, each read of a node of an index of intervals is a
+    /// step. With `k` intervals found, `m` pending operations on intervals and `n` acknowledged intervals it takes at
+    /// most 9 * (d + 1) * (k + m + 1) of them, for a depth d with 4^d <= n + 1.
+    ///
+    /// Returns `Stopped` exactly where the client has stopped, and `OutOfMemory` where there is no room for the
+    /// intervals.
+    pub fn overlapping_counted<G: Ledger>(
+        &self,
+        label: &Text,
+        a: u64,
+        b: u64,
+        steps: &mut Steps<G>,
+    ) -> Result<Vec<IntervalRec>, ViewFault>
+        requires { a ≤ b }
+        ensures answers { AnswersRead (λ found x. found.items ≡ overlap x label.now a b) self.now result }
+        ensures reads { IsTrue D.COUNTS → self.now.stop ≡ None → (x : NaiveClient) → IsReached x → StandsFor self.now.client x
+            → ReadsFewNodesFor x label.now a b steps.old steps.new }
+    {
+        if let Some(numbers) = self.client.stop() {
+            return Err(ViewFault::Stopped {
+                seq: numbers.number,
+            });
+        }
+        Ok(self.client.client().overlapping(label, a, b, steps)?)
     }
 }
 
@@ -197,6 +230,24 @@ fn edit_in<D: OwnDocument, G: Ledger>(
 {
     let mut steps = Steps::<G>::new(blank);
     client.edit(op, &mut steps)
+}
+
+// The intervals that meet a range, with a counter of its own.
+fn overlapping_in<D: OwnDocument, G: Ledger>(
+    replica: &ReplicaOver<D>,
+    label: &Text,
+    a: u64,
+    b: u64,
+    blank: Blank,
+) -> Result<Vec<IntervalRec>, ViewFault>
+    requires name { blank.name ≡ G.name }
+    requires parts { blank.parts ≡ G.parts }
+    requires one { 0 < blank.parts }
+    requires order { a ≤ b }
+    ensures { AnswersRead (λ found x. found.items ≡ overlap x label.now a b) replica.now result }
+{
+    let mut steps = Steps::<G>::new(blank);
+    replica.overlapping_counted(label, a, b, &mut steps)
 }
 
 /// Whether a client that took an operation of nobody, or none so far, has taken one after this entry.
