@@ -7,14 +7,14 @@ mod reading;
 
 use crate::resent::{resend, stage_numbers};
 use ft_attrib::Attribution;
-use ft_base::{OutOfMemory, Steps};
+use ft_base::{OutOfMemory, Steps, Text};
 use ft_json::GREATEST_COUNT;
 use ft_msg::{EditFault, Entry, Numbers, View};
 use ft_op::ChannelOp;
 use ft_plain_document::{NotTaken, PlainDocument, PlainStages, renamed_stages};
 use ft_plain_summary::{document_of, summary_of};
 use ft_replica::{OwnDocument, OwnNumbers, Resent};
-use ft_sumdoc::{MOST_UNITS, SumDoc, Texts};
+use ft_sumdoc::{IntervalRec, MOST_UNITS, SumDoc, Texts};
 use std::alloc::Global;
 use std::collections::VecDeque;
 use std::marker::Model;
@@ -137,6 +137,17 @@ impl OwnDocument for PlainOwn {
 
     fn origins(&self, last: u64) -> Result<Attribution, OutOfMemory> {
         self.origins_at(last)
+    }
+
+    fn overlapping<G: Ledger>(
+        &self,
+        last: u64,
+        label: &Text,
+        a: u64,
+        b: u64,
+        _steps: &mut Steps<G>,
+    ) -> Result<Vec<IntervalRec>, OutOfMemory> {
+        self.overlapping_at(last, label, a, b)
     }
 
     fn summary(&self, conns: Texts) -> Result<SumDoc, OutOfMemory> {

@@ -4,6 +4,7 @@ ghost use Rattle.std.specs.Prelude.{◌≡◌, IfOk};
 ghost use Rattle.ft_msg.specs.Answers.{view_content};
 ghost use Rattle.ft_msg.specs.Blame.{blame};
 ghost use Rattle.ft_msg.specs.Content.{content};
+ghost use Rattle.ft_msg.specs.Overlap.{overlap};
 ghost use Rattle.ft_plain.specs.Own.{client_at};
 
 use crate::own::PlainOwn;
@@ -13,7 +14,8 @@ use ft_msg::{Numbers, Runs, Spots, View};
 use ft_plain_lists::{
     shown_cells, shown_count, shown_intervals, shown_markers, shown_origins, shown_runs, shown_text,
 };
-use ft_sumdoc::{CellRecs, IntervalRecs};
+use ft_sumdoc::meeting::meeting;
+use ft_sumdoc::{CellRecs, IntervalRec, IntervalRecs};
 
 impl PlainOwn {
     /// All that it shows at the last stage, with these numbers.
@@ -68,6 +70,20 @@ impl PlainOwn {
         let settled = self.doc.settled_intervals(self.stages.as_slice())?;
         let alloc = self.doc.alloc();
         shown_intervals(alloc, self.doc.text(), settled.as_slice(), last)
+    }
+
+    /// The intervals of the label after all pending stages that meet the places from `a` to `b`, by rising id.
+    pub(crate) fn overlapping_at(
+        &self,
+        last: u64,
+        label: &Text,
+        a: u64,
+        b: u64,
+    ) -> Result<Vec<IntervalRec>, OutOfMemory>
+        ensures { IfOk result (λ found. found.items ≡ overlap (client_at last self.now) label.now a b) }
+    {
+        let intervals = self.shown_intervals(last)?;
+        meeting(self.doc.alloc(), intervals.as_slice(), label, a, b)
     }
 
     /// How many rows.
