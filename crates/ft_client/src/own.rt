@@ -9,13 +9,13 @@ mod shown;
 use crate::numbers::TreeNumbers;
 use crate::stages::OwnStage;
 use ft_attrib::Attribution;
-use ft_base::{OutOfMemory, Steps};
+use ft_base::{OutOfMemory, Steps, Text};
 use ft_matrix::SharedMatrix;
 use ft_msg::{EditFault, Entry, Numbers, View};
 use ft_op::ChannelOp;
 use ft_replica::{OwnDocument, OwnNumbers, Resent};
 use ft_string::SharedString;
-use ft_sumdoc::{SumDoc, Texts};
+use ft_sumdoc::{IntervalRec, SumDoc, Texts};
 use std::alloc::Global;
 use std::collections::VecDeque;
 use std::marker::Brand;
@@ -121,6 +121,17 @@ impl OwnDocument for TreeOwn {
 
     fn origins(&self, _last: u64) -> Result<Attribution, OutOfMemory> {
         self.text.attribution()
+    }
+
+    fn overlapping<G: Ledger>(
+        &self,
+        _last: u64,
+        label: &Text,
+        a: u64,
+        b: u64,
+        steps: &mut Steps<G>,
+    ) -> Result<Vec<IntervalRec>, OutOfMemory> {
+        self.text.overlapping(label, a, b, steps)
     }
 
     fn summary(&self, conns: Texts) -> Result<SumDoc, OutOfMemory> {
