@@ -11,7 +11,7 @@ ghost use Rattle.ft_interval_store.specs.Shown.{carried, last, settled_end, sett
 ghost use Rattle.ft_interval_store.specs.Standing.{AreOnTree, HasPlaces, IsCarriedInterval, ShowsAll, ShowsInterval, record_at};
 ghost use Rattle.ft_interval_store.specs.State.{AreLiveIntervals, AreLiveOperations, StagesRise, placed_intervals, placed_operations, text_elements, with_mapped_ends};
 
-use crate::intervals::{Interval, Intervals};
+use crate::intervals::{Held, Interval, Intervals};
 use crate::pending::Operation;
 use crate::standing::{carried, removal_until, settled, shown_numbers};
 use ft_base::{Datum, OutOfMemory, Text};
@@ -19,6 +19,7 @@ use ft_op::TextOp;
 use ft_refs::{Place, RefId};
 use ft_sumdoc::{Ends2, IntervalRec};
 use ft_tree::{TextContent, Tree};
+use std::alloc::Global;
 
 /// The interval at stage 0, with its ends as elements that this sees.
 fn placed(tree: &Tree<TextContent>, i: &Interval<RefId>) -> Result<Interval<Place>, OutOfMemory>
@@ -35,6 +36,22 @@ fn placed(tree: &Tree<TextContent>, i: &Interval<RefId>) -> Result<Interval<Plac
     })
 }
 
+/// The same on the heap.
+fn placed_on_heap(
+    alloc: Global,
+    tree: &Tree<TextContent>,
+    i: &Held<RefId>,
+) -> Result<Held<Place>, OutOfMemory>
+    requires usable { IsTrue tree.now.usable }
+    requires live { AreLiveEnds tree.now.refs i.now.ends }
+    ensures { let xs = text_elements tree.now in
+        IfOk result (ShowsInterval tree.now 0 (settled_interval xs 0 (with_mapped_ends (places_of_ends tree.now.refs) i.now))) }
+{
+    let interval = placed(tree, i.get())?;
+    let held = Held::new(alloc, interval)?;
+    Ok(held)
+}
+
 /// The intervals at stage 0, with their ends as elements that this sees.
 fn first_places(
     tree: &Tree<TextContent>,
@@ -45,22 +62,23 @@ fn first_places(
     ensures { let xs = text_elements tree.now in
         IfOk result (ShowsAll tree.now 0 (map (settled_interval xs 0) (placed_intervals tree.now.refs acked.now))) }
 {
-    let mut items = Vec::new(acked.allocator());
+    let alloc = acked.allocator();
+    let mut items = Vec::new(alloc);
     let intervals = acked.as_slice();
     for i in intervals {
-        items.push(placed(tree, i)?)?;
+        items.push(placed_on_heap(alloc, tree, i)?)?;
     }
     Ok(Intervals { items })
 }
 
 /// Takes the interval from stage `from` to stage `to`.
-fn carry(tree: &Tree<TextContent>, i: &mut Interval<Place>, from: u64, to: u64)
+fn carry(tree: &Tree<TextContent>, i: &mut Held<Place>, from: u64, to: u64)
     requires usable { IsTrue tree.now.usable }
     requires on_leaf { AreOnTree tree.now i.old.ends }
     requires rises { from ≤ to }
     ensures { IsCarriedInterval tree.now from to i.old i.new }
 {
-    i.ends = carried(tree, i.ends, from, to);
+    i.set_ends(carried(tree, i.ends(), from, to));
 }
 
 /// Takes all intervals from stage `from` to stage `to`, one after another.
@@ -110,11 +128,12 @@ fn take_next(
 }
 
 /// The interval as it is shown.
-fn record_at(tree: &Tree<TextContent>, i: Interval<Place>) -> IntervalRec
+fn record_at(tree: &Tree<TextContent>, i: Held<Place>) -> IntervalRec
     requires usable { IsTrue tree.now.usable }
     requires on_leaf { AreOnTree tree.now i.ends }
     ensures { result ≡ record_at tree.now i }
 {
+    let i = i.into_interval();
     let ends = shown_numbers(tree, i.ends);
     IntervalRec {
         label: i.label,

@@ -1,6 +1,6 @@
 //! Intervals by rising label and id.
 
-ghost use Rattle.std.specs.Prelude.{◌≡◌, [], OnOk, OnErr, option_copied};
+ghost use Rattle.std.specs.Prelude.{◌≡◌, [], IfOk, OnOk, OnErr, option_copied};
 ghost use Rattle.std.specs.Ordering.{is_eq};
 ghost use Rattle.ft_props.specs.Keys.{put_rising};
 ghost use Rattle.ft_interval_store.specs.Intervals.{after_operation, changed_interval, interval_cmp, interval_of, name_cmp, name_of, place_of_name, with_changed, without_name};
@@ -43,7 +43,7 @@ pub fn is_same_name(label: &Text, id: &Text, other_label: &Text, other_id: &Text
     name_order(label, id, other_label, other_id).is_eq()
 }
 
-impl<T: Copy> Interval<T> {
+impl<T: Copy> Held<T> {
     /// Gives it the ends, if an operation gives some, and applies the set to its properties.
     ///
     /// Returns `OutOfMemory` where there is no room for its properties, and then nothing changed.
@@ -57,18 +57,80 @@ impl<T: Copy> Interval<T> {
         ensures ok { OnOk result (self.new ≡ changed_interval given ends props.now self.old) }
         ensures err { OnErr result (self.new ≡ self.old) }
     {
-        self.props = self.props.applied(props)?;
+        self.interval.props = self.interval.props.applied(props)?;
         if given.is_some() {
-            self.ends = ends;
+            self.interval.ends = ends;
         }
         Ok(())
+    }
+}
+
+/// An interval on the heap: where it is put among many others, each of those moves by one word alone. Contracts see
+/// the interval.
+#[derive(Drop)]
+pub struct Held<T> {
+    interval: Box<Interval<T>>,
+}
+
+impl<T> Model for Held<T> {
+    ghost use Rattle.ft_interval_store.specs.declared.intervals.Interval.{Interval};
+
+    ghost Value = { Interval T };
+
+    ghost view = { λ h. h.interval.value };
+}
+
+impl<T> Held<T> {
+    /// Puts the interval on the heap.
+    ///
+    /// Returns `OutOfMemory` where there is no room for it.
+    pub fn new(alloc: Global, interval: Interval<T>) -> Result<Held<T>, OutOfMemory>
+    where
+        T: Drop,
+        ensures { IfOk result (λ held. held ≡ interval) }
+    {
+        Ok(Held {
+            interval: Box::new(alloc, interval)?,
+        })
+    }
+
+    /// The interval.
+    pub fn get(&self) -> &Interval<T>
+        ensures { result.now ≡ self.now }
+    {
+        &self.interval
+    }
+
+    /// The interval, no longer on the heap.
+    pub fn into_interval(self) -> Interval<T>
+        ensures { result ≡ self }
+    {
+        Box::into_inner(self.interval)
+    }
+
+    /// Its ends.
+    pub fn ends(&self) -> EndPair<T>
+    where
+        T: Copy,
+        ensures { result ≡ self.now.ends }
+    {
+        self.interval.ends
+    }
+
+    /// Gives it other ends.
+    pub fn set_ends(&mut self, ends: EndPair<T>)
+    where
+        T: Copy,
+        ensures { self.new ≡ record self.old { ends = ends } }
+    {
+        self.interval.ends = ends;
     }
 }
 
 /// Intervals by rising label and id, so that no name stands twice. One is found by a binary search.
 #[derive(Drop)]
 pub struct Intervals<T> {
-    pub(crate) items: Vec<Interval<T>>,
+    pub(crate) items: Vec<Held<T>>,
 }
 
 impl<T> Model for Intervals<T> {
@@ -101,7 +163,7 @@ impl<T: Copy + Drop> Intervals<T> {
     }
 
     /// All in order.
-    pub fn as_slice(&self) -> &[Interval<T>]
+    pub fn as_slice(&self) -> &[Held<T>]
         ensures value { result.now ≡ self.now }
         ensures rising { NamesRise self.now }
     {
@@ -113,7 +175,7 @@ impl<T: Copy + Drop> Intervals<T> {
         ensures { result ≡ place_of_name (label.now, id.now) self.now }
     {
         self.items
-            .binary_search_by(|i| name_order(&i.label, &i.id, label, id))
+            .binary_search_by(|i| name_order(&i.get().label, &i.get().id, label, id))
     }
 
     /// The interval of that label and id: None exactly where it isn't there.
@@ -121,7 +183,7 @@ impl<T: Copy + Drop> Intervals<T> {
         ensures { option_copied result ≡ interval_of (label.now, id.now) self.now }
     {
         match self.search(label, id) {
-            Ok(i) => Some(&self.items[i]),
+            Ok(i) => Some(self.items[i].get()),
             Err(_) => None,
         }
     }
@@ -133,12 +195,21 @@ impl<T: Copy + Drop> Intervals<T> {
         ensures ok { OnOk result (self.new ≡ put_rising interval_cmp interval self.old) }
         ensures err { OnErr result (self.new ≡ self.old) }
     {
+        self.put_held(Held::new(self.allocator(), interval)?)
+    }
+
+    /// The same of one that is on the heap already.
+    fn put_held(&mut self, held: Held<T>) -> Result<(), OutOfMemory>
+        ensures ok { OnOk result (self.new ≡ put_rising interval_cmp held self.old) }
+        ensures err { OnErr result (self.new ≡ self.old) }
+    {
+        let interval = held.get();
         match self.search(&interval.label, &interval.id) {
             Ok(i) => {
-                self.items[i] = interval;
+                self.items[i] = held;
                 Ok(())
             }
-            Err(i) => Ok(self.items.insert(i, interval)?),
+            Err(i) => Ok(self.items.insert(i, held)?),
         }
     }
 

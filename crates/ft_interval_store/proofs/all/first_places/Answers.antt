@@ -14,8 +14,8 @@ use Rattle.ft_interval_store.proofs.all.first_places.Goals as goal
 pub loop-i-init : goal.loop-i-init
 loop-i-init c = subst (λ js. ShowsAll c.args.tree.now 0 [] js) (sym c.new-items.ensures.items) tt
 
-pub placed-requires-clause-live : goal.placed-requires-clause-live
-placed-requires-clause-live c =
+pub placed_on_heap-requires-clause-live : goal.placed_on_heap-requires-clause-live
+placed_on_heap-requires-clause-live c =
     let refs = c.args.tree.now.refs in
     let all = subst (λ is. AreLiveIntervals refs is) (sym c.as_slice-intervals.ensures.value) c.requires.live in
     subst (λ (i : Interval ℕ). AreLiveEnds refs i.ends) (sym c.i-item.is)
@@ -29,8 +29,8 @@ loop-i-preserved c =
     let n = c.loop-i.i-index in
     let pushed = sym {A = List (Interval Place)} c.in_ok-push.ensures.items in
     subst (λ js. ShowsAll c.args.tree.now 0 (map (settled_interval xs 0) (placed_intervals refs (take (n + 1) is))) js) pushed
-    (next-shown c.args.tree.now 0 (settled_interval xs 0) (with_mapped_ends (places_of_ends refs)) is c.loop-i.items.items n c.i-item.result c.in_ok-placed.field-0
-    c.loop-i-test.true c.i-item.is c.loop-i.invariant c.in_ok-placed.ensures)
+    (next-shown c.args.tree.now 0 (settled_interval xs 0) (with_mapped_ends (places_of_ends refs)) is c.loop-i.items.items n c.i-item.result c.in_ok-placed_on_heap.field-0
+    c.loop-i-test.true c.i-item.is c.loop-i.invariant c.in_ok-placed_on_heap.ensures)
 
 pub invariant_of-result : goal.invariant_of-result
 invariant_of-result c =

@@ -12,7 +12,7 @@ pub returns-in-Ok : goal.returns-in-Ok
 returns-in-Ok g c =
     let n : Name = (c.args.label.now, c.args.id.now) in
     let place = ap (place_of_name n) c.self.view_is ∙ sym c.search.ensures ∙ c.in-Ok.is in
-    ap Some c.index.ensures ∙ sym (interval_of-found n c.in-Ok.i c.index.result.now c.self.inside.items.items place) ∙ ap (interval_of n) c.self.view_is
+    ap Some c.get.ensures ∙ ap Some c.index.ensures ∙ sym (interval_of-found n c.in-Ok.i c.index.result.now c.self.inside.items.items place) ∙ ap (interval_of n) c.self.view_is
 
 pub returns-in-Err : goal.returns-in-Err
 returns-in-Err g c =
