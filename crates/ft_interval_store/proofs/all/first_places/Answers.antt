@@ -29,8 +29,8 @@ loop-i-preserved c =
     let n = c.loop-i.i-index in
     let pushed = sym {A = List (Interval Place)} c.in_ok-push.ensures.items in
     subst (λ js. ShowsAll c.args.tree.now 0 (map (settled_interval xs 0) (placed_intervals refs (take (n + 1) is))) js) pushed
-    (next-shown c.args.tree.now 0 (settled_interval xs 0) (with_mapped_ends (places_of_ends refs)) is c.loop-i.items.items n c.i-item.result c.in_ok-placed_on_heap.field-0
-    c.loop-i-test.true c.i-item.is c.loop-i.invariant c.in_ok-placed_on_heap.ensures)
+    (next-shown c.args.tree.now 0 (settled_interval xs 0) (with_mapped_ends (places_of_ends refs)) is c.loop-i.items.items n c.i-item.result
+    c.in_ok-placed_on_heap.field-0 c.loop-i-test.true c.i-item.is c.loop-i.invariant c.in_ok-placed_on_heap.ensures)
 
 pub invariant_of-result : goal.invariant_of-result
 invariant_of-result c =

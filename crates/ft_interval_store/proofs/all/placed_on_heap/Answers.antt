@@ -16,4 +16,5 @@ returns c =
     let xs = text_elements tree in
     let places = places_of_ends tree.refs in
     subst (λ (i : Interval ℕ). ShowsInterval tree 0 (settled_interval xs 0 (with_mapped_ends places i)) c.in_ok-held.held) c.get.ensures
-    (subst (λ (x : Interval Place). ShowsInterval tree 0 (settled_interval xs 0 (with_mapped_ends places c.get.result.now)) x) (sym c.in_ok-held.ensures) c.in_ok-interval.ensures)
+    (subst (λ (x : Interval Place). ShowsInterval tree 0 (settled_interval xs 0 (with_mapped_ends places c.get.result.now)) x) (sym c.in_ok-held.ensures)
+    c.in_ok-interval.ensures)

@@ -7,33 +7,45 @@ use Rattle.ft_interval_store.proofs.intervals.Intervals.put_held.Goals as goal
 pub index_mut-requires : goal.index_mut-requires
 index_mut-requires g c =
     let n = name_of c.args.held in
-    let place = ap (place_of_name n) c.self.view_is ∙ sym (ap (λ x. place_of_name (name_of x) c.args.self.now) c.get-interval.ensures) ∙ sym c.search.ensures ∙ c.in-Ok.is in
+    let place =
+    ap (place_of_name n) c.self.view_is ∙ sym (ap (λ x. place_of_name (name_of x) c.args.self.now) c.get-interval.ensures)
+    ∙ sym c.search.ensures ∙ c.in-Ok.is in
     omega (arith, found-in_range n c.in-Ok.i c.self.inside.items.items place)
 
 pub invariant_of-self : goal.invariant_of-self
 invariant_of-self g c =
-    let place = ap (place_of_name (name_of c.args.held)) c.self.view_is ∙ sym (ap (λ x. place_of_name (name_of x) c.args.self.now) c.get-interval.ensures) ∙ sym c.search.ensures ∙ c.in-Ok.is in
+    let place =
+    ap (place_of_name (name_of c.args.held)) c.self.view_is ∙ sym (ap (λ x. place_of_name (name_of x) c.args.self.now) c.get-interval.ensures)
+    ∙ sym c.search.ensures ∙ c.in-Ok.is in
     rw (← put-found c.args.held c.in-Ok.i c.self.inside.items.items place) (NamesRise-put c.args.held c.self.inside.items.items c.self.invariant)
 
 pub insert-requires : goal.insert-requires
 insert-requires g c =
     let n = name_of c.args.held in
-    let place = ap (place_of_name n) c.self.view_is ∙ sym (ap (λ x. place_of_name (name_of x) c.args.self.now) c.get-interval.ensures) ∙ sym c.search.ensures ∙ c.in-Err.is in
+    let place =
+    ap (place_of_name n) c.self.view_is ∙ sym (ap (λ x. place_of_name (name_of x) c.args.self.now) c.get-interval.ensures)
+    ∙ sym c.search.ensures ∙ c.in-Err.is in
     omega (arith, missing-in_range n c.in-Err.i c.self.inside.items.items place)
 
 pub invariant_of-self-in-Err : goal.invariant_of-self-in-Err
 invariant_of-self-in-Err g c =
-    let place = ap (place_of_name (name_of c.args.held)) c.self.view_is ∙ sym (ap (λ x. place_of_name (name_of x) c.args.self.now) c.get-interval.ensures) ∙ sym c.search.ensures ∙ c.in-Err.is in
+    let place =
+    ap (place_of_name (name_of c.args.held)) c.self.view_is ∙ sym (ap (λ x. place_of_name (name_of x) c.args.self.now) c.get-interval.ensures)
+    ∙ sym c.search.ensures ∙ c.in-Err.is in
     rw (c.in_ok-insert-in-Err.ensures.items, ← put-missing c.args.held c.in-Err.i c.self.inside.items.items place)
     (NamesRise-put c.args.held c.self.inside.items.items c.self.invariant)
 
 pub returns-in-Ok-clause-ok : goal.returns-in-Ok-clause-ok
 returns-in-Ok-clause-ok g c =
-    let place = ap (place_of_name (name_of c.args.held)) c.self.view_is ∙ sym (ap (λ x. place_of_name (name_of x) c.args.self.now) c.get-interval.ensures) ∙ sym c.search.ensures ∙ c.in-Ok.is in
+    let place =
+    ap (place_of_name (name_of c.args.held)) c.self.view_is ∙ sym (ap (λ x. place_of_name (name_of x) c.args.self.now) c.get-interval.ensures)
+    ∙ sym c.search.ensures ∙ c.in-Ok.is in
     sym (put-found c.args.held c.in-Ok.i c.self.inside.items.items place) ∙ ap (put_rising interval_cmp c.args.held) c.self.view_is
 
 pub returns-in_ok-insert-in-Err-clause-ok : goal.returns-in_ok-insert-in-Err-clause-ok
 returns-in_ok-insert-in-Err-clause-ok g c =
-    let place = ap (place_of_name (name_of c.args.held)) c.self.view_is ∙ sym (ap (λ x. place_of_name (name_of x) c.args.self.now) c.get-interval.ensures) ∙ sym c.search.ensures ∙ c.in-Err.is in
+    let place =
+    ap (place_of_name (name_of c.args.held)) c.self.view_is ∙ sym (ap (λ x. place_of_name (name_of x) c.args.self.now) c.get-interval.ensures)
+    ∙ sym c.search.ensures ∙ c.in-Err.is in
     c.in_ok-insert-in-Err.ensures.items ∙ sym (put-missing c.args.held c.in-Err.i c.self.inside.items.items place)
     ∙ ap (put_rising interval_cmp c.args.held) c.self.view_is
