@@ -1,6 +1,6 @@
 //! What blocks name, made again from their children.
 
-ghost use Rattle.std.specs.Prelude.{◌≡◌, ◌⊎◌, ℕ, ◌≤◌, ◌≤ℤ◌, Some, None, IsSome, length, map};
+ghost use Rattle.std.specs.Prelude.{◌≡◌, ◌⊎◌, ℕ, ◌≤◌, ◌≤ℤ◌, false, Some, None, IsSome, length, map};
 ghost use Rattle.ft_arena.specs.Forest.{IsForest, entry, block_value, kids_of, leaf_of_node, block_of_node};
 ghost use Rattle.ft_arena.specs.Ids.{times};
 ghost use Rattle.ft_shape.specs.Tree.{IsPartTree};
@@ -66,13 +66,13 @@ fn last_named<P: Places, G: Ledger>(
     last
 }
 
-// Has the block name the item that ends last.
+// Has the block name the item that ends last, and tells whether it named another one before.
 pub(crate) fn rename<P: Places, G: Ledger>(
     arena: &mut Arena<Item, Headed<Item>>,
     block: NodeId,
     at: &P,
     steps: &mut Steps<G>,
-)
+) -> bool
     requires block { IsSome (block_value arena.old block) }
     requires forest { IsForest arena.old }
     requires apart { times (kids_of arena.old block) block ≡ 0 }
@@ -82,16 +82,22 @@ pub(crate) fn rename<P: Places, G: Ledger>(
     ensures one { Retells NamesOne arena.old arena.new block }
     ensures last { Retells (NamesLast (P.place_of at.now)) arena.old arena.new block }
     ensures known { EndsKnown (P.Knows at.now) arena.new }
+    ensures same { result ≡ false → arena.new ≡ arena.old }
 {
     let Node::Block { kids, value } = arena.read(block, steps) else {
         unreachable!();
     };
     let height = value.height;
+    let before = value.sum;
     let sum = last_named(arena, kids, at, steps);
+    if sum == before {
+        return false;
+    }
     *arena.block_mut(block) = Headed { height, sum };
+    true
 }
 
-// From a block up, each may name another item than its children let it: names them anew.
+// From a block up, each may name another item than its children let it: names them anew, up to one that names what it did.
 pub(crate) fn rename_up<P: Places, G: Ledger>(
     arena: &mut Arena<Item, Headed<Item>>,
     _root: NodeId,
@@ -113,7 +119,9 @@ pub(crate) fn rename_up<P: Places, G: Ledger>(
 {
     let mut stale = stale;
     'up: while let Some(block) = stale {
-        rename(arena, block, at, steps);
+        if !rename(arena, block, at, steps) {
+            return;
+        }
         stale = arena.parent(block);
     }
 }
