@@ -24,19 +24,32 @@ fn named(node: &Node<Item, Headed<Item>>) -> Item
     }
 }
 
-// Which of the two ends behind the other; the first where both end at one place.
-fn later<P: Places>(x: Item, y: Item, at: &P) -> Item
-    requires x { P.Knows at.now x.end }
-    requires y { P.Knows at.now y.end }
-    ensures one { (result ≡ x) ⊎ (result ≡ y) }
-    ensures first { P.place_of at.now x.end ≤ℤ P.place_of at.now result.end }
-    ensures second { P.place_of at.now y.end ≤ℤ P.place_of at.now result.end }
+// An item, and the place of its end.
+#[derive(Clone, Copy)]
+struct Ending {
+    item: Item,
+    place: i64,
+}
+
+// The item with the place of its end.
+fn end_of<P: Places>(item: Item, at: &P) -> Ending
+    requires { P.Knows at.now item.end }
+    ensures item { result.item ≡ item }
+    ensures place { result.place ≡ P.place_of at.now item.end }
 {
-    if at.place(x.end) < at.place(y.end) {
-        y
-    } else {
-        x
+    Ending {
+        item,
+        place: at.place(item.end),
     }
+}
+
+// Which of the two ends behind the other; the first where both end at one place.
+fn later(x: Ending, y: Ending) -> Ending
+    ensures one { (result ≡ x) ⊎ (result ≡ y) }
+    ensures first { x.place ≤ℤ result.place }
+    ensures second { y.place ≤ℤ result.place }
+{
+    if x.place < y.place { y } else { x }
 }
 
 // Of the items that the children name, the one that ends last.
@@ -57,13 +70,13 @@ fn last_named<P: Places, G: Ledger>(
     let Some(first) = kids.get(0) else {
         unreachable!();
     };
-    let mut last = named(arena.read(first, steps));
+    let mut last = end_of(named(arena.read(first, steps)), at);
     let mut i = 1;
     while let Some(kid) = kids.get(i) {
-        last = later(last, named(arena.read(kid, steps)), at);
+        last = later(last, end_of(named(arena.read(kid, steps)), at));
         i += 1;
     }
-    last
+    last.item
 }
 
 // Has the block name the item that ends last, and tells whether it named another one before.
