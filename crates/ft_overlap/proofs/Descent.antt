@@ -1,12 +1,12 @@
 -- Down from the root to the place of a new item.
 use Rattle.std.proofs.Common.{◌≡◌, ℕ, zero, suc, ℤ, ◌+◌, ◌-◌, ◌≤◌, ◌≤ℤ◌, ◌<ℤ◌, List, [], ◌∷◌, ◌++◌, length, take, drop, slice_get, Some, None, IsSome, All, refl, sym, ap, subst, ◌∙◌, arith, append_assoc}
 use Rattle.std.proofs.lemmas.Int.{ints}
-use Rattle.std.proofs.lemmas.List.{append-nil, take-append-drop}
+use Rattle.std.proofs.lemmas.List.{append-nil, drop_all, take-append-drop}
 use Rattle.std.proofs.lemmas.List.Elements.{All-nil, All-cons, All-head, All-append, All-weaker}
 use Rattle.ft_arena.specs.Ids.{times}
 use Rattle.ft_arena.specs.Forest.{entry, kids_of, block_value, leaf_value}
 use Rattle.ft_shape.specs.Tree.{IsTree, height_of, below}
-use Rattle.ft_shape.proofs.Lists.{times_at, drop_at, drop_none}
+use Rattle.ft_shape.proofs.Lists.{times_at, drop_at}
 use Rattle.ft_shape.proofs.Levels.{below-append, steps_down, kid_parent, live_from_parent}
 use Rattle.ft_overlap.specs.declared.items.Item.{Item}
 use Rattle.ft_overlap.specs.Items.{IsRising}
@@ -94,22 +94,21 @@ module _ (s : Nodes) (root n : ℕ) (t : IsTree s root) (block : IsSome (block_v
     behind_first : (x : Item) (xs ys : List Item) → ys ≡ x ∷ xs → b <ℤ place x.start → IsBehind place b ys
     behind_first x xs ys e l = subst (IsBehind place b) (sym e) l
 
-    -- the first item of the child at i is behind
-    pub child_stops : (i kid next : ℕ) (x : Item) → slice_get kids i ≡ Some kid → IsStartedBy place b s kid → slice_get kids (i + 1) ≡ Some next → IsFirstBelow s next x
-        → b <ℤ place x.start → IsChildBy place b s n kids kid
-    child_stops i kid next x there first there' f l =
-        child_at_end i kid there first (behind_first x (f.rest ++ items_of s (below s down (drop (i + 1 + 1) kids))) (items_of s (below s down (drop (i + 1) kids)))
-        (d_rest (i + 1) next there' ∙ ap (λ (zs : List Item). zs ++ items_of s (below s down (drop (i + 1 + 1) kids))) f.items) l)
+    -- where the first item of the child at i is behind, what the children from there on have is
+    pub child_behind : (i kid : ℕ) (x : Item) → slice_get kids i ≡ Some kid → IsFirstBelow s kid x → b <ℤ place x.start → IsBehind place b (items_of s (below s down (drop i kids)))
+    child_behind i kid x there f l =
+        behind_first x (f.rest ++ items_of s (below s down (drop (i + 1) kids))) (items_of s (below s down (drop i kids)))
+        (d_rest i kid there ∙ ap (λ (zs : List Item). zs ++ items_of s (below s down (drop (i + 1) kids))) f.items) l
 
     none_below : (h : ℕ) → below s h [] ≡ []
     none_below zero = refl
     none_below (suc h) = none_below h
 
-    -- there is no child behind
-    pub child_last : (i kid : ℕ) → slice_get kids i ≡ Some kid → IsStartedBy place b s kid → slice_get kids (i + 1) ≡ None → IsChildBy place b s n kids kid
-    child_last i kid there first none =
-        child_at_end i kid there first (subst (λ (zs : List Item). IsBehind place b zs) (sym (ap (λ ks. items_of s (below s down ks)) (drop_none kids (i + 1) none)
-        ∙ ap (items_of s) (none_below down))) tt)
+    -- there is no child behind the last
+    pub none_behind : IsBehind place b (items_of s (below s down (drop (length kids) kids)))
+    none_behind =
+        subst (λ (zs : List Item). IsBehind place b zs) (sym (ap (λ ks. items_of s (below s down ks)) (drop_all (length kids) kids (omega arith))
+        ∙ ap (items_of s) (none_below down))) tt
 
     behind-append : (xs ys : List Item) → IsBehind place b xs → IsBehind place b ys → IsBehind place b (xs ++ ys)
     behind-append [] ys h k = k

@@ -44,65 +44,66 @@ fn first_below<G: Ledger>(
     }
 }
 
-// Of the children of a block whose first item isn't behind this one, the last of which that holds.
+// Of the children of a block whose first item starts by a place, the last of which that holds: by halves.
 fn child_by<P: Places, G: Ledger>(
     arena: &Arena<Item, Headed<Item>>,
     _root: NodeId,
     _block: NodeId,
     kids: &Kids,
-    item: &Item,
+    start: i64,
     at: &P,
     steps: &mut Steps<G>,
 ) -> NodeId
     requires tree { IsTree arena.now _root }
     requires block { IsSome (block_value arena.now _block) }
     requires kids { kids_of arena.now _block ≡ kids.now }
-    requires first { IsStartedBy (P.place_of at.now) (P.place_of at.now item.now.start) arena.now _block }
-    requires start { P.Knows at.now item.now.start }
+    requires first { IsStartedBy (P.place_of at.now) start arena.now _block }
     requires known { (id : ℕ) (x : Item) → leaf_value arena.now id ≡ Some x → P.Knows at.now x.start }
-    ensures { IsChildBy (P.place_of at.now) (P.place_of at.now item.now.start) arena.now _block kids.now result }
+    ensures { IsChildBy (P.place_of at.now) start arena.now _block kids.now result }
 {
-    // That they are at most eight is read off its contract.
-    let _few = kids.len();
     let Some(first) = kids.get(0) else {
         unreachable!();
     };
     let _ = first_below(arena, _root, first, steps);
     let mut child = first;
-    let mut i = 1;
-    while let Some(kid) = kids.get(i) {
-        let here = first_below(arena, _root, kid, steps);
-        if at.place(here.start) > at.place(item.start) {
-            return child;
+    let mut low = 0;
+    let mut high = kids.len();
+    'halves: while low + 1 < high {
+        let middle = low + (high - low) / 2;
+        let Some(kid) = kids.get(middle) else {
+            unreachable!();
+        };
+        if at.place(first_below(arena, _root, kid, steps).start) > start {
+            high = middle;
+        } else {
+            child = kid;
+            low = middle;
         }
-        child = kid;
-        i += 1;
     }
     child
 }
 
-// The last leaf below a node before the first item that starts behind this one.
+// The last leaf below a node before the first item that starts behind a place.
 fn place_below<P: Places, G: Ledger>(
     arena: &Arena<Item, Headed<Item>>,
     _root: NodeId,
     node: NodeId,
-    item: &Item,
+    start: i64,
     at: &P,
     steps: &mut Steps<G>,
 ) -> NodeId
     requires tree { IsTree arena.now _root }
     requires live { IsSome (entry arena.now node) }
-    requires reached { IsReached (P.place_of at.now) (P.place_of at.now item.now.start) arena.now node }
+    requires reached { IsReached (P.place_of at.now) start arena.now node }
     requires rising { IsRising (P.place_of at.now) (items_of arena.now arena.now.leaves) }
-    requires start { P.Knows at.now item.now.start }
     requires known { (id : ℕ) (x : Item) → leaf_value arena.now id ≡ Some x → P.Knows at.now x.start }
-    ensures { IsPlaceFor (P.place_of at.now) (P.place_of at.now item.now.start) arena.now (Some result) }
+    ensures { IsPlaceFor (P.place_of at.now) start arena.now (Some result) }
 {
     match arena.read(node, steps) {
         Node::Leaf { .. } => node,
         Node::Block { kids, .. } => {
-            let child = child_by(arena, _root, node, kids, item, at, steps);
-            place_below(arena, _root, child, item, at, steps)
+            let child = child_by(arena, _root, node, kids, start, at, steps);
+            place_below(arena, _root, child, start, at, steps)
         }
     }
 }
@@ -122,10 +123,11 @@ pub(crate) fn place_for<P: Places, G: Ledger>(
     ensures { IsPlaceFor (P.place_of at.now) (P.place_of at.now item.now.start) arena.now result }
 {
     let first = first_below(arena, root, root, steps);
-    if at.place(first.start) > at.place(item.start) {
+    let start = at.place(item.start);
+    if at.place(first.start) > start {
         return None;
     }
-    Some(place_below(arena, root, root, item, at, steps))
+    Some(place_below(arena, root, root, start, at, steps))
 }
 
 // The first leaf whose item has this key, if there is one.

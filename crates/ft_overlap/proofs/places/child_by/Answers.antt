@@ -1,90 +1,120 @@
-use Rattle.std.proofs.Common.{◌≡◌, ◌<ℤ◌, ◌≤ℤ◌, ◌+◌, ◌-◌, ℤ, Some, length, slice_get, sym, ap, subst, ◌∙◌, arith}
-use Rattle.std.proofs.lemmas.Int.{ints}
-use Rattle.std.proofs.lemmas.Option.{slice_get_within}
+use Rattle.std.proofs.Common.{◌≡◌, ◌<ℤ◌, ◌≤ℤ◌, ◌+◌, ◌-◌, ◌/◌, ℕ, ℤ, Some, drop, length, slice_get, sym, ap, subst, ◌∙◌, arith, to_z, of_z, w64}
+use Rattle.std.proofs.lemmas.Int.{ints, to_z-of_z}
+use Rattle.std.proofs.lemmas.List.{length-drop}
+use Rattle.ft_shape.specs.Tree.{height_of, below}
 use Rattle.ft_shape.proofs.Lists.{drop_none}
-use Rattle.ft_overlap.proofs.Descent.{d_filled, d_kid_live, down_first, child_stops, child_last}
+use Rattle.ft_overlap.specs.Inside.{IsBehind, items_of}
+use Rattle.ft_overlap.specs.Search.{IsStartedBy, IsChildBy}
+use Rattle.ft_overlap.proofs.Descent.{d_filled, d_kid_live, down_first, child_behind, none_behind, child_at_end}
 use Rattle.ft_overlap.proofs.places.child_by.Goals as goal
 
 pub unreachable-requires : goal.unreachable-requires
 unreachable-requires g c =
     let s = c.args.arena.now in
     let n = c.args._block in
-    let place = g.P.Places.place_of c.args.at.now in
-    let b = place c.args.item.now.start in
     omega (arith, d_filled s c.args._root n c.requires.tree c.requires.block c.args.kids.now c.requires.kids, ap length (drop_none c.args.kids.now 0 (sym c.get.ensures ∙ c.in_default.is)))
-
-pub loop-kid-init : goal.loop-kid-init
-loop-kid-init g c =
-    let s = c.args.arena.now in
-    let n = c.args._block in
-    let place = g.P.Places.place_of c.args.at.now in
-    let b = place c.args.item.now.start in
-    let there : slice_get c.args.kids.now 0 ≡ Some c.in-Some.first = sym c.get.ensures ∙ c.in-Some.is in
-    record {
-      few = omega (arith, c.len-few.ensures.value, c.len-few.ensures.few);
-      some = omega arith;
-      inside = d_filled s c.args._root n c.requires.tree c.requires.block c.args.kids.now c.requires.kids;
-      there = there;
-      first = down_first s c.args._root n c.requires.tree c.requires.block c.args.kids.now c.requires.kids place b c.in-Some.first c.first_below.result there c.first_below.ensures c.requires.first;
-    }
 
 pub first_below-requires-clause-live : goal.first_below-requires-clause-live
 first_below-requires-clause-live g c =
-    let s = c.args.arena.now in
-    let n = c.args._block in
-    d_kid_live s c.args._root n c.requires.tree c.requires.block c.args.kids.now c.requires.kids 0 c.in-Some.first (sym c.get.ensures ∙ c.in-Some.is)
+    d_kid_live c.args.arena.now c.args._root c.args._block c.requires.tree c.requires.block c.args.kids.now c.requires.kids 0 c.in-Some.first (sym c.get.ensures ∙ c.in-Some.is)
 
-pub first_below-here-requires-clause-live : goal.first_below-here-requires-clause-live
-first_below-here-requires-clause-live g c =
+pub halves-init : goal.halves-init
+halves-init g c =
     let s = c.args.arena.now in
     let n = c.args._block in
+    let kids = c.args.kids.now in
     let place = g.P.Places.place_of c.args.at.now in
-    let b = place c.args.item.now.start in
-    d_kid_live s c.args._root n c.requires.tree c.requires.block c.args.kids.now c.requires.kids c.loop-kid.i c.in-Some-get.kid (sym c.get-in-loop-kid.ensures ∙ c.in-Some-get.is)
-
-pub returns-then-place : goal.returns-then-place
-returns-then-place g c =
-    let s = c.args.arena.now in
-    let n = c.args._block in
-    let place = g.P.Places.place_of c.args.at.now in
-    let b = place c.args.item.now.start in
-    let there : slice_get c.args.kids.now c.loop-kid.i ≡ Some c.in-Some-get.kid = sym c.get-in-loop-kid.ensures ∙ c.in-Some-get.is in
-    let back : c.loop-kid.i - 1 + 1 ≡ c.loop-kid.i = omega (arith, c.loop-kid.invariant.some) in
-    child_stops s c.args._root n c.requires.tree c.requires.block c.args.kids.now c.requires.kids place b (c.loop-kid.i - 1) c.loop-kid.child c.in-Some-get.kid c.first_below-here.result c.loop-kid.invariant.there c.loop-kid.invariant.first
-    (ap (slice_get c.args.kids.now) back ∙ there) c.first_below-here.ensures
-    (subst (λ (z : ℤ). b <ℤ z) c.place.ensures (subst (λ (z : ℤ). z <ℤ c.place.result) c.place-in-Some-get.ensures (omega (arith, ints))))
-
-pub loop-kid-smaller : goal.loop-kid-smaller
-loop-kid-smaller g c = let w = slice_get_within c.args.kids.now c.loop-kid.i c.in-Some-get.kid (sym c.get-in-loop-kid.ensures ∙ c.in-Some-get.is) in omega (arith, w)
-
-pub loop-kid-preserved : goal.loop-kid-preserved
-loop-kid-preserved g c =
-    let s = c.args.arena.now in
-    let n = c.args._block in
-    let place = g.P.Places.place_of c.args.at.now in
-    let b = place c.args.item.now.start in
-    let there : slice_get c.args.kids.now c.loop-kid.i ≡ Some c.in-Some-get.kid = sym c.get-in-loop-kid.ensures ∙ c.in-Some-get.is in
-    let f = c.first_below-here.ensures in
-    let here : c.loop-kid.i + 1 - 1 ≡ c.loop-kid.i = omega arith in
+    let b = to_z w64 (of_z w64 c.args.start) in
+    let is : b ≡ c.args.start = to_z-of_z w64 c.args.start c.ranges.start in
+    let there : slice_get kids 0 ≡ Some c.in-Some.first = sym c.get.ensures ∙ c.in-Some.is in
     record {
-      few = c.loop-kid.invariant.few;
-      some = omega arith;
-      inside = omega (arith, slice_get_within c.args.kids.now c.loop-kid.i c.in-Some-get.kid there);
-      there = ap (slice_get c.args.kids.now) here ∙ there;
+      few = omega (arith, c.len-high.ensures.value, c.len-high.ensures.few);
+      order = omega (arith, c.len-high.ensures.value, d_filled s c.args._root n c.requires.tree c.requires.block kids c.requires.kids);
+      inside = omega (arith, c.len-high.ensures.value);
+      there = there;
+      first = down_first s c.args._root n c.requires.tree c.requires.block kids c.requires.kids place b c.in-Some.first c.first_below.result there c.first_below.ensures
+          (subst (λ (z : ℤ). IsStartedBy place z s n) (sym is) c.requires.first);
+      behind = subst (λ (k : ℕ). IsBehind place b (items_of s (below s (height_of s n - 1) (drop k kids)))) (sym c.len-high.ensures.value)
+          (none_behind s c.args._root n c.requires.tree c.requires.block kids c.requires.kids place b);
+    }
+
+pub overflow_add-low : goal.overflow_add-low
+overflow_add-low g c = omega (arith, c.halves.invariant.few, c.halves.invariant.order, c.halves.invariant.inside)
+
+pub unreachable-requires-in_default-get : goal.unreachable-requires-in_default-get
+unreachable-requires-in_default-get g c =
+    let middle = c.halves.low + (c.halves.high - c.halves.low) / 2 in
+    omega (
+      arith,
+      c.halves.invariant.order,
+      c.halves.invariant.inside,
+      length-drop middle c.args.kids.now,
+      ap length (drop_none c.args.kids.now middle (sym c.get-in-halves.ensures ∙ c.in_default-get.is)),
+    )
+
+pub first_below-requires-in-halves-clause-live : goal.first_below-requires-in-halves-clause-live
+first_below-requires-in-halves-clause-live g c =
+    let middle = c.halves.low + (c.halves.high - c.halves.low) / 2 in
+    d_kid_live c.args.arena.now c.args._root c.args._block c.requires.tree c.requires.block c.args.kids.now c.requires.kids middle c.in-Some-get.kid
+    (sym c.get-in-halves.ensures ∙ c.in-Some-get.is)
+
+pub halves-smaller : goal.halves-smaller
+halves-smaller g c = omega (arith, c.halves.invariant.order)
+
+pub halves-smaller-then-place-start : goal.halves-smaller-then-place-start
+halves-smaller-then-place-start g c = omega (arith, c.halves.invariant.order)
+
+pub halves-preserved-then-place-start : goal.halves-preserved-then-place-start
+halves-preserved-then-place-start g c =
+    let s = c.args.arena.now in
+    let kids = c.args.kids.now in
+    let place = g.P.Places.place_of c.args.at.now in
+    let b = to_z w64 (of_z w64 c.args.start) in
+    let is : b ≡ c.args.start = to_z-of_z w64 c.args.start c.ranges.start in
+    let middle = c.halves.low + (c.halves.high - c.halves.low) / 2 in
+    let there : slice_get kids middle ≡ Some c.in-Some-get.kid = sym c.get-in-halves.ensures ∙ c.in-Some-get.is in
+    let less : c.args.start <ℤ c.place.result = omega (arith, ints) in
+    let behind : b <ℤ place c.first_below-in-halves.result.start = subst (λ (z : ℤ). z <ℤ place c.first_below-in-halves.result.start) (sym is) (subst (λ (z : ℤ). c.args.start <ℤ z) c.place.ensures less) in
+    record {
+      few = c.halves.invariant.few;
+      order = omega (arith, c.halves.invariant.order);
+      inside = omega (arith, c.halves.invariant.order, c.halves.invariant.inside);
+      there = c.halves.invariant.there;
+      first = c.halves.invariant.first;
+      behind = child_behind s c.args._root c.args._block c.requires.tree c.requires.block kids c.requires.kids place b middle c.in-Some-get.kid c.first_below-in-halves.result
+          there c.first_below-in-halves.ensures behind;
+    }
+
+pub halves-preserved : goal.halves-preserved
+halves-preserved g c =
+    let place = g.P.Places.place_of c.args.at.now in
+    let b = to_z w64 (of_z w64 c.args.start) in
+    let is : b ≡ c.args.start = to_z-of_z w64 c.args.start c.ranges.start in
+    let f = c.first_below-in-halves.ensures in
+    let low : c.place.result ≤ℤ c.args.start = omega (arith, ints) in
+    record {
+      few = c.halves.invariant.few;
+      order = omega (arith, c.halves.invariant.order);
+      inside = c.halves.invariant.inside;
+      there = sym c.get-in-halves.ensures ∙ c.in-Some-get.is;
       first = record {
-        item = c.first_below-here.result;
+        item = c.first_below-in-halves.result;
         rest = f.rest;
         items = f.items;
-        by = subst (λ (z : ℤ). z ≤ℤ b) c.place.ensures (subst (λ (z : ℤ). c.place.result ≤ℤ z) c.place-in-Some-get.ensures (omega (arith, ints)));
+        by = subst (λ (z : ℤ). z ≤ℤ b) c.place.ensures (subst (λ (z : ℤ). c.place.result ≤ℤ z) (sym is) low);
       };
+      behind = c.halves.invariant.behind;
     }
 
 pub returns : goal.returns
 returns g c =
     let s = c.args.arena.now in
     let n = c.args._block in
+    let kids = c.args.kids.now in
     let place = g.P.Places.place_of c.args.at.now in
-    let b = place c.args.item.now.start in
-    let back : c.loop-kid.i - 1 + 1 ≡ c.loop-kid.i = omega (arith, c.loop-kid.invariant.some) in
-    child_last s c.args._root n c.requires.tree c.requires.block c.args.kids.now c.requires.kids place b (c.loop-kid.i - 1) c.loop-kid.child c.loop-kid.invariant.there c.loop-kid.invariant.first
-    (ap (slice_get c.args.kids.now) back ∙ sym c.get-in-loop-kid.ensures ∙ c.in_default-get.is)
+    let b = to_z w64 (of_z w64 c.args.start) in
+    let is : b ≡ c.args.start = to_z-of_z w64 c.args.start c.ranges.start in
+    let last : c.halves.high ≡ c.halves.low + 1 = omega (arith, c.halves.invariant.order) in
+    subst (λ (z : ℤ). IsChildBy place z s n kids c.halves.child) is
+    (child_at_end s c.args._root n c.requires.tree c.requires.block kids c.requires.kids place b c.halves.low c.halves.child c.halves.invariant.there c.halves.invariant.first
+    (subst (λ (k : ℕ). IsBehind place b (items_of s (below s (height_of s n - 1) (drop k kids)))) last c.halves.invariant.behind))
