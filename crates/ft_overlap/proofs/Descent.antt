@@ -1,13 +1,16 @@
 -- Down from the root to the place of a new item.
-use Rattle.std.proofs.Common.{◌≡◌, ℕ, zero, suc, ℤ, ◌+◌, ◌-◌, ◌≤◌, ◌≤ℤ◌, ◌<ℤ◌, List, [], ◌∷◌, ◌++◌, length, take, drop, slice_get, Some, None, IsSome, All, refl, sym, ap, subst, ◌∙◌, arith, append_assoc}
+use Rattle.std.proofs.Common.{◌≡◌, ℕ, zero, suc, ℤ, ◌+◌, ◌-◌, ◌≤◌, ◌≤ℤ◌, ◌<ℤ◌, List, [], ◌∷◌, ◌++◌, length, take, drop, slice_get, Option, Some, None, IsSome, All, refl, sym, ap, subst, ◌∙◌, arith, append_assoc}
 use Rattle.std.proofs.lemmas.Int.{ints}
 use Rattle.std.proofs.lemmas.List.{append-nil, drop_all, take-append-drop}
 use Rattle.std.proofs.lemmas.List.Elements.{All-nil, All-cons, All-head, All-append, All-weaker}
 use Rattle.ft_arena.specs.Ids.{times}
-use Rattle.ft_arena.specs.Forest.{entry, kids_of, block_value, leaf_value}
+use Rattle.ft_arena.specs.Forest.{Entry, entry, kids_of, block_value, block_of_entry, block_of_node, leaf_value, leaf_of_entry, leaf_of_node}
+use Rattle.ft_arena.specs.declared.nodes.Node.{Node}
+use Rattle.ft_arena.specs.declared.nodes.Node.TheVariants.{Leaf, Block}
+use Rattle.ft_shape.specs.declared.headed.Headed.{Headed}
 use Rattle.ft_shape.specs.Tree.{IsTree, height_of, below}
 use Rattle.ft_shape.proofs.Lists.{times_at, drop_at}
-use Rattle.ft_shape.proofs.Levels.{below-append, steps_down, kid_parent, live_from_parent}
+use Rattle.ft_shape.proofs.Levels.{below-append, block_from_height, steps_down, kid_parent, live_from_parent}
 use Rattle.ft_overlap.specs.declared.items.Item.{Item}
 use Rattle.ft_overlap.specs.Items.{IsRising}
 use Rattle.ft_overlap.specs.Inside.{Nodes, item_of, items_of, items_under, items_below, IsBehind, IsPlaceFor}
@@ -95,7 +98,8 @@ module _ (s : Nodes) (root n : ℕ) (t : IsTree s root) (block : IsSome (block_v
     behind_first x xs ys e l = subst (IsBehind place b) (sym e) l
 
     -- where the first item of the child at i is behind, what the children from there on have is
-    pub child_behind : (i kid : ℕ) (x : Item) → slice_get kids i ≡ Some kid → IsFirstBelow s kid x → b <ℤ place x.start → IsBehind place b (items_of s (below s down (drop i kids)))
+    pub child_behind : (i kid : ℕ) (x : Item) → slice_get kids i ≡ Some kid → IsFirstBelow s kid x → b <ℤ place x.start
+        → IsBehind place b (items_of s (below s down (drop i kids)))
     child_behind i kid x there f l =
         behind_first x (f.rest ++ items_of s (below s down (drop (i + 1) kids))) (items_of s (below s down (drop i kids)))
         (d_rest i kid there ∙ ap (λ (zs : List Item). zs ++ items_of s (below s down (drop (i + 1) kids))) f.items) l
@@ -133,6 +137,33 @@ module _ (s : Nodes) (root n : ℕ) (t : IsTree s root) (block : IsSome (block_v
               (behind-append (items_of s (below s down c.back)) (items_of s r.right) c.behind r.behind);
           first = c.first;
         }
+
+-- a node that is no block is a leaf
+leaf_else : (o : Option (Entry Item (Headed Item))) → IsSome o → (IsSome (block_of_entry o) → ⊥) → (v : Item) × (leaf_of_entry o ≡ Some v)
+leaf_else None live n = cc
+leaf_else (Some e) live n = of_node e.node n
+  where
+    of_node : (n : Node Item (Headed Item)) → (IsSome (block_of_node n) → ⊥) → (v : Item) × (leaf_of_node n ≡ Some v)
+    of_node (Leaf v) h = (v, refl)
+    of_node (Block ks v) h = absurd (h refl)
+
+first_there : (xs : List ℕ) → 1 ≤ length xs → (x : ℕ) × (slice_get xs 0 ≡ Some x)
+first_there [] h = absurd (omega arith)
+first_there (x ∷ xs) h = (x, refl)
+
+module _ (s : Nodes) (root : ℕ) (t : IsTree s root) where
+  -- a node that is there has a first item below it
+  pub first_below_node : (h x : ℕ) → height_of s x ≡ h → IsSome (entry s x) → (v : Item) × IsFirstBelow s x v
+  first_below_node zero x q live =
+      let none : IsSome (block_value s x) → ⊥ = (λ b. absurd (omega (arith, q, t.shape.high x b))) in
+      let leaf : (v : Item) × (leaf_value s x ≡ Some v) = leaf_else (entry s x) live none in
+      (leaf.0, leaf_first s x leaf.0 leaf.1 q)
+  first_below_node (suc h) x q live =
+      let block : IsSome (block_value s x) = block_from_height (entry s x) (omega (arith, q)) in
+      let first = first_there (kids_of s x) (d_filled s root x t block (kids_of s x) refl) in
+      let high : height_of s first.0 ≡ h = omega (arith, q, d_kid_high s root x t block (kids_of s x) refl 0 first.0 first.1) in
+      let below = first_below_node h first.0 high (d_kid_live s root x t block (kids_of s x) refl 0 first.0 first.1) in
+      (below.0, up_first s root x t block (kids_of s x) refl first.0 below.0 first.1 below.1)
 
 -- what stands before an item of a rising list starts by it
 before_item : (place : ℕ → ℤ) (xs : List Item) (y : Item) (ys : List Item) → IsRising place (xs ++ y ∷ ys) → All (λ x. place x.start ≤ℤ place y.start) xs

@@ -64,7 +64,6 @@ fn child_by<P: Places, G: Ledger>(
     let Some(first) = kids.get(0) else {
         unreachable!();
     };
-    let _ = first_below(arena, _root, first, steps);
     let mut child = first;
     let mut low = 0;
     let mut high = kids.len();

@@ -30,7 +30,9 @@ child_by-child-requires-clause-kids g t c = ap kids_of_entry c.read.ensures.node
 
 pub child_by-child-requires-clause-first : goal.child_by-child-requires-clause-first
 child_by-child-requires-clause-first g t c =
-    subst (λ (z : ℤ). IsStartedBy (g.P.Places.place_of c.args.at.now) z c.args.arena.now c.args.node) (sym (to_z-of_z w64 c.args.start c.ranges.start)) c.requires.reached.first
+    let place = g.P.Places.place_of c.args.at.now in
+    let is = to_z-of_z w64 c.args.start c.ranges.start in
+    subst (λ (z : ℤ). IsStartedBy place z c.args.arena.now c.args.node) (sym is) c.requires.reached.first
 
 pub place_below-requires : goal.place_below-requires
 place_below-requires g t c =
@@ -48,11 +50,14 @@ place_below-requires g t c =
     let live : IsSome (entry s c.child_by-child.result) =
     d_cut_live s c.args._root n c.requires.tree block c.in-Block.kids kids c.child_by-child.ensures.front c.child_by-child.result c.child_by-child.ensures.back cut in
     let b = to_z w64 (of_z w64 c.args.start) in
-    let here : IsReached place b s n = subst (λ (z : ℤ). IsReached place z s n) (sym (to_z-of_z w64 c.args.start c.ranges.start)) c.requires.reached in
+    let is : b ≡ c.args.start = to_z-of_z w64 c.args.start c.ranges.start in
+    let here : IsReached place b s n = subst (λ (z : ℤ). IsReached place z s n) (sym is) c.requires.reached in
     let reached : IsReached place b s c.child_by-child.result =
     reach_child s c.args._root n c.requires.tree block c.in-Block.kids kids place b c.child_by-child.result here c.child_by-child.ensures kid_high in
     search rules
 
 pub returns-in-Block : goal.returns-in-Block
 returns-in-Block g t c =
-    subst (λ (z : ℤ). IsPlaceFor (g.P.Places.place_of c.args.at.now) z c.args.arena.now (Some c.place_below.result)) (to_z-of_z w64 c.args.start c.ranges.start) c.place_below.ensures
+    let place = g.P.Places.place_of c.args.at.now in
+    let is = to_z-of_z w64 c.args.start c.ranges.start in
+    subst (λ (z : ℤ). IsPlaceFor place z c.args.arena.now (Some c.place_below.result)) is c.place_below.ensures

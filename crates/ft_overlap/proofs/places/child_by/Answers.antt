@@ -1,11 +1,11 @@
-use Rattle.std.proofs.Common.{◌≡◌, ◌<ℤ◌, ◌≤ℤ◌, ◌+◌, ◌-◌, ◌/◌, ℕ, ℤ, Some, drop, length, slice_get, sym, ap, subst, ◌∙◌, arith, to_z, of_z, w64}
+use Rattle.std.proofs.Common.{◌≡◌, ◌<ℤ◌, ◌≤ℤ◌, ◌+◌, ◌-◌, ◌/◌, ℕ, ℤ, Some, drop, length, refl, slice_get, sym, ap, subst, ◌∙◌, arith, to_z, of_z, w64}
 use Rattle.std.proofs.lemmas.Int.{ints, to_z-of_z}
 use Rattle.std.proofs.lemmas.List.{length-drop}
 use Rattle.ft_shape.specs.Tree.{height_of, below}
 use Rattle.ft_shape.proofs.Lists.{drop_none}
 use Rattle.ft_overlap.specs.Inside.{IsBehind, items_of}
 use Rattle.ft_overlap.specs.Search.{IsStartedBy, IsChildBy}
-use Rattle.ft_overlap.proofs.Descent.{d_filled, d_kid_live, down_first, child_behind, none_behind, child_at_end}
+use Rattle.ft_overlap.proofs.Descent.{d_filled, d_kid_live, first_below_node, down_first, child_behind, none_behind, child_at_end}
 use Rattle.ft_overlap.proofs.places.child_by.Goals as goal
 
 pub unreachable-requires : goal.unreachable-requires
@@ -13,10 +13,6 @@ unreachable-requires g c =
     let s = c.args.arena.now in
     let n = c.args._block in
     omega (arith, d_filled s c.args._root n c.requires.tree c.requires.block c.args.kids.now c.requires.kids, ap length (drop_none c.args.kids.now 0 (sym c.get.ensures ∙ c.in_default.is)))
-
-pub first_below-requires-clause-live : goal.first_below-requires-clause-live
-first_below-requires-clause-live g c =
-    d_kid_live c.args.arena.now c.args._root c.args._block c.requires.tree c.requires.block c.args.kids.now c.requires.kids 0 c.in-Some.first (sym c.get.ensures ∙ c.in-Some.is)
 
 pub halves-init : goal.halves-init
 halves-init g c =
@@ -27,12 +23,14 @@ halves-init g c =
     let b = to_z w64 (of_z w64 c.args.start) in
     let is : b ≡ c.args.start = to_z-of_z w64 c.args.start c.ranges.start in
     let there : slice_get kids 0 ≡ Some c.in-Some.first = sym c.get.ensures ∙ c.in-Some.is in
+    let live = d_kid_live s c.args._root n c.requires.tree c.requires.block kids c.requires.kids 0 c.in-Some.first there in
+    let head = first_below_node s c.args._root c.requires.tree (height_of s c.in-Some.first) c.in-Some.first refl live in
     record {
       few = omega (arith, c.len-high.ensures.value, c.len-high.ensures.few);
       order = omega (arith, c.len-high.ensures.value, d_filled s c.args._root n c.requires.tree c.requires.block kids c.requires.kids);
       inside = omega (arith, c.len-high.ensures.value);
       there = there;
-      first = down_first s c.args._root n c.requires.tree c.requires.block kids c.requires.kids place b c.in-Some.first c.first_below.result there c.first_below.ensures
+      first = down_first s c.args._root n c.requires.tree c.requires.block kids c.requires.kids place b c.in-Some.first head.0 there head.1
           (subst (λ (z : ℤ). IsStartedBy place z s n) (sym is) c.requires.first);
       behind = subst (λ (k : ℕ). IsBehind place b (items_of s (below s (height_of s n - 1) (drop k kids)))) (sym c.len-high.ensures.value)
           (none_behind s c.args._root n c.requires.tree c.requires.block kids c.requires.kids place b);
@@ -52,8 +50,8 @@ unreachable-requires-in_default-get g c =
       ap length (drop_none c.args.kids.now middle (sym c.get-in-halves.ensures ∙ c.in_default-get.is)),
     )
 
-pub first_below-requires-in-halves-clause-live : goal.first_below-requires-in-halves-clause-live
-first_below-requires-in-halves-clause-live g c =
+pub first_below-requires-clause-live : goal.first_below-requires-clause-live
+first_below-requires-clause-live g c =
     let middle = c.halves.low + (c.halves.high - c.halves.low) / 2 in
     d_kid_live c.args.arena.now c.args._root c.args._block c.requires.tree c.requires.block c.args.kids.now c.requires.kids middle c.in-Some-get.kid
     (sym c.get-in-halves.ensures ∙ c.in-Some-get.is)
@@ -74,15 +72,16 @@ halves-preserved-then-place-start g c =
     let middle = c.halves.low + (c.halves.high - c.halves.low) / 2 in
     let there : slice_get kids middle ≡ Some c.in-Some-get.kid = sym c.get-in-halves.ensures ∙ c.in-Some-get.is in
     let less : c.args.start <ℤ c.place.result = omega (arith, ints) in
-    let behind : b <ℤ place c.first_below-in-halves.result.start = subst (λ (z : ℤ). z <ℤ place c.first_below-in-halves.result.start) (sym is) (subst (λ (z : ℤ). c.args.start <ℤ z) c.place.ensures less) in
+    let behind : b <ℤ place c.first_below.result.start =
+    subst (λ (z : ℤ). z <ℤ place c.first_below.result.start) (sym is) (subst (λ (z : ℤ). c.args.start <ℤ z) c.place.ensures less) in
     record {
       few = c.halves.invariant.few;
       order = omega (arith, c.halves.invariant.order);
       inside = omega (arith, c.halves.invariant.order, c.halves.invariant.inside);
       there = c.halves.invariant.there;
       first = c.halves.invariant.first;
-      behind = child_behind s c.args._root c.args._block c.requires.tree c.requires.block kids c.requires.kids place b middle c.in-Some-get.kid c.first_below-in-halves.result
-          there c.first_below-in-halves.ensures behind;
+      behind = child_behind s c.args._root c.args._block c.requires.tree c.requires.block kids c.requires.kids place b middle c.in-Some-get.kid
+          c.first_below.result there c.first_below.ensures behind;
     }
 
 pub halves-preserved : goal.halves-preserved
@@ -90,7 +89,7 @@ halves-preserved g c =
     let place = g.P.Places.place_of c.args.at.now in
     let b = to_z w64 (of_z w64 c.args.start) in
     let is : b ≡ c.args.start = to_z-of_z w64 c.args.start c.ranges.start in
-    let f = c.first_below-in-halves.ensures in
+    let f = c.first_below.ensures in
     let low : c.place.result ≤ℤ c.args.start = omega (arith, ints) in
     record {
       few = c.halves.invariant.few;
@@ -98,7 +97,7 @@ halves-preserved g c =
       inside = c.halves.invariant.inside;
       there = sym c.get-in-halves.ensures ∙ c.in-Some-get.is;
       first = record {
-        item = c.first_below-in-halves.result;
+        item = c.first_below.result;
         rest = f.rest;
         items = f.items;
         by = subst (λ (z : ℤ). z ≤ℤ b) c.place.ensures (subst (λ (z : ℤ). c.place.result ≤ℤ z) (sym is) low);
@@ -116,5 +115,6 @@ returns g c =
     let is : b ≡ c.args.start = to_z-of_z w64 c.args.start c.ranges.start in
     let last : c.halves.high ≡ c.halves.low + 1 = omega (arith, c.halves.invariant.order) in
     subst (λ (z : ℤ). IsChildBy place z s n kids c.halves.child) is
-    (child_at_end s c.args._root n c.requires.tree c.requires.block kids c.requires.kids place b c.halves.low c.halves.child c.halves.invariant.there c.halves.invariant.first
+    (child_at_end s c.args._root n c.requires.tree c.requires.block kids c.requires.kids place b c.halves.low c.halves.child
+    c.halves.invariant.there c.halves.invariant.first
     (subst (λ (k : ℕ). IsBehind place b (items_of s (below s (height_of s n - 1) (drop k kids)))) last c.halves.invariant.behind))

@@ -12,7 +12,8 @@ invariant-halves g l =
       inside : l.high ≤ length l.kids;
       there : slice_get l.kids l.low ≡ Some l.child;
       first : IsStartedBy (g.P.Places.place_of l.at) l.start l.arena l.child;
-      behind : IsBehind (g.P.Places.place_of l.at) l.start (items_of l.arena (below l.arena (height_of l.arena l.fn._block - 1) (drop l.high l.kids)));
+      behind : IsBehind (g.P.Places.place_of l.at) l.start
+          (items_of l.arena (below l.arena (height_of l.arena l.fn._block - 1) (drop l.high l.kids)));
     }
 
 abbrev pub decreases-halves : goal.decreases-halves

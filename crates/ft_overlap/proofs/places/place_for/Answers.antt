@@ -27,4 +27,5 @@ returns g c =
     let place = g.P.Places.place_of c.args.at.now in
     let b = c.place-start.result in
     let fits : SFits w64 b = search rules in
-    subst (λ (z : ℤ). IsPlaceFor place z c.args.arena.now (Some c.place_below.result)) (to_z-of_z w64 b fits ∙ c.place-start.ensures) c.place_below.ensures
+    let is = to_z-of_z w64 b fits ∙ c.place-start.ensures in
+    subst (λ (z : ℤ). IsPlaceFor place z c.args.arena.now (Some c.place_below.result)) is c.place_below.ensures
