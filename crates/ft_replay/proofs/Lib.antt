@@ -7,3 +7,4 @@ mod SessionSteps
 mod GeneratedLaws
 mod PlayLaws
 mod LastLines
+mod SessionPieces

@@ -29,7 +29,7 @@ module _ (shows other : Shows) where
   reading-same at (Err cause) = refl
   reading-same at (Ok e) = answer-same at (step at.made e)
 
-  line-same : (at : Progress NaiveWorld) (line : List ℕ) → after_item (step_of (take_line shows)) at line ≡ after_item (step_of (take_line other)) at line
+  pub line-same : (at : Progress NaiveWorld) (line : List ℕ) → after_item (step_of (take_line shows)) at line ≡ after_item (step_of (take_line other)) at line
   line-same at line = by (is_too_long line_limit line) (is_blank line)
     where
       by : (long blank : Bool) → progress_after at (cond long (refuses at.made LineTooLong) (cond blank (passes at.made) (take_line shows at.made line)))
@@ -38,7 +38,7 @@ module _ (shows other : Shows) where
       by false true = refl
       by false false = reading-same at (event line)
 
-  lines-same : (at : Progress NaiveWorld) (ls : List (List ℕ)) → after_items (step_of (take_line shows)) at ls ≡ after_items (step_of (take_line other)) at ls
+  pub lines-same : (at : Progress NaiveWorld) (ls : List (List ℕ)) → after_items (step_of (take_line shows)) at ls ≡ after_items (step_of (take_line other)) at ls
   lines-same at [] = refl
   lines-same at (line ∷ ls) = lines-same (after_item (step_of (take_line shows)) at line) ls ∙ ap (λ p. after_items (step_of (take_line other)) p ls) (line-same at line)
 

@@ -13,3 +13,4 @@ pub mod Generated
 pub mod Play
 pub mod Playing
 pub mod Forms
+pub mod SessionReplays

@@ -122,6 +122,93 @@ impl<L: Listener> Replay<L> {
     }
 }
 
+/// One line more, given without its LF, for what heard so many lines before, of which so many were refused. Returns the three
+/// after it, and writes what is told of the line.
+///
+/// Returns `Write` only where the sink's count of faults rose, and `OutOfMemory` where there is no room for what the line makes
+/// or for the refusal; then what heard it is gone.
+pub fn hear_line<L: Listener, K: Sink>(
+    alloc: Global,
+    lines: u64,
+    refused: u64,
+    listener: L,
+    line: &[u8],
+    out: &mut K,
+) -> Result<(u64, u64, L), Fault>
+    requires few { lines ≤ input_limit }
+    requires counted { refused ≤ lines }
+    requires sized { L.size listener ≤ input_limit + lines }
+    ensures after { (at : Progress L.Made) → Follows (L.holds listener) lines refused at
+        → IfOk result (λ p. Follows (L.holds p.2) p.0 p.1 (after_item (form_step L.form) at line.now)) }
+    ensures counted { IfOk result (λ p. p.1 ≤ p.0) }
+    ensures writes { (at : Progress L.Made) → Follows (L.holds listener) lines refused at
+        → WritesBytes (K.contents out.old) (K.contents out.new) (K.faults out.old) (K.faults out.new) (bytes_of (written_by_item (form_step L.form) at line.now)) result }
+    ensures steady { OnOk result (K.faults out.new ≡ K.faults out.old) }
+{
+    let (heard, told) = take_line(lines, refused, listener, line)?;
+    write_told(alloc, heard.0, told, out)?;
+    Ok(heard)
+}
+
+/// Writes what stands behind so many lines, of which so many were refused, for what heard them. Returns as `Replay::close` does.
+pub fn close_lines<L: Listener, K: Sink>(
+    alloc: Global,
+    lines: u64,
+    refused: u64,
+    listener: L,
+    out: &mut K,
+) -> Result<Ending, Fault>
+    requires counted { refused ≤ lines }
+    requires sized { L.size listener ≤ input_limit + lines }
+    ensures ending { (at : Progress L.Made) → Follows (L.holds listener) lines refused at → IfOk result (λ ending. ending ≡ form_ending L.form at) }
+    ensures writes { (at : Progress L.Made) → Follows (L.holds listener) lines refused at
+        → WritesBytes (K.contents out.old) (K.contents out.new) (K.faults out.old) (K.faults out.new) (bytes_of (form_end L.form at)) result }
+    ensures steady { OnOk result (K.faults out.new ≡ K.faults out.old) }
+{
+    let replay = Replay {
+        lines,
+        refused,
+        listener,
+    };
+    replay.close(alloc, out)
+}
+
+// One line more, and what is told of it.
+fn take_line<L: Listener>(
+    lines: u64,
+    refused: u64,
+    listener: L,
+    line: &[u8],
+) -> Result<((u64, u64, L), Told), OutOfMemory>
+    requires few { lines ≤ input_limit }
+    requires counted { refused ≤ lines }
+    requires sized { L.size listener ≤ input_limit + lines }
+    ensures after { (at : Progress L.Made) → Follows (L.holds listener) lines refused at
+        → IfOk result (λ p. Follows (L.holds p.0.2) p.0.0 p.0.1 (after_item (form_step L.form) at line.now)) }
+    ensures counted { IfOk result (λ p. p.0.1 ≤ p.0.0) }
+    ensures told { (at : Progress L.Made) → Follows (L.holds listener) lines refused at
+        → IfOk result (λ p. bytes_of (written_by_item (form_step L.form) at line.now) ≡ told_bytes p.0.0 p.1) }
+{
+    let (listener, told) = hear_text(listener, line)?;
+    let refused = refused + refusals(&told);
+    Ok(((lines + 1, refused, listener), told))
+}
+
+// The listener after a line that is given whole, and what is told of it.
+fn hear_text<L: Listener>(listener: L, line: &[u8]) -> Result<(L, Told), OutOfMemory>
+    requires few { L.size listener < 2 ^ 32 - 1 }
+    ensures step { (made : L.Made) → L.holds listener made → IfOk result (λ p. IsStep (L.holds p.0) p.1 (form_step L.form made line.now)) }
+    ensures size { IfOk result (λ p. L.size p.0 ≤ L.size listener + 1) }
+{
+    if is_blank(line) {
+        return Ok((listener, pass(line.len())));
+    }
+    if line.len() > listener.limit() {
+        return Ok((listener, Told::Refused(Refusal::LineTooLong)));
+    }
+    listener.take(line)
+}
+
 // The listener after a line, and what is told of it.
 fn hear<L: Listener>(listener: L, line: &Line) -> Result<(L, Told), OutOfMemory>
     requires few { L.size listener < 2 ^ 32 - 1 }
