@@ -1,9 +1,12 @@
-//! What is behind the doors for C: a whole report in one call.
+//! What is behind the doors for C: a whole report in one call, and a session that is held between calls.
 //!
 //! Nothing here knows of C: `vemiktag_c` has the exported functions, one call each.
 #![tactic(auto)]
 
 pub mod reports;
+pub mod sessions;
 mod streams;
+mod waiting;
 
 pub use reports::{Report, ReportFault, report_into, session_report};
+pub use sessions::Run;

@@ -1,0 +1,51 @@
+-- What is said of a session that is held between calls, and of what of its report was read.
+use Rattle.std.specs.Prelude.{◌≡◌, ℕ, ◌+◌, ◌<◌, ◌≤◌, ◌||◌, IsTrue, nat_eq, List, [], ◌∷◌, ◌++◌, length, take, drop, Option, Some, None}
+use Rattle.ft_io.specs.Reader.{input_limit}
+use Rattle.ft_replay.specs.declared.session_replay.SessionReplay.{SessionReplay}
+use Rattle.ft_replay.specs.SessionReplays.{HasHeard, heard_ending, heard_refused, lines_bytes, report_bytes}
+use Rattle.ft_door.specs.declared.sessions.Run.{Run}
+use Rattle.ft_door.specs.Reports.{ending_number}
+
+-- what of the report wasn't read yet
+abbrev pub unread_of : {R : Type 0} → Run R → List ℕ
+unread_of run = drop run.waiting.taken run.waiting.bytes.items
+
+-- a session that goes on has heard these lines
+abbrev pub GoesOn : {R : Type 0} → Option (SessionReplay R) → List (List ℕ) → Type 0
+GoesOn None heard = ⊥
+GoesOn (Some s) heard = HasHeard s.run.world s.lines s.refused heard
+
+-- it has heard these lines, and of what they write this was read: the rest is still to be read
+pub record Stands {R : Type 0} (run : Run R) (heard : List (List ℕ)) (read : List ℕ) : Type 0 where
+  pub session : GoesOn run.session heard
+  pub report : read ++ unread_of run ≡ lines_bytes heard
+
+-- the session is closed, and of the report of these lines this was read
+pub record IsClosed {R : Type 0} (run : Run R) (heard : List (List ℕ)) (read : List ℕ) : Type 0 where
+  pub session : run.session ≡ None
+  pub report : read ++ unread_of run ≡ report_bytes heard
+
+-- what a number tells of a line that was given to a session: it was heard, and refused just where the number is 1; there was no memory; the
+-- session has as many lines as it may have, or isn't open any more, and nothing changed
+pub record HearsLine {R : Type 0} (old new : Run R) (line : List ℕ) (status : ℕ) : Type 0 where
+  pub heard : (heard : List (List ℕ)) → (read : List ℕ) → status ≤ 1 → Stands old heard read → Stands new (heard ++ line ∷ []) read
+  pub refused : (heard : List (List ℕ)) → (read : List ℕ) → status ≤ 1 → Stands old heard read → heard_refused (heard ++ line ∷ []) ≡ heard_refused heard + status
+  pub full : (heard : List (List ℕ)) → (read : List ℕ) → status ≡ 6 → Stands old heard read → input_limit < length heard
+  pub same : 6 ≤ status → new ≡ old
+  pub closed : status ≡ 7 → old.session ≡ None
+  pub known : IsTrue (nat_eq status 0 || (nat_eq status 1 || (nat_eq status 5 || (nat_eq status 6 || nat_eq status 7))))
+
+-- what a number tells of a session that was closed: how the report of its lines ends; or there was no memory; or it wasn't open
+pub record ClosesSession {R : Type 0} (old new : Run R) (status : ℕ) : Type 0 where
+  pub closed : (heard : List (List ℕ)) → (read : List ℕ) → status ≤ 1 → Stands old heard read → IsClosed new heard read
+  pub ends : (heard : List (List ℕ)) → (read : List ℕ) → status ≤ 1 → Stands old heard read → status ≡ ending_number (heard_ending heard)
+  pub same : status ≡ 7 → (new ≡ old)
+  pub none : status ≡ 7 → old.session ≡ None
+  pub known : IsTrue (nat_eq status 0 || (nat_eq status 1 || (nat_eq status 5 || nat_eq status 7)))
+
+-- the next bytes of the report were read into the first of the room
+pub record ReadsReport {R : Type 0} (old new : Run R) (room : List ℕ) (count : ℕ) : Type 0 where
+  pub within : count ≤ length room
+  pub whole : count < length room → unread_of new ≡ []
+  pub report : take count room ++ unread_of new ≡ unread_of old
+  pub session : new.session ≡ old.session

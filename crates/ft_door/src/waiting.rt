@@ -1,0 +1,71 @@
+//! What was written and waits to be read.
+
+ghost use Rattle.std.specs.Prelude.{◌≡◌, ◌<◌, ◌≤◌, [], ◌++◌, drop, length, take};
+
+use ft_io::{Failed, Sink};
+use std::alloc::Global;
+
+/// What was written and waits to be read. A write fails only where there is no memory for more.
+#[derive(Drop)]
+pub struct Waiting {
+    bytes: Vec<u8>,
+    // How many of them were read.
+    taken: usize,
+    faults: u64,
+    ghost within: { taken ≤ length bytes.items },
+}
+
+impl Waiting {
+    /// Nothing.
+    pub fn new(alloc: Global) -> Waiting
+        ensures { drop result.taken result.bytes.items ≡ [] }
+    {
+        Waiting {
+            bytes: Vec::new(alloc),
+            taken: 0,
+            faults: 0,
+        }
+    }
+
+    /// How many bytes wait.
+    pub fn len(&self) -> usize
+        ensures { result ≡ length (drop self.now.taken self.now.bytes.items) }
+    {
+        self.bytes.len() - self.taken
+    }
+
+    /// Reads the next bytes into the first of the room, as many as it has room for, and returns how many.
+    pub fn read(&mut self, room: &mut [u8]) -> usize
+        ensures within { result ≤ length room.new }
+        ensures whole { result < length room.new → drop self.new.taken self.new.bytes.items ≡ [] }
+        ensures bytes { take result room.new ++ drop self.new.taken self.new.bytes.items ≡ drop self.old.taken self.old.bytes.items }
+    {
+        let next = &self.bytes[self.taken..];
+        let count = next.len().min(room.len());
+        room[..count].copy_from_slice(&next[..count]);
+        self.taken += count;
+        if self.taken == self.bytes.len() {
+            self.bytes.clear();
+            self.taken = 0;
+        }
+        count
+    }
+}
+
+impl Sink for Waiting {
+    ghost use Rattle.std.specs.Prelude.{Some, drop};
+
+    ghost contents = { λ s. Some (drop s.taken s.bytes.items) };
+
+    ghost faults = { λ s. s.faults };
+
+    fn write(&mut self, buf: &[u8]) -> Result<usize, Failed> {
+        match self.bytes.extend_from_slice(buf) {
+            Ok(()) => Ok(buf.len()),
+            Err(_) => {
+                self.faults = self.faults.saturating_add(1);
+                Err(Failed)
+            }
+        }
+    }
+}
