@@ -1,0 +1,42 @@
+-- What a call by C does to the session that it holds.
+use Rattle.std.specs.Prelude.{◌≡◌, ℕ, ◌≤◌, ◌||◌, IsTrue, nat_eq, List, [], length, Option, Some, None}
+use Rattle.ft_door.specs.Runs.{ClosesSession, HearsLine, ReadsReport, Stands, unread_of}
+use Rattle.vemiktag_c.specs.declared.runs.ClientRun.{ClientRun}
+use Rattle.vemiktag_c.specs.declared.sessions.Session.{Session}
+use Rattle.vemiktag_c.specs.Opening.{open_run}
+
+-- the run that a handle holds, where it is open
+abbrev pub held_run : Session → Option ClientRun
+held_run s = open_run s.is_open s.held.run
+
+-- a call of an open handle does this to its run; one of a closed handle answers 7, and the handle stays closed
+abbrev pub Calls : (ClientRun → ClientRun → ℕ → Type 0) → Option ClientRun → Option ClientRun → ℕ → Type 0
+Calls Does None None status = status ≡ 7
+Calls Does (Some old) (Some new) status = Does old new status
+Calls Does _ _ status = ⊥
+
+-- how many bytes wait to be read
+abbrev pub waiting : Option ClientRun → ℕ
+waiting None = 0
+waiting (Some r) = length (unread_of r.run)
+
+-- a new session has heard nothing; without memory there is none
+pub record Opens (new : Session) (status : ℕ) : Type 0 where
+  pub opened : status ≡ 0 → (r : ClientRun) × (held_run new ≡ Some r) × Stands r.run [] []
+  pub none : status ≡ 5 → held_run new ≡ None
+  pub known : IsTrue (nat_eq status 0 || nat_eq status 5)
+
+-- a line was given to the session, and so many bytes wait to be read
+pub record Hears (old new : Session) (line : List ℕ) (count status : ℕ) : Type 0 where
+  pub run : Calls (λ a b s. HearsLine a.run b.run line s) (held_run old) (held_run new) status
+  pub waits : count ≡ waiting (held_run new)
+
+-- the session was closed, and so many bytes wait to be read
+pub record Closes (old new : Session) (count status : ℕ) : Type 0 where
+  pub run : Calls (λ a b s. ClosesSession a.run b.run s) (held_run old) (held_run new) status
+  pub waits : count ≡ waiting (held_run new)
+
+-- so many bytes were read
+pub record Reads (old new : Session) (room : List ℕ) (count status : ℕ) : Type 0 where
+  pub run : Calls (λ a b s. (s ≡ 0) × ReadsReport a.run b.run room count) (held_run old) (held_run new) status
+  pub within : count ≤ length room
