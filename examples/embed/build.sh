@@ -25,6 +25,10 @@ mkdir -p "$out"
 # shellcheck disable=SC2086
 $cc $flags -o "$out/report" "$here/report.c" "$archive" "$memory"
 # shellcheck disable=SC2086
+$cc $flags -o "$out/session" "$here/session.c" "$archive" "$memory"
+# shellcheck disable=SC2086
+$cc $flags -Wl,--wrap=malloc,--wrap=realloc -o "$out/handles" "$here/handles.c" "$archive" "$memory"
+# shellcheck disable=SC2086
 $cc $flags -Wl,--wrap=malloc,--wrap=realloc -o "$out/edges" "$here/edges.c" "$archive" "$memory"
 printf '{ global: vemiktag_*; local: *; };\n' > "$out/exports"
 $cc -shared -o "$out/libvemiktag.so" -Wl,--version-script="$out/exports" \
@@ -56,7 +60,12 @@ compare_both() {
 
 # shellcheck disable=SC2086
 compare_both "C" $under "$out/report"
+# shellcheck disable=SC2086
+compare_both "C, line by line" $under "$out/session"
 export VEMIKTAG_SO="$out/libvemiktag.so" PYTHONDONTWRITEBYTECODE=1
 compare_both "Python" python3 "$here/report.py"
+compare_both "Python, line by line" python3 "$here/session.py"
 # shellcheck disable=SC2086
 $under "$out/edges" < "$top/examples/tea_at_five.session"
+# shellcheck disable=SC2086
+$under "$out/handles" < "$top/examples/tea_at_five.session"

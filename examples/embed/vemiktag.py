@@ -3,7 +3,7 @@
 import ctypes
 import os
 
-DONE, SOME_REFUSED, TOO_SMALL, OUT_OF_MEMORY, TOO_LONG = 0, 1, 4, 5, 6
+DONE, SOME_REFUSED, TOO_SMALL, OUT_OF_MEMORY, TOO_LONG, CLOSED = 0, 1, 4, 5, 6, 7
 
 _HERE = os.path.dirname(os.path.abspath(__file__))
 _lib = ctypes.CDLL(os.environ.get("VEMIKTAG_SO", os.path.join(_HERE, "libvemiktag.so")))
@@ -35,3 +35,70 @@ def report(events, room=65536):
     if status == TOO_LONG:
         raise ValueError("the session has more than 16,777,216 bytes")
     return told.raw[: count.value], status == DONE
+
+
+class _Held(ctypes.Structure):
+    _fields_ = [("at", ctypes.c_void_p), ("open", ctypes.c_bool)]
+
+
+_session, _count, _size = ctypes.POINTER(_Held), ctypes.POINTER(ctypes.c_size_t), ctypes.c_size_t
+for _name, _takes in [
+    ("new", [_session]),
+    ("line", [_session, ctypes.c_char_p, _size, _count]),
+    ("close", [_session, _count]),
+    ("read", [_session, ctypes.c_char_p, _size, _count]),
+    ("free", [_session]),
+]:
+    _call = getattr(_lib, "vemiktag_session_" + _name)
+    _call.restype, _call.argtypes = ctypes.c_uint32, _takes
+
+
+class Session:
+    """A session whose lines come one after another. It may be used by one thread, and by one call at a time.
+
+    Each call raises MemoryError where there was no memory, and ValueError where the session takes no more lines.
+    """
+
+    def __init__(self):
+        self._held = _Held()
+        self._at = ctypes.byref(self._held)
+        self._expect(_lib.vemiktag_session_new(self._at))
+
+    def __enter__(self):
+        return self
+
+    def __exit__(self, *_):
+        self.free()
+
+    def line(self, event):
+        """What a line writes, given without its LF, and whether it was taken."""
+        count = ctypes.c_size_t()
+        status = self._expect(_lib.vemiktag_session_line(self._at, event, len(event), ctypes.byref(count)))
+        return self._read(count.value), status == DONE
+
+    def end(self):
+        """The last lines, and whether nothing was refused or skipped. The session takes no more lines then."""
+        count = ctypes.c_size_t()
+        status = self._expect(_lib.vemiktag_session_close(self._at, ctypes.byref(count)))
+        return self._read(count.value), status == DONE
+
+    def free(self):
+        """Frees what the session holds. It does no harm to free it twice."""
+        _lib.vemiktag_session_free(self._at)
+
+    __del__ = free
+
+    def _read(self, room):
+        told, count = ctypes.create_string_buffer(max(room, 1)), ctypes.c_size_t()
+        self._expect(_lib.vemiktag_session_read(self._at, told, room, ctypes.byref(count)))
+        return told.raw[: count.value]
+
+    @staticmethod
+    def _expect(status):
+        if status == OUT_OF_MEMORY:
+            raise MemoryError
+        if status == CLOSED:
+            raise ValueError("the session takes no more lines")
+        if status == TOO_LONG:
+            raise ValueError("the session has heard more than 16,777,216 lines")
+        return status
