@@ -2,7 +2,8 @@
 use Rattle.std.specs.Prelude.{◌≡◌, ℕ, ◌+◌, ◌<◌, ◌≤◌, ◌||◌, IsTrue, nat_eq, List, [], ◌∷◌, ◌++◌, length, take, drop, Option, Some, None}
 use Rattle.ft_io.specs.Reader.{input_limit}
 use Rattle.ft_replay.specs.declared.session_replay.SessionReplay.{SessionReplay}
-use Rattle.ft_replay.specs.SessionReplays.{HasHeard, heard_ending, heard_refused, lines_bytes, report_bytes}
+use Rattle.ft_replay.specs.SessionReplays.{HasHeard, end_bytes, heard_ending, heard_refused, line_bytes, lines_bytes, report_bytes}
+use Rattle.ft_replay.specs.Writing.{Begins}
 use Rattle.ft_door.specs.declared.sessions.Run.{Run}
 use Rattle.ft_door.specs.Reports.{ending_number}
 
@@ -25,21 +26,31 @@ pub record IsClosed {R : Type 0} (run : Run R) (heard : List (List ℕ)) (read :
   pub session : run.session ≡ None
   pub report : read ++ unread_of run ≡ report_bytes heard
 
--- what a number tells of a line that was given to a session: it was heard, and refused just where the number is 1; there was no memory; the
--- session has as many lines as it may have, or isn't open any more, and nothing changed
+-- the session is at its end, and behind these bytes, of which this was read, only the first of more were written
+pub record Breaks {R : Type 0} (run : Run R) (bytes more read : List ℕ) : Type 0 where
+  pub session : run.session ≡ None
+  pub written : List ℕ
+  pub begins : Begins written more
+  pub report : read ++ unread_of run ≡ bytes ++ written
+
+-- what a number tells of a line that was given to a session: it was heard, and refused just where the number is 1; there was no memory, and it
+-- writes only its first bytes; the session has as many lines as it may have, or isn't open any more, and nothing changed
 pub record HearsLine {R : Type 0} (old new : Run R) (line : List ℕ) (status : ℕ) : Type 0 where
   pub heard : (heard : List (List ℕ)) → (read : List ℕ) → status ≤ 1 → Stands old heard read → Stands new (heard ++ line ∷ []) read
   pub refused : (heard : List (List ℕ)) → (read : List ℕ) → status ≤ 1 → Stands old heard read → heard_refused (heard ++ line ∷ []) ≡ heard_refused heard + status
+  pub broken : (heard : List (List ℕ)) → (read : List ℕ) → status ≡ 5 → Stands old heard read → Breaks new (lines_bytes heard) (line_bytes heard line) read
   pub full : (heard : List (List ℕ)) → (read : List ℕ) → status ≡ 6 → Stands old heard read → input_limit < length heard
   pub same : 6 ≤ status → new ≡ old
   pub closed : status ≡ 7 → old.session ≡ None
   pub known : IsTrue (nat_eq status 0 || (nat_eq status 1 || (nat_eq status 5 || (nat_eq status 6 || nat_eq status 7))))
 
--- what a number tells of a session that was closed: how the report of its lines ends; or there was no memory; or it wasn't open
+-- what a number tells of a session that was closed: how the report of its lines ends; or there was no memory, and only the
+-- first bytes of what ends it are there; or it wasn't open
 pub record ClosesSession {R : Type 0} (old new : Run R) (status : ℕ) : Type 0 where
   pub closed : (heard : List (List ℕ)) → (read : List ℕ) → status ≤ 1 → Stands old heard read → IsClosed new heard read
   pub ends : (heard : List (List ℕ)) → (read : List ℕ) → status ≤ 1 → Stands old heard read → status ≡ ending_number (heard_ending heard)
-  pub same : status ≡ 7 → (new ≡ old)
+  pub broken : (heard : List (List ℕ)) → (read : List ℕ) → status ≡ 5 → Stands old heard read → Breaks new (lines_bytes heard) (end_bytes heard) read
+  pub same : status ≡ 7 → new ≡ old
   pub none : status ≡ 7 → old.session ≡ None
   pub known : IsTrue (nat_eq status 0 || (nat_eq status 1 || (nat_eq status 5 || nat_eq status 7)))
 
