@@ -1,11 +1,13 @@
 /* session: reads the events of a session from standard input, gives them to it line by line, and writes what each of them
- * writes as soon as it is heard. Ends with the status of the report. */
+ * writes as soon as it is heard. Ends with the status of the report, and with 3 where a read failed. */
+#define _POSIX_C_SOURCE 200809L
+
 #include "vemiktag.h"
 #include <stdio.h>
 #include <stdlib.h>
-#include <string.h>
+#include <sys/types.h>
 
-#define LINE_ROOM (1 << 21)
+#define READ_FAILED 3
 
 /* Writes what waits, `count` bytes. */
 static void show(vemiktag_session *session, size_t count) {
@@ -20,19 +22,29 @@ static void show(vemiktag_session *session, size_t count) {
     }
 }
 
-/* The length of a line without its LF. */
-static size_t length_of(const char *line) {
-    return strcspn(line, "\n");
+/* The length of a line of so many bytes without its LF, which the last one may lack. */
+static size_t length_of(const char *line, ssize_t bytes) {
+    size_t length = (size_t)bytes;
+    return length > 0 && line[length - 1] == '\n' ? length - 1 : length;
 }
 
 int main(void) {
-    static char line[LINE_ROOM];
-    vemiktag_session session = {0};
+    char *line = NULL;
+    size_t room = 0;
     size_t count = 0;
+    vemiktag_session session = {0};
     uint32_t status = vemiktag_session_new(&session);
-    while (status <= VEMIKTAG_SOME_REFUSED && fgets(line, sizeof line, stdin) != NULL) {
-        status = vemiktag_session_line(&session, (const uint8_t *)line, length_of(line), &count);
+    while (status <= VEMIKTAG_SOME_REFUSED) {
+        ssize_t bytes = getline(&line, &room, stdin);
+        if (bytes < 0) {
+            break;
+        }
+        status = vemiktag_session_line(&session, (const uint8_t *)line, length_of(line, bytes), &count);
         show(&session, count);
+    }
+    free(line);
+    if (status <= VEMIKTAG_SOME_REFUSED && !feof(stdin)) {
+        status = READ_FAILED;
     }
     if (status <= VEMIKTAG_SOME_REFUSED) {
         status = vemiktag_session_close(&session, &count);
