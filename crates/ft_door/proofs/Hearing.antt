@@ -1,0 +1,95 @@
+-- What waits behind what was written before: what a line writes, or no more than the first of it where there was no memory.
+use Rattle.std.proofs.Common.{◌≡◌, ℕ, zero, suc, ◌+◌, ◌≤◌, List, [], ◌∷◌, ◌++◌, Some, None, Ok, Err, refl, sym, ◌∙◌, ap, append_assoc, arith}
+use Rattle.ft_msg.specs.declared.replica.Replica.{Ghosts}
+use Rattle.ft_replay.specs.declared.endings.Fault.{Fault}
+use Rattle.ft_replay.specs.declared.endings.Fault.TheVariants.{Read, Write, OutOfMemory, InputLimit}
+use Rattle.ft_replay.specs.SessionReplays.{LinesGrow, end_bytes, heard_refused, line_bytes, lines_bytes}
+use Rattle.ft_replay.specs.Writing.{Begins, SaysOfWritten, WritesBytes}
+use Rattle.ft_door.specs.declared.sessions.Run.{Run}
+use Rattle.ft_door.specs.Runs.{Breaks, ClosesSession, HearsLine, Stands, unread_of}
+
+-- a fault says that the first of the bytes were written
+begins_of : (T rose : Type 0) (bytes written : List ℕ) (fault : Fault) → SaysOfWritten {T = T} rose bytes written (Err fault) → Begins written bytes
+begins_of T rose bytes written Read says = absurd says
+begins_of T rose bytes written Write says = says.1
+begins_of T rose bytes written OutOfMemory says = says
+begins_of T rose bytes written InputLimit says = absurd says
+
+-- bytes were to be written behind those that wait, of a session that was taken out, and there was a fault
+pub breaks : {R T : Type 0} {g : Ghosts R} (run : Run R g) (waits bytes more read : List ℕ) (before now : ℕ) (fault : Fault) → run.session ≡ None → read ++ waits ≡ bytes
+    → WritesBytes {T = T} (Some waits) (Some (unread_of run)) before now more (Err fault) → Breaks run bytes more read
+breaks {R} {T} {g} run waits bytes more read before now fault ended is h = record {
+  session = ended;
+  written = h.written;
+  begins = begins_of T _ more h.written fault h.says;
+  report = ap (λ unread. read ++ unread) h.takes ∙ sym (append_assoc read waits h.written) ∙ ap (λ front. front ++ h.written) is;
+}
+
+-- .. and so with a line
+pub line-broken : {R : Type 0} {g : Ghosts R} (old new : Run R g) (line : List ℕ)
+    → ((heard : List (List ℕ)) → (read : List ℕ) → Stands old heard read → Breaks new (lines_bytes heard) (line_bytes heard line) read) → HearsLine old new line 5
+line-broken old new line h = record {
+  heard = λ heard read small. absurd (omega (arith, small));
+  refused = λ heard read small. absurd (omega (arith, small));
+  broken = λ heard read is has. h heard read has;
+  full = λ heard read is. absurd (cc);
+  same = λ large. absurd (omega (arith, large));
+  closed = λ is. absurd (cc);
+  known = refl;
+}
+
+-- .. and with what ends the report
+pub end-broken : {R : Type 0} {g : Ghosts R} (old new : Run R g)
+    → ((heard : List (List ℕ)) → (read : List ℕ) → Stands old heard read → Breaks new (lines_bytes heard) (end_bytes heard) read) → ClosesSession old new 5
+end-broken old new h = record {
+  closed = λ heard read small. absurd (omega (arith, small));
+  ends = λ heard read small. absurd (omega (arith, small));
+  broken = λ heard read is has. h heard read has;
+  same = λ is. absurd (cc);
+  none = λ is. absurd (cc);
+  known = refl;
+}
+
+-- bytes were written behind those that wait, and these are those of a line more
+pub report-more : {T : Type 0} (waits unread : List ℕ) (heard : List (List ℕ)) (line read : List ℕ) (before now : ℕ) (done : T) → LinesGrow
+    → read ++ waits ≡ lines_bytes heard → WritesBytes {T = T} (Some waits) (Some unread) before now (line_bytes heard line) (Ok done)
+    → read ++ unread ≡ lines_bytes (heard ++ line ∷ [])
+report-more waits unread heard line read before now done grow is h =
+    ap (λ later. read ++ later) h.takes
+    ∙ sym (append_assoc read waits h.written)
+    ∙ ap (λ front. front ++ h.written) is
+    ∙ ap (λ later. lines_bytes heard ++ later) h.says
+    ∙ sym (grow heard line)
+
+-- how many were refused, by the status of a line more
+pub refused-more : (before now old new status : ℕ) → before ≡ old → now ≡ new → (old ≤ new) × (new ≤ old + 1)
+    → (before ≤ now → now ≤ before + 1 → before + status ≡ now) → new ≡ old + status
+refused-more before now old new status was is once sum =
+    let low = once.0 in
+    let high = once.1 in
+    let told = sum (omega (arith, was, is, low)) (omega (arith, was, is, high)) in
+    omega (arith, was, is, told)
+
+-- a line was heard
+pub line-heard : {R : Type 0} {g : Ghosts R} (old new : Run R g) (line : List ℕ) (status : ℕ) → status ≤ 1
+    → ((heard : List (List ℕ)) → (read : List ℕ) → Stands old heard read → Stands new (heard ++ line ∷ []) read)
+    → ((heard : List (List ℕ)) → (read : List ℕ) → Stands old heard read → heard_refused (heard ++ line ∷ []) ≡ heard_refused heard + status) → HearsLine old new line status
+line-heard old new line zero low h r = record {
+  heard = λ heard read small has. h heard read has;
+  refused = λ heard read small has. r heard read has;
+  broken = λ heard read is. absurd (cc);
+  full = λ heard read is. absurd (cc);
+  same = λ large. absurd (omega (arith, large));
+  closed = λ is. absurd (cc);
+  known = refl;
+}
+line-heard old new line (suc zero) low h r = record {
+  heard = λ heard read small has. h heard read has;
+  refused = λ heard read small has. r heard read has;
+  broken = λ heard read is. absurd (cc);
+  full = λ heard read is. absurd (cc);
+  same = λ large. absurd (omega (arith, large));
+  closed = λ is. absurd (cc);
+  known = refl;
+}
+line-heard old new line (suc (suc n)) low h r = absurd (omega (arith, low))
