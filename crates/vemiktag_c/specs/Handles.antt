@@ -36,7 +36,7 @@ pub record Closes (old new : Session) (count status : ℕ) : Type 0 where
   pub run : Calls (λ a b s. ClosesSession a.run b.run s) (held_run old) (held_run new) status
   pub waits : count ≡ waiting (held_run new)
 
--- so many bytes were read
-pub record Reads (old new : Session) (room : List ℕ) (count status : ℕ) : Type 0 where
+-- so many bytes more were read
+pub record ReadsOn (old new : Session) (room : List ℕ) (count status : ℕ) : Type 0 where
   pub run : Calls (λ a b s. (s ≡ 0) × ReadsReport a.run b.run room count) (held_run old) (held_run new) status
   pub within : count ≤ length room

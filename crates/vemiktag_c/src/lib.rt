@@ -6,7 +6,7 @@
 ghost use Rattle.std.specs.Prelude.{◌≡◌, [], IfOk, None};
 ghost use Rattle.ft_door.specs.Reports.{Tells};
 ghost use Rattle.ft_door.specs.Runs.{Stands};
-ghost use Rattle.vemiktag_c.specs.Handles.{Closes, Hears, Opens, Reads, held_run};
+ghost use Rattle.vemiktag_c.specs.Handles.{Closes, Hears, Opens, ReadsOn, held_run};
 
 mod held;
 mod loose;
@@ -112,7 +112,7 @@ pub extern "C" fn vemiktag_session_read(
     report: &mut [u8],
     count: &mut usize,
 ) -> u32
-    ensures { Reads session.old session.new report.new count.new result }
+    ensures { ReadsOn session.old session.new report.new count.new result }
 {
     *count = 0;
     let Some(mut held) = session.take(alloc) else {
