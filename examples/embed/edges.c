@@ -1,41 +1,14 @@
 /* edges: a report where something is wanting: room, memory, an input that isn't too long. Reads a session from standard
  * input, and ends with 0 where each call answers as include/vemiktag.h says. Link it with --wrap=malloc,--wrap=realloc. */
+#include "failing.h"
 #include "vemiktag.h"
-#include <stdbool.h>
-#include <stdio.h>
-#include <stdlib.h>
 #include <string.h>
-
-/* How many more allocations succeed; none fails while it is negative. */
-static long left = -1;
-
-void *__real_malloc(size_t size);
-void *__real_realloc(void *at, size_t size);
-
-static bool fails(void) {
-    return left >= 0 && left-- == 0;
-}
-
-void *__wrap_malloc(size_t size) {
-    return fails() ? NULL : __real_malloc(size);
-}
-
-void *__wrap_realloc(void *at, size_t size) {
-    return fails() ? NULL : __real_realloc(at, size);
-}
 
 #define INPUT_LIMIT 16777216
 
 static uint8_t input[INPUT_LIMIT + 1];
 static uint8_t whole[1 << 20];
 static uint8_t report[1 << 20];
-
-static void expect(bool holds, const char *what) {
-    if (!holds) {
-        fprintf(stderr, "not so: %s\n", what);
-        exit(1);
-    }
-}
 
 /* Whether the first bytes of the report are all as they were before the call. */
 static bool is_untouched(size_t count) {

@@ -1,40 +1,13 @@
 /* handles: sessions that are held, where something is wanting: memory, an open handle, a line that isn't refused. Reads a
  * session from standard input, and ends with 0 where each call answers as include/vemiktag.h says. Link it with
  * --wrap=malloc,--wrap=realloc. */
+#include "failing.h"
 #include "vemiktag.h"
-#include <stdbool.h>
-#include <stdio.h>
-#include <stdlib.h>
 #include <string.h>
-
-/* How many more allocations succeed; none fails while it is negative. */
-static long left = -1;
-
-void *__real_malloc(size_t size);
-void *__real_realloc(void *at, size_t size);
-
-static bool fails(void) {
-    return left >= 0 && left-- == 0;
-}
-
-void *__wrap_malloc(size_t size) {
-    return fails() ? NULL : __real_malloc(size);
-}
-
-void *__wrap_realloc(void *at, size_t size) {
-    return fails() ? NULL : __real_realloc(at, size);
-}
 
 static uint8_t input[1 << 20];
 static uint8_t whole[1 << 20];
 static uint8_t told[1 << 20];
-
-static void expect(bool holds, const char *what) {
-    if (!holds) {
-        fprintf(stderr, "not so: %s\n", what);
-        exit(1);
-    }
-}
 
 /* Puts what waits behind the first `done` bytes of what was told, and answers how many there are then. */
 static size_t read_on(vemiktag_session *session, size_t done, size_t waiting) {
