@@ -8,3 +8,4 @@ pub mod LeafListLemmas
 pub mod InsideLemmas
 pub mod CallerLemmas
 pub mod Floors
+pub mod NearerEnd

@@ -25,8 +25,9 @@ pub(crate) fn length_at<L: Leaf>(node: &Node<L, Headed<Summary>>, _floor: u64, v
     }
 }
 
-// The child in whose stretch the place lies, and how far in; or how long all children are.
-fn child_at<L: Leaf, G: Ledger>(
+// The child in whose stretch the place lies, and how far in; or how long all children are. It goes over them from the
+// first one on.
+fn child_from_front<L: Leaf, G: Ledger>(
     arena: &Arena<L, Headed<Summary>>,
     kids: &Kids,
     floor: u64,
@@ -58,6 +59,72 @@ fn child_at<L: Leaf, G: Ledger>(
     Err(p - rest)
 }
 
+// The child in whose stretch the place lies, and how far in, where all children are long enough. It goes over them from
+// the last one back.
+fn child_from_back<L: Leaf, G: Ledger>(
+    arena: &Arena<L, Headed<Summary>>,
+    kids: &Kids,
+    floor: u64,
+    view: View,
+    all: u64,
+    p: u64,
+    steps: &mut Steps<G>,
+) -> (NodeId, u64)
+    requires kept { KeepsLengths floor view }
+    requires floors { AreFromFloor floor arena.now }
+    requires live { (id : ℕ) → 1 ≤ times kids.now id → IsSome (entry arena.now id) }
+    requires all { all ≡ total (length_of (by_view L.size L.element view) arena.now) kids.now }
+    requires low { 1 ≤ p }
+    requires high { p ≤ all }
+    ensures found { seek (length_of (by_view L.size L.element view) arena.now) kids.now p ≡ Some (result.0, result.1) }
+    ensures cost { steps.new ≤ steps.old + 8 }
+{
+    let mut behind = all - p;
+    let mut i = kids.len();
+    'back: while i > 0 {
+        i -= 1;
+        let Some(kid) = kids.get(i) else {
+            unreachable!();
+        };
+        let n = length_at(arena.read(kid, steps), floor, view);
+        if behind < n {
+            return (kid, n - behind);
+        }
+        behind -= n;
+    }
+    unreachable!()
+}
+
+// The child in whose stretch the place lies, and how far in; or how long all children are, which is given. It goes over
+// them from the nearer end.
+fn child_at<L: Leaf, G: Ledger>(
+    arena: &Arena<L, Headed<Summary>>,
+    kids: &Kids,
+    floor: u64,
+    view: View,
+    all: u64,
+    p: u64,
+    steps: &mut Steps<G>,
+) -> Result<(NodeId, u64), u64>
+    requires kept { KeepsLengths floor view }
+    requires floors { AreFromFloor floor arena.now }
+    requires live { (id : ℕ) → 1 ≤ times kids.now id → IsSome (entry arena.now id) }
+    requires all { all ≡ total (length_of (by_view L.size L.element view) arena.now) kids.now }
+    requires low { 1 ≤ p }
+    ensures found { IfOk result (λ f. seek (length_of (by_view L.size L.element view) arena.now) kids.now p ≡ Some (f.0, f.1)) }
+    ensures past { IfErr result (λ n. n ≡ total (length_of (by_view L.size L.element view) arena.now) kids.now) }
+    ensures beyond { IfErr result (λ n. n < p) }
+    ensures cost { steps.new ≤ steps.old + 8 }
+{
+    if all < p {
+        return Err(all);
+    }
+    if p <= all / 2 {
+        return child_from_front(arena, kids, floor, view, p, steps);
+    }
+    Ok(child_from_back(arena, kids, floor, view, all, p, steps))
+}
+
 // The leaf in whose stretch the place lies, and how far in; or how long all leaves are.
 pub(crate) fn find_from<L: Leaf, G: Ledger>(
     arena: &Arena<L, Headed<Summary>>,
@@ -80,10 +147,12 @@ pub(crate) fn find_from<L: Leaf, G: Ledger>(
     let mut at = root;
     let mut rest = p;
     'levels: loop {
-        let Node::Block { kids, value } = arena.read(at, steps) else {
+        let node = arena.read(at, steps);
+        let all = length_at(node, floor, view);
+        let Node::Block { kids, value } = node else {
             unreachable!();
         };
-        let (child, further) = child_at(arena, kids, floor, view, rest, steps)?;
+        let (child, further) = child_at(arena, kids, floor, view, all, rest, steps)?;
         if value.height == 1 {
             return Ok((child, further));
         }

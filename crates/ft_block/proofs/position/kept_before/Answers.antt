@@ -78,3 +78,9 @@ length_before-sum-requires-clause-kept g c = c.requires.kept
 
 pub length_before-sum-requires-clause-forest : goal.length_before-sum-requires-clause-forest
 length_before-sum-requires-clause-forest g c = c.requires.tree.shape.forest
+
+pub length_before-sum-requires-clause-all : goal.length_before-sum-requires-clause-all
+length_before-sum-requires-clause-all g c =
+    let measure = by_view g.L.Leaf.size g.L.Leaf.element c.args.view in
+    let up : parent_of c.args.arena.now c.up.at ≡ Some c.in-Some.block = sym c.parent.ensures ∙ c.in-Some.is in
+    c.requires.sums c.in-Some.block (po_block measure c.args.arena.now c.args._root c.requires.tree c.requires.sums c.up.at c.in-Some.block up) (λ e. cc e)

@@ -4,7 +4,7 @@ use Rattle.ft_shape.specs.Tree.{seek, total, length_of, length_of_entry}
 use Rattle.ft_block.specs.Tree.{by_view}
 use Rattle.ft_shape.proofs.Lists.{times_at, drop_at, drop_none, seek_here, seek_later}
 use Rattle.ft_block.proofs.KeptLemmas.{node_from}
-use Rattle.ft_block.proofs.find.child_at.Goals as goal
+use Rattle.ft_block.proofs.find.child_from_front.Goals as goal
 
 pub read-requires : goal.read-requires
 read-requires g c = c.requires.live c.in-Some.kid (times_at c.args.kids.now c.loop-kid.i c.in-Some.kid (sym c.get.ensures ∙ c.in-Some.is))

@@ -1,7 +1,7 @@
 use Rattle.std.proofs.Common.{◌≡◌, ◌≤◌, ◌+◌, ◌-◌, length, drop}
 use Rattle.ft_shape.specs.Tree.{seek, total, length_of}
 use Rattle.ft_block.specs.Tree.{by_view}
-use Rattle.ft_block.proofs.find.child_at.Given as goal
+use Rattle.ft_block.proofs.find.child_from_front.Given as goal
 
 abbrev pub invariant-loop-kid : goal.invariant-loop-kid
 invariant-loop-kid g l =
