@@ -27,10 +27,11 @@ use Rattle.ft_seqr.specs.World.{inserted_count}
 use Rattle.ft_laws_agreement.specs.Agreement.{IsRun}
 use Rattle.ft_msg.specs.ClientSteps.{ClientStep, taken_entries}
 use Rattle.ft_laws_agreement.specs.Reconnecting.{has_insertion_of, has_marks_of, has_removal_of, inserts_text, is_stage_of, removes_text}
-use Rattle.ft_laws_agreement.specs.Sequencing.{Each, IsBlockOf, IsTyped, inserts_in, removes_in}
+use Rattle.ft_laws_agreement.specs.Sequencing.{Each, IsBlockOf, IsReady, IsTyped, inserts_in, removes_in}
+use Rattle.ft_laws_agreement.specs.Starts.{IsRunFrom}
 use Rattle.ft_laws_agreement.proofs.AgreedStage.{len-put-add}
-use Rattle.ft_laws_agreement.proofs.ClientsAgree.{clients-agree}
-use Rattle.ft_laws_agreement.proofs.EveryClientReady.{every-client-ready}
+use Rattle.ft_laws_agreement.proofs.ClientsAgree.{clients-agree, clients-agree-from}
+use Rattle.ft_laws_agreement.proofs.EveryClientReady.{client-ready-from, every-client-ready}
 use Rattle.ft_laws_agreement.proofs.RangesOfLists.{len-range}
 use Rattle.ft_laws_summaries.proofs.Lists.{size}
 use Rattle.ft_laws_sessions.specs.Load.{IsHeldWithin}
@@ -336,9 +337,9 @@ pub record IsPendingWithin (n : ℕ) (doc : Document) : Type 0 where
   pub rows : len is_pending doc.rows.items ≤ n
   pub cols : len is_pending doc.cols.items ≤ n
 
-pending-within : (steps : List ClientStep) (x : NaiveClient) → IsRun steps x → IsPendingWithin (total edit_inserts x.pending) x.doc
-pending-within steps x r =
-    let ready = every-client-ready steps x r.made r.bodies in
+-- those of a client that is ready are those that its pending edits inserted
+pub pending-ready : (x : NaiveClient) → IsReady x → IsPendingWithin (total edit_inserts x.pending) x.doc
+pending-ready x ready =
     let stages = stages_of x in
     let typed = λ (t : Stage). IsTyped t.stage x.doc t.names t.sub_operation in
     let sum = stages-of x.pending in
@@ -351,6 +352,9 @@ pending-within steps x r =
     let rows_less = stages-less (counted_of (inserts_in Rows) x.doc.rows.items) typed (λ t h. rows-stage x.doc t t.sub_operation h) stages ready.typed in
     let cols_less = stages-less (counted_of (inserts_in Cols) x.doc.cols.items) typed (λ t h. cols-stage x.doc t t.sub_operation h) stages ready.typed in
     record { text = omega (arith, sum, text_pending, text_less); rows = omega (arith, sum, rows_pending, rows_less); cols = omega (arith, sum, cols_pending, cols_less) }
+
+pending-within : (steps : List ClientStep) (x : NaiveClient) → IsRun steps x → IsPendingWithin (total edit_inserts x.pending) x.doc
+pending-within steps x r = pending-ready x (every-client-ready steps x r.made r.bodies)
 
 -- what a client's lists ever held
 pub held-within : (steps : List ClientStep) (x : NaiveClient) → IsRun steps x → IsHeldWithin (total entry_inserts (taken_entries steps) + total edit_inserts x.pending) x.doc
@@ -381,6 +385,31 @@ sized-within steps x r =
     let text_size : size (sequenced_elements x.doc.text.items) ≡ size (agreed (taken_entries steps)).text.items = ap (λ (d : Document). size d.text.items) agrees in
     let rows_size : size (sequenced_elements x.doc.rows.items) ≡ size (agreed (taken_entries steps)).rows.items = ap (λ (d : Document). size d.rows.items) agrees in
     let cols_size : size (sequenced_elements x.doc.cols.items) ≡ size (agreed (taken_entries steps)).cols.items = ap (λ (d : Document). size d.cols.items) agrees in
+    let text_both = two-kinds x.doc.text.items in
+    let rows_both = two-kinds x.doc.rows.items in
+    let cols_both = two-kinds x.doc.cols.items in
+    record {
+      text = let a = grown.text in let b = pending.text in omega (arith, text_size, text_both, a, b);
+      rows = let a = grown.rows in let b = pending.rows in omega (arith, rows_size, rows_both, a, b);
+      cols = let a = grown.cols in let b = pending.cols in omega (arith, cols_size, cols_both, a, b);
+    }
+
+-- the same from any start: the elements that it began with, those that the entries inserted, and those that are pending
+pub record IsSizedFrom (n : ℕ) (start doc : Document) : Type 0 where
+  pub text : size doc.text.items ≤ size start.text.items + n
+  pub rows : size doc.rows.items ≤ size start.rows.items + n
+  pub cols : size doc.cols.items ≤ size start.cols.items + n
+
+pub sized-from : (start : Document) (steps : List ClientStep) (x : NaiveClient) → IsRunFrom start steps x
+    → IsSizedFrom (total entry_inserts (taken_entries steps) + total edit_inserts x.pending) start x.doc
+sized-from start steps x r =
+    let after = take_entries start (taken_entries steps) in
+    let agrees = clients-agree-from start steps x r in
+    let grown = entries-grown (taken_entries steps) start in
+    let pending = pending-ready x (client-ready-from start steps x r) in
+    let text_size : size (sequenced_elements x.doc.text.items) ≡ size after.text.items = ap (λ (d : Document). size d.text.items) agrees in
+    let rows_size : size (sequenced_elements x.doc.rows.items) ≡ size after.rows.items = ap (λ (d : Document). size d.rows.items) agrees in
+    let cols_size : size (sequenced_elements x.doc.cols.items) ≡ size after.cols.items = ap (λ (d : Document). size d.cols.items) agrees in
     let text_both = two-kinds x.doc.text.items in
     let rows_both = two-kinds x.doc.rows.items in
     let cols_both = two-kinds x.doc.cols.items in

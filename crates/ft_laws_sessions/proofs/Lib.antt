@@ -29,3 +29,4 @@ mod KeptLoad
 pub mod SummaryLaws
 pub mod ValidLaws
 pub mod MadeWorlds
+pub mod ClientDrafts

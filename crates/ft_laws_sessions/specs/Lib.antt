@@ -8,3 +8,4 @@ pub mod Reports
 pub mod Offers
 pub mod NewNames
 pub mod MadeWorlds
+pub mod ClientDrafts
