@@ -1,8 +1,9 @@
 //! What a value is, and the fields of an object.
 
-ghost use Rattle.std.specs.Prelude.{◌≡◌, ◌≢◌, IfOk, IfErr, map, option_map};
+ghost use Rattle.std.specs.Prelude.{◌≡◌, map, option_map};
 ghost use Rattle.std.specs.Result.{result_map_both};
 ghost use Rattle.serde_json.specs.View.{view};
+ghost use Rattle.ft_json.specs.Readers.{Gives};
 ghost use Rattle.ft_json.specs.Objects.{entry_pairs};
 ghost use Rattle.ft_json.specs.Reading.{whole_within, count, items, pairs, field, given_field, num_field, signed_field, count_field, str_field, text_field, array_field};
 
@@ -123,9 +124,7 @@ pub fn str_field(value: &Value, f: Field) -> Result<&str, FieldFault>
 /// where the field is there and is no string, and `OutOfMemory` where there is no room for the text.
 #[tactic(auto, unfolding(crate::specs::Reading::text_field, crate::specs::Reading::str_field))]
 pub fn text_field(alloc: Global, value: &Value, f: Field) -> Result<Text, FieldFault>
-    ensures ok { IfOk result (λ text. text_field (view value.now) f ≡ Ok text) }
-    ensures err { IfErr result (λ fault. fault ≢ FieldFault.OutOfMemory
-        → text_field (view value.now) f ≡ Err fault) }
+    ensures { Gives FieldFault.OutOfMemory (text_field (view value.now) f) result }
 {
     let found = str_field(value, f)?;
     Ok(Text::new(alloc, found)?)

@@ -1,10 +1,11 @@
 //! From a value to its text.
 
-ghost use Rattle.std.specs.Prelude.{◌≡◌, ◌≢◌, IfOk, IfErr};
+ghost use Rattle.std.specs.Prelude.{◌≡◌, IfOk};
 ghost use Rattle.std.specs.Fmt.{signed_decimal};
 ghost use Rattle.json.specs.Print.{quoted};
 ghost use Rattle.serde_json.specs.View.{view};
 ghost use Rattle.serde_json.specs.Written.{compact_text};
+ghost use Rattle.ft_json.specs.Readers.{Gives};
 ghost use Rattle.ft_json.specs.Bounds.{kept_levels};
 ghost use Rattle.ft_json.specs.Canonical.{canonical, IsCanonical, IsTextWithin};
 ghost use Rattle.ft_json.specs.Reading.{read_line};
@@ -26,9 +27,7 @@ use std::alloc::Global;
 /// where there is no room for the text.
 #[tactic(auto, unfolding(crate::specs::Canonical::canonical))]
 pub fn canonical(alloc: Global, value: &Value) -> Result<ValText, JsonFault>
-    ensures ok { IfOk result (λ text. canonical (view value.now) ≡ Ok text) }
-    ensures err { IfErr result (λ fault. fault ≢ JsonFault.OutOfMemory
-        → canonical (view value.now) ≡ Err fault) }
+    ensures reads { Gives JsonFault.OutOfMemory (canonical (view value.now)) result }
     ensures kept { IfOk result (IsTextWithin kept_levels) }
     ensures reads_back { IfOk result (λ text. read_line text ≡ Ok (view value.now)) }
 {

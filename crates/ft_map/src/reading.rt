@@ -1,7 +1,8 @@
 //! Reading the events of a map session.
 
-ghost use Rattle.std.specs.Prelude.{◌≡◌, ◌≢◌, Ok, Err, IfOk, IfErr, option_map};
+ghost use Rattle.std.specs.Prelude.{Ok, Err, option_map};
 ghost use Rattle.serde_json.specs.View.{view};
+ghost use Rattle.ft_json.specs.Readers.{Gives};
 ghost use Rattle.ft_map.specs.declared.events.MapEvent.TheVariants.{Connect, Drop, Show, Summary, Ticket, Deliver};
 ghost use Rattle.ft_map.specs.MapEventReader.{ReadsMapEvent};
 ghost use Rattle.ft_map.specs.MapGrammar.{counted_event, delete_op, edit_event, edit_op, event_for, event_of, event_of_client, map_event, map_op, set_op, set_value, start_event, typed_op};
@@ -30,8 +31,7 @@ pub fn read_map_event(alloc: Global, line: &[u8]) -> Result<MapEvent, Refusal>
 // The event that the line is, or the cause why it is none.
 #[tactic(auto, unfolding(crate::specs::MapGrammar::map_event))]
 fn read_event_text(alloc: Global, line: &[u8]) -> Result<MapEvent, Cause>
-    ensures ok { IfOk result (λ e. map_event line.now ≡ Ok e) }
-    ensures err { IfErr result (λ cause. cause ≢ Cause.OutOfMemory → map_event line.now ≡ Err cause) }
+    ensures { Gives Cause.OutOfMemory (map_event line.now) result }
 {
     let value = read_line(alloc, line)?;
     read_event_value(alloc, &value)
@@ -40,8 +40,7 @@ fn read_event_text(alloc: Global, line: &[u8]) -> Result<MapEvent, Cause>
 // The event that the value is.
 #[tactic(auto, unfolding(crate::specs::MapGrammar::event_of))]
 fn read_event_value(alloc: Global, value: &Value) -> Result<MapEvent, Cause>
-    ensures ok { IfOk result (λ e. event_of (view value.now) ≡ Ok e) }
-    ensures err { IfErr result (λ cause. cause ≢ Cause.OutOfMemory → event_of (view value.now) ≡ Err cause) }
+    ensures { Gives Cause.OutOfMemory (event_of (view value.now)) result }
 {
     if !is_object(value) {
         return Err(Cause::WrongKind(Field::Line));
@@ -51,8 +50,7 @@ fn read_event_value(alloc: Global, value: &Value) -> Result<MapEvent, Cause>
 
 // The event of this word.
 fn read_event_for(alloc: Global, value: &Value, word: &str) -> Result<MapEvent, Cause>
-    ensures ok { IfOk result (λ e. event_for word.now (view value.now) ≡ Ok e) }
-    ensures err { IfErr result (λ cause. cause ≢ Cause.OutOfMemory → event_for word.now (view value.now) ≡ Err cause) }
+    ensures { Gives Cause.OutOfMemory (event_for word.now (view value.now)) result }
 {
     match word {
         "start" => read_start(alloc, value),
@@ -70,8 +68,7 @@ fn read_event_for(alloc: Global, value: &Value, word: &str) -> Result<MapEvent, 
 // A connection for the client.
 #[tactic(auto, unfolding(crate::specs::MapGrammar::event_of_client))]
 fn read_connect(alloc: Global, value: &Value) -> Result<MapEvent, Cause>
-    ensures ok { IfOk result (λ e. event_of_client Connect (view value.now) ≡ Ok e) }
-    ensures err { IfErr result (λ cause. cause ≢ Cause.OutOfMemory → event_of_client Connect (view value.now) ≡ Err cause) }
+    ensures { Gives Cause.OutOfMemory (event_of_client Connect (view value.now)) result }
 {
     let client = read_client(alloc, value)?;
     Ok(MapEvent::Connect { client })
@@ -80,8 +77,7 @@ fn read_connect(alloc: Global, value: &Value) -> Result<MapEvent, Cause>
 // The loss of the client's connection.
 #[tactic(auto, unfolding(crate::specs::MapGrammar::event_of_client))]
 fn read_drop(alloc: Global, value: &Value) -> Result<MapEvent, Cause>
-    ensures ok { IfOk result (λ e. event_of_client Drop (view value.now) ≡ Ok e) }
-    ensures err { IfErr result (λ cause. cause ≢ Cause.OutOfMemory → event_of_client Drop (view value.now) ≡ Err cause) }
+    ensures { Gives Cause.OutOfMemory (event_of_client Drop (view value.now)) result }
 {
     let client = read_client(alloc, value)?;
     Ok(MapEvent::Drop { client })
@@ -90,8 +86,7 @@ fn read_drop(alloc: Global, value: &Value) -> Result<MapEvent, Cause>
 // The client's view.
 #[tactic(auto, unfolding(crate::specs::MapGrammar::event_of_client))]
 fn read_show(alloc: Global, value: &Value) -> Result<MapEvent, Cause>
-    ensures ok { IfOk result (λ e. event_of_client Show (view value.now) ≡ Ok e) }
-    ensures err { IfErr result (λ cause. cause ≢ Cause.OutOfMemory → event_of_client Show (view value.now) ≡ Err cause) }
+    ensures { Gives Cause.OutOfMemory (event_of_client Show (view value.now)) result }
 {
     let client = read_client(alloc, value)?;
     Ok(MapEvent::Show { client })
@@ -100,8 +95,7 @@ fn read_show(alloc: Global, value: &Value) -> Result<MapEvent, Cause>
 // The client's summary.
 #[tactic(auto, unfolding(crate::specs::MapGrammar::event_of_client))]
 fn read_summary(alloc: Global, value: &Value) -> Result<MapEvent, Cause>
-    ensures ok { IfOk result (λ e. event_of_client Summary (view value.now) ≡ Ok e) }
-    ensures err { IfErr result (λ cause. cause ≢ Cause.OutOfMemory → event_of_client Summary (view value.now) ≡ Err cause) }
+    ensures { Gives Cause.OutOfMemory (event_of_client Summary (view value.now)) result }
 {
     let client = read_client(alloc, value)?;
     Ok(MapEvent::Summary { client })
@@ -110,8 +104,7 @@ fn read_summary(alloc: Global, value: &Value) -> Result<MapEvent, Cause>
 // So many of the client's oldest unsent messages are submitted.
 #[tactic(auto, unfolding(crate::specs::MapGrammar::counted_event))]
 fn read_ticket(alloc: Global, value: &Value) -> Result<MapEvent, Cause>
-    ensures ok { IfOk result (λ e. counted_event Ticket (view value.now) ≡ Ok e) }
-    ensures err { IfErr result (λ cause. cause ≢ Cause.OutOfMemory → counted_event Ticket (view value.now) ≡ Err cause) }
+    ensures { Gives Cause.OutOfMemory (counted_event Ticket (view value.now)) result }
 {
     let client = read_client(alloc, value)?;
     let count = read_count(field(value, Field::Count))?;
@@ -121,8 +114,7 @@ fn read_ticket(alloc: Global, value: &Value) -> Result<MapEvent, Cause>
 // The client processes so many of the next messages.
 #[tactic(auto, unfolding(crate::specs::MapGrammar::counted_event))]
 fn read_deliver(alloc: Global, value: &Value) -> Result<MapEvent, Cause>
-    ensures ok { IfOk result (λ e. counted_event Deliver (view value.now) ≡ Ok e) }
-    ensures err { IfErr result (λ cause. cause ≢ Cause.OutOfMemory → counted_event Deliver (view value.now) ≡ Err cause) }
+    ensures { Gives Cause.OutOfMemory (counted_event Deliver (view value.now)) result }
 {
     let client = read_client(alloc, value)?;
     let count = read_count(field(value, Field::Count))?;
@@ -132,8 +124,7 @@ fn read_deliver(alloc: Global, value: &Value) -> Result<MapEvent, Cause>
 // A new client.
 #[tactic(auto, unfolding(crate::specs::MapGrammar::start_event))]
 fn read_start(alloc: Global, value: &Value) -> Result<MapEvent, Cause>
-    ensures ok { IfOk result (λ e. start_event (view value.now) ≡ Ok e) }
-    ensures err { IfErr result (λ cause. cause ≢ Cause.OutOfMemory → start_event (view value.now) ≡ Err cause) }
+    ensures { Gives Cause.OutOfMemory (start_event (view value.now)) result }
 {
     let client = read_client(alloc, value)?;
     let from = read_from(alloc, field(value, Field::From))?;
@@ -143,8 +134,7 @@ fn read_start(alloc: Global, value: &Value) -> Result<MapEvent, Cause>
 // An edit of the client's own.
 #[tactic(auto, unfolding(crate::specs::MapGrammar::edit_event))]
 fn read_edit(alloc: Global, value: &Value) -> Result<MapEvent, Cause>
-    ensures ok { IfOk result (λ e. edit_event (view value.now) ≡ Ok e) }
-    ensures err { IfErr result (λ cause. cause ≢ Cause.OutOfMemory → edit_event (view value.now) ≡ Err cause) }
+    ensures { Gives Cause.OutOfMemory (edit_event (view value.now)) result }
 {
     let client = read_client(alloc, value)?;
     let op = read_edit_op(alloc, field(value, Field::Op))?;
@@ -153,8 +143,7 @@ fn read_edit(alloc: Global, value: &Value) -> Result<MapEvent, Cause>
 
 // The operation of an edit, which has to be there, and an object.
 fn read_edit_op(alloc: Global, value: Option<&Value>) -> Result<MapOp, Cause>
-    ensures ok { IfOk result (λ op. edit_op (option_map (λ d. view d.now) value.entry) ≡ Ok op) }
-    ensures err { IfErr result (λ cause. cause ≢ Cause.OutOfMemory → edit_op (option_map (λ d. view d.now) value.entry) ≡ Err cause) }
+    ensures { Gives Cause.OutOfMemory (edit_op (option_map (λ d. view d.now) value.entry)) result }
 {
     let value = value.ok_or(Cause::Missing(Field::Op))?;
     if !is_object(value) {
@@ -166,16 +155,14 @@ fn read_edit_op(alloc: Global, value: Option<&Value>) -> Result<MapOp, Cause>
 // The operation that the object is.
 #[tactic(auto, unfolding(crate::specs::MapGrammar::map_op))]
 fn read_op(alloc: Global, value: &Value) -> Result<MapOp, Cause>
-    ensures ok { IfOk result (λ op. map_op (view value.now) ≡ Ok op) }
-    ensures err { IfErr result (λ cause. cause ≢ Cause.OutOfMemory → map_op (view value.now) ≡ Err cause) }
+    ensures { Gives Cause.OutOfMemory (map_op (view value.now)) result }
 {
     read_typed_op(alloc, value, str_field(value, Field::Kind)?)
 }
 
 // The operation of this type.
 fn read_typed_op(alloc: Global, value: &Value, word: &str) -> Result<MapOp, Cause>
-    ensures ok { IfOk result (λ op. typed_op word.now (view value.now) ≡ Ok op) }
-    ensures err { IfErr result (λ cause. cause ≢ Cause.OutOfMemory → typed_op word.now (view value.now) ≡ Err cause) }
+    ensures { Gives Cause.OutOfMemory (typed_op word.now (view value.now)) result }
 {
     match word {
         "set" => read_set(alloc, value),
@@ -188,8 +175,7 @@ fn read_typed_op(alloc: Global, value: &Value, word: &str) -> Result<MapOp, Caus
 // A key that gets a value.
 #[tactic(auto, unfolding(crate::specs::MapGrammar::set_op))]
 fn read_set(alloc: Global, value: &Value) -> Result<MapOp, Cause>
-    ensures ok { IfOk result (λ op. set_op (view value.now) ≡ Ok op) }
-    ensures err { IfErr result (λ cause. cause ≢ Cause.OutOfMemory → set_op (view value.now) ≡ Err cause) }
+    ensures { Gives Cause.OutOfMemory (set_op (view value.now)) result }
 {
     let key = text_field(alloc, value, Field::Key)?;
     let value = read_set_value(alloc, field(value, Field::Value))?;
@@ -198,8 +184,7 @@ fn read_set(alloc: Global, value: &Value) -> Result<MapOp, Cause>
 
 // The text of the value that a key gets, which has to be there.
 fn read_set_value(alloc: Global, value: Option<&Value>) -> Result<ValText, Cause>
-    ensures ok { IfOk result (λ text. set_value (option_map (λ d. view d.now) value.entry) ≡ Ok text) }
-    ensures err { IfErr result (λ cause. cause ≢ Cause.OutOfMemory → set_value (option_map (λ d. view d.now) value.entry) ≡ Err cause) }
+    ensures { Gives Cause.OutOfMemory (set_value (option_map (λ d. view d.now) value.entry)) result }
 {
     let value = value.ok_or(Cause::Missing(Field::Value))?;
     Ok(canonical(alloc, value)?)
@@ -208,8 +193,7 @@ fn read_set_value(alloc: Global, value: Option<&Value>) -> Result<ValText, Cause
 // A key that is taken away.
 #[tactic(auto, unfolding(crate::specs::MapGrammar::delete_op))]
 fn read_delete(alloc: Global, value: &Value) -> Result<MapOp, Cause>
-    ensures ok { IfOk result (λ op. delete_op (view value.now) ≡ Ok op) }
-    ensures err { IfErr result (λ cause. cause ≢ Cause.OutOfMemory → delete_op (view value.now) ≡ Err cause) }
+    ensures { Gives Cause.OutOfMemory (delete_op (view value.now)) result }
 {
     let key = text_field(alloc, value, Field::Key)?;
     Ok(MapOp::Delete { key })

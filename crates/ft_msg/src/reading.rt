@@ -1,8 +1,8 @@
 //! Reading messages and drafts.
 
-ghost use Rattle.std.specs.Prelude.{◌≡◌, ◌≢◌, Ok, Err, IfOk, IfErr, chars, option_map};
+ghost use Rattle.std.specs.Prelude.{◌≡◌, Ok, Err, IfOk, chars, option_map};
 ghost use Rattle.serde_json.specs.View.{view};
-ghost use Rattle.ft_json.specs.Readers.{Reads};
+ghost use Rattle.ft_json.specs.Readers.{Gives, Reads};
 ghost use Rattle.ft_msg.specs.MessageGrammar.{body_of, draft, draft_body, draft_of, is_op_kind, kind_of, message, message_of, sender_of};
 ghost use Rattle.ft_msg.specs.WellFormed.{HasNumbersInRange, IsWellFormedBody, IsWellFormedDraft, IsWellFormedMessage};
 
@@ -31,8 +31,7 @@ pub fn read_message(alloc: Global, bytes: &[u8]) -> Result<Message, Cause>
 /// The message that the value is.
 #[tactic(auto, unfolding(crate::specs::MessageGrammar::message_of))]
 fn read_message_value(alloc: Global, value: &Value) -> Result<Message, Cause>
-    ensures ok { IfOk result (λ m. message_of (view value.now) ≡ Ok m) }
-    ensures err { IfErr result (λ cause. cause ≢ Cause.OutOfMemory → message_of (view value.now) ≡ Err cause) }
+    ensures reads { Gives Cause.OutOfMemory (message_of (view value.now)) result }
     ensures body { IfOk result (λ m. IsWellFormedBody m.body) }
 {
     if !is_object(value) {
@@ -79,8 +78,7 @@ fn is_op_kind(kind: &MsgKind) -> bool
 /// The name of the connection that sent a message of this kind: none where the field isn't given,
 /// which is a fault for an operation.
 fn read_sender(alloc: Global, kind: &MsgKind, name: Option<&Value>) -> Result<Option<Text>, Cause>
-    ensures ok { IfOk result (λ sender. sender_of kind.now (option_map (λ d. view d.now) name.entry) ≡ Ok sender) }
-    ensures err { IfErr result (λ cause. cause ≢ Cause.OutOfMemory → sender_of kind.now (option_map (λ d. view d.now) name.entry) ≡ Err cause) }
+    ensures { Gives Cause.OutOfMemory (sender_of kind.now (option_map (λ d. view d.now) name.entry)) result }
 {
     match name {
         Some(name) => {
@@ -94,9 +92,7 @@ fn read_sender(alloc: Global, kind: &MsgKind, name: Option<&Value>) -> Result<Op
 
 /// The body of a message of this kind.
 fn read_body(alloc: Global, kind: &MsgKind, value: &Value) -> Result<Body, Cause>
-    ensures ok { IfOk result (λ body. body_of kind.now (view value.now) ≡ Ok body) }
-    ensures err { IfErr result (λ cause. cause ≢ Cause.OutOfMemory → body_of kind.now (view value.now) ≡ Err cause) }
-    ensures formed { IfOk result IsWellFormedBody }
+    ensures { Reads Cause.OutOfMemory (body_of kind.now (view value.now)) IsWellFormedBody result }
 {
     if !is_op_kind(kind) {
         return Ok(Body::Nothing);
@@ -119,8 +115,7 @@ pub fn read_draft(alloc: Global, bytes: &[u8]) -> Result<Draft, Cause>
 /// The draft that the value is.
 #[tactic(auto, unfolding(crate::specs::MessageGrammar::draft_of))]
 fn read_draft_value(alloc: Global, value: &Value) -> Result<Draft, Cause>
-    ensures ok { IfOk result (λ read. draft_of (view value.now) ≡ Ok read) }
-    ensures err { IfErr result (λ cause. cause ≢ Cause.OutOfMemory → draft_of (view value.now) ≡ Err cause) }
+    ensures reads { Gives Cause.OutOfMemory (draft_of (view value.now)) result }
     ensures body { IfOk result (λ read. IsWellFormedBody read.body) }
 {
     if !is_object(value) {
@@ -138,9 +133,7 @@ fn read_draft_value(alloc: Global, value: &Value) -> Result<Draft, Cause>
 
 /// The body of a draft of this type.
 fn read_draft_body(alloc: Global, value: &Value, word: &str) -> Result<Body, Cause>
-    ensures ok { IfOk result (λ body. draft_body (view value.now) word.now ≡ Ok body) }
-    ensures err { IfErr result (λ cause. cause ≢ Cause.OutOfMemory → draft_body (view value.now) word.now ≡ Err cause) }
-    ensures formed { IfOk result IsWellFormedBody }
+    ensures { Reads Cause.OutOfMemory (draft_body (view value.now) word.now) IsWellFormedBody result }
 {
     match word {
         "op" => read_op_body(alloc, value),

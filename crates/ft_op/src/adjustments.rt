@@ -1,7 +1,8 @@
 //! Reading the adjustments of an annotation.
 
-ghost use Rattle.std.specs.Prelude.{◌≡◌, ◌≢◌, Ok, Err, IfOk, IfErr, IsFalse, Some, chars, is_some};
+ghost use Rattle.std.specs.Prelude.{◌≡◌, Ok, Err, IfOk, IsFalse, Some, chars, is_some};
 ghost use Rattle.serde_json.specs.View.{view};
+ghost use Rattle.ft_json.specs.Readers.{Reads};
 ghost use Rattle.ft_json.specs.Objects.{entry_pairs};
 ghost use Rattle.ft_props.specs.Properties.{value_of};
 ghost use Rattle.ft_op.specs.TextGrammar.{adjustment, adjustment_beside, adjustment_of, adjustments_of, bound, given_adjustments};
@@ -22,9 +23,7 @@ pub(crate) fn read_given_adjustments(
     set: &PropSet,
     value: &Value,
 ) -> Result<AdjSet, OpFault>
-    ensures ok { IfOk result (λ read. given_adjustments set.now (view value.now) ≡ Ok read) }
-    ensures err { IfErr result (λ fault. fault ≢ OpFault.OutOfMemory → given_adjustments set.now (view value.now) ≡ Err fault) }
-    ensures formed { IfOk result (AreAdjustments set.now) }
+    ensures { Reads OpFault.OutOfMemory (given_adjustments set.now (view value.now)) (AreAdjustments set.now) result }
 {
     match given_field(value, Field::Adjust) {
         Some(adjust) => read_adjustments(
@@ -42,9 +41,7 @@ fn read_adjustments(
     set: &PropSet,
     entries: &Map<String, Value>,
 ) -> Result<AdjSet, OpFault>
-    ensures ok { IfOk result (λ read. adjustments_of set.now (Some (entry_pairs entries.now.entries)) ≡ Ok read) }
-    ensures err { IfErr result (λ fault. fault ≢ OpFault.OutOfMemory → adjustments_of set.now (Some (entry_pairs entries.now.entries)) ≡ Err fault) }
-    ensures formed { IfOk result (AreAdjustments set.now) }
+    ensures { Reads OpFault.OutOfMemory (adjustments_of set.now (Some (entry_pairs entries.now.entries))) (AreAdjustments set.now) result }
 {
     let mut adjustments = AdjSet::new(alloc);
     for (key, value) in entries.iter() {

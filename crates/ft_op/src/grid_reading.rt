@@ -1,6 +1,6 @@
 //! Reading operations of the grid from JSON values.
 
-ghost use Rattle.std.specs.Prelude.{◌≡◌, ◌≢◌, Ok, Err, IfOk, IfErr, map, option_map};
+ghost use Rattle.std.specs.Prelude.{◌≡◌, Ok, Err, IfOk, map, option_map};
 ghost use Rattle.std.specs.List.{AllByRecursion};
 ghost use Rattle.serde_json.specs.View.{view};
 ghost use Rattle.ft_json.specs.Readers.{Reads};
@@ -46,9 +46,7 @@ fn is_group(value: &Value) -> bool
 /// The group that the object is.
 #[tactic(auto, unfolding(crate::specs::GridGrammar::group))]
 fn read_group(alloc: Global, value: &Value) -> Result<GridOp, OpFault>
-    ensures ok { IfOk result (λ op. group (view value.now) ≡ Ok op) }
-    ensures err { IfErr result (λ fault. fault ≢ OpFault.OutOfMemory → group (view value.now) ≡ Err fault) }
-    ensures formed { IfOk result IsWellFormedGrid }
+    ensures { Reads OpFault.OutOfMemory (group (view value.now)) IsWellFormedGrid result }
 {
     let items = array_field(value, Field::Ops)?;
     Ok(GridOp::Group(read_group_items(alloc, items)?))
@@ -56,9 +54,7 @@ fn read_group(alloc: Global, value: &Value) -> Result<GridOp, OpFault>
 
 /// The operations of the items of a group.
 fn read_group_items(alloc: Global, items: &[Value]) -> Result<CellOps, OpFault>
-    ensures ok { IfOk result (λ ops. read_each group_item (map view items.now) ≡ Ok ops) }
-    ensures err { IfErr result (λ fault. fault ≢ OpFault.OutOfMemory → read_each group_item (map view items.now) ≡ Err fault) }
-    ensures formed { IfOk result (AllByRecursion IsWellFormedCell) }
+    ensures { Reads OpFault.OutOfMemory (read_each group_item (map view items.now)) (AllByRecursion IsWellFormedCell) result }
 {
     let mut ops = CellOps::new(alloc);
     for item in items {
@@ -71,9 +67,7 @@ fn read_group_items(alloc: Global, items: &[Value]) -> Result<CellOps, OpFault>
 /// The operation of an item of a group.
 #[tactic(auto, unfolding(crate::specs::GridGrammar::group_item))]
 fn read_group_item(alloc: Global, item: &Value) -> Result<CellOp, OpFault>
-    ensures ok { IfOk result (λ op. group_item (view item.now) ≡ Ok op) }
-    ensures err { IfErr result (λ fault. fault ≢ OpFault.OutOfMemory → group_item (view item.now) ≡ Err fault) }
-    ensures formed { IfOk result IsWellFormedCell }
+    ensures { Reads OpFault.OutOfMemory (group_item (view item.now)) IsWellFormedCell result }
 {
     if !is_object(item) {
         return Err(OpFault::WrongKind(Field::Ops));
@@ -87,9 +81,7 @@ fn read_group_item(alloc: Global, item: &Value) -> Result<CellOp, OpFault>
 /// The operation of the object, which is no group.
 #[tactic(auto, unfolding(crate::specs::GridGrammar::cell_op))]
 fn read_cell_op(alloc: Global, value: &Value) -> Result<CellOp, OpFault>
-    ensures ok { IfOk result (λ op. cell_op (view value.now) ≡ Ok op) }
-    ensures err { IfErr result (λ fault. fault ≢ OpFault.OutOfMemory → cell_op (view value.now) ≡ Err fault) }
-    ensures formed { IfOk result IsWellFormedCell }
+    ensures { Reads OpFault.OutOfMemory (cell_op (view value.now)) IsWellFormedCell result }
 {
     match field(value, Field::Target) {
         Some(target) => read_splice(value, target),
@@ -99,9 +91,7 @@ fn read_cell_op(alloc: Global, value: &Value) -> Result<CellOp, OpFault>
 
 /// The operation without a target, whose field `type` is given.
 fn read_untargeted(alloc: Global, value: &Value, kind: Option<&Value>) -> Result<CellOp, OpFault>
-    ensures ok { IfOk result (λ op. untargeted (view value.now) (option_map (λ d. view d.now) kind.entry) ≡ Ok op) }
-    ensures err { IfErr result (λ fault. fault ≢ OpFault.OutOfMemory → untargeted (view value.now) (option_map (λ d. view d.now) kind.entry) ≡ Err fault) }
-    ensures formed { IfOk result IsWellFormedCell }
+    ensures { Reads OpFault.OutOfMemory (untargeted (view value.now) (option_map (λ d. view d.now) kind.entry)) IsWellFormedCell result }
 {
     let kind = kind.ok_or(OpFault::Missing(Field::Kind))?;
     if kind.as_str() == Some("set") {
@@ -116,9 +106,7 @@ fn read_untargeted(alloc: Global, value: &Value, kind: Option<&Value>) -> Result
 /// The write to a cell that the object is.
 #[tactic(auto, unfolding(crate::specs::GridGrammar::cell_write))]
 fn read_cell_write(alloc: Global, value: &Value) -> Result<CellOp, OpFault>
-    ensures ok { IfOk result (λ op. cell_write (view value.now) ≡ Ok op) }
-    ensures err { IfErr result (λ fault. fault ≢ OpFault.OutOfMemory → cell_write (view value.now) ≡ Err fault) }
-    ensures formed { IfOk result IsWellFormedCell }
+    ensures { Reads OpFault.OutOfMemory (cell_write (view value.now)) IsWellFormedCell result }
 {
     let row = count_field(value, Field::Row)?;
     let col = count_field(value, Field::Col)?;

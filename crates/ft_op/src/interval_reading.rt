@@ -1,7 +1,8 @@
 //! Reading operations on intervals from JSON values.
 
-ghost use Rattle.std.specs.Prelude.{◌≡◌, ◌≢◌, Ok, Err, IfOk, IfErr};
+ghost use Rattle.std.specs.Prelude.{◌≡◌, Ok, Err};
 ghost use Rattle.serde_json.specs.View.{view};
+ghost use Rattle.ft_json.specs.Readers.{Reads};
 ghost use Rattle.ft_op.specs.TextGrammar.{are_read_ends, interval_add, interval_change, interval_delete, interval_ends, interval_op, new_ends};
 ghost use Rattle.ft_op.specs.WellFormed.{IsWellFormedText};
 
@@ -18,9 +19,7 @@ pub(crate) fn read_interval_op(
     value: &Value,
     interval: &Value,
 ) -> Result<TextOp, OpFault>
-    ensures ok { IfOk result (λ op. interval_op (view value.now) (view interval.now) ≡ Ok op) }
-    ensures err { IfErr result (λ fault. fault ≢ OpFault.OutOfMemory → interval_op (view value.now) (view interval.now) ≡ Err fault) }
-    ensures formed { IfOk result IsWellFormedText }
+    ensures { Reads OpFault.OutOfMemory (interval_op (view value.now) (view interval.now)) IsWellFormedText result }
 {
     match interval.as_str() {
         Some("add") => read_interval_add(alloc, value),
@@ -33,9 +32,7 @@ pub(crate) fn read_interval_op(
 /// The new interval that the object is.
 #[tactic(auto, unfolding(crate::specs::TextGrammar::interval_add))]
 fn read_interval_add(alloc: Global, value: &Value) -> Result<TextOp, OpFault>
-    ensures ok { IfOk result (λ op. interval_add (view value.now) ≡ Ok op) }
-    ensures err { IfErr result (λ fault. fault ≢ OpFault.OutOfMemory → interval_add (view value.now) ≡ Err fault) }
-    ensures formed { IfOk result IsWellFormedText }
+    ensures { Reads OpFault.OutOfMemory (interval_add (view value.now)) IsWellFormedText result }
 {
     Ok(TextOp::IntervalAdd {
         label: text_field(alloc, value, Field::Label)?,
@@ -48,9 +45,7 @@ fn read_interval_add(alloc: Global, value: &Value) -> Result<TextOp, OpFault>
 /// The change of an interval that the object is.
 #[tactic(auto, unfolding(crate::specs::TextGrammar::interval_change))]
 fn read_interval_change(alloc: Global, value: &Value) -> Result<TextOp, OpFault>
-    ensures ok { IfOk result (λ op. interval_change (view value.now) ≡ Ok op) }
-    ensures err { IfErr result (λ fault. fault ≢ OpFault.OutOfMemory → interval_change (view value.now) ≡ Err fault) }
-    ensures formed { IfOk result IsWellFormedText }
+    ensures { Reads OpFault.OutOfMemory (interval_change (view value.now)) IsWellFormedText result }
 {
     Ok(TextOp::IntervalChange {
         label: text_field(alloc, value, Field::Label)?,
@@ -63,9 +58,7 @@ fn read_interval_change(alloc: Global, value: &Value) -> Result<TextOp, OpFault>
 /// The deletion of an interval that the object is.
 #[tactic(auto, unfolding(crate::specs::TextGrammar::interval_delete))]
 fn read_interval_delete(alloc: Global, value: &Value) -> Result<TextOp, OpFault>
-    ensures ok { IfOk result (λ op. interval_delete (view value.now) ≡ Ok op) }
-    ensures err { IfErr result (λ fault. fault ≢ OpFault.OutOfMemory → interval_delete (view value.now) ≡ Err fault) }
-    ensures formed { IfOk result IsWellFormedText }
+    ensures { Reads OpFault.OutOfMemory (interval_delete (view value.now)) IsWellFormedText result }
 {
     Ok(TextOp::IntervalDelete {
         label: text_field(alloc, value, Field::Label)?,

@@ -1,7 +1,8 @@
 //! What operations of the text and of the grid have in common: ranges, values and properties.
 
-ghost use Rattle.std.specs.Prelude.{◌≡◌, ◌≢◌, ◌<◌, ◌^◌, pos, Ok, Err, Some, IfOk, IfErr};
+ghost use Rattle.std.specs.Prelude.{◌≡◌, ◌<◌, ◌^◌, pos, Ok, Err, Some, IfOk};
 ghost use Rattle.serde_json.specs.View.{view};
+ghost use Rattle.ft_json.specs.Readers.{Gives, Reads};
 ghost use Rattle.ft_json.specs.Bounds.{kept_levels};
 ghost use Rattle.ft_json.specs.Canonical.{IsTextWithin};
 ghost use Rattle.ft_json.specs.Objects.{entry_pairs};
@@ -51,8 +52,7 @@ fn reversed(first: u64, second: u64) -> OpFault
 /// The text of a value of a property or a cell.
 #[tactic(auto, unfolding(crate::specs::Reading::kept_value))]
 pub(crate) fn read_kept_value(alloc: Global, value: &Value) -> Result<ValText, OpFault>
-    ensures ok { IfOk result (λ text. kept_value (view value.now) ≡ Ok text) }
-    ensures err { IfErr result (λ fault. fault ≢ OpFault.OutOfMemory → kept_value (view value.now) ≡ Err fault) }
+    ensures reads { Gives OpFault.OutOfMemory (kept_value (view value.now)) result }
     ensures kept { IfOk result (IsTextWithin kept_levels) }
     ensures reads_back { IfOk result (λ text. read_line text ≡ Ok (view value.now)) }
 {
@@ -62,9 +62,7 @@ pub(crate) fn read_kept_value(alloc: Global, value: &Value) -> Result<ValText, O
 /// The value that a key is set to, none for null.
 #[tactic(auto, unfolding(crate::specs::Reading::set_value))]
 fn read_set_value(alloc: Global, value: &Value) -> Result<Option<ValText>, OpFault>
-    ensures ok { IfOk result (λ read. set_value (view value.now) ≡ Ok read) }
-    ensures err { IfErr result (λ fault. fault ≢ OpFault.OutOfMemory → set_value (view value.now) ≡ Err fault) }
-    ensures formed { IfOk result IsSetValue }
+    ensures { Reads OpFault.OutOfMemory (set_value (view value.now)) IsSetValue result }
 {
     if value.is_null() {
         return Ok(None);
@@ -75,9 +73,7 @@ fn read_set_value(alloc: Global, value: &Value) -> Result<Option<ValText>, OpFau
 /// The properties of the field `props`: none where it is absent or null.
 #[tactic(auto, unfolding(crate::specs::Reading::given_properties))]
 pub(crate) fn read_given_properties(alloc: Global, value: &Value) -> Result<PropSet, OpFault>
-    ensures ok { IfOk result (λ set. given_properties (view value.now) ≡ Ok set) }
-    ensures err { IfErr result (λ fault. fault ≢ OpFault.OutOfMemory → given_properties (view value.now) ≡ Err fault) }
-    ensures formed { IfOk result IsPropertySet }
+    ensures { Reads OpFault.OutOfMemory (given_properties (view value.now)) IsPropertySet result }
 {
     match given_field(value, Field::Props) {
         Some(props) => read_property_set(
@@ -90,9 +86,7 @@ pub(crate) fn read_given_properties(alloc: Global, value: &Value) -> Result<Prop
 
 /// The properties of the entries of an object.
 fn read_property_set(alloc: Global, entries: &Map<String, Value>) -> Result<PropSet, OpFault>
-    ensures ok { IfOk result (λ set. property_set_of (Some (entry_pairs entries.now.entries)) ≡ Ok set) }
-    ensures err { IfErr result (λ fault. fault ≢ OpFault.OutOfMemory → property_set_of (Some (entry_pairs entries.now.entries)) ≡ Err fault) }
-    ensures formed { IfOk result IsPropertySet }
+    ensures { Reads OpFault.OutOfMemory (property_set_of (Some (entry_pairs entries.now.entries))) IsPropertySet result }
 {
     let mut set = PropSet::new(alloc);
     for (key, value) in entries.iter() {

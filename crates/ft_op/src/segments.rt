@@ -1,7 +1,8 @@
 //! Reading the segment of an insertion.
 
-ghost use Rattle.std.specs.Prelude.{◌≡◌, ◌≢◌, Ok, Err, IfOk, IfErr, option_map};
+ghost use Rattle.std.specs.Prelude.{◌≡◌, Ok, Err, option_map};
 ghost use Rattle.serde_json.specs.View.{view};
+ghost use Rattle.ft_json.specs.Readers.{Gives};
 ghost use Rattle.ft_op.specs.TextGrammar.{characters_of, marker_of, segment};
 
 use crate::operations::{OpFault, Seg};
@@ -15,8 +16,7 @@ use std::alloc::Global;
 /// there, and else by its field `marker`.
 #[tactic(auto, unfolding(crate::specs::TextGrammar::segment))]
 pub(crate) fn read_segment(alloc: Global, seg: &Value) -> Result<Seg, OpFault>
-    ensures ok { IfOk result (λ made. segment (view seg.now) ≡ Ok made) }
-    ensures err { IfErr result (λ fault. fault ≢ OpFault.OutOfMemory → segment (view seg.now) ≡ Err fault) }
+    ensures { Gives OpFault.OutOfMemory (segment (view seg.now)) result }
 {
     if !is_object(seg) {
         return read_characters(alloc, seg);
@@ -29,8 +29,7 @@ pub(crate) fn read_segment(alloc: Global, seg: &Value) -> Result<Seg, OpFault>
 
 /// The characters that a string has.
 fn read_characters(alloc: Global, text: &Value) -> Result<Seg, OpFault>
-    ensures ok { IfOk result (λ made. characters_of (view text.now) ≡ Ok made) }
-    ensures err { IfErr result (λ fault. fault ≢ OpFault.OutOfMemory → characters_of (view text.now) ≡ Err fault) }
+    ensures { Gives OpFault.OutOfMemory (characters_of (view text.now)) result }
 {
     let text = text.as_str().ok_or(OpFault::WrongKind(Field::Seg))?;
     Ok(Seg::Chars {

@@ -1,6 +1,6 @@
 //! Reading operations of the text from JSON values.
 
-ghost use Rattle.std.specs.Prelude.{◌≡◌, ◌≢◌, Ok, Err, IfOk, IfErr, map};
+ghost use Rattle.std.specs.Prelude.{◌≡◌, Ok, Err, IfOk, map};
 ghost use Rattle.std.specs.List.{AllByRecursion};
 ghost use Rattle.serde_json.specs.View.{view};
 ghost use Rattle.ft_json.specs.Readers.{Reads};
@@ -39,9 +39,7 @@ pub fn read_text_op(alloc: Global, value: &Value) -> Result<TextOp, OpFault>
 
 /// The operation of this type.
 fn read_typed_op(alloc: Global, value: &Value, kind: u64) -> Result<TextOp, OpFault>
-    ensures ok { IfOk result (λ op. typed_op (view value.now) kind ≡ Ok op) }
-    ensures err { IfErr result (λ fault. fault ≢ OpFault.OutOfMemory → typed_op (view value.now) kind ≡ Err fault) }
-    ensures formed { IfOk result IsWellFormedText }
+    ensures { Reads OpFault.OutOfMemory (typed_op (view value.now) kind) IsWellFormedText result }
 {
     if kind == GROUP {
         return read_group(alloc, value);
@@ -52,9 +50,7 @@ fn read_typed_op(alloc: Global, value: &Value, kind: u64) -> Result<TextOp, OpFa
 /// The group that the object is.
 #[tactic(auto, unfolding(crate::specs::TextGrammar::group))]
 fn read_group(alloc: Global, value: &Value) -> Result<TextOp, OpFault>
-    ensures ok { IfOk result (λ op. group (view value.now) ≡ Ok op) }
-    ensures err { IfErr result (λ fault. fault ≢ OpFault.OutOfMemory → group (view value.now) ≡ Err fault) }
-    ensures formed { IfOk result IsWellFormedText }
+    ensures { Reads OpFault.OutOfMemory (group (view value.now)) IsWellFormedText result }
 {
     let items = array_field(value, Field::Ops)?;
     Ok(TextOp::Group(read_group_items(alloc, items)?))
@@ -62,9 +58,7 @@ fn read_group(alloc: Global, value: &Value) -> Result<TextOp, OpFault>
 
 /// The operations of the items of a group.
 fn read_group_items(alloc: Global, items: &[Value]) -> Result<BaseOps, OpFault>
-    ensures ok { IfOk result (λ ops. read_each group_item (map view items.now) ≡ Ok ops) }
-    ensures err { IfErr result (λ fault. fault ≢ OpFault.OutOfMemory → read_each group_item (map view items.now) ≡ Err fault) }
-    ensures formed { IfOk result (AllByRecursion IsWellFormedBase) }
+    ensures { Reads OpFault.OutOfMemory (read_each group_item (map view items.now)) (AllByRecursion IsWellFormedBase) result }
 {
     let mut ops = BaseOps::new(alloc);
     for item in items {
@@ -77,9 +71,7 @@ fn read_group_items(alloc: Global, items: &[Value]) -> Result<BaseOps, OpFault>
 /// The operation of an item of a group.
 #[tactic(auto, unfolding(crate::specs::TextGrammar::group_item))]
 fn read_group_item(alloc: Global, item: &Value) -> Result<BaseOp, OpFault>
-    ensures ok { IfOk result (λ op. group_item (view item.now) ≡ Ok op) }
-    ensures err { IfErr result (λ fault. fault ≢ OpFault.OutOfMemory → group_item (view item.now) ≡ Err fault) }
-    ensures formed { IfOk result IsWellFormedBase }
+    ensures { Reads OpFault.OutOfMemory (group_item (view item.now)) IsWellFormedBase result }
 {
     if !is_object(item) {
         return Err(OpFault::WrongKind(Field::Ops));
@@ -94,9 +86,7 @@ fn read_group_item(alloc: Global, item: &Value) -> Result<BaseOp, OpFault>
 /// The operation of this type that may stand in a group.
 #[tactic(auto, unfolding(crate::specs::TextGrammar::base_op))]
 fn read_base_op(alloc: Global, value: &Value, kind: u64) -> Result<BaseOp, OpFault>
-    ensures ok { IfOk result (λ op. base_op (view value.now) kind ≡ Ok op) }
-    ensures err { IfErr result (λ fault. fault ≢ OpFault.OutOfMemory → base_op (view value.now) kind ≡ Err fault) }
-    ensures formed { IfOk result IsWellFormedBase }
+    ensures { Reads OpFault.OutOfMemory (base_op (view value.now) kind) IsWellFormedBase result }
 {
     match kind {
         INSERTION => read_insertion(alloc, value),
@@ -109,9 +99,7 @@ fn read_base_op(alloc: Global, value: &Value, kind: u64) -> Result<BaseOp, OpFau
 /// The insertion that the object is.
 #[tactic(auto, unfolding(crate::specs::TextGrammar::insertion))]
 fn read_insertion(alloc: Global, value: &Value) -> Result<BaseOp, OpFault>
-    ensures ok { IfOk result (λ op. insertion (view value.now) ≡ Ok op) }
-    ensures err { IfErr result (λ fault. fault ≢ OpFault.OutOfMemory → insertion (view value.now) ≡ Err fault) }
-    ensures formed { IfOk result IsWellFormedBase }
+    ensures { Reads OpFault.OutOfMemory (insertion (view value.now)) IsWellFormedBase result }
 {
     let pos = count_field(value, Field::Pos1)?;
     let seg = field(value, Field::Seg).ok_or(OpFault::Missing(Field::Seg))?;
@@ -135,9 +123,7 @@ fn read_removal(value: &Value) -> Result<BaseOp, OpFault>
 /// The annotation that the object is.
 #[tactic(auto, unfolding(crate::specs::TextGrammar::annotation))]
 fn read_annotation(alloc: Global, value: &Value) -> Result<BaseOp, OpFault>
-    ensures ok { IfOk result (λ op. annotation (view value.now) ≡ Ok op) }
-    ensures err { IfErr result (λ fault. fault ≢ OpFault.OutOfMemory → annotation (view value.now) ≡ Err fault) }
-    ensures formed { IfOk result IsWellFormedBase }
+    ensures { Reads OpFault.OutOfMemory (annotation (view value.now)) IsWellFormedBase result }
 {
     let (pos1, pos2) = read_range(value)?;
     let props = read_given_properties(alloc, value)?;

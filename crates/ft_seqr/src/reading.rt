@@ -1,7 +1,8 @@
 //! Reading events.
 
-ghost use Rattle.std.specs.Prelude.{◌≡◌, ◌≢◌, ◌<◌, ◌^◌, pos, Ok, Err, IfOk, IfErr, chars, option_map};
+ghost use Rattle.std.specs.Prelude.{◌≡◌, ◌<◌, ◌^◌, pos, Ok, Err, IfOk, IfErr, chars, option_map};
 ghost use Rattle.serde_json.specs.View.{view};
+ghost use Rattle.ft_json.specs.Readers.{Gives};
 ghost use Rattle.ft_json.specs.Reading.{count, text_field};
 ghost use Rattle.ft_msg.specs.Causes.{cause_of_field};
 ghost use Rattle.ft_op.specs.Reading.{with_fault};
@@ -32,8 +33,7 @@ pub fn read_event(alloc: Global, line: &[u8]) -> Result<Event, Refusal>
 // The event that the line is, or the cause why it is none.
 #[tactic(auto, unfolding(crate::specs::EventGrammar::event))]
 fn read_event_text(alloc: Global, line: &[u8]) -> Result<Event, Cause>
-    ensures ok { IfOk result (λ e. event line.now ≡ Ok e) }
-    ensures err { IfErr result (λ cause. cause ≢ Cause.OutOfMemory → event line.now ≡ Err cause) }
+    ensures { Gives Cause.OutOfMemory (event line.now) result }
 {
     let value = read_line(alloc, line)?;
     read_event_value(alloc, &value)
@@ -42,8 +42,7 @@ fn read_event_text(alloc: Global, line: &[u8]) -> Result<Event, Cause>
 // The event that the value is.
 #[tactic(auto, unfolding(crate::specs::EventGrammar::event_of))]
 fn read_event_value(alloc: Global, value: &Value) -> Result<Event, Cause>
-    ensures ok { IfOk result (λ e. event_of (view value.now) ≡ Ok e) }
-    ensures err { IfErr result (λ cause. cause ≢ Cause.OutOfMemory → event_of (view value.now) ≡ Err cause) }
+    ensures { Gives Cause.OutOfMemory (event_of (view value.now)) result }
 {
     if !is_object(value) {
         return Err(Cause::WrongKind(Field::Line));
@@ -53,16 +52,14 @@ fn read_event_value(alloc: Global, value: &Value) -> Result<Event, Cause>
 
 // The event of this word.
 fn read_event_for(alloc: Global, value: &Value, word: &str) -> Result<Event, Cause>
-    ensures ok { IfOk result (λ e. event_for (chars word.now) (view value.now) ≡ Ok e) }
-    ensures err { IfErr result (λ cause. cause ≢ Cause.OutOfMemory → event_for (chars word.now) (view value.now) ≡ Err cause) }
+    ensures { Gives Cause.OutOfMemory (event_for (chars word.now) (view value.now)) result }
 {
     read_spelled_event(alloc, value, word)
 }
 
 // The event of the word that these bytes spell.
 fn read_spelled_event(alloc: Global, value: &Value, word: &str) -> Result<Event, Cause>
-    ensures ok { IfOk result (λ e. event_for word.now (view value.now) ≡ Ok e) }
-    ensures err { IfErr result (λ cause. cause ≢ Cause.OutOfMemory → event_for word.now (view value.now) ≡ Err cause) }
+    ensures { Gives Cause.OutOfMemory (event_for word.now (view value.now)) result }
 {
     match word {
         "start" => read_start(alloc, value),
@@ -83,8 +80,7 @@ fn read_spelled_event(alloc: Global, value: &Value, word: &str) -> Result<Event,
 // The event of this word, of those that have guests, or ask who inserted what and which intervals
 // meet a range.
 fn read_later_event(alloc: Global, value: &Value, word: &str) -> Result<Event, Cause>
-    ensures ok { IfOk result (λ e. later_event word.now (view value.now) ≡ Ok e) }
-    ensures err { IfErr result (λ cause. cause ≢ Cause.OutOfMemory → later_event word.now (view value.now) ≡ Err cause) }
+    ensures { Gives Cause.OutOfMemory (later_event word.now (view value.now)) result }
 {
     match word {
         "offer" => read_offer(alloc, value),
@@ -104,8 +100,7 @@ fn read_later_event(alloc: Global, value: &Value, word: &str) -> Result<Event, C
 /// Returns the first fault of the field, and `OutOfMemory` where there is no room for the name.
 #[tactic(auto, unfolding(crate::specs::EventGrammar::client_name_field))]
 pub fn read_client(alloc: Global, value: &Value) -> Result<Text, Cause>
-    ensures ok { IfOk result (λ client. client_name_field (view value.now) ≡ Ok client) }
-    ensures err { IfErr result (λ cause. cause ≢ Cause.OutOfMemory → client_name_field (view value.now) ≡ Err cause) }
+    ensures { Gives Cause.OutOfMemory (client_name_field (view value.now)) result }
 {
     Ok(text_field(alloc, value, Field::Client)?)
 }
@@ -113,8 +108,7 @@ pub fn read_client(alloc: Global, value: &Value) -> Result<Text, Cause>
 // A connection for the client.
 #[tactic(auto, unfolding(crate::specs::EventGrammar::event_of_client))]
 fn read_connect(alloc: Global, value: &Value) -> Result<Event, Cause>
-    ensures ok { IfOk result (λ e. event_of_client Connect (view value.now) ≡ Ok e) }
-    ensures err { IfErr result (λ cause. cause ≢ Cause.OutOfMemory → event_of_client Connect (view value.now) ≡ Err cause) }
+    ensures { Gives Cause.OutOfMemory (event_of_client Connect (view value.now)) result }
 {
     let client = read_client(alloc, value)?;
     Ok(Event::Connect { client })
@@ -123,8 +117,7 @@ fn read_connect(alloc: Global, value: &Value) -> Result<Event, Cause>
 // The loss of the client's connection.
 #[tactic(auto, unfolding(crate::specs::EventGrammar::event_of_client))]
 fn read_drop(alloc: Global, value: &Value) -> Result<Event, Cause>
-    ensures ok { IfOk result (λ e. event_of_client Drop (view value.now) ≡ Ok e) }
-    ensures err { IfErr result (λ cause. cause ≢ Cause.OutOfMemory → event_of_client Drop (view value.now) ≡ Err cause) }
+    ensures { Gives Cause.OutOfMemory (event_of_client Drop (view value.now)) result }
 {
     let client = read_client(alloc, value)?;
     Ok(Event::Drop { client })
@@ -133,8 +126,7 @@ fn read_drop(alloc: Global, value: &Value) -> Result<Event, Cause>
 // A noop of the client.
 #[tactic(auto, unfolding(crate::specs::EventGrammar::event_of_client))]
 fn read_noop(alloc: Global, value: &Value) -> Result<Event, Cause>
-    ensures ok { IfOk result (λ e. event_of_client Noop (view value.now) ≡ Ok e) }
-    ensures err { IfErr result (λ cause. cause ≢ Cause.OutOfMemory → event_of_client Noop (view value.now) ≡ Err cause) }
+    ensures { Gives Cause.OutOfMemory (event_of_client Noop (view value.now)) result }
 {
     let client = read_client(alloc, value)?;
     Ok(Event::Noop { client })
@@ -143,8 +135,7 @@ fn read_noop(alloc: Global, value: &Value) -> Result<Event, Cause>
 // The view of the client.
 #[tactic(auto, unfolding(crate::specs::EventGrammar::event_of_client))]
 fn read_show(alloc: Global, value: &Value) -> Result<Event, Cause>
-    ensures ok { IfOk result (λ e. event_of_client Show (view value.now) ≡ Ok e) }
-    ensures err { IfErr result (λ cause. cause ≢ Cause.OutOfMemory → event_of_client Show (view value.now) ≡ Err cause) }
+    ensures { Gives Cause.OutOfMemory (event_of_client Show (view value.now)) result }
 {
     let client = read_client(alloc, value)?;
     Ok(Event::Show { client })
@@ -153,8 +144,7 @@ fn read_show(alloc: Global, value: &Value) -> Result<Event, Cause>
 // The unsent messages of the client.
 #[tactic(auto, unfolding(crate::specs::EventGrammar::event_of_client))]
 fn read_queue(alloc: Global, value: &Value) -> Result<Event, Cause>
-    ensures ok { IfOk result (λ e. event_of_client Queue (view value.now) ≡ Ok e) }
-    ensures err { IfErr result (λ cause. cause ≢ Cause.OutOfMemory → event_of_client Queue (view value.now) ≡ Err cause) }
+    ensures { Gives Cause.OutOfMemory (event_of_client Queue (view value.now)) result }
 {
     let client = read_client(alloc, value)?;
     Ok(Event::Queue { client })
@@ -163,8 +153,7 @@ fn read_queue(alloc: Global, value: &Value) -> Result<Event, Cause>
 // The client lets go of what no message can refer to.
 #[tactic(auto, unfolding(crate::specs::EventGrammar::event_of_client))]
 fn read_compact(alloc: Global, value: &Value) -> Result<Event, Cause>
-    ensures ok { IfOk result (λ e. event_of_client Compact (view value.now) ≡ Ok e) }
-    ensures err { IfErr result (λ cause. cause ≢ Cause.OutOfMemory → event_of_client Compact (view value.now) ≡ Err cause) }
+    ensures { Gives Cause.OutOfMemory (event_of_client Compact (view value.now)) result }
 {
     let client = read_client(alloc, value)?;
     Ok(Event::Compact { client })
@@ -173,8 +162,7 @@ fn read_compact(alloc: Global, value: &Value) -> Result<Event, Cause>
 // The summary of the client.
 #[tactic(auto, unfolding(crate::specs::EventGrammar::event_of_client))]
 fn read_summary(alloc: Global, value: &Value) -> Result<Event, Cause>
-    ensures ok { IfOk result (λ e. event_of_client Summary (view value.now) ≡ Ok e) }
-    ensures err { IfErr result (λ cause. cause ≢ Cause.OutOfMemory → event_of_client Summary (view value.now) ≡ Err cause) }
+    ensures { Gives Cause.OutOfMemory (event_of_client Summary (view value.now)) result }
 {
     let client = read_client(alloc, value)?;
     Ok(Event::Summary { client })
@@ -183,8 +171,7 @@ fn read_summary(alloc: Global, value: &Value) -> Result<Event, Cause>
 // How many visible elements each connection inserted.
 #[tactic(auto, unfolding(crate::specs::EventGrammar::event_of_client))]
 fn read_authors(alloc: Global, value: &Value) -> Result<Event, Cause>
-    ensures ok { IfOk result (λ e. event_of_client Authors (view value.now) ≡ Ok e) }
-    ensures err { IfErr result (λ cause. cause ≢ Cause.OutOfMemory → event_of_client Authors (view value.now) ≡ Err cause) }
+    ensures { Gives Cause.OutOfMemory (event_of_client Authors (view value.now)) result }
 {
     let client = read_client(alloc, value)?;
     Ok(Event::Authors { client })
@@ -193,8 +180,7 @@ fn read_authors(alloc: Global, value: &Value) -> Result<Event, Cause>
 // A new guest.
 #[tactic(auto, unfolding(crate::specs::EventGrammar::guest_event))]
 fn read_guest(alloc: Global, value: &Value) -> Result<Event, Cause>
-    ensures ok { IfOk result (λ e. guest_event Enter (view value.now) ≡ Ok e) }
-    ensures err { IfErr result (λ cause. cause ≢ Cause.OutOfMemory → guest_event Enter (view value.now) ≡ Err cause) }
+    ensures { Gives Cause.OutOfMemory (guest_event Enter (view value.now)) result }
 {
     let guest = text_field(alloc, value, Field::Guest)?;
     Ok(Event::Guest { guest })
@@ -203,8 +189,7 @@ fn read_guest(alloc: Global, value: &Value) -> Result<Event, Cause>
 // A guest's connection leaves.
 #[tactic(auto, unfolding(crate::specs::EventGrammar::guest_event))]
 fn read_part(alloc: Global, value: &Value) -> Result<Event, Cause>
-    ensures ok { IfOk result (λ e. guest_event Part (view value.now) ≡ Ok e) }
-    ensures err { IfErr result (λ cause. cause ≢ Cause.OutOfMemory → guest_event Part (view value.now) ≡ Err cause) }
+    ensures { Gives Cause.OutOfMemory (guest_event Part (view value.now)) result }
 {
     let guest = text_field(alloc, value, Field::Guest)?;
     Ok(Event::Part { guest })
@@ -213,8 +198,7 @@ fn read_part(alloc: Global, value: &Value) -> Result<Event, Cause>
 // So many of the client's oldest unsent messages are submitted.
 #[tactic(auto, unfolding(crate::specs::EventGrammar::counted_event))]
 fn read_ticket(alloc: Global, value: &Value) -> Result<Event, Cause>
-    ensures ok { IfOk result (λ e. counted_event Ticket (view value.now) ≡ Ok e) }
-    ensures err { IfErr result (λ cause. cause ≢ Cause.OutOfMemory → counted_event Ticket (view value.now) ≡ Err cause) }
+    ensures { Gives Cause.OutOfMemory (counted_event Ticket (view value.now)) result }
 {
     let client = read_client(alloc, value)?;
     let count = read_count(field(value, Field::Count))?;
@@ -224,8 +208,7 @@ fn read_ticket(alloc: Global, value: &Value) -> Result<Event, Cause>
 // The client processes so many of the next messages.
 #[tactic(auto, unfolding(crate::specs::EventGrammar::counted_event))]
 fn read_deliver(alloc: Global, value: &Value) -> Result<Event, Cause>
-    ensures ok { IfOk result (λ e. counted_event Deliver (view value.now) ≡ Ok e) }
-    ensures err { IfErr result (λ cause. cause ≢ Cause.OutOfMemory → counted_event Deliver (view value.now) ≡ Err cause) }
+    ensures { Gives Cause.OutOfMemory (counted_event Deliver (view value.now)) result }
 {
     let client = read_client(alloc, value)?;
     let count = read_count(field(value, Field::Count))?;
@@ -260,8 +243,7 @@ fn read_count_or_all(value: &Value) -> Result<HowMany, Cause>
 // A new client.
 #[tactic(auto, unfolding(crate::specs::EventGrammar::start_event))]
 fn read_start(alloc: Global, value: &Value) -> Result<Event, Cause>
-    ensures ok { IfOk result (λ e. start_event (view value.now) ≡ Ok e) }
-    ensures err { IfErr result (λ cause. cause ≢ Cause.OutOfMemory → start_event (view value.now) ≡ Err cause) }
+    ensures { Gives Cause.OutOfMemory (start_event (view value.now)) result }
 {
     let client = read_client(alloc, value)?;
     let from = read_from(alloc, field(value, Field::From))?;
@@ -272,8 +254,7 @@ fn read_start(alloc: Global, value: &Value) -> Result<Event, Cause>
 ///
 /// Returns `WrongKind` of the field `from` where that is no string, and `OutOfMemory` where there is no room for it.
 pub fn read_from(alloc: Global, value: Option<&Value>) -> Result<Option<Text>, Cause>
-    ensures ok { IfOk result (λ from. given_from (option_map (λ d. view d.now) value.entry) ≡ Ok from) }
-    ensures err { IfErr result (λ cause. cause ≢ Cause.OutOfMemory → given_from (option_map (λ d. view d.now) value.entry) ≡ Err cause) }
+    ensures { Gives Cause.OutOfMemory (given_from (option_map (λ d. view d.now) value.entry)) result }
 {
     match value {
         None => Ok(None),
@@ -294,8 +275,7 @@ enum Address {
 // An edit of the client's own.
 #[tactic(auto, unfolding(crate::specs::EventGrammar::edit_event))]
 fn read_edit(alloc: Global, value: &Value) -> Result<Event, Cause>
-    ensures ok { IfOk result (λ e. edit_event (view value.now) ≡ Ok e) }
-    ensures err { IfErr result (λ cause. cause ≢ Cause.OutOfMemory → edit_event (view value.now) ≡ Err cause) }
+    ensures { Gives Cause.OutOfMemory (edit_event (view value.now)) result }
 {
     let client = read_client(alloc, value)?;
     let address = known_address(address_word(value)?)?;
@@ -326,8 +306,7 @@ fn known_address(word: &str) -> Result<Address, Cause>
 
 // The operation of an edit for the address, which has to be there, and an object.
 fn read_edit_op(alloc: Global, address: Address, value: Option<&Value>) -> Result<ChannelOp, Cause>
-    ensures ok { IfOk result (λ op. edit_op (word_of address) (option_map (λ d. view d.now) value.entry) ≡ Ok op) }
-    ensures err { IfErr result (λ cause. cause ≢ Cause.OutOfMemory → edit_op (word_of address) (option_map (λ d. view d.now) value.entry) ≡ Err cause) }
+    ensures { Gives Cause.OutOfMemory (edit_op (word_of address) (option_map (λ d. view d.now) value.entry)) result }
 {
     let value = value.ok_or(Cause::Missing(Field::Op))?;
     if !is_object(value) {
@@ -338,8 +317,7 @@ fn read_edit_op(alloc: Global, address: Address, value: Option<&Value>) -> Resul
 
 // The operation for the address.
 fn read_op_for(alloc: Global, address: Address, value: &Value) -> Result<ChannelOp, Cause>
-    ensures ok { IfOk result (λ op. op_for (word_of address) (view value.now) ≡ Ok op) }
-    ensures err { IfErr result (λ cause. cause ≢ Cause.OutOfMemory → op_for (word_of address) (view value.now) ≡ Err cause) }
+    ensures { Gives Cause.OutOfMemory (op_for (word_of address) (view value.now)) result }
 {
     match address {
         Address::Text => Ok(ChannelOp::Text(read_text_op(alloc, value)?)),
@@ -350,8 +328,7 @@ fn read_op_for(alloc: Global, address: Address, value: &Value) -> Result<Channel
 // The client processes the message of a text.
 #[tactic(auto, unfolding(crate::specs::EventGrammar::offer_event))]
 fn read_offer(alloc: Global, value: &Value) -> Result<Event, Cause>
-    ensures ok { IfOk result (λ e. offer_event (view value.now) ≡ Ok e) }
-    ensures err { IfErr result (λ cause. cause ≢ Cause.OutOfMemory → offer_event (view value.now) ≡ Err cause) }
+    ensures { Gives Cause.OutOfMemory (offer_event (view value.now)) result }
 {
     let client = read_client(alloc, value)?;
     let message = text_field(alloc, value, Field::Message)?;
@@ -361,8 +338,7 @@ fn read_offer(alloc: Global, value: &Value) -> Result<Event, Cause>
 // The draft of a text is submitted for the guest.
 #[tactic(auto, unfolding(crate::specs::EventGrammar::submit_event))]
 fn read_submit(alloc: Global, value: &Value) -> Result<Event, Cause>
-    ensures ok { IfOk result (λ e. submit_event (view value.now) ≡ Ok e) }
-    ensures err { IfErr result (λ cause. cause ≢ Cause.OutOfMemory → submit_event (view value.now) ≡ Err cause) }
+    ensures { Gives Cause.OutOfMemory (submit_event (view value.now)) result }
 {
     let guest = text_field(alloc, value, Field::Guest)?;
     let message = text_field(alloc, value, Field::Message)?;
@@ -372,8 +348,7 @@ fn read_submit(alloc: Global, value: &Value) -> Result<Event, Cause>
 // The intervals of a label that meet a range.
 #[tactic(auto, unfolding(crate::specs::EventGrammar::overlap_event))]
 fn read_overlap(alloc: Global, value: &Value) -> Result<Event, Cause>
-    ensures ok { IfOk result (λ e. overlap_event (view value.now) ≡ Ok e) }
-    ensures err { IfErr result (λ cause. cause ≢ Cause.OutOfMemory → overlap_event (view value.now) ≡ Err cause) }
+    ensures { Gives Cause.OutOfMemory (overlap_event (view value.now)) result }
 {
     let client = read_client(alloc, value)?;
     let label = text_field(alloc, value, Field::Label)?;
@@ -389,8 +364,7 @@ fn read_overlap(alloc: Global, value: &Value) -> Result<Event, Cause>
 // Who inserted the visible elements of a range.
 #[tactic(auto, unfolding(crate::specs::EventGrammar::blame_event))]
 fn read_blame(alloc: Global, value: &Value) -> Result<Event, Cause>
-    ensures ok { IfOk result (λ e. blame_event (view value.now) ≡ Ok e) }
-    ensures err { IfErr result (λ cause. cause ≢ Cause.OutOfMemory → blame_event (view value.now) ≡ Err cause) }
+    ensures { Gives Cause.OutOfMemory (blame_event (view value.now)) result }
 {
     let client = read_client(alloc, value)?;
     let (start, end) = read_places(value)?;

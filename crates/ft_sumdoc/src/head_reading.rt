@@ -2,6 +2,7 @@
 
 ghost use Rattle.std.specs.Prelude.{◌≡◌, ◌≢◌, ◌<◌, ◌^◌, Ok, Err, IfOk, IfErr, length, map};
 ghost use Rattle.serde_json.specs.View.{view};
+ghost use Rattle.ft_json.specs.Readers.{Gives};
 ghost use Rattle.ft_json.specs.Reading.{needed_field};
 ghost use Rattle.ft_sumdoc.specs.Counts.{are_distinct_names, head, known_version, names_form};
 ghost use Rattle.ft_sumdoc.specs.Faults.{field_of_summary};
@@ -78,9 +79,7 @@ fn whole_names(alloc: Global, value: &Value) -> Result<Option<Texts>, OutOfMemor
 // Returns `Missing` exactly where the field isn't there, `WrongKind` exactly where it is and has
 // not the form, and `OutOfMemory` where there is no room for them, and where they are more.
 fn read_names(alloc: Global, value: &Value) -> Result<Texts, SumFault>
-    ensures ok { IfOk result (λ names. field_of_summary (needed_field names_form (view value.now) Field.Conns) ≡ Ok names) }
-    ensures err { IfErr result (λ fault. fault ≢ SumFault.OutOfMemory
-        → field_of_summary (needed_field names_form (view value.now) Field.Conns) ≡ Err fault) }
+    ensures reads { Gives SumFault.OutOfMemory (field_of_summary (needed_field names_form (view value.now) Field.Conns)) result }
     ensures few { IfOk result (λ names. length names < 2 ^ 32) }
 {
     let f = Field::Conns;

@@ -1,8 +1,9 @@
 //! Reading the segments of a text and the properties of elements and intervals.
 
-ghost use Rattle.std.specs.Prelude.{◌≡◌, ◌≢◌, Ok, Err, true, IsTrue, IfOk, IfErr, chars, map, option_map};
+ghost use Rattle.std.specs.Prelude.{◌≡◌, Ok, true, IsTrue, IfOk, chars, map, option_map};
 ghost use Rattle.std.specs.List.{AllByRecursion};
 ghost use Rattle.serde_json.specs.View.{view};
+ghost use Rattle.ft_json.specs.Readers.{Reads};
 ghost use Rattle.ft_json.specs.Objects.{entry_pairs};
 ghost use Rattle.ft_op.specs.Reading.{read_each};
 ghost use Rattle.ft_sumdoc.specs.Forms.{each_of, has_no_null, props_form};
@@ -208,9 +209,7 @@ pub(crate) fn text_item(
 /// The properties of the entries of an object.
 pub(crate) fn keep_props(alloc: Global, entries: &Map<String, Value>) -> Result<Props, JsonFault>
     requires { IsTrue (has_no_null (entry_pairs entries.now.entries)) }
-    ensures ok { IfOk result (λ props. kept_props (entry_pairs entries.now.entries) ≡ Ok props) }
-    ensures err { IfErr result (λ fault. fault ≢ JsonFault.OutOfMemory → kept_props (entry_pairs entries.now.entries) ≡ Err fault) }
-    ensures values { IfOk result HasValues }
+    ensures { Reads JsonFault.OutOfMemory (kept_props (entry_pairs entries.now.entries)) HasValues result }
 {
     let mut props = Props::new(alloc);
     for (key, value) in entries.iter() {
@@ -223,9 +222,7 @@ pub(crate) fn keep_props(alloc: Global, entries: &Map<String, Value>) -> Result<
 // The properties of a segment, none where it gives none.
 fn keep_given(alloc: Global, entries: Option<&Map<String, Value>>) -> Result<Props, JsonFault>
     requires { IsTrue (has_no_null (given_pairs entries)) }
-    ensures ok { IfOk result (λ props. kept_props (given_pairs entries.entry) ≡ Ok props) }
-    ensures err { IfErr result (λ fault. fault ≢ JsonFault.OutOfMemory → kept_props (given_pairs entries.entry) ≡ Err fault) }
-    ensures values { IfOk result HasValues }
+    ensures { Reads JsonFault.OutOfMemory (kept_props (given_pairs entries.entry)) HasValues result }
 {
     match entries {
         Some(entries) => keep_props(alloc, entries),
@@ -248,9 +245,7 @@ fn keep_body(alloc: Global, body: BodyItem<'_>) -> Result<Seg, OutOfMemory>
 // The segment, as it is kept.
 fn keep_segment(alloc: Global, item: &SegItem) -> Result<SegRec, JsonFault>
     requires { IsTrue (has_no_null (segment_of item.now).props) }
-    ensures ok { IfOk result (λ seg. kept_segment (segment_of item.now) ≡ Ok seg) }
-    ensures err { IfErr result (λ fault. fault ≢ JsonFault.OutOfMemory → kept_segment (segment_of item.now) ≡ Err fault) }
-    ensures values { IfOk result (λ seg. HasValues seg.props) }
+    ensures { Reads JsonFault.OutOfMemory (kept_segment (segment_of item.now)) (λ seg. HasValues seg.props) result }
 {
     let props = keep_given(alloc, item.props)?;
     Ok(SegRec {
@@ -265,9 +260,7 @@ fn keep_segment(alloc: Global, item: &SegItem) -> Result<SegRec, JsonFault>
 /// The segments, as they are kept.
 pub(crate) fn keep_segments(alloc: Global, items: &[SegItem]) -> Result<SegRecs, JsonFault>
     requires { AllByRecursion (λ seg. has_no_null seg.props ≡ true) (map segment_of items.now) }
-    ensures ok { IfOk result (λ segs. read_each kept_segment (map segment_of items.now) ≡ Ok segs) }
-    ensures err { IfErr result (λ fault. fault ≢ JsonFault.OutOfMemory → read_each kept_segment (map segment_of items.now) ≡ Err fault) }
-    ensures values { IfOk result (AllByRecursion (λ seg. HasValues seg.props)) }
+    ensures { Reads JsonFault.OutOfMemory (read_each kept_segment (map segment_of items.now)) (AllByRecursion (λ seg. HasValues seg.props)) result }
 {
     let mut segs = SegRecs::new(alloc);
     for item in items {

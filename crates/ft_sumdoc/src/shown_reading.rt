@@ -4,6 +4,7 @@ ghost use Rattle.std.specs.Prelude.{◌≡◌, ◌≢◌, Ok, Err, true, false, 
 ghost use Rattle.std.specs.List.{AllByRecursion};
 ghost use Rattle.serde_json.specs.Find.{as_null};
 ghost use Rattle.serde_json.specs.View.{view};
+ghost use Rattle.ft_json.specs.Readers.{Reads};
 ghost use Rattle.ft_json.specs.Reading.{needed_field};
 ghost use Rattle.ft_op.specs.Reading.{read_each};
 ghost use Rattle.ft_sumdoc.specs.Cells.{cell_form, cell_of_three, cells_form, is_given_cell_before, is_place_before};
@@ -150,9 +151,7 @@ fn whole_intervals(
 // The interval, as it is kept.
 fn keep_interval(alloc: Global, item: &IntervalItem) -> Result<IntervalRec, JsonFault>
     requires { has_no_null (interval_of item.now).props ≡ true }
-    ensures ok { IfOk result (λ i. kept_interval (interval_of item.now) ≡ Ok i) }
-    ensures err { IfErr result (λ fault. fault ≢ JsonFault.OutOfMemory → kept_interval (interval_of item.now) ≡ Err fault) }
-    ensures values { IfOk result (λ i. HasValues i.props) }
+    ensures { Reads JsonFault.OutOfMemory (kept_interval (interval_of item.now)) (λ i. HasValues i.props) result }
 {
     let props = keep_props(alloc, item.props)?;
     Ok(IntervalRec {
@@ -166,9 +165,7 @@ fn keep_interval(alloc: Global, item: &IntervalItem) -> Result<IntervalRec, Json
 // The intervals, as they are kept.
 fn keep_intervals(alloc: Global, items: &[IntervalItem]) -> Result<IntervalRecs, JsonFault>
     requires { AllByRecursion (λ i. has_no_null i.props ≡ true) (map interval_of items.now) }
-    ensures ok { IfOk result (λ is. read_each kept_interval (map interval_of items.now) ≡ Ok is) }
-    ensures err { IfErr result (λ fault. fault ≢ JsonFault.OutOfMemory → read_each kept_interval (map interval_of items.now) ≡ Err fault) }
-    ensures values { IfOk result (AllByRecursion (λ i. HasValues i.props)) }
+    ensures { Reads JsonFault.OutOfMemory (read_each kept_interval (map interval_of items.now)) (AllByRecursion (λ i. HasValues i.props)) result }
 {
     let mut intervals = IntervalRecs::new(alloc);
     for item in items {
@@ -203,9 +200,7 @@ pub(crate) fn read_intervals(
     elements: u64,
     value: &Value,
 ) -> Result<IntervalRecs, SumFault>
-    ensures ok { IfOk result (λ is. intervals_of elements (view value.now) ≡ Ok is) }
-    ensures err { IfErr result (λ fault. fault ≢ SumFault.OutOfMemory → intervals_of elements (view value.now) ≡ Err fault) }
-    ensures values { IfOk result (AllByRecursion (λ i. HasValues i.props)) }
+    ensures { Reads SumFault.OutOfMemory (intervals_of elements (view value.now)) (AllByRecursion (λ i. HasValues i.props)) result }
 {
     let items = interval_field(alloc, elements, value)?;
     Ok(keep_intervals(alloc, &items)?)
@@ -299,9 +294,7 @@ fn whole_cells(
 // The cell, as it is kept.
 fn keep_cell(alloc: Global, item: &CellItem) -> Result<CellRec, JsonFault>
     requires { is_some (as_null (cell_of item.now).value) ≡ false }
-    ensures ok { IfOk result (λ c. kept_cell (cell_of item.now) ≡ Ok c) }
-    ensures err { IfErr result (λ fault. fault ≢ JsonFault.OutOfMemory → kept_cell (cell_of item.now) ≡ Err fault) }
-    ensures values { IfOk result (λ c. IsValue c.value) }
+    ensures { Reads JsonFault.OutOfMemory (kept_cell (cell_of item.now)) (λ c. IsValue c.value) result }
 {
     Ok(CellRec {
         row: item.row,
@@ -313,9 +306,7 @@ fn keep_cell(alloc: Global, item: &CellItem) -> Result<CellRec, JsonFault>
 // The cells, as they are kept.
 fn keep_cells(alloc: Global, items: &[CellItem]) -> Result<CellRecs, JsonFault>
     requires { AllByRecursion (λ c. is_some (as_null c.value) ≡ false) (map cell_of items.now) }
-    ensures ok { IfOk result (λ cs. read_each kept_cell (map cell_of items.now) ≡ Ok cs) }
-    ensures err { IfErr result (λ fault. fault ≢ JsonFault.OutOfMemory → read_each kept_cell (map cell_of items.now) ≡ Err fault) }
-    ensures values { IfOk result (AllByRecursion (λ c. IsValue c.value)) }
+    ensures { Reads JsonFault.OutOfMemory (read_each kept_cell (map cell_of items.now)) (AllByRecursion (λ c. IsValue c.value)) result }
 {
     let mut cells = CellRecs::new(alloc);
     for item in items {
@@ -352,9 +343,7 @@ pub(crate) fn read_cells(
     cols: u64,
     value: &Value,
 ) -> Result<CellRecs, SumFault>
-    ensures ok { IfOk result (λ cs. cells_of rows cols (view value.now) ≡ Ok cs) }
-    ensures err { IfErr result (λ fault. fault ≢ SumFault.OutOfMemory → cells_of rows cols (view value.now) ≡ Err fault) }
-    ensures values { IfOk result (AllByRecursion (λ c. IsValue c.value)) }
+    ensures { Reads SumFault.OutOfMemory (cells_of rows cols (view value.now)) (AllByRecursion (λ c. IsValue c.value)) result }
 {
     let items = cell_field(alloc, rows, cols, value)?;
     Ok(keep_cells(alloc, &items)?)

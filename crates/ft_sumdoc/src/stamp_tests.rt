@@ -1,7 +1,8 @@
 //! Which stamps are in range and in order.
 
-ghost use Rattle.std.specs.Prelude.{◌≡◌, ◌≢◌, ◌+◌, ◌<◌, ◌^◌, Ok, Err, IfOk, IfErr, nat_lt, true, length, map};
+ghost use Rattle.std.specs.Prelude.{◌≡◌, ◌+◌, ◌<◌, ◌^◌, Ok, Err, IfOk, nat_lt, true, length, map};
 ghost use Rattle.std.specs.List.{list_all};
+ghost use Rattle.ft_json.specs.Readers.{Gives};
 ghost use Rattle.ft_sumdoc.specs.Items.{bounds_in, run_of, segment_of, stamps_of};
 ghost use Rattle.ft_sumdoc.specs.NarrowLists.{segments_stamps};
 ghost use Rattle.ft_sumdoc.specs.Stamps.{are_good_stamps, are_removals, given_author, given_insertion, is_good_author, is_good_insertion, is_old, is_recent, is_within_bounds, places_behind};
@@ -165,9 +166,7 @@ pub(crate) fn segment_places(
 ) -> Result<u64, SumFault>
     requires seq { limits.seq < 2 ^ 53 }
     requires room { first + length segs.now < 2 ^ 64 }
-    ensures ok { IfOk result (λ place. places_behind (bounds_in limits) first (segments_stamps (map segment_of segs.now)) ≡ Ok place) }
-    ensures err { IfErr result (λ fault. fault ≢ SumFault.OutOfMemory
-        → places_behind (bounds_in limits) first (segments_stamps (map segment_of segs.now)) ≡ Err fault) }
+    ensures { Gives SumFault.OutOfMemory (places_behind (bounds_in limits) first (segments_stamps (map segment_of segs.now))) result }
 {
     let mut place = first;
     for seg in segs {
@@ -191,9 +190,7 @@ pub(crate) fn run_places(
 ) -> Result<u64, SumFault>
     requires seq { limits.seq < 2 ^ 53 }
     requires room { first + length runs.now < 2 ^ 64 }
-    ensures ok { IfOk result (λ place. places_behind (bounds_in limits) first (run_stamps (map run_of runs.now)) ≡ Ok place) }
-    ensures err { IfErr result (λ fault. fault ≢ SumFault.OutOfMemory
-        → places_behind (bounds_in limits) first (run_stamps (map run_of runs.now)) ≡ Err fault) }
+    ensures { Gives SumFault.OutOfMemory (places_behind (bounds_in limits) first (run_stamps (map run_of runs.now))) result }
 {
     let mut place = first;
     for run in runs {

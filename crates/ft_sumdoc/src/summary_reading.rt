@@ -1,10 +1,10 @@
 //! Reading summaries.
 
-ghost use Rattle.std.specs.Prelude.{◌≡◌, ◌≢◌, ◌<◌, ◌^◌, ◌≤◌, ◌++◌, Ok, Err, true, if◌then◌else◌, IfOk, IfErr, length, map};
+ghost use Rattle.std.specs.Prelude.{◌≡◌, ◌≢◌, ◌<◌, ◌^◌, ◌≤◌, ◌++◌, Ok, Err, true, IfOk, IfErr, length, map};
 ghost use Rattle.std.specs.List.{AllByRecursion};
 ghost use Rattle.serde_json.specs.View.{view};
+ghost use Rattle.ft_json.specs.Readers.{Gives, Reads};
 ghost use Rattle.ft_json.specs.Reading.{needed_field};
-ghost use Rattle.ft_json.specs.Readers.{Reads};
 ghost use Rattle.ft_op.specs.Reading.{is_object, read_each};
 ghost use Rattle.ft_sumdoc.specs.Counts.{bounds_of};
 ghost use Rattle.ft_sumdoc.specs.Faults.{field_of_summary};
@@ -51,9 +51,7 @@ fn text_field(alloc: Global, version: u64, value: &Value) -> Result<TextItem<'_>
 // The segments, as they are kept.
 fn read_segments(alloc: Global, items: &[SegItem]) -> Result<SegRecs, SumFault>
     requires { AllByRecursion (λ seg. has_no_null seg.props ≡ true) (map segment_of items.now) }
-    ensures ok { IfOk result (λ segs. kept_each kept_segment (map segment_of items.now) ≡ Ok segs) }
-    ensures err { IfErr result (λ fault. fault ≢ SumFault.OutOfMemory → kept_each kept_segment (map segment_of items.now) ≡ Err fault) }
-    ensures values { IfOk result (AllByRecursion (λ seg. HasValues seg.props)) }
+    ensures { Reads SumFault.OutOfMemory (kept_each kept_segment (map segment_of items.now)) (AllByRecursion (λ seg. HasValues seg.props)) result }
 {
     Ok(keep_segments(alloc, items)?)
 }
@@ -70,10 +68,7 @@ fn all_places(
     cols: &[RunItem],
 ) -> Result<u64, SumFault>
     requires { limits.seq < 2 ^ 53 }
-    ensures ok { IfOk result (λ places. places_behind (bounds_in limits) 0
-        (segments_stamps (map segment_of segs.now) ++ run_stamps (map run_of rows.now) ++ run_stamps (map run_of cols.now)) ≡ Ok places) }
-    ensures err { IfErr result (λ fault. fault ≢ SumFault.OutOfMemory → places_behind (bounds_in limits) 0
-        (segments_stamps (map segment_of segs.now) ++ run_stamps (map run_of rows.now) ++ run_stamps (map run_of cols.now)) ≡ Err fault) }
+    ensures { Gives SumFault.OutOfMemory (places_behind (bounds_in limits) 0 (segments_stamps (map segment_of segs.now) ++ run_stamps (map run_of rows.now) ++ run_stamps (map run_of cols.now))) result }
 {
     let text = segment_places(alloc, limits, 0, segs)?;
     let most = u64::MAX - rows.len() as u64;
@@ -169,8 +164,7 @@ fn test_chunks(lengths: &[u64]) -> Result<(), SumFault>
 // Tests the count of elements that an object gives beside these lists, and their chunks.
 #[tactic(auto, unfolding(crate::specs::Summary::element_count))]
 fn test_count(lists: &ListItem, value: &Value) -> Result<u64, SumFault>
-    ensures ok { IfOk result (λ n. element_count (lists_of lists.now) (view value.now) ≡ Ok n) }
-    ensures err { IfErr result (λ fault. fault ≢ SumFault.OutOfMemory → element_count (lists_of lists.now) (view value.now) ≡ Err fault) }
+    ensures reads { Gives SumFault.OutOfMemory (element_count (lists_of lists.now) (view value.now)) result }
     ensures few { IfOk result (λ _. text_length lists.now.text < 2 ^ 53) }
 {
     let said = count_field(value, Field::Count)?;
@@ -213,9 +207,7 @@ fn shown_units(runs: &[RunRec]) -> u64
 // The summary that the object is.
 #[tactic(auto, unfolding(crate::specs::Summary::summary_of_object))]
 fn read_object(alloc: Global, value: &Value) -> Result<SumDoc, SumFault>
-    ensures ok { IfOk result (λ sum. summary_of_object (view value.now) ≡ Ok sum) }
-    ensures err { IfErr result (λ fault. fault ≢ SumFault.OutOfMemory → summary_of_object (view value.now) ≡ Err fault) }
-    ensures values { IfOk result HasOnlyValues }
+    ensures reads { Reads SumFault.OutOfMemory (summary_of_object (view value.now)) HasOnlyValues result }
     ensures few { IfOk result (λ sum. length sum.conns < 2 ^ 32) }
 {
     let head = read_head(alloc, value)?;
@@ -256,9 +248,7 @@ pub fn read_summary(alloc: Global, bytes: &[u8]) -> Result<SumDoc, SumFault>
 
 // The summary that the value is.
 fn read_value(alloc: Global, value: &Value) -> Result<SumDoc, SumFault>
-    ensures ok { IfOk result (λ sum. (if is_object (view value.now) then summary_of_object (view value.now) else Err (SumFault.Malformed (SumCause.WrongKind Field.Summary))) ≡ Ok sum) }
-    ensures err { IfErr result (λ fault. fault ≢ SumFault.OutOfMemory → (if is_object (view value.now) then summary_of_object (view value.now) else Err (SumFault.Malformed (SumCause.WrongKind Field.Summary))) ≡ Err fault) }
-    ensures values { IfOk result HasOnlyValues }
+    ensures reads { Reads SumFault.OutOfMemory (if is_object (view value.now) then summary_of_object (view value.now) else Err (SumFault.Malformed (SumCause.WrongKind Field.Summary))) HasOnlyValues result }
     ensures few { IfOk result (λ sum. length sum.conns < 2 ^ 32) }
 {
     if !is_object(value) {
