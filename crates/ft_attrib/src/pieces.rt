@@ -42,7 +42,7 @@ pub fn share(of: Origin, who: Origin, len: u64) -> u64
     if of == who { len } else { 0 }
 }
 
-/// Reads the piece at place `i`, in one step.
+// Reads the piece at place `i`, in one step.
 fn read<G: Ledger>(pieces: &[Piece], i: usize, steps: &mut Steps<G>) -> Piece
     requires { i < length pieces.now }
     ensures piece { IsPieceAt pieces.now i result }
@@ -75,7 +75,7 @@ pub fn origin_at<G: Ledger>(pieces: &[Piece], p: u64, steps: &mut Steps<G>) -> O
     found
 }
 
-/// How many pieces end at or before `p`, by binary search.
+// How many pieces end at or before `p`, by binary search.
 fn count_up_to(pieces: &[Piece], p: u64) -> usize
     requires { IsCut 0 pieces.now }
     ensures inside { result ≤ length pieces.now }
@@ -94,7 +94,7 @@ fn count_up_to(pieces: &[Piece], p: u64) -> usize
     low
 }
 
-/// The runs of the pieces up to before `q`, the first of which begins at `p`.
+// The runs of the pieces up to before `q`, the first of which begins at `p`.
 fn runs_before(alloc: Global, pieces: &[Piece], p: u64, q: u64) -> Result<Vec<AttrRun>, OutOfMemory>
     ensures { IfOk result (λ runs. runs.items ≡ clipped q p pieces.now) }
 {
@@ -128,7 +128,7 @@ pub fn runs_within(
     runs_before(alloc, &pieces[first..], p, q)
 }
 
-/// The place of the connection's total, or where it would stand.
+// The place of the connection's total, or where it would stand.
 fn place_of(totals: &[Total], conn: u32) -> usize
     ensures place { result ≡ place_of_total conn totals.now }
     ensures inside { result ≤ length totals.now }
@@ -141,7 +141,7 @@ fn place_of(totals: &[Total], conn: u32) -> usize
     totals.len()
 }
 
-/// Counts `count` more characters of the connection.
+// Counts `count` more characters of the connection.
 fn add_count(totals: &mut Vec<Total>, conn: u32, count: u64) -> Result<(), OutOfMemory>
     requires { sum_of totals.old.items + count < 2 ^ 53 }
     ensures { OnOk result (totals.new.items ≡ with_count conn count totals.old.items) }
@@ -156,7 +156,7 @@ fn add_count(totals: &mut Vec<Total>, conn: u32, count: u64) -> Result<(), OutOf
     Ok(())
 }
 
-/// Counts `count` more characters of the origin, if its connection is known.
+// Counts `count` more characters of the origin, if its connection is known.
 fn add_origin(totals: &mut Vec<Total>, who: Origin, count: u64) -> Result<(), OutOfMemory>
     requires { sum_of totals.old.items + count < 2 ^ 53 }
     ensures { OnOk result (totals.new.items ≡ with_origin who count totals.old.items) }

@@ -43,14 +43,14 @@ pub fn has_occurred_at_stage(stamp: &Stamp, stage: u64) -> bool
     }
 }
 
-/// Whether one of the stamps has occurred for the perspective.
+// Whether one of the stamps has occurred for the perspective.
 fn has_any_occurred(stamps: &[Stamp], at: Perspective) -> bool
     ensures { result ≡ list_any (has_occurred at.r at.c) stamps.now }
 {
     stamps.iter().any(|stamp| has_occurred(stamp, at))
 }
 
-/// Whether one of the stamps has occurred at the stage.
+// Whether one of the stamps has occurred at the stage.
 fn has_any_occurred_at_stage(stamps: &[Stamp], stage: u64) -> bool
     ensures { result ≡ list_any (has_occurred_at_stage stage) stamps.now }
 {

@@ -26,12 +26,12 @@ pub fn run(alloc: Global, kind: &str, window: u32, count: u32) -> Result<u64, Ou
     }
 }
 
-/// The connection that sent the message with this number.
+// The connection that sent the message with this number.
 fn sender(seq: u64) -> u32 {
     (seq % CONNECTIONS) as u32 + 1
 }
 
-/// A table of one insertion at each number up to the window.
+// A table of one insertion at each number up to the window.
 fn filled(alloc: Global, window: u32) -> Result<Table, OutOfMemory>
     ensures { IfOk result (λ table. table.floor ≡ 0) }
 {
@@ -42,7 +42,7 @@ fn filled(alloc: Global, window: u32) -> Result<Table, OutOfMemory>
     Ok(table)
 }
 
-/// Asks for the length, at perspectives from all over the window.
+// Asks for the length, at perspectives from all over the window.
 fn lengths(table: &Table, window: u32, count: u32) -> u64
     requires { table.now.floor ≡ 0 }
 {
@@ -57,7 +57,7 @@ fn lengths(table: &Table, window: u32, count: u32) -> u64
     sum
 }
 
-/// The stamps of an insertion that nobody removed.
+// The stamps of an insertion that nobody removed.
 fn element(alloc: Global, ins: Stamp) -> Element {
     Element {
         ins,
@@ -65,14 +65,14 @@ fn element(alloc: Global, ins: Stamp) -> Element {
     }
 }
 
-/// What a connection that sent nothing sees at the number after which the floor is this.
+// What a connection that sent nothing sees at the number after which the floor is this.
 fn seen(table: &Table, floor: u64) -> u64
     requires { table.now.floor ≤ floor }
 {
     table.length(Perspective { r: floor, c: 0 })
 }
 
-/// Inserts an item at each new number.
+// Inserts an item at each new number.
 fn inserted(table: &mut Table, window: u32, count: u32) -> Result<u64, OutOfMemory>
     requires { table.old.floor ≡ 0 }
 {
@@ -84,8 +84,8 @@ fn inserted(table: &mut Table, window: u32, count: u32) -> Result<u64, OutOfMemo
     Ok(seen(table, count as u64))
 }
 
-/// Inserts an item at each second new number, and at the next removes an element of an item that
-/// was inserted half a window before.
+// Inserts an item at each second new number, and at the next removes an element of an item that
+// was inserted half a window before.
 fn removed(alloc: Global, table: &mut Table, window: u32, count: u32) -> Result<u64, OutOfMemory>
     requires { table.old.floor ≡ 0 }
 {
@@ -103,7 +103,7 @@ fn removed(alloc: Global, table: &mut Table, window: u32, count: u32) -> Result<
     Ok(seen(table, 2 * count as u64))
 }
 
-/// Acknowledges a pending insertion at each new number.
+// Acknowledges a pending insertion at each new number.
 fn replaced(alloc: Global, table: &mut Table, window: u32, count: u32) -> Result<u64, OutOfMemory>
     requires { table.old.floor ≡ 0 }
 {
@@ -120,7 +120,7 @@ fn replaced(alloc: Global, table: &mut Table, window: u32, count: u32) -> Result
     Ok(seen(table, count as u64))
 }
 
-/// Changes the number of elements of an item in the middle of the window, to and fro.
+// Changes the number of elements of an item in the middle of the window, to and fro.
 fn resized(alloc: Global, table: &mut Table, window: u32, count: u32) -> Result<u64, OutOfMemory>
     requires { table.old.floor ≡ 0 }
 {
@@ -137,7 +137,7 @@ fn resized(alloc: Global, table: &mut Table, window: u32, count: u32) -> Result<
     Ok(seen(table, window as u64))
 }
 
-/// Adds the table to an empty one and then to itself.
+// Adds the table to an empty one and then to itself.
 fn joined(alloc: Global, table: &Table, count: u32) -> Result<u64, OutOfMemory>
     requires { table.now.floor ≡ 0 }
 {

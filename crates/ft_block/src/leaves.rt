@@ -119,7 +119,7 @@ pub(crate) enum View {
     Removed,
 }
 
-/// Whether the view sees the element.
+// Whether the view sees the element.
 fn sees_in(e: &Element, view: LenView) -> bool
     ensures { result ≡ sees_in view e.now }
 {
@@ -130,7 +130,7 @@ fn sees_in(e: &Element, view: LenView) -> bool
     }
 }
 
-/// Whether the element's first removal is sequenced.
+// Whether the element's first removal is sequenced.
 fn is_removed(e: &Element) -> bool
     ensures { result ≡ is_removed e.now }
 {
@@ -140,7 +140,7 @@ fn is_removed(e: &Element) -> bool
     }
 }
 
-/// Whether the view counts the element.
+// Whether the view counts the element.
 fn shows(e: &Element, view: View) -> bool
     ensures { result ≡ shows view e.now }
 {
@@ -176,8 +176,8 @@ pub(crate) fn kept_view(view: LenView, _floor: u64) -> View
     }
 }
 
-/// A stamp as blocks keep it for stages: as one by nobody that is sequenced at its stage, or at 0 where it is
-/// sequenced.
+// A stamp as blocks keep it for stages: as one by nobody that is sequenced at its stage, or at 0 where it is
+// sequenced.
 fn staged_stamp(stamp: &Stamp) -> Stamp
     ensures { result ≡ staged_stamp stamp.now }
 {

@@ -185,7 +185,7 @@ impl Collections {
         }
     }
 
-    /// The same, where nothing is said of the tree after `OutOfMemory`.
+    // The same, where nothing is said of the tree after `OutOfMemory`.
     fn take_effect(
         &mut self,
         tree: &mut Tree<TextContent>,
@@ -237,7 +237,7 @@ impl Collections {
         }
     }
 
-    /// The same, where nothing is said of the tree after `OutOfMemory`.
+    // The same, where nothing is said of the tree after `OutOfMemory`.
     fn take_first(&mut self, tree: &mut Tree<TextContent>, stage: u64) -> Result<(), OutOfMemory>
         requires usable { IsTrue tree.old.usable }
         requires stands { StandsOn tree.old self.old }

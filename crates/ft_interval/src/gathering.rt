@@ -23,7 +23,7 @@ use ft_sumdoc::meeting::meets;
 use ft_tree::{TextContent, Tree};
 use std::sync::ledger::Ledger;
 
-/// Adds the acknowledged interval of the label with this key in its index, at stage 0, if there is one.
+// Adds the acknowledged interval of the label with this key in its index, at stage 0, if there is one.
 fn add_found_one(
     store: &Store,
     tree: &Tree<TextContent>,
@@ -42,7 +42,7 @@ fn add_found_one(
     }
 }
 
-/// Adds the acknowledged intervals of the label with these keys in its index, at stage 0.
+// Adds the acknowledged intervals of the label with these keys in its index, at stage 0.
 fn add_found(
     store: &Store,
     tree: &Tree<TextContent>,
@@ -61,7 +61,7 @@ fn add_found(
     Ok(())
 }
 
-/// Adds the acknowledged intervals of the label that meet the places from `a` to `b`, by its index, at stage 0.
+// Adds the acknowledged intervals of the label that meet the places from `a` to `b`, by its index, at stage 0.
 fn add_met<G: Ledger>(
     store: &Store,
     tree: &Tree<TextContent>,
@@ -86,8 +86,8 @@ fn add_met<G: Ledger>(
     Ok(all)
 }
 
-/// The acknowledged intervals at stage 0 that pending operations are on, or that the index says to meet the places from `a` to
-/// `b`. It reads no node of the index before it knows the stages of all pending operations.
+// The acknowledged intervals at stage 0 that pending operations are on, or that the index says to meet the places from `a` to
+// `b`. It reads no node of the index before it knows the stages of all pending operations.
 fn gathered<G: Ledger>(
     store: &Store,
     tree: &Tree<TextContent>,

@@ -32,7 +32,7 @@ pub struct LabelIndex {
     pub ids: BTreeMap<u64, Text>,
 }
 
-/// Whether the index is that of the label.
+// Whether the index is that of the label.
 fn is_of(x: &LabelIndex, label: &Text) -> bool
     ensures { result ≡ is_eq (text_cmp label.now x.now.label) }
 {
@@ -55,14 +55,14 @@ pub fn order_is_kept(index: Option<&LabelIndex>)
     }
 }
 
-/// Where the index of the label stands, if it has one.
+// Where the index of the label stands, if it has one.
 fn place_of(indexes: &[LabelIndex], label: &Text) -> Option<usize>
     ensures { result ≡ position (λ x. is_eq (text_cmp label.now x.label)) indexes.now }
 {
     indexes.iter().position(|x| is_of(x, label))
 }
 
-/// An empty index of the label.
+// An empty index of the label.
 fn empty_index(label: &Text, alloc: Global) -> Result<LabelIndex, OutOfMemory>
     ensures { IfOk result (λ x. (x.label ≡ label.now) × (x.index ≡ no_items) × ((k : ℕ) → map.get nat_cmp x.ids k ≡ None)) }
 {
@@ -73,7 +73,7 @@ fn empty_index(label: &Text, alloc: Global) -> Result<LabelIndex, OutOfMemory>
     })
 }
 
-/// Adds the item of an interval with these references at its ends, and its id.
+// Adds the item of an interval with these references at its ends, and its id.
 fn add_item(
     x: &mut LabelIndex,
     tree: &Tree<TextContent>,
@@ -98,7 +98,7 @@ fn add_item(
     Ok(())
 }
 
-/// Takes the item with this key out, and its id.
+// Takes the item with this key out, and its id.
 fn take_item(x: &mut LabelIndex, tree: &Tree<TextContent>, start: u64)
     requires known { AreKnown (IsPlaced tree.now) x.old.index.items }
     requires order { IsInOrder (list_place tree.now.refs) x.old.index }
@@ -110,9 +110,9 @@ fn take_item(x: &mut LabelIndex, tree: &Tree<TextContent>, start: u64)
     x.index.order_is_kept();
 }
 
-/// Where the index of the label stands, after an empty one was added if it had none.
-///
-/// Returns `OutOfMemory` where there is no room for it, and then all indexes are as they were.
+// Where the index of the label stands, after an empty one was added if it had none.
+//
+// Returns `OutOfMemory` where there is no room for it, and then all indexes are as they were.
 fn place_for(indexes: &mut Vec<LabelIndex>, label: &Text) -> Result<usize, OutOfMemory>
     ensures at { IfOk result (λ i. position (λ x. is_eq (text_cmp label.now x.label)) indexes.new.items ≡ Some i) }
     ensures same { OnOk result (IsSameIndex (index_of label.now indexes.old.items) (index_of label.now indexes.new.items)) }
@@ -127,7 +127,7 @@ fn place_for(indexes: &mut Vec<LabelIndex>, label: &Text) -> Result<usize, OutOf
     Ok(i)
 }
 
-/// The references at both ends, if both are attached.
+// The references at both ends, if both are attached.
 fn both_attached(tree: &Tree<TextContent>, ends: EndPair<RefId>) -> Option<(u64, u64)>
     requires usable { IsTrue tree.now.usable }
     requires live { AreLiveEnds tree.now.refs ends }
@@ -191,7 +191,7 @@ struct Range {
     high: i64,
 }
 
-/// The range from `a` to `b`, which meets no number where `a` is above all.
+// The range from `a` to `b`, which meets no number where `a` is above all.
 fn range_of(a: u64, b: u64) -> Range
     ensures { IsRange a b result.low result.high }
 {

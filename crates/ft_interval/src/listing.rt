@@ -10,7 +10,7 @@ use ft_interval_store::Store;
 use ft_op::TextOp;
 use ft_tree::{TextContent, Tree};
 
-/// Takes the interval of that label and id out of the index of its label.
+// Takes the interval of that label and id out of the index of its label.
 fn unlist_named(
     indexes: &mut Vec<LabelIndex>,
     store: &Store,
@@ -30,7 +30,7 @@ fn unlist_named(
     unlist(indexes, tree, label, ends);
 }
 
-/// Puts the interval of that label and id into the index of its label, if it is there with both ends attached.
+// Puts the interval of that label and id into the index of its label, if it is there with both ends attached.
 fn enlist_named(
     indexes: &mut Vec<LabelIndex>,
     store: &Store,

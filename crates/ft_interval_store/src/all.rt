@@ -21,7 +21,7 @@ use ft_sumdoc::{Ends2, IntervalRec};
 use ft_tree::{TextContent, Tree};
 use std::alloc::Global;
 
-/// The interval at stage 0, with its ends as elements that this sees.
+// The interval at stage 0, with its ends as elements that this sees.
 fn placed(tree: &Tree<TextContent>, i: &Interval<RefId>) -> Result<Interval<Place>, OutOfMemory>
     requires usable { IsTrue tree.now.usable }
     requires live { AreLiveEnds tree.now.refs i.now.ends }
@@ -36,7 +36,7 @@ fn placed(tree: &Tree<TextContent>, i: &Interval<RefId>) -> Result<Interval<Plac
     })
 }
 
-/// The same on the heap.
+// The same on the heap.
 fn placed_on_heap(
     alloc: Global,
     tree: &Tree<TextContent>,
@@ -52,7 +52,7 @@ fn placed_on_heap(
     Ok(held)
 }
 
-/// The intervals at stage 0, with their ends as elements that this sees.
+// The intervals at stage 0, with their ends as elements that this sees.
 fn first_places(
     tree: &Tree<TextContent>,
     acked: &Intervals<RefId>,
@@ -71,7 +71,7 @@ fn first_places(
     Ok(Intervals { items })
 }
 
-/// Takes the interval from stage `from` to stage `to`.
+// Takes the interval from stage `from` to stage `to`.
 fn carry(tree: &Tree<TextContent>, i: &mut Held<Place>, from: u64, to: u64)
     requires usable { IsTrue tree.now.usable }
     requires on_leaf { AreOnTree tree.now i.old.ends }
@@ -81,7 +81,7 @@ fn carry(tree: &Tree<TextContent>, i: &mut Held<Place>, from: u64, to: u64)
     i.set_ends(carried(tree, i.ends(), from, to));
 }
 
-/// Takes all intervals from stage `from` to stage `to`, one after another.
+// Takes all intervals from stage `from` to stage `to`, one after another.
 fn carry_each(tree: &Tree<TextContent>, all: &mut Intervals<Place>, from: u64, to: u64)
     requires usable { IsTrue tree.now.usable }
     requires on_leaf { All (HasPlaces tree.now) all.old }
@@ -93,7 +93,7 @@ fn carry_each(tree: &Tree<TextContent>, all: &mut Intervals<Place>, from: u64, t
     }
 }
 
-/// Takes all intervals from stage `from` to stage `to`. Where no stage between removes elements, they stay as they are.
+// Takes all intervals from stage `from` to stage `to`. Where no stage between removes elements, they stay as they are.
 fn carry_all(tree: &Tree<TextContent>, all: &mut Intervals<Place>, from: u64, to: u64)
     requires usable { IsTrue tree.now.usable }
     requires on_leaf { All (HasPlaces tree.now) all.old }
@@ -106,7 +106,7 @@ fn carry_all(tree: &Tree<TextContent>, all: &mut Intervals<Place>, from: u64, to
     carry_each(tree, all, from, to);
 }
 
-/// Takes all intervals from stage `from` to the stage of the operation, and applies that.
+// Takes all intervals from stage `from` to the stage of the operation, and applies that.
 fn take_next(
     tree: &Tree<TextContent>,
     all: &mut Intervals<Place>,
@@ -127,7 +127,7 @@ fn take_next(
     all.apply(&t.op, settled(tree, t.ends, t.stage))
 }
 
-/// The interval as it is shown.
+// The interval as it is shown.
 fn record_at(tree: &Tree<TextContent>, i: Held<Place>) -> IntervalRec
     requires usable { IsTrue tree.now.usable }
     requires on_leaf { AreOnTree tree.now i.ends }
@@ -146,7 +146,7 @@ fn record_at(tree: &Tree<TextContent>, i: Held<Place>) -> IntervalRec
     }
 }
 
-/// The intervals as they are shown.
+// The intervals as they are shown.
 fn records(tree: &Tree<TextContent>, all: Intervals<Place>) -> Result<Vec<IntervalRec>, OutOfMemory>
     requires usable { IsTrue tree.now.usable }
     requires on_leaf { All (HasPlaces tree.now) all }
@@ -223,7 +223,7 @@ pub fn add_named(
     Ok(())
 }
 
-/// Adds the acknowledged interval that the operation is on, at stage 0, if it is there.
+// Adds the acknowledged interval that the operation is on, at stage 0, if it is there.
 fn add_changed(
     tree: &Tree<TextContent>,
     acked: &Intervals<RefId>,

@@ -18,8 +18,8 @@ const NONE: EndPair<RefId> = EndPair {
     end: None,
 };
 
-/// The ends of an operation, where no interval takes them: an add does nothing where its name is there, a change nothing
-/// where it isn't, and a delete has none to give.
+// The ends of an operation, where no interval takes them: an add does nothing where its name is there, a change nothing
+// where it isn't, and a delete has none to give.
 fn unused_ends(intervals: &Intervals<RefId>, op: &TextOp, ends: EndPair<RefId>) -> EndPair<RefId>
     ensures { result ≡ unused_ends op.now ends intervals.now }
 {
@@ -41,7 +41,7 @@ fn unused_ends(intervals: &Intervals<RefId>, op: &TextOp, ends: EndPair<RefId>) 
     }
 }
 
-/// The ends that the interval of an operation had, where it gets others or is taken away.
+// The ends that the interval of an operation had, where it gets others or is taken away.
 fn lost_ends(intervals: &Intervals<RefId>, op: &TextOp) -> EndPair<RefId>
     ensures { result ≡ lost_ends op.now intervals.now }
 {
@@ -101,9 +101,9 @@ pub fn take_effect(
     }
 }
 
-/// The same, where nothing is said of the tree after `OutOfMemory`.
-///
-/// Returns `OutOfMemory` where there is no room for what it makes, and then the intervals are as they were.
+// The same, where nothing is said of the tree after `OutOfMemory`.
+//
+// Returns `OutOfMemory` where there is no room for what it makes, and then the intervals are as they were.
 fn take(
     intervals: &mut Intervals<RefId>,
     tree: &mut Tree<TextContent>,

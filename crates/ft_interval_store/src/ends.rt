@@ -26,7 +26,7 @@ pub fn given_ends_fit(length: u64, given: Option<Ends>) -> bool
     }
 }
 
-/// Whether both ends are detached, or both are places among `length` elements.
+// Whether both ends are detached, or both are places among `length` elements.
 fn ends_fit(length: u64, ends: Ends) -> bool
     ensures { result ≡ ends_fit length ends }
 {
@@ -36,7 +36,7 @@ fn ends_fit(length: u64, ends: Ends) -> bool
     is_place(length, ends.start) && is_place(length, ends.end)
 }
 
-/// Whether the number is a place among `length` elements.
+// Whether the number is a place among `length` elements.
 fn is_place(length: u64, position: i64) -> bool
     ensures { result ≡ is_place length position }
 {
@@ -46,9 +46,9 @@ fn is_place(length: u64, position: i64) -> bool
     }
 }
 
-/// Puts a pending reference on the element at that position of the view, none where the position is below 0.
-///
-/// Returns `OutOfMemory` where there is no room for it, or no element, and then the tree may be used no more.
+// Puts a pending reference on the element at that position of the view, none where the position is below 0.
+//
+// Returns `OutOfMemory` where there is no room for it, or no element, and then the tree may be used no more.
 fn add_end(
     tree: &mut Tree<TextContent>,
     position: i64,
@@ -98,7 +98,7 @@ pub fn add_ends(
     })
 }
 
-/// Makes the reference of an end acknowledged, and slides it.
+// Makes the reference of an end acknowledged, and slides it.
 fn settle_end(tree: &mut Tree<TextContent>, end: Option<RefId>)
     requires usable { IsTrue tree.old.usable }
     requires live { IsLiveEnd tree.old.refs end }
@@ -126,7 +126,7 @@ pub fn settle_ends(tree: &mut Tree<TextContent>, ends: EndPair<RefId>)
     settle_end(tree, ends.end);
 }
 
-/// Ends the reference of an end.
+// Ends the reference of an end.
 fn drop_end(tree: &mut Tree<TextContent>, end: Option<RefId>)
     requires usable { IsTrue tree.old.usable }
     requires live { IsLiveEnd tree.old.refs end }

@@ -29,7 +29,7 @@ pub struct Interval<T> {
     pub props: Props,
 }
 
-/// The order of two names: by label, then by id.
+// The order of two names: by label, then by id.
 fn name_order(label: &Text, id: &Text, other_label: &Text, other_id: &Text) -> Ordering
     ensures { result ≡ name_cmp (label.now, id.now) (other_label.now, other_id.now) }
 {
@@ -44,9 +44,9 @@ pub fn is_same_name(label: &Text, id: &Text, other_label: &Text, other_id: &Text
 }
 
 impl<T: Copy> Held<T> {
-    /// Gives it the ends, if an operation gives some, and applies the set to its properties.
-    ///
-    /// Returns `OutOfMemory` where there is no room for its properties, and then nothing changed.
+    // Gives it the ends, if an operation gives some, and applies the set to its properties.
+    //
+    // Returns `OutOfMemory` where there is no room for its properties, and then nothing changed.
     fn change(
         &mut self,
         given: Option<Ends>,
@@ -170,7 +170,7 @@ impl<T: Copy + Drop> Intervals<T> {
         self.items.as_slice()
     }
 
-    /// The place of the interval of that label and id, or else, as an error, the place where it would stand.
+    // The place of the interval of that label and id, or else, as an error, the place where it would stand.
     fn search(&self, label: &Text, id: &Text) -> Result<usize, usize>
         ensures { result ≡ place_of_name (label.now, id.now) self.now }
     {
@@ -198,7 +198,7 @@ impl<T: Copy + Drop> Intervals<T> {
         self.put_held(Held::new(self.allocator(), interval)?)
     }
 
-    /// The same of one that is on the heap already.
+    // The same of one that is on the heap already.
     fn put_held(&mut self, held: Held<T>) -> Result<(), OutOfMemory>
         ensures ok { OnOk result (self.new ≡ put_rising interval_cmp held self.old) }
         ensures err { OnErr result (self.new ≡ self.old) }
@@ -213,9 +213,9 @@ impl<T: Copy + Drop> Intervals<T> {
         }
     }
 
-    /// Adds an interval, unless one of its name is there.
-    ///
-    /// Returns `OutOfMemory` where there is no room for it, and then nothing changed.
+    // Adds an interval, unless one of its name is there.
+    //
+    // Returns `OutOfMemory` where there is no room for it, and then nothing changed.
     fn add(
         &mut self,
         label: &Text,
@@ -238,10 +238,10 @@ impl<T: Copy + Drop> Intervals<T> {
         })
     }
 
-    /// Gives the interval of that name, if it is there, the ends, if an operation gives some, and applies the set to
-    /// its properties.
-    ///
-    /// Returns `OutOfMemory` where there is no room for its properties, and then nothing changed.
+    // Gives the interval of that name, if it is there, the ends, if an operation gives some, and applies the set to
+    // its properties.
+    //
+    // Returns `OutOfMemory` where there is no room for its properties, and then nothing changed.
     fn change(
         &mut self,
         label: &Text,
@@ -259,7 +259,7 @@ impl<T: Copy + Drop> Intervals<T> {
         }
     }
 
-    /// Takes the interval of that name out, if it is there.
+    // Takes the interval of that name out, if it is there.
     fn delete(&mut self, label: &Text, id: &Text)
         ensures { self.new ≡ without_name (label.now, id.now) self.old }
     {

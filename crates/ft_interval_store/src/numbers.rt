@@ -18,7 +18,7 @@ use ft_op::{Ends, TextOp};
 use ft_refs::RefId;
 use ft_tree::{TextContent, Tree};
 
-/// The number at the stage of the element at the end, as it is settled there.
+// The number at the stage of the element at the end, as it is settled there.
 fn settled_number(tree: &Tree<TextContent>, end: Option<RefId>, stage: u64) -> Option<u64>
     requires usable { IsTrue tree.now.usable }
     requires live { IsLiveEnd tree.now.refs end }
@@ -114,9 +114,9 @@ pub fn add_numbers(
     })
 }
 
-/// Puts a pending reference on the element that the view sees at this number, if there is one.
-///
-/// Returns `OutOfMemory` where there is no room for it, or no element, and then the tree may be used no more.
+// Puts a pending reference on the element that the view sees at this number, if there is one.
+//
+// Returns `OutOfMemory` where there is no room for it, or no element, and then the tree may be used no more.
 fn add_number(
     tree: &mut Tree<TextContent>,
     number: Option<u64>,

@@ -33,9 +33,9 @@ impl Operation {
     }
 }
 
-/// Adds an operation behind all others.
-///
-/// Returns `OutOfMemory` where there is no room for it, and then nothing changed.
+// Adds an operation behind all others.
+//
+// Returns `OutOfMemory` where there is no room for it, and then nothing changed.
 fn push(pending: &mut Vec<Operation>, operation: Operation) -> Result<(), OutOfMemory>
     ensures ok { OnOk result (pending.new.items ≡ pending.old.items ++ operation ∷ []) }
     ensures err { OnErr result (pending.new.items ≡ pending.old.items) }
@@ -44,9 +44,9 @@ fn push(pending: &mut Vec<Operation>, operation: Operation) -> Result<(), OutOfM
     Ok(())
 }
 
-/// Adds a copy of an operation with these ends behind all others.
-///
-/// Returns `OutOfMemory` where there is no room for it, and then nothing changed.
+// Adds a copy of an operation with these ends behind all others.
+//
+// Returns `OutOfMemory` where there is no room for it, and then nothing changed.
 fn add_copy(
     pending: &mut Vec<Operation>,
     stage: u64,

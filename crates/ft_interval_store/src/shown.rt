@@ -19,8 +19,8 @@ use ft_op::TextOp;
 use ft_refs::{Place, RefId};
 use ft_tree::{TextContent, Tree};
 
-/// What an operation makes of the interval that it is on, where this has these ends if it is there, and the operation has
-/// those.
+// What an operation makes of the interval that it is on, where this has these ends if it is there, and the operation has
+// those.
 fn after_own(
     op: &TextOp,
     own: EndPair<Place>,
@@ -40,7 +40,7 @@ fn after_own(
     }
 }
 
-/// The ends at stage `to` of an interval that is there or not, where those at stage `from` are given.
+// The ends at stage `to` of an interval that is there or not, where those at stage `from` are given.
 fn carried_shown(
     tree: &Tree<TextContent>,
     shown: Option<EndPair<Place>>,
@@ -56,8 +56,8 @@ fn carried_shown(
     Some(carried(tree, shown?, from, to))
 }
 
-/// What an operation makes at its stage of the interval of that label and id, which has these ends at stage `from` if it is
-/// there.
+// What an operation makes at its stage of the interval of that label and id, which has these ends at stage `from` if it is
+// there.
 fn shown_after(
     tree: &Tree<TextContent>,
     t: &Operation,
@@ -83,7 +83,7 @@ fn shown_after(
     after_own(&t.op, settled(tree, t.ends, t.stage), before)
 }
 
-/// The ends at stage 0 of the acknowledged interval of that label and id, if it is there.
+// The ends at stage 0 of the acknowledged interval of that label and id, if it is there.
 fn first_shown(
     tree: &Tree<TextContent>,
     acked: &Intervals<RefId>,

@@ -25,7 +25,7 @@ pub fn removal_until(tree: &Tree<TextContent>, from: u64, to: u64) -> Option<u64
     if k <= to { Some(k) } else { None }
 }
 
-/// The element of an end.
+// The element of an end.
 fn end_at(tree: &Tree<TextContent>, end: Option<RefId>) -> Option<Place>
     requires usable { IsTrue tree.now.usable }
     requires live { IsLiveEnd tree.now.refs end }
@@ -35,7 +35,7 @@ fn end_at(tree: &Tree<TextContent>, end: Option<RefId>) -> Option<Place>
     tree.ref_at(end?)
 }
 
-/// The element of an end as it is settled at the stage.
+// The element of an end as it is settled at the stage.
 fn settled_at(tree: &Tree<TextContent>, at: Option<Place>, stage: u64) -> Option<Place>
     requires usable { IsTrue tree.now.usable }
     requires on_leaf { IsOnTree tree.now at }
@@ -45,7 +45,7 @@ fn settled_at(tree: &Tree<TextContent>, at: Option<Place>, stage: u64) -> Option
     tree.settled_at(&place, stage)
 }
 
-/// The same of an end that is a reference.
+// The same of an end that is a reference.
 fn settled_end(tree: &Tree<TextContent>, end: Option<RefId>, stage: u64) -> Option<Place>
     requires usable { IsTrue tree.now.usable }
     requires live { IsLiveEnd tree.now.refs end }
@@ -66,10 +66,10 @@ pub fn settled(tree: &Tree<TextContent>, ends: EndPair<RefId>, stage: u64) -> En
     }
 }
 
-/// The element of an end at stage `to`, after each stage behind `from` settled it in turn.
-///
-/// It goes only over the stages that remove elements, and at each of them looks at the leaf of the element alone unless that
-/// is removed.
+// The element of an end at stage `to`, after each stage behind `from` settled it in turn.
+//
+// It goes only over the stages that remove elements, and at each of them looks at the leaf of the element alone unless that
+// is removed.
 fn carried_end(tree: &Tree<TextContent>, at: Option<Place>, from: u64, to: u64) -> Option<Place>
     requires usable { IsTrue tree.now.usable }
     requires on_leaf { IsOnTree tree.now at }
@@ -99,7 +99,7 @@ pub fn carried(tree: &Tree<TextContent>, ends: EndPair<Place>, from: u64, to: u6
     }
 }
 
-/// The number of an end among the elements that the client sees: None where it is detached.
+// The number of an end among the elements that the client sees: None where it is detached.
 fn last_number(tree: &Tree<TextContent>, at: Option<Place>) -> Option<u64>
     requires usable { IsTrue tree.now.usable }
     requires on_leaf { IsOnTree tree.now at }

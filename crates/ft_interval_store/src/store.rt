@@ -170,7 +170,7 @@ impl Store {
         self.push(tree, op, stage)
     }
 
-    /// Whether the label has the id in the view.
+    // Whether the label has the id in the view.
     fn is_shown(&self, tree: &Tree<TextContent>, label: &Text, id: &Text) -> bool
         requires usable { IsTrue tree.now.usable }
         requires live { IsLive tree.now.refs self.now }
@@ -179,10 +179,10 @@ impl Store {
         shown_ends(tree, &self.acked, &self.pending, label, id).is_some()
     }
 
-    /// Adds a pending operation, with references on the elements at its ends that the client sees.
-    ///
-    /// Returns `OutOfRange` exactly where the ends are given and neither below the length seen nor both detached, and then
-    /// nothing changed; and `OutOfMemory` where there is no room, and then the tree may be used no more.
+    // Adds a pending operation, with references on the elements at its ends that the client sees.
+    //
+    // Returns `OutOfRange` exactly where the ends are given and neither below the length seen nor both detached, and then
+    // nothing changed; and `OutOfMemory` where there is no room, and then the tree may be used no more.
     fn push(
         &mut self,
         tree: &mut Tree<TextContent>,
@@ -407,7 +407,7 @@ impl Store {
         }
     }
 
-    /// The same, where nothing is said of the tree after `OutOfMemory`.
+    // The same, where nothing is said of the tree after `OutOfMemory`.
     fn settle(&mut self, tree: &mut Tree<TextContent>, stage: u64) -> Result<TextOp, OutOfMemory>
         requires usable { IsTrue tree.old.usable }
         requires live { IsLive tree.old.refs self.old }

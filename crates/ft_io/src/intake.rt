@@ -66,7 +66,7 @@ impl Intake {
         }
     }
 
-    /// Reads the next piece in the place of this one, and takes none for the end.
+    // Reads the next piece in the place of this one, and takes none for the end.
     fn fill<S: Source>(&mut self, src: &mut S) -> Result<(), LineFault>
         ensures bytes { OnOk result (Consumes (S.remaining src.old) (S.remaining src.new) self.new.piece) }
         ensures given { OnOk result ((self.old.given ≤ input_limit)

@@ -69,8 +69,8 @@ impl StdSink {
 impl Sink for StdSink {
     ghost faults = { λ s. s };
 
-    /// It flushes before it returns Ok. A write that takes none of some bytes, and a flush that
-    /// fails, are faults.
+    // It flushes before it returns Ok. A write that takes none of some bytes, and a flush that
+    // fails, are faults.
     fn write(&mut self, buf: &[u8]) -> Result<usize, Failed> {
         let answer = write_through(&mut self.output, buf);
         counted(&mut self.faults, answer)

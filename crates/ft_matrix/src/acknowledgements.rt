@@ -48,9 +48,9 @@ impl SharedMatrix {
 }
 
 impl Grid {
-    /// Makes the `count` stages from `first` on sequenced.
-    ///
-    /// Returns `OutOfMemory` where there is no room for it, and then the grid may be used no more.
+    // Makes the `count` stages from `first` on sequenced.
+    //
+    // Returns `OutOfMemory` where there is no room for it, and then the grid may be used no more.
     fn ack_stages(&mut self, first: u64, count: u64, seq: u64, conn: u32) -> Result<(), OutOfMemory>
         requires sound { IsSound self.old }
         requires lowest { All (λ t. first ≤ t.stage) self.old.stages.items }
@@ -66,9 +66,9 @@ impl Grid {
         Ok(())
     }
 
-    /// Makes one stage sequenced: its units and marks, and its cell write. No lower one is pending.
-    ///
-    /// Returns `OutOfMemory` where there is no room for it, and then the grid may be used no more.
+    // Makes one stage sequenced: its units and marks, and its cell write. No lower one is pending.
+    //
+    // Returns `OutOfMemory` where there is no room for it, and then the grid may be used no more.
     fn ack_stage(&mut self, stage: u64, seq: u64, conn: u32) -> Result<(), OutOfMemory>
         requires sound { IsSound self.old }
         requires lowest { All (λ t. stage ≤ t.stage) self.old.stages.items }
@@ -85,7 +85,7 @@ impl Grid {
         }
     }
 
-    /// Takes the first pending stage out, if it has this number.
+    // Takes the first pending stage out, if it has this number.
     fn take_acked(&mut self, stage: u64) -> Option<GridStage>
         ensures stages { self.new.stages.items ≡ after_stage stage self.old.stages.items }
         ensures taken { result ≡ acked_stage stage self.old.stages.items }
@@ -97,9 +97,9 @@ impl Grid {
         }
     }
 
-    /// Counts the units that an acknowledged operation put in.
-    ///
-    /// Returns `OutOfMemory` where a count would pass 2^64 - 1.
+    // Counts the units that an acknowledged operation put in.
+    //
+    // Returns `OutOfMemory` where a count would pass 2^64 - 1.
     fn count_units(&mut self, op: &CellOp) -> Result<(), OutOfMemory>
         ensures { OnOk result (CountsUnits op.now self.old self.new) }
     {

@@ -76,10 +76,10 @@ impl SharedMatrix {
     }
 }
 
-/// Raises the floor of a vector, and takes the units out that were removed at or below it. Returns the runs of their handles, which
-/// are in use yet.
-///
-/// Returns `OutOfMemory` where there is no room for what is kept, and then the vector may be used no more.
+// Raises the floor of a vector, and takes the units out that were removed at or below it. Returns the runs of their handles, which
+// are in use yet.
+//
+// Returns `OutOfMemory` where there is no room for what is kept, and then the vector may be used no more.
 fn scour_units(units: &mut Vector, alloc: Global, floor: u64) -> Result<Vec<Handles>, OutOfMemory>
     requires sound { IsSoundVector units.old }
     requires rising { units.old.tree.floor ≤ floor }
@@ -92,10 +92,10 @@ fn scour_units(units: &mut Vector, alloc: Global, floor: u64) -> Result<Vec<Hand
     Ok(taken)
 }
 
-/// Raises the floor of a vector, and looks at `budget` further leaves: takes the units out that were removed at or below it. Returns
-/// the runs of their handles, which are in use yet.
-///
-/// Returns `OutOfMemory` where there is no room for what is kept, and then the vector may be used no more.
+// Raises the floor of a vector, and looks at `budget` further leaves: takes the units out that were removed at or below it. Returns
+// the runs of their handles, which are in use yet.
+//
+// Returns `OutOfMemory` where there is no room for what is kept, and then the vector may be used no more.
 fn scour_part(
     units: &mut Vector,
     alloc: Global,
@@ -113,9 +113,9 @@ fn scour_part(
 }
 
 impl Grid {
-    /// Raises the floor, and takes out all that was removed at or below it, with its cells: the handles are free again.
-    ///
-    /// Returns `OutOfMemory` where there is no room for what is kept, and then the grid may be used no more.
+    // Raises the floor, and takes out all that was removed at or below it, with its cells: the handles are free again.
+    //
+    // Returns `OutOfMemory` where there is no room for what is kept, and then the grid may be used no more.
     fn compact(&mut self, alloc: Global, floor: u64) -> Result<(), OutOfMemory>
         requires sound { IsSound self.old }
         requires rising { self.old.rows.tree.floor ≤ floor }
@@ -132,10 +132,10 @@ impl Grid {
         self.free_cols(cols)
     }
 
-    /// Raises the floor, and looks at `budget` further leaves of the rows and as many of the columns: those that were removed at or
-    /// below it are taken out, with their cells, and their handles are free again.
-    ///
-    /// Returns `OutOfMemory` where there is no room for what is kept, and then the grid may be used no more.
+    // Raises the floor, and looks at `budget` further leaves of the rows and as many of the columns: those that were removed at or
+    // below it are taken out, with their cells, and their handles are free again.
+    //
+    // Returns `OutOfMemory` where there is no room for what is kept, and then the grid may be used no more.
     fn tidy(&mut self, alloc: Global, floor: u64, budget: u64) -> Result<(), OutOfMemory>
         requires sound { IsSound self.old }
         requires rising { self.old.rows.tree.floor ≤ floor }
@@ -151,7 +151,7 @@ impl Grid {
         self.free_cols(cols)
     }
 
-    /// Takes the cells of rows out that are gone, and frees their handles.
+    // Takes the cells of rows out that are gone, and frees their handles.
     fn free_rows(&mut self, mut taken: Vec<Handles>) -> Result<(), OutOfMemory>
         requires gone { AreGone taken.items self.old.rows }
         ensures { OnOk result (FreesRows (is_in_runs taken.items) self.old self.new) }
@@ -162,7 +162,7 @@ impl Grid {
         Ok(())
     }
 
-    /// Takes the cells of a run of rows out that are gone, and frees its handles.
+    // Takes the cells of a run of rows out that are gone, and frees its handles.
     fn free_row_run(&mut self, run: Handles) -> Result<(), OutOfMemory>
         requires used { (h : ℕ) → in_run h run ≡ true → in_use self.old.rows h ≡ true }
         requires gone { All (λ e. in_run e.unit run ≡ false) (units_of self.old.rows) }
@@ -175,7 +175,7 @@ impl Grid {
         self.rows.recycle(run)
     }
 
-    /// Takes the cells of columns out that are gone, and frees their handles.
+    // Takes the cells of columns out that are gone, and frees their handles.
     fn free_cols(&mut self, mut taken: Vec<Handles>) -> Result<(), OutOfMemory>
         requires gone { AreGone taken.items self.old.cols }
         ensures { OnOk result (FreesCols (is_in_runs taken.items) self.old self.new) }
@@ -186,7 +186,7 @@ impl Grid {
         Ok(())
     }
 
-    /// Takes the cells of a run of columns out that are gone, and frees its handles.
+    // Takes the cells of a run of columns out that are gone, and frees its handles.
     fn free_col_run(&mut self, run: Handles) -> Result<(), OutOfMemory>
         requires used { (h : ℕ) → in_run h run ≡ true → in_use self.old.cols h ≡ true }
         requires gone { All (λ e. in_run e.unit run ≡ false) (units_of self.old.cols) }

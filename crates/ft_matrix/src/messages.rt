@@ -148,9 +148,9 @@ impl Grid {
         }
     }
 
-    /// Puts rows in, as a splice of a message does.
-    ///
-    /// Returns `OutOfMemory` where there is no room for them, and then the grid may be used no more.
+    // Puts rows in, as a splice of a message does.
+    //
+    // Returns `OutOfMemory` where there is no room for them, and then the grid may be used no more.
     fn insert_rows<G: Ledger>(
         &mut self,
         p: u64,
@@ -173,9 +173,9 @@ impl Grid {
         Ok(true)
     }
 
-    /// Puts columns in, as a splice of a message does.
-    ///
-    /// Returns `OutOfMemory` where there is no room for them, and then the grid may be used no more.
+    // Puts columns in, as a splice of a message does.
+    //
+    // Returns `OutOfMemory` where there is no room for them, and then the grid may be used no more.
     fn insert_cols<G: Ledger>(
         &mut self,
         p: u64,
@@ -198,9 +198,9 @@ impl Grid {
         Ok(true)
     }
 
-    /// Removes rows, as a splice of a message does.
-    ///
-    /// Returns `OutOfMemory` where there is no room for it, and then the grid may be used no more.
+    // Removes rows, as a splice of a message does.
+    //
+    // Returns `OutOfMemory` where there is no room for it, and then the grid may be used no more.
     fn remove_rows<G: Ledger>(
         &mut self,
         p: u64,
@@ -223,9 +223,9 @@ impl Grid {
         Ok(true)
     }
 
-    /// Removes columns, as a splice of a message does.
-    ///
-    /// Returns `OutOfMemory` where there is no room for it, and then the grid may be used no more.
+    // Removes columns, as a splice of a message does.
+    //
+    // Returns `OutOfMemory` where there is no room for it, and then the grid may be used no more.
     fn remove_cols<G: Ledger>(
         &mut self,
         p: u64,
@@ -248,9 +248,9 @@ impl Grid {
         Ok(true)
     }
 
-    /// Writes a value to the cell of the row and the column that the perspective sees there.
-    ///
-    /// Returns `OutOfMemory` where there is no room for it, and then the grid may be used no more.
+    // Writes a value to the cell of the row and the column that the perspective sees there.
+    //
+    // Returns `OutOfMemory` where there is no room for it, and then the grid may be used no more.
     fn set(
         &mut self,
         row: u64,
@@ -278,7 +278,7 @@ impl Grid {
     }
 }
 
-/// One more is skipped where an operation isn't taken.
+// One more is skipped where an operation isn't taken.
 fn skips(taken: bool) -> u64
     ensures { result ≡ skips taken }
 {

@@ -74,7 +74,7 @@ impl SharedMatrix {
         }
     }
 
-    /// The first leaves of the rows and of the columns; the contract tells how deep a search for a unit goes at most.
+    // The first leaves of the rows and of the columns; the contract tells how deep a search for a unit goes at most.
     fn first_leaves(&self) -> (Option<NodeId>, Option<NodeId>)
         requires { IsTrue self.now.usable }
         ensures rows { 4 ^ self.now.rows_depth ≤ length self.now.rows + 1 }
@@ -84,7 +84,7 @@ impl SharedMatrix {
     }
 }
 
-/// The first leaf of a vector; the contract tells how deep a search for a unit goes at most.
+// The first leaf of a vector; the contract tells how deep a search for a unit goes at most.
 fn first_leaf(units: &Vector) -> Option<NodeId>
     requires { IsTrue units.now.tree.usable }
     ensures { 4 ^ units.now.tree.depth ≤ length (shown_units units.now) + 1 }
@@ -92,7 +92,7 @@ fn first_leaf(units: &Vector) -> Option<NodeId>
     units.tree.first_leaf()
 }
 
-/// How many sub-operations the operation has.
+// How many sub-operations the operation has.
 fn sub_operation_count(op: &GridOp) -> u64
     ensures { result ≡ length (sub_operations (ChannelOp.Grid op.now)) }
 {
@@ -103,10 +103,10 @@ fn sub_operation_count(op: &GridOp) -> u64
 }
 
 impl Grid {
-    /// Takes an operation as pending stages from `first` on. Returns the length of the list concerned where a sub-operation is
-    /// out of range, and then nothing changed.
-    ///
-    /// Returns `OutOfMemory` where there is no room for it, and then the grid may be used no more.
+    // Takes an operation as pending stages from `first` on. Returns the length of the list concerned where a sub-operation is
+    // out of range, and then nothing changed.
+    //
+    // Returns `OutOfMemory` where there is no room for it, and then the grid may be used no more.
     fn edit_op<G: Ledger>(
         &mut self,
         op: &GridOp,
@@ -136,9 +136,9 @@ impl Grid {
         }
     }
 
-    /// The length with which the first of these operations that is out of range is refused.
-    ///
-    /// Returns `OutOfMemory` where more rows or columns would be seen than there are numbers.
+    // The length with which the first of these operations that is out of range is refused.
+    //
+    // Returns `OutOfMemory` where more rows or columns would be seen than there are numbers.
     fn refusal(&self, ops: &[CellOp]) -> Result<Option<u64>, OutOfMemory>
         requires sound { IsSound self.now }
         requires formed { AllByRecursion IsWellFormedCell ops.now }
@@ -158,9 +158,9 @@ impl Grid {
         Ok(None)
     }
 
-    /// Takes operations that are within range as pending stages from `first` on.
-    ///
-    /// Returns `OutOfMemory` where there is no room for them, and then the grid may be used no more.
+    // Takes operations that are within range as pending stages from `first` on.
+    //
+    // Returns `OutOfMemory` where there is no room for them, and then the grid may be used no more.
     fn edit_all<G: Ledger>(
         &mut self,
         ops: &[CellOp],
@@ -186,10 +186,10 @@ impl Grid {
         Ok(())
     }
 
-    /// Takes an operation as a pending stage above all others. Returns the length of the list concerned where it is out of range,
-    /// and then nothing changed.
-    ///
-    /// Returns `OutOfMemory` where there is no room for it, and then the grid may be used no more.
+    // Takes an operation as a pending stage above all others. Returns the length of the list concerned where it is out of range,
+    // and then nothing changed.
+    //
+    // Returns `OutOfMemory` where there is no room for it, and then the grid may be used no more.
     fn edit_one<G: Ledger>(
         &mut self,
         op: &CellOp,
@@ -235,9 +235,9 @@ impl Grid {
 }
 
 impl Grid {
-    /// Puts rows in as a pending stage.
-    ///
-    /// Returns `OutOfMemory` where there is no room for it, and then the grid may be used no more.
+    // Puts rows in as a pending stage.
+    //
+    // Returns `OutOfMemory` where there is no room for it, and then the grid may be used no more.
     fn insert_own_rows<G: Ledger>(
         &mut self,
         p: u64,
@@ -271,9 +271,9 @@ impl Grid {
         Ok(None)
     }
 
-    /// Puts columns in as a pending stage.
-    ///
-    /// Returns `OutOfMemory` where there is no room for it, and then the grid may be used no more.
+    // Puts columns in as a pending stage.
+    //
+    // Returns `OutOfMemory` where there is no room for it, and then the grid may be used no more.
     fn insert_own_cols<G: Ledger>(
         &mut self,
         p: u64,
@@ -307,9 +307,9 @@ impl Grid {
         Ok(None)
     }
 
-    /// Marks rows as removed by a pending stage.
-    ///
-    /// Returns `OutOfMemory` where there is no room for it, and then the grid may be used no more.
+    // Marks rows as removed by a pending stage.
+    //
+    // Returns `OutOfMemory` where there is no room for it, and then the grid may be used no more.
     fn remove_own_rows<G: Ledger>(
         &mut self,
         p: u64,
@@ -343,9 +343,9 @@ impl Grid {
         Ok(None)
     }
 
-    /// Marks columns as removed by a pending stage.
-    ///
-    /// Returns `OutOfMemory` where there is no room for it, and then the grid may be used no more.
+    // Marks columns as removed by a pending stage.
+    //
+    // Returns `OutOfMemory` where there is no room for it, and then the grid may be used no more.
     fn remove_own_cols<G: Ledger>(
         &mut self,
         p: u64,
@@ -379,9 +379,9 @@ impl Grid {
         Ok(None)
     }
 
-    /// Writes a value to a cell as a pending stage.
-    ///
-    /// Returns `OutOfMemory` where there is no room for it, and then the grid may be used no more.
+    // Writes a value to a cell as a pending stage.
+    //
+    // Returns `OutOfMemory` where there is no room for it, and then the grid may be used no more.
     fn set_own(
         &mut self,
         i: u64,
@@ -421,10 +421,10 @@ impl Grid {
     }
 }
 
-/// How many rows and columns are seen after an operation where so many were before, or the length of the list concerned where it
-/// is out of range.
-///
-/// Returns `OutOfMemory` where that would pass 2^64 - 1.
+// How many rows and columns are seen after an operation where so many were before, or the length of the list concerned where it
+// is out of range.
+//
+// Returns `OutOfMemory` where that would pass 2^64 - 1.
 fn lengths_after(rows: u64, cols: u64, op: &CellOp) -> Result<Result<(u64, u64), u64>, OutOfMemory>
     requires { IsWellFormedCell op.now }
     ensures { IfOk result (λ after. after ≡ lengths_after rows cols op.now) }

@@ -103,7 +103,7 @@ impl SharedMatrix {
     }
 }
 
-/// The operation that pieces make: one alone, several as a group, none for none.
+// The operation that pieces make: one alone, several as a group, none for none.
 fn op_of(alloc: Global, mut pieces: Vec<CellOp>) -> Result<Option<GridOp>, OutOfMemory>
     ensures { IfOk result (λ op. option_map ChannelOp.Grid op ≡ op_of (map (λ p. OnGrid p) pieces.items)) }
 {
@@ -116,7 +116,7 @@ fn op_of(alloc: Global, mut pieces: Vec<CellOp>) -> Result<Option<GridOp>, OutOf
     Ok(Some(GridOp::Group(group_of(alloc, pieces)?)))
 }
 
-/// The same operations as a group.
+// The same operations as a group.
 fn group_of(alloc: Global, ops: Vec<CellOp>) -> Result<CellOps, OutOfMemory>
     ensures { IfOk result (λ group. group ≡ ops.items) }
 {
@@ -127,9 +127,9 @@ fn group_of(alloc: Global, ops: Vec<CellOp>) -> Result<CellOps, OutOfMemory>
     Ok(group)
 }
 
-/// Puts the pending units of a vector in afresh. Those of each stage stand side by side in its view.
-///
-/// Returns `OutOfMemory` where there is no room for it, and then the vector may be used no more.
+// Puts the pending units of a vector in afresh. Those of each stage stand side by side in its view.
+//
+// Returns `OutOfMemory` where there is no room for it, and then the vector may be used no more.
 fn rebuild_units(units: &mut Vector) -> Result<(), OutOfMemory>
     requires sound { IsSoundVector units.old }
     requires side { StandSideBySide (λ e. e.stamps) (units_of units.old) }
@@ -140,9 +140,9 @@ fn rebuild_units(units: &mut Vector) -> Result<(), OutOfMemory>
 }
 
 impl Grid {
-    /// Puts the pending rows and columns in afresh. Those of each stage stand side by side in its view.
-    ///
-    /// Returns `OutOfMemory` where there is no room for it, and then the grid may be used no more.
+    // Puts the pending rows and columns in afresh. Those of each stage stand side by side in its view.
+    //
+    // Returns `OutOfMemory` where there is no room for it, and then the grid may be used no more.
     fn normalise(&mut self) -> Result<(), OutOfMemory>
         requires sound { IsSound self.old }
         requires rows { StandSideBySide (λ e. e.stamps) (units_of self.old.rows) }
@@ -156,8 +156,8 @@ impl Grid {
         rebuild_units(&mut self.cols)
     }
 
-    /// The operation as which an edit is sent again whose stages are the `count` ones from `first` on, None where nothing of it is
-    /// left. Those of its stages of which nothing is left are gone then.
+    // The operation as which an edit is sent again whose stages are the `count` ones from `first` on, None where nothing of it is
+    // left. Those of its stages of which nothing is left are gone then.
     fn reconnect(
         &mut self,
         alloc: Global,
@@ -179,7 +179,7 @@ impl Grid {
         op_of(alloc, pieces)
     }
 
-    /// The pieces of those of the `count` stages from `first` on that are pending here. A stage without a piece is gone then.
+    // The pieces of those of the `count` stages from `first` on that are pending here. A stage without a piece is gone then.
     fn resubmit(
         &mut self,
         alloc: Global,
@@ -197,8 +197,8 @@ impl Grid {
         Ok(pieces)
     }
 
-    /// Adds the pieces of the stage at place `i`, and returns the place of the next one. A stage without a piece is gone then, with
-    /// its cell write.
+    // Adds the pieces of the stage at place `i`, and returns the place of the next one. A stage without a piece is gone then, with
+    // its cell write.
     fn resubmit_stage(&mut self, i: usize, pieces: &mut Vec<CellOp>) -> Result<usize, OutOfMemory>
         requires rows { IsSoundVector self.old.rows }
         requires cols { IsSoundVector self.old.cols }
@@ -217,7 +217,7 @@ impl Grid {
         Ok(i)
     }
 
-    /// Takes the stage at place `i` out, with its cell write.
+    // Takes the stage at place `i` out, with its cell write.
     fn drop_stage(&mut self, i: usize)
         ensures { (t : GridStage) → slice_get self.old.stages.items i ≡ Some t → DropsStage i t self.old self.new }
     {
@@ -227,7 +227,7 @@ impl Grid {
     }
 }
 
-/// The place of the first stage whose number is at least `first`, or how many there are.
+// The place of the first stage whose number is at least `first`, or how many there are.
 fn first_from(stages: &VecDeque<GridStage>, first: u64) -> usize
     requires { StagesRise 0 stages.now.items }
     ensures { result ≡ prefix_len (λ t. nat_lt t.stage first) stages.now.items }
@@ -235,7 +235,7 @@ fn first_from(stages: &VecDeque<GridStage>, first: u64) -> usize
     stages.partition_point(|t| t.stage < first)
 }
 
-/// Whether there is a stage at place `i`, and it is one of the `count` ones from `first` on.
+// Whether there is a stage at place `i`, and it is one of the `count` ones from `first` on.
 fn is_due_at(stages: &VecDeque<GridStage>, i: usize, first: u64, count: u64) -> bool
     ensures { result ≡ is_due_at first count (slice_get stages.now.items i) }
 {
@@ -245,14 +245,14 @@ fn is_due_at(stages: &VecDeque<GridStage>, i: usize, first: u64, count: u64) -> 
     }
 }
 
-/// Whether the number is one of the `count` ones from `first` on.
+// Whether the number is one of the `count` ones from `first` on.
 fn is_due(stage: u64, first: u64, count: u64) -> bool
     ensures { result ≡ is_due first count stage }
 {
     first <= stage && stage - first < count
 }
 
-/// Adds the pieces of a stage.
+// Adds the pieces of a stage.
 fn push_pieces(
     rows: &Vector,
     cols: &Vector,
@@ -291,7 +291,7 @@ fn push_pieces(
     }
 }
 
-/// Adds the insertion of `count` units by a stage where they stand now, unless it is one of nothing.
+// Adds the insertion of `count` units by a stage where they stand now, unless it is one of nothing.
 fn push_insertion(
     units: &Vector,
     target: Target,
@@ -311,8 +311,8 @@ fn push_insertion(
     Ok(())
 }
 
-/// How many units the stage before sees left of those of a stage, of which these are the pieces; or how many it sees, where it has
-/// none.
+// How many units the stage before sees left of those of a stage, of which these are the pieces; or how many it sees, where it has
+// none.
 fn put_position(units: &Vector, stage: u64, parts: &[Piece]) -> u64
     requires sound { IsSoundVector units.now }
     requires parts { parts.now ≡ unit_pieces stage (units_of units.now) }
@@ -324,7 +324,7 @@ fn put_position(units: &Vector, stage: u64, parts: &[Piece]) -> u64
     }
 }
 
-/// Where the first of the pieces inserts, if it does.
+// Where the first of the pieces inserts, if it does.
 fn first_insertion(parts: &[Piece]) -> Option<u64>
     ensures { result ≡ first_insertion parts.now }
 {
@@ -334,7 +334,7 @@ fn first_insertion(parts: &[Piece]) -> Option<u64>
     }
 }
 
-/// Where the piece inserts, if it does.
+// Where the piece inserts, if it does.
 fn inserted_at(part: &Piece) -> Option<u64>
     ensures { result ≡ inserted_at part.now }
 {
@@ -344,7 +344,7 @@ fn inserted_at(part: &Piece) -> Option<u64>
     }
 }
 
-/// Adds a removal for each run of units that a stage still marks.
+// Adds a removal for each run of units that a stage still marks.
 fn push_removals(
     units: &Vector,
     target: Target,
@@ -361,7 +361,7 @@ fn push_removals(
     Ok(())
 }
 
-/// Adds the removal that a piece is, if it is one.
+// Adds the removal that a piece is, if it is one.
 fn push_removal(part: &Piece, target: Target, pieces: &mut Vec<CellOp>) -> Result<(), OutOfMemory>
     ensures { OnOk result (pieces.new.items ≡ pieces.old.items ++ removal_op target part.now) }
 {
@@ -378,7 +378,7 @@ fn push_removal(part: &Piece, target: Target, pieces: &mut Vec<CellOp>) -> Resul
     }
 }
 
-/// Adds a write of the value to the cell at these places, if both are given.
+// Adds a write of the value to the cell at these places, if both are given.
 fn push_write(
     value: &ValText,
     row: Option<u64>,
@@ -400,7 +400,7 @@ fn push_write(
     }
 }
 
-/// The place at the stage before of the unit of a handle, if both that stage and this one see it.
+// The place at the stage before of the unit of a handle, if both that stage and this one see it.
 fn place_before(units: &Vector, stage: u64, handle: Option<u64>) -> Option<u64>
     requires { IsSoundVector units.now }
     ensures { result ≡ place_before stage handle (units_of units.now) }

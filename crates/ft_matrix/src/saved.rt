@@ -21,7 +21,7 @@ use ft_sumdoc::{Mark, Marks, RunRec, RunRecs};
 use ft_tree::Tree;
 use std::alloc::Global;
 
-/// A sequenced stamp as a mark.
+// A sequenced stamp as a mark.
 fn mark_of(stamp: &Stamp) -> Mark
     ensures { result ≡ mark_of stamp.now }
 {
@@ -34,7 +34,7 @@ fn mark_of(stamp: &Stamp) -> Mark
     }
 }
 
-/// The stamps as marks.
+// The stamps as marks.
 fn marks_of(alloc: Global, stamps: &[Stamp]) -> Result<Marks, OutOfMemory>
     ensures { IfOk result (λ marks. marks ≡ map mark_of stamps.now) }
 {
@@ -45,8 +45,8 @@ fn marks_of(alloc: Global, stamps: &[Stamp]) -> Result<Marks, OutOfMemory>
     Ok(marks)
 }
 
-/// The insertion as a mark, as a summary with this minimum has it: that which everybody sees, where it is at or below the
-/// minimum.
+// The insertion as a mark, as a summary with this minimum has it: that which everybody sees, where it is at or below the
+// minimum.
 fn insertion_of(ins: &Stamp, min: u64) -> Mark
     ensures { result ≡ insertion_mark min ins.now }
 {
@@ -64,7 +64,7 @@ fn insertion_of(ins: &Stamp, min: u64) -> Mark
     }
 }
 
-/// Whether the first removal is at or below the minimum.
+// Whether the first removal is at or below the minimum.
 fn is_collectable(dels: &[Stamp], min: u64) -> bool
     ensures { result ≡ has_collectable_removal min dels.now }
 {
@@ -74,21 +74,21 @@ fn is_collectable(dels: &[Stamp], min: u64) -> bool
     }
 }
 
-/// Whether the marks are equal.
+// Whether the marks are equal.
 fn same_mark(a: Mark, b: Mark) -> bool
     ensures { result ≡ same_mark a b }
 {
     a.seq == b.seq && a.conn == b.conn
 }
 
-/// Whether the insertions are equal, and the removals too.
+// Whether the insertions are equal, and the removals too.
 fn same_stamps(ins: Mark, dels: &Marks, other_ins: Mark, other_dels: &Marks) -> bool
     ensures { result ≡ same_stamps ins dels.now other_ins other_dels.now }
 {
     same_mark(ins, other_ins) && dels.same(other_dels)
 }
 
-/// A run of so many units with these stamps, as a summary at this minimum has it.
+// A run of so many units with these stamps, as a summary at this minimum has it.
 fn run_of(alloc: Global, stamps: &Element, count: u64, min: u64) -> Result<RunRec, OutOfMemory>
     ensures { IfOk result (λ run. run ≡ unit_run min stamps.now count) }
 {
@@ -100,7 +100,7 @@ fn run_of(alloc: Global, stamps: &Element, count: u64, min: u64) -> Result<RunRe
     })
 }
 
-/// Adds a run behind the others: it is joined to the last one where their stamps are equal.
+// Adds a run behind the others: it is joined to the last one where their stamps are equal.
 fn push_run(runs: &mut Vec<RunRec>, run: RunRec) -> Result<(), OutOfMemory>
     ensures { OnOk result ((rest : List RunRec) → continued runs.new.items rest ≡ continued runs.old.items (with_run run rest)) }
 {
@@ -122,7 +122,7 @@ fn push_run(runs: &mut Vec<RunRec>, run: RunRec) -> Result<(), OutOfMemory>
     Ok(())
 }
 
-/// Adds the units of a leaf behind the others, unless they were removed at or below the minimum.
+// Adds the units of a leaf behind the others, unless they were removed at or below the minimum.
 fn add_leaf(
     tree: &Tree<Handles>,
     leaf: NodeId,
@@ -142,7 +142,7 @@ fn add_leaf(
     push_run(runs, run)
 }
 
-/// The runs as a list.
+// The runs as a list.
 fn listed(alloc: Global, runs: Vec<RunRec>) -> Result<RunRecs, OutOfMemory>
     ensures { IfOk result (λ list. list ≡ runs.items) }
 {
@@ -161,7 +161,7 @@ pub fn saved_units(units: &Vector, min: u64) -> Result<RunRecs, OutOfMemory>
     saved_elements(&units.tree, min)
 }
 
-/// The same of the elements of a tree.
+// The same of the elements of a tree.
 fn saved_elements(tree: &Tree<Handles>, min: u64) -> Result<RunRecs, OutOfMemory>
     requires { IsTrue tree.now.usable }
     ensures { IfOk result (λ runs. runs ≡ saved_runs min (vector_elements tree.now)) }

@@ -34,7 +34,7 @@ pub struct SeenRuns {
 }
 
 impl SeenRuns {
-    /// No handles.
+    // No handles.
     fn new(alloc: Global) -> SeenRuns
         ensures { HoldsRuns [] result }
     {
@@ -44,9 +44,9 @@ impl SeenRuns {
         }
     }
 
-    /// Adds handles behind the others.
-    ///
-    /// Returns `OutOfMemory` where there is no room for them, or they would be more than 2^64 - 1.
+    // Adds handles behind the others.
+    //
+    // Returns `OutOfMemory` where there is no room for them, or they would be more than 2^64 - 1.
     fn add(&mut self, run: &Handles) -> Result<(), OutOfMemory>
         ensures { OnOk result ((hs : List ℕ) → HoldsRuns hs self.old → StandOnce (hs ++ handles_of run.now) → HoldsRuns (hs ++ handles_of run.now) self.new) }
     {
@@ -71,7 +71,7 @@ impl SeenRuns {
     }
 }
 
-/// Adds the handles of a leaf behind the others, if they are seen.
+// Adds the handles of a leaf behind the others, if they are seen.
 fn add_leaf(tree: &Tree<Handles>, leaf: NodeId, runs: &mut SeenRuns) -> Result<(), OutOfMemory>
     requires usable { IsTrue tree.now.usable }
     requires live { IsLeafIn tree.now.leaves leaf }

@@ -70,7 +70,7 @@ impl SharedMatrix {
 }
 
 impl Grid {
-    /// The grid of a summary, with nothing pending.
+    // The grid of a summary, with nothing pending.
     fn load(alloc: Global, doc: &SumDoc) -> Result<Grid, OutOfMemory>
         requires { IsValidSummary doc.now }
         ensures sound { IfOk result IsSound }
@@ -84,7 +84,7 @@ impl Grid {
         Ok(grid)
     }
 
-    /// Writes the cells of a summary, each on the unremoved row and column at its places.
+    // Writes the cells of a summary, each on the unremoved row and column at its places.
     fn load_cells(&mut self, cells: &[CellRec]) -> Result<(), OutOfMemory>
         requires usable { IsTrue self.old.rows.tree.usable × IsTrue self.old.cols.tree.usable }
         ensures { OnOk result (LoadsCells cells.now self.old self.new) }
@@ -96,7 +96,7 @@ impl Grid {
     }
 }
 
-/// Writes a cell of a summary on the unremoved row and column at its places, unless that has a value already.
+// Writes a cell of a summary on the unremoved row and column at its places, unless that has a value already.
 fn load_cell(
     cells: &mut Cells,
     rows: &Vector,
@@ -119,7 +119,7 @@ fn load_cell(
     cells.set_acked(row, col, cell.value.copy()?)
 }
 
-/// Puts the units of runs at the end of a vector, and returns how many they are.
+// Puts the units of runs at the end of a vector, and returns how many they are.
 fn load_units(units: &mut Vector, runs: &[RunRec]) -> Result<u64, OutOfMemory>
     requires sound { IsSoundVector units.old }
     requires some { list_all (λ run. nat_le 1 run.count) runs.now ≡ true }
@@ -135,7 +135,7 @@ fn load_units(units: &mut Vector, runs: &[RunRec]) -> Result<u64, OutOfMemory>
     Ok(made)
 }
 
-/// Puts the units of a run at the end of a vector.
+// Puts the units of a run at the end of a vector.
 fn load_run(units: &mut Vector, run: &RunRec) -> Result<(), OutOfMemory>
     requires sound { IsSoundVector units.old }
     requires some { 1 ≤ run.now.count }
@@ -149,7 +149,7 @@ fn load_run(units: &mut Vector, run: &RunRec) -> Result<(), OutOfMemory>
     units.tree.append(content, &props, stamps)
 }
 
-/// A mark as a stamp.
+// A mark as a stamp.
 fn stamp_of(mark: Mark) -> Stamp
     ensures { result ≡ stamp_of mark }
 {
@@ -159,7 +159,7 @@ fn stamp_of(mark: Mark) -> Stamp
     }
 }
 
-/// Marks as stamps.
+// Marks as stamps.
 fn stamps_of(alloc: Global, marks: &[Mark]) -> Result<Stamps, OutOfMemory>
     ensures { IfOk result (λ stamps. stamps ≡ map stamp_of marks.now) }
 {
@@ -170,7 +170,7 @@ fn stamps_of(alloc: Global, marks: &[Mark]) -> Result<Stamps, OutOfMemory>
     Ok(stamps)
 }
 
-/// The stamps of the units of a run.
+// The stamps of the units of a run.
 fn element_of(alloc: Global, run: &RunRec) -> Result<Element, OutOfMemory>
     ensures { IfOk result (λ e. e ≡ run_stamps run.now) }
 {

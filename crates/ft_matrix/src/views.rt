@@ -54,7 +54,7 @@ impl Grid {
     }
 }
 
-/// Puts the shown value of a cell at its place, if it has one and its row and its column are seen.
+// Puts the shown value of a cell at its place, if it has one and its row and its column are seen.
 fn place_cell(
     cells: &Cells,
     rows: &SeenRuns,
@@ -78,7 +78,7 @@ fn place_cell(
     Ok(())
 }
 
-/// The shown values of cells by their places.
+// The shown values of cells by their places.
 fn placed_cells(
     alloc: Global,
     cells: &Cells,
@@ -95,7 +95,7 @@ fn placed_cells(
     Ok(placed)
 }
 
-/// Values at places as cells, by rising row and column.
+// Values at places as cells, by rising row and column.
 fn listed(alloc: Global, placed: BTreeMap<(u64, u64), ValText>) -> Result<CellRecs, OutOfMemory>
     ensures cells { IfOk result (λ cells. cells ≡ map cell_of placed.entries) }
     ensures ordered { IfOk result (λ cells. tree.IsOrdered place_cmp placed) }

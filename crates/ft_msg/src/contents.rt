@@ -23,7 +23,7 @@ pub(crate) fn read_op_body(alloc: Global, value: &Value) -> Result<Body, Cause>
     read_contents(alloc, contents)
 }
 
-/// The body that contents are: without an address, an operation of the text.
+// The body that contents are: without an address, an operation of the text.
 #[tactic(auto, unfolding(crate::specs::MessageGrammar::contents_body))]
 fn read_contents(alloc: Global, contents: &Value) -> Result<Body, Cause>
     ensures { Reads Cause.OutOfMemory (contents_body (view contents.now)) IsWellFormedBody result }
@@ -38,7 +38,7 @@ fn read_contents(alloc: Global, contents: &Value) -> Result<Body, Cause>
     read_body_for(alloc, contents, address)
 }
 
-/// The body that contents for this address are.
+// The body that contents for this address are.
 fn read_body_for(alloc: Global, contents: &Value, address: &str) -> Result<Body, Cause>
     ensures { Reads Cause.OutOfMemory (body_for (view contents.now) (chars address.now)) IsWellFormedBody result }
 {
@@ -49,21 +49,21 @@ fn read_body_for(alloc: Global, contents: &Value, address: &str) -> Result<Body,
     }
 }
 
-/// The operation of the text in the field `contents` of contents, as a body.
+// The operation of the text in the field `contents` of contents, as a body.
 fn read_inner_text(alloc: Global, inner: Option<&Value>) -> Result<Body, Cause>
     ensures { Reads Cause.OutOfMemory (needed_body text_body (option_map (λ d. view d.now) inner.entry)) IsWellFormedBody result }
 {
     read_text_body(alloc, inner.ok_or(Cause::Missing(Field::Contents))?)
 }
 
-/// The operation of the grid in the field `contents` of contents, as a body.
+// The operation of the grid in the field `contents` of contents, as a body.
 fn read_inner_grid(alloc: Global, inner: Option<&Value>) -> Result<Body, Cause>
     ensures { Reads Cause.OutOfMemory (needed_body grid_body (option_map (λ d. view d.now) inner.entry)) IsWellFormedBody result }
 {
     read_grid_body(alloc, inner.ok_or(Cause::Missing(Field::Contents))?)
 }
 
-/// The operation of the text that the value is, as a body.
+// The operation of the text that the value is, as a body.
 #[tactic(auto, unfolding(crate::specs::MessageGrammar::text_body))]
 fn read_text_body(alloc: Global, contents: &Value) -> Result<Body, Cause>
     ensures { Reads Cause.OutOfMemory (text_body (view contents.now)) IsWellFormedBody result }
@@ -71,7 +71,7 @@ fn read_text_body(alloc: Global, contents: &Value) -> Result<Body, Cause>
     Ok(Body::Op(ChannelOp::Text(read_text_op(alloc, contents)?)))
 }
 
-/// The operation of the grid that the value is, as a body.
+// The operation of the grid that the value is, as a body.
 #[tactic(auto, unfolding(crate::specs::MessageGrammar::grid_body))]
 fn read_grid_body(alloc: Global, contents: &Value) -> Result<Body, Cause>
     ensures { Reads Cause.OutOfMemory (grid_body (view contents.now)) IsWellFormedBody result }

@@ -6,7 +6,7 @@ use crate::messages::{Body, Draft, Entry, Message, MsgKind};
 use crate::views::{Link, Numbers, Run, Spot, View};
 use ft_base::{Datum, OutOfMemory, Text};
 
-/// Whether it is the kind of this other word.
+// Whether it is the kind of this other word.
 fn is_other(kind: &MsgKind, word: &Text) -> bool
     ensures { IsTrue result ↔ (kind.now ≡ MsgKind.Other word.now) }
 {

@@ -28,7 +28,7 @@ pub fn read_message(alloc: Global, bytes: &[u8]) -> Result<Message, Cause>
     read_message_value(alloc, &value)
 }
 
-/// The message that the value is.
+// The message that the value is.
 #[tactic(auto, unfolding(crate::specs::MessageGrammar::message_of))]
 fn read_message_value(alloc: Global, value: &Value) -> Result<Message, Cause>
     ensures reads { Gives Cause.OutOfMemory (message_of (view value.now)) result }
@@ -55,7 +55,7 @@ fn read_message_value(alloc: Global, value: &Value) -> Result<Message, Cause>
     })
 }
 
-/// The kind of a message, by its word.
+// The kind of a message, by its word.
 fn read_kind(alloc: Global, word: &str) -> Result<MsgKind, OutOfMemory>
     ensures { IfOk result (λ kind. kind ≡ kind_of (chars word.now)) }
 {
@@ -68,15 +68,15 @@ fn read_kind(alloc: Global, word: &str) -> Result<MsgKind, OutOfMemory>
     }
 }
 
-/// Whether it is the kind of an operation.
+// Whether it is the kind of an operation.
 fn is_op_kind(kind: &MsgKind) -> bool
     ensures { result ≡ is_op_kind kind.now }
 {
     matches!(kind, MsgKind::Op)
 }
 
-/// The name of the connection that sent a message of this kind: none where the field isn't given,
-/// which is a fault for an operation.
+// The name of the connection that sent a message of this kind: none where the field isn't given,
+// which is a fault for an operation.
 fn read_sender(alloc: Global, kind: &MsgKind, name: Option<&Value>) -> Result<Option<Text>, Cause>
     ensures { Gives Cause.OutOfMemory (sender_of kind.now (option_map (λ d. view d.now) name.entry)) result }
 {
@@ -90,7 +90,7 @@ fn read_sender(alloc: Global, kind: &MsgKind, name: Option<&Value>) -> Result<Op
     }
 }
 
-/// The body of a message of this kind.
+// The body of a message of this kind.
 fn read_body(alloc: Global, kind: &MsgKind, value: &Value) -> Result<Body, Cause>
     ensures { Reads Cause.OutOfMemory (body_of kind.now (view value.now)) IsWellFormedBody result }
 {
@@ -112,7 +112,7 @@ pub fn read_draft(alloc: Global, bytes: &[u8]) -> Result<Draft, Cause>
     read_draft_value(alloc, &value)
 }
 
-/// The draft that the value is.
+// The draft that the value is.
 #[tactic(auto, unfolding(crate::specs::MessageGrammar::draft_of))]
 fn read_draft_value(alloc: Global, value: &Value) -> Result<Draft, Cause>
     ensures reads { Gives Cause.OutOfMemory (draft_of (view value.now)) result }
@@ -131,7 +131,7 @@ fn read_draft_value(alloc: Global, value: &Value) -> Result<Draft, Cause>
     })
 }
 
-/// The body of a draft of this type.
+// The body of a draft of this type.
 fn read_draft_body(alloc: Global, value: &Value, word: &str) -> Result<Body, Cause>
     ensures { Reads Cause.OutOfMemory (draft_body (view value.now) word.now) IsWellFormedBody result }
 {

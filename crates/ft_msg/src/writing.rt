@@ -17,7 +17,7 @@ use ft_op::writing::op_value;
 use serde_json::{Map, Value, json, put};
 use std::alloc::Global;
 
-/// The name of the sender, or null.
+// The name of the sender, or null.
 fn written_sender(alloc: Global, name: &Option<Text>) -> Result<Value, OutOfMemory>
     ensures value { IfOk result (λ v. view v ≡ written_sender name.now) }
     ensures representable { IfOk result (λ _. IsRepresentableSender name.now) }
@@ -28,7 +28,7 @@ fn written_sender(alloc: Global, name: &Option<Text>) -> Result<Value, OutOfMemo
     }
 }
 
-/// The word of the kind.
+// The word of the kind.
 fn kind_word(kind: &MsgKind) -> &str
     ensures word { string result.now ≡ written_kind kind.now }
     ensures representable { IsRepresentableKind kind.now }
@@ -42,7 +42,7 @@ fn kind_word(kind: &MsgKind) -> &str
     }
 }
 
-/// The address of an operation.
+// The address of an operation.
 fn address_of(op: &ChannelOp) -> &'static str
     ensures { string result.now ≡ written_address op.now }
 {
@@ -52,14 +52,14 @@ fn address_of(op: &ChannelOp) -> &'static str
     }
 }
 
-/// Contents for the address.
+// Contents for the address.
 fn written_contents(alloc: Global, address: &str, contents: Value) -> Result<Value, OutOfMemory>
     ensures { IfOk result (λ v. view v ≡ written_contents (string address.now) (view contents)) }
 {
     Ok(json!(in alloc; {"address": address, "contents": contents})?)
 }
 
-/// The contents of a message or a draft.
+// The contents of a message or a draft.
 fn written_body(alloc: Global, body: &Body) -> Result<Value, OutOfMemory>
     requires { IsWellFormedBody body.now }
     ensures value { IfOk result (λ v. view v ≡ written_body body.now) }
@@ -72,7 +72,7 @@ fn written_body(alloc: Global, body: &Body) -> Result<Value, OutOfMemory>
     }
 }
 
-/// The JSON value that a message is written as.
+// The JSON value that a message is written as.
 fn message_value(alloc: Global, m: &Message) -> Result<Value, OutOfMemory>
     requires { IsWellFormedMessage m.now }
     ensures value { IfOk result (λ v. view v ≡ written_message m.now) }
@@ -111,7 +111,7 @@ fn message_value(alloc: Global, m: &Message) -> Result<Value, OutOfMemory>
     Ok(Value::Object(members))
 }
 
-/// The word of the type of a draft with this body.
+// The word of the type of a draft with this body.
 fn draft_word(body: &Body) -> &'static str
     ensures { string result.now ≡ written_draft_kind body.now }
 {
@@ -121,7 +121,7 @@ fn draft_word(body: &Body) -> &'static str
     }
 }
 
-/// The JSON value that a draft is written as.
+// The JSON value that a draft is written as.
 fn draft_value(alloc: Global, draft: &Draft) -> Result<Value, OutOfMemory>
     requires { IsWellFormedDraft draft.now }
     ensures value { IfOk result (λ v. view v ≡ written_draft draft.now) }

@@ -35,7 +35,7 @@ pub(crate) fn read_given_adjustments(
     }
 }
 
-/// The adjustments of the entries of an object.
+// The adjustments of the entries of an object.
 fn read_adjustments(
     alloc: Global,
     set: &PropSet,
@@ -51,7 +51,7 @@ fn read_adjustments(
     Ok(adjustments)
 }
 
-/// The adjustment that the value is, of a key that the set doesn't have.
+// The adjustment that the value is, of a key that the set doesn't have.
 #[tactic(auto, unfolding(crate::specs::TextGrammar::adjustment_beside))]
 fn read_adjustment_beside(set: &PropSet, key: &str, value: &Value) -> Result<Adjust, OpFault>
     ensures value { result ≡ adjustment_beside set.now (chars key.now) (view value.now) }
@@ -63,7 +63,7 @@ fn read_adjustment_beside(set: &PropSet, key: &str, value: &Value) -> Result<Adj
     read_adjustment(value)
 }
 
-/// The adjustment that the value is.
+// The adjustment that the value is.
 #[tactic(auto, unfolding(crate::specs::TextGrammar::adjustment))]
 fn read_adjustment(value: &Value) -> Result<Adjust, OpFault>
     ensures { result ≡ adjustment (view value.now) }
@@ -77,7 +77,7 @@ fn read_adjustment(value: &Value) -> Result<Adjust, OpFault>
     adjustment_within(delta, min, max)
 }
 
-/// A bound of an adjustment: none where it is absent or null.
+// A bound of an adjustment: none where it is absent or null.
 #[tactic(auto, unfolding(crate::specs::TextGrammar::bound))]
 fn read_bound(value: &Value, name: Field) -> Result<Option<i64>, OpFault>
     ensures { result ≡ bound (view value.now) name }
@@ -88,7 +88,7 @@ fn read_bound(value: &Value, name: Field) -> Result<Option<i64>, OpFault>
     Ok(Some(signed_field(value, name)?))
 }
 
-/// The adjustment of these numbers.
+// The adjustment of these numbers.
 fn adjustment_within(delta: i64, min: Option<i64>, max: Option<i64>) -> Result<Adjust, OpFault>
     ensures { result ≡ adjustment_of delta min max }
 {

@@ -7,7 +7,7 @@ use ft_base::{Datum, OutOfMemory, Text};
 use ft_json::ValText;
 use ft_props::{Changes, PropSet};
 
-/// Whether the operation is this insertion.
+// Whether the operation is this insertion.
 fn is_insertion(op: &BaseOp, pos: u64, seg: &Seg, props: &PropSet) -> bool
     ensures { IsTrue result ↔ (op.now ≡ BaseOp.Insert pos seg.now props.now) }
 {
@@ -21,7 +21,7 @@ fn is_insertion(op: &BaseOp, pos: u64, seg: &Seg, props: &PropSet) -> bool
     }
 }
 
-/// Whether the operation is this removal.
+// Whether the operation is this removal.
 fn is_removal(op: &BaseOp, pos1: u64, pos2: u64) -> bool
     ensures { IsTrue result ↔ (op.now ≡ BaseOp.Remove pos1 pos2) }
 {
@@ -34,7 +34,7 @@ fn is_removal(op: &BaseOp, pos1: u64, pos2: u64) -> bool
     }
 }
 
-/// Whether the operation is this annotation.
+// Whether the operation is this annotation.
 fn is_annotation(op: &BaseOp, pos1: u64, pos2: u64, changes: &Changes) -> bool
     ensures { IsTrue result ↔ (op.now ≡ BaseOp.Annotate pos1 pos2 changes.now) }
 {
@@ -48,7 +48,7 @@ fn is_annotation(op: &BaseOp, pos1: u64, pos2: u64, changes: &Changes) -> bool
     }
 }
 
-/// Whether the operation is this one by itself.
+// Whether the operation is this one by itself.
 fn is_one(op: &TextOp, one: &BaseOp) -> bool
     ensures { IsTrue result ↔ (op.now ≡ TextOp.One one.now) }
 {
@@ -61,7 +61,7 @@ fn is_one(op: &TextOp, one: &BaseOp) -> bool
     }
 }
 
-/// Whether the operation is the group of these.
+// Whether the operation is the group of these.
 fn is_group(op: &TextOp, ops: &BaseOps) -> bool
     ensures { IsTrue result ↔ (op.now ≡ TextOp.Group ops.now) }
 {
@@ -74,7 +74,7 @@ fn is_group(op: &TextOp, ops: &BaseOps) -> bool
     }
 }
 
-/// Whether the operation adds this interval.
+// Whether the operation adds this interval.
 fn is_interval_add(op: &TextOp, label: &Text, id: &Text, ends: &Ends, props: &PropSet) -> bool
     ensures { IsTrue result ↔ (op.now ≡ TextOp.IntervalAdd label.now id.now ends.now props.now) }
 {
@@ -92,7 +92,7 @@ fn is_interval_add(op: &TextOp, label: &Text, id: &Text, ends: &Ends, props: &Pr
     }
 }
 
-/// Whether the operation changes this interval so.
+// Whether the operation changes this interval so.
 fn is_interval_change(
     op: &TextOp,
     label: &Text,
@@ -116,7 +116,7 @@ fn is_interval_change(
     }
 }
 
-/// Whether the operation deletes this interval.
+// Whether the operation deletes this interval.
 fn is_interval_delete(op: &TextOp, label: &Text, id: &Text) -> bool
     ensures { IsTrue result ↔ (op.now ≡ TextOp.IntervalDelete label.now id.now) }
 {
@@ -132,7 +132,7 @@ fn is_interval_delete(op: &TextOp, label: &Text, id: &Text) -> bool
     }
 }
 
-/// Whether the operation puts in these units.
+// Whether the operation puts in these units.
 fn is_splice_in(op: &CellOp, target: Target, pos: u64, count: u64) -> bool
     ensures { IsTrue result ↔ (op.now ≡ CellOp.SpliceIn target pos count) }
 {
@@ -146,7 +146,7 @@ fn is_splice_in(op: &CellOp, target: Target, pos: u64, count: u64) -> bool
     }
 }
 
-/// Whether the operation takes out these units.
+// Whether the operation takes out these units.
 fn is_splice_out(op: &CellOp, target: Target, pos1: u64, pos2: u64) -> bool
     ensures { IsTrue result ↔ (op.now ≡ CellOp.SpliceOut target pos1 pos2) }
 {
@@ -160,7 +160,7 @@ fn is_splice_out(op: &CellOp, target: Target, pos1: u64, pos2: u64) -> bool
     }
 }
 
-/// Whether the operation sets this cell to the value.
+// Whether the operation sets this cell to the value.
 fn is_set(op: &CellOp, row: u64, col: u64, value: &ValText) -> bool
     ensures { IsTrue result ↔ (op.now ≡ CellOp.Set row col value.now) }
 {

@@ -32,7 +32,7 @@ pub fn read_grid_op(alloc: Global, value: &Value) -> Result<GridOp, OpFault>
     Ok(GridOp::One(read_cell_op(alloc, value)?))
 }
 
-/// Whether the object is a group: it has no field `target`, and its type is 3.
+// Whether the object is a group: it has no field `target`, and its type is 3.
 #[tactic(auto, unfolding(crate::specs::GridGrammar::is_group))]
 fn is_group(value: &Value) -> bool
     ensures { result ≡ is_group (view value.now) }
@@ -43,7 +43,7 @@ fn is_group(value: &Value) -> bool
             .is_some_and(|n| n == GROUP)
 }
 
-/// The group that the object is.
+// The group that the object is.
 #[tactic(auto, unfolding(crate::specs::GridGrammar::group))]
 fn read_group(alloc: Global, value: &Value) -> Result<GridOp, OpFault>
     ensures { Reads OpFault.OutOfMemory (group (view value.now)) IsWellFormedGrid result }
@@ -52,7 +52,7 @@ fn read_group(alloc: Global, value: &Value) -> Result<GridOp, OpFault>
     Ok(GridOp::Group(read_group_items(alloc, items)?))
 }
 
-/// The operations of the items of a group.
+// The operations of the items of a group.
 fn read_group_items(alloc: Global, items: &[Value]) -> Result<CellOps, OpFault>
     ensures { Reads OpFault.OutOfMemory (read_each group_item (map view items.now)) (AllByRecursion IsWellFormedCell) result }
 {
@@ -64,7 +64,7 @@ fn read_group_items(alloc: Global, items: &[Value]) -> Result<CellOps, OpFault>
     Ok(ops)
 }
 
-/// The operation of an item of a group.
+// The operation of an item of a group.
 #[tactic(auto, unfolding(crate::specs::GridGrammar::group_item))]
 fn read_group_item(alloc: Global, item: &Value) -> Result<CellOp, OpFault>
     ensures { Reads OpFault.OutOfMemory (group_item (view item.now)) IsWellFormedCell result }
@@ -78,7 +78,7 @@ fn read_group_item(alloc: Global, item: &Value) -> Result<CellOp, OpFault>
     read_cell_op(alloc, item)
 }
 
-/// The operation of the object, which is no group.
+// The operation of the object, which is no group.
 #[tactic(auto, unfolding(crate::specs::GridGrammar::cell_op))]
 fn read_cell_op(alloc: Global, value: &Value) -> Result<CellOp, OpFault>
     ensures { Reads OpFault.OutOfMemory (cell_op (view value.now)) IsWellFormedCell result }
@@ -89,7 +89,7 @@ fn read_cell_op(alloc: Global, value: &Value) -> Result<CellOp, OpFault>
     }
 }
 
-/// The operation without a target, whose field `type` is given.
+// The operation without a target, whose field `type` is given.
 fn read_untargeted(alloc: Global, value: &Value, kind: Option<&Value>) -> Result<CellOp, OpFault>
     ensures { Reads OpFault.OutOfMemory (untargeted (view value.now) (option_map (λ d. view d.now) kind.entry)) IsWellFormedCell result }
 {
@@ -103,7 +103,7 @@ fn read_untargeted(alloc: Global, value: &Value, kind: Option<&Value>) -> Result
     }
 }
 
-/// The write to a cell that the object is.
+// The write to a cell that the object is.
 #[tactic(auto, unfolding(crate::specs::GridGrammar::cell_write))]
 fn read_cell_write(alloc: Global, value: &Value) -> Result<CellOp, OpFault>
     ensures { Reads OpFault.OutOfMemory (cell_write (view value.now)) IsWellFormedCell result }
@@ -118,7 +118,7 @@ fn read_cell_write(alloc: Global, value: &Value) -> Result<CellOp, OpFault>
     })
 }
 
-/// The splice that the object is, whose field `target` is given.
+// The splice that the object is, whose field `target` is given.
 #[tactic(auto, unfolding(crate::specs::GridGrammar::splice))]
 fn read_splice(value: &Value, target: &Value) -> Result<CellOp, OpFault>
     ensures value { result ≡ splice (view value.now) (view target.now) }
@@ -129,7 +129,7 @@ fn read_splice(value: &Value, target: &Value) -> Result<CellOp, OpFault>
     read_typed_splice(list, value, kind)
 }
 
-/// The list that the field `target` names.
+// The list that the field `target` names.
 fn read_target(target: &Value) -> Result<Target, OpFault>
     ensures { result ≡ target_of (view target.now) }
 {
@@ -140,7 +140,7 @@ fn read_target(target: &Value) -> Result<Target, OpFault>
     }
 }
 
-/// The splice of this type.
+// The splice of this type.
 fn read_typed_splice(list: Target, value: &Value, kind: u64) -> Result<CellOp, OpFault>
     ensures { result ≡ typed_splice list (view value.now) kind }
 {
@@ -151,7 +151,7 @@ fn read_typed_splice(list: Target, value: &Value, kind: u64) -> Result<CellOp, O
     }
 }
 
-/// The splice of new units that the object is.
+// The splice of new units that the object is.
 #[tactic(auto, unfolding(crate::specs::GridGrammar::splice_in))]
 fn read_splice_in(list: Target, value: &Value) -> Result<CellOp, OpFault>
     ensures { result ≡ splice_in list (view value.now) }
@@ -168,7 +168,7 @@ fn read_splice_in(list: Target, value: &Value) -> Result<CellOp, OpFault>
     })
 }
 
-/// The removal of units that the object is.
+// The removal of units that the object is.
 #[tactic(auto, unfolding(crate::specs::GridGrammar::splice_out))]
 fn read_splice_out(list: Target, value: &Value) -> Result<CellOp, OpFault>
     ensures { result ≡ splice_out list (view value.now) }

@@ -29,7 +29,7 @@ pub(crate) fn read_interval_op(
     }
 }
 
-/// The new interval that the object is.
+// The new interval that the object is.
 #[tactic(auto, unfolding(crate::specs::TextGrammar::interval_add))]
 fn read_interval_add(alloc: Global, value: &Value) -> Result<TextOp, OpFault>
     ensures { Reads OpFault.OutOfMemory (interval_add (view value.now)) IsWellFormedText result }
@@ -42,7 +42,7 @@ fn read_interval_add(alloc: Global, value: &Value) -> Result<TextOp, OpFault>
     })
 }
 
-/// The change of an interval that the object is.
+// The change of an interval that the object is.
 #[tactic(auto, unfolding(crate::specs::TextGrammar::interval_change))]
 fn read_interval_change(alloc: Global, value: &Value) -> Result<TextOp, OpFault>
     ensures { Reads OpFault.OutOfMemory (interval_change (view value.now)) IsWellFormedText result }
@@ -55,7 +55,7 @@ fn read_interval_change(alloc: Global, value: &Value) -> Result<TextOp, OpFault>
     })
 }
 
-/// The deletion of an interval that the object is.
+// The deletion of an interval that the object is.
 #[tactic(auto, unfolding(crate::specs::TextGrammar::interval_delete))]
 fn read_interval_delete(alloc: Global, value: &Value) -> Result<TextOp, OpFault>
     ensures { Reads OpFault.OutOfMemory (interval_delete (view value.now)) IsWellFormedText result }
@@ -66,7 +66,7 @@ fn read_interval_delete(alloc: Global, value: &Value) -> Result<TextOp, OpFault>
     })
 }
 
-/// The ends that the object has.
+// The ends that the object has.
 #[tactic(auto, unfolding(crate::specs::TextGrammar::interval_ends))]
 fn read_ends(value: &Value) -> Result<Ends, OpFault>
     ensures { result ≡ interval_ends (view value.now) }
@@ -82,14 +82,14 @@ fn read_ends(value: &Value) -> Result<Ends, OpFault>
     Ok(Ends { start, end })
 }
 
-/// Whether these may be the ends of an interval: both -1, or in order from 0 on.
+// Whether these may be the ends of an interval: both -1, or in order from 0 on.
 fn are_read_ends(start: i64, end: i64) -> bool
     ensures { result ≡ are_read_ends start end }
 {
     (start == -1 && end == -1) || (start >= 0 && start <= end)
 }
 
-/// The new ends that the object has: both, or none.
+// The new ends that the object has: both, or none.
 #[tactic(auto, unfolding(crate::specs::TextGrammar::new_ends))]
 fn read_new_ends(value: &Value) -> Result<Option<Ends>, OpFault>
     ensures { result ≡ new_ends (view value.now) }

@@ -37,7 +37,7 @@ pub(crate) fn read_range(value: &Value) -> Result<(u64, u64), OpFault>
     Ok((pos1, pos2))
 }
 
-/// The fault of two counts of which the second is less.
+// The fault of two counts of which the second is less.
 fn reversed(first: u64, second: u64) -> OpFault
     requires first { first < 2 ^ 53 }
     requires second { second < 2 ^ 53 }
@@ -59,7 +59,7 @@ pub(crate) fn read_kept_value(alloc: Global, value: &Value) -> Result<ValText, O
     Ok(canonical(alloc, value)?)
 }
 
-/// The value that a key is set to, none for null.
+// The value that a key is set to, none for null.
 #[tactic(auto, unfolding(crate::specs::Reading::set_value))]
 fn read_set_value(alloc: Global, value: &Value) -> Result<Option<ValText>, OpFault>
     ensures { Reads OpFault.OutOfMemory (set_value (view value.now)) IsSetValue result }
@@ -84,7 +84,7 @@ pub(crate) fn read_given_properties(alloc: Global, value: &Value) -> Result<Prop
     }
 }
 
-/// The properties of the entries of an object.
+// The properties of the entries of an object.
 fn read_property_set(alloc: Global, entries: &Map<String, Value>) -> Result<PropSet, OpFault>
     ensures { Reads OpFault.OutOfMemory (property_set_of (Some (entry_pairs entries.now.entries))) IsPropertySet result }
 {

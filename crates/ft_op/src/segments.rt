@@ -27,7 +27,7 @@ pub(crate) fn read_segment(alloc: Global, seg: &Value) -> Result<Seg, OpFault>
     }
 }
 
-/// The characters that a string has.
+// The characters that a string has.
 fn read_characters(alloc: Global, text: &Value) -> Result<Seg, OpFault>
     ensures { Gives OpFault.OutOfMemory (characters_of (view text.now)) result }
 {
@@ -37,7 +37,7 @@ fn read_characters(alloc: Global, text: &Value) -> Result<Seg, OpFault>
     })
 }
 
-/// The marker that the field `marker` is.
+// The marker that the field `marker` is.
 fn read_marker(marker: Option<&Value>) -> Result<Seg, OpFault>
     ensures { result ≡ marker_of (option_map (λ d. view d.now) marker.entry) }
 {

@@ -37,7 +37,7 @@ pub fn read_text_op(alloc: Global, value: &Value) -> Result<TextOp, OpFault>
     read_typed_op(alloc, value, kind)
 }
 
-/// The operation of this type.
+// The operation of this type.
 fn read_typed_op(alloc: Global, value: &Value, kind: u64) -> Result<TextOp, OpFault>
     ensures { Reads OpFault.OutOfMemory (typed_op (view value.now) kind) IsWellFormedText result }
 {
@@ -47,7 +47,7 @@ fn read_typed_op(alloc: Global, value: &Value, kind: u64) -> Result<TextOp, OpFa
     Ok(TextOp::One(read_base_op(alloc, value, kind)?))
 }
 
-/// The group that the object is.
+// The group that the object is.
 #[tactic(auto, unfolding(crate::specs::TextGrammar::group))]
 fn read_group(alloc: Global, value: &Value) -> Result<TextOp, OpFault>
     ensures { Reads OpFault.OutOfMemory (group (view value.now)) IsWellFormedText result }
@@ -56,7 +56,7 @@ fn read_group(alloc: Global, value: &Value) -> Result<TextOp, OpFault>
     Ok(TextOp::Group(read_group_items(alloc, items)?))
 }
 
-/// The operations of the items of a group.
+// The operations of the items of a group.
 fn read_group_items(alloc: Global, items: &[Value]) -> Result<BaseOps, OpFault>
     ensures { Reads OpFault.OutOfMemory (read_each group_item (map view items.now)) (AllByRecursion IsWellFormedBase) result }
 {
@@ -68,7 +68,7 @@ fn read_group_items(alloc: Global, items: &[Value]) -> Result<BaseOps, OpFault>
     Ok(ops)
 }
 
-/// The operation of an item of a group.
+// The operation of an item of a group.
 #[tactic(auto, unfolding(crate::specs::TextGrammar::group_item))]
 fn read_group_item(alloc: Global, item: &Value) -> Result<BaseOp, OpFault>
     ensures { Reads OpFault.OutOfMemory (group_item (view item.now)) IsWellFormedBase result }
@@ -83,7 +83,7 @@ fn read_group_item(alloc: Global, item: &Value) -> Result<BaseOp, OpFault>
     read_base_op(alloc, item, kind)
 }
 
-/// The operation of this type that may stand in a group.
+// The operation of this type that may stand in a group.
 #[tactic(auto, unfolding(crate::specs::TextGrammar::base_op))]
 fn read_base_op(alloc: Global, value: &Value, kind: u64) -> Result<BaseOp, OpFault>
     ensures { Reads OpFault.OutOfMemory (base_op (view value.now) kind) IsWellFormedBase result }
@@ -96,7 +96,7 @@ fn read_base_op(alloc: Global, value: &Value, kind: u64) -> Result<BaseOp, OpFau
     }
 }
 
-/// The insertion that the object is.
+// The insertion that the object is.
 #[tactic(auto, unfolding(crate::specs::TextGrammar::insertion))]
 fn read_insertion(alloc: Global, value: &Value) -> Result<BaseOp, OpFault>
     ensures { Reads OpFault.OutOfMemory (insertion (view value.now)) IsWellFormedBase result }
@@ -110,7 +110,7 @@ fn read_insertion(alloc: Global, value: &Value) -> Result<BaseOp, OpFault>
     })
 }
 
-/// The removal that the object is.
+// The removal that the object is.
 #[tactic(auto, unfolding(crate::specs::TextGrammar::removal))]
 fn read_removal(value: &Value) -> Result<BaseOp, OpFault>
     ensures value { result ≡ removal (view value.now) }
@@ -120,7 +120,7 @@ fn read_removal(value: &Value) -> Result<BaseOp, OpFault>
     Ok(BaseOp::Remove { pos1, pos2 })
 }
 
-/// The annotation that the object is.
+// The annotation that the object is.
 #[tactic(auto, unfolding(crate::specs::TextGrammar::annotation))]
 fn read_annotation(alloc: Global, value: &Value) -> Result<BaseOp, OpFault>
     ensures { Reads OpFault.OutOfMemory (annotation (view value.now)) IsWellFormedBase result }

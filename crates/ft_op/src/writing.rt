@@ -21,7 +21,7 @@ use ft_props::{AdjSet, Adjust, Changes, PropSet};
 use serde_json::{Map, Value, json, put};
 use std::alloc::Global;
 
-/// The value that a key is set to: null for none.
+// The value that a key is set to: null for none.
 fn written_value(value: &Option<ValText>) -> Result<Value, OutOfMemory>
     requires { IsSetValue value.now }
     ensures { IfOk result (λ v. view v ≡ written_value value.now) }
@@ -32,7 +32,7 @@ fn written_value(value: &Option<ValText>) -> Result<Value, OutOfMemory>
     }
 }
 
-/// The object of a property set.
+// The object of a property set.
 fn written_set(alloc: Global, set: &PropSet) -> Result<Value, OutOfMemory>
     requires { IsPropertySet set.now }
     ensures value { IfOk result (λ v. view v ≡ written_set set.now) }
@@ -45,7 +45,7 @@ fn written_set(alloc: Global, set: &PropSet) -> Result<Value, OutOfMemory>
     Ok(Value::Object(members))
 }
 
-/// The object of a property set, none for an empty one.
+// The object of a property set, none for an empty one.
 fn given_set(alloc: Global, set: &PropSet) -> Result<Option<Value>, OutOfMemory>
     requires { IsPropertySet set.now }
     ensures value { IfOk result (λ v. option_map view v ≡ given_set set.now) }
@@ -57,7 +57,7 @@ fn given_set(alloc: Global, set: &PropSet) -> Result<Option<Value>, OutOfMemory>
     Ok(Some(written_set(alloc, set)?))
 }
 
-/// Puts the value under the key, if it is there.
+// Puts the value under the key, if it is there.
 fn put_given(
     members: &mut Map<String, Value>,
     alloc: Global,
@@ -73,7 +73,7 @@ fn put_given(
     }
 }
 
-/// Puts the string under the key.
+// Puts the string under the key.
 fn put_str(
     members: &mut Map<String, Value>,
     alloc: Global,
@@ -86,7 +86,7 @@ fn put_str(
     Ok(put(members, alloc, key, Value::try_from_str(alloc, text)?)?)
 }
 
-/// The object of an adjustment.
+// The object of an adjustment.
 fn written_adjustment(alloc: Global, adjust: &Adjust) -> Result<Value, OutOfMemory>
     ensures { IfOk result (λ v. view v ≡ written_adjustment adjust.now) }
 {
@@ -97,7 +97,7 @@ fn written_adjustment(alloc: Global, adjust: &Adjust) -> Result<Value, OutOfMemo
     Ok(Value::Object(members))
 }
 
-/// The object of adjustments.
+// The object of adjustments.
 fn written_adjustments(alloc: Global, adjust: &AdjSet) -> Result<Value, OutOfMemory>
     ensures value { IfOk result (λ v. view v ≡ object (written_pairs written_adjustment adjust.now)) }
     ensures keyed { IfOk result (λ _. IsKeyed adjust.now) }
@@ -110,7 +110,7 @@ fn written_adjustments(alloc: Global, adjust: &AdjSet) -> Result<Value, OutOfMem
     Ok(Value::Object(members))
 }
 
-/// The object of adjustments, none where there are none.
+// The object of adjustments, none where there are none.
 fn given_adjustments(alloc: Global, adjust: &AdjSet) -> Result<Option<Value>, OutOfMemory>
     ensures value { IfOk result (λ v. option_map view v ≡ given_adjustments adjust.now) }
     ensures keyed { IfOk result (λ _. IsKeyed adjust.now) }
@@ -121,7 +121,7 @@ fn given_adjustments(alloc: Global, adjust: &AdjSet) -> Result<Option<Value>, Ou
     Ok(Some(written_adjustments(alloc, adjust)?))
 }
 
-/// Characters with their properties.
+// Characters with their properties.
 fn written_characters(alloc: Global, text: &Text, props: &PropSet) -> Result<Value, OutOfMemory>
     requires { IsPropertySet props.now }
     ensures value { IfOk result (λ v. view v ≡ written_segment (Seg.Chars text.now) props.now) }
@@ -134,7 +134,7 @@ fn written_characters(alloc: Global, text: &Text, props: &PropSet) -> Result<Val
     }
 }
 
-/// A marker with its properties.
+// A marker with its properties.
 fn written_marker(alloc: Global, ref_type: u64, props: &PropSet) -> Result<Value, OutOfMemory>
     requires { IsPropertySet props.now }
     ensures value { IfOk result (λ v. view v ≡ written_segment (Seg.Marker ref_type) props.now) }
@@ -147,7 +147,7 @@ fn written_marker(alloc: Global, ref_type: u64, props: &PropSet) -> Result<Value
     Ok(Value::Object(members))
 }
 
-/// A segment with its properties.
+// A segment with its properties.
 fn written_segment(alloc: Global, seg: &Seg, props: &PropSet) -> Result<Value, OutOfMemory>
     requires { IsPropertySet props.now }
     ensures value { IfOk result (λ v. view v ≡ written_segment seg.now props.now) }
@@ -160,7 +160,7 @@ fn written_segment(alloc: Global, seg: &Seg, props: &PropSet) -> Result<Value, O
     }
 }
 
-/// An annotation.
+// An annotation.
 fn written_annotation(
     alloc: Global,
     pos1: u64,
@@ -183,7 +183,7 @@ fn written_annotation(
     Ok(Value::Object(members))
 }
 
-/// An operation that may stand in a group of the text.
+// An operation that may stand in a group of the text.
 fn written_base(alloc: Global, op: &BaseOp) -> Result<Value, OutOfMemory>
     requires { IsWellFormedBase op.now }
     ensures value { IfOk result (λ v. view v ≡ written_base op.now) }
@@ -205,7 +205,7 @@ fn written_base(alloc: Global, op: &BaseOp) -> Result<Value, OutOfMemory>
     }
 }
 
-/// The operations of a group of the text.
+// The operations of a group of the text.
 fn written_base_ops(alloc: Global, ops: &[BaseOp]) -> Result<Vec<Value>, OutOfMemory>
     requires { AllByRecursion IsWellFormedBase ops.now }
     ensures value { IfOk result (λ vs. items_view vs.items ≡ written_items written_base ops.now) }
@@ -218,14 +218,14 @@ fn written_base_ops(alloc: Global, ops: &[BaseOp]) -> Result<Vec<Value>, OutOfMe
     Ok(values)
 }
 
-/// A group of these operations.
+// A group of these operations.
 fn written_group(alloc: Global, ops: Vec<Value>) -> Result<Value, OutOfMemory>
     ensures { IfOk result (λ v. view v ≡ written_group (items_view ops.items)) }
 {
     Ok(json!(in alloc; {"ops": Value::Array(ops), "type": GROUP})?)
 }
 
-/// The number of the first end, if ends are given.
+// The number of the first end, if ends are given.
 fn given_start(ends: Option<Ends>) -> Option<Value>
     ensures { option_map view result ≡ given_start ends }
 {
@@ -235,7 +235,7 @@ fn given_start(ends: Option<Ends>) -> Option<Value>
     }
 }
 
-/// The number of the last end, if ends are given.
+// The number of the last end, if ends are given.
 fn given_end(ends: Option<Ends>) -> Option<Value>
     ensures { option_map view result ≡ given_end ends }
 {
@@ -245,7 +245,7 @@ fn given_end(ends: Option<Ends>) -> Option<Value>
     }
 }
 
-/// The addition or the change of an interval.
+// The addition or the change of an interval.
 fn written_interval(
     alloc: Global,
     word: &str,
@@ -271,7 +271,7 @@ fn written_interval(
     Ok(Value::Object(members))
 }
 
-/// The deletion of an interval.
+// The deletion of an interval.
 fn written_deletion(alloc: Global, label: &Text, id: &Text) -> Result<Value, OutOfMemory>
     ensures value { IfOk result (λ v. view v
         ≡ written_text_op (TextOp.IntervalDelete label.now id.now)) }
@@ -282,7 +282,7 @@ fn written_deletion(alloc: Global, label: &Text, id: &Text) -> Result<Value, Out
     Ok(json!(in alloc; {"id": id, "interval": "delete", "label": label})?)
 }
 
-/// An operation of the text.
+// An operation of the text.
 fn written_text_op(alloc: Global, op: &TextOp) -> Result<Value, OutOfMemory>
     requires { IsWellFormedText op.now }
     ensures value { IfOk result (λ v. view v ≡ written_text_op op.now) }
@@ -307,7 +307,7 @@ fn written_text_op(alloc: Global, op: &TextOp) -> Result<Value, OutOfMemory>
     }
 }
 
-/// The name of the list that a splice is for.
+// The name of the list that a splice is for.
 fn target_name(target: Target) -> &'static str
     ensures { string result.now ≡ written_target target }
 {
@@ -317,7 +317,7 @@ fn target_name(target: Target) -> &'static str
     }
 }
 
-/// A write to a cell.
+// A write to a cell.
 fn written_cell_write(
     alloc: Global,
     row: u64,
@@ -331,7 +331,7 @@ fn written_cell_write(
     Ok(json!(in alloc; {"col": col, "row": row, "type": "set", "value": value})?)
 }
 
-/// An operation that may stand in a group of the grid.
+// An operation that may stand in a group of the grid.
 fn written_cell(alloc: Global, op: &CellOp) -> Result<Value, OutOfMemory>
     requires { IsWellFormedCell op.now }
     ensures { IfOk result (λ v. view v ≡ written_cell op.now) }
@@ -353,7 +353,7 @@ fn written_cell(alloc: Global, op: &CellOp) -> Result<Value, OutOfMemory>
     }
 }
 
-/// The operations of a group of the grid.
+// The operations of a group of the grid.
 fn written_cell_ops(alloc: Global, ops: &[CellOp]) -> Result<Vec<Value>, OutOfMemory>
     requires { AllByRecursion IsWellFormedCell ops.now }
     ensures { IfOk result (λ vs. items_view vs.items ≡ written_items written_cell ops.now) }
@@ -365,7 +365,7 @@ fn written_cell_ops(alloc: Global, ops: &[CellOp]) -> Result<Vec<Value>, OutOfMe
     Ok(values)
 }
 
-/// An operation of the grid.
+// An operation of the grid.
 fn written_grid_op(alloc: Global, op: &GridOp) -> Result<Value, OutOfMemory>
     requires { IsWellFormedGrid op.now }
     ensures { IfOk result (λ v. view v ≡ written_grid_op op.now) }

@@ -20,7 +20,7 @@ pub struct Entry {
     pub by: u64,
 }
 
-/// Whether the entry counts for the perspective.
+// Whether the entry counts for the perspective.
 fn counts(x: &Entry, at: Perspective) -> bool
     ensures { result ≡ counts at.r at.c x.now }
 {
@@ -34,7 +34,7 @@ fn counts(x: &Entry, at: Perspective) -> bool
     }
 }
 
-/// What the perspective counts of the entry.
+// What the perspective counts of the entry.
 fn share(x: &Entry, at: Perspective) -> u64
     ensures { result ≡ share at.r at.c x.now }
 {
@@ -64,8 +64,8 @@ pub fn newest(entries: &[Entry]) -> u64
     if len == 0 { 0 } else { entries[len - 1].seq }
 }
 
-/// Where an entry with this number may stand, behind those with the same number: it looks at the last
-/// entry first.
+// Where an entry with this number may stand, behind those with the same number: it looks at the last
+// entry first.
 fn place_of(entries: &[Entry], seq: u64) -> usize
     requires { IsRising entries.now }
     ensures { IsPlace entries.now seq result }
@@ -87,7 +87,7 @@ fn place_of(entries: &[Entry], seq: u64) -> usize
     low
 }
 
-/// Whether both entries have one number and are for the same connections.
+// Whether both entries have one number and are for the same connections.
 fn is_alike(x: &Entry, y: &Entry) -> bool
     ensures number { result ≡ true → x.now.seq ≡ y.now.seq }
     ensures conn { result ≡ true → x.now.conn ≡ y.now.conn }
@@ -96,7 +96,7 @@ fn is_alike(x: &Entry, y: &Entry) -> bool
     x.seq == y.seq && x.conn == y.conn && x.own == y.own
 }
 
-/// The entry with the number of `x`, and for the same connections, looked for from the `end`-th back.
+// The entry with the number of `x`, and for the same connections, looked for from the `end`-th back.
 fn place_of_alike(entries: &[Entry], end: usize, x: &Entry) -> Option<usize>
     requires { end ≤ length entries.now }
     ensures inside { IfSome result (λ j. j < length entries.now) }
@@ -112,7 +112,7 @@ fn place_of_alike(entries: &[Entry], end: usize, x: &Entry) -> Option<usize>
     None
 }
 
-/// Puts an entry in, for which there is room.
+// Puts an entry in, for which there is room.
 fn put(entries: &mut Vec<Entry>, i: usize, x: Entry)
     requires inside { i ≤ vec_len entries.old }
     requires room { vec_len entries.old < vec_capacity entries.old }
@@ -131,7 +131,7 @@ fn put(entries: &mut Vec<Entry>, i: usize, x: Entry)
     }
 }
 
-/// Adds an entry, for which there is room, to the one that is for the same, or puts it in.
+// Adds an entry, for which there is room, to the one that is for the same, or puts it in.
 fn add_entry(entries: &mut Vec<Entry>, x: Entry)
     requires rising { IsRising entries.old.items }
     requires room { vec_len entries.old < vec_capacity entries.old }
@@ -149,7 +149,7 @@ fn add_entry(entries: &mut Vec<Entry>, x: Entry)
     }
 }
 
-/// Adds an entry to the j-th, which is for the same.
+// Adds an entry to the j-th, which is for the same.
 fn add_at(entries: &mut Vec<Entry>, j: usize, x: Entry)
     requires rising { IsRising entries.old.items }
     requires inside { j < length entries.old.items }

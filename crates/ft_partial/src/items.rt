@@ -21,7 +21,7 @@ pub struct Removal {
     pub conn: u32,
 }
 
-/// Whether the stamp is sequenced, and by this connection.
+// Whether the stamp is sequenced, and by this connection.
 fn is_by(stamp: &Stamp, conn: u32) -> bool
     ensures { result ≡ is_stamp_by conn stamp.now }
 {
@@ -31,14 +31,14 @@ fn is_by(stamp: &Stamp, conn: u32) -> bool
     }
 }
 
-/// Whether one of the stamps is by the connection.
+// Whether one of the stamps is by the connection.
 fn is_any_by(stamps: &[Stamp], conn: u32) -> bool
     ensures { result ≡ list_any (is_stamp_by conn) stamps.now }
 {
     stamps.iter().any(|stamp| is_by(stamp, conn))
 }
 
-/// Whether the stamp is sequenced.
+// Whether the stamp is sequenced.
 fn is_acked(stamp: &Stamp) -> bool
     ensures { result ≡ is_acked stamp.now }
 {
@@ -48,7 +48,7 @@ fn is_acked(stamp: &Stamp) -> bool
     }
 }
 
-/// Whether one of the stamps is sequenced.
+// Whether one of the stamps is sequenced.
 fn is_any_acked(stamps: &[Stamp]) -> bool
     ensures { result ≡ list_any is_acked stamps.now }
 {
@@ -66,7 +66,7 @@ pub fn last_length(e: &Element, len: u64) -> u64
     }
 }
 
-/// The earlier one of a removal and a stamp, if that is sequenced.
+// The earlier one of a removal and a stamp, if that is sequenced.
 fn earlier(first: &Option<Removal>, stamp: &Stamp) -> Option<Removal>
     ensures { (dels : List Stamp) → IsFirst dels first.now → IsFirst (dels ++ stamp.now ∷ []) result }
 {
@@ -81,7 +81,7 @@ fn earlier(first: &Option<Removal>, stamp: &Stamp) -> Option<Removal>
     }
 }
 
-/// The first sequenced removal: None where none is sequenced.
+// The first sequenced removal: None where none is sequenced.
 fn first_removal(dels: &[Stamp]) -> Option<Removal>
     ensures { IsFirst dels.now result }
 {
@@ -92,8 +92,8 @@ fn first_removal(dels: &[Stamp]) -> Option<Removal>
     first
 }
 
-/// The stamp's connection counts `by` less until it has seen the number, if it is not `conn` and made
-/// none of the stamps before.
+// The stamp's connection counts `by` less until it has seen the number, if it is not `conn` and made
+// none of the stamps before.
 fn take_one(
     entries: &mut Vec<Entry>,
     seq: u64,
@@ -121,7 +121,7 @@ fn take_one(
     Ok(())
 }
 
-/// The connections of the stamps other than `conn` count `by` less until they have seen the number.
+// The connections of the stamps other than `conn` count `by` less until they have seen the number.
 fn take_own(
     entries: &mut Vec<Entry>,
     seq: u64,
@@ -137,7 +137,7 @@ fn take_own(
     Ok(())
 }
 
-/// All but `conn` and the connections of the stamps count `by` more until they have seen the number.
+// All but `conn` and the connections of the stamps count `by` more until they have seen the number.
 fn push_but(
     entries: &mut Vec<Entry>,
     floor: u64,

@@ -168,7 +168,7 @@ impl OwnDocument for PlainOwn {
     ghost shows = { plain-shows };
 }
 
-/// Whether a summary can tell the document's numbers.
+// Whether a summary can tell the document's numbers.
 fn is_small(doc: &PlainDocument) -> bool
     ensures { IsTrue result → HasSmallLists doc.now }
 {

@@ -42,7 +42,7 @@ pub fn resend(
     Ok(again)
 }
 
-/// The edit with these stages as it is sent again; the stages that go on are added to `carried`.
+// The edit with these stages as it is sent again; the stages that go on are added to `carried`.
 fn resend_edit(
     doc: &PlainDocument,
     stages: &[PlainStage],
@@ -70,7 +70,7 @@ pub fn stage_numbers(alloc: Global, stages: &[PlainStage]) -> Result<Vec<u64>, O
     Ok(numbers)
 }
 
-/// The pieces of the stages.
+// The pieces of the stages.
 fn edit_pieces(doc: &PlainDocument, stages: &[PlainStage]) -> Result<VecDeque<SubOp>, OutOfMemory>
     ensures { IfOk result (λ v. map sub_operation_of v.items ≡ flat_map (pieces doc.now) stages.now) }
 {
@@ -82,7 +82,7 @@ fn edit_pieces(doc: &PlainDocument, stages: &[PlainStage]) -> Result<VecDeque<Su
     Ok(all)
 }
 
-/// The stages as they go on.
+// The stages as they go on.
 fn carried_stages(doc: &PlainDocument, stages: &[PlainStage]) -> Result<PlainStages, OutOfMemory>
     ensures { IfOk result (λ v. v ≡ flat_map (carried_stage doc.now) stages.now) }
 {
@@ -95,7 +95,7 @@ fn carried_stages(doc: &PlainDocument, stages: &[PlainStage]) -> Result<PlainSta
     Ok(carried)
 }
 
-/// The stage as it goes on: gone without a piece; an interval operation with its ends settled.
+// The stage as it goes on: gone without a piece; an interval operation with its ends settled.
 fn carried_stage(doc: &PlainDocument, stage: &PlainStage) -> Result<Option<PlainStage>, OutOfMemory>
     ensures { IfOk result (λ carried. option_to_list carried ≡ carried_stage doc.now stage.now) }
 {
@@ -109,7 +109,7 @@ fn carried_stage(doc: &PlainDocument, stage: &PlainStage) -> Result<Option<Plain
     Ok(Some(stage.copy_with(stage.names().copy())?))
 }
 
-/// The operation that pieces make: one piece bare, several as a group, none for none.
+// The operation that pieces make: one piece bare, several as a group, none for none.
 fn op_of(alloc: Global, mut pieces: VecDeque<SubOp>) -> Result<Option<ChannelOp>, OutOfMemory>
     ensures { IfOk result (λ op. op ≡ op_of (map sub_operation_of pieces.items)) }
 {
@@ -121,7 +121,7 @@ fn op_of(alloc: Global, mut pieces: VecDeque<SubOp>) -> Result<Option<ChannelOp>
     }
 }
 
-/// The operation of the text that these pieces make.
+// The operation of the text that these pieces make.
 fn text_op_of(alloc: Global, first: BaseOp, rest: VecDeque<SubOp>) -> Result<TextOp, OutOfMemory>
     ensures { IfOk result (λ op. Some (Text op) ≡ op_of (OnText first ∷ map sub_operation_of rest.items)) }
 {
@@ -134,7 +134,7 @@ fn text_op_of(alloc: Global, first: BaseOp, rest: VecDeque<SubOp>) -> Result<Tex
     Ok(TextOp::Group(ops))
 }
 
-/// Adds the pieces on the elements of the text.
+// Adds the pieces on the elements of the text.
 fn push_base_ops(ops: &mut BaseOps, mut rest: VecDeque<SubOp>) -> Result<(), OutOfMemory>
     ensures { OnOk result (ops.new ≡ ops.old ++ flat_map base_op_of (map sub_operation_of rest.items)) }
 {
@@ -146,7 +146,7 @@ fn push_base_ops(ops: &mut BaseOps, mut rest: VecDeque<SubOp>) -> Result<(), Out
     Ok(())
 }
 
-/// The operation of the grid that these pieces make.
+// The operation of the grid that these pieces make.
 fn grid_op_of(alloc: Global, first: CellOp, rest: VecDeque<SubOp>) -> Result<GridOp, OutOfMemory>
     ensures { IfOk result (λ op. Some (Grid op) ≡ op_of (OnGrid first ∷ map sub_operation_of rest.items)) }
 {
@@ -159,7 +159,7 @@ fn grid_op_of(alloc: Global, first: CellOp, rest: VecDeque<SubOp>) -> Result<Gri
     Ok(GridOp::Group(ops))
 }
 
-/// Adds the pieces on the grid.
+// Adds the pieces on the grid.
 fn push_cell_ops(ops: &mut CellOps, mut rest: VecDeque<SubOp>) -> Result<(), OutOfMemory>
     ensures { OnOk result (ops.new ≡ ops.old ++ flat_map cell_op_of (map sub_operation_of rest.items)) }
 {

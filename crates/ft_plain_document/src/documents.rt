@@ -167,7 +167,7 @@ impl PlainDocument {
         self.minimum = entry.msg.min;
     }
 
-    /// Takes the body of a message with number `seq`.
+    // Takes the body of a message with number `seq`.
     fn take_body(&mut self, body: &Body, seq: u64, at: Perspective) -> Result<(), OutOfMemory>
         ensures { OnOk result (self.new ≡ body_effect self.old seq at.c at.r body.now) }
     {
@@ -181,7 +181,7 @@ impl PlainDocument {
         }
     }
 
-    /// Applies an operation under number `seq`.
+    // Applies an operation under number `seq`.
     fn apply(&mut self, op: &ChannelOp, seq: u64, at: Perspective) -> Result<(), OutOfMemory>
         ensures { OnOk result (self.new ≡ effects self.old seq at.c at.r (sub_operations op.now)) }
     {
@@ -191,9 +191,9 @@ impl PlainDocument {
         }
     }
 
-    /// Counts a sub-operation that is out of range.
-    ///
-    /// Returns `OutOfMemory` where the count would pass 2^64 - 1, and then nothing changed.
+    // Counts a sub-operation that is out of range.
+    //
+    // Returns `OutOfMemory` where the count would pass 2^64 - 1, and then nothing changed.
     fn skip(&mut self) -> Result<(), OutOfMemory>
         ensures ok { OnOk result (self.new ≡ with_skip self.old) }
         ensures err { OnErr result (self.new ≡ self.old) }
@@ -203,7 +203,7 @@ impl PlainDocument {
     }
 }
 
-/// The reference number as a count: nothing is known to one below 0.
+// The reference number as a count: nothing is known to one below 0.
 fn reference_number(ref_seq: i64) -> u64
     ensures { result ≡ reference_number ref_seq }
 {

@@ -44,9 +44,9 @@ impl Renaming {
         Ok(())
     }
 
-    /// The new name of an element.
-    ///
-    /// Returns `OutOfMemory` where its number would pass 2^64 - 1.
+    // The new name of an element.
+    //
+    // Returns `OutOfMemory` where its number would pass 2^64 - 1.
     fn name(&self, name: ElementName) -> Result<ElementName, OutOfMemory>
         ensures { IfOk result (λ new. new ≡ renaming_of self.now name) }
     {
@@ -57,9 +57,9 @@ impl Renaming {
         Ok(new)
     }
 
-    /// The new name of an element, if one is named.
-    ///
-    /// Returns `OutOfMemory` where its number would pass 2^64 - 1.
+    // The new name of an element, if one is named.
+    //
+    // Returns `OutOfMemory` where its number would pass 2^64 - 1.
     fn given_name(&self, name: Option<ElementName>) -> Result<Option<ElementName>, OutOfMemory>
         ensures { IfOk result (λ new. new ≡ renamed (renaming_of self.now) name) }
     {

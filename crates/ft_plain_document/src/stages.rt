@@ -26,7 +26,7 @@ pub enum SubOp {
 }
 
 impl SubOp {
-    /// An equal sub-operation.
+    // An equal sub-operation.
     fn copy(&self) -> Result<SubOp, OutOfMemory>
         ensures { IfOk result (λ copy. copy ≡ self.now) }
     {
@@ -60,7 +60,7 @@ pub fn one(alloc: Global, op: SubOp) -> Result<VecDeque<SubOp>, OutOfMemory>
     Ok(ops)
 }
 
-/// The sub-operations of a group of the text.
+// The sub-operations of a group of the text.
 fn text_group(alloc: Global, group: &[BaseOp]) -> Result<VecDeque<SubOp>, OutOfMemory>
     ensures { IfOk result (λ v. map sub_operation_of v.items ≡ map (λ op. OnText op) group.now) }
 {
@@ -71,7 +71,7 @@ fn text_group(alloc: Global, group: &[BaseOp]) -> Result<VecDeque<SubOp>, OutOfM
     Ok(ops)
 }
 
-/// The sub-operations of a group of the grid.
+// The sub-operations of a group of the grid.
 fn grid_group(alloc: Global, group: &[CellOp]) -> Result<VecDeque<SubOp>, OutOfMemory>
     ensures { IfOk result (λ v. map sub_operation_of v.items ≡ map (λ op. OnGrid op) group.now) }
 {

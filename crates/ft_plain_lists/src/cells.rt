@@ -31,7 +31,7 @@ impl Model for PlainCell {
 }
 
 impl PlainCell {
-    /// Whether it is the cell of that row and column.
+    // Whether it is the cell of that row and column.
     fn is_at(&self, row: ElementName, col: ElementName) -> bool
         ensures { result ≡ is_cell row col self.now }
     {
@@ -84,16 +84,16 @@ impl PlainCells {
         self.put(PlainCell { row, col, value })
     }
 
-    /// Takes the cell of that row and column out, if it is there.
+    // Takes the cell of that row and column out, if it is there.
     fn take_out(&mut self, row: ElementName, col: ElementName)
         ensures { self.new ≡ filter (λ other. not (is_cell row col other)) self.old }
     {
         self.items.retain(|other| !other.is_at(row, col));
     }
 
-    /// Puts the cell in place of the one of its row and column, or behind all.
-    ///
-    /// Returns `OutOfMemory` where there is no room for it, and then nothing changed.
+    // Puts the cell in place of the one of its row and column, or behind all.
+    //
+    // Returns `OutOfMemory` where there is no room for it, and then nothing changed.
     fn put(&mut self, cell: PlainCell) -> Result<(), OutOfMemory>
         ensures ok { OnOk result (self.new ≡ put_cell cell self.old) }
         ensures err { OnErr result (self.new ≡ self.old) }
@@ -107,7 +107,7 @@ impl PlainCells {
         }
     }
 
-    /// The place of the cell of that row and column, if it is there.
+    // The place of the cell of that row and column, if it is there.
     fn place_of(&self, row: ElementName, col: ElementName) -> Option<usize>
         ensures { result ≡ position (is_cell row col) self.now }
     {
@@ -115,7 +115,7 @@ impl PlainCells {
     }
 }
 
-/// Whether the value is null.
+// Whether the value is null.
 fn is_null(value: &ValText) -> bool
     ensures { result ≡ is_null value.now }
 {

@@ -181,7 +181,7 @@ impl PlainElement {
     }
 }
 
-/// Whether one of the stamps is sequenced.
+// Whether one of the stamps is sequenced.
 fn has_any_sequenced(stamps: &[Stamp]) -> bool
     ensures { result ≡ list_any is_acked stamps.now }
 {
@@ -190,14 +190,14 @@ fn has_any_sequenced(stamps: &[Stamp]) -> bool
         .any(|stamp| matches!(stamp, Stamp::Acked { .. }))
 }
 
-/// Whether one of the stamps has occurred for the perspective.
+// Whether one of the stamps has occurred for the perspective.
 fn has_any_occurred(stamps: &[Stamp], at: Perspective) -> bool
     ensures { result ≡ list_any (has_occurred at.r at.c) stamps.now }
 {
     stamps.iter().any(|stamp| has_occurred(stamp, at))
 }
 
-/// Whether one of the stamps has occurred at the stage.
+// Whether one of the stamps has occurred at the stage.
 fn has_any_occurred_at_stage(stamps: &[Stamp], stage: u64) -> bool
     ensures { result ≡ list_any (has_occurred_at_stage stage) stamps.now }
 {
@@ -206,7 +206,7 @@ fn has_any_occurred_at_stage(stamps: &[Stamp], stage: u64) -> bool
         .any(|stamp| has_occurred_at_stage(stamp, stage))
 }
 
-/// Whether there is a pending removal of a stage up to this one.
+// Whether there is a pending removal of a stage up to this one.
 fn has_pending_removal_at(removal_stage: Option<u64>, stage: u64) -> bool
     ensures { result ≡ list_any (has_occurred_at_stage stage) (removal_stamp removal_stage) }
 {

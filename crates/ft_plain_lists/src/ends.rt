@@ -53,21 +53,21 @@ pub fn elements_at_given_ends<T: ElementTest>(
     }
 }
 
-/// Whether the number stands for no place.
+// Whether the number stands for no place.
 fn is_detached(end: i64) -> bool
     ensures { result ≡ is_detached end }
 {
     end < 0
 }
 
-/// Whether the number is a place among so many elements.
+// Whether the number is a place among so many elements.
 fn is_place(count: usize, end: i64) -> bool
     ensures { result ≡ is_place count end }
 {
     0 <= end && (end as u64) < count as u64
 }
 
-/// The element at an end, among those that are seen.
+// The element at an end, among those that are seen.
 fn element_at_end<T: ElementTest>(list: &PlainList, end: i64, seen: T) -> Option<ElementName>
     ensures { result ≡ element_at_end (T.test seen) list.now.items end }
 {

@@ -37,7 +37,7 @@ pub fn shown_intervals(
     shown_by(alloc, &ranks, items, intervals, stage)
 }
 
-/// The same, by a table of the ranks of elements.
+// The same, by a table of the ranks of elements.
 fn shown_by(
     alloc: Global,
     ranks: &NameTable<u64>,
@@ -56,7 +56,7 @@ fn shown_by(
     Ok(shown)
 }
 
-/// An interval as it is shown, by a table of the ranks of elements.
+// An interval as it is shown, by a table of the ranks of elements.
 fn shown_interval(
     ranks: &NameTable<u64>,
     items: &[PlainElement],
@@ -78,7 +78,7 @@ fn shown_interval(
     })
 }
 
-/// The same as `end_number`, by a table of the ranks of elements.
+// The same as `end_number`, by a table of the ranks of elements.
 fn ranked_number(
     ranks: &NameTable<u64>,
     items: &[PlainElement],
@@ -95,8 +95,8 @@ fn ranked_number(
     }
 }
 
-/// How many elements that a client sees at its pending stage stand left of the element of that name, by a table
-/// of that.
+// How many elements that a client sees at its pending stage stand left of the element of that name, by a table
+// of that.
 fn noted_rank(ranks: &NameTable<u64>, items: &[PlainElement], name: ElementName, stage: u64) -> u64
     requires { HasAnswers (λ x. rank (has_id x) (seen stage) items.now) ranks.now }
     ensures rank { result ≡ rank (has_id name) (seen stage) items.now }

@@ -93,14 +93,14 @@ impl PlainInterval {
         &self.props
     }
 
-    /// Whether it is the interval of that label and id.
+    // Whether it is the interval of that label and id.
     fn is_of(&self, label: &Text, id: &Text) -> bool
         ensures { result ≡ is_interval label.now id.now self.now }
     {
         is_same_text(label, &self.label) && is_same_text(id, &self.id)
     }
 
-    /// The order of the two: by label, then by id.
+    // The order of the two: by label, then by id.
     fn order(&self, other: &PlainInterval) -> Ordering
         ensures { result ≡ interval_cmp self.now other.now }
     {
@@ -110,9 +110,9 @@ impl PlainInterval {
         ))
     }
 
-    /// Gives it the ends, if an operation gives some, and applies the set to its properties.
-    ///
-    /// Returns `OutOfMemory` where there is no room for its properties, and then nothing changed.
+    // Gives it the ends, if an operation gives some, and applies the set to its properties.
+    //
+    // Returns `OutOfMemory` where there is no room for its properties, and then nothing changed.
     fn change(
         &mut self,
         ends: Option<Ends>,
@@ -131,7 +131,7 @@ impl PlainInterval {
         Ok(())
     }
 
-    /// Slides both ends, by a table of where the ends on sequenced elements go.
+    // Slides both ends, by a table of where the ends on sequenced elements go.
     fn slide(&mut self, names: &NameTable<Option<ElementName>>, items: &[PlainElement])
         requires { HasAnswers (λ x. option_map name_of_element (settled (has_id x) is_unremoved items.now)) names.now }
         ensures { self.new ≡ slide_interval items.now self.old }
@@ -141,7 +141,7 @@ impl PlainInterval {
     }
 }
 
-/// Whether the texts are equal.
+// Whether the texts are equal.
 fn is_same_text(a: &Text, b: &Text) -> bool
     ensures { result ≡ is_eq (text_cmp a.now b.now) }
 {
@@ -250,7 +250,7 @@ impl PlainIntervals {
     }
 }
 
-/// Slides the ends of the intervals, by a table of where the ends on sequenced elements go.
+// Slides the ends of the intervals, by a table of where the ends on sequenced elements go.
 fn slide_all(
     intervals: &mut [PlainInterval],
     names: &NameTable<Option<ElementName>>,
@@ -264,7 +264,7 @@ fn slide_all(
     }
 }
 
-/// The place of the interval's label and id, or else, as an error, the place where they would stand.
+// The place of the interval's label and id, or else, as an error, the place where they would stand.
 fn place_of(items: &[PlainInterval], interval: &PlainInterval) -> Result<usize, usize>
     ensures { result ≡ rising_place interval_cmp interval.now items.now }
 {

@@ -132,9 +132,9 @@ impl PlainList {
         Ok(())
     }
 
-    /// How many elements there were ever after so many more.
-    ///
-    /// Returns `OutOfMemory` where they pass 2^53 - 1.
+    // How many elements there were ever after so many more.
+    //
+    // Returns `OutOfMemory` where they pass 2^53 - 1.
     fn made_with(&self, count: u64) -> Result<u64, OutOfMemory>
         ensures sum { IfOk result (λ made. made ≡ self.now.made + count) }
         ensures countable { IfOk result (λ made. made < 2 ^ 53) }
@@ -193,8 +193,8 @@ impl PlainList {
     }
 }
 
-/// Returns `OutOfMemory` where a list of so many elements can't take so many more: it would have
-/// more than 2^53 - 1.
+// Returns `OutOfMemory` where a list of so many elements can't take so many more: it would have
+// more than 2^53 - 1.
 fn check_room(count: usize, more: usize) -> Result<(), OutOfMemory>
     requires { count < 2 ^ 53 }
     ensures { OnOk result (count + more < 2 ^ 53) }

@@ -46,7 +46,7 @@ impl<V: Copy + Drop> NameTable<V> {
         }
     }
 
-    /// The same for a name.
+    // The same for a name.
     fn ask_name(&mut self, name: ElementName, value: V) -> Result<(), OutOfMemory>
         requires { HasAnswers (λ x. value) self.old }
         ensures { OnOk result (HasAnswers (λ x. value) self.new) }
@@ -57,7 +57,7 @@ impl<V: Copy + Drop> NameTable<V> {
         Ok(())
     }
 
-    /// Notes the value for the name, if the table reaches to it.
+    // Notes the value for the name, if the table reaches to it.
     fn note(&mut self, name: ElementName, value: &V)
         ensures { Notes name value.now self.old self.new }
     {
@@ -67,7 +67,7 @@ impl<V: Copy + Drop> NameTable<V> {
         }
     }
 
-    /// The same for the name of a pending element.
+    // The same for the name of a pending element.
     fn note_pending(&mut self, name: ElementName, value: V)
         requires { sequenced_number name ≡ None }
         ensures { Notes name value self.old self.new }
@@ -128,7 +128,7 @@ pub fn note_settled<T: ElementTest>(
     }
 }
 
-/// The element itself if it is seen, else the next one.
+// The element itself if it is seen, else the next one.
 fn next_from<T: ElementTest>(
     e: &PlainElement,
     seen: T,
@@ -151,7 +151,7 @@ pub fn note_removals(table: &mut NameTable<bool>, items: &[PlainElement])
     }
 }
 
-/// Notes that a removal of the element is sequenced, if one is.
+// Notes that a removal of the element is sequenced, if one is.
 fn note_removal(table: &mut NameTable<bool>, e: &PlainElement)
     ensures removed { list_any is_acked e.now.dels ≡ true → Notes (id e.now) true table.old table.new }
     ensures other { list_any is_acked e.now.dels ≡ false → table.new ≡ table.old }
@@ -161,7 +161,7 @@ fn note_removal(table: &mut NameTable<bool>, e: &PlainElement)
     }
 }
 
-/// The last element that is seen.
+// The last element that is seen.
 fn last_seen<T: ElementTest>(items: &[PlainElement], seen: T) -> Option<ElementName>
     ensures { result ≡ option_map id (last_seen (T.test seen) items.now) }
 {
@@ -174,9 +174,9 @@ fn last_seen<T: ElementTest>(items: &[PlainElement], seen: T) -> Option<ElementN
     last
 }
 
-/// How long a table is that reaches to each sequenced element.
-///
-/// Returns `OutOfMemory` where that would pass 2^64 - 1.
+// How long a table is that reaches to each sequenced element.
+//
+// Returns `OutOfMemory` where that would pass 2^64 - 1.
 fn table_length(items: &[PlainElement]) -> Result<usize, OutOfMemory> {
     let mut length: u64 = 0;
     for e in items {
@@ -187,7 +187,7 @@ fn table_length(items: &[PlainElement]) -> Result<usize, OutOfMemory> {
     Ok(length as usize)
 }
 
-/// A table of so many equal values.
+// A table of so many equal values.
 fn filled<V: Copy + Drop>(alloc: Global, value: V, count: usize) -> Result<Vec<V>, OutOfMemory>
     ensures { IfOk result (λ table. table.items ≡ replicate count value) }
 {
@@ -198,7 +198,7 @@ fn filled<V: Copy + Drop>(alloc: Global, value: V, count: usize) -> Result<Vec<V
     Ok(table)
 }
 
-/// Puts the value at place `i`, if the table reaches to it.
+// Puts the value at place `i`, if the table reaches to it.
 fn put_in<V: Copy + Drop>(table: &mut Vec<V>, i: usize, value: V)
     ensures { table.new.items ≡ slice_set table.old.items i value }
 {

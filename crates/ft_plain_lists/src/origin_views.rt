@@ -27,7 +27,7 @@ pub fn shown_origins(
     Ok(origins)
 }
 
-/// The origin that an author tells.
+// The origin that an author tells.
 fn origin_of(by: Option<Stamp>) -> Origin
     ensures { result ≡ origin_of by }
 {

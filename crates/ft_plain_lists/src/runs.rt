@@ -31,7 +31,7 @@ pub fn marked_runs<T: ElementTest, M: ElementTest>(
     Ok(runs)
 }
 
-/// Adds the place to the last run, if that ends there, or else as a run of its own.
+// Adds the place to the last run, if that ends there, or else as a run of its own.
 fn push_place(runs: &mut Vec<(u64, u64)>, place: u64) -> Result<(), OutOfMemory>
     requires { place + 1 < 2 ^ 64 }
     ensures { OnOk result (runs.new.items ≡ with_place runs.old.items place) }

@@ -53,7 +53,7 @@ pub fn shown_markers(
     Ok(markers)
 }
 
-/// Adds the marker with its place, if the content is one.
+// Adds the marker with its place, if the content is one.
 fn push_marker(markers: &mut Spots, pos: u64, content: Content) -> Result<(), OutOfMemory>
     ensures { OnOk result (markers.new ≡ markers.old ++ content_markers pos (content_of content)) }
 {
@@ -73,7 +73,7 @@ pub fn shown_runs(alloc: Global, items: &[PlainElement], stage: u64) -> Result<R
     turned(alloc, backwards)
 }
 
-/// The properties of each element that a client sees at its pending stage.
+// The properties of each element that a client sees at its pending stage.
 fn shown_props(alloc: Global, items: &[PlainElement], stage: u64) -> Result<Vec<Props>, OutOfMemory>
     ensures { IfOk result (λ props. props.items ≡ all_shown_props (stage_view stage items.now)) }
 {
@@ -86,7 +86,7 @@ fn shown_props(alloc: Global, items: &[PlainElement], stage: u64) -> Result<Vec<
     Ok(props)
 }
 
-/// The runs of these properties, from the last one to the first.
+// The runs of these properties, from the last one to the first.
 fn backward_runs(alloc: Global, mut props: Vec<Props>) -> Result<Vec<Run>, OutOfMemory>
     ensures { IfOk result (λ runs. reverse runs.items ≡ runs_before 0 props.items []) }
 {
@@ -97,7 +97,7 @@ fn backward_runs(alloc: Global, mut props: Vec<Props>) -> Result<Vec<Run>, OutOf
     Ok(runs)
 }
 
-/// Puts the element with these properties before the runs, which stand from the last one to the first.
+// Puts the element with these properties before the runs, which stand from the last one to the first.
 fn extend_runs(runs: &mut Vec<Run>, place: u64, props: Props) -> Result<(), OutOfMemory>
     requires { place + 1 < 2 ^ 64 }
     ensures { OnOk result (reverse runs.new.items ≡ extended_property_runs place props (reverse runs.old.items)) }
@@ -120,7 +120,7 @@ fn extend_runs(runs: &mut Vec<Run>, place: u64, props: Props) -> Result<(), OutO
     push_run(runs, place, props)
 }
 
-/// Adds a run of the one element at this place.
+// Adds a run of the one element at this place.
 fn push_run(runs: &mut Vec<Run>, place: u64, props: Props) -> Result<(), OutOfMemory>
     requires { place + 1 < 2 ^ 64 }
     ensures { OnOk result (runs.new.items ≡ runs.old.items ++ record { start = place; end = place + 1; props = props } ∷ []) }
@@ -133,7 +133,7 @@ fn push_run(runs: &mut Vec<Run>, place: u64, props: Props) -> Result<(), OutOfMe
     Ok(())
 }
 
-/// The runs the other way round.
+// The runs the other way round.
 fn turned(alloc: Global, mut backwards: Vec<Run>) -> Result<Runs, OutOfMemory>
     ensures { IfOk result (λ runs. runs ≡ reverse backwards.items) }
 {

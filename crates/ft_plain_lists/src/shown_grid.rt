@@ -42,7 +42,7 @@ pub fn shown_cells(
     Ok(shown)
 }
 
-/// Adds the values of the row, of those at one place the first.
+// Adds the values of the row, of those at one place the first.
 fn push_row(shown: &mut CellRecs, row: u64, values: &[PlacedValue]) -> Result<(), OutOfMemory>
     ensures { OnOk result (shown.new ≡ shown.old ++ first_records row None (map placed_value values.now)) }
 {
@@ -58,7 +58,7 @@ fn push_row(shown: &mut CellRecs, row: u64, values: &[PlacedValue]) -> Result<()
     Ok(())
 }
 
-/// Whether this was the last place.
+// Whether this was the last place.
 fn is_last(last: Option<u64>, place: u64) -> bool
     ensures { result ≡ is_last last place }
 {

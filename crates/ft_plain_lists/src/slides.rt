@@ -42,7 +42,7 @@ pub fn slide_by(
     }
 }
 
-/// Where an end on the element of that name slides, by the same table.
+// Where an end on the element of that name slides, by the same table.
 fn noted_slide(
     names: &NameTable<Option<ElementName>>,
     items: &[PlainElement],
@@ -77,7 +77,7 @@ pub fn settle_by(
     }
 }
 
-/// Where an end on the element of that name settles, by the same table.
+// Where an end on the element of that name settles, by the same table.
 fn noted_settle(
     names: &NameTable<Option<ElementName>>,
     items: &[PlainElement],
@@ -93,8 +93,8 @@ fn noted_settle(
     }
 }
 
-/// The element that is meant if it is seen, else the next one that is, else the last one before it, else
-/// none.
+// The element that is meant if it is seen, else the next one that is, else the last one before it, else
+// none.
 fn settled<M: ElementTest, T: ElementTest>(
     items: &[PlainElement],
     meant: M,
@@ -114,7 +114,7 @@ fn settled<M: ElementTest, T: ElementTest>(
     None
 }
 
-/// The first element that is seen.
+// The first element that is seen.
 fn first_seen<T: ElementTest>(items: &[PlainElement], seen: T) -> Option<ElementName>
     ensures { result ≡ option_map id (find (T.test seen) items.now) }
 {

@@ -25,10 +25,10 @@ pub fn text_list(alloc: Global, segs: &[SegRec]) -> Result<PlainList, OutOfMemor
     Ok(list)
 }
 
-/// Adds the elements of the segment.
-///
-/// Returns `OutOfMemory` where there is no room for them or they would be more than 2^53 - 1, and then some may be
-/// there.
+// Adds the elements of the segment.
+//
+// Returns `OutOfMemory` where there is no room for them or they would be more than 2^53 - 1, and then some may be
+// there.
 fn add_segment(list: &mut PlainList, seg: &SegRec) -> Result<(), OutOfMemory>
     ensures items { OnOk result (list.new.items ≡ list.old.items ++ new_elements list.old.made (stamp_of seg.now.ins) (map stamp_of seg.now.dels)
         (Some (stamp_of seg.now.by)) seg.now.props (segment_bodies seg.now.body)) }
@@ -47,7 +47,7 @@ fn add_segment(list: &mut PlainList, seg: &SegRec) -> Result<(), OutOfMemory>
     )
 }
 
-/// The contents of the elements of a segment.
+// The contents of the elements of a segment.
 fn segment_contents(alloc: Global, seg: &Seg) -> Result<Vec<Content>, OutOfMemory>
     ensures { IfOk result (λ v. map content_of v.items ≡ segment_bodies seg.now) }
 {
@@ -74,10 +74,10 @@ pub fn unit_list(alloc: Global, runs: &[RunRec]) -> Result<PlainList, OutOfMemor
     Ok(list)
 }
 
-/// Adds the units of the run.
-///
-/// Returns `OutOfMemory` where there is no room for them or they would be more than 2^53 - 1, and then some may be
-/// there.
+// Adds the units of the run.
+//
+// Returns `OutOfMemory` where there is no room for them or they would be more than 2^53 - 1, and then some may be
+// there.
 fn add_run(list: &mut PlainList, run: &RunRec) -> Result<(), OutOfMemory>
     ensures items { OnOk result (list.new.items ≡ list.old.items ++ new_elements list.old.made (stamp_of run.now.ins) (map stamp_of run.now.dels) None []
         (replicate run.now.count GridUnit)) }

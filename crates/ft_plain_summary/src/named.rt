@@ -12,7 +12,7 @@ use ft_plain_lists::{
 use ft_sumdoc::{CellRec, IntervalRec};
 use std::alloc::Global;
 
-/// The names of the unremoved elements in order.
+// The names of the unremoved elements in order.
 fn unremoved_names(alloc: Global, items: &[PlainElement]) -> Result<Vec<ElementName>, OutOfMemory>
     ensures { IfOk result (λ names. names.items ≡ unremoved_names items.now) }
 {
@@ -37,7 +37,7 @@ pub fn intervals_of(
     named_intervals(alloc, names.as_slice(), recs)
 }
 
-/// The intervals on the elements of these names.
+// The intervals on the elements of these names.
 fn named_intervals(
     alloc: Global,
     names: &[ElementName],
@@ -52,7 +52,7 @@ fn named_intervals(
     Ok(intervals)
 }
 
-/// The interval on the elements of these names.
+// The interval on the elements of these names.
 fn named_interval(names: &[ElementName], rec: &IntervalRec) -> Result<PlainInterval, OutOfMemory>
     ensures { IfOk result (λ interval. interval ≡ named_interval names.now rec.now) }
 {
@@ -63,7 +63,7 @@ fn named_interval(names: &[ElementName], rec: &IntervalRec) -> Result<PlainInter
     Ok(PlainInterval::new(rec.label.copy()?, rec.id.copy()?, &ends, rec.props.copy()?))
 }
 
-/// The name at an end: None exactly where it is detached or behind all.
+// The name at an end: None exactly where it is detached or behind all.
 fn named_end(names: &[ElementName], end: i64) -> Option<ElementName>
     ensures { result ≡ named_end names.now end }
 {
@@ -73,7 +73,7 @@ fn named_end(names: &[ElementName], end: i64) -> Option<ElementName>
     name_at(names, end as u64)
 }
 
-/// The name at place `i`: None exactly where `i` isn't below the length.
+// The name at place `i`: None exactly where `i` isn't below the length.
 fn name_at(names: &[ElementName], i: u64) -> Option<ElementName>
     ensures { result ≡ slice_get names.now i }
 {
@@ -94,7 +94,7 @@ pub fn cells_of(
     named_cells(alloc, rows.as_slice(), cols.as_slice(), recs)
 }
 
-/// The cells of the rows and columns of these names.
+// The cells of the rows and columns of these names.
 fn named_cells(
     alloc: Global,
     rows: &[ElementName],
@@ -112,7 +112,7 @@ fn named_cells(
     Ok(cells)
 }
 
-/// Adds the cell of the row and the column, if both are there.
+// Adds the cell of the row and the column, if both are there.
 fn push_cell(
     cells: &mut PlainCells,
     row: Option<ElementName>,

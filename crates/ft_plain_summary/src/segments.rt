@@ -38,7 +38,7 @@ impl Model for OpenSegment {
 }
 
 impl OpenSegment {
-    /// The segment of an element with these removals.
+    // The segment of an element with these removals.
     fn new(alloc: Global, e: &PlainElement, dels: Marks) -> Result<OpenSegment, OutOfMemory>
         requires { dels ≡ map mark_of e.now.dels }
         ensures { IfOk result (λ seg. seg ≡ segment_of e.now) }
@@ -56,14 +56,14 @@ impl OpenSegment {
         })
     }
 
-    /// Whether both are characters.
+    // Whether both are characters.
     fn goes_on_with(&self, content: Content) -> bool
         ensures { result ≡ are_characters self.now.body (element_body (content_of content)) }
     {
         self.marker.is_none() && reference_type(content).is_none()
     }
 
-    /// Whether the segment of the element with these removals is one run with it.
+    // Whether the segment of the element with these removals is one run with it.
     fn is_alike(&self, e: &PlainElement, dels: &Marks) -> bool
         requires { dels.now ≡ map mark_of e.now.dels }
         ensures { result ≡ are_alike self.now (segment_of e.now) }
@@ -74,7 +74,7 @@ impl OpenSegment {
             && same_stamps(self.ins, &self.dels, mark_of(&e.ins()), dels)
     }
 
-    /// The segment with one more element.
+    // The segment with one more element.
     fn joined(self, content: Content) -> Result<OpenSegment, OutOfMemory>
         requires { are_characters self.body (element_body (content_of content)) ≡ true }
         ensures { IfOk result (λ seg. seg ≡ record self { body = joined_bodies self.body (element_body (content_of content)) }) }
@@ -84,7 +84,7 @@ impl OpenSegment {
         Ok(seg)
     }
 
-    /// The segment as a summary has it.
+    // The segment as a summary has it.
     fn into_segment(self) -> SegRec
         ensures { result ≡ self }
     {
@@ -112,7 +112,7 @@ impl OpenSegment {
     }
 }
 
-/// The reference type, if it is a marker.
+// The reference type, if it is a marker.
 fn reference_type(content: Content) -> Option<u64>
     ensures { result ≡ reference_type content }
 {
@@ -137,8 +137,8 @@ pub fn text_segments(alloc: Global, items: &[PlainElement]) -> Result<SegRecs, O
     Ok(segs)
 }
 
-/// The segment that is open after the element; one that ends before it is added. A chunk `begins` with the
-/// element or doesn't.
+// The segment that is open after the element; one that ends before it is added. A chunk `begins` with the
+// element or doesn't.
 fn extend(
     segs: &mut SegRecs,
     last: Option<OpenSegment>,

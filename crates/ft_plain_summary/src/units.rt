@@ -28,9 +28,9 @@ pub fn unit_runs(alloc: Global, items: &[PlainElement]) -> Result<RunRecs, OutOf
     Ok(runs)
 }
 
-/// The run that is open after the unit; one that ends before it is added.
-///
-/// Returns `OutOfMemory` where there is no room for them or the count would pass 2^64 - 1.
+// The run that is open after the unit; one that ends before it is added.
+//
+// Returns `OutOfMemory` where there is no room for them or the count would pass 2^64 - 1.
 fn count_unit(
     runs: &mut RunRecs,
     last: Option<RunRec>,

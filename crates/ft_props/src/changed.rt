@@ -12,7 +12,7 @@ use ft_json::ValText;
 // A function here that changes properties leaves them half changed after `OutOfMemory`: its caller
 // works on a copy.
 
-/// Sets the value of the key, or takes the key away where there is none.
+// Sets the value of the key, or takes the key away where there is none.
 fn set_key(props: &mut Props, key: &Text, value: &Option<ValText>) -> Result<(), OutOfMemory>
     ensures { OnOk result (props.new ≡ set_key key.now value.now props.old) }
 {
@@ -23,7 +23,7 @@ fn set_key(props: &mut Props, key: &Text, value: &Option<ValText>) -> Result<(),
     Ok(())
 }
 
-/// Adjusts the value of the key.
+// Adjusts the value of the key.
 fn adjust_key(props: &mut Props, key: &Text, by: &Adjust) -> Result<(), OutOfMemory>
     ensures { let before = number_or_zero (value_of key.now props.old) in
         OnOk result (props.new ≡ set_key key.now (Some (signed_decimal (adj before by.now))) props.old) }
@@ -32,7 +32,7 @@ fn adjust_key(props: &mut Props, key: &Text, by: &Adjust) -> Result<(), OutOfMem
     props.put(key.copy()?, value)
 }
 
-/// Applies each key of the set in turn.
+// Applies each key of the set in turn.
 fn apply_all(props: &mut Props, set: &PropSet) -> Result<(), OutOfMemory>
     ensures { OnOk result (props.new ≡ apply props.old set.now) }
 {
@@ -42,7 +42,7 @@ fn apply_all(props: &mut Props, set: &PropSet) -> Result<(), OutOfMemory>
     Ok(())
 }
 
-/// Makes each adjustment in turn.
+// Makes each adjustment in turn.
 fn adjust_all(props: &mut Props, adjustments: &AdjSet) -> Result<(), OutOfMemory>
     ensures { OnOk result (props.new ≡ adjust props.old adjustments.now) }
 {

@@ -14,7 +14,7 @@ use std::alloc::Global;
 /// The first whole number that is too great for an adjusted value.
 const TOO_GREAT: u64 = GREATEST_COUNT + 1;
 
-/// The number that the bytes spell, if they are all digits and it isn't too great, else 0.
+// The number that the bytes spell, if they are all digits and it isn't too great, else 0.
 fn safe_digits_value(digits: &[u8]) -> u64
     ensures { let value = digits_value 0 digits.now in
         result ≡ (if list_all is_digit digits.now && nat_le value max_safe_integer then value else 0) }
@@ -29,8 +29,8 @@ fn safe_digits_value(digits: &[u8]) -> u64
     if value < TOO_GREAT { value } else { 0 }
 }
 
-/// The number on which an adjustment of the value works: 0 where there is no value, it is no whole
-/// number or its size is too great.
+// The number on which an adjustment of the value works: 0 where there is no value, it is no whole
+// number or its size is too great.
 fn number_or_zero(value: Option<&ValText>) -> i64
     ensures { result ≡ number_or_zero (option_copied value.entry) }
 {
@@ -41,7 +41,7 @@ fn number_or_zero(value: Option<&ValText>) -> i64
     }
 }
 
-/// The number, raised to the bound if there is one and it is below.
+// The number, raised to the bound if there is one and it is below.
 fn raised(number: i128, min: Option<i64>) -> i128
     ensures { result ≡ int_max (unwrap_or min number) number }
 {
@@ -51,7 +51,7 @@ fn raised(number: i128, min: Option<i64>) -> i128
     }
 }
 
-/// The number, lowered to the bound if there is one and it is above.
+// The number, lowered to the bound if there is one and it is above.
 fn lowered(number: i128, max: Option<i64>) -> i128
     ensures { result ≡ int_min (unwrap_or max number) number }
 {
@@ -61,7 +61,7 @@ fn lowered(number: i128, max: Option<i64>) -> i128
     }
 }
 
-/// The number with the adjustment made.
+// The number with the adjustment made.
 fn adjusted_number(number: i64, adjust: &Adjust) -> i64
     ensures { result ≡ adj number adjust.now }
 {

@@ -40,7 +40,7 @@ struct Ahead {
     shown: Props,
 }
 
-/// Makes the changes of each stage in turn. After `OutOfMemory` some of them may be made.
+// Makes the changes of each stage in turn. After `OutOfMemory` some of them may be made.
 fn make_all_changes(props: &mut Props, pending: &[(u64, Changes)]) -> Result<(), OutOfMemory>
     ensures { OnOk result (props.new ≡ shown_props props.old pending.now) }
 {
@@ -50,7 +50,7 @@ fn make_all_changes(props: &mut Props, pending: &[(u64, Changes)]) -> Result<(),
     Ok(())
 }
 
-/// What is shown of acknowledged properties with changes in two parts.
+// What is shown of acknowledged properties with changes in two parts.
 fn shown_over(
     acked: &Props,
     front: &[(u64, Changes)],
@@ -64,14 +64,14 @@ fn shown_over(
     Ok(shown)
 }
 
-/// The place of that stage, if it is there.
+// The place of that stage, if it is there.
 fn place_of_stage(pending: &[(u64, Changes)], stage: u64) -> Option<usize>
     ensures { result ≡ position (λ change. nat_eq change.0 stage) pending.now }
 {
     pending.iter().position(|change| change.0 == stage)
 }
 
-/// Equal changes of the same stages.
+// Equal changes of the same stages.
 fn copy_pending(
     alloc: Global,
     pending: &[(u64, Changes)],
@@ -85,7 +85,7 @@ fn copy_pending(
     Ok(copy)
 }
 
-/// Whether both have the same changes of the same stages.
+// Whether both have the same changes of the same stages.
 fn is_same_pending(mine: &[(u64, Changes)], theirs: &[(u64, Changes)]) -> bool
     ensures { IsTrue result ↔ (mine.now ≡ theirs.now) }
 {
@@ -101,7 +101,7 @@ fn is_same_pending(mine: &[(u64, Changes)], theirs: &[(u64, Changes)]) -> bool
 }
 
 impl Ahead {
-    /// The changes of one stage alone.
+    // The changes of one stage alone.
     fn first(
         alloc: Global,
         acked: &Props,
@@ -117,9 +117,9 @@ impl Ahead {
         Ok(Box::new(alloc, Ahead { pending, shown })?)
     }
 
-    /// Adds changes of a stage.
-    ///
-    /// Returns `OutOfMemory` where there is no room for them, and then all is as it was.
+    // Adds changes of a stage.
+    //
+    // Returns `OutOfMemory` where there is no room for them, and then all is as it was.
     fn push(&mut self, stage: u64, set: &Changes) -> Result<(), OutOfMemory>
         ensures pending { OnOk result (self.new.pending.items ≡ self.old.pending.items ++ (stage, set.now) ∷ []) }
         ensures shown { OnOk result (self.new.shown ≡ change self.old.shown set.now) }
@@ -132,9 +132,9 @@ impl Ahead {
         Ok(())
     }
 
-    /// Makes ready what is shown over other acknowledged properties.
-    ///
-    /// Returns `OutOfMemory` where there is no room for it, and then all is as it was.
+    // Makes ready what is shown over other acknowledged properties.
+    //
+    // Returns `OutOfMemory` where there is no room for it, and then all is as it was.
     fn show(&mut self, acked: &Props) -> Result<(), OutOfMemory>
         ensures pending { self.new.pending ≡ self.old.pending }
         ensures shown { OnOk result (self.new.shown ≡ shown_props acked.now self.old.pending.items) }
@@ -144,10 +144,10 @@ impl Ahead {
         Ok(())
     }
 
-    /// Takes the changes of that stage out, if there are any.
-    ///
-    /// Returns `OutOfMemory` where there is no room for what is then shown, and then all is as it
-    /// was.
+    // Takes the changes of that stage out, if there are any.
+    //
+    // Returns `OutOfMemory` where there is no room for what is then shown, and then all is as it
+    // was.
     fn drop_stage(&mut self, stage: u64, acked: &Props) -> Result<(), OutOfMemory>
         requires rising { StagesRise self.old.pending.items }
         requires shown { self.old.shown ≡ shown_props acked.now self.old.pending.items }
@@ -164,10 +164,10 @@ impl Ahead {
         Ok(())
     }
 
-    /// Makes the changes of that stage, if it is the first, to the acknowledged properties, and takes
-    /// them out.
-    ///
-    /// Returns `OutOfMemory` where there is no room for what they make, and then all is as it was.
+    // Makes the changes of that stage, if it is the first, to the acknowledged properties, and takes
+    // them out.
+    //
+    // Returns `OutOfMemory` where there is no room for what they make, and then all is as it was.
     fn ack(&mut self, stage: u64, acked: &mut Props) -> Result<(), OutOfMemory>
         requires lowest { All (λ change. stage ≤ change.0) self.old.pending.items }
         requires rising { StagesRise self.old.pending.items }
@@ -188,7 +188,7 @@ impl Ahead {
         Ok(())
     }
 
-    /// Equal changes.
+    // Equal changes.
     fn copy(&self) -> Result<Box<Ahead>, OutOfMemory>
         ensures pending { IfOk result (λ b. b.value.pending.items ≡ self.now.pending.items) }
         ensures shown { IfOk result (λ b. b.value.shown ≡ self.now.shown) }
@@ -293,7 +293,7 @@ impl Overlay {
         &self.acked
     }
 
-    /// The pending changes by rising stage.
+    // The pending changes by rising stage.
     fn pending(&self) -> &[(u64, Changes)]
         ensures { result.now ≡ self.now.pending }
     {

@@ -67,7 +67,7 @@ impl<V: Drop> Pairs<V> {
         Some(&pair.1)
     }
 
-    /// The place of the key, or else, as an error, the place where it would stand.
+    // The place of the key, or else, as an error, the place where it would stand.
     fn search(&self, key: &str) -> Result<usize, usize>
         ensures { result ≡ place_of (chars key.now) self.now }
     {

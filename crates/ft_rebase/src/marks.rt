@@ -23,7 +23,7 @@ pub enum Mark {
     Changes,
 }
 
-/// Whether the stage has this mark on the elements of a leaf.
+// Whether the stage has this mark on the elements of a leaf.
 fn has_mark<C: Content>(tree: &Tree<C>, leaf: NodeId, stage: u64, mark: Mark) -> bool
     requires usable { IsTrue tree.now.usable }
     requires live { IsLeafIn tree.now.leaves leaf }

@@ -79,7 +79,7 @@ pub(crate) fn stage_moves<C: Content>(tree: &Tree<C>) -> Result<Vec<StageMove>, 
     Ok(moves)
 }
 
-/// The leaf that ends behind the first `position` elements that the stage sees: None where that is the head.
+// The leaf that ends behind the first `position` elements that the stage sees: None where that is the head.
 fn leaf_before<C: Content>(tree: &Tree<C>, position: u64, stage: u64) -> Option<NodeId>
     requires { IsTrue tree.now.usable }
     ensures { (q : ℕ) → q ≤ len (seen_by leaf_stamps stage) tree.now.leaves → position ≡ seen_size C.units stage q tree.now.leaves
@@ -123,7 +123,7 @@ where
     Ok(())
 }
 
-/// Moves a leaf directly after another, or to the head.
+// Moves a leaf directly after another, or to the head.
 fn move_behind<C: Content>(
     tree: &mut Tree<C>,
     leaf: NodeId,

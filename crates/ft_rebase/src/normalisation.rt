@@ -56,7 +56,7 @@ where
     }
 }
 
-/// Takes what is pending off the leaves that are gone, and moves those of pending insertions.
+// Takes what is pending off the leaves that are gone, and moves those of pending insertions.
 fn carry_and_move<C: Content>(tree: &mut Tree<C>) -> Result<(), OutOfMemory>
 where
     C: Drop,
@@ -80,14 +80,14 @@ where
     Ok(())
 }
 
-/// Whether the insertion and a removal are sequenced.
+// Whether the insertion and a removal are sequenced.
 fn is_gone(e: &Element) -> bool
     ensures { result ≡ is_gone e.now }
 {
     matches!(e.ins, Stamp::Acked { .. }) && has_sequenced(e.dels.as_slice())
 }
 
-/// Whether one of the stamps is pending.
+// Whether one of the stamps is pending.
 fn has_local(stamps: &[Stamp]) -> bool
     ensures { result ≡ list_any (λ t. not (is_acked t)) stamps.now }
 {
@@ -96,7 +96,7 @@ fn has_local(stamps: &[Stamp]) -> bool
         .any(|stamp| matches!(stamp, Stamp::Local { .. }))
 }
 
-/// Whether a removal or changes are pending on a leaf.
+// Whether a removal or changes are pending on a leaf.
 fn has_pending<C: Content>(tree: &Tree<C>, leaf: NodeId) -> bool
     requires usable { IsTrue tree.now.usable }
     requires live { IsLeafIn tree.now.leaves leaf }
@@ -106,7 +106,7 @@ fn has_pending<C: Content>(tree: &Tree<C>, leaf: NodeId) -> bool
     marked || tree.leaf_overlay(leaf).has_pending()
 }
 
-/// Takes what is pending off a leaf whose insertion and a removal of it are sequenced.
+// Takes what is pending off a leaf whose insertion and a removal of it are sequenced.
 fn carry_leaf<C: Content>(tree: &mut Tree<C>, leaf: NodeId) -> Result<(), OutOfMemory>
     requires usable { IsTrue tree.old.usable }
     requires live { IsLeafIn tree.old.leaves leaf }
@@ -125,8 +125,8 @@ fn carry_leaf<C: Content>(tree: &mut Tree<C>, leaf: NodeId) -> Result<(), OutOfM
     Ok(())
 }
 
-/// Takes what is pending off the leaves of which the stage has something and whose insertion and a removal of it are
-/// sequenced.
+// Takes what is pending off the leaves of which the stage has something and whose insertion and a removal of it are
+// sequenced.
 fn carry_stage<C: Content>(tree: &mut Tree<C>, stage: u64) -> Result<(), OutOfMemory>
     requires { IsTrue tree.old.usable }
     ensures leaves { OnOk result (tree.new.leaves ≡ map (carried_by stage) tree.old.leaves) }
@@ -144,8 +144,8 @@ fn carry_stage<C: Content>(tree: &mut Tree<C>, stage: u64) -> Result<(), OutOfMe
     Ok(())
 }
 
-/// Takes what is pending off all leaves whose insertion and a removal of it are sequenced. Then no stage lists a leaf of which
-/// it has nothing.
+// Takes what is pending off all leaves whose insertion and a removal of it are sequenced. Then no stage lists a leaf of which
+// it has nothing.
 fn carry_leaves<C: Content>(tree: &mut Tree<C>) -> Result<(), OutOfMemory>
     requires { IsTrue tree.old.usable }
     ensures leaves { OnOk result (tree.new.leaves ≡ map carried_pair tree.old.leaves) }

@@ -42,7 +42,7 @@ pub fn regenerate<C: Content>(tree: &Tree<C>, stage: u64) -> Result<Vec<Piece>, 
     Ok(pieces)
 }
 
-/// Adds a removal of each run, with its position as after those before it.
+// Adds a removal of each run, with its position as after those before it.
 fn push_removals(pieces: &mut Vec<Piece>, runs: &[(u64, u64)]) -> Result<(), OutOfMemory>
     requires { RunsRise 0 runs.now }
     ensures { OnOk result (pieces.new.items ≡ pieces.old.items ++ map (λ r. Piece.Remove r.0 r.1) (lowered_runs 0 runs.now)) }
@@ -58,7 +58,7 @@ fn push_removals(pieces: &mut Vec<Piece>, runs: &[(u64, u64)]) -> Result<(), Out
     Ok(())
 }
 
-/// Adds an annotation of each run.
+// Adds an annotation of each run.
 fn push_annotations(pieces: &mut Vec<Piece>, runs: &[(u64, u64)]) -> Result<(), OutOfMemory>
     ensures { OnOk result (pieces.new.items ≡ pieces.old.items ++ map (λ r. Piece.Annotate r.0 r.1) runs.now) }
 {

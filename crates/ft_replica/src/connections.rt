@@ -63,7 +63,7 @@ impl Connections {
         }
     }
 
-    /// Whether the numbers go on to rise with this one behind them.
+    // Whether the numbers go on to rise with this one behind them.
     fn rises_to(&self, conn: u32) -> bool
         ensures { IsTrue result → IsNonDecreasingBy (λ n. n) (self.now ++ conn ∷ []) }
     {

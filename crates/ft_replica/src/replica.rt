@@ -250,16 +250,16 @@ fn overlapping_in<D: OwnDocument, G: Ledger>(
     replica.overlapping_counted(label, a, b, &mut steps)
 }
 
-/// Whether a client that took an operation of nobody, or none so far, has taken one after this entry.
+// Whether a client that took an operation of nobody, or none so far, has taken one after this entry.
 fn is_nameless_after(was: bool, entry: &Entry) -> bool
     ensures { result ≡ (is_of_nobody entry.now || was) }
 {
     (matches!(entry.msg.body, Body::Op(_)) && entry.origin == 0) || was
 }
 
-/// So many names of the table, in which none stands twice.
-///
-/// Returns `OutOfMemory` where there is no room for them, or it has fewer.
+// So many names of the table, in which none stands twice.
+//
+// Returns `OutOfMemory` where there is no room for them, or it has fewer.
 fn first_names(names: &Names, count: u32) -> Result<Texts, OutOfMemory>
     ensures first { IfOk result (λ conns. conns ≡ take count names.now) }
     ensures distinct { AreDistinct names.now }

@@ -18,7 +18,7 @@ use ft_interval::Collections;
 use ft_tree::{TextContent, Tree};
 use std::collections::VecDeque;
 
-/// The lesser of two numbers, as far as they are given.
+// The lesser of two numbers, as far as they are given.
 fn least(a: Option<u64>, b: Option<u64>) -> Option<u64>
     ensures { result ≡ least_of a b }
 {
@@ -29,7 +29,7 @@ fn least(a: Option<u64>, b: Option<u64>) -> Option<u64>
     }
 }
 
-/// The stage of the first pending operation on elements.
+// The stage of the first pending operation on elements.
 fn first_op(ops: &VecDeque<PendingOp>) -> Option<u64>
     ensures { result ≡ first_op ops.now.items }
 {
@@ -39,7 +39,7 @@ fn first_op(ops: &VecDeque<PendingOp>) -> Option<u64>
     }
 }
 
-/// The lowest pending stage, if it is no later than the last one.
+// The lowest pending stage, if it is no later than the last one.
 fn next_up_to(intervals: &Collections, ops: &VecDeque<PendingOp>, last: u64) -> Option<u64>
     ensures { result ≡ next_below (last + 1) intervals.now.state ops.now.items }
 {
@@ -47,7 +47,7 @@ fn next_up_to(intervals: &Collections, ops: &VecDeque<PendingOp>, last: u64) -> 
     if stage <= last { Some(stage) } else { None }
 }
 
-/// Acknowledges a stage, which is the lowest.
+// Acknowledges a stage, which is the lowest.
 fn ack_stage(
     tree: &mut Tree<TextContent>,
     intervals: &mut Collections,
@@ -71,7 +71,7 @@ fn ack_stage(
     Ok(())
 }
 
-/// Acknowledges the pending stages up to the last one, from the lowest on.
+// Acknowledges the pending stages up to the last one, from the lowest on.
 fn ack_all(
     tree: &mut Tree<TextContent>,
     intervals: &mut Collections,

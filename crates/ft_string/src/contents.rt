@@ -46,7 +46,7 @@ pub(crate) fn push_character(run: &mut String, c: char) -> Result<(), OutOfMemor
     Ok(())
 }
 
-/// The content of a leaf with these characters.
+// The content of a leaf with these characters.
 fn run_of(alloc: Global, characters: &[char]) -> Result<TextContent, OutOfMemory>
     requires { IsTextRun characters.now }
     ensures { IfOk result (λ content. content ≡ new_text (Run characters.now)) }
@@ -58,7 +58,7 @@ fn run_of(alloc: Global, characters: &[char]) -> Result<TextContent, OutOfMemory
     TextContent::run(alloc, run.as_str())
 }
 
-/// How many of so many characters the next run has.
+// How many of so many characters the next run has.
 fn run_length(count: usize) -> usize
     requires { 1 ≤ count }
     ensures some { 1 ≤ result }
@@ -70,7 +70,7 @@ fn run_length(count: usize) -> usize
     if count < 256 { count } else { 256 }
 }
 
-/// The characters as runs of as many as a leaf may have, but for the last one.
+// The characters as runs of as many as a leaf may have, but for the last one.
 fn runs_of(alloc: Global, text: &[char]) -> Result<Vec<TextContent>, OutOfMemory>
     ensures units { IfOk result (λ v. flat_map text_units v.items ≡ map Character text.now) }
     ensures new { IfOk result (λ v. are_new v.items ≡ true) }

@@ -37,9 +37,9 @@ use std::collections::VecDeque;
 use std::slice;
 use std::sync::ledger::Ledger;
 
-/// Makes an operation at a pending stage, which is above all pending ones, in a tree that has the elements for it.
-///
-/// Returns no error but `OutOfMemory`.
+// Makes an operation at a pending stage, which is above all pending ones, in a tree that has the elements for it.
+//
+// Returns no error but `OutOfMemory`.
 fn take_op<G: Ledger>(
     tree: &mut Tree<TextContent>,
     op: &BaseOp,
@@ -64,7 +64,7 @@ fn take_op<G: Ledger>(
     }
 }
 
-/// Makes an operation at a pending stage, and notes it.
+// Makes an operation at a pending stage, and notes it.
 fn take_noted<G: Ledger>(
     tree: &mut Tree<TextContent>,
     pending: &mut VecDeque<PendingOp>,
@@ -90,7 +90,7 @@ fn take_noted<G: Ledger>(
     }
 }
 
-/// Makes operations one after another, each at the next stage, and notes them.
+// Makes operations one after another, each at the next stage, and notes them.
 fn take_all<G: Ledger>(
     tree: &mut Tree<TextContent>,
     pending: &mut VecDeque<PendingOp>,
@@ -115,7 +115,7 @@ fn take_all<G: Ledger>(
     Ok(())
 }
 
-/// Adds a pending operation on an interval.
+// Adds a pending operation on an interval.
 fn take_interval(
     intervals: &mut Collections,
     tree: &mut Tree<TextContent>,
@@ -143,7 +143,7 @@ fn take_interval(
     }
 }
 
-/// Whether it is a refusal, and not `OutOfMemory`.
+// Whether it is a refusal, and not `OutOfMemory`.
 fn is_refusal(fault: &IntervalFault) -> bool
     ensures { result ≡ is_refusal fault.now }
 {
@@ -154,7 +154,7 @@ fn is_refusal(fault: &IntervalFault) -> bool
     }
 }
 
-/// The refusal as that of an edit.
+// The refusal as that of an edit.
 fn edit_fault(fault: IntervalFault) -> EditFault
     ensures { result ≡ edit_fault_of fault }
 {
@@ -203,7 +203,7 @@ impl SharedString {
         }
     }
 
-    /// The first leaf, if there is one; its contract tells how deep a search for an element goes at most.
+    // The first leaf, if there is one; its contract tells how deep a search for an element goes at most.
     fn first_leaf(&self) -> Option<NodeId>
         requires { IsTrue self.now.usable }
         ensures { 4 ^ self.now.depth ≤ length self.now.elements + 1 }
@@ -211,7 +211,7 @@ impl SharedString {
         self.tree.first_leaf()
     }
 
-    /// The same, but that after `OutOfMemory` nothing is said.
+    // The same, but that after `OutOfMemory` nothing is said.
     fn edit_by_kind<G: Ledger>(
         &mut self,
         op: &TextOp,
@@ -238,10 +238,10 @@ impl SharedString {
         }
     }
 
-    /// Tests the operations by lengths alone, and returns how many elements they put in.
-    ///
-    /// Returns `OutOfRange` with the length before the first that is out of range, and `OutOfMemory` where numbers of stages or
-    /// elements would pass their limits.
+    // Tests the operations by lengths alone, and returns how many elements they put in.
+    //
+    // Returns `OutOfRange` with the length before the first that is out of range, and `OutOfMemory` where numbers of stages or
+    // elements would pass their limits.
     fn test(&self, ops: &[BaseOp], first: u64) -> Result<(), EditFault>
         requires usable { IsTrue self.now.usable }
         ensures fits { OnOk result (is_ok (count_after_all (seen_count self.now) ops.now) ≡ true) }
@@ -259,7 +259,7 @@ impl SharedString {
         Ok(())
     }
 
-    /// Makes operations on elements as pending stages from `first` on, and returns how many they are.
+    // Makes operations on elements as pending stages from `first` on, and returns how many they are.
     fn edit_elements<G: Ledger>(
         &mut self,
         ops: &[BaseOp],
@@ -288,7 +288,7 @@ impl SharedString {
         }
     }
 
-    /// Makes an operation on intervals as the pending stage `first`.
+    // Makes an operation on intervals as the pending stage `first`.
     fn edit_interval(&mut self, op: &TextOp, first: u64) -> Result<u64, EditFault>
         requires usable { IsTrue self.old.usable }
         requires none_given { self.old.given ≡ 0 }
@@ -312,7 +312,7 @@ impl SharedString {
     }
 }
 
-/// Whether there are so many numbers for stages from `first` on.
+// Whether there are so many numbers for stages from `first` on.
 fn have_stages(first: u64, count: usize) -> bool
     ensures { IsTrue result → first + count < 2 ^ 64 }
 {

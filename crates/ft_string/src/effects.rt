@@ -24,10 +24,10 @@ use ft_tree::{TextContent, Tree, TreeFault};
 use std::slice;
 use std::sync::ledger::Ledger;
 
-/// Applies an operation under number `seq` to a tree in which the perspective sees the elements for it. Removals let
-/// acknowledged references slide.
-///
-/// Returns no error but `OutOfMemory`.
+// Applies an operation under number `seq` to a tree in which the perspective sees the elements for it. Removals let
+// acknowledged references slide.
+//
+// Returns no error but `OutOfMemory`.
 fn apply_op<G: Ledger>(
     tree: &mut Tree<TextContent>,
     op: &BaseOp,
@@ -54,10 +54,10 @@ fn apply_op<G: Ledger>(
     }
 }
 
-/// Applies an operation under number `seq`, if the perspective sees the elements for it, and returns how many it skipped: one,
-/// where it doesn't.
-///
-/// Returns `OutOfMemory` where there is no room for it, or the number of elements would pass its limit.
+// Applies an operation under number `seq`, if the perspective sees the elements for it, and returns how many it skipped: one,
+// where it doesn't.
+//
+// Returns `OutOfMemory` where there is no room for it, or the number of elements would pass its limit.
 fn try_op<G: Ledger>(
     tree: &mut Tree<TextContent>,
     op: &BaseOp,
@@ -83,9 +83,9 @@ fn try_op<G: Ledger>(
     }
 }
 
-/// Applies operations under number `seq` one after another, and returns how many were out of range.
-///
-/// Returns `OutOfMemory` where there is no room for them, or the number of elements would pass its limit.
+// Applies operations under number `seq` one after another, and returns how many were out of range.
+//
+// Returns `OutOfMemory` where there is no room for them, or the number of elements would pass its limit.
 fn try_all<G: Ledger>(
     tree: &mut Tree<TextContent>,
     ops: &[BaseOp],
@@ -137,7 +137,7 @@ impl SharedString {
         }
     }
 
-    /// The same for operations on elements.
+    // The same for operations on elements.
     fn apply_to_elements<G: Ledger>(
         &mut self,
         ops: &[BaseOp],
@@ -159,7 +159,7 @@ impl SharedString {
         Ok(skipped)
     }
 
-    /// The same for an operation on an interval.
+    // The same for an operation on an interval.
     fn apply_to_intervals(
         &mut self,
         op: &TextOp,

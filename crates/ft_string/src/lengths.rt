@@ -27,7 +27,7 @@ pub(crate) fn sum(a: u64, b: u64) -> Result<u64, OutOfMemory>
     }
 }
 
-/// How many characters a text has.
+// How many characters a text has.
 fn char_count(text: &str) -> u64
     ensures { result ≡ length (chars text.now) }
 {
@@ -64,7 +64,7 @@ pub(crate) fn end_of(op: &BaseOp) -> u64
     }
 }
 
-/// How many elements are seen after an operation, where so many are before it: None where they would be more than 2^64 - 1.
+// How many elements are seen after an operation, where so many are before it: None where they would be more than 2^64 - 1.
 fn count_after(count: u64, op: &BaseOp) -> Option<u64>
     ensures { IfSome result (λ n. n ≡ count_after count op.now) }
 {

@@ -23,7 +23,7 @@ use ft_tree::{TextContent, Tree};
 use std::collections::VecDeque;
 use std::mem;
 
-/// The piece as an operation: the original one at the places of now.
+// The piece as an operation: the original one at the places of now.
 fn operation_of(op: &BaseOp, piece: Piece) -> Result<BaseOp, OutOfMemory>
     ensures { IfOk result (λ again. again ≡ piece_op op.now piece) }
 {
@@ -47,7 +47,7 @@ fn operation_of(op: &BaseOp, piece: Piece) -> Result<BaseOp, OutOfMemory>
     }
 }
 
-/// Adds the operations that the pieces of an operation make.
+// Adds the operations that the pieces of an operation make.
 fn push_pieces(op: &BaseOp, parts: &[Piece], again: &mut BaseOps) -> Result<(), OutOfMemory>
     ensures { OnOk result (again.new ≡ again.old ++ map (piece_op op.now) parts.now) }
 {
@@ -57,7 +57,7 @@ fn push_pieces(op: &BaseOp, parts: &[Piece], again: &mut BaseOps) -> Result<(), 
     Ok(())
 }
 
-/// Adds the operations as which a pending operation is sent again, and returns whether there are any.
+// Adds the operations as which a pending operation is sent again, and returns whether there are any.
 fn push_again(
     tree: &Tree<TextContent>,
     op: &PendingOp,
@@ -72,8 +72,8 @@ fn push_again(
     Ok(!parts.is_empty())
 }
 
-/// Takes the operations of the stages up to the last one from the front. Those of which something is sent again go behind `kept`;
-/// returns what is sent.
+// Takes the operations of the stages up to the last one from the front. Those of which something is sent again go behind `kept`;
+// returns what is sent.
 fn give_ops(
     tree: &Tree<TextContent>,
     ops: &mut VecDeque<PendingOp>,
@@ -91,7 +91,7 @@ fn give_ops(
     Ok(again)
 }
 
-/// Takes the first operation, if its stage is no later than the last one.
+// Takes the first operation, if its stage is no later than the last one.
 fn next_due(ops: &mut VecDeque<PendingOp>, last: u64) -> Option<PendingOp>
     ensures { NextDue (last + 1) ops.old.items ops.new.items result }
 {
@@ -102,7 +102,7 @@ fn next_due(ops: &mut VecDeque<PendingOp>, last: u64) -> Option<PendingOp>
     }
 }
 
-/// Adds the operation, if it goes on.
+// Adds the operation, if it goes on.
 fn keep_if(kept: &mut VecDeque<PendingOp>, op: PendingOp, goes_on: bool) -> Result<(), OutOfMemory>
     ensures { OnOk result (kept.new.items ≡ kept.old.items ++ cond goes_on (op ∷ []) []) }
 {
@@ -112,7 +112,7 @@ fn keep_if(kept: &mut VecDeque<PendingOp>, op: PendingOp, goes_on: bool) -> Resu
     Ok(())
 }
 
-/// Whether the stage of the first operation is no later than the last one.
+// Whether the stage of the first operation is no later than the last one.
 fn is_due(ops: &VecDeque<PendingOp>, last: u64) -> bool
     ensures { result ≡ has_any (due (last + 1) ops.now.items) }
 {
@@ -122,7 +122,7 @@ fn is_due(ops: &VecDeque<PendingOp>, last: u64) -> bool
     }
 }
 
-/// The operation that these make: one bare, several as a group, none for none.
+// The operation that these make: one bare, several as a group, none for none.
 fn one_of(ops: BaseOps) -> Result<Option<TextOp>, OutOfMemory>
     ensures { IfOk result (λ op. op ≡ one_of ops) }
 {
@@ -138,7 +138,7 @@ fn one_of(ops: BaseOps) -> Result<Option<TextOp>, OutOfMemory>
     }
 }
 
-/// What is sent again of the stages from `first` up to `last`.
+// What is sent again of the stages from `first` up to `last`.
 fn give(
     tree: &mut Tree<TextContent>,
     intervals: &mut Collections,
@@ -160,7 +160,7 @@ fn give(
     one_of(give_ops(tree, ops, kept, last)?)
 }
 
-/// Adds what is in `back` to the end of `front`, and leaves nothing there.
+// Adds what is in `back` to the end of `front`, and leaves nothing there.
 fn join(front: &mut VecDeque<PendingOp>, back: &mut VecDeque<PendingOp>) -> Result<(), OutOfMemory>
     ensures { OnOk result (front.new.items ≡ front.old.items ++ back.old.items) }
 {

@@ -65,7 +65,7 @@ pub(crate) struct Segments {
     count: u64,
 }
 
-/// A sequenced stamp as a mark.
+// A sequenced stamp as a mark.
 fn mark_of(stamp: &Stamp) -> Mark
     ensures { result ≡ mark_of stamp.now }
 {
@@ -78,7 +78,7 @@ fn mark_of(stamp: &Stamp) -> Mark
     }
 }
 
-/// The author of an element, (0, 0) where it isn't known.
+// The author of an element, (0, 0) where it isn't known.
 fn author_of(by: Option<Stamp>) -> Mark
     ensures { result ≡ author_mark by }
 {
@@ -88,7 +88,7 @@ fn author_of(by: Option<Stamp>) -> Mark
     }
 }
 
-/// The stamps as marks.
+// The stamps as marks.
 fn marks_of(alloc: Global, stamps: &[Stamp]) -> Result<Marks, OutOfMemory>
     ensures { IfOk result (λ marks. marks ≡ map mark_of stamps.now) }
 {
@@ -99,8 +99,8 @@ fn marks_of(alloc: Global, stamps: &[Stamp]) -> Result<Marks, OutOfMemory>
     Ok(marks)
 }
 
-/// The insertion as a mark, as a summary with this minimum has it: that which everybody sees, where it is at or below the
-/// minimum.
+// The insertion as a mark, as a summary with this minimum has it: that which everybody sees, where it is at or below the
+// minimum.
 fn insertion_of(ins: &Stamp, min: u64) -> Mark
     ensures { result ≡ insertion_mark min ins.now }
 {
@@ -118,7 +118,7 @@ fn insertion_of(ins: &Stamp, min: u64) -> Mark
     }
 }
 
-/// Whether the first removal is at or below the minimum.
+// Whether the first removal is at or below the minimum.
 fn is_collectable(dels: &[Stamp], min: u64) -> bool
     ensures { result ≡ has_collectable_removal min dels.now }
 {
@@ -128,28 +128,28 @@ fn is_collectable(dels: &[Stamp], min: u64) -> bool
     }
 }
 
-/// Whether the properties are equal.
+// Whether the properties are equal.
 fn same_props(a: &Props, b: &Props) -> bool
     ensures { result ≡ same_props a.now b.now }
 {
     a.same(b)
 }
 
-/// Whether the marks are equal.
+// Whether the marks are equal.
 fn same_mark(a: Mark, b: Mark) -> bool
     ensures { result ≡ same_mark a b }
 {
     a.seq == b.seq && a.conn == b.conn
 }
 
-/// Whether the insertions are equal, and the removals too.
+// Whether the insertions are equal, and the removals too.
 fn same_stamps(ins: Mark, dels: &Marks, other_ins: Mark, other_dels: &Marks) -> bool
     ensures { result ≡ same_stamps ins dels.now other_ins other_dels.now }
 {
     same_mark(ins, other_ins) && dels.same(other_dels)
 }
 
-/// The head of the segment of a leaf.
+// The head of the segment of a leaf.
 fn head_of(tree: &Tree<TextContent>, leaf: NodeId, min: u64) -> Result<Head, OutOfMemory>
     requires usable { IsTrue tree.now.usable }
     requires live { IsLeafIn tree.now.leaves leaf }
@@ -167,7 +167,7 @@ fn head_of(tree: &Tree<TextContent>, leaf: NodeId, min: u64) -> Result<Head, Out
 }
 
 impl OpenSegment {
-    /// The segment with this head of these characters, or of a marker.
+    // The segment with this head of these characters, or of a marker.
     fn with_head(marker: Option<u64>, text: String, head: &Head) -> Result<OpenSegment, OutOfMemory>
         ensures { IfOk result (λ seg. seg ≡ headed head.now (body_of_parts marker (chars (string_bytes text)))) }
     {
@@ -183,7 +183,7 @@ impl OpenSegment {
         })
     }
 
-    /// The segment of a character.
+    // The segment of a character.
     fn of_character(alloc: Global, c: char, head: &Head) -> Result<OpenSegment, OutOfMemory>
         ensures { IfOk result (λ seg. seg ≡ unit_segment head.now (Character c)) }
     {
@@ -192,14 +192,14 @@ impl OpenSegment {
         OpenSegment::with_head(None, text, head)
     }
 
-    /// The segment of a marker.
+    // The segment of a marker.
     fn of_marker(alloc: Global, ref_type: u64, head: &Head) -> Result<OpenSegment, OutOfMemory>
         ensures { IfOk result (λ seg. seg ≡ unit_segment head.now (MarkerOf ref_type)) }
     {
         OpenSegment::with_head(Some(ref_type), String::new(alloc), head)
     }
 
-    /// Whether the segment of a character with this head is one run with it.
+    // Whether the segment of a character with this head is one run with it.
     fn goes_on_with(&self, head: &Head) -> bool
         ensures { (c : ℕ) → result ≡ are_alike self.now (unit_segment head.now (Character c)) }
     {
@@ -209,7 +209,7 @@ impl OpenSegment {
             && same_stamps(self.ins, &self.dels, head.ins, &head.dels)
     }
 
-    /// The segment with one more character.
+    // The segment with one more character.
     fn joined(self, c: char) -> Result<OpenSegment, OutOfMemory>
         requires { are_characters self.body (characters_of []) ≡ true }
         ensures { IfOk result (λ seg. seg ≡ record self { body = joined_bodies self.body (characters_of (c ∷ [])) }) }
@@ -219,7 +219,7 @@ impl OpenSegment {
         Ok(seg)
     }
 
-    /// The segment as a summary has it.
+    // The segment as a summary has it.
     fn into_segment(self) -> SegRec
         ensures { result ≡ self }
     {
@@ -247,7 +247,7 @@ impl OpenSegment {
     }
 }
 
-/// The segment that is open after a character; one that ends before it is added. A chunk `begins` with the character or doesn't.
+// The segment that is open after a character; one that ends before it is added. A chunk `begins` with the character or doesn't.
 fn extend(
     segs: &mut SegRecs,
     last: Option<OpenSegment>,
@@ -268,7 +268,7 @@ fn extend(
     OpenSegment::of_character(alloc, c, head)
 }
 
-/// Adds the open segment to the list, if there is one.
+// Adds the open segment to the list, if there is one.
 fn end(segs: &mut SegRecs, last: Option<OpenSegment>) -> Result<(), OutOfMemory>
     ensures none { OnOk result (last ≡ None → segs.new ≡ segs.old) }
     ensures some { OnOk result ((seg : SegRec) → last ≡ Some seg → segs.new ≡ segs.old ++ seg ∷ []) }
@@ -309,7 +309,7 @@ impl Segments {
         self.add_content(tree.leaf_content(leaf), tree.allocator(), &head)
     }
 
-    /// Adds the elements of a content.
+    // Adds the elements of a content.
     fn add_content(
         &mut self,
         content: &TextContent,
@@ -327,7 +327,7 @@ impl Segments {
         }
     }
 
-    /// Adds characters.
+    // Adds characters.
     fn add_characters(&mut self, text: &[char], head: &Head) -> Result<(), OutOfMemory>
         ensures { OnOk result (Adds (map (λ c. unit_segment head.now (Character c)) text.now) self.old self.new) }
     {
@@ -337,7 +337,7 @@ impl Segments {
         Ok(())
     }
 
-    /// Adds a character.
+    // Adds a character.
     fn add_character(&mut self, c: char, head: &Head) -> Result<(), OutOfMemory>
         ensures { OnOk result (Adds (unit_segment head.now (Character c) ∷ []) self.old self.new) }
     {
@@ -348,7 +348,7 @@ impl Segments {
         Ok(())
     }
 
-    /// Adds a marker.
+    // Adds a marker.
     fn add_marker(&mut self, ref_type: u64, head: &Head) -> Result<(), OutOfMemory>
         ensures { OnOk result (Adds (unit_segment head.now (MarkerOf ref_type) ∷ []) self.old self.new) }
     {

@@ -39,7 +39,7 @@ struct Shown {
 }
 
 impl Shown {
-    /// Nothing so far.
+    // Nothing so far.
     fn new(alloc: Global) -> Shown
         ensures text { chars (string_bytes result.text) ≡ [] }
         ensures markers { result.markers ≡ [] }
@@ -54,9 +54,9 @@ impl Shown {
         }
     }
 
-    /// Shows the elements of a leaf behind those so far.
-    ///
-    /// Returns `OutOfMemory` where there is no room for them, or they would be more than 2^64 - 1.
+    // Shows the elements of a leaf behind those so far.
+    //
+    // Returns `OutOfMemory` where there is no room for them, or they would be more than 2^64 - 1.
     fn add(&mut self, content: &TextContent, len: u64, props: &Props) -> Result<(), OutOfMemory>
         requires counted { len ≡ length (text_units content.now) }
         requires some { 1 ≤ len }
@@ -71,7 +71,7 @@ impl Shown {
     }
 }
 
-/// Adds the characters of a content.
+// Adds the characters of a content.
 fn push_text(text: &mut String, content: &TextContent) -> Result<(), OutOfMemory>
     ensures { OnOk result (chars (string_bytes text.new) ≡ chars (string_bytes text.old) ++ characters_of (text_units content.now)) }
 {
@@ -81,7 +81,7 @@ fn push_text(text: &mut String, content: &TextContent) -> Result<(), OutOfMemory
     Ok(())
 }
 
-/// Adds the marker with its place, if the content is one.
+// Adds the marker with its place, if the content is one.
 fn push_marker(markers: &mut Spots, pos: u64, content: &TextContent) -> Result<(), OutOfMemory>
     ensures { OnOk result (markers.new ≡ markers.old ++ markers_of pos (text_units content.now)) }
 {
@@ -91,8 +91,8 @@ fn push_marker(markers: &mut Spots, pos: u64, content: &TextContent) -> Result<(
     Ok(())
 }
 
-/// Adds a run of properties, if they aren't empty: it goes on with the last one where that ends where it begins and has equal
-/// properties.
+// Adds a run of properties, if they aren't empty: it goes on with the last one where that ends where it begins and has equal
+// properties.
 fn push_run(runs: &mut Vec<Run>, start: u64, end: u64, props: &Props) -> Result<(), OutOfMemory>
     ensures { OnOk result ((more : List Run) → continued runs.new.items more ≡ continued runs.old.items (with_properties start end props.now more)) }
 {
@@ -114,7 +114,7 @@ fn push_run(runs: &mut Vec<Run>, start: u64, end: u64, props: &Props) -> Result<
     begin_run(runs, start, end, props)
 }
 
-/// Adds a run behind the others.
+// Adds a run behind the others.
 fn begin_run(runs: &mut Vec<Run>, start: u64, end: u64, props: &Props) -> Result<(), OutOfMemory>
     ensures { OnOk result (runs.new.items ≡ runs.old.items ++ record { start = start; end = end; props = props.now } ∷ []) }
 {
@@ -123,7 +123,7 @@ fn begin_run(runs: &mut Vec<Run>, start: u64, end: u64, props: &Props) -> Result
     Ok(())
 }
 
-/// Whether the client sees the elements of a leaf.
+// Whether the client sees the elements of a leaf.
 fn is_seen(tree: &Tree<TextContent>, leaf: NodeId) -> bool
     requires usable { IsTrue tree.now.usable }
     requires live { IsLeafIn tree.now.leaves leaf }
@@ -132,9 +132,9 @@ fn is_seen(tree: &Tree<TextContent>, leaf: NodeId) -> bool
     seen_at(tree.leaf_element(leaf), u64::MAX)
 }
 
-/// Shows the elements of a leaf behind those so far, if the client sees them.
-///
-/// Returns `OutOfMemory` where there is no room for them, or they would be more than 2^64 - 1.
+// Shows the elements of a leaf behind those so far, if the client sees them.
+//
+// Returns `OutOfMemory` where there is no room for them, or they would be more than 2^64 - 1.
 fn add_leaf(tree: &Tree<TextContent>, leaf: NodeId, shown: &mut Shown) -> Result<(), OutOfMemory>
     requires usable { IsTrue tree.now.usable }
     requires live { IsLeafIn tree.now.leaves leaf }
@@ -148,7 +148,7 @@ fn add_leaf(tree: &Tree<TextContent>, leaf: NodeId, shown: &mut Shown) -> Result
     shown.add(tree.leaf_content(leaf), len, props)
 }
 
-/// What is shown of all elements.
+// What is shown of all elements.
 fn show_all(tree: &Tree<TextContent>) -> Result<Shown, OutOfMemory>
     requires { IsTrue tree.now.usable }
     ensures { IfOk result (λ shown. ShowsLeaves tree.now.leaves shown) }
@@ -173,7 +173,7 @@ pub(crate) fn listed<T: Drop>(alloc: Global, items: Vec<T>) -> Result<List<T>, O
     Ok(list)
 }
 
-/// Adds who inserted the elements of a leaf, if the client sees them.
+// Adds who inserted the elements of a leaf, if the client sees them.
 fn add_origin(
     tree: &Tree<TextContent>,
     leaf: NodeId,
@@ -190,7 +190,7 @@ fn add_origin(
     origins.push(tree.leaf_len(leaf), origin_of(tree.leaf_content(leaf)))
 }
 
-/// Who inserted each element that the client sees.
+// Who inserted each element that the client sees.
 fn origins_of(tree: &Tree<TextContent>) -> Result<Attribution, OutOfMemory>
     requires { IsTrue tree.now.usable }
     ensures { IfOk result (λ origins. origins ≡ origins_in tree.now.leaves) }
@@ -206,7 +206,7 @@ fn origins_of(tree: &Tree<TextContent>) -> Result<Attribution, OutOfMemory>
     Ok(origins)
 }
 
-/// Who inserted the elements of a leaf.
+// Who inserted the elements of a leaf.
 fn origin_of(content: &TextContent) -> Origin
     ensures { result ≡ origin_of content.now.by }
 {

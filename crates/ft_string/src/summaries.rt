@@ -31,7 +31,7 @@ use ft_tree::{Content, TextContent, Tree};
 use std::alloc::Global;
 use std::collections::VecDeque;
 
-/// The mark as a stamp.
+// The mark as a stamp.
 fn stamp_of(mark: Mark) -> Stamp
     ensures { result ≡ stamp_of mark }
 {
@@ -41,7 +41,7 @@ fn stamp_of(mark: Mark) -> Stamp
     }
 }
 
-/// The marks as stamps.
+// The marks as stamps.
 fn stamps_of(alloc: Global, marks: &[Mark]) -> Result<Stamps, OutOfMemory>
     ensures { IfOk result (λ stamps. stamps ≡ map stamp_of marks.now) }
 {
@@ -52,7 +52,7 @@ fn stamps_of(alloc: Global, marks: &[Mark]) -> Result<Stamps, OutOfMemory>
     Ok(stamps)
 }
 
-/// The stamps of the elements of a segment.
+// The stamps of the elements of a segment.
 fn element_of(alloc: Global, seg: &SegRec) -> Result<Element, OutOfMemory>
     ensures { IfOk result (λ e. e ≡ record { ins = stamp_of seg.now.ins; dels = map stamp_of seg.now.dels }) }
 {
@@ -63,7 +63,7 @@ fn element_of(alloc: Global, seg: &SegRec) -> Result<Element, OutOfMemory>
     })
 }
 
-/// What a segment of a summary holds, as an operation has it.
+// What a segment of a summary holds, as an operation has it.
 fn segment_of(seg: &Seg) -> Result<Segment, OutOfMemory>
     ensures { IfOk result (λ segment. segment_contents segment ≡ segment_bodies seg.now) }
 {
@@ -75,9 +75,9 @@ fn segment_of(seg: &Seg) -> Result<Segment, OutOfMemory>
     }
 }
 
-/// Puts the elements of a content at the end, with what the segment has beside its content.
-///
-/// Returns `OutOfMemory` where there is no room for them, or the number of elements would pass its limit.
+// Puts the elements of a content at the end, with what the segment has beside its content.
+//
+// Returns `OutOfMemory` where there is no room for them, or the number of elements would pass its limit.
 fn append_content(
     tree: &mut Tree<TextContent>,
     content: TextContent,
@@ -95,9 +95,9 @@ fn append_content(
     tree.append(content, &seg.props, stamps)
 }
 
-/// Puts the elements of a segment at the end.
-///
-/// Returns `OutOfMemory` where there is no room for them, or the number of elements would pass its limit.
+// Puts the elements of a segment at the end.
+//
+// Returns `OutOfMemory` where there is no room for them, or the number of elements would pass its limit.
 fn append(tree: &mut Tree<TextContent>, seg: &SegRec) -> Result<(), OutOfMemory>
     requires { IsTrue tree.old.usable }
     ensures { OnOk result (Appends (segment_elements seg.now (segment_bodies seg.now.body)) tree.old tree.new) }
@@ -109,9 +109,9 @@ fn append(tree: &mut Tree<TextContent>, seg: &SegRec) -> Result<(), OutOfMemory>
     Ok(())
 }
 
-/// Puts the elements of segments at the end.
-///
-/// Returns `OutOfMemory` where there is no room for them, or the number of elements would pass its limit.
+// Puts the elements of segments at the end.
+//
+// Returns `OutOfMemory` where there is no room for them, or the number of elements would pass its limit.
 fn append_all(tree: &mut Tree<TextContent>, segs: &[SegRec]) -> Result<(), OutOfMemory>
     requires { IsTrue tree.old.usable }
     ensures { OnOk result (Appends (summary_elements segs.now) tree.old tree.new) }
@@ -122,7 +122,7 @@ fn append_all(tree: &mut Tree<TextContent>, segs: &[SegRec]) -> Result<(), OutOf
     Ok(())
 }
 
-/// Sets a property in a set.
+// Sets a property in a set.
 fn put_copy(set: &mut PropSet, property: &(Text, ValText)) -> Result<(), OutOfMemory>
     ensures { OnOk result (set.new ≡ put_rising key_cmp (given_property property.now) set.old) }
 {
@@ -131,7 +131,7 @@ fn put_copy(set: &mut PropSet, property: &(Text, ValText)) -> Result<(), OutOfMe
     set.put(key, Some(value))
 }
 
-/// Properties as a set that makes them.
+// Properties as a set that makes them.
 fn set_of(props: &Props) -> Result<PropSet, OutOfMemory>
     ensures { IfOk result (λ set. apply [] set ≡ props.now) }
 {
@@ -143,7 +143,7 @@ fn set_of(props: &Props) -> Result<PropSet, OutOfMemory>
     Ok(set)
 }
 
-/// The ends of an interval of a summary as an operation gives them.
+// The ends of an interval of a summary as an operation gives them.
 fn given_ends(ends: Ends2) -> Ends
     ensures { result ≡ given_ends ends }
 {
@@ -153,7 +153,7 @@ fn given_ends(ends: Ends2) -> Ends
     }
 }
 
-/// The operation that adds an interval of a summary.
+// The operation that adds an interval of a summary.
 fn add_of(i: &IntervalRec) -> Result<TextOp, OutOfMemory>
     ensures { IfOk result (λ op. IsAddOf i.now op) }
 {
@@ -168,14 +168,14 @@ fn add_of(i: &IntervalRec) -> Result<TextOp, OutOfMemory>
     })
 }
 
-/// The perspective that sees all that is sequenced, and nothing else.
+// The perspective that sees all that is sequenced, and nothing else.
 fn everybody() -> Perspective
     ensures { result ≡ everybody }
 {
     Perspective { r: u64::MAX, c: 0 }
 }
 
-/// Adds an interval of a summary, where its ends fit.
+// Adds an interval of a summary, where its ends fit.
 fn add_interval(
     intervals: &mut Collections,
     tree: &mut Tree<TextContent>,
@@ -193,7 +193,7 @@ fn add_interval(
     Ok(())
 }
 
-/// The intervals of a summary, by rising names, on a tree that has no references.
+// The intervals of a summary, by rising names, on a tree that has no references.
 fn intervals_on(
     tree: &mut Tree<TextContent>,
     recs: &[IntervalRec],

@@ -120,7 +120,7 @@ impl<C: Content> Tree<C> {
         }
     }
 
-    /// Puts new elements in at a place that was found, or past the pending ones there.
+    // Puts new elements in at a place that was found, or past the pending ones there.
     fn put<G: Ledger>(
         &mut self,
         found: &Found,

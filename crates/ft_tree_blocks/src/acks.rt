@@ -30,8 +30,8 @@ pub(crate) fn is_touched_by<C: Content>(leaf: &TreeLeaf<C>, stage: u64) -> bool
     is_of_stage(&leaf.stamps.ins, stage) || leaf.is_marked_by(stage)
 }
 
-/// Acknowledges a stage in the leaf of a node under number `seq` of connection `conn`, if it has something
-/// of that stage. No lower stage has changes there.
+// Acknowledges a stage in the leaf of a node under number `seq` of connection `conn`, if it has something
+// of that stage. No lower stage has changes there.
 fn ack_at<C: Content>(
     blocks: &mut Blocks<TreeLeaf<C>>,
     alloc: Global,
@@ -59,8 +59,8 @@ fn ack_at<C: Content>(
     Ok(())
 }
 
-/// Acknowledges a stage in the leaves of these nodes under number `seq` of connection `conn`. No other leaf has
-/// anything of that stage, and no lower stage has changes.
+// Acknowledges a stage in the leaves of these nodes under number `seq` of connection `conn`. No other leaf has
+// anything of that stage, and no lower stage has changes.
 fn ack_nodes<C: Content>(
     blocks: &mut Blocks<TreeLeaf<C>>,
     alloc: Global,

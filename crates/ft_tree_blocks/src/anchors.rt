@@ -168,9 +168,9 @@ impl Anchors {
     }
 }
 
-/// Makes the flag of this number false, and room for the flags up to it.
-///
-/// Returns `OutOfMemory` where there is no room for them, and then no flag changed.
+// Makes the flag of this number false, and room for the flags up to it.
+//
+// Returns `OutOfMemory` where there is no room for them, and then no flag changed.
 fn make_pending(acked: &mut Vec<bool>, at: usize) -> Result<(), OutOfMemory>
     ensures flag { slice_index_or acked.new.items at false ≡ false }
     ensures others { (r : ℕ) → r ≢ at → slice_index_or acked.new.items r false ≡ slice_index_or acked.old.items r false }
@@ -188,7 +188,7 @@ fn make_pending(acked: &mut Vec<bool>, at: usize) -> Result<(), OutOfMemory>
     Ok(())
 }
 
-/// Puts a reference at this place, or detaches it where none is given.
+// Puts a reference at this place, or detaches it where none is given.
 fn send(refs: &mut Refs, r: RefId, to: &Option<Place>)
     requires live { IsSome (entry refs.old r) }
     requires held { ForSome to.now (λ p. IsHeld refs.old p.owner) }
@@ -203,7 +203,7 @@ fn send(refs: &mut Refs, r: RefId, to: &Option<Place>)
     }
 }
 
-/// The references of `from` whose flags are set go to this place, or are detached where none is given.
+// The references of `from` whose flags are set go to this place, or are detached where none is given.
 fn send_acked(refs: &mut Refs, acked: &[bool], from: NodeId, to: &Option<Place>)
     requires flags { (r : ℕ) → IsSome (entry refs.old r) → r < length acked.now }
     requires held { ForSome to.now (λ p. IsHeld refs.old p.owner) }

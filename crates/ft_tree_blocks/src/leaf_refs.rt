@@ -18,7 +18,7 @@ pub(crate) struct LeafRefs {
     pub(crate) unsettled: Vec<NodeId>,
 }
 
-/// Lists a leaf, if it has references.
+// Lists a leaf, if it has references.
 fn note(anchors: &Anchors, unsettled: &mut Vec<NodeId>, id: NodeId) -> Result<(), OutOfMemory>
     ensures { OnOk result (Notes anchors.now id unsettled.old.items unsettled.new.items) }
 {
@@ -28,7 +28,7 @@ fn note(anchors: &Anchors, unsettled: &mut Vec<NodeId>, id: NodeId) -> Result<()
     Ok(())
 }
 
-/// Lists each of these leaves that has references.
+// Lists each of these leaves that has references.
 fn note_all(
     anchors: &Anchors,
     unsettled: &mut Vec<NodeId>,

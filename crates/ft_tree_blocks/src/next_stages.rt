@@ -27,7 +27,7 @@ pub enum Wanted {
     Anything,
 }
 
-/// Whether the leaf has that of the stage.
+// Whether the leaf has that of the stage.
 fn has_wanted<C: Content>(leaf: &TreeLeaf<C>, stage: u64, wanted: Wanted) -> bool
     ensures { result ≡ has_wanted wanted stage leaf.now }
 {
@@ -37,7 +37,7 @@ fn has_wanted<C: Content>(leaf: &TreeLeaf<C>, stage: u64, wanted: Wanted) -> boo
     }
 }
 
-/// Whether the leaf of one of these nodes has that of the stage.
+// Whether the leaf of one of these nodes has that of the stage.
 fn is_any_wanted<C: Content>(
     blocks: &Blocks<TreeLeaf<C>>,
     nodes: &[NodeId],
@@ -56,7 +56,7 @@ fn is_any_wanted<C: Content>(
     false
 }
 
-/// Whether the list is of a higher stage, and one of its leaves has that of it.
+// Whether the list is of a higher stage, and one of its leaves has that of it.
 fn is_wanted_above<C: Content>(
     blocks: &Blocks<TreeLeaf<C>>,
     list: &StageNodes,
@@ -70,7 +70,7 @@ fn is_wanted_above<C: Content>(
     stage < list.stage() && is_any_wanted(blocks, list.nodes(), list.stage(), wanted)
 }
 
-/// The least pending stage above this one of which a leaf has that.
+// The least pending stage above this one of which a leaf has that.
 fn next_wanted_in<C: Content>(
     blocks: &Blocks<TreeLeaf<C>>,
     touched: &VecDeque<StageNodes>,

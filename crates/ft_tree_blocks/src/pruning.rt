@@ -16,7 +16,7 @@ use ft_tree_leaves::{Content, TreeLeaf};
 use std::alloc::Global;
 use std::collections::VecDeque;
 
-/// Those of the nodes whose leaf has something of the stage.
+// Those of the nodes whose leaf has something of the stage.
 fn touched_of<C: Content>(
     blocks: &Blocks<TreeLeaf<C>>,
     alloc: Global,
@@ -36,7 +36,7 @@ fn touched_of<C: Content>(
     Ok(touched)
 }
 
-/// Takes the nodes off a list whose leaf has nothing of its stage.
+// Takes the nodes off a list whose leaf has nothing of its stage.
 fn prune_list<C: Content>(
     blocks: &Blocks<TreeLeaf<C>>,
     list: &mut StageNodes,
@@ -51,7 +51,7 @@ fn prune_list<C: Content>(
     Ok(())
 }
 
-/// The same of each list of a slice.
+// The same of each list of a slice.
 fn prune_each<C: Content>(
     blocks: &Blocks<TreeLeaf<C>>,
     touched: &mut [StageNodes],
@@ -67,7 +67,7 @@ fn prune_each<C: Content>(
     Ok(())
 }
 
-/// Takes the nodes off all lists whose leaf has nothing of the list's stage.
+// Takes the nodes off all lists whose leaf has nothing of the list's stage.
 fn prune_all<C: Content>(
     blocks: &Blocks<TreeLeaf<C>>,
     touched: &mut VecDeque<StageNodes>,

@@ -76,7 +76,7 @@ pub fn last_standing<C: Content>(
     None
 }
 
-/// The last element of a leaf.
+// The last element of a leaf.
 fn last_of<C: Content>(blocks: &Blocks<TreeLeaf<C>>, leaf: NodeId) -> Place
     requires usable { IsTrue blocks.now.usable }
     requires live { IsLeafIn blocks.now.leaves leaf }

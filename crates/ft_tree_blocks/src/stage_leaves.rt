@@ -16,7 +16,7 @@ use ft_tree_leaves::{Content, TreeLeaf};
 use std::alloc::Global;
 use std::collections::VecDeque;
 
-/// Those of the nodes whose leaf has something of the stage, each with how many elements stand left of it.
+// Those of the nodes whose leaf has something of the stage, each with how many elements stand left of it.
 fn touched_places<C: Content>(
     blocks: &Blocks<TreeLeaf<C>>,
     alloc: Global,
@@ -36,7 +36,7 @@ fn touched_places<C: Content>(
     Ok(places)
 }
 
-/// Whether the node is the given one.
+// Whether the node is the given one.
 fn is_given_node(given: &Option<NodeId>, id: NodeId) -> bool
     ensures { result ≡ is_given_node given.now id }
 {
@@ -46,7 +46,7 @@ fn is_given_node(given: &Option<NodeId>, id: NodeId) -> bool
     }
 }
 
-/// The nodes of these, of equal neighbours the first alone.
+// The nodes of these, of equal neighbours the first alone.
 fn unrepeated(alloc: Global, places: &[(u64, NodeId)]) -> Result<Vec<NodeId>, OutOfMemory>
     ensures { IfOk result (λ v. v.items ≡ unrepeated None (map (λ p. p.1) places.now)) }
 {

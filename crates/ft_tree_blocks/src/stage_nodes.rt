@@ -61,7 +61,7 @@ impl StageNodes {
         !self.nodes.is_empty()
     }
 
-    /// Whether the node is one of them.
+    // Whether the node is one of them.
     fn holds(&self, id: NodeId) -> bool
         ensures { result ≡ holds self.now.nodes id }
     {

@@ -20,7 +20,7 @@ pub(crate) fn place_of(touched: &VecDeque<StageNodes>, stage: u64) -> usize
     touched.partition_point(|list| list.stage() < stage)
 }
 
-/// Whether the list at a place is of this stage.
+// Whether the list at a place is of this stage.
 fn is_at(touched: &VecDeque<StageNodes>, i: usize, stage: u64) -> bool
     ensures { result ≡ is_list_of stage (slice_get touched.now.items i) }
 {
@@ -49,14 +49,14 @@ pub(crate) fn note(
     Ok(())
 }
 
-/// Whether the insertion or a removal is pending, of that stage.
+// Whether the insertion or a removal is pending, of that stage.
 fn is_stamped_by(e: &Element, stage: u64) -> bool
     ensures { result ≡ is_stamped_by stage e.now }
 {
     is_of_stage(&e.ins, stage) || has_stage(e.dels.as_slice(), stage)
 }
 
-/// Lists a node for the stage of a stamp, if that is pending and the old stamps have none of that stage.
+// Lists a node for the stage of a stamp, if that is pending and the old stamps have none of that stage.
 fn note_stamp(
     touched: &mut VecDeque<StageNodes>,
     old: &Element,
@@ -76,7 +76,7 @@ fn note_stamp(
     note(touched, *stage, id)
 }
 
-/// The same for each of some stamps.
+// The same for each of some stamps.
 fn note_each(
     touched: &mut VecDeque<StageNodes>,
     old: &Element,
@@ -119,7 +119,7 @@ pub(crate) fn note_heir(
     add_heirs(touched.make_contiguous(), front, rear)
 }
 
-/// The same in a slice.
+// The same in a slice.
 fn add_heirs(touched: &mut [StageNodes], front: NodeId, rear: NodeId) -> Result<(), OutOfMemory>
     ensures { OnOk result (touched.new ≡ map (with_heir front rear) touched.old) }
 {
@@ -137,14 +137,14 @@ pub(crate) fn purge(touched: &mut VecDeque<StageNodes>, id: NodeId)
     touched.retain(|list| list.is_some());
 }
 
-/// Takes a node off all lists.
+// Takes a node off all lists.
 fn purge_all(touched: &mut VecDeque<StageNodes>, id: NodeId)
     ensures { touched.new.items ≡ map (purged id) touched.old.items }
 {
     purge_each(touched.make_contiguous(), id);
 }
 
-/// The same in a slice.
+// The same in a slice.
 fn purge_each(touched: &mut [StageNodes], id: NodeId)
     ensures { touched.new ≡ map (purged id) touched.old }
 {

@@ -43,21 +43,21 @@ pub(crate) fn insert_in<C: Content + Drop>(
     Ok(id)
 }
 
-/// Whether the stamp is pending.
+// Whether the stamp is pending.
 fn is_pending(stamp: &Stamp) -> bool
     ensures { result ≡ not (is_acked stamp.now) }
 {
     matches!(stamp, Stamp::Local { .. })
 }
 
-/// Whether one of the stamps is pending.
+// Whether one of the stamps is pending.
 fn is_any_pending(stamps: &[Stamp]) -> bool
     ensures { result ≡ list_any (λ stamp. not (is_acked stamp)) stamps.now }
 {
     stamps.iter().any(|stamp| is_pending(stamp))
 }
 
-/// Whether the insertion, a removal or a change of the leaf is pending.
+// Whether the insertion, a removal or a change of the leaf is pending.
 fn has_pending<C: Content>(leaf: &TreeLeaf<C>) -> bool
     ensures { result ≡ false → (k : ℕ) → is_touched_by k leaf.now ≡ false }
 {
@@ -67,8 +67,8 @@ fn has_pending<C: Content>(leaf: &TreeLeaf<C>) -> bool
     leaf.overlay.has_pending()
 }
 
-/// Lists the rear of a leaf that was cut for each stage for which its front is listed, if anything is pending
-/// on it.
+// Lists the rear of a leaf that was cut for each stage for which its front is listed, if anything is pending
+// on it.
 fn note_rear<C: Content>(
     touched: &mut VecDeque<StageNodes>,
     leaf: &TreeLeaf<C>,
@@ -130,7 +130,7 @@ pub(crate) fn set_stamps_in<C: Content>(
     blocks.set_stamps(id, e)
 }
 
-/// Lists a node for the stage of the changes that it gets, if it gets any.
+// Lists a node for the stage of the changes that it gets, if it gets any.
 fn note_change(
     touched: &mut VecDeque<StageNodes>,
     c: &LeafChange,
@@ -187,7 +187,7 @@ pub(crate) fn take_in<C: Content>(
     blocks.take(id)
 }
 
-/// Takes a node off all lists, if one is given.
+// Takes a node off all lists, if one is given.
 fn purge_given(touched: &mut VecDeque<StageNodes>, id: Option<NodeId>)
     ensures { touched.new.items ≡ purged_at id touched.old.items }
 {

@@ -92,7 +92,7 @@ impl<C: Content> TreeLeaf<C> {
         has_stage(self.stamps.dels.as_slice(), stage) || self.overlay.has(stage)
     }
 
-    /// Whether its insertion is at or below the floor, nobody has removed it, and nothing is pending on it.
+    // Whether its insertion is at or below the floor, nobody has removed it, and nothing is pending on it.
     fn is_bare(&self, floor: u64) -> bool
         ensures { IsTrue result ↔ IsBare floor self.now }
     {

@@ -50,7 +50,7 @@ pub(crate) fn acked_all(
     Ok(sequenced)
 }
 
-/// Adds the stamps at the end.
+// Adds the stamps at the end.
 fn push_all(stamps: &mut Stamps, more: &[Stamp]) -> Result<(), OutOfMemory>
     ensures { OnOk result (stamps.new ≡ stamps.old ++ more.now) }
 {
@@ -90,7 +90,7 @@ pub(crate) fn sequenced_only(alloc: Global, stamps: &[Stamp]) -> Result<Stamps, 
     Ok(sequenced)
 }
 
-/// How many sequenced stamps stand at the front.
+// How many sequenced stamps stand at the front.
 fn sequenced_count(stamps: &[Stamp]) -> usize
     ensures count { result ≡ prefix_len is_acked stamps.now }
     ensures inside { result ≤ length stamps.now }

@@ -179,7 +179,7 @@ impl Content for TextContent {
     ghost stamped_by = { λ x s c. refl };
 }
 
-/// Whether both insertions have the same author, or both are pending.
+// Whether both insertions have the same author, or both are pending.
 fn is_same_author(mine: Option<Stamp>, theirs: Option<Stamp>) -> bool
     ensures { result ≡ same_author mine theirs }
 {

@@ -99,14 +99,14 @@ impl TextRun {
     }
 }
 
-/// How many characters the text has.
+// How many characters the text has.
 fn char_count(text: &str) -> u64
     ensures { result ≡ length (chars text.now) }
 {
     text.chars().count() as u64
 }
 
-/// How many bytes the first `at` characters take.
+// How many bytes the first `at` characters take.
 fn byte_place(text: &str, at: u64) -> usize
     requires { at ≤ length (chars text.now) }
     ensures boundary { IsCharBoundary text.now result }

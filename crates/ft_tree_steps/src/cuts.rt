@@ -87,7 +87,7 @@ pub fn behind_run<C: Content, G: Ledger>(
     }
 }
 
-/// The leaf behind which an insertion goes that passes the leaves with a pending one at the place.
+// The leaf behind which an insertion goes that passes the leaves with a pending one at the place.
 fn behind_pending<C: Content, G: Ledger>(
     blocks: &Blocks<TreeLeaf<C>>,
     at: Option<NodeId>,
@@ -119,8 +119,8 @@ fn behind_pending<C: Content, G: Ledger>(
     end
 }
 
-/// Puts a leaf in behind a place where a leaf ends, or past the leaves with a pending insertion that stand
-/// there.
+// Puts a leaf in behind a place where a leaf ends, or past the leaves with a pending insertion that stand
+// there.
 fn put_past<C: Content + Drop, G: Ledger>(
     blocks: &mut LeafBlocks<C>,
     at: Option<NodeId>,
@@ -152,7 +152,7 @@ fn put_past<C: Content + Drop, G: Ledger>(
     Ok(())
 }
 
-/// A leaf of new elements, which nobody has removed or changed.
+// A leaf of new elements, which nobody has removed or changed.
 fn new_leaf<C: Content + Drop>(
     alloc: Global,
     content: C,

@@ -10,7 +10,7 @@ use ft_block::{Blocks, Found, LenView};
 use ft_tree_leaves::{Content, TreeLeaf};
 use std::sync::ledger::{Blank, Ledger};
 
-/// The place of the `p`-th element that the perspective sees.
+// The place of the `p`-th element that the perspective sees.
 fn find_at<C: Content, G: Ledger>(
     blocks: &Blocks<TreeLeaf<C>>,
     p: u64,
@@ -27,7 +27,7 @@ fn find_at<C: Content, G: Ledger>(
     }
 }
 
-/// The place of the `p`-th element of the local view.
+// The place of the `p`-th element of the local view.
 fn find_last<C: Content, G: Ledger>(
     blocks: &Blocks<TreeLeaf<C>>,
     p: u64,
@@ -42,7 +42,7 @@ fn find_last<C: Content, G: Ledger>(
     }
 }
 
-/// The place of the `p`-th element that the pending stage sees.
+// The place of the `p`-th element that the pending stage sees.
 fn find_of_stage<C: Content>(blocks: &Blocks<TreeLeaf<C>>, p: u64, stage: u64) -> Option<Found>
     requires { IsTrue blocks.now.usable }
     ensures { result ≡ place_by (leaf_length C.units (Stage stage)) blocks.now.leaves p }
@@ -53,7 +53,7 @@ fn find_of_stage<C: Content>(blocks: &Blocks<TreeLeaf<C>>, p: u64, stage: u64) -
     }
 }
 
-/// The place of the `p`-th of all elements.
+// The place of the `p`-th of all elements.
 fn find_of_all<C: Content, G: Ledger>(
     blocks: &Blocks<TreeLeaf<C>>,
     p: u64,
@@ -68,7 +68,7 @@ fn find_of_all<C: Content, G: Ledger>(
     }
 }
 
-/// The place of the `p`-th element whose first removal is sequenced.
+// The place of the `p`-th element whose first removal is sequenced.
 fn find_of_removed<C: Content, G: Ledger>(
     blocks: &Blocks<TreeLeaf<C>>,
     p: u64,

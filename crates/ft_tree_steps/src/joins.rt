@@ -14,15 +14,15 @@ use ft_tree_leaves::block_leaf::universal;
 use ft_tree_leaves::{Content, TreeLeaf};
 use std::alloc::Global;
 
-/// Whether the insertion is the one that everybody sees.
+// Whether the insertion is the one that everybody sees.
 fn is_universal(stamp: &Stamp) -> bool
     ensures { result ≡ true → stamp.now ≡ Acked 0 0 }
 {
     matches!(stamp, Stamp::Acked { seq: 0, conn: 0 })
 }
 
-/// Makes the insertion of a leaf that nobody has removed the one that everybody sees. Where it is that already, nothing is
-/// written.
+// Makes the insertion of a leaf that nobody has removed the one that everybody sees. Where it is that already, nothing is
+// written.
 fn make_universal<C: Content>(
     blocks: &mut LeafBlocks<C>,
     alloc: Global,

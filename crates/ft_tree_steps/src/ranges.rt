@@ -30,7 +30,7 @@ pub enum RangeEdit {
     Change(LeafChange),
 }
 
-/// Makes the edit of the leaf of a node, if the view sees it.
+// Makes the edit of the leaf of a node, if the view sees it.
 fn edit_seen<C: Content>(
     blocks: &mut LeafBlocks<C>,
     alloc: Global,
@@ -61,8 +61,8 @@ fn edit_seen<C: Content>(
     }
 }
 
-/// Cuts the leaf of a node behind the first `left` elements that the view sees, if it sees more of it, and
-/// returns how many it sees of the leaf then.
+// Cuts the leaf of a node behind the first `left` elements that the view sees, if it sees more of it, and
+// returns how many it sees of the leaf then.
 fn cut_seen<C: Content>(
     blocks: &mut LeafBlocks<C>,
     id: NodeId,
@@ -87,8 +87,8 @@ fn cut_seen<C: Content>(
     Ok(left)
 }
 
-/// Makes the edit of the leaf of a node up to the first `left` elements that the view sees, and returns how
-/// many these were.
+// Makes the edit of the leaf of a node up to the first `left` elements that the view sees, and returns how
+// many these were.
 fn edit_first<C: Content>(
     blocks: &mut LeafBlocks<C>,
     alloc: Global,

@@ -8,7 +8,7 @@ use ft_block::Blocks;
 use ft_tree_leaves::{Content, TreeLeaf};
 use std::alloc::Global;
 
-/// Adds copies of the stamps at the end.
+// Adds copies of the stamps at the end.
 fn push_copies(items: &mut Vec<Element>, e: &Element, n: u64) -> Result<(), OutOfMemory>
     ensures { OnOk result (items.new.items ≡ items.old.items ++ replicate n e.now) }
 {

@@ -57,9 +57,9 @@ pub fn scour<C: Content + Drop>(
     Ok((taken.len() - before) as u64)
 }
 
-/// Looks at `budget` leaves or all, as `scour` does.
-///
-/// Returns `OutOfMemory` where there is no room for what is kept, and then the tree may be used no more.
+// Looks at `budget` leaves or all, as `scour` does.
+//
+// Returns `OutOfMemory` where there is no room for what is kept, and then the tree may be used no more.
 fn sweep_round<C: Content + Drop>(
     tree: &mut Tree<C>,
     budget: u64,
@@ -79,7 +79,7 @@ fn sweep_round<C: Content + Drop>(
     }
 }
 
-/// Looks at `budget` leaves or all: at those from the place of the sweep on, and then at those from the head on.
+// Looks at `budget` leaves or all: at those from the place of the sweep on, and then at those from the head on.
 fn sweep_ahead_and_around<C: Content + Drop>(
     tree: &mut Tree<C>,
     budget: u64,
@@ -100,7 +100,7 @@ fn sweep_ahead_and_around<C: Content + Drop>(
     Ok(())
 }
 
-/// The leaf at which the sweep begins: that of its place, or the first.
+// The leaf at which the sweep begins: that of its place, or the first.
 fn start<C: Content>(tree: &Tree<C>) -> Option<NodeId>
     requires { IsTrue tree.now.usable }
     ensures value { result ≡ start tree.now.leaves tree.now.sweep }
@@ -113,7 +113,7 @@ fn start<C: Content>(tree: &Tree<C>) -> Option<NodeId>
     }
 }
 
-/// Where the next sweep begins: where the way ahead came, if it used up the budget, and else where the way around came.
+// Where the next sweep begins: where the way ahead came, if it used up the budget, and else where the way around came.
 fn next_start(ahead: &Reached, around: &Reached) -> Option<NodeId>
     ensures { result ≡ next_start ahead.now around.now }
 {
@@ -159,9 +159,9 @@ pub fn scour_all<C: Content + Drop>(
     Ok((taken.len() - before) as u64)
 }
 
-/// Looks at all leaves, as `scour_all` does.
-///
-/// Returns `OutOfMemory` where there is no room for what is kept, and then the tree may be used no more.
+// Looks at all leaves, as `scour_all` does.
+//
+// Returns `OutOfMemory` where there is no room for what is kept, and then the tree may be used no more.
 fn collect_all<C: Content + Drop>(tree: &mut Tree<C>, taken: &mut Vec<C>) -> Result<(), OutOfMemory>
     requires usable { IsTrue tree.old.usable }
     requires clear { AreClear tree.old.floor (elements C.units C.by tree.old.leaves) tree.old.refs }

@@ -11,8 +11,8 @@ use ft_arena::NodeId;
 use ft_base::OutOfMemory;
 use ft_tree::{Content, Tree};
 
-/// The first leaf with a sequenced removal behind those that have `passed` elements with one: None exactly where no more
-/// have one.
+// The first leaf with a sequenced removal behind those that have `passed` elements with one: None exactly where no more
+// have one.
 fn next_removed<C: Content>(tree: &Tree<C>, passed: u64) -> Option<NodeId>
     requires usable { IsTrue tree.now.usable }
     requires within { passed ≤ length (elements C.units C.by tree.now.leaves) }
@@ -32,7 +32,7 @@ fn next_removed<C: Content>(tree: &Tree<C>, passed: u64) -> Option<NodeId>
     }
 }
 
-/// How many elements of a leaf are to be passed: all, if it was kept.
+// How many elements of a leaf are to be passed: all, if it was kept.
 fn length_kept(kept: &Option<NodeId>, len: u64) -> u64
     ensures { result ≡ length_kept kept.now len }
 {

@@ -18,7 +18,7 @@ pub(crate) struct Reached {
     pub left: u64,
 }
 
-/// Whether the first removal is at or below the floor.
+// Whether the first removal is at or below the floor.
 fn is_collectable(e: &Element, floor: u64) -> bool
     ensures { result ≡ is_collectable floor e.now }
 {
@@ -28,7 +28,7 @@ fn is_collectable(e: &Element, floor: u64) -> bool
     }
 }
 
-/// A place, or None where it is that of the end.
+// A place, or None where it is that of the end.
 fn short_of(place: Option<NodeId>, end: &Option<NodeId>) -> Option<NodeId>
     ensures { result ≡ short_of place end.now }
 {

@@ -40,7 +40,7 @@ impl TreeOwn {
         Ok(())
     }
 
-    /// Acknowledges these stages, which are the lowest, and all of the text or all of the grid.
+    // Acknowledges these stages, which are the lowest, and all of the text or all of the grid.
     fn ack_own(&mut self, own: &[OwnStage], entry: &Entry) -> Result<(), OutOfMemory>
         requires text_usable { self.old.text.usable ≡ true }
         requires table_usable { self.old.table.usable ≡ true }
@@ -60,7 +60,7 @@ impl TreeOwn {
     }
 }
 
-/// The number of the last stage, or else 0.
+// The number of the last stage, or else 0.
 fn last_number(stages: &[OwnStage]) -> u64
     ensures { result ≡ last_from 0 stages.now }
 {
@@ -70,7 +70,7 @@ fn last_number(stages: &[OwnStage]) -> u64
     }
 }
 
-/// Takes the first `count` stages off.
+// Takes the first `count` stages off.
 fn take_front(
     alloc: Global,
     stages: &mut VecDeque<OwnStage>,
@@ -87,15 +87,15 @@ fn take_front(
     Ok(own)
 }
 
-/// Whether all stages are of the text.
+// Whether all stages are of the text.
 fn are_of_text(stages: &[OwnStage]) -> bool
     ensures { result ≡ list_all (λ t. is_text_part t.part) stages.now }
 {
     stages.iter().all(|t| t.part != Part::Grid)
 }
 
-/// Acknowledges stages of the table, which are the lowest, under number `seq` of connection `conn`: in one call where their numbers
-/// follow one another, as they do but for those of an edit that lost some in a reconnection.
+// Acknowledges stages of the table, which are the lowest, under number `seq` of connection `conn`: in one call where their numbers
+// follow one another, as they do but for those of an edit that lost some in a reconnection.
 fn ack_table(
     table: &mut SharedMatrix,
     own: &[OwnStage],
@@ -117,7 +117,7 @@ fn ack_table(
     ack_each(table, own, seq, conn)
 }
 
-/// The same stage by stage.
+// The same stage by stage.
 fn ack_each(
     table: &mut SharedMatrix,
     own: &[OwnStage],
@@ -137,7 +137,7 @@ fn ack_each(
     Ok(())
 }
 
-/// Acknowledges a stage of the table, which is the lowest.
+// Acknowledges a stage of the table, which is the lowest.
 fn ack_one(
     table: &mut SharedMatrix,
     stage: &OwnStage,

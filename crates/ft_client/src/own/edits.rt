@@ -91,7 +91,7 @@ impl TreeOwn {
     }
 }
 
-/// The part that an operation on the text is on.
+// The part that an operation on the text is on.
 fn text_part(op: &TextOp) -> Part
     ensures { result ≡ text_part op.now }
 {
@@ -103,9 +103,9 @@ fn text_part(op: &TextOp) -> Part
     }
 }
 
-/// How many rows, or columns, an operation puts in.
-///
-/// Returns `OutOfMemory` where they are more than 2^64 - 1.
+// How many rows, or columns, an operation puts in.
+//
+// Returns `OutOfMemory` where they are more than 2^64 - 1.
 #[tactic(auto, using(crate::proofs::Noted::units_group))]
 fn units_of(target: Target, op: &GridOp) -> Result<u64, OutOfMemory>
     ensures { IfOk result (λ n. n ≡ units_of target (sub_operations (Grid op.now))) }
@@ -116,9 +116,9 @@ fn units_of(target: Target, op: &GridOp) -> Result<u64, OutOfMemory>
     }
 }
 
-/// How many rows, or columns, operations put in.
-///
-/// Returns `OutOfMemory` where they are more than 2^64 - 1.
+// How many rows, or columns, operations put in.
+//
+// Returns `OutOfMemory` where they are more than 2^64 - 1.
 fn units_by_all(target: Target, ops: &[CellOp]) -> Result<u64, OutOfMemory>
     ensures { IfOk result (λ n. n ≡ units_by_all target ops.now) }
 {
@@ -129,7 +129,7 @@ fn units_by_all(target: Target, ops: &[CellOp]) -> Result<u64, OutOfMemory>
     Ok(count)
 }
 
-/// How many rows, or columns, an operation puts in.
+// How many rows, or columns, an operation puts in.
 fn units_by(target: Target, op: &CellOp) -> u64
     ensures { result ≡ units_by target op.now }
 {
@@ -154,9 +154,9 @@ fn units_by(target: Target, op: &CellOp) -> u64
     }
 }
 
-/// Notes stages of one part behind the others, from a number on that is no higher than the next one, and returns how many they are.
-///
-/// Returns `OutOfMemory` where there is no room for them, or their numbers would pass 2^64 - 1.
+// Notes stages of one part behind the others, from a number on that is no higher than the next one, and returns how many they are.
+//
+// Returns `OutOfMemory` where there is no room for them, or their numbers would pass 2^64 - 1.
 fn note(
     stages: &mut VecDeque<OwnStage>,
     numbers: &mut TreeNumbers,
@@ -177,7 +177,7 @@ fn note(
     Ok(count as usize)
 }
 
-/// Adds stages of one part behind the others.
+// Adds stages of one part behind the others.
 #[tactic(auto, using(crate::proofs::Noted::stages_more))]
 fn push_stages(
     stages: &mut VecDeque<OwnStage>,

@@ -39,7 +39,7 @@ impl TreeOwn {
         Ok(())
     }
 
-    /// The same, but that the numbers of the last message stay.
+    // The same, but that the numbers of the last message stay.
     fn take_body<G: Ledger>(&mut self, entry: &Entry, blank: Blank) -> Result<(), OutOfMemory>
         requires name { blank.name ≡ G.name }
         requires parts { blank.parts ≡ G.parts }
@@ -62,9 +62,9 @@ impl TreeOwn {
         }
     }
 
-    /// Applies an operation under number `seq`.
-    ///
-    /// Returns `OutOfMemory` where there is no room, or a count would pass its greatest number.
+    // Applies an operation under number `seq`.
+    //
+    // Returns `OutOfMemory` where there is no room, or a count would pass its greatest number.
     fn apply<G: Ledger>(
         &mut self,
         op: &ChannelOp,
@@ -86,9 +86,9 @@ impl TreeOwn {
         }
     }
 
-    /// Applies an operation of the table under number `seq`.
-    ///
-    /// Returns `OutOfMemory` where there is no room, or a count would pass its greatest number.
+    // Applies an operation of the table under number `seq`.
+    //
+    // Returns `OutOfMemory` where there is no room, or a count would pass its greatest number.
     fn apply_grid<G: Ledger>(
         &mut self,
         op: &GridOp,
@@ -111,7 +111,7 @@ impl TreeOwn {
     }
 }
 
-/// How many more the second number is than the first, which is no greater.
+// How many more the second number is than the first, which is no greater.
 fn more(before: u64, after: u64) -> u64
     requires { before ≤ after }
     ensures { after ≡ before + result }
@@ -119,7 +119,7 @@ fn more(before: u64, after: u64) -> u64
     after - before
 }
 
-/// The reference number of a message as a count: nothing is known to one below 0.
+// The reference number of a message as a count: nothing is known to one below 0.
 fn reference_number(msg: &Message) -> u64
     ensures { result ≡ reference_number msg.now.ref_seq }
 {

@@ -44,7 +44,7 @@ impl TreeOwn {
         Ok(again)
     }
 
-    /// Gives the next edits, which have so many stages each, and returns as what they are sent again.
+    // Gives the next edits, which have so many stages each, and returns as what they are sent again.
     fn give_edits(&mut self, counts: &[usize]) -> Result<VecDeque<Resent>, OutOfMemory>
         requires known { GivesEdits self.old counts.now }
         ensures { (low last : ℕ) (doc : Document) (edits : List (List Stage)) → map (λ stages. length stages) edits ≡ counts.now
@@ -59,7 +59,7 @@ impl TreeOwn {
         Ok(again)
     }
 
-    /// Gives the next edit, which has so many stages, and returns as what it is sent again.
+    // Gives the next edit, which has so many stages, and returns as what it is sent again.
     fn give_edit(&mut self, count: usize) -> Result<Resent, OutOfMemory>
         requires known { GivesSome self.old count }
         ensures { (low last : ℕ) (doc : Document) (front mine rest : List Stage) → length mine ≡ count → are_of_one_edit (map own_stage mine) ≡ true
@@ -75,7 +75,7 @@ impl TreeOwn {
         Ok(again)
     }
 
-    /// Gives the next stage of an edit that is sent again as this so far.
+    // Gives the next stage of an edit that is sent again as this so far.
     fn give_more(&mut self, again: Resent) -> Result<Resent, OutOfMemory>
         requires known { GivesNext self.old again }
         ensures { (low last : ℕ) (doc : Document) (front mine : List Stage) (t : Stage) (rest : List Stage) → are_of_one_edit (map own_stage (mine ++ t ∷ [])) ≡ true
@@ -86,7 +86,7 @@ impl TreeOwn {
         Ok(again)
     }
 
-    /// Gives the next stage, and returns its pieces as one operation: None where it has none, and then it is gone.
+    // Gives the next stage, and returns its pieces as one operation: None where it has none, and then it is gone.
     fn give_stage(&mut self) -> Result<Option<ChannelOp>, OutOfMemory>
         requires known { GivesSome self.old 1 }
         ensures { (low last : ℕ) (doc : Document) (front : List Stage) (t : Stage) (rest : List Stage) → GivesTree self.old low last doc front (t ∷ rest)
@@ -98,7 +98,7 @@ impl TreeOwn {
         Ok(op)
     }
 
-    /// Gives this stage to its part, and returns its pieces as one operation.
+    // Gives this stage to its part, and returns its pieces as one operation.
     fn give_part(&mut self, stage: OwnStage) -> Result<Option<ChannelOp>, OutOfMemory>
         requires known { GivesFirst self.old stage }
         ensures { IfOk result (λ op. GivesPart stage op self.old self.new) }
@@ -124,7 +124,7 @@ pub(crate) fn take_next(stages: &mut VecDeque<OwnStage>) -> OwnStage
     }
 }
 
-/// Puts a stage that goes on behind the others.
+// Puts a stage that goes on behind the others.
 fn put_behind(
     stages: &mut VecDeque<OwnStage>,
     stage: OwnStage,
@@ -139,7 +139,7 @@ fn put_behind(
     Ok(())
 }
 
-/// Whether this part is one of the text.
+// Whether this part is one of the text.
 fn is_of_text(part: Part) -> bool
     ensures { result ≡ is_text_part part }
 {
@@ -149,7 +149,7 @@ fn is_of_text(part: Part) -> bool
     }
 }
 
-/// An operation on the text, if there is one.
+// An operation on the text, if there is one.
 fn text_again(op: Option<TextOp>) -> Option<ChannelOp>
     ensures { result ≡ option_map Text op }
 {
@@ -159,7 +159,7 @@ fn text_again(op: Option<TextOp>) -> Option<ChannelOp>
     }
 }
 
-/// An operation on the grid, if there is one.
+// An operation on the grid, if there is one.
 fn grid_again(op: Option<GridOp>) -> Option<ChannelOp>
     ensures { result ≡ option_map Grid op }
 {
@@ -169,7 +169,7 @@ fn grid_again(op: Option<GridOp>) -> Option<ChannelOp>
     }
 }
 
-/// The edit with the pieces of one stage more, if it has some. They are of the part of the others.
+// The edit with the pieces of one stage more, if it has some. They are of the part of the others.
 fn with_pieces(alloc: Global, again: Resent, op: Option<ChannelOp>) -> Result<Resent, OutOfMemory>
     requires few { again.stages + 1 < 2 ^ 64 }
     requires one { (first more : ChannelOp) → again.op ≡ Some first → op ≡ Some more → are_of_one_part first more ≡ true }
@@ -189,7 +189,7 @@ fn with_pieces(alloc: Global, again: Resent, op: Option<ChannelOp>) -> Result<Re
     })
 }
 
-/// Both operations, which are of one part, as one.
+// Both operations, which are of one part, as one.
 fn join(alloc: Global, first: ChannelOp, second: ChannelOp) -> Result<ChannelOp, OutOfMemory>
     requires { are_of_one_part first second ≡ true }
     ensures { IfOk result (λ op. Joins first second op) }
@@ -211,7 +211,7 @@ fn join(alloc: Global, first: ChannelOp, second: ChannelOp) -> Result<ChannelOp,
     }
 }
 
-/// The members of an operation on the elements of the text. A group is handed on as it is.
+// The members of an operation on the elements of the text. A group is handed on as it is.
 fn base_ops(alloc: Global, op: TextOp) -> Result<BaseOps, OutOfMemory>
     ensures { IfOk result (λ ops. ops ≡ base_ops op) }
 {
@@ -228,7 +228,7 @@ fn base_ops(alloc: Global, op: TextOp) -> Result<BaseOps, OutOfMemory>
     }
 }
 
-/// The members of an operation on the grid. A group is handed on as it is.
+// The members of an operation on the grid. A group is handed on as it is.
 fn cell_ops(alloc: Global, op: GridOp) -> Result<CellOps, OutOfMemory>
     ensures { IfOk result (λ ops. ops ≡ cell_ops op) }
 {
@@ -242,7 +242,7 @@ fn cell_ops(alloc: Global, op: GridOp) -> Result<CellOps, OutOfMemory>
     }
 }
 
-/// Adds the members of an operation on the elements of the text.
+// Adds the members of an operation on the elements of the text.
 fn push_base_ops(ops: &mut BaseOps, op: TextOp) -> Result<(), OutOfMemory>
     ensures { OnOk result (ops.new ≡ ops.old ++ base_ops op) }
 {
@@ -255,7 +255,7 @@ fn push_base_ops(ops: &mut BaseOps, op: TextOp) -> Result<(), OutOfMemory>
     }
 }
 
-/// Adds copies of these.
+// Adds copies of these.
 fn push_each_base(ops: &mut BaseOps, more: &[BaseOp]) -> Result<(), OutOfMemory>
     ensures { OnOk result (ops.new ≡ ops.old ++ more.now) }
 {
@@ -266,7 +266,7 @@ fn push_each_base(ops: &mut BaseOps, more: &[BaseOp]) -> Result<(), OutOfMemory>
     Ok(())
 }
 
-/// Adds the members of an operation on the grid.
+// Adds the members of an operation on the grid.
 fn push_cell_ops(ops: &mut CellOps, op: GridOp) -> Result<(), OutOfMemory>
     ensures { OnOk result (ops.new ≡ ops.old ++ cell_ops op) }
 {
@@ -276,7 +276,7 @@ fn push_cell_ops(ops: &mut CellOps, op: GridOp) -> Result<(), OutOfMemory>
     }
 }
 
-/// Adds copies of these.
+// Adds copies of these.
 fn push_each_cell(ops: &mut CellOps, more: &[CellOp]) -> Result<(), OutOfMemory>
     ensures { OnOk result (ops.new ≡ ops.old ++ more.now) }
 {

@@ -53,7 +53,7 @@ impl TreeOwn {
         Ok(sum)
     }
 
-    /// A summary with the numbers of the document and these names of connections, and with nothing else.
+    // A summary with the numbers of the document and these names of connections, and with nothing else.
     fn bare_summary(&self, conns: Texts) -> SumDoc
         ensures { result ≡ bare_summary self.now.numbers conns }
     {
@@ -73,7 +73,7 @@ impl TreeOwn {
     }
 }
 
-/// Whether a summary may tell its numbers, and have as many elements and units.
+// Whether a summary may tell its numbers, and have as many elements and units.
 fn is_short(sum: &SumDoc) -> bool
     ensures { IsTrue result → IsShortSummary sum.now }
 {
@@ -85,7 +85,7 @@ fn is_short(sum: &SumDoc) -> bool
         && are_few_units(sum.cols.as_slice())
 }
 
-/// Whether a summary may have so many elements.
+// Whether a summary may have so many elements.
 fn are_few_elements(segs: &[SegRec]) -> bool
     ensures { IsTrue result → text_length segs.now < 2 ^ 53 }
 {
@@ -95,9 +95,9 @@ fn are_few_elements(segs: &[SegRec]) -> bool
     }
 }
 
-/// How many elements there are.
-///
-/// Returns `OutOfMemory` where they are more than 2^64 - 1.
+// How many elements there are.
+//
+// Returns `OutOfMemory` where they are more than 2^64 - 1.
 fn text_length(segs: &[SegRec]) -> Result<u64, OutOfMemory>
     ensures { IfOk result (λ n. n ≡ text_length segs.now) }
 {
@@ -110,7 +110,7 @@ fn text_length(segs: &[SegRec]) -> Result<u64, OutOfMemory>
     Ok(count)
 }
 
-/// How many elements a segment has.
+// How many elements a segment has.
 fn body_length(body: &Seg) -> u64
     ensures { result ≡ body_length body.now }
 {
@@ -120,14 +120,14 @@ fn body_length(body: &Seg) -> u64
     }
 }
 
-/// How many characters a text has.
+// How many characters a text has.
 fn char_count(text: &Text) -> u64
     ensures { result ≡ length text.now }
 {
     text.as_str().chars().count() as u64
 }
 
-/// Whether a summary may have so many units.
+// Whether a summary may have so many units.
 fn are_few_units(runs: &[RunRec]) -> bool
     ensures { IsTrue result → unit_count runs.now ≤ 2 ^ 52 }
 {
@@ -137,9 +137,9 @@ fn are_few_units(runs: &[RunRec]) -> bool
     }
 }
 
-/// How many units there are.
-///
-/// Returns `OutOfMemory` where they are more than 2^64 - 1.
+// How many units there are.
+//
+// Returns `OutOfMemory` where they are more than 2^64 - 1.
 fn unit_count(runs: &[RunRec]) -> Result<u64, OutOfMemory>
     ensures { IfOk result (λ n. n ≡ unit_count runs.now) }
 {
@@ -150,7 +150,7 @@ fn unit_count(runs: &[RunRec]) -> Result<u64, OutOfMemory>
     Ok(count)
 }
 
-/// A view of nothing, with these numbers.
+// A view of nothing, with these numbers.
 fn empty_view(alloc: Global, numbers: Numbers) -> View
     ensures { result.numbers ≡ numbers }
 {

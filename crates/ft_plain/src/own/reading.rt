@@ -35,21 +35,21 @@ impl PlainOwn {
         })
     }
 
-    /// The characters of the text, without the markers.
+    // The characters of the text, without the markers.
     fn shown_text(&self, last: u64) -> Result<Text, OutOfMemory>
         ensures { IfOk result (λ text. text ≡ (content (client_at last self.now)).text) }
     {
         shown_text(self.doc.alloc(), self.doc.text(), last)
     }
 
-    /// The markers with their places.
+    // The markers with their places.
     fn shown_markers(&self, last: u64) -> Result<Spots, OutOfMemory>
         ensures { IfOk result (λ markers. markers ≡ (content (client_at last self.now)).markers) }
     {
         shown_markers(self.doc.alloc(), self.doc.text(), last)
     }
 
-    /// The runs of equal properties that aren't empty.
+    // The runs of equal properties that aren't empty.
     fn shown_runs(&self, last: u64) -> Result<Runs, OutOfMemory>
         ensures { IfOk result (λ runs. runs ≡ (content (client_at last self.now)).runs) }
     {
@@ -63,7 +63,7 @@ impl PlainOwn {
         shown_origins(self.doc.alloc(), self.doc.text(), last)
     }
 
-    /// The intervals after all pending stages, by rising label and id.
+    // The intervals after all pending stages, by rising label and id.
     fn shown_intervals(&self, last: u64) -> Result<IntervalRecs, OutOfMemory>
         ensures { IfOk result (λ intervals. intervals ≡ (content (client_at last self.now)).intervals) }
     {
@@ -86,21 +86,21 @@ impl PlainOwn {
         meeting(self.doc.alloc(), intervals.as_slice(), label, a, b)
     }
 
-    /// How many rows.
+    // How many rows.
     fn shown_rows(&self, last: u64) -> usize
         ensures { result ≡ (content (client_at last self.now)).rows }
     {
         shown_count(self.doc.rows(), last)
     }
 
-    /// How many columns.
+    // How many columns.
     fn shown_cols(&self, last: u64) -> usize
         ensures { result ≡ (content (client_at last self.now)).cols }
     {
         shown_count(self.doc.cols(), last)
     }
 
-    /// The cells that have a value after the writes of all pending stages.
+    // The cells that have a value after the writes of all pending stages.
     fn shown_cells(&self, last: u64) -> Result<CellRecs, OutOfMemory>
         ensures { IfOk result (λ cells. cells ≡ (content (client_at last self.now)).cells) }
     {

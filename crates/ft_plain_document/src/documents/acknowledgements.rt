@@ -37,8 +37,8 @@ impl PlainDocument {
         Ok(renaming)
     }
 
-    /// Makes one stage sequenced: its elements, removals and changes, then its interval operation or cell write,
-    /// then the slide of the intervals' ends.
+    // Makes one stage sequenced: its elements, removals and changes, then its interval operation or cell write,
+    // then the slide of the intervals' ends.
     fn acknowledge_stage(
         &mut self,
         seq: u64,
@@ -57,7 +57,7 @@ impl PlainDocument {
         self.slide_ends()
     }
 
-    /// How many elements were ever sequenced in the list into which the sub-operation inserts.
+    // How many elements were ever sequenced in the list into which the sub-operation inserts.
     fn made_before(&self, op: &SubOp) -> u64
         ensures { result ≡ made_before self.now (sub_operation_of op.now) }
     {

@@ -27,7 +27,7 @@ impl PlainDocument {
         }
     }
 
-    /// Applies the operations of a group in order.
+    // Applies the operations of a group in order.
     fn apply_cell_ops(
         &mut self,
         ops: &[CellOp],
@@ -42,7 +42,7 @@ impl PlainDocument {
         Ok(())
     }
 
-    /// Applies a splice or a cell write.
+    // Applies a splice or a cell write.
     fn apply_cell_op(&mut self, op: &CellOp, seq: u64, at: Perspective) -> Result<(), OutOfMemory>
         ensures { OnOk result (self.new ≡ grid_effect self.old seq at.c at.r op.now) }
     {
@@ -67,7 +67,7 @@ impl PlainDocument {
         }
     }
 
-    /// Inserts new rows or columns after `p`.
+    // Inserts new rows or columns after `p`.
     fn insert_units(
         &mut self,
         target: Target,
@@ -87,7 +87,7 @@ impl PlainDocument {
         }
     }
 
-    /// Removes the rows or columns from `p` up to before `q`.
+    // Removes the rows or columns from `p` up to before `q`.
     fn remove_units(
         &mut self,
         target: Target,
@@ -107,7 +107,7 @@ impl PlainDocument {
         }
     }
 
-    /// Writes the value to the cell of the row and the column that the perspective sees there.
+    // Writes the value to the cell of the row and the column that the perspective sees there.
     fn set_cell(
         &mut self,
         i: u64,

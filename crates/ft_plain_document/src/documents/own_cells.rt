@@ -20,7 +20,7 @@ impl PlainDocument {
     }
 }
 
-/// Writes what the stages write.
+// Writes what the stages write.
 fn write_stages(cells: &mut PlainCells, stages: &[PlainStage]) -> Result<(), OutOfMemory>
     ensures { OnOk result (cells.new ≡ cells_after_stages cells.old stages.now) }
 {

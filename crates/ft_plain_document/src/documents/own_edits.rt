@@ -81,7 +81,7 @@ impl PlainDocument {
         }
     }
 
-    /// Inserts the segment after `p` elements, with the properties that aren't null.
+    // Inserts the segment after `p` elements, with the properties that aren't null.
     fn insert_own_text(
         &mut self,
         stage: u64,
@@ -98,7 +98,7 @@ impl PlainDocument {
         Ok(ElementNames::none())
     }
 
-    /// Puts the elements of the segment in after `p` elements.
+    // Puts the elements of the segment in after `p` elements.
     fn put_own_text(
         &mut self,
         stage: u64,
@@ -116,7 +116,7 @@ impl PlainDocument {
             .insert_at_stage(stage, p, &props, contents.as_slice())
     }
 
-    /// Removes the elements of the text from `p` up to before `q`.
+    // Removes the elements of the text from `p` up to before `q`.
     fn remove_own_text(&mut self, stage: u64, p: u64, q: u64) -> Result<ElementNames, NotTaken>
         ensures { AnswersSubOperation (local_text self.old stage (BaseOp.Remove p q)) self.old self.new result }
     {
@@ -127,7 +127,7 @@ impl PlainDocument {
         Ok(ElementNames::none())
     }
 
-    /// Changes the properties of the elements of the text from `p` up to before `q`.
+    // Changes the properties of the elements of the text from `p` up to before `q`.
     fn annotate_own_text(
         &mut self,
         stage: u64,
@@ -159,7 +159,7 @@ impl PlainDocument {
         }
     }
 
-    /// Inserts new rows or columns after `p`.
+    // Inserts new rows or columns after `p`.
     fn insert_own_units(
         &mut self,
         stage: u64,
@@ -176,7 +176,7 @@ impl PlainDocument {
         Ok(ElementNames::none())
     }
 
-    /// Puts so many new units in after `p`.
+    // Puts so many new units in after `p`.
     fn put_own_units(
         &mut self,
         stage: u64,
@@ -192,7 +192,7 @@ impl PlainDocument {
         }
     }
 
-    /// Removes the rows or columns from `p` up to before `q`.
+    // Removes the rows or columns from `p` up to before `q`.
     fn remove_own_units(
         &mut self,
         stage: u64,
@@ -209,7 +209,7 @@ impl PlainDocument {
         Ok(ElementNames::none())
     }
 
-    /// Marks the rows or columns from `p` up to before `q` as removed.
+    // Marks the rows or columns from `p` up to before `q` as removed.
     fn mark_own_units(
         &mut self,
         stage: u64,
@@ -225,8 +225,8 @@ impl PlainDocument {
         }
     }
 
-    /// The row and the column that a write to the cell at row `i` and column `j` names; the row is tested
-    /// first.
+    // The row and the column that a write to the cell at row `i` and column `j` names; the row is tested
+    // first.
     fn name_own_cell(&self, stage: u64, i: u64, j: u64) -> Result<ElementNames, NotTaken>
         ensures { (value : ValueBytes) → AnswersSubOperation (local_grid self.now stage (CellOp.Set i j value)) self.now self.now result }
     {

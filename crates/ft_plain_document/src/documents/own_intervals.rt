@@ -42,7 +42,7 @@ impl PlainDocument {
         Ok(elements_at_given_ends(&self.text, ends, Before(stage)))
     }
 
-    /// The intervals after these pending stages, and then these.
+    // The intervals after these pending stages, and then these.
     fn settled_before(
         &self,
         pending: &[PlainStage],
@@ -65,8 +65,8 @@ impl PlainDocument {
     }
 }
 
-/// Takes the intervals through these stages: at each every end is settled, and then its operation applied
-/// with its own ends settled.
+// Takes the intervals through these stages: at each every end is settled, and then its operation applied
+// with its own ends settled.
 fn settle_stages(
     shown: &mut PlainIntervals,
     items: &[PlainElement],
@@ -80,7 +80,7 @@ fn settle_stages(
     Ok(())
 }
 
-/// The same for one stage.
+// The same for one stage.
 fn settle_stage(
     shown: &mut PlainIntervals,
     items: &[PlainElement],
@@ -108,8 +108,8 @@ pub fn apply_to_intervals(
     }
 }
 
-/// The fault of the id of an interval operation: in use for a new interval, not there for a changed or a
-/// deleted one.
+// The fault of the id of an interval operation: in use for a new interval, not there for a changed or a
+// deleted one.
 fn id_fault(intervals: &PlainIntervals, op: &TextOp) -> Option<EditFault>
     ensures { result ≡ id_fault intervals.now op.now }
 {
@@ -132,7 +132,7 @@ fn id_fault(intervals: &PlainIntervals, op: &TextOp) -> Option<EditFault>
     }
 }
 
-/// The ends that an interval operation gives, if it gives some.
+// The ends that an interval operation gives, if it gives some.
 fn ends_of(op: &TextOp) -> Option<Ends>
     ensures { result ≡ ends_of op.now }
 {

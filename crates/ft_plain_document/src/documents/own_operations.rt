@@ -35,7 +35,7 @@ impl PlainDocument {
         Ok(stages)
     }
 
-    /// Takes these sub-operations in order.
+    // Takes these sub-operations in order.
     fn edit_all(
         &mut self,
         pending: &[PlainStage],
@@ -55,7 +55,7 @@ impl PlainDocument {
         Ok(stages)
     }
 
-    /// Takes one sub-operation, after these pending stages and those of its own edit before it.
+    // Takes one sub-operation, after these pending stages and those of its own edit before it.
     fn edit_one(
         &mut self,
         pending: &[PlainStage],
@@ -73,7 +73,7 @@ impl PlainDocument {
         }
     }
 
-    /// An equal document.
+    // An equal document.
     fn copy(&self) -> Result<PlainDocument, OutOfMemory>
         ensures { IfOk result (λ copy. copy ≡ self.now) }
     {

@@ -38,8 +38,8 @@ impl PlainDocument {
         }
     }
 
-    /// The pieces of a sub-operation of the grid that names these units; a cell write has none where its row
-    /// or column isn't seen.
+    // The pieces of a sub-operation of the grid that names these units; a cell write has none where its row
+    // or column isn't seen.
     fn grid_pieces(
         &self,
         stage: u64,
@@ -60,7 +60,7 @@ impl PlainDocument {
         }
     }
 
-    /// The piece of a write to the cell of these two units, none where one isn't seen.
+    // The piece of a write to the cell of these two units, none where one isn't seen.
     fn cell_piece(
         &self,
         stage: u64,
@@ -87,8 +87,8 @@ impl PlainDocument {
     }
 }
 
-/// The pieces of a sub-operation of the text: an insertion of nothing has none, a removal and an annotation one
-/// for each run of marked elements.
+// The pieces of a sub-operation of the text: an insertion of nothing has none, a removal and an annotation one
+// for each run of marked elements.
 fn text_pieces(
     alloc: Global,
     items: &[PlainElement],
@@ -104,7 +104,7 @@ fn text_pieces(
     }
 }
 
-/// The piece of an insertion of the segment, none where it is empty.
+// The piece of an insertion of the segment, none where it is empty.
 fn segment_piece(
     alloc: Global,
     items: &[PlainElement],
@@ -127,7 +127,7 @@ fn segment_piece(
     )
 }
 
-/// Whether the segment puts nothing in.
+// Whether the segment puts nothing in.
 fn is_empty(seg: &Seg) -> bool
     ensures { IsTrue result ↔ (segment_contents seg.now ≡ []) }
 {
@@ -137,7 +137,7 @@ fn is_empty(seg: &Seg) -> bool
     }
 }
 
-/// The removals of the runs that the stage marks in the text.
+// The removals of the runs that the stage marks in the text.
 fn text_removals(
     alloc: Global,
     items: &[PlainElement],
@@ -150,7 +150,7 @@ fn text_removals(
     removals_of(alloc, lowered.as_slice())
 }
 
-/// A removal of the text for each run.
+// A removal of the text for each run.
 fn removals_of(alloc: Global, runs: &[(u64, u64)]) -> Result<VecDeque<SubOp>, OutOfMemory>
     ensures { IfOk result (λ v. map sub_operation_of v.items ≡ map (λ r. OnText (BaseOp.Remove r.0 r.1)) runs.now) }
 {
@@ -164,7 +164,7 @@ fn removals_of(alloc: Global, runs: &[(u64, u64)]) -> Result<VecDeque<SubOp>, Ou
     Ok(ops)
 }
 
-/// The annotations of the runs of which the stage has changes.
+// The annotations of the runs of which the stage has changes.
 fn text_annotations(
     alloc: Global,
     items: &[PlainElement],
@@ -177,7 +177,7 @@ fn text_annotations(
     annotations_of(alloc, runs.as_slice(), changes)
 }
 
-/// An annotation for each run.
+// An annotation for each run.
 fn annotations_of(
     alloc: Global,
     runs: &[(u64, u64)],
@@ -196,7 +196,7 @@ fn annotations_of(
     Ok(ops)
 }
 
-/// The piece of an insertion of so many units, none for none.
+// The piece of an insertion of so many units, none for none.
 fn insertion_piece(
     alloc: Global,
     items: &[PlainElement],
@@ -219,7 +219,7 @@ fn insertion_piece(
     )
 }
 
-/// The removals of the runs that the stage marks among rows or columns.
+// The removals of the runs that the stage marks among rows or columns.
 fn unit_removals(
     alloc: Global,
     items: &[PlainElement],
@@ -234,7 +234,7 @@ fn unit_removals(
     splices_of(alloc, lowered.as_slice(), target)
 }
 
-/// A removal of rows or columns for each run.
+// A removal of rows or columns for each run.
 fn splices_of(
     alloc: Global,
     runs: &[(u64, u64)],
@@ -253,7 +253,7 @@ fn splices_of(
     Ok(ops)
 }
 
-/// The interval operation with its ends, which are these elements, as they are at the stage.
+// The interval operation with its ends, which are these elements, as they are at the stage.
 fn interval_piece(
     items: &[PlainElement],
     stage: u64,
@@ -293,7 +293,7 @@ fn interval_piece(
     }
 }
 
-/// The elements as numbers at the stage.
+// The elements as numbers at the stage.
 fn ends_in(items: &[PlainElement], stage: u64, names: &ElementNames) -> Ends
     requires { length items.now < 2 ^ 53 }
     ensures { result ≡ ends_in stage items.now names.now }
@@ -304,7 +304,7 @@ fn ends_in(items: &[PlainElement], stage: u64, names: &ElementNames) -> Ends
     }
 }
 
-/// Whether an element is named and seen at the stage.
+// Whether an element is named and seen at the stage.
 fn is_named_and_seen(items: &[PlainElement], stage: u64, name: Option<ElementName>) -> bool
     ensures { result ≡ is_named_and_seen stage items.now name }
 {
@@ -314,7 +314,7 @@ fn is_named_and_seen(items: &[PlainElement], stage: u64, name: Option<ElementNam
     }
 }
 
-/// Whether the element of that name is seen at the stage.
+// Whether the element of that name is seen at the stage.
 fn has_seen(items: &[PlainElement], stage: u64, name: ElementName) -> bool
     ensures { result ≡ list_any (λ e. has_id name e && seen stage e) items.now }
 {
@@ -323,7 +323,7 @@ fn has_seen(items: &[PlainElement], stage: u64, name: ElementName) -> bool
         .any(|e| e.has_name(&name) && e.is_seen_at(stage))
 }
 
-/// The number of a named unit among those seen at the stage before.
+// The number of a named unit among those seen at the stage before.
 fn position_of_named(items: &[PlainElement], seen: Before, name: Option<ElementName>) -> u64
     ensures { result ≡ position_of_named (seen.0 - 1) items.now name }
 {

@@ -41,7 +41,7 @@ impl PlainDocument {
         }
     }
 
-    /// Applies the operations of a group in order.
+    // Applies the operations of a group in order.
     fn apply_text_ops(
         &mut self,
         ops: &[BaseOp],
@@ -56,7 +56,7 @@ impl PlainDocument {
         Ok(())
     }
 
-    /// Applies an insertion, a removal or an annotation.
+    // Applies an insertion, a removal or an annotation.
     fn apply_text_op(&mut self, op: &BaseOp, seq: u64, at: Perspective) -> Result<(), OutOfMemory>
         ensures { OnOk result (self.new ≡ text_effect self.old seq at.c at.r op.now) }
     {
@@ -71,7 +71,7 @@ impl PlainDocument {
         }
     }
 
-    /// Inserts the segment after `p` elements, with the properties that aren't null.
+    // Inserts the segment after `p` elements, with the properties that aren't null.
     fn insert_text(
         &mut self,
         p: u64,
@@ -92,7 +92,7 @@ impl PlainDocument {
             .insert(p, seq, at, Some(by), &props, contents.as_slice())
     }
 
-    /// Removes the elements of the text from `p` up to before `q`, and slides the ends of intervals.
+    // Removes the elements of the text from `p` up to before `q`, and slides the ends of intervals.
     fn remove_text(&mut self, p: u64, q: u64, seq: u64, at: Perspective) -> Result<(), OutOfMemory>
         ensures { OnOk result (self.new ≡ text_effect self.old seq at.c at.r (BaseOp.Remove p q)) }
     {
@@ -103,7 +103,7 @@ impl PlainDocument {
         self.slide_ends()
     }
 
-    /// Changes the properties of the elements of the text from `p` up to before `q`.
+    // Changes the properties of the elements of the text from `p` up to before `q`.
     fn annotate_text(
         &mut self,
         p: u64,

@@ -23,21 +23,21 @@ pub(crate) struct PlacedValue<'a> {
 }
 
 impl PlainCell {
-    /// The row that it belongs to.
+    // The row that it belongs to.
     fn row(&self) -> ElementName
         ensures { result ≡ self.now.row }
     {
         self.row
     }
 
-    /// The column that it belongs to.
+    // The column that it belongs to.
     fn col(&self) -> ElementName
         ensures { result ≡ self.now.col }
     {
         self.col
     }
 
-    /// Its value.
+    // Its value.
     fn value(&self) -> &ValText
         ensures { result.now ≡ self.now.value }
     {
@@ -69,7 +69,7 @@ impl PlainCells {
     }
 }
 
-/// The cells of each column, in their order.
+// The cells of each column, in their order.
 fn by_column<'a>(
     alloc: Global,
     cells: &'a [PlainCell],
@@ -83,7 +83,7 @@ fn by_column<'a>(
     Ok(columns)
 }
 
-/// Adds the cells of the column, which is shown at this place, to their rows.
+// Adds the cells of the column, which is shown at this place, to their rows.
 fn place_column<'a>(
     rows: &mut NamedLists<PlacedValue<'a>>,
     place: u64,

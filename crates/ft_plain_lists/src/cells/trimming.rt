@@ -35,7 +35,7 @@ impl PlainCells {
 }
 
 impl PlainCell {
-    /// Whether its value isn't null and its row and its column aren't removed, by tables of which sequenced ones are.
+    // Whether its value isn't null and its row and its column aren't removed, by tables of which sequenced ones are.
     fn is_kept(
         &self,
         rows: &[PlainElement],
@@ -53,7 +53,7 @@ impl PlainCell {
     }
 }
 
-/// A table of which sequenced elements have a sequenced removal.
+// A table of which sequenced elements have a sequenced removal.
 fn removals(alloc: Global, items: &[PlainElement]) -> Result<NameTable<bool>, OutOfMemory>
     ensures { IfOk result (λ table. HasAnswers (has_sequenced_removal items.now) table) }
 {
@@ -62,7 +62,7 @@ fn removals(alloc: Global, items: &[PlainElement]) -> Result<NameTable<bool>, Ou
     Ok(table)
 }
 
-/// Whether a removal of the element of that name is sequenced, by a table of that for the sequenced ones.
+// Whether a removal of the element of that name is sequenced, by a table of that for the sequenced ones.
 fn is_gone(items: &[PlainElement], gone: &NameTable<bool>, name: ElementName) -> bool
     requires { HasAnswers (has_sequenced_removal items.now) gone.now }
     ensures { result ≡ has_sequenced_removal items.now name }
@@ -73,7 +73,7 @@ fn is_gone(items: &[PlainElement], gone: &NameTable<bool>, name: ElementName) ->
     }
 }
 
-/// Whether a removal of the element of that name is sequenced.
+// Whether a removal of the element of that name is sequenced.
 fn is_removed(items: &[PlainElement], name: ElementName) -> bool
     ensures { result ≡ has_sequenced_removal items.now name }
 {

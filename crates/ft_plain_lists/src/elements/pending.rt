@@ -99,9 +99,9 @@ impl PlainElement {
         self.acknowledge_insertion(stage, made, seq, conn)
     }
 
-    /// Makes its pending removal sequenced, if it is the stage's.
-    ///
-    /// Returns `OutOfMemory` where there is no room for it, and then nothing changed.
+    // Makes its pending removal sequenced, if it is the stage's.
+    //
+    // Returns `OutOfMemory` where there is no room for it, and then nothing changed.
     fn acknowledge_removal(&mut self, stage: u64, seq: u64, conn: u32) -> Result<(), OutOfMemory>
         ensures ok { OnOk result (self.new ≡ record self.old {
           dels = self.old.dels ++ acked_removal stage seq conn self.old.removal_stage;
@@ -116,9 +116,9 @@ impl PlainElement {
         Ok(())
     }
 
-    /// Makes the stage's pending changes of its acknowledged properties.
-    ///
-    /// Returns `OutOfMemory` where there is no room for what they make, and then nothing changed.
+    // Makes the stage's pending changes of its acknowledged properties.
+    //
+    // Returns `OutOfMemory` where there is no room for what they make, and then nothing changed.
     fn acknowledge_changes(&mut self, stage: u64) -> Result<(), OutOfMemory>
         ensures ok { OnOk result (self.new ≡ record self.old {
           props = acked_props stage self.old.props self.old.pending;
@@ -131,16 +131,16 @@ impl PlainElement {
         Ok(())
     }
 
-    /// Takes the stage's pending changes away.
+    // Takes the stage's pending changes away.
     fn forget_changes(&mut self, stage: u64)
         ensures { self.new ≡ record self.old { pending = filter (λ p. not (nat_eq p.0 stage)) self.old.pending } }
     {
         self.pending.retain(|(own, _)| *own != stage);
     }
 
-    /// Makes its insertion sequenced, if it is the stage's.
-    ///
-    /// Returns `OutOfMemory` where its number would pass 2^64 - 1, and then nothing changed.
+    // Makes its insertion sequenced, if it is the stage's.
+    //
+    // Returns `OutOfMemory` where its number would pass 2^64 - 1, and then nothing changed.
     fn acknowledge_insertion(
         &mut self,
         stage: u64,
@@ -163,7 +163,7 @@ impl PlainElement {
         Ok(())
     }
 
-    /// Its acknowledged properties after the pending changes of the stage.
+    // Its acknowledged properties after the pending changes of the stage.
     fn acked_props(&self, stage: u64) -> Result<Props, OutOfMemory>
         ensures { IfOk result (λ props. props ≡ acked_props stage self.now.props self.now.pending) }
     {
@@ -197,7 +197,7 @@ impl PlainElement {
     }
 }
 
-/// Whose message made an element: known for the text, not kept for rows and columns.
+// Whose message made an element: known for the text, not kept for rows and columns.
 fn author(seq: u64, conn: u32, content: Content) -> Option<Stamp>
     ensures { result ≡ author seq conn (content_of content) }
 {

@@ -56,7 +56,7 @@ impl PlainElement {
     }
 }
 
-/// Whether the first removal is at or below the minimum.
+// Whether the first removal is at or below the minimum.
 fn has_collectable_removal(dels: &[Stamp], min: u64) -> bool
     ensures { result ≡ has_collectable_removal min dels.now }
 {
@@ -66,7 +66,7 @@ fn has_collectable_removal(dels: &[Stamp], min: u64) -> bool
     }
 }
 
-/// Whether the stamp is sequenced, at or below the minimum.
+// Whether the stamp is sequenced, at or below the minimum.
 fn is_at_or_below(stamp: &Stamp, min: u64) -> bool
     ensures { result ≡ is_insertion_at_or_below min stamp.now }
 {

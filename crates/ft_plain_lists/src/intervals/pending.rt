@@ -33,7 +33,7 @@ impl PlainInterval {
         })
     }
 
-    /// Settles both ends at the pending stage, by a table of where the ends go.
+    // Settles both ends at the pending stage, by a table of where the ends go.
     fn settle(&mut self, names: &NameTable<Option<ElementName>>, items: &[PlainElement], stage: u64)
         requires { HasAnswers (λ x. option_map name_of_element (settled (has_id x) (seen stage) items.now)) names.now }
         ensures { self.new ≡ settle_interval items.now stage self.old }
@@ -120,7 +120,7 @@ impl PlainIntervals {
     }
 }
 
-/// Settles the ends of the intervals at the pending stage, by a table of where the ends go.
+// Settles the ends of the intervals at the pending stage, by a table of where the ends go.
 fn settle_all(
     intervals: &mut [PlainInterval],
     names: &NameTable<Option<ElementName>>,

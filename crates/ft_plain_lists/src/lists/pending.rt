@@ -132,9 +132,9 @@ impl PlainList {
     }
 }
 
-/// Puts the new elements in directly behind the `p`-th one that is seen.
-///
-/// Returns `OutOfMemory` where there is no room for them, and then the list is as it was.
+// Puts the new elements in directly behind the `p`-th one that is seen.
+//
+// Returns `OutOfMemory` where there is no room for them, and then the list is as it was.
 fn put_behind<T: ElementTest>(
     items: &mut Vec<PlainElement>,
     p: u64,
@@ -149,9 +149,9 @@ fn put_behind<T: ElementTest>(
     put_at(items, place, new)
 }
 
-/// Makes what the pending stage did with each element sequenced.
-///
-/// Returns `OutOfMemory` where there is no room for that, and then some of it may be done.
+// Makes what the pending stage did with each element sequenced.
+//
+// Returns `OutOfMemory` where there is no room for that, and then some of it may be done.
 fn acknowledge_all(
     items: &mut [PlainElement],
     stage: u64,
@@ -167,7 +167,7 @@ fn acknowledge_all(
     Ok(())
 }
 
-/// The sequenced elements, without what is pending on those of which a removal is sequenced.
+// The sequenced elements, without what is pending on those of which a removal is sequenced.
 fn carried_elements(alloc: Global, items: &[PlainElement]) -> Result<Vec<PlainElement>, OutOfMemory>
     ensures { IfOk result (λ v. v.items ≡ retain_map is_sequenced carried_element items.now) }
 {
@@ -180,7 +180,7 @@ fn carried_elements(alloc: Global, items: &[PlainElement]) -> Result<Vec<PlainEl
     Ok(carried)
 }
 
-/// The element, without what is pending on it if a removal of it is sequenced.
+// The element, without what is pending on it if a removal of it is sequenced.
 fn carried_element(e: &PlainElement) -> Result<PlainElement, OutOfMemory>
     ensures { IfOk result (λ carried. carried ≡ carried_element e.now) }
 {
@@ -189,9 +189,9 @@ fn carried_element(e: &PlainElement) -> Result<PlainElement, OutOfMemory>
     Ok(carried)
 }
 
-/// Puts into `rebuilt` the elements that each of the stages has in `items`.
-///
-/// Returns `OutOfMemory` where there is no room for them, and then those of some stages may be there.
+// Puts into `rebuilt` the elements that each of the stages has in `items`.
+//
+// Returns `OutOfMemory` where there is no room for them, and then those of some stages may be there.
 fn put_stages(
     items: &[PlainElement],
     rebuilt: &mut Vec<PlainElement>,
@@ -205,10 +205,10 @@ fn put_stages(
     Ok(())
 }
 
-/// Puts into `rebuilt` the elements that the stage has in `items`, after as many elements of the stage
-/// before as stand left of them in `items`.
-///
-/// Returns `OutOfMemory` where there is no room for them, and then the list is as it was.
+// Puts into `rebuilt` the elements that the stage has in `items`, after as many elements of the stage
+// before as stand left of them in `items`.
+//
+// Returns `OutOfMemory` where there is no room for them, and then the list is as it was.
 fn put_stage(
     items: &[PlainElement],
     rebuilt: &mut Vec<PlainElement>,
@@ -228,7 +228,7 @@ pub fn stage_position(items: &[PlainElement], stage: u64) -> u64
     rank(items, InsertedBy(stage), Before(stage))
 }
 
-/// Copies of the elements that the stage inserted.
+// Copies of the elements that the stage inserted.
 fn elements_of_stage(
     alloc: Global,
     items: &[PlainElement],

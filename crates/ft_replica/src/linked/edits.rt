@@ -38,7 +38,7 @@ impl<D: OwnDocument> LinkedClient<D> {
         Ok(())
     }
 
-    /// As what the client sends an operation: an online client sends it, another keeps it unsent.
+    // As what the client sends an operation: an online client sends it, another keeps it unsent.
     fn sent_as(&self, op: &ChannelOp) -> Result<Option<Sent>, OutOfMemory>
         ensures { IfOk result (λ sent. sent ≡ sent_as self.now.link self.now.box.next op.now) }
     {
@@ -48,9 +48,9 @@ impl<D: OwnDocument> LinkedClient<D> {
         }
     }
 
-    /// Keeps an edit with so many stages as pending, and queues its message, if it is sent.
-    ///
-    /// Returns `OutOfMemory` where there is no room for that, and then nothing changed.
+    // Keeps an edit with so many stages as pending, and queues its message, if it is sent.
+    //
+    // Returns `OutOfMemory` where there is no room for that, and then nothing changed.
     fn keep_edit(&mut self, count: usize, ref_seq: u64, op: &ChannelOp) -> Result<(), OutOfMemory>
         ensures ok { let sent = sent_as self.old.link self.old.box.next op.now in OnOk result (self.new ≡ record self.old {
           last_stage = self.old.last_stage + count;

@@ -56,9 +56,9 @@ impl<D: OwnDocument> LinkedClient<D> {
         Ok(())
     }
 
-    /// Takes the next entry, which isn't refused: its own join, its own message, or another.
-    ///
-    /// Returns `OutOfMemory` where there is no room for that, or a count would pass its greatest number.
+    // Takes the next entry, which isn't refused: its own join, its own message, or another.
+    //
+    // Returns `OutOfMemory` where there is no room for that, or a count would pass its greatest number.
     fn take(&mut self, entry: &Entry) -> Result<(), OutOfMemory>
         requires formed { IsWellFormedMessage entry.now.msg }
         requires known { RunsForOne D.holds self.old (λ p. process_fault p entry.now ≡ None) }
@@ -74,7 +74,7 @@ impl<D: OwnDocument> LinkedClient<D> {
         Ok(())
     }
 
-    /// Takes the client's own message: its oldest pending edit becomes sequenced.
+    // Takes the client's own message: its oldest pending edit becomes sequenced.
     fn take_own(&mut self, entry: &Entry) -> Result<(), OutOfMemory>
         requires formed { IsWellFormedMessage entry.now.msg }
         requires known { RunsForOne D.holds self.old (λ p. process_fault p entry.now ≡ None) }
@@ -85,7 +85,7 @@ impl<D: OwnDocument> LinkedClient<D> {
         Ok(())
     }
 
-    /// Takes away some of what was removed at or below the floor.
+    // Takes away some of what was removed at or below the floor.
     fn tidy(&mut self) -> Result<(), OutOfMemory>
         requires { RunsForOne D.holds self.old Anyone }
         ensures compacts { OnOk result (TakesCompaction D.holds self.old self.new) }
@@ -108,21 +108,21 @@ impl<D: OwnDocument> LinkedClient<D> {
         Ok(())
     }
 
-    /// Whether the entry is an operation from one of the client's connections.
+    // Whether the entry is an operation from one of the client's connections.
     fn is_own_message(&self, entry: &Entry) -> bool
         ensures { result ≡ (is_op entry.now.msg.body && list_any (nat_eq entry.now.origin) self.now.conns) }
     {
         matches!(entry.msg.body, Body::Op(_)) && self.is_own(entry)
     }
 
-    /// Whether the entry comes from one of the client's connections.
+    // Whether the entry comes from one of the client's connections.
     fn is_own(&self, entry: &Entry) -> bool
         ensures { result ≡ list_any (nat_eq entry.now.origin) self.now.conns }
     {
         self.conns.has(entry.origin)
     }
 
-    /// Whether the message is the oldest pending edit as it was sent.
+    // Whether the message is the oldest pending edit as it was sent.
     fn is_oldest(&self, entry: &Entry) -> bool
         ensures { result ≡ is_oldest entry.now (map bare_edit self.now.pending) }
     {
@@ -132,7 +132,7 @@ impl<D: OwnDocument> LinkedClient<D> {
         }
     }
 
-    /// Whether the entry is the join of the connection under which the client is joining.
+    // Whether the entry is the join of the connection under which the client is joining.
     fn is_own_join(&self, entry: &Entry) -> bool
         ensures { result ≡ is_own_join self.now.link entry.now.msg.kind entry.now.origin }
     {
@@ -145,8 +145,8 @@ impl<D: OwnDocument> LinkedClient<D> {
     }
 }
 
-/// The first of the conditions on its numbers that the entry breaks, where these are the last number and the
-/// last minimum.
+// The first of the conditions on its numbers that the entry breaks, where these are the last number and the
+// last minimum.
 fn numbers_fault(number: u64, minimum: u64, entry: &Entry) -> Option<ProcessFault>
     requires in_range { HasNumbersInRange entry.now.msg }
     requires number { number < 2 ^ 53 }
@@ -186,8 +186,8 @@ fn numbers_fault(number: u64, minimum: u64, entry: &Entry) -> Option<ProcessFaul
     None
 }
 
-/// Whether the message is the pending edit as it was sent: connection, client number, reference number and
-/// operation.
+// Whether the message is the pending edit as it was sent: connection, client number, reference number and
+// operation.
 fn is_sent_as(entry: &Entry, edit: &PendingEdit) -> bool
     ensures { result ≡ is_sent_as entry.now (bare_edit edit.now) }
 {
@@ -202,14 +202,14 @@ fn is_sent_as(entry: &Entry, edit: &PendingEdit) -> bool
     }
 }
 
-/// Whether the count is that number.
+// Whether the count is that number.
 fn is_number(count: u64, number: i64) -> bool
     ensures { result ≡ same_int (pos count) number }
 {
     0 <= number && count == number as u64
 }
 
-/// Whether the body is that operation.
+// Whether the body is that operation.
 fn is_body(op: &ChannelOp, body: &Body) -> bool
     ensures { result ≡ is_body op.now body.now }
 {
