@@ -33,7 +33,7 @@ use Rattle.std.proofs.lemmas.Bool.Decides.{nat_tests}
 use Rattle.std.proofs.lemmas.List.{take_all}
 use Rattle.std.specs.Prelude.{nat_lt}
 use Rattle.ft_attrib.specs.declared.attribution.Origin.{Origin}
-use Rattle.ft_attrib.specs.declared.pieces.Piece.{Piece}
+use Rattle.ft_attrib.specs.declared.pieces.OriginPiece.{OriginPiece}
 use Rattle.ft_attrib.specs.Runs.{origin_runs}
 use Rattle.ft_attrib.specs.Pieces.{GoesOn, IsCut, IsOther, clipped, spread}
 use Rattle.ft_attrib.proofs.RunLaws.{begins, run_of, runs-replicate, same_origin-other}
@@ -71,12 +71,12 @@ begins-positive zero k w o zs h d = absurd (omega arith)
 begins-positive (suc n) zero w o zs h d = refl
 begins-positive (suc n) (suc k) w o zs h d = same_origin-other w o d
 
-begins-spread : (from k : ℕ) (w : Origin) (xs : List Piece) → IsCut from xs → IsOther w xs → begins w (take k (spread from xs)) ≡ false
+begins-spread : (from k : ℕ) (w : Origin) (xs : List OriginPiece) → IsCut from xs → IsOther w xs → begins w (take k (spread from xs)) ≡ false
 begins-spread from zero w [] c o = refl
 begins-spread from (suc k) w [] c o = refl
 begins-spread from k w (x ∷ xs) c o = begins-positive (x.end - from) k w x.who (spread x.end xs) (omega (arith, c.0)) o
 
-begins-whole : (from : ℕ) (w : Origin) (xs : List Piece) → IsCut from xs → IsOther w xs → begins w (spread from xs) ≡ false
+begins-whole : (from : ℕ) (w : Origin) (xs : List OriginPiece) → IsCut from xs → IsOther w xs → begins w (spread from xs) ≡ false
 begins-whole from w xs c o = ap (begins w) (sym (take_all (length (spread from xs)) (spread from xs) (omega arith))) ∙ begins-spread from (length (spread from xs)) w xs c o
 
 runs-behind : (k i j : ℕ) (zs : List Origin) → (0 < k → i ≡ j) → origin_runs i (take k zs) ≡ origin_runs j (take k zs)
@@ -98,7 +98,7 @@ runs-piece from q end w zs h k b =
     ∙ ap (λ os. run_of from (min end q) w ∷ os) (runs-behind (q - end) (min end q) end zs (λ more. omega arith))
 
 -- the same, where what is clipped of the pieces behind the first one is known
-front : (q from : ℕ) (x : Piece) (xs : List Piece) (b : Bool) → nat_lt from q ≡ b → IsCut from (x ∷ xs)
+front : (q from : ℕ) (x : OriginPiece) (xs : List OriginPiece) (b : Bool) → nat_lt from q ≡ b → IsCut from (x ∷ xs)
     → clipped q x.end xs ≡ origin_runs x.end (take (q - x.end) (spread x.end xs))
     → cond b (run_of from (min x.end q) x.who ∷ clipped q x.end xs) [] ≡ origin_runs from (take (q - from) (spread from (x ∷ xs)))
 front q from x xs true e c rest =
@@ -118,24 +118,24 @@ no_runs : (k i : ℕ) → [] ≡ origin_runs i (take k [])
 no_runs zero i = refl
 no_runs (suc k) i = refl
 
-pub clipped-none : (q from : ℕ) (xs : List Piece) → q ≤ from → clipped q from xs ≡ []
+pub clipped-none : (q from : ℕ) (xs : List OriginPiece) → q ≤ from → clipped q from xs ≡ []
 clipped-none q from [] h = refl
 clipped-none q from (x ∷ xs) h = grind (arith, nat_tests)
 
 -- the maximal runs up to before q
-pub clipped-runs : (q from : ℕ) (xs : List Piece) → IsCut from xs → clipped q from xs ≡ origin_runs from (take (q - from) (spread from xs))
+pub clipped-runs : (q from : ℕ) (xs : List OriginPiece) → IsCut from xs → clipped q from xs ≡ origin_runs from (take (q - from) (spread from xs))
 clipped-runs q from [] c = no_runs (q - from) from
 clipped-runs q from (x ∷ xs) c = front q from x xs (nat_lt from q) refl c (clipped-runs q x.end xs c.2)
 
 -- the pieces from place p on: those that don't end up to it
-cut-past : (from p : ℕ) (xs : List Piece) (i : ℕ) → IsCut from xs → i ≤ length xs → ((d : Piece) → i < length xs → p < (get_or xs i d).end) → IsCut p (drop i xs)
+cut-past : (from p : ℕ) (xs : List OriginPiece) (i : ℕ) → IsCut from xs → i ≤ length xs → ((d : OriginPiece) → i < length xs → p < (get_or xs i d).end) → IsCut p (drop i xs)
 cut-past from p [] zero c l above = tt
 cut-past from p [] (suc i) c l above = tt
 cut-past from p (x ∷ xs) zero c l above = (above x (omega arith), c.1, c.2)
 cut-past from p (x ∷ xs) (suc i) c l above = cut-past x.end p xs i c.2 (omega arith) (λ d h. above d (omega arith))
 
-spread-past : (from p : ℕ) (xs : List Piece) (i : ℕ) → from ≤ p → IsCut from xs → i ≤ length xs
-    → ((d : Piece) (j : ℕ) → j < i → (get_or xs j d).end ≤ p) → ((d : Piece) → i < length xs → p < (get_or xs i d).end)
+spread-past : (from p : ℕ) (xs : List OriginPiece) (i : ℕ) → from ≤ p → IsCut from xs → i ≤ length xs
+    → ((d : OriginPiece) (j : ℕ) → j < i → (get_or xs j d).end ≤ p) → ((d : OriginPiece) → i < length xs → p < (get_or xs i d).end)
     → spread p (drop i xs) ≡ drop (p - from) (spread from xs)
 spread-past from p [] zero h c l below above = no_origins (p - from)
 spread-past from p [] (suc i) h c l below above = absurd (omega arith)
@@ -152,8 +152,8 @@ spread-past from p (x ∷ xs) (suc i) h c l below above =
     ∙ sym (drop-behind (x.end - from) (p - x.end) x.who (spread x.end xs))
     ∙ ap (λ n. drop n (spread from (x ∷ xs))) far
 
-pub goes_on : (p : ℕ) (xs : List Piece) (i : ℕ) → IsCut 0 xs → i ≤ length xs
-    → ((d : Piece) (j : ℕ) → j < i → (get_or xs j d).end ≤ p) → ((d : Piece) → i < length xs → p < (get_or xs i d).end) → GoesOn p (drop i xs) xs
+pub goes_on : (p : ℕ) (xs : List OriginPiece) (i : ℕ) → IsCut 0 xs → i ≤ length xs
+    → ((d : OriginPiece) (j : ℕ) → j < i → (get_or xs j d).end ≤ p) → ((d : OriginPiece) → i < length xs → p < (get_or xs i d).end) → GoesOn p (drop i xs) xs
 goes_on p xs i c l below above =
     let all : p - 0 ≡ p = omega arith in
     record {
@@ -162,7 +162,7 @@ goes_on p xs i c l below above =
     }
 
 -- there are as many pieces as maximal runs
-pub pieces-length : (from : ℕ) (xs : List Piece) → IsCut from xs → length (origin_runs from (spread from xs)) ≡ length xs
+pub pieces-length : (from : ℕ) (xs : List OriginPiece) → IsCut from xs → length (origin_runs from (spread from xs)) ≡ length xs
 pieces-length from [] c = refl
 pieces-length from (x ∷ xs) c =
     let first : from < x.end = c.0 in

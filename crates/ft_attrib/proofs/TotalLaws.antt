@@ -6,7 +6,7 @@ use Rattle.std.proofs.lemmas.List.{get_or_default}
 use Rattle.ft_attrib.specs.declared.attribution.Origin.{Origin}
 use Rattle.ft_attrib.specs.declared.attribution.Origin.TheVariants.{Known, Unknown, Pending}
 use Rattle.ft_attrib.specs.declared.attribution.Total.{Total}
-use Rattle.ft_attrib.specs.declared.pieces.Piece.{Piece}
+use Rattle.ft_attrib.specs.declared.pieces.OriginPiece.{OriginPiece}
 use Rattle.ft_attrib.specs.Pieces.{spread}
 use Rattle.ft_attrib.specs.Totals.{with_count, counted_all, with_origin, place_of_total, sum_of}
 
@@ -79,7 +79,7 @@ pub counted-past : (c n i : ℕ) (ts : List Total) → i ≡ place_of_total c ts
 counted-past c n i ts p l = ap (λ k. insert ts k (total_of c n)) p ∙ counted-insert c n ts (total_of 0 0) (λ h _. absurd (omega (arith, p, l, h)))
 
 -- the origins of a first piece are counted at once
-pub counted-piece : (from : ℕ) (x : Piece) (xs : List Piece) (ts : List Total) → from < x.end
+pub counted-piece : (from : ℕ) (x : OriginPiece) (xs : List OriginPiece) (ts : List Total) → from < x.end
     → counted_all ts (spread from (x ∷ xs)) ≡ counted_all (with_origin x.who (x.end - from) ts) (spread x.end xs)
 counted-piece from x xs ts h =
     let n : x.end - from ≡ suc (x.end - from - 1) = omega arith in

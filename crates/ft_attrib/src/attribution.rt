@@ -4,7 +4,7 @@ ghost use Rattle.std.specs.Prelude.{◌≡◌, ◌+◌, ◌*◌, ◌-◌, ◌^�
 ghost use Rattle.ft_attrib.specs.Runs.{how_many, origin_runs, same_origin};
 ghost use Rattle.ft_attrib.specs.Totals.{AreTotals, totals};
 
-use crate::pieces::{Piece, origin_at, push_piece, runs_within, share, totals_of};
+use crate::pieces::{OriginPiece, origin_at, push_piece, runs_within, share, totals_of};
 use ft_base::{Datum, OutOfMemory, Steps};
 use std::alloc::Global;
 use std::marker::Model;
@@ -75,7 +75,7 @@ impl Datum for Total {
 /// one piece for each maximal run of equal origins.
 #[derive(Drop)]
 pub struct Attribution {
-    pieces: Vec<Piece>,
+    pieces: Vec<OriginPiece>,
     len: u64,
     unknown: u64,
     pending: u64,

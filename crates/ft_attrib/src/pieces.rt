@@ -12,7 +12,7 @@ use std::sync::ledger::Ledger;
 
 /// Characters of one origin, from where the piece before ends up to before `end`.
 #[derive(Clone, Copy)]
-pub struct Piece {
+pub struct OriginPiece {
     /// How many characters stand before what follows the piece.
     pub end: u64,
     /// Their origin.
@@ -20,7 +20,7 @@ pub struct Piece {
 }
 
 /// Adds characters of one origin at the end, so that there are `end` in all.
-pub fn push_piece(pieces: &mut Vec<Piece>, end: u64, who: Origin) -> Result<(), OutOfMemory>
+pub fn push_piece(pieces: &mut Vec<OriginPiece>, end: u64, who: Origin) -> Result<(), OutOfMemory>
     requires cut { IsCut 0 pieces.old.items }
     requires more { length (spread 0 pieces.old.items) < end }
     ensures ok { OnOk result (Appends pieces.old.items pieces.new.items end who) }
@@ -28,10 +28,10 @@ pub fn push_piece(pieces: &mut Vec<Piece>, end: u64, who: Origin) -> Result<(), 
 {
     let n = pieces.len();
     if n > 0 && pieces[n - 1].who == who {
-        pieces[n - 1] = Piece { end, who };
+        pieces[n - 1] = OriginPiece { end, who };
         return Ok(());
     }
-    pieces.push(Piece { end, who })?;
+    pieces.push(OriginPiece { end, who })?;
     Ok(())
 }
 
@@ -43,7 +43,7 @@ pub fn share(of: Origin, who: Origin, len: u64) -> u64
 }
 
 // Reads the piece at place `i`, in one step.
-fn read<G: Ledger>(pieces: &[Piece], i: usize, steps: &mut Steps<G>) -> Piece
+fn read<G: Ledger>(pieces: &[OriginPiece], i: usize, steps: &mut Steps<G>) -> OriginPiece
     requires { i < length pieces.now }
     ensures piece { IsPieceAt pieces.now i result }
     ensures tick { steps.new ≡ steps.old + 1 }
@@ -53,7 +53,7 @@ fn read<G: Ledger>(pieces: &[Piece], i: usize, steps: &mut Steps<G>) -> Piece
 }
 
 /// The origin of the character that has `p` characters before it, by binary search.
-pub fn origin_at<G: Ledger>(pieces: &[Piece], p: u64, steps: &mut Steps<G>) -> Option<Origin>
+pub fn origin_at<G: Ledger>(pieces: &[OriginPiece], p: u64, steps: &mut Steps<G>) -> Option<Origin>
     requires { IsCut 0 pieces.now }
     ensures origin { result ≡ slice_get (spread 0 pieces.now) p }
     ensures counts { steps.old ≤ steps.new }
@@ -76,7 +76,7 @@ pub fn origin_at<G: Ledger>(pieces: &[Piece], p: u64, steps: &mut Steps<G>) -> O
 }
 
 // How many pieces end at or before `p`, by binary search.
-fn count_up_to(pieces: &[Piece], p: u64) -> usize
+fn count_up_to(pieces: &[OriginPiece], p: u64) -> usize
     requires { IsCut 0 pieces.now }
     ensures inside { result ≤ length pieces.now }
     ensures goes_on { GoesOn p (drop result pieces.now) pieces.now }
@@ -95,7 +95,12 @@ fn count_up_to(pieces: &[Piece], p: u64) -> usize
 }
 
 // The runs of the pieces up to before `q`, the first of which begins at `p`.
-fn runs_before(alloc: Global, pieces: &[Piece], p: u64, q: u64) -> Result<Vec<AttrRun>, OutOfMemory>
+fn runs_before(
+    alloc: Global,
+    pieces: &[OriginPiece],
+    p: u64,
+    q: u64,
+) -> Result<Vec<AttrRun>, OutOfMemory>
     ensures { IfOk result (λ runs. runs.items ≡ clipped q p pieces.now) }
 {
     let mut runs = Vec::new(alloc);
@@ -117,7 +122,7 @@ fn runs_before(alloc: Global, pieces: &[Piece], p: u64, q: u64) -> Result<Vec<At
 /// The runs from `p` up to before `q`.
 pub fn runs_within(
     alloc: Global,
-    pieces: &[Piece],
+    pieces: &[OriginPiece],
     p: u64,
     q: u64,
 ) -> Result<Vec<AttrRun>, OutOfMemory>
@@ -129,7 +134,7 @@ pub fn runs_within(
 }
 
 // The place of the connection's total, or where it would stand.
-fn place_of(totals: &[Total], conn: u32) -> usize
+fn total_place(totals: &[Total], conn: u32) -> usize
     ensures place { result ≡ place_of_total conn totals.now }
     ensures inside { result ≤ length totals.now }
 {
@@ -146,7 +151,7 @@ fn add_count(totals: &mut Vec<Total>, conn: u32, count: u64) -> Result<(), OutOf
     requires { sum_of totals.old.items + count < 2 ^ 53 }
     ensures { OnOk result (totals.new.items ≡ with_count conn count totals.old.items) }
 {
-    let i = place_of(totals.as_slice(), conn);
+    let i = total_place(totals.as_slice(), conn);
     if i < totals.len() && totals[i].conn == conn {
         let sum = totals[i].count + count;
         totals[i] = Total { conn, count: sum };
@@ -168,7 +173,7 @@ fn add_origin(totals: &mut Vec<Total>, who: Origin, count: u64) -> Result<(), Ou
 }
 
 /// How many characters each connection inserted.
-pub fn totals_of(alloc: Global, pieces: &[Piece]) -> Result<Vec<Total>, OutOfMemory>
+pub fn totals_of(alloc: Global, pieces: &[OriginPiece]) -> Result<Vec<Total>, OutOfMemory>
     requires cut { IsCut 0 pieces.now }
     requires few { length (spread 0 pieces.now) < 2 ^ 53 }
     ensures { IfOk result (λ v. v.items ≡ totals (spread 0 pieces.now)) }

@@ -18,7 +18,7 @@ pub fn seen_count(items: &[Element], at: Perspective) -> usize
 
 /// The number of elements up to the `p`-th that the perspective sees: 0 for `p` = 0, and all where
 /// it sees fewer than `p`.
-pub fn place_of(items: &[Element], p: usize, at: Perspective) -> usize
+pub fn insertion_place(items: &[Element], p: usize, at: Perspective) -> usize
     ensures place { result ≡ place (λ e. sees e at.r at.c) p items.now }
     ensures inside { result ≤ length items.now }
 {
@@ -46,7 +46,7 @@ pub fn insert_at_place(
     ensures ok { OnOk result (items.new.items ≡ put (λ e. sees e at.r at.c) no_run p (new ∷ []) items.old.items) }
     ensures err { OnErr result (items.new.items ≡ items.old.items) }
 {
-    let i = place_of(items.as_slice(), p, at);
+    let i = insertion_place(items.as_slice(), p, at);
     items.insert(i, new)?;
     Ok(())
 }

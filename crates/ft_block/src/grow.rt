@@ -13,7 +13,7 @@ use crate::refresh::{exchange_up, rebuild};
 use crate::summaries::Summary;
 use ft_arena::{Arena, NodeId};
 use ft_base::{Datum, OutOfMemory, Steps};
-use ft_shape::{Headed, height_at, move_half, place_of, put_in_half};
+use ft_shape::{Headed, child_place, height_at, move_half, put_in_half};
 use std::alloc::Global;
 use std::sync::ledger::Ledger;
 
@@ -116,7 +116,7 @@ pub(crate) fn grow<L: Leaf, G: Ledger>(
     let mut at = at;
     let mut id = id;
     'up: while let Some(block) = arena.parent(at) {
-        let (place, count) = place_of(arena, block, at, steps);
+        let (place, count) = child_place(arena, block, at, steps);
         if count < 8 {
             arena.put_child(block, place + 1, id);
             return Ok((root, Some(block)));
@@ -157,7 +157,7 @@ pub(crate) fn grow_front<L: Leaf, G: Ledger>(
     let Some(block) = arena.parent(at) else {
         unreachable!();
     };
-    let (place, count) = place_of(arena, block, at, steps);
+    let (place, count) = child_place(arena, block, at, steps);
     if count < 8 {
         arena.put_child(block, place, id);
         return Ok((root, Some(block)));

@@ -11,7 +11,7 @@ use crate::leaves::{Leaf, View};
 use crate::summaries::Summary;
 use ft_arena::{Arena, Node, NodeId};
 use ft_base::Steps;
-use ft_shape::{Headed, place_of};
+use ft_shape::{Headed, child_place};
 use std::sync::ledger::Ledger;
 
 // The lengths, in a kept view, of the children from this place to that one.
@@ -65,7 +65,7 @@ fn length_before<L: Leaf, G: Ledger>(
     requires fits { total (length_of (by_view L.size L.element view) arena.now) (kids_of arena.now block) < 2 ^ 64 }
     ensures { result ≡ total (length_of (by_view L.size L.element view) arena.now) (numbers_before (kids_of arena.now block) child) }
 {
-    let (place, count) = place_of(arena, block, child, steps);
+    let (place, count) = child_place(arena, block, child, steps);
     if place <= count / 2 {
         return length_between(arena, block, 0, place, floor, view, steps);
     }

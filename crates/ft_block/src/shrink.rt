@@ -17,7 +17,7 @@ use crate::refresh::{exchange_up, rebuild};
 use crate::summaries::Summary;
 use ft_arena::{Arena, NodeId};
 use ft_base::{Datum, OutOfMemory, Steps};
-use ft_shape::{Headed, child_at, count_of, drop_root, place_of, regroup};
+use ft_shape::{Headed, child_at, child_place, count_of, drop_root, regroup};
 use std::alloc::Global;
 use std::sync::ledger::Ledger;
 
@@ -107,7 +107,7 @@ fn fill_up<L: Leaf, G: Ledger>(
         if count_of(arena, block, steps) >= 4 {
             return Ok(root);
         }
-        let (place, count) = place_of(arena, up, block, steps);
+        let (place, count) = child_place(arena, up, block, steps);
         if count == 1 {
             return Ok(drop_root(arena, up));
         }
@@ -153,7 +153,7 @@ pub(crate) fn detach<L: Leaf, G: Ledger>(
     let Some(block) = arena.parent(id) else {
         unreachable!();
     };
-    let (place, _) = place_of(arena, block, id, steps);
+    let (place, _) = child_place(arena, block, id, steps);
     arena.take_child(block, place);
     exchange_up(
         arena,

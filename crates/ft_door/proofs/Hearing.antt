@@ -5,7 +5,7 @@ use Rattle.ft_replay.specs.declared.endings.Fault.{Fault}
 use Rattle.ft_replay.specs.declared.endings.Fault.TheVariants.{Read, Write, OutOfMemory, InputLimit}
 use Rattle.ft_replay.specs.SessionReplays.{LinesGrow, end_bytes, heard_refused, line_bytes, lines_bytes}
 use Rattle.ft_replay.specs.Writing.{Begins, SaysOfWritten, WritesBytes}
-use Rattle.ft_door.specs.declared.sessions.Run.{Run}
+use Rattle.ft_door.specs.declared.sessions.HeldSession.{HeldSession}
 use Rattle.ft_door.specs.Runs.{Breaks, ClosesSession, HearsLine, Stands, unread_of}
 
 -- a fault says that the first of the bytes were written
@@ -16,7 +16,7 @@ begins_of T rose bytes written OutOfMemory says = says
 begins_of T rose bytes written InputLimit says = absurd says
 
 -- bytes were to be written behind those that wait, of a session that was taken out, and there was a fault
-pub breaks : {R T : Type 0} {g : Ghosts R} (run : Run R g) (waits bytes more read : List ℕ) (before now : ℕ) (fault : Fault) → run.session ≡ None → read ++ waits ≡ bytes
+pub breaks : {R T : Type 0} {g : Ghosts R} (run : HeldSession R g) (waits bytes more read : List ℕ) (before now : ℕ) (fault : Fault) → run.session ≡ None → read ++ waits ≡ bytes
     → WritesBytes {T = T} (Some waits) (Some (unread_of run)) before now more (Err fault) → Breaks run bytes more read
 breaks {R} {T} {g} run waits bytes more read before now fault ended is h = record {
   session = ended;
@@ -26,7 +26,7 @@ breaks {R} {T} {g} run waits bytes more read before now fault ended is h = recor
 }
 
 -- .. and so with a line
-pub line-broken : {R : Type 0} {g : Ghosts R} (old new : Run R g) (line : List ℕ)
+pub line-broken : {R : Type 0} {g : Ghosts R} (old new : HeldSession R g) (line : List ℕ)
     → ((heard : List (List ℕ)) → (read : List ℕ) → Stands old heard read → Breaks new (lines_bytes heard) (line_bytes heard line) read) → HearsLine old new line 5
 line-broken old new line h = record {
   heard = λ heard read small. absurd (omega (arith, small));
@@ -39,7 +39,7 @@ line-broken old new line h = record {
 }
 
 -- .. and with what ends the report
-pub end-broken : {R : Type 0} {g : Ghosts R} (old new : Run R g)
+pub end-broken : {R : Type 0} {g : Ghosts R} (old new : HeldSession R g)
     → ((heard : List (List ℕ)) → (read : List ℕ) → Stands old heard read → Breaks new (lines_bytes heard) (end_bytes heard) read) → ClosesSession old new 5
 end-broken old new h = record {
   closed = λ heard read small. absurd (omega (arith, small));
@@ -71,7 +71,7 @@ refused-more before now old new status was is once sum =
     omega (arith, was, is, told)
 
 -- a line was heard
-pub line-heard : {R : Type 0} {g : Ghosts R} (old new : Run R g) (line : List ℕ) (status : ℕ) → status ≤ 1
+pub line-heard : {R : Type 0} {g : Ghosts R} (old new : HeldSession R g) (line : List ℕ) (status : ℕ) → status ≤ 1
     → ((heard : List (List ℕ)) → (read : List ℕ) → Stands old heard read → Stands new (heard ++ line ∷ []) read)
     → ((heard : List (List ℕ)) → (read : List ℕ) → Stands old heard read → heard_refused (heard ++ line ∷ []) ≡ heard_refused heard + status) → HearsLine old new line status
 line-heard old new line zero low h r = record {

@@ -9,4 +9,4 @@ mod streams;
 mod waiting;
 
 pub use reports::{Report, ReportFault, report_into, session_report};
-pub use sessions::Run;
+pub use sessions::HeldSession;

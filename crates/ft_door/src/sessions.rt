@@ -16,21 +16,21 @@ pub const CLOSED: u32 = 7;
 
 /// A session that is held between calls: what hears its lines, and what of its report wasn't read yet.
 #[derive(Drop)]
-pub struct Run<R: Replica + Drop> {
+pub struct HeldSession<R: Replica + Drop> {
     // None from its end on, or once there was no memory.
     session: Option<SessionReplay<R>>,
     waiting: Waiting,
 }
 
-impl<R: Replica + Drop> Run<R> {
+impl<R: Replica + Drop> HeldSession<R> {
     /// A session before its first line.
     ///
     /// Returns `OutOfMemory` where there is no room for it.
-    pub fn new(alloc: Global) -> Result<Run<R>, OutOfMemory>
+    pub fn new(alloc: Global) -> Result<HeldSession<R>, OutOfMemory>
         ensures { IfOk result (λ run. Stands run [] []) }
     {
         let session = SessionReplay::new(alloc)?;
-        Ok(Run {
+        Ok(HeldSession {
             session: Some(session),
             waiting: Waiting::new(alloc),
         })

@@ -13,7 +13,7 @@ use Rattle.ft_overlap.specs.Items.{item_at, key_if}
 use Rattle.ft_props.specs.Keys.{Characters, text_cmp}
 use Rattle.ft_sumdoc.specs.Meeting.{meets}
 use Rattle.ft_tree_leaves.specs.Elements.{TreeElement}
-use Rattle.ft_tree_leaves.specs.References.{place_of}
+use Rattle.ft_tree_leaves.specs.References.{reference_place}
 use Rattle.ft_interval.specs.declared.indexes.LabelIndex.{LabelIndex}
 use Rattle.ft_interval_store.specs.declared.intervals.EndPair.{EndPair}
 use Rattle.ft_interval_store.specs.declared.intervals.Interval.{Interval}
@@ -198,7 +198,7 @@ module _ {U : Type 0} (xs : List (TreeElement U)) where
             let pass = passes-it i (found-name (label, o.id) acked i w.there)
             (ap (λ p. int_le (number_at xs last (shown_end xs (place_of_end refs p))) (pos b)) (ap (λ (p : EndPair ℕ). p.start) ends) ∙ ap (λ k. int_le (place k) (pos b)) (sym key) ∙ parts.0)
             (ap (λ p. int_le (pos a) (number_at xs last (shown_end xs (place_of_end refs p)))) (ap (λ (p : EndPair ℕ). p.end) ends) ∙ parts.1)
-            (number-from-zero a (shown_end xs (place_of_end refs i.ends.start)) (shown_end xs (place_of refs y.end)) (side ends key) parts.1) in
+            (number-from-zero a (shown_end xs (place_of_end refs i.ends.start)) (shown_end xs (reference_place refs y.end)) (side ends key) parts.1) in
             ap (λ u. is_some u) (interval_of-filter passes (label, o.id) shown (rise-shown_from xs 0 ts from rise-from) ∙ ap (kept passes) is ∙ ap (λ c. cond c (Some (carried_interval xs 0 last at)) None) pass)
             )
           where
@@ -209,10 +209,10 @@ module _ {U : Type 0} (xs : List (TreeElement U)) where
             rise-from = NamesRise-map (settled_interval xs 0) (placed_intervals refs acked) (λ i. refl) (NamesRise-map (with_mapped_ends (places_of_ends refs)) acked (λ i. refl) rise)
 
             side : {e : EndPair ℕ} → e ≡ record { start = Some y.key; end = Some y.end } → y.start ≡ y.key
-                → is_some (shown_end xs (place_of_end refs e.start)) ≡ is_some (shown_end xs (place_of refs y.end))
+                → is_some (shown_end xs (place_of_end refs e.start)) ≡ is_some (shown_end xs (reference_place refs y.end))
             side e k =
-                ap (λ p. is_some (shown_end xs (place_of_end refs p))) (ap (λ (p : EndPair ℕ). p.start) e) ∙ ap (λ r. is_some (shown_end xs (place_of refs r))) (sym k)
-                ∙ (shown-order xs).together (place_of refs y.start) (place_of refs y.end) (l.within y.key y own).0 (l.within y.key y own).1 (l.together y.key y own)
+                ap (λ p. is_some (shown_end xs (place_of_end refs p))) (ap (λ (p : EndPair ℕ). p.start) e) ∙ ap (λ r. is_some (shown_end xs (reference_place refs r))) (sym k)
+                ∙ (shown-order xs).together (reference_place refs y.start) (reference_place refs y.end) (l.within y.key y own).0 (l.within y.key y own).1 (l.together y.key y own)
 
             passes-it : (i : Interval ℕ) → name_of i ≡ (label, o.id)
                 → int_le (number_at xs last (shown_end xs (place_of_end refs i.ends.start))) (pos b) ≡ true

@@ -14,7 +14,7 @@ use Rattle.ft_overlap.specs.Items.{item_at, key_if}
 use Rattle.ft_props.specs.Keys.{Characters, text_cmp}
 use Rattle.ft_sumdoc.specs.Meeting.{meets}
 use Rattle.ft_tree_leaves.specs.Elements.{TreeElement}
-use Rattle.ft_tree_leaves.specs.References.{place_of}
+use Rattle.ft_tree_leaves.specs.References.{reference_place}
 use Rattle.ft_interval.specs.declared.indexes.LabelIndex.{LabelIndex}
 use Rattle.ft_interval_store.specs.declared.intervals.EndPair.{EndPair}
 use Rattle.ft_interval_store.specs.declared.intervals.Interval.{Interval}
@@ -36,7 +36,7 @@ use Rattle.ft_interval_store.proofs.ShownOne.{interval_of-shown_from}
 pub record IsAttachedEnd (refs : References) (end : Option ℕ) : Type 0 where
   pub reference : ℕ
   pub is : end ≡ Some reference
-  pub attached : is_some (place_of refs reference) ≡ true
+  pub attached : is_some (reference_place refs reference) ≡ true
 
 pub not-le : (c : ℤ) → negsuc 0 <ℤ c → int_le c (negsuc 0) ≡ false
 not-le c h = by (int_le c (negsuc 0)) refl
@@ -134,9 +134,9 @@ module _ {U : Type 0} (xs : List (TreeElement U)) where
 
   attached-by : (refs : References) (c : ℤ) → negsuc 0 <ℤ c → (end : Option ℕ) → int_le c (number_at xs last (shown_end xs (place_of_end refs end))) ≡ true → IsAttachedEnd refs end
   attached-by refs c above None h = absurd (true-false h (ap (λ p. int_le c (number_at xs last p)) shown-none ∙ not-le c above))
-  attached-by refs c above (Some s) h = by (place_of refs s) refl
+  attached-by refs c above (Some s) h = by (reference_place refs s) refl
     where
-      by : (o : Option ℕ) → place_of refs s ≡ o → IsAttachedEnd refs (Some s)
+      by : (o : Option ℕ) → reference_place refs s ≡ o → IsAttachedEnd refs (Some s)
       by (Some p) e = record { reference = s; is = refl; attached = ap (λ o. is_some o) e }
       by None e = absurd (true-false h (ap (λ p. int_le c (number_at xs last (shown_end xs p))) e ∙ ap (λ p. int_le c (number_at xs last p)) shown-none ∙ not-le c above))
 

@@ -7,7 +7,7 @@ use Rattle.ft_base.specs.Scan.{one_more_if}
 use Rattle.ft_overlap.specs.declared.items.Item.{Item}
 use Rattle.ft_overlap.specs.Items.{AreKnown, IsEndIn, KeepsOrder, has_key, item_at, put_item}
 use Rattle.ft_tree_leaves.specs.declared.text.TextContent.{TextContent}
-use Rattle.ft_tree_leaves.specs.References.{IsReferenceIn, place_of}
+use Rattle.ft_tree_leaves.specs.References.{IsReferenceIn, reference_place}
 use Rattle.ft_tree.specs.State.{TreeState}
 use Rattle.ft_interval.specs.declared.indexes.LabelIndex.{LabelIndex}
 use Rattle.ft_interval_store.specs.declared.intervals.EndPair.{EndPair}
@@ -37,7 +37,7 @@ ends-are p s e a b = λ i. record { start = a i; end = b i }
 pub to-attached : (refs : References) (ends : EndPair ℕ) (s e : ℕ) → AreAttached refs ends s e → attached_ends refs ends ≡ Some (s, e)
 to-attached refs ends s e a =
     ap (λ o. attached_both refs o ends.end) a.start ∙ ap (attached_start refs s) a.end
-    ∙ ap (λ b. cond b (cond (is_some (place_of refs e)) (Some (s, e)) None) None) a.first ∙ ap (λ b. cond b (Some (s, e)) None) a.second
+    ∙ ap (λ b. cond b (cond (is_some (reference_place refs e)) (Some (s, e)) None) None) a.first ∙ ap (λ b. cond b (Some (s, e)) None) a.second
 
 pub from-attached : (refs : References) (ends : EndPair ℕ) (s e : ℕ) → attached_ends refs ends ≡ Some (s, e) → AreAttached refs ends s e
 from-attached refs ends s e h = by ends.start ends.end refl refl h
@@ -45,9 +45,9 @@ from-attached refs ends s e h = by ends.start ends.end refl refl h
     by : (a b : Option ℕ) → ends.start ≡ a → ends.end ≡ b → attached_both refs a b ≡ Some (s, e) → AreAttached refs ends s e
     by None b p q g = absurd (none-some g)
     by (Some x) None p q g = absurd (none-some g)
-    by (Some x) (Some y) p q g = step (is_some (place_of refs x)) (is_some (place_of refs y)) refl refl g
+    by (Some x) (Some y) p q g = step (is_some (reference_place refs x)) (is_some (reference_place refs y)) refl refl g
       where
-        step : (i j : Bool) → is_some (place_of refs x) ≡ i → is_some (place_of refs y) ≡ j → cond {A = Option (ℕ × ℕ)} i (cond {A = Option (ℕ × ℕ)} j (Some (x, y)) None) None ≡ Some (s, e)
+        step : (i j : Bool) → is_some (reference_place refs x) ≡ i → is_some (reference_place refs y) ≡ j → cond {A = Option (ℕ × ℕ)} i (cond {A = Option (ℕ × ℕ)} j (Some (x, y)) None) None ≡ Some (s, e)
             → AreAttached refs ends s e
         step true true i j k =
             let same = some-is k in
@@ -56,8 +56,8 @@ from-attached refs ends s e h = by ends.start ends.end refl refl h
             record {
               start = p ∙ ap (λ (z : ℕ). Some z) left;
               end = q ∙ ap (λ (z : ℕ). Some z) right;
-              first = ap (λ z. is_some (place_of refs z)) (sym left) ∙ i;
-              second = ap (λ z. is_some (place_of refs z)) (sym right) ∙ j;
+              first = ap (λ z. is_some (reference_place refs z)) (sym left) ∙ i;
+              second = ap (λ z. is_some (reference_place refs z)) (sym right) ∙ j;
             }
         step true false i j k = absurd (none-some k)
         step false j i l k = absurd (none-some k)
@@ -203,7 +203,7 @@ module _ (n : ℕ) (refs : References) (id : Characters) (is : Characters → Bo
       pub key-fresh : has_key s (list_in x).items ≡ false
       key-fresh = has-none s (list_in x).items key-none
 
-      module _ (y : Option LabelIndex) (within : IsWithin n (place_of refs s) × IsWithin n (place_of refs e)) (p : PutsItem refs id s e x y) where
+      module _ (y : Option LabelIndex) (within : IsWithin n (reference_place refs s) × IsWithin n (reference_place refs e)) (p : PutsItem refs id s e x y) where
         -- the item at a key is the new one, or one that was there
         found : (k : ℕ) → item_at k (list_in y).items ≡ cond (nat_eq s k) (Some (item_for s e)) (item_at k (list_in x).items)
         found k = ap (item_at k) p.items ∙ put-at (list_place refs) (item_for s e) k (list_in x).items key-none
@@ -223,8 +223,8 @@ module _ (n : ℕ) (refs : References) (id : Characters) (is : Characters → Bo
           once = λ k. subst (λ is. times k is ≤ 1) (sym p.items) (one k (nat_eq s k) refl);
           order = p.order;
           law = p.law;
-          within = either (λ i. IsWithin n (place_of refs i.start) × IsWithin n (place_of refs i.end)) within l.within;
-          together = either (λ i. is_some (place_of refs i.start) ≡ is_some (place_of refs i.end)) (a.first ∙ sym a.second) l.together;
+          within = either (λ i. IsWithin n (reference_place refs i.start) × IsWithin n (reference_place refs i.end)) within l.within;
+          together = either (λ i. is_some (reference_place refs i.start) ≡ is_some (reference_place refs i.end)) (a.first ∙ sym a.second) l.together;
         }
           where
             one : (k : ℕ) → (b : Bool) → nat_eq s k ≡ b → times k (put_item (list_place refs) (item_for s e) (list_in x).items) ≤ 1
@@ -289,16 +289,16 @@ module _ (n : ℕ) (refs : References) (id : Characters) (is : Characters → Bo
 
 module _ (n m : ℕ) (refs after : References) (has : Characters → EndPair ℕ) (x : Option LabelIndex) (E : ℕ → Type 0)
     (known : (id : Characters) (r : ℕ) → ((has id).start ≡ Some r) ⊎ ((has id).end ≡ Some r) → E r)
-    (rises : (r s : ℕ) → E r → E s → IsWithin n (place_of refs s) → IsAtMost (place_of refs r) (place_of refs s) → IsAtMost (place_of after r) (place_of after s))
-    (inside : (r : ℕ) → E r → IsWithin n (place_of refs r) → IsWithin m (place_of after r))
-    (together : (r s : ℕ) → E r → E s → IsWithin n (place_of refs r) → IsWithin n (place_of refs s)
-    → is_some (place_of refs r) ≡ is_some (place_of refs s) → is_some (place_of after r) ≡ is_some (place_of after s))
-    (gone : (r : ℕ) → E r → place_of refs r ≡ None → place_of after r ≡ None)
+    (rises : (r s : ℕ) → E r → E s → IsWithin n (reference_place refs s) → IsAtMost (reference_place refs r) (reference_place refs s) → IsAtMost (reference_place after r) (reference_place after s))
+    (inside : (r : ℕ) → E r → IsWithin n (reference_place refs r) → IsWithin m (reference_place after r))
+    (together : (r s : ℕ) → E r → E s → IsWithin n (reference_place refs r) → IsWithin n (reference_place refs s)
+    → is_some (reference_place refs r) ≡ is_some (reference_place refs s) → is_some (reference_place after r) ≡ is_some (reference_place after s))
+    (gone : (r : ℕ) → E r → reference_place refs r ≡ None → reference_place after r ≡ None)
     (l : IsListed n refs has x) where
   -- what is known of an end of an item
   record IsKnownEnd (r : ℕ) : Type 0 where
     fact : E r
-    within : IsWithin n (place_of refs r)
+    within : IsWithin n (reference_place refs r)
 
   both-known : (k : ℕ) (y : Item) → item_at k (list_in x).items ≡ Some y → IsKnownEnd y.start × IsKnownEnd y.end
   both-known k y h =
@@ -322,12 +322,12 @@ module _ (n m : ℕ) (refs after : References) (has : Characters → EndPair ℕ
   keeps r s p q h =
       let a = end-known r p in
       let b = end-known s q in
-      most-number (place_of after r) (place_of after s) (rises r s a.fact b.fact b.within (number-most (place_of refs r) (place_of refs s) h))
+      most-number (reference_place after r) (reference_place after s) (rises r s a.fact b.fact b.within (number-most (reference_place refs r) (reference_place refs s) h))
 
-  was : (r : ℕ) → E r → is_some (place_of after r) ≡ true → is_some (place_of refs r) ≡ true
-  was r e h = by (place_of refs r) refl
+  was : (r : ℕ) → E r → is_some (reference_place after r) ≡ true → is_some (reference_place refs r) ≡ true
+  was r e h = by (reference_place refs r) refl
     where
-      by : (u : Option ℕ) → place_of refs r ≡ u → is_some u ≡ true
+      by : (u : Option ℕ) → reference_place refs r ≡ u → is_some u ≡ true
       by (Some i) p = refl
       by None p = absurd (let never : false ≡ true = sym (ap (λ u. is_some u) (gone r e p)) ∙ h in cc never)
 
@@ -350,12 +350,12 @@ module _ (n m : ℕ) (refs after : References) (has : Characters → EndPair ℕ
 
 -- the same where all places change by f
 pub moved-listed : (n m : ℕ) (f : Option ℕ → Option ℕ) → KeepsEndOrder n m f → (refs after : References) (has : Characters → EndPair ℕ) (x : Option LabelIndex)
-    → ((id : Characters) (r : ℕ) → ((has id).start ≡ Some r) ⊎ ((has id).end ≡ Some r) → place_of after r ≡ f (place_of refs r)) → IsListed n refs has x → IsListed m after has x
+    → ((id : Characters) (r : ℕ) → ((has id).start ≡ Some r) ⊎ ((has id).end ≡ Some r) → reference_place after r ≡ f (reference_place refs r)) → IsListed n refs has x → IsListed m after has x
 moved-listed n m f o refs after has x moved l =
-    kept-listed n m refs after has x (λ r. place_of after r ≡ f (place_of refs r)) moved
-    (λ r s e g w h. subst (λ u. IsAtMost u (place_of after s)) (sym e) (subst (λ u. IsAtMost (f (place_of refs r)) u) (sym g) (o.rises (place_of refs r) (place_of refs s) w h)))
-    (λ r e w. subst (IsWithin m) (sym e) (o.within (place_of refs r) w))
-    (λ r s e g w v h. ap (λ u. is_some u) e ∙ o.together (place_of refs r) (place_of refs s) w v h ∙ sym (ap (λ u. is_some u) g))
+    kept-listed n m refs after has x (λ r. reference_place after r ≡ f (reference_place refs r)) moved
+    (λ r s e g w h. subst (λ u. IsAtMost u (reference_place after s)) (sym e) (subst (λ u. IsAtMost (f (reference_place refs r)) u) (sym g) (o.rises (reference_place refs r) (reference_place refs s) w h)))
+    (λ r e w. subst (IsWithin m) (sym e) (o.within (reference_place refs r) w))
+    (λ r s e g w v h. ap (λ u. is_some u) e ∙ o.together (reference_place refs r) (reference_place refs s) w v h ∙ sym (ap (λ u. is_some u) g))
     (λ r e h. e ∙ ap f h ∙ o.detached) l
 
 -- ---- what an index asks of places
@@ -372,17 +372,17 @@ module _ (tree : TreeState TextContent) (n : ℕ) (has : Characters → EndPair 
   pub items-placed : n ≤ 9223372036854775808 → AreKnown (IsPlaced tree) (list_in x).items
   items-placed few = all-found (λ y. IsPlaced tree y.start × IsPlaced tree y.end) (list_in x).items l.once (λ k y h.
       (let a = live-both k y h in let b = l.within k y h in
-      ((usable, a.0, within-more n 9223372036854775808 (place_of tree.refs y.start) few b.0), (usable, a.1, within-more n 9223372036854775808 (place_of tree.refs y.end) few b.1))))
+      ((usable, a.0, within-more n 9223372036854775808 (reference_place tree.refs y.start) few b.0), (usable, a.1, within-more n 9223372036854775808 (reference_place tree.refs y.end) few b.1))))
 
   pub items-live : AreKnown (IsLiveIn tree) (list_in x).items
   items-live = all-found (λ y. IsLiveIn tree y.start × IsLiveIn tree y.end) (list_in x).items l.once (λ k y h. (let a = live-both k y h in ((usable, a.0), (usable, a.1))))
 
 -- the ends of all items are within
 pub ends-inside : (n : ℕ) (refs : References) (has : Characters → EndPair ℕ) (x : Option LabelIndex) → IsListed n refs has x
-    → (r : ℕ) → IsEndIn (list_in x).items r → IsWithin n (place_of refs r)
+    → (r : ℕ) → IsEndIn (list_in x).items r → IsWithin n (reference_place refs r)
 ends-inside n refs has x l r e =
     let w = l.within e.0.key e.0 (own (list_in x).items l.once e.0 e.1) in
     elim e.2 [
-      | inl p ↦ subst (λ s. IsWithin n (place_of refs s)) p w.0
-      | inr p ↦ subst (λ s. IsWithin n (place_of refs s)) p w.1
+      | inl p ↦ subst (λ s. IsWithin n (reference_place refs s)) p w.0
+      | inr p ↦ subst (λ s. IsWithin n (reference_place refs s)) p w.1
     ]

@@ -4,7 +4,7 @@ use Rattle.std.specs.Prelude.{◌⊎◌}
 use Rattle.ft_op.specs.declared.operations.TextOp.{TextOp}
 use Rattle.ft_op.specs.declared.operations.TextOp.TheVariants.{One, Group, IntervalAdd, IntervalChange, IntervalDelete}
 use Rattle.ft_tree_leaves.specs.Elements.{TreeElement, is_unremoved}
-use Rattle.ft_tree_leaves.specs.References.{place_of}
+use Rattle.ft_tree_leaves.specs.References.{reference_place}
 use Rattle.ft_interval.specs.declared.indexes.LabelIndex.{LabelIndex}
 use Rattle.ft_interval_store.specs.declared.intervals.EndPair.{EndPair}
 use Rattle.ft_interval_store.specs.declared.intervals.Interval.{Interval}
@@ -76,13 +76,13 @@ module _ {U : Type 0} (xs : List (TreeElement U)) (before after : References) (o
       ap (λ b. cond b (after_own op given (option_map at_before (interval_of m old))) (option_map at_before (interval_of m old))) h ∙ ap (option_map at_before) e in
       ap (λ (j : Interval ℕ). j.ends) (some-is (sym left ∙ placed-at m ∙ right))
 
-  end-stays : (m : Name) (r : ℕ) → ((ends_but op old m).start ≡ Some r) ⊎ ((ends_but op old m).end ≡ Some r) → place_of after r ≡ place_of before r
+  end-stays : (m : Name) (r : ℕ) → ((ends_but op old m).start ≡ Some r) ⊎ ((ends_but op old m).end ≡ Some r) → reference_place after r ≡ reference_place before r
   end-stays m r h = by (is_on m op) refl
     where
       of : (side : EndPair ℕ → Option ℕ) → (b : Bool) → is_on m op ≡ b → side (ends_but op old m) ≡ Some r → side (cond b no_ends (ends_of_name m old)) ≡ Some r
       of side b e g = ap (λ c. side (cond c no_ends (ends_of_name m old))) (sym e) ∙ g
 
-      by : (b : Bool) → is_on m op ≡ b → place_of after r ≡ place_of before r
+      by : (b : Bool) → is_on m op ≡ b → reference_place after r ≡ reference_place before r
       by true e = elim h [
         | inl g ↦ absurd (none-some (of (λ p. p.start) true e g))
         | inr g ↦ absurd (none-some (of (λ p. p.end) true e g))
@@ -132,7 +132,7 @@ module _ {U : Type 0} (xs : List (TreeElement U)) (before after : References) (o
   record IsPlacedEnd (end : Option ℕ) : Type 0 where
     reference : ℕ
     is : end ≡ Some reference
-    attached : is_some (place_of before reference) ≡ true
+    attached : is_some (reference_place before reference) ≡ true
 
   placed-end : (end : Option ℕ) → is_some (place_of_end before end) ≡ true → IsPlacedEnd end
   placed-end None h = (cc)
@@ -151,17 +151,17 @@ module _ {U : Type 0} (xs : List (TreeElement U)) (before after : References) (o
       ends-are : ends_of_name m new ≡ w.interval.ends
       ends-are = ap ends_in w.there
 
-      start-is : (places_of_ends after w.interval.ends).start ≡ place_of after s
+      start-is : (places_of_ends after w.interval.ends).start ≡ reference_place after s
       start-is = ap (place_of_end after) w.end
 
-      end-is : (places_of_ends after w.interval.ends).end ≡ place_of after e
+      end-is : (places_of_ends after w.interval.ends).end ≡ reference_place after e
       end-is = ap (place_of_end after) (ap (λ (p : EndPair ℕ). p.end) (sym ends-are) ∙ att.end)
 
       old-ones : (j : Interval ℕ) → interval_of m old ≡ Some j → places_of_ends after w.interval.ends ≡ places_of_ends before j.ends
-          → IsWithin (length xs) (place_of after s) × IsWithin (length xs) (place_of after e)
+          → IsWithin (length xs) (reference_place after s) × IsWithin (length xs) (reference_place after e)
       old-ones j f g =
-          let left : place_of after s ≡ place_of_end before j.ends.start = sym start-is ∙ ap (λ (p : EndPair ℕ). p.start) g in
-          let right : place_of after e ≡ place_of_end before j.ends.end = sym end-is ∙ ap (λ (p : EndPair ℕ). p.end) g in
+          let left : reference_place after s ≡ place_of_end before j.ends.start = sym start-is ∙ ap (λ (p : EndPair ℕ). p.start) g in
+          let right : reference_place after e ≡ place_of_end before j.ends.end = sym end-is ∙ ap (λ (p : EndPair ℕ). p.end) g in
           let first = placed-end j.ends.start (ap (λ o. is_some o) (sym left) ∙ att.first) in
           let second = placed-end j.ends.end (ap (λ o. is_some o) (sym right) ∙ att.second) in
           let ends : ends_of_name m old ≡ j.ends = ap ends_in f in
@@ -176,7 +176,7 @@ module _ {U : Type 0} (xs : List (TreeElement U)) (before after : References) (o
             subst (IsWithin (length xs)) (sym (right ∙ ap (place_of_end before) second.is)) inside.1,
           )
 
-      by : HasPlaces m w.interval → IsWithin (length xs) (place_of after s) × IsWithin (length xs) (place_of after e)
+      by : HasPlaces m w.interval → IsWithin (length xs) (reference_place after s) × IsWithin (length xs) (reference_place after e)
       by (inl g) = (
         subst (IsWithin (length xs)) (sym (sym start-is ∙ ap (λ (p : EndPair ℕ). p.start) g)) (slid-within places.start),
         subst (IsWithin (length xs)) (sym (sym end-is ∙ ap (λ (p : EndPair ℕ). p.end) g)) (slid-within places.end),

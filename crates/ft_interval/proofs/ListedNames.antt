@@ -7,7 +7,7 @@ use Rattle.std.proofs.lemmas.List.Elements.{All-nil}
 use Rattle.ft_overlap.specs.Items.{AreKnown, IsInOrder as IsIndexInOrder, ItemList, NamesGreatest, has_key, no_items, put_item}
 use Rattle.ft_overlap.specs.declared.items.Item.{Item}
 use Rattle.ft_tree_leaves.specs.declared.text.TextContent.{TextContent}
-use Rattle.ft_tree_leaves.specs.References.{IsReferenceIn, place_of}
+use Rattle.ft_tree_leaves.specs.References.{IsReferenceIn, reference_place}
 use Rattle.ft_tree.specs.State.{TreeState}
 use Rattle.ft_interval.specs.declared.indexes.LabelIndex.{LabelIndex}
 use Rattle.ft_interval_store.specs.declared.intervals.EndPair.{EndPair}
@@ -181,11 +181,11 @@ live-without refs c live m n = by (is_eq (name_cmp n m)) (live-ends-of refs c li
 
 -- an item more is known where its ends are live and within
 pub known-more : (tree : TreeState TextContent) (n : ℕ) (ends : EndPair ℕ) (s e : ℕ) (xs : List Item) → IsTrue tree.usable → n ≤ 9223372036854775808 → AreLiveEnds tree.refs ends
-    → AreAttached tree.refs ends s e → IsWithin n (place_of tree.refs s) × IsWithin n (place_of tree.refs e) → AreKnown (IsPlaced tree) xs → AreKnown (IsPlaced tree) (item_for s e ∷ xs)
+    → AreAttached tree.refs ends s e → IsWithin n (reference_place tree.refs s) × IsWithin n (reference_place tree.refs e) → AreKnown (IsPlaced tree) xs → AreKnown (IsPlaced tree) (item_for s e ∷ xs)
 known-more tree n ends s e xs usable few live a w k =
     let first : IsReferenceIn tree.refs s = subst (IsLiveEnd tree.refs) a.start live.0 in
     let second : IsReferenceIn tree.refs e = subst (IsLiveEnd tree.refs) a.end live.1 in
     All-cons (λ (y : Item). IsPlaced tree y.start × IsPlaced tree y.end) (item_for s e) xs (
-      (usable, first, within-more n 9223372036854775808 (place_of tree.refs s) few w.0),
-      (usable, second, within-more n 9223372036854775808 (place_of tree.refs e) few w.1),
+      (usable, first, within-more n 9223372036854775808 (reference_place tree.refs s) few w.0),
+      (usable, second, within-more n 9223372036854775808 (reference_place tree.refs e) few w.1),
     ) k

@@ -9,7 +9,7 @@ use Rattle.ft_overlap.specs.declared.items.Item.{Item}
 use Rattle.ft_overlap.specs.Items.{IsEndIn, KeepsOrder}
 use Rattle.ft_tree_leaves.specs.Elements.{TreeElement, seen_in}
 use Rattle.ft_tree_leaves.specs.Places.{seen_before, settled_place, shifted_place}
-use Rattle.ft_tree_leaves.specs.References.{place_of}
+use Rattle.ft_tree_leaves.specs.References.{reference_place}
 use Rattle.ft_tree_leaves.proofs.Runs.{len-append}
 use Rattle.ft_interval_store.specs.Ends.{References}
 use Rattle.ft_interval.specs.Order.{IsAtMost, IsWithin, KeepsEndOrder, list_place}
@@ -92,11 +92,11 @@ module _ {U : Type 0} (xs : List (TreeElement U)) where
       omega (arith, ints, m)
 
   -- what is in order in the list is as it is shown
-  pub shown-keeps : (refs : References) (items : List Item) → ((r : ℕ) → IsEndIn items r → IsWithin (length xs) (place_of refs r))
+  pub shown-keeps : (refs : References) (items : List Item) → ((r : ℕ) → IsEndIn items r → IsWithin (length xs) (reference_place refs r))
       → KeepsOrder (list_place refs) (shown_place xs refs) items
   shown-keeps refs items within = λ r s p q h.
-      number-rises last (shown_end xs (place_of refs r)) (shown_end xs (place_of refs s))
-      (shown-order.rises (place_of refs r) (place_of refs s) (within s q) (number-most (place_of refs r) (place_of refs s) h))
+      number-rises last (shown_end xs (reference_place refs r)) (shown_end xs (reference_place refs s))
+      (shown-order.rises (reference_place refs r) (reference_place refs s) (within s q) (number-most (reference_place refs r) (reference_place refs s) h))
 
 -- ---- elements that are put in
 

@@ -5,7 +5,7 @@ use Rattle.std.proofs.lemmas.List.Elements.{All-nil}
 use Rattle.ft_overlap.specs.Items.{NamesGreatest}
 use Rattle.ft_props.specs.Keys.{Characters}
 use Rattle.ft_tree_leaves.specs.declared.text.TextContent.{TextContent}
-use Rattle.ft_tree_leaves.specs.References.{place_of}
+use Rattle.ft_tree_leaves.specs.References.{reference_place}
 use Rattle.ft_tree.specs.State.{TreeState}
 use Rattle.ft_interval.specs.declared.indexes.LabelIndex.{LabelIndex}
 use Rattle.ft_interval_store.specs.declared.intervals.EndPair.{EndPair}
@@ -28,7 +28,7 @@ module _ (before after : References) (is : List (Interval ℕ)) (eq : placed_int
       ∙ interval_of-map m (with_mapped_ends (places_of_ends before)) is (λ j. refl) in
       ap (λ (j : Interval ℕ). j.ends) (some-is (sym (ap (option_map (with_mapped_ends (places_of_ends after))) e) ∙ placed ∙ ap (option_map (with_mapped_ends (places_of_ends before))) e))
 
-  end-stays : (m : Name) (r : ℕ) → ((ends_of_name m is).start ≡ Some r) ⊎ ((ends_of_name m is).end ≡ Some r) → place_of after r ≡ place_of before r
+  end-stays : (m : Name) (r : ℕ) → ((ends_of_name m is).start ≡ Some r) ⊎ ((ends_of_name m is).end ≡ Some r) → reference_place after r ≡ reference_place before r
   end-stays m r h = elim h [
     | inl g ↦ let w = has-end (λ (p : EndPair ℕ). p.start) refl is m r g in
         sym (ap (place_of_end after) w.end) ∙ ap (λ (p : EndPair ℕ). p.start) (places-stay m w.interval w.there) ∙ ap (place_of_end before) w.end

@@ -9,7 +9,7 @@ use Rattle.ft_base.specs.Scan.{len}
 use Rattle.ft_props.specs.Keys.{Characters, text_cmp}
 use Rattle.ft_overlap.specs.declared.items.Item.{Item}
 use Rattle.ft_overlap.specs.Items.{IsInOrder, ItemList, KeepsOrder, item_at, key_if, no_items, put_item, without_key}
-use Rattle.ft_tree_leaves.specs.References.{place_of}
+use Rattle.ft_tree_leaves.specs.References.{reference_place}
 use Rattle.ft_interval.specs.declared.indexes.LabelIndex.{LabelIndex}
 use Rattle.ft_interval_store.specs.declared.intervals.EndPair.{EndPair}
 use Rattle.ft_interval_store.specs.declared.intervals.Interval.{Interval}
@@ -41,7 +41,7 @@ item_for s e = record { key = s; start = s; end = e }
 
 -- the references at both ends, if both are attached
 abbrev pub if_attached : References → ℕ → ℕ → Option (ℕ × ℕ)
-if_attached refs s e = cond (is_some (place_of refs s)) (cond (is_some (place_of refs e)) (Some (s, e)) None) None
+if_attached refs s e = cond (is_some (reference_place refs s)) (cond (is_some (reference_place refs e)) (Some (s, e)) None) None
 
 abbrev pub attached_start : References → ℕ → Option ℕ → Option (ℕ × ℕ)
 attached_start refs s None = None
@@ -58,8 +58,8 @@ attached_ends refs e = attached_both refs e.start e.end
 pub record AreAttached (refs : References) (ends : EndPair ℕ) (s e : ℕ) : Type 0 where
   pub start : ends.start ≡ Some s
   pub end : ends.end ≡ Some e
-  pub first : is_some (place_of refs s) ≡ true
-  pub second : is_some (place_of refs e) ≡ true
+  pub first : is_some (reference_place refs s) ≡ true
+  pub second : is_some (reference_place refs e) ≡ true
 
 -- the same items and ids
 pub record IsSameIndex (old new : Option LabelIndex) : Type 0 where
@@ -99,8 +99,8 @@ pub record IsListed (n : ℕ) (refs : References) (ends_of : Characters → EndP
   pub once : (k : ℕ) → len (λ (y : Item). nat_eq y.key k) (list_in x).items ≤ 1
   pub order : IsInOrder (list_place refs) (list_in x)
   pub law : StaysInOrder (list_in x)
-  pub within : (k : ℕ) (y : Item) → item_at k (list_in x).items ≡ Some y → IsWithin n (place_of refs y.start) × IsWithin n (place_of refs y.end)
-  pub together : (k : ℕ) (y : Item) → item_at k (list_in x).items ≡ Some y → is_some (place_of refs y.start) ≡ is_some (place_of refs y.end)
+  pub within : (k : ℕ) (y : Item) → item_at k (list_in x).items ≡ Some y → IsWithin n (reference_place refs y.start) × IsWithin n (reference_place refs y.end)
+  pub together : (k : ℕ) (y : Item) → item_at k (list_in x).items ≡ Some y → is_some (reference_place refs y.start) ≡ is_some (reference_place refs y.end)
 
 -- an item more
 pub record PutsItem (refs : References) (id : Characters) (s e : ℕ) (old new : Option LabelIndex) : Type 0 where
@@ -167,7 +167,7 @@ pub record StandsOn (tree : TreeState TextContent) (c : IndexedState) : Type 0 w
 -- the ends of the interval of that name are places among so many elements, if it is there and both are attached
 abbrev pub AreNamedEndsWithin : ℕ → References → Name → List (Interval ℕ) → Type 0
 AreNamedEndsWithin k refs m is =
-    (s e : ℕ) → AreAttached refs (ends_of_name m is) s e → IsWithin k (place_of refs s) × IsWithin k (place_of refs e)
+    (s e : ℕ) → AreAttached refs (ends_of_name m is) s e → IsWithin k (reference_place refs s) × IsWithin k (reference_place refs e)
 
 -- the same of the interval that the operation is on
 abbrev pub AreEndsWithin : ℕ → References → TextOp → List (Interval ℕ) → Type 0

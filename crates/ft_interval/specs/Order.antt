@@ -1,7 +1,7 @@
 -- How ends follow one another by their places: a detached end is before all others.
 use Rattle.std.specs.Prelude.{◌≡◌, IsTrue, ℕ, ◌<◌, ◌≤◌, ℤ, pos, negsuc, Option, Some, None, is_some, ⊤}
 use Rattle.ft_tree_leaves.specs.declared.text.TextContent.{TextContent}
-use Rattle.ft_tree_leaves.specs.References.{IsReferenceIn, place_of}
+use Rattle.ft_tree_leaves.specs.References.{IsReferenceIn, reference_place}
 use Rattle.ft_tree.specs.State.{TreeState}
 use Rattle.ft_interval_store.specs.Ends.{References}
 
@@ -31,11 +31,11 @@ pub record KeepsEndOrder (n m : ℕ) (f : Option ℕ → Option ℕ) : Type 0 wh
 
 -- the place of a reference in the whole list, -1 where it is detached
 abbrev pub list_place : References → ℕ → ℤ
-list_place refs r = place_number (place_of refs r)
+list_place refs r = place_number (reference_place refs r)
 
 -- the reference is live in the tree, and its place is a number of 63 bits
 abbrev pub IsPlaced : TreeState TextContent → ℕ → Type 0
-IsPlaced tree r = IsTrue tree.usable × IsReferenceIn tree.refs r × IsWithin 9223372036854775808 (place_of tree.refs r)
+IsPlaced tree r = IsTrue tree.usable × IsReferenceIn tree.refs r × IsWithin 9223372036854775808 (reference_place tree.refs r)
 
 -- the reference is live in the tree
 abbrev pub IsLiveIn : TreeState TextContent → ℕ → Type 0

@@ -56,7 +56,7 @@ pub fn order_is_kept(index: Option<&LabelIndex>)
 }
 
 // Where the index of the label stands, if it has one.
-fn place_of(indexes: &[LabelIndex], label: &Text) -> Option<usize>
+fn label_place(indexes: &[LabelIndex], label: &Text) -> Option<usize>
     ensures { result ≡ position (λ x. is_eq (text_cmp label.now x.label)) indexes.now }
 {
     indexes.iter().position(|x| is_of(x, label))
@@ -118,7 +118,7 @@ fn place_for(indexes: &mut Vec<LabelIndex>, label: &Text) -> Result<usize, OutOf
     ensures same { OnOk result (IsSameIndex (index_of label.now indexes.old.items) (index_of label.now indexes.new.items)) }
     ensures others { OnOk result (KeepsOtherLabels label.now indexes.old.items indexes.new.items) }
 {
-    if let Some(i) = place_of(indexes, label) {
+    if let Some(i) = label_place(indexes, label) {
         return Ok(i);
     }
     let i = indexes.len();
@@ -178,7 +178,7 @@ pub fn unlist(
     let Some(start) = ends.start else {
         return;
     };
-    let Some(i) = place_of(indexes, label) else {
+    let Some(i) = label_place(indexes, label) else {
         return;
     };
     take_item(&mut indexes[i], tree, start.0 as u64);

@@ -16,7 +16,7 @@ pub struct ListPlaces<'a> {
 }
 
 impl<'a> Places for ListPlaces<'a> {
-    ghost place_of = { λ at r. list_place at.tree.now.refs r };
+    ghost end_place = { λ at r. list_place at.tree.now.refs r };
 
     ghost Knows = { λ at r. IsPlaced at.tree.now r };
 
@@ -35,7 +35,7 @@ pub struct ShownPlaces<'a> {
 }
 
 impl<'a> Places for ShownPlaces<'a> {
-    ghost place_of = { λ at r. shown_place (text_elements at.tree.now) at.tree.now.refs r };
+    ghost end_place = { λ at r. shown_place (text_elements at.tree.now) at.tree.now.refs r };
 
     ghost Knows = { λ at r. IsLiveIn at.tree.now r };
 

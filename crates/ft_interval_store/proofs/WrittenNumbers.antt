@@ -7,7 +7,7 @@ use Rattle.ft_block.specs.declared.leaves.LenView.TheVariants.{Stage}
 use Rattle.ft_tree_leaves.specs.declared.references.Reference.{Reference}
 use Rattle.ft_tree_leaves.specs.Elements.{TreeElement, seen_in}
 use Rattle.ft_tree_leaves.specs.Places.{place_at}
-use Rattle.ft_tree_leaves.specs.References.{place_of, reference_at}
+use Rattle.ft_tree_leaves.specs.References.{reference_place, reference_at}
 use Rattle.ft_op.specs.declared.operations.Ends.{Ends}
 use Rattle.ft_op.specs.declared.operations.TextOp.TheVariants.{IntervalChange}
 use Rattle.ft_props.specs.Keys.{Characters}
@@ -51,7 +51,7 @@ module _ {U : Type 0} (xs : List (TreeElement U)) (k : ℕ) where
 
 -- the number that is shown of a reference
 pub shown-number : {U : Type 0} (xs : List (TreeElement U)) (refs : References) (r : ℕ) (p : Option ℕ) (n : ℤ) → n ≡ number_or_none (number_of xs last p)
-    → p ≡ carried_end xs 0 (last - 0) (settled_end xs 0 (place_of refs r)) → n ≡ shown_place xs refs r
+    → p ≡ carried_end xs 0 (last - 0) (settled_end xs 0 (reference_place refs r)) → n ≡ shown_place xs refs r
 unfolding shown_end
 shown-number xs refs r p n h e = h ∙ number-shown xs last p ∙ ap (number_at xs last) e
 

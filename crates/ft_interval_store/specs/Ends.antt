@@ -5,7 +5,7 @@ use Rattle.ft_op.specs.declared.operations.Ends.{Ends}
 use Rattle.ft_tree_leaves.specs.declared.references.Reference.{Reference}
 use Rattle.ft_tree_leaves.specs.Elements.{TreeElement, is_unremoved}
 use Rattle.ft_tree_leaves.specs.Places.{place_at, settled_place}
-use Rattle.ft_tree_leaves.specs.References.{IsReferenceIn, place_of, reference_at}
+use Rattle.ft_tree_leaves.specs.References.{IsReferenceIn, reference_place, reference_at}
 use Rattle.ft_interval_store.specs.declared.intervals.EndPair.{EndPair}
 
 -- references, each under its number
@@ -22,7 +22,7 @@ map_ends f e = record { start = f e.start; end = f e.end }
 
 -- the place of an end that is a reference, none where it is detached
 abbrev pub place_of_end : References → Option ℕ → Option ℕ
-place_of_end refs end = option_and_then (place_of refs) end
+place_of_end refs end = option_and_then (reference_place refs) end
 
 -- the places of both
 abbrev pub places_of_ends : References → EndPair ℕ → EndPair ℕ

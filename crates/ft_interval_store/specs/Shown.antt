@@ -8,7 +8,7 @@ use Rattle.ft_op.specs.declared.operations.TextOp.TheVariants.{IntervalAdd, Inte
 use Rattle.ft_sumdoc.specs.declared.summary.IntervalRec.{IntervalRec}
 use Rattle.ft_tree_leaves.specs.Elements.{TreeElement, seen_in}
 use Rattle.ft_tree_leaves.specs.Places.{seen_before, settled_place}
-use Rattle.ft_tree_leaves.specs.References.{place_of}
+use Rattle.ft_tree_leaves.specs.References.{reference_place}
 use Rattle.ft_interval_store.specs.declared.intervals.EndPair.{EndPair}
 use Rattle.ft_interval_store.specs.declared.intervals.Interval.{Interval}
 use Rattle.ft_interval_store.specs.declared.pending.Operation.{Operation}
@@ -70,7 +70,7 @@ module _ {U : Type 0} (xs : List (TreeElement U)) where
 
   -- the number of a reference among the elements that the client sees, -1 where it is detached
   abbrev pub shown_place : References → ℕ → ℤ
-  shown_place refs r = number_at last (shown_end (place_of refs r))
+  shown_place refs r = number_at last (shown_end (reference_place refs r))
 
   -- the ends as such numbers
   abbrev pub numbers_at : ℕ → EndPair ℕ → Ends

@@ -8,7 +8,7 @@ ghost use Rattle.ft_io.specs.Reader.{handed_out, input_limit, Call};
 ghost use Rattle.ft_io.specs.LineParts.{CutsLine, answer_at_end};
 
 use crate::byte_lists::Bytes;
-use crate::pieces::Piece;
+use crate::pieces::InputPiece;
 use crate::reader::{Line, LineFault};
 use crate::streams::Source;
 use ft_base::OutOfMemory;
@@ -31,7 +31,7 @@ pub enum Part {
 /// that it is at its end.
 #[derive(Drop)]
 pub struct Intake {
-    pub piece: Piece,
+    pub piece: InputPiece,
     pub given: usize,
     pub ended: bool,
     ghost within: { given ≤ input_limit + 1 },
@@ -94,7 +94,7 @@ impl Intake {
 }
 
 // Moves the bytes of the piece up to its first LF to the line.
-fn cut(piece: &mut Piece, line: Line, limit: usize) -> Result<Part, OutOfMemory>
+fn cut(piece: &mut InputPiece, line: Line, limit: usize) -> Result<Part, OutOfMemory>
     ensures { (so_far : List ℕ) → line ≡ handed_out limit so_far
         → IfOk result (CutsLine limit so_far piece.old piece.new) }
 {

@@ -15,13 +15,13 @@ const PIECE: usize = 1 << 16;
 /// A piece of the input, which is filled from a source and emptied from its front. Contracts see it
 /// as the bytes in it.
 #[derive(Drop)]
-pub struct Piece {
+pub struct InputPiece {
     bytes: Vec<u8>,
     from: usize,
     to: usize,
 }
 
-impl Model for Piece {
+impl Model for InputPiece {
     ghost use Rattle.std.specs.Prelude.{◌-◌, ◌<◌, ◌≤◌, List, ℕ, take, drop, vec_len};
 
     ghost Value = { List ℕ };
@@ -31,12 +31,12 @@ impl Model for Piece {
     ghost invariant = { λ a. (a.from ≤ a.to) × (a.to ≤ vec_len a.bytes) × (0 < vec_len a.bytes) };
 }
 
-impl Piece {
+impl InputPiece {
     /// An empty piece.
-    pub fn new(alloc: Global) -> Result<Piece, OutOfMemory>
+    pub fn new(alloc: Global) -> Result<InputPiece, OutOfMemory>
         ensures { IfOk result (λ piece. piece ≡ []) }
     {
-        Ok(Piece {
+        Ok(InputPiece {
             bytes: vec![in alloc; 0; PIECE]?,
             from: 0,
             to: 0,

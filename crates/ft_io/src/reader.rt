@@ -5,7 +5,7 @@ ghost use Rattle.ft_io.specs.Reader.{Call, new_reader};
 
 use crate::byte_lists::Bytes;
 use crate::intake::{INPUT_LIMIT, Intake};
-use crate::pieces::Piece;
+use crate::pieces::InputPiece;
 use crate::streams::{Failed, Source};
 use ft_base::OutOfMemory;
 use std::alloc::Global;
@@ -101,7 +101,7 @@ impl Lines {
         Ok(Lines {
             alloc,
             intake: Intake {
-                piece: Piece::new(alloc)?,
+                piece: InputPiece::new(alloc)?,
                 given: 0,
                 ended: false,
             },

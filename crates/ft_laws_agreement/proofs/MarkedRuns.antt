@@ -190,18 +190,18 @@ module _ (test : ListElement → Bool) (g f h : ListElement → ListElement) (se
     pub unmarked : is x ≡ false → h x ≡ f x
 
   -- ranges from o on make the marked list of the unmarked one
-  pub record Marks (o : ℕ) (ranges : List (ℕ × ℕ)) (zs : List ListElement) : Type 0 where
+  pub record MarksRanges (o : ℕ) (ranges : List (ℕ × ℕ)) (zs : List ListElement) : Type 0 where
     pub made : ranges_from o test g ranges (map f zs) ≡ map h zs
     pub fits : fit_from o test g ranges (map f zs) ≡ true
 
-  unseen-marks : (o : ℕ) (ranges : List (ℕ × ℕ)) (x : ListElement) (zs : List ListElement) → test (f x) ≡ false → h x ≡ f x → Marks o ranges zs → Marks o ranges (x ∷ zs)
+  unseen-marks : (o : ℕ) (ranges : List (ℕ × ℕ)) (x : ListElement) (zs : List ListElement) → test (f x) ≡ false → h x ≡ f x → MarksRanges o ranges zs → MarksRanges o ranges (x ∷ zs)
   unseen-marks o ranges x zs e k m = record {
     made = skip-unseen test g o (f x) (map f zs) ranges e ∙ ap (λ y. y ∷ ranges_from o test g ranges (map f zs)) (sym k) ∙ ap (λ ys. h x ∷ ys) m.made;
     fits = fit-unseen test g o (f x) (map f zs) ranges e ∙ m.fits;
   }
 
   before-marks : (o : ℕ) (ranges : List (ℕ × ℕ)) (x : ListElement) (zs : List ListElement) → test (f x) ≡ true → h x ≡ f x → AreFrom (suc o) ranges
-      → Marks (suc o) ranges zs → Marks o ranges (x ∷ zs)
+      → MarksRanges (suc o) ranges zs → MarksRanges o ranges (x ∷ zs)
   before-marks o ranges x zs e k l m = record {
     made = skip-before test g o (f x) (map f zs) ranges e l ∙ ap (λ y. y ∷ ranges_from (suc o) test g ranges (map f zs)) (sym k) ∙ ap (λ ys. h x ∷ ys) m.made;
     fits = fit-before test g o (f x) (map f zs) ranges e l ∙ m.fits;
@@ -223,8 +223,8 @@ module _ (test : ListElement → Bool) (g f h : ListElement → ListElement) (se
 
   module _ (seen-on : still ≡ true) where
     -- a run of its own
-    one-marks : (i : ℕ) (rs : List (ℕ × ℕ)) (x : ListElement) (zs : List ListElement) → MarkedAs x → is x ≡ true → AreFrom (suc i) rs → Marks (suc i) rs zs
-        → Marks i ((i, i + 1) ∷ rs) (x ∷ zs)
+    one-marks : (i : ℕ) (rs : List (ℕ × ℕ)) (x : ListElement) (zs : List ListElement) → MarkedAs x → is x ≡ true → AreFrom (suc i) rs → MarksRanges (suc i) rs zs
+        → MarksRanges i ((i, i + 1) ∷ rs) (x ∷ zs)
     one-marks i rs x zs p e l m =
         let q = p.marked e in
         let here : test (f x) ≡ true = p.same ∙ q.0 in
@@ -242,7 +242,7 @@ module _ (test : ListElement → Bool) (g f h : ListElement → ListElement) (se
 
     -- a run that goes on
     more-marks : (i b : ℕ) (rs : List (ℕ × ℕ)) (x : ListElement) (zs : List ListElement) → MarkedAs x → is x ≡ true → i < b → AreFrom (suc i) rs
-        → Marks (suc i) ((i + 1, b) ∷ rs) zs → Marks i ((i, b) ∷ rs) (x ∷ zs)
+        → MarksRanges (suc i) ((i + 1, b) ∷ rs) zs → MarksRanges i ((i, b) ∷ rs) (x ∷ zs)
     more-marks i b rs x zs p e k l m =
         let q = p.marked e in
         let here : test (f x) ≡ true = p.same ∙ q.0 in
@@ -265,21 +265,21 @@ module _ (test : ListElement → Bool) (g f h : ListElement → ListElement) (se
     next-number a i e = grind (arith, nat_tests)
 
     choice-marks : (i a b : ℕ) (rs : List (ℕ × ℕ)) (x : ListElement) (zs : List ListElement) → MarkedAs x → is x ≡ true → AreApart (suc i) ((a, b) ∷ rs)
-        → Marks (suc i) ((a, b) ∷ rs) zs
-        → (t : Bool) → nat_eq a (i + 1) ≡ t → Marks i (cond t ((i, b) ∷ rs) ((i, i + 1) ∷ (a, b) ∷ rs)) (x ∷ zs)
+        → MarksRanges (suc i) ((a, b) ∷ rs) zs
+        → (t : Bool) → nat_eq a (i + 1) ≡ t → MarksRanges i (cond t ((i, b) ∷ rs) ((i, i + 1) ∷ (a, b) ∷ rs)) (x ∷ zs)
     choice-marks i a b rs x zs p e l m true j =
         let start : suc i ≤ a = l.0 in
         let some : a < b = l.1 in
-        more-marks i b rs x zs p e (omega arith) (from-weaker (suc i) b rs (omega arith) (apart-from b rs l.2)) (subst (λ n. Marks (suc i) ((n, b) ∷ rs) zs) (next-number a i j) m)
+        more-marks i b rs x zs p e (omega arith) (from-weaker (suc i) b rs (omega arith) (apart-from b rs l.2)) (subst (λ n. MarksRanges (suc i) ((n, b) ∷ rs) zs) (next-number a i j) m)
     choice-marks i a b rs x zs p e l m false j = one-marks i ((a, b) ∷ rs) x zs p e (apart-from (suc i) ((a, b) ∷ rs) l) m
 
-    marked-marks : (i : ℕ) (rs : List (ℕ × ℕ)) (x : ListElement) (zs : List ListElement) → MarkedAs x → is x ≡ true → AreApart (suc i) rs → Marks (suc i) rs zs
-        → Marks i (extended_runs i rs) (x ∷ zs)
+    marked-marks : (i : ℕ) (rs : List (ℕ × ℕ)) (x : ListElement) (zs : List ListElement) → MarkedAs x → is x ≡ true → AreApart (suc i) rs → MarksRanges (suc i) rs zs
+        → MarksRanges i (extended_runs i rs) (x ∷ zs)
     marked-marks i [] x zs p e l m = one-marks i [] x zs p e l m
     marked-marks i ((a, b) ∷ rs) x zs p e l m = choice-marks i a b rs x zs p e l m (nat_eq a (i + 1)) refl
 
-    step-marks : (i : ℕ) (x : ListElement) (zs : List ListElement) → MarkedAs x → (s t : Bool) → seen x ≡ s → is x ≡ t → ((j : ℕ) → Marks j (marked_runs_from j seen is zs) zs)
-        → Marks i (cond (s && t) (extended_runs i (marked_runs_from (one_more_if s i) seen is zs)) (marked_runs_from (one_more_if s i) seen is zs)) (x ∷ zs)
+    step-marks : (i : ℕ) (x : ListElement) (zs : List ListElement) → MarkedAs x → (s t : Bool) → seen x ≡ s → is x ≡ t → ((j : ℕ) → MarksRanges j (marked_runs_from j seen is zs) zs)
+        → MarksRanges i (cond (s && t) (extended_runs i (marked_runs_from (one_more_if s i) seen is zs)) (marked_runs_from (one_more_if s i) seen is zs)) (x ∷ zs)
     step-marks i x zs p true true e k ih = marked-marks i (marked_runs_from (suc i) seen is zs) x zs p k (runs-apart seen is (suc i) zs) (ih (suc i))
     step-marks i x zs p true false e k ih =
         before-marks i (marked_runs_from (suc i) seen is zs) x zs (p.same ∙ e) (p.unmarked k)
@@ -287,15 +287,15 @@ module _ (test : ListElement → Bool) (g f h : ListElement → ListElement) (se
     step-marks i x zs p false true e k ih = absurd (contradiction (sym (p.marked k).0 ∙ e))
     step-marks i x zs p false false e k ih = unseen-marks i (marked_runs_from i seen is zs) x zs (p.same ∙ e) (p.unmarked k) (ih i)
 
-    pub runs-mark : (i : ℕ) (zs : List ListElement) → Each MarkedAs zs → Marks i (marked_runs_from i seen is zs) zs
+    pub runs-mark : (i : ℕ) (zs : List ListElement) → Each MarkedAs zs → MarksRanges i (marked_runs_from i seen is zs) zs
     runs-mark i [] p = record { made = refl; fits = refl }
     runs-mark i (x ∷ zs) p = step-marks i x zs p.0 (seen x) (is x) refl refl (λ j. runs-mark j zs p.1)
 
   -- ---- where they are seen no more, and each run is lowered by those before it
 
   module _ (seen-off : still ≡ false) where
-    one-gone : (i d : ℕ) (rs : List (ℕ × ℕ)) (x : ListElement) (zs : List ListElement) → d ≤ i → MarkedAs x → is x ≡ true → Marks (suc i - suc d) (lowered_runs (suc d) rs) zs
-        → Marks (i - d) (lowered_runs d ((i, i + 1) ∷ rs)) (x ∷ zs)
+    one-gone : (i d : ℕ) (rs : List (ℕ × ℕ)) (x : ListElement) (zs : List ListElement) → d ≤ i → MarkedAs x → is x ≡ true → MarksRanges (suc i - suc d) (lowered_runs (suc d) rs) zs
+        → MarksRanges (i - d) (lowered_runs d ((i, i + 1) ∷ rs)) (x ∷ zs)
     one-gone i d rs x zs l p e m =
         let o = i - d in
         let q = p.marked e in
@@ -304,7 +304,7 @@ module _ (test : ListElement → Bool) (g f h : ListElement → ListElement) (se
         let low : d + (i + 1 - i) ≡ suc d = omega arith in
         let place : suc i - suc d ≡ i - d = omega arith in
         let ls = lowered_runs (d + (i + 1 - i)) rs in
-        let n : Marks o ls zs = subst (λ c. Marks o (lowered_runs c rs) zs) (sym low) (subst (λ c. Marks c (lowered_runs (suc d) rs) zs) place m) in
+        let n : MarksRanges o ls zs = subst (λ c. MarksRanges o (lowered_runs c rs) zs) (sym low) (subst (λ c. MarksRanges c (lowered_runs (suc d) rs) zs) place m) in
         let first : change_range_from o test o (i + 1 - d) g (f x ∷ map f zs) ≡ h x ∷ map f zs =
         head-changed test g o o (i + 1 - d) (f x) (map f zs) here (omega arith) (omega arith)
         ∙ ap (λ ys. g (f x) ∷ ys) (range-over test g (suc o) o (i + 1 - d) (map f zs) (omega arith)) ∙ ap (λ y. y ∷ map f zs) (sym q.1) in
@@ -318,8 +318,8 @@ module _ (test : ListElement → Bool) (g f h : ListElement → ListElement) (se
         }
 
     more-gone : (i d b : ℕ) (rs : List (ℕ × ℕ)) (x : ListElement) (zs : List ListElement) → d ≤ i → MarkedAs x → is x ≡ true → i + 1 < b
-        → Marks (suc i - suc d) (lowered_runs (suc d) ((i + 1, b) ∷ rs)) zs
-        → Marks (i - d) (lowered_runs d ((i, b) ∷ rs)) (x ∷ zs)
+        → MarksRanges (suc i - suc d) (lowered_runs (suc d) ((i + 1, b) ∷ rs)) zs
+        → MarksRanges (i - d) (lowered_runs d ((i, b) ∷ rs)) (x ∷ zs)
     more-gone i d b rs x zs l p e k m =
         let o = i - d in
         let q = p.marked e in
@@ -330,10 +330,10 @@ module _ (test : ListElement → Bool) (g f h : ListElement → ListElement) (se
         let start : i + 1 - suc d ≡ i - d = omega arith in
         let end : b - d ≡ suc (b - suc d) = omega arith in
         let ls = lowered_runs (d + (b - i)) rs in
-        let n : Marks o ((o, b - suc d) ∷ ls) zs =
-        subst (λ c. Marks o ((o, b - suc d) ∷ lowered_runs c rs) zs) (sym low)
-        (subst (λ c. Marks o ((c, b - suc d) ∷ lowered_runs (suc d + (b - (i + 1))) rs) zs) start
-        (subst (λ c. Marks c ((i + 1 - suc d, b - suc d) ∷ lowered_runs (suc d + (b - (i + 1))) rs) zs) place m)) in
+        let n : MarksRanges o ((o, b - suc d) ∷ ls) zs =
+        subst (λ c. MarksRanges o ((o, b - suc d) ∷ lowered_runs c rs) zs) (sym low)
+        (subst (λ c. MarksRanges o ((c, b - suc d) ∷ lowered_runs (suc d + (b - (i + 1))) rs) zs) start
+        (subst (λ c. MarksRanges c ((i + 1 - suc d, b - suc d) ∷ lowered_runs (suc d + (b - (i + 1))) rs) zs) place m)) in
         let rest = change_range_from o test o (b - suc d) g (map f zs) in
         let tail : change_range_from (suc o) test o (b - d) g (map f zs) ≡ rest =
         range-from test g (suc o) o (suc o) (b - d) (map f zs) (omega arith) (omega arith)
@@ -354,34 +354,34 @@ module _ (test : ListElement → Bool) (g f h : ListElement → ListElement) (se
     next-place a i e = grind (arith, nat_tests)
 
     choice-gone : (i d a b : ℕ) (rs : List (ℕ × ℕ)) (x : ListElement) (zs : List ListElement) → d ≤ i → MarkedAs x → is x ≡ true
-        → AreApart (suc i) ((a, b) ∷ rs) → Marks (suc i - suc d) (lowered_runs (suc d) ((a, b) ∷ rs)) zs
-        → (t : Bool) → nat_eq a (i + 1) ≡ t → Marks (i - d) (lowered_runs d (cond t ((i, b) ∷ rs) ((i, i + 1) ∷ (a, b) ∷ rs))) (x ∷ zs)
+        → AreApart (suc i) ((a, b) ∷ rs) → MarksRanges (suc i - suc d) (lowered_runs (suc d) ((a, b) ∷ rs)) zs
+        → (t : Bool) → nat_eq a (i + 1) ≡ t → MarksRanges (i - d) (lowered_runs d (cond t ((i, b) ∷ rs) ((i, i + 1) ∷ (a, b) ∷ rs))) (x ∷ zs)
     choice-gone i d a b rs x zs l p e k m true j =
         let some : a < b = k.1 in
         let same : a ≡ i + 1 = next-place a i j in
         let more : i + 1 < b = subst (λ c. c < b) same some in
-        more-gone i d b rs x zs l p e more (subst (λ c. Marks (suc i - suc d) (lowered_runs (suc d) ((c, b) ∷ rs)) zs) same m)
+        more-gone i d b rs x zs l p e more (subst (λ c. MarksRanges (suc i - suc d) (lowered_runs (suc d) ((c, b) ∷ rs)) zs) same m)
     choice-gone i d a b rs x zs l p e k m false j = one-gone i d ((a, b) ∷ rs) x zs l p e m
 
     marked-gone : (i d : ℕ) (rs : List (ℕ × ℕ)) (x : ListElement) (zs : List ListElement) → d ≤ i → MarkedAs x → is x ≡ true → AreApart (suc i) rs
-        → Marks (suc i - suc d) (lowered_runs (suc d) rs) zs
-        → Marks (i - d) (lowered_runs d (extended_runs i rs)) (x ∷ zs)
+        → MarksRanges (suc i - suc d) (lowered_runs (suc d) rs) zs
+        → MarksRanges (i - d) (lowered_runs d (extended_runs i rs)) (x ∷ zs)
     marked-gone i d [] x zs l p e k m = one-gone i d [] x zs l p e m
     marked-gone i d ((a, b) ∷ rs) x zs l p e k m = choice-gone i d a b rs x zs l p e k m (nat_eq a (i + 1)) refl
 
     step-gone : (i d : ℕ) (x : ListElement) (zs : List ListElement) → d ≤ i → MarkedAs x → (s t : Bool) → seen x ≡ s → is x ≡ t
-        → ((j c : ℕ) → c ≤ j → Marks (j - c) (lowered_runs c (marked_runs_from j seen is zs)) zs)
-        → Marks (i - d) (lowered_runs d (cond (s && t) (extended_runs i (marked_runs_from (one_more_if s i) seen is zs)) (marked_runs_from (one_more_if s i) seen is zs))) (x ∷ zs)
+        → ((j c : ℕ) → c ≤ j → MarksRanges (j - c) (lowered_runs c (marked_runs_from j seen is zs)) zs)
+        → MarksRanges (i - d) (lowered_runs d (cond (s && t) (extended_runs i (marked_runs_from (one_more_if s i) seen is zs)) (marked_runs_from (one_more_if s i) seen is zs))) (x ∷ zs)
     step-gone i d x zs l p true true e k ih = marked-gone i d (marked_runs_from (suc i) seen is zs) x zs l p k (runs-apart seen is (suc i) zs) (ih (suc i) (suc d) (omega arith))
     step-gone i d x zs l p true false e k ih =
         let rs = marked_runs_from (suc i) seen is zs in
         let next : suc i - d ≡ suc (i - d) = omega arith in
         before-marks (i - d) (lowered_runs d rs) x zs (p.same ∙ e) (p.unmarked k)
         (subst (λ c. AreFrom c (lowered_runs d rs)) next (lowered-from d (suc i) rs (omega arith) (runs-apart seen is (suc i) zs)))
-        (subst (λ c. Marks c (lowered_runs d rs) zs) next (ih (suc i) d (omega arith)))
+        (subst (λ c. MarksRanges c (lowered_runs d rs) zs) next (ih (suc i) d (omega arith)))
     step-gone i d x zs l p false true e k ih = absurd (contradiction (sym (p.marked k).0 ∙ e))
     step-gone i d x zs l p false false e k ih = unseen-marks (i - d) (lowered_runs d (marked_runs_from i seen is zs)) x zs (p.same ∙ e) (p.unmarked k) (ih i d l)
 
-    pub lowered-mark : (i d : ℕ) (zs : List ListElement) → d ≤ i → Each MarkedAs zs → Marks (i - d) (lowered_runs d (marked_runs_from i seen is zs)) zs
+    pub lowered-mark : (i d : ℕ) (zs : List ListElement) → d ≤ i → Each MarkedAs zs → MarksRanges (i - d) (lowered_runs d (marked_runs_from i seen is zs)) zs
     lowered-mark i d [] l p = record { made = refl; fits = refl }
     lowered-mark i d (x ∷ zs) l p = step-gone i d x zs l p.0 (seen x) (is x) refl refl (λ j c k. lowered-mark j c zs k p.1)

@@ -14,8 +14,8 @@ use Rattle.ft_laws_names.specs.Naming.{name_at_place, named_cell, named_cells}
 use Rattle.ft_laws_names.proofs.Indexing.{cols-miss, rows-miss}
 
 -- the place of a name
-abbrev pub place_of : List ListElement → ElementId → ℕ
-place_of xs a = rank (has_id a) (λ _. true) xs
+abbrev pub element_place : List ListElement → ElementId → ℕ
+element_place xs a = rank (has_id a) (λ _. true) xs
 
 only-there : (b : Bool) (n : ℕ) → one_more_if b n ≤ 1 → 1 ≤ n → b ≡ false
 only-there true n l h = absurd (omega arith)

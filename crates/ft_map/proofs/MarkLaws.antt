@@ -9,12 +9,12 @@ use Rattle.ft_props.proofs.RisingKeys.{KeysRise-put, KeysRise-remove, same_from_
 use Rattle.ft_map.specs.declared.ops.MapOp.{MapOp}
 use Rattle.ft_map.specs.declared.ops.MapOp.TheVariants.{Set, Delete, Clear}
 use Rattle.ft_map.specs.Maps.{FiniteMap, ValueBytes, put, put_all, written}
-use Rattle.ft_map.specs.Marks.{AreMarksOf, KeptMarks, Mark, at_key, clear_after, clear_of, forgotten, mark_after, mark_of, noted, number_of, unless_at, when_same, without}
+use Rattle.ft_map.specs.Marks.{AreMarksOf, KeptMarks, KeyMark, at_key, clear_after, clear_of, forgotten, mark_after, mark_of, noted, number_of, unless_at, when_same, without}
 use Rattle.ft_map.proofs.MapLaws.{at_key-same, by_order, rising-put, value_of-put, value_of-remove}
 
 -- ---- an operation more
 
-mark_of-append : (key : Characters) (n : ℕ) (mark : Mark) (ops : List MapOp) (op : MapOp) → mark_of key n mark (ops ++ op ∷ []) ≡ mark_after key (n + length ops) (mark_of key n mark ops) op
+mark_of-append : (key : Characters) (n : ℕ) (mark : KeyMark) (ops : List MapOp) (op : MapOp) → mark_of key n mark (ops ++ op ∷ []) ≡ mark_after key (n + length ops) (mark_of key n mark ops) op
 mark_of-append key n mark [] op = ap (λ i. mark_after key i mark op) (omega arith)
 mark_of-append key n mark (first ∷ ops) op =
     mark_of-append key (suc n) (mark_after key n mark first) ops op ∙ ap (λ i. mark_after key i (mark_of key (suc n) (mark_after key n mark first) ops) op) (omega arith)
@@ -24,10 +24,10 @@ clear_of-append n cleared [] op = ap (λ i. clear_after i cleared op) (omega ari
 clear_of-append n cleared (first ∷ ops) op =
     clear_of-append (suc n) (clear_after n cleared first) ops op ∙ ap (λ i. clear_after i (clear_of (suc n) (clear_after n cleared first) ops) op) (omega arith)
 
-number-at : (key k : Characters) (n : ℕ) (value : Option ValueBytes) (mark : Mark) → at_key key k (Some n) (number_of mark) ≡ number_of (at_key key k (Some (n, value)) mark)
+number-at : (key k : Characters) (n : ℕ) (value : Option ValueBytes) (mark : KeyMark) → at_key key k (Some n) (number_of mark) ≡ number_of (at_key key k (Some (n, value)) mark)
 number-at key k n value mark = by_order (text_cmp key k) (λ e. grind arith) (λ e. grind arith) (λ e. grind arith)
 
-keys-noted : (key : Characters) (n : ℕ) (op : MapOp) (marks : KeptMarks) (mark : Mark) → value_of key marks.last_of ≡ number_of mark
+keys-noted : (key : Characters) (n : ℕ) (op : MapOp) (marks : KeptMarks) (mark : KeyMark) → value_of key marks.last_of ≡ number_of mark
     → value_of key (noted n op marks).last_of ≡ number_of (mark_after key n mark op)
 keys-noted key n (Set k value) marks mark h = value_of-put key k n marks.last_of ∙ ap (at_key key k (Some n)) h ∙ number-at key k n (Some value) mark
 keys-noted key n (Delete k) marks mark h = value_of-put key k n marks.last_of ∙ ap (at_key key k (Some n)) h ∙ number-at key k n None mark
@@ -72,7 +72,7 @@ unless-itself : (i : ℕ) → unless_at i (Some i) ≡ None
 unless-itself i = grind (arith, nat_tests)
 
 -- a mark that isn't this older one is still none of that
-mark-apart : (i : ℕ) (key : Characters) (n : ℕ) (mark : Mark) (ops : List MapOp) → i < n → unless_at i (number_of mark) ≡ number_of mark
+mark-apart : (i : ℕ) (key : Characters) (n : ℕ) (mark : KeyMark) (ops : List MapOp) → i < n → unless_at i (number_of mark) ≡ number_of mark
     → unless_at i (number_of (mark_of key n mark ops)) ≡ number_of (mark_of key n mark ops)
 mark-apart i key n mark [] l h = h
 mark-apart i key n mark (op ∷ ops) l h = mark-apart i key (suc n) (mark_after key n mark op) ops (omega arith) (next op)
@@ -91,7 +91,7 @@ mark-forgotten : (i : ℕ) (value : Option ValueBytes) (key : Characters) (n : �
 mark-forgotten i value key n [] l = sym (unless-itself i)
 mark-forgotten i value key n (op ∷ ops) l = next (mark-forgotten i value key (suc n) ops (omega arith)) op
   where
-    Both : Mark → Mark → Type 0
+    Both : KeyMark → KeyMark → Type 0
     Both a b = number_of (mark_of key (suc n) a ops) ≡ unless_at i (number_of (mark_of key (suc n) b ops))
 
     at : Both None (Some (i, value)) → (v : Option ValueBytes) (o : Ordering) → Both (when_same o (Some (n, v)) None) (when_same o (Some (n, v)) (Some (i, value)))
@@ -187,29 +187,29 @@ slice_get-index (y ∷ xs) (suc i) x l h = slice_get-index xs i x (omega arith) 
 -- ---- what is shown
 
 -- the value of a key by its mark, the last clear, and the acknowledged value
-abbrev shows : Mark → Option ℕ → Option ValueBytes → Option ValueBytes
+abbrev shows : KeyMark → Option ℕ → Option ValueBytes → Option ValueBytes
 shows (Some mark) cleared acked = mark.1
 shows None (Some n) acked = None
 shows None None acked = acked
 
-shows-at : (key k : Characters) (n : ℕ) (value : Option ValueBytes) (mark : Mark) (cleared : Option ℕ) (acked : Option ValueBytes)
+shows-at : (key k : Characters) (n : ℕ) (value : Option ValueBytes) (mark : KeyMark) (cleared : Option ℕ) (acked : Option ValueBytes)
     → at_key key k value (shows mark cleared acked) ≡ shows (at_key key k (Some (n, value)) mark) cleared acked
 shows-at key k n value mark cleared acked = by_order (text_cmp key k) (λ e. grind arith) (λ e. grind arith) (λ e. grind arith)
 
-shown-step : (key : Characters) (n : ℕ) (mark : Mark) (cleared : Option ℕ) (acked : Option ValueBytes) (m : FiniteMap) (op : MapOp) → KeysRise m → value_of key m ≡ shows mark cleared acked
+shown-step : (key : Characters) (n : ℕ) (mark : KeyMark) (cleared : Option ℕ) (acked : Option ValueBytes) (m : FiniteMap) (op : MapOp) → KeysRise m → value_of key m ≡ shows mark cleared acked
     → value_of key (put m op) ≡ shows (mark_after key n mark op) (clear_after n cleared op) acked
 shown-step key n mark cleared acked m (Set k value) r h = value_of-put key k value m ∙ ap (at_key key k (Some value)) h ∙ shows-at key k n (Some value) mark cleared acked
 shown-step key n mark cleared acked m (Delete k) r h = value_of-remove key k [] m r ∙ ap (at_key key k None) h ∙ shows-at key k n None mark cleared acked
 shown-step key n mark cleared acked m Clear r h = refl
 
-shown-all : (key : Characters) (n : ℕ) (mark : Mark) (cleared : Option ℕ) (acked : Option ValueBytes) (m : FiniteMap) (ops : List MapOp) → KeysRise m → value_of key m ≡ shows mark cleared acked
+shown-all : (key : Characters) (n : ℕ) (mark : KeyMark) (cleared : Option ℕ) (acked : Option ValueBytes) (m : FiniteMap) (ops : List MapOp) → KeysRise m → value_of key m ≡ shows mark cleared acked
     → value_of key (put_all m ops) ≡ shows (mark_of key n mark ops) (clear_of n cleared ops) acked
 shown-all key n mark cleared acked m [] r h = h
 shown-all key n mark cleared acked m (op ∷ ops) r h =
     shown-all key (suc n) (mark_after key n mark op) (clear_after n cleared op) acked (put m op) ops (rising-put m op r) (shown-step key n mark cleared acked m op r h)
 
 -- a mark is the one that there was, or that of an operation which sets this
-mark-at : {G : Type 0} (key : Characters) (n : ℕ) (mark : Mark) (ops : List MapOp) (p : ℕ × Option ValueBytes) → mark_of key n mark ops ≡ Some p
+mark-at : {G : Type 0} (key : Characters) (n : ℕ) (mark : KeyMark) (ops : List MapOp) (p : ℕ × Option ValueBytes) → mark_of key n mark ops ≡ Some p
     → (mark ≡ Some p → G) → (n ≤ p.0 → p.0 < n + length ops → written (slice_get ops (p.0 - n)) ≡ p.1 → G) → G
 mark-at key n mark [] p h was is = was h
 mark-at {G} key n mark (op ∷ ops) p h was is = mark-at key (suc n) (mark_after key n mark op) ops p h (first op refl) later
@@ -244,7 +244,7 @@ module _ (key : Characters) (n : ℕ) (ops : List MapOp) (marks : KeptMarks) (ac
   pub shown-marked : (i : ℕ) → value_of key marks.last_of ≡ Some i → (n ≤ i) × (i < n + length ops) × (value_of key (put_all acked ops) ≡ written (slice_get ops (i - n)))
   shown-marked i e = step (mark_of key n None ops) refl
     where
-      step : (mark : Mark) → mark_of key n None ops ≡ mark → (n ≤ i) × (i < n + length ops) × (value_of key (put_all acked ops) ≡ written (slice_get ops (i - n)))
+      step : (mark : KeyMark) → mark_of key n None ops ≡ mark → (n ≤ i) × (i < n + length ops) × (value_of key (put_all acked ops) ≡ written (slice_get ops (i - n)))
       step None m = absurd (let no_mark : None ≡ Some i = ap number_of (sym m) ∙ sym (h.keys key) ∙ e in cc)
       step (Some p) m =
           let number : Some p.0 ≡ Some i = ap number_of (sym m) ∙ sym (h.keys key) ∙ e in
@@ -255,7 +255,7 @@ module _ (key : Characters) (n : ℕ) (ops : List MapOp) (marks : KeptMarks) (ac
   unmarked : value_of key marks.last_of ≡ None → mark_of key n None ops ≡ None
   unmarked e = step (mark_of key n None ops) (sym (h.keys key) ∙ e)
     where
-      step : (mark : Mark) → number_of mark ≡ None → mark ≡ None
+      step : (mark : KeyMark) → number_of mark ≡ None → mark ≡ None
       step None m = refl
       step (Some p) m = absurd cc
 

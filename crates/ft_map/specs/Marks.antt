@@ -18,17 +18,17 @@ abbrev pub at_key : {A : Type 0} → Characters → Characters → A → A → A
 at_key key k here other = when_same (text_cmp key k) here other
 
 -- the number of the last operation that names a key, and what that one sets
-abbrev pub Mark : Type 0
-Mark = Option (ℕ × Option ValueBytes)
+abbrev pub KeyMark : Type 0
+KeyMark = Option (ℕ × Option ValueBytes)
 
 -- the mark of the key after the operation with this number
-abbrev pub mark_after : Characters → ℕ → Mark → MapOp → Mark
+abbrev pub mark_after : Characters → ℕ → KeyMark → MapOp → KeyMark
 mark_after key n mark (Set k value) = at_key key k (Some (n, Some value)) mark
 mark_after key n mark (Delete k) = at_key key k (Some (n, None)) mark
 mark_after key n mark Clear = None
 
 -- the mark of the key after operations, numbered from n on
-abbrev pub mark_of : Characters → ℕ → Mark → List MapOp → Mark
+abbrev pub mark_of : Characters → ℕ → KeyMark → List MapOp → KeyMark
 mark_of key n mark [] = mark
 mark_of key n mark (op ∷ ops) = mark_of key (suc n) (mark_after key n mark op) ops
 
@@ -43,7 +43,7 @@ clear_of n cleared [] = cleared
 clear_of n cleared (op ∷ ops) = clear_of (suc n) (clear_after n cleared op) ops
 
 -- the number of a mark
-abbrev pub number_of : Mark → Option ℕ
+abbrev pub number_of : KeyMark → Option ℕ
 number_of mark = option_map (λ m. m.0) mark
 
 -- the number, but none where it is this one

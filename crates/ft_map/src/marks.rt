@@ -13,12 +13,12 @@ use std::marker::Model;
 /// Of each key the number of the last pending operation that names it, of those behind the last clear, and the number
 /// of the last clear.
 #[derive(Drop)]
-pub(crate) struct Marks {
+pub(crate) struct KeyMarks {
     last_of: Pairs<u64>,
     cleared: Option<u64>,
 }
 
-impl Model for Marks {
+impl Model for KeyMarks {
     ghost use Rattle.ft_map.specs.Marks.{KeptMarks};
 
     ghost Value = { KeptMarks };
@@ -26,12 +26,12 @@ impl Model for Marks {
     ghost view = { λ a. record { last_of = a.last_of; cleared = a.cleared } };
 }
 
-impl Marks {
+impl KeyMarks {
     /// Nothing is pending.
-    pub(crate) fn new(alloc: Global) -> Marks
+    pub(crate) fn new(alloc: Global) -> KeyMarks
         ensures { result ≡ no_marks }
     {
-        Marks {
+        KeyMarks {
             last_of: Pairs::new(alloc),
             cleared: None,
         }

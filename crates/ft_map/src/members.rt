@@ -39,11 +39,11 @@ impl Model for Member {
 pub(crate) fn has_member(members: &[Member], name: &Text) -> bool
     ensures { result ≡ list_any (is_client name.now) members.now }
 {
-    place_of(members, name).is_some()
+    member_place(members, name).is_some()
 }
 
 /// The place of the client of that name.
-pub(crate) fn place_of(members: &[Member], name: &Text) -> Option<usize>
+pub(crate) fn member_place(members: &[Member], name: &Text) -> Option<usize>
     ensures { result ≡ position (is_client name.now) members.now }
 {
     members.iter().position(|member| name.same(&member.name))

@@ -4,7 +4,7 @@ ghost use Rattle.std.specs.Prelude.{◌≡◌, ◌+◌, ◌<◌, ◌^◌, [], �
 ghost use Rattle.ft_props.specs.Keys.{KeysRise};
 ghost use Rattle.ft_map.specs.Maps.{acknowledged, map_of, pair_of, pairs_of, put, shown_map, value_of};
 
-use crate::marks::Marks;
+use crate::marks::KeyMarks;
 use crate::ops::{MapOp, MapPair, put, set, written};
 use ft_base::{Datum, OutOfMemory, Text};
 use ft_json::ValText;
@@ -24,7 +24,7 @@ pub struct SharedMap {
     pending: VecDeque<MapOp>,
     /// The number of the oldest pending operation.
     first: u64,
-    marks: Marks,
+    marks: KeyMarks,
 }
 
 impl Model for SharedMap {
@@ -64,7 +64,7 @@ impl SharedMap {
             acked,
             pending: VecDeque::new(alloc),
             first: 0,
-            marks: Marks::new(alloc),
+            marks: KeyMarks::new(alloc),
         }
     }
 

@@ -8,7 +8,7 @@ ghost use Rattle.ft_map.specs.MapWorlds.{AnswersMapEvent, AnswersName, AnswersSe
 
 use crate::events::{MapEvent, MapOut};
 use crate::members::{
-    Member, connect, deliver, drop_link, edit, has_member, place_of, show, summarize, ticket,
+    Member, connect, deliver, drop_link, edit, has_member, member_place, show, summarize, ticket,
 };
 use crate::ops::MapOp;
 use crate::replica::MapReplica;
@@ -116,7 +116,7 @@ impl Session {
         requires { HasNoNack (of_client self.old name.now (turn_of act)) }
         ensures { AnswersSession self.old self.new (of_client self.old name.now (turn_of act.entry)) result }
     {
-        let Some(place) = place_of(self.members.as_slice(), name) else {
+        let Some(place) = member_place(self.members.as_slice(), name) else {
             return Err(Refusal::UnknownClient);
         };
         happen_to_member(self.alloc, &mut self.members[place], &mut self.service, act)
@@ -162,7 +162,7 @@ impl Session {
     fn copied(&self, from: &Text) -> Result<MapReplica, Refusal>
         ensures { AnswersStart self.now (Some from.now) result }
     {
-        let Some(place) = place_of(self.members.as_slice(), from) else {
+        let Some(place) = member_place(self.members.as_slice(), from) else {
             return Err(Refusal::UnknownClient);
         };
         let client = &self.members[place].client;

@@ -9,7 +9,7 @@ use Rattle.ft_tree_leaves.specs.declared.leaves.TreeLeaf.{TreeLeaf}
 use Rattle.ft_tree_leaves.specs.declared.references.Reference.{Reference}
 use Rattle.ft_tree_leaves.specs.Elements.{TreeElement, elements_with, universal_stamps, with_stamps}
 use Rattle.ft_tree_leaves.specs.LeafLists.{elements}
-use Rattle.ft_tree_leaves.specs.References.{ChangesReferences, place_of}
+use Rattle.ft_tree_leaves.specs.References.{ChangesReferences, reference_place}
 use Rattle.ft_props.specs.Overlay.{OverlayState}
 use Rattle.ft_laws_names.specs.GridFacts.{AreFreeFrom, is_place}
 use Rattle.ft_perm.specs.Handles.{HandleRun, handles_of, in_run, numbers_from}
@@ -162,7 +162,7 @@ left-sound floor runs old new f s sound same usable refs made = record {
 
 -- no reference stands anywhere
 pub none-clear : (floor : ℕ) (v : VectorState) → IsSoundVector v → AreClear floor (units_of v) v.tree.refs
-none-clear floor v s r i e = absurd (none (place_of v.tree.refs r) (ap (λ o. option_and_then (λ (x : Reference). x.place) o) (s.refs r)) e)
+none-clear floor v s r i e = absurd (none (reference_place v.tree.refs r) (ap (λ o. option_and_then (λ (x : Reference). x.place) o) (s.refs r)) e)
   where
     none : (o : Option ℕ) → o ≡ None → o ≡ Some i → ⊥
     none o g h = let never : None ≡ Some i = sym g ∙ h in cc never

@@ -30,7 +30,7 @@ use Rattle.ft_laws_names.specs.WellNamed.{AreNamedBefore, IsNamedBefore}
 use Rattle.ft_laws_names.proofs.Beside.{beside-any, beside-rank}
 use Rattle.ft_rebase.specs.Pieces.{marked_runs}
 use Rattle.ft_rebase.specs.Pieces.{is_inserted_by as is_put_in_by}
-use Rattle.ft_rebase.specs.declared.marks.Mark.TheVariants.{Removal}
+use Rattle.ft_rebase.specs.declared.marks.PendingMark.TheVariants.{Removal}
 use Rattle.ft_matrix.specs.declared.stages.GridStage.{GridStage}
 use Rattle.ft_matrix.specs.Resubmitted.{insertion_of, is_seen_at, place_before, place_seen, put_position, removals_of, stage_pieces, write_at}
 use Rattle.ft_matrix.specs.Units.{has_handle, place_of_handle, units_of}

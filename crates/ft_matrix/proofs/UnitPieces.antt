@@ -11,7 +11,7 @@ use Rattle.ft_op.specs.declared.operations.CellOp.TheVariants.{SpliceIn, SpliceO
 use Rattle.ft_op.specs.declared.operations.Target.{Target}
 use Rattle.ft_props.specs.Steps.{lowered_runs}
 use Rattle.ft_rebase.specs.Pieces.{annotation_pieces, insertion_position, is_inserted_by, marked_runs, pieces, removal_pieces}
-use Rattle.ft_rebase.specs.declared.marks.Mark.TheVariants.{Changes, Removal}
+use Rattle.ft_rebase.specs.declared.marks.PendingMark.TheVariants.{Changes, Removal}
 use Rattle.ft_rebase.specs.declared.pieces.Piece.{Piece}
 use Rattle.ft_rebase.specs.declared.pieces.Piece.TheVariants as piece
 use Rattle.ft_perm.specs.Vectors.{VectorState, seen_handles}

@@ -11,7 +11,7 @@ use Rattle.ft_props.specs.Properties.{ValueBytes}
 use Rattle.ft_props.specs.Steps.{lowered_runs}
 use Rattle.ft_tree_leaves.specs.Elements.{TreeElement, seen_in}
 use Rattle.ft_rebase.specs.Pieces.{is_inserted_by, marked_runs}
-use Rattle.ft_rebase.specs.declared.marks.Mark.TheVariants.{Removal}
+use Rattle.ft_rebase.specs.declared.marks.PendingMark.TheVariants.{Removal}
 use Rattle.ft_rebase.specs.declared.pieces.Piece.{Piece}
 use Rattle.ft_rebase.specs.declared.pieces.Piece.TheVariants.{Insert, Remove}
 use Rattle.ft_cells.specs.CellTables.{cell_at, without_write}

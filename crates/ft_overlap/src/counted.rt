@@ -30,16 +30,16 @@ pub(crate) fn insert_in<P: Places, G: Ledger>(
     requires part { 0 < blank.parts }
     requires rooted { IsRooted arena.old root }
     requires one { KeepsBut NamesOne arena.old None }
-    requires last { KeepsBut (NamesLast (P.place_of at.now)) arena.old None }
+    requires last { KeepsBut (NamesLast (P.end_place at.now)) arena.old None }
     requires start { P.Knows at.now item.start }
     requires end { P.Knows at.now item.end }
     requires starts { (id : ℕ) (x : Item) → leaf_value arena.old id ≡ Some x → P.Knows at.now x.start }
     requires known { EndsKnown (P.Knows at.now) arena.old }
-    requires rising { IsRising (P.place_of at.now) (items_of arena.old arena.old.leaves) }
+    requires rising { IsRising (P.end_place at.now) (items_of arena.old arena.old.leaves) }
     ensures rooted { IfOk result (λ top. IsRooted arena.new top) }
     ensures one { IfOk result (λ top. KeepsBut NamesOne arena.new None) }
-    ensures last { IfOk result (λ top. KeepsBut (NamesLast (P.place_of at.now)) arena.new None) }
-    ensures items { IfOk result (λ top. items_of arena.new arena.new.leaves ≡ put_item (P.place_of at.now) item (items_of arena.old arena.old.leaves)) }
+    ensures last { IfOk result (λ top. KeepsBut (NamesLast (P.end_place at.now)) arena.new None) }
+    ensures items { IfOk result (λ top. items_of arena.new arena.new.leaves ≡ put_item (P.end_place at.now) item (items_of arena.old arena.old.leaves)) }
     ensures err { OnErr result (arena.new ≡ arena.old) }
 {
     let Some(root) = root else {
@@ -89,11 +89,11 @@ pub(crate) fn take_in<P: Places, G: Ledger>(
     requires tree { IsTree arena.old root }
     requires live { IsSome (leaf_value arena.old id) }
     requires one { KeepsBut NamesOne arena.old None }
-    requires last { KeepsBut (NamesLast (P.place_of at.now)) arena.old None }
+    requires last { KeepsBut (NamesLast (P.end_place at.now)) arena.old None }
     requires known { EndsKnown (P.Knows at.now) arena.old }
     ensures rooted { IsRooted arena.new result.0 }
     ensures one { KeepsBut NamesOne arena.new None }
-    ensures last { KeepsBut (NamesLast (P.place_of at.now)) arena.new None }
+    ensures last { KeepsBut (NamesLast (P.end_place at.now)) arena.new None }
     ensures takes { TakesLeaf arena.old arena.new id result.1 }
 {
     let mut steps = Steps::<G>::new(blank);

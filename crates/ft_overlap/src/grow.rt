@@ -12,7 +12,7 @@ use crate::items::{Item, Places};
 use crate::names::{rename, rename_up};
 use ft_arena::{Arena, NodeId};
 use ft_base::Steps;
-use ft_shape::{Headed, height_at, move_half, place_of, put_in_half};
+use ft_shape::{Headed, child_place, height_at, move_half, put_in_half};
 use std::sync::ledger::Ledger;
 
 // Splits a full block, and puts a node at this place among its children. Tells the new block.
@@ -38,7 +38,7 @@ fn split_put<P: Places, G: Ledger>(
     requires known { EndsKnown (P.Knows at.now) arena.old }
     ensures splits { SplitsAt arena.old arena.new block place id result }
     ensures one { RetellsBoth NamesOne arena.old arena.new block result }
-    ensures last { RetellsBoth (NamesLast (P.place_of at.now)) arena.old arena.new block result }
+    ensures last { RetellsBoth (NamesLast (P.end_place at.now)) arena.old arena.new block result }
     ensures known { EndsKnown (P.Knows at.now) arena.new }
 {
     let height = height_at(arena, block, steps);
@@ -72,7 +72,7 @@ fn root_over<P: Places, G: Ledger>(
     requires known { EndsKnown (P.Knows at.now) arena.old }
     ensures roots { RootsOver arena.old arena.new root id result }
     ensures one { Retells NamesOne arena.old arena.new result }
-    ensures last { Retells (NamesLast (P.place_of at.now)) arena.old arena.new result }
+    ensures last { Retells (NamesLast (P.end_place at.now)) arena.old arena.new result }
     ensures known { EndsKnown (P.Knows at.now) arena.new }
 {
     let top = arena.add_block(Headed { height, sum: item });
@@ -95,7 +95,7 @@ fn grow<P: Places, G: Ledger>(
 ) -> (NodeId, Option<NodeId>)
     requires growing { IsGrowing arena.old root at id (λ xs. insert_after xs at id) }
     requires one { KeepsBut NamesOne arena.old (parent_of arena.old at) }
-    requires last { KeepsBut (NamesLast (P.place_of places.now)) arena.old (parent_of arena.old at) }
+    requires last { KeepsBut (NamesLast (P.end_place places.now)) arena.old (parent_of arena.old at) }
     requires spare { height_of arena.old root - height_of arena.old at + 1 ≤ arena.old.spare }
     requires tall { height_of arena.old root + 1 < 2 ^ 64 }
     requires item { P.Knows places.now item.end }
@@ -103,7 +103,7 @@ fn grow<P: Places, G: Ledger>(
     ensures tree { IsTree arena.new result.0 }
     ensures stale { (b : ℕ) → result.1 ≡ Some b → IsSome (block_value arena.new b) }
     ensures one { KeepsBut NamesOne arena.new result.1 }
-    ensures last { KeepsBut (NamesLast (P.place_of places.now)) arena.new result.1 }
+    ensures last { KeepsBut (NamesLast (P.end_place places.now)) arena.new result.1 }
     ensures known { EndsKnown (P.Knows places.now) arena.new }
     ensures leaves { arena.new.leaves ≡ arena.old.leaves }
     ensures leaf_values { (x : ℕ) → leaf_value arena.new x ≡ leaf_value arena.old x }
@@ -111,7 +111,7 @@ fn grow<P: Places, G: Ledger>(
     let mut at = at;
     let mut id = id;
     'up: while let Some(block) = arena.parent(at) {
-        let (place, count) = place_of(arena, block, at, steps);
+        let (place, count) = child_place(arena, block, at, steps);
         if count < 8 {
             arena.put_child(block, place + 1, id);
             return (root, Some(block));
@@ -136,7 +136,7 @@ fn grow_front<P: Places, G: Ledger>(
 ) -> (NodeId, Option<NodeId>)
     requires growing { IsGrowing arena.old root at id (λ xs. insert_before xs at id) }
     requires one { KeepsBut NamesOne arena.old (parent_of arena.old at) }
-    requires last { KeepsBut (NamesLast (P.place_of places.now)) arena.old (parent_of arena.old at) }
+    requires last { KeepsBut (NamesLast (P.end_place places.now)) arena.old (parent_of arena.old at) }
     requires apart { at ≢ root }
     requires spare { height_of arena.old root - height_of arena.old at + 1 ≤ arena.old.spare }
     requires tall { height_of arena.old root + 1 < 2 ^ 64 }
@@ -145,7 +145,7 @@ fn grow_front<P: Places, G: Ledger>(
     ensures tree { IsTree arena.new result.0 }
     ensures stale { (b : ℕ) → result.1 ≡ Some b → IsSome (block_value arena.new b) }
     ensures one { KeepsBut NamesOne arena.new result.1 }
-    ensures last { KeepsBut (NamesLast (P.place_of places.now)) arena.new result.1 }
+    ensures last { KeepsBut (NamesLast (P.end_place places.now)) arena.new result.1 }
     ensures known { EndsKnown (P.Knows places.now) arena.new }
     ensures leaves { arena.new.leaves ≡ arena.old.leaves }
     ensures leaf_values { (x : ℕ) → leaf_value arena.new x ≡ leaf_value arena.old x }
@@ -153,7 +153,7 @@ fn grow_front<P: Places, G: Ledger>(
     let Some(block) = arena.parent(at) else {
         unreachable!();
     };
-    let (place, count) = place_of(arena, block, at, steps);
+    let (place, count) = child_place(arena, block, at, steps);
     if count < 8 {
         arena.put_child(block, place, id);
         return (root, Some(block));
@@ -175,12 +175,12 @@ pub(crate) fn insert_at<P: Places, G: Ledger>(
     requires spare { height_of arena.old root + 2 ≤ arena.old.spare }
     requires at { IsSome (leaf_value arena.old at) }
     requires one { KeepsBut NamesOne arena.old None }
-    requires last { KeepsBut (NamesLast (P.place_of places.now)) arena.old None }
+    requires last { KeepsBut (NamesLast (P.end_place places.now)) arena.old None }
     requires item { P.Knows places.now item.end }
     requires known { EndsKnown (P.Knows places.now) arena.old }
     ensures tree { IsTree arena.new result }
     ensures one { KeepsBut NamesOne arena.new None }
-    ensures last { KeepsBut (NamesLast (P.place_of places.now)) arena.new None }
+    ensures last { KeepsBut (NamesLast (P.end_place places.now)) arena.new None }
     ensures inserts { (id : ℕ) × InsertsLeaf arena.old arena.new id item (λ xs. insert_after xs at id) }
 {
     // There are fewer items than numbers of nodes, so the tree is far lower than that.
@@ -202,12 +202,12 @@ pub(crate) fn insert_front<P: Places, G: Ledger>(
     requires tree { IsTree arena.old root }
     requires spare { height_of arena.old root + 2 ≤ arena.old.spare }
     requires one { KeepsBut NamesOne arena.old None }
-    requires last { KeepsBut (NamesLast (P.place_of places.now)) arena.old None }
+    requires last { KeepsBut (NamesLast (P.end_place places.now)) arena.old None }
     requires item { P.Knows places.now item.end }
     requires known { EndsKnown (P.Knows places.now) arena.old }
     ensures tree { IsTree arena.new result }
     ensures one { KeepsBut NamesOne arena.new None }
-    ensures last { KeepsBut (NamesLast (P.place_of places.now)) arena.new None }
+    ensures last { KeepsBut (NamesLast (P.end_place places.now)) arena.new None }
     ensures inserts { (id : ℕ) × InsertsLeaf arena.old arena.new id item (λ xs. id ∷ xs) }
 {
     let Some(first) = arena.first() else {

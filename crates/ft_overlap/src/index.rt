@@ -68,12 +68,12 @@ impl Index {
         steps: &mut Steps<G>,
     ) -> Result<Vec<u64>, OutOfMemory>
         requires known { AreKnown (P.Knows at.now) self.now.items }
-        requires order { IsInOrder (P.place_of at.now) self.now }
-        ensures keys { IfOk result (λ keys. keys.items ≡ keys_within (P.place_of at.now) a b self.now.items) }
+        requires order { IsInOrder (P.end_place at.now) self.now }
+        ensures keys { IfOk result (λ keys. keys.items ≡ keys_within (P.end_place at.now) a b self.now.items) }
 
         // For each key, and once more, it reads a few nodes on each level, and a tree has at least four times
         // as many items as the one that is a level lower.
-        ensures cost { steps.new ≤ steps.old + 9 * (self.now.depth + 1) * (length (keys_within (P.place_of at.now) a b self.now.items) + 1) }
+        ensures cost { steps.new ≤ steps.old + 9 * (self.now.depth + 1) * (length (keys_within (P.end_place at.now) a b self.now.items) + 1) }
         ensures depth { 4 ^ self.now.depth ≤ length self.now.items + 1 }
     {
         let mut found = Vec::new(self.alloc);
@@ -94,10 +94,10 @@ impl Index {
     /// Returns `OutOfMemory` where there is no room for it, and then the index is as it was.
     pub fn insert<P: Places>(&mut self, item: Item, at: &P) -> Result<(), OutOfMemory>
         requires known { AreKnown (P.Knows at.now) (item ∷ self.old.items) }
-        requires order { IsInOrder (P.place_of at.now) self.old }
+        requires order { IsInOrder (P.end_place at.now) self.old }
         requires fresh { has_key item.key self.old.items ≡ false }
-        ensures ok { OnOk result (self.new.items ≡ put_item (P.place_of at.now) item self.old.items) }
-        ensures order { OnOk result (IsInOrder (P.place_of at.now) self.new) }
+        ensures ok { OnOk result (self.new.items ≡ put_item (P.end_place at.now) item self.old.items) }
+        ensures order { OnOk result (IsInOrder (P.end_place at.now) self.new) }
         ensures err { OnErr result (self.new ≡ self.old) }
     {
         let _ = &self.root;
@@ -109,10 +109,10 @@ impl Index {
     /// changes. The index is in order by these places, which know all ends, and stays so. It takes no memory.
     pub fn remove<P: Places>(&mut self, key: u64, at: &P) -> Option<Item>
         requires known { AreKnown (P.Knows at.now) self.old.items }
-        requires order { IsInOrder (P.place_of at.now) self.old }
+        requires order { IsInOrder (P.end_place at.now) self.old }
         ensures value { result ≡ item_at key self.old.items }
         ensures rest { self.new.items ≡ without_key key self.old.items }
-        ensures order { IsInOrder (P.place_of at.now) self.new }
+        ensures order { IsInOrder (P.end_place at.now) self.new }
     {
         let root = self.root?;
         let id = find_key::<Brand>(&self.arena, key, Blank::new(1))?;

@@ -15,12 +15,12 @@ pub struct Item {
 
 /// Where ends stand: for each end that it knows, a number, its place.
 pub trait Places {
-    ghost place_of: { Self → ℕ → ℤ };
+    ghost end_place: { Self → ℕ → ℤ };
 
     ghost Knows: { Self → ℕ → Type 0 } = { λ _ _. Unit {0} };
 
     /// The place of an end that it knows.
     fn place(&self, end: u64) -> i64
         requires { Knows self.now end }
-        ensures { result ≡ place_of self.now end };
+        ensures { result ≡ end_place self.now end };
 }

@@ -35,7 +35,7 @@ struct Ending {
 fn end_of<P: Places>(item: Item, at: &P) -> Ending
     requires { P.Knows at.now item.end }
     ensures item { result.item ≡ item }
-    ensures place { result.place ≡ P.place_of at.now item.end }
+    ensures place { result.place ≡ P.end_place at.now item.end }
 {
     Ending {
         item,
@@ -63,7 +63,7 @@ fn last_named<P: Places, G: Ledger>(
     requires live { (id : ℕ) → 1 ≤ times kids.now id → IsSome (entry arena.now id) }
     requires known { EndsKnown (P.Knows at.now) arena.now }
     ensures one { NamesOne result (map (told arena.now) kids.now) }
-    ensures last { NamesLast (P.place_of at.now) result (map (told arena.now) kids.now) }
+    ensures last { NamesLast (P.end_place at.now) result (map (told arena.now) kids.now) }
 {
     // That they are at most eight is read off its contract.
     let _few = kids.len();
@@ -93,7 +93,7 @@ pub(crate) fn rename<P: Places, G: Ledger>(
     requires known { EndsKnown (P.Knows at.now) arena.old }
     ensures shape { SameShape arena.old arena.new }
     ensures one { Retells NamesOne arena.old arena.new block }
-    ensures last { Retells (NamesLast (P.place_of at.now)) arena.old arena.new block }
+    ensures last { Retells (NamesLast (P.end_place at.now)) arena.old arena.new block }
     ensures known { EndsKnown (P.Knows at.now) arena.new }
     ensures same { result ≡ false → arena.new ≡ arena.old }
 {
@@ -125,10 +125,10 @@ pub(crate) fn rename_up<P: Places, G: Ledger>(
     requires filled { (b : ℕ) → IsSome (block_value arena.old b) → 1 ≤ length (kids_of arena.old b) }
     requires known { EndsKnown (P.Knows at.now) arena.old }
     requires one { KeepsBut NamesOne arena.old stale }
-    requires last { KeepsBut (NamesLast (P.place_of at.now)) arena.old stale }
+    requires last { KeepsBut (NamesLast (P.end_place at.now)) arena.old stale }
     ensures shape { SameShape arena.old arena.new }
     ensures one { KeepsBut NamesOne arena.new None }
-    ensures last { KeepsBut (NamesLast (P.place_of at.now)) arena.new None }
+    ensures last { KeepsBut (NamesLast (P.end_place at.now)) arena.new None }
 {
     let mut stale = stale;
     'up: while let Some(block) = stale {

@@ -57,9 +57,9 @@ fn child_by<P: Places, G: Ledger>(
     requires tree { IsTree arena.now _root }
     requires block { IsSome (block_value arena.now _block) }
     requires kids { kids_of arena.now _block ≡ kids.now }
-    requires first { IsStartedBy (P.place_of at.now) start arena.now _block }
+    requires first { IsStartedBy (P.end_place at.now) start arena.now _block }
     requires known { (id : ℕ) (x : Item) → leaf_value arena.now id ≡ Some x → P.Knows at.now x.start }
-    ensures { IsChildBy (P.place_of at.now) start arena.now _block kids.now result }
+    ensures { IsChildBy (P.end_place at.now) start arena.now _block kids.now result }
 {
     let Some(first) = kids.get(0) else {
         unreachable!();
@@ -93,10 +93,10 @@ fn place_below<P: Places, G: Ledger>(
 ) -> NodeId
     requires tree { IsTree arena.now _root }
     requires live { IsSome (entry arena.now node) }
-    requires reached { IsReached (P.place_of at.now) start arena.now node }
-    requires rising { IsRising (P.place_of at.now) (items_of arena.now arena.now.leaves) }
+    requires reached { IsReached (P.end_place at.now) start arena.now node }
+    requires rising { IsRising (P.end_place at.now) (items_of arena.now arena.now.leaves) }
     requires known { (id : ℕ) (x : Item) → leaf_value arena.now id ≡ Some x → P.Knows at.now x.start }
-    ensures { IsPlaceFor (P.place_of at.now) start arena.now (Some result) }
+    ensures { IsPlaceFor (P.end_place at.now) start arena.now (Some result) }
 {
     match arena.read(node, steps) {
         Node::Leaf { .. } => node,
@@ -116,10 +116,10 @@ pub(crate) fn place_for<P: Places, G: Ledger>(
     steps: &mut Steps<G>,
 ) -> Option<NodeId>
     requires tree { IsTree arena.now root }
-    requires rising { IsRising (P.place_of at.now) (items_of arena.now arena.now.leaves) }
+    requires rising { IsRising (P.end_place at.now) (items_of arena.now arena.now.leaves) }
     requires start { P.Knows at.now item.now.start }
     requires known { (id : ℕ) (x : Item) → leaf_value arena.now id ≡ Some x → P.Knows at.now x.start }
-    ensures { IsPlaceFor (P.place_of at.now) (P.place_of at.now item.now.start) arena.now result }
+    ensures { IsPlaceFor (P.end_place at.now) (P.end_place at.now item.now.start) arena.now result }
 {
     let first = first_below(arena, root, root, steps);
     let start = at.place(item.start);

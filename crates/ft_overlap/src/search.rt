@@ -30,7 +30,7 @@ fn collect_item<P: Places>(
 ) -> Result<bool, OutOfMemory>
     requires start { P.Knows at.now item.now.start }
     requires end { P.Knows at.now item.now.end }
-    ensures { IfOk result (λ more. (steps : ℕ) → Collects (P.place_of at.now) range.now.low range.now.high (item.now ∷ []) 0 found.old.items found.new.items steps (steps + 1) more) }
+    ensures { IfOk result (λ more. (steps : ℕ) → Collects (P.end_place at.now) range.now.low range.now.high (item.now ∷ []) 0 found.old.items found.new.items steps (steps + 1) more) }
 {
     if at.place(item.start) > range.high {
         return Ok(false);
@@ -54,11 +54,11 @@ pub(crate) fn collect<P: Places, G: Ledger>(
     requires tree { IsTree arena.now _root }
     requires live { IsSome (entry arena.now node) }
     requires known { AreKnown (P.Knows at.now) (items_below arena.now node) }
-    requires rising { IsRising (P.place_of at.now) (items_below arena.now node) }
+    requires rising { IsRising (P.end_place at.now) (items_below arena.now node) }
     requires named { AreNamed arena.now }
-    requires greatest { AreGreatest (P.place_of at.now) arena.now }
-    ensures found { IfOk result (λ more. Collects (P.place_of at.now) range.now.low range.now.high (items_below arena.now node) (height_of arena.now node) found.old.items found.new.items steps.old steps.new more) }
-    ensures cheap { IsCheap (height_of arena.now node) (length (keys_within (P.place_of at.now) range.now.low range.now.high (items_below arena.now node))) steps.old steps.new }
+    requires greatest { AreGreatest (P.end_place at.now) arena.now }
+    ensures found { IfOk result (λ more. Collects (P.end_place at.now) range.now.low range.now.high (items_below arena.now node) (height_of arena.now node) found.old.items found.new.items steps.old steps.new more) }
+    ensures cheap { IsCheap (height_of arena.now node) (length (keys_within (P.end_place at.now) range.now.low range.now.high (items_below arena.now node))) steps.old steps.new }
 {
     match arena.read(node, steps) {
         Node::Leaf { value } => collect_item(value, range, at, found),

@@ -12,7 +12,7 @@ use crate::items::{Item, Places};
 use crate::names::{rename, rename_up};
 use ft_arena::{Arena, NodeId};
 use ft_base::Steps;
-use ft_shape::{Headed, child_at, count_of, drop_root, place_of, regroup};
+use ft_shape::{Headed, child_at, child_place, count_of, drop_root, regroup};
 use std::sync::ledger::Ledger;
 
 // Has two neighbours below a block, which have too many children for one, share them.
@@ -29,12 +29,12 @@ fn balance<P: Places, G: Ledger>(
     requires many { 9 ≤ length (kids_of arena.old front) + length (kids_of arena.old rear) }
     requires known { EndsKnown (P.Knows at.now) arena.old }
     requires one { KeepsButBoth NamesOne arena.old front rear }
-    requires last { KeepsButBoth (NamesLast (P.place_of at.now)) arena.old front rear }
+    requires last { KeepsButBoth (NamesLast (P.end_place at.now)) arena.old front rear }
     ensures shares { Shares arena.old arena.new up front rear }
     ensures up_kids { kids_of arena.new up ≡ kids_of arena.old up }
     ensures known { EndsKnown (P.Knows at.now) arena.new }
     ensures one { KeepsBut NamesOne arena.new (Some up) }
-    ensures last { KeepsBut (NamesLast (P.place_of at.now)) arena.new (Some up) }
+    ensures last { KeepsBut (NamesLast (P.end_place at.now)) arena.new (Some up) }
 {
     let many = count_of(arena, front, steps) + count_of(arena, rear, steps);
     regroup(arena, front, rear, many / 2, steps);
@@ -60,11 +60,11 @@ fn merge<P: Places, G: Ledger>(
     requires many { 4 ≤ length (kids_of arena.old front) + length (kids_of arena.old rear) }
     requires known { EndsKnown (P.Knows at.now) arena.old }
     requires one { KeepsButBoth NamesOne arena.old front rear }
-    requires last { KeepsButBoth (NamesLast (P.place_of at.now)) arena.old front rear }
+    requires last { KeepsButBoth (NamesLast (P.end_place at.now)) arena.old front rear }
     ensures shares { Shares arena.old arena.new up front rear }
     ensures known { EndsKnown (P.Knows at.now) arena.new }
     ensures one { KeepsBut NamesOne arena.new (Some up) }
-    ensures last { KeepsBut (NamesLast (P.place_of at.now)) arena.new (Some up) }
+    ensures last { KeepsBut (NamesLast (P.end_place at.now)) arena.new (Some up) }
 {
     let many = count_of(arena, front, steps) + count_of(arena, rear, steps);
     regroup(arena, front, rear, many, steps);
@@ -88,12 +88,12 @@ fn fill_up<P: Places, G: Ledger>(
     requires block { IsSome (block_value arena.old block) }
     requires known { EndsKnown (P.Knows at.now) arena.old }
     requires one { KeepsBut NamesOne arena.old (Some block) }
-    requires last { KeepsBut (NamesLast (P.place_of at.now)) arena.old (Some block) }
+    requires last { KeepsBut (NamesLast (P.end_place at.now)) arena.old (Some block) }
     ensures apart { IsApart arena.new result.0 _id None }
     ensures block { IsSome (block_value arena.new result.1) }
     ensures known { EndsKnown (P.Knows at.now) arena.new }
     ensures one { KeepsBut NamesOne arena.new (Some result.1) }
-    ensures last { KeepsBut (NamesLast (P.place_of at.now)) arena.new (Some result.1) }
+    ensures last { KeepsBut (NamesLast (P.end_place at.now)) arena.new (Some result.1) }
     ensures leaves { arena.new.leaves ≡ arena.old.leaves }
     ensures leaf_values { (x : ℕ) → leaf_value arena.new x ≡ leaf_value arena.old x }
 {
@@ -102,7 +102,7 @@ fn fill_up<P: Places, G: Ledger>(
         if count_of(arena, block, steps) >= 4 {
             return (root, block);
         }
-        let (place, count) = place_of(arena, up, block, steps);
+        let (place, count) = child_place(arena, up, block, steps);
         if count == 1 {
             let top = drop_root(arena, up);
             return (top, top);
@@ -134,17 +134,17 @@ fn detach<P: Places, G: Ledger>(
     requires more { 2 ≤ length arena.old.leaves }
     requires known { EndsKnown (P.Knows at.now) arena.old }
     requires one { KeepsBut NamesOne arena.old None }
-    requires last { KeepsBut (NamesLast (P.place_of at.now)) arena.old None }
+    requires last { KeepsBut (NamesLast (P.end_place at.now)) arena.old None }
     ensures apart { IsApart arena.new result id None }
     ensures one { KeepsBut NamesOne arena.new None }
-    ensures last { KeepsBut (NamesLast (P.place_of at.now)) arena.new None }
+    ensures last { KeepsBut (NamesLast (P.end_place at.now)) arena.new None }
     ensures leaves { arena.new.leaves ≡ arena.old.leaves }
     ensures leaf_values { (x : ℕ) → leaf_value arena.new x ≡ leaf_value arena.old x }
 {
     let Some(block) = arena.parent(id) else {
         unreachable!();
     };
-    let (place, _) = place_of(arena, block, id, steps);
+    let (place, _) = child_place(arena, block, id, steps);
     arena.take_child(block, place);
     let (top, stale) = fill_up(arena, root, block, id, at, steps);
     rename_up(arena, top, Some(id), None, Some(stale), at, steps);
@@ -191,10 +191,10 @@ pub(crate) fn take_at<P: Places, G: Ledger>(
     requires live { IsSome (leaf_value arena.old id) }
     requires known { EndsKnown (P.Knows at.now) arena.old }
     requires one { KeepsBut NamesOne arena.old None }
-    requires last { KeepsBut (NamesLast (P.place_of at.now)) arena.old None }
+    requires last { KeepsBut (NamesLast (P.end_place at.now)) arena.old None }
     ensures rooted { IsRooted arena.new result.0 }
     ensures one { KeepsBut NamesOne arena.new None }
-    ensures last { KeepsBut (NamesLast (P.place_of at.now)) arena.new None }
+    ensures last { KeepsBut (NamesLast (P.end_place at.now)) arena.new None }
     ensures takes { TakesLeaf arena.old arena.new id result.1 }
 {
     if is_only(arena, id) {

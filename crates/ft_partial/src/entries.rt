@@ -66,7 +66,7 @@ pub fn newest(entries: &[Entry]) -> u64
 
 // Where an entry with this number may stand, behind those with the same number: it looks at the last
 // entry first.
-fn place_of(entries: &[Entry], seq: u64) -> usize
+fn entry_place(entries: &[Entry], seq: u64) -> usize
     requires { IsRising entries.now }
     ensures { IsPlace entries.now seq result }
 {
@@ -142,7 +142,7 @@ fn add_entry(entries: &mut Vec<Entry>, x: Entry)
     if x.by == 0 {
         return;
     }
-    let i = place_of(entries.as_slice(), x.seq);
+    let i = entry_place(entries.as_slice(), x.seq);
     match place_of_alike(entries.as_slice(), i, &x) {
         Some(j) => add_at(entries, j, x),
         None => put(entries, i, x),

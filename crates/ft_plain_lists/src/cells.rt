@@ -98,7 +98,7 @@ impl PlainCells {
         ensures ok { OnOk result (self.new ≡ put_cell cell self.old) }
         ensures err { OnErr result (self.new ≡ self.old) }
     {
-        match self.place_of(cell.row, cell.col) {
+        match self.cell_place(cell.row, cell.col) {
             Some(i) => {
                 self.items[i] = cell;
                 Ok(())
@@ -108,7 +108,7 @@ impl PlainCells {
     }
 
     // The place of the cell of that row and column, if it is there.
-    fn place_of(&self, row: ElementName, col: ElementName) -> Option<usize>
+    fn cell_place(&self, row: ElementName, col: ElementName) -> Option<usize>
         ensures { result ≡ position (is_cell row col) self.now }
     {
         self.items.iter().position(|cell| cell.is_at(row, col))

@@ -194,7 +194,7 @@ impl PlainIntervals {
         ensures ok { OnOk result (self.new ≡ put_rising interval_cmp interval self.old) }
         ensures err { OnErr result (self.new ≡ self.old) }
     {
-        match place_of(self.items.as_slice(), &interval) {
+        match interval_place(self.items.as_slice(), &interval) {
             Ok(i) => {
                 self.items[i] = interval;
                 Ok(())
@@ -265,7 +265,7 @@ fn slide_all(
 }
 
 // The place of the interval's label and id, or else, as an error, the place where they would stand.
-fn place_of(items: &[PlainInterval], interval: &PlainInterval) -> Result<usize, usize>
+fn interval_place(items: &[PlainInterval], interval: &PlainInterval) -> Result<usize, usize>
     ensures { result ≡ rising_place interval_cmp interval.now items.now }
 {
     for (i, other) in items.iter().enumerate() {

@@ -16,7 +16,7 @@ use crate::elements::{Content, PlainElement};
 use crate::marks::Removal;
 use crate::names::ElementName;
 use crate::scans::{
-    mark_range, name_at, new_elements, pending_run, place_of, put_at, seen_count, units,
+    insertion_place, mark_range, name_at, new_elements, pending_run, put_at, seen_count, units,
 };
 use ft_base::{OutOfMemory, Perspective, Stamp};
 use ft_json::GREATEST_COUNT;
@@ -125,7 +125,7 @@ impl PlainList {
         check_room(self.items.len(), contents.len())?;
         let ins = Stamp::Acked { seq, conn: at.c };
         let new = new_elements(self.alloc(), self.made, ins, by, props, contents)?;
-        let place = place_of(self.items.as_slice(), p, at);
+        let place = insertion_place(self.items.as_slice(), p, at);
         let i = place + pending_run(&self.items[place..]);
         put_at(&mut self.items, i, new)?;
         self.made = made;

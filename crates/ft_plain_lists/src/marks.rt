@@ -7,7 +7,7 @@ use ft_base::OutOfMemory;
 use ft_props::Changes;
 
 /// Something that is put on an element.
-pub trait Mark {
+pub trait ElementMark {
     ghost use Rattle.std.specs.Prelude.{◌≡◌, OnOk, OnErr};
     ghost use Rattle.ft_props.specs.Element.{ListElement};
 
@@ -29,7 +29,7 @@ pub struct Removal {
     pub conn: u32,
 }
 
-impl Mark for Removal {
+impl ElementMark for Removal {
     ghost marked = { λ r e. with_removal r.seq r.conn e };
 
     fn put_on(&self, e: &mut PlainElement) -> Result<(), OutOfMemory> {
@@ -38,7 +38,7 @@ impl Mark for Removal {
 }
 
 /// Sequenced changes of properties.
-impl Mark for Changes {
+impl ElementMark for Changes {
     ghost marked = { λ c e. with_annotation c e };
 
     fn put_on(&self, e: &mut PlainElement) -> Result<(), OutOfMemory> {
@@ -50,7 +50,7 @@ impl Mark for Changes {
 #[derive(Drop)]
 pub struct PendingRemoval(pub u64);
 
-impl Mark for PendingRemoval {
+impl ElementMark for PendingRemoval {
     ghost marked = { λ r e. with_pending_removal r.0 e };
 
     fn put_on(&self, e: &mut PlainElement) -> Result<(), OutOfMemory> {
@@ -66,7 +66,7 @@ pub struct PendingChanges {
     pub changes: Changes,
 }
 
-impl Mark for PendingChanges {
+impl ElementMark for PendingChanges {
     ghost marked = { λ c e. with_pending_annotation c.stage c.changes e };
 
     fn put_on(&self, e: &mut PlainElement) -> Result<(), OutOfMemory> {

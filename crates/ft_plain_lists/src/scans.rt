@@ -9,7 +9,7 @@ ghost use Rattle.ft_plain_lists.specs.Contents.{content_of};
 
 use crate::element_tests::ElementTest;
 use crate::elements::{Content, PlainElement};
-use crate::marks::Mark;
+use crate::marks::ElementMark;
 use crate::names::ElementName;
 use ft_base::{Datum, OutOfMemory, Stamp};
 use ft_props::Props;
@@ -24,7 +24,7 @@ pub fn seen_count<T: ElementTest>(items: &[PlainElement], seen: T) -> usize
 }
 
 /// The number of elements up to the `p`-th that is seen: 0 for `p` = 0, and all where fewer are seen.
-pub fn place_of<T: ElementTest>(items: &[PlainElement], p: u64, seen: T) -> usize
+pub fn insertion_place<T: ElementTest>(items: &[PlainElement], p: u64, seen: T) -> usize
     ensures place { result ≡ place (T.test seen) p items.now }
     ensures inside { result ≤ length items.now }
 {
@@ -116,7 +116,7 @@ pub fn put_at(
 /// Marks each element that is seen from the `p`-th up to before the `q`-th.
 ///
 /// Returns `OutOfMemory` where there is no room for a mark, and then some may have theirs.
-pub fn mark_range<T: ElementTest, M: Mark>(
+pub fn mark_range<T: ElementTest, M: ElementMark>(
     items: &mut [PlainElement],
     p: u64,
     q: u64,

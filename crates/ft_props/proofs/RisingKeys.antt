@@ -7,7 +7,7 @@ use Rattle.std.specs.List.{insert, remove}
 use Rattle.std.specs.List.Sorted.{IsSearchInRange, IsBinarySearchResult, IsNonDecreasingBy}
 use Rattle.std.proofs.lemmas.Cmp.{nat_list_cmp_total, tied_itself, tied_back}
 use Rattle.std.proofs.lemmas.Map.Lookups.{exact_bytes}
-use Rattle.ft_props.specs.Keys.{Characters, IsBeforeKeys, KeysRise, key_cmp, place_of, put_rising, remove_rising, text_cmp, value_of}
+use Rattle.ft_props.specs.Keys.{Characters, IsBeforeKeys, KeysRise, key_cmp, key_place, put_rising, remove_rising, text_cmp, value_of}
 
 -- the laws of the order of texts
 pub text_cmp-same : (a : Characters) → text_cmp a a ≡ Equal
@@ -69,18 +69,18 @@ module _ {V : Type 0} where
   IsBeforeKeys-trans a b (x ∷ xs) h r = (text_cmp-trans a b x.0 h r.0, IsBeforeKeys-trans a b xs h r.1)
 
   -- the place of a key is in the list, and one where it would stand is so or is its end
-  pub found-in_range : (key : Characters) (i : ℕ) (xs : List (Characters × V)) → place_of key xs ≡ Ok i → i < length xs
+  pub found-in_range : (key : Characters) (i : ℕ) (xs : List (Characters × V)) → key_place key xs ≡ Ok i → i < length xs
   found-in_range key i [] h = absurd cc
   found-in_range key zero (x ∷ xs) h = omega arith
   found-in_range key (suc i) (x ∷ xs) h = grind (arith, found-in_range key i xs)
 
-  pub missing-in_range : (key : Characters) (i : ℕ) (xs : List (Characters × V)) → place_of key xs ≡ Err i → i ≤ length xs
+  pub missing-in_range : (key : Characters) (i : ℕ) (xs : List (Characters × V)) → key_place key xs ≡ Err i → i ≤ length xs
   missing-in_range key zero xs h = omega arith
   missing-in_range key (suc i) [] h = absurd cc
   missing-in_range key (suc i) (x ∷ xs) h = grind (arith, missing-in_range key i xs)
 
   -- the value of a key is that at its place
-  pub value_of-found : (key : Characters) (i : ℕ) (d : Characters × V) (xs : List (Characters × V)) → place_of key xs ≡ Ok i → value_of key xs ≡ Some (get_or xs i d).1
+  pub value_of-found : (key : Characters) (i : ℕ) (d : Characters × V) (xs : List (Characters × V)) → key_place key xs ≡ Ok i → value_of key xs ≡ Some (get_or xs i d).1
   value_of-found key i d [] h = cc
   value_of-found key zero d (x ∷ xs) h = grind (arith, value_of-found key zero d xs)
   value_of-found key (suc i) d (x ∷ xs) h = grind (arith, value_of-found key i d xs)
@@ -90,19 +90,19 @@ module _ {V : Type 0} where
   value_of-before key (x ∷ xs) b = grind (arith, b.0, value_of-before key xs b.1)
 
   -- a key that has no place has no value
-  pub value_of-missing : (key : Characters) (i : ℕ) (xs : List (Characters × V)) → KeysRise xs → place_of key xs ≡ Err i → value_of key xs ≡ None
+  pub value_of-missing : (key : Characters) (i : ℕ) (xs : List (Characters × V)) → KeysRise xs → key_place key xs ≡ Err i → value_of key xs ≡ None
   value_of-missing key i [] r h = refl
   value_of-missing key zero (x ∷ xs) r h =
       by_order (text_cmp key x.0) (λ e. grind (arith, value_of-before key xs (IsBeforeKeys-trans key x.0 xs e r.0))) (λ e. grind arith) (λ e. grind arith)
   value_of-missing key (suc i) (x ∷ xs) r h = grind (arith, value_of-missing key i xs r.1)
 
   -- what is put stands at its key's place, or where the key would stand
-  pub put_rising-found : (key : Characters) (v : V) (i : ℕ) (xs : List (Characters × V)) → place_of key xs ≡ Ok i → put_rising key_cmp (key, v) xs ≡ set xs i (key, v)
+  pub put_rising-found : (key : Characters) (v : V) (i : ℕ) (xs : List (Characters × V)) → key_place key xs ≡ Ok i → put_rising key_cmp (key, v) xs ≡ set xs i (key, v)
   put_rising-found key v i [] h = cc
   put_rising-found key v zero (x ∷ xs) h = grind (arith, put_rising-found key v zero xs)
   put_rising-found key v (suc i) (x ∷ xs) h = grind (arith, put_rising-found key v i xs)
 
-  pub put_rising-missing : (key : Characters) (v : V) (i : ℕ) (xs : List (Characters × V)) → place_of key xs ≡ Err i → put_rising key_cmp (key, v) xs ≡ insert xs i (key, v)
+  pub put_rising-missing : (key : Characters) (v : V) (i : ℕ) (xs : List (Characters × V)) → key_place key xs ≡ Err i → put_rising key_cmp (key, v) xs ≡ insert xs i (key, v)
   put_rising-missing key v zero [] h = refl
   put_rising-missing key v (suc i) [] h = absurd cc
   put_rising-missing key v zero (x ∷ xs) h = grind arith
@@ -129,12 +129,12 @@ module _ {V : Type 0} where
       (λ e. subst P (sym (put-greater key_cmp (key, v) x xs e)) (IsBeforeKeys-put x.0 key v xs (text_cmp-turned key x.0 e) r.0, KeysRise-put key v xs r.1))
 
   -- what is removed stood at its key's place
-  pub remove_rising-found : (key : Characters) (v : V) (i : ℕ) (xs : List (Characters × V)) → place_of key xs ≡ Ok i → remove_rising key_cmp (key, v) xs ≡ remove xs i
+  pub remove_rising-found : (key : Characters) (v : V) (i : ℕ) (xs : List (Characters × V)) → key_place key xs ≡ Ok i → remove_rising key_cmp (key, v) xs ≡ remove xs i
   remove_rising-found key v i [] h = absurd cc
   remove_rising-found key v zero (x ∷ xs) h = grind (arith, remove_rising-found key v zero xs)
   remove_rising-found key v (suc i) (x ∷ xs) h = grind (arith, remove_rising-found key v i xs)
 
-  pub remove_rising-missing : (key : Characters) (v : V) (i : ℕ) (xs : List (Characters × V)) → place_of key xs ≡ Err i → remove_rising key_cmp (key, v) xs ≡ xs
+  pub remove_rising-missing : (key : Characters) (v : V) (i : ℕ) (xs : List (Characters × V)) → key_place key xs ≡ Err i → remove_rising key_cmp (key, v) xs ≡ xs
   remove_rising-missing key v i [] h = refl
   remove_rising-missing key v zero (x ∷ xs) h = grind arith
   remove_rising-missing key v (suc i) (x ∷ xs) h = grind (arith, remove_rising-missing key v i xs)
@@ -167,24 +167,24 @@ module _ {V : Type 0} where
   at-before key (x ∷ xs) (suc i) d b l = at-before key xs i d b.1 (omega arith)
 
   -- a key that is found by comparing stands at its place
-  pub place_of-equal : (key : Characters) (xs : List (Characters × V)) (i : ℕ) (d : Characters × V) → KeysRise xs → i < length xs → order_at key xs i d ≡ Equal → place_of key xs ≡ Ok i
-  place_of-equal key [] i d r l h = absurd (omega arith)
-  place_of-equal key (x ∷ xs) zero d r l h = grind (arith, tied_back nat_list_cmp_total x.0 key h)
-  place_of-equal key (x ∷ xs) (suc i) d r l h =
+  pub key_place-equal : (key : Characters) (xs : List (Characters × V)) (i : ℕ) (d : Characters × V) → KeysRise xs → i < length xs → order_at key xs i d ≡ Equal → key_place key xs ≡ Ok i
+  key_place-equal key [] i d r l h = absurd (omega arith)
+  key_place-equal key (x ∷ xs) zero d r l h = grind (arith, tied_back nat_list_cmp_total x.0 key h)
+  key_place-equal key (x ∷ xs) (suc i) d r l h =
       let here = subst (λ k. text_cmp x.0 k ≡ Less) (same_from_text_cmp _ key h) (at-before x.0 xs i d r.0 (omega arith)) in
-      grind (arith, text_cmp-back x.0 key here, place_of-equal key xs i d r.1 (omega arith) h)
+      grind (arith, text_cmp-back x.0 key here, key_place-equal key xs i d r.1 (omega arith) h)
 
   -- a key that stands at no place would stand behind the lesser ones
-  pub place_of-between : (key : Characters) (xs : List (Characters × V)) (i : ℕ) (d : Characters × V) → i ≤ length xs
-      → ((j : ℕ) → j < i → order_at key xs j d ≡ Less) → ((j : ℕ) → i ≤ j → j < length xs → order_at key xs j d ≡ Greater) → place_of key xs ≡ Err i
-  place_of-between key [] zero d l before after = refl
-  place_of-between key [] (suc i) d l before after = absurd (omega arith)
-  place_of-between key (x ∷ xs) zero d l before after = grind (arith, text_cmp-turned x.0 key (after 0 (omega arith) (omega arith)))
-  place_of-between key (x ∷ xs) (suc i) d l before after =
+  pub key_place-between : (key : Characters) (xs : List (Characters × V)) (i : ℕ) (d : Characters × V) → i ≤ length xs
+      → ((j : ℕ) → j < i → order_at key xs j d ≡ Less) → ((j : ℕ) → i ≤ j → j < length xs → order_at key xs j d ≡ Greater) → key_place key xs ≡ Err i
+  key_place-between key [] zero d l before after = refl
+  key_place-between key [] (suc i) d l before after = absurd (omega arith)
+  key_place-between key (x ∷ xs) zero d l before after = grind (arith, text_cmp-turned x.0 key (after 0 (omega arith) (omega arith)))
+  key_place-between key (x ∷ xs) (suc i) d l before after =
       grind (
         arith,
         text_cmp-back x.0 key (before 0 (omega arith)),
-        place_of-between key xs i d (omega arith) (λ j h. before (suc j) (omega arith)) (λ j h k. after (suc j) (omega arith) (omega arith)),
+        key_place-between key xs i d (omega arith) (λ j h. before (suc j) (omega arith)) (λ j h k. after (suc j) (omega arith) (omega arith)),
       )
 
   -- the comparisons with a key rise along the list, as a binary search asks
@@ -197,10 +197,10 @@ module _ {V : Type 0} where
 
   -- what a binary search answers
   pub searched : (key : Characters) (xs : List (Characters × V)) (r : Result ℕ ℕ) → KeysRise xs → IsSearchInRange r (length xs)
-      → IsBinarySearchResult (λ x. text_cmp x.0 key) xs r → r ≡ place_of key xs
+      → IsBinarySearchResult (λ x. text_cmp x.0 key) xs r → r ≡ key_place key xs
   searched key [] (Ok i) rise l h = absurd (omega arith)
-  searched key (x ∷ xs) (Ok i) rise l h = sym (place_of-equal key (x ∷ xs) i x rise l (h x))
+  searched key (x ∷ xs) (Ok i) rise l h = sym (key_place-equal key (x ∷ xs) i x rise l (h x))
   searched key [] (Err i) rise l h = ap Err (omega arith)
   searched key (x ∷ xs) (Err i) rise l h =
       let parts = h (comparisons_rise key (x ∷ xs) rise) in
-      sym (place_of-between key (x ∷ xs) i x l (λ j k. parts.0 j x (omega arith) k) (λ j k m. parts.1 j x k m))
+      sym (key_place-between key (x ∷ xs) i x l (λ j k. parts.0 j x (omega arith) k) (λ j k m. parts.1 j x k m))

@@ -48,6 +48,6 @@ next_place (Ok i) = Ok (suc i)
 next_place (Err i) = Err (suc i)
 
 -- the place of the key among rising keys, or else, as an error, the place where it would stand
-abbrev pub place_of : {V : Type 0} → Characters → List (Characters × V) → Result ℕ ℕ
-place_of key [] = Err 0
-place_of key ((k, v) ∷ pairs) = elim (text_cmp key k) [ Less ↦ Err 0 | Equal ↦ Ok 0 | Greater ↦ next_place (place_of key pairs) ]
+abbrev pub key_place : {V : Type 0} → Characters → List (Characters × V) → Result ℕ ℕ
+key_place key [] = Err 0
+key_place key ((k, v) ∷ pairs) = elim (text_cmp key k) [ Less ↦ Err 0 | Equal ↦ Ok 0 | Greater ↦ next_place (key_place key pairs) ]

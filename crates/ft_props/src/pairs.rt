@@ -1,7 +1,7 @@
 //! Lists of pairs of a key and a value by rising keys.
 
 ghost use Rattle.std.specs.Prelude.{◌≡◌, ◌↔◌, [], IsOk, IsTrue, OnOk, OnErr, chars, length, slice_get, option_copied, option_map, is_some};
-ghost use Rattle.ft_props.specs.Keys.{KeysRise, key_cmp, place_of, put_rising, remove_rising, value_of};
+ghost use Rattle.ft_props.specs.Keys.{KeysRise, key_cmp, key_place, put_rising, remove_rising, value_of};
 
 use crate::keys::compare;
 use ft_base::{Datum, OutOfMemory, Text};
@@ -69,7 +69,7 @@ impl<V: Drop> Pairs<V> {
 
     // The place of the key, or else, as an error, the place where it would stand.
     fn search(&self, key: &str) -> Result<usize, usize>
-        ensures { result ≡ place_of (chars key.now) self.now }
+        ensures { result ≡ key_place (chars key.now) self.now }
     {
         self.items
             .binary_search_by(|pair| compare(pair.0.as_str(), key))

@@ -11,7 +11,7 @@ use Rattle.ft_tree_leaves.specs.declared.leaves.TreeLeaf.{TreeLeaf}
 use Rattle.ft_tree_leaves.specs.Edits.{sequenced_leaf}
 use Rattle.ft_tree_leaves.specs.Elements.{TreeElement, element_with}
 use Rattle.ft_tree_leaves.specs.LeafLists.{elements, leaf_elements}
-use Rattle.ft_tree_leaves.specs.References.{KeepsReferences, place_of}
+use Rattle.ft_tree_leaves.specs.References.{KeepsReferences, reference_place}
 use Rattle.ft_tree.specs.State.{TreeState}
 use Rattle.ft_rebase.specs.Moves.{leaf_stamps}
 use Rattle.ft_rebase.specs.Normalised.{carried_element, carried_leaf, carried_pair, is_gone, unmarked_element, without_pending}
@@ -75,8 +75,8 @@ module _ {C U : Type 0} (units : C → List U) where
   spots_carried old new leaves refs = record {
     spots = λ r.
         ap (λ x. option_and_then (spot_at units new.leaves) (option_and_then (λ y. y.place) x)) (refs r)
-        ∙ ap (λ ys. option_and_then (spot_at units ys) (place_of old.refs r)) leaves
-        ∙ same (place_of old.refs r);
+        ∙ ap (λ ys. option_and_then (spot_at units ys) (reference_place old.refs r)) leaves
+        ∙ same (reference_place old.refs r);
     acked = λ r. ap (option_map (λ x. x.acked)) (refs r);
   }
     where

@@ -14,8 +14,8 @@ use Rattle.ft_tree_leaves.specs.Elements.{TreeElement, element_with, seen_in}
 use Rattle.ft_tree_leaves.specs.LeafLists.{elements, leaf_elements}
 use Rattle.ft_tree_leaves.proofs.LeafRuns.{leaf_seen, leaf_unseen}
 use Rattle.ft_tree_leaves.proofs.Runs.{len-append}
-use Rattle.ft_rebase.specs.declared.marks.Mark.{Mark}
-use Rattle.ft_rebase.specs.declared.marks.Mark.TheVariants.{Removal, Changes}
+use Rattle.ft_rebase.specs.declared.marks.PendingMark.{PendingMark}
+use Rattle.ft_rebase.specs.declared.marks.PendingMark.TheVariants.{Removal, Changes}
 use Rattle.ft_rebase.specs.MarkedRuns.{marked_runs_from, with_run}
 use Rattle.ft_rebase.specs.Moves.{leaf_stamps}
 use Rattle.ft_rebase.specs.Pieces.{has_mark, is_inserted_by, leaf_has_mark}
@@ -24,13 +24,13 @@ use Rattle.ft_rebase.proofs.Expanded.{any-none, any-some, rank-here, rank-seen, 
 use Rattle.ft_rebase.proofs.MarkedRunLemmas.{runs-past_marked, runs-past_seen, runs-past_unseen}
 
 module _ {C U : Type 0} (units : C → List U) (by : C → Option Stamp) where
-  marked_by : (mark : Mark) (k : ℕ) (x : TreeLeaf C) (b : Bool) → leaf_has_mark mark k x ≡ b → (u : U)
+  marked_by : (mark : PendingMark) (k : ℕ) (x : TreeLeaf C) (b : Bool) → leaf_has_mark mark k x ≡ b → (u : U)
       → has_mark mark k (element_with x.stamps (by x.content) x.overlay u) ≡ b
   marked_by Removal k x b e u = e
   marked_by Changes k x b e u = e
 
   -- the runs of a leaf in front of others
-  pub runs-leaf : (view : LenView) (mark : Mark) (k : ℕ) (x : TreeLeaf C) (i : ℕ) (ys : List (TreeElement U)) (s m : Bool)
+  pub runs-leaf : (view : LenView) (mark : PendingMark) (k : ℕ) (x : TreeLeaf C) (i : ℕ) (ys : List (TreeElement U)) (s m : Bool)
       → 1 ≤ length (units x.content)
       → sees_in view x.stamps ≡ s → leaf_has_mark mark k x ≡ m
       → marked_runs_from i (seen_in view) (has_mark mark k) (leaf_elements units by x ++ ys)

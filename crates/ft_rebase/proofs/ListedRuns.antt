@@ -19,8 +19,8 @@ use Rattle.ft_tree_leaves.proofs.Standing.{left-split}
 use Rattle.ft_tree_blocks.specs.Walks.{from_place}
 use Rattle.ft_tree_blocks.proofs.Walks.{stands}
 use Rattle.ft_tree_steps.proofs.FoundOffsets.{len-most}
-use Rattle.ft_rebase.specs.declared.marks.Mark.{Mark}
-use Rattle.ft_rebase.specs.declared.marks.Mark.TheVariants.{Removal, Changes}
+use Rattle.ft_rebase.specs.declared.marks.PendingMark.{PendingMark}
+use Rattle.ft_rebase.specs.declared.marks.PendingMark.TheVariants.{Removal, Changes}
 use Rattle.ft_rebase.specs.MarkedRuns.{continued, marked_runs_from, with_run}
 use Rattle.ft_rebase.specs.Pieces.{has_mark, leaf_has_mark}
 use Rattle.ft_rebase.proofs.LeafPieces.{runs-leaf}
@@ -33,11 +33,11 @@ no_mark false true c h = absurd cc
 no_mark true b c h = absurd cc
 
 -- a leaf of which a stage has nothing has no mark of it
-untouched : {C : Type 0} (mark : Mark) (k : ℕ) (x : TreeLeaf C) → is_touched_by k x ≡ false → leaf_has_mark mark k x ≡ false
+untouched : {C : Type 0} (mark : PendingMark) (k : ℕ) (x : TreeLeaf C) → is_touched_by k x ≡ false → leaf_has_mark mark k x ≡ false
 untouched Removal k x h = (no_mark _ _ _ h).0
 untouched Changes k x h = (no_mark _ _ _ h).1
 
-module _ {C U : Type 0} (units : C → List U) (by : C → Option Stamp) (view : LenView) (mark : Mark) (k : ℕ) (xs : List (ℕ × TreeLeaf C)) where
+module _ {C U : Type 0} (units : C → List U) (by : C → Option Stamp) (view : LenView) (mark : PendingMark) (k : ℕ) (xs : List (ℕ × TreeLeaf C)) where
   -- how many seen elements stand left of the leaf of a node
   abbrev pub seen_before : ℕ → ℕ
   seen_before id = len (seen_in view) (elements units by (left_of xs id))

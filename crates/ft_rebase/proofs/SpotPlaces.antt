@@ -15,7 +15,7 @@ use Rattle.ft_tree_leaves.specs.declared.references.Reference.{Reference}
 use Rattle.ft_tree_leaves.specs.Edits.{with_place}
 use Rattle.ft_tree_leaves.specs.Elements.{TreeElement, element_with}
 use Rattle.ft_tree_leaves.specs.LeafLists.{elements}
-use Rattle.ft_tree_leaves.specs.References.{ChangesReferences, place_of, reference_at}
+use Rattle.ft_tree_leaves.specs.References.{ChangesReferences, reference_place, reference_at}
 use Rattle.ft_tree.specs.State.{TreeState}
 use Rattle.ft_rebase.specs.Spots.{KeepsSpots, spot_at}
 use Rattle.ft_rebase.proofs.Expanded.{rank-seen}
@@ -202,8 +202,8 @@ module _ {C U : Type 0} (units : C → List U) (by : C → Option Stamp) where
 
   -- references that keep their spots, and stand inside the list before and after it
   pub refs-moved : (old new : TreeState C) (g : ℕ → ℕ) → KeepsSpots units old new
-      → ((r j : ℕ) → place_of old.refs r ≡ Some j → j < total units old.leaves)
-      → ((r j : ℕ) → place_of new.refs r ≡ Some j → j < total units new.leaves)
+      → ((r j : ℕ) → reference_place old.refs r ≡ Some j → j < total units old.leaves)
+      → ((r j : ℕ) → reference_place new.refs r ≡ Some j → j < total units new.leaves)
       → ((i j : ℕ) (s : ℕ × ℕ) → spot_at units old.leaves i ≡ Some s → spot_at units new.leaves j ≡ Some s → j ≡ g i)
       → ChangesReferences (with_place g) old.refs new.refs
   refs-moved old new g keeps inside inside' moves r =

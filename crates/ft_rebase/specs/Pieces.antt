@@ -9,8 +9,8 @@ use Rattle.ft_tree_leaves.specs.declared.leaves.TreeLeaf.{TreeLeaf}
 use Rattle.ft_tree_leaves.specs.Elements.{TreeElement, seen_in}
 use Rattle.ft_props.specs.Steps.{lowered_runs}
 use Rattle.ft_rebase.specs.MarkedRuns.{marked_runs_from}
-use Rattle.ft_rebase.specs.declared.marks.Mark.{Mark}
-use Rattle.ft_rebase.specs.declared.marks.Mark.TheVariants.{Removal, Changes}
+use Rattle.ft_rebase.specs.declared.marks.PendingMark.{PendingMark}
+use Rattle.ft_rebase.specs.declared.marks.PendingMark.TheVariants.{Removal, Changes}
 use Rattle.ft_rebase.specs.declared.pieces.Piece.{Piece}
 use Rattle.ft_rebase.specs.declared.pieces.Piece.TheVariants.{Insert, Remove, Annotate}
 
@@ -20,7 +20,7 @@ module _ {U : Type 0} where
   is_inserted_by k e = is_of_stage k e.stamps.ins
 
   -- whether stage k has this mark on the element: a removal, or changes
-  abbrev pub has_mark : Mark → ℕ → TreeElement U → Bool
+  abbrev pub has_mark : PendingMark → ℕ → TreeElement U → Bool
   has_mark Removal k e = list_any (is_of_stage k) e.stamps.dels
   has_mark Changes k e = list_any (λ c. nat_eq c.0 k) e.overlay.pending
 
@@ -29,7 +29,7 @@ module _ {U : Type 0} where
   insertion_position k xs = cond (list_any (is_inserted_by k) xs) (Some (rank (is_inserted_by k) (seen_in (Stage (k - 1))) xs)) None
 
   -- the maximal runs of elements with this mark in the view of the stage before k
-  abbrev pub marked_runs : ℕ → Mark → List (TreeElement U) → List (ℕ × ℕ)
+  abbrev pub marked_runs : ℕ → PendingMark → List (TreeElement U) → List (ℕ × ℕ)
   marked_runs k mark xs = marked_runs_from 0 (seen_in (Stage (k - 1))) (has_mark mark k) xs
 
   -- an insertion of stage k where its elements stand; none where it has no elements
@@ -49,6 +49,6 @@ module _ {U : Type 0} where
   pieces k xs = insertion_pieces k xs ++ removal_pieces k xs ++ annotation_pieces k xs
 
 -- whether stage k has this mark on the elements of a leaf
-abbrev pub leaf_has_mark : {C : Type 0} → Mark → ℕ → TreeLeaf C → Bool
+abbrev pub leaf_has_mark : {C : Type 0} → PendingMark → ℕ → TreeLeaf C → Bool
 leaf_has_mark Removal k x = list_any (is_of_stage k) x.stamps.dels
 leaf_has_mark Changes k x = list_any (λ c. nat_eq c.0 k) x.overlay.pending

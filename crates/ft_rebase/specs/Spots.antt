@@ -1,7 +1,7 @@
 -- Where an element stands, told by the node of its leaf, which moves keep.
 use Rattle.std.specs.Prelude.{◌≡◌, ℕ, ◌-◌, cond, nat_lt, List, [], ◌∷◌, Option, Some, None, length, option_and_then, option_map}
 use Rattle.ft_tree_leaves.specs.declared.leaves.TreeLeaf.{TreeLeaf}
-use Rattle.ft_tree_leaves.specs.References.{place_of, reference_at}
+use Rattle.ft_tree_leaves.specs.References.{reference_place, reference_at}
 use Rattle.ft_tree.specs.State.{TreeState}
 
 -- the node of the leaf that holds the element at place j, and its place in the leaf
@@ -12,6 +12,6 @@ spot_at units (x ∷ xs) j =
 
 -- each reference keeps its element, by its node and its place in the leaf, and stays acknowledged or pending
 pub record KeepsSpots {C U : Type 0} (units : C → List U) (old new : TreeState C) : Type 0 where
-  pub spots : (r : ℕ) → option_and_then (spot_at units new.leaves) (place_of new.refs r)
-      ≡ option_and_then (spot_at units old.leaves) (place_of old.refs r)
+  pub spots : (r : ℕ) → option_and_then (spot_at units new.leaves) (reference_place new.refs r)
+      ≡ option_and_then (spot_at units old.leaves) (reference_place old.refs r)
   pub acked : (r : ℕ) → option_map (λ x. x.acked) (reference_at new.refs r) ≡ option_map (λ x. x.acked) (reference_at old.refs r)

@@ -16,7 +16,7 @@ use ft_tree_leaves::stamps::has_stage;
 
 /// What a pending stage may have on an element that it didn't insert.
 #[derive(Clone, Copy, Debug, PartialEq, Eq)]
-pub enum Mark {
+pub enum PendingMark {
     /// A removal.
     Removal,
     /// Changes of its properties.
@@ -24,14 +24,14 @@ pub enum Mark {
 }
 
 // Whether the stage has this mark on the elements of a leaf.
-fn has_mark<C: Content>(tree: &Tree<C>, leaf: NodeId, stage: u64, mark: Mark) -> bool
+fn has_mark<C: Content>(tree: &Tree<C>, leaf: NodeId, stage: u64, mark: PendingMark) -> bool
     requires usable { IsTrue tree.now.usable }
     requires live { IsLeafIn tree.now.leaves leaf }
     ensures { option_map (leaf_has_mark mark stage) (value_at tree.now.leaves leaf) ≡ Some result }
 {
     match mark {
-        Mark::Removal => has_stage(tree.leaf_element(leaf).dels.as_slice(), stage),
-        Mark::Changes => tree.leaf_overlay(leaf).has(stage),
+        PendingMark::Removal => has_stage(tree.leaf_element(leaf).dels.as_slice(), stage),
+        PendingMark::Changes => tree.leaf_overlay(leaf).has(stage),
     }
 }
 
@@ -40,7 +40,7 @@ fn has_mark<C: Content>(tree: &Tree<C>, leaf: NodeId, stage: u64, mark: Mark) ->
 pub(crate) fn marked_runs<C: Content>(
     tree: &Tree<C>,
     stage: u64,
-    mark: Mark,
+    mark: PendingMark,
 ) -> Result<Vec<(u64, u64)>, OutOfMemory>
     requires { IsTrue tree.now.usable }
     ensures runs { IfOk result (λ runs. runs.items ≡ marked_runs stage mark (elements C.units C.by tree.now.leaves)) }

@@ -6,7 +6,7 @@ ghost use Rattle.ft_props.specs.Steps.{lowered_runs};
 ghost use Rattle.ft_rebase.specs.MarkedRuns.{RunsRise};
 ghost use Rattle.ft_rebase.specs.Pieces.{pieces};
 
-use crate::marks::{Mark, marked_runs};
+use crate::marks::{PendingMark, marked_runs};
 use crate::positions::insertion_position;
 use ft_base::OutOfMemory;
 use ft_tree::Tree;
@@ -35,9 +35,9 @@ pub fn regenerate<C: Content>(tree: &Tree<C>, stage: u64) -> Result<Vec<Piece>, 
     if let Some(pos) = insertion_position(tree, stage)? {
         pieces.push(Piece::Insert { pos })?;
     }
-    let removed = marked_runs(tree, stage, Mark::Removal)?;
+    let removed = marked_runs(tree, stage, PendingMark::Removal)?;
     push_removals(&mut pieces, &removed)?;
-    let changed = marked_runs(tree, stage, Mark::Changes)?;
+    let changed = marked_runs(tree, stage, PendingMark::Changes)?;
     push_annotations(&mut pieces, &changed)?;
     Ok(pieces)
 }

@@ -12,7 +12,7 @@ ghost use Rattle.ft_session.specs.Worlds.{AnswersHappening, SessionStands, Stand
 
 use crate::asked::summary_of;
 use crate::guests::has_guest;
-use crate::members::{Member, has_member, place_of};
+use crate::members::{Member, has_member, member_place};
 use crate::outputs::Out;
 use crate::session::Session;
 use ft_base::{Datum, OutOfMemory, Text};
@@ -78,7 +78,7 @@ impl<R: Replica + Drop> Session<R> {
         ensures err { IfErr result (λ why. (w : NaiveWorld) → IsMade w → SessionStands self.now w → (name : Characters) → MeansOf (refusal_kind why) ⊤ (start_client w name (Some from.now) ≡ Err why)) }
         ensures trimmed { IfOk result (λ r. (w : NaiveWorld) → IsMade w → SessionStands self.now w → (c : NamedClient) → find (is_client from.now) w.clients ≡ Some c → KeepsTrimmed (R.state r) c.client.doc) }
     {
-        let Some(place) = place_of(self.members.as_slice(), from) else {
+        let Some(place) = member_place(self.members.as_slice(), from) else {
             return Err(Refusal::UnknownClient);
         };
         let summary = summary_of(&self.members[place], &self.service)?;

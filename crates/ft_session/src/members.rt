@@ -33,7 +33,7 @@ pub(crate) fn has_member<R: Replica>(members: &[Member<R>], name: &Text) -> bool
 }
 
 /// The place of the replica of that name.
-pub(crate) fn place_of<R: Replica>(members: &[Member<R>], name: &Text) -> Option<usize>
+pub(crate) fn member_place<R: Replica>(members: &[Member<R>], name: &Text) -> Option<usize>
     ensures { result ≡ position (has_name name.now) members.now }
 {
     members.iter().position(|member| name.same(&member.name))

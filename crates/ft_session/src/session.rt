@@ -12,7 +12,7 @@ use crate::deliveries::{deliver, offer};
 use crate::edits::{compact, edit, ticket};
 use crate::guests::Guest;
 use crate::links::{connect, drop_link, noop};
-use crate::members::{Member, place_of};
+use crate::members::{Member, member_place};
 use crate::outputs::Out;
 use crate::service::Service;
 use ft_base::Text;
@@ -84,7 +84,7 @@ impl<R: Replica + Drop> Session<R> {
         ensures answers { AnswersHappening (λ w. of_client w name.now (client_step act.now w)) self.old self.new result }
         ensures effect { IfOk result (λ out. NamedActEffect R.COMPACTS act.now name.now self.new out) }
     {
-        let Some(place) = place_of(self.members.as_slice(), name) else {
+        let Some(place) = member_place(self.members.as_slice(), name) else {
             return Err(Refusal::UnknownClient);
         };
         happen_to_member(&mut self.members[place], &mut self.service, act)

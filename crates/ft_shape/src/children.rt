@@ -12,7 +12,7 @@ use ft_base::Steps;
 use std::sync::ledger::Ledger;
 
 /// The place of a child among a block's children, and how many there are.
-pub fn place_of<L, S, G: Ledger>(
+pub fn child_place<L, S, G: Ledger>(
     arena: &Arena<L, Headed<S>>,
     block: NodeId,
     child: NodeId,

@@ -8,6 +8,6 @@ pub mod children;
 pub mod headed;
 pub mod pairs;
 
-pub use children::{child_at, count_of, height_at, move_half, place_of, put_in_half};
+pub use children::{child_at, child_place, count_of, height_at, move_half, put_in_half};
 pub use headed::Headed;
 pub use pairs::{drop_root, regroup};

@@ -22,7 +22,7 @@ use Rattle.ft_tree_leaves.specs.declared.text.TextContent.{TextContent}
 use Rattle.ft_tree_leaves.specs.Edits.{with_place}
 use Rattle.ft_tree_leaves.specs.Elements.{TreeElement}
 use Rattle.ft_tree_leaves.specs.Places.{seen_before}
-use Rattle.ft_tree_leaves.specs.References.{ChangesReferences, place_of, reference_at}
+use Rattle.ft_tree_leaves.specs.References.{ChangesReferences, reference_place, reference_at}
 use Rattle.ft_tree_leaves.proofs.Runs.{len-append}
 use Rattle.ft_msg.specs.Compacted.{interval_holds, stage_holds_text}
 use Rattle.ft_msg.specs.Indexed.{IndexedStage, place_in_list}
@@ -323,7 +323,7 @@ among-rises ms i j h =
 module _ (tree new : TreeState TextContent) (c : IndexedState) (floor : ℕ) (ms : List (Bool × TreeElement ElementContent)) (may : AllByRecursion (MayGo floor) ms)
     (all : map second ms ≡ text_elements tree) (writes : Writes floor (text_elements new) (staying ms)) (refs : ChangesReferences (with_place (place_among ms)) tree.refs new.refs)
     (clear : AreClear floor (text_elements tree) tree.refs) (s : StandsOn tree c) where
-  moves-to : (r : ℕ) → place_of new.refs r ≡ option_map (place_among ms) (place_of tree.refs r)
+  moves-to : (r : ℕ) → reference_place new.refs r ≡ option_map (place_among ms) (reference_place tree.refs r)
   moves-to r = end-moved (place_among ms) tree.refs new.refs refs (Some r)
 
   mapped-rises : (a b : Option ℕ) → IsAtMost a b → IsAtMost (option_map (place_among ms) a) (option_map (place_among ms) b)
@@ -350,14 +350,14 @@ module _ (tree new : TreeState TextContent) (c : IndexedState) (floor : ℕ) (ms
     live = live-changed (with_place (place_among ms)) tree.refs new.refs refs c.state s.live;
     listed = λ l. kept-listed (length (text_elements tree)) (length (text_elements new)) tree.refs new.refs (λ j. ends_of_name (l, j) c.state.acked) (index_of l c.indexes) (λ r. Unit {0})
         (λ j r e. tt)
-        (λ r q e f w h. subst (λ u. IsAtMost u (place_of new.refs q)) (sym (moves-to r)) (subst (λ u. IsAtMost (option_map (place_among ms) (place_of tree.refs r)) u) (sym (moves-to q))
-        (mapped-rises (place_of tree.refs r) (place_of tree.refs q) h)))
-        (λ r e w. subst (IsWithin (length (text_elements new))) (sym (moves-to r)) (inside r (place_of tree.refs r) refl w))
-        (λ r q e f w v h. ap (λ u. is_some u) (moves-to r) ∙ mapped-some (place_of tree.refs r) ∙ h ∙ sym (mapped-some (place_of tree.refs q)) ∙ sym (ap (λ u. is_some u) (moves-to q)))
+        (λ r q e f w h. subst (λ u. IsAtMost u (reference_place new.refs q)) (sym (moves-to r)) (subst (λ u. IsAtMost (option_map (place_among ms) (reference_place tree.refs r)) u) (sym (moves-to q))
+        (mapped-rises (reference_place tree.refs r) (reference_place tree.refs q) h)))
+        (λ r e w. subst (IsWithin (length (text_elements new))) (sym (moves-to r)) (inside r (reference_place tree.refs r) refl w))
+        (λ r q e f w v h. ap (λ u. is_some u) (moves-to r) ∙ mapped-some (reference_place tree.refs r) ∙ h ∙ sym (mapped-some (reference_place tree.refs q)) ∙ sym (ap (λ u. is_some u) (moves-to q)))
         (λ r e h. moves-to r ∙ ap (option_map (place_among ms)) h) (s.listed l);
   }
     where
-      inside : (r : ℕ) (p : Option ℕ) → place_of tree.refs r ≡ p → IsWithin (length (text_elements tree)) p → IsWithin (length (text_elements new)) (option_map (place_among ms) p)
+      inside : (r : ℕ) (p : Option ℕ) → reference_place tree.refs r ≡ p → IsWithin (length (text_elements tree)) p → IsWithin (length (text_elements new)) (option_map (place_among ms) p)
       inside r None e w = tt
       inside r (Some i) e w =
           let marks : length ms ≡ length (text_elements tree) = sym (length-map ms second) ∙ ap (λ es. length es) all in

@@ -12,7 +12,7 @@ use Rattle.ft_interval.specs.Order.{IsAtMost, IsWithin}
 use Rattle.ft_interval.proofs.Listed.{kept-listed}
 use Rattle.ft_tree_leaves.specs.declared.text.TextContent.{TextContent}
 use Rattle.ft_tree_leaves.specs.Edits.{with_place}
-use Rattle.ft_tree_leaves.specs.References.{ChangesReferences, place_of}
+use Rattle.ft_tree_leaves.specs.References.{ChangesReferences, reference_place}
 use Rattle.ft_msg.specs.Indexed.{IndexedStage, indexed_stage, place_in_list}
 use Rattle.ft_msg.specs.Reconnection.{carried_stage, rebuilt_document}
 use Rattle.ft_op.specs.Document.{Document}
@@ -197,9 +197,9 @@ module _ (tree : TreeState TextContent) (c : CollectionsState) (ops : List Pendi
       live = live-changed (with_place f) tree.refs new.refs refs c st.live;
       listed = λ l. kept-listed (length (text_elements tree)) (length (text_elements new)) tree.refs new.refs (λ j. ends_of_name (l, j) c.acked) (index_of l idx) (λ r. Named (Some r))
           (λ j r e. named-end Named c.acked have-names (l, j) r e)
-          (λ r q e d w h. subst (λ u. IsAtMost u (place_of new.refs q)) (sym e.behind) (subst (λ u. IsAtMost (place_in_list fs e.name) u) (sym d.behind)
+          (λ r q e d w h. subst (λ u. IsAtMost u (reference_place new.refs q)) (sym e.behind) (subst (λ u. IsAtMost (place_in_list fs e.name) u) (sym d.behind)
           (names-rise es fs kept-order sequenced-stays e.name d.name e.settled d.settled
-          (subst (λ u. IsAtMost u (place_in_list es d.name)) e.before (subst (λ u. IsAtMost (place_of tree.refs r) u) d.before h)))))
+          (subst (λ u. IsAtMost u (place_in_list es d.name)) e.before (subst (λ u. IsAtMost (reference_place tree.refs r) u) d.before h)))))
           (λ r e w. subst (λ u. IsWithin (length (text_elements new)) u) (sym e.behind) (subst (λ n. IsWithin n (place_in_list fs e.name)) (sym new-length)
           (names-within es fs kept-order sequenced-stays e.name e.settled)))
           (λ r q e d w v h. ap (λ u. is_some u) e.behind ∙ names-some es fs kept-order sequenced-stays e.name ∙ sym (ap (λ u. is_some u) e.before) ∙ h ∙ ap (λ u. is_some u) d.before

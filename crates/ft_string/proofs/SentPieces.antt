@@ -20,7 +20,7 @@ use Rattle.ft_props.specs.Steps.{is_annotated_by, is_inserted_by, is_removed_by,
 use Rattle.ft_laws_agreement.specs.Reconnecting.{has_insertion_of, has_marks_of, has_removal_of, has_some, inserts_text, is_stage_of, removes_text}
 use Rattle.ft_laws_agreement.specs.Sequencing.{Each, IsBlockOf, IsTyped, annotates_text}
 use Rattle.ft_laws_names.specs.WellNamed.{RiseTo}
-use Rattle.ft_rebase.specs.declared.marks.Mark.TheVariants.{Removal, Changes}
+use Rattle.ft_rebase.specs.declared.marks.PendingMark.TheVariants.{Removal, Changes}
 use Rattle.ft_rebase.specs.declared.pieces.Piece.{Piece}
 use Rattle.ft_rebase.specs.declared.pieces.Piece.TheVariants as piece
 use Rattle.ft_rebase.specs.Pieces.{annotation_pieces, insertion_pieces, marked_runs, pieces, removal_pieces}

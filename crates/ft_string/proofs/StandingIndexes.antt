@@ -18,7 +18,7 @@ use Rattle.ft_tree_leaves.specs.declared.text.TextContent.{TextContent}
 use Rattle.ft_tree_leaves.specs.Edits.{with_place}
 use Rattle.ft_tree_leaves.specs.Elements.{acked_element, is_pending, is_unremoved, new_elements, seen_in}
 use Rattle.ft_tree_leaves.specs.Places.{put_place, shifted_place}
-use Rattle.ft_tree_leaves.specs.References.{ChangesReferences, place_of, reference_at, slid_reference}
+use Rattle.ft_tree_leaves.specs.References.{ChangesReferences, reference_place, reference_at, slid_reference}
 use Rattle.ft_tree_leaves.specs.TextLeaves.{text_author}
 use Rattle.ft_tree.specs.State.{TreeState}
 use Rattle.ft_interval_store.specs.declared.intervals.EndPair.{EndPair}
@@ -173,7 +173,7 @@ applied-stands s at (Annotate p q changes) tree new c a marked st =
   where
     stay : (e : Option ℕ) → place_of_end new.refs e ≡ option_map (λ i. i) (place_of_end tree.refs e)
     stay None = refl
-    stay (Some r) = ap (λ o. option_and_then (λ (x : Reference). x.place) o) (a.refs r ∙ map-same (reference_at tree.refs r)) ∙ sym (map-same (place_of tree.refs r))
+    stay (Some r) = ap (λ o. option_and_then (λ (x : Reference). x.place) o) (a.refs r ∙ map-same (reference_at tree.refs r)) ∙ sym (map-same (reference_place tree.refs r))
 
 pub tried-stands : (s : ℕ) (at : Perspective) (os : List BaseOp) (n : ℕ) (tree new : TreeState TextContent) (c : IndexedState) → TriesOps s at os n tree new
     → AreSound tree c.state → StandsOn tree c → StandsOn new c

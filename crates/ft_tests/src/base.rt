@@ -2,7 +2,7 @@
 
 ghost use Rattle.std.specs.Prelude.{◌≡◌, ◌<◌};
 
-use ft_base::scans::{insert_at_place, place_of, seen_count};
+use ft_base::scans::{insert_at_place, insertion_place, seen_count};
 use ft_base::{
     Datum, Element, OutOfMemory, Perspective, Stamp, Stamps, Steps, Text, seen_at, sees,
 };
@@ -105,7 +105,13 @@ fn an_insertion_goes_directly_after_its_place(rt: HostRuntime) -> Result<(), Fai
     let second = items.get(1).map(|e| e.ins);
     assert_eq!(rt; second, Some(Stamp::Acked { seq: 3, conn: 1 }));
     assert_eq!(rt; (items.len(), seen_count(&items, at)), (3, 2));
-    assert_eq!(rt; (place_of(&items, 2, at), place_of(&items, 3, at)), (2, 3));
+    assert_eq!(rt;
+        (
+            insertion_place(&items, 2, at),
+            insertion_place(&items, 3, at)
+        ),
+        (2, 3)
+    );
     Ok(())
 }
 

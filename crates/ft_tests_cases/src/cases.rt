@@ -1,6 +1,6 @@
 //! A case: what is run, and what it comes to.
 
-use crate::runs::Run;
+use crate::runs::CaseRun;
 use ft_base::OutOfMemory;
 use std::alloc::Global;
 
@@ -119,7 +119,7 @@ impl Case {
     fn push_cuts(&self, alloc: Global, output: &mut Vec<u8>) -> Result<(), OutOfMemory> {
         for end in 0..=self.input.len() {
             let name = format!(in alloc; "cut {end}\n")?;
-            let run = Run {
+            let run = CaseRun {
                 input: &self.input[..end],
                 ..self.run()
             };
@@ -137,7 +137,7 @@ impl Case {
     ) -> Result<(), OutOfMemory> {
         for number in 1..=last {
             let name = format!(in alloc; "read {number}\n")?;
-            let run = Run {
+            let run = CaseRun {
                 failing_reads: &[number],
                 ..self.run()
             };
@@ -155,7 +155,7 @@ impl Case {
     ) -> Result<(), OutOfMemory> {
         for number in 1..=last {
             let name = format!(in alloc; "write {number}\n")?;
-            let run = Run {
+            let run = CaseRun {
                 failing_writes: &[number],
                 ..self.run()
             };
@@ -165,13 +165,13 @@ impl Case {
     }
 
     // The run as the case says it.
-    fn run(&self) -> Run<'_> {
+    fn run(&self) -> CaseRun<'_> {
         self.run_in(self.piece.unwrap_or(PIECE))
     }
 
     // The same in such pieces.
-    fn run_in(&self, piece: usize) -> Run<'_> {
-        Run {
+    fn run_in(&self, piece: usize) -> CaseRun<'_> {
+        CaseRun {
             words: &self.words,
             input: self.input.as_slice(),
             failing_reads: self.failing_reads.as_slice(),
@@ -195,7 +195,7 @@ fn push_words(alloc: Global, words: &mut Vec<String>, line: &str) -> Result<(), 
 fn push_written(alloc: Global, bytes: &mut Vec<u8>, line: &str) -> Result<(), OutOfMemory> {
     let mut words = Vec::new(alloc);
     push_words(alloc, &mut words, line)?;
-    let run = Run {
+    let run = CaseRun {
         words: &words,
         input: &[],
         failing_reads: &[],

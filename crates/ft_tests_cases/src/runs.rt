@@ -8,7 +8,7 @@ use std::alloc::Global;
 
 /// What a run is made over.
 #[derive(Clone, Copy)]
-pub struct Run<'a> {
+pub struct CaseRun<'a> {
     pub words: &'a Vec<String>,
     pub input: &'a [u8],
     pub failing_reads: &'a [u64],
@@ -21,7 +21,7 @@ pub struct Run<'a> {
     pub views: bool,
 }
 
-impl<'a> Run<'a> {
+impl<'a> CaseRun<'a> {
     /// Adds the name of the run and what it comes to, unless the run before it came to the same.
     ///
     /// Returns `OutOfMemory` where there is no room for it.

@@ -5,7 +5,7 @@ use Rattle.ft_base.specs.Scan.{len}
 use Rattle.ft_tree_leaves.specs.declared.references.Reference.{Reference}
 use Rattle.ft_tree_leaves.specs.Edits.{with_place}
 use Rattle.ft_tree_leaves.specs.Places.{shifted_place}
-use Rattle.ft_tree_leaves.specs.References.{KeepsReferences, ChangesReferences, place_of, reference_at}
+use Rattle.ft_tree_leaves.specs.References.{KeepsReferences, ChangesReferences, reference_place, reference_at}
 use Rattle.ft_tree_leaves.proofs.Numbered.{place_from}
 use Rattle.ft_tree_steps.proofs.FoundOffsets.{at-none}
 
@@ -34,6 +34,6 @@ unshifted i n (Some x) h = ap Some (same_place x.place x.acked h)
         ap (λ (k : ℕ). record { place = Some k; acked = acked }) (cond-false (nat_le i j) (j + n) j (lt-leb i j (h j refl)))
 
 -- references before place i stay where elements are put in there
-pub kept_before : (i n : ℕ) (old new : List (ℕ × Reference)) → ((r j : ℕ) → place_of old r ≡ Some j → j < i)
+pub kept_before : (i n : ℕ) (old new : List (ℕ × Reference)) → ((r j : ℕ) → reference_place old r ≡ Some j → j < i)
     → ChangesReferences (with_place (shifted_place i n)) old new → KeepsReferences old new
 kept_before i n old new before changes = λ r. changes r ∙ unshifted i n (reference_at old r) (before r)

@@ -8,7 +8,7 @@ ghost use Rattle.ft_tree_leaves.specs.Edits.{ChangesReference, next_removal_abov
 ghost use Rattle.ft_tree_leaves.specs.Elements.{seen_in};
 ghost use Rattle.ft_tree_leaves.specs.Places.{place_at, seen_before, settled_number, settled_place};
 ghost use Rattle.ft_tree_leaves.specs.LeafLists.{elements};
-ghost use Rattle.ft_tree_leaves.specs.References.{ChangesReferences, IsReferenceIn, place_of, reference_at, slid_reference};
+ghost use Rattle.ft_tree_leaves.specs.References.{ChangesReferences, IsReferenceIn, reference_place, reference_at, slid_reference};
 ghost use Rattle.ft_tree_blocks.specs.LeafPlaces.{IsOnLeaf, place_on};
 ghost use Rattle.ft_tree.specs.State.{IsRefused};
 
@@ -55,9 +55,9 @@ impl<C: Content> Tree<C> {
     pub fn ref_index(&self, r: RefId) -> Option<u64>
         requires usable { IsTrue self.now.usable }
         requires live { IsReferenceIn self.now.refs r }
-        ensures { result ≡ place_of self.now.refs r }
+        ensures { result ≡ reference_place self.now.refs r }
     {
-        let at = self.blocks.place_of(r)?;
+        let at = self.blocks.ref_place(r)?;
         Some(elements_before(self.blocks.list(), &at))
     }
 
@@ -67,9 +67,9 @@ impl<C: Content> Tree<C> {
         requires usable { IsTrue self.now.usable }
         requires live { IsReferenceIn self.now.refs r }
         ensures on_leaf { IfSome result (IsOnLeaf C.units self.now.leaves) }
-        ensures place { option_map (place_on C.units C.by self.now.leaves) result ≡ place_of self.now.refs r }
+        ensures place { option_map (place_on C.units C.by self.now.leaves) result ≡ reference_place self.now.refs r }
     {
-        self.blocks.place_of(r)
+        self.blocks.ref_place(r)
     }
 
     /// The element as it is settled at the stage: the same if the stage sees it, else the next one that it sees, else
@@ -106,9 +106,9 @@ impl<C: Content> Tree<C> {
         requires usable { IsTrue self.now.usable }
         requires live { IsReferenceIn self.now.refs r }
         ensures { let list = elements C.units C.by self.now.leaves in
-            result ≡ option_and_then (settled_number (seen_in (Stage stage)) list) (place_of self.now.refs r) }
+            result ≡ option_and_then (settled_number (seen_in (Stage stage)) list) (reference_place self.now.refs r) }
     {
-        let at = self.blocks.place_of(r)?;
+        let at = self.blocks.ref_place(r)?;
         settled_number(self.blocks.list(), &at, LenView::Stage(stage))
     }
 

@@ -5,7 +5,7 @@ ghost use Rattle.ft_arena.specs.Ids.{after, first};
 ghost use Rattle.ft_block.specs.Leaves.{IsLeafIn, IsPlaceIn, ids, sees_in, times_leaf, value_at};
 ghost use Rattle.ft_tree_leaves.specs.Edits.{is_marked_by, next_pending_above, touched_nodes};
 ghost use Rattle.ft_tree_leaves.specs.LeafLists.{elements};
-ghost use Rattle.ft_tree_leaves.specs.References.{place_of};
+ghost use Rattle.ft_tree_leaves.specs.References.{reference_place};
 
 use crate::tree::Tree;
 use ft_arena::NodeId;
@@ -28,7 +28,7 @@ impl<C: Content> Tree<C> {
         ensures depth { 4 ^ self.now.depth ≤ length self.now.leaves + 1 }
 
         // And each reference that isn't detached stands on an element.
-        ensures inside { (r j : ℕ) → place_of self.now.refs r ≡ Some j → j < length (elements C.units C.by self.now.leaves) }
+        ensures inside { (r j : ℕ) → reference_place self.now.refs r ≡ Some j → j < length (elements C.units C.by self.now.leaves) }
     {
         self.blocks.first()
     }

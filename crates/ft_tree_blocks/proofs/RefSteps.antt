@@ -18,7 +18,7 @@ use Rattle.ft_tree_leaves.specs.LeafChanges.{acked_leaf, acked_pair}
 use Rattle.ft_tree_leaves.specs.LeafLists.{elements}
 use Rattle.ft_tree_leaves.specs.Elements.{is_unremoved}
 use Rattle.ft_tree_leaves.specs.Places.{settled_place}
-use Rattle.ft_tree_leaves.specs.References.{IsReferenceIn, place_of, reference_at, slid_reference}
+use Rattle.ft_tree_leaves.specs.References.{IsReferenceIn, reference_place, reference_at, slid_reference}
 use Rattle.ft_tree_leaves.proofs.Standing.{change-map}
 use Rattle.ft_refs.specs.declared.numbers.Place.{Place}
 use Rattle.ft_refs.specs.RefLists.{entry, place_of_entry, place_of_reference}
@@ -131,7 +131,7 @@ module _ {C U : Type 0} (units : C → List U) (by : C → Option Stamp) where
         shown_entry (Some None) flag h = (cc)
         shown_entry (Some (Some was)) flag h = let same_place : was ≡ p = (cc) in ap (λ (z : Place). Some (place_on units by xs z)) same_place
 
-        shown : (q : Option (Option Place)) (flag : Bool) → place_of_entry (entry a.refs r) ≡ Some p → place_of (references_on units by xs a) r ≡ Some (place_on units by xs p)
+        shown : (q : Option (Option Place)) (flag : Bool) → place_of_entry (entry a.refs r) ≡ Some p → reference_place (references_on units by xs a) r ≡ Some (place_on units by xs p)
         shown q flag h =
             ap (option_and_then (λ (x : Reference). x.place)) (reference_at-on units by xs a r) ∙ shown_entry (entry a.refs r) (is_acked_at a r) h
 
@@ -154,8 +154,8 @@ module _ {C U : Type 0} (units : C → List U) (by : C → Option Stamp) (xs : L
   shown_by (Some (Some p)) flag = refl
 
   -- its place among the elements
-  pub place_of-on : place_of (references_on units by xs a) r ≡ option_map (place_on units by xs) (place_of_reference a.refs r)
-  place_of-on = ap (option_and_then (λ (x : Reference). x.place)) (reference_at-on units by xs a r) ∙ shown_by (entry a.refs r) (is_acked_at a r)
+  pub reference_place-on : reference_place (references_on units by xs a) r ≡ option_map (place_on units by xs) (place_of_reference a.refs r)
+  reference_place-on = ap (option_and_then (λ (x : Reference). x.place)) (reference_at-on units by xs a r) ∙ shown_by (entry a.refs r) (is_acked_at a r)
 
   pub changed_twice : (q p : Option (Option Place)) (f h : Bool) (b c : AnchorLists) → ChangesAnchor r q f a b → ChangesAnchor r p h b c → ChangesAnchor r p h a c
   changed_twice q p f h b c first then = record {

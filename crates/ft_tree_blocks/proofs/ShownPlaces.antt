@@ -5,7 +5,7 @@ use Rattle.ft_block.specs.Leaves.{times_leaf}
 use Rattle.ft_tree_leaves.specs.declared.leaves.TreeLeaf.{TreeLeaf}
 use Rattle.ft_tree_leaves.specs.declared.references.Reference.{Reference}
 use Rattle.ft_tree_leaves.specs.LeafLists.{elements}
-use Rattle.ft_tree_leaves.specs.References.{place_of}
+use Rattle.ft_tree_leaves.specs.References.{reference_place}
 use Rattle.ft_refs.specs.declared.numbers.Place.{Place}
 use Rattle.ft_refs.specs.RefLists.{entry, place_of_entry}
 use Rattle.ft_tree_blocks.specs.Anchors.{AnchorLists, AreAnchored, is_acked_at, reference_on, references_on}
@@ -23,6 +23,6 @@ module _ {C U : Type 0} (units : C → List U) (by : C → Option Stamp) (xs : L
       let at : place_on units by xs p ≡ j = (cc) in
       omega (arith, at, offset_within units by xs p once (anchored.on r p (ap place_of_entry e)))
 
-  pub places_inside : (r j : ℕ) → place_of (references_on units by xs a) r ≡ Some j → j < length (elements units by xs)
+  pub places_inside : (r j : ℕ) → reference_place (references_on units by xs a) r ≡ Some j → j < length (elements units by xs)
   places_inside r j h =
       entry_inside r j (is_acked_at a r) (entry a.refs r) refl (sym (ap (option_and_then (λ (x : Reference). x.place)) (reference_at-on units by xs a r)) ∙ h)

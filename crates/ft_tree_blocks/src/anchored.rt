@@ -7,7 +7,7 @@ ghost use Rattle.ft_tree_leaves.specs.BlockChanges.{MayChange, changed_leaf};
 ghost use Rattle.ft_tree_leaves.specs.Edits.{ChangesReference, IsFreeOf, closed_by, moved_by, up_to_place, with_place};
 ghost use Rattle.ft_tree_leaves.specs.LeafLists.{elements};
 ghost use Rattle.ft_tree_leaves.specs.Places.{shifted_place};
-ghost use Rattle.ft_tree_leaves.specs.References.{ChangesReferences, IsReferenceIn, KeepsReferences, place_of, reference_at, slid_reference};
+ghost use Rattle.ft_tree_leaves.specs.References.{ChangesReferences, IsReferenceIn, KeepsReferences, reference_place, reference_at, slid_reference};
 ghost use Rattle.ft_tree_blocks.specs.Anchors.{references_on};
 ghost use Rattle.ft_tree_blocks.specs.LeafPlaces.{IsOnLeaf, place_on};
 ghost use Rattle.ft_tree_blocks.specs.Touched.{Tracks};
@@ -267,7 +267,7 @@ pub(crate) fn place_anchored<C: Content>(
     requires live { IsReferenceIn (references_on C.units C.by blocks.now.leaves refs.now.anchors) r }
     ensures on { IfSome result (IsOnLeaf C.units blocks.now.leaves) }
     ensures place { let leaves = blocks.now.leaves in
-        option_map (place_on C.units C.by leaves) result ≡ place_of (references_on C.units C.by leaves refs.now.anchors) r }
+        option_map (place_on C.units C.by leaves) result ≡ reference_place (references_on C.units C.by leaves refs.now.anchors) r }
 {
     // What holds of the leaves at any time is read off its contract.
     let _first = blocks.first();

@@ -25,7 +25,7 @@ ghost use Rattle.ft_tree_leaves.specs.Elements.{IsLowestChange};
 ghost use Rattle.ft_tree_leaves.specs.LeafChanges.{acked_pair};
 ghost use Rattle.ft_tree_leaves.specs.LeafLists.{elements, leaf_length};
 ghost use Rattle.ft_tree_leaves.specs.Places.{shifted_place};
-ghost use Rattle.ft_tree_leaves.specs.References.{ChangesReferences, IsReferenceIn, KeepsReferences, place_of, reference_at, slid_reference};
+ghost use Rattle.ft_tree_leaves.specs.References.{ChangesReferences, IsReferenceIn, KeepsReferences, reference_place, reference_at, slid_reference};
 ghost use Rattle.ft_tree_blocks.specs.LeafPlaces.{IsOnLeaf, place_on};
 ghost use Rattle.ft_tree_blocks.specs.State.{list_of};
 
@@ -108,7 +108,7 @@ impl<C: Content> LeafBlocks<C> {
         ensures depth { 4 ^ self.now.depth ≤ length self.now.leaves + 1 }
 
         // And each reference stands on an element.
-        ensures inside { (r j : ℕ) → place_of self.now.refs r ≡ Some j → j < length (elements C.units C.by self.now.leaves) }
+        ensures inside { (r j : ℕ) → reference_place self.now.refs r ≡ Some j → j < length (elements C.units C.by self.now.leaves) }
     {
         self.blocks.first()
     }
@@ -381,11 +381,11 @@ impl<C: Content> LeafBlocks<C> {
     }
 
     /// Where a reference stands: None exactly where it is detached.
-    pub fn place_of(&self, r: RefId) -> Option<Place>
+    pub fn ref_place(&self, r: RefId) -> Option<Place>
         requires usable { IsTrue self.now.usable }
         requires live { IsReferenceIn self.now.refs r }
         ensures on { IfSome result (IsOnLeaf C.units self.now.leaves) }
-        ensures place { option_map (place_on C.units C.by self.now.leaves) result ≡ place_of self.now.refs r }
+        ensures place { option_map (place_on C.units C.by self.now.leaves) result ≡ reference_place self.now.refs r }
     {
         place_anchored(&self.blocks, &self.refs, r)
     }

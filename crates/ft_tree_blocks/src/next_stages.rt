@@ -11,7 +11,7 @@ ghost use Rattle.ft_tree_blocks.specs.Wanted.{IsLeastStage, has_wanted, is_wante
 
 use crate::acks::is_touched_by;
 use crate::stage_nodes::StageNodes;
-use crate::touched::place_of;
+use crate::touched::stage_place;
 use ft_arena::NodeId;
 use ft_block::Blocks;
 use ft_tree_leaves::stamps::has_stage;
@@ -81,7 +81,7 @@ fn next_wanted_in<C: Content>(
     requires tracks { Tracks blocks.now.leaves touched.now.items }
     ensures { IsLeastStage stage (is_wanted_at wanted blocks.now.leaves) result }
 {
-    for list in touched.range(place_of(touched, stage)..) {
+    for list in touched.range(stage_place(touched, stage)..) {
         if is_wanted_above(blocks, list, stage, wanted) {
             return Some(list.stage());
         }

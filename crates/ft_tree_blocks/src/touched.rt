@@ -12,7 +12,7 @@ use ft_tree_leaves::stamps::{has_stage, is_of_stage};
 use std::collections::VecDeque;
 
 /// How many lists are of lower stages.
-pub(crate) fn place_of(touched: &VecDeque<StageNodes>, stage: u64) -> usize
+pub(crate) fn stage_place(touched: &VecDeque<StageNodes>, stage: u64) -> usize
     requires { AreRising touched.now.items }
     ensures place { result ≡ stages_below stage touched.now.items }
     ensures bound { result ≤ length touched.now.items }
@@ -40,7 +40,7 @@ pub(crate) fn note(
     ensures notes { OnOk result (Notes id touched.old.items touched.new.items) }
     ensures listed { OnOk result (is_listed touched.new.items stage id ≡ true) }
 {
-    let i = place_of(touched, stage);
+    let i = stage_place(touched, stage);
     if is_at(touched, i, stage) {
         return touched[i].add(id);
     }
@@ -158,7 +158,7 @@ pub(crate) fn nodes_of(touched: &VecDeque<StageNodes>, stage: u64) -> &[NodeId]
     requires { AreRising touched.now.items }
     ensures { (id : ℕ) → holds result.now id ≡ is_listed touched.now.items stage id }
 {
-    let i = place_of(touched, stage);
+    let i = stage_place(touched, stage);
     if !is_at(touched, i, stage) {
         return &[];
     }
@@ -174,7 +174,7 @@ pub(crate) fn take_stage(touched: &mut VecDeque<StageNodes>, stage: u64) -> Vec<
     ensures rising { AreRising touched.new.items }
 {
     let alloc = *touched.allocator();
-    let i = place_of(touched, stage);
+    let i = stage_place(touched, stage);
     if !is_at(touched, i, stage) {
         return Vec::new(alloc);
     }

@@ -14,7 +14,7 @@ use Rattle.ft_tree_leaves.specs.declared.references.Reference.{Reference}
 use Rattle.ft_tree_leaves.specs.Elements.{TreeElement, sequenced_overlay, sequenced_stamps, universal_stamps, unmarked_stamps}
 use Rattle.ft_tree_leaves.specs.Places.{shifted_place}
 use Rattle.ft_tree_leaves.specs.LeafLists.{elements}
-use Rattle.ft_tree_leaves.specs.References.{place_of, reference_at}
+use Rattle.ft_tree_leaves.specs.References.{reference_place, reference_at}
 
 module _ {L : Type 0} where
   -- the leaves up to that of this node, or none where no node is given
@@ -153,4 +153,4 @@ abbrev pub IsFreeOf : {C U : Type 0} → (C → List U) → (C → Option Stamp)
 IsFreeOf units by xs id refs =
     let i = length (elements units by (left_of xs id)) in
     let n = length (elements units by (leaf_at xs id)) in
-    (r j : ℕ) → place_of refs r ≡ Some j → (nat_le i j && nat_lt j (i + n)) ≡ false
+    (r j : ℕ) → reference_place refs r ≡ Some j → (nat_le i j && nat_lt j (i + n)) ≡ false

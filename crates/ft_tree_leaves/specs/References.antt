@@ -14,8 +14,8 @@ abbrev pub IsReferenceIn : List (ℕ × Reference) → ℕ → Type 0
 IsReferenceIn refs r = IsSome (reference_at refs r)
 
 -- the place of a reference of this number, none where it is detached
-abbrev pub place_of : List (ℕ × Reference) → ℕ → Option ℕ
-place_of refs r = option_and_then (λ x. x.place) (reference_at refs r)
+abbrev pub reference_place : List (ℕ × Reference) → ℕ → Option ℕ
+reference_place refs r = option_and_then (λ x. x.place) (reference_at refs r)
 
 -- an acknowledged reference after sequenced removals: it slides; a pending one stays
 abbrev pub slid_reference : {U : Type 0} → List (TreeElement U) → Reference → Reference

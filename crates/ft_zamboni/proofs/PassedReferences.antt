@@ -3,7 +3,7 @@ use Rattle.std.proofs.Common.{◌≡◌, ℕ, List, Option, Some, None, refl, sy
 use Rattle.std.specs.Prelude.{option_map, option_and_then}
 use Rattle.ft_tree_leaves.specs.declared.references.Reference.{Reference}
 use Rattle.ft_tree_leaves.specs.Edits.{with_place}
-use Rattle.ft_tree_leaves.specs.References.{ChangesReferences, KeepsReferences, place_of, reference_at}
+use Rattle.ft_tree_leaves.specs.References.{ChangesReferences, KeepsReferences, reference_place, reference_at}
 
 module _ (f g h : ℕ → ℕ) where
   twice : (o : Option Reference) → ((i : ℕ) → option_and_then (λ x. x.place) o ≡ Some i → g (f i) ≡ h i)
@@ -18,7 +18,7 @@ module _ (f g h : ℕ → ℕ) where
   -- one after the other
   pub changes-twice : (old mid new : List (ℕ × Reference)) → ChangesReferences (with_place f) old mid
       → ChangesReferences (with_place g) mid new
-      → ((r i : ℕ) → place_of old r ≡ Some i → g (f i) ≡ h i) → ChangesReferences (with_place h) old new
+      → ((r i : ℕ) → reference_place old r ≡ Some i → g (f i) ≡ h i) → ChangesReferences (with_place h) old new
   changes-twice old mid new first second e = λ r. second r ∙ ap (option_map (with_place g)) (first r) ∙ twice (reference_at old r) (e r)
 
 module _ (f : ℕ → ℕ) where
@@ -49,8 +49,8 @@ module _ (f : ℕ → ℕ) where
       placed None e = (cc)
       placed (Some i) e = (i, (refl, (cc)))
 
-  pub place-was : (old new : List (ℕ × Reference)) → ChangesReferences (with_place f) old new → (r j : ℕ) → place_of new r ≡ Some j
-      → (i : ℕ) × ((place_of old r ≡ Some i) × (j ≡ f i))
+  pub place-was : (old new : List (ℕ × Reference)) → ChangesReferences (with_place f) old new → (r j : ℕ) → reference_place new r ≡ Some j
+      → (i : ℕ) × ((reference_place old r ≡ Some i) × (j ≡ f i))
   place-was old new change r j e = was_at (reference_at old r) j (ap (option_and_then (λ x. x.place)) (sym (change r)) ∙ e)
 
 module _ (f g : ℕ → ℕ) where

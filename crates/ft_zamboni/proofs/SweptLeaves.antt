@@ -10,7 +10,7 @@ use Rattle.ft_tree_leaves.specs.declared.leaves.TreeLeaf.{TreeLeaf}
 use Rattle.ft_tree_leaves.specs.Edits.{IsFreeOf, MayJoin, MayJoinGiven, MayJoinNext, closed_by, closed_place, joined_leaf, leaf_at, sweep_joined, sweep_behind, sweep_without, with_place}
 use Rattle.ft_tree_leaves.specs.Elements.{TreeElement, elements_with, element_with}
 use Rattle.ft_tree_leaves.specs.LeafLists.{elements, leaf_elements}
-use Rattle.ft_tree_leaves.specs.References.{ChangesReferences, KeepsReferences, place_of}
+use Rattle.ft_tree_leaves.specs.References.{ChangesReferences, KeepsReferences, reference_place}
 use Rattle.ft_tree_leaves.proofs.CutLeaves.{times-append}
 use Rattle.ft_tree_leaves.proofs.LeafRuns.{elements-append, elements-one}
 use Rattle.ft_tree_leaves.proofs.Standing.{after-split, at-value, join-split, left-split, next-split, value-split}
@@ -173,11 +173,11 @@ module _ {C U : Type 0} (units : C → List U) (by : C → Option Stamp) where
       n_is = ap (λ ys. length (elements units by ys)) leaf_is ∙ ap length (elements-one units by (id, v))
 
       module _ (clear : AreClear floor (elements units by old.leaves) old.refs) where
-        stays : (r i : ℕ) → place_of old.refs r ≡ Some i → StaysAt (seen_marks units by floor before (seen ++ (id, v) ∷ []) tail) i
+        stays : (r i : ℕ) → reference_place old.refs r ≡ Some i → StaysAt (seen_marks units by floor before (seen ++ (id, v) ∷ []) tail) i
         stays r i e = marks-clear units by floor old.leaves before (seen ++ (id, v) ∷ []) tail old_at i (clear r i e)
 
         -- no reference is on the leaf where it goes, and those behind it move up
-        closes-here : is_collectable floor v.stamps ≡ true → (r i : ℕ) → place_of old.refs r ≡ Some i
+        closes-here : is_collectable floor v.stamps ≡ true → (r i : ℕ) → reference_place old.refs r ≡ Some i
             → Closes (length (staying front)) (length xs) (place_among (seen_marks units by floor before seen ((id, v) ∷ tail)) i)
             (place_among (seen_marks units by floor before (seen ++ (id, v) ∷ []) tail) i)
         closes-here h r i e =

@@ -12,7 +12,7 @@ use Rattle.ft_tree_leaves.specs.declared.references.Reference.{Reference}
 use Rattle.ft_tree_leaves.specs.Elements.{TreeElement, universal_stamps, with_stamps}
 use Rattle.ft_tree_leaves.specs.LeafLists.{elements}
 use Rattle.ft_tree_leaves.specs.Places.{seen_before}
-use Rattle.ft_tree_leaves.specs.References.{place_of}
+use Rattle.ft_tree_leaves.specs.References.{reference_place}
 use Rattle.ft_props.specs.Compaction.{has_collectable_removal, is_insertion_at_or_below}
 
 -- whether the first removal is at or below the floor
@@ -38,7 +38,7 @@ module _ {U : Type 0} where
 
   -- no reference is on an element that was removed at or below the floor
   abbrev pub AreClear : ℕ → List (TreeElement U) → List (ℕ × Reference) → Type 0
-  AreClear floor es refs = (r i : ℕ) → place_of refs r ≡ Some i → IfSome (slice_get es i) (λ e. is_collectable floor e.stamps ≡ false)
+  AreClear floor es refs = (r i : ℕ) → reference_place refs r ≡ Some i → IfSome (slice_get es i) (λ e. is_collectable floor e.stamps ≡ false)
 
   -- an element with whether it goes where it is looked at
   abbrev pub marked : ℕ → TreeElement U → Bool × TreeElement U

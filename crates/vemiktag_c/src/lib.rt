@@ -17,7 +17,7 @@ use ft_base::OutOfMemory;
 use ft_client::Client;
 use ft_door::reports::{DONE, OUT_OF_MEMORY};
 use ft_door::sessions::CLOSED;
-use ft_door::{Run, report_into};
+use ft_door::{HeldSession, report_into};
 use runs::ClientRun;
 use sessions::Session;
 use std::alloc::Global;
@@ -143,6 +143,6 @@ pub extern "C" fn vemiktag_session_free(alloc: Global, session: &mut Session) ->
 fn opened(alloc: Global) -> Result<Box<ClientRun>, OutOfMemory>
     ensures { IfOk result (λ b. Stands b.value.run [] []) }
 {
-    let run = Run::new(alloc)?;
+    let run = HeldSession::new(alloc)?;
     Ok(Box::new(alloc, ClientRun { run })?)
 }

@@ -11,7 +11,7 @@ use crate::element_tests::{Before, ElementTest, InsertedBy};
 use crate::elements::{Content, PlainElement};
 use crate::lists::{PlainList, check_room};
 use crate::marks::{PendingChanges, PendingRemoval};
-use crate::scans::{mark_range, new_elements, place_of, put_at, rank, units};
+use crate::scans::{insertion_place, mark_range, new_elements, put_at, rank, units};
 use ft_base::{Datum, OutOfMemory, Stamp};
 use ft_props::{Changes, Props};
 use std::alloc::Global;
@@ -145,7 +145,7 @@ fn put_behind<T: ElementTest>(
     ensures count { OnOk result (length items.new.items ≡ length items.old.items + length new.items) }
     ensures err { OnErr result (items.new.items ≡ items.old.items) }
 {
-    let place = place_of(items.as_slice(), p, seen);
+    let place = insertion_place(items.as_slice(), p, seen);
     put_at(items, place, new)
 }
 

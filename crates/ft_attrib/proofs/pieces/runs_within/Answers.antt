@@ -1,7 +1,7 @@
 use Rattle.std.proofs.Common.{◌≡◌, ◌∙◌, ◌-◌, length, take, drop, List, ap}
 use Rattle.std.proofs.lemmas.List.{take_rest}
 use Rattle.ft_attrib.specs.declared.attribution.Origin.{Origin}
-use Rattle.ft_attrib.specs.declared.pieces.Piece.{Piece}
+use Rattle.ft_attrib.specs.declared.pieces.OriginPiece.{OriginPiece}
 use Rattle.ft_attrib.specs.Runs.{origin_runs}
 use Rattle.ft_attrib.specs.Pieces.{clipped, spread}
 use Rattle.ft_attrib.proofs.ClippedPieces.{clipped-runs}
@@ -11,7 +11,7 @@ pub returns : goal.returns
 returns c =
     let p = c.args.p in
     let q = c.args.q in
-    let xs : List Piece = c.args.pieces.now in
+    let xs : List OriginPiece = c.args.pieces.now in
     let i = c.count_up_to-first.result in
     let same : clipped q p (take (length xs - i) (drop i xs)) ≡ origin_runs p (take (q - p) (drop p (spread 0 xs))) =
     ap (clipped q p) (take_rest xs i)

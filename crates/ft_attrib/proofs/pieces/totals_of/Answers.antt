@@ -2,7 +2,7 @@ use Rattle.std.proofs.Common.{◌≡◌, ◌∙◌, ◌+◌, ◌-◌, List, ◌�
 use Rattle.std.specs.Prelude.{slice_index_or}
 use Rattle.std.proofs.lemmas.List.{drop_more}
 use Rattle.ft_attrib.specs.declared.attribution.Origin.TheVariants.{Known}
-use Rattle.ft_attrib.specs.declared.pieces.Piece.{Piece}
+use Rattle.ft_attrib.specs.declared.pieces.OriginPiece.{OriginPiece}
 use Rattle.ft_attrib.specs.Totals.{counted_all, sum_of}
 use Rattle.ft_attrib.specs.Pieces.{IsCut, spread}
 use Rattle.ft_attrib.proofs.PieceLaws.{length-spread}
@@ -13,9 +13,9 @@ pub loop-piece-preserved : goal.loop-piece-preserved
 loop-piece-preserved c =
     let i = c.loop-piece.piece-index in
     let start = c.loop-piece.start in
-    let none : Piece = record { end = 0; who = Known 0 0 } in
-    let x : Piece = slice_index_or c.args.pieces.now i none in
-    let later : List Piece = drop (i + 1) c.args.pieces.now in
+    let none : OriginPiece = record { end = 0; who = Known 0 0 } in
+    let x : OriginPiece = slice_index_or c.args.pieces.now i none in
+    let later : List OriginPiece = drop (i + 1) c.args.pieces.now in
     let split : drop i c.args.pieces.now ≡ x ∷ later = drop_more c.args.pieces.now i none (omega arith) in
     let cut : IsCut start (x ∷ later) = rw split at c.loop-piece.invariant.cut in
     let whole : start + length (spread start (x ∷ later)) ≡ length (spread 0 c.args.pieces.now) =

@@ -29,58 +29,58 @@ up-init g c =
 pub returns-then-count-lt8-clause-tree : goal.returns-then-count-lt8-clause-tree
 returns-then-count-lt8-clause-tree g c =
     let up : parent_of c.up.arena c.up.at ≡ Some c.in-Some.block = sym c.parent.ensures ∙ c.in-Some.is in
-    let at_place : insert (kids_of c.up.arena c.in-Some.block) (c.place_of-place.result.0 + 1) c.up.id ≡ insert_after (kids_of c.up.arena c.in-Some.block) c.up.at
+    let at_place : insert (kids_of c.up.arena c.in-Some.block) (c.child_place-place.result.0 + 1) c.up.id ≡ insert_after (kids_of c.up.arena c.in-Some.block) c.up.at
     c.up.id = gr_place c.up.arena c.args.root c.up.at c.up.id 1 (λ xs. insert_after xs c.up.at c.up.id) (after_is_edit c.up.at c.up.id) c.up.invariant.growing
-    c.in-Some.block up c.place_of-place.result.0 c.place_of-place.ensures.place in
-    let puts = PutsAt-from c.up.arena c.put_child.new.self c.in-Some.block (c.place_of-place.result.0 + 1) c.up.id c.put_child.ensures.leaves c.put_child.ensures.puts
+    c.in-Some.block up c.child_place-place.result.0 c.child_place-place.ensures.place in
+    let puts = PutsAt-from c.up.arena c.put_child.new.self c.in-Some.block (c.child_place-place.result.0 + 1) c.up.id c.put_child.ensures.leaves c.put_child.ensures.puts
     c.put_child.ensures.sound in
     put_tree c.up.arena c.put_child.new.self c.args.root c.up.at c.up.id c.in-Some.block 1 (λ xs. insert_after xs c.up.at c.up.id) (after_is_edit c.up.at c.up.id)
-    c.up.invariant.growing up (c.place_of-place.result.0 + 1) at_place puts
+    c.up.invariant.growing up (c.child_place-place.result.0 + 1) at_place puts
 
 pub returns-then-count-lt8-clause-stale : goal.returns-then-count-lt8-clause-stale
 returns-then-count-lt8-clause-stale g c = λ b e.
     let up : parent_of c.up.arena c.up.at ≡ Some c.in-Some.block = sym c.parent.ensures ∙ c.in-Some.is in
-    let at_place : insert (kids_of c.up.arena c.in-Some.block) (c.place_of-place.result.0 + 1) c.up.id ≡ insert_after (kids_of c.up.arena c.in-Some.block) c.up.at
+    let at_place : insert (kids_of c.up.arena c.in-Some.block) (c.child_place-place.result.0 + 1) c.up.id ≡ insert_after (kids_of c.up.arena c.in-Some.block) c.up.at
     c.up.id = gr_place c.up.arena c.args.root c.up.at c.up.id 1 (λ xs. insert_after xs c.up.at c.up.id) (after_is_edit c.up.at c.up.id) c.up.invariant.growing
-    c.in-Some.block up c.place_of-place.result.0 c.place_of-place.ensures.place in
-    let puts = PutsAt-from c.up.arena c.put_child.new.self c.in-Some.block (c.place_of-place.result.0 + 1) c.up.id c.put_child.ensures.leaves c.put_child.ensures.puts
+    c.in-Some.block up c.child_place-place.result.0 c.child_place-place.ensures.place in
+    let puts = PutsAt-from c.up.arena c.put_child.new.self c.in-Some.block (c.child_place-place.result.0 + 1) c.up.id c.put_child.ensures.leaves c.put_child.ensures.puts
     c.put_child.ensures.sound in
     put_block c.up.arena c.put_child.new.self c.args.root c.up.at c.up.id c.in-Some.block 1 (λ xs. insert_after xs c.up.at c.up.id) (after_is_edit c.up.at c.up.id)
-    c.up.invariant.growing up (c.place_of-place.result.0 + 1) at_place puts b e
+    c.up.invariant.growing up (c.child_place-place.result.0 + 1) at_place puts b e
 
 pub returns-then-count-lt8-clause-sums : goal.returns-then-count-lt8-clause-sums
 returns-then-count-lt8-clause-sums g c = λ view k.
     let up : parent_of c.up.arena c.up.at ≡ Some c.in-Some.block = sym c.parent.ensures ∙ c.in-Some.is in
-    let at_place : insert (kids_of c.up.arena c.in-Some.block) (c.place_of-place.result.0 + 1) c.up.id ≡ insert_after (kids_of c.up.arena c.in-Some.block) c.up.at
+    let at_place : insert (kids_of c.up.arena c.in-Some.block) (c.child_place-place.result.0 + 1) c.up.id ≡ insert_after (kids_of c.up.arena c.in-Some.block) c.up.at
     c.up.id = gr_place c.up.arena c.args.root c.up.at c.up.id 1 (λ xs. insert_after xs c.up.at c.up.id) (after_is_edit c.up.at c.up.id) c.up.invariant.growing
-    c.in-Some.block up c.place_of-place.result.0 c.place_of-place.ensures.place in
-    let puts = PutsAt-from c.up.arena c.put_child.new.self c.in-Some.block (c.place_of-place.result.0 + 1) c.up.id c.put_child.ensures.leaves c.put_child.ensures.puts
+    c.in-Some.block up c.child_place-place.result.0 c.child_place-place.ensures.place in
+    let puts = PutsAt-from c.up.arena c.put_child.new.self c.in-Some.block (c.child_place-place.result.0 + 1) c.up.id c.put_child.ensures.leaves c.put_child.ensures.puts
     c.put_child.ensures.sound in
     put_sums c.up.arena c.put_child.new.self c.args.root c.up.at c.up.id c.in-Some.block 1 (λ xs. insert_after xs c.up.at c.up.id) (after_is_edit c.up.at c.up.id)
-    c.up.invariant.growing up (c.place_of-place.result.0 + 1) at_place puts (by_view g.L.Leaf.size g.L.Leaf.element view) (c.up.invariant.sums view k)
+    c.up.invariant.growing up (c.child_place-place.result.0 + 1) at_place puts (by_view g.L.Leaf.size g.L.Leaf.element view) (c.up.invariant.sums view k)
 
 pub returns-then-count-lt8-clause-owes : goal.returns-then-count-lt8-clause-owes
 returns-then-count-lt8-clause-owes g c = λ view more less k h.
     let up : parent_of c.up.arena c.up.at ≡ Some c.in-Some.block = sym c.parent.ensures ∙ c.in-Some.is in
-    let at_place : insert (kids_of c.up.arena c.in-Some.block) (c.place_of-place.result.0 + 1) c.up.id ≡ insert_after (kids_of c.up.arena c.in-Some.block) c.up.at
+    let at_place : insert (kids_of c.up.arena c.in-Some.block) (c.child_place-place.result.0 + 1) c.up.id ≡ insert_after (kids_of c.up.arena c.in-Some.block) c.up.at
     c.up.id = gr_place c.up.arena c.args.root c.up.at c.up.id 1 (λ xs. insert_after xs c.up.at c.up.id) (after_is_edit c.up.at c.up.id) c.up.invariant.growing
-    c.in-Some.block up c.place_of-place.result.0 c.place_of-place.ensures.place in
-    let puts = PutsAt-from c.up.arena c.put_child.new.self c.in-Some.block (c.place_of-place.result.0 + 1) c.up.id c.put_child.ensures.leaves c.put_child.ensures.puts
+    c.in-Some.block up c.child_place-place.result.0 c.child_place-place.ensures.place in
+    let puts = PutsAt-from c.up.arena c.put_child.new.self c.in-Some.block (c.child_place-place.result.0 + 1) c.up.id c.put_child.ensures.leaves c.put_child.ensures.puts
     c.put_child.ensures.sound in
     put_owes c.up.arena c.put_child.new.self c.args.root c.up.at c.up.id c.in-Some.block 1 (λ xs. insert_after xs c.up.at c.up.id) (after_is_edit c.up.at c.up.id)
-    c.up.invariant.growing up (c.place_of-place.result.0 + 1) at_place puts (by_view g.L.Leaf.size g.L.Leaf.element view) more less
+    c.up.invariant.growing up (c.child_place-place.result.0 + 1) at_place puts (by_view g.L.Leaf.size g.L.Leaf.element view) more less
     (c.up.invariant.owes view more less k h)
 
 pub returns-then-count-lt8-clause-floors : goal.returns-then-count-lt8-clause-floors
 returns-then-count-lt8-clause-floors g c =
     let up : parent_of c.up.arena c.up.at ≡ Some c.in-Some.block = sym c.parent.ensures ∙ c.in-Some.is in
-    let at_place : insert (kids_of c.up.arena c.in-Some.block) (c.place_of-place.result.0 + 1) c.up.id ≡ insert_after (kids_of c.up.arena c.in-Some.block) c.up.at
+    let at_place : insert (kids_of c.up.arena c.in-Some.block) (c.child_place-place.result.0 + 1) c.up.id ≡ insert_after (kids_of c.up.arena c.in-Some.block) c.up.at
     c.up.id = gr_place c.up.arena c.args.root c.up.at c.up.id 1 (λ xs. insert_after xs c.up.at c.up.id) (after_is_edit c.up.at c.up.id) c.up.invariant.growing
-    c.in-Some.block up c.place_of-place.result.0 c.place_of-place.ensures.place in
-    let puts = PutsAt-from c.up.arena c.put_child.new.self c.in-Some.block (c.place_of-place.result.0 + 1) c.up.id c.put_child.ensures.leaves c.put_child.ensures.puts
+    c.in-Some.block up c.child_place-place.result.0 c.child_place-place.ensures.place in
+    let puts = PutsAt-from c.up.arena c.put_child.new.self c.in-Some.block (c.child_place-place.result.0 + 1) c.up.id c.put_child.ensures.leaves c.put_child.ensures.puts
     c.put_child.ensures.sound in
     put_floors c.up.arena c.put_child.new.self c.args.root c.up.at c.up.id c.in-Some.block 1 (λ xs. insert_after xs c.up.at c.up.id) (after_is_edit c.up.at c.up.id)
-    c.up.invariant.growing up (c.place_of-place.result.0 + 1) at_place puts c.args.floor c.up.invariant.floors
+    c.up.invariant.growing up (c.child_place-place.result.0 + 1) at_place puts c.args.floor c.up.invariant.floors
 
 pub returns-then-count-lt8-clause-leaf_values : goal.returns-then-count-lt8-clause-leaf_values
 returns-then-count-lt8-clause-leaf_values g c = λ x. c.put_child.ensures.puts.leaf_values x ∙ c.up.invariant.leaf_values x
@@ -88,9 +88,9 @@ returns-then-count-lt8-clause-leaf_values g c = λ x. c.put_child.ensures.puts.l
 pub split_put-requires-clause-fits : goal.split_put-requires-clause-fits
 split_put-requires-clause-fits g c = λ view k.
     let up : parent_of c.up.arena c.up.at ≡ Some c.in-Some.block = sym c.parent.ensures ∙ c.in-Some.is in
-    let at_place : insert (kids_of c.up.arena c.in-Some.block) (c.place_of-place.result.0 + 1) c.up.id ≡ insert_after (kids_of c.up.arena c.in-Some.block) c.up.at
+    let at_place : insert (kids_of c.up.arena c.in-Some.block) (c.child_place-place.result.0 + 1) c.up.id ≡ insert_after (kids_of c.up.arena c.in-Some.block) c.up.at
     c.up.id = gr_place c.up.arena c.args.root c.up.at c.up.id 1 (λ xs. insert_after xs c.up.at c.up.id) (after_is_edit c.up.at c.up.id) c.up.invariant.growing
-    c.in-Some.block up c.place_of-place.result.0 c.place_of-place.ensures.place in
+    c.in-Some.block up c.child_place-place.result.0 c.child_place-place.ensures.place in
     omega (
       arith,
       gr_fits c.up.arena c.args.root c.up.at c.up.id 1 (λ xs. insert_after xs c.up.at c.up.id) (after_is_edit c.up.at c.up.id) c.up.invariant.growing
@@ -105,9 +105,9 @@ split_put-requires-clause-fits g c = λ view k.
 pub up-preserved : goal.up-preserved
 up-preserved g c =
     let up : parent_of c.up.arena c.up.at ≡ Some c.in-Some.block = sym c.parent.ensures ∙ c.in-Some.is in
-    let at_place : insert (kids_of c.up.arena c.in-Some.block) (c.place_of-place.result.0 + 1) c.up.id ≡ insert_after (kids_of c.up.arena c.in-Some.block) c.up.at
+    let at_place : insert (kids_of c.up.arena c.in-Some.block) (c.child_place-place.result.0 + 1) c.up.id ≡ insert_after (kids_of c.up.arena c.in-Some.block) c.up.at
     c.up.id = gr_place c.up.arena c.args.root c.up.at c.up.id 1 (λ xs. insert_after xs c.up.at c.up.id) (after_is_edit c.up.at c.up.id) c.up.invariant.growing
-    c.in-Some.block up c.place_of-place.result.0 c.place_of-place.ensures.place in
+    c.in-Some.block up c.child_place-place.result.0 c.child_place-place.ensures.place in
     let s = c.up.arena in
     let s' = c.split_put.new.arena in
     let i = c.up.invariant in
@@ -125,12 +125,12 @@ up-preserved g c =
     kind_height (entry s c.in-Some.block) (entry s' c.in-Some.block) (r.kinds c.in-Some.block block_apart) in
     record {
       growing = split_grows c.up.arena c.split_put.new.arena c.args.root c.up.at c.up.id c.in-Some.block 1 (λ xs. insert_after xs c.up.at c.up.id)
-          (after_is_edit c.up.at c.up.id) c.up.invariant.growing up (c.place_of-place.result.0 + 1) at_place c.in_ok-id.id r;
+          (after_is_edit c.up.at c.up.id) c.up.invariant.growing up (c.child_place-place.result.0 + 1) at_place c.in_ok-id.id r;
       sums = λ view k. split_sums c.up.arena c.split_put.new.arena c.args.root c.up.at c.up.id c.in-Some.block 1 (λ xs. insert_after xs c.up.at c.up.id)
-          (after_is_edit c.up.at c.up.id) c.up.invariant.growing up (c.place_of-place.result.0 + 1) at_place c.in_ok-id.id r (by_view g.L.Leaf.size g.L.Leaf.element view)
+          (after_is_edit c.up.at c.up.id) c.up.invariant.growing up (c.child_place-place.result.0 + 1) at_place c.in_ok-id.id r (by_view g.L.Leaf.size g.L.Leaf.element view)
           (i.sums view k) (c.in_ok-id.ensures.sums view k);
       owes = λ view more less k h. split_owes c.up.arena c.split_put.new.arena c.args.root c.up.at c.up.id c.in-Some.block 1 (λ xs. insert_after xs c.up.at c.up.id)
-          (after_is_edit c.up.at c.up.id) c.up.invariant.growing up (c.place_of-place.result.0 + 1) at_place c.in_ok-id.id r (by_view g.L.Leaf.size g.L.Leaf.element view)
+          (after_is_edit c.up.at c.up.id) c.up.invariant.growing up (c.child_place-place.result.0 + 1) at_place c.in_ok-id.id r (by_view g.L.Leaf.size g.L.Leaf.element view)
           (i.sums view k) (c.in_ok-id.ensures.sums view k) more less (i.owes view more less k h);
       floors = c.in_ok-id.ensures.floors;
       spare = omega (arith, r.spare, i.spare, root_high, block_high, high, low);

@@ -15,85 +15,85 @@ use Rattle.ft_block.proofs.grow.grow_front.Goals as goal
 pub returns-then-count-lt8-clause-tree : goal.returns-then-count-lt8-clause-tree
 returns-then-count-lt8-clause-tree g c =
     let up : parent_of c.args.arena.now c.args.at ≡ Some c.in-Some.block = sym c.parent.ensures ∙ c.in-Some.is in
-    let e : c.place_of-place.result.0 + 0 ≡ c.place_of-place.result.0 = omega arith in
-    let at_place : insert (kids_of c.args.arena.now c.in-Some.block) c.place_of-place.result.0 c.args.id ≡ insert_before (kids_of c.args.arena.now c.in-Some.block)
+    let e : c.child_place-place.result.0 + 0 ≡ c.child_place-place.result.0 = omega arith in
+    let at_place : insert (kids_of c.args.arena.now c.in-Some.block) c.child_place-place.result.0 c.args.id ≡ insert_before (kids_of c.args.arena.now c.in-Some.block)
     c.args.at c.args.id = ap (λ (n : ℕ). insert (kids_of c.args.arena.now c.in-Some.block) n c.args.id) (sym e)
     ∙ gr_place c.args.arena.now c.args.root c.args.at c.args.id 0 (λ xs. insert_before xs c.args.at c.args.id) (before_is_edit c.args.at c.args.id)
-    c.requires.growing c.in-Some.block up c.place_of-place.result.0 c.place_of-place.ensures.place in
-    let puts = PutsAt-from c.args.arena.now c.put_child.new.self c.in-Some.block c.place_of-place.result.0 c.args.id c.put_child.ensures.leaves c.put_child.ensures.puts
+    c.requires.growing c.in-Some.block up c.child_place-place.result.0 c.child_place-place.ensures.place in
+    let puts = PutsAt-from c.args.arena.now c.put_child.new.self c.in-Some.block c.child_place-place.result.0 c.args.id c.put_child.ensures.leaves c.put_child.ensures.puts
     c.put_child.ensures.sound in
     put_tree c.args.arena.now c.put_child.new.self c.args.root c.args.at c.args.id c.in-Some.block 0 (λ xs. insert_before xs c.args.at c.args.id)
-    (before_is_edit c.args.at c.args.id) c.requires.growing up c.place_of-place.result.0 at_place puts
+    (before_is_edit c.args.at c.args.id) c.requires.growing up c.child_place-place.result.0 at_place puts
 
 pub returns-then-count-lt8-clause-stale : goal.returns-then-count-lt8-clause-stale
 returns-then-count-lt8-clause-stale g c = λ b q.
     let up : parent_of c.args.arena.now c.args.at ≡ Some c.in-Some.block = sym c.parent.ensures ∙ c.in-Some.is in
-    let e : c.place_of-place.result.0 + 0 ≡ c.place_of-place.result.0 = omega arith in
-    let at_place : insert (kids_of c.args.arena.now c.in-Some.block) c.place_of-place.result.0 c.args.id ≡ insert_before (kids_of c.args.arena.now c.in-Some.block)
+    let e : c.child_place-place.result.0 + 0 ≡ c.child_place-place.result.0 = omega arith in
+    let at_place : insert (kids_of c.args.arena.now c.in-Some.block) c.child_place-place.result.0 c.args.id ≡ insert_before (kids_of c.args.arena.now c.in-Some.block)
     c.args.at c.args.id = ap (λ (n : ℕ). insert (kids_of c.args.arena.now c.in-Some.block) n c.args.id) (sym e)
     ∙ gr_place c.args.arena.now c.args.root c.args.at c.args.id 0 (λ xs. insert_before xs c.args.at c.args.id) (before_is_edit c.args.at c.args.id)
-    c.requires.growing c.in-Some.block up c.place_of-place.result.0 c.place_of-place.ensures.place in
-    let puts = PutsAt-from c.args.arena.now c.put_child.new.self c.in-Some.block c.place_of-place.result.0 c.args.id c.put_child.ensures.leaves c.put_child.ensures.puts
+    c.requires.growing c.in-Some.block up c.child_place-place.result.0 c.child_place-place.ensures.place in
+    let puts = PutsAt-from c.args.arena.now c.put_child.new.self c.in-Some.block c.child_place-place.result.0 c.args.id c.put_child.ensures.leaves c.put_child.ensures.puts
     c.put_child.ensures.sound in
     put_block c.args.arena.now c.put_child.new.self c.args.root c.args.at c.args.id c.in-Some.block 0 (λ xs. insert_before xs c.args.at c.args.id)
-    (before_is_edit c.args.at c.args.id) c.requires.growing up c.place_of-place.result.0 at_place puts b q
+    (before_is_edit c.args.at c.args.id) c.requires.growing up c.child_place-place.result.0 at_place puts b q
 
 pub returns-then-count-lt8-clause-sums : goal.returns-then-count-lt8-clause-sums
 returns-then-count-lt8-clause-sums g c = λ view k.
     let up : parent_of c.args.arena.now c.args.at ≡ Some c.in-Some.block = sym c.parent.ensures ∙ c.in-Some.is in
-    let e : c.place_of-place.result.0 + 0 ≡ c.place_of-place.result.0 = omega arith in
-    let at_place : insert (kids_of c.args.arena.now c.in-Some.block) c.place_of-place.result.0 c.args.id ≡ insert_before (kids_of c.args.arena.now c.in-Some.block)
+    let e : c.child_place-place.result.0 + 0 ≡ c.child_place-place.result.0 = omega arith in
+    let at_place : insert (kids_of c.args.arena.now c.in-Some.block) c.child_place-place.result.0 c.args.id ≡ insert_before (kids_of c.args.arena.now c.in-Some.block)
     c.args.at c.args.id = ap (λ (n : ℕ). insert (kids_of c.args.arena.now c.in-Some.block) n c.args.id) (sym e)
     ∙ gr_place c.args.arena.now c.args.root c.args.at c.args.id 0 (λ xs. insert_before xs c.args.at c.args.id) (before_is_edit c.args.at c.args.id)
-    c.requires.growing c.in-Some.block up c.place_of-place.result.0 c.place_of-place.ensures.place in
-    let puts = PutsAt-from c.args.arena.now c.put_child.new.self c.in-Some.block c.place_of-place.result.0 c.args.id c.put_child.ensures.leaves c.put_child.ensures.puts
+    c.requires.growing c.in-Some.block up c.child_place-place.result.0 c.child_place-place.ensures.place in
+    let puts = PutsAt-from c.args.arena.now c.put_child.new.self c.in-Some.block c.child_place-place.result.0 c.args.id c.put_child.ensures.leaves c.put_child.ensures.puts
     c.put_child.ensures.sound in
     put_sums c.args.arena.now c.put_child.new.self c.args.root c.args.at c.args.id c.in-Some.block 0 (λ xs. insert_before xs c.args.at c.args.id)
-    (before_is_edit c.args.at c.args.id) c.requires.growing up c.place_of-place.result.0 at_place puts (by_view g.L.Leaf.size g.L.Leaf.element view)
+    (before_is_edit c.args.at c.args.id) c.requires.growing up c.child_place-place.result.0 at_place puts (by_view g.L.Leaf.size g.L.Leaf.element view)
     (c.requires.sums view k)
 
 pub returns-then-count-lt8-clause-owes : goal.returns-then-count-lt8-clause-owes
 returns-then-count-lt8-clause-owes g c = λ view more less k h.
     let up : parent_of c.args.arena.now c.args.at ≡ Some c.in-Some.block = sym c.parent.ensures ∙ c.in-Some.is in
-    let e : c.place_of-place.result.0 + 0 ≡ c.place_of-place.result.0 = omega arith in
-    let at_place : insert (kids_of c.args.arena.now c.in-Some.block) c.place_of-place.result.0 c.args.id ≡ insert_before (kids_of c.args.arena.now c.in-Some.block)
+    let e : c.child_place-place.result.0 + 0 ≡ c.child_place-place.result.0 = omega arith in
+    let at_place : insert (kids_of c.args.arena.now c.in-Some.block) c.child_place-place.result.0 c.args.id ≡ insert_before (kids_of c.args.arena.now c.in-Some.block)
     c.args.at c.args.id = ap (λ (n : ℕ). insert (kids_of c.args.arena.now c.in-Some.block) n c.args.id) (sym e)
     ∙ gr_place c.args.arena.now c.args.root c.args.at c.args.id 0 (λ xs. insert_before xs c.args.at c.args.id) (before_is_edit c.args.at c.args.id)
-    c.requires.growing c.in-Some.block up c.place_of-place.result.0 c.place_of-place.ensures.place in
-    let puts = PutsAt-from c.args.arena.now c.put_child.new.self c.in-Some.block c.place_of-place.result.0 c.args.id c.put_child.ensures.leaves c.put_child.ensures.puts
+    c.requires.growing c.in-Some.block up c.child_place-place.result.0 c.child_place-place.ensures.place in
+    let puts = PutsAt-from c.args.arena.now c.put_child.new.self c.in-Some.block c.child_place-place.result.0 c.args.id c.put_child.ensures.leaves c.put_child.ensures.puts
     c.put_child.ensures.sound in
     put_owes c.args.arena.now c.put_child.new.self c.args.root c.args.at c.args.id c.in-Some.block 0 (λ xs. insert_before xs c.args.at c.args.id)
-    (before_is_edit c.args.at c.args.id) c.requires.growing up c.place_of-place.result.0 at_place puts (by_view g.L.Leaf.size g.L.Leaf.element view) more less h
+    (before_is_edit c.args.at c.args.id) c.requires.growing up c.child_place-place.result.0 at_place puts (by_view g.L.Leaf.size g.L.Leaf.element view) more less h
 
 pub returns-then-count-lt8-clause-floors : goal.returns-then-count-lt8-clause-floors
 returns-then-count-lt8-clause-floors g c =
     let up : parent_of c.args.arena.now c.args.at ≡ Some c.in-Some.block = sym c.parent.ensures ∙ c.in-Some.is in
-    let e : c.place_of-place.result.0 + 0 ≡ c.place_of-place.result.0 = omega arith in
-    let at_place : insert (kids_of c.args.arena.now c.in-Some.block) c.place_of-place.result.0 c.args.id ≡ insert_before (kids_of c.args.arena.now c.in-Some.block)
+    let e : c.child_place-place.result.0 + 0 ≡ c.child_place-place.result.0 = omega arith in
+    let at_place : insert (kids_of c.args.arena.now c.in-Some.block) c.child_place-place.result.0 c.args.id ≡ insert_before (kids_of c.args.arena.now c.in-Some.block)
     c.args.at c.args.id = ap (λ (n : ℕ). insert (kids_of c.args.arena.now c.in-Some.block) n c.args.id) (sym e)
     ∙ gr_place c.args.arena.now c.args.root c.args.at c.args.id 0 (λ xs. insert_before xs c.args.at c.args.id) (before_is_edit c.args.at c.args.id)
-    c.requires.growing c.in-Some.block up c.place_of-place.result.0 c.place_of-place.ensures.place in
-    let puts = PutsAt-from c.args.arena.now c.put_child.new.self c.in-Some.block c.place_of-place.result.0 c.args.id c.put_child.ensures.leaves c.put_child.ensures.puts
+    c.requires.growing c.in-Some.block up c.child_place-place.result.0 c.child_place-place.ensures.place in
+    let puts = PutsAt-from c.args.arena.now c.put_child.new.self c.in-Some.block c.child_place-place.result.0 c.args.id c.put_child.ensures.leaves c.put_child.ensures.puts
     c.put_child.ensures.sound in
     put_floors c.args.arena.now c.put_child.new.self c.args.root c.args.at c.args.id c.in-Some.block 0 (λ xs. insert_before xs c.args.at c.args.id)
-    (before_is_edit c.args.at c.args.id) c.requires.growing up c.place_of-place.result.0 at_place puts c.args.floor c.requires.floors
+    (before_is_edit c.args.at c.args.id) c.requires.growing up c.child_place-place.result.0 at_place puts c.args.floor c.requires.floors
 
 pub split_put-requires-clause-place : goal.split_put-requires-clause-place
 split_put-requires-clause-place g c = omega (
   arith,
-  slice_get_within (kids_of c.args.arena.now c.in-Some.block) c.place_of-place.result.0 c.args.at
-      c.place_of-place.ensures.place,
+  slice_get_within (kids_of c.args.arena.now c.in-Some.block) c.child_place-place.result.0 c.args.at
+      c.child_place-place.ensures.place,
   c.requires.growing.shape.forest.few c.in-Some.block,
 )
 
 pub split_put-requires-clause-fits : goal.split_put-requires-clause-fits
 split_put-requires-clause-fits g c = λ view k.
     let up : parent_of c.args.arena.now c.args.at ≡ Some c.in-Some.block = sym c.parent.ensures ∙ c.in-Some.is in
-    let e : c.place_of-place.result.0 + 0 ≡ c.place_of-place.result.0 = omega arith in
-    let at_place : insert (kids_of c.args.arena.now c.in-Some.block) c.place_of-place.result.0 c.args.id ≡ insert_before (kids_of c.args.arena.now c.in-Some.block)
+    let e : c.child_place-place.result.0 + 0 ≡ c.child_place-place.result.0 = omega arith in
+    let at_place : insert (kids_of c.args.arena.now c.in-Some.block) c.child_place-place.result.0 c.args.id ≡ insert_before (kids_of c.args.arena.now c.in-Some.block)
     c.args.at c.args.id = ap (λ (n : ℕ). insert (kids_of c.args.arena.now c.in-Some.block) n c.args.id) (sym e)
     ∙ gr_place c.args.arena.now c.args.root c.args.at c.args.id 0 (λ xs. insert_before xs c.args.at c.args.id) (before_is_edit c.args.at c.args.id)
-    c.requires.growing c.in-Some.block up c.place_of-place.result.0 c.place_of-place.ensures.place in
+    c.requires.growing c.in-Some.block up c.child_place-place.result.0 c.child_place-place.ensures.place in
     omega (
       arith,
       gr_fits c.args.arena.now c.args.root c.args.at c.args.id 0 (λ xs. insert_before xs c.args.at c.args.id) (before_is_edit c.args.at c.args.id)
@@ -108,24 +108,24 @@ split_put-requires-clause-fits g c = λ view k.
 pub grow-requires-clause-growing : goal.grow-requires-clause-growing
 grow-requires-clause-growing g c =
     let up : parent_of c.args.arena.now c.args.at ≡ Some c.in-Some.block = sym c.parent.ensures ∙ c.in-Some.is in
-    let e : c.place_of-place.result.0 + 0 ≡ c.place_of-place.result.0 = omega arith in
-    let at_place : insert (kids_of c.args.arena.now c.in-Some.block) c.place_of-place.result.0 c.args.id ≡ insert_before (kids_of c.args.arena.now c.in-Some.block)
+    let e : c.child_place-place.result.0 + 0 ≡ c.child_place-place.result.0 = omega arith in
+    let at_place : insert (kids_of c.args.arena.now c.in-Some.block) c.child_place-place.result.0 c.args.id ≡ insert_before (kids_of c.args.arena.now c.in-Some.block)
     c.args.at c.args.id = ap (λ (n : ℕ). insert (kids_of c.args.arena.now c.in-Some.block) n c.args.id) (sym e)
     ∙ gr_place c.args.arena.now c.args.root c.args.at c.args.id 0 (λ xs. insert_before xs c.args.at c.args.id) (before_is_edit c.args.at c.args.id)
-    c.requires.growing c.in-Some.block up c.place_of-place.result.0 c.place_of-place.ensures.place in
+    c.requires.growing c.in-Some.block up c.child_place-place.result.0 c.child_place-place.ensures.place in
     split_grows c.args.arena.now c.split_put.new.arena c.args.root c.args.at c.args.id c.in-Some.block 0 (λ xs. insert_before xs c.args.at c.args.id)
-    (before_is_edit c.args.at c.args.id) c.requires.growing up c.place_of-place.result.0 at_place c.in_ok-rear.rear c.in_ok-rear.ensures.splits
+    (before_is_edit c.args.at c.args.id) c.requires.growing up c.child_place-place.result.0 at_place c.in_ok-rear.rear c.in_ok-rear.ensures.splits
 
 pub grow-requires-clause-sums : goal.grow-requires-clause-sums
 grow-requires-clause-sums g c = λ view k.
     let up : parent_of c.args.arena.now c.args.at ≡ Some c.in-Some.block = sym c.parent.ensures ∙ c.in-Some.is in
-    let e : c.place_of-place.result.0 + 0 ≡ c.place_of-place.result.0 = omega arith in
-    let at_place : insert (kids_of c.args.arena.now c.in-Some.block) c.place_of-place.result.0 c.args.id ≡ insert_before (kids_of c.args.arena.now c.in-Some.block)
+    let e : c.child_place-place.result.0 + 0 ≡ c.child_place-place.result.0 = omega arith in
+    let at_place : insert (kids_of c.args.arena.now c.in-Some.block) c.child_place-place.result.0 c.args.id ≡ insert_before (kids_of c.args.arena.now c.in-Some.block)
     c.args.at c.args.id = ap (λ (n : ℕ). insert (kids_of c.args.arena.now c.in-Some.block) n c.args.id) (sym e)
     ∙ gr_place c.args.arena.now c.args.root c.args.at c.args.id 0 (λ xs. insert_before xs c.args.at c.args.id) (before_is_edit c.args.at c.args.id)
-    c.requires.growing c.in-Some.block up c.place_of-place.result.0 c.place_of-place.ensures.place in
+    c.requires.growing c.in-Some.block up c.child_place-place.result.0 c.child_place-place.ensures.place in
     split_sums c.args.arena.now c.split_put.new.arena c.args.root c.args.at c.args.id c.in-Some.block 0 (λ xs. insert_before xs c.args.at c.args.id)
-    (before_is_edit c.args.at c.args.id) c.requires.growing up c.place_of-place.result.0 at_place c.in_ok-rear.rear c.in_ok-rear.ensures.splits
+    (before_is_edit c.args.at c.args.id) c.requires.growing up c.child_place-place.result.0 at_place c.in_ok-rear.rear c.in_ok-rear.ensures.splits
     (by_view g.L.Leaf.size g.L.Leaf.element view) (c.requires.sums view k) (c.in_ok-rear.ensures.sums view k)
 
 pub grow-requires-clause-fits : goal.grow-requires-clause-fits
@@ -141,13 +141,13 @@ pub returns-clause-owes : goal.returns-clause-owes
 returns-clause-owes g c =
     IfOk-weaker c.grow.result _ _ (λ r grown view more less k h.
     let up : parent_of c.args.arena.now c.args.at ≡ Some c.in-Some.block = sym c.parent.ensures ∙ c.in-Some.is in
-    let e : c.place_of-place.result.0 + 0 ≡ c.place_of-place.result.0 = omega arith in
-    let at_place : insert (kids_of c.args.arena.now c.in-Some.block) c.place_of-place.result.0 c.args.id ≡ insert_before (kids_of c.args.arena.now c.in-Some.block)
+    let e : c.child_place-place.result.0 + 0 ≡ c.child_place-place.result.0 = omega arith in
+    let at_place : insert (kids_of c.args.arena.now c.in-Some.block) c.child_place-place.result.0 c.args.id ≡ insert_before (kids_of c.args.arena.now c.in-Some.block)
     c.args.at c.args.id = ap (λ (n : ℕ). insert (kids_of c.args.arena.now c.in-Some.block) n c.args.id) (sym e)
     ∙ gr_place c.args.arena.now c.args.root c.args.at c.args.id 0 (λ xs. insert_before xs c.args.at c.args.id) (before_is_edit c.args.at c.args.id)
-    c.requires.growing c.in-Some.block up c.place_of-place.result.0 c.place_of-place.ensures.place in
+    c.requires.growing c.in-Some.block up c.child_place-place.result.0 c.child_place-place.ensures.place in
     grown view more less k (split_owes c.args.arena.now c.split_put.new.arena c.args.root c.args.at c.args.id c.in-Some.block 0
-    (λ xs. insert_before xs c.args.at c.args.id) (before_is_edit c.args.at c.args.id) c.requires.growing up c.place_of-place.result.0 at_place c.in_ok-rear.rear
+    (λ xs. insert_before xs c.args.at c.args.id) (before_is_edit c.args.at c.args.id) c.requires.growing up c.child_place-place.result.0 at_place c.in_ok-rear.rear
     c.in_ok-rear.ensures.splits (by_view g.L.Leaf.size g.L.Leaf.element view) (c.requires.sums view k) (c.in_ok-rear.ensures.sums view k) more less h))
     c.grow.ensures.owes
 

@@ -15,14 +15,14 @@ returns-then-place-count g c =
     let f : ℕ → ℕ = length_of (by_view g.L.Leaf.size g.L.Leaf.element c.args.view) s in
     let ks = kids_of s c.args.block in
     let once : times ks c.args.child ≤ 1 = omega (arith, c.requires.forest.child_once c.args.block c.args.child, points_few (parent_of s c.args.child) c.args.block) in
-    let before = before-take ks c.place_of-place.result.0 c.args.child c.place_of-place.ensures.place once in
+    let before = before-take ks c.child_place-place.result.0 c.args.child c.child_place-place.ensures.place once in
     let none : total f (take 0 ks) ≡ 0 = refl in
     omega (arith, c.length_between.ensures, none, ap (total f) before)
 
 pub length_between-requires-2-clause-order : goal.length_between-requires-2-clause-order
 length_between-requires-2-clause-order g c =
     let ks = kids_of c.args.arena.now c.args.block in
-    omega (arith, slice_get_within ks c.place_of-place.result.0 c.args.child c.place_of-place.ensures.place, c.place_of-place.ensures.count)
+    omega (arith, slice_get_within ks c.child_place-place.result.0 c.args.child c.child_place-place.ensures.place, c.child_place-place.ensures.count)
 
 pub length_at-all-requires-clause-node : goal.length_at-all-requires-clause-node
 length_at-all-requires-clause-node g c =
@@ -35,7 +35,7 @@ overflow_sub-result g c =
     let f : ℕ → ℕ = length_of measure s in
     let ks = kids_of s c.args.block in
     let all : c.length_at-all.result ≡ total f ks = c.length_at-all.ensures ∙ sym (ap (length_of_entry measure) c.read.ensures.node) ∙ c.requires.all in
-    let whole = take_all c.place_of-place.result.1 ks (omega (arith, c.place_of-place.ensures.count)) in
+    let whole = take_all c.child_place-place.result.1 ks (omega (arith, c.child_place-place.ensures.count)) in
     omega (arith, all, c.length_between-2.ensures, ap (total f) whole)
 
 pub returns : goal.returns
@@ -45,7 +45,7 @@ returns g c =
     let f : ℕ → ℕ = length_of measure s in
     let ks = kids_of s c.args.block in
     let all : c.length_at-all.result ≡ total f ks = c.length_at-all.ensures ∙ sym (ap (length_of_entry measure) c.read.ensures.node) ∙ c.requires.all in
-    let whole = take_all c.place_of-place.result.1 ks (omega (arith, c.place_of-place.ensures.count)) in
+    let whole = take_all c.child_place-place.result.1 ks (omega (arith, c.child_place-place.ensures.count)) in
     let once : times ks c.args.child ≤ 1 = omega (arith, c.requires.forest.child_once c.args.block c.args.child, points_few (parent_of s c.args.child) c.args.block) in
-    let before = before-take ks c.place_of-place.result.0 c.args.child c.place_of-place.ensures.place once in
+    let before = before-take ks c.child_place-place.result.0 c.args.child c.child_place-place.ensures.place once in
     omega (arith, all, c.length_between-2.ensures, ap (total f) whole, ap (total f) before)

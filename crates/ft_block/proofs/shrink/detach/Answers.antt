@@ -14,27 +14,27 @@ use Rattle.ft_block.proofs.shrink.detach.Goals as goal
 pub unreachable-requires : goal.unreachable-requires
 unreachable-requires g c = has_parent c.args.arena.now c.args.root c.args.id c.requires.tree c.requires.live (sym c.parent.ensures ∙ c.in_default.is)
 
-pub place_of-place-requires-clause-block : goal.place_of-place-requires-clause-block
-place_of-place-requires-clause-block g c =
+pub child_place-place-requires-clause-block : goal.child_place-place-requires-clause-block
+child_place-place-requires-clause-block g c =
     let up : parent_of c.args.arena.now c.args.id ≡ Some c.in-Some.block = sym c.parent.ensures ∙ c.in-Some.is in
     tk_up_block c.args.arena.now c.args.root c.args.id c.in-Some.block c.requires.tree up
 
-pub place_of-place-requires-clause-child : goal.place_of-place-requires-clause-child
-place_of-place-requires-clause-child g c =
+pub child_place-place-requires-clause-child : goal.child_place-place-requires-clause-child
+child_place-place-requires-clause-child g c =
     let up : parent_of c.args.arena.now c.args.id ≡ Some c.in-Some.block = sym c.parent.ensures ∙ c.in-Some.is in
     tk_child c.args.arena.now c.args.root c.args.id c.in-Some.block c.requires.tree up
 
 pub take_child-requires : goal.take_child-requires
-take_child-requires g c = slice_get_within (kids_of c.args.arena.now c.in-Some.block) c.place_of-place.result.0 c.args.id c.place_of-place.ensures.place
+take_child-requires g c = slice_get_within (kids_of c.args.arena.now c.in-Some.block) c.child_place-place.result.0 c.args.id c.child_place-place.ensures.place
 
 pub exchange_up-requires-clause-tree : goal.exchange_up-requires-clause-tree
 exchange_up-requires-clause-tree g c =
     let up : parent_of c.args.arena.now c.args.id ≡ Some c.in-Some.block = sym c.parent.ensures ∙ c.in-Some.is in
-    let takes = took_id c.args.arena.now c.take_child.new.self c.in-Some.block c.place_of-place.result.0 c.args.id c.take_child.result c.place_of-place.ensures.place
+    let takes = took_id c.args.arena.now c.take_child.new.self c.in-Some.block c.child_place-place.result.0 c.args.id c.take_child.result c.child_place-place.ensures.place
     c.take_child.ensures.child c.take_child.ensures.takes in
     apart_part c.take_child.new.self c.args.root c.args.id (Some c.in-Some.block)
-    (taken_apart c.args.arena.now c.take_child.new.self c.args.root c.args.id c.in-Some.block c.place_of-place.result.0 c.requires.tree c.requires.live up
-    c.take_child.ensures.leaves c.take_child.ensures.sound c.place_of-place.ensures.place takes c.requires.more)
+    (taken_apart c.args.arena.now c.take_child.new.self c.args.root c.args.id c.in-Some.block c.child_place-place.result.0 c.requires.tree c.requires.live up
+    c.take_child.ensures.leaves c.take_child.ensures.sound c.child_place-place.ensures.place takes c.requires.more)
 
 pub exchange_up-requires-clause-fits : goal.exchange_up-requires-clause-fits
 exchange_up-requires-clause-fits g c = omega (
@@ -47,57 +47,57 @@ exchange_up-requires-clause-fits g c = omega (
 pub exchange_up-requires-clause-block : goal.exchange_up-requires-clause-block
 exchange_up-requires-clause-block g c = λ b e.
     let up : parent_of c.args.arena.now c.args.id ≡ Some c.in-Some.block = sym c.parent.ensures ∙ c.in-Some.is in
-    let takes = took_id c.args.arena.now c.take_child.new.self c.in-Some.block c.place_of-place.result.0 c.args.id c.take_child.result c.place_of-place.ensures.place
+    let takes = took_id c.args.arena.now c.take_child.new.self c.in-Some.block c.child_place-place.result.0 c.args.id c.take_child.result c.child_place-place.ensures.place
     c.take_child.ensures.child c.take_child.ensures.takes in
     let q : c.in-Some.block ≡ b = cc e in
     subst (λ (z : ℕ). IsSome (block_value c.take_child.new.self z)) q
-    (tk_p_block c.args.arena.now c.take_child.new.self c.args.root c.args.id c.in-Some.block c.place_of-place.result.0 c.requires.tree c.requires.live up
-    c.take_child.ensures.leaves c.take_child.ensures.sound c.place_of-place.ensures.place takes c.requires.more)
+    (tk_p_block c.args.arena.now c.take_child.new.self c.args.root c.args.id c.in-Some.block c.child_place-place.result.0 c.requires.tree c.requires.live up
+    c.take_child.ensures.leaves c.take_child.ensures.sound c.child_place-place.ensures.place takes c.requires.more)
 
 pub exchange_up-requires-clause-floors : goal.exchange_up-requires-clause-floors
 exchange_up-requires-clause-floors g c =
     let up : parent_of c.args.arena.now c.args.id ≡ Some c.in-Some.block = sym c.parent.ensures ∙ c.in-Some.is in
-    let takes = took_id c.args.arena.now c.take_child.new.self c.in-Some.block c.place_of-place.result.0 c.args.id c.take_child.result c.place_of-place.ensures.place
+    let takes = took_id c.args.arena.now c.take_child.new.self c.in-Some.block c.child_place-place.result.0 c.args.id c.take_child.result c.child_place-place.ensures.place
     c.take_child.ensures.child c.take_child.ensures.takes in
-    taken_floors c.args.arena.now c.take_child.new.self c.args.root c.args.id c.in-Some.block c.place_of-place.result.0 c.requires.tree c.requires.live up
-    c.take_child.ensures.leaves c.take_child.ensures.sound c.place_of-place.ensures.place takes c.requires.more c.args.floor c.requires.floors
+    taken_floors c.args.arena.now c.take_child.new.self c.args.root c.args.id c.in-Some.block c.child_place-place.result.0 c.requires.tree c.requires.live up
+    c.take_child.ensures.leaves c.take_child.ensures.sound c.child_place-place.ensures.place takes c.requires.more c.args.floor c.requires.floors
 
 pub exchange_up-requires-clause-sums : goal.exchange_up-requires-clause-sums
 exchange_up-requires-clause-sums g c = λ view k.
     let up : parent_of c.args.arena.now c.args.id ≡ Some c.in-Some.block = sym c.parent.ensures ∙ c.in-Some.is in
-    let takes = took_id c.args.arena.now c.take_child.new.self c.in-Some.block c.place_of-place.result.0 c.args.id c.take_child.result c.place_of-place.ensures.place
+    let takes = took_id c.args.arena.now c.take_child.new.self c.in-Some.block c.child_place-place.result.0 c.args.id c.take_child.result c.child_place-place.ensures.place
     c.take_child.ensures.child c.take_child.ensures.takes in
-    taken_sums c.args.arena.now c.take_child.new.self c.args.root c.args.id c.in-Some.block c.place_of-place.result.0 c.requires.tree c.requires.live up
-    c.take_child.ensures.leaves c.take_child.ensures.sound c.place_of-place.ensures.place takes c.requires.more (by_view g.L.Leaf.size g.L.Leaf.element view)
+    taken_sums c.args.arena.now c.take_child.new.self c.args.root c.args.id c.in-Some.block c.child_place-place.result.0 c.requires.tree c.requires.live up
+    c.take_child.ensures.leaves c.take_child.ensures.sound c.child_place-place.ensures.place takes c.requires.more (by_view g.L.Leaf.size g.L.Leaf.element view)
     (c.requires.sums view k)
 
 pub exchange_up-requires-clause-owes : goal.exchange_up-requires-clause-owes
 exchange_up-requires-clause-owes g c = λ view k.
     let up : parent_of c.args.arena.now c.args.id ≡ Some c.in-Some.block = sym c.parent.ensures ∙ c.in-Some.is in
-    let takes = took_id c.args.arena.now c.take_child.new.self c.in-Some.block c.place_of-place.result.0 c.args.id c.take_child.result c.place_of-place.ensures.place
+    let takes = took_id c.args.arena.now c.take_child.new.self c.in-Some.block c.child_place-place.result.0 c.args.id c.take_child.result c.child_place-place.ensures.place
     c.take_child.ensures.child c.take_child.ensures.takes in
     goes g.L.Leaf.size g.L.Leaf.element view c.take_child.new.self (Some c.in-Some.block) c.leaf_at-leaf.result.now c.in_ok-e.e c.len-len.result (c.in_ok-e.ensures
-    ∙ c.element.ensures) c.len-len.ensures.value (taken_owes c.args.arena.now c.take_child.new.self c.args.root c.args.id c.in-Some.block c.place_of-place.result.0
-    c.requires.tree c.requires.live up c.take_child.ensures.leaves c.take_child.ensures.sound c.place_of-place.ensures.place takes c.requires.more
+    ∙ c.element.ensures) c.len-len.ensures.value (taken_owes c.args.arena.now c.take_child.new.self c.args.root c.args.id c.in-Some.block c.child_place-place.result.0
+    c.requires.tree c.requires.live up c.take_child.ensures.leaves c.take_child.ensures.sound c.child_place-place.ensures.place takes c.requires.more
     (by_view g.L.Leaf.size g.L.Leaf.element view) (c.requires.sums view k) c.leaf_at-leaf.result.now c.leaf_at-leaf.ensures)
 
 pub fill_up-requires-clause-apart : goal.fill_up-requires-clause-apart
 fill_up-requires-clause-apart g c =
     let up : parent_of c.args.arena.now c.args.id ≡ Some c.in-Some.block = sym c.parent.ensures ∙ c.in-Some.is in
-    let takes = took_id c.args.arena.now c.take_child.new.self c.in-Some.block c.place_of-place.result.0 c.args.id c.take_child.result c.place_of-place.ensures.place
+    let takes = took_id c.args.arena.now c.take_child.new.self c.in-Some.block c.child_place-place.result.0 c.args.id c.take_child.result c.child_place-place.ensures.place
     c.take_child.ensures.child c.take_child.ensures.takes in
     SameShape-apart c.take_child.new.self c.exchange_up.new.arena c.args.root c.args.id (Some c.in-Some.block)
-    (taken_apart c.args.arena.now c.take_child.new.self c.args.root c.args.id c.in-Some.block c.place_of-place.result.0 c.requires.tree c.requires.live up
-    c.take_child.ensures.leaves c.take_child.ensures.sound c.place_of-place.ensures.place takes c.requires.more) c.in_ok-exchange_up.ensures.shape
+    (taken_apart c.args.arena.now c.take_child.new.self c.args.root c.args.id c.in-Some.block c.child_place-place.result.0 c.requires.tree c.requires.live up
+    c.take_child.ensures.leaves c.take_child.ensures.sound c.child_place-place.ensures.place takes c.requires.more) c.in_ok-exchange_up.ensures.shape
 
 pub fill_up-requires-clause-block : goal.fill_up-requires-clause-block
 fill_up-requires-clause-block g c =
     let up : parent_of c.args.arena.now c.args.id ≡ Some c.in-Some.block = sym c.parent.ensures ∙ c.in-Some.is in
-    let takes = took_id c.args.arena.now c.take_child.new.self c.in-Some.block c.place_of-place.result.0 c.args.id c.take_child.result c.place_of-place.ensures.place
+    let takes = took_id c.args.arena.now c.take_child.new.self c.in-Some.block c.child_place-place.result.0 c.args.id c.take_child.result c.child_place-place.ensures.place
     c.take_child.ensures.child c.take_child.ensures.takes in
     kind_block (entry c.take_child.new.self c.in-Some.block) (entry c.exchange_up.new.arena c.in-Some.block) (c.in_ok-exchange_up.ensures.shape.kinds c.in-Some.block)
-    (tk_p_block c.args.arena.now c.take_child.new.self c.args.root c.args.id c.in-Some.block c.place_of-place.result.0 c.requires.tree c.requires.live up
-    c.take_child.ensures.leaves c.take_child.ensures.sound c.place_of-place.ensures.place takes c.requires.more)
+    (tk_p_block c.args.arena.now c.take_child.new.self c.args.root c.args.id c.in-Some.block c.child_place-place.result.0 c.requires.tree c.requires.live up
+    c.take_child.ensures.leaves c.take_child.ensures.sound c.child_place-place.ensures.place takes c.requires.more)
 
 pub fill_up-requires-clause-fits : goal.fill_up-requires-clause-fits
 fill_up-requires-clause-fits g c = omega (
@@ -111,7 +111,7 @@ fill_up-requires-clause-fits g c = omega (
 pub returns-clause-low : goal.returns-clause-low
 returns-clause-low g c = IfOk-weaker c.fill_up.result _ _ (λ top h.
     let up : parent_of c.args.arena.now c.args.id ≡ Some c.in-Some.block = sym c.parent.ensures ∙ c.in-Some.is in
-    let takes = took_id c.args.arena.now c.take_child.new.self c.in-Some.block c.place_of-place.result.0 c.args.id c.take_child.result c.place_of-place.ensures.place
+    let takes = took_id c.args.arena.now c.take_child.new.self c.in-Some.block c.child_place-place.result.0 c.args.id c.take_child.result c.child_place-place.ensures.place
     c.take_child.ensures.child c.take_child.ensures.takes in
     omega (
       arith,
@@ -119,7 +119,7 @@ returns-clause-low g c = IfOk-weaker c.fill_up.result _ _ (λ top h.
       kind_height (entry c.take_child.new.self c.args.root) (entry c.exchange_up.new.arena c.args.root)
           (c.in_ok-exchange_up.ensures.shape.kinds c.args.root),
       tk_high c.args.arena.now c.take_child.new.self c.args.root c.args.id c.in-Some.block
-          c.place_of-place.result.0 c.requires.tree c.requires.live up c.take_child.ensures.leaves c.take_child.ensures.sound c.place_of-place.ensures.place takes
+          c.child_place-place.result.0 c.requires.tree c.requires.live up c.take_child.ensures.leaves c.take_child.ensures.sound c.child_place-place.ensures.place takes
           c.requires.more c.args.root,
     )) c.fill_up.ensures.low
 

@@ -16,13 +16,13 @@ pub returns-then-count_of-ge4-clause-apart : goal.returns-then-count_of-ge4-clau
 returns-then-count_of-ge4-clause-apart g c =
     apart_full c.up.arena c.args.root c.args._id c.up.block c.up.invariant.apart (omega (arith, c.count_of.ensures.value, c.if-count_of-ge4.true))
 
-pub place_of-place-requires-clause-block : goal.place_of-place-requires-clause-block
-place_of-place-requires-clause-block g c =
+pub child_place-place-requires-clause-block : goal.child_place-place-requires-clause-block
+child_place-place-requires-clause-block g c =
     let up : parent_of c.up.arena c.up.block ≡ Some c.in-Some.up = sym c.parent.ensures ∙ c.in-Some.is in
     fl_up_block c.up.arena c.args.root c.args._id c.up.block c.up.invariant.apart c.in-Some.up up
 
-pub place_of-place-requires-clause-child : goal.place_of-place-requires-clause-child
-place_of-place-requires-clause-child g c =
+pub child_place-place-requires-clause-child : goal.child_place-place-requires-clause-child
+child_place-place-requires-clause-child g c =
     let up : parent_of c.up.arena c.up.block ≡ Some c.in-Some.up = sym c.parent.ensures ∙ c.in-Some.is in
     fl_child c.up.arena c.args.root c.args._id c.up.block c.up.invariant.apart c.in-Some.up up
 
@@ -34,14 +34,14 @@ drop_root-requires-clause-block g c =
 pub drop_root-requires-clause-top : goal.drop_root-requires-clause-top
 drop_root-requires-clause-top g c =
     let up : parent_of c.up.arena c.up.block ≡ Some c.in-Some.up = sym c.parent.ensures ∙ c.in-Some.is in
-    let few : length (kids_of c.up.arena c.in-Some.up) ≤ 3 = omega (arith, c.place_of-place.ensures.count, c.if-count-eq1.true) in
+    let few : length (kids_of c.up.arena c.in-Some.up) ≤ 3 = omega (arith, c.child_place-place.ensures.count, c.if-count-eq1.true) in
     let is_root : c.in-Some.up ≡ c.args.root = fl_root c.up.arena c.args.root c.args._id c.up.block c.up.invariant.apart c.in-Some.up up few in
     ap (parent_of c.up.arena) is_root ∙ c.up.invariant.apart.shape.root_is_top
 
 pub returns-then-count-eq1-clause-apart : goal.returns-then-count-eq1-clause-apart
 returns-then-count-eq1-clause-apart g c =
     let up : parent_of c.up.arena c.up.block ≡ Some c.in-Some.up = sym c.parent.ensures ∙ c.in-Some.is in
-    let few : length (kids_of c.up.arena c.in-Some.up) ≤ 3 = omega (arith, c.place_of-place.ensures.count, c.if-count-eq1.true) in
+    let few : length (kids_of c.up.arena c.in-Some.up) ≤ 3 = omega (arith, c.child_place-place.ensures.count, c.if-count-eq1.true) in
     let is_root : c.in-Some.up ≡ c.args.root = fl_root c.up.arena c.args.root c.args._id c.up.block c.up.invariant.apart c.in-Some.up up few in
     let drops : DropsRoot c.up.arena c.drop_root.new.arena c.args.root c.drop_root.result =
     subst (λ (z : ℕ). DropsRoot c.up.arena c.drop_root.new.arena z c.drop_root.result) is_root c.drop_root.ensures in
@@ -56,7 +56,7 @@ returns-then-count-eq1-clause-apart g c =
 pub returns-then-count-eq1-clause-sums : goal.returns-then-count-eq1-clause-sums
 returns-then-count-eq1-clause-sums g c = λ view k.
     let up : parent_of c.up.arena c.up.block ≡ Some c.in-Some.up = sym c.parent.ensures ∙ c.in-Some.is in
-    let few : length (kids_of c.up.arena c.in-Some.up) ≤ 3 = omega (arith, c.place_of-place.ensures.count, c.if-count-eq1.true) in
+    let few : length (kids_of c.up.arena c.in-Some.up) ≤ 3 = omega (arith, c.child_place-place.ensures.count, c.if-count-eq1.true) in
     let is_root : c.in-Some.up ≡ c.args.root = fl_root c.up.arena c.args.root c.args._id c.up.block c.up.invariant.apart c.in-Some.up up few in
     let drops : DropsRoot c.up.arena c.drop_root.new.arena c.args.root c.drop_root.result =
     subst (λ (z : ℕ). DropsRoot c.up.arena c.drop_root.new.arena z c.drop_root.result) is_root c.drop_root.ensures in
@@ -72,7 +72,7 @@ returns-then-count-eq1-clause-sums g c = λ view k.
 pub returns-then-count-eq1-clause-floors : goal.returns-then-count-eq1-clause-floors
 returns-then-count-eq1-clause-floors g c =
     let up : parent_of c.up.arena c.up.block ≡ Some c.in-Some.up = sym c.parent.ensures ∙ c.in-Some.is in
-    let few : length (kids_of c.up.arena c.in-Some.up) ≤ 3 = omega (arith, c.place_of-place.ensures.count, c.if-count-eq1.true) in
+    let few : length (kids_of c.up.arena c.in-Some.up) ≤ 3 = omega (arith, c.child_place-place.ensures.count, c.if-count-eq1.true) in
     let is_root : c.in-Some.up ≡ c.args.root = fl_root c.up.arena c.args.root c.args._id c.up.block c.up.invariant.apart c.in-Some.up up few in
     let drops : DropsRoot c.up.arena c.drop_root.new.arena c.args.root c.drop_root.result =
     subst (λ (z : ℕ). DropsRoot c.up.arena c.drop_root.new.arena z c.drop_root.result) is_root c.drop_root.ensures in
@@ -96,7 +96,7 @@ child_at-front-requires-clause-block g c =
     fl_up_block c.up.arena c.args.root c.args._id c.up.block c.up.invariant.apart c.in-Some.up up
 
 pub child_at-front-requires-clause-place : goal.child_at-front-requires-clause-place
-child_at-front-requires-clause-place g c = omega (arith, slice_get_within (kids_of c.up.arena c.in-Some.up) c.place_of-place.result.0 c.up.block c.place_of-place.ensures.place)
+child_at-front-requires-clause-place g c = omega (arith, slice_get_within (kids_of c.up.arena c.in-Some.up) c.child_place-place.result.0 c.up.block c.child_place-place.ensures.place)
 
 pub child_at-rear-requires-clause-block : goal.child_at-rear-requires-clause-block
 child_at-rear-requires-clause-block g c =
@@ -107,8 +107,8 @@ pub child_at-rear-requires-clause-place : goal.child_at-rear-requires-clause-pla
 child_at-rear-requires-clause-place g c =
     omega (
       arith,
-      slice_get_within (kids_of c.up.arena c.in-Some.up) c.place_of-place.result.0 c.up.block c.place_of-place.ensures.place,
-      c.place_of-place.ensures.count,
+      slice_get_within (kids_of c.up.arena c.in-Some.up) c.child_place-place.result.0 c.up.block c.child_place-place.ensures.place,
+      c.child_place-place.ensures.count,
       c.if-count-eq1.false,
     )
 
@@ -149,8 +149,8 @@ returns-then-many-gt8-clause-apart g c =
     c.child_at-rear.result c.child_at-front.ensures c.child_at-rear.ensures in
     apart_with c.balance.new.arena c.args.root c.args._id c.in-Some.up
     (share_apart c.up.arena c.balance.new.arena c.args.root c.args._id c.in-Some.up c.child_at-front.result c.child_at-rear.result c.up.block c.up.invariant.apart
-    pair.front_up pair.rear_up pair.differ (fl_short c.up.arena c.args.root c.args._id c.up.block c.up.invariant.apart c.in-Some.up up c.place_of-place.result.0 _
-    c.child_at-front.result c.child_at-rear.result c.place_of-place.ensures.place (omega arith) c.child_at-front.ensures c.child_at-rear.ensures)
+    pair.front_up pair.rear_up pair.differ (fl_short c.up.arena c.args.root c.args._id c.up.block c.up.invariant.apart c.in-Some.up up c.child_place-place.result.0 _
+    c.child_at-front.result c.child_at-rear.result c.child_place-place.ensures.place (omega arith) c.child_at-front.ensures c.child_at-rear.ensures)
     (fl_two c.up.arena c.args.root c.args._id c.up.block c.up.invariant.apart c.in-Some.up up c.up.invariant.block) c.in_ok-balance.ensures.shares)
     (λ b e d. omega (
       arith,
@@ -166,8 +166,8 @@ returns-then-many-gt8-clause-sums g c = λ view k.
     let pair = fl_pair c.up.arena c.args.root c.args._id c.up.block c.up.invariant.apart c.in-Some.up up c.up.invariant.block _ c.child_at-front.result
     c.child_at-rear.result c.child_at-front.ensures c.child_at-rear.ensures in
     share_sums c.up.arena c.balance.new.arena c.args.root c.args._id c.in-Some.up c.child_at-front.result c.child_at-rear.result c.up.block c.up.invariant.apart
-    pair.front_up pair.rear_up pair.differ (fl_short c.up.arena c.args.root c.args._id c.up.block c.up.invariant.apart c.in-Some.up up c.place_of-place.result.0 _
-    c.child_at-front.result c.child_at-rear.result c.place_of-place.ensures.place (omega arith) c.child_at-front.ensures c.child_at-rear.ensures)
+    pair.front_up pair.rear_up pair.differ (fl_short c.up.arena c.args.root c.args._id c.up.block c.up.invariant.apart c.in-Some.up up c.child_place-place.result.0 _
+    c.child_at-front.result c.child_at-rear.result c.child_place-place.ensures.place (omega arith) c.child_at-front.ensures c.child_at-rear.ensures)
     (fl_two c.up.arena c.args.root c.args._id c.up.block c.up.invariant.apart c.in-Some.up up c.up.invariant.block) c.in_ok-balance.ensures.shares
     (by_view g.L.Leaf.size g.L.Leaf.element view) (c.up.invariant.sums view k) (c.in_ok-balance.ensures.sums view k).others
     (c.in_ok-balance.ensures.sums view k).front_sum (c.in_ok-balance.ensures.sums view k).rear_sum (c.in_ok-balance.ensures.sums view k).up_sum
@@ -208,8 +208,8 @@ up-smaller g c =
     let pair = fl_pair c.up.arena c.args.root c.args._id c.up.block c.up.invariant.apart c.in-Some.up up c.up.invariant.block _ c.child_at-front.result
     c.child_at-rear.result c.child_at-front.ensures c.child_at-rear.ensures in
     let h = share_up_high c.up.arena c.merge.new.arena c.args.root c.args._id c.in-Some.up c.child_at-front.result c.child_at-rear.result c.up.block c.up.invariant.apart
-    pair.front_up pair.rear_up pair.differ (fl_short c.up.arena c.args.root c.args._id c.up.block c.up.invariant.apart c.in-Some.up up c.place_of-place.result.0 _
-    c.child_at-front.result c.child_at-rear.result c.place_of-place.ensures.place (omega arith) c.child_at-front.ensures c.child_at-rear.ensures)
+    pair.front_up pair.rear_up pair.differ (fl_short c.up.arena c.args.root c.args._id c.up.block c.up.invariant.apart c.in-Some.up up c.child_place-place.result.0 _
+    c.child_at-front.result c.child_at-rear.result c.child_place-place.ensures.place (omega arith) c.child_at-front.ensures c.child_at-rear.ensures)
     (fl_two c.up.arena c.args.root c.args._id c.up.block c.up.invariant.apart c.in-Some.up up c.up.invariant.block) c.in_ok-merge.ensures.shares in
     let one : height_of c.up.arena c.in-Some.up ≡ height_of c.up.arena c.up.block + 1 = c.up.invariant.apart.shape.heights c.up.block c.in-Some.up up in
     let low = c.up.invariant.apart.shape.low c.in-Some.up
@@ -224,25 +224,25 @@ up-preserved g c =
     let r = c.in_ok-merge.ensures.shares in
     record {
       apart = share_apart c.up.arena c.merge.new.arena c.args.root c.args._id c.in-Some.up c.child_at-front.result c.child_at-rear.result c.up.block c.up.invariant.apart
-          pair.front_up pair.rear_up pair.differ (fl_short c.up.arena c.args.root c.args._id c.up.block c.up.invariant.apart c.in-Some.up up c.place_of-place.result.0 _
-          c.child_at-front.result c.child_at-rear.result c.place_of-place.ensures.place (omega arith) c.child_at-front.ensures c.child_at-rear.ensures)
+          pair.front_up pair.rear_up pair.differ (fl_short c.up.arena c.args.root c.args._id c.up.block c.up.invariant.apart c.in-Some.up up c.child_place-place.result.0 _
+          c.child_at-front.result c.child_at-rear.result c.child_place-place.ensures.place (omega arith) c.child_at-front.ensures c.child_at-rear.ensures)
           (fl_two c.up.arena c.args.root c.args._id c.up.block c.up.invariant.apart c.in-Some.up up c.up.invariant.block) c.in_ok-merge.ensures.shares;
       block = share_block c.up.arena c.merge.new.arena c.args.root c.args._id c.in-Some.up c.child_at-front.result c.child_at-rear.result c.up.block c.up.invariant.apart
-          pair.front_up pair.rear_up pair.differ (fl_short c.up.arena c.args.root c.args._id c.up.block c.up.invariant.apart c.in-Some.up up c.place_of-place.result.0 _
-          c.child_at-front.result c.child_at-rear.result c.place_of-place.ensures.place (omega arith) c.child_at-front.ensures c.child_at-rear.ensures)
+          pair.front_up pair.rear_up pair.differ (fl_short c.up.arena c.args.root c.args._id c.up.block c.up.invariant.apart c.in-Some.up up c.child_place-place.result.0 _
+          c.child_at-front.result c.child_at-rear.result c.child_place-place.ensures.place (omega arith) c.child_at-front.ensures c.child_at-rear.ensures)
           (fl_two c.up.arena c.args.root c.args._id c.up.block c.up.invariant.apart c.in-Some.up up c.up.invariant.block) c.in_ok-merge.ensures.shares;
       sums = λ view k. share_sums c.up.arena c.merge.new.arena c.args.root c.args._id c.in-Some.up c.child_at-front.result c.child_at-rear.result c.up.block
           c.up.invariant.apart pair.front_up pair.rear_up pair.differ
-          (fl_short c.up.arena c.args.root c.args._id c.up.block c.up.invariant.apart c.in-Some.up up c.place_of-place.result.0 _ c.child_at-front.result
-          c.child_at-rear.result c.place_of-place.ensures.place (omega arith) c.child_at-front.ensures c.child_at-rear.ensures)
+          (fl_short c.up.arena c.args.root c.args._id c.up.block c.up.invariant.apart c.in-Some.up up c.child_place-place.result.0 _ c.child_at-front.result
+          c.child_at-rear.result c.child_place-place.ensures.place (omega arith) c.child_at-front.ensures c.child_at-rear.ensures)
           (fl_two c.up.arena c.args.root c.args._id c.up.block c.up.invariant.apart c.in-Some.up up c.up.invariant.block) c.in_ok-merge.ensures.shares
           (by_view g.L.Leaf.size g.L.Leaf.element view) (c.up.invariant.sums view k) (c.in_ok-merge.ensures.sums view k).others
           (c.in_ok-merge.ensures.sums view k).front_sum (c.in_ok-merge.ensures.sums view k).rear_sum (c.in_ok-merge.ensures.sums view k).up_sum;
       floors = c.in_ok-merge.ensures.floors;
       fits = omega (arith, leaf_total (by_size g.L.Leaf.size) c.up.arena c.merge.new.arena c.up.invariant.apart.shape.forest r.leaves r.leaf_values, c.up.invariant.fits);
       high = share_high c.up.arena c.merge.new.arena c.args.root c.args._id c.in-Some.up c.child_at-front.result c.child_at-rear.result c.up.block c.up.invariant.apart
-          pair.front_up pair.rear_up pair.differ (fl_short c.up.arena c.args.root c.args._id c.up.block c.up.invariant.apart c.in-Some.up up c.place_of-place.result.0 _
-          c.child_at-front.result c.child_at-rear.result c.place_of-place.ensures.place (omega arith) c.child_at-front.ensures c.child_at-rear.ensures)
+          pair.front_up pair.rear_up pair.differ (fl_short c.up.arena c.args.root c.args._id c.up.block c.up.invariant.apart c.in-Some.up up c.child_place-place.result.0 _
+          c.child_at-front.result c.child_at-rear.result c.child_place-place.ensures.place (omega arith) c.child_at-front.ensures c.child_at-rear.ensures)
           (fl_two c.up.arena c.args.root c.args._id c.up.block c.up.invariant.apart c.in-Some.up up c.up.invariant.block) c.in_ok-merge.ensures.shares
           ∙ c.up.invariant.high;
       leaves = r.leaves ∙ c.up.invariant.leaves;
@@ -258,7 +258,7 @@ returns-then-count_of-ge4-clause-low g c = omega (arith, c.up.invariant.high)
 pub returns-then-count-eq1-clause-low : goal.returns-then-count-eq1-clause-low
 returns-then-count-eq1-clause-low g c =
     let up : parent_of c.up.arena c.up.block ≡ Some c.in-Some.up = sym c.parent.ensures ∙ c.in-Some.is in
-    let few : length (kids_of c.up.arena c.in-Some.up) ≤ 3 = omega (arith, c.place_of-place.ensures.count, c.if-count-eq1.true) in
+    let few : length (kids_of c.up.arena c.in-Some.up) ≤ 3 = omega (arith, c.child_place-place.ensures.count, c.if-count-eq1.true) in
     let is_root : c.in-Some.up ≡ c.args.root = fl_root c.up.arena c.args.root c.args._id c.up.block c.up.invariant.apart c.in-Some.up up few in
     let drops : DropsRoot c.up.arena c.drop_root.new.arena c.args.root c.drop_root.result =
     subst (λ (z : ℕ). DropsRoot c.up.arena c.drop_root.new.arena z c.drop_root.result) is_root c.drop_root.ensures in
@@ -279,8 +279,8 @@ returns-then-many-gt8-clause-low g c =
       arith,
       share_high c.up.arena c.balance.new.arena c.args.root c.args._id c.in-Some.up c.child_at-front.result c.child_at-rear.result c.up.block
           c.up.invariant.apart pair.front_up pair.rear_up pair.differ
-          (fl_short c.up.arena c.args.root c.args._id c.up.block c.up.invariant.apart c.in-Some.up up c.place_of-place.result.0 _ c.child_at-front.result
-          c.child_at-rear.result c.place_of-place.ensures.place (omega arith) c.child_at-front.ensures c.child_at-rear.ensures)
+          (fl_short c.up.arena c.args.root c.args._id c.up.block c.up.invariant.apart c.in-Some.up up c.child_place-place.result.0 _ c.child_at-front.result
+          c.child_at-rear.result c.child_place-place.ensures.place (omega arith) c.child_at-front.ensures c.child_at-rear.ensures)
           (fl_two c.up.arena c.args.root c.args._id c.up.block c.up.invariant.apart c.in-Some.up up c.up.invariant.block) c.in_ok-balance.ensures.shares,
       c.up.invariant.high,
     )

@@ -1,7 +1,7 @@
 use Rattle.std.proofs.Common.{◌+◌, ◌*◌, ◌≤◌, ℕ, ℤ, List, length, rules, to_z, of_z, w64, sym, ◌∙◌, subst}
 use Rattle.std.proofs.lemmas.Int.{to_z-of_z}
 use Rattle.std.proofs.lemmas.Result.{IfOk-weaker}
-use Rattle.ft_tree_leaves.specs.References.{place_of}
+use Rattle.ft_tree_leaves.specs.References.{reference_place}
 use Rattle.ft_interval.specs.Indexes.{IsRange}
 use Rattle.ft_interval_store.specs.Shown.{shown_end, shown_place, last}
 use Rattle.ft_interval_store.specs.State.{text_elements}
@@ -18,7 +18,7 @@ returns-clause-keys g c =
     subst (λ (z : ℤ). IsRange c.args.a c.args.b z (to_z w64 (of_z w64 high))) (sym (to_z-of_z w64 low (search rules)))
     (subst (λ (z : ℤ). IsRange c.args.a c.args.b low z) (sym (to_z-of_z w64 high (search rules))) c.range_of-range.ensures) in
     let same = keys-same (shown_place xs refs) c.args.a c.args.b (to_z w64 (of_z w64 low)) (to_z w64 (of_z w64 high)) range
-    (λ k. number-least xs last (shown_end xs (place_of refs k))) (λ k. number-greatest xs last (shown_end xs (place_of refs k))) c.args.index.now.index.items in
+    (λ k. number-least xs last (shown_end xs (reference_place refs k))) (λ k. number-greatest xs last (shown_end xs (reference_place refs k))) c.args.index.now.index.items in
     IfOk-weaker c.query.result _ _ (λ keys h. h ∙ same) c.query.ensures.keys
 
 pub returns-clause-cost : goal.returns-clause-cost
@@ -31,5 +31,5 @@ returns-clause-cost g c =
     subst (λ (z : ℤ). IsRange c.args.a c.args.b z (to_z w64 (of_z w64 high))) (sym (to_z-of_z w64 low (search rules)))
     (subst (λ (z : ℤ). IsRange c.args.a c.args.b low z) (sym (to_z-of_z w64 high (search rules))) c.range_of-range.ensures) in
     let same = keys-same (shown_place xs refs) c.args.a c.args.b (to_z w64 (of_z w64 low)) (to_z w64 (of_z w64 high)) range
-    (λ k. number-least xs last (shown_end xs (place_of refs k))) (λ k. number-greatest xs last (shown_end xs (place_of refs k))) c.args.index.now.index.items in
+    (λ k. number-least xs last (shown_end xs (reference_place refs k))) (λ k. number-greatest xs last (shown_end xs (reference_place refs k))) c.args.index.now.index.items in
     subst (λ (ks : List ℕ). c.query.new.steps ≤ c.args.steps.now + 9 * (c.args.index.now.index.depth + 1) * (length ks + 1)) same c.query.ensures.cost

@@ -10,7 +10,7 @@ use Rattle.ft_interval.proofs.indexes.place_for.Goals as goal
 pub returns-clause-at : goal.returns-clause-at
 returns-clause-at c =
     let p : LabelIndex → Bool = λ (x : LabelIndex). is_eq (text_cmp c.args.label.now x.label) in
-    let none : position p c.args.indexes.now.items ≡ None = ap (position p) (sym c.deref.ensures.value) ∙ sym c.place_of.ensures ∙ c.in_default.is in
+    let none : position p c.args.indexes.now.items ≡ None = ap (position p) (sym c.deref.ensures.value) ∙ sym c.label_place.ensures ∙ c.in_default.is in
     let count : length c.args.indexes.now.items ≡ c.len-i.result = omega (arith, c.len-i.ensures, c.args.indexes.now.ok.0) in
     ap (position p) c.in_ok-push.ensures.items
     ∙ place-added c.args.label.now c.args.indexes.now.items none c.in_ok-empty.empty c.in_ok-empty.ensures.0 ∙ ap (λ (n : ℕ). Some n) count
@@ -18,7 +18,7 @@ returns-clause-at c =
 pub returns-clause-same : goal.returns-clause-same
 returns-clause-same c =
     let p : LabelIndex → Bool = λ (x : LabelIndex). is_eq (text_cmp c.args.label.now x.label) in
-    let none : position p c.args.indexes.now.items ≡ None = ap (position p) (sym c.deref.ensures.value) ∙ sym c.place_of.ensures ∙ c.in_default.is in
+    let none : position p c.args.indexes.now.items ≡ None = ap (position p) (sym c.deref.ensures.value) ∙ sym c.label_place.ensures ∙ c.in_default.is in
     let new = ap (index_of c.args.label.now) c.in_ok-push.ensures.items ∙ label-added c.args.label.now c.args.indexes.now.items none c.in_ok-empty.empty c.in_ok-empty.ensures.0 in
     let old = label-none c.args.label.now c.args.indexes.now.items none in
     record {
@@ -29,6 +29,6 @@ returns-clause-same c =
 pub returns-clause-others : goal.returns-clause-others
 returns-clause-others c =
     let p : LabelIndex → Bool = λ (x : LabelIndex). is_eq (text_cmp c.args.label.now x.label) in
-    let none : position p c.args.indexes.now.items ≡ None = ap (position p) (sym c.deref.ensures.value) ∙ sym c.place_of.ensures ∙ c.in_default.is in
+    let none : position p c.args.indexes.now.items ≡ None = ap (position p) (sym c.deref.ensures.value) ∙ sym c.label_place.ensures ∙ c.in_default.is in
     subst (λ (xs : List LabelIndex). KeepsOtherLabels c.args.label.now c.args.indexes.now.items xs) (sym c.in_ok-push.ensures.items)
     (others-added c.args.label.now c.args.indexes.now.items none c.in_ok-empty.empty c.in_ok-empty.ensures.0)

@@ -10,6 +10,6 @@ returns c = record {
   ok = search rules;
   err = search rules;
   formed =
-    let new = sym c.contains_key.ensures ∙ c.if-contains_key.false in
-    if_ok-of _ c.read_adjustment.result (adjustment (view c.args.value.now)) c.read_adjustment.ensures (λ made e. (new, adjustment-formed (view c.args.value.now) made e))
+      let new = sym c.contains_key.ensures ∙ c.if-contains_key.false in
+      if_ok-of _ c.read_adjustment.result (adjustment (view c.args.value.now)) c.read_adjustment.ensures (λ made e. (new, adjustment-formed (view c.args.value.now) made e));
 }

@@ -9,9 +9,9 @@ returns c = record {
   ok = search rules;
   err = search rules;
   formed =
-    let d = view c.args.value.now in (
-      count_field-is_count d Row c.in_ok-row.row (sym c.in_ok-row.ensures),
-      count_field-is_count d Col c.in_ok-col.col (sym c.in_ok-col.ensures),
-      c.in_ok-read_kept_value.ensures.kept,
-    )
+      let d = view c.args.value.now in (
+        count_field-is_count d Row c.in_ok-row.row (sym c.in_ok-row.ensures),
+        count_field-is_count d Col c.in_ok-col.col (sym c.in_ok-col.ensures),
+        c.in_ok-read_kept_value.ensures.kept,
+      );
 }

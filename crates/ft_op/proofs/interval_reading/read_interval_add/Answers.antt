@@ -8,5 +8,5 @@ returns c = record {
   ok = search rules;
   err = search rules;
   formed =
-    (interval_ends-formed (view c.args.value.now) c.in_ok-read_ends.field-0 (sym c.in_ok-read_ends.ensures), c.in_ok-read_given_properties.ensures.formed)
+      (interval_ends-formed (view c.args.value.now) c.in_ok-read_ends.field-0 (sym c.in_ok-read_ends.ensures), c.in_ok-read_given_properties.ensures.formed);
 }

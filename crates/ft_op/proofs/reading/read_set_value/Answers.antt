@@ -8,6 +8,6 @@ returns c = record {
   ok = search rules;
   err = search rules;
   formed =
-    let kept = c.in_ok-read_kept_value.ensures in
-    (kept.kept, not_null (view c.args.value.now) c.in_ok-read_kept_value.field-0 kept.reads_back (sym c.is_null.ensures ∙ c.if-is_null.false))
+      let kept = c.in_ok-read_kept_value.ensures in
+      (kept.kept, not_null (view c.args.value.now) c.in_ok-read_kept_value.field-0 kept.reads_back (sym c.is_null.ensures ∙ c.if-is_null.false));
 }

@@ -7,10 +7,9 @@ pub returns : goal.returns
 returns c = record {
   ok = search rules;
   err = search rules;
-  formed =
-    (
-  range-is_range (view c.args.value.now) (c.in_ok-pos1.pos1, c.in_ok-pos1.pos2) (sym c.in_ok-pos1.ensures),
-  c.in_ok-props.ensures.formed,
-  c.in_ok-adjust.ensures.formed,
-)
+  formed = (
+    range-is_range (view c.args.value.now) (c.in_ok-pos1.pos1, c.in_ok-pos1.pos2) (sym c.in_ok-pos1.ensures),
+    c.in_ok-props.ensures.formed,
+    c.in_ok-adjust.ensures.formed,
+  );
 }

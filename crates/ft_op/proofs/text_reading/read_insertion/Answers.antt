@@ -8,10 +8,9 @@ pub returns : goal.returns
 returns c = record {
   ok = search rules;
   err = search rules;
-  formed =
-    (
-  count_field-is_count (view c.args.value.now) Pos1 c.in_ok-pos.pos (sym c.in_ok-pos.ensures),
-  segment-is_segment (view c.in_ok-seg.seg.now) c.in_ok-read_segment.field-0 c.in_ok-read_segment.ensures.ok,
-  c.in_ok-read_given_properties.ensures.formed,
-)
+  formed = (
+    count_field-is_count (view c.args.value.now) Pos1 c.in_ok-pos.pos (sym c.in_ok-pos.ensures),
+    segment-is_segment (view c.in_ok-seg.seg.now) c.in_ok-read_segment.field-0 c.in_ok-read_segment.ensures.ok,
+    c.in_ok-read_given_properties.ensures.formed,
+  );
 }

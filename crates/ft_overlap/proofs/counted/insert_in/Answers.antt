@@ -23,7 +23,7 @@ overflow_add-height g c =
 pub insert_at-top-requires-clause-at : goal.insert_at-top-requires-clause-at
 insert_at-top-requires-clause-at g c =
     let tree : IsTree c.args.arena.now c.in-Some.root = subst (λ (o : Option ℕ). IsRooted c.args.arena.now o) c.in-Some.is c.requires.rooted in
-    place_live (g.P.Places.place_of c.args.at.now) c.reserve-2.new.self
+    place_live (g.P.Places.end_place c.args.at.now) c.reserve-2.new.self
     (room_tree c.args.arena.now c.reserve-2.new.self c.reserve-2.ensures.kept c.in-Some.root tree).shape.forest c.args.item
     c.in-Some-place_for.before c.in-Some-place_for.ensures
 
@@ -31,19 +31,19 @@ pub insert_at-top-requires-clause-one : goal.insert_at-top-requires-clause-one
 insert_at-top-requires-clause-one g c = room_keeps NamesOne c.args.arena.now c.reserve-2.new.self c.reserve-2.ensures.kept c.requires.one
 
 pub insert_at-top-requires-clause-last : goal.insert_at-top-requires-clause-last
-insert_at-top-requires-clause-last g c = room_keeps (NamesLast (g.P.Places.place_of c.args.at.now)) c.args.arena.now c.reserve-2.new.self c.reserve-2.ensures.kept c.requires.last
+insert_at-top-requires-clause-last g c = room_keeps (NamesLast (g.P.Places.end_place c.args.at.now)) c.args.arena.now c.reserve-2.new.self c.reserve-2.ensures.kept c.requires.last
 
 pub insert_front-top-requires-clause-one : goal.insert_front-top-requires-clause-one
 insert_front-top-requires-clause-one g c = room_keeps NamesOne c.args.arena.now c.reserve-2.new.self c.reserve-2.ensures.kept c.requires.one
 
 pub insert_front-top-requires-clause-last : goal.insert_front-top-requires-clause-last
-insert_front-top-requires-clause-last g c = room_keeps (NamesLast (g.P.Places.place_of c.args.at.now)) c.args.arena.now c.reserve-2.new.self c.reserve-2.ensures.kept c.requires.last
+insert_front-top-requires-clause-last g c = room_keeps (NamesLast (g.P.Places.end_place c.args.at.now)) c.args.arena.now c.reserve-2.new.self c.reserve-2.ensures.kept c.requires.last
 
 pub returns-clause-items : goal.returns-clause-items
 returns-clause-items g c =
     let tree : IsTree c.args.arena.now c.in-Some.root = subst (λ (o : Option ℕ). IsRooted c.args.arena.now o) c.in-Some.is c.requires.rooted in
     let forest = (room_tree c.args.arena.now c.reserve-2.new.self c.reserve-2.ensures.kept c.in-Some.root tree).shape.forest in
-    let place = g.P.Places.place_of c.args.at.now in
+    let place = g.P.Places.end_place c.args.at.now in
     elim c.match-place_for.branch [
       | in-Some-place_for w ↦ subst (λ (z : Nodes). items_of z z.leaves ≡ put_item place c.args.item (items_of c.args.arena.now c.args.arena.now.leaves)) (sym w.arena-is)
           (put_items_after place c.reserve-2.new.self forest c.args.item w.in-Some-place_for.before w.in-Some-place_for.ensures w.insert_at-top.new.arena w.insert_at-top.ensures.inserts.0 w.insert_at-top.ensures.inserts.1
@@ -60,4 +60,4 @@ place_for-requires-clause-tree g c =
 
 pub place_for-requires-clause-rising : goal.place_for-requires-clause-rising
 place_for-requires-clause-rising g c =
-    subst (IsRising (g.P.Places.place_of c.args.at.now)) (sym (room_items c.args.arena.now c.reserve-2.new.self c.reserve-2.ensures.kept)) c.requires.rising
+    subst (IsRising (g.P.Places.end_place c.args.at.now)) (sym (room_items c.args.arena.now c.reserve-2.new.self c.reserve-2.ensures.kept)) c.requires.rising

@@ -11,7 +11,7 @@ invariant-up g l =
     record {
       growing : IsGrowing l.arena l.fn.root l.at l.id (λ xs. insert_after xs l.at l.id);
       one : KeepsBut NamesOne l.arena (parent_of l.arena l.at);
-      last : KeepsBut (NamesLast (g.P.Places.place_of l.places)) l.arena (parent_of l.arena l.at);
+      last : KeepsBut (NamesLast (g.P.Places.end_place l.places)) l.arena (parent_of l.arena l.at);
       known : EndsKnown (g.P.Places.Knows l.places) l.arena;
       spare : height_of l.arena l.fn.root - height_of l.arena l.at + 1 ≤ l.arena.spare;
       tall : height_of l.arena l.fn.root ≡ height_of l.initial.arena l.fn.root;

@@ -17,47 +17,47 @@ use Rattle.ft_overlap.proofs.grow.grow_front.Goals as goal
 pub returns-then-count-lt8-clause-tree : goal.returns-then-count-lt8-clause-tree
 returns-then-count-lt8-clause-tree g c =
     let up : parent_of c.args.arena.now c.args.at ≡ Some c.in-Some.block = sym c.parent.ensures ∙ c.in-Some.is in
-    let e : c.place_of-place.result.0 + 0 ≡ c.place_of-place.result.0 = omega arith in
-    let at_place : insert (kids_of c.args.arena.now c.in-Some.block) c.place_of-place.result.0 c.args.id ≡ insert_before (kids_of c.args.arena.now c.in-Some.block)
+    let e : c.child_place-place.result.0 + 0 ≡ c.child_place-place.result.0 = omega arith in
+    let at_place : insert (kids_of c.args.arena.now c.in-Some.block) c.child_place-place.result.0 c.args.id ≡ insert_before (kids_of c.args.arena.now c.in-Some.block)
     c.args.at c.args.id = ap (λ (n : ℕ). insert (kids_of c.args.arena.now c.in-Some.block) n c.args.id) (sym e)
-    ∙ gr_place c.args.arena.now c.args.root c.args.at c.args.id 0 (λ xs. insert_before xs c.args.at c.args.id) (before_is_edit c.args.at c.args.id) c.requires.growing c.in-Some.block up c.place_of-place.result.0 c.place_of-place.ensures.place in
-    let puts = PutsAt-from c.args.arena.now c.put_child.new.self c.in-Some.block c.place_of-place.result.0 c.args.id c.put_child.ensures.leaves c.put_child.ensures.puts
+    ∙ gr_place c.args.arena.now c.args.root c.args.at c.args.id 0 (λ xs. insert_before xs c.args.at c.args.id) (before_is_edit c.args.at c.args.id) c.requires.growing c.in-Some.block up c.child_place-place.result.0 c.child_place-place.ensures.place in
+    let puts = PutsAt-from c.args.arena.now c.put_child.new.self c.in-Some.block c.child_place-place.result.0 c.args.id c.put_child.ensures.leaves c.put_child.ensures.puts
     c.put_child.ensures.sound in
-    put_tree c.args.arena.now c.put_child.new.self c.args.root c.args.at c.args.id c.in-Some.block 0 (λ xs. insert_before xs c.args.at c.args.id) (before_is_edit c.args.at c.args.id) c.requires.growing up c.place_of-place.result.0 at_place puts
+    put_tree c.args.arena.now c.put_child.new.self c.args.root c.args.at c.args.id c.in-Some.block 0 (λ xs. insert_before xs c.args.at c.args.id) (before_is_edit c.args.at c.args.id) c.requires.growing up c.child_place-place.result.0 at_place puts
 
 pub returns-then-count-lt8-clause-stale : goal.returns-then-count-lt8-clause-stale
 returns-then-count-lt8-clause-stale g c =
     λ b q.
     let up : parent_of c.args.arena.now c.args.at ≡ Some c.in-Some.block = sym c.parent.ensures ∙ c.in-Some.is in
-    let e : c.place_of-place.result.0 + 0 ≡ c.place_of-place.result.0 = omega arith in
-    let at_place : insert (kids_of c.args.arena.now c.in-Some.block) c.place_of-place.result.0 c.args.id ≡ insert_before (kids_of c.args.arena.now c.in-Some.block)
+    let e : c.child_place-place.result.0 + 0 ≡ c.child_place-place.result.0 = omega arith in
+    let at_place : insert (kids_of c.args.arena.now c.in-Some.block) c.child_place-place.result.0 c.args.id ≡ insert_before (kids_of c.args.arena.now c.in-Some.block)
     c.args.at c.args.id = ap (λ (n : ℕ). insert (kids_of c.args.arena.now c.in-Some.block) n c.args.id) (sym e)
-    ∙ gr_place c.args.arena.now c.args.root c.args.at c.args.id 0 (λ xs. insert_before xs c.args.at c.args.id) (before_is_edit c.args.at c.args.id) c.requires.growing c.in-Some.block up c.place_of-place.result.0 c.place_of-place.ensures.place in
-    let puts = PutsAt-from c.args.arena.now c.put_child.new.self c.in-Some.block c.place_of-place.result.0 c.args.id c.put_child.ensures.leaves c.put_child.ensures.puts
+    ∙ gr_place c.args.arena.now c.args.root c.args.at c.args.id 0 (λ xs. insert_before xs c.args.at c.args.id) (before_is_edit c.args.at c.args.id) c.requires.growing c.in-Some.block up c.child_place-place.result.0 c.child_place-place.ensures.place in
+    let puts = PutsAt-from c.args.arena.now c.put_child.new.self c.in-Some.block c.child_place-place.result.0 c.args.id c.put_child.ensures.leaves c.put_child.ensures.puts
     c.put_child.ensures.sound in
-    put_block c.args.arena.now c.put_child.new.self c.args.root c.args.at c.args.id c.in-Some.block 0 (λ xs. insert_before xs c.args.at c.args.id) (before_is_edit c.args.at c.args.id) c.requires.growing up c.place_of-place.result.0 at_place puts b q
+    put_block c.args.arena.now c.put_child.new.self c.args.root c.args.at c.args.id c.in-Some.block 0 (λ xs. insert_before xs c.args.at c.args.id) (before_is_edit c.args.at c.args.id) c.requires.growing up c.child_place-place.result.0 at_place puts b q
 
 pub returns-then-count-lt8-clause-one : goal.returns-then-count-lt8-clause-one
 returns-then-count-lt8-clause-one g c =
     let up : parent_of c.args.arena.now c.args.at ≡ Some c.in-Some.block = sym c.parent.ensures ∙ c.in-Some.is in
-    let e : c.place_of-place.result.0 + 0 ≡ c.place_of-place.result.0 = omega arith in
-    let at_place : insert (kids_of c.args.arena.now c.in-Some.block) c.place_of-place.result.0 c.args.id ≡ insert_before (kids_of c.args.arena.now c.in-Some.block)
+    let e : c.child_place-place.result.0 + 0 ≡ c.child_place-place.result.0 = omega arith in
+    let at_place : insert (kids_of c.args.arena.now c.in-Some.block) c.child_place-place.result.0 c.args.id ≡ insert_before (kids_of c.args.arena.now c.in-Some.block)
     c.args.at c.args.id = ap (λ (n : ℕ). insert (kids_of c.args.arena.now c.in-Some.block) n c.args.id) (sym e)
-    ∙ gr_place c.args.arena.now c.args.root c.args.at c.args.id 0 (λ xs. insert_before xs c.args.at c.args.id) (before_is_edit c.args.at c.args.id) c.requires.growing c.in-Some.block up c.place_of-place.result.0 c.place_of-place.ensures.place in
-    let puts = PutsAt-from c.args.arena.now c.put_child.new.self c.in-Some.block c.place_of-place.result.0 c.args.id c.put_child.ensures.leaves c.put_child.ensures.puts
+    ∙ gr_place c.args.arena.now c.args.root c.args.at c.args.id 0 (λ xs. insert_before xs c.args.at c.args.id) (before_is_edit c.args.at c.args.id) c.requires.growing c.in-Some.block up c.child_place-place.result.0 c.child_place-place.ensures.place in
+    let puts = PutsAt-from c.args.arena.now c.put_child.new.self c.in-Some.block c.child_place-place.result.0 c.args.id c.put_child.ensures.leaves c.put_child.ensures.puts
     c.put_child.ensures.sound in
-    put_keeps NamesOne c.args.arena.now c.put_child.new.self c.in-Some.block c.place_of-place.result.0 c.args.id puts (subst (λ (o : Option ℕ). KeepsBut NamesOne c.args.arena.now o) up c.requires.one)
+    put_keeps NamesOne c.args.arena.now c.put_child.new.self c.in-Some.block c.child_place-place.result.0 c.args.id puts (subst (λ (o : Option ℕ). KeepsBut NamesOne c.args.arena.now o) up c.requires.one)
 
 pub returns-then-count-lt8-clause-last : goal.returns-then-count-lt8-clause-last
 returns-then-count-lt8-clause-last g c =
     let up : parent_of c.args.arena.now c.args.at ≡ Some c.in-Some.block = sym c.parent.ensures ∙ c.in-Some.is in
-    let e : c.place_of-place.result.0 + 0 ≡ c.place_of-place.result.0 = omega arith in
-    let at_place : insert (kids_of c.args.arena.now c.in-Some.block) c.place_of-place.result.0 c.args.id ≡ insert_before (kids_of c.args.arena.now c.in-Some.block)
+    let e : c.child_place-place.result.0 + 0 ≡ c.child_place-place.result.0 = omega arith in
+    let at_place : insert (kids_of c.args.arena.now c.in-Some.block) c.child_place-place.result.0 c.args.id ≡ insert_before (kids_of c.args.arena.now c.in-Some.block)
     c.args.at c.args.id = ap (λ (n : ℕ). insert (kids_of c.args.arena.now c.in-Some.block) n c.args.id) (sym e)
-    ∙ gr_place c.args.arena.now c.args.root c.args.at c.args.id 0 (λ xs. insert_before xs c.args.at c.args.id) (before_is_edit c.args.at c.args.id) c.requires.growing c.in-Some.block up c.place_of-place.result.0 c.place_of-place.ensures.place in
-    let puts = PutsAt-from c.args.arena.now c.put_child.new.self c.in-Some.block c.place_of-place.result.0 c.args.id c.put_child.ensures.leaves c.put_child.ensures.puts
+    ∙ gr_place c.args.arena.now c.args.root c.args.at c.args.id 0 (λ xs. insert_before xs c.args.at c.args.id) (before_is_edit c.args.at c.args.id) c.requires.growing c.in-Some.block up c.child_place-place.result.0 c.child_place-place.ensures.place in
+    let puts = PutsAt-from c.args.arena.now c.put_child.new.self c.in-Some.block c.child_place-place.result.0 c.args.id c.put_child.ensures.leaves c.put_child.ensures.puts
     c.put_child.ensures.sound in
-    put_keeps (NamesLast (g.P.Places.place_of c.args.places.now)) c.args.arena.now c.put_child.new.self c.in-Some.block c.place_of-place.result.0 c.args.id puts (subst (λ (o : Option ℕ). KeepsBut (NamesLast (g.P.Places.place_of c.args.places.now)) c.args.arena.now o) up c.requires.last)
+    put_keeps (NamesLast (g.P.Places.end_place c.args.places.now)) c.args.arena.now c.put_child.new.self c.in-Some.block c.child_place-place.result.0 c.args.id puts (subst (λ (o : Option ℕ). KeepsBut (NamesLast (g.P.Places.end_place c.args.places.now)) c.args.arena.now o) up c.requires.last)
 
 pub returns-then-count-lt8-clause-known : goal.returns-then-count-lt8-clause-known
 returns-then-count-lt8-clause-known g c =
@@ -75,40 +75,40 @@ pub split_put-rear-requires-clause-place : goal.split_put-rear-requires-clause-p
 split_put-rear-requires-clause-place g c =
     omega (
       arith,
-      slice_get_within (kids_of c.args.arena.now c.in-Some.block) c.place_of-place.result.0 c.args.at c.place_of-place.ensures.place,
+      slice_get_within (kids_of c.args.arena.now c.in-Some.block) c.child_place-place.result.0 c.args.at c.child_place-place.ensures.place,
       c.requires.growing.shape.forest.few c.in-Some.block,
     )
 
 pub grow-requires-clause-growing : goal.grow-requires-clause-growing
 grow-requires-clause-growing g c =
     let up : parent_of c.args.arena.now c.args.at ≡ Some c.in-Some.block = sym c.parent.ensures ∙ c.in-Some.is in
-    let e : c.place_of-place.result.0 + 0 ≡ c.place_of-place.result.0 = omega arith in
-    let at_place : insert (kids_of c.args.arena.now c.in-Some.block) c.place_of-place.result.0 c.args.id ≡ insert_before (kids_of c.args.arena.now c.in-Some.block)
+    let e : c.child_place-place.result.0 + 0 ≡ c.child_place-place.result.0 = omega arith in
+    let at_place : insert (kids_of c.args.arena.now c.in-Some.block) c.child_place-place.result.0 c.args.id ≡ insert_before (kids_of c.args.arena.now c.in-Some.block)
     c.args.at c.args.id = ap (λ (n : ℕ). insert (kids_of c.args.arena.now c.in-Some.block) n c.args.id) (sym e)
-    ∙ gr_place c.args.arena.now c.args.root c.args.at c.args.id 0 (λ xs. insert_before xs c.args.at c.args.id) (before_is_edit c.args.at c.args.id) c.requires.growing c.in-Some.block up c.place_of-place.result.0 c.place_of-place.ensures.place in
-    split_grows c.args.arena.now c.split_put-rear.new.arena c.args.root c.args.at c.args.id c.in-Some.block 0 (λ xs. insert_before xs c.args.at c.args.id) (before_is_edit c.args.at c.args.id) c.requires.growing up c.place_of-place.result.0 at_place c.split_put-rear.result c.split_put-rear.ensures.splits
+    ∙ gr_place c.args.arena.now c.args.root c.args.at c.args.id 0 (λ xs. insert_before xs c.args.at c.args.id) (before_is_edit c.args.at c.args.id) c.requires.growing c.in-Some.block up c.child_place-place.result.0 c.child_place-place.ensures.place in
+    split_grows c.args.arena.now c.split_put-rear.new.arena c.args.root c.args.at c.args.id c.in-Some.block 0 (λ xs. insert_before xs c.args.at c.args.id) (before_is_edit c.args.at c.args.id) c.requires.growing up c.child_place-place.result.0 at_place c.split_put-rear.result c.split_put-rear.ensures.splits
 
 pub grow-requires-clause-one : goal.grow-requires-clause-one
 grow-requires-clause-one g c =
     let up : parent_of c.args.arena.now c.args.at ≡ Some c.in-Some.block = sym c.parent.ensures ∙ c.in-Some.is in
-    let e : c.place_of-place.result.0 + 0 ≡ c.place_of-place.result.0 = omega arith in
-    let at_place : insert (kids_of c.args.arena.now c.in-Some.block) c.place_of-place.result.0 c.args.id ≡ insert_before (kids_of c.args.arena.now c.in-Some.block)
+    let e : c.child_place-place.result.0 + 0 ≡ c.child_place-place.result.0 = omega arith in
+    let at_place : insert (kids_of c.args.arena.now c.in-Some.block) c.child_place-place.result.0 c.args.id ≡ insert_before (kids_of c.args.arena.now c.in-Some.block)
     c.args.at c.args.id = ap (λ (n : ℕ). insert (kids_of c.args.arena.now c.in-Some.block) n c.args.id) (sym e)
-    ∙ gr_place c.args.arena.now c.args.root c.args.at c.args.id 0 (λ xs. insert_before xs c.args.at c.args.id) (before_is_edit c.args.at c.args.id) c.requires.growing c.in-Some.block up c.place_of-place.result.0 c.place_of-place.ensures.place in
-    let grows : IsGrowing c.split_put-rear.new.arena c.args.root c.in-Some.block c.split_put-rear.result (λ xs. insert_after xs c.in-Some.block c.split_put-rear.result) = split_grows c.args.arena.now c.split_put-rear.new.arena c.args.root c.args.at c.args.id c.in-Some.block 0 (λ xs. insert_before xs c.args.at c.args.id) (before_is_edit c.args.at c.args.id) c.requires.growing up c.place_of-place.result.0 at_place c.split_put-rear.result c.split_put-rear.ensures.splits in
-    split_keeps NamesOne c.args.arena.now c.split_put-rear.new.arena c.in-Some.block c.place_of-place.result.0 c.args.id c.split_put-rear.result c.split_put-rear.ensures.splits c.split_put-rear.ensures.one
+    ∙ gr_place c.args.arena.now c.args.root c.args.at c.args.id 0 (λ xs. insert_before xs c.args.at c.args.id) (before_is_edit c.args.at c.args.id) c.requires.growing c.in-Some.block up c.child_place-place.result.0 c.child_place-place.ensures.place in
+    let grows : IsGrowing c.split_put-rear.new.arena c.args.root c.in-Some.block c.split_put-rear.result (λ xs. insert_after xs c.in-Some.block c.split_put-rear.result) = split_grows c.args.arena.now c.split_put-rear.new.arena c.args.root c.args.at c.args.id c.in-Some.block 0 (λ xs. insert_before xs c.args.at c.args.id) (before_is_edit c.args.at c.args.id) c.requires.growing up c.child_place-place.result.0 at_place c.split_put-rear.result c.split_put-rear.ensures.splits in
+    split_keeps NamesOne c.args.arena.now c.split_put-rear.new.arena c.in-Some.block c.child_place-place.result.0 c.args.id c.split_put-rear.result c.split_put-rear.ensures.splits c.split_put-rear.ensures.one
     grows.new_top (subst (λ (o : Option ℕ). KeepsBut NamesOne c.args.arena.now o) up c.requires.one)
 
 pub grow-requires-clause-last : goal.grow-requires-clause-last
 grow-requires-clause-last g c =
     let up : parent_of c.args.arena.now c.args.at ≡ Some c.in-Some.block = sym c.parent.ensures ∙ c.in-Some.is in
-    let e : c.place_of-place.result.0 + 0 ≡ c.place_of-place.result.0 = omega arith in
-    let at_place : insert (kids_of c.args.arena.now c.in-Some.block) c.place_of-place.result.0 c.args.id ≡ insert_before (kids_of c.args.arena.now c.in-Some.block)
+    let e : c.child_place-place.result.0 + 0 ≡ c.child_place-place.result.0 = omega arith in
+    let at_place : insert (kids_of c.args.arena.now c.in-Some.block) c.child_place-place.result.0 c.args.id ≡ insert_before (kids_of c.args.arena.now c.in-Some.block)
     c.args.at c.args.id = ap (λ (n : ℕ). insert (kids_of c.args.arena.now c.in-Some.block) n c.args.id) (sym e)
-    ∙ gr_place c.args.arena.now c.args.root c.args.at c.args.id 0 (λ xs. insert_before xs c.args.at c.args.id) (before_is_edit c.args.at c.args.id) c.requires.growing c.in-Some.block up c.place_of-place.result.0 c.place_of-place.ensures.place in
-    let grows : IsGrowing c.split_put-rear.new.arena c.args.root c.in-Some.block c.split_put-rear.result (λ xs. insert_after xs c.in-Some.block c.split_put-rear.result) = split_grows c.args.arena.now c.split_put-rear.new.arena c.args.root c.args.at c.args.id c.in-Some.block 0 (λ xs. insert_before xs c.args.at c.args.id) (before_is_edit c.args.at c.args.id) c.requires.growing up c.place_of-place.result.0 at_place c.split_put-rear.result c.split_put-rear.ensures.splits in
-    split_keeps (NamesLast (g.P.Places.place_of c.args.places.now)) c.args.arena.now c.split_put-rear.new.arena c.in-Some.block c.place_of-place.result.0 c.args.id c.split_put-rear.result c.split_put-rear.ensures.splits c.split_put-rear.ensures.last
-    grows.new_top (subst (λ (o : Option ℕ). KeepsBut (NamesLast (g.P.Places.place_of c.args.places.now)) c.args.arena.now o) up c.requires.last)
+    ∙ gr_place c.args.arena.now c.args.root c.args.at c.args.id 0 (λ xs. insert_before xs c.args.at c.args.id) (before_is_edit c.args.at c.args.id) c.requires.growing c.in-Some.block up c.child_place-place.result.0 c.child_place-place.ensures.place in
+    let grows : IsGrowing c.split_put-rear.new.arena c.args.root c.in-Some.block c.split_put-rear.result (λ xs. insert_after xs c.in-Some.block c.split_put-rear.result) = split_grows c.args.arena.now c.split_put-rear.new.arena c.args.root c.args.at c.args.id c.in-Some.block 0 (λ xs. insert_before xs c.args.at c.args.id) (before_is_edit c.args.at c.args.id) c.requires.growing up c.child_place-place.result.0 at_place c.split_put-rear.result c.split_put-rear.ensures.splits in
+    split_keeps (NamesLast (g.P.Places.end_place c.args.places.now)) c.args.arena.now c.split_put-rear.new.arena c.in-Some.block c.child_place-place.result.0 c.args.id c.split_put-rear.result c.split_put-rear.ensures.splits c.split_put-rear.ensures.last
+    grows.new_top (subst (λ (o : Option ℕ). KeepsBut (NamesLast (g.P.Places.end_place c.args.places.now)) c.args.arena.now o) up c.requires.last)
 
 pub grow-requires-clause-known : goal.grow-requires-clause-known
 grow-requires-clause-known g c =
@@ -117,10 +117,10 @@ grow-requires-clause-known g c =
 pub grow-requires-clause-spare : goal.grow-requires-clause-spare
 grow-requires-clause-spare g c =
     let up : parent_of c.args.arena.now c.args.at ≡ Some c.in-Some.block = sym c.parent.ensures ∙ c.in-Some.is in
-    let e : c.place_of-place.result.0 + 0 ≡ c.place_of-place.result.0 = omega arith in
-    let at_place : insert (kids_of c.args.arena.now c.in-Some.block) c.place_of-place.result.0 c.args.id ≡ insert_before (kids_of c.args.arena.now c.in-Some.block)
+    let e : c.child_place-place.result.0 + 0 ≡ c.child_place-place.result.0 = omega arith in
+    let at_place : insert (kids_of c.args.arena.now c.in-Some.block) c.child_place-place.result.0 c.args.id ≡ insert_before (kids_of c.args.arena.now c.in-Some.block)
     c.args.at c.args.id = ap (λ (n : ℕ). insert (kids_of c.args.arena.now c.in-Some.block) n c.args.id) (sym e)
-    ∙ gr_place c.args.arena.now c.args.root c.args.at c.args.id 0 (λ xs. insert_before xs c.args.at c.args.id) (before_is_edit c.args.at c.args.id) c.requires.growing c.in-Some.block up c.place_of-place.result.0 c.place_of-place.ensures.place in
+    ∙ gr_place c.args.arena.now c.args.root c.args.at c.args.id 0 (λ xs. insert_before xs c.args.at c.args.id) (before_is_edit c.args.at c.args.id) c.requires.growing c.in-Some.block up c.child_place-place.result.0 c.child_place-place.ensures.place in
     let s = c.args.arena.now in
     let s' = c.split_put-rear.new.arena in
     let r = c.split_put-rear.ensures.splits in
@@ -135,10 +135,10 @@ grow-requires-clause-spare g c =
 pub grow-requires-clause-tall : goal.grow-requires-clause-tall
 grow-requires-clause-tall g c =
     let up : parent_of c.args.arena.now c.args.at ≡ Some c.in-Some.block = sym c.parent.ensures ∙ c.in-Some.is in
-    let e : c.place_of-place.result.0 + 0 ≡ c.place_of-place.result.0 = omega arith in
-    let at_place : insert (kids_of c.args.arena.now c.in-Some.block) c.place_of-place.result.0 c.args.id ≡ insert_before (kids_of c.args.arena.now c.in-Some.block)
+    let e : c.child_place-place.result.0 + 0 ≡ c.child_place-place.result.0 = omega arith in
+    let at_place : insert (kids_of c.args.arena.now c.in-Some.block) c.child_place-place.result.0 c.args.id ≡ insert_before (kids_of c.args.arena.now c.in-Some.block)
     c.args.at c.args.id = ap (λ (n : ℕ). insert (kids_of c.args.arena.now c.in-Some.block) n c.args.id) (sym e)
-    ∙ gr_place c.args.arena.now c.args.root c.args.at c.args.id 0 (λ xs. insert_before xs c.args.at c.args.id) (before_is_edit c.args.at c.args.id) c.requires.growing c.in-Some.block up c.place_of-place.result.0 c.place_of-place.ensures.place in
+    ∙ gr_place c.args.arena.now c.args.root c.args.at c.args.id 0 (λ xs. insert_before xs c.args.at c.args.id) (before_is_edit c.args.at c.args.id) c.requires.growing c.in-Some.block up c.child_place-place.result.0 c.child_place-place.ensures.place in
     let s = c.args.arena.now in
     let s' = c.split_put-rear.new.arena in
     let r = c.split_put-rear.ensures.splits in

@@ -17,7 +17,7 @@ pub grow-top-requires-clause-one : goal.grow-top-requires-clause-one
 grow-top-requires-clause-one g c = linked_keeps NamesOne c.args.arena.now c.link_after-id.new.self c.link_after-id.result c.args.item c.requires.tree.shape.forest c.link_after-id.ensures.fresh c.link_after-id.ensures.changes c.requires.one (parent_of c.link_after-id.new.self c.args.at)
 
 pub grow-top-requires-clause-last : goal.grow-top-requires-clause-last
-grow-top-requires-clause-last g c = linked_keeps (NamesLast (g.P.Places.place_of c.args.places.now)) c.args.arena.now c.link_after-id.new.self c.link_after-id.result c.args.item c.requires.tree.shape.forest c.link_after-id.ensures.fresh c.link_after-id.ensures.changes c.requires.last (parent_of c.link_after-id.new.self c.args.at)
+grow-top-requires-clause-last g c = linked_keeps (NamesLast (g.P.Places.end_place c.args.places.now)) c.args.arena.now c.link_after-id.new.self c.link_after-id.result c.args.item c.requires.tree.shape.forest c.link_after-id.ensures.fresh c.link_after-id.ensures.changes c.requires.last (parent_of c.link_after-id.new.self c.args.at)
 
 pub grow-top-requires-clause-known : goal.grow-top-requires-clause-known
 grow-top-requires-clause-known g c = linked_known (g.P.Places.Knows c.args.places.now) c.args.arena.now c.link_after-id.new.self c.link_after-id.result c.args.item c.link_after-id.ensures.changes c.requires.item c.requires.known

@@ -36,7 +36,7 @@ grow_front-top-requires-clause-one g c =
 
 pub grow_front-top-requires-clause-last : goal.grow_front-top-requires-clause-last
 grow_front-top-requires-clause-last g c =
-    linked_keeps (NamesLast (g.P.Places.place_of c.args.places.now)) c.args.arena.now c.link_after-id.new.self c.link_after-id.result c.args.item c.requires.tree.shape.forest c.link_after-id.ensures.fresh c.link_after-id.ensures.changes c.requires.last (parent_of c.link_after-id.new.self c.in-Some.first)
+    linked_keeps (NamesLast (g.P.Places.end_place c.args.places.now)) c.args.arena.now c.link_after-id.new.self c.link_after-id.result c.args.item c.requires.tree.shape.forest c.link_after-id.ensures.fresh c.link_after-id.ensures.changes c.requires.last (parent_of c.link_after-id.new.self c.in-Some.first)
 
 pub grow_front-top-requires-clause-known : goal.grow_front-top-requires-clause-known
 grow_front-top-requires-clause-known g c =

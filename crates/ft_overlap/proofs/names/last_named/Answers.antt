@@ -25,9 +25,9 @@ loop-kid-init g c =
     record {
       few = omega (arith, c.len-few.ensures.value, c.len-few.ensures.few);
       inside = c.requires.some;
-      place = c.end_of-last.ensures.place ∙ ap (λ (z : Item). g.P.Places.place_of c.args.at.now z.end) (sym c.end_of-last.ensures.item);
+      place = c.end_of-last.ensures.place ∙ ap (λ (z : Item). g.P.Places.end_place c.args.at.now z.end) (sym c.end_of-last.ensures.item);
       one = names_one s c.args.kids.now 0 first c.end_of-last.result.item there names;
-      last = last_first s (g.P.Places.place_of c.args.at.now) c.args.kids.now first c.end_of-last.result.item there names;
+      last = last_first s (g.P.Places.end_place c.args.at.now) c.args.kids.now first c.end_of-last.result.item there names;
     }
 
 pub read-requires-in-Some-get : goal.read-requires-in-Some-get
@@ -45,7 +45,7 @@ pub loop-kid-preserved : goal.loop-kid-preserved
 loop-kid-preserved g c =
     let s = c.args.arena.now in
     let kids = c.args.kids.now in
-    let place = g.P.Places.place_of c.args.at.now in
+    let place = g.P.Places.end_place c.args.at.now in
     let i = c.loop-kid.i in
     let kid = c.in-Some-get.kid in
     let last = c.loop-kid.last in
@@ -77,6 +77,6 @@ loop-kid-preserved g c =
 
 pub returns-clause-last : goal.returns-clause-last
 returns-clause-last g c =
-    let place = g.P.Places.place_of c.args.at.now in
+    let place = g.P.Places.end_place c.args.at.now in
     let none : slice_get c.args.kids.now c.loop-kid.i ≡ None = sym c.get-in-loop-kid.ensures ∙ c.in_default-get.is in
     last_all c.args.arena.now place c.args.kids.now c.loop-kid.i c.loop-kid.last.item none c.loop-kid.invariant.last

@@ -9,9 +9,9 @@ invariant-loop-kid g l =
     record {
       few : length l.kids ≤ 8;
       inside : l.i ≤ length l.kids;
-      place : l.last.place ≡ g.P.Places.place_of l.at l.last.item.end;
+      place : l.last.place ≡ g.P.Places.end_place l.at l.last.item.end;
       one : NamesOne l.last.item (map (told l.arena) l.kids);
-      last : IsLastOf l.arena (g.P.Places.place_of l.at) l.last.item (take l.i l.kids);
+      last : IsLastOf l.arena (g.P.Places.end_place l.at) l.last.item (take l.i l.kids);
     }
 
 abbrev pub decreases-loop-kid : goal.decreases-loop-kid

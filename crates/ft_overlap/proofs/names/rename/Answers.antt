@@ -38,8 +38,8 @@ returns-clause-last g c =
     let kids : kids_of s b ≡ c.in-Block.kids = ap kids_of_entry c.read.ensures.node ∙ ap kids_of_node c.in-Block.is in
     let value : block_value s b ≡ Some c.in-Block.value = ap block_of_entry c.read.ensures.node ∙ ap block_of_node c.in-Block.is in
     let shape : SameShape s (with_block s b w) = refreshed_shape s b c.in-Block.value w value refl c.requires.forest in
-    written_tells (NamesLast (g.P.Places.place_of c.args.at.now)) s b c.in-Block.value w value c.requires.apart (shape.kids b)
-    (subst (λ (ks : List ℕ). NamesLast (g.P.Places.place_of c.args.at.now) w.sum (map (told s) ks)) (sym kids) c.last_named-sum.ensures.last)
+    written_tells (NamesLast (g.P.Places.end_place c.args.at.now)) s b c.in-Block.value w value c.requires.apart (shape.kids b)
+    (subst (λ (ks : List ℕ). NamesLast (g.P.Places.end_place c.args.at.now) w.sum (map (told s) ks)) (sym kids) c.last_named-sum.ensures.last)
 
 pub returns-clause-known : goal.returns-clause-known
 returns-clause-known g c =

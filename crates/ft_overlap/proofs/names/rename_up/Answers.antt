@@ -53,9 +53,9 @@ up-preserved g c =
       known = c.rename.ensures.known;
       one = subst (λ (o : Option ℕ). KeepsBut NamesOne s' o) (sym c.parent-stale.ensures)
           (up_keeps NamesOne s s' b r c.rename.ensures.one (subst (λ (o : Option ℕ). KeepsBut NamesOne s o) c.in-Some.is i.one));
-      last = subst (λ (o : Option ℕ). KeepsBut (NamesLast (g.P.Places.place_of c.args.at.now)) s' o) (sym c.parent-stale.ensures)
-          (up_keeps (NamesLast (g.P.Places.place_of c.args.at.now)) s s' b r c.rename.ensures.last
-          (subst (λ (o : Option ℕ). KeepsBut (NamesLast (g.P.Places.place_of c.args.at.now)) s o) c.in-Some.is i.last));
+      last = subst (λ (o : Option ℕ). KeepsBut (NamesLast (g.P.Places.end_place c.args.at.now)) s' o) (sym c.parent-stale.ensures)
+          (up_keeps (NamesLast (g.P.Places.end_place c.args.at.now)) s s' b r c.rename.ensures.last
+          (subst (λ (o : Option ℕ). KeepsBut (NamesLast (g.P.Places.end_place c.args.at.now)) s o) c.in-Some.is i.last));
     }
 
 pub returns-clause-shape : goal.returns-clause-shape
@@ -65,4 +65,4 @@ pub returns-clause-one : goal.returns-clause-one
 returns-clause-one g c = subst (λ (o : Option ℕ). KeepsBut NamesOne c.up.arena o) c.in_default.is c.up.invariant.one
 
 pub returns-clause-last : goal.returns-clause-last
-returns-clause-last g c = subst (λ (o : Option ℕ). KeepsBut (NamesLast (g.P.Places.place_of c.args.at.now)) c.up.arena o) c.in_default.is c.up.invariant.last
+returns-clause-last g c = subst (λ (o : Option ℕ). KeepsBut (NamesLast (g.P.Places.end_place c.args.at.now)) c.up.arena o) c.in_default.is c.up.invariant.last

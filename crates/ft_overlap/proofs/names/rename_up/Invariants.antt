@@ -16,7 +16,7 @@ invariant-up g l =
       filled : (b : ℕ) → IsSome (block_value l.arena b) → 1 ≤ length (kids_of l.arena b);
       known : EndsKnown (g.P.Places.Knows l.at) l.arena;
       one : KeepsBut NamesOne l.arena l.stale;
-      last : KeepsBut (NamesLast (g.P.Places.place_of l.at)) l.arena l.stale;
+      last : KeepsBut (NamesLast (g.P.Places.end_place l.at)) l.arena l.stale;
     }
 
 abbrev pub decreases-up : goal.decreases-up

@@ -12,7 +12,7 @@ pub returns-in-Leaf : goal.returns-in-Leaf
 returns-in-Leaf g t c =
     let s = c.args.arena.now in
     let n = c.args.node in
-    let place = g.P.Places.place_of c.args.at.now in
+    let place = g.P.Places.end_place c.args.at.now in
     reached_place place c.args.start s n c.in-Leaf.value c.requires.reached (ap leaf_of_entry c.read.ensures.node ∙ ap leaf_of_node c.in-Leaf.is)
     (ap height_of_entry c.read.ensures.node ∙ ap height_of_node c.in-Leaf.is) c.requires.rising
 
@@ -30,7 +30,7 @@ child_by-child-requires-clause-kids g t c = ap kids_of_entry c.read.ensures.node
 
 pub child_by-child-requires-clause-first : goal.child_by-child-requires-clause-first
 child_by-child-requires-clause-first g t c =
-    let place = g.P.Places.place_of c.args.at.now in
+    let place = g.P.Places.end_place c.args.at.now in
     let is = to_z-of_z w64 c.args.start c.ranges.start in
     subst (λ (z : ℤ). IsStartedBy place z c.args.arena.now c.args.node) (sym is) c.requires.reached.first
 
@@ -38,7 +38,7 @@ pub place_below-requires : goal.place_below-requires
 place_below-requires g t c =
     let s = c.args.arena.now in
     let n = c.args.node in
-    let place = g.P.Places.place_of c.args.at.now in
+    let place = g.P.Places.end_place c.args.at.now in
     let kids : kids_of s n ≡ c.in-Block.kids = ap kids_of_entry c.read.ensures.node ∙ ap kids_of_node c.in-Block.is in
     let value : block_value s n ≡ Some c.in-Block.value = ap block_of_entry c.read.ensures.node ∙ ap block_of_node c.in-Block.is in
     let block : IsSome (block_value s n) = is_some_from (block_value s n) c.in-Block.value value in
@@ -58,6 +58,6 @@ place_below-requires g t c =
 
 pub returns-in-Block : goal.returns-in-Block
 returns-in-Block g t c =
-    let place = g.P.Places.place_of c.args.at.now in
+    let place = g.P.Places.end_place c.args.at.now in
     let is = to_z-of_z w64 c.args.start c.ranges.start in
     subst (λ (z : ℤ). IsPlaceFor place z c.args.arena.now (Some c.place_below.result)) is c.place_below.ensures

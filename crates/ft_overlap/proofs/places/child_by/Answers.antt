@@ -19,7 +19,7 @@ halves-init g c =
     let s = c.args.arena.now in
     let n = c.args._block in
     let kids = c.args.kids.now in
-    let place = g.P.Places.place_of c.args.at.now in
+    let place = g.P.Places.end_place c.args.at.now in
     let b = to_z w64 (of_z w64 c.args.start) in
     let is : b ≡ c.args.start = to_z-of_z w64 c.args.start c.ranges.start in
     let there : slice_get kids 0 ≡ Some c.in-Some.first = sym c.get.ensures ∙ c.in-Some.is in
@@ -66,7 +66,7 @@ pub halves-preserved-then-place-start : goal.halves-preserved-then-place-start
 halves-preserved-then-place-start g c =
     let s = c.args.arena.now in
     let kids = c.args.kids.now in
-    let place = g.P.Places.place_of c.args.at.now in
+    let place = g.P.Places.end_place c.args.at.now in
     let b = to_z w64 (of_z w64 c.args.start) in
     let is : b ≡ c.args.start = to_z-of_z w64 c.args.start c.ranges.start in
     let middle = c.halves.low + (c.halves.high - c.halves.low) / 2 in
@@ -86,7 +86,7 @@ halves-preserved-then-place-start g c =
 
 pub halves-preserved : goal.halves-preserved
 halves-preserved g c =
-    let place = g.P.Places.place_of c.args.at.now in
+    let place = g.P.Places.end_place c.args.at.now in
     let b = to_z w64 (of_z w64 c.args.start) in
     let is : b ≡ c.args.start = to_z-of_z w64 c.args.start c.ranges.start in
     let f = c.first_below.ensures in
@@ -110,7 +110,7 @@ returns g c =
     let s = c.args.arena.now in
     let n = c.args._block in
     let kids = c.args.kids.now in
-    let place = g.P.Places.place_of c.args.at.now in
+    let place = g.P.Places.end_place c.args.at.now in
     let b = to_z w64 (of_z w64 c.args.start) in
     let is : b ≡ c.args.start = to_z-of_z w64 c.args.start c.ranges.start in
     let last : c.halves.high ≡ c.halves.low + 1 = omega (arith, c.halves.invariant.order) in

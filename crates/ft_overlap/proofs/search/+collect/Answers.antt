@@ -17,7 +17,7 @@ pub returns-in-Leaf-clause-found : goal.returns-in-Leaf-clause-found
 returns-in-Leaf-clause-found g t c =
     let s = c.args.arena.now in
     let n = c.args.node in
-    let place = g.P.Places.place_of c.args.at.now in
+    let place = g.P.Places.end_place c.args.at.now in
     let high : height_of s n ≡ 0 = ap height_of_entry c.read.ensures.node ∙ ap height_of_node c.in-Leaf.is in
     let leaf : leaf_value s n ≡ Some c.in-Leaf.value = ap leaf_of_entry c.read.ensures.node ∙ ap leaf_of_node c.in-Leaf.is in
     let items : items_below s n ≡ c.in-Leaf.value ∷ [] = ap (λ (h : ℕ). items_under s h n) high ∙ ap (λ o. item_of o []) leaf in
@@ -30,7 +30,7 @@ pub returns-in-Leaf-clause-cheap : goal.returns-in-Leaf-clause-cheap
 returns-in-Leaf-clause-cheap g t c =
     let s = c.args.arena.now in
     let n = c.args.node in
-    let place = g.P.Places.place_of c.args.at.now in
+    let place = g.P.Places.end_place c.args.at.now in
     let high : height_of s n ≡ 0 = ap height_of_entry c.read.ensures.node ∙ ap height_of_node c.in-Leaf.is in
     let leaf : leaf_value s n ≡ Some c.in-Leaf.value = ap leaf_of_entry c.read.ensures.node ∙ ap leaf_of_node c.in-Leaf.is in
     let items : items_below s n ≡ c.in-Leaf.value ∷ [] = ap (λ (h : ℕ). items_under s h n) high ∙ ap (λ o. item_of o []) leaf in
@@ -41,7 +41,7 @@ pub place-requires : goal.place-requires
 place-requires g t c =
     let s = c.args.arena.now in
     let n = c.args.node in
-    let place = g.P.Places.place_of c.args.at.now in
+    let place = g.P.Places.end_place c.args.at.now in
     let kids : kids_of s n ≡ c.in-Block.kids = ap kids_of_entry c.read.ensures.node ∙ ap kids_of_node c.in-Block.is in
     let value : block_value s n ≡ Some c.in-Block.value = ap block_of_entry c.read.ensures.node ∙ ap block_of_node c.in-Block.is in
     (All-contains (λ x. g.P.Places.Knows c.args.at.now x.start × g.P.Places.Knows c.args.at.now x.end) (items_below s n) c.in-Block.value.sum c.requires.known
@@ -51,7 +51,7 @@ pub returns-then-place-range-clause-found : goal.returns-then-place-range-clause
 returns-then-place-range-clause-found g t c =
     let s = c.args.arena.now in
     let n = c.args.node in
-    let place = g.P.Places.place_of c.args.at.now in
+    let place = g.P.Places.end_place c.args.at.now in
     let kids : kids_of s n ≡ c.in-Block.kids = ap kids_of_entry c.read.ensures.node ∙ ap kids_of_node c.in-Block.is in
     let value : block_value s n ≡ Some c.in-Block.value = ap block_of_entry c.read.ensures.node ∙ ap block_of_node c.in-Block.is in
     subst (λ (k : ℕ). Collects place c.args.range.now.low c.args.range.now.high (items_below s n) (height_of s n) c.args.found.now.items c.args.found.now.items c.args.steps.now k true)
@@ -62,7 +62,7 @@ pub returns-then-place-range-clause-cheap : goal.returns-then-place-range-clause
 returns-then-place-range-clause-cheap g t c =
     let s = c.args.arena.now in
     let n = c.args.node in
-    let place = g.P.Places.place_of c.args.at.now in
+    let place = g.P.Places.end_place c.args.at.now in
     let kids : kids_of s n ≡ c.in-Block.kids = ap kids_of_entry c.read.ensures.node ∙ ap kids_of_node c.in-Block.is in
     let value : block_value s n ≡ Some c.in-Block.value = ap block_of_entry c.read.ensures.node ∙ ap block_of_node c.in-Block.is in
     subst (λ (k : ℕ). IsCheap (height_of s n) (length (keys_within place c.args.range.now.low c.args.range.now.high (items_below s n))) c.args.steps.now k) (sym c.read.ensures.tick)
@@ -72,7 +72,7 @@ pub loop-kid-init : goal.loop-kid-init
 loop-kid-init g t c =
     let s = c.args.arena.now in
     let n = c.args.node in
-    let place = g.P.Places.place_of c.args.at.now in
+    let place = g.P.Places.end_place c.args.at.now in
     let kids : kids_of s n ≡ c.in-Block.kids = ap kids_of_entry c.read.ensures.node ∙ ap kids_of_node c.in-Block.is in
     let value : block_value s n ≡ Some c.in-Block.value = ap block_of_entry c.read.ensures.node ∙ ap block_of_node c.in-Block.is in
     record {
@@ -86,7 +86,7 @@ pub collect-requires : goal.collect-requires
 collect-requires g t c =
     let s = c.args.arena.now in
     let n = c.args.node in
-    let place = g.P.Places.place_of c.args.at.now in
+    let place = g.P.Places.end_place c.args.at.now in
     let kids : kids_of s n ≡ c.in-Block.kids = ap kids_of_entry c.read.ensures.node ∙ ap kids_of_node c.in-Block.is in
     let value : block_value s n ≡ Some c.in-Block.value = ap block_of_entry c.read.ensures.node ∙ ap block_of_node c.in-Block.is in
     let there : slice_get c.in-Block.kids c.loop-kid.i ≡ Some c.in-Some.kid = sym c.get.ensures ∙ c.in-Some.is in
@@ -102,7 +102,7 @@ pub returns-in_err-collect-in-Block-clause-cheap : goal.returns-in_err-collect-i
 returns-in_err-collect-in-Block-clause-cheap g t c =
     let s = c.args.arena.now in
     let n = c.args.node in
-    let place = g.P.Places.place_of c.args.at.now in
+    let place = g.P.Places.end_place c.args.at.now in
     let kids : kids_of s n ≡ c.in-Block.kids = ap kids_of_entry c.read.ensures.node ∙ ap kids_of_node c.in-Block.is in
     let value : block_value s n ≡ Some c.in-Block.value = ap block_of_entry c.read.ensures.node ∙ ap block_of_node c.in-Block.is in
     let there : slice_get c.in-Block.kids c.loop-kid.i ≡ Some c.in-Some.kid = sym c.get.ensures ∙ c.in-Some.is in
@@ -112,7 +112,7 @@ pub returns-then-not-branch-clause-cheap : goal.returns-then-not-branch-clause-c
 returns-then-not-branch-clause-cheap g t c =
     let s = c.args.arena.now in
     let n = c.args.node in
-    let place = g.P.Places.place_of c.args.at.now in
+    let place = g.P.Places.end_place c.args.at.now in
     let kids : kids_of s n ≡ c.in-Block.kids = ap kids_of_entry c.read.ensures.node ∙ ap kids_of_node c.in-Block.is in
     let value : block_value s n ≡ Some c.in-Block.value = ap block_of_entry c.read.ensures.node ∙ ap block_of_node c.in-Block.is in
     let there : slice_get c.in-Block.kids c.loop-kid.i ≡ Some c.in-Some.kid = sym c.get.ensures ∙ c.in-Some.is in
@@ -122,7 +122,7 @@ pub returns-then-not-branch-clause-found : goal.returns-then-not-branch-clause-f
 returns-then-not-branch-clause-found g t c =
     let s = c.args.arena.now in
     let n = c.args.node in
-    let place = g.P.Places.place_of c.args.at.now in
+    let place = g.P.Places.end_place c.args.at.now in
     let kids : kids_of s n ≡ c.in-Block.kids = ap kids_of_entry c.read.ensures.node ∙ ap kids_of_node c.in-Block.is in
     let value : block_value s n ≡ Some c.in-Block.value = ap block_of_entry c.read.ensures.node ∙ ap block_of_node c.in-Block.is in
     let there : slice_get c.in-Block.kids c.loop-kid.i ≡ Some c.in-Some.kid = sym c.get.ensures ∙ c.in-Some.is in
@@ -141,7 +141,7 @@ pub loop-kid-preserved : goal.loop-kid-preserved
 loop-kid-preserved g t c =
     let s = c.args.arena.now in
     let n = c.args.node in
-    let place = g.P.Places.place_of c.args.at.now in
+    let place = g.P.Places.end_place c.args.at.now in
     let kids : kids_of s n ≡ c.in-Block.kids = ap kids_of_entry c.read.ensures.node ∙ ap kids_of_node c.in-Block.is in
     let value : block_value s n ≡ Some c.in-Block.value = ap block_of_entry c.read.ensures.node ∙ ap block_of_node c.in-Block.is in
     let there : slice_get c.in-Block.kids c.loop-kid.i ≡ Some c.in-Some.kid = sym c.get.ensures ∙ c.in-Some.is in
@@ -157,7 +157,7 @@ pub returns-in_default-clause-found : goal.returns-in_default-clause-found
 returns-in_default-clause-found g t c =
     let s = c.args.arena.now in
     let n = c.args.node in
-    let place = g.P.Places.place_of c.args.at.now in
+    let place = g.P.Places.end_place c.args.at.now in
     let kids : kids_of s n ≡ c.in-Block.kids = ap kids_of_entry c.read.ensures.node ∙ ap kids_of_node c.in-Block.is in
     let value : block_value s n ≡ Some c.in-Block.value = ap block_of_entry c.read.ensures.node ∙ ap block_of_node c.in-Block.is in
     b_end place c.args.range.now.low c.args.range.now.high s c.args._root n c.requires.tree c.in-Block.kids c.in-Block.value kids value c.loop-kid.i (sym c.get.ensures ∙ c.in_default.is) (omega (arith, c.loop-kid.invariant.few, c.loop-kid.invariant.inside)) c.args.found.now.items c.loop-kid.found.items c.args.steps.now c.read.new.steps c.loop-kid.steps c.read.ensures.tick c.loop-kid.invariant.state c.requires.named (subst (λ (z : ℤ). c.args.range.now.low ≤ℤ z) c.place.ensures (omega (arith, ints)))
@@ -166,7 +166,7 @@ pub returns-in_default-clause-cheap : goal.returns-in_default-clause-cheap
 returns-in_default-clause-cheap g t c =
     let s = c.args.arena.now in
     let n = c.args.node in
-    let place = g.P.Places.place_of c.args.at.now in
+    let place = g.P.Places.end_place c.args.at.now in
     let kids : kids_of s n ≡ c.in-Block.kids = ap kids_of_entry c.read.ensures.node ∙ ap kids_of_node c.in-Block.is in
     let value : block_value s n ≡ Some c.in-Block.value = ap block_of_entry c.read.ensures.node ∙ ap block_of_node c.in-Block.is in
     b_end_cheap place c.args.range.now.low c.args.range.now.high s c.args._root n c.requires.tree c.in-Block.kids c.in-Block.value kids value c.loop-kid.i (sym c.get.ensures ∙ c.in_default.is) (omega (arith, c.loop-kid.invariant.few, c.loop-kid.invariant.inside)) c.args.found.now.items c.loop-kid.found.items c.args.steps.now c.read.new.steps c.loop-kid.steps c.read.ensures.tick c.loop-kid.invariant.state

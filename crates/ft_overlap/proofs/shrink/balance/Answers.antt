@@ -89,8 +89,8 @@ returns-clause-last g c =
     c.regroup.new.arena c.rename.new.arena c.rename-2.new.arena _ c.regroup.ensures c.rename.ensures.shape c.rename-2.ensures.shape
     (omega (arith, c.count_of.ensures.value, c.count_of-2.ensures.value, c.requires.many))
     (omega (arith, c.count_of.ensures.value, c.count_of-2.ensures.value, c.requires.many)) in
-    let both = both_tell (NamesLast (g.P.Places.place_of c.args.at.now)) c.args.arena.now c.regroup.new.arena c.rename.new.arena c.rename-2.new.arena c.args.front c.args.rear c.rename.ensures.last
+    let both = both_tell (NamesLast (g.P.Places.end_place c.args.at.now)) c.args.arena.now c.regroup.new.arena c.rename.new.arena c.rename-2.new.arena c.args.front c.args.rear c.rename.ensures.last
     c.rename-2.ensures.shape c.rename-2.ensures.last c.requires.pair.differ
     (ap (λ ks. times ks c.args.rear) (c.rename.ensures.shape.kids c.args.front) ∙ rg_front_rear c.args.arena.now c.args.up c.args.front c.args.rear c.requires.forest c.requires.pair c.regroup.new.arena _ c.regroup.ensures)
     (λ x d. told_from_values c.args.arena.now c.regroup.new.arena x (c.regroup.ensures.leaf_values x) (c.regroup.ensures.block_values x)) in
-    pair_keeps (NamesLast (g.P.Places.place_of c.args.at.now)) c.args.arena.now c.rename-2.new.arena c.args.up c.args.front c.args.rear c.requires.forest c.requires.pair shares both c.requires.last
+    pair_keeps (NamesLast (g.P.Places.end_place c.args.at.now)) c.args.arena.now c.rename-2.new.arena c.args.up c.args.front c.args.rear c.requires.forest c.requires.pair shares both c.requires.last

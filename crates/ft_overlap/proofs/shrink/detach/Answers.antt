@@ -11,34 +11,34 @@ use Rattle.ft_overlap.proofs.shrink.detach.Goals as goal
 pub unreachable-requires : goal.unreachable-requires
 unreachable-requires g c = has_parent c.args.arena.now c.args.root c.args.id c.requires.tree c.requires.live (sym c.parent.ensures ∙ c.in_default.is)
 
-pub place_of-place-requires-clause-block : goal.place_of-place-requires-clause-block
-place_of-place-requires-clause-block g c =
+pub child_place-place-requires-clause-block : goal.child_place-place-requires-clause-block
+child_place-place-requires-clause-block g c =
     let up : parent_of c.args.arena.now c.args.id ≡ Some c.in-Some.block = sym c.parent.ensures ∙ c.in-Some.is in
     tk_up_block c.args.arena.now c.args.root c.args.id c.in-Some.block c.requires.tree up
 
-pub place_of-place-requires-clause-child : goal.place_of-place-requires-clause-child
-place_of-place-requires-clause-child g c =
+pub child_place-place-requires-clause-child : goal.child_place-place-requires-clause-child
+child_place-place-requires-clause-child g c =
     let up : parent_of c.args.arena.now c.args.id ≡ Some c.in-Some.block = sym c.parent.ensures ∙ c.in-Some.is in
     tk_child c.args.arena.now c.args.root c.args.id c.in-Some.block c.requires.tree up
 
 pub take_child-requires : goal.take_child-requires
-take_child-requires g c = slice_get_within (kids_of c.args.arena.now c.in-Some.block) c.place_of-place.result.0 c.args.id c.place_of-place.ensures.place
+take_child-requires g c = slice_get_within (kids_of c.args.arena.now c.in-Some.block) c.child_place-place.result.0 c.args.id c.child_place-place.ensures.place
 
 pub fill_up-top-requires-clause-apart : goal.fill_up-top-requires-clause-apart
 fill_up-top-requires-clause-apart g c =
     let up : parent_of c.args.arena.now c.args.id ≡ Some c.in-Some.block = sym c.parent.ensures ∙ c.in-Some.is in
-    let takes = took_id c.args.arena.now c.take_child.new.self c.in-Some.block c.place_of-place.result.0 c.args.id c.take_child.result c.place_of-place.ensures.place
+    let takes = took_id c.args.arena.now c.take_child.new.self c.in-Some.block c.child_place-place.result.0 c.args.id c.take_child.result c.child_place-place.ensures.place
     c.take_child.ensures.child c.take_child.ensures.takes in
-    taken_apart c.args.arena.now c.take_child.new.self c.args.root c.args.id c.in-Some.block c.place_of-place.result.0 c.requires.tree c.requires.live up
-    c.take_child.ensures.leaves c.take_child.ensures.sound c.place_of-place.ensures.place takes c.requires.more
+    taken_apart c.args.arena.now c.take_child.new.self c.args.root c.args.id c.in-Some.block c.child_place-place.result.0 c.requires.tree c.requires.live up
+    c.take_child.ensures.leaves c.take_child.ensures.sound c.child_place-place.ensures.place takes c.requires.more
 
 pub fill_up-top-requires-clause-block : goal.fill_up-top-requires-clause-block
 fill_up-top-requires-clause-block g c =
     let up : parent_of c.args.arena.now c.args.id ≡ Some c.in-Some.block = sym c.parent.ensures ∙ c.in-Some.is in
-    let takes = took_id c.args.arena.now c.take_child.new.self c.in-Some.block c.place_of-place.result.0 c.args.id c.take_child.result c.place_of-place.ensures.place
+    let takes = took_id c.args.arena.now c.take_child.new.self c.in-Some.block c.child_place-place.result.0 c.args.id c.take_child.result c.child_place-place.ensures.place
     c.take_child.ensures.child c.take_child.ensures.takes in
-    tk_p_block c.args.arena.now c.take_child.new.self c.args.root c.args.id c.in-Some.block c.place_of-place.result.0 c.requires.tree c.requires.live up
-    c.take_child.ensures.leaves c.take_child.ensures.sound c.place_of-place.ensures.place takes c.requires.more
+    tk_p_block c.args.arena.now c.take_child.new.self c.args.root c.args.id c.in-Some.block c.child_place-place.result.0 c.requires.tree c.requires.live up
+    c.take_child.ensures.leaves c.take_child.ensures.sound c.child_place-place.ensures.place takes c.requires.more
 
 pub fill_up-top-requires-clause-known : goal.fill_up-top-requires-clause-known
 fill_up-top-requires-clause-known g c = put_known (g.P.Places.Knows c.args.at.now) c.args.arena.now c.take_child.new.self c.take_child.ensures.takes.leaf_values
@@ -49,7 +49,7 @@ fill_up-top-requires-clause-one g c = kids_keep NamesOne c.args.arena.now c.take
     c.take_child.ensures.takes.block_values c.take_child.ensures.takes.other_kids c.requires.one
 
 pub fill_up-top-requires-clause-last : goal.fill_up-top-requires-clause-last
-fill_up-top-requires-clause-last g c = kids_keep (NamesLast (g.P.Places.place_of c.args.at.now)) c.args.arena.now c.take_child.new.self c.in-Some.block c.take_child.ensures.takes.leaf_values
+fill_up-top-requires-clause-last g c = kids_keep (NamesLast (g.P.Places.end_place c.args.at.now)) c.args.arena.now c.take_child.new.self c.in-Some.block c.take_child.ensures.takes.leaf_values
     c.take_child.ensures.takes.block_values c.take_child.ensures.takes.other_kids c.requires.last
 
 pub rename_up-requires-clause-tree : goal.rename_up-requires-clause-tree

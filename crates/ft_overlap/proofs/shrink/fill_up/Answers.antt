@@ -16,13 +16,13 @@ pub returns-then-count_of-ge4-clause-apart : goal.returns-then-count_of-ge4-clau
 returns-then-count_of-ge4-clause-apart g c =
     apart_full c.up.arena c.args.root c.args._id c.up.block c.up.invariant.apart (omega (arith, c.count_of.ensures.value, c.if-count_of-ge4.true))
 
-pub place_of-place-requires-clause-block : goal.place_of-place-requires-clause-block
-place_of-place-requires-clause-block g c =
+pub child_place-place-requires-clause-block : goal.child_place-place-requires-clause-block
+child_place-place-requires-clause-block g c =
     let up : parent_of c.up.arena c.up.block ≡ Some c.in-Some.up = sym c.parent.ensures ∙ c.in-Some.is in
     fl_up_block c.up.arena c.args.root c.args._id c.up.block c.up.invariant.apart c.in-Some.up up
 
-pub place_of-place-requires-clause-child : goal.place_of-place-requires-clause-child
-place_of-place-requires-clause-child g c =
+pub child_place-place-requires-clause-child : goal.child_place-place-requires-clause-child
+child_place-place-requires-clause-child g c =
     let up : parent_of c.up.arena c.up.block ≡ Some c.in-Some.up = sym c.parent.ensures ∙ c.in-Some.is in
     fl_child c.up.arena c.args.root c.args._id c.up.block c.up.invariant.apart c.in-Some.up up
 
@@ -34,14 +34,14 @@ drop_root-top-requires-clause-block g c =
 pub drop_root-top-requires-clause-top : goal.drop_root-top-requires-clause-top
 drop_root-top-requires-clause-top g c =
     let up : parent_of c.up.arena c.up.block ≡ Some c.in-Some.up = sym c.parent.ensures ∙ c.in-Some.is in
-    let few : length (kids_of c.up.arena c.in-Some.up) ≤ 3 = omega (arith, c.place_of-place.ensures.count, c.if-count-eq1.true) in
+    let few : length (kids_of c.up.arena c.in-Some.up) ≤ 3 = omega (arith, c.child_place-place.ensures.count, c.if-count-eq1.true) in
     let is_root : c.in-Some.up ≡ c.args.root = fl_root c.up.arena c.args.root c.args._id c.up.block c.up.invariant.apart c.in-Some.up up few in
     ap (parent_of c.up.arena) is_root ∙ c.up.invariant.apart.shape.root_is_top
 
 pub returns-then-count-eq1-clause-apart : goal.returns-then-count-eq1-clause-apart
 returns-then-count-eq1-clause-apart g c =
     let up : parent_of c.up.arena c.up.block ≡ Some c.in-Some.up = sym c.parent.ensures ∙ c.in-Some.is in
-    let few : length (kids_of c.up.arena c.in-Some.up) ≤ 3 = omega (arith, c.place_of-place.ensures.count, c.if-count-eq1.true) in
+    let few : length (kids_of c.up.arena c.in-Some.up) ≤ 3 = omega (arith, c.child_place-place.ensures.count, c.if-count-eq1.true) in
     let is_root : c.in-Some.up ≡ c.args.root = fl_root c.up.arena c.args.root c.args._id c.up.block c.up.invariant.apart c.in-Some.up up few in
     let drops : DropsRoot c.up.arena c.drop_root-top.new.arena c.args.root c.drop_root-top.result =
     subst (λ (z : ℕ). DropsRoot c.up.arena c.drop_root-top.new.arena z c.drop_root-top.result) is_root c.drop_root-top.ensures in
@@ -65,7 +65,7 @@ child_at-front-requires-clause-block g c =
     fl_up_block c.up.arena c.args.root c.args._id c.up.block c.up.invariant.apart c.in-Some.up up
 
 pub child_at-front-requires-clause-place : goal.child_at-front-requires-clause-place
-child_at-front-requires-clause-place g c = omega (arith, slice_get_within (kids_of c.up.arena c.in-Some.up) c.place_of-place.result.0 c.up.block c.place_of-place.ensures.place)
+child_at-front-requires-clause-place g c = omega (arith, slice_get_within (kids_of c.up.arena c.in-Some.up) c.child_place-place.result.0 c.up.block c.child_place-place.ensures.place)
 
 pub child_at-rear-requires-clause-block : goal.child_at-rear-requires-clause-block
 child_at-rear-requires-clause-block g c =
@@ -76,8 +76,8 @@ pub child_at-rear-requires-clause-place : goal.child_at-rear-requires-clause-pla
 child_at-rear-requires-clause-place g c =
     omega (
       arith,
-      slice_get_within (kids_of c.up.arena c.in-Some.up) c.place_of-place.result.0 c.up.block c.place_of-place.ensures.place,
-      c.place_of-place.ensures.count,
+      slice_get_within (kids_of c.up.arena c.in-Some.up) c.child_place-place.result.0 c.up.block c.child_place-place.ensures.place,
+      c.child_place-place.ensures.count,
       c.if-count-eq1.false,
     )
 
@@ -112,8 +112,8 @@ returns-then-many-gt8-clause-apart g c =
     c.child_at-rear.result c.child_at-front.ensures c.child_at-rear.ensures in
     apart_with c.balance.new.arena c.args.root c.args._id c.in-Some.up
     (share_apart c.up.arena c.balance.new.arena c.args.root c.args._id c.in-Some.up c.child_at-front.result c.child_at-rear.result c.up.block c.up.invariant.apart
-    pair.front_up pair.rear_up pair.differ (fl_short c.up.arena c.args.root c.args._id c.up.block c.up.invariant.apart c.in-Some.up up c.place_of-place.result.0 _
-    c.child_at-front.result c.child_at-rear.result c.place_of-place.ensures.place (omega arith) c.child_at-front.ensures c.child_at-rear.ensures)
+    pair.front_up pair.rear_up pair.differ (fl_short c.up.arena c.args.root c.args._id c.up.block c.up.invariant.apart c.in-Some.up up c.child_place-place.result.0 _
+    c.child_at-front.result c.child_at-rear.result c.child_place-place.ensures.place (omega arith) c.child_at-front.ensures c.child_at-rear.ensures)
     (fl_two c.up.arena c.args.root c.args._id c.up.block c.up.invariant.apart c.in-Some.up up c.up.invariant.block) c.balance.ensures.shares)
     (λ b e d. omega (
       arith,
@@ -198,7 +198,7 @@ returns-clause-block g c = c.up.invariant.block
 pub returns-then-count-eq1-clause-block : goal.returns-then-count-eq1-clause-block
 returns-then-count-eq1-clause-block g c =
     let up : parent_of c.up.arena c.up.block ≡ Some c.in-Some.up = sym c.parent.ensures ∙ c.in-Some.is in
-    let few : length (kids_of c.up.arena c.in-Some.up) ≤ 3 = omega (arith, c.place_of-place.ensures.count, c.if-count-eq1.true) in
+    let few : length (kids_of c.up.arena c.in-Some.up) ≤ 3 = omega (arith, c.child_place-place.ensures.count, c.if-count-eq1.true) in
     let is_root : c.in-Some.up ≡ c.args.root = fl_root c.up.arena c.args.root c.args._id c.up.block c.up.invariant.apart c.in-Some.up up few in
     let drops : DropsRoot c.up.arena c.drop_root-top.new.arena c.args.root c.drop_root-top.result =
     subst (λ (z : ℕ). DropsRoot c.up.arena c.drop_root-top.new.arena z c.drop_root-top.result) is_root c.drop_root-top.ensures in
@@ -218,7 +218,7 @@ returns-then-count-eq1-clause-known g c =
 pub returns-then-count-eq1-clause-one : goal.returns-then-count-eq1-clause-one
 returns-then-count-eq1-clause-one g c =
     let up : parent_of c.up.arena c.up.block ≡ Some c.in-Some.up = sym c.parent.ensures ∙ c.in-Some.is in
-    let few : length (kids_of c.up.arena c.in-Some.up) ≤ 3 = omega (arith, c.place_of-place.ensures.count, c.if-count-eq1.true) in
+    let few : length (kids_of c.up.arena c.in-Some.up) ≤ 3 = omega (arith, c.child_place-place.ensures.count, c.if-count-eq1.true) in
     let is_root : c.in-Some.up ≡ c.args.root = fl_root c.up.arena c.args.root c.args._id c.up.block c.up.invariant.apart c.in-Some.up up few in
     let drops : DropsRoot c.up.arena c.drop_root-top.new.arena c.args.root c.drop_root-top.result =
     subst (λ (z : ℕ). DropsRoot c.up.arena c.drop_root-top.new.arena z c.drop_root-top.result) is_root c.drop_root-top.ensures in
@@ -231,15 +231,15 @@ returns-then-count-eq1-clause-one g c =
 pub returns-then-count-eq1-clause-last : goal.returns-then-count-eq1-clause-last
 returns-then-count-eq1-clause-last g c =
     let up : parent_of c.up.arena c.up.block ≡ Some c.in-Some.up = sym c.parent.ensures ∙ c.in-Some.is in
-    let few : length (kids_of c.up.arena c.in-Some.up) ≤ 3 = omega (arith, c.place_of-place.ensures.count, c.if-count-eq1.true) in
+    let few : length (kids_of c.up.arena c.in-Some.up) ≤ 3 = omega (arith, c.child_place-place.ensures.count, c.if-count-eq1.true) in
     let is_root : c.in-Some.up ≡ c.args.root = fl_root c.up.arena c.args.root c.args._id c.up.block c.up.invariant.apart c.in-Some.up up few in
     let drops : DropsRoot c.up.arena c.drop_root-top.new.arena c.args.root c.drop_root-top.result =
     subst (λ (z : ℕ). DropsRoot c.up.arena c.drop_root-top.new.arena z c.drop_root-top.result) is_root c.drop_root-top.ensures in
     let is_top : c.up.block ≡ c.drop_root-top.result =
     fl_only c.up.arena c.args.root c.args._id c.up.block c.up.invariant.apart c.in-Some.up up c.drop_root-top.result (ap (kids_of c.up.arena) is_root ∙ drops.kids) in
-    gone_keeps (NamesLast (g.P.Places.place_of c.args.at.now)) c.up.arena c.drop_root-top.new.arena c.in-Some.up (Some c.drop_root-top.result) c.drop_root-top.ensures.forest c.drop_root-top.ensures.gone
+    gone_keeps (NamesLast (g.P.Places.end_place c.args.at.now)) c.up.arena c.drop_root-top.new.arena c.in-Some.up (Some c.drop_root-top.result) c.drop_root-top.ensures.forest c.drop_root-top.ensures.gone
     (λ x d. told_from_values c.up.arena c.drop_root-top.new.arena x (c.drop_root-top.ensures.leaf_values x) (c.drop_root-top.ensures.block_values x d))
-    c.drop_root-top.ensures.other_kids (subst (λ (z : ℕ). KeepsBut (NamesLast (g.P.Places.place_of c.args.at.now)) c.up.arena (Some z)) is_top c.up.invariant.last)
+    c.drop_root-top.ensures.other_kids (subst (λ (z : ℕ). KeepsBut (NamesLast (g.P.Places.end_place c.args.at.now)) c.up.arena (Some z)) is_top c.up.invariant.last)
 
 pub returns-then-many-gt8-clause-block : goal.returns-then-many-gt8-clause-block
 returns-then-many-gt8-clause-block g c =
@@ -247,23 +247,23 @@ returns-then-many-gt8-clause-block g c =
     let pair = fl_pair c.up.arena c.args.root c.args._id c.up.block c.up.invariant.apart c.in-Some.up up c.up.invariant.block _ c.child_at-front.result
     c.child_at-rear.result c.child_at-front.ensures c.child_at-rear.ensures in
     share_block c.up.arena c.balance.new.arena c.args.root c.args._id c.in-Some.up c.child_at-front.result c.child_at-rear.result c.up.block c.up.invariant.apart
-    pair.front_up pair.rear_up pair.differ (fl_short c.up.arena c.args.root c.args._id c.up.block c.up.invariant.apart c.in-Some.up up c.place_of-place.result.0 _
-    c.child_at-front.result c.child_at-rear.result c.place_of-place.ensures.place (omega arith) c.child_at-front.ensures c.child_at-rear.ensures)
+    pair.front_up pair.rear_up pair.differ (fl_short c.up.arena c.args.root c.args._id c.up.block c.up.invariant.apart c.in-Some.up up c.child_place-place.result.0 _
+    c.child_at-front.result c.child_at-rear.result c.child_place-place.ensures.place (omega arith) c.child_at-front.ensures c.child_at-rear.ensures)
     (fl_two c.up.arena c.args.root c.args._id c.up.block c.up.invariant.apart c.in-Some.up up c.up.invariant.block) c.balance.ensures.shares
 
 pub balance-requires-clause-one : goal.balance-requires-clause-one
 balance-requires-clause-one g c =
     let up : parent_of c.up.arena c.up.block ≡ Some c.in-Some.up = sym c.parent.ensures ∙ c.in-Some.is in
     but_both NamesOne c.up.arena c.up.block c.child_at-front.result c.child_at-rear.result
-    (fl_short c.up.arena c.args.root c.args._id c.up.block c.up.invariant.apart c.in-Some.up up c.place_of-place.result.0 _
-    c.child_at-front.result c.child_at-rear.result c.place_of-place.ensures.place (omega arith) c.child_at-front.ensures c.child_at-rear.ensures) c.up.invariant.one
+    (fl_short c.up.arena c.args.root c.args._id c.up.block c.up.invariant.apart c.in-Some.up up c.child_place-place.result.0 _
+    c.child_at-front.result c.child_at-rear.result c.child_place-place.ensures.place (omega arith) c.child_at-front.ensures c.child_at-rear.ensures) c.up.invariant.one
 
 pub balance-requires-clause-last : goal.balance-requires-clause-last
 balance-requires-clause-last g c =
     let up : parent_of c.up.arena c.up.block ≡ Some c.in-Some.up = sym c.parent.ensures ∙ c.in-Some.is in
-    but_both (NamesLast (g.P.Places.place_of c.args.at.now)) c.up.arena c.up.block c.child_at-front.result c.child_at-rear.result
-    (fl_short c.up.arena c.args.root c.args._id c.up.block c.up.invariant.apart c.in-Some.up up c.place_of-place.result.0 _
-    c.child_at-front.result c.child_at-rear.result c.place_of-place.ensures.place (omega arith) c.child_at-front.ensures c.child_at-rear.ensures) c.up.invariant.last
+    but_both (NamesLast (g.P.Places.end_place c.args.at.now)) c.up.arena c.up.block c.child_at-front.result c.child_at-rear.result
+    (fl_short c.up.arena c.args.root c.args._id c.up.block c.up.invariant.apart c.in-Some.up up c.child_place-place.result.0 _
+    c.child_at-front.result c.child_at-rear.result c.child_place-place.ensures.place (omega arith) c.child_at-front.ensures c.child_at-rear.ensures) c.up.invariant.last
 
 pub balance-requires-clause-known : goal.balance-requires-clause-known
 balance-requires-clause-known g c = c.up.invariant.known
@@ -272,15 +272,15 @@ pub merge-requires-clause-one : goal.merge-requires-clause-one
 merge-requires-clause-one g c =
     let up : parent_of c.up.arena c.up.block ≡ Some c.in-Some.up = sym c.parent.ensures ∙ c.in-Some.is in
     but_both NamesOne c.up.arena c.up.block c.child_at-front.result c.child_at-rear.result
-    (fl_short c.up.arena c.args.root c.args._id c.up.block c.up.invariant.apart c.in-Some.up up c.place_of-place.result.0 _
-    c.child_at-front.result c.child_at-rear.result c.place_of-place.ensures.place (omega arith) c.child_at-front.ensures c.child_at-rear.ensures) c.up.invariant.one
+    (fl_short c.up.arena c.args.root c.args._id c.up.block c.up.invariant.apart c.in-Some.up up c.child_place-place.result.0 _
+    c.child_at-front.result c.child_at-rear.result c.child_place-place.ensures.place (omega arith) c.child_at-front.ensures c.child_at-rear.ensures) c.up.invariant.one
 
 pub merge-requires-clause-last : goal.merge-requires-clause-last
 merge-requires-clause-last g c =
     let up : parent_of c.up.arena c.up.block ≡ Some c.in-Some.up = sym c.parent.ensures ∙ c.in-Some.is in
-    but_both (NamesLast (g.P.Places.place_of c.args.at.now)) c.up.arena c.up.block c.child_at-front.result c.child_at-rear.result
-    (fl_short c.up.arena c.args.root c.args._id c.up.block c.up.invariant.apart c.in-Some.up up c.place_of-place.result.0 _
-    c.child_at-front.result c.child_at-rear.result c.place_of-place.ensures.place (omega arith) c.child_at-front.ensures c.child_at-rear.ensures) c.up.invariant.last
+    but_both (NamesLast (g.P.Places.end_place c.args.at.now)) c.up.arena c.up.block c.child_at-front.result c.child_at-rear.result
+    (fl_short c.up.arena c.args.root c.args._id c.up.block c.up.invariant.apart c.in-Some.up up c.child_place-place.result.0 _
+    c.child_at-front.result c.child_at-rear.result c.child_place-place.ensures.place (omega arith) c.child_at-front.ensures c.child_at-rear.ensures) c.up.invariant.last
 
 pub merge-requires-clause-known : goal.merge-requires-clause-known
 merge-requires-clause-known g c = c.up.invariant.known
@@ -303,15 +303,15 @@ up-smaller g c =
     let pair = fl_pair c.up.arena c.args.root c.args._id c.up.block c.up.invariant.apart c.in-Some.up up c.up.invariant.block _ c.child_at-front.result
     c.child_at-rear.result c.child_at-front.ensures c.child_at-rear.ensures in
     let h = share_up_high c.up.arena c.merge.new.arena c.args.root c.args._id c.in-Some.up c.child_at-front.result c.child_at-rear.result c.up.block c.up.invariant.apart
-    pair.front_up pair.rear_up pair.differ (fl_short c.up.arena c.args.root c.args._id c.up.block c.up.invariant.apart c.in-Some.up up c.place_of-place.result.0 _
-    c.child_at-front.result c.child_at-rear.result c.place_of-place.ensures.place (omega arith) c.child_at-front.ensures c.child_at-rear.ensures)
+    pair.front_up pair.rear_up pair.differ (fl_short c.up.arena c.args.root c.args._id c.up.block c.up.invariant.apart c.in-Some.up up c.child_place-place.result.0 _
+    c.child_at-front.result c.child_at-rear.result c.child_place-place.ensures.place (omega arith) c.child_at-front.ensures c.child_at-rear.ensures)
     (fl_two c.up.arena c.args.root c.args._id c.up.block c.up.invariant.apart c.in-Some.up up c.up.invariant.block) c.merge.ensures.shares in
     let one : height_of c.up.arena c.in-Some.up ≡ height_of c.up.arena c.up.block + 1 = c.up.invariant.apart.shape.heights c.up.block c.in-Some.up up in
     let low = c.up.invariant.apart.shape.low c.in-Some.up
     (block_live (entry c.up.arena c.in-Some.up) (fl_up_block c.up.arena c.args.root c.args._id c.up.block c.up.invariant.apart c.in-Some.up up)) in
     let root_high = share_high c.up.arena c.merge.new.arena c.args.root c.args._id c.in-Some.up c.child_at-front.result c.child_at-rear.result c.up.block c.up.invariant.apart
-    pair.front_up pair.rear_up pair.differ (fl_short c.up.arena c.args.root c.args._id c.up.block c.up.invariant.apart c.in-Some.up up c.place_of-place.result.0 _
-    c.child_at-front.result c.child_at-rear.result c.place_of-place.ensures.place (omega arith) c.child_at-front.ensures c.child_at-rear.ensures)
+    pair.front_up pair.rear_up pair.differ (fl_short c.up.arena c.args.root c.args._id c.up.block c.up.invariant.apart c.in-Some.up up c.child_place-place.result.0 _
+    c.child_at-front.result c.child_at-rear.result c.child_place-place.ensures.place (omega arith) c.child_at-front.ensures c.child_at-rear.ensures)
     (fl_two c.up.arena c.args.root c.args._id c.up.block c.up.invariant.apart c.in-Some.up up c.up.invariant.block) c.merge.ensures.shares in
     omega (arith, h, one, low, root_high)
 
@@ -322,12 +322,12 @@ up-preserved g c =
     c.child_at-rear.result c.child_at-front.ensures c.child_at-rear.ensures in
     record {
       apart = share_apart c.up.arena c.merge.new.arena c.args.root c.args._id c.in-Some.up c.child_at-front.result c.child_at-rear.result c.up.block c.up.invariant.apart
-          pair.front_up pair.rear_up pair.differ (fl_short c.up.arena c.args.root c.args._id c.up.block c.up.invariant.apart c.in-Some.up up c.place_of-place.result.0 _
-          c.child_at-front.result c.child_at-rear.result c.place_of-place.ensures.place (omega arith) c.child_at-front.ensures c.child_at-rear.ensures)
+          pair.front_up pair.rear_up pair.differ (fl_short c.up.arena c.args.root c.args._id c.up.block c.up.invariant.apart c.in-Some.up up c.child_place-place.result.0 _
+          c.child_at-front.result c.child_at-rear.result c.child_place-place.ensures.place (omega arith) c.child_at-front.ensures c.child_at-rear.ensures)
           (fl_two c.up.arena c.args.root c.args._id c.up.block c.up.invariant.apart c.in-Some.up up c.up.invariant.block) c.merge.ensures.shares;
       block = share_block c.up.arena c.merge.new.arena c.args.root c.args._id c.in-Some.up c.child_at-front.result c.child_at-rear.result c.up.block c.up.invariant.apart
-          pair.front_up pair.rear_up pair.differ (fl_short c.up.arena c.args.root c.args._id c.up.block c.up.invariant.apart c.in-Some.up up c.place_of-place.result.0 _
-          c.child_at-front.result c.child_at-rear.result c.place_of-place.ensures.place (omega arith) c.child_at-front.ensures c.child_at-rear.ensures)
+          pair.front_up pair.rear_up pair.differ (fl_short c.up.arena c.args.root c.args._id c.up.block c.up.invariant.apart c.in-Some.up up c.child_place-place.result.0 _
+          c.child_at-front.result c.child_at-rear.result c.child_place-place.ensures.place (omega arith) c.child_at-front.ensures c.child_at-rear.ensures)
           (fl_two c.up.arena c.args.root c.args._id c.up.block c.up.invariant.apart c.in-Some.up up c.up.invariant.block) c.merge.ensures.shares;
       known = c.merge.ensures.known;
       one = c.merge.ensures.one;

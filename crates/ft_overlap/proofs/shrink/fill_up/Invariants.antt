@@ -12,7 +12,7 @@ invariant-up g l =
       block : IsSome (block_value l.arena l.block);
       known : EndsKnown (g.P.Places.Knows l.at) l.arena;
       one : KeepsBut NamesOne l.arena (Some l.block);
-      last : KeepsBut (NamesLast (g.P.Places.place_of l.at)) l.arena (Some l.block);
+      last : KeepsBut (NamesLast (g.P.Places.end_place l.at)) l.arena (Some l.block);
       leaves : l.arena.leaves ≡ l.initial.arena.leaves;
       leaf_values : (x : ℕ) → leaf_value l.arena x ≡ leaf_value l.initial.arena x;
     }

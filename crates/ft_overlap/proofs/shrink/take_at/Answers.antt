@@ -18,10 +18,10 @@ pub returns-clause-one : goal.returns-clause-one
 returns-clause-one g c = unlinked_keeps NamesOne c.detach-top.new.arena c.unlink.new.self c.args.id c.unlink.ensures.sound c.unlink.ensures.changes c.detach-top.ensures.one
 
 pub returns-then-is_only-clause-last : goal.returns-then-is_only-clause-last
-returns-then-is_only-clause-last g c = bare_keeps (NamesLast (g.P.Places.place_of c.args.at.now)) c.take_last.new.arena c.take_last.ensures.bare None
+returns-then-is_only-clause-last g c = bare_keeps (NamesLast (g.P.Places.end_place c.args.at.now)) c.take_last.new.arena c.take_last.ensures.bare None
 
 pub returns-clause-last : goal.returns-clause-last
-returns-clause-last g c = unlinked_keeps (NamesLast (g.P.Places.place_of c.args.at.now)) c.detach-top.new.arena c.unlink.new.self c.args.id c.unlink.ensures.sound c.unlink.ensures.changes c.detach-top.ensures.last
+returns-clause-last g c = unlinked_keeps (NamesLast (g.P.Places.end_place c.args.at.now)) c.detach-top.new.arena c.unlink.new.self c.args.id c.unlink.ensures.sound c.unlink.ensures.changes c.detach-top.ensures.last
 
 pub returns-clause-rooted : goal.returns-clause-rooted
 returns-clause-rooted g c = subst (λ (z : ℕ). IsTree c.unlink.new.self z) (sym c.top.view_is)

@@ -6,7 +6,7 @@ use Rattle.ft_plain_lists.proofs.scans.mark_range.Given as goal
 abbrev pub invariant-loop-e : goal.invariant-loop-e
 invariant-loop-e g l =
     let seen = g.T.ElementTest.test l.seen in
-    let marked = g.M.Mark.marked l.mark in
+    let marked = g.M.ElementMark.marked l.mark in
     record {
       counted : l.place ≤ l.e-index;
       rest : drop l.e-index l.items ≡ drop l.e-index l.initial.items;

@@ -5,7 +5,7 @@ use Rattle.ft_tree_leaves.specs.declared.leaves.TreeLeaf.{TreeLeaf}
 use Rattle.ft_tree_leaves.specs.LeafLists.{elements, leaf_elements}
 use Rattle.ft_tree_leaves.specs.Edits.{up_to_place}
 use Rattle.ft_tree_leaves.specs.Elements.{elements_with}
-use Rattle.ft_tree_leaves.specs.References.{KeepsReferences, place_of}
+use Rattle.ft_tree_leaves.specs.References.{KeepsReferences, reference_place}
 use Rattle.ft_tree_leaves.proofs.LeafRuns.{length-elements}
 use Rattle.ft_tree_leaves.proofs.RangeLeaves.{extends_trans}
 use Rattle.ft_tree_steps.specs.LeafSteps.{held_place}
@@ -80,6 +80,6 @@ returns-clause-refs g c =
     c.list.ensures c.find_end-end.ensures.place in
     let i : ℕ = length (elements us by (up_to_place mid.leaves c.in_ok-at.at)) in
     let place : i ≡ length (elements us by mid.leaves) = cut.place ∙ ended ∙ ap length (sym cut.list) in
-    let before : (r j : ℕ) → place_of mid.refs r ≡ Some j → j < i = λ r j h. omega (arith, place, c.first-first.ensures.inside r j h) in
+    let before : (r j : ℕ) → reference_place mid.refs r ≡ Some j → j < i = λ r j h. omega (arith, place, c.first-first.ensures.inside r j h) in
     let keeps : KeepsReferences mid.refs now.refs = kept_before i (length (us leaf.content)) mid.refs now.refs before c.in_ok-_id.ensures.refs in
     λ r. keeps r ∙ c.in_ok-at.ensures.refs r

@@ -12,12 +12,12 @@ pub loop-list-init : goal.loop-list-init
 loop-list-init g c =
     let xs = c.args.blocks.now.leaves in
     let ss = c.args.touched.now.items in
-    let n = c.place_of.result in
+    let n = c.stage_place.result in
     let len : c.args.touched.now.len ≡ length ss = search rules in
     let rest : deque_iter_rest c.into_iter-list-iterator.result ≡ drop n ss =
     ap deque_iter_rest c.into_iter-list-iterator.ensures.into_iter_gives ∙ c.range-list-items.ensures.rest
     ∙ take_all (c.args.touched.now.len - n) (drop n ss) (omega (arith, len, length-drop n ss)) in
-    subst (Searches c.args.wanted c.args.stage xs) (sym rest) (searches-from c.args.wanted c.args.stage n xs ss c.place_of.ensures.place c.requires.tracks)
+    subst (Searches c.args.wanted c.args.stage xs) (sym rest) (searches-from c.args.wanted c.args.stage n xs ss c.stage_place.ensures.place c.requires.tracks)
 
 pub is_wanted_above-requires : goal.is_wanted_above-requires
 is_wanted_above-requires g c =

@@ -10,8 +10,8 @@ returns-then-is_at c =
     let xs = c.args.touched.now.items in
     let k = c.args.stage in
     let id = c.args.id in
-    let i = c.place_of-i.result in
-    let place : i ≡ stages_below k xs = c.place_of-i.ensures.place in
+    let i = c.stage_place-i.result in
+    let place : i ≡ stages_below k xs = c.stage_place-i.ensures.place in
     let test : is_list_of k (slice_get xs i) ≡ true = sym c.is_at.ensures ∙ c.if-is_at.true in
     let x = c.index_mut.result.now in
     record {
@@ -28,8 +28,8 @@ returns c =
     let xs = c.args.touched.now.items in
     let k = c.args.stage in
     let id = c.args.id in
-    let i = c.place_of-i.result in
-    let place : i ≡ stages_below k xs = c.place_of-i.ensures.place in
+    let i = c.stage_place-i.result in
+    let place : i ≡ stages_below k xs = c.stage_place-i.ensures.place in
     let test : is_list_of k (slice_get xs i) ≡ false = sym c.is_at.ensures ∙ c.if-is_at.false in
     let new = insert-is k id i xs c.insert.new.self.items c.in_ok-list.list place test c.in_ok-list.ensures c.in_ok-insert.ensures.items in
     record {

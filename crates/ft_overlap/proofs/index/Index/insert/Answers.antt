@@ -7,19 +7,19 @@ use Rattle.ft_overlap.proofs.Whole.{in_last, in_starts, in_ends, all_great}
 use Rattle.ft_overlap.proofs.index.Index.insert.Goals as goal
 
 pub insert_in-requires-clause-last : goal.insert_in-requires-clause-last
-insert_in-requires-clause-last g c = in_last (g.P.Places.place_of c.args.at.now) c.self.inside c.args.self.now c.self.view_is c.self.invariant c.requires.order
+insert_in-requires-clause-last g c = in_last (g.P.Places.end_place c.args.at.now) c.self.inside c.args.self.now c.self.view_is c.self.invariant c.requires.order
 
 pub insert_in-requires-clause-starts : goal.insert_in-requires-clause-starts
-insert_in-requires-clause-starts g c = in_starts (g.P.Places.place_of c.args.at.now) c.self.inside c.args.self.now c.self.view_is c.self.invariant
+insert_in-requires-clause-starts g c = in_starts (g.P.Places.end_place c.args.at.now) c.self.inside c.args.self.now c.self.view_is c.self.invariant
     (g.P.Places.Knows c.args.at.now) (All-tail (λ (y : Item). g.P.Places.Knows c.args.at.now y.start × g.P.Places.Knows c.args.at.now y.end) c.args.item c.args.self.now.items c.requires.known)
 
 pub insert_in-requires-clause-known : goal.insert_in-requires-clause-known
-insert_in-requires-clause-known g c = in_ends (g.P.Places.place_of c.args.at.now) c.self.inside c.args.self.now c.self.view_is c.self.invariant
+insert_in-requires-clause-known g c = in_ends (g.P.Places.end_place c.args.at.now) c.self.inside c.args.self.now c.self.view_is c.self.invariant
     (g.P.Places.Knows c.args.at.now) (All-tail (λ (y : Item). g.P.Places.Knows c.args.at.now y.start × g.P.Places.Knows c.args.at.now y.end) c.args.item c.args.self.now.items c.requires.known)
 
 pub returns-clause-order : goal.returns-clause-order
 returns-clause-order g c =
-    let place = g.P.Places.place_of c.args.at.now in
+    let place = g.P.Places.end_place c.args.at.now in
     let old = ap (λ (w : ItemList). w.items) c.self.view_is in
     record {
       rising = subst (IsRising place) (sym (c.in_ok-self-inside.ensures.items ∙ ap (put_item place c.args.item) old))
@@ -29,4 +29,4 @@ returns-clause-order g c =
 
 pub insert_in-requires-clause-rising : goal.insert_in-requires-clause-rising
 insert_in-requires-clause-rising g c =
-    subst (IsRising (g.P.Places.place_of c.args.at.now)) (sym (ap (λ (w : ItemList). w.items) c.self.view_is)) c.requires.order.rising
+    subst (IsRising (g.P.Places.end_place c.args.at.now)) (sym (ap (λ (w : ItemList). w.items) c.self.view_is)) c.requires.order.rising

@@ -10,10 +10,10 @@ returns-in_err-id-clause-rest g c =
     sym (out_none c.args.key c.args.self.now.items (ap (item_at c.args.key) (sym (ap (λ (w : ItemList). w.items) c.self.view_is)) ∙ c.in_err-id.ensures))
 
 pub take_in-root-requires-clause-last : goal.take_in-root-requires-clause-last
-take_in-root-requires-clause-last g c = in_last (g.P.Places.place_of c.args.at.now) c.self.inside c.args.self.now c.self.view_is c.self.invariant c.requires.order
+take_in-root-requires-clause-last g c = in_last (g.P.Places.end_place c.args.at.now) c.self.inside c.args.self.now c.self.view_is c.self.invariant c.requires.order
 
 pub take_in-root-requires-clause-known : goal.take_in-root-requires-clause-known
-take_in-root-requires-clause-known g c = in_ends (g.P.Places.place_of c.args.at.now) c.self.inside c.args.self.now c.self.view_is c.self.invariant
+take_in-root-requires-clause-known g c = in_ends (g.P.Places.end_place c.args.at.now) c.self.inside c.args.self.now c.self.view_is c.self.invariant
     (g.P.Places.Knows c.args.at.now) c.requires.known
 
 pub returns-clause-rest : goal.returns-clause-rest
@@ -23,7 +23,7 @@ returns-clause-rest g c =
 
 pub returns-clause-order : goal.returns-clause-order
 returns-clause-order g c =
-    let place = g.P.Places.place_of c.args.at.now in
+    let place = g.P.Places.end_place c.args.at.now in
     let rest = taken_items c.args.key c.self.inside.arena c.take_in-root.new.arena c.in_ok-id.id c.take_in-root.result.1 c.in_ok-id.ensures c.take_in-root.ensures.takes
     ∙ ap (without_key c.args.key) (ap (λ (w : ItemList). w.items) c.self.view_is) in
     record {

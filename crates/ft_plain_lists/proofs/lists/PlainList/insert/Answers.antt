@@ -30,8 +30,8 @@ pub returns-clause-ok : goal.returns-clause-ok
 returns-clause-ok c =
     rw (← c.self.view_is)
     (inserted c.args.seq c.args.at.c c.args.at.r c.args.p c.args.by c.args.props.now (map content_of c.args.contents.now)
-    (sequence c.self.inside.items.items c.self.inside.made) c.place_of-place.result c.pending_run.result _ c.in_ok-new.new.items c.put_at.new.items.items
-    c.in_ok-new.ensures.elements (c.place_of-place.ensures.place ∙ ap (place (seen_by c.args.at.r c.args.at.c) c.args.p) c.as_slice.ensures.value)
-    (rw (← c.deref.ensures.value) (c.pending_run.ensures.run ∙ ap (prefix_len is_pending) (take_rest c.deref.result.now c.place_of-place.result)))
+    (sequence c.self.inside.items.items c.self.inside.made) c.insertion_place-place.result c.pending_run.result _ c.in_ok-new.new.items c.put_at.new.items.items
+    c.in_ok-new.ensures.elements (c.insertion_place-place.ensures.place ∙ ap (place (seen_by c.args.at.r c.args.at.c) c.args.p) c.as_slice.ensures.value)
+    (rw (← c.deref.ensures.value) (c.pending_run.ensures.run ∙ ap (prefix_len is_pending) (take_rest c.deref.result.now c.insertion_place-place.result)))
     c.in_ok-put_at.ensures.ok (c.in_ok-made.ensures.sum ∙ ap (λ list. list.made + length c.args.contents.now) (sym c.self.view_is) ∙ ap
     (λ n. c.self.inside.made + n) (sym (length-map c.args.contents.now content_of))))

@@ -1,6 +1,6 @@
 use Rattle.std.proofs.Common.{◌≡◌, ◌+◌, ◌<◌, ◌≤◌, ◌^◌, Some, length, subst, ap, arith}
 use Rattle.ft_tree_leaves.specs.LeafLists.{elements}
-use Rattle.ft_tree_leaves.specs.References.{place_of}
+use Rattle.ft_tree_leaves.specs.References.{reference_place}
 use Rattle.ft_tree.specs.State.{TreeState}
 use Rattle.ft_tree.proofs.TreeInside.{in_sound}
 use Rattle.ft_tree.proofs.tree.Tree.first_leaf.Goals as goal
@@ -17,5 +17,5 @@ returns-clause-depth g c = subst (λ (s : TreeState g.row.C.Denot). 4 ^ s.depth 
 
 pub returns-clause-inside : goal.returns-clause-inside
 returns-clause-inside g c = λ r j.
-    subst (λ (s : TreeState g.row.C.Denot). place_of s.refs r ≡ Some j → j < length (elements g.C.Content.units g.C.Content.by s.leaves))
+    subst (λ (s : TreeState g.row.C.Denot). reference_place s.refs r ≡ Some j → j < length (elements g.C.Content.units g.C.Content.by s.leaves))
     c.self.view_is (c.first.ensures.inside r j)

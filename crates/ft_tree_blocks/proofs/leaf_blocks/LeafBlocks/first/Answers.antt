@@ -1,6 +1,6 @@
 use Rattle.std.proofs.Common.{◌≡◌, ◌+◌, ◌<◌, ◌≤◌, ◌^◌, IsTrue, Some, length, subst, sym}
 use Rattle.ft_tree_leaves.specs.LeafLists.{elements}
-use Rattle.ft_tree_leaves.specs.References.{place_of}
+use Rattle.ft_tree_leaves.specs.References.{reference_place}
 use Rattle.ft_tree_blocks.specs.State.{TrackedLeaves}
 use Rattle.ft_tree_blocks.proofs.ShownPlaces.{places_inside}
 use Rattle.ft_tree_blocks.proofs.leaf_blocks.LeafBlocks.first.Goals as goal
@@ -11,7 +11,7 @@ returns-clause-inside g c = λ r j.
     let by = g.C.Content.by in
     let a = c.self.inside in
     let sound = c.self.invariant (subst (λ (s : TrackedLeaves g.row.C.Denot). IsTrue s.usable) (sym c.self.view_is) c.requires) in
-    subst (λ (s : TrackedLeaves g.row.C.Denot). place_of s.refs r ≡ Some j → j < length (elements us by s.leaves)) c.self.view_is
+    subst (λ (s : TrackedLeaves g.row.C.Denot). reference_place s.refs r ≡ Some j → j < length (elements us by s.leaves)) c.self.view_is
     (places_inside us by a.blocks.leaves a.refs.anchors c.first.ensures.once sound.refs.anchored r j)
 
 pub returns-clause-depth : goal.returns-clause-depth

@@ -1,6 +1,6 @@
 use Rattle.std.proofs.Common.{◌≡◌, Some, subst}
 use Rattle.ft_door.specs.Runs.{HearsLine}
-use Rattle.ft_door.proofs.sessions.Run.hear.Goals as goal
+use Rattle.ft_door.proofs.sessions.HeldSession.hear.Goals as goal
 
 pub returns : goal.returns
 returns g c =

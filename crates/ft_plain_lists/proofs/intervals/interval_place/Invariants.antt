@@ -2,7 +2,7 @@ use Rattle.std.proofs.Common.{◌≡◌, drop}
 use Rattle.ft_op.specs.Intervals.{interval_cmp}
 use Rattle.ft_plain_lists.specs.Rising.{rising_place}
 use Rattle.ft_plain_lists.proofs.RisingPlace.{place_from}
-use Rattle.ft_plain_lists.proofs.intervals.place_of.Given as goal
+use Rattle.ft_plain_lists.proofs.intervals.interval_place.Given as goal
 
 -- the place in all is as many places on as were passed
 abbrev pub invariant-loop-i : goal.invariant-loop-i

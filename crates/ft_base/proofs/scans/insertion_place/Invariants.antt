@@ -1,7 +1,7 @@
 use Rattle.std.proofs.Common.{◌≡◌, ◌+◌, drop}
 use Rattle.ft_base.specs.Visibility.{sees}
 use Rattle.ft_base.specs.Scan.{place}
-use Rattle.ft_base.proofs.scans.place_of.Given as goal
+use Rattle.ft_base.proofs.scans.insertion_place.Given as goal
 
 -- the place of all is as many elements on as were passed
 abbrev pub invariant-loop-i : goal.invariant-loop-i

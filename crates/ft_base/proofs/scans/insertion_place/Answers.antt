@@ -1,8 +1,8 @@
 use Rattle.std.proofs.Common.{◌<◌, arith, length}
 use Rattle.ft_base.specs.Visibility.{sees}
 use Rattle.ft_base.proofs.PlainList.{place-step}
-use Rattle.ft_base.proofs.scans.place_of.Goals as goal
-use Rattle.ft_base.proofs.scans.place_of.Goals.{then-sees, else-sees}
+use Rattle.ft_base.proofs.scans.insertion_place.Goals as goal
+use Rattle.ft_base.proofs.scans.insertion_place.Goals.{then-sees, else-sees}
 
 pub loop-i-preserved : goal.loop-i-preserved
 loop-i-preserved c =

@@ -1,6 +1,6 @@
 use Rattle.std.proofs.Common.{◌≤◌, ◌-◌, length, take, drop}
 use Rattle.ft_partial.specs.Entries.{AreUpTo, AreFrom}
-use Rattle.ft_partial.proofs.entries.place_of.Given as goal
+use Rattle.ft_partial.proofs.entries.entry_place.Given as goal
 
 abbrev pub invariant-loop-low : goal.invariant-loop-low
 invariant-loop-low l = record {

@@ -1,7 +1,7 @@
 use Rattle.std.proofs.Common.{◌<◌, arith, length}
 use Rattle.ft_base.proofs.PlainList.{place-step}
-use Rattle.ft_plain_lists.proofs.scans.place_of.Goals as goal
-use Rattle.ft_plain_lists.proofs.scans.place_of.Goals.{then-passes, else-passes}
+use Rattle.ft_plain_lists.proofs.scans.insertion_place.Goals as goal
+use Rattle.ft_plain_lists.proofs.scans.insertion_place.Goals.{then-passes, else-passes}
 
 pub loop-i-preserved : goal.loop-i-preserved
 loop-i-preserved g c =

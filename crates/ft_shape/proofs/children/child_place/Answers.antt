@@ -4,7 +4,7 @@ use Rattle.ft_arena.specs.Ids.{times}
 use Rattle.ft_arena.specs.Forest.{kids_of, kids_of_entry, kids_of_node}
 use Rattle.ft_arena.proofs.IdLemmas.{same_other}
 use Rattle.ft_shape.proofs.Lists.{drop_at, drop_none}
-use Rattle.ft_shape.proofs.children.place_of.Goals as goal
+use Rattle.ft_shape.proofs.children.child_place.Goals as goal
 
 pub loop-kid-init : goal.loop-kid-init
 loop-kid-init g c =

@@ -1,7 +1,7 @@
 use Rattle.std.proofs.Common.{◌≡◌, ◌≤◌, length, nat_lt, arith, rules, tests}
 use Rattle.std.proofs.lemmas.List.Sorted.{IsPartitionPoint-from_clause}
 use Rattle.ft_tree_blocks.proofs.TouchedLists.{partitioned, point_is}
-use Rattle.ft_tree_blocks.proofs.touched.place_of.Goals as goal
+use Rattle.ft_tree_blocks.proofs.touched.stage_place.Goals as goal
 
 pub returns-clause-place : goal.returns-clause-place
 returns-clause-place c =

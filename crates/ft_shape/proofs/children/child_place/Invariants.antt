@@ -1,7 +1,7 @@
 use Rattle.std.proofs.Common.{◌≤◌, ◌-◌, length, drop}
 use Rattle.ft_arena.specs.Ids.{times}
 use Rattle.ft_arena.specs.Forest.{kids_of}
-use Rattle.ft_shape.proofs.children.place_of.Given as goal
+use Rattle.ft_shape.proofs.children.child_place.Given as goal
 
 abbrev pub invariant-loop-kid : goal.invariant-loop-kid
 invariant-loop-kid g l =

@@ -1,6 +1,6 @@
 use Rattle.std.proofs.Common.{◌-◌, ◌≤◌, ◌∙◌, ap, length, drop, arith, length-take}
 use Rattle.ft_io.proofs.Parts.{drop-window}
-use Rattle.ft_io.proofs.pieces.Piece.advance.Goals as goal
+use Rattle.ft_io.proofs.pieces.InputPiece.advance.Goals as goal
 
 pub returns : goal.returns
 returns c =

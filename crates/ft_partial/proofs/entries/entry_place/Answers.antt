@@ -1,7 +1,7 @@
 use Rattle.std.proofs.Common.{ℕ, ◌≡◌, drop, subst, arith}
 use Rattle.ft_partial.specs.Entries.{AreFrom}
 use Rattle.ft_partial.proofs.EntryLemmas.{up_to_before, up_to_past, up_to_none, from_past, from_none}
-use Rattle.ft_partial.proofs.entries.place_of.Goals as goal
+use Rattle.ft_partial.proofs.entries.entry_place.Goals as goal
 
 pub returns-then-entries-count : goal.returns-then-entries-count
 returns-then-entries-count c = record {

@@ -1,7 +1,7 @@
 use Rattle.std.proofs.Common.{◌≡◌, ℕ, List, Some, drop, subst, sym}
 use Rattle.ft_door.specs.Runs.{GoesOn, Stands}
 use Rattle.ft_door.proofs.Hearing.{breaks, end-broken}
-use Rattle.ft_door.proofs.sessions.Run.close.Goals as goal
+use Rattle.ft_door.proofs.sessions.HeldSession.close.Goals as goal
 
 pub returns-in-Err : goal.returns-in-Err
 returns-in-Err g c =

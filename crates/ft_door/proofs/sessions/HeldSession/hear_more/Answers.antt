@@ -1,7 +1,7 @@
 use Rattle.std.proofs.Common.{ℕ, List, [], ◌∷◌, ◌++◌, Some, drop}
 use Rattle.ft_door.specs.Runs.{Stands}
 use Rattle.ft_door.proofs.Hearing.{breaks, line-broken, line-heard, refused-more, report-more}
-use Rattle.ft_door.proofs.sessions.Run.hear_more.Goals as goal
+use Rattle.ft_door.proofs.sessions.HeldSession.hear_more.Goals as goal
 
 pub returns-in-Ok : goal.returns-in-Ok
 returns-in-Ok g c =
