@@ -68,7 +68,8 @@ fn all_places(
     cols: &[RunItem],
 ) -> Result<u64, SumFault>
     requires { limits.seq < 2 ^ 53 }
-    ensures { Gives SumFault.OutOfMemory (places_behind (bounds_in limits) 0 (segments_stamps (map segment_of segs.now) ++ run_stamps (map run_of rows.now) ++ run_stamps (map run_of cols.now))) result }
+    ensures { Gives SumFault.OutOfMemory (places_behind (bounds_in limits) 0
+        (segments_stamps (map segment_of segs.now) ++ run_stamps (map run_of rows.now) ++ run_stamps (map run_of cols.now))) result }
 {
     let text = segment_places(alloc, limits, 0, segs)?;
     let most = u64::MAX - rows.len() as u64;
@@ -248,7 +249,9 @@ pub fn read_summary(alloc: Global, bytes: &[u8]) -> Result<SumDoc, SumFault>
 
 // The summary that the value is.
 fn read_value(alloc: Global, value: &Value) -> Result<SumDoc, SumFault>
-    ensures reads { Reads SumFault.OutOfMemory (if is_object (view value.now) then summary_of_object (view value.now) else Err (SumFault.Malformed (SumCause.WrongKind Field.Summary))) HasOnlyValues result }
+    ensures reads { Reads SumFault.OutOfMemory
+        (if is_object (view value.now) then summary_of_object (view value.now) else Err (SumFault.Malformed (SumCause.WrongKind Field.Summary)))
+        HasOnlyValues result }
     ensures few { IfOk result (λ sum. length sum.conns < 2 ^ 32) }
 {
     if !is_object(value) {

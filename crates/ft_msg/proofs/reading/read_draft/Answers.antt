@@ -17,7 +17,7 @@ returns c =
     let value = view c.in_ok-value.value in
     let given = c.read_draft_value.ensures in
     rw (draft-value c.args.bytes.now value c.in_ok-value.ensures.ok) (record {
-      ok = given.ok;
-      err = given.err;
-      formed = if_ok-both _ _ _ c.read_draft_value.result (draft_of-formed value) given.ok given.body;
+      ok = given.reads.ok;
+      err = given.reads.err;
+      formed = if_ok-both _ _ _ c.read_draft_value.result (draft_of-formed value) given.reads.ok given.body;
     })

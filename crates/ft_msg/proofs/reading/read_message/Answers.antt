@@ -18,11 +18,11 @@ returns-clause-reads c =
     let value = view c.in_ok-value.value in
     let given = c.read_message_value.ensures in
     rw (message-value c.args.bytes.now value c.in_ok-value.ensures.ok) (record {
-      ok = given.ok;
-      err = given.err;
-      formed = if_ok-both _ _ _ c.read_message_value.result (message_of-formed value) given.ok given.body;
+      ok = given.reads.ok;
+      err = given.reads.err;
+      formed = if_ok-both _ _ _ c.read_message_value.result (message_of-formed value) given.reads.ok given.body;
     })
 
 pub returns-clause-in_range : goal.returns-clause-in_range
 returns-clause-in_range c =
-    IfOk-weaker c.read_message_value.result _ _ (λ m e. message_of-in_range (view c.in_ok-value.value) m e) c.read_message_value.ensures.ok
+    IfOk-weaker c.read_message_value.result _ _ (λ m e. message_of-in_range (view c.in_ok-value.value) m e) c.read_message_value.ensures.reads.ok

@@ -40,6 +40,6 @@ loop-key-preserved c =
     let is_value : IsValue value = (given.kept, not_null (view e.1) value given.reads_back (untrue (is_some (as_null (view e.1))) no_null.0)) in
     let put = c.in_ok-put.ensures.ok ∙ ap (λ k. put_rising key_cmp (k, value) l.props) (c.in_ok-new.ensures ∙ ap chars c.as_str.ensures.value) in (
       (tt, tt),
-      entry_read (λ _ d. canonical d) (λ p. IsValue p.1) [] value l.props c.put.new.self e left all so_far given.ok is_value put,
+      entry_read (λ _ d. canonical d) (λ p. IsValue p.1) [] value l.props c.put.new.self e left all so_far given.reads.ok is_value put,
       no_null.1,
     )

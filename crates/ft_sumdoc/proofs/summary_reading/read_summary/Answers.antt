@@ -20,9 +20,9 @@ pub returns-clause-reads : goal.returns-clause-reads
 returns-clause-reads c =
     let bytes = c.args.bytes.now in
     let same = summary-value bytes (view c.in_ok-value.value) c.in_ok-value.ensures.ok in
-    let given = c.read_value.ensures in
+    let given = c.read_value.ensures.reads in
     rw same (record {
       ok = given.ok;
       err = given.err;
-      formed = if_ok-both _ _ _ c.read_value.result (λ sum e values. read_summary-valid bytes sum (same ∙ e) values) given.ok given.values;
+      formed = if_ok-both _ _ _ c.read_value.result (λ sum e values. read_summary-valid bytes sum (same ∙ e) values) given.ok given.formed;
     })
