@@ -1,4 +1,4 @@
-use Rattle.std.proofs.Common.{Ok, codes, refl, sym, ap, ◌∙◌}
+use Rattle.std.proofs.Common.{Ok, codes, refl, sym, ap, ◌∙◌, rules}
 use lib.Utf8.{encode}
 use Rattle.serde_json.specs.View.{view}
 use Rattle.ft_msg.specs.declared.messages.Body.TheVariants.{Elsewhere}

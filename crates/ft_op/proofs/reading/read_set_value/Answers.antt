@@ -1,9 +1,11 @@
-use Rattle.std.proofs.Common.{sym, ◌∙◌}
+use Rattle.std.proofs.Common.{sym, ◌∙◌, rules}
 use Rattle.serde_json.specs.View.{view}
+use Rattle.ft_op.specs.Reading.{set_value}
 use Rattle.ft_op.proofs.ReadValues.{not_null}
 use Rattle.ft_op.proofs.reading.read_set_value.Goals as goal
 
 pub returns : goal.returns
+unfolding set_value
 returns c = record {
   ok = search rules;
   err = search rules;

@@ -1,9 +1,11 @@
-use Rattle.std.proofs.Common.{sym}
+use Rattle.std.proofs.Common.{sym, rules}
 use Rattle.serde_json.specs.View.{view}
+use Rattle.ft_op.specs.TextGrammar.{annotation}
 use Rattle.ft_op.proofs.ReadNumbers.{range-is_range}
 use Rattle.ft_op.proofs.text_reading.read_annotation.Goals as goal
 
 pub returns : goal.returns
+unfolding annotation
 returns c = record {
   ok = search rules;
   err = search rules;

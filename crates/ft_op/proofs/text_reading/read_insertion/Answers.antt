@@ -1,10 +1,12 @@
-use Rattle.std.proofs.Common.{sym}
+use Rattle.std.proofs.Common.{sym, rules}
 use Rattle.serde_json.specs.View.{view}
 use Rattle.ft_json.specs.declared.fields.Field.TheVariants.{Pos1}
+use Rattle.ft_op.specs.TextGrammar.{insertion}
 use Rattle.ft_op.proofs.ReadNumbers.{count_field-is_count, segment-is_segment}
 use Rattle.ft_op.proofs.text_reading.read_insertion.Goals as goal
 
 pub returns : goal.returns
+unfolding insertion
 returns c = record {
   ok = search rules;
   err = search rules;

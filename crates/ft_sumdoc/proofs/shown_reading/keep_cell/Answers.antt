@@ -1,3 +1,4 @@
+use Rattle.std.proofs.Common.{rules}
 use Rattle.serde_json.specs.View.{view}
 use Rattle.ft_op.proofs.ReadValues.{not_null}
 use Rattle.ft_sumdoc.proofs.shown_reading.keep_cell.Goals as goal

@@ -1,4 +1,4 @@
-use Rattle.std.proofs.Common.{ℕ, map, Result, Ok, Err, sym, subst}
+use Rattle.std.proofs.Common.{ℕ, map, Result, Ok, Err, sym, subst, rules}
 use Rattle.std.proofs.lemmas.Result.{err_from_is_err_and}
 use Rattle.ft_json.specs.Readers.{Gives}
 use Rattle.ft_sumdoc.specs.declared.summary.SumFault.{SumFault}

@@ -1,14 +1,16 @@
-use Rattle.std.proofs.Common.{◌∙◌, ℕ, Ok, Err, sym, ap, ap₂}
+use Rattle.std.proofs.Common.{◌∙◌, ℕ, Ok, Err, sym, ap, ap₂, rules}
 use Rattle.std.proofs.lemmas.Result.{err_from_is_err_and}
 use Rattle.serde_json.specs.View.{view}
 use Rattle.ft_sumdoc.specs.Items.{head_of, lists_of}
 use Rattle.ft_sumdoc.specs.Runs.{unremoved_units}
 use Rattle.ft_sumdoc.specs.Segments.{unremoved_text}
 use Rattle.ft_sumdoc.specs.Shown.{cells_of, intervals_of}
+use Rattle.ft_sumdoc.specs.Summary.{summary_of_object}
 use Rattle.ft_sumdoc.proofs.ReadObjects.{IsReadBefore, cells_read, intervals_refused}
 use Rattle.ft_sumdoc.proofs.summary_reading.read_object.Goals as goal
 
 pub returns-in_err-intervals-clause-reads : goal.returns-in_err-intervals-clause-reads
+unfolding summary_of_object
 returns-in_err-intervals-clause-reads c =
     let d = view c.args.value.now in
     let h = head_of c.in_ok-head.head in
@@ -24,6 +26,7 @@ returns-in_err-intervals-clause-reads c =
     }
 
 pub returns-in_err-cells-clause-reads : goal.returns-in_err-cells-clause-reads
+unfolding summary_of_object
 returns-in_err-cells-clause-reads c =
     let d = view c.args.value.now in
     let h = head_of c.in_ok-head.head in
@@ -43,6 +46,7 @@ returns-in_err-cells-clause-reads c =
     }
 
 pub returns-clause-reads : goal.returns-clause-reads
+unfolding summary_of_object
 returns-clause-reads c =
     let d = view c.args.value.now in
     let h = head_of c.in_ok-head.head in
