@@ -40,3 +40,13 @@ pub record Closes (old new : Session) (count status : ℕ) : Type 0 where
 pub record ReadsOn (old new : Session) (room : List ℕ) (count status : ℕ) : Type 0 where
   pub run : Calls (λ a b s. (s ≡ 0) × ReadsReport a.run b.run room count) (held_run old) (held_run new) status
   pub within : count ≤ length room
+
+-- what a handle answers that frees its run, if it has one
+abbrev pub freed_status : Option ClientRun → ℕ
+freed_status None = 7
+freed_status (Some run) = 0
+
+-- the session was freed, if it was open, and is closed
+pub record Frees (old new : Session) (status : ℕ) : Type 0 where
+  pub closed : held_run new ≡ None
+  pub told : status ≡ freed_status (held_run old)

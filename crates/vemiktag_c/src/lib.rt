@@ -6,7 +6,7 @@
 ghost use Rattle.std.specs.Prelude.{◌≡◌, [], IfOk, None};
 ghost use Rattle.ft_door.specs.Reports.{Tells};
 ghost use Rattle.ft_door.specs.Runs.{Stands};
-ghost use Rattle.vemiktag_c.specs.Handles.{Closes, Hears, Opens, ReadsOn, held_run};
+ghost use Rattle.vemiktag_c.specs.Handles.{Closes, Frees, Hears, Opens, ReadsOn};
 
 mod held;
 mod loose;
@@ -128,7 +128,7 @@ pub extern "C" fn vemiktag_session_read(
 /// Returns 0, and 7 where it was closed before.
 #[unsafe(no_mangle)]
 pub extern "C" fn vemiktag_session_free(alloc: Global, session: &mut Session) -> u32
-    ensures { held_run session.new ≡ None }
+    ensures { Frees session.old session.new result }
 {
     match session.take(alloc) {
         Some(held) => {
