@@ -1,8 +1,9 @@
 -- The properties of an element as its client holds them: the acknowledged ones, and the pending changes on top by rising
 -- stage.
-use Rattle.std.specs.Prelude.{◌≡◌, ℕ, ◌<◌, not, nat_eq, List, [], ◌∷◌, ◌++◌, Option, Some, None, filter, ⊤, Box}
-use Rattle.std.specs.declared.alloc.Global.{Global}
+use Rattle.std.specs.Prelude.{◌≡◌, ℕ, ◌<◌, not, nat_eq, List, [], ◌∷◌, ◌++◌, filter, ⊤}
 use Rattle.ft_props.specs.declared.overlay.Ahead.{Ahead}
+use Rattle.ft_props.specs.declared.overlay.Kept.{Kept}
+use Rattle.ft_props.specs.declared.overlay.Kept.TheVariants.{Settled, Changed}
 use Rattle.ft_props.specs.declared.properties.Changes.{Changes}
 use Rattle.ft_props.specs.Properties.{PropertyList, change, shown_props}
 use Rattle.ft_props.specs.Steps.{acked_props}
@@ -46,16 +47,21 @@ abbrev pub StagesRise : List (ℕ × Changes) → Type 0
 StagesRise [] = ⊤
 StagesRise ((k, c) ∷ pending) = IsBelowStages k pending × StagesRise pending
 
--- the pending changes of what is ahead of the acknowledged properties
-abbrev pub ahead_pending : Option (Box Ahead Global) → List (ℕ × Changes)
-ahead_pending None = []
-ahead_pending (Some b) = b.value.pending.items
+-- the acknowledged properties of what is kept
+abbrev pub kept_acked : Kept → PropertyList
+kept_acked (Settled acked) = acked
+kept_acked (Changed b) = b.value.acked
+
+-- its pending changes
+abbrev pub kept_pending : Kept → List (ℕ × Changes)
+kept_pending (Settled acked) = []
+kept_pending (Changed b) = b.value.pending.items
 
 -- the stages rise, and what is kept ready is what is shown
-pub record IsAhead (acked : PropertyList) (a : Ahead) : Type 0 where
+pub record IsAhead (a : Ahead) : Type 0 where
   pub rising : StagesRise a.pending.items
-  pub ready : a.shown ≡ shown_props acked a.pending.items
+  pub ready : a.shown ≡ shown_props a.acked a.pending.items
 
-abbrev pub IsReady : PropertyList → Option (Box Ahead Global) → Type 0
-IsReady acked None = ⊤
-IsReady acked (Some b) = IsAhead acked b.value
+abbrev pub IsReady : Kept → Type 0
+IsReady (Settled acked) = ⊤
+IsReady (Changed b) = IsAhead b.value

@@ -3,7 +3,7 @@
 ghost use Rattle.std.specs.Prelude.{◌≡◌, ◌↔◌, ◌<◌, ◌≤◌, ◌++◌, ◌∷◌, [], All, IsTrue, IsFalse, IfOk, OnOk, OnErr, chars, nat_eq, option_copied, position};
 ghost use Rattle.std.specs.List.{list_any};
 ghost use Rattle.ft_props.specs.Properties.{change, shown_props, value_of};
-ghost use Rattle.ft_props.specs.Overlay.{StagesRise, without_stage};
+ghost use Rattle.ft_props.specs.Overlay.{IsReady, StagesRise, kept_acked, kept_pending, without_stage};
 ghost use Rattle.ft_props.specs.Steps.{acked_props};
 
 use crate::changed::make_changes;
@@ -12,6 +12,7 @@ use ft_base::{Datum, OutOfMemory};
 use ft_json::ValText;
 use std::alloc::Global;
 use std::marker::Model;
+use std::mem::{replace, swap};
 
 /// Acknowledged properties, and pending changes on top of them by rising stage.
 ///
@@ -19,23 +20,30 @@ use std::marker::Model;
 /// elements have nothing pending, and hold the acknowledged properties alone.
 #[derive(Drop)]
 pub struct Overlay {
-    acked: Props,
-    ahead: Option<Box<Ahead>>,
+    kept: Kept,
 }
 
 impl Model for Overlay {
-    ghost use Rattle.ft_props.specs.Overlay.{OverlayState, IsReady, ahead_pending};
+    ghost use Rattle.ft_props.specs.Overlay.{OverlayState, IsReady, kept_acked, kept_pending};
 
     ghost Value = { OverlayState };
 
-    ghost view = { λ a. record { acked = a.acked; pending = ahead_pending a.ahead } };
+    ghost view = { λ a. record { acked = kept_acked a.kept; pending = kept_pending a.kept } };
 
-    ghost invariant = { λ a. IsReady a.acked a.ahead };
+    ghost invariant = { λ a. IsReady a.kept };
 }
 
-/// Pending changes by rising stage, and what is shown with them.
+// The acknowledged properties, alone where nothing is pending.
+#[derive(Drop)]
+enum Kept {
+    Settled(Props),
+    Changed(Box<Ahead>),
+}
+
+// Acknowledged properties, pending changes by rising stage, and what is shown with them.
 #[derive(Drop)]
 struct Ahead {
+    acked: Props,
     pending: Vec<(u64, Changes)>,
     shown: Props,
 }
@@ -101,26 +109,46 @@ fn is_same_pending(mine: &[(u64, Changes)], theirs: &[(u64, Changes)]) -> bool
 }
 
 impl Ahead {
-    // The changes of one stage alone.
-    fn first(
-        alloc: Global,
-        acked: &Props,
-        stage: u64,
-        set: &Changes,
-    ) -> Result<Box<Ahead>, OutOfMemory>
+    // The changes of one stage alone, over acknowledged properties, which it takes.
+    //
+    // Returns `OutOfMemory` where there is no room for them, and then leaves the properties as they
+    // were.
+    fn first(acked: &mut Props, stage: u64, set: &Changes) -> Result<Box<Ahead>, OutOfMemory>
+        ensures acked { IfOk result (λ b. b.value.acked ≡ acked.old) }
         ensures pending { IfOk result (λ b. b.value.pending.items ≡ (stage, set.now) ∷ []) }
-        ensures shown { IfOk result (λ b. b.value.shown ≡ change acked.now set.now) }
+        ensures shown { IfOk result (λ b. b.value.shown ≡ change acked.old set.now) }
+        ensures err { OnErr result (acked.new ≡ acked.old) }
     {
+        let alloc = acked.allocator();
         let shown = acked.changed(set)?;
         let mut pending = Vec::with_capacity(alloc, 1)?;
         pending.push((stage, set.copy()?))?;
-        Ok(Box::new(alloc, Ahead { pending, shown })?)
+        let none = Props::new(alloc);
+        let mut ahead = Box::new(
+            alloc,
+            Ahead {
+                acked: none,
+                pending,
+                shown,
+            },
+        )?;
+        swap(&mut ahead.acked, acked);
+        Ok(ahead)
+    }
+
+    // Takes the acknowledged properties, and leaves none.
+    fn take_acked(&mut self) -> Props
+        ensures { result ≡ self.old.acked }
+    {
+        let none = Props::new(self.acked.allocator());
+        replace(&mut self.acked, none)
     }
 
     // Adds changes of a stage.
     //
     // Returns `OutOfMemory` where there is no room for them, and then all is as it was.
     fn push(&mut self, stage: u64, set: &Changes) -> Result<(), OutOfMemory>
+        ensures acked { self.new.acked ≡ self.old.acked }
         ensures pending { OnOk result (self.new.pending.items ≡ self.old.pending.items ++ (stage, set.now) ∷ []) }
         ensures shown { OnOk result (self.new.shown ≡ change self.old.shown set.now) }
         ensures err_pending { OnErr result (self.new.pending.items ≡ self.old.pending.items) }
@@ -132,15 +160,19 @@ impl Ahead {
         Ok(())
     }
 
-    // Makes ready what is shown over other acknowledged properties.
+    // Makes changes of the acknowledged properties, below the pending changes.
     //
-    // Returns `OutOfMemory` where there is no room for it, and then all is as it was.
-    fn show(&mut self, acked: &Props) -> Result<(), OutOfMemory>
+    // Returns `OutOfMemory` where there is no room for what they make, and then all is as it was.
+    fn set_acked(&mut self, set: &Changes) -> Result<(), OutOfMemory>
+        ensures acked { OnOk result (self.new.acked ≡ change self.old.acked set.now) }
         ensures pending { self.new.pending ≡ self.old.pending }
-        ensures shown { OnOk result (self.new.shown ≡ shown_props acked.now self.old.pending.items) }
-        ensures err { OnErr result (self.new.shown ≡ self.old.shown) }
+        ensures shown { OnOk result (self.new.shown ≡ shown_props self.new.acked self.old.pending.items) }
+        ensures err_acked { OnErr result (self.new.acked ≡ self.old.acked) }
+        ensures err_shown { OnErr result (self.new.shown ≡ self.old.shown) }
     {
-        self.shown = shown_over(acked, &self.pending, &[])?;
+        let acked = self.acked.changed(set)?;
+        self.shown = shown_over(&acked, &self.pending, &[])?;
+        self.acked = acked;
         Ok(())
     }
 
@@ -148,17 +180,18 @@ impl Ahead {
     //
     // Returns `OutOfMemory` where there is no room for what is then shown, and then all is as it
     // was.
-    fn drop_stage(&mut self, stage: u64, acked: &Props) -> Result<(), OutOfMemory>
+    fn drop_stage(&mut self, stage: u64) -> Result<(), OutOfMemory>
         requires rising { StagesRise self.old.pending.items }
-        requires shown { self.old.shown ≡ shown_props acked.now self.old.pending.items }
+        requires shown { self.old.shown ≡ shown_props self.old.acked self.old.pending.items }
         ensures rising { StagesRise self.new.pending.items }
+        ensures acked { self.new.acked ≡ self.old.acked }
         ensures pending { OnOk result (self.new.pending.items ≡ without_stage stage self.old.pending.items) }
-        ensures shown { OnOk result (self.new.shown ≡ shown_props acked.now self.new.pending.items) }
+        ensures shown { OnOk result (self.new.shown ≡ shown_props self.old.acked self.new.pending.items) }
         ensures err_pending { OnErr result (self.new.pending.items ≡ self.old.pending.items) }
         ensures err_shown { OnErr result (self.new.shown ≡ self.old.shown) }
     {
         if let Some(i) = place_of_stage(&self.pending, stage) {
-            self.shown = shown_over(acked, &self.pending[..i], &self.pending[i + 1..])?;
+            self.shown = shown_over(&self.acked, &self.pending[..i], &self.pending[i + 1..])?;
             let _ = self.pending.remove(i);
         }
         Ok(())
@@ -168,35 +201,58 @@ impl Ahead {
     // them out.
     //
     // Returns `OutOfMemory` where there is no room for what they make, and then all is as it was.
-    fn ack(&mut self, stage: u64, acked: &mut Props) -> Result<(), OutOfMemory>
+    fn ack(&mut self, stage: u64) -> Result<(), OutOfMemory>
         requires lowest { All (λ change. stage ≤ change.0) self.old.pending.items }
         requires rising { StagesRise self.old.pending.items }
-        requires shown { self.old.shown ≡ shown_props acked.old self.old.pending.items }
+        requires shown { self.old.shown ≡ shown_props self.old.acked self.old.pending.items }
         ensures rising { StagesRise self.new.pending.items }
-        ensures acked { OnOk result (acked.new ≡ acked_props stage acked.old self.old.pending.items) }
+        ensures acked { OnOk result (self.new.acked ≡ acked_props stage self.old.acked self.old.pending.items) }
         ensures pending { OnOk result (self.new.pending.items ≡ without_stage stage self.old.pending.items) }
-        ensures shown { self.new.shown ≡ shown_props acked.new self.new.pending.items }
-        ensures err_acked { OnErr result (acked.new ≡ acked.old) }
+        ensures shown { self.new.shown ≡ shown_props self.new.acked self.new.pending.items }
+        ensures err_acked { OnErr result (self.new.acked ≡ self.old.acked) }
         ensures err_pending { OnErr result (self.new.pending.items ≡ self.old.pending.items) }
     {
         if let Some((first, changes)) = self.pending.first() {
             if *first == stage {
-                *acked = acked.changed(changes)?;
+                self.acked = self.acked.changed(changes)?;
                 let _ = self.pending.remove(0);
             }
         }
         Ok(())
     }
 
-    // Equal changes.
+    // Equal properties and changes.
     fn copy(&self) -> Result<Box<Ahead>, OutOfMemory>
+        ensures acked { IfOk result (λ b. b.value.acked ≡ self.now.acked) }
         ensures pending { IfOk result (λ b. b.value.pending.items ≡ self.now.pending.items) }
         ensures shown { IfOk result (λ b. b.value.shown ≡ self.now.shown) }
     {
         let alloc = *self.pending.allocator();
+        let acked = self.acked.copy()?;
         let shown = self.shown.copy()?;
         let pending = copy_pending(alloc, &self.pending)?;
-        Ok(Box::new(alloc, Ahead { pending, shown })?)
+        let ahead = Ahead {
+            acked,
+            pending,
+            shown,
+        };
+        Ok(Box::new(alloc, ahead)?)
+    }
+}
+
+impl Kept {
+    // Keeps the acknowledged properties alone where nothing is pending any more.
+    fn settle(&mut self)
+        ensures acked { kept_acked self.new ≡ kept_acked self.old }
+        ensures pending { kept_pending self.new ≡ kept_pending self.old }
+        ensures ready { IsReady self.old → IsReady self.new }
+    {
+        if let Kept::Changed(ahead) = self {
+            if ahead.pending.is_empty() {
+                let acked = ahead.take_acked();
+                *self = Kept::Settled(acked);
+            }
+        }
     }
 }
 
@@ -214,7 +270,9 @@ impl Overlay {
     pub fn of(_alloc: Global, acked: Props) -> Overlay
         ensures { result ≡ record { acked = acked; pending = [] } }
     {
-        Overlay { acked, ahead: None }
+        Overlay {
+            kept: Kept::Settled(acked),
+        }
     }
 
     /// Makes changes of the acknowledged properties, below the pending changes.
@@ -224,11 +282,10 @@ impl Overlay {
         ensures ok { OnOk result (self.new ≡ after_acked_changes set.now self.old) }
         ensures err { OnErr result (self.new ≡ self.old) }
     {
-        let acked = self.acked.changed(set)?;
-        if let Some(ahead) = &mut self.ahead {
-            ahead.show(&acked)?;
+        match &mut self.kept {
+            Kept::Settled(acked) => *acked = acked.changed(set)?,
+            Kept::Changed(ahead) => ahead.set_acked(set)?,
         }
-        self.acked = acked;
         Ok(())
     }
 
@@ -241,12 +298,11 @@ impl Overlay {
         ensures ok { OnOk result (self.new ≡ after_pending_changes stage set.now self.old) }
         ensures err { OnErr result (self.new ≡ self.old) }
     {
-        match &mut self.ahead {
-            Some(ahead) => ahead.push(stage, set)?,
-            None => {
-                let alloc = self.acked.allocator();
-                self.ahead = Some(Ahead::first(alloc, &self.acked, stage, set)?);
+        match &mut self.kept {
+            Kept::Settled(acked) => {
+                self.kept = Kept::Changed(Ahead::first(acked, stage, set)?);
             }
+            Kept::Changed(ahead) => ahead.push(stage, set)?,
         }
         Ok(())
     }
@@ -260,11 +316,9 @@ impl Overlay {
         ensures ok { OnOk result (self.new ≡ after_ack stage self.old) }
         ensures err { OnErr result (self.new ≡ self.old) }
     {
-        if let Some(ahead) = &mut self.ahead {
-            ahead.ack(stage, &mut self.acked)?;
-            if ahead.pending.is_empty() {
-                self.ahead = None;
-            }
+        if let Kept::Changed(ahead) = &mut self.kept {
+            ahead.ack(stage)?;
+            self.kept.settle();
         }
         Ok(())
     }
@@ -277,11 +331,9 @@ impl Overlay {
         ensures ok { OnOk result (self.new ≡ after_drop stage self.old) }
         ensures err { OnErr result (self.new ≡ self.old) }
     {
-        if let Some(ahead) = &mut self.ahead {
-            ahead.drop_stage(stage, &self.acked)?;
-            if ahead.pending.is_empty() {
-                self.ahead = None;
-            }
+        if let Kept::Changed(ahead) = &mut self.kept {
+            ahead.drop_stage(stage)?;
+            self.kept.settle();
         }
         Ok(())
     }
@@ -290,16 +342,19 @@ impl Overlay {
     pub fn acked(&self) -> &Props
         ensures { result.now ≡ self.now.acked }
     {
-        &self.acked
+        match &self.kept {
+            Kept::Settled(acked) => acked,
+            Kept::Changed(ahead) => &ahead.acked,
+        }
     }
 
     // The pending changes by rising stage.
     fn pending(&self) -> &[(u64, Changes)]
         ensures { result.now ≡ self.now.pending }
     {
-        match &self.ahead {
-            Some(ahead) => ahead.pending.as_slice(),
-            None => &[],
+        match &self.kept {
+            Kept::Settled(_) => &[],
+            Kept::Changed(ahead) => ahead.pending.as_slice(),
         }
     }
 
@@ -307,9 +362,9 @@ impl Overlay {
     pub fn shown_props(&self) -> &Props
         ensures { result.now ≡ shown_of self.now }
     {
-        match &self.ahead {
-            Some(ahead) => &ahead.shown,
-            None => &self.acked,
+        match &self.kept {
+            Kept::Settled(acked) => acked,
+            Kept::Changed(ahead) => &ahead.shown,
         }
     }
 
@@ -344,17 +399,14 @@ impl Overlay {
 
 impl Datum for Overlay {
     fn copy(&self) -> Result<Overlay, OutOfMemory> {
-        let ahead = match &self.ahead {
-            Some(ahead) => Some(ahead.copy()?),
-            None => None,
+        let kept = match &self.kept {
+            Kept::Settled(acked) => Kept::Settled(acked.copy()?),
+            Kept::Changed(ahead) => Kept::Changed(ahead.copy()?),
         };
-        Ok(Overlay {
-            acked: self.acked.copy()?,
-            ahead,
-        })
+        Ok(Overlay { kept })
     }
 
     fn same(&self, other: &Overlay) -> bool {
-        self.acked.same(&other.acked) && is_same_pending(self.pending(), other.pending())
+        self.acked().same(other.acked()) && is_same_pending(self.pending(), other.pending())
     }
 }

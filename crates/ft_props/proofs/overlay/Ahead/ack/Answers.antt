@@ -1,16 +1,16 @@
-use Rattle.std.proofs.Common.{◌≡◌, sym, ◌∙◌}
+use Rattle.std.proofs.Common.{sym, ◌∙◌}
 use Rattle.ft_props.specs.Overlay.{IsBelowStages}
 use Rattle.ft_props.proofs.PendingStages.{acked_props-absent, acked_props-first, below_first, without_stage-absent, without_stage-first}
 use Rattle.ft_props.proofs.overlay.Ahead.ack.Goals as goal
 
-pub returns-in_ok-acked-clause-acked : goal.returns-in_ok-acked-clause-acked
-returns-in_ok-acked-clause-acked c =
+pub returns-in_ok-self-clause-acked : goal.returns-in_ok-self-clause-acked
+returns-in_ok-self-clause-acked c =
     let pending = c.args.self.now.pending.items in
     let first = rw c.deref.ensures.value at c.in-Some.ensures.value in
-    c.in_ok-acked.ensures ∙ sym (acked_props-first c.args.stage c.args.acked.now c.in-Some.field-0.now pending c.requires.rising first c.if-first-stage.true)
+    c.in_ok-self.ensures ∙ sym (acked_props-first c.args.stage c.args.self.now.acked c.in-Some.field-0.now pending c.requires.rising first c.if-first-stage.true)
 
-pub returns-in_ok-acked-clause-pending : goal.returns-in_ok-acked-clause-pending
-returns-in_ok-acked-clause-pending c =
+pub returns-in_ok-self-clause-pending : goal.returns-in_ok-self-clause-pending
+returns-in_ok-self-clause-pending c =
     let pending = c.args.self.now.pending.items in
     let first = rw c.deref.ensures.value at c.in-Some.ensures.value in
     c.remove.ensures.items ∙ sym (without_stage-first c.args.stage c.in-Some.field-0.now pending c.requires.rising first c.if-first-stage.true)
@@ -21,7 +21,7 @@ returns-else-first-stage-clause-acked c =
     let pending = c.args.self.now.pending.items in
     let first = rw c.deref.ensures.value at c.in-Some.ensures.value in
     let below : IsBelowStages c.args.stage pending = below_first c.args.stage c.in-Some.field-0.now pending c.requires.rising c.requires.lowest first c.if-first-stage.false in
-    sym (acked_props-absent c.args.stage c.args.acked.now pending below)
+    sym (acked_props-absent c.args.stage c.args.self.now.acked pending below)
 
 pub returns-else-first-stage-clause-pending : goal.returns-else-first-stage-clause-pending
 returns-else-first-stage-clause-pending c =

@@ -1,4 +1,4 @@
-use Rattle.std.proofs.Common.{◌≡◌, ℕ, sym, ◌∙◌, ap, Some, None, nat_eq}
+use Rattle.std.proofs.Common.{◌≡◌, sym, ◌∙◌, ap, Some, None, nat_eq}
 use Rattle.std.specs.Prelude.{position}
 use Rattle.ft_props.proofs.PendingStages.{StagesRise-filter, without_stage-found, without_stage-missing}
 use Rattle.ft_props.proofs.overlay.Ahead.drop_stage.Goals as goal
