@@ -8,6 +8,6 @@ returns c = record {
   ok = search rules;
   err = search rules;
   formed =
-    let kept = c.in_ok-canonical.ensures in
-    (kept.kept, not_null (view c.args.item.now.value.now) c.in_ok-canonical.field-0 kept.reads_back c.requires)
+      let kept = c.in_ok-canonical.ensures in
+      (kept.kept, not_null (view c.args.item.now.value.now) c.in_ok-canonical.field-0 kept.reads_back c.requires);
 }

@@ -16,7 +16,7 @@ returns-in_err-intervals-clause-reads c =
     let h = head_of c.in_ok-head.head in
     let ls = lists_of c.in_ok-lists.lists in
     let before : IsReadBefore d h ls =
-            record { head = c.in_ok-head.ensures.ok; lists = c.in_ok-lists.ensures.ok; count = (c.in_ok-_elements._elements, c.in_ok-_elements.ensures.reads.ok) } in
+    record { head = c.in_ok-head.ensures.ok; lists = c.in_ok-lists.ensures.ok; count = (c.in_ok-_elements._elements, c.in_ok-_elements.ensures.reads.ok) } in
     let elements = c.shown_len-elements.ensures ∙ ap unremoved_text c.as_slice.ensures in
     let p = err_from_is_err_and c.from_residual-in_err-intervals.result c.from_residual-in_err-intervals.ensures.1 in
     record {
@@ -32,7 +32,7 @@ returns-in_err-cells-clause-reads c =
     let h = head_of c.in_ok-head.head in
     let ls = lists_of c.in_ok-lists.lists in
     let before : IsReadBefore d h ls =
-            record { head = c.in_ok-head.ensures.ok; lists = c.in_ok-lists.ensures.ok; count = (c.in_ok-_elements._elements, c.in_ok-_elements.ensures.reads.ok) } in
+    record { head = c.in_ok-head.ensures.ok; lists = c.in_ok-lists.ensures.ok; count = (c.in_ok-_elements._elements, c.in_ok-_elements.ensures.reads.ok) } in
     let elements = c.shown_len-elements.ensures ∙ ap unremoved_text c.as_slice.ensures in
     let rows = c.shown_units-rows.ensures ∙ ap unremoved_units c.as_slice-2.ensures in
     let cols = c.shown_units-cols.ensures ∙ ap unremoved_units c.as_slice-3.ensures in
@@ -52,7 +52,7 @@ returns-clause-reads c =
     let h = head_of c.in_ok-head.head in
     let ls = lists_of c.in_ok-lists.lists in
     let before : IsReadBefore d h ls =
-            record { head = c.in_ok-head.ensures.ok; lists = c.in_ok-lists.ensures.ok; count = (c.in_ok-_elements._elements, c.in_ok-_elements.ensures.reads.ok) } in
+    record { head = c.in_ok-head.ensures.ok; lists = c.in_ok-lists.ensures.ok; count = (c.in_ok-_elements._elements, c.in_ok-_elements.ensures.reads.ok) } in
     let elements = c.shown_len-elements.ensures ∙ ap unremoved_text c.as_slice.ensures in
     let rows = c.shown_units-rows.ensures ∙ ap unremoved_units c.as_slice-2.ensures in
     let cols = c.shown_units-cols.ensures ∙ ap unremoved_units c.as_slice-3.ensures in
